@@ -1,0 +1,3 @@
+pub mod Ty
+pub mod Erase
+pub mod Outcome

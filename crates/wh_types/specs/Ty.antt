@@ -1,0 +1,25 @@
+-- Simple types, as trees without pointers: what all definitions speak of.
+use Rattle.std.specs.Prelude.{ℕ, ◌<◌, List, [], ◌∷◌}
+
+infixr 60 ◌⇒◌
+-- a type is a sort, told by its number, or an arrow of two types (Kop 2012, simple types)
+pub data Ty : Type 0 where
+  sort : (s : ℕ) → Ty
+  ◌⇒◌ : (a b : Ty) → Ty
+  deriving Discrete as Ty-discrete
+  deriving IsSet as Ty-is_set
+
+-- every type is `A1 ⇒ .. ⇒ Am ⇒ s`: its argument types `A1` to `Am`, of which there are its arity (Kop 2012)
+abbrev pub arguments : Ty → List Ty
+arguments (sort s) = []
+arguments (a ⇒ b) = a ∷ arguments b
+
+-- and its result, the sort `s`
+abbrev pub result_sort : Ty → ℕ
+result_sort (sort s) = s
+result_sort (a ⇒ b) = result_sort b
+
+-- every sort in the type has a number below n
+abbrev pub SortsBelow : ℕ → Ty → Type 0
+SortsBelow n (sort s) = s < n
+SortsBelow n (a ⇒ b) = SortsBelow n a × SortsBelow n b

@@ -1,0 +1,9 @@
+//! What every crate of wanda stands on: simple types, ranks, the lists of bytes and numbers, and
+//! the one error that tells want of memory from a cause.
+#![tactic(auto)]
+
+mod simple_type;
+mod want;
+
+pub use simple_type::{SimpleType, same_type};
+pub use want::Or;
