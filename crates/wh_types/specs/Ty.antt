@@ -1,5 +1,5 @@
 -- Simple types, as trees without pointers: what all definitions speak of.
-use Rattle.std.specs.Prelude.{ℕ, ◌<◌, List, [], ◌∷◌}
+use Rattle.std.specs.Prelude.{ℕ, ◌<◌, ◌==◌, ◌&&◌, Bool, false, List, [], ◌∷◌}
 
 infixr 60 ◌⇒◌
 -- a type is a sort, told by its number, or an arrow of two types (Kop 2012, simple types)
@@ -23,3 +23,9 @@ result_sort (a ⇒ b) = result_sort b
 abbrev pub SortsBelow : ℕ → Ty → Type 0
 SortsBelow n (sort s) = s < n
 SortsBelow n (a ⇒ b) = SortsBelow n a × SortsBelow n b
+
+-- whether two types are equal, as a test
+abbrev pub same_ty : Ty → Ty → Bool
+same_ty (sort s) (sort t) = s == t
+same_ty (a ⇒ b) (c ⇒ d) = same_ty a c && same_ty b d
+same_ty _ _ = false

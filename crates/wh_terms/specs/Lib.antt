@@ -1,0 +1,11 @@
+pub mod Tree
+pub mod Measures
+pub mod Substitution
+pub mod Sight
+pub mod Value
+pub mod Typing
+pub mod Pattern
+pub mod Rules
+pub mod Places
+pub mod Erase
+pub mod Entries
