@@ -4,3 +4,4 @@ pub mod SightLaws
 pub mod LooseLaws
 pub mod TermLaws
 pub mod FreshLaws
+pub mod TypingLaws

@@ -1,12 +1,14 @@
 //! Terms and meta-terms under binders: trees with nameless bound variables.
 #![tactic(auto)]
 
+mod laws;
 mod lists;
 mod path;
 mod rule;
 mod subst;
 mod term;
 
+pub use laws::one_type;
 pub use lists::Types;
 pub use path::Path;
 pub use rule::{MetaDecl, Metas, Rule, Signature};
