@@ -5,3 +5,6 @@ pub mod LooseLaws
 pub mod TermLaws
 pub mod FreshLaws
 pub mod TypingLaws
+pub mod ValueForm
+pub mod ValueLaws
+pub mod ValueSight

@@ -8,7 +8,7 @@ mod rule;
 mod subst;
 mod term;
 
-pub use laws::one_type;
+pub use laws::{one_type, one_value};
 pub use lists::Types;
 pub use path::Path;
 pub use rule::{MetaDecl, Metas, Rule, Signature};
