@@ -132,7 +132,7 @@ closing-cons x a zero = put_same x (bound 0) a
 closing-cons x a (suc i) = refl
 
 -- the free variable numbered x becomes the variable of a new binder
-pub closed : ℕ → Tm → Tm
+unfoldable pub closed : ℕ → Tm → Tm
 closed x t = act (λ i. bound (suc i)) (put x (bound 0)) t
 
 pub closed-opened : (x : ℕ) (a : Ty) (t : Tm) → Fresh x t → closed x (opened (free x a) t) ≡ t

@@ -8,3 +8,5 @@ pub mod TypingLaws
 pub mod ValueForm
 pub mod ValueLaws
 pub mod ValueSight
+pub mod ValueTyping
+pub mod StepOver

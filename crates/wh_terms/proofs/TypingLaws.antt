@@ -27,7 +27,7 @@ typed_one (typed_meta e ts o) (typed_meta f us q) = o ∙ ap (λ d. d.out) (some
 typed_one (typed_lam {a = a} p t) (typed_lam q u) = ap (λ b. a ⇒ b) (typed_one t u)
 typed_one (typed_app t u) (typed_app v w) = codomain_one (typed_one t v)
 
-up_renaming_typed : (Γ Δ : List Ty) (ρ : ℕ → ℕ) (c : Ty) → ((i : ℕ) (b : Ty) → slice_get Γ i ≡ Some b → slice_get Δ (ρ i) ≡ Some b)
+pub up_renaming_typed : (Γ Δ : List Ty) (ρ : ℕ → ℕ) (c : Ty) → ((i : ℕ) (b : Ty) → slice_get Γ i ≡ Some b → slice_get Δ (ρ i) ≡ Some b)
     → (i : ℕ) (b : Ty) → slice_get (c ∷ Γ) i ≡ Some b → slice_get (c ∷ Δ) (up_renaming ρ i) ≡ Some b
 unfolding up_renaming
 up_renaming_typed Γ Δ ρ c h zero b e = e
@@ -107,7 +107,7 @@ typed-opened {Γ = Γ} {u = u} {a = a} p q = typed-act Γ (cons u bound) free (f
 pub typed-opened_free : {S : Symbols} {M : List Declared} {Γ : List Ty} {t : Tm} {a b : Ty} (x : ℕ) → SortsBelow S.sorts a → Typed S M (a ∷ Γ) t b → Typed S M Γ (opened (free x a) t) b
 typed-opened_free x s q = typed-opened (typed_free s) q
 
-up_renaming_typed-back : (Γ Δ : List Ty) (ρ : ℕ → ℕ) (c : Ty) → ((i : ℕ) (b : Ty) → slice_get Δ (ρ i) ≡ Some b → slice_get Γ i ≡ Some b)
+pub up_renaming_typed-back : (Γ Δ : List Ty) (ρ : ℕ → ℕ) (c : Ty) → ((i : ℕ) (b : Ty) → slice_get Δ (ρ i) ≡ Some b → slice_get Γ i ≡ Some b)
     → (i : ℕ) (b : Ty) → slice_get (c ∷ Δ) (up_renaming ρ i) ≡ Some b → slice_get (c ∷ Γ) i ≡ Some b
 unfolding up_renaming
 up_renaming_typed-back Γ Δ ρ c h zero b e = e
@@ -137,7 +137,7 @@ typed-shift-back {Γ = Γ} c t p = typed-rename-back Γ suc t (λ i b e. e) p
 abbrev pub TellsLoose : Symbols → List Declared → List Ty → List Ty → (ℕ → Tm) → Type 0
 TellsLoose S M Γ Δ σ = (i : ℕ) (b : Ty) → Typed S M Δ (σ i) b → slice_get Γ i ≡ Some b
 
-bound_type : {S : Symbols} {M : List Declared} {Γ : List Ty} {a : Ty} (i : ℕ) → Typed S M Γ (bound i) a → slice_get Γ i ≡ Some a
+pub bound_type : {S : Symbols} {M : List Declared} {Γ : List Ty} {a : Ty} (i : ℕ) → Typed S M Γ (bound i) a → slice_get Γ i ≡ Some a
 bound_type i (typed_bound e) = e
 
 tells-up : {S : Symbols} {M : List Declared} (Γ Δ : List Ty) (σ : ℕ → Tm) (c : Ty) → TellsLoose S M Γ Δ σ → TellsLoose S M (c ∷ Γ) (c ∷ Δ) (up σ)
@@ -162,7 +162,7 @@ mutual
   all_typed-acts-back Γ σ none h typed_none = typed_none
   all_typed-acts-back Γ σ (more t ts) h (typed_more p ps) = typed_more (typed-act-back Γ σ t h p) (all_typed-acts-back Γ σ ts h ps)
 
-free_type : {S : Symbols} {M : List Declared} {Γ : List Ty} {a b : Ty} (x : ℕ) → Typed S M Γ (free x a) b → a ≡ b
+pub free_type : {S : Symbols} {M : List Declared} {Γ : List Ty} {a b : Ty} (x : ℕ) → Typed S M Γ (free x a) b → a ≡ b
 free_type x (typed_free p) = refl
 
 tells-cons : {S : Symbols} {M : List Declared} (Γ : List Ty) (x : ℕ) (c : Ty) → TellsLoose S M (c ∷ Γ) Γ (cons (free x c) bound)
