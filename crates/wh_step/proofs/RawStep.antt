@@ -1,20 +1,21 @@
 -- Steps on raw bodies, equal to `Step` on terms without loose variables.
-use Rattle.std.proofs.Common.{ℕ, zero, suc, List, ap, sym, ◌∙◌, subst, subst₂}
+use Rattle.std.proofs.Common.{◌≡◌, ℕ, zero, suc, ◌+◌, List, refl, ap, sym, ◌∙◌, subst, subst₂, arith}
 use Rattle.wh_types.specs.Ty.{Ty}
-use Rattle.wh_terms.specs.Tree.{Tm, bound, free, lam}
+use Rattle.wh_terms.specs.Tree.{Tm, bound, free, fun, lam, head}
 use Rattle.wh_terms.specs.Substitution.{up, up_free, act, cons, opened}
 use Rattle.wh_terms.specs.Sight.{IsTerm, LooseBelow}
 use Rattle.wh_terms.specs.Typing.{Symbols}
 use Rattle.wh_terms.specs.Rules.{RewriteRule, AreWellMade}
 use Rattle.wh_terms.specs.Value.{Value}
 use Rattle.wh_terms.proofs.ActLaws.{act-opened, opened-act, act-id}
-use Rattle.wh_terms.proofs.LooseLaws.{loose-opened}
-use Rattle.wh_terms.proofs.TermLaws.{term-opened}
+use Rattle.wh_terms.proofs.LooseLaws.{loose-opened, loose-act, loose-more}
+use Rattle.wh_terms.proofs.TermLaws.{term-opened, term-act}
 use Rattle.wh_terms.proofs.FreshLaws.{fresh_for_two}
+use Rattle.wh_terms.proofs.ValueTyping.{head-value}
 use Rattle.wh_terms.proofs.ValueLaws.{value_is, has_value}
-use Rattle.wh_terms.proofs.StepOver.{StepOver, over_root, over_beta, over_function, over_argument, over_body, AreTerms, AreFreeTerms, over-opened-back}
+use Rattle.wh_terms.proofs.StepOver.{StepOver, over_root, over_beta, over_function, over_argument, over_body, AreTerms, AreFreeTerms, over-opened-back, over-opened, over-act}
 use Rattle.wh_step.specs.Step.{Step, beta, by_rule, in_function, in_argument, in_body}
-use Rattle.wh_step.proofs.Instances.{Instance, instance_of, instances_kept, whole_bodies}
+use Rattle.wh_step.proofs.Instances.{Instance, instance_of, instances_kept, whole_bodies, spine_left}
 
 abbrev pub RawStep : List RewriteRule → Tm → Tm → Type 0
 RawStep rules = StepOver (Instance rules)
@@ -56,3 +57,29 @@ raw_step-act S w σ φ p q (over_body {a = a} {t = t} {t' = t'} s) l h =
 pub raw_step : {rules : List RewriteRule} {t u : Tm} (S : Symbols) → AreWellMade S rules → RawStep rules t u → LooseBelow 0 t → IsTerm t → Step rules t u
 raw_step {rules = rules} {t = t} {u = u} S w s l p =
     subst₂ (Step rules) (act-id t) (act-id u) (raw_step-act S w bound free (λ i. tt) (λ x a. tt) s (subst (LooseBelow 0) (sym (act-id t)) l) (subst IsTerm (sym (act-id t)) p))
+
+-- a substitution of terms without loose variables keeps steps
+pub step-act : {rules : List RewriteRule} {t u : Tm} (S : Symbols) → AreWellMade S rules → (φ : ℕ → Ty → Tm) → LooseBelow 0 t → IsTerm t → ((x : ℕ) (a : Ty) → LooseBelow 0 (φ x a)) → AreFreeTerms φ
+    → Step rules t u → Step rules (act bound φ t) (act bound φ u)
+step-act {rules = rules} {t = t} S w φ l p h k s =
+    raw_step S w (over-act (instances_kept S rules w) bound φ (λ i. tt) k (step_raw S w s)) (loose-act 0 0 bound φ t (λ i b. b) h l) (term-act bound φ t (λ i. tt) k p)
+
+-- opening with a term without loose variables keeps steps of bodies
+pub step-opened : {rules : List RewriteRule} {t t' : Tm} (S : Symbols) → AreWellMade S rules → LooseBelow 1 t → IsTerm t → RawStep rules t t' → (u : Tm) → LooseBelow 0 u → IsTerm u
+    → Step rules (opened u t) (opened u t')
+step-opened {rules = rules} {t = t} S w l p s u k q = raw_step S w (over-opened (instances_kept S rules w) u q s) (loose-opened 0 u t k l) (term-opened u t q p)
+
+-- the left side of a rule gives no abstraction
+no_root-lam : {rules : List RewriteRule} (S : Symbols) → AreWellMade S rules → (a : Ty) (t v : Tm) → Instance rules (lam a t) v → ⊥
+no_root-lam S w a t v (instance_of r g c f h e d) =
+    let m = w.each r c in
+    let named : head (lam a t) ≡ fun m.headed.0 = ap head e ∙ head-value 0 g r.left (spine_left S r m) m.headed.0 m.headed.1 in
+    absurd (cc)
+
+raw_step-lam : {rules : List RewriteRule} (S : Symbols) → AreWellMade S rules → (a : Ty) (t v : Tm) → RawStep rules (lam a t) v → (t' : Tm) × (v ≡ lam a t') × RawStep rules t t'
+raw_step-lam S w a t v (over_root r) = absurd (no_root-lam S w a t v r)
+raw_step-lam S w a t v (over_body {t' = t'} s) = (t', refl, s)
+
+pub step-lam : {rules : List RewriteRule} (S : Symbols) → AreWellMade S rules → (a : Ty) (t v : Tm) → LooseBelow 0 (lam a t) → IsTerm (lam a t) → Step rules (lam a t) v
+    → (t' : Tm) × (v ≡ lam a t') × ((u : Tm) → LooseBelow 0 u → IsTerm u → Step rules (opened u t) (opened u t'))
+step-lam S w a t v l p s = let (t', e, r) = raw_step-lam S w a t v (step_raw S w s) in (t', e, step-opened S w (loose-more (0 + 1) 1 t (omega arith) l) p r)

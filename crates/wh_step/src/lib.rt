@@ -6,6 +6,14 @@ ghost use Rattle.wh_terms.specs.Rules.{RewriteRule};
 ghost use Rattle.wh_terms.specs.Tree.{Tm};
 ghost use Rattle.wh_step.specs.Reduction.{Bounded, Unbounded};
 
+mod laws;
+
+pub use laws::{
+    bounded_by_reducts, loops_are_unbounded, reducts_of_bounded, steps_bring_nothing_loose,
+    steps_keep_terms, steps_keep_types, steps_of_abstractions, steps_under_substitution,
+    unbounded_before,
+};
+
 /// No term is both bounded and unbounded.
 pub fn bounded_or_unbounded()
     ensures { (rules : List RewriteRule) (t : Tm) → Bounded rules t → Unbounded rules t → ⊥ }

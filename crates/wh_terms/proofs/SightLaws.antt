@@ -3,7 +3,7 @@ use Rattle.std.proofs.Common.{◌≡◌, ◌≢◌, ℕ, zero, suc, ◌+◌, ◌
 use Rattle.wh_types.specs.Ty.{Ty}
 use Rattle.wh_terms.specs.Tree.{Tm, bound, free, fun, meta, lam, app, Tms, none, more}
 use Rattle.wh_terms.specs.Substitution.{rename, up, up_free, act, acts, opened, cons}
-use Rattle.wh_terms.specs.Sight.{LooseBelow, AllLooseBelow, Fresh, AllFresh, NoFree, AllNoFree}
+use Rattle.wh_terms.specs.Sight.{LooseBelow, AllLooseBelow, Fresh, AllFresh, NoFree, AllNoFree, Lacks, AllLack}
 use Rattle.wh_terms.proofs.ActLaws.{act-id, rename-is-act}
 
 pub up_agrees : (k : ℕ) (σ τ : ℕ → Tm) → ((i : ℕ) → i < k → σ i ≡ τ i) → (i : ℕ) → i < k + 1 → up σ i ≡ up τ i
@@ -80,3 +80,32 @@ mutual
 -- a tree with no free and no loose variable stays the same under each substitution
 pub act_closed : (σ : ℕ → Tm) (φ : ℕ → Ty → Tm) (t : Tm) → NoFree t → LooseBelow 0 t → act σ φ t ≡ t
 act_closed σ φ t n l = act_no_free σ φ free t n ∙ act_shut-id σ t l
+
+mutual
+  unfolding act acts up_free
+
+  -- what is put for the free variable numbered x of type a does not matter where the tree lacks it
+  pub act_lacks : (x : ℕ) (a : Ty) (σ : ℕ → Tm) (φ ψ : ℕ → Ty → Tm) (t : Tm) → Lacks x a t → ((y : ℕ) (b : Ty) → (y ≡ x → b ≡ a → ⊥) → φ y b ≡ ψ y b) → act σ φ t ≡ act σ ψ t
+  act_lacks x a σ φ ψ (bound i) f h = refl
+  act_lacks x a σ φ ψ (free y b) f h = h y b f
+  act_lacks x a σ φ ψ (fun g) f h = refl
+  act_lacks x a σ φ ψ (meta z ts) f h = ap (meta z) (acts_lack x a σ φ ψ ts f h)
+  act_lacks x a σ φ ψ (lam c t) f h = ap (lam c) (act_lacks x a (up σ) (up_free φ) (up_free ψ) t f (λ y b n. ap (rename suc) (h y b n)))
+  act_lacks x a σ φ ψ (app t u) f h = ap₂ app (act_lacks x a σ φ ψ t f.0 h) (act_lacks x a σ φ ψ u f.1 h)
+
+  pub acts_lack : (x : ℕ) (a : Ty) (σ : ℕ → Tm) (φ ψ : ℕ → Ty → Tm) (ts : Tms) → AllLack x a ts → ((y : ℕ) (b : Ty) → (y ≡ x → b ≡ a → ⊥) → φ y b ≡ ψ y b) → acts σ φ ts ≡ acts σ ψ ts
+  acts_lack x a σ φ ψ none f h = refl
+  acts_lack x a σ φ ψ (more t ts) f h = ap₂ more (act_lacks x a σ φ ψ t f.0 h) (acts_lack x a σ φ ψ ts f.1 h)
+
+mutual
+  pub fresh-lacks : (x : ℕ) (a : Ty) (t : Tm) → Fresh x t → Lacks x a t
+  fresh-lacks x a (bound i) f = tt
+  fresh-lacks x a (free y b) f = λ e d. f e
+  fresh-lacks x a (fun g) f = tt
+  fresh-lacks x a (meta z ts) f = all_fresh-lack x a ts f
+  fresh-lacks x a (lam b t) f = fresh-lacks x a t f
+  fresh-lacks x a (app t u) f = (fresh-lacks x a t f.0, fresh-lacks x a u f.1)
+
+  pub all_fresh-lack : (x : ℕ) (a : Ty) (ts : Tms) → AllFresh x ts → AllLack x a ts
+  all_fresh-lack x a none f = tt
+  all_fresh-lack x a (more t ts) f = (fresh-lacks x a t f.0, all_fresh-lack x a ts f.1)

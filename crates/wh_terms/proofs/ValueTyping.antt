@@ -2,7 +2,7 @@
 use Rattle.std.proofs.Common.{◌≡◌, ℕ, zero, suc, ◌+◌, List, [], ◌∷◌, length, Some, refl, ap, sym, ◌∙◌, subst, subst₂, inl, inr, one-add}
 use Rattle.std.specs.Prelude.{slice_get}
 use Rattle.wh_types.specs.Ty.{Ty}
-use Rattle.wh_terms.specs.Tree.{Tm, bound, free, fun, meta, lam, app, Tms, none, more, count, head}
+use Rattle.wh_terms.specs.Tree.{Tm, bound, free, fun, meta, lam, app, Tms, none, more, count, head, argument_count}
 use Rattle.wh_terms.specs.Substitution.{up_renaming, rename, act, cons}
 use Rattle.wh_terms.specs.Sight.{Occurs, OccursIn}
 use Rattle.wh_terms.specs.Pattern.{AllBoundBelow, IsPatternUnder, IsPatternSpine}
@@ -155,3 +155,22 @@ headed_spine k f (free x a) p e = absurd p
 headed_spine k f (meta z ts) p e = absurd (cc)
 headed_spine k f (lam a t) p e = absurd (cc)
 headed_spine k f (app t u) p e = p
+
+-- its values are headed by that symbol, and have as many arguments
+pub head-value : (k : ℕ) (g : ℕ → Body) (p : Tm) → IsPatternSpine k p → (f : ℕ) → head p ≡ fun f → head (value g p) ≡ fun f
+unfolding value
+head-value k g (bound i) s f e = absurd (cc)
+head-value k g (fun c) s f e = e
+head-value k g (free x a) s f e = absurd s
+head-value k g (meta z ts) s f e = absurd s
+head-value k g (lam a t) s f e = absurd s
+head-value k g (app t u) s f e = head-value k g t s.0 f e
+
+pub argument_count-value : (k : ℕ) (g : ℕ → Body) (p : Tm) → IsPatternSpine k p → argument_count (value g p) ≡ argument_count p
+unfolding value
+argument_count-value k g (bound i) s = refl
+argument_count-value k g (fun c) s = refl
+argument_count-value k g (free x a) s = absurd s
+argument_count-value k g (meta z ts) s = absurd s
+argument_count-value k g (lam a t) s = absurd s
+argument_count-value k g (app t u) s = ap (λ n. n + 1) (argument_count-value k g t s.0)

@@ -1,0 +1,57 @@
+//! Laws of steps and reductions, each the contract of a function that does nothing.
+
+ghost use Rattle.std.specs.Prelude.{◌≡◌, ◌<◌, ◌≤◌, ℕ, List, [], length};
+ghost use Rattle.wh_types.specs.Ty.{Ty};
+ghost use Rattle.wh_terms.specs.Tree.{Tm, bound, lam};
+ghost use Rattle.wh_terms.specs.Substitution.{act, opened};
+ghost use Rattle.wh_terms.specs.Sight.{LooseBelow, IsTerm};
+ghost use Rattle.wh_terms.specs.Typing.{Symbols, Typed};
+ghost use Rattle.wh_terms.specs.Rules.{RewriteRule, AreWellMade};
+ghost use Rattle.wh_step.specs.Step.{Step};
+ghost use Rattle.wh_step.specs.Reduction.{Reduction, last_of, Bounded, Unbounded};
+
+/// A step keeps the type of a well-typed term.
+pub fn steps_keep_types()
+    ensures { (S : Symbols) (rules : List RewriteRule) (t u : Tm) (a : Ty) → AreWellMade S rules → Typed S [] [] t a → Step rules t u → Typed S [] [] u a }
+{}
+
+/// A step brings no loose variable.
+pub fn steps_bring_nothing_loose()
+    ensures { (S : Symbols) (rules : List RewriteRule) (t u : Tm) → AreWellMade S rules → LooseBelow 0 t → Step rules t u → LooseBelow 0 u }
+{}
+
+/// A step brings no meta-variable.
+pub fn steps_keep_terms()
+    ensures { (S : Symbols) (rules : List RewriteRule) (t u : Tm) → AreWellMade S rules → IsTerm t → Step rules t u → IsTerm u }
+{}
+
+/// Steps are kept by substitution of terms without loose variables for free variables.
+pub fn steps_under_substitution()
+    ensures { (S : Symbols) (rules : List RewriteRule) (t u : Tm) (φ : ℕ → Ty → Tm) → AreWellMade S rules → LooseBelow 0 t → IsTerm t → ((x : ℕ) (a : Ty) → LooseBelow 0 (φ x a)) → ((x : ℕ) (a : Ty) → IsTerm (φ x a)) → Step rules t u → Step rules (act bound φ t) (act bound φ u) }
+{}
+
+/// An abstraction steps in its body alone, and then the body steps whatever term opens it. (That a step of bodies which
+/// a fresh variable opens is a step of the abstractions stands in the definition of a step.)
+pub fn steps_of_abstractions()
+    ensures { (S : Symbols) (rules : List RewriteRule) (a : Ty) (t v : Tm) → AreWellMade S rules → LooseBelow 0 (lam a t) → IsTerm (lam a t) → Step rules (lam a t) v → (t' : Tm) × (v ≡ lam a t') × ((u : Tm) → LooseBelow 0 u → IsTerm u → Step rules (opened u t) (opened u t')) }
+{}
+
+/// A reduction of at least one step that comes back to its beginning goes on for ever.
+pub fn loops_are_unbounded()
+    ensures { (rules : List RewriteRule) (t : Tm) (l : List Tm) → Reduction rules t l → 0 < length l → last_of t l ≡ t → Unbounded rules t }
+{}
+
+/// What reduces to an unbounded term is unbounded.
+pub fn unbounded_before()
+    ensures { (rules : List RewriteRule) (t : Tm) (l : List Tm) → Reduction rules t l → Unbounded rules (last_of t l) → Unbounded rules t }
+{}
+
+/// A term is bounded if one number bounds the reductions from all of its reducts.
+pub fn bounded_by_reducts()
+    ensures { (rules : List RewriteRule) (t : Tm) (n : ℕ) → ((u : Tm) → Step rules t u → (l : List Tm) → Reduction rules u l → length l ≤ n) → Bounded rules t }
+{}
+
+/// The reducts of a bounded term are bounded.
+pub fn reducts_of_bounded()
+    ensures { (rules : List RewriteRule) (t u : Tm) → Bounded rules t → Step rules t u → Bounded rules u }
+{}
