@@ -8,7 +8,7 @@ mod subst;
 mod term;
 
 pub use lists::Types;
-pub use path::Path;
+pub use path::{Path, Step};
 pub use rule::{MetaDecl, Metas, Rule, Signature};
 pub use subst::{MetaBody, MetaSubst, Subst, SubstEntry};
 pub use term::{Term, Terms};
