@@ -72,6 +72,7 @@ fn fails_at_the_stated_reads(rt: HostRuntime) -> Result<(), Fail> {
 }
 
 /// A file with no end, and the end of what was asked for.
+#[derive(Drop)]
 struct Endless {
     asked: u64,
 }
