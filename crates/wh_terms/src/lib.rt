@@ -10,7 +10,7 @@ mod term;
 
 pub use laws::{one_type, one_value};
 pub use lists::Types;
-pub use path::Path;
+pub use path::{Path, Step};
 pub use rule::{MetaDecl, Metas, Rule, Signature};
 pub use subst::{MetaBody, MetaSubst, Subst, SubstEntry};
 pub use term::{Term, Terms};

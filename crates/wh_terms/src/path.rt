@@ -53,3 +53,12 @@ impl Path {
         self.steps.as_slice()
     }
 }
+
+/// One step of a reduction: what is applied, and where.
+#[derive(Drop)]
+pub struct Step {
+    /// The number of the rule, or `None` for beta.
+    pub rule: Option<u32>,
+    /// The place of the redex.
+    pub path: Path,
+}

@@ -2,8 +2,18 @@
 //! the one error that tells want of memory from a cause.
 #![tactic(auto)]
 
+mod blocks;
+mod bytes;
+mod numbers;
+mod ranks;
 mod simple_type;
+#[cfg(test)]
+mod tests;
 mod want;
 
+pub use blocks::Blocks;
+pub use bytes::Bytes;
+pub use numbers::Numbers;
+pub use ranks::Ranks;
 pub use simple_type::{SimpleType, same_type};
 pub use want::Or;

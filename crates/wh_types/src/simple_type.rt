@@ -1,7 +1,8 @@
 //! Simple types: a sort, or an arrow of two types.
 
-ghost use Rattle.std.specs.Prelude.{◌≡◌, ◌↔◌, IsTrue, IfOk};
+ghost use Rattle.std.specs.Prelude.{◌≡◌, ◌↔◌, ◌<◌, ◌^◌, IsTrue, IfOk, length, slice_get};
 ghost use Rattle.wh_types.specs.Erase.{ty};
+ghost use Rattle.wh_types.specs.Ty.{arguments, result_sort};
 
 use std::alloc::{AllocError, Global};
 
@@ -15,6 +16,50 @@ pub enum SimpleType {
 }
 
 impl SimpleType {
+    /// How many arguments a term of this type takes.
+    pub fn arity(&self) -> u32
+        requires { length (arguments (ty self.now)) < 2 ^ 32 }
+        ensures { result ≡ length (arguments (ty self.now)) }
+    {
+        let mut count = 0;
+        let mut here = self;
+        while let SimpleType::Arrow(_, rest) = here {
+            count += 1;
+            here = rest;
+        }
+        count
+    }
+
+    /// The sort of a term of this type that has all its arguments.
+    pub fn result_sort(&self) -> u32
+        ensures { result ≡ result_sort (ty self.now) }
+    {
+        let mut here = self;
+        loop {
+            match here {
+                SimpleType::Sort(sort) => return *sort,
+                SimpleType::Arrow(_, rest) => here = rest,
+            }
+        }
+    }
+
+    /// The type of argument `i`, counted from 0.
+    pub fn argument(&self, i: u32) -> &SimpleType
+        requires { i < length (arguments (ty self.now)) }
+        ensures { slice_get (arguments (ty self.now)) i ≡ Some (ty result.now) }
+    {
+        let mut left = i;
+        let mut here = self;
+        while let SimpleType::Arrow(first, rest) = here {
+            if left == 0 {
+                return first;
+            }
+            left -= 1;
+            here = rest;
+        }
+        unreachable!()
+    }
+
     /// An equal type.
     pub fn copy(&self, alloc: Global) -> Result<SimpleType, AllocError>
         ensures { IfOk result (λ copy. ty copy ≡ ty self.now) }

@@ -1,0 +1,5 @@
+pub mod Runs
+pub mod Lists
+pub mod Forms
+pub mod Steps
+pub mod Replayed

@@ -1,0 +1,4 @@
+pub mod Outside
+pub mod Reading
+pub mod Writing
+pub mod Memory

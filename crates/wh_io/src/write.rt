@@ -1,0 +1,23 @@
+//! Writing a whole text.
+
+ghost use Rattle.wh_io.specs.Outside.{HasCause};
+ghost use Rattle.wh_io.specs.Writing.{WritesAll};
+
+use crate::shelf::Failed;
+use crate::sink::Sink;
+
+/// Appends all of these bytes, in as many puts as it takes.
+///
+/// # Errors
+/// `Failed` where a put failed. A front part of the bytes was then appended.
+pub fn write_all_of<K: Sink>(sink: &mut K, bytes: &[u8]) -> Result<(), Failed>
+    ensures bytes { WritesAll (K.written sink.old) (K.written sink.new) bytes.now result }
+    ensures cause { HasCause (K.faults sink.old) (K.faults sink.new) result }
+{
+    let mut rest = bytes;
+    while !rest.is_empty() {
+        let count = sink.put(rest)?;
+        rest = &rest[count..];
+    }
+    Ok(())
+}
