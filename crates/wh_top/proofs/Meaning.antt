@@ -1,32 +1,27 @@
 -- What an output that begins with NO means.
-use Rattle.std.proofs.Common.{◌≡◌, ℕ, suc, ◌+◌, ◌<◌, ◌≤◌, ◌⊎◌, inl, inr, List, [], ◌∷◌, ◌++◌, length, get_or, map, Option, Some, None, refl, sym, ap, ap₂, ◌∙◌, subst, arith, append-nil}
-use Rattle.std.specs.Prelude.{codes, slice_get, Result, Ok, Err, IfOk}
+use Rattle.std.proofs.Common.{◌≡◌, ℕ, suc, ◌<◌, ◌≤◌, inl, inr, List, [], ◌∷◌, ◌++◌, length, get_or, Option, Some, refl, sym, ap, ◌∙◌, subst, arith, append-nil}
+use Rattle.std.specs.Prelude.{codes, Result, Ok, Err, IfOk}
 use Rattle.std.specs.declared.alloc.AllocError.{AllocError}
 use Rattle.std.proofs.lemmas.List.{append_cancel_left}
-use Rattle.wh_io.specs.Outside.{Rose, Wrote}
-use Rattle.wh_io.specs.Writing.{WroteFront}
 use Rattle.wh_terms.specs.Tree.{Tm, fun}
 use Rattle.wh_terms.specs.Rules.{RewriteRule}
 use Rattle.wh_terms.specs.declared.path.Step as taken
 use Rattle.wh_step.specs.Step.{Step, beta, by_rule, in_function, in_argument, in_body}
 use Rattle.wh_step.specs.Replay.{StepAt, beta_here, rule_here, at_function, at_argument, at_body, Replays}
-use Rattle.wh_step.specs.Reduction.{Reduction, last_of, Unbounded}
+use Rattle.wh_step.specs.Reduction.{Reduction, last_of}
 use Rattle.wh_step.proofs.Walks.{loop_endless}
-use Rattle.wh_first.specs.SystemForm.{Said, ReadsFirst, said_rules}
-use Rattle.wh_first.specs.CertificateForm.{Loop, ReadsLoop}
+use Rattle.wh_first.specs.SystemForm.{said_rules}
 use Rattle.wh_first.specs.Verdict.{IsLoop, root_steps}
-use Rattle.wh_first.specs.declared.check.FirstFault.TheVariants.{Term, Step as FailedStep, NoInstance}
 use Rattle.wh_first.proofs.Lists.{slice_get-Some}
 use Rattle.wh_first.proofs.Forms.{one_reading}
 use Rattle.wh_first.proofs.Steps.{step_some}
 use Rattle.wh_top.specs.declared.status.Status.{Status}
-use Rattle.wh_top.specs.declared.outcome.Role.TheVariants.{System, Certificate}
 use Rattle.wh_top.specs.declared.outcome.Outcome.{Outcome}
 use Rattle.wh_top.specs.declared.outcome.Outcome.TheVariants.{No, Rejected, ReadFault, TooLong, Later}
 use Rattle.wh_top.specs.Words.{AsksCheck}
 use Rattle.wh_top.specs.Texts.{text_of}
 use Rattle.wh_top.specs.Outcomes.{Shelves, Told, system_limit, certificate_limit, Reading, Judged, ToldBoth, Stands}
-use Rattle.wh_top.specs.Run.{Replies, Checked, Misspoken, Starved, Answers, Ends, BeginsWith, MeansNo}
+use Rattle.wh_top.specs.Run.{Answers, Ends, BeginsWith, MeansNo}
 
 -- a step at a place is a step
 pub step_of : {rules : List RewriteRule} {k : Option ℕ} {path : List ℕ} {t u : Tm} → StepAt rules k path t u → Step rules t u
@@ -57,14 +52,14 @@ loop_means system cert r =
     let (l, walk, last, count) = walk_of rules (root_steps r.loop.steps) (fun f) (fun f) replays in
     let some : 0 < length l = omega (arith, count, length-root_steps r.loop.steps, step_some r.loop.steps r.reads_loop.some) in
     record {
-        said = r.said;
-        reads = r.reads_system;
-        one = λ other reads. one_reading system other r.said reads r.reads_system;
-        loop = r.loop;
-        certified = r.reads_loop;
-        term = f;
-        named = named;
-        unbounded = loop_endless (Step rules) (fun f) l walk some last
+      said = r.said;
+      reads = r.reads_system;
+      one = λ other reads. one_reading system other r.said reads r.reads_system;
+      loop = r.loop;
+      certified = r.reads_loop;
+      term = f;
+      named = named;
+      unbounded = loop_endless (Step rules) (fun f) l walk some last;
     }
 
 first_byte : (a b : ℕ) (xs ys : List ℕ) → a ∷ xs ≡ b ∷ ys → a ≡ b
@@ -122,6 +117,7 @@ judged_stands s file cert system certificate o judged of_system of_cert = by_cas
         let p = of_system x held in
         let q = of_cert y certified in
         ((p.1, q.1), subst (λ a. Judged a y o) p.0 (subst (λ b. Judged system b o) q.0 j))
+
     by_case : (o : Outcome) → Judged system certificate o → Stands s file cert o
     by_case No j = both No j
     by_case (Rejected fault) j = both (Rejected fault) j

@@ -8,7 +8,6 @@ use Rattle.wh_io.specs.declared.read.ReadFault.TheVariants as faults
 use Rattle.wh_first.specs.SystemForm.{Said, ReadsFirst}
 use Rattle.wh_first.specs.CertificateForm.{Loop, ReadsLoop}
 use Rattle.wh_first.specs.Verdict.{IsLoop, IsFault}
-use Rattle.wh_first.specs.declared.check.FirstFault.{FirstFault}
 use Rattle.wh_top.specs.declared.outcome.Role.{Role}
 use Rattle.wh_top.specs.declared.outcome.Role.TheVariants.{System, Certificate}
 use Rattle.wh_top.specs.declared.outcome.Outcome.{Outcome}

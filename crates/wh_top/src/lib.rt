@@ -6,5 +6,5 @@ mod program;
 mod status;
 mod words;
 
-pub use program::run;
+pub use program::{report_no_memory, run};
 pub use status::Status;

@@ -7,8 +7,8 @@ ghost use Rattle.wh_types.specs.declared.want.Or.TheVariants.{NoMemory};
 
 use crate::status::Status;
 use std::alloc::{AllocError, Global};
-use wh_first::{check_first, read_first_certificate, read_first_system, FirstFault};
-use wh_io::{read_whole, ReadFault, Shelf};
+use wh_first::{FirstFault, check_first, read_first_certificate, read_first_system};
+use wh_io::{ReadFault, Shelf, read_whole};
 use wh_types::Or;
 
 /// How many bytes a system file may have.

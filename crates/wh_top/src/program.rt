@@ -1,6 +1,7 @@
 //! The program's one call.
 
 ghost use Rattle.std.specs.Prelude.{◌≡◌, ◌++◌, ℕ, List, Some, IfOk, map, codes, string_bytes};
+ghost use Rattle.wh_top.specs.Texts.{line};
 ghost use Rattle.wh_top.specs.Words.{AsksCheck};
 ghost use Rattle.wh_top.specs.Run.{Answers, Replies, Ends, BeginsWith, MeansNo};
 
@@ -8,7 +9,7 @@ use crate::outcome::check_files;
 use crate::status::Status;
 use crate::words::read_words;
 use std::alloc::{AllocError, Global};
-use wh_io::{write_all_of, Shelf, Sink};
+use wh_io::{Shelf, Sink, write_all_of};
 
 /// Does what the words ask, reads files from the shelf and writes one text to the sink.
 ///
@@ -25,8 +26,15 @@ pub fn run<S: Shelf, K: Sink>(alloc: Global, words: &[String], shelf: &mut S, ou
     };
     match reply_to(alloc, shelf, file, cert) {
         Ok(reply) => tell(out, reply.status, reply.text.as_str()),
-        Err(_) => tell(out, Status::NoMemory, "OUT OF MEMORY\n"),
+        Err(_) => report_no_memory(out),
     }
+}
+
+/// Ends a run for want of memory: writes `OUT OF MEMORY`, without taking any.
+pub fn report_no_memory<K: Sink>(out: &mut K) -> Status
+    ensures { Ends (K.written out.old) (K.written out.new) (K.faults out.old) (K.faults out.new) Status.NoMemory (line (codes "OUT OF MEMORY")) result }
+{
+    tell(out, Status::NoMemory, "OUT OF MEMORY\n")
 }
 
 /// A status and the text that goes with it.

@@ -1,5 +1,5 @@
 -- What the bytes come to is told of the files, since a read gives the whole file.
-use Rattle.std.proofs.Common.{◌≡◌, ◌∙◌}
+use Rattle.std.proofs.Common.{◌∙◌}
 use Rattle.wh_top.specs.Outcomes.{Shelves}
 use Rattle.wh_top.proofs.Meaning.{ok_judged}
 use Rattle.wh_top.proofs.outcome.check_files.Goals as goal

@@ -1,8 +1,7 @@
 -- The headline follows from what is answered and what is written.
-use Rattle.std.proofs.Common.{◌≡◌, inl, inr, refl, sym, subst}
-use Rattle.std.specs.Prelude.{codes}
+use Rattle.std.proofs.Common.{inl, inr, refl, sym, subst}
 use Rattle.wh_top.specs.Outcomes.{Shelves}
-use Rattle.wh_top.specs.Run.{Replies, Ends}
+use Rattle.wh_top.specs.Run.{Replies}
 use Rattle.wh_top.proofs.Meaning.{headline}
 use Rattle.wh_top.proofs.program.run.Goals as goal
 
@@ -15,4 +14,4 @@ returns-in-Ok-clause-headline g c =
 pub returns-in-Err-clause-headline : goal.returns-in-Err-clause-headline
 returns-in-Err-clause-headline g c =
     let s : Shelves = record { held = g.S.Shelf.held c.args.shelf.now; before = λ _. 0; after = λ _. 0 } in
-    headline s _ _ _ _ _ _ _ _ (inr (inr (record { asks = (c.in-Some.file.now, c.in-Some.cert.now, c.in-Some.ensures); status_is = refl; text_is = refl }))) c.tell-in-Err.ensures
+    headline s _ _ _ _ _ _ _ _ (inr (inr (record { asks = (c.in-Some.file.now, c.in-Some.cert.now, c.in-Some.ensures); status_is = refl; text_is = refl }))) c.report_no_memory.ensures

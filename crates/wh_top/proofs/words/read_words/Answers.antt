@@ -1,5 +1,5 @@
 -- Three words are the command and two files.
-use Rattle.std.proofs.Common.{◌≡◌, List, ℕ, [], ◌∷◌, ◌∙◌, map, sym, ap, arith, rules}
+use Rattle.std.proofs.Common.{◌≡◌, ◌∙◌, map, sym, ap, rules}
 use Rattle.std.specs.Prelude.{codes, string_bytes}
 use Rattle.wh_top.proofs.Meaning.{three_items, same_three}
 use Rattle.wh_top.proofs.words.read_words.Goals as goal
