@@ -9,3 +9,4 @@ pub mod Rules
 pub mod Places
 pub mod Erase
 pub mod Entries
+pub mod Budget

@@ -2,15 +2,23 @@
 #![tactic(auto)]
 
 mod copy;
+mod equality;
+mod limits;
 mod lists;
+mod measures;
 mod path;
+mod places;
 mod rule;
 mod subst;
 mod term;
 
 pub use copy::copy_term;
+pub use equality::same;
+pub use limits::fits;
 pub use lists::Types;
+pub use measures::{height, size};
 pub use path::Path;
+pub use places::subterm_at;
 pub use rule::{MetaDecl, Metas, Rule, Signature};
 pub use subst::{MetaBody, MetaSubst, Subst, SubstEntry};
 pub use term::{Term, Terms};
