@@ -4,6 +4,7 @@
 mod copy;
 mod equality;
 mod limits;
+mod laws;
 mod lists;
 mod measures;
 mod path;
@@ -15,6 +16,7 @@ mod term;
 pub use copy::copy_term;
 pub use equality::same;
 pub use limits::fits;
+pub use laws::one_type;
 pub use lists::Types;
 pub use measures::{height, size};
 pub use path::Path;
