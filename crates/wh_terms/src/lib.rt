@@ -3,11 +3,12 @@
 
 mod copy;
 mod equality;
-mod limits;
 mod laws;
+mod limits;
 mod lists;
 mod measures;
 mod path;
+mod pattern;
 mod places;
 mod rule;
 mod subst;
@@ -15,11 +16,12 @@ mod term;
 
 pub use copy::copy_term;
 pub use equality::same;
-pub use limits::fits;
 pub use laws::one_type;
+pub use limits::fits;
 pub use lists::Types;
 pub use measures::{height, size};
 pub use path::Path;
+pub use pattern::is_pattern;
 pub use places::subterm_at;
 pub use rule::{MetaDecl, Metas, Rule, Signature};
 pub use subst::{MetaBody, MetaSubst, Subst, SubstEntry};
