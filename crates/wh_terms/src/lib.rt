@@ -13,6 +13,7 @@ mod places;
 mod rule;
 mod subst;
 mod term;
+mod typing;
 
 pub use copy::copy_term;
 pub use equality::same;
@@ -26,3 +27,4 @@ pub use places::subterm_at;
 pub use rule::{MetaDecl, Metas, Rule, Signature};
 pub use subst::{MetaBody, MetaSubst, Subst, SubstEntry};
 pub use term::{Term, Terms};
+pub use typing::type_of;
