@@ -11,6 +11,8 @@ mod path;
 mod pattern;
 mod places;
 mod rule;
+#[cfg(test)]
+mod samples;
 mod subst;
 mod term;
 mod typing;

@@ -209,9 +209,96 @@ fn applied(function: SimpleType, argument: &SimpleType) -> Option<SimpleType>
     ensures { MatchOption result ((b : Ty) → ty function ≡ ty argument.now ⇒ b → ⊥) (λ b. ty function ≡ ty argument.now ⇒ ty b) }
 {
     match function {
-        SimpleType::Arrow(domain, rest) if same_type(&domain, argument) => Some(Box::into_inner(
-            rest,
-        )),
-        _ => None,
+        SimpleType::Arrow(domain, rest) => {
+            if same_type(&domain, argument) {
+                Some(Box::into_inner(rest))
+            } else {
+                None
+            }
+        }
+        SimpleType::Sort(_) => None,
+    }
+}
+
+#[cfg(test)]
+mod tests {
+    use crate::rule::{MetaDecl, Metas, Signature};
+    use crate::samples::{abstracted, applied, arrow, meta_of, types_of};
+    use crate::term::Term;
+    use crate::typing::type_of;
+    use std::alloc::{AllocError, Global};
+    use std::test::Fail;
+    use wh_types::{SimpleType, same_type};
+
+    // One sort, a symbol of it and a symbol of functions on it.
+    fn sample_signature(alloc: Global) -> Result<Signature, AllocError> {
+        let mut funs = types_of(alloc, SimpleType::Sort(0))?;
+        funs.push(arrow(alloc, 0, 0)?)?;
+        Ok(Signature { sorts: 1, funs })
+    }
+
+    // One meta-variable, with an argument of the sort.
+    fn sample_metas(alloc: Global) -> Result<Metas, AllocError> {
+        let mut metas = Metas::new(alloc)?;
+        metas.push(MetaDecl {
+            args: types_of(alloc, SimpleType::Sort(0))?,
+            result: SimpleType::Sort(0),
+        })?;
+        Ok(metas)
+    }
+
+    // Whether the term has the type, over the samples.
+    fn has_type(alloc: Global, term: &Term, kind: &SimpleType) -> Result<bool, AllocError> {
+        let signature = sample_signature(alloc)?;
+        let metas = sample_metas(alloc)?;
+        match type_of(alloc, &signature, &metas, term)? {
+            Some(found) => Ok(same_type(&found, kind)),
+            None => Ok(false),
+        }
+    }
+
+    // Whether the term has no type, over the samples.
+    fn has_none(alloc: Global, term: &Term) -> Result<bool, AllocError> {
+        let signature = sample_signature(alloc)?;
+        let metas = sample_metas(alloc)?;
+        Ok(type_of(alloc, &signature, &metas, term)?.is_none())
+    }
+
+    #[test]
+    fn tells_types(rt: HostRuntime) -> Result<(), Fail> {
+        let alloc = rt.alloc();
+        let sort = SimpleType::Sort(0);
+        let identity = abstracted(alloc, 0, Term::Bound(0))?;
+        assert!(rt; has_type(alloc, &identity, &arrow(alloc, 0, 0)?)?);
+        let redex = applied(alloc, identity, Term::Fun(0))?;
+        assert!(rt; has_type(alloc, &redex, &sort)?);
+        assert!(rt; has_type(alloc, &applied(alloc, Term::Fun(1), redex)?, &sort)?);
+        assert!(rt;
+            has_type(
+                alloc,
+                &meta_of(alloc, 0, Term::Free(7, SimpleType::Sort(0)))?,
+                &sort
+            )?
+        );
+        Ok(())
+    }
+
+    #[test]
+    fn finds_no_type(rt: HostRuntime) -> Result<(), Fail> {
+        let alloc = rt.alloc();
+        // a symbol of the sort as a function, and an argument of another type
+        assert!(rt; has_none(alloc, &applied(alloc, Term::Fun(0), Term::Fun(0))?)?);
+        assert!(rt; has_none(alloc, &applied(alloc, Term::Fun(1), Term::Fun(1))?)?);
+        // a loose variable, also under a binder
+        assert!(rt; has_none(alloc, &Term::Bound(0))?);
+        assert!(rt; has_none(alloc, &abstracted(alloc, 0, Term::Bound(1))?)?);
+        // a sort that is not declared
+        assert!(rt; has_none(alloc, &abstracted(alloc, 1, Term::Fun(0))?)?);
+        assert!(rt; has_none(alloc, &Term::Free(0, SimpleType::Sort(1)))?);
+        // a symbol and a meta-variable that are not declared, and an argument of another type
+        assert!(rt; has_none(alloc, &Term::Fun(2))?);
+        assert!(rt; has_none(alloc, &meta_of(alloc, 1, Term::Fun(0))?)?);
+        assert!(rt; has_none(alloc, &meta_of(alloc, 0, Term::Fun(1))?)?);
+        Ok(())
     }
 }

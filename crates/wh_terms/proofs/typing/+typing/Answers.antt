@@ -1,5 +1,6 @@
-use Rattle.std.proofs.Common.{◌≡◌, length, List, ap, subst, sym, ◌∙◌, arith, rules, slice_get, Some, IfOk, refl}
+use Rattle.std.proofs.Common.{Bor, ◌≡◌, length, List, ap, subst, sym, ◌∙◌, arith, rules, slice_get, Some, IfOk, refl}
 use Rattle.std.proofs.lemmas.Option.{slice_get_read}
+use Rattle.wh_types.specs.declared.simple_type.SimpleType.{SimpleType}
 use Rattle.wh_types.specs.Erase.{ty, tys}
 use Rattle.wh_types.specs.Ty.{◌⇒◌}
 use Rattle.wh_terms.specs.Tree.{Tm, app}
@@ -117,7 +118,7 @@ pub have_types-loop-i-preserved : goal.have_types-loop-i-preserved
 have_types-loop-i-preserved t c =
     let same = ap scope c.loop-i.invariant.0 in
     let here = told_some (symbols c.args.signature.now) (declared_metas c.args.metas.now) (scope c.loop-i.binders.items) (tm c.index-terms-i.result) c.in_ok-kind.field-0 c.in-Some.kind c.in-Some.is c.in_ok-kind.ensures.typed in (
-      c.in_ok-kind.ensures.kept ∙ c.loop-i.invariant.0,
+      ◌∙◌ {A = List (Bor SimpleType)} c.in_ok-kind.ensures.kept c.loop-i.invariant.0,
       all_next (symbols c.args.signature.now) (declared_metas c.args.metas.now) (scope c.args.binders.now.items) (scope c.loop-i.binders.items) c.as_slice-terms.result.now c.args.kinds.now c.loop-i.i c.index-terms-i.result c.index-kinds-i.result (ty c.in-Some.kind)
           c.loop-i-test.true c.if-terms-kinds.false c.index-terms-i.is c.index-kinds-i.is same here (c.same_type.ensures.0 (search rules)) c.loop-i.invariant.1,
     )
