@@ -9,3 +9,5 @@ pub mod Rules
 pub mod Places
 pub mod Erase
 pub mod Entries
+pub mod Scope
+pub mod Budget
