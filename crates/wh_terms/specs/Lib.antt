@@ -1,6 +1,7 @@
 pub mod Tree
 pub mod Measures
 pub mod Substitution
+pub mod Under
 pub mod Sight
 pub mod Value
 pub mod Typing

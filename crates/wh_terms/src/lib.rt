@@ -1,16 +1,24 @@
 //! Terms and meta-terms under binders: trees with nameless bound variables.
 #![tactic(auto)]
 
+mod closing;
 mod copy;
 mod lists;
+mod opening;
 mod path;
+mod raise;
 mod rule;
 mod subst;
+mod substitution;
 mod term;
+mod walk;
 
+pub use closing::close;
 pub use copy::copy_term;
 pub use lists::Types;
+pub use opening::open_with;
 pub use path::Path;
 pub use rule::{MetaDecl, Metas, Rule, Signature};
 pub use subst::{MetaBody, MetaSubst, Subst, SubstEntry};
+pub use substitution::substitute;
 pub use term::{Term, Terms};
