@@ -10,3 +10,4 @@ pub mod Rules
 pub mod Places
 pub mod Erase
 pub mod Entries
+pub mod Kinds

@@ -4,6 +4,7 @@
 mod closing;
 mod copy;
 mod lists;
+mod opened;
 mod opening;
 mod path;
 mod raise;
@@ -16,6 +17,7 @@ mod walk;
 pub use closing::close;
 pub use copy::copy_term;
 pub use lists::Types;
+pub use opened::opened_at;
 pub use opening::open_with;
 pub use path::Path;
 pub use rule::{MetaDecl, Metas, Rule, Signature};
