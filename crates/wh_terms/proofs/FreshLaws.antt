@@ -60,7 +60,7 @@ mutual
   all_fresh-renames x ρ none f = tt
   all_fresh-renames x ρ (more t ts) f = (fresh-rename x ρ t f.0, all_fresh-renames x ρ ts f.1)
 
-fresh-up : (x : ℕ) (σ : ℕ → Tm) → ((i : ℕ) → Fresh x (σ i)) → (i : ℕ) → Fresh x (up σ i)
+pub fresh-up : (x : ℕ) (σ : ℕ → Tm) → ((i : ℕ) → Fresh x (σ i)) → (i : ℕ) → Fresh x (up σ i)
 unfolding up
 fresh-up x σ h zero = tt
 fresh-up x σ h (suc i) = fresh-rename x suc (σ i) (h i)

@@ -41,7 +41,7 @@ mutual
 pub loose-shift : (k : ℕ) (t : Tm) → LooseBelow k t → LooseBelow (k + 1) (rename suc t)
 loose-shift k t l = loose-rename k (k + 1) suc t (λ i h. omega arith) l
 
-loose-up : (k m : ℕ) (σ : ℕ → Tm) → ((i : ℕ) → i < k → LooseBelow m (σ i)) → (i : ℕ) → i < k + 1 → LooseBelow (m + 1) (up σ i)
+pub loose-up : (k m : ℕ) (σ : ℕ → Tm) → ((i : ℕ) → i < k → LooseBelow m (σ i)) → (i : ℕ) → i < k + 1 → LooseBelow (m + 1) (up σ i)
 unfolding up
 loose-up k m σ h zero l = omega arith
 loose-up k m σ h (suc i) l = loose-shift m (σ i) (h i (omega arith))
@@ -95,7 +95,7 @@ mutual
 pub loose-shift-back : (k : ℕ) (t : Tm) → LooseBelow (k + 1) (rename suc t) → LooseBelow k t
 loose-shift-back k t l = loose-rename-back k (k + 1) suc t (λ i h. omega arith) l
 
-loose-up-back : (k m : ℕ) (σ : ℕ → Tm) → ((i : ℕ) → LooseBelow m (σ i) → i < k) → (i : ℕ) → LooseBelow (m + 1) (up σ i) → i < k + 1
+pub loose-up-back : (k m : ℕ) (σ : ℕ → Tm) → ((i : ℕ) → LooseBelow m (σ i) → i < k) → (i : ℕ) → LooseBelow (m + 1) (up σ i) → i < k + 1
 unfolding up
 loose-up-back k m σ h zero l = omega arith
 loose-up-back k m σ h (suc i) l = let b : i < k = h i (loose-shift-back m (σ i) l) in omega arith

@@ -6,7 +6,7 @@ use Rattle.wh_terms.specs.Substitution.{rename, up, up_free, act, acts, opened, 
 use Rattle.wh_terms.specs.Sight.{LooseBelow, AllLooseBelow, Fresh, AllFresh, NoFree, AllNoFree}
 use Rattle.wh_terms.proofs.ActLaws.{act-id, rename-is-act}
 
-up_agrees : (k : ℕ) (σ τ : ℕ → Tm) → ((i : ℕ) → i < k → σ i ≡ τ i) → (i : ℕ) → i < k + 1 → up σ i ≡ up τ i
+pub up_agrees : (k : ℕ) (σ τ : ℕ → Tm) → ((i : ℕ) → i < k → σ i ≡ τ i) → (i : ℕ) → i < k + 1 → up σ i ≡ up τ i
 unfolding up
 up_agrees k σ τ h zero l = refl
 up_agrees k σ τ h (suc i) l = ap (rename suc) (h i (omega arith))

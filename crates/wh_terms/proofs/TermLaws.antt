@@ -14,7 +14,16 @@ term-rename ρ (meta z ts) h = h
 term-rename ρ (lam a t) h = term-rename (up_renaming ρ) t h
 term-rename ρ (app t u) h = (term-rename ρ t h.0, term-rename ρ u h.1)
 
-term-up : (σ : ℕ → Tm) → ((i : ℕ) → IsTerm (σ i)) → (i : ℕ) → IsTerm (up σ i)
+pub term-rename-back : (ρ : ℕ → ℕ) (t : Tm) → IsTerm (rename ρ t) → IsTerm t
+unfolding rename
+term-rename-back ρ (bound i) h = tt
+term-rename-back ρ (free x a) h = tt
+term-rename-back ρ (fun f) h = tt
+term-rename-back ρ (meta z ts) h = h
+term-rename-back ρ (lam a t) h = term-rename-back (up_renaming ρ) t h
+term-rename-back ρ (app t u) h = (term-rename-back ρ t h.0, term-rename-back ρ u h.1)
+
+pub term-up : (σ : ℕ → Tm) → ((i : ℕ) → IsTerm (σ i)) → (i : ℕ) → IsTerm (up σ i)
 unfolding up
 term-up σ h zero = tt
 term-up σ h (suc i) = term-rename suc (σ i) (h i)

@@ -3,6 +3,7 @@
 
 mod closing;
 mod copy;
+mod laws;
 mod lists;
 mod opened;
 mod opening;
@@ -16,6 +17,7 @@ mod walk;
 
 pub use closing::close;
 pub use copy::copy_term;
+pub use laws::{one_type, one_value};
 pub use lists::Types;
 pub use opened::opened_at;
 pub use opening::open_with;
