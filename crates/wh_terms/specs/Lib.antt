@@ -11,3 +11,4 @@ pub mod Places
 pub mod Erase
 pub mod Entries
 pub mod Kinds
+pub mod Valued

@@ -1,6 +1,8 @@
 //! Terms and meta-terms under binders: trees with nameless bound variables.
 #![tactic(auto)]
 
+mod apply;
+mod bodies;
 mod closing;
 mod copy;
 mod laws;
@@ -15,6 +17,7 @@ mod substitution;
 mod term;
 mod walk;
 
+pub use apply::apply_meta;
 pub use closing::close;
 pub use copy::copy_term;
 pub use laws::{one_type, one_value};
