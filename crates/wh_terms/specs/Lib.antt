@@ -12,3 +12,4 @@ pub mod Erase
 pub mod Entries
 pub mod Kinds
 pub mod Valued
+pub mod Budget
