@@ -13,3 +13,4 @@ pub mod Entries
 pub mod Kinds
 pub mod Valued
 pub mod Budget
+pub mod Matching

@@ -17,6 +17,7 @@ mod pattern;
 mod places;
 mod raise;
 mod rule;
+mod seat;
 mod subst;
 mod substitution;
 mod term;
