@@ -5,14 +5,14 @@ use Rattle.wh_types.specs.Ty.{Ty}
 use Rattle.wh_terms.specs.Tree.{Tm, bound, free, fun, meta, lam, app, Tms, none, more, count}
 use Rattle.wh_terms.specs.Erase.{tm, tms, list, terms}
 use Rattle.wh_terms.specs.Pattern.{AllBoundBelow, Misses, Distinct}
-use Rattle.wh_terms.specs.Substitution.{up_renaming, rename, renames, up, up_free, act, acts, cons}
-use Rattle.wh_terms.specs.Value.{Body, parameters}
-use Rattle.wh_terms.specs.Under.{ups, ups_free, raised, moved}
+use Rattle.wh_terms.specs.Substitution.{up_renaming, rename, renames, up, act, cons}
+use Rattle.wh_terms.specs.Value.{parameters}
+use Rattle.wh_terms.specs.Under.{ups, raised, moved}
 use Rattle.wh_terms.specs.Matching.{placed, all_placed}
 use Rattle.wh_terms.specs.declared.term.Term.{Term, Meta}
 use Rattle.wh_terms.specs.declared.term.Term.TheVariants.{Bound, Free, Fun, Meta', Lam', App'}
 use Rattle.wh_terms.proofs.ActLaws.{act_same, rename-is-act}
-use Rattle.wh_terms.proofs.UnderLemmas.{ups_free_stays, raised_bound, ups_high}
+use Rattle.wh_terms.proofs.UnderLemmas.{raised_bound, ups_high}
 use Rattle.wh_terms.specs.declared.term.Terms.{Terms}
 use Rattle.wh_terms.proofs.TermLemmas.{join, tms_append, tms_take_next, tm_of_meta}
 use Rattle.wh_terms.proofs.BodyLemmas.{count-tms, parameter_here, parameters-near, parameters-far}

@@ -1,14 +1,10 @@
-use Rattle.std.proofs.Common.{◌≡◌, ◌≢◌, ◌+◌, List, ap, sym, ◌∙◌, arith, rules}
-use Rattle.wh_terms.specs.Tree.{Tm, Tms, meta, app, lam}
+use Rattle.std.proofs.Common.{◌≡◌, ap, sym, ◌∙◌, arith, rules}
+use Rattle.wh_terms.specs.Tree.{meta, app, lam}
 use Rattle.wh_types.specs.Erase.{ty}
-use Rattle.wh_terms.specs.Erase.{tm, terms, list, tms}
-use Rattle.wh_terms.specs.Value.{parameters}
-use Rattle.wh_terms.specs.Under.{moved}
-use Rattle.wh_terms.proofs.UnderLemmas.{ups_low}
-use Rattle.wh_terms.specs.Matching.{placed, all_placed}
-use Rattle.wh_terms.specs.declared.term.Term.{Term}
+use Rattle.wh_terms.specs.Erase.{tm, list, tms}
+use Rattle.wh_terms.specs.Matching.{placed}
 use Rattle.wh_terms.proofs.TermLemmas.{weight_in_meta, weight_in_item, tm_meta, tm_of_meta}
-use Rattle.wh_terms.proofs.SeatLemmas.{placed_meta, no_bound, no_lam, no_function, no_argument, no_meta, no_item, bodies_push}
+use Rattle.wh_terms.proofs.SeatLemmas.{no_lam, no_function, no_argument, no_meta, no_item, bodies_push}
 use Rattle.wh_terms.proofs.seat.+body.Goals as goal
 
 pub body_of-bodies_of-requires : goal.body_of-bodies_of-requires

@@ -1,4 +1,4 @@
-use Rattle.std.proofs.Common.{◌≡◌, ℕ, List, sym, ◌∙◌, arith}
+use Rattle.std.proofs.Common.{◌≡◌, sym, ◌∙◌}
 use Rattle.wh_terms.specs.declared.term.Term.TheVariants.{Bound}
 use Rattle.wh_terms.proofs.SeatLemmas.{misses_more}
 use Rattle.wh_terms.proofs.seat.origin.Goals as goal
