@@ -12,5 +12,6 @@ pub mod Erase
 pub mod Entries
 pub mod Kinds
 pub mod Valued
+pub mod Scope
 pub mod Budget
 pub mod Matching

@@ -18,10 +18,13 @@ mod pattern;
 mod places;
 mod raise;
 mod rule;
+#[cfg(test)]
+mod samples;
 mod seat;
 mod subst;
 mod substitution;
 mod term;
+mod typing;
 mod walk;
 
 pub use apply::apply_meta;
@@ -42,3 +45,4 @@ pub use rule::{MetaDecl, Metas, Rule, Signature};
 pub use subst::{MetaBody, MetaSubst, Subst, SubstEntry};
 pub use substitution::substitute;
 pub use term::{Term, Terms};
+pub use typing::type_of;
