@@ -4,3 +4,4 @@ pub mod Tokens
 pub mod RawTree
 pub mod Spelling
 pub mod Erase
+pub mod Pieces
