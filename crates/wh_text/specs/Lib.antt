@@ -3,3 +3,5 @@ pub mod Words
 pub mod Tokens
 pub mod RawTree
 pub mod Spelling
+pub mod Erase
+pub mod Pieces

@@ -24,6 +24,35 @@ pub struct RawTypes {
     items: Vec<RawType>,
 }
 
+impl RawTypes {
+    ghost use Rattle.wh_text.specs.Erase.{type_list};
+
+    /// The empty list.
+    pub fn new(alloc: Global) -> Result<RawTypes, AllocError>
+        ensures { IfOk result (λ types. type_list types ≡ []) }
+    {
+        Ok(RawTypes {
+            items: Vec::new(alloc),
+        })
+    }
+
+    /// The type joins at the end; without memory the list stays as it was.
+    pub fn push(&mut self, item: RawType) -> Result<(), AllocError>
+        ensures ok { OnOk result (type_list self.new ≡ type_list self.old ++ item ∷ []) }
+        ensures err { OnErr result (type_list self.new ≡ type_list self.old) }
+    {
+        self.items.push(item)?;
+        Ok(())
+    }
+
+    /// The types in order.
+    pub fn as_slice(&self) -> &[RawType]
+        ensures { result.now ≡ type_list self.now }
+    {
+        self.items.as_slice()
+    }
+}
+
 /// The binder of an abstraction.
 #[derive(Drop)]
 pub enum RawBinder {
@@ -56,4 +85,33 @@ pub enum RawTerm {
 #[derive(Drop)]
 pub struct RawTerms {
     items: Vec<RawTerm>,
+}
+
+impl RawTerms {
+    ghost use Rattle.wh_text.specs.Erase.{term_list};
+
+    /// The empty list.
+    pub fn new(alloc: Global) -> Result<RawTerms, AllocError>
+        ensures { IfOk result (λ terms. term_list terms ≡ []) }
+    {
+        Ok(RawTerms {
+            items: Vec::new(alloc),
+        })
+    }
+
+    /// The term joins at the end; without memory the list stays as it was.
+    pub fn push(&mut self, item: RawTerm) -> Result<(), AllocError>
+        ensures ok { OnOk result (term_list self.new ≡ term_list self.old ++ item ∷ []) }
+        ensures err { OnErr result (term_list self.new ≡ term_list self.old) }
+    {
+        self.items.push(item)?;
+        Ok(())
+    }
+
+    /// The terms in order.
+    pub fn as_slice(&self) -> &[RawTerm]
+        ensures { result.now ≡ term_list self.now }
+    {
+        self.items.as_slice()
+    }
 }
