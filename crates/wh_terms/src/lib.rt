@@ -2,6 +2,8 @@
 #![tactic(auto)]
 
 mod apply;
+#[cfg(test)]
+mod binding_tests;
 mod bodies;
 mod closing;
 mod copy;
