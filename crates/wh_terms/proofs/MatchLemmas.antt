@@ -13,7 +13,8 @@ use Rattle.wh_terms.specs.Value.{Body, parameters}
 use Rattle.wh_terms.specs.Entries.{bodies, Lists, Covers, CoversAll}
 use Rattle.wh_terms.specs.Under.{moved}
 use Rattle.wh_terms.specs.Valued.{valued, all_valued, HasArities}
-use Rattle.wh_terms.specs.Matching.{AreForOthers, IsMatch, HasNoMatch, placed, HasValue, Agrees, IsLeastMatch, Answers}
+use Rattle.wh_terms.specs.Matching.{AreForOthers, IsMatch, HasNoMatch}
+use Rattle.wh_terms.specs.MatchSearch.{placed, HasValue, Agrees, IsLeastMatch, Answers}
 use Rattle.wh_terms.specs.declared.subst.MetaBody.{MetaBody}
 use Rattle.wh_terms.proofs.ValueForm.{value}
 use Rattle.wh_terms.proofs.ValueSight.{pattern_loose, pattern_term}
@@ -111,14 +112,14 @@ pub lam_answer : (k deeper : ℕ) (a : Ty) (p t : Tm) (old new : List MetaBody) 
     → Answers k (lam a p) (lam a t) old new r
 lam_answer k deeper a p t old new true one found =
     let found' = rw one at found in record {
-  value = ap (lam a) found'.value;
-  covers = found'.covers;
-  kept = found'.kept;
-  grown = found'.grown;
-  added = found'.added;
-  once = found'.once;
-  least = λ g agrees value. found'.least g agrees (value.0, cc (value.1));
-}
+      value = ap (lam a) found'.value;
+      covers = found'.covers;
+      kept = found'.kept;
+      grown = found'.grown;
+      added = found'.added;
+      once = found'.once;
+      least = λ g agrees value. found'.least g agrees (value.0, cc (value.1));
+    }
 lam_answer k deeper a p t old new false one none_here =
     let none_here' = rw one at none_here in λ g agrees value. none_here' g agrees (value.0, cc (value.1))
 
@@ -194,9 +195,9 @@ pub known_answer : (k z : ℕ) (ts : Tms) (t b : Tm) (n : ℕ) (s : List MetaBod
 known_answer k z ts t b n s true all listed known counted same = known_match k z ts t b n s all listed known counted (same.0 refl)
 known_answer k z ts t b n s false all listed known counted same =
     λ g agrees value.
-        let tree : b ≡ (g z).tree = sym (ap (λ c. c.tree) (agrees z listed ∙ known)) in
-        let yes : false ≡ true = same.1 (ap (placed ts k 0) tree ∙ sym (value.1 ∙ meta_valued k z g ts all)) in
-        absurd (cc)
+    let tree : b ≡ (g z).tree = sym (ap (λ c. c.tree) (agrees z listed ∙ known)) in
+    let yes : false ≡ true = same.1 (ap (placed ts k 0) tree ∙ sym (value.1 ∙ meta_valued k z g ts all)) in
+    absurd (cc)
 
 pub other_arity : (k z : ℕ) (ts : Tms) (t b : Tm) (n : ℕ) (s new : List MetaBody) → Lists s z
     → bodies s z ≡ record { arity = n; tree = b } → n ≢ count ts → Answers k (meta z ts) t s new false

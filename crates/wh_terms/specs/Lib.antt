@@ -15,3 +15,4 @@ pub mod Valued
 pub mod Scope
 pub mod Budget
 pub mod Matching
+pub mod MatchSearch
