@@ -1,0 +1,82 @@
+-- Spines: what they are made of, their types, and how those headed by symbols step.
+use Rattle.std.proofs.Common.{◌≡◌, ℕ, List, [], ◌∷◌, ◌++◌, ◌⊎◌, inl, inr, refl, ap, sym, ◌∙◌, append-nil}
+use Rattle.wh_types.specs.Ty.{Ty, ◌⇒◌, result_sort}
+use Rattle.wh_terms.specs.Tree.{Tm, fun, app, spine, head}
+use Rattle.wh_terms.specs.Typing.{Symbols, Typed, typed_app}
+use Rattle.wh_terms.specs.StepOver.{StepOver, over_root, over_beta, over_function, over_argument}
+use Rattle.wh_laws.specs.Ends.{StepsIn, step_here, step_there}
+use Rattle.wh_laws.proofs.Candidates.{head-spine}
+
+-- the arguments of the spine that a tree is, before those of the list
+abbrev pub arguments_before : Tm → List Tm → List Tm
+arguments_before (app t u) l = arguments_before t (u ∷ l)
+arguments_before _ l = l
+
+arguments_before-spine : (h : Tm) (ts l : List Tm) → arguments_before (spine h ts) l ≡ arguments_before h (ts ++ l)
+arguments_before-spine h [] l = refl
+arguments_before-spine h (t ∷ ts) l = arguments_before-spine (app h t) ts l
+
+fun_one : (f g : ℕ) → fun f ≡ fun g → f ≡ g
+fun_one f g e = cc
+
+-- spines headed by symbols are equal where the symbols and the arguments are
+pub spine_one : (f g : ℕ) (ts us : List Tm) → spine (fun f) ts ≡ spine (fun g) us → (f ≡ g) × (ts ≡ us)
+spine_one f g ts us e = (
+  fun_one f g (sym (head-spine (fun f) ts) ∙ ap head e ∙ head-spine (fun g) us),
+  sym (append-nil ts) ∙ sym (arguments_before-spine (fun f) ts []) ∙ ap (λ t. arguments_before t []) e ∙ arguments_before-spine (fun g) us [] ∙ append-nil us,
+)
+
+pub spine-append : (h : Tm) (ts us : List Tm) → spine h (ts ++ us) ≡ spine (spine h ts) us
+spine-append h [] us = refl
+spine-append h (t ∷ ts) us = spine-append (app h t) ts us
+
+-- the head of a typed spine has a type with the same result
+pub spine_head_typed : {S : Symbols} {Γ : List Ty} {a : Ty} (h : Tm) (ts : List Tm) → Typed S [] Γ (spine h ts) a → (b : Ty) × Typed S [] Γ h b × (result_sort b ≡ result_sort a)
+spine_head_typed {a = a} h [] p = (a, p, refl)
+spine_head_typed {S = S} {Γ = Γ} {a = a} h (t ∷ ts) p =
+    let (b, q, e) = spine_head_typed (app h t) ts p in
+    less q e
+  where
+    less : {b : Ty} → Typed S [] Γ (app h t) b → result_sort b ≡ result_sort a → (c : Ty) × Typed S [] Γ h c × (result_sort c ≡ result_sort a)
+    less (typed_app {a = c} {b = b} p q) e = (c ⇒ b, p, e)
+
+-- a step of a spine: at its head, in an argument, or by R at a front part
+pub data SpineStep (R : Tm → Tm → Type 0) : Tm → List Tm → Tm → Type 0 where
+  at_head : {h h' v : Tm} {ts : List Tm} → StepOver R h h' → v ≡ spine h' ts → SpineStep R h ts v
+  in_member : {h v : Tm} {ts ts' : List Tm} → StepsIn (StepOver R) ts ts' → v ≡ spine h ts' → SpineStep R h ts v
+  at_front : {h v : Tm} {ts : List Tm} (us ws : List Tm) (w : Tm) → ts ≡ us ++ ws → R (spine h us) w → v ≡ spine w ws → SpineStep R h ts v
+
+app_step : {R : Tm → Tm → Type 0} {w v : Tm} (f : ℕ) (h t : Tm) (ts : List Tm) → head h ≡ fun f → StepOver R (app h t) w → v ≡ spine w ts → SpineStep R h (t ∷ ts) v
+app_step {w = w} f h t ts e (over_root r) d = at_front (t ∷ []) ts w refl r d
+app_step f h t ts e (over_beta b) d = absurd (cc)
+app_step f h t ts e (over_function s) d = at_head s d
+app_step f h t ts e (over_argument s) d = in_member (step_here s) d
+
+spine_step_more : {R : Tm → Tm → Type 0} {v : Tm} (f : ℕ) (h t : Tm) (ts : List Tm) → head h ≡ fun f → SpineStep R (app h t) ts v → SpineStep R h (t ∷ ts) v
+spine_step_more f h t ts e (at_head s d) = app_step f h t ts e s d
+spine_step_more f h t ts e (in_member s d) = in_member (step_there s) d
+spine_step_more f h t ts e (at_front us ws w c r d) = at_front (t ∷ us) ws w (ap (λ l. t ∷ l) c) r d
+
+spine_step : {R : Tm → Tm → Type 0} {v : Tm} (f : ℕ) (h : Tm) (ts : List Tm) → head h ≡ fun f → StepOver R (spine h ts) v → SpineStep R h ts v
+spine_step f h [] e s = at_head s refl
+spine_step f h (t ∷ ts) e s = spine_step_more f h t ts e (spine_step f (app h t) ts e s)
+
+-- one argument steps
+abbrev pub ArgumentStep : (Tm → Tm → Type 0) → ℕ → List Tm → Tm → Type 0
+ArgumentStep R f ts v = (us : List Tm) × StepsIn (StepOver R) ts us × (v ≡ spine (fun f) us)
+
+-- the symbol with some of its arguments is related by R
+abbrev pub FrontStep : (Tm → Tm → Type 0) → ℕ → List Tm → Tm → Type 0
+FrontStep R f ts v = (us ws : List Tm) × (w : Tm) × (ts ≡ us ++ ws) × R (spine (fun f) us) w × (v ≡ spine w ws)
+
+-- how a symbol with arguments steps
+pub symbol_step : {R : Tm → Tm → Type 0} {v : Tm} (f : ℕ) (ts : List Tm) → StepOver R (spine (fun f) ts) v → ArgumentStep R f ts v ⊎ FrontStep R f ts v
+symbol_step {R = R} {v = v} f ts s = cases (spine_step f (fun f) ts refl s)
+  where
+    alone : {w : Tm} → StepOver R (fun f) w → v ≡ spine w ts → FrontStep R f ts v
+    alone (over_root {u = w} r) e = ([], ts, w, refl, r, e)
+
+    cases : SpineStep R (fun f) ts v → ArgumentStep R f ts v ⊎ FrontStep R f ts v
+    cases (at_head h e) = inr (alone h e)
+    cases (in_member {ts' = us} m e) = inl (us, m, e)
+    cases (at_front us ws w c r e) = inr (us, ws, w, c, r, e)

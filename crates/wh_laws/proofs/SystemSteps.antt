@@ -1,0 +1,137 @@
+-- The rules of a system as a relation at the root; its steps, and their bounds.
+use Rattle.std.proofs.Common.{◌≡◌, ℕ, List, [], ◌∷◌, Contains, ◌⊎◌, inl, inr, length, refl, ap, sym, ◌∙◌, subst}
+use Rattle.wh_terms.specs.Tree.{Tm, bound, free, fun, meta, lam, app, head, argument_count}
+use Rattle.wh_terms.specs.Sight.{LooseBelow, IsTerm}
+use Rattle.wh_terms.specs.Typing.{Symbols}
+use Rattle.wh_terms.specs.Value.{Value}
+use Rattle.wh_terms.specs.Rules.{RewriteRule, AreWellMade}
+use Rattle.wh_terms.specs.StepOver.{StepOver, over_root, over_beta, over_function, over_argument, over_body}
+use Rattle.wh_terms.proofs.ValueLaws.{value_is, has_value}
+use Rattle.wh_terms.proofs.ValueTyping.{head-value, argument_count-value}
+use Rattle.wh_terms.proofs.StepOver.{over-loose, over-term}
+use Rattle.wh_step.specs.Step.{Step, in_function, in_argument}
+use Rattle.wh_step.specs.Reduction.{Bounded}
+use Rattle.wh_step.proofs.Instances.{Instance, instance_of, instances_kept, instances_typed, instances_loose, instances_terms, spine_left}
+use Rattle.wh_step.proofs.RawStep.{RawStep, step_raw, raw_step}
+use Rattle.wh_laws.specs.Ends.{Ends, Longest}
+use Rattle.wh_laws.specs.Parts.{HasPart, function_part, argument_part, StepOrPart}
+use Rattle.wh_laws.specs.Roots.{IsRoot, RuleRoot, rule_root}
+use Rattle.wh_laws.proofs.EndsLaws.{ends-simulated}
+use Rattle.wh_laws.proofs.Listed.{Listed, listed_none, listed_same, listed_or, ends-longest, within-ends}
+use Rattle.wh_laws.proofs.PartLaws.{ends-parts}
+use Rattle.wh_laws.proofs.BranchingLaws.{instances_listed, over_listed}
+
+-- the tree has the head and the number of arguments of a rule's left side
+pub record HeadedByRule (S : Symbols) (rules : List RewriteRule) (t : Tm) : Type 0 where
+  pub rule : RewriteRule
+  pub listed : Contains rules rule
+  pub symbol : ℕ
+  pub left : head rule.left ≡ fun symbol
+  pub here : head t ≡ fun symbol
+  pub count : argument_count t ≡ argument_count rule.left
+
+instance_headed : (S : Symbols) (rules : List RewriteRule) → AreWellMade S rules → (t u : Tm) → Instance rules t u → HeadedByRule S rules t
+instance_headed S rules w t u (instance_of r g c f h e d) =
+    let m = w.each r c in
+    record {
+      rule = r;
+      listed = c;
+      symbol = m.headed.0;
+      left = m.headed.1;
+      here = ap head e ∙ head-value 0 g r.left (spine_left S r m) m.headed.0 m.headed.1;
+      count = ap argument_count e ∙ argument_count-value 0 g r.left (spine_left S r m);
+    }
+
+-- the instances of well-made rules are a relation at the root
+pub instances_root : (S : Symbols) (rules : List RewriteRule) → AreWellMade S rules → IsRoot S (Instance rules)
+instances_root S rules w = record {
+  kept = instances_kept S rules w;
+  typed = instances_typed S rules w;
+  headed = λ t u i. let h = instance_headed S rules w t u i in (h.symbol, h.here);
+  even = λ t t' u u' i j e.
+      let h = instance_headed S rules w t u i in
+      let k = instance_headed S rules w t' u' j in
+      h.count ∙ w.even h.rule k.rule h.listed k.listed (h.left ∙ sym h.here ∙ e ∙ k.here ∙ sym k.left) ∙ sym k.count;
+}
+
+pub rule_root-instance : {rules : List RewriteRule} (t u : Tm) → RuleRoot rules t u → Instance rules t u
+rule_root-instance t u (rule_root r g c v w) = let (f, e) = value_is v in let (h, d) = value_is w in instance_of r g c f h e d
+
+pub instance-rule_root : {rules : List RewriteRule} (t u : Tm) → Instance rules t u → RuleRoot rules t u
+instance-rule_root t u (instance_of r g c f h e d) = rule_root r g c (subst (Value g r.left) (sym e) (has_value g r.left f)) (subst (Value g r.right) (sym d) (has_value g r.right h))
+
+-- two relations that hold of the same are both relations at the root, or neither is
+root-same : {S : Symbols} {R Q : Tm → Tm → Type 0} → ((t u : Tm) → R t u → Q t u) → ((t u : Tm) → Q t u → R t u) → IsRoot S R → IsRoot S Q
+root-same h k root = record {
+  kept = λ σ φ t u p q r. h _ _ (root.kept σ φ t u p q (k t u r));
+  typed = λ Γ t u a r p. root.typed Γ t u a (k t u r) p;
+  headed = λ t u r. root.headed t u (k t u r);
+  even = λ t t' u u' r s e. root.even t t' u u' (k t u r) (k t' u' s) e;
+}
+
+pub rules_root : (S : Symbols) (rules : List RewriteRule) → AreWellMade S rules → IsRoot S (RuleRoot rules)
+rules_root S rules w = root-same instance-rule_root rule_root-instance (instances_root S rules w)
+
+-- steps over a relation are steps over each that holds of more
+pub over-more : {R Q : Tm → Tm → Type 0} {t u : Tm} → ((t u : Tm) → R t u → Q t u) → StepOver R t u → StepOver Q t u
+over-more h (over_root {t = t} {u = u} r) = over_root (h t u r)
+over-more h (over_beta e) = over_beta e
+over-more h (over_function s) = over_function (over-more h s)
+over-more h (over_argument s) = over_argument (over-more h s)
+over-more h (over_body s) = over_body (over-more h s)
+
+-- a term without loose variables and meta-variables
+abbrev pub IsShutTerm : Tm → Type 0
+IsShutTerm t = LooseBelow 0 t × IsTerm t
+
+pub shut-step : {S : Symbols} {rules : List RewriteRule} → AreWellMade S rules → (t u : Tm) → IsShutTerm t → Step rules t u → IsShutTerm u
+shut-step {S = S} {rules = rules} w t u (l, p) s =
+    (over-loose (instances_loose S rules w) 0 (step_raw S w s) l, over-term (instances_terms S rules w) (step_raw S w s) p)
+
+-- each term has a finite list of exactly its reducts
+pub steps_listed : {S : Symbols} {rules : List RewriteRule} → AreWellMade S rules → (t : Tm) → IsShutTerm t → Listed (Step rules t)
+steps_listed {S = S} {rules = rules} w t (l, p) =
+    listed_same (RawStep rules t) (Step rules t) (λ u s. step_raw S w s) (λ u s. raw_step S w s l p) (over_listed (instances_listed S rules w) t)
+
+pub bounded-ends : {rules : List RewriteRule} (t : Tm) → Bounded rules t → Ends (Step rules) t
+bounded-ends t (n, h) = within-ends n t h
+
+pub ends-bounded : {S : Symbols} {rules : List RewriteRule} → AreWellMade S rules → (t : Tm) → IsShutTerm t → Ends (Step rules) t → Bounded rules t
+ends-bounded {rules = rules} w t c e =
+    let best : Longest (Step rules) t = ends-longest IsShutTerm (shut-step w) (steps_listed w) c e in
+    (length best.walk, best.longest)
+
+-- what has no endless descent by steps on raw bodies is bounded
+pub raw_ends-bounded : {S : Symbols} {rules : List RewriteRule} → AreWellMade S rules → (t : Tm) → IsShutTerm t → Ends (RawStep rules) t → Bounded rules t
+raw_ends-bounded {S = S} w t c e = ends-bounded w t c (ends-simulated (λ u. u) (λ u v s. step_raw S w s) t t refl e)
+
+parts_listed : (t : Tm) → Listed (HasPart t)
+parts_listed (bound i) = listed_none (HasPart (bound i)) (λ v p. elim p [ ])
+parts_listed (free x a) = listed_none (HasPart (free x a)) (λ v p. elim p [ ])
+parts_listed (fun f) = listed_none (HasPart (fun f)) (λ v p. elim p [ ])
+parts_listed (meta z ts) = listed_none (HasPart (meta z ts)) (λ v p. elim p [ ])
+parts_listed (lam a t) = listed_none (HasPart (lam a t)) (λ v p. elim p [ ])
+parts_listed (app t u) = (t ∷ u ∷ [], λ v p. all v p, only)
+  where
+    all : (v : Tm) → HasPart (app t u) v → (v ≡ t) ⊎ ((v ≡ u) ⊎ ⊥)
+    all v function_part = inl refl
+    all v argument_part = inr (inl refl)
+
+    only : (v : Tm) → (v ≡ t) ⊎ ((v ≡ u) ⊎ ⊥) → HasPart (app t u) v
+    only v (inl e) = subst (HasPart (app t u)) (sym e) function_part
+    only v (inr (inl e)) = subst (HasPart (app t u)) (sym e) argument_part
+    only v (inr (inr i)) = absurd i
+
+shut-part : (t u : Tm) → IsShutTerm t → HasPart t u → IsShutTerm u
+shut-part t u c function_part = (c.0.0, c.1.0)
+shut-part t u c argument_part = (c.0.1, c.1.1)
+
+shut-step_or_part : {S : Symbols} {rules : List RewriteRule} → AreWellMade S rules → (t u : Tm) → IsShutTerm t → StepOrPart (Step rules) t u → IsShutTerm u
+shut-step_or_part w t u c (inl s) = shut-step w t u c s
+shut-step_or_part w t u c (inr p) = shut-part t u c p
+
+-- a bounded term has a longest sequence of steps and direct subterms
+pub bounded-parts : {S : Symbols} {rules : List RewriteRule} → AreWellMade S rules → (t : Tm) → IsShutTerm t → Bounded rules t → Longest (StepOrPart (Step rules)) t
+bounded-parts {rules = rules} w t c b =
+    ends-longest IsShutTerm (shut-step_or_part w) (λ u d. listed_or (Step rules u) (HasPart u) (steps_listed w u d) (parts_listed u)) c
+    (ends-parts t (record { function = λ v v' u s. in_function s; argument = λ v u u' s. in_argument s }) (bounded-ends t b))

@@ -1,0 +1,7 @@
+pub mod Ends
+pub mod Parts
+pub mod Ranks
+pub mod Roots
+pub mod Neutral
+pub mod Computable
+pub mod Branching
