@@ -5,10 +5,11 @@ use Rattle.wh_terms.specs.Tree.{Tm, bound, free, fun, meta, lam, app}
 use Rattle.wh_terms.specs.Substitution.{opened}
 use Rattle.wh_terms.specs.Sight.{Occurs}
 use Rattle.wh_terms.specs.Typing.{Symbols}
-use Rattle.wh_terms.specs.Value.{Body}
+use Rattle.wh_terms.specs.Value.{Body, Value}
 use Rattle.wh_terms.specs.Rules.{RewriteRule, IsWellMade, AreWellMade}
 use Rattle.wh_terms.specs.StepOver.{StepOver, over_root, over_beta, over_function, over_argument, over_body}
 use Rattle.wh_terms.proofs.ValueForm.{value, FitsBodies, value_agree}
+use Rattle.wh_terms.proofs.ValueLaws.{value_is, has_value}
 use Rattle.wh_step.proofs.Instances.{Instance, instance_of}
 use Rattle.wh_laws.proofs.Listed.{In, Listed, listed_none, listed_one, listed_same, listed_or, listed_map, in_contains, contains_in}
 use Rattle.wh_laws.proofs.SameTree.{same_tm, same_tm-true, true-same_tm}
@@ -35,6 +36,21 @@ rule_listed S r w t = by_test (same_tm (value c r.left) t) refl
     by_test false e =
         listed_none (InstanceOf r t) (λ u (g, f, h, d, k).
         let same : value c r.left ≡ t = value_agree c g r.left (agrees u g f d) ∙ sym d in
+        let yes : same_tm (value c r.left) t ≡ true = subst (λ v. same_tm (value c r.left) v ≡ true) same (true-same_tm (value c r.left)) in
+        absurd (cc))
+
+-- whether a rule's left side has the tree as its value
+pub match_decided : (S : Symbols) (r : RewriteRule) → IsWellMade S r → (t : Tm) → ((g : ℕ → Body) × Value g r.left t) ⊎ ((g : ℕ → Body) → Value g r.left t → ⊥)
+match_decided S r w t = by_test (same_tm (value c r.left) t) refl
+  where
+    c : ℕ → Body
+    c = candidate_for r.metas r.left t
+
+    by_test : (b : Bool) → same_tm (value c r.left) t ≡ b → ((g : ℕ → Body) × Value g r.left t) ⊎ ((g : ℕ → Body) → Value g r.left t → ⊥)
+    by_test true e = inl (c, subst (Value c r.left) (same_tm-true (value c r.left) t e) (has_value c r.left (typed-fits w.typed.1)))
+    by_test false e = inr (λ g v.
+        let (f, d) = value_is v in
+        let same : value c r.left ≡ t = value_agree c g r.left (candidate_is r.metas g r.left t w.pattern_left (typed-fits w.typed.1) f d) ∙ sym d in
         let yes : same_tm (value c r.left) t ≡ true = subst (λ v. same_tm (value c r.left) v ≡ true) same (true-same_tm (value c r.left)) in
         absurd (cc))
 

@@ -71,7 +71,7 @@ at_candidate S rank R Low s = record {
 }
 
 -- a variable has no reducts
-still_free : {S : Symbols} {R : Tm → Tm → Type 0} → IsRoot S R → (x : ℕ) (a : Ty) (u : Tm) → StepOver R (free x a) u → ⊥
+pub still_free : {S : Symbols} {R : Tm → Tm → Type 0} → IsRoot S R → (x : ℕ) (a : Ty) (u : Tm) → StepOver R (free x a) u → ⊥
 still_free root x a u (over_root r) = let (f, e) = root.headed (free x a) u r in absurd (cc)
 
 pub candidate_free : {S : Symbols} {R : Tm → Tm → Type 0} {a : Ty} {P : Tm → Type 0} → IsRoot S R → Candidate S (StepOver R) a P → SortsBelow S.sorts a → (x : ℕ) → P (free x a)

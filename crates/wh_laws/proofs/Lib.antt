@@ -12,3 +12,5 @@ pub mod Reading
 pub mod BranchingLaws
 pub mod SystemSteps
 pub mod BetaAlone
+pub mod SameSteps
+pub mod SystemComputable

@@ -1,11 +1,13 @@
 -- Spines: what they are made of, their types, and how those headed by symbols step.
 use Rattle.std.proofs.Common.{◌≡◌, ℕ, List, [], ◌∷◌, ◌++◌, ◌⊎◌, inl, inr, refl, ap, sym, ◌∙◌, append-nil}
 use Rattle.wh_types.specs.Ty.{Ty, ◌⇒◌, result_sort}
-use Rattle.wh_terms.specs.Tree.{Tm, fun, app, spine, head}
+use Rattle.wh_terms.specs.Tree.{Tm, free, fun, lam, app, spine, head}
 use Rattle.wh_terms.specs.Typing.{Symbols, Typed, typed_app}
 use Rattle.wh_terms.specs.StepOver.{StepOver, over_root, over_beta, over_function, over_argument}
+use Rattle.wh_laws.specs.Roots.{IsRoot}
 use Rattle.wh_laws.specs.Ends.{StepsIn, step_here, step_there}
-use Rattle.wh_laws.proofs.Candidates.{head-spine}
+use Rattle.wh_laws.specs.Spines.{ArgumentStep, FrontStep}
+use Rattle.wh_laws.proofs.Candidates.{head-spine, still_free}
 
 -- the arguments of the spine that a tree is, before those of the list
 abbrev pub arguments_before : Tm → List Tm → List Tm
@@ -46,37 +48,45 @@ pub data SpineStep (R : Tm → Tm → Type 0) : Tm → List Tm → Tm → Type 0
   in_member : {h v : Tm} {ts ts' : List Tm} → StepsIn (StepOver R) ts ts' → v ≡ spine h ts' → SpineStep R h ts v
   at_front : {h v : Tm} {ts : List Tm} (us ws : List Tm) (w : Tm) → ts ≡ us ++ ws → R (spine h us) w → v ≡ spine w ws → SpineStep R h ts v
 
-app_step : {R : Tm → Tm → Type 0} {w v : Tm} (f : ℕ) (h t : Tm) (ts : List Tm) → head h ≡ fun f → StepOver R (app h t) w → v ≡ spine w ts → SpineStep R h (t ∷ ts) v
-app_step {w = w} f h t ts e (over_root r) d = at_front (t ∷ []) ts w refl r d
-app_step f h t ts e (over_beta b) d = absurd (cc)
-app_step f h t ts e (over_function s) d = at_head s d
-app_step f h t ts e (over_argument s) d = in_member (step_here s) d
+-- the head is no abstraction
+abbrev pub HasPlainHead : Tm → Type 0
+HasPlainHead h = (a : Ty) (t : Tm) → head h ≡ lam a t → ⊥
 
-spine_step_more : {R : Tm → Tm → Type 0} {v : Tm} (f : ℕ) (h t : Tm) (ts : List Tm) → head h ≡ fun f → SpineStep R (app h t) ts v → SpineStep R h (t ∷ ts) v
-spine_step_more f h t ts e (at_head s d) = app_step f h t ts e s d
-spine_step_more f h t ts e (in_member s d) = in_member (step_there s) d
-spine_step_more f h t ts e (at_front us ws w c r d) = at_front (t ∷ us) ws w (ap (λ l. t ∷ l) c) r d
+app_step : {R : Tm → Tm → Type 0} {w v : Tm} (h t : Tm) (ts : List Tm) → HasPlainHead h → StepOver R (app h t) w → v ≡ spine w ts → SpineStep R h (t ∷ ts) v
+app_step {w = w} h t ts p (over_root r) d = at_front (t ∷ []) ts w refl r d
+app_step h t ts p (over_beta {a = a} {t = s} b) d = absurd (p a s refl)
+app_step h t ts p (over_function s) d = at_head s d
+app_step h t ts p (over_argument s) d = in_member (step_here s) d
 
-spine_step : {R : Tm → Tm → Type 0} {v : Tm} (f : ℕ) (h : Tm) (ts : List Tm) → head h ≡ fun f → StepOver R (spine h ts) v → SpineStep R h ts v
-spine_step f h [] e s = at_head s refl
-spine_step f h (t ∷ ts) e s = spine_step_more f h t ts e (spine_step f (app h t) ts e s)
+spine_step_more : {R : Tm → Tm → Type 0} {v : Tm} (h t : Tm) (ts : List Tm) → HasPlainHead h → SpineStep R (app h t) ts v → SpineStep R h (t ∷ ts) v
+spine_step_more h t ts p (at_head s d) = app_step h t ts p s d
+spine_step_more h t ts p (in_member s d) = in_member (step_there s) d
+spine_step_more h t ts p (at_front us ws w c r d) = at_front (t ∷ us) ws w (ap (λ l. t ∷ l) c) r d
 
--- one argument steps
-abbrev pub ArgumentStep : (Tm → Tm → Type 0) → ℕ → List Tm → Tm → Type 0
-ArgumentStep R f ts v = (us : List Tm) × StepsIn (StepOver R) ts us × (v ≡ spine (fun f) us)
-
--- the symbol with some of its arguments is related by R
-abbrev pub FrontStep : (Tm → Tm → Type 0) → ℕ → List Tm → Tm → Type 0
-FrontStep R f ts v = (us ws : List Tm) × (w : Tm) × (ts ≡ us ++ ws) × R (spine (fun f) us) w × (v ≡ spine w ws)
+pub spine_step : {R : Tm → Tm → Type 0} {v : Tm} (h : Tm) (ts : List Tm) → HasPlainHead h → StepOver R (spine h ts) v → SpineStep R h ts v
+spine_step h [] p s = at_head s refl
+spine_step h (t ∷ ts) p s = spine_step_more h t ts p (spine_step (app h t) ts p s)
 
 -- how a symbol with arguments steps
-pub symbol_step : {R : Tm → Tm → Type 0} {v : Tm} (f : ℕ) (ts : List Tm) → StepOver R (spine (fun f) ts) v → ArgumentStep R f ts v ⊎ FrontStep R f ts v
-symbol_step {R = R} {v = v} f ts s = cases (spine_step f (fun f) ts refl s)
+pub symbol_step : {R : Tm → Tm → Type 0} {v : Tm} (f : ℕ) (ts : List Tm) → StepOver R (spine (fun f) ts) v → ArgumentStep (StepOver R) (fun f) ts v ⊎ FrontStep R (fun f) ts v
+symbol_step {R = R} {v = v} f ts s = cases (spine_step (fun f) ts (λ a t e. absurd (cc)) s)
   where
-    alone : {w : Tm} → StepOver R (fun f) w → v ≡ spine w ts → FrontStep R f ts v
+    alone : {w : Tm} → StepOver R (fun f) w → v ≡ spine w ts → FrontStep R (fun f) ts v
     alone (over_root {u = w} r) e = ([], ts, w, refl, r, e)
 
-    cases : SpineStep R (fun f) ts v → ArgumentStep R f ts v ⊎ FrontStep R f ts v
+    cases : SpineStep R (fun f) ts v → ArgumentStep (StepOver R) (fun f) ts v ⊎ FrontStep R (fun f) ts v
     cases (at_head h e) = inr (alone h e)
     cases (in_member {ts' = us} m e) = inl (us, m, e)
     cases (at_front us ws w c r e) = inr (us, ws, w, c, r, e)
+
+-- how a variable with arguments steps
+pub variable_step : {S : Symbols} {R : Tm → Tm → Type 0} {v : Tm} → IsRoot S R → (x : ℕ) (a : Ty) (ts : List Tm) → StepOver R (spine (free x a) ts) v → ArgumentStep (StepOver R) (free x a) ts v
+variable_step {R = R} {v = v} root x a ts s = cases (spine_step (free x a) ts (λ b t e. absurd (cc)) s)
+  where
+    cases : SpineStep R (free x a) ts v → ArgumentStep (StepOver R) (free x a) ts v
+    cases (at_head {h' = w} h e) = absurd (still_free root x a w h)
+    cases (in_member {ts' = us} m e) = (us, m, e)
+    cases (at_front us ws w c r e) =
+        let (f, d) = root.headed (spine (free x a) us) w r in
+        let n : head (spine (free x a) us) ≡ free x a = head-spine (free x a) us in
+        absurd (cc)

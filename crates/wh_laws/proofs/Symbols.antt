@@ -2,20 +2,21 @@
 use Rattle.std.proofs.Common.{◌≡◌, ℕ, zero, suc, ◌<◌, List, [], ◌∷◌, ◌++◌, ◌⊎◌, inl, inr, Some, slice_get, refl, ap, sym, ◌∙◌, subst, append-nil, append_assoc, arith, eq-or-lt_of_le}
 use Rattle.std.specs.List.{AllByRecursion}
 use Rattle.wh_types.specs.Ty.{Ty, sort, ◌⇒◌, arguments, SortsBelow}
-use Rattle.wh_terms.specs.Tree.{Tm, fun, app, spine}
+use Rattle.wh_terms.specs.Tree.{Tm, fun, app, spine, head}
 use Rattle.wh_terms.specs.Typing.{Symbols, Typed, typed_fun, typed_app}
 use Rattle.wh_terms.specs.StepOver.{StepOver}
 use Rattle.wh_terms.proofs.TypingLaws.{some_one}
 use Rattle.wh_terms.proofs.StepOver.{over-typed}
 use Rattle.wh_laws.specs.Ends.{Ends, ends, StepsIn, step_here, step_there}
 use Rattle.wh_laws.specs.Ranks.{RanksBelow, PlaceHas, IsAccessibleIn}
-use Rattle.wh_laws.specs.Roots.{IsRoot, KnowsSorts, HasNoRoot}
+use Rattle.wh_laws.specs.Roots.{IsRoot, KnowsSorts}
 use Rattle.wh_laws.specs.Computable.{ComputableAt, computable_at, ComputableBelow, Computable}
+use Rattle.wh_laws.specs.Spines.{ArgumentStep, FrontStep}
 use Rattle.wh_laws.proofs.EndsLaws.{ends-list}
 use Rattle.wh_laws.proofs.RankLaws.{below_computable, computable-sort}
 use Rattle.wh_laws.proofs.Candidates.{head-spine}
 use Rattle.wh_laws.proofs.Fundamental.{candidate, takes-computable}
-use Rattle.wh_laws.proofs.Spines.{spine_one, spine-append, ArgumentStep, FrontStep, symbol_step}
+use Rattle.wh_laws.proofs.Spines.{spine_one, spine-append, symbol_step}
 
 -- an argument of a sort of equal rank is computable exactly where the family for that rank has it
 pub equal_rank : (S : Symbols) (rank : ℕ → ℕ) (R : Tm → Tm → Type 0) (r s : ℕ) → rank r ≡ rank s → Computable S rank R (sort r) ≡ ComputableAt S rank R (ComputableBelow S rank R (rank s)) r
@@ -83,6 +84,10 @@ list_more S rank R [] (t ∷ ts) a u h k c = absurd h
 list_more S rank R (d ∷ cs) [] a u h k c = absurd h
 list_more S rank R (d ∷ cs) (t ∷ ts) a u h k c = (h.0, h.1, list_more S rank R cs ts a u h.2 k c)
 
+-- R relates nothing that the symbol f heads
+abbrev pub HasNoRoot : (Tm → Tm → Type 0) → ℕ → Type 0
+HasNoRoot R f = (t u : Tm) → R t u → head t ≡ fun f → ⊥
+
 -- The symbol with all its arguments: by induction on these, one of which steps at a time.
 still_at_sort : {S : Symbols} {R : Tm → Tm → Type 0} → IsRoot S R → (rank : ℕ → ℕ) (f s : ℕ) (b : Ty) → slice_get S.funs f ≡ Some b → HasNoRoot R f → (ts : List Tm) → Typed S [] [] (spine (fun f) ts) (sort s)
     → ComputableList S rank (StepOver R) (arguments b) ts → Ends (StepsIn (StepOver R)) ts → Computable S rank (StepOver R) (sort s) (spine (fun f) ts)
@@ -90,7 +95,7 @@ still_at_sort {S = S} {R = R} root rank f s b e none ts p h (ends k) =
     sort_computable S rank (StepOver R) s (spine (fun f) ts) p (λ v r. reduct v r (λ us m q. still_at_sort root rank f s b e none us q (list_step root rank (arguments b) h m) (k us m)) (symbol_step f ts r)) argument
   where
     reduct : (v : Tm) → StepOver R (spine (fun f) ts) v → ((us : List Tm) → StepsIn (StepOver R) ts us → Typed S [] [] (spine (fun f) us) (sort s) → Computable S rank (StepOver R) (sort s) (spine (fun f) us))
-        → ArgumentStep R f ts v ⊎ FrontStep R f ts v → Computable S rank (StepOver R) (sort s) v
+        → ArgumentStep (StepOver R) (fun f) ts v ⊎ FrontStep R (fun f) ts v → Computable S rank (StepOver R) (sort s) v
     reduct v r again (inl (us, m, d)) =
         subst (Computable S rank (StepOver R) (sort s)) (sym d) (again us m (subst (λ v. Typed S [] [] v (sort s)) d (over-typed S root.typed [] (sort s) r p)))
     reduct v r again (inr (us, ws, w, c, i, d)) = absurd (none (spine (fun f) us) w i (head-spine (fun f) us))

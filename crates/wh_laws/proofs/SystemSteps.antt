@@ -1,6 +1,7 @@
 -- The rules of a system as a relation at the root; its steps, and their bounds.
 use Rattle.std.proofs.Common.{◌≡◌, ℕ, List, [], ◌∷◌, Contains, ◌⊎◌, inl, inr, length, refl, ap, sym, ◌∙◌, subst}
-use Rattle.wh_terms.specs.Tree.{Tm, bound, free, fun, meta, lam, app, head, argument_count}
+use Rattle.wh_types.specs.Ty.{Ty}
+use Rattle.wh_terms.specs.Tree.{Tm, bound, free, fun, meta, lam, app, spine, head, argument_count}
 use Rattle.wh_terms.specs.Sight.{LooseBelow, IsTerm}
 use Rattle.wh_terms.specs.Typing.{Symbols}
 use Rattle.wh_terms.specs.Value.{Value}
@@ -13,10 +14,13 @@ use Rattle.wh_step.specs.Step.{Step, in_function, in_argument}
 use Rattle.wh_step.specs.Reduction.{Bounded}
 use Rattle.wh_step.proofs.Instances.{Instance, instance_of, instances_kept, instances_typed, instances_loose, instances_terms, spine_left}
 use Rattle.wh_step.proofs.RawStep.{RawStep, step_raw, raw_step}
-use Rattle.wh_laws.specs.Ends.{Ends, Longest}
+use Rattle.std.specs.List.{AllByRecursion}
+use Rattle.wh_laws.specs.Spines.{ArgumentStep, FrontStep}
+use Rattle.wh_laws.proofs.Spines.{symbol_step, variable_step}
+use Rattle.wh_laws.specs.Ends.{Ends, ends, Longest, StepsIn, step_here, step_there}
 use Rattle.wh_laws.specs.Parts.{HasPart, function_part, argument_part, StepOrPart}
 use Rattle.wh_laws.specs.Roots.{IsRoot, RuleRoot, rule_root}
-use Rattle.wh_laws.proofs.EndsLaws.{ends-simulated}
+use Rattle.wh_laws.proofs.EndsLaws.{ends-next, ends-simulated, ends-cons, ends-list}
 use Rattle.wh_laws.proofs.Listed.{Listed, listed_none, listed_same, listed_or, ends-longest, within-ends}
 use Rattle.wh_laws.proofs.PartLaws.{ends-parts}
 use Rattle.wh_laws.proofs.BranchingLaws.{instances_listed, over_listed}
@@ -30,7 +34,7 @@ pub record HeadedByRule (S : Symbols) (rules : List RewriteRule) (t : Tm) : Type
   pub here : head t ≡ fun symbol
   pub count : argument_count t ≡ argument_count rule.left
 
-instance_headed : (S : Symbols) (rules : List RewriteRule) → AreWellMade S rules → (t u : Tm) → Instance rules t u → HeadedByRule S rules t
+pub instance_headed : (S : Symbols) (rules : List RewriteRule) → AreWellMade S rules → (t u : Tm) → Instance rules t u → HeadedByRule S rules t
 instance_headed S rules w t u (instance_of r g c f h e d) =
     let m = w.each r c in
     record {
@@ -130,8 +134,46 @@ shut-step_or_part : {S : Symbols} {rules : List RewriteRule} → AreWellMade S r
 shut-step_or_part w t u c (inl s) = shut-step w t u c s
 shut-step_or_part w t u c (inr p) = shut-part t u c p
 
+parts_end : {rules : List RewriteRule} (t : Tm) → Bounded rules t → Ends (StepOrPart (Step rules)) t
+parts_end t b = ends-parts t (record { function = λ v v' u s. in_function s; argument = λ v u u' s. in_argument s }) (bounded-ends t b)
+
 -- a bounded term has a longest sequence of steps and direct subterms
 pub bounded-parts : {S : Symbols} {rules : List RewriteRule} → AreWellMade S rules → (t : Tm) → IsShutTerm t → Bounded rules t → Longest (StepOrPart (Step rules)) t
 bounded-parts {rules = rules} w t c b =
     ends-longest IsShutTerm (shut-step_or_part w) (λ u d. listed_or (Step rules u) (HasPart u) (steps_listed w u d) (parts_listed u)) c
-    (ends-parts t (record { function = λ v v' u s. in_function s; argument = λ v u u' s. in_argument s }) (bounded-ends t b))
+    (parts_end t b)
+
+pub reducts-bounded : {S : Symbols} {rules : List RewriteRule} → AreWellMade S rules → (t : Tm) → IsShutTerm t → ((u : Tm) → Step rules t u → Bounded rules u) → Bounded rules t
+reducts-bounded w t c h = ends-bounded w t c (ends (λ u s. bounded-ends u (h u s)))
+
+pub part-bounded : {S : Symbols} {rules : List RewriteRule} → AreWellMade S rules → (t u : Tm) → IsShutTerm t → Bounded rules t → HasPart t u → Bounded rules u
+part-bounded w t u c b p = ends-bounded w u (shut-part t u c p) (ends-simulated (λ v. v) (λ v v' s. inl s) u u refl (ends-next u (parts_end t b) (inr p)))
+
+-- a list of bounded terms is accessible
+pub list-bounded : (rules : List RewriteRule) (ts : List Tm) → AllByRecursion (Bounded rules) ts → Ends (StepsIn (Step rules)) ts
+list-bounded rules [] h = ends-list [] h
+list-bounded rules (t ∷ ts) h = ends-cons (bounded-ends t h.0) (list-bounded rules ts h.1)
+
+head_shut : (h : Tm) (ts : List Tm) → IsShutTerm (spine h ts) → IsShutTerm h
+head_shut h [] c = c
+head_shut h (t ∷ ts) c = let d = head_shut (app h t) ts c in (d.0.0, d.1.0)
+
+-- a step on raw bodies of a member of closed arguments is a step of the system
+member_steps : {S : Symbols} {rules : List RewriteRule} {ts us : List Tm} → AreWellMade S rules → (h : Tm) → IsShutTerm (spine h ts) → StepsIn (RawStep rules) ts us → StepsIn (Step rules) ts us
+member_steps {S = S} w h c (step_here {a = t} {l = ts} s) = let d = head_shut (app h t) ts c in step_here (raw_step S w s d.0.1 d.1.1)
+member_steps w h c (step_there {a = t} s) = step_there (member_steps w (app h t) c s)
+
+argument_steps : {S : Symbols} {rules : List RewriteRule} → AreWellMade S rules → (h : Tm) (ts : List Tm) (v : Tm) → IsShutTerm (spine h ts) → ArgumentStep (RawStep rules) h ts v → ArgumentStep (Step rules) h ts v
+argument_steps w h ts v c (us, m, e) = (us, member_steps w h c m, e)
+
+pub symbol_steps : {S : Symbols} {rules : List RewriteRule} → AreWellMade S rules → (f : ℕ) (ts : List Tm) (v : Tm) → IsShutTerm (spine (fun f) ts) → Step rules (spine (fun f) ts) v
+    → ArgumentStep (Step rules) (fun f) ts v ⊎ FrontStep (RuleRoot rules) (fun f) ts v
+symbol_steps {S = S} {rules = rules} w f ts v c s = cases (symbol_step f ts (step_raw S w s))
+  where
+    cases : ArgumentStep (RawStep rules) (fun f) ts v ⊎ FrontStep (Instance rules) (fun f) ts v → ArgumentStep (Step rules) (fun f) ts v ⊎ FrontStep (RuleRoot rules) (fun f) ts v
+    cases (inl m) = inl (argument_steps w (fun f) ts v c m)
+    cases (inr (us, ws, x, e, i, d)) = inr (us, ws, x, e, instance-rule_root (spine (fun f) us) x i, d)
+
+pub variable_steps : {S : Symbols} {rules : List RewriteRule} → AreWellMade S rules → (x : ℕ) (a : Ty) (ts : List Tm) (v : Tm) → IsShutTerm (spine (free x a) ts) → Step rules (spine (free x a) ts) v
+    → ArgumentStep (Step rules) (free x a) ts v
+variable_steps {S = S} {rules = rules} w x a ts v c s = argument_steps w (free x a) ts v c (variable_step (instances_root S rules w) x a ts (step_raw S w s))

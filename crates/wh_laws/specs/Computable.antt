@@ -3,7 +3,7 @@ use Rattle.std.specs.Prelude.{ℕ, zero, suc, ◌≡◌, Bool, true, false, ltb,
 use Rattle.wh_types.specs.Ty.{Ty, sort, ◌⇒◌}
 use Rattle.wh_terms.specs.Tree.{Tm, fun, app, spine}
 use Rattle.wh_terms.specs.Typing.{Symbols, Typed}
-use Rattle.wh_laws.specs.Ranks.{RanksBelow, above_ranks, PlaceHas}
+use Rattle.wh_laws.specs.Ranks.{RanksBelow, above_ranks, PlaceHas, IsAccessibleIn}
 
 -- A term of sort s is computable if it is well typed, all its reducts are computable, and, where it is a symbol with
 -- all its arguments, those at accessible places are computable: of a sort of equal rank by this very definition, of a
@@ -36,3 +36,15 @@ ComputableBelow S rank R (suc k) a t = ComputableUpTo S rank R (ComputableBelow 
 -- t is computable as a term of type a, for the steps R and under the ranks
 abbrev pub Computable : Symbols → (ℕ → ℕ) → (Tm → Tm → Type 0) → Ty → Tm → Type 0
 Computable S rank R a = ComputableBelow S rank R (above_ranks rank a) a
+
+-- what it is at the sort s: the term is well typed, its reducts are computable, and so is each argument at an
+-- accessible place, where it is a symbol with arguments
+pub record IsComputableAtSort (S : Symbols) (rank : ℕ → ℕ) (R : Tm → Tm → Type 0) (s : ℕ) (t : Tm) : Type 0 where
+  pub typed : Typed S [] [] t (sort s)
+  pub reducts : (u : Tm) → R t u → Computable S rank R (sort s) u
+  pub accessible : (f i : ℕ) (a : Ty) (ts : List Tm) (u : Tm) → t ≡ spine (fun f) ts → PlaceHas S f i a → IsAccessibleIn rank s a → slice_get ts i ≡ Some u → Computable S rank R a u
+
+-- what it is at the arrow a ⇒ b: the term is well typed, and takes computable terms to computable ones
+pub record IsComputableAtArrow (S : Symbols) (rank : ℕ → ℕ) (R : Tm → Tm → Type 0) (a b : Ty) (t : Tm) : Type 0 where
+  pub typed : Typed S [] [] t (a ⇒ b)
+  pub takes : (u : Tm) → Computable S rank R a u → Computable S rank R b (app t u)

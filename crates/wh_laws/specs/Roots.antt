@@ -23,6 +23,6 @@ pub record IsRoot (S : Symbols) (R : Tm → Tm → Type 0) : Type 0 where
 pub data RuleRoot (rules : List RewriteRule) : Tm → Tm → Type 0 where
   rule_root : {t u : Tm} (r : RewriteRule) (g : ℕ → Body) → Contains rules r → Value g r.left t → Value g r.right u → RuleRoot rules t u
 
--- no step at the root starts at the symbol f with arguments
-abbrev pub HasNoRoot : (Tm → Tm → Type 0) → ℕ → Type 0
-HasNoRoot R f = (t u : Tm) → R t u → head t ≡ fun f → ⊥
+-- the symbol f heads the left side of no rule
+abbrev pub HeadsNoRule : List RewriteRule → ℕ → Type 0
+HeadsNoRule rules f = (r : RewriteRule) → Contains rules r → head r.left ≡ fun f → ⊥
