@@ -38,6 +38,8 @@ well_made-wider S rules n h w = record {
     wider : (r : RewriteRule) → IsWellMade S r → IsWellMade (over_sorts n S) r
     wider r m = record {
       typed = (m.typed.0, typed-wider n h m.typed.1, typed-wider n h m.typed.2);
+      left_fits = m.left_fits;
+      right_fits = m.right_fits;
       left_closed = m.left_closed;
       right_closed = m.right_closed;
       pattern_left = m.pattern_left;

@@ -1,3 +1,4 @@
 pub mod Step
 pub mod Reduction
 pub mod Replay
+pub mod Reducts

@@ -1,6 +1,7 @@
 pub mod Tree
 pub mod Measures
 pub mod Substitution
+pub mod Under
 pub mod Sight
 pub mod Value
 pub mod Typing
@@ -10,3 +11,8 @@ pub mod StepOver
 pub mod Places
 pub mod Erase
 pub mod Entries
+pub mod Kinds
+pub mod Valued
+pub mod Scope
+pub mod Budget
+pub mod Matching

@@ -5,6 +5,7 @@ use Rattle.wh_terms.specs.Tree.{Tm, fun, head, argument_count}
 use Rattle.wh_terms.specs.Typing.{Symbols, Declared, Typed}
 use Rattle.wh_terms.specs.Sight.{NoFree, Occurs}
 use Rattle.wh_terms.specs.Pattern.{IsPattern}
+use Rattle.wh_terms.specs.Measures.{Fits}
 
 -- a rewrite rule over its declared meta-variables (Fuhs and Kop 2019)
 pub record RewriteRule : Type 0 where
@@ -12,10 +13,12 @@ pub record RewriteRule : Type 0 where
   pub left : Tm
   pub right : Tm
 
--- the sides are closed and of one type; the left one is a pattern headed by a symbol; each meta-variable of the right
--- one occurs in the left one
+-- the sides are closed, of one type, and fit; the left one is a pattern headed by a symbol; each meta-variable of the
+-- right one occurs in the left one
 pub record IsWellMade (S : Symbols) (r : RewriteRule) : Type 0 where
   pub typed : (a : Ty) × Typed S r.metas [] r.left a × Typed S r.metas [] r.right a
+  pub left_fits : Fits r.left
+  pub right_fits : Fits r.right
   pub left_closed : NoFree r.left
   pub right_closed : NoFree r.right
   pub pattern_left : IsPattern r.left

@@ -1,16 +1,50 @@
 //! Terms and meta-terms under binders: trees with nameless bound variables.
 #![tactic(auto)]
 
+mod apply;
+#[cfg(test)]
+mod binding_tests;
+mod bodies;
+mod closing;
+mod copy;
+mod equality;
 mod laws;
+mod limits;
 mod lists;
+mod matching;
+mod measures;
+mod opened;
+mod opening;
 mod path;
+mod pattern;
+mod places;
+mod raise;
 mod rule;
+#[cfg(test)]
+mod samples;
+mod seat;
 mod subst;
+mod substitution;
 mod term;
+mod typing;
+mod walk;
 
+pub use apply::apply_meta;
+pub use closing::close;
+pub use copy::copy_term;
+pub use equality::same;
 pub use laws::{one_type, one_value};
+pub use limits::fits;
 pub use lists::Types;
+pub use matching::match_pattern;
+pub use measures::{height, size};
+pub use opened::opened_at;
+pub use opening::open_with;
 pub use path::{Path, Step};
+pub use pattern::is_pattern;
+pub use places::subterm_at;
 pub use rule::{MetaDecl, Metas, Rule, Signature};
 pub use subst::{MetaBody, MetaSubst, Subst, SubstEntry};
+pub use substitution::substitute;
 pub use term::{Term, Terms};
+pub use typing::type_of;

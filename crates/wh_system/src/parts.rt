@@ -1,0 +1,80 @@
+//! What a system text says, before its names are looked up.
+
+use wh_text::{Name, RawTerm, RawType, RawTypes};
+
+/// A declared name, and the place where it stands.
+#[derive(Drop)]
+pub struct RawName {
+    /// The name.
+    pub name: Name,
+    /// The place of its first byte.
+    pub at: u32,
+}
+
+/// A declared symbol.
+#[derive(Drop)]
+pub struct RawFun {
+    /// Its name.
+    pub name: RawName,
+    /// Its type.
+    pub kind: RawType,
+}
+
+/// A declared meta-variable of a rule.
+#[derive(Drop)]
+pub struct RawMeta {
+    /// Its name.
+    pub name: RawName,
+    /// The types in its brackets.
+    pub args: RawTypes,
+    /// The type behind them.
+    pub result: RawType,
+}
+
+/// A list of declared names.
+#[derive(Drop)]
+pub struct RawNames {
+    items: Vec<RawName>,
+}
+
+/// A list of declared symbols.
+#[derive(Drop)]
+pub struct RawFuns {
+    items: Vec<RawFun>,
+}
+
+/// A list of declared meta-variables.
+#[derive(Drop)]
+pub struct RawMetas {
+    items: Vec<RawMeta>,
+}
+
+/// A rule.
+#[derive(Drop)]
+pub struct RawRule {
+    /// Its meta-variables, in order.
+    pub metas: RawMetas,
+    /// The left side.
+    pub left: RawTerm,
+    /// The right side.
+    pub right: RawTerm,
+    /// The place of its keyword.
+    pub at: u32,
+}
+
+/// A list of rules.
+#[derive(Drop)]
+pub struct RawRules {
+    items: Vec<RawRule>,
+}
+
+/// What a system text says: its sorts, its symbols and its rules, in order.
+#[derive(Drop)]
+pub struct Parts {
+    /// The names of the sorts.
+    pub sorts: RawNames,
+    /// The symbols with their types.
+    pub funs: RawFuns,
+    /// The rules.
+    pub rules: RawRules,
+}

@@ -1,0 +1,5 @@
+pub mod Chars
+pub mod Words
+pub mod Tokens
+pub mod RawTree
+pub mod Spelling

@@ -1,0 +1,5 @@
+pub mod Status
+pub mod Words
+pub mod Texts
+pub mod Outcomes
+pub mod Run

@@ -1,0 +1,49 @@
+//! How a run ended.
+
+ghost use Rattle.std.specs.Prelude.{◌≡◌};
+ghost use Rattle.wh_top.specs.Status.{number_of_status};
+
+/// How a run ended; `number` is the program's exit status.
+#[derive(Clone, Copy, Debug, PartialEq, Eq)]
+pub enum Status {
+    /// 0: the answer was written.
+    Answered,
+    /// 1: the certificate is rejected for the reason that was written.
+    Rejected,
+    /// 2: the words are none of the program's.
+    BadWords,
+    /// 3: the system is refused.
+    Refused,
+    /// 4: a file could not be read.
+    ReadFault,
+    /// 5: the output could not be written; a front part of it may have been.
+    WriteFault,
+    /// 6: there was no memory.
+    NoMemory,
+    /// 7: a file is longer than its limit.
+    TooLong,
+    /// 8: a number or a polynomial passed a limit.
+    TooBig,
+    /// 9: a form of input that is not built yet.
+    Later,
+}
+
+impl Status {
+    /// The exit status, 0 to 9.
+    pub fn number(self) -> u8
+        ensures { result ≡ number_of_status self }
+    {
+        match self {
+            Status::Answered => 0,
+            Status::Rejected => 1,
+            Status::BadWords => 2,
+            Status::Refused => 3,
+            Status::ReadFault => 4,
+            Status::WriteFault => 5,
+            Status::NoMemory => 6,
+            Status::TooLong => 7,
+            Status::TooBig => 8,
+            Status::Later => 9,
+        }
+    }
+}
