@@ -12,7 +12,7 @@ use Rattle.wh_terms.proofs.ValueForm.{value, FitsBodies, value_agree}
 use Rattle.wh_terms.proofs.ValueLaws.{value_is, has_value}
 use Rattle.wh_step.proofs.Instances.{Instance, instance_of}
 use Rattle.wh_laws.proofs.Listed.{In, Listed, listed_none, listed_one, listed_same, listed_or, listed_map, in_contains, contains_in}
-use Rattle.wh_laws.proofs.SameTree.{same_tm, same_tm-true, true-same_tm}
+use Rattle.wh_laws.proofs.SameTree.{same_tm, same_tm-equal, same_tm-self}
 use Rattle.wh_laws.proofs.Reading.{candidate_for, candidate_is, typed-fits}
 
 -- t and u are the values of the sides of this rule
@@ -31,12 +31,12 @@ rule_listed S r w t = by_test (same_tm (value c r.left) t) refl
 
     by_test : (b : Bool) → same_tm (value c r.left) t ≡ b → Listed (InstanceOf r t)
     by_test true e =
-        listed_one (InstanceOf r t) (value c r.right) (c, typed-fits w.typed.1, typed-fits w.typed.2, sym (same_tm-true (value c r.left) t e), refl)
+        listed_one (InstanceOf r t) (value c r.right) (c, typed-fits w.typed.1, typed-fits w.typed.2, sym (same_tm-equal (value c r.left) t e), refl)
         (λ u (g, f, h, d, k). k ∙ sym (value_agree c g r.right (λ z o. agrees u g f d z (w.known z o))))
     by_test false e =
         listed_none (InstanceOf r t) (λ u (g, f, h, d, k).
         let same : value c r.left ≡ t = value_agree c g r.left (agrees u g f d) ∙ sym d in
-        let yes : same_tm (value c r.left) t ≡ true = subst (λ v. same_tm (value c r.left) v ≡ true) same (true-same_tm (value c r.left)) in
+        let yes : same_tm (value c r.left) t ≡ true = subst (λ v. same_tm (value c r.left) v ≡ true) same (same_tm-self (value c r.left)) in
         absurd (cc))
 
 -- whether a rule's left side has the tree as its value
@@ -47,11 +47,11 @@ match_decided S r w t = by_test (same_tm (value c r.left) t) refl
     c = candidate_for r.metas r.left t
 
     by_test : (b : Bool) → same_tm (value c r.left) t ≡ b → ((g : ℕ → Body) × Value g r.left t) ⊎ ((g : ℕ → Body) → Value g r.left t → ⊥)
-    by_test true e = inl (c, subst (Value c r.left) (same_tm-true (value c r.left) t e) (has_value c r.left (typed-fits w.typed.1)))
+    by_test true e = inl (c, subst (Value c r.left) (same_tm-equal (value c r.left) t e) (has_value c r.left (typed-fits w.typed.1)))
     by_test false e = inr (λ g v.
         let (f, d) = value_is v in
         let same : value c r.left ≡ t = value_agree c g r.left (candidate_is r.metas g r.left t w.pattern_left (typed-fits w.typed.1) f d) ∙ sym d in
-        let yes : same_tm (value c r.left) t ≡ true = subst (λ v. same_tm (value c r.left) v ≡ true) same (true-same_tm (value c r.left)) in
+        let yes : same_tm (value c r.left) t ≡ true = subst (λ v. same_tm (value c r.left) v ≡ true) same (same_tm-self (value c r.left)) in
         absurd (cc))
 
 abbrev pub InstanceIn : List RewriteRule → Tm → Tm → Type 0

@@ -1,8 +1,9 @@
 -- A test of equality of trees, and one of occurrence.
 use Rattle.std.proofs.Common.{◌≡◌, ℕ, Bool, true, false, ◌&&◌, ◌||◌, refl, ap, ap₂, inl, inr, ◌⊎◌, eqb-true, eq-eqb}
 use Rattle.std.specs.Prelude.{◌==◌}
-use Rattle.wh_types.specs.Ty.{Ty, sort, ◌⇒◌, same_ty}
+use Rattle.wh_types.specs.Ty.{same_ty}
 use Rattle.wh_terms.specs.Tree.{Tm, bound, free, fun, meta, lam, app, Tms, none, more}
+use Rattle.wh_terms.proofs.TypeTests.{same_ty-self, same_ty-equal}
 use Rattle.wh_terms.specs.Sight.{Occurs, OccursIn}
 
 both_true : (b c : Bool) → (b && c) ≡ true → (b ≡ true) × (c ≡ true)
@@ -11,15 +12,6 @@ both_true false c e = absurd (cc)
 
 true_both : (b c : Bool) → b ≡ true → c ≡ true → (b && c) ≡ true
 true_both b c e d = ap₂ (λ b c. b && c) e d
-
-same_ty-true : (a b : Ty) → same_ty a b ≡ true → a ≡ b
-same_ty-true (sort s) (sort r) e = ap sort (eqb-true s r e)
-same_ty-true (a ⇒ b) (c ⇒ d) e = let (f, g) = both_true (same_ty a c) (same_ty b d) e in ap₂ (λ a b. a ⇒ b) (same_ty-true a c f) (same_ty-true b d g)
-same_ty-true a b e = absurd (cc)
-
-true-same_ty : (a : Ty) → same_ty a a ≡ true
-true-same_ty (sort s) = eq-eqb s s refl
-true-same_ty (a ⇒ b) = true_both (same_ty a a) (same_ty b b) (true-same_ty a) (true-same_ty b)
 
 -- whether two trees are equal
 abbrev mutual
@@ -38,32 +30,32 @@ abbrev mutual
   same_tms _ _ = false
 
 mutual
-  pub same_tm-true : (t u : Tm) → same_tm t u ≡ true → t ≡ u
-  same_tm-true (bound i) (bound j) e = ap bound (eqb-true i j e)
-  same_tm-true (free x a) (free y b) e = let (f, g) = both_true (x == y) (same_ty a b) e in ap₂ free (eqb-true x y f) (same_ty-true a b g)
-  same_tm-true (fun f) (fun g) e = ap fun (eqb-true f g e)
-  same_tm-true (meta z ts) (meta y us) e = let (f, g) = both_true (z == y) (same_tms ts us) e in ap₂ meta (eqb-true z y f) (same_tms-true ts us g)
-  same_tm-true (lam a t) (lam b u) e = let (f, g) = both_true (same_ty a b) (same_tm t u) e in ap₂ lam (same_ty-true a b f) (same_tm-true t u g)
-  same_tm-true (app t u) (app v w) e = let (f, g) = both_true (same_tm t v) (same_tm u w) e in ap₂ app (same_tm-true t v f) (same_tm-true u w g)
-  same_tm-true t u e = absurd (cc)
+  pub same_tm-equal : (t u : Tm) → same_tm t u ≡ true → t ≡ u
+  same_tm-equal (bound i) (bound j) e = ap bound (eqb-true i j e)
+  same_tm-equal (free x a) (free y b) e = let (f, g) = both_true (x == y) (same_ty a b) e in ap₂ free (eqb-true x y f) (same_ty-equal a b g)
+  same_tm-equal (fun f) (fun g) e = ap fun (eqb-true f g e)
+  same_tm-equal (meta z ts) (meta y us) e = let (f, g) = both_true (z == y) (same_tms ts us) e in ap₂ meta (eqb-true z y f) (same_tms-equal ts us g)
+  same_tm-equal (lam a t) (lam b u) e = let (f, g) = both_true (same_ty a b) (same_tm t u) e in ap₂ lam (same_ty-equal a b f) (same_tm-equal t u g)
+  same_tm-equal (app t u) (app v w) e = let (f, g) = both_true (same_tm t v) (same_tm u w) e in ap₂ app (same_tm-equal t v f) (same_tm-equal u w g)
+  same_tm-equal t u e = absurd (cc)
 
-  pub same_tms-true : (ts us : Tms) → same_tms ts us ≡ true → ts ≡ us
-  same_tms-true none none e = refl
-  same_tms-true (more t ts) (more u us) e = let (f, g) = both_true (same_tm t u) (same_tms ts us) e in ap₂ more (same_tm-true t u f) (same_tms-true ts us g)
-  same_tms-true ts us e = absurd (cc)
+  pub same_tms-equal : (ts us : Tms) → same_tms ts us ≡ true → ts ≡ us
+  same_tms-equal none none e = refl
+  same_tms-equal (more t ts) (more u us) e = let (f, g) = both_true (same_tm t u) (same_tms ts us) e in ap₂ more (same_tm-equal t u f) (same_tms-equal ts us g)
+  same_tms-equal ts us e = absurd (cc)
 
 mutual
-  pub true-same_tm : (t : Tm) → same_tm t t ≡ true
-  true-same_tm (bound i) = eq-eqb i i refl
-  true-same_tm (free x a) = true_both (x == x) (same_ty a a) (eq-eqb x x refl) (true-same_ty a)
-  true-same_tm (fun f) = eq-eqb f f refl
-  true-same_tm (meta z ts) = true_both (z == z) (same_tms ts ts) (eq-eqb z z refl) (true-same_tms ts)
-  true-same_tm (lam a t) = true_both (same_ty a a) (same_tm t t) (true-same_ty a) (true-same_tm t)
-  true-same_tm (app t u) = true_both (same_tm t t) (same_tm u u) (true-same_tm t) (true-same_tm u)
+  pub same_tm-self : (t : Tm) → same_tm t t ≡ true
+  same_tm-self (bound i) = eq-eqb i i refl
+  same_tm-self (free x a) = true_both (x == x) (same_ty a a) (eq-eqb x x refl) (same_ty-self a)
+  same_tm-self (fun f) = eq-eqb f f refl
+  same_tm-self (meta z ts) = true_both (z == z) (same_tms ts ts) (eq-eqb z z refl) (same_tms-self ts)
+  same_tm-self (lam a t) = true_both (same_ty a a) (same_tm t t) (same_ty-self a) (same_tm-self t)
+  same_tm-self (app t u) = true_both (same_tm t t) (same_tm u u) (same_tm-self t) (same_tm-self u)
 
-  pub true-same_tms : (ts : Tms) → same_tms ts ts ≡ true
-  true-same_tms none = refl
-  true-same_tms (more t ts) = true_both (same_tm t t) (same_tms ts ts) (true-same_tm t) (true-same_tms ts)
+  pub same_tms-self : (ts : Tms) → same_tms ts ts ≡ true
+  same_tms-self none = refl
+  same_tms-self (more t ts) = true_both (same_tm t t) (same_tms ts ts) (same_tm-self t) (same_tms-self ts)
 
 -- whether the meta-variable z occurs
 abbrev mutual
