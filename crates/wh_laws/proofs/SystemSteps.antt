@@ -15,8 +15,8 @@ use Rattle.wh_step.specs.Reduction.{Bounded}
 use Rattle.wh_step.proofs.Instances.{Instance, instance_of, instances_kept, instances_typed, instances_loose, instances_terms, spine_left}
 use Rattle.wh_step.proofs.RawStep.{RawStep, step_raw, raw_step}
 use Rattle.std.specs.List.{AllByRecursion}
-use Rattle.wh_laws.specs.Spines.{ArgumentStep, FrontStep}
-use Rattle.wh_laws.proofs.Spines.{symbol_step, variable_step}
+use Rattle.wh_laws.specs.Spines.{HeadStep, ArgumentStep, FrontStep, OpeningStep}
+use Rattle.wh_laws.proofs.Spines.{symbol_step, variable_step, abstraction_spine_step}
 use Rattle.wh_laws.specs.Ends.{Ends, ends, Longest, StepsIn, step_here, step_there}
 use Rattle.wh_laws.specs.Parts.{HasPart, function_part, argument_part, StepOrPart}
 use Rattle.wh_laws.specs.Roots.{IsRoot, RuleRoot, rule_root}
@@ -177,3 +177,12 @@ symbol_steps {S = S} {rules = rules} w f ts v c s = cases (symbol_step f ts (ste
 pub variable_steps : {S : Symbols} {rules : List RewriteRule} → AreWellMade S rules → (x : ℕ) (a : Ty) (ts : List Tm) (v : Tm) → IsShutTerm (spine (free x a) ts) → Step rules (spine (free x a) ts) v
     → ArgumentStep (Step rules) (free x a) ts v
 variable_steps {S = S} {rules = rules} w x a ts v c s = argument_steps w (free x a) ts v c (variable_step (instances_root S rules w) x a ts (step_raw S w s))
+
+pub abstraction_steps : {S : Symbols} {rules : List RewriteRule} → AreWellMade S rules → (a : Ty) (t : Tm) (ts : List Tm) (v : Tm) → IsShutTerm (spine (lam a t) ts) → Step rules (spine (lam a t) ts) v
+    → HeadStep (Step rules) (lam a t) ts v ⊎ (ArgumentStep (Step rules) (lam a t) ts v ⊎ OpeningStep t ts v)
+abstraction_steps {S = S} {rules = rules} w a t ts v c s = cases (abstraction_spine_step (instances_root S rules w) a t ts (step_raw S w s))
+  where
+    cases : HeadStep (RawStep rules) (lam a t) ts v ⊎ (ArgumentStep (RawStep rules) (lam a t) ts v ⊎ OpeningStep t ts v) → HeadStep (Step rules) (lam a t) ts v ⊎ (ArgumentStep (Step rules) (lam a t) ts v ⊎ OpeningStep t ts v)
+    cases (inl (x, r, e)) = let d = head_shut (lam a t) ts c in inl (x, raw_step S w r d.0 d.1, e)
+    cases (inr (inl m)) = inr (inl (argument_steps w (lam a t) ts v c m))
+    cases (inr (inr o)) = inr (inr o)

@@ -21,6 +21,6 @@ pub use computability::{
     typed_terms_are_computable, variables_are_computable,
 };
 pub use roots::{
-    rules_are_roots, steps_are_over_rules, steps_of_symbols_with_arguments,
-    steps_of_variables_with_arguments,
+    rules_are_roots, steps_are_over_rules, steps_of_abstractions_with_arguments,
+    steps_of_symbols_with_arguments, steps_of_variables_with_arguments,
 };

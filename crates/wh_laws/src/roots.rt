@@ -2,14 +2,14 @@
 
 ghost use Rattle.std.specs.Prelude.{ℕ, List, ◌↔◌, ◌⊎◌};
 ghost use Rattle.wh_types.specs.Ty.{Ty};
-ghost use Rattle.wh_terms.specs.Tree.{Tm, free, fun, spine};
+ghost use Rattle.wh_terms.specs.Tree.{Tm, free, fun, lam, spine};
 ghost use Rattle.wh_terms.specs.Sight.{LooseBelow, IsTerm};
 ghost use Rattle.wh_terms.specs.Typing.{Symbols};
 ghost use Rattle.wh_terms.specs.Rules.{RewriteRule, AreWellMade};
 ghost use Rattle.wh_terms.specs.StepOver.{StepOver};
 ghost use Rattle.wh_step.specs.Step.{Step};
 ghost use Rattle.wh_laws.specs.Roots.{IsRoot, RuleRoot};
-ghost use Rattle.wh_laws.specs.Spines.{ArgumentStep, FrontStep};
+ghost use Rattle.wh_laws.specs.Spines.{HeadStep, ArgumentStep, FrontStep, OpeningStep};
 
 /// The rules of a system are a relation at the root: they keep types, substitution keeps them, and each symbol has its
 /// number of arguments on the left.
@@ -30,4 +30,9 @@ pub fn steps_of_symbols_with_arguments()
 /// A variable with arguments steps in one of these.
 pub fn steps_of_variables_with_arguments()
     ensures { (S : Symbols) (rules : List RewriteRule) (x : ℕ) (a : Ty) (ts : List Tm) (v : Tm) → AreWellMade S rules → LooseBelow 0 (spine (free x a) ts) → IsTerm (spine (free x a) ts) → Step rules (spine (free x a) ts) v → ArgumentStep (Step rules) (free x a) ts v }
+{}
+
+/// An abstraction with arguments steps in its body, in one of these, or to its body opened by the first of them.
+pub fn steps_of_abstractions_with_arguments()
+    ensures { (S : Symbols) (rules : List RewriteRule) (a : Ty) (t : Tm) (ts : List Tm) (v : Tm) → AreWellMade S rules → LooseBelow 0 (spine (lam a t) ts) → IsTerm (spine (lam a t) ts) → Step rules (spine (lam a t) ts) v → (HeadStep (Step rules) (lam a t) ts v ⊎ (ArgumentStep (Step rules) (lam a t) ts v ⊎ OpeningStep t ts v)) }
 {}
