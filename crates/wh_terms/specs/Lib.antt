@@ -7,6 +7,7 @@ pub mod Value
 pub mod Typing
 pub mod Pattern
 pub mod Rules
+pub mod StepOver
 pub mod Places
 pub mod Erase
 pub mod Entries
