@@ -17,3 +17,4 @@ pub mod Scope
 pub mod Budget
 pub mod Matching
 pub mod MatchSearch
+pub mod TypedBodies

@@ -33,7 +33,9 @@ pub use apply::apply_meta;
 pub use closing::close;
 pub use copy::copy_term;
 pub use equality::same;
-pub use laws::{one_type, one_value};
+pub use laws::{
+    one_type, one_value, opening_can_be_undone, substitution_keeps_types, values_keep_types,
+};
 pub use limits::fits;
 pub use lists::Types;
 pub use matching::match_pattern;
