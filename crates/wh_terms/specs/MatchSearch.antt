@@ -1,12 +1,13 @@
 -- The search for a match: a part of the pattern below binders that were passed, and the meta-substitution found so far.
-use Rattle.std.specs.Prelude.{ℕ, ◌+◌, ◌≡◌, ◌⊎◌, Bool, true, false, List, AllPairs}
+use Rattle.std.specs.Prelude.{ℕ, ◌+◌, ◌^◌, ◌<◌, ◌≡◌, ◌⊎◌, Bool, true, false, List, All, AllPairs}
 use Rattle.wh_terms.specs.Tree.{Tm, bound, free, fun, meta, lam, app, Tms, none, more}
+use Rattle.wh_terms.specs.Measures.{nesting, BoundNumbersBelow}
 use Rattle.wh_terms.specs.Sight.{Occurs}
 use Rattle.wh_terms.specs.Value.{Body, parameters}
 use Rattle.wh_terms.specs.Entries.{bodies, Lists, Covers}
 use Rattle.wh_terms.specs.Under.{ups, moved}
 use Rattle.wh_terms.specs.Valued.{valued, HasArities}
-use Rattle.wh_terms.specs.Matching.{AreForOthers}
+use Rattle.wh_terms.specs.Matching.{AreForOthers, IsInRange}
 use Rattle.wh_terms.specs.declared.subst.MetaBody.{MetaBody}
 
 -- the body b as it stands where its meta-variable is applied to `args` below k binders, seen from below d binders of b
@@ -40,6 +41,7 @@ pub record IsLeastMatch (k : ℕ) (p t : Tm) (old new : List MetaBody) : Type 0 
   pub grown : (z : ℕ) → Lists old z → Lists new z
   pub added : (z : ℕ) → Lists new z → Lists old z ⊎ Occurs z p
   pub once : AllPairs AreForOthers old → AllPairs AreForOthers new
+  pub in_range : All IsInRange old → k + nesting t < 2 ^ 30 → BoundNumbersBelow (2 ^ 30) t → All IsInRange new
   pub least : (g : ℕ → Body) → Agrees old g → HasValue k g p t → Agrees new g
 
 -- what the answer to a search for a match says
