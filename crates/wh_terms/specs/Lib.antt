@@ -1,6 +1,7 @@
 pub mod Tree
 pub mod Measures
 pub mod Substitution
+pub mod Under
 pub mod Sight
 pub mod Value
 pub mod Typing
@@ -9,3 +10,6 @@ pub mod Rules
 pub mod Places
 pub mod Erase
 pub mod Entries
+pub mod Kinds
+pub mod Valued
+pub mod Budget

@@ -1,16 +1,42 @@
 //! Terms and meta-terms under binders: trees with nameless bound variables.
 #![tactic(auto)]
 
+mod apply;
+mod bodies;
+mod closing;
+mod copy;
+mod equality;
 mod laws;
+mod limits;
 mod lists;
+mod measures;
+mod opened;
+mod opening;
 mod path;
+mod pattern;
+mod places;
+mod raise;
 mod rule;
 mod subst;
+mod substitution;
 mod term;
+mod walk;
 
+pub use apply::apply_meta;
+pub use closing::close;
+pub use copy::copy_term;
+pub use equality::same;
 pub use laws::{one_type, one_value};
+pub use limits::fits;
 pub use lists::Types;
 pub use path::{Path, Step};
+pub use measures::{height, size};
+pub use opened::opened_at;
+pub use opening::open_with;
+pub use path::Path;
+pub use pattern::is_pattern;
+pub use places::subterm_at;
 pub use rule::{MetaDecl, Metas, Rule, Signature};
 pub use subst::{MetaBody, MetaSubst, Subst, SubstEntry};
+pub use substitution::substitute;
 pub use term::{Term, Terms};
