@@ -33,7 +33,6 @@ pub use path::{Path, Step};
 pub use measures::{height, size};
 pub use opened::opened_at;
 pub use opening::open_with;
-pub use path::Path;
 pub use pattern::is_pattern;
 pub use places::subterm_at;
 pub use rule::{MetaDecl, Metas, Rule, Signature};
