@@ -1,3 +1,4 @@
 pub mod Instances
 pub mod RawStep
 pub mod Walks
+pub mod Places

@@ -1,6 +1,6 @@
 //! Laws of steps and reductions, each the contract of a function that does nothing.
 
-ghost use Rattle.std.specs.Prelude.{◌≡◌, ◌<◌, ◌≤◌, ℕ, List, [], length};
+ghost use Rattle.std.specs.Prelude.{◌≡◌, ◌<◌, ◌≤◌, ℕ, List, [], length, Option};
 ghost use Rattle.wh_types.specs.Ty.{Ty};
 ghost use Rattle.wh_terms.specs.Tree.{Tm, bound, lam};
 ghost use Rattle.wh_terms.specs.Substitution.{act, opened};
@@ -8,6 +8,8 @@ ghost use Rattle.wh_terms.specs.Sight.{LooseBelow, IsTerm};
 ghost use Rattle.wh_terms.specs.Typing.{Symbols, Typed};
 ghost use Rattle.wh_terms.specs.Rules.{RewriteRule, AreWellMade};
 ghost use Rattle.wh_step.specs.Step.{Step};
+ghost use Rattle.wh_terms.specs.declared.path.Step as taken;
+ghost use Rattle.wh_step.specs.Replay.{StepAt, Replays};
 ghost use Rattle.wh_step.specs.Reduction.{Reduction, last_of, Bounded, Unbounded};
 
 /// A step keeps the type of a well-typed term.
@@ -54,4 +56,19 @@ pub fn bounded_by_reducts()
 /// The reducts of a bounded term are bounded.
 pub fn reducts_of_bounded()
     ensures { (rules : List RewriteRule) (t u : Tm) → Bounded rules t → Step rules t u → Bounded rules u }
+{}
+
+/// A step at a place is a step.
+pub fn steps_at_places()
+    ensures { (rules : List RewriteRule) (k : Option ℕ) (path : List ℕ) (t u : Tm) → StepAt rules k path t u → Step rules t u }
+{}
+
+/// Each step is one at some place.
+pub fn places_of_steps()
+    ensures { (rules : List RewriteRule) (t u : Tm) → Step rules t u → (k : Option ℕ) × (path : List ℕ) × StepAt rules k path t u }
+{}
+
+/// Steps that follow each other are a reduction of as many steps.
+pub fn replays_are_reductions()
+    ensures { (rules : List RewriteRule) (steps : List taken.Step) (t u : Tm) → Replays rules steps t u → (l : List Tm) × Reduction rules t l × (length l ≡ length steps) × (last_of t l ≡ u) }
 {}
