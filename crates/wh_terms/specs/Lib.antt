@@ -12,4 +12,5 @@ pub mod Erase
 pub mod Entries
 pub mod Kinds
 pub mod Valued
+pub mod Scope
 pub mod Budget

@@ -17,10 +17,13 @@ mod pattern;
 mod places;
 mod raise;
 mod rule;
+#[cfg(test)]
+mod samples;
 mod subst;
 mod substitution;
 mod term;
 mod walk;
+mod typing;
 
 pub use apply::apply_meta;
 pub use closing::close;
@@ -39,3 +42,4 @@ pub use rule::{MetaDecl, Metas, Rule, Signature};
 pub use subst::{MetaBody, MetaSubst, Subst, SubstEntry};
 pub use substitution::substitute;
 pub use term::{Term, Terms};
+pub use typing::type_of;

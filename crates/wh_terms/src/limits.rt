@@ -72,3 +72,64 @@ fn spend_all(items: &Terms, low: u32, room: u32) -> Option<u32>
     }
     Some(left)
 }
+
+#[cfg(test)]
+mod tests {
+    use crate::copy::copy_term;
+    use crate::limits::fits;
+    use crate::samples::{abstracted, applied};
+    use crate::term::Term;
+    use std::alloc::{AllocError, Global};
+    use std::test::Fail;
+
+    // As many abstractions, one in another.
+    fn tower(alloc: Global, height: u32) -> Result<Term, AllocError> {
+        let mut tower = Term::Fun(0);
+        for _ in 0..height {
+            tower = abstracted(alloc, 0, tower)?;
+        }
+        Ok(tower)
+    }
+
+    // A symbol with as many arguments.
+    fn broad(alloc: Global, arguments: u32) -> Result<Term, AllocError> {
+        let mut spine = Term::Fun(0);
+        for _ in 0..arguments {
+            spine = applied(alloc, spine, Term::Fun(1))?;
+        }
+        Ok(spine)
+    }
+
+    // A tree that branches at each of the levels: of size 2^(levels + 1) - 1.
+    fn balanced(alloc: Global, levels: u32) -> Result<Term, AllocError> {
+        let mut tree = Term::Fun(0);
+        for _ in 0..levels {
+            let other = copy_term(alloc, &tree)?;
+            tree = applied(alloc, tree, other)?;
+        }
+        Ok(tree)
+    }
+
+    #[test]
+    fn height_ends_at_200(rt: HostRuntime) -> Result<(), Fail> {
+        assert!(rt; fits(&tower(rt.alloc(), 200)?));
+        assert!(rt; !fits(&tower(rt.alloc(), 201)?));
+        Ok(())
+    }
+
+    #[test]
+    fn spines_end_at_32_arguments(rt: HostRuntime) -> Result<(), Fail> {
+        assert!(rt; fits(&broad(rt.alloc(), 32)?));
+        assert!(rt; !fits(&broad(rt.alloc(), 33)?));
+        Ok(())
+    }
+
+    #[test]
+    fn size_ends_at_65536(rt: HostRuntime) -> Result<(), Fail> {
+        let tree = abstracted(rt.alloc(), 0, balanced(rt.alloc(), 15)?)?;
+        assert!(rt; fits(&tree));
+        let larger = abstracted(rt.alloc(), 0, tree)?;
+        assert!(rt; !fits(&larger));
+        Ok(())
+    }
+}
