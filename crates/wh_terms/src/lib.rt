@@ -26,6 +26,7 @@ mod walk;
 mod typing;
 
 pub use apply::apply_meta;
+pub use bodies::body_for;
 pub use closing::close;
 pub use copy::copy_term;
 pub use equality::same;
