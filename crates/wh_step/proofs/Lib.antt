@@ -2,3 +2,4 @@ pub mod Instances
 pub mod RawStep
 pub mod Walks
 pub mod Places
+pub mod RootLaws

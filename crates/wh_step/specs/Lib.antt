@@ -2,3 +2,4 @@ pub mod Step
 pub mod Reduction
 pub mod Replay
 pub mod Reducts
+pub mod Roots
