@@ -14,3 +14,4 @@ pub mod Kinds
 pub mod Valued
 pub mod Scope
 pub mod Budget
+pub mod Matching
