@@ -3,3 +3,4 @@ pub mod RawStep
 pub mod Walks
 pub mod Places
 pub mod RootLaws
+pub mod RedexLemmas

@@ -79,7 +79,7 @@ beta_one (fun f) v w e d = absurd e
 beta_one (meta z ts) v w e d = absurd e
 beta_one (lam a t) v w e d = absurd e
 
-same_rule : (rules : List RewriteRule) (k : ℕ) (r s : RewriteRule) → slice_get rules k ≡ Some r → slice_get rules k ≡ Some s → s ≡ r
+pub same_rule : (rules : List RewriteRule) (k : ℕ) (r s : RewriteRule) → slice_get rules k ≡ Some r → slice_get rules k ≡ Some s → s ≡ r
 same_rule rules k r s e d = let same : Some s ≡ Some r = sym d ∙ e in cc
 
 pub root_one : {rules : List RewriteRule} (S : Symbols) → AreWellMade S rules → (k : Option ℕ) (t v w : Tm) → RootStep rules k t v → RootStep rules k t w → v ≡ w

@@ -3,3 +3,4 @@ pub mod Reduction
 pub mod Replay
 pub mod Reducts
 pub mod Roots
+pub mod Contracta

@@ -1,6 +1,6 @@
 -- Steps at the root of a tree, and at a place of it, with no binder opened.
 use Rattle.std.specs.Prelude.{ℕ, zero, suc, ◌≡◌, List, [], ◌∷◌, Option, Some, None, slice_get}
-use Rattle.wh_terms.specs.Tree.{Tm, lam, app}
+use Rattle.wh_terms.specs.Tree.{Tm, fun, lam, app}
 use Rattle.wh_terms.specs.Substitution.{opened}
 use Rattle.wh_terms.specs.Value.{Body, Value}
 use Rattle.wh_terms.specs.Places.{part_at}
@@ -35,3 +35,9 @@ pub record StepsAt (rules : List RewriteRule) (k : Option ℕ) (path : List ℕ)
   pub here : part_at path t ≡ Some redex
   pub steps : RootStep rules k redex contractum
   pub whole : u ≡ put_at path contractum t
+
+-- two spines have the same symbol at their head and as many arguments
+abbrev pub SameHead : Tm → Tm → Type 0
+SameHead (app p q) (app t u) = SameHead p t
+SameHead (fun f) (fun g) = f ≡ g
+SameHead _ _ = ⊥

@@ -7,6 +7,7 @@ ghost use Rattle.wh_terms.specs.Tree.{Tm};
 ghost use Rattle.wh_step.specs.Reduction.{Bounded, Unbounded};
 
 mod laws;
+mod redex;
 
 pub use laws::{
     bounded_by_reducts, loops_are_unbounded, one_result, places_of_steps, reducts_of_bounded,
