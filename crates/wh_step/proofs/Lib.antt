@@ -4,3 +4,4 @@ pub mod Walks
 pub mod Places
 pub mod RootLaws
 pub mod RedexLemmas
+pub mod PlaceLemmas

@@ -86,7 +86,7 @@ pub root_one : {rules : List RewriteRule} (S : Symbols) → AreWellMade S rules 
 root_one S m None t v w b c = beta_one t v w b c
 root_one {rules = rules} S m (Some k) t v w (r, e, b) (s, d, c) = rule_one S r (rule_made S m k r e) t v w b (subst (λ q. RuleStep q t w) (same_rule rules k r s e d) c)
 
-some_one : (t u : Tm) → Some t ≡ Some u → t ≡ u
+pub some_one : (t u : Tm) → Some t ≡ Some u → t ≡ u
 some_one t u e = cc
 
 pub steps_at_one : {rules : List RewriteRule} (S : Symbols) → AreWellMade S rules → (k : Option ℕ) (path : List ℕ) (t v w : Tm) → StepsAt rules k path t v → StepsAt rules k path t w → v ≡ w

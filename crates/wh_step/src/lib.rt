@@ -7,6 +7,7 @@ ghost use Rattle.wh_terms.specs.Tree.{Tm};
 ghost use Rattle.wh_step.specs.Reduction.{Bounded, Unbounded};
 
 mod laws;
+mod place;
 mod redex;
 
 pub use laws::{
@@ -14,6 +15,7 @@ pub use laws::{
     replays_are_reductions, steps_at_places, steps_bring_nothing_loose, steps_keep_terms,
     steps_keep_types, steps_of_abstractions, steps_under_substitution, unbounded_before,
 };
+pub use place::step_at;
 
 /// No term is both bounded and unbounded.
 pub fn bounded_or_unbounded()

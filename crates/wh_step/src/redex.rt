@@ -50,7 +50,11 @@ fn beta_step<'a>(term: &'a Term) -> Option<Contractum<'a>>
 }
 
 // The step by a rule.
-fn rule_step<'a>(alloc: Global, rule: &'a Rule, term: &Term) -> Result<Option<Contractum<'a>>, AllocError>
+fn rule_step<'a>(
+    alloc: Global,
+    rule: &'a Rule,
+    term: &Term,
+) -> Result<Option<Contractum<'a>>, AllocError>
     requires well_made { (S : Symbols) × IsWellMade S (rewrite_rule rule.now) }
     requires plain { IsPlain (tm term.now) }
     ensures { IfOk result (λ o. MatchOption o ((v : Tm) → RuleStep (rewrite_rule rule.now) (tm term.now) v → ⊥) (λ c. IsReady c × RuleStep (rewrite_rule rule.now) (tm term.now) (result_of c))) }
@@ -65,7 +69,12 @@ fn rule_step<'a>(alloc: Global, rule: &'a Rule, term: &Term) -> Result<Option<Co
 }
 
 /// The step at the root by the rule of this number, or by beta where there is no number, if there is one.
-pub fn root_step<'a>(alloc: Global, rules: &'a [Rule], term: &'a Term, rule: Option<u32>) -> Result<Option<Contractum<'a>>, AllocError>
+pub fn root_step<'a>(
+    alloc: Global,
+    rules: &'a [Rule],
+    term: &'a Term,
+    rule: Option<u32>,
+) -> Result<Option<Contractum<'a>>, AllocError>
     requires well_made { (S : Symbols) × AreWellMade S (rewrite_rules rules.now) }
     requires plain { IsPlain (tm term.now) }
     ensures { IfOk result (λ o. MatchOption o ((v : Tm) → RootStep (rewrite_rules rules.now) rule (tm term.now) v → ⊥) (λ c. IsReady c × RootStep (rewrite_rules rules.now) rule (tm term.now) (result_of c))) }
