@@ -5,3 +5,4 @@ pub mod Places
 pub mod RootLaws
 pub mod RedexLemmas
 pub mod PlaceLemmas
+pub mod EnumerationLaws

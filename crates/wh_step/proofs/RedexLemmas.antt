@@ -1,6 +1,7 @@
 -- What stands in a redex and in the rules that match it.
-use Rattle.std.proofs.Common.{◌≡◌, ℕ, zero, suc, ◌+◌, ◌-◌, ◌≤◌, ◌<◌, ◌^◌, ◌⊎◌, inl, inr, List, [], ◌∷◌, length, Option, Some, None, slice_get, refl, ap, sym, ◌∙◌, subst, arith, map, max}
+use Rattle.std.proofs.Common.{◌≡◌, ℕ, zero, suc, ◌+◌, ◌-◌, ◌≤◌, ◌<◌, ◌^◌, ◌⊎◌, inl, inr, List, [], ◌∷◌, length, Option, Some, None, slice_get, refl, ap, sym, ◌∙◌, subst, arith, map, max, get_or}
 use Rattle.std.specs.Prelude.{Contains, option_map, MatchOption, Result, IfOk}
+use Rattle.std.proofs.lemmas.Option.{slice_get_read}
 use Rattle.std.specs.declared.alloc.AllocError.{AllocError}
 use Rattle.wh_types.specs.Ty.{Ty}
 use Rattle.wh_terms.specs.Tree.{Tm, bound, free, fun, meta, lam, app, Tms, none, more, head, count}
@@ -193,3 +194,11 @@ pub no_step_by_rule : (rules : List Rule) (k : ℕ) (number : Option ℕ) (t : T
 no_step_by_rule rules k number t beyond is v step =
     let (r, e, s) = subst (λ n. RootStep (rewrite_rules rules) n t v) is step in
     no_rule_here rules k beyond r e
+
+pub rules_counted : (rules : List Rule) → length (rewrite_rules rules) ≡ length rules
+rules_counted [] = refl
+rules_counted (r ∷ rules) = ap suc (rules_counted rules)
+
+-- the rule that a walk over the rules has come to
+pub rule_now : (rules : List Rule) (i : ℕ) (r : Rule) → i < length rules → r ≡ get_or rules i r → slice_get (rewrite_rules rules) i ≡ Some (rewrite_rule r)
+rule_now rules i r within is = rule_here rules i r (slice_get_read rules (length rules) i r refl within is)

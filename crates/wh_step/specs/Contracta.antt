@@ -1,5 +1,5 @@
 -- What the parts of a step's result stand for.
-use Rattle.std.specs.Prelude.{ℕ, List}
+use Rattle.std.specs.Prelude.{ℕ, List, [], ◌∷◌, Option, Some, None}
 use Rattle.wh_terms.specs.Tree.{Tm}
 use Rattle.wh_terms.specs.Erase.{tm}
 use Rattle.wh_terms.specs.Sight.{IsTerm, Occurs}
@@ -31,3 +31,13 @@ pub record IsInstance (right : Tm) (found : List MetaBody) : Type 0 where
 abbrev pub IsReady : Contractum → Type 0
 IsReady (Opened body argument) = IsPlain (tm body.now) × IsPlain (tm argument.now)
 IsReady (Instance right found) = IsInstance (tm right.now) found
+
+-- the result, if there is one
+abbrev pub results_of : Option Contractum → List Tm
+results_of None = []
+results_of (Some c) = result_of c ∷ []
+
+-- the same of parts that there may be
+abbrev pub AreReady : Option Contractum → Type 0
+AreReady None = Unit {0}
+AreReady (Some c) = IsReady c

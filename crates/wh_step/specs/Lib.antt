@@ -4,3 +4,4 @@ pub mod Replay
 pub mod Reducts
 pub mod Roots
 pub mod Contracta
+pub mod Enumerations

@@ -9,6 +9,7 @@ ghost use Rattle.wh_step.specs.Reduction.{Bounded, Unbounded};
 mod laws;
 mod place;
 mod redex;
+mod reducing;
 
 pub use laws::{
     bounded_by_reducts, loops_are_unbounded, one_result, places_of_steps, reducts_of_bounded,
@@ -16,6 +17,7 @@ pub use laws::{
     steps_keep_types, steps_of_abstractions, steps_under_substitution, unbounded_before,
 };
 pub use place::step_at;
+pub use reducing::reducts;
 
 /// No term is both bounded and unbounded.
 pub fn bounded_or_unbounded()

@@ -35,8 +35,8 @@ fn same_head(pattern: &Term, term: &Term) -> bool
     }
 }
 
-// The step of an abstraction with an argument.
-fn beta_step<'a>(term: &'a Term) -> Option<Contractum<'a>>
+/// The step of an abstraction with an argument.
+pub fn beta_step<'a>(term: &'a Term) -> Option<Contractum<'a>>
     requires plain { IsPlain (tm term.now) }
     ensures { MatchOption result ((v : Tm) → BetaStep (tm term.now) v → ⊥) (λ c. IsReady c × BetaStep (tm term.now) (result_of c)) }
 {
@@ -49,8 +49,8 @@ fn beta_step<'a>(term: &'a Term) -> Option<Contractum<'a>>
     }
 }
 
-// The step by a rule.
-fn rule_step<'a>(
+/// The step at the root by the rule, if there is one.
+pub fn rule_step<'a>(
     alloc: Global,
     rule: &'a Rule,
     term: &Term,
