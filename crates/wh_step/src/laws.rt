@@ -72,3 +72,8 @@ pub fn places_of_steps()
 pub fn replays_are_reductions()
     ensures { (rules : List RewriteRule) (steps : List taken.Step) (t u : Tm) → Replays rules steps t u → (l : List Tm) × Reduction rules t l × (length l ≡ length steps) × (last_of t l ≡ u) }
 {}
+
+/// A step at a place, by one rule or by beta, has one result.
+pub fn one_result()
+    ensures { (S : Symbols) (rules : List RewriteRule) (k : Option ℕ) (path : List ℕ) (t u v : Tm) → AreWellMade S rules → StepAt rules k path t u → StepAt rules k path t v → u ≡ v }
+{}

@@ -7,12 +7,17 @@ ghost use Rattle.wh_terms.specs.Tree.{Tm};
 ghost use Rattle.wh_step.specs.Reduction.{Bounded, Unbounded};
 
 mod laws;
+mod place;
+mod redex;
+mod reducing;
 
 pub use laws::{
-    bounded_by_reducts, loops_are_unbounded, places_of_steps, reducts_of_bounded,
+    bounded_by_reducts, loops_are_unbounded, one_result, places_of_steps, reducts_of_bounded,
     replays_are_reductions, steps_at_places, steps_bring_nothing_loose, steps_keep_terms,
     steps_keep_types, steps_of_abstractions, steps_under_substitution, unbounded_before,
 };
+pub use place::step_at;
+pub use reducing::reducts;
 
 /// No term is both bounded and unbounded.
 pub fn bounded_or_unbounded()

@@ -55,10 +55,10 @@ ups_free_at (suc k) φ x a = ap (rename suc) (ups_free_at k φ x a) ∙ raised-s
 pub ups_free_stays : (k : ℕ) (x : ℕ) (a : Ty) → ups_free k free x a ≡ free x a
 ups_free_stays k x a = ups_free_at k free x a ∙ raised_free k x a
 
--- the nearest loose variable, below k binders, stands for a tree without loose variables
-pub opened_here : (k : ℕ) (u : Tm) → LooseBelow 0 u → ups k (cons u bound) k ≡ u
+-- the nearest loose variable, below k binders, stands for the tree that opens, moved below them
+pub opened_here : (k : ℕ) (u : Tm) → ups k (cons u bound) k ≡ raised k u
 unfolding cons
-opened_here k u shut = ups_high k (cons u bound) k 0 (omega arith) ∙ raised_shut k u shut
+opened_here k u = ups_high k (cons u bound) k 0 (omega arith)
 
 pub opened_beyond : (k : ℕ) (u : Tm) (i : ℕ) → k < i → ups k (cons u bound) i ≡ bound (i - 1)
 unfolding cons

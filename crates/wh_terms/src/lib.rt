@@ -26,10 +26,11 @@ mod seat;
 mod subst;
 mod substitution;
 mod term;
-mod typing;
 mod walk;
+mod typing;
 
 pub use apply::apply_meta;
+pub use bodies::body_for;
 pub use closing::close;
 pub use copy::copy_term;
 pub use equality::same;

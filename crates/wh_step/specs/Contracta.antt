@@ -1,0 +1,43 @@
+-- What the parts of a step's result stand for.
+use Rattle.std.specs.Prelude.{ℕ, List, [], ◌∷◌, Option, Some, None}
+use Rattle.wh_terms.specs.Tree.{Tm}
+use Rattle.wh_terms.specs.Erase.{tm}
+use Rattle.wh_terms.specs.Sight.{IsTerm, Occurs}
+use Rattle.wh_terms.specs.Substitution.{opened}
+use Rattle.wh_terms.specs.Entries.{bodies, Covers}
+use Rattle.wh_terms.specs.Measures.{Manageable}
+use Rattle.wh_terms.specs.Valued.{valued}
+use Rattle.wh_terms.specs.declared.subst.MetaBody.{MetaBody}
+use Rattle.wh_step.specs.declared.redex.Contractum.{Contractum}
+use Rattle.wh_step.specs.declared.redex.Contractum.TheVariants.{Opened, Instance}
+
+-- the result that is built from the parts
+abbrev pub result_of : Contractum → Tm
+result_of (Opened body argument) = opened (tm argument.now) (tm body.now)
+result_of (Instance right found) = valued 0 (bodies found) (tm right.now)
+
+-- a term that calls take
+pub record IsPlain (t : Tm) : Type 0 where
+  pub in_range : Manageable t
+  pub term : IsTerm t
+
+-- the meta-substitution lists the meta-variables of a right side, and their bodies are terms
+pub record IsInstance (right : Tm) (found : List MetaBody) : Type 0 where
+  pub in_range : Manageable right
+  pub covered : Covers found right
+  pub terms : (z : ℕ) → Occurs z right → IsTerm (bodies found z).tree
+
+-- the parts are such that the result can be measured and built
+abbrev pub IsReady : Contractum → Type 0
+IsReady (Opened body argument) = IsPlain (tm body.now) × IsPlain (tm argument.now)
+IsReady (Instance right found) = IsInstance (tm right.now) found
+
+-- the result, if there is one
+abbrev pub results_of : Option Contractum → List Tm
+results_of None = []
+results_of (Some c) = result_of c ∷ []
+
+-- the same of parts that there may be
+abbrev pub AreReady : Option Contractum → Type 0
+AreReady None = Unit {0}
+AreReady (Some c) = IsReady c
