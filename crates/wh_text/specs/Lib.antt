@@ -5,3 +5,4 @@ pub mod RawTree
 pub mod Spelling
 pub mod Erase
 pub mod Pieces
+pub mod Pushes

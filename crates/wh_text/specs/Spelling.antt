@@ -45,3 +45,13 @@ abbrev mutual
 
 abbrev pub spelled : RTm → List ℕ
 spelled t = put_term t []
+
+-- terms of which each has a sign before it: the sign c the first, the sign d the others
+abbrev pub put_each : ℕ → ℕ → RTms → List ℕ → List ℕ
+put_each c d none r = r
+put_each c d (more t ts) r = c ∷ put_term t (put_each d d ts r)
+
+-- the arguments of a meta-variable in brackets, and nothing where there are none
+abbrev pub put_bracketed : RTms → List ℕ → List ℕ
+put_bracketed none r = r
+put_bracketed ts r = put_each 91 44 ts (93 ∷ r)
