@@ -1,6 +1,6 @@
 //! That the calls succeed, at the limits of the form.
 
-use crate::{check_first, read_first_certificate, read_first_system, FirstFault};
+use crate::{FirstFault, check_first, read_first_certificate, read_first_system};
 use std::alloc::{AllocError, Global};
 use std::test::Fail;
 

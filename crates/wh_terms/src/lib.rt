@@ -26,8 +26,8 @@ mod seat;
 mod subst;
 mod substitution;
 mod term;
-mod walk;
 mod typing;
+mod walk;
 
 pub use apply::apply_meta;
 pub use bodies::body_for;

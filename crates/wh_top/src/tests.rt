@@ -1,13 +1,14 @@
 //! The worked rows of the first path, over files and a sink in memory.
 
-use crate::{run, Status};
+use crate::{Status, run};
 use std::alloc::{AllocError, Global};
 use std::test::Fail;
 use wh_io::{MemoryShelf, MemorySink};
 
 const LOOP_SYSTEM: &[u8] = b"sort o;\nfun a : o;\nfun b : o;\nrule {} a => b;\nrule {} b => a;\n";
 
-const MAP_SYSTEM: &[u8] = b"sort nat;\nsort list;\nfun zero : nat;\nfun s : nat -> nat;\nfun nil : list;\nfun cons : nat -> list -> list;\nfun map : (nat -> nat) -> list -> list;\nrule {F:[nat] nat} map (\\x:nat.F[x]) nil => nil;\nrule {F:[nat] nat, X:nat, Y:list} map (\\x:nat.F[x]) (cons X Y) => cons F[X] (map (\\x:nat.F[x]) Y);\n";
+const MAP_SYSTEM: &[u8] =
+    b"sort nat;\nsort list;\nfun zero : nat;\nfun s : nat -> nat;\nfun nil : list;\nfun cons : nat -> list -> list;\nfun map : (nat -> nat) -> list -> list;\nrule {F:[nat] nat} map (\\x:nat.F[x]) nil => nil;\nrule {F:[nat] nat, X:nat, Y:list} map (\\x:nat.F[x]) (cons X Y) => cons F[X] (map (\\x:nat.F[x]) Y);\n";
 
 const MAP_CERTIFICATE: &[u8] =
     b"YES 1\nranks 0 0\npairs 1\nsubterm\narg map 2\ndrop 0\ndone\nend\n";
@@ -59,7 +60,12 @@ fn checks_loops_of_constants(rt: HostRuntime) -> Result<(), Fail> {
             Status::Rejected,
             b"REJECTED term\n".as_slice(),
         ),
-        (MAP_SYSTEM, MAP_CERTIFICATE, Status::Later, b"LATER\n".as_slice()),
+        (
+            MAP_SYSTEM,
+            MAP_CERTIFICATE,
+            Status::Later,
+            b"LATER\n".as_slice(),
+        ),
         // The first form asks for a step, for numbers without a leading zero, and for nothing behind its end.
         (
             LOOP_SYSTEM,
