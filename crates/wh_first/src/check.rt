@@ -29,8 +29,9 @@ pub fn check_first(system: &FirstSystem, certificate: &FirstCertificate) -> Resu
     let Some(first) = number_of(system.fun_names.as_slice(), certificate.term.as_slice()) else {
         return Err(FirstFault::Term);
     };
+    let steps = certificate.steps.as_slice();
     let mut here = first;
-    for (i, step) in certificate.steps.iter().enumerate() {
+    for (i, step) in steps.iter().enumerate() {
         match applied(system.rules.as_slice(), *step, here) {
             Some(next) => here = next,
             None => return Err(FirstFault::Step(i)),

@@ -8,6 +8,8 @@ mod check;
 mod laws;
 mod scan;
 mod system;
+#[cfg(test)]
+mod tests;
 
 pub use certificate::{FirstCertificate, read_first_certificate};
 pub use check::{FirstFault, check_first};

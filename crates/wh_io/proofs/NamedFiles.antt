@@ -6,15 +6,19 @@ use Rattle.std.specs.List.{position, position_from}
 use Rattle.std.proofs.lemmas.Iterator.Adapters.{position_from-zero}
 use Rattle.wh_io.specs.Memory.{file_named}
 
+-- a name and bytes
 abbrev pub File : Type 0
 File = List ℕ × List ℕ
 
+-- the file has this name
 abbrev pub is_named : List ℕ → File → Bool
 is_named name file = bytes_eq file.0 name
 
+-- the test finds a name the same as itself
 same_bytes : (xs : List ℕ) → bytes_eq xs xs ≡ true
 same_bytes xs = (bytes_eq-Decides xs xs).1 refl
 
+-- and different from any other
 other_bytes : (xs ys : List ℕ) → ys ≢ xs → bytes_eq xs ys ≡ false
 other_bytes xs ys other =
     let same : bytes_eq xs ys ≡ true → xs ≡ ys = (bytes_eq-Decides xs ys).0 in
@@ -22,7 +26,7 @@ other_bytes xs ys other =
     λ b. elim b as (λ v. (v ≡ true → xs ≡ ys) → v ≡ false) [ true ↦ λ f. absurd (other (sym (f refl))) | false ↦ λ _. refl ] in
     cases (bytes_eq xs ys) same
 
--- no file has the name
+-- where no place is found, from any count on, no file has the name
 no_place : (files : List File) (name : List ℕ) (i : ℕ) → position_from (is_named name) i files ≡ None → file_named files name ≡ None
 no_place [] name i e = refl
 no_place (file ∷ files) name i e =
@@ -30,6 +34,7 @@ no_place (file ∷ files) name i e =
     λ b. elim b as (λ v. cond v (Some i) (position_from (is_named name) (i + 1) files) ≡ None → cond v (Some file.1) (file_named files name) ≡ None) [ true ↦ λ f. absurd (cc f) | false ↦ no_place files name (i + 1) ] in
     step (is_named name file) e
 
+-- the same, at what `position` gives
 pub none_named : (files : List File) (name : List ℕ) → position (is_named name) files ≡ None → file_named files name ≡ None
 none_named files name e = no_place files name 0 (sym (position_from-zero (is_named name) files) ∙ e)
 

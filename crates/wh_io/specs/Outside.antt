@@ -33,4 +33,4 @@ Wrote old new text = (before : List ℕ) → old ≡ Some before → new ≡ Som
 -- a put appends a front part of the piece, and some of it unless the piece is empty; a failed one appends nothing
 abbrev pub Puts : {E : Type 0} → Option (List ℕ) → Option (List ℕ) → List ℕ → Result ℕ E → Type 0
 Puts old new piece (Ok n) = (n ≤ length piece) × (0 < length piece → 0 < n) × Wrote old new (take n piece)
-Puts old new piece (Err _) = new ≡ old
+Puts old new piece (Err _) = (before : List ℕ) → old ≡ Some before → new ≡ Some before

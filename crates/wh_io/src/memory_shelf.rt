@@ -1,7 +1,9 @@
 //! A shelf in memory, which fails when it is told to: for tests of what reads.
+//!
+//! Its contract is exact: it says which reads fail, how many bytes the others give, and what the
+//! shelf is afterwards. A read takes no memory.
 
-ghost use Rattle.std.specs.Prelude.{◌≡◌, ◌↔◌, ◌-◌, ◌≤◌, ℕ, List, [], length, min, IsErr, IfOk, OnOk, OnErr, Some, None};
-ghost use Rattle.std.specs.Prelude.{position};
+ghost use Rattle.std.specs.Prelude.{◌≡◌, ◌↔◌, ◌-◌, ◌≤◌, ℕ, List, [], length, min, IsErr, IfOk, OnOk, OnErr, Some, None, position};
 ghost use Rattle.std.specs.Option.{option_copied};
 ghost use Rattle.std.specs.Str.{bytes_eq};
 ghost use Rattle.wh_io.specs.Outside.{Gives, ReadsAt, HasCause};

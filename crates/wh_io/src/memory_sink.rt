@@ -1,5 +1,8 @@
 //! A sink in memory, which takes little at a time and fails when it is told to: for tests of what
 //! writes.
+//!
+//! Its contract is exact: it says which puts fail, how many bytes the others take, and what the
+//! sink is afterwards. A put takes no memory, since the room is taken when the sink is made.
 
 ghost use Rattle.std.specs.Prelude.{◌≡◌, ◌↔◌, ◌≤◌, ℕ, List, [], IsErr, IfOk, Some};
 ghost use Rattle.wh_io.specs.Outside.{Puts, HasCause};
@@ -10,8 +13,7 @@ use crate::sink::Sink;
 use std::alloc::{AllocError, Global};
 use std::marker::Model;
 
-/// A sink that holds what was written in memory, and tells it. All its memory is taken when it is
-/// made.
+/// A sink that holds what was written in memory, and tells it.
 #[derive(Drop)]
 pub struct MemorySink {
     written: Vec<u8>,

@@ -9,7 +9,7 @@ use crate::sink::Sink;
 /// Appends all of these bytes, in as many puts as it takes.
 ///
 /// # Errors
-/// `Failed` where a put failed. A front part of the bytes was then appended.
+/// `Failed` where a put failed. Then a front part of the bytes was appended, and not all of them.
 pub fn write_all_of<K: Sink>(sink: &mut K, bytes: &[u8]) -> Result<(), Failed>
     ensures bytes { WritesAll (K.written sink.old) (K.written sink.new) bytes.now result }
     ensures cause { HasCause (K.faults sink.old) (K.faults sink.new) result }

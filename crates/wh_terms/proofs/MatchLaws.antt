@@ -47,7 +47,7 @@ shifted-moved k g z =
     ap (with_tree (g z)) (rename-rename (up_times n (λ i. k + i)) (up_times n suc) (g z).tree
     ∙ rename_same (up_times-twice n (λ i. k + i) suc (λ i. k + 1 + i) (λ i. omega arith)) (g z).tree)
 
-moved-none : (g : ℕ → Body) (z : ℕ) → moved 0 g z ≡ g z
+pub moved-none : (g : ℕ → Body) (z : ℕ) → moved 0 g z ≡ g z
 unfolding with_tree
 moved-none g z =
     let n : ℕ = (g z).arity in
@@ -66,9 +66,11 @@ parameters-up_times (more t ts) σ ρ i =
     ap (λ n. parameters ts (cons t σ) (up_times n ρ i)) (one-add (count ts)) ∙ parameters-up_times ts (cons t σ) (up_renaming ρ) i
     ∙ parameters_same ts (λ j. cons t σ (up_renaming ρ j)) (cons t (λ j. σ (ρ j))) (cons-up t σ ρ) i
 
--- a way back from distinct variables in place of parameters, before variables that none of them is
-abbrev pub WayBack : Tms → (ℕ → ℕ) → Type 0
-WayBack ts ρ = (τ : ℕ → Tm) × ((i : ℕ) → act τ free (parameters ts (λ j. bound (ρ j)) i) ≡ bound i)
+-- the way back from bound variables to the parameters that they stand for; τ is the way back for all others
+abbrev pub way : Tms → (ℕ → ℕ) → ℕ → ℕ
+way none τ j = τ j
+way (more (bound x) ts) τ j = way ts (λ i. if i == x then 0 else suc (τ i)) j
+way (more t ts) τ j = way ts τ j
 
 before : ℕ → (ℕ → ℕ) → ℕ → ℕ
 before x ρ zero = x
@@ -89,17 +91,20 @@ unfolding before
 before-back x ρ τ n h zero = ap (λ c. if c then 0 else suc (τ x)) (eq-eqb x x refl)
 before-back x ρ τ n h (suc i) = ap (λ c. if c then 0 else suc (τ (ρ i))) (ne_eqb (ρ i) x (n i)) ∙ ap suc (h i)
 
-way_back : (k : ℕ) (ts : Tms) (ρ τ : ℕ → ℕ) → AllBoundBelow k ts → Distinct ts → ((i : ℕ) → Misses (ρ i) ts) → ((i : ℕ) → τ (ρ i) ≡ i) → WayBack ts ρ
+-- from distinct variables in place of the parameters, before variables that none of them is
+way_back : (k : ℕ) (ts : Tms) (ρ τ : ℕ → ℕ) → AllBoundBelow k ts → Distinct ts → ((i : ℕ) → Misses (ρ i) ts) → ((i : ℕ) → τ (ρ i) ≡ i)
+    → (i : ℕ) → act (λ j. bound (way ts τ j)) free (parameters ts (λ j. bound (ρ j)) i) ≡ bound i
 unfolding parameters act
-way_back k none ρ τ b d m h = (λ j. bound (τ j), λ i. ap bound (h i))
-way_back k (more (bound x) ts) ρ τ b d m h =
-    let (π, e) = way_back k ts (before x ρ) (λ j. if j == x then 0 else suc (τ j)) b.1 d.1 (before-missed x ρ ts d.0 (λ i. (m i).1)) (before-back x ρ τ (λ i. (m i).0) h) in
-    (π, λ i. ap (act π free) (parameters_same ts (cons (bound x) (λ j. bound (ρ j))) (λ j. bound (before x ρ j)) (before-bound x ρ) i) ∙ e i)
-way_back k (more (free x a) ts) ρ τ b d m h = absurd b
-way_back k (more (fun f) ts) ρ τ b d m h = absurd b
-way_back k (more (meta z us) ts) ρ τ b d m h = absurd b
-way_back k (more (lam a t) ts) ρ τ b d m h = absurd b
-way_back k (more (app t u) ts) ρ τ b d m h = absurd b
+way_back k none ρ τ b d m h i = ap bound (h i)
+way_back k (more (bound x) ts) ρ τ b d m h i =
+    let σ : ℕ → Tm = λ j. bound (way ts (λ i. if i == x then 0 else suc (τ i)) j) in
+    ap (act σ free) (parameters_same ts (cons (bound x) (λ j. bound (ρ j))) (λ j. bound (before x ρ j)) (before-bound x ρ) i)
+    ∙ way_back k ts (before x ρ) (λ j. if j == x then 0 else suc (τ j)) b.1 d.1 (before-missed x ρ ts d.0 (λ i. (m i).1)) (before-back x ρ τ (λ i. (m i).0) h) i
+way_back k (more (free x a) ts) ρ τ b d m h i = absurd b
+way_back k (more (fun f) ts) ρ τ b d m h i = absurd b
+way_back k (more (meta z us) ts) ρ τ b d m h i = absurd b
+way_back k (more (lam a t) ts) ρ τ b d m h i = absurd b
+way_back k (more (app t u) ts) ρ τ b d m h i = absurd b
 
 far_missed : (k i : ℕ) (ts : Tms) → AllBoundBelow k ts → Misses (k + i) ts
 far_missed k i none b = tt
@@ -118,20 +123,23 @@ moved_body k g z ts e =
     ∙ act-rename (up_times (count ts) (λ i. k + i)) (parameters ts bound) free (g z).tree
     ∙ act_same (parameters-up_times ts bound (λ i. k + i)) (λ x a. refl) (g z).tree
 
-body_back : (k : ℕ) (g : ℕ → Body) (z : ℕ) (ts : Tms) → (way : WayBack ts (λ j. k + j)) → (g z).arity ≡ count ts → act way.0 free (act (parameters ts bound) free (moved k g z).tree) ≡ (g z).tree
-unfolding act
-body_back k g z ts (τ, h) e =
-    ap (act τ free) (moved_body k g z ts e) ∙ act-act (parameters ts (λ j. bound (k + j))) free τ free (g z).tree
-    ∙ act_same h (λ x a. refl) (g z).tree ∙ act-id (g z).tree
+-- what stands for the distinct variables ts below k binders, as a body
+abbrev pub read_body : ℕ → Tms → Tm → Tm
+read_body k ts t = act (λ j. bound (way ts (λ i. i - k) j)) free t
 
-body_one : (b c : Body) → b.arity ≡ c.arity → b.tree ≡ c.tree → b ≡ c
+pub body_back : (k : ℕ) (g : ℕ → Body) (z : ℕ) (ts : Tms) → AllBoundBelow k ts → Distinct ts → (g z).arity ≡ count ts → read_body k ts (act (parameters ts bound) free (moved k g z).tree) ≡ (g z).tree
+unfolding act
+body_back k g z ts b d e =
+    let τ : ℕ → Tm = λ j. bound (way ts (λ i. i - k) j) in
+    ap (act τ free) (moved_body k g z ts e) ∙ act-act (parameters ts (λ j. bound (k + j))) free τ free (g z).tree
+    ∙ act_same (way_back k ts (λ j. k + j) (λ j. j - k) b d (λ i. far_missed k i ts b) (λ i. omega arith)) (λ x a. refl) (g z).tree ∙ act-id (g z).tree
+
+pub body_one : (b c : Body) → b.arity ≡ c.arity → b.tree ≡ c.tree → b ≡ c
 body_one b c e d = ap₂ (λ n t. let body : Body = record { arity = n; tree = t } in body) e d
 
 meta_one : (k : ℕ) (g h : ℕ → Body) (z : ℕ) (ts : Tms) → AllBoundBelow k ts → Distinct ts → (g z).arity ≡ count ts → (h z).arity ≡ count ts
     → act (parameters ts bound) free (moved k g z).tree ≡ act (parameters ts bound) free (moved k h z).tree → g z ≡ h z
-meta_one k g h z ts b d e f v =
-    let way = way_back k ts (λ j. k + j) (λ j. j - k) b d (λ i. far_missed k i ts b) (λ i. omega arith) in
-    body_one (g z) (h z) (e ∙ sym f) (sym (body_back k g z ts way e) ∙ ap (act way.0 free) v ∙ body_back k h z ts way f)
+meta_one k g h z ts b d e f v = body_one (g z) (h z) (e ∙ sym f) (sym (body_back k g z ts b d e) ∙ ap (read_body k ts) v ∙ body_back k h z ts b d f)
 
 lam_bodies : {a b : Ty} {t u : Tm} → lam a t ≡ lam b u → t ≡ u
 lam_bodies e = cc
@@ -142,7 +150,7 @@ app_functions e = cc
 app_arguments : {t u v w : Tm} → app t u ≡ app v w → u ≡ w
 app_arguments e = cc
 
-value-moved : (k : ℕ) (g : ℕ → Body) (t : Tm) → value (shifted (moved k g)) t ≡ value (moved (k + 1) g) t
+pub value-moved : (k : ℕ) (g : ℕ → Body) (t : Tm) → value (shifted (moved k g)) t ≡ value (moved (k + 1) g) t
 value-moved k g t = value_same (shifted (moved k g)) (moved (k + 1) g) t (shifted-moved k g)
 
 mutual

@@ -1,24 +1,26 @@
 -- Matching, part by part: what each case of the search for a match says.
 use Rattle.std.proofs.Common.{◌≡◌, ◌≢◌, ℕ, zero, suc, ◌+◌, ◌⊎◌, inl, inr, List, [], ◌∷◌, ◌++◌, get_or, Bool, true, false, subst, refl, ap, ap₂, sym, ◌∙◌, arith, add-zero, eq-eqb, eqb-true}
 use Rattle.std.specs.Prelude.{if◌then◌else◌, ◌==◌, ◌↔◌, IsTrue, Contains}
-use Rattle.std.proofs.lemmas.List.Elements.{Contains-append_left, Contains-push, Contains-push_cases, Contains-get_or}
+use Rattle.std.proofs.lemmas.List.Elements.{All-push, Contains-append_left, Contains-push, Contains-push_cases, Contains-get_or}
 use Rattle.std.proofs.lemmas.List.Quantifiers.{all_pairs_push}
 use Rattle.wh_types.specs.Ty.{Ty}
 use Rattle.wh_terms.specs.Tree.{Tm, bound, free, fun, meta, lam, app, Tms, none, more, count}
 use Rattle.wh_terms.specs.Erase.{tm}
 use Rattle.wh_terms.specs.Substitution.{act}
 use Rattle.wh_terms.specs.Sight.{LooseBelow, IsTerm, Occurs, OccursIn}
-use Rattle.wh_terms.specs.Pattern.{AllBoundBelow, Distinct, IsPattern, IsPatternUnder, IsPatternSpine}
+use Rattle.wh_terms.specs.Pattern.{AllBoundBelow, Distinct, IsPattern}
 use Rattle.wh_terms.specs.Value.{Body, parameters}
 use Rattle.wh_terms.specs.Entries.{bodies, Lists, Covers, CoversAll}
 use Rattle.wh_terms.specs.Under.{moved}
 use Rattle.wh_terms.specs.Valued.{valued, all_valued, HasArities}
-use Rattle.wh_terms.specs.Matching.{AreForOthers, IsMatch, HasNoMatch, placed, HasValue, Agrees, IsLeastMatch, Answers}
+use Rattle.wh_terms.specs.Matching.{AreForOthers, IsInRange, IsMatch, HasNoMatch}
+use Rattle.wh_terms.specs.MatchSearch.{placed, HasValue, Agrees, IsLeastMatch, Answers}
 use Rattle.wh_terms.specs.declared.subst.MetaBody.{MetaBody}
 use Rattle.wh_terms.proofs.ValueForm.{value}
 use Rattle.wh_terms.proofs.ValueSight.{pattern_loose, pattern_term}
 use Rattle.wh_terms.proofs.ValuedLaws.{value_of_valued, valued_of_value, arities_of_value, fits-arities, valued_is, covered_arities}
 use Rattle.wh_terms.proofs.SeatLemmas.{placed-act, placed_one}
+use Rattle.wh_terms.proofs.RangeLemmas.{placed_in_range}
 
 -- only the listed bodies matter
 
@@ -98,6 +100,7 @@ plain_match k p t s plain same = record {
   grown = λ z listed. listed;
   added = λ z listed. inl listed;
   once = λ apart. apart;
+  in_range = λ old room below. old;
   least = λ g agrees value. agrees;
 }
 
@@ -105,20 +108,27 @@ pub plain_answer : (k : ℕ) (p t : Tm) (s : List MetaBody) (r : Bool) → IsPla
 plain_answer k p t s true plain same = plain_match k p t s plain (same.0 refl)
 plain_answer k p t s false plain same = λ g agrees value. let yes : false ≡ true = same.1 (sym (value.1 ∙ plain_valued k g p plain)) in absurd (cc)
 
+pub bound_answer : (k i j : ℕ) (s : List MetaBody) → Answers k (bound i) (bound j) s s (i == j)
+bound_answer k i j s = plain_answer k (bound i) (bound j) s (i == j) tt (λ yes. ap bound (eqb-true i j yes), λ same. eq-eqb i j (cc same))
+
+pub fun_answer : (k f g : ℕ) (s : List MetaBody) → Answers k (fun f) (fun g) s s (f == g)
+fun_answer k f g s = plain_answer k (fun f) (fun g) s (f == g) tt (λ yes. ap fun (eqb-true f g yes), λ same. eq-eqb f g (cc same))
+
 -- an abstraction
 
 pub lam_answer : (k deeper : ℕ) (a : Ty) (p t : Tm) (old new : List MetaBody) (r : Bool) → deeper ≡ k + 1 → Answers deeper p t old new r
     → Answers k (lam a p) (lam a t) old new r
 lam_answer k deeper a p t old new true one found =
     let found' = rw one at found in record {
-  value = ap (lam a) found'.value;
-  covers = found'.covers;
-  kept = found'.kept;
-  grown = found'.grown;
-  added = found'.added;
-  once = found'.once;
-  least = λ g agrees value. found'.least g agrees (value.0, cc (value.1));
-}
+      value = ap (lam a) found'.value;
+      covers = found'.covers;
+      kept = found'.kept;
+      grown = found'.grown;
+      added = found'.added;
+      once = found'.once;
+      in_range = λ old room below. found'.in_range old (omega arith) below;
+      least = λ g agrees value. found'.least g agrees (value.0, cc (value.1));
+    }
 lam_answer k deeper a p t old new false one none_here =
     let none_here' = rw one at none_here in λ g agrees value. none_here' g agrees (value.0, cc (value.1))
 
@@ -133,6 +143,7 @@ app_match k p q t u old middle new first second = record {
   grown = λ z listed. second.grown z (first.grown z listed);
   added = λ z listed. joined z (second.added z listed);
   once = λ apart. second.once (first.once apart);
+  in_range = λ ranges room below. second.in_range (first.in_range ranges (omega arith) below.0) (omega arith) below.1;
   least = λ g agrees value. second.least g (first.least g agrees (value.0.0, cc (value.1))) (value.0.1, cc (value.1));
 }
   where
@@ -186,6 +197,7 @@ known_match k z ts t b n s all listed known counted same = record {
   grown = λ y l. l;
   added = λ y l. inl l;
   once = λ apart. apart;
+  in_range = λ old room below. old;
   least = λ g agrees value. agrees;
 }
 
@@ -194,9 +206,9 @@ pub known_answer : (k z : ℕ) (ts : Tms) (t b : Tm) (n : ℕ) (s : List MetaBod
 known_answer k z ts t b n s true all listed known counted same = known_match k z ts t b n s all listed known counted (same.0 refl)
 known_answer k z ts t b n s false all listed known counted same =
     λ g agrees value.
-        let tree : b ≡ (g z).tree = sym (ap (λ c. c.tree) (agrees z listed ∙ known)) in
-        let yes : false ≡ true = same.1 (ap (placed ts k 0) tree ∙ sym (value.1 ∙ meta_valued k z g ts all)) in
-        absurd (cc)
+    let tree : b ≡ (g z).tree = sym (ap (λ c. c.tree) (agrees z listed ∙ known)) in
+    let yes : false ≡ true = same.1 (ap (placed ts k 0) tree ∙ sym (value.1 ∙ meta_valued k z g ts all)) in
+    absurd (cc)
 
 pub other_arity : (k z : ℕ) (ts : Tms) (t b : Tm) (n : ℕ) (s new : List MetaBody) → Lists s z
     → bodies s z ≡ record { arity = n; tree = b } → n ≢ count ts → Answers k (meta z ts) t s new false
@@ -263,6 +275,7 @@ new_match k z ts t s new e all distinct unlisted pushed named counted same = rw 
   grown = λ y listed. lists_old s e y listed;
   added = λ y listed. added y (lists_push_cases s e y listed);
   once = λ apart. all_pairs_push AreForOthers s e apart (λ i d within at. unlisted (get_or s i d, Contains-get_or s i d within, at ∙ named));
+  in_range = λ ranges room below. All-push IsInRange s e ranges (placed_in_range k ts (tm e.body) t all distinct same room below);
   least = λ g agrees value y listed. least g agrees value y (lists_push_cases s e y listed);
 })
   where
@@ -284,16 +297,6 @@ new_match k z ts t s new e all distinct unlisted pushed named counted same = rw 
         let body : g z ≡ bodies (s ++ e ∷ []) z = ap₂ made arity tree ∙ sym known in
         subst (λ x. g x ≡ bodies (s ++ e ∷ []) x) (sym named ∙ at) body
 
--- patterns
-
-pub spine_pattern : (k : ℕ) (p : Tm) → IsPatternSpine k p → IsPatternUnder k p
-spine_pattern k (bound i) h = h
-spine_pattern k (free x a) h = absurd h
-spine_pattern k (fun f) h = h
-spine_pattern k (meta z ts) h = absurd h
-spine_pattern k (lam a t) h = absurd h
-spine_pattern k (app t u) h = h
-
 -- the whole search
 
 pub match_is : (p t : Tm) (s : List MetaBody) → IsPattern p → IsLeastMatch 0 p t [] s → IsMatch p t s
@@ -306,6 +309,7 @@ match_is p t s pattern found = record {
     shut = subst (λ n. LooseBelow n (bodies s z).tree) (add-zero (bodies s z).arity) (pattern_loose 0 0 (bodies s) p pattern (fits-arities (bodies s) p arities) (subst (LooseBelow 0) is shut) z occurs);
     term = pattern_term 0 (bodies s) p pattern (subst IsTerm is term) z occurs;
   };
+  in_range = λ range. found.in_range (λ i d within. absurd (omega arith)) (omega (arith, range.nested)) range.numbered;
 }
   where
     arities : HasArities (bodies s) p

@@ -8,7 +8,7 @@ use Rattle.wh_terms.specs.Pattern.{AllBoundBelow, Misses, Distinct}
 use Rattle.wh_terms.specs.Substitution.{up_renaming, rename, renames, up, act, cons}
 use Rattle.wh_terms.specs.Value.{parameters}
 use Rattle.wh_terms.specs.Under.{ups, raised, moved}
-use Rattle.wh_terms.specs.Matching.{placed, all_placed}
+use Rattle.wh_terms.specs.MatchSearch.{placed, all_placed}
 use Rattle.wh_terms.specs.declared.term.Term.{Term, Meta}
 use Rattle.wh_terms.specs.declared.term.Term.TheVariants.{Bound, Free, Fun, Meta', Lam', App'}
 use Rattle.wh_terms.proofs.ActLaws.{act_same, rename-is-act}

@@ -8,23 +8,10 @@ use Rattle.wh_terms.specs.Sight.{Occurs, OccursIn}
 use Rattle.wh_terms.specs.Pattern.{AllBoundBelow, IsPatternUnder, IsPatternSpine}
 use Rattle.wh_terms.specs.Typing.{Symbols, Declared, Typed, typed_bound, typed_free, typed_fun, typed_meta, typed_lam, typed_app, AllTyped, typed_none, typed_more}
 use Rattle.wh_terms.specs.Value.{Body, parameters}
+use Rattle.wh_terms.specs.TypedBodies.{parameter_types, FitsDeclared, TypedBodies}
 use Rattle.wh_terms.proofs.TypingLaws.{bound_type, up_renaming_typed, up_renaming_typed-back, some_one, domain_one, codomain_one, FitsLoose, TellsLoose, fits-cons, fits-bound, fits-free, typed-act, typed-act-back, typed-rename, typed-rename-back}
 use Rattle.wh_terms.proofs.ValueForm.{up_times, shifted, value, values, FitsBodies}
 use Rattle.wh_terms.proofs.ValueSight.{bound_occurs, bound_values}
-
--- the types of the loose variables of a body: those of its parameters, the last one nearest, and behind them Γ
-abbrev pub parameter_types : List Ty → List Ty → List Ty
-parameter_types [] Γ = Γ
-parameter_types (c ∷ cs) Γ = parameter_types cs (c ∷ Γ)
-
--- a body for the declared meta-variable d, over symbols S and meta-variables N, where further loose variables have the types Γ
-pub record FitsDeclared (S : Symbols) (N : List Declared) (Γ : List Ty) (d : Declared) (b : Body) : Type 0 where
-  pub counted : b.arity ≡ length d.args
-  pub typed : Typed S N (parameter_types d.args Γ) b.tree d.out
-
--- the bodies of the meta-variables of a tree, which are declared in M, are typed
-abbrev pub TypedBodies : Symbols → List Declared → List Declared → List Ty → (ℕ → Body) → Tm → Type 0
-TypedBodies S M N Γ g t = (z : ℕ) (d : Declared) → Occurs z t → slice_get M z ≡ Some d → FitsDeclared S N Γ d (g z)
 
 abbrev pub TypedBodiesIn : Symbols → List Declared → List Declared → List Ty → (ℕ → Body) → Tms → Type 0
 TypedBodiesIn S M N Γ g ts = (z : ℕ) (d : Declared) → OccursIn z ts → slice_get M z ≡ Some d → FitsDeclared S N Γ d (g z)

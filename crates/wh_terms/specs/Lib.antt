@@ -7,6 +7,7 @@ pub mod Value
 pub mod Typing
 pub mod Pattern
 pub mod Rules
+pub mod StepOver
 pub mod Places
 pub mod Erase
 pub mod Entries
@@ -15,3 +16,5 @@ pub mod Valued
 pub mod Scope
 pub mod Budget
 pub mod Matching
+pub mod MatchSearch
+pub mod TypedBodies

@@ -4,6 +4,7 @@ ghost use Rattle.std.specs.Prelude.{◌≡◌, IfOk};
 ghost use Rattle.wh_types.specs.Erase.{ty};
 ghost use Rattle.wh_terms.specs.Erase.{tm, terms};
 ghost use Rattle.wh_terms.specs.Entries.{bodies, Covers, CoversAll};
+ghost use Rattle.wh_terms.specs.Matching.{IsInRange};
 ghost use Rattle.wh_terms.specs.Measures.{Manageable};
 ghost use Rattle.wh_terms.specs.Value.{Value};
 ghost use Rattle.wh_terms.specs.Valued.{valued, all_valued};
@@ -19,6 +20,7 @@ use std::alloc::{AllocError, Global};
 #[tactic(auto, using(crate::proofs::ValuedLaws::value_of_covered))]
 pub fn apply_meta(alloc: Global, by: &MetaSubst, term: &Term) -> Result<Term, AllocError>
     requires term_in_range { Manageable (tm term.now) }
+    requires bodies_in_range { All IsInRange by.now }
     requires covered { Covers by.now (tm term.now) }
     ensures { IfOk result (λ r. Value (bodies by.now) (tm term.now) (tm r)) }
 {

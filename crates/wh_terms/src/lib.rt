@@ -2,6 +2,8 @@
 #![tactic(auto)]
 
 mod apply;
+#[cfg(test)]
+mod binding_tests;
 mod bodies;
 mod closing;
 mod copy;
@@ -32,14 +34,16 @@ pub use bodies::body_for;
 pub use closing::close;
 pub use copy::copy_term;
 pub use equality::same;
-pub use laws::{one_type, one_value};
+pub use laws::{
+    one_type, one_value, opening_can_be_undone, substitution_keeps_types, values_keep_types,
+};
 pub use limits::fits;
 pub use lists::Types;
-pub use path::{Path, Step};
 pub use matching::match_pattern;
 pub use measures::{height, size};
 pub use opened::opened_at;
 pub use opening::open_with;
+pub use path::{Path, Step};
 pub use pattern::is_pattern;
 pub use places::subterm_at;
 pub use rule::{MetaDecl, Metas, Rule, Signature};

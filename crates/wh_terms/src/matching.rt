@@ -8,7 +8,8 @@ ghost use Rattle.std.specs.Prelude.{◌≡◌, [], IfOk, MatchOption};
 ghost use Rattle.wh_types.specs.Erase.{ty};
 ghost use Rattle.wh_terms.specs.Tree.{meta};
 ghost use Rattle.wh_terms.specs.Erase.{tm, tms};
-ghost use Rattle.wh_terms.specs.Matching.{Answers, HasNoMatch, IsMatch};
+ghost use Rattle.wh_terms.specs.Matching.{HasNoMatch, IsMatch};
+ghost use Rattle.wh_terms.specs.MatchSearch.{Answers};
 ghost use Rattle.wh_terms.specs.Measures.{Manageable};
 ghost use Rattle.wh_terms.specs.Pattern.{AllBoundBelow, Distinct, IsPattern, IsPatternUnder};
 
@@ -45,7 +46,13 @@ pub fn match_pattern(
 
 // Whether there is a match of a part of the pattern, below `depth` binders, that goes on from `found`. If so `found`
 // becomes the least one, and else it is of no use.
-fn match_under(alloc: Global, pattern: &Term, term: &Term, depth: u32, found: &mut MetaSubst) -> Result<bool, AllocError>
+fn match_under(
+    alloc: Global,
+    pattern: &Term,
+    term: &Term,
+    depth: u32,
+    found: &mut MetaSubst,
+) -> Result<bool, AllocError>
     requires { IsPatternUnder depth (tm pattern.now) }
     ensures { IfOk result (Answers depth (tm pattern.now) (tm term.now) found.old found.new) }
 {
@@ -76,7 +83,13 @@ fn match_under(alloc: Global, pattern: &Term, term: &Term, depth: u32, found: &m
 }
 
 // The same for a meta-variable at its seat.
-fn match_meta(alloc: Global, variable: u32, seat: &Seat<'_>, term: &Term, found: &mut MetaSubst) -> Result<bool, AllocError>
+fn match_meta(
+    alloc: Global,
+    variable: u32,
+    seat: &Seat<'_>,
+    term: &Term,
+    found: &mut MetaSubst,
+) -> Result<bool, AllocError>
     requires below { AllBoundBelow seat.now.depth (tms seat.now.args.now) }
     requires distinct { Distinct (tms seat.now.args.now) }
     ensures { IfOk result (Answers seat.now.depth (meta variable (tms seat.now.args.now)) (tm term.now) found.old found.new) }

@@ -11,7 +11,7 @@ ghost use Rattle.wh_terms.specs.Erase.{tm, tms, terms};
 ghost use Rattle.wh_terms.specs.Pattern.{AllBoundBelow};
 ghost use Rattle.wh_terms.specs.Value.{parameters};
 ghost use Rattle.wh_terms.specs.Under.{ups, moved};
-ghost use Rattle.wh_terms.specs.Matching.{placed, all_placed};
+ghost use Rattle.wh_terms.specs.MatchSearch.{placed, all_placed};
 
 use crate::equality::same;
 use crate::term::{Term, Terms};

@@ -83,7 +83,7 @@ some_same a b e = cc
 pub output_front : (old new : Option (List ℕ)) (f g : ℕ) (status result : Status) (before text output : List ℕ) → Ends old new f g status text result → old ≡ Some before → new ≡ Some (before ++ output) → (back : List ℕ) × (text ≡ output ++ back)
 output_front old new f g status result before text output (inl (same, wrote, faults)) e h =
     ([], append_cancel_left before text output (some_same (before ++ text) (before ++ output) (sym (wrote before e) ∙ h)) ∙ sym (append-nil output))
-output_front old new f g status result before text output (inr (fault, (front, back, cut, wrote), rose)) e h =
+output_front old new f g status result before text output (inr (fault, (front, back, some, cut, wrote), rose)) e h =
     let same = append_cancel_left before front output (some_same (before ++ front) (before ++ output) (sym (wrote before e) ∙ h)) in
     (back, cut ∙ ap (λ x. x ++ back) same)
 

@@ -4,6 +4,8 @@
 mod outcome;
 mod program;
 mod status;
+#[cfg(test)]
+mod tests;
 mod words;
 
 pub use program::{report_no_memory, run};

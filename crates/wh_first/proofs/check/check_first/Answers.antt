@@ -14,7 +14,7 @@ returns-in-None c =
     let steps = c.args.certificate.now.steps.items in
     let here = c.loop-i.here in
     let i = c.loop-i.i in
-    let same : c.deref-step-items.result.now ≡ steps = c.deref-step-items.ensures.value in
+    let same : c.as_slice-steps.result.now ≡ steps = c.as_slice-steps.ensures.value in
     let term : IsTermOf (said c.args.system.now) (loop_said c.args.certificate.now) c.in-Some.first =
     ap (λ names. slice_get names c.in-Some.first) (sym c.as_slice.ensures.value) ∙ c.in-Some.ensures ∙ ap Some c.as_slice-2.ensures in (
       c.in-Some.first,
@@ -33,7 +33,7 @@ loop-i-preserved c =
     let steps = c.args.certificate.now.steps.items in
     let i = c.loop-i.i in
     let (r, at, left, right) = c.in-Some-applied.ensures in
-    let same : c.deref-step-items.result.now ≡ steps = c.deref-step-items.ensures.value in
+    let same : c.as_slice-steps.result.now ≡ steps = c.as_slice-steps.ensures.value in
     let found : slice_get c.args.system.now.rules.items (slice_index steps i) ≡ Some r =
     sym (ap₂ (λ rs xs. slice_get rs (get_or xs i 0)) c.as_slice-in-loop-i.ensures.value same) ∙ at in
     let applies : StepAt rules (Some (slice_index steps i)) [] (fun r.left) (fun r.right) =

@@ -2,7 +2,7 @@ use Rattle.std.proofs.Common.{◌≡◌, ap, sym, ◌∙◌, arith, rules}
 use Rattle.wh_terms.specs.Tree.{meta, app, lam}
 use Rattle.wh_types.specs.Erase.{ty}
 use Rattle.wh_terms.specs.Erase.{tm, list, tms}
-use Rattle.wh_terms.specs.Matching.{placed}
+use Rattle.wh_terms.specs.MatchSearch.{placed}
 use Rattle.wh_terms.proofs.TermLemmas.{weight_in_meta, weight_in_item, tm_meta, tm_of_meta}
 use Rattle.wh_terms.proofs.SeatLemmas.{no_lam, no_function, no_argument, no_meta, no_item, bodies_push}
 use Rattle.wh_terms.proofs.seat.+body.Goals as goal

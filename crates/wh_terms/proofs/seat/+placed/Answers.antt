@@ -1,7 +1,7 @@
 use Rattle.std.proofs.Common.{ap, sym, ◌∙◌, arith, rules}
 use Rattle.wh_terms.specs.Tree.{Tms}
 use Rattle.wh_terms.specs.Erase.{tms}
-use Rattle.wh_terms.specs.Matching.{all_placed}
+use Rattle.wh_terms.specs.MatchSearch.{all_placed}
 use Rattle.wh_terms.proofs.TermLemmas.{weight_in_meta, weight_in_item, tm_of_meta}
 use Rattle.wh_terms.proofs.SeatLemmas.{placed_length, placed_at, placed_next, placed_meta, bound_there}
 use Rattle.wh_terms.proofs.seat.+placed.Goals as goal

@@ -1,6 +1,6 @@
 use Rattle.std.proofs.Common.{◌≡◌, take}
 use Rattle.wh_terms.specs.Erase.{tm, terms, tms}
-use Rattle.wh_terms.specs.Matching.{all_placed}
+use Rattle.wh_terms.specs.MatchSearch.{all_placed}
 use Rattle.wh_terms.proofs.TermLemmas.{weight, weights}
 use Rattle.wh_terms.proofs.seat.+placed.Given as goal
 

@@ -1,0 +1,16 @@
+pub mod EndsLaws
+pub mod RankLaws
+pub mod Candidates
+pub mod Fundamental
+pub mod Spines
+pub mod Symbols
+pub mod Wider
+pub mod Listed
+pub mod PartLaws
+pub mod SameTree
+pub mod Reading
+pub mod BranchingLaws
+pub mod SystemSteps
+pub mod BetaAlone
+pub mod SameSteps
+pub mod SystemComputable

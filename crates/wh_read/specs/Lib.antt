@@ -1,0 +1,5 @@
+pub mod Written
+pub mod Spelled
+pub mod Raw
+pub mod Nesting
+pub mod Parsing

@@ -1,0 +1,2 @@
+//! Reading and printing of system texts.
+#![tactic(auto)]

@@ -1,0 +1,10 @@
+//! A text is cut in one way.
+
+ghost use Rattle.std.specs.Prelude.{◌≡◌, ℕ, List};
+ghost use Rattle.wh_text.specs.Tokens.{Token, Ending, Cuts};
+
+/// The bytes of a text settle its tokens, and whether and where it has a fault.
+pub fn one_cut()
+    ensures { (at : ℕ) (bytes : List ℕ) (ts us : List Token) (e f : Ending)
+        → Cuts at bytes ts e → Cuts at bytes us f → (ts ≡ us) × (e ≡ f) }
+{}

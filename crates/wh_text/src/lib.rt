@@ -1,0 +1,14 @@
+//! System texts as tokens, and raw trees: what a text says before its names are looked up.
+#![tactic(auto)]
+
+mod cut;
+mod laws;
+mod name;
+mod raw;
+mod token;
+
+pub use cut::tokens;
+pub use laws::one_cut;
+pub use name::Name;
+pub use raw::{RawBinder, RawTerm, RawTerms, RawType, RawTypes};
+pub use token::{TextFault, Token, TokenKind, Tokens};

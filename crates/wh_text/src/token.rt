@@ -1,0 +1,114 @@
+//! Tokens, with the places where they stand.
+
+ghost use Rattle.std.specs.Prelude.{◌≡◌, [], ◌∷◌, ◌++◌, IfOk, OnOk, OnErr};
+
+use std::alloc::{AllocError, Global};
+use std::marker::Model;
+use thiserror::Error;
+use wh_types::Or;
+
+/// What a token is. The bytes of a name, a keyword or a sign are those of the text where it stands.
+#[derive(Clone, Copy, Debug, PartialEq, Eq)]
+pub enum TokenKind {
+    /// A name.
+    Name,
+    /// One of the words `sort`, `fun` and `rule`.
+    Keyword,
+    /// `$` with this number.
+    Dollar(u32),
+    /// `%` with this number.
+    Percent(u32),
+    /// A sign, of one byte or an arrow.
+    Sign,
+}
+
+/// A token; its text is the bytes from `from` up to, not including, `to`.
+#[derive(Clone, Copy, Debug, PartialEq, Eq)]
+pub struct Token {
+    /// What it is.
+    pub kind: TokenKind,
+    /// The place of its first byte.
+    pub from: u32,
+    /// The place behind its last byte.
+    pub to: u32,
+}
+
+/// A list of tokens.
+#[derive(Drop)]
+pub struct Tokens {
+    items: Vec<Token>,
+}
+
+impl Model for Tokens {
+    ghost use Rattle.std.specs.Prelude.{List};
+    ghost use Rattle.std.specs.Coded.{coded_list};
+    ghost use Rattle.wh_text.specs.contracts.token.Token as token;
+    ghost use Rattle.wh_text.specs.declared.token.Token.{Token};
+
+    ghost Value = { List Token };
+
+    ghost coded = { coded_list token.the_row.coded };
+
+    ghost view = { λ tokens. tokens.items.items };
+}
+
+impl Tokens {
+    /// The empty list.
+    pub fn new(alloc: Global) -> Result<Tokens, AllocError>
+        ensures { IfOk result (λ tokens. tokens ≡ []) }
+    {
+        Ok(Tokens {
+            items: Vec::new(alloc),
+        })
+    }
+
+    /// The token joins at the end; without memory the list stays as it was.
+    pub fn push(&mut self, item: Token) -> Result<(), AllocError>
+        ensures ok { OnOk result (self.new ≡ self.old ++ item ∷ []) }
+        ensures err { OnErr result (self.new ≡ self.old) }
+    {
+        self.items.push(item)?;
+        Ok(())
+    }
+
+    /// The tokens in order.
+    pub fn as_slice(&self) -> &[Token]
+        ensures { result.now ≡ self.now }
+    {
+        self.items.as_slice()
+    }
+}
+
+/// The first place at which a text can't be cut into tokens.
+#[derive(Clone, Copy, Debug, PartialEq, Eq, Error)]
+pub enum TextFault {
+    /// A byte that begins no token, an arrow without its head, or `$` or `%` without a digit.
+    #[error("a byte that begins no token, at {at}")]
+    BadByte {
+        /// The place of the byte.
+        at: u32,
+    },
+    /// Digits with a leading zero, or of a number above 65,535.
+    #[error("a bad number, at {at}")]
+    BadNumber {
+        /// The place of the first digit.
+        at: u32,
+    },
+    /// A name of more than 64 bytes.
+    #[error("a name that is too long, at {at}")]
+    NameTooLong {
+        /// The place of its first byte.
+        at: u32,
+    },
+}
+
+impl From<TextFault> for Or<TextFault> {
+    ghost use Rattle.std.specs.Prelude.{◌≡◌};
+    ghost use Rattle.wh_types.specs.declared.want.Or.TheVariants.{Because};
+
+    ghost from_gives = { λ fault e. e ≡ Because fault };
+
+    fn from(fault: TextFault) -> Self {
+        Or::Because(fault)
+    }
+}
