@@ -147,11 +147,12 @@ module _ (S : Symbols) (r : RewriteRule) (w : IsWellMade S r) (t : Tm) (bs : Lis
       let here : Occurs z r.left = w.known z o in
       ((m.listed z).1 here, arity_told (λ y. (bodies bs y).arity) z d w.typed.1 (value_is m.value).0 here s))
 
-  pub match_instance : IsTerm t → IsInstance r.right bs
+  pub match_instance : IsPlain t → IsInstance r.right bs
   match_instance p = record {
     in_range = manageable_right S r w;
     covered = match_covers;
-    terms = λ z o. pattern_term 0 (bodies bs) r.left w.pattern_left (subst IsTerm (value_is m.value).1 p) z (w.known z o);
+    bodies_in_range = m.in_range p.in_range;
+    terms = λ z o. pattern_term 0 (bodies bs) r.left w.pattern_left (subst IsTerm (value_is m.value).1 p.term) z (w.known z o);
   }
 
   pub match_step : RuleStep r t (valued 0 (bodies bs) r.right)
