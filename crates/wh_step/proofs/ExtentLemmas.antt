@@ -46,30 +46,6 @@ fits_body a t f =
     let small : size (lam a t) ≤ 65536 = f.small in
     record { low = omega arith; narrow = f.narrow; small = omega arith }
 
--- the height of a front
-
-risen-alone : (t : Tm) (n : ℕ) → argument_count t ≡ 0 → risen t n ≡ n + 1
-risen-alone (app t u) n e = absurd (omega arith)
-risen-alone (bound i) n e = omega arith
-risen-alone (free x a) n e = omega arith
-risen-alone (fun f) n e = omega arith
-risen-alone (meta z ts) n e = omega arith
-risen-alone (lam a t) n e = omega arith
-
-risen-front : (t : Tm) (n : ℕ) → 0 < argument_count t → risen t n ≡ n
-risen-front (app t u) n e = refl
-risen-front (bound i) n e = absurd (omega arith)
-risen-front (free x a) n e = absurd (omega arith)
-risen-front (fun f) n e = absurd (omega arith)
-risen-front (meta z ts) n e = absurd (omega arith)
-risen-front (lam a t) n e = absurd (omega arith)
-
-pub front_alone : (e : Extent) (h : ℕ) → e.arguments ≡ 0 → h ≡ e.height + 1 → (t : Tm) → IsExtent t e → h ≡ risen t (height t)
-front_alone e h alone is t x = omega (arith, x.broad, x.high, risen-alone t (height t) (sym x.broad ∙ alone))
-
-pub front_after : (e : Extent) → 0 < e.arguments → (t : Tm) → IsExtent t e → e.height ≡ risen t (height t)
-front_after e some t x = x.high ∙ sym (risen-front t (height t) (subst (λ n. 0 < n) x.broad some))
-
 -- applications and abstractions
 
 pub measures_app : (t u : Tm) (f x : Extent) → IsExtent t f → IsExtent u x → (s h n front : ℕ) → front ≡ risen t (height t) → s ≡ f.size + x.size + 1 → h ≡ max front (x.height + 1) → n ≡ f.arguments + 1
@@ -126,9 +102,6 @@ past_body a t (Because p) m = λ f. m (fits_body a t f)
 pub passed_on : (t : Tm) (e : Or PastLimit) (r : Result Extent (Or PastLimit)) → IsErrAnd r (λ x. x ≡ e) → Measures t (Err e) → Measures t r
 passed_on t e (Ok x) is m = absurd is
 passed_on t e (Err x) is m = subst (λ y. Measures t (Err y)) (sym is) m
-
-pub past_joined : (t u : Tm) (e : Or PastLimit) → Measures u (Err e) → Measures (app t u) (Err e)
-past_joined t u e m = past_argument t u e m
 
 -- measured leaves, wherever they stand
 

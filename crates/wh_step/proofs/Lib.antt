@@ -9,3 +9,4 @@ pub mod EnumerationLaws
 pub mod ExtentLemmas
 pub mod MeasuringLemmas
 pub mod ReplayLemmas
+pub mod SampleLemmas

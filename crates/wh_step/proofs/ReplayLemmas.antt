@@ -25,19 +25,6 @@ pub replays_next : (rules : List RewriteRule) (steps : List taken.Step) (i : ℕ
 replays_next rules steps i s t u v within is before step fits =
     subst (λ l. Replays rules l t v) (sym (ap (λ n. take n steps) (add-one i) ∙ take-suc steps i s within ∙ ap (λ r. take i steps ++ r ∷ []) (sym is))) (replays-snoc rules (take i steps) s t u v before step fits)
 
-pub replays_end : (rules : List RewriteRule) (steps : List taken.Step) (n : ℕ) (t u : Tm) → n ≡ length steps → Replays rules (take n steps) t u → Replays rules steps t u
-replays_end rules steps n t u is all = subst (λ l. Replays rules l t u) (ap (λ m. take m steps) is ∙ take-length steps) all
-
--- where a list of steps ends before its last one
-
-pub fails_here : (rules : List RewriteRule) (steps : List taken.Step) (i : ℕ) (s : taken.Step) (t u : Tm) → i < length steps → s ≡ get_or steps i s → Replays rules (take i steps) t u
-    → ((v : Tm) → StepAt rules s.rule s.path u v → ⊥) → FailsAt rules steps t i
-fails_here rules steps i s t u within is before none = record { step = s; here = slice_get_read steps (length steps) i s refl within is; term = u; before = before; none = none }
-
-pub too_big_here : (rules : List RewriteRule) (steps : List taken.Step) (i : ℕ) (s : taken.Step) (t u v : Tm) → i < length steps → s ≡ get_or steps i s → Replays rules (take i steps) t u
-    → StepAt rules s.rule s.path u v → (Fits v → ⊥) → TooBigAt rules steps t i
-too_big_here rules steps i s t u v within is before step big = record { step = s; here = slice_get_read steps (length steps) i s refl within is; term = u; before = before; result = v; applies = step; big = big }
-
 -- a step brings nothing loose and no meta-variable
 
 pub step_shut : {rules : List RewriteRule} {t u : Tm} (S : Symbols) → AreWellMade S rules → (s : taken.Step) → StepAt rules s.rule s.path t u → LooseBelow 0 t → LooseBelow 0 u

@@ -7,3 +7,4 @@ pub mod Contracta
 pub mod Enumerations
 pub mod Extents
 pub mod Replaying
+pub mod Samples

@@ -13,6 +13,8 @@ mod place;
 mod redex;
 mod reducing;
 mod replaying;
+#[cfg(test)]
+mod tests;
 mod weighing;
 
 pub use laws::{
