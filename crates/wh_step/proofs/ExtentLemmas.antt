@@ -1,5 +1,5 @@
 -- The extent of a tree from those of its parts.
-use Rattle.std.proofs.Common.{◌≡◌, ℕ, zero, suc, ◌+◌, ◌-◌, ◌<◌, ◌≤◌, max, List, [], ◌∷◌, length, get_or, Option, Some, None, refl, ap, ap₂, sym, ◌∙◌, subst, arith, add-zero}
+use Rattle.std.proofs.Common.{◌≡◌, ℕ, zero, suc, ◌+◌, ◌-◌, ◌≤◌, max, List, [], ◌∷◌, length, get_or, Option, Some, None, refl, ap, ap₂, sym, ◌∙◌, subst, arith, add-zero}
 use Rattle.std.specs.Prelude.{Result, Ok, Err, IsErrAnd, ◌↔◌}
 use Rattle.std.specs.Option.{ok_or}
 use Rattle.wh_types.specs.declared.want.Or.{Or}

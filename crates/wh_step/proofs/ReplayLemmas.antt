@@ -1,7 +1,6 @@
 -- Steps that follow each other, one more at the end.
 use Rattle.std.proofs.Common.{◌≡◌, ℕ, ◌+◌, ◌<◌, List, [], ◌∷◌, ◌++◌, length, take, get_or, refl, ap, sym, ◌∙◌, subst, add-one}
-use Rattle.std.proofs.Math.Seq.{take-suc, take-length}
-use Rattle.std.proofs.lemmas.Option.{slice_get_read}
+use Rattle.std.proofs.Math.Seq.{take-suc}
 use Rattle.wh_terms.specs.Tree.{Tm}
 use Rattle.wh_terms.specs.Sight.{IsTerm, LooseBelow}
 use Rattle.wh_terms.specs.Measures.{Fits}
@@ -10,7 +9,6 @@ use Rattle.wh_terms.specs.Rules.{RewriteRule, AreWellMade}
 use Rattle.wh_terms.specs.declared.path.Step as taken
 use Rattle.wh_terms.proofs.StepOver.{over-loose, over-term}
 use Rattle.wh_step.specs.Replay.{StepAt, Replays}
-use Rattle.wh_step.specs.Reducts.{FailsAt, TooBigAt}
 use Rattle.wh_step.proofs.Instances.{instances_loose, instances_terms}
 use Rattle.wh_step.proofs.RawStep.{step_raw}
 use Rattle.wh_step.proofs.Places.{step_at-step}

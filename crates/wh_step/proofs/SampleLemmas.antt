@@ -1,9 +1,9 @@
 -- The two small systems are well made.
-use Rattle.std.proofs.Common.{◌≡◌, ℕ, zero, suc, ◌+◌, ◌<◌, ◌≤◌, inl, inr, List, [], ◌∷◌, length, refl, ap, sym, ◌∙◌, subst, arith}
+use Rattle.std.proofs.Common.{◌≡◌, ℕ, zero, suc, inl, inr, List, [], ◌∷◌, refl, ap, sym, ◌∙◌, subst, arith}
 use Rattle.std.specs.Prelude.{Contains}
-use Rattle.wh_types.specs.Ty.{Ty, sort, ◌⇒◌}
-use Rattle.wh_terms.specs.Tree.{Tm, bound, fun, meta, lam, app, none, argument_count}
-use Rattle.wh_terms.specs.Sight.{Occurs, LooseBelow}
+use Rattle.wh_types.specs.Ty.{sort, ◌⇒◌}
+use Rattle.wh_terms.specs.Tree.{fun, argument_count}
+use Rattle.wh_terms.specs.Sight.{Occurs}
 use Rattle.wh_terms.specs.Typing.{Symbols, typed_bound, typed_fun, typed_meta, typed_lam, typed_app, typed_none}
 use Rattle.wh_terms.specs.Rules.{RewriteRule, IsWellMade, AreWellMade}
 use Rattle.wh_terms.specs.Erase.{rewrite_rules}

@@ -1,8 +1,7 @@
 -- Two small systems, for the tests.
 use Rattle.std.specs.Prelude.{List, [], ◌∷◌}
-use Rattle.wh_types.specs.Ty.{Ty, sort}
-use Rattle.wh_terms.specs.Tree.{Tm, bound, fun, meta, lam, app, none}
-use Rattle.wh_terms.specs.Typing.{Declared}
+use Rattle.wh_types.specs.Ty.{sort}
+use Rattle.wh_terms.specs.Tree.{bound, fun, meta, lam, app, none}
 use Rattle.wh_terms.specs.Rules.{RewriteRule}
 
 -- a => b and b => a, where a is the symbol 0 and b the symbol 1
