@@ -1,6 +1,6 @@
 -- Lists of steps in order: one after another, moved one level up, and read as reducts.
-use Rattle.std.proofs.Common.{◌≡◌, ℕ, zero, suc, ◌+◌, ◌<◌, ◌≤◌, ◌⊎◌, inl, inr, List, [], ◌∷◌, ◌++◌, length, map, get_or, take, Option, Some, None, slice_get, refl, ap, sym, ◌∙◌, subst, ap₂, arith}
-use Rattle.std.specs.Prelude.{Contains, MatchOption, option_and_then}
+use Rattle.std.proofs.Common.{◌≡◌, ℕ, zero, suc, ◌+◌, ◌<◌, ◌≤◌, ◌⊎◌, inl, inr, List, [], ◌∷◌, ◌++◌, length, map, Option, Some, None, slice_get, refl, ap, sym, ◌∙◌, subst, ap₂, arith}
+use Rattle.std.specs.Prelude.{Contains, option_and_then}
 use Rattle.std.proofs.lemmas.Option.{slice_get_within}
 use Rattle.std.proofs.lemmas.List.Elements.{Contains-append_left, Contains-append_right}
 use Rattle.wh_types.specs.Ty.{Ty}
@@ -8,14 +8,13 @@ use Rattle.wh_terms.specs.Tree.{Tm, bound, free, fun, meta, lam, app, Tms}
 use Rattle.wh_terms.specs.Sight.{IsTerm, LooseBelow}
 use Rattle.wh_terms.specs.Places.{child, part_at}
 use Rattle.wh_terms.specs.Typing.{Symbols}
-use Rattle.wh_terms.specs.Rules.{RewriteRule, IsWellMade, AreWellMade}
+use Rattle.wh_terms.specs.Rules.{RewriteRule, AreWellMade}
 use Rattle.wh_types.specs.Erase.{ty}
 use Rattle.wh_types.specs.declared.simple_type.SimpleType.{SimpleType}
 use Rattle.wh_terms.specs.Erase.{tm, terms}
 use Rattle.wh_terms.specs.declared.term.Term.{Term, Bound, Free, Fun, Meta}
 use Rattle.wh_terms.specs.declared.term.Terms.{Terms}
 use Rattle.wh_terms.proofs.TermLemmas.{tm_of_meta}
-use Rattle.wh_step.specs.Replay.{StepAt}
 use Rattle.wh_step.specs.Reducts.{IsBefore, IsEarlier, Redex, Precedes, InOrder, StepsTo, AreReducts}
 use Rattle.wh_step.specs.Roots.{BetaStep, RuleStep, RootStep, StepsAt, put_at}
 use Rattle.wh_step.specs.Enumerations.{Leads, Enumerates, IsStep, IsRootStep}

@@ -6,3 +6,7 @@ pub mod RootLaws
 pub mod RedexLemmas
 pub mod PlaceLemmas
 pub mod EnumerationLaws
+pub mod ExtentLemmas
+pub mod MeasuringLemmas
+pub mod ReplayLemmas
+pub mod SampleLemmas

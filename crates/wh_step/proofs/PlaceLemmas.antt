@@ -1,15 +1,14 @@
 -- The term around a place.
-use Rattle.std.proofs.Common.{◌≡◌, ℕ, zero, suc, ◌+◌, ◌<◌, ◌^◌, List, [], ◌∷◌, length, Option, Some, None, refl, ap, sym, ◌∙◌, subst, arith}
-use Rattle.std.specs.Prelude.{option_and_then}
+use Rattle.std.proofs.Common.{◌≡◌, ℕ, zero, suc, ◌<◌, List, [], ◌∷◌, length, Option, Some, None, refl, ap, sym, ◌∙◌, subst, arith}
 use Rattle.wh_types.specs.Ty.{Ty}
 use Rattle.wh_terms.specs.Tree.{Tm, bound, free, fun, meta, lam, app}
 use Rattle.wh_terms.specs.Sight.{IsTerm, LooseBelow}
 use Rattle.wh_terms.specs.Measures.{Fits}
-use Rattle.wh_terms.specs.Places.{child, part_at}
+use Rattle.wh_terms.specs.Places.{part_at}
 use Rattle.wh_terms.specs.Typing.{Symbols}
 use Rattle.wh_terms.specs.Rules.{RewriteRule, AreWellMade}
 use Rattle.wh_step.specs.Replay.{StepAt}
-use Rattle.wh_step.specs.Roots.{RootStep, StepsAt, put_at}
+use Rattle.wh_step.specs.Roots.{RootStep, put_at}
 use Rattle.wh_step.specs.Contracta.{IsPlain}
 use Rattle.wh_step.proofs.RedexLemmas.{manageable_fit, plain_function, plain_argument, plain_body}
 use Rattle.wh_step.proofs.RootLaws.{at_of_step, step_of_at, some_one}

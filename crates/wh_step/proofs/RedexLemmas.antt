@@ -1,22 +1,22 @@
 -- What stands in a redex and in the rules that match it.
-use Rattle.std.proofs.Common.{◌≡◌, ℕ, zero, suc, ◌+◌, ◌-◌, ◌≤◌, ◌<◌, ◌^◌, ◌⊎◌, inl, inr, List, [], ◌∷◌, length, Option, Some, None, slice_get, refl, ap, sym, ◌∙◌, subst, arith, map, max, get_or}
-use Rattle.std.specs.Prelude.{Contains, option_map, MatchOption, Result, IfOk}
+use Rattle.std.proofs.Common.{◌≡◌, ℕ, zero, suc, ◌+◌, ◌≤◌, ◌<◌, ◌^◌, inl, inr, List, [], ◌∷◌, length, Option, Some, None, slice_get, refl, ap, sym, ◌∙◌, subst, arith, get_or}
+use Rattle.std.specs.Prelude.{option_map, MatchOption, Result, IfOk}
 use Rattle.std.proofs.lemmas.Option.{slice_get_read}
 use Rattle.std.specs.declared.alloc.AllocError.{AllocError}
 use Rattle.wh_types.specs.Ty.{Ty}
-use Rattle.wh_terms.specs.Tree.{Tm, bound, free, fun, meta, lam, app, Tms, none, more, head, count}
+use Rattle.wh_terms.specs.Tree.{Tm, bound, free, fun, meta, lam, app, Tms, none, more, head}
 use Rattle.wh_terms.specs.Sight.{IsTerm, LooseBelow, AllLooseBelow, Occurs, OccursIn}
-use Rattle.wh_terms.specs.Measures.{size, sizes, height, nesting, nestings, BoundNumbersBelow, AllBoundNumbersBelow, Manageable, Fits}
+use Rattle.wh_terms.specs.Measures.{size, sizes, nesting, nestings, BoundNumbersBelow, AllBoundNumbersBelow, Manageable, Fits}
 use Rattle.wh_terms.specs.Typing.{Symbols, Declared, Typed, AllTyped, typed_bound, typed_free, typed_fun, typed_meta, typed_lam, typed_app, typed_none, typed_more}
-use Rattle.wh_terms.specs.Rules.{RewriteRule, IsWellMade, AreWellMade}
-use Rattle.wh_terms.specs.Value.{Body, Value}
+use Rattle.wh_terms.specs.Rules.{RewriteRule, IsWellMade}
+use Rattle.wh_terms.specs.Value.{Body}
 use Rattle.wh_terms.specs.Entries.{bodies, Lists, Covers, CoversAll}
 use Rattle.wh_terms.specs.Matching.{IsMatch}
 use Rattle.wh_terms.specs.Valued.{valued}
 use Rattle.wh_terms.specs.Erase.{rewrite_rule, rewrite_rules}
 use Rattle.wh_terms.specs.declared.rule.Rule.{Rule}
 use Rattle.wh_terms.specs.declared.subst.MetaBody.{MetaBody}
-use Rattle.wh_terms.proofs.ValueForm.{value, FitsBodies, FitsArities, AllFitArities}
+use Rattle.wh_terms.proofs.ValueForm.{value, FitsArities, AllFitArities}
 use Rattle.wh_terms.proofs.ValueLaws.{value_is}
 use Rattle.wh_terms.proofs.ValuedLaws.{value_of_covered}
 use Rattle.wh_terms.proofs.ValueSight.{pattern_term}
@@ -147,11 +147,12 @@ module _ (S : Symbols) (r : RewriteRule) (w : IsWellMade S r) (t : Tm) (bs : Lis
       let here : Occurs z r.left = w.known z o in
       ((m.listed z).1 here, arity_told (λ y. (bodies bs y).arity) z d w.typed.1 (value_is m.value).0 here s))
 
-  pub match_instance : IsTerm t → IsInstance r.right bs
+  pub match_instance : IsPlain t → IsInstance r.right bs
   match_instance p = record {
     in_range = manageable_right S r w;
     covered = match_covers;
-    terms = λ z o. pattern_term 0 (bodies bs) r.left w.pattern_left (subst IsTerm (value_is m.value).1 p) z (w.known z o);
+    bodies_in_range = m.in_range p.in_range;
+    terms = λ z o. pattern_term 0 (bodies bs) r.left w.pattern_left (subst IsTerm (value_is m.value).1 p.term) z (w.known z o);
   }
 
   pub match_step : RuleStep r t (valued 0 (bodies bs) r.right)

@@ -1,23 +1,21 @@
 -- Steps at places of trees with loose variables, equal to `StepAt` on terms without them.
-use Rattle.std.proofs.Common.{◌≡◌, ℕ, zero, suc, ◌+◌, ◌<◌, List, [], ◌∷◌, length, Option, Some, None, option_and_then, slice_get, Bool, true, false, refl, ap, sym, ◌∙◌, subst, subst₂, arith}
+use Rattle.std.proofs.Common.{◌≡◌, ℕ, zero, suc, List, [], ◌∷◌, Option, Some, None, slice_get, Bool, true, false, refl, ap, sym, ◌∙◌, subst, subst₂}
 use Rattle.std.specs.Prelude.{if◌then◌else◌, ◌==◌, Contains}
 use Rattle.std.proofs.lemmas.Option.{slice_get_within, get_or_from_slice_get}
 use Rattle.wh_types.specs.Ty.{Ty}
 use Rattle.wh_terms.specs.Tree.{Tm, bound, free, fun, meta, lam, app}
 use Rattle.wh_terms.specs.Substitution.{up, up_free, act, cons, opened}
-use Rattle.wh_terms.specs.Sight.{IsTerm, LooseBelow, Fresh, Occurs}
-use Rattle.wh_terms.specs.Places.{child, part_at}
+use Rattle.wh_terms.specs.Sight.{IsTerm, LooseBelow, Fresh}
 use Rattle.wh_terms.specs.Typing.{Symbols}
 use Rattle.wh_terms.specs.Rules.{RewriteRule, IsWellMade, AreWellMade}
-use Rattle.wh_terms.specs.Value.{Body, Value}
+use Rattle.wh_terms.specs.Value.{Value}
 use Rattle.wh_terms.proofs.ActLaws.{act-opened, opened-act, act-id}
 use Rattle.wh_terms.proofs.LooseLaws.{loose-opened}
 use Rattle.wh_terms.proofs.TermLaws.{term-opened, term-up, term-rename}
 use Rattle.wh_terms.proofs.FreshLaws.{fresh_for_two, put, closed, closed-opened}
-use Rattle.wh_terms.proofs.ValueForm.{acted, value, FitsBodies, act-value, value_agree}
+use Rattle.wh_terms.proofs.ValueForm.{acted, value, act-value, value_agree}
 use Rattle.wh_terms.proofs.ValueLaws.{value_is, has_value}
 use Rattle.wh_terms.proofs.MatchLaws.{pattern_one}
-use Rattle.wh_step.specs.Step.{AreWhole}
 use Rattle.wh_step.specs.Replay.{StepAt, beta_here, rule_here, at_function, at_argument, at_body}
 use Rattle.wh_step.specs.Roots.{BetaStep, RuleStep, RootStep, put_at, StepsAt}
 use Rattle.wh_step.proofs.Instances.{act_left, act_right, whole_bodies}

@@ -1,11 +1,12 @@
 -- What the parts of a step's result stand for.
-use Rattle.std.specs.Prelude.{ℕ, List, [], ◌∷◌, Option, Some, None}
-use Rattle.wh_terms.specs.Tree.{Tm}
+use Rattle.std.specs.Prelude.{ℕ, List, [], ◌∷◌, Option, Some, None, All}
+use Rattle.wh_terms.specs.Tree.{Tm, Tms}
 use Rattle.wh_terms.specs.Erase.{tm}
-use Rattle.wh_terms.specs.Sight.{IsTerm, Occurs}
+use Rattle.wh_terms.specs.Sight.{IsTerm, Occurs, OccursIn}
 use Rattle.wh_terms.specs.Substitution.{opened}
 use Rattle.wh_terms.specs.Entries.{bodies, Covers}
 use Rattle.wh_terms.specs.Measures.{Manageable}
+use Rattle.wh_terms.specs.Matching.{IsInRange}
 use Rattle.wh_terms.specs.Valued.{valued}
 use Rattle.wh_terms.specs.declared.subst.MetaBody.{MetaBody}
 use Rattle.wh_step.specs.declared.redex.Contractum.{Contractum}
@@ -21,11 +22,19 @@ pub record IsPlain (t : Tm) : Type 0 where
   pub in_range : Manageable t
   pub term : IsTerm t
 
+-- the bodies of the meta-variables in a tree are terms
+abbrev pub TermsFor : List MetaBody → Tm → Type 0
+TermsFor found t = (z : ℕ) → Occurs z t → IsTerm (bodies found z).tree
+
+abbrev pub AllTermsFor : List MetaBody → Tms → Type 0
+AllTermsFor found ts = (z : ℕ) → OccursIn z ts → IsTerm (bodies found z).tree
+
 -- the meta-substitution lists the meta-variables of a right side, and their bodies are terms
 pub record IsInstance (right : Tm) (found : List MetaBody) : Type 0 where
   pub in_range : Manageable right
   pub covered : Covers found right
-  pub terms : (z : ℕ) → Occurs z right → IsTerm (bodies found z).tree
+  pub bodies_in_range : All IsInRange found
+  pub terms : TermsFor found right
 
 -- the parts are such that the result can be measured and built
 abbrev pub IsReady : Contractum → Type 0

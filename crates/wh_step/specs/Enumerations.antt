@@ -1,5 +1,5 @@
 -- Lists of steps in their order, on trees with loose variables.
-use Rattle.std.specs.Prelude.{ℕ, ◌≡◌, List, [], ◌∷◌, Contains}
+use Rattle.std.specs.Prelude.{◌≡◌, List, [], ◌∷◌, Contains}
 use Rattle.wh_terms.specs.Tree.{Tm, lam, app}
 use Rattle.wh_types.specs.Erase.{ty}
 use Rattle.wh_terms.specs.Erase.{tm}

@@ -5,3 +5,6 @@ pub mod Reducts
 pub mod Roots
 pub mod Contracta
 pub mod Enumerations
+pub mod Extents
+pub mod Replaying
+pub mod Samples

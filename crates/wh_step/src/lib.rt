@@ -6,10 +6,16 @@ ghost use Rattle.wh_terms.specs.Rules.{RewriteRule};
 ghost use Rattle.wh_terms.specs.Tree.{Tm};
 ghost use Rattle.wh_step.specs.Reduction.{Bounded, Unbounded};
 
+mod extent;
 mod laws;
+mod measuring;
 mod place;
 mod redex;
 mod reducing;
+mod replaying;
+#[cfg(test)]
+mod tests;
+mod weighing;
 
 pub use laws::{
     bounded_by_reducts, loops_are_unbounded, one_result, places_of_steps, reducts_of_bounded,
@@ -18,6 +24,7 @@ pub use laws::{
 };
 pub use place::step_at;
 pub use reducing::reducts;
+pub use replaying::{StepFault, replay};
 
 /// No term is both bounded and unbounded.
 pub fn bounded_or_unbounded()

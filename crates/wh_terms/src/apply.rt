@@ -1,6 +1,6 @@
 //! Applying a meta-substitution.
 
-ghost use Rattle.std.specs.Prelude.{◌≡◌, IfOk};
+ghost use Rattle.std.specs.Prelude.{◌≡◌, IfOk, All};
 ghost use Rattle.wh_types.specs.Erase.{ty};
 ghost use Rattle.wh_terms.specs.Erase.{tm, terms};
 ghost use Rattle.wh_terms.specs.Entries.{bodies, Covers, CoversAll};

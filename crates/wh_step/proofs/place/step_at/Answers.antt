@@ -1,11 +1,9 @@
 -- The place is found first, then the step at its root.
-use Rattle.std.proofs.Common.{◌≡◌, ap, sym, ◌∙◌, Some, None, subst}
-use Rattle.std.specs.Prelude.{MatchOption, option_map}
+use Rattle.std.proofs.Common.{◌≡◌, ap, sym, ◌∙◌, Some, subst}
 use Rattle.wh_terms.specs.Tree.{Tm}
 use Rattle.wh_terms.specs.Erase.{tm, rewrite_rules}
-use Rattle.wh_terms.specs.Places.{part_at}
 use Rattle.wh_step.specs.Roots.{RootStep, put_at}
-use Rattle.wh_step.specs.Contracta.{IsReady, result_of}
+use Rattle.wh_step.specs.Contracta.{result_of}
 use Rattle.wh_step.proofs.RedexLemmas.{Tells}
 use Rattle.wh_step.proofs.PlaceLemmas.{plain_part, plain_whole, step_there, no_step_nowhere, no_step_there}
 use Rattle.wh_step.proofs.place.step_at.Goals as goal

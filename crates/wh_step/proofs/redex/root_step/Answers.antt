@@ -1,11 +1,6 @@
-use Rattle.std.proofs.Common.{◌≡◌, ℕ, Some, None, slice_get, length, subst, sym, ap, ◌∙◌, refl}
-use Rattle.std.specs.Prelude.{IfOk, MatchOption}
+use Rattle.std.proofs.Common.{◌≡◌, Some, slice_get, length, refl}
 use Rattle.std.proofs.lemmas.Option.{slice_get_read}
-use Rattle.wh_terms.specs.Tree.{Tm}
 use Rattle.wh_terms.specs.Erase.{tm, rewrite_rule, rewrite_rules}
-use Rattle.wh_terms.proofs.Results.{IfOk-map}
-use Rattle.wh_step.specs.Roots.{RuleStep, RootStep}
-use Rattle.wh_step.specs.Contracta.{IsReady, result_of}
 use Rattle.wh_step.proofs.RedexLemmas.{rule_here, told_by_rule, no_step_by_rule}
 use Rattle.wh_step.proofs.RootLaws.{rule_made}
 use Rattle.wh_step.proofs.redex.root_step.Goals as goal

@@ -20,4 +20,4 @@ returns-in-Some c =
     let r = rewrite_rule c.args.rule.now in
     let t = tm c.args.term.now in
     let found : IsMatch r.left t c.in-Some.bodies = subst (λ o. MatchOption o (HasNoMatch r.left t) (IsMatch r.left t)) c.in-Some.is c.in_ok-bodies.ensures in
-    (match_instance S r made t c.in-Some.bodies found c.requires.plain.term, match_step S r made t c.in-Some.bodies found)
+    (match_instance S r made t c.in-Some.bodies found c.requires.plain, match_step S r made t c.in-Some.bodies found)

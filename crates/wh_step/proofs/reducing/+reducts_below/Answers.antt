@@ -3,7 +3,7 @@ use Rattle.wh_types.specs.Erase.{ty}
 use Rattle.wh_terms.specs.Tree.{lam, app}
 use Rattle.wh_terms.specs.Erase.{tm, rewrite_rules}
 use Rattle.wh_terms.proofs.Results.{IfOk-map}
-use Rattle.wh_step.specs.Enumerations.{Enumerates, IsStep, around}
+use Rattle.wh_step.specs.Enumerations.{Enumerates, IsStep}
 use Rattle.wh_step.proofs.EnumerationLaws.{app_reducts, lam_reducts, leaf_reducts, childless_leaf}
 use Rattle.wh_step.proofs.reducing.+reducts_below.Goals as goal
 

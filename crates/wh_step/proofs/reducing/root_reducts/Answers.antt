@@ -1,5 +1,4 @@
-use Rattle.std.proofs.Common.{◌≡◌, ◌≤◌, ◌+◌, ◌++◌, List, [], length, map, ap, sym, ◌∙◌, subst, arith}
-use Rattle.wh_terms.specs.Tree.{Tm}
+use Rattle.std.proofs.Common.{◌≡◌, ◌≤◌, ◌+◌, ◌++◌, [], length, map, ap, sym, ◌∙◌, subst, arith}
 use Rattle.wh_terms.specs.Erase.{tm, rewrite_rule, rewrite_rules}
 use Rattle.wh_step.specs.Enumerations.{Enumerates}
 use Rattle.wh_step.specs.Contracta.{results_of}
