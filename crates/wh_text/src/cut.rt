@@ -6,7 +6,6 @@ ghost use Rattle.wh_types.specs.Outcome.{MatchOr};
 ghost use Rattle.wh_text.specs.Chars.{is_space, is_digit, is_start, is_part, is_comment, is_sign, AllPass};
 ghost use Rattle.wh_text.specs.Words.{IsKeyword, IsNumeral};
 ghost use Rattle.wh_text.specs.Tokens.{BadDigits, BeginsArrow};
-
 ghost use Rattle.wh_text.specs.Pieces.{IsGap, StandsAt, FaultAt, IsPiece, IsCutInto, HasFault};
 ghost use Rattle.std.specs.List.{prefix_len};
 
