@@ -1,5 +1,5 @@
 -- Each piece of a text, as a step of the cutting.
-use Rattle.std.proofs.Common.{◌≡◌, ℕ, zero, suc, ◌+◌, ◌-◌, ◌<◌, ◌≤◌, ◌⊎◌, true, false, List, [], ◌∷◌, ◌++◌, length, get_or, take, drop, refl, sym, ap, ◌∙◌, subst, inl, inr, arith, length-append}
+use Rattle.std.proofs.Common.{◌≡◌, ℕ, zero, suc, ◌+◌, ◌-◌, ◌<◌, ◌≤◌, ◌⊎◌, true, List, [], ◌∷◌, ◌++◌, length, get_or, take, drop, refl, sym, ap, ◌∙◌, subst, inl, inr, arith}
 use Rattle.std.specs.List.{prefix_len}
 use Rattle.std.proofs.lemmas.Bool.{cases_lt}
 use Rattle.std.proofs.lemmas.List.{length-drop, drop_more, drop-drop, drop_all, take-append-drop}
@@ -7,8 +7,8 @@ use Rattle.std.proofs.lemmas.List.Folds.{length-prefix_len}
 use Rattle.std.proofs.lemmas.List.Sums.{prefix_len-le-length}
 use Rattle.wh_text.specs.Chars.{is_space, is_digit, is_start, is_part, is_comment, is_sign, AllPass, Stops}
 use Rattle.wh_text.specs.Words.{Starts, IsKeyword, IsNumeral}
-use Rattle.wh_text.specs.Tokens.{Kind, name, keyword, dollar, percent, sign, Token, Ending, bad_byte, bad_number, name_too_long, Marks, BeginsArrow, NoDigit, NoHead, BeginsNothing, BadDigits, Cuts, ended, space, comment, word, number, one_sign, arrow, nothing_begins, no_arrow, no_number, bad_digits, long_word}
-use Rattle.wh_text.specs.Erase.{kind_of, token}
+use Rattle.wh_text.specs.Tokens.{Kind, name, keyword, dollar, percent, sign, Token, Ending, bad_byte, bad_number, name_too_long, Marks, BeginsArrow, NoDigit, NoHead, BeginsNothing, BadDigits, Cuts, space, comment, word, number, one_sign, arrow, nothing_begins, no_arrow, no_number, bad_digits, long_word}
+use Rattle.wh_text.specs.Erase.{kind_of}
 use Rattle.wh_text.specs.Pieces.{IsGap, StandsAt}
 use Rattle.wh_text.specs.declared.token.TokenKind.{TokenKind}
 use Rattle.wh_text.specs.declared.token.TokenKind.TheVariants as code

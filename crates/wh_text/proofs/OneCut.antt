@@ -1,8 +1,8 @@
 -- A text is cut in one way: the first byte settles what stands there, and runs go on as long as they can.
-use Rattle.std.proofs.Common.{◌≡◌, ◌≢◌, ℕ, zero, suc, ◌+◌, ◌<◌, ◌≤◌, ◌⊎◌, ◌==◌, ◌||◌, Bool, true, false, cond, List, [], ◌∷◌, ◌++◌, length, refl, sym, ap, ◌∙◌, subst, inl, inr, arith, length-append}
+use Rattle.std.proofs.Common.{◌≡◌, ℕ, zero, suc, ◌+◌, ◌<◌, ◌≤◌, ◌⊎◌, ◌==◌, ◌||◌, Bool, true, false, cond, List, [], ◌∷◌, ◌++◌, length, refl, sym, ap, ◌∙◌, subst, inl, inr, arith, length-append}
 use Rattle.std.proofs.lemmas.Bool.{false≢true, or_cases, eqb-true, ne_eqb}
 use Rattle.wh_text.specs.Chars.{is_space, is_digit, is_start, is_part, is_comment, is_sign, AllPass, Stops}
-use Rattle.wh_text.specs.Words.{Starts, IsKeyword, IsNumeral, NoLeadingZero, number_from}
+use Rattle.wh_text.specs.Words.{Starts, IsKeyword, IsNumeral, number_from}
 use Rattle.wh_text.specs.Tokens.{Kind, name, keyword, dollar, percent, sign, Token, Ending, whole, bad_byte, bad_number, name_too_long, Marks, BeginsArrow, NoDigit, NoHead, BeginsNothing, BadDigits, Cuts, ended, space, comment, word, number, one_sign, arrow, nothing_begins, no_arrow, no_number, bad_digits, long_word}
 
 -- a run ends where the bytes stop to pass

@@ -1,10 +1,10 @@
 -- What printers append, one after another.
 use Rattle.std.proofs.Common.{◌≡◌, ℕ, ◌+◌, ◌<◌, ◌≤◌, ◌^◌, ◌/◌, ◌%◌, ◌==◌, true, false, List, [], ◌∷◌, ◌++◌, length, get_or, drop, Result, Ok, Err, OnOk, refl, sym, ap, ◌∙◌, subst, arith, append_assoc}
 use Rattle.std.proofs.lemmas.Bool.{true≢false, eqb-true}
-use Rattle.std.proofs.lemmas.List.{append-nil, drop_more, drop_all}
+use Rattle.std.proofs.lemmas.List.{drop_more, drop_all}
 use Rattle.std.specs.Fmt.{decimal}
 use Rattle.std.proofs.lemmas.Fmt.{decimal_digit, decimal_step}
-use Rattle.wh_text.specs.RawTree.{RTy, raw_type, RTys, no_types, more_types, Binder, RTm, meta, lam, spine, RTms, none, more}
+use Rattle.wh_text.specs.RawTree.{RTy, raw_type, Binder, RTm, meta, lam, spine, RTms, none, more}
 use Rattle.wh_text.specs.Spelling.{put_type, put_part, put_arguments, put_binder, put_term, put_listed, put_parts, put_each, put_bracketed}
 use Rattle.wh_text.specs.Pushes.{Pushes}
 use Rattle.wh_text.specs.Erase.{rty, rtys, type_list, rtm, rtms}

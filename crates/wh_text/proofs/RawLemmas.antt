@@ -1,10 +1,10 @@
 -- What stands for a raw value whose parts are a list.
-use Rattle.std.proofs.Common.{◌≡◌, ℕ, List, [], ◌∷◌, refl, sym, ap, ◌∙◌}
+use Rattle.std.proofs.Common.{◌≡◌, ℕ, List, refl, sym, ap, ◌∙◌}
 use mathlib.Core.Former.{Count}
-use Rattle.wh_text.specs.RawTree.{RTy, raw_type, RTys, no_types, more_types, RTm, meta, spine, RTms, none, more}
+use Rattle.wh_text.specs.RawTree.{raw_type, RTys, more_types, meta, spine, RTms, more}
 use Rattle.wh_text.specs.Erase.{rty, rtys, arguments, type_row, type_list, rtm, rtms, term_row, term_list}
 use Rattle.wh_text.specs.declared.raw.RawType.{RawType, RawType', out-RawType, outs-RawType'}
-use Rattle.wh_text.specs.declared.raw.RawTypes.{RawTypes, RawTypes', RawTypes-F, outs-RawTypes', Row_of-RawType, end_of-RawType, more_of-RawType, items-the_row-RawType, items_hidden-the_row-RawType-0, items_shown-the_row-RawType-0}
+use Rattle.wh_text.specs.declared.raw.RawTypes.{RawTypes, RawTypes', RawTypes-F, outs-RawTypes', Row_of-RawType, end_of-RawType, more_of-RawType, items-the_row-RawType, items_shown-the_row-RawType-0}
 use Rattle.wh_text.specs.declared.raw.RawTerm.{RawTerm, Meta, Meta', Spine, Spine', Row_of-RawTerm, end_of-RawTerm, more_of-RawTerm, items-the_row-RawTerm, items_hidden-the_row-RawTerm-0}
 use Rattle.wh_text.specs.declared.raw.RawTerms.{RawTerms}
 

@@ -1,9 +1,8 @@
 -- Runs of bytes that pass a test, and the number that digits spell.
-use Rattle.std.proofs.Common.{◌≡◌, ℕ, suc, ◌+◌, ◌*◌, ◌-◌, ◌<◌, ◌≤◌, ◌⊎◌, Bool, true, false, cond, ◌||◌, ◌==◌, List, [], ◌∷◌, ◌++◌, length, get_or, take, drop, refl, sym, ap, ◌∙◌, subst, inl, inr, arith, add-one, drop-cons}
+use Rattle.std.proofs.Common.{◌≡◌, ℕ, suc, ◌+◌, ◌*◌, ◌-◌, ◌<◌, ◌≤◌, Bool, true, false, cond, ◌||◌, ◌==◌, List, [], ◌∷◌, length, get_or, take, drop, refl, sym, ap, ◌∙◌, subst, inr, arith, add-one, drop-cons}
 use Rattle.std.specs.List.{prefix_len}
-use Rattle.std.proofs.lemmas.Bool.{false≢true}
 use Rattle.wh_text.specs.Chars.{is_digit, is_start, is_part, AllPass, Stops}
-use Rattle.wh_text.specs.Words.{Starts, NoLeadingZero, number_from}
+use Rattle.wh_text.specs.Words.{Starts, number_from}
 use Rattle.wh_text.specs.Tokens.{BadDigits}
 
 passes_at : (t : ℕ → Bool) (x : ℕ) (xs : List ℕ) (v : Bool) → t x ≡ v → AllPass t (take (prefix_len t xs) xs) → AllPass t (take (cond v (1 + prefix_len t xs) 0) (x ∷ xs))

@@ -6,6 +6,8 @@ mod laws;
 mod name;
 mod print;
 mod raw;
+#[cfg(test)]
+mod tests;
 mod token;
 
 pub use cut::tokens;

@@ -1,4 +1,4 @@
-use Rattle.std.proofs.Common.{◌≡◌, ◌+◌, ◌<◌, List, ℕ, take, drop, refl, sym, ap, ◌∙◌, subst, inl, inr, arith}
+use Rattle.std.proofs.Common.{◌+◌, List, ℕ, take, drop, refl, sym, ap, ◌∙◌, subst, inl, arith}
 use Rattle.wh_text.specs.Chars.{is_digit, AllPass}
 use Rattle.wh_text.specs.Words.{IsNumeral}
 use Rattle.wh_text.specs.Tokens.{dollar, percent, BadDigits}

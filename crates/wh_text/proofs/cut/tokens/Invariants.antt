@@ -1,4 +1,4 @@
-use Rattle.std.proofs.Common.{ℕ, ◌≤◌, ◌-◌, List, ◌++◌, length, drop}
+use Rattle.std.proofs.Common.{◌≤◌, ◌-◌, List, ◌++◌, length, drop}
 use Rattle.wh_text.specs.Tokens.{Token, Ending, Cuts}
 use Rattle.wh_text.specs.Erase as erase
 use Rattle.wh_text.proofs.cut.tokens.Given as goal

@@ -1,4 +1,4 @@
-use Rattle.std.proofs.Common.{◌≡◌, ◌+◌, take, drop, sym, ap, ◌∙◌, subst, true, rules}
+use Rattle.std.proofs.Common.{◌≡◌, ◌+◌, take, drop, sym, ap, ◌∙◌, subst, rules}
 use Rattle.std.proofs.lemmas.Bool.{iff_false}
 use Rattle.wh_text.specs.Words.{IsKeyword}
 use Rattle.wh_text.specs.Pieces.{StandsAt}
