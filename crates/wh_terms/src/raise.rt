@@ -15,7 +15,7 @@ use wh_types::SimpleType;
 
 // Loose variables count `by` binders more.
 #[derive(Clone, Copy)]
-pub struct Raising {
+struct Raising {
     by: u32,
 }
 

@@ -18,10 +18,12 @@ pub trait Replace {
     ghost use Rattle.wh_types.specs.Ty.{Ty};
     ghost use Rattle.wh_terms.specs.Tree.{Tm};
 
+    // the trees for loose variables and for free ones, as they read where no binder was passed
     ghost for_bound: { Self → ℕ → Tm };
 
     ghost for_free: { Self → ℕ → Ty → Tm };
 
+    // what has to hold before a walk
     ghost is_ready: { Self → Type 0 };
 
     /// What takes the place of a bound variable where `depth` binders were passed.
@@ -41,7 +43,8 @@ pub trait Replace {
         ensures { IfOk result (λ r. tm r ≡ ups_free depth (for_free self.now) number (ty kind.now)) };
 }
 
-/// The sum of two numbers of binders. A sum beyond 32 bits speaks of more binders than memory holds.
+/// The sum of two numbers of binders, or of a variable's number and binders. The calls of this crate ask for numbers and
+/// nesting below 2^30: a sum beyond 32 bits counts more binders than memory holds, and is told as want of memory.
 pub fn binders(a: u32, b: u32) -> Result<u32, AllocError>
     ensures { IfOk result (λ sum. sum ≡ a + b) }
 {

@@ -1,4 +1,4 @@
-use Rattle.std.proofs.Common.{◌≡◌, ℕ, ◌+◌, Bool, true, false, List, [], ◌∷◌, ◌++◌, subst₂, refl, ap, sym, ◌∙◌, eq-eqb, arith, rules}
+use Rattle.std.proofs.Common.{◌≡◌, List, [], ◌∷◌, ◌++◌, subst₂, refl, ap, sym, ◌∙◌, eq-eqb, rules}
 use Rattle.std.specs.Prelude.{if◌then◌else◌}
 use Rattle.wh_types.specs.Ty.{sort}
 use Rattle.wh_terms.specs.Tree.{Tm, bound, lam, meta, more, none}
