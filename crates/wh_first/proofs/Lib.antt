@@ -3,3 +3,4 @@ pub mod Lists
 pub mod Forms
 pub mod Steps
 pub mod Replayed
+pub mod WellMade

@@ -1,5 +1,5 @@
 -- Steps between constants, in the words of all systems.
-use Rattle.std.proofs.Common.{◌≡◌, ℕ, zero, suc, ◌+◌, ◌<◌, List, [], ◌∷◌, ◌++◌, length, take, map, Some, refl, sym, ap, ◌∙◌, subst, arith}
+use Rattle.std.proofs.Common.{◌≡◌, ℕ, zero, suc, ◌+◌, ◌<◌, List, [], ◌∷◌, ◌++◌, length, take, map, Some, Result, refl, sym, ap, ◌∙◌, subst, arith}
 use Rattle.std.specs.Prelude.{slice_get, slice_index}
 use Rattle.wh_terms.specs.Tree.{Tm, fun}
 use Rattle.wh_terms.specs.Measures.{Fits}
@@ -7,19 +7,17 @@ use Rattle.wh_terms.specs.Value.{Body, Value, of_fun}
 use Rattle.wh_terms.specs.Rules.{RewriteRule}
 use Rattle.wh_terms.specs.declared.path.Step as taken
 use Rattle.wh_step.specs.Replay.{StepAt, rule_here, Replays}
+use Rattle.wh_step.specs.Reducts.{FailsAt, TooBigAt}
+use Rattle.wh_step.specs.Replaying.{Replayed}
+use Rattle.wh_step.specs.declared.replaying.StepFault.{StepFault}
+use Rattle.wh_terms.specs.declared.term.Term.{Term}
 use Rattle.wh_first.specs.SystemForm.{said_rule}
 use Rattle.wh_first.specs.Verdict.{root_step, root_steps}
 use Rattle.wh_first.specs.declared.system.FirstRule.{FirstRule}
-use Rattle.std.proofs.lemmas.List.{take_more}
+use Rattle.std.proofs.lemmas.List.{take-map}
 
 pub fits_fun : (f : ℕ) → Fits (fun f)
 fits_fun f = record { low = omega arith; narrow = tt; small = omega arith }
-
-pub replay_more : (rules : List RewriteRule) (steps : List taken.Step) (s : taken.Step) (t u v : Tm) → Replays rules steps t u → StepAt rules s.rule s.path u v → Fits v → Replays rules (steps ++ s ∷ []) t v
-replay_more rules [] s t u v p q fits =
-    (v, subst (λ x. StepAt rules s.rule s.path x v) (sym p) q, fits, refl)
-replay_more rules (r ∷ steps) s t u v (w, at, fit, rest) q fits =
-    (w, at, fit, replay_more rules steps s w u v rest q fits)
 
 pub said_get : (rules : List FirstRule) (k : ℕ) (r : FirstRule) → slice_get rules k ≡ Some r → slice_get (map said_rule rules) k ≡ Some (said_rule r)
 said_get [] k r e = cc
@@ -41,15 +39,53 @@ value_of_fun of_fun = refl
 same_fun : (f h : ℕ) → fun f ≡ fun h → f ≡ h
 same_fun f h e = cc
 
--- and to nothing else
-pub root_left : (rules : List FirstRule) (k here : ℕ) (v : Tm) → StepAt (map said_rule rules) (Some k) [] (fun here) v → (r : FirstRule) × (slice_get rules k ≡ Some r) × (r.left ≡ here)
-root_left rules k here v (rule_here r g e whole left right) =
+-- and gives a constant
+pub root_result : (rules : List FirstRule) (k here : ℕ) (v : Tm) → StepAt (map said_rule rules) (Some k) [] (fun here) v → (g : ℕ) × (v ≡ fun g)
+root_result rules k here v (rule_here r g e whole left right) =
     let (q, at, same) = said_got rules k r e in
-    (q, at, same_fun q.left here (sym (value_of_fun (subst (λ l. Value g l (fun here)) (ap (λ x. x.left) same) left))))
+    (q.right, value_of_fun (subst (λ x. Value g x v) (ap (λ x. x.right) same) right))
 
-pub root_steps-more : (ks : List ℕ) (i : ℕ) → i < length ks → root_steps (take (i + 1) ks) ≡ root_steps (take i ks) ++ root_step (slice_index ks i) ∷ []
-root_steps-more ks i below = ap root_steps (take_more ks i 0 below) ∙ map_push (take i ks) (slice_index ks i)
-  where
-    map_push : (xs : List ℕ) (x : ℕ) → root_steps (xs ++ x ∷ []) ≡ root_steps xs ++ root_step x ∷ []
-    map_push [] x = refl
-    map_push (y ∷ ys) x = ap (λ zs. root_step y ∷ zs) (map_push ys x)
+-- steps from a constant lead to a constant
+pub root_end : (rules : List FirstRule) (ks : List ℕ) (f : ℕ) (u : Tm) → Replays (map said_rule rules) (root_steps ks) (fun f) u → (g : ℕ) × (u ≡ fun g)
+root_end rules [] f u p = (f, sym p)
+root_end rules (k ∷ ks) f u (v, at, fits, rest) =
+    let (g, same) = root_result rules k f v at in
+    root_end rules ks g u (subst (λ x. Replays (map said_rule rules) (root_steps ks) x u) same rest)
+
+-- the step of that number
+pub root_steps-get : (ks : List ℕ) (i : ℕ) (s : taken.Step) → slice_get (root_steps ks) i ≡ Some s → (i < length ks) × (s ≡ root_step (slice_index ks i))
+root_steps-get [] i s e = cc
+root_steps-get (k ∷ ks) zero s e = (omega arith, cc)
+root_steps-get (k ∷ ks) (suc i) s e =
+    let (below, same) = root_steps-get ks i s e in (omega arith, same)
+
+-- what stands before that step
+pub before_step : (rules : List FirstRule) (ks : List ℕ) (f i : ℕ) (u : Tm) → Replays (map said_rule rules) (take i (root_steps ks)) (fun f) u → Replays (map said_rule rules) (root_steps (take i ks)) (fun f) u
+before_step rules ks f i u p =
+    subst (λ ss. Replays (map said_rule rules) ss (fun f) u) (take-map root_step i ks) p
+
+-- the first step that does not apply, by its rule's number
+pub first_failure : (rules : List FirstRule) (ks : List ℕ) (f i : ℕ) → FailsAt (map said_rule rules) (root_steps ks) (fun f) i → (u : Tm) × (i < length ks) × Replays (map said_rule rules) (root_steps (take i ks)) (fun f) u × ((v : Tm) → StepAt (map said_rule rules) (Some (slice_index ks i)) [] u v → ⊥)
+first_failure rules ks f i b =
+    let (below, same) = root_steps-get ks i b.step b.here in (
+      b.term,
+      below,
+      before_step rules ks f i b.term b.before,
+      λ v at.
+          b.none v (subst (λ s. StepAt (map said_rule rules) s.rule s.path b.term v) (sym same) at),
+    )
+
+-- no result is too big
+pub never_big : (rules : List FirstRule) (ks : List ℕ) (f i : ℕ) → TooBigAt (map said_rule rules) (root_steps ks) (fun f) i → ⊥
+never_big rules ks f i b =
+    let (below, same) = root_steps-get ks i b.step b.here in
+    let (g, end) = root_end rules (take i ks) f b.term (before_step rules ks f i b.term b.before) in
+    let rooted : StepAt (map said_rule rules) (Some (slice_index ks i)) [] b.term b.result =
+    subst (λ s. StepAt (map said_rule rules) s.rule s.path b.term b.result) same b.applies in
+    let (h, result) = root_result rules (slice_index ks i) g b.result (subst (λ t. StepAt (map said_rule rules) (Some (slice_index ks i)) [] t b.result) end rooted) in
+    b.big (subst Fits (sym result) (fits_fun h))
+
+-- what a replay answers of equal rules and steps
+pub answer_of : (rules rules' : List RewriteRule) (steps steps' : List taken.Step) (t : Tm) (r r' : Result Term StepFault) → rules ≡ rules' → steps ≡ steps' → r ≡ r' → Replayed rules steps t r → Replayed rules' steps' t r'
+answer_of rules rules' steps steps' t r r' same_rules same_steps same p =
+    subst (λ x. Replayed rules' steps' t x) same (subst (λ x. Replayed rules' x t r) same_steps (subst (λ x. Replayed x steps t r) same_rules p))

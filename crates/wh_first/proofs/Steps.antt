@@ -1,5 +1,6 @@
 -- The lines of a certificate of the first form are settled by its bytes.
-use Rattle.std.proofs.Common.{◌≡◌, ℕ, ◌<◌, List, [], ◌∷◌, ◌++◌, length, refl, sym, ap, ap₂, ◌∙◌, subst, arith}
+use Rattle.std.proofs.Common.{◌≡◌, ℕ, ◌<◌, ◌≤◌, List, [], ◌∷◌, ◌++◌, length, refl, sym, ap, ap₂, ◌∙◌, subst, arith}
+use Rattle.std.proofs.lemmas.List.{length-append}
 use Rattle.std.specs.Prelude.{codes}
 use Rattle.wh_first.specs.Names.{is_part, is_digit, IsWord, IsNumeral, number_from}
 use Rattle.wh_first.specs.CertificateForm.{Loop, put_step, put_term, SpellSteps, NoStepLine, HasStep, ReadsLoop, ending}
@@ -57,3 +58,27 @@ one_loop bytes c d p q =
     let (behind, e, s) = p.lines in
     let same = found_loop bytes c.term behind ending c.steps d p.name e s ending_no_step q in
     λ i. record { term = sym same.0 i; steps = sym same.1 i }
+
+tail_short : (xs ys : List ℕ) → length ys ≤ length (xs ++ ys)
+tail_short xs ys = omega (arith, length-append xs ys)
+
+steps_short : (ks bytes r : List ℕ) → SpellSteps ks bytes r → length ks ≤ length bytes
+steps_short [] bytes r s = omega arith
+steps_short (k ∷ ks) bytes r (digits, behind, is, f, s) =
+    let rest = steps_short ks behind r s in
+    let first = tail_short (codes "step ") (digits ++ (32 ∷ 47 ∷ 10 ∷ behind)) in
+    let second = tail_short digits (32 ∷ 47 ∷ 10 ∷ behind) in
+    let same : length bytes ≡ length (put_step digits behind) = ap length f in
+    omega (arith, rest, first, second, same)
+
+-- a certificate has fewer steps than bytes
+pub ReadsLoop-short : (bytes : List ℕ) (c : Loop) → ReadsLoop bytes c → length c.steps ≤ length bytes
+ReadsLoop-short bytes c reads =
+    let (behind, f, s) = reads.lines in
+    let rest = steps_short c.steps behind ending s in
+    let inner = codes "term " ++ (c.term ++ (10 ∷ behind)) in
+    let first = tail_short (codes "NO 1") (10 ∷ inner) in
+    let second = tail_short (codes "term ") (c.term ++ (10 ∷ behind)) in
+    let third = tail_short c.term (10 ∷ behind) in
+    let same : length bytes ≡ length (put_term c.term behind) = ap length f in
+    omega (arith, rest, first, second, third, same)

@@ -1,10 +1,16 @@
 //! Whether a certificate of the first form is a loop of its system.
 
-ghost use Rattle.std.specs.Prelude.{◌≡◌, MatchOption, slice_get};
-ghost use Rattle.wh_first.specs.SystemForm.{IsFirst};
+ghost use Rattle.std.specs.Prelude.{◌≡◌, ◌<◌, ◌^◌, IfOk, length, map, take};
+ghost use Rattle.wh_terms.specs.Erase.{rewrite_rules};
+ghost use Rattle.wh_first.specs.SystemForm.{IsFirst, said_rule};
+ghost use Rattle.wh_first.specs.Shown.{said, loop_said};
+ghost use Rattle.wh_first.specs.Verdict.{Comes, root_steps};
 
 use crate::certificate::FirstCertificate;
 use crate::system::{FirstRule, FirstSystem, number_of};
+use std::alloc::{AllocError, Global};
+use wh_step::{StepFault, replay};
+use wh_terms::{Metas, Path, Rule, Step, Term, same};
 
 /// The first condition that fails.
 #[derive(Clone, Copy, Debug, PartialEq, Eq)]
@@ -17,38 +23,56 @@ pub enum FirstFault {
     NoInstance,
 }
 
-ghost use Rattle.wh_first.specs.Shown.{said, loop_said};
-ghost use Rattle.wh_first.specs.Verdict.{Comes};
-ghost use Rattle.wh_first.specs.declared.system.FirstRule.{FirstRule};
-
-/// Follows the steps from the certificate's term and looks whether they come back to it.
-pub fn check_first(system: &FirstSystem, certificate: &FirstCertificate) -> Result<(), FirstFault>
-    requires { IsFirst (said system.now) }
-    ensures { Comes (said system.now) (loop_said certificate.now) result }
+/// Replays the steps from the certificate's term and looks whether they come back to it; fewer than 2^32 steps.
+pub fn check_first(
+    alloc: Global,
+    system: &FirstSystem,
+    certificate: &FirstCertificate,
+) -> Result<Result<(), FirstFault>, AllocError>
+    requires system { IsFirst (said system.now) }
+    requires counted { length certificate.now.steps.items < 2 ^ 32 }
+    ensures { IfOk result (Comes (said system.now) (loop_said certificate.now)) }
 {
     let Some(first) = number_of(system.fun_names.as_slice(), certificate.term.as_slice()) else {
-        return Err(FirstFault::Term);
+        return Ok(Err(FirstFault::Term));
     };
-    let steps = certificate.steps.as_slice();
-    let mut here = first;
-    for (i, step) in steps.iter().enumerate() {
-        match applied(system.rules.as_slice(), *step, here) {
-            Some(next) => here = next,
-            None => return Err(FirstFault::Step(i)),
-        }
+    let rules = rules_between(alloc, system.rules.as_slice())?;
+    let steps = steps_by(alloc, certificate.steps.as_slice())?;
+    let term = Term::Fun(first);
+    match replay(alloc, rules.as_slice(), &term, steps.as_slice())? {
+        Ok(last) if same(&last, &term) => Ok(Ok(())),
+        Ok(_) => Ok(Err(FirstFault::NoInstance)),
+        Err(StepFault::Fails { index }) => Ok(Err(FirstFault::Step(index as usize))),
+        // It never comes: constants fit.
+        Err(StepFault::TooBig { index }) => Ok(Err(FirstFault::Step(index as usize))),
     }
-    if here != first {
-        return Err(FirstFault::NoInstance);
-    }
-    Ok(())
 }
 
-/// What the symbol `here` becomes by the rule of that number.
-fn applied(rules: &[FirstRule], number: u32, here: u32) -> Option<u32>
-    ensures { MatchOption result ((r : FirstRule) → slice_get rules.now number ≡ Some r → r.left ≡ here → ⊥) (λ next. (r : FirstRule) × (slice_get rules.now number ≡ Some r) × (r.left ≡ here) × (r.right ≡ next)) }
+/// The rules as rules of terms: each side is a symbol alone.
+fn rules_between(alloc: Global, rules: &[FirstRule]) -> Result<Vec<Rule>, AllocError>
+    ensures { IfOk result (λ built. rewrite_rules built.items ≡ map said_rule rules.now) }
 {
-    match rules.get(number as usize) {
-        Some(rule) if rule.left == here => Some(rule.right),
-        _ => None,
+    let mut built = Vec::new(alloc);
+    for rule in rules {
+        built.push(Rule {
+            metas: Metas::new(alloc)?,
+            left: Term::Fun(rule.left),
+            right: Term::Fun(rule.right),
+        })?;
     }
+    Ok(built)
+}
+
+/// The steps by the rules of these numbers, each at the term itself.
+fn steps_by(alloc: Global, numbers: &[u32]) -> Result<Vec<Step>, AllocError>
+    ensures { IfOk result (λ built. built.items ≡ root_steps numbers.now) }
+{
+    let mut built = Vec::new(alloc);
+    for number in numbers {
+        built.push(Step {
+            rule: Some(*number),
+            path: Path::new(alloc)?,
+        })?;
+    }
+    Ok(built)
 }

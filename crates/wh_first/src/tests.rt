@@ -62,7 +62,8 @@ fn follows_steps(rt: HostRuntime) -> Result<(), Fail> {
         ),
     ] {
         let certificate = read_first_certificate(alloc, text.as_bytes())?.ok_or("not read")?;
-        assert_eq!(rt; check_first(&system, &certificate), want, "{text}");
+        let found = check_first(alloc, &system, &certificate)?;
+        assert_eq!(rt; found, want, "{text}");
     }
     Ok(())
 }

@@ -1,6 +1,6 @@
 //! What a run comes to, apart from writing it.
 
-ghost use Rattle.std.specs.Prelude.{◌≡◌, ℕ, List, IfOk, IfErr, string_bytes};
+ghost use Rattle.std.specs.Prelude.{◌≡◌, ◌≤◌, ℕ, List, IfOk, IfErr, length, string_bytes};
 ghost use Rattle.wh_top.specs.Texts.{role_word, text_of, status_of};
 ghost use Rattle.wh_top.specs.Outcomes.{Stands, Judged, UnreadBy};
 ghost use Rattle.wh_types.specs.declared.want.Or.TheVariants.{NoMemory};
@@ -129,6 +129,7 @@ fn unread(fault: Or<ReadFault>, role: Role) -> Result<Outcome, AllocError>
 
 /// What the bytes of the two files come to.
 fn judge(alloc: Global, system: &[u8], cert: &[u8]) -> Result<Outcome, AllocError>
+    requires { length cert.now ≤ 8388608 }
     ensures { IfOk result (Judged system.now cert.now) }
 {
     let Some(system) = read_first_system(alloc, system)? else {
@@ -137,7 +138,7 @@ fn judge(alloc: Global, system: &[u8], cert: &[u8]) -> Result<Outcome, AllocErro
     let Some(cert) = read_first_certificate(alloc, cert)? else {
         return Ok(Outcome::Later);
     };
-    match check_first(&system, &cert) {
+    match check_first(alloc, &system, &cert)? {
         Ok(()) => Ok(Outcome::No),
         Err(fault) => Ok(Outcome::Rejected(fault)),
     }

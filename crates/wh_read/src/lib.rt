@@ -1,2 +1,0 @@
-//! Reading and printing of system texts.
-#![tactic(auto)]
