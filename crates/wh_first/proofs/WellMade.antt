@@ -2,7 +2,7 @@
 use Rattle.std.proofs.Common.{◌≡◌, ℕ, zero, suc, ◌<◌, List, [], ◌∷◌, length, map, Some, refl, sym, ◌∙◌, subst, arith}
 use Rattle.std.specs.Prelude.{slice_get, slice_index_or, Contains}
 use Rattle.wh_types.specs.Ty.{sort}
-use Rattle.wh_terms.specs.Tree.{fun, argument_count}
+use Rattle.wh_terms.specs.Tree.{argument_count}
 use Rattle.wh_terms.specs.Typing.{typed_fun}
 use Rattle.wh_terms.specs.Rules.{RewriteRule, IsWellMade, AreWellMade}
 use Rattle.wh_first.specs.Names.{Each}

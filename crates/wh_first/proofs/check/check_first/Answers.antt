@@ -1,5 +1,5 @@
 -- What the replay of the steps answers is what the certificate comes to.
-use Rattle.std.proofs.Common.{◌≡◌, ◌∙◌, map, Some, Err, sym, ap, subst, take}
+use Rattle.std.proofs.Common.{◌≡◌, ◌∙◌, map, Some, Err, sym, ap, subst}
 use Rattle.std.specs.Prelude.{slice_get}
 use Rattle.wh_terms.specs.Erase.{rewrite_rules}
 use Rattle.wh_terms.specs.Rules.{AreWellMade}
