@@ -15,6 +15,15 @@ const MAP_CERTIFICATE: &[u8] =
 
 const LOOP: &[u8] = b"NO 1\nterm a\nstep 0 /\nstep 1 /\nat /\nend\n";
 
+const OTHER_WORDS: &[&[&str]] = &[
+    &[],
+    &["check", "system"],
+    &["check", "system", "certificate", "more"],
+    &["check", "", "certificate"],
+    &["check", "system", "-"],
+    &["show", "system", "certificate"],
+];
+
 fn words(alloc: Global, words: &[&str]) -> Result<Vec<String>, AllocError> {
     let mut all = Vec::new(alloc);
     for word in words {
@@ -34,6 +43,15 @@ fn checked(
     shelf.add_file("certificate", certificate)?;
     let mut out = MemorySink::new(alloc, 100, 100, &[])?;
     let asked = words(alloc, &["check", "system", "certificate"])?;
+    let status = run(alloc, asked.as_slice(), &mut shelf, &mut out);
+    Ok((status, out))
+}
+
+/// Runs those words where there are no files, and gives the status and what was written.
+fn told(alloc: Global, given: &[&str]) -> Result<(Status, MemorySink), AllocError> {
+    let mut shelf = MemoryShelf::new(alloc, &[])?;
+    let mut out = MemorySink::new(alloc, 100, 100, &[])?;
+    let asked = words(alloc, given)?;
     let status = run(alloc, asked.as_slice(), &mut shelf, &mut out);
     Ok((status, out))
 }
@@ -107,19 +125,8 @@ fn checks_loops_of_constants(rt: HostRuntime) -> Result<(), Fail> {
 
 #[test]
 fn refuses_other_words(rt: HostRuntime) -> Result<(), Fail> {
-    let alloc = rt.alloc();
-    for refused in [
-        [].as_slice(),
-        ["check", "system"].as_slice(),
-        ["check", "system", "certificate", "more"].as_slice(),
-        ["check", "", "certificate"].as_slice(),
-        ["check", "system", "-"].as_slice(),
-        ["show", "system", "certificate"].as_slice(),
-    ] {
-        let mut shelf = MemoryShelf::new(alloc, &[])?;
-        let mut out = MemorySink::new(alloc, 100, 100, &[])?;
-        let asked = words(alloc, refused)?;
-        let status = run(alloc, asked.as_slice(), &mut shelf, &mut out);
+    for refused in OTHER_WORDS {
+        let (status, out) = told(rt.alloc(), *refused)?;
         assert_eq!(rt; status, Status::BadWords);
         assert_eq!(rt; out.bytes(), b"BAD WORDS\n".as_slice());
     }
