@@ -45,6 +45,15 @@ impl RawTypes {
         Ok(())
     }
 
+    /// The types of the other list join at the end, in their order; without memory this list stays as it was.
+    pub fn append(&mut self, mut others: RawTypes) -> Result<(), AllocError>
+        ensures ok { OnOk result (type_list self.new ≡ type_list self.old ++ type_list others) }
+        ensures err { OnErr result (type_list self.new ≡ type_list self.old) }
+    {
+        self.items.append(&mut others.items)?;
+        Ok(())
+    }
+
     /// The types in order.
     pub fn as_slice(&self) -> &[RawType]
         ensures { result.now ≡ type_list self.now }

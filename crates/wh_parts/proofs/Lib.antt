@@ -1,0 +1,10 @@
+pub mod DeclarationLemmas
+pub mod FaultLemmas
+pub mod MetaLemmas
+pub mod NameLemmas
+pub mod PassLemmas
+pub mod RawTerms
+pub mod RawTypes
+pub mod SideLemmas
+pub mod TypeLemmas
+pub mod WidthLemmas

@@ -1,0 +1,9 @@
+pub mod Parts
+pub mod Faults
+pub mod Naming
+pub mod Kinds
+pub mod Tests
+pub mod RuleTests
+pub mod Erase
+pub mod Declarations
+pub mod Widths
