@@ -1,0 +1,9 @@
+pub mod AnswerLemmas
+pub mod BareLemmas
+pub mod FittingLemmas
+pub mod HeadLemmas
+pub mod LookupLemmas
+pub mod PlainNames
+pub mod ResolveLemmas
+pub mod ResolveWhole
+pub mod MarkLemmas

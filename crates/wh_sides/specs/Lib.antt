@@ -1,0 +1,4 @@
+pub mod InScope
+pub mod Answers
+pub mod Resolving
+pub mod Marks
