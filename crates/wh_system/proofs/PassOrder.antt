@@ -1,0 +1,56 @@
+-- The tests of a rule by groups: where the first fault of a group is that of the whole.
+use Rattle.std.proofs.Common.{◌≡◌, List, ◌++◌, Some, None, Result, Ok, Err, IsErrAnd, sym, ◌∙◌, subst}
+use Rattle.wh_types.specs.Outcome.{MatchOr}
+use Rattle.wh_types.specs.declared.want.Or.{Or}
+use Rattle.wh_types.specs.declared.want.Or.TheVariants.{NoMemory, Because}
+use Rattle.wh_parts.specs.declared.fault.SystemFault.{SystemFault}
+use Rattle.wh_parts.specs.Faults.{Test, first_fault, Passes}
+use Rattle.wh_parts.proofs.FaultLemmas.{fault_after, fault_in_first, no_fault_in_both}
+
+-- an error that is handed on
+pub handed : {T U : Type 0} (xs ys : List Test) (r : Result U (Or SystemFault)) (e : Or SystemFault) (P : T → Type 0) (Q : U → Type 0) → IsErrAnd r (λ x. x ≡ e)
+    → ((f : SystemFault) → first_fault xs ≡ Some f → first_fault ys ≡ Some f) → MatchOr {T = T} {E = SystemFault} (Err e) P (λ f. first_fault xs ≡ Some f) → Passes ys r Q
+handed xs ys (Ok x) e P Q is on h = absurd is
+handed {T} {U} xs ys (Err x) e P Q is on h = subst (λ x. Passes ys (Err x) Q) (sym is) (by e h)
+  where
+    by : (e : Or SystemFault) → MatchOr {T = T} {E = SystemFault} (Err e) P (λ f. first_fault xs ≡ Some f) → Passes {T = U} ys (Err e) Q
+    by NoMemory h = tt
+    by (Because f) h = on f h
+
+-- a test after two groups
+pub after_both : (xs ys rest : List Test) → first_fault xs ≡ None → first_fault ys ≡ None → first_fault (xs ++ ys ++ rest) ≡ first_fault rest
+after_both xs ys rest a b = fault_after (xs ++ ys) rest (no_fault_in_both xs ys a b)
+
+pub in_second : (xs ys rest : List Test) (f : SystemFault) → first_fault xs ≡ None → first_fault ys ≡ Some f → first_fault (xs ++ ys ++ rest) ≡ Some f
+in_second xs ys rest f a b = fault_in_first (xs ++ ys) rest f (fault_after xs ys a ∙ b)
+
+pub in_first : (xs ys rest : List Test) (f : SystemFault) → first_fault xs ≡ Some f → first_fault (xs ++ ys ++ rest) ≡ Some f
+in_first xs ys rest f a = fault_in_first (xs ++ ys) rest f (fault_in_first xs ys f a)
+
+-- all tests of a rule that look at no other rule: its declarations, its two sides' limits, what its names stand for, and its form
+module _ (D L R S F : List Test) where
+  pub declared_first : (f : SystemFault) → first_fault D ≡ Some f → first_fault (D ++ ((L ++ R) ++ (S ++ F))) ≡ Some f
+  declared_first f e = fault_in_first D ((L ++ R) ++ (S ++ F)) f e
+
+  pub left_next : (f : SystemFault) → first_fault D ≡ None → first_fault L ≡ Some f → first_fault (D ++ ((L ++ R) ++ (S ++ F))) ≡ Some f
+  left_next f d e = fault_after D ((L ++ R) ++ (S ++ F)) d ∙ in_first L R (S ++ F) f e
+
+  pub right_next : (f : SystemFault) → first_fault D ≡ None → first_fault L ≡ None → first_fault R ≡ Some f → first_fault (D ++ ((L ++ R) ++ (S ++ F))) ≡ Some f
+  right_next f d l e = fault_after D ((L ++ R) ++ (S ++ F)) d ∙ in_second L R (S ++ F) f l e
+
+  pub after_limits : first_fault D ≡ None → first_fault L ≡ None → first_fault R ≡ None → first_fault (D ++ ((L ++ R) ++ (S ++ F))) ≡ first_fault (S ++ F)
+  after_limits d l r = fault_after D ((L ++ R) ++ (S ++ F)) d ∙ after_both L R (S ++ F) l r
+
+-- all tests of parts: the sorts, the symbols, the number of rules, and the rules
+module _ (A B C D : List Test) where
+  pub sorts_fail : (f : SystemFault) → first_fault A ≡ Some f → first_fault (A ++ B ++ C ++ D) ≡ Some f
+  sorts_fail f e = fault_in_first (A ++ B ++ C) D f (in_first A B C f e)
+
+  pub funs_fail : (f : SystemFault) → first_fault A ≡ None → first_fault B ≡ Some f → first_fault (A ++ B ++ C ++ D) ≡ Some f
+  funs_fail f a e = fault_in_first (A ++ B ++ C) D f (in_second A B C f a e)
+
+  pub count_fails : (f : SystemFault) → first_fault A ≡ None → first_fault B ≡ None → first_fault C ≡ Some f → first_fault (A ++ B ++ C ++ D) ≡ Some f
+  count_fails f a b e = fault_in_first (A ++ B ++ C) D f (after_both A B C a b ∙ e)
+
+  pub before_rules : first_fault A ≡ None → first_fault B ≡ None → first_fault C ≡ None → first_fault (A ++ B ++ C ++ D) ≡ first_fault D
+  before_rules a b c = fault_after (A ++ B ++ C) D (after_both A B C a b ∙ c)

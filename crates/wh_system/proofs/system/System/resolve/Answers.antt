@@ -1,0 +1,27 @@
+use Rattle.std.proofs.Common.{◌≡◌, [], Some, None, ap, rules}
+use Rattle.wh_types.specs.Erase.{tys}
+use Rattle.wh_text.specs.Erase.{rtm}
+use Rattle.wh_terms.specs.Erase.{tm, declared_metas}
+use Rattle.wh_parts.specs.Faults.{first_fault}
+use Rattle.wh_parts.specs.Naming.{Scope, meant}
+use Rattle.wh_parts.specs.Tests.{naming_tests}
+use Rattle.wh_system.specs.SystemView.{system_data}
+use Rattle.wh_system.proofs.MadeDecided.{system_is_well_made}
+use Rattle.wh_system.proofs.MeantLaws.{means_where_passed, means_none}
+use Rattle.wh_system.proofs.system.System.resolve.Goals as goal
+
+pub returns-in-Ok : goal.returns-in-Ok
+returns-in-Ok c =
+    let s : Scope = record { sorts = c.sort_table.result.now; funs = c.fun_table.result.now; kinds = tys c.signature.result.now.funs; metas = c.new-metas.result; declared = declared_metas c.in_ok-declared.declared } in
+    let u = rtm c.args.term.now in
+    let told : (first_fault (naming_tests s [] u) ≡ None) × (meant s [] u ≡ Some (tm c.in-Ok.term)) = search rules in
+    means_where_passed (system_data c.args.self.now) (system_is_well_made c.args.self.now) s u (tm c.in-Ok.term) c.sort_table.ensures c.fun_table.ensures
+    (ap (λ S. S.funs) c.signature.ensures) c.new-metas.ensures (ap declared_metas c.in_ok-declared.ensures) told.0 told.1
+
+pub returns : goal.returns
+returns c =
+    let s : Scope = record { sorts = c.sort_table.result.now; funs = c.fun_table.result.now; kinds = tys c.signature.result.now.funs; metas = c.new-metas.result; declared = declared_metas c.in_ok-declared.declared } in
+    let u = rtm c.args.term.now in
+    let failed : first_fault (naming_tests s [] u) ≡ Some c.in-Err-Because.field-0-0 = search rules in
+    means_none (system_data c.args.self.now) (system_is_well_made c.args.self.now) s u c.in-Err-Because.field-0-0 c.sort_table.ensures c.fun_table.ensures
+    (ap (λ S. S.funs) c.signature.ensures) c.new-metas.ensures (ap declared_metas c.in_ok-declared.ensures) failed

@@ -1,0 +1,23 @@
+//! Systems: what a text says with its names looked up, and pairs of marked terms as data.
+#![tactic(auto)]
+
+mod laws;
+mod names;
+mod pairs;
+mod raw_term;
+mod resolution;
+mod resolving;
+mod rules;
+mod system;
+
+pub use laws::{
+    canonical_parts_are_read_back, canonical_parts_say_the_system,
+    canonical_terms_stand_for_themselves, parts_say_one_system, places_do_not_matter,
+    systems_are_well_made,
+};
+pub use pairs::{Condition, Conditions, Pair, PairList, PairSet};
+pub use raw_term::{TermNames, raw_type, raw_with};
+pub use system::System;
+pub use wh_parts::{
+    Parts, RawFun, RawFuns, RawMeta, RawMetas, RawName, RawNames, RawRule, RawRules, SystemFault,
+};

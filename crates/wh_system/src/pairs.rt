@@ -1,0 +1,178 @@
+//! Dependency pairs as data.
+
+ghost use Rattle.std.specs.Prelude.{◌≡◌, ◌<◌, [], ◌∷◌, ◌++◌, IfOk, OnOk, OnErr, All};
+ghost use Rattle.wh_system.specs.PairData.{IsIncreasing};
+
+use std::alloc::{AllocError, Global};
+use std::marker::Model;
+use wh_terms::{Metas, Terms};
+
+/// That a call stands within an argument of a meta-variable on the right side: the meta-variable and the place of the
+/// argument, counted from 1.
+#[derive(Clone, Copy, Debug, PartialEq, Eq)]
+pub struct Condition {
+    /// The number of the meta-variable.
+    pub meta: u32,
+    /// The place of the argument, counted from 1.
+    pub place: u32,
+}
+
+/// A list of conditions.
+#[derive(Drop)]
+pub struct Conditions {
+    items: Vec<Condition>,
+}
+
+impl Model for Conditions {
+    ghost use Rattle.std.specs.Prelude.{List};
+    ghost use Rattle.std.specs.Coded.{coded_list};
+    ghost use Rattle.wh_system.specs.contracts.pairs.Condition as element;
+    ghost use Rattle.wh_system.specs.declared.pairs.Condition.{Condition};
+
+    ghost Value = { List Condition };
+
+    ghost coded = { coded_list element.the_row.coded };
+
+    ghost view = { λ list. list.items.items };
+}
+
+impl Conditions {
+    /// The empty list.
+    pub fn new(alloc: Global) -> Result<Conditions, AllocError>
+        ensures { IfOk result (λ list. list ≡ []) }
+    {
+        Ok(Conditions {
+            items: Vec::new(alloc),
+        })
+    }
+
+    /// The condition joins at the end; without memory the list stays as it was.
+    pub fn push(&mut self, item: Condition) -> Result<(), AllocError>
+        ensures ok { OnOk result (self.new ≡ self.old ++ item ∷ []) }
+        ensures err { OnErr result (self.new ≡ self.old) }
+    {
+        self.items.push(item)?;
+        Ok(())
+    }
+
+    /// The conditions in order.
+    pub fn as_slice(&self) -> &[Condition]
+        ensures { result.now ≡ self.now }
+    {
+        self.items.as_slice()
+    }
+}
+
+/// A dependency pair of a rule (Kop 2012; Fuhs and Kop 2019): a call of a defined symbol in the right side, with the left
+/// side that leads to it. The meta-variables are those of the rule, followed by fresh ones: for the binders of the right side
+/// around the call, and for the arguments that the call lacks.
+#[derive(Drop)]
+pub struct Pair {
+    /// The number of the rule.
+    pub rule: u32,
+    /// The meta-variables, by number.
+    pub metas: Metas,
+    /// The symbol that heads the left side.
+    pub left_fun: u32,
+    /// The arguments of the left side.
+    pub left: Terms,
+    /// The symbol that is called.
+    pub right_fun: u32,
+    /// The arguments of the call, as many as the rules of the symbol have.
+    pub right: Terms,
+    /// The arguments of meta-variables that the call stands within, by meta-variable and place.
+    pub conditions: Conditions,
+}
+
+/// A list of dependency pairs.
+#[derive(Drop)]
+pub struct PairList {
+    items: Vec<Pair>,
+}
+
+impl Model for PairList {
+    ghost use Rattle.std.specs.Prelude.{List};
+    ghost use Rattle.std.specs.Coded.{coded_list};
+    ghost use Rattle.wh_system.specs.contracts.pairs.Pair as element;
+    ghost use Rattle.wh_system.specs.declared.pairs.Pair.{Pair};
+
+    ghost Value = { List Pair };
+
+    ghost coded = { coded_list element.the_row.coded };
+
+    ghost view = { λ list. list.items.items };
+}
+
+impl PairList {
+    /// The empty list.
+    pub fn new(alloc: Global) -> Result<PairList, AllocError>
+        ensures { IfOk result (λ list. list ≡ []) }
+    {
+        Ok(PairList {
+            items: Vec::new(alloc),
+        })
+    }
+
+    /// The pair joins at the end; without memory the list stays as it was.
+    pub fn push(&mut self, item: Pair) -> Result<(), AllocError>
+        ensures ok { OnOk result (self.new ≡ self.old ++ item ∷ []) }
+        ensures err { OnErr result (self.new ≡ self.old) }
+    {
+        self.items.push(item)?;
+        Ok(())
+    }
+
+    /// The pairs in order.
+    pub fn as_slice(&self) -> &[Pair]
+        ensures { result.now ≡ self.now }
+    {
+        self.items.as_slice()
+    }
+}
+
+/// A set of pairs by their numbers, in increasing order.
+#[derive(Drop)]
+pub struct PairSet {
+    items: Vec<u32>,
+}
+
+impl Model for PairSet {
+    ghost use Rattle.std.specs.Prelude.{List, ℕ};
+    ghost use Rattle.wh_system.specs.PairData.{IsIncreasing};
+
+    ghost Value = { List ℕ };
+
+    ghost view = { λ set. set.items.items };
+
+    ghost invariant = { λ set. IsIncreasing set.items.items };
+}
+
+impl PairSet {
+    /// The empty set.
+    pub fn new(alloc: Global) -> Result<PairSet, AllocError>
+        ensures { IfOk result (λ set. set ≡ []) }
+    {
+        Ok(PairSet {
+            items: Vec::new(alloc),
+        })
+    }
+
+    /// The number joins at the end, above all that are there; without memory the set stays as it was.
+    #[tactic(auto, using(crate::proofs::PairLemmas::increasing_push))]
+    pub fn push(&mut self, item: u32) -> Result<(), AllocError>
+        requires { All (λ n. n < item) self.old }
+        ensures ok { OnOk result (self.new ≡ self.old ++ item ∷ []) }
+        ensures err { OnErr result (self.new ≡ self.old) }
+    {
+        self.items.push(item)?;
+        Ok(())
+    }
+
+    /// The numbers in increasing order.
+    pub fn as_slice(&self) -> &[u32]
+        ensures numbers { result.now ≡ self.now }
+        ensures increasing { IsIncreasing self.now }
+    {
+        self.items.as_slice()
+    }
+}
