@@ -1,0 +1,2 @@
+pub mod ListPrinting
+pub mod RulePrinting

@@ -1,0 +1,2 @@
+pub mod SystemText
+pub mod Sorted
