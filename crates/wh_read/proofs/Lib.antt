@@ -1,0 +1,16 @@
+pub mod LexemeLaws
+pub mod Machine
+pub mod Complete
+pub mod CompleteText
+pub mod Seen
+pub mod Sound
+pub mod Ends
+pub mod Bounds
+pub mod Whole
+pub mod Light
+pub mod HeldLaws
+pub mod ReaderLaws
+pub mod OneReading
+pub mod CutTokens
+pub mod Steps
+pub mod OneSystem

@@ -1,0 +1,10 @@
+pub mod Written
+pub mod Spelled
+pub mod Raw
+pub mod Nesting
+pub mod Parsing
+pub mod Lexemes
+pub mod Reader
+pub mod Held
+pub mod SyntaxFaults
+pub mod Reading

@@ -1,0 +1,129 @@
+//! The places of the reader: what it holds behind some tokens of a system text.
+
+use wh_parts::{RawMetas, RawName};
+use wh_text::{RawBinder, RawTerm, RawTerms, RawType, RawTypes};
+
+/// What an open term stands in.
+#[derive(Drop)]
+pub enum Frame {
+    /// The body of an abstraction: its binder, the type of that, and the place of the abstraction.
+    Body(RawBinder, RawType, u32),
+    /// A parenthesis, with the spine so far before it.
+    Paren(Option<RawTerm>),
+    /// A bracket: the name before it, the arguments so far, and the spine so far before the name.
+    Bracket(RawName, RawTerms, Option<RawTerm>),
+}
+
+/// A rule whose sides are read.
+#[derive(Drop)]
+pub struct OpenRule {
+    /// Its meta-variables.
+    pub metas: RawMetas,
+    /// The place of its keyword.
+    pub at: u32,
+    /// The left side, where that is read.
+    pub left: Option<RawTerm>,
+    /// The open terms, the innermost last.
+    pub frames: Vec<Frame>,
+}
+
+/// A spine of a rule's side.
+#[derive(Drop)]
+pub struct OpenSpine {
+    /// The rule.
+    pub rule: OpenRule,
+    /// The spine so far; None where a term begins.
+    pub before: Option<RawTerm>,
+}
+
+/// A rule whose meta-variables are read.
+#[derive(Drop)]
+pub struct OpenMetas {
+    /// Those so far.
+    pub metas: RawMetas,
+    /// The place of the rule's keyword.
+    pub at: u32,
+}
+
+/// A meta-variable up to its name.
+#[derive(Drop)]
+pub struct OpenMeta {
+    /// The rule, and the meta-variables before.
+    pub rule: OpenMetas,
+    /// The name.
+    pub name: RawName,
+}
+
+/// What a type is for.
+#[derive(Drop)]
+pub enum Purpose {
+    /// It is the type of this symbol.
+    OfFun(RawName),
+    /// It stands in the brackets of a meta-variable, behind these types.
+    InBrackets(OpenMeta, RawTypes),
+    /// It stands behind the brackets of a meta-variable, in which these types are.
+    OfMeta(OpenMeta, RawTypes),
+    /// It is the type of a binder, of an abstraction at this place.
+    OfBinder(OpenRule, RawBinder, u32),
+    /// It is the type of a free variable of this number and place.
+    OfVariable(OpenSpine, u32, u32),
+}
+
+/// A type that is read.
+#[derive(Drop)]
+pub struct OpenType {
+    /// Its arguments so far.
+    pub args: RawTypes,
+    /// The arguments so far of the types around it, one for each open parenthesis, the innermost last.
+    pub outer: Vec<RawTypes>,
+}
+
+/// A place of the reader, named for what stands before it.
+#[derive(Drop)]
+pub enum Place {
+    /// Between two declarations.
+    Between,
+    /// Behind `sort`.
+    BehindSort,
+    /// Behind the name of a sort.
+    SortNamed(RawName),
+    /// Behind `fun`.
+    BehindFun,
+    /// Behind the name of a symbol.
+    FunNamed(RawName),
+    /// Behind `rule`, which stands there.
+    BehindRule(u32),
+    /// Where a meta-variable begins.
+    WantMeta(OpenMetas),
+    /// Behind the name of a meta-variable.
+    MetaNamed(OpenMeta),
+    /// Behind the colon of a meta-variable.
+    MetaColon(OpenMeta),
+    /// Where a sort's name or a parenthesis of a type begins.
+    WantAtype(Purpose, OpenType),
+    /// Behind such a part of a type.
+    BehindAtype(Purpose, OpenType, RawType),
+    /// Behind `\`, which stands there.
+    BehindLambda(OpenRule, u32),
+    /// Behind a binder.
+    BinderNamed(OpenRule, RawBinder, u32),
+    /// Behind the type of a binder.
+    BinderTyped(OpenRule, RawBinder, RawType, u32),
+    /// Where an atom may begin.
+    WantAtom(OpenSpine),
+    /// Behind a name, before which a spine stands.
+    BehindName(OpenSpine, RawName),
+    /// Behind `%` with a number, which stands there.
+    BehindPercent(OpenSpine, u32, u32),
+}
+
+/// What one more token does.
+#[derive(Drop)]
+pub enum Step {
+    /// The reader goes on there.
+    To(Place),
+    /// No system text has the token there.
+    Failed,
+    /// The token opens one level too many.
+    TooMany,
+}
