@@ -1,0 +1,14 @@
+pub mod NamesAndNumbers
+pub mod TypeLaws
+pub mod TermSound
+pub mod TermComplete
+pub mod LineSound
+pub mod Reached
+pub mod LineComplete
+pub mod LineEnds
+pub mod Whole
+pub mod RawLaws
+pub mod TypeCode
+pub mod TermCode
+pub mod ReadCode
+pub mod PrintCode

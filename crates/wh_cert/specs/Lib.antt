@@ -1,0 +1,12 @@
+pub mod Written
+pub mod Text
+pub mod Limits
+pub mod CertText
+pub mod Said
+pub mod TypeMachine
+pub mod TermMachine
+pub mod LineMachine
+pub mod TypeViews
+pub mod TermViews
+pub mod LineViews
+pub mod ReadViews

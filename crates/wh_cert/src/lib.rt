@@ -1,0 +1,19 @@
+//! Certificates: their text, read byte by byte and printed.
+#![tactic(auto)]
+
+mod certificate;
+mod laws;
+mod letters;
+mod line_reader;
+mod print;
+mod raw;
+mod read;
+mod term_reader;
+#[cfg(test)]
+mod tests;
+mod type_reader;
+
+pub use certificate::{CertSyntax, Certificate, NoCertificate, Put, Puts, Steps};
+pub use laws::{no_proper_prefix, one_certificate, one_place, one_text};
+pub use print::print_certificate;
+pub use read::read_certificate;

@@ -1,0 +1,41 @@
+//! Raw trees as a certificate has them: with place 0 throughout.
+
+ghost use Rattle.std.specs.Prelude.{◌≡◌, IfOk};
+ghost use Rattle.wh_text.specs.RawTree.{raw_type, no_types, numbered_binder, lam, spine};
+ghost use Rattle.wh_text.specs.Erase.{rty, rtys, type_list, rtm, rtms, term_list};
+
+use std::alloc::{AllocError, Global};
+use wh_text::{Name, RawBinder, RawTerm, RawTerms, RawType, RawTypes};
+
+/// The type of functions from the arguments to the sort.
+pub fn functional(args: RawTypes, sort: Name) -> RawType
+    ensures { rty result ≡ raw_type (rtys (type_list args)) sort 0 }
+{
+    RawType { args, sort, at: 0 }
+}
+
+/// The sort as a type.
+pub fn sort(alloc: Global, name: Name) -> Result<RawType, AllocError>
+    ensures { IfOk result (λ kind. rty kind ≡ raw_type no_types name 0) }
+{
+    Ok(functional(RawTypes::new(alloc)?, name))
+}
+
+/// The abstraction with this binder, its type and its body.
+pub fn abstraction(
+    alloc: Global,
+    number: u32,
+    kind: RawType,
+    body: RawTerm,
+) -> Result<RawTerm, AllocError>
+    ensures { IfOk result (λ term. rtm term ≡ lam (numbered_binder number) (rty kind) (rtm body) 0) }
+{
+    Ok(RawTerm::Lam(RawBinder::Numbered(number), kind, Box::new(alloc, body)?, 0))
+}
+
+/// The head with these arguments.
+pub fn applied(head: Box<RawTerm>, args: RawTerms) -> RawTerm
+    ensures { rtm result ≡ spine (rtm head.value) (rtms (term_list args)) 0 }
+{
+    RawTerm::Spine(head, args, 0)
+}
