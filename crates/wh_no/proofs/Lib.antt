@@ -1,0 +1,11 @@
+pub mod FreshSteps
+pub mod UnusedNumbers
+pub mod Reaching
+pub mod Loops
+pub mod Valid
+pub mod PutLemmas
+pub mod SearchLemmas
+pub mod InstanceLemmas
+pub mod CheckLemmas
+pub mod NumberLemmas
+pub mod Verdicts

@@ -1,0 +1,28 @@
+//! Laws of valid claims, each the contract of a function that does nothing.
+
+ghost use Rattle.std.specs.Prelude.{◌≡◌, List};
+ghost use Rattle.wh_terms.specs.Typing.{Symbols};
+ghost use Rattle.wh_terms.specs.Rules.{RewriteRule, AreWellMade};
+ghost use Rattle.wh_step.specs.Reduction.{Unbounded};
+ghost use Rattle.wh_system.specs.Systems.{SystemData};
+ghost use Rattle.wh_cert.specs.Written.{Cert};
+ghost use Rattle.wh_no.specs.declared.check.AcceptedNo as check;
+ghost use Rattle.wh_no.specs.declared.fault.NoFault as fault;
+ghost use Rattle.wh_no.specs.Claim.{Claim};
+ghost use Rattle.wh_no.specs.Faults.{IsFirstFault, IsAccepted};
+ghost use Rattle.wh_no.specs.Valid.{IsValid};
+
+/// The term of a valid claim has reductions of every length, since it can go round its loop as often as it takes.
+pub fn valid_claims_are_unbounded()
+    ensures { (S : Symbols) (rules : List RewriteRule) (c : Claim) → AreWellMade S rules → IsValid S rules c → Unbounded rules c.term }
+{}
+
+/// One fault at most is the first of a certificate.
+pub fn one_first_fault()
+    ensures { (d : SystemData) (cert : Cert) (f g : fault.NoFault) → AreWellMade d.symbols d.rules → IsFirstFault d cert f → IsFirstFault d cert g → f ≡ g }
+{}
+
+/// A certificate that is accepted has no fault; so the check accepts exactly the certificates of valid claims.
+pub fn accepted_or_refused()
+    ensures { (d : SystemData) (cert : Cert) (accepted : check.AcceptedNo) (f : fault.NoFault) → AreWellMade d.symbols d.rules → IsAccepted d cert accepted → IsFirstFault d cert f → ⊥ }
+{}

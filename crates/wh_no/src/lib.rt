@@ -1,0 +1,15 @@
+//! NO certificates: a check that accepts one only where a term has reductions of every length.
+#![tactic(auto)]
+
+mod check;
+mod fault;
+mod instance;
+mod laws;
+mod puts;
+mod search;
+mod steps;
+mod unused;
+
+pub use check::{AcceptedNo, check_no};
+pub use fault::NoFault;
+pub use laws::{accepted_or_refused, one_first_fault, valid_claims_are_unbounded};

@@ -1,0 +1,90 @@
+//! What a certificate puts for variables.
+
+ghost use Rattle.std.specs.Prelude.{◌≡◌, ◌↔◌, ◌≤◌, ◌<◌, ◌+◌, ◌^◌, ℕ, [], Some, IfOk, IsTrue, MatchBool, length, map, slice_get};
+ghost use Rattle.wh_types.specs.Outcome.{MatchOr};
+ghost use Rattle.wh_types.specs.Erase.{ty};
+ghost use Rattle.wh_terms.specs.Erase.{tm};
+ghost use Rattle.wh_terms.specs.Typing.{Typed};
+ghost use Rattle.wh_terms.specs.declared.subst.SubstEntry as entry;
+ghost use Rattle.wh_cert.specs.Said.{said_put};
+ghost use Rattle.wh_system.specs.SystemView.{system_data};
+ghost use Rattle.wh_no.specs.Entry.{entry_puts, SaysTyped};
+ghost use Rattle.wh_no.specs.Faults.{AreRight, IsPutFault};
+
+use crate::fault::NoFault;
+use std::alloc::{AllocError, Global};
+use wh_cert::Put;
+use wh_system::System;
+use wh_terms::{Metas, SubstEntry, Term, type_of};
+use wh_types::{Or, SimpleType, same_type};
+
+// Whether the term has that type.
+fn has_type(
+    alloc: Global,
+    system: &System,
+    term: &Term,
+    kind: &SimpleType,
+) -> Result<bool, AllocError>
+    ensures { IfOk result (λ yes. MatchBool yes (Typed (system_data system.now).symbols [] [] (tm term.now) (ty kind.now)) (Typed (system_data system.now).symbols [] [] (tm term.now) (ty kind.now) → ⊥)) }
+{
+    let no_metas = Metas::new(alloc)?;
+    match type_of(alloc, system.signature(), &no_metas, term)? {
+        Some(found) => Ok(same_type(&found, kind)),
+        None => Ok(false),
+    }
+}
+
+// What a line says, if its names stand for a type and a well-typed term of that type.
+fn typed_put(alloc: Global, system: &System, put: &Put) -> Result<Option<SubstEntry>, AllocError>
+    ensures { IfOk result (SaysTyped (system_data system.now) (said_put put.now)) }
+{
+    let Some(kind) = system.resolve_type(alloc, &put.kind)? else {
+        return Ok(None);
+    };
+    let Some(value) = system.resolve(alloc, &put.term)? else {
+        return Ok(None);
+    };
+    if !has_type(alloc, system, &value, &kind)? {
+        return Ok(None);
+    }
+    system.is_well_made();
+    Ok(Some(SubstEntry {
+        number: put.number,
+        kind,
+        value,
+    }))
+}
+
+// Whether the number is above that of the last entry, if there is one.
+fn is_above(entries: &[SubstEntry], number: u32) -> bool
+    ensures { IsTrue result ↔ ((k : ℕ) (e : entry.SubstEntry) → k + 1 ≡ length entries.now → slice_get entries.now k ≡ Some e → e.number < number) }
+{
+    match entries.last() {
+        Some(before) => before.number < number,
+        None => true,
+    }
+}
+
+/// What the lines put for variables. The fault is the first line that does not say a typed put, or whose number is not above
+/// that of the line before.
+pub fn check_puts(
+    alloc: Global,
+    system: &System,
+    puts: &[Put],
+) -> Result<Vec<SubstEntry>, Or<NoFault>>
+    requires { length puts.now ≤ 2 ^ 32 }
+    ensures { MatchOr result (λ entries. AreRight (system_data system.now) (map said_put puts.now) (entry_puts entries.items)) (IsPutFault (system_data system.now) (map said_put puts.now)) }
+{
+    let mut entries = Vec::new(alloc);
+    for (i, put) in puts.iter().enumerate() {
+        let bad = NoFault::BadPut { index: i as u32 };
+        if !is_above(&entries, put.number) {
+            return Err(Or::Because(bad));
+        }
+        match typed_put(alloc, system, put)? {
+            Some(entry) => entries.push(entry)?,
+            None => return Err(Or::Because(bad)),
+        }
+    }
+    Ok(entries)
+}
