@@ -1,5 +1,8 @@
 pub mod Status
 pub mod Words
-pub mod Texts
+pub mod Asked
 pub mod Outcomes
+pub mod Unread
+pub mod Weighing
+pub mod Texts
 pub mod Run

@@ -1,17 +1,23 @@
--- When each outcome of a check comes.
-use Rattle.std.specs.Prelude.{ℕ, ◌≡◌, ◌<◌, ◌≤◌, ◌⊎◌, List, length, Option, Some}
+-- When each outcome of a run comes.
+use Rattle.std.specs.Prelude.{ℕ, ◌≡◌, ◌<◌, ◌≤◌, List, [], ◌∷◌, ◌++◌, length, Option, Some}
 use Rattle.wh_io.specs.Outside.{Rose}
 use Rattle.wh_types.specs.declared.want.Or.{Or}
 use Rattle.wh_types.specs.declared.want.Or.TheVariants.{NoMemory, Because}
 use Rattle.wh_io.specs.declared.read.ReadFault as read
 use Rattle.wh_io.specs.declared.read.ReadFault.TheVariants as faults
-use Rattle.wh_first.specs.SystemForm.{Said, ReadsFirst}
-use Rattle.wh_first.specs.CertificateForm.{Loop, ReadsLoop}
-use Rattle.wh_first.specs.Verdict.{IsLoop, IsFault}
+use Rattle.wh_system.specs.Systems.{SystemData}
+use Rattle.wh_read.specs.Reading.{Reads, Refuses}
+use Rattle.wh_cert.specs.Written.{Cert}
+use Rattle.wh_cert.specs.CertText.{CertText, FaultAt}
+use Rattle.wh_no.specs.Claim.{Claim}
+use Rattle.wh_no.specs.Meaning.{Says}
+use Rattle.wh_no.specs.Valid.{IsValid}
+use Rattle.wh_no.specs.Faults.{IsFirstFault}
 use Rattle.wh_top.specs.declared.outcome.Role.{Role}
 use Rattle.wh_top.specs.declared.outcome.Role.TheVariants.{System, Certificate}
+use Rattle.wh_top.specs.declared.outcome.Rejection.TheVariants.{Syntax, Condition}
 use Rattle.wh_top.specs.declared.outcome.Outcome.{Outcome}
-use Rattle.wh_top.specs.declared.outcome.Outcome.TheVariants.{No, Rejected, ReadFault, TooLong, Later}
+use Rattle.wh_top.specs.declared.outcome.Outcome.TheVariants.{No, Rejected, Refused, ReadFault, TooLong, Later}
 
 -- the outside of a run: what the shelf tells of each file's bytes, and each file's faults before and after the run
 pub record Shelves : Type 0 where
@@ -30,49 +36,59 @@ system_limit = 1048576
 abbrev pub certificate_limit : ℕ
 certificate_limit = 8388608
 
--- both files are within their limits
-abbrev pub Within : List ℕ → List ℕ → Type 0
-Within system cert = (length system ≤ system_limit) × (length cert ≤ certificate_limit)
+-- these are the bytes of the file, within the limit
+abbrev pub AreWithin : ℕ → List ℕ → List ℕ → Type 0
+AreWithin limit bytes held = (bytes ≡ held) × (length held ≤ limit)
 
--- the bytes are a system and a certificate of the first form, and P holds of what they say
-pub record Reading (system cert : List ℕ) (P : Said → Loop → Type 0) : Type 0 where
-  pub said : Said
-  pub loop : Loop
-  pub reads_system : ReadsFirst system said
-  pub reads_loop : ReadsLoop cert loop
-  pub holds : P said loop
+-- d is the system of which the file is a text, within its limit
+abbrev pub IsSystemIn : Option (List ℕ) → SystemData → Type 0
+IsSystemIn held d = Told held (λ bytes. (length bytes ≤ system_limit) × Reads bytes d)
 
--- one of the two is of no form that is built
-abbrev pub NotBuilt : List ℕ → List ℕ → Type 0
-NotBuilt system cert = ((s : Said) → ReadsFirst system s → ⊥) ⊎ ((c : Loop) → ReadsLoop cert c → ⊥)
+-- the file is a text of a system of which P holds
+abbrev pub ToldSystem : Option (List ℕ) → (SystemData → Type 0) → Type 0
+ToldSystem held P = Told held (λ bytes. (length bytes ≤ system_limit) × (d : SystemData) × Reads bytes d × P d)
 
--- what the bytes of the two files come to
-abbrev pub Judged : List ℕ → List ℕ → Outcome → Type 0
-Judged system cert No = Reading system cert IsLoop
-Judged system cert (Rejected fault) = Reading system cert (λ s c. IsFault s c fault)
-Judged system cert Later = NotBuilt system cert
-Judged system cert _ = ⊥
+-- the text begins with these bytes
+abbrev pub BeginsWith : List ℕ → List ℕ → Type 0
+BeginsWith front text = (rest : List ℕ) × (text ≡ front ++ rest)
 
--- what is said of the bytes of both files, where they are told
+-- the certificate's names make it a claim over the system, which is valid
+abbrev pub IsValidNo : SystemData → Cert → Type 0
+IsValidNo d c = (claim : Claim) × Says d c claim × IsValid d.symbols d.rules claim
+
+-- what the bytes of the certificate come to, for a system. Certificates that begin with `Y` are not built yet.
+abbrev pub Judged : SystemData → List ℕ → Outcome → Type 0
+Judged d bytes No = (c : Cert) × CertText bytes c × IsValidNo d c
+Judged d bytes (Rejected (Syntax at)) = (BeginsWith (89 ∷ []) bytes → ⊥) × FaultAt bytes at
+Judged d bytes (Rejected (Condition fault)) = (c : Cert) × CertText bytes c × IsFirstFault d c fault
+Judged d bytes Later = BeginsWith (89 ∷ []) bytes
+Judged d bytes _ = ⊥
+
+-- when the outcomes come that the system file alone decides: its fault, then its length, then why it is no system
+abbrev pub StandsBySystem : Shelves → List ℕ → Outcome → Type 0
+StandsBySystem s file (ReadFault System) = Rose (s.before file) (s.after file)
+StandsBySystem s file (TooLong System) = Told (s.held file) (λ bytes. system_limit < length bytes)
+StandsBySystem s file (Refused reason) = Told (s.held file) (λ bytes. (length bytes ≤ system_limit) × Refuses bytes reason)
+StandsBySystem s file _ = ⊥
+
+-- what is said of the certificate's bytes and a system, where the bytes of both files are told
 abbrev pub ToldBoth : Shelves → List ℕ → List ℕ → Outcome → Type 0
 ToldBoth s file cert o =
-    Told (s.held file) (λ system. Told (s.held cert) (λ certificate. Within system certificate × Judged system certificate o))
+    ToldSystem (s.held file) (λ d. Told (s.held cert) (λ bytes. (length bytes ≤ certificate_limit) × Judged d bytes o))
 
--- when the outcome comes, where the words name these two files. The system is read first: its fault and its length come
--- before those of the certificate, and both before what the bytes say.
+-- when the outcome of a check of these two files comes. All that the system file decides comes before the certificate's
+-- read fault, that before its length, and this before what its bytes come to.
 abbrev pub Stands : Shelves → List ℕ → List ℕ → Outcome → Type 0
-Stands s file cert (ReadFault System) = Rose (s.before file) (s.after file)
-Stands s file cert (TooLong System) = Told (s.held file) (λ system. system_limit < length system)
-Stands s file cert (ReadFault Certificate) =
-    Rose (s.before cert) (s.after cert) × Told (s.held file) (λ system. length system ≤ system_limit)
+Stands s file cert (ReadFault Certificate) = Rose (s.before cert) (s.after cert) × ToldSystem (s.held file) (λ d. Unit {0})
 Stands s file cert (TooLong Certificate) =
-    Told (s.held cert) (λ certificate. certificate_limit < length certificate) × Told (s.held file) (λ system. length system ≤ system_limit)
+    Told (s.held cert) (λ bytes. certificate_limit < length bytes) × ToldSystem (s.held file) (λ d. Unit {0})
 Stands s file cert No = ToldBoth s file cert No
-Stands s file cert (Rejected fault) = ToldBoth s file cert (Rejected fault)
+Stands s file cert (Rejected rejection) = ToldBoth s file cert (Rejected rejection)
 Stands s file cert Later = ToldBoth s file cert Later
+Stands s file cert o = StandsBySystem s file o
 
 -- the outcome that a file's read fault gives
-abbrev pub UnreadBy : Or read.ReadFault → Role → Outcome → Type 0
-UnreadBy NoMemory role o = ⊥
-UnreadBy (Because faults.Failed) role o = o ≡ ReadFault role
-UnreadBy (Because faults.TooLong) role o = o ≡ TooLong role
+abbrev pub UnreadBy : Or read.ReadFault → Role → Or Outcome → Type 0
+UnreadBy NoMemory role o = o ≡ NoMemory
+UnreadBy (Because faults.Failed) role o = o ≡ Because (ReadFault role)
+UnreadBy (Because faults.TooLong) role o = o ≡ Because (TooLong role)

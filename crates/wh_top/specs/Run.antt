@@ -2,47 +2,59 @@
 use Rattle.std.specs.Prelude.{ℕ, ◌≡◌, ◌⊎◌, List, ◌++◌, codes, Option}
 use Rattle.wh_io.specs.Outside.{Rose, Wrote}
 use Rattle.wh_io.specs.Writing.{WroteFront}
-use Rattle.wh_terms.specs.Tree.{fun}
 use Rattle.wh_step.specs.Reduction.{Unbounded}
-use Rattle.wh_first.specs.SystemForm.{Said, ReadsFirst, said_rules}
-use Rattle.wh_first.specs.CertificateForm.{Loop, ReadsLoop}
-use Rattle.wh_first.specs.Verdict.{IsTermOf}
+use Rattle.wh_system.specs.Systems.{SystemData}
+use Rattle.wh_read.specs.Reading.{Reads}
+use Rattle.wh_cert.specs.Written.{Cert}
+use Rattle.wh_cert.specs.CertText.{CertText}
+use Rattle.wh_no.specs.Claim.{Claim}
+use Rattle.wh_no.specs.Meaning.{Says}
 use Rattle.wh_top.specs.declared.status.Status.{Status}
-use Rattle.wh_top.specs.declared.status.Status.TheVariants.{BadWords, NoMemory, WriteFault}
+use Rattle.wh_top.specs.declared.status.Status.TheVariants.{Answered, BadWords, NoMemory, WriteFault}
 use Rattle.wh_top.specs.declared.outcome.Outcome.{Outcome}
-use Rattle.wh_top.specs.Words.{AsksCheck}
-use Rattle.wh_top.specs.Texts.{line, text_of, status_of}
-use Rattle.wh_top.specs.Outcomes.{Shelves, Stands}
+use Rattle.wh_top.specs.Words.{Request, check, show, Asks}
+use Rattle.wh_top.specs.Texts.{line, text_of, status_of, shown_text}
+use Rattle.wh_top.specs.Outcomes.{Shelves, BeginsWith, ToldSystem, StandsBySystem, Stands}
 
--- an outcome stands for these two files, and status and text are its own
-pub record Replies (s : Shelves) (file cert : List ℕ) (status : Status) (text : List ℕ) : Type 0 where
+-- P holds of an outcome, and status and text are its own
+pub record Tells (P : Outcome → Type 0) (status : Status) (text : List ℕ) : Type 0 where
   pub outcome : Outcome
-  pub stands : Stands s file cert outcome
+  pub stands : P outcome
   pub status_is : status ≡ status_of outcome
   pub text_is : text ≡ text_of outcome
 
--- the words ask for a check, and this is the reply
-pub record Checked (s : Shelves) (words : List (List ℕ)) (status : Status) (text : List ℕ) : Type 0 where
-  pub file : List ℕ
-  pub cert : List ℕ
-  pub asks : AsksCheck words file cert
-  pub reply : Replies s file cert status text
+-- the text shows the system in the file
+pub record Shows (s : Shelves) (file : List ℕ) (status : Status) (text : List ℕ) : Type 0 where
+  pub system : ToldSystem (s.held file) (λ d. text ≡ shown_text d)
+  pub begins : BeginsWith (line (codes "SYSTEM")) text
+  pub status_is : status ≡ Answered
+
+-- the reply to a request: of a check its outcome; for a system to be shown its text, or why there is none
+abbrev pub Replies : Shelves → Request → Status → List ℕ → Type 0
+Replies s (check file cert) status text = Tells (Stands s file cert) status text
+Replies s (show file) status text = Shows s file status text ⊎ Tells (StandsBySystem s file) status text
+
+-- the words ask for something, and this is the reply
+pub record Served (s : Shelves) (words : List (List ℕ)) (status : Status) (text : List ℕ) : Type 0 where
+  pub request : Request
+  pub asks : Asks words request
+  pub reply : Replies s request status text
 
 -- the words are none of the program's
 pub record Misspoken (words : List (List ℕ)) (status : Status) (text : List ℕ) : Type 0 where
-  pub none : (file cert : List ℕ) → AsksCheck words file cert → ⊥
+  pub none : (request : Request) → Asks words request → ⊥
   pub status_is : status ≡ BadWords
   pub text_is : text ≡ line (codes "BAD WORDS")
 
 -- there was no memory; of this alone nothing says when it comes, but that the words were good
 pub record Starved (words : List (List ℕ)) (status : Status) (text : List ℕ) : Type 0 where
-  pub asks : (file : List ℕ) × (cert : List ℕ) × AsksCheck words file cert
+  pub asks : (request : Request) × Asks words request
   pub status_is : status ≡ NoMemory
   pub text_is : text ≡ line (codes "OUT OF MEMORY")
 
 -- a run with these words answers with this status and this text
 abbrev pub Answers : Shelves → List (List ℕ) → Status → List ℕ → Type 0
-Answers s words status text = Checked s words status text ⊎ Misspoken words status text ⊎ Starved words status text
+Answers s words status text = Served s words status text ⊎ Misspoken words status text ⊎ Starved words status text
 
 -- all of the text was written, and the run ends with the status; or the sink's faults rose, a front part of the text was
 -- written, and the run ends with a write fault. Nothing else is written.
@@ -50,18 +62,14 @@ abbrev pub Ends : Option (List ℕ) → Option (List ℕ) → ℕ → ℕ → St
 Ends old new before now status text result =
     ((result ≡ status) × Wrote old new text × (now ≡ before)) ⊎ ((result ≡ WriteFault) × WroteFront old new text × Rose before now)
 
--- the output begins with these bytes
-abbrev pub BeginsWith : List ℕ → List ℕ → Type 0
-BeginsWith front output = (rest : List ℕ) × (output ≡ front ++ rest)
-
 -- what NO means of the bytes of the two files: the first is a text of one system, and the term of the certificate has
 -- reductions of every length by its rules and beta
 pub record MeansNo (system cert : List ℕ) : Type 0 where
-  pub said : Said
-  pub reads : ReadsFirst system said
-  pub one : (other : Said) → ReadsFirst system other → other ≡ said
-  pub loop : Loop
-  pub certified : ReadsLoop cert loop
-  pub term : ℕ
-  pub named : IsTermOf said loop term
-  pub unbounded : Unbounded (said_rules said) (fun term)
+  pub data_read : SystemData
+  pub reads : Reads system data_read
+  pub one : (other : SystemData) → Reads system other → other ≡ data_read
+  pub certificate : Cert
+  pub certified : CertText cert certificate
+  pub claim : Claim
+  pub claims : Says data_read certificate claim
+  pub unbounded : Unbounded data_read.rules claim.term

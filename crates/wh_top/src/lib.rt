@@ -1,8 +1,12 @@
-//! The program's one call: words in, one line and a status out.
+//! The program's one call: words in, one text and a status out.
 #![tactic(auto)]
 
+mod files;
+mod judging;
 mod outcome;
 mod program;
+#[cfg(test)]
+mod samples;
 mod status;
 #[cfg(test)]
 mod tests;

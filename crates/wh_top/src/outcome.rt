@@ -1,21 +1,13 @@
-//! What a run comes to, apart from writing it.
+//! What a run comes to, apart from the text of a system that is shown, and its line.
 
-ghost use Rattle.std.specs.Prelude.{◌≡◌, ◌≤◌, ℕ, List, IfOk, IfErr, length, string_bytes};
-ghost use Rattle.wh_top.specs.Texts.{role_word, text_of, status_of};
-ghost use Rattle.wh_top.specs.Outcomes.{Stands, Judged, UnreadBy};
-ghost use Rattle.wh_types.specs.declared.want.Or.TheVariants.{NoMemory};
+ghost use Rattle.std.specs.Prelude.{◌≡◌, IfOk, string_bytes};
+ghost use Rattle.wh_top.specs.Texts.{condition_text, reason_word, rejection_text, role_word, status_of, text_of};
 
 use crate::status::Status;
 use std::alloc::{AllocError, Global};
-use wh_first::{FirstFault, check_first, read_first_certificate, read_first_system};
-use wh_io::{ReadFault, Shelf, read_whole};
+use wh_no::NoFault;
+use wh_read::{Reason, Refused};
 use wh_types::Or;
-
-/// How many bytes a system file may have.
-const SYSTEM_LIMIT: u64 = 1_048_576;
-
-/// How many bytes a certificate file may have.
-const CERTIFICATE_LIMIT: u64 = 8_388_608;
 
 /// Which of the two files.
 #[derive(Clone, Copy, Debug, PartialEq, Eq)]
@@ -24,6 +16,46 @@ pub enum Role {
     System,
     /// The certificate file, the second one named.
     Certificate,
+}
+
+/// Why a certificate is rejected.
+#[derive(Clone, Copy, Debug, PartialEq, Eq)]
+pub enum Rejection {
+    /// The bytes are no certificate text, and no such text begins with more of them than `at`.
+    Syntax {
+        /// The place of the byte that can't stand there, or the length where the text ends too early.
+        at: u64,
+    },
+    /// The first condition that is false.
+    Condition(NoFault),
+}
+
+/// What a run comes to.
+#[derive(Clone, Copy, Debug, PartialEq, Eq)]
+pub enum Outcome {
+    /// The certificate is valid: its term has reductions of every length.
+    No,
+    /// The certificate is rejected.
+    Rejected(Rejection),
+    /// The system file is no text of a system.
+    Refused(Refused),
+    /// A file could not be read.
+    ReadFault(Role),
+    /// A file is longer than its limit.
+    TooLong(Role),
+    /// A form that is not built yet.
+    Later,
+}
+
+impl From<Outcome> for Or<Outcome> {
+    ghost use Rattle.std.specs.Prelude.{◌≡◌};
+    ghost use Rattle.wh_types.specs.declared.want.Or.TheVariants.{Because};
+
+    ghost from_gives = { λ outcome e. e ≡ Because outcome };
+
+    fn from(outcome: Outcome) -> Self {
+        Or::Because(outcome)
+    }
 }
 
 impl Role {
@@ -38,21 +70,6 @@ impl Role {
     }
 }
 
-/// What a check came to.
-#[derive(Clone, Copy, Debug, PartialEq, Eq)]
-pub enum Outcome {
-    /// The certificate is valid: its term has reductions of every length.
-    No,
-    /// The first condition of the certificate that fails.
-    Rejected(FirstFault),
-    /// A file could not be read.
-    ReadFault(Role),
-    /// A file is longer than its limit.
-    TooLong(Role),
-    /// A form that is not built yet.
-    Later,
-}
-
 impl Outcome {
     /// The status that a run with this outcome ends with.
     pub fn status(&self) -> Status
@@ -61,6 +78,7 @@ impl Outcome {
         match self {
             Outcome::No => Status::Answered,
             Outcome::Rejected(_) => Status::Rejected,
+            Outcome::Refused(_) => Status::Refused,
             Outcome::ReadFault(_) => Status::ReadFault,
             Outcome::TooLong(_) => Status::TooLong,
             Outcome::Later => Status::Later,
@@ -73,13 +91,15 @@ impl Outcome {
     {
         match self {
             Outcome::No => String::from_str(alloc, "NO\n"),
-            Outcome::Rejected(FirstFault::Term) => String::from_str(alloc, "REJECTED term\n"),
-            Outcome::Rejected(FirstFault::Step(index)) => {
-                let index = *index;
-                format!(in alloc; "REJECTED step {index}\n")
+            Outcome::Rejected(rejection) => {
+                let why = rejection_words(alloc, rejection)?;
+                let why = why.as_str();
+                format!(in alloc; "REJECTED {why}\n")
             }
-            Outcome::Rejected(FirstFault::NoInstance) => {
-                String::from_str(alloc, "REJECTED no-instance\n")
+            Outcome::Refused(refused) => {
+                let word = reason_text(&refused.reason);
+                let at = refused.at;
+                format!(in alloc; "REFUSED {word} {at}\n")
             }
             Outcome::ReadFault(role) => {
                 let word = role.word();
@@ -94,52 +114,59 @@ impl Outcome {
     }
 }
 
-/// Checks the certificate in the second file against the system in the first one.
-pub fn check_files<S: Shelf>(
-    alloc: Global,
-    shelf: &mut S,
-    file: &str,
-    cert: &str,
-) -> Result<Outcome, AllocError>
-    ensures stands { IfOk result (λ outcome. Stands (record { held = S.held shelf.old; before = S.faults shelf.old; after = S.faults shelf.new }) file.now cert.now outcome) }
-    ensures kept { (other : List ℕ) → S.held shelf.new other ≡ S.held shelf.old other }
+// What stands behind `REJECTED`.
+fn rejection_words(alloc: Global, rejection: &Rejection) -> Result<String, AllocError>
+    ensures { IfOk result (λ text. string_bytes text ≡ rejection_text rejection.now) }
 {
-    let system = match read_whole(alloc, shelf, file, SYSTEM_LIMIT) {
-        Ok(bytes) => bytes,
-        Err(fault) => return unread(fault, Role::System),
-    };
-    let certificate = match read_whole(alloc, shelf, cert, CERTIFICATE_LIMIT) {
-        Ok(bytes) => bytes,
-        Err(fault) => return unread(fault, Role::Certificate),
-    };
-    judge(alloc, system.as_slice(), certificate.as_slice())
-}
-
-/// The outcome where that file was not read.
-fn unread(fault: Or<ReadFault>, role: Role) -> Result<Outcome, AllocError>
-    ensures outcome { IfOk result (UnreadBy fault role) }
-    ensures none { IfErr result (λ _. fault ≡ NoMemory) }
-{
-    match fault {
-        Or::NoMemory => Err(AllocError),
-        Or::Because(ReadFault::Failed) => Ok(Outcome::ReadFault(role)),
-        Or::Because(ReadFault::TooLong) => Ok(Outcome::TooLong(role)),
+    match rejection {
+        Rejection::Syntax { at } => {
+            let at = *at;
+            format!(in alloc; "syntax {at}")
+        }
+        Rejection::Condition(fault) => condition_words(alloc, fault),
     }
 }
 
-/// What the bytes of the two files come to.
-fn judge(alloc: Global, system: &[u8], cert: &[u8]) -> Result<Outcome, AllocError>
-    requires { length cert.now ≤ 8388608 }
-    ensures { IfOk result (Judged system.now cert.now) }
+// The words of a condition that is false.
+fn condition_words(alloc: Global, fault: &NoFault) -> Result<String, AllocError>
+    ensures { IfOk result (λ text. string_bytes text ≡ condition_text fault.now) }
 {
-    let Some(system) = read_first_system(alloc, system)? else {
-        return Ok(Outcome::Later);
-    };
-    let Some(cert) = read_first_certificate(alloc, cert)? else {
-        return Ok(Outcome::Later);
-    };
-    match check_first(alloc, &system, &cert)? {
-        Ok(()) => Ok(Outcome::No),
-        Err(fault) => Ok(Outcome::Rejected(fault)),
+    match fault {
+        NoFault::NotATerm => String::from_str(alloc, "term"),
+        NoFault::NoStep => String::from_str(alloc, "no-step"),
+        NoFault::StepFails { index } => {
+            let index = *index;
+            format!(in alloc; "step {index}")
+        }
+        NoFault::TooBig { index } => {
+            let index = *index;
+            format!(in alloc; "too-big {index}")
+        }
+        NoFault::BadPut { index } => {
+            let index = *index;
+            format!(in alloc; "put {index}")
+        }
+        NoFault::NoInstance => String::from_str(alloc, "no-instance"),
+    }
+}
+
+// The word of a reason for refusing a system.
+fn reason_text(reason: &Reason) -> &'static str
+    ensures { result.now ≡ reason_word reason.now }
+{
+    match reason {
+        Reason::BadByte => "bad-byte",
+        Reason::BadNumber => "bad-number",
+        Reason::NameTooLong => "name-too-long",
+        Reason::Syntax => "syntax",
+        Reason::UnknownName => "unknown-name",
+        Reason::Twice => "twice",
+        Reason::IllTyped => "ill-typed",
+        Reason::NotPattern => "not-pattern",
+        Reason::OpenSide => "open-side",
+        Reason::NewMeta => "new-meta",
+        Reason::HeadNotFun => "head-not-function",
+        Reason::UnevenRules => "uneven-rules",
+        Reason::TooMany => "too-many",
     }
 }

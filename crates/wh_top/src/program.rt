@@ -1,15 +1,19 @@
 //! The program's one call.
 
 ghost use Rattle.std.specs.Prelude.{◌≡◌, ◌++◌, ℕ, List, Some, IfOk, map, codes, string_bytes};
-ghost use Rattle.wh_top.specs.Texts.{line};
-ghost use Rattle.wh_top.specs.Words.{AsksCheck};
-ghost use Rattle.wh_top.specs.Run.{Answers, Replies, Ends, BeginsWith, MeansNo};
+ghost use Rattle.wh_top.specs.Asked.{request};
+ghost use Rattle.wh_top.specs.Outcomes.{BeginsWith, Told};
+ghost use Rattle.wh_top.specs.Run.{Answers, Ends, MeansNo, Replies};
+ghost use Rattle.wh_top.specs.Texts.{line, status_of, text_of};
+ghost use Rattle.wh_top.specs.Words.{Asks, check};
 
-use crate::outcome::check_files;
+use crate::judging::{check_files, show_file};
+use crate::outcome::Outcome;
 use crate::status::Status;
-use crate::words::read_words;
+use crate::words::{Command, read_words};
 use std::alloc::{AllocError, Global};
 use wh_io::{Shelf, Sink, write_all_of};
+use wh_types::{Bytes, Or};
 
 /// Does what the words ask, reads files from the shelf and writes one text to the sink.
 ///
@@ -18,14 +22,14 @@ use wh_io::{Shelf, Sink, write_all_of};
 /// `headline` says what an output that begins with `NO` means.
 pub fn run<S: Shelf, K: Sink>(alloc: Global, words: &[String], shelf: &mut S, out: &mut K) -> Status
     ensures answer { (status : Status) × (text : List ℕ) × Answers (record { held = S.held shelf.old; before = S.faults shelf.old; after = S.faults shelf.new }) (map string_bytes words.now) status text × Ends (K.written out.old) (K.written out.new) (K.faults out.old) (K.faults out.new) status text result }
-    ensures headline { (before output file cert system certificate : List ℕ) → K.written out.old ≡ Some before → K.written out.new ≡ Some (before ++ output) → BeginsWith (codes "NO") output → AsksCheck (map string_bytes words.now) file cert → S.held shelf.old file ≡ Some system → S.held shelf.old cert ≡ Some certificate → MeansNo system certificate }
+    ensures headline { (before output : List ℕ) → K.written out.old ≡ Some before → K.written out.new ≡ Some (before ++ output) → BeginsWith (codes "NO") output → (file cert : List ℕ) × Asks (map string_bytes words.now) (check file cert) × Told (S.held shelf.old file) (λ system. Told (S.held shelf.old cert) (λ certificate. MeansNo system certificate)) }
     ensures kept { (other : List ℕ) → S.held shelf.new other ≡ S.held shelf.old other }
 {
-    let Some((file, cert)) = read_words(words) else {
-        return tell(out, Status::BadWords, "BAD WORDS\n");
+    let Some(command) = read_words(words) else {
+        return tell(out, Status::BadWords, b"BAD WORDS\n");
     };
-    match reply_to(alloc, shelf, file, cert) {
-        Ok(reply) => tell(out, reply.status, reply.text.as_str()),
+    match reply_to(alloc, shelf, &command) {
+        Ok(reply) => tell(out, reply.status, reply.text.as_slice()),
         Err(_) => report_no_memory(out),
     }
 }
@@ -34,39 +38,56 @@ pub fn run<S: Shelf, K: Sink>(alloc: Global, words: &[String], shelf: &mut S, ou
 pub fn report_no_memory<K: Sink>(out: &mut K) -> Status
     ensures { Ends (K.written out.old) (K.written out.new) (K.faults out.old) (K.faults out.new) Status.NoMemory (line (codes "OUT OF MEMORY")) result }
 {
-    tell(out, Status::NoMemory, "OUT OF MEMORY\n")
+    tell(out, Status::NoMemory, b"OUT OF MEMORY\n")
 }
 
 /// A status and the text that goes with it.
 #[derive(Drop)]
 struct Reply {
     status: Status,
-    text: String,
+    text: Bytes,
 }
 
-/// The reply to a check of the certificate in the second file against the system in the first one.
-fn reply_to<S: Shelf>(
-    alloc: Global,
-    shelf: &mut S,
-    file: &str,
-    cert: &str,
-) -> Result<Reply, AllocError>
-    ensures checked { IfOk result (λ reply. Replies (record { held = S.held shelf.old; before = S.faults shelf.old; after = S.faults shelf.new }) file.now cert.now reply.status (string_bytes reply.text)) }
+// The reply to a command.
+fn reply_to<S: Shelf>(alloc: Global, shelf: &mut S, command: &Command) -> Result<Reply, AllocError>
+    ensures served { IfOk result (λ reply. Replies (record { held = S.held shelf.old; before = S.faults shelf.old; after = S.faults shelf.new }) (request command.now) reply.status reply.text) }
     ensures kept { (other : List ℕ) → S.held shelf.new other ≡ S.held shelf.old other }
 {
-    let outcome = check_files(alloc, shelf, file, cert)?;
-    let text = outcome.text(alloc)?;
+    match command {
+        Command::Check { file, cert } => match check_files(alloc, shelf, file, cert) {
+            Ok(outcome) | Err(Or::Because(outcome)) => told(alloc, &outcome),
+            Err(Or::NoMemory) => Err(AllocError),
+        },
+        Command::Show { file } => match show_file(alloc, shelf, file) {
+            Ok(text) => Ok(Reply {
+                status: Status::Answered,
+                text,
+            }),
+            Err(Or::Because(outcome)) => told(alloc, &outcome),
+            Err(Or::NoMemory) => Err(AllocError),
+        },
+    }
+}
+
+// The reply that tells an outcome.
+fn told(alloc: Global, outcome: &Outcome) -> Result<Reply, AllocError>
+    ensures status { IfOk result (λ reply. reply.status ≡ status_of outcome.now) }
+    ensures text { IfOk result (λ reply. reply.text ≡ text_of outcome.now) }
+{
+    let line = outcome.text(alloc)?;
+    let mut text = Bytes::new(alloc)?;
+    text.append(line.as_bytes())?;
     Ok(Reply {
         status: outcome.status(),
         text,
     })
 }
 
-/// Writes the text, and gives the status or that of a write fault.
-fn tell<K: Sink>(out: &mut K, status: Status, text: &str) -> Status
+// Writes the text, and gives the status or that of a write fault.
+fn tell<K: Sink>(out: &mut K, status: Status, text: &[u8]) -> Status
     ensures { Ends (K.written out.old) (K.written out.new) (K.faults out.old) (K.faults out.new) status text.now result }
 {
-    match write_all_of(out, text.as_bytes()) {
+    match write_all_of(out, text) {
         Ok(()) => status,
         Err(_) => Status::WriteFault,
     }

@@ -1,5 +1,0 @@
-pub mod Names
-pub mod SystemForm
-pub mod CertificateForm
-pub mod Verdict
-pub mod Shown

@@ -1,0 +1,55 @@
+-- What comes of the two files, for all that is told of them.
+use Rattle.std.proofs.Common.{◌≡◌, ℕ, ◌≤◌, List, length, Option, Some, Result, Ok, Err, IsErrAnd, sym, ap, subst, ◌∙◌, arith}
+use Rattle.wh_types.specs.Outcome.{MatchOr}
+use Rattle.wh_types.specs.declared.want.Or.{Or}
+use Rattle.wh_types.specs.declared.want.Or.TheVariants.{NoMemory, Because}
+use Rattle.wh_io.specs.Outside.{Rose}
+use Rattle.wh_system.specs.Systems.{SystemData}
+use Rattle.wh_top.specs.declared.outcome.Role.TheVariants.{System, Certificate}
+use Rattle.wh_top.specs.declared.outcome.Outcome.{Outcome}
+use Rattle.wh_top.specs.declared.outcome.Outcome.TheVariants.{No, Rejected, Refused, ReadFault, TooLong, Later}
+use Rattle.wh_top.specs.Outcomes.{Shelves, Told, AreWithin, IsSystemIn, ToldSystem, Judged, Stands, certificate_limit}
+use Rattle.wh_top.specs.Unread.{CertificateFault}
+
+-- a cause that is handed on
+pub carry : {T U E : Type 0} (r : Result U (Or E)) (e : Or E) (P : T → Type 0) (Q Q' : E → Type 0) (P' : U → Type 0) → IsErrAnd r (λ x. x ≡ e) → MatchOr {T = T} (Err e) P Q → ((o : E) → Q o → Q' o) → MatchOr r P' Q'
+carry {T} {U} {E} (Ok x) e P Q Q' P' is h on = absurd is
+carry {T} {U} {E} (Err x) e P Q Q' P' is h on = subst (λ y. MatchOr {T = U} (Err y) P' Q') (sym is) (by e h)
+  where
+    by : (e : Or E) → MatchOr {T = T} (Err e) P Q → MatchOr {T = U} (Err e) P' Q'
+    by NoMemory h = tt
+    by (Because o) h = on o h
+
+-- the system in the file is one of which P holds
+pub told_with : (held : Option (List ℕ)) (d : SystemData) (P : SystemData → Type 0) → IsSystemIn held d → P d → ToldSystem held P
+told_with held d P is p bytes h = ((is bytes h).0, d, (is bytes h).1, p)
+
+rose_before : (before mid after : ℕ) → before ≤ mid → Rose mid after → Rose before after
+rose_before before mid after low rose = omega (arith, low, rose)
+
+-- a fault of the certificate file comes behind the system
+pub certificate_stands : (s : Shelves) (file cert : List ℕ) (d : SystemData) (held : Option (List ℕ)) (mid : ℕ) (o : Outcome) → IsSystemIn (s.held file) d → held ≡ s.held cert → s.before cert ≤ mid
+    → CertificateFault held mid (s.after cert) o → Stands s file cert o
+certificate_stands s file cert d held mid (ReadFault Certificate) is same low rose = (rose_before (s.before cert) mid (s.after cert) low rose, told_with (s.held file) d (λ _. Unit {0}) is tt)
+certificate_stands s file cert d held mid (ReadFault System) is same low h = absurd h
+certificate_stands s file cert d held mid (TooLong Certificate) is same low long = (λ bytes e. long bytes (same ∙ e), told_with (s.held file) d (λ _. Unit {0}) is tt)
+certificate_stands s file cert d held mid (TooLong System) is same low h = absurd h
+certificate_stands s file cert d held mid No is same low h = absurd h
+certificate_stands s file cert d held mid (Rejected r) is same low h = absurd h
+certificate_stands s file cert d held mid (Refused r) is same low h = absurd h
+certificate_stands s file cert d held mid Later is same low h = absurd h
+
+-- what the bytes of the certificate come to is told of its file
+pub judged_stands : (s : Shelves) (file cert : List ℕ) (d : SystemData) (bytes : List ℕ) (o : Outcome) → IsSystemIn (s.held file) d → Told (s.held cert) (AreWithin certificate_limit bytes) → Judged d bytes o → Stands s file cert o
+judged_stands s file cert d bytes o is of_cert judged = by o judged
+  where
+    both : (o : Outcome) → Judged d bytes o → ToldSystem (s.held file) (λ e. Told (s.held cert) (λ held. (length held ≤ certificate_limit) × Judged e held o))
+    both o j = told_with (s.held file) d (λ e. Told (s.held cert) (λ held. (length held ≤ certificate_limit) × Judged e held o)) is (λ held h. ((of_cert held h).1, subst (λ b. Judged d b o) (of_cert held h).0 j))
+
+    by : (o : Outcome) → Judged d bytes o → Stands s file cert o
+    by No j = both No j
+    by (Rejected r) j = both (Rejected r) j
+    by Later j = both Later j
+    by (Refused r) j = absurd j
+    by (ReadFault role) j = absurd j
+    by (TooLong role) j = absurd j

@@ -1,0 +1,72 @@
+//! Reading the two files: the system, and the bytes of the certificate.
+
+ghost use Rattle.std.specs.Prelude.{◌≡◌, ◌≤◌, ℕ, List, IfOk, length};
+ghost use Rattle.wh_types.specs.Outcome.{MatchOr};
+ghost use Rattle.wh_io.specs.Outside.{Rose};
+ghost use Rattle.wh_system.specs.SystemView.{system_data};
+ghost use Rattle.wh_top.specs.Outcomes.{AreWithin, IsSystemIn, StandsBySystem, Told, UnreadBy, certificate_limit};
+ghost use Rattle.wh_top.specs.Unread.{CertificateFault, RefusedBy};
+ghost use Rattle.wh_top.specs.declared.outcome.Outcome.TheVariants.{Refused as refused_outcome};
+ghost use Rattle.wh_types.specs.declared.want.Or.TheVariants.{NoMemory, Because};
+
+use crate::outcome::{Outcome, Role};
+use std::alloc::Global;
+use wh_io::{ReadFault, Shelf, read_whole};
+use wh_read::{Refused, read_system};
+use wh_system::System;
+use wh_types::{Bytes, Or};
+
+/// How many bytes a system file may have.
+const SYSTEM_LIMIT: u64 = 1_048_576;
+
+/// How many bytes a certificate file may have.
+const CERTIFICATE_LIMIT: u64 = 8_388_608;
+
+/// The system of which the file of that name is a text, or why there is none.
+pub fn system_in<S: Shelf>(alloc: Global, shelf: &mut S, file: &str) -> Result<System, Or<Outcome>>
+    ensures read { MatchOr result (λ system. IsSystemIn (S.held shelf.old file.now) (system_data system)) (StandsBySystem (record { held = S.held shelf.old; before = S.faults shelf.old; after = S.faults shelf.new }) file.now) }
+    ensures later { (other : List ℕ) → S.faults shelf.old other ≤ S.faults shelf.new other }
+    ensures kept { (other : List ℕ) → S.held shelf.new other ≡ S.held shelf.old other }
+{
+    match read_whole(alloc, shelf, file, SYSTEM_LIMIT) {
+        Ok(bytes) => read_system(alloc, bytes.as_slice()).map_err(refused),
+        Err(fault) => Err(unread(fault, Role::System)),
+    }
+}
+
+/// The bytes of the certificate file of that name, or why there are none.
+pub fn certificate_in<S: Shelf>(
+    alloc: Global,
+    shelf: &mut S,
+    cert: &str,
+) -> Result<Bytes, Or<Outcome>>
+    ensures read { MatchOr result (λ bytes. Told (S.held shelf.old cert.now) (AreWithin certificate_limit bytes)) (CertificateFault (S.held shelf.old cert.now) (S.faults shelf.old cert.now) (S.faults shelf.new cert.now)) }
+    ensures short { IfOk result (λ bytes. length bytes ≤ certificate_limit) }
+    ensures kept { (other : List ℕ) → S.held shelf.new other ≡ S.held shelf.old other }
+{
+    match read_whole(alloc, shelf, cert, CERTIFICATE_LIMIT) {
+        Ok(bytes) => Ok(bytes),
+        Err(fault) => Err(unread(fault, Role::Certificate)),
+    }
+}
+
+// The outcome where that file was not read.
+fn unread(fault: Or<ReadFault>, role: Role) -> Or<Outcome>
+    ensures { UnreadBy fault role result }
+{
+    match fault {
+        Or::NoMemory => Or::NoMemory,
+        Or::Because(ReadFault::Failed) => Or::Because(Outcome::ReadFault(role)),
+        Or::Because(ReadFault::TooLong) => Or::Because(Outcome::TooLong(role)),
+    }
+}
+
+// The outcome where a text is refused.
+fn refused(fault: Or<Refused>) -> Or<Outcome>
+    ensures { RefusedBy fault result }
+{
+    match fault {
+        Or::NoMemory => Or::NoMemory,
+        Or::Because(reason) => Or::Because(Outcome::Refused(reason)),
+    }
+}

@@ -1,0 +1,84 @@
+//! Judging a certificate for a system, and showing a system.
+
+ghost use Rattle.std.specs.Prelude.{◌≡◌, ◌≤◌, ℕ, List, IfOk, length, codes};
+ghost use Rattle.wh_types.specs.Outcome.{MatchOr};
+ghost use Rattle.wh_system.specs.SystemView.{system_data};
+ghost use Rattle.wh_top.specs.Outcomes.{BeginsWith, Judged, Stands, StandsBySystem, ToldSystem};
+ghost use Rattle.wh_top.specs.Texts.{line, shown_text};
+ghost use Rattle.wh_top.specs.Weighing.{Weighed};
+ghost use Rattle.wh_cert.specs.Limits.{IsCert};
+ghost use Rattle.wh_cert.specs.Said.{said};
+
+use crate::files::{certificate_in, system_in};
+use crate::outcome::{Outcome, Rejection};
+use std::alloc::{AllocError, Global};
+use wh_cert::{Certificate, read_certificate};
+use wh_io::Shelf;
+use wh_no::check_no;
+use wh_print::print_system;
+use wh_system::System;
+use wh_types::{Bytes, Or};
+
+/// Checks the certificate in the second file against the system in the first one. Both files are read.
+pub fn check_files<S: Shelf>(
+    alloc: Global,
+    shelf: &mut S,
+    file: &str,
+    cert: &str,
+) -> Result<Outcome, Or<Outcome>>
+    ensures stands { MatchOr result (Stands (record { held = S.held shelf.old; before = S.faults shelf.old; after = S.faults shelf.new }) file.now cert.now) (Stands (record { held = S.held shelf.old; before = S.faults shelf.old; after = S.faults shelf.new }) file.now cert.now) }
+    ensures kept { (other : List ℕ) → S.held shelf.new other ≡ S.held shelf.old other }
+{
+    let system = system_in(alloc, shelf, file)?;
+    let certificate = certificate_in(alloc, shelf, cert)?;
+    Ok(judge(alloc, &system, certificate.as_slice())?)
+}
+
+/// The text that shows the system in the file, or why there is none.
+pub fn show_file<S: Shelf>(alloc: Global, shelf: &mut S, file: &str) -> Result<Bytes, Or<Outcome>>
+    ensures shows { MatchOr result (λ text. ToldSystem (S.held shelf.old file.now) (λ d. text ≡ shown_text d)) (StandsBySystem (record { held = S.held shelf.old; before = S.faults shelf.old; after = S.faults shelf.new }) file.now) }
+    ensures begins { IfOk result (BeginsWith (line (codes "SYSTEM"))) }
+    ensures kept { (other : List ℕ) → S.held shelf.new other ≡ S.held shelf.old other }
+{
+    let system = system_in(alloc, shelf, file)?;
+    Ok(shown(alloc, &system)?)
+}
+
+// The text that shows the system.
+fn shown(alloc: Global, system: &System) -> Result<Bytes, AllocError>
+    ensures { IfOk result (λ text. text ≡ shown_text (system_data system.now)) }
+{
+    let mut text = Bytes::new(alloc)?;
+    text.append(b"SYSTEM\n")?;
+    let printed = print_system(alloc, system)?;
+    text.append(printed.as_slice())?;
+    Ok(text)
+}
+
+// What the bytes of the certificate come to.
+fn judge(alloc: Global, system: &System, bytes: &[u8]) -> Result<Outcome, AllocError>
+    requires { length bytes.now ≤ 8388608 }
+    ensures { IfOk result (Judged (system_data system.now) bytes.now) }
+{
+    if bytes.first() == Some(&b'Y') {
+        return Ok(Outcome::Later);
+    }
+    match read_certificate(alloc, bytes) {
+        Ok(certificate) => weigh(alloc, system, &certificate),
+        Err(Or::NoMemory) => Err(AllocError),
+        Err(Or::Because(fault)) => Ok(Outcome::Rejected(Rejection::Syntax { at: fault.at })),
+    }
+}
+
+// What a certificate that was read comes to.
+fn weigh(alloc: Global, system: &System, certificate: &Certificate) -> Result<Outcome, AllocError>
+    requires { IsCert (said certificate.now) }
+    ensures { IfOk result (Weighed (system_data system.now) (said certificate.now)) }
+{
+    let Certificate::No(no) = certificate;
+    match check_no(alloc, system, no) {
+        Ok(_) => Ok(Outcome::No),
+        Err(Or::NoMemory) => Err(AllocError),
+        Err(Or::Because(fault)) => Ok(Outcome::Rejected(Rejection::Condition(fault))),
+    }
+}
