@@ -1,0 +1,155 @@
+#!/usr/bin/env python3
+"""Time and peak memory of the built program on inputs of growing size.
+
+    bench/bench.py [--program PATH] [--only WORD]
+
+Makes its inputs in a temporary folder, runs the program on each three times, and prints the least time and the greatest
+memory. Sizes double from line to line, so a call that is linear takes about twice the time of the line above.
+"""
+import argparse
+import os
+import pathlib
+import tempfile
+import time
+
+HERE = pathlib.Path(__file__).resolve().parent
+PROGRAM = HERE.parent / "crates" / "wanda" / "out" / "wanda"
+
+
+def many_rules(symbols):
+    """A system with that many symbols and rules; about 1 MiB for 1,000."""
+    lines = ["sort nat;", "fun zero : nat;", "fun s : nat -> nat;"]
+    kept = symbols - 2
+    for i in range(kept):
+        lines.append(f"fun function_number_{i} : (nat -> nat) -> nat -> nat -> nat;")
+    for i in range(kept):
+        j = (i + 1) % kept
+        call = f"function_number_{j} (\\x:nat.F[x]) X Y"
+        body = call
+        for _ in range(18):
+            body = f"function_number_{j} (\\x:nat.F[s x]) (s X) ({body})"
+        lines.append(
+            f"rule {{F:[nat] nat, X:nat, Y:nat}} function_number_{i} (\\x:nat.F[x]) (s X) Y => {body};"
+        )
+    return "\n".join(lines) + "\n"
+
+
+def deep_sides(rules):
+    """Rules whose right sides stand in 400 parentheses."""
+    lines = ["sort o;", "fun a : o;", "fun f : o -> o;", "fun g : o -> o;"]
+    side = "((f " * 199 + "a" + "))" * 199
+    for _ in range(rules):
+        lines.append(f"rule {{X:o}} g X => {side};")
+    return "\n".join(lines) + "\n"
+
+
+def comments(bytes_wanted):
+    """A small system behind long comments."""
+    line = "# " + "x" * 997 + "\n"
+    return line * (bytes_wanted // len(line)) + "sort o;\nfun a : o;\n"
+
+
+def constants_loop(steps):
+    """A loop of two constants, gone round many times."""
+    system = "sort o;\nfun a : o;\nfun b : o;\nrule {} a => b;\nrule {} b => a;\n"
+    lines = ["NO 1", "term a"] + ["step 0 /", "step 1 /"] * (steps // 2) + ["at /", "end"]
+    return system, "\n".join(lines) + "\n"
+
+
+def sized_loop(steps, size):
+    """The same below that many symbols."""
+    system = "sort o;\nfun a : o;\nfun b : o;\nfun f : o -> o;\nrule {} a => b;\nrule {} b => a;\n"
+    depth = size // 2
+    term = "(f " * depth + "a" + ")" * depth
+    path = "/" + "1" * depth
+    lines = ["NO 1", f"term {term}"] + [f"step 0 {path}", f"step 1 {path}"] * (steps // 2) + ["at /", "end"]
+    return system, "\n".join(lines) + "\n"
+
+
+def binder_loop(steps):
+    """A loop of constants under a binder."""
+    system = "sort o;\nfun a : o;\nfun b : o;\nfun k : (o -> o) -> o;\nrule {} a => b;\nrule {} b => a;\n"
+    lines = ["NO 1", "term (k (\\$0:o.a))"] + ["step 0 /10", "step 1 /10"] * (steps // 2) + ["at /", "end"]
+    return system, "\n".join(lines) + "\n"
+
+
+def chain(symbols):
+    """Symbols that call each other in a ring: as many dependency pairs, one component."""
+    lines = ["sort nat;", "fun s : nat -> nat;"]
+    for i in range(symbols):
+        lines.append(f"fun f{i} : nat -> nat;")
+    for i in range(symbols):
+        lines.append(f"rule {{X:nat}} f{i} (s X) => f{(i + 1) % symbols} X;")
+    return "\n".join(lines) + "\n"
+
+
+def most_pairs():
+    """1,024 rules with four calls each: 4,096 pairs, as many as there may be."""
+    lines = ["sort nat;", "fun s : nat -> nat;", "fun c : nat -> nat -> nat -> nat -> nat;"]
+    symbols = 1020
+    for i in range(symbols):
+        lines.append(f"fun f{i} : nat -> nat;")
+    for i in range(1024):
+        calls = " ".join(f"(f{(i * 7 + k) % symbols} X)" for k in range(4))
+        nested = "(s X)" if i < symbols else "(s (s X))"
+        lines.append(f"rule {{X:nat}} f{i % symbols} {nested} => c {calls};")
+    return "\n".join(lines) + "\n"
+
+
+def run(program, words, folder):
+    """Least seconds and greatest megabytes of three runs, with the first line of the output."""
+    best, most, first = None, 0, ""
+    for _ in range(3):
+        out = os.open(folder / "out", os.O_CREAT | os.O_TRUNC | os.O_WRONLY)
+        began = time.perf_counter()
+        child = os.posix_spawn(program, [str(program)] + words, os.environ,
+                               file_actions=[(os.POSIX_SPAWN_DUP2, out, 1)])
+        _, _, usage = os.wait4(child, 0)
+        seconds = time.perf_counter() - began
+        os.close(out)
+        best = seconds if best is None else min(best, seconds)
+        most = max(most, usage.ru_maxrss / 1024)
+    with open(folder / "out", "rb") as written:
+        first = written.readline().decode("ascii", "replace").strip()
+    return best, most, first[:40]
+
+
+def main():
+    parser = argparse.ArgumentParser(description=__doc__)
+    parser.add_argument("--program", default=str(PROGRAM))
+    parser.add_argument("--only", default="")
+    given = parser.parse_args()
+    cases = []
+    for symbols in (125, 250, 500, 1000):
+        cases.append(("show many-rules", f"{symbols} rules", many_rules(symbols), None))
+    for rules in (40, 80, 160, 320):
+        cases.append(("show deep-sides", f"{rules} rules", deep_sides(rules), None))
+    for size in (131072, 262144, 524288, 1048000):
+        cases.append(("show comments", f"{size} bytes", comments(size), None))
+    for steps in (100000, 200000, 400000, 900000):
+        cases.append(("check constants", f"{steps} steps", *constants_loop(steps)))
+    for steps in (20000, 40000, 80000):
+        cases.append(("check size-50", f"{steps} steps", *sized_loop(steps, 50)))
+    for steps in (100000, 200000, 400000):
+        cases.append(("check binder", f"{steps} steps", *binder_loop(steps)))
+    for symbols in (125, 250, 500, 1000):
+        cases.append(("show chain", f"{symbols} pairs", chain(symbols), None))
+    cases.append(("show most-pairs", "4096 pairs", most_pairs(), None))
+    with tempfile.TemporaryDirectory() as name:
+        folder = pathlib.Path(name)
+        for what, size, system, certificate in cases:
+            if given.only not in what:
+                continue
+            (folder / "system").write_text(system)
+            words = ["show", str(folder / "system")]
+            length = len(system)
+            if certificate is not None:
+                (folder / "certificate").write_text(certificate)
+                words = ["check", str(folder / "system"), str(folder / "certificate")]
+                length = len(certificate)
+            seconds, megabytes, first = run(given.program, words, folder)
+            print(f"{what:16} {size:>14} {length:>9} bytes {seconds:8.3f} s {megabytes:7.1f} MB  {first}")
+
+
+if __name__ == "__main__":
+    main()
