@@ -164,6 +164,59 @@ fn judges_certificates(rt: HostRuntime) -> Result<(), Fail> {
     Ok(())
 }
 
+const GROWING: &[u8] =
+    b"sort o;fun a:o;fun d:o->o->o;fun f:o->o;fun k:(o->o)->o;rule {X:o} f X => f (d X X);";
+
+/// `before`, then `a` doubled 14 times by `d`, which has the size 65,533, then `after`.
+fn around_large(alloc: Global, before: &[u8], after: &[u8]) -> Result<Vec<u8>, AllocError> {
+    let mut term = Vec::from_slice(alloc, b"a".as_slice())?;
+    for _ in 0..14 {
+        let mut next = Vec::from_slice(alloc, b"(d ".as_slice())?;
+        next.extend_from_slice(term.as_slice())?;
+        next.push(b' ')?;
+        next.extend_from_slice(term.as_slice())?;
+        next.push(b')')?;
+        term = next;
+    }
+    let mut text = Vec::from_slice(alloc, before)?;
+    text.extend_from_slice(term.as_slice())?;
+    text.extend_from_slice(after)?;
+    Ok(text)
+}
+
+/// A certificate of that many steps of the rule of `GROWING` from `f a`.
+fn grown(alloc: Global, steps: usize) -> Result<Vec<u8>, AllocError> {
+    let mut text = Vec::from_slice(alloc, b"NO 1\nterm (f a)\n".as_slice())?;
+    for _ in 0..steps {
+        text.extend_from_slice(b"step 0 /\n".as_slice())?;
+    }
+    text.extend_from_slice(b"at /\nend\n".as_slice())?;
+    Ok(text)
+}
+
+#[test]
+fn keeps_the_limits_of_terms(rt: HostRuntime) -> Result<(), Fail> {
+    let alloc = rt.alloc();
+    let given = ["check", "system", "certificate"];
+    // Terms of the sizes 65,536 and 65,537; reductions to 65,535 and to 131,071.
+    for (certificate, text) in [
+        (
+            around_large(alloc, b"NO 1\nterm (k (\\$0:o.", b"))\nat /\nend\n")?,
+            b"REJECTED no-step\n".as_slice(),
+        ),
+        (
+            around_large(alloc, b"NO 1\nterm (f (f ", b"))\nat /\nend\n")?,
+            b"REJECTED term\n".as_slice(),
+        ),
+        (grown(alloc, 14)?, b"REJECTED no-instance\n".as_slice()),
+        (grown(alloc, 15)?, b"REJECTED too-big 14\n".as_slice()),
+    ] {
+        let (_, out) = told(alloc, &given, GROWING, certificate.as_slice())?;
+        assert_eq!(rt; out.bytes(), text);
+    }
+    Ok(())
+}
+
 #[test]
 fn shows_what_reads_back(rt: HostRuntime) -> Result<(), Fail> {
     let alloc = rt.alloc();
