@@ -1,0 +1,13 @@
+pub mod DemandLaws
+pub mod ReadingLemmas
+pub mod OccurrenceLemmas
+pub mod PlaceLemmas
+pub mod CheckLemmas
+pub mod MadeLemmas
+pub mod AskLemmas
+pub mod RelationLemmas
+pub mod SourceLemmas
+pub mod FindLemmas
+pub mod RankLemmas
+pub mod CauseLemmas
+pub mod Rows

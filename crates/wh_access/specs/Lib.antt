@@ -1,0 +1,8 @@
+pub mod Readings
+pub mod Passing
+pub mod Demands
+pub mod Told
+pub mod Tables
+pub mod Sources
+pub mod Found
+pub mod Samples

@@ -1,0 +1,121 @@
+//! Ranks under which a system is passing.
+
+ghost use Rattle.std.specs.Prelude.{◌≡◌, ◌≤◌, All, IfOk, length};
+ghost use Rattle.wh_access.specs.Found.{HasDemands, IsCause, IsCycleIn, IsUnread, MeetTold};
+ghost use Rattle.wh_access.specs.Passing.{AllRead, IsPassing};
+ghost use Rattle.wh_system.specs.SystemView.{system_data};
+ghost use Rattle.wh_types.specs.Outcome.{IfBecause, MatchOr};
+
+use crate::demands::{Demands, ask_rule};
+use crate::sources::{sources, strict_return, way_from};
+use std::alloc::Global;
+use wh_system::System;
+use wh_types::{Numbers, Or, Ranks};
+
+/// Why a system is passing under no ranks.
+#[derive(Drop)]
+pub enum NoRanks {
+    /// A meta-variable of a right side is not read in the left side.
+    Unread {
+        /// The rule, by its index.
+        rule: u32,
+        /// The meta-variable, by its number.
+        meta: u32,
+    },
+    /// Each is read, and demands lead from each of these sorts to the next and from the last to the first, at least one
+    /// of them a strict one.
+    Cycle(Numbers),
+}
+
+/// Ranks under which the system is passing, one for each sort and none above 65,535.
+///
+/// # Errors
+///
+/// `Unread` names the first rule, and in it the least meta-variable by number, whose right side uses what the left side
+/// is not read for. Where all is read, `Cycle` lists the sorts of a cycle of demands, each once, of which at least one is
+/// strict: no ranks meet these.
+pub fn find_ranks(alloc: Global, system: &System) -> Result<Ranks, Or<NoRanks>>
+    ensures passing { IfOk result (IsPassing (system_data system.now)) }
+    ensures each { IfOk result (λ ranks. length ranks ≡ (system_data system.now).symbols.sorts) }
+    ensures low { IfOk result (λ ranks. All (λ r. r ≤ 65535) ranks) }
+    ensures cause { IfBecause result (IsCause (system_data system.now)) }
+{
+    system.is_well_made();
+    let demands = demands_of(alloc, system)?;
+    Ok(ranks_for(alloc, &demands, system.signature().sorts)?)
+}
+
+// What the rules of the system demand.
+fn demands_of(alloc: Global, system: &System) -> Result<Demands, Or<NoRanks>>
+    ensures { MatchOr result (λ demands. AllRead (system_data system.now).rules × HasDemands (system_data system.now) demands) (IsUnread (system_data system.now).rules) }
+{
+    system.is_well_made();
+    let mut demands = Demands::new(alloc)?;
+    for (index, rule) in system.rules().iter().enumerate() {
+        if let Some(meta) = ask_rule(system.signature(), &mut demands, rule) {
+            return Err(Or::Because(NoRanks::Unread {
+                rule: index as u32,
+                meta,
+            }));
+        }
+    }
+    Ok(demands)
+}
+
+// Ranks that meet the demands, or a cycle of demands with a strict one: the rank of a sort is the number of the other
+// sorts from which demands lead to it.
+fn ranks_for(alloc: Global, demands: &Demands, sorts: u32) -> Result<Ranks, Or<NoRanks>>
+    requires { sorts ≤ 256 }
+    ensures { MatchOr result (MeetTold demands.now sorts) (IsCycleIn demands.now sorts) }
+{
+    let mut numbers = Vec::new(alloc);
+    for sort in 0..sorts {
+        let found = sources(alloc, demands, sorts, sort)?;
+        if let Some(start) = strict_return(demands, sort, &found) {
+            let way = way_from(alloc, &found, start)?;
+            return Err(Or::Because(NoRanks::Cycle(way)));
+        }
+        numbers.push(found.len() as u32 - 1)?;
+    }
+    Ok(Ranks::new(alloc, &numbers)?)
+}
+
+#[cfg(test)]
+mod tests {
+    use crate::demands::Demands;
+    use crate::find::{NoRanks, ranks_for};
+    use std::test::Fail;
+    use wh_types::Or;
+
+    #[test]
+    fn ranks_count_the_sorts_before(rt: HostRuntime) -> Result<(), Fail> {
+        let alloc = rt.alloc();
+        let mut demands = Demands::new(alloc)?;
+        demands.add(2, 2, false);
+        demands.add(2, 0, true);
+        demands.add(0, 1, false);
+        demands.add(1, 0, false);
+        match ranks_for(alloc, &demands, 3) {
+            Ok(ranks) => assert_eq!(rt; (ranks.of(0), ranks.of(1), ranks.of(2)), (2, 2, 0)),
+            Err(_) => panic!(rt; "no ranks"),
+        }
+        Ok(())
+    }
+
+    #[test]
+    fn a_strict_demand_back_is_a_cycle(rt: HostRuntime) -> Result<(), Fail> {
+        let alloc = rt.alloc();
+        let mut demands = Demands::new(alloc)?;
+        demands.add(1, 2, true);
+        demands.add(2, 3, false);
+        demands.add(3, 1, false);
+        demands.add(0, 1, true);
+        match ranks_for(alloc, &demands, 4) {
+            Err(Or::Because(NoRanks::Cycle(sorts))) => {
+                assert_eq!(rt; sorts.as_slice(), [2, 3, 1].as_slice());
+            }
+            _ => panic!(rt; "no cycle"),
+        }
+        Ok(())
+    }
+}

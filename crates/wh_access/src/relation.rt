@@ -1,0 +1,47 @@
+//! Relations between sorts, as tables.
+
+ghost use Rattle.std.specs.Prelude.{◌≡◌, length};
+
+use std::alloc::{AllocError, Global};
+
+// There are at most so many sorts.
+const SORTS: usize = 256;
+
+/// A relation between sorts.
+#[derive(Drop)]
+pub struct Relation {
+    held: Vec<bool>,
+    ghost full: { length held.items ≡ 65536 },
+}
+
+impl Relation {
+    ghost use Rattle.std.specs.Prelude.{◌≡◌, ◌↔◌, ◌⊎◌, ◌<◌, ℕ, IfOk, IsTrue};
+    ghost use Rattle.wh_access.specs.Tables.{relates};
+
+    /// The relation that relates nothing.
+    pub fn new(alloc: Global) -> Result<Self, AllocError>
+        ensures { IfOk result (λ relation. (s t : ℕ) → s < 256 → t < 256 → IsTrue (relates relation s t) → ⊥) }
+    {
+        Ok(Relation {
+            held: vec![in alloc; false; SORTS * SORTS]?,
+        })
+    }
+
+    /// The one sort becomes related to the other.
+    pub fn insert(&mut self, from: u32, to: u32)
+        requires from { from < 256 }
+        requires to { to < 256 }
+        ensures { (s t : ℕ) → s < 256 → t < 256 → IsTrue (relates self.new s t) ↔ (IsTrue (relates self.old s t) ⊎ ((s ≡ from) × (t ≡ to))) }
+    {
+        self.held[from as usize * SORTS + to as usize] = true;
+    }
+
+    /// Whether the one sort is related to the other.
+    pub fn holds(&self, from: u32, to: u32) -> bool
+        requires from { from < 256 }
+        requires to { to < 256 }
+        ensures { result ≡ relates self.now from to }
+    {
+        self.held[from as usize * SORTS + to as usize]
+    }
+}

@@ -1,0 +1,14 @@
+pub mod NeedLemmas
+pub mod RootLemmas
+pub mod ClashLemmas
+pub mod ListLemmas
+pub mod OrderLemmas
+pub mod LeastLemmas
+pub mod TimesLemmas
+pub mod EdgeLemmas
+pub mod FollowLemmas
+pub mod PushLemmas
+pub mod WalkLemmas
+pub mod ClassLemmas
+pub mod TableLemmas
+pub mod ComponentLemmas

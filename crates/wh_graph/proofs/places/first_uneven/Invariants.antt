@@ -1,0 +1,6 @@
+use Rattle.wh_graph.specs.Times.{IsUneven}
+use Rattle.wh_graph.proofs.ListLemmas.{Before}
+use Rattle.wh_graph.proofs.places.first_uneven.Given as goal
+
+abbrev pub invariant-loop-number : goal.invariant-loop-number
+invariant-loop-number l = (Before (λ n. IsUneven l.set l.blocks n → ⊥) l.set l.number-index)

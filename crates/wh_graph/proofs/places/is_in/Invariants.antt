@@ -1,0 +1,6 @@
+use Rattle.std.proofs.Common.{◌≡◌}
+use Rattle.wh_graph.proofs.ListLemmas.{Before}
+use Rattle.wh_graph.proofs.places.is_in.Given as goal
+
+abbrev pub invariant-loop-item : goal.invariant-loop-item
+invariant-loop-item l = (Before (λ n. n ≡ l.number → ⊥) l.list l.item-index)

@@ -1,0 +1,10 @@
+pub mod Rigid
+pub mod Clash
+pub mod May
+pub mod Components
+pub mod Blocks
+pub mod Least
+pub mod Times
+pub mod Tables
+pub mod Walks
+pub mod Classes

@@ -1,0 +1,35 @@
+-- How often a number is listed.
+use Rattle.std.specs.Prelude.{ℕ, ◌<◌, ◌≡◌, ◌⊎◌, List, Some, Contains, slice_get}
+use Rattle.wh_graph.specs.Components.{StandsAt}
+use Rattle.wh_graph.specs.Blocks.{IsListed, IsRepeated}
+use Rattle.wh_graph.specs.declared.places.Times.{Times}
+use Rattle.wh_graph.specs.declared.places.Times.TheVariants.{Never, Once, Often}
+
+abbrev pub plus : Times → Times → Times
+plus Never b = b
+plus a Never = a
+plus a b = Often
+
+-- `TimesIn list n i t`: how often the number n stands before place i of the list
+abbrev pub TimesIn : List ℕ → ℕ → ℕ → Times → Type 0
+TimesIn list n i Never = (k : ℕ) → k < i → slice_get list k ≡ Some n → ⊥
+TimesIn list n i Once = (k : ℕ) × (k < i) × (slice_get list k ≡ Some n) × ((j : ℕ) → j < i → slice_get list j ≡ Some n → j ≡ k)
+TimesIn list n i Often = (j k : ℕ) × (j < k) × (slice_get list j ≡ Some n) × (slice_get list k ≡ Some n)
+
+-- `TimesListed blocks n i t`: how often the number n stands in the blocks before block i
+abbrev pub TimesListed : List (List ℕ) → ℕ → ℕ → Times → Type 0
+TimesListed blocks n i Never = (j k : ℕ) → j < i → StandsAt blocks j k n → ⊥
+TimesListed blocks n i Once = (j k : ℕ) × (j < i) × StandsAt blocks j k n × ((l m : ℕ) → l < i → StandsAt blocks l m n → (l ≡ j) × (m ≡ k))
+TimesListed blocks n i Often = IsRepeated blocks n
+
+-- the number is in the list and not in the set
+abbrev pub IsStrayIn : List ℕ → List ℕ → ℕ → Type 0
+IsStrayIn set list n = Contains list n × (Contains set n → ⊥)
+
+-- the number is listed and not in the set
+abbrev pub IsStray : List ℕ → List (List ℕ) → ℕ → Type 0
+IsStray set blocks n = IsListed blocks n × (Contains set n → ⊥)
+
+-- the number is in the set and not listed, or listed more than once
+abbrev pub IsUneven : List ℕ → List (List ℕ) → ℕ → Type 0
+IsUneven set blocks n = Contains set n × (IsRepeated blocks n ⊎ (IsListed blocks n → ⊥))

@@ -1,0 +1,18 @@
+//! The graph of dependency pairs: which pair may follow which, its components, and the blocks of a proof node.
+#![tactic(auto)]
+
+mod back_edges;
+mod blocks;
+mod clash;
+mod classes;
+mod component;
+mod follow;
+mod least;
+mod places;
+mod root;
+mod table;
+mod walk;
+
+pub use blocks::{BlockFault, check_blocks};
+pub use component::components;
+pub use follow::may_follow;

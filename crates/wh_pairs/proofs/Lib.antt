@@ -1,0 +1,15 @@
+pub mod Rows
+pub mod SubsumptionLaws
+pub mod ListLemmas
+pub mod FreedLemmas
+pub mod SpineLemmas
+pub mod ConditionLemmas
+pub mod CallLemmas
+pub mod CandidateLemmas
+pub mod AlikeLemmas
+pub mod MemberLemmas
+pub mod RetainLemmas
+pub mod RuleLemmas
+pub mod KnownLemmas
+pub mod Decisions
+pub mod OrderLaws

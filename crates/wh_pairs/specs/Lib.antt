@@ -1,0 +1,9 @@
+pub mod Spines
+pub mod Conditions
+pub mod Calls
+pub mod Candidates
+pub mod Subsumption
+pub mod Views
+pub mod Known
+pub mod Survivors
+pub mod Parts

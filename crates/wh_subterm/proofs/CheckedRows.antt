@@ -1,0 +1,17 @@
+-- What a check of a projection answers.
+use Rattle.std.proofs.Common.{◌≡◌, ℕ, List, Result, map, MatchResult, subst}
+use Rattle.wh_terms.specs.Rules.{RewriteRule}
+use Rattle.wh_system.specs.PairData.{pair_data}
+use Rattle.wh_system.specs.declared.pairs.Pair as pair
+use Rattle.wh_subterm.specs.declared.projection.Choice as code
+use Rattle.wh_subterm.specs.declared.projection.SubtermFault.{SubtermFault}
+use Rattle.wh_subterm.specs.SubtermRows.{IsFirstSubtermFault, IsProjection, chosen}
+
+abbrev pub Checked : List RewriteRule → List pair.Pair → List ℕ → List code.Choice → List ℕ → Result (Unit {0}) SubtermFault → Type 0
+Checked rules pairs set args drop r = MatchResult r (λ _. IsProjection rules (map pair_data pairs) set (map chosen args) drop) (IsFirstSubtermFault rules (map pair_data pairs) set (map chosen args) drop)
+
+-- the same lists under other names
+pub checked_same : (rules : List RewriteRule) (ps qs : List pair.Pair) (ms ns : List ℕ) (cs ds : List code.Choice) (drop : List ℕ) (r : Result (Unit {0}) SubtermFault) → ps ≡ qs → ms ≡ ns → cs ≡ ds
+    → Checked rules ps ms cs drop r → Checked rules qs ns ds drop r
+checked_same rules ps qs ms ns cs ds drop r p m c checked =
+    subst (λ bs. Checked rules qs ns bs drop r) c (subst (λ ks. Checked rules qs ks cs drop r) m (subst (λ us. Checked rules us ms cs drop r) p checked))

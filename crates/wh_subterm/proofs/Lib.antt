@@ -1,0 +1,9 @@
+pub mod NeedLemmas
+pub mod ListLemmas
+pub mod OrderLemmas
+pub mod PartLemmas
+pub mod SeenLemmas
+pub mod ChoiceLemmas
+pub mod ProjectionLemmas
+pub mod DropLemmas
+pub mod CheckedRows

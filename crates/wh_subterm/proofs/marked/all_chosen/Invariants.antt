@@ -1,0 +1,9 @@
+use Rattle.std.proofs.Common.{map, ℕ, Contains}
+use Rattle.wh_system.specs.PairData.{pair_data}
+use Rattle.wh_subterm.specs.Marked.{Heads}
+use Rattle.wh_subterm.specs.SubtermRows.{chosen, chosen_symbols}
+use Rattle.wh_subterm.proofs.ListLemmas.{Before}
+use Rattle.wh_subterm.proofs.marked.all_chosen.Given as goal
+
+abbrev pub invariant-loop-number : goal.invariant-loop-number
+invariant-loop-number l = (Before (λ n. (f : ℕ) → Heads (map pair_data l.pairs) f n → Contains (chosen_symbols (map chosen l.args)) f) l.set l.number-index)

@@ -1,0 +1,9 @@
+use Rattle.std.proofs.Common.{map}
+use Rattle.wh_system.specs.PairData.{pair_data}
+use Rattle.wh_subterm.specs.Marked.{IsMarked}
+use Rattle.wh_subterm.specs.SubtermRows.{chosen, chosen_symbols}
+use Rattle.wh_subterm.proofs.ListLemmas.{Before}
+use Rattle.wh_subterm.proofs.marked.all_marked.Given as goal
+
+abbrev pub invariant-loop-choice : goal.invariant-loop-choice
+invariant-loop-choice l = (Before (λ f. IsMarked (map pair_data l.pairs) l.set f) (chosen_symbols (map chosen l.args)) l.choice-index)

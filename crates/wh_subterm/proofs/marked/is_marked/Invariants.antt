@@ -1,0 +1,8 @@
+use Rattle.std.proofs.Common.{map}
+use Rattle.wh_system.specs.PairData.{pair_data}
+use Rattle.wh_subterm.specs.Marked.{Heads}
+use Rattle.wh_subterm.proofs.ListLemmas.{Before}
+use Rattle.wh_subterm.proofs.marked.is_marked.Given as goal
+
+abbrev pub invariant-loop-number : goal.invariant-loop-number
+invariant-loop-number l = (Before (λ n. Heads (map pair_data l.pairs) l.symbol n → ⊥) l.set l.number-index)

@@ -1,0 +1,78 @@
+-- What can be wrong with the projection and the drop list of a proof node, and what comes first.
+use Rattle.std.specs.Prelude.{ℕ, ◌<◌, ◌≤◌, ◌≡◌, ◌⊎◌, List, [], Some, map, All, Contains, slice_get}
+use Rattle.wh_terms.specs.Rules.{RewriteRule}
+use Rattle.wh_system.specs.Needs.{need_of}
+use Rattle.wh_system.specs.PairData.{PairData}
+use Rattle.wh_subterm.specs.Marked.{AreMarked}
+use Rattle.wh_subterm.specs.Projections.{Chosen, Equal, Below}
+use Rattle.wh_subterm.specs.declared.projection.Choice as code
+use Rattle.wh_subterm.specs.declared.projection.SubtermFault.{SubtermFault}
+use Rattle.wh_subterm.specs.declared.projection.SubtermFault.TheVariants.{BadArgs, NoProjection, BadArgument, BadDrop, NotDecreasing}
+
+-- what a `Choice` stands for
+abbrev pub chosen : code.Choice → Chosen
+chosen c = record { symbol = c.symbol; argument = c.argument }
+
+abbrev pub chosen_symbols : List Chosen → List ℕ
+chosen_symbols = map (λ c. c.symbol)
+
+-- the choices are for the marked symbols of the set
+abbrev pub AreForMarked : List PairData → List ℕ → List Chosen → Type 0
+AreForMarked pairs set args = AreMarked pairs set (chosen_symbols args)
+
+-- the symbol has rules that need no argument
+abbrev pub HasNone : List RewriteRule → Chosen → Type 0
+HasNone rules c = need_of rules c.symbol ≡ Some 0
+
+-- the number is that of an argument which the rules of the symbol need
+abbrev pub IsPlace : List RewriteRule → Chosen → Type 0
+IsPlace rules c = (need : ℕ) × (need_of rules c.symbol ≡ Some need) × (0 < c.argument) × (c.argument ≤ need)
+
+-- the number stands at two places of the list
+abbrev pub StandsTwice : List ℕ → ℕ → Type 0
+StandsTwice list n = (i j : ℕ) × (i < j) × (slice_get list i ≡ Some n) × (slice_get list j ≡ Some n)
+
+-- some number of the list is not in the set
+abbrev pub HasStray : List ℕ → List ℕ → Type 0
+HasStray set drop = (n : ℕ) × Contains drop n × (Contains set n → ⊥)
+
+-- the list is empty, has a number twice, or has one that is not in the set
+abbrev pub IsBadDrop : List ℕ → List ℕ → Type 0
+IsBadDrop set drop = (drop ≡ []) ⊎ ((n : ℕ) × StandsTwice drop n) ⊎ HasStray set drop
+
+-- the pair with the number is neither equal nor below, or it is dropped and not below
+abbrev pub IsNotDecreasing : List PairData → List Chosen → List ℕ → ℕ → Type 0
+IsNotDecreasing pairs args drop n =
+    (a : PairData) × (slice_get pairs n ≡ Some a)
+    × (((Equal args a ⊎ Below args a) → ⊥) ⊎ (Contains drop n × (Below args a → ⊥)))
+
+-- P holds of no choice
+abbrev pub NoneIs : (Chosen → Type 0) → List Chosen → Type 0
+NoneIs P args = (c : Chosen) → Contains args c → P c → ⊥
+
+-- the number f is the symbol of the first choice that P holds of
+abbrev pub IsFirstOf : (Chosen → Type 0) → List Chosen → ℕ → Type 0
+IsFirstOf P args f =
+    (i : ℕ) × (c : Chosen) × (slice_get args i ≡ Some c) × (c.symbol ≡ f) × P c
+    × ((j : ℕ) (d : Chosen) → j < i → slice_get args j ≡ Some d → P d → ⊥)
+
+-- nothing is wrong (ours)
+pub record IsProjection (rules : List RewriteRule) (pairs : List PairData) (set : List ℕ) (args : List Chosen) (drop : List ℕ) : Type 0 where
+  pub marked : AreForMarked pairs set args
+  pub projected : NoneIs (HasNone rules) args
+  pub places : All (IsPlace rules) args
+  pub dropped : IsBadDrop set drop → ⊥
+  pub decreasing : (n : ℕ) → Contains set n → IsNotDecreasing pairs args drop n → ⊥
+
+-- the first thing wrong, in this order (ours)
+abbrev pub IsFirstSubtermFault : List RewriteRule → List PairData → List ℕ → List Chosen → List ℕ → SubtermFault → Type 0
+IsFirstSubtermFault rules pairs set args drop BadArgs = AreForMarked pairs set args → ⊥
+IsFirstSubtermFault rules pairs set args drop (NoProjection f) = AreForMarked pairs set args × IsFirstOf (HasNone rules) args f
+IsFirstSubtermFault rules pairs set args drop (BadArgument f) =
+    AreForMarked pairs set args × NoneIs (HasNone rules) args × IsFirstOf (λ c. IsPlace rules c → ⊥) args f
+IsFirstSubtermFault rules pairs set args drop BadDrop =
+    AreForMarked pairs set args × All (IsPlace rules) args × IsBadDrop set drop
+IsFirstSubtermFault rules pairs set args drop (NotDecreasing n) =
+    AreForMarked pairs set args × All (IsPlace rules) args × (IsBadDrop set drop → ⊥)
+    × Contains set n × IsNotDecreasing pairs args drop n
+    × ((m : ℕ) → m < n → Contains set m → IsNotDecreasing pairs args drop m → ⊥)
