@@ -3,7 +3,7 @@ use Rattle.std.proofs.Common.{◌≡◌, ℕ, zero, suc, List, ◌⊎◌, inl, i
 use Rattle.wh_terms.specs.Tree.{Tm, bound, free, fun, meta, lam, app, head, argument_count}
 use Rattle.wh_terms.specs.Rules.{RewriteRule}
 use Rattle.wh_system.specs.Needs.{need_of}
-use Rattle.wh_graph.specs.Rigid.{Root, abstraction, variable, symbol, root, root_at, Lacks, IsFixed, Rigid, SameRoot, IsAbstraction, IsNamed, SameNames}
+use Rattle.wh_graph.specs.Rigid.{Root, abstraction, variable, symbol, root, root_at, TooFew, IsFixed, Rigid, SameRoot, IsAbstraction, IsNamed, SameNames}
 
 -- a root is that of an abstraction or of a name with arguments
 
@@ -109,10 +109,10 @@ rigid_abstraction rules t is = (abstraction, abstraction_root t is, tt)
 pub rigid_variable : (rules : List RewriteRule) (t : Tm) (i : ℕ) → head t ≡ bound i → Rigid rules t
 rigid_variable rules t i e = (variable i (argument_count t), ap (λ h. root_at h (argument_count t)) e, tt)
 
-pub rigid_symbol : (rules : List RewriteRule) (t : Tm) (f : ℕ) → head t ≡ fun f → Lacks (need_of rules f) (argument_count t) → Rigid rules t
+pub rigid_symbol : (rules : List RewriteRule) (t : Tm) (f : ℕ) → head t ≡ fun f → TooFew (need_of rules f) (argument_count t) → Rigid rules t
 rigid_symbol rules t f e lacks = (symbol f (argument_count t), ap (λ h. root_at h (argument_count t)) e, lacks)
 
-pub symbol_lacks : (rules : List RewriteRule) (t : Tm) (f : ℕ) → head t ≡ fun f → Rigid rules t → Lacks (need_of rules f) (argument_count t)
+pub symbol_lacks : (rules : List RewriteRule) (t : Tm) (f : ℕ) → head t ≡ fun f → Rigid rules t → TooFew (need_of rules f) (argument_count t)
 symbol_lacks rules t f e (r, d, fixed) =
     let one : symbol f (argument_count t) ≡ r = cc (d, ap (λ h. root_at h (argument_count t)) e) in
     subst (IsFixed rules) (sym one) fixed

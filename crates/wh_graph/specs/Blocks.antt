@@ -1,6 +1,6 @@
 -- What can be wrong with the blocks of a proof node, and what comes first.
-use Rattle.std.specs.Prelude.{ℕ, ◌<◌, ◌≡◌, ◌⊎◌, List, [], length, Contains}
-use Rattle.wh_graph.specs.Components.{StandsAt, IsIn}
+use Rattle.std.specs.Prelude.{ℕ, ◌<◌, ◌≤◌, ◌≡◌, ◌⊎◌, List, [], length, Contains}
+use Rattle.wh_graph.specs.Components.{StandsAt, IsIn, Partition}
 use Rattle.wh_graph.specs.declared.blocks.BlockFault.{BlockFault}
 use Rattle.wh_graph.specs.declared.blocks.BlockFault.TheVariants.{FewBlocks, NotPartition, BackEdge}
 
@@ -31,9 +31,14 @@ IsFirstBackEdge E blocks a b =
 
 -- nothing is wrong (ours)
 pub record AreBlocks (E : ℕ → ℕ → Type 0) (set : List ℕ) (blocks : List (List ℕ)) : Type 0 where
-  pub enough : AreFew blocks → ⊥
-  pub partition : (n : ℕ) → IsMisplaced set blocks n → ⊥
-  pub ordered : (a b : ℕ) → IsBackEdge E blocks a b → ⊥
+  -- there are at least two blocks
+  pub enough : 2 ≤ length blocks
+  -- none is empty
+  pub filled : Contains blocks [] → ⊥
+  -- they partition the set
+  pub partition : Partition set blocks
+  -- no number of an earlier block may follow one of a later block
+  pub ordered : (i j a b : ℕ) → i < j → IsIn blocks j a → IsIn blocks i b → E a b → ⊥
 
 -- the first thing wrong, in this order: too few blocks; the least misplaced number; the first back edge (ours)
 abbrev pub IsFirstBlockFault : (ℕ → ℕ → Type 0) → List ℕ → List (List ℕ) → BlockFault → Type 0

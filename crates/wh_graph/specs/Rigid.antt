@@ -19,19 +19,20 @@ root_at (bound i) n = Some (variable i n)
 root_at (fun f) n = Some (symbol f n)
 root_at _ _ = None
 
+-- the root of a meta-term
 abbrev pub root : Tm → Option Root
 root t = root_at (head t) (argument_count t)
 
--- the rules do not apply with so many arguments: there are none, or they need more
-abbrev pub Lacks : Option ℕ → ℕ → Type 0
-Lacks None n = Unit {0}
-Lacks (Some need) n = n < need
+-- for the rules, of which those of one symbol need as many arguments, n are too few; where there are no rules, any number is
+abbrev pub TooFew : Option ℕ → ℕ → Type 0
+TooFew None n = Unit {0}
+TooFew (Some need) n = n < need
 
 -- a symbol is fixed where its rules do not apply, an abstraction and a bound variable always
 abbrev pub IsFixed : List RewriteRule → Root → Type 0
 IsFixed rules abstraction = Unit {0}
 IsFixed rules (variable i n) = Unit {0}
-IsFixed rules (symbol f n) = Lacks (need_of rules f) n
+IsFixed rules (symbol f n) = TooFew (need_of rules f) n
 
 -- a meta-term is rigid if it is an abstraction without arguments, or a spine headed by a bound variable, by a symbol
 -- without rules or by a symbol with fewer arguments than its rules need (Fuhs and Kop 2019; the profile is ours)

@@ -5,6 +5,7 @@ use Rattle.wh_graph.specs.Blocks.{IsListed, IsRepeated}
 use Rattle.wh_graph.specs.declared.places.Times.{Times}
 use Rattle.wh_graph.specs.declared.places.Times.TheVariants.{Never, Once, Often}
 
+-- the two together
 abbrev pub plus : Times → Times → Times
 plus Never b = b
 plus a Never = a

@@ -1,7 +1,7 @@
 //! A walk of the graph in depth, and the order in which it leaves the vertices.
 //!
 //! The walk keeps its own stack, a path in the graph. Each vertex is found once and left once, so a row of the table is read about
-//! twice.
+//! twice. It goes from the last vertex down, so that the classes come out about in the order of their vertices.
 
 ghost use Rattle.std.specs.Prelude.{◌≡◌, ◌<◌, ℕ, [], IfOk, MatchOption, OnOk, Some, length, slice_get, false, true};
 ghost use Rattle.wh_graph.specs.Tables.{Edge, IsSquare};
@@ -18,7 +18,7 @@ pub fn leaving_order(alloc: Global, table: &[Row]) -> Result<Vec<usize>, AllocEr
 {
     let mut seen = vec![in alloc; false; table.len()]?;
     let mut order = Vec::new(alloc);
-    for start in 0..table.len() {
+    for start in (0..table.len()).rev() {
         if !seen[start] {
             walk_from(alloc, table, start, &mut seen, &mut order)?;
         }
@@ -65,7 +65,7 @@ fn unseen_successor(table: &[Row], seen: &[bool], vertex: usize) -> Option<usize
     requires size { length seen.now ≡ length table.now }
     ensures { MatchOption result ((w : ℕ) → Edge table.now vertex w → slice_get seen.now w ≡ Some true) (λ w. Edge table.now vertex w × (slice_get seen.now w ≡ Some false)) }
 {
-    for other in 0..table.len() {
+    for other in (0..table.len()).rev() {
         if !seen[other] && has_edge(table, vertex, other) {
             return Some(other);
         }
