@@ -1,4 +1,4 @@
-use Rattle.std.proofs.Common.{◌≤◌, ℕ, Option, length, inl, inr, subst, arith}
+use Rattle.std.proofs.Common.{ℕ, Option, length, inl, inr, subst, arith}
 use Rattle.std.proofs.lemmas.Bool.{cases_lt}
 use Rattle.wh_graph.specs.Blocks.{AreFew, IsMisplaced}
 use Rattle.wh_graph.specs.Least.{LeastOf}

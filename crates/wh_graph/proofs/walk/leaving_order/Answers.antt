@@ -1,8 +1,6 @@
-use Rattle.std.proofs.Common.{◌≡◌, ◌<◌, ◌≤◌, ◌-◌, ℕ, Bool, true, List, [], Some, length, slice_get, inl, inr, sym, subst, ap, ◌∙◌, arith}
+use Rattle.std.proofs.Common.{◌-◌, Some, slice_get, inl, inr, ap, ◌∙◌, arith}
 use Rattle.std.proofs.lemmas.Bool.{cases_eq}
-use Rattle.wh_graph.specs.Walks.{Walked}
 use Rattle.wh_graph.proofs.ListLemmas.{read}
-use Rattle.wh_graph.proofs.PushLemmas.{lent_whole}
 use Rattle.wh_graph.proofs.WalkLemmas.{walked_all}
 use Rattle.wh_graph.proofs.walk.leaving_order.Goals as goal
 
