@@ -1,30 +1,31 @@
 -- The pieces of a canonical text: what each is cut into, and one piece behind another.
-use Rattle.std.proofs.Common.{◌≡◌, ℕ, zero, suc, ◌+◌, ◌-◌, ◌*◌, ◌/◌, ◌%◌, ◌<◌, ◌≤◌, ◌^◌, ◌≢◌, Bool, true, false, ◌||◌, ◌==◌, leb, List, [], ◌∷◌, ◌++◌, length, codes, refl, sym, ap, ◌∙◌, subst, inl, inr, arith}
-use Rattle.std.specs.Prelude.{map}
+use Rattle.std.proofs.Common.{◌≡◌, ℕ, ◌+◌, ◌-◌, ◌*◌, ◌/◌, ◌%◌, ◌<◌, ◌≤◌, ◌≢◌, Bool, true, false, ◌||◌, ◌==◌, leb, List, [], ◌∷◌, ◌++◌, length, codes, refl, ap, ◌∙◌, inl, inr, arith}
 use Rattle.std.proofs.lemmas.Bool.{and_from, le-leb}
 use Rattle.std.specs.Fmt.{decimal}
 use Rattle.std.proofs.lemmas.Fmt.{decimal_by_steps}
-use Rattle.wh_text.specs.Chars.{is_digit, is_start, is_part, is_sign, is_space, AllPass, Stops}
+use Rattle.wh_text.specs.Chars.{is_digit, is_start, is_sign, is_space, AllPass}
 use Rattle.wh_text.specs.Words.{IsWord, IsName, IsKeyword, IsNumeral, NoLeadingZero, number_from}
-use Rattle.wh_text.specs.Tokens.{Kind, name, keyword, dollar, percent, sign, Token, whole, Marks, NoDigit, Cuts, space, word, number, one_sign, arrow}
-use Rattle.wh_read.specs.Spelled.{Placed, placed, token, mark}
+use Rattle.wh_text.specs.Tokens.{Kind, name, keyword, dollar, percent, sign, Marks, NoDigit, space, word, number, one_sign, arrow}
+use Rattle.wh_read.specs.Spelled.{Placed, token, mark}
 use Rattle.wh_round.specs.Cutting.{Cutting, Any, NoPart}
 
--- one piece behind another
-
-pub cutting_then : {f g : List ℕ → Type 0} {at m end : ℕ} {p q : List ℕ → List ℕ} {w v : List Placed → List Placed} → Cutting f at m p w → Cutting g m end q v → ((r : List ℕ) → g r → f (q r)) → Cutting g at end (λ r. p (q r)) (λ ts. w (v ts))
+-- one piece behind another, where what comes behind the first is as the first wants it
+pub cutting_then : {f g : List ℕ → Type 0} {at m end : ℕ} {p q : List ℕ → List ℕ} {w v : List Placed → List Placed}
+    → Cutting f at m p w → Cutting g m end q v → ((r : List ℕ) → g r → f (q r)) → Cutting g at end (λ r. p (q r)) (λ ts. w (v ts))
 cutting_then {q = q} {w = w} first second fits =
     record {
       cut = λ r ts good behind.
-      let later = second.cut r ts good behind in
-      let whole_cut = first.cut (q r) later.0 (fits r good) later.1 in
-      (whole_cut.0, whole_cut.1, whole_cut.2 ∙ ap w later.2);
+          let later = second.cut r ts good behind in
+          let whole_cut = first.cut (q r) later.0 (fits r good) later.1 in
+          (whole_cut.0, whole_cut.1, whole_cut.2 ∙ ap w later.2);
     }
 
 -- a piece that may stand before anything
-pub any_then : {g : List ℕ → Type 0} {at m end : ℕ} {p q : List ℕ → List ℕ} {w v : List Placed → List Placed} → Cutting Any at m p w → Cutting g m end q v → Cutting g at end (λ r. p (q r)) (λ ts. w (v ts))
+pub any_then : {g : List ℕ → Type 0} {at m end : ℕ} {p q : List ℕ → List ℕ} {w v : List Placed → List Placed}
+    → Cutting Any at m p w → Cutting g m end q v → Cutting g at end (λ r. p (q r)) (λ ts. w (v ts))
 any_then first second = cutting_then first second (λ r good. tt)
 
+-- nothing
 pub nothing_cut : (fits : List ℕ → Type 0) (at : ℕ) → Cutting fits at at (λ r. r) (λ ts. ts)
 nothing_cut fits at = record { cut = λ r ts good behind. (ts, behind, refl) }
 
@@ -58,14 +59,14 @@ pub name_cut : (n : List ℕ) (at : ℕ) → IsName n → Cutting NoPart at (at 
 name_cut n at is =
     record {
       cut = λ r ts good behind.
-      (record { kind = name n; from = at; to = at + length n } ∷ ts, word r n (name n) is.word.starts is.word.parts good refl is.word.short (inr (is.free, refl)) behind, refl);
+          (record { kind = name n; from = at; to = at + length n } ∷ ts, word r n (name n) is.word.starts is.word.parts good refl is.word.short (inr (is.free, refl)) behind, refl);
     }
 
 keyword_cut : (n : List ℕ) (at : ℕ) → IsWord n → IsKeyword n → Cutting NoPart at (at + length n) (λ r. n ++ r) (λ ts. token (keyword n) at ∷ ts)
 keyword_cut n at is key =
     record {
       cut = λ r ts good behind.
-      (record { kind = keyword n; from = at; to = at + length n } ∷ ts, word r n (keyword n) is.starts is.parts good refl is.short (inl (key, refl)) behind, refl);
+          (record { kind = keyword n; from = at; to = at + length n } ∷ ts, word r n (keyword n) is.starts is.parts good refl is.short (inl (key, refl)) behind, refl);
     }
 
 pub sort_cut : (at : ℕ) → Cutting NoPart at (at + 4) (λ r. codes "sort" ++ r) (λ ts. token (keyword (codes "sort")) at ∷ ts)
@@ -130,21 +131,21 @@ decimal_is n small =
     let is : Decimal n (decimal n) = decimal_by_steps Decimal one_digit next_digit n (omega arith) in
     record { digits = is.digits; proper = is.proper; value = is.value; small = small }
 
-no_part_byte : (b : ℕ) (s d q : Bool) → (s || (d || q)) ≡ false → d ≡ false
-no_part_byte b false false q e = refl
-no_part_byte b false true q e = e
-no_part_byte b true d q e = absurd (cc)
+no_part_byte : (s d q : Bool) → (s || (d || q)) ≡ false → d ≡ false
+no_part_byte false false q e = refl
+no_part_byte false true q e = e
+no_part_byte true d q e = absurd (cc)
 
 -- what goes on no name and no number begins with no digit
 no_part_no_digit : (r : List ℕ) → NoPart r → NoDigit r
 no_part_no_digit [] h = tt
-no_part_no_digit (b ∷ r) h = no_part_byte b (is_start b) (is_digit b) (b == 39) h
+no_part_no_digit (b ∷ r) h = no_part_byte (is_start b) (is_digit b) (b == 39) h
 
 number_cut : (b n at : ℕ) (kind : ℕ → Kind) → Marks b kind → n ≤ 65535 → Cutting NoPart at (at + 1 + length (decimal n)) (λ r. b ∷ (decimal n ++ r)) (λ ts. token (kind n) at ∷ ts)
 number_cut b n at kind marks small =
     record {
       cut = λ r ts good behind.
-      (record { kind = kind n; from = at; to = at + 1 + length (decimal n) } ∷ ts, number r (decimal n) kind marks (decimal_is n small) (no_part_no_digit r good) refl behind, refl);
+          (record { kind = kind n; from = at; to = at + 1 + length (decimal n) } ∷ ts, number r (decimal n) kind marks (decimal_is n small) (no_part_no_digit r good) refl behind, refl);
     }
 
 pub dollar_cut : (n at : ℕ) → n ≤ 65535 → Cutting NoPart at (at + 1 + length (decimal n)) (λ r. 36 ∷ (decimal n ++ r)) (λ ts. token (dollar n) at ∷ ts)

@@ -1,8 +1,8 @@
 -- The canonical spelling of a term is cut into tokens that spell one atom, and that says the term.
-use Rattle.std.proofs.Common.{◌≡◌, ℕ, ◌+◌, ◌<◌, ◌≤◌, List, [], ◌∷◌, ◌++◌, length, codes, refl, sym, ap, ◌∙◌, subst, arith}
+use Rattle.std.proofs.Common.{◌≡◌, ℕ, ◌+◌, ◌<◌, ◌≤◌, List, ◌∷◌, length, refl, sym, ap, ◌∙◌, subst, arith}
 use Rattle.std.specs.Fmt.{decimal}
 use Rattle.wh_text.specs.Words.{IsName}
-use Rattle.wh_text.specs.RawTree.{RTy, Binder, named_binder, numbered_binder, RTm, named, numbered, free_variable, meta, lam, spine, RTms, none, more}
+use Rattle.wh_text.specs.RawTree.{RTy, named_binder, numbered_binder, RTm, named, numbered, free_variable, meta, lam, spine, RTms, none, more}
 use Rattle.wh_text.specs.Spelling as S
 use Rattle.wh_read.specs.Written.{WTerm, lambda, atoms, WAtom, plain_name, number, typed_variable, applied, term_in, WAtoms, no_atoms, more_atoms, WTerms, no_terms, more_terms}
 use Rattle.wh_read.specs.Spelled as W
@@ -10,7 +10,7 @@ use Rattle.wh_read.specs.Nesting.{TermFits, AtomFits, AtomsFit, TermsFit}
 use Rattle.wh_read.specs.Raw.{said_term, said_atom, said_atoms, said_terms, spined}
 use Rattle.wh_system.specs.Unplaced.{unplaced_type, unplaced_term, unplaced_terms}
 use Rattle.wh_round.specs.Sound.{IsSpelledPart, IsNoSpine, IsSpelledTerm, AreSpelledTerms}
-use Rattle.wh_round.specs.Cutting.{Cutting, Any, NoPart}
+use Rattle.wh_round.specs.Cutting.{Cutting, NoPart}
 use Rattle.wh_round.proofs.Pieces.{cutting_then, any_then, cutting_any, nothing_cut, sign_cut, space_cut, name_cut, dollar_cut, percent_cut}
 use Rattle.wh_round.proofs.SpelledTypes.{PartWritten, part_written}
 
@@ -80,7 +80,8 @@ variable_written k n a i small is at =
     }
 
 -- a meta-application with its brackets
-applied_written : (k : ℕ) (n : List ℕ) (t : RTm) (ts : RTms) (i at : ℕ) → k < 400 → IsName n → (u : AtomWritten (k + 1) t (at + length n + 1)) → ListedWritten (k + 1) ts u.end → AtomWritten k (meta n (more t ts) i) at
+applied_written : (k : ℕ) (n : List ℕ) (t : RTm) (ts : RTms) (i at : ℕ) → k < 400 → IsName n
+    → (u : AtomWritten (k + 1) t (at + length n + 1)) → ListedWritten (k + 1) ts u.end → AtomWritten k (meta n (more t ts) i) at
 applied_written k n t ts i at room is u us =
     let closes = cutting_then us.cut (sign_cut 93 us.end refl) (λ r good. refl) in
     let listed = cutting_then u.cut closes (λ r good. listed_stops ts (93 ∷ r) refl) in
@@ -94,7 +95,8 @@ applied_written k n t ts i at room is u us =
     }
 
 -- the abstraction in its parentheses, where its body is written
-lambda_written : (k n : ℕ) (a : RTy) (t : RTm) (i at : ℕ) → k + 1 < 400 → n ≤ 65535 → (p : PartWritten 0 a (at + 1 + 1 + 1 + length (decimal n) + 1)) → AtomWritten (k + 2) t (p.end + 1) → AtomWritten k (lam (numbered_binder n) a t i) at
+lambda_written : (k n : ℕ) (a : RTy) (t : RTm) (i at : ℕ) → k + 1 < 400 → n ≤ 65535
+    → (p : PartWritten 0 a (at + 1 + 1 + 1 + length (decimal n) + 1)) → AtomWritten (k + 2) t (p.end + 1) → AtomWritten k (lam (numbered_binder n) a t i) at
 lambda_written k n a t i at room small p u =
     let colon_at : ℕ = at + 1 + 1 + 1 + length (decimal n) in
     let levels : k + 2 ≡ k + 1 + 1 = omega arith in
@@ -122,7 +124,8 @@ unplaced_keeps_no_spine (meta n ts i) is = tt
 unplaced_keeps_no_spine (lam x a t i) is = tt
 
 -- arguments behind what is no spine make a spine
-unplaced_term-spined : (h : RTm) (u : RTm) (us : RTms) → IsNoSpine (unplaced_term h) → unplaced_term (spined h (more u us)) ≡ spine (unplaced_term h) (more (unplaced_term u) (unplaced_terms us)) 0
+unplaced_term-spined : (h : RTm) (u : RTm) (us : RTms) → IsNoSpine (unplaced_term h)
+    → unplaced_term (spined h (more u us)) ≡ spine (unplaced_term h) (more (unplaced_term u) (unplaced_terms us)) 0
 unplaced_term-spined (spine h ts i) u us is = absurd is
 unplaced_term-spined (named n i) u us is = refl
 unplaced_term-spined (numbered n i) u us is = refl
@@ -130,7 +133,8 @@ unplaced_term-spined (free_variable n a i) u us is = refl
 unplaced_term-spined (meta n ts i) u us is = refl
 unplaced_term-spined (lam x a t i) u us is = refl
 
-spine_written : (k : ℕ) (h t : RTm) (ts : RTms) (i at : ℕ) → k < 400 → IsNoSpine h → (g : AtomWritten (k + 1) h (at + 1)) → (u : AtomWritten (k + 1) t (g.end + 1)) → PartsWritten (k + 1) ts u.end → AtomWritten k (spine h (more t ts) i) at
+spine_written : (k : ℕ) (h t : RTm) (ts : RTms) (i at : ℕ) → k < 400 → IsNoSpine h
+    → (g : AtomWritten (k + 1) h (at + 1)) → (u : AtomWritten (k + 1) t (g.end + 1)) → PartsWritten (k + 1) ts u.end → AtomWritten k (spine h (more t ts) i) at
 spine_written k h t ts i at room is g u us =
     let closes = cutting_then us.cut (sign_cut 41 us.end refl) (λ r good. refl) in
     let parts = cutting_then u.cut closes (λ r good. parts_stop ts (41 ∷ r) refl) in
@@ -141,9 +145,9 @@ spine_written k h t ts i at room is g u us =
       written = term_in at (atoms g.written (more_atoms u.written us.written)) us.end;
       fits = (room, (g.fits, (u.fits, us.fits)));
       says = unplaced_term-spined (said_atom g.written) (said_atom u.written) (said_atoms us.written) no_spine
-        ∙ ap (λ (x : RTm). spine x (more (unplaced_term (said_atom u.written)) (unplaced_terms (said_atoms us.written))) 0) g.says
-        ∙ ap (λ (x : RTm). spine (unplaced_term h) (more x (unplaced_terms (said_atoms us.written))) 0) u.says
-        ∙ ap (λ (xs : RTms). spine (unplaced_term h) (more (unplaced_term t) xs) 0) us.says;
+          ∙ ap (λ (x : RTm). spine x (more (unplaced_term (said_atom u.written)) (unplaced_terms (said_atoms us.written))) 0) g.says
+          ∙ ap (λ (x : RTm). spine (unplaced_term h) (more x (unplaced_terms (said_atoms us.written))) 0) u.says
+          ∙ ap (λ (xs : RTms). spine (unplaced_term h) (more (unplaced_term t) xs) 0) us.says;
       cut = cutting_any (any_then (sign_cut 40 at refl) behind);
     }
 

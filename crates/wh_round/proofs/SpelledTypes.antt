@@ -1,5 +1,5 @@
 -- The canonical spelling of a type is cut into tokens that spell a type that says it.
-use Rattle.std.proofs.Common.{◌≡◌, ℕ, ◌+◌, ◌<◌, List, [], ◌∷◌, ◌++◌, length, codes, refl, sym, ap, ◌∙◌, subst}
+use Rattle.std.proofs.Common.{◌≡◌, ℕ, ◌+◌, ◌<◌, List, length, refl, ap, ◌∙◌}
 use Rattle.wh_text.specs.Words.{IsName}
 use Rattle.wh_text.specs.RawTree.{RTy, raw_type, RTys, no_types, more_types}
 use Rattle.wh_text.specs.Spelling as S
@@ -7,9 +7,9 @@ use Rattle.wh_read.specs.Written.{WType, only, arrow, WAtype, sort_name, type_in
 use Rattle.wh_read.specs.Spelled as W
 use Rattle.wh_read.specs.Nesting.{TypeFits, AtypeFits}
 use Rattle.wh_read.specs.Raw.{with_argument, said_type, said_atype}
-use Rattle.wh_system.specs.Unplaced.{unplaced_type, unplaced_types}
+use Rattle.wh_system.specs.Unplaced.{unplaced_type}
 use Rattle.wh_round.specs.Sound.{IsSpelledType, IsSpelledPart, AreSpelledParts}
-use Rattle.wh_round.specs.Cutting.{Cutting, Any, NoPart}
+use Rattle.wh_round.specs.Cutting.{Cutting, NoPart}
 use Rattle.wh_round.proofs.Pieces.{cutting_then, any_then, cutting_any, sign_cut, thin_arrow_cut, name_cut}
 
 -- within j open parentheses, the type that is written for a at the place
@@ -36,19 +36,23 @@ sort_written j sort i is at =
     record { end = at + length sort; written = sort_name sort at; fits = tt; says = refl; cut = name_cut sort at is }
 
 -- an argument, its arrow and what it gives
-arrow_written : (j : ℕ) (a : RTy) (rest : RTys) (sort : List ℕ) (i at : ℕ) → (p : PartWritten j a at) → TypeWritten j (raw_type rest sort i) (p.end + 2) → TypeWritten j (raw_type (more_types a rest) sort i) at
+arrow_written : (j : ℕ) (a : RTy) (rest : RTys) (sort : List ℕ) (i at : ℕ)
+    → (p : PartWritten j a at) → TypeWritten j (raw_type rest sort i) (p.end + 2) → TypeWritten j (raw_type (more_types a rest) sort i) at
 arrow_written j a rest sort i at p t =
     let behind = any_then (thin_arrow_cut p.end) t.cut in
     record {
       end = t.end;
       written = arrow p.written p.end t.written;
       fits = (p.fits, t.fits);
-      says = unplaced_type-with_argument (said_atype p.written) (said_type t.written) ∙ ap (λ (b : RTy). with_argument b (unplaced_type (said_type t.written))) p.says ∙ ap (with_argument (unplaced_type a)) t.says;
+      says = unplaced_type-with_argument (said_atype p.written) (said_type t.written)
+          ∙ ap (λ (b : RTy). with_argument b (unplaced_type (said_type t.written))) p.says
+          ∙ ap (with_argument (unplaced_type a)) t.says;
       cut = cutting_then p.cut behind (λ r good. refl);
     }
 
 -- a functional type in parentheses
-parenthesised : (j : ℕ) (a : RTy) (rest : RTys) (sort : List ℕ) (i at : ℕ) → j < 16 → TypeWritten (j + 1) (raw_type (more_types a rest) sort i) (at + 1) → PartWritten j (raw_type (more_types a rest) sort i) at
+parenthesised : (j : ℕ) (a : RTy) (rest : RTys) (sort : List ℕ) (i at : ℕ)
+    → j < 16 → TypeWritten (j + 1) (raw_type (more_types a rest) sort i) (at + 1) → PartWritten j (raw_type (more_types a rest) sort i) at
 parenthesised j a rest sort i at room t =
     let closes = cutting_then t.cut (sign_cut 41 t.end refl) (λ r good. refl) in
     let opens = any_then (sign_cut 40 at refl) closes in
