@@ -4,6 +4,7 @@ pub mod KindMade
 pub mod StandsLaws
 pub mod SizeMade
 pub mod SideMade
+pub mod NestingMade
 pub mod TypeMade
 pub mod RuleMade
 pub mod WidthMade

@@ -11,9 +11,12 @@ use Rattle.wh_terms.specs.Pattern.{AllBoundBelow, Misses, Distinct, IsPatternUnd
 use Rattle.wh_terms.specs.Measures.{SpinesWithin, AllSpinesWithin, Fits}
 use Rattle.wh_terms.specs.Rules.{RewriteRule, IsWellMade}
 use Rattle.wh_terms.proofs.TypingLaws.{typed_one}
+use Rattle.wh_text.specs.Chars.{AllPass}
+use Rattle.wh_text.specs.Words.{Starts, IsName}
 use Rattle.wh_system.specs.Systems.{SystemData}
 use Rattle.wh_system.specs.declared.system.System.{System}
 use Rattle.wh_system.specs.SystemView.{system_data}
+use Rattle.wh_system.specs.Nesting.{TypesNestWithin, AllTypesNestWithin}
 use Rattle.wh_system.specs.WellMade.{ArgumentsWithin, TypesWithin, AllTypesWithin, IsTypeOver, IsDeclarationOver, IsWellMadeSystem}
 use Rattle.wh_system.proofs.TypedDecided.{Decided, below_decided, both_decided, decided_by, sorts_decided, same_type_decided, HasType, typed_decided}
 
@@ -47,6 +50,30 @@ numbers_decided [] (n ∷ ns) = inr (λ e. absurd (cc))
 numbers_decided (m ∷ ms) [] = inr (λ e. absurd (cc))
 numbers_decided (m ∷ ms) (n ∷ ns) = decided_by (λ p. ap₂ (λ x xs. x ∷ xs) p.0 p.1) (λ e. (cc, cc)) (both_decided (equal_decided m n) (numbers_decided ms ns))
 
+-- names
+
+true_decided : (b : Bool) → Decided (b ≡ true)
+true_decided true = inl refl
+true_decided false = inr (λ e. absurd (cc))
+
+starts_decided : (bs : List ℕ) → Decided (Starts bs)
+starts_decided [] = inr (λ p. p)
+starts_decided (b ∷ bs) = true_decided _
+
+pass_decided : (test : ℕ → Bool) (bs : List ℕ) → Decided (AllPass test bs)
+pass_decided test [] = inl tt
+pass_decided test (b ∷ bs) = both_decided (true_decided (test b)) (pass_decided test bs)
+
+name_holds : (bs : List ℕ) → NotRefuted (IsName bs) → IsName bs
+name_holds bs known = record {
+  word = record {
+    starts = holds (starts_decided bs) (through (λ n. n.word.starts) known);
+    parts = holds (pass_decided _ bs) (through (λ n. n.word.parts) known);
+    short = holds (within_decided _ 64) (through (λ n. n.word.short) known);
+  };
+  free = λ keyword. known (λ n. n.free keyword);
+}
+
 -- types
 
 arguments_decided : (n : ℕ) (a : Ty) → Decided (ArgumentsWithin n a)
@@ -63,6 +90,7 @@ type_over_holds : (n : ℕ) (a : Ty) → NotRefuted (IsTypeOver n a) → IsTypeO
 type_over_holds n a known = record {
   sorts_are_there = holds (sorts_decided n a) (through (λ o. o.sorts_are_there) known);
   narrow = holds (arguments_decided 32 a) (through (λ o. o.narrow) known);
+  shallow = holds (within_decided _ 16) (through (λ o. o.shallow) known);
 }
 
 declaration_over_holds : (n : ℕ) (d : Declared) → NotRefuted (IsDeclarationOver n d) → IsDeclarationOver n d
@@ -118,6 +146,19 @@ mutual
   all_types_decided : (n : ℕ) (ts : Tms) → Decided (AllTypesWithin n ts)
   all_types_decided n none = inl tt
   all_types_decided n (more t ts) = both_decided (types_decided n t) (all_types_decided n ts)
+
+mutual
+  nests_decided : (n : ℕ) (t : Tm) → Decided (TypesNestWithin n t)
+  nests_decided n (bound i) = inl tt
+  nests_decided n (free x a) = within_decided _ n
+  nests_decided n (fun f) = inl tt
+  nests_decided n (meta z ts) = all_nests_decided n ts
+  nests_decided n (lam a t) = both_decided (within_decided _ n) (nests_decided n t)
+  nests_decided n (app t u) = both_decided (nests_decided n t) (nests_decided n u)
+
+  all_nests_decided : (n : ℕ) (ts : Tms) → Decided (AllTypesNestWithin n ts)
+  all_nests_decided n none = inl tt
+  all_nests_decided n (more t ts) = both_decided (nests_decided n t) (all_nests_decided n ts)
 
 fits_holds : (t : Tm) → NotRefuted (Fits t) → Fits t
 fits_holds t known = record {
@@ -252,9 +293,13 @@ made_holds s known = record {
   symbol_types = λ k e within. type_over_holds s.symbols.sorts (get_or s.symbols.funs k e) (through (λ m. m.symbol_types k e within) known);
   meta_types = λ k e within j f inside. declaration_over_holds s.symbols.sorts (get_or (get_or s.rules k e).metas j f) (through (λ m. m.meta_types k e within j f inside) known);
   side_types = λ k e within. holds (both_decided (types_decided 32 (get_or s.rules k e).left) (types_decided 32 (get_or s.rules k e).right)) (through (λ m. m.side_types k e within) known);
+  side_types_shallow = λ k e within. holds (both_decided (nests_decided 16 (get_or s.rules k e).left) (nests_decided 16 (get_or s.rules k e).right)) (through (λ m. m.side_types_shallow k e within) known);
   sorts_named = holds (equal_decided _ _) (through (λ m. m.sorts_named) known);
   symbols_named = holds (equal_decided _ _) (through (λ m. m.symbols_named) known);
   metas_named = holds (numbers_decided _ _) (through (λ m. m.metas_named) known);
+  sort_names_spelled = λ k e within. name_holds (get_or s.sort_names k e) (through (λ m. m.sort_names_spelled k e within) known);
+  fun_names_spelled = λ k e within. name_holds (get_or s.fun_names k e) (through (λ m. m.fun_names_spelled k e within) known);
+  meta_names_spelled = λ k e within j f inside. name_holds (get_or (get_or s.meta_names k e) j f) (through (λ m. m.meta_names_spelled k e within j f inside) known);
   sort_names_distinct = λ i j d l m same. known (λ made. made.sort_names_distinct i j d l m same);
   fun_names_distinct = λ i j d l m same. known (λ made. made.fun_names_distinct i j d l m same);
   meta_names_distinct = λ k e within i j d l m same. known (λ made. made.meta_names_distinct k e within i j d l m same);

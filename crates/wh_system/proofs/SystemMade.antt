@@ -1,24 +1,28 @@
 -- What all tests say of the system that parts say, and that it is one.
-use Rattle.std.proofs.Common.{◌≡◌, ℕ, zero, suc, ◌≤◌, ◌⊎◌, inl, inr, false, not, ◌&&◌, List, [], ◌∷◌, ◌++◌, length, map, Option, Some, None, All, refl, ap, ap₂, sym, ◌∙◌, subst, arith, ltb-false, eq-eqb, eqb-true}
+use Rattle.std.proofs.Common.{◌≡◌, ℕ, zero, suc, ◌≤◌, ◌⊎◌, inl, inr, false, not, ◌&&◌, List, [], ◌∷◌, ◌++◌, length, get_or, map, Option, Some, None, All, refl, ap, ap₂, sym, ◌∙◌, subst, arith, ltb-false, eq-eqb, eqb-true}
 use Rattle.std.specs.Prelude.{◌==◌}
 use Rattle.std.proofs.lemmas.List.{length-map}
-use Rattle.std.proofs.lemmas.List.Elements.{All-nil, All-cons, All-contains, All-weaker}
+use Rattle.std.proofs.lemmas.List.Elements.{All-nil, All-cons, All-head, All-tail, All-map, All-contains, All-weaker}
 use Rattle.wh_types.specs.Ty.{Ty}
 use Rattle.wh_terms.specs.Tree.{fun, head, argument_count}
 use Rattle.wh_terms.specs.Typing.{Symbols}
 use Rattle.wh_terms.specs.Rules.{RewriteRule, IsWellMade, IsEven, AreWellMade}
 use Rattle.wh_text.specs.RawTree.{named}
+use Rattle.wh_text.specs.Words.{IsName}
 use Rattle.wh_parts.specs.Parts.{RRule, RParts}
 use Rattle.wh_parts.specs.Tests.{count_test, sort_names, fun_names, names_tests, sorts_tests, fun_tests, funs_tests, width_of_term, arguments_of}
 use Rattle.wh_parts.specs.RuleTests.{type_of_raw, declared_by, scope_of, head_symbol, is_uneven, rule_tests, rules_tests, tests, refusal}
 use Rattle.wh_system.specs.Systems.{SystemData, SaysRule, SayRules, Says}
+use Rattle.wh_system.specs.Nesting.{TypesNestWithin, RawTypesNestWithin}
+use Rattle.wh_system.specs.Proper.{AreProper}
 use Rattle.wh_system.specs.WellMade.{TypesWithin, IsTypeOver, IsDeclarationOver, AreDistinct, AreApart, IsWellMadeSystem}
 use Rattle.wh_system.proofs.PassedLaws.{Passed, passed_first, passed_parts, and_false, or_false, not_false, some_is, some_same}
 use Rattle.wh_system.proofs.NameLaws.{names_distinct}
 use Rattle.wh_system.proofs.StandsLaws.{stands}
 use Rattle.wh_system.proofs.SizeMade.{count_made}
 use Rattle.wh_system.proofs.SideMade.{head_made}
-use Rattle.wh_system.proofs.TypeMade.{funs_over, funs_distinct, metas_over, metas_distinct, metas_apart}
+use Rattle.wh_system.proofs.NestingMade.{side_nests}
+use Rattle.wh_system.proofs.TypeMade.{IsShallowMeta, funs_over, funs_distinct, metas_over, metas_distinct, metas_apart}
 use Rattle.wh_system.proofs.WidthMade.{types_made}
 use Rattle.wh_system.proofs.RuleMade.{RulePassed, rule_passed, rule_made}
 
@@ -35,14 +39,24 @@ said p = symbols (length (sort_names p)) (map (λ f. type_of_raw (sort_names p) 
 
 -- one rule
 
+-- its types nest at most 16 deep
+record IsShallow (r : RRule) : Type 0 where
+  metas : All IsShallowMeta r.metas
+  left : RawTypesNestWithin 16 r.left
+  right : RawTypesNestWithin 16 r.right
+
+are_shallow : (p : RParts) → AreProper p → All IsShallow p.rules
+are_shallow p proper = λ k e within. record { metas = proper.meta_types k e within; left = (proper.side_types k e within).0; right = (proper.side_types k e within).1 }
+
 record IsMade (p : RParts) (rule : RewriteRule) : Type 0 where
   well_made : IsWellMade (said p) rule
   few : length rule.metas ≤ 32
   types : TypesWithin 32 rule.left × TypesWithin 32 rule.right
+  shallow : TypesNestWithin 16 rule.left × TypesNestWithin 16 rule.right
   declared : All (IsDeclarationOver (length (sort_names p))) rule.metas
 
-is_made : (p : RParts) (earlier : List (Option ℕ × ℕ)) (r : RRule) (rule : RewriteRule) → SaysRule p r rule → RulePassed p earlier r → IsMade p rule
-is_made p earlier r rule says h =
+is_made : (p : RParts) (earlier : List (Option ℕ × ℕ)) (r : RRule) (rule : RewriteRule) → IsShallow r → SaysRule p r rule → RulePassed p earlier r → IsMade p rule
+is_made p earlier r rule shallow says h =
     let few : length (map (λ m. m.name.at) r.metas) ≤ 32 = counted 32 _ h.count in
     let long : length rule.metas ≡ length (map (λ m. m.name.at) r.metas) = ap length says.metas ∙ length-map r.metas _ ∙ sym (length-map r.metas _) in
     record {
@@ -52,7 +66,8 @@ is_made p earlier r rule says h =
         types_made (scope_of p r) r.left [] rule.left says.left (passed_parts (width_of_term r.left) _ h.left_side).0,
         types_made (scope_of p r) r.right [] rule.right says.right (passed_parts (width_of_term r.right) _ h.right_side).0,
       );
-      declared = subst (All (IsDeclarationOver (length (sort_names p)))) (sym says.metas) (metas_over (sort_names p) (fun_names p) [] r.metas h.metas);
+      shallow = (side_nests 16 (scope_of p r) r.left [] rule.left says.left shallow.left, side_nests 16 (scope_of p r) r.right [] rule.right says.right shallow.right);
+      declared = subst (All (IsDeclarationOver (length (sort_names p)))) (sym says.metas) (metas_over (sort_names p) (fun_names p) [] r.metas shallow.metas h.metas);
     }
 
 abbrev key : RParts → RRule → Option ℕ × ℕ
@@ -73,15 +88,15 @@ is_keyed p earlier r rule says h =
 
 -- all rules
 
-each_made : (p : RParts) (earlier : List (Option ℕ × ℕ)) (rs : List RRule) (us : List RewriteRule) → SayRules p rs us → Passed (rules_tests p earlier rs)
+each_made : (p : RParts) (earlier : List (Option ℕ × ℕ)) (rs : List RRule) (us : List RewriteRule) → All IsShallow rs → SayRules p rs us → Passed (rules_tests p earlier rs)
     → All (IsMade p) us
-each_made p earlier [] [] say h = All-nil (IsMade p)
-each_made p earlier [] (u ∷ us) say h = absurd say
-each_made p earlier (r ∷ rs) [] say h = absurd say
-each_made p earlier (r ∷ rs) (u ∷ us) say h =
+each_made p earlier [] [] shallow say h = All-nil (IsMade p)
+each_made p earlier [] (u ∷ us) shallow say h = absurd say
+each_made p earlier (r ∷ rs) [] shallow say h = absurd say
+each_made p earlier (r ∷ rs) (u ∷ us) shallow say h =
     let parts = passed_parts (rule_tests p earlier r) (rules_tests p (key p r ∷ earlier) rs) h in
-    All-cons (IsMade p) u us (is_made p earlier r u say.0 (rule_passed p earlier r parts.0))
-    (each_made p (key p r ∷ earlier) rs us say.1 parts.1)
+    All-cons (IsMade p) u us (is_made p earlier r u (All-head IsShallow r rs shallow) say.0 (rule_passed p earlier r parts.0))
+    (each_made p (key p r ∷ earlier) rs us (All-tail IsShallow r rs shallow) say.1 parts.1)
 
 said_length : (p : RParts) (rs : List RRule) (us : List RewriteRule) → SayRules p rs us → length us ≡ length rs
 said_length p [] [] say = refl
@@ -203,10 +218,10 @@ all_passed p none =
     let e = passed_parts (count_test 1024 (map (λ f. f.name.at) p.funs)) (fun_tests (sort_names p) [] p.funs) a.1 in
     record { sort_count = d.0; sort_distinct = d.1; fun_count = e.0; funs = e.1; rule_count = b.1; rules = c.1 }
 
-pub system_made : (p : RParts) (s : SystemData) → refusal p ≡ None → Says p s → IsWellMadeSystem s
-system_made p s none says =
+pub system_made : (p : RParts) (s : SystemData) → AreProper p → refusal p ≡ None → Says p s → IsWellMadeSystem s
+system_made p s proper none says =
     let h = all_passed p none in
-    let each = each_made p [] p.rules s.rules says.rules h.rules in
+    let each = each_made p [] p.rules s.rules (are_shallow p proper) says.rules h.rules in
     let S = symbols_said p s says in
     let sorts : length (sort_names p) ≡ s.symbols.sorts = ap (λ S. S.sorts) S in
     record {
@@ -218,12 +233,17 @@ system_made p s none says =
       symbols_within = subst (λ n. n ≤ 1024) (length-map p.funs _ ∙ sym (length-map p.funs _) ∙ ap (λ S. length S.funs) S) (counted 1024 _ h.fun_count);
       rules_within = subst (λ n. n ≤ 1024) (length-map p.rules _ ∙ sym (said_length p p.rules s.rules says.rules)) (counted 1024 _ h.rule_count);
       metas_within = All-weaker (IsMade p) (λ r. length r.metas ≤ 32) (λ r m. m.few) s.rules each;
-      symbol_types = subst (λ S. All (IsTypeOver S.sorts) S.funs) S (funs_over (sort_names p) [] p.funs h.funs);
+      symbol_types = subst (λ S. All (IsTypeOver S.sorts) S.funs) S (funs_over (sort_names p) [] p.funs proper.fun_types h.funs);
       meta_types = subst (λ n. All (λ r. All (IsDeclarationOver n) r.metas) s.rules) sorts (All-weaker (IsMade p) (λ r. All (IsDeclarationOver (length (sort_names p))) r.metas) (λ r m. m.declared) s.rules each);
       side_types = All-weaker (IsMade p) (λ r. TypesWithin 32 r.left × TypesWithin 32 r.right) (λ r m. m.types) s.rules each;
+      side_types_shallow = All-weaker (IsMade p) (λ r. TypesNestWithin 16 r.left × TypesNestWithin 16 r.right) (λ r m. m.shallow) s.rules each;
       sorts_named = ap length says.sort_names ∙ length-map p.sorts _ ∙ sym says.sorts;
       symbols_named = ap length says.fun_names ∙ length-map p.funs _ ∙ sym (length-map p.funs _) ∙ ap (λ S. length S.funs) S;
       metas_named = ap (map length) says.meta_names ∙ metas_named p p.rules s.rules says.rules;
+      sort_names_spelled = subst (All IsName) (sym says.sort_names) (All-map IsName (λ n. n.name) p.sorts proper.sorts);
+      fun_names_spelled = subst (All IsName) (sym says.fun_names) (All-map IsName (λ f. f.name.name) p.funs proper.funs);
+      meta_names_spelled = subst (All (All IsName)) (sym says.meta_names)
+          (All-map (All IsName) meta_names_of p.rules (λ k e within. All-map IsName (λ m. m.name.name) (get_or p.rules k e).metas (proper.metas k e within)));
       sort_names_distinct = subst AreDistinct (sym says.sort_names) (names_distinct [] [] p.sorts none_twice h.sort_distinct);
       fun_names_distinct = subst AreDistinct (sym says.fun_names) (funs_distinct (sort_names p) [] p.funs none_twice h.funs);
       meta_names_distinct = subst (All AreDistinct) (sym says.meta_names) (all_distinct p [] p.rules h.rules);

@@ -1,8 +1,7 @@
 -- Where no test fails, the types of symbols and meta-variables are types of the system, and names are distinct.
-use Rattle.std.proofs.Common.{◌≡◌, ◌≢◌, ℕ, ◌+◌, ◌≤◌, false, List, [], ◌∷◌, ◌++◌, length, map, Option, Some, None, option_map, unwrap_or, All, append_assoc, append-nil, refl, ap, sym, subst, arith}
-use Rattle.std.specs.Prelude.{option_and_then}
+use Rattle.std.proofs.Common.{◌≡◌, ◌≢◌, ℕ, ◌+◌, ◌≤◌, false, List, [], ◌∷◌, ◌++◌, length, map, Option, Some, None, option_map, unwrap_or, All, append_assoc, append-nil, ap, sym, subst, arith}
 use Rattle.std.proofs.lemmas.Bool.{eqb-false}
-use Rattle.std.proofs.lemmas.List.Elements.{All-nil, All-cons}
+use Rattle.std.proofs.lemmas.List.Elements.{All-nil, All-cons, All-head, All-tail}
 use Rattle.std.proofs.lemmas.List.Quantifiers.{all_pairs_push}
 use Rattle.wh_types.specs.Ty.{Ty, sort, ◌⇒◌, arguments}
 use Rattle.wh_text.specs.RawTree.{RTy, raw_type, RTys, no_types, more_types}
@@ -10,17 +9,12 @@ use Rattle.wh_parts.specs.Parts.{RFun, RMeta}
 use Rattle.wh_parts.specs.Naming.{number_of, is_declared, type_meant, arrows_meant}
 use Rattle.wh_parts.specs.Tests.{sorts_of_type, width_of_type, width_of_types, count_of_types, type_tests, types_tests, fun_tests, meta_tests}
 use Rattle.wh_parts.specs.RuleTests.{type_of_raw, types_of_raw, declared_by}
+use Rattle.wh_system.specs.Nesting.{raw_nesting, RawTypesNestEach}
 use Rattle.wh_system.specs.WellMade.{ArgumentsWithin, IsTypeOver, IsDeclarationOver, AreDistinct, AreApart}
-use Rattle.wh_system.proofs.PassedLaws.{Passed, passed_first, passed_rest, passed_parts, or_false, some_same, none_some}
+use Rattle.wh_system.proofs.PassedLaws.{Passed, passed_first, passed_rest, passed_parts, or_false, some_same, none_some, joined}
 use Rattle.wh_system.proofs.NameLaws.{undeclared}
 use Rattle.wh_system.proofs.KindMade.{type_made}
-
--- the types within a functional type
-joined : {A B C : Type 0} (f : A → B → C) (o : Option A) (q : Option B) (c : C) → option_and_then (λ a. option_map (f a) q) o ≡ Some c
-    → (a : A) × (b : B) × (o ≡ Some a) × (q ≡ Some b) × (f a b ≡ c)
-joined f (Some a) (Some b) c e = (a, b, refl, refl, some_same e)
-joined f (Some a) None c e = absurd (none_some e)
-joined f None q c e = absurd (none_some e)
+use Rattle.wh_system.proofs.NestingMade.{type_nesting-meant}
 
 next : (k : ℕ) → k ≤ 32 → (k ≡ 32 → ⊥) → k + 1 ≤ 32
 next k room other = omega arith
@@ -43,17 +37,21 @@ mutual
       ((omega arith, width_of_meant sorts a both.0 both.2 parts.0, there.0), omega arith)
 
 -- a type that passes
-pub type_over : (sorts : List (List ℕ)) (a : RTy) → Passed (type_tests sorts a) → IsTypeOver (length sorts) (type_of_raw sorts a)
-type_over sorts a p =
+pub type_over : (sorts : List (List ℕ)) (a : RTy) → raw_nesting a ≤ 16 → Passed (type_tests sorts a) → IsTypeOver (length sorts) (type_of_raw sorts a)
+type_over sorts a shallow p =
     let parts = passed_parts (sorts_of_type sorts a) (width_of_type a) p in
     let b = type_made sorts a parts.0 in
-    subst (IsTypeOver (length sorts)) (sym (ap (λ o. unwrap_or o (sort 0)) b.1)) (record { sorts_are_there = b.2; narrow = width_of_meant sorts a b.0 b.1 parts.1 })
+    subst (IsTypeOver (length sorts)) (sym (ap (λ o. unwrap_or o (sort 0)) b.1)) (record {
+      sorts_are_there = b.2;
+      narrow = width_of_meant sorts a b.0 b.1 parts.1;
+      shallow = subst (λ n. n ≤ 16) (sym (type_nesting-meant sorts a b.0 b.1)) shallow;
+    })
 
-types_over : (sorts : List (List ℕ)) (args : RTys) → Passed (types_tests sorts args) → All (IsTypeOver (length sorts)) (types_of_raw sorts args)
-types_over sorts no_types p = All-nil (IsTypeOver (length sorts))
-types_over sorts (more_types a rest) p =
+types_over : (sorts : List (List ℕ)) (args : RTys) → RawTypesNestEach 16 args → Passed (types_tests sorts args) → All (IsTypeOver (length sorts)) (types_of_raw sorts args)
+types_over sorts no_types shallow p = All-nil (IsTypeOver (length sorts))
+types_over sorts (more_types a rest) shallow p =
     let parts = passed_parts (type_tests sorts a) (types_tests sorts rest) p in
-    All-cons (IsTypeOver (length sorts)) (type_of_raw sorts a) (types_of_raw sorts rest) (type_over sorts a parts.0) (types_over sorts rest parts.1)
+    All-cons (IsTypeOver (length sorts)) (type_of_raw sorts a) (types_of_raw sorts rest) (type_over sorts a shallow.0 parts.0) (types_over sorts rest shallow.1 parts.1)
 
 few : (sorts : List (List ℕ)) (args : RTys) (k : ℕ) → k ≤ 32 → Passed (count_of_types k args) → length (types_of_raw sorts args) + k ≤ 32
 few sorts no_types k room p = omega arith
@@ -63,11 +61,18 @@ few sorts (more_types a rest) k room p =
     omega arith
 
 -- the symbols
-pub funs_over : (sorts before : List (List ℕ)) (fs : List RFun) → Passed (fun_tests sorts before fs) → All (IsTypeOver (length sorts)) (map (λ f. type_of_raw sorts f.kind) fs)
-funs_over sorts before [] p = All-nil (IsTypeOver (length sorts))
-funs_over sorts before (f ∷ fs) p =
+
+-- its type nests at most 16 deep
+abbrev pub IsShallowFun : RFun → Type 0
+IsShallowFun f = raw_nesting f.kind ≤ 16
+
+pub funs_over : (sorts before : List (List ℕ)) (fs : List RFun) → All IsShallowFun fs → Passed (fun_tests sorts before fs)
+    → All (IsTypeOver (length sorts)) (map (λ f. type_of_raw sorts f.kind) fs)
+funs_over sorts before [] shallow p = All-nil (IsTypeOver (length sorts))
+funs_over sorts before (f ∷ fs) shallow p =
     let parts = passed_parts (type_tests sorts f.kind) (fun_tests sorts (before ++ f.name.name ∷ []) fs) (passed_rest p) in
-    All-cons (IsTypeOver (length sorts)) (type_of_raw sorts f.kind) (map (λ f. type_of_raw sorts f.kind) fs) (type_over sorts f.kind parts.0) (funs_over sorts (before ++ f.name.name ∷ []) fs parts.1)
+    All-cons (IsTypeOver (length sorts)) (type_of_raw sorts f.kind) (map (λ f. type_of_raw sorts f.kind) fs)
+    (type_over sorts f.kind (All-head IsShallowFun f fs shallow) parts.0) (funs_over sorts (before ++ f.name.name ∷ []) fs (All-tail IsShallowFun f fs shallow) parts.1)
 
 pub funs_distinct : (sorts before : List (List ℕ)) (fs : List RFun) → AreDistinct before → Passed (fun_tests sorts before fs) → AreDistinct (before ++ map (λ f. f.name.name) fs)
 funs_distinct sorts before [] so_far p = subst AreDistinct (sym (append-nil before)) so_far
@@ -96,14 +101,20 @@ meta_passed sorts funs before m ms p =
     let p1 = passed_parts (count_of_types 0 m.args) (types_tests sorts m.args) p2.0 in
     record { is_new = names.0; is_no_symbol = names.1; are_few = p1.0; args = p1.1; out = p2.1; others = p3.1 }
 
-pub metas_over : (sorts funs before : List (List ℕ)) (ms : List RMeta) → Passed (meta_tests sorts funs before ms) → All (IsDeclarationOver (length sorts)) (map (declared_by sorts) ms)
-metas_over sorts funs before [] p = All-nil (IsDeclarationOver (length sorts))
-metas_over sorts funs before (m ∷ ms) p =
+-- its types nest at most 16 deep
+abbrev pub IsShallowMeta : RMeta → Type 0
+IsShallowMeta m = RawTypesNestEach 16 m.args × (raw_nesting m.out ≤ 16)
+
+pub metas_over : (sorts funs before : List (List ℕ)) (ms : List RMeta) → All IsShallowMeta ms → Passed (meta_tests sorts funs before ms)
+    → All (IsDeclarationOver (length sorts)) (map (declared_by sorts) ms)
+metas_over sorts funs before [] shallow p = All-nil (IsDeclarationOver (length sorts))
+metas_over sorts funs before (m ∷ ms) shallow p =
     let parts = meta_passed sorts funs before m ms p in
     let long : length (types_of_raw sorts m.args) + 0 ≤ 32 = few sorts m.args 0 (omega arith) parts.are_few in
+    let here : IsShallowMeta m = All-head IsShallowMeta m ms shallow in
     All-cons (IsDeclarationOver (length sorts)) (declared_by sorts m) (map (declared_by sorts) ms)
-    (record { narrow = omega arith; args = types_over sorts m.args parts.args; out = type_over sorts m.out parts.out })
-    (metas_over sorts funs (before ++ m.name.name ∷ []) ms parts.others)
+    (record { narrow = omega arith; args = types_over sorts m.args here.0 parts.args; out = type_over sorts m.out here.1 parts.out })
+    (metas_over sorts funs (before ++ m.name.name ∷ []) ms (All-tail IsShallowMeta m ms shallow) parts.others)
 
 pub metas_distinct : (sorts funs before : List (List ℕ)) (ms : List RMeta) → AreDistinct before → Passed (meta_tests sorts funs before ms) → AreDistinct (before ++ map (λ m. m.name.name) ms)
 metas_distinct sorts funs before [] so_far p = subst AreDistinct (sym (append-nil before)) so_far

@@ -4,7 +4,9 @@ use Rattle.wh_types.specs.Ty.{Ty, sort, ◌⇒◌, arguments, SortsBelow}
 use Rattle.wh_terms.specs.Tree.{Tm, free, meta, lam, app, Tms, none, more}
 use Rattle.wh_terms.specs.Typing.{Declared}
 use Rattle.wh_terms.specs.Rules.{AreWellMade}
+use Rattle.wh_text.specs.Words.{IsName}
 use Rattle.wh_system.specs.Systems.{SystemData}
+use Rattle.wh_system.specs.Nesting.{type_nesting, TypesNestWithin}
 
 -- no type in it, itself included, has more than n arguments
 abbrev pub ArgumentsWithin : ℕ → Ty → Type 0
@@ -24,10 +26,12 @@ abbrev mutual
   AllTypesWithin n none = Unit {0}
   AllTypesWithin n (more t ts) = TypesWithin n t × AllTypesWithin n ts
 
--- a type of a system with so many sorts: its sorts are there, and no type in it has more than 32 arguments (ours)
+-- a type of a system with so many sorts: its sorts are there, no type in it has more than 32 arguments, and its
+-- parentheses nest at most 16 deep (ours)
 pub record IsTypeOver (sorts : ℕ) (a : Ty) : Type 0 where
   pub sorts_are_there : SortsBelow sorts a
   pub narrow : ArgumentsWithin 32 a
+  pub shallow : type_nesting a ≤ 16
 
 -- a declaration: at most 32 arguments, and all its types are types of the system (ours)
 pub record IsDeclarationOver (sorts : ℕ) (d : Declared) : Type 0 where
@@ -61,12 +65,20 @@ pub record IsWellMadeSystem (s : SystemData) : Type 0 where
   pub meta_types : All (λ r. All (IsDeclarationOver s.symbols.sorts) r.metas) s.rules
   -- no type in a side has more than 32 arguments
   pub side_types : All (λ r. TypesWithin 32 r.left × TypesWithin 32 r.right) s.rules
+  -- the parentheses of no type in a side nest more than 16 deep
+  pub side_types_shallow : All (λ r. TypesNestWithin 16 r.left × TypesNestWithin 16 r.right) s.rules
   -- each sort has a name
   pub sorts_named : length s.sort_names ≡ s.symbols.sorts
   -- each symbol has a name
   pub symbols_named : length s.fun_names ≡ length s.symbols.funs
   -- each meta-variable of each rule has a name
   pub metas_named : map length s.meta_names ≡ map (λ r. length r.metas) s.rules
+  -- the name of each sort is a name
+  pub sort_names_spelled : All IsName s.sort_names
+  -- the name of each symbol is a name
+  pub fun_names_spelled : All IsName s.fun_names
+  -- the name of each meta-variable is a name
+  pub meta_names_spelled : All (All IsName) s.meta_names
   -- no two sorts have one name
   pub sort_names_distinct : AreDistinct s.sort_names
   -- no two symbols have one name

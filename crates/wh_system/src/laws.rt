@@ -4,6 +4,7 @@ ghost use Rattle.std.specs.Prelude.{◌≡◌, None};
 ghost use Rattle.wh_parts.specs.Parts.{RParts};
 ghost use Rattle.wh_parts.specs.RuleTests.{refusal};
 ghost use Rattle.wh_system.specs.Systems.{SystemData, Says};
+ghost use Rattle.wh_system.specs.Proper.{AreProper};
 ghost use Rattle.wh_system.specs.WellMade.{IsWellMadeSystem};
 ghost use Rattle.wh_system.specs.CanonicalParts.{canonical};
 ghost use Rattle.wh_system.specs.Unplaced.{unplaced};
@@ -13,9 +14,9 @@ ghost use Rattle.wh_system.specs.Resolve.{Means};
 ghost use Rattle.wh_terms.specs.Tree.{Tm};
 ghost use Rattle.wh_terms.specs.Typing.{WellTyped};
 
-/// Parts without a fault say a well-made system.
+/// Proper parts without a fault say a well-made system.
 pub fn systems_are_well_made()
-    ensures { (p : RParts) (s : SystemData) → refusal p ≡ None → Says p s → IsWellMadeSystem s }
+    ensures { (p : RParts) (s : SystemData) → AreProper p → refusal p ≡ None → Says p s → IsWellMadeSystem s }
 {}
 
 /// Parts say one system at most.

@@ -36,6 +36,7 @@ impl System {
     ghost use Rattle.wh_terms.specs.Erase.{symbols, rewrite_rules};
     ghost use Rattle.wh_system.specs.SystemView.{system_data};
     ghost use Rattle.wh_system.specs.Needs.{need_of};
+    ghost use Rattle.wh_system.specs.Proper.{AreProper};
     ghost use Rattle.wh_system.specs.WellMade.{IsWellMadeSystem};
     ghost use Rattle.wh_system.specs.Systems.{Says};
     ghost use Rattle.wh_types.specs.Outcome.{IfBecause};
@@ -43,8 +44,10 @@ impl System {
     ghost use Rattle.wh_parts.specs.RuleTests.{refusal};
 
     /// The system that the parts say, or why they say none: the first of the tests that fails. The tests of the sorts come
-    /// first, then those of the symbols, then those of each rule in order.
+    /// first, then those of the symbols, then those of each rule in order. No declared name is a keyword, and types nest at
+    /// most 16 deep.
     pub fn new(alloc: Global, parts: &Parts) -> Result<System, Or<SystemFault>>
+        requires { AreProper (rparts parts.now) }
         ensures said { IfOk result (λ system. (refusal (rparts parts.now) ≡ None) × Says (rparts parts.now) (system_data system)) }
         ensures refused { IfBecause result (λ fault. refusal (rparts parts.now) ≡ Some fault) }
     {

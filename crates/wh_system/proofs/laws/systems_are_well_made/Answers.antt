@@ -3,4 +3,4 @@ use Rattle.wh_system.proofs.SystemMade.{system_made}
 use Rattle.wh_system.proofs.laws.systems_are_well_made.Goals as goal
 
 pub returns : goal.returns
-returns c p s none says = system_made p s none says
+returns c p s proper none says = system_made p s proper none says

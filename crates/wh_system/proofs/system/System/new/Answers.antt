@@ -22,7 +22,7 @@ invariant_of-result c =
       funs_named = funs ∙ sym is.funs;
       each_need = is.rules.each_need ∙ sym (ap length funs ∙ length-map p.funs (λ (f : RFun). f.name.name));
       needs_known = is.rules.needs;
-      made = merely (system_made p _ c.in_ok-resolved.ensures.0 says);
+      made = merely (system_made p _ c.requires c.in_ok-resolved.ensures.0 says);
     }
 
 pub returns-clause-said : goal.returns-clause-said
