@@ -7,7 +7,7 @@ use Rattle.wh_terms.specs.Measures.{risen, height, heights}
 use Rattle.wh_text.specs.Words.{IsName}
 use Rattle.wh_text.specs.RawTree.{RTm, named, numbered, free_variable, meta as raw_meta, lam as raw_lam, spine, RTms, none, more}
 use Rattle.wh_system.specs.Canonical.{Names, name_at, and_last, with_argument, raw_below, each_raw_below, raw_of, IsNamedBelow, AreNamedBelow}
-use Rattle.wh_round.specs.Nesting.{TypesNestWithin, AllTypesNestWithin}
+use Rattle.wh_system.specs.Nesting.{TypesNestWithin, AllTypesNestWithin}
 use Rattle.wh_round.specs.Sound.{IsSpelledTerm, AreSpelledTerms, IsNoSpine}
 use Rattle.wh_round.proofs.CanonicalTypes.{part_spelled}
 

@@ -3,7 +3,7 @@ use Rattle.std.proofs.Common.{ℕ, ◌+◌, ◌<◌, ◌≤◌, max, List, [], l
 use Rattle.wh_types.specs.Ty.{Ty, sort, ◌⇒◌, result_sort, SortsBelow}
 use Rattle.wh_text.specs.Words.{IsName}
 use Rattle.wh_system.specs.Canonical.{name_at, raw_type_of, raw_arguments_of}
-use Rattle.wh_round.specs.Nesting.{type_nesting, part_nesting}
+use Rattle.wh_system.specs.Nesting.{type_nesting, part_nesting}
 use Rattle.wh_round.specs.Sound.{IsSpelledType, IsSpelledPart, AreSpelledParts}
 
 result-named : (sorts : List (List ℕ)) → All IsName sorts → (a : Ty) → SortsBelow (length sorts) a → IsName (name_at sorts (result_sort a))

@@ -9,11 +9,11 @@ use Rattle.wh_print.specs.SystemText.{system_text}
 use Rattle.wh_read.specs.Raw.{said}
 use Rattle.wh_read.specs.Reading.{Reads}
 use Rattle.wh_round.proofs.Lines.{SystemWritten, system_written}
-use Rattle.wh_round.proofs.SpelledSystem.{Extra, system_spelled}
+use Rattle.wh_round.proofs.SpelledSystem.{system_spelled}
 
-pub text_read_back : (d : SystemData) → IsWellMadeSystem d → Extra d → Reads (system_text d) d
-text_read_back d w x =
-    let s : SystemWritten d = system_written d (system_spelled d w x) in
+pub text_read_back : (d : SystemData) → IsWellMadeSystem d → Reads (system_text d) d
+text_read_back d w =
+    let s : SystemWritten d = system_written d (system_spelled d w) in
     record {
       tokens = s.tokens;
       cut = s.cut;
