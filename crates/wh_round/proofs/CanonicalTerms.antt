@@ -1,14 +1,13 @@
 -- Canonical terms are spelled as a text may have them.
-use Rattle.std.proofs.Common.{ℕ, ◌+◌, ◌*◌, ◌-◌, ◌<◌, ◌≤◌, max, List, [], length, All, arith}
-use Rattle.wh_types.specs.Ty.{SortsBelow}
+use Rattle.std.proofs.Common.{ℕ, ◌+◌, ◌*◌, ◌<◌, ◌≤◌, [], All, arith}
 use Rattle.wh_terms.specs.Tree.{Tm, bound, free, fun, meta, lam, app, Tms, none as no_tms, more as more_tms}
 use Rattle.wh_terms.specs.Sight.{NoFree, AllNoFree}
 use Rattle.wh_terms.specs.Measures.{risen, height, heights}
 use Rattle.wh_text.specs.Words.{IsName}
 use Rattle.wh_text.specs.RawTree.{RTm, named, numbered, free_variable, meta as raw_meta, lam as raw_lam, spine, RTms, none, more}
-use Rattle.wh_system.specs.Canonical.{Names, name_at, and_last, with_argument, raw_below, each_raw_below, raw_of, IsNamedBelow, AreNamedBelow}
+use Rattle.wh_system.specs.Canonical.{Names, and_last, with_argument, raw_below, each_raw_below, IsNamedBelow, AreNamedBelow}
 use Rattle.wh_system.specs.Nesting.{TypesNestWithin, AllTypesNestWithin}
-use Rattle.wh_round.specs.Sound.{IsSpelledTerm, AreSpelledTerms, IsNoSpine}
+use Rattle.wh_round.specs.Sound.{IsSpelledTerm, AreSpelledTerms}
 use Rattle.wh_round.proofs.CanonicalTypes.{part_spelled}
 
 -- all names are names
@@ -22,6 +21,7 @@ abbrev IsFunction : ℕ → RTm → Type 0
 IsFunction k (spine h ts at) = IsSpelledTerm k (spine h ts at)
 IsFunction k h = IsSpelledTerm (k + 1) h
 
+-- one argument more
 last-spelled : (k : ℕ) (ts : RTms) (u : RTm) → AreSpelledTerms k ts → IsSpelledTerm k u → AreSpelledTerms k (and_last ts u)
 last-spelled k none u all here = (here, tt)
 last-spelled k (more t ts) u all here = (all.0, last-spelled k ts u all.1 here)

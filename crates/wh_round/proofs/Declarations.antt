@@ -1,15 +1,14 @@
 -- The lines of sorts and symbols and the declarations of meta-variables are cut into what is written there.
-use Rattle.std.proofs.Common.{◌≡◌, ℕ, suc, ◌+◌, List, [], ◌∷◌, ◌++◌, length, map, All, refl, ap, ap₂, arith}
-use Rattle.std.specs.Prelude.{codes}
+use Rattle.std.proofs.Common.{◌≡◌, ℕ, ◌+◌, List, [], ◌∷◌, length, map, All, refl, ap, ap₂}
+use Rattle.std.proofs.lemmas.List.Elements.{All-head, All-tail}
 use Rattle.wh_types.specs.Ty.{Ty}
 use Rattle.wh_terms.specs.Typing.{Declared}
 use Rattle.wh_text.specs.Words.{IsName}
 use Rattle.wh_text.specs.RawTree.{RTy, RTys, more_types as more_rtys}
-use Rattle.wh_text.specs.Spelling as S
 use Rattle.wh_parts.specs.Parts.{RFun, RMeta}
 use Rattle.wh_system.specs.Canonical.{raw_type_of}
 use Rattle.wh_system.specs.CanonicalParts.{raw_name, raw_types_of, raw_funs_of, raw_metas_of}
-use Rattle.wh_system.specs.Unplaced.{unplaced_type, unplaced_types, unplaced_name, unplaced_fun, unplaced_meta}
+use Rattle.wh_system.specs.Unplaced.{unplaced_types, unplaced_name, unplaced_fun, unplaced_meta}
 use Rattle.wh_print.specs.SystemText as T
 use Rattle.wh_read.specs.Written.{WType, WTypes, no_types, more_types, WBrackets, no_brackets, brackets, WMeta, WMetas, no_metas, more_metas, WDeclared, nothing, declares, WSort, WFun}
 use Rattle.wh_read.specs.Spelled as W
@@ -17,15 +16,8 @@ use Rattle.wh_read.specs.Nesting.{TypeFits, TypesFit, BracketsFit, MetaFits, Met
 use Rattle.wh_read.specs.Raw.{said_types, said_brackets, said_meta, said_metas, said_declared, said_sort, said_fun}
 use Rattle.wh_round.specs.Sound.{IsSpelledType}
 use Rattle.wh_round.specs.Cutting.{Cutting, Any, NoPart}
-use Rattle.wh_round.proofs.Pieces.{cutting_then, any_then, cutting_any, nothing_cut, sign_cut, space_cut, line_feed_cut, name_cut, sort_cut, fun_cut}
+use Rattle.wh_round.proofs.Pieces.{cutting_then, any_then, nothing_cut, sign_cut, space_cut, line_feed_cut, name_cut, sort_cut, fun_cut}
 use Rattle.wh_round.proofs.SpelledTypes.{TypeWritten, type_written}
-
--- what holds of all holds of the first and of the others
-pub first_of_all : {A : Type 0} (P : A → Type 0) (x : A) (xs : List A) → All P (x ∷ xs) → P x
-first_of_all P x xs all = all 0 x (omega arith)
-
-pub rest_of_all : {A : Type 0} (P : A → Type 0) (x : A) (xs : List A) → All P (x ∷ xs) → All P xs
-rest_of_all P x xs all = λ k e within. all (suc k) e (omega arith)
 
 -- the canonical type is spelled as a text may have it
 abbrev pub IsSpelledOver : List (List ℕ) → Ty → Type 0
@@ -38,6 +30,7 @@ pub record IsSpelledDeclaration (sorts : List (List ℕ)) (d : Declared) : Type 
 
 -- the sorts
 
+-- the lines that are written for sorts with these names
 pub record SortsWritten (names : List (List ℕ)) (at : ℕ) : Type 0 where
   pub end : ℕ
   pub written : List WSort
@@ -61,16 +54,17 @@ pub sorts_written : (names : List (List ℕ)) → All IsName names → (at : ℕ
 unfolding written-sort
 sorts_written [] all at = record { end = at; written = []; says = refl; cut = nothing_cut Any at }
 sorts_written (n ∷ names) all at =
-    let rest = sorts_written names (rest_of_all IsName n names all) (at + 4 + 1 + length n + 1 + 1) in
+    let rest = sorts_written names (All-tail IsName n names all) (at + 4 + 1 + length n + 1 + 1) in
     record {
       end = rest.end;
       written = written-sort n at ∷ rest.written;
       says = ap (λ xs. raw_name n ∷ xs) rest.says;
-      cut = any_then (sort_line n (first_of_all IsName n names all) at) rest.cut;
+      cut = any_then (sort_line n (All-head IsName n names all) at) rest.cut;
     }
 
 -- the symbols
 
+-- the lines that are written for symbols with these names and types
 pub record FunsWritten (sorts names : List (List ℕ)) (kinds : List Ty) (at : ℕ) : Type 0 where
   pub end : ℕ
   pub written : List WFun
@@ -100,14 +94,14 @@ unfolding written-fun
 funs_written sorts [] kinds all spelled at = record { end = at; written = []; fits = tt; says = refl; cut = nothing_cut Any at }
 funs_written sorts (n ∷ names) [] all spelled at = record { end = at; written = []; fits = tt; says = refl; cut = nothing_cut Any at }
 funs_written sorts (n ∷ names) (a ∷ kinds) all spelled at =
-    let kind = type_written 0 (raw_type_of sorts a) (first_of_all (IsSpelledOver sorts) a kinds spelled) (at + 3 + 1 + length n + 1) in
-    let rest = funs_written sorts names kinds (rest_of_all IsName n names all) (rest_of_all (IsSpelledOver sorts) a kinds spelled) (kind.end + 1 + 1) in
+    let kind = type_written 0 (raw_type_of sorts a) (All-head (IsSpelledOver sorts) a kinds spelled) (at + 3 + 1 + length n + 1) in
+    let rest = funs_written sorts names kinds (All-tail IsName n names all) (All-tail (IsSpelledOver sorts) a kinds spelled) (kind.end + 1 + 1) in
     record {
       end = rest.end;
       written = written-fun n at kind.written kind.end ∷ rest.written;
       fits = (kind.fits, rest.fits);
       says = ap₂ (λ b fs. named n b ∷ fs) kind.says rest.says;
-      cut = any_then (fun_line sorts n (first_of_all IsName n names all) a at kind) rest.cut;
+      cut = any_then (fun_line sorts n (All-head IsName n names all) a at kind) rest.cut;
     }
   where
     named : List ℕ → RTy → RFun
@@ -115,6 +109,7 @@ funs_written sorts (n ∷ names) (a ∷ kinds) all spelled at =
 
 -- the types in brackets
 
+-- what is written for further types, each behind a comma
 record FurtherWritten (sorts : List (List ℕ)) (kinds : List Ty) (at : ℕ) : Type 0 where
   end : ℕ
   written : WTypes
@@ -122,6 +117,7 @@ record FurtherWritten (sorts : List (List ℕ)) (kinds : List Ty) (at : ℕ) : T
   says : unplaced_types (said_types written) ≡ unplaced_types (raw_types_of sorts kinds)
   cut : Cutting NoPart at end (T.put_further sorts kinds) (W.put_types written)
 
+-- a comma goes on no name
 further-starts : (sorts : List (List ℕ)) (kinds : List Ty) (r : List ℕ) → NoPart r → NoPart (T.put_further sorts kinds r)
 further-starts sorts [] r stops = stops
 further-starts sorts (a ∷ kinds) r stops = refl
@@ -129,8 +125,8 @@ further-starts sorts (a ∷ kinds) r stops = refl
 further_written : (sorts : List (List ℕ)) (kinds : List Ty) → All (IsSpelledOver sorts) kinds → (at : ℕ) → FurtherWritten sorts kinds at
 further_written sorts [] spelled at = record { end = at; written = no_types; fits = tt; says = refl; cut = nothing_cut NoPart at }
 further_written sorts (a ∷ kinds) spelled at =
-    let kind = type_written 0 (raw_type_of sorts a) (first_of_all (IsSpelledOver sorts) a kinds spelled) (at + 1) in
-    let rest = further_written sorts kinds (rest_of_all (IsSpelledOver sorts) a kinds spelled) kind.end in
+    let kind = type_written 0 (raw_type_of sorts a) (All-head (IsSpelledOver sorts) a kinds spelled) (at + 1) in
+    let rest = further_written sorts kinds (All-tail (IsSpelledOver sorts) a kinds spelled) kind.end in
     record {
       end = rest.end;
       written = more_types at kind.written rest.written;
@@ -139,6 +135,7 @@ further_written sorts (a ∷ kinds) spelled at =
       cut = any_then (sign_cut 44 at refl) (cutting_then kind.cut rest.cut (λ r good. further-starts sorts kinds r good));
     }
 
+-- what is written for types in brackets, and nothing where there are none
 record BracketsWritten (sorts : List (List ℕ)) (kinds : List Ty) (at : ℕ) : Type 0 where
   end : ℕ
   written : WBrackets
@@ -149,16 +146,16 @@ record BracketsWritten (sorts : List (List ℕ)) (kinds : List Ty) (at : ℕ) : 
 brackets_written : (sorts : List (List ℕ)) (kinds : List Ty) → All (IsSpelledOver sorts) kinds → (at : ℕ) → BracketsWritten sorts kinds at
 brackets_written sorts [] spelled at = record { end = at; written = no_brackets; fits = tt; says = refl; cut = nothing_cut Any at }
 brackets_written sorts (a ∷ kinds) spelled at =
-    let kind = type_written 0 (raw_type_of sorts a) (first_of_all (IsSpelledOver sorts) a kinds spelled) (at + 1) in
-    let rest = further_written sorts kinds (rest_of_all (IsSpelledOver sorts) a kinds spelled) kind.end in
+    let kind = type_written 0 (raw_type_of sorts a) (All-head (IsSpelledOver sorts) a kinds spelled) (at + 1) in
+    let rest = further_written sorts kinds (All-tail (IsSpelledOver sorts) a kinds spelled) kind.end in
     record {
       end = rest.end + 1;
       written = brackets at kind.written rest.written rest.end;
       fits = (kind.fits, rest.fits);
       says = ap₂ more_rtys kind.says rest.says;
       cut =
-      any_then (sign_cut 91 at refl)
-      (cutting_then kind.cut (cutting_then rest.cut (sign_cut 93 rest.end refl) (λ r good. refl)) (λ r good. further-starts sorts kinds (93 ∷ r) refl));
+          any_then (sign_cut 91 at refl)
+          (cutting_then kind.cut (cutting_then rest.cut (sign_cut 93 rest.end refl) (λ r good. refl)) (λ r good. further-starts sorts kinds (93 ∷ r) refl));
     }
 
 -- the meta-variables
@@ -166,6 +163,7 @@ brackets_written sorts (a ∷ kinds) spelled at =
 abbrev raw_meta_of : List (List ℕ) → List ℕ → Declared → RMeta
 raw_meta_of sorts n d = record { name = raw_name n; args = raw_types_of sorts d.args; out = raw_type_of sorts d.out }
 
+-- what is written for one
 record MetaWritten (sorts : List (List ℕ)) (n : List ℕ) (d : Declared) (at : ℕ) : Type 0 where
   end : ℕ
   written : WMeta
@@ -188,6 +186,7 @@ meta_written sorts n is d spelled at =
     named : RTys → RTy → RMeta
     named args out = record { name = raw_name n; args = args; out = out }
 
+-- what is written for further ones, each behind a comma
 record MetasWritten (sorts names : List (List ℕ)) (ds : List Declared) (at : ℕ) : Type 0 where
   end : ℕ
   written : WMetas
@@ -195,6 +194,7 @@ record MetasWritten (sorts names : List (List ℕ)) (ds : List Declared) (at : �
   says : map unplaced_meta (said_metas written) ≡ map unplaced_meta (raw_metas_of sorts names ds)
   cut : Cutting NoPart at end (T.put_further_metas sorts names ds) (W.put_metas written)
 
+-- a comma goes on no name
 metas-start : (sorts names : List (List ℕ)) (ds : List Declared) (r : List ℕ) → NoPart r → NoPart (T.put_further_metas sorts names ds r)
 metas-start sorts [] ds r stops = stops
 metas-start sorts (n ∷ names) [] r stops = stops
@@ -204,8 +204,8 @@ metas_written : (sorts names : List (List ℕ)) (ds : List Declared) → All IsN
 metas_written sorts [] ds all spelled at = record { end = at; written = no_metas; fits = tt; says = refl; cut = nothing_cut NoPart at }
 metas_written sorts (n ∷ names) [] all spelled at = record { end = at; written = no_metas; fits = tt; says = refl; cut = nothing_cut NoPart at }
 metas_written sorts (n ∷ names) (d ∷ ds) all spelled at =
-    let first = meta_written sorts n (first_of_all IsName n names all) d (first_of_all (IsSpelledDeclaration sorts) d ds spelled) (at + 1) in
-    let rest = metas_written sorts names ds (rest_of_all IsName n names all) (rest_of_all (IsSpelledDeclaration sorts) d ds spelled) first.end in
+    let first = meta_written sorts n (All-head IsName n names all) d (All-head (IsSpelledDeclaration sorts) d ds spelled) (at + 1) in
+    let rest = metas_written sorts names ds (All-tail IsName n names all) (All-tail (IsSpelledDeclaration sorts) d ds spelled) first.end in
     record {
       end = rest.end;
       written = more_metas at first.written rest.written;
@@ -214,6 +214,7 @@ metas_written sorts (n ∷ names) (d ∷ ds) all spelled at =
       cut = any_then (sign_cut 44 at refl) (cutting_then first.cut rest.cut (λ r good. metas-start sorts names ds r good));
     }
 
+-- what is written between the braces of a rule
 pub record DeclaredWritten (sorts names : List (List ℕ)) (ds : List Declared) (at : ℕ) : Type 0 where
   pub end : ℕ
   pub written : WDeclared
@@ -225,8 +226,8 @@ pub declared_written : (sorts names : List (List ℕ)) (ds : List Declared) → 
 declared_written sorts [] ds all spelled at = record { end = at; written = nothing; fits = tt; says = refl; cut = nothing_cut NoPart at }
 declared_written sorts (n ∷ names) [] all spelled at = record { end = at; written = nothing; fits = tt; says = refl; cut = nothing_cut NoPart at }
 declared_written sorts (n ∷ names) (d ∷ ds) all spelled at =
-    let first = meta_written sorts n (first_of_all IsName n names all) d (first_of_all (IsSpelledDeclaration sorts) d ds spelled) at in
-    let rest = metas_written sorts names ds (rest_of_all IsName n names all) (rest_of_all (IsSpelledDeclaration sorts) d ds spelled) first.end in
+    let first = meta_written sorts n (All-head IsName n names all) d (All-head (IsSpelledDeclaration sorts) d ds spelled) at in
+    let rest = metas_written sorts names ds (All-tail IsName n names all) (All-tail (IsSpelledDeclaration sorts) d ds spelled) first.end in
     record {
       end = rest.end;
       written = declares first.written rest.written;

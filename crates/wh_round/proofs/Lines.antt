@@ -1,25 +1,25 @@
 -- The lines of rules, and the whole text of a system.
-use Rattle.std.proofs.Common.{◌≡◌, ℕ, suc, ◌+◌, List, [], ◌∷◌, ◌++◌, length, get_or, map, All, refl, ap, ap₂, sym, ◌∙◌, subst, arith}
+use Rattle.std.proofs.Common.{◌≡◌, ℕ, suc, ◌+◌, List, [], ◌∷◌, length, get_or, map, All, refl, ap, ap₂, ◌∙◌, arith}
 use Rattle.wh_terms.specs.Rules.{RewriteRule}
 use Rattle.wh_text.specs.Words.{IsName}
 use Rattle.wh_text.specs.RawTree.{RTm}
 use Rattle.wh_text.specs.Tokens.{Token, whole, Cuts, ended}
 use Rattle.wh_parts.specs.Parts.{RMeta, RRule}
 use Rattle.wh_system.specs.Systems.{SystemData}
-use Rattle.wh_system.specs.Canonical.{Names, raw_of}
+use Rattle.wh_system.specs.Canonical.{raw_of}
 use Rattle.wh_system.specs.CanonicalParts.{raw_rule_of, raw_rules_of, canonical}
 use Rattle.wh_system.specs.CanonicalView.{names_of_rule}
 use Rattle.wh_system.specs.Unplaced.{unplaced_rule, unplaced}
 use Rattle.wh_print.specs.SystemText as T
-use Rattle.wh_read.specs.Written.{WDeclared, WTerm, WRule, WSystem}
+use Rattle.wh_read.specs.Written.{WRule, WSystem}
 use Rattle.wh_read.specs.Spelled as W
 use Rattle.wh_read.specs.Nesting.{RuleFits, Each, SystemFits}
 use Rattle.wh_read.specs.Raw.{said_rule, said}
 use Rattle.wh_round.specs.Sound.{IsSpelledTerm}
 use Rattle.wh_round.specs.Cutting.{Cutting, Any}
 use Rattle.wh_round.proofs.Pieces.{cutting_then, any_then, nothing_cut, sign_cut, space_cut, line_feed_cut, thick_arrow_cut, rule_cut}
-use Rattle.wh_round.proofs.SpelledTerms.{TermWritten, term_written}
-use Rattle.wh_round.proofs.Declarations.{IsSpelledOver, IsSpelledDeclaration, DeclaredWritten, declared_written, sorts_written, funs_written}
+use Rattle.wh_round.proofs.SpelledTerms.{term_written}
+use Rattle.wh_round.proofs.Declarations.{IsSpelledOver, IsSpelledDeclaration, declared_written, sorts_written, funs_written}
 
 -- the names that the rule number k has in the system
 abbrev metas_at : SystemData → ℕ → List (List ℕ)
@@ -37,6 +37,7 @@ abbrev pub AreSpelledRules : SystemData → ℕ → List RewriteRule → Type 0
 AreSpelledRules d k [] = Unit {0}
 AreSpelledRules d k (rule ∷ rules) = IsSpelledRule d k rule × AreSpelledRules d (k + 1) rules
 
+-- the line that is written for the rule
 record RuleWritten (d : SystemData) (k : ℕ) (rule : RewriteRule) (at : ℕ) : Type 0 where
   end : ℕ
   written : WRule
@@ -55,27 +56,28 @@ rule_written d k rule spelled at =
       fits = (metas.fits, left.fits, right.fits);
       says = λ i. sided (metas.says i) (left.says i) (right.says i);
       cut =
-      cutting_then (rule_cut at)
-      (any_then (space_cut (at + 4))
-      (any_then (sign_cut 123 (at + 4 + 1) refl)
-      (cutting_then metas.cut
-      (any_then (sign_cut 125 metas.end refl)
-      (any_then (space_cut (metas.end + 1))
-      (cutting_then left.cut
-      (any_then (space_cut left.end)
-      (any_then (thick_arrow_cut (left.end + 1))
-      (any_then (space_cut (left.end + 1 + 2))
-      (cutting_then right.cut
-      (any_then (sign_cut 59 right.end refl) (line_feed_cut (right.end + 1)))
-      (λ r good. refl)))))
-      (λ r good. refl))))
-      (λ r good. refl))))
-      (λ r good. refl);
+          cutting_then (rule_cut at)
+          (any_then (space_cut (at + 4))
+          (any_then (sign_cut 123 (at + 4 + 1) refl)
+          (cutting_then metas.cut
+          (any_then (sign_cut 125 metas.end refl)
+          (any_then (space_cut (metas.end + 1))
+          (cutting_then left.cut
+          (any_then (space_cut left.end)
+          (any_then (thick_arrow_cut (left.end + 1))
+          (any_then (space_cut (left.end + 1 + 2))
+          (cutting_then right.cut
+          (any_then (sign_cut 59 right.end refl) (line_feed_cut (right.end + 1)))
+          (λ r good. refl)))))
+          (λ r good. refl))))
+          (λ r good. refl))))
+          (λ r good. refl);
     }
   where
     sided : List RMeta → RTm → RTm → RRule
     sided metas left right = record { metas = metas; left = left; right = right; at = 0 }
 
+-- the lines that are written for rules from number k on, where `others` has the names of their meta-variables
 record RulesWritten (d : SystemData) (k : ℕ) (others : List (List (List ℕ))) (rules : List RewriteRule) (at : ℕ) : Type 0 where
   end : ℕ
   written : List WRule
@@ -83,7 +85,6 @@ record RulesWritten (d : SystemData) (k : ℕ) (others : List (List (List ℕ)))
   says : map unplaced_rule (map said_rule written) ≡ map unplaced_rule (raw_rules_of d others rules)
   cut : Cutting Any at end (T.put_rules d k rules) (W.put_all W.put_rule written)
 
--- the names from number k on
 rules_written : (d : SystemData) (k : ℕ) (others : List (List (List ℕ))) (rules : List RewriteRule) → length others ≡ length rules → ((i : ℕ) → get_or d.meta_names (k + i) [] ≡ get_or others i [])
     → AreSpelledRules d k rules → (at : ℕ) → RulesWritten d k others rules at
 rules_written d k [] [] long same spelled at = record { end = at; written = []; fits = tt; says = refl; cut = nothing_cut Any at }

@@ -11,6 +11,7 @@ use Rattle.wh_read.specs.Reading.{Reads}
 use Rattle.wh_round.proofs.Lines.{SystemWritten, system_written}
 use Rattle.wh_round.proofs.SpelledSystem.{system_spelled}
 
+-- the tokens of the text spell what says the canonical parts, but for places, and places do not matter
 pub text_read_back : (d : SystemData) → IsWellMadeSystem d → Reads (system_text d) d
 text_read_back d w =
     let s : SystemWritten d = system_written d (system_spelled d w) in
