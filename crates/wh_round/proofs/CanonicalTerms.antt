@@ -46,7 +46,8 @@ with-function k (spine h ts at) u spelled = spelled
 
 -- below d binders, of which each is one of the k levels, the tree takes two levels for each of its height
 mutual
-  pub term_spelled : (n : Names) → AreNames n → (t : Tm) (d k : ℕ) → d ≤ k → k + 2 * height t ≤ 400 → NoFree t → IsNamedBelow n d t → TypesNestWithin 16 t → IsSpelledTerm k (raw_below n d t)
+  pub term_spelled : (n : Names) → AreNames n → (t : Tm) (d k : ℕ) → d ≤ k → k + 2 * height t ≤ 400 → NoFree t → IsNamedBelow n d t → TypesNestWithin 16 t
+      → IsSpelledTerm k (raw_below n d t)
   term_spelled n names (bound i) d k passed low closed all shallow = omega arith
   term_spelled n names (free x a) d k passed low closed all shallow = absurd closed
   term_spelled n names (fun f) d k passed low closed all shallow = names.funs f [] all
@@ -68,12 +69,14 @@ mutual
       (function-spelled n names t d k passed (omega arith) closed.0 all.0 shallow.0)
       (term_spelled n names u d (k + 1) (omega arith) (omega arith) closed.1 all.1 shallow.1)
 
-  terms_spelled : (n : Names) → AreNames n → (ts : Tms) (d k : ℕ) → d ≤ k → k + 2 * heights ts ≤ 400 → AllNoFree ts → AreNamedBelow n d ts → AllTypesNestWithin 16 ts → AreSpelledTerms k (each_raw_below n d ts)
+  terms_spelled : (n : Names) → AreNames n → (ts : Tms) (d k : ℕ) → d ≤ k → k + 2 * heights ts ≤ 400 → AllNoFree ts → AreNamedBelow n d ts → AllTypesNestWithin 16 ts
+      → AreSpelledTerms k (each_raw_below n d ts)
   terms_spelled n names no_tms d k passed low closed all shallow = tt
   terms_spelled n names (more_tms t ts) d k passed low closed all shallow =
       (term_spelled n names t d k passed (omega arith) closed.0 all.0 shallow.0, terms_spelled n names ts d k passed (omega arith) closed.1 all.1 shallow.1)
 
-  function-spelled : (n : Names) → AreNames n → (t : Tm) (d k : ℕ) → d ≤ k → k + 2 * risen t (height t) ≤ 400 → NoFree t → IsNamedBelow n d t → TypesNestWithin 16 t → IsFunction k (raw_below n d t)
+  function-spelled : (n : Names) → AreNames n → (t : Tm) (d k : ℕ) → d ≤ k → k + 2 * risen t (height t) ≤ 400 → NoFree t → IsNamedBelow n d t → TypesNestWithin 16 t
+      → IsFunction k (raw_below n d t)
   function-spelled n names (bound i) d k passed low closed all shallow = omega arith
   function-spelled n names (free x a) d k passed low closed all shallow = absurd closed
   function-spelled n names (fun f) d k passed low closed all shallow = names.funs f [] all

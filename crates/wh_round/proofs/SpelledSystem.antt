@@ -53,8 +53,8 @@ rule_spelled d w k e within =
     }
 
 -- the rules from number k on
-rules_spelled : (d : SystemData) → IsWellMadeSystem d → (k : ℕ) (rules : List RewriteRule) → k + length rules ≡ length d.rules → ((i : ℕ) (e : RewriteRule) → get_or d.rules (k + i) e ≡ get_or rules i e)
-    → AreSpelledRules d k rules
+rules_spelled : (d : SystemData) → IsWellMadeSystem d → (k : ℕ) (rules : List RewriteRule) → k + length rules ≡ length d.rules
+    → ((i : ℕ) (e : RewriteRule) → get_or d.rules (k + i) e ≡ get_or rules i e) → AreSpelledRules d k rules
 rules_spelled d w k [] long along = tt
 rules_spelled d w k (rule ∷ rules) long along =
     let here : get_or d.rules k rule ≡ rule = ap (λ j. get_or d.rules j rule) (next-first k) ∙ along 0 rule in
