@@ -1,10 +1,10 @@
--- Tokens that are cut from a text stand in it, and those of names are words.
-use Rattle.std.proofs.Common.{◌≡◌, ℕ, zero, suc, ◌+◌, ◌<◌, ◌≤◌, ◌⊎◌, inl, inr, List, [], ◌∷◌, ◌++◌, length, get_or, map, refl, sym, ap, subst, ◌∙◌, arith}
+-- Tokens that are cut from a text stand in it, and those of names are names.
+use Rattle.std.proofs.Common.{◌≡◌, ℕ, zero, suc, ◌+◌, ◌<◌, ◌≤◌, ◌⊎◌, inl, inr, List, [], ◌∷◌, length, get_or, sym, ap, subst, arith}
 use Rattle.std.proofs.lemmas.List.{length-append, length-map, get_or-map}
 use Rattle.wh_read.specs.Nesting.{Each}
 use Rattle.wh_text.specs.Chars.{is_part, AllPass}
-use Rattle.wh_text.specs.Words.{Starts, IsWord, IsKeyword}
-use Rattle.wh_text.specs.Tokens.{Kind, name, keyword, dollar, percent, sign, Token, Ending, whole, Marks, Cuts, ended, space, comment, word, number, one_sign, arrow, nothing_begins, no_arrow, no_number, bad_digits, long_word}
+use Rattle.wh_text.specs.Words.{Starts, IsWord, IsKeyword, IsName}
+use Rattle.wh_text.specs.Tokens.{Kind, name, keyword, Token, Ending, Marks, Cuts, ended, space, comment, word, number, one_sign, arrow, nothing_begins, no_arrow, no_number, bad_digits, long_word}
 use Rattle.wh_text.specs.Erase.{part, tokens, kind_of}
 use Rattle.wh_text.specs.Erase.{token as cut_token}
 use Rattle.wh_text.specs.Pieces.{IsCutInto}
@@ -12,25 +12,25 @@ use Rattle.wh_text.specs.declared.token.Token as code
 use Rattle.wh_text.specs.declared.token.TokenKind.{TokenKind}
 use Rattle.wh_text.specs.declared.token.TokenKind.TheVariants.{Name}
 
--- the kind is no name, or that of a word
-abbrev KindFits : Kind → Type 0
-KindFits (name w) = IsWord w
+-- the kind is no name, or that of one
+abbrev pub KindFits : Kind → Type 0
+KindFits (name w) = IsName w
 KindFits k = Unit {0}
 
-record StandsIn (n : ℕ) (t : Token) : Type 0 where
+pub record StandsIn (n : ℕ) (t : Token) : Type 0 where
   pub ordered : t.from ≤ t.to
   pub within : t.to ≤ n
   pub fits : KindFits t.kind
 
 word_fits : (w : List ℕ) (k : Kind) → Starts w → AllPass is_part w → length w ≤ 64 → (IsKeyword w × (k ≡ keyword w)) ⊎ ((IsKeyword w → ⊥) × (k ≡ name w)) → KindFits k
 word_fits w k s p l (inl h) = subst KindFits (sym h.1) tt
-word_fits w k s p l (inr h) = subst KindFits (sym h.1) (record { starts = s; parts = p; short = l })
+word_fits w k s p l (inr h) = subst KindFits (sym h.1) (record { word = record { starts = s; parts = p; short = l }; free = h.0 })
 
 number_fits : (b n : ℕ) (k : ℕ → Kind) → Marks b k → KindFits (k n)
 number_fits b n k (inl h) = subst (λ (f : ℕ → Kind). KindFits (f n)) (sym h.1) tt
 number_fits b n k (inr h) = subst (λ (f : ℕ → Kind). KindFits (f n)) (sym h.1) tt
 
-all_stand : {at : ℕ} {bytes : List ℕ} {ts : List Token} {e : Ending} → Cuts at bytes ts e → (n : ℕ) → at + length bytes ≡ n → Each (StandsIn n) ts
+pub all_stand : {at : ℕ} {bytes : List ℕ} {ts : List Token} {e : Ending} → Cuts at bytes ts e → (n : ℕ) → at + length bytes ≡ n → Each (StandsIn n) ts
 all_stand ended n h = tt
 all_stand (space s c) n h = all_stand c n (omega (arith, h))
 all_stand (comment r c p s b more) n h =
@@ -71,4 +71,4 @@ stands_there text ts i d c below =
     let there : StandsIn (length text) (get_or (tokens text ts) i (cut_token text d)) = each_at (StandsIn (length text)) (tokens text ts) i (cut_token text d) (omega (arith, below, length-map ts (cut_token text))) all in
     let same : get_or (tokens text ts) i (cut_token text d) ≡ cut_token text t = get_or-map (cut_token text) ts i d (cut_token text d) below in
     let it : StandsIn (length text) (cut_token text t) = subst (StandsIn (length text)) same there in
-    record { ordered = it.ordered; within = it.within; word = λ k. subst (λ (x : TokenKind). KindFits (kind_of (part text t.from t.to) x)) k it.fits }
+    record { ordered = it.ordered; within = it.within; word = λ k. (subst (λ (x : TokenKind). KindFits (kind_of (part text t.from t.to) x)) k it.fits).word }

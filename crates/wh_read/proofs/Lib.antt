@@ -14,3 +14,4 @@ pub mod OneReading
 pub mod CutTokens
 pub mod Steps
 pub mod OneSystem
+pub mod ProperParts

@@ -3,9 +3,9 @@ use Rattle.std.proofs.Common.{◌≡◌, ℕ, inl, inr, List, [], ◌∷◌, ◌
 use Rattle.std.specs.Prelude.{codes}
 use Rattle.std.proofs.lemmas.List.{append_cancel_left}
 use Rattle.wh_system.specs.Systems.{SystemData}
-use Rattle.wh_system.proofs.SystemMade.{system_made}
 use Rattle.wh_read.specs.Reading.{Reads}
 use Rattle.wh_read.proofs.OneSystem.{one_reading}
+use Rattle.wh_read.proofs.ProperParts.{system_read}
 use Rattle.wh_cert.specs.Written.{Cert}
 use Rattle.wh_cert.specs.CertText.{CertText}
 use Rattle.wh_no.proofs.Valid.{valid-unbounded}
@@ -27,7 +27,7 @@ valid_means system cert d c reads text (claim, says, valid) = record {
   certified = text;
   claim = claim;
   claims = says;
-  unbounded = valid-unbounded d.symbols d.rules claim (system_made reads.parts d reads.passes reads.says).rules valid;
+  unbounded = valid-unbounded d.symbols d.rules claim (system_read system d reads).rules valid;
 }
 
 first_byte : (a b : ℕ) (xs ys : List ℕ) → a ∷ xs ≡ b ∷ ys → a ≡ b

@@ -1,0 +1,7 @@
+//! The canonical text of a system reads back as that system. The laws are contracts of functions that do nothing: no
+//! program calls them.
+#![tactic(auto)]
+
+mod laws;
+
+pub use laws::{canonical_texts_are_read_back, printed_systems_are_read_back};
