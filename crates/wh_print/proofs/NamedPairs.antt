@@ -1,22 +1,20 @@
 -- All that stands in a pair of a system has a name.
-use Rattle.std.proofs.Common.{◌≡◌, ℕ, zero, suc, ◌+◌, ◌-◌, ◌<◌, ◌≤◌, List, [], ◌∷◌, ◌++◌, length, map, take, drop, reverse, get_or, All, Some, ◌⊎◌, inl, inr, ⊎_elim, refl, ap, sym, subst, ◌∙◌, arith}
-use Rattle.std.specs.Prelude.{Contains, slice_get}
+use Rattle.std.proofs.Common.{◌≡◌, ℕ, suc, ◌+◌, ◌-◌, ◌<◌, ◌≤◌, List, [], ◌∷◌, ◌++◌, length, map, take, reverse, get_or, All, Some, ⊎_elim, refl, sym, subst, arith}
+use Rattle.std.specs.Prelude.{Contains, slice_get, true, false}
 use Rattle.std.proofs.lemmas.List.{length-append, length-map, length-reverse, length-take, length-drop}
 use Rattle.std.proofs.lemmas.List.Elements.{All-append, All-map, All-take, All-weaker, Contains-get_or, Contains-append_cases}
 use Rattle.std.proofs.lemmas.Option.{slice_get-get_or, slice_get_within}
 use Rattle.wh_types.specs.Ty.{sort, arguments}
-use Rattle.wh_terms.specs.Tree.{Tm, fun, free, head}
+use Rattle.wh_terms.specs.Tree.{Tm, free}
 use Rattle.wh_terms.specs.Substitution.{act}
-use Rattle.wh_terms.specs.Typing.{Symbols}
 use Rattle.wh_terms.specs.Rules.{RewriteRule}
 use Rattle.wh_system.specs.Systems.{SystemData}
 use Rattle.wh_system.specs.WellMade.{IsWellMadeSystem}
 use Rattle.wh_system.specs.Canonical.{Names, IsNamedBelow}
 use Rattle.wh_system.specs.CanonicalView.{names_of_rule}
-use Rattle.wh_system.specs.PairData.{PairData, Within}
+use Rattle.wh_system.specs.PairData.{PairData}
 use Rattle.wh_system.proofs.CanonicalBack.{rule_there, metas_there, side_named}
-use Rattle.std.specs.Prelude.{true, false}
-use Rattle.wh_pairs.specs.Spines.{spine_arguments, symbol_of}
+use Rattle.wh_pairs.specs.Spines.{symbol_of}
 use Rattle.wh_pairs.specs.Calls.{Call, calls_of}
 use Rattle.wh_pairs.specs.Candidates.{nullary, freed, numbered_from, missing_types, candidate, candidates_from, candidates}
 use Rattle.wh_pairs.specs.Subsumption.{AreLeft, none_left, one_dropped, one_kept, ArePairs}

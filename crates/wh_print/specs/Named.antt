@@ -1,6 +1,5 @@
 -- Pairs in which all has a name.
-use Rattle.std.specs.Prelude.{ℕ, ◌<◌, ◌≤◌, [], length, get_or, All}
-use Rattle.wh_terms.specs.Tree.{tms_of}
+use Rattle.std.specs.Prelude.{◌<◌, ◌≤◌, [], length, get_or, All}
 use Rattle.wh_system.specs.Systems.{SystemData}
 use Rattle.wh_system.specs.Canonical.{IsNamedBelow}
 use Rattle.wh_system.specs.PairData.{PairData}

@@ -1,4 +1,4 @@
-//! Printing systems: the canonical text. Printing dependency pairs.
+//! The canonical text of a system, and the text of its dependency pairs.
 #![tactic(auto)]
 
 mod counts;

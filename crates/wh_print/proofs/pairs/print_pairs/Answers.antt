@@ -1,6 +1,5 @@
-use Rattle.std.proofs.Common.{◌≡◌, subst, sym, ap}
+use Rattle.std.proofs.Common.{subst}
 use Rattle.std.specs.Prelude.{Contains}
-use Rattle.wh_system.specs.PairData.{PairData}
 use Rattle.wh_system.specs.SystemView.{system_data}
 use Rattle.wh_system.proofs.MadeDecided.{system_is_well_made}
 use Rattle.wh_pairs.specs.Views.{pairs_data}
