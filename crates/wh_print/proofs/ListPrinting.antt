@@ -40,6 +40,12 @@ at_item P f [] i x all below is = absurd (omega arith)
 at_item P f (y ∷ ys) zero x all below is = subst (λ z. P (f z)) (sym is) (All-head P (f y) (map f ys) all)
 at_item P f (y ∷ ys) (suc i) x all below is = at_item P f ys i x (All-tail P (f y) (map f ys) all) (omega (arith, below)) is
 
+-- the same of a member that is copied
+pub at_copy : {A B : Type 0} (P : B → Type 0) (f : A → B) (xs : List A) (i : ℕ) (d : A) → All P (map f xs) → i < length xs → P (f (slice_index_or xs i d))
+at_copy P f [] i d all below = absurd (omega arith)
+at_copy P f (y ∷ ys) zero d all below = All-head P (f y) (map f ys) all
+at_copy P f (y ∷ ys) (suc i) d all below = at_copy P f ys i d (All-tail P (f y) (map f ys) all) (omega (arith, below))
+
 pub some_left : {A : Type 0} (xs : List A) → (length xs == 0) ≡ false → 0 < length xs
 some_left [] some = absurd (true≢false some)
 some_left (x ∷ xs) some = omega arith

@@ -1,2 +1,6 @@
 pub mod SystemText
 pub mod Sorted
+pub mod PairText
+pub mod PairViews
+pub mod Fronts
+pub mod Named
