@@ -11,7 +11,7 @@ use Rattle.wh_cert.specs.CertText.{CertText}
 use Rattle.wh_no.proofs.Valid.{valid-unbounded}
 use Rattle.wh_top.specs.declared.status.Status.{Status}
 use Rattle.wh_top.specs.declared.outcome.Outcome.{Outcome}
-use Rattle.wh_top.specs.declared.outcome.Outcome.TheVariants.{No, Rejected, Refused, ReadFault, TooLong, Later}
+use Rattle.wh_top.specs.declared.outcome.Outcome.TheVariants.{No, Rejected, Refused, TooManyPairs, ReadFault, TooLong, Later}
 use Rattle.wh_top.specs.Words.{Request, check, show, Asks}
 use Rattle.wh_top.specs.Texts.{text_of}
 use Rattle.wh_top.specs.Outcomes.{Shelves, Told, IsValidNo, BeginsWith, Stands, StandsBySystem}
@@ -41,6 +41,7 @@ only_no : (o : Outcome) (rest back : List ℕ) → text_of o ≡ (78 ∷ 79 ∷ 
 only_no No rest back e = refl
 only_no (Rejected fault) rest back e = absurd (not_78 82 _ rest back (λ d. omega arith) e)
 only_no (Refused reason) rest back e = absurd (not_78 82 _ rest back (λ d. omega arith) e)
+only_no TooManyPairs rest back e = absurd (not_78 82 _ rest back (λ d. omega arith) e)
 only_no (ReadFault role) rest back e = absurd (not_78 82 _ rest back (λ d. omega arith) e)
 only_no (TooLong role) rest back e = absurd (not_78 84 _ rest back (λ d. omega arith) e)
 only_no Later rest back e = absurd (not_78 76 _ rest back (λ d. omega arith) e)
@@ -72,7 +73,7 @@ no_means s words status text rest back (inl served) e = by served.request served
           cert,
           asks,
           λ system held certificate certified.
-              let (within, d, reads, told) = stands system held in
+              let (within, d, ps, reads, has, told) = stands system held in
               let judged : (c : Cert) × CertText certificate c × IsValidNo d c = (told certificate certified).1 in
               valid_means system certificate d judged.0 reads judged.1 judged.2,
         )

@@ -5,10 +5,11 @@ use Rattle.wh_types.specs.declared.want.Or.{Or}
 use Rattle.wh_types.specs.declared.want.Or.TheVariants.{NoMemory, Because}
 use Rattle.wh_io.specs.Outside.{Rose}
 use Rattle.wh_system.specs.Systems.{SystemData}
+use Rattle.wh_system.specs.PairData.{PairData}
 use Rattle.wh_top.specs.declared.outcome.Role.TheVariants.{System, Certificate}
 use Rattle.wh_top.specs.declared.outcome.Outcome.{Outcome}
-use Rattle.wh_top.specs.declared.outcome.Outcome.TheVariants.{No, Rejected, Refused, ReadFault, TooLong, Later}
-use Rattle.wh_top.specs.Outcomes.{Shelves, Told, AreWithin, IsSystemIn, ToldSystem, Judged, Stands, certificate_limit}
+use Rattle.wh_top.specs.declared.outcome.Outcome.TheVariants.{No, Rejected, Refused, TooManyPairs, ReadFault, TooLong, Later}
+use Rattle.wh_top.specs.Outcomes.{Shelves, Told, AreWithin, IsProblemIn, ToldSystem, Judged, Stands, certificate_limit}
 use Rattle.wh_top.specs.Unread.{CertificateFault}
 
 -- a cause that is handed on
@@ -20,36 +21,38 @@ carry {T} {U} {E} (Err x) e P Q Q' P' is h on = subst (λ y. MatchOr {T = U} (Er
     by NoMemory h = tt
     by (Because o) h = on o h
 
--- the system in the file is one of which P holds
-pub told_with : (held : Option (List ℕ)) (d : SystemData) (P : SystemData → Type 0) → IsSystemIn held d → P d → ToldSystem held P
-told_with held d P is p bytes h = ((is bytes h).0, d, (is bytes h).1, p)
+-- the system in the file is one of which P holds, with its pairs
+pub told_with : (held : Option (List ℕ)) (d : SystemData) (ps : List PairData) (P : SystemData → List PairData → Type 0) → IsProblemIn held d ps → P d ps → ToldSystem held P
+told_with held d ps P is p bytes h = ((is.0 bytes h).0, d, ps, (is.0 bytes h).1, is.1, p)
 
 rose_before : (before mid after : ℕ) → before ≤ mid → Rose mid after → Rose before after
 rose_before before mid after low rose = omega (arith, low, rose)
 
 -- a fault of the certificate file comes behind the system
-pub certificate_stands : (s : Shelves) (file cert : List ℕ) (d : SystemData) (held : Option (List ℕ)) (mid : ℕ) (o : Outcome) → IsSystemIn (s.held file) d → held ≡ s.held cert → s.before cert ≤ mid
+pub certificate_stands : (s : Shelves) (file cert : List ℕ) (d : SystemData) (ps : List PairData) (held : Option (List ℕ)) (mid : ℕ) (o : Outcome) → IsProblemIn (s.held file) d ps → held ≡ s.held cert → s.before cert ≤ mid
     → CertificateFault held mid (s.after cert) o → Stands s file cert o
-certificate_stands s file cert d held mid (ReadFault Certificate) is same low rose = (rose_before (s.before cert) mid (s.after cert) low rose, told_with (s.held file) d (λ _. Unit {0}) is tt)
-certificate_stands s file cert d held mid (ReadFault System) is same low h = absurd h
-certificate_stands s file cert d held mid (TooLong Certificate) is same low long = (λ bytes e. long bytes (same ∙ e), told_with (s.held file) d (λ _. Unit {0}) is tt)
-certificate_stands s file cert d held mid (TooLong System) is same low h = absurd h
-certificate_stands s file cert d held mid No is same low h = absurd h
-certificate_stands s file cert d held mid (Rejected r) is same low h = absurd h
-certificate_stands s file cert d held mid (Refused r) is same low h = absurd h
-certificate_stands s file cert d held mid Later is same low h = absurd h
+certificate_stands s file cert d ps held mid (ReadFault Certificate) is same low rose = (rose_before (s.before cert) mid (s.after cert) low rose, told_with (s.held file) d ps (λ _ _. Unit {0}) is tt)
+certificate_stands s file cert d ps held mid (ReadFault System) is same low h = absurd h
+certificate_stands s file cert d ps held mid (TooLong Certificate) is same low long = (λ bytes e. long bytes (same ∙ e), told_with (s.held file) d ps (λ _ _. Unit {0}) is tt)
+certificate_stands s file cert d ps held mid (TooLong System) is same low h = absurd h
+certificate_stands s file cert d ps held mid No is same low h = absurd h
+certificate_stands s file cert d ps held mid (Rejected r) is same low h = absurd h
+certificate_stands s file cert d ps held mid (Refused r) is same low h = absurd h
+certificate_stands s file cert d ps held mid TooManyPairs is same low h = absurd h
+certificate_stands s file cert d ps held mid Later is same low h = absurd h
 
 -- what the bytes of the certificate come to is told of its file
-pub judged_stands : (s : Shelves) (file cert : List ℕ) (d : SystemData) (bytes : List ℕ) (o : Outcome) → IsSystemIn (s.held file) d → Told (s.held cert) (AreWithin certificate_limit bytes) → Judged d bytes o → Stands s file cert o
-judged_stands s file cert d bytes o is of_cert judged = by o judged
+pub judged_stands : (s : Shelves) (file cert : List ℕ) (d : SystemData) (ps : List PairData) (bytes : List ℕ) (o : Outcome) → IsProblemIn (s.held file) d ps → Told (s.held cert) (AreWithin certificate_limit bytes) → Judged d bytes o → Stands s file cert o
+judged_stands s file cert d ps bytes o is of_cert judged = by o judged
   where
-    both : (o : Outcome) → Judged d bytes o → ToldSystem (s.held file) (λ e. Told (s.held cert) (λ held. (length held ≤ certificate_limit) × Judged e held o))
-    both o j = told_with (s.held file) d (λ e. Told (s.held cert) (λ held. (length held ≤ certificate_limit) × Judged e held o)) is (λ held h. ((of_cert held h).1, subst (λ b. Judged d b o) (of_cert held h).0 j))
+    both : (o : Outcome) → Judged d bytes o → ToldSystem (s.held file) (λ e _. Told (s.held cert) (λ held. (length held ≤ certificate_limit) × Judged e held o))
+    both o j = told_with (s.held file) d ps (λ e _. Told (s.held cert) (λ held. (length held ≤ certificate_limit) × Judged e held o)) is (λ held h. ((of_cert held h).1, subst (λ b. Judged d b o) (of_cert held h).0 j))
 
     by : (o : Outcome) → Judged d bytes o → Stands s file cert o
     by No j = both No j
     by (Rejected r) j = both (Rejected r) j
     by Later j = both Later j
     by (Refused r) j = absurd j
+    by TooManyPairs j = absurd j
     by (ReadFault role) j = absurd j
     by (TooLong role) j = absurd j

@@ -6,6 +6,9 @@ use Rattle.wh_types.specs.declared.want.Or.TheVariants.{NoMemory, Because}
 use Rattle.wh_io.specs.declared.read.ReadFault as read
 use Rattle.wh_io.specs.declared.read.ReadFault.TheVariants as faults
 use Rattle.wh_system.specs.Systems.{SystemData}
+use Rattle.wh_system.specs.PairData.{PairData}
+use Rattle.wh_pairs.specs.Candidates.{candidates}
+use Rattle.wh_pairs.specs.Subsumption.{ArePairs}
 use Rattle.wh_read.specs.Reading.{Reads, Refuses}
 use Rattle.wh_cert.specs.Written.{Cert}
 use Rattle.wh_cert.specs.CertText.{CertText, FaultAt}
@@ -17,7 +20,7 @@ use Rattle.wh_top.specs.declared.outcome.Role.{Role}
 use Rattle.wh_top.specs.declared.outcome.Role.TheVariants.{System, Certificate}
 use Rattle.wh_top.specs.declared.outcome.Rejection.TheVariants.{Syntax, Condition}
 use Rattle.wh_top.specs.declared.outcome.Outcome.{Outcome}
-use Rattle.wh_top.specs.declared.outcome.Outcome.TheVariants.{No, Rejected, Refused, ReadFault, TooLong, Later}
+use Rattle.wh_top.specs.declared.outcome.Outcome.TheVariants.{No, Rejected, Refused, TooManyPairs, ReadFault, TooLong, Later}
 
 -- the outside of a run: what the shelf tells of each file's bytes, and each file's faults before and after the run
 pub record Shelves : Type 0 where
@@ -44,9 +47,22 @@ AreWithin limit bytes held = (bytes ≡ held) × (length held ≤ limit)
 abbrev pub IsSystemIn : Option (List ℕ) → SystemData → Type 0
 IsSystemIn held d = Told held (λ bytes. (length bytes ≤ system_limit) × Reads bytes d)
 
--- the file is a text of a system of which P holds
-abbrev pub ToldSystem : Option (List ℕ) → (SystemData → Type 0) → Type 0
-ToldSystem held P = Told held (λ bytes. (length bytes ≤ system_limit) × (d : SystemData) × Reads bytes d × P d)
+-- these are the dependency pairs of the system, and there are at most 4,096
+pub record HasPairs (d : SystemData) (ps : List PairData) : Type 0 where
+  pub are : ArePairs (candidates d.symbols d.rules) ps
+  pub few : length ps ≤ 4096
+
+-- the system has more
+abbrev pub HasTooManyPairs : SystemData → Type 0
+HasTooManyPairs d = (ps : List PairData) × ArePairs (candidates d.symbols d.rules) ps × (4096 < length ps)
+
+-- d is the system of which the file is a text, within its limit, and these are its pairs
+abbrev pub IsProblemIn : Option (List ℕ) → SystemData → List PairData → Type 0
+IsProblemIn held d ps = IsSystemIn held d × HasPairs d ps
+
+-- the file is a text of a system with few enough pairs, and P holds of the system and its pairs
+abbrev pub ToldSystem : Option (List ℕ) → (SystemData → List PairData → Type 0) → Type 0
+ToldSystem held P = Told held (λ bytes. (length bytes ≤ system_limit) × (d : SystemData) × (ps : List PairData) × Reads bytes d × HasPairs d ps × P d ps)
 
 -- the text begins with these bytes
 abbrev pub BeginsWith : List ℕ → List ℕ → Type 0
@@ -64,24 +80,26 @@ Judged d bytes (Rejected (Condition fault)) = (c : Cert) × CertText bytes c × 
 Judged d bytes Later = BeginsWith (89 ∷ []) bytes
 Judged d bytes _ = ⊥
 
--- when the outcomes come that the system file alone decides: its fault, then its length, then why it is no system
+-- when the outcomes come that the system file alone decides: its fault, then its length, then why it is no system, then that
+-- it has too many pairs
 abbrev pub StandsBySystem : Shelves → List ℕ → Outcome → Type 0
 StandsBySystem s file (ReadFault System) = Rose (s.before file) (s.after file)
 StandsBySystem s file (TooLong System) = Told (s.held file) (λ bytes. system_limit < length bytes)
 StandsBySystem s file (Refused reason) = Told (s.held file) (λ bytes. (length bytes ≤ system_limit) × Refuses bytes reason)
+StandsBySystem s file TooManyPairs = Told (s.held file) (λ bytes. (length bytes ≤ system_limit) × (d : SystemData) × Reads bytes d × HasTooManyPairs d)
 StandsBySystem s file _ = ⊥
 
 -- what is said of the certificate's bytes and a system, where the bytes of both files are told
 abbrev pub ToldBoth : Shelves → List ℕ → List ℕ → Outcome → Type 0
 ToldBoth s file cert o =
-    ToldSystem (s.held file) (λ d. Told (s.held cert) (λ bytes. (length bytes ≤ certificate_limit) × Judged d bytes o))
+    ToldSystem (s.held file) (λ d ps. Told (s.held cert) (λ bytes. (length bytes ≤ certificate_limit) × Judged d bytes o))
 
 -- when the outcome of a check of these two files comes. All that the system file decides comes before the certificate's
 -- read fault, that before its length, and this before what its bytes come to.
 abbrev pub Stands : Shelves → List ℕ → List ℕ → Outcome → Type 0
-Stands s file cert (ReadFault Certificate) = Rose (s.before cert) (s.after cert) × ToldSystem (s.held file) (λ d. Unit {0})
+Stands s file cert (ReadFault Certificate) = Rose (s.before cert) (s.after cert) × ToldSystem (s.held file) (λ d ps. Unit {0})
 Stands s file cert (TooLong Certificate) =
-    Told (s.held cert) (λ bytes. certificate_limit < length bytes) × ToldSystem (s.held file) (λ d. Unit {0})
+    Told (s.held cert) (λ bytes. certificate_limit < length bytes) × ToldSystem (s.held file) (λ d ps. Unit {0})
 Stands s file cert No = ToldBoth s file cert No
 Stands s file cert (Rejected rejection) = ToldBoth s file cert (Rejected rejection)
 Stands s file cert Later = ToldBoth s file cert Later

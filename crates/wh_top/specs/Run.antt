@@ -5,6 +5,7 @@ use Rattle.wh_io.specs.Writing.{WroteFront}
 use Rattle.wh_step.specs.Reduction.{Unbounded}
 use Rattle.wh_system.specs.Systems.{SystemData}
 use Rattle.wh_read.specs.Reading.{Reads}
+use Rattle.wh_print.specs.SystemText.{system_text}
 use Rattle.wh_cert.specs.Written.{Cert}
 use Rattle.wh_cert.specs.CertText.{CertText}
 use Rattle.wh_no.specs.Claim.{Claim}
@@ -23,9 +24,9 @@ pub record Tells (P : Outcome → Type 0) (status : Status) (text : List ℕ) : 
   pub status_is : status ≡ status_of outcome
   pub text_is : text ≡ text_of outcome
 
--- the text shows the system in the file
+-- the text shows the system in the file and its pairs; what it says of the system is a text of that very system
 pub record Shows (s : Shelves) (file : List ℕ) (status : Status) (text : List ℕ) : Type 0 where
-  pub system : ToldSystem (s.held file) (λ d. text ≡ shown_text d)
+  pub system : ToldSystem (s.held file) (λ d ps. (text ≡ shown_text d ps) × Reads (system_text d) d)
   pub begins : BeginsWith (line (codes "SYSTEM")) text
   pub status_is : status ≡ Answered
 

@@ -2,7 +2,9 @@
 use Rattle.std.specs.Prelude.{ℕ, List, [], ◌∷◌, ◌++◌, codes}
 use Rattle.std.specs.Fmt.{decimal}
 use Rattle.wh_system.specs.Systems.{SystemData}
+use Rattle.wh_system.specs.PairData.{PairData}
 use Rattle.wh_print.specs.SystemText.{system_text}
+use Rattle.wh_print.specs.PairText.{pairs_text}
 use Rattle.wh_read.specs.declared.reasons.Refused as refusal
 use Rattle.wh_read.specs.declared.reasons.Reason.{Reason}
 use Rattle.wh_read.specs.declared.reasons.Reason.TheVariants.{BadByte, BadNumber, NameTooLong, Syntax as SyntaxFault, UnknownName, Twice, IllTyped, NotPattern, OpenSide, NewMeta, HeadNotFun, UnevenRules, TooMany}
@@ -15,7 +17,7 @@ use Rattle.wh_top.specs.declared.outcome.Role.TheVariants.{System, Certificate}
 use Rattle.wh_top.specs.declared.outcome.Rejection.{Rejection}
 use Rattle.wh_top.specs.declared.outcome.Rejection.TheVariants.{Syntax, Condition}
 use Rattle.wh_top.specs.declared.outcome.Outcome.{Outcome}
-use Rattle.wh_top.specs.declared.outcome.Outcome.TheVariants.{No, Rejected, Refused, ReadFault, TooLong, Later}
+use Rattle.wh_top.specs.declared.outcome.Outcome.TheVariants.{No, Rejected, Refused, TooManyPairs, ReadFault, TooLong, Later}
 
 abbrev pub line : List ℕ → List ℕ
 line text = text ++ (10 ∷ [])
@@ -56,6 +58,7 @@ abbrev pub text_of : Outcome → List ℕ
 text_of No = line (codes "NO")
 text_of (Rejected rejection) = line (codes "REJECTED " ++ rejection_text rejection)
 text_of (Refused r) = line (codes "REFUSED " ++ (reason_word r.reason ++ (32 ∷ decimal r.at)))
+text_of TooManyPairs = line (codes "REFUSED too-many-pairs 0")
 text_of (ReadFault role) = line (codes "READ FAULT " ++ role_word role)
 text_of (TooLong role) = line (codes "TOO LONG " ++ role_word role)
 text_of Later = line (codes "LATER")
@@ -64,10 +67,11 @@ abbrev pub status_of : Outcome → status.Status
 status_of No = statuses.Answered
 status_of (Rejected rejection) = statuses.Rejected
 status_of (Refused r) = statuses.Refused
+status_of TooManyPairs = statuses.Refused
 status_of (ReadFault role) = statuses.ReadFault
 status_of (TooLong role) = statuses.TooLong
 status_of Later = statuses.Later
 
--- the text that shows a system
-abbrev pub shown_text : SystemData → List ℕ
-shown_text d = line (codes "SYSTEM") ++ system_text d
+-- the text that shows a system and its dependency pairs
+abbrev pub shown_text : SystemData → List PairData → List ℕ
+shown_text d ps = line (codes "SYSTEM") ++ (system_text d ++ pairs_text d ps)

@@ -1,19 +1,21 @@
-//! Reading the two files: the system, and the bytes of the certificate.
+//! Reading the two files: the system with its dependency pairs, and the bytes of the certificate.
 
 ghost use Rattle.std.specs.Prelude.{◌≡◌, ◌≤◌, ℕ, List, IfOk, length};
 ghost use Rattle.wh_types.specs.Outcome.{MatchOr};
 ghost use Rattle.wh_io.specs.Outside.{Rose};
 ghost use Rattle.wh_system.specs.SystemView.{system_data};
-ghost use Rattle.wh_top.specs.Outcomes.{AreWithin, IsSystemIn, StandsBySystem, Told, UnreadBy, certificate_limit};
+ghost use Rattle.wh_top.specs.Outcomes.{AreWithin, HasPairs, HasTooManyPairs, IsProblemIn, IsSystemIn, StandsBySystem, Told, UnreadBy, certificate_limit};
 ghost use Rattle.wh_top.specs.Unread.{CertificateFault, RefusedBy};
+ghost use Rattle.wh_pairs.specs.Views.{pairs_data};
 ghost use Rattle.wh_top.specs.declared.outcome.Outcome.TheVariants.{Refused as refused_outcome};
 ghost use Rattle.wh_types.specs.declared.want.Or.TheVariants.{NoMemory, Because};
 
 use crate::outcome::{Outcome, Role};
 use std::alloc::Global;
 use wh_io::{ReadFault, Shelf, read_whole};
+use wh_pairs::pairs;
 use wh_read::{Refused, read_system};
-use wh_system::System;
+use wh_system::{PairList, System};
 use wh_types::{Bytes, Or};
 
 /// How many bytes a system file may have.
@@ -22,8 +24,43 @@ const SYSTEM_LIMIT: u64 = 1_048_576;
 /// How many bytes a certificate file may have.
 const CERTIFICATE_LIMIT: u64 = 8_388_608;
 
-/// The system of which the file of that name is a text, or why there is none.
-pub fn system_in<S: Shelf>(alloc: Global, shelf: &mut S, file: &str) -> Result<System, Or<Outcome>>
+/// A system and its dependency pairs.
+#[derive(Drop)]
+pub struct Problem {
+    /// The system.
+    pub system: System,
+    /// All its dependency pairs, in order.
+    pub pairs: PairList,
+}
+
+/// The system of which the file of that name is a text, with its dependency pairs, or why there is none.
+pub fn problem_in<S: Shelf>(
+    alloc: Global,
+    shelf: &mut S,
+    file: &str,
+) -> Result<Problem, Or<Outcome>>
+    ensures read { MatchOr result (λ problem. IsProblemIn (S.held shelf.old file.now) (system_data problem.system) (pairs_data problem.pairs)) (StandsBySystem (record { held = S.held shelf.old; before = S.faults shelf.old; after = S.faults shelf.new }) file.now) }
+    ensures later { (other : List ℕ) → S.faults shelf.old other ≤ S.faults shelf.new other }
+    ensures kept { (other : List ℕ) → S.held shelf.new other ≡ S.held shelf.old other }
+{
+    let system = system_in(alloc, shelf, file)?;
+    let pairs = pairs_of(alloc, &system)?;
+    Ok(Problem { system, pairs })
+}
+
+// The dependency pairs of a system, or that they are too many.
+fn pairs_of(alloc: Global, system: &System) -> Result<PairList, Or<Outcome>>
+    ensures { MatchOr result (λ list. HasPairs (system_data system.now) (pairs_data list)) (λ o. (o ≡ Outcome.TooManyPairs) × HasTooManyPairs (system_data system.now)) }
+{
+    match pairs(alloc, system) {
+        Ok(list) => Ok(list),
+        Err(Or::NoMemory) => Err(Or::NoMemory),
+        Err(Or::Because(_)) => Err(Or::Because(Outcome::TooManyPairs)),
+    }
+}
+
+// The system of which the file of that name is a text, or why there is none.
+fn system_in<S: Shelf>(alloc: Global, shelf: &mut S, file: &str) -> Result<System, Or<Outcome>>
     ensures read { MatchOr result (λ system. IsSystemIn (S.held shelf.old file.now) (system_data system)) (StandsBySystem (record { held = S.held shelf.old; before = S.faults shelf.old; after = S.faults shelf.new }) file.now) }
     ensures later { (other : List ℕ) → S.faults shelf.old other ≤ S.faults shelf.new other }
     ensures kept { (other : List ℕ) → S.held shelf.new other ≡ S.held shelf.old other }

@@ -1,21 +1,25 @@
-//! Judging a certificate for a system, and showing a system.
+//! Judging a certificate for a system, and showing a system with its dependency pairs.
 
 ghost use Rattle.std.specs.Prelude.{◌≡◌, ◌≤◌, ℕ, List, IfOk, length, codes};
 ghost use Rattle.wh_types.specs.Outcome.{MatchOr};
 ghost use Rattle.wh_system.specs.SystemView.{system_data};
-ghost use Rattle.wh_top.specs.Outcomes.{BeginsWith, Judged, Stands, StandsBySystem, ToldSystem};
+ghost use Rattle.wh_pairs.specs.Views.{pairs_data};
+ghost use Rattle.wh_print.specs.SystemText.{system_text};
+ghost use Rattle.wh_read.specs.Reading.{Reads};
+ghost use Rattle.wh_top.specs.Outcomes.{BeginsWith, HasPairs, Judged, Stands, StandsBySystem, ToldSystem};
 ghost use Rattle.wh_top.specs.Texts.{line, shown_text};
 ghost use Rattle.wh_top.specs.Weighing.{Weighed};
 ghost use Rattle.wh_cert.specs.Limits.{IsCert};
 ghost use Rattle.wh_cert.specs.Said.{said};
 
-use crate::files::{certificate_in, system_in};
+use crate::files::{Problem, certificate_in, problem_in};
 use crate::outcome::{Outcome, Rejection};
 use std::alloc::{AllocError, Global};
 use wh_cert::{Certificate, read_certificate};
 use wh_io::Shelf;
 use wh_no::check_no;
-use wh_print::print_system;
+use wh_print::{print_pairs, print_system};
+use wh_round::printed_systems_are_read_back;
 use wh_system::System;
 use wh_types::{Bytes, Or};
 
@@ -29,29 +33,33 @@ pub fn check_files<S: Shelf>(
     ensures stands { MatchOr result (Stands (record { held = S.held shelf.old; before = S.faults shelf.old; after = S.faults shelf.new }) file.now cert.now) (Stands (record { held = S.held shelf.old; before = S.faults shelf.old; after = S.faults shelf.new }) file.now cert.now) }
     ensures kept { (other : List ℕ) → S.held shelf.new other ≡ S.held shelf.old other }
 {
-    let system = system_in(alloc, shelf, file)?;
+    let problem = problem_in(alloc, shelf, file)?;
     let certificate = certificate_in(alloc, shelf, cert)?;
-    Ok(judge(alloc, &system, certificate.as_slice())?)
+    Ok(judge(alloc, &problem.system, certificate.as_slice())?)
 }
 
-/// The text that shows the system in the file, or why there is none.
+/// The text that shows the system in the file with its dependency pairs, or why there is none.
 pub fn show_file<S: Shelf>(alloc: Global, shelf: &mut S, file: &str) -> Result<Bytes, Or<Outcome>>
-    ensures shows { MatchOr result (λ text. ToldSystem (S.held shelf.old file.now) (λ d. text ≡ shown_text d)) (StandsBySystem (record { held = S.held shelf.old; before = S.faults shelf.old; after = S.faults shelf.new }) file.now) }
+    ensures shows { MatchOr result (λ text. ToldSystem (S.held shelf.old file.now) (λ d ps. (text ≡ shown_text d ps) × Reads (system_text d) d)) (StandsBySystem (record { held = S.held shelf.old; before = S.faults shelf.old; after = S.faults shelf.new }) file.now) }
     ensures begins { IfOk result (BeginsWith (line (codes "SYSTEM"))) }
     ensures kept { (other : List ℕ) → S.held shelf.new other ≡ S.held shelf.old other }
 {
-    let system = system_in(alloc, shelf, file)?;
-    Ok(shown(alloc, &system)?)
+    let problem = problem_in(alloc, shelf, file)?;
+    printed_systems_are_read_back(&problem.system);
+    Ok(shown(alloc, &problem)?)
 }
 
-// The text that shows the system.
-fn shown(alloc: Global, system: &System) -> Result<Bytes, AllocError>
-    ensures { IfOk result (λ text. text ≡ shown_text (system_data system.now)) }
+// The text that shows the system and its dependency pairs.
+fn shown(alloc: Global, problem: &Problem) -> Result<Bytes, AllocError>
+    requires { HasPairs (system_data problem.now.system) (pairs_data problem.now.pairs) }
+    ensures { IfOk result (λ text. text ≡ shown_text (system_data problem.now.system) (pairs_data problem.now.pairs)) }
 {
     let mut text = Bytes::new(alloc)?;
     text.append(b"SYSTEM\n")?;
-    let printed = print_system(alloc, system)?;
-    text.append(printed.as_slice())?;
+    let system = print_system(alloc, &problem.system)?;
+    text.append(system.as_slice())?;
+    let pairs = print_pairs(alloc, &problem.system, &problem.pairs)?;
+    text.append(pairs.as_slice())?;
     Ok(text)
 }
 

@@ -5,11 +5,7 @@ mod files;
 mod judging;
 mod outcome;
 mod program;
-#[cfg(test)]
-mod samples;
 mod status;
-#[cfg(test)]
-mod tests;
 mod words;
 
 pub use program::{report_no_memory, run};

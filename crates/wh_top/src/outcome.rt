@@ -39,6 +39,8 @@ pub enum Outcome {
     Rejected(Rejection),
     /// The system file is no text of a system.
     Refused(Refused),
+    /// The system has more than 4,096 dependency pairs.
+    TooManyPairs,
     /// A file could not be read.
     ReadFault(Role),
     /// A file is longer than its limit.
@@ -78,7 +80,7 @@ impl Outcome {
         match self {
             Outcome::No => Status::Answered,
             Outcome::Rejected(_) => Status::Rejected,
-            Outcome::Refused(_) => Status::Refused,
+            Outcome::Refused(_) | Outcome::TooManyPairs => Status::Refused,
             Outcome::ReadFault(_) => Status::ReadFault,
             Outcome::TooLong(_) => Status::TooLong,
             Outcome::Later => Status::Later,
@@ -101,6 +103,7 @@ impl Outcome {
                 let at = refused.at;
                 format!(in alloc; "REFUSED {word} {at}\n")
             }
+            Outcome::TooManyPairs => String::from_str(alloc, "REFUSED too-many-pairs 0\n"),
             Outcome::ReadFault(role) => {
                 let word = role.word();
                 format!(in alloc; "READ FAULT {word}\n")

@@ -83,9 +83,9 @@ pub const UNTYPED_CERTIFICATE: &[u8] =
 pub const UNDER_BINDER_CERTIFICATE: &[u8] =
     b"NO 1\nterm (g %0:o)\nstep 0 /\nat /10\nput %0:o %1:o\nend\n";
 
-/// How `INNER_CALL` is shown, up to its pairs.
+/// How `INNER_CALL` is shown.
 pub const INNER_CALL_SHOWN: &[u8] =
-    b"SYSTEM\nsort nat;\nfun s:nat->nat;\nfun g:nat->nat;\nfun ap:(nat->nat)->nat->nat;\nrule {X:nat} (g (s X)) => X;\nrule {F:[nat]nat,X:nat} (ap (\\$0:nat.F[$0]) X) => F[(g X)];\n";
+    b"SYSTEM\nsort nat;\nfun s:nat->nat;\nfun g:nat->nat;\nfun ap:(nat->nat)->nat->nat;\nrule {X:nat} (g (s X)) => X;\nrule {F:[nat]nat,X:nat} (ap (\\$0:nat.F[$0]) X) => F[(g X)];\nPAIRS 1\npair 0 rule 1 (ap# (\\$0:nat.F[$0]) X) => (g# X) if F:1\n";
 
 /// Folds over lists: `examples/fold.afs`.
 pub const FOLD: &[u8] =

@@ -1,0 +1,11 @@
+//! The worked rows, run over files and a sink in memory, and rows of the method's calls over systems that are read from texts.
+//!
+//! This crate has tests alone. They stand apart, so that no crate that the program is made of is proved once more with them.
+#![tactic(auto)]
+
+#[cfg(test)]
+mod method_rows;
+#[cfg(test)]
+mod run_rows;
+#[cfg(test)]
+mod samples;

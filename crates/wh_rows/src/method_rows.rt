@@ -1,0 +1,195 @@
+//! Rows of the calls of the method over systems that are read from texts: ranks, projections, the graph and its components.
+
+ghost use Rattle.std.specs.Prelude.{◌<◌, All, IfOk, length};
+
+use crate::samples::{ETA, EVEN_ODD, FUNCTION_LIST, IDENTITY, MAP, ORDINALS, UNTYPED};
+use std::alloc::{AllocError, Global};
+use std::test::Fail;
+use wh_access::{Inaccessible, NoRanks, check_ranks, find_ranks};
+use wh_graph::{BlockFault, check_blocks, components, may_follow};
+use wh_pairs::pairs;
+use wh_read::read_system;
+use wh_subterm::{Choice, Projection, SubtermFault, check_projection};
+use wh_system::{PairList, PairSet, System};
+use wh_types::{Blocks, Numbers, Or, Ranks};
+
+/// The system of a text that is one; want of memory stands for all else.
+fn system_of(alloc: Global, text: &[u8]) -> Result<System, AllocError> {
+    if text.len() > 1_048_576 {
+        return Err(AllocError);
+    }
+    read_system(alloc, text).map_err(|_| AllocError)
+}
+
+/// The system of a text, and its pairs.
+fn problem_of(alloc: Global, text: &[u8]) -> Result<(System, PairList), AllocError> {
+    let system = system_of(alloc, text)?;
+    let list = pairs(alloc, &system).map_err(|_| AllocError)?;
+    Ok((system, list))
+}
+
+/// The numbers as a list.
+fn numbers(alloc: Global, items: &[u32]) -> Result<Numbers, AllocError> {
+    let mut list = Numbers::new(alloc)?;
+    for item in items {
+        list.push(*item)?;
+    }
+    Ok(list)
+}
+
+/// Blocks of these numbers.
+fn blocks_of(alloc: Global, items: &[&[u32]]) -> Result<Blocks, AllocError> {
+    let mut blocks = Blocks::new(alloc)?;
+    for item in items {
+        blocks.push(numbers(alloc, *item)?)?;
+    }
+    Ok(blocks)
+}
+
+/// All pairs of a list.
+fn all_of(alloc: Global, list: &PairList) -> Result<PairSet, AllocError>
+    ensures { IfOk result (λ set. All (λ n. n < length list.now) set) }
+{
+    let mut set = PairSet::new(alloc)?;
+    for number in 0..list.as_slice().len() as u32 {
+        set.push(number)?;
+    }
+    Ok(set)
+}
+
+#[test]
+fn finds_ranks(rt: HostRuntime) -> Result<(), Fail> {
+    let alloc = rt.alloc();
+    let system = system_of(alloc, FUNCTION_LIST)?;
+    match find_ranks(alloc, &system) {
+        Ok(ranks) => assert!(rt; ranks.of(0) < ranks.of(1)),
+        Err(_) => panic!(rt; "no ranks"),
+    }
+    for (text, cycle) in [(ORDINALS, 1), (UNTYPED, 0)] {
+        let system = system_of(alloc, text)?;
+        match find_ranks(alloc, &system) {
+            Err(Or::Because(NoRanks::Cycle(sorts))) => {
+                assert_eq!(rt; sorts.as_slice(), [cycle].as_slice());
+            }
+            _ => panic!(rt; "no cycle"),
+        }
+    }
+    // A meta-variable that stands in an argument of a bound variable alone.
+    let text = b"sort o;fun f:((o->o)->o)->o;rule {Z:o} f (\\x:(o->o).x Z) => Z;".as_slice();
+    let system = system_of(alloc, text)?;
+    match find_ranks(alloc, &system) {
+        Err(Or::Because(NoRanks::Unread { rule, meta })) => assert_eq!(rt; (rule, meta), (0, 0)),
+        _ => panic!(rt; "it is read"),
+    }
+    Ok(())
+}
+
+#[test]
+fn checks_ranks(rt: HostRuntime) -> Result<(), Fail> {
+    let alloc = rt.alloc();
+    let system = system_of(alloc, FUNCTION_LIST)?;
+    let flat = Ranks::new(alloc, &[0, 0])?;
+    let rising = Ranks::new(alloc, &[0, 1])?;
+    assert!(rt; system.signature().sorts == 2);
+    assert_eq!(rt; check_ranks(&system, &flat), Err(Inaccessible { rule: 1, meta: 0 }));
+    assert_eq!(rt; check_ranks(&system, &rising), Ok(()));
+    Ok(())
+}
+
+/// A projection of one symbol to an argument.
+fn to_argument(alloc: Global, symbol: u32, argument: u32) -> Result<Projection, AllocError> {
+    let mut args = Projection::new(alloc)?;
+    args.push(Choice { symbol, argument })?;
+    Ok(args)
+}
+
+#[test]
+fn checks_projections(rt: HostRuntime) -> Result<(), Fail> {
+    let alloc = rt.alloc();
+    let below = SubtermFault::NotDecreasing { pair: 0 };
+    // `map` is symbol 4, `g` is symbol 1
+    for (text, symbol, argument, answer) in [
+        (MAP, 4, 2, Ok(())),
+        (MAP, 4, 1, Err(below)),
+        (ETA, 1, 1, Err(below)),
+        (MAP, 4, 3, Err(SubtermFault::BadArgument { symbol: 4 })),
+    ] {
+        let (system, list) = problem_of(alloc, text)?;
+        let set = all_of(alloc, &list)?;
+        let args = to_argument(alloc, symbol, argument)?;
+        assert_eq!(rt; check_projection(&system, &list, &set, &args, &[0]), answer);
+    }
+    Ok(())
+}
+
+#[test]
+fn a_beta_redex_may_become_a_call(rt: HostRuntime) -> Result<(), Fail> {
+    let text = b"sort o;fun c:o;fun s:o->o;fun f:o->o;rule {X:o} f (s X) => f ((\\x:o.x) (s X));".as_slice();
+    let (system, list) = problem_of(rt.alloc(), text)?;
+    match list.as_slice() {
+        [pair] => assert!(rt; may_follow(&system, pair, pair)),
+        _ => panic!(rt; "there is one pair"),
+    }
+    Ok(())
+}
+
+#[test]
+fn finds_components(rt: HostRuntime) -> Result<(), Fail> {
+    let alloc = rt.alloc();
+    for (text, classes) in [
+        (EVEN_ODD, [[0, 1].as_slice()].as_slice()),
+        (IDENTITY, [[0].as_slice(), [1].as_slice()].as_slice()),
+    ] {
+        let (system, list) = problem_of(alloc, text)?;
+        let set = all_of(alloc, &list)?;
+        let found = components(alloc, &system, &list, &set)?;
+        assert_eq!(rt; found.as_slice().len(), classes.len());
+        for (block, class) in found.as_slice().iter().zip(classes.iter()) {
+            assert_eq!(rt; block.as_slice(), *class);
+        }
+    }
+    Ok(())
+}
+
+/// Two symbols that call each other, and one that calls itself: pair 0 follows pair 1 and the other way round.
+const APART: &[u8] =
+    b"sort o;fun s:o->o;fun e:o->o;fun d:o->o;fun h:o->o;rule {X:o} e (s X) => d X;rule {X:o} d (s X) => e X;rule {X:o} h (s X) => h X;";
+
+#[test]
+fn checks_blocks(rt: HostRuntime) -> Result<(), Fail> {
+    let alloc = rt.alloc();
+    for (text, blocks, answer) in [
+        (
+            EVEN_ODD,
+            [[0].as_slice(), [1].as_slice()].as_slice(),
+            Err(BlockFault::BackEdge { a: 1, b: 0 }),
+        ),
+        (
+            EVEN_ODD,
+            [[0, 1].as_slice(), [1].as_slice()].as_slice(),
+            Err(BlockFault::NotPartition { pair: 1 }),
+        ),
+        (
+            APART,
+            [[0].as_slice(), [2].as_slice(), [1].as_slice()].as_slice(),
+            Err(BlockFault::BackEdge { a: 1, b: 0 }),
+        ),
+        (
+            APART,
+            [[2].as_slice(), [1, 0].as_slice()].as_slice(),
+            Ok(()),
+        ),
+        (
+            IDENTITY,
+            [[0].as_slice(), [1].as_slice()].as_slice(),
+            Ok(()),
+        ),
+        (IDENTITY, [[0, 1].as_slice()].as_slice(), Err(BlockFault::FewBlocks)),
+    ] {
+        let (system, list) = problem_of(alloc, text)?;
+        let set = all_of(alloc, &list)?;
+        let given = blocks_of(alloc, blocks)?;
+        assert_eq!(rt; check_blocks(&system, &list, &set, given.as_slice()), answer);
+    }
+    Ok(())
+}

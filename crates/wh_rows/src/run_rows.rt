@@ -1,0 +1,683 @@
+//! The worked rows, over files and a sink in memory.
+
+use crate::samples::{
+    DONE_CERTIFICATE, ETA, EVEN_ODD, FOLD, FUNCTION_LIST, IDENTITY, INNER_CALL, INNER_CALL_SHOWN,
+    ITERATION, LOOP, LOOP_CERTIFICATE, MAP, MAP_CERTIFICATE, NO_RULES, ORDINALS, PARTIAL,
+    PARTIAL_CERTIFICATE, PRENEX, PROCESSES, RECURSOR, REPEATED, SORT, TWO_CALLS, UNDER_BINDER,
+    UNDER_BINDER_CERTIFICATE, UNEVEN, UNTYPED, UNTYPED_CERTIFICATE,
+};
+use std::alloc::{AllocError, Global};
+use std::test::Fail;
+use wh_io::{MemoryShelf, MemorySink};
+use wh_top::{Status, run};
+
+const OTHER_WORDS: &[&[&str]] = &[
+    &[],
+    &["check", "system"],
+    &["check", "system", "certificate", "more"],
+    &["check", "", "certificate"],
+    &["check", "system", "-"],
+    &["show", "system", "certificate"],
+    &["show", "-system"],
+    &["show"],
+    &["prove", "system"],
+];
+
+fn words(alloc: Global, words: &[&str]) -> Result<Vec<String>, AllocError> {
+    let mut all = Vec::new(alloc);
+    for word in words {
+        all.push(String::from_str(alloc, *word)?)?;
+    }
+    Ok(all)
+}
+
+/// Runs these words where the two files hold these bytes, and gives the status and what was written.
+fn told(
+    alloc: Global,
+    given: &[&str],
+    system: &[u8],
+    certificate: &[u8],
+) -> Result<(Status, MemorySink), AllocError> {
+    let mut shelf = MemoryShelf::new(alloc, &[])?;
+    shelf.add_file("system", system)?;
+    shelf.add_file("certificate", certificate)?;
+    let mut out = MemorySink::new(alloc, 10_000, 600_000, &[])?;
+    let asked = words(alloc, given)?;
+    let status = run(alloc, asked.as_slice(), &mut shelf, &mut out);
+    Ok((status, out))
+}
+
+/// What is written of a system that is shown, without the first line and without its pairs.
+fn system_part(shown: &[u8]) -> Option<&[u8]> {
+    let end = shown.windows(6).position(|bytes| bytes == b"PAIRS ")?;
+    shown.get(7..end)
+}
+
+#[test]
+fn judges_certificates(rt: HostRuntime) -> Result<(), Fail> {
+    let given = ["check", "system", "certificate"];
+    for (system, certificate, status, text) in [
+        (LOOP, LOOP_CERTIFICATE, Status::Answered, b"NO\n".as_slice()),
+        (
+            PARTIAL,
+            PARTIAL_CERTIFICATE,
+            Status::Answered,
+            b"NO\n".as_slice(),
+        ),
+        (
+            UNTYPED,
+            UNTYPED_CERTIFICATE,
+            Status::Answered,
+            b"NO\n".as_slice(),
+        ),
+        (
+            UNDER_BINDER,
+            UNDER_BINDER_CERTIFICATE,
+            Status::Answered,
+            b"NO\n".as_slice(),
+        ),
+        (
+            UNDER_BINDER,
+            b"NO 1\nterm (g %0:o)\nstep 0 /\nat /10\nend\n".as_slice(),
+            Status::Rejected,
+            b"REJECTED no-instance\n".as_slice(),
+        ),
+        (
+            LOOP,
+            b"NO 1\nterm a\nstep 0 /\nstep 1 /0\nat /\nend\n".as_slice(),
+            Status::Rejected,
+            b"REJECTED step 1\n".as_slice(),
+        ),
+        (
+            LOOP,
+            &LOOP_CERTIFICATE[..35],
+            Status::Rejected,
+            b"REJECTED syntax 35\n".as_slice(),
+        ),
+        (
+            LOOP,
+            b"NO 1\nterm a\nstep 0 /\nstep 1 /\nat /\nend\nx".as_slice(),
+            Status::Rejected,
+            b"REJECTED syntax 39\n".as_slice(),
+        ),
+        (
+            LOOP,
+            b"".as_slice(),
+            Status::Rejected,
+            b"REJECTED syntax 0\n".as_slice(),
+        ),
+        (
+            LOOP,
+            b"NO 1\nterm a\nat /\nend\n".as_slice(),
+            Status::Rejected,
+            b"REJECTED no-step\n".as_slice(),
+        ),
+        (
+            PARTIAL,
+            b"NO 1\nterm (f h)\nstep 0 /\nstep 1 /\nat /\nend\n".as_slice(),
+            Status::Rejected,
+            b"REJECTED term\n".as_slice(),
+        ),
+        (
+            UNDER_BINDER,
+            b"NO 1\nterm (g %0:o)\nstep 0 /\nat /10\nput %0:o %1:(o->o)\nend\n".as_slice(),
+            Status::Rejected,
+            b"REJECTED put 0\n".as_slice(),
+        ),
+        (
+            UNDER_BINDER,
+            b"NO 1\nterm (g %0:o)\nstep 0 /\nat /10\nput %0:o %1:o\nput %0:(o->o) %1:(o->o)\nend\n".as_slice(),
+            Status::Rejected,
+            b"REJECTED put 1\n".as_slice(),
+        ),
+        (
+            UNDER_BINDER,
+            b"NO 1\nterm (g %0:o)\nstep 0 /\nat /10\nput %0:p %1:o\nend\n".as_slice(),
+            Status::Rejected,
+            b"REJECTED put 0\n".as_slice(),
+        ),
+        (
+            UNDER_BINDER,
+            b"NO 1\nterm (g %0:o)\nstep 0 /\nat /0\nend\n".as_slice(),
+            Status::Rejected,
+            b"REJECTED no-instance\n".as_slice(),
+        ),
+        // A loop below two binders, whose instance takes the outer variable for the inner one.
+        (
+            b"sort o;fun l:(o->o->o)->o;fun g:o->o->o;rule {X:o,Y:o} g X Y => l (\\x:o.\\y:o.g y x);".as_slice(),
+            b"NO 1\nterm (g %3:o %5:o)\nstep 0 /\nat /100\nput %3:o %7:o\nput %5:o %6:o\nend\n".as_slice(),
+            Status::Answered,
+            b"NO\n".as_slice(),
+        ),
+        (MAP, MAP_CERTIFICATE, Status::Later, b"LATER\n".as_slice()),
+        (
+            UNTYPED,
+            DONE_CERTIFICATE,
+            Status::Later,
+            b"LATER\n".as_slice(),
+        ),
+        (
+            b"sort nat;sort nat;".as_slice(),
+            LOOP_CERTIFICATE,
+            Status::Refused,
+            b"REFUSED twice 14\n".as_slice(),
+        ),
+    ] {
+        let (ended, out) = told(rt.alloc(), &given, system, certificate)?;
+        assert_eq!(rt; ended, status);
+        assert_eq!(rt; out.bytes(), text);
+    }
+    Ok(())
+}
+
+const GROWING: &[u8] =
+    b"sort o;fun a:o;fun d:o->o->o;fun f:o->o;fun k:(o->o)->o;rule {X:o} f X => f (d X X);";
+
+/// `before`, then `a` doubled 14 times by `d`, which has the size 65,533, then `after`.
+fn around_large(alloc: Global, before: &[u8], after: &[u8]) -> Result<Vec<u8>, AllocError> {
+    let mut term = Vec::from_slice(alloc, b"a".as_slice())?;
+    for _ in 0..14 {
+        let mut next = Vec::from_slice(alloc, b"(d ".as_slice())?;
+        next.extend_from_slice(term.as_slice())?;
+        next.push(b' ')?;
+        next.extend_from_slice(term.as_slice())?;
+        next.push(b')')?;
+        term = next;
+    }
+    let mut text = Vec::from_slice(alloc, before)?;
+    text.extend_from_slice(term.as_slice())?;
+    text.extend_from_slice(after)?;
+    Ok(text)
+}
+
+/// A certificate of that many steps of the rule of `GROWING` from `f a`.
+fn grown(alloc: Global, steps: usize) -> Result<Vec<u8>, AllocError> {
+    let mut text = Vec::from_slice(alloc, b"NO 1\nterm (f a)\n".as_slice())?;
+    for _ in 0..steps {
+        text.extend_from_slice(b"step 0 /\n".as_slice())?;
+    }
+    text.extend_from_slice(b"at /\nend\n".as_slice())?;
+    Ok(text)
+}
+
+#[test]
+fn keeps_the_limits_of_terms(rt: HostRuntime) -> Result<(), Fail> {
+    let alloc = rt.alloc();
+    let given = ["check", "system", "certificate"];
+    // Terms of the sizes 65,536 and 65,537; reductions to 65,535 and to 131,071.
+    for (certificate, text) in [
+        (
+            around_large(alloc, b"NO 1\nterm (k (\\$0:o.", b"))\nat /\nend\n")?,
+            b"REJECTED no-step\n".as_slice(),
+        ),
+        (
+            around_large(alloc, b"NO 1\nterm (f (f ", b"))\nat /\nend\n")?,
+            b"REJECTED term\n".as_slice(),
+        ),
+        (grown(alloc, 14)?, b"REJECTED no-instance\n".as_slice()),
+        (grown(alloc, 15)?, b"REJECTED too-big 14\n".as_slice()),
+    ] {
+        let (_, out) = told(alloc, &given, GROWING, certificate.as_slice())?;
+        assert_eq!(rt; out.bytes(), text);
+    }
+    Ok(())
+}
+
+#[test]
+fn shows_what_reads_back(rt: HostRuntime) -> Result<(), Fail> {
+    let alloc = rt.alloc();
+    for system in [
+        LOOP,
+        NO_RULES,
+        MAP,
+        FUNCTION_LIST,
+        PARTIAL,
+        UNTYPED,
+        ETA,
+        INNER_CALL,
+        TWO_CALLS,
+        EVEN_ODD,
+        IDENTITY,
+        ITERATION,
+        ORDINALS,
+        UNDER_BINDER,
+        FOLD,
+        SORT,
+        RECURSOR,
+        PRENEX,
+        PROCESSES,
+    ] {
+        let (status, out) = told(alloc, &["show", "system"], system, b"")?;
+        assert_eq!(rt; status, Status::Answered);
+        let Some(text) = system_part(out.bytes()) else {
+            panic!(rt; "no pairs");
+        };
+        let (_, again) = told(alloc, &["show", "system"], text, b"")?;
+        assert_eq!(rt; again.bytes(), out.bytes());
+    }
+    let (_, out) = told(alloc, &["show", "system"], INNER_CALL, b"")?;
+    assert_eq!(rt; out.bytes(), INNER_CALL_SHOWN);
+    let (_, out) = told(alloc, &["show", "system"], b"", b"")?;
+    assert_eq!(rt; out.bytes(), b"SYSTEM\nPAIRS 0\n".as_slice());
+    Ok(())
+}
+
+/// Systems with how their pairs are shown.
+const PAIRS: &[(&[u8], &[u8])] = &[
+    (
+        PARTIAL,
+        b"PAIRS 2\npair 0 rule 0 (f# X) => (h# f)\npair 1 rule 0 (f# X) => (f# ?0)\n",
+    ),
+    (
+        TWO_CALLS,
+        b"PAIRS 1\npair 0 rule 1 (ap# (\\$0:nat.F[$0]) X) => (g# X)\n",
+    ),
+    (
+        MAP,
+        b"PAIRS 1\npair 0 rule 1 (map# (\\$0:nat.F[$0]) (cons X Y)) => (map# (\\$0:nat.F[$0]) Y)\n",
+    ),
+    (NO_RULES, b"PAIRS 0\n"),
+    // Symbols without arguments.
+    (
+        LOOP,
+        b"PAIRS 2\npair 0 rule 0 a# => b#\npair 1 rule 1 b# => a#\n",
+    ),
+    // A part of the arguments.
+    (
+        b"sort o;fun g:o->o->o;fun k:(o->o)->o;rule {X:o,Y:o} g X Y => k (g X);",
+        b"PAIRS 1\npair 0 rule 0 (g# X Y) => (g# X ?0)\n",
+    ),
+    // More arguments than the rules of the symbol have.
+    (
+        b"sort o;fun a:o;fun i:o->o;fun f:o->o->o;fun t:o->o;rule {X:o} f X => i;rule {X:o} t X => f X a;",
+        b"PAIRS 1\npair 0 rule 1 (t# X) => (f# X)\n",
+    ),
+    // Binders around a call: the outer one is not used, and counts; then come the arguments that are missing.
+    (
+        b"sort o;fun k:(o->o)->o;fun g:o->o;rule {X:o} g X => k (\\x:o.k (\\y:o.g y));",
+        b"PAIRS 1\npair 0 rule 0 (g# X) => (g# ?1)\n",
+    ),
+    (
+        b"sort o;fun k:(o->o->o)->o;fun g:o->o->o;rule {X:o,Y:o} g X Y => k (\\x:o.g x);",
+        b"PAIRS 1\npair 0 rule 0 (g# X Y) => (g# ?0 ?1)\n",
+    ),
+    // Calls in an argument and in the inside of a head.
+    (
+        b"sort o;fun g:o->o;rule {X:o} g X => (\\x:o.g x) (g X);",
+        b"PAIRS 2\npair 0 rule 0 (g# X) => (g# ?0)\npair 1 rule 0 (g# X) => (g# X)\n",
+    ),
+    // A call within arguments of two meta-variables.
+    (
+        b"sort o;fun g:o->o;fun p:(o->o)->(o->o)->o->o;rule {X:o} g X => X;rule {F:[o]o,G:[o]o,X:o} p (\\x:o.F[x]) (\\x:o.G[x]) X => G[F[g X]];",
+        b"PAIRS 1\npair 0 rule 1 (p# (\\$0:o.F[$0]) (\\$0:o.G[$0]) X) => (g# X) if F:1 G:1\n",
+    ),
+    // Equal sides with conditions of which none is part of the other; the second one of the first kind is dropped.
+    (
+        b"sort o;fun g:o->o;fun c:o->o->o->o;fun p:(o->o)->(o->o)->o->o;rule {X:o} g X => X;rule {F:[o]o,G:[o]o,X:o} p (\\x:o.F[x]) (\\x:o.G[x]) X => c G[g X] F[g X] G[g X];",
+        b"PAIRS 2\npair 0 rule 1 (p# (\\$0:o.F[$0]) (\\$0:o.G[$0]) X) => (g# X) if G:1\npair 1 rule 1 (p# (\\$0:o.F[$0]) (\\$0:o.G[$0]) X) => (g# X) if F:1\n",
+    ),
+    // The second argument of a meta-variable.
+    (
+        b"sort o;fun g:o->o;fun p:(o->o->o)->o->o;rule {X:o} g X => X;rule {F:[o,o]o,X:o} p (\\x:o.\\y:o.F[x,y]) X => F[X,g X];",
+        b"PAIRS 1\npair 0 rule 1 (p# (\\$0:o.(\\$1:o.F[$0,$1])) X) => (g# X) if F:2\n",
+    ),
+    // The variables of two binders of different types are not the same.
+    (
+        b"sort o;sort n;fun a:n;fun g:o->o;fun h:n->o;fun k:(o->o)->(n->o)->o;rule {X:o} g X => k (\\x:o.g X) (\\x:n.g X);",
+        b"PAIRS 1\npair 0 rule 0 (g# X) => (g# X)\n",
+    ),
+];
+
+#[test]
+fn shows_pairs(rt: HostRuntime) -> Result<(), Fail> {
+    for (system, pairs) in PAIRS {
+        let (status, out) = told(rt.alloc(), &["show", "system"], *system, b"")?;
+        assert_eq!(rt; status, Status::Answered);
+        assert!(rt; out.bytes().ends_with(*pairs));
+    }
+    Ok(())
+}
+
+/// 1,024 rules of one symbol with four calls each; the last argument of the last rule is given.
+fn calling(alloc: Global, last: &[u8]) -> Result<Vec<u8>, AllocError> {
+    let rule = b"rule {X:o} g X => c (g X) (g (s X)) (g (s (s X))) (g a) ".as_slice();
+    let mut text = Vec::from_slice(
+        alloc,
+        b"sort o;fun a:o;fun s:o->o;fun c:o->o->o->o->o->o;fun g:o->o;".as_slice(),
+    )?;
+    for _ in 0..1_023 {
+        text.extend_from_slice(rule)?;
+        text.extend_from_slice(b"a;".as_slice())?;
+    }
+    text.extend_from_slice(rule)?;
+    text.extend_from_slice(last)?;
+    text.push(b';')?;
+    Ok(text)
+}
+
+#[test]
+fn keeps_the_limit_of_pairs(rt: HostRuntime) -> Result<(), Fail> {
+    let alloc = rt.alloc();
+    let most = calling(alloc, b"a")?;
+    let (status, out) = told(alloc, &["show", "system"], most.as_slice(), b"")?;
+    assert_eq!(rt; status, Status::Answered);
+    assert!(rt; out.bytes().ends_with(b"pair 4095 rule 1023 (g# X) => (g# a)\n"));
+    let more = calling(alloc, b"(g (s a))")?;
+    for given in [
+        ["show", "system"].as_slice(),
+        ["check", "system", "certificate"].as_slice(),
+    ] {
+        let (status, out) = told(alloc, given, more.as_slice(), LOOP_CERTIFICATE)?;
+        assert_eq!(rt; status, Status::Refused);
+        assert_eq!(rt; out.bytes(), b"REFUSED too-many-pairs 0\n".as_slice());
+    }
+    Ok(())
+}
+
+#[test]
+fn tells_why_a_system_is_refused(rt: HostRuntime) -> Result<(), Fail> {
+    for (system, text) in [
+        (UNEVEN, b"REFUSED uneven-rules 96\n".as_slice()),
+        (REPEATED, b"REFUSED not-pattern 56\n".as_slice()),
+        (
+            b"sort nat;\n\x80".as_slice(),
+            b"REFUSED bad-byte 10\n".as_slice(),
+        ),
+        (&LOOP[..60], b"REFUSED syntax 60\n".as_slice()),
+        (
+            b"sort o;rule {} %65536:o => %0:o;".as_slice(),
+            b"REFUSED bad-number 16\n".as_slice(),
+        ),
+        (
+            b"sort o;fun a:p;".as_slice(),
+            b"REFUSED unknown-name 13\n".as_slice(),
+        ),
+        (
+            b"sort o;fun a:o;rule {} a a => a;".as_slice(),
+            b"REFUSED ill-typed 25\n".as_slice(),
+        ),
+        (
+            b"sort o;fun a:o;rule {X:o} a => X;".as_slice(),
+            b"REFUSED new-meta 31\n".as_slice(),
+        ),
+        (
+            b"sort o;rule {X:o} X => X;".as_slice(),
+            b"REFUSED head-not-function 18\n".as_slice(),
+        ),
+        (
+            b"sort o;fun a:o;rule {} a => %0:o;".as_slice(),
+            b"REFUSED open-side 28\n".as_slice(),
+        ),
+    ] {
+        let (ended, out) = told(rt.alloc(), &["show", "system"], system, b"")?;
+        assert_eq!(rt; ended, Status::Refused);
+        assert_eq!(rt; out.bytes(), text);
+    }
+    Ok(())
+}
+
+/// A text in which an item is repeated, with its number from 0 on behind it and then what closes it.
+fn numbered(
+    alloc: Global,
+    before: &[u8],
+    item: &str,
+    close: &str,
+    count: u32,
+    after: &[u8],
+) -> Result<Vec<u8>, AllocError> {
+    let mut text = Vec::from_slice(alloc, before)?;
+    for number in 0..count {
+        let next = format!(in alloc; "{item}{number}{close}")?;
+        text.extend_from_slice(next.as_bytes())?;
+    }
+    text.extend_from_slice(after)?;
+    Ok(text)
+}
+
+/// A text in which an item is repeated.
+fn repeated(
+    alloc: Global,
+    before: &[u8],
+    item: &[u8],
+    count: usize,
+    after: &[u8],
+) -> Result<Vec<u8>, AllocError> {
+    let mut text = Vec::from_slice(alloc, before)?;
+    for _ in 0..count {
+        text.extend_from_slice(item)?;
+    }
+    text.extend_from_slice(after)?;
+    Ok(text)
+}
+
+/// A rule whose right side is `f` so many times around `a`.
+fn high(alloc: Global, height: usize) -> Result<Vec<u8>, AllocError> {
+    let mut text = Vec::from_slice(
+        alloc,
+        b"sort o;fun a:o;fun f:o->o;rule {} a => ".as_slice(),
+    )?;
+    for _ in 1..height {
+        text.extend_from_slice(b"f (".as_slice())?;
+    }
+    text.extend_from_slice(b"f a".as_slice())?;
+    for _ in 1..height {
+        text.push(b')')?;
+    }
+    text.push(b';')?;
+    Ok(text)
+}
+
+/// A text inside a limit, and one just past it with what is told of that.
+type Limit = (Vec<u8>, Vec<u8>, &'static [u8]);
+
+// Whether the first text is shown and the second is refused so.
+fn keeps(alloc: Global, limit: &Limit) -> Result<bool, AllocError> {
+    let given = ["show", "system"];
+    let (inside, _) = told(alloc, &given, limit.0.as_slice(), b"")?;
+    let (outside, out) = told(alloc, &given, limit.1.as_slice(), b"")?;
+    Ok(inside == Status::Answered && outside == Status::Refused && out.bytes() == limit.2)
+}
+
+#[test]
+fn keeps_the_limits_of_counts(rt: HostRuntime) -> Result<(), Fail> {
+    let alloc = rt.alloc();
+    let symbol = b"sort o;fun a:o;".as_slice();
+    let braces = b"sort o;fun a:o;rule {".as_slice();
+    let brackets = b"sort o;fun a:o;rule {F:[".as_slice();
+    for limit in [
+        (
+            numbered(alloc, b"", "sort s", ";", 256, b"")?,
+            numbered(alloc, b"", "sort s", ";", 257, b"")?,
+            b"REFUSED too-many 2455\n".as_slice(),
+        ),
+        (
+            numbered(alloc, b"sort o;", "fun f", ":o;", 1_024, b"")?,
+            numbered(alloc, b"sort o;", "fun f", ":o;", 1_025, b"")?,
+            b"REFUSED too-many 11189\n".as_slice(),
+        ),
+        (
+            repeated(alloc, symbol, b"rule {} a => a;", 1_024, b"")?,
+            repeated(alloc, symbol, b"rule {} a => a;", 1_025, b"")?,
+            b"REFUSED too-many 15375\n".as_slice(),
+        ),
+        (
+            numbered(alloc, braces, "X", ":o,", 31, b"Y:o} a => a;")?,
+            numbered(alloc, braces, "X", ":o,", 32, b"Y:o} a => a;")?,
+            b"REFUSED too-many 203\n".as_slice(),
+        ),
+        (
+            repeated(alloc, b"sort o;fun f:", b"o->", 32, b"o;")?,
+            repeated(alloc, b"sort o;fun f:", b"o->", 33, b"o;")?,
+            b"REFUSED too-many 109\n".as_slice(),
+        ),
+        (
+            repeated(alloc, brackets, b"o,", 31, b"o] o} a => a;")?,
+            repeated(alloc, brackets, b"o,", 32, b"o] o} a => a;")?,
+            b"REFUSED too-many 88\n".as_slice(),
+        ),
+    ] {
+        assert!(rt; keeps(alloc, &limit)?);
+    }
+    Ok(())
+}
+
+#[test]
+fn keeps_the_limits_of_sides(rt: HostRuntime) -> Result<(), Fail> {
+    let alloc = rt.alloc();
+    let wide = repeated(alloc, b"sort o;fun a:o;fun f:", b"o->", 32, b"o;rule {} f")?;
+    let nest = b"sort o;fun a:o;rule {} ".as_slice();
+    let large = b"sort o;fun a:o;fun d:o->o->o;fun f:o->o;fun k:(o->o)->o;rule {} a => ".as_slice();
+    for limit in [
+        (
+            repeated(alloc, wide.as_slice(), b" a", 32, b" => a;")?,
+            repeated(alloc, wide.as_slice(), b" a", 33, b" => a;")?,
+            b"REFUSED too-many 193\n".as_slice(),
+        ),
+        (
+            repeated(alloc, repeated(alloc, nest, b"(", 400, b"a")?.as_slice(), b")", 400, b" => a;")?,
+            repeated(alloc, nest, b"(", 401, b"")?,
+            b"REFUSED too-many 423\n".as_slice(),
+        ),
+        (
+            repeated(alloc, repeated(alloc, b"sort o;fun a:", b"(", 16, b"o")?.as_slice(), b")", 16, b";")?,
+            repeated(alloc, b"sort o;fun a:", b"(", 17, b"")?,
+            b"REFUSED too-many 29\n".as_slice(),
+        ),
+        (
+            high(alloc, 200)?,
+            high(alloc, 201)?,
+            b"REFUSED too-many 39\n".as_slice(),
+        ),
+        (
+            around_large(alloc, repeated(alloc, large, b"k (\\x:o.", 1, b"")?.as_slice(), b");")?,
+            around_large(alloc, repeated(alloc, large, b"f (f ", 1, b"")?.as_slice(), b");")?,
+            b"REFUSED too-many 69\n".as_slice(),
+        ),
+        (
+            numbered(alloc, b"sort ", "a23456789012345678901234567890123456789012345678901234567890123", ";", 1, b"")?,
+            numbered(alloc, b"sort ", "a234567890123456789012345678901234567890123456789012345678901234", ";", 1, b"")?,
+            b"REFUSED name-too-long 5\n".as_slice(),
+        ),
+        (
+            numbered(alloc, b"sort o;fun k:(o->o)->o;rule {} k (\\$65535:o.$65535) => k (\\x:o.x);", "", "", 0, b"")?,
+            numbered(alloc, b"sort o;fun k:(o->o)->o;rule {} k (\\$65536:o.$65535) => k (\\x:o.x);", "", "", 0, b"")?,
+            b"REFUSED bad-number 36\n".as_slice(),
+        ),
+    ] {
+        assert!(rt; keeps(alloc, &limit)?);
+    }
+    Ok(())
+}
+
+/// Texts of systems, each with one that differs from it little and is refused, and with what is told of that.
+const NEIGHBOURS: &[(&[u8], &[u8], &[u8])] = &[
+    (b"sort a;", b"sort a?;", b"REFUSED bad-byte 6\n"),
+    (b"sort o;#\r\x80\n", b"sort o;#\n\x80", b"REFUSED bad-byte 9\n"),
+    (b"sort o;fun a:o;", b"sort o;fun a:o", b"REFUSED syntax 14\n"),
+    (b"sort o;fun a:o;", b"sort o;fun a:p;", b"REFUSED unknown-name 13\n"),
+    (b"sort a;fun a:a;", b"sort a;fun a:a;fun a:a;", b"REFUSED twice 19\n"),
+    (
+        b"sort o;fun f:o->o;rule {X:o} f X => X;",
+        b"sort o;fun f:o->o;rule {X:o} f f => X;",
+        b"REFUSED ill-typed 31\n",
+    ),
+    (
+        b"sort o;fun f:(o->o->o)->o;rule {F:[o,o]o} f (\\x:o.\\y:o.F[y,x]) => f (\\x:o.\\y:o.F[x,x]);",
+        b"sort o;fun f:(o->o->o)->o;rule {F:[o,o]o} f (\\x:o.\\y:o.F[y,y]) => f (\\x:o.\\y:o.F[x,x]);",
+        b"REFUSED not-pattern 55\n",
+    ),
+    (
+        b"sort o;fun a:o;rule {} a => (\\$0:o.$0) a;",
+        b"sort o;fun a:o;rule {} a => (\\$0:o.%0:o) a;",
+        b"REFUSED open-side 35\n",
+    ),
+    (
+        b"sort o;fun f:o->o;rule {X:o,Y:o} f X => X;",
+        b"sort o;fun f:o->o;rule {X:o,Y:o} f X => Y;",
+        b"REFUSED new-meta 40\n",
+    ),
+    (
+        b"sort o;fun f:o->o;rule {X:o} f X => X;",
+        b"sort o;fun f:o->o;rule {X:o} X => X;",
+        b"REFUSED head-not-function 29\n",
+    ),
+    (
+        b"sort o;fun f:o->o;rule {X:o} f X => X;rule {X:o} f (f X) => X;",
+        b"sort o;fun f:o->o;rule {X:o} f X => X;rule {} f => f;",
+        b"REFUSED uneven-rules 46\n",
+    ),
+];
+
+#[test]
+fn refuses_neighbours(rt: HostRuntime) -> Result<(), Fail> {
+    let given = ["show", "system"];
+    for (read, refused, text) in NEIGHBOURS {
+        let (status, _) = told(rt.alloc(), &given, *read, b"")?;
+        assert_eq!(rt; status, Status::Answered);
+        let (status, out) = told(rt.alloc(), &given, *refused, b"")?;
+        assert_eq!(rt; status, Status::Refused);
+        assert_eq!(rt; out.bytes(), *text);
+    }
+    Ok(())
+}
+
+#[test]
+fn refuses_other_words(rt: HostRuntime) -> Result<(), Fail> {
+    for refused in OTHER_WORDS {
+        let (status, out) = told(rt.alloc(), *refused, LOOP, LOOP_CERTIFICATE)?;
+        assert_eq!(rt; status, Status::BadWords);
+        assert_eq!(rt; out.bytes(), b"BAD WORDS\n".as_slice());
+    }
+    Ok(())
+}
+
+#[test]
+fn names_the_file_that_failed(rt: HostRuntime) -> Result<(), Fail> {
+    let alloc = rt.alloc();
+    let asked = words(alloc, &["check", "system", "certificate"])?;
+    // The system takes the reads 0 and 1, the certificate the reads 2 and 3.
+    for (failing, text) in [
+        ([9].as_slice(), b"READ FAULT certificate\n".as_slice()),
+        ([1].as_slice(), b"READ FAULT system\n".as_slice()),
+    ] {
+        let mut shelf = MemoryShelf::new(alloc, failing)?;
+        shelf.add_file("system", LOOP)?;
+        let mut out = MemorySink::new(alloc, 100, 100, &[])?;
+        let status = run(alloc, asked.as_slice(), &mut shelf, &mut out);
+        assert_eq!(rt; status, Status::ReadFault);
+        assert_eq!(rt; out.bytes(), text);
+    }
+    Ok(())
+}
+
+#[test]
+fn tells_which_file_is_too_long(rt: HostRuntime) -> Result<(), Fail> {
+    let alloc = rt.alloc();
+    let spaces = vec![in alloc; b' '; 1_048_577]?;
+    let (status, out) = told(alloc, &["show", "system"], spaces.as_slice(), b"")?;
+    assert_eq!(rt; status, Status::TooLong);
+    assert_eq!(rt; out.bytes(), b"TOO LONG system\n".as_slice());
+    let (_, out) = told(alloc, &["show", "system"], &spaces.as_slice()[1..], b"")?;
+    assert_eq!(rt; out.bytes(), b"SYSTEM\nPAIRS 0\n".as_slice());
+    let spaces = vec![in alloc; b' '; 8_388_609]?;
+    let given = ["check", "system", "certificate"];
+    let (status, out) = told(alloc, &given, LOOP, spaces.as_slice())?;
+    assert_eq!(rt; status, Status::TooLong);
+    assert_eq!(rt; out.bytes(), b"TOO LONG certificate\n".as_slice());
+    Ok(())
+}
+
+#[test]
+fn leaves_what_it_wrote_before_a_fault(rt: HostRuntime) -> Result<(), Fail> {
+    let alloc = rt.alloc();
+    let mut shelf = MemoryShelf::new(alloc, &[])?;
+    shelf.add_file("system", LOOP)?;
+    shelf.add_file("certificate", LOOP_CERTIFICATE)?;
+    let mut out = MemorySink::new(alloc, 1, 100, &[1])?;
+    let asked = words(alloc, &["check", "system", "certificate"])?;
+    let status = run(alloc, asked.as_slice(), &mut shelf, &mut out);
+    assert_eq!(rt; status, Status::WriteFault);
+    assert_eq!(rt; status.number(), 5);
+    assert_eq!(rt; out.bytes(), b"N".as_slice());
+    Ok(())
+}
