@@ -2,13 +2,11 @@
 use Rattle.std.proofs.lemmas.List.Elements.{All-head, All-tail}
 use Rattle.std.specs.Prelude.{slice_index_or, ◌==◌, false}
 use Rattle.std.proofs.lemmas.Bool.{true≢false}
-use Rattle.std.proofs.Common.{◌≡◌, ℕ, zero, suc, subst, ◌+◌, ◌<◌, ◌≤◌, List, [], ◌∷◌, ◌++◌, length, get_or, drop, map, All, refl, sym, ap, ◌∙◌, arith, append_assoc}
-use Rattle.std.proofs.lemmas.List.{drop_more, drop_all, length-map}
-use Rattle.wh_types.specs.Ty.{Ty}
-use Rattle.wh_terms.specs.Typing.{Declared}
+use Rattle.std.proofs.Common.{◌≡◌, ℕ, zero, suc, subst, ◌+◌, ◌<◌, ◌≤◌, List, [], ◌∷◌, ◌++◌, length, get_or, drop, map, All, refl, sym, ap, ◌∙◌, arith}
+use Rattle.std.proofs.lemmas.List.{drop_more, drop_all}
 use Rattle.wh_text.specs.Pushes.{Pushes}
-use Rattle.wh_text.proofs.PrintLemmas.{Leaves, push_then, push_bytes}
-use Rattle.wh_print.specs.SystemText.{put_sort, put_sorts, put_fun, put_funs, put_further, put_meta, put_further_metas}
+use Rattle.wh_text.proofs.PrintLemmas.{Leaves}
+use Rattle.wh_print.specs.SystemText.{put_sort, put_sorts}
 
 -- all is left at the beginning
 pub begins : (a : List ℕ) (all : List ℕ → List ℕ) → Leaves a a all all

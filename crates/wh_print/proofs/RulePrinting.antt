@@ -1,5 +1,5 @@
 -- Printing rules.
-use Rattle.std.proofs.Common.{◌≡◌, ℕ, ◌+◌, ◌<◌, ◌≤◌, List, [], ◌∷◌, ◌++◌, length, get_or, drop, map, All, Some, refl, sym, ap, subst, ◌∙◌, arith}
+use Rattle.std.proofs.Common.{◌≡◌, ℕ, ◌+◌, ◌<◌, ◌≤◌, List, [], ◌∷◌, ◌++◌, length, get_or, drop, All, Some, sym, ap, subst, ◌∙◌, arith}
 use Rattle.std.specs.Prelude.{codes, slice_get}
 use Rattle.std.proofs.lemmas.List.{drop_more, drop_all, length-map}
 use Rattle.std.proofs.lemmas.Option.{slice_get_within, get_or_from_slice_get}
@@ -10,7 +10,7 @@ use Rattle.wh_text.specs.Pushes.{Pushes}
 use Rattle.wh_text.specs.Spelling.{put_term}
 use Rattle.wh_text.proofs.PrintLemmas.{push_then, push_bytes}
 use Rattle.wh_system.specs.Systems.{SystemData}
-use Rattle.wh_system.specs.WellMade.{IsWellMadeSystem, IsDeclarationOver, IsTypeOver}
+use Rattle.wh_system.specs.WellMade.{IsWellMadeSystem, IsDeclarationOver}
 use Rattle.wh_system.specs.Canonical.{raw_of}
 use Rattle.wh_system.specs.CanonicalView.{names_of_rule}
 use Rattle.wh_print.specs.SystemText.{put_metas, put_rule, put_rules}

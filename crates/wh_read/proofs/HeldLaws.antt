@@ -1,15 +1,15 @@
 -- What the reader's lists and trees stand for once they have grown by one.
-use Rattle.std.proofs.Common.{◌≡◌, ℕ, zero, suc, ◌+◌, ◌<◌, ◌≤◌, List, [], ◌∷◌, ◌++◌, map, length, Option, None, Some, option_map, Box, Global, refl, sym, ap, ap₂, ◌∙◌, arith, Vec, vec_len, ◌==◌, Bool, true, false, true≢false, lt-ltb, if◌then◌else◌, Result, Ok, Err, IfOk}
+use Rattle.std.proofs.Common.{◌≡◌, ℕ, zero, suc, ◌+◌, ◌<◌, ◌≤◌, List, [], ◌∷◌, ◌++◌, map, length, Option, None, Some, Box, Global, refl, sym, ap, ap₂, ◌∙◌, arith, Vec, vec_len, ◌==◌, Bool, false, true≢false, lt-ltb, if◌then◌else◌, Result, Ok, Err, IfOk}
 use Rattle.std.proofs.lemmas.Bool.{le-ltb}
 use Rattle.std.proofs.lemmas.List.{map-append}
-use Rattle.wh_text.specs.RawTree.{RTy, raw_type, RTys, no_types, more_types, RTm, named, lam, spine, RTms, none, more, meta}
+use Rattle.wh_text.specs.RawTree.{RTy, raw_type, RTys, no_types, more_types, RTm, named, lam, spine, RTms, more}
 use Rattle.wh_text.specs.Erase.{rty, rtys, type_list, rtm, rtms, term_list}
 use Rattle.wh_text.specs.declared.raw.RawType.{RawType, out-RawType}
 use Rattle.wh_text.specs.declared.raw.RawTypes.{RawTypes}
-use Rattle.wh_text.specs.declared.raw.RawTerm.{RawTerm, Meta, Spine}
+use Rattle.wh_text.specs.declared.raw.RawTerm.{RawTerm, Spine}
 use Rattle.wh_text.specs.declared.raw.RawTerms.{RawTerms}
-use Rattle.wh_text.proofs.RawLemmas.{rty_parts, rtm_of_spine, rtm_of_meta, arguments_are}
-use Rattle.wh_parts.specs.Parts.{RMeta, RParts}
+use Rattle.wh_text.proofs.RawLemmas.{rty_parts, rtm_of_spine, arguments_are}
+use Rattle.wh_parts.specs.Parts.{RParts}
 use Rattle.wh_parts.specs.Erase.{rname, rmeta}
 use Rattle.wh_parts.specs.declared.parts.RawName.{RawName}
 use Rattle.wh_parts.specs.declared.parts.RawMeta.{RawMeta}

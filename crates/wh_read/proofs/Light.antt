@@ -1,13 +1,13 @@
 -- The reader holds what the machine over written trees holds, with what is said in place of what is written.
-use Rattle.std.proofs.Common.{◌≡◌, ℕ, ◌+◌, Bool, true, false, List, [], ◌∷◌, ◌++◌, map, length, Option, None, Some, refl, sym, ap, ap₂, ◌∙◌, nat_lt, if◌then◌else◌, suc, arith}
-use Rattle.wh_text.specs.RawTree.{RTy, raw_type, RTys, no_types as no_rtys, more_types as more_rtys, Binder, RTm, named, numbered, free_variable, meta, lam, spine, RTms, none, more}
-use Rattle.wh_parts.specs.Parts.{RName, RFun, RMeta, RRule, RParts}
-use Rattle.wh_read.specs.Written.{WType, only, arrow, WAtype, sort_name, type_in, WTerm, lambda, atoms, WAtom, plain_name, number, typed_variable, applied, term_in, WAtoms, no_atoms, more_atoms, WTerms, no_terms, more_terms, WTypes, no_types, more_types, WBrackets, no_brackets, brackets, WMeta, WMetas, no_metas, more_metas, WDeclared, nothing, declares, WSort, WFun, WRule, WSystem}
+use Rattle.std.proofs.Common.{◌≡◌, ℕ, ◌+◌, Bool, true, false, List, [], ◌∷◌, ◌++◌, map, length, Option, None, Some, refl, ap, ◌∙◌, nat_lt, if◌then◌else◌, suc, arith}
+use Rattle.wh_text.specs.RawTree.{RTy, raw_type, RTys, no_types as no_rtys, more_types as more_rtys, RTm, named, numbered, free_variable, meta, lam, spine, RTms, none, more}
+use Rattle.wh_parts.specs.Parts.{RMeta, RParts}
+use Rattle.wh_read.specs.Written.{WType, only, arrow, WAtype, sort_name, type_in, WTerm, lambda, atoms, WAtom, plain_name, number, typed_variable, term_in, WAtoms, no_atoms, more_atoms, WTerms, no_terms, more_terms, WTypes, no_types, more_types, WBrackets, no_brackets, WMeta, WMetas, no_metas, more_metas, WSort, WFun, WRule, WSystem}
 use Rattle.wh_read.specs.Spelled.{Placed}
-use Rattle.wh_read.specs.Raw.{with_argument, said_type, said_atype, place_of, join, spined, said_term, said_atom, said_atoms, said_terms, said_types, said_brackets, said_meta, said_metas, said_declared, said_sort, said_fun, said_rule, said}
+use Rattle.wh_read.specs.Raw.{with_argument, said_type, said_atype, join, spined, said_term, said_atom, said_atoms, said_terms, said_types, said_brackets, said_meta, said_metas, said_declared, said_sort, said_fun, said_rule, said}
 use Rattle.wh_read.specs.Lexemes.{Lexeme, a_name, a_dollar, a_percent, key_sort, key_fun, key_rule, backslash, colon, dot, semicolon, comma, open_paren, close_paren, open_bracket, close_bracket, open_brace, close_brace, thin_arrow, thick_arrow, lexeme}
 use Rattle.wh_read.specs.Reader as l
-use Rattle.wh_read.proofs.Machine.{SomeTypes, no_types_yet, types_so_far, SomeTerms, no_terms_yet, terms_so_far, SomeMetas, no_metas_yet, metas_so_far, SomeAtoms, no_atoms_yet, atoms_so_far, join_types, join_terms, join_metas, join_atoms, add_type, add_term, add_meta, add_atom, next_types, next_terms, next_metas, next_atoms, all_types, all_terms, all_metas, FunStart, RuleStart, MetaStart, RuleHead, Where, on_left, on_right, in_body, in_paren, in_bracket, TypeWhere, of_fun, in_brackets, of_meta, behind_arrow, in_type_paren, AtypeWhere, in_type, of_binder, of_variable, level, type_level, atype_level, Place, behind_sort, sort_named, behind_fun, fun_named, behind_rule, want_meta, meta_named, meta_colon, want_atype, behind_atype, behind_lambda, binder_named, binder_typed, want_atom, behind_name, behind_percent, State, between, inside, failed, too_many, may_open, opened, had_atype, with_fun, the_meta, with_rule, left_of, type_ended, term_ended, spine_ended, at_atom, behind_plain, at_atype, move, read_some, step, run, start, lambda_begins, at_meta, at_binder, sort_begins, fun_begins, begin, open_type, open_term, read}
+use Rattle.wh_read.proofs.Machine.{SomeTypes, no_types_yet, types_so_far, SomeTerms, no_terms_yet, terms_so_far, SomeMetas, no_metas_yet, metas_so_far, SomeAtoms, no_atoms_yet, atoms_so_far, add_type, add_term, add_meta, add_atom, next_types, next_terms, next_metas, next_atoms, all_types, all_terms, all_metas, FunStart, RuleStart, MetaStart, RuleHead, Where, on_left, on_right, in_body, in_paren, in_bracket, TypeWhere, of_fun, in_brackets, of_meta, behind_arrow, in_type_paren, AtypeWhere, in_type, of_binder, of_variable, level, type_level, atype_level, Place, behind_sort, sort_named, behind_fun, fun_named, behind_rule, want_meta, meta_named, meta_colon, want_atype, behind_atype, behind_lambda, binder_named, binder_typed, want_atom, behind_name, behind_percent, State, between, inside, failed, too_many, opened, had_atype, the_meta, type_ended, term_ended, spine_ended, at_atom, behind_plain, at_atype, move, read_some, step, run, lambda_begins, at_meta, at_binder, sort_begins, fun_begins, begin}
 
 -- what is said of the lists so far
 abbrev pub types_said : SomeTypes → RTys

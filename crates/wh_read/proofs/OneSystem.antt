@@ -1,5 +1,5 @@
 -- A text says one system, or is refused for one reason at one place.
-use Rattle.std.proofs.Common.{◌≡◌, ℕ, ◌⊎◌, inl, inr, List, Option, None, Some, length, map, refl, sym, ap, subst, ◌∙◌}
+use Rattle.std.proofs.Common.{◌≡◌, ℕ, inl, inr, List, Option, None, Some, length, map, refl, sym, ap, subst, ◌∙◌}
 use Rattle.wh_text.specs.Tokens.{Token, Ending, whole, bad_byte, bad_number, name_too_long, Cuts}
 use Rattle.wh_text.specs.Erase.{ending}
 use Rattle.wh_text.specs.Pieces.{HasFault}
@@ -17,7 +17,7 @@ use Rattle.wh_read.specs.SyntaxFaults.{place_in, HasSyntaxFault}
 use Rattle.wh_read.specs.declared.fault.SyntaxFault.{SyntaxFault}
 use Rattle.wh_read.specs.declared.fault.SyntaxFault.TheVariants.{Syntax, TooMany}
 use Rattle.wh_read.specs.declared.reasons.Refused.{Refused}
-use Rattle.wh_read.specs.Reading.{Reads, BadText, BadSyntax, BadParts, Refuses, text_refused, syntax_refused, system_refused}
+use Rattle.wh_read.specs.Reading.{Reads, BadSyntax, BadParts, Refuses, text_refused, syntax_refused, system_refused}
 use Rattle.wh_read.proofs.OneReading.{one_parse, no_syntax_fault, not_too_deep, one_syntax_fault, one_deep_fault, syntax_or_deep}
 
 -- tokens

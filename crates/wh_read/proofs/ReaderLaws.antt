@@ -1,13 +1,11 @@
 -- What a run of the reader over tokens tells: the parts that they say, or the first token at fault.
 use Rattle.std.proofs.Common.{◌≡◌, ℕ, ◌+◌, ◌<◌, true, List, [], length, take, refl, sym, ap, subst, ◌∙◌}
 use Rattle.wh_parts.specs.Parts.{RParts}
-use Rattle.wh_read.specs.Written.{WSystem}
 use Rattle.wh_read.specs.Spelled.{Placed}
-use Rattle.wh_read.specs.Raw.{said}
 use Rattle.wh_read.specs.Parsing.{Parses, SyntaxAt, TooDeepAt}
 use Rattle.wh_read.specs.Reader as l
 use Rattle.wh_read.proofs.Machine.{Place, State, between, inside, failed, too_many, run, start, behind_sort, sort_named, behind_fun, fun_named, behind_rule, want_meta, meta_named, meta_colon, want_atype, behind_atype, behind_lambda, binder_named, binder_typed, want_atom, behind_name, behind_percent}
-use Rattle.wh_read.proofs.Light.{light, place, parts, run-said}
+use Rattle.wh_read.proofs.Light.{light, place, run-said}
 use Rattle.wh_read.proofs.Whole.{Goes, parsed, ends_early, syntax_at, too_deep_at}
 
 from_start : (ts : List Placed) → l.run l.start ts ≡ light (run true start ts)

@@ -1,15 +1,14 @@
 -- Each token that the machine takes stands among those that its place has read.
-use Rattle.std.proofs.Common.{◌≡◌, ℕ, ◌+◌, ◌<◌, Bool, true, false, List, [], ◌∷◌, ◌++◌, Option, None, Some, refl, sym, ap, subst, ◌∙◌, codes, nat_lt, ltb-true, true≢false, if◌then◌else◌}
+use Rattle.std.proofs.Common.{◌≡◌, ℕ, ◌+◌, ◌<◌, Bool, true, false, List, [], ◌∷◌, ◌++◌, refl, sym, ap, subst, ◌∙◌, codes, nat_lt, ltb-true, true≢false, if◌then◌else◌}
 use Rattle.std.proofs.Math.Path.{fun_ext}
-use Rattle.wh_text.specs.RawTree.{Binder, named_binder, numbered_binder}
-use Rattle.wh_text.specs.Tokens.{name, keyword, percent}
-use Rattle.wh_read.specs.Written.{WType, only, arrow, WAtype, sort_name, type_in, WTerm, lambda, atoms, WAtom, plain_name, number, typed_variable, applied, term_in, WAtoms, no_atoms, more_atoms, WTerms, no_terms, more_terms, WTypes, no_types, more_types, WBrackets, no_brackets, brackets, WMeta, WMetas, no_metas, more_metas, WDeclared, nothing, declares, WSort, WFun, WRule, WSystem}
-use Rattle.wh_read.specs.Spelled.{Placed, token, mark, put_type, put_atype, put_binder, put_term, put_atom, put_atoms, put_terms, put_types, put_brackets, put_meta, put_metas, put_declared, put_sort, put_fun, put_rule, put_all, spelled}
+use Rattle.wh_text.specs.Tokens.{name, keyword}
+use Rattle.wh_read.specs.Written.{WType, only, arrow, WAtype, sort_name, type_in, WTerm, lambda, atoms, WAtom, plain_name, number, typed_variable, term_in, WAtoms, no_atoms, more_atoms, WTerms, no_terms, more_terms, WTypes, no_types, more_types, no_brackets, WMeta, WMetas, no_metas, more_metas, WSort, WFun, WRule, WSystem}
+use Rattle.wh_read.specs.Spelled.{Placed, token, mark, put_type, put_atype, put_term, put_atom, put_atoms, put_terms, put_types, put_brackets, put_meta, put_metas, put_declared, put_sort, put_fun, put_rule, put_all}
 use Rattle.wh_read.specs.Nesting.{TypeFits, AtypeFits, TermFits, AtomFits, AtomsFit, TermsFit, TypesFit, BracketsFit, MetaFits, MetasFit, DeclaredFits, RuleFits, Each, SystemFits}
-use Rattle.wh_read.specs.Lexemes.{Lexeme, a_name, a_dollar, a_percent, key_sort, key_fun, key_rule, backslash, colon, dot, semicolon, comma, open_paren, close_paren, open_bracket, close_bracket, open_brace, close_brace, thin_arrow, thick_arrow, lexeme}
-use Rattle.wh_read.proofs.Machine.{SomeTypes, no_types_yet, types_so_far, SomeTerms, no_terms_yet, terms_so_far, SomeMetas, no_metas_yet, metas_so_far, SomeAtoms, no_atoms_yet, atoms_so_far, join_types, join_terms, join_metas, join_atoms, add_type, add_term, add_meta, add_atom, next_types, next_terms, next_metas, next_atoms, all_types, all_terms, all_metas, FunStart, RuleStart, MetaStart, RuleHead, Where, on_left, on_right, in_body, in_paren, in_bracket, TypeWhere, of_fun, in_brackets, of_meta, behind_arrow, in_type_paren, AtypeWhere, in_type, of_binder, of_variable, level, type_level, atype_level, Place, behind_sort, sort_named, behind_fun, fun_named, behind_rule, want_meta, meta_named, meta_colon, want_atype, behind_atype, behind_lambda, binder_named, binder_typed, want_atom, behind_name, behind_percent, State, between, inside, failed, too_many, may_open, opened, had_atype, with_fun, the_meta, with_rule, left_of, type_ended, term_ended, spine_ended, at_atom, behind_plain, at_atype, move, read_some, step, run, start, lambda_begins, at_meta, at_binder, sort_begins, fun_begins, begin}
-use Rattle.wh_read.proofs.LexemeLaws.{kind_of, kind_lexeme, Is}
-use Rattle.wh_read.proofs.Seen.{seen_types, seen_terms, seen_metas, seen_atoms, seen_system, seen_fun, seen_rule, seen_meta, seen_head, seen_where, seen_type_where, seen_atype_where, seen, SomeTypesFit, SomeTermsFit, SomeMetasFit, SomeAtomsFit, FunsFit, MetaStartFits, HeadFits, WhereFits, TypeWhereFits, AtypeWhereFits, PlaceFits}
+use Rattle.wh_read.specs.Lexemes.{Lexeme, a_name, a_dollar, a_percent, key_sort, key_fun, key_rule, backslash, colon, dot, semicolon, comma, open_paren, close_paren, open_bracket, close_bracket, open_brace, close_brace, thin_arrow, thick_arrow}
+use Rattle.wh_read.proofs.Machine.{SomeTypes, no_types_yet, types_so_far, SomeTerms, no_terms_yet, terms_so_far, SomeMetas, no_metas_yet, metas_so_far, SomeAtoms, no_atoms_yet, atoms_so_far, add_type, add_term, add_meta, add_atom, next_types, next_terms, next_metas, next_atoms, all_types, all_terms, all_metas, FunStart, RuleStart, RuleHead, Where, on_left, on_right, in_body, in_paren, in_bracket, TypeWhere, of_fun, in_brackets, of_meta, behind_arrow, in_type_paren, AtypeWhere, in_type, of_binder, of_variable, level, type_level, atype_level, Place, behind_sort, sort_named, behind_fun, fun_named, behind_rule, want_meta, meta_named, meta_colon, want_atype, behind_atype, behind_lambda, binder_named, binder_typed, want_atom, behind_name, behind_percent, State, between, inside, failed, too_many, opened, had_atype, with_fun, the_meta, with_rule, type_ended, term_ended, spine_ended, at_atom, behind_plain, at_atype, move, lambda_begins, at_meta, at_binder, sort_begins, fun_begins, begin}
+use Rattle.wh_read.proofs.LexemeLaws.{kind_of}
+use Rattle.wh_read.proofs.Seen.{seen_types, seen_terms, seen_metas, seen_atoms, seen_system, seen_fun, seen_rule, seen_meta, seen_head, seen_where, seen_type_where, seen_atype_where, seen, SomeTypesFit, SomeTermsFit, SomeMetasFit, SomeAtomsFit, FunsFit, HeadFits, WhereFits, TypeWhereFits, AtypeWhereFits, PlaceFits}
 
 -- lists to which one more was added, spelled
 put_types-add : (ts : WTypes) (c : ℕ) (t : WType) (r : List Placed) → put_types (add_type ts c t) r ≡ put_types ts (mark (codes ",") c ∷ put_type t r)

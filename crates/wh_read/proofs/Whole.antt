@@ -1,17 +1,16 @@
 -- What a run of the machine over tokens tells: the text that they are, or the first token at which they are none.
-use Rattle.std.proofs.Common.{◌≡◌, ℕ, ◌+◌, ◌<◌, ◌≤◌, Bool, true, false, List, [], ◌∷◌, ◌++◌, Option, None, Some, length, take, get_or, refl, sym, ap, subst, ◌∙◌, append-nil, append_assoc, arith, true≢false, le_refl}
+use Rattle.std.proofs.Common.{◌≡◌, ℕ, ◌+◌, ◌<◌, Bool, true, false, List, [], ◌∷◌, ◌++◌, Option, None, Some, length, take, get_or, refl, sym, ap, subst, ◌∙◌, append-nil, arith, true≢false, le_refl}
 use Rattle.std.proofs.Math.Path.{fun_ext}
 use Rattle.std.proofs.lemmas.List.{take_more}
-use Rattle.wh_parts.specs.Parts.{RParts}
 use Rattle.wh_read.specs.Written.{WSystem}
 use Rattle.wh_read.specs.Spelled.{Placed, token, spelled}
 use Rattle.wh_read.specs.Nesting.{SystemFits}
 use Rattle.wh_read.specs.Raw.{said}
 use Rattle.wh_read.specs.Parsing.{Parses, Begins, BeginsWithin, SyntaxAt, TooDeepAt}
 use Rattle.wh_read.specs.Lexemes.{Lexeme, lexeme}
-use Rattle.wh_read.proofs.LexemeLaws.{kind_of, kind_lexeme, Is}
+use Rattle.wh_read.proofs.LexemeLaws.{kind_lexeme, Is}
 use Rattle.wh_read.proofs.Machine.{Place, State, between, inside, failed, too_many, move, begin, read_some, step, run, start}
-use Rattle.wh_read.proofs.Seen.{seen_system, seen, PlaceFits}
+use Rattle.wh_read.proofs.Seen.{seen_system, seen}
 use Rattle.wh_read.proofs.Sound.{Next, move-kept, begin-kept}
 use Rattle.wh_read.proofs.CompleteText.{system_run}
 use Rattle.wh_read.proofs.Ends.{finish, place_ends}

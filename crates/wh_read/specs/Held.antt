@@ -1,5 +1,5 @@
 -- What the reader's values stand for, without pointers.
-use Rattle.std.specs.Prelude.{ℕ, List, [], ◌∷◌, map, Option, option_map}
+use Rattle.std.specs.Prelude.{ℕ, List, [], ◌∷◌, map, option_map}
 use Rattle.wh_text.specs.RawTree.{RTys}
 use Rattle.wh_text.specs.Erase.{rty, rtys, rtm, rtms, rbinder, type_list, term_list}
 use Rattle.wh_parts.specs.Parts.{RParts}
@@ -12,7 +12,6 @@ use Rattle.wh_read.specs.declared.lexeme.Lexeme.TheVariants.{Name, Dollar, Perce
 use Rattle.wh_read.specs.declared.place.Frame.{Frame}
 use Rattle.wh_read.specs.declared.place.Frame.TheVariants.{Body, Paren, Bracket}
 use Rattle.wh_read.specs.declared.place.OpenRule.{OpenRule}
-use Rattle.wh_read.specs.declared.place.OpenSpine.{OpenSpine}
 use Rattle.wh_read.specs.declared.place.OpenMetas.{OpenMetas}
 use Rattle.wh_read.specs.declared.place.OpenMeta.{OpenMeta}
 use Rattle.wh_read.specs.declared.place.Purpose.{Purpose}

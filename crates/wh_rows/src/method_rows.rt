@@ -91,7 +91,10 @@ fn checks_ranks(rt: HostRuntime) -> Result<(), Fail> {
     let flat = Ranks::new(alloc, &[0, 0])?;
     let rising = Ranks::new(alloc, &[0, 1])?;
     assert!(rt; system.signature().sorts == 2);
-    assert_eq!(rt; check_ranks(&system, &flat), Err(Inaccessible { rule: 1, meta: 0 }));
+    assert_eq!(rt;
+        check_ranks(&system, &flat),
+        Err(Inaccessible { rule: 1, meta: 0 })
+    );
     assert_eq!(rt; check_ranks(&system, &rising), Ok(()));
     Ok(())
 }
@@ -124,7 +127,8 @@ fn checks_projections(rt: HostRuntime) -> Result<(), Fail> {
 
 #[test]
 fn a_beta_redex_may_become_a_call(rt: HostRuntime) -> Result<(), Fail> {
-    let text = b"sort o;fun c:o;fun s:o->o;fun f:o->o;rule {X:o} f (s X) => f ((\\x:o.x) (s X));".as_slice();
+    let text =
+        b"sort o;fun c:o;fun s:o->o;fun f:o->o;rule {X:o} f (s X) => f ((\\x:o.x) (s X));".as_slice();
     let (system, list) = problem_of(rt.alloc(), text)?;
     match list.as_slice() {
         [pair] => assert!(rt; may_follow(&system, pair, pair)),
@@ -184,12 +188,19 @@ fn checks_blocks(rt: HostRuntime) -> Result<(), Fail> {
             [[0].as_slice(), [1].as_slice()].as_slice(),
             Ok(()),
         ),
-        (IDENTITY, [[0, 1].as_slice()].as_slice(), Err(BlockFault::FewBlocks)),
+        (
+            IDENTITY,
+            [[0, 1].as_slice()].as_slice(),
+            Err(BlockFault::FewBlocks),
+        ),
     ] {
         let (system, list) = problem_of(alloc, text)?;
         let set = all_of(alloc, &list)?;
         let given = blocks_of(alloc, blocks)?;
-        assert_eq!(rt; check_blocks(&system, &list, &set, given.as_slice()), answer);
+        assert_eq!(rt;
+            check_blocks(&system, &list, &set, given.as_slice()),
+            answer
+        );
     }
     Ok(())
 }

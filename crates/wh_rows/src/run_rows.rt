@@ -49,7 +49,9 @@ fn told(
 
 /// What is written of a system that is shown, without the first line and without its pairs.
 fn system_part(shown: &[u8]) -> Option<&[u8]> {
-    let end = shown.windows(6).position(|bytes| bytes == b"PAIRS ")?;
+    let end = shown
+        .windows(6)
+        .position(|bytes| bytes == b"PAIRS ".as_slice())?;
     shown.get(7..end)
 }
 
@@ -361,7 +363,10 @@ fn keeps_the_limit_of_pairs(rt: HostRuntime) -> Result<(), Fail> {
     let most = calling(alloc, b"a")?;
     let (status, out) = told(alloc, &["show", "system"], most.as_slice(), b"")?;
     assert_eq!(rt; status, Status::Answered);
-    assert!(rt; out.bytes().ends_with(b"pair 4095 rule 1023 (g# X) => (g# a)\n"));
+    assert!(rt;
+        out.bytes()
+            .ends_with(b"pair 4095 rule 1023 (g# X) => (g# a)\n")
+    );
     let more = calling(alloc, b"(g (s a))")?;
     for given in [
         ["show", "system"].as_slice(),
@@ -416,155 +421,189 @@ fn tells_why_a_system_is_refused(rt: HostRuntime) -> Result<(), Fail> {
     Ok(())
 }
 
-/// A text in which an item is repeated, with its number from 0 on behind it and then what closes it.
-fn numbered(
-    alloc: Global,
-    before: &[u8],
-    item: &str,
-    close: &str,
-    count: u32,
-    after: &[u8],
-) -> Result<Vec<u8>, AllocError> {
-    let mut text = Vec::from_slice(alloc, before)?;
+/// A text of a system in which an item is repeated as often as a limit allows, and what is told where it is repeated once
+/// more. Behind each item stands its number, counted from 0, where it is numbered; behind all of them stands the middle, and
+/// behind that something for each item.
+struct Limit {
+    before: &'static str,
+    item: &'static str,
+    numbered: bool,
+    close: &'static str,
+    middle: &'static str,
+    for_each: &'static str,
+    after: &'static str,
+    most: u32,
+    told: &'static [u8],
+}
+
+const PLAIN: Limit = Limit {
+    before: "",
+    item: "",
+    numbered: false,
+    close: "",
+    middle: "",
+    for_each: "",
+    after: "",
+    most: 0,
+    told: b"",
+};
+
+const LIMITS: &[Limit] = &[
+    Limit {
+        item: "sort s",
+        numbered: true,
+        close: ";",
+        most: 256,
+        told: b"REFUSED too-many 2455\n",
+        ..PLAIN
+    },
+    Limit {
+        before: "sort o;",
+        item: "fun f",
+        numbered: true,
+        close: ":o;",
+        most: 1_024,
+        told: b"REFUSED too-many 11189\n",
+        ..PLAIN
+    },
+    Limit {
+        before: "sort o;fun a:o;",
+        item: "rule {} a => a;",
+        most: 1_024,
+        told: b"REFUSED too-many 15375\n",
+        ..PLAIN
+    },
+    // The last meta-variable is not counted here.
+    Limit {
+        before: "sort o;fun a:o;rule {",
+        item: "X",
+        numbered: true,
+        close: ":o,",
+        after: "Y:o} a => a;",
+        most: 31,
+        told: b"REFUSED too-many 203\n",
+        ..PLAIN
+    },
+    Limit {
+        before: "sort o;fun f:",
+        item: "o->",
+        after: "o;",
+        most: 32,
+        told: b"REFUSED too-many 109\n",
+        ..PLAIN
+    },
+    // Nor is the last type in the brackets.
+    Limit {
+        before: "sort o;fun a:o;rule {F:[",
+        item: "o,",
+        after: "o] o} a => a;",
+        most: 31,
+        told: b"REFUSED too-many 88\n",
+        ..PLAIN
+    },
+    Limit {
+        before: "sort o;fun a:o;fun f:o->o->o->o->o->o->o->o->o->o->o->o->o->o->o->o->o->o->o->o->o->o->o->o->o->o->o->o->o->o->o->o->o;rule {} f",
+        item: " a",
+        after: " => a;",
+        most: 32,
+        told: b"REFUSED too-many 193\n",
+        ..PLAIN
+    },
+    Limit {
+        before: "sort o;fun a:o;rule {} ",
+        item: "(",
+        middle: "a",
+        for_each: ")",
+        after: " => a;",
+        most: 400,
+        told: b"REFUSED too-many 423\n",
+        ..PLAIN
+    },
+    Limit {
+        before: "sort o;fun a:",
+        item: "(",
+        middle: "o",
+        for_each: ")",
+        after: ";",
+        most: 16,
+        told: b"REFUSED too-many 29\n",
+        ..PLAIN
+    },
+    Limit {
+        before: "sort o;fun a:o;fun f:o->o;rule {} a => ",
+        item: "f (",
+        middle: "a",
+        for_each: ")",
+        after: ";",
+        most: 200,
+        told: b"REFUSED too-many 39\n",
+        ..PLAIN
+    },
+    Limit {
+        before: "sort ",
+        item: "a",
+        after: ";",
+        most: 64,
+        told: b"REFUSED name-too-long 5\n",
+        ..PLAIN
+    },
+];
+
+/// The text of a limit with so many items.
+fn repeated(alloc: Global, limit: &Limit, count: u32) -> Result<String, AllocError> {
+    let mut text = String::from_str(alloc, limit.before)?;
     for number in 0..count {
-        let next = format!(in alloc; "{item}{number}{close}")?;
-        text.extend_from_slice(next.as_bytes())?;
+        text.push_str(limit.item)?;
+        if limit.numbered {
+            text.push_str(format!(in alloc; "{number}")?.as_str())?;
+        }
+        text.push_str(limit.close)?;
     }
-    text.extend_from_slice(after)?;
-    Ok(text)
-}
-
-/// A text in which an item is repeated.
-fn repeated(
-    alloc: Global,
-    before: &[u8],
-    item: &[u8],
-    count: usize,
-    after: &[u8],
-) -> Result<Vec<u8>, AllocError> {
-    let mut text = Vec::from_slice(alloc, before)?;
+    text.push_str(limit.middle)?;
     for _ in 0..count {
-        text.extend_from_slice(item)?;
+        text.push_str(limit.for_each)?;
     }
-    text.extend_from_slice(after)?;
+    text.push_str(limit.after)?;
     Ok(text)
-}
-
-/// A rule whose right side is `f` so many times around `a`.
-fn high(alloc: Global, height: usize) -> Result<Vec<u8>, AllocError> {
-    let mut text = Vec::from_slice(
-        alloc,
-        b"sort o;fun a:o;fun f:o->o;rule {} a => ".as_slice(),
-    )?;
-    for _ in 1..height {
-        text.extend_from_slice(b"f (".as_slice())?;
-    }
-    text.extend_from_slice(b"f a".as_slice())?;
-    for _ in 1..height {
-        text.push(b')')?;
-    }
-    text.push(b';')?;
-    Ok(text)
-}
-
-/// A text inside a limit, and one just past it with what is told of that.
-type Limit = (Vec<u8>, Vec<u8>, &'static [u8]);
-
-// Whether the first text is shown and the second is refused so.
-fn keeps(alloc: Global, limit: &Limit) -> Result<bool, AllocError> {
-    let given = ["show", "system"];
-    let (inside, _) = told(alloc, &given, limit.0.as_slice(), b"")?;
-    let (outside, out) = told(alloc, &given, limit.1.as_slice(), b"")?;
-    Ok(inside == Status::Answered && outside == Status::Refused && out.bytes() == limit.2)
 }
 
 #[test]
-fn keeps_the_limits_of_counts(rt: HostRuntime) -> Result<(), Fail> {
+fn keeps_the_limits_of_systems(rt: HostRuntime) -> Result<(), Fail> {
     let alloc = rt.alloc();
-    let symbol = b"sort o;fun a:o;".as_slice();
-    let braces = b"sort o;fun a:o;rule {".as_slice();
-    let brackets = b"sort o;fun a:o;rule {F:[".as_slice();
-    for limit in [
-        (
-            numbered(alloc, b"", "sort s", ";", 256, b"")?,
-            numbered(alloc, b"", "sort s", ";", 257, b"")?,
-            b"REFUSED too-many 2455\n".as_slice(),
-        ),
-        (
-            numbered(alloc, b"sort o;", "fun f", ":o;", 1_024, b"")?,
-            numbered(alloc, b"sort o;", "fun f", ":o;", 1_025, b"")?,
-            b"REFUSED too-many 11189\n".as_slice(),
-        ),
-        (
-            repeated(alloc, symbol, b"rule {} a => a;", 1_024, b"")?,
-            repeated(alloc, symbol, b"rule {} a => a;", 1_025, b"")?,
-            b"REFUSED too-many 15375\n".as_slice(),
-        ),
-        (
-            numbered(alloc, braces, "X", ":o,", 31, b"Y:o} a => a;")?,
-            numbered(alloc, braces, "X", ":o,", 32, b"Y:o} a => a;")?,
-            b"REFUSED too-many 203\n".as_slice(),
-        ),
-        (
-            repeated(alloc, b"sort o;fun f:", b"o->", 32, b"o;")?,
-            repeated(alloc, b"sort o;fun f:", b"o->", 33, b"o;")?,
-            b"REFUSED too-many 109\n".as_slice(),
-        ),
-        (
-            repeated(alloc, brackets, b"o,", 31, b"o] o} a => a;")?,
-            repeated(alloc, brackets, b"o,", 32, b"o] o} a => a;")?,
-            b"REFUSED too-many 88\n".as_slice(),
-        ),
-    ] {
-        assert!(rt; keeps(alloc, &limit)?);
+    let given = ["show", "system"];
+    for limit in LIMITS {
+        let text = repeated(alloc, limit, limit.most)?;
+        let (status, _) = told(alloc, &given, text.as_bytes(), b"")?;
+        assert_eq!(rt; status, Status::Answered);
+        let text = repeated(alloc, limit, limit.most.saturating_add(1))?;
+        let (status, out) = told(alloc, &given, text.as_bytes(), b"")?;
+        assert_eq!(rt; status, Status::Refused);
+        assert_eq!(rt; out.bytes(), limit.told);
     }
     Ok(())
 }
 
 #[test]
-fn keeps_the_limits_of_sides(rt: HostRuntime) -> Result<(), Fail> {
+fn keeps_the_size_of_sides(rt: HostRuntime) -> Result<(), Fail> {
     let alloc = rt.alloc();
-    let wide = repeated(alloc, b"sort o;fun a:o;fun f:", b"o->", 32, b"o;rule {} f")?;
-    let nest = b"sort o;fun a:o;rule {} ".as_slice();
-    let large = b"sort o;fun a:o;fun d:o->o->o;fun f:o->o;fun k:(o->o)->o;rule {} a => ".as_slice();
-    for limit in [
+    let given = ["show", "system"];
+    // Right sides of the sizes 65,536 and 65,537.
+    for (before, status, text) in [
         (
-            repeated(alloc, wide.as_slice(), b" a", 32, b" => a;")?,
-            repeated(alloc, wide.as_slice(), b" a", 33, b" => a;")?,
-            b"REFUSED too-many 193\n".as_slice(),
+            b"sort o;fun a:o;fun d:o->o->o;fun f:o->o;fun k:(o->o)->o;rule {} a => k (\\x:o.".as_slice(),
+            Status::Answered,
+            b"SYSTEM\n".as_slice(),
         ),
         (
-            repeated(alloc, repeated(alloc, nest, b"(", 400, b"a")?.as_slice(), b")", 400, b" => a;")?,
-            repeated(alloc, nest, b"(", 401, b"")?,
-            b"REFUSED too-many 423\n".as_slice(),
-        ),
-        (
-            repeated(alloc, repeated(alloc, b"sort o;fun a:", b"(", 16, b"o")?.as_slice(), b")", 16, b";")?,
-            repeated(alloc, b"sort o;fun a:", b"(", 17, b"")?,
-            b"REFUSED too-many 29\n".as_slice(),
-        ),
-        (
-            high(alloc, 200)?,
-            high(alloc, 201)?,
-            b"REFUSED too-many 39\n".as_slice(),
-        ),
-        (
-            around_large(alloc, repeated(alloc, large, b"k (\\x:o.", 1, b"")?.as_slice(), b");")?,
-            around_large(alloc, repeated(alloc, large, b"f (f ", 1, b"")?.as_slice(), b");")?,
+            b"sort o;fun a:o;fun d:o->o->o;fun f:o->o;fun k:(o->o)->o;rule {} a => f (f ".as_slice(),
+            Status::Refused,
             b"REFUSED too-many 69\n".as_slice(),
         ),
-        (
-            numbered(alloc, b"sort ", "a23456789012345678901234567890123456789012345678901234567890123", ";", 1, b"")?,
-            numbered(alloc, b"sort ", "a234567890123456789012345678901234567890123456789012345678901234", ";", 1, b"")?,
-            b"REFUSED name-too-long 5\n".as_slice(),
-        ),
-        (
-            numbered(alloc, b"sort o;fun k:(o->o)->o;rule {} k (\\$65535:o.$65535) => k (\\x:o.x);", "", "", 0, b"")?,
-            numbered(alloc, b"sort o;fun k:(o->o)->o;rule {} k (\\$65536:o.$65535) => k (\\x:o.x);", "", "", 0, b"")?,
-            b"REFUSED bad-number 36\n".as_slice(),
-        ),
     ] {
-        assert!(rt; keeps(alloc, &limit)?);
+        let system = around_large(alloc, before, b");")?;
+        let (ended, out) = told(alloc, &given, system.as_slice(), b"")?;
+        assert_eq!(rt; ended, status);
+        assert!(rt; out.bytes().starts_with(text));
     }
     Ok(())
 }
@@ -572,10 +611,31 @@ fn keeps_the_limits_of_sides(rt: HostRuntime) -> Result<(), Fail> {
 /// Texts of systems, each with one that differs from it little and is refused, and with what is told of that.
 const NEIGHBOURS: &[(&[u8], &[u8], &[u8])] = &[
     (b"sort a;", b"sort a?;", b"REFUSED bad-byte 6\n"),
-    (b"sort o;#\r\x80\n", b"sort o;#\n\x80", b"REFUSED bad-byte 9\n"),
-    (b"sort o;fun a:o;", b"sort o;fun a:o", b"REFUSED syntax 14\n"),
-    (b"sort o;fun a:o;", b"sort o;fun a:p;", b"REFUSED unknown-name 13\n"),
-    (b"sort a;fun a:a;", b"sort a;fun a:a;fun a:a;", b"REFUSED twice 19\n"),
+    (
+        b"sort o;fun k:(o->o)->o;rule {} k (\\$65535:o.$65535) => k (\\x:o.x);",
+        b"sort o;fun k:(o->o)->o;rule {} k (\\$65536:o.$65535) => k (\\x:o.x);",
+        b"REFUSED bad-number 36\n",
+    ),
+    (
+        b"sort o;#\r\x80\n",
+        b"sort o;#\n\x80",
+        b"REFUSED bad-byte 9\n",
+    ),
+    (
+        b"sort o;fun a:o;",
+        b"sort o;fun a:o",
+        b"REFUSED syntax 14\n",
+    ),
+    (
+        b"sort o;fun a:o;",
+        b"sort o;fun a:p;",
+        b"REFUSED unknown-name 13\n",
+    ),
+    (
+        b"sort a;fun a:a;",
+        b"sort a;fun a:a;fun a:a;",
+        b"REFUSED twice 19\n",
+    ),
     (
         b"sort o;fun f:o->o;rule {X:o} f X => X;",
         b"sort o;fun f:o->o;rule {X:o} f f => X;",

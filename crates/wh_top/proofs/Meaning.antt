@@ -1,6 +1,5 @@
 -- What an output that begins with NO means.
 use Rattle.std.proofs.Common.{◌≡◌, ℕ, inl, inr, List, [], ◌∷◌, ◌++◌, Option, Some, refl, sym, ap, ◌∙◌, subst, arith, append-nil}
-use Rattle.std.specs.Prelude.{codes}
 use Rattle.std.proofs.lemmas.List.{append_cancel_left}
 use Rattle.wh_system.specs.Systems.{SystemData}
 use Rattle.wh_read.specs.Reading.{Reads}

@@ -1,5 +1,5 @@
 -- What comes of the two files, for all that is told of them.
-use Rattle.std.proofs.Common.{◌≡◌, ℕ, ◌≤◌, List, length, Option, Some, Result, Ok, Err, IsErrAnd, sym, ap, subst, ◌∙◌, arith}
+use Rattle.std.proofs.Common.{◌≡◌, ℕ, ◌≤◌, List, length, Option, Result, Ok, Err, IsErrAnd, sym, subst, ◌∙◌, arith}
 use Rattle.wh_types.specs.Outcome.{MatchOr}
 use Rattle.wh_types.specs.declared.want.Or.{Or}
 use Rattle.wh_types.specs.declared.want.Or.TheVariants.{NoMemory, Because}
@@ -9,7 +9,7 @@ use Rattle.wh_system.specs.PairData.{PairData}
 use Rattle.wh_top.specs.declared.outcome.Role.TheVariants.{System, Certificate}
 use Rattle.wh_top.specs.declared.outcome.Outcome.{Outcome}
 use Rattle.wh_top.specs.declared.outcome.Outcome.TheVariants.{No, Rejected, Refused, TooManyPairs, ReadFault, TooLong, Later}
-use Rattle.wh_top.specs.Outcomes.{Shelves, Told, AreWithin, IsProblemIn, ToldSystem, Judged, Stands, certificate_limit}
+use Rattle.wh_top.specs.Outcomes.{Shelves, Told, AreWithin, IsSystemIn, IsProblemIn, HasTooManyPairs, ToldSystem, Judged, StandsBySystem, Stands, certificate_limit}
 use Rattle.wh_top.specs.Unread.{CertificateFault}
 
 -- a cause that is handed on
@@ -24,6 +24,10 @@ carry {T} {U} {E} (Err x) e P Q Q' P' is h on = subst (λ y. MatchOr {T = U} (Er
 -- the system in the file is one of which P holds, with its pairs
 pub told_with : (held : Option (List ℕ)) (d : SystemData) (ps : List PairData) (P : SystemData → List PairData → Type 0) → IsProblemIn held d ps → P d ps → ToldSystem held P
 told_with held d ps P is p bytes h = ((is.0 bytes h).0, d, ps, (is.0 bytes h).1, is.1, p)
+
+-- a system that is read and has too many pairs
+pub too_many_stand : (s : Shelves) (file : List ℕ) (d : SystemData) (o : Outcome) → IsSystemIn (s.held file) d → o ≡ TooManyPairs → HasTooManyPairs d → StandsBySystem s file o
+too_many_stand s file d o is same many = subst (λ o. StandsBySystem s file o) (sym same) (λ bytes h. ((is bytes h).0, d, (is bytes h).1, many))
 
 rose_before : (before mid after : ℕ) → before ≤ mid → Rose mid after → Rose before after
 rose_before before mid after low rose = omega (arith, low, rose)

@@ -1,5 +1,5 @@
 -- What a run answers, what it writes, and what an output that begins with NO means.
-use Rattle.std.specs.Prelude.{ℕ, ◌≡◌, ◌⊎◌, List, ◌++◌, codes, Option}
+use Rattle.std.specs.Prelude.{ℕ, ◌≡◌, ◌⊎◌, List, codes, Option}
 use Rattle.wh_io.specs.Outside.{Rose, Wrote}
 use Rattle.wh_io.specs.Writing.{WroteFront}
 use Rattle.wh_step.specs.Reduction.{Unbounded}

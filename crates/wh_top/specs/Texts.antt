@@ -5,7 +5,6 @@ use Rattle.wh_system.specs.Systems.{SystemData}
 use Rattle.wh_system.specs.PairData.{PairData}
 use Rattle.wh_print.specs.SystemText.{system_text}
 use Rattle.wh_print.specs.PairText.{pairs_text}
-use Rattle.wh_read.specs.declared.reasons.Refused as refusal
 use Rattle.wh_read.specs.declared.reasons.Reason.{Reason}
 use Rattle.wh_read.specs.declared.reasons.Reason.TheVariants.{BadByte, BadNumber, NameTooLong, Syntax as SyntaxFault, UnknownName, Twice, IllTyped, NotPattern, OpenSide, NewMeta, HeadNotFun, UnevenRules, TooMany}
 use Rattle.wh_no.specs.declared.fault.NoFault.{NoFault}

@@ -2,7 +2,7 @@
 use Rattle.wh_system.specs.Systems.{SystemData}
 use Rattle.wh_cert.specs.Written.{Cert}
 use Rattle.wh_no.specs.Faults.{IsFirstFault}
-use Rattle.wh_top.specs.declared.outcome.Rejection.TheVariants.{Syntax, Condition}
+use Rattle.wh_top.specs.declared.outcome.Rejection.TheVariants.{Condition}
 use Rattle.wh_top.specs.declared.outcome.Outcome.{Outcome}
 use Rattle.wh_top.specs.declared.outcome.Outcome.TheVariants.{No, Rejected}
 use Rattle.wh_top.specs.Outcomes.{IsValidNo}

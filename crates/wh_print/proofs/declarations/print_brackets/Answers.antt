@@ -1,4 +1,4 @@
-use Rattle.std.proofs.Common.{◌∷◌, length, map, All, subst}
+use Rattle.std.proofs.Common.{length, All, subst}
 use Rattle.std.proofs.lemmas.List.Elements.{All-head, All-tail}
 use Rattle.wh_types.specs.Ty.{SortsBelow}
 use Rattle.wh_types.specs.Erase.{ty, tys}

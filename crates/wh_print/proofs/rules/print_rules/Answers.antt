@@ -1,4 +1,4 @@
-use Rattle.std.proofs.Common.{◌+◌, drop, refl, subst}
+use Rattle.std.proofs.Common.{◌+◌, drop, subst}
 use Rattle.wh_terms.specs.Erase.{rewrite_rule, rewrite_rules}
 use Rattle.wh_text.specs.Pushes.{Pushes}
 use Rattle.wh_system.specs.SystemView.{system_data}

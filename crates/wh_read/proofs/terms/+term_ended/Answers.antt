@@ -1,4 +1,4 @@
-use Rattle.std.proofs.Common.{option_map, ap, sym, ◌∙◌, arith, [], ◌∷◌, length}
+use Rattle.std.proofs.Common.{option_map, ap, ◌∙◌, arith, [], ◌∷◌, length}
 use Rattle.std.proofs.lemmas.List.{length-append}
 use Rattle.wh_text.specs.Erase.{rtm, rtms, term_list, rty, rbinder}
 use Rattle.wh_text.specs.RawTree.{lam}

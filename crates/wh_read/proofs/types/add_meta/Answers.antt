@@ -1,5 +1,4 @@
 use Rattle.std.proofs.Common.{ap}
-use Rattle.wh_read.specs.Reader as r
 use Rattle.wh_read.proofs.HeldLaws.{metas_grow}
 use Rattle.wh_read.proofs.types.add_meta.Goals as goal
 

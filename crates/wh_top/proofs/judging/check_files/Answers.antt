@@ -1,7 +1,7 @@
-use Rattle.std.proofs.Common.{◌≡◌, ◌∙◌, sym, subst}
+use Rattle.std.proofs.Common.{◌∙◌, subst}
 use Rattle.wh_system.specs.SystemView.{system_data}
 use Rattle.wh_pairs.specs.Views.{pairs_data}
-use Rattle.wh_top.specs.Outcomes.{Shelves, Stands, Told, AreWithin, Judged, certificate_limit}
+use Rattle.wh_top.specs.Outcomes.{Shelves, Stands, Judged}
 use Rattle.wh_top.specs.Unread.{CertificateFault}
 use Rattle.wh_top.proofs.Standing.{carry, certificate_stands, judged_stands}
 use Rattle.wh_top.proofs.judging.check_files.Goals as goal
