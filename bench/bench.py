@@ -3,6 +3,8 @@
 
     bench/bench.py [--program PATH] [--only WORD]
 
+Components are counted by the program of crates/wh_bench: `rt run -- map.afs` in its folder builds it.
+
 Makes its inputs in a temporary folder, runs the program on each three times, and prints the least time and the greatest
 memory. Sizes double from line to line, so a call that is linear takes about twice the time of the line above.
 """
@@ -14,20 +16,20 @@ import time
 
 HERE = pathlib.Path(__file__).resolve().parent
 PROGRAM = HERE.parent / "crates" / "wanda" / "out" / "wanda"
+COMPONENTS = HERE.parent / "crates" / "wh_bench" / "out" / "wh_bench"
 
 
 def many_rules(symbols):
     """A system with that many symbols and rules; about 1 MiB for 1,000."""
-    lines = ["sort nat;", "fun zero : nat;", "fun s : nat -> nat;"]
-    kept = symbols - 2
+    lines = ["sort nat;", "fun zero : nat;", "fun s : nat -> nat;", "fun constructor : (nat -> nat) -> nat -> nat -> nat;"]
+    kept = symbols - 3
     for i in range(kept):
         lines.append(f"fun function_number_{i} : (nat -> nat) -> nat -> nat -> nat;")
     for i in range(kept):
         j = (i + 1) % kept
-        call = f"function_number_{j} (\\x:nat.F[x]) X Y"
-        body = call
-        for _ in range(18):
-            body = f"function_number_{j} (\\x:nat.F[s x]) (s X) ({body})"
+        body = f"function_number_{j} (\\x:nat.F[x]) X Y"
+        for _ in range(22):
+            body = f"constructor (\\x:nat.F[s x]) (s X) ({body})"
         lines.append(
             f"rule {{F:[nat] nat, X:nat, Y:nat}} function_number_{i} (\\x:nat.F[x]) (s X) Y => {body};"
         )
@@ -134,20 +136,25 @@ def main():
         cases.append(("check binder", f"{steps} steps", *binder_loop(steps)))
     for symbols in (125, 250, 500, 1000):
         cases.append(("show chain", f"{symbols} pairs", chain(symbols), None))
+    for symbols in (125, 250, 500, 1000):
+        cases.append(("components chain", f"{symbols} pairs", chain(symbols), None))
     cases.append(("show most-pairs", "4096 pairs", most_pairs(), None))
+    cases.append(("components most", "4096 pairs", most_pairs(), None))
     with tempfile.TemporaryDirectory() as name:
         folder = pathlib.Path(name)
         for what, size, system, certificate in cases:
             if given.only not in what:
                 continue
             (folder / "system").write_text(system)
-            words = ["show", str(folder / "system")]
+            program, words = given.program, ["show", str(folder / "system")]
             length = len(system)
+            if what.startswith("components"):
+                program, words = str(COMPONENTS), [str(folder / "system")]
             if certificate is not None:
                 (folder / "certificate").write_text(certificate)
                 words = ["check", str(folder / "system"), str(folder / "certificate")]
                 length = len(certificate)
-            seconds, megabytes, first = run(given.program, words, folder)
+            seconds, megabytes, first = run(program, words, folder)
             print(f"{what:16} {size:>14} {length:>9} bytes {seconds:8.3f} s {megabytes:7.1f} MB  {first}")
 
 

@@ -50,8 +50,9 @@ fn blocks_of(alloc: Global, items: &[&[u32]]) -> Result<Blocks, AllocError> {
 fn all_of(alloc: Global, list: &PairList) -> Result<PairSet, AllocError>
     ensures { IfOk result (λ set. All (λ n. n < length list.now) set) }
 {
+    let count = u32::try_from(list.as_slice().len()).or(Err(AllocError))?;
     let mut set = PairSet::new(alloc)?;
-    for number in 0..list.as_slice().len() as u32 {
+    for number in 0..count {
         set.push(number)?;
     }
     Ok(set)
@@ -62,7 +63,7 @@ fn finds_ranks(rt: HostRuntime) -> Result<(), Fail> {
     let alloc = rt.alloc();
     let system = system_of(alloc, FUNCTION_LIST)?;
     match find_ranks(alloc, &system) {
-        Ok(ranks) => assert!(rt; ranks.of(0) < ranks.of(1)),
+        Ok(ranks) => assert!(rt; ranks.count() == 2 && ranks.of(0) < ranks.of(1)),
         Err(_) => panic!(rt; "no ranks"),
     }
     for (text, cycle) in [(ORDINALS, 1), (UNTYPED, 0)] {
@@ -137,14 +138,14 @@ fn a_beta_redex_may_become_a_call(rt: HostRuntime) -> Result<(), Fail> {
     Ok(())
 }
 
+/// Systems with the components of all their pairs.
+const COMPONENTS: &[(&[u8], &[&[u32]])] = &[(EVEN_ODD, &[&[0, 1]]), (IDENTITY, &[&[0], &[1]])];
+
 #[test]
 fn finds_components(rt: HostRuntime) -> Result<(), Fail> {
     let alloc = rt.alloc();
-    for (text, classes) in [
-        (EVEN_ODD, [[0, 1].as_slice()].as_slice()),
-        (IDENTITY, [[0].as_slice(), [1].as_slice()].as_slice()),
-    ] {
-        let (system, list) = problem_of(alloc, text)?;
+    for (text, classes) in COMPONENTS {
+        let (system, list) = problem_of(alloc, *text)?;
         let set = all_of(alloc, &list)?;
         let found = components(alloc, &system, &list, &set)?;
         assert_eq!(rt; found.as_slice().len(), classes.len());
@@ -159,48 +160,37 @@ fn finds_components(rt: HostRuntime) -> Result<(), Fail> {
 const APART: &[u8] =
     b"sort o;fun s:o->o;fun e:o->o;fun d:o->o;fun h:o->o;rule {X:o} e (s X) => d X;rule {X:o} d (s X) => e X;rule {X:o} h (s X) => h X;";
 
+/// Systems with blocks of all their pairs, and what is wrong with these, if something is.
+const BLOCKS: &[(&[u8], &[&[u32]], Option<BlockFault>)] = &[
+    (
+        EVEN_ODD,
+        &[&[0], &[1]],
+        Some(BlockFault::BackEdge { a: 1, b: 0 }),
+    ),
+    (
+        EVEN_ODD,
+        &[&[0, 1], &[1]],
+        Some(BlockFault::NotPartition { pair: 1 }),
+    ),
+    (
+        APART,
+        &[&[0], &[2], &[1]],
+        Some(BlockFault::BackEdge { a: 1, b: 0 }),
+    ),
+    (APART, &[&[2], &[1, 0]], None),
+    (IDENTITY, &[&[0], &[1]], None),
+    (IDENTITY, &[&[0, 1]], Some(BlockFault::FewBlocks)),
+];
+
 #[test]
 fn checks_blocks(rt: HostRuntime) -> Result<(), Fail> {
     let alloc = rt.alloc();
-    for (text, blocks, answer) in [
-        (
-            EVEN_ODD,
-            [[0].as_slice(), [1].as_slice()].as_slice(),
-            Err(BlockFault::BackEdge { a: 1, b: 0 }),
-        ),
-        (
-            EVEN_ODD,
-            [[0, 1].as_slice(), [1].as_slice()].as_slice(),
-            Err(BlockFault::NotPartition { pair: 1 }),
-        ),
-        (
-            APART,
-            [[0].as_slice(), [2].as_slice(), [1].as_slice()].as_slice(),
-            Err(BlockFault::BackEdge { a: 1, b: 0 }),
-        ),
-        (
-            APART,
-            [[2].as_slice(), [1, 0].as_slice()].as_slice(),
-            Ok(()),
-        ),
-        (
-            IDENTITY,
-            [[0].as_slice(), [1].as_slice()].as_slice(),
-            Ok(()),
-        ),
-        (
-            IDENTITY,
-            [[0, 1].as_slice()].as_slice(),
-            Err(BlockFault::FewBlocks),
-        ),
-    ] {
-        let (system, list) = problem_of(alloc, text)?;
+    for (text, blocks, fault) in BLOCKS {
+        let (system, list) = problem_of(alloc, *text)?;
         let set = all_of(alloc, &list)?;
-        let given = blocks_of(alloc, blocks)?;
-        assert_eq!(rt;
-            check_blocks(&system, &list, &set, given.as_slice()),
-            answer
-        );
+        let given = blocks_of(alloc, *blocks)?;
+        let answer = check_blocks(&system, &list, &set, given.as_slice());
+        assert_eq!(rt; answer.err(), *fault);
     }
     Ok(())
 }
