@@ -1,5 +1,5 @@
-//! The canonical text of a system reads back as that system. The laws are contracts of functions that do nothing: no
-//! program calls them.
+//! The canonical text of a system reads back as that system. The laws are contracts of functions that do nothing; where a
+//! system is shown, the program cites the second one.
 #![tactic(auto)]
 
 mod laws;
