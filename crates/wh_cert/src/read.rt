@@ -4,16 +4,14 @@ ghost use Rattle.std.specs.Prelude.{◌≡◌, ◌<◌, ◌^◌, IfOk, MatchOpti
 ghost use Rattle.wh_types.specs.Outcome.{IfBecause};
 ghost use Rattle.wh_cert.specs.Written.{Cert};
 ghost use Rattle.wh_cert.specs.CertText.{CertText, FaultAt};
-ghost use Rattle.wh_text.specs.Erase.{rtm};
-ghost use Rattle.wh_cert.specs.Said.{said_put, said};
-ghost use Rattle.wh_cert.specs.LineMachine.{head_item, step_item, at_item, put_item, finished, placed, gather, stands, take_byte, start};
+ghost use Rattle.wh_cert.specs.Said.{said};
+ghost use Rattle.wh_cert.specs.LineMachine.{finished, placed, gather, stands, take_byte, start};
 ghost use Rattle.wh_cert.specs.LineViews.{line_place, item_of};
 ghost use Rattle.wh_cert.specs.ReadViews.{past_of, standing, standing_after};
 
-use crate::certificate::{CertSyntax, Certificate, NoCertificate, Put, Puts, Steps};
+use crate::certificate::{CertSyntax, Certificate, NoCertificate, Puts, Steps};
 use crate::line_reader::{Behind, Item, LinePlace, LineStep, line_step};
 use std::alloc::{AllocError, Global};
-use wh_terms::{Path, Step};
 use wh_text::RawTerm;
 use wh_types::Or;
 
@@ -37,67 +35,39 @@ pub struct Standing {
     pub place: LinePlace,
 }
 
-/// The items with one more; an item that does not fit is passed over.
+/// The items with one more.
 fn gather(alloc: Global, past: Past, item: Item) -> Result<Past, AllocError>
     ensures { IfOk result (λ all. past_of all ≡ gather (past_of past) (item_of item)) }
 {
     match item {
-        Item::Term(term) => with_term(alloc, past, term),
-        Item::Step(step) => with_step(past, step),
-        Item::At(at) => with_place(alloc, past, at),
-        Item::Put(put) => with_put(past, put),
+        Item::Term(term) => match past {
+            Past::Nothing => Ok(Past::Begun(term, Steps::new(alloc)?)),
+            other => Ok(other),
+        },
+        Item::Step(step) => match past {
+            Past::Begun(term, mut steps) => {
+                steps.push(step)?;
+                Ok(Past::Begun(term, steps))
+            }
+            other => Ok(other),
+        },
+        Item::At(at) => match past {
+            Past::Begun(term, steps) => Ok(Past::Placed(NoCertificate {
+                term,
+                steps,
+                at,
+                puts: Puts::new(alloc)?,
+            })),
+            other => Ok(other),
+        },
+        Item::Put(put) => match past {
+            Past::Placed(mut certificate) => {
+                certificate.puts.push(put)?;
+                Ok(Past::Placed(certificate))
+            }
+            other => Ok(other),
+        },
         Item::End => Ok(past),
-    }
-}
-
-/// The first item.
-fn with_term(alloc: Global, past: Past, term: RawTerm) -> Result<Past, AllocError>
-    ensures { IfOk result (λ all. past_of all ≡ gather (past_of past) (head_item (rtm term))) }
-{
-    match past {
-        Past::Nothing => Ok(Past::Begun(term, Steps::new(alloc)?)),
-        other => Ok(other),
-    }
-}
-
-/// One more step.
-fn with_step(past: Past, step: Step) -> Result<Past, AllocError>
-    ensures { IfOk result (λ all. past_of all ≡ gather (past_of past) (step_item step)) }
-{
-    match past {
-        Past::Begun(term, mut steps) => {
-            steps.push(step)?;
-            Ok(Past::Begun(term, steps))
-        }
-        other => Ok(other),
-    }
-}
-
-/// The place behind the steps.
-fn with_place(alloc: Global, past: Past, at: Path) -> Result<Past, AllocError>
-    ensures { IfOk result (λ all. past_of all ≡ gather (past_of past) (at_item at)) }
-{
-    match past {
-        Past::Begun(term, steps) => Ok(Past::Placed(NoCertificate {
-            term,
-            steps,
-            at,
-            puts: Puts::new(alloc)?,
-        })),
-        other => Ok(other),
-    }
-}
-
-/// One more term that is put for a variable.
-fn with_put(past: Past, put: Put) -> Result<Past, AllocError>
-    ensures { IfOk result (λ all. past_of all ≡ gather (past_of past) (put_item (said_put put))) }
-{
-    match past {
-        Past::Placed(mut certificate) => {
-            certificate.puts.push(put)?;
-            Ok(Past::Placed(certificate))
-        }
-        other => Ok(other),
     }
 }
 
