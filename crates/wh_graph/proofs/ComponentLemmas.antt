@@ -9,8 +9,8 @@ use Rattle.wh_graph.specs.Components.{Reaches, here, step, IsIn, AreComponents}
 use Rattle.wh_graph.specs.Tables.{Edge, IsTable}
 use Rattle.wh_graph.specs.Walks.{Path, stay, go}
 use Rattle.wh_graph.specs.Classes.{HasClass, AreGiven, AreClasses, IsClass, AreGathered}
-use Rattle.wh_graph.proofs.ListLemmas.{some_one, contains_at, place_of, same_or_below}
-use Rattle.wh_graph.proofs.OrderLemmas.{increasing_at, one_place}
+use Rattle.wh_system.proofs.ByPlace.{some_one, contains_at, place_of, same_or_below}
+use Rattle.wh_system.proofs.Increasing.{increasing_at, one_place}
 use Rattle.wh_graph.proofs.PushLemmas.{push_cases}
 use Rattle.wh_graph.proofs.ClassLemmas.{edge_target}
 

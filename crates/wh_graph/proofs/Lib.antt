@@ -1,8 +1,5 @@
-pub mod NeedLemmas
 pub mod RootLemmas
 pub mod ClashLemmas
-pub mod ListLemmas
-pub mod OrderLemmas
 pub mod LeastLemmas
 pub mod TimesLemmas
 pub mod EdgeLemmas

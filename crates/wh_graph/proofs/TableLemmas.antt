@@ -3,7 +3,7 @@ use Rattle.std.proofs.Common.{◌≡◌, ◌↔◌, IsTrue, ℕ, ◌+◌, ◌<�
 use Rattle.std.proofs.lemmas.List.{length-append}
 use Rattle.std.proofs.lemmas.Option.{slice_get_within, slice_get-get_or}
 use Rattle.wh_graph.specs.Tables.{IsRow, IsTable}
-use Rattle.wh_graph.proofs.ListLemmas.{some_one, same_or_below}
+use Rattle.wh_system.proofs.ByPlace.{some_one, same_or_below}
 use Rattle.wh_graph.proofs.PushLemmas.{push_old, push_new, push_cases}
 
 pub row_none : (Q : ℕ → Type 0) (set : List ℕ) → IsRow Q set 0 []

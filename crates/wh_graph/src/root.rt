@@ -41,18 +41,6 @@ fn has_fewer(term: &Term, need: u32) -> bool
     }
 }
 
-// How many arguments the rules of the symbol need; a number that is no symbol's has no rules either.
-fn need(system: &System, symbol: u32) -> Option<u32>
-    ensures { result ≡ need_of (system_data system.now).rules symbol }
-{
-    system.is_well_made();
-    if (symbol as usize) < system.signature().funs.as_slice().len() {
-        system.need(symbol)
-    } else {
-        None
-    }
-}
-
 /// Whether the term is an abstraction without arguments, or a spine headed by a bound variable, by a symbol without rules
 /// or by a symbol with fewer arguments than its rules need. A beta redex is none of these.
 pub fn is_rigid(system: &System, term: &Term) -> bool
@@ -63,7 +51,7 @@ pub fn is_rigid(system: &System, term: &Term) -> bool
     }
     match head(term) {
         Term::Bound(_) => true,
-        Term::Fun(symbol) => match need(system, *symbol) {
+        Term::Fun(symbol) => match system.need(*symbol) {
             Some(need) => has_fewer(term, need),
             None => true,
         },

@@ -6,8 +6,8 @@ use Rattle.wh_system.specs.PairData.{IsIncreasing}
 use Rattle.wh_subterm.specs.declared.projection.Choice as code
 use Rattle.wh_subterm.specs.Projections.{Chosen}
 use Rattle.wh_subterm.specs.SubtermRows.{chosen, chosen_symbols}
-use Rattle.wh_subterm.proofs.ListLemmas.{some_one, contains_at, place_of, map_at, remap}
-use Rattle.wh_subterm.proofs.OrderLemmas.{one_place}
+use Rattle.wh_system.proofs.ByPlace.{some_one, contains_at, place_of, map_at, remap}
+use Rattle.wh_system.proofs.Increasing.{one_place}
 
 -- the choice and the symbol at a place, as a loop reads them
 

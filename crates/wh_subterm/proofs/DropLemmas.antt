@@ -2,7 +2,7 @@
 use Rattle.std.proofs.Common.{◌≡◌, ℕ, zero, suc, ◌⊎◌, inl, inr, List, [], ◌∷◌, Some, slice_get, Contains, ap, arith}
 use Rattle.std.proofs.lemmas.Bool.{cases_eq}
 use Rattle.wh_subterm.specs.SubtermRows.{StandsTwice, HasStray}
-use Rattle.wh_subterm.proofs.ListLemmas.{contains_at, place_of}
+use Rattle.wh_system.proofs.ByPlace.{contains_at, place_of}
 
 later : (m n : ℕ) (ns : List ℕ) → Contains ns n → Contains (m ∷ ns) n
 later m n ns found = let at = place_of ns n found in contains_at (m ∷ ns) (suc at.0) n at.1

@@ -1,6 +1,3 @@
-pub mod NeedLemmas
-pub mod ListLemmas
-pub mod OrderLemmas
 pub mod PartLemmas
 pub mod SeenLemmas
 pub mod ChoiceLemmas

@@ -6,7 +6,7 @@ use Rattle.wh_system.specs.PairData.{PairData, IsIncreasing}
 use Rattle.wh_subterm.specs.Parts.{Part}
 use Rattle.wh_subterm.specs.Projections.{Chosen, IsProjected, Equal, Below, Decreasing}
 use Rattle.wh_subterm.specs.SubtermRows.{chosen_symbols, IsNotDecreasing}
-use Rattle.wh_subterm.proofs.ListLemmas.{some_one}
+use Rattle.wh_system.proofs.ByPlace.{some_one}
 use Rattle.wh_subterm.proofs.ChoiceLemmas.{one_choice, symbol_chosen}
 
 pub project_unchosen : (args : List Chosen) (f : ℕ) (ts : List Tm) (t : Tm) → (Contains (chosen_symbols args) f → ⊥) → IsProjected args f ts t → ⊥

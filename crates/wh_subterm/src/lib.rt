@@ -5,7 +5,6 @@ mod check;
 mod decrease;
 mod dropped;
 mod marked;
-mod needs;
 mod parts;
 mod projection;
 

@@ -7,7 +7,6 @@ ghost use Rattle.wh_subterm.specs.Marked.{HeadsASide, IsMarked};
 ghost use Rattle.wh_subterm.specs.Projections.{Chosen};
 ghost use Rattle.wh_subterm.specs.SubtermRows.{AreForMarked, HasNone, IsFirstOf, IsPlace, NoneIs, chosen, chosen_symbols};
 
-use crate::needs::need;
 use crate::projection::Choice;
 use wh_system::{Pair, System};
 
@@ -112,7 +111,7 @@ pub fn first_without_argument(system: &System, args: &[Choice]) -> Option<u32>
 fn needs_none(system: &System, choice: &Choice) -> bool
     ensures { IsTrue result ↔ HasNone (system_data system.now).rules (chosen choice.now) }
 {
-    match need(system, choice.symbol) {
+    match system.need(choice.symbol) {
         Some(need) => need == 0,
         None => false,
     }
@@ -134,7 +133,7 @@ pub fn first_out_of_place(system: &System, args: &[Choice]) -> Option<u32>
 fn is_place(system: &System, choice: &Choice) -> bool
     ensures { IsTrue result ↔ IsPlace (system_data system.now).rules (chosen choice.now) }
 {
-    match need(system, choice.symbol) {
+    match system.need(choice.symbol) {
         Some(need) => 0 < choice.argument && choice.argument <= need,
         None => false,
     }

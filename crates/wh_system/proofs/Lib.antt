@@ -10,12 +10,15 @@ pub mod RuleMade
 pub mod WidthMade
 pub mod SystemMade
 pub mod NeedLemmas
+pub mod NoNeed
 pub mod PassOrder
 pub mod ScopeLemmas
 pub mod RuleSteps
 pub mod PartsAlong
 pub mod SaidLemmas
 pub mod PairLemmas
+pub mod ByPlace
+pub mod Increasing
 pub mod TypedDecided
 pub mod MadeDecided
 pub mod TypedPassed

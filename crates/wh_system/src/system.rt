@@ -110,12 +110,17 @@ impl System {
         &self.meta_names[rule as usize][k as usize]
     }
 
-    /// How many arguments the left sides of the rules of that symbol have; `None` exactly where it has no rules.
+    /// How many arguments the left sides of the rules of that symbol have; `None` exactly where it has no rules. A number
+    /// that is no symbol's has none either.
     pub fn need(&self, k: u32) -> Option<u32>
-        requires { k < length (system_data self.now).fun_names }
         ensures { result ≡ need_of (system_data self.now).rules k }
     {
-        self.needs[k as usize]
+        self.is_well_made();
+        if (k as usize) < self.needs.len() {
+            self.needs[k as usize]
+        } else {
+            None
+        }
     }
 
     /// The names of the sorts, by number.

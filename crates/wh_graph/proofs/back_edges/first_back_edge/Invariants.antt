@@ -3,7 +3,7 @@ use Rattle.wh_system.specs.PairData.{pair_data}
 use Rattle.wh_system.specs.SystemView.{system_data}
 use Rattle.wh_graph.specs.Blocks.{IsBackEdge}
 use Rattle.wh_graph.specs.May.{Follows}
-use Rattle.wh_graph.proofs.ListLemmas.{Before}
+use Rattle.wh_system.proofs.ByPlace.{Before}
 use Rattle.wh_graph.proofs.back_edges.first_back_edge.Given as goal
 
 abbrev pub invariant-loop-number : goal.invariant-loop-number

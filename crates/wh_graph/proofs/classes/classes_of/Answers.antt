@@ -2,7 +2,7 @@ use Rattle.std.proofs.Common.{◌≡◌, ◌+◌, ◌<◌, ◌≤◌, ℕ, Optio
 use Rattle.std.proofs.lemmas.Bool.{cases_eq}
 use Rattle.std.proofs.lemmas.List.{length-append}
 use Rattle.wh_graph.specs.Classes.{HasClass, AreGiven, Grown}
-use Rattle.wh_graph.proofs.ListLemmas.{some_one, contains_at, place_of}
+use Rattle.wh_system.proofs.ByPlace.{some_one, contains_at, place_of}
 use Rattle.wh_graph.proofs.PushLemmas.{push_old, push_new, lent_whole}
 use Rattle.wh_graph.proofs.ClassLemmas.{given_next, class_at, none_at}
 use Rattle.wh_graph.proofs.classes.classes_of.Goals as goal

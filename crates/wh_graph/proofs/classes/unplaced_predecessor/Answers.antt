@@ -1,7 +1,7 @@
 use Rattle.std.proofs.Common.{◌≡◌, ℕ, Some, slice_get, inl, inr, sym, subst, arith}
 use Rattle.std.proofs.lemmas.Option.{slice_get_within}
 use Rattle.wh_graph.specs.Tables.{Edge}
-use Rattle.wh_graph.proofs.ListLemmas.{same_or_below}
+use Rattle.wh_system.proofs.ByPlace.{same_or_below}
 use Rattle.wh_graph.proofs.ClassLemmas.{read_class}
 use Rattle.wh_graph.proofs.classes.unplaced_predecessor.Goals as goal
 use Rattle.wh_graph.proofs.classes.unplaced_predecessor.Goals.{else-is_none-via-then-is_none+else-has_edge, else-is_none-via-else-is_none}

@@ -1,6 +1,6 @@
 use Rattle.std.proofs.Common.{◌+◌, ℕ, List, get_or, sym, subst, ◌∙◌, arith}
 use Rattle.wh_graph.specs.Classes.{IsClass}
-use Rattle.wh_graph.proofs.ListLemmas.{number_at}
+use Rattle.wh_system.proofs.ByPlace.{number_at}
 use Rattle.wh_graph.proofs.ComponentLemmas.{class_more, class_skip}
 use Rattle.wh_graph.proofs.ClassLemmas.{class_equal, class_unequal}
 use Rattle.wh_graph.proofs.component.members.Goals as goal

@@ -1,7 +1,7 @@
 use Rattle.std.proofs.Common.{◌+◌, ℕ, get_or, sym, subst, ◌∙◌, arith}
 use Rattle.wh_graph.specs.Times.{TimesIn}
 use Rattle.wh_graph.specs.declared.places.Times.{Times}
-use Rattle.wh_graph.proofs.ListLemmas.{number_at}
+use Rattle.wh_system.proofs.ByPlace.{number_at}
 use Rattle.wh_graph.proofs.TimesLemmas.{times_skip, times_more}
 use Rattle.wh_graph.proofs.places.times_in.Goals as goal
 use Rattle.wh_graph.proofs.places.times_in.Goals.{then-item-number, else-item-number}

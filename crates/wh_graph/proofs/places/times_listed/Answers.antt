@@ -1,7 +1,7 @@
 use Rattle.std.proofs.Common.{◌+◌, ℕ, List, length, sym, subst, arith}
 use Rattle.wh_graph.specs.Times.{TimesIn, TimesListed}
 use Rattle.wh_graph.specs.declared.places.Times.{Times}
-use Rattle.wh_graph.proofs.ListLemmas.{read}
+use Rattle.wh_system.proofs.ByPlace.{read}
 use Rattle.wh_graph.proofs.TimesLemmas.{listed_more}
 use Rattle.wh_graph.proofs.places.times_listed.Goals as goal
 

@@ -2,7 +2,7 @@ use Rattle.std.proofs.Common.{◌+◌, ℕ, Bool, List, map, get_or, sym, subst,
 use Rattle.wh_system.specs.PairData.{pair_data}
 use Rattle.wh_system.specs.SystemView.{system_data}
 use Rattle.wh_graph.specs.May.{Follows}
-use Rattle.wh_graph.proofs.ListLemmas.{number_at}
+use Rattle.wh_system.proofs.ByPlace.{number_at}
 use Rattle.wh_graph.proofs.TableLemmas.{AreRows, rows_more, table_whole}
 use Rattle.wh_graph.proofs.table.table_of.Goals as goal
 

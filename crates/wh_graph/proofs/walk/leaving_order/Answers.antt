@@ -1,6 +1,6 @@
 use Rattle.std.proofs.Common.{◌-◌, Some, slice_get, inl, inr, ap, ◌∙◌, arith}
 use Rattle.std.proofs.lemmas.Bool.{cases_eq}
-use Rattle.wh_graph.proofs.ListLemmas.{read}
+use Rattle.wh_system.proofs.ByPlace.{read}
 use Rattle.wh_graph.proofs.WalkLemmas.{walked_all}
 use Rattle.wh_graph.proofs.walk.leaving_order.Goals as goal
 

@@ -1,8 +1,8 @@
 use Rattle.std.proofs.Common.{map, get_or}
 use Rattle.wh_system.specs.PairData.{pair_data}
 use Rattle.wh_subterm.specs.SubtermRows.{IsNotDecreasing, chosen}
-use Rattle.wh_subterm.proofs.ListLemmas.{read_map, number_at, contains_number, place_of, before_more, before_all}
-use Rattle.wh_subterm.proofs.OrderLemmas.{smaller_earlier}
+use Rattle.wh_system.proofs.ByPlace.{read_map, number_at, contains_number, place_of, before_more, before_all}
+use Rattle.wh_system.proofs.Increasing.{smaller_earlier}
 use Rattle.wh_subterm.proofs.ProjectionLemmas.{decreasing_right, decreasing_wrong}
 use Rattle.wh_subterm.proofs.decrease.first_not_decreasing.Goals as goal
 
