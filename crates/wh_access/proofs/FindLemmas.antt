@@ -85,7 +85,7 @@ spine_type f (typed_app {a = a} {b = c} {t = t} p q) symbol =
     shifted n i = omega arith
 
 -- the place after a typed spine
-place_type : {S : Symbols} {M : List Declared} {Γ : List Ty} {t : Tm} {a c : Ty} (f : ℕ) → Typed S M Γ t (a ⇒ c) → symbol_of (head t) ≡ Some f → HasType S (record { symbol = f; index = argument_count t })
+pub place_type : {S : Symbols} {M : List Declared} {Γ : List Ty} {t : Tm} {a c : Ty} (f : ℕ) → Typed S M Γ t (a ⇒ c) → symbol_of (head t) ≡ Some f → HasType S (record { symbol = f; index = argument_count t })
 place_type {t = t} {a = a} f p symbol =
     let found = spine_type f p symbol in
     (a, found.0, found.1, ap (slice_get (arguments found.0)) (sym (add-zero (argument_count t))) ∙ found.2 0)

@@ -50,7 +50,7 @@ typed-known k h (typed_app p q) = (typed-known k h p).1
 abbrev pub PutsComputable : Symbols → (ℕ → ℕ) → (Tm → Tm → Type 0) → List Ty → (ℕ → Tm) → Type 0
 PutsComputable S rank R Γ σ = (i : ℕ) (a : Ty) → slice_get Γ i ≡ Some a → Computable S rank R a (σ i)
 
-puts_more : (S : Symbols) (rank : ℕ → ℕ) (R : Tm → Tm → Type 0) (Γ : List Ty) (a : Ty) (u : Tm) (σ : ℕ → Tm) → Computable S rank R a u → PutsComputable S rank R Γ σ → PutsComputable S rank R (a ∷ Γ) (cons u σ)
+pub puts_more : (S : Symbols) (rank : ℕ → ℕ) (R : Tm → Tm → Type 0) (Γ : List Ty) (a : Ty) (u : Tm) (σ : ℕ → Tm) → Computable S rank R a u → PutsComputable S rank R Γ σ → PutsComputable S rank R (a ∷ Γ) (cons u σ)
 unfolding cons
 puts_more S rank R Γ a u σ c h zero b e = subst (λ b. Computable S rank R b u) (some_one e) c
 puts_more S rank R Γ a u σ c h (suc i) b e = h i b e

@@ -89,7 +89,7 @@ abbrev pub HasNoRoot : (Tm → Tm → Type 0) → ℕ → Type 0
 HasNoRoot R f = (t u : Tm) → R t u → head t ≡ fun f → ⊥
 
 -- The symbol with all its arguments: by induction on these, one of which steps at a time.
-still_at_sort : {S : Symbols} {R : Tm → Tm → Type 0} → IsRoot S R → (rank : ℕ → ℕ) (f s : ℕ) (b : Ty) → slice_get S.funs f ≡ Some b → HasNoRoot R f → (ts : List Tm) → Typed S [] [] (spine (fun f) ts) (sort s)
+pub still_at_sort : {S : Symbols} {R : Tm → Tm → Type 0} → IsRoot S R → (rank : ℕ → ℕ) (f s : ℕ) (b : Ty) → slice_get S.funs f ≡ Some b → HasNoRoot R f → (ts : List Tm) → Typed S [] [] (spine (fun f) ts) (sort s)
     → ComputableList S rank (StepOver R) (arguments b) ts → Ends (StepsIn (StepOver R)) ts → Computable S rank (StepOver R) (sort s) (spine (fun f) ts)
 still_at_sort {S = S} {R = R} root rank f s b e none ts p h (ends k) =
     sort_computable S rank (StepOver R) s (spine (fun f) ts) p (λ v r. reduct v r (λ us m q. still_at_sort root rank f s b e none us q (list_step root rank (arguments b) h m) (k us m)) (symbol_step f ts r)) argument

@@ -148,7 +148,7 @@ decided-sides a b =
     two {P = SameHead a b} {Q = (a.right ≡ b.right) × SameTypes a b} (λ p q. record { rule = p.0; symbol = p.1; arguments = q.0; types = q.1 }) (λ e. (e.rule, e.symbol)) (λ e. (e.arguments, e.types))
     (decided-head a b) (decided-right a b)
 
-decided-subsumed : (a b : PairData) → Decided (IsSubsumed a b)
+pub decided-subsumed : (a b : PairData) → Decided (IsSubsumed a b)
 decided-subsumed a b = two (λ s c. record { sides = s; conditions = c }) (λ s. s.sides) (λ s. s.conditions) (decided-sides a b) (decided-among b.conditions a.conditions)
 
 -- a later candidate with a proper part of the conditions

@@ -16,14 +16,14 @@ pub length-scope : (bs : List (Bor SimpleType)) → length (scope bs) ≡ length
 length-scope bs = length-reverse _ ∙ length-map bs (λ kind. ty kind.now)
 
 -- beyond the binders the others come nearer
-freed-far : (x : ℕ) (Γ : List Ty) (i j : ℕ) → i ≡ j + length Γ → freed x Γ i ≡ bound j
+pub freed-far : (x : ℕ) (Γ : List Ty) (i j : ℕ) → i ≡ j + length Γ → freed x Γ i ≡ bound j
 unfolding freed cons
 freed-far x [] i j is = ap bound (omega arith)
 freed-far x (a ∷ Γ) zero j is = absurd (omega arith)
 freed-far x (a ∷ Γ) (suc i) j is = freed-far x Γ i j (omega arith)
 
 -- the variable of the i-th binder from the inside, which is the j-th from the outside
-freed-near : (x : ℕ) (Γ : List Ty) (i j : ℕ) → i + j + 1 ≡ length Γ → freed x Γ i ≡ meta (x + j) none
+pub freed-near : (x : ℕ) (Γ : List Ty) (i j : ℕ) → i + j + 1 ≡ length Γ → freed x Γ i ≡ meta (x + j) none
 unfolding freed cons
 freed-near x [] i j sum = absurd (omega arith)
 freed-near x (a ∷ Γ) zero j sum = ap (λ n. meta (x + n) none) (omega arith)

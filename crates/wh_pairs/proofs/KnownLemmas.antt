@@ -39,7 +39,7 @@ mutual
   all_typed_symbols S M Γ ts bs (typed_more {t = t} {ts = us} {a = a} {bs = cs} p ps) = (typed_symbols S M Γ t a p, all_typed_symbols S M Γ us cs ps)
 
 -- a spine has no more arguments than its head's type
-spine-arguments : (S : Symbols) (M : List Declared) (Γ : List Ty) (t : Tm) (c : Ty) → Typed S M Γ t c
+pub spine-arguments : (S : Symbols) (M : List Declared) (Γ : List Ty) (t : Tm) (c : Ty) → Typed S M Γ t c
     → (a : Ty) × Typed S M Γ (head t) a × (argument_count t + length (arguments c) ≤ length (arguments a))
 spine-arguments S M Γ t c (typed_bound {i = i} e) = (c, typed_bound e, omega arith)
 spine-arguments S M Γ t c (typed_free b) = (c, typed_free b, omega arith)
@@ -60,7 +60,7 @@ is-symbol f (lam a t) e = absurd (cc)
 is-symbol f (app t u) e = absurd (cc)
 
 -- what a symbol needs is the number of arguments of one of its rules
-needed : (rules : List RewriteRule) (f e : ℕ) → need_of rules f ≡ Some e → (r : RewriteRule) × Contains rules r × (head r.left ≡ fun f) × (argument_count r.left ≡ e)
+pub needed : (rules : List RewriteRule) (f e : ℕ) → need_of rules f ≡ Some e → (r : RewriteRule) × Contains rules r × (head r.left ≡ fun f) × (argument_count r.left ≡ e)
 needed [] f e is = absurd (cc)
 needed (r ∷ rules) f e is = go (is_symbol f (head r.left)) refl is (λ h. needed rules f e h)
   where

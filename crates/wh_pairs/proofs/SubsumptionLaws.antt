@@ -133,7 +133,7 @@ left_kept before after pairs thin c (one_kept {after = rest} {pairs = ps} {c = p
     one_kept (kept-beside before rest p c n apart) (left_kept (p ∷ before) rest ps qs c l t (λ s among. none s (before-among before rest p s among)))
 
 -- the pairs are among the candidates
-left-member : (before after pairs : List PairData) (p : PairData) → AreLeft before after pairs → Contains pairs p → Contains after p
+pub left-member : (before after pairs : List PairData) (p : PairData) → AreLeft before after pairs → Contains pairs p → Contains after p
 left-member before after pairs p none_left at = absurd (none_there p at)
 left-member before after pairs p (one_dropped {after = rest} {c = q} d l) at = behind rest q p (left-member (q ∷ before) rest pairs p l at)
 left-member before after pairs p (one_kept {after = rest} {pairs = ps} {c = q} n l) at = go (λ h. left-member (q ∷ before) rest ps p l h) (head_or_behind ps q p at)
