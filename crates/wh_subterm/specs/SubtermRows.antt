@@ -1,5 +1,5 @@
 -- What can be wrong with the projection and the drop list of a proof node, and what comes first.
-use Rattle.std.specs.Prelude.{ℕ, ◌<◌, ◌≤◌, ◌≡◌, ◌⊎◌, List, [], Some, map, All, Contains, slice_get}
+use Rattle.std.specs.Prelude.{ℕ, ◌<◌, ◌≤◌, ◌≡◌, ◌≢◌, ◌⊎◌, List, [], Some, map, All, Contains, slice_get}
 use Rattle.wh_terms.specs.Rules.{RewriteRule}
 use Rattle.wh_system.specs.Needs.{need_of}
 use Rattle.wh_system.specs.PairData.{PairData}
@@ -56,13 +56,19 @@ IsFirstOf P args f =
     (i : ℕ) × (c : Chosen) × (slice_get args i ≡ Some c) × (c.symbol ≡ f) × P c
     × ((j : ℕ) (d : Chosen) → j < i → slice_get args j ≡ Some d → P d → ⊥)
 
--- nothing is wrong (ours)
+-- the choices make each pair of the set equal or below, and each dropped one below (Kop 2012, the subterm criterion; the
+-- form is ours)
 pub record IsProjection (rules : List RewriteRule) (pairs : List PairData) (set : List ℕ) (args : List Chosen) (drop : List ℕ) : Type 0 where
   pub marked : AreForMarked pairs set args
-  pub projected : NoneIs (HasNone rules) args
   pub places : All (IsPlace rules) args
-  pub dropped : IsBadDrop set drop → ⊥
-  pub decreasing : (n : ℕ) → Contains set n → IsNotDecreasing pairs args drop n → ⊥
+  -- some pair is dropped
+  pub some_dropped : drop ≢ []
+  -- none is dropped twice
+  pub once : (i j n : ℕ) → slice_get drop i ≡ Some n → slice_get drop j ≡ Some n → i ≡ j
+  -- what is dropped is of the set
+  pub within : All (Contains set) drop
+  pub decreasing : (n : ℕ) (a : PairData) → Contains set n → slice_get pairs n ≡ Some a → Equal args a ⊎ Below args a
+  pub below : (n : ℕ) (a : PairData) → Contains drop n → slice_get pairs n ≡ Some a → Below args a
 
 -- the first thing wrong, in this order (ours)
 abbrev pub IsFirstSubtermFault : List RewriteRule → List PairData → List ℕ → List Chosen → List ℕ → SubtermFault → Type 0

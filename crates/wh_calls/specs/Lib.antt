@@ -1,0 +1,2 @@
+pub mod MarkedCalls
+pub mod Bodies

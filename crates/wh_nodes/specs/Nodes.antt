@@ -1,0 +1,38 @@
+-- The nodes of a termination proof, once the names in them are looked up, and the sets that they leave.
+use Rattle.std.specs.Prelude.{ℕ, ◌≡◌, ◌↔◌, ◌×◌, List, [], ◌∷◌, Some, Contains, slice_get}
+use Rattle.wh_terms.specs.Rules.{RewriteRule}
+use Rattle.wh_system.specs.PairData.{PairData, IsIncreasing}
+use Rattle.wh_graph.specs.May.{Follows}
+use Rattle.wh_graph.specs.Components.{IsIn}
+use Rattle.wh_graph.specs.Blocks.{AreBlocks}
+use Rattle.wh_subterm.specs.Projections.{Chosen}
+use Rattle.wh_subterm.specs.SubtermRows.{IsProjection}
+
+-- a node of a proof: there is no pair; the one pair may not follow itself; the pairs fall into blocks; arguments get smaller
+-- (Kop 2012; Fuhs and Kop 2019)
+pub data Node : Type 0 where
+  done alone : Node
+  blocks : (parts : List (List ℕ)) → Node
+  subterm : (args : List Chosen) (drop : List ℕ) → Node
+
+-- the increasing list of the numbers of which P holds
+pub record IsSetOf (P : ℕ → Type 0) (set : List ℕ) : Type 0 where
+  pub increasing : IsIncreasing set
+  pub each : (n : ℕ) → Contains set n ↔ P n
+
+-- the sets are those of the blocks, in order
+pub data AreSetsOf : List (List ℕ) → List (List ℕ) → Type 0 where
+  no_sets : AreSetsOf [] []
+  more_sets : {part set : List ℕ} {parts sets : List (List ℕ)} → IsSetOf (Contains part) set → AreSetsOf parts sets → AreSetsOf (part ∷ parts) (set ∷ sets)
+
+-- the numbers of the set that are not dropped
+abbrev pub IsKept : List ℕ → List ℕ → ℕ → Type 0
+IsKept set drop n = Contains set n × (Contains drop n → ⊥)
+
+-- `Leaves rules pairs set node sets`: the conditions of the node hold of the set of pairs, and what is left to be proved are
+-- the sets, in order (Kop 2012, processors; Fuhs and Kop 2019; the form is ours)
+pub data Leaves (rules : List RewriteRule) (pairs : List PairData) : List ℕ → Node → List (List ℕ) → Type 0 where
+  by_done : Leaves rules pairs [] done []
+  by_alone : {a : ℕ} → (Follows rules pairs a a → ⊥) → Leaves rules pairs (a ∷ []) alone []
+  by_blocks : {set : List ℕ} {parts sets : List (List ℕ)} → AreBlocks (Follows rules pairs) set parts → AreSetsOf parts sets → Leaves rules pairs set (blocks parts) sets
+  by_subterm : {set drop rest : List ℕ} {args : List Chosen} → IsProjection rules pairs set args drop → IsSetOf (IsKept set drop) rest → Leaves rules pairs set (subterm args drop) (rest ∷ [])
