@@ -10,7 +10,7 @@ use Rattle.wh_terms.proofs.StepOver.{over-typed}
 use Rattle.wh_laws.specs.Ends.{Ends, ends, StepsIn, step_here, step_there}
 use Rattle.wh_laws.specs.Ranks.{RanksBelow, PlaceHas, IsAccessibleIn}
 use Rattle.wh_laws.specs.Roots.{IsRoot, KnowsSorts}
-use Rattle.wh_laws.specs.Computable.{ComputableAt, computable_at, ComputableBelow, Computable}
+use Rattle.wh_laws.specs.Computable.{ComputableAt, computable_at, ComputableBelow, Computable, ComputableList}
 use Rattle.wh_laws.specs.Spines.{ArgumentStep, FrontStep}
 use Rattle.wh_laws.proofs.EndsLaws.{ends-list}
 use Rattle.wh_laws.proofs.RankLaws.{below_computable, computable-sort}
@@ -51,12 +51,6 @@ sort_computable S rank R s t p h k =
     low_accessible : (a : Ty) → RanksBelow rank (rank s) a → IsAccessibleIn rank s a
     low_accessible (sort r) low = omega arith
     low_accessible (a ⇒ b) low = low
-
--- trees that are, one by one, computable terms of the types, all of known sorts
-abbrev pub ComputableList : Symbols → (ℕ → ℕ) → (Tm → Tm → Type 0) → List Ty → List Tm → Type 0
-ComputableList S rank R [] [] = Unit {0}
-ComputableList S rank R (a ∷ cs) (t ∷ ts) = SortsBelow S.sorts a × Computable S rank R a t × ComputableList S rank R cs ts
-ComputableList S rank R cs ts = ⊥
 
 pub list_at : (S : Symbols) (rank : ℕ → ℕ) (R : Tm → Tm → Type 0) (cs : List Ty) (ts : List Tm) (i : ℕ) (a : Ty) (u : Tm) → ComputableList S rank R cs ts → slice_get cs i ≡ Some a → slice_get ts i ≡ Some u → Computable S rank R a u
 list_at S rank R [] ts i a u h e d = absurd (cc)

@@ -1,6 +1,6 @@
 -- Computability of terms by ranks and types.
-use Rattle.std.specs.Prelude.{ℕ, zero, suc, ◌≡◌, Bool, true, false, ltb, List, [], Some, slice_get}
-use Rattle.wh_types.specs.Ty.{Ty, sort, ◌⇒◌}
+use Rattle.std.specs.Prelude.{ℕ, zero, suc, ◌≡◌, Bool, true, false, ltb, List, [], ◌∷◌, Some, slice_get}
+use Rattle.wh_types.specs.Ty.{Ty, sort, ◌⇒◌, SortsBelow}
 use Rattle.wh_terms.specs.Tree.{Tm, fun, app, spine}
 use Rattle.wh_terms.specs.Typing.{Symbols, Typed}
 use Rattle.wh_laws.specs.Ranks.{RanksBelow, above_ranks, PlaceHas, IsAccessibleIn}
@@ -48,3 +48,9 @@ pub record IsComputableAtSort (S : Symbols) (rank : ℕ → ℕ) (R : Tm → Tm 
 pub record IsComputableAtArrow (S : Symbols) (rank : ℕ → ℕ) (R : Tm → Tm → Type 0) (a b : Ty) (t : Tm) : Type 0 where
   pub typed : Typed S [] [] t (a ⇒ b)
   pub takes : (u : Tm) → Computable S rank R a u → Computable S rank R b (app t u)
+
+-- trees that are, one by one, computable terms of the types, all of known sorts
+abbrev pub ComputableList : Symbols → (ℕ → ℕ) → (Tm → Tm → Type 0) → List Ty → List Tm → Type 0
+ComputableList S rank R [] [] = Unit {0}
+ComputableList S rank R (a ∷ cs) (t ∷ ts) = SortsBelow S.sorts a × Computable S rank R a t × ComputableList S rank R cs ts
+ComputableList S rank R cs ts = ⊥
