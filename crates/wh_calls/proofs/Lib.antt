@@ -1,1 +1,4 @@
 pub mod Puts
+pub mod SpineLaws
+pub mod TypeLists
+pub mod NeedLaws
