@@ -2,3 +2,6 @@ pub mod Puts
 pub mod SpineLaws
 pub mod TypeLists
 pub mod NeedLaws
+pub mod CallLaws
+pub mod SymbolLaws
+pub mod EndOfCalls
