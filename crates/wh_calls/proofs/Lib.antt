@@ -2,3 +2,4 @@ pub mod Puts
 pub mod SpineLaws
 pub mod TypeLists
 pub mod NeedLaws
+pub mod Ways
