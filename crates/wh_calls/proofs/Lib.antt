@@ -3,3 +3,6 @@ pub mod SpineLaws
 pub mod TypeLists
 pub mod NeedLaws
 pub mod Ways
+pub mod WholeBodies
+pub mod MetaSubstitution
+pub mod ReadBodies
