@@ -1,3 +1,4 @@
 pub mod Puts
 pub mod WholeBodies
 pub mod MetaSubstitution
+pub mod RightSides
