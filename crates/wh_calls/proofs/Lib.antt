@@ -6,6 +6,7 @@ pub mod WholeBodies
 pub mod MetaSubstitution
 pub mod Ways
 pub mod ReadBodies
+pub mod RightSides
 pub mod CallLaws
 pub mod SymbolLaws
 pub mod EndOfCalls
