@@ -40,11 +40,11 @@ use Rattle.wh_calls.proofs.TypeLists.{arrows-arguments, after_arguments, arrows-
 use Rattle.wh_calls.proofs.NeedLaws.{rule_need, no_need-heads_no_rule}
 use Rattle.wh_calls.proofs.CallLaws.{ComputableIn, ComputableListIn, steps_in-append, fronts_one, IsCallComputable, LeadsToComputable, typed_call, step_leads, right_call}
 use Rattle.wh_calls.proofs.ReadBodies.{bodies_computable}
-use Rattle.wh_calls.proofs.RightSides.{rule_right_computable}
+use Rattle.wh_calls.proofs.RightSides.{StillSymbols, rule_right_computable}
 
 -- a symbol without rules is computable
-pub still_symbol : (d : SystemData) → IsWellMadeSystem d → (rank : ℕ → ℕ) (f : ℕ) (a : Ty) → slice_get d.symbols.funs f ≡ Some a → need_of d.rules f ≡ None → Computable d.symbols rank (RawStep d.rules) a (fun f)
-still_symbol d made rank f a known none = still_computable (instances_root d.symbols d.rules made.rules) rank (sorts_known d made) f a known no_root
+pub still_symbol : (d : SystemData) → IsWellMadeSystem d → (rank : ℕ → ℕ) → StillSymbols d.symbols d.rules rank (RawStep d.rules)
+still_symbol d made rank f a none known = still_computable (instances_root d.symbols d.rules made.rules) rank (sorts_known d made) f a known no_root
   where
     no_root : HasNoRoot (Instance d.rules) f
     no_root t u i e = let h = instance_headed d.symbols d.rules made.rules t u i in no_need-heads_no_rule d.rules f none h.rule h.listed (h.left ∙ sym h.here ∙ e)
@@ -85,7 +85,7 @@ module _ (d : SystemData) (made : IsWellMadeSystem d) (ranks : List ℕ) (passin
       let values : ComputableList S rank R (take n (arguments a)) (map (value g) (spine_arguments r.left)) = subst (ComputableList S rank R (take n (arguments a))) same list in
       let call : MarkedCall = record { symbol = f; arguments = ss } in
       let done : Computable S rank R m.typed.0 (value g r.right) =
-      rule_right_computable d made ranks r c g fit m.typed.0 m.typed.2 (bodies_computable d made ranks passing r c g fits bodies (take n (arguments a)) values) (still_symbol d made rank)
+      rule_right_computable made.rules rank (sorts_known d made) (still_symbol d made rank) r m.typed.0 g (bodies_computable d made ranks passing r c g fits bodies (take n (arguments a)) values) m.typed.2
       (right_call d made ranks ps pairs r c g fits fit bodies call (typed_call S d.rules rank R call a n known needed list) (ap symbol_of (sym headed)) same later) in
       subst₂ (Computable S rank R) one (sym right) done
 
@@ -166,5 +166,5 @@ pub symbols_computable : (d : SystemData) → IsWellMadeSystem d → (ranks : Li
 symbols_computable d made ranks passing ps pairs end f a known = by_need (need_of d.rules f) refl
   where
     by_need : (o : Option ℕ) → need_of d.rules f ≡ o → ComputableIn d ranks a (fun f)
-    by_need None e = still_symbol d made (rank_of ranks) f a known e
+    by_need None e = still_symbol d made (rank_of ranks) f a e known
     by_need (Some n) e = ruled_symbol d made ranks passing ps pairs end f n a known e
