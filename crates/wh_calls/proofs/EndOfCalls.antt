@@ -12,12 +12,13 @@ use Rattle.wh_step.specs.Step.{Step}
 use Rattle.wh_step.specs.Reduction.{Bounded}
 use Rattle.wh_step.proofs.Instances.{Instance}
 use Rattle.wh_step.proofs.RawStep.{RawStep, step_raw, raw_step}
-use Rattle.wh_laws.specs.Ends.{Ends, StepsIn, step_here, step_there}
+use Rattle.wh_laws.specs.Ends.{Ends, ends, StepsIn, step_here, step_there}
 use Rattle.wh_laws.specs.Ranks.{rank_of}
 use Rattle.wh_laws.specs.Computable.{Computable}
-use Rattle.wh_laws.proofs.EndsLaws.{ends-simulated}
+use Rattle.wh_laws.proofs.EndsLaws.{ends-next, ends-simulated}
 use Rattle.wh_laws.proofs.BetaAlone.{symbols-bounded}
 use Rattle.wh_laws.proofs.SameSteps.{raw-computable}
+use Rattle.wh_laws.proofs.SystemSteps.{IsShutTerm, shut-step}
 use Rattle.wh_system.specs.PairData.{PairData}
 use Rattle.wh_system.specs.Systems.{SystemData}
 use Rattle.wh_system.specs.WellMade.{IsWellMadeSystem}
@@ -60,8 +61,39 @@ raw_leads {S = S} {rules = rules} w P c d s = record { from_typed = s.from_typed
     })
 
 -- calls end on raw bodies where they do by the steps of the system
-calls_end-raw : {S : Symbols} {rules : List RewriteRule} → AreWellMade S rules → (P : PairData → Type 0) → CallsEnd S rules (Step rules) P → CallsEnd S rules (RawStep rules) P
+pub calls_end-raw : {S : Symbols} {rules : List RewriteRule} → AreWellMade S rules → (P : PairData → Type 0) → CallsEnd S rules (Step rules) P → CallsEnd S rules (RawStep rules) P
 calls_end-raw {S = S} w P end c h = ends-simulated (λ c. c) (raw_leads w P) c c refl (end c (ends-fewer (λ t u r. step_raw S w r) c.arguments h))
+
+-- and the other way round: a term without loose variables that ends by the steps of the system ends on raw bodies
+raw_ends : {S : Symbols} {rules : List RewriteRule} {t : Tm} → AreWellMade S rules → IsShutTerm t → Ends (Step rules) t → Ends (RawStep rules) t
+raw_ends {S = S} {t = t} w c (ends h) = ends (λ u r. raw_ends w (shut-step w t u c (raw_step S w r c.0 c.1)) (h u (raw_step S w r c.0 c.1)))
+
+raw_list_ends : {S : Symbols} {rules : List RewriteRule} {cs : List Ty} → AreWellMade S rules → (ts : List Tm) → AllTyped S [] [] (tms_of ts) cs → AllByRecursion (Ends (Step rules)) ts → AllByRecursion (Ends (RawStep rules)) ts
+raw_list_ends w [] p e = tt
+raw_list_ends w (t ∷ ts) (typed_more q qs) e = (raw_ends w (typed_loose q, typed_term t q) e.0, raw_list_ends w ts qs e.1)
+
+raw_steps : {S : Symbols} {rules : List RewriteRule} {ts us : List Tm} → AreWellMade S rules → StepsIn (Step rules) ts us → StepsIn (RawStep rules) ts us
+raw_steps {S = S} w (step_here s) = step_here (step_raw S w s)
+raw_steps w (step_there s) = step_there (raw_steps w s)
+
+leads_raw : {S : Symbols} {rules : List RewriteRule} → AreWellMade S rules → (P : PairData → Type 0) (c d : MarkedCall) → CallStep S rules (Step rules) P c d → CallStep S rules (RawStep rules) P c d
+leads_raw {S = S} {rules = rules} w P c d s = record { from_typed = s.from_typed; to_typed = s.to_typed; leads = step s.leads }
+  where
+    step : ArgumentsStep (Step rules) c d ⊎ SomePairStep S (Step rules) P c d → ArgumentsStep (RawStep rules) c d ⊎ SomePairStep S (RawStep rules) P c d
+    step (inl m) = inl (record { symbol = m.symbol; arguments = raw_steps w m.arguments })
+    step (inr (p, holds, m)) = inr (p, holds, record {
+      bodies = m.bodies;
+      typed_bodies = m.typed_bodies;
+      left_symbol = m.left_symbol;
+      left = m.left;
+      right_symbol = m.right_symbol;
+      right = m.right;
+      minimal = raw_list_ends w d.arguments s.to_typed.typed m.minimal;
+    })
+
+-- calls end by the steps of the system where they do on raw bodies
+pub raw-calls_end : {S : Symbols} {rules : List RewriteRule} → AreWellMade S rules → (P : PairData → Type 0) → CallsEnd S rules (RawStep rules) P → CallsEnd S rules (Step rules) P
+raw-calls_end {S = S} w P end c h = ends (λ d s. ends-next d (ends-simulated (λ c. c) (leads_raw w P) c c refl (end c (raw_list_ends w c.arguments s.from_typed.typed h))) s)
 
 pub calls-symbols : (d : SystemData) → IsWellMadeSystem d → (ranks : List ℕ) → IsPassing d ranks → (ps : List PairData) → ArePairs (candidates d.symbols d.rules) ps
     → CallsEnd d.symbols d.rules (Step d.rules) (Contains ps) → (f : ℕ) (a : Ty) → slice_get d.symbols.funs f ≡ Some a → Computable d.symbols (rank_of ranks) (Step d.rules) a (fun f)
