@@ -11,20 +11,23 @@ use Rattle.wh_terms.specs.Pattern.{AllBoundBelow, Misses, Distinct, IsPatternUnd
 use Rattle.wh_terms.specs.Typing.{Symbols, Declared, Typed, typed_bound, typed_fun, typed_meta, typed_lam, AllTyped, typed_more}
 use Rattle.wh_terms.specs.TypedBodies.{FitsDeclared, TypedBodies}
 use Rattle.wh_terms.specs.StepOver.{StepOver, over_beta}
-use Rattle.wh_terms.specs.Rules.{RewriteRule, IsWellMade}
-use Rattle.wh_terms.specs.Value.{Body, parameters}
+use Rattle.wh_terms.specs.Rules.{RewriteRule, IsWellMade, AreWellMade}
+use Rattle.wh_terms.specs.Value.{Body, Value, parameters}
 use Rattle.wh_terms.proofs.SightLaws.{act_shut-id}
 use Rattle.wh_terms.proofs.TypingLaws.{some_one, typed_one, typed_loose}
 use Rattle.wh_terms.proofs.ValueForm.{value, FitsBodies}
+use Rattle.wh_terms.proofs.ValueLaws.{value_is}
 use Rattle.wh_terms.proofs.ValueSight.{bound_values}
-use Rattle.wh_terms.proofs.ValueTyping.{typed_count, typed-value, headed_spine}
+use Rattle.wh_terms.proofs.ValueTyping.{spine_bodies, typed_count, typed-value, headed_spine}
+use Rattle.wh_step.specs.Step.{Step}
 use Rattle.wh_step.proofs.Instances.{Instance, spine_left}
 use Rattle.wh_laws.specs.Ranks.{rank_of, PlaceHas, IsAccessible}
 use Rattle.wh_laws.specs.Roots.{IsRoot, KnowsSorts}
 use Rattle.wh_laws.specs.Computable.{Computable, ComputableList}
 use Rattle.wh_laws.proofs.Candidates.{head-spine, candidate_free}
 use Rattle.wh_laws.proofs.Fundamental.{candidate, computable-takes, KnownTypes, known_more, PutsComputable}
-use Rattle.wh_laws.proofs.Spines.{spine-append}
+use Rattle.wh_laws.proofs.Spines.{spine-append, spine_one}
+use Rattle.wh_laws.proofs.SameSteps.{computable-raw, raw-computable}
 use Rattle.wh_laws.proofs.SystemComputable.{computable-typed, computable-accessible}
 use Rattle.wh_laws.proofs.SystemSteps.{instances_root}
 use Rattle.wh_system.specs.Systems.{SystemData}
@@ -34,7 +37,7 @@ use Rattle.wh_access.proofs.FindLemmas.{sorts_known}
 use Rattle.wh_pairs.specs.Spines.{spine_arguments}
 use Rattle.wh_calls.specs.Bodies.{IsComputableBody}
 use Rattle.wh_calls.proofs.Puts.{inst, arrows}
-use Rattle.wh_calls.proofs.SpineLaws.{symbol-spine, inst-symbol_spine}
+use Rattle.wh_calls.proofs.SpineLaws.{symbol-spine, value-symbol_spine, inst-symbol_spine}
 use Rattle.wh_calls.proofs.TypeLists.{arguments-arrows, known_after, typed_spine-arguments}
 use Rattle.wh_calls.proofs.WholeBodies.{ShutBodies, inst-lam, inst-opened, inst-meta, declared_shut, typed_shut}
 use Rattle.wh_calls.proofs.Ways.{slice_get-front, Way, way_here, way_under, way_through, left_way}
@@ -229,3 +232,31 @@ bodies_computable d made ranks passing r listed g fits bodies cs computable z q 
     read_computable (instances_root S d.rules made.rules) (sorts_known d made) g 0 q declared (bodies z q (m.known z occurs) declared) w.way (subst (Typed S r.metas [] w.argument) same typed) w.pattern
     (λ i b e. absurd (cc)) known (typed_shut g typed typed_bodies)
     (λ σ puts. subst (Computable S (rank_of ranks) (StepOver (Instance d.rules)) c) (sym (act_shut-id σ (value g w.argument) (typed_loose value_typed))) here)
+
+-- the same by the steps of a system
+
+list-raw : {S : Symbols} {rules : List RewriteRule} → AreWellMade S rules → (rank : ℕ → ℕ) (cs : List Ty) (ts : List Tm) → ComputableList S rank (Step rules) cs ts → ComputableList S rank (StepOver (Instance rules)) cs ts
+list-raw w rank [] [] h = tt
+list-raw w rank [] (t ∷ ts) h = absurd h
+list-raw w rank (c ∷ cs) [] h = absurd h
+list-raw w rank (c ∷ cs) (t ∷ ts) h = (h.0, computable-raw w rank c t h.1, list-raw w rank cs ts h.2)
+
+raw-body : {S : Symbols} {rules : List RewriteRule} → AreWellMade S rules → (rank : ℕ → ℕ) (d : Declared) (b : Body) → IsComputableBody S rank (StepOver (Instance rules)) d b → IsComputableBody S rank (Step rules) d b
+raw-body w rank d b h = record {
+  fits = h.fits;
+  takes = λ us c. raw-computable w rank d.out (act (parameters (tms_of us) bound) free b.tree) (h.takes us (list-raw w rank d.args us c));
+}
+
+pub arguments_give_bodies : (d : SystemData) (ranks : List ℕ) (r : RewriteRule) (g : ℕ → Body) (f : ℕ) (ts : List Tm) (b : Ty) (cs : List Ty) (z : ℕ) (q : Declared) → IsWellMadeSystem d → IsPassing d ranks → Contains d.rules r
+    → Value g r.left (spine (fun f) ts) → Typed d.symbols [] [] (spine (fun f) ts) b → ComputableList d.symbols (rank_of ranks) (Step d.rules) cs ts → Occurs z r.right → slice_get r.metas z ≡ Some q
+    → IsComputableBody d.symbols (rank_of ranks) (Step d.rules) q (g z)
+arguments_give_bodies d ranks r g f ts b cs z q made passing listed v typed computable occurs declared =
+    let S : Symbols = d.symbols in
+    let m : IsWellMade S r = made.rules.each r listed in
+    let (fits, is) = value_is v in
+    let (same, bodies) = spine_bodies 0 g r.left (spine_left S r m) fits m.typed.1 (subst (λ t. Typed S [] [] t b) is typed) in
+    let (symbols, arguments) = spine_one f m.headed.0 ts (map (value g) (spine_arguments r.left))
+    (is ∙ ap (value g) (sym (symbol-spine m.headed.0 r.left m.headed.1)) ∙ value-symbol_spine g m.headed.0 (spine_arguments r.left)) in
+    raw-body made.rules (rank_of ranks) q (g z)
+    (bodies_computable d made ranks passing r listed g fits bodies cs
+    (subst (ComputableList S (rank_of ranks) (StepOver (Instance d.rules)) cs) arguments (list-raw made.rules (rank_of ranks) cs ts computable)) z q occurs declared)
