@@ -100,7 +100,8 @@ variables_computable : {S : Symbols} {R : Tm → Tm → Type 0} → IsRoot S R �
     → PutsComputable S rank (StepOver R) Γ (variables Γ)
 unfolding variables
 variables_computable {S = S} {R = R} root rank Γ known i a e =
-    subst (λ b. Computable S rank (StepOver R) a (free 0 b)) (sym (get_or_from_slice_get Γ i a (sort 0) e)) (candidate_free root (candidate root rank a (known i a e)) (known i a e) 0)
+    subst (λ b. Computable S rank (StepOver R) a (free 0 b)) (sym (get_or_from_slice_get Γ i a (sort 0) e))
+    (candidate_free root (candidate root rank a (known i a e)) (known i a e) 0)
 
 -- what the value of a meta-variable with distinct bound variables takes
 here_computable : {S : Symbols} {R : Tm → Tm → Type 0} {M : List Declared} → IsRoot S R
@@ -131,9 +132,12 @@ under_computable : {S : Symbols} {R : Tm → Tm → Type 0} → IsRoot S R → (
 under_computable {S = S} {R = R} root rank Γ g a b t known shut h σ puts =
     let τ : ℕ → Tm = λ i. σ (suc i) in
     let body : Tm = act (up τ) (up_free free) (value g t) in
-    let whole : Computable S rank (StepOver R) (a ⇒ b) (lam a body) = subst (Computable S rank (StepOver R) (a ⇒ b)) (inst-lam g τ a t shut) (h τ (λ i c e. puts (suc i) c e)) in
-    let applied : Computable S rank (StepOver R) b (app (lam a body) (σ 0)) = (computable-takes S rank (StepOver R) a b (lam a body) whole).1 (σ 0) (puts 0 a refl) in
-    let stepped : Computable S rank (StepOver R) b (opened (σ 0) body) = (candidate root rank b known).step (app (lam a body) (σ 0)) (opened (σ 0) body) applied (over_beta refl) in
+    let whole : Computable S rank (StepOver R) (a ⇒ b) (lam a body) =
+    subst (Computable S rank (StepOver R) (a ⇒ b)) (inst-lam g τ a t shut) (h τ (λ i c e. puts (suc i) c e)) in
+    let applied : Computable S rank (StepOver R) b (app (lam a body) (σ 0)) =
+    (computable-takes S rank (StepOver R) a b (lam a body) whole).1 (σ 0) (puts 0 a refl) in
+    let stepped : Computable S rank (StepOver R) b (opened (σ 0) body) =
+    (candidate root rank b known).step (app (lam a body) (σ 0)) (opened (σ 0) body) applied (over_beta refl) in
     subst (Computable S rank (StepOver R) b) (inst-opened (σ 0) g τ t ∙ ap (λ τ. inst g τ t) (fun_ext (cons_whole σ))) stepped
 
 -- with variables for the arguments that are missing, a computable term is one of a sort
@@ -155,7 +159,8 @@ argument_computable : {S : Symbols} {R : Tm → Tm → Type 0} → IsRoot S R �
 argument_computable {S = S} {R = R} root rank known f i cs a c us u e there at accessible computable =
     let (vs, full) = filled root rank a (spine (fun f) us) (known_after S.sorts cs a (known f (arrows cs a) e)) computable in
     let place : PlaceHas S f i c = (arrows cs a, e, ap (λ l. slice_get l i) (arguments-arrows cs a) ∙ slice_get-front cs (arguments a) i c there) in
-    computable-accessible S rank (StepOver R) (result_sort a) f i c (us ++ vs) u (subst (Computable S rank (StepOver R) (sort (result_sort a))) (sym (spine-append (fun f) us vs)) full) accessible place
+    computable-accessible S rank (StepOver R) (result_sort a) f i c (us ++ vs) u
+    (subst (Computable S rank (StepOver R) (sort (result_sort a))) (sym (spine-append (fun f) us vs)) full) accessible place
     (slice_get-front us vs i u at)
 
 -- the arguments of a pattern are patterns
@@ -201,9 +206,11 @@ read_computable {S = S} {R = R} {M = M} {rank = rank} {z = z} {Γ = Γ} {a = a} 
     let (cs, q, qs) = typed_spine-arguments (fun f) ts (subst (λ t. Typed S M Γ t a) same p) in
     let (c, there, typed) = argument_typed ts cs i u qs at in
     let pattern : IsPatternSpine k (spine (fun f) ts) = headed_spine k f (spine (fun f) ts) (subst (IsPatternUnder k) same s) (head-spine (fun f) ts) in
-    read_computable root known g k d e fits w typed (argument_pattern k (fun f) ts i u pattern at) types (known_argument cs i c (known f (arrows cs a) (fun_type f q)) there)
+    read_computable root known g k d e fits w typed (argument_pattern k (fun f) ts i u pattern at) types
+    (known_argument cs i c (known f (arrows cs a) (fun_type f q)) there)
     (λ y o. shut y (subst (Occurs y) (sym same) (argument_occurs y (fun f) ts i u at o)))
-    (λ σ puts. argument_computable root rank known f i cs a c (map (inst g σ) ts) (inst g σ u) (fun_type f q) there (slice_get-map (inst g σ) ts i ∙ ap (option_map (inst g σ)) at) accessible
+    (λ σ puts. argument_computable root rank known f i cs a c (map (inst g σ) ts) (inst g σ u) (fun_type f q) there
+    (slice_get-map (inst g σ) ts i ∙ ap (option_map (inst g σ)) at) accessible
     (subst (Computable S rank (StepOver R) a) (ap (inst g σ) same ∙ inst-symbol_spine g σ f ts) (h σ puts)))
   where
     known_argument : (cs : List Ty) (i : ℕ) (c : Ty) → SortsBelow S.sorts (arrows cs a) → slice_get cs i ≡ Some c → SortsBelow S.sorts c
@@ -234,11 +241,13 @@ bodies_computable d made ranks passing r listed g fits bodies cs computable z q 
     let (a, at, typed) = argument_typed (spine_arguments r.left) kinds w.place w.argument ps w.there in
     let typed_bodies : TypedBodies S r.metas [] [] g w.argument =
     λ y b o e. bodies y b (subst (Occurs y) whole (argument_occurs y (fun m.headed.0) (spine_arguments r.left) w.place w.argument w.there o)) e in
-    let (c, known, here) = list_member S (rank_of ranks) (StepOver (Instance d.rules)) cs (map (value g) (spine_arguments r.left)) w.place (value g w.argument) computable
+    let (c, known, here) =
+    list_member S (rank_of ranks) (StepOver (Instance d.rules)) cs (map (value g) (spine_arguments r.left)) w.place (value g w.argument) computable
     (slice_get-map (value g) (spine_arguments r.left) w.place ∙ ap (option_map (value g)) w.there) in
     let value_typed : Typed S [] [] (value g w.argument) c = computable-typed S (rank_of ranks) (StepOver (Instance d.rules)) c (value g w.argument) here in
     let same : a ≡ c = typed_one (typed-value g typed typed_bodies) value_typed in
-    read_computable (instances_root S d.rules made.rules) (sorts_known d made) g 0 q declared (bodies z q (m.known z occurs) declared) w.way (subst (Typed S r.metas [] w.argument) same typed) w.pattern
+    read_computable (instances_root S d.rules made.rules) (sorts_known d made) g 0 q declared (bodies z q (m.known z occurs) declared) w.way
+    (subst (Typed S r.metas [] w.argument) same typed) w.pattern
     (λ i b e. absurd (cc)) known (typed_shut g typed typed_bodies)
     (λ σ puts. subst (Computable S (rank_of ranks) (StepOver (Instance d.rules)) c) (sym (act_shut-id σ (value g w.argument) (typed_loose value_typed))) here)
 
@@ -271,4 +280,5 @@ arguments_give_bodies d ranks r g f ts b cs z q made passing listed v typed comp
     (is ∙ ap (value g) (sym (symbol-spine m.headed.0 r.left m.headed.1)) ∙ value-symbol_spine g m.headed.0 (spine_arguments r.left)) in
     raw-body made.rules (rank_of ranks) q (g z)
     (bodies_computable d made ranks passing r listed g fits bodies cs
-    (subst (ComputableList S (rank_of ranks) (StepOver (Instance d.rules)) cs) arguments (list-raw made.rules (rank_of ranks) cs ts computable)) z q occurs declared)
+    (subst (ComputableList S (rank_of ranks) (StepOver (Instance d.rules)) cs) arguments (list-raw made.rules (rank_of ranks) cs ts computable))
+    z q occurs declared)

@@ -112,7 +112,9 @@ mutual
   pattern_way S rank z k (meta y ts) way s e all = subst (λ y. Way S rank z (meta y ts)) (sym (read_here z y (eqb y z) way refl e)) way_here
   pattern_way S rank z k (lam a t) way s e all = way_under (pattern_way S rank z (k + 1) t way s e all)
   pattern_way S rank z k (app t u) way s e all =
-      let w : WayThrough S rank z (app t u) = way_in_app S rank z t u way e all (λ q. spine_way S rank z k t way s.0 q all) (λ v q here. pattern_way S rank z k u v s.1 q here) in
+      let w : WayThrough S rank z (app t u) =
+      way_in_app S rank z t u way e all (λ q. spine_way S rank z k t way s.0 q all)
+      (λ v q here. pattern_way S rank z k u v s.1 q here) in
       way_through w.symbol w.place (spine_arguments (app t u)) (sym (symbol-spine w.symbol (app t u) w.headed)) w.there w.accessible w.way
 
   -- a symbol with patterns as its arguments
@@ -123,7 +125,9 @@ mutual
   spine_way S rank z k (fun f) way s e all = absurd (cc)
   spine_way S rank z k (meta y ts) way s e all = absurd s
   spine_way S rank z k (lam a t) way s e all = absurd s
-  spine_way S rank z k (app t u) way s e all = way_in_app S rank z t u way e all (λ q. spine_way S rank z k t way s.0 q all) (λ v q here. pattern_way S rank z k u v s.1 q here)
+  spine_way S rank z k (app t u) way s e all =
+      way_in_app S rank z t u way e all (λ q. spine_way S rank z k t way s.0 q all)
+      (λ v q here. pattern_way S rank z k u v s.1 q here)
 
 -- a way in some argument of a left side
 pub record WayInArgument (S : Symbols) (rank : ℕ → ℕ) (z k : ℕ) (t : Tm) : Type 0 where
