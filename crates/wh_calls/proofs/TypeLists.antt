@@ -59,7 +59,8 @@ known_after n [] b known = known
 known_after n (c ∷ cs) b known = known_after n cs b known.1
 
 -- the number of typed trees is that of their types
-pub typed_length : {S : Symbols} {M : List Declared} {Γ : List Ty} (ts : List Tm) (cs : List Ty) → AllTyped S M Γ (tms_of ts) cs → length ts ≡ length cs
+pub typed_length : {S : Symbols} {M : List Declared} {Γ : List Ty} (ts : List Tm) (cs : List Ty) → AllTyped S M Γ (tms_of ts) cs
+    → length ts ≡ length cs
 typed_length [] [] typed_none = refl
 typed_length [] (c ∷ cs) p = elim p [ ]
 typed_length (t ∷ ts) [] p = elim p [ ]
@@ -77,23 +78,26 @@ typed_spine-arguments {S = S} {M = M} {Γ = Γ} {b = b} h (t ∷ ts) p =
         → (ds : List Ty) × Typed S M Γ h (arrows ds b) × AllTyped S M Γ (tms_of (t ∷ ts)) ds
     first cs (typed_app {a = c} q r) e qs = (c ∷ cs, subst (λ a. Typed S M Γ h (c ⇒ a)) e q, typed_more r qs)
 
-pub typed_spine : {S : Symbols} {M : List Declared} {Γ : List Ty} {b : Ty} (h : Tm) (ts : List Tm) (cs : List Ty) → Typed S M Γ h (arrows cs b) → AllTyped S M Γ (tms_of ts) cs → Typed S M Γ (spine h ts) b
+pub typed_spine : {S : Symbols} {M : List Declared} {Γ : List Ty} {b : Ty} (h : Tm) (ts : List Tm) (cs : List Ty) → Typed S M Γ h (arrows cs b)
+    → AllTyped S M Γ (tms_of ts) cs → Typed S M Γ (spine h ts) b
 typed_spine h [] [] p typed_none = p
 typed_spine h [] (c ∷ cs) p q = elim q [ ]
 typed_spine h (t ∷ ts) [] p q = elim q [ ]
 typed_spine h (t ∷ ts) (c ∷ cs) p (typed_more q qs) = typed_spine (app h t) ts cs (typed_app p q) qs
 
 -- what takes computable arguments one after another takes them all
-pub computable-spine : (S : Symbols) (rank : ℕ → ℕ) (R : Tm → Tm → Type 0) (cs : List Ty) (b : Ty) (t : Tm) (ts : List Tm) → Computable S rank R (arrows cs b) t → ComputableList S rank R cs ts
-    → Computable S rank R b (spine t ts)
+pub computable-spine : (S : Symbols) (rank : ℕ → ℕ) (R : Tm → Tm → Type 0) (cs : List Ty) (b : Ty) (t : Tm) (ts : List Tm)
+    → Computable S rank R (arrows cs b) t → ComputableList S rank R cs ts → Computable S rank R b (spine t ts)
 computable-spine S rank R [] b t [] c h = c
 computable-spine S rank R [] b t (u ∷ us) c h = absurd h
 computable-spine S rank R (a ∷ cs) b t [] c h = absurd h
 computable-spine S rank R (a ∷ cs) b t (u ∷ us) c h = computable-spine S rank R cs b (app t u) us ((computable-takes S rank R a (arrows cs b) t c).1 u h.1) h.2
 
 -- and the other way round
-pub spine-computable : {S : Symbols} {R : Tm → Tm → Type 0} → IsRoot S R → (rank : ℕ → ℕ) (cs : List Ty) (b : Ty) (t : Tm) → SortsBelow S.sorts (arrows cs b) → Typed S [] [] t (arrows cs b)
-    → ((ts : List Tm) → ComputableList S rank (StepOver R) cs ts → Computable S rank (StepOver R) b (spine t ts)) → Computable S rank (StepOver R) (arrows cs b) t
+pub spine-computable : {S : Symbols} {R : Tm → Tm → Type 0} → IsRoot S R → (rank : ℕ → ℕ) (cs : List Ty) (b : Ty) (t : Tm)
+    → SortsBelow S.sorts (arrows cs b) → Typed S [] [] t (arrows cs b)
+    → ((ts : List Tm) → ComputableList S rank (StepOver R) cs ts → Computable S rank (StepOver R) b (spine t ts))
+    → Computable S rank (StepOver R) (arrows cs b) t
 spine-computable root rank [] b t known p h = h [] tt
 spine-computable {S = S} {R = R} root rank (c ∷ cs) b t known p h =
     takes-computable S rank (StepOver R) c (arrows cs b) t (
@@ -101,7 +105,8 @@ spine-computable {S = S} {R = R} root rank (c ∷ cs) b t known p h =
       λ u q. spine-computable root rank cs b (app t u) known.1 (typed_app p ((candidate root rank c known.0).typed u q)) (λ ts k. h (u ∷ ts) (known.0, q, k)),
     )
 
-pub list-append : (S : Symbols) (rank : ℕ → ℕ) (R : Tm → Tm → Type 0) (cs ds : List Ty) (ts us : List Tm) → ComputableList S rank R cs ts → ComputableList S rank R ds us → ComputableList S rank R (cs ++ ds) (ts ++ us)
+pub list-append : (S : Symbols) (rank : ℕ → ℕ) (R : Tm → Tm → Type 0) (cs ds : List Ty) (ts us : List Tm) → ComputableList S rank R cs ts
+    → ComputableList S rank R ds us → ComputableList S rank R (cs ++ ds) (ts ++ us)
 list-append S rank R [] ds [] us h k = k
 list-append S rank R [] ds (t ∷ ts) us h k = absurd h
 list-append S rank R (c ∷ cs) ds [] us h k = absurd h
@@ -114,13 +119,15 @@ list-split S rank R cs [] us h = (tt, h)
 list-split S rank R [] (t ∷ ts) us h = absurd h
 list-split S rank R (c ∷ cs) (t ∷ ts) us h = let (k, l) = list-split S rank R cs ts us h.2 in ((h.0, h.1, k), l)
 
-pub list-length : (S : Symbols) (rank : ℕ → ℕ) (R : Tm → Tm → Type 0) (cs : List Ty) (ts : List Tm) → ComputableList S rank R cs ts → length ts ≡ length cs
+pub list-length : (S : Symbols) (rank : ℕ → ℕ) (R : Tm → Tm → Type 0) (cs : List Ty) (ts : List Tm) → ComputableList S rank R cs ts
+    → length ts ≡ length cs
 list-length S rank R [] [] h = refl
 list-length S rank R [] (t ∷ ts) h = absurd h
 list-length S rank R (c ∷ cs) [] h = absurd h
 list-length S rank R (c ∷ cs) (t ∷ ts) h = ap suc (list-length S rank R cs ts h.2)
 
-pub list-typed : (S : Symbols) (rank : ℕ → ℕ) (R : Tm → Tm → Type 0) (cs : List Ty) (ts : List Tm) → ComputableList S rank R cs ts → AllTyped S [] [] (tms_of ts) cs
+pub list-typed : (S : Symbols) (rank : ℕ → ℕ) (R : Tm → Tm → Type 0) (cs : List Ty) (ts : List Tm) → ComputableList S rank R cs ts
+    → AllTyped S [] [] (tms_of ts) cs
 list-typed S rank R [] [] h = typed_none
 list-typed S rank R [] (t ∷ ts) h = absurd h
 list-typed S rank R (c ∷ cs) [] h = absurd h

@@ -26,7 +26,8 @@ slice_get-last (y ∷ xs) x = slice_get-last xs x
 pub data Way (S : Symbols) (rank : ℕ → ℕ) (z : ℕ) : Tm → Type 0 where
   way_here : {ts : Tms} → Way S rank z (meta z ts)
   way_under : {a : Ty} {t : Tm} → Way S rank z t → Way S rank z (lam a t)
-  way_through : {t u : Tm} (f i : ℕ) (ts : List Tm) → t ≡ spine (fun f) ts → slice_get ts i ≡ Some u → IsAccessible S rank f i → Way S rank z u → Way S rank z t
+  way_through : {t u : Tm} (f i : ℕ) (ts : List Tm) → t ≡ spine (fun f) ts → slice_get ts i ≡ Some u → IsAccessible S rank f i → Way S rank z u
+      → Way S rank z t
 
 -- a way through some argument of the symbol that heads the tree
 pub record WayThrough (S : Symbols) (rank : ℕ → ℕ) (z : ℕ) (t : Tm) : Type 0 where
@@ -63,7 +64,8 @@ symbol_there f (app t u) e = absurd (cc)
 
 -- the way goes through an argument of the front, or else through the last argument
 way_in_app : (S : Symbols) (rank : ℕ → ℕ) (z : ℕ) (t u : Tm) (way : List Place) → way_to z (readings (app t u)) ≡ Some way → AllAccessible S rank way
-    → (way_to z (readings t) ≡ Some way → WayThrough S rank z t) → ((v : List Place) → way_to z (readings u) ≡ Some v → AllAccessible S rank v → Way S rank z u) → WayThrough S rank z (app t u)
+    → (way_to z (readings t) ≡ Some way → WayThrough S rank z t)
+    → ((v : List Place) → way_to z (readings u) ≡ Some v → AllAccessible S rank v → Way S rank z u) → WayThrough S rank z (app t u)
 way_in_app S rank z t u way e all front last = by_front (way_to z (readings t)) refl
   where
     rest : List Reading
@@ -86,7 +88,8 @@ way_in_app S rank z t u way e all front last = by_front (way_to z (readings t)) 
           way = last v q (All-tail P p v here);
         }
 
-    by_symbol : (o : Option ℕ) → symbol_of (head t) ≡ o → way_to z (within_argument o (argument_count t) (readings u)) ≡ Some way → WayThrough S rank z (app t u)
+    by_symbol : (o : Option ℕ) → symbol_of (head t) ≡ o → way_to z (within_argument o (argument_count t) (readings u)) ≡ Some way
+        → WayThrough S rank z (app t u)
     by_symbol None d c = absurd (cc)
     by_symbol (Some f) d c = by_way f d (way_to z (readings u)) refl (sym (way_behind z (record { symbol = f; index = argument_count t }) (readings u)) ∙ c)
 
@@ -101,24 +104,30 @@ read_here z y false way q e = absurd (cc)
 
 mutual
   -- a pattern that is read on a way of accessible places
-  pub pattern_way : (S : Symbols) (rank : ℕ → ℕ) (z k : ℕ) (p : Tm) (way : List Place) → IsPatternUnder k p → way_to z (readings p) ≡ Some way → AllAccessible S rank way → Way S rank z p
+  pub pattern_way : (S : Symbols) (rank : ℕ → ℕ) (z k : ℕ) (p : Tm) (way : List Place) → IsPatternUnder k p → way_to z (readings p) ≡ Some way
+      → AllAccessible S rank way → Way S rank z p
   pattern_way S rank z k (bound i) way s e all = absurd (cc)
   pattern_way S rank z k (free x a) way s e all = absurd s
   pattern_way S rank z k (fun f) way s e all = absurd (cc)
   pattern_way S rank z k (meta y ts) way s e all = subst (λ y. Way S rank z (meta y ts)) (sym (read_here z y (eqb y z) way refl e)) way_here
   pattern_way S rank z k (lam a t) way s e all = way_under (pattern_way S rank z (k + 1) t way s e all)
   pattern_way S rank z k (app t u) way s e all =
-      let w : WayThrough S rank z (app t u) = way_in_app S rank z t u way e all (λ q. spine_way S rank z k t way s.0 q all) (λ v q here. pattern_way S rank z k u v s.1 q here) in
+      let w : WayThrough S rank z (app t u) =
+      way_in_app S rank z t u way e all (λ q. spine_way S rank z k t way s.0 q all)
+      (λ v q here. pattern_way S rank z k u v s.1 q here) in
       way_through w.symbol w.place (spine_arguments (app t u)) (sym (symbol-spine w.symbol (app t u) w.headed)) w.there w.accessible w.way
 
   -- a symbol with patterns as its arguments
-  pub spine_way : (S : Symbols) (rank : ℕ → ℕ) (z k : ℕ) (t : Tm) (way : List Place) → IsPatternSpine k t → way_to z (readings t) ≡ Some way → AllAccessible S rank way → WayThrough S rank z t
+  pub spine_way : (S : Symbols) (rank : ℕ → ℕ) (z k : ℕ) (t : Tm) (way : List Place) → IsPatternSpine k t → way_to z (readings t) ≡ Some way
+      → AllAccessible S rank way → WayThrough S rank z t
   spine_way S rank z k (bound i) way s e all = absurd (cc)
   spine_way S rank z k (free x a) way s e all = absurd s
   spine_way S rank z k (fun f) way s e all = absurd (cc)
   spine_way S rank z k (meta y ts) way s e all = absurd s
   spine_way S rank z k (lam a t) way s e all = absurd s
-  spine_way S rank z k (app t u) way s e all = way_in_app S rank z t u way e all (λ q. spine_way S rank z k t way s.0 q all) (λ v q here. pattern_way S rank z k u v s.1 q here)
+  spine_way S rank z k (app t u) way s e all =
+      way_in_app S rank z t u way e all (λ q. spine_way S rank z k t way s.0 q all)
+      (λ v q here. pattern_way S rank z k u v s.1 q here)
 
 -- a way in some argument of a left side
 pub record WayInArgument (S : Symbols) (rank : ℕ → ℕ) (z k : ℕ) (t : Tm) : Type 0 where
@@ -129,7 +138,8 @@ pub record WayInArgument (S : Symbols) (rank : ℕ → ℕ) (z k : ℕ) (t : Tm)
   pub way : Way S rank z argument
 
 -- a left side that is read on a way of accessible places
-pub left_way : (S : Symbols) (rank : ℕ → ℕ) (z k : ℕ) (t : Tm) (way : List Place) → IsPatternSpine k t → way_to z (readings_of_left t) ≡ Some way → AllAccessible S rank way → WayInArgument S rank z k t
+pub left_way : (S : Symbols) (rank : ℕ → ℕ) (z k : ℕ) (t : Tm) (way : List Place) → IsPatternSpine k t → way_to z (readings_of_left t) ≡ Some way
+    → AllAccessible S rank way → WayInArgument S rank z k t
 left_way S rank z k (bound i) way s e all = absurd (cc)
 left_way S rank z k (free x a) way s e all = absurd s
 left_way S rank z k (fun f) way s e all = absurd (cc)
@@ -146,7 +156,8 @@ left_way S rank z k (app t u) way s e all = by_front (way_to z (readings_of_left
       way = w.way;
     }
 
-    by_front : (o : Option (List Place)) → way_to z (readings_of_left t) ≡ o → (way_to z (readings_of_left t) ≡ Some way → WayInArgument S rank z k t) → WayInArgument S rank z k (app t u)
+    by_front : (o : Option (List Place)) → way_to z (readings_of_left t) ≡ o → (way_to z (readings_of_left t) ≡ Some way → WayInArgument S rank z k t)
+        → WayInArgument S rank z k (app t u)
     by_front (Some v) q front = more (front (q ∙ sym (way_in_front z (readings_of_left t) (readings u) v q) ∙ e))
     by_front None q front = record {
       place = argument_count t;

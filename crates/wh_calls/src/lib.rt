@@ -3,5 +3,7 @@
 #![tactic(auto)]
 
 mod calls;
+mod reading;
 
 pub use calls::{symbols_are_computable_where_calls_end, terms_are_bounded_where_calls_end};
+pub use reading::arguments_give_computable_bodies;
