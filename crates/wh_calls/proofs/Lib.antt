@@ -2,3 +2,4 @@ pub mod Puts
 pub mod WholeBodies
 pub mod MetaSubstitution
 pub mod RightSides
+pub mod CandidateValues
