@@ -123,7 +123,7 @@ outermost-at (a ∷ Γ) τ ws (suc i) j sum = outermost-at Γ (λ k. τ (suc k))
 abbrev pub PutsTyped : Symbols → List Ty → (ℕ → Tm) → Type 0
 PutsTyped S Γ τ = (i : ℕ) (a : Ty) → slice_get Γ i ≡ Some a → Typed S [] [] (τ i) a
 
-outermost-typed : {S : Symbols} (Γ : List Ty) (τ : ℕ → Tm) (ws : List Tm) (cs : List Ty) → PutsTyped S Γ τ → AllTyped S [] [] (tms_of ws) cs → AllTyped S [] [] (tms_of (outermost Γ τ ws)) (reverse Γ ++ cs)
+pub outermost-typed : {S : Symbols} (Γ : List Ty) (τ : ℕ → Tm) (ws : List Tm) (cs : List Ty) → PutsTyped S Γ τ → AllTyped S [] [] (tms_of ws) cs → AllTyped S [] [] (tms_of (outermost Γ τ ws)) (reverse Γ ++ cs)
 outermost-typed [] τ ws cs h p = p
 outermost-typed {S = S} (a ∷ Γ) τ ws cs h p =
     let e : reverse Γ ++ a ∷ cs ≡ reverse (a ∷ Γ) ++ cs = sym (append_assoc (reverse Γ) (a ∷ []) cs) ∙ ap (λ l. l ++ cs) (sym (reverse-append (a ∷ []) Γ)) in
@@ -135,7 +135,7 @@ all_typed_at [] cs i a typed_none e = absurd (cc)
 all_typed_at {S = S} {M = M} {Γ = Γ} (t ∷ ts) cs zero a (typed_more p ps) e = subst (Typed S M Γ t) (some_one e) p
 all_typed_at (t ∷ ts) cs (suc i) a (typed_more {bs = bs} p ps) e = all_typed_at ts bs i a ps e
 
-slice_get-front : {A : Type 0} (xs ys : List A) (i : ℕ) → i < length xs → slice_get (xs ++ ys) i ≡ slice_get xs i
+pub slice_get-front : {A : Type 0} (xs ys : List A) (i : ℕ) → i < length xs → slice_get (xs ++ ys) i ≡ slice_get xs i
 slice_get-front [] ys i low = absurd (omega arith)
 slice_get-front (x ∷ xs) ys zero low = refl
 slice_get-front (x ∷ xs) ys (suc i) low = slice_get-front xs ys i (omega arith)

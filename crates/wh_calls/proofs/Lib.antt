@@ -3,3 +3,4 @@ pub mod WholeBodies
 pub mod MetaSubstitution
 pub mod RightSides
 pub mod CandidateValues
+pub mod Served
