@@ -1,2 +1,6 @@
 //! Laws.
 #![tactic(auto)]
+
+mod reading;
+
+pub use reading::arguments_give_computable_bodies;
