@@ -7,6 +7,8 @@ pub mod MetaSubstitution
 pub mod Ways
 pub mod ReadBodies
 pub mod RightSides
+pub mod CandidateValues
+pub mod Served
 pub mod CallLaws
 pub mod SymbolLaws
 pub mod EndOfCalls

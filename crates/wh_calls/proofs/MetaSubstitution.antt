@@ -29,7 +29,7 @@ mutual
   occurs_in-renames-back z ρ (more t ts) (inr o) = inr (occurs_in-renames-back z ρ ts o)
 
 -- P holds of each meta-variable that occurs in what is put for the loose variables
-abbrev OnPut : (ℕ → Type 0) → (ℕ → Tm) → Type 0
+abbrev pub OnPut : (ℕ → Type 0) → (ℕ → Tm) → Type 0
 OnPut P τ = (i z : ℕ) → Occurs z (τ i) → P z
 
 on_put-up : (P : ℕ → Type 0) (τ : ℕ → Tm) → OnPut P τ → OnPut P (up τ)

@@ -17,7 +17,7 @@ use Rattle.wh_terms.proofs.ValueTyping.{typed-value, typed_count}
 use Rattle.wh_step.proofs.Instances.{Instance}
 use Rattle.wh_laws.specs.Roots.{IsRoot, KnowsSorts}
 use Rattle.wh_laws.specs.Computable.{Computable, ComputableList}
-use Rattle.wh_laws.proofs.Fundamental.{candidate, computable-takes, abstraction_computable, KnownTypes, known_more, PutsComputable, puts_more}
+use Rattle.wh_laws.proofs.Fundamental.{candidate, abstraction_computable, KnownTypes, known_more, PutsComputable, puts_more}
 use Rattle.wh_laws.proofs.Candidates.{candidate_free}
 use Rattle.wh_laws.proofs.SystemComputable.{computable-typed, known_type}
 use Rattle.wh_laws.proofs.SystemSteps.{instances_root}
@@ -27,6 +27,7 @@ use Rattle.wh_pairs.specs.Calls.{Call, calls, calls_within, call_where_defined, 
 use Rattle.wh_pairs.proofs.MemberLemmas.{at_head}
 use Rattle.wh_calls.specs.Bodies.{IsComputableBody}
 use Rattle.wh_calls.proofs.Puts.{inst, arrows, IsComputableCall}
+use Rattle.wh_calls.proofs.TypeLists.{computable-spine}
 use Rattle.wh_calls.proofs.WholeBodies.{declared_anywhere, declared_shut, typed_shut, inst-lam, inst-opened, inst-meta}
 
 -- the bodies of the declared meta-variables that occur are computable
@@ -44,13 +45,6 @@ StillSymbols S rules rank R = (f : ℕ) (a : Ty) → need_of rules f ≡ None �
 abbrev pub ComputableCalls : Symbols → (ℕ → ℕ) → (Tm → Tm → Type 0) → (ℕ → Body) → List Call → Type 0
 ComputableCalls S rank R g cs = (c : Call) → Contains cs c → IsComputableCall S rank R g c
 
--- a computable term with computable arguments
-applied : (S : Symbols) (rank : ℕ → ℕ) (R : Tm → Tm → Type 0) (cs : List Ty) (b : Ty) (t : Tm) (ts : List Tm) → Computable S rank R (arrows cs b) t → ComputableList S rank R cs ts → Computable S rank R b (spine t ts)
-applied S rank R [] b t [] c h = c
-applied S rank R [] b t (u ∷ us) c h = absurd h
-applied S rank R (a ∷ cs) b t [] c h = absurd h
-applied S rank R (a ∷ cs) b t (u ∷ us) c h = applied S rank R cs b (app t u) us ((computable-takes S rank R a (arrows cs b) t c).1 u h.1) h.2
-
 -- where each call is computable, so is the symbol with these arguments
 call_computable : (S : Symbols) (rules : List RewriteRule) (rank : ℕ → ℕ) (R : Tm → Tm → Type 0) (g : ℕ → Body) (σ : ℕ → Tm) (es : List Within) (Γ : List Ty) (f : ℕ) (qs : List Tm) (cs : List Ty) (b : Ty)
     → StillSymbols S rules rank R → ComputableCalls S rank R g (calls rules es Γ (fun f) qs) → PutsComputable S rank R Γ σ → slice_get S.funs f ≡ Some (arrows cs b) → ComputableList S rank R cs (map (inst g σ) qs)
@@ -58,7 +52,7 @@ call_computable : (S : Symbols) (rules : List RewriteRule) (rank : ℕ → ℕ) 
 call_computable S rules rank R g σ es Γ f qs cs b still h puts e list = go (need_of rules f) refl h
   where
     go : (o : Option ℕ) → need_of rules f ≡ o → ComputableCalls S rank R g (call_where_defined o es Γ f qs) → Computable S rank R b (spine (fun f) (map (inst g σ) qs))
-    go None n k = applied S rank R cs b (fun f) (map (inst g σ) qs) (still f (arrows cs b) n e) list
+    go None n k = computable-spine S rank R cs b (fun f) (map (inst g σ) qs) (still f (arrows cs b) n e) list
     go (Some m) n k = k (record { conditions = es; binders = Γ; symbol = f; need = m; arguments = qs }) (at_head [] _) σ puts cs b e list
 
 -- the instance of a typed meta-term is typed
@@ -97,17 +91,17 @@ module _ {S : Symbols} {R : Tm → Tm → Type 0} (root : IsRoot S R) (rules : L
         → ComputableBodies S rank (StepOver R) M g m → PutsComputable S rank (StepOver R) Γ σ → ComputableList S rank (StepOver R) cs (map (inst g σ) qs)
         → ComputableCalls S rank (StepOver R) g (calls rules es Γ m qs) → Computable S rank (StepOver R) b (spine (inst g σ m) (map (inst g σ) qs))
     side_computable es qs σ cs b (typed_bound {i = i} {a = a} e) is types bodies puts list h =
-        applied S rank (StepOver R) cs b (σ i) (map (inst g σ) qs) (subst (λ a. Computable S rank (StepOver R) a (σ i)) is (puts i a e)) list
+        computable-spine S rank (StepOver R) cs b (σ i) (map (inst g σ) qs) (subst (λ a. Computable S rank (StepOver R) a (σ i)) is (puts i a e)) list
     side_computable es qs σ cs b (typed_free {x = x} {a = a} s) is types bodies puts list h =
-        applied S rank (StepOver R) cs b (free x a) (map (inst g σ) qs) (subst (λ c. Computable S rank (StepOver R) c (free x a)) is (candidate_free root (candidate root rank a s) s x)) list
+        computable-spine S rank (StepOver R) cs b (free x a) (map (inst g σ) qs) (subst (λ c. Computable S rank (StepOver R) c (free x a)) is (candidate_free root (candidate root rank a s) s x)) list
     side_computable es qs σ cs b (typed_fun {Γ = Γ} {f = f} e) is types bodies puts list h =
         call_computable S rules rank (StepOver R) g σ es Γ f qs cs b still h puts (e ∙ ap Some is) list
     side_computable es qs σ cs b (typed_meta {Γ = Γ} {z = z} {ts = ts} {d = d} e ps o) is types bodies puts list h =
         let (us, same, all) = sides_computable es z 1 σ ps types (λ y c p q. bodies y c (inr p) q) puts h in
-        applied S rank (StepOver R) cs b (inst g σ (meta z ts)) (map (inst g σ) qs)
+        computable-spine S rank (StepOver R) cs b (inst g σ (meta z ts)) (map (inst g σ) qs)
         (subst (λ a. Computable S rank (StepOver R) a (inst g σ (meta z ts))) (sym o ∙ is) (meta_computable σ z d ps (bodies z d (inl refl) e) us same all)) list
     side_computable es qs σ cs b (typed_lam {Γ = Γ} {a = a} {b = c} {t = t} s p) is types bodies puts list h =
-        applied S rank (StepOver R) cs b (inst g σ (lam a t)) (map (inst g σ) qs)
+        computable-spine S rank (StepOver R) cs b (inst g σ (lam a t)) (map (inst g σ) qs)
         (subst (λ a'. Computable S rank (StepOver R) a' (inst g σ (lam a t))) is (lam_computable σ s p bodies puts
         (λ u q. side_computable es [] (cons u σ) [] c p refl (known_more S Γ a s types) bodies (puts_more S rank (StepOver R) Γ a u σ q puts) tt h))) list
     side_computable es qs σ cs b (typed_app {Γ = Γ} {a = a} {b = c} {t = t} {u = u} p q) is types bodies puts list h =
