@@ -3,8 +3,8 @@ use Rattle.std.proofs.Common.{◌≡◌, ℕ, ◌+◌, ◌≤◌, List, [], ◌�
 use Rattle.std.proofs.lemmas.List.{take-append-drop, length-take-le}
 use Rattle.std.proofs.lemmas.Option.{get_or_from_slice_get, same_Some}
 use Rattle.wh_types.specs.Ty.{Ty, sort, arguments, result_sort, SortsBelow}
-use Rattle.wh_terms.specs.Tree.{Tm, fun, spine, head, argument_count}
-use Rattle.wh_terms.specs.Typing.{Symbols, Declared, Typed, typed_fun}
+use Rattle.wh_terms.specs.Tree.{Tm, fun, spine, head, argument_count, tms_of}
+use Rattle.wh_terms.specs.Typing.{Typed, typed_fun, AllTyped}
 use Rattle.wh_terms.specs.Value.{Body}
 use Rattle.wh_terms.specs.Rules.{RewriteRule}
 use Rattle.wh_terms.specs.StepOver.{StepOver}
@@ -63,102 +63,133 @@ need-taken : (d : SystemData) → IsWellMadeSystem d → (f n : ℕ) (a : Ty) �
 need-taken d made f n a known needed =
     length-take-le n (arguments a) (subst (λ a. n ≤ length (arguments a)) (get_or_from_slice_get d.symbols.funs f a (sort 0) known) (takes_arguments d made f n needed).enough)
 
--- Calls that lead to computable calls alone are computable.
-module _ (d : SystemData) (made : IsWellMadeSystem d) (ranks : List ℕ) (passing : IsPassing d ranks) (ps : List PairData) (pairs : ArePairs (candidates d.symbols d.rules) ps)
-  (f n : ℕ) (a : Ty) (known : slice_get d.symbols.funs f ≡ Some a) (needed : need_of d.rules f ≡ Some n) (ss : List Tm) (list : ComputableListIn d ranks (take n (arguments a)) ss)
-  (later : LeadsToComputable d.symbols d.rules (rank_of ranks) (RawStep d.rules) (Contains ps) (record { symbol = f; arguments = ss })) where
+-- a system that is passing under ranks, and its pairs
+module _ (d : SystemData) (made : IsWellMadeSystem d) (ranks : List ℕ) (passing : IsPassing d ranks)
+  (ps : List PairData) (pairs : ArePairs (candidates d.symbols d.rules) ps) where
+  abbrev C : Ty → Tm → Type 0
+  C = ComputableIn d ranks
 
-  -- the value of a right side, where the left side has the call for its value
-  right_computable : (t w : Tm) → t ≡ spine (fun f) ss → Instance d.rules t w → ComputableIn d ranks (after_arguments n a) w
-  right_computable t w e (instance_of r g c fits fit left right) =
-      let S = d.symbols in
-      let rank = rank_of ranks in
-      let R = RawStep d.rules in
-      let m = made.rules.each r c in
-      let whole : value g r.left ≡ spine (fun f) ss = sym left ∙ e in
-      let headed : head r.left ≡ fun f = m.headed.1 ∙ sym (head-value 0 g r.left (spine_left S r m) m.headed.0 m.headed.1) ∙ ap head whole ∙ head-symbol_spine f ss in
-      let mapped : value g r.left ≡ spine (fun f) (map (value g) (spine_arguments r.left)) = ap (value g) (sym (symbol-spine f r.left headed)) ∙ value-symbol_spine g f (spine_arguments r.left) in
-      let same : ss ≡ map (value g) (spine_arguments r.left) = (spine_one f f ss (map (value g) (spine_arguments r.left)) (sym whole ∙ mapped)).1 in
-      let typed : Typed S [] [] (spine (fun f) ss) (after_arguments n a) =
-      typed_spine (fun f) ss (take n (arguments a)) (subst (Typed S [] [] (fun f)) (arrows-split n a) (typed_fun known)) (list-typed S rank R (take n (arguments a)) ss list) in
-      let (one, bodies) = spine_bodies 0 g r.left (spine_left S r m) fits m.typed.1 (subst (λ v. Typed S [] [] v (after_arguments n a)) (sym whole) typed) in
-      let values : ComputableList S rank R (take n (arguments a)) (map (value g) (spine_arguments r.left)) = subst (ComputableList S rank R (take n (arguments a))) same list in
-      let call : MarkedCall = record { symbol = f; arguments = ss } in
-      let done : Computable S rank R m.typed.0 (value g r.right) =
-      rule_right_computable made.rules rank (sorts_known d made) (still_symbol d made rank) r m.typed.0 g (bodies_computable d made ranks passing r c g fits bodies (take n (arguments a)) values) m.typed.2
-      (right_call d made ranks ps pairs r c g fits fit bodies call (typed_call S d.rules rank R call a n known needed list) (ap symbol_of (sym headed)) same later) in
-      subst₂ (Computable S rank R) one (sym right) done
+  abbrev Cs : List Ty → List Tm → Type 0
+  Cs = ComputableListIn d ranks
 
-  -- The call with further arguments, of a sort: by induction on these.
-  rest_computable : (ws : List Tm) → ComputableListIn d ranks (drop n (arguments a)) ws → Ends (StepsIn (RawStep d.rules)) ws
-      → ComputableIn d ranks (sort (result_sort a)) (spine (fun f) (ss ++ ws))
-  rest_computable ws h (ends k) =
-      sort_computable d.symbols (rank_of ranks) (RawStep d.rules) (result_sort a) (spine (fun f) (ss ++ ws)) typed (λ v r. reduct v (λ us m. rest_computable us (list_step (instances_root d.symbols d.rules made.rules) (rank_of ranks) (drop n (arguments a)) h m) (k us m)) (symbol_step f (ss ++ ws) r)) argument
-    where
-      all : ComputableListIn d ranks (arguments a) (ss ++ ws)
-      all = subst (λ l. ComputableListIn d ranks l (ss ++ ws)) (take-append-drop n (arguments a)) (list-append d.symbols (rank_of ranks) (RawStep d.rules) (take n (arguments a)) (drop n (arguments a)) ss ws list h)
+  abbrev CallComputable : MarkedCall → Type 0
+  CallComputable = IsCallComputable d.symbols d.rules (rank_of ranks) (RawStep d.rules)
 
-      typed : Typed d.symbols [] [] (spine (fun f) (ss ++ ws)) (sort (result_sort a))
-      typed = typed_spine (fun f) (ss ++ ws) (arguments a) (subst (Typed d.symbols [] [] (fun f)) (arrows-arguments a) (typed_fun known)) (list-typed d.symbols (rank_of ranks) (RawStep d.rules) (arguments a) (ss ++ ws) all)
+  abbrev LeadsTo : MarkedCall → Type 0
+  LeadsTo = LeadsToComputable d.symbols d.rules (rank_of ranks) (RawStep d.rules) (Contains ps)
 
-      -- what the call with its own arguments steps to, with the further ones
-      further : (us : List Tm) (w v : Tm) → ComputableListIn d ranks (drop n (arguments a)) us → ComputableIn d ranks (after_arguments n a) w → v ≡ spine w us → ComputableIn d ranks (sort (result_sort a)) v
-      further us w v p c e = subst (ComputableIn d ranks (sort (result_sort a))) (sym e) (computable-spine d.symbols (rank_of ranks) (RawStep d.rules) (drop n (arguments a)) (sort (result_sort a)) w us c p)
+  list_typed : (cs : List Ty) (ts : List Tm) → Cs cs ts → AllTyped d.symbols [] [] (tms_of ts) cs
+  list_typed cs ts h = list-typed d.symbols (rank_of ranks) (RawStep d.rules) cs ts h
 
-      reduct : (v : Tm) → ((us : List Tm) → StepsIn (RawStep d.rules) ws us → ComputableIn d ranks (sort (result_sort a)) (spine (fun f) (ss ++ us))) → ArgumentStep (RawStep d.rules) (fun f) (ss ++ ws) v ⊎ FrontStep (Instance d.rules) (fun f) (ss ++ ws) v
-          → ComputableIn d ranks (sort (result_sort a)) v
-      reduct v again (inl (us, m, e)) = member (steps_in-append ss ws us m)
-        where
-          member : ((k : List Tm) × StepsIn (RawStep d.rules) ss k × (us ≡ k ++ ws)) ⊎ ((k : List Tm) × StepsIn (RawStep d.rules) ws k × (us ≡ ss ++ k)) → ComputableIn d ranks (sort (result_sort a)) v
-          member (inl (ts, m, i)) =
-              further ws (spine (fun f) ts) v h
-              (later (record { symbol = f; arguments = ts }) (step_leads (instances_root d.symbols d.rules made.rules) d.rules (rank_of ranks) (Contains ps) f ss ts a n known needed list m) a n known needed (list_step (instances_root d.symbols d.rules made.rules) (rank_of ranks) (take n (arguments a)) list m))
-              (e ∙ ap (spine (fun f)) i ∙ spine-append (fun f) ts ws)
-          member (inr (ts, m, i)) = subst (ComputableIn d ranks (sort (result_sort a))) (sym (e ∙ ap (spine (fun f)) i)) (again ts m)
-      reduct v again (inr (us, vs, w, e, i, is)) =
-          let count : length ss ≡ length us =
-          list-length d.symbols (rank_of ranks) (RawStep d.rules) (take n (arguments a)) ss list ∙ need-taken d made f n a known needed ∙ sym (need-instance d made f n us w needed i) in
-          let (front, rest) = fronts_one ss ws us vs count e in
-          further ws w v h (right_computable (spine (fun f) us) w (ap (spine (fun f)) (sym front)) i) (is ∙ ap (spine w) (sym rest))
+  spine_computable : (cs : List Ty) (b : Ty) (t : Tm) (ts : List Tm) → C (arrows cs b) t → Cs cs ts → C b (spine t ts)
+  spine_computable cs b t ts c h = computable-spine d.symbols (rank_of ranks) (RawStep d.rules) cs b t ts c h
 
-      argument : (g i : ℕ) (b : Ty) (us : List Tm) (u : Tm) → spine (fun f) (ss ++ ws) ≡ spine (fun g) us → PlaceHas d.symbols g i b → IsAccessibleIn (rank_of ranks) (result_sort a) b → slice_get us i ≡ Some u → ComputableIn d ranks b u
-      argument g i b us u e (c, q, o) acc at =
-          let (same, members) = spine_one f g (ss ++ ws) us e in
-          let one : a ≡ c = some_one (sym known ∙ ap (slice_get d.symbols.funs) same ∙ q) in
-          list_at d.symbols (rank_of ranks) (RawStep d.rules) (arguments a) (ss ++ ws) i b u all (ap (λ c. slice_get (arguments c) i) one ∙ o) (ap (λ l. slice_get l i) members ∙ at)
+  -- a symbol with the arguments that its rules need is typed
+  front_typed : (f n : ℕ) (a : Ty) → slice_get d.symbols.funs f ≡ Some a → (ss : List Tm) → Cs (take n (arguments a)) ss
+      → Typed d.symbols [] [] (spine (fun f) ss) (after_arguments n a)
+  front_typed f n a known ss list =
+      typed_spine (fun f) ss (take n (arguments a)) (subst (Typed d.symbols [] [] (fun f)) (arrows-split n a) (typed_fun known))
+      (list_typed (take n (arguments a)) ss list)
 
--- a call that leads to computable calls alone is computable
-call_from_later : (d : SystemData) → IsWellMadeSystem d → (ranks : List ℕ) → IsPassing d ranks → (ps : List PairData) → ArePairs (candidates d.symbols d.rules) ps → (c : MarkedCall)
-    → LeadsToComputable d.symbols d.rules (rank_of ranks) (RawStep d.rules) (Contains ps) c → IsCallComputable d.symbols d.rules (rank_of ranks) (RawStep d.rules) c
-call_from_later d made ranks passing ps pairs c later a n known needed list =
-    let S = d.symbols in
-    let rank = rank_of ranks in
-    let R = RawStep d.rules in
-    let root = instances_root S d.rules made.rules in
-    let typed : Typed S [] [] (spine (fun c.symbol) c.arguments) (after_arguments n a) =
-    typed_spine (fun c.symbol) c.arguments (take n (arguments a)) (subst (Typed S [] [] (fun c.symbol)) (arrows-split n a) (typed_fun known)) (list-typed S rank R (take n (arguments a)) c.arguments list) in
-    spine-computable root rank (drop n (arguments a)) (sort (result_sort a)) (spine (fun c.symbol) c.arguments) (known_type (sorts_known d made) typed) typed
-    (λ ws h. subst (Computable S rank R (sort (result_sort a))) (spine-append (fun c.symbol) c.arguments ws)
-    (rest_computable d made ranks passing ps pairs c.symbol n a known needed c.arguments list later ws h (ends-list ws (list_ends root rank (drop n (arguments a)) ws h))))
+  -- A call that leads to computable calls alone.
+  module _ (f n : ℕ) (a : Ty) (known : slice_get d.symbols.funs f ≡ Some a) (needed : need_of d.rules f ≡ Some n)
+    (ss : List Tm) (list : Cs (take n (arguments a)) ss) (later : LeadsTo (record { symbol = f; arguments = ss })) where
 
--- a call that leads to no endless sequence of calls is computable
-call_computable : (d : SystemData) → IsWellMadeSystem d → (ranks : List ℕ) → IsPassing d ranks → (ps : List PairData) → ArePairs (candidates d.symbols d.rules) ps → (c : MarkedCall)
-    → Ends (CallStep d.symbols d.rules (RawStep d.rules) (Contains ps)) c → IsCallComputable d.symbols d.rules (rank_of ranks) (RawStep d.rules) c
-call_computable d made ranks passing ps pairs c (ends h) = call_from_later d made ranks passing ps pairs c (λ to s. call_computable d made ranks passing ps pairs to (h to s))
+    -- the value of a right side, where the left side has the call for its value
+    right_computable : (t w : Tm) → t ≡ spine (fun f) ss → Instance d.rules t w → C (after_arguments n a) w
+    right_computable t w e (instance_of r g c fits fit left right) =
+        let S = d.symbols in
+        let m = made.rules.each r c in
+        let call : MarkedCall = record { symbol = f; arguments = ss } in
+        let args : List Tm = spine_arguments r.left in
+        let whole : value g r.left ≡ spine (fun f) ss = sym left ∙ e in
+        let of_left : head (value g r.left) ≡ fun m.headed.0 = head-value 0 g r.left (spine_left S r m) m.headed.0 m.headed.1 in
+        let headed : head r.left ≡ fun f = m.headed.1 ∙ sym of_left ∙ ap head whole ∙ head-symbol_spine f ss in
+        let mapped : value g r.left ≡ spine (fun f) (map (value g) args) = ap (value g) (sym (symbol-spine f r.left headed)) ∙ value-symbol_spine g f args in
+        let same : ss ≡ map (value g) args = (spine_one f f ss (map (value g) args) (sym whole ∙ mapped)).1 in
+        let typed : Typed S [] [] (value g r.left) (after_arguments n a) =
+        subst (λ v. Typed S [] [] v (after_arguments n a)) (sym whole) (front_typed f n a known ss list) in
+        let (one, bodies) = spine_bodies 0 g r.left (spine_left S r m) fits m.typed.1 typed in
+        let values : Cs (take n (arguments a)) (map (value g) args) = subst (Cs (take n (arguments a))) same list in
+        let done : C m.typed.0 (value g r.right) =
+        rule_right_computable made.rules (rank_of ranks) (sorts_known d made) (still_symbol d made (rank_of ranks)) r m.typed.0 g
+        (bodies_computable d made ranks passing r c g fits bodies (take n (arguments a)) values) m.typed.2
+        (right_call d made ranks ps pairs r c g fits fit bodies call (typed_call S d.rules (rank_of ranks) (RawStep d.rules) call a n known needed list)
+        (ap symbol_of (sym headed)) same later) in
+        subst₂ C one (sym right) done
 
--- a symbol with rules is computable
-ruled_symbol : (d : SystemData) → IsWellMadeSystem d → (ranks : List ℕ) → IsPassing d ranks → (ps : List PairData) → ArePairs (candidates d.symbols d.rules) ps
-    → CallsEnd d.symbols d.rules (RawStep d.rules) (Contains ps) → (f n : ℕ) (a : Ty) → slice_get d.symbols.funs f ≡ Some a → need_of d.rules f ≡ Some n → ComputableIn d ranks a (fun f)
-ruled_symbol d made ranks passing ps pairs end f n a known needed =
-    let S = d.symbols in
-    let rank = rank_of ranks in
-    let R = RawStep d.rules in
-    let root = instances_root S d.rules made.rules in
-    let split : a ≡ arrows (take n (arguments a)) (after_arguments n a) = arrows-split n a in
-    subst (λ b. Computable S rank R b (fun f)) (sym split)
-    (spine-computable root rank (take n (arguments a)) (after_arguments n a) (fun f) (subst (SortsBelow S.sorts) split (sorts_known d made f a known)) (subst (Typed S [] [] (fun f)) split (typed_fun known))
-    (λ ss h. let c : MarkedCall = record { symbol = f; arguments = ss } in
-    call_computable d made ranks passing ps pairs c (end c (list_ends root rank (take n (arguments a)) ss h)) a n known needed h))
+    -- The call with further arguments, of a sort: by induction on these.
+    rest_computable : (ws : List Tm) → Cs (drop n (arguments a)) ws → Ends (StepsIn (RawStep d.rules)) ws → C (sort (result_sort a)) (spine (fun f) (ss ++ ws))
+    rest_computable ws h (ends k) =
+        sort_computable d.symbols (rank_of ranks) (RawStep d.rules) (result_sort a) (spine (fun f) (ss ++ ws)) typed
+        (λ v r. reduct v (λ us m. rest_computable us (stepped (drop n (arguments a)) h m) (k us m)) (symbol_step f (ss ++ ws) r)) argument
+      where
+        stepped : {ts us : List Tm} (cs : List Ty) → Cs cs ts → StepsIn (RawStep d.rules) ts us → Cs cs us
+        stepped cs c m = list_step (instances_root d.symbols d.rules made.rules) (rank_of ranks) cs c m
+
+        all : Cs (arguments a) (ss ++ ws)
+        all =
+            subst (λ l. Cs l (ss ++ ws)) (take-append-drop n (arguments a))
+            (list-append d.symbols (rank_of ranks) (RawStep d.rules) (take n (arguments a)) (drop n (arguments a)) ss ws list h)
+
+        typed : Typed d.symbols [] [] (spine (fun f) (ss ++ ws)) (sort (result_sort a))
+        typed =
+            typed_spine (fun f) (ss ++ ws) (arguments a) (subst (Typed d.symbols [] [] (fun f)) (arrows-arguments a) (typed_fun known))
+            (list_typed (arguments a) (ss ++ ws) all)
+
+        -- what the call steps to, with the further arguments
+        further : (us : List Tm) (w v : Tm) → Cs (drop n (arguments a)) us → C (after_arguments n a) w → v ≡ spine w us → C (sort (result_sort a)) v
+        further us w v p c e = subst (C (sort (result_sort a))) (sym e) (spine_computable (drop n (arguments a)) (sort (result_sort a)) w us c p)
+
+        member : (us : List Tm) (v : Tm) → v ≡ spine (fun f) us → ((us : List Tm) → StepsIn (RawStep d.rules) ws us → C (sort (result_sort a)) (spine (fun f) (ss ++ us)))
+            → ((k : List Tm) × StepsIn (RawStep d.rules) ss k × (us ≡ k ++ ws)) ⊎ ((k : List Tm) × StepsIn (RawStep d.rules) ws k × (us ≡ ss ++ k)) → C (sort (result_sort a)) v
+        member us v e again (inl (ts, m, i)) =
+            let leads = step_leads (instances_root d.symbols d.rules made.rules) d.rules (rank_of ranks) (Contains ps) f ss ts a n known needed list m in
+            further ws (spine (fun f) ts) v h (later (record { symbol = f; arguments = ts }) leads a n known needed (stepped (take n (arguments a)) list m))
+            (e ∙ ap (spine (fun f)) i ∙ spine-append (fun f) ts ws)
+        member us v e again (inr (ts, m, i)) = subst (C (sort (result_sort a))) (sym (e ∙ ap (spine (fun f)) i)) (again ts m)
+
+        reduct : (v : Tm) → ((us : List Tm) → StepsIn (RawStep d.rules) ws us → C (sort (result_sort a)) (spine (fun f) (ss ++ us)))
+            → ArgumentStep (RawStep d.rules) (fun f) (ss ++ ws) v ⊎ FrontStep (Instance d.rules) (fun f) (ss ++ ws) v → C (sort (result_sort a)) v
+        reduct v again (inl (us, m, e)) = member us v e again (steps_in-append ss ws us m)
+        reduct v again (inr (us, vs, w, e, i, is)) =
+            let count : length ss ≡ n = list-length d.symbols (rank_of ranks) (RawStep d.rules) (take n (arguments a)) ss list ∙ need-taken d made f n a known needed in
+            let (front, rest) = fronts_one ss ws us vs (count ∙ sym (need-instance d made f n us w needed i)) e in
+            further ws w v h (right_computable (spine (fun f) us) w (ap (spine (fun f)) (sym front)) i) (is ∙ ap (spine w) (sym rest))
+
+        argument : (g i : ℕ) (b : Ty) (us : List Tm) (u : Tm) → spine (fun f) (ss ++ ws) ≡ spine (fun g) us → PlaceHas d.symbols g i b
+            → IsAccessibleIn (rank_of ranks) (result_sort a) b → slice_get us i ≡ Some u → C b u
+        argument g i b us u e (c, q, o) acc at =
+            let (same, members) = spine_one f g (ss ++ ws) us e in
+            let one : a ≡ c = some_one (sym known ∙ ap (slice_get d.symbols.funs) same ∙ q) in
+            list_at d.symbols (rank_of ranks) (RawStep d.rules) (arguments a) (ss ++ ws) i b u all
+            (ap (λ c. slice_get (arguments c) i) one ∙ o) (ap (λ l. slice_get l i) members ∙ at)
+
+  -- a call that leads to computable calls alone is computable
+  call_from_later : (c : MarkedCall) → LeadsTo c → CallComputable c
+  call_from_later c later a n known needed list =
+      let root = instances_root d.symbols d.rules made.rules in
+      let rest : List Ty = drop n (arguments a) in
+      let typed : Typed d.symbols [] [] (spine (fun c.symbol) c.arguments) (after_arguments n a) = front_typed c.symbol n a known c.arguments list in
+      spine-computable root (rank_of ranks) rest (sort (result_sort a)) (spine (fun c.symbol) c.arguments) (known_type (sorts_known d made) typed) typed
+      (λ ws h. subst (C (sort (result_sort a))) (spine-append (fun c.symbol) c.arguments ws)
+      (rest_computable c.symbol n a known needed c.arguments list later ws h (ends-list ws (list_ends root (rank_of ranks) rest ws h))))
+
+  -- a call that leads to no endless sequence of calls is computable
+  call_computable : (c : MarkedCall) → Ends (CallStep d.symbols d.rules (RawStep d.rules) (Contains ps)) c → CallComputable c
+  call_computable c (ends h) = call_from_later c (λ to s. call_computable to (h to s))
+
+  -- a symbol with rules is computable
+  ruled_symbol : CallsEnd d.symbols d.rules (RawStep d.rules) (Contains ps) → (f n : ℕ) (a : Ty) → slice_get d.symbols.funs f ≡ Some a → need_of d.rules f ≡ Some n → C a (fun f)
+  ruled_symbol end f n a known needed =
+      let root = instances_root d.symbols d.rules made.rules in
+      let front : List Ty = take n (arguments a) in
+      let split : a ≡ arrows front (after_arguments n a) = arrows-split n a in
+      let sorts : SortsBelow d.symbols.sorts (arrows front (after_arguments n a)) = subst (SortsBelow d.symbols.sorts) split (sorts_known d made f a known) in
+      subst (λ b. C b (fun f)) (sym split)
+      (spine-computable root (rank_of ranks) front (after_arguments n a) (fun f) sorts (subst (Typed d.symbols [] [] (fun f)) split (typed_fun known))
+      (λ ss h. let c : MarkedCall = record { symbol = f; arguments = ss } in
+      call_computable c (end c (list_ends root (rank_of ranks) front ss h)) a n known needed h))
 
 -- where the calls of the pairs end, the symbols are computable
 pub symbols_computable : (d : SystemData) → IsWellMadeSystem d → (ranks : List ℕ) → IsPassing d ranks → (ps : List PairData) → ArePairs (candidates d.symbols d.rules) ps
