@@ -12,7 +12,7 @@ use Rattle.wh_terms.specs.Sight.{LooseBelow, Occurs, OccursIn}
 use Rattle.wh_terms.specs.Typing.{Symbols, Declared, Typed, typed_bound, typed_free, typed_fun, typed_meta, typed_lam, typed_app, AllTyped, typed_none, typed_more}
 use Rattle.wh_terms.specs.Value.{Body, parameters, Value, of_meta, Values, of_none, of_more}
 use Rattle.wh_terms.specs.TypedBodies.{FitsDeclared, TypedBodies}
-use Rattle.wh_terms.specs.Rules.{RewriteRule}
+use Rattle.wh_terms.specs.Rules.{RewriteRule, IsWellMade}
 use Rattle.wh_terms.proofs.ActLaws.{act-id}
 use Rattle.wh_terms.proofs.SightLaws.{act_loose}
 use Rattle.wh_terms.proofs.TypingLaws.{some_one, typed_loose}
@@ -78,6 +78,10 @@ mutual
       go : {X : Type 0} → (X → IsTypedIn S M P c) → (Contains (calls_within rules es Γ z (i + 1) ts) c → IsTypedIn S M P c) → X ⊎ Contains (calls_within rules es Γ z (i + 1) ts) c → IsTypedIn S M P c
       go l r (inl j) = l j
       go l r (inr j) = r j
+
+-- the calls of a well-made rule are typed, and what occurs in them occurs in its right side
+pub rule_call : (S : Symbols) (rules : List RewriteRule) (r : RewriteRule) → IsWellMade S r → (c : Call) → Contains (calls_of rules r) c → IsTypedIn S r.metas (λ z. Occurs z r.right) c
+rule_call S rules r made c at = calls_typed (λ z. Occurs z r.right) rules [] [] [] made.typed.0 made.typed.2 refl typed_none (λ z o. o) (λ z o. absurd o) c at
 
 -- TERMS FOR FRESH META-VARIABLES
 

@@ -6,6 +6,6 @@ pub mod Ways
 pub mod WholeBodies
 pub mod MetaSubstitution
 pub mod ReadBodies
-pub mod RightSides
 pub mod CandidateValues
+pub mod RightSides
 pub mod Served

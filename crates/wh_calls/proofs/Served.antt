@@ -13,7 +13,8 @@ use Rattle.wh_terms.specs.Value.{Body, Values, of_none, of_more}
 use Rattle.wh_terms.specs.TypedBodies.{FitsDeclared, TypedBodies}
 use Rattle.wh_terms.specs.Rules.{RewriteRule, IsWellMade}
 use Rattle.wh_terms.proofs.TypingLaws.{some_one}
-use Rattle.wh_terms.proofs.ValueForm.{value, FitsArities, AllFitArities, FitsBodies}
+use Rattle.wh_terms.proofs.ValueForm.{value, values, FitsArities, AllFitArities, FitsBodies}
+use Rattle.wh_terms.proofs.ValueLaws.{values_are}
 use Rattle.wh_system.specs.PairData.{PairData}
 use Rattle.wh_system.specs.Systems.{SystemData}
 use Rattle.wh_system.specs.WellMade.{IsWellMadeSystem}
@@ -26,10 +27,12 @@ use Rattle.wh_pairs.proofs.MemberLemmas.{none_there, at_head, behind, head_or_be
 use Rattle.wh_pairs.proofs.SubsumptionLaws.{one_list, left-member, Thinned, thin_none, thin_out, thin_keep, survive_none, survive_dropped, survive_kept}
 use Rattle.wh_pairs.proofs.Decisions.{decided-subsumed}
 use Rattle.wh_calls.specs.MarkedCalls.{AreTypedBodies}
+use Rattle.wh_calls.specs.Sides.{IsLedByPair}
 use Rattle.wh_calls.proofs.Puts.{inst}
 use Rattle.wh_calls.proofs.WholeBodies.{typed_fits, occurs_known}
 use Rattle.wh_calls.proofs.MetaSubstitution.{occurs-act-back}
-use Rattle.wh_calls.proofs.CandidateValues.{IsTypedIn, calls_typed, beside, beside-low, outermost, outermost-typed, PutsTyped, beside_fits, slice_get-front, freed_high, argument_values, lacking_values, left_values}
+use Rattle.wh_calls.proofs.RightSides.{values-list, instances}
+use Rattle.wh_calls.proofs.CandidateValues.{IsTypedIn, rule_call, beside, beside-low, outermost, outermost-typed, PutsTyped, beside_fits, slice_get-front, freed_high, argument_values, lacking_values, left_values}
 
 -- CANDIDATES AND CALLS
 
@@ -295,10 +298,6 @@ module _ (S : Symbols) (r : RewriteRule) (made : IsWellMade S r) (c : Call) (typ
       typed_bodies : AreTypedBodies S p H
       typed_bodies z d o e = either z d e (occurs-append z p.left p.right o)
 
--- the calls of a well-made rule are typed
-pub rule_call : (S : Symbols) (rules : List RewriteRule) (r : RewriteRule) → IsWellMade S r → (c : Call) → Contains (calls_of rules r) c → IsTypedIn S r.metas (λ z. Occurs z r.right) c
-rule_call S rules r made c at = calls_typed (λ z. Occurs z r.right) rules [] [] [] made.typed.0 made.typed.2 refl AllTyped.typed_none (λ z o. o) (λ z o. absurd o) c at
-
 -- each call of a rule's right side is served by a pair: by the one that subsumes its candidate
 pub call_served : (d : SystemData) → IsWellMadeSystem d → (ps : List PairData) → ArePairs (candidates d.symbols d.rules) ps → (r : RewriteRule) → Contains d.rules r → (c : Call) → Contains (calls_of d.rules r) c
     → (g : ℕ → Body) → FitsBodies g r.left → FitsBodies g r.right → TypedBodies d.symbols r.metas [] [] g r.left → (τ : ℕ → Tm) → PutsTyped d.symbols c.binders τ
@@ -313,3 +312,39 @@ call_served d made ps pairs r (k, inside, is) c called g fits_left fits_right bo
     let as_made : p ≡ candidate S p.rule r from.call = from.is ∙ ap (λ t. candidate S p.rule t from.call) same in
     served_by S r rule_made c (rule_call S d.rules r rule_made c called) g bodies τ puts ws further enough ps k p (map nullary (reverse from.call.binders ++ missing_types S from.call))
     at (ap (λ q. q.left_fun) as_made) (ap (λ q. q.left) as_made) (ap (λ q. q.metas) as_made) s
+
+-- IN PUBLIC WORDS
+
+tms_of_one : (ts us : List Tm) → tms_of ts ≡ tms_of us → ts ≡ us
+tms_of_one [] [] e = refl
+tms_of_one [] (u ∷ us) e = absurd (cc)
+tms_of_one (t ∷ ts) [] e = absurd (cc)
+tms_of_one (t ∷ ts) (u ∷ us) e =
+    let same : t ≡ u = cc in
+    let rest : tms_of ts ≡ tms_of us = cc in
+    ap₂ (λ v vs. v ∷ vs) same (tms_of_one ts us rest)
+
+-- values of a list of trees are those of its members
+values_of_list : (g : ℕ → Body) (ts vs : List Tm) → Values g (tms_of ts) (tms_of vs) → vs ≡ map (value g) ts
+values_of_list g ts vs p = tms_of_one vs (map (value g) ts) ((values_are p).1 ∙ values-list g ts)
+
+pub call_led : (d : SystemData) (ps : List PairData) (r : RewriteRule) (c : Call) (g : ℕ → Body) (τ : ℕ → Tm) (us vs ws : List Tm) → IsWellMadeSystem d → ArePairs (candidates d.symbols d.rules) ps → Contains d.rules r
+    → Contains (calls_of d.rules r) c → TypedBodies d.symbols r.metas [] [] g r.left → Values g (tms_of (spine_arguments r.left)) (tms_of us) → Values g (tms_of c.arguments) (tms_of vs) → PutsTyped d.symbols c.binders τ
+    → AllTyped d.symbols [] [] (tms_of ws) (missing_types d.symbols c) → length ws ≡ c.need - length c.arguments
+    → IsLedByPair d.symbols ps (record { symbol = symbol_of (head r.left); arguments = us }) (record { symbol = c.symbol; arguments = take c.need (map (act τ free) vs) ++ ws })
+call_led d ps r c g τ us vs ws made pairs listed called bodies left right puts further enough =
+    let m : IsWellMade d.symbols r = made.rules.each r listed in
+    let fits_left : FitsBodies g r.left = typed_fits g m.typed.1 bodies in
+    let fits_right : FitsBodies g r.right = typed_fits g m.typed.2 (λ z q o e. bodies z q (m.known z o) e) in
+    let (p, at, h, typed_bodies, left_symbol, on_left, right_symbol, on_right) = call_served d made ps pairs r listed c called g fits_left fits_right bodies τ puts ws further enough in
+    let same : map (inst g τ) c.arguments ≡ map (act τ free) vs = sym (instances g τ c.arguments) ∙ ap (map (act τ free)) (sym (values_of_list g c.arguments vs right)) in
+    record {
+      pair = p;
+      listed = at;
+      bodies = h;
+      typed_bodies = typed_bodies;
+      left_symbol = sym left_symbol;
+      left = subst (λ l. Values h (tms_of p.left) (tms_of l)) (sym (values_of_list g (spine_arguments r.left) us left)) on_left;
+      right_symbol = sym right_symbol;
+      right = subst (λ l. Values h (tms_of p.right) (tms_of (take c.need l ++ ws))) same on_right;
+    }
