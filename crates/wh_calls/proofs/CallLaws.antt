@@ -1,6 +1,6 @@
 -- Marked calls of computable terms: that they are typed, that they step as calls do, and that a call of a right side is
 -- computable where those are to which the calls before it lead.
-use Rattle.std.proofs.Common.{◌≡◌, ℕ, zero, suc, ◌-◌, ◌≤◌, ◌<◌, min, List, [], ◌∷◌, ◌++◌, ◌⊎◌, inl, inr, Contains, Some, slice_get, get_or, length, map, take, drop, refl, ap, ap₂, sym, ◌∙◌, subst, subst₂, arith, append-nil}
+use Rattle.std.proofs.Common.{◌≡◌, ℕ, zero, suc, ◌-◌, ◌≤◌, ◌<◌, List, [], ◌∷◌, ◌++◌, ◌⊎◌, inl, inr, Contains, Some, slice_get, get_or, length, map, take, drop, refl, ap, ap₂, sym, ◌∙◌, subst, subst₂, arith, append-nil}
 use Rattle.std.proofs.lemmas.Bool.{cases_lt}
 use Rattle.std.proofs.lemmas.List.{take_at, drop_at, take_all, drop_all, take-append-drop, drop-append-le, length-take, length-take-le, length-drop, length-map}
 use Rattle.std.proofs.lemmas.Option.{get_or_from_slice_get}
@@ -145,19 +145,17 @@ after-lacks n cs b h =
 
 -- Calls of a right side, where the left side is a call that leads to computable calls alone.
 module _ (d : SystemData) (made : IsWellMadeSystem d) (ranks : List ℕ)
-  (ps : List PairData) (pairs : ArePairs (candidates d.symbols d.rules) ps)
-  (r : RewriteRule) (listed : Contains d.rules r)
-  (g : ℕ → Body) (fits : FitsBodies g r.left) (fit : FitsBodies g r.right) (bodies : TypedBodies d.symbols r.metas [] [] g r.left)
-  (from : MarkedCall) (typed : IsTypedCall d.symbols d.rules from)
-  (symbol : from.symbol ≡ symbol_of (head r.left)) (list : from.arguments ≡ map (value g) (spine_arguments r.left))
-  (later : LeadsToComputable d.symbols d.rules (rank_of ranks) (RawStep d.rules) (Contains ps) from) where
-
+    (ps : List PairData) (pairs : ArePairs (candidates d.symbols d.rules) ps)
+    (r : RewriteRule) (listed : Contains d.rules r)
+    (g : ℕ → Body) (fits : FitsBodies g r.left) (fit : FitsBodies g r.right) (bodies : TypedBodies d.symbols r.metas [] [] g r.left)
+    (from : MarkedCall) (typed : IsTypedCall d.symbols d.rules from)
+    (symbol : from.symbol ≡ symbol_of (head r.left)) (list : from.arguments ≡ map (value g) (spine_arguments r.left))
+    (later : LeadsToComputable d.symbols d.rules (rank_of ranks) (RawStep d.rules) (Contains ps) from) where
   -- A call with computable terms for its loose variables, and computable arguments.
   module _ (c : Call) (at : Contains (calls_of d.rules r) c)
-    (τ : ℕ → Tm) (puts : PutsComputable d.symbols (rank_of ranks) (RawStep d.rules) c.binders τ)
-    (cs : List Ty) (b : Ty) (known : slice_get d.symbols.funs c.symbol ≡ Some (arrows cs b))
-    (h : ComputableListIn d ranks cs (map (inst g τ) c.arguments)) where
-
+      (τ : ℕ → Tm) (puts : PutsComputable d.symbols (rank_of ranks) (RawStep d.rules) c.binders τ)
+      (cs : List Ty) (b : Ty) (known : slice_get d.symbols.funs c.symbol ≡ Some (arrows cs b))
+      (h : ComputableListIn d ranks cs (map (inst g τ) c.arguments)) where
     abbrev given : List Tm
     given = map (inst g τ) c.arguments
 
@@ -207,15 +205,19 @@ module _ (d : SystemData) (made : IsWellMadeSystem d) (ranks : List ℕ)
         record {
           from_typed = typed;
           to_typed = typed_call S d.rules rank R (completed_call ws) (arrows cs b) c.need known needed (all_arguments ws k);
-          leads = inr (p, there, record {
-            bodies = f;
-            typed_bodies = p_typed;
-            left_symbol = symbol ∙ sym left_fun;
-            left = subst (λ l. Values f (tms_of p.left) (tms_of l)) (sym list) left;
-            right_symbol = sym right_fun;
-            right = right;
-            minimal = list_ends (instances_root S d.rules made.rules) rank kinds (completed_call ws).arguments (all_arguments ws k);
-          });
+          leads = inr (
+            p,
+            there,
+            record {
+              bodies = f;
+              typed_bodies = p_typed;
+              left_symbol = symbol ∙ sym left_fun;
+              left = subst (λ l. Values f (tms_of p.left) (tms_of l)) (sym list) left;
+              right_symbol = sym right_fun;
+              right = right;
+              minimal = list_ends (instances_root S d.rules made.rules) rank kinds (completed_call ws).arguments (all_arguments ws k);
+            },
+          );
         }
 
     completed : (ws : List Tm) → ComputableListIn d ranks lacked ws

@@ -26,7 +26,7 @@ use Rattle.wh_access.specs.Passing.{IsPassing}
 use Rattle.wh_access.proofs.FindLemmas.{sorts_known}
 use Rattle.wh_pairs.specs.Candidates.{candidates}
 use Rattle.wh_pairs.specs.Subsumption.{ArePairs}
-use Rattle.wh_calls.specs.MarkedCalls.{MarkedCall, PairStep, ArgumentsStep, SomePairStep, CallStep, CallsEnd}
+use Rattle.wh_calls.specs.MarkedCalls.{MarkedCall, ArgumentsStep, SomePairStep, CallStep, CallsEnd}
 use Rattle.wh_calls.proofs.SymbolLaws.{symbols_computable}
 
 -- where the calls of the pairs end, each typed term is bounded
@@ -57,15 +57,19 @@ raw_leads {S = S} {rules = rules} w P c d s = record { from_typed = s.from_typed
     step : ArgumentsStep (RawStep rules) c d ⊎ SomePairStep S (RawStep rules) P c d
         → ArgumentsStep (Step rules) c d ⊎ SomePairStep S (Step rules) P c d
     step (inl m) = inl (record { symbol = m.symbol; arguments = typed_steps w m.arguments s.from_typed.typed })
-    step (inr (p, holds, m)) = inr (p, holds, record {
-      bodies = m.bodies;
-      typed_bodies = m.typed_bodies;
-      left_symbol = m.left_symbol;
-      left = m.left;
-      right_symbol = m.right_symbol;
-      right = m.right;
-      minimal = ends-fewer (λ t u r. step_raw S w r) d.arguments m.minimal;
-    })
+    step (inr (p, holds, m)) = inr (
+      p,
+      holds,
+      record {
+        bodies = m.bodies;
+        typed_bodies = m.typed_bodies;
+        left_symbol = m.left_symbol;
+        left = m.left;
+        right_symbol = m.right_symbol;
+        right = m.right;
+        minimal = ends-fewer (λ t u r. step_raw S w r) d.arguments m.minimal;
+      },
+    )
 
 -- calls end on raw bodies where they do by the steps of the system
 pub calls_end-raw : {S : Symbols} {rules : List RewriteRule} → AreWellMade S rules → (P : PairData → Type 0)
@@ -95,15 +99,19 @@ leads_raw {S = S} {rules = rules} w P c d s = record { from_typed = s.from_typed
     step : ArgumentsStep (Step rules) c d ⊎ SomePairStep S (Step rules) P c d
         → ArgumentsStep (RawStep rules) c d ⊎ SomePairStep S (RawStep rules) P c d
     step (inl m) = inl (record { symbol = m.symbol; arguments = raw_steps w m.arguments })
-    step (inr (p, holds, m)) = inr (p, holds, record {
-      bodies = m.bodies;
-      typed_bodies = m.typed_bodies;
-      left_symbol = m.left_symbol;
-      left = m.left;
-      right_symbol = m.right_symbol;
-      right = m.right;
-      minimal = raw_list_ends w d.arguments s.to_typed.typed m.minimal;
-    })
+    step (inr (p, holds, m)) = inr (
+      p,
+      holds,
+      record {
+        bodies = m.bodies;
+        typed_bodies = m.typed_bodies;
+        left_symbol = m.left_symbol;
+        left = m.left;
+        right_symbol = m.right_symbol;
+        right = m.right;
+        minimal = raw_list_ends w d.arguments s.to_typed.typed m.minimal;
+      },
+    )
 
 -- calls end by the steps of the system where they do on raw bodies
 pub raw-calls_end : {S : Symbols} {rules : List RewriteRule} → AreWellMade S rules → (P : PairData → Type 0)

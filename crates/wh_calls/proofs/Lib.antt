@@ -6,8 +6,8 @@ pub mod WholeBodies
 pub mod MetaSubstitution
 pub mod Ways
 pub mod ReadBodies
-pub mod CandidateValues
 pub mod RightSides
+pub mod CandidateValues
 pub mod Served
 pub mod CallLaws
 pub mod SymbolLaws

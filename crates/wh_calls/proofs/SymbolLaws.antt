@@ -1,22 +1,19 @@
 -- Where calls lead to no endless sequence of calls, the symbols are computable.
-use Rattle.std.proofs.Common.{◌≡◌, ℕ, ◌+◌, ◌≤◌, List, [], ◌∷◌, ◌++◌, ◌⊎◌, inl, inr, Contains, Option, Some, None, slice_get, get_or, length, map, take, drop, refl, ap, sym, ◌∙◌, subst, subst₂, arith}
+use Rattle.std.proofs.Common.{◌≡◌, ℕ, ◌+◌, ◌≤◌, List, [], ◌++◌, ◌⊎◌, inl, inr, Contains, Option, Some, None, slice_get, get_or, length, map, take, drop, refl, ap, sym, ◌∙◌, subst, subst₂, arith}
 use Rattle.std.proofs.lemmas.List.{take-append-drop, length-take-le}
 use Rattle.std.proofs.lemmas.Option.{get_or_from_slice_get, same_Some}
 use Rattle.wh_types.specs.Ty.{Ty, sort, arguments, result_sort, SortsBelow}
 use Rattle.wh_terms.specs.Tree.{Tm, fun, spine, head, argument_count, tms_of}
 use Rattle.wh_terms.specs.Typing.{Typed, typed_fun, AllTyped}
-use Rattle.wh_terms.specs.Value.{Body}
-use Rattle.wh_terms.specs.Rules.{RewriteRule}
 use Rattle.wh_terms.specs.StepOver.{StepOver}
 use Rattle.wh_terms.proofs.TypingLaws.{some_one}
-use Rattle.wh_terms.proofs.ValueForm.{value, FitsBodies}
+use Rattle.wh_terms.proofs.ValueForm.{value}
 use Rattle.wh_terms.proofs.ValueTyping.{head-value, spine_bodies}
 use Rattle.wh_step.proofs.Instances.{Instance, instance_of, spine_left}
 use Rattle.wh_step.proofs.RawStep.{RawStep}
 use Rattle.wh_laws.specs.Ends.{Ends, ends, StepsIn}
 use Rattle.wh_laws.specs.Ranks.{rank_of, PlaceHas, IsAccessibleIn}
 use Rattle.wh_laws.specs.Spines.{ArgumentStep, FrontStep}
-use Rattle.wh_laws.specs.Computable.{Computable, ComputableList}
 use Rattle.wh_laws.proofs.EndsLaws.{ends-list}
 use Rattle.wh_laws.proofs.Fundamental.{ComputableSymbols}
 use Rattle.wh_laws.proofs.Symbols.{sort_computable, list_at, list_ends, list_step, HasNoRoot, still_computable}
@@ -72,7 +69,7 @@ need-taken d made f n a known needed =
 
 -- a system that is passing under ranks, and its pairs
 module _ (d : SystemData) (made : IsWellMadeSystem d) (ranks : List ℕ) (passing : IsPassing d ranks)
-  (ps : List PairData) (pairs : ArePairs (candidates d.symbols d.rules) ps) where
+    (ps : List PairData) (pairs : ArePairs (candidates d.symbols d.rules) ps) where
   -- computable terms, and lists of these
   abbrev Good : Ty → Tm → Type 0
   Good = ComputableIn d ranks
@@ -101,8 +98,7 @@ module _ (d : SystemData) (made : IsWellMadeSystem d) (ranks : List ℕ) (passin
 
   -- A call that leads to computable calls alone.
   module _ (f n : ℕ) (a : Ty) (known : slice_get d.symbols.funs f ≡ Some a) (needed : need_of d.rules f ≡ Some n)
-    (ss : List Tm) (list : AllGood (take n (arguments a)) ss) (later : LeadsTo (record { symbol = f; arguments = ss })) where
-
+      (ss : List Tm) (list : AllGood (take n (arguments a)) ss) (later : LeadsTo (record { symbol = f; arguments = ss })) where
     -- the value of a right side, where the left side has the call for its value
     right_computable : (t w : Tm) → t ≡ spine (fun f) ss → Instance d.rules t w → Good (after_arguments n a) w
     right_computable t w e (instance_of r g c fits fit left right) =
