@@ -29,7 +29,7 @@ use Rattle.wh_calls.proofs.Puts.{inst, arrows}
 use Rattle.wh_calls.proofs.WholeBodies.{IsShut, ShutBodies, declared_anywhere, typed_fits, typed_shut, occurs_known}
 use Rattle.wh_calls.proofs.MetaSubstitution.{OnPut, fits-put, value-act}
 
--- CALLS OF A TYPED RIGHT SIDE
+-- calls of a typed right side
 
 -- a call has a declared symbol, typed arguments below its binders, and P holds of each meta-variable in these
 pub record IsTypedIn (S : Symbols) (M : List Declared) (P : ℕ → Type 0) (c : Call) : Type 0 where
@@ -40,13 +40,16 @@ pub record IsTypedIn (S : Symbols) (M : List Declared) (P : ℕ → Type 0) (c :
   pub occurs : (z : ℕ) → OccursIn z (tms_of c.arguments) → P z
 
 mutual
-  pub calls_typed : {S : Symbols} {M : List Declared} {Γ : List Ty} {t : Tm} {a : Ty} (P : ℕ → Type 0) (rules : List RewriteRule) (es : List Within) (qs : List Tm) (cs : List Ty) (b : Ty) → Typed S M Γ t a → a ≡ arrows cs b
-      → AllTyped S M Γ (tms_of qs) cs → ((z : ℕ) → Occurs z t → P z) → ((z : ℕ) → OccursIn z (tms_of qs) → P z) → (c : Call) → Contains (calls rules es Γ t qs) c → IsTypedIn S M P c
+  pub calls_typed : {S : Symbols} {M : List Declared} {Γ : List Ty} {t : Tm} {a : Ty} (P : ℕ → Type 0) (rules : List RewriteRule)
+      (es : List Within) (qs : List Tm) (cs : List Ty) (b : Ty) → Typed S M Γ t a → a ≡ arrows cs b
+      → AllTyped S M Γ (tms_of qs) cs → ((z : ℕ) → Occurs z t → P z) → ((z : ℕ) → OccursIn z (tms_of qs) → P z) → (c : Call)
+      → Contains (calls rules es Γ t qs) c → IsTypedIn S M P c
   calls_typed P rules es qs cs b (typed_bound e) is ps h k c at = absurd (none_there c at)
   calls_typed P rules es qs cs b (typed_free s) is ps h k c at = absurd (none_there c at)
   calls_typed {S = S} {M = M} P rules es qs cs b (typed_fun {Γ = Γ} {f = f} e) is ps h k c at = go (need_of rules f) at
     where
-      here : (n : ℕ) → (record { conditions = es; binders = Γ; symbol = f; need = n; arguments = qs } ≡ c) ⊎ Contains [] c → IsTypedIn S M P c
+      here : (n : ℕ) → (record { conditions = es; binders = Γ; symbol = f; need = n; arguments = qs } ≡ c) ⊎ Contains [] c
+          → IsTypedIn S M P c
       here n (inl same) = subst (IsTypedIn S M P) same (record { types = cs; result = b; known = e ∙ ap Some is; typed = ps; occurs = k })
       here n (inr at) = absurd (none_there c at)
 
@@ -54,35 +57,43 @@ mutual
       go None at = absurd (none_there c at)
       go (Some n) at = here n (head_or_behind [] _ c at)
   calls_typed P rules es qs cs b (typed_meta {z = z} e us o) is ps h k c at = calls_within_typed P rules es z 1 us (λ y p. h y (inr p)) c at
-  calls_typed P rules es qs cs b (typed_lam {b = d} s p) is ps h k c at = calls_typed P rules es [] [] d p refl typed_none h (λ z o. absurd o) c at
+  calls_typed P rules es qs cs b (typed_lam {b = d} s p) is ps h k c at =
+      calls_typed P rules es [] [] d p refl typed_none h (λ z o. absurd o) c at
   calls_typed {S = S} {M = M} P rules es qs cs b (typed_app {Γ = Γ} {a = a} {t = t} {u = u} p q) is ps h k c at =
       go (λ i. calls_typed P rules es (u ∷ qs) (a ∷ cs) b p (ap (λ d. a ⇒ d) is) (typed_more q ps) (λ z o. h z (inl o)) front c i)
-      (λ i. calls_typed P rules es [] [] a q refl typed_none (λ z o. h z (inr o)) (λ z o. absurd o) c i) (Contains-append_cases (calls rules es Γ t (u ∷ qs)) (calls rules es Γ u []) c at)
+      (λ i. calls_typed P rules es [] [] a q refl typed_none (λ z o. h z (inr o)) (λ z o. absurd o) c i)
+      (Contains-append_cases (calls rules es Γ t (u ∷ qs)) (calls rules es Γ u []) c at)
     where
       front : (z : ℕ) → Occurs z u ⊎ OccursIn z (tms_of qs) → P z
       front z (inl o) = h z (inr o)
       front z (inr o) = k z o
 
-      go : (Contains (calls rules es Γ t (u ∷ qs)) c → IsTypedIn S M P c) → (Contains (calls rules es Γ u []) c → IsTypedIn S M P c) → Contains (calls rules es Γ t (u ∷ qs)) c ⊎ Contains (calls rules es Γ u []) c → IsTypedIn S M P c
+      go : (Contains (calls rules es Γ t (u ∷ qs)) c → IsTypedIn S M P c) → (Contains (calls rules es Γ u []) c → IsTypedIn S M P c)
+          → Contains (calls rules es Γ t (u ∷ qs)) c ⊎ Contains (calls rules es Γ u []) c → IsTypedIn S M P c
       go l r (inl i) = l i
       go l r (inr i) = r i
 
-  calls_within_typed : {S : Symbols} {M : List Declared} {Γ : List Ty} {ts : Tms} {cs : List Ty} (P : ℕ → Type 0) (rules : List RewriteRule) (es : List Within) (z i : ℕ) → AllTyped S M Γ ts cs
+  calls_within_typed : {S : Symbols} {M : List Declared} {Γ : List Ty} {ts : Tms} {cs : List Ty} (P : ℕ → Type 0) (rules : List RewriteRule)
+      (es : List Within) (z i : ℕ) → AllTyped S M Γ ts cs
       → ((y : ℕ) → OccursIn y ts → P y) → (c : Call) → Contains (calls_within rules es Γ z i ts) c → IsTypedIn S M P c
   calls_within_typed P rules es z i typed_none h c at = absurd (none_there c at)
   calls_within_typed {S = S} {M = M} P rules es z i (typed_more {Γ = Γ} {t = t} {ts = ts} {a = a} p ps) h c at =
-      go (λ j. calls_typed P rules _ [] [] a p refl typed_none (λ y o. h y (inl o)) (λ y o. absurd o) c j) (λ j. calls_within_typed P rules es z (i + 1) ps (λ y o. h y (inr o)) c j)
+      go (λ j. calls_typed P rules _ [] [] a p refl typed_none (λ y o. h y (inl o)) (λ y o. absurd o) c j)
+      (λ j. calls_within_typed P rules es z (i + 1) ps (λ y o. h y (inr o)) c j)
       (Contains-append_cases _ (calls_within rules es Γ z (i + 1) ts) c at)
     where
-      go : {X : Type 0} → (X → IsTypedIn S M P c) → (Contains (calls_within rules es Γ z (i + 1) ts) c → IsTypedIn S M P c) → X ⊎ Contains (calls_within rules es Γ z (i + 1) ts) c → IsTypedIn S M P c
+      go : {X : Type 0} → (X → IsTypedIn S M P c) → (Contains (calls_within rules es Γ z (i + 1) ts) c → IsTypedIn S M P c)
+          → X ⊎ Contains (calls_within rules es Γ z (i + 1) ts) c → IsTypedIn S M P c
       go l r (inl j) = l j
       go l r (inr j) = r j
 
 -- the calls of a well-made rule are typed, and what occurs in them occurs in its right side
-pub rule_call : (S : Symbols) (rules : List RewriteRule) (r : RewriteRule) → IsWellMade S r → (c : Call) → Contains (calls_of rules r) c → IsTypedIn S r.metas (λ z. Occurs z r.right) c
-rule_call S rules r made c at = calls_typed (λ z. Occurs z r.right) rules [] [] [] made.typed.0 made.typed.2 refl typed_none (λ z o. o) (λ z o. absurd o) c at
+pub rule_call : (S : Symbols) (rules : List RewriteRule) (r : RewriteRule) → IsWellMade S r → (c : Call) → Contains (calls_of rules r) c
+    → IsTypedIn S r.metas (λ z. Occurs z r.right) c
+rule_call S rules r made c at =
+    calls_typed (λ z. Occurs z r.right) rules [] [] [] made.typed.0 made.typed.2 refl typed_none (λ z o. o) (λ z o. absurd o) c at
 
--- TERMS FOR FRESH META-VARIABLES
+-- terms for fresh meta-variables
 
 -- a body of arity 0
 abbrev pub plain : Tm → Body
@@ -102,14 +113,16 @@ beside-low x g ts z low = ap (λ b. first_where b (g z) (plain (get_or ts (z - x
 pub beside-high : (x : ℕ) (g : ℕ → Body) (ts : List Tm) (j : ℕ) → beside x g ts (x + j) ≡ plain (get_or ts j (bound 0))
 beside-high x g ts j =
     let at : (x + j) - x ≡ j = omega arith in
-    ap (λ b. first_where b (g (x + j)) (plain (get_or ts ((x + j) - x) (bound 0)))) (le-ltb (x + j) x (omega arith)) ∙ ap (λ i. plain (get_or ts i (bound 0))) at
+    ap (λ b. first_where b (g (x + j)) (plain (get_or ts ((x + j) - x) (bound 0)))) (le-ltb (x + j) x (omega arith))
+    ∙ ap (λ i. plain (get_or ts i (bound 0))) at
 
 -- the terms for the binders, the outermost first, and behind them further ones
 abbrev pub outermost : List Ty → (ℕ → Tm) → List Tm → List Tm
 outermost [] τ ws = ws
 outermost (a ∷ Γ) τ ws = outermost Γ (λ i. τ (suc i)) (τ 0 ∷ ws)
 
-outermost-behind : (Γ : List Ty) (τ : ℕ → Tm) (ws : List Tm) (i : ℕ) → get_or (outermost Γ τ ws) (length Γ + i) (bound 0) ≡ get_or ws i (bound 0)
+outermost-behind : (Γ : List Ty) (τ : ℕ → Tm) (ws : List Tm) (i : ℕ)
+    → get_or (outermost Γ τ ws) (length Γ + i) (bound 0) ≡ get_or ws i (bound 0)
 outermost-behind [] τ ws i = let e : 0 + i ≡ i = omega arith in ap (λ j. get_or ws j (bound 0)) e
 outermost-behind (a ∷ Γ) τ ws i =
     let e : suc (length Γ) + i ≡ length Γ + suc i = omega arith in
@@ -126,14 +139,17 @@ outermost-at (a ∷ Γ) τ ws (suc i) j sum = outermost-at Γ (λ k. τ (suc k))
 abbrev pub PutsTyped : Symbols → List Ty → (ℕ → Tm) → Type 0
 PutsTyped S Γ τ = (i : ℕ) (a : Ty) → slice_get Γ i ≡ Some a → Typed S [] [] (τ i) a
 
-pub outermost-typed : {S : Symbols} (Γ : List Ty) (τ : ℕ → Tm) (ws : List Tm) (cs : List Ty) → PutsTyped S Γ τ → AllTyped S [] [] (tms_of ws) cs → AllTyped S [] [] (tms_of (outermost Γ τ ws)) (reverse Γ ++ cs)
+pub outermost-typed : {S : Symbols} (Γ : List Ty) (τ : ℕ → Tm) (ws : List Tm) (cs : List Ty) → PutsTyped S Γ τ
+    → AllTyped S [] [] (tms_of ws) cs → AllTyped S [] [] (tms_of (outermost Γ τ ws)) (reverse Γ ++ cs)
 outermost-typed [] τ ws cs h p = p
 outermost-typed {S = S} (a ∷ Γ) τ ws cs h p =
-    let e : reverse Γ ++ a ∷ cs ≡ reverse (a ∷ Γ) ++ cs = sym (append_assoc (reverse Γ) (a ∷ []) cs) ∙ ap (λ l. l ++ cs) (sym (reverse-append (a ∷ []) Γ)) in
+    let e : reverse Γ ++ a ∷ cs ≡ reverse (a ∷ Γ) ++ cs =
+    sym (append_assoc (reverse Γ) (a ∷ []) cs) ∙ ap (λ l. l ++ cs) (sym (reverse-append (a ∷ []) Γ)) in
     subst (AllTyped S [] [] (tms_of (outermost Γ (λ i. τ (suc i)) (τ 0 ∷ ws)))) e
     (outermost-typed Γ (λ i. τ (suc i)) (τ 0 ∷ ws) (a ∷ cs) (λ i b s. h (suc i) b s) (typed_more (h 0 a refl) p))
 
-all_typed_at : {S : Symbols} {M : List Declared} {Γ : List Ty} (ts : List Tm) (cs : List Ty) (i : ℕ) (a : Ty) → AllTyped S M Γ (tms_of ts) cs → slice_get cs i ≡ Some a → Typed S M Γ (get_or ts i (bound 0)) a
+all_typed_at : {S : Symbols} {M : List Declared} {Γ : List Ty} (ts : List Tm) (cs : List Ty) (i : ℕ) (a : Ty)
+    → AllTyped S M Γ (tms_of ts) cs → slice_get cs i ≡ Some a → Typed S M Γ (get_or ts i (bound 0)) a
 all_typed_at [] cs i a typed_none e = absurd (cc)
 all_typed_at {S = S} {M = M} {Γ = Γ} (t ∷ ts) cs zero a (typed_more p ps) e = subst (Typed S M Γ t) (some_one e) p
 all_typed_at (t ∷ ts) cs (suc i) a (typed_more {bs = bs} p ps) e = all_typed_at ts bs i a ps e
@@ -145,9 +161,11 @@ slice_get-front (x ∷ xs) ys (suc i) low = slice_get-front xs ys i (omega arith
 
 slice_get-back : {A : Type 0} (xs ys : List A) (j : ℕ) → slice_get (xs ++ ys) (length xs + j) ≡ slice_get ys j
 slice_get-back [] ys j = let e : 0 + j ≡ j = omega arith in ap (slice_get ys) e
-slice_get-back (x ∷ xs) ys j = let e : suc (length xs) + j ≡ suc (length xs + j) = omega arith in ap (slice_get (x ∷ xs ++ ys)) e ∙ slice_get-back xs ys j
+slice_get-back (x ∷ xs) ys j =
+    let e : suc (length xs) + j ≡ suc (length xs + j) = omega arith in ap (slice_get (x ∷ xs ++ ys)) e ∙ slice_get-back xs ys j
 
-nullary_at : (cs : List Ty) (j : ℕ) (d : Declared) → slice_get (map nullary cs) j ≡ Some d → (a : Ty) × (slice_get cs j ≡ Some a) × (nullary a ≡ d)
+nullary_at : (cs : List Ty) (j : ℕ) (d : Declared) → slice_get (map nullary cs) j ≡ Some d
+    → (a : Ty) × (slice_get cs j ≡ Some a) × (nullary a ≡ d)
 nullary_at [] j d e = absurd (cc)
 nullary_at (a ∷ cs) zero d e = (a, refl, some_one e)
 nullary_at (a ∷ cs) (suc j) d e = nullary_at cs j d e
@@ -157,15 +175,17 @@ plain_fits : {S : Symbols} (a : Ty) (t : Tm) → Typed S [] [] t a → FitsDecla
 plain_fits a t p = record { counted = refl; typed = p }
 
 -- a declared meta-variable from x on has a body of its type
-pub beside_fits : {S : Symbols} (M : List Declared) (g : ℕ → Body) (ts : List Tm) (cs : List Ty) → AllTyped S [] [] (tms_of ts) cs → (z : ℕ) (d : Declared) → length M ≤ z → slice_get (M ++ map nullary cs) z ≡ Some d
+pub beside_fits : {S : Symbols} (M : List Declared) (g : ℕ → Body) (ts : List Tm) (cs : List Ty) → AllTyped S [] [] (tms_of ts) cs
+    → (z : ℕ) (d : Declared) → length M ≤ z → slice_get (M ++ map nullary cs) z ≡ Some d
     → FitsDeclared S [] [] d (beside (length M) g ts z)
 beside_fits {S = S} M g ts cs p z d high e =
     let j : ℕ = z - length M in
     let at : length M + j ≡ z = omega arith in
     let (a, there, is) = nullary_at cs j d (sym (slice_get-back M (map nullary cs) j) ∙ ap (slice_get (M ++ map nullary cs)) at ∙ e) in
-    subst₂ (FitsDeclared S [] []) is (sym (beside-high (length M) g ts j) ∙ ap (beside (length M) g ts) at) (plain_fits a (get_or ts j (bound 0)) (all_typed_at ts cs j a p there))
+    subst₂ (FitsDeclared S [] []) is (sym (beside-high (length M) g ts j) ∙ ap (beside (length M) g ts) at)
+    (plain_fits a (get_or ts j (bound 0)) (all_typed_at ts cs j a p there))
 
--- VALUES OF ARGUMENTS
+-- values of arguments
 
 -- a variable of a binder is freed to a fresh meta-variable; others come nearer
 pub data IsFreed (x : ℕ) (Γ : List Ty) (i : ℕ) : Type 0 where
@@ -230,10 +250,12 @@ module _ (S : Symbols) (M : List Declared) (g : ℕ → Body) (Γ : List Ty) (τ
       ap (value H) (freed-near (length M) Γ i j sum) ∙ ap (λ b. act bound free b.tree) (near i j sum) ∙ act-id (τ i)
 
   low_bodies : {t : Tm} {Δ : List Ty} {a : Ty} → Typed S M Δ t a → TypedBodies S M [] [] g t → TypedBodies S M [] [] H t
-  low_bodies p h z d o e = subst (FitsDeclared S [] [] d) (sym (beside-low (length M) g (outermost Γ τ ws) z (slice_get_within M z d e))) (h z d o e)
+  low_bodies p h z d o e =
+      subst (FitsDeclared S [] [] d) (sym (beside-low (length M) g (outermost Γ τ ws) z (slice_get_within M z d e))) (h z d o e)
 
   low_value : {t : Tm} {Δ : List Ty} {a : Ty} → Typed S M Δ t a → value H t ≡ value g t
-  low_value {t = t} p = value_agree H g t (λ z o. let (d, e) = occurs_known z p o in beside-low (length M) g (outermost Γ τ ws) z (slice_get_within M z d e))
+  low_value {t = t} p =
+      value_agree H g t (λ z o. let (d, e) = occurs_known z p o in beside-low (length M) g (outermost Γ τ ws) z (slice_get_within M z d e))
 
   -- an argument of the candidate has the value that the call's argument has with the terms for its binders
   argument_value : {q : Tm} {a : Ty} → Typed S M Γ q a → TypedBodies S M [] [] g q → Value H (act F free q) (inst g τ q)
@@ -246,9 +268,11 @@ module _ (S : Symbols) (M : List Declared) (g : ℕ → Body) (Γ : List Ty) (τ
       ∙ act_loose (length Γ) (λ i. value H (F i)) τ free (value g q) loose freed_value in
       subst (Value H (act F free q)) e (has_value H (act F free q) (fits-put (λ z. (H z).arity) F q freed_fits fits))
 
-  pub argument_values : (qs : List Tm) (cs : List Ty) → AllTyped S M Γ (tms_of qs) cs → TypedBodiesIn S M [] [] g (tms_of qs) → Values H (tms_of (map (act F free) qs)) (tms_of (map (inst g τ) qs))
+  pub argument_values : (qs : List Tm) (cs : List Ty) → AllTyped S M Γ (tms_of qs) cs → TypedBodiesIn S M [] [] g (tms_of qs)
+      → Values H (tms_of (map (act F free) qs)) (tms_of (map (inst g τ) qs))
   argument_values [] cs typed_none h = of_none
-  argument_values (q ∷ qs) cs (typed_more {bs = bs} p ps) h = of_more (argument_value p (λ z d o e. h z d (inl o) e)) (argument_values qs bs ps (λ z d o e. h z d (inr o) e))
+  argument_values (q ∷ qs) cs (typed_more {bs = bs} p ps) h =
+      of_more (argument_value p (λ z d o e. h z d (inl o) e)) (argument_values qs bs ps (λ z d o e. h z d (inr o) e))
 
   -- the fresh meta-variables for lacking arguments have the further terms as values
   pub lacking_values : Values H (tms_of (numbered_from (length M + length Γ) (length ws))) (tms_of ws)
@@ -258,19 +282,23 @@ module _ (S : Symbols) (M : List Declared) (g : ℕ → Body) (Γ : List Ty) (τ
       at : (i : ℕ) (w : Tm) → slice_get ws i ≡ Some w → H (length M + length Γ + i) ≡ plain w
       at i w e =
           let sum : length M + length Γ + i ≡ length M + (length Γ + i) = omega arith in
-          ap H sum ∙ beside-high (length M) g (outermost Γ τ ws) (length Γ + i) ∙ ap plain (outermost-behind Γ τ ws i ∙ get_or_from_slice_get ws i w (bound 0) e)
+          ap H sum ∙ beside-high (length M) g (outermost Γ τ ws) (length Γ + i)
+          ∙ ap plain (outermost-behind Γ τ ws i ∙ get_or_from_slice_get ws i w (bound 0) e)
 
       one : (y : ℕ) (w : Tm) → H y ≡ plain w → Value H (meta y none) w
       one y w e = of_meta (ap (λ b. b.arity) e) of_none (sym (ap (λ b. act bound free b.tree) e ∙ act-id w))
 
-      each : (y : ℕ) (us : List Tm) → ((i : ℕ) (w : Tm) → slice_get us i ≡ Some w → H (y + i) ≡ plain w) → Values H (tms_of (numbered_from y (length us))) (tms_of us)
+      each : (y : ℕ) (us : List Tm) → ((i : ℕ) (w : Tm) → slice_get us i ≡ Some w → H (y + i) ≡ plain w)
+          → Values H (tms_of (numbered_from y (length us))) (tms_of us)
       each y [] h = of_none
       each y (u ∷ us) h =
           let here : y ≡ y + 0 = omega arith in
-          of_more (one y u (ap H here ∙ h 0 u refl)) (each (y + 1) us (λ i w e. let next : (y + 1) + i ≡ y + suc i = omega arith in ap H next ∙ h (suc i) w e))
+          of_more (one y u (ap H here ∙ h 0 u refl))
+          (each (y + 1) us (λ i w e. let next : (y + 1) + i ≡ y + suc i = omega arith in ap H next ∙ h (suc i) w e))
 
   -- the arguments of the left side keep their values
-  pub left_values : (ts : List Tm) → AllFitBodies H (tms_of ts) → ((z : ℕ) → OccursIn z (tms_of ts) → z < length M) → Values H (tms_of ts) (tms_of (map (value g) ts))
+  pub left_values : (ts : List Tm) → AllFitBodies H (tms_of ts) → ((z : ℕ) → OccursIn z (tms_of ts) → z < length M)
+      → Values H (tms_of ts) (tms_of (map (value g) ts))
   left_values [] f h = of_none
   left_values (t ∷ ts) f h =
       let e : value H t ≡ value g t = value_agree H g t (λ z o. beside-low (length M) g (outermost Γ τ ws) z (h z (inl o))) in

@@ -40,7 +40,8 @@ mutual
   unfolding act acts up_free rename
 
   -- what holds of the meta-variables of a meta-term, and of those that are put in, holds of those after it
-  pub occurs-act-back : (P : ℕ → Type 0) (τ : ℕ → Tm) (t : Tm) → OnPut P τ → ((z : ℕ) → Occurs z t → P z) → (z : ℕ) → Occurs z (act τ free t) → P z
+  pub occurs-act-back : (P : ℕ → Type 0) (τ : ℕ → Tm) (t : Tm) → OnPut P τ → ((z : ℕ) → Occurs z t → P z) → (z : ℕ)
+      → Occurs z (act τ free t) → P z
   occurs-act-back P τ (bound i) h k z o = h i z o
   occurs-act-back P τ (free x a) h k z o = absurd o
   occurs-act-back P τ (fun f) h k z o = absurd o
@@ -50,7 +51,8 @@ mutual
   occurs-act-back P τ (app t u) h k z (inl o) = occurs-act-back P τ t h (λ w p. k w (inl p)) z o
   occurs-act-back P τ (app t u) h k z (inr o) = occurs-act-back P τ u h (λ w p. k w (inr p)) z o
 
-  pub occurs_in-acts-back : (P : ℕ → Type 0) (τ : ℕ → Tm) (ts : Tms) → OnPut P τ → ((z : ℕ) → OccursIn z ts → P z) → (z : ℕ) → OccursIn z (acts τ free ts) → P z
+  pub occurs_in-acts-back : (P : ℕ → Type 0) (τ : ℕ → Tm) (ts : Tms) → OnPut P τ → ((z : ℕ) → OccursIn z ts → P z) → (z : ℕ)
+      → OccursIn z (acts τ free ts) → P z
   occurs_in-acts-back P τ none h k z o = absurd o
   occurs_in-acts-back P τ (more t ts) h k z (inl o) = occurs-act-back P τ t h (λ w p. k w (inl p)) z o
   occurs_in-acts-back P τ (more t ts) h k z (inr o) = occurs_in-acts-back P τ ts h (λ w p. k w (inr p)) z o
@@ -87,7 +89,8 @@ mutual
   fits-put n τ (lam a t) h f = fits-put n (up τ) t (fits-up n τ h) f
   fits-put n τ (app t u) h f = (fits-put n τ t h f.0, fits-put n τ u h f.1)
 
-  pub all_fit-puts : (n : ℕ → ℕ) (τ : ℕ → Tm) (ts : Tms) → ((i : ℕ) → FitsArities n (τ i)) → AllFitArities n ts → AllFitArities n (acts τ free ts)
+  pub all_fit-puts : (n : ℕ → ℕ) (τ : ℕ → Tm) (ts : Tms) → ((i : ℕ) → FitsArities n (τ i)) → AllFitArities n ts
+      → AllFitArities n (acts τ free ts)
   all_fit-puts n τ none h f = tt
   all_fit-puts n τ (more t ts) h f = (fits-put n τ t h f.0, all_fit-puts n τ ts h f.1)
 
@@ -101,10 +104,12 @@ pub value-rename : (g : ℕ → Body) (ρ : ℕ → ℕ) (t : Tm) → ShutBodies
 value-rename g ρ t h f =
     let σ : ℕ → Tm = λ i. bound (ρ i) in
     ap (value g) (rename-is-act ρ t)
-    ∙ value_agree g (acted σ free g) (act σ free t) (λ z o. sym (acted_shut σ g z (occurs-act-back (IsShut g) σ t (λ i y p. absurd p) h z o)))
+    ∙ value_agree g (acted σ free g) (act σ free t)
+    (λ z o. sym (acted_shut σ g z (occurs-act-back (IsShut g) σ t (λ i y p. absurd p) h z o)))
     ∙ sym (act-value σ free g t (λ i. tt) (λ x a. tt) f) ∙ sym (rename-is-act ρ (value g t))
 
-value-up : (g : ℕ → Body) (τ : ℕ → Tm) → ((i : ℕ) → ShutBodies g (τ i)) → ((i : ℕ) → FitsBodies g (τ i)) → (i : ℕ) → value g (up τ i) ≡ up (λ j. value g (τ j)) i
+value-up : (g : ℕ → Body) (τ : ℕ → Tm) → ((i : ℕ) → ShutBodies g (τ i)) → ((i : ℕ) → FitsBodies g (τ i)) → (i : ℕ)
+    → value g (up τ i) ≡ up (λ j. value g (τ j)) i
 unfolding up value
 value-up g τ h f zero = refl
 value-up g τ h f (suc i) = value-rename g suc (τ i) (h i) (f i)
@@ -113,7 +118,8 @@ mutual
   unfolding act acts value values up_free rename
 
   -- the value of a meta-term with meta-terms put for its loose variables
-  pub value-act : (g : ℕ → Body) (τ : ℕ → Tm) (t : Tm) → ShutBodies g t → ((i : ℕ) → ShutBodies g (τ i)) → FitsBodies g t → ((i : ℕ) → FitsBodies g (τ i))
+  pub value-act : (g : ℕ → Body) (τ : ℕ → Tm) (t : Tm) → ShutBodies g t → ((i : ℕ) → ShutBodies g (τ i)) → FitsBodies g t
+      → ((i : ℕ) → FitsBodies g (τ i))
       → value g (act τ free t) ≡ act (λ i. value g (τ i)) free (value g t)
   value-act g τ (bound i) h k f e = refl
   value-act g τ (free x a) h k f e = refl
@@ -128,7 +134,9 @@ mutual
       ∙ ap (act (up (λ i. value g (τ i))) free) (sym (value-shifted g t h)))
   value-act g τ (app t u) h k f e = ap₂ app (value-act g τ t (λ z o. h z (inl o)) k f.0 e) (value-act g τ u (λ z o. h z (inr o)) k f.1 e)
 
-  pub values-acts : (g : ℕ → Body) (τ : ℕ → Tm) (ts : Tms) → ShutBodiesIn g ts → ((i : ℕ) → ShutBodies g (τ i)) → AllFitBodies g ts → ((i : ℕ) → FitsBodies g (τ i))
+  pub values-acts : (g : ℕ → Body) (τ : ℕ → Tm) (ts : Tms) → ShutBodiesIn g ts → ((i : ℕ) → ShutBodies g (τ i)) → AllFitBodies g ts
+      → ((i : ℕ) → FitsBodies g (τ i))
       → values g (acts τ free ts) ≡ acts (λ i. value g (τ i)) free (values g ts)
   values-acts g τ none h k f e = refl
-  values-acts g τ (more t ts) h k f e = ap₂ more (value-act g τ t (λ z o. h z (inl o)) k f.0 e) (values-acts g τ ts (λ z o. h z (inr o)) k f.1 e)
+  values-acts g τ (more t ts) h k f e =
+      ap₂ more (value-act g τ t (λ z o. h z (inl o)) k f.0 e) (values-acts g τ ts (λ z o. h z (inr o)) k f.1 e)

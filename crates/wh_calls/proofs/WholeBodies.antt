@@ -51,12 +51,14 @@ ups_free-free (suc n) x a = ups_free-free n x a
 pub shifted_shut : (g : ℕ → Body) (z : ℕ) → IsShut g z → shifted g z ≡ g z
 shifted_shut g z l =
     let put : Tm → Body = λ b. record { arity = (g z).arity; tree = b } in
-    ap put (rename_loose (g z).arity (up_times (g z).arity suc) (g z).tree l (λ i b. up_times_low (g z).arity 0 suc (λ j c. absurd (omega arith)) i (omega arith)))
+    ap put (rename_loose (g z).arity (up_times (g z).arity suc) (g z).tree l
+    (λ i b. up_times_low (g z).arity 0 suc (λ j c. absurd (omega arith)) i (omega arith)))
 
 -- a substitution that leaves the parameters alone does not change a body without further loose variables
 pub act_shut_body : (σ : ℕ → Tm) (b : Body) → LooseBelow b.arity b.tree → act (ups b.arity σ) (ups_free b.arity free) b.tree ≡ b.tree
 act_shut_body σ b l =
-    act_loose b.arity (ups b.arity σ) bound (ups_free b.arity free) b.tree l (λ i low. ups_low b.arity 0 σ (λ j c. absurd (omega arith)) i (omega arith))
+    act_loose b.arity (ups b.arity σ) bound (ups_free b.arity free) b.tree l
+    (λ i low. ups_low b.arity 0 σ (λ j c. absurd (omega arith)) i (omega arith))
     ∙ act_same (λ i. refl) (ups_free-free b.arity) b.tree ∙ act-id b.tree
 
 -- below a binder the bodies give the same values
@@ -64,7 +66,8 @@ pub value-shifted : (g : ℕ → Body) (t : Tm) → ShutBodies g t → value (sh
 value-shifted g t h = value_agree (shifted g) g t (λ z o. shifted_shut g z (h z o))
 
 -- the instance of an abstraction
-pub inst-lam : (g : ℕ → Body) (σ : ℕ → Tm) (a : Ty) (t : Tm) → ShutBodies g t → inst g σ (lam a t) ≡ lam a (act (up σ) (up_free free) (value g t))
+pub inst-lam : (g : ℕ → Body) (σ : ℕ → Tm) (a : Ty) (t : Tm) → ShutBodies g t
+    → inst g σ (lam a t) ≡ lam a (act (up σ) (up_free free) (value g t))
 unfolding act value
 inst-lam g σ a t h = ap (λ v. lam a (act (up σ) (up_free free) v)) (value-shifted g t h)
 
@@ -109,21 +112,25 @@ declared_anywhere {S = S} {d = d} Γ b h = record {
 
 mutual
   -- typed bodies fit a typed meta-term, and have no loose variable but their parameters
-  pub typed_fits : {S : Symbols} {M : List Declared} {Γ : List Ty} {t : Tm} {a : Ty} (g : ℕ → Body) → Typed S M Γ t a → TypedBodies S M [] [] g t → FitsBodies g t
+  pub typed_fits : {S : Symbols} {M : List Declared} {Γ : List Ty} {t : Tm} {a : Ty} (g : ℕ → Body) → Typed S M Γ t a
+      → TypedBodies S M [] [] g t → FitsBodies g t
   typed_fits g (typed_bound e) h = tt
   typed_fits g (typed_free s) h = tt
   typed_fits g (typed_fun e) h = tt
-  typed_fits g (typed_meta {z = z} {d = d} e ts o) h = ((h z d (inl refl) e).counted ∙ sym (typed_count ts), all_typed_fit g ts (λ y c p q. h y c (inr p) q))
+  typed_fits g (typed_meta {z = z} {d = d} e ts o) h =
+      ((h z d (inl refl) e).counted ∙ sym (typed_count ts), all_typed_fit g ts (λ y c p q. h y c (inr p) q))
   typed_fits g (typed_lam s p) h = typed_fits g p h
   typed_fits g (typed_app p q) h = (typed_fits g p (λ z d o e. h z d (inl o) e), typed_fits g q (λ z d o e. h z d (inr o) e))
 
-  pub all_typed_fit : {S : Symbols} {M : List Declared} {Γ : List Ty} {ts : Tms} {cs : List Ty} (g : ℕ → Body) → AllTyped S M Γ ts cs → TypedBodiesIn S M [] [] g ts → AllFitBodies g ts
+  pub all_typed_fit : {S : Symbols} {M : List Declared} {Γ : List Ty} {ts : Tms} {cs : List Ty} (g : ℕ → Body) → AllTyped S M Γ ts cs
+      → TypedBodiesIn S M [] [] g ts → AllFitBodies g ts
   all_typed_fit g typed_none h = tt
   all_typed_fit g (typed_more p ps) h = (typed_fits g p (λ z d o e. h z d (inl o) e), all_typed_fit g ps (λ z d o e. h z d (inr o) e))
 
 mutual
   -- a meta-variable that occurs in a typed meta-term is declared
-  pub occurs_known : {S : Symbols} {M : List Declared} {Γ : List Ty} {t : Tm} {a : Ty} (z : ℕ) → Typed S M Γ t a → Occurs z t → (d : Declared) × (slice_get M z ≡ Some d)
+  pub occurs_known : {S : Symbols} {M : List Declared} {Γ : List Ty} {t : Tm} {a : Ty} (z : ℕ) → Typed S M Γ t a → Occurs z t
+      → (d : Declared) × (slice_get M z ≡ Some d)
   occurs_known z (typed_bound e) o = absurd o
   occurs_known z (typed_free s) o = absurd o
   occurs_known z (typed_fun e) o = absurd o
@@ -133,13 +140,16 @@ mutual
   occurs_known z (typed_app p q) (inl o) = occurs_known z p o
   occurs_known z (typed_app p q) (inr o) = occurs_known z q o
 
-  pub occurs_in_known : {S : Symbols} {M : List Declared} {Γ : List Ty} {ts : Tms} {cs : List Ty} (z : ℕ) → AllTyped S M Γ ts cs → OccursIn z ts → (d : Declared) × (slice_get M z ≡ Some d)
+  pub occurs_in_known : {S : Symbols} {M : List Declared} {Γ : List Ty} {ts : Tms} {cs : List Ty} (z : ℕ) → AllTyped S M Γ ts cs
+      → OccursIn z ts → (d : Declared) × (slice_get M z ≡ Some d)
   occurs_in_known z typed_none o = absurd o
   occurs_in_known z (typed_more p ps) (inl o) = occurs_known z p o
   occurs_in_known z (typed_more p ps) (inr o) = occurs_in_known z ps o
 
-pub typed_shut : {S : Symbols} {M : List Declared} {Γ : List Ty} {t : Tm} {a : Ty} (g : ℕ → Body) → Typed S M Γ t a → TypedBodies S M [] [] g t → ShutBodies g t
+pub typed_shut : {S : Symbols} {M : List Declared} {Γ : List Ty} {t : Tm} {a : Ty} (g : ℕ → Body) → Typed S M Γ t a
+    → TypedBodies S M [] [] g t → ShutBodies g t
 typed_shut g p h z o = let (d, e) = occurs_known z p o in declared_shut (g z) (h z d o e)
 
-pub all_typed_shut : {S : Symbols} {M : List Declared} {Γ : List Ty} {ts : Tms} {cs : List Ty} (g : ℕ → Body) → AllTyped S M Γ ts cs → TypedBodiesIn S M [] [] g ts → ShutBodiesIn g ts
+pub all_typed_shut : {S : Symbols} {M : List Declared} {Γ : List Ty} {ts : Tms} {cs : List Ty} (g : ℕ → Body) → AllTyped S M Γ ts cs
+    → TypedBodiesIn S M [] [] g ts → ShutBodiesIn g ts
 all_typed_shut g p h z o = let (d, e) = occurs_in_known z p o in declared_shut (g z) (h z d o e)

@@ -18,7 +18,8 @@ use Rattle.wh_calls.specs.Bodies.{IsComputableBody}
 
 -- the meta-variables of the right side have computable bodies (Fuhs and Kop 2019)
 abbrev pub HasComputableBodies : Symbols → (ℕ → ℕ) → (Tm → Tm → Type 0) → RewriteRule → (ℕ → Body) → Type 0
-HasComputableBodies S rank R r g = (z : ℕ) (q : Declared) → Occurs z r.right → slice_get r.metas z ≡ Some q → IsComputableBody S rank R q (g z)
+HasComputableBodies S rank R r g =
+    (z : ℕ) (q : Declared) → Occurs z r.right → slice_get r.metas z ≡ Some q → IsComputableBody S rank R q (g z)
 
 -- a call is computable under g if its symbol with its arguments is computable where these are and it is well typed: the
 -- arguments take their values under g, and any computable terms stand for the binders around the call (Fuhs and Kop 2019)
@@ -37,10 +38,13 @@ pub record IsLedByCall (S : Symbols) (r : RewriteRule) (c : Call) (from to : Mar
   pub left_symbol : from.symbol ≡ symbol_of (head r.left)
   pub left : Values bodies (tms_of (spine_arguments r.left)) (tms_of from.arguments)
   pub right_symbol : to.symbol ≡ c.symbol
+  -- the values of the call's arguments, below its binders
   pub given : List Tm
   pub right : Values bodies (tms_of c.arguments) (tms_of given)
+  -- a term for each binder, the nearest first
   pub for_binders : ℕ → Tm
   pub typed_binders : (i : ℕ) (a : Ty) → slice_get c.binders i ≡ Some a → Typed S [] [] (for_binders i) a
+  -- a term for each argument that the call lacks
   pub further : List Tm
   pub typed_further : AllTyped S [] [] (tms_of further) (missing_types S c)
   pub enough : length further ≡ c.need - length c.arguments
