@@ -379,44 +379,94 @@ fn keeps_the_limit_of_pairs(rt: HostRuntime) -> Result<(), Fail> {
     Ok(())
 }
 
+/// Texts that are refused, with what is told of them.
+const REFUSED: &[(&[u8], &[u8])] = &[
+    (UNEVEN, b"REFUSED uneven-rules 96\n"),
+    (REPEATED, b"REFUSED not-pattern 56\n"),
+    (b"sort nat;\n\x80", b"REFUSED bad-byte 10\n"),
+    (b"sort o-;", b"REFUSED bad-byte 6\n"),
+    (
+        b"sort o;rule {} %65536:o => %0:o;",
+        b"REFUSED bad-number 16\n",
+    ),
+    (b"sort o;rule {} %00:o => %0:o;", b"REFUSED bad-number 16\n"),
+    (
+        b"sort abcdefghijklmnopqrstuvwxyz0123456789_'ABCDEFGHIJKLMNOPQRSTUVWXYZa;",
+        b"REFUSED name-too-long 5\n",
+    ),
+    (
+        b"sort o;\nfun a : o;\nfun b : o;\nrule {} a => b;\nrule {} b => a",
+        b"REFUSED syntax 60\n",
+    ),
+    (b"sort o;fun sort:o;", b"REFUSED syntax 11\n"),
+    (b"fun a:o;sort o;", b"REFUSED syntax 8\n"),
+    (b"sort o;fun f:p;", b"REFUSED unknown-name 13\n"),
+    (
+        b"sort o;fun f:o->o;rule {f:o} f f => f;",
+        b"REFUSED twice 24\n",
+    ),
+    (
+        b"sort o;fun a:o;rule {} a a => a;",
+        b"REFUSED ill-typed 25\n",
+    ),
+    (
+        b"sort o;fun f:o->o;rule {F:[o]o,X:o} f F[X] => X;",
+        b"REFUSED not-pattern 38\n",
+    ),
+    (
+        b"sort o;rule {} %65535:o => %0:o;",
+        b"REFUSED open-side 15\n",
+    ),
+    (
+        b"sort o;fun a:o;rule {} a => %0:o;",
+        b"REFUSED open-side 28\n",
+    ),
+    (
+        b"sort o;fun f:o->o;rule {X:o,Y:o} f X => Y;",
+        b"REFUSED new-meta 40\n",
+    ),
+    (
+        b"sort o;fun a:o;rule {X:o} a => X;",
+        b"REFUSED new-meta 31\n",
+    ),
+    (
+        b"sort o;rule {X:o} X => X;",
+        b"REFUSED head-not-function 18\n",
+    ),
+    (
+        b"sort o;fun f:o->o;rule {X:o} X => X;",
+        b"REFUSED head-not-function 29\n",
+    ),
+    (
+        b"sort o;fun f:(((((((((((((((((o)))))))))))))))));",
+        b"REFUSED too-many 29\n",
+    ),
+];
+
 #[test]
 fn tells_why_a_system_is_refused(rt: HostRuntime) -> Result<(), Fail> {
-    for (system, text) in [
-        (UNEVEN, b"REFUSED uneven-rules 96\n".as_slice()),
-        (REPEATED, b"REFUSED not-pattern 56\n".as_slice()),
-        (
-            b"sort nat;\n\x80".as_slice(),
-            b"REFUSED bad-byte 10\n".as_slice(),
-        ),
-        (&LOOP[..60], b"REFUSED syntax 60\n".as_slice()),
-        (
-            b"sort o;rule {} %65536:o => %0:o;".as_slice(),
-            b"REFUSED bad-number 16\n".as_slice(),
-        ),
-        (
-            b"sort o;fun a:p;".as_slice(),
-            b"REFUSED unknown-name 13\n".as_slice(),
-        ),
-        (
-            b"sort o;fun a:o;rule {} a a => a;".as_slice(),
-            b"REFUSED ill-typed 25\n".as_slice(),
-        ),
-        (
-            b"sort o;fun a:o;rule {X:o} a => X;".as_slice(),
-            b"REFUSED new-meta 31\n".as_slice(),
-        ),
-        (
-            b"sort o;rule {X:o} X => X;".as_slice(),
-            b"REFUSED head-not-function 18\n".as_slice(),
-        ),
-        (
-            b"sort o;fun a:o;rule {} a => %0:o;".as_slice(),
-            b"REFUSED open-side 28\n".as_slice(),
-        ),
-    ] {
-        let (ended, out) = told(rt.alloc(), &["show", "system"], system, b"")?;
+    for (system, text) in REFUSED {
+        let (ended, out) = told(rt.alloc(), &["show", "system"], *system, b"")?;
         assert_eq!(rt; ended, Status::Refused);
-        assert_eq!(rt; out.bytes(), text);
+        assert_eq!(rt; out.bytes(), *text);
+    }
+    Ok(())
+}
+
+/// Texts that just keep a rule of the format.
+const READ: &[&[u8]] = &[
+    b"",
+    b"sort o;\nfun a : o;\nfun b : o;\nrule {} a => b;\nrule {} b => a;",
+    b"sort abcdefghijklmnopqrstuvwxyz0123456789_'ABCDEFGHIJKLMNOPQRSTUVWXYZ;",
+    b"sort o;fun f:((((((((((((((((o))))))))))))))));",
+    b"sort o;fun f:(o->o)->o;rule {F:[o]o} f (\\x:(o).F[x]) => f (\\$0:o.(F[$0])); # end",
+];
+
+#[test]
+fn reads_systems(rt: HostRuntime) -> Result<(), Fail> {
+    for system in READ {
+        let (status, _) = told(rt.alloc(), &["show", "system"], *system, b"")?;
+        assert_eq!(rt; status, Status::Answered);
     }
     Ok(())
 }
@@ -579,6 +629,27 @@ fn keeps_the_limits_of_systems(rt: HostRuntime) -> Result<(), Fail> {
         let (status, out) = told(alloc, &given, text.as_bytes(), b"")?;
         assert_eq!(rt; status, Status::Refused);
         assert_eq!(rt; out.bytes(), limit.told);
+    }
+    Ok(())
+}
+
+/// A text that ends within nested parentheses.
+const NESTED: Limit = Limit {
+    before: "sort o;fun a:o;rule {} ",
+    item: "(",
+    ..PLAIN
+};
+
+#[test]
+fn keeps_the_nesting_of_terms(rt: HostRuntime) -> Result<(), Fail> {
+    let alloc = rt.alloc();
+    for (parentheses, expected) in [
+        (400, b"REFUSED syntax 423\n".as_slice()),
+        (401, b"REFUSED too-many 423\n".as_slice()),
+    ] {
+        let text = repeated(alloc, &NESTED, parentheses)?;
+        let (_, out) = told(alloc, &["show", "system"], text.as_bytes(), b"")?;
+        assert_eq!(rt; out.bytes(), expected);
     }
     Ok(())
 }

@@ -83,25 +83,3 @@ pub enum SubtermFault {
         pair: u32,
     },
 }
-
-#[cfg(test)]
-mod tests {
-    use crate::projection::{Choice, Projection};
-    use std::test::Fail;
-
-    #[test]
-    fn keeps_choices_in_order(rt: HostRuntime) -> Result<(), Fail> {
-        let mut choices = Projection::new(rt.alloc())?;
-        choices.push(Choice {
-            symbol: 4,
-            argument: 2,
-        })?;
-        choices.push(Choice {
-            symbol: 7,
-            argument: 1,
-        })?;
-        let arguments = choices.as_slice().iter().map(|choice| choice.argument);
-        assert!(rt; arguments.eq([2, 1]));
-        Ok(())
-    }
-}
