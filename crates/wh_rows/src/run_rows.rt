@@ -634,7 +634,7 @@ fn keeps_the_limits_of_systems(rt: HostRuntime) -> Result<(), Fail> {
 }
 
 /// A text that ends within nested parentheses.
-const NESTED: Limit = Limit {
+const NESTED: &Limit = &Limit {
     before: "sort o;fun a:o;rule {} ",
     item: "(",
     ..PLAIN
@@ -647,7 +647,7 @@ fn keeps_the_nesting_of_terms(rt: HostRuntime) -> Result<(), Fail> {
         (400, b"REFUSED syntax 423\n".as_slice()),
         (401, b"REFUSED too-many 423\n".as_slice()),
     ] {
-        let text = repeated(alloc, &NESTED, parentheses)?;
+        let text = repeated(alloc, NESTED, parentheses)?;
         let (_, out) = told(alloc, &["show", "system"], text.as_bytes(), b"")?;
         assert_eq!(rt; out.bytes(), expected);
     }

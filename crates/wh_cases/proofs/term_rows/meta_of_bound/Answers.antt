@@ -3,7 +3,7 @@ use Rattle.wh_terms.specs.Tree.{meta}
 use Rattle.wh_terms.specs.Erase.{tms, list}
 use Rattle.wh_terms.specs.declared.term.Term.{Bound}
 use Rattle.wh_terms.proofs.TermLemmas.{tm_meta}
-use Rattle.wh_terms.proofs.samples.meta_of_bound.Goals as goal
+use Rattle.wh_cases.proofs.term_rows.meta_of_bound.Goals as goal
 
 pub returns : goal.returns
 returns c =
