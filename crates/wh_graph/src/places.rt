@@ -11,7 +11,7 @@ use crate::least::smaller;
 use wh_types::Numbers;
 
 /// How often a number is listed.
-#[derive(Clone, Copy, Debug, PartialEq, Eq)]
+#[derive(Clone, Copy)]
 pub enum Times {
     /// It is not listed.
     Never,

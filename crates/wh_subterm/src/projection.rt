@@ -6,7 +6,7 @@ use std::alloc::{AllocError, Global};
 use std::marker::Model;
 
 /// The argument that is chosen for a marked symbol.
-#[derive(Clone, Copy, Debug, PartialEq, Eq)]
+#[derive(Clone, Copy)]
 pub struct Choice {
     /// The number of the symbol.
     pub symbol: u32,
@@ -61,7 +61,7 @@ impl Projection {
 }
 
 /// What is wrong with a projection or with the list of the pairs that it drops.
-#[derive(Clone, Copy, Debug, PartialEq, Eq)]
+#[derive(Clone, Copy)]
 pub enum SubtermFault {
     /// The choices are not for the marked symbols of the set, each once and in order.
     BadArgs,
