@@ -17,7 +17,7 @@ use wh_terms::{Rule, Signature, Term};
 use wh_types::Ranks;
 
 /// The meta-variable of a rule that is not read on a way of accessible places.
-#[derive(Debug, Clone, Copy, PartialEq, Eq)]
+#[derive(Clone, Copy)]
 pub struct Inaccessible {
     /// The rule, by its index.
     pub rule: u32,

@@ -9,8 +9,6 @@ mod occurrence;
 mod place;
 mod relation;
 mod sources;
-#[cfg(test)]
-mod tests;
 
 pub use check::{Inaccessible, check_ranks};
 pub use find::{NoRanks, find_ranks};

@@ -133,7 +133,7 @@ impl Puts {
 }
 
 /// The bytes are no certificate text.
-#[derive(Clone, Copy, Debug, PartialEq, Eq, Error)]
+#[derive(Clone, Copy, Debug, Error)]
 #[error("no certificate, at {at}")]
 pub struct CertSyntax {
     /// How many bytes from the front on can begin a certificate text.

@@ -9,8 +9,6 @@ mod print;
 mod raw;
 mod read;
 mod term_reader;
-#[cfg(test)]
-mod tests;
 mod type_reader;
 
 pub use certificate::{CertSyntax, Certificate, NoCertificate, Put, Puts, Steps};

@@ -15,7 +15,7 @@ use wh_system::{Pair, System};
 use wh_types::Numbers;
 
 /// A pair of a later block and one of an earlier block that may follow it.
-#[derive(Clone, Copy, Debug, PartialEq, Eq)]
+#[derive(Clone, Copy)]
 pub struct BackEdge {
     /// The pair of the later block.
     pub a: u32,

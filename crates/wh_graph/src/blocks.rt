@@ -12,7 +12,7 @@ use wh_system::{Pair, PairList, PairSet, System};
 use wh_types::Numbers;
 
 /// What is wrong with the blocks of a proof node.
-#[derive(Clone, Copy, Debug, PartialEq, Eq)]
+#[derive(Clone, Copy)]
 pub enum BlockFault {
     /// There are fewer than two blocks, or an empty one.
     FewBlocks,

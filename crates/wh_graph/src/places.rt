@@ -11,7 +11,7 @@ use crate::least::smaller;
 use wh_types::Numbers;
 
 /// How often a number is listed.
-#[derive(Clone, Copy, Debug, PartialEq, Eq)]
+#[derive(Clone, Copy)]
 pub enum Times {
     /// It is not listed.
     Never,
@@ -128,29 +128,4 @@ fn is_in(list: &[u32], number: u32) -> bool
         }
     }
     false
-}
-
-#[cfg(test)]
-mod tests {
-    use crate::places::first_misplaced;
-    use std::alloc::{AllocError, Global};
-    use std::test::Fail;
-    use wh_types::Numbers;
-
-    fn block(alloc: Global, items: &[u32]) -> Result<Numbers, AllocError> {
-        let mut block = Numbers::new(alloc)?;
-        for item in items {
-            block.push(*item)?;
-        }
-        Ok(block)
-    }
-
-    // Two pairs in the blocks `0 1` and `1`: pair 1 stands twice.
-    #[test]
-    fn a_number_stands_twice(rt: HostRuntime) -> Result<(), Fail> {
-        let alloc = rt.alloc();
-        let blocks = vec![in alloc; block(alloc, &[0, 1])?, block(alloc, &[1])?]?;
-        assert_eq!(rt; first_misplaced(&[0, 1], &blocks), Some(1));
-        Ok(())
-    }
 }

@@ -9,8 +9,6 @@ mod read;
 mod shelf;
 mod sink;
 mod std_sink;
-#[cfg(test)]
-mod tests;
 mod write;
 
 pub use file_shelf::FileShelf;

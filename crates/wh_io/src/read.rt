@@ -15,7 +15,7 @@ use wh_types::{Bytes, Or};
 const PIECE: u64 = 65536;
 
 /// Why a file was not read.
-#[derive(Debug, Drop, PartialEq, Eq, Error)]
+#[derive(Debug, Drop, Error)]
 pub enum ReadFault {
     /// The shelf failed.
     #[error("the file could not be read")]

@@ -4,7 +4,7 @@ ghost use Rattle.std.specs.Prelude.{◌≡◌, ◌≤◌, ℕ, List, Option};
 ghost use Rattle.wh_io.specs.Outside.{ReadsAt, HasCause};
 
 /// A read or a write that failed. Why it did is told to no one.
-#[derive(Clone, Copy, Debug, PartialEq, Eq)]
+#[derive(Clone, Copy)]
 pub struct Failed;
 
 /// Named files. `held` is what the file of a name holds, where the shelf tells it, and `faults` is

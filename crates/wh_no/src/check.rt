@@ -24,7 +24,7 @@ use wh_text::RawTerm;
 use wh_types::Or;
 
 /// An accepted NO certificate.
-#[derive(Debug, Clone, Copy, PartialEq, Eq)]
+#[derive(Clone, Copy)]
 pub struct AcceptedNo {
     /// The number of the certificate's steps.
     pub steps: u32,

@@ -1,7 +1,7 @@
 //! Why a NO certificate is refused.
 
 /// The first condition of a valid certificate that is false. Indices count from 0.
-#[derive(Debug, Clone, Copy, PartialEq, Eq)]
+#[derive(Clone, Copy)]
 pub enum NoFault {
     /// The names do not stand for a well-typed term that fits.
     NotATerm,

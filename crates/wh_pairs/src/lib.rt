@@ -13,8 +13,6 @@ mod numbers;
 mod spine;
 mod subsumption;
 mod survivors;
-#[cfg(test)]
-mod tests;
 
 pub use laws::{
     conditions_are_in_order, conditions_join_in_order, one_list_of_pairs, there_are_pairs,

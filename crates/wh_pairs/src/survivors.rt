@@ -28,7 +28,7 @@ use wh_types::Or;
 pub const MOST_PAIRS: usize = 4096;
 
 /// A system has more than 4,096 pairs.
-#[derive(Debug, Drop, PartialEq, Eq)]
+#[derive(Drop)]
 pub struct TooManyPairs;
 
 impl From<TooManyPairs> for Or<TooManyPairs> {

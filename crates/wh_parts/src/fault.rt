@@ -4,7 +4,7 @@ use thiserror::Error;
 use wh_types::Or;
 
 /// Why parts are no system: the first reason in the order of the tests, with the place where it stands.
-#[derive(Clone, Copy, Debug, PartialEq, Eq, Error)]
+#[derive(Clone, Copy, Debug, Error)]
 pub enum SystemFault {
     /// A sort, variable, meta-variable or symbol is not there.
     #[error("an unknown name, at {at}")]

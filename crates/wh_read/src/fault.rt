@@ -4,7 +4,7 @@ use thiserror::Error;
 use wh_types::Or;
 
 /// Why tokens are no system text: the first token at fault.
-#[derive(Clone, Copy, Debug, PartialEq, Eq, Error)]
+#[derive(Clone, Copy, Debug, Error)]
 pub enum SyntaxFault {
     /// No system text has this token behind those before it, or the text ends too early.
     #[error("no system text goes on like this, at {at}")]

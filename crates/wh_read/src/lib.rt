@@ -10,8 +10,6 @@ mod place;
 mod read;
 mod reasons;
 mod terms;
-#[cfg(test)]
-mod tests;
 mod types;
 
 pub use fault::SyntaxFault;

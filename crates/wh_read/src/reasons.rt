@@ -3,7 +3,7 @@
 use thiserror::Error;
 
 /// Why a text is refused.
-#[derive(Clone, Copy, Debug, PartialEq, Eq, Error)]
+#[derive(Clone, Copy, Debug, Error)]
 pub enum Reason {
     /// A byte begins no token.
     #[error("a byte that begins no token")]
@@ -48,7 +48,7 @@ pub enum Reason {
 
 /// Why a text is refused, and where: the first reason in the order of the tests, which are those of tokens, then those of the
 /// grammar, then those of systems.
-#[derive(Clone, Copy, Debug, PartialEq, Eq, Error)]
+#[derive(Clone, Copy, Debug, Error)]
 #[error("{reason}, at {at}")]
 pub struct Refused {
     /// The reason.

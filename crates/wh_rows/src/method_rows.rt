@@ -92,11 +92,13 @@ fn checks_ranks(rt: HostRuntime) -> Result<(), Fail> {
     let flat = Ranks::new(alloc, &[0, 0])?;
     let rising = Ranks::new(alloc, &[0, 1])?;
     assert!(rt; system.signature().sorts == 2);
-    assert_eq!(rt;
-        check_ranks(&system, &flat),
-        Err(Inaccessible { rule: 1, meta: 0 })
+    assert!(rt;
+        matches!(
+            check_ranks(&system, &flat),
+            Err(Inaccessible { rule: 1, meta: 0 })
+        )
     );
-    assert_eq!(rt; check_ranks(&system, &rising), Ok(()));
+    assert!(rt; check_ranks(&system, &rising).is_ok());
     Ok(())
 }
 
@@ -107,21 +109,34 @@ fn to_argument(alloc: Global, symbol: u32, argument: u32) -> Result<Projection, 
     Ok(args)
 }
 
+/// What is wrong with a projection, and at which symbol or pair.
+fn told_of_projection(answer: Result<(), SubtermFault>) -> (&'static str, u32) {
+    match answer {
+        Ok(()) => ("", 0),
+        Err(SubtermFault::NotDecreasing { pair }) => ("not decreasing", pair),
+        Err(SubtermFault::BadArgument { symbol }) => ("bad argument", symbol),
+        Err(_) => ("other", 0),
+    }
+}
+
 #[test]
 fn checks_projections(rt: HostRuntime) -> Result<(), Fail> {
     let alloc = rt.alloc();
-    let below = SubtermFault::NotDecreasing { pair: 0 };
     // `map` is symbol 4, `g` is symbol 1
-    for (text, symbol, argument, answer) in [
-        (MAP, 4, 2, Ok(())),
-        (MAP, 4, 1, Err(below)),
-        (ETA, 1, 1, Err(below)),
-        (MAP, 4, 3, Err(SubtermFault::BadArgument { symbol: 4 })),
+    for (text, symbol, argument, expected) in [
+        (MAP, 4, 2, ("", 0)),
+        (MAP, 4, 1, ("not decreasing", 0)),
+        (ETA, 1, 1, ("not decreasing", 0)),
+        (MAP, 4, 3, ("bad argument", 4)),
     ] {
         let (system, list) = problem_of(alloc, text)?;
         let set = all_of(alloc, &list)?;
         let args = to_argument(alloc, symbol, argument)?;
-        assert_eq!(rt; check_projection(&system, &list, &set, &args, &[0]), answer);
+        let answer = check_projection(&system, &list, &set, &args, &[0]);
+        assert!(rt;
+            told_of_projection(answer) == expected,
+            "{symbol} {argument}"
+        );
     }
     Ok(())
 }
@@ -160,37 +175,35 @@ fn finds_components(rt: HostRuntime) -> Result<(), Fail> {
 const APART: &[u8] =
     b"sort o;fun s:o->o;fun e:o->o;fun d:o->o;fun h:o->o;rule {X:o} e (s X) => d X;rule {X:o} d (s X) => e X;rule {X:o} h (s X) => h X;";
 
+/// What is wrong with blocks, and at which pairs.
+fn told_of_blocks(answer: Result<(), BlockFault>) -> (&'static str, u32, u32) {
+    match answer {
+        Ok(()) => ("", 0, 0),
+        Err(BlockFault::BackEdge { a, b }) => ("back edge", a, b),
+        Err(BlockFault::NotPartition { pair }) => ("not partition", pair, 0),
+        Err(BlockFault::FewBlocks) => ("few blocks", 0, 0),
+    }
+}
+
 /// Systems with blocks of all their pairs, and what is wrong with these, if something is.
-const BLOCKS: &[(&[u8], &[&[u32]], Option<BlockFault>)] = &[
-    (
-        EVEN_ODD,
-        &[&[0], &[1]],
-        Some(BlockFault::BackEdge { a: 1, b: 0 }),
-    ),
-    (
-        EVEN_ODD,
-        &[&[0, 1], &[1]],
-        Some(BlockFault::NotPartition { pair: 1 }),
-    ),
-    (
-        APART,
-        &[&[0], &[2], &[1]],
-        Some(BlockFault::BackEdge { a: 1, b: 0 }),
-    ),
-    (APART, &[&[2], &[1, 0]], None),
-    (IDENTITY, &[&[0], &[1]], None),
-    (IDENTITY, &[&[0, 1]], Some(BlockFault::FewBlocks)),
+const BLOCKS: &[(&[u8], &[&[u32]], &str, u32, u32)] = &[
+    (EVEN_ODD, &[&[0], &[1]], "back edge", 1, 0),
+    (EVEN_ODD, &[&[0, 1], &[1]], "not partition", 1, 0),
+    (APART, &[&[0], &[2], &[1]], "back edge", 1, 0),
+    (APART, &[&[2], &[1, 0]], "", 0, 0),
+    (IDENTITY, &[&[0], &[1]], "", 0, 0),
+    (IDENTITY, &[&[0, 1]], "few blocks", 0, 0),
 ];
 
 #[test]
 fn checks_blocks(rt: HostRuntime) -> Result<(), Fail> {
     let alloc = rt.alloc();
-    for (text, blocks, fault) in BLOCKS {
+    for (text, blocks, fault, a, b) in BLOCKS {
         let (system, list) = problem_of(alloc, *text)?;
         let set = all_of(alloc, &list)?;
         let given = blocks_of(alloc, *blocks)?;
         let answer = check_blocks(&system, &list, &set, given.as_slice());
-        assert_eq!(rt; answer.err(), *fault);
+        assert!(rt; told_of_blocks(answer) == (*fault, *a, *b));
     }
     Ok(())
 }

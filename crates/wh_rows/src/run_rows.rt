@@ -166,7 +166,7 @@ fn judges_certificates(rt: HostRuntime) -> Result<(), Fail> {
         ),
     ] {
         let (ended, out) = told(rt.alloc(), &given, system, certificate)?;
-        assert_eq!(rt; ended, status);
+        assert_eq!(rt; ended.number(), status.number());
         assert_eq!(rt; out.bytes(), text);
     }
     Ok(())
@@ -250,7 +250,7 @@ fn shows_what_reads_back(rt: HostRuntime) -> Result<(), Fail> {
         PROCESSES,
     ] {
         let (status, out) = told(alloc, &["show", "system"], system, b"")?;
-        assert_eq!(rt; status, Status::Answered);
+        assert_eq!(rt; status.number(), Status::Answered.number());
         let Some(text) = system_part(out.bytes()) else {
             panic!(rt; "no pairs");
         };
@@ -334,7 +334,7 @@ const PAIRS: &[(&[u8], &[u8])] = &[
 fn shows_pairs(rt: HostRuntime) -> Result<(), Fail> {
     for (system, pairs) in PAIRS {
         let (status, out) = told(rt.alloc(), &["show", "system"], *system, b"")?;
-        assert_eq!(rt; status, Status::Answered);
+        assert_eq!(rt; status.number(), Status::Answered.number());
         assert!(rt; out.bytes().ends_with(*pairs));
     }
     Ok(())
@@ -362,7 +362,7 @@ fn keeps_the_limit_of_pairs(rt: HostRuntime) -> Result<(), Fail> {
     let alloc = rt.alloc();
     let most = calling(alloc, b"a")?;
     let (status, out) = told(alloc, &["show", "system"], most.as_slice(), b"")?;
-    assert_eq!(rt; status, Status::Answered);
+    assert_eq!(rt; status.number(), Status::Answered.number());
     assert!(rt;
         out.bytes()
             .ends_with(b"pair 4095 rule 1023 (g# X) => (g# a)\n")
@@ -373,50 +373,100 @@ fn keeps_the_limit_of_pairs(rt: HostRuntime) -> Result<(), Fail> {
         ["check", "system", "certificate"].as_slice(),
     ] {
         let (status, out) = told(alloc, given, more.as_slice(), LOOP_CERTIFICATE)?;
-        assert_eq!(rt; status, Status::Refused);
+        assert_eq!(rt; status.number(), Status::Refused.number());
         assert_eq!(rt; out.bytes(), b"REFUSED too-many-pairs 0\n".as_slice());
     }
     Ok(())
 }
 
+/// Texts that are refused, with what is told of them.
+const REFUSED: &[(&[u8], &[u8])] = &[
+    (UNEVEN, b"REFUSED uneven-rules 96\n"),
+    (REPEATED, b"REFUSED not-pattern 56\n"),
+    (b"sort nat;\n\x80", b"REFUSED bad-byte 10\n"),
+    (b"sort o-;", b"REFUSED bad-byte 6\n"),
+    (
+        b"sort o;rule {} %65536:o => %0:o;",
+        b"REFUSED bad-number 16\n",
+    ),
+    (b"sort o;rule {} %00:o => %0:o;", b"REFUSED bad-number 16\n"),
+    (
+        b"sort abcdefghijklmnopqrstuvwxyz0123456789_'ABCDEFGHIJKLMNOPQRSTUVWXYZa;",
+        b"REFUSED name-too-long 5\n",
+    ),
+    (
+        b"sort o;\nfun a : o;\nfun b : o;\nrule {} a => b;\nrule {} b => a",
+        b"REFUSED syntax 60\n",
+    ),
+    (b"sort o;fun sort:o;", b"REFUSED syntax 11\n"),
+    (b"fun a:o;sort o;", b"REFUSED syntax 8\n"),
+    (b"sort o;fun f:p;", b"REFUSED unknown-name 13\n"),
+    (
+        b"sort o;fun f:o->o;rule {f:o} f f => f;",
+        b"REFUSED twice 24\n",
+    ),
+    (
+        b"sort o;fun a:o;rule {} a a => a;",
+        b"REFUSED ill-typed 25\n",
+    ),
+    (
+        b"sort o;fun f:o->o;rule {F:[o]o,X:o} f F[X] => X;",
+        b"REFUSED not-pattern 38\n",
+    ),
+    (
+        b"sort o;rule {} %65535:o => %0:o;",
+        b"REFUSED open-side 15\n",
+    ),
+    (
+        b"sort o;fun a:o;rule {} a => %0:o;",
+        b"REFUSED open-side 28\n",
+    ),
+    (
+        b"sort o;fun f:o->o;rule {X:o,Y:o} f X => Y;",
+        b"REFUSED new-meta 40\n",
+    ),
+    (
+        b"sort o;fun a:o;rule {X:o} a => X;",
+        b"REFUSED new-meta 31\n",
+    ),
+    (
+        b"sort o;rule {X:o} X => X;",
+        b"REFUSED head-not-function 18\n",
+    ),
+    (
+        b"sort o;fun f:o->o;rule {X:o} X => X;",
+        b"REFUSED head-not-function 29\n",
+    ),
+    (
+        b"sort o;fun f:(((((((((((((((((o)))))))))))))))));",
+        b"REFUSED too-many 29\n",
+    ),
+];
+
 #[test]
 fn tells_why_a_system_is_refused(rt: HostRuntime) -> Result<(), Fail> {
-    for (system, text) in [
-        (UNEVEN, b"REFUSED uneven-rules 96\n".as_slice()),
-        (REPEATED, b"REFUSED not-pattern 56\n".as_slice()),
-        (
-            b"sort nat;\n\x80".as_slice(),
-            b"REFUSED bad-byte 10\n".as_slice(),
-        ),
-        (&LOOP[..60], b"REFUSED syntax 60\n".as_slice()),
-        (
-            b"sort o;rule {} %65536:o => %0:o;".as_slice(),
-            b"REFUSED bad-number 16\n".as_slice(),
-        ),
-        (
-            b"sort o;fun a:p;".as_slice(),
-            b"REFUSED unknown-name 13\n".as_slice(),
-        ),
-        (
-            b"sort o;fun a:o;rule {} a a => a;".as_slice(),
-            b"REFUSED ill-typed 25\n".as_slice(),
-        ),
-        (
-            b"sort o;fun a:o;rule {X:o} a => X;".as_slice(),
-            b"REFUSED new-meta 31\n".as_slice(),
-        ),
-        (
-            b"sort o;rule {X:o} X => X;".as_slice(),
-            b"REFUSED head-not-function 18\n".as_slice(),
-        ),
-        (
-            b"sort o;fun a:o;rule {} a => %0:o;".as_slice(),
-            b"REFUSED open-side 28\n".as_slice(),
-        ),
-    ] {
-        let (ended, out) = told(rt.alloc(), &["show", "system"], system, b"")?;
-        assert_eq!(rt; ended, Status::Refused);
-        assert_eq!(rt; out.bytes(), text);
+    for (system, text) in REFUSED {
+        let (ended, out) = told(rt.alloc(), &["show", "system"], *system, b"")?;
+        assert_eq!(rt; ended.number(), Status::Refused.number());
+        assert_eq!(rt; out.bytes(), *text);
+    }
+    Ok(())
+}
+
+/// Texts that just keep a rule of the format.
+const READ: &[&[u8]] = &[
+    b"",
+    b"sort o;\nfun a : o;\nfun b : o;\nrule {} a => b;\nrule {} b => a;",
+    b"sort abcdefghijklmnopqrstuvwxyz0123456789_'ABCDEFGHIJKLMNOPQRSTUVWXYZ;",
+    b"sort o;fun f:((((((((((((((((o))))))))))))))));",
+    b"sort o;fun f:(o->o)->o;rule {F:[o]o} f (\\x:(o).F[x]) => f (\\$0:o.(F[$0])); # end",
+];
+
+#[test]
+fn reads_systems(rt: HostRuntime) -> Result<(), Fail> {
+    for system in READ {
+        let (status, _) = told(rt.alloc(), &["show", "system"], *system, b"")?;
+        assert_eq!(rt; status.number(), Status::Answered.number());
     }
     Ok(())
 }
@@ -574,11 +624,32 @@ fn keeps_the_limits_of_systems(rt: HostRuntime) -> Result<(), Fail> {
     for limit in LIMITS {
         let text = repeated(alloc, limit, limit.most)?;
         let (status, _) = told(alloc, &given, text.as_bytes(), b"")?;
-        assert_eq!(rt; status, Status::Answered);
+        assert_eq!(rt; status.number(), Status::Answered.number());
         let text = repeated(alloc, limit, limit.most.saturating_add(1))?;
         let (status, out) = told(alloc, &given, text.as_bytes(), b"")?;
-        assert_eq!(rt; status, Status::Refused);
+        assert_eq!(rt; status.number(), Status::Refused.number());
         assert_eq!(rt; out.bytes(), limit.told);
+    }
+    Ok(())
+}
+
+/// A text that ends within nested parentheses.
+const NESTED: &Limit = &Limit {
+    before: "sort o;fun a:o;rule {} ",
+    item: "(",
+    ..PLAIN
+};
+
+#[test]
+fn keeps_the_nesting_of_terms(rt: HostRuntime) -> Result<(), Fail> {
+    let alloc = rt.alloc();
+    for (parentheses, expected) in [
+        (400, b"REFUSED syntax 423\n".as_slice()),
+        (401, b"REFUSED too-many 423\n".as_slice()),
+    ] {
+        let text = repeated(alloc, NESTED, parentheses)?;
+        let (_, out) = told(alloc, &["show", "system"], text.as_bytes(), b"")?;
+        assert_eq!(rt; out.bytes(), expected);
     }
     Ok(())
 }
@@ -602,7 +673,7 @@ fn keeps_the_size_of_sides(rt: HostRuntime) -> Result<(), Fail> {
     ] {
         let system = around_large(alloc, before, b");")?;
         let (ended, out) = told(alloc, &given, system.as_slice(), b"")?;
-        assert_eq!(rt; ended, status);
+        assert_eq!(rt; ended.number(), status.number());
         assert!(rt; out.bytes().starts_with(text));
     }
     Ok(())
@@ -673,9 +744,9 @@ fn refuses_neighbours(rt: HostRuntime) -> Result<(), Fail> {
     let given = ["show", "system"];
     for (read, refused, text) in NEIGHBOURS {
         let (status, _) = told(rt.alloc(), &given, *read, b"")?;
-        assert_eq!(rt; status, Status::Answered);
+        assert_eq!(rt; status.number(), Status::Answered.number());
         let (status, out) = told(rt.alloc(), &given, *refused, b"")?;
-        assert_eq!(rt; status, Status::Refused);
+        assert_eq!(rt; status.number(), Status::Refused.number());
         assert_eq!(rt; out.bytes(), *text);
     }
     Ok(())
@@ -685,7 +756,7 @@ fn refuses_neighbours(rt: HostRuntime) -> Result<(), Fail> {
 fn refuses_other_words(rt: HostRuntime) -> Result<(), Fail> {
     for refused in OTHER_WORDS {
         let (status, out) = told(rt.alloc(), *refused, LOOP, LOOP_CERTIFICATE)?;
-        assert_eq!(rt; status, Status::BadWords);
+        assert_eq!(rt; status.number(), Status::BadWords.number());
         assert_eq!(rt; out.bytes(), b"BAD WORDS\n".as_slice());
     }
     Ok(())
@@ -704,7 +775,7 @@ fn names_the_file_that_failed(rt: HostRuntime) -> Result<(), Fail> {
         shelf.add_file("system", LOOP)?;
         let mut out = MemorySink::new(alloc, 100, 100, &[])?;
         let status = run(alloc, asked.as_slice(), &mut shelf, &mut out);
-        assert_eq!(rt; status, Status::ReadFault);
+        assert_eq!(rt; status.number(), Status::ReadFault.number());
         assert_eq!(rt; out.bytes(), text);
     }
     Ok(())
@@ -715,14 +786,14 @@ fn tells_which_file_is_too_long(rt: HostRuntime) -> Result<(), Fail> {
     let alloc = rt.alloc();
     let spaces = vec![in alloc; b' '; 1_048_577]?;
     let (status, out) = told(alloc, &["show", "system"], spaces.as_slice(), b"")?;
-    assert_eq!(rt; status, Status::TooLong);
+    assert_eq!(rt; status.number(), Status::TooLong.number());
     assert_eq!(rt; out.bytes(), b"TOO LONG system\n".as_slice());
     let (_, out) = told(alloc, &["show", "system"], &spaces.as_slice()[1..], b"")?;
     assert_eq!(rt; out.bytes(), b"SYSTEM\nPAIRS 0\n".as_slice());
     let spaces = vec![in alloc; b' '; 8_388_609]?;
     let given = ["check", "system", "certificate"];
     let (status, out) = told(alloc, &given, LOOP, spaces.as_slice())?;
-    assert_eq!(rt; status, Status::TooLong);
+    assert_eq!(rt; status.number(), Status::TooLong.number());
     assert_eq!(rt; out.bytes(), b"TOO LONG certificate\n".as_slice());
     Ok(())
 }
@@ -736,7 +807,7 @@ fn leaves_what_it_wrote_before_a_fault(rt: HostRuntime) -> Result<(), Fail> {
     let mut out = MemorySink::new(alloc, 1, 100, &[1])?;
     let asked = words(alloc, &["check", "system", "certificate"])?;
     let status = run(alloc, asked.as_slice(), &mut shelf, &mut out);
-    assert_eq!(rt; status, Status::WriteFault);
+    assert_eq!(rt; status.number(), Status::WriteFault.number());
     assert_eq!(rt; status.number(), 5);
     assert_eq!(rt; out.bytes(), b"N".as_slice());
     Ok(())

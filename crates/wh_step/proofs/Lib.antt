@@ -9,4 +9,3 @@ pub mod EnumerationLaws
 pub mod ExtentLemmas
 pub mod MeasuringLemmas
 pub mod ReplayLemmas
-pub mod SampleLemmas

@@ -7,4 +7,3 @@ pub mod Contracta
 pub mod Enumerations
 pub mod Extents
 pub mod Replaying
-pub mod Samples

@@ -17,5 +17,5 @@ pub struct Extent {
 }
 
 /// The term does not fit.
-#[derive(Debug, Drop)]
+#[derive(Drop)]
 pub struct PastLimit;

@@ -13,8 +13,6 @@ mod place;
 mod redex;
 mod reducing;
 mod replaying;
-#[cfg(test)]
-mod tests;
 mod weighing;
 
 pub use laws::{

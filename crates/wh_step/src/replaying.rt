@@ -16,7 +16,7 @@ use std::alloc::{AllocError, Global};
 use wh_terms::{Rule, Step, Term, copy_term, subterm_at};
 
 /// Why a replay ends before its last step, with the number of the step, counted from 0.
-#[derive(Debug, Clone, Copy, PartialEq, Eq)]
+#[derive(Clone, Copy)]
 pub enum StepFault {
     /// The step does not apply.
     Fails { index: u32 },

@@ -6,7 +6,7 @@ use std::alloc::{AllocError, Global};
 use std::marker::Model;
 
 /// The argument that is chosen for a marked symbol.
-#[derive(Clone, Copy, Debug, PartialEq, Eq)]
+#[derive(Clone, Copy)]
 pub struct Choice {
     /// The number of the symbol.
     pub symbol: u32,
@@ -61,7 +61,7 @@ impl Projection {
 }
 
 /// What is wrong with a projection or with the list of the pairs that it drops.
-#[derive(Clone, Copy, Debug, PartialEq, Eq)]
+#[derive(Clone, Copy)]
 pub enum SubtermFault {
     /// The choices are not for the marked symbols of the set, each once and in order.
     BadArgs,
@@ -82,26 +82,4 @@ pub enum SubtermFault {
         /// The least such pair.
         pair: u32,
     },
-}
-
-#[cfg(test)]
-mod tests {
-    use crate::projection::{Choice, Projection};
-    use std::test::Fail;
-
-    #[test]
-    fn keeps_choices_in_order(rt: HostRuntime) -> Result<(), Fail> {
-        let mut choices = Projection::new(rt.alloc())?;
-        choices.push(Choice {
-            symbol: 4,
-            argument: 2,
-        })?;
-        choices.push(Choice {
-            symbol: 7,
-            argument: 1,
-        })?;
-        let arguments = choices.as_slice().iter().map(|choice| choice.argument);
-        assert!(rt; arguments.eq([2, 1]));
-        Ok(())
-    }
 }

@@ -9,7 +9,7 @@ use wh_terms::{Metas, Terms};
 
 /// That a call stands within an argument of a meta-variable on the right side: the meta-variable and the place of the
 /// argument, counted from 1.
-#[derive(Clone, Copy, Debug, PartialEq, Eq)]
+#[derive(Clone, Copy, PartialEq, Eq)]
 pub struct Condition {
     /// The number of the meta-variable.
     pub meta: u32,

@@ -2,8 +2,6 @@
 #![tactic(auto)]
 
 mod apply;
-#[cfg(test)]
-mod binding_tests;
 mod bodies;
 mod closing;
 mod copy;
@@ -20,8 +18,6 @@ mod pattern;
 mod places;
 mod raise;
 mod rule;
-#[cfg(test)]
-mod samples;
 mod seat;
 mod subst;
 mod substitution;

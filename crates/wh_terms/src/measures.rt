@@ -84,35 +84,3 @@ fn total_size(items: &Terms) -> u64
     }
     total
 }
-
-#[cfg(test)]
-mod tests {
-    use crate::measures::{height, size};
-    use crate::samples::{abstracted, applied, meta_of_bound};
-    use crate::term::Term;
-    use std::test::Fail;
-
-    // `f (\x:o.\y:o.Z[x, y]) c` is a spine of two arguments, of which the first is the highest.
-    #[test]
-    fn measures_a_spine(rt: HostRuntime) -> Result<(), Fail> {
-        let alloc = rt.alloc();
-        let body = abstracted(alloc, 0, meta_of_bound(alloc, 0, 1, 0)?)?;
-        let front = applied(alloc, Term::Fun(0), abstracted(alloc, 0, body)?)?;
-        let whole = applied(alloc, front, Term::Fun(1))?;
-        assert_eq!(rt; height(&whole), 4);
-        assert_eq!(rt; size(&whole), 9);
-        Ok(())
-    }
-
-    #[test]
-    fn measures_a_head_that_is_an_abstraction(rt: HostRuntime) -> Result<(), Fail> {
-        let redex = applied(
-            rt.alloc(),
-            abstracted(rt.alloc(), 0, Term::Bound(0))?,
-            Term::Fun(0),
-        )?;
-        assert_eq!(rt; height(&redex), 2);
-        assert_eq!(rt; size(&redex), 4);
-        Ok(())
-    }
-}

@@ -113,25 +113,3 @@ fn misses(number: u32, items: &[Term]) -> bool
     }
     true
 }
-
-#[cfg(test)]
-mod tests {
-    use crate::pattern::is_pattern;
-    use crate::samples::{abstracted, applied, under_two};
-    use crate::term::Term;
-    use std::test::Fail;
-
-    #[test]
-    fn tells_patterns(rt: HostRuntime) -> Result<(), Fail> {
-        let alloc = rt.alloc();
-        assert!(rt; is_pattern(&under_two(alloc, 1, 0)?));
-        assert!(rt; is_pattern(&applied(alloc, Term::Fun(0), Term::Fun(1))?));
-        // a repeated variable, a loose one, and an abstraction as a head
-        assert!(rt; !is_pattern(&under_two(alloc, 1, 1)?));
-        assert!(rt; !is_pattern(&under_two(alloc, 1, 2)?));
-        assert!(rt;
-            !is_pattern(&applied(alloc, abstracted(alloc, 0, Term::Bound(0))?, Term::Fun(0))?)
-        );
-        Ok(())
-    }
-}

@@ -31,39 +31,3 @@ fn child(term: &Term, step: u8) -> Option<&Term>
         _ => None,
     }
 }
-
-#[cfg(test)]
-mod tests {
-    use crate::equality::same;
-    use crate::path::Path;
-    use crate::places::subterm_at;
-    use crate::samples::{abstracted, applied};
-    use crate::term::Term;
-    use std::test::Fail;
-
-    #[test]
-    fn follows_paths(rt: HostRuntime) -> Result<(), Fail> {
-        let alloc = rt.alloc();
-        let inner = applied(alloc, Term::Fun(1), Term::Bound(0))?;
-        let whole = applied(alloc, Term::Fun(2), abstracted(alloc, 0, inner)?)?;
-        let mut path = Path::new(alloc)?;
-        assert!(rt; subterm_at(&whole, &path).is_some_and(|part| same(part, &whole)));
-        for step in [1, 0, 1] {
-            assert!(rt; step < 2);
-            path.push(step)?;
-        }
-        assert!(rt; subterm_at(&whole, &path).is_some_and(|part| same(part, &Term::Bound(0))));
-        path.push(0)?;
-        assert!(rt; subterm_at(&whole, &path).is_none());
-        Ok(())
-    }
-
-    #[test]
-    fn leaves_an_abstraction_by_0_alone(rt: HostRuntime) -> Result<(), Fail> {
-        let alloc = rt.alloc();
-        let mut path = Path::new(alloc)?;
-        path.push(1)?;
-        assert!(rt; subterm_at(&abstracted(alloc, 0, Term::Bound(0))?, &path).is_none());
-        Ok(())
-    }
-}

@@ -6,8 +6,6 @@ mod laws;
 mod name;
 mod print;
 mod raw;
-#[cfg(test)]
-mod tests;
 mod token;
 
 pub use cut::tokens;

@@ -8,7 +8,7 @@ use thiserror::Error;
 use wh_types::Or;
 
 /// What a token is. The bytes of a name, a keyword or a sign are those of the text where it stands.
-#[derive(Clone, Copy, Debug, PartialEq, Eq)]
+#[derive(Clone, Copy)]
 pub enum TokenKind {
     /// A name.
     Name,
@@ -23,7 +23,7 @@ pub enum TokenKind {
 }
 
 /// A token; its text is the bytes from `from` up to, not including, `to`.
-#[derive(Clone, Copy, Debug, PartialEq, Eq)]
+#[derive(Clone, Copy)]
 pub struct Token {
     /// What it is.
     pub kind: TokenKind,
@@ -80,7 +80,7 @@ impl Tokens {
 }
 
 /// The first place at which a text can't be cut into tokens.
-#[derive(Clone, Copy, Debug, PartialEq, Eq, Error)]
+#[derive(Clone, Copy, Debug, Error)]
 pub enum TextFault {
     /// A byte that begins no token, an arrow without its head, or `$` or `%` without a digit.
     #[error("a byte that begins no token, at {at}")]

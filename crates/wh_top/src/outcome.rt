@@ -10,7 +10,7 @@ use wh_read::{Reason, Refused};
 use wh_types::Or;
 
 /// Which of the two files.
-#[derive(Clone, Copy, Debug, PartialEq, Eq)]
+#[derive(Clone, Copy)]
 pub enum Role {
     /// The system file, the first one named.
     System,
@@ -19,7 +19,7 @@ pub enum Role {
 }
 
 /// Why a certificate is rejected.
-#[derive(Clone, Copy, Debug, PartialEq, Eq)]
+#[derive(Clone, Copy)]
 pub enum Rejection {
     /// The bytes are no certificate text, and no such text begins with more of them than `at`.
     Syntax {
@@ -31,7 +31,7 @@ pub enum Rejection {
 }
 
 /// What a run comes to.
-#[derive(Clone, Copy, Debug, PartialEq, Eq)]
+#[derive(Clone, Copy)]
 pub enum Outcome {
     /// The certificate is valid: its term has reductions of every length.
     No,

@@ -5,7 +5,7 @@ ghost use Rattle.wh_top.specs.Words.{Asks, NamesFile, Request};
 ghost use Rattle.wh_top.specs.Asked.{request};
 
 /// What the words ask for.
-#[derive(Clone, Copy, Debug, PartialEq, Eq)]
+#[derive(Clone, Copy)]
 pub enum Command<'a> {
     /// To check a certificate for a system.
     Check {

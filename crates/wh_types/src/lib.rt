@@ -7,8 +7,6 @@ mod bytes;
 mod numbers;
 mod ranks;
 mod simple_type;
-#[cfg(test)]
-mod tests;
 mod want;
 
 pub use blocks::Blocks;

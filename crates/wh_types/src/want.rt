@@ -9,7 +9,7 @@ ghost use Rattle.wh_types.specs.declared.want.Or.TheVariants.{NoMemory};
 use std::alloc::{AllocError, AllocFailed};
 
 /// Why a call that takes memory gave no value.
-#[derive(Debug, Drop, PartialEq, Eq)]
+#[derive(Drop)]
 pub enum Or<E> {
     /// There was no memory. No clause says when this comes.
     NoMemory,

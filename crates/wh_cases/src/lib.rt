@@ -1,0 +1,29 @@
+//! Rows of the calls of the libraries, with answers from outside, and each public call at least once with ample memory.
+//!
+//! Like wh_rows, this crate has tests alone: a library with tests of its own would be proved a second time with them. The
+//! rows stand in tables, and where it is shorter as texts that the libraries read. What the calls answer is proved; that
+//! they answer at all, and that the definitions say what is meant, is what these runs show.
+#![tactic(auto)]
+
+#[cfg(test)]
+mod certificate_rows;
+#[cfg(test)]
+mod list_rows;
+#[cfg(test)]
+mod outside_rows;
+#[cfg(test)]
+mod pair_rows;
+#[cfg(test)]
+mod rank_rows;
+#[cfg(test)]
+mod reading;
+#[cfg(test)]
+mod spelling;
+#[cfg(test)]
+mod stack;
+#[cfg(test)]
+mod step_rows;
+#[cfg(test)]
+mod term_rows;
+#[cfg(test)]
+mod text_rows;

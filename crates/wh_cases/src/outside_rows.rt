@@ -1,0 +1,154 @@
+//! What no clause of the outside says: that the calls succeed, what they ask for, and that the real files and standard
+//! output are reached.
+
+ghost use Rattle.std.specs.Prelude.{None};
+
+use std::alloc::{AllocError, Global};
+use std::fs;
+use std::test::Fail;
+use wh_io::{
+    Failed, FileShelf, MemoryShelf, MemorySink, ReadFault, Shelf, Sink, StdSink, read_whole,
+    write_all_of,
+};
+use wh_types::{Bytes, Or};
+
+/// Longer than two pieces, and no two pieces alike.
+fn long_text(alloc: Global) -> Result<Bytes, AllocError> {
+    let mut text = Bytes::new(alloc)?;
+    for i in 0..150_000u32 {
+        text.push((i % 251) as u8)?;
+    }
+    Ok(text)
+}
+
+/// The number of bytes read, and why none were.
+fn told(outcome: &Result<Bytes, Or<ReadFault>>) -> (usize, &'static str) {
+    match outcome {
+        Ok(bytes) => (bytes.as_slice().len(), ""),
+        Err(Or::NoMemory) => (0, "no memory"),
+        Err(Or::Because(ReadFault::Failed)) => (0, "failed"),
+        Err(Or::Because(ReadFault::TooLong)) => (0, "too long"),
+    }
+}
+
+#[test]
+fn reads_up_to_the_limit(rt: HostRuntime) -> Result<(), Fail> {
+    let alloc = rt.alloc();
+    let mut shelf = MemoryShelf::new(alloc, &[])?;
+    shelf.add_file("a", b"earlier")?;
+    shelf.add_file("b", b"other")?;
+    shelf.add_file("a", b"later")?;
+    let read = read_whole(alloc, &mut shelf, "a", 5);
+    assert!(rt; matches!(&read, Ok(bytes) if bytes.as_slice() == b"later".as_slice()));
+    for (name, limit, want) in [
+        ("a", u64::MAX, (5, "")),
+        ("b", 5, (5, "")),
+        ("b", 4, (0, "too long")),
+        ("b", 0, (0, "too long")),
+        ("c", 5, (0, "failed")),
+    ] {
+        let read = read_whole(alloc, &mut shelf, name, limit);
+        assert!(rt; told(&read) == want, "{name} {limit}");
+    }
+    Ok(())
+}
+
+/// A shelf with the text as its one file, which fails at that read.
+fn failing_shelf(alloc: Global, text: &[u8], failing: u64) -> Result<MemoryShelf, AllocError> {
+    let mut shelf = MemoryShelf::new(alloc, &[failing])?;
+    shelf.add_file("a", text)?;
+    Ok(shelf)
+}
+
+#[test]
+fn fails_at_the_stated_reads(rt: HostRuntime) -> Result<(), Fail> {
+    let alloc = rt.alloc();
+    let text = long_text(alloc)?;
+    // A text of three pieces takes four reads: the last one gives none.
+    for (failing, want) in [
+        (0, (0, "failed")),
+        (2, (0, "failed")),
+        (3, (0, "failed")),
+        (4, (150_000, "")),
+    ] {
+        let mut shelf = failing_shelf(alloc, text.as_slice(), failing)?;
+        let read = read_whole(alloc, &mut shelf, "a", 1_000_000);
+        assert!(rt; told(&read) == want, "failing {failing}");
+    }
+    Ok(())
+}
+
+/// A file with no end, and the end of what was asked for.
+#[derive(Drop)]
+struct Endless {
+    asked: u64,
+}
+
+impl Shelf for Endless {
+    ghost held = { λ _ _. None };
+
+    ghost faults = { λ _ _. 0 };
+
+    fn read_at(&mut self, _name: &str, at: u64, into: &mut [u8]) -> Result<usize, Failed> {
+        let end = at.saturating_add(into.len() as u64);
+        self.asked = self.asked.max(end);
+        Ok(into.len())
+    }
+}
+
+#[test]
+fn asks_for_one_byte_past_the_limit(rt: HostRuntime) {
+    for limit in [0, 10, 65_535, 65_536, 100_000] {
+        let mut shelf = Endless { asked: 0 };
+        let read = read_whole(rt.alloc(), &mut shelf, "a", limit);
+        assert!(rt; told(&read) == (0, "too long"), "limit {limit}");
+        assert_eq!(rt; shelf.asked, limit + 1);
+    }
+}
+
+#[test]
+fn writes_all_or_a_front_part(rt: HostRuntime) -> Result<(), Fail> {
+    for (most, room, failing, want, written) in [
+        (1, 20, 99, true, "yesterday"),
+        (100, 9, 99, true, "yesterday"),
+        (2, 20, 2, false, "yest"),
+        (2, 20, 0, false, ""),
+        (3, 4, 99, false, "yest"),
+    ] {
+        let mut sink = MemorySink::new(rt.alloc(), most, room, &[failing])?;
+        let all = write_all_of(&mut sink, b"yesterday").is_ok();
+        assert_eq!(rt; all, want, "failing {failing}");
+        assert_eq!(rt; sink.bytes(), written.as_bytes(), "failing {failing}");
+    }
+    let mut full = MemorySink::new(rt.alloc(), 1, 0, &[])?;
+    assert!(rt; matches!(full.put(b""), Ok(0)));
+    Ok(())
+}
+
+#[test]
+fn reads_a_real_file(rt: HostRuntime) -> Result<(), Fail> {
+    let alloc = rt.alloc();
+    let text = long_text(alloc)?;
+    fs::write(&rt, "wh_cases.tmp", text.as_slice())?;
+    let mut shelf = FileShelf::new(&rt);
+    let read = read_whole(alloc, &mut shelf, "wh_cases.tmp", 150_000);
+    assert!(rt; matches!(&read, Ok(bytes) if bytes.as_slice() == text.as_slice()));
+    let missing = read_whole(alloc, &mut shelf, "wh_cases.none", 150_000);
+    assert!(rt; told(&missing) == (0, "failed"));
+    fs::remove_file(&rt, "wh_cases.tmp")?;
+    Ok(())
+}
+
+#[test]
+fn writes_to_standard_output(rt: HostRuntime) {
+    let mut sink = StdSink::new(rt.stdout());
+    assert!(rt; write_all_of(&mut sink, b"a short text\n").is_ok());
+}
+
+#[test]
+fn causes(rt: HostRuntime) {
+    let late: Or<ReadFault> = ReadFault::TooLong.into();
+    assert!(rt; matches!(late, Or::Because(ReadFault::TooLong)));
+    let failed: Or<ReadFault> = Failed.into();
+    assert!(rt; matches!(failed, Or::Because(ReadFault::Failed)));
+}

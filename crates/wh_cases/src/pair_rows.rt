@@ -1,0 +1,46 @@
+//! `subsumed`, over pairs of systems that differ in the right side of their last rule. What the pairs of a system are is
+//! told by the rows of wh_rows.
+
+use crate::reading::{pairs_of, system_of};
+use std::alloc::{AllocError, Global};
+use std::test::Fail;
+use wh_pairs::subsumed;
+
+/// A call with no condition.
+const FREE: &[u8] =
+    b"sort o;fun g:o->o;fun p:(o->o->o)->o->o;rule {X:o} g X => X;rule {F:[o,o]o,X:o} p (\\x:o.\\y:o.F[x,y]) X => g X;";
+
+/// The same call below the first argument of a meta-variable and the second one of another occurrence.
+const BOTH: &[u8] =
+    b"sort o;fun g:o->o;fun p:(o->o->o)->o->o;rule {X:o} g X => X;rule {F:[o,o]o,X:o} p (\\x:o.\\y:o.F[x,y]) X => F[F[X,g X],X];";
+
+/// The same call below the second argument alone.
+const SECOND: &[u8] =
+    b"sort o;fun g:o->o;fun p:(o->o->o)->o->o;rule {X:o} g X => X;rule {F:[o,o]o,X:o} p (\\x:o.\\y:o.F[x,y]) X => F[X,g X];";
+
+/// A call with a condition, over another type.
+const OTHER: &[u8] =
+    b"sort n;sort o;fun g:o->o;fun p:(o->o->o)->o->o;rule {X:o} g X => X;rule {F:[o,o]o,X:o} p (\\x:o.\\y:o.F[x,y]) X => F[g X,X];";
+
+/// Whether the one pair of the first system is subsumed by that of the second.
+fn is_subsumed(alloc: Global, first: &[u8], second: &[u8]) -> Result<bool, AllocError> {
+    let a = pairs_of(alloc, &system_of(alloc, first)?)?;
+    let b = pairs_of(alloc, &system_of(alloc, second)?)?;
+    match (a.as_slice(), b.as_slice()) {
+        ([a], [b]) => Ok(subsumed(a, b)),
+        _ => Err(AllocError),
+    }
+}
+
+#[test]
+fn fewer_conditions_subsume(rt: HostRuntime) -> Result<(), Fail> {
+    for (first, second, expected) in [
+        (BOTH, FREE, true),
+        (FREE, BOTH, false),
+        (BOTH, SECOND, true),
+        (OTHER, FREE, false),
+    ] {
+        assert_eq!(rt; is_subsumed(rt.alloc(), first, second)?, expected);
+    }
+    Ok(())
+}
