@@ -5,12 +5,13 @@
 
 Components are counted by the program of crates/wh_bench: `rt run -- map.afs` in its folder builds it.
 
-Makes its inputs in a temporary folder, runs the program on each three times, and prints the least time and the greatest
-memory. Sizes double from line to line, so a call that is linear takes about twice the time of the line above.
+Makes its inputs in a temporary folder, runs the program on each three times, and prints the least time, how many times that
+of `sha256sum` on the same bytes it is, and the greatest memory. Sizes double from line to line, so a call that is linear takes about twice the time of the line above.
 """
 import argparse
 import os
 import pathlib
+import subprocess
 import tempfile
 import time
 
@@ -98,6 +99,60 @@ def most_pairs():
     return "\n".join(lines) + "\n"
 
 
+def dropping(pairs):
+    """A ring, and nodes that drop one pair each, until calls no longer come back: as many nodes as pairs."""
+    system = chain(pairs)
+    lines = ["YES 1", "ranks 0", f"pairs {pairs}"]
+    for first in range(pairs):
+        lines.append("subterm")
+        lines += [f"arg f{i} 1" for i in marked_from(first, pairs)]
+        lines.append(f"drop {first}")
+    return system, "\n".join(lines + ["done", "end"]) + "\n"
+
+
+def marked_from(first, pairs):
+    """The symbols of the pairs of a ring from that number on."""
+    return sorted({i for pair in range(first, pairs) for i in (pair, (pair + 1) % pairs)})
+
+
+def all_at_once(pairs):
+    """A ring, and one node that drops all its pairs."""
+    system = chain(pairs)
+    lines = ["YES 1", "ranks 0", f"pairs {pairs}", "subterm"]
+    lines += [f"arg f{i} 1" for i in range(pairs)]
+    lines.append("drop " + " ".join(str(i) for i in range(pairs)))
+    return system, "\n".join(lines + ["done", "end"]) + "\n"
+
+
+def long_drop(numbers):
+    """A drop list that is far longer than the set."""
+    system = chain(1000)
+    lines = ["YES 1", "ranks 0", "pairs 1000", "subterm"] + [f"arg f{i} 1" for i in range(1000)]
+    lines.append("drop " + " ".join(str(i % 1000) for i in range(numbers)))
+    return system, "\n".join(lines + ["done", "end"]) + "\n"
+
+
+def long_blocks(numbers):
+    """Blocks that list far more numbers than the set has, the least misplaced one last of all."""
+    system = chain(1000)
+    lines = ["YES 1", "ranks 0", "pairs 1000", "blocks 2"]
+    lines.append("block " + " ".join(str(i) for i in range(500)))
+    rest = [500 + i % 500 for i in range(numbers)]
+    lines.append("block " + " ".join(str(i) for i in rest))
+    return system, "\n".join(lines + ["alone", "alone", "end"]) + "\n"
+
+
+def hash_seconds(file):
+    """Least seconds of three runs of `sha256sum` on the same bytes, to compare with."""
+    best = None
+    for _ in range(3):
+        began = time.perf_counter()
+        subprocess.run(["sha256sum", str(file)], stdout=subprocess.DEVNULL, check=True)
+        seconds = time.perf_counter() - began
+        best = seconds if best is None else min(best, seconds)
+    return best
+
+
 def run(program, words, folder):
     """Least seconds and greatest megabytes of three runs, with the first line of the output."""
     best, most, first = None, 0, ""
@@ -134,6 +189,14 @@ def main():
         cases.append(("check size-50", f"{steps} steps", *sized_loop(steps, 50)))
     for steps in (100000, 200000, 400000):
         cases.append(("check binder", f"{steps} steps", *binder_loop(steps)))
+    for pairs in (100, 200, 400):
+        cases.append(("check nodes", f"{pairs} nodes", *dropping(pairs)))
+    for pairs in (250, 500, 1000):
+        cases.append(("check one node", f"{pairs} pairs", *all_at_once(pairs)))
+    for numbers in (500000, 1000000, 2000000):
+        cases.append(("check drop list", f"{numbers} numbers", *long_drop(numbers)))
+    for numbers in (500000, 1000000, 2000000):
+        cases.append(("check blocks", f"{numbers} numbers", *long_blocks(numbers)))
     for symbols in (125, 250, 500, 1000):
         cases.append(("show chain", f"{symbols} pairs", chain(symbols), None))
     for symbols in (125, 250, 500, 1000):
@@ -155,7 +218,8 @@ def main():
                 words = ["check", str(folder / "system"), str(folder / "certificate")]
                 length = len(certificate)
             seconds, megabytes, first = run(program, words, folder)
-            print(f"{what:16} {size:>14} {length:>9} bytes {seconds:8.3f} s {megabytes:7.1f} MB  {first}")
+            hashed = hash_seconds(folder / ("certificate" if certificate is not None else "system"))
+            print(f"{what:16} {size:>15} {length:>9} bytes {seconds:8.3f} s {seconds / hashed:7.1f} times sha256sum {megabytes:7.1f} MB  {first}")
 
 
 if __name__ == "__main__":

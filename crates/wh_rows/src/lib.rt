@@ -9,3 +9,5 @@ mod method_rows;
 mod run_rows;
 #[cfg(test)]
 mod samples;
+#[cfg(test)]
+mod yes_rows;

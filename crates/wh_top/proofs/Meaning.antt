@@ -1,28 +1,50 @@
--- What an output that begins with NO means.
-use Rattle.std.proofs.Common.{◌≡◌, ℕ, inl, inr, List, [], ◌∷◌, ◌++◌, Option, Some, refl, sym, ap, ◌∙◌, subst, arith, append-nil}
+-- What an output means that begins with YES or with NO.
+use Rattle.std.proofs.Common.{◌≡◌, ℕ, ◌≤◌, inl, inr, List, length, [], ◌∷◌, ◌++◌, Option, Some, refl, sym, ap, ◌∙◌, subst, arith, append-nil}
+use Rattle.std.specs.Prelude.{codes}
 use Rattle.std.proofs.lemmas.List.{append_cancel_left}
+use Rattle.wh_terms.specs.Tree.{Tm}
+use Rattle.wh_terms.specs.Typing.{WellTyped}
+use Rattle.wh_step.specs.Reduction.{Bounded}
 use Rattle.wh_system.specs.Systems.{SystemData}
+use Rattle.wh_system.specs.PairData.{PairData}
+use Rattle.wh_pairs.specs.SystemPairs.{HasPairs}
 use Rattle.wh_read.specs.Reading.{Reads}
 use Rattle.wh_read.proofs.OneSystem.{one_reading}
 use Rattle.wh_read.proofs.ProperParts.{system_read}
-use Rattle.wh_cert.specs.Written.{Cert}
+use Rattle.wh_cert.specs.Written.{Cert, yes, no}
 use Rattle.wh_cert.specs.CertText.{CertText}
 use Rattle.wh_no.proofs.Valid.{valid-unbounded}
+use Rattle.wh_checker.specs.Valid.{IsValidCert}
+use Rattle.wh_checker.proofs.Bounded.{valid_yes-bounded}
 use Rattle.wh_top.specs.declared.status.Status.{Status}
 use Rattle.wh_top.specs.declared.outcome.Outcome.{Outcome}
-use Rattle.wh_top.specs.declared.outcome.Outcome.TheVariants.{No, Rejected, Refused, TooManyPairs, ReadFault, TooLong, Later}
+use Rattle.wh_top.specs.declared.outcome.Outcome.TheVariants.{Yes, No, Rejected, Refused, TooManyPairs, ReadFault, TooLong, Later}
 use Rattle.wh_top.specs.Words.{Request, check, show, Asks}
 use Rattle.wh_top.specs.Texts.{text_of}
-use Rattle.wh_top.specs.Outcomes.{Shelves, Told, IsValidNo, BeginsWith, Stands, StandsBySystem}
-use Rattle.wh_top.specs.Run.{Answers, Ends, MeansNo, Replies}
+use Rattle.wh_top.specs.Outcomes.{Shelves, Told, IsYes, IsNo, BeginsWith, Checked, Stands, StandsBySystem, system_limit}
+use Rattle.wh_top.specs.Run.{Answers, Ends, MeansYes, MeansNo, Replies}
 
--- a valid certificate that is read for a system that is read means NO
-pub valid_means : (system cert : List ℕ) (d : SystemData) (c : Cert) → Reads system d → CertText cert c → IsValidNo d c → MeansNo system cert
-valid_means system cert d c reads text (claim, says, valid) = record {
+-- a system that is read and has a valid YES certificate
+pub yes_means : (system : List ℕ) (d : SystemData) (ps : List PairData) (c : Cert) → Reads system d → HasPairs d ps → IsYes c → IsValidCert d ps c → MeansYes system
+yes_means system d ps c reads has is valid = record {
   data_read = d;
   reads = reads;
   one = λ other r. one_reading system other d r reads;
-  certificate = c;
+  bounded = by c is valid;
+}
+  where
+    by : (c : Cert) → IsYes c → IsValidCert d ps c → (t : Tm) → WellTyped d.symbols t → Bounded d.rules t
+    by (yes version ranks pairs nodes) is valid = valid_yes-bounded d ps ranks pairs nodes (system_read system d reads) has valid
+    by (no term steps at puts) is valid = absurd is
+
+-- a valid NO certificate that is read for a system that is read
+pub no_means : (system cert : List ℕ) (d : SystemData) (ps : List PairData) (c : Cert) → Reads system d → CertText cert c → IsNo c → IsValidCert d ps c → MeansNo system cert
+no_means system cert d ps (yes version ranks pairs nodes) reads text is valid = absurd is
+no_means system cert d ps (no term steps at puts) reads text is (claim, says, valid) = record {
+  data_read = d;
+  reads = reads;
+  one = λ other r. one_reading system other d r reads;
+  certificate = no term steps at puts;
   certified = text;
   claim = claim;
   claims = says;
@@ -32,18 +54,30 @@ valid_means system cert d c reads text (claim, says, valid) = record {
 first_byte : (a b : ℕ) (xs ys : List ℕ) → a ∷ xs ≡ b ∷ ys → a ≡ b
 first_byte a b xs ys e = cc
 
-not_78 : (a : ℕ) (xs rest back : List ℕ) → (a ≡ 78 → ⊥) → a ∷ xs ≡ (78 ∷ 79 ∷ rest) ++ back → ⊥
-not_78 a xs rest back differs e = differs (first_byte a 78 xs ((79 ∷ rest) ++ back) e)
+not_byte : (n a : ℕ) (xs rest : List ℕ) → (a ≡ n → ⊥) → a ∷ xs ≡ n ∷ rest → ⊥
+not_byte n a xs rest differs e = differs (first_byte a n xs rest e)
+
+-- of the texts of outcomes only that of YES begins so
+only_yes : (o : Outcome) (rest : List ℕ) → text_of o ≡ 89 ∷ rest → o ≡ Yes
+only_yes Yes rest e = refl
+only_yes No rest e = absurd (not_byte 89 78 _ rest (λ d. omega arith) e)
+only_yes (Rejected fault) rest e = absurd (not_byte 89 82 _ rest (λ d. omega arith) e)
+only_yes (Refused reason) rest e = absurd (not_byte 89 82 _ rest (λ d. omega arith) e)
+only_yes TooManyPairs rest e = absurd (not_byte 89 82 _ rest (λ d. omega arith) e)
+only_yes (ReadFault role) rest e = absurd (not_byte 89 82 _ rest (λ d. omega arith) e)
+only_yes (TooLong role) rest e = absurd (not_byte 89 84 _ rest (λ d. omega arith) e)
+only_yes Later rest e = absurd (not_byte 89 76 _ rest (λ d. omega arith) e)
 
 -- of the texts of outcomes only that of NO begins so
-only_no : (o : Outcome) (rest back : List ℕ) → text_of o ≡ (78 ∷ 79 ∷ rest) ++ back → o ≡ No
-only_no No rest back e = refl
-only_no (Rejected fault) rest back e = absurd (not_78 82 _ rest back (λ d. omega arith) e)
-only_no (Refused reason) rest back e = absurd (not_78 82 _ rest back (λ d. omega arith) e)
-only_no TooManyPairs rest back e = absurd (not_78 82 _ rest back (λ d. omega arith) e)
-only_no (ReadFault role) rest back e = absurd (not_78 82 _ rest back (λ d. omega arith) e)
-only_no (TooLong role) rest back e = absurd (not_78 84 _ rest back (λ d. omega arith) e)
-only_no Later rest back e = absurd (not_78 76 _ rest back (λ d. omega arith) e)
+only_no : (o : Outcome) (rest : List ℕ) → text_of o ≡ 78 ∷ rest → o ≡ No
+only_no Yes rest e = absurd (not_byte 78 89 _ rest (λ d. omega arith) e)
+only_no No rest e = refl
+only_no (Rejected fault) rest e = absurd (not_byte 78 82 _ rest (λ d. omega arith) e)
+only_no (Refused reason) rest e = absurd (not_byte 78 82 _ rest (λ d. omega arith) e)
+only_no TooManyPairs rest e = absurd (not_byte 78 82 _ rest (λ d. omega arith) e)
+only_no (ReadFault role) rest e = absurd (not_byte 78 82 _ rest (λ d. omega arith) e)
+only_no (TooLong role) rest e = absurd (not_byte 78 84 _ rest (λ d. omega arith) e)
+only_no Later rest e = absurd (not_byte 78 76 _ rest (λ d. omega arith) e)
 
 some_same : (a b : List ℕ) → Some a ≡ Some b → a ≡ b
 some_same a b e = cc
@@ -56,35 +90,39 @@ output_front old new f g status result before text output (inr (fault, (front, b
     let same = append_cancel_left before front output (some_same (before ++ front) (before ++ output) (sym (wrote before e) ∙ h)) in
     (back, cut ∙ ap (λ x. x ++ back) same)
 
--- what a run with that text means, where its output begins with NO
-abbrev MeansIt : Shelves → List (List ℕ) → Type 0
-MeansIt s words = (file cert : List ℕ) × Asks words (check file cert) × Told (s.held file) (λ system. Told (s.held cert) (λ certificate. MeansNo system certificate))
-
--- an answer whose text begins with NO
-no_means : (s : Shelves) (words : List (List ℕ)) (status : Status) (text rest back : List ℕ) → Answers s words status text → text ≡ (78 ∷ 79 ∷ rest) ++ back → MeansIt s words
-no_means s words status text rest back (inl served) e = by served.request served.asks served.reply
+-- an answer whose text begins with a letter that none but the outcome o has as the first of its text, is that outcome of a check
+only_check : (s : Shelves) (words : List (List ℕ)) (status : Status) (text rest : List ℕ) (letter : ℕ) (o : Outcome)
+    → ((p : Outcome) (more : List ℕ) → text_of p ≡ letter ∷ more → p ≡ o) → ((file : List ℕ) → StandsBySystem s file o → ⊥)
+    → (83 ≡ letter → ⊥) → (66 ≡ letter → ⊥) → (79 ≡ letter → ⊥) → Answers s words status text → text ≡ letter ∷ rest
+    → (file cert : List ℕ) × Asks words (check file cert) × Stands s file cert o
+only_check s words status text rest letter o only never show_differs words_differ memory_differs (inl served) e = by served.request served.asks served.reply
   where
-    by : (r : Request) → Asks words r → Replies s r status text → MeansIt s words
-    by (check file cert) asks reply =
-        let no_is = only_no reply.outcome rest back (sym reply.text_is ∙ e) in
-        let stands = subst (λ o. Stands s file cert o) no_is reply.stands in (
-          file,
-          cert,
-          asks,
-          λ system held certificate certified.
-              let (within, d, ps, reads, has, told) = stands system held in
-              let judged : (c : Cert) × CertText certificate c × IsValidNo d c = (told certificate certified).1 in
-              valid_means system certificate d judged.0 reads judged.1 judged.2,
-        )
-    by (show file) asks (inl shows) = absurd (not_78 83 _ rest back (λ d. omega arith) (sym shows.begins.1 ∙ e))
-    by (show file) asks (inr tells) =
-        let no_is = only_no tells.outcome rest back (sym tells.text_is ∙ e) in
-        absurd (subst (λ o. StandsBySystem s file o) no_is tells.stands)
-no_means s words status text rest back (inr (inl misspoken)) e = absurd (not_78 66 _ rest back (λ d. omega arith) (sym misspoken.text_is ∙ e))
-no_means s words status text rest back (inr (inr starved)) e = absurd (not_78 79 _ rest back (λ d. omega arith) (sym starved.text_is ∙ e))
+    by : (r : Request) → Asks words r → Replies s r status text → (file cert : List ℕ) × Asks words (check file cert) × Stands s file cert o
+    by (check file cert) asks reply = (file, cert, asks, subst (λ p. Stands s file cert p) (only reply.outcome rest (sym reply.text_is ∙ e)) reply.stands)
+    by (show file) asks (inl shows) = absurd (not_byte letter 83 _ rest show_differs (sym shows.begins.1 ∙ e))
+    by (show file) asks (inr tells) = absurd (never file (subst (λ p. StandsBySystem s file p) (only tells.outcome rest (sym tells.text_is ∙ e)) tells.stands))
+only_check s words status text rest letter o only never show_differs words_differ memory_differs (inr (inl misspoken)) e = absurd (not_byte letter 66 _ rest words_differ (sym misspoken.text_is ∙ e))
+only_check s words status text rest letter o only never show_differs words_differ memory_differs (inr (inr starved)) e = absurd (not_byte letter 79 _ rest memory_differs (sym starved.text_is ∙ e))
+
+-- an output that begins with YES means what it says
+pub termination : (s : Shelves) (words : List (List ℕ)) (status : Status) (text : List ℕ) (old new : Option (List ℕ)) (f g : ℕ) (result : Status) → Answers s words status text → Ends old new f g status text result
+    → (before output : List ℕ) → old ≡ Some before → new ≡ Some (before ++ output) → BeginsWith (codes "YES") output → (file cert : List ℕ) × Asks words (check file cert) × Told (s.held file) MeansYes
+termination s words status text old new f g result answers ends before output e h (rest, begins) =
+    let (back, cut) = output_front old new f g status result before text output ends e h in
+    let (file, cert, asks, stands) = only_check s words status text _ 89 Yes only_yes (λ file h. h) (λ d. omega arith) (λ d. omega arith) (λ d. omega arith) answers (cut ∙ ap (λ x. x ++ back) begins) in
+    (file, cert, asks, λ system held. by_system file cert system (stands system held))
+  where
+    by_system : (file cert system : List ℕ) → (length system ≤ system_limit) × (d : SystemData) × (ps : List PairData) × Reads system d × HasPairs d ps × Checked (s.held cert) d ps Yes → MeansYes system
+    by_system file cert system (within, d, ps, reads, has, c, (is, valid), told) = yes_means system d ps c reads has is valid
 
 -- an output that begins with NO means what it says
-pub headline : (s : Shelves) (words : List (List ℕ)) (status : Status) (text : List ℕ) (old new : Option (List ℕ)) (f g : ℕ) (result : Status) → Answers s words status text → Ends old new f g status text result → (before output : List ℕ) → old ≡ Some before → new ≡ Some (before ++ output) → BeginsWith (78 ∷ 79 ∷ []) output → MeansIt s words
-headline s words status text old new f g result answers ends before output e h (rest, begins) =
+pub non_termination : (s : Shelves) (words : List (List ℕ)) (status : Status) (text : List ℕ) (old new : Option (List ℕ)) (f g : ℕ) (result : Status) → Answers s words status text → Ends old new f g status text result
+    → (before output : List ℕ) → old ≡ Some before → new ≡ Some (before ++ output) → BeginsWith (codes "NO") output
+    → (file cert : List ℕ) × Asks words (check file cert) × Told (s.held file) (λ system. Told (s.held cert) (λ certificate. MeansNo system certificate))
+non_termination s words status text old new f g result answers ends before output e h (rest, begins) =
     let (back, cut) = output_front old new f g status result before text output ends e h in
-    no_means s words status text rest back answers (cut ∙ ap (λ x. x ++ back) begins)
+    let (file, cert, asks, stands) = only_check s words status text _ 78 No only_no (λ file h. h) (λ d. omega arith) (λ d. omega arith) (λ d. omega arith) answers (cut ∙ ap (λ x. x ++ back) begins) in
+    (file, cert, asks, λ system held certificate certified. by_system file cert system certificate certified (stands system held))
+  where
+    by_system : (file cert system certificate : List ℕ) → s.held cert ≡ Some certificate → (length system ≤ system_limit) × (d : SystemData) × (ps : List PairData) × Reads system d × HasPairs d ps × Checked (s.held cert) d ps No → MeansNo system certificate
+    by_system file cert system certificate certified (within, d, ps, reads, has, c, (is, valid), told) = no_means system certificate d ps c reads (told certificate certified).1 is valid

@@ -6,10 +6,14 @@ use Rattle.wh_types.specs.declared.want.Or.TheVariants.{NoMemory, Because}
 use Rattle.wh_io.specs.Outside.{Rose}
 use Rattle.wh_system.specs.Systems.{SystemData}
 use Rattle.wh_system.specs.PairData.{PairData}
+use Rattle.wh_cert.specs.Written.{Cert}
+use Rattle.wh_cert.specs.CertText.{CertText, FaultAt, IsLater}
+use Rattle.wh_pairs.specs.SystemPairs.{HasTooManyPairs}
 use Rattle.wh_top.specs.declared.outcome.Role.TheVariants.{System, Certificate}
 use Rattle.wh_top.specs.declared.outcome.Outcome.{Outcome}
-use Rattle.wh_top.specs.declared.outcome.Outcome.TheVariants.{No, Rejected, Refused, TooManyPairs, ReadFault, TooLong, Later}
-use Rattle.wh_top.specs.Outcomes.{Shelves, Told, AreWithin, IsSystemIn, IsProblemIn, HasTooManyPairs, ToldSystem, Judged, StandsBySystem, Stands, certificate_limit}
+use Rattle.wh_top.specs.declared.outcome.Outcome.TheVariants.{Yes, No, Rejected, Refused, TooManyPairs, ReadFault, TooLong, Later}
+use Rattle.wh_top.specs.declared.outcome.Rejection.TheVariants.{Syntax, Condition}
+use Rattle.wh_top.specs.Outcomes.{Shelves, Told, AreWithin, IsSystemIn, IsProblemIn, ToldSystem, ToldCert, Certified, Weighed, Judged, Checked, StandsBySystem, Stands, certificate_limit}
 use Rattle.wh_top.specs.Unread.{CertificateFault}
 
 -- a cause that is handed on
@@ -39,6 +43,7 @@ certificate_stands s file cert d ps held mid (ReadFault Certificate) is same low
 certificate_stands s file cert d ps held mid (ReadFault System) is same low h = absurd h
 certificate_stands s file cert d ps held mid (TooLong Certificate) is same low long = (λ bytes e. long bytes (same ∙ e), told_with (s.held file) d ps (λ _ _. Unit {0}) is tt)
 certificate_stands s file cert d ps held mid (TooLong System) is same low h = absurd h
+certificate_stands s file cert d ps held mid Yes is same low h = absurd h
 certificate_stands s file cert d ps held mid No is same low h = absurd h
 certificate_stands s file cert d ps held mid (Rejected r) is same low h = absurd h
 certificate_stands s file cert d ps held mid (Refused r) is same low h = absurd h
@@ -46,17 +51,24 @@ certificate_stands s file cert d ps held mid TooManyPairs is same low h = absurd
 certificate_stands s file cert d ps held mid Later is same low h = absurd h
 
 -- what the bytes of the certificate come to is told of its file
-pub judged_stands : (s : Shelves) (file cert : List ℕ) (d : SystemData) (ps : List PairData) (bytes : List ℕ) (o : Outcome) → IsProblemIn (s.held file) d ps → Told (s.held cert) (AreWithin certificate_limit bytes) → Judged d bytes o → Stands s file cert o
+pub judged_stands : (s : Shelves) (file cert : List ℕ) (d : SystemData) (ps : List PairData) (bytes : List ℕ) (o : Outcome) → IsProblemIn (s.held file) d ps → Told (s.held cert) (AreWithin certificate_limit bytes) → Judged d ps bytes o
+    → Stands s file cert o
 judged_stands s file cert d ps bytes o is of_cert judged = by o judged
   where
-    both : (o : Outcome) → Judged d bytes o → ToldSystem (s.held file) (λ e _. Told (s.held cert) (λ held. (length held ≤ certificate_limit) × Judged e held o))
-    both o j = told_with (s.held file) d ps (λ e _. Told (s.held cert) (λ held. (length held ≤ certificate_limit) × Judged e held o)) is (λ held h. ((of_cert held h).1, subst (λ b. Judged d b o) (of_cert held h).0 j))
+    told : (P : List ℕ → Type 0) → P bytes → ToldCert (s.held cert) P
+    told P p held h = ((of_cert held h).1, subst P (of_cert held h).0 p)
 
-    by : (o : Outcome) → Judged d bytes o → Stands s file cert o
-    by No j = both No j
-    by (Rejected r) j = both (Rejected r) j
-    by Later j = both Later j
-    by (Refused r) j = absurd j
-    by TooManyPairs j = absurd j
-    by (ReadFault role) j = absurd j
-    by (TooLong role) j = absurd j
+    certified : (P : Cert → Type 0) → (c : Cert) × CertText bytes c × P c → Certified (s.held cert) P
+    certified P (c, text, p) = (c, p, told (λ b. CertText b c) text)
+
+    by : (o : Outcome) → Judged d ps bytes o → Stands s file cert o
+    by Yes j = told_with (s.held file) d ps (λ e es. Checked (s.held cert) e es Yes) is (certified (λ c. Weighed d ps c Yes) j)
+    by No j = told_with (s.held file) d ps (λ e es. Checked (s.held cert) e es No) is (certified (λ c. Weighed d ps c No) j)
+    by (Rejected (Syntax at)) j = told_with (s.held file) d ps (λ e es. Checked (s.held cert) e es (Rejected (Syntax at))) is (told (λ b. FaultAt b at × (IsLater b → ⊥)) j)
+    by (Rejected (Condition words)) j =
+        told_with (s.held file) d ps (λ e es. Checked (s.held cert) e es (Rejected (Condition words))) is (certified (λ c. Weighed d ps c (Rejected (Condition words))) j)
+    by Later j = told_with (s.held file) d ps (λ e es. Checked (s.held cert) e es Later) is (told IsLater j)
+    by (Refused r) j = absurd j.2.1
+    by TooManyPairs j = absurd j.2.1
+    by (ReadFault role) j = absurd j.2.1
+    by (TooLong role) j = absurd j.2.1

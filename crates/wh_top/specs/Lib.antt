@@ -3,6 +3,6 @@ pub mod Words
 pub mod Asked
 pub mod Outcomes
 pub mod Unread
-pub mod Weighing
+pub mod Rows
 pub mod Texts
 pub mod Run

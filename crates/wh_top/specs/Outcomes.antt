@@ -9,14 +9,17 @@ use Rattle.wh_system.specs.Systems.{SystemData}
 use Rattle.wh_system.specs.PairData.{PairData}
 use Rattle.wh_pairs.specs.SystemPairs.{HasPairs, HasTooManyPairs}
 use Rattle.wh_read.specs.Reading.{Reads, Refuses}
-use Rattle.wh_cert.specs.Written.{Cert}
-use Rattle.wh_cert.specs.CertText.{CertText, FaultAt}
-use Rattle.wh_no.specs.Faults.{IsFirstFault, IsValidNo}
+use Rattle.wh_cert.specs.Written.{Cert, yes, no}
+use Rattle.wh_cert.specs.CertText.{CertText, FaultAt, IsLater}
+use Rattle.wh_checker.specs.Valid.{IsValidCert}
+use Rattle.wh_checker.specs.Faults.{IsFirstFault}
+use Rattle.wh_checker.specs.declared.rejected.Rejected as conditions
 use Rattle.wh_top.specs.declared.outcome.Role.{Role}
 use Rattle.wh_top.specs.declared.outcome.Role.TheVariants.{System, Certificate}
 use Rattle.wh_top.specs.declared.outcome.Rejection.TheVariants.{Syntax, Condition}
+use Rattle.wh_top.specs.Rows.{row_text}
 use Rattle.wh_top.specs.declared.outcome.Outcome.{Outcome}
-use Rattle.wh_top.specs.declared.outcome.Outcome.TheVariants.{No, Rejected, Refused, TooManyPairs, ReadFault, TooLong, Later}
+use Rattle.wh_top.specs.declared.outcome.Outcome.TheVariants.{Yes, No, Rejected, Refused, TooManyPairs, ReadFault, TooLong, Later}
 
 -- the outside of a run: what the shelf tells of each file's bytes, and each file's faults before and after the run
 pub record Shelves : Type 0 where
@@ -55,13 +58,33 @@ ToldSystem held P = Told held (λ bytes. (length bytes ≤ system_limit) × (d :
 abbrev pub BeginsWith : List ℕ → List ℕ → Type 0
 BeginsWith front text = (rest : List ℕ) × (text ≡ front ++ rest)
 
--- what the bytes of the certificate come to, for a system. Certificates that begin with `Y` are not built yet.
-abbrev pub Judged : SystemData → List ℕ → Outcome → Type 0
-Judged d bytes No = (c : Cert) × CertText bytes c × IsValidNo d c
-Judged d bytes (Rejected (Syntax at)) = (BeginsWith (89 ∷ []) bytes → ⊥) × FaultAt bytes at
-Judged d bytes (Rejected (Condition fault)) = (c : Cert) × CertText bytes c × IsFirstFault d c fault
-Judged d bytes Later = BeginsWith (89 ∷ []) bytes
-Judged d bytes _ = ⊥
+-- the certificate is one of termination
+abbrev pub IsYes : Cert → Type 0
+IsYes (yes version ranks pairs nodes) = Unit {0}
+IsYes (no term steps at puts) = ⊥
+
+-- the certificate is one of non-termination
+abbrev pub IsNo : Cert → Type 0
+IsNo (yes version ranks pairs nodes) = ⊥
+IsNo (no term steps at puts) = Unit {0}
+
+-- the words name the first condition that is false of the certificate
+abbrev pub IsRejectedFor : SystemData → List PairData → Cert → List ℕ → Type 0
+IsRejectedFor d ps c words = (r : conditions.Rejected) × IsFirstFault d ps c r × (words ≡ row_text d r)
+
+-- what a certificate that was read comes to, for a system with its pairs
+abbrev pub Weighed : SystemData → List PairData → Cert → Outcome → Type 0
+Weighed d ps c Yes = IsYes c × IsValidCert d ps c
+Weighed d ps c No = IsNo c × IsValidCert d ps c
+Weighed d ps c (Rejected (Condition words)) = IsRejectedFor d ps c words
+Weighed d ps c _ = ⊥
+
+-- what the bytes of the certificate come to, for a system with its pairs: they are no certificate text, or they begin a form
+-- that is not built yet, or they are the text of a certificate that comes to this
+abbrev pub Judged : SystemData → List PairData → List ℕ → Outcome → Type 0
+Judged d ps bytes (Rejected (Syntax at)) = FaultAt bytes at × (IsLater bytes → ⊥)
+Judged d ps bytes Later = IsLater bytes
+Judged d ps bytes o = (c : Cert) × CertText bytes c × Weighed d ps c o
 
 -- when the outcomes come that the system file alone decides: its fault, then its length, then why it is no system, then that
 -- it has too many pairs
@@ -72,10 +95,20 @@ StandsBySystem s file (Refused reason) = Told (s.held file) (λ bytes. (length b
 StandsBySystem s file TooManyPairs = Told (s.held file) (λ bytes. (length bytes ≤ system_limit) × (d : SystemData) × Reads bytes d × HasTooManyPairs d)
 StandsBySystem s file _ = ⊥
 
--- what is said of the certificate's bytes and a system, where the bytes of both files are told
-abbrev pub ToldBoth : Shelves → List ℕ → List ℕ → Outcome → Type 0
-ToldBoth s file cert o =
-    ToldSystem (s.held file) (λ d ps. Told (s.held cert) (λ bytes. (length bytes ≤ certificate_limit) × Judged d bytes o))
+-- P holds of a certificate, whose text the file is where its bytes are told
+abbrev pub Certified : Option (List ℕ) → (Cert → Type 0) → Type 0
+Certified held P = (c : Cert) × P c × Told held (λ bytes. (length bytes ≤ certificate_limit) × CertText bytes c)
+
+-- what is said of the bytes of the certificate's file, where they are told
+abbrev pub ToldCert : Option (List ℕ) → (List ℕ → Type 0) → Type 0
+ToldCert held P = Told held (λ bytes. (length bytes ≤ certificate_limit) × P bytes)
+
+-- what the check of the certificate in that file comes to, for a system with its pairs. That there is a certificate, and what
+-- is said of it, does not ask that the file's bytes are told.
+abbrev pub Checked : Option (List ℕ) → SystemData → List PairData → Outcome → Type 0
+Checked held d ps (Rejected (Syntax at)) = ToldCert held (λ bytes. FaultAt bytes at × (IsLater bytes → ⊥))
+Checked held d ps Later = ToldCert held IsLater
+Checked held d ps o = Certified held (λ c. Weighed d ps c o)
 
 -- when the outcome of a check of these two files comes. All that the system file decides comes before the certificate's
 -- read fault, that before its length, and this before what its bytes come to.
@@ -83,9 +116,10 @@ abbrev pub Stands : Shelves → List ℕ → List ℕ → Outcome → Type 0
 Stands s file cert (ReadFault Certificate) = Rose (s.before cert) (s.after cert) × ToldSystem (s.held file) (λ d ps. Unit {0})
 Stands s file cert (TooLong Certificate) =
     Told (s.held cert) (λ bytes. certificate_limit < length bytes) × ToldSystem (s.held file) (λ d ps. Unit {0})
-Stands s file cert No = ToldBoth s file cert No
-Stands s file cert (Rejected rejection) = ToldBoth s file cert (Rejected rejection)
-Stands s file cert Later = ToldBoth s file cert Later
+Stands s file cert Yes = ToldSystem (s.held file) (λ d ps. Checked (s.held cert) d ps Yes)
+Stands s file cert No = ToldSystem (s.held file) (λ d ps. Checked (s.held cert) d ps No)
+Stands s file cert (Rejected rejection) = ToldSystem (s.held file) (λ d ps. Checked (s.held cert) d ps (Rejected rejection))
+Stands s file cert Later = ToldSystem (s.held file) (λ d ps. Checked (s.held cert) d ps Later)
 Stands s file cert o = StandsBySystem s file o
 
 -- the outcome that a file's read fault gives

@@ -1,8 +1,10 @@
--- What a run answers, what it writes, and what an output that begins with NO means.
+-- What a run answers, what it writes, and what an output means that begins with YES or NO.
 use Rattle.std.specs.Prelude.{ℕ, ◌≡◌, ◌⊎◌, List, codes, Option}
 use Rattle.wh_io.specs.Outside.{Rose, Wrote}
 use Rattle.wh_io.specs.Writing.{WroteFront}
-use Rattle.wh_step.specs.Reduction.{Unbounded}
+use Rattle.wh_terms.specs.Tree.{Tm}
+use Rattle.wh_terms.specs.Typing.{WellTyped}
+use Rattle.wh_step.specs.Reduction.{Bounded, Unbounded}
 use Rattle.wh_system.specs.Systems.{SystemData}
 use Rattle.wh_read.specs.Reading.{Reads}
 use Rattle.wh_print.specs.SystemText.{system_text}
@@ -62,6 +64,14 @@ Answers s words status text = Served s words status text ⊎ Misspoken words sta
 abbrev pub Ends : Option (List ℕ) → Option (List ℕ) → ℕ → ℕ → Status → List ℕ → Status → Type 0
 Ends old new before now status text result =
     ((result ≡ status) × Wrote old new text × (now ≡ before)) ⊎ ((result ≡ WriteFault) × WroteFront old new text × Rose before now)
+
+-- what YES means of the bytes of the system file: they are a text of one system, and each well-typed term of it has a number
+-- that no reduction from it by its rules and beta exceeds in length
+pub record MeansYes (system : List ℕ) : Type 0 where
+  pub data_read : SystemData
+  pub reads : Reads system data_read
+  pub one : (other : SystemData) → Reads system other → other ≡ data_read
+  pub bounded : (t : Tm) → WellTyped data_read.symbols t → Bounded data_read.rules t
 
 -- what NO means of the bytes of the two files: the first is a text of one system, and the term of the certificate has
 -- reductions of every length by its rules and beta

@@ -7,8 +7,6 @@ use Rattle.wh_print.specs.SystemText.{system_text}
 use Rattle.wh_print.specs.PairText.{pairs_text}
 use Rattle.wh_read.specs.declared.reasons.Reason.{Reason}
 use Rattle.wh_read.specs.declared.reasons.Reason.TheVariants.{BadByte, BadNumber, NameTooLong, Syntax as SyntaxFault, UnknownName, Twice, IllTyped, NotPattern, OpenSide, NewMeta, HeadNotFun, UnevenRules, TooMany}
-use Rattle.wh_no.specs.declared.fault.NoFault.{NoFault}
-use Rattle.wh_no.specs.declared.fault.NoFault.TheVariants.{NotATerm, NoStep, StepFails, TooBig, BadPut, NoInstance}
 use Rattle.wh_top.specs.declared.status.Status as status
 use Rattle.wh_top.specs.declared.status.Status.TheVariants as statuses
 use Rattle.wh_top.specs.declared.outcome.Role.{Role}
@@ -16,7 +14,7 @@ use Rattle.wh_top.specs.declared.outcome.Role.TheVariants.{System, Certificate}
 use Rattle.wh_top.specs.declared.outcome.Rejection.{Rejection}
 use Rattle.wh_top.specs.declared.outcome.Rejection.TheVariants.{Syntax, Condition}
 use Rattle.wh_top.specs.declared.outcome.Outcome.{Outcome}
-use Rattle.wh_top.specs.declared.outcome.Outcome.TheVariants.{No, Rejected, Refused, TooManyPairs, ReadFault, TooLong, Later}
+use Rattle.wh_top.specs.declared.outcome.Outcome.TheVariants.{Yes, No, Rejected, Refused, TooManyPairs, ReadFault, TooLong, Later}
 
 abbrev pub line : List ℕ → List ℕ
 line text = text ++ (10 ∷ [])
@@ -41,19 +39,12 @@ reason_word HeadNotFun = codes "head-not-function"
 reason_word UnevenRules = codes "uneven-rules"
 reason_word TooMany = codes "too-many"
 
-abbrev pub condition_text : NoFault → List ℕ
-condition_text NotATerm = codes "term"
-condition_text NoStep = codes "no-step"
-condition_text (StepFails i) = codes "step " ++ decimal i
-condition_text (TooBig i) = codes "too-big " ++ decimal i
-condition_text (BadPut i) = codes "put " ++ decimal i
-condition_text NoInstance = codes "no-instance"
-
 abbrev pub rejection_text : Rejection → List ℕ
 rejection_text (Syntax at) = codes "syntax " ++ decimal at
-rejection_text (Condition fault) = condition_text fault
+rejection_text (Condition words) = words
 
 abbrev pub text_of : Outcome → List ℕ
+text_of Yes = line (codes "YES")
 text_of No = line (codes "NO")
 text_of (Rejected rejection) = line (codes "REJECTED " ++ rejection_text rejection)
 text_of (Refused r) = line (codes "REFUSED " ++ (reason_word r.reason ++ (32 ∷ decimal r.at)))
@@ -63,6 +54,7 @@ text_of (TooLong role) = line (codes "TOO LONG " ++ role_word role)
 text_of Later = line (codes "LATER")
 
 abbrev pub status_of : Outcome → status.Status
+status_of Yes = statuses.Answered
 status_of No = statuses.Answered
 status_of (Rejected rejection) = statuses.Rejected
 status_of (Refused r) = statuses.Refused

@@ -4,7 +4,8 @@ ghost use Rattle.std.specs.Prelude.{◌≡◌, ◌≤◌, ℕ, List, IfOk, lengt
 ghost use Rattle.wh_types.specs.Outcome.{MatchOr};
 ghost use Rattle.wh_io.specs.Outside.{Rose};
 ghost use Rattle.wh_system.specs.SystemView.{system_data};
-ghost use Rattle.wh_top.specs.Outcomes.{AreWithin, HasPairs, HasTooManyPairs, IsProblemIn, IsSystemIn, StandsBySystem, Told, UnreadBy, certificate_limit};
+ghost use Rattle.wh_pairs.specs.SystemPairs.{HasPairs, HasTooManyPairs};
+ghost use Rattle.wh_top.specs.Outcomes.{AreWithin, IsProblemIn, IsSystemIn, StandsBySystem, Told, UnreadBy, certificate_limit};
 ghost use Rattle.wh_top.specs.Unread.{CertificateFault, RefusedBy};
 ghost use Rattle.wh_pairs.specs.Views.{pairs_data};
 ghost use Rattle.wh_top.specs.declared.outcome.Outcome.TheVariants.{Refused as refused_outcome};

@@ -6,21 +6,21 @@ ghost use Rattle.wh_system.specs.SystemView.{system_data};
 ghost use Rattle.wh_pairs.specs.Views.{pairs_data};
 ghost use Rattle.wh_print.specs.SystemText.{system_text};
 ghost use Rattle.wh_read.specs.Reading.{Reads};
-ghost use Rattle.wh_top.specs.Outcomes.{BeginsWith, HasPairs, Judged, Stands, StandsBySystem, ToldSystem};
+ghost use Rattle.wh_pairs.specs.SystemPairs.{HasPairs};
+ghost use Rattle.wh_top.specs.Outcomes.{BeginsWith, Judged, Stands, StandsBySystem, ToldSystem, Weighed};
 ghost use Rattle.wh_top.specs.Texts.{line, shown_text};
-ghost use Rattle.wh_top.specs.Weighing.{Weighed};
 ghost use Rattle.wh_cert.specs.Limits.{IsCert};
 ghost use Rattle.wh_cert.specs.Said.{said};
 
 use crate::files::{Problem, certificate_in, problem_in};
 use crate::outcome::{Outcome, Rejection};
+use crate::rejection::rejection_words;
 use std::alloc::{AllocError, Global};
-use wh_cert::{Certificate, read_certificate};
+use wh_cert::{CertFault, Certificate, read_certificate};
+use wh_checker::{Accepted, check};
 use wh_io::Shelf;
-use wh_no::check_no;
 use wh_print::{print_pairs, print_system};
 use wh_round::printed_systems_are_read_back;
-use wh_system::System;
 use wh_types::{Bytes, Or};
 
 /// Checks the certificate in the second file against the system in the first one. Both files are read.
@@ -35,7 +35,7 @@ pub fn check_files<S: Shelf>(
 {
     let problem = problem_in(alloc, shelf, file)?;
     let certificate = certificate_in(alloc, shelf, cert)?;
-    Ok(judge(alloc, &problem.system, certificate.as_slice())?)
+    Ok(judge(alloc, &problem, certificate.as_slice())?)
 }
 
 /// The text that shows the system in the file with its dependency pairs, or why there is none.
@@ -64,29 +64,34 @@ fn shown(alloc: Global, problem: &Problem) -> Result<Bytes, AllocError>
 }
 
 // What the bytes of the certificate come to.
-fn judge(alloc: Global, system: &System, bytes: &[u8]) -> Result<Outcome, AllocError>
+fn judge(alloc: Global, problem: &Problem, bytes: &[u8]) -> Result<Outcome, AllocError>
     requires { length bytes.now ≤ 8388608 }
-    ensures { IfOk result (Judged (system_data system.now) bytes.now) }
+    requires { HasPairs (system_data problem.now.system) (pairs_data problem.now.pairs) }
+    ensures { IfOk result (Judged (system_data problem.now.system) (pairs_data problem.now.pairs) bytes.now) }
 {
-    if bytes.first() == Some(&b'Y') {
-        return Ok(Outcome::Later);
-    }
     match read_certificate(alloc, bytes) {
-        Ok(certificate) => weigh(alloc, system, &certificate),
+        Ok(certificate) => weigh(alloc, problem, &certificate),
         Err(Or::NoMemory) => Err(AllocError),
-        Err(Or::Because(fault)) => Ok(Outcome::Rejected(Rejection::Syntax { at: fault.at })),
+        Err(Or::Because(CertFault::Later)) => Ok(Outcome::Later),
+        Err(Or::Because(CertFault::Syntax(fault))) => {
+            Ok(Outcome::Rejected(Rejection::Syntax { at: fault.at }))
+        }
     }
 }
 
 // What a certificate that was read comes to.
-fn weigh(alloc: Global, system: &System, certificate: &Certificate) -> Result<Outcome, AllocError>
+fn weigh(alloc: Global, problem: &Problem, certificate: &Certificate) -> Result<Outcome, AllocError>
     requires { IsCert (said certificate.now) }
-    ensures { IfOk result (Weighed (system_data system.now) (said certificate.now)) }
+    requires { HasPairs (system_data problem.now.system) (pairs_data problem.now.pairs) }
+    ensures { IfOk result (Weighed (system_data problem.now.system) (pairs_data problem.now.pairs) (said certificate.now)) }
 {
-    let Certificate::No(no) = certificate;
-    match check_no(alloc, system, no) {
-        Ok(_) => Ok(Outcome::No),
+    match check(alloc, &problem.system, &problem.pairs, certificate) {
+        Ok(Accepted::Yes(_)) => Ok(Outcome::Yes),
+        Ok(Accepted::No(_)) => Ok(Outcome::No),
         Err(Or::NoMemory) => Err(AllocError),
-        Err(Or::Because(fault)) => Ok(Outcome::Rejected(Rejection::Condition(fault))),
+        Err(Or::Because(fault)) => {
+            let words = rejection_words(alloc, &problem.system, &fault)?;
+            Ok(Outcome::Rejected(Rejection::Condition(words)))
+        }
     }
 }

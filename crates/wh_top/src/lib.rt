@@ -5,6 +5,7 @@ mod files;
 mod judging;
 mod outcome;
 mod program;
+mod rejection;
 mod status;
 mod words;
 

@@ -1,13 +1,13 @@
 //! What a run comes to, apart from the text of a system that is shown, and its line.
 
-ghost use Rattle.std.specs.Prelude.{◌≡◌, IfOk, string_bytes};
-ghost use Rattle.wh_top.specs.Texts.{condition_text, reason_word, rejection_text, role_word, status_of, text_of};
+ghost use Rattle.std.specs.Prelude.{◌≡◌, ◌∷◌, ◌++◌, IfOk, codes};
+ghost use Rattle.std.specs.Fmt.{decimal};
+ghost use Rattle.wh_top.specs.Texts.{line, reason_word, rejection_text, role_word, status_of, text_of};
 
 use crate::status::Status;
 use std::alloc::{AllocError, Global};
-use wh_no::NoFault;
 use wh_read::{Reason, Refused};
-use wh_types::Or;
+use wh_types::{Bytes, Or};
 
 /// Which of the two files.
 #[derive(Clone, Copy)]
@@ -19,20 +19,22 @@ pub enum Role {
 }
 
 /// Why a certificate is rejected.
-#[derive(Clone, Copy)]
+#[derive(Drop)]
 pub enum Rejection {
     /// The bytes are no certificate text, and no such text begins with more of them than `at`.
     Syntax {
         /// The place of the byte that can't stand there, or the length where the text ends too early.
         at: u64,
     },
-    /// The first condition that is false.
-    Condition(NoFault),
+    /// The words for the first condition that is false.
+    Condition(Bytes),
 }
 
 /// What a run comes to.
-#[derive(Clone, Copy)]
+#[derive(Drop)]
 pub enum Outcome {
+    /// The certificate is valid: each well-typed term of the system has a number that no reduction from it exceeds.
+    Yes,
     /// The certificate is valid: its term has reductions of every length.
     No,
     /// The certificate is rejected.
@@ -78,7 +80,7 @@ impl Outcome {
         ensures { result ≡ status_of self.now }
     {
         match self {
-            Outcome::No => Status::Answered,
+            Outcome::Yes | Outcome::No => Status::Answered,
             Outcome::Rejected(_) => Status::Rejected,
             Outcome::Refused(_) | Outcome::TooManyPairs => Status::Refused,
             Outcome::ReadFault(_) => Status::ReadFault,
@@ -88,69 +90,66 @@ impl Outcome {
     }
 
     /// The line that such a run writes.
-    pub fn text(&self, alloc: Global) -> Result<String, AllocError>
-        ensures { IfOk result (λ text. string_bytes text ≡ text_of self.now) }
+    pub fn text(&self, alloc: Global) -> Result<Bytes, AllocError>
+        ensures { IfOk result (λ text. text ≡ text_of self.now) }
     {
         match self {
-            Outcome::No => String::from_str(alloc, "NO\n"),
-            Outcome::Rejected(rejection) => {
-                let why = rejection_words(alloc, rejection)?;
-                let why = why.as_str();
-                format!(in alloc; "REJECTED {why}\n")
-            }
-            Outcome::Refused(refused) => {
-                let word = reason_text(&refused.reason);
-                let at = refused.at;
-                format!(in alloc; "REFUSED {word} {at}\n")
-            }
-            Outcome::TooManyPairs => String::from_str(alloc, "REFUSED too-many-pairs 0\n"),
-            Outcome::ReadFault(role) => {
-                let word = role.word();
-                format!(in alloc; "READ FAULT {word}\n")
-            }
-            Outcome::TooLong(role) => {
-                let word = role.word();
-                format!(in alloc; "TOO LONG {word}\n")
-            }
-            Outcome::Later => String::from_str(alloc, "LATER\n"),
+            Outcome::Yes => fixed(alloc, b"YES\n"),
+            Outcome::No => fixed(alloc, b"NO\n"),
+            Outcome::Rejected(rejection) => rejected_line(alloc, rejection),
+            Outcome::Refused(refused) => refused_line(alloc, refused),
+            Outcome::TooManyPairs => fixed(alloc, b"REFUSED too-many-pairs 0\n"),
+            Outcome::ReadFault(role) => role_line(alloc, b"READ FAULT ", *role),
+            Outcome::TooLong(role) => role_line(alloc, b"TOO LONG ", *role),
+            Outcome::Later => fixed(alloc, b"LATER\n"),
         }
     }
 }
 
-// What stands behind `REJECTED`.
-fn rejection_words(alloc: Global, rejection: &Rejection) -> Result<String, AllocError>
-    ensures { IfOk result (λ text. string_bytes text ≡ rejection_text rejection.now) }
+// A text that is always the same.
+fn fixed(alloc: Global, line: &[u8]) -> Result<Bytes, AllocError>
+    ensures { IfOk result (λ text. text ≡ line.now) }
 {
+    let mut text = Bytes::new(alloc)?;
+    text.append(line)?;
+    Ok(text)
+}
+
+// The line of a certificate that is rejected.
+fn rejected_line(alloc: Global, rejection: &Rejection) -> Result<Bytes, AllocError>
+    ensures { IfOk result (λ text. text ≡ line (codes "REJECTED " ++ rejection_text rejection.now)) }
+{
+    let mut text = fixed(alloc, b"REJECTED ")?;
     match rejection {
         Rejection::Syntax { at } => {
             let at = *at;
-            format!(in alloc; "syntax {at}")
+            let words = format!(in alloc; "syntax {at}")?;
+            text.append(words.as_bytes())?;
         }
-        Rejection::Condition(fault) => condition_words(alloc, fault),
+        Rejection::Condition(words) => text.append(words.as_slice())?,
     }
+    text.append(b"\n")?;
+    Ok(text)
 }
 
-// The words of a condition that is false.
-fn condition_words(alloc: Global, fault: &NoFault) -> Result<String, AllocError>
-    ensures { IfOk result (λ text. string_bytes text ≡ condition_text fault.now) }
+// The line of a system that is refused.
+fn refused_line(alloc: Global, refused: &Refused) -> Result<Bytes, AllocError>
+    ensures { IfOk result (λ text. text ≡ line (codes "REFUSED " ++ (reason_word refused.now.reason ++ (32 ∷ decimal refused.now.at)))) }
 {
-    match fault {
-        NoFault::NotATerm => String::from_str(alloc, "term"),
-        NoFault::NoStep => String::from_str(alloc, "no-step"),
-        NoFault::StepFails { index } => {
-            let index = *index;
-            format!(in alloc; "step {index}")
-        }
-        NoFault::TooBig { index } => {
-            let index = *index;
-            format!(in alloc; "too-big {index}")
-        }
-        NoFault::BadPut { index } => {
-            let index = *index;
-            format!(in alloc; "put {index}")
-        }
-        NoFault::NoInstance => String::from_str(alloc, "no-instance"),
-    }
+    let word = reason_text(&refused.reason);
+    let at = refused.at;
+    let words = format!(in alloc; "REFUSED {word} {at}\n")?;
+    fixed(alloc, words.as_bytes())
+}
+
+// The line of a file that was not read.
+fn role_line(alloc: Global, what: &[u8], role: Role) -> Result<Bytes, AllocError>
+    ensures { IfOk result (λ text. text ≡ line (what.now ++ role_word role)) }
+{
+    let mut text = fixed(alloc, what)?;
+    text.append(role.word().as_bytes())?;
+    text.append(b"\n")?;
+    Ok(text)
 }
 
 // The word of a reason for refusing a system.

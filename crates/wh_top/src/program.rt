@@ -3,7 +3,7 @@
 ghost use Rattle.std.specs.Prelude.{◌≡◌, ◌++◌, ℕ, List, Some, IfOk, map, codes, string_bytes};
 ghost use Rattle.wh_top.specs.Asked.{request};
 ghost use Rattle.wh_top.specs.Outcomes.{BeginsWith, Told};
-ghost use Rattle.wh_top.specs.Run.{Answers, Ends, MeansNo, Replies};
+ghost use Rattle.wh_top.specs.Run.{Answers, Ends, MeansNo, MeansYes, Replies};
 ghost use Rattle.wh_top.specs.Texts.{line, status_of, text_of};
 ghost use Rattle.wh_top.specs.Words.{Asks, check};
 
@@ -18,11 +18,12 @@ use wh_types::{Bytes, Or};
 /// Does what the words ask, reads files from the shelf and writes one text to the sink.
 ///
 /// The words are those after the program's own name. The text is built whole before it is written.
-/// `answer` says which status and text answer which words and files, with the cause of each refusal;
-/// `headline` says what an output that begins with `NO` means.
+/// `answer` says which status and text answer which words and files, with the cause of each refusal; `termination` and
+/// `non_termination` say what an output means that begins with `YES` or with `NO`.
 pub fn run<S: Shelf, K: Sink>(alloc: Global, words: &[String], shelf: &mut S, out: &mut K) -> Status
     ensures answer { (status : Status) × (text : List ℕ) × Answers (record { held = S.held shelf.old; before = S.faults shelf.old; after = S.faults shelf.new }) (map string_bytes words.now) status text × Ends (K.written out.old) (K.written out.new) (K.faults out.old) (K.faults out.new) status text result }
-    ensures headline { (before output : List ℕ) → K.written out.old ≡ Some before → K.written out.new ≡ Some (before ++ output) → BeginsWith (codes "NO") output → (file cert : List ℕ) × Asks (map string_bytes words.now) (check file cert) × Told (S.held shelf.old file) (λ system. Told (S.held shelf.old cert) (λ certificate. MeansNo system certificate)) }
+    ensures termination { (before output : List ℕ) → K.written out.old ≡ Some before → K.written out.new ≡ Some (before ++ output) → BeginsWith (codes "YES") output → (file cert : List ℕ) × Asks (map string_bytes words.now) (check file cert) × Told (S.held shelf.old file) MeansYes }
+    ensures non_termination { (before output : List ℕ) → K.written out.old ≡ Some before → K.written out.new ≡ Some (before ++ output) → BeginsWith (codes "NO") output → (file cert : List ℕ) × Asks (map string_bytes words.now) (check file cert) × Told (S.held shelf.old file) (λ system. Told (S.held shelf.old cert) (λ certificate. MeansNo system certificate)) }
     ensures kept { (other : List ℕ) → S.held shelf.new other ≡ S.held shelf.old other }
 {
     let Some(command) = read_words(words) else {
@@ -74,12 +75,9 @@ fn told(alloc: Global, outcome: &Outcome) -> Result<Reply, AllocError>
     ensures status { IfOk result (λ reply. reply.status ≡ status_of outcome.now) }
     ensures text { IfOk result (λ reply. reply.text ≡ text_of outcome.now) }
 {
-    let line = outcome.text(alloc)?;
-    let mut text = Bytes::new(alloc)?;
-    text.append(line.as_bytes())?;
     Ok(Reply {
         status: outcome.status(),
-        text,
+        text: outcome.text(alloc)?,
     })
 }
 

@@ -1,7 +1,8 @@
 use Rattle.std.proofs.Common.{◌≡◌}
 use Rattle.wh_system.specs.SystemView.{system_data}
 use Rattle.wh_top.specs.declared.outcome.Outcome.TheVariants.{TooManyPairs}
-use Rattle.wh_top.specs.Outcomes.{Shelves, HasTooManyPairs, StandsBySystem}
+use Rattle.wh_pairs.specs.SystemPairs.{HasTooManyPairs}
+use Rattle.wh_top.specs.Outcomes.{Shelves, StandsBySystem}
 use Rattle.wh_top.proofs.Standing.{carry, too_many_stand}
 use Rattle.wh_top.proofs.files.problem_in.Goals as goal
 

@@ -20,4 +20,4 @@ returns-clause-stands g c =
     let s : Shelves = record { held = g.S.Shelf.held c.args.shelf.now; before = g.S.Shelf.faults c.args.shelf.now; after = g.S.Shelf.faults c.certificate_in.new.shelf } in
     judged_stands s c.args.file.now c.args.cert.now (system_data c.in_ok-problem.problem.system) (pairs_data c.in_ok-problem.problem.pairs) c.in_ok-certificate.certificate c.in_ok-judge.field-0 c.in_ok-problem.ensures.read
     (λ bytes h. c.in_ok-certificate.ensures.read bytes (c.in_ok-problem.ensures.kept c.args.cert.now ∙ h))
-    (subst (λ b. Judged (system_data c.in_ok-problem.problem.system) b c.in_ok-judge.field-0) c.as_slice.ensures c.in_ok-judge.ensures)
+    (subst (λ b. Judged (system_data c.in_ok-problem.problem.system) (pairs_data c.in_ok-problem.problem.pairs) b c.in_ok-judge.field-0) c.as_slice.ensures c.in_ok-judge.ensures)
