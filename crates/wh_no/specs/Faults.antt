@@ -89,3 +89,7 @@ IsFirstFault d (no raw steps at lines) fault = IsFirstFalse d raw steps at lines
 -- the certificate says a valid claim, and the answer has the number of its steps (ours)
 abbrev pub IsAccepted : SystemData → Cert → AcceptedNo → Type 0
 IsAccepted d cert accepted = (c : Claim) × Says d cert c × IsValid d.symbols d.rules c × (accepted.steps ≡ length c.steps)
+
+-- the certificate's names make it a claim over the system, which is valid (ours)
+abbrev pub IsValidNo : SystemData → Cert → Type 0
+IsValidNo d cert = (c : Claim) × Says d cert c × IsValid d.symbols d.rules c

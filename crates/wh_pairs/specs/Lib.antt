@@ -7,3 +7,4 @@ pub mod Views
 pub mod Known
 pub mod Survivors
 pub mod Parts
+pub mod SystemPairs

@@ -7,15 +7,11 @@ use Rattle.wh_io.specs.declared.read.ReadFault as read
 use Rattle.wh_io.specs.declared.read.ReadFault.TheVariants as faults
 use Rattle.wh_system.specs.Systems.{SystemData}
 use Rattle.wh_system.specs.PairData.{PairData}
-use Rattle.wh_pairs.specs.Candidates.{candidates}
-use Rattle.wh_pairs.specs.Subsumption.{ArePairs}
+use Rattle.wh_pairs.specs.SystemPairs.{HasPairs, HasTooManyPairs}
 use Rattle.wh_read.specs.Reading.{Reads, Refuses}
 use Rattle.wh_cert.specs.Written.{Cert}
 use Rattle.wh_cert.specs.CertText.{CertText, FaultAt}
-use Rattle.wh_no.specs.Claim.{Claim}
-use Rattle.wh_no.specs.Meaning.{Says}
-use Rattle.wh_no.specs.Valid.{IsValid}
-use Rattle.wh_no.specs.Faults.{IsFirstFault}
+use Rattle.wh_no.specs.Faults.{IsFirstFault, IsValidNo}
 use Rattle.wh_top.specs.declared.outcome.Role.{Role}
 use Rattle.wh_top.specs.declared.outcome.Role.TheVariants.{System, Certificate}
 use Rattle.wh_top.specs.declared.outcome.Rejection.TheVariants.{Syntax, Condition}
@@ -47,15 +43,6 @@ AreWithin limit bytes held = (bytes ≡ held) × (length held ≤ limit)
 abbrev pub IsSystemIn : Option (List ℕ) → SystemData → Type 0
 IsSystemIn held d = Told held (λ bytes. (length bytes ≤ system_limit) × Reads bytes d)
 
--- these are the dependency pairs of the system, and there are at most 4,096
-pub record HasPairs (d : SystemData) (ps : List PairData) : Type 0 where
-  pub are : ArePairs (candidates d.symbols d.rules) ps
-  pub few : length ps ≤ 4096
-
--- the system has more
-abbrev pub HasTooManyPairs : SystemData → Type 0
-HasTooManyPairs d = (ps : List PairData) × ArePairs (candidates d.symbols d.rules) ps × (4096 < length ps)
-
 -- d is the system of which the file is a text, within its limit, and these are its pairs
 abbrev pub IsProblemIn : Option (List ℕ) → SystemData → List PairData → Type 0
 IsProblemIn held d ps = IsSystemIn held d × HasPairs d ps
@@ -67,10 +54,6 @@ ToldSystem held P = Told held (λ bytes. (length bytes ≤ system_limit) × (d :
 -- the text begins with these bytes
 abbrev pub BeginsWith : List ℕ → List ℕ → Type 0
 BeginsWith front text = (rest : List ℕ) × (text ≡ front ++ rest)
-
--- the certificate's names make it a claim over the system, which is valid
-abbrev pub IsValidNo : SystemData → Cert → Type 0
-IsValidNo d c = (claim : Claim) × Says d c claim × IsValid d.symbols d.rules claim
 
 -- what the bytes of the certificate come to, for a system. Certificates that begin with `Y` are not built yet.
 abbrev pub Judged : SystemData → List ℕ → Outcome → Type 0

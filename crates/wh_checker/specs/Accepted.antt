@@ -1,0 +1,15 @@
+-- What an accepted certificate comes to.
+use Rattle.std.specs.Prelude.{◌≡◌, List, length}
+use Rattle.wh_system.specs.Systems.{SystemData}
+use Rattle.wh_system.specs.PairData.{PairData}
+use Rattle.wh_cert.specs.Written.{Cert, yes, no}
+use Rattle.wh_no.specs.Faults as claims
+use Rattle.wh_checker.specs.Valid.{IsValidYes}
+use Rattle.wh_checker.specs.declared.check.Accepted.{Accepted}
+use Rattle.wh_checker.specs.declared.check.Accepted.TheVariants as answer
+
+-- the certificate is valid, and the answer has the number of its nodes or steps (ours)
+abbrev pub IsAccepted : SystemData → List PairData → Cert → Accepted → Type 0
+IsAccepted d ps (yes version ranks pairs lines) (answer.Yes a) = IsValidYes d ps ranks pairs lines × (a.nodes ≡ length lines)
+IsAccepted d ps (no t steps at puts) (answer.No a) = claims.IsAccepted d (no t steps at puts) a
+IsAccepted d ps _ _ = ⊥

@@ -1,0 +1,4 @@
+pub mod Looked
+pub mod Valid
+pub mod Faults
+pub mod Accepted

@@ -1,0 +1,15 @@
+-- The dependency pairs of a system.
+use Rattle.std.specs.Prelude.{◌<◌, ◌≤◌, List, length}
+use Rattle.wh_system.specs.Systems.{SystemData}
+use Rattle.wh_system.specs.PairData.{PairData}
+use Rattle.wh_pairs.specs.Candidates.{candidates}
+use Rattle.wh_pairs.specs.Subsumption.{ArePairs}
+
+-- these are the dependency pairs of the system, and there are at most 4,096
+pub record HasPairs (d : SystemData) (ps : List PairData) : Type 0 where
+  pub are : ArePairs (candidates d.symbols d.rules) ps
+  pub few : length ps ≤ 4096
+
+-- the system has more
+abbrev pub HasTooManyPairs : SystemData → Type 0
+HasTooManyPairs d = (ps : List PairData) × ArePairs (candidates d.symbols d.rules) ps × (4096 < length ps)
