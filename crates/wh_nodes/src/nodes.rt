@@ -1,0 +1,28 @@
+//! What the nodes of a termination proof are good for.
+
+ghost use Rattle.std.specs.Prelude.{ℕ, ◌≡◌, List, Contains};
+ghost use Rattle.wh_terms.specs.Tree.{Tm, tms_of};
+ghost use Rattle.wh_terms.specs.Typing.{Symbols};
+ghost use Rattle.wh_terms.specs.Value.{Body, Values};
+ghost use Rattle.wh_terms.specs.Rules.{RewriteRule, AreWellMade};
+ghost use Rattle.wh_step.specs.Step.{Step};
+ghost use Rattle.wh_laws.specs.Ends.{StepsIn};
+ghost use Rattle.wh_system.specs.PairData.{PairData};
+ghost use Rattle.wh_graph.specs.May.{May};
+ghost use Rattle.wh_calls.specs.MarkedCalls.{CallsEnd};
+ghost use Rattle.wh_nodes.specs.Many.{Many};
+ghost use Rattle.wh_nodes.specs.Nodes.{Node};
+ghost use Rattle.wh_nodes.specs.Proves.{InSet, Proves};
+
+/// A pair may follow another wherever it can: where the arguments of a value of the one's right side step, one
+/// at a time and however often, to those of a value of the other's left side with the same symbol (Fuhs and Kop
+/// 2019, approximations of the dependency graph).
+pub fn may_is_sound()
+    ensures { (S : Symbols) (rules : List RewriteRule) (a b : PairData) (g h : ℕ → Body) (us vs : List Tm) → AreWellMade S rules → a.right_fun ≡ b.left_fun → Values g (tms_of a.right) (tms_of us) → Values h (tms_of b.left) (tms_of vs) → Many (StepsIn (Step rules)) us vs → May rules a b }
+{}
+
+/// Where the nodes prove the sets, no call leads to an endless sequence by the pairs of one of them (Kop 2012 for
+/// pairs without successors, components and the subterm criterion; Fuhs and Kop 2019 for minimal chains).
+pub fn nodes_keep_that_calls_end()
+    ensures { (S : Symbols) (rules : List RewriteRule) (pairs : List PairData) (sets : List (List ℕ)) (nodes : List Node) (set : List ℕ) → AreWellMade S rules → Proves rules pairs sets nodes → Contains sets set → CallsEnd S rules (Step rules) (InSet pairs set) }
+{}
