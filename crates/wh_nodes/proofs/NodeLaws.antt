@@ -4,9 +4,7 @@ use Rattle.std.proofs.lemmas.List.Elements.{Contains-append_left, Contains-appen
 use Rattle.wh_terms.specs.Tree.{Tm}
 use Rattle.wh_terms.specs.Typing.{Symbols}
 use Rattle.wh_terms.specs.Rules.{RewriteRule}
-use Rattle.wh_terms.specs.StepOver.{over_function, over_argument}
 use Rattle.wh_step.specs.Step.{Step, in_function, in_argument}
-use Rattle.wh_step.proofs.RawStep.{RawStep}
 use Rattle.wh_laws.proofs.PartLaws.{PassesToParts}
 use Rattle.wh_system.specs.PairData.{PairData}
 use Rattle.wh_pairs.proofs.MemberLemmas.{none_there, at_head, behind, head_or_behind}
@@ -53,15 +51,8 @@ proofs_keep S rules pairs {R = R} sound passes (one_proved {set = first} {left =
     ]
 
 -- steps pass to the function and to the argument of an application
-
 pub steps_pass : (rules : List RewriteRule) → PassesToParts (Step rules)
 steps_pass rules = record {
   function = λ t t' u s. in_function s;
   argument = λ t u u' s. in_argument s;
-}
-
-pub raw_steps_pass : (rules : List RewriteRule) → PassesToParts (RawStep rules)
-raw_steps_pass rules = record {
-  function = λ t t' u s. over_function s;
-  argument = λ t u u' s. over_argument s;
 }

@@ -1,13 +1,19 @@
 //! What the nodes of a termination proof are good for.
 
-ghost use Rattle.std.specs.Prelude.{ℕ, ◌≡◌, List, Contains};
+ghost use Rattle.std.specs.Prelude.{ℕ, ◌≡◌, ◌<◌, List, [], ◌∷◌, length, Contains};
 ghost use Rattle.wh_terms.specs.Tree.{Tm, tms_of};
-ghost use Rattle.wh_terms.specs.Typing.{Symbols};
+ghost use Rattle.wh_terms.specs.Typing.{Symbols, WellTyped};
 ghost use Rattle.wh_terms.specs.Value.{Body, Values};
 ghost use Rattle.wh_terms.specs.Rules.{RewriteRule, AreWellMade};
 ghost use Rattle.wh_step.specs.Step.{Step};
+ghost use Rattle.wh_step.specs.Reduction.{Bounded};
 ghost use Rattle.wh_laws.specs.Ends.{StepsIn};
 ghost use Rattle.wh_system.specs.PairData.{PairData};
+ghost use Rattle.wh_system.specs.Systems.{SystemData};
+ghost use Rattle.wh_system.specs.WellMade.{IsWellMadeSystem};
+ghost use Rattle.wh_access.specs.Passing.{IsPassing};
+ghost use Rattle.wh_pairs.specs.Candidates.{candidates};
+ghost use Rattle.wh_pairs.specs.Subsumption.{ArePairs};
 ghost use Rattle.wh_graph.specs.May.{May};
 ghost use Rattle.wh_calls.specs.MarkedCalls.{CallsEnd};
 ghost use Rattle.wh_nodes.specs.Many.{Many};
@@ -25,4 +31,10 @@ pub fn may_is_sound()
 /// pairs without successors, components and the subterm criterion; Fuhs and Kop 2019 for minimal chains).
 pub fn nodes_keep_that_calls_end()
     ensures { (S : Symbols) (rules : List RewriteRule) (pairs : List PairData) (sets : List (List ℕ)) (nodes : List Node) (set : List ℕ) → AreWellMade S rules → Proves rules pairs sets nodes → Contains sets set → CallsEnd S rules (Step rules) (InSet pairs set) }
+{}
+
+/// Where a system is passing under ranks, and the nodes prove the set of all its pairs, each well-typed term is
+/// bounded (Fuhs and Kop 2019).
+pub fn proved_systems_are_bounded()
+    ensures { (d : SystemData) (ranks : List ℕ) (ps : List PairData) (all : List ℕ) (nodes : List Node) → IsWellMadeSystem d → IsPassing d ranks → ArePairs (candidates d.symbols d.rules) ps → ((n : ℕ) → n < length ps → Contains all n) → Proves d.rules ps (all ∷ []) nodes → (t : Tm) → WellTyped d.symbols t → Bounded d.rules t }
 {}
