@@ -22,9 +22,13 @@ only_one a n inside = elim (head_or_behind [] a n inside) [
 at_one : (pairs : List PairData) (a : ℕ) (p : PairData) → InSet pairs (a ∷ []) p → slice_get pairs a ≡ Some p
 at_one pairs a p (n, inside, at) = subst (λ k. slice_get pairs k ≡ Some p) (sym (only_one a n inside)) at
 
-pub alone_ends : (S : Symbols) (rules : List RewriteRule) (pairs : List PairData) (a : ℕ) {R : Tm → Tm → Type 0} → MayIsSound rules R → (Follows rules pairs a a → ⊥) → CallsEnd S rules R (InSet pairs (a ∷ []))
+-- a call that the pair leads to leads no further by it
+pub alone_ends : (S : Symbols) (rules : List RewriteRule) (pairs : List PairData) (a : ℕ) {R : Tm → Tm → Type 0} → MayIsSound rules R
+    → (Follows rules pairs a a → ⊥) → CallsEnd S rules R (InSet pairs (a ∷ []))
 alone_ends S rules pairs a {R = R} sound never =
     calls_end (λ c d (p, has, by). ends_while (ComesFrom R p) (comes_kept p) (none p has) d (comes_step p c d by) by.minimal)
   where
-    none : (p : PairData) → InSet pairs (a ∷ []) p → (c d : MarkedCall) → ComesFrom R p c → SomePairStep S R (InSet pairs (a ∷ [])) c d → Ends (CallStep S rules R (InSet pairs (a ∷ []))) d
-    none p has c d from (q, also, by) = absurd (never (p, q, at_one pairs a p has, at_one pairs a q also, comes_may rules p q c d sound from by))
+    none : (p : PairData) → InSet pairs (a ∷ []) p → (c d : MarkedCall) → ComesFrom R p c → SomePairStep S R (InSet pairs (a ∷ [])) c d
+        → Ends (CallStep S rules R (InSet pairs (a ∷ []))) d
+    none p has c d from (q, also, by) =
+        absurd (never (p, q, at_one pairs a p has, at_one pairs a q also, comes_may rules p q c d sound from by))

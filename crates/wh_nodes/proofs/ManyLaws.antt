@@ -40,13 +40,15 @@ pub ends-plus : {A : Type 0} {R : A → A → Type 0} {a : A} → Ends R a → E
 ends-plus (ends k) = ends (λ b (c, r, m). many_ends m (ends-plus (k c r)))
 
 -- where one member of a list steps, each member stays or steps
-pub step_at : {A : Type 0} {R : A → A → Type 0} {ts us : List A} (i : ℕ) (t : A) → StepsIn R ts us → slice_get ts i ≡ Some t → (u : A) × (slice_get us i ≡ Some u) × ((t ≡ u) ⊎ R t u)
+pub step_at : {A : Type 0} {R : A → A → Type 0} {ts us : List A} (i : ℕ) (t : A) → StepsIn R ts us → slice_get ts i ≡ Some t
+    → (u : A) × (slice_get us i ≡ Some u) × ((t ≡ u) ⊎ R t u)
 step_at {R = R} zero t (step_here {a = a} {b = b} r) e = (b, refl, inr (subst (λ x. R x b) (some_one refl e) r))
 step_at (suc i) t (step_here r) e = (t, e, inl refl)
 step_at zero t (step_there s) e = (t, e, inl refl)
 step_at (suc i) t (step_there s) e = step_at i t s e
 
-pub many_at : {A : Type 0} {R : A → A → Type 0} {ts us : List A} (i : ℕ) (t u : A) → Many (StepsIn R) ts us → slice_get ts i ≡ Some t → slice_get us i ≡ Some u → Many R t u
+pub many_at : {A : Type 0} {R : A → A → Type 0} {ts us : List A} (i : ℕ) (t u : A) → Many (StepsIn R) ts us → slice_get ts i ≡ Some t
+    → slice_get us i ≡ Some u → Many R t u
 many_at {R = R} i t u stay d e = subst (Many R t) (some_one d e) stay
 many_at {R = R} i t u (go s m) d e =
     let (v, at, h) = step_at i t s d in

@@ -19,7 +19,8 @@ use Rattle.wh_nodes.proofs.ManyLaws.{many_at, many-map, steps_in-map}
 use Rattle.wh_nodes.proofs.RigidLaws.{NeedsArguments, clash_apart}
 
 -- the values of a list, one by one
-pub values_at : {g : ℕ → Body} (ps vs : List Tm) (i : ℕ) (p : Tm) → Values g (tms_of ps) (tms_of vs) → slice_get ps i ≡ Some p → (v : Tm) × (slice_get vs i ≡ Some v) × Value g p v
+pub values_at : {g : ℕ → Body} (ps vs : List Tm) (i : ℕ) (p : Tm) → Values g (tms_of ps) (tms_of vs) → slice_get ps i ≡ Some p
+    → (v : Tm) × (slice_get vs i ≡ Some v) × Value g p v
 values_at [] vs i p are e = absurd (cc)
 values_at (q ∷ ps) [] i p are e = elim are [ ]
 values_at {g = g} (q ∷ ps) (v ∷ vs) zero p (of_more here rest) e = let same : q ≡ p = cc in (v, refl, subst (λ t. Value g t v) same here)
@@ -29,7 +30,8 @@ values_at (q ∷ ps) (v ∷ vs) (suc i) p (of_more here rest) e = values_at ps v
 -- one with the same symbol, that pair may follow
 abbrev pub MayIsSound : List RewriteRule → (Tm → Tm → Type 0) → Type 0
 MayIsSound rules R =
-    (a b : PairData) (g h : ℕ → Body) (us vs : List Tm) → a.right_fun ≡ b.left_fun → Values g (tms_of a.right) (tms_of us) → Values h (tms_of b.left) (tms_of vs) → Many (StepsIn R) us vs → May rules a b
+    (a b : PairData) (g h : ℕ → Body) (us vs : List Tm) → a.right_fun ≡ b.left_fun → Values g (tms_of a.right) (tms_of us)
+    → Values h (tms_of b.left) (tms_of vs) → Many (StepsIn R) us vs → May rules a b
 
 may_sound-over : (rules : List RewriteRule) {R : Tm → Tm → Type 0} → NeedsArguments rules R → MayIsSound rules (StepOver R)
 may_sound-over rules {R = R} needs a b g h us vs heads left right m = record {

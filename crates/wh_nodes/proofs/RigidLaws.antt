@@ -52,7 +52,8 @@ too_few_less : (o : Option ℕ) (n : ℕ) → TooFew o (suc n) → TooFew o n
 too_few_less None n few = tt
 too_few_less (Some need) n few = omega arith
 
-front_root : (rules : List RewriteRule) (h : Tm) (n : ℕ) (r : Root) → root_at h (suc n) ≡ Some r → IsFixed rules r → (s : Root) × (root_at h n ≡ Some s) × IsFixed rules s
+front_root : (rules : List RewriteRule) (h : Tm) (n : ℕ) (r : Root) → root_at h (suc n) ≡ Some r → IsFixed rules r
+    → (s : Root) × (root_at h n ≡ Some s) × IsFixed rules s
 front_root rules (bound i) n r e fixed = (variable i n, refl, tt)
 front_root rules (fun f) n r e fixed =
     let same : r ≡ symbol f (suc n) = cc in
@@ -63,7 +64,8 @@ front_root rules (lam a t) n r e fixed = absurd (cc)
 front_root rules (app t u) n r e fixed = absurd (cc)
 
 rigid_front : (rules : List RewriteRule) (t u : Tm) → Rigid rules (app t u) → Rigid rules t
-rigid_front rules t u (r, e, fixed) = front_root rules (head t) (argument_count t) r (ap (root_at (head t)) (sym (add-one (argument_count t))) ∙ e) fixed
+rigid_front rules t u (r, e, fixed) =
+    front_root rules (head t) (argument_count t) r (ap (root_at (head t)) (sym (add-one (argument_count t))) ∙ e) fixed
 
 alike-same : (rules : List RewriteRule) {R : Tm → Tm → Type 0} (t : Tm) → Rigid rules t → Alike R t t
 alike-same rules (bound i) rigid = alike_bound
@@ -80,14 +82,16 @@ no_root rules needs t u rigid r =
     omega arith
 
 -- a step of a rigid tree is one of its parts
-rigid_step : (rules : List RewriteRule) {R : Tm → Tm → Type 0} {t u : Tm} → NeedsArguments rules R → Rigid rules t → StepOver R t u → Alike (StepOver R) t u
+rigid_step : (rules : List RewriteRule) {R : Tm → Tm → Type 0} {t u : Tm} → NeedsArguments rules R → Rigid rules t → StepOver R t u
+    → Alike (StepOver R) t u
 rigid_step rules needs rigid (over_root {t = t} {u = u} r) = absurd (no_root rules needs t u rigid r)
 rigid_step rules needs rigid (over_beta e) = let no = rigid.1 in absurd (cc)
 rigid_step rules needs rigid (over_function {t = t} {u = u} s) = alike_spine (rigid_step rules needs (rigid_front rules t u rigid) s) stay
 rigid_step rules needs rigid (over_argument {t = t} {u = u} s) = alike_spine (alike-same rules t (rigid_front rules t u rigid)) (many-one s)
 rigid_step rules needs rigid (over_body s) = alike_body (many-one s)
 
-rigid_many : (rules : List RewriteRule) {R : Tm → Tm → Type 0} {t u : Tm} → NeedsArguments rules R → Rigid rules t → Many (StepOver R) t u → Alike (StepOver R) t u
+rigid_many : (rules : List RewriteRule) {R : Tm → Tm → Type 0} {t u : Tm} → NeedsArguments rules R → Rigid rules t → Many (StepOver R) t u
+    → Alike (StepOver R) t u
 rigid_many rules needs rigid (stay {a = t}) = alike-same rules t rigid
 rigid_many rules needs rigid (go {a = t} {b = v} s m) =
     let here = rigid_step rules needs rigid s in
@@ -95,7 +99,8 @@ rigid_many rules needs rigid (go {a = t} {b = v} s m) =
 
 -- a value keeps the root of its meta-term
 
-value-root_at : (g : ℕ → Body) (q : Tm) (n : ℕ) (r : Root) → root_at (head q) n ≡ Some r → (root_at (head (value g q)) n ≡ Some r) × (argument_count (value g q) ≡ argument_count q)
+value-root_at : (g : ℕ → Body) (q : Tm) (n : ℕ) (r : Root) → root_at (head q) n ≡ Some r
+    → (root_at (head (value g q)) n ≡ Some r) × (argument_count (value g q) ≡ argument_count q)
 unfolding value
 value-root_at g (bound i) n r e = (e, refl)
 value-root_at g (fun f) n r e = (e, refl)
@@ -116,14 +121,16 @@ alike_bodies (alike_body m) = m
 alike_fronts : {R : Tm → Tm → Type 0} {t t' u u' : Tm} → Alike R (app t u) (app t' u') → Alike R t t' × Many R u u'
 alike_fronts (alike_spine a m) = (a, m)
 
-match_leads : {R : Tm → Tm → Type 0} {q p x y : Tm} (g h : ℕ → Body) → Match q p x y → Alike R (value g q) (value h p) → (g' h' : ℕ → Body) × Many R (value g' x) (value h' y)
+match_leads : {R : Tm → Tm → Type 0} {q p x y : Tm} (g h : ℕ → Body) → Match q p x y → Alike R (value g q) (value h p)
+    → (g' h' : ℕ → Body) × Many R (value g' x) (value h' y)
 unfolding value
 match_leads g h body alike = (shifted g, shifted h, alike_bodies alike)
 match_leads g h last alike = (g, h, (alike_fronts alike).1)
 match_leads g h (front match) alike = match_leads g h match (alike_fronts alike).0
 
 -- no value of a meta-term leads to a value of what it clashes with
-pub clash_apart : (rules : List RewriteRule) {R : Tm → Tm → Type 0} {q p : Tm} (g h : ℕ → Body) → NeedsArguments rules R → Clash rules q p → Many (StepOver R) (value g q) (value h p) → ⊥
+pub clash_apart : (rules : List RewriteRule) {R : Tm → Tm → Type 0} {q p : Tm} (g h : ℕ → Body) → NeedsArguments rules R → Clash rules q p
+    → Many (StepOver R) (value g q) (value h p) → ⊥
 clash_apart rules g h needs (roots {q = q} {p = p} {r = r} {s = s} rigid d e other) m =
     let alike = rigid_many rules needs (rigid.0, value-root g q rigid.0 rigid.1, rigid.2) m in
     let left = value-root g q r d in

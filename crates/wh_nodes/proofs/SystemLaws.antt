@@ -26,12 +26,16 @@ in_all : (ps : List PairData) (all : List ℕ) → ((n : ℕ) → n < length ps 
 in_all ps all whole p found = let (n, at) = place_of ps p found in (n, whole n (slice_get_within ps n p at), at)
 
 -- calls end by all pairs of a list that is proved
-all_calls_end : (d : SystemData) → IsWellMadeSystem d → (ps : List PairData) (all : List ℕ) (nodes : List Node) → Proves d.rules ps (all ∷ []) nodes
+all_calls_end : (d : SystemData) → IsWellMadeSystem d → (ps : List PairData) (all : List ℕ) (nodes : List Node)
+    → Proves d.rules ps (all ∷ []) nodes
     → ((n : ℕ) → n < length ps → Contains all n) → CallsEnd d.symbols d.rules (Step d.rules) (Contains ps)
 all_calls_end d made ps all nodes proves whole =
-    calls_fewer (in_all ps all whole) (proofs_keep d.symbols d.rules ps (may_sound-step d.symbols d.rules made.rules) (steps_pass d.rules) proves all (at_head [] all))
+    calls_fewer (in_all ps all whole)
+    (proofs_keep d.symbols d.rules ps (may_sound-step d.symbols d.rules made.rules) (steps_pass d.rules) proves all (at_head [] all))
 
-pub proved_systems_end : (d : SystemData) → IsWellMadeSystem d → (ranks : List ℕ) → IsPassing d ranks → (ps : List PairData) → ArePairs (candidates d.symbols d.rules) ps
+-- and so terms are bounded
+pub proved_systems_end : (d : SystemData) → IsWellMadeSystem d → (ranks : List ℕ) → IsPassing d ranks → (ps : List PairData)
+    → ArePairs (candidates d.symbols d.rules) ps
     → (all : List ℕ) (nodes : List Node) → Proves d.rules ps (all ∷ []) nodes → ((n : ℕ) → n < length ps → Contains all n)
     → (t : Tm) → WellTyped d.symbols t → Bounded d.rules t
 proved_systems_end d made ranks passing ps pairs all nodes proves whole t (a, typed) =
