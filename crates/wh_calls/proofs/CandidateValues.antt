@@ -1,34 +1,33 @@
 -- The sides of a candidate take the values that an instance of its call has: to a meta-substitution for the rule come terms for
 -- the binders around the call, and for the arguments that it lacks.
-use Rattle.std.proofs.Common.{◌≡◌, ℕ, zero, suc, ◌+◌, ◌-◌, ◌<◌, ◌≤◌, List, [], ◌∷◌, ◌++◌, length, map, take, reverse, get_or, ltb, Bool, true, false, Option, Some, None, slice_get, Contains, ◌⊎◌, inl, inr, refl, ap, ap₂, sym, ◌∙◌, subst, subst₂, arith, append_assoc}
+use Rattle.std.proofs.Common.{◌≡◌, ℕ, zero, suc, ◌+◌, ◌-◌, ◌<◌, ◌≤◌, List, [], ◌∷◌, ◌++◌, length, map, reverse, get_or, ltb, Bool, true, false, Option, Some, None, slice_get, Contains, ◌⊎◌, inl, inr, refl, ap, sym, ◌∙◌, subst, subst₂, arith, append_assoc}
 use Rattle.std.proofs.lemmas.Bool.{cases_lt, lt-ltb, le-ltb}
 use Rattle.std.proofs.lemmas.List.{reverse-append}
 use Rattle.std.proofs.lemmas.List.Elements.{Contains-append_cases}
 use Rattle.std.proofs.lemmas.Option.{slice_get_within, slice_get-get_or, get_or_from_slice_get}
 use Rattle.wh_types.specs.Ty.{Ty, sort, ◌⇒◌}
-use Rattle.wh_terms.specs.Tree.{Tm, bound, free, fun, meta, lam, app, Tms, none, more, tms_of}
-use Rattle.wh_terms.specs.Substitution.{act, acts, cons}
+use Rattle.wh_terms.specs.Tree.{Tm, bound, free, meta, Tms, none, tms_of}
+use Rattle.wh_terms.specs.Substitution.{act}
 use Rattle.wh_terms.specs.Sight.{LooseBelow, Occurs, OccursIn}
 use Rattle.wh_terms.specs.Typing.{Symbols, Declared, Typed, typed_bound, typed_free, typed_fun, typed_meta, typed_lam, typed_app, AllTyped, typed_none, typed_more}
 use Rattle.wh_terms.specs.Value.{Body, parameters, Value, of_meta, Values, of_none, of_more}
 use Rattle.wh_terms.specs.TypedBodies.{FitsDeclared, TypedBodies}
-use Rattle.wh_terms.specs.Rules.{RewriteRule}
+use Rattle.wh_terms.specs.Rules.{RewriteRule, IsWellMade}
 use Rattle.wh_terms.proofs.ActLaws.{act-id}
 use Rattle.wh_terms.proofs.SightLaws.{act_loose}
 use Rattle.wh_terms.proofs.TypingLaws.{some_one, typed_loose}
-use Rattle.wh_terms.proofs.ValueForm.{value, values, value_agree, FitsArities, AllFitArities, FitsBodies, AllFitBodies}
+use Rattle.wh_terms.proofs.ValueForm.{value, values, value_agree, FitsBodies, AllFitBodies}
 use Rattle.wh_terms.proofs.ValueLaws.{has_value}
 use Rattle.wh_terms.proofs.ValueTyping.{TypedBodiesIn, typed-value}
 use Rattle.wh_system.specs.Needs.{need_of}
 use Rattle.wh_system.specs.PairData.{Within}
-use Rattle.wh_pairs.specs.Spines.{spine_arguments}
 use Rattle.wh_pairs.specs.Calls.{Call, calls, calls_within, call_where_defined, calls_of}
 use Rattle.wh_pairs.specs.Candidates.{nullary, freed, numbered_from}
 use Rattle.wh_pairs.proofs.MemberLemmas.{none_there, head_or_behind}
 use Rattle.wh_pairs.proofs.FreedLemmas.{freed-near, freed-far}
 use Rattle.wh_calls.proofs.Puts.{inst, arrows}
 use Rattle.wh_calls.proofs.WholeBodies.{IsShut, ShutBodies, declared_anywhere, typed_fits, typed_shut, occurs_known}
-use Rattle.wh_calls.proofs.MetaSubstitution.{OnPut, occurs-act-back, fits-put, value-act}
+use Rattle.wh_calls.proofs.MetaSubstitution.{OnPut, fits-put, value-act}
 
 -- CALLS OF A TYPED RIGHT SIDE
 
@@ -78,6 +77,10 @@ mutual
       go : {X : Type 0} → (X → IsTypedIn S M P c) → (Contains (calls_within rules es Γ z (i + 1) ts) c → IsTypedIn S M P c) → X ⊎ Contains (calls_within rules es Γ z (i + 1) ts) c → IsTypedIn S M P c
       go l r (inl j) = l j
       go l r (inr j) = r j
+
+-- the calls of a well-made rule are typed, and what occurs in them occurs in its right side
+pub rule_call : (S : Symbols) (rules : List RewriteRule) (r : RewriteRule) → IsWellMade S r → (c : Call) → Contains (calls_of rules r) c → IsTypedIn S r.metas (λ z. Occurs z r.right) c
+rule_call S rules r made c at = calls_typed (λ z. Occurs z r.right) rules [] [] [] made.typed.0 made.typed.2 refl typed_none (λ z o. o) (λ z o. absurd o) c at
 
 -- TERMS FOR FRESH META-VARIABLES
 
@@ -239,8 +242,8 @@ module _ (S : Symbols) (M : List Declared) (g : ℕ → Body) (Γ : List Ty) (τ
       let fits : FitsBodies H q = typed_fits H p typed_here in
       let loose : LooseBelow (length Γ) (value g q) = typed_loose (typed-value g p (λ z d o e. declared_anywhere Γ (g z) (h z d o e))) in
       let e : value H (act F free q) ≡ inst g τ q =
-          value-act H F q (typed_shut H p typed_here) freed_shut fits freed_fits ∙ ap (act (λ i. value H (F i)) free) (low_value p)
-          ∙ act_loose (length Γ) (λ i. value H (F i)) τ free (value g q) loose freed_value in
+      value-act H F q (typed_shut H p typed_here) freed_shut fits freed_fits ∙ ap (act (λ i. value H (F i)) free) (low_value p)
+      ∙ act_loose (length Γ) (λ i. value H (F i)) τ free (value g q) loose freed_value in
       subst (Value H (act F free q)) e (has_value H (act F free q) (fits-put (λ z. (H z).arity) F q freed_fits fits))
 
   pub argument_values : (qs : List Tm) (cs : List Ty) → AllTyped S M Γ (tms_of qs) cs → TypedBodiesIn S M [] [] g (tms_of qs) → Values H (tms_of (map (act F free) qs)) (tms_of (map (inst g τ) qs))

@@ -1,13 +1,12 @@
 -- Substitution of meta-terms before values are taken.
 use Rattle.std.proofs.Common.{◌≡◌, ℕ, zero, suc, refl, ap, ap₂, sym, ◌∙◌, inl, inr}
-use Rattle.wh_types.specs.Ty.{Ty}
 use Rattle.wh_terms.specs.Tree.{Tm, bound, free, fun, meta, lam, app, Tms, none, more}
 use Rattle.wh_terms.specs.Substitution.{up_renaming, rename, renames, up, up_free, act, acts}
 use Rattle.wh_terms.specs.Sight.{Occurs, OccursIn}
 use Rattle.wh_terms.specs.Value.{Body, parameters}
 use Rattle.wh_terms.proofs.RenamingLaws.{count-renames}
 use Rattle.wh_terms.proofs.ActLaws.{act_same, rename-is-act, count-acts}
-use Rattle.wh_terms.proofs.ValueForm.{acted, shifted, value, values, value_agree, FitsArities, AllFitArities, FitsBodies, AllFitBodies, act-value}
+use Rattle.wh_terms.proofs.ValueForm.{acted, value, values, value_agree, FitsArities, AllFitArities, FitsBodies, AllFitBodies, act-value}
 use Rattle.wh_calls.proofs.WholeBodies.{IsShut, ShutBodies, ShutBodiesIn, act_shut_body, value-shifted, inst-meta}
 
 mutual

@@ -1,34 +1,43 @@
 -- An instance of a right side is computable where its calls are, and the bodies of its meta-variables.
-use Rattle.std.proofs.Common.{◌≡◌, ℕ, ◌+◌, List, [], ◌∷◌, ◌++◌, map, Option, Some, None, slice_get, Contains, ◌⊎◌, inl, inr, refl, ap, ap₂, sym, ◌∙◌, subst}
+use Rattle.std.proofs.Common.{◌≡◌, ℕ, ◌+◌, List, [], ◌∷◌, map, Option, Some, None, slice_get, Contains, inl, inr, refl, ap, sym, ◌∙◌, subst}
 use Rattle.std.proofs.lemmas.List.Elements.{Contains-append_left, Contains-append_right}
 use Rattle.wh_types.specs.Ty.{Ty, ◌⇒◌, SortsBelow}
-use Rattle.wh_terms.specs.Tree.{Tm, bound, free, fun, meta, lam, app, Tms, none, more, spine, tms_of}
-use Rattle.wh_terms.specs.Substitution.{up, up_free, act, acts, cons, opened}
+use Rattle.wh_terms.specs.Tree.{Tm, bound, free, fun, meta, lam, Tms, more, spine, tms_of}
+use Rattle.wh_terms.specs.Substitution.{up, up_free, act, acts, cons}
 use Rattle.wh_terms.specs.Sight.{Occurs, OccursIn}
 use Rattle.wh_terms.specs.Typing.{Symbols, Declared, Typed, typed_bound, typed_free, typed_fun, typed_meta, typed_lam, typed_app, AllTyped, typed_none, typed_more}
-use Rattle.wh_terms.specs.Value.{Body, parameters}
+use Rattle.wh_terms.specs.Value.{Body, parameters, Value, Values, of_none, of_more}
 use Rattle.wh_terms.specs.TypedBodies.{TypedBodies}
 use Rattle.wh_terms.specs.Rules.{RewriteRule, AreWellMade}
 use Rattle.wh_terms.specs.StepOver.{StepOver}
 use Rattle.wh_terms.proofs.ActLaws.{act-id}
 use Rattle.wh_terms.proofs.TypingLaws.{typed-act, fits-free}
-use Rattle.wh_terms.proofs.ValueForm.{value, values}
+use Rattle.wh_terms.proofs.ValueForm.{value, values, AllFitBodies}
+use Rattle.wh_terms.proofs.ValueLaws.{value_is, has_value}
 use Rattle.wh_terms.proofs.ValueTyping.{typed-value, typed_count}
+use Rattle.wh_step.specs.Step.{Step}
 use Rattle.wh_step.proofs.Instances.{Instance}
 use Rattle.wh_laws.specs.Roots.{IsRoot, KnowsSorts}
 use Rattle.wh_laws.specs.Computable.{Computable, ComputableList}
 use Rattle.wh_laws.proofs.Fundamental.{candidate, abstraction_computable, KnownTypes, known_more, PutsComputable, puts_more}
 use Rattle.wh_laws.proofs.Candidates.{candidate_free}
-use Rattle.wh_laws.proofs.SystemComputable.{computable-typed, known_type}
+use Rattle.wh_laws.proofs.SystemComputable.{computable-typed, known_type, computable-symbol}
+use Rattle.wh_laws.proofs.SameSteps.{computable-raw, raw-computable}
 use Rattle.wh_laws.proofs.SystemSteps.{instances_root}
 use Rattle.wh_system.specs.Needs.{need_of}
 use Rattle.wh_system.specs.PairData.{Within}
+use Rattle.wh_system.specs.Systems.{SystemData}
+use Rattle.wh_system.specs.WellMade.{IsWellMadeSystem}
+use Rattle.wh_access.proofs.FindLemmas.{sorts_known}
 use Rattle.wh_pairs.specs.Calls.{Call, calls, calls_within, call_where_defined, calls_of}
 use Rattle.wh_pairs.proofs.MemberLemmas.{at_head}
 use Rattle.wh_calls.specs.Bodies.{IsComputableBody}
+use Rattle.wh_calls.specs.Sides.{HasComputableBodies, IsComputableUnder}
 use Rattle.wh_calls.proofs.Puts.{inst, arrows, IsComputableCall}
-use Rattle.wh_calls.proofs.TypeLists.{computable-spine}
-use Rattle.wh_calls.proofs.WholeBodies.{declared_anywhere, declared_shut, typed_shut, inst-lam, inst-opened, inst-meta}
+use Rattle.wh_calls.proofs.TypeLists.{computable-spine, typed_spine, list-typed}
+use Rattle.wh_calls.proofs.NeedLaws.{no_need-heads_no_rule}
+use Rattle.wh_calls.proofs.WholeBodies.{declared_anywhere, declared_shut, all_typed_fit, typed_shut, inst-lam, inst-opened, inst-meta}
+use Rattle.wh_calls.proofs.CandidateValues.{rule_call}
 
 -- the bodies of the declared meta-variables that occur are computable
 abbrev pub ComputableBodies : Symbols → (ℕ → ℕ) → (Tm → Tm → Type 0) → List Declared → (ℕ → Body) → Tm → Type 0
@@ -62,7 +71,7 @@ inst-typed {S = S} {Γ = Γ} rank R g σ p h puts =
     typed-act [] σ free (λ i b e. computable-typed S rank R b (σ i) (puts i b e)) (fits-free []) (typed-value g p (λ z d o e. declared_anywhere Γ (g z) (h z d o e)))
 
 module _ {S : Symbols} {R : Tm → Tm → Type 0} (root : IsRoot S R) (rules : List RewriteRule) (rank : ℕ → ℕ) (known : KnowsSorts S) (still : StillSymbols S rules rank (StepOver R))
-  (M : List Declared) (g : ℕ → Body) where
+    (M : List Declared) (g : ℕ → Body) where
   -- an abstraction whose opened instances are computable
   lam_computable : {Γ : List Ty} {t : Tm} {a b : Ty} (σ : ℕ → Tm) → SortsBelow S.sorts a → Typed S M (a ∷ Γ) t b → ComputableBodies S rank (StepOver R) M g t → PutsComputable S rank (StepOver R) Γ σ
       → ((u : Tm) → Computable S rank (StepOver R) a u → Computable S rank (StepOver R) b (inst g (cons u σ) t)) → Computable S rank (StepOver R) (a ⇒ b) (inst g σ (lam a t))
@@ -138,3 +147,54 @@ pub rule_right_computable : {S : Symbols} {rules : List RewriteRule} → AreWell
 rule_right_computable {S = S} {rules = rules} w rank known still r a g bodies p h =
     subst (Computable S rank (StepOver (Instance rules)) a) (act-id (value g r.right))
     (right_computable w rank known still r.metas g [] [] bound [] a bodies p (λ i b e. absurd (cc)) (λ i b e. absurd (cc)) tt h)
+
+-- BY THE STEPS OF A SYSTEM, IN PUBLIC WORDS
+
+pub values-list : (g : ℕ → Body) (ts : List Tm) → values g (tms_of ts) ≡ tms_of (map (value g) ts)
+unfolding values
+values-list g [] = refl
+values-list g (t ∷ ts) = ap (more (value g t)) (values-list g ts)
+
+-- instances are values with terms put in
+pub instances : (g : ℕ → Body) (τ : ℕ → Tm) (ts : List Tm) → map (act τ free) (map (value g) ts) ≡ map (inst g τ) ts
+instances g τ [] = refl
+instances g τ (t ∷ ts) = ap (λ l. inst g τ t ∷ l) (instances g τ ts)
+
+have_values : (g : ℕ → Body) (ts : List Tm) → AllFitBodies g (tms_of ts) → Values g (tms_of ts) (tms_of (map (value g) ts))
+have_values g [] f = of_none
+have_values g (t ∷ ts) f = of_more (has_value g t f.0) (have_values g ts f.1)
+
+raw-list : {S : Symbols} {rules : List RewriteRule} → AreWellMade S rules → (rank : ℕ → ℕ) (cs : List Ty) (ts : List Tm)
+    → ComputableList S rank (StepOver (Instance rules)) cs ts → ComputableList S rank (Step rules) cs ts
+raw-list w rank [] [] h = tt
+raw-list w rank [] (t ∷ ts) h = absurd h
+raw-list w rank (c ∷ cs) [] h = absurd h
+raw-list w rank (c ∷ cs) (t ∷ ts) h = (h.0, raw-computable w rank c t h.1, raw-list w rank cs ts h.2)
+
+body-raw : {S : Symbols} {rules : List RewriteRule} → AreWellMade S rules → (rank : ℕ → ℕ) (d : Declared) (b : Body) → IsComputableBody S rank (Step rules) d b → IsComputableBody S rank (StepOver (Instance rules)) d b
+body-raw w rank d b h = record {
+  fits = h.fits;
+  takes = λ us k. computable-raw w rank d.out (act (parameters (tms_of us) bound) free b.tree) (h.takes us (raw-list w rank d.args us k));
+}
+
+call-raw : {S : Symbols} {rules : List RewriteRule} → AreWellMade S rules → (rank : ℕ → ℕ) (g : ℕ → Body) (c : Call) → AllFitBodies g (tms_of c.arguments) → IsComputableUnder S rank (Step rules) g c
+    → IsComputableCall S rank (StepOver (Instance rules)) g c
+call-raw {S = S} {rules = rules} w rank g c fits h τ puts cs b e list =
+    let us : List Tm = map (inst g τ) c.arguments in
+    let same : map (act τ free) (map (value g) c.arguments) ≡ us = instances g τ c.arguments in
+    let typed : Typed S [] [] (spine (fun c.symbol) us) b = typed_spine (fun c.symbol) us cs (typed_fun e) (list-typed S rank (StepOver (Instance rules)) cs us list) in
+    let by_steps = h τ (map (value g) c.arguments) cs b (λ i a s. raw-computable w rank a (τ i) (puts i a s)) (have_values g c.arguments fits)
+    (subst (ComputableList S rank (Step rules) cs) (sym same) (raw-list w rank cs us list)) (subst (λ l. Typed S [] [] (spine (fun c.symbol) l) b) (sym same) typed) in
+    computable-raw w rank b (spine (fun c.symbol) us) (subst (λ l. Computable S rank (Step rules) b (spine (fun c.symbol) l)) same by_steps)
+
+pub right_side_computable : (d : SystemData) (rank : ℕ → ℕ) (r : RewriteRule) (g : ℕ → Body) (a : Ty) (v : Tm) → IsWellMadeSystem d → Contains d.rules r → Typed d.symbols r.metas [] r.right a
+    → HasComputableBodies d.symbols rank (Step d.rules) r g → ((c : Call) → Contains (calls_of d.rules r) c → IsComputableUnder d.symbols rank (Step d.rules) g c) → Value g r.right v → Computable d.symbols rank (Step d.rules) a v
+right_side_computable d rank r g a v made listed p bodies h is =
+    let S : Symbols = d.symbols in
+    let w : AreWellMade S d.rules = made.rules in
+    let still : StillSymbols S d.rules rank (StepOver (Instance d.rules)) =
+    λ f b n e. computable-raw w rank b (fun f) (computable-symbol w (sorts_known d made) rank f b e (no_need-heads_no_rule d.rules f n)) in
+    let fits : (c : Call) → Contains (calls_of d.rules r) c → AllFitBodies g (tms_of c.arguments) =
+    λ c at. let t = rule_call S d.rules r (w.each r listed) c at in all_typed_fit g t.typed (λ z q o e. (bodies z q (t.occurs z o) e).fits) in
+    raw-computable w rank a v (subst (Computable S rank (StepOver (Instance d.rules)) a) (sym (value_is is).1)
+    (rule_right_computable w rank (sorts_known d made) still r a g (λ z q o e. body-raw w rank q (g z) (bodies z q o e)) p (λ c at. call-raw w rank g c (fits c at) (h c at))))

@@ -4,16 +4,16 @@ use Rattle.std.proofs.lemmas.Bool.{cases_lt}
 use Rattle.std.proofs.lemmas.List.{take-map}
 use Rattle.std.proofs.lemmas.List.Elements.{Contains-append_cases, Contains-append_left, Contains-append_right}
 use Rattle.std.proofs.lemmas.Option.{slice_get_read, slice_get_within}
-use Rattle.wh_types.specs.Ty.{Ty}
 use Rattle.wh_terms.specs.Tree.{Tm, bound, free, fun, meta, lam, app, head, tms_of}
 use Rattle.wh_terms.specs.Substitution.{act}
 use Rattle.wh_terms.specs.Sight.{Occurs, OccursIn}
-use Rattle.wh_terms.specs.Typing.{Symbols, Declared, Typed, AllTyped}
+use Rattle.wh_terms.specs.Typing.{Symbols, Declared, AllTyped}
 use Rattle.wh_terms.specs.Value.{Body, Values, of_none, of_more}
 use Rattle.wh_terms.specs.TypedBodies.{FitsDeclared, TypedBodies}
 use Rattle.wh_terms.specs.Rules.{RewriteRule, IsWellMade}
 use Rattle.wh_terms.proofs.TypingLaws.{some_one}
 use Rattle.wh_terms.proofs.ValueForm.{value, FitsArities, AllFitArities, FitsBodies}
+use Rattle.wh_terms.proofs.ValueLaws.{values_are}
 use Rattle.wh_system.specs.PairData.{PairData}
 use Rattle.wh_system.specs.Systems.{SystemData}
 use Rattle.wh_system.specs.WellMade.{IsWellMadeSystem}
@@ -25,11 +25,13 @@ use Rattle.wh_pairs.specs.Survivors.{IsSubsumedByOne, Survive}
 use Rattle.wh_pairs.proofs.MemberLemmas.{none_there, at_head, behind, head_or_behind, image_there}
 use Rattle.wh_pairs.proofs.SubsumptionLaws.{one_list, left-member, Thinned, thin_none, thin_out, thin_keep, survive_none, survive_dropped, survive_kept}
 use Rattle.wh_pairs.proofs.Decisions.{decided-subsumed}
-use Rattle.wh_calls.specs.MarkedCalls.{AreTypedBodies}
+use Rattle.wh_calls.specs.MarkedCalls.{MarkedCall, AreTypedBodies}
+use Rattle.wh_calls.specs.Sides.{IsLedByCall, IsLedByPair}
 use Rattle.wh_calls.proofs.Puts.{inst}
 use Rattle.wh_calls.proofs.WholeBodies.{typed_fits, occurs_known}
 use Rattle.wh_calls.proofs.MetaSubstitution.{occurs-act-back}
-use Rattle.wh_calls.proofs.CandidateValues.{IsTypedIn, calls_typed, beside, beside-low, outermost, outermost-typed, PutsTyped, beside_fits, slice_get-front, freed_high, argument_values, lacking_values, left_values}
+use Rattle.wh_calls.proofs.RightSides.{values-list, instances}
+use Rattle.wh_calls.proofs.CandidateValues.{IsTypedIn, rule_call, beside, beside-low, outermost, outermost-typed, PutsTyped, beside_fits, slice_get-front, freed_high, argument_values, lacking_values, left_values}
 
 -- CANDIDATES AND CALLS
 
@@ -211,7 +213,7 @@ ServedBy S ps r c g τ ws = (p : PairData) × Contains ps p × (h : ℕ → Body
     × (p.right_fun ≡ c.symbol) × Values h (tms_of p.right) (tms_of (take c.need (map (inst g τ) c.arguments) ++ ws))
 
 module _ (S : Symbols) (r : RewriteRule) (made : IsWellMade S r) (c : Call) (typed_call : IsTypedIn S r.metas (λ z. Occurs z r.right) c) (g : ℕ → Body) (bodies : TypedBodies S r.metas [] [] g r.left)
-  (τ : ℕ → Tm) (puts : PutsTyped S c.binders τ) (ws : List Tm) (further : AllTyped S [] [] (tms_of ws) (missing_types S c)) (enough : length ws ≡ c.need - length c.arguments) where
+    (τ : ℕ → Tm) (puts : PutsTyped S c.binders τ) (ws : List Tm) (further : AllTyped S [] [] (tms_of ws) (missing_types S c)) (enough : length ws ≡ c.need - length c.arguments) where
   -- the meta-substitution for the pair
   abbrev H : ℕ → Body
   H = beside (length r.metas) g (outermost c.binders τ ws)
@@ -231,11 +233,11 @@ module _ (S : Symbols) (r : RewriteRule) (made : IsWellMade S r) (c : Call) (typ
   right_have k =
       let F : Tm → Tm = act (freed (length r.metas) c.binders) free in
       let each : Values H (tms_of (map F c.arguments)) (tms_of (map (inst g τ) c.arguments)) =
-          argument_values S r.metas g c.binders τ puts ws c.arguments typed_call.types typed_call.typed (λ z d o e. bodies z d (made.known z (typed_call.occurs z o)) e) in
+      argument_values S r.metas g c.binders τ puts ws c.arguments typed_call.types typed_call.typed (λ z d o e. bodies z d (made.known z (typed_call.occurs z o)) e) in
       let first : Values H (tms_of (map F (take c.need c.arguments))) (tms_of (take c.need (map (inst g τ) c.arguments))) =
-          subst (λ l. Values H (tms_of l) (tms_of (take c.need (map (inst g τ) c.arguments)))) (take-map F c.need c.arguments) (values-take c.need (map F c.arguments) (map (inst g τ) c.arguments) each) in
+      subst (λ l. Values H (tms_of l) (tms_of (take c.need (map (inst g τ) c.arguments)))) (take-map F c.need c.arguments) (values-take c.need (map F c.arguments) (map (inst g τ) c.arguments) each) in
       let last : Values H (tms_of (numbered_from (length r.metas + length c.binders) (c.need - length c.arguments))) (tms_of ws) =
-          subst (λ n. Values H (tms_of (numbered_from (length r.metas + length c.binders) n)) (tms_of ws)) enough (lacking_values S r.metas g c.binders τ puts ws) in
+      subst (λ n. Values H (tms_of (numbered_from (length r.metas + length c.binders) n)) (tms_of ws)) enough (lacking_values S r.metas g c.binders τ puts ws) in
       values-append (map F (take c.need c.arguments)) (numbered_from (length r.metas + length c.binders) (c.need - length c.arguments)) (take c.need (map (inst g τ) c.arguments)) ws first last
 
   -- a meta-variable of the rule that stands on the right of the candidate stands in the rule's left side
@@ -295,10 +297,6 @@ module _ (S : Symbols) (r : RewriteRule) (made : IsWellMade S r) (c : Call) (typ
       typed_bodies : AreTypedBodies S p H
       typed_bodies z d o e = either z d e (occurs-append z p.left p.right o)
 
--- the calls of a well-made rule are typed
-pub rule_call : (S : Symbols) (rules : List RewriteRule) (r : RewriteRule) → IsWellMade S r → (c : Call) → Contains (calls_of rules r) c → IsTypedIn S r.metas (λ z. Occurs z r.right) c
-rule_call S rules r made c at = calls_typed (λ z. Occurs z r.right) rules [] [] [] made.typed.0 made.typed.2 refl AllTyped.typed_none (λ z o. o) (λ z o. absurd o) c at
-
 -- each call of a rule's right side is served by a pair: by the one that subsumes its candidate
 pub call_served : (d : SystemData) → IsWellMadeSystem d → (ps : List PairData) → ArePairs (candidates d.symbols d.rules) ps → (r : RewriteRule) → Contains d.rules r → (c : Call) → Contains (calls_of d.rules r) c
     → (g : ℕ → Body) → FitsBodies g r.left → FitsBodies g r.right → TypedBodies d.symbols r.metas [] [] g r.left → (τ : ℕ → Tm) → PutsTyped d.symbols c.binders τ
@@ -313,3 +311,42 @@ call_served d made ps pairs r (k, inside, is) c called g fits_left fits_right bo
     let as_made : p ≡ candidate S p.rule r from.call = from.is ∙ ap (λ t. candidate S p.rule t from.call) same in
     served_by S r rule_made c (rule_call S d.rules r rule_made c called) g bodies τ puts ws further enough ps k p (map nullary (reverse from.call.binders ++ missing_types S from.call))
     at (ap (λ q. q.left_fun) as_made) (ap (λ q. q.left) as_made) (ap (λ q. q.metas) as_made) s
+
+-- IN PUBLIC WORDS
+
+tms_of_one : (ts us : List Tm) → tms_of ts ≡ tms_of us → ts ≡ us
+tms_of_one [] [] e = refl
+tms_of_one [] (u ∷ us) e = absurd (cc)
+tms_of_one (t ∷ ts) [] e = absurd (cc)
+tms_of_one (t ∷ ts) (u ∷ us) e =
+    let same : t ≡ u = cc in
+    let rest : tms_of ts ≡ tms_of us = cc in
+    ap₂ (λ v vs. v ∷ vs) same (tms_of_one ts us rest)
+
+-- values of a list of trees are those of its members
+values_of_list : (g : ℕ → Body) (ts vs : List Tm) → Values g (tms_of ts) (tms_of vs) → vs ≡ map (value g) ts
+values_of_list g ts vs p = tms_of_one vs (map (value g) ts) ((values_are p).1 ∙ values-list g ts)
+
+pub call_led : (d : SystemData) (pairs : List PairData) (r : RewriteRule) (c : Call) (from to : MarkedCall) → IsWellMadeSystem d
+    → ArePairs (candidates d.symbols d.rules) pairs → Contains d.rules r → Contains (calls_of d.rules r) c → IsLedByCall d.symbols r c from to
+    → IsLedByPair d.symbols pairs from to
+call_led d pairs r c from to made kept listed called led =
+    let g : ℕ → Body = led.bodies in
+    let τ : ℕ → Tm = led.for_binders in
+    let m : IsWellMade d.symbols r = made.rules.each r listed in
+    let fits_left : FitsBodies g r.left = typed_fits g m.typed.1 led.typed_bodies in
+    let fits_right : FitsBodies g r.right = typed_fits g m.typed.2 (λ z q o e. led.typed_bodies z q (m.known z o) e) in
+    let (p, at, h, typed_bodies, left_symbol, left, right_symbol, right) =
+        call_served d made pairs kept r listed c called g fits_left fits_right led.typed_bodies τ led.typed_binders led.further led.typed_further led.enough in
+    let same : map (act τ free) led.given ≡ map (inst g τ) c.arguments = ap (map (act τ free)) (values_of_list g c.arguments led.given led.right) ∙ instances g τ c.arguments in
+    let to_is : take c.need (map (inst g τ) c.arguments) ++ led.further ≡ to.arguments = ap (λ l. take c.need l ++ led.further) (sym same) ∙ sym led.arguments in
+    record {
+      pair = p;
+      listed = at;
+      bodies = h;
+      typed_bodies = typed_bodies;
+      left_symbol = led.left_symbol ∙ sym left_symbol;
+      left = subst (λ l. Values h (tms_of p.left) (tms_of l)) (sym (values_of_list g (spine_arguments r.left) from.arguments led.left)) left;
+      right_symbol = led.right_symbol ∙ sym right_symbol;
+      right = subst (λ l. Values h (tms_of p.right) (tms_of l)) to_is right;
+    }

@@ -1,7 +1,7 @@
 -- Bodies without loose variables but their parameters: no binder that they come under moves them, and no substitution changes them.
-use Rattle.std.proofs.Common.{◌≡◌, ℕ, zero, suc, ◌+◌, ◌<◌, List, [], ◌∷◌, length, Some, slice_get, refl, ap, ap₂, sym, ◌∙◌, subst, inl, inr, arith, one-add}
+use Rattle.std.proofs.Common.{◌≡◌, ℕ, zero, suc, ◌+◌, ◌<◌, List, [], ◌∷◌, length, Some, slice_get, refl, ap, sym, ◌∙◌, subst, inl, inr, arith}
 use Rattle.wh_types.specs.Ty.{Ty}
-use Rattle.wh_terms.specs.Tree.{Tm, bound, free, fun, meta, lam, app, Tms, none, more, count}
+use Rattle.wh_terms.specs.Tree.{Tm, bound, free, meta, lam, Tms, count}
 use Rattle.wh_terms.specs.Substitution.{up_renaming, rename, up, up_free, act, acts, cons, opened}
 use Rattle.wh_terms.specs.Sight.{LooseBelow, Occurs, OccursIn}
 use Rattle.wh_terms.specs.Typing.{Symbols, Declared, Typed, typed_bound, typed_free, typed_fun, typed_meta, typed_lam, typed_app, AllTyped, typed_none, typed_more}
@@ -10,7 +10,7 @@ use Rattle.wh_terms.specs.TypedBodies.{parameter_types, FitsDeclared, TypedBodie
 use Rattle.wh_terms.proofs.RenamingLaws.{rename-id}
 use Rattle.wh_terms.proofs.ActLaws.{act_same, act-id, opened-act}
 use Rattle.wh_terms.proofs.SightLaws.{act_loose, rename_loose}
-use Rattle.wh_terms.proofs.TypingLaws.{some_one, up_renaming_typed, typed-rename, typed_loose}
+use Rattle.wh_terms.proofs.TypingLaws.{typed-rename, typed_loose}
 use Rattle.wh_terms.proofs.ValueForm.{up_times, ups, ups_free, shifted, value, values, value_agree, FitsBodies, AllFitBodies, count-values, act-body}
 use Rattle.wh_terms.proofs.ValueTyping.{TypedBodiesIn, typed_count}
 use Rattle.wh_calls.proofs.Puts.{inst}

@@ -19,10 +19,14 @@ ghost use Rattle.wh_calls.specs.MarkedCalls.{CallsEnd};
 /// Where a system is passing under ranks and the calls of its pairs lead to no endless sequence, each
 /// symbol is computable (Tait 1967 for computability; Fuhs and Kop 2019 for pairs under passing).
 pub fn symbols_are_computable_where_calls_end()
-    ensures { (d : SystemData) (ranks : List ℕ) (ps : List PairData) → IsWellMadeSystem d → IsPassing d ranks → ArePairs (candidates d.symbols d.rules) ps → CallsEnd d.symbols d.rules (Step d.rules) (Contains ps) → (f : ℕ) (a : Ty) → slice_get d.symbols.funs f ≡ Some a → Computable d.symbols (rank_of ranks) (Step d.rules) a (fun f) }
+    ensures { (d : SystemData) (ranks : List ℕ) (ps : List PairData) → IsWellMadeSystem d → IsPassing d ranks
+        → ArePairs (candidates d.symbols d.rules) ps → CallsEnd d.symbols d.rules (Step d.rules) (Contains ps)
+        → (f : ℕ) (a : Ty) → slice_get d.symbols.funs f ≡ Some a → Computable d.symbols (rank_of ranks) (Step d.rules) a (fun f) }
 {}
 
 /// And so each well-typed term is bounded: there is a longest reduction from it.
 pub fn terms_are_bounded_where_calls_end()
-    ensures { (d : SystemData) (ranks : List ℕ) (ps : List PairData) → IsWellMadeSystem d → IsPassing d ranks → ArePairs (candidates d.symbols d.rules) ps → CallsEnd d.symbols d.rules (Step d.rules) (Contains ps) → (t : Tm) → WellTyped d.symbols t → Bounded d.rules t }
+    ensures { (d : SystemData) (ranks : List ℕ) (ps : List PairData) → IsWellMadeSystem d → IsPassing d ranks
+        → ArePairs (candidates d.symbols d.rules) ps → CallsEnd d.symbols d.rules (Step d.rules) (Contains ps)
+        → (t : Tm) → WellTyped d.symbols t → Bounded d.rules t }
 {}
