@@ -9,4 +9,5 @@ use Rattle.wh_nodes.proofs.MapMade.{map_made}
 use Rattle.wh_nodes.proofs.MapProof.{map_passes, map_pairs, map_proved, whole_set}
 
 pub map_terms_end : (t : Tm) → WellTyped map_system.symbols t → Bounded map_system.rules t
-map_terms_end = proved_systems_end map_system map_made (0 ∷ 0 ∷ []) map_passes (map_pair ∷ []) map_pairs (0 ∷ []) map_nodes map_proved whole_set
+map_terms_end =
+    proved_systems_end map_system map_made (0 ∷ 0 ∷ []) map_passes (map_pair ∷ []) map_pairs (0 ∷ []) map_nodes map_proved whole_set

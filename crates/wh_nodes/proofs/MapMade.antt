@@ -1,4 +1,4 @@
--- The worked system is well made.
+-- The worked system is well made. Limits are seen by computing, names by tests.
 use Rattle.std.proofs.Common.{◌≡◌, ℕ, ◌+◌, ◌≤◌, zero, suc, inl, inr, true, List, [], ◌∷◌, length, All, Contains, refl, sym, ◌∙◌, subst, arith}
 use Rattle.std.proofs.lemmas.List.Elements.{All-from_recursion, All-nil, All-cons}
 use Rattle.wh_types.specs.Ty.{Ty, ◌⇒◌, arguments}
@@ -12,7 +12,7 @@ use Rattle.wh_system.specs.WellMade.{TypesWithin, IsTypeOver, IsDeclarationOver,
 use Rattle.wh_nodes.specs.MapSystem.{nat, list, map_symbols, function_meta, plain_meta, map_metas, mapped, cons_term, map_over, map_nil, map_cons, map_system}
 use Rattle.wh_nodes.proofs.NameTests.{is_name, name_by, all_differ, distinct_by, every, all_by, is_apart, apart_by}
 
--- two rules
+-- what holds of each of two rules
 
 pub two_rules : (P : RewriteRule → Type 0) (q r : RewriteRule) → P q → P r → (s : RewriteRule) → Contains (q ∷ r ∷ []) s → P s
 two_rules P q r first second s (zero, within, e) = subst P e first
@@ -30,7 +30,8 @@ nat_over = record { sorts_are_there = omega arith; narrow = tt; shallow = omega 
 list_over : IsTypeOver 2 list
 list_over = record { sorts_are_there = omega arith; narrow = tt; shallow = omega arith }
 
-arrow_over : (a b : Ty) → length (arguments b) + 1 ≤ 32 → type_nesting (a ⇒ b) ≤ 16 → IsTypeOver 2 a → IsTypeOver 2 b → IsTypeOver 2 (a ⇒ b)
+arrow_over : (a b : Ty) → length (arguments b) + 1 ≤ 32 → type_nesting (a ⇒ b) ≤ 16 → IsTypeOver 2 a → IsTypeOver 2 b
+    → IsTypeOver 2 (a ⇒ b)
 arrow_over a b few low p q = record {
   sorts_are_there = (p.sorts_are_there, q.sorts_are_there);
   narrow = (few, p.narrow, q.narrow);
@@ -63,7 +64,7 @@ function_metas_over = All-from_recursion (IsDeclarationOver 2) map_nil.metas (fu
 metas_over : All (IsDeclarationOver 2) map_metas
 metas_over = All-from_recursion (IsDeclarationOver 2) map_metas (function_over, (plain_over nat nat_over, (plain_over list list_over, tt)))
 
--- typings
+-- types of the sides
 
 mapped_typed : (M : List Declared) → Typed map_symbols (function_meta ∷ M) [] mapped (nat ⇒ nat)
 mapped_typed M = typed_lam (omega arith) (typed_meta refl (typed_more (typed_bound refl) typed_none) refl)
@@ -82,7 +83,8 @@ cons_typed : Typed map_symbols map_metas [] cons_term list
 cons_typed = typed_app (typed_app (typed_fun refl) first_typed) rest_typed
 
 right_typed : Typed map_symbols map_metas [] map_cons.right list
-right_typed = typed_app (typed_app (typed_fun refl) (typed_meta refl (typed_more first_typed typed_none) refl)) (map_typed _ (meta 2 none) rest_typed)
+right_typed =
+    typed_app (typed_app (typed_fun refl) (typed_meta refl (typed_more first_typed typed_none) refl)) (map_typed _ (meta 2 none) rest_typed)
 
 -- rules
 
@@ -116,8 +118,16 @@ known_left z o = elim o [
 map_cons_made : IsWellMade map_symbols map_cons
 map_cons_made = record {
   typed = (list, map_typed _ cons_term cons_typed, right_typed);
-  left_fits = record { low = omega arith; narrow = (omega arith, (omega arith, tt, (tt, tt)), (omega arith, (omega arith, tt, tt), tt)); small = omega arith };
-  right_fits = record { low = omega arith; narrow = (omega arith, (omega arith, tt, (tt, tt)), (omega arith, (omega arith, tt, (tt, tt)), tt)); small = omega arith };
+  left_fits = record {
+    low = omega arith;
+    narrow = (omega arith, (omega arith, tt, (tt, tt)), (omega arith, (omega arith, tt, tt), tt));
+    small = omega arith;
+  };
+  right_fits = record {
+    low = omega arith;
+    narrow = (omega arith, (omega arith, tt, (tt, tt)), (omega arith, (omega arith, tt, (tt, tt)), tt));
+    small = omega arith;
+  };
   left_closed = ((tt, (tt, tt)), ((tt, tt), tt));
   right_closed = ((tt, (tt, tt)), ((tt, (tt, tt)), tt));
   pattern_left = ((tt, ((omega arith, tt), (tt, tt))), ((tt, (tt, tt)), (tt, tt)));
@@ -140,6 +150,13 @@ rules_made = record {
 names_by : (names : List (List ℕ)) → every is_name names ≡ true → All IsName names
 names_by = all_by IsName is_name name_by
 
+metas_apart : (metas : List (List (List ℕ))) → every (λ names. is_apart names map_system.fun_names) metas ≡ true
+    → All (λ names. AreApart names map_system.fun_names) metas
+metas_apart =
+    let funs = map_system.fun_names in
+    all_by (λ names. AreApart names funs) (λ names. is_apart names funs) (apart_by funs)
+
+-- the whole system
 pub map_made : IsWellMadeSystem map_system
 map_made = record {
   rules = rules_made;
@@ -149,9 +166,11 @@ map_made = record {
   metas_within = all_two (λ r. length r.metas ≤ 32) map_nil map_cons (omega arith) (omega arith);
   symbol_types = symbols_over;
   meta_types = all_two (λ r. All (IsDeclarationOver 2) r.metas) map_nil map_cons function_metas_over metas_over;
-  side_types = all_two (λ r. TypesWithin 32 r.left × TypesWithin 32 r.right) map_nil map_cons (((tt, (tt, (tt, tt))), tt), tt)
+  side_types = all_two (λ r. TypesWithin 32 r.left × TypesWithin 32 r.right) map_nil map_cons
+      (((tt, (tt, (tt, tt))), tt), tt)
       (((tt, (tt, (tt, tt))), ((tt, tt), tt)), ((tt, (tt, tt)), ((tt, (tt, (tt, tt))), tt)));
-  side_types_shallow = all_two (λ r. TypesNestWithin 16 r.left × TypesNestWithin 16 r.right) map_nil map_cons (((tt, (omega arith, (tt, tt))), tt), tt)
+  side_types_shallow = all_two (λ r. TypesNestWithin 16 r.left × TypesNestWithin 16 r.right) map_nil map_cons
+      (((tt, (omega arith, (tt, tt))), tt), tt)
       (((tt, (omega arith, (tt, tt))), ((tt, tt), tt)), ((tt, (tt, tt)), ((tt, (omega arith, (tt, tt))), tt)));
   sorts_named = refl;
   symbols_named = refl;
@@ -162,5 +181,5 @@ map_made = record {
   sort_names_distinct = distinct_by map_system.sort_names refl;
   fun_names_distinct = distinct_by map_system.fun_names refl;
   meta_names_distinct = all_by AreDistinct all_differ distinct_by map_system.meta_names refl;
-  metas_no_symbols = all_by (λ names. AreApart names map_system.fun_names) (λ names. is_apart names map_system.fun_names) (apart_by map_system.fun_names) map_system.meta_names refl;
+  metas_no_symbols = metas_apart map_system.meta_names refl;
 }

@@ -1,14 +1,14 @@
 -- The worked system is passing under equal ranks, its one pair is that of the second rule, and its nodes are a proof.
-use Rattle.std.proofs.Common.{◌≡◌, ◌<◌, ℕ, zero, suc, inl, inr, [], ◌∷◌, Some, length, slice_get, Contains, refl, sym, ap, ◌∙◌, subst, arith}
+use Rattle.std.proofs.Common.{◌≡◌, ◌<◌, ℕ, zero, suc, inl, inr, List, [], ◌∷◌, Some, length, slice_get, Contains, refl, sym, ap, ◌∙◌, subst, arith}
 use Rattle.std.specs.Prelude.{◌⊎◌}
-use Rattle.std.proofs.lemmas.List.Elements.{All-nil, All-cons}
+use Rattle.std.proofs.lemmas.List.Elements.{All-from_recursion, All-nil, All-cons}
 use Rattle.wh_types.specs.Ty.{Ty, ◌⇒◌}
 use Rattle.wh_terms.specs.Tree.{meta, none}
 use Rattle.wh_terms.specs.Substitution.{act, acts, cons, up, up_free}
 use Rattle.wh_laws.specs.Ranks.{rank_of, IsAccessible}
 use Rattle.wh_system.specs.PairData.{PairData}
 use Rattle.wh_access.specs.Readings.{Place}
-use Rattle.wh_access.specs.Passing.{EachUsed, Passes, IsPassing}
+use Rattle.wh_access.specs.Passing.{AllAccessible, EachUsed, Passes, IsPassing}
 use Rattle.wh_pairs.specs.Candidates.{candidates, freed}
 use Rattle.wh_pairs.specs.Subsumption.{IsDropped, ArePairs, none_left, one_kept, for_earlier, for_later}
 use Rattle.wh_pairs.proofs.MemberLemmas.{none_there, at_head, head_or_behind}
@@ -26,17 +26,25 @@ use Rattle.wh_nodes.proofs.MapMade.{two_rules}
 abbrev equal_ranks : ℕ → ℕ
 equal_ranks = rank_of (0 ∷ 0 ∷ [])
 
-abbrev IsAccessiblePlace : Place → Type 0
-IsAccessiblePlace p = IsAccessible map_symbols equal_ranks p.symbol p.index
+-- the way to an argument of cons
+abbrev way_behind : ℕ → List Place
+way_behind i = record { symbol = 3; index = i } ∷ []
+
+-- where that argument is accessible, so is the way
+cons_is_open : (i : ℕ) → IsAccessible map_symbols equal_ranks 3 i → AllAccessible map_symbols equal_ranks (way_behind i)
+cons_is_open i accessible = All-from_recursion (λ p. IsAccessible map_symbols equal_ranks p.symbol p.index) (way_behind i) (accessible, tt)
+
+-- the left side of the rule is read for a meta-variable
+abbrev IsPassed : ℕ → Type 0
+IsPassed = Passes map_symbols equal_ranks map_cons.left
 
 map_cons_passes : EachUsed (Passes map_symbols equal_ranks) map_cons
 map_cons_passes z o =
-    let by : (y : ℕ) → Passes map_symbols equal_ranks map_cons.left y → y ≡ z → Passes map_symbols equal_ranks map_cons.left z =
-    λ y h e. subst (Passes map_symbols equal_ranks map_cons.left) e h in
+    let by : (y : ℕ) → IsPassed y → y ≡ z → IsPassed z = λ y h e. subst IsPassed e h in
     let kind : Ty = nat ⇒ list ⇒ list in
-    let function = by 0 ([], refl, All-nil IsAccessiblePlace) in
-    let first = by 1 (record { symbol = 3; index = 0 } ∷ [], refl, All-cons IsAccessiblePlace _ [] (nat, kind, refl, refl, omega arith) (All-nil IsAccessiblePlace)) in
-    let rest = by 2 (record { symbol = 3; index = 1 } ∷ [], refl, All-cons IsAccessiblePlace _ [] (list, kind, refl, refl, omega arith) (All-nil IsAccessiblePlace)) in
+    let function = by 0 ([], refl, All-nil (λ p. IsAccessible map_symbols equal_ranks p.symbol p.index)) in
+    let first = by 1 (way_behind 0, refl, cons_is_open 0 (nat, kind, refl, refl, omega arith)) in
+    let rest = by 2 (way_behind 1, refl, cons_is_open 1 (list, kind, refl, refl, omega arith)) in
     elim o [
       | inl (inl never) ↦ absurd never
       | inl (inr (inl e)) ↦ function e
@@ -82,7 +90,7 @@ get_one : {A : Type 0} (x y : A) (n : ℕ) → slice_get (x ∷ []) n ≡ Some y
 get_one x y zero e = (refl, cc)
 get_one x y (suc n) e = absurd (cc)
 
--- the one node of the proof
+-- the subterm node: Y is a part of cons X Y
 
 rest_is_part : Below (map_choice ∷ []) map_pair
 rest_is_part =
@@ -116,7 +124,10 @@ map_projection = record {
 }
 
 none_kept : IsSetOf (IsKept (0 ∷ []) (0 ∷ [])) []
-none_kept = record { increasing = tt; each = λ n. ((λ never. absurd (none_there n never)), (λ (there, kept). absurd (kept there))) }
+none_kept = record {
+  increasing = tt;
+  each = λ n. ((λ never. absurd (none_there n never)), (λ (there, kept). absurd (kept there)));
+}
 
 pub map_proved : Proves map_system.rules (map_pair ∷ []) ((0 ∷ []) ∷ []) map_nodes
 map_proved = one_proved (by_subterm map_projection none_kept) (one_proved by_done all_proved)

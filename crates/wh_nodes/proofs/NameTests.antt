@@ -1,4 +1,4 @@
--- Names by tests, so that names in full are seen to be names, and distinct, by computation.
+-- Tests of names: that given words are names, and are distinct, is then seen by computing.
 use Rattle.std.proofs.Common.{◌≡◌, ◌≢◌, ℕ, inl, inr, Bool, true, false, not, List, [], ◌∷◌, length, All, arith, leb-true}
 use Rattle.std.specs.Prelude.{◌&&◌, bytes_eq, nat_le, codes}
 use Rattle.std.proofs.lemmas.Bool.{and_parts}
@@ -14,13 +14,15 @@ abbrev pub every : {A : Type 0} → (A → Bool) → List A → Bool
 every test [] = true
 every test (x ∷ xs) = test x && every test xs
 
-pub all_by : {A : Type 0} (P : A → Type 0) (test : A → Bool) → ((x : A) → test x ≡ true → P x) → (xs : List A) → every test xs ≡ true → All P xs
+-- so each is what the test says
+pub all_by : {A : Type 0} (P : A → Type 0) (test : A → Bool) → ((x : A) → test x ≡ true → P x) → (xs : List A) → every test xs ≡ true
+    → All P xs
 all_by P test sound [] e = All-nil P
 all_by P test sound (x ∷ xs) e =
     let parts = and_parts (test x) (every test xs) e in
     All-cons P x xs (sound x parts.0) (all_by P test sound xs parts.1)
 
--- names that are not one
+-- different names
 
 abbrev pub differ : List ℕ → List ℕ → Bool
 differ x y = not (bytes_eq x y)
@@ -46,9 +48,10 @@ abbrev pub is_apart : List (List ℕ) → List (List ℕ) → Bool
 is_apart xs ys = every (λ x. every (differ x) ys) xs
 
 pub apart_by : (ys xs : List (List ℕ)) → is_apart xs ys ≡ true → AreApart xs ys
-apart_by ys xs e = all_by (λ x. All (λ y. x ≢ y) ys) (λ x. every (differ x) ys) (λ x. all_by (λ y. x ≢ y) (differ x) (differ_sound x) ys) xs e
+apart_by ys xs e =
+    all_by (λ x. All (λ y. x ≢ y) ys) (λ x. every (differ x) ys) (λ x. all_by (λ y. x ≢ y) (differ x) (differ_sound x) ys) xs e
 
--- names
+-- names and no keywords
 
 abbrev starts : List ℕ → Bool
 starts [] = false

@@ -1,4 +1,5 @@
--- A worked system: a function is mapped over a list. Its one dependency pair and the proof of it, as a certificate has them.
+-- A worked system: a function is mapped over a list. With it stand its one dependency pair and the proof of that, as a
+-- certificate says it.
 use Rattle.std.specs.Prelude.{List, [], ◌∷◌, codes}
 use Rattle.wh_types.specs.Ty.{Ty, sort, ◌⇒◌}
 use Rattle.wh_terms.specs.Tree.{Tm, bound, fun, meta, lam, app, none, more}
@@ -9,7 +10,7 @@ use Rattle.wh_system.specs.Systems.{SystemData}
 use Rattle.wh_subterm.specs.Projections.{Chosen}
 use Rattle.wh_nodes.specs.Nodes.{Node, done, subterm}
 
--- the sorts
+-- the sorts: 0 nat and 1 list
 abbrev pub nat : Ty
 nat = sort 0
 
@@ -18,15 +19,19 @@ list = sort 1
 
 -- the symbols: 0 zero, 1 s, 2 nil, 3 cons and 4 map
 abbrev pub map_symbols : Symbols
-map_symbols = record { sorts = 2; funs = nat ∷ (nat ⇒ nat) ∷ list ∷ (nat ⇒ list ⇒ list) ∷ ((nat ⇒ nat) ⇒ list ⇒ list) ∷ [] }
+map_symbols = record {
+  sorts = 2;
+  funs = nat ∷ (nat ⇒ nat) ∷ list ∷ (nat ⇒ list ⇒ list) ∷ ((nat ⇒ nat) ⇒ list ⇒ list) ∷ [];
+}
 
--- the meta-variables: 0 F:[nat] nat, 1 X:nat and 2 Y:list
+-- a meta-variable with an argument, and one without
 abbrev pub function_meta : Declared
 function_meta = record { args = nat ∷ []; out = nat }
 
 abbrev pub plain_meta : Ty → Declared
 plain_meta a = record { args = []; out = a }
 
+-- the meta-variables 0 F:[nat] nat, 1 X:nat and 2 Y:list
 abbrev pub map_metas : List Declared
 map_metas = function_meta ∷ plain_meta nat ∷ plain_meta list ∷ []
 
@@ -52,7 +57,7 @@ map_cons = record {
   right = app (app (fun 3) (meta 0 (more (meta 1 none) none))) (map_over (meta 2 none));
 }
 
--- the system `map` (Kop 2012)
+-- the system `map` (Kop 2012), with the names of its text
 abbrev pub map_system : SystemData
 map_system = record {
   sort_names = codes "nat" ∷ codes "list" ∷ [];
@@ -62,7 +67,7 @@ map_system = record {
   meta_names = (codes "F" ∷ []) ∷ (codes "F" ∷ codes "X" ∷ codes "Y" ∷ []) ∷ [];
 }
 
--- map# (\x:nat.F[x]) (cons X Y) => map# (\x:nat.F[x]) Y
+-- its one pair: map# (\x:nat.F[x]) (cons X Y) => map# (\x:nat.F[x]) Y
 abbrev pub map_pair : PairData
 map_pair = record {
   rule = 1;
@@ -74,10 +79,10 @@ map_pair = record {
   conditions = [];
 }
 
--- of `map` the second argument counts
+-- of `map` the second argument is looked at
 abbrev pub map_choice : Chosen
 map_choice = record { symbol = 4; argument = 2 }
 
--- the pair is dropped, since that argument gets smaller; then there is no pair
+-- the pair is dropped, since that argument gets smaller; then there is no pair left
 abbrev pub map_nodes : List Node
 map_nodes = subterm (map_choice ∷ []) (0 ∷ []) ∷ done ∷ []
