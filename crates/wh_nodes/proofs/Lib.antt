@@ -7,3 +7,7 @@ pub mod BlockLaws
 pub mod SubtermLaws
 pub mod NodeLaws
 pub mod SystemLaws
+pub mod NameTests
+pub mod MapMade
+pub mod MapProof
+pub mod MapLaws

@@ -1,3 +1,4 @@
 pub mod Many
 pub mod Nodes
 pub mod Proves
+pub mod MapSystem

@@ -2,6 +2,8 @@
 //! endless sequence, and so each well-typed term is bounded.
 #![tactic(auto)]
 
+mod example;
 mod nodes;
 
+pub use example::terms_over_map_are_bounded;
 pub use nodes::{may_is_sound, nodes_keep_that_calls_end, proved_systems_are_bounded};

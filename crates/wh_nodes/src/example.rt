@@ -1,0 +1,13 @@
+//! A worked system, so that the law on proved systems is seen to be about something.
+
+ghost use Rattle.wh_terms.specs.Tree.{Tm};
+ghost use Rattle.wh_terms.specs.Typing.{WellTyped};
+ghost use Rattle.wh_step.specs.Reduction.{Bounded};
+ghost use Rattle.wh_nodes.specs.MapSystem.{map_system};
+
+/// Each well-typed term over the system `map`, which maps a function over a list, is bounded. The system is well made
+/// and passing under equal ranks, and its one dependency pair is proved by the subterm criterion: map's second argument
+/// gets smaller (Kop 2012).
+pub fn terms_over_map_are_bounded()
+    ensures { (t : Tm) → WellTyped map_system.symbols t → Bounded map_system.rules t }
+{}
