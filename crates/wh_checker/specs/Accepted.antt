@@ -5,8 +5,8 @@ use Rattle.wh_system.specs.PairData.{PairData}
 use Rattle.wh_cert.specs.Written.{Cert, yes, no}
 use Rattle.wh_no.specs.Faults as claims
 use Rattle.wh_checker.specs.Valid.{IsValidYes}
-use Rattle.wh_checker.specs.declared.check.Accepted.{Accepted}
-use Rattle.wh_checker.specs.declared.check.Accepted.TheVariants as answer
+use Rattle.wh_checker.specs.declared.checking.Accepted.{Accepted}
+use Rattle.wh_checker.specs.declared.checking.Accepted.TheVariants as answer
 
 -- the certificate is valid, and the answer has the number of its nodes or steps (ours)
 abbrev pub IsAccepted : SystemData → List PairData → Cert → Accepted → Type 0

@@ -1,4 +1,5 @@
 pub mod Looked
 pub mod Valid
 pub mod Faults
+pub mod Walk
 pub mod Accepted

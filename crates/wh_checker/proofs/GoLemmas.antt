@@ -1,0 +1,92 @@
+-- The answers of the parts of a node's check, as what they say of the node.
+use Rattle.std.proofs.Common.{Contains, ◌≡◌, ◌≢◌, ◌-◌, ℕ, zero, suc, ◌+◌, ◌<◌, ◌≤◌, List, [], ◌∷◌, ◌++◌, length, map, reverse, drop, get_or, Some, Result, Ok, Err, OnOk, slice_get, refl, sym, ap, subst, ◌∙◌, arith}
+use Rattle.std.proofs.lemmas.List.{drop_more, drop_all, reverse-append}
+use Rattle.wh_types.specs.Outcome.{IfBecause, MatchOr}
+use Rattle.wh_types.specs.declared.want.Or.{Or}
+use Rattle.wh_types.specs.declared.want.Or.TheVariants.{NoMemory, Because}
+use Rattle.wh_terms.specs.Rules.{RewriteRule}
+use Rattle.wh_system.specs.Systems.{SystemData}
+use Rattle.wh_system.specs.WellMade.{AreDistinct}
+use Rattle.wh_system.specs.PairData.{PairData, pair_data}
+use Rattle.wh_system.specs.declared.pairs.Pair.{Pair}
+use Rattle.wh_system.proofs.ByPlace.{some_one, read_map}
+use Rattle.wh_graph.specs.May.{May, Follows}
+use Rattle.wh_graph.specs.Blocks.{AreBlocks}
+use Rattle.wh_subterm.specs.Projections.{Chosen}
+use Rattle.wh_subterm.specs.SubtermRows.{AreForMarked, IsFirstSubtermFault}
+use Rattle.wh_subterm.specs.declared.projection.SubtermFault.{SubtermFault}
+use Rattle.wh_subterm.specs.declared.projection.SubtermFault.TheVariants.{BadArgs, NoProjection, BadArgument, BadDrop, NotDecreasing}
+use Rattle.wh_cert.specs.Written as w
+use Rattle.wh_nodes.specs.Nodes.{done, alone, blocks, subterm, IsSetOf, AreSetsOf, no_sets, more_sets, Leaves, by_done, by_alone, by_blocks, by_subterm}
+use Rattle.wh_checker.specs.Looked.{SayChoices}
+use Rattle.wh_checker.specs.Faults.{IsSubtermFault}
+use Rattle.wh_checker.specs.Walk.{IsSingle, IsReduced, GoesOn}
+use Rattle.wh_checker.proofs.ChoiceLemmas.{one_list_said}
+
+because_one : {E : Type 0} {x y : E} → ◌≡◌ {A = Or E} (Because x) (Because y) → x ≡ y
+because_one e = cc
+
+-- an answer that says one thing says another that follows
+pub ok_then : {T E : Type 0} (r : Result T (Or E)) (P : Type 0) (Q : E → Type 0) (G : Type 0) → MatchOr r (λ _. P) Q → (P → G) → OnOk r G
+ok_then (Ok x) P Q G p then = then p
+ok_then (Err NoMemory) P Q G p then = tt
+ok_then (Err (Because e)) P Q G p then = tt
+
+-- what an answer with a cause says of the cause
+pub because_says : {E : Type 0} (e : Or E) (x : E) (P : E → Type 0) → e ≡ Because x → IfBecause {T = Unit {0}} (Err e) P → P x
+because_says (Because y) x P is p = let same : y ≡ x = because_one is in subst P same p
+because_says NoMemory x P is p = cc
+
+pub goes_done : (d : SystemData) (ps : List PairData) (set : List ℕ) (sets : List (List ℕ)) → set ≡ [] → GoesOn d ps set w.done sets sets
+goes_done d ps set sets empty = record { node = done; left = []; says = tt; leaves = subst (λ (s : List ℕ). Leaves d.rules ps s done []) (sym empty) by_done; after_is = refl }
+
+pub goes_alone : (d : SystemData) (ps : List PairData) (set : List ℕ) (sets : List (List ℕ)) → IsSingle d.rules ps set → GoesOn d ps set w.alone sets sets
+goes_alone d ps set sets (a, one, free) = record { node = alone; left = []; says = tt; leaves = subst (λ (s : List ℕ). Leaves d.rules ps s alone []) (sym one) (by_alone free); after_is = refl }
+
+pub goes_blocks : (d : SystemData) (ps : List PairData) (set : List ℕ) (parts sets after : List (List ℕ)) → AreBlocks (Follows d.rules ps) set parts → (left : List (List ℕ)) × AreSetsOf parts left × (after ≡ left ++ sets)
+    → GoesOn d ps set (w.blocks parts) sets after
+goes_blocks d ps set parts sets after are (left, is, after_is) = record { node = blocks parts; left = left; says = refl; leaves = by_blocks are is; after_is = after_is }
+
+pub goes_subterm : (d : SystemData) (ps : List PairData) (set : List ℕ) (lines : List w.Arg) (drop rest : List ℕ) (sets after : List (List ℕ)) → IsReduced d ps set lines drop rest → after ≡ rest ∷ sets
+    → GoesOn d ps set (w.subterm lines drop) sets after
+goes_subterm d ps set lines drop rest sets after (args, says, is, kept) after_is = record { node = subterm args drop; left = rest ∷ []; says = (says, refl); leaves = by_subterm is kept; after_is = after_is }
+
+-- a stack from its top, with one more on it
+pub reverse_push : {A : Type 0} (xs : List A) (x : A) → reverse (xs ++ x ∷ []) ≡ x ∷ reverse xs
+reverse_push xs x = reverse-append xs (x ∷ [])
+
+-- the one number of a set of which the pair may not follow itself
+one_number : (set : List ℕ) → length set ≡ 1 → set ≡ get_or set 0 0 ∷ []
+one_number (a ∷ []) one = refl
+one_number [] one = absurd (omega arith)
+one_number (a ∷ b ∷ rest) one = absurd (omega arith)
+
+follows_itself : (rules : List RewriteRule) (pairs : List Pair) (a : ℕ) (pair : Pair) → slice_get (map pair_data pairs) a ≡ Some (pair_data pair) → Follows rules (map pair_data pairs) a a → May rules (pair_data pair) (pair_data pair)
+follows_itself rules pairs a pair here (x, y, at, also, may) =
+    let first : x ≡ pair_data pair = some_one at here in
+    let second : y ≡ pair_data pair = some_one also here in
+    subst (λ (p : PairData). May rules p (pair_data pair)) first (subst (λ (p : PairData). May rules x p) second may)
+
+pub single : (rules : List RewriteRule) (pairs : List Pair) (set : List ℕ) (pair : Pair) → length set ≡ 1 → get_or set 0 0 < length pairs → pair ≡ get_or pairs (get_or set 0 0) pair
+    → (May rules (pair_data pair) (pair_data pair) → ⊥) → IsSingle rules (map pair_data pairs) set
+single rules pairs set pair one within is free =
+    (get_or set 0 0, one_number set one, λ follows. free (follows_itself rules pairs (get_or set 0 0) pair (read_map pair_data pairs (get_or set 0 0) pair within is) follows))
+
+-- what is wrong first with the choices that the lines say is what is wrong first with the lines
+pub subterm_fault : (d : SystemData) (ps : List PairData) (set : List ℕ) (lines : List w.Arg) (args : List Chosen) (drop : List ℕ) (f : SubtermFault) → AreDistinct d.fun_names → SayChoices d lines args
+    → IsFirstSubtermFault d.rules ps set args drop f → IsSubtermFault d ps set lines drop f
+subterm_fault d ps set lines args drop BadArgs apart says first =
+    λ others also marked. first (subst (AreForMarked ps set) (one_list_said d lines others args apart also says) marked)
+subterm_fault d ps set lines args drop (NoProjection f) apart says first = (args, says, first)
+subterm_fault d ps set lines args drop (BadArgument f) apart says first = (args, says, first)
+subterm_fault d ps set lines args drop BadDrop apart says first = (args, says, first)
+subterm_fault d ps set lines args drop (NotDecreasing n) apart says first = (args, says, first)
+
+-- the sets of the blocks from a place on, with one more before them
+pub sets_before : (parts sets : List (List ℕ)) (i : ℕ) (block set : List ℕ) → 0 < i → i ≤ length parts → block ≡ get_or parts (i - 1) block → IsSetOf (Contains block) set → AreSetsOf (drop i parts) sets
+    → AreSetsOf (drop (i - 1) parts) (set ∷ sets)
+sets_before parts sets i block set above within is set_is rest =
+    let next : i - 1 + 1 ≡ i = omega arith in
+    let split = drop_more parts (i - 1) block (omega arith) in
+    let whole : drop (i - 1) parts ≡ block ∷ drop i parts = split ∙ ap (λ b. b ∷ drop (i - 1 + 1) parts) (sym is) ∙ ap (λ j. block ∷ drop j parts) next in
+    subst (λ (l : List (List ℕ)). AreSetsOf l (set ∷ sets)) (sym whole) (more_sets set_is rest)

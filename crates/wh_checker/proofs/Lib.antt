@@ -1,0 +1,9 @@
+pub mod SetLemmas
+pub mod ChoiceLemmas
+pub mod NodeLemmas
+pub mod WalkLemmas
+pub mod GoLemmas
+pub mod YesLemmas
+pub mod RowLaws
+pub mod NodeLaws
+pub mod FaultLaws

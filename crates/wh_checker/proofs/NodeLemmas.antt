@@ -1,0 +1,60 @@
+-- What a node leaves: how many sets, and of which numbers.
+use Rattle.std.proofs.Common.{◌≡◌, ◌↔◌, ℕ, zero, suc, ◌+◌, ◌<◌, List, [], ◌∷◌, ◌++◌, length, Some, slice_get, All, Contains, refl, sym, ap, subst, ◌∙◌, arith}
+use Rattle.std.proofs.lemmas.List.Elements.{All-nil, All-cons, All-head, All-tail, All-contains}
+use Rattle.wh_system.specs.Systems.{SystemData}
+use Rattle.wh_system.specs.PairData.{PairData}
+use Rattle.wh_terms.specs.Rules.{RewriteRule}
+use Rattle.wh_system.proofs.ByPlace.{contains_at, place_of}
+use Rattle.wh_graph.specs.Components.{IsIn}
+use Rattle.wh_cert.specs.Written as w
+use Rattle.wh_cert.specs.Written.{children}
+use Rattle.wh_nodes.specs.Nodes.{Node, done, alone, blocks, subterm, IsSetOf, AreSetsOf, no_sets, more_sets, IsKept, Leaves, by_done, by_alone, by_blocks, by_subterm}
+use Rattle.wh_checker.specs.Looked.{SaysNode}
+use Rattle.wh_checker.proofs.SetLemmas.{all_from_members}
+
+pub sets_count : (parts sets : List (List ℕ)) → AreSetsOf parts sets → length sets ≡ length parts
+sets_count [] [] no_sets = refl
+sets_count (part ∷ parts) (set ∷ sets) (more_sets is rest) = ap suc (sets_count parts sets rest)
+sets_count [] (set ∷ sets) none = elim none [ ]
+sets_count (part ∷ parts) [] none = elim none [ ]
+
+-- a node leaves as many sets as its line has children
+pub leaves_count : (d : SystemData) (ps : List PairData) (set : List ℕ) (line : w.Node) (node : Node) (left : List (List ℕ)) → SaysNode d line node → Leaves d.rules ps set node left → length left ≡ children line
+leaves_count d ps set w.done done [] says by_done = refl
+leaves_count d ps set w.alone alone [] says (by_alone free) = refl
+leaves_count d ps set (w.blocks listed) (blocks parts) left says (by_blocks are sets) = sets_count parts left sets ∙ ap length (sym says)
+leaves_count d ps set (w.subterm lines listed) (subterm args drop) left says (by_subterm is rest) = refl
+leaves_count d ps set w.done done (_ ∷ _) says leaves = elim leaves [ ]
+leaves_count d ps set w.alone alone (_ ∷ _) says leaves = elim leaves [ ]
+leaves_count d ps set w.done alone left says leaves = absurd says
+leaves_count d ps set w.done (blocks parts) left says leaves = absurd says
+leaves_count d ps set w.done (subterm args drop) left says leaves = absurd says
+leaves_count d ps set w.alone done left says leaves = absurd says
+leaves_count d ps set w.alone (blocks parts) left says leaves = absurd says
+leaves_count d ps set w.alone (subterm args drop) left says leaves = absurd says
+leaves_count d ps set (w.blocks listed) done left says leaves = absurd says
+leaves_count d ps set (w.blocks listed) alone left says leaves = absurd says
+leaves_count d ps set (w.blocks listed) (subterm args drop) left says leaves = absurd says
+leaves_count d ps set (w.subterm lines listed) done left says leaves = absurd says
+leaves_count d ps set (w.subterm lines listed) alone left says leaves = absurd says
+leaves_count d ps set (w.subterm lines listed) (blocks parts) left says leaves = absurd says
+
+sets_within : (P : ℕ → Type 0) (parts sets : List (List ℕ)) → AreSetsOf parts sets → ((i n : ℕ) → IsIn parts i n → P n) → All (All P) sets
+sets_within P [] [] no_sets each = All-nil (All P)
+sets_within P (part ∷ parts) (set ∷ sets) (more_sets is rest) each =
+    All-cons (All P) set sets
+    (all_from_members P set (λ n found. let at = place_of part n ((is.each n).0 found) in each 0 n (at.0, (part, refl, at.1))))
+    (sets_within P parts sets rest (λ i n (k, (list, at, stands)). each (suc i) n (k, (list, at, stands))))
+sets_within P [] (set ∷ sets) none each = elim none [ ]
+sets_within P (part ∷ parts) [] none each = elim none [ ]
+
+-- what holds of the numbers of a set holds of those of what is left of it
+pub left_within : (rules : List RewriteRule) (ps : List PairData) (P : ℕ → Type 0) (set : List ℕ) (node : Node) (left : List (List ℕ)) → Leaves rules ps set node left → All P set → All (All P) left
+left_within rules ps P set done [] by_done all = All-nil (All P)
+left_within rules ps P set alone [] (by_alone free) all = All-nil (All P)
+left_within rules ps P set (blocks parts) left (by_blocks are sets) all =
+    sets_within P parts left sets (λ i n found. All-contains P set n all (are.partition.within i n found))
+left_within rules ps P set (subterm args drop) left (by_subterm {rest = rest} is rest_is) all =
+    All-cons (All P) rest [] (all_from_members P rest (λ n found. All-contains P set n all ((rest_is.each n).0 found).0)) (All-nil (All P))
+left_within rules ps P set done (_ ∷ _) leaves all = elim leaves [ ]
+left_within rules ps P set alone (_ ∷ _) leaves all = elim leaves [ ]

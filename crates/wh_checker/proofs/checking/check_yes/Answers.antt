@@ -1,0 +1,63 @@
+use Rattle.std.proofs.Common.{◌≡◌, ◌<◌, ℕ, List, [], ◌∷◌, All, length, map, ap, sym, subst, ◌∙◌}
+use Rattle.std.proofs.lemmas.List.{length-map}
+use Rattle.wh_system.specs.SystemView.{system_data}
+use Rattle.wh_system.specs.PairData.{pair_data}
+use Rattle.wh_system.specs.declared.pairs.Pair.{Pair}
+use Rattle.wh_pairs.specs.Views.{pairs_data}
+use Rattle.wh_nodes.specs.Nodes.{IsSetOf}
+use Rattle.wh_cert.specs.Said.{said_node}
+use Rattle.wh_cert.specs.declared.certificate.Node.{Node}
+use Rattle.wh_checker.specs.Faults.{IsFirstYesFault, pair_count}
+use Rattle.wh_checker.specs.Walk.{IsPassingUnder, IsRankFault, AreProvedBy}
+use Rattle.wh_checker.specs.declared.rejected.Rejected.TheVariants.{PairCount}
+use Rattle.wh_checker.proofs.SetLemmas.{all_from_members}
+use Rattle.wh_checker.proofs.YesLemmas.{passed_on, rank_fault, valid_yes, FaultInNodes, node_fault, ok_weaker, cause_weaker}
+use Rattle.wh_checker.proofs.checking.check_yes.Goals as goal
+
+pub returns-in_err-check_passing-clause-fault : goal.returns-in_err-check_passing-clause-fault
+returns-in_err-check_passing-clause-fault c =
+    let d = system_data c.args.system.now in
+    let ps = pairs_data c.args.pairs.now in
+    let cert = c.args.certificate.now in
+    let lines = map said_node cert.nodes in
+    passed_on c.from_residual.result c.in_err-check_passing.field-0.0 _ (IsRankFault d c.as_slice.result.now) (IsFirstYesFault d ps cert.ranks cert.pairs lines) c.from_residual.ensures.1 c.in_err-check_passing.ensures
+    (λ r fault. rank_fault d ps cert.ranks cert.pairs lines r (subst (λ (l : List ℕ). IsRankFault d l r) c.as_slice.ensures fault))
+
+pub returns-then-certificate-count-clause-fault : goal.returns-then-certificate-count-clause-fault
+returns-then-certificate-count-clause-fault c =
+    let d = system_data c.args.system.now in
+    let ps = pairs_data c.args.pairs.now in
+    let cert = c.args.certificate.now in
+    let lines = map said_node cert.nodes in
+    let passing = subst (IsPassingUnder d) c.as_slice.ensures c.in_ok-check_passing.ensures in
+    let count : length c.as_slice-2.result.now ≡ length ps = ap (λ (l : List Pair). length l) c.as_slice-2.ensures ∙ sym (length-map c.args.pairs.now pair_data) in
+    subst (λ n. IsFirstYesFault d ps cert.ranks cert.pairs lines (PairCount n)) (sym count) (pair_count passing.0 passing.1 (λ same. c.if-certificate-count.true (same ∙ sym count)))
+
+pub check_nodes-requires-clause-set : goal.check_nodes-requires-clause-set
+check_nodes-requires-clause-set c =
+    let count = ap (λ (l : List Pair). length l) c.as_slice-2.ensures in
+    subst (λ n. All (λ m. m < n) c.in_ok-whole.whole) count (all_from_members (λ m. m < length c.as_slice-2.result.now) c.in_ok-whole.whole (λ m found. (c.in_ok-whole.ensures.each m).0 found))
+
+pub returns-clause-valid : goal.returns-clause-valid
+returns-clause-valid c =
+    let d = system_data c.args.system.now in
+    let ps = pairs_data c.args.pairs.now in
+    let cert = c.args.certificate.now in
+    let passing = subst (IsPassingUnder d) c.as_slice.ensures c.in_ok-check_passing.ensures in
+    let count : length c.as_slice-2.result.now ≡ length ps = ap (λ (l : List Pair). length l) c.as_slice-2.ensures ∙ sym (length-map c.args.pairs.now pair_data) in
+    let set = c.in_ok-whole.whole in
+    let whole = subst (λ n. IsSetOf (λ m. m < n) set) count c.in_ok-whole.ensures in
+    ok_weaker c.check_nodes.result _ _ c.check_nodes.ensures.proved (λ proved.
+        valid_yes d ps cert.ranks cert.pairs (map said_node cert.nodes) set passing (c.if-certificate-count.false ∙ count) whole (subst (λ (l : List Node). AreProvedBy d ps (set ∷ []) (map said_node l)) c.as_slice-3.ensures proved))
+
+pub returns-clause-fault : goal.returns-clause-fault
+returns-clause-fault c =
+    let d = system_data c.args.system.now in
+    let ps = pairs_data c.args.pairs.now in
+    let cert = c.args.certificate.now in
+    let passing = subst (IsPassingUnder d) c.as_slice.ensures c.in_ok-check_passing.ensures in
+    let count : length c.as_slice-2.result.now ≡ length ps = ap (λ (l : List Pair). length l) c.as_slice-2.ensures ∙ sym (length-map c.args.pairs.now pair_data) in
+    let set = c.in_ok-whole.whole in
+    let whole = subst (λ n. IsSetOf (λ m. m < n) set) count c.in_ok-whole.ensures in
+    cause_weaker c.check_nodes.result (FaultInNodes d ps set (map said_node c.as_slice-3.result.now)) _ c.check_nodes.ensures.fault (λ r fault.
+        node_fault d ps cert.ranks cert.pairs (map said_node cert.nodes) set passing (c.if-certificate-count.false ∙ count) whole r (subst (λ (l : List Node). FaultInNodes d ps set (map said_node l) r) c.as_slice-3.ensures fault))

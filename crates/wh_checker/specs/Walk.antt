@@ -1,0 +1,59 @@
+-- What the walk through the nodes of a YES certificate keeps true.
+use Rattle.std.specs.Prelude.{ℕ, ◌≡◌, ◌≢◌, ◌<◌, List, [], ◌∷◌, ◌++◌, length, All}
+use Rattle.wh_terms.specs.Rules.{RewriteRule}
+use Rattle.wh_system.specs.Systems.{SystemData}
+use Rattle.wh_system.specs.PairData.{PairData}
+use Rattle.wh_access.specs.Passing.{IsPassing, IsFirstBreakIn}
+use Rattle.wh_graph.specs.May.{Follows}
+use Rattle.wh_subterm.specs.Projections.{Chosen}
+use Rattle.wh_subterm.specs.SubtermRows.{IsProjection}
+use Rattle.wh_cert.specs.Written as w
+use Rattle.wh_cert.specs.Written.{Preorder}
+use Rattle.wh_nodes.specs.Nodes.{Node, Leaves, IsSetOf, IsKept}
+use Rattle.wh_nodes.specs.Proves.{Proves}
+use Rattle.wh_checker.specs.Looked.{SayChoices, SaysNode, SayNodes}
+use Rattle.wh_checker.specs.Faults.{IsFirstNodeFault}
+use Rattle.wh_checker.specs.declared.rejected.NodeFault.{NodeFault}
+use Rattle.wh_checker.specs.declared.rejected.Rejected.{Rejected}
+use Rattle.wh_checker.specs.declared.rejected.Rejected.TheVariants.{RankCount, Inaccessible}
+
+-- there is a rank for each sort, and the system is passing under them
+abbrev pub IsPassingUnder : SystemData → List ℕ → Type 0
+IsPassingUnder d ranks = (length ranks ≡ d.symbols.sorts) × IsPassing d ranks
+
+-- what is wrong first with ranks
+abbrev pub IsRankFault : SystemData → List ℕ → Rejected → Type 0
+IsRankFault d ranks RankCount = length ranks ≢ d.symbols.sorts
+IsRankFault d ranks (Inaccessible r z) = (length ranks ≡ d.symbols.sorts) × IsFirstBreakIn d ranks r z
+IsRankFault d ranks _ = ⊥
+
+-- the set has one pair, which may not follow itself
+abbrev pub IsSingle : List RewriteRule → List PairData → List ℕ → Type 0
+IsSingle rules ps set = (a : ℕ) × (set ≡ a ∷ []) × (Follows rules ps a a → ⊥)
+
+-- the lines say choices under which the pairs of the drop list may go, and these are the others
+abbrev pub IsReduced : SystemData → List PairData → List ℕ → List w.Arg → List ℕ → List ℕ → Type 0
+IsReduced d ps set lines drop rest = (args : List Chosen) × SayChoices d lines args × IsProjection d.rules ps set args drop × IsSetOf (IsKept set drop) rest
+
+-- the lines of a node say one whose conditions hold of the set, and what it leaves comes before the other sets
+pub record GoesOn (d : SystemData) (ps : List PairData) (set : List ℕ) (line : w.Node) (sets after : List (List ℕ)) : Type 0 where
+  pub node : Node
+  pub left : List (List ℕ)
+  pub says : SaysNode d line node
+  pub leaves : Leaves d.rules ps set node left
+  pub after_is : after ≡ left ++ sets
+
+-- the lines say nodes that prove the sets
+abbrev pub AreProvedBy : SystemData → List PairData → List (List ℕ) → List w.Node → Type 0
+AreProvedBy d ps sets lines = (nodes : List Node) × SayNodes d lines nodes × Proves d.rules ps sets nodes
+
+-- a walk over all the lines, which began with one set, has come to the line number k: these sets are open and these lines are
+-- left
+pub record HasCome (d : SystemData) (ps : List PairData) (set : List ℕ) (lines : List w.Node) (k : ℕ) (sets : List (List ℕ)) (left : List w.Node) : Type 0 where
+  pub within : All (All (λ n. n < length ps)) sets
+  -- each set has a node
+  pub counted : Preorder (length sets) left
+  -- where the rest is proved, so is the whole
+  pub proved : AreProvedBy d ps sets left → AreProvedBy d ps (set ∷ []) lines
+  -- the first fault of the rest is that of the whole
+  pub first : (m : ℕ) (f : NodeFault) → IsFirstNodeFault d ps k sets left m f → IsFirstNodeFault d ps 0 (set ∷ []) lines m f

@@ -1,0 +1,103 @@
+//! The check of a certificate.
+
+ghost use Rattle.std.specs.Prelude.{◌≡◌, ◌≤◌,  IfErr, IfOk, OnOk, length, map};
+ghost use Rattle.wh_types.specs.Outcome.{IfBecause, MatchOr};
+ghost use Rattle.wh_system.specs.SystemView.{system_data};
+ghost use Rattle.wh_access.specs.Passing.{IsPassing};
+ghost use Rattle.wh_pairs.specs.SystemPairs.{HasPairs};
+ghost use Rattle.wh_pairs.specs.Views.{pairs_data};
+ghost use Rattle.wh_cert.specs.Limits.{IsCert};
+ghost use Rattle.wh_cert.specs.Said.{said, said_node, said_no, said_yes};
+ghost use Rattle.wh_checker.specs.Accepted.{IsAccepted};
+ghost use Rattle.wh_checker.specs.Faults.{IsFirstFault, IsFirstYesFault};
+ghost use Rattle.wh_checker.specs.Valid.{IsValidYes};
+ghost use Rattle.wh_checker.specs.Walk.{IsPassingUnder, IsRankFault};
+
+use crate::rejected::{Rejected, of_claim};
+use crate::sets::numbers_below;
+use crate::walk::check_nodes;
+use std::alloc::Global;
+use wh_access::{Inaccessible, check_ranks};
+use wh_cert::{Certificate, NoCertificate, YesCertificate};
+use wh_no::{AcceptedNo, check_no};
+use wh_system::{PairList, System};
+use wh_types::{Or, Ranks};
+
+/// An accepted certificate.
+#[derive(Clone, Copy)]
+pub enum Accepted {
+    /// Every reduction ends.
+    Yes(AcceptedYes),
+    /// There are reductions of every length.
+    No(AcceptedNo),
+}
+
+/// An accepted YES certificate.
+#[derive(Clone, Copy)]
+pub struct AcceptedYes {
+    /// The number of the certificate's nodes.
+    pub nodes: u32,
+}
+
+/// Checks a certificate over a system and its dependency pairs. It is accepted exactly where it is valid; else the first
+/// condition of a valid certificate that is false is named. The certificate is one that `read_certificate` gives.
+pub fn check(
+    alloc: Global,
+    system: &System,
+    pairs: &PairList,
+    certificate: &Certificate,
+) -> Result<Accepted, Or<Rejected>>
+    requires pairs { HasPairs (system_data system.now) (pairs_data pairs.now) }
+    requires certificate { IsCert (said certificate.now) }
+    ensures accepted { IfOk result (IsAccepted (system_data system.now) (pairs_data pairs.now) (said certificate.now)) }
+    ensures rejected { IfBecause result (IsFirstFault (system_data system.now) (pairs_data pairs.now) (said certificate.now)) }
+{
+    match certificate {
+        Certificate::Yes(certificate) => {
+            check_yes(alloc, system, pairs, certificate)?;
+            Ok(Accepted::Yes(AcceptedYes {
+                nodes: certificate.nodes.as_slice().len() as u32,
+            }))
+        }
+        Certificate::No(certificate) => match check_no(alloc, system, certificate) {
+            Ok(accepted) => Ok(Accepted::No(accepted)),
+            Err(Or::Because(fault)) => Err(Or::Because(of_claim(fault))),
+            Err(Or::NoMemory) => Err(Or::NoMemory),
+        },
+    }
+}
+
+// Checks the parts of a YES certificate: its ranks, its count of the pairs, its nodes.
+fn check_yes(
+    alloc: Global,
+    system: &System,
+    pairs: &PairList,
+    certificate: &YesCertificate,
+) -> Result<(), Or<Rejected>>
+    requires pairs { length pairs.now ≤ 4096 }
+    requires certificate { IsCert (said_yes certificate.now) }
+    ensures valid { OnOk result (IsValidYes (system_data system.now) (pairs_data pairs.now) certificate.now.ranks certificate.now.pairs (map said_node certificate.now.nodes)) }
+    ensures fault { IfBecause result (IsFirstYesFault (system_data system.now) (pairs_data pairs.now) certificate.now.ranks certificate.now.pairs (map said_node certificate.now.nodes)) }
+{
+    check_passing(alloc, system, certificate.ranks.as_slice())?;
+    let count = pairs.as_slice().len() as u32;
+    if certificate.pairs != count {
+        return Err(Or::Because(Rejected::PairCount { pairs: count }));
+    }
+    let whole = numbers_below(alloc, count)?;
+    check_nodes(alloc, system, pairs, whole, certificate.nodes.as_slice())
+}
+
+// Whether there is one rank for each sort, and the system is passing under the ranks.
+fn check_passing(alloc: Global, system: &System, ranks: &[u32]) -> Result<(), Or<Rejected>>
+    ensures { MatchOr result (λ _. IsPassingUnder (system_data system.now) ranks.now) (IsRankFault (system_data system.now) ranks.now) }
+{
+    if ranks.len() != system.signature().sorts as usize {
+        return Err(Or::Because(Rejected::RankCount));
+    }
+    let ranks = Ranks::new(alloc, ranks)?;
+    match check_ranks(system, &ranks) {
+        Ok(()) => Ok(()),
+        Err(Inaccessible { rule, meta }) => Err(Or::Because(Rejected::Inaccessible { rule, meta })),
+    }
+}

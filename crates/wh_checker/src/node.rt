@@ -1,0 +1,120 @@
+//! One node of a YES certificate: its conditions, and the sets that it leaves.
+
+ghost use Rattle.std.specs.Prelude.{◌≡◌, ◌≢◌, [], ◌++◌, ◌<◌, All, List, MatchResult, OnOk, ℕ, length, map, reverse};
+ghost use Rattle.wh_types.specs.Outcome.{IfBecause, MatchOr};
+ghost use Rattle.wh_pairs.specs.Views.{pairs_data};
+ghost use Rattle.wh_system.specs.SystemView.{system_data};
+ghost use Rattle.wh_cert.specs.Said.{said_arg, said_node};
+ghost use Rattle.wh_cert.specs.Written as w;
+ghost use Rattle.wh_nodes.specs.Nodes.{AreSetsOf};
+ghost use Rattle.wh_checker.specs.Faults.{IsNodeFault, IsSubtermFault};
+ghost use Rattle.wh_checker.specs.Walk.{GoesOn, IsReduced, IsSingle};
+ghost use Rattle.wh_checker.specs.declared.rejected.NodeFault.TheVariants.{NotEmpty};
+
+use crate::choices::choices_of;
+use crate::rejected::NodeFault;
+use crate::sets::{kept, set_of};
+use std::alloc::{AllocError, Global};
+use wh_cert::{Arg, Node};
+use wh_graph::{check_blocks, may_follow};
+use wh_subterm::{SubtermFault, check_projection};
+use wh_system::{Pair, PairList, PairSet, System};
+use wh_types::{Numbers, Or};
+
+/// Whether the conditions of the node hold of the set. Then what it leaves to be proved comes on top of the stack, the
+/// first of it on top.
+pub fn check_node(
+    alloc: Global,
+    system: &System,
+    pairs: &PairList,
+    set: &PairSet,
+    node: &Node,
+    stack: &mut Vec<PairSet>,
+) -> Result<(), Or<NodeFault>>
+    requires { All (λ n. n < length pairs.now) set.now }
+    ensures proved { OnOk result (GoesOn (system_data system.now) (pairs_data pairs.now) set.now (said_node node.now) (reverse stack.old.items) (reverse stack.new.items)) }
+    ensures fault { IfBecause result (IsNodeFault (system_data system.now) (pairs_data pairs.now) set.now (said_node node.now)) }
+{
+    match node {
+        Node::Done => check_done(set),
+        Node::Alone => check_alone(system, pairs.as_slice(), set.as_slice()),
+        Node::Blocks(parts) => {
+            if let Err(fault) = check_blocks(system, pairs, set, parts.as_slice()) {
+                return Err(Or::Because(NodeFault::Blocks(fault)));
+            }
+            open_blocks(alloc, parts.as_slice(), stack)?;
+            Ok(())
+        }
+        Node::Subterm { args, drop } => {
+            match reduced(alloc, system, pairs, set, args.as_slice(), drop.as_slice()) {
+                Ok(rest) => stack.push(rest)?,
+                Err(Or::Because(fault)) => return Err(Or::Because(NodeFault::Subterm(fault))),
+                Err(Or::NoMemory) => return Err(Or::NoMemory),
+            }
+            Ok(())
+        }
+    }
+}
+
+// Whether the set is empty.
+fn check_done(set: &PairSet) -> Result<(), Or<NodeFault>>
+    ensures { MatchOr result (λ _. set.now ≡ []) (λ f. (f ≡ NotEmpty) × (set.now ≢ [])) }
+{
+    if set.as_slice().is_empty() {
+        Ok(())
+    } else {
+        Err(Or::Because(NodeFault::NotEmpty))
+    }
+}
+
+// Whether the set has one pair, which may not follow itself.
+fn check_alone(system: &System, pairs: &[Pair], set: &[u32]) -> Result<(), Or<NodeFault>>
+    requires { All (λ n. n < length pairs.now) set.now }
+    ensures { MatchOr result (λ _. IsSingle (system_data system.now).rules (pairs_data pairs.now) set.now) (IsNodeFault (system_data system.now) (pairs_data pairs.now) set.now w.alone) }
+{
+    if set.len() != 1 {
+        return Err(Or::Because(NodeFault::NotOne));
+    }
+    let pair = &pairs[set[0] as usize];
+    if may_follow(system, pair, pair) {
+        return Err(Or::Because(NodeFault::Loops { pair: set[0] }));
+    }
+    Ok(())
+}
+
+// Puts the sets of the blocks on the stack, the first on top.
+fn open_blocks(
+    alloc: Global,
+    blocks: &[Numbers],
+    stack: &mut Vec<PairSet>,
+) -> Result<(), AllocError>
+    ensures { OnOk result ((sets : List (List ℕ)) × AreSetsOf blocks.now sets × (reverse stack.new.items ≡ sets ++ reverse stack.old.items)) }
+{
+    for i in (0..blocks.len()).rev() {
+        stack.push(set_of(alloc, blocks[i].as_slice())?)?;
+    }
+    Ok(())
+}
+
+// What a node `subterm` leaves of the set, if its conditions hold.
+fn reduced(
+    alloc: Global,
+    system: &System,
+    pairs: &PairList,
+    set: &PairSet,
+    args: &[Arg],
+    drop: &[u32],
+) -> Result<PairSet, Or<SubtermFault>>
+    requires { All (λ n. n < length pairs.now) set.now }
+    ensures { MatchOr result (IsReduced (system_data system.now) (pairs_data pairs.now) set.now (map said_arg args.now) drop.now)
+        (IsSubtermFault (system_data system.now) (pairs_data pairs.now) set.now (map said_arg args.now) drop.now) }
+{
+    system.is_well_made();
+    let Some(choices) = choices_of(alloc, system, args)? else {
+        return Err(Or::Because(SubtermFault::BadArgs));
+    };
+    if let Err(fault) = check_projection(system, pairs, set, &choices, drop) {
+        return Err(Or::Because(fault));
+    }
+    Ok(kept(alloc, set, drop)?)
+}

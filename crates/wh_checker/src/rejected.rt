@@ -1,0 +1,126 @@
+//! Why a certificate is refused.
+
+ghost use Rattle.std.specs.Prelude.{◌≡◌};
+ghost use Rattle.wh_checker.specs.Faults.{at_node, of_claim};
+ghost use Rattle.wh_checker.specs.declared.rejected.NodeFault.TheVariants.{Blocks, Subterm};
+
+use wh_graph::BlockFault;
+use wh_no::NoFault;
+use wh_subterm::SubtermFault;
+
+/// What is wrong with a node of a YES certificate.
+#[derive(Clone, Copy)]
+pub enum NodeFault {
+    /// The set of a node `done` has a pair.
+    NotEmpty,
+    /// The set of a node `alone` has not one pair.
+    NotOne,
+    /// The pair of a node `alone` may follow itself.
+    Loops {
+        /// The pair.
+        pair: u32,
+    },
+    /// Of a node `blocks`.
+    Blocks(BlockFault),
+    /// Of a node `subterm`.
+    Subterm(SubtermFault),
+}
+
+/// The first condition of a valid certificate that is false. Nodes are counted from 0, each before its children; so are rules,
+/// meta-variables, symbols, pairs, steps and lines.
+#[derive(Clone, Copy)]
+pub enum Rejected {
+    /// There is not one rank for each sort.
+    RankCount,
+    /// The system is not passing under the ranks: this meta-variable of this rule is not read on a way of accessible places.
+    Inaccessible { rule: u32, meta: u32 },
+    /// There are this many pairs.
+    PairCount { pairs: u32 },
+    /// The set of a node `done` has a pair.
+    NotEmpty { node: u32 },
+    /// The set of a node `alone` has not one pair.
+    NotOne { node: u32 },
+    /// The pair of a node `alone` may follow itself.
+    Loops { node: u32, pair: u32 },
+    /// There are fewer than two blocks, or an empty one.
+    FewBlocks { node: u32 },
+    /// The blocks do not have this pair just once, or have it and the set does not.
+    NotPartition { node: u32, pair: u32 },
+    /// The pair `a` of a later block may be followed by the pair `b` of an earlier one.
+    BackEdge { node: u32, a: u32, b: u32 },
+    /// The lines `arg` are not for the marked symbols of the set, each once and in order.
+    BadArgs { node: u32 },
+    /// The rules of this symbol need no argument.
+    NoProjection { node: u32, symbol: u32 },
+    /// The number chosen for this symbol is none of the arguments that its rules need.
+    BadArgument { node: u32, symbol: u32 },
+    /// The list of dropped pairs is empty, has one twice, or one that is not of the set.
+    BadDrop { node: u32 },
+    /// This pair is neither equal nor below, or it is dropped and not below.
+    NotDecreasing { node: u32, pair: u32 },
+    /// The names do not stand for a well-typed term that fits.
+    NotATerm,
+    /// There is no step.
+    NoStep,
+    /// This step is the first that does not apply.
+    StepFails { index: u32 },
+    /// The result of this step is the first that does not fit.
+    TooBig { index: u32 },
+    /// This line of what is put for a variable is the first that is not right.
+    BadPut { index: u32 },
+    /// There is no such place in the last term, or what stands there is not the instance.
+    NoInstance,
+}
+
+impl NodeFault {
+    /// The fault of the node of that number.
+    pub fn at_node(self, node: u32) -> Rejected
+        ensures { result ≡ at_node node self }
+    {
+        match self {
+            NodeFault::NotEmpty => Rejected::NotEmpty { node },
+            NodeFault::NotOne => Rejected::NotOne { node },
+            NodeFault::Loops { pair } => Rejected::Loops { node, pair },
+            NodeFault::Blocks(fault) => in_blocks(fault, node),
+            NodeFault::Subterm(fault) => in_subterm(fault, node),
+        }
+    }
+}
+
+// The fault of the node `blocks` of that number.
+fn in_blocks(fault: BlockFault, node: u32) -> Rejected
+    ensures { result ≡ at_node node (Blocks fault) }
+{
+    match fault {
+        BlockFault::FewBlocks => Rejected::FewBlocks { node },
+        BlockFault::NotPartition { pair } => Rejected::NotPartition { node, pair },
+        BlockFault::BackEdge { a, b } => Rejected::BackEdge { node, a, b },
+    }
+}
+
+// The fault of the node `subterm` of that number.
+fn in_subterm(fault: SubtermFault, node: u32) -> Rejected
+    ensures { result ≡ at_node node (Subterm fault) }
+{
+    match fault {
+        SubtermFault::BadArgs => Rejected::BadArgs { node },
+        SubtermFault::NoProjection { symbol } => Rejected::NoProjection { node, symbol },
+        SubtermFault::BadArgument { symbol } => Rejected::BadArgument { node, symbol },
+        SubtermFault::BadDrop => Rejected::BadDrop { node },
+        SubtermFault::NotDecreasing { pair } => Rejected::NotDecreasing { node, pair },
+    }
+}
+
+/// The fault of a NO certificate.
+pub fn of_claim(fault: NoFault) -> Rejected
+    ensures { result ≡ of_claim fault }
+{
+    match fault {
+        NoFault::NotATerm => Rejected::NotATerm,
+        NoFault::NoStep => Rejected::NoStep,
+        NoFault::StepFails { index } => Rejected::StepFails { index },
+        NoFault::TooBig { index } => Rejected::TooBig { index },
+        NoFault::BadPut { index } => Rejected::BadPut { index },
+        NoFault::NoInstance => Rejected::NoInstance,
+    }
+}
