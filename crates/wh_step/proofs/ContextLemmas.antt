@@ -1,17 +1,17 @@
 -- A tree that fits, with another part at a place: what is to be known of the part and the place to know that it fits.
-use Rattle.std.proofs.Common.{◌≡◌, ℕ, zero, suc, ◌+◌, ◌-◌, ◌<◌, ◌≤◌, List, [], ◌∷◌, Option, Some, None, refl, ap, sym, ◌∙◌, subst, arith}
+use Rattle.std.proofs.Common.{◌≡◌, ℕ, zero, suc, ◌+◌, ◌-◌, ◌<◌, ◌≤◌, List, [], ◌∷◌, Option, Some, None}
+use Rattle.std.proofs.Common.{refl, ap, sym, ◌∙◌, subst, arith}
 use Rattle.std.specs.Prelude.{Bool, true, false, ◌↔◌}
 use Rattle.wh_types.specs.Ty.{Ty}
 use Rattle.wh_terms.specs.Tree.{Tm, bound, free, fun, meta, lam, app, argument_count}
 use Rattle.wh_terms.specs.Measures.{size, height, risen, SpinesWithin, Fits}
 use Rattle.wh_terms.specs.Places.{part_at}
 use Rattle.wh_step.specs.Roots.{put_at}
-use Rattle.wh_step.specs.Context.{reach, is_front, one_more_if, joined_arguments, FitsThere, IsJoint, Joins}
+use Rattle.wh_step.specs.Context.{reach, is_front, one_more_if, joined_arguments, FitsThere, IsJoint, Joins, IsMeasured, NewSize}
 use Rattle.wh_step.specs.declared.joint.Joint.{Joint}
 use Rattle.wh_step.proofs.PlaceLemmas.{along}
 use Rattle.wh_step.proofs.ExtentLemmas.{fits_function, fits_argument, fits_body}
 use Rattle.wh_step.specs.declared.extent.Extent.{Extent}
-use Rattle.wh_step.specs.Extents.{IsExtent}
 
 -- the size
 
@@ -42,7 +42,8 @@ reach_within v r =
     (λ path a t e h. omega (arith, h))
 
 -- below the root of a tree a new part changes none of the tree's own shape
-risen_put : (v r : Tm) (path : List ℕ) (t : Tm) (d : ℕ) (q : List ℕ) → path ≡ d ∷ q → part_at path t ≡ Some r → (n : ℕ) → risen (put_at path v t) n ≡ risen t n
+risen_put : (v r : Tm) (path : List ℕ) (t : Tm) (d : ℕ) (q : List ℕ) → path ≡ d ∷ q → part_at path t ≡ Some r → (n : ℕ)
+    → risen (put_at path v t) n ≡ risen t n
 risen_put v r path t d q is e =
     along r (λ p s. (d : ℕ) (q : List ℕ) → p ≡ d ∷ q → (n : ℕ) → risen (put_at p v s) n ≡ risen s n)
     (λ t e d q is n. absurd (cc))
@@ -64,20 +65,29 @@ low_front v r [] t u e h n around within = omega (arith, within, around)
 low_front v r (d ∷ path) t u e h n around within =
     let s = put_at (d ∷ path) v t in
     let same : risen s 0 ≡ risen t 0 = risen_put v r (d ∷ path) t d path refl e 0 in
-    let below : height s ≤ n - risen t 0 = h (n - risen t 0) (omega (arith, around, risen_is t (height t))) (omega (arith, within, same, risen_is s (reach (d ∷ path) v t))) in
-    omega (arith, below, same, around, within, risen_is s (height s), risen_is t (height t), risen_is s (reach (d ∷ path) v t))
+    let old = risen_is t (height t) in
+    let reached = risen_is s (reach (d ∷ path) v t) in
+    let below : height s ≤ n - risen t 0 = h (n - risen t 0) (omega (arith, around, old)) (omega (arith, within, same, reached)) in
+    omega (arith, below, same, around, within, risen_is s (height s), old, reached)
 
 around_part : (path : List ℕ) (t : Tm) (n : ℕ) → height t ≤ n → Around path t n
 around_part [] t n h = tt
 around_part (d ∷ path) t n h = h
 
-pub low_put : (v r : Tm) (path : List ℕ) (t : Tm) → part_at path t ≡ Some r → (n : ℕ) → height t ≤ n → reach path v t ≤ n → height (put_at path v t) ≤ n
+low_below : (v : Tm) (path : List ℕ) (t : Tm) (n : ℕ) → Low v path t → 1 + height t ≤ n → 1 + reach path v t ≤ n
+    → 1 + height (put_at path v t) ≤ n
+low_below v path t n low around within =
+    let below = low (n - 1) (around_part path t (n - 1) (omega (arith, around))) (omega (arith, within)) in
+    omega (arith, around, below)
+
+pub low_put : (v r : Tm) (path : List ℕ) (t : Tm) → part_at path t ≡ Some r → (n : ℕ) → height t ≤ n → reach path v t ≤ n
+    → height (put_at path v t) ≤ n
 low_put v r path t e n h within =
     along r (Low v)
     (λ t e n around within. within)
     (λ path t u e h. low_front v r path t u e h)
-    (λ path t u e h n around within. omega (arith, around, h (n - 1) (around_part path u (n - 1) (omega (arith, around))) (omega (arith, within))))
-    (λ path a t e h n around within. omega (arith, around, h (n - 1) (around_part path t (n - 1) (omega (arith, around))) (omega (arith, within))))
+    (λ path t u e h n around within. omega (arith, around, low_below v path u n h (omega (arith, around)) within))
+    (λ path a t e h n around within. low_below v path t n h around within)
     path t e n (around_part path t n h) within
 
 -- the widths of spines
@@ -99,7 +109,8 @@ counted-next : (b : Bool) (m n : ℕ) → counted b m n + 1 ≡ counted b (one_m
 counted-next true m n = refl
 counted-next false m n = refl
 
-pub count_put : (v r : Tm) (path : List ℕ) (t : Tm) → part_at path t ≡ Some r → argument_count (put_at path v t) ≡ counted (is_front path t) (joined_arguments path v t) (argument_count t)
+pub count_put : (v r : Tm) (path : List ℕ) (t : Tm) → part_at path t ≡ Some r
+    → argument_count (put_at path v t) ≡ counted (is_front path t) (joined_arguments path v t) (argument_count t)
 count_put v r =
     along r (λ path t. argument_count (put_at path v t) ≡ counted (is_front path t) (joined_arguments path v t) (argument_count t))
     (λ t e. refl)
@@ -115,21 +126,24 @@ joined : (b : Bool) (j m n k : ℕ) → k ≡ counted b j m → k + 1 ≤ n → 
 joined true j m n k is new below = omega (arith, is, new)
 joined false j m n k is new below = below
 
-pub narrow_put : (n : ℕ) (v r : Tm) → SpinesWithin n v → (path : List ℕ) (t : Tm) → part_at path t ≡ Some r → SpinesWithin n t → joined_arguments path v t ≤ n → SpinesWithin n (put_at path v t)
+pub narrow_put : (n : ℕ) (v r : Tm) → SpinesWithin n v → (path : List ℕ) (t : Tm) → part_at path t ≡ Some r → SpinesWithin n t
+    → joined_arguments path v t ≤ n → SpinesWithin n (put_at path v t)
 narrow_put n v r narrow =
     along r (λ path t. SpinesWithin n t → joined_arguments path v t ≤ n → SpinesWithin n (put_at path v t))
     (λ t e old within. narrow)
     (λ path t u e h old within.
-    let (first, below) = joins (is_front path t) (joined_arguments path v t) (argument_count t) n (argument_count (put_at path v t)) (count_put v r path t e) old.0 within in
+    let (first, below) = joins (is_front path t) (joined_arguments path v t) (argument_count t) n _ (count_put v r path t e) old.0 within in
     (first, h old.1 below, old.2))
     (λ path t u e h old within. (old.0, old.1, h old.2 within))
     (λ path a t e h old within. h old within)
 
-pub joined_within : (n : ℕ) (v r : Tm) (path : List ℕ) (t : Tm) → part_at path t ≡ Some r → SpinesWithin n (put_at path v t) → joined_arguments path v t ≤ n
+pub joined_within : (n : ℕ) (v r : Tm) (path : List ℕ) (t : Tm) → part_at path t ≡ Some r
+    → SpinesWithin n (put_at path v t) → joined_arguments path v t ≤ n
 joined_within n v r =
     along r (λ path t. SpinesWithin n (put_at path v t) → joined_arguments path v t ≤ n)
     (λ t e new. count_within n v new)
-    (λ path t u e h new. joined (is_front path t) (joined_arguments path v t) (argument_count t) n (argument_count (put_at path v t)) (count_put v r path t e) new.0 (h new.1))
+    (λ path t u e h new.
+    joined (is_front path t) (joined_arguments path v t) (argument_count t) n _ (count_put v r path t e) new.0 (h new.1))
     (λ path t u e h new. h new.2)
     (λ path a t e h new. h new)
 
@@ -160,8 +174,10 @@ fits_there path v t r e f = (
 )
 
 -- below an abstraction any number leads to the body
-pub joins_body : (path : List ℕ) (d : ℕ) (rest : List ℕ) (v w : Tm) (a : Ty) (t : Tm) (o : Option Joint) → path ≡ d ∷ rest → w ≡ lam a t → Joins (0 ∷ rest) v (lam a t) o → Joins path v w o
-joins_body path d rest v w a t o is whole h = subst (λ p. Joins p v w o) (sym is) (subst (λ s. Joins (d ∷ rest) v s o) (sym whole) (any d o h))
+pub joins_body : (path : List ℕ) (d : ℕ) (rest : List ℕ) (v w : Tm) (a : Ty) (t : Tm) (o : Option Joint)
+    → path ≡ d ∷ rest → w ≡ lam a t → Joins (0 ∷ rest) v (lam a t) o → Joins path v w o
+joins_body path d rest v w a t o is whole h =
+    subst (λ p. Joins p v w o) (sym is) (subst (λ s. Joins (d ∷ rest) v s o) (sym whole) (any d o h))
   where
     any : (d : ℕ) (o : Option Joint) → Joins (0 ∷ rest) v (lam a t) o → Joins (d ∷ rest) v (lam a t) o
     any zero o h = h
@@ -178,28 +194,28 @@ part_small r =
     (λ path t u e h. omega (arith, h))
     (λ path a t e h. omega (arith, h))
 
-module _ (path : List ℕ) (v t r : Tm) (here : part_at path t ≡ Some r) where
-  pub resized_size : (n m k : ℕ) → n ≡ size t → m ≡ size r → k ≡ size v → n - m + k ≡ size (put_at path v t)
-  resized_size n m k old out new = omega (arith, old, out, new, size_put v r path t here, part_small r path t here)
+module _ (path : List ℕ) (v t r : Tm) (n m : ℕ) (e : Extent) (o : Option Joint) (k : IsMeasured path v t r n m e o) where
+  pub resized_size : (p : ℕ) → p ≡ size v → n - m + p ≡ size (put_at path v t)
+  resized_size p new = omega (arith, k.whole, k.old, new, size_put v r path t k.here, part_small r path t k.here)
 
-  pub resized_within : (n : ℕ) (part : Extent) (o : Option Joint) (j : Joint) → Fits t → n ≡ size (put_at path v t) → IsExtent v part → Joins path v t o → o ≡ Some j → n ≤ 65536
-      → Fits (put_at path v t) × (n ≡ size (put_at path v t))
-  resized_within n part o j fits sum known joins some within =
-      let joint : IsJoint path v t j = subst (Joins path v t) some joins in (
-        (fits_there path v t r here fits).1 (record {
-          part = known.fits;
-          small = omega (arith, within, sum, size_put v r path t here);
+  pub resized_within : (w : ℕ) → w ≡ size (put_at path v t) → (j : Joint) → o ≡ Some j → w ≤ 65536
+      → NewSize (put_at path v t) (Some w)
+  resized_within w sum j some within =
+      let joint : IsJoint path v t j = subst (Joins path v t) some k.joins in (
+        (fits_there path v t r k.here k.fits).1 (record {
+          part = k.part.fits;
+          small = omega (arith, within, sum, size_put v r path t k.here);
           low = omega (arith, joint.high, j.low);
           narrow = omega (arith, joint.broad, j.narrow);
         }),
         sum,
       )
 
-  pub resized_past : (n : ℕ) → n ≡ size (put_at path v t) → 65536 < n → Fits (put_at path v t) → ⊥
-  resized_past n sum past whole = absurd (omega (arith, whole.small, past, sum))
+  pub resized_past : (w : ℕ) → w ≡ size (put_at path v t) → 65536 < w → Fits (put_at path v t) → ⊥
+  resized_past w sum past whole = absurd (omega (arith, whole.small, past, sum))
 
-  pub resized_none : (o : Option Joint) → Fits t → Joins path v t o → o ≡ None → Fits (put_at path v t) → ⊥
-  resized_none o fits joins none whole =
-      let past : Joins path v t None = subst (Joins path v t) none joins in
-      let there : FitsThere path v t r = (fits_there path v t r here fits).0 whole in
+  pub resized_none : o ≡ None → Fits (put_at path v t) → ⊥
+  resized_none none whole =
+      let past : Joins path v t None = subst (Joins path v t) none k.joins in
+      let there : FitsThere path v t r = (fits_there path v t r k.here k.fits).0 whole in
       past there.low there.narrow

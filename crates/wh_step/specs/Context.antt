@@ -3,7 +3,10 @@
 use Rattle.std.specs.Prelude.{ℕ, zero, suc, ◌≡◌, ◌+◌, ◌≤◌, Bool, true, false, List, [], ◌∷◌, Option, Some, None}
 use Rattle.wh_terms.specs.Tree.{Tm, lam, app, argument_count}
 use Rattle.wh_terms.specs.Measures.{size, height, risen, Fits}
+use Rattle.wh_terms.specs.Places.{part_at}
 use Rattle.wh_step.specs.Roots.{put_at}
+use Rattle.wh_step.specs.Extents.{IsExtent}
+use Rattle.wh_step.specs.declared.extent.Extent.{Extent}
 use Rattle.wh_step.specs.declared.joint.Joint.{Joint}
 
 -- how high the tree stands above its root where v is put at the path: what stands above the place, and v's own height
@@ -55,6 +58,15 @@ pub record IsJoint (path : List ℕ) (v t : Tm) (j : Joint) : Type 0 where
 abbrev pub Joins : List ℕ → Tm → Tm → Option Joint → Type 0
 Joins path v t (Some j) = IsJoint path v t j
 Joins path v t None = reach path v t ≤ 200 → joined_arguments path v t ≤ 32 → ⊥
+
+-- what is measured before the result: t, which fits, has the size n, its part r the size m, and v is to be put in place of r
+pub record IsMeasured (path : List ℕ) (v t r : Tm) (n m : ℕ) (e : Extent) (o : Option Joint) : Type 0 where
+  pub here : part_at path t ≡ Some r
+  pub fits : Fits t
+  pub whole : n ≡ size t
+  pub old : m ≡ size r
+  pub part : IsExtent v e
+  pub joins : Joins path v t o
 
 -- the size of the tree with the part, where it fits
 abbrev pub NewSize : Tm → Option ℕ → Type 0

@@ -14,7 +14,7 @@ ghost use Rattle.wh_terms.specs.Measures.{Fits, size as tree_size};
 ghost use Rattle.wh_step.specs.Roots.{put_at};
 ghost use Rattle.wh_step.specs.Contracta.{IsReady, result_of};
 ghost use Rattle.wh_step.specs.Extents.{IsExtent};
-ghost use Rattle.wh_step.specs.Context.{IsJoint, Joins, LimitsJoint, NewSize};
+ghost use Rattle.wh_step.specs.Context.{IsJoint, IsMeasured, Joins, LimitsJoint, NewSize};
 
 use crate::extent::{Extent, MOST_ARGUMENTS, MOST_HEIGHT, MOST_SIZE};
 use crate::joint::Joint;
@@ -106,7 +106,7 @@ fn join(term: &Term, path: &[u8], part: Extent) -> Option<Joint>
 fn resized(total: u64, old: u64, part: Extent, joint: Option<Joint>) -> Option<u64>
     requires small { total ≤ 65536 }
     requires inside { old ≤ total }
-    ensures { (path : List ℕ) (v t r : Tm) → part_at path t ≡ Some r → Fits t → total ≡ tree_size t → old ≡ tree_size r → IsExtent v part → Joins path v t joint → NewSize (put_at path v t) result }
+    ensures { (path : List ℕ) (v t r : Tm) → IsMeasured path v t r total old part joint → NewSize (put_at path v t) result }
 {
     match joint {
         Some(_) => {

@@ -12,15 +12,24 @@ returns-in_default c whole =
     past (fits_put c.args.path.now v (tm c.args.term.now) (tm c.args.redex.now) c.requires.there whole)
 
 pub size-requires : goal.size-requires
-size-requires c = omega (arith, c.requires.fits.small, part_small (tm c.args.redex.now) c.args.path.now (tm c.args.term.now) c.requires.there)
+size-requires c =
+    let small = part_small (tm c.args.redex.now) c.args.path.now (tm c.args.term.now) c.requires.there in
+    omega (arith, c.requires.fits.small, small)
 
 pub resized-requires-clause-inside : goal.resized-requires-clause-inside
-resized-requires-clause-inside c = omega (arith, c.size.ensures, c.requires.sized, part_small (tm c.args.redex.now) c.args.path.now (tm c.args.term.now) c.requires.there)
+resized-requires-clause-inside c =
+    let small = part_small (tm c.args.redex.now) c.args.path.now (tm c.args.term.now) c.requires.there in
+    omega (arith, c.size.ensures, c.requires.sized, small)
 
 pub returns : goal.returns
 returns c =
-    let path = c.args.path.now in
-    let t = tm c.args.term.now in
     let v = result_of c.args.contractum.now in
     let part : IsExtent v c.in-Some.part = subst (Knows v) c.in-Some.is (c.in_ok-part.ensures v c.contractum_extent.ensures) in
-    c.resized.ensures path v t (tm c.args.redex.now) c.requires.there c.requires.fits c.requires.sized c.size.ensures part (c.join.ensures v part)
+    c.resized.ensures c.args.path.now v (tm c.args.term.now) (tm c.args.redex.now) (record {
+      here = c.requires.there;
+      fits = c.requires.fits;
+      whole = c.requires.sized;
+      old = c.size.ensures;
+      part = part;
+      joins = c.join.ensures v part;
+    })

@@ -18,7 +18,8 @@ returns-in_default c =
 pub root_step-requires-clause-plain : goal.root_step-requires-clause-plain
 root_step-requires-clause-plain c =
     let t = tm c.args.term.now in
-    plain_part c.args.step.now.path t (tm c.in-Some.redex.now) (sym c.in-Some.ensures) (plain_whole t c.requires.fits c.requires.shut c.requires.plain)
+    let plain = plain_whole t c.requires.fits c.requires.shut c.requires.plain in
+    plain_part c.args.step.now.path t (tm c.in-Some.redex.now) (sym c.in-Some.ensures) plain
 
 pub returns-in_default-2 : goal.returns-in_default-2
 returns-in_default-2 c =
@@ -45,9 +46,11 @@ returns-in-Some-3 c =
     let whole : put_at slice v t ≡ put_at path w t = ap (λ p. put_at p v t) same ∙ ap (λ s. put_at path s t) (sym built) in
     let found : Tells (Some c.in-Some-2.contractum) (RootStep (rewrite_rules c.args.rules.now) rule r) =
     subst (λ o. Tells o (RootStep (rewrite_rules c.args.rules.now) rule r)) c.in-Some-2.is c.in_ok-contractum.ensures in
-    let told : NewSize (put_at slice v t) (Some c.in-Some-3.total) = subst (NewSize (put_at slice v t)) c.in-Some-3.is c.in_ok-total.ensures in
+    let told : NewSize (put_at slice v t) (Some c.in-Some-3.total) =
+    subst (NewSize (put_at slice v t)) c.in-Some-3.is c.in_ok-total.ensures in
+    let put : put_at path w t ≡ put_at path v t = ap (λ s. put_at path s t) built in
     record {
-      step = step_there S made rule path t r v (put_at path w t) c.requires.shut c.requires.plain (sym c.in-Some.ensures) found.1 (ap (λ s. put_at path s t) built);
+      step = step_there S made rule path t r v (put_at path w t) c.requires.shut c.requires.plain (sym c.in-Some.ensures) found.1 put;
       fits = subst Fits whole told.0;
       sized = told.1 ∙ ap size whole;
     }
@@ -65,4 +68,8 @@ returns c =
     let found : Tells (Some c.in-Some-2.contractum) (RootStep (rewrite_rules c.args.rules.now) rule r) =
     subst (λ o. Tells o (RootStep (rewrite_rules c.args.rules.now) rule r)) c.in-Some-2.is c.in_ok-contractum.ensures in
     let told : NewSize (put_at slice v t) None = subst (NewSize (put_at slice v t)) c.in-None.is c.in_ok-total.ensures in
-    (put_at slice v t, step_there S made rule path t r v (put_at slice v t) c.requires.shut c.requires.plain (sym c.in-Some.ensures) found.1 (ap (λ p. put_at p v t) same), told)
+    let put : put_at slice v t ≡ put_at path v t = ap (λ p. put_at p v t) same in (
+      put_at slice v t,
+      step_there S made rule path t r v (put_at slice v t) c.requires.shut c.requires.plain (sym c.in-Some.ensures) found.1 put,
+      told,
+    )
