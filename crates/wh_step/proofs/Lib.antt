@@ -8,4 +8,5 @@ pub mod PlaceLemmas
 pub mod EnumerationLaws
 pub mod ExtentLemmas
 pub mod MeasuringLemmas
+pub mod ContextLemmas
 pub mod ReplayLemmas

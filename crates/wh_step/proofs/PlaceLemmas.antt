@@ -29,31 +29,44 @@ pub put_in_body : (path : List ℕ) (d : ℕ) (rest : List ℕ) (v : Tm) (a : Ty
 put_in_body path zero rest v a t e = ap (λ p. put_at p v (lam a t)) e
 put_in_body path (suc d) rest v a t e = ap (λ p. put_at p v (lam a t)) e
 
--- a part of a plain term is plain
+-- what leads to a part
 
 no_part : (r : Tm) → None ≡ Some r → ⊥
 no_part r e = absurd (cc)
 
+-- induction along a path that leads to a part
+module _ (r : Tm) (P : List ℕ → Tm → Type 0) (here : (t : Tm) → t ≡ r → P [] t) (front : (path : List ℕ) (t u : Tm) → part_at path t ≡ Some r → P path t → P (0 ∷ path) (app t u))
+    (last : (path : List ℕ) (t u : Tm) → part_at path u ≡ Some r → P path u → P (1 ∷ path) (app t u)) (body : (path : List ℕ) (a : Ty) (t : Tm) → part_at path t ≡ Some r → P path t → P (0 ∷ path) (lam a t)) where
+  pub along : (path : List ℕ) (t : Tm) → part_at path t ≡ Some r → P path t
+  along [] t e = here t (some_one t r e)
+  along (zero ∷ path) (app t u) e = front path t u e (along path t e)
+  along (suc zero ∷ path) (app t u) e = last path t u e (along path u e)
+  along (suc (suc d) ∷ path) (app t u) e = absurd (no_part r e)
+  along (zero ∷ path) (lam a t) e = body path a t e (along path t e)
+  along (suc zero ∷ path) (lam a t) e = absurd (no_part r e)
+  along (suc (suc d) ∷ path) (lam a t) e = absurd (no_part r e)
+  along (zero ∷ path) (bound i) e = absurd (no_part r e)
+  along (suc zero ∷ path) (bound i) e = absurd (no_part r e)
+  along (suc (suc d) ∷ path) (bound i) e = absurd (no_part r e)
+  along (zero ∷ path) (free x a) e = absurd (no_part r e)
+  along (suc zero ∷ path) (free x a) e = absurd (no_part r e)
+  along (suc (suc d) ∷ path) (free x a) e = absurd (no_part r e)
+  along (zero ∷ path) (fun f) e = absurd (no_part r e)
+  along (suc zero ∷ path) (fun f) e = absurd (no_part r e)
+  along (suc (suc d) ∷ path) (fun f) e = absurd (no_part r e)
+  along (zero ∷ path) (meta z ts) e = absurd (no_part r e)
+  along (suc zero ∷ path) (meta z ts) e = absurd (no_part r e)
+  along (suc (suc d) ∷ path) (meta z ts) e = absurd (no_part r e)
+
+-- a part of a plain term is plain
 pub plain_part : (path : List ℕ) (t r : Tm) → part_at path t ≡ Some r → IsPlain t → IsPlain r
-plain_part [] t r e p = subst IsPlain (some_one t r e) p
-plain_part (zero ∷ path) (app t u) r e p = plain_part path t r e (plain_function t u p)
-plain_part (suc zero ∷ path) (app t u) r e p = plain_part path u r e (plain_argument t u p)
-plain_part (suc (suc d) ∷ path) (app t u) r e p = absurd (no_part r e)
-plain_part (zero ∷ path) (lam a t) r e p = plain_part path t r e (plain_body a t p)
-plain_part (suc zero ∷ path) (lam a t) r e p = absurd (no_part r e)
-plain_part (suc (suc d) ∷ path) (lam a t) r e p = absurd (no_part r e)
-plain_part (zero ∷ path) (bound i) r e p = absurd (no_part r e)
-plain_part (suc zero ∷ path) (bound i) r e p = absurd (no_part r e)
-plain_part (suc (suc d) ∷ path) (bound i) r e p = absurd (no_part r e)
-plain_part (zero ∷ path) (free x a) r e p = absurd (no_part r e)
-plain_part (suc zero ∷ path) (free x a) r e p = absurd (no_part r e)
-plain_part (suc (suc d) ∷ path) (free x a) r e p = absurd (no_part r e)
-plain_part (zero ∷ path) (fun f) r e p = absurd (no_part r e)
-plain_part (suc zero ∷ path) (fun f) r e p = absurd (no_part r e)
-plain_part (suc (suc d) ∷ path) (fun f) r e p = absurd (no_part r e)
-plain_part (zero ∷ path) (meta z ts) r e p = absurd (no_part r e)
-plain_part (suc zero ∷ path) (meta z ts) r e p = absurd (no_part r e)
-plain_part (suc (suc d) ∷ path) (meta z ts) r e p = absurd (no_part r e)
+plain_part path t r =
+    along r (λ path t. IsPlain t → IsPlain r)
+    (λ t e p. subst IsPlain e p)
+    (λ path t u e h p. h (plain_function t u p))
+    (λ path t u e h p. h (plain_argument t u p))
+    (λ path a t e h p. h (plain_body a t p))
+    path t
 
 pub plain_whole : (t : Tm) → Fits t → LooseBelow 0 t → IsTerm t → IsPlain t
 plain_whole t f l p = record { in_range = manageable_fit t f l; term = p }

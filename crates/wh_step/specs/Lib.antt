@@ -6,4 +6,6 @@ pub mod Roots
 pub mod Contracta
 pub mod Enumerations
 pub mod Extents
+pub mod Context
+pub mod Stepping
 pub mod Replaying

@@ -7,12 +7,15 @@ ghost use Rattle.wh_terms.specs.Tree.{Tm};
 ghost use Rattle.wh_step.specs.Reduction.{Bounded, Unbounded};
 
 mod extent;
+mod joining;
+mod joint;
 mod laws;
 mod measuring;
 mod place;
 mod redex;
 mod reducing;
 mod replaying;
+mod stepping;
 mod weighing;
 
 pub use laws::{

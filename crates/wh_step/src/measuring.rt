@@ -1,11 +1,10 @@
-//! Measuring the result of a step before it is built.
+//! Measuring the contractum of a step before it is built.
 //!
-//! The walks go over the parts that the result is built from: the term around the place, the right side of the rule, and
-//! each body as often as its meta-variable occurs. What stands for a parameter of a body is measured once for each such
-//! occurrence, and the body's walk takes the measures in place of the term. A walk stops at the first part that is past
-//! a limit.
+//! The walks go over the parts that it is built from: the right side of the rule, and each body as often as its
+//! meta-variable occurs. What stands for a parameter of a body is measured once for each such occurrence, and the body's walk
+//! takes the measures in place of the term. A walk stops at the first part that is past a limit.
 
-ghost use Rattle.std.specs.Prelude.{◌≡◌, ◌↔◌, ℕ, Some, IsTrue, IfOk};
+ghost use Rattle.std.specs.Prelude.{ℕ, IfOk};
 ghost use Rattle.wh_types.specs.Erase.{ty};
 ghost use Rattle.wh_terms.specs.Tree.{Tm, Tms, free};
 ghost use Rattle.wh_terms.specs.Erase.{tm, terms};
@@ -16,10 +15,7 @@ ghost use Rattle.wh_terms.specs.Value.{parameters};
 ghost use Rattle.wh_terms.specs.Entries.{bodies, Covers, CoversAll};
 ghost use Rattle.wh_terms.specs.Valued.{valued, all_valued};
 ghost use Rattle.wh_step.specs.Contracta.{IsReady, TermsFor, AllTermsFor, result_of};
-ghost use Rattle.wh_step.specs.Extents.{IsExtent, Measures, Knows, AllKnown};
-ghost use Rattle.wh_terms.specs.Places.{part_at};
-ghost use Rattle.wh_terms.specs.Measures.{Fits};
-ghost use Rattle.wh_step.specs.Roots.{put_at};
+ghost use Rattle.wh_step.specs.Extents.{Measures, Knows, AllKnown};
 
 use crate::extent::{Extent, PastLimit};
 use crate::redex::Contractum;
@@ -28,8 +24,8 @@ use std::alloc::{AllocError, Global};
 use wh_terms::{MetaSubst, Term, Terms, body_for};
 use wh_types::Or;
 
-// What is known of a term after it was measured.
-fn known(measured: Result<Extent, Or<PastLimit>>) -> Result<Option<Extent>, AllocError>
+/// What is known of a term after it was measured.
+pub fn known(measured: Result<Extent, Or<PastLimit>>) -> Result<Option<Extent>, AllocError>
     ensures { (t : Tm) → Measures t measured → IfOk result (Knows t) }
 {
     match measured {
@@ -123,8 +119,11 @@ fn value_extents(
     Ok(values)
 }
 
-// The extent of the result of a step at the root.
-fn contractum_extent(alloc: Global, contractum: &Contractum<'_>) -> Result<Extent, Or<PastLimit>>
+/// The extent of the result of a step at the root.
+pub fn contractum_extent(
+    alloc: Global,
+    contractum: &Contractum<'_>,
+) -> Result<Extent, Or<PastLimit>>
     requires { IsReady contractum.now }
     ensures { Measures (result_of contractum.now) result }
 {
@@ -135,63 +134,4 @@ fn contractum_extent(alloc: Global, contractum: &Contractum<'_>) -> Result<Exten
         }
         Contractum::Instance(right, bodies) => value_extent(alloc, bodies, right),
     }
-}
-
-// The extent of the term with a part of this extent at the path.
-fn extent_with(term: &Term, path: &[u8], part: Extent) -> Result<Extent, Or<PastLimit>>
-    requires { IsTerm (tm term.now) }
-    ensures { (v : Tm) → IsExtent v part → Measures (put_at path.now v (tm term.now)) result }
-{
-    let Some((step, rest)) = path.split_first() else {
-        return Ok(part);
-    };
-    match term {
-        Term::App(function, argument) => {
-            if *step == 0 {
-                let front = extent_with(function, rest, part)?;
-                applied(front, extent_of(argument, &[], 0))
-            } else {
-                let front = extent_of(function, &[], 0)?;
-                applied(front, extent_with(argument, rest, part))
-            }
-        }
-        Term::Lam(_, body) => abstracted(extent_with(body, rest, part)),
-        Term::Bound(_) | Term::Free(_, _) | Term::Fun(_) | Term::Meta(_, _) => extent_of(
-            term,
-            &[],
-            0,
-        ),
-    }
-}
-
-// The extent of the result of a step at the path.
-fn result_extent(
-    alloc: Global,
-    term: &Term,
-    path: &[u8],
-    contractum: &Contractum<'_>,
-) -> Result<Extent, Or<PastLimit>>
-    requires plain { IsTerm (tm term.now) }
-    requires ready { IsReady contractum.now }
-    requires there { (r : Tm) × (part_at path.now (tm term.now) ≡ Some r) }
-    ensures { Measures (put_at path.now (result_of contractum.now) (tm term.now)) result }
-{
-    let part = contractum_extent(alloc, contractum)?;
-    extent_with(term, path, part)
-}
-
-/// Whether the result of a step at the path fits.
-pub fn result_fits(
-    alloc: Global,
-    term: &Term,
-    path: &[u8],
-    contractum: &Contractum<'_>,
-) -> Result<bool, AllocError>
-    requires plain { IsTerm (tm term.now) }
-    requires ready { IsReady contractum.now }
-    requires there { (r : Tm) × (part_at path.now (tm term.now) ≡ Some r) }
-    ensures { IfOk result (λ fits. IsTrue fits ↔ Fits (put_at path.now (result_of contractum.now) (tm term.now))) }
-{
-    let extent = known(result_extent(alloc, term, path, contractum))?;
-    Ok(extent.is_some())
 }

@@ -6,14 +6,8 @@ ghost use Rattle.wh_terms.specs.Tree.{Tm, bound, free, fun, lam, app};
 ghost use Rattle.wh_terms.specs.Measures.{height, risen};
 ghost use Rattle.wh_step.specs.Extents.{IsExtent, Limits, Measures};
 
-use crate::extent::{Extent, PastLimit};
+use crate::extent::{Extent, MOST_ARGUMENTS, MOST_HEIGHT, MOST_SIZE, PastLimit};
 use wh_types::Or;
-
-const MOST_SIZE: u32 = 65536;
-
-const MOST_HEIGHT: u32 = 200;
-
-const MOST_ARGUMENTS: u32 = 32;
 
 // The extent with these measures, if they keep the limits.
 fn limited(size: u32, height: u32, arguments: u32) -> Result<Extent, Or<PastLimit>>

@@ -1,15 +1,14 @@
 -- The place is found first, then the step at its root; its result is measured before it is built.
-use Rattle.std.proofs.Common.{◌≡◌, ap, sym, ◌∙◌, Some, subst, true, false}
-use Rattle.std.specs.Prelude.{IsTrue, ◌↔◌}
+use Rattle.std.proofs.Common.{◌≡◌, ap, sym, ◌∙◌, Some, None, subst}
 use Rattle.wh_terms.specs.Tree.{Tm}
-use Rattle.wh_terms.specs.Measures.{Fits}
+use Rattle.wh_terms.specs.Measures.{Fits, size}
 use Rattle.wh_terms.specs.Erase.{tm, rewrite_rules}
-use Rattle.wh_terms.specs.Places.{part_at}
 use Rattle.wh_step.specs.Roots.{RootStep, put_at}
 use Rattle.wh_step.specs.Contracta.{result_of}
+use Rattle.wh_step.specs.Context.{NewSize}
 use Rattle.wh_step.proofs.RedexLemmas.{Tells}
 use Rattle.wh_step.proofs.PlaceLemmas.{plain_part, plain_whole, step_there, no_step_nowhere, no_step_there}
-use Rattle.wh_step.proofs.replaying.take_step.Goals as goal
+use Rattle.wh_step.proofs.stepping.replacement_for.Goals as goal
 
 pub returns-in_default : goal.returns-in_default
 returns-in_default c =
@@ -19,7 +18,8 @@ returns-in_default c =
 pub root_step-requires-clause-plain : goal.root_step-requires-clause-plain
 root_step-requires-clause-plain c =
     let t = tm c.args.term.now in
-    plain_part c.args.step.now.path t (tm c.in-Some.redex.now) (sym c.in-Some.ensures) (plain_whole t c.requires.fits c.requires.shut c.requires.plain)
+    let plain = plain_whole t c.requires.fits c.requires.shut c.requires.plain in
+    plain_part c.args.step.now.path t (tm c.in-Some.redex.now) (sym c.in-Some.ensures) plain
 
 pub returns-in_default-2 : goal.returns-in_default-2
 returns-in_default-2 c =
@@ -31,12 +31,8 @@ returns-in_default-2 c =
     subst (λ o. Tells o (RootStep (rewrite_rules c.args.rules.now) rule r)) c.in_default-2.is c.in_ok-contractum.ensures in
     no_step_there S made rule c.args.step.now.path t r (sym c.in-Some.ensures) none
 
-pub result_fits-requires-clause-there : goal.result_fits-requires-clause-there
-result_fits-requires-clause-there c =
-    (tm c.in-Some.redex.now, subst (λ path. part_at path (tm c.args.term.now) ≡ Some (tm c.in-Some.redex.now)) (sym c.as_slice-path.ensures.steps) (sym c.in-Some.ensures))
-
-pub returns-then-not-branch : goal.returns-then-not-branch
-returns-then-not-branch c =
+pub returns-in-Some-3 : goal.returns-in-Some-3
+returns-in-Some-3 c =
     let (S, made) = c.requires.well_made in
     let t = tm c.args.term.now in
     let r = tm c.in-Some.redex.now in
@@ -44,14 +40,20 @@ returns-then-not-branch c =
     let path = c.args.step.now.path in
     let v = result_of c.in-Some-2.contractum in
     let slice = c.as_slice-path.result.now in
+    let w = tm c.in_ok-build-in-Some-3.field-0 in
     let same : slice ≡ path = c.as_slice-path.ensures.steps in
+    let built : w ≡ v = c.in_ok-build-in-Some-3.ensures in
+    let whole : put_at slice v t ≡ put_at path w t = ap (λ p. put_at p v t) same ∙ ap (λ s. put_at path s t) (sym built) in
     let found : Tells (Some c.in-Some-2.contractum) (RootStep (rewrite_rules c.args.rules.now) rule r) =
     subst (λ o. Tells o (RootStep (rewrite_rules c.args.rules.now) rule r)) c.in-Some-2.is c.in_ok-contractum.ensures in
-    let told : IsTrue c.in_ok-result_fits.field-0 ↔ Fits (put_at slice v t) = c.in_ok-result_fits.ensures in (
-      put_at slice v t,
-      step_there S made rule path t r v (put_at slice v t) c.requires.shut c.requires.plain (sym c.in-Some.ensures) found.1 (ap (λ p. put_at p v t) same),
-      λ fits. let wrong : false ≡ true = sym c.if-not-branch.true ∙ told.1 fits in absurd (cc),
-    )
+    let told : NewSize (put_at slice v t) (Some c.in-Some-3.total) =
+    subst (NewSize (put_at slice v t)) c.in-Some-3.is c.in_ok-total.ensures in
+    let put : put_at path w t ≡ put_at path v t = ap (λ s. put_at path s t) built in
+    record {
+      step = step_there S made rule path t r v (put_at path w t) c.requires.shut c.requires.plain (sym c.in-Some.ensures) found.1 put;
+      fits = subst Fits whole told.0;
+      sized = told.1 ∙ ap size whole;
+    }
 
 pub returns : goal.returns
 returns c =
@@ -62,12 +64,12 @@ returns c =
     let path = c.args.step.now.path in
     let v = result_of c.in-Some-2.contractum in
     let slice = c.as_slice-path.result.now in
-    let u = tm c.in_ok-replace_at.field-0 in
     let same : slice ≡ path = c.as_slice-path.ensures.steps in
     let found : Tells (Some c.in-Some-2.contractum) (RootStep (rewrite_rules c.args.rules.now) rule r) =
     subst (λ o. Tells o (RootStep (rewrite_rules c.args.rules.now) rule r)) c.in-Some-2.is c.in_ok-contractum.ensures in
-    let built : tm c.in_ok-value.value ≡ v = c.in_ok-value.ensures in
-    let put : u ≡ put_at slice (tm c.in_ok-value.value) t = c.in_ok-replace_at.ensures in
-    let whole : u ≡ put_at slice v t = put ∙ ap (λ w. put_at slice w t) built in
-    let told : IsTrue c.in_ok-result_fits.field-0 ↔ Fits (put_at slice v t) = c.in_ok-result_fits.ensures in
-    (step_there S made rule path t r v u c.requires.shut c.requires.plain (sym c.in-Some.ensures) found.1 (whole ∙ ap (λ p. put_at p v t) same), subst Fits (sym whole) (told.0 c.if-not-branch.false))
+    let told : NewSize (put_at slice v t) None = subst (NewSize (put_at slice v t)) c.in-None.is c.in_ok-total.ensures in
+    let put : put_at slice v t ≡ put_at path v t = ap (λ p. put_at p v t) same in (
+      put_at slice v t,
+      step_there S made rule path t r v (put_at slice v t) c.requires.shut c.requires.plain (sym c.in-Some.ensures) found.1 put,
+      told,
+    )

@@ -1,0 +1,18 @@
+//! What a part of a term that fits brings to the term: what is to be known of the part and its place to know the rest.
+
+ghost use Rattle.std.specs.Prelude.{◌≤◌};
+
+/// What the part brings to the term.
+#[derive(Clone, Copy)]
+pub struct Joint {
+    /// The height that the term has by it.
+    pub height: u32,
+    /// The number of arguments of the spine that it joins.
+    pub arguments: u32,
+    /// Whether that is the spine at the root.
+    pub is_front: bool,
+    /// Whether the term with the part is an application.
+    pub is_applied: bool,
+    ghost low: { height ≤ 200 },
+    ghost narrow: { arguments ≤ 32 },
+}
