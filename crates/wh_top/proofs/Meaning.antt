@@ -113,7 +113,7 @@ termination s words status text old new f g result answers ends before output e 
     (file, cert, asks, λ system held. by_system file cert system (stands system held))
   where
     by_system : (file cert system : List ℕ) → (length system ≤ system_limit) × (d : SystemData) × (ps : List PairData) × Reads system d × HasPairs d ps × Checked (s.held cert) d ps Yes → MeansYes system
-    by_system file cert system (within, d, ps, reads, has, c, (is, valid), told) = yes_means system d ps c reads has is valid
+    by_system file cert system (within, d, ps, reads, has, (c, (is, valid), told)) = yes_means system d ps c reads has is valid
 
 -- an output that begins with NO means what it says
 pub non_termination : (s : Shelves) (words : List (List ℕ)) (status : Status) (text : List ℕ) (old new : Option (List ℕ)) (f g : ℕ) (result : Status) → Answers s words status text → Ends old new f g status text result
@@ -125,4 +125,4 @@ non_termination s words status text old new f g result answers ends before outpu
     (file, cert, asks, λ system held certificate certified. by_system file cert system certificate certified (stands system held))
   where
     by_system : (file cert system certificate : List ℕ) → s.held cert ≡ Some certificate → (length system ≤ system_limit) × (d : SystemData) × (ps : List PairData) × Reads system d × HasPairs d ps × Checked (s.held cert) d ps No → MeansNo system certificate
-    by_system file cert system certificate certified (within, d, ps, reads, has, c, (is, valid), told) = no_means system certificate d ps c reads (told certificate certified).1 is valid
+    by_system file cert system certificate certified (within, d, ps, reads, has, (c, (is, valid), told)) = no_means system certificate d ps c reads (told certificate certified).1 is valid

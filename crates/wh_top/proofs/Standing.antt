@@ -68,7 +68,7 @@ judged_stands s file cert d ps bytes o is of_cert judged = by o judged
     by (Rejected (Condition words)) j =
         told_with (s.held file) d ps (λ e es. Checked (s.held cert) e es (Rejected (Condition words))) is (certified (λ c. Weighed d ps c (Rejected (Condition words))) j)
     by Later j = told_with (s.held file) d ps (λ e es. Checked (s.held cert) e es Later) is (told IsLater j)
-    by (Refused r) j = absurd j.2.1
-    by TooManyPairs j = absurd j.2.1
-    by (ReadFault role) j = absurd j.2.1
-    by (TooLong role) j = absurd j.2.1
+    by (Refused r) j = absurd j.2
+    by TooManyPairs j = absurd j.2
+    by (ReadFault role) j = absurd j.2
+    by (TooLong role) j = absurd j.2

@@ -65,8 +65,8 @@ fn shown(alloc: Global, problem: &Problem) -> Result<Bytes, AllocError>
 
 // What the bytes of the certificate come to.
 fn judge(alloc: Global, problem: &Problem, bytes: &[u8]) -> Result<Outcome, AllocError>
-    requires { length bytes.now ≤ 8388608 }
-    requires { HasPairs (system_data problem.now.system) (pairs_data problem.now.pairs) }
+    requires length { length bytes.now ≤ 8388608 }
+    requires pairs { HasPairs (system_data problem.now.system) (pairs_data problem.now.pairs) }
     ensures { IfOk result (Judged (system_data problem.now.system) (pairs_data problem.now.pairs) bytes.now) }
 {
     match read_certificate(alloc, bytes) {
@@ -81,8 +81,8 @@ fn judge(alloc: Global, problem: &Problem, bytes: &[u8]) -> Result<Outcome, Allo
 
 // What a certificate that was read comes to.
 fn weigh(alloc: Global, problem: &Problem, certificate: &Certificate) -> Result<Outcome, AllocError>
-    requires { IsCert (said certificate.now) }
-    requires { HasPairs (system_data problem.now.system) (pairs_data problem.now.pairs) }
+    requires certificate { IsCert (said certificate.now) }
+    requires pairs { HasPairs (system_data problem.now.system) (pairs_data problem.now.pairs) }
     ensures { IfOk result (Weighed (system_data problem.now.system) (pairs_data problem.now.pairs) (said certificate.now)) }
 {
     match check(alloc, &problem.system, &problem.pairs, certificate) {
