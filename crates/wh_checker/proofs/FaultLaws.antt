@@ -1,6 +1,5 @@
 -- A certificate has one first fault at most, and none if it is valid.
 use Rattle.std.proofs.Common.{◌≡◌, ℕ, suc, List, [], ◌∷◌, ◌++◌, length, refl, sym, ap, subst, ◌∙◌}
-use Rattle.wh_terms.specs.Rules.{AreWellMade}
 use Rattle.wh_laws.specs.Ranks.{rank_of}
 use Rattle.wh_system.specs.Systems.{SystemData}
 use Rattle.wh_system.specs.WellMade.{AreDistinct, IsWellMadeSystem}
@@ -8,17 +7,14 @@ use Rattle.wh_system.specs.PairData.{PairData}
 use Rattle.wh_access.specs.Passing.{Passes}
 use Rattle.wh_cert.specs.Written as w
 use Rattle.wh_cert.specs.Written.{Cert, yes, no}
-use Rattle.wh_no.specs.Faults as claims
-use Rattle.wh_no.specs.declared.fault.NoFault.{NoFault}
 use Rattle.wh_no.proofs.Verdicts.{fault_one, accepted_or_fault}
 use Rattle.wh_nodes.specs.Nodes.{Node, Leaves}
-use Rattle.wh_nodes.specs.Proves.{Proves, all_proved, one_proved}
+use Rattle.wh_nodes.specs.Proves.{Proves, one_proved}
 use Rattle.wh_checker.specs.Looked.{SaysNode, SayNodes}
 use Rattle.wh_checker.specs.Valid.{IsValidYes, IsValidCert}
-use Rattle.wh_checker.specs.Faults.{IsNodeFault, IsFirstNodeFault, at_first, behind_first, at_node, of_claim, IsFirstYesFault, rank_count, inaccessible, pair_count, in_node, IsFirstFault}
+use Rattle.wh_checker.specs.Faults.{IsFirstNodeFault, at_first, behind_first, at_node, of_claim, IsFirstYesFault, rank_count, inaccessible, pair_count, in_node, IsFirstFault}
 use Rattle.wh_checker.specs.declared.rejected.NodeFault.{NodeFault}
 use Rattle.wh_checker.specs.declared.rejected.Rejected.{Rejected}
-use Rattle.wh_checker.specs.declared.rejected.Rejected.TheVariants as row
 use Rattle.wh_checker.proofs.RowLaws.{break_one, break_or_passing}
 use Rattle.wh_checker.proofs.NodeLaws.{set_one, leaves_one, node_said_one, node_fault_one, leaves_or_fault}
 

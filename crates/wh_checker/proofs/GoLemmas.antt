@@ -1,6 +1,6 @@
 -- The answers of the parts of a node's check, as what they say of the node.
-use Rattle.std.proofs.Common.{Contains, ◌≡◌, ◌≢◌, ◌-◌, ℕ, zero, suc, ◌+◌, ◌<◌, ◌≤◌, List, [], ◌∷◌, ◌++◌, length, map, reverse, drop, get_or, Some, Result, Ok, Err, OnOk, slice_get, refl, sym, ap, subst, ◌∙◌, arith}
-use Rattle.std.proofs.lemmas.List.{drop_more, drop_all, reverse-append}
+use Rattle.std.proofs.Common.{Contains, ◌≡◌, ◌-◌, ℕ, ◌+◌, ◌<◌, ◌≤◌, List, [], ◌∷◌, ◌++◌, length, map, reverse, drop, get_or, Some, Result, Ok, Err, OnOk, slice_get, refl, sym, ap, subst, ◌∙◌, arith}
+use Rattle.std.proofs.lemmas.List.{drop_more, reverse-append}
 use Rattle.wh_types.specs.Outcome.{IfBecause, MatchOr}
 use Rattle.wh_types.specs.declared.want.Or.{Or}
 use Rattle.wh_types.specs.declared.want.Or.TheVariants.{NoMemory, Because}
@@ -17,7 +17,7 @@ use Rattle.wh_subterm.specs.SubtermRows.{AreForMarked, IsFirstSubtermFault}
 use Rattle.wh_subterm.specs.declared.projection.SubtermFault.{SubtermFault}
 use Rattle.wh_subterm.specs.declared.projection.SubtermFault.TheVariants.{BadArgs, NoProjection, BadArgument, BadDrop, NotDecreasing}
 use Rattle.wh_cert.specs.Written as w
-use Rattle.wh_nodes.specs.Nodes.{done, alone, blocks, subterm, IsSetOf, AreSetsOf, no_sets, more_sets, Leaves, by_done, by_alone, by_blocks, by_subterm}
+use Rattle.wh_nodes.specs.Nodes.{done, alone, blocks, subterm, IsSetOf, AreSetsOf, more_sets, Leaves, by_done, by_alone, by_blocks, by_subterm}
 use Rattle.wh_checker.specs.Looked.{SayChoices}
 use Rattle.wh_checker.specs.Faults.{IsSubtermFault}
 use Rattle.wh_checker.specs.Walk.{IsSingle, IsReduced, GoesOn}

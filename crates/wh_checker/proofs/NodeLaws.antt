@@ -1,5 +1,5 @@
 -- A node leaves one list of sets, one thing at most is wrong first with it, and none where its conditions hold.
-use Rattle.std.proofs.Common.{◌≡◌, ◌≢◌, ℕ, zero, suc, ◌+◌, ◌<◌, ◌⊎◌, inl, inr, List, [], ◌∷◌, ◌++◌, length, get_or, Contains, refl, sym, ap, subst, ◌∙◌, arith}
+use Rattle.std.proofs.Common.{◌≡◌, ◌≢◌, ℕ, suc, ◌<◌, inl, inr, List, [], ◌∷◌, get_or, Contains, refl, sym, ap, subst, ◌∙◌, arith}
 use Rattle.std.proofs.lemmas.Option.{slice_get_within, get_or_from_slice_get}
 use Rattle.wh_terms.specs.Rules.{RewriteRule}
 use Rattle.wh_system.specs.Systems.{SystemData}
@@ -22,7 +22,7 @@ use Rattle.wh_checker.specs.Faults.{IsSubtermFault, IsNodeFault}
 use Rattle.wh_checker.specs.declared.rejected.NodeFault.{NodeFault}
 use Rattle.wh_checker.specs.declared.rejected.NodeFault.TheVariants.{NotEmpty, NotOne, Loops, Blocks, Subterm}
 use Rattle.wh_checker.proofs.ChoiceLemmas.{one_list_said}
-use Rattle.wh_checker.proofs.RowLaws.{neither_below, block_fault_one, blocks_or_fault, subterm_fault_one, projection_or_fault}
+use Rattle.wh_checker.proofs.RowLaws.{block_fault_one, blocks_or_fault, subterm_fault_one, projection_or_fault}
 
 -- increasing lists with the same members are one
 
@@ -51,14 +51,14 @@ increasing_one (x ∷ xs) (y ∷ ys) up also into back =
       ]
     ] in
     let rest : xs ≡ ys = increasing_one xs ys (rest_increasing x xs up) (rest_increasing y ys also)
-        (λ n found. elim (head_or_behind ys y n (into n (behind xs x n found))) [
-          | inl is ↦ let less = head_below x n xs up found in absurd (omega (arith, less, same, is))
-          | inr later ↦ later
-        ])
-        (λ n found. elim (head_or_behind xs x n (back n (behind ys y n found))) [
-          | inl is ↦ let less = head_below y n ys also found in absurd (omega (arith, less, same, is))
-          | inr later ↦ later
-        ]) in
+    (λ n found. elim (head_or_behind ys y n (into n (behind xs x n found))) [
+      | inl is ↦ let less = head_below x n xs up found in absurd (omega (arith, less, same, is))
+      | inr later ↦ later
+    ])
+    (λ n found. elim (head_or_behind xs x n (back n (behind ys y n found))) [
+      | inl is ↦ let less = head_below y n ys also found in absurd (omega (arith, less, same, is))
+      | inr later ↦ later
+    ]) in
     cc (same, rest)
 
 pub set_one : (P : ℕ → Type 0) (xs ys : List ℕ) → IsSetOf P xs → IsSetOf P ys → xs ≡ ys

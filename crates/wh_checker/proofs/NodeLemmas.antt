@@ -1,14 +1,14 @@
 -- What a node leaves: how many sets, and of which numbers.
-use Rattle.std.proofs.Common.{◌≡◌, ◌↔◌, ℕ, zero, suc, ◌+◌, ◌<◌, List, [], ◌∷◌, ◌++◌, length, Some, slice_get, All, Contains, refl, sym, ap, subst, ◌∙◌, arith}
-use Rattle.std.proofs.lemmas.List.Elements.{All-nil, All-cons, All-head, All-tail, All-contains}
+use Rattle.std.proofs.Common.{◌≡◌, ℕ, suc, List, [], ◌∷◌, length, All, refl, sym, ap, ◌∙◌}
+use Rattle.std.proofs.lemmas.List.Elements.{All-nil, All-cons, All-contains}
 use Rattle.wh_system.specs.Systems.{SystemData}
 use Rattle.wh_system.specs.PairData.{PairData}
 use Rattle.wh_terms.specs.Rules.{RewriteRule}
-use Rattle.wh_system.proofs.ByPlace.{contains_at, place_of}
+use Rattle.wh_system.proofs.ByPlace.{place_of}
 use Rattle.wh_graph.specs.Components.{IsIn}
 use Rattle.wh_cert.specs.Written as w
 use Rattle.wh_cert.specs.Written.{children}
-use Rattle.wh_nodes.specs.Nodes.{Node, done, alone, blocks, subterm, IsSetOf, AreSetsOf, no_sets, more_sets, IsKept, Leaves, by_done, by_alone, by_blocks, by_subterm}
+use Rattle.wh_nodes.specs.Nodes.{Node, done, alone, blocks, subterm, AreSetsOf, no_sets, more_sets, Leaves, by_done, by_alone, by_blocks, by_subterm}
 use Rattle.wh_checker.specs.Looked.{SaysNode}
 use Rattle.wh_checker.proofs.SetLemmas.{all_from_members}
 

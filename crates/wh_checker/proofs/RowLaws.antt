@@ -1,17 +1,14 @@
 -- Of the things that can be wrong with ranks, blocks and projections one at most is the first, and none is where nothing is wrong.
-use Rattle.std.proofs.Common.{◌≡◌, ℕ, ◌+◌, ◌<◌, ◌≤◌, ◌⊎◌, inl, inr, List, [], ◌∷◌, length, Some, slice_get, All, Contains, refl, sym, ap, subst, ◌∙◌, arith}
-use Rattle.std.proofs.lemmas.Bool.{cases_eq, cases_lt}
-use Rattle.std.proofs.lemmas.Option.{slice_get_within}
+use Rattle.std.proofs.Common.{◌≡◌, ℕ, ◌<◌, inl, inr, List, slice_get, All, Contains, refl, sym, ap, subst, ◌∙◌, arith}
+use Rattle.std.proofs.lemmas.Bool.{cases_lt}
 use Rattle.std.proofs.lemmas.List.Elements.{All-contains}
 use Rattle.wh_terms.specs.Tree.{Tm}
 use Rattle.wh_terms.specs.Sight.{Occurs}
 use Rattle.wh_terms.specs.Rules.{RewriteRule}
 use Rattle.wh_system.specs.PairData.{PairData}
-use Rattle.wh_system.specs.Needs.{need_of}
-use Rattle.wh_system.proofs.ByPlace.{contains_at, place_of, some_one}
+use Rattle.wh_system.proofs.ByPlace.{contains_at, some_one}
 use Rattle.wh_access.specs.Passing.{EachUsed, IsFirstWithout}
-use Rattle.wh_graph.specs.Components.{StandsAt, IsIn}
-use Rattle.wh_graph.specs.Blocks.{AreFew, IsListed, IsRepeated, IsMisplaced, IsBackEdge, AreBlocks, IsFirstBlockFault}
+use Rattle.wh_graph.specs.Blocks.{IsMisplaced, IsBackEdge, AreBlocks, IsFirstBlockFault}
 use Rattle.wh_graph.specs.declared.blocks.BlockFault.{BlockFault}
 use Rattle.wh_graph.specs.declared.blocks.BlockFault.TheVariants.{FewBlocks, NotPartition, BackEdge}
 use Rattle.wh_subterm.specs.Projections.{Chosen}
@@ -67,8 +64,8 @@ block_fault_one E set blocks (BackEdge a b) (NotPartition c) (many, even, back) 
 block_fault_one E set blocks (BackEdge a b) (BackEdge c e) (many, even, (back, source, target)) (also, flat, (other, from, to)) =
     let same : a ≡ c = neither_below a c (λ less. from a b less back) (λ less. source c e less other) in
     let one : b ≡ e = neither_below b e
-        (λ less. to b less (subst (λ v. IsBackEdge E blocks v b) same back))
-        (λ less. target e less (subst (λ v. IsBackEdge E blocks v e) (sym same) other)) in
+    (λ less. to b less (subst (λ v. IsBackEdge E blocks v b) same back))
+    (λ less. target e less (subst (λ v. IsBackEdge E blocks v e) (sym same) other)) in
     cc (same, one)
 
 misplaced_nowhere : (E : ℕ → ℕ → Type 0) (set : List ℕ) (blocks : List (List ℕ)) (n : ℕ) → AreBlocks E set blocks → IsMisplaced set blocks n → ⊥

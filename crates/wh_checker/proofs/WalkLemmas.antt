@@ -1,5 +1,5 @@
 -- The walk through the nodes: where it begins, one node further, and where it ends.
-use Rattle.std.proofs.Common.{◌≡◌, ℕ, suc, ◌+◌, ◌<◌, ◌≤◌, List, [], ◌∷◌, ◌++◌, length, map, reverse, drop, get_or, All, refl, sym, ap, subst, ◌∙◌, add-one, arith}
+use Rattle.std.proofs.Common.{◌≡◌, ℕ, suc, ◌+◌, ◌<◌, ◌≤◌, List, [], ◌∷◌, ◌++◌, length, map, reverse, drop, get_or, All, sym, ap, subst, ◌∙◌, add-one}
 use Rattle.std.proofs.lemmas.List.{length-append, drop_more, drop_all}
 use Rattle.std.proofs.lemmas.List.Elements.{All-nil, All-cons, All-head, All-tail, All-append}
 use Rattle.wh_system.specs.Systems.{SystemData}
@@ -8,9 +8,7 @@ use Rattle.wh_cert.specs.Written as w
 use Rattle.wh_cert.specs.Written.{children, Preorder}
 use Rattle.wh_cert.specs.Said.{said_node}
 use Rattle.wh_cert.specs.declared.certificate.Node as code
-use Rattle.wh_nodes.specs.Nodes.{Node}
-use Rattle.wh_nodes.specs.Proves.{Proves, all_proved, one_proved}
-use Rattle.wh_checker.specs.Looked.{SaysNode, SayNodes}
+use Rattle.wh_nodes.specs.Proves.{all_proved, one_proved}
 use Rattle.wh_checker.specs.Faults.{IsNodeFault, IsFirstNodeFault, at_first, behind_first}
 use Rattle.wh_checker.specs.Walk.{GoesOn, AreProvedBy, HasCome}
 use Rattle.wh_checker.specs.declared.rejected.NodeFault.{NodeFault}

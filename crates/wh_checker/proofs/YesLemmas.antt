@@ -1,5 +1,5 @@
 -- The parts of the check of a YES certificate, put together.
-use Rattle.std.proofs.Common.{◌≡◌, ◌≢◌, ℕ, List, [], ◌∷◌, length, Result, Ok, Err, OnOk, IsErrAnd, refl, sym, ap, subst, ◌∙◌}
+use Rattle.std.proofs.Common.{◌≡◌, ℕ, List, [], ◌∷◌, length, Result, Ok, Err, OnOk, IsErrAnd, sym, subst}
 use Rattle.wh_types.specs.Outcome.{IfBecause, MatchOr}
 use Rattle.wh_types.specs.declared.want.Or.{Or}
 use Rattle.wh_types.specs.declared.want.Or.TheVariants.{NoMemory, Because}
@@ -7,7 +7,7 @@ use Rattle.wh_system.specs.Systems.{SystemData}
 use Rattle.wh_system.specs.PairData.{PairData}
 use Rattle.wh_cert.specs.Written as w
 use Rattle.wh_checker.specs.Valid.{IsWhole, IsValidYes}
-use Rattle.wh_checker.specs.Faults.{IsFirstNodeFault, at_node, IsFirstYesFault, rank_count, inaccessible, pair_count, in_node}
+use Rattle.wh_checker.specs.Faults.{IsFirstNodeFault, at_node, IsFirstYesFault, rank_count, inaccessible, in_node}
 use Rattle.wh_checker.specs.Walk.{IsPassingUnder, IsRankFault, AreProvedBy}
 use Rattle.wh_checker.specs.declared.rejected.NodeFault.{NodeFault}
 use Rattle.wh_checker.specs.declared.rejected.Rejected.{Rejected}

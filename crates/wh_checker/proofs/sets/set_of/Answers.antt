@@ -1,7 +1,6 @@
-use Rattle.std.proofs.Common.{◌≡◌, ℕ, List, Contains, IfOk, sym, subst, ◌∙◌}
+use Rattle.std.proofs.Common.{ℕ, List, sym, subst}
 use Rattle.std.specs.List.Sorted.{IsNonDecreasing, IsPermutation}
 use Rattle.std.proofs.lemmas.List.Sorted.{IsNonDecreasingBy-from_sort}
-use Rattle.wh_nodes.specs.Nodes.{IsSetOf}
 use Rattle.wh_checker.proofs.SetLemmas.{ok_sorted}
 use Rattle.wh_checker.proofs.sets.set_of.Goals as goal
 
