@@ -5,7 +5,8 @@ use Rattle.wh_checker.proofs.SetLemmas.{ok_sorted}
 use Rattle.wh_checker.proofs.sets.set_of.Goals as goal
 
 pub distinct-requires : goal.distinct-requires
-distinct-requires c = subst IsNonDecreasing (sym c.deref.ensures.value) (IsNonDecreasingBy-from_sort (λ n. n) c.sort_unstable.new.self.items c.sort_unstable.ensures.sorted)
+distinct-requires c =
+    subst IsNonDecreasing (sym c.deref.ensures.value) (IsNonDecreasingBy-from_sort (λ n. n) c.sort_unstable.new.self.items c.sort_unstable.ensures.sorted)
 
 pub returns : goal.returns
 returns c =
