@@ -1,6 +1,6 @@
 -- The answers of the parts of a node's check, as what they say of the node.
-use Rattle.std.proofs.Common.{Contains, ◌≡◌, ◌≢◌, ◌-◌, ℕ, zero, suc, ◌+◌, ◌<◌, ◌≤◌, List, [], ◌∷◌, ◌++◌, length, map, reverse, drop, get_or, Some, Result, Ok, Err, OnOk, slice_get, refl, sym, ap, subst, ◌∙◌, arith}
-use Rattle.std.proofs.lemmas.List.{drop_more, drop_all, reverse-append}
+use Rattle.std.proofs.Common.{Contains, ◌≡◌, ◌-◌, ℕ, ◌+◌, ◌<◌, ◌≤◌, List, [], ◌∷◌, ◌++◌, length, map, reverse, drop, get_or, Some, Result, Ok, Err, OnOk, slice_get, refl, sym, ap, subst, ◌∙◌, arith}
+use Rattle.std.proofs.lemmas.List.{drop_more, reverse-append}
 use Rattle.wh_types.specs.Outcome.{IfBecause, MatchOr}
 use Rattle.wh_types.specs.declared.want.Or.{Or}
 use Rattle.wh_types.specs.declared.want.Or.TheVariants.{NoMemory, Because}
@@ -17,7 +17,7 @@ use Rattle.wh_subterm.specs.SubtermRows.{AreForMarked, IsFirstSubtermFault}
 use Rattle.wh_subterm.specs.declared.projection.SubtermFault.{SubtermFault}
 use Rattle.wh_subterm.specs.declared.projection.SubtermFault.TheVariants.{BadArgs, NoProjection, BadArgument, BadDrop, NotDecreasing}
 use Rattle.wh_cert.specs.Written as w
-use Rattle.wh_nodes.specs.Nodes.{done, alone, blocks, subterm, IsSetOf, AreSetsOf, no_sets, more_sets, Leaves, by_done, by_alone, by_blocks, by_subterm}
+use Rattle.wh_nodes.specs.Nodes.{done, alone, blocks, subterm, IsSetOf, AreSetsOf, more_sets, Leaves, by_done, by_alone, by_blocks, by_subterm}
 use Rattle.wh_checker.specs.Looked.{SayChoices}
 use Rattle.wh_checker.specs.Faults.{IsSubtermFault}
 use Rattle.wh_checker.specs.Walk.{IsSingle, IsReduced, GoesOn}
@@ -38,18 +38,25 @@ because_says (Because y) x P is p = let same : y ≡ x = because_one is in subst
 because_says NoMemory x P is p = cc
 
 pub goes_done : (d : SystemData) (ps : List PairData) (set : List ℕ) (sets : List (List ℕ)) → set ≡ [] → GoesOn d ps set w.done sets sets
-goes_done d ps set sets empty = record { node = done; left = []; says = tt; leaves = subst (λ (s : List ℕ). Leaves d.rules ps s done []) (sym empty) by_done; after_is = refl }
+goes_done d ps set sets empty =
+    record { node = done; left = []; says = tt; leaves = subst (λ (s : List ℕ). Leaves d.rules ps s done []) (sym empty) by_done; after_is = refl }
 
-pub goes_alone : (d : SystemData) (ps : List PairData) (set : List ℕ) (sets : List (List ℕ)) → IsSingle d.rules ps set → GoesOn d ps set w.alone sets sets
-goes_alone d ps set sets (a, one, free) = record { node = alone; left = []; says = tt; leaves = subst (λ (s : List ℕ). Leaves d.rules ps s alone []) (sym one) (by_alone free); after_is = refl }
+pub goes_alone : (d : SystemData) (ps : List PairData) (set : List ℕ) (sets : List (List ℕ)) → IsSingle d.rules ps set
+    → GoesOn d ps set w.alone sets sets
+goes_alone d ps set sets (a, one, free) =
+    record { node = alone; left = []; says = tt; leaves = subst (λ (s : List ℕ). Leaves d.rules ps s alone []) (sym one) (by_alone free); after_is = refl }
 
-pub goes_blocks : (d : SystemData) (ps : List PairData) (set : List ℕ) (parts sets after : List (List ℕ)) → AreBlocks (Follows d.rules ps) set parts → (left : List (List ℕ)) × AreSetsOf parts left × (after ≡ left ++ sets)
+pub goes_blocks : (d : SystemData) (ps : List PairData) (set : List ℕ) (parts sets after : List (List ℕ))
+    → AreBlocks (Follows d.rules ps) set parts → (left : List (List ℕ)) × AreSetsOf parts left × (after ≡ left ++ sets)
     → GoesOn d ps set (w.blocks parts) sets after
-goes_blocks d ps set parts sets after are (left, is, after_is) = record { node = blocks parts; left = left; says = refl; leaves = by_blocks are is; after_is = after_is }
+goes_blocks d ps set parts sets after are (left, is, after_is) =
+    record { node = blocks parts; left = left; says = refl; leaves = by_blocks are is; after_is = after_is }
 
-pub goes_subterm : (d : SystemData) (ps : List PairData) (set : List ℕ) (lines : List w.Arg) (drop rest : List ℕ) (sets after : List (List ℕ)) → IsReduced d ps set lines drop rest → after ≡ rest ∷ sets
+pub goes_subterm : (d : SystemData) (ps : List PairData) (set : List ℕ) (lines : List w.Arg) (drop rest : List ℕ)
+    (sets after : List (List ℕ)) → IsReduced d ps set lines drop rest → after ≡ rest ∷ sets
     → GoesOn d ps set (w.subterm lines drop) sets after
-goes_subterm d ps set lines drop rest sets after (args, says, is, kept) after_is = record { node = subterm args drop; left = rest ∷ []; says = (says, refl); leaves = by_subterm is kept; after_is = after_is }
+goes_subterm d ps set lines drop rest sets after (args, says, is, kept) after_is =
+    record { node = subterm args drop; left = rest ∷ []; says = (says, refl); leaves = by_subterm is kept; after_is = after_is }
 
 -- a stack from its top, with one more on it
 pub reverse_push : {A : Type 0} (xs : List A) (x : A) → reverse (xs ++ x ∷ []) ≡ x ∷ reverse xs
@@ -61,19 +68,23 @@ one_number (a ∷ []) one = refl
 one_number [] one = absurd (omega arith)
 one_number (a ∷ b ∷ rest) one = absurd (omega arith)
 
-follows_itself : (rules : List RewriteRule) (pairs : List Pair) (a : ℕ) (pair : Pair) → slice_get (map pair_data pairs) a ≡ Some (pair_data pair) → Follows rules (map pair_data pairs) a a → May rules (pair_data pair) (pair_data pair)
+follows_itself : (rules : List RewriteRule) (pairs : List Pair) (a : ℕ) (pair : Pair)
+    → slice_get (map pair_data pairs) a ≡ Some (pair_data pair) → Follows rules (map pair_data pairs) a a → May rules (pair_data pair)
+    (pair_data pair)
 follows_itself rules pairs a pair here (x, y, at, also, may) =
     let first : x ≡ pair_data pair = some_one at here in
     let second : y ≡ pair_data pair = some_one also here in
     subst (λ (p : PairData). May rules p (pair_data pair)) first (subst (λ (p : PairData). May rules x p) second may)
 
-pub single : (rules : List RewriteRule) (pairs : List Pair) (set : List ℕ) (pair : Pair) → length set ≡ 1 → get_or set 0 0 < length pairs → pair ≡ get_or pairs (get_or set 0 0) pair
+pub single : (rules : List RewriteRule) (pairs : List Pair) (set : List ℕ) (pair : Pair) → length set ≡ 1 → get_or set 0 0 < length pairs
+    → pair ≡ get_or pairs (get_or set 0 0) pair
     → (May rules (pair_data pair) (pair_data pair) → ⊥) → IsSingle rules (map pair_data pairs) set
 single rules pairs set pair one within is free =
     (get_or set 0 0, one_number set one, λ follows. free (follows_itself rules pairs (get_or set 0 0) pair (read_map pair_data pairs (get_or set 0 0) pair within is) follows))
 
 -- what is wrong first with the choices that the lines say is what is wrong first with the lines
-pub subterm_fault : (d : SystemData) (ps : List PairData) (set : List ℕ) (lines : List w.Arg) (args : List Chosen) (drop : List ℕ) (f : SubtermFault) → AreDistinct d.fun_names → SayChoices d lines args
+pub subterm_fault : (d : SystemData) (ps : List PairData) (set : List ℕ) (lines : List w.Arg) (args : List Chosen) (drop : List ℕ)
+    (f : SubtermFault) → AreDistinct d.fun_names → SayChoices d lines args
     → IsFirstSubtermFault d.rules ps set args drop f → IsSubtermFault d ps set lines drop f
 subterm_fault d ps set lines args drop BadArgs apart says first =
     λ others also marked. first (subst (AreForMarked ps set) (one_list_said d lines others args apart also says) marked)
@@ -83,7 +94,8 @@ subterm_fault d ps set lines args drop BadDrop apart says first = (args, says, f
 subterm_fault d ps set lines args drop (NotDecreasing n) apart says first = (args, says, first)
 
 -- the sets of the blocks from a place on, with one more before them
-pub sets_before : (parts sets : List (List ℕ)) (i : ℕ) (block set : List ℕ) → 0 < i → i ≤ length parts → block ≡ get_or parts (i - 1) block → IsSetOf (Contains block) set → AreSetsOf (drop i parts) sets
+pub sets_before : (parts sets : List (List ℕ)) (i : ℕ) (block set : List ℕ) → 0 < i → i ≤ length parts
+    → block ≡ get_or parts (i - 1) block → IsSetOf (Contains block) set → AreSetsOf (drop i parts) sets
     → AreSetsOf (drop (i - 1) parts) (set ∷ sets)
 sets_before parts sets i block set above within is set_is rest =
     let next : i - 1 + 1 ≡ i = omega arith in

@@ -1,5 +1,5 @@
 -- A node leaves one list of sets, one thing at most is wrong first with it, and none where its conditions hold.
-use Rattle.std.proofs.Common.{◌≡◌, ◌≢◌, ℕ, zero, suc, ◌+◌, ◌<◌, ◌⊎◌, inl, inr, List, [], ◌∷◌, ◌++◌, length, get_or, Contains, refl, sym, ap, subst, ◌∙◌, arith}
+use Rattle.std.proofs.Common.{◌≡◌, ◌≢◌, ℕ, suc, ◌<◌, inl, inr, List, [], ◌∷◌, get_or, Contains, refl, sym, ap, subst, ◌∙◌, arith}
 use Rattle.std.proofs.lemmas.Option.{slice_get_within, get_or_from_slice_get}
 use Rattle.wh_terms.specs.Rules.{RewriteRule}
 use Rattle.wh_system.specs.Systems.{SystemData}
@@ -22,7 +22,7 @@ use Rattle.wh_checker.specs.Faults.{IsSubtermFault, IsNodeFault}
 use Rattle.wh_checker.specs.declared.rejected.NodeFault.{NodeFault}
 use Rattle.wh_checker.specs.declared.rejected.NodeFault.TheVariants.{NotEmpty, NotOne, Loops, Blocks, Subterm}
 use Rattle.wh_checker.proofs.ChoiceLemmas.{one_list_said}
-use Rattle.wh_checker.proofs.RowLaws.{neither_below, block_fault_one, blocks_or_fault, subterm_fault_one, projection_or_fault}
+use Rattle.wh_checker.proofs.RowLaws.{block_fault_one, blocks_or_fault, subterm_fault_one, projection_or_fault}
 
 -- increasing lists with the same members are one
 
@@ -38,7 +38,8 @@ head_below n m ns up found =
     let less : n < get_or ns at.0 0 = increasing_at (n ∷ ns) 0 (suc at.0) up (omega arith) (omega arith) in
     omega (arith, less, is)
 
-increasing_one : (xs ys : List ℕ) → IsIncreasing xs → IsIncreasing ys → ((n : ℕ) → Contains xs n → Contains ys n) → ((n : ℕ) → Contains ys n → Contains xs n) → xs ≡ ys
+increasing_one : (xs ys : List ℕ) → IsIncreasing xs → IsIncreasing ys → ((n : ℕ) → Contains xs n → Contains ys n)
+    → ((n : ℕ) → Contains ys n → Contains xs n) → xs ≡ ys
 increasing_one [] [] up also into back = refl
 increasing_one [] (y ∷ ys) up also into back = absurd (none_there y (back y (at_head ys y)))
 increasing_one (x ∷ xs) [] up also into back = absurd (none_there x (into x (at_head xs x)))
@@ -51,39 +52,44 @@ increasing_one (x ∷ xs) (y ∷ ys) up also into back =
       ]
     ] in
     let rest : xs ≡ ys = increasing_one xs ys (rest_increasing x xs up) (rest_increasing y ys also)
-        (λ n found. elim (head_or_behind ys y n (into n (behind xs x n found))) [
-          | inl is ↦ let less = head_below x n xs up found in absurd (omega (arith, less, same, is))
-          | inr later ↦ later
-        ])
-        (λ n found. elim (head_or_behind xs x n (back n (behind ys y n found))) [
-          | inl is ↦ let less = head_below y n ys also found in absurd (omega (arith, less, same, is))
-          | inr later ↦ later
-        ]) in
+    (λ n found. elim (head_or_behind ys y n (into n (behind xs x n found))) [
+      | inl is ↦ let less = head_below x n xs up found in absurd (omega (arith, less, same, is))
+      | inr later ↦ later
+    ])
+    (λ n found. elim (head_or_behind xs x n (back n (behind ys y n found))) [
+      | inl is ↦ let less = head_below y n ys also found in absurd (omega (arith, less, same, is))
+      | inr later ↦ later
+    ]) in
     cc (same, rest)
 
 pub set_one : (P : ℕ → Type 0) (xs ys : List ℕ) → IsSetOf P xs → IsSetOf P ys → xs ≡ ys
-set_one P xs ys is also = increasing_one xs ys is.increasing also.increasing (λ n found. (also.each n).1 ((is.each n).0 found)) (λ n found. (is.each n).1 ((also.each n).0 found))
+set_one P xs ys is also =
+    increasing_one xs ys is.increasing also.increasing (λ n found. (also.each n).1 ((is.each n).0 found)) (λ n found. (is.each n).1 ((also.each n).0 found))
 
 sets_one : (parts xs ys : List (List ℕ)) → AreSetsOf parts xs → AreSetsOf parts ys → xs ≡ ys
 sets_one [] [] [] no_sets no_sets = refl
-sets_one (part ∷ parts) (x ∷ xs) (y ∷ ys) (more_sets is rest) (more_sets also others) = cc (set_one (Contains part) x y is also, sets_one parts xs ys rest others)
+sets_one (part ∷ parts) (x ∷ xs) (y ∷ ys) (more_sets is rest) (more_sets also others) =
+    cc (set_one (Contains part) x y is also, sets_one parts xs ys rest others)
 sets_one [] (x ∷ xs) ys none also = elim none [ ]
 sets_one [] [] (y ∷ ys) is none = elim none [ ]
 sets_one (part ∷ parts) [] ys none also = elim none [ ]
 sets_one (part ∷ parts) (x ∷ xs) [] is none = elim none [ ]
 
-pub leaves_one : (rules : List RewriteRule) (ps : List PairData) (set : List ℕ) (node : Node) (left other : List (List ℕ)) → Leaves rules ps set node left → Leaves rules ps set node other → left ≡ other
+pub leaves_one : (rules : List RewriteRule) (ps : List PairData) (set : List ℕ) (node : Node) (left other : List (List ℕ))
+    → Leaves rules ps set node left → Leaves rules ps set node other → left ≡ other
 leaves_one rules ps set done [] [] by_done by_done = refl
 leaves_one rules ps set alone [] [] (by_alone free) (by_alone also) = refl
 leaves_one rules ps set (blocks parts) left other (by_blocks are sets) (by_blocks also others) = sets_one parts left other sets others
-leaves_one rules ps set (subterm args drop) left other (by_subterm {rest = rest} is kept) (by_subterm {rest = others} also same) = ap (λ l. l ∷ []) (set_one _ rest others kept same)
+leaves_one rules ps set (subterm args drop) left other (by_subterm {rest = rest} is kept) (by_subterm {rest = others} also same) =
+    ap (λ l. l ∷ []) (set_one _ rest others kept same)
 leaves_one rules ps set done (_ ∷ _) other leaves also = elim leaves [ ]
 leaves_one rules ps set done [] (_ ∷ _) leaves also = elim also [ ]
 leaves_one rules ps set alone (_ ∷ _) other leaves also = elim leaves [ ]
 leaves_one rules ps set alone [] (_ ∷ _) leaves also = elim also [ ]
 
 -- a line says one node
-pub node_said_one : (d : SystemData) (line : w.Node) (node other : Node) → AreDistinct d.fun_names → SaysNode d line node → SaysNode d line other → node ≡ other
+pub node_said_one : (d : SystemData) (line : w.Node) (node other : Node) → AreDistinct d.fun_names → SaysNode d line node
+    → SaysNode d line other → node ≡ other
 node_said_one d w.done done done apart says also = refl
 node_said_one d w.alone alone alone apart says also = refl
 node_said_one d (w.blocks listed) (blocks parts) (blocks others) apart says also = ap blocks (sym says ∙ also)
@@ -122,14 +128,16 @@ data ChoiceFault (d : SystemData) (ps : List PairData) (set : List ℕ) (lines :
   no_args : ((args : List Chosen) → SayChoices d lines args → AreForMarked ps set args → ⊥) → ChoiceFault d ps set lines drop projected.BadArgs
   with_args : {f : SubtermFault} (args : List Chosen) → SayChoices d lines args → AreForMarked ps set args → IsFirstSubtermFault d.rules ps set args drop f → ChoiceFault d ps set lines drop f
 
-choice_fault : (d : SystemData) (ps : List PairData) (set : List ℕ) (lines : List w.Arg) (drop : List ℕ) (f : SubtermFault) → IsSubtermFault d ps set lines drop f → ChoiceFault d ps set lines drop f
+choice_fault : (d : SystemData) (ps : List PairData) (set : List ℕ) (lines : List w.Arg) (drop : List ℕ) (f : SubtermFault)
+    → IsSubtermFault d ps set lines drop f → ChoiceFault d ps set lines drop f
 choice_fault d ps set lines drop projected.BadArgs not = no_args not
 choice_fault d ps set lines drop (projected.NoProjection f) (args, says, first) = with_args args says first.0 first
 choice_fault d ps set lines drop (projected.BadArgument f) (args, says, first) = with_args args says first.0 first
 choice_fault d ps set lines drop projected.BadDrop (args, says, first) = with_args args says first.0 first
 choice_fault d ps set lines drop (projected.NotDecreasing n) (args, says, first) = with_args args says first.0 first
 
-choice_fault_one : (d : SystemData) (ps : List PairData) (set : List ℕ) (lines : List w.Arg) (drop : List ℕ) (f g : SubtermFault) → AreDistinct d.fun_names → ChoiceFault d ps set lines drop f → ChoiceFault d ps set lines drop g → f ≡ g
+choice_fault_one : (d : SystemData) (ps : List PairData) (set : List ℕ) (lines : List w.Arg) (drop : List ℕ) (f g : SubtermFault)
+    → AreDistinct d.fun_names → ChoiceFault d ps set lines drop f → ChoiceFault d ps set lines drop g → f ≡ g
 choice_fault_one d ps set lines drop f g apart (no_args not) (no_args also) = refl
 choice_fault_one d ps set lines drop f g apart (no_args not) (with_args args says marked first) = absurd (not args says marked)
 choice_fault_one d ps set lines drop f g apart (with_args args says marked first) (no_args not) = absurd (not args says marked)
@@ -137,7 +145,8 @@ choice_fault_one d ps set lines drop f g apart (with_args args says marked first
     let one : args ≡ others = one_list_said d lines args others apart says also in
     subterm_fault_one d.rules ps set others drop f g (subst (λ (cs : List Chosen). IsFirstSubtermFault d.rules ps set cs drop f) one first) other
 
-choices_or_fault : (d : SystemData) (ps : List PairData) (set : List ℕ) (lines : List w.Arg) (args : List Chosen) (drop : List ℕ) (f : SubtermFault) → AreDistinct d.fun_names → SayChoices d lines args → IsProjection d.rules ps set args drop
+choices_or_fault : (d : SystemData) (ps : List PairData) (set : List ℕ) (lines : List w.Arg) (args : List Chosen) (drop : List ℕ)
+    (f : SubtermFault) → AreDistinct d.fun_names → SayChoices d lines args → IsProjection d.rules ps set args drop
     → ChoiceFault d ps set lines drop f → ⊥
 choices_or_fault d ps set lines args drop f apart says is (no_args not) = not args says is.marked
 choices_or_fault d ps set lines args drop f apart says is (with_args others also marked first) =
@@ -151,7 +160,8 @@ data KindFault (d : SystemData) (ps : List PairData) (set : List ℕ) : w.Node �
   of_blocks : {parts : List (List ℕ)} {f : BlockFault} → IsFirstBlockFault (Follows d.rules ps) set parts f → KindFault d ps set (w.blocks parts) (Blocks f)
   of_subterm : {lines : List w.Arg} {drop : List ℕ} {f : SubtermFault} → ChoiceFault d ps set lines drop f → KindFault d ps set (w.subterm lines drop) (Subterm f)
 
-kind_fault : (d : SystemData) (ps : List PairData) (set : List ℕ) (line : w.Node) (f : NodeFault) → IsNodeFault d ps set line f → KindFault d ps set line f
+kind_fault : (d : SystemData) (ps : List PairData) (set : List ℕ) (line : w.Node) (f : NodeFault) → IsNodeFault d ps set line f
+    → KindFault d ps set line f
 kind_fault d ps set w.done NotEmpty fault = of_done fault
 kind_fault d ps set w.done NotOne fault = absurd fault
 kind_fault d ps set w.done (Loops a) fault = absurd fault
@@ -173,23 +183,31 @@ kind_fault d ps set (w.subterm lines drop) (Loops a) fault = absurd fault
 kind_fault d ps set (w.subterm lines drop) (Blocks f) fault = absurd fault
 kind_fault d ps set (w.subterm lines drop) (Subterm f) fault = of_subterm (choice_fault d ps set lines drop f fault)
 
-kind_fault_one : (d : SystemData) (ps : List PairData) (set : List ℕ) (line : w.Node) (f g : NodeFault) → AreDistinct d.fun_names → KindFault d ps set line f → KindFault d ps set line g → f ≡ g
+kind_fault_one : (d : SystemData) (ps : List PairData) (set : List ℕ) (line : w.Node) (f g : NodeFault) → AreDistinct d.fun_names
+    → KindFault d ps set line f → KindFault d ps set line g → f ≡ g
 kind_fault_one d ps set w.done f g apart (of_done some) (of_done also) = refl
 kind_fault_one d ps set w.alone f g apart (of_alone other) (of_alone also) = refl
 kind_fault_one d ps set w.alone f g apart (of_alone other) (of_loop {a = a} is follows) = absurd (other a is)
 kind_fault_one d ps set w.alone f g apart (of_loop {a = a} is follows) (of_alone other) = absurd (other a is)
-kind_fault_one d ps set w.alone f g apart (of_loop {a = a} is follows) (of_loop {a = b} also again) = let both : a ∷ [] ≡ b ∷ [] = sym is ∙ also in let same : a ≡ b = cc both in ap Loops same
-kind_fault_one d ps set (w.blocks parts) f g apart (of_blocks {f = a} first) (of_blocks {f = b} other) = ap Blocks (block_fault_one (Follows d.rules ps) set parts a b first other)
-kind_fault_one d ps set (w.subterm lines drop) f g apart (of_subterm {f = a} first) (of_subterm {f = b} other) = ap Subterm (choice_fault_one d ps set lines drop a b apart first other)
+kind_fault_one d ps set w.alone f g apart (of_loop {a = a} is follows) (of_loop {a = b} also again) =
+    let both : a ∷ [] ≡ b ∷ [] = sym is ∙ also in let same : a ≡ b = cc both in ap Loops same
+kind_fault_one d ps set (w.blocks parts) f g apart (of_blocks {f = a} first) (of_blocks {f = b} other) =
+    ap Blocks (block_fault_one (Follows d.rules ps) set parts a b first other)
+kind_fault_one d ps set (w.subterm lines drop) f g apart (of_subterm {f = a} first) (of_subterm {f = b} other) =
+    ap Subterm (choice_fault_one d ps set lines drop a b apart first other)
 
-pub node_fault_one : (d : SystemData) (ps : List PairData) (set : List ℕ) (line : w.Node) (f g : NodeFault) → AreDistinct d.fun_names → IsNodeFault d ps set line f → IsNodeFault d ps set line g → f ≡ g
-node_fault_one d ps set line f g apart fault other = kind_fault_one d ps set line f g apart (kind_fault d ps set line f fault) (kind_fault d ps set line g other)
+pub node_fault_one : (d : SystemData) (ps : List PairData) (set : List ℕ) (line : w.Node) (f g : NodeFault) → AreDistinct d.fun_names
+    → IsNodeFault d ps set line f → IsNodeFault d ps set line g → f ≡ g
+node_fault_one d ps set line f g apart fault other =
+    kind_fault_one d ps set line f g apart (kind_fault d ps set line f fault) (kind_fault d ps set line g other)
 
-leaves_or_kind : (d : SystemData) (ps : List PairData) (set : List ℕ) (line : w.Node) (node : Node) (left : List (List ℕ)) (f : NodeFault) → AreDistinct d.fun_names → SaysNode d line node → Leaves d.rules ps set node left
+leaves_or_kind : (d : SystemData) (ps : List PairData) (set : List ℕ) (line : w.Node) (node : Node) (left : List (List ℕ))
+    (f : NodeFault) → AreDistinct d.fun_names → SaysNode d line node → Leaves d.rules ps set node left
     → KindFault d ps set line f → ⊥
 leaves_or_kind d ps set w.done node left f apart says by_done (of_done some) = some refl
 leaves_or_kind d ps set w.alone node left f apart says (by_alone {a = a} free) (of_alone other) = other a refl
-leaves_or_kind d ps set w.alone node left f apart says (by_alone {a = a} free) (of_loop {a = b} is follows) = let same : b ≡ a = cc is in free (subst (λ n. Follows d.rules ps n n) same follows)
+leaves_or_kind d ps set w.alone node left f apart says (by_alone {a = a} free) (of_loop {a = b} is follows) =
+    let same : b ≡ a = cc is in free (subst (λ n. Follows d.rules ps n n) same follows)
 leaves_or_kind d ps set (w.blocks listed) node left f apart says (by_blocks {parts = parts} are sets) (of_blocks {f = g} first) =
     blocks_or_fault (Follows d.rules ps) set parts g are (subst (λ (l : List (List ℕ)). IsFirstBlockFault (Follows d.rules ps) set l g) says first)
 leaves_or_kind d ps set (w.subterm lines listed) node left f apart says (by_subterm {drop = drop} {args = args} is kept) (of_subterm {f = g} first) =
@@ -207,6 +225,8 @@ leaves_or_kind d ps set (w.subterm lines listed) node left f apart says by_done 
 leaves_or_kind d ps set (w.subterm lines listed) node left f apart says (by_alone free) fault = elim says [ ]
 leaves_or_kind d ps set (w.subterm lines listed) node left f apart says (by_blocks are sets) fault = elim says [ ]
 
-pub leaves_or_fault : (d : SystemData) (ps : List PairData) (set : List ℕ) (line : w.Node) (node : Node) (left : List (List ℕ)) (f : NodeFault) → AreDistinct d.fun_names → SaysNode d line node → Leaves d.rules ps set node left
+pub leaves_or_fault : (d : SystemData) (ps : List PairData) (set : List ℕ) (line : w.Node) (node : Node) (left : List (List ℕ))
+    (f : NodeFault) → AreDistinct d.fun_names → SaysNode d line node → Leaves d.rules ps set node left
     → IsNodeFault d ps set line f → ⊥
-leaves_or_fault d ps set line node left f apart says leaves fault = leaves_or_kind d ps set line node left f apart says leaves (kind_fault d ps set line f fault)
+leaves_or_fault d ps set line node left f apart says leaves fault =
+    leaves_or_kind d ps set line node left f apart says leaves (kind_fault d ps set line f fault)

@@ -1,14 +1,14 @@
 -- What a node leaves: how many sets, and of which numbers.
-use Rattle.std.proofs.Common.{◌≡◌, ◌↔◌, ℕ, zero, suc, ◌+◌, ◌<◌, List, [], ◌∷◌, ◌++◌, length, Some, slice_get, All, Contains, refl, sym, ap, subst, ◌∙◌, arith}
-use Rattle.std.proofs.lemmas.List.Elements.{All-nil, All-cons, All-head, All-tail, All-contains}
+use Rattle.std.proofs.Common.{◌≡◌, ℕ, suc, List, [], ◌∷◌, length, All, refl, sym, ap, ◌∙◌}
+use Rattle.std.proofs.lemmas.List.Elements.{All-nil, All-cons, All-contains}
 use Rattle.wh_system.specs.Systems.{SystemData}
 use Rattle.wh_system.specs.PairData.{PairData}
 use Rattle.wh_terms.specs.Rules.{RewriteRule}
-use Rattle.wh_system.proofs.ByPlace.{contains_at, place_of}
+use Rattle.wh_system.proofs.ByPlace.{place_of}
 use Rattle.wh_graph.specs.Components.{IsIn}
 use Rattle.wh_cert.specs.Written as w
 use Rattle.wh_cert.specs.Written.{children}
-use Rattle.wh_nodes.specs.Nodes.{Node, done, alone, blocks, subterm, IsSetOf, AreSetsOf, no_sets, more_sets, IsKept, Leaves, by_done, by_alone, by_blocks, by_subterm}
+use Rattle.wh_nodes.specs.Nodes.{Node, done, alone, blocks, subterm, AreSetsOf, no_sets, more_sets, Leaves, by_done, by_alone, by_blocks, by_subterm}
 use Rattle.wh_checker.specs.Looked.{SaysNode}
 use Rattle.wh_checker.proofs.SetLemmas.{all_from_members}
 
@@ -19,7 +19,8 @@ sets_count [] (set ∷ sets) none = elim none [ ]
 sets_count (part ∷ parts) [] none = elim none [ ]
 
 -- a node leaves as many sets as its line has children
-pub leaves_count : (d : SystemData) (ps : List PairData) (set : List ℕ) (line : w.Node) (node : Node) (left : List (List ℕ)) → SaysNode d line node → Leaves d.rules ps set node left → length left ≡ children line
+pub leaves_count : (d : SystemData) (ps : List PairData) (set : List ℕ) (line : w.Node) (node : Node) (left : List (List ℕ))
+    → SaysNode d line node → Leaves d.rules ps set node left → length left ≡ children line
 leaves_count d ps set w.done done [] says by_done = refl
 leaves_count d ps set w.alone alone [] says (by_alone free) = refl
 leaves_count d ps set (w.blocks listed) (blocks parts) left says (by_blocks are sets) = sets_count parts left sets ∙ ap length (sym says)
@@ -49,7 +50,8 @@ sets_within P [] (set ∷ sets) none each = elim none [ ]
 sets_within P (part ∷ parts) [] none each = elim none [ ]
 
 -- what holds of the numbers of a set holds of those of what is left of it
-pub left_within : (rules : List RewriteRule) (ps : List PairData) (P : ℕ → Type 0) (set : List ℕ) (node : Node) (left : List (List ℕ)) → Leaves rules ps set node left → All P set → All (All P) left
+pub left_within : (rules : List RewriteRule) (ps : List PairData) (P : ℕ → Type 0) (set : List ℕ) (node : Node) (left : List (List ℕ))
+    → Leaves rules ps set node left → All P set → All (All P) left
 left_within rules ps P set done [] by_done all = All-nil (All P)
 left_within rules ps P set alone [] (by_alone free) all = All-nil (All P)
 left_within rules ps P set (blocks parts) left (by_blocks are sets) all =

@@ -1,5 +1,5 @@
 -- Increasing lists as sets, built by pushes.
-use Rattle.std.proofs.Common.{◌≡◌, ◌↔◌, ℕ, ◌+◌, ◌-◌, ◌<◌, ◌≤◌, ◌⊎◌, inl, inr, List, [], ◌∷◌, ◌++◌, length, get_or, Some, Result, Ok, Err, IfOk, slice_get, All, Contains, refl, sym, ap, subst, ◌∙◌, arith}
+use Rattle.std.proofs.Common.{◌≡◌, ◌↔◌, ℕ, ◌+◌, ◌-◌, ◌<◌, ◌≤◌, ◌⊎◌, inl, inr, List, [], ◌∷◌, ◌++◌, length, get_or, Some, Result, Ok, Err, IfOk, slice_get, All, Contains, sym, ap, subst, ◌∙◌, arith}
 use Rattle.std.proofs.lemmas.Bool.{cases_eq, cases_lt}
 use Rattle.std.proofs.lemmas.Option.{slice_get_within, get_or_from_slice_get}
 use Rattle.std.proofs.lemmas.List.Sorted.{Contains-permutation, IsPermutation-sym}
@@ -24,7 +24,8 @@ set_same P Q set is same = record {
   each = λ n. (λ found. (same n).0 ((is.each n).0 found), λ q. (is.each n).1 ((same n).1 q));
 }
 
-pub set_push : (P Q : ℕ → Type 0) (set : List ℕ) (n : ℕ) → IsSetOf P set → ((m : ℕ) → P m → m < n) → ((m : ℕ) → Q m ↔ (P m ⊎ (m ≡ n))) → IsSetOf Q (set ++ n ∷ [])
+pub set_push : (P Q : ℕ → Type 0) (set : List ℕ) (n : ℕ) → IsSetOf P set → ((m : ℕ) → P m → m < n) → ((m : ℕ) → Q m ↔ (P m ⊎ (m ≡ n)))
+    → IsSetOf Q (set ++ n ∷ [])
 set_push P Q set n is above more = record {
   increasing = increasing_push set n is.increasing (all_from_members (λ m. m < n) set (λ m found. above m ((is.each m).0 found)));
   each = λ m. (
@@ -83,11 +84,13 @@ not_greater xs i n m up at (k, below, there) =
     omega (arith, less, m_is, n_is)
 
 -- the set of what stands before a place of a list in which numbers do not fall, one more place
-pub distinct_push : (xs set : List ℕ) (i n : ℕ) → slice_get xs i ≡ Some n → IsSetOf (StandsBefore xs i) set → All (λ m. m < n) set → IsSetOf (StandsBefore xs (i + 1)) (set ++ n ∷ [])
+pub distinct_push : (xs set : List ℕ) (i n : ℕ) → slice_get xs i ≡ Some n → IsSetOf (StandsBefore xs i) set → All (λ m. m < n) set
+    → IsSetOf (StandsBefore xs (i + 1)) (set ++ n ∷ [])
 distinct_push xs set i n at is below =
     set_push (StandsBefore xs i) (StandsBefore xs (i + 1)) set n is (λ m stands. All-contains (λ k. k < n) set m below ((is.each m).1 stands)) (before_next xs i n at)
 
-pub distinct_skip : (xs set : List ℕ) (i n : ℕ) → IsNonDecreasing xs → slice_get xs i ≡ Some n → IsSetOf (StandsBefore xs i) set → (All (λ m. m < n) set → ⊥) → IsSetOf (StandsBefore xs (i + 1)) set
+pub distinct_skip : (xs set : List ℕ) (i n : ℕ) → IsNonDecreasing xs → slice_get xs i ≡ Some n → IsSetOf (StandsBefore xs i) set
+    → (All (λ m. m < n) set → ⊥) → IsSetOf (StandsBefore xs (i + 1)) set
 distinct_skip xs set i n up at is not_below =
     let there : Contains set n = elim (contains_or_not set n) [
       | inl found ↦ found
@@ -114,7 +117,8 @@ kept_less xs drop i n up at m ((k, below, there), undropped) =
     let n_is = get_or_from_slice_get xs i n 0 at in
     omega (arith, less, m_is, n_is)
 
-pub kept_push : (xs drop rest : List ℕ) (i n : ℕ) → IsIncreasing xs → slice_get xs i ≡ Some n → (Contains drop n → ⊥) → IsSetOf (KeptBefore xs drop i) rest → IsSetOf (KeptBefore xs drop (i + 1)) (rest ++ n ∷ [])
+pub kept_push : (xs drop rest : List ℕ) (i n : ℕ) → IsIncreasing xs → slice_get xs i ≡ Some n → (Contains drop n → ⊥)
+    → IsSetOf (KeptBefore xs drop i) rest → IsSetOf (KeptBefore xs drop (i + 1)) (rest ++ n ∷ [])
 kept_push xs drop rest i n up at free is =
     set_push (KeptBefore xs drop i) (KeptBefore xs drop (i + 1)) rest n is
     (kept_less xs drop i n up at)
@@ -126,7 +130,8 @@ kept_push xs drop rest i n up at free is =
       ],
     ))
 
-pub kept_skip : (xs drop rest : List ℕ) (i n : ℕ) → slice_get xs i ≡ Some n → Contains drop n → IsSetOf (KeptBefore xs drop i) rest → IsSetOf (KeptBefore xs drop (i + 1)) rest
+pub kept_skip : (xs drop rest : List ℕ) (i n : ℕ) → slice_get xs i ≡ Some n → Contains drop n → IsSetOf (KeptBefore xs drop i) rest
+    → IsSetOf (KeptBefore xs drop (i + 1)) rest
 kept_skip xs drop rest i n at dropped is =
     set_same (KeptBefore xs drop i) (KeptBefore xs drop (i + 1)) rest is (λ m. (
       λ (stands, undropped). ((before_next xs i n at m).1 (inl stands), undropped),
@@ -146,11 +151,13 @@ pub set_sorted : (xs ys set : List ℕ) → IsPermutation xs ys → IsSetOf (Con
 set_sorted xs ys set moved is =
     set_same (Contains ys) (Contains xs) set is (λ n. (Contains-permutation ys xs n (IsPermutation-sym xs ys moved), Contains-permutation xs ys n moved))
 
-pub kept_above : (xs drop rest : List ℕ) (i n : ℕ) → IsIncreasing xs → slice_get xs i ≡ Some n → IsSetOf (KeptBefore xs drop i) rest → All (λ m. m < n) rest
+pub kept_above : (xs drop rest : List ℕ) (i n : ℕ) → IsIncreasing xs → slice_get xs i ≡ Some n → IsSetOf (KeptBefore xs drop i) rest
+    → All (λ m. m < n) rest
 kept_above xs drop rest i n up at is = all_from_members (λ m. m < n) rest (λ m found. kept_less xs drop i n up at m ((is.each m).0 found))
 
 -- whether a number is above the last one of an increasing list, and so above all
-pub above_last : (set : List ℕ) (last n : ℕ) → IsIncreasing set → slice_get set (length set - 1) ≡ Some last → last < n ↔ All (λ m. m < n) set
+pub above_last : (set : List ℕ) (last n : ℕ) → IsIncreasing set → slice_get set (length set - 1) ≡ Some last
+    → last < n ↔ All (λ m. m < n) set
 above_last set last n up at = (
   λ less. all_from_members (λ m. m < n) set (λ m found.
       let there = place_of set m found in
@@ -168,6 +175,7 @@ above_last set last n up at = (
   λ all. All-contains (λ m. m < n) set last all (contains_at set (length set - 1) last at),
 )
 
-pub ok_sorted : {E : Type 0} (xs ys : List ℕ) (r : Result (List ℕ) E) → IsPermutation xs ys → IfOk r (IsSetOf (Contains ys)) → IfOk r (IsSetOf (Contains xs))
+pub ok_sorted : {E : Type 0} (xs ys : List ℕ) (r : Result (List ℕ) E) → IsPermutation xs ys → IfOk r (IsSetOf (Contains ys))
+    → IfOk r (IsSetOf (Contains xs))
 ok_sorted xs ys (Ok set) moved is = set_sorted xs ys set moved is
 ok_sorted xs ys (Err e) moved is = tt

@@ -1,5 +1,5 @@
 -- The walk through the nodes: where it begins, one node further, and where it ends.
-use Rattle.std.proofs.Common.{◌≡◌, ℕ, suc, ◌+◌, ◌<◌, ◌≤◌, List, [], ◌∷◌, ◌++◌, length, map, reverse, drop, get_or, All, refl, sym, ap, subst, ◌∙◌, add-one, arith}
+use Rattle.std.proofs.Common.{◌≡◌, ℕ, suc, ◌+◌, ◌<◌, ◌≤◌, List, [], ◌∷◌, ◌++◌, length, map, reverse, drop, get_or, All, sym, ap, subst, ◌∙◌, add-one}
 use Rattle.std.proofs.lemmas.List.{length-append, drop_more, drop_all}
 use Rattle.std.proofs.lemmas.List.Elements.{All-nil, All-cons, All-head, All-tail, All-append}
 use Rattle.wh_system.specs.Systems.{SystemData}
@@ -8,9 +8,7 @@ use Rattle.wh_cert.specs.Written as w
 use Rattle.wh_cert.specs.Written.{children, Preorder}
 use Rattle.wh_cert.specs.Said.{said_node}
 use Rattle.wh_cert.specs.declared.certificate.Node as code
-use Rattle.wh_nodes.specs.Nodes.{Node}
-use Rattle.wh_nodes.specs.Proves.{Proves, all_proved, one_proved}
-use Rattle.wh_checker.specs.Looked.{SaysNode, SayNodes}
+use Rattle.wh_nodes.specs.Proves.{all_proved, one_proved}
 use Rattle.wh_checker.specs.Faults.{IsNodeFault, IsFirstNodeFault, at_first, behind_first}
 use Rattle.wh_checker.specs.Walk.{GoesOn, AreProvedBy, HasCome}
 use Rattle.wh_checker.specs.declared.rejected.NodeFault.{NodeFault}
@@ -20,7 +18,8 @@ use Rattle.wh_checker.proofs.GoLemmas.{reverse_push}
 abbrev Below : List PairData → List ℕ → Type 0
 Below ps = All (λ n. n < length ps)
 
-pub come_first : (d : SystemData) (ps : List PairData) (set : List ℕ) (lines : List w.Node) → Below ps set → Preorder 1 lines → HasCome d ps set lines 0 (set ∷ []) lines
+pub come_first : (d : SystemData) (ps : List PairData) (set : List ℕ) (lines : List w.Node) → Below ps set → Preorder 1 lines
+    → HasCome d ps set lines 0 (set ∷ []) lines
 come_first d ps set lines within counted = record {
   within = All-cons (Below ps) set [] within (All-nil (Below ps));
   counted = counted;
@@ -29,10 +28,12 @@ come_first d ps set lines within counted = record {
 }
 
 -- where lines are left, a set is open
-pub come_open : (d : SystemData) (ps : List PairData) (set : List ℕ) (lines : List w.Node) (k : ℕ) (line : w.Node) (left : List w.Node) → HasCome d ps set lines k [] (line ∷ left) → ⊥
+pub come_open : (d : SystemData) (ps : List PairData) (set : List ℕ) (lines : List w.Node) (k : ℕ) (line : w.Node) (left : List w.Node)
+    → HasCome d ps set lines k [] (line ∷ left) → ⊥
 come_open d ps set lines k line left come = come.counted
 
-pub come_next : (d : SystemData) (ps : List PairData) (set : List ℕ) (lines : List w.Node) (k : ℕ) (here : List ℕ) (sets after : List (List ℕ)) (line : w.Node) (left : List w.Node)
+pub come_next : (d : SystemData) (ps : List PairData) (set : List ℕ) (lines : List w.Node) (k : ℕ) (here : List ℕ)
+    (sets after : List (List ℕ)) (line : w.Node) (left : List w.Node)
     → HasCome d ps set lines k (here ∷ sets) (line ∷ left) → GoesOn d ps here line sets after → HasCome d ps set lines (k + 1) after left
 come_next d ps set lines k here sets after line left come goes =
     let below = All-head (Below ps) here sets come.within in
@@ -45,17 +46,21 @@ come_next d ps set lines k here sets after line left come goes =
     } in
     subst (λ n. HasCome d ps set lines n after left) (sym (add-one k)) (subst (λ s. HasCome d ps set lines (suc k) s left) (sym goes.after_is) joined)
 
-pub come_fault : (d : SystemData) (ps : List PairData) (set : List ℕ) (lines : List w.Node) (k : ℕ) (here : List ℕ) (sets : List (List ℕ)) (line : w.Node) (left : List w.Node) (f : NodeFault)
+pub come_fault : (d : SystemData) (ps : List PairData) (set : List ℕ) (lines : List w.Node) (k : ℕ) (here : List ℕ) (sets : List (List ℕ))
+    (line : w.Node) (left : List w.Node) (f : NodeFault)
     → HasCome d ps set lines k (here ∷ sets) (line ∷ left) → IsNodeFault d ps here line f → IsFirstNodeFault d ps 0 (set ∷ []) lines k f
 come_fault d ps set lines k here sets line left f come fault = come.first k f (at_first fault)
 
-pub come_last : (d : SystemData) (ps : List PairData) (set : List ℕ) (lines : List w.Node) (k : ℕ) (sets : List (List ℕ)) → HasCome d ps set lines k sets [] → AreProvedBy d ps (set ∷ []) lines
+pub come_last : (d : SystemData) (ps : List PairData) (set : List ℕ) (lines : List w.Node) (k : ℕ) (sets : List (List ℕ))
+    → HasCome d ps set lines k sets [] → AreProvedBy d ps (set ∷ []) lines
 come_last d ps set lines k [] come = come.proved ([], tt, all_proved)
 come_last d ps set lines k (here ∷ sets) come = absurd come.counted
 
 -- the walk at a node, where the stack has a set on top
-pub come_here : (d : SystemData) (ps : List PairData) (set : List ℕ) (lines : List w.Node) (k : ℕ) (stack rest : List (List ℕ)) (here : List ℕ) (nodes : List code.Node) (node : code.Node)
-    → HasCome d ps set lines k (reverse stack) (map said_node (drop k nodes)) → stack ≡ rest ++ here ∷ [] → k < length nodes → node ≡ get_or nodes k node
+pub come_here : (d : SystemData) (ps : List PairData) (set : List ℕ) (lines : List w.Node) (k : ℕ) (stack rest : List (List ℕ))
+    (here : List ℕ) (nodes : List code.Node) (node : code.Node)
+    → HasCome d ps set lines k (reverse stack) (map said_node (drop k nodes)) → stack ≡ rest ++ here ∷ [] → k < length nodes
+    → node ≡ get_or nodes k node
     → HasCome d ps set lines k (here ∷ reverse rest) (said_node node ∷ map said_node (drop (k + 1) nodes))
 come_here d ps set lines k stack rest here nodes node come top within is =
     let split : drop k nodes ≡ node ∷ drop (k + 1) nodes = subst (λ (n : code.Node). drop k nodes ≡ n ∷ drop (k + 1) nodes) (sym is) (drop_more nodes k node within) in
@@ -63,7 +68,8 @@ come_here d ps set lines k stack rest here nodes node come top within is =
     subst (λ (l : List w.Node). HasCome d ps set lines k (here ∷ reverse rest) l) (ap (map said_node) split) (subst (λ (s : List (List ℕ)). HasCome d ps set lines k s (map said_node (drop k nodes))) turned come)
 
 -- the walk where no node is left
-pub come_over : (d : SystemData) (ps : List PairData) (set : List ℕ) (lines : List w.Node) (k : ℕ) (sets : List (List ℕ)) (nodes : List code.Node) → HasCome d ps set lines k sets (map said_node (drop k nodes)) → length nodes ≤ k
+pub come_over : (d : SystemData) (ps : List PairData) (set : List ℕ) (lines : List w.Node) (k : ℕ) (sets : List (List ℕ))
+    (nodes : List code.Node) → HasCome d ps set lines k sets (map said_node (drop k nodes)) → length nodes ≤ k
     → AreProvedBy d ps (set ∷ []) lines
 come_over d ps set lines k sets nodes come past =
     come_last d ps set lines k sets (subst (λ (l : List w.Node). HasCome d ps set lines k sets l) (ap (map said_node) (drop_all k nodes past)) come)

@@ -1,5 +1,5 @@
 -- The parts of the check of a YES certificate, put together.
-use Rattle.std.proofs.Common.{◌≡◌, ◌≢◌, ℕ, List, [], ◌∷◌, length, Result, Ok, Err, OnOk, IsErrAnd, refl, sym, ap, subst, ◌∙◌}
+use Rattle.std.proofs.Common.{◌≡◌, ℕ, List, [], ◌∷◌, length, Result, Ok, Err, OnOk, IsErrAnd, sym, subst}
 use Rattle.wh_types.specs.Outcome.{IfBecause, MatchOr}
 use Rattle.wh_types.specs.declared.want.Or.{Or}
 use Rattle.wh_types.specs.declared.want.Or.TheVariants.{NoMemory, Because}
@@ -7,7 +7,7 @@ use Rattle.wh_system.specs.Systems.{SystemData}
 use Rattle.wh_system.specs.PairData.{PairData}
 use Rattle.wh_cert.specs.Written as w
 use Rattle.wh_checker.specs.Valid.{IsWhole, IsValidYes}
-use Rattle.wh_checker.specs.Faults.{IsFirstNodeFault, at_node, IsFirstYesFault, rank_count, inaccessible, pair_count, in_node}
+use Rattle.wh_checker.specs.Faults.{IsFirstNodeFault, at_node, IsFirstYesFault, rank_count, inaccessible, in_node}
 use Rattle.wh_checker.specs.Walk.{IsPassingUnder, IsRankFault, AreProvedBy}
 use Rattle.wh_checker.specs.declared.rejected.NodeFault.{NodeFault}
 use Rattle.wh_checker.specs.declared.rejected.Rejected.{Rejected}
@@ -17,13 +17,15 @@ because_one : {x y : Rejected} → ◌≡◌ {A = Or Rejected} (Because x) (Beca
 because_one e = cc
 
 -- the cause of one part, as the cause of the whole
-pub passed_on : {T U : Type 0} (r : Result T (Or Rejected)) (e : Or Rejected) (P : U → Type 0) (Q R : Rejected → Type 0) → IsErrAnd r (λ x. x ≡ e) → MatchOr (Err e) P Q → ((f : Rejected) → Q f → R f) → IfBecause r R
+pub passed_on : {T U : Type 0} (r : Result T (Or Rejected)) (e : Or Rejected) (P : U → Type 0) (Q R : Rejected → Type 0)
+    → IsErrAnd r (λ x. x ≡ e) → MatchOr (Err e) P Q → ((f : Rejected) → Q f → R f) → IfBecause r R
 passed_on (Ok x) e P Q R same h k = tt
 passed_on (Err NoMemory) e P Q R same h k = tt
 passed_on (Err (Because f)) NoMemory P Q R same h k = absurd (cc)
 passed_on (Err (Because f)) (Because g) P Q R same h k = k f (subst Q (sym (because_one same)) h)
 
-pub rank_fault : (d : SystemData) (ps : List PairData) (ranks : List ℕ) (pairs : ℕ) (lines : List w.Node) (r : Rejected) → IsRankFault d ranks r → IsFirstYesFault d ps ranks pairs lines r
+pub rank_fault : (d : SystemData) (ps : List PairData) (ranks : List ℕ) (pairs : ℕ) (lines : List w.Node) (r : Rejected)
+    → IsRankFault d ranks r → IsFirstYesFault d ps ranks pairs lines r
 rank_fault d ps ranks pairs lines row.RankCount not = rank_count not
 rank_fault d ps ranks pairs lines (row.Inaccessible r z) (count, first) = inaccessible count first
 rank_fault d ps ranks pairs lines (row.PairCount n) fault = absurd fault
@@ -45,7 +47,8 @@ rank_fault d ps ranks pairs lines (row.TooBig i) fault = absurd fault
 rank_fault d ps ranks pairs lines (row.BadPut i) fault = absurd fault
 rank_fault d ps ranks pairs lines row.NoInstance fault = absurd fault
 
-pub valid_yes : (d : SystemData) (ps : List PairData) (ranks : List ℕ) (pairs : ℕ) (lines : List w.Node) (set : List ℕ) → IsPassingUnder d ranks → pairs ≡ length ps → IsWhole ps set → AreProvedBy d ps (set ∷ []) lines
+pub valid_yes : (d : SystemData) (ps : List PairData) (ranks : List ℕ) (pairs : ℕ) (lines : List w.Node) (set : List ℕ)
+    → IsPassingUnder d ranks → pairs ≡ length ps → IsWhole ps set → AreProvedBy d ps (set ∷ []) lines
     → IsValidYes d ps ranks pairs lines
 valid_yes d ps ranks pairs lines set (count, passing) right whole (nodes, says, proves) =
     record { rank_count = count; passing = passing; pair_count = right; set = set; whole = whole; nodes = nodes; says = says; proves = proves }
@@ -54,9 +57,11 @@ valid_yes d ps ranks pairs lines set (count, passing) right whole (nodes, says, 
 abbrev pub FaultInNodes : SystemData → List PairData → List ℕ → List w.Node → Rejected → Type 0
 FaultInNodes d ps set lines r = (k : ℕ) × (f : NodeFault) × (r ≡ at_node k f) × IsFirstNodeFault d ps 0 (set ∷ []) lines k f
 
-pub node_fault : (d : SystemData) (ps : List PairData) (ranks : List ℕ) (pairs : ℕ) (lines : List w.Node) (set : List ℕ) → IsPassingUnder d ranks → pairs ≡ length ps → IsWhole ps set
+pub node_fault : (d : SystemData) (ps : List PairData) (ranks : List ℕ) (pairs : ℕ) (lines : List w.Node) (set : List ℕ)
+    → IsPassingUnder d ranks → pairs ≡ length ps → IsWhole ps set
     → (r : Rejected) → FaultInNodes d ps set lines r → IsFirstYesFault d ps ranks pairs lines r
-node_fault d ps ranks pairs lines set (count, passing) right whole r (k, f, is, first) = subst (IsFirstYesFault d ps ranks pairs lines) (sym is) (in_node count passing right whole first)
+node_fault d ps ranks pairs lines set (count, passing) right whole r (k, f, is, first) =
+    subst (IsFirstYesFault d ps ranks pairs lines) (sym is) (in_node count passing right whole first)
 
 pub ok_weaker : {T E : Type 0} (r : Result T E) (P Q : Type 0) → OnOk r P → (P → Q) → OnOk r Q
 ok_weaker (Ok x) P Q p then = then p

@@ -1,5 +1,5 @@
 -- What the lines of a YES certificate say over a system, once the names in them are looked up.
-use Rattle.std.specs.Prelude.{ℕ, ◌≡◌, List, [], ◌∷◌, Some, slice_get}
+use Rattle.std.specs.Prelude.{◌≡◌, List, [], ◌∷◌, Some, slice_get}
 use Rattle.wh_system.specs.Systems.{SystemData}
 use Rattle.wh_cert.specs.Written as w
 use Rattle.wh_subterm.specs.Projections.{Chosen}

@@ -33,7 +33,8 @@ IsSingle rules ps set = (a : ℕ) × (set ≡ a ∷ []) × (Follows rules ps a a
 
 -- the lines say choices under which the pairs of the drop list may go, and these are the others
 abbrev pub IsReduced : SystemData → List PairData → List ℕ → List w.Arg → List ℕ → List ℕ → Type 0
-IsReduced d ps set lines drop rest = (args : List Chosen) × SayChoices d lines args × IsProjection d.rules ps set args drop × IsSetOf (IsKept set drop) rest
+IsReduced d ps set lines drop rest =
+    (args : List Chosen) × SayChoices d lines args × IsProjection d.rules ps set args drop × IsSetOf (IsKept set drop) rest
 
 -- the lines of a node say one whose conditions hold of the set, and what it leaves comes before the other sets
 pub record GoesOn (d : SystemData) (ps : List PairData) (set : List ℕ) (line : w.Node) (sets after : List (List ℕ)) : Type 0 where

@@ -1,6 +1,6 @@
 //! The check of a certificate.
 
-ghost use Rattle.std.specs.Prelude.{◌≡◌, ◌≤◌,  IfErr, IfOk, OnOk, length, map};
+ghost use Rattle.std.specs.Prelude.{◌≡◌, ◌≤◌, IfErr, IfOk, OnOk, length, map};
 ghost use Rattle.wh_types.specs.Outcome.{IfBecause, MatchOr};
 ghost use Rattle.wh_system.specs.SystemView.{system_data};
 ghost use Rattle.wh_access.specs.Passing.{IsPassing};
@@ -8,7 +8,7 @@ ghost use Rattle.wh_pairs.specs.SystemPairs.{HasPairs};
 ghost use Rattle.wh_pairs.specs.Views.{pairs_data};
 ghost use Rattle.wh_cert.specs.Limits.{IsCert};
 ghost use Rattle.wh_cert.specs.Said.{said, said_node, said_no, said_yes};
-ghost use Rattle.wh_checker.specs.Accepted.{IsAccepted};
+ghost use Rattle.wh_checker.specs.Accepted.{AreBounded, IsAccepted, IsBoundedAtYes};
 ghost use Rattle.wh_checker.specs.Faults.{IsFirstFault, IsFirstYesFault};
 ghost use Rattle.wh_checker.specs.Valid.{IsValidYes};
 ghost use Rattle.wh_checker.specs.Walk.{IsPassingUnder, IsRankFault};
@@ -20,6 +20,7 @@ use std::alloc::Global;
 use wh_access::{Inaccessible, check_ranks};
 use wh_cert::{Certificate, NoCertificate, YesCertificate};
 use wh_no::{AcceptedNo, check_no};
+use wh_nodes::proved_systems_are_bounded;
 use wh_system::{PairList, System};
 use wh_types::{Or, Ranks};
 
@@ -40,7 +41,8 @@ pub struct AcceptedYes {
 }
 
 /// Checks a certificate over a system and its dependency pairs. It is accepted exactly where it is valid; else the first
-/// condition of a valid certificate that is false is named. The certificate is one that `read_certificate` gives.
+/// condition of a valid certificate that is false is named. The certificate is one that `read_certificate` gives. Where the
+/// answer is YES, each well-typed term over the system has a longest reduction (Kop 2012; Fuhs and Kop 2019).
 pub fn check(
     alloc: Global,
     system: &System,
@@ -51,6 +53,7 @@ pub fn check(
     requires certificate { IsCert (said certificate.now) }
     ensures accepted { IfOk result (IsAccepted (system_data system.now) (pairs_data pairs.now) (said certificate.now)) }
     ensures rejected { IfBecause result (IsFirstFault (system_data system.now) (pairs_data pairs.now) (said certificate.now)) }
+    ensures bounded { IfOk result (IsBoundedAtYes (system_data system.now)) }
 {
     match certificate {
         Certificate::Yes(certificate) => {
@@ -74,11 +77,14 @@ fn check_yes(
     pairs: &PairList,
     certificate: &YesCertificate,
 ) -> Result<(), Or<Rejected>>
-    requires pairs { length pairs.now ≤ 4096 }
+    requires pairs { HasPairs (system_data system.now) (pairs_data pairs.now) }
     requires certificate { IsCert (said_yes certificate.now) }
     ensures valid { OnOk result (IsValidYes (system_data system.now) (pairs_data pairs.now) certificate.now.ranks certificate.now.pairs (map said_node certificate.now.nodes)) }
     ensures fault { IfBecause result (IsFirstYesFault (system_data system.now) (pairs_data pairs.now) certificate.now.ranks certificate.now.pairs (map said_node certificate.now.nodes)) }
+    ensures bounded { OnOk result (AreBounded (system_data system.now)) }
 {
+    system.is_well_made();
+    proved_systems_are_bounded();
     check_passing(alloc, system, certificate.ranks.as_slice())?;
     let count = pairs.as_slice().len() as u32;
     if certificate.pairs != count {

@@ -1,4 +1,4 @@
-use Rattle.std.proofs.Common.{List, ℕ, ap, subst, ◌∙◌}
+use Rattle.std.proofs.Common.{ap, subst, ◌∙◌}
 use Rattle.wh_terms.specs.Typing.{Symbols}
 use Rattle.wh_system.specs.SystemView.{system_data}
 use Rattle.wh_access.specs.Passing.{IsPassing}

@@ -48,7 +48,7 @@ returns-clause-valid c =
     let set = c.in_ok-whole.whole in
     let whole = subst (λ n. IsSetOf (λ m. m < n) set) count c.in_ok-whole.ensures in
     ok_weaker c.check_nodes.result _ _ c.check_nodes.ensures.proved (λ proved.
-        valid_yes d ps cert.ranks cert.pairs (map said_node cert.nodes) set passing (c.if-certificate-count.false ∙ count) whole (subst (λ (l : List Node). AreProvedBy d ps (set ∷ []) (map said_node l)) c.as_slice-3.ensures proved))
+    valid_yes d ps cert.ranks cert.pairs (map said_node cert.nodes) set passing (c.if-certificate-count.false ∙ count) whole (subst (λ (l : List Node). AreProvedBy d ps (set ∷ []) (map said_node l)) c.as_slice-3.ensures proved))
 
 pub returns-clause-fault : goal.returns-clause-fault
 returns-clause-fault c =
@@ -60,4 +60,16 @@ returns-clause-fault c =
     let set = c.in_ok-whole.whole in
     let whole = subst (λ n. IsSetOf (λ m. m < n) set) count c.in_ok-whole.ensures in
     cause_weaker c.check_nodes.result (FaultInNodes d ps set (map said_node c.as_slice-3.result.now)) _ c.check_nodes.ensures.fault (λ r fault.
-        node_fault d ps cert.ranks cert.pairs (map said_node cert.nodes) set passing (c.if-certificate-count.false ∙ count) whole r (subst (λ (l : List Node). FaultInNodes d ps set (map said_node l) r) c.as_slice-3.ensures fault))
+    node_fault d ps cert.ranks cert.pairs (map said_node cert.nodes) set passing (c.if-certificate-count.false ∙ count) whole r (subst (λ (l : List Node). FaultInNodes d ps set (map said_node l) r) c.as_slice-3.ensures fault))
+
+pub returns-clause-bounded : goal.returns-clause-bounded
+returns-clause-bounded c =
+    let d = system_data c.args.system.now in
+    let ps = pairs_data c.args.pairs.now in
+    let cert = c.args.certificate.now in
+    let passing = subst (IsPassingUnder d) c.as_slice.ensures c.in_ok-check_passing.ensures in
+    let count : length c.as_slice-2.result.now ≡ length ps = ap (λ (l : List Pair). length l) c.as_slice-2.ensures ∙ sym (length-map c.args.pairs.now pair_data) in
+    let set = c.in_ok-whole.whole in
+    let whole = subst (λ n. IsSetOf (λ m. m < n) set) count c.in_ok-whole.ensures in
+    ok_weaker c.check_nodes.result _ _ c.check_nodes.ensures.proved (λ (nodes, says, proves).
+    c.proved_systems_are_bounded.ensures d cert.ranks ps set nodes c.is_well_made.ensures passing.1 c.requires.pairs.are (λ n below. (whole.each n).1 below) proves)

@@ -1,4 +1,4 @@
-use Rattle.std.proofs.Common.{◌≡◌, ◌≤◌, ◌<◌, ◌+◌, ℕ, List, [], ◌∷◌, ◌++◌, Some, length, map, take, drop, slice_get, refl, sym, subst, ap, ◌∙◌, arith}
+use Rattle.std.proofs.Common.{◌≡◌, ◌<◌, ◌+◌, ℕ, List, [], ◌∷◌, ◌++◌, Some, length, map, take, drop, slice_get, refl, sym, subst, ap, ◌∙◌, arith}
 use Rattle.std.proofs.lemmas.Option.{slice_get_within}
 use Rattle.wh_system.specs.SystemView.{system_data}
 use Rattle.wh_subterm.specs.Projections.{Chosen}
@@ -26,9 +26,9 @@ returns-then-symbol-names c =
     let arg = c.arg-item.result in
     let leaves = subst (λ (l : List w.Arg). LeavesChoices d (map said_arg args) l c.loop-arg.next) (left_said args i arg c.loop-arg-test.true c.arg-item.is) c.loop-arg.invariant.2 in
     leaves_none d (map said_arg args) (map said_arg (drop (i + 1) args)) (said_arg arg) c.loop-arg.next leaves (λ k from at.
-        let there = subst (λ (l : List (List ℕ)). slice_get l k ≡ Some arg.name) (sym c.fun_names-names.ensures) at in
-        let within = slice_get_within names k arg.name there in
-        c.symbol_from-symbol.ensures.first k from (omega (arith, c.if-symbol-names.true)) there)
+    let there = subst (λ (l : List (List ℕ)). slice_get l k ≡ Some arg.name) (sym c.fun_names-names.ensures) at in
+    let within = slice_get_within names k arg.name there in
+    c.symbol_from-symbol.ensures.first k from (omega (arith, c.if-symbol-names.true)) there)
 
 pub loop-arg-preserved : goal.loop-arg-preserved
 loop-arg-preserved c =

@@ -1,4 +1,4 @@
-use Rattle.std.proofs.Common.{get_or, arith}
+use Rattle.std.proofs.Common.{arith}
 use Rattle.wh_system.specs.SystemView.{system_data}
 use Rattle.wh_checker.proofs.GoLemmas.{single}
 use Rattle.wh_checker.proofs.node.check_alone.Goals as goal

@@ -27,8 +27,8 @@ returns-in-Alone-clause-proved c =
     let set = c.args.set.now in
     let sets = reverse c.args.stack.now.items in
     ok_then c.check_alone.result _ _ _ c.check_alone.ensures (λ one.
-        let here = subst (λ (l : List ℕ). IsSingle d.rules ps l) c.as_slice-in-Alone.ensures.numbers (subst (λ (l : List Pair). IsSingle d.rules (pairs_data l) c.as_slice-in-Alone.result.now) c.as_slice.ensures one) in
-        subst (λ (n : Node). GoesOn d ps set (said_node n) sets sets) (sym c.in-Alone.is) (goes_alone d ps set sets here))
+    let here = subst (λ (l : List ℕ). IsSingle d.rules ps l) c.as_slice-in-Alone.ensures.numbers (subst (λ (l : List Pair). IsSingle d.rules (pairs_data l) c.as_slice-in-Alone.result.now) c.as_slice.ensures one) in
+    subst (λ (n : Node). GoesOn d ps set (said_node n) sets sets) (sym c.in-Alone.is) (goes_alone d ps set sets here))
 
 pub returns-in_ok-open_blocks-in-Blocks-clause-proved : goal.returns-in_ok-open_blocks-in-Blocks-clause-proved
 returns-in_ok-open_blocks-in-Blocks-clause-proved c =

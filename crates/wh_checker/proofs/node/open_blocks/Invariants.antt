@@ -3,4 +3,5 @@ use Rattle.wh_nodes.specs.Nodes.{AreSetsOf}
 use Rattle.wh_checker.proofs.node.open_blocks.Given as goal
 
 abbrev pub invariant-loop-i : goal.invariant-loop-i
-invariant-loop-i l = (sets : List (List ℕ)) × AreSetsOf (drop l.i l.blocks) sets × (reverse l.stack.items ≡ sets ++ reverse l.initial.stack.items)
+invariant-loop-i l =
+    (sets : List (List ℕ)) × AreSetsOf (drop l.i l.blocks) sets × (reverse l.stack.items ≡ sets ++ reverse l.initial.stack.items)

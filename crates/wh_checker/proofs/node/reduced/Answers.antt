@@ -1,4 +1,4 @@
-use Rattle.std.proofs.Common.{List, map}
+use Rattle.std.proofs.Common.{map}
 use Rattle.std.proofs.lemmas.Option.{MatchOption-at_some}
 use Rattle.wh_system.specs.SystemView.{system_data}
 use Rattle.wh_pairs.specs.Views.{pairs_data}

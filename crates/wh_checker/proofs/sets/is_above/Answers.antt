@@ -1,4 +1,4 @@
-use Rattle.std.proofs.Common.{◌≡◌, ◌-◌, ◌<◌, ℕ, List, All, Some, slice_get, length, sym, subst, ap, arith, nat_lt, IsTrue}
+use Rattle.std.proofs.Common.{◌≡◌, ◌-◌, ◌<◌, ℕ, List, Some, slice_get, length, sym, subst, arith}
 use Rattle.std.proofs.lemmas.Bool.Decides.{nat_tests}
 use Rattle.wh_checker.proofs.SetLemmas.{above_last}
 use Rattle.wh_checker.proofs.sets.is_above.Goals as goal

@@ -29,7 +29,7 @@ loop-number-preserved c =
     elim c.if-is_err.branch [
       | then-is_err+in_ok-push w ↦ subst IsNext (sym (w.rest-is ∙ w.in_ok-push.ensures.ok)) (kept_push set drop rest i n c.as_slice-number-items.ensures.increasing at
           (λ there. search_misses c.as_slice.result.now n c.binary_search.result up c.binary_search.ensures.position (sym c.is_err.ensures.value ∙ w.if-is_err.true)
-              (subst (λ (l : List ℕ). Contains l n) (sym c.as_slice.ensures.numbers) ((c.in_ok-dropped.ensures.each n).1 there))) c.loop-number.invariant)
+          (subst (λ (l : List ℕ). Contains l n) (sym c.as_slice.ensures.numbers) ((c.in_ok-dropped.ensures.each n).1 there))) c.loop-number.invariant)
       | else-is_err w ↦ subst IsNext (sym w.rest-is) (kept_skip set drop rest i n at
           ((c.in_ok-dropped.ensures.each n).0 (subst (λ (l : List ℕ). Contains l n) c.as_slice.ensures.numbers (search_finds c.as_slice.result.now n c.binary_search.result up c.binary_search.ensures.position (sym c.is_err.ensures.value ∙ w.if-is_err.false)))) c.loop-number.invariant)
     ]

@@ -6,4 +6,5 @@ use Rattle.wh_checker.specs.Walk.{HasCome}
 use Rattle.wh_checker.proofs.walk.check_nodes.Given as goal
 
 abbrev pub invariant-loop-index : goal.invariant-loop-index
-invariant-loop-index l = HasCome (system_data l.system) (pairs_data l.pairs) l.fn.whole (map said_node l.nodes) l.index (reverse l.stack.items) (map said_node (drop l.index l.nodes))
+invariant-loop-index l =
+    HasCome (system_data l.system) (pairs_data l.pairs) l.fn.whole (map said_node l.nodes) l.index (reverse l.stack.items) (map said_node (drop l.index l.nodes))
