@@ -16,7 +16,7 @@ use Rattle.wh_step.specs.Reducts.{FailsAt, TooBigAt}
 use Rattle.wh_step.proofs.RootLaws.{step_one}
 use Rattle.wh_system.specs.Systems.{SystemData}
 use Rattle.wh_cert.specs.Written as written
-use Rattle.wh_cert.specs.Written.{Cert, no}
+use Rattle.wh_cert.specs.Written.{Cert, yes, no}
 use Rattle.wh_no.specs.declared.fault.NoFault.{NoFault}
 use Rattle.wh_no.specs.declared.fault.NoFault.TheVariants.{NotATerm, NoStep, StepFails, TooBig, BadPut, NoInstance}
 use Rattle.wh_no.specs.declared.check.AcceptedNo.{AcceptedNo}
@@ -230,6 +230,8 @@ module _ (d : SystemData) (raw : RTm) (steps : List taken.Step) (at : List ℕ) 
 
 pub fault_one : (d : SystemData) (cert : Cert) (f g : NoFault) → AreWellMade d.symbols d.rules → IsFirstFault d cert f → IsFirstFault d cert g → f ≡ g
 fault_one d (no raw steps at lines) f g w h k = one_cause d raw steps at lines w (cause_of d raw steps at lines f h) (cause_of d raw steps at lines g k)
+fault_one d (yes version ranks pairs nodes) f g w h k = absurd h
 
 pub accepted_or_fault : (d : SystemData) (cert : Cert) (a : AcceptedNo) (f : NoFault) → AreWellMade d.symbols d.rules → IsAccepted d cert a → IsFirstFault d cert f → ⊥
 accepted_or_fault d (no raw steps at lines) a f w (c, says, valid, n) h = accepted_no_cause d raw steps at lines w c says valid (cause_of d raw steps at lines f h)
+accepted_or_fault d (yes version ranks pairs nodes) a f w accepted h = absurd h

@@ -10,7 +10,7 @@ use Rattle.wh_step.specs.Reducts.{FailsAt, TooBigAt}
 use Rattle.wh_system.specs.Systems.{SystemData}
 use Rattle.wh_system.specs.Resolve.{Means}
 use Rattle.wh_cert.specs.Written as written
-use Rattle.wh_cert.specs.Written.{Cert, no}
+use Rattle.wh_cert.specs.Written.{Cert, yes, no}
 use Rattle.wh_no.specs.declared.fault.NoFault.{NoFault}
 use Rattle.wh_no.specs.declared.fault.NoFault.TheVariants.{NotATerm, NoStep, StepFails, TooBig, BadPut, NoInstance}
 use Rattle.wh_no.specs.declared.check.AcceptedNo.{AcceptedNo}
@@ -85,6 +85,7 @@ IsFirstFalse d raw steps at lines fault = (t : Tm) × IsTermFor d raw t × IsSte
 -- the fault names the first condition of a valid certificate that is false, in the order of its parts (ours)
 abbrev pub IsFirstFault : SystemData → Cert → NoFault → Type 0
 IsFirstFault d (no raw steps at lines) fault = IsFirstFalse d raw steps at lines fault
+IsFirstFault d (yes version ranks pairs nodes) fault = ⊥
 
 -- the certificate says a valid claim, and the answer has the number of its steps (ours)
 abbrev pub IsAccepted : SystemData → Cert → AcceptedNo → Type 0

@@ -6,7 +6,7 @@ use Rattle.wh_parts.specs.Naming.{type_meant}
 use Rattle.wh_system.specs.Systems.{SystemData}
 use Rattle.wh_system.specs.Resolve.{Means}
 use Rattle.wh_cert.specs.Written as written
-use Rattle.wh_cert.specs.Written.{Cert, no}
+use Rattle.wh_cert.specs.Written.{Cert, yes, no}
 use Rattle.wh_no.specs.Claim.{Put, Claim}
 
 -- a line `put` says this: its names stand for a type and for a well-typed term (ours)
@@ -28,6 +28,7 @@ pub record Claims (d : SystemData) (raw : RTm) (all : List taken.Step) (path : L
   pub at : c.at ≡ path
   pub puts : SayPuts d lines c.puts
 
--- the certificate claims c over the system d
+-- the certificate claims c over the system d; a YES certificate claims nothing of the kind
 abbrev pub Says : SystemData → Cert → Claim → Type 0
 Says d (no t steps at lines) c = Claims d t steps at lines c
+Says d (yes version ranks pairs nodes) c = ⊥
