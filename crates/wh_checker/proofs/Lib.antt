@@ -7,3 +7,4 @@ pub mod YesLemmas
 pub mod RowLaws
 pub mod NodeLaws
 pub mod FaultLaws
+pub mod Bounded
