@@ -9,11 +9,11 @@ mod print;
 mod raw;
 mod read;
 mod term_reader;
-#[cfg(test)]
-mod tests;
 mod type_reader;
 
-pub use certificate::{CertSyntax, Certificate, NoCertificate, Put, Puts, Steps};
+pub use certificate::{
+    Arg, Args, CertFault, CertSyntax, Certificate, NoCertificate, Node, Nodes, Put, Puts, Steps, YesCertificate,
+};
 pub use laws::{no_proper_prefix, one_certificate, one_place, one_text};
 pub use print::print_certificate;
 pub use read::read_certificate;
