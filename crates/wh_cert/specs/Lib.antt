@@ -5,6 +5,7 @@ pub mod CertText
 pub mod Said
 pub mod TypeMachine
 pub mod TermMachine
+pub mod YesMachine
 pub mod LineMachine
 pub mod TypeViews
 pub mod TermViews
