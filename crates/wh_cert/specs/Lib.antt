@@ -7,6 +7,7 @@ pub mod TypeMachine
 pub mod TermMachine
 pub mod YesMachine
 pub mod LineMachine
+pub mod ReadEnd
 pub mod TypeViews
 pub mod TermViews
 pub mod LineViews
