@@ -152,7 +152,7 @@ text_one ranks pairs wanted nodes =
     ap (λ (ds : List ℕ). codes "YES " ++ (ds ++ (10 ∷ (codes "ranks" ++ put_numbers ranks (10 ∷ (codes "pairs " ++ (decimal pairs ++ (10 ∷ put_nodes nodes (codes "end" ++ (10 ∷ []))))))))))
     (decimal_digit 1 (omega arith))
 
-no_wanted : (k : ℕ) → nat_lt 0 k ≡ false → k ≡ 0
+pub no_wanted : (k : ℕ) → nat_lt 0 k ≡ false → k ≡ 0
 no_wanted zero e = refl
 no_wanted (suc k) e =
     let some = lt-ltb 0 (suc k) (omega arith) in
