@@ -77,6 +77,7 @@ before_list (of_drop args) r = codes "subterm" ++ (10 ∷ put_args args r)
 abbrev pub before_word : Behind → List ℕ → List ℕ
 before_word (to_list of) r = before_list of r
 before_word (to_name args) r = codes "subterm" ++ (10 ∷ put_args args r)
+before_word to_done r = 100 ∷ r
 before_word _ r = r
 
 abbrev pub list_lead : Listed → List ℕ → List ℕ → List ℕ
@@ -355,7 +356,7 @@ letters_kept wants n args xs b g name a =
 
 node_kept : (wants : Bool) (n b : ℕ) → wants ≡ true → LineNext wants (suc n) (front_step true b) third (λ r. b ∷ r)
 node_kept wants n b a =
-    if_byte wants (suc n) b 100 (on (word (codes "one" ++ (10 ∷ [])) to_done)) _ third (λ r. r) (refl, tt, a, (100 ∷ [], refl, λ r. refl))
+    if_byte wants (suc n) b 100 (on (word (codes "one" ++ (10 ∷ [])) to_done)) _ third (λ r. r) (refl, tt, a, ([], refl, λ r. refl))
     (if_byte wants (suc n) b 97 (on (word (codes "lone" ++ (10 ∷ [])) to_alone)) _ third (λ r. r) (refl, tt, a, (97 ∷ [], refl, λ r. refl))
     (if_byte wants (suc n) b 98 (on (word (codes "locks ") to_blocks)) _ third (λ r. r) (refl, tt, a, (98 ∷ [], refl, λ r. refl))
     (if_byte wants (suc n) b 115 (on (word (codes "ubterm" ++ (10 ∷ [])) to_subterm)) _ third (λ r. r) (refl, tt, a, (115 ∷ [], refl, λ r. refl))

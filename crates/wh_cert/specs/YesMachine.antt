@@ -50,13 +50,13 @@ pub data LineStep : Type 0 where
   gives : (i : Item) (p : Place) → LineStep
   later refused : LineStep
 
--- the fixed word whose end leads there
+-- the fixed word whose end leads there; that of `done` without its first byte, behind which no other word goes on
 abbrev pub spelling : Behind → List ℕ
 spelling (to_list of_ranks) = codes "YES 1" ++ (10 ∷ codes "ranks")
 spelling (to_list (of_block left parts)) = codes "block"
 spelling (to_list (of_drop args)) = codes "drop"
 spelling to_pairs = codes "pairs "
-spelling to_done = codes "done" ++ (10 ∷ [])
+spelling to_done = codes "one" ++ (10 ∷ [])
 spelling to_alone = codes "alone" ++ (10 ∷ [])
 spelling to_blocks = codes "blocks "
 spelling to_subterm = codes "subterm" ++ (10 ∷ [])
