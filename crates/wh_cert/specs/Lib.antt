@@ -11,4 +11,4 @@ pub mod ReadEnd
 pub mod TypeViews
 pub mod TermViews
 pub mod LineViews
-pub mod ReadViews
+pub mod YesViews

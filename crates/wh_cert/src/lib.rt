@@ -2,18 +2,13 @@
 #![tactic(auto)]
 
 mod certificate;
-mod laws;
 mod letters;
 mod line_reader;
-mod print;
 mod raw;
-mod read;
 mod term_reader;
 mod type_reader;
+mod yes_line;
 
 pub use certificate::{
     Arg, Args, CertFault, CertSyntax, Certificate, NoCertificate, Node, Nodes, Put, Puts, Steps, YesCertificate,
 };
-pub use laws::{no_proper_prefix, one_certificate, one_place, one_text};
-pub use print::print_certificate;
-pub use read::read_certificate;
