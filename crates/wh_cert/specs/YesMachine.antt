@@ -117,19 +117,43 @@ front_step wants b =
     (cond (b == 112) later refused)))))
     (cond (b == 101) (on (word (codes "nd" ++ (10 ∷ [])) to_finish)) refused)
 
+-- the next byte of a fixed word
+abbrev pub word_step : List ℕ → Behind → ℕ → LineStep
+word_step [] o b = refused
+word_step (x ∷ w) o b = cond (b == x) (word_on w o) refused
+
+-- the first digit of a number
+abbrev pub digit_step : Counted → ℕ → LineStep
+digit_step of b = cond (is_digit b) (on (number of (b - 48))) refused
+
+-- in a number
+abbrev pub number_step : Counted → ℕ → ℕ → LineStep
+number_step of n b = cond (goes_on n b) (on (number of (10 * n + (b - 48)))) (number_ended of n b)
+
+-- the front of a line of `arg` or `drop`
+abbrev pub arg_step : List Arg → ℕ → LineStep
+arg_step args b =
+    cond (b == 97) (on (word (codes "rg ") (to_name args))) (cond (b == 100) (on (word (codes "rop") (to_list (of_drop args)))) refused)
+
+-- the first letter of a name
+abbrev pub letter_step : List Arg → ℕ → LineStep
+letter_step args b = cond (is_start b) (on (letters args (b ∷ []))) refused
+
+-- in a name
+abbrev pub letters_step : List Arg → List ℕ → ℕ → LineStep
+letters_step args xs b =
+    cond (is_part b && nat_lt (length xs) 64) (on (letters args (xs ++ b ∷ []))) (cond (b == 32) (on (number_wanted (of_place args xs))) refused)
+
 -- where a byte leads, with whether a node is wanted
 abbrev pub step : Bool → Place → ℕ → LineStep
-step wants (word [] o) b = refused
-step wants (word (x ∷ w) o) b = cond (b == x) (word_on w o) refused
+step wants (word w o) b = word_step w o b
 step wants (listed of xs) b = list_step of xs b
-step wants (number_wanted of) b = cond (is_digit b) (on (number of (b - 48))) refused
-step wants (number of n) b = cond (goes_on n b) (on (number of (10 * n + (b - 48)))) (number_ended of n b)
+step wants (number_wanted of) b = digit_step of b
+step wants (number of n) b = number_step of n b
 step wants front b = front_step wants b
-step wants (arg_front args) b =
-    cond (b == 97) (on (word (codes "rg ") (to_name args))) (cond (b == 100) (on (word (codes "rop") (to_list (of_drop args)))) refused)
-step wants (name_wanted args) b = cond (is_start b) (on (letters args (b ∷ []))) refused
-step wants (letters args xs) b =
-    cond (is_part b && nat_lt (length xs) 64) (on (letters args (xs ++ b ∷ []))) (cond (b == 32) (on (number_wanted (of_place args xs))) refused)
+step wants (arg_front args) b = arg_step args b
+step wants (name_wanted args) b = letter_step args b
+step wants (letters args xs) b = letters_step args xs b
 step wants finished b = refused
 
 -- the items so far: ranks, the number of pairs, nodes; and how many nodes are still wanted

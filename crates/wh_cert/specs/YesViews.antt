@@ -38,30 +38,27 @@ abbrev pub nowhere : m.Place
 nowhere = m.word [] m.to_finish
 
 -- behind a name that was begun
-abbrev pub with_name : Option Letters → YesLine → (m.Counted → m.Place) → m.Place
-with_name None l k = nowhere
-with_name (Some name) l k = k (m.of_place (map said_arg l.args) name)
+abbrev pub naming : Option Letters → (List ℕ → m.Place) → m.Place
+naming None k = nowhere
+naming (Some name) k = k name
 
-abbrev pub counting : Counted → YesLine → (m.Counted → m.Place) → m.Place
-counting counted.Pairs l k = k m.of_pairs
-counting counted.Blocks l k = k m.of_blocks
-counting counted.Place l k = with_name l.name l k
-counting (counted.List of) l k = k (m.of_list (listed_of of l) l.numbers)
-
-abbrev pub naming : Option Letters → YesLine → m.Place
-naming None l = nowhere
-naming (Some name) l = m.letters (map said_arg l.args) name
+abbrev pub counted_of : Counted → YesLine → m.Counted
+counted_of counted.Pairs l = m.of_pairs
+counted_of counted.Blocks l = m.of_blocks
+counted_of (counted.List of) l = m.of_list (listed_of of l) l.numbers
 
 -- past the end of a word no byte is right
 abbrev pub place_of : YesPlace → YesLine → m.Place
 place_of (place.Word o i) l = m.word (drop i (m.spelling (behind_of o l))) (behind_of o l)
 place_of (place.Listed of) l = m.listed (listed_of of l) l.numbers
-place_of (place.NumberWanted of) l = counting of l m.number_wanted
-place_of (place.Number of n) l = counting of l (λ c. m.number c n)
+place_of (place.NumberWanted of) l = m.number_wanted (counted_of of l)
+place_of (place.Number of n) l = m.number (counted_of of l) n
 place_of place.Front l = m.front
 place_of place.ArgFront l = m.arg_front (map said_arg l.args)
 place_of place.NameWanted l = m.name_wanted (map said_arg l.args)
-place_of place.Name l = naming l.name l
+place_of place.Name l = naming l.name (λ name. m.letters (map said_arg l.args) name)
+place_of place.ArgPlaceWanted l = naming l.name (λ name. m.number_wanted (m.of_place (map said_arg l.args) name))
+place_of (place.ArgPlace n) l = naming l.name (λ name. m.number (m.of_place (map said_arg l.args) name) n)
 place_of place.Finished l = m.finished
 
 abbrev pub yes_place : YesLine → m.Place
@@ -84,8 +81,3 @@ yes_went Wrong l = m.refused
 abbrev pub next_block : ℕ → List (List ℕ) → m.LineStep
 next_block zero parts = m.gives (m.node_item (blocks parts)) m.front
 next_block (suc left) parts = m.block_wanted left parts
-
--- the argument of a symbol has ended before the byte
-abbrev pub arg_ended : Option Letters → List Arg → ℕ → ℕ → m.LineStep
-arg_ended None args n b = m.refused
-arg_ended (Some name) args n b = m.number_ended (m.of_place args name) n b

@@ -1,10 +1,10 @@
 //! YES certificates line by line: the step takes one byte, and gives an item where its last line is whole. It keeps nothing of
 //! the items before.
 
-ghost use Rattle.std.specs.Prelude.{◌≡◌, Bool, map, IfOk};
+ghost use Rattle.std.specs.Prelude.{◌≡◌, true, drop, map, IfOk};
 ghost use Rattle.wh_cert.specs.Said.{said_arg};
-ghost use Rattle.wh_cert.specs.YesMachine.{of_pairs, of_blocks, spelling, behind as stands_behind, list_ended, list_step, number_ended, front_step, arg_front, name_wanted, step as machine_step};
-ghost use Rattle.wh_cert.specs.YesViews.{listed_of, behind_of, place_of, yes_place, yes_went, next_block, arg_ended};
+ghost use Rattle.wh_cert.specs.YesMachine.{of_pairs, of_blocks, spelling, behind as stands_behind, list_ended, list_step, number_ended, front_step, word_step, digit_step, number_step, arg_step, letter_step, step as machine_step};
+ghost use Rattle.wh_cert.specs.YesViews.{listed_of, behind_of, counted_of, yes_place, yes_went, next_block};
 ghost use Rattle.wh_cert.specs.declared.yes_line.YesLine.{YesLine};
 ghost use Rattle.wh_cert.specs.declared.yes_line.Listed.TheVariants as listed;
 ghost use Rattle.wh_cert.specs.declared.yes_line.YesBehind.TheVariants as behind;
@@ -34,8 +34,6 @@ pub enum Counted {
     Pairs,
     /// The number of blocks.
     Blocks,
-    /// The argument of the symbol that was named.
-    Place,
     /// One more of a list.
     List(Listed),
 }
@@ -80,6 +78,10 @@ pub enum YesPlace {
     NameWanted,
     /// That and letters.
     Name,
+    /// A symbol's name and a space.
+    ArgPlaceWanted,
+    /// That and digits.
+    ArgPlace(u32),
     /// All of the certificate.
     Finished,
 }
@@ -152,6 +154,8 @@ impl YesLine {
             YesPlace::ArgFront => Ok(self.step_arg_front(byte)),
             YesPlace::NameWanted => self.first_letter(alloc, byte),
             YesPlace::Name => self.step_name(byte),
+            YesPlace::ArgPlaceWanted => Ok(self.first_arg_digit(byte)),
+            YesPlace::ArgPlace(number) => self.step_arg_place(alloc, number, byte),
             YesPlace::Finished => Ok(YesStep::Wrong),
         }
     }
@@ -164,7 +168,7 @@ impl YesLine {
         at: usize,
         byte: u8,
     ) -> Result<YesStep, AllocError>
-        ensures { IfOk result (λ went. (wants : Bool) → yes_went went self.new ≡ machine_step wants (place_of (place.Word behind at) self.old) byte) }
+        ensures { IfOk result (λ went. yes_went went self.new ≡ word_step (drop at (spelling (behind_of behind self.old))) (behind_of behind self.old) byte) }
     {
         let word = spelling(behind);
         if at >= word.len() {
@@ -227,6 +231,7 @@ impl YesLine {
     }
 
     /// The line of a list has ended.
+    #[tactic(auto, using(crate::proofs::YesCode::block_ended))]
     fn end_list(&mut self, alloc: Global, of: Listed) -> Result<YesStep, AllocError>
         ensures { IfOk result (λ went. yes_went went self.new ≡ list_ended (listed_of of self.old) self.old.numbers) }
     {
@@ -267,8 +272,7 @@ impl YesLine {
 
     /// The first digit of a number.
     fn first_digit(&mut self, of: Counted, byte: u8) -> YesStep
-        requires { self.old.place ≡ place.NumberWanted of }
-        ensures { (wants : Bool) → yes_went result self.new ≡ machine_step wants (yes_place self.old) byte }
+        ensures { yes_went result self.new ≡ digit_step (counted_of of self.old) byte }
     {
         match first_number(byte) {
             Some(number) => {
@@ -287,8 +291,7 @@ impl YesLine {
         number: u32,
         byte: u8,
     ) -> Result<YesStep, AllocError>
-        requires { self.old.place ≡ place.Number of number }
-        ensures { IfOk result (λ went. (wants : Bool) → yes_went went self.new ≡ machine_step wants (yes_place self.old) byte) }
+        ensures { IfOk result (λ went. yes_went went self.new ≡ number_step (counted_of of self.old) number byte) }
     {
         match next_number(number, byte) {
             Some(next) => {
@@ -298,7 +301,6 @@ impl YesLine {
             None => match of {
                 Counted::Pairs => Ok(self.end_pairs(number, byte)),
                 Counted::Blocks => self.end_count(alloc, number, byte),
-                Counted::Place => self.end_arg(alloc, number, byte),
                 Counted::List(of) => {
                     self.numbers.push(number)?;
                     self.step_list(alloc, of, byte)
@@ -329,14 +331,41 @@ impl YesLine {
         self.end_block(alloc, number)
     }
 
-    /// The argument of a symbol has ended before the byte.
+    /// The first digit of a symbol's argument.
+    fn first_arg_digit(&mut self, byte: u8) -> YesStep
+        requires { self.old.place ≡ place.ArgPlaceWanted }
+        ensures { yes_went result self.new ≡ machine_step true (yes_place self.old) byte }
+    {
+        if self.name.is_none() {
+            return YesStep::Wrong;
+        }
+        match first_number(byte) {
+            Some(number) => {
+                self.place = YesPlace::ArgPlace(number);
+                YesStep::On
+            }
+            None => YesStep::Wrong,
+        }
+    }
+
+    /// The number of a symbol's argument goes on with the byte, or has ended before it.
     #[tactic(auto, using(crate::proofs::YesCode::args_grow))]
-    fn end_arg(&mut self, alloc: Global, number: u32, byte: u8) -> Result<YesStep, AllocError>
-        ensures { IfOk result (λ went. yes_went went self.new ≡ arg_ended self.old.name (map said_arg self.old.args) number byte) }
+    fn step_arg_place(
+        &mut self,
+        alloc: Global,
+        number: u32,
+        byte: u8,
+    ) -> Result<YesStep, AllocError>
+        requires { self.old.place ≡ place.ArgPlace number }
+        ensures { IfOk result (λ went. yes_went went self.new ≡ machine_step true (yes_place self.old) byte) }
     {
         match &self.name {
             None => Ok(YesStep::Wrong),
             Some(letters) => {
+                if let Some(next) = next_number(number, byte) {
+                    self.place = YesPlace::ArgPlace(next);
+                    return Ok(YesStep::On);
+                }
                 if byte != b'\n' {
                     return Ok(YesStep::Wrong);
                 }
@@ -370,7 +399,7 @@ impl YesLine {
 
     /// The first byte of a line of `arg` or `drop`.
     fn step_arg_front(&mut self, byte: u8) -> YesStep
-        ensures { (wants : Bool) → yes_went result self.new ≡ machine_step wants (arg_front (map said_arg self.old.args)) byte }
+        ensures { yes_went result self.new ≡ arg_step (map said_arg self.old.args) byte }
     {
         match byte {
             b'a' => self.place = YesPlace::Word(YesBehind::Name, 1),
@@ -382,7 +411,7 @@ impl YesLine {
 
     /// The first letter of a symbol's name.
     fn first_letter(&mut self, alloc: Global, byte: u8) -> Result<YesStep, AllocError>
-        ensures { IfOk result (λ went. (wants : Bool) → yes_went went self.new ≡ machine_step wants (name_wanted (map said_arg self.old.args)) byte) }
+        ensures { IfOk result (λ went. yes_went went self.new ≡ letter_step (map said_arg self.old.args) byte) }
     {
         if !begins_name(byte) {
             return Ok(YesStep::Wrong);
@@ -395,7 +424,7 @@ impl YesLine {
     /// A symbol's name goes on with the byte, or has ended before it.
     fn step_name(&mut self, byte: u8) -> Result<YesStep, AllocError>
         requires { self.old.place ≡ place.Name }
-        ensures { IfOk result (λ went. (wants : Bool) → yes_went went self.new ≡ machine_step wants (yes_place self.old) byte) }
+        ensures { IfOk result (λ went. yes_went went self.new ≡ machine_step true (yes_place self.old) byte) }
     {
         match &mut self.name {
             None => Ok(YesStep::Wrong),
@@ -407,7 +436,7 @@ impl YesLine {
                 if byte != b' ' {
                     return Ok(YesStep::Wrong);
                 }
-                self.place = YesPlace::NumberWanted(Counted::Place);
+                self.place = YesPlace::ArgPlaceWanted;
                 Ok(YesStep::On)
             }
         }
