@@ -58,7 +58,7 @@ text_found p c short e =
 pub text_run : (p : List ℕ) (c : Cert) → CertText p c → IsEnd (run start p) c
 text_run p c t = subst (λ (q : List ℕ). IsEnd (run start q) c) (sym t.spelled) (cert_run c t.fits.parts)
 
-ends_begins : (p : List ℕ) → Ends (2 ^ 32) (run start p) → Begins p
+pub ends_begins : (p : List ℕ) → Ends (2 ^ 32) (run start p) → Begins p
 ends_begins p w =
     let f = found (p ++ w.tail) w.c (subst (λ (s : Standing). IsEnd s w.c) (sym (run_append start p w.tail)) w.ends) in
     (w.c, w.tail, record { fits = record { parts = f.0; counts = w.within }; spelled = f.1 })

@@ -12,7 +12,8 @@ use Rattle.wh_cert.specs.LineMachine.{Standing, stands_yes, moved_yes, run}
 use Rattle.wh_cert.proofs.YesSound.{Stage, first, second, third, listed_stage, counted_stage, word_stage, stage, GoodListed, GoodArgs, GoodNumbers, GoodCounted, GoodBehind, GoodPlace, ListedFor, CountedFor, BehindFor, PlaceFor}
 use Rattle.wh_cert.proofs.YesReached.{GoodPast, Good, no_wanted, nodes_wider}
 use Rattle.wh_cert.proofs.YesComplete.{node_run, wants_some}
-use Rattle.wh_cert.proofs.Ended.{Ends, ends_after}
+use Rattle.wh_cert.specs.ReadEnd.{IsEnd}
+use Rattle.wh_cert.proofs.Ended.{run_append, Ends, ends_after}
 
 -- what is wanted leaves room for as many more nodes, and for the lists
 abbrev pub Room : ℕ → Past → Type 0
@@ -189,3 +190,14 @@ place_end before n h finished short past g a = finished_ends before n h short pa
 
 pub yes_ends : (n : ℕ) (h : Past) (p : Place) (f : List ℕ → List ℕ) → n < 2 ^ 32 → Good n h p f → Ends (2 ^ 32) (stands_yes h p)
 yes_ends n h p f short g = place_end g.before g.since h p (omega (arith, g.sum)) g.past g.place g.right
+
+-- where a node is wanted, `done` leads on
+pub done_ends : (n : ℕ) (h : Past) (f : List ℕ → List ℕ) → n < 2 ^ 32 → Good n h front f → wants h ≡ true → Ends (2 ^ 32) (run (stands_yes h front) (codes "done"))
+done_ends n h f short g is =
+    let e = node_ends h done is (room_of g.before g.since h (omega (arith, g.sum)) g.past) tt (omega arith) in
+    record {
+      tail = 10 ∷ e.tail;
+      c = e.c;
+      ends = subst (λ (s : Standing). IsEnd s e.c) (sym (sym (run_append (stands_yes h front) (codes "done") (10 ∷ e.tail)) ∙ node_run h done e.tail tt is)) e.ends;
+      within = e.within;
+    }
