@@ -74,7 +74,7 @@ list_ended_ends : (before n : ℕ) (h : Past) (of : Listed) (xs : List ℕ) → 
 list_ended_ends before n (so_far ranks pairs nodes wanted) of_ranks xs short past g few a =
     let h : Past = so_far xs pairs nodes wanted in
     ends_after (2 ^ 32) (stands_yes h (word (codes "pairs ") to_pairs)) (stands_yes h (number_wanted of_pairs)) (λ r. codes "pairs " ++ r) (λ r. refl)
-    (subst (λ (ys : List Node). Ends (2 ^ 32) (stands_yes (so_far xs pairs ys wanted) (number_wanted of_pairs))) (sym past)
+    (subst (λ (ys : List Node). Ends (2 ^ 32) (stands_yes (so_far xs pairs ys wanted) (number_wanted of_pairs))) (sym past.0)
     (ends_after (2 ^ 32) (stands_yes (so_far xs pairs [] wanted) (number_wanted of_pairs)) (stands_yes (so_far xs 0 [] 1) front) (λ r. 48 ∷ 10 ∷ r) (λ r. refl)
     (front_ends 1 xs 0 [] (omega arith, All-nil (NodeWithin (2 ^ 32)), omega arith))))
 list_ended_ends before n h (of_block zero parts) xs short past g few a =

@@ -17,8 +17,8 @@ Partial k nodes = (rest : List Node) → Preorder k rest → Preorder 1 (nodes +
 
 -- the items of n bytes, in each stage
 abbrev pub GoodPast : ℕ → Stage → Past → Type 0
-GoodPast n first (so_far ranks pairs nodes wanted) = nodes ≡ []
-GoodPast n second (so_far ranks pairs nodes wanted) = GoodNumbers n ranks × (nodes ≡ [])
+GoodPast n first (so_far ranks pairs nodes wanted) = (nodes ≡ []) × (wanted ≡ 0)
+GoodPast n second (so_far ranks pairs nodes wanted) = GoodNumbers n ranks × (nodes ≡ []) × (wanted ≡ 0)
 GoodPast n third (so_far ranks pairs nodes wanted) =
     GoodNumbers n ranks × IsSmall pairs × All NodeFits nodes × All (NodeWithin n) nodes × (2 * (length nodes + wanted) ≤ n + 2) × Partial wanted nodes
 
@@ -64,7 +64,7 @@ partial_more k nodes x some p rest q =
     subst (Preorder 1) (sym (append_assoc nodes (x ∷ []) rest)) (p (x ∷ rest) (node_first k x rest some q))
 
 gather_good : (n u m : ℕ) (h : Past) (i : Item) → n + u ≡ m → GoodPast n (item_from i) h → ItemGood (wants h) u i → GoodPast m (item_to i) (gather h i)
-gather_good n u m (so_far ranks pairs nodes wanted) (ranks_item new) sum g is = (numbers_wider u m new (omega arith) is, g)
+gather_good n u m (so_far ranks pairs nodes wanted) (ranks_item new) sum g is = (numbers_wider u m new (omega arith) is, g.0, g.1)
 gather_good n u m (so_far ranks pairs nodes wanted) (pairs_item new) sum g is =
     subst (λ (xs : List Node). GoodPast m third (so_far ranks new xs 1)) (sym g.1)
     (numbers_wider n m ranks (omega arith) g.0, is, All-nil NodeFits, All-nil (NodeWithin m), omega arith, (λ rest p. p))
@@ -138,7 +138,7 @@ begun_good = record {
   before = 0;
   since = 1;
   sum = refl;
-  past = refl;
+  past = (refl, refl);
   place = tt;
   right = tt;
   line = λ r. 89 ∷ r;

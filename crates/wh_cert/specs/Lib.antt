@@ -12,3 +12,5 @@ pub mod TypeViews
 pub mod TermViews
 pub mod LineViews
 pub mod YesViews
+pub mod Faults
+pub mod ReadViews
