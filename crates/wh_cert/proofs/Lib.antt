@@ -16,3 +16,6 @@ pub mod RawLaws
 pub mod TypeCode
 pub mod TermCode
 pub mod YesCode
+pub mod LaterLaws
+pub mod ReadCode
+pub mod PrintCode

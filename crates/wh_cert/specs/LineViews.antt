@@ -53,10 +53,10 @@ abbrev pub line_place : NoLine → m.LinePlace
 line_place l = place_of l.place l
 
 abbrev pub item_of : Item → m.Item
-item_of (item.Term t) = m.head_item (rtm t)
+item_of (item.Term t) = m.head_item (rtm t.value)
 item_of (item.Step s) = m.step_item s
 item_of (item.At at) = m.at_item at
-item_of (item.Put p) = m.put_item (said_put p)
+item_of (item.Put p) = m.put_item (said_put p.value)
 item_of item.End = m.end_item
 
 -- a step that left the line so

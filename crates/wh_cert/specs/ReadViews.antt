@@ -1,5 +1,6 @@
 -- Where the reader of certificates stands, as its code keeps it.
 use Rattle.std.specs.Prelude.{ℕ, ◌<◌, ◌^◌, List, Option, Some, None, map}
+use Rattle.std.specs.Global.{Box}
 use Rattle.wh_terms.specs.declared.path.Step as taken
 use Rattle.wh_text.specs.declared.raw.RawTerm.{RawTerm}
 use Rattle.wh_text.specs.Erase.{rtm}
@@ -16,16 +17,16 @@ use Rattle.wh_cert.specs.declared.read.YesReader.{YesReader}
 use Rattle.wh_cert.specs.declared.read.Reader.{Reader}
 use Rattle.wh_cert.specs.declared.read.Reader.TheVariants.{Unread, Yes, No}
 
-abbrev pub past_from : Option RawTerm → Option (List ℕ) → List taken.Step → List Put → m.Past
+abbrev pub past_from : Option (Box RawTerm) → Option (List ℕ) → List taken.Step → List Put → m.Past
 past_from None at steps puts = m.nothing
-past_from (Some t) None steps puts = m.begun (rtm t) steps
-past_from (Some t) (Some at) steps puts = m.placed (rtm t) steps at (map said_put puts)
+past_from (Some t) None steps puts = m.begun (rtm t.value) steps
+past_from (Some t) (Some at) steps puts = m.placed (rtm t.value) steps at (map said_put puts)
 
 abbrev pub no_past : NoReader → m.Past
 no_past r = past_from r.term r.at r.steps r.puts
 
 abbrev pub no_standing : NoReader → m.Standing
-no_standing r = m.stands (no_past r) (line_place r.line)
+no_standing r = m.stands (no_past r) (line_place r.line.value)
 
 abbrev pub yes_past : YesReader → y.Past
 yes_past r = y.so_far r.ranks r.pairs (map said_node r.nodes) r.wanted

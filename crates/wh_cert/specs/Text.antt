@@ -32,13 +32,20 @@ put_puts [] r = r
 put_puts (p ∷ ps) r = put_put p (put_puts ps r)
 
 -- numbers, a space before each
+abbrev pub put_entry : ℕ → List ℕ → List ℕ
+put_entry n r = 32 ∷ (decimal n ++ r)
+
 abbrev pub put_numbers : List ℕ → List ℕ → List ℕ
 put_numbers [] r = r
-put_numbers (n ∷ ns) r = 32 ∷ (decimal n ++ put_numbers ns r)
+put_numbers (n ∷ ns) r = put_entry n (put_numbers ns r)
+
+-- these up to the end of their line
+abbrev pub put_line : List ℕ → List ℕ → List ℕ
+put_line ns r = put_numbers ns (10 ∷ r)
 
 -- the line of a block
 abbrev pub put_block : List ℕ → List ℕ → List ℕ
-put_block block r = codes "block" ++ put_numbers block (10 ∷ r)
+put_block block r = codes "block" ++ put_line block r
 
 abbrev pub put_blocks : List (List ℕ) → List ℕ → List ℕ
 put_blocks [] r = r
@@ -57,7 +64,7 @@ abbrev pub put_node : Node → List ℕ → List ℕ
 put_node done r = codes "done" ++ (10 ∷ r)
 put_node alone r = codes "alone" ++ (10 ∷ r)
 put_node (blocks parts) r = codes "blocks " ++ (decimal (length parts) ++ (10 ∷ put_blocks parts r))
-put_node (subterm args drop) r = codes "subterm" ++ (10 ∷ put_args args (codes "drop" ++ put_numbers drop (10 ∷ r)))
+put_node (subterm args drop) r = codes "subterm" ++ (10 ∷ put_args args (codes "drop" ++ put_line drop r))
 
 abbrev pub put_nodes : List Node → List ℕ → List ℕ
 put_nodes [] r = r
@@ -66,6 +73,6 @@ put_nodes (x ∷ xs) r = put_node x (put_nodes xs r)
 -- the text of a certificate, line by line
 abbrev pub text : Cert → List ℕ
 text (yes version ranks pairs nodes) =
-    codes "YES " ++ (decimal version ++ (10 ∷ (codes "ranks" ++ put_numbers ranks (10 ∷ (codes "pairs " ++ (decimal pairs ++ (10 ∷ put_nodes nodes (codes "end" ++ (10 ∷ [])))))))))
+    codes "YES " ++ (decimal version ++ (10 ∷ (codes "ranks" ++ put_line ranks (codes "pairs " ++ (decimal pairs ++ (10 ∷ put_nodes nodes (codes "end" ++ (10 ∷ []))))))))
 text (no t steps at puts) =
     codes "NO 1" ++ (10 ∷ (codes "term " ++ put_term t (10 ∷ put_steps steps (codes "at /" ++ put_path at (10 ∷ put_puts puts (codes "end" ++ (10 ∷ [])))))))

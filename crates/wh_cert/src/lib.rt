@@ -2,8 +2,10 @@
 #![tactic(auto)]
 
 mod certificate;
+mod laws;
 mod letters;
 mod line_reader;
+mod print;
 mod raw;
 mod read;
 mod term_reader;
@@ -13,4 +15,6 @@ mod yes_line;
 pub use certificate::{
     Arg, Args, CertFault, CertSyntax, Certificate, NoCertificate, Node, Nodes, Put, Puts, Steps, YesCertificate,
 };
+pub use laws::{no_proper_prefix, one_certificate, one_place, one_text};
+pub use print::print_certificate;
 pub use read::read_certificate;

@@ -88,13 +88,13 @@ pub struct NoLine {
 #[derive(Drop)]
 pub enum Item {
     /// The first term.
-    Term(RawTerm),
+    Term(Box<RawTerm>),
     /// A step.
     Step(Step),
     /// The place of the instance.
     At(Path),
     /// What is put for a variable.
-    Put(Put),
+    Put(Box<Put>),
     /// The end.
     End,
 }
@@ -225,7 +225,7 @@ impl NoLine {
             }
             TermStep::Whole(term) => {
                 self.place = LinePlace::Line;
-                Ok(LineStep::Gives(Item::Term(term)))
+                Ok(LineStep::Gives(Item::Term(Box::new(alloc, term)?)))
             }
             TermStep::Wrong => Ok(LineStep::Wrong),
         }
@@ -345,7 +345,8 @@ impl NoLine {
                     }
                     TermStep::Whole(term) => {
                         self.place = LinePlace::LaterLine;
-                        Ok(LineStep::Gives(Item::Put(Put { number, kind, term })))
+                        let put = Box::new(alloc, Put { number, kind, term })?;
+                        Ok(LineStep::Gives(Item::Put(put)))
                     }
                     TermStep::Wrong => Ok(LineStep::Wrong),
                 }

@@ -38,9 +38,9 @@ pub enum Fed {
 #[derive(Drop)]
 pub struct NoReader {
     /// The present line.
-    pub line: NoLine,
+    pub line: Box<NoLine>,
     /// The first term.
-    pub term: Option<RawTerm>,
+    pub term: Option<Box<RawTerm>>,
     /// The steps.
     pub steps: Steps,
     /// The place of the instance.
@@ -55,7 +55,7 @@ impl NoReader {
         ensures { IfOk result (λ reader. no_standing reader ≡ first_byte 78) }
     {
         Ok(NoReader {
-            line: NoLine::new(alloc)?,
+            line: Box::new(alloc, NoLine::new(alloc)?)?,
             term: None,
             steps: Steps::new(alloc)?,
             at: None,
@@ -66,7 +66,7 @@ impl NoReader {
     /// One more item; one that does not fit is passed over.
     fn gather(&mut self, alloc: Global, item: Item) -> Result<(), AllocError>
         ensures items { OnOk result (no_past self.new ≡ no_gather (no_past self.old) (no_item item)) }
-        ensures line { self.new.line ≡ self.old.line }
+        ensures line { self.new.line.value ≡ self.old.line.value }
     {
         match item {
             Item::Term(term) => {
@@ -89,7 +89,7 @@ impl NoReader {
             }
             Item::Put(put) => {
                 if self.term.is_some() && self.at.is_some() {
-                    self.puts.push(put)?;
+                    self.puts.push(Box::into_inner(put))?;
                 }
             }
             Item::End => {}
@@ -127,14 +127,17 @@ impl NoReader {
         if !matches!(line.place, LinePlace::Finished) {
             return None;
         }
-        match (term, at) {
-            (Some(term), Some(at)) => Some(Certificate::No(NoCertificate {
-                term,
-                steps,
-                at,
-                puts,
-            })),
-            _ => None,
+        match term {
+            None => None,
+            Some(term) => match at {
+                None => None,
+                Some(at) => Some(Certificate::No(NoCertificate {
+                    term: Box::into_inner(term),
+                    steps,
+                    at,
+                    puts,
+                })),
+            },
         }
     }
 }
