@@ -2,6 +2,11 @@ pub mod NamesAndNumbers
 pub mod TypeLaws
 pub mod TermSound
 pub mod TermComplete
+pub mod YesSound
+pub mod YesComplete
+pub mod YesReached
+pub mod Ended
+pub mod YesEnds
 pub mod LineSound
 pub mod Reached
 pub mod LineComplete
@@ -10,5 +15,7 @@ pub mod Whole
 pub mod RawLaws
 pub mod TypeCode
 pub mod TermCode
+pub mod YesCode
+pub mod LaterLaws
 pub mod ReadCode
 pub mod PrintCode

@@ -1,5 +1,5 @@
 -- The reader of certificates reads each text.
-use Rattle.std.proofs.Common.{◌≡◌, ℕ, zero, suc, ◌+◌, ◌-◌, ◌*◌, ◌<◌, cond, List, [], ◌∷◌, ◌++◌, Option, Some, None, codes, refl, sym, ap, ◌∙◌, arith, append_assoc, append-nil}
+use Rattle.std.proofs.Common.{◌≡◌, ℕ, zero, suc, ◌+◌, ◌-◌, ◌*◌, ◌<◌, cond, List, [], ◌∷◌, ◌++◌, Option, Some, None, codes, refl, sym, ap, ◌∙◌, subst, arith, append_assoc, append-nil}
 use Rattle.std.specs.List.{All}
 use Rattle.std.proofs.lemmas.Bool.{cond-true}
 use Rattle.std.proofs.lemmas.List.Elements.{All-head, All-tail}
@@ -8,20 +8,20 @@ use Rattle.wh_terms.specs.declared.path.Step as taken
 use Rattle.wh_text.specs.Chars.{is_digit}
 use Rattle.wh_text.specs.RawTree.{RTy, RTm}
 use Rattle.wh_text.specs.Spelling.{put_part, put_term}
-use Rattle.wh_cert.specs.Written.{Put, Cert, no}
+use Rattle.wh_cert.specs.Written.{Put, Cert, yes, no}
 use Rattle.wh_cert.specs.Text.{put_path, put_rule, put_step, put_steps, put_put, put_puts, text}
 use Rattle.wh_cert.specs.Limits.{TermFits, RuleFits, StepFits, PutFits, PartsFit}
 use Rattle.wh_cert.specs.TypeMachine.{outside, type_wanted, TypeStep, goes, type_ended, no_type, type_step}
 use Rattle.wh_cert.specs.TermMachine as m
 use Rattle.wh_cert.specs.TermMachine.{goes_on}
 use Rattle.wh_cert.specs.LineMachine.{head_item, step_item, at_item, put_item, LinePlace, in_term, line, rule_wanted, rule_number, step_path, at_path, later_line, put_percent, put_number, put_type, put_term as placing, finished, LineStep, on, term_line, put_line, type_line, Past, nothing, begun, placed, gather, Standing, stands, wrong, moved, run, start}
+use Rattle.wh_cert.specs.ReadEnd.{IsEnd}
+use Rattle.wh_cert.proofs.Ended.{run_wrong}
+use Rattle.wh_cert.proofs.YesReached.{text_one}
+use Rattle.wh_cert.proofs.YesComplete.{yes_run}
 use Rattle.wh_cert.proofs.NamesAndNumbers.{ReadsNumbers, number_run, is_digit_48, goes_on_48}
 use Rattle.wh_cert.proofs.TypeLaws.{TypeScan, in_type, type_read, no_scan, type_scan, type_run}
 use Rattle.wh_cert.proofs.TermComplete.{Scan, still, read, stuck, scan, term_run}
-
-pub run_wrong : (p : List ℕ) → run wrong p ≡ wrong
-run_wrong [] = refl
-run_wrong (b ∷ p) = run_wrong p
 
 -- the same through the readers of terms and types
 
@@ -130,15 +130,15 @@ put_run h p r f =
     ∙ lift_put h p.number p.kind (m.at m.base m.wanted) (put_term p.term (10 ∷ r))
     ∙ ap (put_scan h p.number p.kind) (term_run m.base p.term (10 ∷ r) f.term refl)
 
-puts_run : (t : RTm) (steps : List taken.Step) (at : List ℕ) (done puts : List Put) (r : List ℕ) → All PutFits puts → run (stands (placed (no t steps at done)) later_line) (put_puts puts r) ≡ run (stands (placed (no t steps at (done ++ puts))) later_line) r
+puts_run : (t : RTm) (steps : List taken.Step) (at : List ℕ) (done puts : List Put) (r : List ℕ) → All PutFits puts → run (stands (placed t steps at done) later_line) (put_puts puts r) ≡ run (stands (placed t steps at (done ++ puts)) later_line) r
 puts_run t steps at done [] r f =
-    ap (λ (w : List Put). run (stands (placed (no t steps at w)) later_line) r) (sym (append-nil done))
+    ap (λ (w : List Put). run (stands (placed t steps at w) later_line) r) (sym (append-nil done))
 puts_run t steps at done (p ∷ puts) r f =
-    put_run (placed (no t steps at done)) p (put_puts puts r) (All-head PutFits p puts f)
+    put_run (placed t steps at done) p (put_puts puts r) (All-head PutFits p puts f)
     ∙ puts_run t steps at (done ++ p ∷ []) puts r (All-tail PutFits p puts f)
-    ∙ ap (λ (w : List Put). run (stands (placed (no t steps at w)) later_line) r) (append_assoc done (p ∷ []) puts)
+    ∙ ap (λ (w : List Put). run (stands (placed t steps at w) later_line) r) (append_assoc done (p ∷ []) puts)
 
-pub cert_run : (c : Cert) → PartsFit c → run start (text c) ≡ stands (placed c) finished
+pub cert_run : (c : Cert) → PartsFit c → IsEnd (run start (text c)) c
 cert_run (no t steps at puts) f =
     let ending : List ℕ = codes "end" ++ (10 ∷ []) in
     let later : List ℕ = put_puts puts ending in
@@ -146,3 +146,6 @@ cert_run (no t steps at puts) f =
     ∙ steps_run t [] steps (codes "at /" ++ put_path at (10 ∷ later)) f.1
     ∙ at_path_run (begun t steps) [] at later f.2
     ∙ puts_run t steps at [] puts ending f.3
+cert_run (yes version ranks pairs nodes) f =
+    subst (λ (v : ℕ). IsEnd (run start (text (yes v ranks pairs nodes))) (yes v ranks pairs nodes)) (sym f.0)
+    (refl, ap (run start) (text_one ranks pairs 0 nodes) ∙ yes_run ranks pairs nodes (codes "end" ++ (10 ∷ [])) f.1 f.2 f.3 f.4)

@@ -2,7 +2,7 @@
 use Rattle.std.proofs.Common.{◌≡◌, ℕ, suc, ◌≤◌, ◌==◌, List, [], ◌∷◌, ◌++◌, length, Option, Some, codes, refl, sym, ap, ◌∙◌, arith}
 use Rattle.std.proofs.lemmas.Bool.{cond-true, eq-eqb}
 use Rattle.wh_text.specs.RawTree.{RTy}
-use Rattle.wh_cert.specs.Written.{Cert, no}
+use Rattle.wh_cert.specs.Written.{no}
 use Rattle.wh_cert.specs.Limits.{CountsWithin}
 use Rattle.wh_cert.specs.TypeMachine.{TypeStack, outside, TypePlace, type_wanted, goes}
 use Rattle.wh_cert.specs.TermMachine as m
@@ -11,34 +11,24 @@ use Rattle.wh_cert.proofs.TypeLaws.{GoodTypePlace, type_ends}
 use Rattle.wh_cert.proofs.TermSound.{GoodPlace}
 use Rattle.wh_cert.proofs.TermComplete.{term_ends}
 use Rattle.wh_cert.proofs.LineSound.{first, second, third, word_stage, stage, past_stage, item_from, item_to, GoodLine, ItemWithin, PastWithin}
+use Rattle.wh_cert.proofs.Ended.{Ends, ends_after}
 use Rattle.wh_cert.proofs.Reached.{gather_stage, gather_within, past_wider}
 use Rattle.wh_cert.proofs.LineComplete.{head_scan, lift_head, put_scan, lift_put, kind_scan, lift_kind}
-
--- some bytes lead from here to the end of a certificate, whose lists have n as limit
-pub record Ends (n : ℕ) (s : Standing) : Type 0 where
-  pub tail : List ℕ
-  pub c : Cert
-  pub ends : run s tail ≡ stands (placed c) finished
-  pub within : CountsWithin n c
-
-ends_after : (n : ℕ) (s u : Standing) (w : List ℕ → List ℕ) → ((r : List ℕ) → run s (w r) ≡ run u r) → Ends n u → Ends n s
-ends_after n s u w leads e =
-    record { tail = w e.tail; c = e.c; ends = leads e.tail ∙ e.ends; within = e.within }
 
 -- the fronts of lines
 
 later_ends : (n : ℕ) (h : Past) → third ≡ past_stage h → PastWithin n h → Ends n (stands h later_line)
 later_ends n nothing s g = absurd cc
 later_ends n (begun t steps) s g = absurd cc
-later_ends n (placed (no t steps at puts)) s g =
+later_ends n (placed t steps at puts) s g =
     record { tail = codes "end" ++ (10 ∷ []); c = no t steps at puts; ends = refl; within = g }
 
 line_ends : (n : ℕ) (h : Past) → second ≡ past_stage h → PastWithin n h → Ends n (stands h line)
 line_ends n nothing s g = absurd cc
 line_ends n (begun t steps) s g =
-    ends_after n (stands (begun t steps) line) (stands (placed (no t steps [] [])) later_line) (λ r. codes "at /" ++ (10 ∷ r)) (λ r. refl)
-    (later_ends n (placed (no t steps [] [])) refl (g.0, g.1, omega arith, omega arith))
-line_ends n (placed c) s g = absurd cc
+    ends_after n (stands (begun t steps) line) (stands (placed t steps [] []) later_line) (λ r. codes "at /" ++ (10 ∷ r)) (λ r. refl)
+    (later_ends n (placed t steps [] []) refl (g.0, g.1, omega arith, omega arith))
+line_ends n (placed t steps at puts) s g = absurd cc
 
 -- behind one more item
 
@@ -98,7 +88,8 @@ rule_number_ends n h k s g =
 finished_ends : (n : ℕ) (h : Past) → third ≡ past_stage h → PastWithin n h → Ends n (stands h finished)
 finished_ends n nothing s g = absurd cc
 finished_ends n (begun t steps) s g = absurd cc
-finished_ends n (placed c) s g = record { tail = []; c = c; ends = refl; within = g }
+finished_ends n (placed t steps at puts) s g =
+    record { tail = []; c = no t steps at puts; ends = refl; within = g }
 
 -- fixed words
 
@@ -112,7 +103,7 @@ word_run h x (y ∷ w) o r =
 gather_end : (h : Past) → gather h end_item ≡ h
 gather_end nothing = refl
 gather_end (begun t steps) = refl
-gather_end (placed (no t steps at puts)) = refl
+gather_end (placed t steps at puts) = refl
 
 behind_ends : (n : ℕ) (h : Past) (o : Behind) → word_stage o ≡ past_stage h → PastWithin n h → Ends (suc n) (moved h (behind o))
 behind_ends n h to_term s g = term_place_ends n h m.base m.wanted tt s g

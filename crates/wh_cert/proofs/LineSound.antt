@@ -43,7 +43,7 @@ stage _ = third
 abbrev pub past_stage : Past → Stage
 past_stage nothing = first
 past_stage (begun t steps) = second
-past_stage (placed c) = third
+past_stage (placed t steps at puts) = third
 
 abbrev pub item_from : Item → Stage
 item_from (head_item t) = first
@@ -93,7 +93,7 @@ item_text end_item r = r
 abbrev pub past_text : Past → List ℕ → List ℕ
 past_text nothing r = r
 past_text (begun t steps) r = codes "NO 1" ++ (10 ∷ (codes "term " ++ put_term t (10 ∷ put_steps steps r)))
-past_text (placed (no t steps at puts)) r =
+past_text (placed t steps at puts) r =
     codes "NO 1" ++ (10 ∷ (codes "term " ++ put_term t (10 ∷ put_steps steps (codes "at /" ++ put_path at (10 ∷ put_puts puts r)))))
 
 -- the limits, where n bytes were read
@@ -129,12 +129,12 @@ ItemWithin n _ = Unit {0}
 abbrev pub PastFits : Past → Type 0
 PastFits nothing = Unit {0}
 PastFits (begun t steps) = TermFits 0 t × All StepFits steps
-PastFits (placed c) = PartsFit c
+PastFits (placed t steps at puts) = PartsFit (no t steps at puts)
 
 abbrev pub PastWithin : ℕ → Past → Type 0
 PastWithin n nothing = Unit {0}
 PastWithin n (begun t steps) = (length steps < n) × PathsWithin n steps
-PastWithin n (placed c) = CountsWithin n c
+PastWithin n (placed t steps at puts) = CountsWithin n (no t steps at puts)
 
 -- after n bytes the step leads on in this stage, or gives an item of it, and has read f of the line
 abbrev pub LineNext : ℕ → LineStep → Stage → (List ℕ → List ℕ) → Type 0

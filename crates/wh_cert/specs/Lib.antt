@@ -5,8 +5,12 @@ pub mod CertText
 pub mod Said
 pub mod TypeMachine
 pub mod TermMachine
+pub mod YesMachine
 pub mod LineMachine
+pub mod ReadEnd
 pub mod TypeViews
 pub mod TermViews
 pub mod LineViews
+pub mod YesViews
+pub mod Faults
 pub mod ReadViews

@@ -4,7 +4,7 @@ use Rattle.wh_terms.specs.Places.{IsPath}
 use Rattle.wh_terms.specs.declared.path.Step as taken
 use Rattle.wh_text.specs.RawTree.{RTy, raw_type, RTys, no_types, more_types, named_binder, numbered_binder, RTm, named, numbered, free_variable, meta, lam, spine, RTms, none, more}
 use Rattle.wh_text.specs.Words.{IsWord}
-use Rattle.wh_cert.specs.Written.{Put, Cert, no}
+use Rattle.wh_cert.specs.Written.{Put, Arg, Node, done, alone, blocks, subterm, Preorder, Cert, yes, no}
 
 -- how many types, and how many terms
 abbrev pub type_count : RTys → ℕ
@@ -59,16 +59,37 @@ pub record PutFits (p : Put) : Type 0 where
   pub kind : TypeFits 0 p.kind
   pub term : TermFits 0 p.term
 
--- the parts are within their limits
+-- a number is at most 65,535
+abbrev pub IsSmall : ℕ → Type 0
+IsSmall n = n ≤ 65535
+
+pub record ArgFits (a : Arg) : Type 0 where
+  pub name : IsWord a.name
+  pub place : IsSmall a.place
+
+abbrev pub NodeFits : Node → Type 0
+NodeFits (blocks parts) = IsSmall (length parts) × All (All IsSmall) parts
+NodeFits (subterm args drop) = All ArgFits args × All IsSmall drop
+NodeFits _ = Unit {0}
+
+-- the parts are within their limits, and the nodes are one tree
 abbrev pub PartsFit : Cert → Type 0
+PartsFit (yes version ranks pairs nodes) = (version ≡ 1) × All IsSmall ranks × IsSmall pairs × All NodeFits nodes × Preorder 1 nodes
 PartsFit (no t steps at puts) = TermFits 0 t × All StepFits steps × IsPath at × All PutFits puts
 
 -- each path has at most n entries
 abbrev pub PathsWithin : ℕ → List taken.Step → Type 0
 PathsWithin n steps = All (λ s. length s.path ≤ n) steps
 
--- there are fewer than n steps, and at most n entries in each other list
+-- the lists of a node have at most n entries each
+abbrev pub NodeWithin : ℕ → Node → Type 0
+NodeWithin n (blocks parts) = All (λ block. length block ≤ n) parts
+NodeWithin n (subterm args drop) = (length args ≤ n) × (length drop ≤ n)
+NodeWithin n _ = Unit {0}
+
+-- there are fewer than n nodes, fewer than n steps, and at most n entries in each other list
 abbrev pub CountsWithin : ℕ → Cert → Type 0
+CountsWithin n (yes version ranks pairs nodes) = (length ranks ≤ n) × (length nodes < n) × All (NodeWithin n) nodes
 CountsWithin n (no t steps at puts) = (length steps < n) × PathsWithin n steps × (length at ≤ n) × (length puts ≤ n)
 
 -- a certificate within the limits of the format

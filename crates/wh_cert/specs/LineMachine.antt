@@ -4,10 +4,11 @@ use Rattle.std.specs.Prelude.{ℕ, ◌+◌, ◌-◌, ◌*◌, ◌==◌, cond, Li
 use Rattle.wh_terms.specs.declared.path.Step as taken
 use Rattle.wh_text.specs.Chars.{is_digit}
 use Rattle.wh_text.specs.RawTree.{RTy, RTm}
-use Rattle.wh_cert.specs.Written.{Put, Cert, no}
+use Rattle.wh_cert.specs.Written.{Put, Node}
 use Rattle.wh_cert.specs.TypeMachine.{TypeStack, outside, TypePlace, type_wanted, TypeStep, goes, type_ended, no_type, type_step}
 use Rattle.wh_cert.specs.TermMachine as m
 use Rattle.wh_cert.specs.TermMachine.{goes_on}
+use Rattle.wh_cert.specs.YesMachine as y
 
 -- what a line gives
 pub data Item : Type 0 where
@@ -115,32 +116,50 @@ line_step (put_type n fs k) b = type_line n (type_step fs k b)
 line_step (put_term n a fs k) b = put_line n a (m.step fs k b)
 line_step finished b = refused
 
--- the items so far, as parts of a certificate: none; a term and steps; these with a place and what is put
+-- the items so far, as parts of a NO certificate: none; a term and steps; these with a place and what is put
 pub data Past : Type 0 where
   nothing : Past
   begun : (t : RTm) (steps : List taken.Step) → Past
-  placed : (c : Cert) → Past
+  placed : (t : RTm) (steps : List taken.Step) (at : List ℕ) (puts : List Put) → Past
 
 -- one more item; those that do not fit are passed over
 abbrev pub gather : Past → Item → Past
 gather nothing (head_item t) = begun t []
 gather (begun t steps) (step_item s) = begun t (steps ++ s ∷ [])
-gather (begun t steps) (at_item at) = placed (no t steps at [])
-gather (placed (no t steps at puts)) (put_item p) = placed (no t steps at (puts ++ p ∷ []))
+gather (begun t steps) (at_item at) = placed t steps at []
+gather (placed t steps at puts) (put_item p) = placed t steps at (puts ++ p ∷ [])
 gather h i = h
 
--- before a byte of a certificate, or past all hope of one
+-- before all bytes; before a byte of a NO certificate, of a YES certificate; before a node that is not read yet; past all
+-- hope of a certificate
 pub data Standing : Type 0 where
+  unread : Standing
   stands : (h : Past) (p : LinePlace) → Standing
-  wrong : Standing
+  stands_yes : (h : y.Past) (p : y.Place) → Standing
+  later wrong : Standing
 
 abbrev pub moved : Past → LineStep → Standing
 moved h (on p) = stands h p
 moved h (gives i p) = stands (gather h i) p
 moved h refused = wrong
 
+abbrev pub moved_yes : y.Past → y.LineStep → Standing
+moved_yes h (y.on p) = stands_yes h p
+moved_yes h (y.gives i p) = stands_yes (y.gather h i) p
+moved_yes h y.later = later
+moved_yes h y.refused = wrong
+
+-- the first byte tells YES from NO
+abbrev pub first_byte : ℕ → Standing
+first_byte b =
+    cond (b == 89) (stands_yes y.nothing (y.word (codes "ES 1" ++ (10 ∷ codes "ranks")) (y.to_list y.of_ranks)))
+    (cond (b == 78) (stands nothing (word (codes "O 1" ++ (10 ∷ codes "term ")) to_term)) wrong)
+
 abbrev pub take_byte : Standing → ℕ → Standing
+take_byte unread b = first_byte b
 take_byte (stands h p) b = moved h (line_step p b)
+take_byte (stands_yes h p) b = moved_yes h (y.step (y.wants h) p b)
+take_byte later b = later
 take_byte wrong b = wrong
 
 -- where the bytes lead
@@ -149,4 +168,4 @@ run s [] = s
 run s (b ∷ r) = run (take_byte s b) r
 
 abbrev pub start : Standing
-start = stands nothing (word (spelling to_term) to_term)
+start = unread

@@ -3,8 +3,12 @@ use Rattle.std.specs.Prelude.{map}
 use Rattle.wh_text.specs.Erase.{rty, rtm}
 use Rattle.wh_cert.specs.Written as w
 use Rattle.wh_cert.specs.declared.certificate.Certificate.{Certificate}
-use Rattle.wh_cert.specs.declared.certificate.Certificate.TheVariants.{No}
+use Rattle.wh_cert.specs.declared.certificate.Certificate.TheVariants.{Yes, No}
+use Rattle.wh_cert.specs.declared.certificate.YesCertificate.{YesCertificate}
 use Rattle.wh_cert.specs.declared.certificate.NoCertificate.{NoCertificate}
+use Rattle.wh_cert.specs.declared.certificate.Node.{Node}
+use Rattle.wh_cert.specs.declared.certificate.Node.TheVariants.{Done, Alone, Blocks, Subterm}
+use Rattle.wh_cert.specs.declared.certificate.Arg.{Arg}
 use Rattle.wh_cert.specs.declared.certificate.Put.{Put}
 
 abbrev pub said_put : Put → w.Put
@@ -13,5 +17,18 @@ said_put p = record { number = p.number; kind = rty p.kind; term = rtm p.term }
 abbrev pub said_no : NoCertificate → w.Cert
 said_no c = w.no (rtm c.term) c.steps c.at (map said_put c.puts)
 
+abbrev pub said_arg : Arg → w.Arg
+said_arg a = record { name = a.name; place = a.place }
+
+abbrev pub said_node : Node → w.Node
+said_node Done = w.done
+said_node Alone = w.alone
+said_node (Blocks parts) = w.blocks parts
+said_node (Subterm args drop) = w.subterm (map said_arg args) drop
+
+abbrev pub said_yes : YesCertificate → w.Cert
+said_yes c = w.yes c.version c.ranks c.pairs (map said_node c.nodes)
+
 abbrev pub said : Certificate → w.Cert
+said (Yes c) = said_yes c
 said (No c) = said_no c

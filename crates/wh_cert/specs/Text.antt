@@ -1,9 +1,9 @@
 -- The text of a certificate (ours). `put_.. r` is the spelling with r behind it.
-use Rattle.std.specs.Prelude.{ℕ, ◌+◌, List, [], ◌∷◌, ◌++◌, Option, Some, None, codes}
+use Rattle.std.specs.Prelude.{ℕ, ◌+◌, List, [], ◌∷◌, ◌++◌, length, Option, Some, None, codes}
 use Rattle.std.specs.Fmt.{decimal}
 use Rattle.wh_terms.specs.declared.path.Step as taken
 use Rattle.wh_text.specs.Spelling.{put_part, put_term}
-use Rattle.wh_cert.specs.Written.{Put, Cert, no}
+use Rattle.wh_cert.specs.Written.{Put, Arg, Node, done, alone, blocks, subterm, Cert, yes, no}
 
 -- a path behind its `/`: a digit for each entry
 abbrev pub put_path : List ℕ → List ℕ → List ℕ
@@ -31,7 +31,48 @@ abbrev pub put_puts : List Put → List ℕ → List ℕ
 put_puts [] r = r
 put_puts (p ∷ ps) r = put_put p (put_puts ps r)
 
+-- numbers, a space before each
+abbrev pub put_entry : ℕ → List ℕ → List ℕ
+put_entry n r = 32 ∷ (decimal n ++ r)
+
+abbrev pub put_numbers : List ℕ → List ℕ → List ℕ
+put_numbers [] r = r
+put_numbers (n ∷ ns) r = put_entry n (put_numbers ns r)
+
+-- these up to the end of their line
+abbrev pub put_line : List ℕ → List ℕ → List ℕ
+put_line ns r = put_numbers ns (10 ∷ r)
+
+-- the line of a block
+abbrev pub put_block : List ℕ → List ℕ → List ℕ
+put_block block r = codes "block" ++ put_line block r
+
+abbrev pub put_blocks : List (List ℕ) → List ℕ → List ℕ
+put_blocks [] r = r
+put_blocks (b ∷ bs) r = put_block b (put_blocks bs r)
+
+-- the line of an argument that is looked at
+abbrev pub put_arg : Arg → List ℕ → List ℕ
+put_arg a r = codes "arg " ++ (a.name ++ (32 ∷ (decimal a.place ++ (10 ∷ r))))
+
+abbrev pub put_args : List Arg → List ℕ → List ℕ
+put_args [] r = r
+put_args (a ∷ rest) r = put_arg a (put_args rest r)
+
+-- the lines of a node, without its children's
+abbrev pub put_node : Node → List ℕ → List ℕ
+put_node done r = codes "done" ++ (10 ∷ r)
+put_node alone r = codes "alone" ++ (10 ∷ r)
+put_node (blocks parts) r = codes "blocks " ++ (decimal (length parts) ++ (10 ∷ put_blocks parts r))
+put_node (subterm args drop) r = codes "subterm" ++ (10 ∷ put_args args (codes "drop" ++ put_line drop r))
+
+abbrev pub put_nodes : List Node → List ℕ → List ℕ
+put_nodes [] r = r
+put_nodes (x ∷ xs) r = put_node x (put_nodes xs r)
+
 -- the text of a certificate, line by line
 abbrev pub text : Cert → List ℕ
+text (yes version ranks pairs nodes) =
+    codes "YES " ++ (decimal version ++ (10 ∷ (codes "ranks" ++ put_line ranks (codes "pairs " ++ (decimal pairs ++ (10 ∷ put_nodes nodes (codes "end" ++ (10 ∷ []))))))))
 text (no t steps at puts) =
     codes "NO 1" ++ (10 ∷ (codes "term " ++ put_term t (10 ∷ put_steps steps (codes "at /" ++ put_path at (10 ∷ put_puts puts (codes "end" ++ (10 ∷ [])))))))

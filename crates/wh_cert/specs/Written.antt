@@ -1,5 +1,5 @@
 -- What a certificate says, as trees without pointers.
-use Rattle.std.specs.Prelude.{ℕ, List}
+use Rattle.std.specs.Prelude.{ℕ, zero, suc, ◌+◌, List, [], ◌∷◌, length}
 use Rattle.wh_terms.specs.declared.path.Step as taken
 use Rattle.wh_text.specs.RawTree.{RTy, RTm}
 
@@ -9,7 +9,35 @@ pub record Put : Type 0 where
   pub kind : RTy
   pub term : RTm
 
--- a NO certificate: a term, the steps of a reduction from it, a place in the last term, and what is put for the first
--- term's variables there (ours)
+-- a symbol by its name, and which of its arguments is looked at, counted from 1
+pub record Arg : Type 0 where
+  pub name : List ℕ
+  pub place : ℕ
+
+-- how the chains of a set of pairs are shown to end: there is no pair; there is one pair, which may not follow itself; by
+-- blocks of pairs, of which no later one leads back to an earlier one; by an argument for each symbol that never grows and
+-- shrinks in the pairs that are dropped (Kop 2012; the spelling is ours)
+pub data Node : Type 0 where
+  done alone : Node
+  blocks : (parts : List (List ℕ)) → Node
+  subterm : (args : List Arg) (drop : List ℕ) → Node
+
+-- for how many sets a node leaves the same to be shown
+abbrev pub children : Node → ℕ
+children done = 0
+children alone = 0
+children (blocks parts) = length parts
+children (subterm args drop) = 1
+
+-- the nodes are so many trees, one behind the other, in each a node before its children's trees
+abbrev pub Preorder : ℕ → List Node → Type 0
+Preorder zero [] = Unit {0}
+Preorder zero (x ∷ rest) = ⊥
+Preorder (suc k) [] = ⊥
+Preorder (suc k) (x ∷ rest) = Preorder (children x + k) rest
+
+-- a certificate (ours). YES: a rank for each sort, the number of pairs, and a tree of nodes. NO: a term, the steps of a
+-- reduction from it, a place in the last term, and what is put for the first term's variables there
 pub data Cert : Type 0 where
+  yes : (version : ℕ) (ranks : List ℕ) (pairs : ℕ) (nodes : List Node) → Cert
   no : (term : RTm) (steps : List taken.Step) (at : List ℕ) (puts : List Put) → Cert

@@ -6,14 +6,56 @@ use std::alloc::{AllocError, Global};
 use std::marker::Model;
 use thiserror::Error;
 use wh_terms::{Path, Step};
-use wh_text::{RawTerm, RawType};
-use wh_types::Or;
+use wh_text::{Name, RawTerm, RawType};
+use wh_types::{Blocks, Numbers};
 
 /// A certificate. All places in its raw trees are 0.
 #[derive(Drop)]
 pub enum Certificate {
+    /// Every reduction from a term ends, within a bound.
+    Yes(YesCertificate),
     /// There are reductions of every length.
     No(NoCertificate),
+}
+
+/// Ranks of the sorts, and a tree of nodes by which every chain of pairs ends.
+#[derive(Drop)]
+pub struct YesCertificate {
+    /// The version of the format.
+    pub version: u32,
+    /// A rank for each sort.
+    pub ranks: Numbers,
+    /// The number of pairs.
+    pub pairs: u32,
+    /// The tree, each node before its children.
+    pub nodes: Nodes,
+}
+
+/// How the chains of a set of pairs are shown to end.
+#[derive(Drop)]
+pub enum Node {
+    /// There is no pair.
+    Done,
+    /// There is one pair, which may not follow itself.
+    Alone,
+    /// By blocks of pairs, none of which leads back to an earlier one; a child for each.
+    Blocks(Blocks),
+    /// By an argument of each symbol that shrinks in some pairs and never grows; a child for the others.
+    Subterm {
+        /// The symbols, each with an argument.
+        args: Args,
+        /// The pairs in which it shrinks.
+        drop: Numbers,
+    },
+}
+
+/// A symbol, and which of its arguments is looked at, counted from 1.
+#[derive(Drop)]
+pub struct Arg {
+    /// The name of the symbol.
+    pub name: Name,
+    /// The number of the argument.
+    pub place: u32,
 }
 
 /// A reduction whose last term holds an instance of its first one.
@@ -27,6 +69,98 @@ pub struct NoCertificate {
     pub at: Path,
     /// What is put for the variables of the first term in the instance.
     pub puts: Puts,
+}
+
+/// A list of symbols with arguments.
+#[derive(Drop)]
+pub struct Args {
+    items: Vec<Arg>,
+}
+
+impl Model for Args {
+    ghost use Rattle.std.specs.Prelude.{List};
+    ghost use Rattle.std.specs.Coded.{coded_list};
+    ghost use Rattle.wh_cert.specs.contracts.certificate.Arg as element;
+    ghost use Rattle.wh_cert.specs.declared.certificate.Arg.{Arg};
+
+    ghost Value = { List Arg };
+
+    ghost coded = { coded_list element.the_row.coded };
+
+    ghost view = { λ list. list.items.items };
+}
+
+impl Args {
+    /// The empty list.
+    pub fn new(alloc: Global) -> Result<Args, AllocError>
+        ensures { IfOk result (λ list. list ≡ []) }
+    {
+        Ok(Args {
+            items: Vec::new(alloc),
+        })
+    }
+
+    /// The item joins at the end; without memory the list stays as it was.
+    pub fn push(&mut self, item: Arg) -> Result<(), AllocError>
+        ensures ok { OnOk result (self.new ≡ self.old ++ item ∷ []) }
+        ensures err { OnErr result (self.new ≡ self.old) }
+    {
+        self.items.push(item)?;
+        Ok(())
+    }
+
+    /// The items in order.
+    pub fn as_slice(&self) -> &[Arg]
+        ensures { result.now ≡ self.now }
+    {
+        self.items.as_slice()
+    }
+}
+
+/// A list of nodes.
+#[derive(Drop)]
+pub struct Nodes {
+    items: Vec<Node>,
+}
+
+impl Model for Nodes {
+    ghost use Rattle.std.specs.Prelude.{List};
+    ghost use Rattle.std.specs.Coded.{coded_list};
+    ghost use Rattle.wh_cert.specs.contracts.certificate.Node as element;
+    ghost use Rattle.wh_cert.specs.declared.certificate.Node.{Node};
+
+    ghost Value = { List Node };
+
+    ghost coded = { coded_list element.the_row.coded };
+
+    ghost view = { λ list. list.items.items };
+}
+
+impl Nodes {
+    /// The empty list.
+    pub fn new(alloc: Global) -> Result<Nodes, AllocError>
+        ensures { IfOk result (λ list. list ≡ []) }
+    {
+        Ok(Nodes {
+            items: Vec::new(alloc),
+        })
+    }
+
+    /// The item joins at the end; without memory the list stays as it was.
+    pub fn push(&mut self, item: Node) -> Result<(), AllocError>
+        ensures ok { OnOk result (self.new ≡ self.old ++ item ∷ []) }
+        ensures err { OnErr result (self.new ≡ self.old) }
+    {
+        self.items.push(item)?;
+        Ok(())
+    }
+
+    /// The items in order.
+    pub fn as_slice(&self) -> &[Node]
+        ensures { result.now ≡ self.now }
+    {
+        self.items.as_slice()
+    }
 }
 
 /// A list of steps.
@@ -140,12 +274,11 @@ pub struct CertSyntax {
     pub at: u64,
 }
 
-impl From<CertSyntax> for Or<CertSyntax> {
-    ghost use Rattle.wh_types.specs.declared.want.Or.TheVariants.{Because};
-
-    ghost from_gives = { λ fault e. e ≡ Because fault };
-
-    fn from(fault: CertSyntax) -> Self {
-        Or::Because(fault)
-    }
+/// Why bytes are not read as a certificate.
+#[derive(Clone, Copy, Debug)]
+pub enum CertFault {
+    /// They are no certificate text.
+    Syntax(CertSyntax),
+    /// A node begins that is not read yet.
+    Later,
 }

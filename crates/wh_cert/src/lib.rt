@@ -10,8 +10,11 @@ mod raw;
 mod read;
 mod term_reader;
 mod type_reader;
+mod yes_line;
 
-pub use certificate::{CertSyntax, Certificate, NoCertificate, Put, Puts, Steps};
+pub use certificate::{
+    Arg, Args, CertFault, CertSyntax, Certificate, NoCertificate, Node, Nodes, Put, Puts, Steps, YesCertificate,
+};
 pub use laws::{no_proper_prefix, one_certificate, one_place, one_text};
 pub use print::print_certificate;
 pub use read::read_certificate;

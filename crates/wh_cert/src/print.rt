@@ -1,18 +1,19 @@
 //! The text of a certificate. Each printer appends to a list of bytes; without memory the list may have got a front of
 //! the text.
 
-ghost use Rattle.std.specs.Prelude.{◌≡◌, List, ℕ, [], ◌∷◌, ◌++◌, codes, map, IfOk, OnOk};
+ghost use Rattle.std.specs.Prelude.{◌≡◌, ◌++◌, map, IfOk, OnOk};
+ghost use Rattle.std.specs.Fmt.{decimal};
 ghost use Rattle.wh_terms.specs.Places.{IsPath};
 ghost use Rattle.wh_text.specs.Pushes.{Pushes};
-ghost use Rattle.wh_text.specs.Erase.{rtm};
-ghost use Rattle.wh_cert.specs.Text.{put_path, put_rule, put_step, put_steps, put_put, put_puts, text};
-ghost use Rattle.wh_cert.specs.Said.{said_put, said_no, said};
+ghost use Rattle.wh_cert.specs.Written.{blocks, subterm};
+ghost use Rattle.wh_cert.specs.Text.{put_path, put_rule, put_step, put_steps, put_put, put_puts, put_entry, put_numbers, put_line, put_block, put_blocks, put_arg, put_args, put_node, put_nodes, text};
+ghost use Rattle.wh_cert.specs.Said.{said_arg, said_node, said_yes, said_put, said_no, said};
 
-use crate::certificate::{Certificate, NoCertificate, Put};
+use crate::certificate::{Arg, Certificate, NoCertificate, Node, Put, YesCertificate};
 use std::alloc::{AllocError, Global};
 use wh_terms::Step;
 use wh_text::{print_number, print_part, print_term};
-use wh_types::Bytes;
+use wh_types::{Bytes, Numbers};
 
 /// The text of a certificate.
 pub fn print_certificate(alloc: Global, certificate: &Certificate) -> Result<Bytes, AllocError>
@@ -20,9 +21,142 @@ pub fn print_certificate(alloc: Global, certificate: &Certificate) -> Result<Byt
 {
     let mut out = Bytes::new(alloc)?;
     match certificate {
+        Certificate::Yes(certificate) => print_yes(&mut out, certificate)?,
         Certificate::No(certificate) => print_no(&mut out, certificate)?,
     }
     Ok(out)
+}
+
+/// Appends the text of a YES certificate.
+fn print_yes(out: &mut Bytes, certificate: &YesCertificate) -> Result<(), AllocError>
+    ensures { OnOk result (out.new ≡ out.old ++ text (said_yes certificate.now)) }
+{
+    out.append(b"YES ")?;
+    print_number(out, certificate.version)?;
+    out.append(b"\nranks")?;
+    print_line(out, certificate.ranks.as_slice())?;
+    out.append(b"pairs ")?;
+    print_number(out, certificate.pairs)?;
+    out.push(b'\n')?;
+    print_nodes(out, certificate.nodes.as_slice())?;
+    out.append(b"end\n")
+}
+
+/// Appends the rest of a line of numbers, a space before each.
+fn print_line(out: &mut Bytes, numbers: &[u32]) -> Result<(), AllocError>
+    ensures { OnOk result (Pushes out.old out.new (put_line numbers.now)) }
+{
+    print_numbers(out, numbers)?;
+    out.push(b'\n')
+}
+
+/// Appends numbers, a space before each.
+fn print_numbers(out: &mut Bytes, numbers: &[u32]) -> Result<(), AllocError>
+    ensures { OnOk result (Pushes out.old out.new (put_numbers numbers.now)) }
+{
+    for number in numbers {
+        print_entry(out, *number)?;
+    }
+    Ok(())
+}
+
+/// Appends a space and a number.
+fn print_entry(out: &mut Bytes, number: u32) -> Result<(), AllocError>
+    ensures { OnOk result (Pushes out.old out.new (put_entry number)) }
+{
+    out.push(b' ')?;
+    print_number(out, number)
+}
+
+/// Appends how many there are, in decimal digits.
+fn print_count(out: &mut Bytes, count: usize) -> Result<(), AllocError>
+    ensures { OnOk result (out.new ≡ out.old ++ decimal count) }
+{
+    if count >= 10 {
+        print_count(out, count / 10)?;
+    }
+    out.push(b'0' + (count % 10) as u8)
+}
+
+/// Appends the lines of each node.
+fn print_nodes(out: &mut Bytes, nodes: &[Node]) -> Result<(), AllocError>
+    ensures { OnOk result (Pushes out.old out.new (put_nodes (map said_node nodes.now))) }
+{
+    for node in nodes {
+        print_node(out, node)?;
+    }
+    Ok(())
+}
+
+/// Appends the lines of a node.
+fn print_node(out: &mut Bytes, node: &Node) -> Result<(), AllocError>
+    ensures { OnOk result (Pushes out.old out.new (put_node (said_node node.now))) }
+{
+    match node {
+        Node::Done => out.append(b"done\n"),
+        Node::Alone => out.append(b"alone\n"),
+        Node::Blocks(parts) => print_parts(out, parts.as_slice()),
+        Node::Subterm { args, drop } => print_subterm(out, args.as_slice(), drop.as_slice()),
+    }
+}
+
+/// Appends the lines of blocks.
+fn print_parts(out: &mut Bytes, parts: &[Numbers]) -> Result<(), AllocError>
+    ensures { OnOk result (Pushes out.old out.new (put_node (blocks parts.now))) }
+{
+    out.append(b"blocks ")?;
+    print_count(out, parts.len())?;
+    out.push(b'\n')?;
+    print_blocks(out, parts)
+}
+
+/// Appends the line of each block.
+fn print_blocks(out: &mut Bytes, parts: &[Numbers]) -> Result<(), AllocError>
+    ensures { OnOk result (Pushes out.old out.new (put_blocks parts.now)) }
+{
+    for block in parts {
+        print_block(out, block.as_slice())?;
+    }
+    Ok(())
+}
+
+/// Appends the line of a block.
+fn print_block(out: &mut Bytes, block: &[u32]) -> Result<(), AllocError>
+    ensures { OnOk result (Pushes out.old out.new (put_block block.now)) }
+{
+    out.append(b"block")?;
+    print_line(out, block)
+}
+
+/// Appends the lines of a node that looks at an argument of each symbol.
+fn print_subterm(out: &mut Bytes, args: &[Arg], drop: &[u32]) -> Result<(), AllocError>
+    ensures { OnOk result (Pushes out.old out.new (put_node (subterm (map said_arg args.now) drop.now))) }
+{
+    out.append(b"subterm\n")?;
+    print_args(out, args)?;
+    out.append(b"drop")?;
+    print_line(out, drop)
+}
+
+/// Appends the line of each argument that is looked at.
+fn print_args(out: &mut Bytes, args: &[Arg]) -> Result<(), AllocError>
+    ensures { OnOk result (Pushes out.old out.new (put_args (map said_arg args.now))) }
+{
+    for arg in args {
+        print_arg(out, arg)?;
+    }
+    Ok(())
+}
+
+/// Appends the line of an argument that is looked at.
+fn print_arg(out: &mut Bytes, arg: &Arg) -> Result<(), AllocError>
+    ensures { OnOk result (Pushes out.old out.new (put_arg (said_arg arg.now))) }
+{
+    out.append(b"arg ")?;
+    out.append(arg.name.bytes())?;
+    out.push(b' ')?;
+    print_number(out, arg.place)?;
+    out.push(b'\n')
 }
 
 /// Appends the text of a NO certificate.

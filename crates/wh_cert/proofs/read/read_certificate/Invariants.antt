@@ -5,4 +5,4 @@ use Rattle.wh_cert.proofs.read.read_certificate.Given as goal
 
 -- the bytes so far lead to where the reader stands
 abbrev pub invariant-loop-at : goal.invariant-loop-at
-invariant-loop-at l = run start (take l.at l.bytes) ≡ standing l.reached
+invariant-loop-at l = run start (take l.at l.bytes) ≡ standing l.reader
