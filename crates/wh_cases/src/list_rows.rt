@@ -1,4 +1,4 @@
-//! Rows of types, lists, ranks, choices and causes.
+//! Rows of types, lists, ranks and causes.
 
 ghost use Rattle.std.specs.Prelude.{◌≡◌, IfOk};
 ghost use Rattle.wh_types.specs.Erase.{ty};
@@ -6,7 +6,6 @@ ghost use Rattle.wh_types.specs.Ty.{◌⇒◌};
 
 use std::alloc::{AllocError, AllocFailed, Global};
 use std::test::Fail;
-use wh_subterm::{Choice, Projection};
 use wh_types::{Blocks, Bytes, Numbers, Or, Ranks, SimpleType, same_type};
 
 /// The type of functions from the one type to the other.
@@ -53,16 +52,10 @@ fn lists_keep_what_is_pushed(rt: HostRuntime) -> Result<(), Fail> {
 }
 
 #[test]
-fn ranks_and_choices(rt: HostRuntime) -> Result<(), Fail> {
+fn ranks(rt: HostRuntime) -> Result<(), Fail> {
     let alloc = rt.alloc();
     let ranks = Ranks::new(alloc, &[2, 0, 1])?;
     assert!(rt; (ranks.count(), ranks.of(0), ranks.of(2)) == (3, 2, 1));
-    let mut choices = Projection::new(alloc)?;
-    for (symbol, argument) in [(4, 2), (7, 1)] {
-        choices.push(Choice { symbol, argument })?;
-    }
-    let arguments = choices.as_slice().iter().map(|choice| choice.argument);
-    assert!(rt; arguments.eq([2, 1]));
     Ok(())
 }
 

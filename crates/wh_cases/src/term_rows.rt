@@ -284,23 +284,44 @@ fn substituted(alloc: Global, system: &System, no: &NoCertificate) -> Result<Byt
     spelled(alloc, Some(&value))
 }
 
+/// Terms with what becomes of them: `o` opens, `c` closes, `s` substitutes.
+const CHANGED: &[(u8, &[u8], &[u8])] = &[
+    (
+        b'o',
+        b"NO 1\nterm (\\$0:o.(\\$1:o.(q $1 $0)))\nat /\nend\n",
+        b"((f0 f2) #0)",
+    ),
+    // variables of one number and two types are two variables
+    (
+        b'c',
+        b"NO 1\nterm (p %2:o %2:(o->o))\nat /\nend\n",
+        b"((f1 #0) %2:(0->0))",
+    ),
+    // below the binder the loose variable 0 is the loose variable 1
+    (
+        b's',
+        b"NO 1\nterm (\\$0:o.(q $0 %3:o))\nat /\nend\n",
+        b"\\0.((f0 #0) #1)",
+    ),
+];
+
+/// What becomes of the certificate's term.
+fn changed(alloc: Global, system: &System, how: u8, text: &[u8]) -> Result<Bytes, AllocError> {
+    let no = certificate_of(alloc, text)?;
+    match how {
+        b'o' => body_opened(alloc, system, &no),
+        b'c' => closed(alloc, system, &no),
+        _ => substituted(alloc, system, &no),
+    }
+}
+
 #[test]
 fn opens_closes_and_substitutes(rt: HostRuntime) -> Result<(), Fail> {
     let alloc = rt.alloc();
     let system = system_of(alloc, BINARY)?;
-    let no = certificate_of(
-        alloc,
-        b"NO 1\nterm (\\$0:o.(\\$1:o.(q $1 $0)))\nat /\nend\n",
-    )?;
-    let opened = body_opened(alloc, &system, &no)?;
-    assert_eq!(rt; opened.as_slice(), b"((f0 f2) #0)".as_slice());
-    // variables of one number and two types are two variables
-    let no = certificate_of(alloc, b"NO 1\nterm (p %2:o %2:(o->o))\nat /\nend\n")?;
-    let shut = closed(alloc, &system, &no)?;
-    assert_eq!(rt; shut.as_slice(), b"((f1 #0) %2:(0->0))".as_slice());
-    // below the binder the loose variable 0 is the loose variable 1
-    let no = certificate_of(alloc, b"NO 1\nterm (\\$0:o.(q $0 %3:o))\nat /\nend\n")?;
-    let value = substituted(alloc, &system, &no)?;
-    assert_eq!(rt; value.as_slice(), b"\\0.((f0 #0) #1)".as_slice());
+    for (how, text, expected) in CHANGED {
+        let found = changed(alloc, &system, *how, *text)?;
+        assert_eq!(rt; found.as_slice(), *expected);
+    }
     Ok(())
 }

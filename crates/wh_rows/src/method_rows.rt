@@ -109,6 +109,18 @@ fn to_argument(alloc: Global, symbol: u32, argument: u32) -> Result<Projection, 
     Ok(args)
 }
 
+#[test]
+fn keeps_choices_in_order(rt: HostRuntime) -> Result<(), Fail> {
+    let mut args = to_argument(rt.alloc(), 4, 2)?;
+    args.push(Choice {
+        symbol: 7,
+        argument: 1,
+    })?;
+    let arguments = args.as_slice().iter().map(|choice| choice.argument);
+    assert!(rt; arguments.eq([2, 1]));
+    Ok(())
+}
+
 /// What is wrong with a projection, and at which symbol or pair.
 fn told_of_projection(answer: Result<(), SubtermFault>) -> (&'static str, u32) {
     match answer {
