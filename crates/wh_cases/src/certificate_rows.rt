@@ -2,7 +2,7 @@
 
 use std::alloc::{AllocError, Global};
 use std::test::Fail;
-use wh_cert::{print_certificate, read_certificate};
+use wh_cert::{CertFault, print_certificate, read_certificate};
 use wh_text::print_number;
 use wh_types::{Bytes, Or};
 
@@ -12,14 +12,25 @@ const LOOP: &[u8] = b"NO 1\nterm a\nstep 0 /\nstep 1 /\nat /\nend\n";
 /// A free variable, a path, and a term that is put for the variable.
 const PUT: &[u8] = b"NO 1\nterm (g %0:o)\nstep 0 /\nat /10\nput %0:o %1:o\nend\n";
 
-/// Texts that are read and printed: with an argument, with abstractions and bound variables, and with an abstraction as a
-/// head, functional types, and beta.
+/// Ranks, an argument that is looked at, and a pair that is dropped.
+const SUBTERM: &[u8] = b"YES 1\nranks 0 0\npairs 1\nsubterm\narg map 2\ndrop 0\ndone\nend\n";
+
+/// Blocks, with a node for each.
+const BLOCKS: &[u8] = b"YES 1\nranks 0\npairs 2\nblocks 2\nblock 0\nblock 1\nalone\nalone\nend\n";
+
+/// Texts that are read and printed: with an argument, with abstractions and bound variables, with an abstraction as a head,
+/// functional types, and beta; of termination without ranks, with keywords as names, with blocks in a block and with none.
 const TEXTS: &[&[u8]] = &[
     LOOP,
     PUT,
     b"NO 1\nterm (f zero)\nstep 0 /\nstep 1 /\nat /\nend\n",
     b"NO 1\nterm (app (lam (\\$0:o.(app $0 $0))) (lam (\\$0:o.(app $0 $0))))\nstep 0 /\nat /\nend\n",
     b"NO 1\nterm ((\\$0:(o->(o->o)->o).$0) %65535:(o->o))\nstep beta /0\nat /\nend\n",
+    SUBTERM,
+    BLOCKS,
+    b"YES 1\nranks\npairs 0\ndone\nend\n",
+    b"YES 1\nranks 65535 0 10\npairs 65535\nsubterm\narg sort 0\narg fun 65535\ndrop\nalone\nend\n",
+    b"YES 1\nranks\npairs 3\nblocks 2\nblock 2 1\nblock\nblocks 1\nblock 7\ndone\nblocks 0\nend\n",
 ];
 
 /// The text of the certificate that is read, or the place of the fault.
@@ -29,9 +40,17 @@ fn read_text(alloc: Global, bytes: &[u8]) -> Result<Bytes, AllocError> {
     }
     match read_certificate(alloc, bytes) {
         Ok(certificate) => print_certificate(alloc, &certificate),
-        Err(Or::Because(fault)) => number_text(alloc, fault.at),
+        Err(Or::Because(CertFault::Syntax(fault))) => number_text(alloc, fault.at),
+        Err(Or::Because(CertFault::Later)) => word(alloc, b"later"),
         Err(Or::NoMemory) => Err(AllocError),
     }
+}
+
+/// One word.
+fn word(alloc: Global, word: &[u8]) -> Result<Bytes, AllocError> {
+    let mut out = Bytes::new(alloc)?;
+    out.append(word)?;
+    Ok(out)
 }
 
 /// The digits of a number.
@@ -53,7 +72,7 @@ fn reads_what_it_prints(rt: HostRuntime) -> Result<(), Fail> {
 #[test]
 fn every_front_is_at_fault_at_its_end(rt: HostRuntime) -> Result<(), Fail> {
     let alloc = rt.alloc();
-    for text in [LOOP, PUT] {
+    for text in [LOOP, PUT, SUBTERM, BLOCKS] {
         for length in 0..text.len() {
             let found = read_text(alloc, &text[..length])?;
             let expected = number_text(alloc, length as u64)?;
@@ -74,6 +93,29 @@ fn tells_the_place_of_a_fault(rt: HostRuntime) -> Result<(), Fail> {
             b"NO 1\nterm a\nat /\nput %65536:o a\nend\n".as_slice(),
             b"26".as_slice(),
         ),
+        // a rank with a leading zero, and one past the greatest number
+        (b"YES 1\nranks 00".as_slice(), b"13".as_slice()),
+        (b"YES 1\nranks 65536".as_slice(), b"16".as_slice()),
+        // a node behind the last one, and none where one is wanted
+        (
+            b"YES 1\nranks\npairs 0\ndone\ndone\nend\n".as_slice(),
+            b"25".as_slice(),
+        ),
+        (
+            b"YES 1\nranks\npairs 0\nblocks 1\nblock\nend\n".as_slice(),
+            b"35".as_slice(),
+        ),
+        // a block too few, a byte behind the end, another version, and a node of a kind that is not built yet
+        (
+            b"YES 1\nranks\npairs 0\nblocks 1\ndone\nend\n".as_slice(),
+            b"29".as_slice(),
+        ),
+        (
+            b"YES 1\nranks\npairs 0\ndone\nend\n\n".as_slice(),
+            b"29".as_slice(),
+        ),
+        (b"YES 2".as_slice(), b"4".as_slice()),
+        (b"YES 1\nranks\npairs 0\npoly\n".as_slice(), b"later".as_slice()),
     ] {
         let found = read_text(rt.alloc(), text)?;
         assert_eq!(rt; found.as_slice(), expected);
