@@ -1,9 +1,8 @@
 -- Where the bytes of a certificate lead, whatever kind it is of.
-use Rattle.std.proofs.Common.{◌≡◌, ℕ, ◌^◌, List, [], ◌∷◌, ◌++◌, refl, sym, ap, ◌∙◌}
+use Rattle.std.proofs.Common.{◌≡◌, ℕ, List, [], ◌∷◌, ◌++◌, refl, sym, ◌∙◌}
 use Rattle.wh_cert.specs.Written.{Cert, yes, no}
 use Rattle.wh_cert.specs.Limits.{CountsWithin}
-use Rattle.wh_cert.specs.LineMachine.{finished, placed, Standing, stands, stands_yes, later, wrong, take_byte, run}
-use Rattle.wh_cert.specs.YesMachine as y
+use Rattle.wh_cert.specs.LineMachine.{Standing, later, wrong, take_byte, run}
 use Rattle.wh_cert.specs.ReadEnd.{IsEnd}
 
 pub run_wrong : (p : List ℕ) → run wrong p ≡ wrong

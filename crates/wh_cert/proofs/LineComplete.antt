@@ -14,7 +14,7 @@ use Rattle.wh_cert.specs.Limits.{TermFits, RuleFits, StepFits, PutFits, PartsFit
 use Rattle.wh_cert.specs.TypeMachine.{outside, type_wanted, TypeStep, goes, type_ended, no_type, type_step}
 use Rattle.wh_cert.specs.TermMachine as m
 use Rattle.wh_cert.specs.TermMachine.{goes_on}
-use Rattle.wh_cert.specs.LineMachine.{head_item, step_item, at_item, put_item, LinePlace, in_term, line, rule_wanted, rule_number, step_path, at_path, later_line, put_percent, put_number, put_type, put_term as placing, finished, LineStep, on, term_line, put_line, type_line, Past, nothing, begun, placed, gather, Standing, stands, wrong, moved, run, start}
+use Rattle.wh_cert.specs.LineMachine.{head_item, step_item, at_item, put_item, LinePlace, in_term, line, rule_wanted, rule_number, step_path, at_path, later_line, put_percent, put_number, put_type, put_term as placing, LineStep, on, term_line, put_line, type_line, Past, nothing, begun, placed, gather, Standing, stands, wrong, moved, run, start}
 use Rattle.wh_cert.specs.ReadEnd.{IsEnd}
 use Rattle.wh_cert.proofs.Ended.{run_wrong}
 use Rattle.wh_cert.proofs.YesReached.{text_one}

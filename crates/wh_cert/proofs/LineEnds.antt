@@ -3,10 +3,9 @@ use Rattle.std.proofs.Common.{◌≡◌, ℕ, suc, ◌≤◌, ◌==◌, List, []
 use Rattle.std.proofs.lemmas.Bool.{cond-true, eq-eqb}
 use Rattle.wh_text.specs.RawTree.{RTy}
 use Rattle.wh_cert.specs.Written.{no}
-use Rattle.wh_cert.specs.Limits.{CountsWithin}
 use Rattle.wh_cert.specs.TypeMachine.{TypeStack, outside, TypePlace, type_wanted, goes}
 use Rattle.wh_cert.specs.TermMachine as m
-use Rattle.wh_cert.specs.LineMachine.{Item, head_item, step_item, at_item, put_item, end_item, Behind, to_term, to_rule, to_path, to_at, to_put, to_finish, LinePlace, word, in_term, line, rule_wanted, rule_number, step_path, at_path, later_line, put_percent, put_number, put_type, put_term as placing, finished, LineStep, on, refused, behind, Past, nothing, begun, placed, gather, Standing, stands, moved, run}
+use Rattle.wh_cert.specs.LineMachine.{Item, head_item, step_item, at_item, put_item, end_item, Behind, to_term, to_rule, to_path, to_at, to_put, to_finish, LinePlace, word, in_term, line, rule_wanted, rule_number, step_path, at_path, later_line, put_percent, put_number, put_type, put_term as placing, finished, LineStep, on, refused, behind, Past, nothing, begun, placed, gather, stands, moved, run}
 use Rattle.wh_cert.proofs.TypeLaws.{GoodTypePlace, type_ends}
 use Rattle.wh_cert.proofs.TermSound.{GoodPlace}
 use Rattle.wh_cert.proofs.TermComplete.{term_ends}

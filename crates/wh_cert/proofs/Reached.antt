@@ -12,8 +12,7 @@ use Rattle.wh_cert.specs.YesMachine as y
 use Rattle.wh_cert.specs.ReadEnd.{IsEnd}
 use Rattle.wh_cert.proofs.YesReached as yes_past
 use Rattle.wh_cert.proofs.YesReached.{nodes_wider, byte_good, begun_good, end_found, StepGood}
-use Rattle.wh_cert.proofs.Ended.{run_later}
-use Rattle.wh_cert.proofs.LineSound.{stage, past_stage, item_from, item_to, lead, PlaceReads, item_text, past_text, GoodLine, ItemFits, ItemWithin, PastFits, PastWithin, LineNext, lead_kept}
+use Rattle.wh_cert.proofs.LineSound.{stage, past_stage, item_from, item_to, PlaceReads, item_text, past_text, GoodLine, ItemFits, ItemWithin, PastFits, PastWithin, LineNext, lead_kept}
 
 -- one more item
 

@@ -1,6 +1,5 @@
 -- What the reader of YES certificates keeps, as trees.
 use Rattle.std.proofs.Common.{◌≡◌, ℕ, zero, suc, List, [], ◌∷◌, ◌++◌, map, refl, ap, ◌∙◌}
-use Rattle.wh_cert.specs.Written as w
 use Rattle.wh_cert.specs.Said.{said_arg, said_node}
 use Rattle.wh_cert.specs.YesMachine.{of_block, list_ended}
 use Rattle.wh_cert.specs.YesViews.{next_block}

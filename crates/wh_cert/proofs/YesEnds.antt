@@ -1,15 +1,14 @@
 -- Every front of a YES certificate that the reader goes along can be ended within the limits: with `done` for each node that is
 -- still wanted.
-use Rattle.std.proofs.Common.{◌≡◌, ℕ, zero, suc, ◌+◌, ◌-◌, ◌*◌, ◌^◌, ◌<◌, ◌≤◌, ◌==◌, Bool, true, false, nat_lt, List, [], ◌∷◌, ◌++◌, length, codes, refl, sym, ap, ◌∙◌, subst, arith, length-append}
+use Rattle.std.proofs.Common.{◌≡◌, ℕ, zero, suc, ◌+◌, ◌-◌, ◌^◌, ◌<◌, ◌≤◌, ◌==◌, true, false, List, [], ◌∷◌, ◌++◌, length, codes, refl, sym, ap, ◌∙◌, subst, arith, length-append}
 use Rattle.std.specs.List.{All}
 use Rattle.std.proofs.lemmas.Bool.{cond-true, eq-eqb, ltb-true}
 use Rattle.std.proofs.lemmas.List.Elements.{All-nil, All-push, All-weaker}
-use Rattle.std.specs.Fmt.{decimal}
 use Rattle.wh_cert.specs.Written.{Arg, Node, done, alone, blocks, subterm, children, yes}
 use Rattle.wh_cert.specs.Limits.{NodeWithin}
-use Rattle.wh_cert.specs.YesMachine.{Item, ranks_item, pairs_item, node_item, end_item, Listed, of_ranks, of_block, of_drop, Counted, of_pairs, of_blocks, of_place, of_list, Behind, to_list, to_pairs, to_done, to_alone, to_blocks, to_subterm, to_name, to_finish, Place, word, listed, number_wanted, number, front, arg_front, name_wanted, letters, finished, LineStep, on, refused, behind, list_ended, Past, so_far, gather, wants}
+use Rattle.wh_cert.specs.YesMachine.{node_item, end_item, Listed, of_ranks, of_block, of_drop, Counted, of_pairs, of_blocks, of_place, of_list, Behind, to_list, to_pairs, to_done, to_alone, to_blocks, to_subterm, to_name, to_finish, Place, word, listed, number_wanted, number, front, arg_front, name_wanted, letters, finished, LineStep, on, refused, behind, list_ended, Past, so_far, gather, wants}
 use Rattle.wh_cert.specs.LineMachine.{Standing, stands_yes, moved_yes, run}
-use Rattle.wh_cert.proofs.YesSound.{Stage, first, second, third, listed_stage, counted_stage, word_stage, stage, GoodListed, GoodArgs, GoodNumbers, GoodCounted, GoodBehind, GoodPlace, ListedFor, CountedFor, BehindFor, PlaceFor}
+use Rattle.wh_cert.proofs.YesSound.{second, third, listed_stage, counted_stage, word_stage, stage, GoodListed, GoodCounted, GoodBehind, GoodPlace, ListedFor, CountedFor, BehindFor, PlaceFor}
 use Rattle.wh_cert.proofs.YesReached.{GoodPast, Good, no_wanted, nodes_wider}
 use Rattle.wh_cert.proofs.YesComplete.{node_run, wants_some}
 use Rattle.wh_cert.specs.ReadEnd.{IsEnd}

@@ -1,15 +1,15 @@
 -- Where the bytes of a YES certificate lead: the items so far and the lines since the last item spell them.
-use Rattle.std.proofs.Common.{◌≡◌, ℕ, zero, suc, ◌+◌, ◌-◌, ◌*◌, ◌<◌, ◌≤◌, Bool, true, false, nat_lt, List, [], ◌∷◌, ◌++◌, length, codes, refl, sym, ap, ◌∙◌, subst, arith, append_assoc, append-nil, length-append}
+use Rattle.std.proofs.Common.{◌≡◌, ℕ, zero, suc, ◌+◌, ◌-◌, ◌*◌, ◌<◌, ◌≤◌, false, nat_lt, List, [], ◌∷◌, ◌++◌, length, codes, refl, sym, ap, ◌∙◌, subst, arith, append_assoc, append-nil, length-append}
 use Rattle.std.specs.List.{All}
 use Rattle.std.proofs.lemmas.Bool.{ltb-true, lt-ltb}
 use Rattle.std.proofs.lemmas.List.Elements.{All-nil, All-push, All-weaker}
 use Rattle.std.specs.Fmt.{decimal}
 use Rattle.std.proofs.lemmas.Fmt.{decimal_digit}
 use Rattle.wh_cert.specs.Written.{Node, done, alone, blocks, subterm, children, Preorder, yes}
-use Rattle.wh_cert.specs.Text.{put_numbers, put_nodes, put_node, text}
-use Rattle.wh_cert.specs.Limits.{IsSmall, NodeFits, NodeWithin, PartsFit, CountsWithin}
-use Rattle.wh_cert.specs.YesMachine.{Item, ranks_item, pairs_item, node_item, end_item, Behind, to_list, of_ranks, Place, word, finished, LineStep, on, gives, later, refused, step, Past, so_far, nothing, gather, wants}
-use Rattle.wh_cert.proofs.YesSound.{put_nodes_add, Stage, first, second, third, stage, item_from, item_to, lead, PlaceReads, item_text, GoodNumbers, GoodPlace, PlaceFor, ItemGood, PlaceAfter, LineNext, lead_kept}
+use Rattle.wh_cert.specs.Text.{put_numbers, put_nodes, text}
+use Rattle.wh_cert.specs.Limits.{IsSmall, NodeFits, NodeWithin, PartsFit}
+use Rattle.wh_cert.specs.YesMachine.{Item, ranks_item, pairs_item, node_item, end_item, to_list, of_ranks, Place, word, finished, LineStep, on, gives, later, refused, step, Past, so_far, nothing, gather, wants}
+use Rattle.wh_cert.proofs.YesSound.{put_nodes_add, Stage, first, second, third, stage, item_from, item_to, PlaceReads, item_text, GoodNumbers, GoodPlace, PlaceFor, ItemGood, PlaceAfter, LineNext, lead_kept}
 
 -- the nodes so far, with so many trees behind them, are one tree
 abbrev pub Partial : ℕ → List Node → Type 0

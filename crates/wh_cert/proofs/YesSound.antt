@@ -7,11 +7,11 @@ use Rattle.std.proofs.lemmas.List.Elements.{All-nil, All-push, All-weaker}
 use Rattle.std.specs.Fmt.{decimal}
 use Rattle.wh_text.specs.Chars.{is_digit, is_start, is_part}
 use Rattle.wh_text.specs.Words.{IsWord}
-use Rattle.wh_cert.specs.Written.{Arg, Node, done, alone, blocks, subterm, children, Preorder}
+use Rattle.wh_cert.specs.Written.{Arg, Node, blocks, children}
 use Rattle.wh_cert.specs.Text.{put_numbers, put_block, put_blocks, put_arg, put_args, put_node, put_nodes}
 use Rattle.wh_cert.specs.Limits.{IsSmall, ArgFits, NodeFits, NodeWithin}
 use Rattle.wh_cert.specs.TermMachine.{goes_on}
-use Rattle.wh_cert.specs.YesMachine.{Item, ranks_item, pairs_item, node_item, end_item, Listed, of_ranks, of_block, of_drop, Counted, of_pairs, of_blocks, of_place, of_list, Behind, to_list, to_pairs, to_done, to_alone, to_blocks, to_subterm, to_name, to_finish, Place, word, listed, number_wanted, number, front, arg_front, name_wanted, letters, finished, LineStep, on, gives, later, refused, spelling, behind, word_on, block_wanted, list_ended, count_ended, list_step, number_ended, front_step, step}
+use Rattle.wh_cert.specs.YesMachine.{Item, ranks_item, pairs_item, node_item, end_item, Listed, of_ranks, of_block, of_drop, Counted, of_pairs, of_blocks, of_place, of_list, Behind, to_list, to_pairs, to_done, to_alone, to_blocks, to_subterm, to_name, to_finish, Place, word, listed, number_wanted, number, front, arg_front, name_wanted, letters, finished, LineStep, on, gives, later, refused, spelling, behind, word_on, list_ended, count_ended, list_step, number_ended, front_step, step}
 use Rattle.wh_cert.proofs.NamesAndNumbers.{first_letter, next_letter, first_digit_spelled, first_digit_small, goes_on_true, next_digit_spelled}
 
 -- one more at the end of a list
@@ -292,9 +292,12 @@ list_ended_kept wants n (of_block zero parts) xs g few a =
 list_ended_kept wants n (of_block (suc left) parts) xs g few a =
     let one : length (parts ++ xs ∷ []) ≡ length parts + 1 = length-append parts (xs ∷ []) in
     let same : length (parts ++ xs ∷ []) + suc left ≡ length parts + suc (suc left) = block_small (suc left) parts xs in
-    let lists : All (λ (block : List ℕ). length block ≤ suc n) (parts ++ xs ∷ []) = All-push (λ (block : List ℕ). length block ≤ suc n) parts xs (within_wider n (suc n) parts (omega arith) g.2) (omega (arith, few.1)) in
-    (refl, (subst IsSmall (sym same) g.0, All-push (All IsSmall) parts xs g.1 few.0, lists, omega (arith, one, g.3)), a,
-    ([], refl, λ r. ap (λ (k : ℕ). codes "blocks " ++ (decimal k ++ (10 ∷ put_blocks (parts ++ xs ∷ []) r))) same ∙ ap (λ (s : List ℕ). codes "blocks " ++ (decimal (length parts + suc (suc left)) ++ (10 ∷ s))) (put_blocks_add parts xs r)))
+    let lists : All (λ (block : List ℕ). length block ≤ suc n) (parts ++ xs ∷ []) = All-push (λ (block : List ℕ). length block ≤ suc n) parts xs (within_wider n (suc n) parts (omega arith) g.2) (omega (arith, few.1)) in (
+      refl,
+      (subst IsSmall (sym same) g.0, All-push (All IsSmall) parts xs g.1 few.0, lists, omega (arith, one, g.3)),
+      a,
+      ([], refl, λ r. ap (λ (k : ℕ). codes "blocks " ++ (decimal k ++ (10 ∷ put_blocks (parts ++ xs ∷ []) r))) same ∙ ap (λ (s : List ℕ). codes "blocks " ++ (decimal (length parts + suc (suc left)) ++ (10 ∷ s))) (put_blocks_add parts xs r)),
+    )
 list_ended_kept wants n (of_drop args) xs g few a =
     (refl, refl, (a, (g.0, few.0), (omega (arith, g.1), omega (arith, few.1)), omega (arith, g.2)), tt, (λ any. tt), ((λ (r : List ℕ). r), (λ r. refl), (λ r. refl)))
 

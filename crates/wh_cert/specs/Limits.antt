@@ -4,7 +4,7 @@ use Rattle.wh_terms.specs.Places.{IsPath}
 use Rattle.wh_terms.specs.declared.path.Step as taken
 use Rattle.wh_text.specs.RawTree.{RTy, raw_type, RTys, no_types, more_types, named_binder, numbered_binder, RTm, named, numbered, free_variable, meta, lam, spine, RTms, none, more}
 use Rattle.wh_text.specs.Words.{IsWord}
-use Rattle.wh_cert.specs.Written.{Put, Arg, Node, done, alone, blocks, subterm, Preorder, Cert, yes, no}
+use Rattle.wh_cert.specs.Written.{Put, Arg, Node, blocks, subterm, Preorder, Cert, yes, no}
 
 -- how many types, and how many terms
 abbrev pub type_count : RTys → ℕ

@@ -1,10 +1,11 @@
--- A reader of certificates, byte by byte, as a function: what it stands before in the present line, and the items that the
--- lines give. It mirrors the code; the laws in proofs/ tie it to the text.
+-- A reader of certificates, byte by byte, as a function: the lines of a NO certificate with the items that they give, and where
+-- the bytes of a certificate of either kind lead. The lines of a YES certificate are told in YesMachine. It mirrors the code;
+-- the laws in proofs/ tie it to the text.
 use Rattle.std.specs.Prelude.{ℕ, ◌+◌, ◌-◌, ◌*◌, ◌==◌, cond, List, [], ◌∷◌, ◌++◌, Option, Some, None, codes}
 use Rattle.wh_terms.specs.declared.path.Step as taken
 use Rattle.wh_text.specs.Chars.{is_digit}
 use Rattle.wh_text.specs.RawTree.{RTy, RTm}
-use Rattle.wh_cert.specs.Written.{Put, Node}
+use Rattle.wh_cert.specs.Written.{Put}
 use Rattle.wh_cert.specs.TypeMachine.{TypeStack, outside, TypePlace, type_wanted, TypeStep, goes, type_ended, no_type, type_step}
 use Rattle.wh_cert.specs.TermMachine as m
 use Rattle.wh_cert.specs.TermMachine.{goes_on}

@@ -13,7 +13,8 @@ mod type_reader;
 mod yes_line;
 
 pub use certificate::{
-    Arg, Args, CertFault, CertSyntax, Certificate, NoCertificate, Node, Nodes, Put, Puts, Steps, YesCertificate,
+    Arg, Args, CertFault, CertSyntax, Certificate, NoCertificate, Node, Nodes, Put, Puts, Steps,
+    YesCertificate,
 };
 pub use laws::{no_proper_prefix, one_certificate, one_place, one_text};
 pub use print::print_certificate;

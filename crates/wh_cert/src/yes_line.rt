@@ -168,7 +168,8 @@ impl YesLine {
         at: usize,
         byte: u8,
     ) -> Result<YesStep, AllocError>
-        ensures { IfOk result (λ went. yes_went went self.new ≡ word_step (drop at (spelling (behind_of behind self.old))) (behind_of behind self.old) byte) }
+        ensures { IfOk result (λ went. yes_went went self.new
+            ≡ word_step (drop at (spelling (behind_of behind self.old))) (behind_of behind self.old) byte) }
     {
         let word = spelling(behind);
         if at >= word.len() {

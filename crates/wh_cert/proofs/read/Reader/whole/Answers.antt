@@ -4,7 +4,7 @@ use Rattle.wh_cert.specs.Written.{Cert}
 use Rattle.wh_cert.specs.Said.{said}
 use Rattle.wh_cert.specs.LineMachine.{Standing}
 use Rattle.wh_cert.specs.ReadEnd.{IsEnd}
-use Rattle.wh_cert.specs.ReadViews.{no_standing, yes_standing, standing}
+use Rattle.wh_cert.specs.ReadViews.{yes_standing, standing}
 use Rattle.wh_cert.proofs.read.Reader.whole.Goals as goal
 
 pub returns-in-Yes : goal.returns-in-Yes
