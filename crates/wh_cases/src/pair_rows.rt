@@ -1,10 +1,11 @@
 //! `subsumed`, over pairs of systems that differ in the right side of their last rule. What the pairs of a system are is
 //! told by the rows of wh_rows.
 
-use crate::reading::{pairs_of, system_of};
+use crate::reading::system_of;
 use std::alloc::{AllocError, Global};
 use std::test::Fail;
-use wh_pairs::subsumed;
+use wh_pairs::{pairs, subsumed};
+use wh_system::PairList;
 
 /// A call with no condition.
 const FREE: &[u8] =
@@ -22,10 +23,16 @@ const SECOND: &[u8] =
 const OTHER: &[u8] =
     b"sort n;sort o;fun g:o->o;fun p:(o->o->o)->o->o;rule {X:o} g X => X;rule {F:[o,o]o,X:o} p (\\x:o.\\y:o.F[x,y]) X => F[g X,X];";
 
+/// The dependency pairs of the system of a text.
+fn pairs_in(alloc: Global, text: &[u8]) -> Result<PairList, AllocError> {
+    let system = system_of(alloc, text)?;
+    pairs(alloc, &system).map_err(|_| AllocError)
+}
+
 /// Whether the one pair of the first system is subsumed by that of the second.
 fn is_subsumed(alloc: Global, first: &[u8], second: &[u8]) -> Result<bool, AllocError> {
-    let a = pairs_of(alloc, &system_of(alloc, first)?)?;
-    let b = pairs_of(alloc, &system_of(alloc, second)?)?;
+    let a = pairs_in(alloc, first)?;
+    let b = pairs_in(alloc, second)?;
     match (a.as_slice(), b.as_slice()) {
         ([a], [b]) => Ok(subsumed(a, b)),
         _ => Err(AllocError),

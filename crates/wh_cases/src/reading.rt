@@ -8,9 +8,8 @@ ghost use Rattle.wh_terms.specs.Sight.{IsTerm, LooseBelow};
 
 use std::alloc::{AllocError, Global};
 use wh_cert::{Certificate, NoCertificate, read_certificate};
-use wh_pairs::pairs;
 use wh_read::read_system;
-use wh_system::{PairList, System};
+use wh_system::System;
 use wh_terms::{Term, fits};
 use wh_text::RawTerm;
 
@@ -20,11 +19,6 @@ pub fn system_of(alloc: Global, text: &[u8]) -> Result<System, AllocError> {
         return Err(AllocError);
     }
     read_system(alloc, text).map_err(|_| AllocError)
-}
-
-/// The dependency pairs of a system.
-pub fn pairs_of(alloc: Global, system: &System) -> Result<PairList, AllocError> {
-    pairs(alloc, system).map_err(|_| AllocError)
 }
 
 /// The certificate of a text that is one.

@@ -220,28 +220,50 @@ fn doubled(alloc: Global, leaf: &[u8], levels: u32) -> Result<Vec<u8>, AllocErro
     Ok(tree)
 }
 
+/// A tree of a binary symbol joins the text.
+fn add_doubled(
+    alloc: Global,
+    text: &mut Vec<u8>,
+    leaf: &[u8],
+    levels: u32,
+) -> Result<(), AllocError> {
+    let tree = doubled(alloc, leaf, levels)?;
+    text.extend_from_slice(tree.as_slice())
+}
+
 /// A term of which beta makes one of size 131,069.
 fn large(alloc: Global) -> Result<Vec<u8>, AllocError> {
     let mut text = Vec::from_slice(alloc, b"NO 1\nterm ((\\$0:o.".as_slice())?;
-    text.extend_from_slice(doubled(alloc, b"$0", 8)?.as_slice())?;
+    add_doubled(alloc, &mut text, b"$0", 8)?;
     text.extend_from_slice(b") ".as_slice())?;
-    text.extend_from_slice(doubled(alloc, b"c", 7)?.as_slice())?;
+    add_doubled(alloc, &mut text, b"c", 7)?;
     text.extend_from_slice(b")\nstep beta /\nat /\nend\n".as_slice())?;
     Ok(text)
 }
 
-/// Two symbols to build large terms of.
-const BUILDERS: &[u8] = b"sort o;fun c:o;fun f:o->o;fun d:o->o->o;";
+/// Symbols to build large terms of, and two constants that lead to each other.
+const BUILDERS: &[u8] =
+    b"sort o;fun a:o;fun b:o;fun c:o;fun f:o->o;fun d:o->o->o;rule {} a => b;rule {} b => a;";
+
+/// A certificate: `l` is long, `h` grows high, and `s` grows in size.
+fn grown(alloc: Global, how: u8) -> Result<Vec<u8>, AllocError> {
+    match how {
+        b'l' => long(alloc),
+        b'h' => high(alloc),
+        _ => large(alloc),
+    }
+}
 
 #[test]
 fn replays_to_the_end_or_a_limit(rt: HostRuntime) -> Result<(), Fail> {
     let alloc = rt.alloc();
-    for (system, text, expected) in [
-        (SWAP, long(alloc)?, b"f0".as_slice()),
-        (BUILDERS, high(alloc)?, b"too big 0".as_slice()),
-        (BUILDERS, large(alloc)?, b"too big 0".as_slice()),
+    for (how, expected) in [
+        (b'l', b"f0".as_slice()),
+        (b'h', b"too big 0".as_slice()),
+        (b's', b"too big 0".as_slice()),
     ] {
-        let found = replayed(alloc, system, text.as_slice())?;
+        let text = grown(alloc, how)?;
+        let found = replayed(alloc, BUILDERS, text.as_slice())?;
         assert_eq!(rt; found.as_slice(), expected);
     }
     Ok(())

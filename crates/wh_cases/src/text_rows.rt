@@ -119,14 +119,26 @@ fn abstraction(alloc: Global) -> Result<RawTerm, AllocError> {
 const MAP: &[u8] =
     b"sort nat;sort list;fun cons:nat->list->list;fun map:(nat->nat)->list->list;rule {F:[nat]nat,X:nat,Y:list} map (\\x:nat.F[x]) (cons X Y) => Y;";
 
-/// The left side of the first rule, on a line.
+/// The text of a raw term, on a line.
+fn add_raw(alloc: Global, out: &mut Bytes, raw: &RawTerm) -> Result<(), AllocError> {
+    let text = print_raw(alloc, raw)?;
+    out.append(text.as_slice())?;
+    out.push(b'\n')
+}
+
+/// The left side of the first rule of a system.
 fn add_left(alloc: Global, out: &mut Bytes, system: &System) -> Result<(), AllocError> {
     if system.rules().is_empty() {
         return Err(AllocError);
     }
     let raw = system.raw_side(alloc, 0, false)?;
-    out.append(print_raw(alloc, &raw)?.as_slice())?;
-    out.push(b'\n')
+    add_raw(alloc, out, &raw)
+}
+
+/// The same of a text.
+fn add_left_of(alloc: Global, out: &mut Bytes, text: &[u8]) -> Result<(), AllocError> {
+    let system = system_of(alloc, text)?;
+    add_left(alloc, out, &system)
 }
 
 /// What a line puts: the type as it is and as a part of a type, and the term.
@@ -135,8 +147,22 @@ fn add_put(alloc: Global, out: &mut Bytes, put: &Put) -> Result<(), AllocError> 
     out.push(b' ')?;
     print_part(out, &put.kind)?;
     out.push(b' ')?;
-    out.append(print_raw(alloc, &put.term)?.as_slice())?;
-    out.push(b'\n')
+    add_raw(alloc, out, &put.term)
+}
+
+/// What the lines of a certificate put.
+fn add_puts(alloc: Global, out: &mut Bytes, text: &[u8]) -> Result<(), AllocError> {
+    let no = certificate_of(alloc, text)?;
+    for put in no.puts.as_slice() {
+        add_put(alloc, out, put)?;
+    }
+    Ok(())
+}
+
+/// The abstraction.
+fn add_abstraction(alloc: Global, out: &mut Bytes) -> Result<(), AllocError> {
+    let raw = abstraction(alloc)?;
+    add_raw(alloc, out, &raw)
 }
 
 /// A type of functions on functions, and a free variable of a functional type.
@@ -146,12 +172,9 @@ const FUNCTIONAL: &[u8] = b"NO 1\nterm a\nat /\nput %0:((nat->o)->list) %65535:(
 fn prints_texts(rt: HostRuntime) -> Result<(), Fail> {
     let alloc = rt.alloc();
     let mut out = Bytes::new(alloc)?;
-    add_left(alloc, &mut out, &system_of(alloc, MAP)?)?;
-    for put in certificate_of(alloc, FUNCTIONAL)?.puts.as_slice() {
-        add_put(alloc, &mut out, put)?;
-    }
-    out.append(print_raw(alloc, &abstraction(alloc)?)?.as_slice())?;
-    out.push(b'\n')?;
+    add_left_of(alloc, &mut out, MAP)?;
+    add_puts(alloc, &mut out, FUNCTIONAL)?;
+    add_abstraction(alloc, &mut out)?;
     print_number(&mut out, 4_294_967_295)?;
     assert_eq!(rt;
         out.as_slice(),
