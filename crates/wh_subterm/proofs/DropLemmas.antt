@@ -55,7 +55,7 @@ pub longer_twice : (set drop : List ℕ) → (HasStray set drop → ⊥) → len
 longer_twice set drop none longer = elim (distinct_or_twice drop) [
   | inl distinct ↦
       let few = length-le_from_is_member nat_eq_equiv drop set distinct
-        (λ n found. (is_member-Decides Decides-eqb set n).1 (within_set set drop n none ((is_member-Decides Decides-eqb drop n).0 found))) in
+      (λ n found. (is_member-Decides Decides-eqb set n).1 (within_set set drop n none ((is_member-Decides Decides-eqb drop n).0 found))) in
       absurd (omega arith)
   | inr twice ↦ twice
 ]
