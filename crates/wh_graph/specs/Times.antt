@@ -31,7 +31,8 @@ AreCounted set blocks i times =
 -- `AreAdded set list i old new`: at the place of each number of the set, how often it stands in the list before place i is added
 abbrev pub AreAdded : List ℕ → List ℕ → ℕ → List Times → List Times → Type 0
 AreAdded set list i old new =
-    (p n : ℕ) (a : Times) → slice_get set p ≡ Some n → slice_get old p ≡ Some a → (b : Times) × TimesIn list n i b × (slice_get new p ≡ Some (plus a b))
+    (p n : ℕ) (a : Times) → slice_get set p ≡ Some n → slice_get old p ≡ Some a
+    → (b : Times) × TimesIn list n i b × (slice_get new p ≡ Some (plus a b))
 
 -- the number is in the list and not in the set
 abbrev pub IsStrayIn : List ℕ → List ℕ → ℕ → Type 0

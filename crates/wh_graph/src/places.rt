@@ -10,6 +10,9 @@ ghost use Rattle.wh_graph.specs.Times.{AreAdded, AreCounted, IsStray, IsStrayIn,
 use crate::least::smaller;
 use wh_types::Numbers;
 
+// How many numbers of a set are counted at once: their counts stand on the stack.
+const PIECE: usize = 4096;
+
 /// How often a number is listed.
 #[derive(Clone, Copy)]
 pub enum Times {
@@ -55,24 +58,24 @@ fn least_stray_in(set: &[u32], list: &[u32]) -> Option<u32>
     least
 }
 
-// The least number of the set that is not listed once. The set is taken by pieces: the counts of a piece fit on the stack.
+// The least number of the set that is not listed once. The set is taken by pieces.
 fn least_uneven(set: &[u32], blocks: &[Numbers]) -> Option<u32>
     requires { IsIncreasing set.now }
     ensures { LeastOf (IsUneven set.now blocks.now) result }
 {
-    if set.len() <= 4096 {
+    if set.len() <= PIECE {
         return first_uneven(set, blocks);
     }
     smaller(
-        first_uneven(&set[..4096], blocks),
-        least_uneven(&set[4096..], blocks),
+        first_uneven(&set[..PIECE], blocks),
+        least_uneven(&set[PIECE..], blocks),
     )
 }
 
 // The first number of the piece that is not listed once.
 fn first_uneven(set: &[u32], blocks: &[Numbers]) -> Option<u32>
     requires increasing { IsIncreasing set.now }
-    requires few { length set.now ≤ 4096 }
+    requires few { length set.now ≤ PIECE }
     ensures { LeastOf (IsUneven set.now blocks.now) result }
 {
     let times = count(set, blocks);
@@ -86,12 +89,12 @@ fn first_uneven(set: &[u32], blocks: &[Numbers]) -> Option<u32>
 }
 
 // How often each number of the piece is listed, at its place.
-fn count(set: &[u32], blocks: &[Numbers]) -> [Times; 4096]
+fn count(set: &[u32], blocks: &[Numbers]) -> [Times; PIECE]
     requires increasing { IsIncreasing set.now }
-    requires few { length set.now ≤ 4096 }
+    requires few { length set.now ≤ PIECE }
     ensures { AreCounted set.now blocks.now (length blocks.now) result }
 {
-    let mut times = [Times::Never; 4096];
+    let mut times = [Times::Never; PIECE];
     for block in blocks {
         count_in(set, block.as_slice(), &mut times);
     }
@@ -99,9 +102,9 @@ fn count(set: &[u32], blocks: &[Numbers]) -> [Times; 4096]
 }
 
 // Counts how often each number of the piece stands in the list.
-fn count_in(set: &[u32], list: &[u32], times: &mut [Times; 4096])
+fn count_in(set: &[u32], list: &[u32], times: &mut [Times; PIECE])
     requires increasing { IsIncreasing set.now }
-    requires few { length set.now ≤ 4096 }
+    requires few { length set.now ≤ PIECE }
     ensures { AreAdded set.now list.now (length list.now) times.old times.new }
 {
     for number in list {

@@ -7,7 +7,7 @@ use Rattle.wh_graph.proofs.places.+least_uneven.Goals as goal
 
 pub slice_bounds-first_uneven-end : goal.slice_bounds-first_uneven-end
 slice_bounds-first_uneven-end t c =
-    let longer : 4096 < length c.args.set.now = grind (arith, nat_tests, c.if-set-le4096.false) in front_long 4096 c.args.set.now longer
+    let longer : 4096 < length c.args.set.now = grind (arith, nat_tests, c.if-set-le-PIECE.false) in front_long 4096 c.args.set.now longer
 
 pub first_uneven-requires-2-clause-increasing : goal.first_uneven-requires-2-clause-increasing
 first_uneven-requires-2-clause-increasing t c = increasing_take 4096 c.args.set.now c.requires
@@ -17,7 +17,7 @@ first_uneven-requires-2-clause-few t c = front_few 4096 c.args.set.now
 
 pub least_uneven-requires : goal.least_uneven-requires
 least_uneven-requires t c =
-    let longer : 4096 < length c.args.set.now = grind (arith, nat_tests, c.if-set-le4096.false) in
+    let longer : 4096 < length c.args.set.now = grind (arith, nat_tests, c.if-set-le-PIECE.false) in
     (omega (arith, back_less 4096 c.args.set.now (omega arith) longer, c.decreases), increasing_back 4096 c.args.set.now c.requires)
 
 pub returns : goal.returns
