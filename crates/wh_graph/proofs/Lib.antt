@@ -2,6 +2,7 @@ pub mod RootLemmas
 pub mod ClashLemmas
 pub mod LeastLemmas
 pub mod TimesLemmas
+pub mod CountLemmas
 pub mod EdgeLemmas
 pub mod FollowLemmas
 pub mod PushLemmas

@@ -5,10 +5,13 @@ ghost use Rattle.wh_system.specs.PairData.{IsIncreasing};
 ghost use Rattle.wh_graph.specs.Components.{IsIn};
 ghost use Rattle.wh_graph.specs.Blocks.{IsMisplaced};
 ghost use Rattle.wh_graph.specs.Least.{LeastOf};
-ghost use Rattle.wh_graph.specs.Times.{IsStray, IsStrayIn, IsUneven, TimesIn, TimesListed, plus};
+ghost use Rattle.wh_graph.specs.Times.{AreAdded, AreCounted, IsStray, IsStrayIn, IsUneven, plus};
 
 use crate::least::smaller;
 use wh_types::Numbers;
+
+// How many numbers of a set are counted at once: their counts stand on the stack.
+const PIECE: usize = 4096;
 
 /// How often a number is listed.
 #[derive(Clone, Copy)]
@@ -26,7 +29,7 @@ pub fn first_misplaced(set: &[u32], blocks: &[Numbers]) -> Option<u32>
     requires { IsIncreasing set.now }
     ensures { LeastOf (IsMisplaced set.now blocks.now) result }
 {
-    smaller(least_stray(set, blocks), first_uneven(set, blocks))
+    smaller(least_stray(set, blocks), least_uneven(set, blocks))
 }
 
 // The least number that is listed and not in the set.
@@ -55,13 +58,29 @@ fn least_stray_in(set: &[u32], list: &[u32]) -> Option<u32>
     least
 }
 
-// The first number of the set that is not listed once.
-fn first_uneven(set: &[u32], blocks: &[Numbers]) -> Option<u32>
+// The least number of the set that is not listed once. The set is taken by pieces.
+fn least_uneven(set: &[u32], blocks: &[Numbers]) -> Option<u32>
     requires { IsIncreasing set.now }
     ensures { LeastOf (IsUneven set.now blocks.now) result }
 {
-    for number in set {
-        match times_listed(blocks, *number) {
+    if set.len() <= PIECE {
+        return first_uneven(set, blocks);
+    }
+    smaller(
+        first_uneven(&set[..PIECE], blocks),
+        least_uneven(&set[PIECE..], blocks),
+    )
+}
+
+// The first number of the piece that is not listed once.
+fn first_uneven(set: &[u32], blocks: &[Numbers]) -> Option<u32>
+    requires increasing { IsIncreasing set.now }
+    requires few { length set.now ≤ PIECE }
+    ensures { LeastOf (IsUneven set.now blocks.now) result }
+{
+    let times = count(set, blocks);
+    for (place, number) in set.iter().enumerate() {
+        match times[place] {
             Times::Once => {}
             Times::Never | Times::Often => return Some(*number),
         }
@@ -69,15 +88,31 @@ fn first_uneven(set: &[u32], blocks: &[Numbers]) -> Option<u32>
     None
 }
 
-// How often the number is listed.
-fn times_listed(blocks: &[Numbers], number: u32) -> Times
-    ensures { TimesListed blocks.now number (length blocks.now) result }
+// How often each number of the piece is listed, at its place.
+fn count(set: &[u32], blocks: &[Numbers]) -> [Times; PIECE]
+    requires increasing { IsIncreasing set.now }
+    requires few { length set.now ≤ PIECE }
+    ensures { AreCounted set.now blocks.now (length blocks.now) result }
 {
-    let mut times = Times::Never;
+    let mut times = [Times::Never; PIECE];
     for block in blocks {
-        times = plus(times, times_in(block.as_slice(), number));
+        count_in(set, block.as_slice(), &mut times);
     }
     times
+}
+
+// Counts how often each number of the piece stands in the list.
+fn count_in(set: &[u32], list: &[u32], times: &mut [Times; PIECE])
+    requires increasing { IsIncreasing set.now }
+    requires few { length set.now ≤ PIECE }
+    ensures { AreAdded set.now list.now (length list.now) times.old times.new }
+{
+    for number in list {
+        match set.binary_search(number) {
+            Ok(place) => times[place] = plus(times[place], Times::Once),
+            Err(_) => {}
+        }
+    }
 }
 
 // The two together.
@@ -89,19 +124,6 @@ fn plus(a: Times, b: Times) -> Times
         (_, Times::Never) => a,
         _ => Times::Often,
     }
-}
-
-// How often the number stands in the list.
-fn times_in(list: &[u32], number: u32) -> Times
-    ensures { TimesIn list.now number (length list.now) result }
-{
-    let mut times = Times::Never;
-    for item in list {
-        if *item == number {
-            times = plus(times, Times::Once);
-        }
-    }
-    times
 }
 
 /// The number of the first block that has the number, or else how many blocks there are.

@@ -1,5 +1,9 @@
 -- Numbers of the drop list: whether they are in the set, and that a list that is not bad drops some, each once.
-use Rattle.std.proofs.Common.{◌≡◌, ◌≢◌, ℕ, zero, suc, ◌<◌, ◌⊎◌, inl, inr, List, [], ◌∷◌, Some, get_or, slice_get, All, Contains, ap, arith}
+use Rattle.std.proofs.Common.{◌≡◌, ◌≢◌, ℕ, zero, suc, ◌<◌, ◌⊎◌, inl, inr, false, nat_eq, List, [], ◌∷◌, length, Some, get_or, slice_get, All, Contains, refl, sym, ap, arith}
+use Rattle.std.specs.List.{AllByRecursion, IsDistinct}
+use Rattle.std.specs.Cmp.{nat_eq_equiv}
+use Rattle.std.proofs.lemmas.Bool.Decides.{nat_tests, Decides-eqb}
+use Rattle.std.proofs.lemmas.Map.Made.{length-le_from_is_member, is_member-Decides}
 use Rattle.std.proofs.lemmas.Option.{slice_get-get_or}
 use Rattle.std.proofs.lemmas.Bool.{cases_eq}
 use Rattle.wh_subterm.specs.SubtermRows.{StandsTwice, HasStray, IsBadDrop}
@@ -22,11 +26,42 @@ contains_or_not (m ∷ ns) n = elim (cases_eq m n) [
   ]
 ]
 
-pub twice_in_set : (set drop : List ℕ) (n : ℕ) → (HasStray set drop → ⊥) → StandsTwice drop n → Contains set n
-twice_in_set set drop n none (i, j, less, at, also) = elim (contains_or_not set n) [
-  | inl found ↦ found
-  | inr missing ↦ absurd (none (n, contains_at drop i n at, missing))
+-- numbers of a set that are more than it has: one stands twice
+
+all_apart : (n : ℕ) (ns : List ℕ) → (Contains ns n → ⊥) → AllByRecursion (λ m. nat_eq n m ≡ false) ns
+all_apart n [] missing = tt
+all_apart n (m ∷ ns) missing =
+    let other : n ≡ m → ⊥ = λ same. missing (contains_at (m ∷ ns) 0 n (ap Some (sym same))) in
+    (grind (arith, nat_tests, other), all_apart n ns (λ found. missing (later m n ns found)))
+
+distinct_or_twice : (ns : List ℕ) → IsDistinct nat_eq ns ⊎ ((n : ℕ) × StandsTwice ns n)
+unfolding IsDistinct
+distinct_or_twice [] = inl tt
+distinct_or_twice (n ∷ ns) = elim (contains_or_not ns n) [
+  | inl found ↦ let at = place_of ns n found in inr (n, (0, suc at.0, omega arith, refl, at.1))
+  | inr missing ↦ elim (distinct_or_twice ns) [
+    | inl distinct ↦ inl (all_apart n ns missing, distinct)
+    | inr (m, (i, j, less, at, also)) ↦ inr (m, (suc i, suc j, omega arith, at, also))
+  ]
 ]
+
+within_set : (set drop : List ℕ) (n : ℕ) → (HasStray set drop → ⊥) → Contains drop n → Contains set n
+within_set set drop n none found = elim (contains_or_not set n) [
+  | inl inside ↦ inside
+  | inr missing ↦ absurd (none (n, found, missing))
+]
+
+pub longer_twice : (set drop : List ℕ) → (HasStray set drop → ⊥) → length set < length drop → (n : ℕ) × StandsTwice drop n
+longer_twice set drop none longer = elim (distinct_or_twice drop) [
+  | inl distinct ↦
+      let few = length-le_from_is_member nat_eq_equiv drop set distinct
+      (λ n found. (is_member-Decides Decides-eqb set n).1 (within_set set drop n none ((is_member-Decides Decides-eqb drop n).0 found))) in
+      absurd (omega arith)
+  | inr twice ↦ twice
+]
+
+pub twice_in_set : (set drop : List ℕ) (n : ℕ) → (HasStray set drop → ⊥) → StandsTwice drop n → Contains set n
+twice_in_set set drop n none (i, j, less, at, also) = within_set set drop n none (contains_at drop i n at)
 
 -- a drop list that is not bad drops some pair of the set, and none twice
 

@@ -12,4 +12,4 @@ returns c =
     let blocks = c.args.blocks.now in
     subst (λ (o : Option ℕ). LeastOf (IsMisplaced set blocks) o) (sym c.smaller.ensures)
     (least_smaller (IsStray set blocks) (IsUneven set blocks) (IsMisplaced set blocks) (stray_misplaced set blocks) (uneven_misplaced set blocks) (misplaced_cases set blocks)
-    c.least_stray.result c.first_uneven.result c.least_stray.ensures c.first_uneven.ensures)
+    c.least_stray.result c.least_uneven.result c.least_stray.ensures c.least_uneven.ensures)

@@ -2,5 +2,5 @@ use Rattle.wh_graph.specs.Times.{IsUneven}
 use Rattle.wh_system.proofs.ByPlace.{Before}
 use Rattle.wh_graph.proofs.places.first_uneven.Given as goal
 
-abbrev pub invariant-loop-number : goal.invariant-loop-number
-invariant-loop-number l = (Before (λ n. IsUneven l.set l.blocks n → ⊥) l.set l.number-index)
+abbrev pub invariant-loop-place : goal.invariant-loop-place
+invariant-loop-place l = Before (λ n. IsUneven l.set l.blocks n → ⊥) l.set l.place
