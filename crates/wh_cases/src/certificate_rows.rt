@@ -115,7 +115,10 @@ fn tells_the_place_of_a_fault(rt: HostRuntime) -> Result<(), Fail> {
             b"29".as_slice(),
         ),
         (b"YES 2".as_slice(), b"4".as_slice()),
-        (b"YES 1\nranks\npairs 0\npoly\n".as_slice(), b"later".as_slice()),
+        (
+            b"YES 1\nranks\npairs 0\npoly\n".as_slice(),
+            b"later".as_slice(),
+        ),
     ] {
         let found = read_text(rt.alloc(), text)?;
         assert_eq!(rt; found.as_slice(), expected);

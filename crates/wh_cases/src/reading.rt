@@ -21,14 +21,14 @@ pub fn system_of(alloc: Global, text: &[u8]) -> Result<System, AllocError> {
     read_system(alloc, text).map_err(|_| AllocError)
 }
 
-/// The certificate of a text that is one.
+/// The certificate of non-termination of a text that is one.
 pub fn certificate_of(alloc: Global, text: &[u8]) -> Result<NoCertificate, AllocError> {
     if text.len() > 8_388_608 {
         return Err(AllocError);
     }
     match read_certificate(alloc, text) {
         Ok(Certificate::No(no)) => Ok(no),
-        Err(_) => Err(AllocError),
+        _ => Err(AllocError),
     }
 }
 

@@ -2,8 +2,10 @@
 
 use crate::run_rows::{told, words};
 use crate::samples::{
-    ETA, EVEN_ODD, FUNCTION_LIST, IDENTITY, ITERATION, LOOP, MAP, MAP_CERTIFICATE, NO_RULES, UNTYPED,
+    ETA, EVEN_ODD, FUNCTION_LIST, IDENTITY, ITERATION, LOOP, MAP, MAP_CERTIFICATE, NO_RULES,
+    UNTYPED,
 };
+use std::alloc::{AllocError, Global};
 use std::test::Fail;
 use wh_io::{MemoryShelf, MemorySink};
 use wh_top::{Status, run};
@@ -11,291 +13,285 @@ use wh_top::{Status, run};
 const BLOCKS_CERTIFICATE: &[u8] =
     b"YES 1\nranks 0\npairs 2\nblocks 2\nblock 0\nblock 1\nalone\nalone\nend\n";
 
-/// A system, a certificate and what a check of them writes.
-const ROWS: &[(&[u8], &[u8], &[u8])] = &[
+/// Certificates for the empty system, and what a check writes.
+const EMPTY_ROWS: &[(&[u8], &[u8])] = &[(b"YES 1\nranks\npairs 0\ndone\nend\n", b"YES\n")];
+
+/// Certificates for `NO_RULES`, and what a check writes.
+const NO_RULES_ROWS: &[(&[u8], &[u8])] = &[
+    (b"YES 1\nranks 0\npairs 0\ndone\nend\n", b"YES\n"),
     (
-        b"",
-        b"YES 1\nranks\npairs 0\ndone\nend\n",
-        b"YES\n",
+        b"YES 1\nranks 0\npairs 0\nalone\nend\n",
+        b"REJECTED node 0 not-one\n",
     ),
+];
+
+/// Certificates for `MAP`, and what a check writes.
+const MAP_ROWS: &[(&[u8], &[u8])] = &[
     (
-        NO_RULES,
-        b"YES 1\nranks 0\npairs 0\ndone\nend\n",
-        b"YES\n",
-    ),
-    (
-        MAP,
         b"YES 1\nranks 0 0\npairs 1\nsubterm\narg map 2\ndrop 0\ndone\nend\n",
         b"YES\n",
     ),
     (
-        FUNCTION_LIST,
-        b"YES 1\nranks 0 1\npairs 1\nsubterm\narg apply 1\ndrop 0\ndone\nend\n",
-        b"YES\n",
-    ),
-    (
-        EVEN_ODD,
-        b"YES 1\nranks 0\npairs 2\nsubterm\narg e 1\narg d 1\ndrop 0 1\ndone\nend\n",
-        b"YES\n",
-    ),
-    // What is left after one of two pairs that call each other may not follow itself.
-    (
-        EVEN_ODD,
-        b"YES 1\nranks 0\npairs 2\nsubterm\narg e 1\narg d 1\ndrop 1\nalone\nend\n",
-        b"YES\n",
-    ),
-    (
-        ITERATION,
-        b"YES 1\nranks 0\npairs 1\nsubterm\narg iter 2\ndrop 0\ndone\nend\n",
-        b"YES\n",
-    ),
-    (
-        b"sort n;fun z:n;fun s:n->n;fun add:n->n->n;fun double:n->n;rule {Y:n} add z Y => Y;rule {X:n,Y:n} add (s X) Y => s (add X Y);rule {X:n} double X => add X X;",
-        b"YES 1\nranks 0\npairs 2\nblocks 2\nblock 1\nblock 0\nalone\nsubterm\narg add 1\ndrop 0\ndone\nend\n",
-        b"YES\n",
-    ),
-    (
-        MAP,
         b"YES 1\nranks 0\npairs 1\nsubterm\narg map 2\ndrop 0\ndone\nend\n",
         b"REJECTED rank-count\n",
     ),
-    // The first of two neighbours that both fail.
     (
-        FUNCTION_LIST,
-        b"YES 1\nranks 0\npairs 1\nsubterm\narg apply 1\ndrop 0\ndone\nend\n",
-        b"REJECTED rank-count\n",
-    ),
-    (
-        FUNCTION_LIST,
-        b"YES 1\nranks 0 0\npairs 1\nsubterm\narg apply 1\ndrop 0\ndone\nend\n",
-        b"REJECTED inaccessible 1 F\n",
-    ),
-    (
-        UNTYPED,
-        b"YES 1\nranks 0\npairs 0\ndone\nend\n",
-        b"REJECTED inaccessible 0 F\n",
-    ),
-    (
-        FUNCTION_LIST,
-        b"YES 1\nranks 0 0\npairs 7\ndone\nend\n",
-        b"REJECTED inaccessible 1 F\n",
-    ),
-    (
-        MAP,
         b"YES 1\nranks 0 0\npairs 2\nsubterm\narg map 2\ndrop 0\ndone\nend\n",
         b"REJECTED pair-count 1\n",
     ),
     (
-        MAP,
         b"YES 1\nranks 0 0\npairs 2\ndone\nend\n",
         b"REJECTED pair-count 1\n",
     ),
     (
-        MAP,
         b"YES 1\nranks 0 0\npairs 1\ndone\nend\n",
         b"REJECTED node 0 not-empty\n",
     ),
     (
-        NO_RULES,
-        b"YES 1\nranks 0\npairs 0\nalone\nend\n",
-        b"REJECTED node 0 not-one\n",
-    ),
-    (
-        EVEN_ODD,
-        b"YES 1\nranks 0\npairs 2\nalone\nend\n",
-        b"REJECTED node 0 not-one\n",
-    ),
-    (
-        MAP,
         b"YES 1\nranks 0 0\npairs 1\nalone\nend\n",
         b"REJECTED node 0 loops 0\n",
     ),
     (
-        MAP,
         b"YES 1\nranks 0 0\npairs 1\nblocks 1\nblock 0\nalone\nend\n",
         b"REJECTED node 0 few-blocks\n",
     ),
     (
-        MAP,
         b"YES 1\nranks 0 0\npairs 1\nblocks 0\nend\n",
         b"REJECTED node 0 few-blocks\n",
     ),
     (
-        MAP,
         b"YES 1\nranks 0 0\npairs 1\nblocks 2\nblock\nblock 7\ndone\nalone\nend\n",
         b"REJECTED node 0 few-blocks\n",
     ),
     (
-        EVEN_ODD,
-        b"YES 1\nranks 0\npairs 2\nblocks 1\nblock 0\nalone\nend\n",
-        b"REJECTED node 0 few-blocks\n",
-    ),
-    (
-        EVEN_ODD,
-        b"YES 1\nranks 0\npairs 2\nblocks 2\nblock 0 1\nblock 1\nalone\nalone\nend\n",
-        b"REJECTED node 0 not-partition 1\n",
-    ),
-    (
-        EVEN_ODD,
-        b"YES 1\nranks 0\npairs 2\nblocks 2\nblock 0\nblock 1 7\nalone\nalone\nend\n",
-        b"REJECTED node 0 not-partition 7\n",
-    ),
-    (
-        EVEN_ODD,
-        b"YES 1\nranks 0\npairs 2\nblocks 2\nblock 7\nblock 1\nalone\nalone\nend\n",
-        b"REJECTED node 0 not-partition 0\n",
-    ),
-    // So do these: the blocks also lead back.
-    (
-        EVEN_ODD,
-        b"YES 1\nranks 0\npairs 2\nblocks 2\nblock 0\nblock 1 1\nalone\nalone\nend\n",
-        b"REJECTED node 0 not-partition 1\n",
-    ),
-    (
-        EVEN_ODD,
-        b"YES 1\nranks 0\npairs 2\nblocks 2\nblock 0\nblock 1\nalone\nalone\nend\n",
-        b"REJECTED node 0 back-edge 1 0\n",
-    ),
-    (
-        MAP,
         b"YES 1\nranks 0 0\npairs 1\nsubterm\ndrop 0\ndone\nend\n",
         b"REJECTED node 0 bad-args\n",
     ),
     (
-        MAP,
         b"YES 1\nranks 0 0\npairs 1\nsubterm\narg cons 2\ndrop 0\ndone\nend\n",
         b"REJECTED node 0 bad-args\n",
     ),
     (
-        MAP,
         b"YES 1\nranks 0 0\npairs 1\nsubterm\narg nope 2\ndrop 0\ndone\nend\n",
         b"REJECTED node 0 bad-args\n",
     ),
     (
-        MAP,
         b"YES 1\nranks 0 0\npairs 1\nsubterm\narg map 2\narg map 2\ndrop 0\ndone\nend\n",
         b"REJECTED node 0 bad-args\n",
     ),
     (
-        EVEN_ODD,
-        b"YES 1\nranks 0\npairs 2\nsubterm\narg d 1\narg e 1\ndrop 0 1\ndone\nend\n",
-        b"REJECTED node 0 bad-args\n",
-    ),
-    (
-        LOOP,
-        b"YES 1\nranks 0\npairs 2\nsubterm\narg a 1\ndrop 0\nalone\nend\n",
-        b"REJECTED node 0 bad-args\n",
-    ),
-    (
-        LOOP,
-        b"YES 1\nranks 0\npairs 2\nsubterm\narg a 1\narg b 1\ndrop 0\nalone\nend\n",
-        b"REJECTED node 0 no-projection a\n",
-    ),
-    (
-        MAP,
         b"YES 1\nranks 0 0\npairs 1\nsubterm\narg map 3\ndrop 0\ndone\nend\n",
         b"REJECTED node 0 bad-argument map\n",
     ),
     (
-        MAP,
         b"YES 1\nranks 0 0\npairs 1\nsubterm\narg map 0\ndrop 0\ndone\nend\n",
         b"REJECTED node 0 bad-argument map\n",
     ),
     (
-        MAP,
         b"YES 1\nranks 0 0\npairs 1\nsubterm\narg map 3\ndrop 7\ndone\nend\n",
         b"REJECTED node 0 bad-argument map\n",
     ),
     (
-        MAP,
         b"YES 1\nranks 0 0\npairs 1\nsubterm\narg map 2\ndrop 0 0\ndone\nend\n",
         b"REJECTED node 0 bad-drop\n",
     ),
     (
-        MAP,
         b"YES 1\nranks 0 0\npairs 1\nsubterm\narg map 2\ndrop 7\ndone\nend\n",
         b"REJECTED node 0 bad-drop\n",
     ),
     (
-        MAP,
         b"YES 1\nranks 0 0\npairs 1\nsubterm\narg map 2\ndrop\ndone\nend\n",
         b"REJECTED node 0 bad-drop\n",
     ),
     (
-        MAP,
         b"YES 1\nranks 0 0\npairs 1\nsubterm\narg map 1\ndrop\ndone\nend\n",
         b"REJECTED node 0 bad-drop\n",
     ),
     (
-        MAP,
         b"YES 1\nranks 0 0\npairs 1\nsubterm\narg map 1\ndrop 0\ndone\nend\n",
         b"REJECTED node 0 not-decreasing 0\n",
     ),
-    (
-        ETA,
-        b"YES 1\nranks 0\npairs 1\nsubterm\narg g 1\ndrop 0\ndone\nend\n",
-        b"REJECTED node 0 not-decreasing 0\n",
-    ),
-    // Nodes behind the first.
-    (
-        EVEN_ODD,
-        b"YES 1\nranks 0\npairs 2\nsubterm\narg e 1\narg d 1\ndrop 1\ndone\nend\n",
-        b"REJECTED node 1 not-empty\n",
-    ),
-    (
-        IDENTITY,
-        b"YES 1\nranks 0\npairs 2\nblocks 2\nblock 0\nblock 1\ndone\ndone\nend\n",
-        b"REJECTED node 1 not-empty\n",
-    ),
-    (
-        IDENTITY,
-        b"YES 1\nranks 0\npairs 2\nblocks 2\nblock 0\nblock 1\nalone\nalone\nend\n",
-        b"REJECTED node 1 loops 0\n",
-    ),
     // The certificate's own syntax comes first.
     (
-        MAP,
         b"YES 1\nranks 0 0\npairs 01\nsubterm\narg map 2\ndrop 0\ndone\nend\n",
         b"REJECTED syntax 23\n",
     ),
     (
-        MAP,
         b"YES 1\nranks 0 0\npairs 1\nsubterm\narg map 2\ndrop 65536\ndone\nend\n",
         b"REJECTED syntax 51\n",
     ),
     (
-        MAP,
         b"YES 1\nranks 0\npairs 1\nsubterm\narg map 2\ndrop 0\ndone\nend\nx",
         b"REJECTED syntax 56\n",
     ),
     // A node too many, and one too few.
     (
-        MAP,
         b"YES 1\nranks 0 0\npairs 1\ndone\ndone\nend\n",
         b"REJECTED syntax 29\n",
     ),
     (
-        MAP,
         b"YES 1\nranks 0 0\npairs 1\nsubterm\narg map 2\ndrop 0\nend\n",
         b"REJECTED syntax 49\n",
     ),
+    (b"YES 2\n", b"REJECTED syntax 4\n"),
+    (b"YES 1\nranks 0 0\npairs 1\npoly\n", b"LATER\n"),
+];
+
+/// Certificates for `FUNCTION_LIST`, and what a check writes.
+const FUNCTION_LIST_ROWS: &[(&[u8], &[u8])] = &[
     (
-        MAP,
-        b"YES 2\n",
-        b"REJECTED syntax 4\n",
+        b"YES 1\nranks 0 1\npairs 1\nsubterm\narg apply 1\ndrop 0\ndone\nend\n",
+        b"YES\n",
+    ),
+    // The first of two neighbours that both fail.
+    (
+        b"YES 1\nranks 0\npairs 1\nsubterm\narg apply 1\ndrop 0\ndone\nend\n",
+        b"REJECTED rank-count\n",
     ),
     (
-        MAP,
-        b"YES 1\nranks 0 0\npairs 1\npoly\n",
-        b"LATER\n",
+        b"YES 1\nranks 0 0\npairs 1\nsubterm\narg apply 1\ndrop 0\ndone\nend\n",
+        b"REJECTED inaccessible 1 F\n",
+    ),
+    (
+        b"YES 1\nranks 0 0\npairs 7\ndone\nend\n",
+        b"REJECTED inaccessible 1 F\n",
     ),
 ];
 
+/// Certificates for `EVEN_ODD`, and what a check writes.
+const EVEN_ODD_ROWS: &[(&[u8], &[u8])] = &[
+    (
+        b"YES 1\nranks 0\npairs 2\nsubterm\narg e 1\narg d 1\ndrop 0 1\ndone\nend\n",
+        b"YES\n",
+    ),
+    // What is left after one of two pairs that call each other may not follow itself.
+    (
+        b"YES 1\nranks 0\npairs 2\nsubterm\narg e 1\narg d 1\ndrop 1\nalone\nend\n",
+        b"YES\n",
+    ),
+    (
+        b"YES 1\nranks 0\npairs 2\nalone\nend\n",
+        b"REJECTED node 0 not-one\n",
+    ),
+    (
+        b"YES 1\nranks 0\npairs 2\nblocks 1\nblock 0\nalone\nend\n",
+        b"REJECTED node 0 few-blocks\n",
+    ),
+    (
+        b"YES 1\nranks 0\npairs 2\nblocks 2\nblock 0 1\nblock 1\nalone\nalone\nend\n",
+        b"REJECTED node 0 not-partition 1\n",
+    ),
+    (
+        b"YES 1\nranks 0\npairs 2\nblocks 2\nblock 0\nblock 1 7\nalone\nalone\nend\n",
+        b"REJECTED node 0 not-partition 7\n",
+    ),
+    (
+        b"YES 1\nranks 0\npairs 2\nblocks 2\nblock 7\nblock 1\nalone\nalone\nend\n",
+        b"REJECTED node 0 not-partition 0\n",
+    ),
+    // So do these: the blocks also lead back.
+    (
+        b"YES 1\nranks 0\npairs 2\nblocks 2\nblock 0\nblock 1 1\nalone\nalone\nend\n",
+        b"REJECTED node 0 not-partition 1\n",
+    ),
+    (
+        b"YES 1\nranks 0\npairs 2\nblocks 2\nblock 0\nblock 1\nalone\nalone\nend\n",
+        b"REJECTED node 0 back-edge 1 0\n",
+    ),
+    (
+        b"YES 1\nranks 0\npairs 2\nsubterm\narg d 1\narg e 1\ndrop 0 1\ndone\nend\n",
+        b"REJECTED node 0 bad-args\n",
+    ),
+    // Nodes behind the first.
+    (
+        b"YES 1\nranks 0\npairs 2\nsubterm\narg e 1\narg d 1\ndrop 1\ndone\nend\n",
+        b"REJECTED node 1 not-empty\n",
+    ),
+];
+
+/// Certificates for `ITERATION`, and what a check writes.
+const ITERATION_ROWS: &[(&[u8], &[u8])] = &[(
+    b"YES 1\nranks 0\npairs 1\nsubterm\narg iter 2\ndrop 0\ndone\nend\n",
+    b"YES\n",
+)];
+
+/// Certificates for doubling by addition, and what a check writes.
+const DOUBLE_ROWS: &[(&[u8], &[u8])] = &[(
+    b"YES 1\nranks 0\npairs 2\nblocks 2\nblock 1\nblock 0\nalone\nsubterm\narg add 1\ndrop 0\ndone\nend\n",
+    b"YES\n",
+)];
+
+/// Certificates for `UNTYPED`, and what a check writes.
+const UNTYPED_ROWS: &[(&[u8], &[u8])] = &[(
+    b"YES 1\nranks 0\npairs 0\ndone\nend\n",
+    b"REJECTED inaccessible 0 F\n",
+)];
+
+/// Certificates for `LOOP`, and what a check writes.
+const LOOP_ROWS: &[(&[u8], &[u8])] = &[
+    (
+        b"YES 1\nranks 0\npairs 2\nsubterm\narg a 1\ndrop 0\nalone\nend\n",
+        b"REJECTED node 0 bad-args\n",
+    ),
+    (
+        b"YES 1\nranks 0\npairs 2\nsubterm\narg a 1\narg b 1\ndrop 0\nalone\nend\n",
+        b"REJECTED node 0 no-projection a\n",
+    ),
+];
+
+/// Certificates for `ETA`, and what a check writes.
+const ETA_ROWS: &[(&[u8], &[u8])] = &[(
+    b"YES 1\nranks 0\npairs 1\nsubterm\narg g 1\ndrop 0\ndone\nend\n",
+    b"REJECTED node 0 not-decreasing 0\n",
+)];
+
+/// Certificates for `IDENTITY`, and what a check writes.
+const IDENTITY_ROWS: &[(&[u8], &[u8])] = &[
+    (
+        b"YES 1\nranks 0\npairs 2\nblocks 2\nblock 0\nblock 1\ndone\ndone\nend\n",
+        b"REJECTED node 1 not-empty\n",
+    ),
+    (
+        b"YES 1\nranks 0\npairs 2\nblocks 2\nblock 0\nblock 1\nalone\nalone\nend\n",
+        b"REJECTED node 1 loops 0\n",
+    ),
+];
+
+/// Doubling by addition.
+const DOUBLE: &[u8] =
+    b"sort n;fun z:n;fun s:n->n;fun add:n->n->n;fun double:n->n;rule {Y:n} add z Y => Y;rule {X:n,Y:n} add (s X) Y => s (add X Y);rule {X:n} double X => add X X;";
+
+/// Checks each certificate for the system, and compares what is written.
+fn checks(alloc: Global, system: &[u8], rows: &[(&[u8], &[u8])]) -> Result<bool, AllocError> {
+    let mut all = true;
+    for (certificate, text) in rows {
+        let (_, out) = told(
+            alloc,
+            &["check", "system", "certificate"],
+            system,
+            *certificate,
+        )?;
+        all = all && out.bytes() == *text;
+    }
+    Ok(all)
+}
+
 #[test]
 fn judges_termination(rt: HostRuntime) -> Result<(), Fail> {
-    for (system, certificate, text) in ROWS {
-        let (_, out) = told(rt.alloc(), &["check", "system", "certificate"], *system, *certificate)?;
-        assert_eq!(rt; out.bytes(), *text);
+    for (system, rows) in [
+        (b"".as_slice(), EMPTY_ROWS),
+        (NO_RULES, NO_RULES_ROWS),
+        (MAP, MAP_ROWS),
+        (FUNCTION_LIST, FUNCTION_LIST_ROWS),
+        (EVEN_ODD, EVEN_ODD_ROWS),
+        (ITERATION, ITERATION_ROWS),
+        (DOUBLE, DOUBLE_ROWS),
+        (UNTYPED, UNTYPED_ROWS),
+        (LOOP, LOOP_ROWS),
+        (ETA, ETA_ROWS),
+        (IDENTITY, IDENTITY_ROWS),
+    ] {
+        assert!(rt; checks(rt.alloc(), system, rows)?);
     }
     Ok(())
 }
@@ -304,11 +300,22 @@ fn judges_termination(rt: HostRuntime) -> Result<(), Fail> {
 fn ends_by_its_answer(rt: HostRuntime) -> Result<(), Fail> {
     for (certificate, status) in [
         (MAP_CERTIFICATE, Status::Answered),
-        (b"YES 1\nranks 0 0\npairs 1\ndone\nend\n".as_slice(), Status::Rejected),
-        (b"YES 1\nranks 0 0\npairs 1\npoly\n".as_slice(), Status::Later),
+        (
+            b"YES 1\nranks 0 0\npairs 1\ndone\nend\n".as_slice(),
+            Status::Rejected,
+        ),
+        (
+            b"YES 1\nranks 0 0\npairs 1\npoly\n".as_slice(),
+            Status::Later,
+        ),
     ] {
-        let (ended, _) = told(rt.alloc(), &["check", "system", "certificate"], MAP, certificate)?;
-        assert_eq!(rt; ended, status);
+        let (ended, _) = told(
+            rt.alloc(),
+            &["check", "system", "certificate"],
+            MAP,
+            certificate,
+        )?;
+        assert!(rt; ended == status);
     }
     Ok(())
 }
@@ -318,7 +325,12 @@ fn every_front_is_no_certificate(rt: HostRuntime) -> Result<(), Fail> {
     let alloc = rt.alloc();
     for certificate in [MAP_CERTIFICATE, BLOCKS_CERTIFICATE] {
         for at in 0..certificate.len() {
-            let (_, out) = told(alloc, &["check", "system", "certificate"], MAP, &certificate[..at])?;
+            let (_, out) = told(
+                alloc,
+                &["check", "system", "certificate"],
+                MAP,
+                &certificate[..at],
+            )?;
             let line = format!(in alloc; "REJECTED syntax {at}\n")?;
             assert_eq!(rt; out.bytes(), line.as_bytes());
         }
@@ -331,11 +343,14 @@ fn leaves_a_front_of_a_yes(rt: HostRuntime) -> Result<(), Fail> {
     let alloc = rt.alloc();
     let mut shelf = MemoryShelf::new(alloc, &[])?;
     shelf.add_file("system", b"".as_slice())?;
-    shelf.add_file("certificate", b"YES 1\nranks\npairs 0\ndone\nend\n".as_slice())?;
+    shelf.add_file(
+        "certificate",
+        b"YES 1\nranks\npairs 0\ndone\nend\n".as_slice(),
+    )?;
     let mut out = MemorySink::new(alloc, 2, 100, &[1])?;
     let asked = words(alloc, &["check", "system", "certificate"])?;
     let status = run(alloc, asked.as_slice(), &mut shelf, &mut out);
-    assert_eq!(rt; status, Status::WriteFault);
+    assert!(rt; status == Status::WriteFault);
     assert_eq!(rt; out.bytes(), b"YE".as_slice());
     Ok(())
 }
