@@ -1,0 +1,6 @@
+pub mod Order
+pub mod Merge
+pub mod Replace
+pub mod Value
+pub mod Limits
+pub mod Rows

@@ -1,0 +1,5 @@
+pub mod Polynomials
+pub mod Arithmetic
+pub mod Evaluation
+pub mod Limits
+pub mod Covers
