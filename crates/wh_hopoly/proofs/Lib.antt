@@ -4,3 +4,4 @@ pub mod Replace
 pub mod Value
 pub mod Limits
 pub mod Rows
+pub mod Lists

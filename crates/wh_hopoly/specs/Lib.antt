@@ -3,3 +3,4 @@ pub mod Arithmetic
 pub mod Evaluation
 pub mod Limits
 pub mod Covers
+pub mod Erase
