@@ -1,0 +1,5 @@
+pub mod Valuations
+pub mod Den
+pub mod Eta
+pub mod Mean
+pub mod AtLeast

@@ -1,0 +1,3 @@
+pub mod Functionals
+pub mod Valuations
+pub mod Meaning

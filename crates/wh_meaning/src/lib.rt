@@ -1,0 +1,7 @@
+//! What interpretations mean: polynomials as weakly monotone functionals, and the laws of their values, each the contract
+//! of a function that does nothing.
+#![tactic(auto)]
+
+mod values;
+
+pub use values::{at_least_means_at_least, values_mean_the_same};
