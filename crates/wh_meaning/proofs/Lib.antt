@@ -3,3 +3,5 @@ pub mod Den
 pub mod Eta
 pub mod Mean
 pub mod AtLeast
+pub mod Order
+pub mod Covers

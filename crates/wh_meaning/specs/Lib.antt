@@ -1,3 +1,4 @@
 pub mod Functionals
 pub mod Valuations
 pub mod Meaning
+pub mod Moves
