@@ -5,3 +5,4 @@ pub mod Mean
 pub mod AtLeast
 pub mod Order
 pub mod Covers
+pub mod TermValues

@@ -2,3 +2,5 @@ pub mod Functionals
 pub mod Valuations
 pub mod Meaning
 pub mod Moves
+pub mod TermValues
+pub mod Sides
