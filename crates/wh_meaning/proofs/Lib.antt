@@ -6,3 +6,4 @@ pub mod AtLeast
 pub mod Order
 pub mod Covers
 pub mod TermValues
+pub mod MetaValues

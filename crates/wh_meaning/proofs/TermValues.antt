@@ -62,7 +62,7 @@ pub mono_push : (B : Ty) (v : Sem B) (ρ : Valuation) → Mono B v → MonoValua
 mono_push B v ρ m h zero A = mono_at B A (Ty-discrete ℕ_discrete B A) v (nothing A) m (mono_nothing A)
 mono_push B v ρ m h (suc i) A = h i A
 
-le_push : (B : Ty) (v w : Sem B) (ρ ρ' : Valuation) → Le B v w → LeValuation ρ ρ' → LeValuation (push B v ρ) (push B w ρ')
+pub le_push : (B : Ty) (v w : Sem B) (ρ ρ' : Valuation) → Le B v w → LeValuation ρ ρ' → LeValuation (push B v ρ) (push B w ρ')
 le_push B v w ρ ρ' m h zero A = le_at B A (Ty-discrete ℕ_discrete B A) v w (nothing A) (nothing A) m (le_same A (nothing A))
 le_push B v w ρ ρ' m h (suc i) A = h i A
 
