@@ -247,7 +247,7 @@ mutual
   renumber_arguments_same no_arguments = refl
   renumber_arguments_same (argument p ps) = ap₂ argument (renumber_same p) (renumber_arguments_same ps)
 
-moves_same : (Γ : List Ty) → Moves Γ Γ (λ i. i)
+pub moves_same : (Γ : List Ty) → Moves Γ Γ (λ i. i)
 moves_same Γ = record { types = λ i A a. a; added = λ j. refl; order = λ i j. refl }
 
 pub den_agree : (Γ : List Ty) (p : Polynomial) → Normal Γ p → (ψ χ : Valuation) → Same Γ (λ i. i) ψ χ → den Γ χ p ≡ den Γ ψ p

@@ -7,3 +7,5 @@ pub mod Order
 pub mod Covers
 pub mod TermValues
 pub mod MetaValues
+pub mod SideTypes
+pub mod SideMeans
