@@ -9,3 +9,4 @@ pub mod TermValues
 pub mod MetaValues
 pub mod SideTypes
 pub mod SideMeans
+pub mod Steps
