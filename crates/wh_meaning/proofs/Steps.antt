@@ -19,15 +19,15 @@ use Rattle.wh_step.proofs.Instances.{Instance, instance_of, instances_typed, spi
 use Rattle.wh_laws.specs.Roots.{RuleRoot}
 use Rattle.wh_laws.proofs.SystemSteps.{rules_root, rule_root-instance}
 use Rattle.wh_hopoly.specs.Polynomials.{Polynomial, Normal}
-use Rattle.wh_hopoly.specs.Evaluation.{Interpretation, type_of, evaluate, NormalInterpretations}
+use Rattle.wh_hopoly.specs.Evaluation.{Interpretation, interpretation_at, type_of, evaluate, NormalInterpretations}
 use Rattle.wh_hopoly.proofs.Value.{normal_value}
-use Rattle.wh_meaning.specs.Functionals.{Sem, Mono, Le}
+use Rattle.wh_meaning.specs.Functionals.{Sem, Mono, Le, nothing}
 use Rattle.wh_meaning.specs.Valuations.{Valuation, MonoValuation, fun_of}
 use Rattle.wh_meaning.specs.Meaning.{den, reading, mean}
-use Rattle.wh_meaning.specs.TermValues.{arrows, type_in, Meanings, MonoMeanings, push, value_in, of_interpretations}
+use Rattle.wh_meaning.specs.TermValues.{arrows, type_in, Meanings, MonoMeanings, push, value_in, of_interpretations, term_value}
 use Rattle.wh_meaning.specs.Moves.{Transfer, IsCover}
 use Rattle.wh_meaning.specs.Sides.{types_of_metas, side, side_polynomial, Interprets, RuleIsCovered, RulesAreCovered}
-use Rattle.wh_meaning.proofs.Order.{le_same, le_equal, fun_le}
+use Rattle.wh_meaning.proofs.Order.{le_same, le_equal, fun_le, mono_nothing, reading_mono}
 use Rattle.wh_meaning.proofs.Covers.{cover_den}
 use Rattle.wh_meaning.proofs.Mean.{den_value}
 use Rattle.wh_meaning.proofs.TermValues.{has_same, type_is, value_app, value_agree, value_beta, value_mono, mono_push}
@@ -122,3 +122,16 @@ module _ (S : Symbols) (m : Meanings) (mono : MonoMeanings m) where
       → (ρ : Valuation) → MonoValuation ρ → Le a (value_in S [] m Γ u ρ a) (value_in S [] m Γ t ρ a)
     covered_step_le rules well covered Γ t u a s p ρ k =
       step_le (rules_root S rules well).typed (λ Γ t u a r p ρ k. instance_le rules well covered Γ t u a (rule_root-instance t u r) p ρ k) s Γ a p ρ k
+
+-- the meanings of terms are monotone
+pub mono_terms : (symbols : List Interpretation) (ψ : Valuation) → MonoValuation ψ → MonoMeanings (record { of_symbols = of_interpretations symbols; of_metas = λ z A. nothing A; of_free = ψ })
+mono_terms symbols ψ h = record {
+  symbols = λ f A. reading_mono A [] (λ x B. nothing B) (interpretation_at symbols f).polynomial (λ x B. mono_nothing B);
+  metas = λ z A. mono_nothing A;
+  free = h }
+
+pub term_step_le : (S : Symbols) (symbols : List Interpretation) → Interprets S symbols → NormalInterpretations symbols → (ψ : Valuation) → MonoValuation ψ
+  → (rules : List RewriteRule) → AreWellMade S rules → RulesAreCovered symbols rules → (Γ : List Ty) (t u : Tm) (a : Ty) → StepOver (RuleRoot rules) t u → Typed S [] Γ t a
+  → (ρ : Valuation) → MonoValuation ρ → Le a (term_value S symbols ψ Γ u ρ a) (term_value S symbols ψ Γ t ρ a)
+term_step_le S symbols i n ψ h rules well covered Γ t u a s p ρ k =
+  covered_step_le S (record { of_symbols = of_interpretations symbols; of_metas = λ z A. nothing A; of_free = ψ }) (mono_terms symbols ψ h) symbols i n (λ f A. refl) rules well covered Γ t u a s p ρ k

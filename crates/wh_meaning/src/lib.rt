@@ -3,7 +3,12 @@
 #![tactic(auto)]
 
 mod covering;
+mod terms;
 mod values;
 
 pub use covering::{covers_mean_at_least, strict_covers_mean_greater};
+pub use terms::{
+    beta_keeps_values, covered_steps_do_not_raise_values, sides_mean_their_polynomials,
+    values_are_monotone,
+};
 pub use values::{at_least_means_at_least, values_mean_the_same};
