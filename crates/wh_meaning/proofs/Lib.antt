@@ -10,3 +10,4 @@ pub mod MetaValues
 pub mod SideTypes
 pub mod SideMeans
 pub mod Steps
+pub mod CallValues

@@ -87,7 +87,7 @@ module _ (S : Symbols) (M : List Declared) (symbols : List Interpretation) (inte
       put_other (length (side_scope M Γ)) a v χ z (arrows d.args d.out) (λ q. omega (arith, q, k)) ∙ r.metas z d e;
     binders = reads_binders Γ ρ χ a v r }
 
-  symbol_means : (f : ℕ) (a : Ty) (s : Interpretation) → slice_get symbols f ≡ Some s → (χ : Valuation) (e : (interpretation_at symbols f).kind ≡ a)
+  pub symbol_means : (f : ℕ) (a : Ty) (s : Interpretation) → slice_get symbols f ≡ Some s → (χ : Valuation) (e : (interpretation_at symbols f).kind ≡ a)
     → subst Sem e (reading (interpretation_at symbols f).kind [] χ (interpretation_at symbols f).polynomial) ≡ m.of_symbols f a
   symbol_means f a s i χ e =
     let t = interpretation_at symbols f in
@@ -120,7 +120,7 @@ module _ (S : Symbols) (M : List Declared) (symbols : List Interpretation) (inte
       ∙ ap₂ (λ g x. g x) (mean_side n l ρ χ r p f.0 c) (mean_side n l ρ χ r q f.1 d)
       ∙ sym (value_app S M m Γ t u ρ b a (type_is Γ (has_same Γ) q))
 
-    mean_applied : {Γ : List Ty} {ts : Tms} {cs : List Ty} (n : ℕ) → n ≡ length (side_scope M Γ) → (ρ χ : Valuation) → Reads Γ ρ χ → (x : Expression) (a : Ty) (c : type_of symbols (side_scope M Γ) x ≡ arrows cs a)
+    pub mean_applied : {Γ : List Ty} {ts : Tms} {cs : List Ty} (n : ℕ) → n ≡ length (side_scope M Γ) → (ρ χ : Valuation) → Reads Γ ρ χ → (x : Expression) (a : Ty) (c : type_of symbols (side_scope M Γ) x ≡ arrows cs a)
       → AllTyped S M Γ ts cs → AllNoFree ts → (e : type_of symbols (side_scope M Γ) (side_applied n x ts) ≡ a)
       → subst Sem e (mean symbols (side_scope M Γ) (side_applied n x ts) χ) ≡ fed S M m Γ ρ cs a (subst Sem c (mean symbols (side_scope M Γ) x χ)) ts
     mean_applied {Γ = Γ} n l ρ χ r x a c typed_none f e = ap (λ e. subst Sem e (mean symbols (side_scope M Γ) x χ)) (ty_set (type_of symbols (side_scope M Γ) x) a e c)

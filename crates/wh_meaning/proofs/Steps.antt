@@ -36,7 +36,7 @@ use Rattle.wh_meaning.proofs.SideTypes.{side_typed}
 use Rattle.wh_meaning.proofs.SideMeans.{Reads, mean_side}
 
 -- a reading taken along an equality of types
-reading_at : (Γ : List Ty) (ψ : Valuation) (p : Polynomial) (A B : Ty) (e : A ≡ B) → subst Sem {x = A} {y = B} e (reading A Γ ψ p) ≡ reading B Γ ψ p
+pub reading_at : (Γ : List Ty) (ψ : Valuation) (p : Polynomial) (A B : Ty) (e : A ≡ B) → subst Sem {x = A} {y = B} e (reading A Γ ψ p) ≡ reading B Γ ψ p
 reading_at Γ ψ p A B e = path_j (λ B e. subst Sem {x = A} {y = B} e (reading A Γ ψ p) ≡ reading B Γ ψ p) (subst_refl Sem {x = A} (reading A Γ ψ p)) e
 
 module _ (S : Symbols) (symbols : List Interpretation) (interprets : Interprets S symbols) (normal : NormalInterpretations symbols) where

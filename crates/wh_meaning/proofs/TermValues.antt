@@ -249,7 +249,7 @@ module _ (S : Symbols) (M : List Declared) where
           le_then A (value_in S M m Γ t ρ (B ⇒ A) x) (value_in S M m Γ t ρ (B ⇒ A) y) (value_in S M m Γ t χ (B ⇒ A) y)
             ((value_mono t Γ ρ h (B ⇒ A)).1 x y (value_mono u Γ ρ h B) my (value_le u Γ ρ χ h k l B)) (value_le t Γ ρ χ h k l (B ⇒ A) y my)
 
-        fed_le : (ts : Tms) (Γ : List Ty) (ρ χ : Valuation) → MonoValuation ρ → MonoValuation χ → LeValuation ρ χ → (cs : List Ty) (A : Ty) (f g : Sem (arrows cs A)) → Mono (arrows cs A) f → Mono (arrows cs A) g
+        pub fed_le : (ts : Tms) (Γ : List Ty) (ρ χ : Valuation) → MonoValuation ρ → MonoValuation χ → LeValuation ρ χ → (cs : List Ty) (A : Ty) (f g : Sem (arrows cs A)) → Mono (arrows cs A) f → Mono (arrows cs A) g
           → Le (arrows cs A) f g → Le A (fed S M m Γ ρ cs A f ts) (fed S M m Γ χ cs A g ts)
         fed_le none Γ ρ χ h k l [] A f g mf mg q = q
         fed_le none Γ ρ χ h k l (c ∷ cs) A f g mf mg q = le_same A (nothing A)

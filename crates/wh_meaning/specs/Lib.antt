@@ -4,3 +4,4 @@ pub mod Meaning
 pub mod Moves
 pub mod TermValues
 pub mod Sides
+pub mod Calls

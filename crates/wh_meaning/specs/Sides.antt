@@ -40,9 +40,13 @@ abbrev mutual
 abbrev pub side_polynomial : List Interpretation → List Declared → Tm → Polynomial
 side_polynomial symbols M t = (evaluate symbols (types_of_metas M) (side (length (types_of_metas M)) t)).result
 
+-- the symbol has an interpretation of this type (Fuhs and Kop 2012)
+abbrev pub IsInterpretedAs : List Interpretation → ℕ → Ty → Type 0
+IsInterpretedAs symbols f a = (s : Interpretation) × slice_get symbols f ≡ Some s × s.kind ≡ a
+
 -- each symbol has an interpretation of its type (Fuhs and Kop 2012)
 abbrev pub Interprets : Symbols → List Interpretation → Type 0
-Interprets S symbols = (f : ℕ) (a : Ty) → slice_get S.funs f ≡ Some a → (s : Interpretation) × slice_get symbols f ≡ Some s × s.kind ≡ a
+Interprets S symbols = (f : ℕ) (a : Ty) → slice_get S.funs f ≡ Some a → IsInterpretedAs symbols f a
 
 -- moves show that the polynomial of the left side is at least that of the right side (Fuhs and Kop 2012)
 abbrev pub RuleIsCovered : List Interpretation → RewriteRule → Type 0
