@@ -2,10 +2,14 @@
 //! of a function that does nothing.
 #![tactic(auto)]
 
+mod calls;
 mod covering;
 mod terms;
 mod values;
 
+pub use calls::{
+    covered_pairs_do_not_raise_calls, steps_do_not_raise_calls, strictly_covered_pairs_lower_calls,
+};
 pub use covering::{covers_mean_at_least, strict_covers_mean_greater};
 pub use terms::{
     beta_keeps_values, covered_steps_do_not_raise_values, sides_mean_their_polynomials,
