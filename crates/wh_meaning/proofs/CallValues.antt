@@ -12,6 +12,9 @@ use Rattle.wh_terms.specs.StepOver.{StepOver}
 use Rattle.wh_terms.specs.TypedBodies.{FitsDeclared}
 use Rattle.wh_terms.proofs.ValueForm.{value, values}
 use Rattle.wh_terms.proofs.ValueLaws.{values_are}
+use Rattle.wh_step.specs.Step.{Step}
+use Rattle.wh_step.proofs.RawStep.{step_raw}
+use Rattle.wh_laws.proofs.SystemSteps.{over-more, instance-rule_root}
 use Rattle.wh_laws.specs.Ends.{StepsIn, step_here, step_there}
 use Rattle.wh_laws.specs.Roots.{RuleRoot}
 use Rattle.wh_hopoly.specs.Polynomials.{Polynomial, Normal}
@@ -36,6 +39,11 @@ use Rattle.wh_meaning.proofs.Steps.{reading_at, mono_terms, term_step_le}
 -- what terms mean where all variables are 0
 abbrev terms_at_nothing : List Interpretation → Meanings
 terms_at_nothing symbols = record { of_symbols = of_interpretations symbols; of_metas = all_nothing; of_free = all_nothing }
+
+-- steps of a system are steps over its rules
+steps_over : (S : Symbols) (rules : List RewriteRule) → AreWellMade S rules → {ts us : List Tm} → StepsIn (Step rules) ts us → StepsIn (StepOver (RuleRoot rules)) ts us
+steps_over S rules w (step_here r) = step_here (over-more instance-rule_root (step_raw S w r))
+steps_over S rules w (step_there s) = step_there (steps_over S rules w s)
 
 module _ (S : Symbols) (symbols : List Interpretation) (interprets : Interprets S symbols) (normal : NormalInterpretations symbols) where
   mono_nothings : MonoValuation all_nothing
@@ -72,6 +80,11 @@ module _ (S : Symbols) (symbols : List Interpretation) (interprets : Interprets 
     → StepsIn (StepOver (RuleRoot rules)) ts us → call_value S symbols k cs s (tms_of us) ≤ call_value S symbols k cs s (tms_of ts)
   call_step_le rules w c k cs s ts us p r =
     fed_step_le rules w c cs (sort s) (of_interpretations symbols k (arrows cs (sort s))) (interpretations_mono k (arrows cs (sort s))) ts us p r
+
+  -- the same for the steps of a system
+  pub call_reduct_le : (rules : List RewriteRule) → AreWellMade S rules → RulesAreCovered symbols rules → (k : ℕ) (cs : List Ty) (s : ℕ) (ts us : List Tm) → AllTyped S [] [] (tms_of ts) cs
+    → StepsIn (Step rules) ts us → call_value S symbols k cs s (tms_of us) ≤ call_value S symbols k cs s (tms_of ts)
+  call_reduct_le rules w c k cs s ts us p r = call_step_le rules w c k cs s ts us p (steps_over S rules w r)
 
   marked_type : (M : List Declared) (k : ℕ) (cs : List Ty) (s : ℕ) (ts : Tms) → IsMarkedSide S symbols M k cs s ts
     → HasSideType S M symbols interprets [] (side_applied (length (types_of_metas M)) (symbol k) ts) (sort s)

@@ -11,3 +11,4 @@ pub mod SideTypes
 pub mod SideMeans
 pub mod Steps
 pub mod CallValues
+pub mod Measures

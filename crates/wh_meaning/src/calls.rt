@@ -6,9 +6,8 @@ ghost use Rattle.wh_terms.specs.Tree.{Tm, Tms, tms_of};
 ghost use Rattle.wh_terms.specs.Typing.{Symbols, Declared, AllTyped};
 ghost use Rattle.wh_terms.specs.Value.{Body, Values};
 ghost use Rattle.wh_terms.specs.Rules.{RewriteRule, AreWellMade};
-ghost use Rattle.wh_terms.specs.StepOver.{StepOver};
+ghost use Rattle.wh_step.specs.Step.{Step};
 ghost use Rattle.wh_laws.specs.Ends.{StepsIn};
-ghost use Rattle.wh_laws.specs.Roots.{RuleRoot};
 ghost use Rattle.wh_hopoly.specs.Evaluation.{Interpretation, NormalInterpretations};
 ghost use Rattle.wh_meaning.specs.Moves.{Transfer, IsCover, IsStrictCover};
 ghost use Rattle.wh_meaning.specs.Sides.{Interprets, RulesAreCovered};
@@ -16,7 +15,7 @@ ghost use Rattle.wh_meaning.specs.Calls.{call_value, call_polynomial, IsMarkedSi
 
 /// Where every rule is covered, no step in an argument raises what a call is worth.
 pub fn steps_do_not_raise_calls()
-    ensures { (S : Symbols) (rules : List RewriteRule) (symbols : List Interpretation) (k : ℕ) (cs : List Ty) (s : ℕ) (ts us : List Tm) → AreWellMade S rules → Interprets S symbols → NormalInterpretations symbols → RulesAreCovered symbols rules → AllTyped S [] [] (tms_of ts) cs → StepsIn (StepOver (RuleRoot rules)) ts us → call_value S symbols k cs s (tms_of us) ≤ call_value S symbols k cs s (tms_of ts) }
+    ensures { (S : Symbols) (rules : List RewriteRule) (symbols : List Interpretation) (k : ℕ) (cs : List Ty) (s : ℕ) (ts us : List Tm) → AreWellMade S rules → Interprets S symbols → NormalInterpretations symbols → RulesAreCovered symbols rules → AllTyped S [] [] (tms_of ts) cs → StepsIn (Step rules) ts us → call_value S symbols k cs s (tms_of us) ≤ call_value S symbols k cs s (tms_of ts) }
 {}
 
 /// A pair whose left side covers the right one leads to no call that is worth more.
