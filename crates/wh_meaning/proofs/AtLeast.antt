@@ -1,5 +1,5 @@
 -- A polynomial that is at least another means a number at least as great.
-use Rattle.std.proofs.Common.{◌≡◌, ℕ, zero, suc, ◌+◌, ◌*◌, ◌<◌, ◌≤◌, ◌⊎◌, inl, inr, List, [], ◌∷◌, refl, ap, ap₂, ◌∙◌, sym, subst, arith, Ordering, Less, Equal, Greater, mul-le-mul, add-le-add}
+use Rattle.std.proofs.Common.{◌≡◌, ℕ, ◌*◌, ◌≤◌, inl, inr, List, sym, subst, arith, Less, Equal, mul-le-mul, add-le-add}
 use Rattle.wh_types.specs.Ty.{Ty}
 use Rattle.wh_hopoly.specs.Polynomials.{Polynomial, zero_poly, plus, Factors, compare_factors, MonomialBefore, Sorted}
 use Rattle.wh_hopoly.specs.Covers.{Has, AtLeast}
@@ -29,9 +29,9 @@ pub at_least_den : (Γ : List Ty) (ψ : Valuation) (a b : Polynomial) → Sorted
 at_least_den Γ ψ a zero_poly s t h = omega arith
 at_least_den Γ ψ zero_poly (plus d vs q) s t h = absurd h.0
 at_least_den Γ ψ (plus c us p) (plus d vs q) s t (inl e, h) =
-  let b : MonomialBefore us q = subst (λ us. MonomialBefore us q) (sym e.0) t.0 in
-  add-le-add (subst (λ us. d * den_factors Γ ψ vs ≤ c * den_factors Γ ψ us) (sym e.0) (mul-le-mul e.1 (le_nat (den_factors Γ ψ vs)))) (at_least_den Γ ψ p q s.1 t.1 (without_first c us p q b t.1 h))
+    let b : MonomialBefore us q = subst (λ us. MonomialBefore us q) (sym e.0) t.0 in
+    add-le-add (subst (λ us. d * den_factors Γ ψ vs ≤ c * den_factors Γ ψ us) (sym e.0) (mul-le-mul e.1 (le_nat (den_factors Γ ψ vs)))) (at_least_den Γ ψ p q s.1 t.1 (without_first c us p q b t.1 h))
 at_least_den Γ ψ (plus c us p) (plus d vs q) s t (inr k, h) =
-  let l = before_has us p d vs s.0 s.1 k in
-  let r = at_least_den Γ ψ p (plus d vs q) s.1 t (k, without_first c us p q (before_then us vs q l t.0) t.1 h) in
-  omega (arith, r)
+    let l = before_has us p d vs s.0 s.1 k in
+    let r = at_least_den Γ ψ p (plus d vs q) s.1 t (k, without_first c us p q (before_then us vs q l t.0) t.1 h) in
+    omega (arith, r)

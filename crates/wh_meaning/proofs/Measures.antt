@@ -1,5 +1,5 @@
 -- Where a number never rises, and falls wherever a step is not one of the rest, all ends if the rest does.
-use Rattle.std.proofs.Common.{◌≡◌, ℕ, zero, suc, ◌+◌, ◌≤◌, ◌<◌, ◌⊎◌, inl, inr, arith, le_trans, lt_of_lt_of_le}
+use Rattle.std.proofs.Common.{ℕ, zero, suc, ◌≤◌, ◌<◌, ◌⊎◌, inl, inr, arith, le_trans, lt_of_lt_of_le}
 use Rattle.wh_laws.specs.Ends.{Ends, ends}
 
 module _ {A : Type 0} {R Rest : A → A → Type 0} (m : A → ℕ) (P : A → Type 0)
@@ -9,7 +9,7 @@ module _ {A : Type 0} {R Rest : A → A → Type 0} (m : A → ℕ) (P : A → T
   rest_ends n h a p l (ends k) = ends (λ b r. let (q, i) = next a b p r in elim i [
     | inl (s, j) ↦ rest_ends n h b q (le_trans j l) (k b s)
     | inr j ↦ h b q (lt_of_lt_of_le j l)
-    ])
+  ])
 
   below_ends : ((a : A) → P a → Ends Rest a) → (n : ℕ) (a : A) → P a → m a < n → Ends R a
   below_ends e zero a p l = absurd (let z : ⊥ = omega (arith, l) in z)

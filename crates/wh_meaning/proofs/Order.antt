@@ -1,5 +1,5 @@
 -- The order of functionals, and that polynomials grow with the values of their variables.
-use Rattle.std.proofs.Common.{◌≡◌, ℕ, zero, suc, ◌+◌, ◌*◌, List, [], ◌∷◌, ◌++◌, length, refl, ap, ◌∙◌, sym, subst, ◌≤◌, arith, eqb, Bool, true, false, mul-le-mul, add-le-add}
+use Rattle.std.proofs.Common.{◌≡◌, ℕ, suc, List, ◌++◌, length, sym, subst, ◌≤◌, arith, eqb, Bool, true, false, mul-le-mul, add-le-add}
 use native.Mathlib.Decide.{ℕ_discrete}
 use mathlib.Core.Path.{path_j, subst_refl}
 use Rattle.wh_types.specs.Ty.{Ty, Ty-discrete, sort, ◌⇒◌, arguments}
@@ -50,7 +50,7 @@ unfolding put
 le_put n B x x' ψ χ m h i A = go (eqb i n)
   where
     go : (b : Bool) → Le A (elim b as (λ b. Sem A) [ true ↦ at_type B A (Ty-discrete ℕ_discrete B A) x (ψ i A) | false ↦ ψ i A ])
-      (elim b as (λ b. Sem A) [ true ↦ at_type B A (Ty-discrete ℕ_discrete B A) x' (χ i A) | false ↦ χ i A ])
+        (elim b as (λ b. Sem A) [ true ↦ at_type B A (Ty-discrete ℕ_discrete B A) x' (χ i A) | false ↦ χ i A ])
     go true = le_at B A (Ty-discrete ℕ_discrete B A) x x' (ψ i A) (χ i A) m (h i A)
     go false = h i A
 
@@ -67,9 +67,10 @@ fun_grows f g (A ⇒ B) n ψ χ m k l = λ x mx. fun_grows f g B (suc n) (put n 
 
 pub fun_mono : (f : Valuation → ℕ) → Grows f → (A : Ty) (n : ℕ) (ψ : Valuation) → MonoValuation ψ → Mono A (fun_of A n ψ f)
 fun_mono f g (sort s) n ψ m = tt
-fun_mono f g (A ⇒ B) n ψ m =
-  (λ x mx. fun_mono f g B (suc n) (put n A x ψ) (mono_put n A x ψ mx m),
-   λ x y mx my l. fun_grows f g B (suc n) (put n A x ψ) (put n A y ψ) (mono_put n A x ψ mx m) (mono_put n A y ψ my m) (le_put n A x y ψ ψ l (le_valuation_same ψ)))
+fun_mono f g (A ⇒ B) n ψ m = (
+  λ x mx. fun_mono f g B (suc n) (put n A x ψ) (mono_put n A x ψ mx m),
+  λ x y mx my l. fun_grows f g B (suc n) (put n A x ψ) (put n A y ψ) (mono_put n A x ψ mx m) (mono_put n A y ψ my m) (le_put n A x y ψ ψ l (le_valuation_same ψ)),
+)
 
 -- a number that is never greater gives a function that is never greater
 pub fun_le : (f g : Valuation → ℕ) → ((ψ : Valuation) → MonoValuation ψ → f ψ ≤ g ψ) → (A : Ty) (n : ℕ) (ψ : Valuation) → MonoValuation ψ → Le A (fun_of A n ψ f) (fun_of A n ψ g)
@@ -85,21 +86,21 @@ mutual
   pub factors_grow : (Γ : List Ty) (us : Factors) → Grows (λ ψ. den_factors Γ ψ us)
   factors_grow Γ no_factors ψ χ m k l = omega arith
   factors_grow Γ (times x ps us) ψ χ m k l =
-    mul-le-mul (arguments_grow Γ ps (type_at Γ x) (ψ x (type_at Γ x)) (χ x (type_at Γ x)) (m x (type_at Γ x)) (k x (type_at Γ x)) (l x (type_at Γ x)) ψ χ m k l)
+      mul-le-mul (arguments_grow Γ ps (type_at Γ x) (ψ x (type_at Γ x)) (χ x (type_at Γ x)) (m x (type_at Γ x)) (k x (type_at Γ x)) (l x (type_at Γ x)) ψ χ m k l)
       (factors_grow Γ us ψ χ m k l)
 
   pub arguments_grow : (Γ : List Ty) (ps : Arguments) (A : Ty) (v w : Sem A) → Mono A v → Mono A w → Le A v w → (ψ χ : Valuation) → MonoValuation ψ → MonoValuation χ → LeValuation ψ χ
-    → den_arguments Γ ψ A v ps ≤ den_arguments Γ χ A w ps
+      → den_arguments Γ ψ A v ps ≤ den_arguments Γ χ A w ps
   arguments_grow Γ no_arguments (sort s) v w mv mw vw ψ χ m k l = vw
   arguments_grow Γ no_arguments (A ⇒ B) v w mv mw vw ψ χ m k l = omega arith
   arguments_grow Γ (argument p ps) (sort s) v w mv mw vw ψ χ m k l = omega arith
   arguments_grow Γ (argument p ps) (A ⇒ B) v w mv mw vw ψ χ m k l =
-    let Δ = Γ ++ arguments A in
-    let a = fun_of A (length Γ) ψ (λ ψ. den Δ ψ p) in
-    let b = fun_of A (length Γ) χ (λ ψ. den Δ ψ p) in
-    let ma = fun_mono (λ ψ. den Δ ψ p) (den_grows Δ p) A (length Γ) ψ m in
-    let mb = fun_mono (λ ψ. den Δ ψ p) (den_grows Δ p) A (length Γ) χ k in
-    arguments_grow Γ ps B (v a) (w b) (mv.0 a ma) (mw.0 b mb)
+      let Δ = Γ ++ arguments A in
+      let a = fun_of A (length Γ) ψ (λ ψ. den Δ ψ p) in
+      let b = fun_of A (length Γ) χ (λ ψ. den Δ ψ p) in
+      let ma = fun_mono (λ ψ. den Δ ψ p) (den_grows Δ p) A (length Γ) ψ m in
+      let mb = fun_mono (λ ψ. den Δ ψ p) (den_grows Δ p) A (length Γ) χ k in
+      arguments_grow Γ ps B (v a) (w b) (mv.0 a ma) (mw.0 b mb)
       (le_then B (v a) (v b) (w b) (mv.1 a b ma mb (fun_grows (λ ψ. den Δ ψ p) (den_grows Δ p) A (length Γ) ψ χ m k l)) (vw b mb)) ψ χ m k l
 
 -- what a polynomial means is monotone

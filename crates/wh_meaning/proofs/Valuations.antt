@@ -1,9 +1,9 @@
 -- How valuations change.
-use Rattle.std.proofs.Common.{◌≡◌, ℕ, zero, suc, ◌+◌, refl, ap, ◌∙◌, sym, subst, eqb, Bool, true, false, eq-eqb, ne_eqb}
+use Rattle.std.proofs.Common.{◌≡◌, ℕ, refl, ap, ◌∙◌, subst, true, false, eq-eqb, ne_eqb}
 use native.Mathlib.Decide.{ℕ_discrete}
 use mathlib.Core.Path.{subst_refl}
 use mathlib.Core.HLevel.{hedberg}
-use Rattle.wh_types.specs.Ty.{Ty, Ty-discrete, Ty-is_set, sort, ◌⇒◌}
+use Rattle.wh_types.specs.Ty.{Ty, Ty-discrete, Ty-is_set}
 use Rattle.wh_meaning.specs.Functionals.{Sem}
 use Rattle.wh_meaning.specs.Valuations.{Valuation, at_type, put}
 
@@ -13,7 +13,7 @@ ty_set = Ty-is_set (hedberg ℕ_discrete)
 pub put_same : (n : ℕ) (B : Ty) (x : Sem B) (ψ : Valuation) → put n B x ψ n B ≡ x
 unfolding put at_type
 put_same n B x ψ = ap (λ b. elim b as (λ b. Sem B) [ true ↦ at_type B B (Ty-discrete ℕ_discrete B B) x (ψ n B) | false ↦ ψ n B ]) (eq-eqb n n refl)
-  ∙ go (Ty-discrete ℕ_discrete B B)
+    ∙ go (Ty-discrete ℕ_discrete B B)
   where
     go : (d : Dec (B ≡ B)) → at_type B B d x (ψ n B) ≡ x
     go (yes e) = ap (λ e. subst Sem e x) (ty_set B B e refl) ∙ subst_refl Sem x

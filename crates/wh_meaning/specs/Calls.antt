@@ -21,13 +21,13 @@ all_nothing x A = nothing A
 -- variables 0 (Fuhs and Kop 2012)
 abbrev pub call_value : Symbols → List Interpretation → ℕ → List Ty → ℕ → Tms → ℕ
 call_value S symbols k cs s ts =
-  fed S [] (record { of_symbols = of_interpretations symbols; of_metas = all_nothing; of_free = all_nothing }) [] all_nothing cs (sort s)
+    fed S [] (record { of_symbols = of_interpretations symbols; of_metas = all_nothing; of_free = all_nothing }) [] all_nothing cs (sort s)
     (of_interpretations symbols k (arrows cs (sort s))) ts
 
 -- the polynomial of a marked side in the scope of the pair's meta-variables (Fuhs and Kop 2012)
 abbrev pub call_polynomial : List Interpretation → List Declared → ℕ → Tms → Polynomial
 call_polynomial symbols M k ts =
-  (evaluate symbols (types_of_metas M) (side_applied (length (types_of_metas M)) (symbol k) ts)).result
+    (evaluate symbols (types_of_metas M) (side_applied (length (types_of_metas M)) (symbol k) ts)).result
 
 -- a marked side is well made: its symbol has an interpretation that takes its arguments to a sort, and they are typed and closed (ours)
 pub record IsMarkedSide (S : Symbols) (symbols : List Interpretation) (M : List Declared) (k : ℕ) (cs : List Ty) (s : ℕ) (ts : Tms) : Type 0 where

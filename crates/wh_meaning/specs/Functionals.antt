@@ -12,7 +12,7 @@ abbrev mutual
   pub Mono : (A : Ty) → Sem A → Type 0
   Mono (sort s) n = Unit {0}
   Mono (A ⇒ B) f =
-    ((x : Sem A) → Mono A x → Mono B (f x)) × ((x y : Sem A) → Mono A x → Mono A y → Le A x y → Le B (f x) (f y))
+      ((x : Sem A) → Mono A x → Mono B (f x)) × ((x y : Sem A) → Mono A x → Mono A y → Le A x y → Le B (f x) (f y))
 
   -- a value is at most another if it is so at all monotone arguments (Fuhs and Kop 2012)
   pub Le : (A : Ty) → Sem A → Sem A → Type 0

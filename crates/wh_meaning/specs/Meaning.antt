@@ -24,7 +24,7 @@ abbrev mutual
   den_arguments Γ ψ (A ⇒ B) f no_arguments = 0
   den_arguments Γ ψ (sort s) f (argument p ps) = 0
   den_arguments Γ ψ (A ⇒ B) f (argument p ps) =
-    den_arguments Γ ψ B (f (fun_of A (length Γ) ψ (λ χ. den (Γ ++ arguments A) χ p))) ps
+      den_arguments Γ ψ B (f (fun_of A (length Γ) ψ (λ χ. den (Γ ++ arguments A) χ p))) ps
 
 -- what a polynomial means that is the value of something of type A in the scope Γ: a function of the added variables (ours)
 abbrev pub reading : (A : Ty) → List Ty → Valuation → Polynomial → Sem A
@@ -39,7 +39,7 @@ apply_at (B ⇒ C) A f a = f (at_type A B (Ty-discrete ℕ_discrete A B) a (noth
 abbrev pub mean : (symbols : List Interpretation) (Γ : List Ty) (e : Expression) → Valuation → Sem (type_of symbols Γ e)
 mean symbols Γ (var x) ψ = ψ x (type_at Γ x)
 mean symbols Γ (symbol f) ψ =
-  reading (interpretation_at symbols f).kind [] ψ (interpretation_at symbols f).polynomial
+    reading (interpretation_at symbols f).kind [] ψ (interpretation_at symbols f).polynomial
 mean symbols Γ (lambda A e) ψ = λ a. mean symbols (Γ ++ A ∷ []) e (put (length Γ) A a ψ)
 mean symbols Γ (apply e d) ψ =
-  apply_at (type_of symbols Γ e) (type_of symbols Γ d) (mean symbols Γ e ψ) (mean symbols Γ d ψ)
+    apply_at (type_of symbols Γ e) (type_of symbols Γ d) (mean symbols Γ e ψ) (mean symbols Γ d ψ)

@@ -51,7 +51,7 @@ Interprets S symbols = (f : ℕ) (a : Ty) → slice_get S.funs f ≡ Some a → 
 -- moves show that the polynomial of the left side is at least that of the right side (Fuhs and Kop 2012)
 abbrev pub RuleIsCovered : List Interpretation → RewriteRule → Type 0
 RuleIsCovered symbols r =
-  (ms : List Transfer) × IsCover (side_polynomial symbols r.metas r.left) (side_polynomial symbols r.metas r.right) ms
+    (ms : List Transfer) × IsCover (side_polynomial symbols r.metas r.left) (side_polynomial symbols r.metas r.right) ms
 
 -- so it is for every rule
 abbrev pub RulesAreCovered : List Interpretation → List RewriteRule → Type 0

@@ -54,11 +54,11 @@ abbrev mutual
   value_in S M m Γ (free x b) ρ A = m.of_free x A
   value_in S M m Γ (fun f) ρ A = m.of_symbols f A
   value_in S M m Γ (meta z ts) ρ A =
-    fed S M m Γ ρ (declared_at M z).args A (m.of_metas z (arrows (declared_at M z).args A)) ts
+      fed S M m Γ ρ (declared_at M z).args A (m.of_metas z (arrows (declared_at M z).args A)) ts
   value_in S M m Γ (lam b t) ρ (sort s) = 0
   value_in S M m Γ (lam b t) ρ (A ⇒ C) = λ v. value_in S M m (b ∷ Γ) t (push A v ρ) C
   value_in S M m Γ (app t u) ρ A =
-    value_in S M m Γ t ρ (type_in S M Γ u ⇒ A) (value_in S M m Γ u ρ (type_in S M Γ u))
+      value_in S M m Γ t ρ (type_in S M Γ u ⇒ A) (value_in S M m Γ u ρ (type_in S M Γ u))
 
   -- a function of arguments of the types, applied to the values of trees (Fuhs and Kop 2012)
   pub fed : Symbols → List Declared → Meanings → List Ty → Valuation → (cs : List Ty) (A : Ty) → Sem (arrows cs A) → Tms → Sem A
