@@ -1,1 +1,14 @@
 pub mod Puts
+pub mod SpineLaws
+pub mod TypeLists
+pub mod NeedLaws
+pub mod WholeBodies
+pub mod MetaSubstitution
+pub mod Ways
+pub mod ReadBodies
+pub mod RightSides
+pub mod CandidateValues
+pub mod Served
+pub mod CallLaws
+pub mod SymbolLaws
+pub mod EndOfCalls

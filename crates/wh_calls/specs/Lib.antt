@@ -1,2 +1,3 @@
 pub mod MarkedCalls
 pub mod Bodies
+pub mod Sides

@@ -1,0 +1,9 @@
+pub mod ManyLaws
+pub mod RigidLaws
+pub mod MayLaws
+pub mod CallLaws
+pub mod AloneLaws
+pub mod BlockLaws
+pub mod SubtermLaws
+pub mod NodeLaws
+pub mod SystemLaws

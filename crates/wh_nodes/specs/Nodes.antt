@@ -1,9 +1,8 @@
 -- The nodes of a termination proof, once the names in them are looked up, and the sets that they leave.
-use Rattle.std.specs.Prelude.{ℕ, ◌≡◌, ◌↔◌, ◌×◌, List, [], ◌∷◌, Some, Contains, slice_get}
+use Rattle.std.specs.Prelude.{ℕ, ◌↔◌, List, [], ◌∷◌, Contains}
 use Rattle.wh_terms.specs.Rules.{RewriteRule}
 use Rattle.wh_system.specs.PairData.{PairData, IsIncreasing}
 use Rattle.wh_graph.specs.May.{Follows}
-use Rattle.wh_graph.specs.Components.{IsIn}
 use Rattle.wh_graph.specs.Blocks.{AreBlocks}
 use Rattle.wh_subterm.specs.Projections.{Chosen}
 use Rattle.wh_subterm.specs.SubtermRows.{IsProjection}

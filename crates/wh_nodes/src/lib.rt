@@ -1,2 +1,7 @@
-//! Laws.
+//! Laws on termination proofs, on which a YES stands: where the nodes prove the set of all pairs, calls lead to no
+//! endless sequence, and so each well-typed term is bounded.
 #![tactic(auto)]
+
+mod nodes;
+
+pub use nodes::{may_is_sound, nodes_keep_that_calls_end, proved_systems_are_bounded};

@@ -1,7 +1,8 @@
--- A number that stands in the drop list is in the set or is not.
-use Rattle.std.proofs.Common.{◌≡◌, ℕ, zero, suc, ◌⊎◌, inl, inr, List, [], ◌∷◌, Some, slice_get, Contains, ap, arith}
+-- Numbers of the drop list: whether they are in the set, and that a list that is not bad drops some, each once.
+use Rattle.std.proofs.Common.{◌≡◌, ◌≢◌, ℕ, zero, suc, ◌<◌, ◌⊎◌, inl, inr, List, [], ◌∷◌, Some, get_or, slice_get, All, Contains, ap, arith}
+use Rattle.std.proofs.lemmas.Option.{slice_get-get_or}
 use Rattle.std.proofs.lemmas.Bool.{cases_eq}
-use Rattle.wh_subterm.specs.SubtermRows.{StandsTwice, HasStray}
+use Rattle.wh_subterm.specs.SubtermRows.{StandsTwice, HasStray, IsBadDrop}
 use Rattle.wh_system.proofs.ByPlace.{contains_at, place_of}
 
 later : (m n : ℕ) (ns : List ℕ) → Contains ns n → Contains (m ∷ ns) n
@@ -11,7 +12,7 @@ only_later : (m n k : ℕ) (ns : List ℕ) → (m ≡ n → ⊥) → slice_get (
 only_later m n zero ns other at = let same : m ≡ n = cc in absurd (other same)
 only_later m n (suc k) ns other at = contains_at ns k n at
 
-contains_or_not : (ns : List ℕ) (n : ℕ) → Contains ns n ⊎ (Contains ns n → ⊥)
+pub contains_or_not : (ns : List ℕ) (n : ℕ) → Contains ns n ⊎ (Contains ns n → ⊥)
 contains_or_not [] n = inr (λ (k, within, e). omega arith)
 contains_or_not (m ∷ ns) n = elim (cases_eq m n) [
   | inl same ↦ inl (contains_at (m ∷ ns) 0 n (ap Some same))
@@ -25,4 +26,21 @@ pub twice_in_set : (set drop : List ℕ) (n : ℕ) → (HasStray set drop → �
 twice_in_set set drop n none (i, j, less, at, also) = elim (contains_or_not set n) [
   | inl found ↦ found
   | inr missing ↦ absurd (none (n, contains_at drop i n at, missing))
+]
+
+-- a drop list that is not bad drops some pair of the set, and none twice
+
+pub drops_some : (set drop : List ℕ) → (IsBadDrop set drop → ⊥) → drop ≢ []
+drops_some set drop good e = good (inl e)
+
+pub drops_once : (set drop : List ℕ) → (IsBadDrop set drop → ⊥) → (i j n : ℕ) → slice_get drop i ≡ Some n → slice_get drop j ≡ Some n → i ≡ j
+drops_once set drop good i j n at also =
+    let above : i < j → ⊥ = λ less. good (inr (inl (n, (i, j, less, at, also)))) in
+    let under : j < i → ⊥ = λ less. good (inr (inl (n, (j, i, less, also, at)))) in
+    omega (arith, above, under)
+
+pub drops_within : (set drop : List ℕ) → (IsBadDrop set drop → ⊥) → All (Contains set) drop
+drops_within set drop good i d within = elim (contains_or_not set (get_or drop i d)) [
+  | inl found ↦ found
+  | inr missing ↦ absurd (good (inr (inr (get_or drop i d, contains_at drop i (get_or drop i d) (slice_get-get_or drop i d within), missing))))
 ]

@@ -5,7 +5,7 @@ use Rattle.wh_terms.specs.Tree.{Tm}
 use Rattle.wh_system.specs.PairData.{PairData, IsIncreasing}
 use Rattle.wh_subterm.specs.Parts.{Part}
 use Rattle.wh_subterm.specs.Projections.{Chosen, IsProjected, Equal, Below, Decreasing}
-use Rattle.wh_subterm.specs.SubtermRows.{chosen_symbols, IsNotDecreasing}
+use Rattle.wh_subterm.specs.SubtermRows.{chosen_symbols, IsDecreasing, IsNotDecreasing}
 use Rattle.wh_system.proofs.ByPlace.{some_one}
 use Rattle.wh_subterm.proofs.ChoiceLemmas.{one_choice, symbol_chosen}
 
@@ -64,18 +64,18 @@ decreasing_cases args a t u false up left right (inr below) = inl (below_part ar
 -- a pair of the list decreases exactly where nothing is wrong with it
 
 pub decreasing_right : (pairs : List PairData) (args : List Chosen) (drop : List ℕ) (n : ℕ) (a : PairData) (dropped : Bool) → slice_get pairs n ≡ Some a → (IsTrue dropped ↔ Contains drop n)
-    → Decreasing args dropped a → IsNotDecreasing pairs args drop n → ⊥
-decreasing_right pairs args drop n a true at is below (b, also, inl neither) =
-    neither (inr (subst (Below args) (some_one at also) below))
-decreasing_right pairs args drop n a true at is below (b, also, inr bad) =
-    bad.1 (subst (Below args) (some_one at also) below)
-decreasing_right pairs args drop n a false at is (inl equal) (b, also, inl neither) =
-    neither (inl (subst (Equal args) (some_one at also) equal))
-decreasing_right pairs args drop n a false at is (inr below) (b, also, inl neither) =
-    neither (inr (subst (Below args) (some_one at also) below))
-decreasing_right pairs args drop n a false at is right (b, also, inr bad) = let never : false ≡ true = is.1 bad.0 in cc
+    → Decreasing args dropped a → IsDecreasing pairs args drop n
+decreasing_right pairs args drop n a true at is below b also = let here = subst (Below args) (some_one at also) below in (inr here, λ _. here)
+decreasing_right pairs args drop n a false at is right b also = (
+  subst (λ d. Equal args d ⊎ Below args d) (some_one at also) right,
+  λ found. let never : false ≡ true = is.1 found in cc,
+)
 
 pub decreasing_wrong : (pairs : List PairData) (args : List Chosen) (drop : List ℕ) (n : ℕ) (a : PairData) (dropped : Bool) → slice_get pairs n ≡ Some a → (IsTrue dropped ↔ Contains drop n)
     → (Decreasing args dropped a → ⊥) → IsNotDecreasing pairs args drop n
 decreasing_wrong pairs args drop n a true at is wrong = (a, at, inr (is.0 refl, wrong))
 decreasing_wrong pairs args drop n a false at is wrong = (a, at, inl wrong)
+
+pub not_both : (pairs : List PairData) (args : List Chosen) (drop : List ℕ) (n : ℕ) → IsDecreasing pairs args drop n → IsNotDecreasing pairs args drop n → ⊥
+not_both pairs args drop n right (a, at, inl neither) = neither (right a at).0
+not_both pairs args drop n right (a, at, inr bad) = bad.1 ((right a at).1 bad.0)

@@ -46,6 +46,11 @@ IsNotDecreasing pairs args drop n =
     (a : PairData) × (slice_get pairs n ≡ Some a)
     × (((Equal args a ⊎ Below args a) → ⊥) ⊎ (Contains drop n × (Below args a → ⊥)))
 
+-- the pair with the number is equal or below, and below if it is dropped
+abbrev pub IsDecreasing : List PairData → List Chosen → List ℕ → ℕ → Type 0
+IsDecreasing pairs args drop n =
+    (a : PairData) → slice_get pairs n ≡ Some a → (Equal args a ⊎ Below args a) × (Contains drop n → Below args a)
+
 -- P holds of no choice
 abbrev pub NoneIs : (Chosen → Type 0) → List Chosen → Type 0
 NoneIs P args = (c : Chosen) → Contains args c → P c → ⊥

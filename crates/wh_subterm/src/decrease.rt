@@ -5,7 +5,7 @@ ghost use Rattle.wh_terms.specs.Tree.{Tm};
 ghost use Rattle.wh_terms.specs.Erase.{list, tm};
 ghost use Rattle.wh_system.specs.PairData.{IsIncreasing, pair_data};
 ghost use Rattle.wh_subterm.specs.Projections.{Decreasing, IsProjected};
-ghost use Rattle.wh_subterm.specs.SubtermRows.{IsNotDecreasing, chosen, chosen_symbols};
+ghost use Rattle.wh_subterm.specs.SubtermRows.{IsDecreasing, IsNotDecreasing, chosen, chosen_symbols};
 
 use crate::marked::choice_for;
 use crate::parts::has_part;
@@ -23,7 +23,7 @@ pub fn first_not_decreasing(
     requires set { All (λ n. n < length pairs.now) set.now }
     requires increasing { IsIncreasing set.now }
     requires args { IsIncreasing (chosen_symbols (map chosen args.now)) }
-    ensures { MatchOption result ((n : ℕ) → Contains set.now n → IsNotDecreasing (map pair_data pairs.now) (map chosen args.now) drop.now n → ⊥) (λ n. Contains set.now n × IsNotDecreasing (map pair_data pairs.now) (map chosen args.now) drop.now n × ((m : ℕ) → m < n → Contains set.now m → IsNotDecreasing (map pair_data pairs.now) (map chosen args.now) drop.now m → ⊥)) }
+    ensures { MatchOption result ((n : ℕ) → Contains set.now n → IsDecreasing (map pair_data pairs.now) (map chosen args.now) drop.now n) (λ n. Contains set.now n × IsNotDecreasing (map pair_data pairs.now) (map chosen args.now) drop.now n × ((m : ℕ) → m < n → Contains set.now m → IsNotDecreasing (map pair_data pairs.now) (map chosen args.now) drop.now m → ⊥)) }
 {
     for number in set {
         if !is_decreasing(&pairs[*number as usize], args, is_in(drop, *number)) {

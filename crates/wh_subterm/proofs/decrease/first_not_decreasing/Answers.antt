@@ -1,9 +1,9 @@
 use Rattle.std.proofs.Common.{map, get_or}
 use Rattle.wh_system.specs.PairData.{pair_data}
-use Rattle.wh_subterm.specs.SubtermRows.{IsNotDecreasing, chosen}
+use Rattle.wh_subterm.specs.SubtermRows.{IsDecreasing, chosen}
 use Rattle.wh_system.proofs.ByPlace.{read_map, number_at, contains_number, place_of, before_more, before_all}
 use Rattle.wh_system.proofs.Increasing.{smaller_earlier}
-use Rattle.wh_subterm.proofs.ProjectionLemmas.{decreasing_right, decreasing_wrong}
+use Rattle.wh_subterm.proofs.ProjectionLemmas.{decreasing_right, decreasing_wrong, not_both}
 use Rattle.wh_subterm.proofs.decrease.first_not_decreasing.Goals as goal
 
 pub returns-then-not-is_decreasing : goal.returns-then-not-is_decreasing
@@ -18,7 +18,8 @@ returns-then-not-is_decreasing c =
       decreasing_wrong ps args c.args.drop.now n (pair_data c.index-pairs-number.result) c.is_in.result at c.is_in.ensures (λ right. cc (c.is_decreasing.ensures.1 right, c.if-not-is_decreasing.true)),
       λ m less found wrong.
           let there = place_of set m found in
-          c.loop-number.invariant there.0 m (smaller_earlier set there.0 i m n c.requires.increasing there.1 (number_at set i c.loop-number-test.true) less) there.1 wrong,
+          let right = c.loop-number.invariant there.0 m (smaller_earlier set there.0 i m n c.requires.increasing there.1 (number_at set i c.loop-number-test.true) less) there.1 in
+          not_both ps args c.args.drop.now m right wrong,
     )
 
 pub loop-number-preserved : goal.loop-number-preserved
@@ -29,10 +30,10 @@ loop-number-preserved c =
     let ps = map pair_data c.args.pairs.now in
     let args = map chosen c.args.args.now in
     let at = read_map pair_data c.args.pairs.now n c.index-pairs-number.result (c.requires.set i 0 c.loop-number-test.true) c.index-pairs-number.is in
-    before_more (λ m. IsNotDecreasing ps args c.args.drop.now m → ⊥) set i n c.loop-number.invariant (number_at set i c.loop-number-test.true)
+    before_more (IsDecreasing ps args c.args.drop.now) set i n c.loop-number.invariant (number_at set i c.loop-number-test.true)
     (decreasing_right ps args c.args.drop.now n (pair_data c.index-pairs-number.result) c.is_in.result at c.is_in.ensures (c.is_decreasing.ensures.0 c.if-not-is_decreasing.false))
 
 pub returns : goal.returns
 returns c =
-    λ n found. before_all (λ m. IsNotDecreasing (map pair_data c.args.pairs.now) (map chosen c.args.args.now) c.args.drop.now m → ⊥) c.args.set.now c.loop-number.number-index n
+    λ n found. before_all (IsDecreasing (map pair_data c.args.pairs.now) (map chosen c.args.args.now) c.args.drop.now) c.args.set.now c.loop-number.number-index n
     c.loop-number.invariant c.loop-number-test.false found

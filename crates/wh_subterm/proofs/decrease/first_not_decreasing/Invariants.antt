@@ -1,8 +1,8 @@
 use Rattle.std.proofs.Common.{map}
 use Rattle.wh_system.specs.PairData.{pair_data}
-use Rattle.wh_subterm.specs.SubtermRows.{IsNotDecreasing, chosen}
+use Rattle.wh_subterm.specs.SubtermRows.{IsDecreasing, chosen}
 use Rattle.wh_system.proofs.ByPlace.{Before}
 use Rattle.wh_subterm.proofs.decrease.first_not_decreasing.Given as goal
 
 abbrev pub invariant-loop-number : goal.invariant-loop-number
-invariant-loop-number l = (Before (λ n. IsNotDecreasing (map pair_data l.pairs) (map chosen l.args) l.drop n → ⊥) l.set l.number-index)
+invariant-loop-number l = Before (IsDecreasing (map pair_data l.pairs) (map chosen l.args) l.drop) l.set l.number-index
