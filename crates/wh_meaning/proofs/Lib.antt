@@ -12,3 +12,4 @@ pub mod SideMeans
 pub mod Steps
 pub mod CallValues
 pub mod Measures
+pub mod PairsEnd

@@ -5,3 +5,4 @@ pub mod Moves
 pub mod TermValues
 pub mod Sides
 pub mod Calls
+pub mod PairCovers
