@@ -13,3 +13,4 @@ pub mod Steps
 pub mod CallValues
 pub mod Measures
 pub mod PairsEnd
+pub mod Rows

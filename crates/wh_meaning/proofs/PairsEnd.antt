@@ -1,5 +1,5 @@
 -- Where all rules and pairs are covered, and each pair is kept or strictly covered, calls end if those by the kept pairs do.
-use Rattle.std.proofs.Common.{◌≡◌, ℕ, List, [], ◌∷◌, ◌++◌, ◌⊎◌, inl, inr, Some, slice_get, ◌≤◌, ◌<◌, refl, ap, ap₂, ◌∙◌, sym, subst}
+use Rattle.std.proofs.Common.{◌≡◌, ℕ, List, [], ◌∷◌, ◌++◌, ◌⊎◌, inl, inr, Some, slice_get, Contains, ◌≤◌, ◌<◌, refl, ap, ap₂, ◌∙◌, sym, subst}
 use Rattle.std.specs.Prelude.{take, unwrap_or}
 use Rattle.std.specs.List.{AllByRecursion}
 use Rattle.wh_types.specs.Ty.{Ty, arguments}
@@ -18,7 +18,7 @@ use Rattle.wh_hopoly.specs.Evaluation.{type_at, Interpretation, NormalInterpreta
 use Rattle.wh_meaning.specs.Moves.{Transfer, IsCover, IsStrictCover}
 use Rattle.wh_meaning.specs.Sides.{Interprets, RulesAreCovered}
 use Rattle.wh_meaning.specs.Calls.{call_value, HasTypedBodies}
-use Rattle.wh_meaning.specs.PairCovers.{marked_types, worth_of, PairIsCovered, PairIsStrictlyCovered}
+use Rattle.wh_meaning.specs.PairCovers.{marked_types, worth_of, PairIsCovered, PairIsStrictlyCovered, IsOneOf}
 use Rattle.wh_meaning.proofs.TermValues.{at_is}
 use Rattle.wh_meaning.proofs.CallValues.{call_reduct_le, covered_call_le, strictly_covered_call_lt}
 use Rattle.wh_meaning.proofs.Measures.{ends_measured}
@@ -102,3 +102,15 @@ module _ (S : Symbols) (rules : List RewriteRule) (well : AreWellMade S rules) (
     pub calls_end_by_worth : CallsEnd S rules (Step rules) Q → CallsEnd S rules (Step rules) P
     calls_end_by_worth rest c e = ends_measured (worth_of S rules symbols marked target) ArgumentsEnd
       (λ c d e s. outcome c d e s.from_typed s.to_typed s.leads) rest c e
+
+-- the same for sets of pairs by their numbers
+pub sets_end_by_worth : (S : Symbols) (rules : List RewriteRule) (symbols : List Interpretation) (marked target : ℕ → ℕ) (pairs : List PairData) (set kept : List ℕ) → AreWellMade S rules → Interprets S symbols
+  → NormalInterpretations symbols → RulesAreCovered symbols rules → ((n : ℕ) (p : PairData) → Contains set n → slice_get pairs n ≡ Some p → PairIsCovered S rules symbols marked target p)
+  → ((n : ℕ) (p : PairData) → Contains set n → slice_get pairs n ≡ Some p → Contains kept n ⊎ PairIsStrictlyCovered symbols marked p)
+  → CallsEnd S rules (Step rules) (IsOneOf pairs kept) → CallsEnd S rules (Step rules) (IsOneOf pairs set)
+sets_end_by_worth S rules symbols marked target pairs set kept w i n c h k e =
+  calls_end_by_worth S rules w symbols i n c marked target {P = IsOneOf pairs set} {Q = IsOneOf pairs kept} (λ p (n, m, s). h n p m s) (λ p (n, m, s). one_of n p m s (k n p m s)) e
+  where
+    one_of : (n : ℕ) (p : PairData) → Contains set n → slice_get pairs n ≡ Some p → Contains kept n ⊎ PairIsStrictlyCovered symbols marked p → IsOneOf pairs kept p ⊎ PairIsStrictlyCovered symbols marked p
+    one_of n p m s (inl q) = inl (n, q, s)
+    one_of n p m s (inr q) = inr q

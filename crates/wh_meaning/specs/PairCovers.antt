@@ -1,6 +1,6 @@
 -- Pairs that are covered, and what their marked calls are worth. `marked` gives the number of the interpretation of a marked symbol, and
 -- `target` the sort that it leads to.
-use Rattle.std.specs.Prelude.{ℕ, List, [], take, unwrap_or}
+use Rattle.std.specs.Prelude.{ℕ, ◌≡◌, List, [], take, unwrap_or, Some, slice_get, Contains}
 use Rattle.wh_types.specs.Ty.{Ty, arguments}
 use Rattle.wh_terms.specs.Tree.{tms_of}
 use Rattle.wh_terms.specs.Typing.{Symbols}
@@ -39,3 +39,7 @@ pub record PairIsCovered (S : Symbols) (rules : List RewriteRule) (symbols : Lis
 -- the left side of the pair covers the right one strictly
 abbrev pub PairIsStrictlyCovered : List Interpretation → (ℕ → ℕ) → PairData → Type 0
 PairIsStrictlyCovered symbols marked p = (ms : List Transfer) × IsStrictCover (left_polynomial symbols marked p) (right_polynomial symbols marked p) ms
+
+-- the pair is one of those with the numbers of the set
+abbrev pub IsOneOf : List PairData → List ℕ → PairData → Type 0
+IsOneOf pairs set p = (n : ℕ) × Contains set n × (slice_get pairs n ≡ Some p)

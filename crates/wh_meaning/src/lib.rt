@@ -4,6 +4,7 @@
 
 mod calls;
 mod covering;
+mod pairs;
 mod terms;
 mod values;
 
@@ -11,6 +12,7 @@ pub use calls::{
     covered_pairs_do_not_raise_calls, steps_do_not_raise_calls, strictly_covered_pairs_lower_calls,
 };
 pub use covering::{covers_mean_at_least, strict_covers_mean_greater};
+pub use pairs::covers_keep_that_calls_end;
 pub use terms::{
     beta_keeps_values, covered_steps_do_not_raise_values, sides_mean_their_polynomials,
     values_are_monotone,
