@@ -1,6 +1,6 @@
 -- Pairs that are covered, and what their marked calls are worth. `marked` gives the number of the interpretation of a marked symbol, and
 -- `target` the sort that it leads to.
-use Rattle.std.specs.Prelude.{ℕ, ◌≡◌, List, [], take, unwrap_or, Some, slice_get, Contains}
+use Rattle.std.specs.Prelude.{ℕ, ◌≡◌, List, take, unwrap_or, Some, slice_get, Contains}
 use Rattle.wh_types.specs.Ty.{Ty, arguments}
 use Rattle.wh_terms.specs.Tree.{tms_of}
 use Rattle.wh_terms.specs.Typing.{Symbols}
@@ -20,7 +20,7 @@ marked_types S rules f = take (unwrap_or (need_of rules f) 0) (arguments (type_a
 -- what a marked call is worth (Fuhs and Kop 2012)
 abbrev pub worth_of : Symbols → List RewriteRule → List Interpretation → (ℕ → ℕ) → (ℕ → ℕ) → MarkedCall → ℕ
 worth_of S rules symbols marked target c =
-  call_value S symbols (marked c.symbol) (marked_types S rules c.symbol) (target c.symbol) (tms_of c.arguments)
+    call_value S symbols (marked c.symbol) (marked_types S rules c.symbol) (target c.symbol) (tms_of c.arguments)
 
 -- the polynomials of the two sides of a pair
 abbrev pub left_polynomial : List Interpretation → (ℕ → ℕ) → PairData → Polynomial
