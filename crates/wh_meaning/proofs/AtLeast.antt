@@ -9,7 +9,8 @@ use Rattle.wh_meaning.specs.Valuations.{Valuation}
 use Rattle.wh_meaning.specs.Meaning.{den, den_factors}
 
 -- what a sorted polynomial has stands after what is before it
-before_has : (us : Factors) (p : Polynomial) (d : ℕ) (vs : Factors) → MonomialBefore us p → Sorted p → Has p d vs → compare_factors us vs ≡ Less
+before_has : (us : Factors) (p : Polynomial) (d : ℕ) (vs : Factors) → MonomialBefore us p → Sorted p → Has p d vs
+    → compare_factors us vs ≡ Less
 before_has us zero_poly d vs b s h = absurd h
 before_has us (plus c ws p) d vs b s (inl e) = subst (λ vs. compare_factors us vs ≡ Less) e.0 b
 before_has us (plus c ws p) d vs b s (inr h) = before_has us p d vs (before_then us ws p b s.0) s.1 h

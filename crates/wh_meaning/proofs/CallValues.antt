@@ -39,7 +39,8 @@ abbrev terms_at_nothing : List Interpretation → Meanings
 terms_at_nothing symbols = record { of_symbols = of_interpretations symbols; of_metas = all_nothing; of_free = all_nothing }
 
 -- steps of a system are steps over its rules
-steps_over : (S : Symbols) (rules : List RewriteRule) → AreWellMade S rules → {ts us : List Tm} → StepsIn (Step rules) ts us → StepsIn (StepOver (RuleRoot rules)) ts us
+steps_over : (S : Symbols) (rules : List RewriteRule) → AreWellMade S rules → {ts us : List Tm} → StepsIn (Step rules) ts us
+    → StepsIn (StepOver (RuleRoot rules)) ts us
 steps_over S rules w (step_here r) = step_here (over-more instance-rule_root (step_raw S w r))
 steps_over S rules w (step_there s) = step_there (steps_over S rules w s)
 
@@ -54,9 +55,11 @@ module _ (S : Symbols) (symbols : List Interpretation) (interprets : Interprets 
   interpretations_mono f A = reading_mono A [] all_nothing (interpretation_at symbols f).polynomial mono_nothings
 
   -- a function of arguments, one of which steps
-  fed_step_le : (rules : List RewriteRule) → AreWellMade S rules → RulesAreCovered symbols rules → (cs : List Ty) (A : Ty) (f : Sem (arrows cs A)) → Mono (arrows cs A) f
+  fed_step_le : (rules : List RewriteRule) → AreWellMade S rules → RulesAreCovered symbols rules
+      → (cs : List Ty) (A : Ty) (f : Sem (arrows cs A)) → Mono (arrows cs A) f
       → (ts us : List Tm) → AllTyped S [] [] (tms_of ts) cs → StepsIn (StepOver (RuleRoot rules)) ts us
-      → Le A (fed S [] (terms_at_nothing symbols) [] all_nothing cs A f (tms_of us)) (fed S [] (terms_at_nothing symbols) [] all_nothing cs A f (tms_of ts))
+      → Le A (fed S [] (terms_at_nothing symbols) [] all_nothing cs A f (tms_of us))
+      (fed S [] (terms_at_nothing symbols) [] all_nothing cs A f (tms_of ts))
   fed_step_le rules w k [] A f mf [] us p s = elim s [ ]
   fed_step_le rules w k [] A f mf (t ∷ ts) us p s = elim p [ ]
   fed_step_le rules w k (c ∷ cs) A f mf [] us p s = elim s [ ]
@@ -74,13 +77,15 @@ module _ (S : Symbols) (symbols : List Interpretation) (interprets : Interprets 
       fed_step_le rules w k cs A (f x) (mf.0 x (value_mono S [] (terms_at_nothing symbols) mono_at_nothing t [] all_nothing mono_nothings c)) ts us ps s
 
   -- a step in an argument does not raise what a call is worth
-  pub call_step_le : (rules : List RewriteRule) → AreWellMade S rules → RulesAreCovered symbols rules → (k : ℕ) (cs : List Ty) (s : ℕ) (ts us : List Tm) → AllTyped S [] [] (tms_of ts) cs
+  pub call_step_le : (rules : List RewriteRule) → AreWellMade S rules → RulesAreCovered symbols rules
+      → (k : ℕ) (cs : List Ty) (s : ℕ) (ts us : List Tm) → AllTyped S [] [] (tms_of ts) cs
       → StepsIn (StepOver (RuleRoot rules)) ts us → call_value S symbols k cs s (tms_of us) ≤ call_value S symbols k cs s (tms_of ts)
   call_step_le rules w c k cs s ts us p r =
       fed_step_le rules w c cs (sort s) (of_interpretations symbols k (arrows cs (sort s))) (interpretations_mono k (arrows cs (sort s))) ts us p r
 
   -- the same for the steps of a system
-  pub call_reduct_le : (rules : List RewriteRule) → AreWellMade S rules → RulesAreCovered symbols rules → (k : ℕ) (cs : List Ty) (s : ℕ) (ts us : List Tm) → AllTyped S [] [] (tms_of ts) cs
+  pub call_reduct_le : (rules : List RewriteRule) → AreWellMade S rules → RulesAreCovered symbols rules
+      → (k : ℕ) (cs : List Ty) (s : ℕ) (ts us : List Tm) → AllTyped S [] [] (tms_of ts) cs
       → StepsIn (Step rules) ts us → call_value S symbols k cs s (tms_of us) ≤ call_value S symbols k cs s (tms_of ts)
   call_reduct_le rules w c k cs s ts us p r = call_step_le rules w c k cs s ts us p (steps_over S rules w r)
 
@@ -90,15 +95,19 @@ module _ (S : Symbols) (symbols : List Interpretation) (interprets : Interprets 
       side_applied_typed S M symbols interprets (length (types_of_metas M)) refl (symbol k) (sort s) ((i, e), ap (λ i. i.kind) (interpretation_is symbols k i e) ∙ j) h.typed h.closed
 
   -- the polynomial of a marked side is normal
-  pub call_normal : (M : List Declared) (k : ℕ) (cs : List Ty) (s : ℕ) (ts : Tms) → IsMarkedSide S symbols M k cs s ts → Normal (types_of_metas M ++ []) (call_polynomial symbols M k ts)
+  pub call_normal : (M : List Declared) (k : ℕ) (cs : List Ty) (s : ℕ) (ts : Tms) → IsMarkedSide S symbols M k cs s ts
+      → Normal (types_of_metas M ++ []) (call_polynomial symbols M k ts)
   call_normal M k cs s ts h =
       let (typed, e) = marked_type M k cs s ts h in
       subst (λ b. Normal (types_of_metas M ++ arguments b) (call_polynomial symbols M k ts)) e
       (normal_value symbols normal (types_of_metas M) (side_applied (length (types_of_metas M)) (symbol k) ts) typed)
 
   -- a marked side is worth what its polynomial means, where variables mean what meta-variables do
-  side_worth : (m : Meanings) → ((f : ℕ) (A : Ty) → m.of_symbols f A ≡ of_interpretations symbols f A) → (M : List Declared) (k : ℕ) (cs : List Ty) (s : ℕ) (ts : Tms) → IsMarkedSide S symbols M k cs s ts
-      → (ρ : Valuation) → fed S M m [] ρ cs (sort s) (m.of_symbols k (arrows cs (sort s))) ts ≡ den (types_of_metas M ++ []) m.of_metas (call_polynomial symbols M k ts)
+  side_worth : (m : Meanings) → ((f : ℕ) (A : Ty) → m.of_symbols f A ≡ of_interpretations symbols f A)
+      → (M : List Declared) (k : ℕ) (cs : List Ty) (s : ℕ) (ts : Tms) → IsMarkedSide S symbols M k cs s ts
+      → (ρ : Valuation)
+      → fed S M m [] ρ cs (sort s)
+      (m.of_symbols k (arrows cs (sort s))) ts ≡ den (types_of_metas M ++ []) m.of_metas (call_polynomial symbols M k ts)
   side_worth m means M k cs s ts h ρ =
       let Γ = types_of_metas M in
       let x = side_applied (length Γ) (symbol k) ts in
@@ -111,7 +120,8 @@ module _ (S : Symbols) (symbols : List Interpretation) (interprets : Interprets 
       ∙ reading_at Γ m.of_metas (evaluate symbols Γ x).result (type_of symbols Γ x) (sort s) e
 
   -- arguments under a meta-substitution
-  fed_values : (M : List Declared) (ζ : Valuation) (m : Meanings) (g : ℕ → Body) (ρ : Valuation) (ts : Tms) (cs : List Ty) (A : Ty) (f : Sem (arrows cs A)) → AllTyped S M [] ts cs → AllMeanBodies S m M ζ [] g ρ ts
+  fed_values : (M : List Declared) (ζ : Valuation) (m : Meanings) (g : ℕ → Body) (ρ : Valuation) (ts : Tms) (cs : List Ty) (A : Ty)
+      (f : Sem (arrows cs A)) → AllTyped S M [] ts cs → AllMeanBodies S m M ζ [] g ρ ts
       → fed S [] m [] ρ cs A f (values g ts) ≡ fed S M (with_metas m ζ) [] ρ cs A f ts
   unfolding values
   fed_values M ζ m g ρ none cs A f typed_none h = refl
@@ -121,8 +131,10 @@ module _ (S : Symbols) (symbols : List Interpretation) (interprets : Interprets 
       ∙ fed_values M ζ m g ρ ts cs A (f (value_in S M (with_metas m ζ) [] t ρ c)) ps (λ z d o e. h z d (inr o) e)
 
   -- what a call is worth that is the value of a marked side
-  pub call_worth : (M : List Declared) (g : ℕ → Body) (k : ℕ) (cs : List Ty) (s : ℕ) (ts vs : Tms) → IsMarkedSide S symbols M k cs s ts → HasTypedBodies S M g ts → Values g ts vs
-      → call_value S symbols k cs s vs ≡ den (types_of_metas M ++ []) (metas_value S (terms_at_nothing symbols) M g [] all_nothing) (call_polynomial symbols M k ts)
+  pub call_worth : (M : List Declared) (g : ℕ → Body) (k : ℕ) (cs : List Ty) (s : ℕ) (ts vs : Tms) → IsMarkedSide S symbols M k cs s ts
+      → HasTypedBodies S M g ts → Values g ts vs
+      → call_value S symbols k cs s vs ≡ den (types_of_metas M ++ []) (metas_value S (terms_at_nothing symbols) M g [] all_nothing)
+      (call_polynomial symbols M k ts)
   call_worth M g k cs s ts vs h b v =
       let m = terms_at_nothing symbols in
       let ζ = metas_value S m M g [] all_nothing in
@@ -136,12 +148,14 @@ module _ (S : Symbols) (symbols : List Interpretation) (interprets : Interprets 
     bodies_mono : MonoValuation (metas_value S (terms_at_nothing symbols) M g [] all_nothing)
     bodies_mono = metas_value_mono S (terms_at_nothing symbols) mono_at_nothing M g [] all_nothing mono_nothings
 
-    pub covered_call_le : IsCover (call_polynomial symbols M k ts) (call_polynomial symbols M l us) ms → call_value S symbols l ds r ws ≤ call_value S symbols k cs s vs
+    pub covered_call_le : IsCover (call_polynomial symbols M k ts) (call_polynomial symbols M l us) ms
+        → call_value S symbols l ds r ws ≤ call_value S symbols k cs s vs
     covered_call_le c = subst₂ (λ a b. a ≤ b) (sym (call_worth M g l ds r us ws right right_bodies right_values)) (sym (call_worth M g k cs s ts vs left left_bodies left_values))
         (cover_den (types_of_metas M ++ []) (metas_value S (terms_at_nothing symbols) M g [] all_nothing) bodies_mono (call_polynomial symbols M k ts) (call_polynomial symbols M l us)
         (call_normal M k cs s ts left) (call_normal M l ds r us right) ms c)
 
-    pub strictly_covered_call_lt : IsStrictCover (call_polynomial symbols M k ts) (call_polynomial symbols M l us) ms → call_value S symbols l ds r ws < call_value S symbols k cs s vs
+    pub strictly_covered_call_lt : IsStrictCover (call_polynomial symbols M k ts) (call_polynomial symbols M l us) ms
+        → call_value S symbols l ds r ws < call_value S symbols k cs s vs
     strictly_covered_call_lt c = subst₂ (λ a b. a < b) (sym (call_worth M g l ds r us ws right right_bodies right_values)) (sym (call_worth M g k cs s ts vs left left_bodies left_values))
         (strict_cover_den (types_of_metas M ++ []) (metas_value S (terms_at_nothing symbols) M g [] all_nothing) bodies_mono (call_polynomial symbols M k ts) (call_polynomial symbols M l us)
         (call_normal M k cs s ts left) (call_normal M l ds r us right) ms c)

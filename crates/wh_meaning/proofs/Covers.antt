@@ -14,7 +14,8 @@ use Rattle.wh_meaning.proofs.Order.{le_nat, le_same, le_then, fun_mono, fun_le, 
 use Rattle.wh_meaning.proofs.AtLeast.{at_least_den}
 
 -- arguments that are at least others, under a function that is at least another
-arguments_at_least_den : (Γ : List Ty) (ψ : Valuation) → MonoValuation ψ → (A : Ty) (f g : Sem A) (ps qs : Arguments) → Mono A f → Mono A g → Le A g f
+arguments_at_least_den : (Γ : List Ty) (ψ : Valuation) → MonoValuation ψ → (A : Ty) (f g : Sem A) (ps qs : Arguments) → Mono A f
+    → Mono A g → Le A g f
     → NormalArguments Γ A ps → NormalArguments Γ A qs → ArgumentsAtLeast ps qs → den_arguments Γ ψ A g qs ≤ den_arguments Γ ψ A f ps
 arguments_at_least_den Γ ψ m (sort s) f g no_arguments no_arguments mf mg l n k h = l
 arguments_at_least_den Γ ψ m (A ⇒ B) f g no_arguments no_arguments mf mg l n k h = absurd n
@@ -31,7 +32,8 @@ arguments_at_least_den Γ ψ m (A ⇒ B) f g (argument p ps) (argument q qs) mf 
     arguments_at_least_den Γ ψ m B (f a) (g b) ps qs (mf.0 a ma) (mg.0 b mb) (le_then B (g b) (g a) (f a) (mg.1 b a mb ma ba) (l a ma)) n.1 k.1 h.1
 
 -- factors that are at least others have a product that is
-pub factors_at_least_den : (Γ : List Ty) (ψ : Valuation) → MonoValuation ψ → (us vs : Factors) → NormalFactors Γ us → NormalFactors Γ vs → FactorsAtLeast us vs
+pub factors_at_least_den : (Γ : List Ty) (ψ : Valuation) → MonoValuation ψ → (us vs : Factors) → NormalFactors Γ us → NormalFactors Γ vs
+    → FactorsAtLeast us vs
     → den_factors Γ ψ vs ≤ den_factors Γ ψ us
 factors_at_least_den Γ ψ m no_factors no_factors n k h = omega arith
 factors_at_least_den Γ ψ m no_factors (times y qs vs) n k h = absurd h
@@ -87,17 +89,20 @@ weighted_units Γ ψ place p (m ∷ ms) = weighted_more Γ ψ p (place m) m.amou
     ∙ ap (λ k. m.amount * worth Γ ψ p (place m) + k) (weighted_units Γ ψ place p ms)
 
 -- no more units than the coefficients
-weighted_at_most : (Γ : List Ty) (ψ : Valuation) (p : Polynomial) (u : ℕ → ℕ) → ((i c : ℕ) (us : Factors) → MonomialAt p i c us → u i ≤ c) → weighted Γ ψ u p ≤ den Γ ψ p
+weighted_at_most : (Γ : List Ty) (ψ : Valuation) (p : Polynomial) (u : ℕ → ℕ)
+    → ((i c : ℕ) (us : Factors) → MonomialAt p i c us → u i ≤ c) → weighted Γ ψ u p ≤ den Γ ψ p
 weighted_at_most Γ ψ zero_poly u h = omega arith
 weighted_at_most Γ ψ (plus c us p) u h = add-le-add (mul-le-mul (h 0 c us (refl, refl)) (le_nat (den_factors Γ ψ us))) (weighted_at_most Γ ψ p (λ i. u (suc i)) (λ i. h (suc i)))
 
 -- no fewer
-weighted_at_least : (Γ : List Ty) (ψ : Valuation) (p : Polynomial) (u : ℕ → ℕ) → ((i c : ℕ) (us : Factors) → MonomialAt p i c us → c ≤ u i) → den Γ ψ p ≤ weighted Γ ψ u p
+weighted_at_least : (Γ : List Ty) (ψ : Valuation) (p : Polynomial) (u : ℕ → ℕ)
+    → ((i c : ℕ) (us : Factors) → MonomialAt p i c us → c ≤ u i) → den Γ ψ p ≤ weighted Γ ψ u p
 weighted_at_least Γ ψ zero_poly u h = omega arith
 weighted_at_least Γ ψ (plus c us p) u h = add-le-add (mul-le-mul (h 0 c us (refl, refl)) (le_nat (den_factors Γ ψ us))) (weighted_at_least Γ ψ p (λ i. u (suc i)) (λ i. h (suc i)))
 
 -- the constant has a unit left over
-weighted_below : (Γ : List Ty) (ψ : Valuation) (p : Polynomial) (u : ℕ → ℕ) → ((i c : ℕ) (us : Factors) → MonomialAt p i c us → u i ≤ c) → (c : ℕ) → MonomialAt p 0 c no_factors → u 0 < c
+weighted_below : (Γ : List Ty) (ψ : Valuation) (p : Polynomial) (u : ℕ → ℕ) → ((i c : ℕ) (us : Factors) → MonomialAt p i c us → u i ≤ c)
+    → (c : ℕ) → MonomialAt p 0 c no_factors → u 0 < c
     → suc (weighted Γ ψ u p) ≤ den Γ ψ p
 weighted_below Γ ψ zero_poly u h c m l = absurd m
 weighted_below Γ ψ (plus d us p) u h c (e, f) l =
@@ -107,7 +112,8 @@ weighted_below Γ ψ (plus d us p) u h c (e, f) l =
     let y : suc (u 0) * den_factors Γ ψ us ≡ den_factors Γ ψ us + u 0 * den_factors Γ ψ us = omega arith in
     omega (arith, r, z, k, y)
 
-worth_is : (Γ : List Ty) (ψ : Valuation) (p : Polynomial) (i c : ℕ) (us : Factors) → MonomialAt p i c us → worth Γ ψ p i ≡ den_factors Γ ψ us
+worth_is : (Γ : List Ty) (ψ : Valuation) (p : Polynomial) (i c : ℕ) (us : Factors) → MonomialAt p i c us
+    → worth Γ ψ p i ≡ den_factors Γ ψ us
 worth_is Γ ψ zero_poly i c us m = absurd m
 worth_is Γ ψ (plus d vs p) zero c us m = ap (den_factors Γ ψ) m.1
 worth_is Γ ψ (plus d vs p) (suc i) c us m = worth_is Γ ψ p i c us m
@@ -117,7 +123,8 @@ factors_normal Γ zero_poly i c us n m = absurd m
 factors_normal Γ (plus d vs p) zero c us n m = subst (NormalFactors Γ) m.1 n.1
 factors_normal Γ (plus d vs p) (suc i) c us n m = factors_normal Γ p i c us n.3 m
 
-good_worth : (Γ : List Ty) (ψ : Valuation) → MonoValuation ψ → (left right : Polynomial) → Normal Γ left → Normal Γ right → (m : Transfer) → Good left right m
+good_worth : (Γ : List Ty) (ψ : Valuation) → MonoValuation ψ → (left right : Polynomial) → Normal Γ left → Normal Γ right
+    → (m : Transfer) → Good left right m
     → worth Γ ψ right m.to ≤ worth Γ ψ left m.from
 good_worth Γ ψ v left right n k m g =
     let a = worth_is Γ ψ left m.from g.given g.giver g.source in
@@ -125,15 +132,18 @@ good_worth Γ ψ v left right n k m g =
     let c = factors_at_least_den Γ ψ v g.giver g.taker (factors_normal Γ left m.from g.given g.giver n g.source) (factors_normal Γ right m.to g.taken g.taker k g.target) g.fits in
     omega (arith, a, b, c)
 
-total_moves : (Γ : List Ty) (ψ : Valuation) → MonoValuation ψ → (left right : Polynomial) → Normal Γ left → Normal Γ right → (ms : List Transfer)
-    → ((m : Transfer) → Contains ms m → Good left right m) → total (λ m. m.to) (worth Γ ψ right) ms ≤ total (λ m. m.from) (worth Γ ψ left) ms
+total_moves : (Γ : List Ty) (ψ : Valuation) → MonoValuation ψ → (left right : Polynomial) → Normal Γ left → Normal Γ right
+    → (ms : List Transfer)
+    → ((m : Transfer) → Contains ms m → Good left right m)
+    → total (λ m. m.to) (worth Γ ψ right) ms ≤ total (λ m. m.from) (worth Γ ψ left) ms
 total_moves Γ ψ v left right n k [] h = omega arith
 total_moves Γ ψ v left right n k (m ∷ ms) h =
     add-le-add (mul-le-mul (le_nat m.amount) (good_worth Γ ψ v left right n k m (h m (0, omega arith, refl))))
     (total_moves Γ ψ v left right n k ms (λ x (i, l, e). h x (suc i, omega (arith, l), e)))
 
 -- what the moves bring is at most what they take
-moved_worth : (Γ : List Ty) (ψ : Valuation) → MonoValuation ψ → (left right : Polynomial) → Normal Γ left → Normal Γ right → (ms : List Transfer) → IsCover left right ms
+moved_worth : (Γ : List Ty) (ψ : Valuation) → MonoValuation ψ → (left right : Polynomial) → Normal Γ left → Normal Γ right
+    → (ms : List Transfer) → IsCover left right ms
     → den Γ ψ right ≤ weighted Γ ψ (λ i. given_by i ms) left
 moved_worth Γ ψ v left right n k ms c =
     let a = weighted_at_least Γ ψ right (λ j. taken_by j ms) (λ j. c.covered j) in
@@ -142,11 +152,13 @@ moved_worth Γ ψ v left right n k ms c =
     let e = weighted_units Γ ψ (λ m. m.from) left ms in
     le_trans a (subst (λ x. weighted Γ ψ (λ j. taken_by j ms) right ≤ x) (sym e) (subst (λ x. x ≤ total (λ m. m.from) (worth Γ ψ left) ms) (sym b) d))
 
-pub cover_den : (Γ : List Ty) (ψ : Valuation) → MonoValuation ψ → (left right : Polynomial) → Normal Γ left → Normal Γ right → (ms : List Transfer) → IsCover left right ms
+pub cover_den : (Γ : List Ty) (ψ : Valuation) → MonoValuation ψ → (left right : Polynomial) → Normal Γ left → Normal Γ right
+    → (ms : List Transfer) → IsCover left right ms
     → den Γ ψ right ≤ den Γ ψ left
 cover_den Γ ψ v left right n k ms c = le_trans (moved_worth Γ ψ v left right n k ms c) (weighted_at_most Γ ψ left (λ i. given_by i ms) (λ i. c.not_over_spent i))
 
-pub strict_cover_den : (Γ : List Ty) (ψ : Valuation) → MonoValuation ψ → (left right : Polynomial) → Normal Γ left → Normal Γ right → (ms : List Transfer) → IsStrictCover left right ms
+pub strict_cover_den : (Γ : List Ty) (ψ : Valuation) → MonoValuation ψ → (left right : Polynomial) → Normal Γ left → Normal Γ right
+    → (ms : List Transfer) → IsStrictCover left right ms
     → den Γ ψ right < den Γ ψ left
 strict_cover_den Γ ψ v left right n k ms c =
     let a = moved_worth Γ ψ v left right n k ms c.cover in

@@ -16,7 +16,8 @@ use Rattle.wh_meaning.specs.Meaning.{den, den_factors, den_arguments, reading}
 use Rattle.wh_meaning.proofs.Valuations.{ty_set, put_same, put_other}
 
 -- sums and products
-den_add : (Γ : List Ty) (ψ : Valuation) (c : ℕ) (us : Factors) (q : Polynomial) → den Γ ψ (add_monomial c us q) ≡ c * den_factors Γ ψ us + den Γ ψ q
+den_add : (Γ : List Ty) (ψ : Valuation) (c : ℕ) (us : Factors) (q : Polynomial)
+    → den Γ ψ (add_monomial c us q) ≡ c * den_factors Γ ψ us + den Γ ψ q
 den_add Γ ψ c us zero_poly = refl
 den_add Γ ψ c us (plus d vs q) = go (den_add Γ ψ c us q) (compare_factors us vs) refl
   where
@@ -31,7 +32,8 @@ pub den_sum : (Γ : List Ty) (ψ : Valuation) (p q : Polynomial) → den Γ ψ (
 den_sum Γ ψ zero_poly q = omega arith
 den_sum Γ ψ (plus c us p) q = den_add Γ ψ c us (sum_poly p q) ∙ (let e = den_sum Γ ψ p q in omega (arith, e))
 
-den_join_atom : (Γ : List Ty) (ψ : Valuation) (x : ℕ) (ps : Arguments) (us : Factors) → den_factors Γ ψ (join_factor x ps us) ≡ den_factors Γ ψ (times x ps us)
+den_join_atom : (Γ : List Ty) (ψ : Valuation) (x : ℕ) (ps : Arguments) (us : Factors)
+    → den_factors Γ ψ (join_factor x ps us) ≡ den_factors Γ ψ (times x ps us)
 den_join_atom Γ ψ x ps no_factors = refl
 den_join_atom Γ ψ x ps (times y qs us) = go (den_join_atom Γ ψ x ps us) (ordering_then (nat_cmp x y) (compare_arguments ps qs))
   where
@@ -41,11 +43,13 @@ den_join_atom Γ ψ x ps (times y qs us) = go (den_join_atom Γ ψ x ps us) (ord
     go r Equal = refl
     go r Greater = ap (λ k. den_arguments Γ ψ (type_at Γ y) (ψ y (type_at Γ y)) qs * k) r ∙ omega arith
 
-den_join : (Γ : List Ty) (ψ : Valuation) (us vs : Factors) → den_factors Γ ψ (join_factors us vs) ≡ den_factors Γ ψ us * den_factors Γ ψ vs
+den_join : (Γ : List Ty) (ψ : Valuation) (us vs : Factors)
+    → den_factors Γ ψ (join_factors us vs) ≡ den_factors Γ ψ us * den_factors Γ ψ vs
 den_join Γ ψ no_factors vs = omega arith
 den_join Γ ψ (times x ps us) vs = den_join_atom Γ ψ x ps (join_factors us vs) ∙ ap (λ k. den_arguments Γ ψ (type_at Γ x) (ψ x (type_at Γ x)) ps * k) (den_join Γ ψ us vs) ∙ omega arith
 
-den_scale : (Γ : List Ty) (ψ : Valuation) (c : ℕ) (us : Factors) (q : Polynomial) → den Γ ψ (scale c us q) ≡ (c * den_factors Γ ψ us) * den Γ ψ q
+den_scale : (Γ : List Ty) (ψ : Valuation) (c : ℕ) (us : Factors) (q : Polynomial)
+    → den Γ ψ (scale c us q) ≡ (c * den_factors Γ ψ us) * den Γ ψ q
 den_scale Γ ψ c us zero_poly = omega arith
 den_scale Γ ψ c us (plus d vs q) = den_add Γ ψ (c * d) (join_factors us vs) (scale c us q)
     ∙ ap₂ (λ j k. (c * d) * j + k) (den_join Γ ψ us vs) (den_scale Γ ψ c us q) ∙ omega arith
@@ -67,13 +71,15 @@ nat_injective : (x y u v : ℕ) → nat_cmp x y ≡ nat_cmp u v → x ≡ y → 
 nat_injective x y u v h e = grind (arith, h, e)
 
 -- one more variable
-split_last : (Γ : List Ty) (B : Ty) (i : ℕ) (A : Ty) (G : Type 0) → HasType (Γ ++ B ∷ []) i A → (HasType Γ i A → G) → (i ≡ length Γ → B ≡ A → G) → G
+split_last : (Γ : List Ty) (B : Ty) (i : ℕ) (A : Ty) (G : Type 0) → HasType (Γ ++ B ∷ []) i A → (HasType Γ i A → G)
+    → (i ≡ length Γ → B ≡ A → G) → G
 split_last [] B zero A G a f g = g refl a
 split_last [] B (suc i) A G a f g = absurd a
 split_last (C ∷ Γ) B zero A G a f g = f a
 split_last (C ∷ Γ) B (suc i) A G a f g = split_last Γ B i A G a f (λ e b. g (omega (arith, e)) b)
 
-same_put : (Γ Δ : List Ty) (r : ℕ → ℕ) → Moves Γ Δ r → (ψ χ : Valuation) (B : Ty) (b : Sem B) → Same Γ r ψ χ → Same (Γ ++ B ∷ []) r (put (length Γ) B b ψ) (put (length Δ) B b χ)
+same_put : (Γ Δ : List Ty) (r : ℕ → ℕ) → Moves Γ Δ r → (ψ χ : Valuation) (B : Ty) (b : Sem B) → Same Γ r ψ χ
+    → Same (Γ ++ B ∷ []) r (put (length Γ) B b ψ) (put (length Δ) B b χ)
 same_put Γ Δ r m ψ χ B b s i A a = split_last Γ B i A (put (length Δ) B b χ (r i) A ≡ put (length Γ) B b ψ i A) a
     (λ c. put_other (length Δ) B b χ (r i) A (λ e. let k = at_below Γ i A c in let z = nat_injective (r i) (r (length Γ + 0)) i (length Γ + 0) (m.order i (length Γ + 0)) (e ∙ (let w = m.added 0 in omega (arith, w))) in omega (arith, z, k))
     ∙ s i A c ∙ sym (put_other (length Γ) B b ψ i A (λ e. let k = at_below Γ i A c in omega (arith, e, k))))
@@ -90,11 +96,13 @@ fun_same (A ⇒ B) Γ Δ r m ψ χ f g s h = fun_ext (λ a.
     (λ ψ χ t. h ψ χ (λ i C c. t i C (subst (λ Γ. HasType Γ i C) (sym (append_assoc Γ (A ∷ []) (arguments B))) c)))))
 
 mutual
-  pub den_renumber : (Γ Δ : List Ty) (r : ℕ → ℕ) → Moves Γ Δ r → (p : Polynomial) → Normal Γ p → (ψ χ : Valuation) → Same Γ r ψ χ → den Δ χ (renumber r p) ≡ den Γ ψ p
+  pub den_renumber : (Γ Δ : List Ty) (r : ℕ → ℕ) → Moves Γ Δ r → (p : Polynomial) → Normal Γ p → (ψ χ : Valuation) → Same Γ r ψ χ
+      → den Δ χ (renumber r p) ≡ den Γ ψ p
   den_renumber Γ Δ r m zero_poly n ψ χ s = refl
   den_renumber Γ Δ r m (plus c us p) n ψ χ s = ap₂ (λ j k. c * j + k) (den_renumber_factors Γ Δ r m us n.1 ψ χ s) (den_renumber Γ Δ r m p n.3 ψ χ s)
 
-  den_renumber_factors : (Γ Δ : List Ty) (r : ℕ → ℕ) → Moves Γ Δ r → (us : Factors) → NormalFactors Γ us → (ψ χ : Valuation) → Same Γ r ψ χ → den_factors Δ χ (renumber_factors r us) ≡ den_factors Γ ψ us
+  den_renumber_factors : (Γ Δ : List Ty) (r : ℕ → ℕ) → Moves Γ Δ r → (us : Factors) → NormalFactors Γ us → (ψ χ : Valuation)
+      → Same Γ r ψ χ → den_factors Δ χ (renumber_factors r us) ≡ den_factors Γ ψ us
   den_renumber_factors Γ Δ r m no_factors n ψ χ s = refl
   den_renumber_factors Γ Δ r m (times x ps us) (A, a, k, b, n) ψ χ s = ap₂ (λ j k. j * k)
       (ap (λ A. den_arguments Δ χ A (χ (r x) A) (renumber_arguments r ps)) (type_is Δ (r x) A (m.types x A a))
@@ -103,7 +111,8 @@ mutual
       ∙ ap (λ A. den_arguments Γ ψ A (ψ x A) ps) (sym (type_is Γ x A a)))
       (den_renumber_factors Γ Δ r m us n ψ χ s)
 
-  den_renumber_arguments : (Γ Δ : List Ty) (r : ℕ → ℕ) → Moves Γ Δ r → (A : Ty) (f : Sem A) (ps : Arguments) → NormalArguments Γ A ps → (ψ χ : Valuation) → Same Γ r ψ χ → den_arguments Δ χ A f (renumber_arguments r ps) ≡ den_arguments Γ ψ A f ps
+  den_renumber_arguments : (Γ Δ : List Ty) (r : ℕ → ℕ) → Moves Γ Δ r → (A : Ty) (f : Sem A) (ps : Arguments) → NormalArguments Γ A ps
+      → (ψ χ : Valuation) → Same Γ r ψ χ → den_arguments Δ χ A f (renumber_arguments r ps) ≡ den_arguments Γ ψ A f ps
   den_renumber_arguments Γ Δ r m (sort s) f no_arguments n ψ χ t = refl
   den_renumber_arguments Γ Δ r m (sort s) f (argument p ps) n ψ χ t = absurd n
   den_renumber_arguments Γ Δ r m (A ⇒ B) f no_arguments n ψ χ t = absurd n
@@ -135,7 +144,8 @@ insert_same v A a ψ = ap (λ b. elim b as (λ b. Sem A) [ true ↦ at_type A A 
     go (yes e) = ap (λ e. subst Sem e a) (ty_set A A e refl) ∙ subst_refl Sem a
     go (no k) = absurd (k refl)
 
-put_here : (n m : ℕ) (B : Ty) (b : Sem B) (ψ χ : Valuation) (i j : ℕ) (C : Ty) → i ≡ n → j ≡ m → ψ i C ≡ χ j C → put n B b ψ i C ≡ put m B b χ j C
+put_here : (n m : ℕ) (B : Ty) (b : Sem B) (ψ χ : Valuation) (i j : ℕ) (C : Ty) → i ≡ n → j ≡ m → ψ i C ≡ χ j C
+    → put n B b ψ i C ≡ put m B b χ j C
 unfolding put
 put_here n m B b ψ χ i j C e k h = ap (λ t. elim t as (λ t. Sem C) [ true ↦ at_type B C (Ty-discrete ℕ_discrete B C) b (ψ i C) | false ↦ ψ i C ]) (eq-eqb i n e)
     ∙ ap (at_type B C (Ty-discrete ℕ_discrete B C) b) h
@@ -147,7 +157,8 @@ down_last v m h = grind (arith, h)
 down_before : (v m i : ℕ) → v ≤ m → (i ≡ v → ⊥) → (i ≡ suc m → ⊥) → down v i ≡ m → ⊥
 down_before v m i h k l e = grind (arith, h, k, l, e)
 
-commute : (v m : ℕ) (A B : Ty) (a : Sem A) (b : Sem B) (ψ : Valuation) → v ≤ m → insert v A a (put m B b ψ) ≡ put (suc m) B b (insert v A a ψ)
+commute : (v m : ℕ) (A B : Ty) (a : Sem A) (b : Sem B) (ψ : Valuation) → v ≤ m
+    → insert v A a (put m B b ψ) ≡ put (suc m) B b (insert v A a ψ)
 commute v m A B a b ψ h = fun_ext (λ i. fun_ext (λ C. go i C (ℕ_discrete i v) (ℕ_discrete i (suc m))))
   where
     go : (i : ℕ) (C : Ty) → Dec (i ≡ v) → Dec (i ≡ suc m) → insert v A a (put m B b ψ) i C ≡ put (suc m) B b (insert v A a ψ) i C
@@ -163,18 +174,22 @@ module _ (head : List Ty → Arguments → Run Polynomial) (Γ : List Ty) (A : T
   agree_put : (m : ℕ) (B : Ty) (b : Sem B) (ψ : Valuation) → length Γ ≤ m → Agree ψ → Agree (put m B b ψ)
   agree_put m B b ψ l g i C c = put_other m B b ψ i C (λ e. let k = at_below Γ i C c in omega (arith, e, k, l)) ∙ g i C c
 
-  fun_insert : (B : Ty) (m : ℕ) (ψ : Valuation) (f g : Valuation → ℕ) → length Γ ≤ m → Agree ψ → ((χ : Valuation) → Agree χ → f χ ≡ g (insert (length Γ) A a χ)) → fun_of B m ψ f ≡ fun_of B (suc m) (insert (length Γ) A a ψ) g
+  fun_insert : (B : Ty) (m : ℕ) (ψ : Valuation) (f g : Valuation → ℕ) → length Γ ≤ m → Agree ψ
+      → ((χ : Valuation) → Agree χ → f χ ≡ g (insert (length Γ) A a χ)) → fun_of B m ψ f ≡ fun_of B (suc m) (insert (length Γ) A a ψ) g
   fun_insert (sort t) m ψ f g l k w = w ψ k
   fun_insert (B ⇒ C) m ψ f g l k w = fun_ext (λ b. fun_insert C (suc m) (put m B b ψ) f g (omega (arith, l)) (agree_put m B b ψ l k) w ∙ ap (λ ψ. fun_of C (suc (suc m)) ψ g) (commute (length Γ) m A B a b ψ l))
 
-  den_atom : (Δ : List Ty) (ψ : Valuation) (x : ℕ) (qs : Arguments) → den Δ ψ (atom x qs) ≡ den_arguments Δ ψ (type_at Δ x) (ψ x (type_at Δ x)) qs
+  den_atom : (Δ : List Ty) (ψ : Valuation) (x : ℕ) (qs : Arguments)
+      → den Δ ψ (atom x qs) ≡ den_arguments Δ ψ (type_at Δ x) (ψ x (type_at Δ x)) qs
   den_atom Δ ψ x qs = omega arith
 
-  den_replaced : (Θ : List Ty) (ψ : Valuation) (x : ℕ) (B : Ty) (qs : Arguments) → Agree ψ → HasType (Γ ++ A ∷ Θ) x B → NormalArguments (Γ ++ Θ) B qs
+  den_replaced : (Θ : List Ty) (ψ : Valuation) (x : ℕ) (B : Ty) (qs : Arguments) → Agree ψ → HasType (Γ ++ A ∷ Θ) x B
+      → NormalArguments (Γ ++ Θ) B qs
       → den (Γ ++ Θ) ψ (if x == length Γ then head (without (length Γ) (Γ ++ A ∷ Θ)) qs else one (atom (down (length Γ) x) qs)).result ≡ den_arguments (Γ ++ Θ) ψ B (insert (length Γ) A a ψ x B) qs
   den_replaced Θ ψ x B qs g c n = go (x == length Γ) refl
     where
-      go : (b : Bool) → (x == length Γ) ≡ b → den (Γ ++ Θ) ψ (if b then head (without (length Γ) (Γ ++ A ∷ Θ)) qs else one (atom (down (length Γ) x) qs)).result ≡ den_arguments (Γ ++ Θ) ψ B (insert (length Γ) A a ψ x B) qs
+      go : (b : Bool) → (x == length Γ) ≡ b
+          → den (Γ ++ Θ) ψ (if b then head (without (length Γ) (Γ ++ A ∷ Θ)) qs else one (atom (down (length Γ) x) qs)).result ≡ den_arguments (Γ ++ Θ) ψ B (insert (length Γ) A a ψ x B) qs
       go true e = let i : x ≡ length Γ = grind (arith, e) in
           let k = at_itself Γ A Θ B (subst (λ x. HasType (Γ ++ A ∷ Θ) x B) i c) in
           ap (λ Δ. den (Γ ++ Θ) ψ (head Δ qs).result) (without_is Γ A Θ)
@@ -188,7 +203,8 @@ module _ (head : List Ty → Arguments → Run Polynomial) (Γ : List Ty) (A : T
 
   mutual
     pub den_replace : (Θ : List Ty) (sum p : Polynomial) (ψ : Valuation) → Agree ψ → Normal (Γ ++ A ∷ Θ) p
-        → den (Γ ++ Θ) ψ (replace head (length Γ) (Γ ++ A ∷ Θ) sum p).result ≡ den (Γ ++ Θ) ψ sum + den (Γ ++ A ∷ Θ) (insert (length Γ) A a ψ) p
+        → den (Γ ++ Θ) ψ (replace head (length Γ) (Γ ++ A ∷ Θ) sum p).result ≡ den (Γ ++ Θ) ψ sum + den (Γ ++ A ∷ Θ)
+        (insert (length Γ) A a ψ) p
     den_replace Θ sum zero_poly ψ g n = omega arith
     den_replace Θ sum (plus c us p) ψ g n =
         let m = (replace_factors head (length Γ) (Γ ++ A ∷ Θ) (constant c) us).result in
@@ -196,7 +212,8 @@ module _ (head : List Ty → Arguments → Run Polynomial) (Γ : List Ty) (A : T
         ∙ ap (λ k. k + den (Γ ++ A ∷ Θ) (insert (length Γ) A a ψ) p) (den_sum (Γ ++ Θ) ψ m sum ∙ ap (λ k. k + den (Γ ++ Θ) ψ sum) (den_replace_factors Θ (constant c) us ψ g n.1))
         ∙ omega arith
 
-    pub den_replace_factors : (Θ : List Ty) (product : Polynomial) (us : Factors) (ψ : Valuation) → Agree ψ → NormalFactors (Γ ++ A ∷ Θ) us
+    pub den_replace_factors : (Θ : List Ty) (product : Polynomial) (us : Factors) (ψ : Valuation) → Agree ψ
+        → NormalFactors (Γ ++ A ∷ Θ) us
         → den (Γ ++ Θ) ψ (replace_factors head (length Γ) (Γ ++ A ∷ Θ) product us).result ≡ den (Γ ++ Θ) ψ product * den_factors (Γ ++ A ∷ Θ) (insert (length Γ) A a ψ) us
     den_replace_factors Θ product no_factors ψ g n = omega arith
     den_replace_factors Θ product (times x ps us) ψ g (B, c, k, b, n) =
@@ -214,8 +231,10 @@ module _ (head : List Ty → Arguments → Run Polynomial) (Γ : List Ty) (A : T
         ∙ ap (λ B. den_arguments Δ χ B (χ x B) ps) e))
         ∙ omega arith
 
-    pub den_replace_arguments : (Θ : List Ty) (B : Ty) (f : Sem B) (ps : Arguments) (ψ : Valuation) → Agree ψ → NormalArguments (Γ ++ A ∷ Θ) B ps
-        → den_arguments (Γ ++ Θ) ψ B f (replace_arguments head (length Γ) (Γ ++ A ∷ Θ) B ps).result ≡ den_arguments (Γ ++ A ∷ Θ) (insert (length Γ) A a ψ) B f ps
+    pub den_replace_arguments : (Θ : List Ty) (B : Ty) (f : Sem B) (ps : Arguments) (ψ : Valuation) → Agree ψ
+        → NormalArguments (Γ ++ A ∷ Θ) B ps
+        → den_arguments (Γ ++ Θ) ψ B f (replace_arguments head (length Γ) (Γ ++ A ∷ Θ) B ps).result ≡ den_arguments (Γ ++ A ∷ Θ)
+        (insert (length Γ) A a ψ) B f ps
     den_replace_arguments Θ (sort t) f no_arguments ψ g n = refl
     den_replace_arguments Θ (sort t) f (argument p ps) ψ g n = absurd n
     den_replace_arguments Θ (B ⇒ C) f no_arguments ψ g n = absurd n
@@ -256,7 +275,8 @@ den_agree Γ p n ψ χ s = sym (ap (den Γ χ) (renumber_same p)) ∙ den_renumb
 down_low : (v i : ℕ) → i < v → down v i ≡ i
 down_low v i h = grind (arith, h)
 
-put_insert : (Γ : List Ty) (A : Ty) (a : Sem A) (ψ : Valuation) → Same (Γ ++ A ∷ []) (λ i. i) (put (length Γ) A a ψ) (insert (length Γ) A a ψ)
+put_insert : (Γ : List Ty) (A : Ty) (a : Sem A) (ψ : Valuation)
+    → Same (Γ ++ A ∷ []) (λ i. i) (put (length Γ) A a ψ) (insert (length Γ) A a ψ)
 put_insert Γ A a ψ i C c = split_last Γ A i C (insert (length Γ) A a ψ i C ≡ put (length Γ) A a ψ i C) c
     (λ d. let k = at_below Γ i C d in
     insert_other (length Γ) A a ψ i C (λ e. omega (arith, e, k)) ∙ ap (λ j. ψ j C) (down_low (length Γ) i k) ∙ sym (put_other (length Γ) A a ψ i C (λ e. omega (arith, e, k))))
@@ -264,7 +284,8 @@ put_insert Γ A a ψ i C c = split_last Γ A i C (insert (length Γ) A a ψ i C 
     (ap (λ j. insert (length Γ) A a ψ j A) e ∙ insert_same (length Γ) A a ψ ∙ sym (put_same (length Γ) A a ψ) ∙ ap (λ j. put (length Γ) A a ψ j A) (sym e)) t)
 
 -- replacing the first added variable is application, if the head is
-pub apply_sound : (A B : Ty) (Γ : List Ty) (g : Polynomial) (ψ : Valuation) (a : Sem A) (head : List Ty → Arguments → Run Polynomial) → HeadOk Γ A head
+pub apply_sound : (A B : Ty) (Γ : List Ty) (g : Polynomial) (ψ : Valuation) (a : Sem A) (head : List Ty → Arguments → Run Polynomial)
+    → HeadOk Γ A head
     → ((X : List Ty) (qs : Arguments) (χ : Valuation) → ((i : ℕ) (C : Ty) → HasType Γ i C → χ i C ≡ ψ i C) → NormalArguments (Γ ++ X) A qs → den (Γ ++ X) χ (head (Γ ++ X) qs).result ≡ den_arguments (Γ ++ X) χ A a qs)
     → Normal (Γ ++ A ∷ arguments B) g
     → reading B Γ ψ (replace head (length Γ) (Γ ++ A ∷ arguments B) zero_poly g).result ≡ reading (A ⇒ B) Γ ψ g a
@@ -278,7 +299,8 @@ apply_sound A B Γ g ψ a head h s n =
     (λ ψ χ t. den_agree (Γ ++ A ∷ arguments B) g n ψ χ (λ i C c. t i C (subst (λ Δ. HasType Δ i C) (sym (append_assoc Γ (A ∷ []) (arguments B))) c))))
 
 -- a moved value means the same
-moved_sound : (A : Ty) (Γ X : List Ty) (p : Polynomial) (ψ χ : Valuation) → Normal (Γ ++ arguments A) p → ((i : ℕ) (C : Ty) → HasType Γ i C → χ i C ≡ ψ i C)
+moved_sound : (A : Ty) (Γ X : List Ty) (p : Polynomial) (ψ χ : Valuation) → Normal (Γ ++ arguments A) p
+    → ((i : ℕ) (C : Ty) → HasType Γ i C → χ i C ≡ ψ i C)
     → reading A (Γ ++ X) χ (moved (length Γ) (Γ ++ X) p) ≡ reading A Γ ψ p
 moved_sound A Γ X p ψ χ n g =
     let r : ℕ → ℕ = λ i. if nat_lt i (length Γ) then i else length (Γ ++ X) + (i - length Γ) in
@@ -287,7 +309,8 @@ moved_sound A Γ X p ψ χ n g =
     (λ ψ χ t. den_renumber (Γ ++ arguments A) ((Γ ++ X) ++ arguments A) r (moves_on Γ (Γ ++ X) r (arguments A) (moves_moved Γ X)) p n ψ χ t)
 
 -- the added variables replaced one after another: application to the arguments
-pub den_applied : (A : Ty) (Γ : List Ty) (g : Polynomial) (ps : Arguments) (ψ : Valuation) → Normal (Γ ++ arguments A) g → NormalArguments Γ A ps
+pub den_applied : (A : Ty) (Γ : List Ty) (g : Polynomial) (ps : Arguments) (ψ : Valuation) → Normal (Γ ++ arguments A) g
+    → NormalArguments Γ A ps
     → den Γ ψ (applied A Γ g ps).result ≡ den_arguments Γ ψ A (reading A Γ ψ g) ps
 den_applied (sort t) Γ g no_arguments ψ n k = ap (λ Δ. den Δ ψ g) (sym (append-nil Γ))
 den_applied (sort t) Γ g (argument p ps) ψ n k = absurd k
@@ -302,7 +325,8 @@ den_applied (A ⇒ B) Γ g (argument p ps) ψ n k =
     ∙ ap (λ f. den_arguments (Γ ++ X) χ A f qs) (moved_sound A Γ X p ψ χ k.0 a)) n)
 
 -- an application's value means the application
-pub den_apply_one : (A B : Ty) (Γ : List Ty) (g p : Polynomial) (ψ : Valuation) → Normal (Γ ++ A ∷ arguments B) g → Normal (Γ ++ arguments A) p
+pub den_apply_one : (A B : Ty) (Γ : List Ty) (g p : Polynomial) (ψ : Valuation) → Normal (Γ ++ A ∷ arguments B) g
+    → Normal (Γ ++ arguments A) p
     → reading B Γ ψ (apply_one A B Γ g p).result ≡ reading (A ⇒ B) Γ ψ g (reading A Γ ψ p)
 den_apply_one A B Γ g p ψ n m =
     let head : List Ty → Arguments → Run Polynomial = λ Δ qs. applied A Δ (moved (length Γ) Δ p) qs in

@@ -16,7 +16,8 @@ abbrev pub apply_all : (A : Ty) → Sem A → Valuation → ℕ
 apply_all (sort s) f v = f
 apply_all (A ⇒ B) f v = apply_all B (f (v 0 A)) (λ j C. v (suc j) C)
 
-pub eta : (A : Ty) (n : ℕ) (ψ : Valuation) (f : Sem A) (F : Valuation → ℕ) → ((χ : Valuation) → ((i : ℕ) (C : Ty) → i < n → χ i C ≡ ψ i C) → F χ ≡ apply_all A f (λ j C. χ (n + j) C)) → fun_of A n ψ F ≡ f
+pub eta : (A : Ty) (n : ℕ) (ψ : Valuation) (f : Sem A) (F : Valuation → ℕ)
+    → ((χ : Valuation) → ((i : ℕ) (C : Ty) → i < n → χ i C ≡ ψ i C) → F χ ≡ apply_all A f (λ j C. χ (n + j) C)) → fun_of A n ψ F ≡ f
 eta (sort s) n ψ f F h = h ψ (λ i C l. refl)
 eta (A ⇒ B) n ψ f F h = fun_ext (λ a. eta B (suc n) (put n A a ψ) (f a) F (λ χ k.
     h χ (λ i C l. k i C (omega (arith, l)) ∙ put_other n A a ψ i C (λ e. omega (arith, l, e)))

@@ -23,7 +23,8 @@ apply_is A B f a = ap f (at_itself A (Ty-discrete ℕ_discrete A A) a (nothing A
 moves_symbol : (Γ : List Ty) → Moves [] Γ (λ i. length Γ + i)
 moves_symbol Γ = record { types = λ i A a. absurd a; added = λ j. (let z : length Γ + (0 + j) ≡ length Γ + j = omega arith in z); order = λ i j. plus_order (length Γ) i j }
 
-app_sound : (C A B : Ty) → C ≡ (A ⇒ B) → (Γ : List Ty) (g p : Polynomial) (ψ : Valuation) → Normal (Γ ++ arguments C) g → Normal (Γ ++ arguments A) p
+app_sound : (C A B : Ty) → C ≡ (A ⇒ B) → (Γ : List Ty) (g p : Polynomial) (ψ : Valuation) → Normal (Γ ++ arguments C) g
+    → Normal (Γ ++ arguments A) p
     → reading (codomain C) Γ ψ (apply_one A (codomain C) Γ g p).result ≡ apply_at C A (reading C Γ ψ g) (reading A Γ ψ p)
 app_sound C A B i Γ g p ψ = subst (λ C. Normal (Γ ++ arguments C) g → Normal (Γ ++ arguments A) p
     → reading (codomain C) Γ ψ (apply_one A (codomain C) Γ g p).result ≡ apply_at C A (reading C Γ ψ g) (reading A Γ ψ p)) (sym i)
@@ -36,7 +37,8 @@ symbol_sound Γ s ψ n = fun_same s.kind [] Γ (λ i. length Γ + i) (moves_symb
     (λ χ. den (arguments s.kind) χ s.polynomial) (λ χ. den (Γ ++ arguments s.kind) χ (renumber (λ i. length Γ + i) s.polynomial)) (λ i A a. absurd a)
     (λ ψ χ k. den_renumber (arguments s.kind) (Γ ++ arguments s.kind) (λ i. length Γ + i) (moves_on [] Γ (λ i. length Γ + i) (arguments s.kind) (moves_symbol Γ)) s.polynomial n ψ χ k)
 
-pub den_value : (symbols : List Interpretation) → NormalInterpretations symbols → (Γ : List Ty) (e : Expression) (ψ : Valuation) → TypedExpression symbols Γ e
+pub den_value : (symbols : List Interpretation) → NormalInterpretations symbols → (Γ : List Ty) (e : Expression) (ψ : Valuation)
+    → TypedExpression symbols Γ e
     → reading (type_of symbols Γ e) Γ ψ (evaluate symbols Γ e).result ≡ mean symbols Γ e ψ
 den_value S n Γ (var x) ψ (A, a) = subst (λ B. reading B Γ ψ (variable B (length Γ) x) ≡ ψ x B) (sym (type_is Γ x A a)) (den_variable A Γ ψ x a)
 den_value S n Γ (symbol f) ψ (s, e) = symbol_sound Γ (interpretation_at S f) ψ

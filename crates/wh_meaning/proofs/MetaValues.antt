@@ -20,13 +20,15 @@ use Rattle.wh_meaning.proofs.Order.{le_same, mono_nothing, mono_at}
 use Rattle.wh_meaning.proofs.TermValues.{declared_is, has_same, type_is, push_here, push_rename, mono_push, le_push, KeepsAll, keeps_up, FitsAll, value_app, value_agree, value_rename, value_act, value_mono, value_le}
 
 up_times_typed : (cs : List Ty) (Γ Δ : List Ty) (ρ : ℕ → ℕ) → ((i : ℕ) (b : Ty) → slice_get Γ i ≡ Some b → slice_get Δ (ρ i) ≡ Some b)
-    → (i : ℕ) (b : Ty) → slice_get (parameter_types cs Γ) i ≡ Some b → slice_get (parameter_types cs Δ) (up_times (length cs) ρ i) ≡ Some b
+    → (i : ℕ) (b : Ty) → slice_get (parameter_types cs Γ) i ≡ Some b
+    → slice_get (parameter_types cs Δ) (up_times (length cs) ρ i) ≡ Some b
 unfolding up_times
 up_times_typed [] Γ Δ ρ h i b e = h i b e
 up_times_typed (c ∷ cs) Γ Δ ρ h i b e = up_times_typed cs (c ∷ Γ) (c ∷ Δ) (up_renaming ρ) (up_renaming_typed Γ Δ ρ c h) i b e
 
 -- a typed body, moved below one binder more
-fits_declared-shift : {S : Symbols} {N : List Declared} {Γ : List Ty} {d : Declared} (a : Ty) (g : ℕ → Body) (z : ℕ) → FitsDeclared S N Γ d (g z) → FitsDeclared S N (a ∷ Γ) d (shifted g z)
+fits_declared-shift : {S : Symbols} {N : List Declared} {Γ : List Ty} {d : Declared} (a : Ty) (g : ℕ → Body) (z : ℕ)
+    → FitsDeclared S N Γ d (g z) → FitsDeclared S N (a ∷ Γ) d (shifted g z)
 fits_declared-shift {S = S} {N = N} {Γ = Γ} {d = d} a g z h = record {
   counted = h.counted;
   typed = subst (λ n. Typed S N (parameter_types d.args (a ∷ Γ)) (rename (up_times n suc) (g z).tree) d.out) (sym h.counted)
@@ -51,14 +53,16 @@ module _ (S : Symbols) (m : Meanings) where
       ∙ ap (λ ρ. body_value cs (c ∷ Γ) b ρ A) (push_rename c v ρ r))
 
   mutual
-    pub body_mono : MonoMeanings m → (cs : List Ty) (Γ : List Ty) (b : Tm) (ρ : Valuation) → MonoValuation ρ → (A : Ty) → Mono (arrows cs A) (body_value cs Γ b ρ A)
+    pub body_mono : MonoMeanings m → (cs : List Ty) (Γ : List Ty) (b : Tm) (ρ : Valuation) → MonoValuation ρ → (A : Ty)
+        → Mono (arrows cs A) (body_value cs Γ b ρ A)
     body_mono k [] Γ b ρ h A = value_mono S [] m k b Γ ρ h A
     body_mono k (c ∷ cs) Γ b ρ h A = (
       λ v mv. body_mono k cs (c ∷ Γ) b (push c v ρ) (mono_push c v ρ mv h) A,
       λ v w mv mw l. body_le k cs (c ∷ Γ) b (push c v ρ) (push c w ρ) (mono_push c v ρ mv h) (mono_push c w ρ mw h) (le_push c v w ρ ρ l (λ i D. le_same D (ρ i D))) A,
     )
 
-    body_le : MonoMeanings m → (cs : List Ty) (Γ : List Ty) (b : Tm) (ρ χ : Valuation) → MonoValuation ρ → MonoValuation χ → LeValuation ρ χ → (A : Ty)
+    body_le : MonoMeanings m → (cs : List Ty) (Γ : List Ty) (b : Tm) (ρ χ : Valuation) → MonoValuation ρ → MonoValuation χ
+        → LeValuation ρ χ → (A : Ty)
         → Le (arrows cs A) (body_value cs Γ b ρ A) (body_value cs Γ b χ A)
     body_le k [] Γ b ρ χ h j l A = value_le S [] m k b Γ ρ χ h j l A
     body_le k (c ∷ cs) Γ b ρ χ h j l A = λ v mv. body_le k cs (c ∷ Γ) b (push c v ρ) (push c v χ) (mono_push c v ρ mv h) (mono_push c v χ mv j) (le_push c v v ρ χ (le_same c v) l) A
@@ -69,7 +73,8 @@ module _ (S : Symbols) (m : Meanings) where
       at_type (arrows (declared_at M z).args (declared_at M z).out) C (Ty-discrete ℕ_discrete (arrows (declared_at M z).args (declared_at M z).out) C)
       (body_value (declared_at M z).args Γ (g z).tree ρ (declared_at M z).out) (nothing C)
 
-  pub metas_value_mono : MonoMeanings m → (M : List Declared) (g : ℕ → Body) (Γ : List Ty) (ρ : Valuation) → MonoValuation ρ → MonoValuation (metas_value M g Γ ρ)
+  pub metas_value_mono : MonoMeanings m → (M : List Declared) (g : ℕ → Body) (Γ : List Ty) (ρ : Valuation) → MonoValuation ρ
+      → MonoValuation (metas_value M g Γ ρ)
   metas_value_mono k M g Γ ρ h z C =
       let D = arrows (declared_at M z).args (declared_at M z).out in
       mono_at D C (Ty-discrete ℕ_discrete D C) (body_value (declared_at M z).args Γ (g z).tree ρ (declared_at M z).out) (nothing C)
@@ -79,22 +84,26 @@ module _ (S : Symbols) (m : Meanings) where
   abbrev pub IsBody : Valuation → (ℕ → Body) → List Ty → Valuation → ℕ → Declared → Type 0
   IsBody ζ g Γ ρ z d = ζ z (arrows d.args d.out) ≡ body_value d.args Γ (g z).tree ρ d.out
 
-  pub metas_value_is : (M : List Declared) (g : ℕ → Body) (Γ : List Ty) (ρ : Valuation) (z : ℕ) (d : Declared) → slice_get M z ≡ Some d → IsBody (metas_value M g Γ ρ) g Γ ρ z d
+  pub metas_value_is : (M : List Declared) (g : ℕ → Body) (Γ : List Ty) (ρ : Valuation) (z : ℕ) (d : Declared) → slice_get M z ≡ Some d
+      → IsBody (metas_value M g Γ ρ) g Γ ρ z d
   metas_value_is M g Γ ρ z d e = subst (λ d. metas_value M g Γ ρ z (arrows d.args d.out) ≡ body_value d.args Γ (g z).tree ρ d.out) (declared_is M z d e)
       (let D = arrows (declared_at M z).args (declared_at M z).out in
       at_itself D (Ty-discrete ℕ_discrete D D) (body_value (declared_at M z).args Γ (g z).tree ρ (declared_at M z).out) (nothing D))
 
-  shifted_body : (ζ : Valuation) (g : ℕ → Body) (Γ : List Ty) (ρ : Valuation) (z : ℕ) (d : Declared) (c B : Ty) (v : Sem B) → (g z).arity ≡ length d.args → IsBody ζ g Γ ρ z d → IsBody ζ (shifted g) (c ∷ Γ) (push B v ρ) z d
+  shifted_body : (ζ : Valuation) (g : ℕ → Body) (Γ : List Ty) (ρ : Valuation) (z : ℕ) (d : Declared) (c B : Ty) (v : Sem B)
+      → (g z).arity ≡ length d.args → IsBody ζ g Γ ρ z d → IsBody ζ (shifted g) (c ∷ Γ) (push B v ρ) z d
   shifted_body ζ g Γ ρ z d c B v n h = h ∙ sym (
       ap (λ k. body_value d.args (c ∷ Γ) (rename (up_times k suc) (g z).tree) (push B v ρ) d.out) n
       ∙ body_rename d.args Γ (c ∷ Γ) suc (λ i. refl) (g z).tree (push B v ρ) d.out)
 
-  cons_fits : (Γ Θ : List Ty) (σ : ℕ → Tm) (t : Tm) (c : Ty) → FitsAll S [] Θ Γ σ → type_in S [] Γ t ≡ c → FitsAll S [] (c ∷ Θ) Γ (cons t σ)
+  cons_fits : (Γ Θ : List Ty) (σ : ℕ → Tm) (t : Tm) (c : Ty) → FitsAll S [] Θ Γ σ → type_in S [] Γ t ≡ c
+      → FitsAll S [] (c ∷ Θ) Γ (cons t σ)
   unfolding cons
   cons_fits Γ Θ σ t c h e zero = e
   cons_fits Γ Θ σ t c h e (suc i) = h i
 
-  fits_all_parameters : {Γ : List Ty} {ts : Tms} {cs : List Ty} (Θ : List Ty) (σ : ℕ → Tm) → FitsAll S [] Θ Γ σ → AllTyped S [] Γ ts cs → FitsAll S [] (parameter_types cs Θ) Γ (parameters ts σ)
+  fits_all_parameters : {Γ : List Ty} {ts : Tms} {cs : List Ty} (Θ : List Ty) (σ : ℕ → Tm) → FitsAll S [] Θ Γ σ → AllTyped S [] Γ ts cs
+      → FitsAll S [] (parameter_types cs Θ) Γ (parameters ts σ)
   unfolding parameters
   fits_all_parameters Θ σ h typed_none = h
   fits_all_parameters {Γ = Γ} Θ σ h (typed_more {t = t} {a = c} p ps) = fits_all_parameters (c ∷ Θ) (cons t σ) (cons_fits Γ Θ σ t c h (type_is Γ (has_same Γ) p)) ps
@@ -136,8 +145,10 @@ module _ (S : Symbols) (m : Meanings) where
           ∙ ap₂ (λ f x. f x) (value_value g ρ p (λ z d o e. h z d (inl o) e)) (value_value g ρ q (λ z d o e. h z d (inr o) e))
           ∙ sym (value_app S M (with_metas m ζ) Γ t u ρ b a (type_is Γ (has_same Γ) q))
 
-      fed_body : {Γ : List Ty} {ts : Tms} {cs : List Ty} (g : ℕ → Body) (ρ : Valuation) (Θ : List Ty) (σ : ℕ → Tm) (χ : Valuation) (b : Tm) (A : Ty)
-          → ((i : ℕ) (c : Ty) → slice_get Θ i ≡ Some c → value_in S [] m Γ (σ i) ρ c ≡ χ i c) → Typed S [] (parameter_types cs Θ) b A → AllTyped S M Γ ts cs → AllMeanBodies Γ g ρ ts
+      fed_body : {Γ : List Ty} {ts : Tms} {cs : List Ty} (g : ℕ → Body) (ρ : Valuation) (Θ : List Ty) (σ : ℕ → Tm) (χ : Valuation)
+          (b : Tm) (A : Ty)
+          → ((i : ℕ) (c : Ty) → slice_get Θ i ≡ Some c → value_in S [] m Γ (σ i) ρ c ≡ χ i c) → Typed S [] (parameter_types cs Θ) b A
+          → AllTyped S M Γ ts cs → AllMeanBodies Γ g ρ ts
           → value_in S [] m (parameter_types cs Θ) b (λ i D. value_in S [] m Γ (parameters (values g ts) σ i) ρ D) A ≡ fed S M (with_metas m ζ) Γ ρ cs A (body_value cs Θ b χ A) ts
       fed_body {Γ = Γ} g ρ Θ σ χ b A k q typed_none h = value_agree S [] m Θ χ (λ i D. value_in S [] m Γ (σ i) ρ D) (λ i c e. (e, k i c e)) q
       fed_body {Γ = Γ} g ρ Θ σ χ b A k q (typed_more {t = t} {ts = ts} {a = c} p ps) h =

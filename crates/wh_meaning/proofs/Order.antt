@@ -32,7 +32,8 @@ unfolding at_type
 mono_at A B (yes e) x y m k = path_j (λ B e. Mono B (subst Sem e x)) (subst (Mono A) (sym (subst_refl Sem x)) m) e
 mono_at A B (no h) x y m k = k
 
-pub le_at : (A B : Ty) (d : Dec (A ≡ B)) (x x' : Sem A) (y y' : Sem B) → Le A x x' → Le B y y' → Le B (at_type A B d x y) (at_type A B d x' y')
+pub le_at : (A B : Ty) (d : Dec (A ≡ B)) (x x' : Sem A) (y y' : Sem B) → Le A x x' → Le B y y'
+    → Le B (at_type A B d x y) (at_type A B d x' y')
 unfolding at_type
 le_at A B (yes e) x x' y y' m k = path_j (λ B e. Le B (subst Sem e x) (subst Sem e x')) (rw (subst_refl Sem x, subst_refl Sem x') m) e
 le_at A B (no h) x x' y y' m k = k
@@ -61,7 +62,8 @@ le_valuation_same ψ i A = le_same A (ψ i A)
 abbrev pub Grows : (Valuation → ℕ) → Type 0
 Grows f = (ψ χ : Valuation) → MonoValuation ψ → MonoValuation χ → LeValuation ψ χ → f ψ ≤ f χ
 
-pub fun_grows : (f : Valuation → ℕ) → Grows f → (A : Ty) (n : ℕ) (ψ χ : Valuation) → MonoValuation ψ → MonoValuation χ → LeValuation ψ χ → Le A (fun_of A n ψ f) (fun_of A n χ f)
+pub fun_grows : (f : Valuation → ℕ) → Grows f → (A : Ty) (n : ℕ) (ψ χ : Valuation) → MonoValuation ψ → MonoValuation χ → LeValuation ψ χ
+    → Le A (fun_of A n ψ f) (fun_of A n χ f)
 fun_grows f g (sort s) n ψ χ m k l = g ψ χ m k l
 fun_grows f g (A ⇒ B) n ψ χ m k l = λ x mx. fun_grows f g B (suc n) (put n A x ψ) (put n A x χ) (mono_put n A x ψ mx m) (mono_put n A x χ mx k) (le_put n A x x ψ χ (le_same A x) l)
 
@@ -73,7 +75,8 @@ fun_mono f g (A ⇒ B) n ψ m = (
 )
 
 -- a number that is never greater gives a function that is never greater
-pub fun_le : (f g : Valuation → ℕ) → ((ψ : Valuation) → MonoValuation ψ → f ψ ≤ g ψ) → (A : Ty) (n : ℕ) (ψ : Valuation) → MonoValuation ψ → Le A (fun_of A n ψ f) (fun_of A n ψ g)
+pub fun_le : (f g : Valuation → ℕ) → ((ψ : Valuation) → MonoValuation ψ → f ψ ≤ g ψ) → (A : Ty) (n : ℕ) (ψ : Valuation) → MonoValuation ψ
+    → Le A (fun_of A n ψ f) (fun_of A n ψ g)
 fun_le f g h (sort s) n ψ m = h ψ m
 fun_le f g h (A ⇒ B) n ψ m = λ x mx. fun_le f g h B (suc n) (put n A x ψ) (mono_put n A x ψ mx m)
 
@@ -89,7 +92,8 @@ mutual
       mul-le-mul (arguments_grow Γ ps (type_at Γ x) (ψ x (type_at Γ x)) (χ x (type_at Γ x)) (m x (type_at Γ x)) (k x (type_at Γ x)) (l x (type_at Γ x)) ψ χ m k l)
       (factors_grow Γ us ψ χ m k l)
 
-  pub arguments_grow : (Γ : List Ty) (ps : Arguments) (A : Ty) (v w : Sem A) → Mono A v → Mono A w → Le A v w → (ψ χ : Valuation) → MonoValuation ψ → MonoValuation χ → LeValuation ψ χ
+  pub arguments_grow : (Γ : List Ty) (ps : Arguments) (A : Ty) (v w : Sem A) → Mono A v → Mono A w → Le A v w → (ψ χ : Valuation)
+      → MonoValuation ψ → MonoValuation χ → LeValuation ψ χ
       → den_arguments Γ ψ A v ps ≤ den_arguments Γ χ A w ps
   arguments_grow Γ no_arguments (sort s) v w mv mw vw ψ χ m k l = vw
   arguments_grow Γ no_arguments (A ⇒ B) v w mv mw vw ψ χ m k l = omega arith

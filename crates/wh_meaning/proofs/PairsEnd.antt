@@ -36,14 +36,16 @@ occurs_right z [] us o = o
 occurs_right z (t ∷ ts) us o = inr (occurs_right z ts us o)
 
 -- the types of the arguments of a typed call
-typed_at_marked : (S : Symbols) (rules : List RewriteRule) (c : MarkedCall) → IsTypedCall S rules c → AllTyped S [] [] (tms_of c.arguments) (marked_types S rules c.symbol)
+typed_at_marked : (S : Symbols) (rules : List RewriteRule) (c : MarkedCall) → IsTypedCall S rules c
+    → AllTyped S [] [] (tms_of c.arguments) (marked_types S rules c.symbol)
 typed_at_marked S rules c t = subst (AllTyped S [] [] (tms_of c.arguments))
     (ap₂ (λ n a. take (unwrap_or n 0) (arguments a)) (sym t.needed) (sym (at_is S.funs c.symbol t.kind t.known))) t.typed
 
 module _ (S : Symbols) (rules : List RewriteRule) (well : AreWellMade S rules) (symbols : List Interpretation) (interprets : Interprets S symbols) (normal : NormalInterpretations symbols)
     (covered : RulesAreCovered symbols rules) (marked target : ℕ → ℕ) where
   -- a step in an argument
-  arguments_worth : (c d : MarkedCall) → IsTypedCall S rules c → ArgumentsStep (Step rules) c d → worth_of S rules symbols marked target d ≤ worth_of S rules symbols marked target c
+  arguments_worth : (c d : MarkedCall) → IsTypedCall S rules c → ArgumentsStep (Step rules) c d
+      → worth_of S rules symbols marked target d ≤ worth_of S rules symbols marked target c
   arguments_worth c d t a = subst (λ f. call_value S symbols (marked f) (marked_types S rules f) (target f) (tms_of d.arguments) ≤ worth_of S rules symbols marked target c) (sym a.symbol)
       (call_reduct_le S symbols interprets normal rules well covered (marked c.symbol) (marked_types S rules c.symbol) (target c.symbol) c.arguments d.arguments (typed_at_marked S rules c t) a.arguments)
 
@@ -69,7 +71,8 @@ module _ (S : Symbols) (rules : List RewriteRule) (well : AreWellMade S rules) (
       (left_bodies p s.bodies s.typed_bodies) (right_bodies p s.bodies s.typed_bodies) s.left s.right k.moves k.cover))
 
   -- a strictly covered pair
-  strict_pair_worth : (p : PairData) (c d : MarkedCall) → PairIsCovered S rules symbols marked target p → PairIsStrictlyCovered symbols marked p → PairStep S (Step rules) p c d
+  strict_pair_worth : (p : PairData) (c d : MarkedCall) → PairIsCovered S rules symbols marked target p
+      → PairIsStrictlyCovered symbols marked p → PairStep S (Step rules) p c d
       → worth_of S rules symbols marked target d < worth_of S rules symbols marked target c
   strict_pair_worth p c d k (ms, h) s =
       subst (λ f. worth_of S rules symbols marked target d < call_value S symbols (marked f) (marked_types S rules f) (target f) (tms_of c.arguments)) (sym s.left_symbol)
@@ -88,11 +91,13 @@ module _ (S : Symbols) (rules : List RewriteRule) (well : AreWellMade S rules) (
     Outcome c d = ArgumentsEnd d
         × ((CallStep S rules (Step rules) Q c d × worth_of S rules symbols marked target d ≤ worth_of S rules symbols marked target c) ⊎ (worth_of S rules symbols marked target d < worth_of S rules symbols marked target c))
 
-    pair_outcome : (c d : MarkedCall) → IsTypedCall S rules c → IsTypedCall S rules d → (p : PairData) → P p → PairStep S (Step rules) p c d → Q p ⊎ PairIsStrictlyCovered symbols marked p → Outcome c d
+    pair_outcome : (c d : MarkedCall) → IsTypedCall S rules c → IsTypedCall S rules d → (p : PairData) → P p
+        → PairStep S (Step rules) p c d → Q p ⊎ PairIsStrictlyCovered symbols marked p → Outcome c d
     pair_outcome c d t u p h s (inl q) = (s.minimal, inl (record { from_typed = t; to_typed = u; leads = inr (p, q, s) }, pair_worth p c d (pairs p h) s))
     pair_outcome c d t u p h s (inr k) = (s.minimal, inr (strict_pair_worth p c d (pairs p h) k s))
 
-    outcome : (c d : MarkedCall) → ArgumentsEnd c → IsTypedCall S rules c → IsTypedCall S rules d → ArgumentsStep (Step rules) c d ⊎ SomePairStep S (Step rules) P c d → Outcome c d
+    outcome : (c d : MarkedCall) → ArgumentsEnd c → IsTypedCall S rules c → IsTypedCall S rules d
+        → ArgumentsStep (Step rules) c d ⊎ SomePairStep S (Step rules) P c d → Outcome c d
     outcome c d e t u (inl a) = (step_all_ends a.arguments e, inl (record { from_typed = t; to_typed = u; leads = inl a }, arguments_worth c d t a))
     outcome c d e t u (inr (p, h, s)) = pair_outcome c d t u p h s (kept p h)
 
@@ -102,13 +107,16 @@ module _ (S : Symbols) (rules : List RewriteRule) (well : AreWellMade S rules) (
         (λ c d e s. outcome c d e s.from_typed s.to_typed s.leads) rest c e
 
 -- the same for sets of pairs by their numbers
-pub sets_end_by_worth : (S : Symbols) (rules : List RewriteRule) (symbols : List Interpretation) (marked target : ℕ → ℕ) (pairs : List PairData) (set kept : List ℕ) → AreWellMade S rules → Interprets S symbols
-    → NormalInterpretations symbols → RulesAreCovered symbols rules → ((n : ℕ) (p : PairData) → Contains set n → slice_get pairs n ≡ Some p → PairIsCovered S rules symbols marked target p)
+pub sets_end_by_worth : (S : Symbols) (rules : List RewriteRule) (symbols : List Interpretation) (marked target : ℕ → ℕ)
+    (pairs : List PairData) (set kept : List ℕ) → AreWellMade S rules → Interprets S symbols
+    → NormalInterpretations symbols → RulesAreCovered symbols rules
+    → ((n : ℕ) (p : PairData) → Contains set n → slice_get pairs n ≡ Some p → PairIsCovered S rules symbols marked target p)
     → ((n : ℕ) (p : PairData) → Contains set n → slice_get pairs n ≡ Some p → Contains kept n ⊎ PairIsStrictlyCovered symbols marked p)
     → CallsEnd S rules (Step rules) (IsOneOf pairs kept) → CallsEnd S rules (Step rules) (IsOneOf pairs set)
 sets_end_by_worth S rules symbols marked target pairs set kept w i n c h k e =
     calls_end_by_worth S rules w symbols i n c marked target {P = IsOneOf pairs set} {Q = IsOneOf pairs kept} (λ p (n, m, s). h n p m s) (λ p (n, m, s). one_of n p m s (k n p m s)) e
   where
-    one_of : (n : ℕ) (p : PairData) → Contains set n → slice_get pairs n ≡ Some p → Contains kept n ⊎ PairIsStrictlyCovered symbols marked p → IsOneOf pairs kept p ⊎ PairIsStrictlyCovered symbols marked p
+    one_of : (n : ℕ) (p : PairData) → Contains set n → slice_get pairs n ≡ Some p
+        → Contains kept n ⊎ PairIsStrictlyCovered symbols marked p → IsOneOf pairs kept p ⊎ PairIsStrictlyCovered symbols marked p
     one_of n p m s (inl q) = inl (n, q, s)
     one_of n p m s (inr q) = inr q

@@ -38,7 +38,8 @@ reading_closed : (A : Ty) (p : Polynomial) (ψ χ : Valuation) → Normal (argum
 reading_closed A p ψ χ n = fun_same A [] [] (λ i. i) (moves_same []) ψ χ (λ ψ. den (arguments A) ψ p) (λ χ. den (arguments A) χ p) (λ i B a. absurd a)
     (λ ψ χ t. den_agree (arguments A) p n ψ χ t)
 
-lambda_along : (a b c : Ty) (e : b ≡ c) (d : (a ⇒ b) ≡ (a ⇒ c)) (f : Sem a → Sem b) (v : Sem a) → (subst Sem {x = a ⇒ b} {y = a ⇒ c} d f) v ≡ subst Sem {x = b} {y = c} e (f v)
+lambda_along : (a b c : Ty) (e : b ≡ c) (d : (a ⇒ b) ≡ (a ⇒ c)) (f : Sem a → Sem b) (v : Sem a)
+    → (subst Sem {x = a ⇒ b} {y = a ⇒ c} d f) v ≡ subst Sem {x = b} {y = c} e (f v)
 lambda_along a b c e d f v = path_j (λ c e. (d : (a ⇒ b) ≡ (a ⇒ c)) → (subst Sem {x = a ⇒ b} {y = a ⇒ c} d f) v ≡ subst Sem {x = b} {y = c} e (f v))
     (λ d. ap (λ g. g v) (along_itself (a ⇒ b) f d) ∙ sym (along_itself b (f v) refl)) e d
 
@@ -80,14 +81,16 @@ module _ (S : Symbols) (M : List Declared) (symbols : List Interpretation) (inte
       ∙ put_other n a v χ (n - 1 - i) b (λ z. omega (arith, z, k))
       ∙ r.binders i b e
 
-  reads_up : (Γ : List Ty) (ρ χ : Valuation) (a : Ty) (v : Sem a) → Reads Γ ρ χ → Reads (a ∷ Γ) (push a v ρ) (put (length (side_scope M Γ)) a v χ)
+  reads_up : (Γ : List Ty) (ρ χ : Valuation) (a : Ty) (v : Sem a) → Reads Γ ρ χ
+      → Reads (a ∷ Γ) (push a v ρ) (put (length (side_scope M Γ)) a v χ)
   reads_up Γ ρ χ a v r = record {
     metas = λ z d e. let k = at_below (side_scope M Γ) z (arrows d.args d.out) (meta_in_scope M Γ z d e) in
         put_other (length (side_scope M Γ)) a v χ z (arrows d.args d.out) (λ q. omega (arith, q, k)) ∙ r.metas z d e;
     binders = reads_binders Γ ρ χ a v r;
   }
 
-  pub symbol_means : (f : ℕ) (a : Ty) (s : Interpretation) → slice_get symbols f ≡ Some s → (χ : Valuation) (e : (interpretation_at symbols f).kind ≡ a)
+  pub symbol_means : (f : ℕ) (a : Ty) (s : Interpretation) → slice_get symbols f ≡ Some s
+      → (χ : Valuation) (e : (interpretation_at symbols f).kind ≡ a)
       → subst Sem e (reading (interpretation_at symbols f).kind [] χ (interpretation_at symbols f).polynomial) ≡ m.of_symbols f a
   symbol_means f a s i χ e =
       let t = interpretation_at symbols f in
@@ -95,8 +98,10 @@ module _ (S : Symbols) (M : List Declared) (symbols : List Interpretation) (inte
       ∙ reading_along (λ x B. nothing B) t.polynomial t.kind a e ∙ sym (means f a)
 
   mutual
-    pub mean_side : {Γ : List Ty} {t : Tm} {a : Ty} (n : ℕ) → n ≡ length (side_scope M Γ) → (ρ χ : Valuation) → Reads Γ ρ χ → Typed S M Γ t a → NoFree t
-        → (e : type_of symbols (side_scope M Γ) (side n t) ≡ a) → subst Sem e (mean symbols (side_scope M Γ) (side n t) χ) ≡ value_in S M m Γ t ρ a
+    pub mean_side : {Γ : List Ty} {t : Tm} {a : Ty} (n : ℕ) → n ≡ length (side_scope M Γ) → (ρ χ : Valuation) → Reads Γ ρ χ
+        → Typed S M Γ t a → NoFree t
+        → (e : type_of symbols (side_scope M Γ) (side n t) ≡ a)
+        → subst Sem e (mean symbols (side_scope M Γ) (side n t) χ) ≡ value_in S M m Γ t ρ a
     mean_side {Γ = Γ} n l ρ χ r (typed_bound {i = i} {a = a} h) f e = valuation_along χ (n - 1 - i) (type_at (side_scope M Γ) (n - 1 - i)) a e
         ∙ ap (λ n. χ (n - 1 - i) a) l ∙ r.binders i a h
     mean_side n l ρ χ r (typed_free p) f e = absurd f
@@ -120,7 +125,8 @@ module _ (S : Symbols) (M : List Declared) (symbols : List Interpretation) (inte
         ∙ ap₂ (λ g x. g x) (mean_side n l ρ χ r p f.0 c) (mean_side n l ρ χ r q f.1 d)
         ∙ sym (value_app S M m Γ t u ρ b a (type_is Γ (has_same Γ) q))
 
-    pub mean_applied : {Γ : List Ty} {ts : Tms} {cs : List Ty} (n : ℕ) → n ≡ length (side_scope M Γ) → (ρ χ : Valuation) → Reads Γ ρ χ → (x : Expression) (a : Ty) (c : type_of symbols (side_scope M Γ) x ≡ arrows cs a)
+    pub mean_applied : {Γ : List Ty} {ts : Tms} {cs : List Ty} (n : ℕ) → n ≡ length (side_scope M Γ) → (ρ χ : Valuation) → Reads Γ ρ χ
+        → (x : Expression) (a : Ty) (c : type_of symbols (side_scope M Γ) x ≡ arrows cs a)
         → AllTyped S M Γ ts cs → AllNoFree ts → (e : type_of symbols (side_scope M Γ) (side_applied n x ts) ≡ a)
         → subst Sem e (mean symbols (side_scope M Γ) (side_applied n x ts) χ) ≡ fed S M m Γ ρ cs a (subst Sem c (mean symbols (side_scope M Γ) x χ)) ts
     mean_applied {Γ = Γ} n l ρ χ r x a c typed_none f e = ap (λ e. subst Sem e (mean symbols (side_scope M Γ) x χ)) (ty_set (type_of symbols (side_scope M Γ) x) a e c)

@@ -21,12 +21,14 @@ metas_in_scope (c ∷ M) zero d e = ap (λ d. arrows d.args d.out) (same_Some c 
 metas_in_scope (c ∷ M) (suc z) d e = metas_in_scope M z d e
 
 -- a meta-variable is in the scope
-pub meta_in_scope : (M : List Declared) (Γ : List Ty) (z : ℕ) (d : Declared) → slice_get M z ≡ Some d → HasType (side_scope M Γ) z (arrows d.args d.out)
+pub meta_in_scope : (M : List Declared) (Γ : List Ty) (z : ℕ) (d : Declared) → slice_get M z ≡ Some d
+    → HasType (side_scope M Γ) z (arrows d.args d.out)
 meta_in_scope M [] z d e = metas_in_scope M z d e
 meta_in_scope M (a ∷ Γ) z d e = at_left (side_scope M Γ) (a ∷ []) z (arrows d.args d.out) (meta_in_scope M Γ z d e)
 
 -- and so is a binder's variable
-pub bound_in_scope : (M : List Declared) (Γ : List Ty) (i : ℕ) (b : Ty) → slice_get Γ i ≡ Some b → HasType (side_scope M Γ) (length (side_scope M Γ) - 1 - i) b
+pub bound_in_scope : (M : List Declared) (Γ : List Ty) (i : ℕ) (b : Ty) → slice_get Γ i ≡ Some b
+    → HasType (side_scope M Γ) (length (side_scope M Γ) - 1 - i) b
 bound_in_scope M [] i b e = absurd (none-some b e)
 bound_in_scope M (a ∷ Γ) zero b e = let l = scope_longer M Γ a in
     subst (λ k. HasType (side_scope M (a ∷ Γ)) k b) (let z : length (side_scope M Γ) + 0 ≡ length (side_scope M (a ∷ Γ)) - 1 - 0 = omega (arith, l) in z)
@@ -44,7 +46,8 @@ module _ (S : Symbols) (M : List Declared) (symbols : List Interpretation) (inte
   applied_typed Γ e d a b (t, h) (u, k) = ((t, u, b, h ∙ ap (λ c. c ⇒ b) (sym k)), ap codomain h)
 
   mutual
-    pub side_typed : {Γ : List Ty} {t : Tm} {a : Ty} (n : ℕ) → n ≡ length (side_scope M Γ) → Typed S M Γ t a → NoFree t → HasSideType Γ (side n t) a
+    pub side_typed : {Γ : List Ty} {t : Tm} {a : Ty} (n : ℕ) → n ≡ length (side_scope M Γ) → Typed S M Γ t a → NoFree t
+        → HasSideType Γ (side n t) a
     side_typed {Γ = Γ} n l (typed_bound {i = i} {a = a} e) f =
         let h : HasType (side_scope M Γ) (n - 1 - i) a = subst (λ n. HasType (side_scope M Γ) (n - 1 - i) a) (sym l) (bound_in_scope M Γ i a e) in
         ((a, h), variable_type (side_scope M Γ) (n - 1 - i) a h)
@@ -58,7 +61,8 @@ module _ (S : Symbols) (M : List Declared) (symbols : List Interpretation) (inte
         let (t', h) = side_typed (suc n) (ap suc l ∙ sym (scope_longer M Γ a)) q f in (t', ap (λ b. a ⇒ b) h)
     side_typed {Γ = Γ} {a = b} n l (typed_app {a = a} {t = t} {u = u} p q) f = applied_typed Γ (side n t) (side n u) a b (side_typed n l p f.0) (side_typed n l q f.1)
 
-    pub side_applied_typed : {Γ : List Ty} {ts : Tms} {cs : List Ty} (n : ℕ) → n ≡ length (side_scope M Γ) → (e : Expression) (a : Ty) → HasSideType Γ e (arrows cs a) → AllTyped S M Γ ts cs → AllNoFree ts
+    pub side_applied_typed : {Γ : List Ty} {ts : Tms} {cs : List Ty} (n : ℕ) → n ≡ length (side_scope M Γ) → (e : Expression) (a : Ty)
+        → HasSideType Γ e (arrows cs a) → AllTyped S M Γ ts cs → AllNoFree ts
         → HasSideType Γ (side_applied n e ts) a
     side_applied_typed n l e a h typed_none f = h
     side_applied_typed {Γ = Γ} n l e a h (typed_more {t = t} {a = c} {bs = cs} p ps) f =

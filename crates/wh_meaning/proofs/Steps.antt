@@ -36,12 +36,14 @@ use Rattle.wh_meaning.proofs.SideTypes.{side_typed}
 use Rattle.wh_meaning.proofs.SideMeans.{mean_side}
 
 -- a reading taken along an equality of types
-pub reading_at : (Γ : List Ty) (ψ : Valuation) (p : Polynomial) (A B : Ty) (e : A ≡ B) → subst Sem {x = A} {y = B} e (reading A Γ ψ p) ≡ reading B Γ ψ p
+pub reading_at : (Γ : List Ty) (ψ : Valuation) (p : Polynomial) (A B : Ty) (e : A ≡ B)
+    → subst Sem {x = A} {y = B} e (reading A Γ ψ p) ≡ reading B Γ ψ p
 reading_at Γ ψ p A B e = path_j (λ B e. subst Sem {x = A} {y = B} e (reading A Γ ψ p) ≡ reading B Γ ψ p) (subst_refl Sem {x = A} (reading A Γ ψ p)) e
 
 module _ (S : Symbols) (symbols : List Interpretation) (interprets : Interprets S symbols) (normal : NormalInterpretations symbols) where
   -- the polynomial of a typed side is normal in its scope
-  pub side_normal : (M : List Declared) (t : Tm) (a : Ty) → Typed S M [] t a → NoFree t → Normal (types_of_metas M ++ arguments a) (side_polynomial symbols M t)
+  pub side_normal : (M : List Declared) (t : Tm) (a : Ty) → Typed S M [] t a → NoFree t
+      → Normal (types_of_metas M ++ arguments a) (side_polynomial symbols M t)
   side_normal M t a p f =
       let (typed, e) = side_typed S M symbols interprets (length (types_of_metas M)) refl p f in
       subst (λ b. Normal (types_of_metas M ++ arguments b) (side_polynomial symbols M t)) e (normal_value symbols normal (types_of_metas M) (side (length (types_of_metas M)) t) typed)
@@ -61,7 +63,8 @@ module _ (S : Symbols) (symbols : List Interpretation) (interprets : Interprets 
 
     -- the value of a covered side is at most that of the side that covers it
     pub covered_le : (M : List Declared) (t u : Tm) (a : Ty) → Typed S M [] t a → NoFree t → Typed S M [] u a → NoFree u
-        → (ms : List Transfer) → IsCover (side_polynomial symbols M t) (side_polynomial symbols M u) ms → MonoValuation m.of_metas → (ρ : Valuation)
+        → (ms : List Transfer) → IsCover (side_polynomial symbols M t) (side_polynomial symbols M u) ms → MonoValuation m.of_metas
+        → (ρ : Valuation)
         → Le a (value_in S M m [] u ρ a) (value_in S M m [] t ρ a)
     covered_le M t u a p f q g ms c k ρ =
         let Γ = types_of_metas M in
@@ -72,16 +75,19 @@ module _ (S : Symbols) (symbols : List Interpretation) (interprets : Interprets 
 
 module _ (S : Symbols) (m : Meanings) (mono : MonoMeanings m) where
   -- a side has one value, whatever binders it stands below
-  side_anywhere : (M : List Declared) (n : Meanings) (Γ : List Ty) (t : Tm) (a : Ty) → Typed S M [] t a → (ρ χ : Valuation) → value_in S M n Γ t ρ a ≡ value_in S M n [] t χ a
+  side_anywhere : (M : List Declared) (n : Meanings) (Γ : List Ty) (t : Tm) (a : Ty) → Typed S M [] t a → (ρ χ : Valuation)
+      → value_in S M n Γ t ρ a ≡ value_in S M n [] t χ a
   side_anywhere M n Γ t a p ρ χ = value_agree S M n Γ χ ρ (λ i b e. absurd (none-some b e)) p
 
-  beta_le : {Γ : List Ty} {t u : Tm} {b c d : Ty} (ρ : Valuation) → Typed S [] Γ (lam b t) (c ⇒ d) → Typed S [] Γ u c → Le d (value_in S [] m Γ (opened u t) ρ d) (value_in S [] m Γ (app (lam b t) u) ρ d)
+  beta_le : {Γ : List Ty} {t u : Tm} {b c d : Ty} (ρ : Valuation) → Typed S [] Γ (lam b t) (c ⇒ d) → Typed S [] Γ u c
+      → Le d (value_in S [] m Γ (opened u t) ρ d) (value_in S [] m Γ (app (lam b t) u) ρ d)
   beta_le {Γ = Γ} {t = t} {u = u} {b = b} {d = d} ρ (typed_lam s p) q = le_equal d (value_in S [] m Γ (opened u t) ρ d) (value_in S [] m Γ (app (lam b t) u) ρ d) (value_beta S [] m ρ p q)
 
   -- no step raises the value if no step at the root does
   pub step_le : {R : Tm → Tm → Type 0} {t u : Tm} → KeepsTypes S R
       → ((Γ : List Ty) (t u : Tm) (a : Ty) → R t u → Typed S [] Γ t a → (ρ : Valuation) → MonoValuation ρ → Le a (value_in S [] m Γ u ρ a) (value_in S [] m Γ t ρ a))
-      → StepOver R t u → (Γ : List Ty) (a : Ty) → Typed S [] Γ t a → (ρ : Valuation) → MonoValuation ρ → Le a (value_in S [] m Γ u ρ a) (value_in S [] m Γ t ρ a)
+      → StepOver R t u → (Γ : List Ty) (a : Ty) → Typed S [] Γ t a → (ρ : Valuation) → MonoValuation ρ
+      → Le a (value_in S [] m Γ u ρ a) (value_in S [] m Γ t ρ a)
   step_le k h (over_root {t = t} {u = u} r) Γ a p ρ w = h Γ t u a r p ρ w
   step_le k h (over_beta {a = b} {t = t} {u = u} e) Γ a (typed_app p q) ρ w =
       subst (λ v. Le a (value_in S [] m Γ v ρ a) (value_in S [] m Γ (app (lam b t) u) ρ a)) (sym e) (beta_le ρ p q)
@@ -96,7 +102,8 @@ module _ (S : Symbols) (m : Meanings) (mono : MonoMeanings m) where
   module _ (symbols : List Interpretation) (interprets : Interprets S symbols) (normal : NormalInterpretations symbols) (means : (f : ℕ) (A : Ty) → m.of_symbols f A ≡ of_interpretations symbols f A) where
     -- the values of the two sides of a covered rule under one meta-substitution
     rule_le : (r : RewriteRule) (w : IsWellMade S r) → RuleIsCovered symbols r → (g : ℕ → Body) (Γ : List Ty)
-        → ((z : ℕ) (d : Declared) → Occurs z r.left → slice_get r.metas z ≡ Some d → FitsDeclared S [] Γ d (g z)) → (ρ : Valuation) → MonoValuation ρ
+        → ((z : ℕ) (d : Declared) → Occurs z r.left → slice_get r.metas z ≡ Some d → FitsDeclared S [] Γ d (g z)) → (ρ : Valuation)
+        → MonoValuation ρ
         → Le w.typed.0 (value_in S [] m Γ (value g r.right) ρ w.typed.0) (value_in S [] m Γ (value g r.left) ρ w.typed.0)
     rule_le r w (ms, c) g Γ bodies ρ k =
         let b = w.typed.0 in
@@ -108,7 +115,8 @@ module _ (S : Symbols) (m : Meanings) (mono : MonoMeanings m) where
         (covered_le S symbols interprets normal n means r.metas r.left r.right b w.typed.1 w.left_closed w.typed.2 w.right_closed ms c (metas_value_mono S m mono r.metas g Γ ρ k) ρ)
 
     -- an instance of a covered rule does not raise the value
-    pub instance_le : (rules : List RewriteRule) → AreWellMade S rules → RulesAreCovered symbols rules → (Γ : List Ty) (t u : Tm) (a : Ty) → Instance rules t u → Typed S [] Γ t a
+    pub instance_le : (rules : List RewriteRule) → AreWellMade S rules → RulesAreCovered symbols rules
+        → (Γ : List Ty) (t u : Tm) (a : Ty) → Instance rules t u → Typed S [] Γ t a
         → (ρ : Valuation) → MonoValuation ρ → Le a (value_in S [] m Γ u ρ a) (value_in S [] m Γ t ρ a)
     instance_le rules well covered Γ t u a (instance_of r g c f h e d) p ρ k =
         let w = well.each r c in
@@ -118,21 +126,25 @@ module _ (S : Symbols) (m : Meanings) (mono : MonoMeanings m) where
         (rule_le r w (covered r c) g Γ bodies ρ k))
 
     -- no step of covered rules raises the value of a well-typed term, at any place
-    pub covered_step_le : (rules : List RewriteRule) → AreWellMade S rules → RulesAreCovered symbols rules → (Γ : List Ty) (t u : Tm) (a : Ty) → StepOver (RuleRoot rules) t u → Typed S [] Γ t a
+    pub covered_step_le : (rules : List RewriteRule) → AreWellMade S rules → RulesAreCovered symbols rules
+        → (Γ : List Ty) (t u : Tm) (a : Ty) → StepOver (RuleRoot rules) t u → Typed S [] Γ t a
         → (ρ : Valuation) → MonoValuation ρ → Le a (value_in S [] m Γ u ρ a) (value_in S [] m Γ t ρ a)
     covered_step_le rules well covered Γ t u a s p ρ k =
         step_le (rules_root S rules well).typed (λ Γ t u a r p ρ k. instance_le rules well covered Γ t u a (rule_root-instance t u r) p ρ k) s Γ a p ρ k
 
 -- the meanings of terms are monotone
-pub mono_terms : (symbols : List Interpretation) (ψ : Valuation) → MonoValuation ψ → MonoMeanings (record { of_symbols = of_interpretations symbols; of_metas = λ z A. nothing A; of_free = ψ })
+pub mono_terms : (symbols : List Interpretation) (ψ : Valuation) → MonoValuation ψ
+    → MonoMeanings (record { of_symbols = of_interpretations symbols; of_metas = λ z A. nothing A; of_free = ψ })
 mono_terms symbols ψ h = record {
   symbols = λ f A. reading_mono A [] (λ x B. nothing B) (interpretation_at symbols f).polynomial (λ x B. mono_nothing B);
   metas = λ z A. mono_nothing A;
   free = h;
 }
 
-pub term_step_le : (S : Symbols) (symbols : List Interpretation) → Interprets S symbols → NormalInterpretations symbols → (ψ : Valuation) → MonoValuation ψ
-    → (rules : List RewriteRule) → AreWellMade S rules → RulesAreCovered symbols rules → (Γ : List Ty) (t u : Tm) (a : Ty) → StepOver (RuleRoot rules) t u → Typed S [] Γ t a
+pub term_step_le : (S : Symbols) (symbols : List Interpretation) → Interprets S symbols → NormalInterpretations symbols → (ψ : Valuation)
+    → MonoValuation ψ
+    → (rules : List RewriteRule) → AreWellMade S rules → RulesAreCovered symbols rules → (Γ : List Ty) (t u : Tm) (a : Ty)
+    → StepOver (RuleRoot rules) t u → Typed S [] Γ t a
     → (ρ : Valuation) → MonoValuation ρ → Le a (term_value S symbols ψ Γ u ρ a) (term_value S symbols ψ Γ t ρ a)
 term_step_le S symbols i n ψ h rules well covered Γ t u a s p ρ k =
     covered_step_le S (record { of_symbols = of_interpretations symbols; of_metas = λ z A. nothing A; of_free = ψ }) (mono_terms symbols ψ h) symbols i n (λ f A. refl) rules well covered Γ t u a s p ρ k

@@ -38,7 +38,8 @@ has_up Γ Δ a h zero b e = e
 has_up Γ Δ a h (suc i) b e = h i b e
 
 -- the type of a typed tree
-pub type_is : {S : Symbols} {M : List Declared} {Γ : List Ty} {t : Tm} {a : Ty} (Δ : List Ty) → Has Γ Δ → Typed S M Γ t a → type_in S M Δ t ≡ a
+pub type_is : {S : Symbols} {M : List Declared} {Γ : List Ty} {t : Tm} {a : Ty} (Δ : List Ty) → Has Γ Δ → Typed S M Γ t a
+    → type_in S M Δ t ≡ a
 type_is Δ h (typed_bound {i = i} {a = a} e) = at_is Δ i a (h i a e)
 type_is Δ h (typed_free p) = refl
 type_is Δ h (typed_fun {S = S} {f = f} {a = a} e) = at_is S.funs f a e
@@ -50,7 +51,8 @@ type_is Δ h (typed_app t u) = ap codomain (type_is Δ h t)
 pub push_here : (a b : Ty) → a ≡ b → (w : (c : Ty) → Sem c) (ρ : Valuation) → push a (w a) ρ zero b ≡ w b
 push_here a b e w ρ = path_j (λ b e. push a (w a) ρ zero b ≡ w b) (at_itself a (Ty-discrete ℕ_discrete a a) (w a) (nothing a)) e
 
-push_renamed : (B : Ty) (v : Sem B) (ρ : Valuation) (r : ℕ → ℕ) (i : ℕ) (D : Ty) → push B v ρ (up_renaming r i) D ≡ push B v (λ i D. ρ (r i) D) i D
+push_renamed : (B : Ty) (v : Sem B) (ρ : Valuation) (r : ℕ → ℕ) (i : ℕ) (D : Ty)
+    → push B v ρ (up_renaming r i) D ≡ push B v (λ i D. ρ (r i) D) i D
 unfolding up_renaming
 push_renamed B v ρ r zero D = refl
 push_renamed B v ρ r (suc i) D = refl
@@ -121,7 +123,8 @@ module _ (S : Symbols) (M : List Declared) where
     agrees_up Γ Δ ρ χ a v h (suc i) b e = h i b e
 
     mutual
-      pub value_agree : {Γ : List Ty} {t : Tm} {a : Ty} (Δ : List Ty) (ρ χ : Valuation) → Agrees Γ Δ ρ χ → Typed S M Γ t a → value_in S M m Δ t χ a ≡ value_in S M m Γ t ρ a
+      pub value_agree : {Γ : List Ty} {t : Tm} {a : Ty} (Δ : List Ty) (ρ χ : Valuation) → Agrees Γ Δ ρ χ → Typed S M Γ t a
+          → value_in S M m Δ t χ a ≡ value_in S M m Γ t ρ a
       value_agree Δ ρ χ h (typed_bound {i = i} {a = a} e) = (h i a e).1
       value_agree Δ ρ χ h (typed_free p) = refl
       value_agree Δ ρ χ h (typed_fun e) = refl
@@ -134,7 +137,8 @@ module _ (S : Symbols) (M : List Declared) where
           ∙ ap₂ (λ f x. f x) (value_agree Δ ρ χ h p) (value_agree Δ ρ χ h q)
           ∙ sym (value_app Γ t u ρ b a (type_is Γ (has_same Γ) q))
 
-      fed_agree : {Γ : List Ty} {ts : Tms} {cs : List Ty} (Δ : List Ty) (ρ χ : Valuation) → Agrees Γ Δ ρ χ → (A : Ty) (f : Sem (arrows cs A)) → AllTyped S M Γ ts cs
+      fed_agree : {Γ : List Ty} {ts : Tms} {cs : List Ty} (Δ : List Ty) (ρ χ : Valuation) → Agrees Γ Δ ρ χ
+          → (A : Ty) (f : Sem (arrows cs A)) → AllTyped S M Γ ts cs
           → fed S M m Δ χ cs A f ts ≡ fed S M m Γ ρ cs A f ts
       fed_agree Δ ρ χ h A f typed_none = refl
       fed_agree {Γ = Γ} Δ ρ χ h A f (typed_more {t = t} {ts = ts} {a = c} {bs = cs} p ps) =
@@ -143,7 +147,8 @@ module _ (S : Symbols) (M : List Declared) where
     mutual
       unfolding rename renames
 
-      pub value_rename : (t : Tm) (Γ Δ : List Ty) (r : ℕ → ℕ) → KeepsAll Γ Δ r → (ρ : Valuation) (A : Ty) → value_in S M m Δ (rename r t) ρ A ≡ value_in S M m Γ t (λ i B. ρ (r i) B) A
+      pub value_rename : (t : Tm) (Γ Δ : List Ty) (r : ℕ → ℕ) → KeepsAll Γ Δ r → (ρ : Valuation) (A : Ty)
+          → value_in S M m Δ (rename r t) ρ A ≡ value_in S M m Γ t (λ i B. ρ (r i) B) A
       value_rename (bound i) Γ Δ r h ρ A = refl
       value_rename (free x a) Γ Δ r h ρ A = refl
       value_rename (fun f) Γ Δ r h ρ A = refl
@@ -155,7 +160,8 @@ module _ (S : Symbols) (M : List Declared) where
           value_app Δ (rename r t) (rename r u) ρ A (type_in S M Γ u) (type_rename u Γ Δ r h)
           ∙ ap₂ (λ f x. f x) (value_rename t Γ Δ r h ρ (type_in S M Γ u ⇒ A)) (value_rename u Γ Δ r h ρ (type_in S M Γ u))
 
-      fed_rename : (ts : Tms) (Γ Δ : List Ty) (r : ℕ → ℕ) → KeepsAll Γ Δ r → (ρ : Valuation) (cs : List Ty) (A : Ty) (f : Sem (arrows cs A))
+      fed_rename : (ts : Tms) (Γ Δ : List Ty) (r : ℕ → ℕ) → KeepsAll Γ Δ r
+          → (ρ : Valuation) (cs : List Ty) (A : Ty) (f : Sem (arrows cs A))
           → fed S M m Δ ρ cs A f (renames r ts) ≡ fed S M m Γ (λ i B. ρ (r i) B) cs A f ts
       fed_rename none Γ Δ r h ρ [] A f = refl
       fed_rename none Γ Δ r h ρ (c ∷ cs) A f = refl
@@ -200,7 +206,8 @@ module _ (S : Symbols) (M : List Declared) where
     fits_all_cons Γ u a e zero = e
     fits_all_cons Γ u a e (suc i) = refl
 
-    agrees_cons : (Γ : List Ty) (u : Tm) (a : Ty) (ρ : Valuation) → Agrees (a ∷ Γ) (a ∷ Γ) (push a (value_in S M m Γ u ρ a) ρ) (λ i D. value_in S M m Γ (cons u bound i) ρ D)
+    agrees_cons : (Γ : List Ty) (u : Tm) (a : Ty) (ρ : Valuation)
+        → Agrees (a ∷ Γ) (a ∷ Γ) (push a (value_in S M m Γ u ρ a) ρ) (λ i D. value_in S M m Γ (cons u bound i) ρ D)
     unfolding cons
     agrees_cons Γ u a ρ zero b e = (e, sym (push_here a b (some_one e) (λ c. value_in S M m Γ u ρ c) ρ))
     agrees_cons Γ u a ρ (suc i) b e = (e, refl)
@@ -228,14 +235,16 @@ module _ (S : Symbols) (M : List Declared) where
         )
         value_mono (app t u) Γ ρ h A = (value_mono t Γ ρ h (type_in S M Γ u ⇒ A)).0 (value_in S M m Γ u ρ (type_in S M Γ u)) (value_mono u Γ ρ h (type_in S M Γ u))
 
-        fed_mono : (ts : Tms) (Γ : List Ty) (ρ : Valuation) → MonoValuation ρ → (cs : List Ty) (A : Ty) (f : Sem (arrows cs A)) → Mono (arrows cs A) f → Mono A (fed S M m Γ ρ cs A f ts)
+        fed_mono : (ts : Tms) (Γ : List Ty) (ρ : Valuation) → MonoValuation ρ → (cs : List Ty) (A : Ty) (f : Sem (arrows cs A))
+            → Mono (arrows cs A) f → Mono A (fed S M m Γ ρ cs A f ts)
         fed_mono none Γ ρ h [] A f mf = mf
         fed_mono none Γ ρ h (c ∷ cs) A f mf = mono_nothing A
         fed_mono (more t ts) Γ ρ h [] A f mf = mf
         fed_mono (more t ts) Γ ρ h (c ∷ cs) A f mf = fed_mono ts Γ ρ h cs A (f (value_in S M m Γ t ρ c)) (mf.0 (value_in S M m Γ t ρ c) (value_mono t Γ ρ h c))
 
         -- greater values of loose variables give a value at least as great
-        pub value_le : (t : Tm) (Γ : List Ty) (ρ χ : Valuation) → MonoValuation ρ → MonoValuation χ → LeValuation ρ χ → (A : Ty) → Le A (value_in S M m Γ t ρ A) (value_in S M m Γ t χ A)
+        pub value_le : (t : Tm) (Γ : List Ty) (ρ χ : Valuation) → MonoValuation ρ → MonoValuation χ → LeValuation ρ χ → (A : Ty)
+            → Le A (value_in S M m Γ t ρ A) (value_in S M m Γ t χ A)
         value_le (bound i) Γ ρ χ h k l A = l i A
         value_le (free x a) Γ ρ χ h k l A = le_same A (m.of_free x A)
         value_le (fun f) Γ ρ χ h k l A = le_same A (m.of_symbols f A)
@@ -252,7 +261,8 @@ module _ (S : Symbols) (M : List Declared) where
             le_then A (value_in S M m Γ t ρ (B ⇒ A) x) (value_in S M m Γ t ρ (B ⇒ A) y) (value_in S M m Γ t χ (B ⇒ A) y)
             ((value_mono t Γ ρ h (B ⇒ A)).1 x y (value_mono u Γ ρ h B) my (value_le u Γ ρ χ h k l B)) (value_le t Γ ρ χ h k l (B ⇒ A) y my)
 
-        pub fed_le : (ts : Tms) (Γ : List Ty) (ρ χ : Valuation) → MonoValuation ρ → MonoValuation χ → LeValuation ρ χ → (cs : List Ty) (A : Ty) (f g : Sem (arrows cs A)) → Mono (arrows cs A) f → Mono (arrows cs A) g
+        pub fed_le : (ts : Tms) (Γ : List Ty) (ρ χ : Valuation) → MonoValuation ρ → MonoValuation χ → LeValuation ρ χ
+            → (cs : List Ty) (A : Ty) (f g : Sem (arrows cs A)) → Mono (arrows cs A) f → Mono (arrows cs A) g
             → Le (arrows cs A) f g → Le A (fed S M m Γ ρ cs A f ts) (fed S M m Γ χ cs A g ts)
         fed_le none Γ ρ χ h k l [] A f g mf mg q = q
         fed_le none Γ ρ χ h k l (c ∷ cs) A f g mf mg q = le_same A (nothing A)

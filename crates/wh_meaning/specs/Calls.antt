@@ -1,4 +1,5 @@
--- What marked calls are worth, and when the sides of a pair are covered. A marked symbol has an interpretation of its own; `k` is its number.
+-- What marked calls are worth, and when the sides of a pair are covered. A marked symbol has an interpretation of its own;
+-- `k` is its number.
 use Rattle.std.specs.Prelude.{ℕ, List, [], length, ◌≡◌, Some, slice_get}
 use Rattle.wh_types.specs.Ty.{Ty, sort}
 use Rattle.wh_terms.specs.Tree.{Tms}
@@ -30,7 +31,8 @@ call_polynomial symbols M k ts =
     (evaluate symbols (types_of_metas M) (side_applied (length (types_of_metas M)) (symbol k) ts)).result
 
 -- a marked side is well made: its symbol has an interpretation that takes its arguments to a sort, and they are typed and closed (ours)
-pub record IsMarkedSide (S : Symbols) (symbols : List Interpretation) (M : List Declared) (k : ℕ) (cs : List Ty) (s : ℕ) (ts : Tms) : Type 0 where
+pub record IsMarkedSide (S : Symbols) (symbols : List Interpretation) (M : List Declared) (k : ℕ) (cs : List Ty) (s : ℕ) (ts : Tms)
+    : Type 0 where
   pub interpreted : IsInterpretedAs symbols k (arrows cs (sort s))
   pub typed : AllTyped S M [] ts cs
   pub closed : AllNoFree ts

@@ -18,7 +18,8 @@ abbrev mutual
   den_factors Γ ψ no_factors = 1
   den_factors Γ ψ (times x ps us) = den_arguments Γ ψ (type_at Γ x) (ψ x (type_at Γ x)) ps * den_factors Γ ψ us
 
-  -- an argument means a function of the variables that its scope goes on with; too few or too many arguments give 0 (Fuhs and Kop 2012)
+  -- an argument means a function of the variables that its scope goes on with; too few or too many arguments give 0 (Fuhs and
+  -- Kop 2012)
   pub den_arguments : List Ty → Valuation → (A : Ty) → Sem A → Arguments → ℕ
   den_arguments Γ ψ (sort s) f no_arguments = f
   den_arguments Γ ψ (A ⇒ B) f no_arguments = 0

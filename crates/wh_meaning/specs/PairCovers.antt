@@ -30,7 +30,8 @@ abbrev pub right_polynomial : List Interpretation → (ℕ → ℕ) → PairData
 right_polynomial symbols marked p = call_polynomial symbols p.metas (marked p.right_fun) (tms_of p.right)
 
 -- the sides of a pair are well made, and the left one covers the right one (Fuhs and Kop 2012)
-pub record PairIsCovered (S : Symbols) (rules : List RewriteRule) (symbols : List Interpretation) (marked target : ℕ → ℕ) (p : PairData) : Type 0 where
+pub record PairIsCovered (S : Symbols) (rules : List RewriteRule) (symbols : List Interpretation) (marked target : ℕ → ℕ) (p : PairData)
+    : Type 0 where
   pub left : IsMarkedSide S symbols p.metas (marked p.left_fun) (marked_types S rules p.left_fun) (target p.left_fun) (tms_of p.left)
   pub right : IsMarkedSide S symbols p.metas (marked p.right_fun) (marked_types S rules p.right_fun) (target p.right_fun) (tms_of p.right)
   pub moves : List Transfer
@@ -38,7 +39,8 @@ pub record PairIsCovered (S : Symbols) (rules : List RewriteRule) (symbols : Lis
 
 -- the left side of the pair covers the right one strictly
 abbrev pub PairIsStrictlyCovered : List Interpretation → (ℕ → ℕ) → PairData → Type 0
-PairIsStrictlyCovered symbols marked p = (ms : List Transfer) × IsStrictCover (left_polynomial symbols marked p) (right_polynomial symbols marked p) ms
+PairIsStrictlyCovered symbols marked p =
+    (ms : List Transfer) × IsStrictCover (left_polynomial symbols marked p) (right_polynomial symbols marked p) ms
 
 -- the pair is one of those with the numbers of the set
 abbrev pub IsOneOf : List PairData → List ℕ → PairData → Type 0
