@@ -1,0 +1,33 @@
+-- What a value stands for, by its list of items.
+use Rattle.std.proofs.Common.{◌≡◌, ℕ, List, [], ◌∷◌, refl, ap, ◌∙◌}
+use Rattle.wh_hopoly.specs.Polynomials.{Polynomial, zero_poly, plus, Factors, no_factors, times, Arguments, no_arguments, argument}
+use Rattle.wh_hopoly.specs.declared.polynomial.Poly.{Poly, Poly', is-Poly', out-Poly, Row_of-Monomial, end_of-Monomial, more_of-Monomial, items-the_row-Monomial, items_hidden-the_row-Monomial-1}
+use Rattle.wh_hopoly.specs.declared.polynomial.Monomial.{Monomial, Monomial', out-Monomial}
+use Rattle.wh_hopoly.specs.declared.polynomial.Atoms.{Atoms, Atoms', is-Atoms', out-Atoms, Row_of-Atom, end_of-Atom, more_of-Atom, items-the_row-Atom, items_hidden-the_row-Atom-0}
+use Rattle.wh_hopoly.specs.declared.polynomial.Atom.{Atom, Atom', out-Atom}
+use Rattle.wh_hopoly.specs.declared.polynomial.Polys.{Polys, Polys', is-Polys', out-Polys, Row_of-Poly, end_of-Poly, more_of-Poly, items-the_row-Poly, items_hidden-the_row-Poly-2}
+use Rattle.wh_hopoly.specs.declared.polynomial.Atom.TheBlock.{hidden-the_row-Monomial-1, hidden-the_row-Atom-0, hidden-the_row-Poly-2}
+use Rattle.wh_hopoly.specs.Erase.{poly, sum_row, atoms, product_row, polys, arguments_row, monomials, factors, list, sum_of, product_of, arguments_of}
+
+sum_items : (n : _) (ms : Row_of-Monomial n) → sum_row ms ≡ sum_of (items-the_row-Monomial n ms)
+unfolding out-Monomial denote.Hole.Carrier.out
+sum_items n end_of-Monomial = refl
+sum_items n (more_of-Monomial (Monomial' c us) ms) = ap (plus c (atoms us)) (sum_items _ ms)
+
+product_items : (n : _) (us : Row_of-Atom n) → product_row us ≡ product_of (items-the_row-Atom n us)
+unfolding out-Atom denote.Hole.Carrier.out
+product_items n end_of-Atom = refl
+product_items n (more_of-Atom (Atom' x ps) us) = ap (times x (polys ps)) (product_items _ us)
+
+arguments_items : (n : _) (ps : Row_of-Poly n) → arguments_row ps ≡ arguments_of (items-the_row-Poly n ps)
+arguments_items n end_of-Poly = refl
+arguments_items n (more_of-Poly p ps) = ap (argument (poly p)) (arguments_items _ ps)
+
+pub poly_is : (p : Poly) → poly p ≡ sum_of (monomials p)
+poly_is p = ap poly (is-Poly' p) ∙ sum_items _ (hidden-the_row-Monomial-1 (out-Poly p).items) ∙ ap sum_of (items_hidden-the_row-Monomial-1 (out-Poly p).items)
+
+pub atoms_is : (us : Atoms) → atoms us ≡ product_of (factors us)
+atoms_is us = ap atoms (is-Atoms' us) ∙ product_items _ (hidden-the_row-Atom-0 (out-Atoms us).items) ∙ ap product_of (items_hidden-the_row-Atom-0 (out-Atoms us).items)
+
+pub polys_is : (ps : Polys) → polys ps ≡ arguments_of (list ps)
+polys_is ps = ap polys (is-Polys' ps) ∙ arguments_items _ (hidden-the_row-Poly-2 (out-Polys ps).items) ∙ ap arguments_of (items_hidden-the_row-Poly-2 (out-Polys ps).items)

@@ -1,0 +1,6 @@
+pub mod Polynomials
+pub mod Arithmetic
+pub mod Evaluation
+pub mod Limits
+pub mod Covers
+pub mod Erase

@@ -1,0 +1,46 @@
+//! Laws of normal forms, each the contract of a function that does nothing.
+
+ghost use Rattle.std.specs.Prelude.{List, ◌↔◌, ◌≡◌, ◌++◌};
+ghost use Rattle.std.specs.declared.cmp.Ordering.TheVariants.{Less, Equal};
+ghost use Rattle.std.specs.Ordering.{ordering_reverse};
+ghost use Rattle.wh_types.specs.Ty.{Ty, arguments};
+ghost use Rattle.wh_hopoly.specs.Polynomials.{Polynomial, compare_polynomials, Normal};
+ghost use Rattle.wh_hopoly.specs.Arithmetic.{sum_poly, multiply};
+ghost use Rattle.wh_hopoly.specs.Limits.{Overflows, TooLarge};
+ghost use Rattle.wh_hopoly.specs.Evaluation.{Expression, Interpretation, TypedExpression, NormalInterpretations, type_of, evaluate};
+
+/// The value of a well-typed expression over normal interpretations is normal.
+pub fn values_are_normal()
+    ensures { (symbols : List Interpretation) (scope : List Ty) (e : Expression) → NormalInterpretations symbols → TypedExpression symbols scope e → Normal (scope ++ arguments (type_of symbols scope e)) (evaluate symbols scope e).result }
+{}
+
+/// The sum of two normal polynomials is normal.
+pub fn sums_are_normal()
+    ensures { (scope : List Ty) (p q : Polynomial) → Normal scope p → Normal scope q → Normal scope (sum_poly p q) }
+{}
+
+/// The product of two normal polynomials is normal.
+pub fn products_are_normal()
+    ensures { (scope : List Ty) (p q : Polynomial) → Normal scope p → Normal scope q → Normal scope (multiply p q) }
+{}
+
+/// Two polynomials compare as equal exactly where they are equal.
+pub fn equal_polynomials_compare_as_equal()
+    ensures { (p q : Polynomial) → (compare_polynomials p q ≡ Equal) ↔ (p ≡ q) }
+{}
+
+/// Of two polynomials the other way round the order is the reverse.
+pub fn comparing_is_reversed()
+    ensures { (p q : Polynomial) → compare_polynomials p q ≡ ordering_reverse (compare_polynomials q p) }
+{}
+
+/// A polynomial before a second one, which is before a third, is before the third.
+pub fn comparing_is_transitive()
+    ensures { (p q r : Polynomial) → compare_polynomials p q ≡ Less → compare_polynomials q r ≡ Less → compare_polynomials p r ≡ Less }
+{}
+
+/// A partial sum that exceeds a limit does so in every later one.
+pub fn partial_sums_exceed_in_the_next()
+    ensures overflow { (p q : Polynomial) → Overflows q → Overflows (sum_poly p q) }
+    ensures large { (p q : Polynomial) → TooLarge q → TooLarge (sum_poly p q) }
+{}

@@ -1,0 +1,13 @@
+//! Higher-order polynomials: interpretations of symbols, normal forms of expressions, and when one polynomial is at least another.
+#![tactic(auto)]
+
+mod expression;
+mod laws;
+mod polynomial;
+
+pub use expression::{Expr, Move, Symbol};
+pub use laws::{
+    comparing_is_reversed, comparing_is_transitive, equal_polynomials_compare_as_equal,
+    partial_sums_exceed_in_the_next, products_are_normal, sums_are_normal, values_are_normal,
+};
+pub use polynomial::{Atom, Atoms, Monomial, Poly, Polys};
