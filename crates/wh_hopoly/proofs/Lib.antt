@@ -1,7 +1,11 @@
-pub mod Order
-pub mod Merge
-pub mod Replace
-pub mod Value
-pub mod Limits
+pub mod OrderLaws
+pub mod SumLaws
+pub mod ReplaceLaws
+pub mod ValueLaws
+pub mod LimitLaws
 pub mod Rows
 pub mod Lists
+pub mod Sizes
+pub mod Walks
+pub mod CoverLaws
+pub mod CoverWalk

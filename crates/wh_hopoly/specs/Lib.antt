@@ -4,3 +4,4 @@ pub mod Evaluation
 pub mod Limits
 pub mod Covers
 pub mod Erase
+pub mod Scopes

@@ -1,10 +1,15 @@
 //! Higher-order polynomials: interpretations of symbols, normal forms of expressions, and when one polynomial is at least another.
 #![tactic(auto)]
 
+mod comparing;
+mod covers;
 mod expression;
 mod laws;
 mod polynomial;
+mod scope;
 
+pub use comparing::{order, order_arguments, order_factors};
+pub use covers::at_least;
 pub use expression::{Expr, Move, Symbol};
 pub use laws::{
     comparing_is_reversed, comparing_is_transitive, equal_polynomials_compare_as_equal,

@@ -6,7 +6,7 @@ use Rattle.wh_hopoly.specs.Polynomials.{HasType, Polynomial, zero_poly, plus, Fa
 use Rattle.wh_hopoly.specs.Evaluation.{Run, replace, moved, applied, apply_one, Expression, var, symbol, lambda, apply, Interpretation, added, variable, codomain, interpretation_at, type_of, evaluate, TypedExpression, NormalInterpretations}
 use Rattle.wh_hopoly.specs.Arithmetic.{atom, renumber}
 use Rattle.std.proofs.lemmas.Option.{none-some, same_Some}
-use Rattle.wh_hopoly.proofs.Replace.{at_left, at_right, type_is, HeadOk, normal_replace, Moves, moves_on, normal_renumber}
+use Rattle.wh_hopoly.proofs.ReplaceLaws.{at_left, at_right, type_is, HeadOk, normal_replace, Moves, moves_on, normal_renumber}
 
 at_less : (Γ : List Ty) (i : ℕ) (A : Ty) → HasType Γ i A → i < length Γ
 at_less [] i A a = absurd a

@@ -3,7 +3,7 @@ use Rattle.std.proofs.Common.{◌≡◌, ℕ, ◌+◌, ◌≤◌, ◌<◌, ◌^�
 use Rattle.wh_hopoly.specs.Polynomials.{Polynomial, zero_poly, plus, Factors, compare_factors}
 use Rattle.wh_hopoly.specs.Arithmetic.{by_order, add_monomial, sum_poly}
 use Rattle.wh_hopoly.specs.Limits.{weight, weight_of_factors, nesting, nesting_of_factors, Overflows, TooLarge}
-use Rattle.wh_hopoly.proofs.Order.{factors_equal}
+use Rattle.wh_hopoly.proofs.OrderLaws.{factors_equal}
 
 record More (c : ℕ) (us : Factors) (q r : Polynomial) : Type 0 where
   pub first : 2 ^ 128 ≤ c → Overflows r

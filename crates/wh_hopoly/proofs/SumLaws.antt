@@ -5,7 +5,7 @@ use Rattle.wh_types.specs.Ty.{Ty}
 use Rattle.wh_hopoly.specs.Polynomials.{HasType, Polynomial, zero_poly, plus, Factors, no_factors, times, Arguments, no_arguments, argument, compare_factors, compare_arguments, MonomialBefore, FactorBefore, Sorted, Normal, NormalFactors, NormalArguments}
 use Rattle.wh_hopoly.specs.Arithmetic.{by_order, add_monomial, sum_poly, join_factor, join_factors, scale, multiply}
 use Rattle.std.proofs.lemmas.Cmp.{nat_cmp_total}
-use Rattle.wh_hopoly.proofs.Order.{factors_equal, factors_same, factors_reverse, factors_between, Between, both_reverse, arguments_reverse}
+use Rattle.wh_hopoly.proofs.OrderLaws.{factors_equal, factors_same, factors_reverse, factors_between, Between, both_reverse, arguments_reverse}
 
 -- a list of atoms before all of a sorted polynomial is put in front
 pub add_front : (c : ℕ) (us : Factors) (q : Polynomial) → MonomialBefore us q → add_monomial c us q ≡ plus c us q
