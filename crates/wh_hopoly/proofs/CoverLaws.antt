@@ -1,5 +1,5 @@
 -- At least another, monomial by monomial.
-use Rattle.std.proofs.Common.{◌≡◌, ◌↔◌, ℕ, ◌≤◌, ◌<◌, ◌⊎◌, inl, inr, refl, ap, sym, subst, ◌∙◌, arith, Less, Equal, Greater}
+use Rattle.std.proofs.Common.{◌≡◌, ◌↔◌, ℕ, ◌≤◌, ◌<◌, inl, inr, sym, subst, arith, Less, Equal, Greater}
 use Rattle.wh_hopoly.specs.Polynomials.{Polynomial, zero_poly, plus, Factors, compare_factors, MonomialBefore, Sorted}
 use Rattle.wh_hopoly.specs.Covers.{Has, AtLeast}
 use Rattle.wh_hopoly.proofs.OrderLaws.{factors_equal, factors_same}
@@ -26,20 +26,20 @@ with_first c us p (plus d vs q) h = (inr h.0, with_first c us p q h.1)
 
 -- the three steps of a walk over two sorted polynomials
 pub at_least_less : (c d : ℕ) (us vs : Factors) (p q : Polynomial) → compare_factors us vs ≡ Less → Sorted (plus d vs q)
-  → AtLeast (plus c us p) (plus d vs q) ↔ AtLeast p (plus d vs q)
+    → AtLeast (plus c us p) (plus d vs q) ↔ AtLeast p (plus d vs q)
 at_least_less c d us vs p q o t = (without_first c us p (plus d vs q) o t, with_first c us p (plus d vs q))
 
 pub at_least_equal : (c d : ℕ) (us vs : Factors) (p q : Polynomial) → compare_factors us vs ≡ Equal → d ≤ c → Sorted (plus d vs q)
-  → AtLeast (plus c us p) (plus d vs q) ↔ AtLeast p q
+    → AtLeast (plus c us p) (plus d vs q) ↔ AtLeast p q
 at_least_equal c d us vs p q o l t = let e = factors_equal us vs o in
-  (λ h. without_first c us p q (subst (λ us. MonomialBefore us q) (sym e) t.0) t.1 h.1, λ h. (inl (e, l), with_first c us p q h))
+    (λ h. without_first c us p q (subst (λ us. MonomialBefore us q) (sym e) t.0) t.1 h.1, λ h. (inl (e, l), with_first c us p q h))
 
 pub not_at_least_equal : (c d : ℕ) (us vs : Factors) (p q : Polynomial) → compare_factors us vs ≡ Equal → c < d → Sorted (plus c us p)
-  → AtLeast (plus c us p) (plus d vs q) → ⊥
+    → AtLeast (plus c us p) (plus d vs q) → ⊥
 not_at_least_equal c d us vs p q o l s (inl e, h) = let k = e.1 in omega (arith, k, l)
 not_at_least_equal c d us vs p q o l s (inr k, h) = let b = before_has us p d vs s.0 s.1 k in grind (arith, b, o)
 
 pub not_at_least_greater : (c d : ℕ) (us vs : Factors) (p q : Polynomial) → compare_factors us vs ≡ Greater → Sorted (plus c us p)
-  → AtLeast (plus c us p) (plus d vs q) → ⊥
+    → AtLeast (plus c us p) (plus d vs q) → ⊥
 not_at_least_greater c d us vs p q o s (inl e, h) = let k = subst (λ vs. compare_factors us vs ≡ Equal) e.0 (factors_same us) in grind (arith, k, o)
 not_at_least_greater c d us vs p q o s (inr k, h) = let b = before_has us p d vs s.0 s.1 k in grind (arith, b, o)

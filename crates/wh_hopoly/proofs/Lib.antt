@@ -9,3 +9,5 @@ pub mod Sizes
 pub mod Walks
 pub mod CoverLaws
 pub mod CoverWalk
+pub mod ScopeLaws
+pub mod NormalWalk

@@ -1,11 +1,11 @@
 -- What a value stands for, by its list of items.
-use Rattle.std.proofs.Common.{◌≡◌, ℕ, List, [], ◌∷◌, refl, ap, ap₂, sym, ◌∙◌}
-use Rattle.wh_hopoly.specs.Polynomials.{Polynomial, zero_poly, plus, Factors, no_factors, times, Arguments, no_arguments, argument, compare_polynomials, compare_factors, compare_arguments}
-use Rattle.wh_hopoly.specs.declared.polynomial.Poly.{Poly, Poly', is-Poly', out-Poly, Row_of-Monomial, end_of-Monomial, more_of-Monomial, items-the_row-Monomial, items_hidden-the_row-Monomial-1}
+use Rattle.std.proofs.Common.{◌≡◌, List, refl, ap, ap₂, sym, ◌∙◌}
+use Rattle.wh_hopoly.specs.Polynomials.{plus, times, argument, compare_polynomials, compare_factors, compare_arguments}
+use Rattle.wh_hopoly.specs.declared.polynomial.Poly.{Poly, is-Poly', out-Poly, Row_of-Monomial, end_of-Monomial, more_of-Monomial, items-the_row-Monomial, items_hidden-the_row-Monomial-1}
 use Rattle.wh_hopoly.specs.declared.polynomial.Monomial.{Monomial, Monomial', out-Monomial}
-use Rattle.wh_hopoly.specs.declared.polynomial.Atoms.{Atoms, Atoms', is-Atoms', out-Atoms, Row_of-Atom, end_of-Atom, more_of-Atom, items-the_row-Atom, items_hidden-the_row-Atom-0}
+use Rattle.wh_hopoly.specs.declared.polynomial.Atoms.{Atoms, is-Atoms', out-Atoms, Row_of-Atom, end_of-Atom, more_of-Atom, items-the_row-Atom, items_hidden-the_row-Atom-0}
 use Rattle.wh_hopoly.specs.declared.polynomial.Atom.{Atom, Atom', out-Atom}
-use Rattle.wh_hopoly.specs.declared.polynomial.Polys.{Polys, Polys', is-Polys', out-Polys, Row_of-Poly, end_of-Poly, more_of-Poly, items-the_row-Poly, items_hidden-the_row-Poly-2}
+use Rattle.wh_hopoly.specs.declared.polynomial.Polys.{Polys, is-Polys', out-Polys, Row_of-Poly, end_of-Poly, more_of-Poly, items-the_row-Poly, items_hidden-the_row-Poly-2}
 use Rattle.wh_hopoly.specs.declared.polynomial.Atom.TheBlock.{hidden-the_row-Monomial-1, hidden-the_row-Atom-0, hidden-the_row-Poly-2}
 use Rattle.wh_hopoly.specs.Erase.{poly, sum_row, atoms, product_row, polys, arguments_row, monomials, factors, list, sum_of, product_of, arguments_of}
 

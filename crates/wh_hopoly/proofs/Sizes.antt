@@ -1,5 +1,5 @@
 -- The measure of a walk over polynomials: a part is smaller than the whole.
-use Rattle.std.proofs.Common.{◌≡◌, ℕ, zero, suc, ◌+◌, ◌<◌, ◌≤◌, List, [], ◌∷◌, length, get_or, refl, ap, sym, subst, ◌∙◌, arith}
+use Rattle.std.proofs.Common.{◌≡◌, ℕ, zero, suc, ◌+◌, ◌<◌, List, [], ◌∷◌, length, get_or, ap, sym, subst, ◌∙◌, arith}
 use Rattle.wh_hopoly.specs.Polynomials.{Polynomial, zero_poly, plus, Factors, no_factors, times, Arguments, no_arguments, argument}
 use Rattle.wh_hopoly.specs.declared.polynomial.Poly.{Poly}
 use Rattle.wh_hopoly.specs.declared.polynomial.Monomial.{Monomial, out-Monomial}
@@ -39,11 +39,11 @@ size_in_arguments (x ∷ xs) (suc i) p h e = let k = size_in_arguments xs i p (o
 
 -- the same where the list is that of a value
 pub smaller_factors : (p : Poly) (xs : List Monomial) (i : ℕ) (m : Monomial) → xs ≡ monomials p → i < length xs → m ≡ get_or xs i m
-  → size_of_factors (atoms (out-Monomial m).atoms) < size (poly p)
+    → size_of_factors (atoms (out-Monomial m).atoms) < size (poly p)
 smaller_factors p xs i m l h e = subst (λ q. size_of_factors (atoms (out-Monomial m).atoms) < size q) (ap sum_of l ∙ sym (poly_is p)) (size_in_sum xs i m h e)
 
 pub smaller_arguments : (us : Atoms) (xs : List Atom) (i : ℕ) (u : Atom) → xs ≡ factors us → i < length xs → u ≡ get_or xs i u
-  → size_of_arguments (polys (out-Atom u).args) < size_of_factors (atoms us)
+    → size_of_arguments (polys (out-Atom u).args) < size_of_factors (atoms us)
 smaller_arguments us xs i u l h e = subst (λ q. size_of_arguments (polys (out-Atom u).args) < size_of_factors q) (ap product_of l ∙ sym (atoms_is us)) (size_in_product xs i u h e)
 
 pub smaller_poly : (ps : Polys) (xs : List Poly) (i : ℕ) (p : Poly) → xs ≡ list ps → i < length xs → p ≡ get_or xs i p → size (poly p) < size_of_arguments (polys ps)

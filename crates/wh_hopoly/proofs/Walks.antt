@@ -1,9 +1,9 @@
 -- One step of a walk over the items of a polynomial, of its factors or of its arguments, and a walk over two of them.
-use Rattle.std.proofs.Common.{◌≡◌, ℕ, zero, suc, ◌+◌, ◌<◌, ◌≤◌, List, [], ◌∷◌, length, drop, get_or, refl, ap, ap₂, sym, subst, ◌∙◌, arith, Bool, true, false, Ordering, Less, Equal, Greater, nat_cmp}
+use Rattle.std.proofs.Common.{◌≡◌, ℕ, zero, suc, ◌+◌, ◌<◌, ◌≤◌, List, [], ◌∷◌, length, drop, get_or, refl, ap, ap₂, sym, ◌∙◌, arith, true, Ordering, Less, Equal, Greater, nat_cmp}
 use Rattle.std.specs.Ordering.{ordering_then, is_ne}
 use Rattle.std.proofs.Math.Seq.{drop-cons}
 use Rattle.std.proofs.Math.ListN.{drop_of_length-le}
-use Rattle.wh_hopoly.specs.Polynomials.{Polynomial, zero_poly, plus, Factors, no_factors, times, Arguments, no_arguments, argument, compare_polynomials, compare_factors, compare_factor, compare_arguments}
+use Rattle.wh_hopoly.specs.Polynomials.{zero_poly, plus, no_factors, times, no_arguments, argument, compare_polynomials, compare_factors, compare_factor, compare_arguments}
 use Rattle.wh_hopoly.specs.declared.polynomial.Poly.{Poly}
 use Rattle.wh_hopoly.specs.declared.polynomial.Monomial.{Monomial, out-Monomial}
 use Rattle.wh_hopoly.specs.declared.polynomial.Atom.{Atom, out-Atom}
@@ -14,15 +14,15 @@ drop_next xs i x h e = drop-cons xs i x h ∙ ap₂ (λ y ys. y ∷ ys) (sym e) 
 
 -- the item at i, and what is behind it
 pub sum_drop : (xs : List Monomial) (i : ℕ) (m : Monomial) → i < length xs → m ≡ get_or xs i m
-  → sum_of (drop i xs) ≡ plus (out-Monomial m).coefficient (atoms (out-Monomial m).atoms) (sum_of (drop (i + 1) xs))
+    → sum_of (drop i xs) ≡ plus (out-Monomial m).coefficient (atoms (out-Monomial m).atoms) (sum_of (drop (i + 1) xs))
 sum_drop xs i m h e = ap sum_of (drop_next xs i m h e)
 
 pub product_drop : (xs : List Atom) (i : ℕ) (u : Atom) → i < length xs → u ≡ get_or xs i u
-  → product_of (drop i xs) ≡ times (out-Atom u).head (polys (out-Atom u).args) (product_of (drop (i + 1) xs))
+    → product_of (drop i xs) ≡ times (out-Atom u).head (polys (out-Atom u).args) (product_of (drop (i + 1) xs))
 product_drop xs i u h e = ap product_of (drop_next xs i u h e)
 
 pub arguments_drop : (xs : List Poly) (i : ℕ) (p : Poly) → i < length xs → p ≡ get_or xs i p
-  → arguments_of (drop i xs) ≡ argument (poly p) (arguments_of (drop (i + 1) xs))
+    → arguments_of (drop i xs) ≡ argument (poly p) (arguments_of (drop (i + 1) xs))
 arguments_drop xs i p h e = ap arguments_of (drop_next xs i p h e)
 
 -- past the end nothing is left
@@ -48,35 +48,35 @@ then_assoc Greater u v = refl
 
 -- what two walks with one index have before them
 pub sums_at : (xs ys : List Monomial) (i : ℕ) (x y : Monomial) → i < length xs → i < length ys → x ≡ get_or xs i x → y ≡ get_or ys i y
-  → compare_polynomials (sum_of (drop i xs)) (sum_of (drop i ys))
+    → compare_polynomials (sum_of (drop i xs)) (sum_of (drop i ys))
     ≡ ordering_then (ordering_then (compare_factors (atoms (out-Monomial x).atoms) (atoms (out-Monomial y).atoms)) (nat_cmp (out-Monomial x).coefficient (out-Monomial y).coefficient))
-        (compare_polynomials (sum_of (drop (i + 1) xs)) (sum_of (drop (i + 1) ys)))
-sums_at xs ys i x y h k ex ey = ap₂ compare_polynomials (sum_drop xs i x h ex) (sum_drop ys i y k ey) 
-  ∙ then_assoc (compare_factors (atoms (out-Monomial x).atoms) (atoms (out-Monomial y).atoms)) (nat_cmp (out-Monomial x).coefficient (out-Monomial y).coefficient)
-      (compare_polynomials (sum_of (drop (i + 1) xs)) (sum_of (drop (i + 1) ys)))
+    (compare_polynomials (sum_of (drop (i + 1) xs)) (sum_of (drop (i + 1) ys)))
+sums_at xs ys i x y h k ex ey = ap₂ compare_polynomials (sum_drop xs i x h ex) (sum_drop ys i y k ey)
+    ∙ then_assoc (compare_factors (atoms (out-Monomial x).atoms) (atoms (out-Monomial y).atoms)) (nat_cmp (out-Monomial x).coefficient (out-Monomial y).coefficient)
+    (compare_polynomials (sum_of (drop (i + 1) xs)) (sum_of (drop (i + 1) ys)))
 
 pub products_at : (xs ys : List Atom) (i : ℕ) (x y : Atom) → i < length xs → i < length ys → x ≡ get_or xs i x → y ≡ get_or ys i y
-  → compare_factors (product_of (drop i xs)) (product_of (drop i ys))
+    → compare_factors (product_of (drop i xs)) (product_of (drop i ys))
     ≡ ordering_then (compare_factor (out-Atom x).head (polys (out-Atom x).args) (out-Atom y).head (polys (out-Atom y).args))
-        (compare_factors (product_of (drop (i + 1) xs)) (product_of (drop (i + 1) ys)))
+    (compare_factors (product_of (drop (i + 1) xs)) (product_of (drop (i + 1) ys)))
 products_at xs ys i x y h k ex ey = ap₂ compare_factors (product_drop xs i x h ex) (product_drop ys i y k ey)
 
 pub arguments_at : (xs ys : List Poly) (i : ℕ) (x y : Poly) → i < length xs → i < length ys → x ≡ get_or xs i x → y ≡ get_or ys i y
-  → compare_arguments (arguments_of (drop i xs)) (arguments_of (drop i ys))
+    → compare_arguments (arguments_of (drop i xs)) (arguments_of (drop i ys))
     ≡ ordering_then (compare_polynomials (poly x) (poly y)) (compare_arguments (arguments_of (drop (i + 1) xs)) (arguments_of (drop (i + 1) ys)))
 arguments_at xs ys i x y h k ex ey = ap₂ compare_arguments (arguments_drop xs i x h ex) (arguments_drop ys i y k ey)
 
 -- and what they have where one of them ends
 pub sums_end_right : (xs ys : List Monomial) (i : ℕ) (x : Monomial) → i < length xs → length ys ≤ i → x ≡ get_or xs i x
-  → compare_polynomials (sum_of (drop i xs)) (sum_of (drop i ys)) ≡ Greater
+    → compare_polynomials (sum_of (drop i xs)) (sum_of (drop i ys)) ≡ Greater
 sums_end_right xs ys i x h k e = ap₂ compare_polynomials (sum_drop xs i x h e) (sum_ended ys i k)
 
 pub products_end_right : (xs ys : List Atom) (i : ℕ) (x : Atom) → i < length xs → length ys ≤ i → x ≡ get_or xs i x
-  → compare_factors (product_of (drop i xs)) (product_of (drop i ys)) ≡ Greater
+    → compare_factors (product_of (drop i xs)) (product_of (drop i ys)) ≡ Greater
 products_end_right xs ys i x h k e = ap₂ compare_factors (product_drop xs i x h e) (product_ended ys i k)
 
 pub arguments_end_right : (xs ys : List Poly) (i : ℕ) (x : Poly) → i < length xs → length ys ≤ i → x ≡ get_or xs i x
-  → compare_arguments (arguments_of (drop i xs)) (arguments_of (drop i ys)) ≡ Greater
+    → compare_arguments (arguments_of (drop i xs)) (arguments_of (drop i ys)) ≡ Greater
 arguments_end_right xs ys i x h k e = ap₂ compare_arguments (arguments_drop xs i x h e) (arguments_ended ys i k)
 
 -- a list that is left over

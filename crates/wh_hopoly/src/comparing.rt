@@ -24,7 +24,11 @@ pub fn order(a: &Poly, b: &Poly) -> Ordering
             return both;
         }
     }
-    if items.len() < others.len() { Ordering::Less } else { Ordering::Equal }
+    if items.len() < others.len() {
+        Ordering::Less
+    } else {
+        Ordering::Equal
+    }
 }
 
 /// The order of two lists of factors: by their factors, one by its variable's number, then by its arguments.
@@ -44,7 +48,11 @@ pub fn order_factors(a: &Atoms, b: &Atoms) -> Ordering
             return both;
         }
     }
-    if items.len() < others.len() { Ordering::Less } else { Ordering::Equal }
+    if items.len() < others.len() {
+        Ordering::Less
+    } else {
+        Ordering::Equal
+    }
 }
 
 /// The order of two lists of arguments, from left to right.
@@ -62,5 +70,9 @@ pub fn order_arguments(a: &Polys, b: &Polys) -> Ordering
             return first;
         }
     }
-    if items.len() < others.len() { Ordering::Less } else { Ordering::Equal }
+    if items.len() < others.len() {
+        Ordering::Less
+    } else {
+        Ordering::Equal
+    }
 }

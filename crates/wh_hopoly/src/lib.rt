@@ -5,6 +5,7 @@ mod comparing;
 mod covers;
 mod expression;
 mod laws;
+mod normality;
 mod polynomial;
 mod scope;
 
@@ -15,4 +16,5 @@ pub use laws::{
     comparing_is_reversed, comparing_is_transitive, equal_polynomials_compare_as_equal,
     partial_sums_exceed_in_the_next, products_are_normal, sums_are_normal, values_are_normal,
 };
+pub use normality::is_normal;
 pub use polynomial::{Atom, Atoms, Monomial, Poly, Polys};

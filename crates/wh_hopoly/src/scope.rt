@@ -9,6 +9,7 @@ ghost use Rattle.wh_hopoly.specs.Scopes.{scope_of};
 use wh_types::SimpleType;
 
 /// The types of a scope's variables.
+#[derive(Clone, Copy)]
 pub enum Scope<'a> {
     /// These types.
     Given(&'a [SimpleType]),

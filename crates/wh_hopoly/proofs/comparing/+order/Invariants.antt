@@ -16,14 +16,17 @@ decreases-order_arguments l = size_of_arguments (polys l.a.now)
 abbrev pub invariant-order-loop-i : goal.invariant-order-loop-i
 invariant-order-loop-i l = record {
   within : l.i ≤ length l.others;
-  same : compare_polynomials (sum_of l.items) (sum_of l.others) ≡ compare_polynomials (sum_of (drop l.i l.items)) (sum_of (drop l.i l.others)) }
+  same : compare_polynomials (sum_of l.items) (sum_of l.others) ≡ compare_polynomials (sum_of (drop l.i l.items)) (sum_of (drop l.i l.others));
+}
 
 abbrev pub invariant-order_factors-loop-i : goal.invariant-order_factors-loop-i
 invariant-order_factors-loop-i l = record {
   within : l.i ≤ length l.others;
-  same : compare_factors (product_of l.items) (product_of l.others) ≡ compare_factors (product_of (drop l.i l.items)) (product_of (drop l.i l.others)) }
+  same : compare_factors (product_of l.items) (product_of l.others) ≡ compare_factors (product_of (drop l.i l.items)) (product_of (drop l.i l.others));
+}
 
 abbrev pub invariant-order_arguments-loop-i : goal.invariant-order_arguments-loop-i
 invariant-order_arguments-loop-i l = record {
   within : l.i ≤ length l.others;
-  same : compare_arguments (arguments_of l.items) (arguments_of l.others) ≡ compare_arguments (arguments_of (drop l.i l.items)) (arguments_of (drop l.i l.others)) }
+  same : compare_arguments (arguments_of l.items) (arguments_of l.others) ≡ compare_arguments (arguments_of (drop l.i l.items)) (arguments_of (drop l.i l.others));
+}
