@@ -11,3 +11,4 @@ pub mod CoverLaws
 pub mod CoverWalk
 pub mod ScopeLaws
 pub mod NormalWalk
+pub mod Pushes

@@ -2,6 +2,7 @@
 #![tactic(auto)]
 
 mod comparing;
+mod copying;
 mod covers;
 mod expression;
 mod laws;
@@ -10,6 +11,7 @@ mod polynomial;
 mod scope;
 
 pub use comparing::{order, order_arguments, order_factors};
+pub use copying::{copy, copy_arguments, copy_factors};
 pub use covers::at_least;
 pub use expression::{Expr, Move, Symbol};
 pub use laws::{
