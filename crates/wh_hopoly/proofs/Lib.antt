@@ -12,3 +12,4 @@ pub mod CoverWalk
 pub mod ScopeLaws
 pub mod NormalWalk
 pub mod Pushes
+pub mod MergeWalk

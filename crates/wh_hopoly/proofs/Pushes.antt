@@ -2,16 +2,13 @@
 use Rattle.std.proofs.Common.{◌≡◌, ℕ, ◌+◌, ◌<◌, List, [], ◌∷◌, ◌++◌, refl, ap, ap₂, sym, ◌∙◌, arith, length, take, get_or, add-one}
 use Rattle.std.proofs.Math.Seq.{take-suc}
 use Rattle.wh_hopoly.specs.Polynomials.{Polynomial, zero_poly, plus, Factors, no_factors, times, Arguments, no_arguments, argument}
+use Rattle.wh_hopoly.specs.Arithmetic.{followed_by}
 use Rattle.wh_hopoly.specs.declared.polynomial.Poly.{Poly}
 use Rattle.wh_hopoly.specs.declared.polynomial.Monomial.{Monomial, out-Monomial}
 use Rattle.wh_hopoly.specs.declared.polynomial.Atom.{Atom, out-Atom}
 use Rattle.wh_hopoly.specs.Erase.{poly, atoms, polys, sum_of, product_of, arguments_of}
 
--- the items of one polynomial and then those of another
-abbrev pub followed_by : Polynomial → Polynomial → Polynomial
-followed_by zero_poly q = q
-followed_by (plus c us p) q = plus c us (followed_by p q)
-
+-- the items of one list, and then those of another
 abbrev pub factors_followed_by : Factors → Factors → Factors
 factors_followed_by no_factors vs = vs
 factors_followed_by (times x ps us) vs = times x ps (factors_followed_by us vs)
@@ -35,11 +32,15 @@ arguments_of_append (x ∷ xs) ys = ap (argument (poly x)) (arguments_of_append 
 one_more : {A : Type 0} (xs : List A) (i : ℕ) (x : A) → i < length xs → x ≡ get_or xs i x → take (i + 1) xs ≡ take i xs ++ x ∷ []
 one_more xs i x h e = rw (add-one, take-suc xs i x h) (ap (λ y. take i xs ++ y ∷ []) (sym e))
 
+pub sum_one_more : (xs : List Monomial) (i : ℕ) (m : Monomial) → i < length xs → m ≡ get_or xs i m
+  → sum_of (take (i + 1) xs) ≡ followed_by (sum_of (take i xs)) (plus (out-Monomial m).coefficient (atoms (out-Monomial m).atoms) zero_poly)
+sum_one_more xs i m h e = ap sum_of (one_more xs i m h e) ∙ sum_of_append (take i xs) (m ∷ [])
+
 pub sum_push : (out new xs : List Monomial) (i : ℕ) (r m : Monomial) → sum_of out ≡ sum_of (take i xs) → new ≡ out ++ r ∷ []
   → (out-Monomial r).coefficient ≡ (out-Monomial m).coefficient → atoms (out-Monomial r).atoms ≡ atoms (out-Monomial m).atoms
   → i < length xs → m ≡ get_or xs i m → sum_of new ≡ sum_of (take (i + 1) xs)
 sum_push out new xs i r m same pushed ec eu h e = ap sum_of pushed ∙ sum_of_append out (r ∷ []) ∙ ap₂ followed_by same (ap₂ (λ c us. plus c us zero_poly) ec eu)
-  ∙ sym (ap sum_of (one_more xs i m h e) ∙ sum_of_append (take i xs) (m ∷ []))
+  ∙ sym (sum_one_more xs i m h e)
 
 pub product_push : (out new xs : List Atom) (i : ℕ) (r u : Atom) → product_of out ≡ product_of (take i xs) → new ≡ out ++ r ∷ []
   → (out-Atom r).head ≡ (out-Atom u).head → polys (out-Atom r).args ≡ polys (out-Atom u).args

@@ -63,3 +63,8 @@ constant c = plus c no_factors zero_poly
 -- a variable with arguments as a polynomial (ours)
 abbrev pub atom : ℕ → Arguments → Polynomial
 atom x ps = plus 1 (times x ps no_factors) zero_poly
+
+-- the monomials of one polynomial, and then those of another (ours)
+abbrev pub followed_by : Polynomial → Polynomial → Polynomial
+followed_by zero_poly q = q
+followed_by (plus c us p) q = plus c us (followed_by p q)

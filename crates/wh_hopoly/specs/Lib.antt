@@ -4,4 +4,5 @@ pub mod Evaluation
 pub mod Limits
 pub mod Covers
 pub mod Erase
+pub mod Excesses
 pub mod Scopes

@@ -4,15 +4,18 @@
 mod comparing;
 mod copying;
 mod covers;
+mod excess;
 mod expression;
 mod laws;
 mod normality;
 mod polynomial;
 mod scope;
+mod sums;
 
 pub use comparing::{order, order_arguments, order_factors};
 pub use copying::{copy, copy_arguments, copy_factors};
 pub use covers::at_least;
+pub use excess::Excess;
 pub use expression::{Expr, Move, Symbol};
 pub use laws::{
     comparing_is_reversed, comparing_is_transitive, equal_polynomials_compare_as_equal,
@@ -20,3 +23,4 @@ pub use laws::{
 };
 pub use normality::is_normal;
 pub use polynomial::{Atom, Atoms, Monomial, Poly, Polys};
+pub use sums::sum;
