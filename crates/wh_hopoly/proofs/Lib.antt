@@ -13,3 +13,4 @@ pub mod ScopeLaws
 pub mod NormalWalk
 pub mod Pushes
 pub mod MergeWalk
+pub mod CoefficientLaws

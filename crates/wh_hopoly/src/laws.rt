@@ -24,6 +24,22 @@ pub fn products_are_normal()
     ensures { (scope : List Ty) (p q : Polynomial) → Normal scope p → Normal scope q → Normal scope (multiply p q) }
 {}
 
+/// In a sum of normal polynomials their order does not matter.
+pub fn sums_commute()
+    ensures { (scope : List Ty) (p q : Polynomial) → Normal scope p → Normal scope q → sum_poly p q ≡ sum_poly q p }
+{}
+
+/// Nor does it matter which are added first.
+pub fn sums_associate()
+    ensures { (scope : List Ty) (p q r : Polynomial) → Normal scope p → Normal scope q → Normal scope r → sum_poly (sum_poly p q) r ≡ sum_poly p (sum_poly q r) }
+{}
+
+/// What exceeds a limit does so in each sum with a normal polynomial.
+pub fn parts_of_sums_exceed_in_them()
+    ensures overflow { (p q : Polynomial) → Overflows p → Overflows (sum_poly p q) }
+    ensures large { (scope : List Ty) (p q : Polynomial) → Normal scope p → Normal scope q → TooLarge p → TooLarge (sum_poly p q) }
+{}
+
 /// Two polynomials compare as equal exactly where they are equal.
 pub fn equal_polynomials_compare_as_equal()
     ensures { (p q : Polynomial) → (compare_polynomials p q ≡ Equal) ↔ (p ≡ q) }
