@@ -14,3 +14,4 @@ pub mod NormalWalk
 pub mod Pushes
 pub mod MergeWalk
 pub mod CoefficientLaws
+pub mod PartLaws

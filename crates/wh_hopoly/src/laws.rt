@@ -1,13 +1,14 @@
 //! Laws of normal forms, each the contract of a function that does nothing.
 
-ghost use Rattle.std.specs.Prelude.{List, ◌↔◌, ◌≡◌, ◌++◌};
+ghost use Rattle.std.specs.Prelude.{ℕ, ◌<◌, List, ◌↔◌, ◌≡◌, ◌++◌};
 ghost use Rattle.std.specs.declared.cmp.Ordering.TheVariants.{Less, Equal};
 ghost use Rattle.std.specs.Ordering.{ordering_reverse};
 ghost use Rattle.wh_types.specs.Ty.{Ty, arguments};
 ghost use Rattle.wh_hopoly.specs.Polynomials.{Polynomial, compare_polynomials, Normal};
 ghost use Rattle.wh_hopoly.specs.Arithmetic.{sum_poly, multiply};
 ghost use Rattle.wh_hopoly.specs.Limits.{Overflows, TooLarge};
-ghost use Rattle.wh_hopoly.specs.Evaluation.{Expression, Interpretation, TypedExpression, NormalInterpretations, type_of, evaluate};
+ghost use Rattle.wh_hopoly.specs.Evaluation.{Expression, Interpretation, TypedExpression, NormalInterpretations, type_of, evaluate, Values};
+ghost use Rattle.wh_hopoly.specs.Parts.{parts, ValueOfPart};
 
 /// The value of a well-typed expression over normal interpretations is normal.
 pub fn values_are_normal()
@@ -59,4 +60,9 @@ pub fn comparing_is_transitive()
 pub fn partial_sums_exceed_in_the_next()
     ensures overflow { (p q : Polynomial) → Overflows q → Overflows (sum_poly p q) }
     ensures large { (p q : Polynomial) → TooLarge q → TooLarge (sum_poly p q) }
+{}
+
+/// The values of an evaluation are those that the rules of its parts give.
+pub fn values_are_those_of_the_parts()
+    ensures { (symbols : List Interpretation) (scope : List Ty) (e : Expression) (w : Polynomial) → Values symbols scope e w ↔ ((k : ℕ) × (k < parts e) × ValueOfPart symbols scope e k w) }
 {}
