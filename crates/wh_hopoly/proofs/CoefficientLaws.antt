@@ -1,5 +1,5 @@
 -- The coefficient of a list of factors as a function: sums add it, and normal polynomials with equal coefficients are equal.
-use Rattle.std.proofs.Common.{List, ◌≡◌, ℕ, ◌+◌, ◌≤◌, ◌<◌, refl, ap, sym, subst, ◌∙◌, arith, Ordering, Less, Equal, Greater}
+use Rattle.std.proofs.Common.{List, ◌≡◌, ℕ, ◌+◌, ◌≤◌, refl, ap, sym, subst, ◌∙◌, arith, Ordering, Less, Equal, Greater}
 use Rattle.std.specs.Ordering.{ordering_reverse}
 use Rattle.wh_types.specs.Ty.{Ty}
 use Rattle.wh_hopoly.specs.Polynomials.{Polynomial, zero_poly, plus, Factors, compare_factors, MonomialBefore, Sorted, Normal}
@@ -30,10 +30,10 @@ coefficient_add ws c us zero_poly = refl
 coefficient_add ws c us (plus d vs q) = go (coefficient_add ws c us q) (compare_factors us vs) refl
   where
     go : coefficient ws (add_monomial c us q) ≡ only_if_equal (compare_factors ws us) c + coefficient ws q → (o : Ordering) → compare_factors us vs ≡ o
-      → coefficient ws (by_order o (plus c us (plus d vs q)) (plus (c + d) vs q) (plus d vs (add_monomial c us q))) ≡ only_if_equal (compare_factors ws us) c + (only_if_equal (compare_factors ws vs) d + coefficient ws q)
+        → coefficient ws (by_order o (plus c us (plus d vs q)) (plus (c + d) vs q) (plus d vs (add_monomial c us q))) ≡ only_if_equal (compare_factors ws us) c + (only_if_equal (compare_factors ws vs) d + coefficient ws q)
     go r Less e = refl
     go r Equal e = subst (λ us. only_if_equal (compare_factors ws vs) (c + d) + coefficient ws q ≡ only_if_equal (compare_factors ws us) c + (only_if_equal (compare_factors ws vs) d + coefficient ws q))
-      (sym (factors_equal us vs e)) (two_parts (compare_factors ws vs) c d (coefficient ws q))
+        (sym (factors_equal us vs e)) (two_parts (compare_factors ws vs) c d (coefficient ws q))
     go r Greater e = swapped (only_if_equal (compare_factors ws us) c) (only_if_equal (compare_factors ws vs) d) (coefficient ws q) (coefficient ws (add_monomial c us q)) r
 
 pub coefficient_sum : (ws : Factors) (p q : Polynomial) → coefficient ws (sum_poly p q) ≡ coefficient ws p + coefficient ws q
@@ -53,7 +53,7 @@ normal_positive Γ (plus c us p) n = (n.0, normal_positive Γ p n.3)
 coefficient_before : (us : Factors) (p : Polynomial) → MonomialBefore us p → Sorted p → coefficient us p ≡ 0
 coefficient_before us zero_poly b s = refl
 coefficient_before us (plus d vs p) b s =
-  ap (λ o. only_if_equal o d + coefficient us p) b ∙ (let e = coefficient_before us p (before_then us vs p b s.0) s.1 in omega (arith, e))
+    ap (λ o. only_if_equal o d + coefficient us p) b ∙ (let e = coefficient_before us p (before_then us vs p b s.0) s.1 in omega (arith, e))
 
 first_coefficient : (c : ℕ) (us : Factors) (p : Polynomial) → MonomialBefore us p → Sorted p → coefficient us (plus c us p) ≡ c
 first_coefficient c us p b s = ap (λ o. only_if_equal o c + coefficient us p) (factors_same us) ∙ (let e = coefficient_before us p b s in omega (arith, e))
@@ -63,7 +63,7 @@ reversed us vs o = factors_reverse vs us ∙ ap ordering_reverse o
 
 -- polynomials with equal coefficients begin with the same factors
 not_first : (c d : ℕ) (us vs : Factors) (p q : Polynomial) → compare_factors us vs ≡ Less → 1 ≤ c → Sorted (plus c us p) → Sorted (plus d vs q)
-  → coefficient us (plus c us p) ≡ coefficient us (plus d vs q) → ⊥
+    → coefficient us (plus c us p) ≡ coefficient us (plus d vs q) → ⊥
 not_first c d us vs p q o l s t e = let a = first_coefficient c us p s.0 s.1 in let b = coefficient_before us (plus d vs q) o t in omega (arith, a, b, l, e)
 
 cancelled : (a m n : ℕ) → a + m ≡ a + n → m ≡ n
@@ -78,13 +78,13 @@ same_coefficients (plus c us p) (plus d vs q) s t l m h = go (λ q. same_coeffic
     go : ((q : Polynomial) → Sorted p → Sorted q → Positive p → Positive q → ((ws : Factors) → coefficient ws p ≡ coefficient ws q) → p ≡ q) → (o : Ordering) → compare_factors us vs ≡ o → plus c us p ≡ plus d vs q
     go r Less e = absurd (not_first c d us vs p q e l.0 s t (h us))
     go r Equal e =
-      let f : us ≡ vs = factors_equal us vs e in
-      let b : MonomialBefore us q = subst (λ us. MonomialBefore us q) (sym f) t.0 in
-      let k : (ws : Factors) → coefficient ws (plus c us p) ≡ coefficient ws (plus d us q) = λ ws. h ws ∙ ap (λ us. coefficient ws (plus d us q)) (sym f) in
-      let i : c ≡ d = sym (first_coefficient c us p s.0 s.1) ∙ k us ∙ first_coefficient d us q b t.1 in
-      let j : p ≡ q = r q s.1 t.1 l.1 m.1 (λ ws. cancelled (only_if_equal (compare_factors ws us) c) (coefficient ws p) (coefficient ws q)
+        let f : us ≡ vs = factors_equal us vs e in
+        let b : MonomialBefore us q = subst (λ us. MonomialBefore us q) (sym f) t.0 in
+        let k : (ws : Factors) → coefficient ws (plus c us p) ≡ coefficient ws (plus d us q) = λ ws. h ws ∙ ap (λ us. coefficient ws (plus d us q)) (sym f) in
+        let i : c ≡ d = sym (first_coefficient c us p s.0 s.1) ∙ k us ∙ first_coefficient d us q b t.1 in
+        let j : p ≡ q = r q s.1 t.1 l.1 m.1 (λ ws. cancelled (only_if_equal (compare_factors ws us) c) (coefficient ws p) (coefficient ws q)
         (k ws ∙ ap (λ d. only_if_equal (compare_factors ws us) d + coefficient ws q) (sym i))) in
-      cc
+        cc
     go r Greater e = absurd (not_first d c vs us q p (reversed us vs e) m.0 t s (sym (h vs)))
 
 equal_normal : (Γ : List Ty) (p q : Polynomial) → Normal Γ p → Normal Γ q → ((ws : Factors) → coefficient ws p ≡ coefficient ws q) → p ≡ q
@@ -92,11 +92,11 @@ equal_normal Γ p q n m h = same_coefficients p q (normal_sorted Γ p n) (normal
 
 pub sum_commutes : (Γ : List Ty) (p q : Polynomial) → Normal Γ p → Normal Γ q → sum_poly p q ≡ sum_poly q p
 sum_commutes Γ p q n m = equal_normal Γ (sum_poly p q) (sum_poly q p) (normal_sum Γ p q n m) (normal_sum Γ q p m n)
-  (λ ws. let a = coefficient_sum ws p q in let b = coefficient_sum ws q p in omega (arith, a, b))
+    (λ ws. let a = coefficient_sum ws p q in let b = coefficient_sum ws q p in omega (arith, a, b))
 
 pub sum_associates : (Γ : List Ty) (p q r : Polynomial) → Normal Γ p → Normal Γ q → Normal Γ r → sum_poly (sum_poly p q) r ≡ sum_poly p (sum_poly q r)
 sum_associates Γ p q r n m o = equal_normal Γ (sum_poly (sum_poly p q) r) (sum_poly p (sum_poly q r)) (normal_sum Γ (sum_poly p q) r (normal_sum Γ p q n m) o) (normal_sum Γ p (sum_poly q r) n (normal_sum Γ q r m o))
-  (λ ws. let a = coefficient_sum ws (sum_poly p q) r in let b = coefficient_sum ws p q in let c = coefficient_sum ws p (sum_poly q r) in let d = coefficient_sum ws q r in omega (arith, a, b, c, d))
+    (λ ws. let a = coefficient_sum ws (sum_poly p q) r in let b = coefficient_sum ws p q in let c = coefficient_sum ws p (sum_poly q r) in let d = coefficient_sum ws q r in omega (arith, a, b, c, d))
 
 -- what is too large on the left is so in the sum
 pub left_large : (Γ : List Ty) (p q : Polynomial) → Normal Γ p → Normal Γ q → TooLarge p → TooLarge (sum_poly p q)

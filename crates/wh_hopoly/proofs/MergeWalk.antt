@@ -1,5 +1,5 @@
 -- A merge of two sorted polynomials: what is out, and the sum of what is left, is the sum.
-use Rattle.std.proofs.Common.{◌≡◌, ℕ, ◌+◌, ◌<◌, ◌≤◌, ◌^◌, ◌⊎◌, inl, inr, List, refl, ap, ap₂, sym, subst, ◌∙◌, arith, length, drop, get_or, Less, Equal, Greater}
+use Rattle.std.proofs.Common.{◌≡◌, ℕ, ◌+◌, ◌<◌, ◌≤◌, ◌^◌, inl, inr, List, refl, ap, ap₂, sym, subst, ◌∙◌, arith, length, drop, get_or, Less, Equal, Greater}
 use Rattle.wh_hopoly.specs.Polynomials.{Polynomial, zero_poly, plus, Factors, compare_factors, Sorted}
 use Rattle.wh_hopoly.specs.Arithmetic.{add_monomial, sum_poly, followed_by}
 use Rattle.wh_hopoly.specs.Limits.{Overflows}
@@ -33,53 +33,57 @@ sum_zero (plus c us p) s = ap (add_monomial c us) (sum_zero p s.1) ∙ add_front
 
 -- one more monomial is out
 stepped : (xs ys : List Monomial) (out new : Polynomial) (i j k l : ℕ) (c : ℕ) (us : Factors) → Merging xs ys out i j → new ≡ followed_by out (plus c us zero_poly)
-  → k ≤ length xs → l ≤ length ys → Sorted (sum_of (drop k xs))
-  → sum_poly (sum_of (drop i xs)) (sum_of (drop j ys)) ≡ plus c us (sum_poly (sum_of (drop k xs)) (sum_of (drop l ys))) → Merging xs ys new k l
-stepped xs ys out new i j k l c us g e hk hl s t = record { left = hk; right = hl; sorted = s;
+    → k ≤ length xs → l ≤ length ys → Sorted (sum_of (drop k xs))
+    → sum_poly (sum_of (drop i xs)) (sum_of (drop j ys)) ≡ plus c us (sum_poly (sum_of (drop k xs)) (sum_of (drop l ys))) → Merging xs ys new k l
+stepped xs ys out new i j k l c us g e hk hl s t = record {
+  left = hk;
+  right = hl;
+  sorted = s;
   total = g.total ∙ ap (followed_by out) t ∙ sym (followed_assoc out (plus c us zero_poly) (sum_poly (sum_of (drop k xs)) (sum_of (drop l ys))))
-    ∙ ap (λ p. followed_by p (sum_poly (sum_of (drop k xs)) (sum_of (drop l ys)))) (sym e) }
+      ∙ ap (λ p. followed_by p (sum_poly (sum_of (drop k xs)) (sum_of (drop l ys)))) (sym e);
+}
 
 sum_at : (xs ys : List Monomial) (i j : ℕ) (x y : Monomial) → i < length xs → j < length ys → x ≡ get_or xs i x → y ≡ get_or ys j y
-  → sum_poly (sum_of (drop i xs)) (sum_of (drop j ys)) ≡ sum_poly (first_of x (sum_of (drop (i + 1) xs))) (first_of y (sum_of (drop (j + 1) ys)))
+    → sum_poly (sum_of (drop i xs)) (sum_of (drop j ys)) ≡ sum_poly (first_of x (sum_of (drop (i + 1) xs))) (first_of y (sum_of (drop (j + 1) ys)))
 sum_at xs ys i j x y h k ex ey = ap₂ sum_poly (sum_drop xs i x h ex) (sum_drop ys j y k ey)
 
 pub merge_starts : (xs ys : List Monomial) (out : Polynomial) → out ≡ zero_poly → Sorted (sum_of xs) → Merging xs ys out 0 0
 merge_starts xs ys out e s = record { left = omega arith; right = omega arith; sorted = s; total = ap (λ p. followed_by p (sum_poly (sum_of xs) (sum_of ys))) (sym e) }
 
 pub merge_less : (xs ys : List Monomial) (out new : Polynomial) (i j : ℕ) (x y : Monomial) → Merging xs ys out i j → i < length xs → j < length ys → x ≡ get_or xs i x → y ≡ get_or ys j y
-  → compare_factors (atoms (out-Monomial x).atoms) (atoms (out-Monomial y).atoms) ≡ Less → new ≡ followed_by out (first_of x zero_poly) → Merging xs ys new (i + 1) j
+    → compare_factors (atoms (out-Monomial x).atoms) (atoms (out-Monomial y).atoms) ≡ Less → new ≡ followed_by out (first_of x zero_poly) → Merging xs ys new (i + 1) j
 merge_less xs ys out new i j x y g h k ex ey o e =
-  let s = subst Sorted (sum_drop xs i x h ex) g.sorted in
-  stepped xs ys out new i j (i + 1) j (out-Monomial x).coefficient (atoms (out-Monomial x).atoms) g e (omega (arith, h)) g.right s.1
+    let s = subst Sorted (sum_drop xs i x h ex) g.sorted in
+    stepped xs ys out new i j (i + 1) j (out-Monomial x).coefficient (atoms (out-Monomial x).atoms) g e (omega (arith, h)) g.right s.1
     (sum_at xs ys i j x y h k ex ey
-     ∙ sum_less (out-Monomial x).coefficient (out-Monomial y).coefficient (atoms (out-Monomial x).atoms) (atoms (out-Monomial y).atoms) (sum_of (drop (i + 1) xs)) (sum_of (drop (j + 1) ys)) o s.0 s.1
-     ∙ ap (λ q. first_of x (sum_poly (sum_of (drop (i + 1) xs)) q)) (sym (sum_drop ys j y k ey)))
+    ∙ sum_less (out-Monomial x).coefficient (out-Monomial y).coefficient (atoms (out-Monomial x).atoms) (atoms (out-Monomial y).atoms) (sum_of (drop (i + 1) xs)) (sum_of (drop (j + 1) ys)) o s.0 s.1
+    ∙ ap (λ q. first_of x (sum_poly (sum_of (drop (i + 1) xs)) q)) (sym (sum_drop ys j y k ey)))
 
 pub merge_greater : (xs ys : List Monomial) (out new : Polynomial) (i j : ℕ) (x y : Monomial) → Merging xs ys out i j → i < length xs → j < length ys → x ≡ get_or xs i x → y ≡ get_or ys j y
-  → compare_factors (atoms (out-Monomial x).atoms) (atoms (out-Monomial y).atoms) ≡ Greater → new ≡ followed_by out (first_of y zero_poly) → Merging xs ys new i (j + 1)
+    → compare_factors (atoms (out-Monomial x).atoms) (atoms (out-Monomial y).atoms) ≡ Greater → new ≡ followed_by out (first_of y zero_poly) → Merging xs ys new i (j + 1)
 merge_greater xs ys out new i j x y g h k ex ey o e =
-  let s = subst Sorted (sum_drop xs i x h ex) g.sorted in
-  stepped xs ys out new i j i (j + 1) (out-Monomial y).coefficient (atoms (out-Monomial y).atoms) g e g.left (omega (arith, k)) g.sorted
+    let s = subst Sorted (sum_drop xs i x h ex) g.sorted in
+    stepped xs ys out new i j i (j + 1) (out-Monomial y).coefficient (atoms (out-Monomial y).atoms) g e g.left (omega (arith, k)) g.sorted
     (sum_at xs ys i j x y h k ex ey
-     ∙ sum_greater (out-Monomial x).coefficient (out-Monomial y).coefficient (atoms (out-Monomial x).atoms) (atoms (out-Monomial y).atoms) (sum_of (drop (i + 1) xs)) (sum_of (drop (j + 1) ys)) o s.0 s.1
-     ∙ ap (λ p. first_of y (sum_poly p (sum_of (drop (j + 1) ys)))) (sym (sum_drop xs i x h ex)))
+    ∙ sum_greater (out-Monomial x).coefficient (out-Monomial y).coefficient (atoms (out-Monomial x).atoms) (atoms (out-Monomial y).atoms) (sum_of (drop (i + 1) xs)) (sum_of (drop (j + 1) ys)) o s.0 s.1
+    ∙ ap (λ p. first_of y (sum_poly p (sum_of (drop (j + 1) ys)))) (sym (sum_drop xs i x h ex)))
 
 sum_both : (xs ys : List Monomial) (i j : ℕ) (x y : Monomial) → Sorted (sum_of (drop i xs)) → i < length xs → j < length ys → x ≡ get_or xs i x → y ≡ get_or ys j y
-  → compare_factors (atoms (out-Monomial x).atoms) (atoms (out-Monomial y).atoms) ≡ Equal
-  → sum_poly (sum_of (drop i xs)) (sum_of (drop j ys))
+    → compare_factors (atoms (out-Monomial x).atoms) (atoms (out-Monomial y).atoms) ≡ Equal
+    → sum_poly (sum_of (drop i xs)) (sum_of (drop j ys))
     ≡ plus ((out-Monomial x).coefficient + (out-Monomial y).coefficient) (atoms (out-Monomial y).atoms) (sum_poly (sum_of (drop (i + 1) xs)) (sum_of (drop (j + 1) ys)))
 sum_both xs ys i j x y g h k ex ey o =
-  let s = subst Sorted (sum_drop xs i x h ex) g in
-  sum_at xs ys i j x y h k ex ey
-  ∙ sum_equal (out-Monomial x).coefficient (out-Monomial y).coefficient (atoms (out-Monomial x).atoms) (atoms (out-Monomial y).atoms) (sum_of (drop (i + 1) xs)) (sum_of (drop (j + 1) ys)) o s.0 s.1
+    let s = subst Sorted (sum_drop xs i x h ex) g in
+    sum_at xs ys i j x y h k ex ey
+    ∙ sum_equal (out-Monomial x).coefficient (out-Monomial y).coefficient (atoms (out-Monomial x).atoms) (atoms (out-Monomial y).atoms) (sum_of (drop (i + 1) xs)) (sum_of (drop (j + 1) ys)) o s.0 s.1
 
 pub merge_equal : (xs ys : List Monomial) (out new : Polynomial) (i j : ℕ) (x y : Monomial) (c : ℕ) → Merging xs ys out i j → i < length xs → j < length ys → x ≡ get_or xs i x → y ≡ get_or ys j y
-  → compare_factors (atoms (out-Monomial x).atoms) (atoms (out-Monomial y).atoms) ≡ Equal → c ≡ (out-Monomial x).coefficient + (out-Monomial y).coefficient
-  → new ≡ followed_by out (plus c (atoms (out-Monomial y).atoms) zero_poly) → Merging xs ys new (i + 1) (j + 1)
+    → compare_factors (atoms (out-Monomial x).atoms) (atoms (out-Monomial y).atoms) ≡ Equal → c ≡ (out-Monomial x).coefficient + (out-Monomial y).coefficient
+    → new ≡ followed_by out (plus c (atoms (out-Monomial y).atoms) zero_poly) → Merging xs ys new (i + 1) (j + 1)
 merge_equal xs ys out new i j x y c g h k ex ey o ec e =
-  stepped xs ys out new i j (i + 1) (j + 1) c (atoms (out-Monomial y).atoms) g e (omega (arith, h)) (omega (arith, k)) (subst Sorted (sum_drop xs i x h ex) g.sorted).1
+    stepped xs ys out new i j (i + 1) (j + 1) c (atoms (out-Monomial y).atoms) g e (omega (arith, h)) (omega (arith, k)) (subst Sorted (sum_drop xs i x h ex) g.sorted).1
     (sum_both xs ys i j x y g.sorted h k ex ey o
-     ∙ ap (λ c. plus c (atoms (out-Monomial y).atoms) (sum_poly (sum_of (drop (i + 1) xs)) (sum_of (drop (j + 1) ys)))) (sym ec))
+    ∙ ap (λ c. plus c (atoms (out-Monomial y).atoms) (sum_poly (sum_of (drop (i + 1) xs)) (sum_of (drop (j + 1) ys)))) (sym ec))
 
 overflows_after : (p : Polynomial) (c : ℕ) (us : Factors) (q : Polynomial) → 2 ^ 128 ≤ c → Overflows (followed_by p (plus c us q))
 overflows_after zero_poly c us q h = inl h
@@ -87,10 +91,10 @@ overflows_after (plus d vs p) c us q h = inr (overflows_after p c us q h)
 
 -- where the addition does not fit, the sum has a coefficient that is too great
 pub merge_overflows : (xs ys : List Monomial) (out : Polynomial) (i j : ℕ) (x y : Monomial) → Merging xs ys out i j → i < length xs → j < length ys → x ≡ get_or xs i x → y ≡ get_or ys j y
-  → compare_factors (atoms (out-Monomial x).atoms) (atoms (out-Monomial y).atoms) ≡ Equal → 2 ^ 128 ≤ (out-Monomial x).coefficient + (out-Monomial y).coefficient
-  → Overflows (sum_poly (sum_of xs) (sum_of ys))
+    → compare_factors (atoms (out-Monomial x).atoms) (atoms (out-Monomial y).atoms) ≡ Equal → 2 ^ 128 ≤ (out-Monomial x).coefficient + (out-Monomial y).coefficient
+    → Overflows (sum_poly (sum_of xs) (sum_of ys))
 merge_overflows xs ys out i j x y g h k ex ey o l =
-  subst Overflows (sym (g.total ∙ ap (followed_by out) (sum_both xs ys i j x y g.sorted h k ex ey o))) (overflows_after out _ _ _ l)
+    subst Overflows (sym (g.total ∙ ap (followed_by out) (sum_both xs ys i j x y g.sorted h k ex ey o))) (overflows_after out _ _ _ l)
 
 -- where one list has ended, the rest of the other one follows
 pub merged_right : (xs ys : List Monomial) (out new : Polynomial) (i j : ℕ) → Merging xs ys out i j → length xs ≤ i → new ≡ followed_by out (sum_of (drop j ys)) → new ≡ sum_poly (sum_of xs) (sum_of ys)

@@ -1,7 +1,7 @@
 -- A list that is built item by item keeps pace with the one that it follows.
-use Rattle.std.proofs.Common.{◌≡◌, ℕ, ◌+◌, ◌<◌, List, [], ◌∷◌, ◌++◌, refl, ap, ap₂, sym, ◌∙◌, arith, length, take, get_or, add-one}
+use Rattle.std.proofs.Common.{◌≡◌, ℕ, ◌+◌, ◌<◌, List, [], ◌∷◌, ◌++◌, refl, ap, ap₂, sym, ◌∙◌, length, take, get_or, add-one}
 use Rattle.std.proofs.Math.Seq.{take-suc}
-use Rattle.wh_hopoly.specs.Polynomials.{Polynomial, zero_poly, plus, Factors, no_factors, times, Arguments, no_arguments, argument}
+use Rattle.wh_hopoly.specs.Polynomials.{zero_poly, plus, Factors, no_factors, times, Arguments, no_arguments, argument}
 use Rattle.wh_hopoly.specs.Arithmetic.{followed_by}
 use Rattle.wh_hopoly.specs.declared.polynomial.Poly.{Poly}
 use Rattle.wh_hopoly.specs.declared.polynomial.Monomial.{Monomial, out-Monomial}
@@ -33,22 +33,22 @@ one_more : {A : Type 0} (xs : List A) (i : ℕ) (x : A) → i < length xs → x 
 one_more xs i x h e = rw (add-one, take-suc xs i x h) (ap (λ y. take i xs ++ y ∷ []) (sym e))
 
 pub sum_one_more : (xs : List Monomial) (i : ℕ) (m : Monomial) → i < length xs → m ≡ get_or xs i m
-  → sum_of (take (i + 1) xs) ≡ followed_by (sum_of (take i xs)) (plus (out-Monomial m).coefficient (atoms (out-Monomial m).atoms) zero_poly)
+    → sum_of (take (i + 1) xs) ≡ followed_by (sum_of (take i xs)) (plus (out-Monomial m).coefficient (atoms (out-Monomial m).atoms) zero_poly)
 sum_one_more xs i m h e = ap sum_of (one_more xs i m h e) ∙ sum_of_append (take i xs) (m ∷ [])
 
 pub sum_push : (out new xs : List Monomial) (i : ℕ) (r m : Monomial) → sum_of out ≡ sum_of (take i xs) → new ≡ out ++ r ∷ []
-  → (out-Monomial r).coefficient ≡ (out-Monomial m).coefficient → atoms (out-Monomial r).atoms ≡ atoms (out-Monomial m).atoms
-  → i < length xs → m ≡ get_or xs i m → sum_of new ≡ sum_of (take (i + 1) xs)
+    → (out-Monomial r).coefficient ≡ (out-Monomial m).coefficient → atoms (out-Monomial r).atoms ≡ atoms (out-Monomial m).atoms
+    → i < length xs → m ≡ get_or xs i m → sum_of new ≡ sum_of (take (i + 1) xs)
 sum_push out new xs i r m same pushed ec eu h e = ap sum_of pushed ∙ sum_of_append out (r ∷ []) ∙ ap₂ followed_by same (ap₂ (λ c us. plus c us zero_poly) ec eu)
-  ∙ sym (sum_one_more xs i m h e)
+    ∙ sym (sum_one_more xs i m h e)
 
 pub product_push : (out new xs : List Atom) (i : ℕ) (r u : Atom) → product_of out ≡ product_of (take i xs) → new ≡ out ++ r ∷ []
-  → (out-Atom r).head ≡ (out-Atom u).head → polys (out-Atom r).args ≡ polys (out-Atom u).args
-  → i < length xs → u ≡ get_or xs i u → product_of new ≡ product_of (take (i + 1) xs)
+    → (out-Atom r).head ≡ (out-Atom u).head → polys (out-Atom r).args ≡ polys (out-Atom u).args
+    → i < length xs → u ≡ get_or xs i u → product_of new ≡ product_of (take (i + 1) xs)
 product_push out new xs i r u same pushed ex ep h e = ap product_of pushed ∙ product_of_append out (r ∷ []) ∙ ap₂ factors_followed_by same (ap₂ (λ x ps. times x ps no_factors) ex ep)
-  ∙ sym (ap product_of (one_more xs i u h e) ∙ product_of_append (take i xs) (u ∷ []))
+    ∙ sym (ap product_of (one_more xs i u h e) ∙ product_of_append (take i xs) (u ∷ []))
 
 pub arguments_push : (out new xs : List Poly) (i : ℕ) (r p : Poly) → arguments_of out ≡ arguments_of (take i xs) → new ≡ out ++ r ∷ [] → poly r ≡ poly p
-  → i < length xs → p ≡ get_or xs i p → arguments_of new ≡ arguments_of (take (i + 1) xs)
+    → i < length xs → p ≡ get_or xs i p → arguments_of new ≡ arguments_of (take (i + 1) xs)
 arguments_push out new xs i r p same pushed ep h e = ap arguments_of pushed ∙ arguments_of_append out (r ∷ []) ∙ ap₂ arguments_followed_by same (ap (λ p. argument p no_arguments) ep)
-  ∙ sym (ap arguments_of (one_more xs i p h e) ∙ arguments_of_append (take i xs) (p ∷ []))
+    ∙ sym (ap arguments_of (one_more xs i p h e) ∙ arguments_of_append (take i xs) (p ∷ []))

@@ -17,7 +17,7 @@ own_values symbols Γ (var x) = (evaluate symbols Γ (var x)).values
 own_values symbols Γ (symbol f) = (evaluate symbols Γ (symbol f)).values
 own_values symbols Γ (lambda A e) = []
 own_values symbols Γ (apply e d) =
-  (apply_one (type_of symbols Γ d) (codomain (type_of symbols Γ e)) Γ (evaluate symbols Γ e).result (evaluate symbols Γ d).result).values
+    (apply_one (type_of symbols Γ d) (codomain (type_of symbols Γ e)) Γ (evaluate symbols Γ e).result (evaluate symbols Γ d).result).values
 
 -- the rule of the part with this preorder number gives the value (ours)
 abbrev pub ValueOfPart : List Interpretation → List Ty → Expression → ℕ → Polynomial → Type 0

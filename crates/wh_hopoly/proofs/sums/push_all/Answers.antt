@@ -13,6 +13,6 @@ loop-item-init c = sym (followed_zero (sum_of (monomials c.args.out.now)))
 
 pub loop-item-preserved : goal.loop-item-preserved
 loop-item-preserved c = c.in_ok-push_copy.ensures
-  ∙ ap (λ p. followed_by p (plus (out-Monomial c.item-item.result).coefficient (atoms (out-Monomial c.item-item.result).atoms) zero_poly)) c.loop-item.invariant
-  ∙ followed_assoc (sum_of (monomials c.args.out.now)) (sum_of (take c.loop-item.item-index c.args.rest.now)) _
-  ∙ ap (followed_by (sum_of (monomials c.args.out.now))) (sym (sum_one_more c.args.rest.now c.loop-item.item-index c.item-item.result c.loop-item-test.true c.item-item.is))
+    ∙ ap (λ p. followed_by p (plus (out-Monomial c.item-item.result).coefficient (atoms (out-Monomial c.item-item.result).atoms) zero_poly)) c.loop-item.invariant
+    ∙ followed_assoc (sum_of (monomials c.args.out.now)) (sum_of (take c.loop-item.item-index c.args.rest.now)) _
+    ∙ ap (followed_by (sum_of (monomials c.args.out.now))) (sym (sum_one_more c.args.rest.now c.loop-item.item-index c.item-item.result c.loop-item-test.true c.item-item.is))
