@@ -1,13 +1,13 @@
 -- The coefficient of a list of factors as a function: sums add it, and normal polynomials with equal coefficients are equal.
-use Rattle.std.proofs.Common.{List, ◌≡◌, ℕ, ◌+◌, ◌≤◌, refl, ap, sym, subst, ◌∙◌, arith, Ordering, Less, Equal, Greater}
+use Rattle.std.proofs.Common.{◌⊎◌, inl, inr, List, ◌≡◌, ℕ, ◌+◌, ◌≤◌, refl, ap, sym, subst, ◌∙◌, arith, Ordering, Less, Equal, Greater}
 use Rattle.std.specs.Ordering.{ordering_reverse}
 use Rattle.wh_types.specs.Ty.{Ty}
 use Rattle.wh_hopoly.specs.Polynomials.{Polynomial, zero_poly, plus, Factors, compare_factors, MonomialBefore, Sorted, Normal}
-use Rattle.wh_hopoly.specs.Arithmetic.{by_order, add_monomial, sum_poly}
-use Rattle.wh_hopoly.specs.Limits.{TooLarge}
+use Rattle.wh_hopoly.specs.Arithmetic.{by_order, add_monomial, sum_poly, scale, multiply}
+use Rattle.wh_hopoly.specs.Limits.{Overflows, TooLarge}
 use Rattle.wh_hopoly.proofs.OrderLaws.{factors_equal, factors_same, factors_reverse}
-use Rattle.wh_hopoly.proofs.SumLaws.{before_then, normal_sorted, normal_sum}
-use Rattle.wh_hopoly.proofs.LimitLaws.{right_large}
+use Rattle.wh_hopoly.proofs.SumLaws.{before_then, normal_sorted, normal_sum, normal_scale, normal_multiply}
+use Rattle.wh_hopoly.proofs.LimitLaws.{left_overflows, right_overflows, right_large}
 
 -- c if the lists of factors compare as equal, and 0 otherwise
 abbrev only_if_equal : Ordering → ℕ → ℕ
@@ -101,3 +101,13 @@ sum_associates Γ p q r n m o = equal_normal Γ (sum_poly (sum_poly p q) r) (sum
 -- what is too large on the left is so in the sum
 pub left_large : (Γ : List Ty) (p q : Polynomial) → Normal Γ p → Normal Γ q → TooLarge p → TooLarge (sum_poly p q)
 left_large Γ p q n m h = subst TooLarge (sum_commutes Γ q p m n) (right_large q p h)
+
+-- a row of a product, and the product without it, exceed in the product
+pub row_overflows : (c : ℕ) (us : Factors) (p q : Polynomial) → Overflows (scale c us q) ⊎ Overflows (multiply p q) → Overflows (multiply (plus c us p) q)
+row_overflows c us p q (inl h) = left_overflows (scale c us q) (multiply p q) h
+row_overflows c us p q (inr h) = right_overflows (scale c us q) (multiply p q) h
+
+pub row_large : (Γ : List Ty) (c : ℕ) (us : Factors) (p q : Polynomial) → Normal Γ (plus c us p) → Normal Γ q → TooLarge (scale c us q) ⊎ TooLarge (multiply p q)
+    → TooLarge (multiply (plus c us p) q)
+row_large Γ c us p q n m (inl h) = left_large Γ (scale c us q) (multiply p q) (normal_scale Γ c us q n.0 n.1 m) (normal_multiply Γ p q n.3 m) h
+row_large Γ c us p q n m (inr h) = right_large (scale c us q) (multiply p q) h

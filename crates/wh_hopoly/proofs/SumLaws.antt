@@ -108,7 +108,7 @@ normal_joins Γ (times x ps us) vs n m = normal_join Γ x ps (join_factors us vs
 one_product : (c d : ℕ) → 1 ≤ c → 1 ≤ d → 1 ≤ c * d
 one_product c d h k = mul-le-mul h k
 
-normal_scale : (Γ : List Ty) (c : ℕ) (us : Factors) (q : Polynomial) → 1 ≤ c → NormalFactors Γ us → Normal Γ q → Normal Γ (scale c us q)
+pub normal_scale : (Γ : List Ty) (c : ℕ) (us : Factors) (q : Polynomial) → 1 ≤ c → NormalFactors Γ us → Normal Γ q → Normal Γ (scale c us q)
 normal_scale Γ c us zero_poly l a n = tt
 normal_scale Γ c us (plus d vs q) l a n = normal_add Γ (c * d) (join_factors us vs) (scale c us q) (one_product c d l n.0) (normal_joins Γ us vs a n.1) (normal_scale Γ c us q l a n.3)
 

@@ -1,11 +1,11 @@
 //! Laws of normal forms, each the contract of a function that does nothing.
 
-ghost use Rattle.std.specs.Prelude.{ℕ, ◌<◌, List, ◌↔◌, ◌≡◌, ◌++◌};
+ghost use Rattle.std.specs.Prelude.{ℕ, ◌<◌, ◌⊎◌, List, ◌↔◌, ◌≡◌, ◌++◌};
 ghost use Rattle.std.specs.declared.cmp.Ordering.TheVariants.{Less, Equal};
 ghost use Rattle.std.specs.Ordering.{ordering_reverse};
 ghost use Rattle.wh_types.specs.Ty.{Ty, arguments};
-ghost use Rattle.wh_hopoly.specs.Polynomials.{Polynomial, compare_polynomials, Normal};
-ghost use Rattle.wh_hopoly.specs.Arithmetic.{sum_poly, multiply};
+ghost use Rattle.wh_hopoly.specs.Polynomials.{Polynomial, plus, Factors, compare_polynomials, Normal};
+ghost use Rattle.wh_hopoly.specs.Arithmetic.{sum_poly, scale, multiply};
 ghost use Rattle.wh_hopoly.specs.Limits.{Overflows, TooLarge};
 ghost use Rattle.wh_hopoly.specs.Evaluation.{Expression, Interpretation, TypedExpression, NormalInterpretations, type_of, evaluate, Values};
 ghost use Rattle.wh_hopoly.specs.Parts.{parts, ValueOfPart};
@@ -39,6 +39,12 @@ pub fn sums_associate()
 pub fn parts_of_sums_exceed_in_them()
     ensures overflow { (p q : Polynomial) → Overflows p → Overflows (sum_poly p q) }
     ensures large { (scope : List Ty) (p q : Polynomial) → Normal scope p → Normal scope q → TooLarge p → TooLarge (sum_poly p q) }
+{}
+
+/// What exceeds a limit in a row of a product, or in the product without that row, does so in the product.
+pub fn rows_of_products_exceed_in_them()
+    ensures overflow { (c : ℕ) (us : Factors) (p q : Polynomial) → Overflows (scale c us q) ⊎ Overflows (multiply p q) → Overflows (multiply (plus c us p) q) }
+    ensures large { (scope : List Ty) (c : ℕ) (us : Factors) (p q : Polynomial) → Normal scope (plus c us p) → Normal scope q → TooLarge (scale c us q) ⊎ TooLarge (multiply p q) → TooLarge (multiply (plus c us p) q) }
 {}
 
 /// Two polynomials compare as equal exactly where they are equal.

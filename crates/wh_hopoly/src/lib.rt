@@ -20,8 +20,8 @@ pub use expression::{Expr, Move, Symbol};
 pub use laws::{
     comparing_is_reversed, comparing_is_transitive, equal_polynomials_compare_as_equal,
     partial_sums_exceed_in_the_next, parts_of_sums_exceed_in_them, products_are_normal,
-    sums_are_normal, sums_associate, sums_commute, values_are_normal,
-    values_are_those_of_the_parts,
+    rows_of_products_exceed_in_them, sums_are_normal, sums_associate, sums_commute,
+    values_are_normal, values_are_those_of_the_parts,
 };
 pub use normality::is_normal;
 pub use polynomial::{Atom, Atoms, Monomial, Poly, Polys};
