@@ -1,11 +1,11 @@
 -- What a value stands for, by its list of items.
-use Rattle.std.proofs.Common.{◌≡◌, ℕ, List, [], ◌∷◌, refl, ap, ◌∙◌}
-use Rattle.wh_hopoly.specs.Polynomials.{Polynomial, zero_poly, plus, Factors, no_factors, times, Arguments, no_arguments, argument}
-use Rattle.wh_hopoly.specs.declared.polynomial.Poly.{Poly, Poly', is-Poly', out-Poly, Row_of-Monomial, end_of-Monomial, more_of-Monomial, items-the_row-Monomial, items_hidden-the_row-Monomial-1}
+use Rattle.std.proofs.Common.{◌≡◌, List, refl, ap, ap₂, sym, ◌∙◌}
+use Rattle.wh_hopoly.specs.Polynomials.{plus, times, argument, compare_polynomials, compare_factors, compare_arguments}
+use Rattle.wh_hopoly.specs.declared.polynomial.Poly.{Poly, is-Poly', out-Poly, Row_of-Monomial, end_of-Monomial, more_of-Monomial, items-the_row-Monomial, items_hidden-the_row-Monomial-1}
 use Rattle.wh_hopoly.specs.declared.polynomial.Monomial.{Monomial, Monomial', out-Monomial}
-use Rattle.wh_hopoly.specs.declared.polynomial.Atoms.{Atoms, Atoms', is-Atoms', out-Atoms, Row_of-Atom, end_of-Atom, more_of-Atom, items-the_row-Atom, items_hidden-the_row-Atom-0}
+use Rattle.wh_hopoly.specs.declared.polynomial.Atoms.{Atoms, is-Atoms', out-Atoms, Row_of-Atom, end_of-Atom, more_of-Atom, items-the_row-Atom, items_hidden-the_row-Atom-0}
 use Rattle.wh_hopoly.specs.declared.polynomial.Atom.{Atom, Atom', out-Atom}
-use Rattle.wh_hopoly.specs.declared.polynomial.Polys.{Polys, Polys', is-Polys', out-Polys, Row_of-Poly, end_of-Poly, more_of-Poly, items-the_row-Poly, items_hidden-the_row-Poly-2}
+use Rattle.wh_hopoly.specs.declared.polynomial.Polys.{Polys, is-Polys', out-Polys, Row_of-Poly, end_of-Poly, more_of-Poly, items-the_row-Poly, items_hidden-the_row-Poly-2}
 use Rattle.wh_hopoly.specs.declared.polynomial.Atom.TheBlock.{hidden-the_row-Monomial-1, hidden-the_row-Atom-0, hidden-the_row-Poly-2}
 use Rattle.wh_hopoly.specs.Erase.{poly, sum_row, atoms, product_row, polys, arguments_row, monomials, factors, list, sum_of, product_of, arguments_of}
 
@@ -31,3 +31,13 @@ atoms_is us = ap atoms (is-Atoms' us) ∙ product_items _ (hidden-the_row-Atom-0
 
 pub polys_is : (ps : Polys) → polys ps ≡ arguments_of (list ps)
 polys_is ps = ap polys (is-Polys' ps) ∙ arguments_items _ (hidden-the_row-Poly-2 (out-Polys ps).items) ∙ ap arguments_of (items_hidden-the_row-Poly-2 (out-Polys ps).items)
+
+-- the same of two values and their lists
+pub polys_by_lists : (p q : Poly) (xs ys : List Monomial) → xs ≡ monomials p → ys ≡ monomials q → compare_polynomials (poly p) (poly q) ≡ compare_polynomials (sum_of xs) (sum_of ys)
+polys_by_lists p q xs ys e k = ap₂ compare_polynomials (poly_is p ∙ ap sum_of (sym e)) (poly_is q ∙ ap sum_of (sym k))
+
+pub atoms_by_lists : (us vs : Atoms) (xs ys : List Atom) → xs ≡ factors us → ys ≡ factors vs → compare_factors (atoms us) (atoms vs) ≡ compare_factors (product_of xs) (product_of ys)
+atoms_by_lists us vs xs ys e k = ap₂ compare_factors (atoms_is us ∙ ap product_of (sym e)) (atoms_is vs ∙ ap product_of (sym k))
+
+pub arguments_by_lists : (ps qs : Polys) (xs ys : List Poly) → xs ≡ list ps → ys ≡ list qs → compare_arguments (polys ps) (polys qs) ≡ compare_arguments (arguments_of xs) (arguments_of ys)
+arguments_by_lists ps qs xs ys e k = ap₂ compare_arguments (polys_is ps ∙ ap arguments_of (sym e)) (polys_is qs ∙ ap arguments_of (sym k))

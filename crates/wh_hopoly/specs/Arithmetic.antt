@@ -14,7 +14,7 @@ by_order Greater a b c = c
 abbrev pub add_monomial : ℕ → Factors → Polynomial → Polynomial
 add_monomial c us zero_poly = plus c us zero_poly
 add_monomial c us (plus d vs q) =
-  by_order (compare_factors us vs) (plus c us (plus d vs q)) (plus (c + d) vs q) (plus d vs (add_monomial c us q))
+    by_order (compare_factors us vs) (plus c us (plus d vs q)) (plus (c + d) vs q) (plus d vs (add_monomial c us q))
 
 -- the sum of two polynomials (Fuhs and Kop 2012)
 abbrev pub sum_poly : Polynomial → Polynomial → Polynomial
@@ -25,7 +25,7 @@ sum_poly (plus c us p) q = add_monomial c us (sum_poly p q)
 abbrev pub join_factor : ℕ → Arguments → Factors → Factors
 join_factor x ps no_factors = times x ps no_factors
 join_factor x ps (times y qs vs) =
-  by_order (compare_factor x ps y qs) (times x ps (times y qs vs)) (times x ps (times y qs vs)) (times y qs (join_factor x ps vs))
+    by_order (compare_factor x ps y qs) (times x ps (times y qs vs)) (times x ps (times y qs vs)) (times y qs (join_factor x ps vs))
 
 -- the factors of two lists in order (ours)
 abbrev pub join_factors : Factors → Factors → Factors
@@ -63,3 +63,8 @@ constant c = plus c no_factors zero_poly
 -- a variable with arguments as a polynomial (ours)
 abbrev pub atom : ℕ → Arguments → Polynomial
 atom x ps = plus 1 (times x ps no_factors) zero_poly
+
+-- the monomials of one polynomial, and then those of another (ours)
+abbrev pub followed_by : Polynomial → Polynomial → Polynomial
+followed_by zero_poly q = q
+followed_by (plus c us p) q = plus c us (followed_by p q)

@@ -44,22 +44,22 @@ abbrev mutual
   pub replace : (List Ty → Arguments → Run Polynomial) → ℕ → List Ty → Polynomial → Polynomial → Run Polynomial
   replace head v Γ sum zero_poly = one sum
   replace head v Γ sum (plus c us p) =
-    next (replace_factors head v Γ (constant c) us) (λ m. next (one (sum_poly m sum)) (λ sum. replace head v Γ sum p))
+      next (replace_factors head v Γ (constant c) us) (λ m. next (one (sum_poly m sum)) (λ sum. replace head v Γ sum p))
 
   -- of a monomial the product that starts with the coefficient and multiplies in the factors from the left; `product` is that so far
   pub replace_factors : (List Ty → Arguments → Run Polynomial) → ℕ → List Ty → Polynomial → Factors → Run Polynomial
   replace_factors head v Γ product no_factors = one product
   replace_factors head v Γ product (times x ps us) =
-    next (replace_arguments head v Γ (type_at Γ x) ps) (λ qs.
-    next (if x == v then head (without v Γ) qs else one (atom (down v x) qs)) (λ a.
-    next (one product) (λ product. replace_factors head v Γ (multiply product a) us)))
+      next (replace_arguments head v Γ (type_at Γ x) ps) (λ qs.
+      next (if x == v then head (without v Γ) qs else one (atom (down v x) qs)) (λ a.
+      next (one product) (λ product. replace_factors head v Γ (multiply product a) us)))
 
   -- of a factor first its arguments, each in the scope that goes on with the arguments of its type
   pub replace_arguments : (List Ty → Arguments → Run Polynomial) → ℕ → List Ty → Ty → Arguments → Run Arguments
   replace_arguments head v Γ A no_arguments = pure no_arguments
   replace_arguments head v Γ (sort s) (argument p ps) = pure no_arguments
   replace_arguments head v Γ (A ⇒ B) (argument p ps) =
-    next (replace head v (Γ ++ arguments A) zero_poly p) (λ q. next (replace_arguments head v Γ B ps) (λ qs. pure (argument q qs)))
+      next (replace head v (Γ ++ arguments A) zero_poly p) (λ q. next (replace_arguments head v Γ B ps) (λ qs. pure (argument q qs)))
 
 -- a value of a scope of length n, whose added variables go on from n, in the longer scope Δ, where they go on from its length (ours)
 abbrev pub moved : ℕ → List Ty → Polynomial → Polynomial
@@ -70,7 +70,7 @@ abbrev pub applied : Ty → List Ty → Polynomial → Arguments → Run Polynom
 applied (sort s) Γ g ps = one g
 applied (A ⇒ B) Γ g no_arguments = one g
 applied (A ⇒ B) Γ g (argument p ps) =
-  next (replace (λ Δ qs. applied A Δ (moved (length Γ) Δ p) qs) (length Γ) (Γ ++ A ∷ arguments B) zero_poly g) (λ g. applied B Γ g ps)
+    next (replace (λ Δ qs. applied A Δ (moved (length Γ) Δ p) qs) (length Γ) (Γ ++ A ∷ arguments B) zero_poly g) (λ g. applied B Γ g ps)
 
 -- the first added variable of a value of type A ⇒ B replaced by a value of type A (Fuhs and Kop 2012)
 abbrev pub apply_one : Ty → Ty → List Ty → Polynomial → Polynomial → Run Polynomial
@@ -121,7 +121,7 @@ evaluate symbols Γ (var x) = one (variable (type_at Γ x) (length Γ) x)
 evaluate symbols Γ (symbol f) = one (renumber (λ i. length Γ + i) (interpretation_at symbols f).polynomial)
 evaluate symbols Γ (lambda A e) = evaluate symbols (Γ ++ A ∷ []) e
 evaluate symbols Γ (apply e d) =
-  next (evaluate symbols Γ e) (λ g. next (evaluate symbols Γ d) (λ p. apply_one (type_of symbols Γ d) (codomain (type_of symbols Γ e)) Γ g p))
+    next (evaluate symbols Γ e) (λ g. next (evaluate symbols Γ d) (λ p. apply_one (type_of symbols Γ d) (codomain (type_of symbols Γ e)) Γ g p))
 
 -- an expression is well typed: its variables and symbols are there, and functions are applied to arguments of their types (ours)
 abbrev pub TypedExpression : List Interpretation → List Ty → Expression → Type 0
@@ -129,7 +129,7 @@ TypedExpression symbols Γ (var x) = (A : Ty) × HasType Γ x A
 TypedExpression symbols Γ (symbol f) = (s : Interpretation) × slice_get symbols f ≡ Some s
 TypedExpression symbols Γ (lambda A e) = TypedExpression symbols (Γ ++ A ∷ []) e
 TypedExpression symbols Γ (apply e d) =
-  TypedExpression symbols Γ e × TypedExpression symbols Γ d × (B : Ty) × type_of symbols Γ e ≡ (type_of symbols Γ d ⇒ B)
+    TypedExpression symbols Γ e × TypedExpression symbols Γ d × (B : Ty) × type_of symbols Γ e ≡ (type_of symbols Γ d ⇒ B)
 
 -- each interpretation is normal in the scope of its type's arguments (ours)
 abbrev pub NormalInterpretations : List Interpretation → Type 0

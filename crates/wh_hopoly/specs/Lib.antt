@@ -3,4 +3,7 @@ pub mod Arithmetic
 pub mod Evaluation
 pub mod Limits
 pub mod Covers
+pub mod Parts
 pub mod Erase
+pub mod Excesses
+pub mod Scopes

@@ -34,7 +34,7 @@ abbrev mutual
   compare_polynomials zero_poly (plus d vs q) = Less
   compare_polynomials (plus c us p) zero_poly = Greater
   compare_polynomials (plus c us p) (plus d vs q) =
-    ordering_then (compare_factors us vs) (ordering_then (nat_cmp c d) (compare_polynomials p q))
+      ordering_then (compare_factors us vs) (ordering_then (nat_cmp c d) (compare_polynomials p q))
 
   -- lists of factors are ordered by their factors, one by its variable's number, then by its arguments (ours)
   pub compare_factors : Factors → Factors → Ordering
@@ -42,7 +42,7 @@ abbrev mutual
   compare_factors no_factors (times y qs vs) = Less
   compare_factors (times x ps us) no_factors = Greater
   compare_factors (times x ps us) (times y qs vs) =
-    ordering_then (ordering_then (nat_cmp x y) (compare_arguments ps qs)) (compare_factors us vs)
+      ordering_then (ordering_then (nat_cmp x y) (compare_arguments ps qs)) (compare_factors us vs)
 
   -- and arguments from left to right (ours)
   pub compare_arguments : Arguments → Arguments → Ordering
@@ -87,3 +87,7 @@ abbrev mutual
   NormalArguments Γ (sort s) (argument p ps) = ⊥
   NormalArguments Γ (A ⇒ B) no_arguments = ⊥
   NormalArguments Γ (A ⇒ B) (argument p ps) = Normal (Γ ++ arguments A) p × NormalArguments Γ B ps
+
+-- the variable is in the scope, and the arguments are normal for its type (ours)
+abbrev pub HasNormalArguments : List Ty → ℕ → Arguments → Type 0
+HasNormalArguments Γ x ps = (A : Ty) × HasType Γ x A × NormalArguments Γ A ps

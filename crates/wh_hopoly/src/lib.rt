@@ -1,13 +1,28 @@
 //! Higher-order polynomials: interpretations of symbols, normal forms of expressions, and when one polynomial is at least another.
 #![tactic(auto)]
 
+mod comparing;
+mod copying;
+mod covers;
+mod excess;
 mod expression;
 mod laws;
+mod normality;
 mod polynomial;
+mod scope;
+mod sums;
 
+pub use comparing::{order, order_arguments, order_factors};
+pub use copying::{copy, copy_arguments, copy_factors};
+pub use covers::at_least;
+pub use excess::Excess;
 pub use expression::{Expr, Move, Symbol};
 pub use laws::{
     comparing_is_reversed, comparing_is_transitive, equal_polynomials_compare_as_equal,
-    partial_sums_exceed_in_the_next, products_are_normal, sums_are_normal, values_are_normal,
+    partial_sums_exceed_in_the_next, parts_of_sums_exceed_in_them, products_are_normal,
+    rows_of_products_exceed_in_them, sums_are_normal, sums_associate, sums_commute,
+    values_are_normal, values_are_those_of_the_parts,
 };
+pub use normality::is_normal;
 pub use polynomial::{Atom, Atoms, Monomial, Poly, Polys};
+pub use sums::sum;

@@ -1,5 +1,5 @@
 -- By recursion on both.
-use Rattle.wh_hopoly.proofs.Order.{poly_reverse}
+use Rattle.wh_hopoly.proofs.OrderLaws.{poly_reverse}
 use Rattle.wh_hopoly.proofs.laws.comparing_is_reversed.Goals as goal
 
 pub returns : goal.returns

@@ -1,5 +1,5 @@
 -- By recursion on all three.
-use Rattle.wh_hopoly.proofs.Order.{poly_between}
+use Rattle.wh_hopoly.proofs.OrderLaws.{poly_between}
 use Rattle.wh_hopoly.proofs.laws.comparing_is_transitive.Goals as goal
 
 pub returns : goal.returns

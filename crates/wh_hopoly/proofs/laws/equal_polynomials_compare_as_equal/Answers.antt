@@ -1,7 +1,7 @@
 -- Equal polynomials are the same tree.
 use Rattle.std.proofs.Common.{subst, ◌≡◌, Equal}
 use Rattle.wh_hopoly.specs.Polynomials.{compare_polynomials}
-use Rattle.wh_hopoly.proofs.Order.{poly_equal, poly_same}
+use Rattle.wh_hopoly.proofs.OrderLaws.{poly_equal, poly_same}
 use Rattle.wh_hopoly.proofs.laws.equal_polynomials_compare_as_equal.Goals as goal
 
 pub returns : goal.returns

@@ -1,5 +1,5 @@
 -- Monomial by monomial.
-use Rattle.wh_hopoly.proofs.Merge.{normal_multiply}
+use Rattle.wh_hopoly.proofs.SumLaws.{normal_multiply}
 use Rattle.wh_hopoly.proofs.laws.products_are_normal.Goals as goal
 
 pub returns : goal.returns

@@ -1,5 +1,5 @@
 -- Monomial by monomial.
-use Rattle.wh_hopoly.proofs.Merge.{normal_sum}
+use Rattle.wh_hopoly.proofs.SumLaws.{normal_sum}
 use Rattle.wh_hopoly.proofs.laws.sums_are_normal.Goals as goal
 
 pub returns : goal.returns

@@ -1,5 +1,5 @@
 -- By recursion on the expression.
-use Rattle.wh_hopoly.proofs.Value.{normal_value}
+use Rattle.wh_hopoly.proofs.ValueLaws.{normal_value}
 use Rattle.wh_hopoly.proofs.laws.values_are_normal.Goals as goal
 
 pub returns : goal.returns

@@ -1,11 +1,11 @@
 -- Sums of normal polynomials by merging.
-use Rattle.std.proofs.Common.{◌≡◌, ℕ, ◌+◌, zero, suc, List, [], ◌∷◌, refl, ap, ap₂, ◌∙◌, sym, subst, ◌<◌, ◌≤◌, arith, ◌*◌, mul-le-mul, Option, Some, slice_get, Ordering, Less, Equal, Greater, nat_cmp}
+use Rattle.std.proofs.Common.{◌≡◌, ℕ, ◌+◌, List, refl, ap, ◌∙◌, subst, ◌≤◌, arith, ◌*◌, mul-le-mul, Ordering, Less, Equal, Greater, nat_cmp}
 use Rattle.std.specs.Ordering.{ordering_then, ordering_reverse}
 use Rattle.wh_types.specs.Ty.{Ty}
-use Rattle.wh_hopoly.specs.Polynomials.{HasType, Polynomial, zero_poly, plus, Factors, no_factors, times, Arguments, no_arguments, argument, compare_factors, compare_arguments, MonomialBefore, FactorBefore, Sorted, Normal, NormalFactors, NormalArguments}
+use Rattle.wh_hopoly.specs.Polynomials.{HasType, Polynomial, zero_poly, plus, Factors, no_factors, times, Arguments, compare_factors, compare_arguments, MonomialBefore, FactorBefore, Sorted, Normal, NormalFactors, NormalArguments}
 use Rattle.wh_hopoly.specs.Arithmetic.{by_order, add_monomial, sum_poly, join_factor, join_factors, scale, multiply}
 use Rattle.std.proofs.lemmas.Cmp.{nat_cmp_total}
-use Rattle.wh_hopoly.proofs.Order.{factors_equal, factors_same, factors_reverse, factors_between, Between, both_reverse, arguments_reverse}
+use Rattle.wh_hopoly.proofs.OrderLaws.{factors_equal, factors_reverse, factors_between, both_reverse, arguments_reverse}
 
 -- a list of atoms before all of a sorted polynomial is put in front
 pub add_front : (c : ℕ) (us : Factors) (q : Polynomial) → MonomialBefore us q → add_monomial c us q ≡ plus c us q
@@ -14,7 +14,7 @@ add_front c us (plus d vs q) h = ap (λ o. by_order o (plus c us (plus d vs q)) 
 
 before_add : (us : Factors) (c : ℕ) (vs : Factors) (q : Polynomial) → compare_factors us vs ≡ Less → MonomialBefore us q → MonomialBefore us (add_monomial c vs q)
 before_add us c vs zero_poly h k = h
-before_add us c vs (plus d ws q) h k = go (compare_factors vs ws) 
+before_add us c vs (plus d ws q) h k = go (compare_factors vs ws)
   where
     go : (o : Ordering) → MonomialBefore us (by_order o (plus c vs (plus d ws q)) (plus (c + d) ws q) (plus d ws (add_monomial c vs q)))
     go Less = h
@@ -31,7 +31,7 @@ before_sum us (plus c vs p) q h s k = before_add us c vs (sum_poly p q) h (befor
 
 -- the three steps of a merge
 pub sum_less : (c d : ℕ) (us vs : Factors) (p q : Polynomial) → compare_factors us vs ≡ Less → MonomialBefore us p → Sorted p
-  → sum_poly (plus c us p) (plus d vs q) ≡ plus c us (sum_poly p (plus d vs q))
+    → sum_poly (plus c us p) (plus d vs q) ≡ plus c us (sum_poly p (plus d vs q))
 sum_less c d us vs p q h b s = add_front c us (sum_poly p (plus d vs q)) (before_sum us p (plus d vs q) b s h)
 
 opposite : (us vs : Factors) → compare_factors us vs ≡ Less → compare_factors vs us ≡ Greater
@@ -40,16 +40,16 @@ opposite us vs h = factors_reverse vs us ∙ ap ordering_reverse h
 sum_past : (d : ℕ) (vs : Factors) (p q : Polynomial) → MonomialBefore vs p → Sorted p → sum_poly p (plus d vs q) ≡ plus d vs (sum_poly p q)
 sum_past d vs zero_poly q h s = refl
 sum_past d vs (plus c us p) q h s = ap (add_monomial c us) (sum_past d vs p q (before_then vs us p h s.0) s.1)
-  ∙ ap (λ o. by_order o (plus c us (plus d vs (sum_poly p q))) (plus (c + d) vs (sum_poly p q)) (plus d vs (add_monomial c us (sum_poly p q)))) (opposite vs us h)
+    ∙ ap (λ o. by_order o (plus c us (plus d vs (sum_poly p q))) (plus (c + d) vs (sum_poly p q)) (plus d vs (add_monomial c us (sum_poly p q)))) (opposite vs us h)
 
 pub sum_greater : (c d : ℕ) (us vs : Factors) (p q : Polynomial) → compare_factors us vs ≡ Greater → MonomialBefore us p → Sorted p
-  → sum_poly (plus c us p) (plus d vs q) ≡ plus d vs (sum_poly (plus c us p) q)
+    → sum_poly (plus c us p) (plus d vs q) ≡ plus d vs (sum_poly (plus c us p) q)
 sum_greater c d us vs p q h b s = sum_past d vs (plus c us p) q (factors_reverse vs us ∙ ap ordering_reverse h) (b, s)
 
 pub sum_equal : (c d : ℕ) (us vs : Factors) (p q : Polynomial) → compare_factors us vs ≡ Equal → MonomialBefore us p → Sorted p
-  → sum_poly (plus c us p) (plus d vs q) ≡ plus (c + d) vs (sum_poly p q)
+    → sum_poly (plus c us p) (plus d vs q) ≡ plus (c + d) vs (sum_poly p q)
 sum_equal c d us vs p q h b s = ap (add_monomial c us) (sum_past d vs p q (subst (λ us. MonomialBefore us p) (factors_equal us vs h) b) s)
-  ∙ ap (λ o. by_order o (plus c us (plus d vs (sum_poly p q))) (plus (c + d) vs (sum_poly p q)) (plus d vs (add_monomial c us (sum_poly p q)))) h
+    ∙ ap (λ o. by_order o (plus c us (plus d vs (sum_poly p q))) (plus (c + d) vs (sum_poly p q)) (plus d vs (add_monomial c us (sum_poly p q)))) h
 
 -- sums keep the normal form
 pub normal_sorted : (Γ : List Ty) (p : Polynomial) → Normal Γ p → Sorted p
@@ -96,7 +96,7 @@ normal_join Γ x ps no_factors A e a n = (A, e, a, tt, tt)
 normal_join Γ x ps (times y qs us) A e a n = go (normal_join Γ x ps us A e a n.4) (ordering_then (nat_cmp x y) (compare_arguments ps qs)) refl
   where
     go : NormalFactors Γ (join_factor x ps us) → (o : Ordering) → ordering_then (nat_cmp x y) (compare_arguments ps qs) ≡ o
-      → NormalFactors Γ (by_order o (times x ps (times y qs us)) (times x ps (times y qs us)) (times y qs (join_factor x ps us)))
+        → NormalFactors Γ (by_order o (times x ps (times y qs us)) (times x ps (times y qs us)) (times y qs (join_factor x ps us)))
     go r Less i = (A, e, a, less_not _ i, n)
     go r Equal i = (A, e, a, equal_not _ i, n)
     go r Greater i = (n.0, n.1, n.2, later y qs x ps us i n.3, r)
@@ -108,7 +108,7 @@ normal_joins Γ (times x ps us) vs n m = normal_join Γ x ps (join_factors us vs
 one_product : (c d : ℕ) → 1 ≤ c → 1 ≤ d → 1 ≤ c * d
 one_product c d h k = mul-le-mul h k
 
-normal_scale : (Γ : List Ty) (c : ℕ) (us : Factors) (q : Polynomial) → 1 ≤ c → NormalFactors Γ us → Normal Γ q → Normal Γ (scale c us q)
+pub normal_scale : (Γ : List Ty) (c : ℕ) (us : Factors) (q : Polynomial) → 1 ≤ c → NormalFactors Γ us → Normal Γ q → Normal Γ (scale c us q)
 normal_scale Γ c us zero_poly l a n = tt
 normal_scale Γ c us (plus d vs q) l a n = normal_add Γ (c * d) (join_factors us vs) (scale c us q) (one_product c d l n.0) (normal_joins Γ us vs a n.1) (normal_scale Γ c us q l a n.3)
 

@@ -1,5 +1,5 @@
 -- The order of polynomials is a total order.
-use Rattle.std.proofs.Common.{◌≡◌, ℕ, zero, suc, List, [], ◌∷◌, refl, ap, ap₂, ◌∙◌, sym, subst, ◌<◌, ◌≤◌, arith, Ordering, Less, Equal, Greater, nat_cmp}
+use Rattle.std.proofs.Common.{◌≡◌, ℕ, refl, ap, ap₂, ◌∙◌, sym, subst, arith, Ordering, Less, Equal, Greater, nat_cmp}
 use Rattle.std.specs.Ordering.{ordering_then, ordering_reverse}
 use Rattle.std.proofs.lemmas.Cmp.{nat_cmp_total}
 use Rattle.wh_hopoly.specs.Polynomials.{Polynomial, zero_poly, plus, Factors, no_factors, times, Arguments, no_arguments, argument, compare_polynomials, compare_factors, compare_arguments}
@@ -27,26 +27,26 @@ mutual
   poly_equal zero_poly (plus d vs q) h = grind arith
   poly_equal (plus c us p) zero_poly h = grind arith
   poly_equal (plus c us p) (plus d vs q) h =
-    let a = then_equal (compare_factors us vs) (ordering_then (nat_cmp c d) (compare_polynomials p q)) h in
-    let b = then_equal (nat_cmp c d) (compare_polynomials p q) a.1 in
-    cc (factors_equal us vs a.0, nat_equal c d b.0, poly_equal p q b.1)
+      let a = then_equal (compare_factors us vs) (ordering_then (nat_cmp c d) (compare_polynomials p q)) h in
+      let b = then_equal (nat_cmp c d) (compare_polynomials p q) a.1 in
+      cc (factors_equal us vs a.0, nat_equal c d b.0, poly_equal p q b.1)
 
   pub factors_equal : (us vs : Factors) → compare_factors us vs ≡ Equal → us ≡ vs
   factors_equal no_factors no_factors h = refl
   factors_equal no_factors (times y qs vs) h = grind arith
   factors_equal (times x ps us) no_factors h = grind arith
   factors_equal (times x ps us) (times y qs vs) h =
-    let a = then_equal (ordering_then (nat_cmp x y) (compare_arguments ps qs)) (compare_factors us vs) h in
-    let b = then_equal (nat_cmp x y) (compare_arguments ps qs) a.0 in
-    cc (nat_equal x y b.0, arguments_equal ps qs b.1, factors_equal us vs a.1)
+      let a = then_equal (ordering_then (nat_cmp x y) (compare_arguments ps qs)) (compare_factors us vs) h in
+      let b = then_equal (nat_cmp x y) (compare_arguments ps qs) a.0 in
+      cc (nat_equal x y b.0, arguments_equal ps qs b.1, factors_equal us vs a.1)
 
   pub arguments_equal : (ps qs : Arguments) → compare_arguments ps qs ≡ Equal → ps ≡ qs
   arguments_equal no_arguments no_arguments h = refl
   arguments_equal no_arguments (argument q qs) h = grind arith
   arguments_equal (argument p ps) no_arguments h = grind arith
   arguments_equal (argument p ps) (argument q qs) h =
-    let a = then_equal (compare_polynomials p q) (compare_arguments ps qs) h in
-    cc (poly_equal p q a.0, arguments_equal ps qs a.1)
+      let a = then_equal (compare_polynomials p q) (compare_arguments ps qs) h in
+      cc (poly_equal p q a.0, arguments_equal ps qs a.1)
 
 -- and equal ones do
 mutual
@@ -116,7 +116,7 @@ mutual
   poly_between (plus c us p) zero_poly (plus e ws r) = record { less = λ h k. grind arith; first = λ h. grind arith; second = λ h. grind arith }
   poly_between (plus c us p) (plus d vs q) zero_poly = record { less = λ h k. grind arith; first = λ h. refl; second = λ h. grind arith }
   poly_between (plus c us p) (plus d vs q) (plus e ws r) =
-    lex (compare_factors us vs) (compare_factors vs ws) (compare_factors us ws) _ _ _ (factors_between us vs ws)
+      lex (compare_factors us vs) (compare_factors vs ws) (compare_factors us ws) _ _ _ (factors_between us vs ws)
       (lex (nat_cmp c d) (nat_cmp d e) (nat_cmp c e) (compare_polynomials p q) (compare_polynomials q r) (compare_polynomials p r) (nat_between c d e) (poly_between p q r))
 
   pub factors_between : (us vs ws : Factors) → Between (compare_factors us vs) (compare_factors vs ws) (compare_factors us ws)
@@ -127,7 +127,7 @@ mutual
   factors_between (times x ps us) no_factors (times z rs ws) = record { less = λ h k. grind arith; first = λ h. grind arith; second = λ h. grind arith }
   factors_between (times x ps us) (times y qs vs) no_factors = record { less = λ h k. grind arith; first = λ h. refl; second = λ h. grind arith }
   factors_between (times x ps us) (times y qs vs) (times z rs ws) =
-    lex (ordering_then (nat_cmp x y) (compare_arguments ps qs)) (ordering_then (nat_cmp y z) (compare_arguments qs rs)) (ordering_then (nat_cmp x z) (compare_arguments ps rs)) (compare_factors us vs) (compare_factors vs ws) (compare_factors us ws)
+      lex (ordering_then (nat_cmp x y) (compare_arguments ps qs)) (ordering_then (nat_cmp y z) (compare_arguments qs rs)) (ordering_then (nat_cmp x z) (compare_arguments ps rs)) (compare_factors us vs) (compare_factors vs ws) (compare_factors us ws)
       (lex (nat_cmp x y) (nat_cmp y z) (nat_cmp x z) (compare_arguments ps qs) (compare_arguments qs rs) (compare_arguments ps rs) (nat_between x y z) (arguments_between ps qs rs)) (factors_between us vs ws)
 
   pub arguments_between : (ps qs rs : Arguments) → Between (compare_arguments ps qs) (compare_arguments qs rs) (compare_arguments ps rs)

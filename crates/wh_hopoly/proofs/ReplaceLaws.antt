@@ -1,12 +1,12 @@
 -- Replacement keeps the normal form.
-use Rattle.std.proofs.Common.{append_assoc, length-append, ◌≡◌, ℕ, zero, suc, ◌+◌, ◌-◌, ◌==◌, nat_lt, List, [], ◌∷◌, ◌++◌, length, refl, ap, ap₂, ◌∙◌, sym, subst, ◌<◌, ◌≤◌, arith, Bool, true, false, cond, Ordering, Less, Equal, Greater, nat_cmp, if◌then◌else◌}
+use Rattle.std.proofs.Common.{append_assoc, length-append, ◌≡◌, ℕ, zero, suc, ◌+◌, ◌==◌, List, [], ◌∷◌, ◌++◌, length, refl, ap, ap₂, ◌∙◌, sym, subst, arith, Bool, true, false, nat_cmp, if◌then◌else◌}
 use Rattle.std.specs.Ordering.{ordering_then}
 use mathlib.Core.Path.{subst₂}
 use Rattle.wh_types.specs.Ty.{Ty, sort, ◌⇒◌, arguments}
 use Rattle.wh_hopoly.specs.Polynomials.{HasType, Polynomial, zero_poly, plus, Factors, no_factors, times, Arguments, no_arguments, argument, compare_polynomials, compare_factors, compare_arguments, MonomialBefore, FactorBefore, Normal, NormalFactors, NormalArguments}
-use Rattle.wh_hopoly.specs.Evaluation.{Run, one, next, pure, without, down, type_at, replace, replace_factors, replace_arguments, moved, applied, apply_one}
+use Rattle.wh_hopoly.specs.Evaluation.{Run, one, without, down, type_at, replace, replace_factors, replace_arguments}
 use Rattle.wh_hopoly.specs.Arithmetic.{sum_poly, multiply, renumber, renumber_factors, renumber_arguments, constant, atom}
-use Rattle.wh_hopoly.proofs.Merge.{normal_sum, normal_multiply}
+use Rattle.wh_hopoly.proofs.SumLaws.{normal_sum, normal_multiply}
 
 -- scopes
 pub type_is : (Γ : List Ty) (x : ℕ) (A : Ty) → HasType Γ x A → type_at Γ x ≡ A
@@ -39,12 +39,12 @@ normal_atom : (Γ : List Ty) (x : ℕ) (ps : Arguments) (A : Ty) → HasType Γ 
 normal_atom Γ x ps A a n = (omega arith, (A, a, n, tt, tt), tt, tt)
 
 replaced_atom : (head : List Ty → Arguments → Run Polynomial) (Γ : List Ty) (A : Ty) (Θ : List Ty) (x : ℕ) (B : Ty) (qs : Arguments) → HeadOk Γ A head → HasType (Γ ++ A ∷ Θ) x B → NormalArguments (Γ ++ Θ) B qs
-  → Normal (Γ ++ Θ) (if x == length Γ then head (without (length Γ) (Γ ++ A ∷ Θ)) qs else one (atom (down (length Γ) x) qs)).result
+    → Normal (Γ ++ Θ) (if x == length Γ then head (without (length Γ) (Γ ++ A ∷ Θ)) qs else one (atom (down (length Γ) x) qs)).result
 replaced_atom head Γ A Θ x B qs h a n = go (x == length Γ) refl
   where
     go : (b : Bool) → (x == length Γ) ≡ b → Normal (Γ ++ Θ) (if b then head (without (length Γ) (Γ ++ A ∷ Θ)) qs else one (atom (down (length Γ) x) qs)).result
     go true e = let i : x ≡ length Γ = grind (arith, e) in
-      subst (λ Δ. Normal (Γ ++ Θ) (head Δ qs).result) (sym (without_is Γ A Θ)) (h Θ qs (subst (λ B. NormalArguments (Γ ++ Θ) B qs) (sym (at_itself Γ A Θ B (subst (λ x. HasType (Γ ++ A ∷ Θ) x B) i a))) n))
+        subst (λ Δ. Normal (Γ ++ Θ) (head Δ qs).result) (sym (without_is Γ A Θ)) (h Θ qs (subst (λ B. NormalArguments (Γ ++ Θ) B qs) (sym (at_itself Γ A Θ B (subst (λ x. HasType (Γ ++ A ∷ Θ) x B) i a))) n))
     go false e = normal_atom (Γ ++ Θ) (down (length Γ) x) qs B (at_down Γ A Θ x B (λ i. grind (arith, e, i)) a) n
 
 module _ (head : List Ty → Arguments → Run Polynomial) (Γ : List Ty) (A : Ty) (h : HeadOk Γ A head) where
@@ -52,28 +52,29 @@ module _ (head : List Ty → Arguments → Run Polynomial) (Γ : List Ty) (A : T
     pub normal_replace : (Θ : List Ty) (sum p : Polynomial) → Normal (Γ ++ Θ) sum → Normal (Γ ++ A ∷ Θ) p → Normal (Γ ++ Θ) (replace head (length Γ) (Γ ++ A ∷ Θ) sum p).result
     normal_replace Θ sum zero_poly s n = s
     normal_replace Θ sum (plus c us p) s n =
-      let m = (replace_factors head (length Γ) (Γ ++ A ∷ Θ) (constant c) us).result in
-      normal_replace Θ (sum_poly m sum) p (normal_sum (Γ ++ Θ) m sum (normal_replace_factors Θ (constant c) us (n.0, tt, tt, tt) n.1) s) n.3
+        let m = (replace_factors head (length Γ) (Γ ++ A ∷ Θ) (constant c) us).result in
+        normal_replace Θ (sum_poly m sum) p (normal_sum (Γ ++ Θ) m sum (normal_replace_factors Θ (constant c) us (n.0, tt, tt, tt) n.1) s) n.3
 
     pub normal_replace_factors : (Θ : List Ty) (product : Polynomial) (us : Factors) → Normal (Γ ++ Θ) product → NormalFactors (Γ ++ A ∷ Θ) us
-      → Normal (Γ ++ Θ) (replace_factors head (length Γ) (Γ ++ A ∷ Θ) product us).result
+        → Normal (Γ ++ Θ) (replace_factors head (length Γ) (Γ ++ A ∷ Θ) product us).result
     normal_replace_factors Θ product no_factors s n = s
     normal_replace_factors Θ product (times x ps us) s (B, a, k, b, n) =
-      let qs = (replace_arguments head (length Γ) (Γ ++ A ∷ Θ) (type_at (Γ ++ A ∷ Θ) x) ps).result in
-      let m = (if x == length Γ then head (without (length Γ) (Γ ++ A ∷ Θ)) qs else one (atom (down (length Γ) x) qs)).result in
-      normal_replace_factors Θ (multiply product m) us
+        let qs = (replace_arguments head (length Γ) (Γ ++ A ∷ Θ) (type_at (Γ ++ A ∷ Θ) x) ps).result in
+        let m = (if x == length Γ then head (without (length Γ) (Γ ++ A ∷ Θ)) qs else one (atom (down (length Γ) x) qs)).result in
+        normal_replace_factors Θ (multiply product m) us
         (normal_multiply (Γ ++ Θ) product m s (replaced_atom head Γ A Θ x B qs h a
-          (subst (λ C. NormalArguments (Γ ++ Θ) B (replace_arguments head (length Γ) (Γ ++ A ∷ Θ) C ps).result) (sym (type_is (Γ ++ A ∷ Θ) x B a)) (normal_replace_arguments Θ B ps k)))) n
+        (subst (λ C. NormalArguments (Γ ++ Θ) B (replace_arguments head (length Γ) (Γ ++ A ∷ Θ) C ps).result) (sym (type_is (Γ ++ A ∷ Θ) x B a)) (normal_replace_arguments Θ B ps k)))) n
 
     pub normal_replace_arguments : (Θ : List Ty) (B : Ty) (ps : Arguments) → NormalArguments (Γ ++ A ∷ Θ) B ps → NormalArguments (Γ ++ Θ) B (replace_arguments head (length Γ) (Γ ++ A ∷ Θ) B ps).result
     normal_replace_arguments Θ (sort s) no_arguments n = tt
     normal_replace_arguments Θ (sort s) (argument p ps) n = absurd n
     normal_replace_arguments Θ (B ⇒ C) no_arguments n = absurd n
     normal_replace_arguments Θ (B ⇒ C) (argument p ps) n =
-      let X = arguments B in
-      (subst₂ (λ Δ Ψ. Normal Δ (replace head (length Γ) Ψ zero_poly p).result) (sym (append_assoc Γ Θ X)) (sym (append_assoc Γ (A ∷ Θ) X))
-        (normal_replace (Θ ++ X) zero_poly p tt (subst (λ Ψ. Normal Ψ p) (append_assoc Γ (A ∷ Θ) X) n.0)),
-       normal_replace_arguments Θ C ps n.1)
+        let X = arguments B in (
+          subst₂ (λ Δ Ψ. Normal Δ (replace head (length Γ) Ψ zero_poly p).result) (sym (append_assoc Γ Θ X)) (sym (append_assoc Γ (A ∷ Θ) X))
+              (normal_replace (Θ ++ X) zero_poly p tt (subst (λ Ψ. Normal Ψ p) (append_assoc Γ (A ∷ Θ) X) n.0)),
+          normal_replace_arguments Θ C ps n.1,
+        )
 
 -- an increasing renumbering that keeps types, and keeps them in scopes that go on
 pub record Moves (Γ Δ : List Ty) (r : ℕ → ℕ) : Type 0 where
@@ -117,10 +118,11 @@ at_right (B ∷ Γ) X j A a = let e : suc (length Γ + j) ≡ length (B ∷ Γ) 
 
 pub moves_on : (Γ Δ : List Ty) (r : ℕ → ℕ) (X : List Ty) → Moves Γ Δ r → Moves (Γ ++ X) (Δ ++ X) r
 moves_on Γ Δ r X m = record {
-    types = λ i A a. at_split Γ X i A (HasType (Δ ++ X) (r i) A) a (λ b. at_left Δ X (r i) A (m.types i A b))
+  types = λ i A a. at_split Γ X i A (HasType (Δ ++ X) (r i) A) a (λ b. at_left Δ X (r i) A (m.types i A b))
       (λ j e b. subst (λ k. HasType (Δ ++ X) k A) (sym (m.added j) ∙ ap r (sym e)) (at_right Δ X j A b));
-    added = λ j. ap r (let e = length-append Γ X in omega (arith, e)) ∙ m.added (length X + j) ∙ (let e = length-append Δ X in omega (arith, e));
-    order = m.order }
+  added = λ j. ap r (let e = length-append Γ X in omega (arith, e)) ∙ m.added (length X + j) ∙ (let e = length-append Δ X in omega (arith, e));
+  order = m.order;
+}
 
 before_renumber : (r : ℕ → ℕ) → ((i j : ℕ) → nat_cmp (r i) (r j) ≡ nat_cmp i j) → (us : Factors) (p : Polynomial) → MonomialBefore us p → MonomialBefore (renumber_factors r us) (renumber r p)
 before_renumber r h us zero_poly b = tt

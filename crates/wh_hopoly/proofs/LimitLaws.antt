@@ -1,9 +1,9 @@
 -- What exceeds a limit does so in each sum that it enters.
-use Rattle.std.proofs.Common.{◌≡◌, ℕ, ◌+◌, ◌≤◌, ◌<◌, ◌^◌, ◌⊎◌, inl, inr, max, refl, ap, ◌∙◌, sym, subst, arith, Ordering, Less, Equal, Greater}
+use Rattle.std.proofs.Common.{◌≡◌, ℕ, ◌+◌, ◌≤◌, ◌^◌, inl, inr, refl, ap, arith, Ordering, Less, Equal, Greater}
 use Rattle.wh_hopoly.specs.Polynomials.{Polynomial, zero_poly, plus, Factors, compare_factors}
 use Rattle.wh_hopoly.specs.Arithmetic.{by_order, add_monomial, sum_poly}
-use Rattle.wh_hopoly.specs.Limits.{weight, weight_of_factors, nesting, nesting_of_factors, Overflows, TooLarge}
-use Rattle.wh_hopoly.proofs.Order.{factors_equal}
+use Rattle.wh_hopoly.specs.Limits.{weight, weight_of_factors, nesting, Overflows, TooLarge}
+use Rattle.wh_hopoly.proofs.OrderLaws.{factors_equal}
 
 record More (c : ℕ) (us : Factors) (q r : Polynomial) : Type 0 where
   pub first : 2 ^ 128 ≤ c → Overflows r
@@ -21,11 +21,17 @@ more_add c us (plus d vs q) = go (more_add c us q) (compare_factors us vs) refl
     go m Equal e = record {
       first = λ h. inl (omega (arith, h));
       rest = λ h. elim h [ inl l ↦ inl (omega (arith, l)) | inr r ↦ inr r ];
-      heavy_first = (let z = ap weight_of_factors (factors_equal us vs e) in omega (arith, z)); heavy_rest = omega arith; deep_rest = omega arith }
+      heavy_first = (let z = ap weight_of_factors (factors_equal us vs e) in omega (arith, z));
+      heavy_rest = omega arith;
+      deep_rest = omega arith;
+    }
     go m Greater e = record {
       first = λ h. inr (m.first h);
       rest = λ h. elim h [ inl l ↦ inl l | inr r ↦ inr (m.rest r) ];
-      heavy_first = (let z = m.heavy_first in omega (arith, z)); heavy_rest = (let z = m.heavy_rest in omega (arith, z)); deep_rest = (let z = m.deep_rest in omega (arith, z)) }
+      heavy_first = (let z = m.heavy_first in omega (arith, z));
+      heavy_rest = (let z = m.heavy_rest in omega (arith, z));
+      deep_rest = (let z = m.deep_rest in omega (arith, z));
+    }
 
 pub right_overflows : (p q : Polynomial) → Overflows q → Overflows (sum_poly p q)
 right_overflows zero_poly q h = h

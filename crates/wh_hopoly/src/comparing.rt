@@ -1,0 +1,78 @@
+//! The order of polynomials. A walk goes over both lists with one index, and the first difference decides.
+
+ghost use Rattle.std.specs.Prelude.{◌≡◌};
+ghost use Rattle.wh_hopoly.specs.Erase.{poly, atoms, polys};
+ghost use Rattle.wh_hopoly.specs.Polynomials.{compare_polynomials, compare_factors, compare_arguments};
+
+use crate::polynomial::{Atoms, Poly, Polys};
+use std::cmp::Ordering;
+
+/// The order of two polynomials: by their monomials, one by its factors, then by its coefficient.
+#[cycle(order)]
+pub fn order(a: &Poly, b: &Poly) -> Ordering
+    ensures { result ≡ compare_polynomials (poly a.now) (poly b.now) }
+{
+    let (items, others) = (a.as_slice(), b.as_slice());
+    for (i, item) in items.iter().enumerate() {
+        if i == others.len() {
+            return Ordering::Greater;
+        }
+        let other = &others[i];
+        let first = order_factors(&item.atoms, &other.atoms);
+        let both = first.then(item.coefficient.cmp(&other.coefficient));
+        if both.is_ne() {
+            return both;
+        }
+    }
+    if items.len() < others.len() {
+        Ordering::Less
+    } else {
+        Ordering::Equal
+    }
+}
+
+/// The order of two lists of factors: by their factors, one by its variable's number, then by its arguments.
+#[cycle(order)]
+pub fn order_factors(a: &Atoms, b: &Atoms) -> Ordering
+    ensures { result ≡ compare_factors (atoms a.now) (atoms b.now) }
+{
+    let (items, others) = (a.as_slice(), b.as_slice());
+    for (i, item) in items.iter().enumerate() {
+        if i == others.len() {
+            return Ordering::Greater;
+        }
+        let other = &others[i];
+        let first = order_arguments(&item.args, &other.args);
+        let both = item.head.cmp(&other.head).then(first);
+        if both.is_ne() {
+            return both;
+        }
+    }
+    if items.len() < others.len() {
+        Ordering::Less
+    } else {
+        Ordering::Equal
+    }
+}
+
+/// The order of two lists of arguments, from left to right.
+#[cycle(order)]
+pub fn order_arguments(a: &Polys, b: &Polys) -> Ordering
+    ensures { result ≡ compare_arguments (polys a.now) (polys b.now) }
+{
+    let (items, others) = (a.as_slice(), b.as_slice());
+    for (i, item) in items.iter().enumerate() {
+        if i == others.len() {
+            return Ordering::Greater;
+        }
+        let first = order(item, &others[i]);
+        if first.is_ne() {
+            return first;
+        }
+    }
+    if items.len() < others.len() {
+        Ordering::Less
+    } else {
+        Ordering::Equal
+    }
+}

@@ -1,0 +1,51 @@
+//! Copies of polynomials.
+
+ghost use Rattle.std.specs.Prelude.{◌≡◌, IfOk};
+ghost use Rattle.wh_hopoly.specs.Erase.{poly, atoms, polys};
+
+use crate::polynomial::{Atom, Atoms, Monomial, Poly, Polys};
+use std::alloc::{AllocError, Global};
+
+/// An equal polynomial.
+#[cycle(copy)]
+pub fn copy(alloc: Global, p: &Poly) -> Result<Poly, AllocError>
+    ensures { IfOk result (λ r. poly r ≡ poly p.now) }
+{
+    let mut copies = Poly::new(alloc)?;
+    for item in p.as_slice() {
+        let atoms = copy_factors(alloc, &item.atoms)?;
+        copies.push(Monomial {
+            coefficient: item.coefficient,
+            atoms,
+        })?;
+    }
+    Ok(copies)
+}
+
+/// Equal factors in the same order.
+#[cycle(copy)]
+pub fn copy_factors(alloc: Global, us: &Atoms) -> Result<Atoms, AllocError>
+    ensures { IfOk result (λ r. atoms r ≡ atoms us.now) }
+{
+    let mut copies = Atoms::new(alloc)?;
+    for item in us.as_slice() {
+        let args = copy_arguments(alloc, &item.args)?;
+        copies.push(Atom {
+            head: item.head,
+            args,
+        })?;
+    }
+    Ok(copies)
+}
+
+/// Equal arguments in the same order.
+#[cycle(copy)]
+pub fn copy_arguments(alloc: Global, ps: &Polys) -> Result<Polys, AllocError>
+    ensures { IfOk result (λ r. polys r ≡ polys ps.now) }
+{
+    let mut copies = Polys::new(alloc)?;
+    for item in ps.as_slice() {
+        copies.push(copy(alloc, item)?)?;
+    }
+    Ok(copies)
+}

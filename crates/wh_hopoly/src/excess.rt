@@ -1,0 +1,10 @@
+//! How a value exceeds the limits.
+
+/// The limit that a value exceeds.
+#[derive(Drop)]
+pub enum Excess {
+    /// A coefficient is above 2^128 - 1.
+    Overflow,
+    /// The weight is above 65,536, or the arguments nest more than 400 deep.
+    TooLarge,
+}
