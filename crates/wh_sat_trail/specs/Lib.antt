@@ -1,0 +1,3 @@
+pub mod Assignment
+pub mod Propagation
+pub mod Look

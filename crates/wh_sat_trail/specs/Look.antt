@@ -1,0 +1,12 @@
+-- What one look at a clause tells.
+use Rattle.std.specs.Prelude.{List}
+use Rattle.wh_sat_trail.specs.declared.literal.Literal.{Literal}
+use Rattle.wh_sat_trail.specs.declared.look.Look.{Look}
+use Rattle.wh_sat_trail.specs.declared.look.Look.TheVariants.{Quiet, Refuted, Forces}
+use Rattle.wh_sat_trail.specs.Propagation as propagation
+
+-- quiet: neither false, nor does it force a literal
+abbrev pub Looks : List Literal → List Literal → Look → Type 0
+Looks t c Quiet = (propagation.IsRefuted t c → ⊥) × ((l : Literal) → propagation.Forces t c l → ⊥)
+Looks t c Refuted = propagation.IsRefuted t c
+Looks t c (Forces l) = propagation.Forces t c l

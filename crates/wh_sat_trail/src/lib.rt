@@ -1,0 +1,12 @@
+//! Formulas in clauses, and an assignment that grows by decisions and by what the clauses force.
+#![tactic(auto)]
+
+mod assignment;
+mod clause;
+mod formula;
+mod literal;
+mod look;
+
+pub use clause::{Clause, Clauses};
+pub use formula::Formula;
+pub use literal::Literal;
