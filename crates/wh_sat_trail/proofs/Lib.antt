@@ -1,2 +1,5 @@
+pub mod Rooms
 pub mod Assigning
 pub mod Looking
+pub mod Watching
+pub mod Guarding

@@ -1,12 +1,12 @@
 use Rattle.std.proofs.Common.{◌≡◌, ◌≢◌, ℕ, ◌+◌, ◌-◌, ◌<◌, ◌≤◌, zero, suc, Bool, true, false, not, cond, List, [], ◌∷◌, ◌++◌, length, get_or, take, set, replicate, Option, Some, None, eqb, ◌&&◌, refl, sym, ◌∙◌, ap, subst, ◌⊎◌, inl, inr, arith, rules, tests}
-use Rattle.std.proofs.lemmas.List.{take_at, take_all, get_or_push, get_or_default, length_push, take-append-le, get_or_append_left, length-append}
-use Rattle.std.proofs.lemmas.Bool.{cases_eq}
+use Rattle.std.proofs.lemmas.List.{take_at, take_all, get_or_push, get_or_default, length_push, take-append-le, get_or_append_left, length-append, take-take, get_or-take, length-take}
+use Rattle.std.proofs.lemmas.Bool.{cases_eq, cases_lt}
 use Rattle.wh_sat_trail.specs.declared.literal.Literal.{Literal}
 use Rattle.wh_sat_trail.specs.declared.look.Look.{Look}
 use Rattle.wh_sat_trail.specs.declared.look.Look.TheVariants as look
 use Rattle.wh_sat_trail.specs.Look.{Looks}
 use Rattle.wh_sat_trail.specs.Assignment.{value_in, Holds, Fails, Open, AllBelow, IsFresh, Tabled}
-use Rattle.wh_sat_trail.specs.Propagation.{IsRefuted, Forces, IsForced, Grows, IsClosed}
+use Rattle.wh_sat_trail.specs.Propagation.{IsRefuted, Forces, IsForced, Grows, IsClosed, Within}
 
 use mathlib.Core.Bool.{beq}
 
@@ -143,3 +143,41 @@ lit_other a b e q =
     let r : beq b.positive b.positive ≡ true = beq_refl b.positive in
     let v : eqb b.variable b.variable ≡ true = grind (arith, tests) in
     grind (arith, tests, s, r, v)
+
+cases_positive : (a b : Bool) → (a ≡ b) ⊎ (a ≢ b)
+cases_positive true true = inl refl
+cases_positive false false = inl refl
+cases_positive true false = inr (λ e. grind arith)
+cases_positive false true = inr (λ e. grind arith)
+
+-- two literals are one or two
+pub cases_literal : (a b : Literal) → (a ≡ b) ⊎ (a ≢ b)
+cases_literal a b = elim (cases_eq a.variable b.variable) [
+    inl v ↦ elim (cases_positive a.positive b.positive) [
+      inl p ↦ inl (ap (λ n. let r : Literal = record { variable = n; positive = a.positive } in r) v ∙ ap (λ q. let r : Literal = record { variable = b.variable; positive = q } in r) p)
+    | inr q ↦ inr (λ e. q (ap (λ l. l.positive) e))
+    ]
+  | inr u ↦ inr (λ e. u (ap (λ l. l.variable) e))
+  ]
+
+pub within_push : (n : ℕ) (clauses : List (List Literal)) (c : List Literal) → Within n clauses → AllBelow n c → Within n (clauses ++ c ∷ [])
+within_push n clauses c w b k v = elim (cases_eq k (length clauses)) [
+    inl same ↦ rw (get_or_push clauses c [] k (sym same)) b
+  | inr other ↦ let u : k < length clauses = omega (arith, length_push clauses c, other, v) in rw (get_or_append_left clauses (c ∷ []) [] k u) (w k u)
+  ]
+
+-- growth after growth
+pub grows_trans : (clauses : List (List Literal)) (s t u : List Literal) → length s ≤ length t → Grows clauses s t → Grows clauses t u → Grows clauses s u
+grows_trans clauses s t u le f g = record {
+  kept = sym (take-take (length s) (length t) u le) ∙ ap (take (length s)) g.kept ∙ f.kept;
+  forced = λ k d a b. elim (cases_lt k (length t)) [
+      inl early ↦
+        let e : take k t ≡ take k u = ap (take k) (sym g.kept) ∙ take-take k (length t) u (omega (arith, early)) in
+        let v : get_or t k d ≡ get_or u k d = ap (λ y. get_or y k d) (sym g.kept) ∙ get_or-take (length t) u k d early in
+        subst (λ x. IsForced clauses x (get_or u k d)) e (subst (IsForced clauses (take k t)) v (f.forced k d a early))
+    | inr late ↦ g.forced k d late b
+    ]
+  }
+
+pub grows_longer : (clauses : List (List Literal)) (s t : List Literal) → Grows clauses s t → length s ≤ length t
+grows_longer clauses s t g = omega (arith, ap length g.kept, length-take (length s) t)

@@ -6,7 +6,10 @@ mod clause;
 mod formula;
 mod literal;
 mod look;
+mod trail;
+mod watch;
 
 pub use clause::{Clause, Clauses};
 pub use formula::Formula;
 pub use literal::Literal;
+pub use trail::Trail;

@@ -9,22 +9,16 @@ use Rattle.wh_sat_trail.proofs.Looking.{Scan, quiet_two, quiet_true, scan_false,
 use Rattle.wh_sat_trail.proofs.Assigning.{push_tabled, push_fresh, push_below, count_assign, pop_tabled, pop_fresh_rest, pop_below, pop_fresh, count_undo, count_replicate, stays, push_same}
 use Rattle.std.proofs.Common.{vec_capacity, Vec, Global, Result, Ok, Err}
 use Rattle.wh_sat_trail.specs.declared.assignment.Assignment.{Assignment}
+use Rattle.wh_sat_trail.proofs.Rooms.{if_ok, length-items}
 use Rattle.std.specs.Result.{IsOk, is_ok}
 use Rattle.std.specs.Bool.{if◌then◌else◌}
 use Rattle.wh_sat_trail.proofs.assignment.Assignment.assign.Goals as goal
 
-vec_is_long : {X : Type 0} (v : Vec X Global) → vec_len v ≡ length v.items
-vec_is_long v = search rules
-
-if_ok : {E : Type 0} (r : Result (Unit {0}) E) (n a b : List Literal) → IsOk r → n ≡ (if is_ok r then a else b) → n ≡ a
-if_ok (Ok x) n a b o e = e
-if_ok (Err x) n a b o e = absurd (grind (arith, o))
-
 room : (s : Assignment) (l : Literal) → l.variable < vec_len s.values → Open s.literals.items l → vec_len s.literals < vec_capacity s.literals
 room s l b o =
     let was : get_or s.values.items l.variable None ≡ None = s.tabled l.variable b ∙ o in
-    let counts = count_assign s.values.items l.variable l.positive (omega (arith, vec_is_long s.values, b)) was in
-    omega (arith, counts, s.counted, s.roomy, vec_is_long s.literals)
+    let counts = count_assign s.values.items l.variable l.positive (omega (arith, length-items s.values, b)) was in
+    omega (arith, counts, s.counted, s.roomy, length-items s.literals)
 
 pub returns-clause-literals : goal.returns-clause-literals
 returns-clause-literals c =
