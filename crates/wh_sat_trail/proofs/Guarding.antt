@@ -1,4 +1,4 @@
-use Rattle.std.proofs.Common.{◌≡◌, ◌≢◌, ℕ, ◌+◌, ◌-◌, ◌*◌, ◌<◌, ◌≤◌, min, zero, suc, Bool, true, false, not, cond, List, [], ◌∷◌, ◌++◌, length, get_or, take, drop, set, Option, Some, None, eqb, ◌||◌, refl, sym, ◌∙◌, ap, subst, ◌⊎◌, inl, inr, arith, rules, tests}
+use Rattle.std.proofs.Common.{◌≡◌, ◌≢◌, ℕ, ◌+◌, ◌-◌, ◌*◌, ◌<◌, ◌≤◌, min, zero, suc, Bool, true, false, not, cond, List, [], ◌∷◌, ◌++◌, length, get_or, take, drop, set, Option, Some, None, eqb, ◌||◌, ◌&&◌, refl, sym, ◌∙◌, ap, subst, ◌⊎◌, inl, inr, arith, rules, tests}
 use Rattle.std.specs.List.{sum_by, swap_remove}
 use Rattle.std.proofs.lemmas.List.{take_at, take_all, take-take, take_more, get_or_default, take-append-le, length_push, get_or-set_same, get_or-set_other, length-set, get_or_push, get_or_append_left, get_or-take, length-take-le}
 use Rattle.std.proofs.lemmas.List.Sums.{sum_by-swap_remove, sum_by_push}
@@ -10,7 +10,9 @@ use Rattle.wh_sat_trail.specs.Assignment.{value_in, Holds, Fails, Open}
 use Rattle.wh_sat_trail.specs.Code.{code_of}
 use Rattle.wh_sat_trail.specs.Member.{member}
 use Rattle.wh_sat_trail.specs.Watch.{Safe, Guard, Guarded, Ordered, Listed, AllSafe, count_of, nothing, no_stop, no_pair, pair}
-use Rattle.wh_sat_trail.proofs.Looking.{beq_refl}
+use Rattle.wh_sat_trail.proofs.Looking.{beq_refl, cases_literal, lit_same}
+use Rattle.wh_sat_trail.specs.Propagation.{IsForced}
+use mathlib.Core.Bool.{beq}
 use Rattle.wh_sat_trail.proofs.Watching.{safe_assign, safe_longer, safe_undo, safe_move, safe_swap, safe_possible, stays_from}
 
 or_true : (b : Bool) → (b || true) ≡ true
@@ -44,6 +46,19 @@ guarded_push clauses t stops head lists pairs short l o g = record {
   others = g.others
   }
 
+or_rest : (a b : Bool) → a ≡ false → (a || b) ≡ true → b ≡ true
+or_rest a b e h = rw e at h
+
+not_true : (b : Bool) → (b ≡ true → ⊥) → b ≡ false
+not_true true f = absurd (f refl)
+not_true false f = refl
+
+different : (x l : Literal) → x ≢ l → (eqb x.variable l.variable && beq x.positive l.positive) ≡ false
+different x l u = not_true _ (λ e. u (lit_same x l (rw e refl)))
+
+member_later : (x l : Literal) (rest : Bool) → x ≢ l → ((eqb x.variable l.variable && beq x.positive l.positive) || rest) ≡ true → rest ≡ true
+member_later x l rest u e = or_rest _ rest (different x l u) e
+
 pub member_at : (c : List Literal) (i : ℕ) (d : Literal) → i < length c → member (get_or c i d) c ≡ true
 member_at [] i d w = absurd (omega arith)
 member_at (x ∷ c) zero d w = rw (eqb_refl x.variable, beq_refl x.positive) refl
@@ -61,10 +76,10 @@ rest_step t c other n e h w s i d q u = elim (cases_eq i n) [
   | inr o ↦ h i d (omega (arith, o, q)) u
   ]
 
-is_one : (k x : ℕ) → x ≡ k → cond (eqb x k) 1 0 ≡ suc zero
+pub is_one : (k x : ℕ) → x ≡ k → cond (eqb x k) 1 0 ≡ suc zero
 is_one k x e = grind (arith, tests)
 
-is_none : (k x : ℕ) → x ≢ k → cond (eqb x k) 1 0 ≡ zero
+pub is_none : (k x : ℕ) → x ≢ k → cond (eqb x k) 1 0 ≡ zero
 is_none k x e = grind (arith, tests)
 
 pub count_push : (k y : ℕ) (xs : List ℕ) → count_of k (xs ++ y ∷ []) ≡ count_of k xs + cond (eqb y k) 1 0
@@ -309,3 +324,30 @@ pub before_stop : (stops : List Stop) (head n level j : ℕ) → Ordered stops h
 before_stop stops head n level j o w v =
     let u : j < level = omega (arith, length-take-le level stops (omega (arith, w)), v) in
     ( rw (get_or-take level stops j no_stop u) (o.dones j level u w), rw (get_or-take level stops j no_stop u) (o.marks j level u w) )
+
+-- a member has a place
+pub member_place : (l : Literal) (c : List Literal) → member l c ≡ true → (place : ℕ) × ((place < length c) × ((d : Literal) → get_or c place d ≡ l))
+member_place l [] e = absurd (grind (arith, e))
+member_place l (x ∷ c) e = elim (cases_literal x l) [
+    inl same ↦ (0, (omega arith, λ d. same))
+  | inr other ↦ let r = member_place l c (member_later x l (member l c) other e) in (suc r.0, (omega (arith, r.1.0), λ d. r.1.1 d))
+  ]
+
+-- a literal that becomes true, forced by its clause
+pub forced_by : (clauses : List (List Literal)) (t : List Literal) (k : ℕ) (l : Literal) → k < length clauses → Open t l → member l (get_or clauses k []) ≡ true
+    → ((i : ℕ) (d : Literal) → i < length (get_or clauses k []) → get_or (get_or clauses k []) i d ≢ l → Fails t (get_or (get_or clauses k []) i d)) → IsForced clauses t l
+forced_by clauses t k l w o m f =
+    let r = member_place l (get_or clauses k []) m in
+    record { clause = k; known = w; forces = record { free = o; place = r.0; within = r.1.0; is = r.1.1; others = f } }
+
+-- the guard of a clause that joins with two watches that are not false
+pub guard_new : (t : List Literal) (stops : List Stop) (head : ℕ) (lists : List (List ℕ)) (c : List Literal) (k : ℕ) (a b : Literal)
+    → member a c ≡ true → member b c ≡ true → a ≢ b → (Fails t a → ⊥) → (Fails t b → ⊥) → Listed lists a k → Listed lists b k → Guard t stops head lists c k (pair a b)
+guard_new t stops head lists c k a b ma mb u fa fb la lb = record {
+  first_in = ma; second_in = mb; distinct = u; first_listed = la; second_listed = lb;
+  here = safe_possible t a b head (length t) fa fb;
+  past = λ j w. safe_possible t a b (get_or stops j no_stop).done (get_or stops j no_stop).mark fa fb
+  }
+
+pub code_below : (l : Literal) (n : ℕ) → l.variable < n → code_of l < 2 * n
+code_below l n w = elim l.positive as (λ b. 2 * l.variable + cond b 1 0 < 2 * n) [ true ↦ omega (arith, w) | false ↦ omega (arith, w) ]

@@ -3,3 +3,4 @@ pub mod Assigning
 pub mod Looking
 pub mod Watching
 pub mod Guarding
+pub mod Visiting

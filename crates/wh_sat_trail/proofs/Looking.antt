@@ -1,5 +1,5 @@
 use Rattle.std.proofs.Common.{◌≡◌, ◌≢◌, ℕ, ◌+◌, ◌-◌, ◌<◌, ◌≤◌, zero, suc, Bool, true, false, not, cond, List, [], ◌∷◌, ◌++◌, length, get_or, take, set, replicate, Option, Some, None, eqb, ◌&&◌, refl, sym, ◌∙◌, ap, subst, ◌⊎◌, inl, inr, arith, rules, tests}
-use Rattle.std.proofs.lemmas.List.{take_at, take_all, get_or_push, get_or_default, length_push, take-append-le, get_or_append_left, length-append, take-take, get_or-take, length-take}
+use Rattle.std.proofs.lemmas.List.{take_at, take_all, get_or_push, get_or_default, length_push, take-append-le, get_or_append_left, length-append, take-take, get_or-take, length-take, get_or_at}
 use Rattle.std.proofs.lemmas.Bool.{cases_eq, cases_lt}
 use Rattle.wh_sat_trail.specs.declared.literal.Literal.{Literal}
 use Rattle.wh_sat_trail.specs.declared.look.Look.{Look}
@@ -181,3 +181,15 @@ grows_trans clauses s t u le f g = record {
 
 pub grows_longer : (clauses : List (List Literal)) (s t : List Literal) → Grows clauses s t → length s ≤ length t
 grows_longer clauses s t g = omega (arith, ap length g.kept, length-take (length s) t)
+
+-- the next clause of a list whose clauses lie below a number
+pub next_below : (n : ℕ) (done rest : List (List Literal)) (c : List Literal) → Within n (done ++ c ∷ rest) → AllBelow n c
+next_below n done rest c w = subst (AllBelow n) (get_or_at done c rest [] (length done) refl) (w (length done) (omega (arith, length-append done (c ∷ rest))))
+
+-- growth after growth, over a formula that has stayed
+pub grows_on : (clauses after : List (List Literal)) (s t u : List Literal) → after ≡ clauses → Grows clauses s t → Grows after t u → Grows clauses s u
+grows_on clauses after s t u e f g = grows_trans clauses s t u (grows_longer clauses s t f) f (subst (λ x. Grows x t u) e g)
+
+-- a forced literal stands in a clause
+pub forced_below : (n : ℕ) (clauses : List (List Literal)) (t : List Literal) (l : Literal) → Within n clauses → IsForced clauses t l → l.variable < n
+forced_below n clauses t l w f = subst (λ m. m.variable < n) (f.forces.is l) (w f.clause f.known f.forces.place l f.forces.within)

@@ -6,3 +6,4 @@ pub mod Look
 pub mod Watch
 pub mod Visit
 pub mod State
+pub mod Find

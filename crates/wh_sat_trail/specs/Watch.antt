@@ -1,5 +1,5 @@
 -- Two watched literals a clause, as in MiniSat. Levels are known by stops alone: how much of the queue was done, and how many literals were assigned (ours).
-use Rattle.std.specs.Prelude.{◌≡◌, ◌≢◌, ℕ, ◌+◌, ◌<◌, ◌≤◌, Bool, true, false, cond, List, [], ◌∷◌, ◌++◌, length, get_or, take, drop, sum_by, eqb, ◌⊎◌}
+use Rattle.std.specs.Prelude.{◌≡◌, ◌≢◌, ℕ, ◌+◌, ◌-◌, ◌<◌, ◌≤◌, Bool, true, false, cond, List, [], ◌∷◌, ◌++◌, length, get_or, take, drop, sum_by, eqb, ◌⊎◌}
 use Rattle.wh_sat_trail.specs.declared.literal.Literal.{Literal}
 use Rattle.wh_sat_trail.specs.declared.watch.Stop.{Stop}
 use Rattle.wh_sat_trail.specs.declared.watch.Pair.{Pair}
@@ -68,3 +68,7 @@ pub record Turn (t : List Literal) (head : ℕ) (a : Literal) : Type 0 where
 abbrev pub Pending : List (List Literal) → List Literal → ℕ → List (List ℕ) → List Pair → Literal → ℕ → Type 0
 Pending clauses t head lists pairs a i = (k : ℕ) → k < length clauses → (get_or pairs k no_pair).watched ≡ true
     → (Safe t (get_or pairs k no_pair).first (get_or pairs k no_pair).second (head + 1) (length t)) ⊎ (0 < count_of k (drop i (get_or lists (code_of a) [])))
+
+-- how much of the queue was done when the last level began
+abbrev pub done_of : List Stop → ℕ
+done_of stops = (get_or stops (length stops - 1) no_stop).done

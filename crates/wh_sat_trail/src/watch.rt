@@ -48,3 +48,10 @@ pub fn code(literal: Literal) -> usize
 {
     2 * literal.variable as usize + usize::from(literal.positive)
 }
+
+/// What the short clauses say: nothing, that one is false, or that one forces a literal.
+pub enum Find {
+    Nothing,
+    Refuted(usize),
+    Forces(usize, Literal),
+}

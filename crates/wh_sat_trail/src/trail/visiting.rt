@@ -94,7 +94,7 @@ impl Trail {
         ensures grows { Grows self.old.formula.clauses self.old.assignment.literals.items self.new.assignment.literals.items }
         ensures answer { IfOk result (Visits self.old self.new at falsified) }
     {
-        match self.assignment.replacement(self.formula.clauses.as_slice()[number].as_slice(), other) {
+        match self.assignment.replacement(self.clause(number), other) {
             Some(new) => {
                 self.rewatch(at, number, falsified, other, new)?;
                 Ok(Visit::Moved)
@@ -135,6 +135,14 @@ impl Trail {
         }
     }
 
+    /// The literals of a clause.
+    pub(crate) fn clause(&self, number: usize) -> &[Literal]
+        requires { number < length self.now.formula.clauses }
+        ensures { result.now ≡ get_or self.now.formula.clauses number [] }
+    {
+        self.formula.clauses.as_slice()[number].as_slice()
+    }
+
     /// The clause number at a place of a literal's list.
     fn entry(&self, at: usize, literal: Literal) -> usize
         requires below { literal.variable < self.now.formula.variables }
@@ -171,5 +179,36 @@ impl Trail {
             Some(value) => value,
             None => false,
         }
+    }
+}
+
+impl Trail {
+    /// All clauses that watch a literal which is false now. What is false is reported; else every watched clause is safe one literal further.
+    pub(crate) fn visit_all(&mut self, falsified: Literal) -> Result<Option<usize>, AllocError>
+        requires below { falsified.variable < self.old.formula.variables }
+        requires turn { Turn self.old.assignment.literals.items self.old.head falsified }
+        ensures same { self.new.formula ≡ self.old.formula }
+        ensures stops { self.new.stops.items ≡ self.old.stops.items }
+        ensures head { self.new.head ≡ self.old.head }
+        ensures grows { Grows self.old.formula.clauses self.old.assignment.literals.items self.new.assignment.literals.items }
+        ensures answer { IfOk result (λ answer. MatchOption answer (AllSafe self.new.formula.clauses self.new.assignment.literals.items self.new.pairs.items (self.new.head + 1) (length self.new.assignment.literals.items)) (λ k. (k < length self.old.formula.clauses) × IsRefuted self.new.assignment.literals.items (get_or self.old.formula.clauses k []))) }
+    {
+        let mut at = 0;
+        while at < self.watchers(falsified) {
+            match self.visit(at, falsified)? {
+                Visit::Stays => at += 1,
+                Visit::Moved => {}
+                Visit::Refuted(number) => return Ok(Some(number)),
+            }
+        }
+        Ok(None)
+    }
+
+    /// How many clauses stand in a literal's list.
+    fn watchers(&self, literal: Literal) -> usize
+        requires { literal.variable < self.now.formula.variables }
+        ensures { result ≡ length (list_of self.now literal) }
+    {
+        self.lists[code(literal)].items.len()
     }
 }

@@ -1,0 +1,61 @@
+use Rattle.std.proofs.Common.{rules, arith, sym, ap, subst, refl, ◌∙◌, inl, inr, tests, ◌⊎◌, Option, Some, None, Bool, true, false, not, ◌≡◌, ◌≢◌, ℕ, List, [], ◌∷◌, ◌++◌, ◌<◌, ◌≤◌, ◌+◌, ◌*◌, length, get_or, set, take, drop, map, vec_len, ◌-◌, replicate}
+use Rattle.std.proofs.lemmas.Bool.{cases_eq}
+use Rattle.std.proofs.lemmas.Grind.{common_steps}
+use Rattle.std.proofs.lemmas.List.{get_or_default, get_or_read, length_push, length-set, take-take, take_all, get_or-replicate, take_more}
+use Rattle.wh_sat_trail.specs.declared.literal.Literal.{Literal}
+use Rattle.wh_sat_trail.specs.Assignment.{value_in, negated, Holds, Fails, Open, AllBelow, IsFresh, Tabled, count_none}
+use Rattle.wh_sat_trail.specs.Propagation.{IsRefuted, Forces, IsForced, Grows, IsClosed, Within}
+use Rattle.wh_sat_trail.proofs.Looking.{Scan, quiet_two, quiet_true, scan_false, scan_open, scan_same, scan_all_none, scan_all_some, lit_same, lit_other, grows_push, grows_same, grows_trans, grows_longer, grows_on, within_push, next_below, forced_below, cases_literal, true_not_false, open_not_false}
+use Rattle.wh_sat_trail.proofs.Assigning.{push_tabled, push_fresh, push_below, count_assign, pop_tabled, pop_fresh_rest, pop_below, pop_fresh, count_undo, count_replicate, stays, push_same}
+use Rattle.wh_sat_trail.specs.Code.{code_of}
+use Rattle.wh_sat_trail.specs.Member.{member}
+use Rattle.wh_sat_trail.specs.Look.{IsCandidate}
+use Rattle.wh_sat_trail.specs.Watch.{Safe, Guard, Guarded, Ordered, Listed, AllSafe, Turn, Pending, count_of, nothing, no_stop, no_pair, pair}
+use Rattle.wh_sat_trail.proofs.Guarding.{member_at, Rest, rest_step, ordered_push, guarded_push, guarded_move, guarded_set, guard_swap, guarded_head, guarded_decide, ordered_decide, guarded_fewer, ordered_fewer, guarded_join, guarded_short, moved, count_push, guard_new, code_below, member_place, forced_by, swap_default, levels_few, before_stop}
+use Rattle.wh_sat_trail.proofs.Watching.{safe_assign, safe_longer, safe_undo, safe_move, safe_swap, safe_possible, safe_first, safe_true, safe_turn, turn_fails, turn_longer, turn_kept, stays_from}
+use Rattle.wh_sat_trail.proofs.Rooms.{if_ok, length-items}
+use Rattle.std.proofs.lemmas.List.{take-map, length-map, get_or-map}
+use Rattle.std.proofs.Common.{vec_capacity, Vec, Global, Result, Ok, Err}
+use Rattle.wh_sat_trail.proofs.Visiting.{length-swap_remove, other_safe, pending_start, pending_end, pending_pass, pending_push, safe_either, pending_turn, pending_move, pending_as, closed_by, short_step}
+use Rattle.std.specs.List.{swap_remove}
+use Rattle.wh_sat_trail.proofs.trail.Trail.close.Goals as goal
+
+pub returns-in_err-number-clause-grows : goal.returns-in_err-number-clause-grows
+returns-in_err-number-clause-grows c =
+    let i = c.loop-number.invariant in
+    grows_on _ c.loop-number.self.formula.clauses _ c.loop-number.self.assignment.literals.items _ (ap (λ f. f.clauses) i.same) i.grows c.empty_queue.ensures.grows
+
+pub returns-in-Some-clause-grows : goal.returns-in-Some-clause-grows
+returns-in-Some-clause-grows c =
+    let i = c.loop-number.invariant in
+    grows_on _ c.loop-number.self.formula.clauses _ c.loop-number.self.assignment.literals.items _ (ap (λ f. f.clauses) i.same) i.grows c.empty_queue.ensures.grows
+
+pub returns-in-Nothing-clause-grows : goal.returns-in-Nothing-clause-grows
+returns-in-Nothing-clause-grows c =
+    let i = c.loop-number.invariant in
+    grows_on _ c.loop-number.self.formula.clauses _ c.loop-number.self.assignment.literals.items _ (ap (λ f. f.clauses) i.same) i.grows c.empty_queue.ensures.grows
+
+pub returns-in-Refuted-clause-grows : goal.returns-in-Refuted-clause-grows
+returns-in-Refuted-clause-grows c =
+    let i = c.loop-number.invariant in
+    grows_on _ c.loop-number.self.formula.clauses _ c.loop-number.self.assignment.literals.items _ (ap (λ f. f.clauses) i.same) i.grows c.empty_queue.ensures.grows
+
+pub assign-requires-clause-below : goal.assign-requires-clause-below
+assign-requires-clause-below c =
+    let s = c.empty_queue.new.self in
+    forced_below s.formula.variables s.formula.clauses s.assignment.literals.items c.in-Forces.literal s.within c.in-Forces.ensures
+
+pub loop-number-preserved : goal.loop-number-preserved
+loop-number-preserved c =
+    let i = c.loop-number.invariant in
+    let s = c.args.self.now in
+    let n = c.empty_queue.new.self in
+    let l = c.in-Forces.literal in
+    let e : n.formula.clauses ≡ s.formula.clauses = ap (λ f. f.clauses) (c.empty_queue.ensures.same ∙ i.same) in
+    let g = grows_on s.formula.clauses c.loop-number.self.formula.clauses s.assignment.literals.items c.loop-number.self.assignment.literals.items n.assignment.literals.items (ap (λ f. f.clauses) i.same) i.grows c.empty_queue.ensures.grows in
+    let f : IsForced s.formula.clauses n.assignment.literals.items l = subst (λ x. IsForced x n.assignment.literals.items l) e c.in-Forces.ensures in
+    record {
+      same = c.assign.ensures.same ∙ c.empty_queue.ensures.same ∙ i.same;
+      stops = ap (λ v. v.items) c.assign.ensures.stops ∙ c.empty_queue.ensures.stops ∙ i.stops;
+      grows = rw c.assign.ensures.literals (grows_push s.formula.clauses s.assignment.literals.items n.assignment.literals.items l g (grows_longer s.formula.clauses s.assignment.literals.items n.assignment.literals.items g) f)
+    }

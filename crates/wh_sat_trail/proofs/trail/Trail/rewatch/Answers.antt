@@ -1,0 +1,50 @@
+use Rattle.std.proofs.Common.{rules, arith, sym, ap, subst, refl, ◌∙◌, inl, inr, tests, ◌⊎◌, Option, Some, None, Bool, true, false, not, ◌≡◌, ◌≢◌, ℕ, List, [], ◌∷◌, ◌++◌, ◌<◌, ◌≤◌, ◌+◌, ◌*◌, length, get_or, set, take, drop, map, vec_len, ◌-◌, replicate}
+use Rattle.std.proofs.lemmas.Bool.{cases_eq}
+use Rattle.std.proofs.lemmas.Grind.{common_steps}
+use Rattle.std.proofs.lemmas.List.{get_or_default, get_or_read, length_push, length-set, take-take, take_all, get_or-replicate, take_more}
+use Rattle.wh_sat_trail.specs.declared.literal.Literal.{Literal}
+use Rattle.wh_sat_trail.specs.Assignment.{value_in, negated, Holds, Fails, Open, AllBelow, IsFresh, Tabled, count_none}
+use Rattle.wh_sat_trail.specs.Propagation.{IsRefuted, Forces, IsForced, Grows, IsClosed, Within}
+use Rattle.wh_sat_trail.proofs.Looking.{Scan, quiet_two, quiet_true, scan_false, scan_open, scan_same, scan_all_none, scan_all_some, lit_same, lit_other, grows_push, grows_same, grows_trans, grows_longer, within_push, next_below, cases_literal, true_not_false, open_not_false}
+use Rattle.wh_sat_trail.proofs.Assigning.{push_tabled, push_fresh, push_below, count_assign, pop_tabled, pop_fresh_rest, pop_below, pop_fresh, count_undo, count_replicate, stays, push_same}
+use Rattle.wh_sat_trail.specs.Code.{code_of}
+use Rattle.wh_sat_trail.specs.Member.{member}
+use Rattle.wh_sat_trail.specs.Look.{IsCandidate}
+use Rattle.wh_sat_trail.specs.Watch.{Safe, Guard, Guarded, Ordered, Listed, AllSafe, Turn, Pending, count_of, nothing, no_stop, no_pair, pair}
+use Rattle.wh_sat_trail.proofs.Guarding.{member_at, Rest, rest_step, ordered_push, guarded_push, guarded_move, guarded_set, guard_swap, guarded_head, guarded_decide, ordered_decide, guarded_fewer, ordered_fewer, guarded_join, guarded_short, moved, count_push, guard_new, code_below, member_place, forced_by, swap_default, levels_few, before_stop}
+use Rattle.wh_sat_trail.proofs.Watching.{safe_assign, safe_longer, safe_undo, safe_move, safe_swap, safe_possible, safe_first, safe_true, safe_turn, turn_fails, turn_longer, turn_kept, stays_from}
+use Rattle.wh_sat_trail.proofs.Rooms.{if_ok, length-items}
+use Rattle.std.proofs.lemmas.List.{take-map, length-map, get_or-map}
+use Rattle.std.proofs.Common.{vec_capacity, Vec, Global, Result, Ok, Err}
+use Rattle.wh_sat_trail.proofs.Visiting.{length-swap_remove, other_safe, pending_start, pending_end, pending_pass, pending_push, safe_either, pending_turn, pending_move, pending_as}
+use Rattle.std.specs.List.{swap_remove}
+use Rattle.wh_sat_trail.proofs.trail.Trail.rewatch.Goals as goal
+
+pub invariant_of-self-2 : goal.invariant_of-self-2
+invariant_of-self-2 c =
+    let s = c.args.self.now in
+    let q = c.requires in
+    let a = c.args in
+    let old = code_of a.falsified in
+    let more = set s.lists.items (code_of a.new) (get_or s.lists.items (code_of a.new) [] ++ a.number ∷ []) in
+    let wide : length s.lists.items ≡ 2 * s.formula.variables = search rules in
+    let far : length s.pairs.items ≡ length s.formula.clauses = sym (length-items s.pairs) ∙ s.paired in
+    let small : a.new.variable < s.formula.variables = omega (arith, s.width, q.candidate.below) in
+    let code_in : code_of a.new < length s.lists.items = omega (arith, wide, code_below a.new s.formula.variables small) in
+    let old_in : old < length s.lists.items = omega (arith, wide, code_below a.falsified s.formula.variables q.falsified_below) in
+    let e1 : c.push.new.self.items ≡ get_or s.lists.items c.code.result [] ++ a.number ∷ [] = grind (arith, common_steps) in
+    let e2 : set s.lists.items c.code.result c.push.new.self.items ≡ more = rw (e1, c.code.ensures) refl in
+    let w : c.code-2.result < length (set s.lists.items c.code.result c.push.new.self.items) = omega (arith, c.code-2.ensures, old_in, length-set s.lists.items c.code.result c.push.new.self.items) in
+    let ins : c.behind-self-2.inside.items.items ≡ get_or more old [] = c.behind-self-2.view_is ∙ get_or_read _ _ _ w c.index_mut-3.ensures.value [] ∙ ap (λ x. get_or x c.code-2.result []) e2 ∙ ap (λ x. get_or more x []) c.code-2.ensures in
+    let full : 0 < length c.behind-self-2.inside.items.items = search rules in
+    let e3 : c.swap_remove.new.self.items ≡ swap_remove (get_or more old []) a.at a.number = c.swap_remove.ensures.items ∙ swap_default c.behind-self-2.inside.items.items a.at _ a.number full ∙ ap (λ xs. swap_remove xs a.at a.number) ins in
+    let e4 : set (set s.lists.items c.code.result c.push.new.self.items) c.code-2.result c.swap_remove.new.self.items ≡ moved s.lists.items (code_of a.new) old a.at a.number = rw (e2, e3, c.code-2.ensures) refl in
+    record {
+      width = search rules;
+      within = s.within;
+      coded = search rules;
+      paired = search rules;
+      ordered = s.ordered;
+      guarded = rw e4 (guarded_move s.formula.clauses s.assignment.literals.items s.stops.items s.head s.lists.items s.pairs.items s.short.items a.number a.at a.falsified a.other a.new
+        (omega (arith, far, q.number_in)) code_in old_in q.number_in q.both q.fails q.candidate.in_clause q.distinct q.candidate.possible q.at_in q.is s.guarded)
+    }
