@@ -1,4 +1,4 @@
-use Rattle.std.proofs.Common.{◌≡◌, ◌<◌, List, Vec, Global, Result, Ok, Err, length, vec_len, rules, arith}
+use Rattle.std.proofs.Common.{◌≡◌, List, Vec, Global, Result, Ok, Err, length, vec_len, rules, arith}
 use Rattle.std.specs.Result.{IsOk, is_ok}
 use Rattle.std.specs.Bool.{if◌then◌else◌}
 

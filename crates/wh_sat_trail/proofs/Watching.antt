@@ -1,11 +1,10 @@
-use Rattle.std.proofs.Common.{◌≡◌, ◌≢◌, ℕ, ◌+◌, ◌-◌, ◌<◌, ◌≤◌, min, zero, suc, Bool, true, false, not, cond, List, [], ◌∷◌, ◌++◌, length, get_or, take, drop, Option, Some, None, eqb, refl, sym, ◌∙◌, ap, subst, ◌⊎◌, inl, inr, arith, rules, tests}
-use Rattle.std.proofs.lemmas.List.{take_at, take_all, take-take, take-append-drop, take_more, get_or_default, take-append-le, length-append}
+use Rattle.std.proofs.Common.{◌≡◌, ◌≢◌, ℕ, ◌+◌, ◌<◌, ◌≤◌, Bool, true, false, not, List, [], ◌∷◌, ◌++◌, length, get_or, take, drop, Option, Some, None, refl, sym, ◌∙◌, ap, subst, ◌⊎◌, inl, inr, arith}
+use Rattle.std.proofs.lemmas.List.{take_all, take-take, take-append-drop, take-append-le, length-append}
 use Rattle.std.proofs.lemmas.Bool.{cases_eq}
 use Rattle.wh_sat_trail.specs.declared.literal.Literal.{Literal}
 use Rattle.wh_sat_trail.specs.declared.look.Look.TheVariants as look
 use Rattle.wh_sat_trail.specs.Look.{Looks}
-use Rattle.wh_sat_trail.specs.Assignment.{value_in, negated, Holds, Fails, Open}
-use Rattle.wh_sat_trail.specs.Propagation.{IsRefuted, Forces}
+use Rattle.wh_sat_trail.specs.Assignment.{value_in, negated, Holds, Fails}
 use Rattle.wh_sat_trail.specs.Watch.{Safe, Turn}
 use Rattle.wh_sat_trail.proofs.Assigning.{stays, push_other, push_same}
 use Rattle.wh_sat_trail.proofs.Looking.{true_not_false, open_not_false, forces_not, quiet_true}
@@ -30,7 +29,7 @@ safe_longer t a b h m n mn s =
     let e : take m (take n t) ≡ take m t = take-take m n t mn in
     record {
       left = λ f. stays_from (take n t) m b.variable b.positive (subst (λ x. Holds x b) (sym e) (s.left f));
-      right = λ f. stays_from (take n t) m a.variable a.positive (subst (λ x. Holds x a) (sym e) (s.right f))
+      right = λ f. stays_from (take n t) m a.variable a.positive (subst (λ x. Holds x a) (sym e) (s.right f));
     }
 
 -- back to a front of the trail
@@ -46,7 +45,7 @@ safe_true t a b h k =
     let e : take (length t) t ≡ t = take_all (length t) t (omega arith) in
     record {
       left = λ _. subst (λ x. Holds x b) (sym e) k;
-      right = λ f. absurd (true_not_false _ b.positive k (stays_from t h b.variable (not b.positive) f))
+      right = λ f. absurd (true_not_false _ b.positive k (stays_from t h b.variable (not b.positive) f));
     }
 
 -- the false watch moves to a literal that is not false: at any stop
@@ -54,31 +53,31 @@ pub safe_move : (t : List Literal) (a b new : Literal) (h m : ℕ) → Fails t a
 safe_move t a b new h m f n s =
     record {
       left = λ k. absurd (n (stays_from t h new.variable (not new.positive) k));
-      right = λ k. absurd (true_not_false _ a.positive (stays_from t m a.variable a.positive (s.right k)) f)
+      right = λ k. absurd (true_not_false _ a.positive (stays_from t m a.variable a.positive (s.right k)) f);
     }
 
 -- a new stop for a clause whose watch moves: the new watch is not false, and the other was not false before
 pub safe_move_here : (t : List Literal) (a b new : Literal) (h : ℕ) → (Fails t new → ⊥) → (Fails t b → ⊥) → Safe t new b h (length t)
 safe_move_here t a b new h n k = record {
   left = λ q. absurd (n (stays_from t h new.variable (not new.positive) q));
-  right = λ q. absurd (k (stays_from t h b.variable (not b.positive) q))
-  }
+  right = λ q. absurd (k (stays_from t h b.variable (not b.positive) q));
+}
 
 -- one literal more is done: a clause that does not watch its negation
 pub fails_before : (s : List Literal) (p a : Literal) → (p.variable ≡ a.variable → p.positive ≡ not a.positive → ⊥) → value_in s p.variable ≡ None → Fails (s ++ p ∷ []) a → Fails s a
 fails_before s p a u o f = elim (cases_eq p.variable a.variable) [
-    inl same ↦
+  | inl same ↦
       let g : Some p.positive ≡ Some (not a.positive) = sym (push_same s p o) ∙ subst (λ v. value_in (s ++ p ∷ []) v ≡ Some (not a.positive)) (sym same) f in
       absurd (u same (grind (arith, g)))
   | inr other ↦ sym (push_other s p a.variable other) ∙ f
-  ]
+]
 
 pub safe_next : (t : List Literal) (a b p : Literal) (h m : ℕ) → take (h + 1) t ≡ take h t ++ p ∷ [] → value_in (take h t) p.variable ≡ None
     → (p.variable ≡ a.variable → p.positive ≡ not a.positive → ⊥) → (p.variable ≡ b.variable → p.positive ≡ not b.positive → ⊥) → Safe t a b h m → Safe t a b (h + 1) m
 safe_next t a b p h m e o ua ub s = record {
   left = λ f. s.left (fails_before (take h t) p a ua o (subst (λ x. Fails x a) e f));
-  right = λ f. s.right (fails_before (take h t) p b ub o (subst (λ x. Fails x b) e f))
-  }
+  right = λ f. s.right (fails_before (take h t) p b ub o (subst (λ x. Fails x b) e f));
+}
 
 pub cases_value : (o : Option Bool) (b : Bool) → (o ≡ Some b) ⊎ ((o ≡ Some (not b)) ⊎ (o ≡ None))
 cases_value None b = inr (inr refl)
@@ -95,17 +94,18 @@ safe_quiet t c i j a b wi wj ea eb u s =
     let fa : Fails t a → Holds t b = λ f. subst (λ x. Holds x b) e (s.left (subst (λ x. Fails x a) (sym e) f)) in
     let fb : Fails t b → Holds t a = λ f. subst (λ x. Holds x a) e (s.right (subst (λ x. Fails x b) (sym e) f)) in
     elim (cases_value (value_in t a.variable) a.positive) [
-      inl good ↦ quiet_true t c i a wi ea good
-    | inr rest ↦ elim rest [
-        inl bad ↦ quiet_true t c j b wj eb (fa bad)
-      | inr free ↦ elim (cases_value (value_in t b.variable) b.positive) [
-          inl good ↦ quiet_true t c j b wj eb good
-        | inr rest2 ↦ elim rest2 [
-            inl bad ↦ quiet_true t c i a wi ea (fb bad)
-          | inr free2 ↦
-              ( λ r. open_not_false _ (not a.positive) free (subst (Fails t) (sym ea) (r i a wi))
-              , λ l k. forces_not t c j b l wj eb (λ q. open_not_false _ (not b.positive) free2 q)
-                  (λ bl. forces_not t c i a l wi ea (λ q. open_not_false _ (not a.positive) free q) (λ al. u (al ∙ sym bl)) k) k )
+      | inl good ↦ quiet_true t c i a wi ea good
+      | inr rest ↦ elim rest [
+        | inl bad ↦ quiet_true t c j b wj eb (fa bad)
+        | inr free ↦ elim (cases_value (value_in t b.variable) b.positive) [
+          | inl good ↦ quiet_true t c j b wj eb good
+          | inr rest2 ↦ elim rest2 [
+            | inl bad ↦ quiet_true t c i a wi ea (fb bad)
+            | inr free2 ↦ (
+              λ r. open_not_false _ (not a.positive) free (subst (Fails t) (sym ea) (r i a wi)),
+              λ l k. forces_not t c j b l wj eb (λ q. open_not_false _ (not b.positive) free2 q)
+                  (λ bl. forces_not t c i a l wi ea (λ q. open_not_false _ (not a.positive) free q) (λ al. u (al ∙ sym bl)) k) k,
+            )
           ]
         ]
       ]
@@ -115,8 +115,8 @@ safe_quiet t c i j a b wi wj ea eb u s =
 pub safe_possible : (t : List Literal) (a b : Literal) (h m : ℕ) → (Fails t a → ⊥) → (Fails t b → ⊥) → Safe t a b h m
 safe_possible t a b h m na nb = record {
   left = λ q. absurd (na (stays_from t h a.variable (not a.positive) q));
-  right = λ q. absurd (nb (stays_from t h b.variable (not b.positive) q))
-  }
+  right = λ q. absurd (nb (stays_from t h b.variable (not b.positive) q));
+}
 
 -- nothing is false before the first literal
 pub safe_first : (t : List Literal) (a b : Literal) (m : ℕ) → Safe t a b 0 m
@@ -146,8 +146,8 @@ pub turn_longer : (t u : List Literal) (head : ℕ) (a : Literal) → Turn t hea
 turn_longer t u head a r = record {
   within = omega (arith, r.within, length-append t u);
   before = rw (take-append-le head t u (omega (arith, r.within))) r.before;
-  next = take-append-le (head + 1) t u (omega (arith, r.within)) ∙ r.next ∙ ap (λ s. s ++ negated a ∷ []) (sym (take-append-le head t u (omega (arith, r.within))))
-  }
+  next = take-append-le (head + 1) t u (omega (arith, r.within)) ∙ r.next ∙ ap (λ s. s ++ negated a ∷ []) (sym (take-append-le head t u (omega (arith, r.within))));
+}
 
 -- a list that begins with the old one
 pub longer_is : (t u : List Literal) → take (length t) u ≡ t → u ≡ t ++ drop (length t) u

@@ -1,5 +1,5 @@
 -- What the short clauses tell, once the queue is empty.
-use Rattle.std.specs.Prelude.{◌≡◌, ◌<◌, true, List, [], length, get_or}
+use Rattle.std.specs.Prelude.{◌<◌, List, [], length, get_or}
 use Rattle.wh_sat_trail.specs.declared.literal.Literal.{Literal}
 use Rattle.wh_sat_trail.specs.declared.watch.Find.{Find}
 use Rattle.wh_sat_trail.specs.declared.watch.Find.TheVariants as find

@@ -1,4 +1,4 @@
-use Rattle.std.specs.Prelude.{Bool, true, false, List, [], ◌∷◌, eqb, ◌&&◌, ◌||◌}
+use Rattle.std.specs.Prelude.{Bool, false, List, [], ◌∷◌, eqb, ◌&&◌, ◌||◌}
 use Rattle.wh_sat_trail.specs.declared.literal.Literal.{Literal}
 use mathlib.Core.Bool.{beq}
 

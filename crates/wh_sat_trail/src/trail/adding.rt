@@ -63,11 +63,14 @@ impl Trail {
             Some((first, second)) => {
                 self.enlist(first, number)?;
                 self.enlist(second, number)?;
-                self.join(clause, Pair {
-                    first,
-                    second,
-                    watched: true,
-                })
+                self.join(
+                    clause,
+                    Pair {
+                        first,
+                        second,
+                        watched: true,
+                    },
+                )
             }
             None => {
                 self.short.push(number)?;
@@ -75,11 +78,14 @@ impl Trail {
                     variable: 0,
                     positive: false,
                 };
-                self.join(clause, Pair {
-                    first: nothing,
-                    second: nothing,
-                    watched: false,
-                })
+                self.join(
+                    clause,
+                    Pair {
+                        first: nothing,
+                        second: nothing,
+                        watched: false,
+                    },
+                )
             }
         }
     }

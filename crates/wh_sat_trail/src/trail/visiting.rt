@@ -53,7 +53,14 @@ impl Trail {
 
 impl Trail {
     /// A clause whose first watch is false watches another literal, which is not false.
-    fn rewatch(&mut self, at: usize, number: usize, falsified: Literal, other: Literal, new: Literal) -> Result<(), AllocError>
+    fn rewatch(
+        &mut self,
+        at: usize,
+        number: usize,
+        falsified: Literal,
+        other: Literal,
+        new: Literal,
+    ) -> Result<(), AllocError>
         requires falsified_below { falsified.variable < self.old.formula.variables }
         requires number_in { number < length self.old.formula.clauses }
         requires both { get_or self.old.pairs.items number no_pair ≡ pair falsified other }
@@ -80,7 +87,13 @@ impl Trail {
     }
 
     /// A clause that watches a false literal: it watches another one, or has none and is false or forces its other watch.
-    fn mend(&mut self, at: usize, number: usize, falsified: Literal, other: Literal) -> Result<Visit, AllocError>
+    fn mend(
+        &mut self,
+        at: usize,
+        number: usize,
+        falsified: Literal,
+        other: Literal,
+    ) -> Result<Visit, AllocError>
         requires falsified_below { falsified.variable < self.old.formula.variables }
         requires number_in { number < length self.old.formula.clauses }
         requires both { get_or self.old.pairs.items number no_pair ≡ pair falsified other }

@@ -1,17 +1,11 @@
-use Rattle.std.proofs.Common.{rules, arith, sym, ap, subst, refl, ◌∙◌, inl, inr, tests, ◌⊎◌, Option, Some, None, Bool, true, false, not, ◌≡◌, ◌≢◌, ℕ, List, [], ◌∷◌, ◌++◌, ◌<◌, ◌≤◌, ◌+◌, ◌*◌, length, get_or, set, take, drop, map, vec_len, ◌-◌, replicate}
-use Rattle.std.proofs.lemmas.Bool.{cases_eq}
-use Rattle.std.proofs.lemmas.Grind.{common_steps}
-use Rattle.std.proofs.lemmas.List.{get_or_default, get_or_read, length_push, length-set, take-take, take_all, get_or-replicate, take_more}
+use Rattle.std.proofs.Common.{rules, arith, sym, ◌∙◌, None, ◌≡◌, [], ◌∷◌, ◌++◌, ◌<◌, length, get_or, vec_len}
+use Rattle.std.proofs.lemmas.List.{length_push}
 use Rattle.wh_sat_trail.specs.declared.literal.Literal.{Literal}
-use Rattle.wh_sat_trail.specs.Assignment.{value_in, negated, Holds, Fails, Open, AllBelow, IsFresh, Tabled, count_none}
-use Rattle.wh_sat_trail.specs.Propagation.{IsRefuted, Forces, IsForced, Grows, IsClosed, Within}
-use Rattle.wh_sat_trail.proofs.Looking.{Scan, quiet_two, quiet_true, scan_false, scan_open, scan_same, scan_all_none, scan_all_some, lit_same, lit_other, grows_push, grows_same, true_not_false, open_not_false}
-use Rattle.wh_sat_trail.proofs.Assigning.{push_tabled, push_fresh, push_below, count_assign, pop_tabled, pop_fresh_rest, pop_below, pop_fresh, count_undo, count_replicate, stays, push_same}
-use Rattle.std.proofs.Common.{vec_capacity, Vec, Global, Result, Ok, Err}
+use Rattle.wh_sat_trail.specs.Assignment.{Open}
+use Rattle.wh_sat_trail.proofs.Assigning.{push_tabled, push_fresh, push_below, count_assign}
+use Rattle.std.proofs.Common.{vec_capacity}
 use Rattle.wh_sat_trail.specs.declared.assignment.Assignment.{Assignment}
 use Rattle.wh_sat_trail.proofs.Rooms.{if_ok, length-items}
-use Rattle.std.specs.Result.{IsOk, is_ok}
-use Rattle.std.specs.Bool.{if◌then◌else◌}
 use Rattle.wh_sat_trail.proofs.assignment.Assignment.assign.Goals as goal
 
 room : (s : Assignment) (l : Literal) → l.variable < vec_len s.values → Open s.literals.items l → vec_len s.literals < vec_capacity s.literals
@@ -38,5 +32,5 @@ invariant_of-self c =
       tabled = rw is (push_tabled _ s.values.items s.literals.items l (sym wide) c.requires.below s.tabled c.requires.free);
       counted = rw is (omega (arith, counts, s.counted, length_push s.literals.items l));
       roomy = search rules;
-      reasoned = search rules
+      reasoned = search rules;
     }

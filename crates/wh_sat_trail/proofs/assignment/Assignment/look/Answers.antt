@@ -1,15 +1,8 @@
-use Rattle.std.proofs.Common.{rules, arith, sym, ap, subst, refl, ◌∙◌, inl, inr, tests, ◌⊎◌, Option, Some, None, Bool, true, false, not, ◌≡◌, ◌≢◌, ℕ, List, [], ◌∷◌, ◌++◌, ◌<◌, ◌≤◌, ◌+◌, ◌*◌, length, get_or, set, take, drop, map, vec_len, ◌-◌, replicate}
-use Rattle.std.proofs.lemmas.Bool.{cases_eq}
-use Rattle.std.proofs.lemmas.Grind.{common_steps}
-use Rattle.std.proofs.lemmas.List.{get_or_default, get_or_read, length_push, length-set, take-take, take_all, get_or-replicate, take_more}
-use Rattle.wh_sat_trail.specs.declared.literal.Literal.{Literal}
-use Rattle.wh_sat_trail.specs.Assignment.{value_in, negated, Holds, Fails, Open, AllBelow, IsFresh, Tabled, count_none}
-use Rattle.wh_sat_trail.specs.Propagation.{IsRefuted, Forces, IsForced, Grows, IsClosed, Within}
-use Rattle.wh_sat_trail.proofs.Looking.{Scan, quiet_two, quiet_true, scan_false, scan_open, scan_same, scan_all_none, scan_all_some, lit_same, lit_other, grows_push, grows_same, true_not_false, open_not_false}
-use Rattle.wh_sat_trail.proofs.Assigning.{push_tabled, push_fresh, push_below, count_assign, pop_tabled, pop_fresh_rest, pop_below, pop_fresh, count_undo, count_replicate, stays, push_same}
+use Rattle.std.proofs.Common.{subst, Some}
+use Rattle.std.proofs.lemmas.List.{get_or_default}
+use Rattle.wh_sat_trail.proofs.Looking.{Scan, quiet_two, scan_false, scan_open, scan_same, lit_same, lit_other}
 use Rattle.wh_sat_trail.proofs.assignment.Assignment.look.Goals as goal
 use Rattle.wh_sat_trail.proofs.assignment.Assignment.look.Goals.{in-Some-false, in-None+in-None-free, in-None+in-Some+else-ne}
-use Rattle.wh_sat_trail.proofs.assignment.Assignment.look.Invariants.{invariant-loop-literal}
 
 pub returns-then-ne : goal.returns-then-ne
 returns-then-ne c =
@@ -26,7 +19,7 @@ loop-literal-preserved c =
     let n = c.loop-literal.literal-index in
     let w0 = c.loop-literal-test.true in
     elim c.match-truth.branch [
-      in-Some-false w ↦ rw w.free-is (scan_false t cl n _ _ c.loop-literal.invariant w0 (get_or_default _ _ _ _ w0) (rw w.in-Some-false.field-0-test at w.in-Some-false.ensures))
-    | in-None+in-None-free w ↦ rw w.free-is (scan_open t cl n _ (subst (Scan t cl n) w.in-None-free.is c.loop-literal.invariant) w0 (get_or_default _ _ _ _ w0) w.in-None.ensures)
-    | in-None+in-Some+else-ne w ↦ rw w.free-is (scan_same t cl n _ _ (subst (Scan t cl n) w.in-Some.is c.loop-literal.invariant) (lit_same _ _ w.if-ne.ensures) w0 (get_or_default _ _ _ _ w0))
+      | in-Some-false w ↦ rw w.free-is (scan_false t cl n _ _ c.loop-literal.invariant w0 (get_or_default _ _ _ _ w0) (rw w.in-Some-false.field-0-test at w.in-Some-false.ensures))
+      | in-None+in-None-free w ↦ rw w.free-is (scan_open t cl n _ (subst (Scan t cl n) w.in-None-free.is c.loop-literal.invariant) w0 (get_or_default _ _ _ _ w0) w.in-None.ensures)
+      | in-None+in-Some+else-ne w ↦ rw w.free-is (scan_same t cl n _ _ (subst (Scan t cl n) w.in-Some.is c.loop-literal.invariant) (lit_same _ _ w.if-ne.ensures) w0 (get_or_default _ _ _ _ w0))
     ]

@@ -1,4 +1,3 @@
-use Rattle.std.proofs.Common.{◌≡◌, ◌≢◌, ℕ, ◌<◌, get_or}
 use Rattle.wh_sat_trail.proofs.Guarding.{Rest}
 use Rattle.wh_sat_trail.proofs.assignment.Assignment.replacement.Given as goal
 

@@ -1,12 +1,7 @@
-use Rattle.std.proofs.Common.{rules, arith, sym, ap, subst, refl, ◌∙◌, inl, inr, tests, ◌⊎◌, Option, Some, None, Bool, true, false, not, ◌≡◌, ◌≢◌, ℕ, List, [], ◌∷◌, ◌++◌, ◌<◌, ◌≤◌, ◌+◌, ◌*◌, length, get_or, set, take, drop, map, vec_len, ◌-◌, replicate}
-use Rattle.std.proofs.lemmas.Bool.{cases_eq}
-use Rattle.std.proofs.lemmas.Grind.{common_steps}
-use Rattle.std.proofs.lemmas.List.{get_or_default, get_or_read, length_push, length-set, take-take, take_all, get_or-replicate, take_more}
-use Rattle.wh_sat_trail.specs.declared.literal.Literal.{Literal}
-use Rattle.wh_sat_trail.specs.Assignment.{value_in, negated, Holds, Fails, Open, AllBelow, IsFresh, Tabled, count_none}
-use Rattle.wh_sat_trail.specs.Propagation.{IsRefuted, Forces, IsForced, Grows, IsClosed, Within}
-use Rattle.wh_sat_trail.proofs.Looking.{Scan, quiet_two, quiet_true, scan_false, scan_open, scan_same, scan_all_none, scan_all_some, lit_same, lit_other, grows_push, grows_same, true_not_false, open_not_false}
-use Rattle.wh_sat_trail.proofs.Assigning.{push_tabled, push_fresh, push_below, count_assign, pop_tabled, pop_fresh_rest, pop_below, pop_fresh, count_undo, count_replicate, stays, push_same}
+use Rattle.std.proofs.Common.{rules, arith, ap, subst, ◌∙◌, Some, None, ◌≡◌, [], ◌∷◌, ◌++◌, ◌+◌, length, get_or, vec_len}
+use Rattle.std.proofs.lemmas.List.{length_push}
+use Rattle.wh_sat_trail.specs.Assignment.{AllBelow, IsFresh, Tabled}
+use Rattle.wh_sat_trail.proofs.Assigning.{pop_tabled, pop_fresh_rest, pop_below, pop_fresh, count_undo, push_same}
 use Rattle.wh_sat_trail.proofs.assignment.Assignment.truncate.Goals as goal
 
 pub invariant_of-self : goal.invariant_of-self
@@ -29,5 +24,5 @@ invariant_of-self c =
       tabled = pop_tabled n s.values.items u l wide below.1 tabled fresh;
       counted = omega (arith, counts, s.counted, more);
       roomy = search rules;
-      reasoned = search rules
+      reasoned = search rules;
     }

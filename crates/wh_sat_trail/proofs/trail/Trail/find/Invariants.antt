@@ -1,4 +1,4 @@
-use Rattle.std.proofs.Common.{◌≡◌, ◌<◌, ℕ, [], get_or, length}
+use Rattle.std.proofs.Common.{◌<◌, ℕ, [], get_or, length}
 use Rattle.wh_sat_trail.specs.Look.{Looks}
 use Rattle.wh_sat_trail.specs.declared.look.Look.TheVariants.{Quiet}
 use Rattle.wh_sat_trail.proofs.trail.Trail.find.Given as goal

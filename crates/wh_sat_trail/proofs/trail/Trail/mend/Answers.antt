@@ -1,23 +1,14 @@
-use Rattle.std.proofs.Common.{rules, arith, sym, ap, subst, refl, ◌∙◌, inl, inr, tests, ◌⊎◌, Option, Some, None, Bool, true, false, not, ◌≡◌, ◌≢◌, ℕ, List, [], ◌∷◌, ◌++◌, ◌<◌, ◌≤◌, ◌+◌, ◌*◌, length, get_or, set, take, drop, map, vec_len, ◌-◌, replicate}
-use Rattle.std.proofs.lemmas.Bool.{cases_eq}
-use Rattle.std.proofs.lemmas.Grind.{common_steps}
-use Rattle.std.proofs.lemmas.List.{get_or_default, get_or_read, length_push, length-set, take-take, take_all, get_or-replicate, take_more}
+use Rattle.std.proofs.Common.{arith, ap, subst, refl, ◌∙◌, inl, ◌≡◌, ◌≢◌, ℕ, [], ◌∷◌, ◌++◌, ◌<◌, ◌+◌, length, get_or, set}
 use Rattle.wh_sat_trail.specs.declared.literal.Literal.{Literal}
-use Rattle.wh_sat_trail.specs.Assignment.{value_in, negated, Holds, Fails, Open, AllBelow, IsFresh, Tabled, count_none}
-use Rattle.wh_sat_trail.specs.Propagation.{IsRefuted, Forces, IsForced, Grows, IsClosed, Within}
-use Rattle.wh_sat_trail.proofs.Looking.{Scan, quiet_two, quiet_true, scan_false, scan_open, scan_same, scan_all_none, scan_all_some, lit_same, lit_other, grows_push, grows_same, grows_trans, grows_longer, within_push, next_below, cases_literal, true_not_false, open_not_false}
-use Rattle.wh_sat_trail.proofs.Assigning.{push_tabled, push_fresh, push_below, count_assign, pop_tabled, pop_fresh_rest, pop_below, pop_fresh, count_undo, count_replicate, stays, push_same}
+use Rattle.wh_sat_trail.specs.Assignment.{Holds, Fails}
+use Rattle.wh_sat_trail.proofs.Looking.{grows_push, grows_same}
+use Rattle.wh_sat_trail.proofs.Assigning.{push_same}
 use Rattle.wh_sat_trail.specs.Code.{code_of}
-use Rattle.wh_sat_trail.specs.Member.{member}
-use Rattle.wh_sat_trail.specs.Look.{IsCandidate}
-use Rattle.wh_sat_trail.specs.Watch.{Safe, Guard, Guarded, Ordered, Listed, AllSafe, Turn, Pending, count_of, nothing, no_stop, no_pair, pair}
-use Rattle.wh_sat_trail.proofs.Guarding.{member_at, Rest, rest_step, ordered_push, guarded_push, guarded_move, guarded_set, guard_swap, guarded_head, guarded_decide, ordered_decide, guarded_fewer, ordered_fewer, guarded_join, guarded_short, moved, count_push, guard_new, code_below, member_place, forced_by, swap_default, levels_few, before_stop}
-use Rattle.wh_sat_trail.proofs.Watching.{safe_assign, safe_longer, safe_undo, safe_move, safe_swap, safe_possible, safe_first, safe_true, safe_turn, turn_fails, turn_longer, turn_kept, stays_from}
-use Rattle.wh_sat_trail.proofs.Rooms.{if_ok, length-items}
-use Rattle.std.proofs.lemmas.List.{take-map, length-map, get_or-map}
-use Rattle.std.proofs.Common.{vec_capacity, Vec, Global, Result, Ok, Err}
-use Rattle.wh_sat_trail.proofs.Visiting.{length-swap_remove, other_safe, pending_start, pending_end, pending_pass, pending_push, safe_either, pending_turn, pending_move, pending_as}
-use Rattle.std.specs.List.{swap_remove}
+use Rattle.wh_sat_trail.specs.Watch.{Guard, no_pair, pair}
+use Rattle.wh_sat_trail.proofs.Guarding.{forced_by}
+use Rattle.wh_sat_trail.proofs.Watching.{turn_fails}
+use Rattle.wh_sat_trail.proofs.Rooms.{length-items}
+use Rattle.wh_sat_trail.proofs.Visiting.{length-swap_remove, pending_pass, pending_push, safe_either, pending_move, pending_as}
 use Rattle.wh_sat_trail.proofs.trail.Trail.mend.Goals as goal
 
 pub rewatch-requires-clause-fails : goal.rewatch-requires-clause-fails
@@ -34,10 +25,11 @@ returns-in_ok-rewatch-in-Some-clause-answer c =
     let t = s.assignment.literals.items in
     let far : a.number < length s.pairs.items = omega (arith, length-items s.pairs, s.paired, q.number_in) in
     let g : Guard t s.stops.items s.head s.lists.items cl a.number (pair a.falsified a.other) = subst (Guard t s.stops.items s.head s.lists.items cl a.number) q.both (s.guarded.watched a.number q.number_in (ap (λ p. p.watched) q.both)) in
-    let p = pending_move s.formula.clauses t s.stops.items s.head s.lists.items n.lists.items s.pairs.items cl a.falsified a.other c.in-Some.new a.at a.number far q.at_in q.is q.turn c.in-Some.ensures.0.possible g e.list q.pending in
-    ( pending_as s.formula.clauses n.formula.clauses t n.assignment.literals.items s.head n.head n.lists.items n.lists.items (set s.pairs.items a.number (pair c.in-Some.new a.other)) n.pairs.items a.falsified a.at
-        (ap (λ f. f.clauses) e.same) e.literals e.head refl e.pairs p
-    , ap (λ xs. length xs + 1) e.list ∙ length-swap_remove (get_or s.lists.items (code_of a.falsified) []) a.at a.number q.at_in )
+    let p = pending_move s.formula.clauses t s.stops.items s.head s.lists.items n.lists.items s.pairs.items cl a.falsified a.other c.in-Some.new a.at a.number far q.at_in q.is q.turn c.in-Some.ensures.0.possible g e.list q.pending in (
+      pending_as s.formula.clauses n.formula.clauses t n.assignment.literals.items s.head n.head n.lists.items n.lists.items (set s.pairs.items a.number (pair c.in-Some.new a.other)) n.pairs.items a.falsified a.at
+          (ap (λ f. f.clauses) e.same) e.literals e.head refl e.pairs p,
+      ap (λ xs. length xs + 1) e.list ∙ length-swap_remove (get_or s.lists.items (code_of a.falsified) []) a.at a.number q.at_in,
+    )
 
 pub returns-in-Some-true-clause-answer : goal.returns-in-Some-true-clause-answer
 returns-in-Some-true-clause-answer c =
@@ -45,10 +37,11 @@ returns-in-Some-true-clause-answer c =
     let q = c.requires in
     let a = c.args in
     let t = s.assignment.literals.items in
-    let h : Holds t a.other = rw c.in-Some-true.field-0-test at c.in-Some-true.ensures in
-    ( pending_pass s.formula.clauses t s.head s.lists.items s.pairs.items a.falsified a.at a.number q.at_in q.is
-        (λ _ _. safe_either t (get_or s.pairs.items a.number no_pair) a.falsified a.other (s.head + 1) (inl q.both) h) q.pending
-    , refl )
+    let h : Holds t a.other = rw c.in-Some-true.field-0-test at c.in-Some-true.ensures in (
+      pending_pass s.formula.clauses t s.head s.lists.items s.pairs.items a.falsified a.at a.number q.at_in q.is
+          (λ _ _. safe_either t (get_or s.pairs.items a.number no_pair) a.falsified a.other (s.head + 1) (inl q.both) h) q.pending,
+      refl,
+    )
 
 pub returns-in-None-truth-clause-grows : goal.returns-in-None-truth-clause-grows
 returns-in-None-truth-clause-grows c =
@@ -72,9 +65,10 @@ returns-in-None-truth-clause-answer c =
     let e = c.assign.ensures in
     let h : Holds u a.other = push_same t a.other c.in-None-truth.ensures in
     let p = pending_pass s.formula.clauses u s.head s.lists.items s.pairs.items a.falsified a.at a.number q.at_in q.is
-        (λ _ _. safe_either u (get_or s.pairs.items a.number no_pair) a.falsified a.other (s.head + 1) (inl q.both) h)
-        (pending_push s.formula.clauses t s.head s.lists.items s.pairs.items a.falsified a.other a.at q.turn.within q.pending) in
-    let el : n.lists.items ≡ s.lists.items = ap (λ v. v.items) e.lists in
-    ( pending_as s.formula.clauses n.formula.clauses u n.assignment.literals.items s.head n.head s.lists.items n.lists.items s.pairs.items n.pairs.items a.falsified (a.at + 1)
-        (ap (λ f. f.clauses) e.same) e.literals e.head el (ap (λ v. v.items) e.pairs) p
-    , ap (λ ls. length (get_or ls (code_of a.falsified) [])) el )
+    (λ _ _. safe_either u (get_or s.pairs.items a.number no_pair) a.falsified a.other (s.head + 1) (inl q.both) h)
+    (pending_push s.formula.clauses t s.head s.lists.items s.pairs.items a.falsified a.other a.at q.turn.within q.pending) in
+    let el : n.lists.items ≡ s.lists.items = ap (λ v. v.items) e.lists in (
+      pending_as s.formula.clauses n.formula.clauses u n.assignment.literals.items s.head n.head s.lists.items n.lists.items s.pairs.items n.pairs.items a.falsified (a.at + 1)
+          (ap (λ f. f.clauses) e.same) e.literals e.head el (ap (λ v. v.items) e.pairs) p,
+      ap (λ ls. length (get_or ls (code_of a.falsified) [])) el,
+    )

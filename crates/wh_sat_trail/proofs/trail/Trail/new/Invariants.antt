@@ -6,5 +6,5 @@ invariant-loop-clause l = record {
   variables : l.trail.formula.variables ≡ l.fn.formula.variables;
   clauses : l.trail.formula.clauses ++ l.clause-iterator.rest.items ≡ l.fn.formula.clauses;
   nothing : l.trail.assignment.literals.items ≡ [];
-  ground_level : l.trail.stops.items ≡ []
-  }
+  ground_level : l.trail.stops.items ≡ [];
+}

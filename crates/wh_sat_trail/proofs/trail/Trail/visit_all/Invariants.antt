@@ -11,8 +11,8 @@ invariant-loop-at l = record {
   head : l.self.head ≡ l.initial.self.head;
   grows : Grows l.initial.self.formula.clauses l.initial.self.assignment.literals.items l.self.assignment.literals.items;
   turn : Turn l.self.assignment.literals.items l.self.head l.falsified;
-  pending : PendingIn l.self l.falsified l.at
-  }
+  pending : PendingIn l.self l.falsified l.at;
+}
 
 abbrev pub decreases-loop-at : goal.decreases-loop-at
 decreases-loop-at l = length (list_of l.self l.falsified) - l.at
