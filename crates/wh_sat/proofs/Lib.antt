@@ -1,0 +1,4 @@
+pub mod Deriving
+pub mod Clashing
+pub mod Supposing
+pub mod Combining
