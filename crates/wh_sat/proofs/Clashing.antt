@@ -35,7 +35,7 @@ cut_clash clauses s u f (by_clause r) = by_clause (cut_refutes clauses s u f r)
 cut_clash clauses s u f (by_pair l a b) = by_pair l (cut clauses s u l f a) (cut clauses s u (negated l) f b)
 
 -- from a list with no pair of negations a clash is a refutation
-forced_refutes : (clauses : List (List Literal)) (s : List Literal) (l m : Literal) → Derives clauses s l → m ≡ negated l → Derives clauses s m → (Has s l → Has s m → ⊥) → ((Has s l) ⊎ (Refutes clauses s))
+pub forced_refutes : (clauses : List (List Literal)) (s : List Literal) (l m : Literal) → Derives clauses s l → m ≡ negated l → Derives clauses s m → (Has s l → Has s m → ⊥) → ((Has s l) ⊎ (Refutes clauses s))
 forced_refutes clauses s l m (given l' q) e b h = inl q
 forced_refutes clauses s l m (forced k l' w q others) e b h = inr (record { clause = k; known = w; all = λ i d x. elim (cases_lit (get_or (get_or clauses k []) i d) l) [
     inl same ↦ subst (λ y. Derives clauses s (negated y)) (sym same) (subst (Derives clauses s) e b)

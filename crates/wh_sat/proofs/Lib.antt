@@ -2,3 +2,5 @@ pub mod Deriving
 pub mod Clashing
 pub mod Supposing
 pub mod Combining
+pub mod Assuring
+pub mod Learnable
