@@ -4,3 +4,4 @@ pub mod Supposing
 pub mod Combining
 pub mod Assuring
 pub mod Learnable
+pub mod Leveling

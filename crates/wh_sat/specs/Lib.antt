@@ -1,2 +1,4 @@
 pub mod Learning
 pub mod Solving
+pub mod State
+pub mod Answers

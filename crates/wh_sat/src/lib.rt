@@ -3,5 +3,6 @@
 #![tactic(auto)]
 
 mod halving;
+mod learner;
 
-pub use halving::halve;
+pub use learner::{Learner, Next};

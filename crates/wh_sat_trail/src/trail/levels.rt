@@ -42,6 +42,14 @@ impl Trail {
         self.stops.len() as u32
     }
 
+    /// The literal that was decided at the beginning of a level, the first level being 0.
+    pub fn decision(&self, level: u32) -> Literal
+        requires { level < length (marks_of self.now) }
+        ensures { result ≡ get_or (assigned self.now) (get_or (marks_of self.now) level 0) result }
+    {
+        self.assignment.at(self.stops[level as usize].mark)
+    }
+
     /// Opens a level with a literal that has no value. After want of memory the trail is as it was.
     pub fn decide(&mut self, literal: Literal) -> Result<(), AllocError>
         requires below { literal.variable < (formula_of self.old).variables }
