@@ -75,7 +75,7 @@ refutes_false v clauses start s h r =
     let p = clause_true_place v c (s r.clause r.known) in
     not_both_true v (get_or c p.0 nothing) (p.1.1 nothing) (derives_true v clauses start (negated (get_or c p.0 nothing)) s h (r.all p.0 nothing p.1.0))
 
-all_false : (v : ℕ → Bool) (c : List Literal) (i : ℕ) (d : Literal) → clause_true v c ≡ false → i < length c → literal_true v (get_or c i d) ≡ false
+pub all_false : (v : ℕ → Bool) (c : List Literal) (i : ℕ) (d : Literal) → clause_true v c ≡ false → i < length c → literal_true v (get_or c i d) ≡ false
 all_false v c i d e w = elim (cases_bool (literal_true v (get_or c i d))) [
     inl p ↦ absurd (true_false (clause_true v c) (clause_true_by v c i d w p) e)
   | inr q ↦ q

@@ -1,5 +1,5 @@
-use Rattle.std.proofs.Common.{◌≡◌, ◌≢◌, ℕ, ◌+◌, ◌-◌, ◌<◌, ◌≤◌, zero, suc, Bool, true, false, not, cond, List, [], ◌∷◌, ◌++◌, length, get_or, take, drop, map, Option, Some, None, refl, sym, ◌∙◌, ap, subst, ◌⊎◌, inl, inr, arith, tests}
-use Rattle.std.proofs.lemmas.List.{length-map, get_or-map, get_or_default, get_or-take, take-take, take_all, take_at, take-append-le, length_push, get_or_push, get_or_append_left, map_push, length-take, length-append}
+use Rattle.std.proofs.Common.{◌≡◌, ◌≢◌, ℕ, ◌+◌, ◌-◌, ◌<◌, ◌≤◌, zero, suc, Bool, true, false, not, cond, List, [], ◌∷◌, ◌++◌, length, get_or, take, drop, map, replicate, Option, Some, None, refl, sym, ◌∙◌, ap, subst, ◌⊎◌, inl, inr, arith, tests}
+use Rattle.std.proofs.lemmas.List.{length-map, get_or-map, get_or_default, get_or-take, take-take, take_all, take_at, take-append-le, length_push, get_or_push, get_or_append_left, map_push, length-take, length-append, length-replicate, get_or-replicate}
 use Rattle.std.proofs.lemmas.Bool.{cases_eq}
 use Rattle.wh_sat_trail.specs.declared.literal.Literal.{Literal}
 use Rattle.wh_sat_trail.specs.declared.trail.Trail.{Trail}
@@ -138,3 +138,20 @@ known_given n clauses learnt c q = record {
     let w : length clauses < length (clauses ++ c ∷ []) = omega (arith, length_push clauses c) in
     solves_push v clauses c u (subst (λ x. clause_true v x ≡ true) (get_or_push clauses c [] (length clauses) refl) (s (length clauses) w (get_or_push learnt false false (length clauses) q.marked)))
   }
+
+-- the same knowledge of equal lists
+pub known_as : (n n' : ℕ) (clauses clauses' : List (List Literal)) (learnt learnt' : List Bool) → n' ≡ n → clauses' ≡ clauses → learnt' ≡ learnt → Known n clauses learnt → Known n' clauses' learnt'
+known_as n n' clauses clauses' learnt learnt' en ec el q =
+    subst (Known n' clauses') (sym el) (subst (λ x. Known n' x learnt) (sym ec) (subst (λ x. Known x clauses learnt) (sym en) q))
+
+-- all clauses are given
+pub known_start : (n : ℕ) (clauses : List (List Literal)) → Known n clauses (replicate (length clauses) false)
+known_start n clauses = record {
+  marked = length-replicate (length clauses) false;
+  each = λ k w e. let f : false ≡ true = sym (get_or-replicate (length clauses) k false false w) ∙ e in absurd (grind (arith, f));
+  follows = λ v s k w. s k w (get_or-replicate (length clauses) k false false w)
+  }
+
+-- before the first level all was propagated, and what clashes with it refutes
+pub front_closed : (clauses : List (List Literal)) (t : List Literal) (marks : List ℕ) → 0 < length marks → Levels clauses t marks → IsClosed clauses (take (get_or marks 0 (length t)) t)
+front_closed clauses t marks some lv = subst (λ p. IsClosed clauses (take p t)) (get_or_default marks 0 0 (length t) some) (lv.closed 0 some)

@@ -5,3 +5,4 @@ pub mod Combining
 pub mod Assuring
 pub mod Learnable
 pub mod Leveling
+pub mod Searching

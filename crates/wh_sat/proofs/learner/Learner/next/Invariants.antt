@@ -26,4 +26,4 @@ invariant-loop-self l = record {
   }
 
 abbrev pub decreases-loop-self : goal.decreases-loop-self
-decreases-loop-self l = l.self.left * (variables_of l.self + 1) + (variables_of l.self - length (assigned l.self.trail))
+decreases-loop-self l = (variables_of l.self + 1) * l.self.left + (variables_of l.self - length (assigned l.self.trail))
