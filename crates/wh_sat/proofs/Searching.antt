@@ -7,7 +7,7 @@ use Rattle.wh_sat_trail.specs.declared.literal.Literal.{Literal}
 use Rattle.wh_sat_trail.specs.declared.formula.Formula.{Formula}
 use Rattle.wh_sat_trail.specs.declared.trail.Trail.{Trail}
 use Rattle.wh_sat_trail.specs.Assignment.{value_in, negated, AllBelow, Fails}
-use Rattle.wh_sat_trail.specs.Propagation.{IsClosed, IsRefuted, Within}
+use Rattle.wh_sat_trail.specs.Propagation.{Grows, IsClosed, IsRefuted, Within}
 use Rattle.wh_sat_trail.specs.State.{assigned, formula_of, marks_of}
 use Rattle.wh_sat.specs.declared.learner.Learner.{Learner}
 use Rattle.wh_sat.specs.Learning.{Derives, Has, IsLearnt, Reduced, Refutes}
@@ -15,7 +15,7 @@ use Rattle.wh_sat.specs.Solving.{Known, Levels, Solves, SolvesGiven, clause_true
 use Rattle.wh_sat.specs.State.{Extends, Learns, Sound, clauses_of, variables_of}
 use Rattle.wh_sat.proofs.Assuring.{all_false, cases_bool, refutes_false}
 use Rattle.wh_sat.proofs.Learnable.{is_learnt}
-use Rattle.wh_sat.proofs.Leveling.{conflict_refutes, derives_more, known_as, known_learnt, rising_marks}
+use Rattle.wh_sat.proofs.Leveling.{conflict_refutes, derives_more, known_as, known_learnt, levels_decide, levels_grow, rising_marks}
 
 -- the literals of a trail have variables of its formula
 pub trail_below : (s : Trail) → AllBelow (formula_of s).variables (assigned s)
@@ -122,3 +122,16 @@ closed_solves n clauses t values b c full same k w =
 
 pub fewer_left : (n a b x y : ℕ) → a < b → x ≤ n → (n + 1) * a + x < (n + 1) * b + y
 fewer_left n a b x y w v = omega (arith, mul-le-mul_left (n + 1) w, v)
+
+-- the levels after propagation, and after a decision
+pub levels_after : (s u : Trail) → formula_of u ≡ formula_of s → marks_of u ≡ marks_of s → Grows (formula_of s).clauses (assigned s) (assigned u)
+    → Levels (formula_of s).clauses (assigned s) (marks_of s) → Levels (formula_of u).clauses (assigned u) (marks_of u)
+levels_after s u e em g lv =
+    subst (λ (f : Formula). Levels f.clauses (assigned u) (marks_of u)) (sym e) (subst (Levels (formula_of s).clauses (assigned u)) (sym em)
+      (levels_grow (formula_of s).clauses (assigned s) (assigned u) (marks_of s) lv (rising_marks s) g))
+
+pub levels_decided : (s u : Trail) (l : Literal) → formula_of u ≡ formula_of s → marks_of u ≡ marks_of s ++ length (assigned s) ∷ [] → assigned u ≡ assigned s ++ l ∷ []
+    → IsClosed (formula_of s).clauses (assigned s) → Levels (formula_of s).clauses (assigned s) (marks_of s) → Levels (formula_of u).clauses (assigned u) (marks_of u)
+levels_decided s u l e em ea c lv =
+    subst (λ (f : Formula). Levels f.clauses (assigned u) (marks_of u)) (sym e) (subst (λ t. Levels (formula_of s).clauses t (marks_of u)) (sym ea) (subst (Levels (formula_of s).clauses (assigned s ++ l ∷ [])) (sym em)
+      (levels_decide (formula_of s).clauses (assigned s) (marks_of s) l lv (rising_marks s) c)))
