@@ -6,3 +6,4 @@ pub mod Assuring
 pub mod Learnable
 pub mod Leveling
 pub mod Searching
+pub mod Deciding

@@ -2,3 +2,4 @@ pub mod Learning
 pub mod Solving
 pub mod State
 pub mod Answers
+pub mod Outcomes

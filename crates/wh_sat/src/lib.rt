@@ -2,7 +2,10 @@
 //! propagation, none of its literals can be left out for that, and it contains no earlier clause.
 #![tactic(auto)]
 
+mod copying;
 mod halving;
 mod learner;
+mod solving;
 
 pub use learner::{Learner, Next};
+pub use solving::{Outcome, Search, solve, solve_owned};

@@ -31,6 +31,13 @@ impl Learner {
         })
     }
 
+    /// The clauses that were given and learnt, over the formula's variables.
+    pub fn formula(&self) -> &Formula
+        ensures { result.now ≡ formula_of self.now.trail }
+    {
+        self.trail.formula()
+    }
+
     /// A clause joins those that were given.
     pub fn give(&mut self, clause: Clause) -> Result<(), AllocError>
         requires sound { Sound self.old }
