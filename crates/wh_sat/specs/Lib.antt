@@ -1,0 +1,5 @@
+pub mod Learning
+pub mod Solving
+pub mod State
+pub mod Answers
+pub mod Outcomes

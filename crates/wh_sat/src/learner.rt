@@ -1,0 +1,25 @@
+//! A solver that can go on: clauses are given to it between its answers.
+
+mod conflicts;
+mod models;
+mod search;
+
+use std::alloc::Global;
+use wh_sat_trail::Trail;
+
+/// Clauses, of which some were given and the others learnt, and how many more may join them.
+#[derive(Drop)]
+pub struct Learner {
+    alloc: Global,
+    trail: Trail,
+    learnt: Vec<bool>,
+    left: u64,
+}
+
+/// What a search ends with: a truth value for each variable under which all clauses are true, that
+/// there is none, or as many clauses as there may be.
+pub enum Next {
+    Model(Vec<bool>),
+    Exhausted,
+    Spent,
+}

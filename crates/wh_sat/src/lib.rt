@@ -1,0 +1,11 @@
+//! A solver of formulas in clauses that learns from conflicts. Each clause that it learns is refuted by
+//! propagation, none of its literals can be left out for that, and it contains no earlier clause.
+#![tactic(auto)]
+
+mod copying;
+mod halving;
+mod learner;
+mod solving;
+
+pub use learner::{Learner, Next};
+pub use solving::{Outcome, Search, solve, solve_owned};

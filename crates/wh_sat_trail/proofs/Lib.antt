@@ -1,0 +1,6 @@
+pub mod Rooms
+pub mod Assigning
+pub mod Looking
+pub mod Watching
+pub mod Guarding
+pub mod Visiting

@@ -1,0 +1,90 @@
+//! What a clause says under an assignment, and which of its literals can be watched.
+
+ghost use Rattle.std.specs.Prelude.{◌≡◌, ◌≢◌, ℕ, ◌<◌, MatchOption, IfSome, get_or, length, true, vec_len};
+ghost use Rattle.wh_sat_trail.specs.Assignment.{AllBelow, Fails};
+ghost use Rattle.wh_sat_trail.specs.Look.{IsCandidate, Looks};
+ghost use Rattle.wh_sat_trail.specs.declared.literal.Literal.{Literal};
+
+use crate::assignment::Assignment;
+use crate::literal::Literal;
+
+/// What a clause says: nothing, that it is false, or that a literal has to be true.
+pub enum Look {
+    Quiet,
+    Refuted,
+    Forces(Literal),
+}
+
+impl Assignment {
+    /// What a clause says.
+    pub fn look(&self, clause: &[Literal]) -> Look
+        requires { AllBelow (vec_len self.now.values) clause.now }
+        ensures { Looks self.now.literals.items clause.now result }
+    {
+        let mut free: Option<Literal> = None;
+        for literal in clause {
+            match self.truth(*literal) {
+                Some(true) => return Look::Quiet,
+                Some(false) => {}
+                None => match free {
+                    None => free = Some(*literal),
+                    Some(first) => if first != *literal {
+                        return Look::Quiet;
+                    }
+                },
+            }
+        }
+        match free {
+            None => Look::Refuted,
+            Some(literal) => Look::Forces(literal),
+        }
+    }
+
+    /// A literal that is not false, and not the other one.
+    pub fn replacement(&self, clause: &[Literal], other: Literal) -> Option<Literal>
+        requires { AllBelow (vec_len self.now.values) clause.now }
+        ensures { MatchOption result ((i : ℕ) (d : Literal) → i < length clause.now → get_or clause.now i d ≢ other → Fails self.now.literals.items (get_or clause.now i d)) (λ new. IsCandidate self.now clause.now new × (new ≢ other)) }
+    {
+        for literal in clause {
+            match self.truth(*literal) {
+                Some(false) => {}
+                Some(true) => if *literal != other {
+                    return Some(*literal);
+                },
+                None => if *literal != other {
+                    return Some(*literal);
+                },
+            }
+        }
+        None
+    }
+
+    /// A literal that is not false.
+    fn candidate(&self, clause: &[Literal]) -> Option<Literal>
+        requires { AllBelow (vec_len self.now.values) clause.now }
+        ensures { IfSome result (IsCandidate self.now clause.now) }
+    {
+        for literal in clause {
+            match self.truth(*literal) {
+                Some(false) => {}
+                Some(true) => return Some(*literal),
+                None => return Some(*literal),
+            }
+        }
+        None
+    }
+
+    /// Two different literals that are not false.
+    pub fn watches(&self, clause: &[Literal]) -> Option<(Literal, Literal)>
+        requires { AllBelow (vec_len self.now.values) clause.now }
+        ensures { IfSome result (λ both. IsCandidate self.now clause.now both.0 × IsCandidate self.now clause.now both.1 × (both.1 ≢ both.0)) }
+    {
+        match self.candidate(clause) {
+            None => None,
+            Some(first) => match self.replacement(clause, first) {
+                None => None,
+                Some(second) => Some((first, second)),
+            },
+        }
+    }
+}
