@@ -59,7 +59,7 @@ def constants_loop(steps):
     return system, "\n".join(lines) + "\n"
 
 
-def sized_loop(steps, size):
+def sized_loop(steps, size=50):
     """The same below that many symbols."""
     system = "sort o;\nfun a : o;\nfun b : o;\nfun f : o -> o;\nrule {} a => b;\nrule {} b => a;\n"
     depth = size // 2
@@ -86,7 +86,7 @@ def chain(symbols):
     return "\n".join(lines) + "\n"
 
 
-def most_pairs():
+def most_pairs(_count):
     """1,024 rules with four calls each: 4,096 pairs, as many as there may be."""
     lines = ["sort nat;", "fun s : nat -> nat;", "fun c : nat -> nat -> nat -> nat -> nat;"]
     symbols = 1020
@@ -142,6 +142,34 @@ def long_blocks(numbers):
     return system, "\n".join(lines + ["alone", "alone", "end"]) + "\n"
 
 
+def wide_leaf(steps):
+    """A loop at the last leaf of a balanced tree of size 24,575."""
+    system = "sort o;\nfun a : o;\nfun b : o;\nfun d : o -> o -> o;\nrule {} a => b;\nrule {} b => a;\n"
+    term = "a"
+    for _ in range(12):
+        term = f"(d {term} {term})"
+    path = "/" + "1" * 12
+    lines = ["NO 1", f"term {term}"] + [f"step 0 {path}", f"step 1 {path}"] * (steps // 2) + ["at /", "end"]
+    return system, "\n".join(lines) + "\n"
+
+
+def make_apart(folder, maker, count):
+    """Writes the inputs in a process of its own, so that this one stays small, and gives the file that counts: a program's
+    greatest memory is never seen below that of the process that starts it."""
+    child = os.fork()
+    if child == 0:
+        made = maker(count)
+        (folder / "certificate").unlink(missing_ok=True)
+        if isinstance(made, tuple):
+            (folder / "certificate").write_text(made[1])
+            made = made[0]
+        (folder / "system").write_text(made)
+        os._exit(0)
+    os.waitpid(child, 0)
+    certificate = folder / "certificate"
+    return certificate if certificate.exists() else folder / "system"
+
+
 def hash_seconds(file):
     """Least seconds of three runs of `sha256sum` on the same bytes, to compare with."""
     best = None
@@ -178,48 +206,48 @@ def main():
     given = parser.parse_args()
     cases = []
     for symbols in (125, 250, 500, 1000):
-        cases.append(("show many-rules", f"{symbols} rules", many_rules(symbols), None))
+        cases.append(("show many-rules", f"{symbols} rules", many_rules, symbols))
     for rules in (40, 80, 160, 320):
-        cases.append(("show deep-sides", f"{rules} rules", deep_sides(rules), None))
+        cases.append(("show deep-sides", f"{rules} rules", deep_sides, rules))
     for size in (131072, 262144, 524288, 1048000):
-        cases.append(("show comments", f"{size} bytes", comments(size), None))
+        cases.append(("show comments", f"{size} bytes", comments, size))
     for steps in (100000, 200000, 400000, 900000):
-        cases.append(("check constants", f"{steps} steps", *constants_loop(steps)))
+        cases.append(("check constants", f"{steps} steps", constants_loop, steps))
     for steps in (20000, 40000, 80000):
-        cases.append(("check size-50", f"{steps} steps", *sized_loop(steps, 50)))
+        cases.append(("check size-50", f"{steps} steps", sized_loop, steps))
+    for steps in (1000, 100000, 300000):
+        cases.append(("check leaf", f"{steps} steps", wide_leaf, steps))
     for steps in (100000, 200000, 400000):
-        cases.append(("check binder", f"{steps} steps", *binder_loop(steps)))
+        cases.append(("check binder", f"{steps} steps", binder_loop, steps))
     for pairs in (100, 200, 400):
-        cases.append(("check nodes", f"{pairs} nodes", *dropping(pairs)))
+        cases.append(("check nodes", f"{pairs} nodes", dropping, pairs))
     for pairs in (250, 500, 1000):
-        cases.append(("check one node", f"{pairs} pairs", *all_at_once(pairs)))
+        cases.append(("check one node", f"{pairs} pairs", all_at_once, pairs))
     for numbers in (500000, 1000000, 2000000):
-        cases.append(("check drop list", f"{numbers} numbers", *long_drop(numbers)))
+        cases.append(("check drop list", f"{numbers} numbers", long_drop, numbers))
     for numbers in (500000, 1000000, 2000000):
-        cases.append(("check blocks", f"{numbers} numbers", *long_blocks(numbers)))
+        cases.append(("check blocks", f"{numbers} numbers", long_blocks, numbers))
     for symbols in (125, 250, 500, 1000):
-        cases.append(("show chain", f"{symbols} pairs", chain(symbols), None))
+        cases.append(("show chain", f"{symbols} pairs", chain, symbols))
     for symbols in (125, 250, 500, 1000):
-        cases.append(("components chain", f"{symbols} pairs", chain(symbols), None))
-    cases.append(("show most-pairs", "4096 pairs", most_pairs(), None))
-    cases.append(("components most", "4096 pairs", most_pairs(), None))
+        cases.append(("components chain", f"{symbols} pairs", chain, symbols))
+    cases.append(("show most-pairs", "4096 pairs", most_pairs, 4096))
+    cases.append(("components most", "4096 pairs", most_pairs, 4096))
     with tempfile.TemporaryDirectory() as name:
         folder = pathlib.Path(name)
-        for what, size, system, certificate in cases:
+        for what, size, maker, count in cases:
             if given.only not in what:
                 continue
-            (folder / "system").write_text(system)
+            written = make_apart(folder, maker, count)
             program, words = given.program, ["show", str(folder / "system")]
-            length = len(system)
             if what.startswith("components"):
                 program, words = str(COMPONENTS), [str(folder / "system")]
-            if certificate is not None:
-                (folder / "certificate").write_text(certificate)
-                words = ["check", str(folder / "system"), str(folder / "certificate")]
-                length = len(certificate)
+            if written.name == "certificate":
+                words = ["check", str(folder / "system"), str(written)]
             seconds, megabytes, first = run(program, words, folder)
-            hashed = hash_seconds(folder / ("certificate" if certificate is not None else "system"))
-            print(f"{what:16} {size:>15} {length:>9} bytes {seconds:8.3f} s {seconds / hashed:7.1f} times sha256sum {megabytes:7.1f} MB  {first}")
+            hashed = hash_seconds(written)
+            length = written.stat().st_size
+            print(f"{what:16} {size:>15} {length:>9} bytes {seconds:8.3f} s {seconds / hashed:6.1f} times sha256sum {megabytes:7.1f} MB  {first}")
 
 
 if __name__ == "__main__":
