@@ -42,13 +42,13 @@ term_place (Free n) = m.free_number n
 term_place Slash = m.slash
 term_place Binder = m.binder
 term_place (BinderNumber n) = m.binder_number n
-term_place (Typing purpose types place) = m.typing (typed_of purpose) (type_stack types.items) (type_place place)
-term_place (Closed t) = m.closed (rtm t)
+term_place (Typing purpose text) = m.typing (typed_of purpose) (type_stack text.value.stack.items) (type_place text.value.place)
+term_place (Closed t) = m.closed (rtm t.value)
 
 -- a step that left these parentheses open
 abbrev pub term_went : List Frame → TermStep → m.State
 term_went stack (Goes place) = m.at (term_stack stack) (term_place place)
-term_went stack (Whole t) = m.whole (rtm t)
+term_went stack (Whole t) = m.whole (rtm t.value)
 term_went stack Wrong = m.failed
 
 -- on to a place inside these parentheses, or else as is said

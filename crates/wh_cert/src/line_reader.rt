@@ -225,7 +225,7 @@ impl NoLine {
             }
             TermStep::Whole(term) => {
                 self.place = LinePlace::Line;
-                Ok(LineStep::Gives(Item::Term(Box::new(alloc, term)?)))
+                Ok(LineStep::Gives(Item::Term(term)))
             }
             TermStep::Wrong => Ok(LineStep::Wrong),
         }
@@ -345,6 +345,7 @@ impl NoLine {
                     }
                     TermStep::Whole(term) => {
                         self.place = LinePlace::LaterLine;
+                        let term = Box::into_inner(term);
                         let put = Box::new(alloc, Put { number, kind, term })?;
                         Ok(LineStep::Gives(Item::Put(put)))
                     }

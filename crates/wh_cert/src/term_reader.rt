@@ -14,6 +14,7 @@ use crate::letters::{Letters, begins_name, first_number, next_number};
 use crate::raw::{abstraction, applied};
 use crate::type_reader::{TypePlace, TypeStep, type_step};
 use std::alloc::{AllocError, Global};
+use std::mem;
 use wh_text::{RawTerm, RawTerms, RawType, RawTypes};
 
 /// The arguments of a spine are that many at most.
@@ -67,10 +68,19 @@ pub enum TermPlace {
     Binder,
     /// `(\$` with digits.
     BinderNumber(u32),
-    /// A part of a type, with its open parentheses.
-    Typing(Typed, Vec<RawTypes>, TypePlace),
+    /// A part of a type.
+    Typing(Typed, Box<TypeText>),
     /// A term that ended with `)`.
-    Closed(RawTerm),
+    Closed(Box<RawTerm>),
+}
+
+/// A part of a type.
+#[derive(Drop)]
+pub struct TypeText {
+    /// Its open parentheses.
+    pub stack: Vec<RawTypes>,
+    /// What was read since.
+    pub place: TypePlace,
 }
 
 /// Where a byte leads.
@@ -79,7 +89,7 @@ pub enum TermStep {
     /// On.
     Goes(TermPlace),
     /// Behind the line feed after the term.
-    Whole(RawTerm),
+    Whole(Box<RawTerm>),
     /// Nowhere.
     Wrong,
 }
@@ -107,15 +117,15 @@ pub fn term_step(
             Some(number) => Ok(TermStep::Goes(TermPlace::Free(number))),
             None => Ok(TermStep::Wrong),
         },
-        TermPlace::Free(number) => Ok(step_free(alloc, number, byte)),
+        TermPlace::Free(number) => step_free(alloc, number, byte),
         TermPlace::Slash => Ok(only(b'$', byte, TermPlace::Binder)),
         TermPlace::Binder => match first_number(byte) {
             Some(number) => Ok(TermStep::Goes(TermPlace::BinderNumber(number))),
             None => Ok(TermStep::Wrong),
         },
-        TermPlace::BinderNumber(number) => Ok(step_binder(alloc, number, byte)),
-        TermPlace::Typing(of, types, place) => step_typing(alloc, stack, of, types, place, byte),
-        TermPlace::Closed(term) => end_term(alloc, stack, term, byte),
+        TermPlace::BinderNumber(number) => step_binder(alloc, number, byte),
+        TermPlace::Typing(of, text) => step_typing(alloc, stack, of, text, byte),
+        TermPlace::Closed(term) => end_term(alloc, stack, Box::into_inner(term), byte),
     }
 }
 
@@ -257,33 +267,38 @@ fn step_bound(
 }
 
 /// A free variable's number goes on with the byte, or its type comes.
-fn step_free(alloc: Global, number: u32, byte: u8) -> TermStep
-    ensures { (fs : List Frame) → term_went fs result ≡ step (term_stack fs) (free_number number) byte }
+fn step_free(alloc: Global, number: u32, byte: u8) -> Result<TermStep, AllocError>
+    ensures { IfOk result (λ next. (fs : List Frame) → term_went fs next ≡ step (term_stack fs) (free_number number) byte) }
 {
     match next_number(number, byte) {
-        Some(next) => TermStep::Goes(TermPlace::Free(next)),
+        Some(next) => Ok(TermStep::Goes(TermPlace::Free(next))),
         None => begin_type(alloc, Typed::Variable(number), byte),
     }
 }
 
 /// A binder's number goes on with the byte, or its type comes.
-fn step_binder(alloc: Global, number: u32, byte: u8) -> TermStep
-    ensures { (fs : List Frame) → term_went fs result ≡ step (term_stack fs) (binder_number number) byte }
+fn step_binder(alloc: Global, number: u32, byte: u8) -> Result<TermStep, AllocError>
+    ensures { IfOk result (λ next. (fs : List Frame) → term_went fs next ≡ step (term_stack fs) (binder_number number) byte) }
 {
     match next_number(number, byte) {
-        Some(next) => TermStep::Goes(TermPlace::BinderNumber(next)),
+        Some(next) => Ok(TermStep::Goes(TermPlace::BinderNumber(next))),
         None => begin_type(alloc, Typed::Binder(number), byte),
     }
 }
 
 /// The byte stands between a number and its type.
-fn begin_type(alloc: Global, of: Typed, byte: u8) -> TermStep
-    ensures { (fs : List Frame) → term_went fs result ≡ cond (byte == 58) (at (term_stack fs) (typing (typed_of of) outside type_wanted)) failed }
+fn begin_type(alloc: Global, of: Typed, byte: u8) -> Result<TermStep, AllocError>
+    ensures { IfOk result (λ next. (fs : List Frame) → term_went fs next
+        ≡ cond (byte == 58) (at (term_stack fs) (typing (typed_of of) outside type_wanted)) failed) }
 {
     if byte == b':' {
-        return TermStep::Goes(TermPlace::Typing(of, Vec::new(alloc), TypePlace::Wanted));
+        let text = TypeText {
+            stack: Vec::new(alloc),
+            place: TypePlace::Wanted,
+        };
+        return Ok(TermStep::Goes(TermPlace::Typing(of, Box::new(alloc, text)?)));
     }
-    TermStep::Wrong
+    Ok(TermStep::Wrong)
 }
 
 /// A type goes on with the byte, or has ended before it.
@@ -291,14 +306,18 @@ fn step_typing(
     alloc: Global,
     stack: &mut Vec<Frame>,
     of: Typed,
-    mut types: Vec<RawTypes>,
-    place: TypePlace,
+    mut text: Box<TypeText>,
     byte: u8,
 ) -> Result<TermStep, AllocError>
-    ensures { IfOk result (λ next. term_went stack.new.items next ≡ step (term_stack stack.old.items) (typing (typed_of of) (type_stack types.items) (type_place place)) byte) }
+    ensures { IfOk result (λ next. term_went stack.new.items next
+        ≡ step (term_stack stack.old.items) (typing (typed_of of) (type_stack text.value.stack.items) (type_place text.value.place)) byte) }
 {
-    match type_step(alloc, &mut types, place, byte)? {
-        TypeStep::Goes(next) => Ok(TermStep::Goes(TermPlace::Typing(of, types, next))),
+    let place = mem::replace(&mut text.place, TypePlace::Wanted);
+    match type_step(alloc, &mut text.stack, place, byte)? {
+        TypeStep::Goes(next) => {
+            text.place = next;
+            Ok(TermStep::Goes(TermPlace::Typing(of, text)))
+        }
         TypeStep::Ended(kind) => end_type(alloc, stack, of, kind, byte),
         TypeStep::Wrong => Ok(TermStep::Wrong),
     }
@@ -338,12 +357,12 @@ fn end_term(
     match close_term(stack) {
         None => {
             if byte == b'\n' {
-                return Ok(TermStep::Whole(term));
+                return Ok(TermStep::Whole(Box::new(alloc, term)?));
             }
             Ok(TermStep::Wrong)
         }
         Some(Frame::Head) => end_head(alloc, stack, term, byte),
-        Some(Frame::Spine(head, args)) => end_argument(stack, head, args, term, byte),
+        Some(Frame::Spine(head, args)) => end_argument(alloc, stack, head, args, term, byte),
         Some(Frame::Body(number, kind)) => end_body(alloc, number, kind, term, byte),
     }
 }
@@ -368,6 +387,7 @@ fn end_head(
 /// An argument of a spine has ended before the byte; another one or the end of the spine follows.
 #[tactic(auto, using(crate::proofs::RawLaws::rtms_grow))]
 fn end_argument(
+    alloc: Global,
     stack: &mut Vec<Frame>,
     head: Box<RawTerm>,
     mut args: RawTerms,
@@ -379,7 +399,8 @@ fn end_argument(
 {
     if byte == b')' {
         args.push(term)?;
-        return Ok(TermStep::Goes(TermPlace::Closed(applied(head, args))));
+        let whole = Box::new(alloc, applied(head, args))?;
+        return Ok(TermStep::Goes(TermPlace::Closed(whole)));
     }
     if begins_argument(&args, byte) {
         args.push(term)?;
@@ -402,5 +423,6 @@ fn end_body(
     if byte != b')' {
         return Ok(TermStep::Wrong);
     }
-    Ok(TermStep::Goes(TermPlace::Closed(abstraction(alloc, number, kind, term)?)))
+    let whole = Box::new(alloc, abstraction(alloc, number, kind, term)?)?;
+    Ok(TermStep::Goes(TermPlace::Closed(whole)))
 }
