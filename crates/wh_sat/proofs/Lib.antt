@@ -7,3 +7,4 @@ pub mod Learnable
 pub mod Leveling
 pub mod Searching
 pub mod Deciding
+pub mod Numbering

@@ -1,6 +1,6 @@
 //! Truth values for all variables.
 
-ghost use Rattle.std.specs.Prelude.{◌≡◌, ◌<◌, IfOk, MatchOption, None, ℕ, false, get_or, length, unwrap_or};
+ghost use Rattle.std.specs.Prelude.{◌≡◌, ◌<◌, ◌≤◌, IfOk, MatchOption, None, ℕ, false, get_or, length, unwrap_or};
 ghost use Rattle.wh_sat.specs.State.{variables_of};
 ghost use Rattle.wh_sat_trail.specs.Assignment.{value_in};
 ghost use Rattle.wh_sat_trail.specs.State.{assigned, formula_of};
@@ -21,11 +21,21 @@ impl Learner {
         Ok(values)
     }
 
-    /// A variable without a value.
-    pub(crate) fn choose(&self) -> Option<u32>
+    /// A variable without a value, the first one from a number on where there is one.
+    pub(crate) fn choose(&self, from: u32) -> Option<u32>
         ensures { MatchOption result ((v : ℕ) → v < variables_of self.now → value_in (assigned self.now.trail) v ≡ None → ⊥) (λ v. (v < variables_of self.now) × (value_in (assigned self.now.trail) v ≡ None)) }
     {
-        for variable in 0..self.trail.formula().variables {
+        match self.open_from(from) {
+            Some(variable) => Some(variable),
+            None => self.open_from(0),
+        }
+    }
+
+    /// The first variable without a value, from a number on.
+    fn open_from(&self, from: u32) -> Option<u32>
+        ensures { MatchOption result ((v : ℕ) → from ≤ v → v < variables_of self.now → value_in (assigned self.now.trail) v ≡ None → ⊥) (λ v. (v < variables_of self.now) × (value_in (assigned self.now.trail) v ≡ None)) }
+    {
+        for variable in from..self.trail.formula().variables {
             match self.trail.value(variable) {
                 None => return Some(variable),
                 Some(_) => {}

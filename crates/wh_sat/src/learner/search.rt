@@ -60,6 +60,8 @@ impl Learner {
         ensures extends { OnOk result (Extends self.old self.new) }
         ensures answer { IfOk result (Answers self.new) }
     {
+        // Variables below this one have values until the next conflict.
+        let mut from = 0;
         loop {
             if self.left == 0 {
                 self.trail.undo(0);
@@ -71,17 +73,21 @@ impl Learner {
                         return Ok(Next::Exhausted);
                     }
                     self.learn()?;
+                    from = 0;
                 }
-                None => match self.choose() {
+                None => match self.choose(from) {
                     None => {
                         let values = self.values()?;
                         self.trail.undo(0);
                         return Ok(Next::Model(values));
                     }
-                    Some(variable) => self.trail.decide(Literal {
-                        variable,
-                        positive: false,
-                    })?,
+                    Some(variable) => {
+                        from = variable;
+                        self.trail.decide(Literal {
+                            variable,
+                            positive: false,
+                        })?;
+                    }
                 },
             }
         }

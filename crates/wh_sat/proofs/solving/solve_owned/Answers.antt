@@ -22,6 +22,8 @@ use Rattle.wh_sat.proofs.Searching.{trail_below, trail_short, learnt_after, exte
 use Rattle.wh_sat.specs.declared.learner.Learner.{Learner}
 use Rattle.wh_sat.proofs.Deciding.{Begun, begun, list_learnt, solves_front, solves_given}
 use Rattle.std.proofs.lemmas.List.{drop_all, drop_more, get_or_read, length-drop, drop-take, take-set}
+use Rattle.std.proofs.Common.{◌^◌}
+use Rattle.wh_sat.proofs.Numbering.{learnt_bounded}
 use Rattle.wh_sat.proofs.solving.solve_owned.Goals as goal
 
 pub returns-in-Model : goal.returns-in-Model
@@ -56,4 +58,6 @@ returns c =
     let is : l ≡ drop (length f.clauses) (clauses_of a) = c.in_ok-learnt-in-Spent.ensures ∙ ap (λ (y : Formula). drop (length c.as_slice-given.result.now) y.clauses) c.formula.ensures ∙ ap (λ xs. drop (length xs) (clauses_of a)) c.as_slice-given.ensures in
     let m : variables_of a ≡ f.variables = x.extends.variables ∙ e.variables in
     let all : Learnt f.variables f.clauses (drop (length f.clauses) (clauses_of a)) = subst (λ n. Learnt n f.clauses (drop (length f.clauses) (clauses_of a))) m (list_learnt (variables_of a) f.clauses (clauses_of a) a.learnt.items g.front g.later x.sound.known) in
-    ( omega (arith, ap length is, length-drop (length f.clauses) (clauses_of a), r, g.count), subst (Learnt f.variables f.clauses) (sym is) all )
+    let long : length l ≡ c.args.budget = omega (arith, ap length is, length-drop (length f.clauses) (clauses_of a), r, g.count) in
+    let learnt : Learnt f.variables f.clauses l = subst (Learnt f.variables f.clauses) (sym is) all in
+    ( long, learnt, subst (λ k. k ≤ 3 ^ f.variables) long (learnt_bounded f.variables f.clauses l learnt) )

@@ -67,8 +67,8 @@ learn-requires-clause-conflict c =
     let kr : IsRefuted (assigned u) (get_or (clauses_of b) k []) = subst (λ (f : Formula). IsRefuted (assigned u) (get_or f.clauses k [])) (sym e.same) a.1 in
     conflict_refutes (clauses_of b) (assigned u) (marks_of u) k lv kw kr
 
-pub loop-self-preserved-in-Continue-branch-3 : goal.loop-self-preserved-in-Continue-branch-3
-loop-self-preserved-in-Continue-branch-3 c =
+pub loop-self-preserved-in-Some : goal.loop-self-preserved-in-Some
+loop-self-preserved-in-Some c =
     let s = c.loop-self.self in
     let u = c.propagate.new.self in
     let b : Learner = record s { trail = u } in

@@ -16,7 +16,7 @@ use Rattle.wh_sat.proofs.Learnable.{is_learnt, decisions_has}
 use Rattle.wh_sat.proofs.Clashing.{cut, cut_refutes, has_left, has_right, has_either}
 use Rattle.wh_sat.proofs.Combining.{below_within}
 use Rattle.wh_sat.proofs.Supposing.{has_take}
-use Rattle.wh_sat.proofs.learner.Learner.choose.Given as goal
+use Rattle.wh_sat.proofs.learner.Learner.open_from.Given as goal
 
 abbrev pub invariant-loop-variable : goal.invariant-loop-variable
-invariant-loop-variable l = (v : ℕ) → v < l.variable → value_in (assigned l.self.trail) v ≡ None → ⊥
+invariant-loop-variable l = (v : ℕ) → l.from ≤ v → v < l.variable → value_in (assigned l.self.trail) v ≡ None → ⊥
