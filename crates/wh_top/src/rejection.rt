@@ -26,13 +26,33 @@ pub fn rejection_words(
         Rejected::NotOne { node } => of_node(alloc, *node, b"not-one"),
         Rejected::Loops { node, pair } => numbered_of_node(alloc, *node, b"loops", *pair),
         Rejected::FewBlocks { node } => of_node(alloc, *node, b"few-blocks"),
-        Rejected::NotPartition { node, pair } => numbered_of_node(alloc, *node, b"not-partition", *pair),
+        Rejected::NotPartition { node, pair } => numbered_of_node(
+            alloc,
+            *node,
+            b"not-partition",
+            *pair,
+        ),
         Rejected::BackEdge { node, a, b } => edge_of_node(alloc, *node, *a, *b),
         Rejected::BadArgs { node } => of_node(alloc, *node, b"bad-args"),
-        Rejected::NoProjection { node, symbol } => named_of_node(alloc, *node, b"no-projection", symbol_name(system, *symbol)),
-        Rejected::BadArgument { node, symbol } => named_of_node(alloc, *node, b"bad-argument", symbol_name(system, *symbol)),
+        Rejected::NoProjection { node, symbol } => named_of_node(
+            alloc,
+            *node,
+            b"no-projection",
+            symbol_name(system, *symbol),
+        ),
+        Rejected::BadArgument { node, symbol } => named_of_node(
+            alloc,
+            *node,
+            b"bad-argument",
+            symbol_name(system, *symbol),
+        ),
         Rejected::BadDrop { node } => of_node(alloc, *node, b"bad-drop"),
-        Rejected::NotDecreasing { node, pair } => numbered_of_node(alloc, *node, b"not-decreasing", *pair),
+        Rejected::NotDecreasing { node, pair } => numbered_of_node(
+            alloc,
+            *node,
+            b"not-decreasing",
+            *pair,
+        ),
         Rejected::NotATerm => word(alloc, b"term"),
         Rejected::NoStep => word(alloc, b"no-step"),
         Rejected::StepFails { index } => numbered(alloc, b"step", *index),
@@ -71,12 +91,7 @@ fn of_node(alloc: Global, node: u32, what: &[u8]) -> Result<Bytes, AllocError>
 }
 
 // A word and a number, said of a node.
-fn numbered_of_node(
-    alloc: Global,
-    node: u32,
-    what: &[u8],
-    number: u32,
-) -> Result<Bytes, AllocError>
+fn numbered_of_node(alloc: Global, node: u32, what: &[u8], number: u32) -> Result<Bytes, AllocError>
     ensures { IfOk result (λ words. words ≡ of_node node (numbered what.now number)) }
 {
     let mut words = of_node(alloc, node, what)?;
@@ -94,12 +109,7 @@ fn edge_of_node(alloc: Global, node: u32, a: u32, b: u32) -> Result<Bytes, Alloc
 }
 
 // A word and a name, said of a node.
-fn named_of_node(
-    alloc: Global,
-    node: u32,
-    what: &[u8],
-    name: &[u8],
-) -> Result<Bytes, AllocError>
+fn named_of_node(alloc: Global, node: u32, what: &[u8], name: &[u8]) -> Result<Bytes, AllocError>
     ensures { IfOk result (λ words. words ≡ of_node node (named what.now name.now)) }
 {
     let mut words = of_node(alloc, node, what)?;
@@ -109,12 +119,7 @@ fn named_of_node(
 }
 
 // A rule and the name of one of its meta-variables.
-fn inaccessible(
-    alloc: Global,
-    system: &System,
-    rule: u32,
-    meta: u32,
-) -> Result<Bytes, AllocError>
+fn inaccessible(alloc: Global, system: &System, rule: u32, meta: u32) -> Result<Bytes, AllocError>
     ensures { IfOk result (λ words. words ≡ named (numbered (codes "inaccessible") rule) (meta_name (system_data system.now) rule meta)) }
 {
     let mut words = numbered(alloc, b"inaccessible", rule)?;

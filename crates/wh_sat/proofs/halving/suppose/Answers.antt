@@ -15,14 +15,14 @@ pub loop-literal-init : goal.loop-literal-init
 loop-literal-init c = record {
   same = refl;
   back = back_start (marks_of c.args.trail.now) (assigned c.args.trail.now);
-  assumed = assumed_start c.args.trail.now.formula.clauses (assigned c.args.trail.now) c.args.literals.now c.requires.closed
-  }
+  assumed = assumed_start c.args.trail.now.formula.clauses (assigned c.args.trail.now) c.args.literals.now c.requires.closed;
+}
 
 pub returns-then-value-literal-clause-answer : goal.returns-then-value-literal-clause-answer
 returns-then-value-literal-clause-answer c =
     let e : value_in (assigned c.loop-literal.trail) (get_or c.args.literals.now c.loop-literal.literal-index nothing).variable ≡ Some c.in-Some.value = sym (sym c.in-Some.is ∙ c.value.ensures) in
     clash_false c.args.trail.now.formula.clauses (assigned c.args.trail.now) c.args.literals.now (assigned c.loop-literal.trail) c.loop-literal.literal-index nothing c.loop-literal.invariant.assumed c.loop-literal-test.true
-      (fails_by _ c.in-Some.value _ e c.if-value-literal.true)
+    (fails_by _ c.in-Some.value _ e c.if-value-literal.true)
 
 pub returns-in-Some-2-clause-marks : goal.returns-in-Some-2-clause-marks
 returns-in-Some-2-clause-marks c =
@@ -62,13 +62,13 @@ returns-in-Some-2-clause-answer c =
 
 pub loop-literal-preserved : goal.loop-literal-preserved
 loop-literal-preserved c = elim c.match-value.branch [
-    in-Some+else-value-literal w ↦
+  | in-Some+else-value-literal w ↦
       let e : value_in (assigned c.loop-literal.trail) (get_or c.args.literals.now c.loop-literal.literal-index nothing).variable ≡ Some w.in-Some.value = sym (sym w.in-Some.is ∙ c.value.ensures) in
       rw w.trail-is (record {
         same = c.loop-literal.invariant.same;
         back = c.loop-literal.invariant.back;
         assumed = assumed_true c.args.trail.now.formula.clauses (assigned c.args.trail.now) c.args.literals.now (assigned c.loop-literal.trail) c.loop-literal.literal-index nothing c.loop-literal.invariant.assumed c.loop-literal-test.true
-          (holds_by _ w.in-Some.value _ e w.if-value-literal.false)
+            (holds_by _ w.in-Some.value _ e w.if-value-literal.false);
       })
   | in-None+in_ok-decide-in-None+in_ok-propagate-in-None+in-None-2 w ↦
       let x = get_or c.args.literals.now c.loop-literal.literal-index nothing in
@@ -82,6 +82,6 @@ loop-literal-preserved c = elim c.match-value.branch [
       rw w.trail-is (record {
         same = w.propagate.ensures.same ∙ f;
         back = rw mk (back_decide c.args.trail.now.formula.clauses (marks_of c.args.trail.now) (assigned c.args.trail.now) (marks_of c.loop-literal.trail) (assigned c.loop-literal.trail) (assigned w.propagate.new.self) x c.loop-literal.invariant.back g2);
-        assumed = assumed_decided c.args.trail.now.formula.clauses (assigned c.args.trail.now) c.args.literals.now (assigned c.loop-literal.trail) (assigned w.propagate.new.self) c.loop-literal.literal-index nothing c.loop-literal.invariant.assumed c.loop-literal-test.true g2 cl
+        assumed = assumed_decided c.args.trail.now.formula.clauses (assigned c.args.trail.now) c.args.literals.now (assigned c.loop-literal.trail) (assigned w.propagate.new.self) c.loop-literal.literal-index nothing c.loop-literal.invariant.assumed c.loop-literal-test.true g2 cl;
       })
-  ]
+]

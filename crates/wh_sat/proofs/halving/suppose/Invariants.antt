@@ -8,5 +8,5 @@ abbrev pub invariant-loop-literal : goal.invariant-loop-literal
 invariant-loop-literal l = record {
   same : l.trail.formula ≡ l.initial.trail.formula;
   back : Back (marks_of l.initial.trail) (assigned l.initial.trail) (marks_of l.trail) (assigned l.trail);
-  assumed : Assumed l.initial.trail.formula.clauses (assigned l.initial.trail) (take l.literal-index l.literals) (assigned l.trail)
-  }
+  assumed : Assumed l.initial.trail.formula.clauses (assigned l.initial.trail) (take l.literal-index l.literals) (assigned l.trail);
+}

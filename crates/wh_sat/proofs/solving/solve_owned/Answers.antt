@@ -34,7 +34,7 @@ returns-in-Model c =
     let x = c.in_ok-next.ensures in
     let g = begun f.clauses c.args.budget c.in_ok-learner.learner a e.clauses e.given e.left x.extends x.sound in
     let r = rw c.in-Model.is at x.answer in
-    ( omega (arith, r.0, g.count, g.long), r.1 ∙ x.extends.variables ∙ e.variables, solves_front _ f.clauses (clauses_of a) g.front r.2 )
+    (omega (arith, r.0, g.count, g.long), r.1 ∙ x.extends.variables ∙ e.variables, solves_front _ f.clauses (clauses_of a) g.front r.2)
 
 pub returns-in-Exhausted : goal.returns-in-Exhausted
 returns-in-Exhausted c =
@@ -44,7 +44,7 @@ returns-in-Exhausted c =
     let x = c.in_ok-next.ensures in
     let g = begun f.clauses c.args.budget c.in_ok-learner.learner a e.clauses e.given e.left x.extends x.sound in
     let r = rw c.in-Exhausted.is at x.answer in
-    ( omega (arith, r.0, g.count, g.long), λ v s. r.1 v (solves_given v f.clauses (clauses_of a) a.learnt.items g.front g.later s) )
+    (omega (arith, r.0, g.count, g.long), λ v s. r.1 v (solves_given v f.clauses (clauses_of a) a.learnt.items g.front g.later s))
 
 pub returns : goal.returns
 returns c =
@@ -60,4 +60,4 @@ returns c =
     let all : Learnt f.variables f.clauses (drop (length f.clauses) (clauses_of a)) = subst (λ n. Learnt n f.clauses (drop (length f.clauses) (clauses_of a))) m (list_learnt (variables_of a) f.clauses (clauses_of a) a.learnt.items g.front g.later x.sound.known) in
     let long : length l ≡ c.args.budget = omega (arith, ap length is, length-drop (length f.clauses) (clauses_of a), r, g.count) in
     let learnt : Learnt f.variables f.clauses l = subst (Learnt f.variables f.clauses) (sym is) all in
-    ( long, learnt, subst (λ k. k ≤ 3 ^ f.variables) long (learnt_bounded f.variables f.clauses l learnt) )
+    (long, learnt, subst (λ k. k ≤ 3 ^ f.variables) long (learnt_bounded f.variables f.clauses l learnt))

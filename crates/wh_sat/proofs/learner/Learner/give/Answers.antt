@@ -28,5 +28,5 @@ returns-clause-sound c =
     record {
       known = known_as (variables_of s) _ (clauses_of s ++ c.args.clause ∷ []) _ (s.learnt.items ++ false ∷ []) _ e.variables e.clauses e.learnt (known_given (variables_of s) (clauses_of s) s.learnt.items c.args.clause q.known);
       ground = e.marks ∙ q.ground;
-      derived = λ m h. subst (λ cs. Derives cs [] m) (sym e.clauses) (derives_more (clauses_of s) c.args.clause [] m (q.derived m (subst (λ t. Has t m) e.assigned h)))
+      derived = λ m h. subst (λ cs. Derives cs [] m) (sym e.clauses) (derives_more (clauses_of s) c.args.clause [] m (q.derived m (subst (λ t. Has t m) e.assigned h)));
     }

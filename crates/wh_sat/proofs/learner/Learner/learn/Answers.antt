@@ -28,14 +28,14 @@ halve-requires-clause-below c =
     let v : c.deref.result.now ≡ decisions t (marks_of s.trail) = c.deref.ensures.value ∙ c.in_ok-literals.ensures in
     let b : AllBelow (variables_of s) t = trail_below s.trail in
     subst (λ x. AllBelow x.variables c.deref.result.now) (sym c.undo.ensures.same) (subst (AllBelow (variables_of s)) (sym v)
-      (below_within (variables_of s) t (decisions t (marks_of s.trail)) b (λ m q. decisions_has t (marks_of s.trail) m (rising_marks s.trail) q)))
+    (below_within (variables_of s) t (decisions t (marks_of s.trail)) b (λ m q. decisions_has t (marks_of s.trail) m (rising_marks s.trail) q)))
 
 pub halve-requires-clause-closed : goal.halve-requires-clause-closed
 halve-requires-clause-closed c =
     let s = c.args.self.now in
     let u = c.undo.new.self in
     subst (λ x. IsClosed x.clauses (assigned u)) (sym c.undo.ensures.same) (subst (IsClosed (clauses_of s)) (sym c.undo.ensures.assigned)
-      (front_closed (clauses_of s) (assigned s.trail) (marks_of s.trail) c.requires.some c.requires.levels))
+    (front_closed (clauses_of s) (assigned s.trail) (marks_of s.trail) c.requires.some c.requires.levels))
 
 pub halve-requires-clause-clash : goal.halve-requires-clause-clash
 halve-requires-clause-clash c =
@@ -75,14 +75,14 @@ returns c =
       sound = record {
         known = known_as n (variables_of b) (cs ++ cl ∷ []) (clauses_of b) (s.learnt.items ++ true ∷ []) b.learnt.items ev ec j.learnt (known_learnt n cs s.learnt.items cl c.requires.known l);
         ground = j.marks ∙ c.in_ok-kept.ensures.marks ∙ c.undo.ensures.marks;
-        derived = λ m h. subst (λ x. Derives x [] m) (sym ec) (derives_more cs cl [] m (c.requires.levels.ground m (subst (λ x. Has x m) ea h)))
+        derived = λ m h. subst (λ x. Derives x [] m) (sym ec) (derives_more cs cl [] m (c.requires.levels.ground m (subst (λ x. Has x m) ea h)));
       };
       extends = record {
         variables = ev;
         clauses = ap (take (length cs)) ec ∙ take_at cs (cl ∷ []) (length cs) refl;
         earlier = ap (take (length s.learnt.items)) j.learnt ∙ take_at s.learnt.items (true ∷ []) (length s.learnt.items) refl;
         later = λ k w u. ap (λ xs. get_or xs k false) j.learnt ∙ get_or_push s.learnt.items true false k (omega (arith, w, u, ap length j.learnt, length_push s.learnt.items true));
-        count = omega (arith, ap length ec, length_push cs cl, j.left)
+        count = omega (arith, ap length ec, length_push cs cl, j.left);
       };
-      fewer = omega (arith, j.left)
+      fewer = omega (arith, j.left);
     }

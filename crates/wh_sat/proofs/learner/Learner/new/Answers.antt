@@ -28,5 +28,5 @@ returns-clause-sound c =
     record {
       known = known_as f.variables _ f.clauses _ (replicate (length f.clauses) false) _ (ap (λ (x : Formula). x.variables) e.0) (ap (λ (x : Formula). x.clauses) e.0) l (known_start f.variables f.clauses);
       ground = e.2;
-      derived = λ m h. let q : Has [] m = subst (λ t. Has t m) e.1 h in absurd (omega (arith, q.within))
+      derived = λ m h. let q : Has [] m = subst (λ t. Has t m) e.1 h in absurd (omega (arith, q.within));
     }

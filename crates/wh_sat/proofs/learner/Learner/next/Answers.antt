@@ -77,7 +77,7 @@ loop-self-preserved-in-Some c =
     record {
       known = m.sound.known;
       levels = subst (Levels (clauses_of n) (assigned n.trail)) (sym m.sound.ground) (levels_start (clauses_of n) (assigned n.trail) m.sound.derived);
-      extends = extends_trans c.args.self.now b n (extends_trail c.args.self.now s u c.propagate.ensures.same c.loop-self.invariant.extends) m.extends
+      extends = extends_trans c.args.self.now b n (extends_trail c.args.self.now s u c.propagate.ensures.same c.loop-self.invariant.extends) m.extends;
     }
 
 pub returns-in-None-choose-clause-sound : goal.returns-in-None-choose-clause-sound
@@ -104,10 +104,11 @@ returns-in-None-choose-clause-answer c =
     let cl : IsClosed (clauses_of b) (assigned u) = subst (λ (f : Formula). IsClosed f.clauses (assigned u)) (sym e.same) (rw c.in-None.is at c.in_ok-propagate.ensures.answer) in
     let w = c.undo-in-None-choose in
     let vals = c.in_ok-values-in-None-choose.values.items in
-    let r = c.in_ok-values-in-None-choose.ensures in
-    ( omega (arith, c.if-self-eq0.false)
-    , r.0 ∙ sym (ap (λ (f : Formula). f.variables) w.ensures.same)
-    , subst (λ (f : Formula). Solves (λ v. get_or vals v false) f.clauses) (sym w.ensures.same) (closed_solves (variables_of b) (clauses_of b) (assigned u) vals u.within cl c.in-None-choose.ensures r.1) )
+    let r = c.in_ok-values-in-None-choose.ensures in (
+      omega (arith, c.if-self-eq0.false),
+      r.0 ∙ sym (ap (λ (f : Formula). f.variables) w.ensures.same),
+      subst (λ (f : Formula). Solves (λ v. get_or vals v false) f.clauses) (sym w.ensures.same) (closed_solves (variables_of b) (clauses_of b) (assigned u) vals u.within cl c.in-None-choose.ensures r.1),
+    )
 
 pub loop-self-preserved : goal.loop-self-preserved
 loop-self-preserved c =
@@ -125,5 +126,5 @@ loop-self-preserved c =
     record {
       known = known_trail b w d.same q;
       levels = levels_decided u w _ d.same d.marks d.assigned cl lv;
-      extends = extends_trail c.args.self.now b w d.same ex
+      extends = extends_trail c.args.self.now b w d.same ex;
     }

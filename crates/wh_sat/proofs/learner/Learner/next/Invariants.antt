@@ -22,8 +22,8 @@ abbrev pub invariant-loop-self : goal.invariant-loop-self
 invariant-loop-self l = record {
   known : Known (variables_of l.self) (clauses_of l.self) l.self.learnt.items;
   levels : Levels (clauses_of l.self) (assigned l.self.trail) (marks_of l.self.trail);
-  extends : Extends l.initial.self l.self
-  }
+  extends : Extends l.initial.self l.self;
+}
 
 abbrev pub decreases-loop-self : goal.decreases-loop-self
 decreases-loop-self l = (variables_of l.self + 1) * l.self.left + (variables_of l.self - length (assigned l.self.trail))

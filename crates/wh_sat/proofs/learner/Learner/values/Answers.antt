@@ -31,13 +31,14 @@ loop-variable-preserved c =
     record {
       long = ap length e ∙ length_push xs c.unwrap_or.result ∙ ap (λ n. n + 1) long;
       same = λ v w. ap (λ ys. get_or ys v false) e ∙ elim (cases_eq v i) [
-          inl same ↦ get_or_push xs c.unwrap_or.result false v (long ∙ sym same) ∙ r ∙ ap (λ j. unwrap_or (value_in t j) false) (sym same)
+        | inl same ↦ get_or_push xs c.unwrap_or.result false v (long ∙ sym same) ∙ r ∙ ap (λ j. unwrap_or (value_in t j) false) (sym same)
         | inr other ↦ let u : v < i = omega (arith, other, w) in get_or_append_left xs (c.unwrap_or.result ∷ []) false v (omega (arith, u, long)) ∙ c.loop-variable.invariant.same v u
-        ]
+      ];
     }
 
 pub returns : goal.returns
 returns c =
-    let e : c.formula.result.now.variables ≡ variables_of c.args.self.now = ap (λ (f : Formula). f.variables) c.formula.ensures in
-    ( omega (arith, e, c.loop-variable.invariant.long, c.loop-variable-test.false, c.loop-variable.auto.variable-end)
-    , λ v w. c.loop-variable.invariant.same v (omega (arith, w, e, c.loop-variable-test.false)) )
+    let e : c.formula.result.now.variables ≡ variables_of c.args.self.now = ap (λ (f : Formula). f.variables) c.formula.ensures in (
+      omega (arith, e, c.loop-variable.invariant.long, c.loop-variable-test.false, c.loop-variable.auto.variable-end),
+      λ v w. c.loop-variable.invariant.same v (omega (arith, w, e, c.loop-variable-test.false)),
+    )
