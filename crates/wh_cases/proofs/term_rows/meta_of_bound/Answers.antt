@@ -9,4 +9,4 @@ pub returns : goal.returns
 returns c =
     let first : list c.push.new.self ≡ [] ++ Bound c.args.i ∷ [] = c.in_ok-push.ensures.ok ∙ ap (λ xs. xs ++ Bound c.args.i ∷ []) c.in_ok-items.ensures in
     let second : list c.push-2.new.self ≡ Bound c.args.i ∷ Bound c.args.j ∷ [] = c.in_ok-push-2.ensures.ok ∙ ap (λ xs. xs ++ Bound c.args.j ∷ []) first in
-    tm_meta c.args.number c.push-2.new.self ∙ ap (λ xs. meta c.args.number (tms xs)) second
+    tm_meta 0 c.push-2.new.self ∙ ap (λ xs. meta 0 (tms xs)) second
