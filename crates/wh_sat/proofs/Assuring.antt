@@ -1,10 +1,10 @@
-use Rattle.std.proofs.Common.{◌≡◌, ◌≢◌, ℕ, ◌+◌, ◌-◌, ◌<◌, ◌≤◌, ◌||◌, zero, suc, Bool, true, false, not, cond, List, [], ◌∷◌, ◌++◌, length, get_or, take, map, refl, sym, ◌∙◌, ap, subst, ◌⊎◌, inl, inr, arith, tests}
-use Rattle.std.proofs.lemmas.List.{length-map, get_or-map, get_or_default}
+use Rattle.std.proofs.Common.{◌≡◌, ℕ, ◌<◌, ◌||◌, zero, suc, Bool, true, false, not, cond, List, [], ◌∷◌, length, get_or, map, refl, sym, ◌∙◌, subst, ◌⊎◌, inl, inr, arith}
+use Rattle.std.proofs.lemmas.List.{length-map, get_or-map}
 use Rattle.wh_sat_trail.specs.declared.literal.Literal.{Literal}
 use Rattle.wh_sat_trail.specs.Assignment.{negated}
 use Rattle.wh_sat_trail.specs.Watch.{nothing}
 use Rattle.wh_sat.specs.Learning.{Has, Derives, given, forced, Refutes}
-use Rattle.wh_sat.specs.Solving.{literal_true, clause_true, Solves, SolvesGiven}
+use Rattle.wh_sat.specs.Solving.{literal_true, clause_true, Solves}
 use Rattle.wh_sat.proofs.Deriving.{cases_lit}
 
 pub cases_bool : (b : Bool) → (b ≡ true) ⊎ (b ≡ false)
@@ -31,9 +31,9 @@ or_either false b e = inr e
 pub clause_true_place : (v : ℕ → Bool) (c : List Literal) → clause_true v c ≡ true → (i : ℕ) × ((i < length c) × ((d : Literal) → literal_true v (get_or c i d) ≡ true))
 clause_true_place v [] e = absurd (grind (arith, e))
 clause_true_place v (l ∷ c) e = elim (or_either (literal_true v l) (clause_true v c) e) [
-    inl p ↦ (0, (omega arith, λ d. p))
+  | inl p ↦ (0, (omega arith, λ d. p))
   | inr q ↦ let r = clause_true_place v c q in (suc r.0, (omega (arith, r.1.0), λ d. r.1.1 d))
-  ]
+]
 
 pub clause_true_by : (v : ℕ → Bool) (c : List Literal) (i : ℕ) (d : Literal) → i < length c → literal_true v (get_or c i d) ≡ true → clause_true v c ≡ true
 clause_true_by v [] i d w e = absurd (omega (arith, w))
@@ -65,8 +65,8 @@ derives_true v clauses start l s h (forced k l' w q others) =
     let c = get_or clauses k [] in
     let r = clause_true_place v c (s k w) in
     elim (cases_lit (get_or c r.0 nothing) l) [
-      inl same ↦ subst (λ x. literal_true v x ≡ true) same (r.1.1 nothing)
-    | inr u ↦ absurd (not_both_true v (get_or c r.0 nothing) (r.1.1 nothing) (derives_true v clauses start (negated (get_or c r.0 nothing)) s h (others r.0 nothing r.1.0 u)))
+      | inl same ↦ subst (λ x. literal_true v x ≡ true) same (r.1.1 nothing)
+      | inr u ↦ absurd (not_both_true v (get_or c r.0 nothing) (r.1.1 nothing) (derives_true v clauses start (negated (get_or c r.0 nothing)) s h (others r.0 nothing r.1.0 u)))
     ]
 
 pub refutes_false : (v : ℕ → Bool) (clauses : List (List Literal)) (start : List Literal) → Solves v clauses → ((m : Literal) → Has start m → literal_true v m ≡ true) → Refutes clauses start → ⊥
@@ -77,15 +77,15 @@ refutes_false v clauses start s h r =
 
 pub all_false : (v : ℕ → Bool) (c : List Literal) (i : ℕ) (d : Literal) → clause_true v c ≡ false → i < length c → literal_true v (get_or c i d) ≡ false
 all_false v c i d e w = elim (cases_bool (literal_true v (get_or c i d))) [
-    inl p ↦ absurd (true_false (clause_true v c) (clause_true_by v c i d w p) e)
+  | inl p ↦ absurd (true_false (clause_true v c) (clause_true_by v c i d w p) e)
   | inr q ↦ q
-  ]
+]
 
 -- a clause whose negation is refuted is true where all others are
 pub learnt_true : (v : ℕ → Bool) (clauses : List (List Literal)) (c : List Literal) → Solves v clauses → Refutes clauses (map negated c) → clause_true v c ≡ true
 learnt_true v clauses c s r = elim (cases_bool (clause_true v c)) [
-    inl p ↦ p
+  | inl p ↦ p
   | inr q ↦ absurd (refutes_false v clauses (map negated c) s
       (λ m h. let w : h.place < length c = omega (arith, h.within, length-map c negated) in
-        subst (λ x. literal_true v x ≡ true) (sym (get_or-map negated c h.place nothing nothing w) ∙ h.is nothing) (negated_true v (get_or c h.place nothing) (all_false v c h.place nothing q w))) r)
-  ]
+      subst (λ x. literal_true v x ≡ true) (sym (get_or-map negated c h.place nothing nothing w) ∙ h.is nothing) (negated_true v (get_or c h.place nothing) (all_false v c h.place nothing q w))) r)
+]

@@ -1,5 +1,5 @@
-use Rattle.std.proofs.Common.{◌≡◌, ◌≢◌, ℕ, ◌+◌, ◌-◌, ◌<◌, ◌≤◌, zero, suc, Bool, true, false, List, [], ◌++◌, length, get_or, take, drop, replicate, refl, sym, ◌∙◌, ap, subst, ◌⊎◌, inl, inr, arith}
-use Rattle.std.proofs.lemmas.List.{drop-take, get_or-drop, get_or-take, length-drop, length-replicate, length-take, take-append-drop, take-take, get_or_default}
+use Rattle.std.proofs.Common.{◌≡◌, ℕ, ◌+◌, ◌<◌, ◌≤◌, Bool, true, false, List, [], ◌++◌, length, get_or, take, drop, replicate, sym, ◌∙◌, ap, subst, inl, inr, arith}
+use Rattle.std.proofs.lemmas.List.{drop-take, get_or-drop, get_or-take, length-drop, length-replicate, length-take, take-append-drop, take-take}
 use Rattle.std.proofs.lemmas.Bool.{cases_lt}
 use Rattle.wh_sat_trail.specs.declared.literal.Literal.{Literal}
 use Rattle.wh_sat.specs.Learning.{IsLearnt, Learnt}
@@ -33,9 +33,9 @@ solves_front v given all front s k w = subst (λ x. clause_true v x ≡ true) (f
 pub solves_given : (v : ℕ → Bool) (given all : List (List Literal)) (learnt : List Bool) → take (length given) all ≡ given
     → ((k : ℕ) → length given ≤ k → k < length all → get_or learnt k false ≡ true) → Solves v given → SolvesGiven v all learnt
 solves_given v given all learnt front later s k w e = elim (cases_lt k (length given)) [
-    inl early ↦ subst (λ x. clause_true v x ≡ true) (sym (front_is given all k front early)) (s k early)
+  | inl early ↦ subst (λ x. clause_true v x ≡ true) (sym (front_is given all k front early)) (s k early)
   | inr late ↦ let f : true ≡ false = sym (later k late w) ∙ e in absurd (grind (arith, f))
-  ]
+]
 
 -- a search that began with a formula alone: its clauses come first, the others are learnt
 pub record Begun (f : List (List Literal)) (budget : ℕ) (after : Learner) : Type 0 where
@@ -53,5 +53,5 @@ begun f budget before after ec el eb x s =
       front = front;
       later = λ k w v. x.later k (omega (arith, n, w)) (omega (arith, v, s.known.marked));
       long = front_long f (clauses_of after) front;
-      count = x.count ∙ ap (λ c. length c + before.left) ec ∙ ap (λ b. length f + b) eb
+      count = x.count ∙ ap (λ c. length c + before.left) ec ∙ ap (λ b. length f + b) eb;
     }

@@ -1,9 +1,8 @@
-use Rattle.std.proofs.Common.{◌≡◌, ◌≢◌, ℕ, ◌+◌, ◌-◌, ◌<◌, ◌≤◌, min, zero, suc, Bool, true, false, not, cond, List, [], ◌∷◌, ◌++◌, length, get_or, take, drop, Option, Some, None, eqb, refl, sym, ◌∙◌, ap, subst, ◌⊎◌, inl, inr, arith, rules, tests}
-use Rattle.std.proofs.lemmas.List.{take_at, take_all, take-take, take_more, get_or_default, take-append-le}
+use Rattle.std.proofs.Common.{◌≡◌, ◌≢◌, ℕ, ◌<◌, Bool, true, false, List, [], length, get_or, refl, sym, ◌∙◌, ap, subst, ◌⊎◌, inl, inr, arith}
 use Rattle.std.proofs.lemmas.Bool.{cases_eq}
 use Rattle.wh_sat_trail.specs.declared.literal.Literal.{Literal}
-use Rattle.wh_sat_trail.specs.Assignment.{value_in, Holds, Fails, Open}
-use Rattle.wh_sat_trail.specs.Propagation.{IsRefuted, Forces, IsForced, Grows, IsClosed}
+use Rattle.wh_sat_trail.specs.Assignment.{value_in, Holds, Fails}
+use Rattle.wh_sat_trail.specs.Propagation.{IsClosed}
 use Rattle.wh_sat_trail.specs.Assignment.{negated}
 use Rattle.wh_sat.specs.Learning.{Has, Derives, given, forced, Refutes}
 use Rattle.wh_sat_trail.proofs.Watching.{cases_value}
@@ -16,12 +15,12 @@ cases_pos false true = inr (λ e. grind arith)
 
 pub cases_lit : (a b : Literal) → (a ≡ b) ⊎ (a ≢ b)
 cases_lit a b = elim (cases_eq a.variable b.variable) [
-    inl v ↦ elim (cases_pos a.positive b.positive) [
-      inl p ↦ inl (ap (λ n. let r : Literal = record { variable = n; positive = a.positive } in r) v ∙ ap (λ q. let r : Literal = record { variable = b.variable; positive = q } in r) p)
+  | inl v ↦ elim (cases_pos a.positive b.positive) [
+    | inl p ↦ inl (ap (λ n. let r : Literal = record { variable = n; positive = a.positive } in r) v ∙ ap (λ q. let r : Literal = record { variable = b.variable; positive = q } in r) p)
     | inr q ↦ inr (λ e. q (ap (λ l. l.positive) e))
-    ]
-  | inr u ↦ inr (λ e. u (ap (λ l. l.variable) e))
   ]
+  | inr u ↦ inr (λ e. u (ap (λ l. l.variable) e))
+]
 
 -- what propagation derives from literals that a closed assignment makes true, it makes true
 pub derives_holds : (clauses : List (List Literal)) (start t : List Literal) (l : Literal) → IsClosed clauses t → ((m : Literal) → Has start m → Holds t m) → Derives clauses start l → Holds t l
@@ -30,10 +29,10 @@ derives_holds clauses start t l c h (forced k l' w q others) =
     let cl = get_or clauses k [] in
     let rest : (i : ℕ) (d : Literal) → i < length cl → get_or cl i d ≢ l → Fails t (get_or cl i d) = λ i d x u. derives_holds clauses start t (negated (get_or cl i d)) c h (others i d x u) in
     elim (cases_value (value_in t l.variable) l.positive) [
-      inl good ↦ good
-    | inr other ↦ elim other [
-        inl bad ↦ absurd (c.unrefuted k w (λ i d x. elim (cases_lit (get_or cl i d) l) [ inl e ↦ subst (Fails t) (sym e) bad | inr u ↦ rest i d x u ]))
-      | inr free ↦ absurd (c.unforced k l w (record { free = free; place = q.place; within = q.within; is = q.is; others = rest }))
+      | inl good ↦ good
+      | inr other ↦ elim other [
+        | inl bad ↦ absurd (c.unrefuted k w (λ i d x. elim (cases_lit (get_or cl i d) l) [ inl e ↦ subst (Fails t) (sym e) bad | inr u ↦ rest i d x u ]))
+        | inr free ↦ absurd (c.unforced k l w (record { free = free; place = q.place; within = q.within; is = q.is; others = rest }))
       ]
     ]
 

@@ -1,18 +1,17 @@
-use Rattle.std.proofs.Common.{◌≡◌, ◌≢◌, ℕ, ◌+◌, ◌-◌, ◌*◌, ◌^◌, ◌<◌, ◌≤◌, zero, suc, Bool, true, false, not, cond, List, [], ◌∷◌, ◌++◌, length, get_or, take, map, eqb, refl, sym, ◌∙◌, ap, subst, ◌⊎◌, inl, inr, arith, tests}
-use Rattle.std.proofs.lemmas.List.{length-map, get_or-map, get_or_append_left, get_or-append-add, get_or-take, length-append, length-take-le, get_or_default}
+use Rattle.std.proofs.Common.{◌≡◌, ℕ, ◌+◌, ◌*◌, ◌^◌, ◌<◌, ◌≤◌, zero, suc, Bool, true, false, cond, List, [], ◌∷◌, ◌++◌, length, get_or, take, map, eqb, refl, sym, ◌∙◌, subst, inl, inr, arith, tests}
+use Rattle.std.proofs.lemmas.List.{length-map, get_or-map, get_or-append-add, get_or-take, length-append, length-take-le}
 use Rattle.std.proofs.Math.Nat.{pow-suc}
-use Rattle.std.proofs.lemmas.Bool.{cases_eq, cases_lt}
+use Rattle.std.proofs.lemmas.Bool.{cases_eq}
 use Rattle.std.proofs.lemmas.Map.Steps.{length-le_from_distinct_below}
 use Rattle.std.proofs.lemmas.Map.Keys.{IsDistinct-from_apart}
-use Rattle.std.specs.List.{IsDistinct, list_any}
+use Rattle.std.specs.List.{list_any}
 use Rattle.wh_sat_trail.specs.declared.literal.Literal.{Literal}
 use Rattle.wh_sat_trail.specs.Assignment.{negated, AllBelow}
 use Rattle.wh_sat_trail.specs.Member.{member}
 use Rattle.wh_sat_trail.specs.Watch.{nothing}
 use Rattle.wh_sat_trail.proofs.Guarding.{member_at, member_place}
-use Rattle.wh_sat.specs.Learning.{Has, IsLearnt, Learnt}
-use Rattle.wh_sat.proofs.Assuring.{cases_bool, true_false}
-use Rattle.wh_sat.proofs.Clashing.{at_place}
+use Rattle.wh_sat.specs.Learning.{Has, Learnt}
+use Rattle.wh_sat.proofs.Assuring.{cases_bool}
 
 abbrev sign : Bool → Bool → ℕ
 sign a b = cond a 1 (cond b 2 0)
@@ -42,8 +41,8 @@ digits_same c e (suc n) v h w =
     let de = digit_small (member (record { variable = n; positive = true }) e) (member (record { variable = n; positive = false }) e) in
     let top : number c n ≡ number e n = omega (arith, h, dc, de) in
     elim (cases_eq v n) [
-      inl same ↦ let here : digit c n ≡ digit e n = omega (arith, h, top) in subst (λ u. digit c u ≡ digit e u) (sym same) here
-    | inr other ↦ digits_same c e n v top (omega (arith, w, other))
+      | inl same ↦ let here : digit c n ≡ digit e n = omega (arith, h, top) in subst (λ u. digit c u ≡ digit e u) (sym same) here
+      | inr other ↦ digits_same c e n v top (omega (arith, w, other))
     ]
 
 digit_one : (a b : Bool) → sign a b ≡ 1 → a ≡ true
@@ -89,9 +88,9 @@ same_number n c e b plain h l q =
 any_below : (n : ℕ) (xs : List ℕ) (q : ℕ) → ((i d : ℕ) → i < length xs → get_or xs i d < n) → list_any (eqb q) xs ≡ true → q < n
 any_below n [] q h e = absurd (grind (arith, e))
 any_below n (x ∷ xs) q h e = elim (cases_eq q x) [
-    inl same ↦ subst (λ y. y < n) (sym same) (h 0 0 (omega arith))
+  | inl same ↦ subst (λ y. y < n) (sym same) (h 0 0 (omega arith))
   | inr other ↦ any_below n xs q (λ i d w. h (suc i) d (omega (arith, w))) (let z : eqb q x ≡ false = grind (arith, tests, other) in rw z at e)
-  ]
+]
 
 -- a learnt list over n variables has at most 3 ^ n clauses
 pub learnt_bounded : (n : ℕ) (clauses list : List (List Literal)) → Learnt n clauses list → length list ≤ 3 ^ n
@@ -100,10 +99,10 @@ learnt_bounded n clauses list learnt =
     let at : (i : ℕ) (d : ℕ) → i < length list → get_or (map f list) i d ≡ f (get_or list i []) = λ i d w. get_or-map f list i [] d w in
     let far : (i : ℕ) → i < length (map f list) → i < length list = λ i w. omega (arith, w, length-map list f) in
     let apart : (i j : ℕ) (d : ℕ) → i < j → j < length (map f list) → eqb (get_or (map f list) i d) (get_or (map f list) j d) ≡ false = λ i j d ij w.
-      let wj = far j w in
-      let wi : i < length list = omega (arith, ij, wj) in
-      elim (cases_eq (get_or (map f list) i d) (get_or (map f list) j d)) [
-        inr other ↦ grind (arith, tests, other)
+    let wj = far j w in
+    let wi : i < length list = omega (arith, ij, wj) in
+    elim (cases_eq (get_or (map f list) i d) (get_or (map f list) j d)) [
+      | inr other ↦ grind (arith, tests, other)
       | inl same ↦
           let ni : number (get_or list i []) n ≡ number (get_or list j []) n = sym (at i d wi) ∙ same ∙ at j d wj in
           let li = learnt i wi in
@@ -111,5 +110,5 @@ learnt_bounded n clauses list learnt =
           let k : length clauses + i < length (clauses ++ take j list) = omega (arith, length-append clauses (take j list), length-take-le j list (omega (arith, wj)), ij) in
           let is : get_or (clauses ++ take j list) (length clauses + i) [] ≡ get_or list i [] = get_or-append-add clauses (take j list) i [] ∙ get_or-take j list i [] ij in
           absurd (lj.fresh (length clauses + i) k (λ l h. same_number n (get_or list i []) (get_or list j []) li.below li.plain ni l (subst (λ x. Has x l) is h)))
-      ] in
+    ] in
     omega (arith, length-map list f, length-le_from_distinct_below (map f list) (3 ^ n) (IsDistinct-from_apart eqb (map f list) apart) (λ q e. any_below (3 ^ n) (map f list) q (λ i d w. rw (at i d (far i w)) (number_below (get_or list i []) n)) e))

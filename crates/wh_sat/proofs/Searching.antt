@@ -1,21 +1,21 @@
-use Rattle.std.proofs.Common.{◌≡◌, ◌≢◌, ℕ, ◌+◌, ◌-◌, ◌*◌, ◌<◌, ◌≤◌, zero, suc, Bool, true, false, not, cond, List, [], ◌∷◌, ◌++◌, length, get_or, take, map, Option, Some, None, refl, sym, ◌∙◌, ap, subst, ◌⊎◌, inl, inr, arith, tests}
+use Rattle.std.proofs.Common.{◌≡◌, ℕ, ◌+◌, ◌*◌, ◌<◌, ◌≤◌, Bool, true, false, not, cond, List, [], ◌∷◌, ◌++◌, length, get_or, take, map, Option, Some, None, refl, sym, ◌∙◌, ap, subst, inl, inr, arith}
 use Rattle.std.specs.Option.{unwrap_or}
 use Rattle.std.proofs.Math.Nat.{mul-le-mul_left}
-use Rattle.std.proofs.lemmas.List.{take-take, take_all, take_at, length-take, length_push, get_or_push, get_or-take, get_or_default, nil_from_length}
-use Rattle.std.proofs.lemmas.Bool.{cases_eq, cases_lt}
+use Rattle.std.proofs.lemmas.List.{take-take, take_all, length-take, get_or-take, nil_from_length}
+use Rattle.std.proofs.lemmas.Bool.{cases_lt}
 use Rattle.wh_sat_trail.specs.declared.literal.Literal.{Literal}
 use Rattle.wh_sat_trail.specs.declared.formula.Formula.{Formula}
 use Rattle.wh_sat_trail.specs.declared.trail.Trail.{Trail}
-use Rattle.wh_sat_trail.specs.Assignment.{value_in, negated, AllBelow, Fails}
+use Rattle.wh_sat_trail.specs.Assignment.{value_in, negated, AllBelow}
 use Rattle.wh_sat_trail.specs.Propagation.{Grows, IsClosed, IsRefuted, Within}
 use Rattle.wh_sat_trail.specs.State.{assigned, formula_of, marks_of}
 use Rattle.wh_sat.specs.declared.learner.Learner.{Learner}
 use Rattle.wh_sat.specs.Learning.{Derives, Has, IsLearnt, Reduced, Refutes}
-use Rattle.wh_sat.specs.Solving.{Known, Levels, Solves, SolvesGiven, clause_true, decisions, literal_true}
-use Rattle.wh_sat.specs.State.{Extends, Learns, Sound, clauses_of, variables_of}
+use Rattle.wh_sat.specs.Solving.{Known, Levels, Solves, SolvesGiven, clause_true, decisions}
+use Rattle.wh_sat.specs.State.{Extends, Sound, clauses_of, variables_of}
 use Rattle.wh_sat.proofs.Assuring.{all_false, cases_bool, refutes_false}
 use Rattle.wh_sat.proofs.Learnable.{is_learnt}
-use Rattle.wh_sat.proofs.Leveling.{conflict_refutes, derives_more, known_as, known_learnt, levels_decide, levels_grow, rising_marks}
+use Rattle.wh_sat.proofs.Leveling.{conflict_refutes, known_as, levels_decide, levels_grow, rising_marks}
 
 -- the literals of a trail have variables of its formula
 pub trail_below : (s : Trail) → AllBelow (formula_of s).variables (assigned s)
@@ -35,7 +35,7 @@ learnt_after s u literals kept clause some lv ef ea el red ec =
     let r1 = subst (λ (f : Formula). Reduced f.clauses (assigned u) literals kept) ef red in
     let r2 = subst (λ x. Reduced cs x literals kept) ea r1 in
     subst (IsLearnt (formula_of s).variables cs) (sym ec)
-      (is_learnt (formula_of s).variables cs t (marks_of s) literals kept some (rising_marks s) s.assignment.fresh (trail_below s) lv (λ m h. subst (λ x. Has x m) el h) r2)
+    (is_learnt (formula_of s).variables cs t (marks_of s) literals kept some (rising_marks s) s.assignment.fresh (trail_below s) lv (λ m h. subst (λ x. Has x m) el h) r2)
 
 pub extends_refl : (a : Learner) → length a.learnt.items ≡ length (clauses_of a) → Extends a a
 extends_refl a e = record {
@@ -43,8 +43,8 @@ extends_refl a e = record {
   clauses = take_all (length (clauses_of a)) (clauses_of a) (omega arith);
   earlier = take_all (length a.learnt.items) a.learnt.items (omega arith);
   later = λ k w v. absurd (omega (arith, w, v));
-  count = refl
-  }
+  count = refl;
+}
 
 pub extends_trans : (a b c : Learner) → Extends a b → Extends b c → Extends a c
 extends_trans a b c f g =
@@ -55,10 +55,10 @@ extends_trans a b c f g =
       clauses = sym (take-take (length (clauses_of a)) (length (clauses_of b)) (clauses_of c) nc) ∙ ap (take (length (clauses_of a))) g.clauses ∙ f.clauses;
       earlier = sym (take-take (length a.learnt.items) (length b.learnt.items) c.learnt.items nl) ∙ ap (take (length a.learnt.items)) g.earlier ∙ f.earlier;
       later = λ k w v. elim (cases_lt k (length b.learnt.items)) [
-          inl early ↦ sym (get_or-take (length b.learnt.items) c.learnt.items k false early) ∙ ap (λ xs. get_or xs k false) g.earlier ∙ f.later k w early
+        | inl early ↦ sym (get_or-take (length b.learnt.items) c.learnt.items k false early) ∙ ap (λ xs. get_or xs k false) g.earlier ∙ f.later k w early
         | inr late ↦ g.later k late v
-        ];
-      count = g.count ∙ f.count
+      ];
+      count = g.count ∙ f.count;
     }
 
 -- another trail over the same formula
@@ -68,8 +68,8 @@ extends_trail a b u e f = record {
   clauses = ap (λ (x : Formula). take (length (clauses_of a)) x.clauses) e ∙ f.clauses;
   earlier = f.earlier;
   later = f.later;
-  count = ap (λ (x : Formula). length x.clauses + b.left) e ∙ f.count
-  }
+  count = ap (λ (x : Formula). length x.clauses + b.left) e ∙ f.count;
+}
 
 pub known_trail : (b : Learner) (u : Trail) → formula_of u ≡ formula_of b.trail → Known (variables_of b) (clauses_of b) b.learnt.items → Known (formula_of u).variables (formula_of u).clauses b.learnt.items
 known_trail b u e q = known_as (variables_of b) (formula_of u).variables (clauses_of b) (formula_of u).clauses b.learnt.items b.learnt.items (ap (λ (x : Formula). x.variables) e) (ap (λ (x : Formula). x.clauses) e) refl q
@@ -80,8 +80,8 @@ pub sound_back : (b : Learner) (u : Trail) → formula_of u ≡ formula_of b.tra
 sound_back b u e em ea q lv = record {
   known = known_trail b u e q;
   ground = em;
-  derived = λ m h. subst (λ (x : Formula). Derives x.clauses [] m) (sym e) (lv.ground m (subst (λ x. Has x m) ea h))
-  }
+  derived = λ m h. subst (λ (x : Formula). Derives x.clauses [] m) (sym e) (lv.ground m (subst (λ x. Has x m) ea h));
+}
 
 -- without a level
 pub sound_ground : (b : Learner) → length (marks_of b.trail) ≡ 0 → Known (variables_of b) (clauses_of b) b.learnt.items → Levels (clauses_of b) (assigned b.trail) (marks_of b.trail) → Sound b
@@ -113,11 +113,11 @@ closed_solves n clauses t values b c full same k w =
     let v = λ (x : ℕ). get_or values x false in
     let cl = get_or clauses k [] in
     elim (cases_bool (clause_true v cl)) [
-      inl p ↦ p
-    | inr q ↦ absurd (c.unrefuted k w (λ i d u.
-        let l = get_or cl i d in
-        let lw = b k w i d u in
-        fails_by_value (value_in t l.variable) l.positive (get_or values l.variable false) (full l.variable lw) (same l.variable lw) (all_false v cl i d q u)))
+      | inl p ↦ p
+      | inr q ↦ absurd (c.unrefuted k w (λ i d u.
+          let l = get_or cl i d in
+          let lw = b k w i d u in
+          fails_by_value (value_in t l.variable) l.positive (get_or values l.variable false) (full l.variable lw) (same l.variable lw) (all_false v cl i d q u)))
     ]
 
 pub fewer_left : (n a b x y : ℕ) → a < b → x ≤ n → (n + 1) * a + x < (n + 1) * b + y
@@ -128,10 +128,10 @@ pub levels_after : (s u : Trail) → formula_of u ≡ formula_of s → marks_of 
     → Levels (formula_of s).clauses (assigned s) (marks_of s) → Levels (formula_of u).clauses (assigned u) (marks_of u)
 levels_after s u e em g lv =
     subst (λ (f : Formula). Levels f.clauses (assigned u) (marks_of u)) (sym e) (subst (Levels (formula_of s).clauses (assigned u)) (sym em)
-      (levels_grow (formula_of s).clauses (assigned s) (assigned u) (marks_of s) lv (rising_marks s) g))
+    (levels_grow (formula_of s).clauses (assigned s) (assigned u) (marks_of s) lv (rising_marks s) g))
 
 pub levels_decided : (s u : Trail) (l : Literal) → formula_of u ≡ formula_of s → marks_of u ≡ marks_of s ++ length (assigned s) ∷ [] → assigned u ≡ assigned s ++ l ∷ []
     → IsClosed (formula_of s).clauses (assigned s) → Levels (formula_of s).clauses (assigned s) (marks_of s) → Levels (formula_of u).clauses (assigned u) (marks_of u)
 levels_decided s u l e em ea c lv =
     subst (λ (f : Formula). Levels f.clauses (assigned u) (marks_of u)) (sym e) (subst (λ t. Levels (formula_of s).clauses t (marks_of u)) (sym ea) (subst (Levels (formula_of s).clauses (assigned s ++ l ∷ [])) (sym em)
-      (levels_decide (formula_of s).clauses (assigned s) (marks_of s) l lv (rising_marks s) c)))
+    (levels_decide (formula_of s).clauses (assigned s) (marks_of s) l lv (rising_marks s) c)))

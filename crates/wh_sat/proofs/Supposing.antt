@@ -1,12 +1,12 @@
-use Rattle.std.proofs.Common.{◌≡◌, ◌≢◌, ℕ, ◌+◌, ◌-◌, ◌<◌, ◌≤◌, min, zero, suc, Bool, true, false, not, cond, List, [], ◌∷◌, ◌++◌, length, get_or, take, drop, Option, Some, None, refl, sym, ◌∙◌, ap, subst, ◌⊎◌, inl, inr, arith, rules, tests, length-append}
+use Rattle.std.proofs.Common.{◌≡◌, ℕ, ◌+◌, ◌<◌, ◌≤◌, zero, suc, Bool, true, false, not, List, [], ◌∷◌, ◌++◌, length, get_or, take, drop, Option, Some, refl, sym, ◌∙◌, ap, subst, inl, inr, arith}
 use Rattle.std.proofs.lemmas.List.{get_or_default, get_or_append_left, get_or-take, length-take, take_more, length_push, take_all, take-append-drop, get_or_push, get_or_past, take-append-le, take-take}
-use Rattle.std.proofs.lemmas.Bool.{cases_eq, cases_lt}
+use Rattle.std.proofs.lemmas.Bool.{cases_lt}
 use mathlib.Core.Bool.{beq}
 use Rattle.wh_sat_trail.specs.declared.literal.Literal.{Literal}
-use Rattle.wh_sat_trail.specs.Assignment.{value_in, Holds, Fails, Open}
-use Rattle.wh_sat_trail.specs.Propagation.{IsRefuted, Forces, IsForced, Grows, IsClosed}
+use Rattle.wh_sat_trail.specs.Assignment.{Holds, Fails}
+use Rattle.wh_sat_trail.specs.Propagation.{IsRefuted, Grows, IsClosed}
 use Rattle.wh_sat_trail.specs.Assignment.{negated}
-use Rattle.wh_sat.specs.Learning.{Has, Derives, given, forced, Refutes, Clash, by_clause, by_pair, Spare, Reduced, Assumed}
+use Rattle.wh_sat.specs.Learning.{Has, Derives, given, forced, Clash, by_clause, by_pair, Assumed}
 use Rattle.wh_sat.proofs.Clashing.{cut, has_left, has_right, has_either, holds_has, at_place}
 
 -- membership in a front
@@ -17,18 +17,18 @@ has_take xs n m h = subst (λ ys. Has ys m) (take-append-drop n xs) (has_left (t
 derives_upto : (clauses : List (List Literal)) (s w start : List Literal) → Grows clauses s w → ((m : Literal) → Has s m → Derives clauses start m) → (n k : ℕ) (d : Literal) → k < n → k < length w → Derives clauses start (get_or w k d)
 derives_upto clauses s w start g f zero k d kn kw = absurd (omega arith)
 derives_upto clauses s w start g f (suc n) k d kn kw = elim (cases_lt k (length s)) [
-    inl x ↦
+  | inl x ↦
       let e : get_or s k d ≡ get_or w k d = ap (λ y. get_or y k d) (sym g.kept) ∙ get_or-take (length s) w k d x in
       subst (Derives clauses start) e (f (get_or s k d) (at_place s k d x))
   | inr x ↦
       let q = g.forced k d x kw in
       forced q.clause (get_or w k d) q.known (record { place = q.forces.place; within = q.forces.within; is = q.forces.is })
-        (λ i e y u.
-          let h : Has (take k w) (negated (get_or (get_or clauses q.clause []) i e)) = holds_has (take k w) (negated (get_or (get_or clauses q.clause []) i e)) (q.forces.others i e y u) in
-          let p : h.place < k = omega (arith, h.within, length-take k w) in
-          let r : get_or w h.place e ≡ negated (get_or (get_or clauses q.clause []) i e) = sym (get_or-take k w h.place e p) ∙ h.is e in
-          subst (Derives clauses start) r (derives_upto clauses s w start g f n h.place e (omega (arith, p, kn)) (omega (arith, p, kw))))
-  ]
+      (λ i e y u.
+      let h : Has (take k w) (negated (get_or (get_or clauses q.clause []) i e)) = holds_has (take k w) (negated (get_or (get_or clauses q.clause []) i e)) (q.forces.others i e y u) in
+      let p : h.place < k = omega (arith, h.within, length-take k w) in
+      let r : get_or w h.place e ≡ negated (get_or (get_or clauses q.clause []) i e) = sym (get_or-take k w h.place e p) ∙ h.is e in
+      subst (Derives clauses start) r (derives_upto clauses s w start g f n h.place e (omega (arith, p, kn)) (omega (arith, p, kw))))
+]
 
 pub grows_derives : (clauses : List (List Literal)) (s w start : List Literal) → Grows clauses s w → ((m : Literal) → Has s m → Derives clauses start m) → (m : Literal) → Has w m → Derives clauses start m
 grows_derives clauses s w start g f m h = subst (Derives clauses start) (h.is m) (derives_upto clauses s w start g f (h.place + 1) h.place m (omega arith) h.within)
@@ -54,9 +54,10 @@ pub assumed_next : (clauses : List (List Literal)) (t lits u w : List Literal) (
 assumed_next clauses t lits u w i d a l c f h g =
     let e : take i lits ++ get_or lits i d ∷ [] ≡ take (i + 1) lits = sym (take_more lits i d l) in
     subst (λ y. Assumed clauses t y w) e (record {
-      closed = c; base = λ m q. f m (a.base m q);
+      closed = c;
+      base = λ m q. f m (a.base m q);
       all = λ m q. elim (has_either (take i lits) (get_or lits i d ∷ []) m q) [ inl x ↦ f m (a.all m x) | inr x ↦ subst (Has w) (has_single (get_or lits i d) m x) h ];
-      derived = g
+      derived = g;
     })
 
 pub assumed_true : (clauses : List (List Literal)) (t lits u : List Literal) (i : ℕ) (d : Literal) → Assumed clauses t (take i lits) u → i < length lits → Holds u (get_or lits i d) → Assumed clauses t (take (i + 1) lits) u
@@ -64,9 +65,9 @@ assumed_true clauses t lits u i d a l h = assumed_next clauses t lits u u i d a 
 
 decided : (clauses : List (List Literal)) (t lits u w : List Literal) (i : ℕ) (d : Literal) → Assumed clauses t (take i lits) u → Grows clauses (u ++ get_or lits i d ∷ []) w → (m : Literal) → Has w m → Derives clauses (t ++ (take i lits ++ get_or lits i d ∷ [])) m
 decided clauses t lits u w i d a g = grows_derives clauses (u ++ get_or lits i d ∷ []) w (t ++ (take i lits ++ get_or lits i d ∷ [])) g (λ m q. elim (has_either u (get_or lits i d ∷ []) m q) [
-    inl x ↦ more_derives clauses t (take i lits) (get_or lits i d ∷ []) m (a.derived m x)
+  | inl x ↦ more_derives clauses t (take i lits) (get_or lits i d ∷ []) m (a.derived m x)
   | inr x ↦ given m (has_right t (take i lits ++ get_or lits i d ∷ []) m (has_right (take i lits) (get_or lits i d ∷ []) m x))
-  ])
+])
 
 pub assumed_decided : (clauses : List (List Literal)) (t lits u w : List Literal) (i : ℕ) (d : Literal) → Assumed clauses t (take i lits) u → i < length lits → Grows clauses (u ++ get_or lits i d ∷ []) w → IsClosed clauses w → Assumed clauses t (take (i + 1) lits) w
 assumed_decided clauses t lits u w i d a l g c = assumed_next clauses t lits u w i d a l c (λ m q. grows_has clauses (u ++ get_or lits i d ∷ []) w g m (has_left u (get_or lits i d ∷ []) m q))
@@ -78,9 +79,13 @@ clash_false clauses t lits u i d a l f = by_pair (get_or lits i d) (given (get_o
 pub clash_refuted : (clauses : List (List Literal)) (t lits u w : List Literal) (i k : ℕ) (d : Literal) → Assumed clauses t (take i lits) u → i < length lits → Grows clauses (u ++ get_or lits i d ∷ []) w → k < length clauses → IsRefuted w (get_or clauses k []) → Clash clauses (t ++ lits)
 clash_refuted clauses t lits u w i k d a l g kw r =
     let e : take i lits ++ get_or lits i d ∷ [] ≡ take (i + 1) lits = sym (take_more lits i d l) in
-    by_clause (record { clause = k; known = kw; all = λ j y z.
-      all_derives clauses t lits (i + 1) (negated (get_or (get_or clauses k []) j y)) (subst (λ q. Derives clauses (t ++ q) (negated (get_or (get_or clauses k []) j y))) e
-        (decided clauses t lits u w i d a g (negated (get_or (get_or clauses k []) j y)) (holds_has w (negated (get_or (get_or clauses k []) j y)) (r j y z)))) })
+    by_clause (record {
+      clause = k;
+      known = kw;
+      all = λ j y z.
+          all_derives clauses t lits (i + 1) (negated (get_or (get_or clauses k []) j y)) (subst (λ q. Derives clauses (t ++ q) (negated (get_or (get_or clauses k []) j y))) e
+          (decided clauses t lits u w i d a g (negated (get_or (get_or clauses k []) j y)) (holds_has w (negated (get_or (get_or clauses k []) j y)) (r j y z))));
+    })
 
 -- undo goes back to the trail t with the marks ms
 pub record Back (ms : List ℕ) (t : List Literal) (marks : List ℕ) (u : List Literal) : Type 0 where
@@ -98,12 +103,12 @@ back_decide clauses ms t marks u w x b g =
     record {
       marks_front = take-append-le (length ms) marks (length u ∷ []) nm ∙ b.marks_front;
       stop = elim (cases_lt (length ms) (length marks)) [
-          inl q ↦ get_or_append_left marks (length u ∷ []) (length w) (length ms) q ∙ get_or_default marks (length ms) (length w) (length u) q ∙ b.stop
+        | inl q ↦ get_or_append_left marks (length u ∷ []) (length w) (length ms) q ∙ get_or_default marks (length ms) (length w) (length u) q ∙ b.stop
         | inr q ↦ get_or_push marks (length u) (length w) (length ms) (omega (arith, nm, q)) ∙ sym (get_or_past marks (length ms) (length u) q) ∙ b.stop
-        ];
+      ];
       front =
-        let a : take (length t) (take (length (u ++ x ∷ [])) w) ≡ take (length t) w = take-take (length t) (length (u ++ x ∷ [])) w (omega (arith, nt, length_push u x)) in
-        sym a ∙ ap (take (length t)) g.kept ∙ take-append-le (length t) u (x ∷ []) nt ∙ b.front
+          let a : take (length t) (take (length (u ++ x ∷ [])) w) ≡ take (length t) w = take-take (length t) (length (u ++ x ∷ [])) w (omega (arith, nt, length_push u x)) in
+          sym a ∙ ap (take (length t)) g.kept ∙ take-append-le (length t) u (x ∷ []) nt ∙ b.front;
     }
 
 not_same : (a b : Bool) → not (beq a b) ≡ true → a ≡ not b

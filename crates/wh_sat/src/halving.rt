@@ -38,7 +38,12 @@ fn suppose(trail: &mut Trail, literals: &[Literal]) -> Result<bool, AllocError>
 
 /// What is needed of the rest beside the literals that are given. The trail stays.
 #[cycle(halve)]
-fn needed_beside(alloc: Global, trail: &mut Trail, given: &[Literal], rest: &[Literal]) -> Result<Vec<Literal>, AllocError>
+fn needed_beside(
+    alloc: Global,
+    trail: &mut Trail,
+    given: &[Literal],
+    rest: &[Literal],
+) -> Result<Vec<Literal>, AllocError>
     requires below { AllBelow (formula_of trail.old).variables rest.now }
     requires below_given { AllBelow (formula_of trail.old).variables given.now }
     requires closed { IsClosed (formula_of trail.old).clauses (assigned trail.old) }
@@ -60,7 +65,11 @@ fn needed_beside(alloc: Global, trail: &mut Trail, given: &[Literal], rest: &[Li
 
 /// Of literals that clash beside what is assigned, those that are needed for it. The trail stays.
 #[cycle(halve)]
-pub fn halve(alloc: Global, trail: &mut Trail, literals: &[Literal]) -> Result<Vec<Literal>, AllocError>
+pub fn halve(
+    alloc: Global,
+    trail: &mut Trail,
+    literals: &[Literal],
+) -> Result<Vec<Literal>, AllocError>
     requires below { AllBelow (formula_of trail.old).variables literals.now }
     requires closed { IsClosed (formula_of trail.old).clauses (assigned trail.old) }
     requires clash { Clash (formula_of trail.old).clauses (assigned trail.old ++ literals.now) }

@@ -30,10 +30,14 @@ pub fn solve(alloc: Global, formula: &Formula, budget: u64) -> Result<Outcome, A
     ensures { IfOk result (IsOutcome formula.now.variables formula.now.clauses budget) }
 {
     let clauses = copy_clauses(alloc, &formula.clauses, 0)?;
-    solve_owned(alloc, Formula {
-        variables: formula.variables,
-        clauses,
-    }, budget)
+    solve_owned(
+        alloc,
+        Formula {
+            variables: formula.variables,
+            clauses,
+        },
+        budget,
+    )
 }
 
 /// Solves a formula that is not needed any more.

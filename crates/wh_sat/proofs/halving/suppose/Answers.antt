@@ -1,13 +1,9 @@
-use Rattle.wh_sat_trail.specs.State.{assigned, formula_of, marks_of}
-use Rattle.std.proofs.Common.{rules, arith, sym, ap, subst, refl, ◌∙◌, inl, inr, tests, Option, Some, None, Bool, true, false, not, ◌≡◌, ◌≢◌, ℕ, List, [], ◌∷◌, ◌++◌, ◌<◌, ◌≤◌, ◌+◌, length, get_or, take, vec_len, ◌-◌}
-use Rattle.std.proofs.lemmas.Bool.{cases_eq}
-use Rattle.std.proofs.lemmas.List.{get_or_default, length_push, length-set, take-take, take_all}
-use Rattle.wh_sat_trail.specs.Assignment.{value_in, Holds, Fails, Open, AllBelow, IsFresh, Tabled, count_none}
-use Rattle.wh_sat_trail.specs.Propagation.{IsRefuted, Forces, IsForced, Grows, IsClosed, Within}
-use Rattle.wh_sat_trail.specs.declared.literal.Literal.{Literal}
-use Rattle.wh_sat_trail.proofs.Assigning.{stays, push_same}
+use Rattle.wh_sat_trail.specs.State.{assigned, marks_of}
+use Rattle.std.proofs.Common.{sym, subst, refl, ◌∙◌, Some, ◌≡◌, [], ◌∷◌, ◌++◌, ◌<◌, length, get_or}
+use Rattle.wh_sat_trail.specs.Assignment.{value_in}
+use Rattle.wh_sat_trail.specs.Propagation.{IsRefuted, Grows, IsClosed}
 use Rattle.wh_sat_trail.specs.Watch.{nothing}
-use Rattle.wh_sat.proofs.Supposing.{Back, back_start, back_decide, assumed_start, assumed_true, assumed_decided, clash_false, clash_refuted, fails_by, holds_by}
+use Rattle.wh_sat.proofs.Supposing.{back_start, back_decide, assumed_start, assumed_true, assumed_decided, clash_false, clash_refuted, fails_by, holds_by}
 use Rattle.wh_sat.proofs.halving.suppose.Goals.{in-Some+else-value-literal, in-None+in_ok-decide-in-None+in_ok-propagate-in-None+in-None-2}
 use Rattle.wh_sat.proofs.halving.suppose.Goals as goal
 
@@ -15,14 +11,14 @@ pub loop-literal-init : goal.loop-literal-init
 loop-literal-init c = record {
   same = refl;
   back = back_start (marks_of c.args.trail.now) (assigned c.args.trail.now);
-  assumed = assumed_start c.args.trail.now.formula.clauses (assigned c.args.trail.now) c.args.literals.now c.requires.closed
-  }
+  assumed = assumed_start c.args.trail.now.formula.clauses (assigned c.args.trail.now) c.args.literals.now c.requires.closed;
+}
 
 pub returns-then-value-literal-clause-answer : goal.returns-then-value-literal-clause-answer
 returns-then-value-literal-clause-answer c =
     let e : value_in (assigned c.loop-literal.trail) (get_or c.args.literals.now c.loop-literal.literal-index nothing).variable ≡ Some c.in-Some.value = sym (sym c.in-Some.is ∙ c.value.ensures) in
     clash_false c.args.trail.now.formula.clauses (assigned c.args.trail.now) c.args.literals.now (assigned c.loop-literal.trail) c.loop-literal.literal-index nothing c.loop-literal.invariant.assumed c.loop-literal-test.true
-      (fails_by _ c.in-Some.value _ e c.if-value-literal.true)
+    (fails_by _ c.in-Some.value _ e c.if-value-literal.true)
 
 pub returns-in-Some-2-clause-marks : goal.returns-in-Some-2-clause-marks
 returns-in-Some-2-clause-marks c =
@@ -62,13 +58,13 @@ returns-in-Some-2-clause-answer c =
 
 pub loop-literal-preserved : goal.loop-literal-preserved
 loop-literal-preserved c = elim c.match-value.branch [
-    in-Some+else-value-literal w ↦
+  | in-Some+else-value-literal w ↦
       let e : value_in (assigned c.loop-literal.trail) (get_or c.args.literals.now c.loop-literal.literal-index nothing).variable ≡ Some w.in-Some.value = sym (sym w.in-Some.is ∙ c.value.ensures) in
       rw w.trail-is (record {
         same = c.loop-literal.invariant.same;
         back = c.loop-literal.invariant.back;
         assumed = assumed_true c.args.trail.now.formula.clauses (assigned c.args.trail.now) c.args.literals.now (assigned c.loop-literal.trail) c.loop-literal.literal-index nothing c.loop-literal.invariant.assumed c.loop-literal-test.true
-          (holds_by _ w.in-Some.value _ e w.if-value-literal.false)
+            (holds_by _ w.in-Some.value _ e w.if-value-literal.false);
       })
   | in-None+in_ok-decide-in-None+in_ok-propagate-in-None+in-None-2 w ↦
       let x = get_or c.args.literals.now c.loop-literal.literal-index nothing in
@@ -82,6 +78,6 @@ loop-literal-preserved c = elim c.match-value.branch [
       rw w.trail-is (record {
         same = w.propagate.ensures.same ∙ f;
         back = rw mk (back_decide c.args.trail.now.formula.clauses (marks_of c.args.trail.now) (assigned c.args.trail.now) (marks_of c.loop-literal.trail) (assigned c.loop-literal.trail) (assigned w.propagate.new.self) x c.loop-literal.invariant.back g2);
-        assumed = assumed_decided c.args.trail.now.formula.clauses (assigned c.args.trail.now) c.args.literals.now (assigned c.loop-literal.trail) (assigned w.propagate.new.self) c.loop-literal.literal-index nothing c.loop-literal.invariant.assumed c.loop-literal-test.true g2 cl
+        assumed = assumed_decided c.args.trail.now.formula.clauses (assigned c.args.trail.now) c.args.literals.now (assigned c.loop-literal.trail) (assigned w.propagate.new.self) c.loop-literal.literal-index nothing c.loop-literal.invariant.assumed c.loop-literal-test.true g2 cl;
       })
-  ]
+]
