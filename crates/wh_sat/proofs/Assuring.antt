@@ -1,10 +1,10 @@
-use Rattle.std.proofs.Common.{◌≡◌, ◌≢◌, ℕ, ◌+◌, ◌-◌, ◌<◌, ◌≤◌, ◌||◌, zero, suc, Bool, true, false, not, cond, List, [], ◌∷◌, ◌++◌, length, get_or, take, map, refl, sym, ◌∙◌, ap, subst, ◌⊎◌, inl, inr, arith, tests}
-use Rattle.std.proofs.lemmas.List.{length-map, get_or-map, get_or_default}
+use Rattle.std.proofs.Common.{◌≡◌, ℕ, ◌<◌, ◌||◌, zero, suc, Bool, true, false, not, cond, List, [], ◌∷◌, length, get_or, map, refl, sym, ◌∙◌, subst, ◌⊎◌, inl, inr, arith}
+use Rattle.std.proofs.lemmas.List.{length-map, get_or-map}
 use Rattle.wh_sat_trail.specs.declared.literal.Literal.{Literal}
 use Rattle.wh_sat_trail.specs.Assignment.{negated}
 use Rattle.wh_sat_trail.specs.Watch.{nothing}
 use Rattle.wh_sat.specs.Learning.{Has, Derives, given, forced, Refutes}
-use Rattle.wh_sat.specs.Solving.{literal_true, clause_true, Solves, SolvesGiven}
+use Rattle.wh_sat.specs.Solving.{literal_true, clause_true, Solves}
 use Rattle.wh_sat.proofs.Deriving.{cases_lit}
 
 pub cases_bool : (b : Bool) → (b ≡ true) ⊎ (b ≡ false)

@@ -1,12 +1,12 @@
-use Rattle.std.proofs.Common.{◌≡◌, ◌≢◌, ℕ, ◌+◌, ◌-◌, ◌<◌, ◌≤◌, min, zero, suc, Bool, true, false, not, cond, List, [], ◌∷◌, ◌++◌, length, get_or, take, drop, Option, Some, None, eqb, refl, sym, ◌∙◌, ap, subst, ◌⊎◌, inl, inr, arith, rules, tests, length-append}
+use Rattle.std.proofs.Common.{◌≡◌, ℕ, ◌+◌, ◌-◌, ◌<◌, suc, true, false, List, [], ◌∷◌, ◌++◌, length, get_or, Some, eqb, refl, sym, ◌∙◌, ap, subst, ◌⊎◌, inl, inr, arith, tests, length-append}
 use Rattle.std.proofs.lemmas.List.{get_or_default, get_or_append_left, get_or-append_right, get_or-append-add}
 use Rattle.std.proofs.lemmas.Bool.{cases_eq, cases_lt}
 use Rattle.wh_sat_trail.specs.declared.literal.Literal.{Literal}
-use Rattle.wh_sat_trail.specs.Assignment.{value_in, Holds, Fails, Open}
-use Rattle.wh_sat_trail.specs.Propagation.{IsRefuted, Forces, IsForced, Grows, IsClosed}
+use Rattle.wh_sat_trail.specs.Assignment.{Holds}
+use Rattle.wh_sat_trail.specs.Propagation.{IsClosed}
 use Rattle.wh_sat.proofs.Deriving.{cases_lit}
 use Rattle.wh_sat_trail.specs.Assignment.{negated}
-use Rattle.wh_sat.specs.Learning.{Has, Derives, given, forced, Refutes, Clash, by_clause, by_pair, Spare, Reduced, Assumed}
+use Rattle.wh_sat.specs.Learning.{Has, Derives, given, forced, Refutes, Clash, by_clause, by_pair, Reduced, Assumed}
 
 pub has_left : (xs ys : List Literal) (m : Literal) → Has xs m → Has (xs ++ ys) m
 has_left xs ys m h = record { place = h.place; within = omega (arith, h.within, length-append xs ys); is = λ d. get_or_append_left xs ys d h.place h.within ∙ h.is d }

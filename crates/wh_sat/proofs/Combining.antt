@@ -1,12 +1,11 @@
-use Rattle.std.proofs.Common.{◌≡◌, ◌≢◌, ℕ, ◌+◌, ◌-◌, ◌<◌, ◌≤◌, zero, suc, Bool, true, false, cond, eqb, Option, Some, None, Result, Ok, Err, IfOk, Vec, Global, List, [], ◌∷◌, ◌++◌, length, get_or, take, drop, refl, sym, ◌∙◌, ap, subst, ◌⊎◌, inl, inr, arith, rules, tests, length-append}
-use Rattle.std.proofs.lemmas.List.{get_or_default, get_or_append_left, get_or-append_right, take-append-drop, drop_more}
-use Rattle.std.proofs.lemmas.Bool.{cases_eq, cases_lt}
+use Rattle.std.proofs.Common.{◌≡◌, ℕ, ◌+◌, ◌-◌, ◌<◌, Bool, true, false, cond, eqb, Option, Some, None, Result, Ok, Err, IfOk, Vec, Global, List, [], ◌∷◌, ◌++◌, length, get_or, take, drop, refl, sym, ◌∙◌, ap, subst, inl, inr, arith, tests, length-append}
+use Rattle.std.proofs.lemmas.List.{get_or_append_left, get_or-append_right, take-append-drop, drop_more}
+use Rattle.std.proofs.lemmas.Bool.{cases_lt}
 use Rattle.wh_sat_trail.specs.declared.literal.Literal.{Literal}
 use Rattle.wh_sat_trail.specs.Assignment.{value_in, Holds, AllBelow, IsFresh}
 use Rattle.wh_sat_trail.specs.Propagation.{IsClosed}
-use Rattle.wh_sat_trail.specs.Assignment.{negated}
-use Rattle.wh_sat.specs.Learning.{Has, Derives, given, forced, Refutes, Clash, by_clause, by_pair, Spare, Reduced, Assumed}
-use Rattle.wh_sat.proofs.Clashing.{cut, cut_clash, has_left, has_right, has_either, holds_has, at_place}
+use Rattle.wh_sat.specs.Learning.{Has, given, Clash, Reduced, Assumed}
+use Rattle.wh_sat.proofs.Clashing.{cut, cut_clash, has_left, has_right, has_either, at_place}
 
 -- a clash from a list with the same members
 pub more_clash : (clauses : List (List Literal)) (s u : List Literal) → ((m : Literal) → Has s m → Has u m) → Clash clauses s → Clash clauses u

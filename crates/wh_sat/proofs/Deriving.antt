@@ -1,9 +1,8 @@
-use Rattle.std.proofs.Common.{◌≡◌, ◌≢◌, ℕ, ◌+◌, ◌-◌, ◌<◌, ◌≤◌, min, zero, suc, Bool, true, false, not, cond, List, [], ◌∷◌, ◌++◌, length, get_or, take, drop, Option, Some, None, eqb, refl, sym, ◌∙◌, ap, subst, ◌⊎◌, inl, inr, arith, rules, tests}
-use Rattle.std.proofs.lemmas.List.{take_at, take_all, take-take, take_more, get_or_default, take-append-le}
+use Rattle.std.proofs.Common.{◌≡◌, ◌≢◌, ℕ, ◌<◌, Bool, true, false, List, [], length, get_or, refl, sym, ◌∙◌, ap, subst, ◌⊎◌, inl, inr, arith}
 use Rattle.std.proofs.lemmas.Bool.{cases_eq}
 use Rattle.wh_sat_trail.specs.declared.literal.Literal.{Literal}
-use Rattle.wh_sat_trail.specs.Assignment.{value_in, Holds, Fails, Open}
-use Rattle.wh_sat_trail.specs.Propagation.{IsRefuted, Forces, IsForced, Grows, IsClosed}
+use Rattle.wh_sat_trail.specs.Assignment.{value_in, Holds, Fails}
+use Rattle.wh_sat_trail.specs.Propagation.{IsClosed}
 use Rattle.wh_sat_trail.specs.Assignment.{negated}
 use Rattle.wh_sat.specs.Learning.{Has, Derives, given, forced, Refutes}
 use Rattle.wh_sat_trail.proofs.Watching.{cases_value}

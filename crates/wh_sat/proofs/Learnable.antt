@@ -1,15 +1,15 @@
-use Rattle.std.proofs.Common.{◌≡◌, ◌≢◌, ℕ, ◌+◌, ◌-◌, ◌<◌, ◌≤◌, zero, suc, Bool, true, false, not, cond, List, [], ◌∷◌, ◌++◌, length, get_or, take, drop, map, Option, Some, None, refl, sym, ◌∙◌, ap, subst, ◌⊎◌, inl, inr, arith, tests}
+use Rattle.std.proofs.Common.{◌≡◌, ◌≢◌, ℕ, ◌+◌, ◌-◌, ◌<◌, zero, suc, Bool, true, false, not, List, [], ◌∷◌, ◌++◌, length, get_or, take, drop, map, None, refl, sym, ◌∙◌, ap, subst, ◌⊎◌, inl, inr, arith}
 use Rattle.std.specs.List.{remove}
 use Rattle.std.proofs.lemmas.List.{length-map, get_or-map, get_or_default, get_or-take, get_or-drop, length-take, length-drop, take-take}
 use Rattle.std.proofs.lemmas.Bool.{cases_eq}
 use Rattle.wh_sat_trail.specs.declared.literal.Literal.{Literal}
 use Rattle.wh_sat_trail.specs.Assignment.{value_in, negated, AllBelow, Fails, Holds, IsFresh, Open}
-use Rattle.wh_sat_trail.specs.Propagation.{Forces, IsClosed, IsRefuted}
+use Rattle.wh_sat_trail.specs.Propagation.{IsClosed}
 use Rattle.wh_sat_trail.specs.Watch.{nothing}
-use Rattle.wh_sat.specs.Learning.{Clash, Derives, Has, Includes, IsLearnt, Reduced, Refutes, Spare, by_clause, by_pair, given}
+use Rattle.wh_sat.specs.Learning.{Clash, Has, IsLearnt, Reduced, Refutes, by_clause, by_pair, given}
 use Rattle.wh_sat.specs.Solving.{IsRising, Levels, decisions}
 use Rattle.wh_sat.proofs.Deriving.{cases_lit, closed_not_refutes}
-use Rattle.wh_sat.proofs.Clashing.{at_place, cut, cut_clash, forced_refutes, has_either, holds_has}
+use Rattle.wh_sat.proofs.Clashing.{at_place, cut, cut_clash, forced_refutes, has_either}
 use Rattle.wh_sat.proofs.Combining.{has_holds}
 use Rattle.wh_sat_trail.proofs.Looking.{true_not_false}
 

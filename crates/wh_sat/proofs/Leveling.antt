@@ -1,10 +1,10 @@
-use Rattle.std.proofs.Common.{◌≡◌, ◌≢◌, ℕ, ◌+◌, ◌-◌, ◌<◌, ◌≤◌, zero, suc, Bool, true, false, not, cond, List, [], ◌∷◌, ◌++◌, length, get_or, take, drop, map, replicate, Option, Some, None, refl, sym, ◌∙◌, ap, subst, ◌⊎◌, inl, inr, arith, tests}
-use Rattle.std.proofs.lemmas.List.{length-map, get_or-map, get_or_default, get_or-take, take-take, take_all, take_at, take-append-le, length_push, get_or_push, get_or_append_left, map_push, length-take, length-append, length-replicate, get_or-replicate}
+use Rattle.std.proofs.Common.{◌≡◌, ◌≢◌, ℕ, ◌<◌, ◌≤◌, suc, Bool, true, false, List, [], ◌∷◌, ◌++◌, length, get_or, take, replicate, refl, sym, ◌∙◌, ap, subst, inl, inr, arith}
+use Rattle.std.proofs.lemmas.List.{length-map, get_or-map, get_or_default, get_or-take, take-take, take_all, take_at, take-append-le, length_push, get_or_push, get_or_append_left, map_push, length-replicate, get_or-replicate}
 use Rattle.std.proofs.lemmas.Bool.{cases_eq}
 use Rattle.wh_sat_trail.specs.declared.literal.Literal.{Literal}
 use Rattle.wh_sat_trail.specs.declared.trail.Trail.{Trail}
 use Rattle.wh_sat_trail.specs.declared.watch.Stop.{Stop}
-use Rattle.wh_sat_trail.specs.Assignment.{negated, AllBelow}
+use Rattle.wh_sat_trail.specs.Assignment.{negated}
 use Rattle.wh_sat_trail.specs.Propagation.{Grows, IsClosed, IsRefuted}
 use Rattle.wh_sat_trail.specs.State.{assigned, marks_of}
 use Rattle.wh_sat_trail.specs.Watch.{no_stop, nothing}

@@ -1,18 +1,17 @@
-use Rattle.std.proofs.Common.{◌≡◌, ◌≢◌, ℕ, ◌+◌, ◌-◌, ◌*◌, ◌^◌, ◌<◌, ◌≤◌, zero, suc, Bool, true, false, not, cond, List, [], ◌∷◌, ◌++◌, length, get_or, take, map, eqb, refl, sym, ◌∙◌, ap, subst, ◌⊎◌, inl, inr, arith, tests}
-use Rattle.std.proofs.lemmas.List.{length-map, get_or-map, get_or_append_left, get_or-append-add, get_or-take, length-append, length-take-le, get_or_default}
+use Rattle.std.proofs.Common.{◌≡◌, ℕ, ◌+◌, ◌*◌, ◌^◌, ◌<◌, ◌≤◌, zero, suc, Bool, true, false, cond, List, [], ◌∷◌, ◌++◌, length, get_or, take, map, eqb, refl, sym, ◌∙◌, subst, inl, inr, arith, tests}
+use Rattle.std.proofs.lemmas.List.{length-map, get_or-map, get_or-append-add, get_or-take, length-append, length-take-le}
 use Rattle.std.proofs.Math.Nat.{pow-suc}
-use Rattle.std.proofs.lemmas.Bool.{cases_eq, cases_lt}
+use Rattle.std.proofs.lemmas.Bool.{cases_eq}
 use Rattle.std.proofs.lemmas.Map.Steps.{length-le_from_distinct_below}
 use Rattle.std.proofs.lemmas.Map.Keys.{IsDistinct-from_apart}
-use Rattle.std.specs.List.{IsDistinct, list_any}
+use Rattle.std.specs.List.{list_any}
 use Rattle.wh_sat_trail.specs.declared.literal.Literal.{Literal}
 use Rattle.wh_sat_trail.specs.Assignment.{negated, AllBelow}
 use Rattle.wh_sat_trail.specs.Member.{member}
 use Rattle.wh_sat_trail.specs.Watch.{nothing}
 use Rattle.wh_sat_trail.proofs.Guarding.{member_at, member_place}
-use Rattle.wh_sat.specs.Learning.{Has, IsLearnt, Learnt}
-use Rattle.wh_sat.proofs.Assuring.{cases_bool, true_false}
-use Rattle.wh_sat.proofs.Clashing.{at_place}
+use Rattle.wh_sat.specs.Learning.{Has, Learnt}
+use Rattle.wh_sat.proofs.Assuring.{cases_bool}
 
 abbrev sign : Bool → Bool → ℕ
 sign a b = cond a 1 (cond b 2 0)

@@ -1,21 +1,21 @@
-use Rattle.std.proofs.Common.{◌≡◌, ◌≢◌, ℕ, ◌+◌, ◌-◌, ◌*◌, ◌<◌, ◌≤◌, zero, suc, Bool, true, false, not, cond, List, [], ◌∷◌, ◌++◌, length, get_or, take, map, Option, Some, None, refl, sym, ◌∙◌, ap, subst, ◌⊎◌, inl, inr, arith, tests}
+use Rattle.std.proofs.Common.{◌≡◌, ℕ, ◌+◌, ◌*◌, ◌<◌, ◌≤◌, Bool, true, false, not, cond, List, [], ◌∷◌, ◌++◌, length, get_or, take, map, Option, Some, None, refl, sym, ◌∙◌, ap, subst, inl, inr, arith}
 use Rattle.std.specs.Option.{unwrap_or}
 use Rattle.std.proofs.Math.Nat.{mul-le-mul_left}
-use Rattle.std.proofs.lemmas.List.{take-take, take_all, take_at, length-take, length_push, get_or_push, get_or-take, get_or_default, nil_from_length}
-use Rattle.std.proofs.lemmas.Bool.{cases_eq, cases_lt}
+use Rattle.std.proofs.lemmas.List.{take-take, take_all, length-take, get_or-take, nil_from_length}
+use Rattle.std.proofs.lemmas.Bool.{cases_lt}
 use Rattle.wh_sat_trail.specs.declared.literal.Literal.{Literal}
 use Rattle.wh_sat_trail.specs.declared.formula.Formula.{Formula}
 use Rattle.wh_sat_trail.specs.declared.trail.Trail.{Trail}
-use Rattle.wh_sat_trail.specs.Assignment.{value_in, negated, AllBelow, Fails}
+use Rattle.wh_sat_trail.specs.Assignment.{value_in, negated, AllBelow}
 use Rattle.wh_sat_trail.specs.Propagation.{Grows, IsClosed, IsRefuted, Within}
 use Rattle.wh_sat_trail.specs.State.{assigned, formula_of, marks_of}
 use Rattle.wh_sat.specs.declared.learner.Learner.{Learner}
 use Rattle.wh_sat.specs.Learning.{Derives, Has, IsLearnt, Reduced, Refutes}
-use Rattle.wh_sat.specs.Solving.{Known, Levels, Solves, SolvesGiven, clause_true, decisions, literal_true}
-use Rattle.wh_sat.specs.State.{Extends, Learns, Sound, clauses_of, variables_of}
+use Rattle.wh_sat.specs.Solving.{Known, Levels, Solves, SolvesGiven, clause_true, decisions}
+use Rattle.wh_sat.specs.State.{Extends, Sound, clauses_of, variables_of}
 use Rattle.wh_sat.proofs.Assuring.{all_false, cases_bool, refutes_false}
 use Rattle.wh_sat.proofs.Learnable.{is_learnt}
-use Rattle.wh_sat.proofs.Leveling.{conflict_refutes, derives_more, known_as, known_learnt, levels_decide, levels_grow, rising_marks}
+use Rattle.wh_sat.proofs.Leveling.{conflict_refutes, known_as, levels_decide, levels_grow, rising_marks}
 
 -- the literals of a trail have variables of its formula
 pub trail_below : (s : Trail) → AllBelow (formula_of s).variables (assigned s)

@@ -1,12 +1,12 @@
-use Rattle.std.proofs.Common.{◌≡◌, ◌≢◌, ℕ, ◌+◌, ◌-◌, ◌<◌, ◌≤◌, min, zero, suc, Bool, true, false, not, cond, List, [], ◌∷◌, ◌++◌, length, get_or, take, drop, Option, Some, None, refl, sym, ◌∙◌, ap, subst, ◌⊎◌, inl, inr, arith, rules, tests, length-append}
+use Rattle.std.proofs.Common.{◌≡◌, ℕ, ◌+◌, ◌<◌, ◌≤◌, zero, suc, Bool, true, false, not, List, [], ◌∷◌, ◌++◌, length, get_or, take, drop, Option, Some, refl, sym, ◌∙◌, ap, subst, inl, inr, arith}
 use Rattle.std.proofs.lemmas.List.{get_or_default, get_or_append_left, get_or-take, length-take, take_more, length_push, take_all, take-append-drop, get_or_push, get_or_past, take-append-le, take-take}
-use Rattle.std.proofs.lemmas.Bool.{cases_eq, cases_lt}
+use Rattle.std.proofs.lemmas.Bool.{cases_lt}
 use mathlib.Core.Bool.{beq}
 use Rattle.wh_sat_trail.specs.declared.literal.Literal.{Literal}
-use Rattle.wh_sat_trail.specs.Assignment.{value_in, Holds, Fails, Open}
-use Rattle.wh_sat_trail.specs.Propagation.{IsRefuted, Forces, IsForced, Grows, IsClosed}
+use Rattle.wh_sat_trail.specs.Assignment.{Holds, Fails}
+use Rattle.wh_sat_trail.specs.Propagation.{IsRefuted, Grows, IsClosed}
 use Rattle.wh_sat_trail.specs.Assignment.{negated}
-use Rattle.wh_sat.specs.Learning.{Has, Derives, given, forced, Refutes, Clash, by_clause, by_pair, Spare, Reduced, Assumed}
+use Rattle.wh_sat.specs.Learning.{Has, Derives, given, forced, Clash, by_clause, by_pair, Assumed}
 use Rattle.wh_sat.proofs.Clashing.{cut, has_left, has_right, has_either, holds_has, at_place}
 
 -- membership in a front

@@ -1,5 +1,5 @@
 -- What a search ends with.
-use Rattle.std.specs.Prelude.{◌≡◌, ℕ, ◌<◌, Bool, false, List, length, get_or}
+use Rattle.std.specs.Prelude.{◌≡◌, ℕ, ◌<◌, Bool, false, length, get_or}
 use Rattle.wh_sat.specs.declared.learner.Learner.{Learner}
 use Rattle.wh_sat.specs.declared.learner.Next.{Next}
 use Rattle.wh_sat.specs.declared.learner.Next.TheVariants.{Model, Exhausted, Spent}

@@ -1,5 +1,5 @@
 -- Assignments to all variables, and what is known of a list of clauses of which some were given and the others learnt.
-use Rattle.std.specs.Prelude.{◌≡◌, ℕ, ◌<◌, ◌||◌, Bool, true, false, not, cond, List, ◌++◌, [], ◌∷◌, length, get_or, take, map}
+use Rattle.std.specs.Prelude.{◌≡◌, ℕ, ◌<◌, ◌||◌, Bool, true, false, not, cond, List, [], ◌∷◌, length, get_or, take, map}
 use Rattle.wh_sat_trail.specs.declared.literal.Literal.{Literal}
 use Rattle.wh_sat_trail.specs.Propagation.{IsClosed}
 use Rattle.wh_sat_trail.specs.Watch.{nothing}

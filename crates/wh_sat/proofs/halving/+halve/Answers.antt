@@ -1,14 +1,9 @@
-use Rattle.wh_sat_trail.specs.State.{assigned, formula_of, marks_of}
-use Rattle.std.proofs.Common.{rules, arith, sym, ap, subst, refl, ◌∙◌, inl, inr, tests, Option, Some, None, Bool, true, false, not, ◌≡◌, ◌≢◌, ℕ, List, [], ◌∷◌, ◌++◌, ◌<◌, ◌≤◌, ◌+◌, length, get_or, take, vec_len, ◌-◌}
-use Rattle.std.proofs.lemmas.Bool.{cases_eq}
-use Rattle.std.proofs.lemmas.List.{get_or_default, length_push, length-set, take-take, take_all}
-use Rattle.wh_sat_trail.specs.Assignment.{value_in, Holds, Fails, Open, AllBelow, IsFresh, Tabled, count_none}
-use Rattle.wh_sat_trail.specs.Propagation.{IsRefuted, Forces, IsForced, Grows, IsClosed, Within}
+use Rattle.wh_sat_trail.specs.State.{assigned}
+use Rattle.std.proofs.Common.{arith, sym, subst, ◌≡◌, ◌++◌}
+use Rattle.wh_sat_trail.specs.Assignment.{AllBelow}
+use Rattle.wh_sat_trail.specs.Propagation.{IsClosed}
 use Rattle.wh_sat_trail.specs.declared.literal.Literal.{Literal}
-use Rattle.wh_sat_trail.proofs.Assigning.{stays, push_same}
-use Rattle.std.proofs.Common.{append_assoc}
-use Rattle.std.proofs.lemmas.List.{take-append-drop}
-use Rattle.wh_sat.specs.Learning.{Clash, Reduced, Assumed, Has}
+use Rattle.wh_sat.specs.Learning.{Clash, Reduced, Has}
 use Rattle.std.proofs.lemmas.Grind.{common_steps}
 use Rattle.wh_sat.proofs.Clashing.{has_left, has_right}
 use Rattle.wh_sat.proofs.Combining.{more_clash, turn_round, split_clash, beside_empty, after_clash, beside_kept, below_within, both_halves, short_answer}

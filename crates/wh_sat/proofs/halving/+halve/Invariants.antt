@@ -1,4 +1,3 @@
-use Rattle.wh_sat_trail.specs.State.{assigned, formula_of, marks_of}
 use Rattle.std.proofs.Common.{length, ◌+◌, ◌*◌}
 use Rattle.wh_sat.proofs.halving.+halve.Given as goal
 

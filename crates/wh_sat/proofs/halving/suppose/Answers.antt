@@ -1,13 +1,9 @@
-use Rattle.wh_sat_trail.specs.State.{assigned, formula_of, marks_of}
-use Rattle.std.proofs.Common.{rules, arith, sym, ap, subst, refl, ◌∙◌, inl, inr, tests, Option, Some, None, Bool, true, false, not, ◌≡◌, ◌≢◌, ℕ, List, [], ◌∷◌, ◌++◌, ◌<◌, ◌≤◌, ◌+◌, length, get_or, take, vec_len, ◌-◌}
-use Rattle.std.proofs.lemmas.Bool.{cases_eq}
-use Rattle.std.proofs.lemmas.List.{get_or_default, length_push, length-set, take-take, take_all}
-use Rattle.wh_sat_trail.specs.Assignment.{value_in, Holds, Fails, Open, AllBelow, IsFresh, Tabled, count_none}
-use Rattle.wh_sat_trail.specs.Propagation.{IsRefuted, Forces, IsForced, Grows, IsClosed, Within}
-use Rattle.wh_sat_trail.specs.declared.literal.Literal.{Literal}
-use Rattle.wh_sat_trail.proofs.Assigning.{stays, push_same}
+use Rattle.wh_sat_trail.specs.State.{assigned, marks_of}
+use Rattle.std.proofs.Common.{sym, subst, refl, ◌∙◌, Some, ◌≡◌, [], ◌∷◌, ◌++◌, ◌<◌, length, get_or}
+use Rattle.wh_sat_trail.specs.Assignment.{value_in}
+use Rattle.wh_sat_trail.specs.Propagation.{IsRefuted, Grows, IsClosed}
 use Rattle.wh_sat_trail.specs.Watch.{nothing}
-use Rattle.wh_sat.proofs.Supposing.{Back, back_start, back_decide, assumed_start, assumed_true, assumed_decided, clash_false, clash_refuted, fails_by, holds_by}
+use Rattle.wh_sat.proofs.Supposing.{back_start, back_decide, assumed_start, assumed_true, assumed_decided, clash_false, clash_refuted, fails_by, holds_by}
 use Rattle.wh_sat.proofs.halving.suppose.Goals.{in-Some+else-value-literal, in-None+in_ok-decide-in-None+in_ok-propagate-in-None+in-None-2}
 use Rattle.wh_sat.proofs.halving.suppose.Goals as goal
 

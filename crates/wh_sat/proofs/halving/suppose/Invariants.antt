@@ -1,5 +1,5 @@
-use Rattle.wh_sat_trail.specs.State.{assigned, formula_of, marks_of}
-use Rattle.std.proofs.Common.{◌≡◌, ℕ, ◌≤◌, List, length, take, get_or}
+use Rattle.wh_sat_trail.specs.State.{assigned, marks_of}
+use Rattle.std.proofs.Common.{◌≡◌, take}
 use Rattle.wh_sat.specs.Learning.{Assumed}
 use Rattle.wh_sat.proofs.Supposing.{Back}
 use Rattle.wh_sat.proofs.halving.suppose.Given as goal
