@@ -143,7 +143,7 @@ def long_blocks(numbers):
 
 
 def wide_leaf(steps):
-    """A loop at the last leaf of a balanced tree of size 24,575."""
+    """A loop at the last leaf of a balanced tree of size 16,381."""
     system = "sort o;\nfun a : o;\nfun b : o;\nfun d : o -> o -> o;\nrule {} a => b;\nrule {} b => a;\n"
     term = "a"
     for _ in range(12):
