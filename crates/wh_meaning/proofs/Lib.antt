@@ -1,0 +1,16 @@
+pub mod Valuations
+pub mod Den
+pub mod Eta
+pub mod Mean
+pub mod AtLeast
+pub mod Order
+pub mod Covers
+pub mod TermValues
+pub mod MetaValues
+pub mod SideTypes
+pub mod SideMeans
+pub mod Steps
+pub mod CallValues
+pub mod Measures
+pub mod PairsEnd
+pub mod Rows

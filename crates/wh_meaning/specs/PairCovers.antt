@@ -1,0 +1,47 @@
+-- Pairs that are covered, and what their marked calls are worth. `marked` gives the number of the interpretation of a marked symbol, and
+-- `target` the sort that it leads to.
+use Rattle.std.specs.Prelude.{ℕ, ◌≡◌, List, take, unwrap_or, Some, slice_get, Contains}
+use Rattle.wh_types.specs.Ty.{Ty, arguments}
+use Rattle.wh_terms.specs.Tree.{tms_of}
+use Rattle.wh_terms.specs.Typing.{Symbols}
+use Rattle.wh_terms.specs.Rules.{RewriteRule}
+use Rattle.wh_system.specs.Needs.{need_of}
+use Rattle.wh_system.specs.PairData.{PairData}
+use Rattle.wh_calls.specs.MarkedCalls.{MarkedCall}
+use Rattle.wh_hopoly.specs.Evaluation.{type_at, Interpretation}
+use Rattle.wh_hopoly.specs.Polynomials.{Polynomial}
+use Rattle.wh_meaning.specs.Moves.{Transfer, IsCover, IsStrictCover}
+use Rattle.wh_meaning.specs.Calls.{call_value, call_polynomial, IsMarkedSide}
+
+-- the types of the arguments of the marked symbol of f: the first ones of its type, as many as the rules of f need (ours)
+abbrev pub marked_types : Symbols → List RewriteRule → ℕ → List Ty
+marked_types S rules f = take (unwrap_or (need_of rules f) 0) (arguments (type_at S.funs f))
+
+-- what a marked call is worth (Fuhs and Kop 2012)
+abbrev pub worth_of : Symbols → List RewriteRule → List Interpretation → (ℕ → ℕ) → (ℕ → ℕ) → MarkedCall → ℕ
+worth_of S rules symbols marked target c =
+    call_value S symbols (marked c.symbol) (marked_types S rules c.symbol) (target c.symbol) (tms_of c.arguments)
+
+-- the polynomials of the two sides of a pair
+abbrev pub left_polynomial : List Interpretation → (ℕ → ℕ) → PairData → Polynomial
+left_polynomial symbols marked p = call_polynomial symbols p.metas (marked p.left_fun) (tms_of p.left)
+
+abbrev pub right_polynomial : List Interpretation → (ℕ → ℕ) → PairData → Polynomial
+right_polynomial symbols marked p = call_polynomial symbols p.metas (marked p.right_fun) (tms_of p.right)
+
+-- the sides of a pair are well made, and the left one covers the right one (Fuhs and Kop 2012)
+pub record PairIsCovered (S : Symbols) (rules : List RewriteRule) (symbols : List Interpretation) (marked target : ℕ → ℕ) (p : PairData)
+    : Type 0 where
+  pub left : IsMarkedSide S symbols p.metas (marked p.left_fun) (marked_types S rules p.left_fun) (target p.left_fun) (tms_of p.left)
+  pub right : IsMarkedSide S symbols p.metas (marked p.right_fun) (marked_types S rules p.right_fun) (target p.right_fun) (tms_of p.right)
+  pub moves : List Transfer
+  pub cover : IsCover (left_polynomial symbols marked p) (right_polynomial symbols marked p) moves
+
+-- the left side of the pair covers the right one strictly
+abbrev pub PairIsStrictlyCovered : List Interpretation → (ℕ → ℕ) → PairData → Type 0
+PairIsStrictlyCovered symbols marked p =
+    (ms : List Transfer) × IsStrictCover (left_polynomial symbols marked p) (right_polynomial symbols marked p) ms
+
+-- the pair is one of those with the numbers of the set
+abbrev pub IsOneOf : List PairData → List ℕ → PairData → Type 0
+IsOneOf pairs set p = (n : ℕ) × Contains set n × (slice_get pairs n ≡ Some p)
