@@ -17,7 +17,7 @@ use Rattle.wh_laws.specs.Ends.{StepsIn, step_here, step_there}
 use Rattle.wh_laws.specs.Roots.{RuleRoot}
 use Rattle.wh_hopoly.specs.Polynomials.{Normal}
 use Rattle.wh_hopoly.specs.Evaluation.{symbol, Interpretation, interpretation_at, type_of, evaluate, NormalInterpretations}
-use Rattle.wh_hopoly.proofs.Value.{normal_value, interpretation_is}
+use Rattle.wh_hopoly.proofs.ValueLaws.{normal_value, interpretation_is}
 use Rattle.wh_meaning.specs.Functionals.{Sem, Mono, Le, nothing}
 use Rattle.wh_meaning.specs.Valuations.{Valuation, MonoValuation}
 use Rattle.wh_meaning.specs.Meaning.{den}

@@ -20,7 +20,7 @@ use Rattle.wh_laws.specs.Roots.{RuleRoot}
 use Rattle.wh_laws.proofs.SystemSteps.{rules_root, rule_root-instance}
 use Rattle.wh_hopoly.specs.Polynomials.{Polynomial, Normal}
 use Rattle.wh_hopoly.specs.Evaluation.{Interpretation, interpretation_at, type_of, evaluate, NormalInterpretations}
-use Rattle.wh_hopoly.proofs.Value.{normal_value}
+use Rattle.wh_hopoly.proofs.ValueLaws.{normal_value}
 use Rattle.wh_meaning.specs.Functionals.{Sem, Le, nothing}
 use Rattle.wh_meaning.specs.Valuations.{Valuation, MonoValuation}
 use Rattle.wh_meaning.specs.Meaning.{den, reading}
