@@ -21,7 +21,7 @@ use Rattle.wh_hopoly.proofs.ValueLaws.{normal_value, interpretation_is}
 use Rattle.wh_meaning.specs.Functionals.{Sem, Mono, Le, nothing}
 use Rattle.wh_meaning.specs.Valuations.{Valuation, MonoValuation}
 use Rattle.wh_meaning.specs.Meaning.{den}
-use Rattle.wh_meaning.specs.Moves.{Transfer, IsCover, IsStrictCover}
+use Rattle.wh_hopoly.specs.Moves.{Transfer, IsCover, IsStrictCover}
 use Rattle.wh_meaning.specs.TermValues.{arrows, Meanings, MonoMeanings, value_in, fed, of_interpretations}
 use Rattle.wh_meaning.specs.Sides.{types_of_metas, side_applied, Interprets, RulesAreCovered}
 use Rattle.wh_meaning.specs.Calls.{all_nothing, call_value, call_polynomial, IsMarkedSide, HasTypedBodies}

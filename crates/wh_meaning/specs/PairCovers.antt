@@ -10,7 +10,7 @@ use Rattle.wh_system.specs.PairData.{PairData}
 use Rattle.wh_calls.specs.MarkedCalls.{MarkedCall}
 use Rattle.wh_hopoly.specs.Evaluation.{type_at, Interpretation}
 use Rattle.wh_hopoly.specs.Polynomials.{Polynomial}
-use Rattle.wh_meaning.specs.Moves.{Transfer, IsCover, IsStrictCover}
+use Rattle.wh_hopoly.specs.Moves.{Transfer, IsCover, IsStrictCover}
 use Rattle.wh_meaning.specs.Calls.{call_value, call_polynomial, IsMarkedSide}
 
 -- the types of the arguments of the marked symbol of f: the first ones of its type, as many as the rules of f need (ours)

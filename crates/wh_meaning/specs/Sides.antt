@@ -7,7 +7,7 @@ use Rattle.wh_terms.specs.Rules.{RewriteRule}
 use Rattle.wh_hopoly.specs.Polynomials.{Polynomial}
 use Rattle.wh_hopoly.specs.Evaluation.{Expression, var, symbol, lambda, apply, Interpretation, evaluate}
 use Rattle.wh_meaning.specs.TermValues.{arrows}
-use Rattle.wh_meaning.specs.Moves.{Transfer, IsCover}
+use Rattle.wh_hopoly.specs.Moves.{Transfer, IsCover}
 
 -- the types of meta-variables, each a function of its arguments (ours)
 abbrev pub types_of_metas : List Declared → List Ty
