@@ -1,0 +1,2 @@
+pub mod GoodWalk
+pub mod AmountWalk
