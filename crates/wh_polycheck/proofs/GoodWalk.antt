@@ -1,7 +1,7 @@
 -- The monomials of a move, and a walk over two lists of factors or arguments that asks whether the first are at least the second.
-use Rattle.std.proofs.Common.{◌≡◌, ◌↔◌, ℕ, zero, suc, ◌+◌, ◌<◌, ◌≤◌, List, [], ◌∷◌, ◌++◌, length, drop, get_or, ap, sym, subst, ◌∙◌, arith}
-use Rattle.std.proofs.Math.Seq.{drop-cons}
-use Rattle.std.proofs.Math.ListN.{drop_of_length-le}
+use Rattle.std.proofs.Common.{◌≡◌, ◌↔◌, ℕ, zero, suc, ◌+◌, ◌<◌, ◌≤◌, List, [], ◌∷◌, ◌++◌, length, drop, get_or, map, Some, slice_get, inl, inr, ap, sym, subst, ◌∙◌, arith}
+use Rattle.std.proofs.lemmas.Option.{same_Some}
+use Rattle.std.proofs.lemmas.Bool.{cases_lt}
 use mathlib.Core.Path.{subst₂}
 use Rattle.wh_types.specs.Ty.{Ty, sort, ◌⇒◌, arguments}
 use Rattle.wh_hopoly.specs.Polynomials.{Polynomial, zero_poly, plus, Factors, times, Arguments, argument, Sorted, Normal, NormalFactors, NormalArguments}
@@ -13,7 +13,8 @@ use Rattle.wh_hopoly.specs.declared.polynomial.Atoms.{Atoms}
 use Rattle.wh_hopoly.specs.declared.polynomial.Atom.{Atom, out-Atom}
 use Rattle.wh_hopoly.specs.declared.polynomial.Polys.{Polys}
 use Rattle.wh_hopoly.specs.declared.expression.Move.{Move}
-use Rattle.wh_hopoly.specs.Erase.{poly, atoms, polys, factors, list, sum_of, product_of, arguments_of, transfer}
+use Rattle.wh_hopoly.specs.Erase.{poly, atoms, polys, factors, list, sum_of, product_of, arguments_of, transfer, transfers}
+use Rattle.wh_polycheck.specs.CoverFaults.{AreGood}
 use Rattle.wh_hopoly.proofs.Lists.{atoms_is, polys_is}
 use Rattle.wh_hopoly.proofs.SumLaws.{normal_sorted}
 use Rattle.wh_hopoly.proofs.Walks.{product_drop, product_ended, arguments_drop, arguments_ended}
@@ -169,3 +170,34 @@ pub arguments_by_lists : (ps qs : Polys) (xs ys : List Poly) → xs ≡ list ps 
     → ArgumentsAtLeast (arguments_of xs) (arguments_of ys) ↔ ArgumentsAtLeast (polys ps) (polys qs)
 arguments_by_lists ps qs xs ys e k = let a = polys_is ps ∙ ap arguments_of (sym e) in let b = polys_is qs ∙ ap arguments_of (sym k) in
     (subst₂ ArgumentsAtLeast (sym a) (sym b), subst₂ ArgumentsAtLeast a b)
+
+-- the moves before a place are good
+abbrev pub GoodBefore : Polynomial → Polynomial → List Move → ℕ → Type 0
+GoodBefore left right xs i = (j : ℕ) (n : Transfer) → j < i → slice_get (transfers xs) j ≡ Some n → Good left right n
+
+transfer_at : (xs : List Move) (i : ℕ) (d : Move) (n : Transfer) → i < length xs → slice_get (transfers xs) i ≡ Some n → transfer (get_or xs i d) ≡ n
+transfer_at [] i d n h e = absurd (omega (arith, h))
+transfer_at (x ∷ xs) zero d n h e = same_Some (transfer x) n e
+transfer_at (x ∷ xs) (suc i) d n h e = transfer_at xs i d n (omega (arith, h)) e
+
+pub good_next : (left right : Polynomial) (xs : List Move) (i : ℕ) (d : Move) → GoodBefore left right xs i → i < length xs
+    → Good left right (transfer (get_or xs i d)) → GoodBefore left right xs (i + 1)
+good_next left right xs i d before h good j n below e = elim (cases_lt j i) [
+  | inl less ↦ before j n less e
+  | inr more ↦
+    let same : j ≡ i = omega (arith, below, more) in
+    subst (Good left right) (transfer_at xs i d n h (subst (λ j. slice_get (transfers xs) j ≡ Some n) same e)) good
+]
+
+as_many_transfers : (xs : List Move) → length (transfers xs) ≡ length xs
+as_many_transfers [] = omega arith
+as_many_transfers (x ∷ xs) = let e = as_many_transfers xs in omega (arith, e)
+
+at_contained : (ms : List Transfer) (k : ℕ) (m : Transfer) → k < length ms → get_or ms k m ≡ m → slice_get ms k ≡ Some m
+at_contained [] k m h e = absurd (omega (arith, h))
+at_contained (n ∷ ms) zero m h e = ap Some e
+at_contained (n ∷ ms) (suc k) m h e = at_contained ms k m (omega (arith, h)) e
+
+pub all_good : (left right : Polynomial) (xs : List Move) (i : ℕ) → GoodBefore left right xs i → length xs ≤ i → AreGood left right (transfers xs)
+all_good left right xs i before past m (k, h, e) =
+    let n = as_many_transfers xs in before k m (omega (arith, h, n, past)) (at_contained (transfers xs) k m h e)

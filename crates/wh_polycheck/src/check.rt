@@ -47,10 +47,14 @@ pub fn check_strict(left: &Poly, right: &Poly, moves: &[Move]) -> Result<(), Cov
     requires few_moves { length moves.now ≤ 2 ^ 32 }
     ensures { MatchResult result (λ _. IsStrictCover (poly left.now) (poly right.now) (transfers moves.now)) (IsFirstStrictCoverFault (poly left.now) (poly right.now) (transfers moves.now)) }
 {
-    check_weak(left, right, moves)?;
-    if leaves_constant(left.as_slice(), moves) {
-        Ok(())
-    } else {
-        Err(CoverFault::NotStrict)
+    match check_weak(left, right, moves) {
+        Err(fault) => Err(fault),
+        Ok(()) => {
+            if leaves_constant(left.as_slice(), moves) {
+                Ok(())
+            } else {
+                Err(CoverFault::NotStrict)
+            }
+        }
     }
 }

@@ -31,9 +31,14 @@ fn is_good(left: &[Monomial], right: &[Monomial], item: &Move) -> bool
     ensures { IsTrue result ↔ Good (sum_of left.now) (sum_of right.now) (transfer item.now) }
 {
     let (from, to) = (item.from as usize, item.to as usize);
-    from < left.len()
-        && to < right.len()
-        && are_factors_at_least(&left[from].atoms, &right[to].atoms)
+    if from >= left.len() {
+        return false;
+    }
+    if to >= right.len() {
+        return false;
+    }
+    let (giver, taker) = (&left[from], &right[to]);
+    are_factors_at_least(&giver.atoms, &taker.atoms)
 }
 
 // Whether both lists have the same variables in order, each with arguments that are at least the other's.
