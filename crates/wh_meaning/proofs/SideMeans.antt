@@ -14,8 +14,9 @@ use Rattle.wh_hopoly.proofs.ValueLaws.{interpretation_is}
 use Rattle.wh_meaning.specs.Functionals.{Sem, nothing}
 use Rattle.wh_meaning.specs.Valuations.{Valuation, put}
 use Rattle.wh_meaning.specs.Meaning.{den, reading, apply_at, mean}
-use Rattle.wh_meaning.specs.TermValues.{arrows, Meanings, push, value_in, fed, of_interpretations}
-use Rattle.wh_meaning.specs.Sides.{side_scope, side, side_applied, Interprets}
+use Rattle.wh_meaning.specs.TermValues.{Meanings, push, value_in, fed, of_interpretations}
+use Rattle.wh_polycheck.specs.Sides.{arrows}
+use Rattle.wh_polycheck.specs.Sides.{side_scope, side, side_applied, Interprets}
 use Rattle.wh_meaning.proofs.Valuations.{ty_set, at_itself, put_same, put_other}
 use Rattle.wh_meaning.proofs.Den.{at_below, fun_same, moves_same, den_agree}
 use Rattle.wh_meaning.proofs.Mean.{apply_is}

@@ -2,6 +2,5 @@ pub mod Functionals
 pub mod Valuations
 pub mod Meaning
 pub mod TermValues
-pub mod Sides
 pub mod Calls
 pub mod PairCovers

@@ -1,5 +1,5 @@
 -- The sums of several monomials at a time, while the moves are walked over.
-use Rattle.std.proofs.Common.{◌≡◌, ◌≢◌, ◌↔◌, ℕ, zero, suc, ◌+◌, ◌-◌, ◌<◌, ◌≤◌, ◌==◌, ◌⊎◌, inl, inr, Bool, true, false, IsTrue, nat_lt, if◌then◌else◌, List, [], ◌∷◌, length, drop, get_or, set, refl, ap, sym, subst, ◌∙◌, arith}
+use Rattle.std.proofs.Common.{◌≡◌, ◌↔◌, ℕ, zero, suc, ◌+◌, ◌-◌, ◌<◌, ◌≤◌, ◌==◌, inl, inr, Bool, true, false, IsTrue, nat_lt, if◌then◌else◌, List, [], ◌∷◌, length, drop, get_or, set, refl, ap, sym, subst, ◌∙◌, arith}
 use Rattle.std.proofs.Math.Seq.{drop-cons}
 use Rattle.std.proofs.Math.ListN.{drop_of_length-le}
 use Rattle.std.proofs.lemmas.List.{get_or-set_same, get_or-set_other, length-set}
@@ -65,17 +65,17 @@ taken_here old new base width least t left xs m r wide h e low high is =
       room = length-set new p left ∙ r.room;
       rest = λ k below. elim (cases_eq k p) [
         | inl same ↦
-          let a = r.rest k below in
-          let b = units_here (λ m. m.from) (base + k) xs t m h e (omega (arith, same, low)) in
-          let c : get_or (set new p left) k 0 ≡ left = subst (λ k. get_or (set new p left) k 0 ≡ left) (sym same)
-              (get_or-set_same new p left 0 (let i = r.within in let j = r.room in omega (arith, i, j, wide, high))) in
-          let d : m.amount + left ≡ get_or new k 0 = subst (λ k. m.amount + left ≡ get_or new k 0) (sym same) is in
-          omega (arith, a, b, c, d)
+            let a = r.rest k below in
+            let b = units_here (λ m. m.from) (base + k) xs t m h e (omega (arith, same, low)) in
+            let c : get_or (set new p left) k 0 ≡ left = subst (λ k. get_or (set new p left) k 0 ≡ left) (sym same)
+            (get_or-set_same new p left 0 (let i = r.within in let j = r.room in omega (arith, i, j, wide, high))) in
+            let d : m.amount + left ≡ get_or new k 0 = subst (λ k. m.amount + left ≡ get_or new k 0) (sym same) is in
+            omega (arith, a, b, c, d)
         | inr other ↦
-          let a = r.rest k below in
-          let b = units_elsewhere (λ m. m.from) (base + k) xs t m h e (λ same. other (omega (arith, same))) in
-          let c = get_or-set_other new p k left 0 other in
-          omega (arith, a, b, c)
+            let a = r.rest k below in
+            let b = units_elsewhere (λ m. m.from) (base + k) xs t m h e (λ same. other (omega (arith, same))) in
+            let c = get_or-set_other new p k left 0 other in
+            omega (arith, a, b, c)
       ];
       short = r.short;
     }
@@ -136,16 +136,16 @@ filled_here old new base t left xs m r h e low high is =
       room = length-set new p left ∙ r.room;
       rest = λ k below. elim (cases_eq k p) [
         | inl same ↦
-          let a = r.rest k below in
-          let b = units_here (λ m. m.to) (base + k) xs t m h e (omega (arith, same, low)) in
-          let c : get_or (set new p left) k 0 ≡ left = subst (λ k. get_or (set new p left) k 0 ≡ left) (sym same) (get_or-set_same new p left 0 high) in
-          let d : left ≡ get_or new k 0 - m.amount = subst (λ k. left ≡ get_or new k 0 - m.amount) (sym same) is in
-          omega (arith, a, b, c, d)
+            let a = r.rest k below in
+            let b = units_here (λ m. m.to) (base + k) xs t m h e (omega (arith, same, low)) in
+            let c : get_or (set new p left) k 0 ≡ left = subst (λ k. get_or (set new p left) k 0 ≡ left) (sym same) (get_or-set_same new p left 0 high) in
+            let d : left ≡ get_or new k 0 - m.amount = subst (λ k. left ≡ get_or new k 0 - m.amount) (sym same) is in
+            omega (arith, a, b, c, d)
         | inr other ↦
-          let a = r.rest k below in
-          let b = units_elsewhere (λ m. m.to) (base + k) xs t m h e (λ same. other (omega (arith, same))) in
-          let c = get_or-set_other new p k left 0 other in
-          omega (arith, a, b, c)
+            let a = r.rest k below in
+            let b = units_elsewhere (λ m. m.to) (base + k) xs t m h e (λ same. other (omega (arith, same))) in
+            let c = get_or-set_other new p k left 0 other in
+            omega (arith, a, b, c)
       ];
     }
 
@@ -190,10 +190,10 @@ pub one_more_set : (items : List Monomial) (sums : List ℕ) (base k v : ℕ) (m
     → k < length sums → m ≡ get_or items (base + k) m → v ≡ (out-Monomial m).coefficient → AreSet items (set sums k v) base (k + 1)
 one_more_set items sums base k v m before h room e is j c us below here = elim (cases_eq j k) [
   | inl same ↦
-    let there = monomial_here items (base + k) m h e in
-    let one = one_monomial (sum_of items) (base + k) c (out-Monomial m).coefficient us (atoms (out-Monomial m).atoms)
-        (subst (λ j. MonomialAt (sum_of items) (base + j) c us) same here) there in
-    subst (λ j. get_or (set sums k v) j 0 ≡ c) (sym same) (get_or-set_same sums k v 0 room ∙ is ∙ sym one.0)
+      let there = monomial_here items (base + k) m h e in
+      let one = one_monomial (sum_of items) (base + k) c (out-Monomial m).coefficient us (atoms (out-Monomial m).atoms)
+      (subst (λ j. MonomialAt (sum_of items) (base + j) c us) same here) there in
+      subst (λ j. get_or (set sums k v) j 0 ≡ c) (sym same) (get_or-set_same sums k v 0 room ∙ is ∙ sym one.0)
   | inr other ↦ get_or-set_other sums k j v 0 other ∙ before j c us (omega (arith, below, other)) here
 ]
 
@@ -302,6 +302,7 @@ constant_leaves items xs first us n some e l none is = go (nat_lt 0 n) refl
   where
     leaves : (given_by 0 (transfers xs) < (out-Monomial first).coefficient) ↔ LeavesConstant (sum_of items) (transfers xs)
     leaves = leaves_first items xs first (grind (arith, some)) e (atoms_is (out-Monomial first).atoms ∙ ap product_of (sym l) ∙ factors_of_none us (grind (arith, none)))
+
     go : (b : Bool) → nat_lt 0 n ≡ b → IsTrue b ↔ LeavesConstant (sum_of items) (transfers xs)
     go true t = (λ yes. leaves.0 (let h : 0 < n = grind (arith, t) in omega (arith, h, is)), λ w. refl)
     go false t = (λ no. cc, λ w. absurd (let less = leaves.1 w in let h : n ≤ 0 = grind (arith, t) in omega (arith, h, is, less)))
@@ -311,6 +312,6 @@ pub no_constant_leaves : (items : List Monomial) (xs : List Move) (first : Monom
     → LeavesConstant (sum_of items) (transfers xs) → ⊥
 no_constant_leaves items xs first us some e l none (c, m, less) =
     let one = one_monomial (sum_of items) 0 c (out-Monomial first).coefficient no_factors (atoms (out-Monomial first).atoms) m
-        (monomial_here items 0 first (grind (arith, some)) e) in
+    (monomial_here items 0 first (grind (arith, some)) e) in
     let no : length us ≡ 0 = none_of_factors us (ap product_of l ∙ sym (atoms_is (out-Monomial first).atoms) ∙ sym one.1) in
     grind (arith, none, no)

@@ -1,10 +1,10 @@
 -- The monomials of a move, and a walk over two lists of factors or arguments that asks whether the first are at least the second.
-use Rattle.std.proofs.Common.{◌≡◌, ◌↔◌, ℕ, zero, suc, ◌+◌, ◌<◌, ◌≤◌, List, [], ◌∷◌, ◌++◌, length, drop, get_or, map, Some, slice_get, inl, inr, ap, sym, subst, ◌∙◌, arith}
+use Rattle.std.proofs.Common.{◌≡◌, ◌↔◌, ℕ, zero, suc, ◌+◌, ◌<◌, ◌≤◌, List, [], ◌∷◌, ◌++◌, length, drop, get_or, Some, slice_get, inl, inr, ap, sym, subst, ◌∙◌, arith}
 use Rattle.std.proofs.lemmas.Option.{same_Some}
 use Rattle.std.proofs.lemmas.Bool.{cases_lt}
 use mathlib.Core.Path.{subst₂}
 use Rattle.wh_types.specs.Ty.{Ty, sort, ◌⇒◌, arguments}
-use Rattle.wh_hopoly.specs.Polynomials.{Polynomial, zero_poly, plus, Factors, times, Arguments, argument, Sorted, Normal, NormalFactors, NormalArguments}
+use Rattle.wh_hopoly.specs.Polynomials.{Polynomial, zero_poly, plus, Factors, Sorted, Normal, NormalFactors, NormalArguments}
 use Rattle.wh_hopoly.specs.Covers.{AtLeast}
 use Rattle.wh_hopoly.specs.Moves.{Transfer, ArgumentsAtLeast, FactorsAtLeast, MonomialAt, Good}
 use Rattle.wh_hopoly.specs.declared.polynomial.Poly.{Poly}
@@ -107,7 +107,7 @@ both_ways f g = (λ a. g.0 (f.0 a), λ c. f.1 (g.1 c))
 factors_at : (xs ys : List Atom) (i : ℕ) (x y : Atom) → i < length xs → i < length ys → x ≡ get_or xs i x → y ≡ get_or ys i y
     → FactorsAtLeast (product_of (drop i xs)) (product_of (drop i ys))
     ↔ ((out-Atom x).head ≡ (out-Atom y).head × ArgumentsAtLeast (polys (out-Atom x).args) (polys (out-Atom y).args)
-      × FactorsAtLeast (product_of (drop (i + 1) xs)) (product_of (drop (i + 1) ys)))
+    × FactorsAtLeast (product_of (drop (i + 1) xs)) (product_of (drop (i + 1) ys)))
 factors_at xs ys i x y h k ex ey = let a = product_drop xs i x h ex in let b = product_drop ys i y k ey in
     (subst₂ FactorsAtLeast a b, subst₂ FactorsAtLeast (sym a) (sym b))
 
@@ -185,8 +185,8 @@ pub good_next : (left right : Polynomial) (xs : List Move) (i : ℕ) (d : Move) 
 good_next left right xs i d before h good j n below e = elim (cases_lt j i) [
   | inl less ↦ before j n less e
   | inr more ↦
-    let same : j ≡ i = omega (arith, below, more) in
-    subst (Good left right) (transfer_at xs i d n h (subst (λ j. slice_get (transfers xs) j ≡ Some n) same e)) good
+      let same : j ≡ i = omega (arith, below, more) in
+      subst (Good left right) (transfer_at xs i d n h (subst (λ j. slice_get (transfers xs) j ≡ Some n) same e)) good
 ]
 
 as_many_transfers : (xs : List Move) → length (transfers xs) ≡ length xs

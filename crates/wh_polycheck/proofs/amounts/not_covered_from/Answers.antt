@@ -1,4 +1,4 @@
-use Rattle.std.proofs.Common.{rules, length, arith, ◌<◌}
+use Rattle.std.proofs.Common.{length, arith}
 use Rattle.wh_polycheck.proofs.AmountWalk.{not_covered_found, all_covered}
 use Rattle.wh_polycheck.proofs.amounts.not_covered_from.Goals as goal
 

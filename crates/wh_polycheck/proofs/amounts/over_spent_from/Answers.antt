@@ -1,4 +1,4 @@
-use Rattle.std.proofs.Common.{rules, length}
+use Rattle.std.proofs.Common.{length}
 use Rattle.wh_polycheck.proofs.AmountWalk.{over_spent_found, none_over_spent}
 use Rattle.wh_polycheck.proofs.amounts.over_spent_from.Goals as goal
 
