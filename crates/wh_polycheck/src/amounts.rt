@@ -9,8 +9,8 @@ ghost use Rattle.wh_polycheck.specs.CoverFaults.{IsFirstNotCovered, IsFirstOverS
 
 use wh_hopoly::{Monomial, Move};
 
-// How many sums are taken at a time: 16 kilobytes on the stack, and 64 walks for 65,536 monomials.
-const WIDTH: usize = 1024;
+// How many sums are taken at a time: 64 kilobytes on the stack, and 16 walks for 65,536 monomials.
+const WIDTH: usize = 4096;
 
 /// The first left monomial from which the moves take more than its coefficient.
 pub fn first_over_spent(items: &[Monomial], moves: &[Move]) -> Option<u32>

@@ -19,8 +19,8 @@ pub loop-base-preserved : goal.loop-base-preserved
 loop-base-preserved c =
     let more = c.loop-base-test.true in (
       omega (arith, more),
-      λ i. further (Covered (sum_of c.args.items.now) (transfers c.args.moves.now)) c.loop-base.base 1024 i c.loop-base.invariant.1
-          (λ k h. c.in_default.ensures k (let long : length c.loop-base.sums ≡ 1024 = c.loop-base-test.array_long in omega (arith, h, long))),
+      λ i. further (Covered (sum_of c.args.items.now) (transfers c.args.moves.now)) c.loop-base.base 4096 i c.loop-base.invariant.1
+          (λ k h. c.in_default.ensures k (let long : length c.loop-base.sums ≡ 4096 = c.loop-base-test.array_long in omega (arith, h, long))),
     )
 
 pub returns : goal.returns

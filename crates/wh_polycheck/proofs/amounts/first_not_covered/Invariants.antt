@@ -7,4 +7,4 @@ abbrev pub decreases-loop-base : goal.decreases-loop-base
 decreases-loop-base l = length l.items - l.base
 
 abbrev pub invariant-loop-base : goal.invariant-loop-base
-invariant-loop-base l = l.base ≤ length l.items + 1024 × ((i : ℕ) → i < l.base → Covered (sum_of l.items) (transfers l.moves) i)
+invariant-loop-base l = l.base ≤ length l.items + 4096 × ((i : ℕ) → i < l.base → Covered (sum_of l.items) (transfers l.moves) i)
