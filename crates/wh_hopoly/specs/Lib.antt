@@ -3,6 +3,7 @@ pub mod Arithmetic
 pub mod Evaluation
 pub mod Limits
 pub mod Covers
+pub mod Moves
 pub mod Parts
 pub mod Erase
 pub mod Excesses

@@ -3,8 +3,8 @@ use Rattle.std.proofs.Common.{◌≡◌, ℕ, ◌*◌, ◌≤◌, inl, inr, List
 use Rattle.wh_types.specs.Ty.{Ty}
 use Rattle.wh_hopoly.specs.Polynomials.{Polynomial, zero_poly, plus, Factors, compare_factors, MonomialBefore, Sorted}
 use Rattle.wh_hopoly.specs.Covers.{Has, AtLeast}
-use Rattle.wh_hopoly.proofs.Order.{factors_same}
-use Rattle.wh_hopoly.proofs.Merge.{before_then}
+use Rattle.wh_hopoly.proofs.OrderLaws.{factors_same}
+use Rattle.wh_hopoly.proofs.SumLaws.{before_then}
 use Rattle.wh_meaning.specs.Valuations.{Valuation}
 use Rattle.wh_meaning.specs.Meaning.{den, den_factors}
 

@@ -17,14 +17,16 @@ use Rattle.wh_laws.specs.Ends.{StepsIn, step_here, step_there}
 use Rattle.wh_laws.specs.Roots.{RuleRoot}
 use Rattle.wh_hopoly.specs.Polynomials.{Normal}
 use Rattle.wh_hopoly.specs.Evaluation.{symbol, Interpretation, interpretation_at, type_of, evaluate, NormalInterpretations}
-use Rattle.wh_hopoly.proofs.Value.{normal_value, interpretation_is}
+use Rattle.wh_hopoly.proofs.ValueLaws.{normal_value, interpretation_is}
 use Rattle.wh_meaning.specs.Functionals.{Sem, Mono, Le, nothing}
 use Rattle.wh_meaning.specs.Valuations.{Valuation, MonoValuation}
 use Rattle.wh_meaning.specs.Meaning.{den}
-use Rattle.wh_meaning.specs.Moves.{Transfer, IsCover, IsStrictCover}
-use Rattle.wh_meaning.specs.TermValues.{arrows, Meanings, MonoMeanings, value_in, fed, of_interpretations}
-use Rattle.wh_meaning.specs.Sides.{types_of_metas, side_applied, Interprets, RulesAreCovered}
-use Rattle.wh_meaning.specs.Calls.{all_nothing, call_value, call_polynomial, IsMarkedSide, HasTypedBodies}
+use Rattle.wh_hopoly.specs.Moves.{Transfer, IsCover, IsStrictCover}
+use Rattle.wh_meaning.specs.TermValues.{Meanings, MonoMeanings, value_in, fed, of_interpretations}
+use Rattle.wh_polycheck.specs.Sides.{arrows}
+use Rattle.wh_polycheck.specs.Sides.{types_of_metas, side_applied, Interprets, RulesAreCovered}
+use Rattle.wh_meaning.specs.Calls.{all_nothing, call_value, IsMarkedSide, HasTypedBodies}
+use Rattle.wh_polycheck.specs.Sides.{call_polynomial}
 use Rattle.wh_meaning.proofs.Order.{le_same, mono_nothing, reading_mono}
 use Rattle.wh_meaning.proofs.Covers.{cover_den, strict_cover_den}
 use Rattle.wh_meaning.proofs.Mean.{den_value}

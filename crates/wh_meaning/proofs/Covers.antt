@@ -4,12 +4,12 @@ use mathlib.Core.Path.{fun_ext}
 use Rattle.wh_types.specs.Ty.{Ty, sort, ◌⇒◌, arguments}
 use Rattle.wh_hopoly.specs.Polynomials.{Polynomial, zero_poly, plus, Factors, no_factors, times, Arguments, no_arguments, argument, Normal, NormalFactors, NormalArguments}
 use Rattle.wh_hopoly.specs.Evaluation.{type_at}
-use Rattle.wh_hopoly.proofs.Merge.{normal_sorted}
-use Rattle.wh_hopoly.proofs.Replace.{type_is}
+use Rattle.wh_hopoly.proofs.SumLaws.{normal_sorted}
+use Rattle.wh_hopoly.proofs.ReplaceLaws.{type_is}
 use Rattle.wh_meaning.specs.Functionals.{Sem, Mono, Le}
 use Rattle.wh_meaning.specs.Valuations.{Valuation, MonoValuation, fun_of}
 use Rattle.wh_meaning.specs.Meaning.{den, den_factors, den_arguments}
-use Rattle.wh_meaning.specs.Moves.{Transfer, ArgumentsAtLeast, FactorsAtLeast, MonomialAt, Good, units_at, given_by, taken_by, IsCover, IsStrictCover}
+use Rattle.wh_hopoly.specs.Moves.{Transfer, ArgumentsAtLeast, FactorsAtLeast, MonomialAt, Good, units_at, given_by, taken_by, IsCover, IsStrictCover}
 use Rattle.wh_meaning.proofs.Order.{le_nat, le_same, le_then, fun_mono, fun_le, den_grows}
 use Rattle.wh_meaning.proofs.AtLeast.{at_least_den}
 

@@ -5,7 +5,7 @@ use Rattle.wh_types.specs.Ty.{Ty, sort, ◌⇒◌, arguments}
 use Rattle.wh_hopoly.specs.Polynomials.{HasType}
 use Rattle.wh_hopoly.specs.Arithmetic.{atom}
 use Rattle.wh_hopoly.specs.Evaluation.{added, variable, type_at}
-use Rattle.wh_hopoly.proofs.Replace.{at_left, at_right, type_is}
+use Rattle.wh_hopoly.proofs.ReplaceLaws.{at_left, at_right, type_is}
 use Rattle.wh_meaning.specs.Functionals.{Sem}
 use Rattle.wh_meaning.specs.Valuations.{Valuation, put, fun_of}
 use Rattle.wh_meaning.specs.Meaning.{den, den_arguments, reading}

@@ -13,4 +13,6 @@ pub mod Steps
 pub mod CallValues
 pub mod Measures
 pub mod PairsEnd
+pub mod MoreInterpretations
+pub mod MarkedPairs
 pub mod Rows

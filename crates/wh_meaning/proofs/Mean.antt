@@ -6,8 +6,8 @@ use Rattle.wh_types.specs.Ty.{Ty, Ty-discrete, ◌⇒◌, arguments}
 use Rattle.wh_hopoly.specs.Polynomials.{Polynomial, Normal}
 use Rattle.wh_hopoly.specs.Arithmetic.{renumber}
 use Rattle.wh_hopoly.specs.Evaluation.{Expression, var, symbol, lambda, apply, Interpretation, interpretation_at, type_of, codomain, evaluate, variable, apply_one, TypedExpression, NormalInterpretations}
-use Rattle.wh_hopoly.proofs.Replace.{type_is, Moves, moves_on}
-use Rattle.wh_hopoly.proofs.Value.{normal_value, plus_order, interpretation_is}
+use Rattle.wh_hopoly.proofs.ReplaceLaws.{type_is, Moves, moves_on}
+use Rattle.wh_hopoly.proofs.ValueLaws.{normal_value, plus_order, interpretation_is}
 use Rattle.wh_meaning.specs.Functionals.{Sem, nothing}
 use Rattle.wh_meaning.specs.Valuations.{Valuation, put, fun_of}
 use Rattle.wh_meaning.specs.Meaning.{den, reading, apply_at, mean}

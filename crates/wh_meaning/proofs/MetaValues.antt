@@ -14,7 +14,8 @@ use Rattle.wh_terms.proofs.ValueForm.{up_times, shifted, value, values}
 use Rattle.wh_terms.proofs.ValueTyping.{typed-value, all_typed-values}
 use Rattle.wh_meaning.specs.Functionals.{Sem, Mono, Le, nothing}
 use Rattle.wh_meaning.specs.Valuations.{Valuation, at_type, MonoValuation, LeValuation}
-use Rattle.wh_meaning.specs.TermValues.{arrows, declared_at, type_in, Meanings, MonoMeanings, push, value_in, fed}
+use Rattle.wh_meaning.specs.TermValues.{declared_at, type_in, Meanings, MonoMeanings, push, value_in, fed}
+use Rattle.wh_polycheck.specs.Sides.{arrows}
 use Rattle.wh_meaning.proofs.Valuations.{at_itself}
 use Rattle.wh_meaning.proofs.Order.{le_same, mono_nothing, mono_at}
 use Rattle.wh_meaning.proofs.TermValues.{declared_is, has_same, type_is, push_here, push_rename, mono_push, le_push, KeepsAll, keeps_up, FitsAll, value_app, value_agree, value_rename, value_act, value_mono, value_le}

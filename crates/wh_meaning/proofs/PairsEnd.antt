@@ -14,9 +14,10 @@ use Rattle.wh_laws.proofs.EndsLaws.{ends-next}
 use Rattle.wh_system.specs.PairData.{PairData}
 use Rattle.wh_calls.specs.MarkedCalls.{MarkedCall, IsTypedCall, AreTypedBodies, PairStep, ArgumentsStep, SomePairStep, CallStep, CallsEnd}
 use Rattle.wh_hopoly.specs.Evaluation.{Interpretation, NormalInterpretations}
-use Rattle.wh_meaning.specs.Sides.{Interprets, RulesAreCovered}
+use Rattle.wh_polycheck.specs.Sides.{Interprets, RulesAreCovered}
 use Rattle.wh_meaning.specs.Calls.{call_value, HasTypedBodies}
-use Rattle.wh_meaning.specs.PairCovers.{marked_types, worth_of, PairIsCovered, PairIsStrictlyCovered, IsOneOf}
+use Rattle.wh_meaning.specs.PairCovers.{worth_of, PairIsCovered, PairIsStrictlyCovered, IsOneOf}
+use Rattle.wh_polycheck.specs.Marks.{marked_types}
 use Rattle.wh_meaning.proofs.TermValues.{at_is}
 use Rattle.wh_meaning.proofs.CallValues.{call_reduct_le, covered_call_le, strictly_covered_call_lt}
 use Rattle.wh_meaning.proofs.Measures.{ends_measured}

@@ -7,8 +7,8 @@ use Rattle.wh_hopoly.specs.Evaluation.{var, symbol, lambda, apply}
 use Rattle.wh_meaning.specs.Valuations.{Valuation}
 use Rattle.wh_meaning.specs.Functionals.{nothing}
 use Rattle.wh_meaning.specs.Meaning.{den}
-use Rattle.wh_meaning.specs.Moves.{Transfer, IsCover, given_by}
-use Rattle.wh_meaning.specs.Sides.{side}
+use Rattle.wh_hopoly.specs.Moves.{Transfer, IsCover, given_by}
+use Rattle.wh_polycheck.specs.Sides.{side}
 
 -- in a scope of two meta-variables, of which the first takes an argument, `\x. \y. f (Z[x]) y`: binders go on from the scope's length
 side_is : side 2 (lam (sort 0) (lam (sort 1) (app (app (fun 5) (meta 0 (more (bound 1) none))) (bound 0))))

@@ -9,13 +9,14 @@ use Rattle.wh_terms.specs.Sight.{NoFree, AllNoFree}
 use Rattle.wh_terms.specs.Typing.{Symbols, Declared, Typed, typed_bound, typed_free, typed_fun, typed_meta, typed_lam, typed_app, AllTyped, typed_none, typed_more}
 use Rattle.wh_hopoly.specs.Polynomials.{Polynomial, Normal}
 use Rattle.wh_hopoly.specs.Evaluation.{Expression, var, lambda, apply, Interpretation, interpretation_at, type_at, type_of, codomain, NormalInterpretations}
-use Rattle.wh_hopoly.proofs.Replace.{type_is as variable_type}
-use Rattle.wh_hopoly.proofs.Value.{interpretation_is}
+use Rattle.wh_hopoly.proofs.ReplaceLaws.{type_is as variable_type}
+use Rattle.wh_hopoly.proofs.ValueLaws.{interpretation_is}
 use Rattle.wh_meaning.specs.Functionals.{Sem, nothing}
 use Rattle.wh_meaning.specs.Valuations.{Valuation, put}
 use Rattle.wh_meaning.specs.Meaning.{den, reading, apply_at, mean}
-use Rattle.wh_meaning.specs.TermValues.{arrows, Meanings, push, value_in, fed, of_interpretations}
-use Rattle.wh_meaning.specs.Sides.{side_scope, side, side_applied, Interprets}
+use Rattle.wh_meaning.specs.TermValues.{Meanings, push, value_in, fed, of_interpretations}
+use Rattle.wh_polycheck.specs.Sides.{arrows}
+use Rattle.wh_polycheck.specs.Sides.{side_scope, side, side_applied, Interprets}
 use Rattle.wh_meaning.proofs.Valuations.{ty_set, at_itself, put_same, put_other}
 use Rattle.wh_meaning.proofs.Den.{at_below, fun_same, moves_same, den_agree}
 use Rattle.wh_meaning.proofs.Mean.{apply_is}

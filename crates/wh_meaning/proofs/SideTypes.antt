@@ -7,10 +7,10 @@ use Rattle.wh_terms.specs.Sight.{NoFree, AllNoFree}
 use Rattle.wh_terms.specs.Typing.{Symbols, Declared, Typed, typed_bound, typed_free, typed_fun, typed_meta, typed_lam, typed_app, AllTyped, typed_none, typed_more}
 use Rattle.wh_hopoly.specs.Polynomials.{HasType}
 use Rattle.wh_hopoly.specs.Evaluation.{Expression, var, apply, Interpretation, type_of, codomain, TypedExpression}
-use Rattle.wh_hopoly.proofs.Replace.{type_is as variable_type, at_left, at_right}
-use Rattle.wh_hopoly.proofs.Value.{interpretation_is}
-use Rattle.wh_meaning.specs.TermValues.{arrows}
-use Rattle.wh_meaning.specs.Sides.{types_of_metas, side_scope, side, side_applied, Interprets}
+use Rattle.wh_hopoly.proofs.ReplaceLaws.{type_is as variable_type, at_left, at_right}
+use Rattle.wh_hopoly.proofs.ValueLaws.{interpretation_is}
+use Rattle.wh_polycheck.specs.Sides.{arrows}
+use Rattle.wh_polycheck.specs.Sides.{types_of_metas, side_scope, side, side_applied, Interprets}
 
 pub scope_longer : (M : List Declared) (Γ : List Ty) (a : Ty) → length (side_scope M (a ∷ Γ)) ≡ suc (length (side_scope M Γ))
 scope_longer M Γ a = length-append (side_scope M Γ) (a ∷ []) ∙ omega arith

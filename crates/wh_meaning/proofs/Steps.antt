@@ -20,13 +20,13 @@ use Rattle.wh_laws.specs.Roots.{RuleRoot}
 use Rattle.wh_laws.proofs.SystemSteps.{rules_root, rule_root-instance}
 use Rattle.wh_hopoly.specs.Polynomials.{Polynomial, Normal}
 use Rattle.wh_hopoly.specs.Evaluation.{Interpretation, interpretation_at, type_of, evaluate, NormalInterpretations}
-use Rattle.wh_hopoly.proofs.Value.{normal_value}
+use Rattle.wh_hopoly.proofs.ValueLaws.{normal_value}
 use Rattle.wh_meaning.specs.Functionals.{Sem, Le, nothing}
 use Rattle.wh_meaning.specs.Valuations.{Valuation, MonoValuation}
 use Rattle.wh_meaning.specs.Meaning.{den, reading}
 use Rattle.wh_meaning.specs.TermValues.{type_in, Meanings, MonoMeanings, push, value_in, of_interpretations, term_value}
-use Rattle.wh_meaning.specs.Moves.{Transfer, IsCover}
-use Rattle.wh_meaning.specs.Sides.{types_of_metas, side, side_polynomial, Interprets, RuleIsCovered, RulesAreCovered}
+use Rattle.wh_hopoly.specs.Moves.{Transfer, IsCover}
+use Rattle.wh_polycheck.specs.Sides.{types_of_metas, side, side_polynomial, Interprets, RuleIsCovered, RulesAreCovered}
 use Rattle.wh_meaning.proofs.Order.{le_equal, fun_le, mono_nothing, reading_mono}
 use Rattle.wh_meaning.proofs.Covers.{cover_den}
 use Rattle.wh_meaning.proofs.Mean.{den_value}

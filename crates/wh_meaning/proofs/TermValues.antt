@@ -12,7 +12,8 @@ use Rattle.wh_terms.proofs.TypingLaws.{some_one}
 use Rattle.wh_hopoly.specs.Evaluation.{type_at, codomain}
 use Rattle.wh_meaning.specs.Functionals.{Sem, Mono, Le, nothing}
 use Rattle.wh_meaning.specs.Valuations.{Valuation, MonoValuation, LeValuation}
-use Rattle.wh_meaning.specs.TermValues.{arrows, declared_at, type_in, Meanings, MonoMeanings, push, value_in, fed}
+use Rattle.wh_meaning.specs.TermValues.{declared_at, type_in, Meanings, MonoMeanings, push, value_in, fed}
+use Rattle.wh_polycheck.specs.Sides.{arrows}
 use Rattle.wh_meaning.proofs.Valuations.{at_itself}
 use Rattle.wh_meaning.proofs.Order.{le_nat, le_same, le_then, mono_nothing, mono_at, le_at}
 

@@ -1,18 +1,18 @@
 -- What marked calls are worth, and when the sides of a pair are covered. A marked symbol has an interpretation of its own;
 -- `k` is its number.
-use Rattle.std.specs.Prelude.{ℕ, List, [], length, ◌≡◌, Some, slice_get}
+use Rattle.std.specs.Prelude.{ℕ, List, [], ◌≡◌, Some, slice_get}
 use Rattle.wh_types.specs.Ty.{Ty, sort}
 use Rattle.wh_terms.specs.Tree.{Tms}
 use Rattle.wh_terms.specs.Sight.{OccursIn, AllNoFree}
 use Rattle.wh_terms.specs.Typing.{Symbols, Declared, AllTyped}
 use Rattle.wh_terms.specs.Value.{Body}
 use Rattle.wh_terms.specs.TypedBodies.{FitsDeclared}
-use Rattle.wh_hopoly.specs.Polynomials.{Polynomial}
-use Rattle.wh_hopoly.specs.Evaluation.{symbol, Interpretation, evaluate}
+use Rattle.wh_hopoly.specs.Evaluation.{Interpretation}
 use Rattle.wh_meaning.specs.Functionals.{nothing}
 use Rattle.wh_meaning.specs.Valuations.{Valuation}
-use Rattle.wh_meaning.specs.TermValues.{arrows, fed, of_interpretations}
-use Rattle.wh_meaning.specs.Sides.{types_of_metas, side_applied, IsInterpretedAs}
+use Rattle.wh_meaning.specs.TermValues.{fed, of_interpretations}
+use Rattle.wh_polycheck.specs.Sides.{arrows}
+use Rattle.wh_polycheck.specs.Sides.{IsInterpretedAs}
 
 -- all variables are 0
 abbrev pub all_nothing : Valuation
@@ -24,11 +24,6 @@ abbrev pub call_value : Symbols → List Interpretation → ℕ → List Ty → 
 call_value S symbols k cs s ts =
     fed S [] (record { of_symbols = of_interpretations symbols; of_metas = all_nothing; of_free = all_nothing }) [] all_nothing cs (sort s)
     (of_interpretations symbols k (arrows cs (sort s))) ts
-
--- the polynomial of a marked side in the scope of the pair's meta-variables (Fuhs and Kop 2012)
-abbrev pub call_polynomial : List Interpretation → List Declared → ℕ → Tms → Polynomial
-call_polynomial symbols M k ts =
-    (evaluate symbols (types_of_metas M) (side_applied (length (types_of_metas M)) (symbol k) ts)).result
 
 -- a marked side is well made: its symbol has an interpretation that takes its arguments to a sort, and they are typed and closed (ours)
 pub record IsMarkedSide (S : Symbols) (symbols : List Interpretation) (M : List Declared) (k : ℕ) (cs : List Ty) (s : ℕ) (ts : Tms)

@@ -1,8 +1,6 @@
 pub mod Functionals
 pub mod Valuations
 pub mod Meaning
-pub mod Moves
 pub mod TermValues
-pub mod Sides
 pub mod Calls
 pub mod PairCovers

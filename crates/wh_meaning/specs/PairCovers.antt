@@ -1,21 +1,18 @@
 -- Pairs that are covered, and what their marked calls are worth. `marked` gives the number of the interpretation of a marked symbol, and
 -- `target` the sort that it leads to.
-use Rattle.std.specs.Prelude.{ℕ, ◌≡◌, List, take, unwrap_or, Some, slice_get, Contains}
-use Rattle.wh_types.specs.Ty.{Ty, arguments}
+use Rattle.std.specs.Prelude.{ℕ, ◌≡◌, List, [], Some, slice_get, Contains}
 use Rattle.wh_terms.specs.Tree.{tms_of}
-use Rattle.wh_terms.specs.Typing.{Symbols}
+use Rattle.wh_terms.specs.Sight.{AllNoFree}
+use Rattle.wh_terms.specs.Typing.{Symbols, AllTyped}
 use Rattle.wh_terms.specs.Rules.{RewriteRule}
-use Rattle.wh_system.specs.Needs.{need_of}
 use Rattle.wh_system.specs.PairData.{PairData}
 use Rattle.wh_calls.specs.MarkedCalls.{MarkedCall}
-use Rattle.wh_hopoly.specs.Evaluation.{type_at, Interpretation}
+use Rattle.wh_hopoly.specs.Evaluation.{Interpretation}
 use Rattle.wh_hopoly.specs.Polynomials.{Polynomial}
-use Rattle.wh_meaning.specs.Moves.{Transfer, IsCover, IsStrictCover}
-use Rattle.wh_meaning.specs.Calls.{call_value, call_polynomial, IsMarkedSide}
-
--- the types of the arguments of the marked symbol of f: the first ones of its type, as many as the rules of f need (ours)
-abbrev pub marked_types : Symbols → List RewriteRule → ℕ → List Ty
-marked_types S rules f = take (unwrap_or (need_of rules f) 0) (arguments (type_at S.funs f))
+use Rattle.wh_polycheck.specs.Marks.{Mark, marked_types, with_marks, mark_number, HasMark}
+use Rattle.wh_hopoly.specs.Moves.{Transfer, IsCover, IsStrictCover}
+use Rattle.wh_meaning.specs.Calls.{call_value, IsMarkedSide}
+use Rattle.wh_polycheck.specs.Sides.{call_polynomial}
 
 -- what a marked call is worth (Fuhs and Kop 2012)
 abbrev pub worth_of : Symbols → List RewriteRule → List Interpretation → (ℕ → ℕ) → (ℕ → ℕ) → MarkedCall → ℕ
@@ -41,6 +38,23 @@ pub record PairIsCovered (S : Symbols) (rules : List RewriteRule) (symbols : Lis
 abbrev pub PairIsStrictlyCovered : List Interpretation → (ℕ → ℕ) → PairData → Type 0
 PairIsStrictlyCovered symbols marked p =
     (ms : List Transfer) × IsStrictCover (left_polynomial symbols marked p) (right_polynomial symbols marked p) ms
+
+-- the marked symbols of a pair have marks, and their arguments are typed and closed (ours)
+pub record HasMarkedSides (S : Symbols) (rules : List RewriteRule) (marks : List Mark) (p : PairData) : Type 0 where
+  pub left_marked : HasMark marks p.left_fun
+  pub right_marked : HasMark marks p.right_fun
+  pub left_typed : AllTyped S p.metas [] (tms_of p.left) (marked_types S rules p.left_fun)
+  pub right_typed : AllTyped S p.metas [] (tms_of p.right) (marked_types S rules p.right_fun)
+  pub left_closed : AllNoFree (tms_of p.left)
+  pub right_closed : AllNoFree (tms_of p.right)
+
+-- so it is that a pair is covered where its marked symbols are read by the marks (Fuhs and Kop 2012)
+pub record MarkedPairIsCovered (S : Symbols) (rules : List RewriteRule) (symbols : List Interpretation) (marks : List Mark) (p : PairData)
+    : Type 0 where
+  pub sides : HasMarkedSides S rules marks p
+  pub moves : List Transfer
+  pub cover : IsCover (left_polynomial (with_marks S rules symbols marks) (mark_number symbols marks) p)
+      (right_polynomial (with_marks S rules symbols marks) (mark_number symbols marks) p) moves
 
 -- the pair is one of those with the numbers of the set
 abbrev pub IsOneOf : List PairData → List ℕ → PairData → Type 0

@@ -8,11 +8,7 @@ use Rattle.wh_hopoly.specs.Evaluation.{type_at, codomain, Interpretation, interp
 use Rattle.wh_meaning.specs.Functionals.{Sem, nothing}
 use Rattle.wh_meaning.specs.Valuations.{Valuation, at_type, MonoValuation}
 use Rattle.wh_meaning.specs.Meaning.{reading}
-
--- the type of functions of arguments of the types, in order, to the last one (Kop 2012)
-abbrev pub arrows : List Ty → Ty → Ty
-arrows [] a = a
-arrows (c ∷ cs) a = c ⇒ arrows cs a
+use Rattle.wh_polycheck.specs.Sides.{arrows}
 
 -- a declared meta-variable by its number, and a sort past the end of the list (ours)
 abbrev pub declared_at : List Declared → ℕ → Declared

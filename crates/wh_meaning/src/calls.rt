@@ -9,9 +9,10 @@ ghost use Rattle.wh_terms.specs.Rules.{RewriteRule, AreWellMade};
 ghost use Rattle.wh_step.specs.Step.{Step};
 ghost use Rattle.wh_laws.specs.Ends.{StepsIn};
 ghost use Rattle.wh_hopoly.specs.Evaluation.{Interpretation, NormalInterpretations};
-ghost use Rattle.wh_meaning.specs.Moves.{Transfer, IsCover, IsStrictCover};
-ghost use Rattle.wh_meaning.specs.Sides.{Interprets, RulesAreCovered};
-ghost use Rattle.wh_meaning.specs.Calls.{call_value, call_polynomial, IsMarkedSide, HasTypedBodies};
+ghost use Rattle.wh_hopoly.specs.Moves.{Transfer, IsCover, IsStrictCover};
+ghost use Rattle.wh_polycheck.specs.Sides.{Interprets, RulesAreCovered};
+ghost use Rattle.wh_meaning.specs.Calls.{call_value, IsMarkedSide, HasTypedBodies};
+ghost use Rattle.wh_polycheck.specs.Sides.{call_polynomial};
 
 /// Where every rule is covered, no step in an argument raises what a call is worth.
 pub fn steps_do_not_raise_calls()

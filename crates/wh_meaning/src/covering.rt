@@ -5,7 +5,7 @@ ghost use Rattle.wh_types.specs.Ty.{Ty};
 ghost use Rattle.wh_hopoly.specs.Polynomials.{Polynomial, Normal};
 ghost use Rattle.wh_meaning.specs.Valuations.{Valuation, MonoValuation};
 ghost use Rattle.wh_meaning.specs.Meaning.{den};
-ghost use Rattle.wh_meaning.specs.Moves.{Transfer, IsCover, IsStrictCover};
+ghost use Rattle.wh_hopoly.specs.Moves.{Transfer, IsCover, IsStrictCover};
 
 /// A polynomial that covers another one by moves means a number at least as great, under every monotone valuation.
 pub fn covers_mean_at_least()

@@ -14,7 +14,7 @@ ghost use Rattle.wh_meaning.specs.Functionals.{Mono, Le};
 ghost use Rattle.wh_meaning.specs.Valuations.{Valuation, MonoValuation, LeValuation};
 ghost use Rattle.wh_meaning.specs.Meaning.{reading};
 ghost use Rattle.wh_meaning.specs.TermValues.{Meanings, MonoMeanings, value_in, of_interpretations, term_value};
-ghost use Rattle.wh_meaning.specs.Sides.{types_of_metas, side_polynomial, Interprets, RulesAreCovered};
+ghost use Rattle.wh_polycheck.specs.Sides.{types_of_metas, side_polynomial, Interprets, RulesAreCovered, IsNormOfSide};
 
 /// A beta step keeps the value.
 pub fn beta_keeps_values()
@@ -35,4 +35,9 @@ pub fn sides_mean_their_polynomials()
 /// Where every rule is covered, no step raises the value of a well-typed term, at any place, under binders too.
 pub fn covered_steps_do_not_raise_values()
     ensures { (S : Symbols) (rules : List RewriteRule) (symbols : List Interpretation) (scope : List Ty) (t u : Tm) (a : Ty) (free v : Valuation) → AreWellMade S rules → Interprets S symbols → NormalInterpretations symbols → RulesAreCovered symbols rules → Typed S [] scope t a → StepOver (RuleRoot rules) t u → MonoValuation free → MonoValuation v → Le a (term_value S symbols free scope u v a) (term_value S symbols free scope t v a) }
+{}
+
+/// A well-typed side has its polynomial as its normal form.
+pub fn sides_have_normal_forms()
+    ensures { (S : Symbols) (M : List Declared) (symbols : List Interpretation) (t : Tm) (a : Ty) → Interprets S symbols → Typed S M [] t a → NoFree t → IsNormOfSide symbols M t (side_polynomial symbols M t) }
 {}

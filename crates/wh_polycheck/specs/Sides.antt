@@ -1,13 +1,17 @@
--- Sides of rules as expressions, and rules that are covered.
+-- Sides of rules and of pairs as expressions in the scope of their meta-variables, and what it is that they are covered.
 use Rattle.std.specs.Prelude.{ℕ, suc, ◌-◌, List, [], ◌∷◌, ◌++◌, length, ◌≡◌, Some, slice_get, Contains}
-use Rattle.wh_types.specs.Ty.{Ty}
+use Rattle.wh_types.specs.Ty.{Ty, ◌⇒◌}
 use Rattle.wh_terms.specs.Tree.{Tm, bound, free, fun, meta, lam, app, Tms, none, more}
 use Rattle.wh_terms.specs.Typing.{Symbols, Declared}
 use Rattle.wh_terms.specs.Rules.{RewriteRule}
 use Rattle.wh_hopoly.specs.Polynomials.{Polynomial}
-use Rattle.wh_hopoly.specs.Evaluation.{Expression, var, symbol, lambda, apply, Interpretation, evaluate}
-use Rattle.wh_meaning.specs.TermValues.{arrows}
-use Rattle.wh_meaning.specs.Moves.{Transfer, IsCover}
+use Rattle.wh_hopoly.specs.Evaluation.{Expression, var, symbol, lambda, apply, Interpretation, evaluate, Norm, Values}
+use Rattle.wh_hopoly.specs.Moves.{Transfer, IsCover}
+
+-- the type of functions of arguments of the types, in order, to the last one (Kop 2012)
+abbrev pub arrows : List Ty → Ty → Ty
+arrows [] a = a
+arrows (c ∷ cs) a = c ⇒ arrows cs a
 
 -- the types of meta-variables, each a function of its arguments (ours)
 abbrev pub types_of_metas : List Declared → List Ty
@@ -36,9 +40,21 @@ abbrev mutual
   side_applied n e none = e
   side_applied n e (more t ts) = side_applied n (apply e (side n t)) ts
 
+-- a side of a rule as an expression (ours)
+abbrev pub side_expression : List Declared → Tm → Expression
+side_expression M t = side (length (types_of_metas M)) t
+
+-- a marked side as an expression: the marked symbol, whose number is k, applied to the arguments (ours)
+abbrev pub marked_expression : List Declared → ℕ → Tms → Expression
+marked_expression M k ts = side_applied (length (types_of_metas M)) (symbol k) ts
+
 -- the polynomial of a side in the scope of its meta-variables and of its type's arguments (Fuhs and Kop 2012)
 abbrev pub side_polynomial : List Interpretation → List Declared → Tm → Polynomial
-side_polynomial symbols M t = (evaluate symbols (types_of_metas M) (side (length (types_of_metas M)) t)).result
+side_polynomial symbols M t = (evaluate symbols (types_of_metas M) (side_expression M t)).result
+
+-- and that of a marked side in the scope of its meta-variables (Fuhs and Kop 2012)
+abbrev pub call_polynomial : List Interpretation → List Declared → ℕ → Tms → Polynomial
+call_polynomial symbols M k ts = (evaluate symbols (types_of_metas M) (marked_expression M k ts)).result
 
 -- the symbol has an interpretation of this type (Fuhs and Kop 2012)
 abbrev pub IsInterpretedAs : List Interpretation → ℕ → Ty → Type 0
@@ -56,3 +72,10 @@ RuleIsCovered symbols r =
 -- so it is for every rule
 abbrev pub RulesAreCovered : List Interpretation → List RewriteRule → Type 0
 RulesAreCovered symbols rules = (r : RewriteRule) → Contains rules r → RuleIsCovered symbols r
+
+-- p is the normal form of a side (Fuhs and Kop 2012), and w one of the values on the way to it (ours)
+abbrev pub IsNormOfSide : List Interpretation → List Declared → Tm → Polynomial → Type 0
+IsNormOfSide symbols M t p = Norm symbols (types_of_metas M) (side_expression M t) p
+
+abbrev pub IsValueOfSide : List Interpretation → List Declared → Tm → Polynomial → Type 0
+IsValueOfSide symbols M t w = Values symbols (types_of_metas M) (side_expression M t) w
