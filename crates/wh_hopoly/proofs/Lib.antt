@@ -15,3 +15,4 @@ pub mod Pushes
 pub mod MergeWalk
 pub mod CoefficientLaws
 pub mod PartLaws
+pub mod WeightLaws

@@ -11,6 +11,7 @@ mod normality;
 mod polynomial;
 mod scope;
 mod sums;
+mod weighing;
 
 pub use comparing::{order, order_arguments, order_factors};
 pub use copying::{copy, copy_arguments, copy_factors};
@@ -26,3 +27,4 @@ pub use laws::{
 pub use normality::is_normal;
 pub use polynomial::{Atom, Atoms, Monomial, Poly, Polys};
 pub use sums::sum;
+pub use weighing::{weigh, weigh_arguments, weigh_factors};
