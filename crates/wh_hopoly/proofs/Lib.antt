@@ -16,3 +16,7 @@ pub mod MergeWalk
 pub mod CoefficientLaws
 pub mod PartLaws
 pub mod WeightLaws
+pub mod OrderedLaws
+pub mod TotalLaws
+pub mod RenumberLaws
+pub mod FaultLaws

@@ -6,4 +6,6 @@ pub mod Covers
 pub mod Parts
 pub mod Erase
 pub mod Excesses
+pub mod Merges
+pub mod Totals
 pub mod Scopes

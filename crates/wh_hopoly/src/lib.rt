@@ -7,10 +7,13 @@ mod covers;
 mod excess;
 mod expression;
 mod laws;
+mod limits;
 mod normality;
 mod polynomial;
+mod renumbering;
 mod scope;
 mod sums;
+mod totals;
 mod weighing;
 
 pub use comparing::{order, order_arguments, order_factors};
@@ -24,7 +27,10 @@ pub use laws::{
     rows_of_products_exceed_in_them, sums_are_normal, sums_associate, sums_commute,
     values_are_normal, values_are_those_of_the_parts,
 };
+pub use limits::check_limits;
 pub use normality::is_normal;
 pub use polynomial::{Atom, Atoms, Monomial, Poly, Polys};
+pub use renumbering::{raise, raise_arguments, raise_factors};
 pub use sums::sum;
+pub use totals::Total;
 pub use weighing::{weigh, weigh_arguments, weigh_factors};
