@@ -17,13 +17,13 @@ because_so (Ok x) P Q f h = tt
 because_so (Err NoMemory) P Q f h = tt
 because_so (Err (Because e)) P Q f h = f e h
 
--- the cause of a callee in a result of another type
-pub passed_on : {T : Type 0} (U : Type 0) (r : Result T (Or Excess)) (e : Or Excess) (P Q : Excess → Type 0) → IsErrAnd r (λ x. x ≡ e) → IfBecause {T = U} {E = Excess} (Err e) P
+-- the cause of the callee's result s in a result of another type
+pub passed_on : {T U : Type 0} (s : Result U (Or Excess)) (r : Result T (Or Excess)) (e : Or Excess) (P Q : Excess → Type 0) → IsErrAnd r (λ x. x ≡ e) → IfBecause {T = U} {E = Excess} (Err e) P
     → ((x : Excess) → P x → Q x) → IfBecause r Q
-passed_on U (Ok x) e P Q same h f = tt
-passed_on U (Err NoMemory) e P Q same h f = tt
-passed_on U (Err (Because x)) NoMemory P Q same h f = absurd (cc)
-passed_on U (Err (Because x)) (Because y) P Q same h f = f x (subst P (sym (because_one same)) h)
+passed_on s (Ok x) e P Q same h f = tt
+passed_on s (Err NoMemory) e P Q same h f = tt
+passed_on s (Err (Because x)) NoMemory P Q same h f = absurd (cc)
+passed_on s (Err (Because x)) (Because y) P Q same h f = f x (subst P (sym (because_one same)) h)
   where
     because_one : Because x ≡ Because y → x ≡ y
     because_one e = cc

@@ -17,6 +17,8 @@ pub mod CoefficientLaws
 pub mod PartLaws
 pub mod WeightLaws
 pub mod OrderedLaws
+pub mod JoinLaws
 pub mod TotalLaws
+pub mod ProductWalk
 pub mod RenumberLaws
 pub mod FaultLaws

@@ -10,6 +10,7 @@ mod laws;
 mod limits;
 mod normality;
 mod polynomial;
+mod products;
 mod renumbering;
 mod scope;
 mod sums;
@@ -30,6 +31,7 @@ pub use laws::{
 pub use limits::check_limits;
 pub use normality::is_normal;
 pub use polynomial::{Atom, Atoms, Monomial, Poly, Polys};
+pub use products::product;
 pub use renumbering::{raise, raise_arguments, raise_factors};
 pub use sums::sum;
 pub use totals::Total;

@@ -1,11 +1,9 @@
 -- Step by step.
-use Rattle.std.specs.Prelude.{Option}
 use Rattle.std.proofs.Common.{subst}
 use Rattle.wh_hopoly.specs.Arithmetic.{sum_poly}
 use Rattle.wh_hopoly.specs.Excesses.{ExceedsAs}
 use Rattle.wh_hopoly.specs.Merges.{FirstOfSum}
 use Rattle.wh_hopoly.specs.Erase.{poly, monomials, sum_of}
-use Rattle.wh_hopoly.specs.declared.polynomial.Monomial.{Monomial}
 use Rattle.wh_hopoly.proofs.FaultLaws.{passed_on}
 use Rattle.wh_hopoly.proofs.MergeWalk.{merging_starts, merging_steps, merging_ends, merging_exceeds}
 use Rattle.wh_hopoly.proofs.sums.merge.Goals as goal
@@ -22,7 +20,7 @@ loop-ys-preserved c =
 
 pub returns-in_err-item-clause-fault : goal.returns-in_err-item-clause-fault
 returns-in_err-item-clause-fault c =
-    passed_on (Option Monomial) c.from_residual-in_err-item.result c.in_err-item.field-0.0 (λ e. ExceedsAs e (sum_poly (sum_of c.loop-ys.xs.items) (sum_of c.loop-ys.ys.items)))
+    passed_on c.next_of_sum.result c.from_residual-in_err-item.result c.in_err-item.field-0.0 (λ e. ExceedsAs e (sum_poly (sum_of c.loop-ys.xs.items) (sum_of c.loop-ys.ys.items)))
     (λ e. ExceedsAs e (sum_poly (poly c.args.a) (poly c.args.b))) c.from_residual-in_err-item.ensures.1 c.in_err-item.ensures.fault
     (λ e h. merging_exceeds e (sum_poly (poly c.args.a) (poly c.args.b)) (monomials c.loop-ys.out) c.loop-ys.xs.items c.loop-ys.ys.items c.loop-ys.invariant h)
 
