@@ -22,3 +22,4 @@ pub mod TotalLaws
 pub mod ProductWalk
 pub mod RenumberLaws
 pub mod FaultLaws
+pub mod AddedLaws

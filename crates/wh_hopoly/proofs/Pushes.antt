@@ -6,8 +6,9 @@ use Rattle.wh_hopoly.specs.Arithmetic.{followed_by}
 use Rattle.wh_hopoly.specs.declared.polynomial.Poly.{Poly}
 use Rattle.wh_hopoly.specs.declared.polynomial.Monomial.{Monomial, out-Monomial}
 use Rattle.wh_hopoly.specs.declared.polynomial.Atom.{Atom, out-Atom}
-use Rattle.wh_hopoly.proofs.Lists.{poly_is}
-use Rattle.wh_hopoly.specs.Erase.{poly, atoms, polys, monomials, sum_of, product_of, arguments_of}
+use Rattle.wh_hopoly.specs.declared.polynomial.Atoms.{Atoms}
+use Rattle.wh_hopoly.proofs.Lists.{poly_is, atoms_is}
+use Rattle.wh_hopoly.specs.Erase.{poly, atoms, polys, monomials, factors, sum_of, product_of, arguments_of}
 
 -- the items of one list, and then those of another
 abbrev pub factors_followed_by : Factors → Factors → Factors
@@ -49,6 +50,10 @@ arguments_one_more xs i p h e = ap arguments_of (one_more xs i p h e) ∙ argume
 pub single_push : (p : Poly) (old : List Monomial) (m : Monomial) (c : ℕ) (us : Factors) → old ≡ [] → monomials p ≡ old ++ m ∷ [] → (out-Monomial m).coefficient ≡ c → atoms (out-Monomial m).atoms ≡ us
     → poly p ≡ plus c us zero_poly
 single_push p old m c us e k ec eu = poly_is p ∙ ap sum_of k ∙ ap (λ xs. sum_of (xs ++ m ∷ [])) e ∙ ap₂ (λ c us. plus c us zero_poly) ec eu
+
+pub single_factor_push : (us : Atoms) (old : List Atom) (u : Atom) (x : ℕ) (ps : Arguments) → old ≡ [] → factors us ≡ old ++ u ∷ [] → (out-Atom u).head ≡ x → polys (out-Atom u).args ≡ ps
+    → atoms us ≡ times x ps no_factors
+single_factor_push us old u x ps e k ex ep = atoms_is us ∙ ap product_of k ∙ ap (λ xs. product_of (xs ++ u ∷ [])) e ∙ ap₂ (λ x ps. times x ps no_factors) ex ep
 
 pub sum_push : (out new xs : List Monomial) (i : ℕ) (r m : Monomial) → sum_of out ≡ sum_of (take i xs) → new ≡ out ++ r ∷ []
     → (out-Monomial r).coefficient ≡ (out-Monomial m).coefficient → atoms (out-Monomial r).atoms ≡ atoms (out-Monomial m).atoms

@@ -8,4 +8,5 @@ pub mod Erase
 pub mod Excesses
 pub mod Merges
 pub mod Totals
+pub mod Added
 pub mod Scopes

@@ -15,6 +15,7 @@ mod renumbering;
 mod scope;
 mod sums;
 mod totals;
+mod variables;
 mod weighing;
 
 pub use comparing::{order, order_arguments, order_factors};
@@ -35,4 +36,5 @@ pub use products::product;
 pub use renumbering::{raise, raise_arguments, raise_factors};
 pub use sums::sum;
 pub use totals::Total;
+pub use variables::{one_factor, variable};
 pub use weighing::{weigh, weigh_arguments, weigh_factors};

@@ -9,8 +9,10 @@ use crate::excess::Excess;
 use crate::polynomial::Poly;
 use crate::weighing::weigh;
 
-const MAX_WEIGHT: u32 = 65_536;
-const MAX_NESTING: u32 = 400;
+/// The greatest weight of a value.
+pub const MAX_WEIGHT: u32 = 65_536;
+/// How deep its arguments may nest.
+pub const MAX_NESTING: u32 = 400;
 
 /// Whether the value is within the limits, or the limit that it exceeds.
 pub fn check_limits(p: &Poly) -> Result<(), Excess>
