@@ -1,10 +1,10 @@
 -- A merge of two sorted polynomials: each step gives the first monomial of the sum.
-use Rattle.std.proofs.Common.{◌≡◌, ℕ, ◌+◌, ◌<◌, ◌≤◌, ◌^◌, inl, inr, List, [], ◌∷◌, ◌++◌, refl, ap, ap₂, sym, subst, ◌∙◌, arith, length, drop, get_or, Less, Equal, Greater}
+use Rattle.std.proofs.Common.{◌≡◌, ◌<◌, ◌≤◌, inl, inr, List, [], ◌∷◌, ◌++◌, refl, ap, ap₂, sym, subst, ◌∙◌, arith, length, drop, get_or, Less, Equal, Greater}
 use Rattle.std.specs.Prelude.{Option, Some, None}
 use mathlib.Core.Path.{subst₂}
 use Rattle.wh_hopoly.specs.Polynomials.{Polynomial, zero_poly, plus, Factors, compare_factors, Sorted}
-use Rattle.wh_hopoly.specs.Arithmetic.{add_monomial, sum_poly, followed_by}
-use Rattle.wh_hopoly.specs.Limits.{weight, nesting, Overflows, TooLarge}
+use Rattle.wh_hopoly.specs.Arithmetic.{sum_poly, followed_by}
+use Rattle.wh_hopoly.specs.Limits.{weight, nesting, Overflows}
 use Rattle.wh_hopoly.specs.Excesses.{ExceedsAs}
 use Rattle.wh_hopoly.specs.declared.excess.Excess.{Excess}
 use Rattle.wh_hopoly.specs.declared.excess.Excess.TheVariants as excess
@@ -85,9 +85,12 @@ next_is_both xs ys left right x y m ex ey o s (a, b, ea, eb, ec, ef) =
     let j : y ≡ b = ey ∙ ap (λ ys. get_or ys 0 y) eb in
     let k : compare_factors (factors_of a) (factors_of b) ≡ Equal = subst₂ (λ x y. compare_factors (factors_of x) (factors_of y) ≡ Equal) i j o in
     let t : Sorted (sum_of (a ∷ left)) = subst (λ xs. Sorted (sum_of xs)) ea s in
-    subst₂ (λ xs ys. FirstOfSum xs ys left right (Some m)) (sym ea) (sym eb)
-    (sum_equal (out-Monomial a).coefficient (out-Monomial b).coefficient (factors_of a) (factors_of b) (sum_of left) (sum_of right) k t.0 t.1
-    ∙ ap₂ (λ c us. plus c us (sum_poly (sum_of left) (sum_of right))) (sym ec) (sym ef), t.1, omega arith)
+    subst₂ (λ xs ys. FirstOfSum xs ys left right (Some m)) (sym ea) (sym eb) (
+      sum_equal (out-Monomial a).coefficient (out-Monomial b).coefficient (factors_of a) (factors_of b) (sum_of left) (sum_of right) k t.0 t.1
+          ∙ ap₂ (λ c us. plus c us (sum_poly (sum_of left) (sum_of right))) (sym ec) (sym ef),
+      t.1,
+      omega arith,
+    )
 
 pub both_overflow : (xs ys : List Monomial) (x y : Monomial) → x ≡ get_or xs 0 x → y ≡ get_or ys 0 y → compare_factors (factors_of x) (factors_of y) ≡ Equal → Sorted (sum_of xs)
     → FirstOverflows xs ys → Overflows (sum_poly (sum_of xs) (sum_of ys))

@@ -1,5 +1,5 @@
 -- Sums and products of polynomials in order, whatever their scopes.
-use Rattle.std.proofs.Common.{◌≡◌, ℕ, ◌+◌, ◌*◌, ◌≤◌, inl, inr, List, refl, sym, subst, arith, Ordering, Less, Equal, Greater, nat_cmp}
+use Rattle.std.proofs.Common.{◌≡◌, ℕ, ◌+◌, ◌*◌, ◌≤◌, List, refl, subst, arith, Ordering, Less, Equal, Greater, nat_cmp}
 use Rattle.std.specs.Ordering.{ordering_then}
 use Rattle.wh_types.specs.Ty.{Ty}
 use Rattle.wh_hopoly.specs.Polynomials.{Polynomial, zero_poly, plus, Factors, no_factors, times, Arguments, compare_factors, compare_arguments, Sorted, OrderedFactors, Ordered, Normal, NormalFactors}

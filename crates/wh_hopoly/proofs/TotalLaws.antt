@@ -1,5 +1,5 @@
 -- A sum of many polynomials does not depend on which are added first.
-use Rattle.std.proofs.Common.{◌≡◌, ℕ, ◌+◌, ◌-◌, ◌≤◌, inl, inr, List, [], ◌∷◌, ◌++◌, refl, ap, sym, subst, ◌∙◌, arith, length, length-append}
+use Rattle.std.proofs.Common.{◌≡◌, ◌-◌, ◌≤◌, inl, inr, List, [], ◌∷◌, ◌++◌, refl, ap, sym, subst, ◌∙◌, arith, length, length-append}
 use Rattle.wh_hopoly.specs.Polynomials.{Polynomial, zero_poly, plus, Ordered}
 use Rattle.wh_hopoly.specs.Arithmetic.{add_monomial, sum_poly}
 use Rattle.wh_hopoly.specs.Limits.{Exceeds}

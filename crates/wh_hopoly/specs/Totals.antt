@@ -1,5 +1,5 @@
 -- What a sum of many polynomials has come to.
-use Rattle.std.specs.Prelude.{ℕ, ◌≡◌, ◌-◌, List, [], ◌∷◌, length}
+use Rattle.std.specs.Prelude.{◌≡◌, ◌-◌, List, [], ◌∷◌, length}
 use Rattle.wh_hopoly.specs.Polynomials.{Polynomial, zero_poly, Ordered}
 use Rattle.wh_hopoly.specs.Arithmetic.{sum_poly}
 use Rattle.wh_hopoly.specs.Limits.{Exceeds}

@@ -47,7 +47,10 @@ fn merge(alloc: Global, a: Poly, b: Poly) -> Result<Poly, Or<Excess>>
 }
 
 // The first monomial of the sum leaves the queues, if there is one.
-fn next_of_sum(xs: &mut VecDeque<Monomial>, ys: &mut VecDeque<Monomial>) -> Result<Option<Monomial>, Or<Excess>>
+fn next_of_sum(
+    xs: &mut VecDeque<Monomial>,
+    ys: &mut VecDeque<Monomial>,
+) -> Result<Option<Monomial>, Or<Excess>>
     requires left { Sorted (sum_of xs.old.items) }
     ensures ok { IfOk result (λ first. FirstOfSum xs.old.items ys.old.items xs.new.items ys.new.items first) }
     ensures fault { IfBecause result (λ e. ExceedsAs e (sum_poly (sum_of xs.old.items) (sum_of ys.old.items))) }

@@ -1,8 +1,7 @@
 -- The coefficient at hand fits its type, and the rest is left.
-use Rattle.std.proofs.Common.{◌≡◌, ℕ, ◌+◌, ◌<◌, ◌^◌, ◌⊎◌, inl, inr, List, ap, sym, subst, ◌∙◌, arith, length, drop, get_or}
-use Rattle.wh_hopoly.specs.Polynomials.{Polynomial, plus}
+use Rattle.std.proofs.Common.{◌≡◌, ℕ, ◌+◌, ◌<◌, ◌^◌, inl, inr, List, ap, sym, subst, ◌∙◌, arith, length, drop, get_or}
 use Rattle.wh_hopoly.specs.Limits.{Overflows}
-use Rattle.wh_hopoly.specs.Erase.{atoms, sum_of}
+use Rattle.wh_hopoly.specs.Erase.{sum_of}
 use Rattle.wh_hopoly.specs.declared.polynomial.Monomial.{Monomial, out-Monomial}
 use Rattle.wh_hopoly.proofs.Lists.{poly_is}
 use Rattle.wh_hopoly.proofs.Walks.{sum_drop, sum_ended}

@@ -1,11 +1,11 @@
 -- One variable more is made.
-use Rattle.std.proofs.Common.{rules, ◌≡◌, suc, ◌+◌, ◌≤◌, ap, ap₂, sym, subst, ◌∙◌, arith, length}
+use Rattle.std.proofs.Common.{rules, ◌≡◌, suc, ◌+◌, ap, ap₂, sym, subst, ◌∙◌, arith, length}
 use Rattle.wh_types.specs.Erase.{ty}
 use Rattle.wh_types.specs.Ty.{◌⇒◌, arguments}
 use Rattle.wh_hopoly.specs.Arithmetic.{atom}
 use Rattle.wh_hopoly.specs.Evaluation.{added}
 use Rattle.wh_hopoly.specs.Added.{added_weight}
-use Rattle.wh_hopoly.specs.Erase.{poly, polys, list}
+use Rattle.wh_hopoly.specs.Erase.{poly, list}
 use Rattle.wh_hopoly.proofs.AddedLaws.{Adding, adding_steps, adding_ends}
 use Rattle.wh_hopoly.proofs.variables.+added.Goals as goal
 
@@ -20,8 +20,8 @@ loop-here-preserved t c =
     let more : c.in_ok-x.x ≡ c.loop-here.x + 1 = search rules in
     let after : suc c.loop-here.x ≡ c.in_ok-x.x = omega (arith, more) in
     let made : poly c.in_ok-one_factor.field-0 ≡ atom c.loop-here.x (added A (n + length (arguments A)) n) =
-        c.in_ok-one_factor.ensures ∙ ap (atom c.loop-here.x) (c.in_ok-args.ensures
-        ∙ ap₂ (λ A m. added A m n) (ap ty c.deref-in-Arrow.ensures) (c.in_ok-inner.ensures ∙ ap (λ kind. n + length (arguments (ty kind))) c.deref.ensures)) in
+    c.in_ok-one_factor.ensures ∙ ap (atom c.loop-here.x) (c.in_ok-args.ensures
+    ∙ ap₂ (λ A m. added A m n) (ap ty c.deref-in-Arrow.ensures) (c.in_ok-inner.ensures ∙ ap (λ kind. n + length (arguments (ty kind))) c.deref.ensures)) in
     record {
       adding = subst (λ B. Adding whole (list c.push.new.self) B n c.in_ok-x.x) (sym rest)
           (subst (Adding whole (list c.push.new.self) B n) after

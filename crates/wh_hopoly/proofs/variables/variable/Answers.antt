@@ -1,8 +1,6 @@
 -- What is added was weighed before.
-use Rattle.std.specs.Prelude.{MatchOption, is_some}
-use Rattle.std.proofs.Common.{rules, ◌≡◌, ◌+◌, ◌<◌, ◌≤◌, ◌⊎◌, ap, ap₂, sym, subst, ◌∙◌, length}
+use Rattle.std.proofs.Common.{rules, ◌≡◌, ◌<◌, ◌≤◌, ◌⊎◌, ap, subst, ◌∙◌}
 use Rattle.wh_types.specs.Erase.{ty}
-use Rattle.wh_types.specs.Ty.{arguments}
 use Rattle.wh_hopoly.specs.Arithmetic.{atom}
 use Rattle.wh_hopoly.specs.Evaluation.{added, variable}
 use Rattle.wh_hopoly.specs.Limits.{Exceeds}
@@ -20,6 +18,6 @@ pub returns-clause-ok : goal.returns-clause-ok
 returns-clause-ok c =
     let A = ty c.args.kind.now in
     let same : poly c.in_ok-value.value ≡ variable A c.args.count c.args.x =
-        c.in_ok-value.ensures ∙ ap (atom c.args.x) (c.in_ok-args.ensures ∙ ap (λ m. added A m c.args.count) c.in_ok-inner.ensures) in
+    c.in_ok-value.ensures ∙ ap (atom c.args.x) (c.in_ok-args.ensures ∙ ap (λ m. added A m c.args.count) c.in_ok-inner.ensures) in
     let within : (added_weight A ≤ 65534) × (added_nesting A ≤ 400) = search rules in
     (same, λ h. weighed_is_within A c.args.count c.args.x within.0 within.1 (subst Exceeds same h))
