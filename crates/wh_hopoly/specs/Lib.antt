@@ -7,4 +7,7 @@ pub mod Moves
 pub mod Parts
 pub mod Erase
 pub mod Excesses
+pub mod Merges
+pub mod Totals
+pub mod Added
 pub mod Scopes
