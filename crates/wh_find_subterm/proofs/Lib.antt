@@ -10,3 +10,7 @@ pub mod Models
 pub mod Values
 pub mod Back
 pub mod Only
+pub mod RowsMade
+pub mod ReadLemmas
+pub mod BelowSets
+pub mod Answering

@@ -4,3 +4,4 @@ pub mod Clauses
 pub mod Formula
 pub mod Reading
 pub mod Laws
+pub mod Found

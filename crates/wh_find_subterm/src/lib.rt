@@ -3,8 +3,11 @@
 
 mod cases;
 mod clauses;
+mod find;
 mod formula;
 mod laws;
+mod reading;
 mod rows;
 
+pub use find::{ProjectionFound, find_projection};
 pub use laws::{formula_is_one, models_are_projections, projections_are_models};
