@@ -1,7 +1,7 @@
 -- What the solver ends with, as an answer of the search.
-use Rattle.std.proofs.Common.{◌≡◌, ℕ, ◌<◌, Bool, false, List, length, get_or, map, All, refl, sym, ap, subst, ◌∙◌}
+use Rattle.std.proofs.Common.{◌≡◌, ℕ, ◌<◌, Bool, List, length, All, sym, ap, subst, ◌∙◌}
 use Rattle.wh_terms.specs.Rules.{RewriteRule}
-use Rattle.wh_system.specs.PairData.{PairData, IsIncreasing}
+use Rattle.wh_system.specs.PairData.{PairData}
 use Rattle.wh_system.proofs.Increasing.{one_place}
 use Rattle.wh_sat_trail.specs.declared.literal.Literal.{Literal}
 use Rattle.wh_sat.specs.Learning.{Learnt}
@@ -31,7 +31,7 @@ found_answer {rules = rules} {fs = fs} pairs set n clauses v args drop within ro
     let all : IsBelowSet pairs set by (length set) drop = subst (λ cs. IsBelowSet pairs set cs (length set) drop) same gathered in
     let (m, has, below) = some_picked rules pairs set fs v model within in
     let projection = projection_from rules pairs set fs v drop model within (drops_some pairs set by drop all m has below) (λ i j k left right. one_place drop i j k gathered.in_order left right)
-      (drops_within pairs set by drop all) (drops_below pairs set by drop all) in
+    (drops_within pairs set by drop all) (drops_below pairs set by drop all) in
     (subst (λ cs. IsProjection rules pairs set cs drop) (sym same) projection, drops_all pairs set args drop gathered)
 
 pub nothing_answer : (rules : List RewriteRule) (pairs : List PairData) (set : List ℕ) (n : ℕ) (clauses : List (List Literal)) → All (λ k. k < length pairs) set

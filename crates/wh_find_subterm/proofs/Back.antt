@@ -1,9 +1,9 @@
 -- A projection that drops a pair is said by a model of the formula.
-use Rattle.std.proofs.Common.{◌≡◌, ◌↔◌, ℕ, ◌+◌, ◌-◌, ◌<◌, ◌≤◌, ◌⊎◌, inl, inr, Bool, true, List, [], ◌∷◌, length, get_or, All, Contains, Some, slice_get, refl, sym, ap, subst, ◌∙◌, arith}
+use Rattle.std.proofs.Common.{◌≡◌, ◌↔◌, ℕ, ◌+◌, ◌-◌, ◌<◌, ◌⊎◌, inl, inr, Bool, true, List, [], ◌∷◌, length, get_or, All, Contains, Some, slice_get, refl, sym, ap, subst, ◌∙◌, arith}
 use Rattle.std.proofs.lemmas.Option.{get_or_from_slice_get, slice_get_within}
 use Rattle.wh_terms.specs.Rules.{RewriteRule}
 use Rattle.wh_system.specs.PairData.{PairData, IsIncreasing}
-use Rattle.wh_system.proofs.ByPlace.{contains_at, place_of, some_one, unmap}
+use Rattle.wh_system.proofs.ByPlace.{contains_at, place_of, unmap}
 use Rattle.wh_sat_trail.specs.declared.literal.Literal.{Literal}
 use Rattle.wh_sat.specs.Solving.{clause_true}
 use Rattle.wh_subterm.specs.Projections.{Chosen}
@@ -15,17 +15,17 @@ use Rattle.wh_subterm.proofs.ChoiceLemmas.{one_choice}
 use Rattle.wh_find_subterm.specs.declared.rows.Row.{Row}
 use Rattle.wh_find_subterm.specs.declared.cases.Case.{Case}
 use Rattle.wh_find_subterm.specs.Rows.{choices_of, end_from, or_zero, row_of, rows_from}
-use Rattle.wh_find_subterm.specs.Cases.{AreCases, IsCase, Spot, pair_at, spots}
-use Rattle.wh_find_subterm.specs.Clauses.{for_neither, for_not_below, fourth, not_both, one_chosen, only_one_chosen, some_of, third}
+use Rattle.wh_find_subterm.specs.Cases.{AreCases, Spot, pair_at, spots}
+use Rattle.wh_find_subterm.specs.Clauses.{for_neither, for_not_below, one_chosen, only_one_chosen, some_of}
 use Rattle.wh_find_subterm.specs.Formula.{IsProjections}
-use Rattle.wh_find_subterm.specs.Laws.{ProjectionsAreModels, Says}
-use Rattle.wh_find_subterm.proofs.Members.{In, contains_in, in_contains, place_in}
+use Rattle.wh_find_subterm.specs.Laws.{ProjectionsAreModels}
+use Rattle.wh_find_subterm.proofs.Members.{In, contains_in, in_contains}
 use Rattle.wh_find_subterm.proofs.Truth.{both_when, some_by, three_when, two_from}
 use Rattle.wh_find_subterm.proofs.RowLemmas.{row_is, row_need}
 use Rattle.wh_find_subterm.proofs.SpotLemmas.{left_row, right_row, spot_from, spot_of}
 use Rattle.wh_find_subterm.proofs.Facts.{AreTrue, solves_from}
 use Rattle.wh_find_subterm.proofs.Chosen.{below_at, choice, equal_at, not_both_at, read_pair}
-use Rattle.wh_find_subterm.proofs.Values.{chosen_in, chosen_with, in_chosen, in_member, is_chosen, is_member, member_in, row_only, value_of, value_pair, value_symbol}
+use Rattle.wh_find_subterm.proofs.Values.{chosen_in, chosen_with, in_chosen, in_member, is_member, member_in, row_only, value_of, value_pair, value_symbol}
 
 -- a projection of a set of pairs whose marked symbols are listed
 pub record Projects (rules : List RewriteRule) (pairs : List PairData) (set fs : List ℕ) (args : List Chosen) (drop : List ℕ) : Type 0 where
@@ -80,10 +80,10 @@ only_true rules pairs set fs args drop p r c is at =
     let less = two.less in
     let moved = λ (i : ℕ). ap (λ (s : Row). v (s.first + i)) (row_only rules 0 fs r p.rising is) in
     let never : v (r.first + two.left) ≡ true → v (r.first + two.right) ≡ true → ⊥ = λ left right.
-      let here = (symbol_value rules args drop set fs r.symbol two.left row.symbol (omega (arith, inside, less, need))).0 (moved two.left ∙ left) in
-      let there = (symbol_value rules args drop set fs r.symbol two.right row.symbol (omega (arith, inside, need))).0 (moved two.right ∙ right) in
-      let same = one_choice args r.symbol (two.left + 1) (two.right + 1) (up_in p) here there in
-      omega (arith, same, less) in
+    let here = (symbol_value rules args drop set fs r.symbol two.left row.symbol (omega (arith, inside, less, need))).0 (moved two.left ∙ left) in
+    let there = (symbol_value rules args drop set fs r.symbol two.right row.symbol (omega (arith, inside, need))).0 (moved two.right ∙ right) in
+    let same = one_choice args r.symbol (two.left + 1) (two.right + 1) (up_in p) here there in
+    omega (arith, same, less) in
     subst (λ d. clause_true v d ≡ true) (sym two.is) (both_when v (r.first + two.left) (r.first + two.right) never)
 
 -- what is true of a case, by its relation
@@ -150,9 +150,9 @@ under_case rules pairs set fs args drop p cases are d is =
         | inr below ↦ inr (below_at args a i j (up_in p) (left_in left) (right_in right) below)
       ];
       drops = λ left right own.
-        let member = sym (value_pair rules args drop set fs at.place) ∙ (ap v (sym own_is) ∙ own) in
-        let in_drop = subst (λ m. In m drop) (get_or_from_slice_get set at.place n 0 at.at) (member_in drop (get_or set at.place 0) member) in
-        below_at args a i j (up_in p) (left_in left) (right_in right) (p.projection.below n a (in_contains drop n in_drop) read);
+          let member = sym (value_pair rules args drop set fs at.place) ∙ (ap v (sym own_is) ∙ own) in
+          let in_drop = subst (λ m. In m drop) (get_or_from_slice_get set at.place n 0 at.at) (member_in drop (get_or set at.place 0) member) in
+          below_at args a i j (up_in p) (left_in left) (right_in right) (p.projection.below n a (in_contains drop n in_drop) read);
     }
 
 first_of : (drop : List ℕ) → (drop ≡ [] → ⊥) → (n : ℕ) × Contains drop n
@@ -191,8 +191,8 @@ projects_from rules pairs set n clauses args drop within formula projection =
     let fs = formula.symbols in
     let marked = formula.marked in
     let read : (m : ℕ) → Contains set m → slice_get pairs m ≡ Some (pair_at pairs m) = λ m has.
-      let at = place_of set m has in
-      read_pair pairs m (subst (λ q. q < length pairs) (get_or_from_slice_get set at.0 m 0 at.1) (within at.0 0 (slice_get_within set at.0 m at.1))) in
+    let at = place_of set m has in
+    read_pair pairs m (subst (λ q. q < length pairs) (get_or_from_slice_get set at.0 m 0 at.1) (within at.0 0 (slice_get_within set at.0 m at.1))) in
     record {
       within = within;
       rising = marked.in_order;
@@ -210,8 +210,7 @@ projections_are_models rules pairs set n clauses args drop within formula projec
     let p = projects_from rules pairs set n clauses args drop within formula projection in
     let v = value_of rules args drop set fs in
     let rows = rows_from rules 0 fs in
-    let end = end_from rules 0 fs in
-    (
+    let end = end_from rules 0 fs in (
       v,
       solves_from v rows formula.formula.cases end (length set) clauses formula.formula.are_clauses (all_true rules pairs set fs args drop p formula.formula.cases formula.formula.are_cases),
       λ f i has less. symbol_value rules args drop set fs f i (contains_in fs f has) less,

@@ -1,5 +1,5 @@
 -- The pairs of a set that are below, gathered in order.
-use Rattle.std.proofs.Common.{◌≡◌, ◌≢◌, ℕ, ◌+◌, ◌<◌, ◌≤◌, inl, inr, List, [], ◌∷◌, ◌++◌, length, get_or, All, Contains, Some, slice_get, refl, sym, ap, subst, ◌∙◌, arith}
+use Rattle.std.proofs.Common.{◌≡◌, ◌≢◌, ℕ, ◌+◌, ◌<◌, ◌≤◌, inl, inr, List, [], ◌∷◌, ◌++◌, length, get_or, All, Contains, Some, slice_get, sym, ap, subst, ◌∙◌, arith}
 use Rattle.std.proofs.lemmas.Option.{get_or_from_slice_get, slice_get_within}
 use Rattle.wh_system.specs.PairData.{PairData, IsIncreasing}
 use Rattle.wh_system.proofs.ByPlace.{contains_at, place_of, same_or_below, some_one}
@@ -9,7 +9,7 @@ use Rattle.wh_subterm.specs.Projections.{Below, Chosen}
 use Rattle.wh_find_subterm.specs.Cases.{pair_at}
 use Rattle.wh_find_subterm.specs.Found.{DropsAllBelow}
 use Rattle.wh_find_subterm.specs.Reading.{IsBelowSet}
-use Rattle.wh_find_subterm.proofs.Members.{In, contains_in, in_contains, in_either, in_left, in_right, place_in}
+use Rattle.wh_find_subterm.proofs.Members.{contains_in, in_contains, in_either, in_left, in_right, place_in}
 use Rattle.wh_find_subterm.proofs.Chosen.{pair_is}
 
 pub below_none : (pairs : List PairData) (set : List ℕ) (args : List Chosen) → IsBelowSet pairs set args 0 []
@@ -32,7 +32,7 @@ pub below_more : (pairs : List PairData) (set : List ℕ) (args : List Chosen) (
     → IsBelowSet pairs set args (i + 1) (drop ++ n ∷ [])
 below_more pairs set args i n drop before up at below = record {
   in_order = increasing_push drop n before.in_order
-    (subst (λ m. All (λ (k : ℕ). k < m) drop) (get_or_from_slice_get set i n 0 at) (below_under pairs set args i drop before up (slice_get_within set i n at)));
+      (subst (λ m. All (λ (k : ℕ). k < m) drop) (get_or_from_slice_get set i n 0 at) (below_under pairs set args i drop before up (slice_get_within set i n at)));
   from = λ m has. elim (in_either drop (n ∷ []) m (contains_in (drop ++ n ∷ []) m has)) [
     | inl old ↦ let (k, less, there, is) = before.from m (in_contains drop m old) in (k, omega (arith, less), there, is)
     | inr new ↦ elim new [

@@ -1,5 +1,5 @@
 -- Cases that join a list, one by one or by parts.
-use Rattle.std.proofs.Common.{◌≡◌, ℕ, zero, suc, ◌+◌, ◌<◌, ◌≤◌, length, get_or, map, take, List, [], ◌∷◌, ◌++◌, refl, sym, ap, subst, ◌∙◌, append_assoc, arith}
+use Rattle.std.proofs.Common.{◌≡◌, ℕ, zero, suc, ◌+◌, ◌<◌, ◌≤◌, length, get_or, map, take, List, [], ◌∷◌, ◌++◌, sym, ap, subst, ◌∙◌, append_assoc, arith}
 use Rattle.std.specs.List.{flat_map, range_with_len}
 use Rattle.std.proofs.lemmas.List.{append-nil, map-id, take_all}
 use Rattle.std.proofs.lemmas.List.Concat.{flat_map-append}
@@ -56,11 +56,11 @@ pub cases_more : (rows : List Row) (pairs : List PairData) (own : ℕ) (set : Li
 cases_more rows pairs own set i cases after a l r here within are adds pair left right at =
     let n = get_or set i 0 in
     let added : spots_of a l r here ≡ spots_at rows pairs (own + i) n =
-      ap (λ (s : Row). spots_of a s r here) left ∙ ap (λ (s : Row). spots_of a (row_of rows a.left_fun) s here) right
-      ∙ ap (λ (b : PairData). spots_of b (row_of rows b.left_fun) (row_of rows b.right_fun) here) pair ∙ ap (λ o. spots_at rows pairs o n) at in
+    ap (λ (s : Row). spots_of a s r here) left ∙ ap (λ (s : Row). spots_of a (row_of rows a.left_fun) s here) right
+    ∙ ap (λ (b : PairData). spots_of b (row_of rows b.left_fun) (row_of rows b.right_fun) here) pair ∙ ap (λ o. spots_at rows pairs o n) at in
     let joined = are_cases_append (spots rows pairs own (take i set)) (spots_of a l r here) cases adds.added are adds.are in
     let whole : spots rows pairs own (take i set) ++ spots_of a l r here ≡ spots rows pairs own (take (i + 1) set) =
-      ap (λ ss. spots rows pairs own (take i set) ++ ss) added ∙ sym (spots_more rows pairs own set i within) in
+    ap (λ ss. spots rows pairs own (take i set) ++ ss) added ∙ sym (spots_more rows pairs own set i within) in
     subst (λ cs. AreCases (spots rows pairs own (take (i + 1) set)) cs) (sym adds.is) (subst (λ ss. AreCases ss (cases ++ adds.added)) whole joined)
 
 pub cases_all : (rows : List Row) (pairs : List PairData) (own : ℕ) (set : List ℕ) (i : ℕ) (cases : List Case) → AreCases (spots rows pairs own (take i set)) cases → length set ≤ i → AreCases (spots rows pairs own set) cases

@@ -1,9 +1,7 @@
 -- Choices of a projection, and what a pair is under them.
-use Rattle.std.proofs.Common.{◌≡◌, ℕ, suc, ◌+◌, ◌<◌, ◌≤◌, ◌⊎◌, inl, inr, List, length, Option, Some, None, Contains, slice_get, refl, sym, ap, subst, ◌∙◌, arith}
+use Rattle.std.proofs.Common.{◌≡◌, ℕ, suc, ◌+◌, ◌<◌, List, length, Option, Some, None, Contains, slice_get, refl, sym, ap, ◌∙◌, arith}
 use Rattle.std.proofs.lemmas.Option.{slice_get-get_or, get_or_from_slice_get}
 use Rattle.wh_terms.specs.Tree.{Tm, app}
-use Rattle.wh_terms.specs.Rules.{RewriteRule}
-use Rattle.wh_system.specs.Needs.{need_of}
 use Rattle.wh_system.specs.PairData.{PairData, IsIncreasing}
 use Rattle.wh_system.proofs.ByPlace.{some_one}
 use Rattle.wh_subterm.specs.Parts.{Argument, Part, last, front, argument, deeper}
@@ -11,7 +9,7 @@ use Rattle.wh_subterm.specs.Projections.{Below, Chosen, Equal}
 use Rattle.wh_subterm.specs.Relations.{BelowAt, EqualAt}
 use Rattle.wh_subterm.specs.SubtermRows.{chosen_symbols}
 use Rattle.wh_subterm.proofs.ChoiceLemmas.{one_choice}
-use Rattle.wh_find_subterm.specs.Rows.{choices_of, or_zero}
+use Rattle.wh_find_subterm.specs.Rows.{or_zero}
 use Rattle.wh_find_subterm.specs.Cases.{no_pair, pair_at}
 
 abbrev pub choice : ℕ → ℕ → Chosen

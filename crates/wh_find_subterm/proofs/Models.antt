@@ -1,26 +1,26 @@
 -- A model of the formula says a projection that drops a pair.
-use Rattle.std.proofs.Common.{◌≡◌, ◌≢◌, ◌↔◌, ℕ, ◌+◌, ◌<◌, ◌≤◌, ◌⊎◌, inl, inr, Bool, true, List, [], ◌∷◌, ◌++◌, length, get_or, map, All, Contains, Some, slice_get, refl, sym, ap, subst, ◌∙◌, arith}
+use Rattle.std.proofs.Common.{◌≡◌, ◌≢◌, ℕ, ◌+◌, ◌<◌, ◌⊎◌, inl, inr, Bool, true, List, [], ◌∷◌, ◌++◌, length, get_or, map, All, Contains, Some, slice_get, refl, sym, ap, subst, ◌∙◌, arith}
 use Rattle.std.proofs.lemmas.Bool.{cases_order}
 use Rattle.std.proofs.lemmas.Option.{slice_get_within}
 use Rattle.wh_terms.specs.Rules.{RewriteRule}
 use Rattle.wh_system.specs.Needs.{need_of}
 use Rattle.wh_system.specs.PairData.{PairData, IsIncreasing}
-use Rattle.wh_system.proofs.ByPlace.{contains_at, number_at, place_of, some_one}
+use Rattle.wh_system.proofs.ByPlace.{contains_at, number_at, place_of}
 use Rattle.wh_sat_trail.specs.declared.literal.Literal.{Literal}
 use Rattle.wh_sat.specs.Solving.{Solves, clause_true}
 use Rattle.wh_subterm.specs.Marked.{AreMarked}
-use Rattle.wh_subterm.specs.Projections.{Below, Chosen, Equal}
+use Rattle.wh_subterm.specs.Projections.{Below, Equal}
 use Rattle.wh_subterm.specs.Relations.{BelowAt, EqualAt, Relates}
-use Rattle.wh_subterm.specs.SubtermRows.{AreForMarked, IsPlace, IsProjection, chosen_symbols}
+use Rattle.wh_subterm.specs.SubtermRows.{IsPlace, IsProjection, chosen_symbols}
 use Rattle.wh_subterm.specs.declared.relation.Relation.{Relation}
 use Rattle.wh_subterm.specs.declared.relation.Relation.TheVariants as kind
 use Rattle.wh_subterm.proofs.ChoiceLemmas.{one_choice}
 use Rattle.wh_find_subterm.specs.declared.rows.Row.{Row}
 use Rattle.wh_find_subterm.specs.declared.cases.Case.{Case}
 use Rattle.wh_find_subterm.specs.Rows.{choices_of, end_from, row_of, rows_from}
-use Rattle.wh_find_subterm.specs.Cases.{AreCases, IsCase, pair_at, spot, spots}
-use Rattle.wh_find_subterm.specs.Clauses.{for_neither, for_not_below, fourth, no, no_two, not_both, one_chosen, third}
-use Rattle.wh_find_subterm.specs.Formula.{IsFormula, IsProjections}
+use Rattle.wh_find_subterm.specs.Cases.{AreCases, pair_at, spot, spots}
+use Rattle.wh_find_subterm.specs.Clauses.{for_neither, for_not_below, no, not_both}
+use Rattle.wh_find_subterm.specs.Formula.{IsProjections}
 use Rattle.wh_find_subterm.specs.Laws.{ModelsAreProjections, Says}
 use Rattle.wh_find_subterm.specs.Reading.{choice_by, chosen_by, first_true}
 use Rattle.wh_find_subterm.proofs.Members.{In, contains_in, in_contains, in_map, in_map_from, place_in}
@@ -103,10 +103,9 @@ picked rules pairs set fs v model k n at within =
     let free : IsChoice a l r i j = record { left = left.below; right = right.below; one = λ same. ap (pick v rows) same } in
     let (c, here, case) = case_of (spots rows pairs end set) model.cases (spot a l r (end + k) i j) model.are (spot_in rows pairs end set k n i j at free) in
     let said = by_relation v c.left c.right c.own a i j c.relation case.relates (ap v case.left ∙ left.is) (ap v case.right ∙ right.is)
-      (λ d. model.true_ones.neither c d here) (λ d. model.true_ones.not_below c d here) in
+    (λ d. model.true_ones.neither c d here) (λ d. model.true_ones.not_below c d here) in
     let left_in = pick_in rules fs v a.left_fun marked_left in
-    let right_in = pick_in rules fs v a.right_fun marked_right in
-    (
+    let right_in = pick_in rules fs v a.right_fun marked_right in (
       elim said.0 [
         | inl equal ↦ inl (equal_from args a i j left_in right_in equal)
         | inr below ↦ inr (below_from args a i j left_in right_in below)
@@ -159,9 +158,9 @@ projection_from rules pairs set fs v drop model within some once inside below =
       once = once;
       within = inside;
       decreasing = λ n a has at.
-        let there = place_of set n has in
-        let is = pair_is pairs n a at in
-        subst (λ b. Equal args b ⊎ Below args b) is (picked rules pairs set fs v model there.0 n there.1 (slice_get_within pairs n a at)).0;
+          let there = place_of set n has in
+          let is = pair_is pairs n a at in
+          subst (λ b. Equal args b ⊎ Below args b) is (picked rules pairs set fs v model there.0 n there.1 (slice_get_within pairs n a at)).0;
       below = λ n a has at. subst (Below args) (pair_is pairs n a at) (below n has);
     }
 
@@ -188,13 +187,12 @@ says rules pairs set fs v model f i has less =
     let args = chosen_by v rows in
     let is = contains_in fs f has in
     let some = pick_true rules pairs set fs v model f is in
-    let up : IsIncreasing (chosen_symbols args) = subst IsIncreasing (sym (symbols_chosen rules fs v)) model.marked.in_order in
-    (
+    let up : IsIncreasing (chosen_symbols args) = subst IsIncreasing (sym (symbols_chosen rules fs v)) model.marked.in_order in (
       λ true_one. subst (λ k. Contains args (choice f k)) (sym (says_to rules pairs set fs v model f i is less true_one)) (pick_in rules fs v f is),
       λ chosen.
-        let one = one_choice args f (i + 1) (pick v rows f + 1) up chosen (pick_in rules fs v f is) in
-        let same : i ≡ pick v rows f = omega arith in
-        ap (λ k. v ((row_of rows f).first + k)) same ∙ some.is,
+          let one = one_choice args f (i + 1) (pick v rows f + 1) up chosen (pick_in rules fs v f is) in
+          let same : i ≡ pick v rows f = omega arith in
+          ap (λ k. v ((row_of rows f).first + k)) same ∙ some.is,
     )
 
 only_one : (m i j n : ℕ) → slice_get (m ∷ []) i ≡ Some n → slice_get (m ∷ []) j ≡ Some n → i ≡ j
@@ -212,12 +210,11 @@ pub models_are_projections : ModelsAreProjections
 models_are_projections rules pairs set n clauses v within formula solves =
     let model = model_from rules pairs set n clauses v formula solves in
     let (m, has, below) = some_picked rules pairs set formula.symbols v model within in
-    let args = chosen_by v (rows_from rules 0 formula.symbols) in
-    (
+    let args = chosen_by v (rows_from rules 0 formula.symbols) in (
       args,
       m ∷ [],
       projection_from rules pairs set formula.symbols v (m ∷ []) model within (λ empty. cc) (only_one m)
-        (λ k d inside. elim (place_in (m ∷ []) k d inside) [ | inl same ↦ subst (Contains set) same has | inr never ↦ absurd never ])
-        (λ k at. subst (λ q. Below args (pair_at pairs q)) (only_member m k at) below),
+          (λ k d inside. elim (place_in (m ∷ []) k d inside) [ inl same ↦ subst (Contains set) same has | inr never ↦ absurd never ])
+          (λ k at. subst (λ q. Below args (pair_at pairs q)) (only_member m k at) below),
       says rules pairs set formula.symbols v model,
     )

@@ -1,9 +1,7 @@
 -- A set of pairs has one formula.
-use Rattle.std.proofs.Common.{◌≡◌, ◌↔◌, ℕ, ◌+◌, ◌<◌, ◌≤◌, inl, inr, List, [], ◌∷◌, length, refl, sym, ap, subst, ◌∙◌, arith}
-use Rattle.wh_terms.specs.Rules.{RewriteRule}
+use Rattle.std.proofs.Common.{◌≡◌, ℕ, ◌<◌, inl, inr, List, [], ◌∷◌, length, refl, sym, ap, subst, ◌∙◌, arith}
 use Rattle.wh_system.specs.PairData.{PairData, IsIncreasing}
-use Rattle.wh_sat_trail.specs.declared.literal.Literal.{Literal}
-use Rattle.wh_subterm.specs.Marked.{AreMarked, IsMarked}
+use Rattle.wh_subterm.specs.Marked.{AreMarked}
 use Rattle.wh_subterm.specs.Relations.{Relates}
 use Rattle.wh_subterm.specs.declared.relation.Relation.{Relation}
 use Rattle.wh_subterm.specs.declared.relation.Relation.TheVariants as kind
@@ -11,7 +9,7 @@ use Rattle.wh_find_subterm.specs.declared.cases.Case.{Case}
 use Rattle.wh_find_subterm.specs.Rows.{end_from, rows_from}
 use Rattle.wh_find_subterm.specs.Cases.{AreCases, IsCase, Spot, spots}
 use Rattle.wh_find_subterm.specs.Clauses.{clauses_of}
-use Rattle.wh_find_subterm.specs.Formula.{IsFormula, IsProjections}
+use Rattle.wh_find_subterm.specs.Formula.{IsFormula}
 use Rattle.wh_find_subterm.specs.Laws.{FormulaIsOne}
 use Rattle.wh_find_subterm.proofs.Members.{In, contains_in, in_contains}
 use Rattle.wh_find_subterm.proofs.Chosen.{not_both_at}
@@ -90,8 +88,7 @@ formula_is_one rules pairs set n m clauses also left right =
     let gs = right.symbols in
     let same : gs ≡ fs = one_list pairs set gs fs right.marked left.marked in
     let moved : IsFormula (rows_from rules 0 fs) (end_from rules 0 fs) pairs set m also = subst (λ hs. IsFormula (rows_from rules 0 hs) (end_from rules 0 hs) pairs set m also) same right.formula in
-    let cases = one_cases (spots (rows_from rules 0 fs) pairs (end_from rules 0 fs) set) left.formula.cases moved.cases left.formula.are_cases moved.are_cases in
-    (
+    let cases = one_cases (spots (rows_from rules 0 fs) pairs (end_from rules 0 fs) set) left.formula.cases moved.cases left.formula.are_cases moved.are_cases in (
       left.formula.count ∙ sym moved.count,
       left.formula.are_clauses ∙ ap (λ cs. clauses_of (rows_from rules 0 fs) cs (end_from rules 0 fs) (length set)) cases ∙ sym moved.are_clauses,
     )

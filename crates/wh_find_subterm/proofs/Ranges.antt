@@ -1,20 +1,18 @@
 -- The variables of the formula are below their number.
-use Rattle.std.proofs.Common.{◌≡◌, ℕ, ◌+◌, ◌<◌, ◌≤◌, inl, inr, Bool, cond, nat_eq, nat_lt, List, [], ◌∷◌, ◌++◌, length, get_or, map, slice_get, Some, refl, sym, ap, subst, ◌∙◌, arith}
+use Rattle.std.proofs.Common.{◌≡◌, ℕ, ◌+◌, ◌<◌, ◌≤◌, inl, inr, cond, nat_eq, nat_lt, List, [], ◌∷◌, ◌++◌, length, get_or, sym, ap, subst, ◌∙◌, arith}
 use Rattle.std.specs.List.{range_with_len}
 use Rattle.std.proofs.lemmas.Bool.{cond_both}
 use Rattle.std.proofs.lemmas.Option.{slice_get_within}
 use Rattle.wh_terms.specs.Rules.{RewriteRule}
 use Rattle.wh_system.specs.PairData.{PairData}
 use Rattle.wh_sat_trail.specs.declared.literal.Literal.{Literal}
-use Rattle.wh_sat_trail.specs.Assignment.{AllBelow}
 use Rattle.wh_sat_trail.specs.Propagation.{Within}
 use Rattle.wh_subterm.specs.declared.relation.Relation.{Relation}
 use Rattle.wh_subterm.specs.declared.relation.Relation.TheVariants as kind
-use Rattle.wh_find_subterm.specs.declared.rows.Row.{Row}
 use Rattle.wh_find_subterm.specs.declared.cases.Case.{Case}
 use Rattle.wh_find_subterm.specs.Rows.{end_from, rows_from}
-use Rattle.wh_find_subterm.specs.Cases.{AreCases, IsCase, Spot, pair_at, spots}
-use Rattle.wh_find_subterm.specs.Clauses.{clauses_of, for_neither, for_not_below, fourth, no, not_both, one_chosen, only_one_chosen, some_of, third, yes}
+use Rattle.wh_find_subterm.specs.Cases.{AreCases, Spot, pair_at, spots}
+use Rattle.wh_find_subterm.specs.Clauses.{for_neither, for_not_below, no, not_both, some_of, yes}
 use Rattle.wh_find_subterm.specs.Formula.{IsFormula}
 use Rattle.wh_find_subterm.proofs.Members.{In, in_either, in_map_from, in_range_from, place_in}
 use Rattle.wh_find_subterm.proofs.Truth.{two_from}
@@ -96,12 +94,12 @@ groups_under rules pairs set fs cases are =
     record {
       chosen = λ r is. let row = row_is rules 0 fs r is in let inside = row.within in some_under m r.first r.need (omega (arith, inside));
       only = λ r c is at.
-        let row = row_is rules 0 fs r is in
-        let two = two_from r.first r.need c at in
-        let inside = row.within in
-        let less = two.less in
-        let within = two.within in
-        subst (Under m) (sym two.is) (both_under m (r.first + two.left) (r.first + two.right) (omega (arith, inside, less, within)) (omega (arith, inside, within)));
+          let row = row_is rules 0 fs r is in
+          let two = two_from r.first r.need c at in
+          let inside = row.within in
+          let less = two.less in
+          let within = two.within in
+          subst (Under m) (sym two.is) (both_under m (r.first + two.left) (r.first + two.right) (omega (arith, inside, less, within)) (omega (arith, inside, within)));
       neither = λ d c is at. let u = case_under rules pairs set fs cases are d is in neither_under m d.left d.right d.relation c u.left u.right at;
       not_below = λ d c is at. let u = case_under rules pairs set fs cases are d is in not_below_under m d.left d.right d.own d.relation c u.left u.right u.own at;
       some = some_under m (end_from rules 0 fs) (length set) (omega arith);

@@ -1,6 +1,6 @@
 -- The rows of symbols.
-use Rattle.std.proofs.Common.{◌≡◌, ℕ, ◌+◌, ◌<◌, ◌≤◌, inl, inr, List, [], ◌∷◌, cond, nat_eq, map, Contains, refl, sym, ap, subst, ◌∙◌, arith}
-use Rattle.std.proofs.lemmas.Bool.{cond-true, cond-false, cases_Bool, eqb-true, eqb-false, eq-eqb, cases_eq, ne_eqb}
+use Rattle.std.proofs.Common.{◌≡◌, ℕ, ◌+◌, ◌≤◌, inl, inr, List, [], ◌∷◌, nat_eq, map, refl, sym, ap, subst, ◌∙◌, arith}
+use Rattle.std.proofs.lemmas.Bool.{cond-true, cond-false, cases_Bool, eq-eqb, cases_eq, ne_eqb}
 use Rattle.wh_terms.specs.Rules.{RewriteRule}
 use Rattle.wh_find_subterm.specs.declared.rows.Row.{Row}
 use Rattle.wh_find_subterm.specs.Rows.{choices_of, rows_from, end_from, row_of}
@@ -39,7 +39,7 @@ row_in rules n (g ∷ fs) f is =
     elim (cases_eq g f) [
       | inl same ↦ inl (sym (cond-true (nat_eq g f) r (row_of rest f) (eq-eqb g f same)))
       | inr other ↦ inr (subst (λ s. In s rest) (sym (cond-false (nat_eq g f) r (row_of rest f) (ne_eqb g f other)))
-        (row_in rules (n + choices_of rules g) fs f (elim is [ | inl here ↦ absurd (other here) | inr later ↦ later ])))
+          (row_in rules (n + choices_of rules g) fs f (elim is [ inl here ↦ absurd (other here) | inr later ↦ later ])))
     ]
 
 pub row_symbol : (rows : List Row) (f : ℕ) → (row_of rows f).symbol ≡ f
@@ -63,9 +63,9 @@ row_within rules n (g ∷ fs) f =
     let above = end_above rules (n + choices_of rules g) fs in
     elim (cases_Bool (nat_eq g f)) [
       | inl same ↦
-        let is = cond-true (nat_eq g f) r (row_of rest f) same in
-        let first = ap (λ (s : Row). s.first) is in
-        let need = ap (λ (s : Row). s.need) is in omega (arith, above, first, need)
+          let is = cond-true (nat_eq g f) r (row_of rest f) same in
+          let first = ap (λ (s : Row). s.first) is in
+          let need = ap (λ (s : Row). s.need) is in omega (arith, above, first, need)
       | inr other ↦ subst (λ (s : Row). s.first + s.need ≤ end_from rules (n + choices_of rules g) fs) (sym (cond-false (nat_eq g f) r (row_of rest f) other)) (row_within rules (n + choices_of rules g) fs f)
     ]
 

@@ -5,7 +5,7 @@ use Rattle.wh_system.specs.PairData.{PairData, IsIncreasing}
 use Rattle.wh_sat_trail.specs.declared.literal.Literal.{Literal}
 use Rattle.wh_subterm.specs.Marked.{AreMarked}
 use Rattle.wh_find_subterm.specs.declared.rows.Row.{Row}
-use Rattle.wh_find_subterm.specs.Rows.{choices_of, end_from, row_of, rows_from}
+use Rattle.wh_find_subterm.specs.Rows.{end_from, row_of, rows_from}
 use Rattle.wh_find_subterm.specs.Formula.{IsFormula, IsProjections}
 use Rattle.wh_find_subterm.proofs.Members.{place_in}
 use Rattle.wh_find_subterm.proofs.RowLemmas.{row_is, row_symbols, row_within}
@@ -18,7 +18,7 @@ pub record AreRows (rules : List RewriteRule) (fs : List ℕ) (items : List Row)
 pub each_within : {rules : List RewriteRule} {fs : List ℕ} {items : List Row} {end : ℕ} → AreRows rules fs items end → All (λ r. r.first + r.need ≤ end) items
 each_within {rules = rules} {fs = fs} {items = items} {end = end} rows k d within =
     let all : All (λ (r : Row). r.first + r.need ≤ end_from rules 0 fs) (rows_from rules 0 fs) = λ j e inside.
-      let row = row_is rules 0 fs (get_or (rows_from rules 0 fs) j e) (place_in (rows_from rules 0 fs) j e inside) in row.within in
+    let row = row_is rules 0 fs (get_or (rows_from rules 0 fs) j e) (place_in (rows_from rules 0 fs) j e inside) in row.within in
     subst (λ m. (get_or items k d).first + (get_or items k d).need ≤ m) (sym rows.end_is) (subst (λ rs. All (λ (r : Row). r.first + r.need ≤ end_from rules 0 fs) rs) (sym rows.items_are) all k d within)
 
 pub any_within : {rules : List RewriteRule} {fs : List ℕ} {items : List Row} {end : ℕ} → AreRows rules fs items end → (f : ℕ) → (row_of items f).first + (row_of items f).need ≤ end

@@ -1,6 +1,6 @@
 -- The choices for the pairs of a set, and their cases.
-use Rattle.std.proofs.Common.{◌≡◌, ℕ, zero, suc, ◌+◌, ◌<◌, inl, inr, true, false, List, [], ◌∷◌, ◌++◌, Some, cond, nat_eq, map, slice_get, refl, sym, ap, subst, ◌∙◌, arith}
-use Rattle.std.specs.List.{flat_map, range_with_len}
+use Rattle.std.proofs.Common.{◌≡◌, ℕ, zero, suc, ◌+◌, ◌<◌, inl, inr, List, [], ◌∷◌, Some, nat_eq, slice_get, refl, sym, ap, subst, ◌∙◌, arith}
+use Rattle.std.specs.List.{range_with_len}
 use Rattle.std.proofs.lemmas.Bool.{cond-true, cond-false, cases_eq, eq-eqb, ne_eqb}
 use Rattle.wh_system.specs.PairData.{PairData}
 use Rattle.wh_find_subterm.specs.declared.rows.Row.{Row}
@@ -126,18 +126,18 @@ pub spot_from : (rows : List Row) (pairs : List PairData) (own : ℕ) (set : Lis
 spot_from rows pairs own [] s is = absurd is
 spot_from rows pairs own (m ∷ set) s is = elim (in_either (spots_of (pair_at pairs m) (left_row rows pairs m) (right_row rows pairs m) own) (spots rows pairs (own + 1) set) s is) [
   | inl here ↦
-    let sum : own ≡ own + 0 = omega arith in
-    let from = pair_spot_from (pair_at pairs m) (left_row rows pairs m) (right_row rows pairs m) own s (λ one. ap (row_of rows) one) here in
-    record { place = 0; number = m; at = refl; from = subst (λ o. ChoiceAt (pair_at pairs m) (left_row rows pairs m) (right_row rows pairs m) o s) sum from }
+      let sum : own ≡ own + 0 = omega arith in
+      let from = pair_spot_from (pair_at pairs m) (left_row rows pairs m) (right_row rows pairs m) own s (λ one. ap (row_of rows) one) here in
+      record { place = 0; number = m; at = refl; from = subst (λ o. ChoiceAt (pair_at pairs m) (left_row rows pairs m) (right_row rows pairs m) o s) sum from }
   | inr later ↦
-    let from = spot_from rows pairs (own + 1) set s later in
-    let sum : own + 1 + from.place ≡ own + suc from.place = omega arith in
-    record {
-      place = suc from.place;
-      number = from.number;
-      at = from.at;
-      from = subst (λ o. ChoiceAt (pair_at pairs from.number) (left_row rows pairs from.number) (right_row rows pairs from.number) o s) sum from.from;
-    }
+      let from = spot_from rows pairs (own + 1) set s later in
+      let sum : own + 1 + from.place ≡ own + suc from.place = omega arith in
+      record {
+        place = suc from.place;
+        number = from.number;
+        at = from.at;
+        from = subst (λ o. ChoiceAt (pair_at pairs from.number) (left_row rows pairs from.number) (right_row rows pairs from.number) o s) sum from.from;
+      }
 ]
 
 -- a choice has its case, and a case its choice

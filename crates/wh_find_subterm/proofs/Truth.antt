@@ -1,10 +1,10 @@
 -- When the clauses of the formula are true.
-use Rattle.std.proofs.Common.{◌≡◌, ℕ, zero, suc, ◌+◌, ◌-◌, ◌<◌, ◌⊎◌, ◌||◌, inl, inr, Bool, true, false, not, cond, nat_eq, nat_lt, List, [], ◌∷◌, ◌++◌, length, get_or, map, refl, sym, ap, subst, ◌∙◌, arith}
+use Rattle.std.proofs.Common.{◌≡◌, ℕ, zero, suc, ◌+◌, ◌<◌, ◌⊎◌, ◌||◌, inl, inr, Bool, true, false, not, cond, nat_eq, nat_lt, List, [], ◌∷◌, ◌++◌, get_or, refl, sym, ap, subst, ◌∙◌, arith}
 use Rattle.std.specs.List.{range_with_len}
-use Rattle.std.proofs.lemmas.Bool.{cond-true, cond-false, cond_both, cases_Bool, eqb-true, false_from_ne_true, or_cases, or_left, or_right}
+use Rattle.std.proofs.lemmas.Bool.{cond-true, cond-false, cond_both, cases_Bool, eqb-true, or_cases, or_left, or_right}
 use Rattle.wh_sat_trail.specs.declared.literal.Literal.{Literal}
 use Rattle.wh_sat.specs.Solving.{Solves, clause_true, literal_true}
-use Rattle.wh_find_subterm.specs.Clauses.{yes, no, some_of, not_both, with_each, no_two}
+use Rattle.wh_find_subterm.specs.Clauses.{no, some_of, not_both, with_each, no_two}
 use Rattle.wh_find_subterm.specs.Reading.{first_true}
 use Rattle.wh_find_subterm.proofs.Members.{In, in_left, in_right, in_either, in_map, in_map_from, in_range, in_range_from, in_place, place_in}
 
@@ -153,16 +153,16 @@ pub two_from : (first n : ℕ) (c : List Literal) → In c (no_two first n) → 
 two_from first zero c is = absurd is
 two_from first (suc n) c is = elim (in_either (with_each first n) (no_two (first + 1) n) c is) [
   | inl here ↦
-    let from = in_map_from (λ x. not_both first x) (range_with_len (first + 1) n) c here in
-    let at = in_range_from (first + 1) n from.0 from.1 in
-    let same : first ≡ first + 0 = omega arith in
-    let moved : from.0 ≡ first + suc at.0 = omega (arith, at.2) in
-    record { left = 0; right = suc at.0; less = omega arith; within = omega (arith, at.1); is = sym from.2 ∙ ap (not_both first) moved ∙ ap (λ x. not_both x (first + suc at.0)) same }
+      let from = in_map_from (λ x. not_both first x) (range_with_len (first + 1) n) c here in
+      let at = in_range_from (first + 1) n from.0 from.1 in
+      let same : first ≡ first + 0 = omega arith in
+      let moved : from.0 ≡ first + suc at.0 = omega (arith, at.2) in
+      record { left = 0; right = suc at.0; less = omega arith; within = omega (arith, at.1); is = sym from.2 ∙ ap (not_both first) moved ∙ ap (λ x. not_both x (first + suc at.0)) same }
   | inr later ↦
-    let from = two_from (first + 1) n c later in
-    let less = from.less in
-    let within = from.within in
-    let left : first + 1 + from.left ≡ first + suc from.left = omega arith in
-    let right : first + 1 + from.right ≡ first + suc from.right = omega arith in
-    record { left = suc from.left; right = suc from.right; less = omega arith; within = omega arith; is = from.is ∙ ap (λ x. not_both x (first + 1 + from.right)) left ∙ ap (not_both (first + suc from.left)) right }
+      let from = two_from (first + 1) n c later in
+      let less = from.less in
+      let within = from.within in
+      let left : first + 1 + from.left ≡ first + suc from.left = omega arith in
+      let right : first + 1 + from.right ≡ first + suc from.right = omega arith in
+      record { left = suc from.left; right = suc from.right; less = omega arith; within = omega arith; is = from.is ∙ ap (λ x. not_both x (first + 1 + from.right)) left ∙ ap (not_both (first + suc from.left)) right }
 ]

@@ -1,14 +1,13 @@
 -- Values of the variables that say a projection.
-use Rattle.std.proofs.Common.{◌≡◌, ◌↔◌, ℕ, zero, suc, ◌+◌, ◌-◌, ◌<◌, ◌≤◌, ◌⊎◌, ◌&&◌, ◌||◌, inl, inr, Bool, true, false, cond, nat_eq, nat_lt, List, [], ◌∷◌, get_or, refl, sym, ap, subst, ◌∙◌, arith}
-use Rattle.std.proofs.lemmas.Bool.{cond-true, cond-false, cases_eq, cases_lt, eqb-true, eq-eqb, ne_eqb, lt-ltb, le-ltb, or_cases, or_left, or_right, and_parts, and_from}
+use Rattle.std.proofs.Common.{◌≡◌, ℕ, ◌+◌, ◌-◌, ◌<◌, ◌≤◌, ◌&&◌, ◌||◌, inl, inr, Bool, true, false, cond, nat_eq, nat_lt, List, [], ◌∷◌, get_or, ap, ◌∙◌, arith}
+use Rattle.std.proofs.lemmas.Bool.{cond-true, cond-false, cases_eq, eqb-true, eq-eqb, ne_eqb, lt-ltb, le-ltb, or_cases, or_left, or_right, and_parts, and_from}
 use Rattle.wh_terms.specs.Rules.{RewriteRule}
 use Rattle.wh_subterm.specs.Projections.{Chosen}
 use Rattle.wh_system.specs.PairData.{IsIncreasing}
 use Rattle.wh_find_subterm.specs.declared.rows.Row.{Row}
 use Rattle.wh_find_subterm.specs.Rows.{choices_of, end_from, row_of, rows_from}
 use Rattle.wh_find_subterm.proofs.Members.{In}
-use Rattle.wh_find_subterm.proofs.RowLemmas.{row_need, row_symbol, row_within}
-use Rattle.wh_find_subterm.proofs.Chosen.{choice}
+use Rattle.wh_find_subterm.proofs.RowLemmas.{row_need, row_within}
 
 -- tests of membership
 
@@ -23,15 +22,14 @@ abbrev pub is_member : List ℕ → ℕ → Bool
 is_member [] n = false
 is_member (m ∷ ns) n = nat_eq m n || is_member ns n
 
-
 pub chosen_in : (args : List Chosen) (f k : ℕ) → is_chosen args f k ≡ true → In (record { symbol = f; argument = k }) args
 chosen_in [] f k is = absurd (grind (arith, is))
 chosen_in (c ∷ args) f k is = elim (or_cases (nat_eq c.symbol f && nat_eq c.argument k) (is_chosen args f k) is) [
   | inl here ↦
-    let parts = and_parts (nat_eq c.symbol f) (nat_eq c.argument k) here in
-    let symbol = eqb-true c.symbol f parts.0 in
-    let argument = eqb-true c.argument k parts.1 in
-    inl (ap (λ g. chosen_with g c.argument) symbol ∙ ap (chosen_with f) argument)
+      let parts = and_parts (nat_eq c.symbol f) (nat_eq c.argument k) here in
+      let symbol = eqb-true c.symbol f parts.0 in
+      let argument = eqb-true c.argument k parts.1 in
+      inl (ap (λ g. chosen_with g c.argument) symbol ∙ ap (chosen_with f) argument)
   | inr later ↦ inr (chosen_in args f k later)
 ]
 
@@ -70,10 +68,10 @@ row_above rules n (g ∷ fs) f is =
     let rest = rows_from rules (n + choices_of rules g) fs in
     elim (cases_eq g f) [
       | inl same ↦
-        let first = ap (λ (s : Row). s.first) (cond-true (nat_eq g f) r (row_of rest f) (eq-eqb g f same)) in omega (arith, first)
+          let first = ap (λ (s : Row). s.first) (cond-true (nat_eq g f) r (row_of rest f) (eq-eqb g f same)) in omega (arith, first)
       | inr other ↦
-        let first = ap (λ (s : Row). s.first) (cond-false (nat_eq g f) r (row_of rest f) (ne_eqb g f other)) in
-        let later = row_above rules (n + choices_of rules g) fs f (elim is [ | inl here ↦ absurd (other here) | inr later ↦ later ]) in omega (arith, first, later)
+          let first = ap (λ (s : Row). s.first) (cond-false (nat_eq g f) r (row_of rest f) (ne_eqb g f other)) in
+          let later = row_above rules (n + choices_of rules g) fs f (elim is [ inl here ↦ absurd (other here) | inr later ↦ later ]) in omega (arith, first, later)
     ]
 
 among_at : (rules : List RewriteRule) (args : List Chosen) (n : ℕ) (fs : List ℕ) (f i x : ℕ) → In f fs → i < choices_of rules f → n + x ≡ (row_of (rows_from rules n fs) f).first + i
@@ -84,20 +82,20 @@ among_at rules args n (g ∷ fs) f i x is less at =
     let rest = rows_from rules (n + choices_of rules g) fs in
     elim (cases_eq g f) [
       | inl same ↦
-        let first = ap (λ (s : Row). s.first) (cond-true (nat_eq g f) r (row_of rest f) (eq-eqb g f same)) in
-        let x_is : x ≡ i = omega (arith, at, first) in
-        let count = ap (choices_of rules) same in
-        let below : x < choices_of rules g = omega (arith, x_is, less, count) in
-        cond-true (nat_lt x (choices_of rules g)) (is_chosen args g (x + 1)) (value_among rules args fs (x - choices_of rules g)) (lt-ltb x (choices_of rules g) below)
-        ∙ ap (λ h. is_chosen args h (x + 1)) same ∙ ap (λ k. is_chosen args f (k + 1)) x_is
+          let first = ap (λ (s : Row). s.first) (cond-true (nat_eq g f) r (row_of rest f) (eq-eqb g f same)) in
+          let x_is : x ≡ i = omega (arith, at, first) in
+          let count = ap (choices_of rules) same in
+          let below : x < choices_of rules g = omega (arith, x_is, less, count) in
+          cond-true (nat_lt x (choices_of rules g)) (is_chosen args g (x + 1)) (value_among rules args fs (x - choices_of rules g)) (lt-ltb x (choices_of rules g) below)
+          ∙ ap (λ h. is_chosen args h (x + 1)) same ∙ ap (λ k. is_chosen args f (k + 1)) x_is
       | inr other ↦
-        let in_rest : In f fs = elim is [ | inl here ↦ absurd (other here) | inr later ↦ later ] in
-        let first = ap (λ (s : Row). s.first) (cond-false (nat_eq g f) r (row_of rest f) (ne_eqb g f other)) in
-        let above = row_above rules (n + choices_of rules g) fs f in_rest in
-        let past : choices_of rules g ≤ x = omega (arith, at, first, above) in
-        let moved : n + choices_of rules g + (x - choices_of rules g) ≡ (row_of rest f).first + i = omega (arith, at, first, above) in
-        cond-false (nat_lt x (choices_of rules g)) (is_chosen args g (x + 1)) (value_among rules args fs (x - choices_of rules g)) (le-ltb x (choices_of rules g) past)
-        ∙ among_at rules args (n + choices_of rules g) fs f i (x - choices_of rules g) in_rest less moved
+          let in_rest : In f fs = elim is [ inl here ↦ absurd (other here) | inr later ↦ later ] in
+          let first = ap (λ (s : Row). s.first) (cond-false (nat_eq g f) r (row_of rest f) (ne_eqb g f other)) in
+          let above = row_above rules (n + choices_of rules g) fs f in_rest in
+          let past : choices_of rules g ≤ x = omega (arith, at, first, above) in
+          let moved : n + choices_of rules g + (x - choices_of rules g) ≡ (row_of rest f).first + i = omega (arith, at, first, above) in
+          cond-false (nat_lt x (choices_of rules g)) (is_chosen args g (x + 1)) (value_among rules args fs (x - choices_of rules g)) (le-ltb x (choices_of rules g) past)
+          ∙ among_at rules args (n + choices_of rules g) fs f i (x - choices_of rules g) in_rest less moved
     ]
 
 pub value_symbol : (rules : List RewriteRule) (args : List Chosen) (drop set fs : List ℕ) (f i : ℕ) → In f fs → i < choices_of rules f

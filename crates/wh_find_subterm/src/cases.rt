@@ -21,7 +21,13 @@ pub struct Case {
 }
 
 /// The cases of the pairs of a set, whose own variables are the numbers from `end` on.
-pub fn cases_of(alloc: Global, rows: &[Row], end: u32, pairs: &[Pair], set: &[u32]) -> Result<Vec<Case>, AllocError>
+pub fn cases_of(
+    alloc: Global,
+    rows: &[Row],
+    end: u32,
+    pairs: &[Pair],
+    set: &[u32],
+) -> Result<Vec<Case>, AllocError>
     requires set { All (λ n. n < length pairs.now) set.now }
     requires room { end + length set.now < 2 ^ 32 }
     requires rows { (f : ℕ) → (row_of rows.now f).first + (row_of rows.now f).need ≤ end }
@@ -31,14 +37,26 @@ pub fn cases_of(alloc: Global, rows: &[Row], end: u32, pairs: &[Pair], set: &[u3
     let mut own = end;
     for number in set {
         let pair = &pairs[*number as usize];
-        add_pair(&mut cases, pair, row_of(rows, pair.left_fun), row_of(rows, pair.right_fun), own)?;
+        add_pair(
+            &mut cases,
+            pair,
+            row_of(rows, pair.left_fun),
+            row_of(rows, pair.right_fun),
+            own,
+        )?;
         own += 1;
     }
     Ok(cases)
 }
 
 // The cases of a pair join.
-fn add_pair(cases: &mut Vec<Case>, pair: &Pair, left: Row, right: Row, own: u32) -> Result<(), AllocError>
+fn add_pair(
+    cases: &mut Vec<Case>,
+    pair: &Pair,
+    left: Row,
+    right: Row,
+    own: u32,
+) -> Result<(), AllocError>
     requires left { left.first + left.need ≤ own }
     requires right { right.first + right.need ≤ own }
     ensures { OnOk result (Adds cases.old.items cases.new.items (spots_of (pair_data pair.now) left right own)) }
@@ -62,7 +80,13 @@ fn add_alike(cases: &mut Vec<Case>, pair: &Pair, row: Row, own: u32) -> Result<(
 }
 
 // Those of a pair with two symbols.
-fn add_apart(cases: &mut Vec<Case>, pair: &Pair, left: Row, right: Row, own: u32) -> Result<(), AllocError>
+fn add_apart(
+    cases: &mut Vec<Case>,
+    pair: &Pair,
+    left: Row,
+    right: Row,
+    own: u32,
+) -> Result<(), AllocError>
     requires left { left.first + left.need ≤ own }
     requires right { right.first + right.need ≤ own }
     ensures { OnOk result (Adds cases.old.items cases.new.items (spots_apart (pair_data pair.now) left right own)) }
@@ -74,7 +98,14 @@ fn add_apart(cases: &mut Vec<Case>, pair: &Pair, left: Row, right: Row, own: u32
 }
 
 // Those of a left argument.
-fn add_beside(cases: &mut Vec<Case>, pair: &Pair, left: Row, right: Row, own: u32, left_place: u32) -> Result<(), AllocError>
+fn add_beside(
+    cases: &mut Vec<Case>,
+    pair: &Pair,
+    left: Row,
+    right: Row,
+    own: u32,
+    left_place: u32,
+) -> Result<(), AllocError>
     requires left { left.first + left.need ≤ own }
     requires right { right.first + right.need ≤ own }
     requires place { left_place < left.need }

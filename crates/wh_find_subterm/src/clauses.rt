@@ -61,7 +61,11 @@ pub fn add_one_chosen(alloc: Global, clauses: &mut Clauses, rows: &[Row]) -> Res
 }
 
 /// Of each symbol no two arguments are chosen.
-pub fn add_only_one_chosen(alloc: Global, clauses: &mut Clauses, rows: &[Row]) -> Result<(), AllocError>
+pub fn add_only_one_chosen(
+    alloc: Global,
+    clauses: &mut Clauses,
+    rows: &[Row],
+) -> Result<(), AllocError>
     requires { All (λ r. r.first + r.need < 2 ^ 32) rows.now }
     ensures { OnOk result (clauses.new ≡ clauses.old ++ flat_map only_one_chosen rows.now) }
 {
@@ -72,7 +76,12 @@ pub fn add_only_one_chosen(alloc: Global, clauses: &mut Clauses, rows: &[Row]) -
 }
 
 // No two of so many variables are true.
-fn add_no_two(alloc: Global, clauses: &mut Clauses, first: u32, count: u32) -> Result<(), AllocError>
+fn add_no_two(
+    alloc: Global,
+    clauses: &mut Clauses,
+    first: u32,
+    count: u32,
+) -> Result<(), AllocError>
     requires { first + count < 2 ^ 32 }
     ensures { OnOk result (clauses.new ≡ clauses.old ++ no_two first count) }
 {
@@ -83,7 +92,12 @@ fn add_no_two(alloc: Global, clauses: &mut Clauses, first: u32, count: u32) -> R
 }
 
 // A variable and each of so many behind it are not both true.
-fn add_pairs_with(alloc: Global, clauses: &mut Clauses, first: u32, count: u32) -> Result<(), AllocError>
+fn add_pairs_with(
+    alloc: Global,
+    clauses: &mut Clauses,
+    first: u32,
+    count: u32,
+) -> Result<(), AllocError>
     requires { first + 1 + count < 2 ^ 32 }
     ensures { OnOk result (clauses.new ≡ clauses.old ++ with_each first count) }
 {

@@ -42,7 +42,13 @@ pub fn find_projection(
     let formula = formula_of(alloc, &rows, pairs.as_slice(), set.as_slice())?;
     match solve_owned(alloc, formula, budget)? {
         Outcome::Sat(values) => {
-            let found = read_model(alloc, &values, &rows.items, pairs.as_slice(), set.as_slice())?;
+            let found = read_model(
+                alloc,
+                &values,
+                &rows.items,
+                pairs.as_slice(),
+                set.as_slice(),
+            )?;
             Ok(Search::Found(found))
         }
         Outcome::Unsat => Ok(Search::Nothing),
@@ -51,7 +57,13 @@ pub fn find_projection(
 }
 
 // The projection that a model says, with the pairs that are below under it.
-fn read_model(alloc: Global, values: &[bool], rows: &[Row], pairs: &[Pair], set: &[u32]) -> Result<ProjectionFound, AllocError>
+fn read_model(
+    alloc: Global,
+    values: &[bool],
+    rows: &[Row],
+    pairs: &[Pair],
+    set: &[u32],
+) -> Result<ProjectionFound, AllocError>
     requires set { All (λ n. n < length pairs.now) set.now }
     requires increasing { IsIncreasing set.now }
     requires few { length values.now < 2 ^ 32 }
@@ -62,8 +74,5 @@ fn read_model(alloc: Global, values: &[bool], rows: &[Row], pairs: &[Pair], set:
 {
     let args = choices_by(alloc, values, rows)?;
     let drop = below_under(alloc, pairs, set, args.as_slice())?;
-    Ok(ProjectionFound {
-        args,
-        drop,
-    })
+    Ok(ProjectionFound { args, drop })
 }

@@ -14,7 +14,12 @@ use wh_sat_trail::{Clauses, Formula};
 use wh_system::Pair;
 
 /// The formula of a set of pairs over the rows of its marked symbols. More variables than numbers count as want of memory.
-pub fn formula_of(alloc: Global, rows: &Rows, pairs: &[Pair], set: &[u32]) -> Result<Formula, AllocError>
+pub fn formula_of(
+    alloc: Global,
+    rows: &Rows,
+    pairs: &[Pair],
+    set: &[u32],
+) -> Result<Formula, AllocError>
     requires set { All (λ n. n < length pairs.now) set.now }
     requires each { All (λ r. r.first + r.need ≤ rows.now.end) rows.now.items.items }
     requires rows { (f : ℕ) → (row_of rows.now.items.items f).first + (row_of rows.now.items.items f).need ≤ rows.now.end }
@@ -25,10 +30,7 @@ pub fn formula_of(alloc: Global, rows: &Rows, pairs: &[Pair], set: &[u32]) -> Re
     let variables = rows.end.checked_add(count).ok_or(AllocError)?;
     let cases = cases_of(alloc, &rows.items, rows.end, pairs, set)?;
     let clauses = clauses_of(alloc, rows, &cases, count)?;
-    Ok(Formula {
-        variables,
-        clauses,
-    })
+    Ok(Formula { variables, clauses })
 }
 
 // Its clauses.

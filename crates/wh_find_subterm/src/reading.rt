@@ -42,7 +42,12 @@ fn first_true(values: &[bool], first: u32, count: u32) -> u32
 }
 
 /// The pairs of the set that are below.
-pub fn below_under(alloc: Global, pairs: &[Pair], set: &[u32], args: &[Choice]) -> Result<PairSet, AllocError>
+pub fn below_under(
+    alloc: Global,
+    pairs: &[Pair],
+    set: &[u32],
+    args: &[Choice],
+) -> Result<PairSet, AllocError>
     requires set { All (λ n. n < length pairs.now) set.now }
     requires increasing { IsIncreasing set.now }
     requires args { IsIncreasing (chosen_symbols (map chosen args.now)) }

@@ -38,10 +38,7 @@ pub fn rows_of(alloc: Global, system: &System, symbols: &[u32]) -> Result<Rows, 
         })?;
         end = end.checked_add(need).ok_or(AllocError)?;
     }
-    Ok(Rows {
-        items,
-        end,
-    })
+    Ok(Rows { items, end })
 }
 
 // How many arguments a symbol has to choose from.

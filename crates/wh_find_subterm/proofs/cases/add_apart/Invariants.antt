@@ -1,4 +1,3 @@
-use Rattle.std.proofs.Common.{map}
 use Rattle.std.specs.List.{flat_map, range_with_len}
 use Rattle.wh_system.specs.PairData.{pair_data}
 use Rattle.wh_find_subterm.specs.Cases.{Adds, spots_beside}

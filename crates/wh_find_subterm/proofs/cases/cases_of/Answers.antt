@@ -1,4 +1,4 @@
-use Rattle.std.proofs.Common.{map, get_or, sym, ap, ◌∙◌, arith}
+use Rattle.std.proofs.Common.{map, get_or, sym, arith}
 use Rattle.wh_system.specs.PairData.{pair_data}
 use Rattle.wh_system.proofs.ByPlace.{read_map}
 use Rattle.wh_find_subterm.proofs.CaseLemmas.{cases_more}
@@ -18,5 +18,5 @@ loop-number-preserved c =
     record {
       own = omega (arith, own);
       cases = cases_more rows ps c.args.end set i c.loop-number.cases.items c.add_pair.new.cases.items (pair_data p) c.row_of.result c.row_of-in-loop-number.result c.loop-number.own c.loop-number-test.true
-        c.loop-number.invariant.cases c.in_ok-add_pair.ensures (sym (pair_is ps n (pair_data p) at)) c.row_of.ensures c.row_of-in-loop-number.ensures own;
+          c.loop-number.invariant.cases c.in_ok-add_pair.ensures (sym (pair_is ps n (pair_data p) at)) c.row_of.ensures c.row_of-in-loop-number.ensures own;
     }

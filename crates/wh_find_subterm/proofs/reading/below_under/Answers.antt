@@ -26,9 +26,9 @@ loop-number-preserved c =
     let is = pair_is ps n (pair_data p) (read_map pair_data c.args.pairs.now n p (c.requires.set i 0 c.loop-number-test.true) c.index-pairs-number.is) in
     elim c.if-is_below.branch [
       | then-is_below+in_ok-push w ↦ subst (λ (ds : List ℕ). IsBelowSet ps set args (i + 1) ds) (sym (w.drop-is ∙ w.in_ok-push.ensures.ok))
-        (below_more ps set args i n drop c.loop-number.invariant c.requires.increasing at (subst (Below args) (sym is) (c.is_below.ensures.0 w.if-is_below.true)))
+          (below_more ps set args i n drop c.loop-number.invariant c.requires.increasing at (subst (Below args) (sym is) (c.is_below.ensures.0 w.if-is_below.true)))
       | else-is_below w ↦ subst (λ (ds : List ℕ). IsBelowSet ps set args (i + 1) ds) (sym w.drop-is)
-        (below_skip ps set args i n drop c.loop-number.invariant at (λ below. cc (c.is_below.ensures.1 (subst (Below args) is below), w.if-is_below.false)))
+          (below_skip ps set args i n drop c.loop-number.invariant at (λ below. cc (c.is_below.ensures.1 (subst (Below args) is below), w.if-is_below.false)))
     ]
 
 pub returns : goal.returns
