@@ -1,5 +1,5 @@
 -- Blocks are right, or there is a first thing wrong with them.
-use Rattle.std.proofs.Common.{◌≡◌, ℕ, zero, suc, ◌+◌, ◌<◌, ◌≤◌, ◌⊎◌, inl, inr, List, [], ◌∷◌, length, Option, Some, None, slice_get, Contains, refl, ap, sym, subst, ◌∙◌, arith}
+use Rattle.std.proofs.Common.{◌≡◌, ℕ, zero, suc, ◌+◌, ◌<◌, ◌⊎◌, inl, inr, List, [], ◌∷◌, length, Option, Some, None, slice_get, Contains, refl, ap, subst, arith}
 use Rattle.std.proofs.lemmas.Bool.{cases_lt}
 use Rattle.std.proofs.lemmas.Option.{slice_get_within}
 use Rattle.wh_system.proofs.TypedDecided.{Decided, below_decided, decided_by, both_decided}
@@ -71,7 +71,7 @@ misplaced_decided : (set : List ℕ) (blocks : List (List ℕ)) (n : ℕ) → De
 misplaced_decided set blocks n =
     either_decided (repeated_decided blocks n)
     (either_decided (both_decided (listed_or_not blocks n) (not_decided (contains_or_not set n)))
-      (both_decided (contains_or_not set n) (not_decided (listed_or_not blocks n))))
+    (both_decided (contains_or_not set n) (not_decided (listed_or_not blocks n))))
 
 -- each listed number is below some number
 

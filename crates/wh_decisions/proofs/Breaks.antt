@@ -1,5 +1,5 @@
 -- Rules are passing, or there is a first break.
-use Rattle.std.proofs.Common.{◌≡◌, ℕ, ◌<◌, ◌≤◌, ◌⊎◌, inl, inr, List, Option, Some, None, slice_get, Contains, refl, sym, subst, arith}
+use Rattle.std.proofs.Common.{◌≡◌, ℕ, ◌<◌, ◌⊎◌, inl, inr, List, Option, Some, None, slice_get, Contains, refl, sym, subst}
 use Rattle.wh_types.specs.Ty.{Ty, sort, ◌⇒◌, arguments, result_sort}
 use Rattle.wh_terms.specs.Tree.{Tm, bound, free, fun, meta, lam, app, Tms, none, more}
 use Rattle.wh_terms.specs.Typing.{Symbols}
@@ -32,9 +32,9 @@ accessible_decided S rank f i = go (slice_get S.funs f) refl
     at_type b d (Some a) e =
         decided_by (λ is. (a, b, d, e, is))
         (λ (x, c, at, also, is).
-          let same : c ≡ b = some_one at d in
-          let there : slice_get (arguments b) i ≡ Some x = subst (λ y. slice_get (arguments y) i ≡ Some x) same also in
-          subst (IsAccessibleIn rank (result_sort b)) (some_one there e) (subst (λ y. IsAccessibleIn rank (result_sort y) x) same is))
+        let same : c ≡ b = some_one at d in
+        let there : slice_get (arguments b) i ≡ Some x = subst (λ y. slice_get (arguments y) i ≡ Some x) same also in
+        subst (IsAccessibleIn rank (result_sort b)) (some_one there e) (subst (λ y. IsAccessibleIn rank (result_sort y) x) same is))
         (accessible_in_decided rank (result_sort b) a)
 
     go : (o : Option Ty) → slice_get S.funs f ≡ o → Decided (IsAccessible S rank f i)
@@ -98,10 +98,13 @@ IsLeastWithout Q r z = Occurs z r.right × (Q r.left z → ⊥) × ((y : ℕ) �
 least_without : (Q : Tm → ℕ → Type 0) → ((l : Tm) (z : ℕ) → Decided (Q l z)) → (r : RewriteRule) → ((z : ℕ) × IsLeastWithout Q r z) ⊎ EachUsed Q r
 least_without Q decided r = elim (some_occurring (λ z. Q r.left z → ⊥) (λ z. not_decided (decided r.left z)) r.right) [
   | inl (x, occurs, not) ↦
-      let (z, ((there, bad), least)) = least_of (λ z. Occurs z r.right × (Q r.left z → ⊥)) (λ z. both_decided (occurs_decided z r.right) (not_decided (decided r.left z))) x (occurs, not) in
+      let (z, ((there, bad), least)) = least_of (λ z. Occurs z r.right × (Q r.left z → ⊥)) used_badly x (occurs, not) in
       inl (z, (there, bad, λ y less here. not_refuted (decided r.left y) (λ missing. least y less (here, missing))))
   | inr nowhere ↦ inr (λ z occurs. not_refuted (decided r.left z) (nowhere z occurs))
 ]
+  where
+    used_badly : (z : ℕ) → Decided (Occurs z r.right × (Q r.left z → ⊥))
+    used_badly z = both_decided (occurs_decided z r.right) (not_decided (decided r.left z))
 
 each_used_decided : (Q : Tm → ℕ → Type 0) → ((l : Tm) (z : ℕ) → Decided (Q l z)) → (r : RewriteRule) → Decided (EachUsed Q r)
 each_used_decided Q decided r = elim (least_without Q decided r) [
@@ -113,10 +116,14 @@ used_or_not : (Q : Tm → ℕ → Type 0) → ((l : Tm) (z : ℕ) → Decided (Q
     → ((r : RewriteRule) → Contains rules r → EachUsed Q r) ⊎ ((i z : ℕ) × IsFirstWithout Q rules i z)
 used_or_not Q decided rules = elim (first_place (λ r. EachUsed Q r → ⊥) (λ r. not_decided (each_used_decided Q decided r)) rules) [
   | inl (i, r, at, bad, before) ↦ elim (least_without Q decided r) [
-    | inl (z, (occurs, not, least)) ↦ inr (i, z, record {
-      here = (r, at, occurs, not, least);
-      before = λ j s less also. not_refuted (each_used_decided Q decided s) (before j s less also);
-    })
+    | inl (z, (occurs, not, least)) ↦ inr (
+      i,
+      z,
+      record {
+        here = (r, at, occurs, not, least);
+        before = λ j s less also. not_refuted (each_used_decided Q decided s) (before j s less also);
+      },
+    )
     | inr each ↦ absurd (bad each)
   ]
   | inr nowhere ↦ inl (λ r found. not_refuted (each_used_decided Q decided r) (nowhere r found))

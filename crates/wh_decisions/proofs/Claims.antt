@@ -1,12 +1,11 @@
 -- A certificate of non-termination is valid, or it has a first fault.
-use Rattle.std.proofs.Common.{◌≡◌, ℕ, suc, ◌<◌, ◌⊎◌, inl, inr, List, [], ◌∷◌, length, Option, Some, None, refl, ap, ◌∙◌, arith}
+use Rattle.std.proofs.Common.{◌≡◌, ℕ, ◌<◌, ◌⊎◌, inl, inr, List, [], ◌∷◌, length, Option, Some, None, refl, ap, ◌∙◌, arith}
 use Rattle.wh_terms.specs.Tree.{Tm, bound}
 use Rattle.wh_terms.specs.Substitution.{act}
 use Rattle.wh_terms.specs.Places.{opened_part_at}
 use Rattle.wh_terms.specs.Rules.{AreWellMade}
 use Rattle.wh_terms.specs.declared.path.Step as taken
 use Rattle.wh_text.specs.RawTree.{RTm}
-use Rattle.wh_step.specs.Replay.{Replays}
 use Rattle.wh_system.specs.Systems.{SystemData}
 use Rattle.wh_system.proofs.TypedDecided.{Decided, decided_by}
 use Rattle.wh_system.proofs.ByPlace.{some_one}

@@ -1,13 +1,13 @@
 -- Whether a meta-term clashes with a pattern, and so whether a pair may follow another, is decided.
-use Rattle.std.proofs.Common.{◌≡◌, ◌≢◌, ℕ, zero, suc, ◌<◌, ◌⊎◌, inl, inr, List, [], ◌∷◌, Option, Some, None, slice_get, refl, sym, ap, subst, ◌∙◌, arith}
-use Rattle.wh_terms.specs.Tree.{Tm, bound, free, fun, meta, lam, app}
+use Rattle.std.proofs.Common.{◌≡◌, ◌≢◌, ℕ, zero, suc, ◌⊎◌, inl, inr, List, [], ◌∷◌, Option, Some, None, slice_get, refl, sym, ap, subst, ◌∙◌}
+use Rattle.wh_terms.specs.Tree.{Tm, lam, app}
 use Rattle.wh_terms.specs.Rules.{RewriteRule}
 use Rattle.wh_system.specs.Needs.{need_of}
 use Rattle.wh_system.specs.PairData.{PairData}
 use Rattle.wh_system.proofs.TypedDecided.{Decided, below_decided, decided_by, both_decided}
 use Rattle.wh_system.proofs.ByPlace.{some_one}
-use Rattle.wh_graph.specs.Rigid.{Root, abstraction, variable, symbol, root, TooFew, IsFixed, Rigid}
-use Rattle.wh_graph.specs.Clash.{body, last, front, Clash, roots, parts, PartsClash}
+use Rattle.wh_graph.specs.Rigid.{Root, abstraction, variable, symbol, root, TooFew, IsFixed}
+use Rattle.wh_graph.specs.Clash.{Clash, roots, parts, PartsClash}
 use Rattle.wh_graph.specs.May.{SomeClash, May, Follows}
 use Rattle.wh_graph.proofs.ClashLemmas.{parts_body, body_parts, parts_last, parts_front, spine_parts}
 use Rattle.wh_decisions.proofs.Searches.{not_decided, either_decided, equal_decided}
@@ -49,7 +49,8 @@ HasRoots rules q p = (r s : Root) × (root q ≡ Some r) × (root p ≡ Some s) 
 
 clash_roots : (rules : List RewriteRule) (q p : Tm) → Clash rules q p → HasRoots rules q p
 clash_roots rules q p (roots {r = r} {s = s} rigid d e other) = (r, s, d, e, (subst (IsFixed rules) (some_one rigid.1 d) rigid.2, inl other))
-clash_roots rules q p (parts {x = x} {y = y} {r = r} rigid d e match clash) = (r, r, d, e, (subst (IsFixed rules) (some_one rigid.1 d) rigid.2, inr (x, y, match, clash)))
+clash_roots rules q p (parts {x = x} {y = y} {r = r} rigid d e match clash) =
+    (r, r, d, e, (subst (IsFixed rules) (some_one rigid.1 d) rigid.2, inr (x, y, match, clash)))
 
 at_roots : (rules : List RewriteRule) (q p : Tm) (r s : Root) → root q ≡ Some r → root p ≡ Some s → Clash rules q p → ClashesAt rules r s q p
 at_roots rules q p r s d e clash =
@@ -71,7 +72,8 @@ no_parts : (rules : List RewriteRule) (q p : Tm) → ((x y : Tm) → Clash rules
 no_parts rules q p none (x, y, match, clash) = none x y clash
 
 parts_decided : (rules : List RewriteRule) (q p : Tm) → Decided (PartsClash rules q p)
-parts_decided rules (lam a t) (lam b u) = decided_by (parts_body rules a b t u) (body_parts rules a b t u) (clash_by_parts rules t u (parts_decided rules t u))
+parts_decided rules (lam a t) (lam b u) =
+    decided_by (parts_body rules a b t u) (body_parts rules a b t u) (clash_by_parts rules t u (parts_decided rules t u))
 parts_decided rules (app t u) (app t' u') =
     decided_by (λ e. elim e [ inl before ↦ parts_front rules t t' u u' before | inr here ↦ parts_last rules t t' u u' here ]) (spine_parts rules t t' u u')
     (either_decided (parts_decided rules t t') (clash_by_parts rules u u' (parts_decided rules u u')))
@@ -109,4 +111,6 @@ follows_decided rules ps a b = go (slice_get ps a) refl (slice_get ps b) refl
     go None d u e = inr (λ (x, y, at, also, may). cc (d, at))
     go (Some x) d None e = inr (λ (z, y, at, also, may). cc (e, also))
     go (Some x) d (Some y) e =
-        decided_by (λ may. (x, y, d, e, may)) (λ (z, w, at, also, may). subst (May rules x) (some_one also e) (subst (λ v. May rules v w) (some_one at d) may)) (may_decided rules x y)
+        decided_by (λ may. (x, y, d, e, may))
+        (λ (z, w, at, also, may). subst (May rules x) (some_one also e) (subst (λ v. May rules v w) (some_one at d) may))
+        (may_decided rules x y)

@@ -1,5 +1,5 @@
 -- Whether a raw term stands for a term, and whether that fits, is decided.
-use Rattle.std.proofs.Common.{◌≡◌, ℕ, ◌+◌, ◌≤◌, ◌⊎◌, inl, inr, [], Option, Some, None, refl, sym, ◌∙◌, subst}
+use Rattle.std.proofs.Common.{◌≡◌, ℕ, ◌+◌, inl, inr, [], Option, Some, None, refl, subst}
 use Rattle.wh_types.specs.Ty.{Ty}
 use Rattle.wh_terms.specs.Tree.{Tm, bound, free, fun, meta, lam, app, Tms, none, more, argument_count}
 use Rattle.wh_terms.specs.Typing.{Symbols, Typed, WellTyped}
@@ -12,7 +12,7 @@ use Rattle.wh_system.specs.Resolve.{term_scope, Means}
 use Rattle.wh_system.proofs.TypedDecided.{Decided, HasType, decided_by, both_decided, same_type_decided, typed_decided}
 use Rattle.wh_system.proofs.ByPlace.{some_one}
 use Rattle.wh_no.specs.Faults.{IsTermFor}
-use Rattle.wh_decisions.proofs.Searches.{at_most_decided}
+use Rattle.wh_decisions.proofs.Searches.{SomeOrNone, at_most_decided}
 
 mutual
   spines_decided : (n : ℕ) (t : Tm) → Decided (SpinesWithin n t)
@@ -43,24 +43,24 @@ has_type_decided S t a = go (typed_decided S [] t [])
 
 -- the raw term stands for a term, or for none
 
-pub means_or_not : (d : SystemData) (raw : RTm) → ((t : Tm) × Means d raw t) ⊎ ((t : Tm) → Means d raw t → ⊥)
+pub means_or_not : (d : SystemData) (raw : RTm) → SomeOrNone (Means d raw)
 means_or_not d raw = go (meant (term_scope d) [] raw) refl
   where
-    at_tree : (t : Tm) → meant (term_scope d) [] raw ≡ Some t → Decided (HasType d.symbols [] [] t) → ((t : Tm) × Means d raw t) ⊎ ((t : Tm) → Means d raw t → ⊥)
+    at_tree : (t : Tm) → meant (term_scope d) [] raw ≡ Some t → Decided (HasType d.symbols [] [] t) → SomeOrNone (Means d raw)
     at_tree t named (inl typed) = inl (t, record { named = named; typed = typed })
     at_tree t named (inr not) = inr (λ u means. not (subst (WellTyped d.symbols) (some_one means.named named) means.typed))
 
-    go : (o : Option Tm) → meant (term_scope d) [] raw ≡ o → ((t : Tm) × Means d raw t) ⊎ ((t : Tm) → Means d raw t → ⊥)
+    go : (o : Option Tm) → meant (term_scope d) [] raw ≡ o → SomeOrNone (Means d raw)
     go None e = inr (λ t means. let named = means.named in cc (e, named))
     go (Some t) e = at_tree t e (typed_decided d.symbols [] t [])
 
-pub term_or_not : (d : SystemData) (raw : RTm) → ((t : Tm) × IsTermFor d raw t) ⊎ ((t : Tm) → IsTermFor d raw t → ⊥)
+pub term_or_not : (d : SystemData) (raw : RTm) → SomeOrNone (IsTermFor d raw)
 term_or_not d raw = go (means_or_not d raw)
   where
-    at_term : (t : Tm) → Means d raw t → Decided (Fits t) → ((t : Tm) × IsTermFor d raw t) ⊎ ((t : Tm) → IsTermFor d raw t → ⊥)
+    at_term : (t : Tm) → Means d raw t → Decided (Fits t) → SomeOrNone (IsTermFor d raw)
     at_term t means (inl fits) = inl (t, record { means = means; fits = fits })
     at_term t means (inr big) = inr (λ u is. big (subst Fits (some_one is.means.named means.named) is.fits))
 
-    go : ((t : Tm) × Means d raw t) ⊎ ((t : Tm) → Means d raw t → ⊥) → ((t : Tm) × IsTermFor d raw t) ⊎ ((t : Tm) → IsTermFor d raw t → ⊥)
+    go : SomeOrNone (Means d raw) → SomeOrNone (IsTermFor d raw)
     go (inl (t, means)) = at_term t means (fits_decided t)
     go (inr nothing) = inr (λ t is. nothing t is.means)

@@ -1,5 +1,5 @@
 -- Choices are a projection, or there is a first thing wrong with them.
-use Rattle.std.proofs.Common.{◌≡◌, ℕ, zero, suc, ◌+◌, ◌<◌, ◌≤◌, ◌⊎◌, inl, inr, Bool, true, false, List, [], ◌∷◌, length, get_or, Option, Some, None, slice_get, All, Contains, refl, ap, ap₂, sym, subst, ◌∙◌, arith}
+use Rattle.std.proofs.Common.{◌≡◌, ℕ, ◌+◌, ◌<◌, ◌≤◌, ◌⊎◌, inl, inr, Bool, true, false, List, [], ◌∷◌, length, get_or, Option, Some, None, slice_get, All, Contains, refl, ap, ap₂, subst, ◌∙◌}
 use Rattle.std.proofs.lemmas.Option.{slice_get_within, slice_get-get_or}
 use Rattle.std.proofs.lemmas.List.Elements.{All-contains}
 use Rattle.wh_terms.specs.Tree.{Tm, bound}
@@ -17,7 +17,7 @@ use Rattle.wh_subterm.specs.declared.projection.SubtermFault.{SubtermFault}
 use Rattle.wh_subterm.specs.declared.projection.SubtermFault.TheVariants.{BadArgs, NoProjection, BadArgument, BadDrop, NotDecreasing}
 use Rattle.wh_subterm.proofs.DropLemmas.{drops_some, drops_once, drops_within}
 use Rattle.wh_subterm.proofs.ProjectionLemmas.{unprojected, decreasing_part, decreasing_same, decreasing_cases}
-use Rattle.wh_decisions.proofs.Searches.{not_decided, either_decided, not_refuted, equal_decided, at_most_decided, false_decided, member_decided, HasFirst, HasNoneOf, first_place, all_unless, least_below, some_below, bound_of}
+use Rattle.wh_decisions.proofs.Searches.{SomeOrNone, not_decided, either_decided, not_refuted, equal_decided, at_most_decided, false_decided, member_decided, HasFirst, HasNoneOf, first_place, all_unless, least_below, some_below, bound_of}
 use Rattle.wh_decisions.proofs.BlockFaults.{twice_decided}
 use Rattle.wh_decisions.proofs.Parts.{tree_decided, part_decided}
 
@@ -86,7 +86,8 @@ pub for_marked_decided : (pairs : List PairData) (set : List ℕ) (args : List C
 for_marked_decided pairs set args =
     decided_by (λ (up, (each, all)). record { in_order = up; each = λ f. (each f, all f) })
     (λ marked. (marked.in_order, (λ f found. (marked.each f).0 found, λ f is. (marked.each f).1 is)))
-    (both_decided (increasing_decided (chosen_symbols args)) (both_decided (each_marked_decided pairs set (chosen_symbols args)) (all_listed_decided pairs set (chosen_symbols args))))
+    (both_decided (increasing_decided (chosen_symbols args))
+    (both_decided (each_marked_decided pairs set (chosen_symbols args)) (all_listed_decided pairs set (chosen_symbols args))))
 
 -- places
 
@@ -137,10 +138,7 @@ choice_decided c e =
     decided_by (λ (s, a). ap₂ choice s a) (λ same. (ap (λ (x : Chosen). x.symbol) same, ap (λ (x : Chosen). x.argument) same))
     (both_decided (equal_decided c.symbol e.symbol) (equal_decided c.argument e.argument))
 
-abbrev IsProjectedNowhere : List Chosen → ℕ → List Tm → Type 0
-IsProjectedNowhere args f ts = (t : Tm) → IsProjected args f ts t → ⊥
-
-projected_or_not : (args : List Chosen) (f : ℕ) (ts : List Tm) → ((t : Tm) × IsProjected args f ts t) ⊎ IsProjectedNowhere args f ts
+projected_or_not : (args : List Chosen) (f : ℕ) (ts : List Tm) → SomeOrNone (IsProjected args f ts)
 projected_or_not args f ts = elim (some_below (λ i. Contains args (choice f (i + 1))) (λ i. member_decided choice_decided args (choice f (i + 1))) (length ts)) [
   | inl (i, within, found) ↦ inl (get_or ts i (bound 0), (i, found, slice_get-get_or ts i (bound 0) within))
   | inr none ↦ inr (λ t (i, found, at). none (i, slice_get_within ts i t at, found))
@@ -150,12 +148,13 @@ projected_or_not args f ts = elim (some_below (λ i. Contains args (choice f (i 
 decreasing_decided : (args : List Chosen) (a : PairData) (dropped : Bool) → IsIncreasing (chosen_symbols args) → Decided (Decreasing args dropped a)
 decreasing_decided args a dropped up = go (projected_or_not args a.left_fun a.left) (projected_or_not args a.right_fun a.right)
   where
-    from : (t u : Tm) → IsProjected args a.left_fun a.left t → IsProjected args a.right_fun a.right u → Part u t ⊎ ((dropped ≡ false) × (t ≡ u)) → Decreasing args dropped a
+    from : (t u : Tm) → IsProjected args a.left_fun a.left t → IsProjected args a.right_fun a.right u
+        → Part u t ⊎ ((dropped ≡ false) × (t ≡ u)) → Decreasing args dropped a
     from t u left right (inl part) = decreasing_part args a t u dropped left right part
     from t u left right (inr (free, same)) = decreasing_same args a t u dropped free left right same
 
-    go : ((t : Tm) × IsProjected args a.left_fun a.left t) ⊎ IsProjectedNowhere args a.left_fun a.left
-        → ((t : Tm) × IsProjected args a.right_fun a.right t) ⊎ IsProjectedNowhere args a.right_fun a.right → Decided (Decreasing args dropped a)
+    go : SomeOrNone (IsProjected args a.left_fun a.left)
+        → SomeOrNone (IsProjected args a.right_fun a.right) → Decided (Decreasing args dropped a)
     go (inl (t, left)) (inl (u, right)) =
         decided_by (from t u left right) (decreasing_cases args a t u dropped up left right)
         (either_decided (part_decided u t) (both_decided (false_decided dropped) (tree_decided t u)))
@@ -202,8 +201,11 @@ pairs_or_fault : (rules : List RewriteRule) (pairs : List PairData) (set : List 
     → All (IsPlace rules) args → (IsBadDrop set drop → ⊥) → ProjectionOrFault rules pairs set args drop
 pairs_or_fault rules pairs set args drop marked places good = go (bound_of set)
   where
+    wrong_there : (n : ℕ) → Decided (Contains set n × IsNotDecreasing pairs args drop n)
+    wrong_there n = both_decided (contains_or_not set n) (not_decreasing_decided pairs args drop n marked.in_order)
+
     go : (k : ℕ) × ((n : ℕ) → Contains set n → n < k) → ProjectionOrFault rules pairs set args drop
-    go (k, below) = elim (least_below (λ n. Contains set n × IsNotDecreasing pairs args drop n) (λ n. both_decided (contains_or_not set n) (not_decreasing_decided pairs args drop n marked.in_order)) k) [
+    go (k, below) = elim (least_below (λ n. Contains set n × IsNotDecreasing pairs args drop n) wrong_there k) [
       | inl (n, less, ((found, wrong), least)) ↦ inr (NotDecreasing n, (marked, places, good, found, wrong, λ m under there bad. least m under (there, bad)))
       | inr none ↦ inl (no_fault rules pairs set args drop marked places good (λ n found wrong. none n (below n found) (found, wrong)))
     ]

@@ -1,5 +1,5 @@
 -- What is decided, and searches for the least number and for the first element of which something holds.
-use Rattle.std.proofs.Common.{◌≡◌, ℕ, zero, suc, ◌+◌, ◌<◌, ◌≤◌, ◌⊎◌, inl, inr, List, [], ◌∷◌, length, get_or, Bool, true, false, Some, slice_get, All, Contains, refl, ap, sym, subst, ◌∙◌, arith}
+use Rattle.std.proofs.Common.{◌≡◌, ℕ, zero, suc, ◌+◌, ◌<◌, ◌≤◌, ◌⊎◌, inl, inr, List, [], ◌∷◌, get_or, Bool, true, false, Some, slice_get, All, Contains, refl, ap, sym, subst, ◌∙◌, arith}
 use Rattle.std.proofs.lemmas.Bool.{cases_eq, cases_lt}
 use Rattle.std.proofs.lemmas.Option.{slice_get-get_or}
 use Rattle.std.proofs.lemmas.List.Elements.{All-contains}
@@ -30,6 +30,10 @@ at_most_decided m n = decided_by (λ less. omega arith) (λ le. omega arith) (be
 pub false_decided : (b : Bool) → Decided (b ≡ false)
 false_decided true = inr (λ e. cc)
 false_decided false = inl refl
+
+-- P holds of something, or of nothing
+abbrev pub SomeOrNone : {A : Type 0} → (A → Type 0) → Type 0
+SomeOrNone {A} P = ((x : A) × P x) ⊎ ((x : A) → P x → ⊥)
 
 -- equal lists, where equal elements are decided
 pub list_decided : {A : Type 0} → ((x y : A) → Decided (x ≡ y)) → (xs ys : List A) → Decided (xs ≡ ys)
@@ -95,11 +99,13 @@ first_place {A = A} P decided (y ∷ ys) = go (decided y) (first_place P decided
 pub bound_of : (ns : List ℕ) → (k : ℕ) × ((n : ℕ) → Contains ns n → n < k)
 bound_of [] = (0, λ n found. absurd (none_there n found))
 bound_of (m ∷ ns) =
-    let (k, below) = bound_of ns in
-    (m + k + 1, λ n found. elim (head_or_behind ns m n found) [
-      | inl same ↦ omega (arith, same)
-      | inr later ↦ let less = below n later in omega (arith, less)
-    ])
+    let (k, below) = bound_of ns in (
+      m + k + 1,
+      λ n found. elim (head_or_behind ns m n found) [
+        | inl same ↦ omega (arith, same)
+        | inr later ↦ let less = below n later in omega (arith, less)
+      ],
+    )
 
 -- whether an element is in a list, where equal elements are decided
 pub member_decided : {A : Type 0} → ((x y : A) → Decided (x ≡ y)) → (xs : List A) (x : A) → Decided (Contains xs x)

@@ -1,6 +1,6 @@
 -- Steps can be followed to their end, or there is a first that does not apply or whose result does not fit.
 use Rattle.std.proofs.Common.{◌≡◌, ℕ, suc, ◌⊎◌, inl, inr, List, [], ◌∷◌, Option, Some, None, slice_get, refl, sym, ◌∙◌, subst}
-use Rattle.wh_terms.specs.Tree.{Tm, bound, free, fun, meta, lam, app}
+use Rattle.wh_terms.specs.Tree.{Tm, lam, app}
 use Rattle.wh_terms.specs.Substitution.{opened}
 use Rattle.wh_terms.specs.Sight.{LooseBelow, IsTerm}
 use Rattle.wh_terms.specs.Typing.{Symbols}
@@ -20,53 +20,52 @@ use Rattle.wh_step.proofs.PlaceLemmas.{step_there, no_step_nowhere, no_step_ther
 use Rattle.wh_step.proofs.ReplayLemmas.{step_shut, step_term}
 use Rattle.wh_system.proofs.TypedDecided.{Decided}
 use Rattle.wh_system.proofs.ByPlace.{some_one}
+use Rattle.wh_decisions.proofs.Searches.{SomeOrNone}
 use Rattle.wh_decisions.proofs.Parts.{tree_decided}
 use Rattle.wh_decisions.proofs.Meant.{fits_decided}
 
--- a relation leads from a tree to some tree, or to none
-abbrev Leads : (Tm → Type 0) → Type 0
-Leads R = ((v : Tm) × R v) ⊎ ((v : Tm) → R v → ⊥)
-
 -- at the root
 
-beta_or_not : (t : Tm) → Leads (BetaStep t)
+beta_or_not : (t : Tm) → SomeOrNone (BetaStep t)
 beta_or_not (app (lam a t) u) = inl (opened u t, refl)
 beta_or_not t = inr (λ v step. step)
 
-rule_or_not : (S : Symbols) (r : RewriteRule) → IsWellMade S r → (t : Tm) → Leads (RuleStep r t)
+rule_or_not : (S : Symbols) (r : RewriteRule) → IsWellMade S r → (t : Tm) → SomeOrNone (RuleStep r t)
 rule_or_not S r w t = go (tree_decided (value g r.left) t)
   where
     g : ℕ → Body
     g = candidate_for r.metas r.left t
 
-    go : Decided (value g r.left ≡ t) → Leads (RuleStep r t)
-    go (inl same) = inl (value g r.right, (g, subst (Value g r.left) same (has_value g r.left (typed-fits w.typed.1)), has_value g r.right (typed-fits w.typed.2)))
+    go : Decided (value g r.left ≡ t) → SomeOrNone (RuleStep r t)
+    go (inl same) =
+        let left = subst (Value g r.left) same (has_value g r.left (typed-fits w.typed.1)) in
+        inl (value g r.right, (g, left, has_value g r.right (typed-fits w.typed.2)))
     go (inr other) = inr (λ v (h, left, right).
         let (fits, is) = value_is left in
         other (value_agree g h r.left (candidate_is r.metas h r.left t w.pattern_left (typed-fits w.typed.1) fits is) ∙ sym is))
 
-root_or_not : (S : Symbols) (rules : List RewriteRule) → AreWellMade S rules → (k : Option ℕ) (t : Tm) → Leads (RootStep rules k t)
+root_or_not : (S : Symbols) (rules : List RewriteRule) → AreWellMade S rules → (k : Option ℕ) (t : Tm) → SomeOrNone (RootStep rules k t)
 root_or_not S rules w None t = beta_or_not t
 root_or_not S rules w (Some k) t = go (slice_get rules k) refl
   where
-    by_one : (r : RewriteRule) → slice_get rules k ≡ Some r → Leads (RuleStep r t) → Leads (RootStep rules (Some k) t)
+    by_one : (r : RewriteRule) → slice_get rules k ≡ Some r → SomeOrNone (RuleStep r t) → SomeOrNone (RootStep rules (Some k) t)
     by_one r at (inl (v, step)) = inl (v, (r, at, step))
     by_one r at (inr none) = inr (λ v (s, also, step). none v (subst (λ q. RuleStep q t v) (some_one also at) step))
 
-    go : (o : Option RewriteRule) → slice_get rules k ≡ o → Leads (RootStep rules (Some k) t)
+    go : (o : Option RewriteRule) → slice_get rules k ≡ o → SomeOrNone (RootStep rules (Some k) t)
     go None e = inr (λ v (r, at, step). cc (e, at))
     go (Some r) e = by_one r e (rule_or_not S r (rule_made S w k r e) t)
 
 -- at a place
 step_or_not : (S : Symbols) (rules : List RewriteRule) → AreWellMade S rules → (k : Option ℕ) (path : List ℕ) (t : Tm) → LooseBelow 0 t → IsTerm t
-    → Leads (StepAt rules k path t)
+    → SomeOrNone (StepAt rules k path t)
 step_or_not S rules w k path t shut plain = go (part_at path t) refl
   where
-    at_part : (r : Tm) → part_at path t ≡ Some r → Leads (RootStep rules k r) → Leads (StepAt rules k path t)
+    at_part : (r : Tm) → part_at path t ≡ Some r → SomeOrNone (RootStep rules k r) → SomeOrNone (StepAt rules k path t)
     at_part r here (inl (v, step)) = inl (put_at path v t, step_there S w k path t r v (put_at path v t) shut plain here step refl)
     at_part r here (inr none) = inr (no_step_there S w k path t r here none)
 
-    go : (o : Option Tm) → part_at path t ≡ o → Leads (StepAt rules k path t)
+    go : (o : Option Tm) → part_at path t ≡ o → SomeOrNone (StepAt rules k path t)
     go None e = inr (no_step_nowhere S w k path t e)
     go (Some r) e = at_part r e (root_or_not S rules w k r)
 
@@ -86,7 +85,18 @@ ends_behind rules s steps t v step fits (inl (u, rest)) = inl (u, (v, step, fits
 ends_behind rules s steps t v step fits (inr (inl (i, f))) =
     inr (inl (suc i, record { step = f.step; here = f.here; term = f.term; before = (v, step, fits, f.before); none = f.none }))
 ends_behind rules s steps t v step fits (inr (inr (i, b))) =
-    inr (inr (suc i, record { step = b.step; here = b.here; term = b.term; before = (v, step, fits, b.before); result = b.result; applies = b.applies; big = b.big }))
+    inr (inr (
+      suc i,
+      record {
+        step = b.step;
+        here = b.here;
+        term = b.term;
+        before = (v, step, fits, b.before);
+        result = b.result;
+        applies = b.applies;
+        big = b.big;
+      },
+    ))
 
 pub ends_or_stops : (S : Symbols) (rules : List RewriteRule) → AreWellMade S rules → (steps : List taken.Step) (t : Tm) → LooseBelow 0 t → IsTerm t
     → EndsOrStops rules steps t
