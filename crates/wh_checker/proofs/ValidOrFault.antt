@@ -1,5 +1,5 @@
 -- A certificate is valid, or it has a first fault.
-use Rattle.std.proofs.Common.{◌≡◌, ◌≢◌, ℕ, suc, ◌+◌, ◌⊎◌, inl, inr, List, [], ◌∷◌, ◌++◌, length, slice_get, Some, refl, sym, ap, subst, ◌∙◌}
+use Rattle.std.proofs.Common.{◌≡◌, ℕ, suc, ◌+◌, ◌⊎◌, inl, inr, List, [], ◌∷◌, ◌++◌, length, Some, refl, sym, ap, subst, ◌∙◌}
 use Rattle.std.proofs.lemmas.List.{length-append}
 use Rattle.wh_terms.specs.declared.path.Step as taken
 use Rattle.wh_text.specs.RawTree.{RTm}
@@ -20,7 +20,7 @@ use Rattle.wh_cert.specs.Written.{Cert, yes, no, Preorder}
 use Rattle.wh_cert.specs.Limits.{IsCert}
 use Rattle.wh_nodes.specs.Nodes.{Node, done, alone, blocks, subterm, Leaves, by_done, by_alone, by_blocks, by_subterm}
 use Rattle.wh_nodes.specs.Proves.{all_proved, one_proved}
-use Rattle.wh_decisions.proofs.Searches.{equal_decided, list_decided, HasFirst, HasNoneOf, first_place}
+use Rattle.wh_decisions.proofs.Searches.{SomeOrNone, equal_decided, list_decided, HasFirst, HasNoneOf, first_place}
 use Rattle.wh_decisions.proofs.Clashes.{follows_decided}
 use Rattle.wh_decisions.proofs.BlockFaults.{BlocksOrFault, blocks_or_fault}
 use Rattle.wh_decisions.proofs.Projections.{ProjectionOrFault, projection_or_fault}
@@ -44,9 +44,6 @@ use Rattle.wh_checker.proofs.SomeSets.{sets_of_lists, whole_set, kept_set}
 abbrev SaysNone : SystemData → List w.Arg → Type 0
 SaysNone d lines = (args : List Chosen) → SayChoices d lines args → ⊥
 
-abbrev SaysSome : SystemData → List w.Arg → Type 0
-SaysSome d lines = (args : List Chosen) × SayChoices d lines args
-
 none_behind : (d : SystemData) (line : w.Arg) (lines : List w.Arg) → SaysNone d lines → SaysNone d (line ∷ lines)
 none_behind d line lines none [] says = says
 none_behind d line lines none (c ∷ args) says = none args says.1
@@ -55,12 +52,13 @@ none_named : (d : SystemData) (line : w.Arg) (lines : List w.Arg) → HasNoneOf 
 none_named d line lines none [] says = says
 none_named d line lines none (c ∷ args) says = none line.name (contains_at d.fun_names c.symbol line.name says.0.named) refl
 
-said_or_not : (d : SystemData) (lines : List w.Arg) → SaysSome d lines ⊎ SaysNone d lines
+said_or_not : (d : SystemData) (lines : List w.Arg) → SomeOrNone (SayChoices d lines)
 said_or_not d [] = inl ([], tt)
-said_or_not d (line ∷ lines) = go (first_place (λ (name : List ℕ). name ≡ line.name) (λ name. list_decided equal_decided name line.name) d.fun_names) (said_or_not d lines)
+said_or_not d (line ∷ lines) =
+    go (first_place (λ (name : List ℕ). name ≡ line.name) (λ name. list_decided equal_decided name line.name) d.fun_names) (said_or_not d lines)
   where
-    go : HasFirst (λ (name : List ℕ). name ≡ line.name) d.fun_names ⊎ HasNoneOf (λ (name : List ℕ). name ≡ line.name) d.fun_names → SaysSome d lines ⊎ SaysNone d lines
-        → SaysSome d (line ∷ lines) ⊎ SaysNone d (line ∷ lines)
+    go : HasFirst (λ (name : List ℕ). name ≡ line.name) d.fun_names ⊎ HasNoneOf (λ (name : List ℕ). name ≡ line.name) d.fun_names → SomeOrNone (SayChoices d lines)
+        → SomeOrNone (SayChoices d (line ∷ lines))
     go (inl (i, name, at, same, before)) (inl (args, says)) =
         inl (record { symbol = i; argument = line.place } ∷ args, (record { named = at ∙ ap (λ n. Some n) same; place = refl }, says))
     go (inl found) (inr none) = inr (none_behind d line lines none)
@@ -87,11 +85,12 @@ projection_said : (d : SystemData) (ps : List PairData) (set : List ℕ) (lines 
     → SaysProjection d ps set lines drop ⊎ HasSubtermFault d ps set lines drop
 projection_said d ps set lines drop apart = go (said_or_not d lines)
   where
-    at_args : (args : List Chosen) → SayChoices d lines args → ProjectionOrFault d.rules ps set args drop → SaysProjection d ps set lines drop ⊎ HasSubtermFault d ps set lines drop
+    at_args : (args : List Chosen) → SayChoices d lines args → ProjectionOrFault d.rules ps set args drop
+        → SaysProjection d ps set lines drop ⊎ HasSubtermFault d ps set lines drop
     at_args args says (inl is) = inl (args, says, is)
     at_args args says (inr (f, first)) = inr (f, said_fault d ps set lines args drop f apart says first)
 
-    go : SaysSome d lines ⊎ SaysNone d lines → SaysProjection d ps set lines drop ⊎ HasSubtermFault d ps set lines drop
+    go : SomeOrNone (SayChoices d lines) → SaysProjection d ps set lines drop ⊎ HasSubtermFault d ps set lines drop
     go (inl (args, says)) = at_args args says (projection_or_fault d.rules ps set args drop)
     go (inr none) = inr (projected.BadArgs, λ args says marked. none args says)
 
@@ -139,7 +138,8 @@ node_or_fault d ps set (w.subterm lines drop) apart = subterm_said d ps set line
 abbrev HasNodeFault : SystemData → List PairData → ℕ → List (List ℕ) → List w.Node → Type 0
 HasNodeFault d ps k sets lines = (m : ℕ) × (f : NodeFault) × IsFirstNodeFault d ps k sets lines m f
 
-proved_or_fault : (d : SystemData) (ps : List PairData) (k : ℕ) (sets : List (List ℕ)) (lines : List w.Node) → AreDistinct d.fun_names → Preorder (length sets) lines
+proved_or_fault : (d : SystemData) (ps : List PairData) (k : ℕ) (sets : List (List ℕ)) (lines : List w.Node) → AreDistinct d.fun_names
+    → Preorder (length sets) lines
     → AreProvedBy d ps sets lines ⊎ HasNodeFault d ps k sets lines
 proved_or_fault d ps k [] [] apart counted = inl ([], tt, all_proved)
 proved_or_fault d ps k [] (line ∷ lines) apart counted = absurd counted
@@ -147,7 +147,8 @@ proved_or_fault d ps k (set ∷ sets) [] apart counted = absurd counted
 proved_or_fault d ps k (set ∷ sets) (line ∷ lines) apart counted = elim (node_or_fault d ps set line apart) [
   | inr (f, fault) ↦ inr (k, f, at_first fault)
   | inl (node, left, says, leaves) ↦
-      let count : length (left ++ sets) ≡ w.children line + length sets = length-append left sets ∙ ap (λ n. n + length sets) (leaves_count d ps set line node left says leaves) in
+      let count : length (left ++ sets) ≡ w.children line + length sets =
+          length-append left sets ∙ ap (λ n. n + length sets) (leaves_count d ps set line node left says leaves) in
       elim (proved_or_fault d ps (suc k) (left ++ sets) lines apart (subst (λ n. Preorder n lines) (sym count) counted)) [
         | inl (nodes, say, proves) ↦ inl (node ∷ nodes, (says, say), one_proved leaves proves)
         | inr (m, f, first) ↦ inr (m, f, behind_first says leaves first)
