@@ -8,3 +8,5 @@ pub mod RowLaws
 pub mod NodeLaws
 pub mod FaultLaws
 pub mod Bounded
+pub mod SomeSets
+pub mod ValidOrFault

@@ -11,5 +11,5 @@ mod sets;
 mod walk;
 
 pub use checking::{Accepted, AcceptedYes, check};
-pub use laws::{one_first_fault, valid_or_refused};
+pub use laws::{one_first_fault, valid_or_at_fault, valid_or_refused};
 pub use rejected::{NodeFault, Rejected};

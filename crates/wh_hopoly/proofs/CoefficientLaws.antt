@@ -41,7 +41,7 @@ coefficient_sum ws zero_poly q = omega arith
 coefficient_sum ws (plus c us p) q = let a = coefficient_add ws c us (sum_poly p q) in let b = coefficient_sum ws p q in omega (arith, a, b)
 
 -- each coefficient is at least 1
-abbrev Positive : Polynomial → Type 0
+abbrev pub Positive : Polynomial → Type 0
 Positive zero_poly = Unit {0}
 Positive (plus c us p) = 1 ≤ c × Positive p
 

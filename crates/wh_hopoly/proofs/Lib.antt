@@ -15,3 +15,11 @@ pub mod Pushes
 pub mod MergeWalk
 pub mod CoefficientLaws
 pub mod PartLaws
+pub mod WeightLaws
+pub mod OrderedLaws
+pub mod JoinLaws
+pub mod TotalLaws
+pub mod ProductWalk
+pub mod RenumberLaws
+pub mod FaultLaws
+pub mod AddedLaws

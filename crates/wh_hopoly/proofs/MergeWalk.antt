@@ -1,23 +1,20 @@
--- A merge of two sorted polynomials: what is out, and the sum of what is left, is the sum.
-use Rattle.std.proofs.Common.{◌≡◌, ℕ, ◌+◌, ◌<◌, ◌≤◌, ◌^◌, inl, inr, List, refl, ap, ap₂, sym, subst, ◌∙◌, arith, length, drop, get_or, Less, Equal, Greater}
+-- A merge of two sorted polynomials: each step gives the first monomial of the sum.
+use Rattle.std.proofs.Common.{◌≡◌, ◌<◌, ◌≤◌, inl, inr, List, [], ◌∷◌, ◌++◌, refl, ap, ap₂, sym, subst, ◌∙◌, arith, length, drop, get_or, Less, Equal, Greater}
+use Rattle.std.specs.Prelude.{Option, Some, None}
+use mathlib.Core.Path.{subst₂}
 use Rattle.wh_hopoly.specs.Polynomials.{Polynomial, zero_poly, plus, Factors, compare_factors, Sorted}
-use Rattle.wh_hopoly.specs.Arithmetic.{add_monomial, sum_poly, followed_by}
-use Rattle.wh_hopoly.specs.Limits.{Overflows}
+use Rattle.wh_hopoly.specs.Arithmetic.{sum_poly, followed_by}
+use Rattle.wh_hopoly.specs.Limits.{weight, nesting, Overflows}
+use Rattle.wh_hopoly.specs.Excesses.{ExceedsAs}
+use Rattle.wh_hopoly.specs.declared.excess.Excess.{Excess}
+use Rattle.wh_hopoly.specs.declared.excess.Excess.TheVariants as excess
 use Rattle.wh_hopoly.specs.declared.polynomial.Monomial.{Monomial, out-Monomial}
 use Rattle.wh_hopoly.specs.declared.polynomial.Poly.{Poly}
 use Rattle.wh_hopoly.specs.Erase.{poly, atoms, monomials, sum_of}
+use Rattle.wh_hopoly.specs.Merges.{FirstOfSum, AddsFirst, FirstOverflows}
 use Rattle.wh_hopoly.proofs.Lists.{poly_is}
-use Rattle.wh_hopoly.proofs.SumLaws.{sum_less, sum_equal, sum_greater, add_front}
-use Rattle.wh_hopoly.proofs.Walks.{sum_drop, sum_ended}
-
-pub record Merging (xs ys : List Monomial) (out : Polynomial) (i j : ℕ) : Type 0 where
-  pub left : i ≤ length xs
-  pub right : j ≤ length ys
-  pub total : sum_poly (sum_of xs) (sum_of ys) ≡ followed_by out (sum_poly (sum_of (drop i xs)) (sum_of (drop j ys)))
-  pub sorted : Sorted (sum_of (drop i xs))
-
-abbrev first_of : Monomial → Polynomial → Polynomial
-first_of m q = plus (out-Monomial m).coefficient (atoms (out-Monomial m).atoms) q
+use Rattle.wh_hopoly.proofs.Pushes.{sum_of_append}
+use Rattle.wh_hopoly.proofs.SumLaws.{sum_less, sum_equal, sum_greater, add_front, before_sum}
 
 pub followed_assoc : (p q r : Polynomial) → followed_by (followed_by p q) r ≡ followed_by p (followed_by q r)
 followed_assoc zero_poly q r = refl
@@ -27,85 +24,123 @@ pub followed_zero : (p : Polynomial) → followed_by p zero_poly ≡ p
 followed_zero zero_poly = refl
 followed_zero (plus c us p) = ap (plus c us) (followed_zero p)
 
-pub sum_zero : (p : Polynomial) → Sorted p → sum_poly p zero_poly ≡ p
-sum_zero zero_poly s = refl
-sum_zero (plus c us p) s = ap (add_monomial c us) (sum_zero p s.1) ∙ add_front c us p s.0
+-- the lists of factors of the first monomials
+abbrev factors_of : Monomial → Factors
+factors_of m = atoms (out-Monomial m).atoms
 
--- one more monomial is out
-stepped : (xs ys : List Monomial) (out new : Polynomial) (i j k l : ℕ) (c : ℕ) (us : Factors) → Merging xs ys out i j → new ≡ followed_by out (plus c us zero_poly)
-    → k ≤ length xs → l ≤ length ys → Sorted (sum_of (drop k xs))
-    → sum_poly (sum_of (drop i xs)) (sum_of (drop j ys)) ≡ plus c us (sum_poly (sum_of (drop k xs)) (sum_of (drop l ys))) → Merging xs ys new k l
-stepped xs ys out new i j k l c us g e hk hl s t = record {
-  left = hk;
-  right = hl;
+abbrev in_front_of : Monomial → Polynomial → Polynomial
+in_front_of m q = plus (out-Monomial m).coefficient (factors_of m) q
+
+-- the first monomial of the first list stands before the second list
+abbrev GoesFirst : List Monomial → List Monomial → Type 0
+GoesFirst [] ys = ⊥
+GoesFirst (x ∷ xs) [] = Unit {0}
+GoesFirst (x ∷ xs) (y ∷ ys) = compare_factors (factors_of x) (factors_of y) ≡ Less
+
+-- and that of the second list before the first list
+abbrev GoesSecond : List Monomial → List Monomial → Type 0
+GoesSecond xs [] = ⊥
+GoesSecond [] (y ∷ ys) = Unit {0}
+GoesSecond (x ∷ xs) (y ∷ ys) = compare_factors (factors_of x) (factors_of y) ≡ Greater
+
+pub goes_first_alone : (xs ys : List Monomial) → 0 < length xs → length ys ≤ 0 → GoesFirst xs ys
+goes_first_alone [] ys h k = absurd (omega (arith, h))
+goes_first_alone (x ∷ xs) [] h k = tt
+goes_first_alone (x ∷ xs) (y ∷ ys) h k = absurd (omega (arith, k))
+
+pub goes_first : (xs ys : List Monomial) (x y : Monomial) → 0 < length xs → 0 < length ys → x ≡ get_or xs 0 x → y ≡ get_or ys 0 y
+    → compare_factors (factors_of x) (factors_of y) ≡ Less → GoesFirst xs ys
+goes_first [] ys x y h k e f o = absurd (omega (arith, h))
+goes_first (a ∷ xs) [] x y h k e f o = tt
+goes_first (a ∷ xs) (b ∷ ys) x y h k e f o = subst₂ (λ x y. compare_factors (factors_of x) (factors_of y) ≡ Less) e f o
+
+pub goes_second : (xs ys : List Monomial) (x y : Monomial) → 0 < length xs → 0 < length ys → x ≡ get_or xs 0 x → y ≡ get_or ys 0 y
+    → compare_factors (factors_of x) (factors_of y) ≡ Greater → GoesSecond xs ys
+goes_second xs [] x y h k e f o = absurd (omega (arith, k))
+goes_second [] (b ∷ ys) x y h k e f o = tt
+goes_second (a ∷ xs) (b ∷ ys) x y h k e f o = subst₂ (λ x y. compare_factors (factors_of x) (factors_of y) ≡ Greater) e f o
+
+-- the step where the first list has the next monomial
+pub next_is_first : (xs ys left : List Monomial) (r : Option Monomial) (x : Monomial) → GoesFirst xs ys → Sorted (sum_of xs) → r ≡ Some (get_or xs 0 x) → left ≡ drop 1 xs
+    → FirstOfSum xs ys left ys r
+next_is_first [] ys left r x g s e f = absurd g
+next_is_first (a ∷ xs) [] left r x g s e f = subst₂ (λ left r. FirstOfSum (a ∷ xs) [] left [] r) (sym f) (sym e)
+    (add_front (out-Monomial a).coefficient (factors_of a) (sum_poly (sum_of xs) zero_poly) (before_sum (factors_of a) (sum_of xs) zero_poly s.0 s.1 tt), s.1, omega arith)
+next_is_first (a ∷ xs) (b ∷ ys) left r x g s e f = subst₂ (λ left r. FirstOfSum (a ∷ xs) (b ∷ ys) left (b ∷ ys) r) (sym f) (sym e)
+    (sum_less (out-Monomial a).coefficient (out-Monomial b).coefficient (factors_of a) (factors_of b) (sum_of xs) (sum_of ys) g s.0 s.1, s.1, omega arith)
+
+-- and where the second one has it
+pub next_is_second : (xs ys right : List Monomial) (r : Option Monomial) (y : Monomial) → GoesSecond xs ys → Sorted (sum_of xs) → r ≡ Some (get_or ys 0 y) → right ≡ drop 1 ys
+    → FirstOfSum xs ys xs right r
+next_is_second xs [] right r y g s e f = absurd g
+next_is_second [] (b ∷ ys) right r y g s e f = subst₂ (λ right r. FirstOfSum [] (b ∷ ys) [] right r) (sym f) (sym e) (refl, tt, omega arith)
+next_is_second (a ∷ xs) (b ∷ ys) right r y g s e f = subst₂ (λ right r. FirstOfSum (a ∷ xs) (b ∷ ys) (a ∷ xs) right r) (sym f) (sym e)
+    (sum_greater (out-Monomial a).coefficient (out-Monomial b).coefficient (factors_of a) (factors_of b) (sum_of xs) (sum_of ys) g s.0 s.1, s, omega arith)
+
+-- where both begin with the same factors
+pub next_is_both : (xs ys left right : List Monomial) (x y m : Monomial) → x ≡ get_or xs 0 x → y ≡ get_or ys 0 y → compare_factors (factors_of x) (factors_of y) ≡ Equal → Sorted (sum_of xs)
+    → AddsFirst xs ys left right m → FirstOfSum xs ys left right (Some m)
+next_is_both xs ys left right x y m ex ey o s (a, b, ea, eb, ec, ef) =
+    let i : x ≡ a = ex ∙ ap (λ xs. get_or xs 0 x) ea in
+    let j : y ≡ b = ey ∙ ap (λ ys. get_or ys 0 y) eb in
+    let k : compare_factors (factors_of a) (factors_of b) ≡ Equal = subst₂ (λ x y. compare_factors (factors_of x) (factors_of y) ≡ Equal) i j o in
+    let t : Sorted (sum_of (a ∷ left)) = subst (λ xs. Sorted (sum_of xs)) ea s in
+    subst₂ (λ xs ys. FirstOfSum xs ys left right (Some m)) (sym ea) (sym eb) (
+      sum_equal (out-Monomial a).coefficient (out-Monomial b).coefficient (factors_of a) (factors_of b) (sum_of left) (sum_of right) k t.0 t.1
+          ∙ ap₂ (λ c us. plus c us (sum_poly (sum_of left) (sum_of right))) (sym ec) (sym ef),
+      t.1,
+      omega arith,
+    )
+
+pub both_overflow : (xs ys : List Monomial) (x y : Monomial) → x ≡ get_or xs 0 x → y ≡ get_or ys 0 y → compare_factors (factors_of x) (factors_of y) ≡ Equal → Sorted (sum_of xs)
+    → FirstOverflows xs ys → Overflows (sum_poly (sum_of xs) (sum_of ys))
+both_overflow xs ys x y ex ey o s (a, b, left, right, ea, eb, l) =
+    let i : x ≡ a = ex ∙ ap (λ xs. get_or xs 0 x) ea in
+    let j : y ≡ b = ey ∙ ap (λ ys. get_or ys 0 y) eb in
+    let k : compare_factors (factors_of a) (factors_of b) ≡ Equal = subst₂ (λ x y. compare_factors (factors_of x) (factors_of y) ≡ Equal) i j o in
+    let t : Sorted (sum_of (a ∷ left)) = subst (λ xs. Sorted (sum_of xs)) ea s in
+    subst₂ (λ xs ys. Overflows (sum_poly (sum_of xs) (sum_of ys))) (sym ea) (sym eb)
+    (subst Overflows (sym (sum_equal (out-Monomial a).coefficient (out-Monomial b).coefficient (factors_of a) (factors_of b) (sum_of left) (sum_of right) k t.0 t.1)) (inl l))
+
+-- what is out, and the sum of what is left, is the sum
+pub record Merging (total : Polynomial) (out left right : List Monomial) : Type 0 where
+  pub same : total ≡ followed_by (sum_of out) (sum_poly (sum_of left) (sum_of right))
+  pub sorted : Sorted (sum_of left)
+
+pub merging_starts : (a b : Poly) (out xs ys : List Monomial) → out ≡ [] → xs ≡ monomials a → ys ≡ monomials b → Sorted (poly a) → Merging (sum_poly (poly a) (poly b)) out xs ys
+merging_starts a b out xs ys e ex ey s =
+    let i : poly a ≡ sum_of xs = poly_is a ∙ ap sum_of (sym ex) in
+    let j : poly b ≡ sum_of ys = poly_is b ∙ ap sum_of (sym ey) in
+    record { same = ap₂ sum_poly i j ∙ ap (λ out. followed_by (sum_of out) (sum_poly (sum_of xs) (sum_of ys))) (sym e); sorted = subst Sorted i s }
+
+pub merging_steps : (total : Polynomial) (out new xs ys left right : List Monomial) (m : Monomial) → Merging total out xs ys → FirstOfSum xs ys left right (Some m) → new ≡ out ++ m ∷ []
+    → Merging total new left right
+merging_steps total out new xs ys left right m g (e, s, l) k = record {
   sorted = s;
-  total = g.total ∙ ap (followed_by out) t ∙ sym (followed_assoc out (plus c us zero_poly) (sum_poly (sum_of (drop k xs)) (sum_of (drop l ys))))
-      ∙ ap (λ p. followed_by p (sum_poly (sum_of (drop k xs)) (sum_of (drop l ys)))) (sym e);
+  same = g.same ∙ ap (followed_by (sum_of out)) e ∙ sym (followed_assoc (sum_of out) (in_front_of m zero_poly) (sum_poly (sum_of left) (sum_of right)))
+      ∙ ap (λ p. followed_by p (sum_poly (sum_of left) (sum_of right))) (sym (ap sum_of k ∙ sum_of_append out (m ∷ [])));
 }
 
-sum_at : (xs ys : List Monomial) (i j : ℕ) (x y : Monomial) → i < length xs → j < length ys → x ≡ get_or xs i x → y ≡ get_or ys j y
-    → sum_poly (sum_of (drop i xs)) (sum_of (drop j ys)) ≡ sum_poly (first_of x (sum_of (drop (i + 1) xs))) (first_of y (sum_of (drop (j + 1) ys)))
-sum_at xs ys i j x y h k ex ey = ap₂ sum_poly (sum_drop xs i x h ex) (sum_drop ys j y k ey)
+pub merging_ends : (total : Polynomial) (out : Poly) (xs ys left right : List Monomial) → Merging total (monomials out) xs ys → FirstOfSum xs ys left right None → poly out ≡ total
+merging_ends total out xs ys left right g e = poly_is out ∙ sym (g.same ∙ ap (followed_by (sum_of (monomials out))) e ∙ followed_zero (sum_of (monomials out)))
 
-pub merge_starts : (xs ys : List Monomial) (out : Polynomial) → out ≡ zero_poly → Sorted (sum_of xs) → Merging xs ys out 0 0
-merge_starts xs ys out e s = record { left = omega arith; right = omega arith; sorted = s; total = ap (λ p. followed_by p (sum_poly (sum_of xs) (sum_of ys))) (sym e) }
+-- what exceeds behind other monomials does so with them
+overflows_behind : (p q : Polynomial) → Overflows q → Overflows (followed_by p q)
+overflows_behind zero_poly q h = h
+overflows_behind (plus c us p) q h = inr (overflows_behind p q h)
 
-pub merge_less : (xs ys : List Monomial) (out new : Polynomial) (i j : ℕ) (x y : Monomial) → Merging xs ys out i j → i < length xs → j < length ys → x ≡ get_or xs i x → y ≡ get_or ys j y
-    → compare_factors (atoms (out-Monomial x).atoms) (atoms (out-Monomial y).atoms) ≡ Less → new ≡ followed_by out (first_of x zero_poly) → Merging xs ys new (i + 1) j
-merge_less xs ys out new i j x y g h k ex ey o e =
-    let s = subst Sorted (sum_drop xs i x h ex) g.sorted in
-    stepped xs ys out new i j (i + 1) j (out-Monomial x).coefficient (atoms (out-Monomial x).atoms) g e (omega (arith, h)) g.right s.1
-    (sum_at xs ys i j x y h k ex ey
-    ∙ sum_less (out-Monomial x).coefficient (out-Monomial y).coefficient (atoms (out-Monomial x).atoms) (atoms (out-Monomial y).atoms) (sum_of (drop (i + 1) xs)) (sum_of (drop (j + 1) ys)) o s.0 s.1
-    ∙ ap (λ q. first_of x (sum_poly (sum_of (drop (i + 1) xs)) q)) (sym (sum_drop ys j y k ey)))
+heavy_behind : (p q : Polynomial) → weight q ≤ weight (followed_by p q)
+heavy_behind zero_poly q = omega arith
+heavy_behind (plus c us p) q = let h = heavy_behind p q in omega (arith, h)
 
-pub merge_greater : (xs ys : List Monomial) (out new : Polynomial) (i j : ℕ) (x y : Monomial) → Merging xs ys out i j → i < length xs → j < length ys → x ≡ get_or xs i x → y ≡ get_or ys j y
-    → compare_factors (atoms (out-Monomial x).atoms) (atoms (out-Monomial y).atoms) ≡ Greater → new ≡ followed_by out (first_of y zero_poly) → Merging xs ys new i (j + 1)
-merge_greater xs ys out new i j x y g h k ex ey o e =
-    let s = subst Sorted (sum_drop xs i x h ex) g.sorted in
-    stepped xs ys out new i j i (j + 1) (out-Monomial y).coefficient (atoms (out-Monomial y).atoms) g e g.left (omega (arith, k)) g.sorted
-    (sum_at xs ys i j x y h k ex ey
-    ∙ sum_greater (out-Monomial x).coefficient (out-Monomial y).coefficient (atoms (out-Monomial x).atoms) (atoms (out-Monomial y).atoms) (sum_of (drop (i + 1) xs)) (sum_of (drop (j + 1) ys)) o s.0 s.1
-    ∙ ap (λ p. first_of y (sum_poly p (sum_of (drop (j + 1) ys)))) (sym (sum_drop xs i x h ex)))
+deep_behind : (p q : Polynomial) → nesting q ≤ nesting (followed_by p q)
+deep_behind zero_poly q = omega arith
+deep_behind (plus c us p) q = let h = deep_behind p q in omega (arith, h)
 
-sum_both : (xs ys : List Monomial) (i j : ℕ) (x y : Monomial) → Sorted (sum_of (drop i xs)) → i < length xs → j < length ys → x ≡ get_or xs i x → y ≡ get_or ys j y
-    → compare_factors (atoms (out-Monomial x).atoms) (atoms (out-Monomial y).atoms) ≡ Equal
-    → sum_poly (sum_of (drop i xs)) (sum_of (drop j ys))
-    ≡ plus ((out-Monomial x).coefficient + (out-Monomial y).coefficient) (atoms (out-Monomial y).atoms) (sum_poly (sum_of (drop (i + 1) xs)) (sum_of (drop (j + 1) ys)))
-sum_both xs ys i j x y g h k ex ey o =
-    let s = subst Sorted (sum_drop xs i x h ex) g in
-    sum_at xs ys i j x y h k ex ey
-    ∙ sum_equal (out-Monomial x).coefficient (out-Monomial y).coefficient (atoms (out-Monomial x).atoms) (atoms (out-Monomial y).atoms) (sum_of (drop (i + 1) xs)) (sum_of (drop (j + 1) ys)) o s.0 s.1
+exceeds_behind : (e : Excess) (p q : Polynomial) → ExceedsAs e q → ExceedsAs e (followed_by p q)
+exceeds_behind excess.Overflow p q h = overflows_behind p q h
+exceeds_behind excess.TooLarge p q (inl h) = inl (let k = heavy_behind p q in omega (arith, h, k))
+exceeds_behind excess.TooLarge p q (inr h) = inr (let k = deep_behind p q in omega (arith, h, k))
 
-pub merge_equal : (xs ys : List Monomial) (out new : Polynomial) (i j : ℕ) (x y : Monomial) (c : ℕ) → Merging xs ys out i j → i < length xs → j < length ys → x ≡ get_or xs i x → y ≡ get_or ys j y
-    → compare_factors (atoms (out-Monomial x).atoms) (atoms (out-Monomial y).atoms) ≡ Equal → c ≡ (out-Monomial x).coefficient + (out-Monomial y).coefficient
-    → new ≡ followed_by out (plus c (atoms (out-Monomial y).atoms) zero_poly) → Merging xs ys new (i + 1) (j + 1)
-merge_equal xs ys out new i j x y c g h k ex ey o ec e =
-    stepped xs ys out new i j (i + 1) (j + 1) c (atoms (out-Monomial y).atoms) g e (omega (arith, h)) (omega (arith, k)) (subst Sorted (sum_drop xs i x h ex) g.sorted).1
-    (sum_both xs ys i j x y g.sorted h k ex ey o
-    ∙ ap (λ c. plus c (atoms (out-Monomial y).atoms) (sum_poly (sum_of (drop (i + 1) xs)) (sum_of (drop (j + 1) ys)))) (sym ec))
-
-overflows_after : (p : Polynomial) (c : ℕ) (us : Factors) (q : Polynomial) → 2 ^ 128 ≤ c → Overflows (followed_by p (plus c us q))
-overflows_after zero_poly c us q h = inl h
-overflows_after (plus d vs p) c us q h = inr (overflows_after p c us q h)
-
--- where the addition does not fit, the sum has a coefficient that is too great
-pub merge_overflows : (xs ys : List Monomial) (out : Polynomial) (i j : ℕ) (x y : Monomial) → Merging xs ys out i j → i < length xs → j < length ys → x ≡ get_or xs i x → y ≡ get_or ys j y
-    → compare_factors (atoms (out-Monomial x).atoms) (atoms (out-Monomial y).atoms) ≡ Equal → 2 ^ 128 ≤ (out-Monomial x).coefficient + (out-Monomial y).coefficient
-    → Overflows (sum_poly (sum_of xs) (sum_of ys))
-merge_overflows xs ys out i j x y g h k ex ey o l =
-    subst Overflows (sym (g.total ∙ ap (followed_by out) (sum_both xs ys i j x y g.sorted h k ex ey o))) (overflows_after out _ _ _ l)
-
--- where one list has ended, the rest of the other one follows
-pub merged_right : (xs ys : List Monomial) (out new : Polynomial) (i j : ℕ) → Merging xs ys out i j → length xs ≤ i → new ≡ followed_by out (sum_of (drop j ys)) → new ≡ sum_poly (sum_of xs) (sum_of ys)
-merged_right xs ys out new i j g h e = e ∙ sym (g.total ∙ ap (λ p. followed_by out (sum_poly p (sum_of (drop j ys)))) (sum_ended xs i h))
-
-pub merged_left : (xs ys : List Monomial) (out new : Polynomial) (i j : ℕ) → Merging xs ys out i j → length ys ≤ j → new ≡ followed_by out (sum_of (drop i xs)) → new ≡ sum_poly (sum_of xs) (sum_of ys)
-merged_left xs ys out new i j g h e = e ∙ sym (g.total ∙ ap (λ q. followed_by out (sum_poly (sum_of (drop i xs)) q)) (sum_ended ys j h) ∙ ap (followed_by out) (sum_zero (sum_of (drop i xs)) g.sorted))
-
--- the sum of two values, by their lists
-pub sums_by_lists : (p q : Poly) (xs ys : List Monomial) → xs ≡ monomials p → ys ≡ monomials q → sum_poly (sum_of xs) (sum_of ys) ≡ sum_poly (poly p) (poly q)
-sums_by_lists p q xs ys e k = ap₂ sum_poly (ap sum_of e ∙ sym (poly_is p)) (ap sum_of k ∙ sym (poly_is q))
-
-pub sum_by_lists : (p q r : Poly) (xs ys : List Monomial) → xs ≡ monomials p → ys ≡ monomials q → sum_of (monomials r) ≡ sum_poly (sum_of xs) (sum_of ys) → poly r ≡ sum_poly (poly p) (poly q)
-sum_by_lists p q r xs ys e k h = poly_is r ∙ h ∙ sums_by_lists p q xs ys e k
+pub merging_exceeds : (e : Excess) (total : Polynomial) (out xs ys : List Monomial) → Merging total out xs ys → ExceedsAs e (sum_poly (sum_of xs) (sum_of ys)) → ExceedsAs e total
+merging_exceeds e total out xs ys g h = subst (ExceedsAs e) (sym g.same) (exceeds_behind e (sum_of out) (sum_poly (sum_of xs) (sum_of ys)) h)

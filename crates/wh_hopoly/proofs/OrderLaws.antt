@@ -90,7 +90,7 @@ pub record Between (a b c : Ordering) : Type 0 where
   pub first : a ≡ Equal → c ≡ b
   pub second : b ≡ Equal → c ≡ a
 
-lex : (a b c a' b' c' : Ordering) → Between a b c → Between a' b' c' → Between (ordering_then a a') (ordering_then b b') (ordering_then c c')
+pub lex : (a b c a' b' c' : Ordering) → Between a b c → Between a' b' c' → Between (ordering_then a a') (ordering_then b b') (ordering_then c c')
 lex Less Less c a' b' c' m n = record { less = λ h k. ap (λ o. ordering_then o c') (m.less refl refl); first = λ h. grind arith; second = λ h. grind arith }
 lex Less Equal c a' b' c' m n = record { less = λ h k. ap (λ o. ordering_then o c') (m.second refl); first = λ h. grind arith; second = λ h. ap (λ o. ordering_then o c') (m.second refl) }
 lex Less Greater c a' b' c' m n = record { less = λ h k. grind arith; first = λ h. grind arith; second = λ h. grind arith }
@@ -104,7 +104,7 @@ lex Greater Less c a' b' c' m n = record { less = λ h k. grind arith; first = �
 lex Greater Equal c a' b' c' m n = record { less = λ h k. grind arith; first = λ h. grind arith; second = λ h. ap (λ o. ordering_then o c') (m.second refl) }
 lex Greater Greater c a' b' c' m n = record { less = λ h k. grind arith; first = λ h. grind arith; second = λ h. grind arith }
 
-nat_between : (x y z : ℕ) → Between (nat_cmp x y) (nat_cmp y z) (nat_cmp x z)
+pub nat_between : (x y z : ℕ) → Between (nat_cmp x y) (nat_cmp y z) (nat_cmp x z)
 nat_between x y z = record { less = nat_cmp_total.trans x y z; first = λ h. ap (λ x. nat_cmp x z) (nat_equal x y h); second = λ h. ap (nat_cmp x) (sym (nat_equal y z h)) }
 
 mutual

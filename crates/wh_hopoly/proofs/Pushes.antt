@@ -6,7 +6,9 @@ use Rattle.wh_hopoly.specs.Arithmetic.{followed_by}
 use Rattle.wh_hopoly.specs.declared.polynomial.Poly.{Poly}
 use Rattle.wh_hopoly.specs.declared.polynomial.Monomial.{Monomial, out-Monomial}
 use Rattle.wh_hopoly.specs.declared.polynomial.Atom.{Atom, out-Atom}
-use Rattle.wh_hopoly.specs.Erase.{poly, atoms, polys, sum_of, product_of, arguments_of}
+use Rattle.wh_hopoly.specs.declared.polynomial.Atoms.{Atoms}
+use Rattle.wh_hopoly.proofs.Lists.{poly_is, atoms_is}
+use Rattle.wh_hopoly.specs.Erase.{poly, atoms, polys, monomials, factors, sum_of, product_of, arguments_of}
 
 -- the items of one list, and then those of another
 abbrev pub factors_followed_by : Factors → Factors → Factors
@@ -36,6 +38,23 @@ pub sum_one_more : (xs : List Monomial) (i : ℕ) (m : Monomial) → i < length 
     → sum_of (take (i + 1) xs) ≡ followed_by (sum_of (take i xs)) (plus (out-Monomial m).coefficient (atoms (out-Monomial m).atoms) zero_poly)
 sum_one_more xs i m h e = ap sum_of (one_more xs i m h e) ∙ sum_of_append (take i xs) (m ∷ [])
 
+pub product_one_more : (xs : List Atom) (i : ℕ) (u : Atom) → i < length xs → u ≡ get_or xs i u
+    → product_of (take (i + 1) xs) ≡ factors_followed_by (product_of (take i xs)) (times (out-Atom u).head (polys (out-Atom u).args) no_factors)
+product_one_more xs i u h e = ap product_of (one_more xs i u h e) ∙ product_of_append (take i xs) (u ∷ [])
+
+pub arguments_one_more : (xs : List Poly) (i : ℕ) (p : Poly) → i < length xs → p ≡ get_or xs i p
+    → arguments_of (take (i + 1) xs) ≡ arguments_followed_by (arguments_of (take i xs)) (argument (poly p) no_arguments)
+arguments_one_more xs i p h e = ap arguments_of (one_more xs i p h e) ∙ arguments_of_append (take i xs) (p ∷ [])
+
+-- one monomial alone
+pub single_push : (p : Poly) (old : List Monomial) (m : Monomial) (c : ℕ) (us : Factors) → old ≡ [] → monomials p ≡ old ++ m ∷ [] → (out-Monomial m).coefficient ≡ c → atoms (out-Monomial m).atoms ≡ us
+    → poly p ≡ plus c us zero_poly
+single_push p old m c us e k ec eu = poly_is p ∙ ap sum_of k ∙ ap (λ xs. sum_of (xs ++ m ∷ [])) e ∙ ap₂ (λ c us. plus c us zero_poly) ec eu
+
+pub single_factor_push : (us : Atoms) (old : List Atom) (u : Atom) (x : ℕ) (ps : Arguments) → old ≡ [] → factors us ≡ old ++ u ∷ [] → (out-Atom u).head ≡ x → polys (out-Atom u).args ≡ ps
+    → atoms us ≡ times x ps no_factors
+single_factor_push us old u x ps e k ex ep = atoms_is us ∙ ap product_of k ∙ ap (λ xs. product_of (xs ++ u ∷ [])) e ∙ ap₂ (λ x ps. times x ps no_factors) ex ep
+
 pub sum_push : (out new xs : List Monomial) (i : ℕ) (r m : Monomial) → sum_of out ≡ sum_of (take i xs) → new ≡ out ++ r ∷ []
     → (out-Monomial r).coefficient ≡ (out-Monomial m).coefficient → atoms (out-Monomial r).atoms ≡ atoms (out-Monomial m).atoms
     → i < length xs → m ≡ get_or xs i m → sum_of new ≡ sum_of (take (i + 1) xs)
@@ -46,9 +65,9 @@ pub product_push : (out new xs : List Atom) (i : ℕ) (r u : Atom) → product_o
     → (out-Atom r).head ≡ (out-Atom u).head → polys (out-Atom r).args ≡ polys (out-Atom u).args
     → i < length xs → u ≡ get_or xs i u → product_of new ≡ product_of (take (i + 1) xs)
 product_push out new xs i r u same pushed ex ep h e = ap product_of pushed ∙ product_of_append out (r ∷ []) ∙ ap₂ factors_followed_by same (ap₂ (λ x ps. times x ps no_factors) ex ep)
-    ∙ sym (ap product_of (one_more xs i u h e) ∙ product_of_append (take i xs) (u ∷ []))
+    ∙ sym (product_one_more xs i u h e)
 
 pub arguments_push : (out new xs : List Poly) (i : ℕ) (r p : Poly) → arguments_of out ≡ arguments_of (take i xs) → new ≡ out ++ r ∷ [] → poly r ≡ poly p
     → i < length xs → p ≡ get_or xs i p → arguments_of new ≡ arguments_of (take (i + 1) xs)
 arguments_push out new xs i r p same pushed ep h e = ap arguments_of pushed ∙ arguments_of_append out (r ∷ []) ∙ ap₂ arguments_followed_by same (ap (λ p. argument p no_arguments) ep)
-    ∙ sym (ap arguments_of (one_more xs i p h e) ∙ arguments_of_append (take i xs) (p ∷ []))
+    ∙ sym (arguments_one_more xs i p h e)

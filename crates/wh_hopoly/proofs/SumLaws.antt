@@ -56,7 +56,7 @@ pub normal_sorted : (Γ : List Ty) (p : Polynomial) → Normal Γ p → Sorted p
 normal_sorted Γ zero_poly n = tt
 normal_sorted Γ (plus c us p) n = (n.2, normal_sorted Γ p n.3)
 
-before_more : (vs us : Factors) (c : ℕ) (q : Polynomial) → compare_factors us vs ≡ Greater → MonomialBefore vs q → MonomialBefore vs (add_monomial c us q)
+pub before_more : (vs us : Factors) (c : ℕ) (q : Polynomial) → compare_factors us vs ≡ Greater → MonomialBefore vs q → MonomialBefore vs (add_monomial c us q)
 before_more vs us c q h k = before_add vs c us q (factors_reverse vs us ∙ ap ordering_reverse h) k
 
 pub normal_add : (Γ : List Ty) (c : ℕ) (us : Factors) (q : Polynomial) → 1 ≤ c → NormalFactors Γ us → Normal Γ q → Normal Γ (add_monomial c us q)
@@ -73,10 +73,10 @@ normal_sum Γ zero_poly q n m = m
 normal_sum Γ (plus c us p) q n m = normal_add Γ c us (sum_poly p q) n.0 n.1 (normal_sum Γ p q n.3 m)
 
 -- the product
-factor_reverse : (y : ℕ) (qs : Arguments) (x : ℕ) (ps : Arguments) → ordering_then (nat_cmp y x) (compare_arguments qs ps) ≡ ordering_reverse (ordering_then (nat_cmp x y) (compare_arguments ps qs))
+pub factor_reverse : (y : ℕ) (qs : Arguments) (x : ℕ) (ps : Arguments) → ordering_then (nat_cmp y x) (compare_arguments qs ps) ≡ ordering_reverse (ordering_then (nat_cmp x y) (compare_arguments ps qs))
 factor_reverse y qs x ps = both_reverse _ _ _ _ (nat_cmp_total.antisymm y x) (arguments_reverse qs ps)
 
-later : (y : ℕ) (qs : Arguments) (x : ℕ) (ps : Arguments) (us : Factors) → ordering_then (nat_cmp x y) (compare_arguments ps qs) ≡ Greater → FactorBefore y qs us → FactorBefore y qs (join_factor x ps us)
+pub later : (y : ℕ) (qs : Arguments) (x : ℕ) (ps : Arguments) (us : Factors) → ordering_then (nat_cmp x y) (compare_arguments ps qs) ≡ Greater → FactorBefore y qs us → FactorBefore y qs (join_factor x ps us)
 later y qs x ps no_factors h k = λ e. grind (arith, factor_reverse y qs x ps, h, e)
 later y qs x ps (times z rs us) h k = go (ordering_then (nat_cmp x z) (compare_arguments ps rs))
   where
@@ -85,10 +85,10 @@ later y qs x ps (times z rs us) h k = go (ordering_then (nat_cmp x z) (compare_a
     go Equal = λ e. grind (arith, factor_reverse y qs x ps, h, e)
     go Greater = k
 
-less_not : (o : Ordering) → o ≡ Less → o ≡ Greater → ⊥
+pub less_not : (o : Ordering) → o ≡ Less → o ≡ Greater → ⊥
 less_not o h k = grind arith
 
-equal_not : (o : Ordering) → o ≡ Equal → o ≡ Greater → ⊥
+pub equal_not : (o : Ordering) → o ≡ Equal → o ≡ Greater → ⊥
 equal_not o h k = grind arith
 
 pub normal_join : (Γ : List Ty) (x : ℕ) (ps : Arguments) (us : Factors) (A : Ty) → HasType Γ x A → NormalArguments Γ A ps → NormalFactors Γ us → NormalFactors Γ (join_factor x ps us)
@@ -105,7 +105,7 @@ pub normal_joins : (Γ : List Ty) (us vs : Factors) → NormalFactors Γ us → 
 normal_joins Γ no_factors vs n m = m
 normal_joins Γ (times x ps us) vs n m = normal_join Γ x ps (join_factors us vs) n.0 n.1 n.2 (normal_joins Γ us vs n.4 m)
 
-one_product : (c d : ℕ) → 1 ≤ c → 1 ≤ d → 1 ≤ c * d
+pub one_product : (c d : ℕ) → 1 ≤ c → 1 ≤ d → 1 ≤ c * d
 one_product c d h k = mul-le-mul h k
 
 pub normal_scale : (Γ : List Ty) (c : ℕ) (us : Factors) (q : Polynomial) → 1 ≤ c → NormalFactors Γ us → Normal Γ q → Normal Γ (scale c us q)

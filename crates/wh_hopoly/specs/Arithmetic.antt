@@ -1,5 +1,5 @@
 -- Sums, products and renumbering of polynomials, by insertion and with no limit.
-use Rattle.std.specs.Prelude.{ℕ, ◌+◌, ◌*◌}
+use Rattle.std.specs.Prelude.{ℕ, ◌+◌, ◌*◌, nat_lt, if◌then◌else◌}
 use Rattle.std.specs.declared.cmp.Ordering.{Ordering}
 use Rattle.std.specs.declared.cmp.Ordering.TheVariants.{Less, Equal, Greater}
 use Rattle.wh_hopoly.specs.Polynomials.{Polynomial, zero_poly, plus, Factors, no_factors, times, Arguments, no_arguments, argument, compare_factors, compare_factor}
@@ -55,6 +55,10 @@ abbrev mutual
   pub renumber_arguments : (ℕ → ℕ) → Arguments → Arguments
   renumber_arguments r no_arguments = no_arguments
   renumber_arguments r (argument p ps) = argument (renumber r p) (renumber_arguments r ps)
+
+-- the numbers from `from` on are raised (ours)
+abbrev pub raised : ℕ → ℕ → ℕ → ℕ
+raised from by i = if nat_lt i from then i else i + by
 
 -- a number as a polynomial (ours)
 abbrev pub constant : ℕ → Polynomial

@@ -2,6 +2,7 @@
 use Rattle.std.specs.Prelude.{List, [], ◌∷◌, map}
 use Rattle.wh_types.specs.Erase.{ty}
 use Rattle.wh_hopoly.specs.Polynomials.{Polynomial, zero_poly, plus, Factors, no_factors, times, Arguments, no_arguments, argument}
+use Rattle.wh_hopoly.specs.Moves.{Transfer}
 use Rattle.wh_hopoly.specs.Evaluation.{Expression, var, symbol, lambda, apply, Interpretation}
 use Rattle.wh_hopoly.specs.declared.polynomial.Poly.{Poly, Poly', out-Poly, Row_of-Monomial, end_of-Monomial, more_of-Monomial}
 use Rattle.wh_hopoly.specs.declared.polynomial.Monomial.{Monomial, Monomial', out-Monomial}
@@ -11,6 +12,7 @@ use Rattle.wh_hopoly.specs.declared.polynomial.Polys.{Polys, Polys', out-Polys, 
 use Rattle.wh_hopoly.specs.declared.expression.Expr.{Expr}
 use Rattle.wh_hopoly.specs.declared.expression.Expr.TheVariants.{Var, Sym, Lam', App'}
 use Rattle.wh_hopoly.specs.declared.expression.Symbol.{Symbol}
+use Rattle.wh_hopoly.specs.declared.expression.Move.{Move}
 
 abbrev mutual
   -- the polynomial that a `Poly` stands for, the factors of an `Atoms`, and the arguments of a `Polys`
@@ -71,3 +73,10 @@ interpretation s = record { kind = ty s.kind; polynomial = poly s.poly }
 
 abbrev pub interpretations : List Symbol → List Interpretation
 interpretations = map interpretation
+
+-- the transfer that a `Move` stands for
+abbrev pub transfer : Move → Transfer
+transfer m = record { from = m.from; to = m.to; amount = m.amount }
+
+abbrev pub transfers : List Move → List Transfer
+transfers = map transfer

@@ -3,7 +3,11 @@ pub mod Arithmetic
 pub mod Evaluation
 pub mod Limits
 pub mod Covers
+pub mod Moves
 pub mod Parts
 pub mod Erase
 pub mod Excesses
+pub mod Merges
+pub mod Totals
+pub mod Added
 pub mod Scopes

@@ -88,6 +88,16 @@ abbrev mutual
   NormalArguments Γ (A ⇒ B) no_arguments = ⊥
   NormalArguments Γ (A ⇒ B) (argument p ps) = Normal (Γ ++ arguments A) p × NormalArguments Γ B ps
 
+-- the factors are in order (ours)
+abbrev pub OrderedFactors : Factors → Type 0
+OrderedFactors no_factors = Unit {0}
+OrderedFactors (times x ps us) = FactorBefore x ps us × OrderedFactors us
+
+-- what is asked of a normal polynomial, but for its scope and its arguments (ours)
+abbrev pub Ordered : Polynomial → Type 0
+Ordered zero_poly = Unit {0}
+Ordered (plus c us p) = 1 ≤ c × OrderedFactors us × MonomialBefore us p × Ordered p
+
 -- the variable is in the scope, and the arguments are normal for its type (ours)
 abbrev pub HasNormalArguments : List Ty → ℕ → Arguments → Type 0
 HasNormalArguments Γ x ps = (A : Ty) × HasType Γ x A × NormalArguments Γ A ps

@@ -7,10 +7,16 @@ mod covers;
 mod excess;
 mod expression;
 mod laws;
+mod limits;
 mod normality;
 mod polynomial;
+mod products;
+mod renumbering;
 mod scope;
 mod sums;
+mod totals;
+mod variables;
+mod weighing;
 
 pub use comparing::{order, order_arguments, order_factors};
 pub use copying::{copy, copy_arguments, copy_factors};
@@ -23,6 +29,12 @@ pub use laws::{
     rows_of_products_exceed_in_them, sums_are_normal, sums_associate, sums_commute,
     values_are_normal, values_are_those_of_the_parts,
 };
+pub use limits::check_limits;
 pub use normality::is_normal;
 pub use polynomial::{Atom, Atoms, Monomial, Poly, Polys};
+pub use products::product;
+pub use renumbering::{raise, raise_arguments, raise_factors};
 pub use sums::sum;
+pub use totals::Total;
+pub use variables::{one_factor, variable};
+pub use weighing::{weigh, weigh_arguments, weigh_factors};

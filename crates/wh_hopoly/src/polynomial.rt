@@ -3,6 +3,7 @@
 ghost use Rattle.std.specs.Prelude.{◌≡◌, [], ◌∷◌, ◌++◌, IfOk, OnOk, OnErr};
 
 use std::alloc::{AllocError, Global};
+use std::collections::VecDeque;
 
 /// A sum of monomials.
 #[cycle(poly)]
@@ -72,6 +73,14 @@ impl Poly {
     {
         self.items.as_slice()
     }
+
+    /// The monomials, to be taken one by one.
+    pub fn into_queue(self) -> VecDeque<Monomial>
+        ensures { result.items ≡ monomials self }
+    {
+        let Poly { items } = self;
+        VecDeque::from_vec(items)
+    }
 }
 
 impl Atoms {
@@ -100,6 +109,14 @@ impl Atoms {
         ensures { result.now ≡ factors self.now }
     {
         self.items.as_slice()
+    }
+
+    /// The factors, to be taken one by one.
+    pub fn into_queue(self) -> VecDeque<Atom>
+        ensures { result.items ≡ factors self }
+    {
+        let Atoms { items } = self;
+        VecDeque::from_vec(items)
     }
 }
 

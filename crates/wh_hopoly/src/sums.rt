@@ -1,75 +1,84 @@
-//! Sums of polynomials, by merging.
+//! Sums of two polynomials, by merging: their monomials move to the sum.
 
-ghost use Rattle.std.specs.Prelude.{◌≡◌, IfOk, OnOk};
+ghost use Rattle.std.specs.Prelude.{◌≡◌, ◌<◌, length, IfOk, MatchOption};
 ghost use Rattle.wh_types.specs.Outcome.{IfBecause};
-ghost use Rattle.wh_hopoly.specs.Erase.{poly, atoms, monomials, sum_of};
-ghost use Rattle.wh_hopoly.specs.Polynomials.{Sorted, zero_poly, plus};
-ghost use Rattle.wh_hopoly.specs.Arithmetic.{sum_poly, followed_by};
+ghost use Rattle.wh_hopoly.specs.Erase.{poly, sum_of};
+ghost use Rattle.wh_hopoly.specs.Polynomials.{Sorted};
+ghost use Rattle.wh_hopoly.specs.Arithmetic.{sum_poly};
+ghost use Rattle.wh_hopoly.specs.Limits.{Exceeds};
 ghost use Rattle.wh_hopoly.specs.Excesses.{ExceedsAs};
+ghost use Rattle.wh_hopoly.specs.Merges.{FirstOfSum, AddsFirst, FirstOverflows};
 
 use crate::comparing::order_factors;
-use crate::copying::copy_factors;
 use crate::excess::Excess;
-use crate::polynomial::{Atoms, Monomial, Poly};
-use std::alloc::{AllocError, Global};
+use crate::limits::check_limits;
+use crate::polynomial::{Monomial, Poly};
+use std::alloc::Global;
 use std::cmp::Ordering;
+use std::collections::VecDeque;
 use wh_types::Or;
 
-/// The sum of two polynomials; a fault only where a coefficient of the sum is too great.
-pub fn sum(alloc: Global, a: &Poly, b: &Poly) -> Result<Poly, Or<Excess>>
-    requires left { Sorted (poly a.now) }
-    ensures ok { IfOk result (λ r. poly r ≡ sum_poly (poly a.now) (poly b.now)) }
-    ensures fault { IfBecause result (λ e. ExceedsAs e (sum_poly (poly a.now) (poly b.now))) }
+/// The sum of two values; a fault only where it exceeds a limit.
+pub fn sum(alloc: Global, a: Poly, b: Poly) -> Result<Poly, Or<Excess>>
+    requires left { Sorted (poly a) }
+    ensures ok { IfOk result (λ r. (poly r ≡ sum_poly (poly a) (poly b)) × (Exceeds (poly r) → ⊥)) }
+    ensures fault { IfBecause result (λ e. ExceedsAs e (sum_poly (poly a) (poly b))) }
 {
-    let (items, others) = (a.as_slice(), b.as_slice());
+    let merged = merge(alloc, a, b)?;
+    match check_limits(&merged) {
+        Ok(()) => Ok(merged),
+        Err(excess) => Err(Or::Because(excess)),
+    }
+}
+
+// The sum, whatever its weight.
+fn merge(alloc: Global, a: Poly, b: Poly) -> Result<Poly, Or<Excess>>
+    requires left { Sorted (poly a) }
+    ensures ok { IfOk result (λ r. poly r ≡ sum_poly (poly a) (poly b)) }
+    ensures fault { IfBecause result (λ e. ExceedsAs e (sum_poly (poly a) (poly b))) }
+{
     let mut out = Poly::new(alloc)?;
-    let (mut i, mut j) = (0, 0);
-    loop {
-        if i == items.len() {
-            push_all(alloc, &mut out, &others[j..])?;
-            return Ok(out);
-        }
-        if j == others.len() {
-            push_all(alloc, &mut out, &items[i..])?;
-            return Ok(out);
-        }
-        let (item, other) = (&items[i], &others[j]);
-        match order_factors(&item.atoms, &other.atoms) {
-            Ordering::Less => {
-                push_copy(alloc, &mut out, item.coefficient, &item.atoms)?;
-                i += 1;
-            }
-            Ordering::Equal => {
-                let Some(both) = item.coefficient.checked_add(other.coefficient) else {
-                    return Err(Or::Because(Excess::Overflow));
-                };
-                push_copy(alloc, &mut out, both, &other.atoms)?;
-                i += 1;
-                j += 1;
-            }
-            Ordering::Greater => {
-                push_copy(alloc, &mut out, other.coefficient, &other.atoms)?;
-                j += 1;
-            }
-        }
+    let mut xs = a.into_queue();
+    let mut ys = b.into_queue();
+    while let Some(item) = next_of_sum(&mut xs, &mut ys)? {
+        out.push(item)?;
+    }
+    Ok(out)
+}
+
+// The first monomial of the sum leaves the queues, if there is one.
+fn next_of_sum(
+    xs: &mut VecDeque<Monomial>,
+    ys: &mut VecDeque<Monomial>,
+) -> Result<Option<Monomial>, Or<Excess>>
+    requires left { Sorted (sum_of xs.old.items) }
+    ensures ok { IfOk result (λ first. FirstOfSum xs.old.items ys.old.items xs.new.items ys.new.items first) }
+    ensures fault { IfBecause result (λ e. ExceedsAs e (sum_poly (sum_of xs.old.items) (sum_of ys.old.items))) }
+{
+    let Some(x) = xs.front() else {
+        return Ok(ys.pop_front());
+    };
+    let Some(y) = ys.front() else {
+        return Ok(xs.pop_front());
+    };
+    match order_factors(&x.atoms, &y.atoms) {
+        Ordering::Less => Ok(xs.pop_front()),
+        Ordering::Equal => match add_first(xs, ys) {
+            Some(item) => Ok(Some(item)),
+            None => Err(Or::Because(Excess::Overflow)),
+        },
+        Ordering::Greater => Ok(ys.pop_front()),
     }
 }
 
-// Copies of the monomials join at the end.
-fn push_all(alloc: Global, out: &mut Poly, rest: &[Monomial]) -> Result<(), AllocError>
-    ensures { OnOk result (sum_of (monomials out.new) ≡ followed_by (sum_of (monomials out.old)) (sum_of rest.now)) }
+// Both queues' first monomials leave as one, unless its coefficient would be too great.
+fn add_first(xs: &mut VecDeque<Monomial>, ys: &mut VecDeque<Monomial>) -> Option<Monomial>
+    requires left { 0 < length xs.old.items }
+    requires right { 0 < length ys.old.items }
+    ensures { MatchOption result (FirstOverflows xs.old.items ys.old.items) (AddsFirst xs.old.items ys.old.items xs.new.items ys.new.items) }
 {
-    for item in rest {
-        push_copy(alloc, out, item.coefficient, &item.atoms)?;
-    }
-    Ok(())
-}
-
-// A monomial with a copy of the factors joins at the end.
-fn push_copy(alloc: Global, out: &mut Poly, coefficient: u128, us: &Atoms) -> Result<(), AllocError>
-    ensures { OnOk result (sum_of (monomials out.new) ≡ followed_by (sum_of (monomials out.old)) (plus coefficient (atoms us.now) zero_poly)) }
-{
-    let atoms = copy_factors(alloc, us)?;
-    out.push(Monomial { coefficient, atoms })?;
-    Ok(())
+    let x = xs.pop_front()?;
+    let Monomial { coefficient, atoms } = ys.pop_front()?;
+    let coefficient = x.coefficient.checked_add(coefficient)?;
+    Some(Monomial { coefficient, atoms })
 }

@@ -4,3 +4,4 @@ pub mod ChoiceLemmas
 pub mod ProjectionLemmas
 pub mod DropLemmas
 pub mod CheckedRows
+pub mod SymbolLemmas

@@ -4,7 +4,7 @@ ghost use Rattle.std.specs.Prelude.{◌≡◌, ◌↔◌, ◌<◌, ℕ, All, Con
 ghost use Rattle.wh_terms.specs.Tree.{Tm};
 ghost use Rattle.wh_terms.specs.Erase.{list, tm};
 ghost use Rattle.wh_system.specs.PairData.{IsIncreasing, pair_data};
-ghost use Rattle.wh_subterm.specs.Projections.{Decreasing, IsProjected};
+ghost use Rattle.wh_subterm.specs.Projections.{Below, Decreasing, IsProjected};
 ghost use Rattle.wh_subterm.specs.SubtermRows.{IsDecreasing, IsNotDecreasing, chosen, chosen_symbols};
 
 use crate::marked::choice_for;
@@ -43,6 +43,14 @@ fn is_in(list: &[u32], number: u32) -> bool
         }
     }
     false
+}
+
+/// Whether the pair is below.
+pub fn is_below(pair: &Pair, args: &[Choice]) -> bool
+    requires { IsIncreasing (chosen_symbols (map chosen args.now)) }
+    ensures { IsTrue result ↔ Below (map chosen args.now) (pair_data pair.now) }
+{
+    is_decreasing(pair, args, true)
 }
 
 // Whether the pair is below, or equal and not dropped.

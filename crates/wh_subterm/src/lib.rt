@@ -7,6 +7,11 @@ mod dropped;
 mod marked;
 mod parts;
 mod projection;
+mod relation;
+mod symbols;
 
 pub use check::check_projection;
+pub use decrease::is_below;
 pub use projection::{Choice, Projection, SubtermFault};
+pub use relation::{Relation, relation_at};
+pub use symbols::marked_symbols;

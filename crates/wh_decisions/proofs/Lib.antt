@@ -1,0 +1,10 @@
+pub mod Searches
+pub mod Clashes
+pub mod BlockFaults
+pub mod Parts
+pub mod Projections
+pub mod Breaks
+pub mod Meant
+pub mod Stops
+pub mod Lines
+pub mod Claims

@@ -1,0 +1,35 @@
+//! The conditions of a YES certificate, each the contract of a function that does nothing.
+
+ghost use Rattle.std.specs.Prelude.{ℕ, ◌⊎◌, List};
+ghost use Rattle.wh_terms.specs.Rules.{RewriteRule};
+ghost use Rattle.wh_terms.specs.Typing.{Symbols};
+ghost use Rattle.wh_system.specs.PairData.{PairData};
+ghost use Rattle.wh_access.specs.Passing.{IsFirstBreak, Passing};
+ghost use Rattle.wh_graph.specs.May.{Follows, May};
+ghost use Rattle.wh_graph.specs.Blocks.{AreBlocks, IsFirstBlockFault};
+ghost use Rattle.wh_graph.specs.declared.blocks.BlockFault.{BlockFault};
+ghost use Rattle.wh_subterm.specs.Projections.{Chosen};
+ghost use Rattle.wh_subterm.specs.SubtermRows.{IsFirstSubtermFault, IsProjection};
+ghost use Rattle.wh_subterm.specs.declared.projection.SubtermFault.{SubtermFault};
+
+/// A pair may follow another, or it may not.
+pub fn may_is_decided()
+    ensures { (rules : List RewriteRule) (a b : PairData) → May rules a b ⊎ (May rules a b → ⊥) }
+{}
+
+/// Rules are passing under ranks, or there is a first rule with a least meta-variable that breaks passing.
+pub fn rules_pass_or_have_a_first_break()
+    ensures { (S : Symbols) (rank : ℕ → ℕ) (rules : List RewriteRule) → Passing S rank rules ⊎ ((i z : ℕ) × IsFirstBreak S rank rules i z) }
+{}
+
+/// Nothing is wrong with blocks of pairs, or something is wrong first.
+pub fn blocks_are_right_or_have_a_first_fault()
+    ensures { (rules : List RewriteRule) (ps : List PairData) (set : List ℕ) (blocks : List (List ℕ))
+        → AreBlocks (Follows rules ps) set blocks ⊎ ((f : BlockFault) × IsFirstBlockFault (Follows rules ps) set blocks f) }
+{}
+
+/// Choices are a projection, or something is wrong first with them or with what is dropped.
+pub fn choices_are_a_projection_or_have_a_first_fault()
+    ensures { (rules : List RewriteRule) (ps : List PairData) (set : List ℕ) (args : List Chosen) (drop : List ℕ)
+        → IsProjection rules ps set args drop ⊎ ((f : SubtermFault) × IsFirstSubtermFault rules ps set args drop f) }
+{}

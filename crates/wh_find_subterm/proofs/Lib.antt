@@ -1,0 +1,16 @@
+pub mod Members
+pub mod CaseLemmas
+pub mod RowLemmas
+pub mod SpotLemmas
+pub mod Chosen
+pub mod Truth
+pub mod Facts
+pub mod Ranges
+pub mod Models
+pub mod Values
+pub mod Back
+pub mod Only
+pub mod RowsMade
+pub mod ReadLemmas
+pub mod BelowSets
+pub mod Answering

@@ -1,0 +1,7 @@
+pub mod Rows
+pub mod Cases
+pub mod Clauses
+pub mod Formula
+pub mod Reading
+pub mod Laws
+pub mod Found

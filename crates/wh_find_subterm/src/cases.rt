@@ -1,0 +1,134 @@
+//! The choices of an argument for the left and for the right symbol of each pair, each with what the pair is under it.
+
+ghost use Rattle.std.specs.Prelude.{◌+◌, ◌<◌, ◌≤◌, ◌^◌, ℕ, All, IfOk, OnOk, length, map};
+ghost use Rattle.wh_system.specs.PairData.{pair_data};
+ghost use Rattle.wh_find_subterm.specs.Rows.{row_of};
+ghost use Rattle.wh_find_subterm.specs.Cases.{Adds, AreCases, IsCase, spot, spots, spots_alike, spots_apart, spots_beside, spots_of};
+ghost use Rattle.wh_find_subterm.specs.declared.rows.Row.{Row};
+
+use crate::rows::{Row, row_of};
+use std::alloc::{AllocError, Global};
+use wh_subterm::{Relation, relation_at};
+use wh_system::Pair;
+
+/// The variables of the arguments and of the pair, and what the pair is under the choice.
+#[derive(Clone, Copy)]
+pub struct Case {
+    pub left: u32,
+    pub right: u32,
+    pub own: u32,
+    pub relation: Relation,
+}
+
+/// The cases of the pairs of a set, whose own variables are the numbers from `end` on.
+pub fn cases_of(
+    alloc: Global,
+    rows: &[Row],
+    end: u32,
+    pairs: &[Pair],
+    set: &[u32],
+) -> Result<Vec<Case>, AllocError>
+    requires set { All (λ n. n < length pairs.now) set.now }
+    requires room { end + length set.now < 2 ^ 32 }
+    requires rows { (f : ℕ) → (row_of rows.now f).first + (row_of rows.now f).need ≤ end }
+    ensures { IfOk result (λ cases. AreCases (spots rows.now (map pair_data pairs.now) end set.now) cases.items) }
+{
+    let mut cases = Vec::new(alloc);
+    let mut own = end;
+    for number in set {
+        let pair = &pairs[*number as usize];
+        add_pair(
+            &mut cases,
+            pair,
+            row_of(rows, pair.left_fun),
+            row_of(rows, pair.right_fun),
+            own,
+        )?;
+        own += 1;
+    }
+    Ok(cases)
+}
+
+// The cases of a pair join.
+fn add_pair(
+    cases: &mut Vec<Case>,
+    pair: &Pair,
+    left: Row,
+    right: Row,
+    own: u32,
+) -> Result<(), AllocError>
+    requires left { left.first + left.need ≤ own }
+    requires right { right.first + right.need ≤ own }
+    ensures { OnOk result (Adds cases.old.items cases.new.items (spots_of (pair_data pair.now) left right own)) }
+{
+    if pair.left_fun == pair.right_fun {
+        add_alike(cases, pair, left, own)
+    } else {
+        add_apart(cases, pair, left, right, own)
+    }
+}
+
+// Those of a pair with one symbol on both sides.
+fn add_alike(cases: &mut Vec<Case>, pair: &Pair, row: Row, own: u32) -> Result<(), AllocError>
+    requires { row.first + row.need ≤ own }
+    ensures { OnOk result (Adds cases.old.items cases.new.items (spots_alike (pair_data pair.now) row own)) }
+{
+    for place in 0..row.need {
+        cases.push(case_at(pair, row, row, own, place, place))?;
+    }
+    Ok(())
+}
+
+// Those of a pair with two symbols.
+fn add_apart(
+    cases: &mut Vec<Case>,
+    pair: &Pair,
+    left: Row,
+    right: Row,
+    own: u32,
+) -> Result<(), AllocError>
+    requires left { left.first + left.need ≤ own }
+    requires right { right.first + right.need ≤ own }
+    ensures { OnOk result (Adds cases.old.items cases.new.items (spots_apart (pair_data pair.now) left right own)) }
+{
+    for place in 0..left.need {
+        add_beside(cases, pair, left, right, own, place)?;
+    }
+    Ok(())
+}
+
+// Those of a left argument.
+fn add_beside(
+    cases: &mut Vec<Case>,
+    pair: &Pair,
+    left: Row,
+    right: Row,
+    own: u32,
+    left_place: u32,
+) -> Result<(), AllocError>
+    requires left { left.first + left.need ≤ own }
+    requires right { right.first + right.need ≤ own }
+    requires place { left_place < left.need }
+    ensures { OnOk result (Adds cases.old.items cases.new.items (spots_beside (pair_data pair.now) left right own left_place)) }
+{
+    for place in 0..right.need {
+        cases.push(case_at(pair, left, right, own, left_place, place))?;
+    }
+    Ok(())
+}
+
+// One of them.
+fn case_at(pair: &Pair, left: Row, right: Row, own: u32, left_place: u32, right_place: u32) -> Case
+    requires left { left.first + left.need ≤ own }
+    requires right { right.first + right.need ≤ own }
+    requires left_place { left_place < left.need }
+    requires right_place { right_place < right.need }
+    ensures { IsCase (spot (pair_data pair.now) left right own left_place right_place) result }
+{
+    Case {
+        left: left.first + left_place,
+        right: right.first + right_place,
+        own,
+        relation: relation_at(pair, left_place, right_place),
+    }
+}

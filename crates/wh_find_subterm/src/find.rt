@@ -1,0 +1,78 @@
+//! The search for a projection that lets pairs go.
+
+ghost use Rattle.std.specs.Prelude.{◌≢◌, ◌≡◌, ◌+◌, ◌<◌, ◌^◌, ℕ, [], false, All, IfOk, get_or, length, map};
+ghost use Rattle.wh_system.specs.PairData.{IsIncreasing, pair_data};
+ghost use Rattle.wh_system.specs.SystemView.{system_data};
+ghost use Rattle.wh_subterm.specs.SubtermRows.{chosen};
+ghost use Rattle.wh_find_subterm.specs.Found.{IsAnswer};
+ghost use Rattle.wh_find_subterm.specs.Reading.{IsBelowSet, chosen_by};
+
+use crate::formula::formula_of;
+use crate::reading::{below_under, choices_by};
+use crate::rows::{Row, rows_of};
+use std::alloc::{AllocError, Global};
+use wh_sat::{Outcome, Search, solve_owned};
+use wh_subterm::{Projection, marked_symbols};
+use wh_system::{Pair, PairList, PairSet, System};
+
+/// A projection and the pairs that it lets go.
+#[derive(Drop)]
+pub struct ProjectionFound {
+    pub args: Projection,
+    pub drop: PairSet,
+}
+
+/// A projection of the set that lets pairs go (the subterm criterion of Kop 2012), found as a model of a formula.
+///
+/// `Found` drops every pair that is below. `Nothing` comes only where no projection of the marked symbols drops a pair of
+/// the set, and `Spent` only with as many learnt clauses as the budget allows.
+pub fn find_projection(
+    alloc: Global,
+    system: &System,
+    pairs: &PairList,
+    set: &PairSet,
+    budget: u64,
+) -> Result<Search<ProjectionFound>, AllocError>
+    requires set { All (λ n. n < length pairs.now) set.now }
+    requires some { set.now ≢ [] }
+    ensures { IfOk result (IsAnswer (system_data system.now).rules (map pair_data pairs.now) set.now budget) }
+{
+    let symbols = marked_symbols(alloc, pairs, set)?;
+    let rows = rows_of(alloc, system, &symbols)?;
+    let formula = formula_of(alloc, &rows, pairs.as_slice(), set.as_slice())?;
+    match solve_owned(alloc, formula, budget)? {
+        Outcome::Sat(values) => {
+            let found = read_model(
+                alloc,
+                &values,
+                &rows.items,
+                pairs.as_slice(),
+                set.as_slice(),
+            )?;
+            Ok(Search::Found(found))
+        }
+        Outcome::Unsat => Ok(Search::Nothing),
+        Outcome::Spent(learnt) => Ok(Search::Spent(learnt)),
+    }
+}
+
+// The projection that a model says, with the pairs that are below under it.
+fn read_model(
+    alloc: Global,
+    values: &[bool],
+    rows: &[Row],
+    pairs: &[Pair],
+    set: &[u32],
+) -> Result<ProjectionFound, AllocError>
+    requires set { All (λ n. n < length pairs.now) set.now }
+    requires increasing { IsIncreasing set.now }
+    requires few { length values.now < 2 ^ 32 }
+    requires rows { All (λ r. r.first + r.need < length values.now) rows.now }
+    requires symbols { IsIncreasing (map (λ r. r.symbol) rows.now) }
+    ensures args { IfOk result (λ found. map chosen found.args ≡ chosen_by (λ x. get_or values.now x false) rows.now) }
+    ensures drop { IfOk result (λ found. IsBelowSet (map pair_data pairs.now) set.now (map chosen found.args) (length set.now) found.drop) }
+{
+    let args = choices_by(alloc, values, rows)?;
+    let drop = below_under(alloc, pairs, set, args.as_slice())?;
+    Ok(ProjectionFound { args, drop })
+}

@@ -1,0 +1,42 @@
+//! The test of a value against the limits.
+
+ghost use Rattle.std.specs.Prelude.{◌<◌, ◌^◌, MatchResult};
+ghost use Rattle.wh_hopoly.specs.Erase.{poly};
+ghost use Rattle.wh_hopoly.specs.Limits.{Overflows, Exceeds};
+ghost use Rattle.wh_hopoly.specs.Excesses.{ExceedsAs};
+
+use crate::excess::Excess;
+use crate::polynomial::Poly;
+use crate::weighing::weigh;
+
+/// The greatest weight of a value.
+pub const MAX_WEIGHT: u32 = 65_536;
+/// How deep its arguments may nest.
+pub const MAX_NESTING: u32 = 400;
+
+/// Whether the value is within the limits, or the limit that it exceeds.
+pub fn check_limits(p: &Poly) -> Result<(), Excess>
+    ensures { MatchResult result (λ _. Exceeds (poly p.now) → ⊥) (λ e. ExceedsAs e (poly p.now)) }
+{
+    coefficients_fit(p);
+    match weigh(p, MAX_WEIGHT, MAX_NESTING) {
+        Some(_) => Ok(()),
+        None => Err(Excess::TooLarge),
+    }
+}
+
+// What is stored never overflows: a walk that does nothing at run time.
+fn coefficients_fit(p: &Poly)
+    ensures { Overflows (poly p.now) → ⊥ }
+{
+    for item in p.as_slice() {
+        fits(item.coefficient);
+    }
+}
+
+// A number of 128 bits is below 2^128.
+fn fits(coefficient: u128)
+    ensures { coefficient < 2 ^ 128 }
+{
+    let _ = coefficient;
+}

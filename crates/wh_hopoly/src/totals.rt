@@ -1,0 +1,83 @@
+//! Sums of many polynomials. Partial sums are added two by two, so that each monomial takes part in few merges.
+
+ghost use Rattle.std.specs.Prelude.{◌≡◌, IfOk, OnOk};
+ghost use Rattle.wh_types.specs.Outcome.{IfBecause};
+ghost use Rattle.wh_hopoly.specs.Erase.{poly};
+ghost use Rattle.wh_hopoly.specs.Polynomials.{Ordered, zero_poly};
+ghost use Rattle.wh_hopoly.specs.Arithmetic.{sum_poly};
+ghost use Rattle.wh_hopoly.specs.Limits.{Exceeds};
+ghost use Rattle.wh_hopoly.specs.Excesses.{ExceedsAs};
+
+use crate::excess::Excess;
+use crate::polynomial::Poly;
+use crate::sums::sum;
+use std::alloc::Global;
+use wh_types::Or;
+
+/// A sum that grows by one value at a time.
+#[derive(Drop)]
+pub struct Total {
+    parts: Vec<Poly>,
+    count: u64,
+}
+
+impl Total {
+    ghost use Rattle.wh_hopoly.specs.Totals.{total, HasOrderedParts, TakesLast};
+
+    /// Nothing is added yet.
+    pub fn new(alloc: Global) -> Total
+        ensures same { total result ≡ zero_poly }
+        ensures ordered { HasOrderedParts result }
+    {
+        Total {
+            parts: Vec::new(alloc),
+            count: 0,
+        }
+    }
+
+    /// The value is added; a fault only where the sum exceeds a limit.
+    pub fn add(&mut self, alloc: Global, value: Poly) -> Result<(), Or<Excess>>
+        requires value { Ordered (poly value) }
+        requires parts { HasOrderedParts self.old }
+        ensures ok { OnOk result ((total self.new ≡ sum_poly (poly value) (total self.old)) × HasOrderedParts self.new) }
+        ensures fault { IfBecause result (λ e. ExceedsAs e (sum_poly (poly value) (total self.old))) }
+    {
+        // As many parts are taken as the count ends in ones, so parts of about equal weight are added.
+        let mut left = self.count;
+        let mut carried = value;
+        while left % 2 == 1 {
+            left /= 2;
+            carried = self.add_last(alloc, carried)?;
+        }
+        self.count = self.count.wrapping_add(1);
+        self.parts.push(carried)?;
+        Ok(())
+    }
+
+    /// The sum of all values; a fault only where it exceeds a limit.
+    pub fn finish(self, alloc: Global) -> Result<Poly, Or<Excess>>
+        requires { HasOrderedParts self }
+        ensures ok { IfOk result (λ r. (poly r ≡ total self) × (Exceeds (poly r) → ⊥)) }
+        ensures fault { IfBecause result (λ e. ExceedsAs e (total self)) }
+    {
+        let mut rest = self;
+        let mut value = Poly::new(alloc)?;
+        while !rest.parts.is_empty() {
+            value = rest.add_last(alloc, value)?;
+        }
+        Ok(value)
+    }
+
+    // The value and the last part, if there is one.
+    fn add_last(&mut self, alloc: Global, value: Poly) -> Result<Poly, Or<Excess>>
+        requires value { Ordered (poly value) }
+        requires parts { HasOrderedParts self.old }
+        ensures ok { IfOk result (λ r. TakesLast self.old self.new (poly value) (poly r)) }
+        ensures fault { IfBecause result (λ e. ExceedsAs e (sum_poly (poly value) (total self.old))) }
+    {
+        match self.parts.pop() {
+            Some(part) => sum(alloc, value, part),
+            None => Ok(value),
+        }
+    }
+}

@@ -1,0 +1,76 @@
+-- Sets of pairs whose marked symbols have interpretations of their own.
+use Rattle.std.proofs.Common.{◌≡◌, ◌⊎◌, ℕ, List, [], length, refl, ap, ◌∙◌, map, Some, slice_get, Contains, true, false}
+use Rattle.wh_types.specs.Ty.{Ty, sort}
+use Rattle.wh_terms.specs.Tree.{Tm, Tms, tms_of}
+use Rattle.wh_terms.specs.Sight.{NoFree, AllNoFree}
+use Rattle.wh_terms.specs.Typing.{Symbols, Declared, Typed, AllTyped}
+use Rattle.wh_terms.specs.Rules.{RewriteRule, AreWellMade}
+use Rattle.wh_step.specs.Step.{Step}
+use Rattle.wh_system.specs.PairData.{PairData}
+use Rattle.wh_calls.specs.MarkedCalls.{CallsEnd}
+use Rattle.wh_hopoly.specs.Evaluation.{symbol, Interpretation, TypedExpression, NormalInterpretations}
+use Rattle.wh_hopoly.proofs.ValueLaws.{interpretation_is}
+use Rattle.wh_polycheck.specs.Sides.{types_of_metas, marked_expression, side_polynomial, Interprets, RulesAreCovered, IsNormOfSide}
+use Rattle.wh_polycheck.specs.Marks.{Mark, marked_types, marked_interpretation, with_marks, mark_number, HasMark, AreNormalMarks, IsNormOfPairSide}
+use Rattle.wh_meaning.specs.PairCovers.{PairIsCovered, PairIsStrictlyCovered, HasMarkedSides, MarkedPairIsCovered, IsOneOf, left_polynomial, right_polynomial}
+use Rattle.wh_meaning.proofs.MoreInterpretations.{interprets_more, rules_covered_more, mark_interpreted, normal_with_marks}
+use Rattle.wh_meaning.proofs.SideTypes.{side_typed, side_applied_typed}
+use Rattle.wh_meaning.proofs.PairsEnd.{sets_end_by_worth}
+
+covered_by_marks : (S : Symbols) (rules : List RewriteRule) (symbols : List Interpretation) (marks : List Mark) (p : PairData)
+    → MarkedPairIsCovered S rules symbols marks p
+    → PairIsCovered S rules (with_marks S rules symbols marks) (mark_number symbols marks) (λ f. 0) p
+covered_by_marks S rules symbols marks p c = record {
+  left = record {
+    interpreted = mark_interpreted S rules symbols marks p.left_fun c.sides.left_marked;
+    typed = c.sides.left_typed;
+    closed = c.sides.left_closed;
+  };
+  right = record {
+    interpreted = mark_interpreted S rules symbols marks p.right_fun c.sides.right_marked;
+    typed = c.sides.right_typed;
+    closed = c.sides.right_closed;
+  };
+  moves = c.moves;
+  cover = c.cover;
+}
+
+pub sets_end_by_marks : (S : Symbols) (rules : List RewriteRule) (symbols : List Interpretation) (marks : List Mark)
+    (pairs : List PairData) (set kept : List ℕ) → AreWellMade S rules → Interprets S symbols
+    → NormalInterpretations symbols → AreNormalMarks S rules marks → RulesAreCovered symbols rules
+    → ((n : ℕ) (p : PairData) → Contains set n → slice_get pairs n ≡ Some p → MarkedPairIsCovered S rules symbols marks p)
+    → ((n : ℕ) (p : PairData) → Contains set n → slice_get pairs n ≡ Some p
+    → Contains kept n ⊎ PairIsStrictlyCovered (with_marks S rules symbols marks) (mark_number symbols marks) p)
+    → CallsEnd S rules (Step rules) (IsOneOf pairs kept) → CallsEnd S rules (Step rules) (IsOneOf pairs set)
+sets_end_by_marks S rules symbols marks pairs set kept w i n k c h g =
+    sets_end_by_worth S rules (with_marks S rules symbols marks) (mark_number symbols marks) (λ f. 0) pairs set kept w
+    (interprets_more symbols (map (marked_interpretation S rules) marks) S i) (normal_with_marks S rules symbols marks n k)
+    (rules_covered_more symbols (map (marked_interpretation S rules) marks) S rules w i c) (λ n p m s. covered_by_marks S rules symbols marks p (h n p m s)) g
+
+-- a well-typed side has its polynomial as its normal form
+pub side_has_norm : (S : Symbols) (M : List Declared) (symbols : List Interpretation) (t : Tm) (a : Ty) → Interprets S symbols
+    → Typed S M [] t a → NoFree t → IsNormOfSide symbols M t (side_polynomial symbols M t)
+side_has_norm S M symbols t a i p f = ((side_typed S M symbols i (length (types_of_metas M)) refl p f).0, refl)
+
+marked_typed : (S : Symbols) (rules : List RewriteRule) (symbols : List Interpretation) (marks : List Mark) → Interprets S symbols
+    → (M : List Declared) (f : ℕ) (ts : Tms) → HasMark marks f → AllTyped S M [] ts (marked_types S rules f) → AllNoFree ts
+    → TypedExpression (with_marks S rules symbols marks) (types_of_metas M) (marked_expression M (mark_number symbols marks f) ts)
+marked_typed S rules symbols marks i M f ts h p c =
+    let all = with_marks S rules symbols marks in
+    let k = mark_number symbols marks f in
+    let (s, e, j) = mark_interpreted S rules symbols marks f h in
+    (side_applied_typed S M all (interprets_more symbols (map (marked_interpretation S rules) marks) S i) (length (types_of_metas M)) refl (symbol k) (sort 0)
+    ((s, e), ap (λ s. s.kind) (interpretation_is all k s e) ∙ j) p c).0
+
+-- and so have the sides of a pair
+pub left_has_norm : (S : Symbols) (rules : List RewriteRule) (symbols : List Interpretation) (marks : List Mark) (p : PairData)
+    → Interprets S symbols → HasMarkedSides S rules marks p
+    → IsNormOfPairSide S rules symbols marks p false (left_polynomial (with_marks S rules symbols marks) (mark_number symbols marks) p)
+left_has_norm S rules symbols marks p i h =
+    (marked_typed S rules symbols marks i p.metas p.left_fun (tms_of p.left) h.left_marked h.left_typed h.left_closed, refl)
+
+pub right_has_norm : (S : Symbols) (rules : List RewriteRule) (symbols : List Interpretation) (marks : List Mark) (p : PairData)
+    → Interprets S symbols → HasMarkedSides S rules marks p
+    → IsNormOfPairSide S rules symbols marks p true (right_polynomial (with_marks S rules symbols marks) (mark_number symbols marks) p)
+right_has_norm S rules symbols marks p i h =
+    (marked_typed S rules symbols marks i p.metas p.right_fun (tms_of p.right) h.right_marked h.right_typed h.right_closed, refl)

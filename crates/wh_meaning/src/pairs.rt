@@ -1,0 +1,30 @@
+//! Pairs whose left sides cover the right ones.
+
+ghost use Rattle.std.specs.Prelude.{ℕ, ◌≡◌, ◌⊎◌, List, Contains, Some, slice_get, true, false};
+ghost use Rattle.wh_terms.specs.Typing.{Symbols};
+ghost use Rattle.wh_terms.specs.Rules.{RewriteRule, AreWellMade};
+ghost use Rattle.wh_step.specs.Step.{Step};
+ghost use Rattle.wh_system.specs.PairData.{PairData};
+ghost use Rattle.wh_calls.specs.MarkedCalls.{CallsEnd};
+ghost use Rattle.wh_hopoly.specs.Evaluation.{Interpretation, NormalInterpretations};
+ghost use Rattle.wh_polycheck.specs.Sides.{Interprets, RulesAreCovered};
+ghost use Rattle.wh_polycheck.specs.Marks.{Mark, with_marks, mark_number, AreNormalMarks, IsNormOfPairSide};
+ghost use Rattle.wh_meaning.specs.PairCovers.{PairIsCovered, PairIsStrictlyCovered, HasMarkedSides, MarkedPairIsCovered, IsOneOf, left_polynomial, right_polynomial};
+
+/// Where all rules and all pairs of a set are covered, and each of these pairs is kept or strictly covered, calls by the set
+/// end if calls by the kept pairs do (Fuhs and Kop 2012, the reduction pair processor).
+pub fn covers_keep_that_calls_end()
+    ensures { (S : Symbols) (rules : List RewriteRule) (symbols : List Interpretation) (marked target : ℕ → ℕ) (pairs : List PairData) (set kept : List ℕ) → AreWellMade S rules → Interprets S symbols → NormalInterpretations symbols → RulesAreCovered symbols rules → ((n : ℕ) (p : PairData) → Contains set n → slice_get pairs n ≡ Some p → PairIsCovered S rules symbols marked target p) → ((n : ℕ) (p : PairData) → Contains set n → slice_get pairs n ≡ Some p → (Contains kept n ⊎ PairIsStrictlyCovered symbols marked p)) → CallsEnd S rules (Step rules) (IsOneOf pairs kept) → CallsEnd S rules (Step rules) (IsOneOf pairs set) }
+{}
+
+/// The same where the marked symbols have interpretations of their own, which stand behind those of the symbols: the rules are
+/// covered by the symbols' alone.
+pub fn covers_by_marks_keep_that_calls_end()
+    ensures { (S : Symbols) (rules : List RewriteRule) (symbols : List Interpretation) (marks : List Mark) (pairs : List PairData) (set kept : List ℕ) → AreWellMade S rules → Interprets S symbols → NormalInterpretations symbols → AreNormalMarks S rules marks → RulesAreCovered symbols rules → ((n : ℕ) (p : PairData) → Contains set n → slice_get pairs n ≡ Some p → MarkedPairIsCovered S rules symbols marks p) → ((n : ℕ) (p : PairData) → Contains set n → slice_get pairs n ≡ Some p → (Contains kept n ⊎ PairIsStrictlyCovered (with_marks S rules symbols marks) (mark_number symbols marks) p)) → CallsEnd S rules (Step rules) (IsOneOf pairs kept) → CallsEnd S rules (Step rules) (IsOneOf pairs set) }
+{}
+
+/// The sides of a pair have their polynomials as normal forms.
+pub fn marked_sides_have_normal_forms()
+    ensures left { (S : Symbols) (rules : List RewriteRule) (symbols : List Interpretation) (marks : List Mark) (p : PairData) → Interprets S symbols → HasMarkedSides S rules marks p → IsNormOfPairSide S rules symbols marks p false (left_polynomial (with_marks S rules symbols marks) (mark_number symbols marks) p) }
+    ensures right { (S : Symbols) (rules : List RewriteRule) (symbols : List Interpretation) (marks : List Mark) (p : PairData) → Interprets S symbols → HasMarkedSides S rules marks p → IsNormOfPairSide S rules symbols marks p true (right_polynomial (with_marks S rules symbols marks) (mark_number symbols marks) p) }
+{}

@@ -1,0 +1,3 @@
+pub mod GoodWalk
+pub mod AmountWalk
+pub mod Checked

@@ -1,0 +1,10 @@
+use Rattle.std.proofs.Common.{ℕ, ◌<◌, ◌≤◌, ◌+◌, ◌-◌, length}
+use Rattle.wh_hopoly.specs.Moves.{NotOverSpent}
+use Rattle.wh_hopoly.specs.Erase.{sum_of, transfers}
+use Rattle.wh_polycheck.proofs.amounts.first_over_spent.Given as goal
+
+abbrev pub decreases-loop-base : goal.decreases-loop-base
+decreases-loop-base l = length l.items - l.base
+
+abbrev pub invariant-loop-base : goal.invariant-loop-base
+invariant-loop-base l = l.base ≤ length l.items + 4096 × ((i : ℕ) → i < l.base → NotOverSpent (sum_of l.items) (transfers l.moves) i)

@@ -1,0 +1,3 @@
+pub mod CoverFaults
+pub mod Sides
+pub mod Marks
