@@ -1,5 +1,7 @@
 pub mod NamesAndNumbers
 pub mod TypeLaws
+pub mod PolyLaws
+pub mod PolyRuns
 pub mod TermSound
 pub mod TermComplete
 pub mod YesSound

@@ -1,10 +1,13 @@
 pub mod Written
 pub mod Text
 pub mod Limits
+pub mod PolyText
+pub mod PolyLimits
 pub mod CertText
 pub mod Said
 pub mod TypeMachine
 pub mod TermMachine
+pub mod PolyMachine
 pub mod YesMachine
 pub mod LineMachine
 pub mod ReadEnd
