@@ -2,6 +2,7 @@ pub mod NamesAndNumbers
 pub mod TypeLaws
 pub mod PolyLaws
 pub mod PolyRuns
+pub mod PolyLinesSound
 pub mod TermSound
 pub mod TermComplete
 pub mod YesSound
@@ -16,6 +17,7 @@ pub mod LineEnds
 pub mod Whole
 pub mod RawLaws
 pub mod TypeCode
+pub mod PolyCode
 pub mod TermCode
 pub mod YesCode
 pub mod LaterLaws

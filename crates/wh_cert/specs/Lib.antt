@@ -1,6 +1,7 @@
 pub mod Written
 pub mod Text
 pub mod Limits
+pub mod Interps
 pub mod PolyText
 pub mod PolyLimits
 pub mod CertText
@@ -8,10 +9,12 @@ pub mod Said
 pub mod TypeMachine
 pub mod TermMachine
 pub mod PolyMachine
+pub mod PolyLines
 pub mod YesMachine
 pub mod LineMachine
 pub mod ReadEnd
 pub mod TypeViews
+pub mod PolyViews
 pub mod TermViews
 pub mod LineViews
 pub mod YesViews

@@ -5,6 +5,7 @@ mod certificate;
 mod laws;
 mod letters;
 mod line_reader;
+mod poly_reader;
 mod print;
 mod raw;
 mod read;
