@@ -6,6 +6,7 @@ pub mod PolyLinesSound
 pub mod TermSound
 pub mod TermComplete
 pub mod YesSound
+pub mod LinesComplete
 pub mod YesComplete
 pub mod YesReached
 pub mod Ended
@@ -18,8 +19,9 @@ pub mod Whole
 pub mod RawLaws
 pub mod TypeCode
 pub mod PolyCode
+pub mod PolyLinesCode
 pub mod TermCode
 pub mod YesCode
-pub mod LaterLaws
 pub mod ReadCode
 pub mod PrintCode
+pub mod PrintPolyCode

@@ -1,7 +1,7 @@
 -- The reader of polynomials reads exactly their spellings: what it has read is spelled, a spelling is read, and every front that
 -- it goes along can be ended.
-use Rattle.std.proofs.Common.{◌≡◌, ℕ, zero, suc, ◌+◌, ◌-◌, ◌*◌, ◌^◌, ◌<◌, ◌≤◌, Bool, true, false, cond, ◌&&◌, ◌==◌, ltb, leb, List, [], ◌∷◌, ◌++◌, refl, sym, ap, ◌∙◌, subst, arith}
-use Rattle.std.proofs.lemmas.Bool.{and_parts, and_left, eqb-true, ne_eqb, ltb-true, lt-ltb, cond-true, cond-false, cond_both}
+use Rattle.std.proofs.Common.{◌≡◌, ℕ, suc, ◌+◌, ◌-◌, ◌*◌, ◌<◌, Bool, true, cond, ◌&&◌, ◌==◌, ltb, List, [], ◌∷◌, ◌++◌, refl, sym, ap, ◌∙◌, subst}
+use Rattle.std.proofs.lemmas.Bool.{and_parts, eqb-true, ltb-true, cond_both}
 use Rattle.std.specs.Fmt.{decimal}
 use Rattle.wh_text.specs.Chars.{is_digit}
 use Rattle.wh_hopoly.specs.Polynomials.{Polynomial, zero_poly, plus, Factors, no_factors, times, Arguments, no_arguments, argument}
@@ -10,7 +10,7 @@ use Rattle.wh_cert.specs.Limits.{IsSmall}
 use Rattle.wh_cert.specs.PolyLimits.{IsBig, PolyFits, FactorsFit, PolysFit}
 use Rattle.wh_cert.specs.TermMachine.{goes_on}
 use Rattle.wh_cert.specs.PolyMachine.{PolyStack, outside, inside, PolyPlace, poly_wanted, nought, added, coefficient, factor_wanted, head_wanted, head, closed_poly, PolyStep, goes, poly_ended, no_poly, poly_level, add_monomial, add_factor, add_argument, begins_big, goes_on_big, behind_poly, behind_part, first_coefficient, head_ended, poly_step}
-use Rattle.wh_cert.proofs.NamesAndNumbers.{ReadsNumbers, number_run, is_digit_48, goes_on_48, goes_on_true, first_digit_spelled, first_digit_small, next_digit_spelled, ReadsBigs, big_run, begins_big_48, begins_big_spelled, first_big, goes_on_big_48, next_big, next_big_spelled}
+use Rattle.wh_cert.proofs.NamesAndNumbers.{goes_on_true, first_digit_spelled, first_digit_small, next_digit_spelled, begins_big_spelled, first_big, next_big, next_big_spelled}
 
 -- what a place has read, with r behind it
 

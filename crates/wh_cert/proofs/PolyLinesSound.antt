@@ -11,10 +11,10 @@ use Rattle.wh_text.specs.Words.{IsWord}
 use Rattle.wh_cert.specs.Interps.{Interp}
 use Rattle.wh_cert.specs.PolyText.{put_poly, put_interp, put_interps, put_move, put_moves, put_cover, put_covers}
 use Rattle.wh_cert.specs.Limits.{IsSmall}
-use Rattle.wh_cert.specs.PolyLimits.{IsBig, PolyFits, InterpFits, MoveFits}
+use Rattle.wh_cert.specs.PolyLimits.{IsBig, InterpFits, MoveFits}
 use Rattle.wh_cert.specs.TermMachine.{goes_on}
-use Rattle.wh_cert.specs.PolyMachine.{PolyStack, outside, PolyPlace, poly_wanted, PolyStep, goes, poly_ended, no_poly, begins_big, goes_on_big, poly_step}
-use Rattle.wh_cert.specs.PolyLines.{Lines, in_funs, in_marks, in_rules, in_pairs, LinesPlace, lines_front, name_wanted, name, in_poly, moves, from_wanted, from, to_wanted, to, amount_wanted, amount, LinesStep, on, begins, drops, refused, line_first, line_rest, to_marks, to_rules, to_pairs, add_interp, add_cover, pair_step, rule_step, mark_step, first_step, poly_led, moves_step, add_move, lines_step}
+use Rattle.wh_cert.specs.PolyMachine.{outside, poly_wanted, PolyStep, goes, poly_ended, no_poly, begins_big, goes_on_big, poly_step}
+use Rattle.wh_cert.specs.PolyLines.{Lines, in_funs, in_marks, in_rules, in_pairs, LinesPlace, lines_front, name_wanted, name, in_poly, moves, from_wanted, from, to_wanted, to, amount_wanted, amount, LinesStep, on, begins, drops, refused, line_first, line_rest, line_begun, to_marks, to_rules, to_pairs, add_interp, add_cover, pair_step, rule_step, mark_step, first_step, poly_led, moves_step, add_move, lines_step}
 use Rattle.wh_cert.proofs.NamesAndNumbers.{first_letter, next_letter, first_digit_spelled, first_digit_small, goes_on_true, next_digit_spelled, begins_big_spelled, first_big, next_big, next_big_spelled}
 use Rattle.wh_cert.proofs.PolyLaws.{poly_seen, GoodPolys, GoodPolyPlace, PolyNext, poly_kept}
 
@@ -187,13 +187,13 @@ cover_pushed n rs ms g few =
     let wide = covers_wider n (suc n) rs (omega arith) g in
     (All-push (All MoveFits) rs ms g.0 few.0, All-push (λ (qs : List moved.Move). length qs ≤ suc n) rs ms wide.1 (omega (arith, few.1)), omega (arith, length-append rs (ms ∷ []), g.2))
 
-interp_good : (n : ℕ) (x : Lines) (i : Interp) → TakesInterp x → GoodLines n x → InterpFits i → GoodLines (suc n) (add_interp x i)
+pub interp_good : (n : ℕ) (x : Lines) (i : Interp) → TakesInterp x → GoodLines n x → InterpFits i → GoodLines (suc n) (add_interp x i)
 interp_good n (in_funs funs) i t g fits = interp_pushed n funs i g fits
 interp_good n (in_marks funs marks) i t g fits = (interps_wider n (suc n) funs (omega arith) g.0, interp_pushed n marks i g.1 fits)
 interp_good n (in_rules funs marks rules) i t g fits = absurd t
 interp_good n (in_pairs funs marks rules pairs) i t g fits = absurd t
 
-cover_good : (n : ℕ) (x : Lines) (ms : List moved.Move) → TakesMoves x → GoodLines n x → GoodMoves n ms → GoodLines (suc n) (add_cover x ms)
+pub cover_good : (n : ℕ) (x : Lines) (ms : List moved.Move) → TakesMoves x → GoodLines n x → GoodMoves n ms → GoodLines (suc n) (add_cover x ms)
 cover_good n (in_funs funs) ms t g few = absurd t
 cover_good n (in_marks funs marks) ms t g few = absurd t
 cover_good n (in_rules funs marks rules) ms t g few =
@@ -235,7 +235,7 @@ pair_kept : (n : ℕ) (x : Lines) (b : ℕ) → GoodLines n x → LinesNext n (p
 pair_kept n x b g =
     if_byte n b 112 (begins (to_pairs x)) _ (put_lines x)
     (pairs_good n x g, λ r. ap (λ (c : ℕ). put_lines (to_pairs x) (c ∷ r)) (pairs_first x) ∙ pairs_text x (112 ∷ r))
-    (if_byte n b 100 (drops x) refused (put_lines x) (g, λ r. refl) tt)
+    (if_byte n b 100 (drops (to_pairs x)) refused (put_lines x) (pairs_good n x g, λ r. pairs_text x (100 ∷ r)) tt)
 
 -- only where rules may still come
 abbrev Rules : Lines → Type 0
@@ -352,3 +352,17 @@ lines_kept n x (amount ms i j k) b g p =
     if_so (suc n) (goes_on_big k b) (on x (amount ms i j (10 * k + (b - 48)))) _ (λ r. lines_seen x (amount ms i j k) (b ∷ r))
     (λ e. (lines_wider n (suc n) x (omega arith) g, (p.0, p.1, omega (arith, p.2), p.3, p.4, next_big k b p.5 e), λ r. ap (λ (s : List ℕ). put_begun x (put_moves ms (32 ∷ (decimal i ++ (62 ∷ (decimal j ++ (58 ∷ s))))))) (next_big_spelled k b r p.5 e)))
     (move_kept n x ms i j k b g p)
+
+-- behind the word of a line
+
+pub begun_good : (n : ℕ) (x : Lines) → GoodLinesPlace n x (line_begun x)
+begun_good n (in_funs funs) = tt
+begun_good n (in_marks funs marks) = tt
+begun_good n (in_rules funs marks rules) = (tt, (All-nil MoveFits, omega arith))
+begun_good n (in_pairs funs marks rules pairs) = (tt, (All-nil MoveFits, omega arith))
+
+pub begun_text : (x : Lines) (r : List ℕ) → lines_seen x (line_begun x) r ≡ put_begun x r
+begun_text (in_funs funs) r = refl
+begun_text (in_marks funs marks) r = refl
+begun_text (in_rules funs marks rules) r = refl
+begun_text (in_pairs funs marks rules pairs) r = refl

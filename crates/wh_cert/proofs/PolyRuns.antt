@@ -1,16 +1,16 @@
 -- A spelling of a polynomial is read, and every front that the reader of polynomials goes along can be ended.
-use Rattle.std.proofs.Common.{◌≡◌, ℕ, zero, suc, ◌+◌, ◌-◌, ◌*◌, ◌^◌, ◌<◌, ◌≤◌, Bool, true, false, cond, ◌&&◌, ◌==◌, ltb, leb, List, [], ◌∷◌, ◌++◌, refl, sym, ap, ◌∙◌, subst, arith}
+use Rattle.std.proofs.Common.{◌≡◌, ℕ, ◌+◌, ◌-◌, ◌*◌, ◌^◌, ◌<◌, false, ◌&&◌, ◌==◌, ltb, List, [], ◌∷◌, ◌++◌, refl, sym, ap, ◌∙◌, arith}
 use Rattle.std.proofs.lemmas.Bool.{and_left, ne_eqb, lt-ltb, cond-true, cond-false}
 use Rattle.std.specs.Fmt.{decimal}
 use Rattle.wh_text.specs.Chars.{is_digit}
 use Rattle.wh_hopoly.specs.Polynomials.{Polynomial, zero_poly, plus, Factors, no_factors, times, Arguments, no_arguments, argument}
 use Rattle.wh_cert.specs.PolyText.{put_poly, put_sum, put_factors, put_polys, put_more}
 use Rattle.wh_cert.specs.Limits.{IsSmall}
-use Rattle.wh_cert.specs.PolyLimits.{IsBig, PolyFits, FactorsFit, PolysFit}
+use Rattle.wh_cert.specs.PolyLimits.{PolyFits, FactorsFit, PolysFit}
 use Rattle.wh_cert.specs.TermMachine.{goes_on}
-use Rattle.wh_cert.specs.PolyMachine.{PolyStack, outside, inside, PolyPlace, poly_wanted, nought, added, coefficient, factor_wanted, head_wanted, head, closed_poly, PolyStep, goes, poly_ended, no_poly, poly_level, add_monomial, add_factor, add_argument, begins_big, goes_on_big, behind_poly, behind_part, first_coefficient, head_ended, poly_step}
+use Rattle.wh_cert.specs.PolyMachine.{PolyStack, outside, inside, PolyPlace, poly_wanted, nought, added, coefficient, factor_wanted, head_wanted, head, closed_poly, PolyStep, goes, no_poly, poly_level, add_monomial, add_factor, add_argument, begins_big, goes_on_big, behind_poly, behind_part, first_coefficient, head_ended}
 use Rattle.wh_cert.proofs.NamesAndNumbers.{ReadsNumbers, number_run, is_digit_48, goes_on_48, ReadsBigs, big_run, begins_big_48, goes_on_big_48}
-use Rattle.wh_cert.proofs.PolyLaws.{PolyScan, in_poly, poly_read, no_poly_scan, poly_scan, GoodPolyPlace}
+use Rattle.wh_cert.proofs.PolyLaws.{poly_read, poly_scan}
 
 -- lists one behind the other
 

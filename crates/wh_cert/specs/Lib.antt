@@ -17,6 +17,6 @@ pub mod TypeViews
 pub mod PolyViews
 pub mod TermViews
 pub mod LineViews
+pub mod PolyLinesViews
 pub mod YesViews
-pub mod Faults
 pub mod ReadViews

@@ -80,7 +80,7 @@ add_cover x ms = x
 
 -- the first byte of a line: of pairs or of `drop`; of rules too; of marked symbols too; of symbols too
 abbrev pub pair_step : Lines → ℕ → LinesStep
-pair_step x b = cond (b == 112) (begins (to_pairs x)) (cond (b == 100) (drops x) refused)
+pair_step x b = cond (b == 112) (begins (to_pairs x)) (cond (b == 100) (drops (to_pairs x)) refused)
 
 abbrev pub rule_step : Lines → ℕ → LinesStep
 rule_step x b = cond (b == 114) (begins (to_rules x)) (pair_step x b)
