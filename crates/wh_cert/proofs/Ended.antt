@@ -2,16 +2,12 @@
 use Rattle.std.proofs.Common.{◌≡◌, ℕ, List, [], ◌∷◌, ◌++◌, refl, sym, ◌∙◌}
 use Rattle.wh_cert.specs.Written.{Cert, yes, no}
 use Rattle.wh_cert.specs.Limits.{CountsWithin}
-use Rattle.wh_cert.specs.LineMachine.{Standing, later, wrong, take_byte, run}
+use Rattle.wh_cert.specs.LineMachine.{Standing, wrong, take_byte, run}
 use Rattle.wh_cert.specs.ReadEnd.{IsEnd}
 
 pub run_wrong : (p : List ℕ) → run wrong p ≡ wrong
 run_wrong [] = refl
 run_wrong (b ∷ p) = run_wrong p
-
-pub run_later : (p : List ℕ) → run later p ≡ later
-run_later [] = refl
-run_later (b ∷ p) = run_later p
 
 pub run_append : (s : Standing) (p q : List ℕ) → run s (p ++ q) ≡ run (run s p) q
 run_append s [] q = refl

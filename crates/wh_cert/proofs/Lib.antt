@@ -1,8 +1,12 @@
 pub mod NamesAndNumbers
 pub mod TypeLaws
+pub mod PolyLaws
+pub mod PolyRuns
+pub mod PolyLinesSound
 pub mod TermSound
 pub mod TermComplete
 pub mod YesSound
+pub mod LinesComplete
 pub mod YesComplete
 pub mod YesReached
 pub mod Ended
@@ -14,8 +18,10 @@ pub mod LineEnds
 pub mod Whole
 pub mod RawLaws
 pub mod TypeCode
+pub mod PolyCode
+pub mod PolyLinesCode
 pub mod TermCode
 pub mod YesCode
-pub mod LaterLaws
 pub mod ReadCode
 pub mod PrintCode
+pub mod PrintPolyCode

@@ -7,7 +7,7 @@ use Rattle.wh_text.specs.Spelling.{put_term}
 use Rattle.wh_cert.specs.Written.{Put, Cert, yes, no}
 use Rattle.wh_cert.specs.Text.{put_step, put_steps, put_put, put_puts, text}
 use Rattle.wh_cert.specs.Limits.{StepFits, PutFits, PartsFit, PathsWithin, CountsWithin}
-use Rattle.wh_cert.specs.LineMachine.{Item, head_item, step_item, at_item, put_item, end_item, to_term, LinePlace, word, finished, LineStep, on, gives, refused, line_step, Past, nothing, begun, placed, gather, Standing, unread, stands, stands_yes, later, wrong, moved, moved_yes, first_byte, take_byte, run, start}
+use Rattle.wh_cert.specs.LineMachine.{Item, head_item, step_item, at_item, put_item, end_item, to_term, LinePlace, word, finished, LineStep, on, gives, refused, line_step, Past, nothing, begun, placed, gather, Standing, unread, stands, stands_yes, wrong, moved, moved_yes, first_byte, take_byte, run, start}
 use Rattle.wh_cert.specs.YesMachine as y
 use Rattle.wh_cert.specs.ReadEnd.{IsEnd}
 use Rattle.wh_cert.proofs.YesReached as yes_past
@@ -126,7 +126,6 @@ abbrev pub StandsGood : ℕ → Standing → (List ℕ → List ℕ) → Type 0
 StandsGood n unread f = (n ≡ 0) × ((r : List ℕ) → r ≡ f r)
 StandsGood n (stands h p) f = Good n h p f
 StandsGood n (stands_yes h p) f = yes_past.Good n h p f
-StandsGood n later f = Unit {0}
 StandsGood n wrong f = Unit {0}
 
 moved_kept : (n : ℕ) (h : Past) (p : LinePlace) (s : LineStep) (b : ℕ) (f : List ℕ → List ℕ) → (g : Good n h p f) → LineNext (suc n) s (stage p) (λ r. g.line (b ∷ r)) → StandsGood (suc n) (moved h s) (λ r. f (b ∷ r))
@@ -153,7 +152,6 @@ moved_kept n h p refused b f g next = tt
 moved_yes_kept : (n : ℕ) (h : y.Past) (s : y.LineStep) (f : List ℕ → List ℕ) → StepGood n h s f → StandsGood n (moved_yes h s) f
 moved_yes_kept n h (y.on q) f g = g
 moved_yes_kept n h (y.gives i q) f g = g
-moved_yes_kept n h y.later f g = tt
 moved_yes_kept n h y.refused f g = tt
 
 -- behind the first byte of a NO certificate
@@ -174,7 +172,6 @@ good_same n m (stands h p) f g e same k =
     subst (λ (i : ℕ). Good i h p g) e (record { fits = k.fits; within = k.within; staged = k.staged; place = k.place; line = k.line; reads = k.reads; spelled = λ r. k.spelled r ∙ same r })
 good_same n m (stands_yes h p) f g e same k =
     record { before = k.before; since = k.since; sum = k.sum ∙ e; past = k.past; place = k.place; right = k.right; line = k.line; reads = k.reads; spelled = λ r. k.spelled r ∙ same r }
-good_same n m later f g e same h = tt
 good_same n m wrong f g e same h = tt
 
 first_kept : (b : ℕ) → StandsGood 1 (first_byte b) (λ r. b ∷ r)
@@ -190,7 +187,6 @@ byte_kept n unread b f g =
     good_same 1 (suc n) (first_byte b) (λ r. b ∷ r) (λ r. f (b ∷ r)) (sym (ap (λ (k : ℕ). suc k) g.0)) (λ r. g.1 (b ∷ r)) (first_kept b)
 byte_kept n (stands h p) b f g = moved_kept n h p (line_step p b) b f g (lead_kept n p b g.place g.line g.reads)
 byte_kept n (stands_yes h p) b f g = moved_yes_kept (suc n) h (y.step (y.wants h) p b) (λ r. f (b ∷ r)) (byte_good n h p b f g)
-byte_kept n later b f g = tt
 byte_kept n wrong b f g = tt
 
 run_kept : (n : ℕ) (s : Standing) (p : List ℕ) (f : List ℕ → List ℕ) → StandsGood n s f → StandsGood (n + length p) (run s p) (λ r. f (p ++ r))

@@ -1,12 +1,11 @@
 -- Where the reader of certificates stands, as its code keeps it.
 use Rattle.std.proofs.Common.{◌≡◌, ℕ, ◌+◌, ◌^◌, ◌<◌, ◌≤◌, List, [], ◌∷◌, length, get_or, take, Option, Some, None, refl, sym, ap, ◌∙◌, subst, arith}
 use Rattle.std.proofs.lemmas.List.{take_more, take_all, length-take-le}
-use Rattle.std.proofs.lemmas.Option.{get_or_from_slice_get, slice_get_within}
 use Rattle.wh_text.specs.declared.raw.RawType.{RawType}
 use Rattle.wh_cert.specs.Written.{Cert, yes, no}
-use Rattle.wh_cert.specs.CertText.{FaultAt, IsLater}
+use Rattle.wh_cert.specs.CertText.{FaultAt}
 use Rattle.wh_cert.specs.YesMachine as y
-use Rattle.wh_cert.specs.LineMachine.{Standing, unread, stands, stands_yes, later, wrong, run, start, take_byte}
+use Rattle.wh_cert.specs.LineMachine.{Standing, unread, stands, stands_yes, wrong, run, start, take_byte}
 use Rattle.wh_cert.specs.ReadEnd.{IsEnd}
 use Rattle.wh_cert.specs.LineMachine as m
 use Rattle.wh_cert.specs.LineViews.{putting, place_of, line_place}
@@ -22,7 +21,6 @@ use Rattle.wh_cert.proofs.YesSound.{Stage, first, second, third, stage}
 use Rattle.wh_cert.proofs.YesReached.{GoodPast}
 use Rattle.wh_cert.proofs.Reached.{reached_yes}
 use Rattle.wh_cert.proofs.Whole.{Stops, stopped_at, ended_early}
-use Rattle.wh_cert.proofs.LaterLaws.{later_found, not_later}
 
 -- the reader is never past all hope
 standing_goes : (r : Reader) → Stops (standing r) → ⊥
@@ -57,7 +55,6 @@ few_at p (stands h q) short e = tt
 few_at p (stands_yes h q) short e =
     let g = reached_yes p h q e in
     few_past g.before (stage q) h (omega (arith, g.sum)) g.past
-few_at p later short e = tt
 few_at p wrong short e = tt
 
 pub few_next : (p : List ℕ) (i : ℕ) (s : Standing) → length p < 2 ^ 32 → run start (take i p) ≡ s → i < length p → few (take_byte s (get_or p i 0))
@@ -66,20 +63,12 @@ few_next p i s short e below =
 
 -- faults
 
-pub later_at : (p : List ℕ) (i : ℕ) (r : Reader) → length p < 2 ^ 32 → i < length p → run start (take i p) ≡ standing r → take_byte (standing r) (get_or p i 0) ≡ later → IsLater p
-later_at p i r short below e stops =
-    later_found p i short below (goes_on (take i p) r e) (run_next p i (standing r) e below ∙ stops)
-
-pub wrong_at : (p : List ℕ) (i : ℕ) (r : Reader) → length p < 2 ^ 32 → i < length p → run start (take i p) ≡ standing r → take_byte (standing r) (get_or p i 0) ≡ wrong → FaultAt p i × (IsLater p → ⊥)
+pub wrong_at : (p : List ℕ) (i : ℕ) (r : Reader) → length p < 2 ^ 32 → i < length p → run start (take i p) ≡ standing r → take_byte (standing r) (get_or p i 0) ≡ wrong → FaultAt p i
 wrong_at p i r short below e stops =
-    let next = run_next p i (standing r) e below ∙ stops in
-    let fault = stopped_at p i short below (goes_on (take i p) r e) (subst Stops (sym next) tt) in
-    (fault, not_later p i fault (λ is. ap (λ (s : Standing). take_byte s 112) e ∙ ap (take_byte (standing r)) (sym (get_or_from_slice_get p i 112 0 is)) ∙ stops))
+    stopped_at p i short below (goes_on (take i p) r e) (subst Stops (sym (run_next p i (standing r) e below ∙ stops)) tt)
 
-pub early_at : (p : List ℕ) (r : Reader) → length p < 2 ^ 32 → run start p ≡ standing r → ((c : Cert) → IsEnd (standing r) c → ⊥) → FaultAt p (length p) × (IsLater p → ⊥)
-early_at p r short e early =
-    let fault = ended_early p short (goes_on p r e) (λ c is. early c (subst (λ (s : Standing). IsEnd s c) e is)) in
-    (fault, not_later p (length p) fault (λ is. (let past : length p < length p = slice_get_within p (length p) 112 is in absurd (omega arith))))
+pub early_at : (p : List ℕ) (r : Reader) → length p < 2 ^ 32 → run start p ≡ standing r → ((c : Cert) → IsEnd (standing r) c → ⊥) → FaultAt p (length p)
+early_at p r short e early = ended_early p short (goes_on p r e) (λ c is. early c (subst (λ (s : Standing). IsEnd s c) e is))
 
 -- the end of a NO certificate
 

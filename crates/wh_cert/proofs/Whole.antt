@@ -8,18 +8,17 @@ use Rattle.wh_cert.specs.Written.{done, Cert, yes, no}
 use Rattle.wh_cert.specs.Limits.{NodeWithin, CountsWithin}
 use Rattle.wh_cert.specs.CertText.{CertText, Begins, SyntaxAt, FaultAt}
 use Rattle.wh_cert.specs.YesMachine as y
-use Rattle.wh_cert.specs.LineMachine.{finished, placed, Standing, unread, stands, stands_yes, later, wrong, run, start}
+use Rattle.wh_cert.specs.LineMachine.{finished, placed, Standing, unread, stands, stands_yes, wrong, run, start}
 use Rattle.wh_cert.specs.ReadEnd.{IsEnd}
 use Rattle.wh_cert.proofs.YesReached.{nodes_wider}
 use Rattle.wh_cert.proofs.YesEnds.{yes_ends}
-use Rattle.wh_cert.proofs.Ended.{run_wrong, run_later, run_append, one_end, Ends}
+use Rattle.wh_cert.proofs.Ended.{run_wrong, run_append, one_end, Ends}
 use Rattle.wh_cert.proofs.Reached.{reached_at, reached_yes, found, counts_wider}
 use Rattle.wh_cert.proofs.LineComplete.{cert_run}
 use Rattle.wh_cert.proofs.LineEnds.{line_place_ends}
 
 -- no further byte leads to a certificate
 abbrev pub Stops : Standing → Type 0
-Stops later = Unit {0}
 Stops wrong = Unit {0}
 Stops _ = ⊥
 
@@ -27,12 +26,9 @@ run_stops : (s : Standing) (p : List ℕ) → Stops s → run s p ≡ s
 run_stops unread p h = absurd h
 run_stops (stands k q) p h = absurd h
 run_stops (stands_yes k q) p h = absurd h
-run_stops later p h = run_later p
 run_stops wrong p h = run_wrong p
 
 no_end : (s : Standing) (c : Cert) → Stops s → IsEnd s c → ⊥
-no_end later (no t steps at puts) h e = absurd cc
-no_end later (yes version ranks pairs nodes) h (one, e) = absurd cc
 no_end wrong (no t steps at puts) h e = absurd cc
 no_end wrong (yes version ranks pairs nodes) h (one, e) = absurd cc
 no_end unread c h e = h
@@ -79,7 +75,6 @@ place_ends p (stands k q) short e h =
     let w = line_place_ends (length p) k q g.place g.staged g.within in
     record { tail = w.tail; c = w.c; ends = w.ends; within = counts_wider (suc (length p)) (2 ^ 32) w.c (omega arith) w.within }
 place_ends p (stands_yes k q) short e h = yes_ends (length p) k q (λ r. p ++ r) short (reached_yes p k q e)
-place_ends p later short e h = absurd (h tt)
 place_ends p wrong short e h = absurd (h tt)
 
 -- the bytes along which it goes begin a text

@@ -2,7 +2,13 @@
 use Rattle.std.proofs.Common.{◌≡◌, ℕ, zero, suc, List, [], ◌∷◌, ◌++◌, map, refl, ap, ◌∙◌}
 use Rattle.wh_cert.specs.Said.{said_arg, said_node}
 use Rattle.wh_cert.specs.YesMachine.{of_block, list_ended}
-use Rattle.wh_cert.specs.YesViews.{next_block}
+use Rattle.wh_cert.specs.YesViews.{behind_of, next_block}
+use Rattle.wh_cert.specs.declared.yes_line.Listed.TheVariants as listed
+use Rattle.wh_cert.specs.declared.yes_line.YesBehind.{YesBehind}
+use Rattle.wh_cert.specs.declared.yes_line.YesBehind.TheVariants as behind
+use Rattle.wh_cert.specs.declared.poly_lines.Section.TheVariants as section
+use Rattle.wh_cert.specs.declared.yes_line.YesPlace.{YesPlace}
+use Rattle.wh_cert.specs.declared.yes_line.YesLine.{YesLine}
 use Rattle.wh_cert.specs.declared.certificate.Arg.{Arg}
 use Rattle.wh_cert.specs.declared.certificate.Node.{Node}
 
@@ -20,3 +26,22 @@ nodes_grow new old x e = ap (map said_node) e ∙ map_add said_node old x
 pub block_ended : (left : ℕ) (parts : List (List ℕ)) (xs : List ℕ) → next_block left (parts ++ xs ∷ []) ≡ list_ended (of_block left parts) xs
 block_ended zero parts xs = refl
 block_ended (suc left) parts xs = refl
+
+-- what stands behind a word does not depend on the place
+pub behind_same : (o : YesBehind) (l : YesLine) (p : YesPlace) → behind_of o (record { place = p; numbers = l.numbers; parts = l.parts; args = l.args; name = l.name; lines = l.lines }) ≡ behind_of o l
+behind_same (behind.List listed.Ranks) l p = refl
+behind_same (behind.List (listed.Block left)) l p = refl
+behind_same (behind.List listed.Drop) l p = refl
+behind_same (behind.List listed.Poly) l p = refl
+behind_same behind.Pairs l p = refl
+behind_same behind.Done l p = refl
+behind_same behind.Alone l p = refl
+behind_same behind.Blocks l p = refl
+behind_same behind.Subterm l p = refl
+behind_same behind.Name l p = refl
+behind_same behind.Poly l p = refl
+behind_same (behind.Line section.Funs) l p = refl
+behind_same (behind.Line section.Marks) l p = refl
+behind_same (behind.Line section.Rules) l p = refl
+behind_same (behind.Line section.Pairs) l p = refl
+behind_same behind.Finish l p = refl

@@ -5,12 +5,14 @@ use Rattle.std.proofs.lemmas.Bool.{cond-true, lt-ltb, and_from}
 use Rattle.std.proofs.lemmas.List.Elements.{All-head, All-tail}
 use Rattle.std.specs.Fmt.{decimal}
 use Rattle.wh_text.specs.Chars.{is_digit, is_start, is_part}
-use Rattle.wh_cert.specs.Written.{Arg, Node, done, alone, blocks, subterm, children, Preorder}
+use Rattle.wh_cert.specs.Written.{Arg, Node, done, alone, blocks, subterm, interpretations, children, Preorder}
 use Rattle.wh_cert.specs.Text.{put_numbers, put_blocks, put_arg, put_args, put_node, put_nodes}
 use Rattle.wh_cert.specs.Limits.{IsSmall, ArgFits, NodeFits}
 use Rattle.wh_cert.specs.TermMachine.{goes_on}
-use Rattle.wh_cert.specs.YesMachine.{Listed, of_ranks, of_block, of_drop, Counted, of_pairs, of_blocks, of_place, of_list, to_list, node_item, word, listed, number_wanted, number, front, arg_front, name_wanted, letters, LineStep, on, refused, list_ended, number_ended, front_step, Past, so_far, nothing, gather, wants}
+use Rattle.wh_cert.specs.YesMachine.{Listed, of_ranks, of_block, of_drop, of_poly, Counted, of_pairs, of_blocks, of_place, of_list, to_list, node_item, word, listed, number_wanted, number, front, arg_front, name_wanted, letters, LineStep, on, refused, list_ended, number_ended, front_step, Past, so_far, nothing, gather, wants}
 use Rattle.wh_cert.specs.LineMachine.{stands_yes, moved_yes, run, start}
+use Rattle.wh_cert.specs.PolyText.{put_interps, put_covers}
+use Rattle.wh_cert.proofs.LinesComplete.{lines_run}
 use Rattle.wh_cert.proofs.NamesAndNumbers.{ReadsNames, name_run, ReadsNumbers, number_run, is_digit_48, goes_on_48}
 
 -- names and numbers
@@ -82,6 +84,10 @@ node_run h (subterm args drop) r fits e =
     front_run h 115 (codes "ubterm" ++ (10 ∷ put_args args (codes "drop" ++ put_numbers drop (10 ∷ r)))) e
     ∙ args_run h [] args (codes "drop" ++ put_numbers drop (10 ∷ r)) fits.0
     ∙ numbers_run h (of_drop args) [] drop r fits.1
+node_run h (interpretations funs marks rules pairs drop) r fits e =
+    front_run h 112 (codes "oly" ++ (10 ∷ put_interps (codes "fun ") funs (put_interps (codes "mark ") marks (put_covers (codes "rule") rules (put_covers (codes "pair") pairs (codes "drop" ++ put_numbers drop (10 ∷ r))))))) e
+    ∙ lines_run h funs marks rules pairs (put_numbers drop (10 ∷ r)) fits.0 fits.1 fits.2 fits.3
+    ∙ numbers_run h (of_poly funs marks rules pairs) [] drop r fits.4
 
 pub wants_some : (k : ℕ) → 0 < k → nat_lt 0 k ≡ true
 wants_some k some = lt-ltb 0 k some

@@ -5,10 +5,11 @@ use Rattle.std.proofs.lemmas.Bool.{ltb-true, lt-ltb}
 use Rattle.std.proofs.lemmas.List.Elements.{All-nil, All-push, All-weaker}
 use Rattle.std.specs.Fmt.{decimal}
 use Rattle.std.proofs.lemmas.Fmt.{decimal_digit}
-use Rattle.wh_cert.specs.Written.{Node, done, alone, blocks, subterm, children, Preorder, yes}
+use Rattle.wh_hopoly.specs.declared.expression.Move as moved
+use Rattle.wh_cert.specs.Written.{Node, done, alone, blocks, subterm, interpretations, children, Preorder, yes}
 use Rattle.wh_cert.specs.Text.{put_numbers, put_nodes, text}
 use Rattle.wh_cert.specs.Limits.{IsSmall, NodeFits, NodeWithin, PartsFit}
-use Rattle.wh_cert.specs.YesMachine.{Item, ranks_item, pairs_item, node_item, end_item, to_list, of_ranks, Place, word, finished, LineStep, on, gives, later, refused, step, Past, so_far, nothing, gather, wants}
+use Rattle.wh_cert.specs.YesMachine.{Item, ranks_item, pairs_item, node_item, end_item, to_list, of_ranks, Place, word, finished, LineStep, on, gives, refused, step, Past, so_far, nothing, gather, wants}
 use Rattle.wh_cert.proofs.YesSound.{put_nodes_add, Stage, first, second, third, stage, item_from, item_to, PlaceReads, item_text, GoodNumbers, GoodPlace, PlaceFor, ItemGood, PlaceAfter, LineNext, lead_kept}
 
 -- the nodes so far, with so many trees behind them, are one tree
@@ -39,12 +40,18 @@ gather_text n (so_far ranks pairs nodes wanted) (node_item x) r g =
     ap (λ (s : List ℕ). past_text third (so_far ranks pairs [] wanted) s) (put_nodes_add nodes x r)
 gather_text n (so_far ranks pairs nodes wanted) end_item r g = refl
 
+moves_wider : (n m : ℕ) (lines : List (List moved.Move)) → n ≤ m → All (λ (ms : List moved.Move). length ms ≤ n) lines → All (λ (ms : List moved.Move). length ms ≤ m) lines
+moves_wider n m lines le h =
+    All-weaker (λ (ms : List moved.Move). length ms ≤ n) (λ (ms : List moved.Move). length ms ≤ m) (λ ms p. omega arith) lines h
+
 node_wider : (n m : ℕ) (x : Node) → n ≤ m → NodeWithin n x → NodeWithin m x
 node_wider n m done le h = tt
 node_wider n m alone le h = tt
 node_wider n m (blocks parts) le h =
     All-weaker (λ (block : List ℕ). length block ≤ n) (λ (block : List ℕ). length block ≤ m) (λ block p. omega arith) parts h
 node_wider n m (subterm args drop) le h = (omega (arith, h.0), omega (arith, h.1))
+node_wider n m (interpretations funs marks rules pairs drop) le h =
+    (omega (arith, h.0), omega (arith, h.1), moves_wider n m rules le h.2, omega (arith, h.3), moves_wider n m pairs le h.4, omega (arith, h.5), omega (arith, h.6))
 
 pub nodes_wider : (n m : ℕ) (nodes : List Node) → n ≤ m → All (NodeWithin n) nodes → All (NodeWithin m) nodes
 nodes_wider n m nodes le h = All-weaker (NodeWithin n) (NodeWithin m) (λ x p. node_wider n m x le p) nodes h
@@ -90,7 +97,6 @@ pub record Good (n : ℕ) (h : Past) (p : Place) (f : List ℕ → List ℕ) : T
 abbrev pub StepGood : ℕ → Past → LineStep → (List ℕ → List ℕ) → Type 0
 StepGood n h (on q) f = Good n h q f
 StepGood n h (gives i q) f = Good n (gather h i) q f
-StepGood n h later f = Unit {0}
 StepGood n h refused f = Unit {0}
 
 -- behind an item of any kind the place is right
@@ -125,7 +131,6 @@ moved_good n h p (gives i q) b f g next =
       reads = next.5.1;
       spelled = λ r. ap (λ (s : Stage). past_text s (gather h i) (next.5.0 r)) next.1 ∙ gather_text g.before h i (next.5.0 r) past ∙ ap (past_text (item_from i) h) (next.5.2 r) ∙ ap (λ (s : Stage). past_text s h (g.line (b ∷ r))) next.0 ∙ g.spelled (b ∷ r);
     }
-moved_good n h p later b f g next = tt
 moved_good n h p refused b f g next = tt
 
 pub byte_good : (n : ℕ) (h : Past) (p : Place) (b : ℕ) (f : List ℕ → List ℕ) → Good n h p f → StepGood (suc n) h (step (wants h) p b) (λ r. f (b ∷ r))

@@ -11,7 +11,10 @@ use Rattle.wh_cert.specs.Written.{Arg, Node, blocks, children}
 use Rattle.wh_cert.specs.Text.{put_numbers, put_block, put_blocks, put_arg, put_args, put_node, put_nodes}
 use Rattle.wh_cert.specs.Limits.{IsSmall, ArgFits, NodeFits, NodeWithin}
 use Rattle.wh_cert.specs.TermMachine.{goes_on}
-use Rattle.wh_cert.specs.YesMachine.{Item, ranks_item, pairs_item, node_item, end_item, Listed, of_ranks, of_block, of_drop, Counted, of_pairs, of_blocks, of_place, of_list, Behind, to_list, to_pairs, to_done, to_alone, to_blocks, to_subterm, to_name, to_finish, Place, word, listed, number_wanted, number, front, arg_front, name_wanted, letters, finished, LineStep, on, gives, later, refused, spelling, behind, word_on, list_ended, count_ended, list_step, number_ended, front_step, step}
+use Rattle.wh_cert.specs.YesMachine.{Item, ranks_item, pairs_item, node_item, end_item, Listed, of_ranks, of_block, of_drop, of_poly, Counted, of_pairs, of_blocks, of_place, of_list, Behind, to_list, to_pairs, to_done, to_alone, to_blocks, to_subterm, to_name, to_poly, to_line, to_finish, Place, word, listed, number_wanted, number, front, arg_front, name_wanted, letters, poly_lines, finished, LineStep, on, gives, refused, spelling, behind, word_on, list_ended, count_ended, list_step, number_ended, front_step, lines_led, step}
+use Rattle.wh_cert.specs.PolyLines as l
+use Rattle.wh_cert.specs.PolyLines.{Lines, in_funs, in_marks, in_rules, in_pairs, lines_front, LinesStep, begins, drops, line_first, line_begun, lines_step}
+use Rattle.wh_cert.proofs.PolyLinesSound.{put_lines, lines_seen, GoodLines, GoodLinesPlace, LinesNext, no_interps, no_covers, lines_wider, begun_good, begun_text, lines_kept}
 use Rattle.wh_cert.proofs.NamesAndNumbers.{first_letter, next_letter, first_digit_spelled, first_digit_small, goes_on_true, next_digit_spelled}
 
 -- one more at the end of a list
@@ -73,10 +76,12 @@ abbrev pub before_list : Listed → List ℕ → List ℕ
 before_list of_ranks r = r
 before_list (of_block left parts) r = codes "blocks " ++ (decimal (length parts + suc left) ++ (10 ∷ put_blocks parts r))
 before_list (of_drop args) r = codes "subterm" ++ (10 ∷ put_args args r)
+before_list (of_poly funs marks rules pairs) r = codes "poly" ++ (10 ∷ put_lines (in_pairs funs marks rules pairs) r)
 
 abbrev pub before_word : Behind → List ℕ → List ℕ
 before_word (to_list of) r = before_list of r
 before_word (to_name args) r = codes "subterm" ++ (10 ∷ put_args args r)
+before_word (to_line x) r = codes "poly" ++ (10 ∷ put_lines x r)
 before_word to_done r = 100 ∷ r
 before_word _ r = r
 
@@ -96,6 +101,7 @@ lead (number of n) r = counted_lead of (decimal n ++ r)
 lead (arg_front args) r = codes "subterm" ++ (10 ∷ put_args args r)
 lead (name_wanted args) r = codes "subterm" ++ (10 ∷ put_args args (codes "arg " ++ r))
 lead (letters args xs) r = codes "subterm" ++ (10 ∷ put_args args (codes "arg " ++ (xs ++ r)))
+lead (poly_lines x k) r = codes "poly" ++ (10 ∷ lines_seen x k r)
 lead finished r = codes "end" ++ (10 ∷ r)
 lead _ r = r
 
@@ -118,6 +124,7 @@ GoodListed d n of_ranks = Unit {0}
 GoodListed d n (of_block left parts) =
     IsSmall (length parts + suc left) × All (All IsSmall) parts × All (λ block. length block ≤ n) parts × (2 * length parts + d ≤ n)
 GoodListed d n (of_drop args) = All ArgFits args × (length args ≤ n) × (1 + d ≤ n)
+GoodListed d n (of_poly funs marks rules pairs) = GoodLines n (in_pairs funs marks rules pairs) × (1 + d ≤ n)
 
 abbrev pub GoodArgs : ℕ → List Arg → Type 0
 GoodArgs n args = All ArgFits args × (length args ≤ n)
@@ -133,6 +140,7 @@ GoodCounted n _ = Unit {0}
 abbrev pub GoodBehind : ℕ → Behind → Type 0
 GoodBehind n (to_list of) = GoodListed 0 n of
 GoodBehind n (to_name args) = GoodArgs n args
+GoodBehind n (to_line x) = GoodLines n x
 GoodBehind n _ = Unit {0}
 
 abbrev pub GoodPlace : ℕ → Place → Type 0
@@ -144,6 +152,7 @@ GoodPlace n (number of k) = IsSmall k × GoodCounted n of
 GoodPlace n (arg_front args) = GoodArgs n args
 GoodPlace n (name_wanted args) = GoodArgs n args
 GoodPlace n (letters args xs) = GoodArgs n args × IsWord xs
+GoodPlace n (poly_lines x k) = GoodLines n x × GoodLinesPlace n x k
 GoodPlace n _ = Unit {0}
 
 -- the place is right where a node is wanted, or where none is
@@ -188,7 +197,6 @@ PlaceAfter wants i p = (any : Bool) → PlaceFor any p
 abbrev pub LineNext : Bool → ℕ → LineStep → Stage → (List ℕ → List ℕ) → Type 0
 LineNext wants n (on p) s f = (stage p ≡ s) × GoodPlace n p × PlaceFor wants p × PlaceReads p f
 LineNext wants n (gives i p) s f = (item_from i ≡ s) × (stage p ≡ item_to i) × ItemGood wants n i × GoodPlace 0 p × PlaceAfter wants i p × ((g : List ℕ → List ℕ) × PlaceReads p g × ((r : List ℕ) → item_text i (g r) ≡ f r))
-LineNext wants n later s f = Unit {0}
 LineNext wants n refused s f = Unit {0}
 
 if_byte : (wants : Bool) (n b c : ℕ) (s o : LineStep) (st : Stage) (f : List ℕ → List ℕ) → LineNext wants n s st (λ r. f (c ∷ r)) → LineNext wants n o st (λ r. f (b ∷ r)) → LineNext wants n (cond (b == c) s o) st (λ r. f (b ∷ r))
@@ -208,7 +216,6 @@ next_same : (wants : Bool) (n : ℕ) (s : LineStep) (st : Stage) (f g : List ℕ
 next_same wants n (on p) st f g same h = (h.0, h.1, h.2, reads_same p f g same h.3)
 next_same wants n (gives i p) st f g same h =
     (h.0, h.1, h.2, h.3, h.4, (h.5.0, h.5.1, λ r. h.5.2 r ∙ same r))
-next_same wants n later st f g same h = tt
 next_same wants n refused st f g same h = tt
 
 -- one more byte leaves the limits good
@@ -221,12 +228,16 @@ listed_wider : (d n : ℕ) (of : Listed) → GoodListed d n of → GoodListed d 
 listed_wider d n of_ranks g = tt
 listed_wider d n (of_block left parts) g = (g.0, g.1, within_wider n (suc n) parts (omega arith) g.2, omega (arith, g.3))
 listed_wider d n (of_drop args) g = (g.0, omega (arith, g.1), omega (arith, g.2))
+listed_wider d n (of_poly funs marks rules pairs) g =
+    (lines_wider n (suc n) (in_pairs funs marks rules pairs) (omega arith) g.0, omega (arith, g.1))
 
 -- the word of the list's line ends
 listed_begun : (n : ℕ) (of : Listed) → GoodListed 0 n of → GoodListed 1 (suc n) of
 listed_begun n of_ranks g = tt
 listed_begun n (of_block left parts) g = (g.0, g.1, within_wider n (suc n) parts (omega arith) g.2, omega (arith, g.3))
 listed_begun n (of_drop args) g = (g.0, omega (arith, g.1), omega (arith, g.2))
+listed_begun n (of_poly funs marks rules pairs) g =
+    (lines_wider n (suc n) (in_pairs funs marks rules pairs) (omega arith) g.0, omega (arith, g.1))
 
 args_wider : (n : ℕ) (args : List Arg) → GoodArgs n args → GoodArgs (suc n) args
 args_wider n args g = (g.0, omega (arith, g.1))
@@ -243,6 +254,8 @@ counted_wider n (of_list of xs) g = (listed_wider 1 n of g.0, g.1, omega (arith,
 behind_wider : (n : ℕ) (o : Behind) → GoodBehind n o → GoodBehind (suc n) o
 behind_wider n (to_list of) g = listed_wider 0 n of g
 behind_wider n (to_name args) g = args_wider n args g
+behind_wider n to_poly g = tt
+behind_wider n (to_line x) g = lines_wider n (suc n) x (omega arith) g
 behind_wider n to_pairs g = tt
 behind_wider n to_done g = tt
 behind_wider n to_alone g = tt
@@ -266,6 +279,9 @@ behind_kept wants n to_alone g a = (refl, refl, (a, tt, tt, omega arith), tt, (�
 behind_kept wants n to_blocks g a = (refl, tt, a, λ r. refl)
 behind_kept wants n to_subterm g a = (refl, (no_args, omega arith), a, λ r. refl)
 behind_kept wants n (to_name args) g a = (refl, args_wider n args g, a, λ r. refl)
+behind_kept wants n to_poly g a = (refl, (no_interps (suc n), tt), a, λ r. refl)
+behind_kept wants n (to_line x) g a =
+    (refl, (lines_wider n (suc n) x (omega arith) g, begun_good (suc n) x), a, λ r. ap (λ (s : List ℕ). codes "poly" ++ (10 ∷ s)) (begun_text x r))
 behind_kept wants n to_finish g a = (refl, refl, a, tt, a, ((λ (r : List ℕ). codes "end" ++ (10 ∷ r)), (λ r. refl), (λ r. refl)))
 
 word_kept : (wants : Bool) (n x : ℕ) (w : List ℕ) (o : Behind) (v : List ℕ) (f : List ℕ → List ℕ) → GoodBehind n o → BehindFor wants o → v ++ x ∷ w ≡ spelling o → ((r : List ℕ) → before_word o (v ++ r) ≡ f r) → LineNext wants (suc n) (word_on w o) (word_stage o) (λ r. f (x ∷ r))
@@ -300,6 +316,9 @@ list_ended_kept wants n (of_block (suc left) parts) xs g few a =
     )
 list_ended_kept wants n (of_drop args) xs g few a =
     (refl, refl, (a, (g.0, few.0), (omega (arith, g.1), omega (arith, few.1)), omega (arith, g.2)), tt, (λ any. tt), ((λ (r : List ℕ). r), (λ r. refl), (λ r. refl)))
+list_ended_kept wants n (of_poly funs marks rules pairs) xs g few a =
+    let wide = lines_wider n (suc n) (in_pairs funs marks rules pairs) (omega arith) g.0 in
+    (refl, refl, (a, (wide.0.0, wide.1.0, wide.2.0, wide.3.0, few.0), (wide.0.1, wide.1.1, wide.2.1, wide.2.2, wide.3.1, wide.3.2, omega (arith, few.1)), omega (arith, g.1)), tt, (λ any. tt), ((λ (r : List ℕ). r), (λ r. refl), (λ r. refl)))
 
 list_kept : (wants : Bool) (n : ℕ) (of : Listed) (xs : List ℕ) (b : ℕ) → GoodListed 1 n of → GoodNumbers n xs → ListedFor wants of → LineNext wants (suc n) (list_step of xs b) (listed_stage of) (λ r. list_lead of xs (b ∷ r))
 list_kept wants n of xs b g few a =
@@ -363,7 +382,7 @@ node_kept wants n b a =
     (if_byte wants (suc n) b 97 (on (word (codes "lone" ++ (10 ∷ [])) to_alone)) _ third (λ r. r) (refl, tt, a, (97 ∷ [], refl, λ r. refl))
     (if_byte wants (suc n) b 98 (on (word (codes "locks ") to_blocks)) _ third (λ r. r) (refl, tt, a, (98 ∷ [], refl, λ r. refl))
     (if_byte wants (suc n) b 115 (on (word (codes "ubterm" ++ (10 ∷ [])) to_subterm)) _ third (λ r. r) (refl, tt, a, (115 ∷ [], refl, λ r. refl))
-    (if_byte wants (suc n) b 112 later refused third (λ r. r) tt tt))))
+    (if_byte wants (suc n) b 112 (on (word (codes "oly" ++ (10 ∷ [])) to_poly)) refused third (λ r. r) (refl, tt, a, (112 ∷ [], refl, λ r. refl)) tt))))
 
 end_kept : (wants : Bool) (n b : ℕ) → wants ≡ false → LineNext wants (suc n) (front_step false b) third (λ r. b ∷ r)
 end_kept wants n b a =
@@ -372,6 +391,38 @@ end_kept wants n b a =
 front_kept : (wants : Bool) (n b : ℕ) → LineNext wants (suc n) (front_step wants b) third (λ r. b ∷ r)
 front_kept true n b = node_kept true n b refl
 front_kept false n b = end_kept false n b refl
+
+-- lines of interpretations
+
+in_node : (f g : List ℕ → List ℕ) → ((r : List ℕ) → f r ≡ g r) → (r : List ℕ) → codes "poly" ++ (10 ∷ f r) ≡ codes "poly" ++ (10 ∷ g r)
+in_node f g same r = ap (λ (s : List ℕ). codes "poly" ++ (10 ∷ s)) (same r)
+
+-- a line whose first byte was read
+line_kept : (wants : Bool) (n : ℕ) (x : Lines) (f : List ℕ → List ℕ) → wants ≡ true → GoodLines (suc n) x → ((r : List ℕ) → put_lines x (line_first x ∷ r) ≡ f r) → LineNext wants (suc n) (lines_led (begins x)) third (λ r. codes "poly" ++ (10 ∷ f r))
+line_kept wants n (in_funs funs) f a g same = (refl, g, a, (102 ∷ [], refl, in_node (λ r. put_lines (in_funs funs) (102 ∷ r)) f same))
+line_kept wants n (in_marks funs marks) f a g same =
+    (refl, g, a, (109 ∷ [], refl, in_node (λ r. put_lines (in_marks funs marks) (109 ∷ r)) f same))
+line_kept wants n (in_rules funs marks rules) f a g same =
+    (refl, g, a, (114 ∷ [], refl, in_node (λ r. put_lines (in_rules funs marks rules) (114 ∷ r)) f same))
+line_kept wants n (in_pairs funs marks rules pairs) f a g same =
+    (refl, g, a, (112 ∷ [], refl, in_node (λ r. put_lines (in_pairs funs marks rules pairs) (112 ∷ r)) f same))
+
+-- the line of `drop`
+drop_kept : (wants : Bool) (n : ℕ) (x : Lines) (f : List ℕ → List ℕ) → wants ≡ true → GoodLines (suc n) x → ((r : List ℕ) → put_lines x (100 ∷ r) ≡ f r) → LineNext wants (suc n) (lines_led (drops x)) third (λ r. codes "poly" ++ (10 ∷ f r))
+drop_kept wants n (in_funs funs) f a g same =
+    (refl, ((g, no_interps (suc n), no_covers (suc n), no_covers (suc n)), omega arith), a, (100 ∷ [], refl, in_node (λ r. put_lines (in_funs funs) (100 ∷ r)) f same))
+drop_kept wants n (in_marks funs marks) f a g same =
+    (refl, ((g.0, g.1, no_covers (suc n), no_covers (suc n)), omega arith), a, (100 ∷ [], refl, in_node (λ r. put_lines (in_marks funs marks) (100 ∷ r)) f same))
+drop_kept wants n (in_rules funs marks rules) f a g same =
+    (refl, ((g.0, g.1, g.2, no_covers (suc n)), omega arith), a, (100 ∷ [], refl, in_node (λ r. put_lines (in_rules funs marks rules) (100 ∷ r)) f same))
+drop_kept wants n (in_pairs funs marks rules pairs) f a g same =
+    (refl, (g, omega arith), a, (100 ∷ [], refl, in_node (λ r. put_lines (in_pairs funs marks rules pairs) (100 ∷ r)) f same))
+
+led_kept : (wants : Bool) (n : ℕ) (s : LinesStep) (f : List ℕ → List ℕ) → wants ≡ true → LinesNext (suc n) s f → LineNext wants (suc n) (lines_led s) third (λ r. codes "poly" ++ (10 ∷ f r))
+led_kept wants n (l.on x k) f a h = (refl, (h.0, h.1), a, in_node (lines_seen x k) f h.2)
+led_kept wants n (begins x) f a h = line_kept wants n x f a h.0 h.1
+led_kept wants n (drops x) f a h = drop_kept wants n x f a h.0 h.1
+led_kept wants n l.refused f a h = tt
 
 -- each step
 
@@ -396,4 +447,6 @@ lead_kept wants n (name_wanted args) b g a f reads =
     (if_so wants (suc n) (is_start b) (on (letters args (b ∷ []))) refused third (λ r. lead (name_wanted args) (b ∷ r)) (λ e. (refl, (args_wider n args g, first_letter b e), a, λ r. refl)) (λ e. tt))
 lead_kept wants n (letters args xs) b g a f reads =
     next_same wants (suc n) (step wants (letters args xs) b) third (λ r. lead (letters args xs) (b ∷ r)) (λ r. f (b ∷ r)) (λ r. reads (b ∷ r)) (letters_kept wants n args xs b g.0 g.1 a)
+lead_kept wants n (poly_lines x k) b g a f reads =
+    next_same wants (suc n) (lines_led (lines_step x k b)) third (λ r. lead (poly_lines x k) (b ∷ r)) (λ r. f (b ∷ r)) (λ r. reads (b ∷ r)) (led_kept wants n (lines_step x k b) (λ r. lines_seen x k (b ∷ r)) a (lines_kept n x k b g.0 g.1))
 lead_kept wants n finished b g a f reads = tt

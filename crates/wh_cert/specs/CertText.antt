@@ -1,5 +1,5 @@
 -- Which bytes are the text of which certificate, and where other bytes stop being the beginning of one (ours).
-use Rattle.std.specs.Prelude.{ℕ, ◌≡◌, ◌≤◌, List, ◌++◌, length, take, slice_get, Some, codes}
+use Rattle.std.specs.Prelude.{ℕ, ◌≡◌, ◌≤◌, List, ◌++◌, length, take}
 use Rattle.wh_cert.specs.Written.{Cert}
 use Rattle.wh_cert.specs.Text.{text}
 use Rattle.wh_cert.specs.Limits.{IsCert}
@@ -23,7 +23,3 @@ pub record SyntaxAt (bytes : List ℕ) (n : ℕ) : Type 0 where
 pub record FaultAt (bytes : List ℕ) (n : ℕ) : Type 0 where
   pub no_text : (c : Cert) → CertText bytes c → ⊥
   pub place : SyntaxAt bytes n
-
--- the bytes stop where a node could begin, and the byte there is `p`: a node that is not read yet may follow
-abbrev pub IsLater : List ℕ → Type 0
-IsLater bytes = (n : ℕ) × FaultAt bytes n × (slice_get bytes n ≡ Some 112) × Begins (take n bytes ++ codes "done")

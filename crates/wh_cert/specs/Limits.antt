@@ -4,7 +4,8 @@ use Rattle.wh_terms.specs.Places.{IsPath}
 use Rattle.wh_terms.specs.declared.path.Step as taken
 use Rattle.wh_text.specs.RawTree.{RTy, raw_type, RTys, no_types, more_types, named_binder, numbered_binder, RTm, named, numbered, free_variable, meta, lam, spine, RTms, none, more}
 use Rattle.wh_text.specs.Words.{IsWord}
-use Rattle.wh_cert.specs.Written.{Put, Arg, Node, blocks, subterm, Preorder, Cert, yes, no}
+use Rattle.wh_cert.specs.Written.{Put, Arg, Node, blocks, subterm, interpretations, Preorder, Cert, yes, no}
+use Rattle.wh_cert.specs.PolyLimits.{InterpFits, MoveFits}
 
 -- how many types, and how many terms
 abbrev pub type_count : RTys → ℕ
@@ -70,6 +71,8 @@ pub record ArgFits (a : Arg) : Type 0 where
 abbrev pub NodeFits : Node → Type 0
 NodeFits (blocks parts) = IsSmall (length parts) × All (All IsSmall) parts
 NodeFits (subterm args drop) = All ArgFits args × All IsSmall drop
+NodeFits (interpretations funs marks rules pairs drop) =
+    All InterpFits funs × All InterpFits marks × All (All MoveFits) rules × All (All MoveFits) pairs × All IsSmall drop
 NodeFits _ = Unit {0}
 
 -- the parts are within their limits, and the nodes are one tree
@@ -85,6 +88,8 @@ PathsWithin n steps = All (λ s. length s.path ≤ n) steps
 abbrev pub NodeWithin : ℕ → Node → Type 0
 NodeWithin n (blocks parts) = All (λ block. length block ≤ n) parts
 NodeWithin n (subterm args drop) = (length args ≤ n) × (length drop ≤ n)
+NodeWithin n (interpretations funs marks rules pairs drop) =
+    (length funs ≤ n) × (length marks ≤ n) × All (λ moves. length moves ≤ n) rules × (length rules ≤ n) × All (λ moves. length moves ≤ n) pairs × (length pairs ≤ n) × (length drop ≤ n)
 NodeWithin n _ = Unit {0}
 
 -- there are fewer than n nodes, fewer than n steps, and at most n entries in each other list

@@ -131,13 +131,12 @@ gather (begun t steps) (at_item at) = placed t steps at []
 gather (placed t steps at puts) (put_item p) = placed t steps at (puts ++ p ∷ [])
 gather h i = h
 
--- before all bytes; before a byte of a NO certificate, of a YES certificate; before a node that is not read yet; past all
--- hope of a certificate
+-- before all bytes; before a byte of a NO certificate, of a YES certificate; past all hope of a certificate
 pub data Standing : Type 0 where
   unread : Standing
   stands : (h : Past) (p : LinePlace) → Standing
   stands_yes : (h : y.Past) (p : y.Place) → Standing
-  later wrong : Standing
+  wrong : Standing
 
 abbrev pub moved : Past → LineStep → Standing
 moved h (on p) = stands h p
@@ -147,7 +146,6 @@ moved h refused = wrong
 abbrev pub moved_yes : y.Past → y.LineStep → Standing
 moved_yes h (y.on p) = stands_yes h p
 moved_yes h (y.gives i p) = stands_yes (y.gather h i) p
-moved_yes h y.later = later
 moved_yes h y.refused = wrong
 
 -- the first byte tells YES from NO
@@ -160,7 +158,6 @@ abbrev pub take_byte : Standing → ℕ → Standing
 take_byte unread b = first_byte b
 take_byte (stands h p) b = moved h (line_step p b)
 take_byte (stands_yes h p) b = moved_yes h (y.step (y.wants h) p b)
-take_byte later b = later
 take_byte wrong b = wrong
 
 -- where the bytes lead

@@ -42,7 +42,6 @@ standing (No r) = no_standing r.value
 -- after a byte that may lead nowhere
 abbrev pub after : Fed → m.Standing → m.Standing
 after fed.On s = s
-after fed.Later s = m.later
 after fed.Wrong s = m.wrong
 
 -- how many nodes are wanted

@@ -1,15 +1,19 @@
 -- What a value of the program stands for: the certificate without pointers.
 use Rattle.std.specs.Prelude.{map}
 use Rattle.wh_text.specs.Erase.{rty, rtm}
+use Rattle.wh_hopoly.specs.Erase.{poly}
+use Rattle.wh_cert.specs.Interps as w_interps
 use Rattle.wh_cert.specs.Written as w
 use Rattle.wh_cert.specs.declared.certificate.Certificate.{Certificate}
 use Rattle.wh_cert.specs.declared.certificate.Certificate.TheVariants.{Yes, No}
 use Rattle.wh_cert.specs.declared.certificate.YesCertificate.{YesCertificate}
 use Rattle.wh_cert.specs.declared.certificate.NoCertificate.{NoCertificate}
 use Rattle.wh_cert.specs.declared.certificate.Node.{Node}
-use Rattle.wh_cert.specs.declared.certificate.Node.TheVariants.{Done, Alone, Blocks, Subterm}
+use Rattle.wh_cert.specs.declared.certificate.Node.TheVariants.{Done, Alone, Blocks, Subterm, Poly}
 use Rattle.wh_cert.specs.declared.certificate.Arg.{Arg}
 use Rattle.wh_cert.specs.declared.certificate.Put.{Put}
+use Rattle.wh_cert.specs.declared.poly_node.Interp.{Interp}
+use Rattle.wh_cert.specs.declared.poly_node.PolyNode.{PolyNode}
 
 abbrev pub said_put : Put → w.Put
 said_put p = record { number = p.number; kind = rty p.kind; term = rtm p.term }
@@ -20,11 +24,18 @@ said_no c = w.no (rtm c.term) c.steps c.at (map said_put c.puts)
 abbrev pub said_arg : Arg → w.Arg
 said_arg a = record { name = a.name; place = a.place }
 
+abbrev pub said_interp : Interp → w_interps.Interp
+said_interp i = record { name = i.name; poly = poly i.poly }
+
+abbrev pub said_poly : PolyNode → w.Node
+said_poly x = w.interpretations (map said_interp x.funs) (map said_interp x.marks) x.rules x.pairs x.drop
+
 abbrev pub said_node : Node → w.Node
 said_node Done = w.done
 said_node Alone = w.alone
 said_node (Blocks parts) = w.blocks parts
 said_node (Subterm args drop) = w.subterm (map said_arg args) drop
+said_node (Poly x) = said_poly x.value
 
 abbrev pub said_yes : YesCertificate → w.Cert
 said_yes c = w.yes c.version c.ranks c.pairs (map said_node c.nodes)

@@ -3,7 +3,8 @@ use Rattle.std.specs.Prelude.{ℕ, ◌+◌, List, [], ◌∷◌, ◌++◌, lengt
 use Rattle.std.specs.Fmt.{decimal}
 use Rattle.wh_terms.specs.declared.path.Step as taken
 use Rattle.wh_text.specs.Spelling.{put_part, put_term}
-use Rattle.wh_cert.specs.Written.{Put, Arg, Node, done, alone, blocks, subterm, Cert, yes, no}
+use Rattle.wh_cert.specs.Written.{Put, Arg, Node, done, alone, blocks, subterm, interpretations, Cert, yes, no}
+use Rattle.wh_cert.specs.PolyText.{put_interps, put_covers}
 
 -- a path behind its `/`: a digit for each entry
 abbrev pub put_path : List ℕ → List ℕ → List ℕ
@@ -65,6 +66,8 @@ put_node done r = codes "done" ++ (10 ∷ r)
 put_node alone r = codes "alone" ++ (10 ∷ r)
 put_node (blocks parts) r = codes "blocks " ++ (decimal (length parts) ++ (10 ∷ put_blocks parts r))
 put_node (subterm args drop) r = codes "subterm" ++ (10 ∷ put_args args (codes "drop" ++ put_line drop r))
+put_node (interpretations funs marks rules pairs drop) r =
+    codes "poly" ++ (10 ∷ put_interps (codes "fun ") funs (put_interps (codes "mark ") marks (put_covers (codes "rule") rules (put_covers (codes "pair") pairs (codes "drop" ++ put_line drop r)))))
 
 abbrev pub put_nodes : List Node → List ℕ → List ℕ
 put_nodes [] r = r

@@ -2,8 +2,12 @@
 -- that the lines give. It mirrors the code; the laws in proofs/ tie it to the text.
 use Rattle.std.specs.Prelude.{ℕ, zero, suc, ◌+◌, ◌-◌, ◌*◌, ◌==◌, ◌&&◌, nat_lt, Bool, cond, List, [], ◌∷◌, ◌++◌, length, codes}
 use Rattle.wh_text.specs.Chars.{is_digit, is_start, is_part}
-use Rattle.wh_cert.specs.Written.{Arg, Node, done, alone, blocks, subterm, children}
+use Rattle.wh_hopoly.specs.declared.expression.Move as moved
+use Rattle.wh_cert.specs.Interps.{Interp}
+use Rattle.wh_cert.specs.Written.{Arg, Node, done, alone, blocks, subterm, interpretations, children}
 use Rattle.wh_cert.specs.TermMachine.{goes_on}
+use Rattle.wh_cert.specs.PolyLines as l
+use Rattle.wh_cert.specs.PolyLines.{Lines, in_funs, in_marks, in_rules, in_pairs, LinesPlace, lines_front, LinesStep, begins, drops, line_first, line_rest, line_begun, lines_step}
 
 -- what lines give: ranks, the number of pairs, a node, the end
 pub data Item : Type 0 where
@@ -13,11 +17,12 @@ pub data Item : Type 0 where
   end_item : Item
 
 -- a list of numbers: the ranks; a block, with the blocks before it and how many come behind it; the pairs that are dropped,
--- with the arguments that are looked at
+-- with the arguments that are looked at, or with interpretations and moves
 pub data Listed : Type 0 where
   of_ranks : Listed
   of_block : (left : ℕ) (parts : List (List ℕ)) → Listed
   of_drop : (args : List Arg) → Listed
+  of_poly : (funs marks : List Interp) (rules pairs : List (List moved.Move)) → Listed
 
 -- a number: of pairs; of blocks; of the argument of the symbol with this name; one more of a list
 pub data Counted : Type 0 where
@@ -30,10 +35,13 @@ pub data Behind : Type 0 where
   to_list : (of : Listed) → Behind
   to_pairs to_done to_alone to_blocks to_subterm : Behind
   to_name : (args : List Arg) → Behind
+  to_poly : Behind
+  to_line : (x : Lines) → Behind
   to_finish : Behind
 
 -- the place: what is left of a fixed word; numbers of a list, behind the last one; before a number; in a number; the front of
--- a node, or of the end; the front of a line of `arg` or `drop`; behind `arg `; a part of a name; behind all
+-- a node, or of the end; the front of a line of `arg` or `drop`; behind `arg `; a part of a name; a part of the lines of a node of
+-- interpretations; behind all
 pub data Place : Type 0 where
   word : (rest : List ℕ) (behind : Behind) → Place
   listed : (of : Listed) (xs : List ℕ) → Place
@@ -42,25 +50,29 @@ pub data Place : Type 0 where
   front : Place
   arg_front name_wanted : (args : List Arg) → Place
   letters : (args : List Arg) (xs : List ℕ) → Place
+  poly_lines : (x : Lines) (k : LinesPlace) → Place
   finished : Place
 
--- where a byte leads: on; on, with an item; to a node that is not read yet; nowhere
+-- where a byte leads: on; on, with an item; nowhere
 pub data LineStep : Type 0 where
   on : (p : Place) → LineStep
   gives : (i : Item) (p : Place) → LineStep
-  later refused : LineStep
+  refused : LineStep
 
 -- the fixed word whose end leads there; that of `done` without its first byte, behind which no other word goes on
 abbrev pub spelling : Behind → List ℕ
 spelling (to_list of_ranks) = codes "YES 1" ++ (10 ∷ codes "ranks")
 spelling (to_list (of_block left parts)) = codes "block"
 spelling (to_list (of_drop args)) = codes "drop"
+spelling (to_list (of_poly funs marks rules pairs)) = codes "drop"
 spelling to_pairs = codes "pairs "
 spelling to_done = codes "one" ++ (10 ∷ [])
 spelling to_alone = codes "alone" ++ (10 ∷ [])
 spelling to_blocks = codes "blocks "
 spelling to_subterm = codes "subterm" ++ (10 ∷ [])
 spelling (to_name args) = codes "arg "
+spelling to_poly = codes "poly" ++ (10 ∷ [])
+spelling (to_line x) = line_first x ∷ line_rest x
 spelling to_finish = codes "end" ++ (10 ∷ [])
 
 abbrev pub behind : Behind → LineStep
@@ -71,6 +83,8 @@ behind to_alone = gives (node_item alone) front
 behind to_blocks = on (number_wanted of_blocks)
 behind to_subterm = on (arg_front [])
 behind (to_name args) = on (name_wanted args)
+behind to_poly = on (poly_lines (in_funs []) lines_front)
+behind (to_line x) = on (poly_lines x (line_begun x))
 behind to_finish = gives end_item finished
 
 -- a byte of a fixed word was read, and this is left
@@ -88,6 +102,7 @@ list_ended of_ranks xs = gives (ranks_item xs) (word (codes "pairs ") to_pairs)
 list_ended (of_block zero parts) xs = gives (node_item (blocks (parts ++ xs ∷ []))) front
 list_ended (of_block (suc left) parts) xs = block_wanted left (parts ++ xs ∷ [])
 list_ended (of_drop args) xs = gives (node_item (subterm args xs)) front
+list_ended (of_poly funs marks rules pairs) xs = gives (node_item (interpretations funs marks rules pairs xs)) front
 
 -- the line of the number of blocks has ended
 abbrev pub count_ended : ℕ → LineStep
@@ -114,7 +129,7 @@ front_step wants b =
     (cond (b == 97) (on (word (codes "lone" ++ (10 ∷ [])) to_alone))
     (cond (b == 98) (on (word (codes "locks ") to_blocks))
     (cond (b == 115) (on (word (codes "ubterm" ++ (10 ∷ [])) to_subterm))
-    (cond (b == 112) later refused)))))
+    (cond (b == 112) (on (word (codes "oly" ++ (10 ∷ [])) to_poly)) refused)))))
     (cond (b == 101) (on (word (codes "nd" ++ (10 ∷ [])) to_finish)) refused)
 
 -- the next byte of a fixed word
@@ -144,6 +159,20 @@ abbrev pub letters_step : List Arg → List ℕ → ℕ → LineStep
 letters_step args xs b =
     cond (is_part b && nat_lt (length xs) 64) (on (letters args (xs ++ b ∷ []))) (cond (b == 32) (on (number_wanted (of_place args xs))) refused)
 
+-- behind all lines of a node of interpretations but that of `drop`
+abbrev pub dropped : Lines → Listed
+dropped (in_funs funs) = of_poly funs [] [] []
+dropped (in_marks funs marks) = of_poly funs marks [] []
+dropped (in_rules funs marks rules) = of_poly funs marks rules []
+dropped (in_pairs funs marks rules pairs) = of_poly funs marks rules pairs
+
+-- where a byte leads that was given to the reader of such lines
+abbrev pub lines_led : LinesStep → LineStep
+lines_led (l.on x k) = on (poly_lines x k)
+lines_led (begins x) = on (word (line_rest x) (to_line x))
+lines_led (drops x) = on (word (codes "rop") (to_list (dropped x)))
+lines_led l.refused = refused
+
 -- where a byte leads, with whether a node is wanted
 abbrev pub step : Bool → Place → ℕ → LineStep
 step wants (word w o) b = word_step w o b
@@ -154,6 +183,7 @@ step wants front b = front_step wants b
 step wants (arg_front args) b = arg_step args b
 step wants (name_wanted args) b = letter_step args b
 step wants (letters args xs) b = letters_step args xs b
+step wants (poly_lines x k) b = lines_led (lines_step x k b)
 step wants finished b = refused
 
 -- the items so far: ranks, the number of pairs, nodes; and how many nodes are still wanted

@@ -3,6 +3,7 @@ use Rattle.std.specs.Prelude.{ℕ, zero, suc, List, [], drop, map, Option, Some,
 use Rattle.wh_cert.specs.Written.{blocks}
 use Rattle.wh_cert.specs.Said.{said_arg, said_node}
 use Rattle.wh_cert.specs.YesMachine as m
+use Rattle.wh_cert.specs.PolyLinesViews.{section_of, lines_of, lines_place}
 use Rattle.wh_cert.specs.declared.letters.Letters.{Letters}
 use Rattle.wh_cert.specs.declared.yes_line.Listed.{Listed}
 use Rattle.wh_cert.specs.declared.yes_line.Listed.TheVariants as listed
@@ -16,12 +17,13 @@ use Rattle.wh_cert.specs.declared.yes_line.YesLine.{YesLine}
 use Rattle.wh_cert.specs.declared.yes_line.YesItem.{YesItem}
 use Rattle.wh_cert.specs.declared.yes_line.YesItem.TheVariants as item
 use Rattle.wh_cert.specs.declared.yes_line.YesStep.{YesStep}
-use Rattle.wh_cert.specs.declared.yes_line.YesStep.TheVariants.{On, Gives, Later, Wrong}
+use Rattle.wh_cert.specs.declared.yes_line.YesStep.TheVariants.{On, Gives, Wrong}
 
 abbrev pub listed_of : Listed → YesLine → m.Listed
 listed_of listed.Ranks l = m.of_ranks
 listed_of (listed.Block left) l = m.of_block left l.parts
 listed_of listed.Drop l = m.of_drop (map said_arg l.args)
+listed_of listed.Poly l = m.dropped (lines_of l.lines.value)
 
 abbrev pub behind_of : YesBehind → YesLine → m.Behind
 behind_of (behind.List of) l = m.to_list (listed_of of l)
@@ -31,6 +33,8 @@ behind_of behind.Alone l = m.to_alone
 behind_of behind.Blocks l = m.to_blocks
 behind_of behind.Subterm l = m.to_subterm
 behind_of behind.Name l = m.to_name (map said_arg l.args)
+behind_of behind.Poly l = m.to_poly
+behind_of (behind.Line section) l = m.to_line (section_of section l.lines.value)
 behind_of behind.Finish l = m.to_finish
 
 -- no byte is right here
@@ -59,6 +63,7 @@ place_of place.NameWanted l = m.name_wanted (map said_arg l.args)
 place_of place.Name l = naming l.name (λ name. m.letters (map said_arg l.args) name)
 place_of place.ArgPlaceWanted l = naming l.name (λ name. m.number_wanted (m.of_place (map said_arg l.args) name))
 place_of (place.ArgPlace n) l = naming l.name (λ name. m.number (m.of_place (map said_arg l.args) name) n)
+place_of place.Lines l = m.poly_lines (lines_of l.lines.value) (lines_place l.lines.value)
 place_of place.Finished l = m.finished
 
 abbrev pub yes_place : YesLine → m.Place
@@ -74,7 +79,6 @@ item_of item.End = m.end_item
 abbrev pub yes_went : YesStep → YesLine → m.LineStep
 yes_went On l = m.on (yes_place l)
 yes_went (Gives i) l = m.gives (item_of i) (yes_place l)
-yes_went Later l = m.later
 yes_went Wrong l = m.refused
 
 -- so many blocks are left, behind those that were read

@@ -5,6 +5,7 @@ ghost use Rattle.std.specs.Prelude.{◌≡◌, [], ◌∷◌, ◌++◌, IfOk, On
 use std::alloc::{AllocError, Global};
 use std::marker::Model;
 use thiserror::Error;
+use crate::poly_node::PolyNode;
 use wh_terms::{Path, Step};
 use wh_text::{Name, RawTerm, RawType};
 use wh_types::{Blocks, Numbers};
@@ -47,6 +48,8 @@ pub enum Node {
         /// The pairs in which it shrinks.
         drop: Numbers,
     },
+    /// By polynomials under which no rule and no pair grows, and some pairs shrink; a child for the others.
+    Poly(Box<PolyNode>),
 }
 
 /// A symbol, and which of its arguments is looked at, counted from 1.
@@ -272,13 +275,4 @@ impl Puts {
 pub struct CertSyntax {
     /// How many bytes from the front on can begin a certificate text.
     pub at: u64,
-}
-
-/// Why bytes are not read as a certificate.
-#[derive(Clone, Copy, Debug)]
-pub enum CertFault {
-    /// They are no certificate text.
-    Syntax(CertSyntax),
-    /// A node begins that is not read yet.
-    Later,
 }

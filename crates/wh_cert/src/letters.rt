@@ -3,6 +3,7 @@
 ghost use Rattle.std.specs.Prelude.{◌≡◌, ◌+◌, ◌-◌, ◌*◌, ◌<◌, ◌&&◌, nat_lt, [], ◌∷◌, ◌++◌, true, false, length, IfOk, OnOk, MatchOption};
 ghost use Rattle.wh_text.specs.Chars.{is_digit, is_start, is_part};
 ghost use Rattle.wh_cert.specs.TermMachine.{goes_on};
+ghost use Rattle.wh_cert.specs.PolyMachine.{begins_big, goes_on_big};
 
 use std::alloc::{AllocError, Global};
 use std::marker::Model;
@@ -104,4 +105,27 @@ pub fn next_number(number: u32, byte: u8) -> Option<u32>
         return None;
     }
     Some(next)
+}
+
+/// The number of at least 1 that the digit begins, if it is one and not 0.
+pub fn first_big(byte: u8) -> Option<u128>
+    ensures { MatchOption result (begins_big byte ≡ false) (λ n. (begins_big byte ≡ true) × (n ≡ byte - 48)) }
+{
+    if byte.is_ascii_digit() && byte > b'0' {
+        return Some(u128::from(byte - b'0'));
+    }
+    None
+}
+
+/// The number with one more digit, if the byte is one and the number stays below 2^128.
+pub fn next_big(number: u128, byte: u8) -> Option<u128>
+    ensures { MatchOption result (goes_on_big number byte ≡ false) (λ n. (goes_on_big number byte ≡ true) × (n ≡ 10 * number + (byte - 48))) }
+{
+    if !byte.is_ascii_digit() {
+        return None;
+    }
+    match number.checked_mul(10) {
+        Some(tenfold) => tenfold.checked_add(u128::from(byte - b'0')),
+        None => None,
+    }
 }

@@ -5,7 +5,11 @@ mod certificate;
 mod laws;
 mod letters;
 mod line_reader;
+mod poly_lines;
+mod poly_node;
+mod poly_reader;
 mod print;
+mod print_poly;
 mod raw;
 mod read;
 mod term_reader;
@@ -13,9 +17,10 @@ mod type_reader;
 mod yes_line;
 
 pub use certificate::{
-    Arg, Args, CertFault, CertSyntax, Certificate, NoCertificate, Node, Nodes, Put, Puts, Steps,
+    Arg, Args, CertSyntax, Certificate, NoCertificate, Node, Nodes, Put, Puts, Steps,
     YesCertificate,
 };
 pub use laws::{no_proper_prefix, one_certificate, one_place, one_text};
+pub use poly_node::{Covers, Interp, Interps, Moves, PolyNode};
 pub use print::print_certificate;
 pub use read::read_certificate;

@@ -7,9 +7,11 @@ ghost use Rattle.wh_terms.specs.Places.{IsPath};
 ghost use Rattle.wh_text.specs.Pushes.{Pushes};
 ghost use Rattle.wh_cert.specs.Written.{blocks, subterm};
 ghost use Rattle.wh_cert.specs.Text.{put_path, put_rule, put_step, put_steps, put_put, put_puts, put_entry, put_numbers, put_line, put_block, put_blocks, put_arg, put_args, put_node, put_nodes, text};
-ghost use Rattle.wh_cert.specs.Said.{said_arg, said_node, said_yes, said_put, said_no, said};
+ghost use Rattle.wh_cert.specs.Said.{said_arg, said_poly, said_node, said_yes, said_put, said_no, said};
 
 use crate::certificate::{Arg, Certificate, NoCertificate, Node, Put, YesCertificate};
+use crate::poly_node::PolyNode;
+use crate::print_poly::{print_covers, print_interps};
 use std::alloc::{AllocError, Global};
 use wh_terms::Step;
 use wh_text::{print_number, print_part, print_term};
@@ -97,7 +99,21 @@ fn print_node(out: &mut Bytes, node: &Node) -> Result<(), AllocError>
         Node::Alone => out.append(b"alone\n"),
         Node::Blocks(parts) => print_parts(out, parts.as_slice()),
         Node::Subterm { args, drop } => print_subterm(out, args.as_slice(), drop.as_slice()),
+        Node::Poly(node) => print_interpretations(out, node),
     }
+}
+
+/// Appends the lines of a node of interpretations.
+fn print_interpretations(out: &mut Bytes, node: &PolyNode) -> Result<(), AllocError>
+    ensures { OnOk result (Pushes out.old out.new (put_node (said_poly node.now))) }
+{
+    out.append(b"poly\n")?;
+    print_interps(out, b"fun ", node.funs.as_slice())?;
+    print_interps(out, b"mark ", node.marks.as_slice())?;
+    print_covers(out, b"rule", node.rules.as_slice())?;
+    print_covers(out, b"pair", node.pairs.as_slice())?;
+    out.append(b"drop")?;
+    print_line(out, node.drop.as_slice())
 }
 
 /// Appends the lines of blocks.

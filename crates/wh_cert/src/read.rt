@@ -3,8 +3,7 @@
 ghost use Rattle.std.specs.Prelude.{◌≡◌, ◌<◌, ◌^◌, IfOk, OnOk, MatchOption, length};
 ghost use Rattle.wh_types.specs.Outcome.{IfBecause};
 ghost use Rattle.wh_cert.specs.Written.{Cert, children};
-ghost use Rattle.wh_cert.specs.CertText.{CertText};
-ghost use Rattle.wh_cert.specs.Faults.{IsFault};
+ghost use Rattle.wh_cert.specs.CertText.{CertText, FaultAt};
 ghost use Rattle.wh_cert.specs.Said.{said, said_node};
 ghost use Rattle.wh_cert.specs.YesMachine.{nothing as yes_nothing, gather as yes_gather};
 ghost use Rattle.wh_cert.specs.LineMachine.{gather as no_gather, take_byte, first_byte};
@@ -14,7 +13,7 @@ ghost use Rattle.wh_cert.specs.YesViews.{item_of as yes_item};
 ghost use Rattle.wh_cert.specs.ReadViews.{no_past, no_standing, yes_past, yes_standing, standing, after, wanted, few};
 
 use crate::certificate::{
-    CertFault, CertSyntax, Certificate, NoCertificate, Node, Nodes, Puts, Steps, YesCertificate,
+    CertSyntax, Certificate, NoCertificate, Node, Nodes, Puts, Steps, YesCertificate,
 };
 use crate::line_reader::{Item, LinePlace, LineStep, NoLine};
 use crate::yes_line::{YesItem, YesLine, YesPlace, YesStep};
@@ -28,8 +27,6 @@ use wh_types::{Numbers, Or};
 pub enum Fed {
     /// On.
     On,
-    /// To a node that is not read yet.
-    Later,
     /// Nowhere.
     Wrong,
 }
@@ -205,7 +202,6 @@ impl YesReader {
                 self.gather(item)?;
                 Ok(Fed::On)
             }
-            YesStep::Later => Ok(Fed::Later),
             YesStep::Wrong => Ok(Fed::Wrong),
         }
     }
@@ -242,7 +238,7 @@ fn children(node: &Node) -> u64
     match node {
         Node::Done | Node::Alone => 0,
         Node::Blocks(parts) => parts.as_slice().len() as u64,
-        Node::Subterm { .. } => 1,
+        Node::Subterm { .. } | Node::Poly(_) => 1,
     }
 }
 
@@ -297,26 +293,25 @@ impl Reader {
 }
 
 /// The certificate of which these bytes are the text. A fault is that they are the text of none, with the number of
-/// bytes that begin the text of one, or with the word that a node begins there which is not read yet.
-pub fn read_certificate(alloc: Global, bytes: &[u8]) -> Result<Certificate, Or<CertFault>>
+/// bytes that begin the text of one.
+pub fn read_certificate(alloc: Global, bytes: &[u8]) -> Result<Certificate, Or<CertSyntax>>
     requires { length bytes.now < 2 ^ 32 }
     ensures read { IfOk result (λ certificate. CertText bytes.now (said certificate)) }
-    ensures fault { IfBecause result (λ fault. IsFault bytes.now fault) }
+    ensures fault { IfBecause result (λ fault. FaultAt bytes.now fault.at) }
 {
     let mut reader = Reader::Unread;
     for (at, byte) in bytes.iter().enumerate() {
         match reader.take(alloc, *byte)? {
             Fed::On => {}
-            Fed::Later => return Err(Or::Because(CertFault::Later)),
             Fed::Wrong => {
-                return Err(Or::Because(CertFault::Syntax(CertSyntax { at: at as u64 })));
+                return Err(Or::Because(CertSyntax { at: at as u64 }));
             }
         }
     }
     match reader.whole() {
         Some(certificate) => Ok(certificate),
-        None => Err(Or::Because(CertFault::Syntax(CertSyntax {
+        None => Err(Or::Because(CertSyntax {
             at: bytes.len() as u64,
-        }))),
+        })),
     }
 }

@@ -3,7 +3,9 @@
 
 ghost use Rattle.std.specs.Prelude.{◌≡◌, true, drop, map, IfOk};
 ghost use Rattle.wh_cert.specs.Said.{said_arg};
-ghost use Rattle.wh_cert.specs.YesMachine.{of_pairs, of_blocks, spelling, behind as stands_behind, list_ended, list_step, number_ended, front_step, word_step, digit_step, number_step, arg_step, letter_step, step as machine_step};
+ghost use Rattle.wh_cert.specs.YesMachine.{of_pairs, of_blocks, spelling, behind as stands_behind, list_ended, list_step, number_ended, front_step, word_step, digit_step, number_step, arg_step, letter_step, lines_led, step as machine_step};
+ghost use Rattle.wh_cert.specs.PolyLines.{lines_step};
+ghost use Rattle.wh_cert.specs.PolyLinesViews.{lines_of, lines_place};
 ghost use Rattle.wh_cert.specs.YesViews.{listed_of, behind_of, counted_of, yes_place, yes_went, next_block};
 ghost use Rattle.wh_cert.specs.declared.yes_line.YesLine.{YesLine};
 ghost use Rattle.wh_cert.specs.declared.yes_line.Listed.TheVariants as listed;
@@ -12,6 +14,7 @@ ghost use Rattle.wh_cert.specs.declared.yes_line.YesPlace.TheVariants as place;
 
 use crate::certificate::{Arg, Args, Node};
 use crate::letters::{Letters, begins_name, first_number, next_number};
+use crate::poly_lines::{LinesStep, PolyLines, Section};
 use std::alloc::{AllocError, Global};
 use std::mem;
 use wh_types::{Blocks, Numbers};
@@ -23,8 +26,10 @@ pub enum Listed {
     Ranks,
     /// A block, behind which so many come.
     Block(u32),
-    /// The pairs that are dropped.
+    /// The pairs that are dropped, behind lines of arguments.
     Drop,
+    /// The pairs that are dropped, behind lines of interpretations and moves.
+    Poly,
 }
 
 /// What a number is read for.
@@ -55,6 +60,10 @@ pub enum YesBehind {
     Subterm,
     /// The name of a symbol.
     Name,
+    /// Lines of a node of interpretations.
+    Poly,
+    /// What such a line of this kind has behind its word.
+    Line(Section),
     /// Nothing.
     Finish,
 }
@@ -82,6 +91,8 @@ pub enum YesPlace {
     ArgPlaceWanted,
     /// That and digits.
     ArgPlace(u32),
+    /// A part of the lines of a node of interpretations.
+    Lines,
     /// All of the certificate.
     Finished,
 }
@@ -99,6 +110,8 @@ pub struct YesLine {
     pub args: Args,
     /// The name of a symbol, once it was begun.
     pub name: Option<Letters>,
+    /// The lines of a node of interpretations.
+    pub lines: Box<PolyLines>,
 }
 
 /// What lines give.
@@ -121,8 +134,6 @@ pub enum YesStep {
     On,
     /// On, with an item whose last line is whole.
     Gives(YesItem),
-    /// To a node that is not read yet.
-    Later,
     /// Nowhere.
     Wrong,
 }
@@ -138,6 +149,7 @@ impl YesLine {
             parts: Blocks::new(alloc)?,
             args: Args::new(alloc)?,
             name: None,
+            lines: Box::new(alloc, PolyLines::new(alloc)?)?,
         })
     }
 
@@ -156,11 +168,13 @@ impl YesLine {
             YesPlace::Name => self.step_name(byte),
             YesPlace::ArgPlaceWanted => Ok(self.first_arg_digit(byte)),
             YesPlace::ArgPlace(number) => self.step_arg_place(alloc, number, byte),
+            YesPlace::Lines => self.step_lines(alloc, byte),
             YesPlace::Finished => Ok(YesStep::Wrong),
         }
     }
 
     /// The next byte of a fixed word.
+    #[tactic(auto, using(crate::proofs::YesCode::behind_same))]
     fn step_word(
         &mut self,
         alloc: Global,
@@ -209,6 +223,14 @@ impl YesLine {
                 self.place = YesPlace::ArgFront;
             }
             YesBehind::Name => self.place = YesPlace::NameWanted,
+            YesBehind::Poly => {
+                self.lines.restart(alloc)?;
+                self.place = YesPlace::Lines;
+            }
+            YesBehind::Line(section) => {
+                self.lines.begin_line(alloc, section)?;
+                self.place = YesPlace::Lines;
+            }
             YesBehind::Finish => {
                 self.place = YesPlace::Finished;
                 return Ok(YesStep::Gives(YesItem::End));
@@ -255,7 +277,29 @@ impl YesLine {
                 };
                 Ok(YesStep::Gives(YesItem::Node(node)))
             }
+            Listed::Poly => {
+                let node = Box::new(alloc, self.lines.node(alloc, numbers)?)?;
+                self.place = YesPlace::Front;
+                Ok(YesStep::Gives(YesItem::Node(Node::Poly(node))))
+            }
         }
+    }
+
+    /// The lines of a node of interpretations go on with the byte.
+    fn step_lines(&mut self, alloc: Global, byte: u8) -> Result<YesStep, AllocError>
+        ensures { IfOk result (λ went. yes_went went self.new ≡ lines_led (lines_step (lines_of self.old.lines.value) (lines_place self.old.lines.value) byte)) }
+    {
+        match self.lines.step(alloc, byte)? {
+            LinesStep::On => self.place = YesPlace::Lines,
+            LinesStep::Begins => {
+                self.place = YesPlace::Word(YesBehind::Line(self.lines.section), 1);
+            }
+            LinesStep::Drops => {
+                self.place = YesPlace::Word(YesBehind::List(Listed::Poly), 1);
+            }
+            LinesStep::Wrong => return Ok(YesStep::Wrong),
+        }
+        Ok(YesStep::On)
     }
 
     /// Behind the line of a block, or of their number: so many are left.
@@ -390,7 +434,7 @@ impl YesLine {
             (true, b'a') => YesPlace::Word(YesBehind::Alone, 1),
             (true, b'b') => YesPlace::Word(YesBehind::Blocks, 1),
             (true, b's') => YesPlace::Word(YesBehind::Subterm, 1),
-            (true, b'p') => return YesStep::Later,
+            (true, b'p') => YesPlace::Word(YesBehind::Poly, 1),
             (false, b'e') => YesPlace::Word(YesBehind::Finish, 1),
             _ => return YesStep::Wrong,
         };
@@ -451,13 +495,18 @@ fn spelling(behind: YesBehind) -> &'static [u8]
     match behind {
         YesBehind::List(Listed::Ranks) => b"YES 1\nranks".as_slice(),
         YesBehind::List(Listed::Block(_)) => b"block".as_slice(),
-        YesBehind::List(Listed::Drop) => b"drop".as_slice(),
+        YesBehind::List(Listed::Drop | Listed::Poly) => b"drop".as_slice(),
         YesBehind::Pairs => b"pairs ".as_slice(),
         YesBehind::Done => b"one\n".as_slice(),
         YesBehind::Alone => b"alone\n".as_slice(),
         YesBehind::Blocks => b"blocks ".as_slice(),
         YesBehind::Subterm => b"subterm\n".as_slice(),
         YesBehind::Name => b"arg ".as_slice(),
+        YesBehind::Poly => b"poly\n".as_slice(),
+        YesBehind::Line(Section::Funs) => b"fun ".as_slice(),
+        YesBehind::Line(Section::Marks) => b"mark ".as_slice(),
+        YesBehind::Line(Section::Rules) => b"rule".as_slice(),
+        YesBehind::Line(Section::Pairs) => b"pair".as_slice(),
         YesBehind::Finish => b"end\n".as_slice(),
     }
 }

@@ -5,17 +5,12 @@ use Rattle.wh_cert.specs.ReadEnd.{IsEnd}
 use Rattle.wh_cert.specs.ReadViews.{standing, after}
 use Rattle.wh_cert.specs.declared.read.Fed.{Fed}
 use Rattle.wh_cert.proofs.Whole.{text_found}
-use Rattle.wh_cert.proofs.ReadCode.{run_next, run_all, few_next, later_at, wrong_at, early_at}
+use Rattle.wh_cert.proofs.ReadCode.{run_next, run_all, few_next, wrong_at, early_at}
 use Rattle.wh_cert.proofs.read.read_certificate.Goals as goal
 
 pub take-requires : goal.take-requires
 take-requires c =
     few_next c.args.bytes.now c.loop-at.at (standing c.loop-at.reader) c.requires c.loop-at.invariant c.loop-at-test.true
-
-pub returns-in-Later-clause-fault : goal.returns-in-Later-clause-fault
-returns-in-Later-clause-fault c =
-    later_at c.args.bytes.now c.loop-at.at c.loop-at.reader c.requires c.loop-at-test.true c.loop-at.invariant
-    (sym c.in_ok-take.ensures ∙ ap (λ (fed : Fed). after fed (standing c.take.new.self)) c.in-Later.is)
 
 pub returns-in-Wrong-clause-fault : goal.returns-in-Wrong-clause-fault
 returns-in-Wrong-clause-fault c =
