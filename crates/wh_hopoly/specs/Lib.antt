@@ -7,6 +7,7 @@ pub mod Moves
 pub mod Parts
 pub mod Erase
 pub mod Excesses
+pub mod Outcomes
 pub mod Merges
 pub mod Totals
 pub mod Added

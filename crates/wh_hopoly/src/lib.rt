@@ -6,8 +6,10 @@ mod copying;
 mod covers;
 mod excess;
 mod expression;
+mod fault;
 mod laws;
 mod limits;
+mod normalising;
 mod normality;
 mod polynomial;
 mod products;
@@ -23,6 +25,7 @@ pub use copying::{copy, copy_arguments, copy_factors};
 pub use covers::at_least;
 pub use excess::Excess;
 pub use expression::{Expr, Move, Symbol};
+pub use fault::PolyFault;
 pub use laws::{
     comparing_is_reversed, comparing_is_transitive, equal_polynomials_compare_as_equal,
     partial_sums_exceed_in_the_next, parts_of_sums_exceed_in_them, products_are_normal,
@@ -30,6 +33,7 @@ pub use laws::{
     values_are_normal, values_are_those_of_the_parts,
 };
 pub use limits::check_limits;
+pub use normalising::{normal, normal_call};
 pub use normality::is_normal;
 pub use polynomial::{Atom, Atoms, Monomial, Poly, Polys};
 pub use products::product;

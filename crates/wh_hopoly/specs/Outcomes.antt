@@ -1,0 +1,23 @@
+-- What the call that evaluates an expression answers.
+use Rattle.std.specs.Prelude.{ℕ, ◌≡◌, List, [], ◌∷◌, ◌++◌, Contains}
+use Rattle.wh_types.specs.Ty.{Ty}
+use Rattle.wh_hopoly.specs.Polynomials.{Polynomial}
+use Rattle.wh_hopoly.specs.Evaluation.{Run, Expression, apply, Interpretation}
+use Rattle.wh_hopoly.specs.Limits.{Exceeds, Overflows, TooLarge}
+use Rattle.wh_hopoly.specs.Parts.{ValueOfPart}
+use Rattle.wh_hopoly.specs.declared.fault.PolyFault.{PolyFault}
+use Rattle.wh_hopoly.specs.declared.fault.PolyFault.TheVariants.{Overflow, TooLarge as too_large}
+
+-- p is the result, and no value on the way to it exceeds a limit (ours)
+abbrev pub ComesTo : Run Polynomial → Polynomial → Type 0
+ComesTo run p = (p ≡ run.result) × ((w : Polynomial) → Contains run.values w → Exceeds w → ⊥)
+
+-- the rule of the part that is named gives a value that exceeds the limit that is named (ours)
+abbrev pub IsFaultOf : List Interpretation → List Ty → Expression → PolyFault → Type 0
+IsFaultOf symbols Γ e (Overflow k) = (w : Polynomial) × ValueOfPart symbols Γ e k w × Overflows w
+IsFaultOf symbols Γ e (too_large k) = (w : Polynomial) × ValueOfPart symbols Γ e k w × TooLarge w
+
+-- an expression applied to others in turn (ours)
+abbrev pub applied_to : Expression → List Expression → Expression
+applied_to e [] = e
+applied_to e (d ∷ ds) = applied_to (apply e d) ds

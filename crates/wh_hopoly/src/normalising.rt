@@ -1,0 +1,51 @@
+//! The normal form of an expression: its value by the rules of evaluation, which stop at the first value that exceeds a limit.
+
+ghost use Rattle.std.specs.Prelude.{◌++◌, ◌∷◌, [], map, length, IfOk};
+ghost use Rattle.wh_types.specs.Erase.{ty};
+ghost use Rattle.wh_types.specs.Outcome.{IfBecause};
+ghost use Rattle.wh_hopoly.specs.Erase.{poly, expression, interpretations};
+ghost use Rattle.wh_hopoly.specs.Evaluation.{symbol, evaluate, Interpretation, TypedExpression, NormalInterpretations};
+ghost use Rattle.wh_hopoly.specs.Outcomes.{ComesTo, IsFaultOf, applied_to};
+
+use crate::expression::{Expr, Symbol};
+use crate::fault::PolyFault;
+use crate::polynomial::Poly;
+use std::alloc::Global;
+use wh_types::{Or, SimpleType};
+
+/// The normal form of a well-typed expression: its value in the scope that goes on with the arguments of its type.
+///
+/// `scope` has the types of the expression's variables, and `symbols` what its symbols are read as, each normal in the scope of its
+/// type's arguments. `Err` comes only where the rule of the part that it names gives a value that exceeds the limit that it names;
+/// `Ok` only where no value in the whole evaluation exceeds one (Fuhs and Kop 2012; the limits are ours).
+pub fn normal(
+    alloc: Global,
+    expr: &Expr,
+    scope: &[SimpleType],
+    symbols: &[Symbol],
+) -> Result<Poly, Or<PolyFault>>
+    requires typed { TypedExpression (interpretations symbols.now) (map ty scope.now) (expression expr.now) }
+    requires normal { NormalInterpretations (interpretations symbols.now) }
+    ensures ok { IfOk result (λ r. ComesTo (evaluate (interpretations symbols.now) (map ty scope.now) (expression expr.now)) (poly r)) }
+    ensures fault { IfBecause result (λ e. IsFaultOf (interpretations symbols.now) (map ty scope.now) (expression expr.now) e) }
+{
+    Err(Or::NoMemory)
+}
+
+/// The same of a function that is no symbol of the expressions, told by its type and its polynomial, applied to arguments in turn.
+/// It counts as one more symbol behind the others, so that its number is the number of symbols.
+pub fn normal_call(
+    alloc: Global,
+    kind: &SimpleType,
+    function: &Poly,
+    args: &[Expr],
+    scope: &[SimpleType],
+    symbols: &[Symbol],
+) -> Result<Poly, Or<PolyFault>>
+    requires typed { let all = interpretations symbols.now ++ record { kind = ty kind.now; polynomial = poly function.now } ∷ [] in TypedExpression all (map ty scope.now) (applied_to (symbol (length symbols.now)) (map expression args.now)) }
+    requires normal { let all = interpretations symbols.now ++ record { kind = ty kind.now; polynomial = poly function.now } ∷ [] in NormalInterpretations all }
+    ensures ok { IfOk result (λ r. let all = interpretations symbols.now ++ record { kind = ty kind.now; polynomial = poly function.now } ∷ [] in ComesTo (evaluate all (map ty scope.now) (applied_to (symbol (length symbols.now)) (map expression args.now))) (poly r)) }
+    ensures fault { IfBecause result (λ e. let all = interpretations symbols.now ++ record { kind = ty kind.now; polynomial = poly function.now } ∷ [] in IsFaultOf all (map ty scope.now) (applied_to (symbol (length symbols.now)) (map expression args.now)) e) }
+{
+    Err(Or::NoMemory)
+}
