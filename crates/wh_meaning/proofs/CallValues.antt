@@ -32,7 +32,7 @@ use Rattle.wh_meaning.proofs.Covers.{cover_den, strict_cover_den}
 use Rattle.wh_meaning.proofs.Mean.{den_value}
 use Rattle.wh_meaning.proofs.TermValues.{value_mono, fed_le}
 use Rattle.wh_meaning.proofs.MetaValues.{with_metas, metas_value, metas_value_mono, metas_value_is, AllMeanBodies, value_value}
-use Rattle.wh_meaning.proofs.SideTypes.{side_applied_typed, HasSideType}
+use Rattle.wh_polycheck.proofs.SideTypes.{side_applied_typed, HasSideType}
 use Rattle.wh_meaning.proofs.SideMeans.{symbol_means, mean_applied}
 use Rattle.wh_meaning.proofs.Steps.{reading_at, mono_terms, term_step_le}
 

@@ -7,12 +7,10 @@ pub mod Order
 pub mod Covers
 pub mod TermValues
 pub mod MetaValues
-pub mod SideTypes
 pub mod SideMeans
 pub mod Steps
 pub mod CallValues
 pub mod Measures
 pub mod PairsEnd
-pub mod MoreInterpretations
 pub mod MarkedPairs
 pub mod Rows

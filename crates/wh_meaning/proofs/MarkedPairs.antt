@@ -11,10 +11,11 @@ use Rattle.wh_calls.specs.MarkedCalls.{CallsEnd}
 use Rattle.wh_hopoly.specs.Evaluation.{symbol, Interpretation, TypedExpression, NormalInterpretations}
 use Rattle.wh_hopoly.proofs.ValueLaws.{interpretation_is}
 use Rattle.wh_polycheck.specs.Sides.{types_of_metas, marked_expression, side_polynomial, Interprets, RulesAreCovered, IsNormOfSide}
-use Rattle.wh_polycheck.specs.Marks.{Mark, marked_types, marked_interpretation, with_marks, mark_number, HasMark, AreNormalMarks, IsNormOfPairSide}
-use Rattle.wh_meaning.specs.PairCovers.{PairIsCovered, PairIsStrictlyCovered, HasMarkedSides, MarkedPairIsCovered, IsOneOf, left_polynomial, right_polynomial}
-use Rattle.wh_meaning.proofs.MoreInterpretations.{interprets_more, rules_covered_more, mark_interpreted, normal_with_marks}
-use Rattle.wh_meaning.proofs.SideTypes.{side_typed, side_applied_typed}
+use Rattle.wh_polycheck.specs.Marks.{Mark, marked_types, marked_interpretation, with_marks, mark_number, HasMark, AreNormalMarks, HasMarkedSides, IsNormOfPairSide}
+use Rattle.wh_meaning.specs.PairCovers.{PairIsCovered, PairIsStrictlyCovered, MarkedPairIsCovered, IsOneOf, left_polynomial, right_polynomial}
+use Rattle.wh_polycheck.proofs.MoreInterpretations.{interprets_more, rules_covered_more, mark_interpreted, normal_with_marks}
+use Rattle.wh_polycheck.proofs.MarkedSides.{marked_typed}
+use Rattle.wh_polycheck.proofs.SideTypes.{side_typed, side_applied_typed}
 use Rattle.wh_meaning.proofs.PairsEnd.{sets_end_by_worth}
 
 covered_by_marks : (S : Symbols) (rules : List RewriteRule) (symbols : List Interpretation) (marks : List Mark) (p : PairData)
@@ -51,16 +52,6 @@ sets_end_by_marks S rules symbols marks pairs set kept w i n k c h g =
 pub side_has_norm : (S : Symbols) (M : List Declared) (symbols : List Interpretation) (t : Tm) (a : Ty) → Interprets S symbols
     → Typed S M [] t a → NoFree t → IsNormOfSide symbols M t (side_polynomial symbols M t)
 side_has_norm S M symbols t a i p f = ((side_typed S M symbols i (length (types_of_metas M)) refl p f).0, refl)
-
-marked_typed : (S : Symbols) (rules : List RewriteRule) (symbols : List Interpretation) (marks : List Mark) → Interprets S symbols
-    → (M : List Declared) (f : ℕ) (ts : Tms) → HasMark marks f → AllTyped S M [] ts (marked_types S rules f) → AllNoFree ts
-    → TypedExpression (with_marks S rules symbols marks) (types_of_metas M) (marked_expression M (mark_number symbols marks f) ts)
-marked_typed S rules symbols marks i M f ts h p c =
-    let all = with_marks S rules symbols marks in
-    let k = mark_number symbols marks f in
-    let (s, e, j) = mark_interpreted S rules symbols marks f h in
-    (side_applied_typed S M all (interprets_more symbols (map (marked_interpretation S rules) marks) S i) (length (types_of_metas M)) refl (symbol k) (sort 0)
-    ((s, e), ap (λ s. s.kind) (interpretation_is all k s e) ∙ j) p c).0
 
 -- and so have the sides of a pair
 pub left_has_norm : (S : Symbols) (rules : List RewriteRule) (symbols : List Interpretation) (marks : List Mark) (p : PairData)

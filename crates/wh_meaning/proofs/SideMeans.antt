@@ -21,7 +21,7 @@ use Rattle.wh_meaning.proofs.Valuations.{ty_set, at_itself, put_same, put_other}
 use Rattle.wh_meaning.proofs.Den.{at_below, fun_same, moves_same, den_agree}
 use Rattle.wh_meaning.proofs.Mean.{apply_is}
 use Rattle.wh_meaning.proofs.TermValues.{declared_is, has_same, type_is, value_app}
-use Rattle.wh_meaning.proofs.SideTypes.{scope_longer, meta_in_scope, bound_in_scope, side_typed}
+use Rattle.wh_polycheck.proofs.SideTypes.{scope_longer, meta_in_scope, bound_in_scope, side_typed}
 
 -- a value taken along an equality of a type with itself
 along_itself : (A : Ty) (x : Sem A) (e : A ≡ A) → subst Sem e x ≡ x

@@ -32,7 +32,7 @@ use Rattle.wh_meaning.proofs.Covers.{cover_den}
 use Rattle.wh_meaning.proofs.Mean.{den_value}
 use Rattle.wh_meaning.proofs.TermValues.{has_same, type_is, value_app, value_agree, value_beta, value_mono, mono_push}
 use Rattle.wh_meaning.proofs.MetaValues.{with_metas, metas_value, metas_value_mono, metas_value_is, value_value}
-use Rattle.wh_meaning.proofs.SideTypes.{side_typed}
+use Rattle.wh_polycheck.proofs.SideTypes.{side_typed}
 use Rattle.wh_meaning.proofs.SideMeans.{mean_side}
 
 -- a reading taken along an equality of types

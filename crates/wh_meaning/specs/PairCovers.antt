@@ -2,14 +2,13 @@
 -- `target` the sort that it leads to.
 use Rattle.std.specs.Prelude.{ℕ, ◌≡◌, List, [], Some, slice_get, Contains}
 use Rattle.wh_terms.specs.Tree.{tms_of}
-use Rattle.wh_terms.specs.Sight.{AllNoFree}
-use Rattle.wh_terms.specs.Typing.{Symbols, AllTyped}
+use Rattle.wh_terms.specs.Typing.{Symbols}
 use Rattle.wh_terms.specs.Rules.{RewriteRule}
 use Rattle.wh_system.specs.PairData.{PairData}
 use Rattle.wh_calls.specs.MarkedCalls.{MarkedCall}
 use Rattle.wh_hopoly.specs.Evaluation.{Interpretation}
 use Rattle.wh_hopoly.specs.Polynomials.{Polynomial}
-use Rattle.wh_polycheck.specs.Marks.{Mark, marked_types, with_marks, mark_number, HasMark}
+use Rattle.wh_polycheck.specs.Marks.{Mark, marked_types, with_marks, mark_number, HasMarkedSides}
 use Rattle.wh_hopoly.specs.Moves.{Transfer, IsCover, IsStrictCover}
 use Rattle.wh_meaning.specs.Calls.{call_value, IsMarkedSide}
 use Rattle.wh_polycheck.specs.Sides.{call_polynomial}
@@ -38,15 +37,6 @@ pub record PairIsCovered (S : Symbols) (rules : List RewriteRule) (symbols : Lis
 abbrev pub PairIsStrictlyCovered : List Interpretation → (ℕ → ℕ) → PairData → Type 0
 PairIsStrictlyCovered symbols marked p =
     (ms : List Transfer) × IsStrictCover (left_polynomial symbols marked p) (right_polynomial symbols marked p) ms
-
--- the marked symbols of a pair have marks, and their arguments are typed and closed (ours)
-pub record HasMarkedSides (S : Symbols) (rules : List RewriteRule) (marks : List Mark) (p : PairData) : Type 0 where
-  pub left_marked : HasMark marks p.left_fun
-  pub right_marked : HasMark marks p.right_fun
-  pub left_typed : AllTyped S p.metas [] (tms_of p.left) (marked_types S rules p.left_fun)
-  pub right_typed : AllTyped S p.metas [] (tms_of p.right) (marked_types S rules p.right_fun)
-  pub left_closed : AllNoFree (tms_of p.left)
-  pub right_closed : AllNoFree (tms_of p.right)
 
 -- so it is that a pair is covered where its marked symbols are read by the marks (Fuhs and Kop 2012)
 pub record MarkedPairIsCovered (S : Symbols) (rules : List RewriteRule) (symbols : List Interpretation) (marks : List Mark) (p : PairData)

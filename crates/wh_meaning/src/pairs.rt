@@ -8,8 +8,8 @@ ghost use Rattle.wh_system.specs.PairData.{PairData};
 ghost use Rattle.wh_calls.specs.MarkedCalls.{CallsEnd};
 ghost use Rattle.wh_hopoly.specs.Evaluation.{Interpretation, NormalInterpretations};
 ghost use Rattle.wh_polycheck.specs.Sides.{Interprets, RulesAreCovered};
-ghost use Rattle.wh_polycheck.specs.Marks.{Mark, with_marks, mark_number, AreNormalMarks, IsNormOfPairSide};
-ghost use Rattle.wh_meaning.specs.PairCovers.{PairIsCovered, PairIsStrictlyCovered, HasMarkedSides, MarkedPairIsCovered, IsOneOf, left_polynomial, right_polynomial};
+ghost use Rattle.wh_polycheck.specs.Marks.{Mark, with_marks, mark_number, AreNormalMarks, HasMarkedSides, IsNormOfPairSide};
+ghost use Rattle.wh_meaning.specs.PairCovers.{PairIsCovered, PairIsStrictlyCovered, MarkedPairIsCovered, IsOneOf, left_polynomial, right_polynomial};
 
 /// Where all rules and all pairs of a set are covered, and each of these pairs is kept or strictly covered, calls by the set
 /// end if calls by the kept pairs do (Fuhs and Kop 2012, the reduction pair processor).

@@ -1,3 +1,4 @@
 pub mod CoverFaults
 pub mod Sides
 pub mod Marks
+pub mod SideResults

@@ -2,7 +2,8 @@
 use Rattle.std.specs.Prelude.{ℕ, suc, ◌+◌, ◌==◌, ◌≡◌, List, [], ◌∷◌, ◌++◌, length, map, take, unwrap_or, if◌then◌else◌, Bool, true, false, Contains}
 use Rattle.wh_types.specs.Ty.{Ty, sort, arguments}
 use Rattle.wh_terms.specs.Tree.{Tms, tms_of}
-use Rattle.wh_terms.specs.Typing.{Symbols}
+use Rattle.wh_terms.specs.Sight.{AllNoFree}
+use Rattle.wh_terms.specs.Typing.{Symbols, AllTyped}
 use Rattle.wh_terms.specs.Rules.{RewriteRule}
 use Rattle.wh_system.specs.Needs.{need_of}
 use Rattle.wh_system.specs.PairData.{PairData}
@@ -46,6 +47,15 @@ HasMark marks f = (m : Mark) × Contains marks m × (m.symbol ≡ f)
 -- each mark has a polynomial that is normal in the scope of its arguments (Fuhs and Kop 2012)
 abbrev pub AreNormalMarks : Symbols → List RewriteRule → List Mark → Type 0
 AreNormalMarks S rules marks = (m : Mark) → Contains marks m → Normal (marked_types S rules m.symbol) m.polynomial
+
+-- the marked symbols of a pair have marks, and their arguments are typed and closed (ours)
+pub record HasMarkedSides (S : Symbols) (rules : List RewriteRule) (marks : List Mark) (p : PairData) : Type 0 where
+  pub left_marked : HasMark marks p.left_fun
+  pub right_marked : HasMark marks p.right_fun
+  pub left_typed : AllTyped S p.metas [] (tms_of p.left) (marked_types S rules p.left_fun)
+  pub right_typed : AllTyped S p.metas [] (tms_of p.right) (marked_types S rules p.right_fun)
+  pub left_closed : AllNoFree (tms_of p.left)
+  pub right_closed : AllNoFree (tms_of p.right)
 
 -- a side of a pair: the symbol whose mark heads it, and its arguments
 abbrev pub head_of_side : PairData → Bool → ℕ

@@ -1,10 +1,17 @@
-//! The checks of covers: whether moves between the monomials of two polynomials show that one is at least the other.
+//! The checks of covers: sides of rules and of pairs as polynomials, and whether moves between the monomials of two polynomials
+//! show that one is at least the other.
 #![tactic(auto)]
 
 mod amounts;
 mod check;
+mod expressions;
 mod fault;
 mod good;
+mod marks;
+mod scopes;
+mod sides;
 
 pub use check::{check_strict, check_weak};
 pub use fault::CoverFault;
+pub use marks::MarkedSymbol;
+pub use sides::{side_of_pair, side_of_rule};

@@ -14,7 +14,7 @@ use Rattle.wh_hopoly.specs.Moves.{IsCover}
 use Rattle.wh_hopoly.proofs.ValueLaws.{interpretation_is}
 use Rattle.wh_polycheck.specs.Sides.{arrows, types_of_metas, side_expression, side_polynomial, IsInterpretedAs, Interprets, RulesAreCovered}
 use Rattle.wh_polycheck.specs.Marks.{Mark, marked_types, marked_kind, marked_interpretation, with_marks, place_of, mark_number, HasMark, AreNormalMarks}
-use Rattle.wh_meaning.proofs.SideTypes.{side_typed}
+use Rattle.wh_polycheck.proofs.SideTypes.{side_typed}
 
 -- the elements of two lists, one behind the other
 pub slice_get_front : {A : Type 0} (xs ys : List A) (i : ℕ) (a : A) → slice_get xs i ≡ Some a → slice_get (xs ++ ys) i ≡ Some a
@@ -22,7 +22,7 @@ slice_get_front [] ys i a e = absurd (none-some a e)
 slice_get_front (x ∷ xs) ys zero a e = e
 slice_get_front (x ∷ xs) ys (suc i) a e = slice_get_front xs ys i a e
 
-slice_get_behind : {A : Type 0} (xs ys : List A) (i : ℕ) → slice_get (xs ++ ys) (length xs + i) ≡ slice_get ys i
+pub slice_get_behind : {A : Type 0} (xs ys : List A) (i : ℕ) → slice_get (xs ++ ys) (length xs + i) ≡ slice_get ys i
 slice_get_behind {A = A} [] ys i = let e : length {A = A} [] + i ≡ i = omega arith in ap (slice_get ys) e
 slice_get_behind (x ∷ xs) ys i =
     let e : length (x ∷ xs) + i ≡ suc (length xs + i) = omega arith in ap (slice_get (x ∷ (xs ++ ys))) e ∙ slice_get_behind xs ys i
@@ -34,7 +34,7 @@ slice_get_either (x ∷ xs) ys zero a e = inl e
 slice_get_either (x ∷ xs) ys (suc i) a e = slice_get_either xs ys i a e
 
 module _ (symbols more : List Interpretation) where
-  interpretation_more : (f : ℕ) (s : Interpretation) → slice_get symbols f ≡ Some s
+  pub interpretation_more : (f : ℕ) (s : Interpretation) → slice_get symbols f ≡ Some s
       → interpretation_at (symbols ++ more) f ≡ interpretation_at symbols f
   interpretation_more f s e = interpretation_is (symbols ++ more) f s (slice_get_front symbols more f s e) ∙ sym (interpretation_is symbols f s e)
 
@@ -77,10 +77,10 @@ module _ (symbols more : List Interpretation) where
       (ms, subst₂ (λ p q. IsCover p q ms) (sym (side_more S r.metas r.left a h p (w.each r m).left_closed)) (sym (side_more S r.metas r.right a h q (w.each r m).right_closed)) k)
 
 -- the mark of a symbol stands at its place
-abbrev StandsAt : List Mark → ℕ → ℕ → Type 0
+abbrev pub StandsAt : List Mark → ℕ → ℕ → Type 0
 StandsAt marks f i = (m : Mark) × (slice_get marks i ≡ Some m) × (m.symbol ≡ f)
 
-mark_at : (marks : List Mark) (f : ℕ) → HasMark marks f → StandsAt marks f (place_of marks f)
+pub mark_at : (marks : List Mark) (f : ℕ) → HasMark marks f → StandsAt marks f (place_of marks f)
 mark_at [] f (m, (i, l, e), k) = absurd (omega (arith, l))
 mark_at (n ∷ marks) f (m, (i, l, e), k) = go (n.symbol == f) refl (λ h. mark_at marks f h)
   where
@@ -93,12 +93,12 @@ mark_at (n ∷ marks) f (m, (i, l, e), k) = go (n.symbol == f) refl (λ h. mark_
     go true t rest = (n, refl, grind (arith, t))
     go false t rest = rest (later i l e (λ same. grind (arith, t, same)))
 
-arguments_of_arrows : (cs : List Ty) (s : ℕ) → arguments (arrows cs (sort s)) ≡ cs
+pub arguments_of_arrows : (cs : List Ty) (s : ℕ) → arguments (arrows cs (sort s)) ≡ cs
 arguments_of_arrows [] s = refl
 arguments_of_arrows (c ∷ cs) s = ap (λ ds. c ∷ ds) (arguments_of_arrows cs s)
 
 module _ (S : Symbols) (rules : List RewriteRule) where
-  mapped : (marks : List Mark) (i : ℕ) (m : Mark) → slice_get marks i ≡ Some m
+  pub mapped : (marks : List Mark) (i : ℕ) (m : Mark) → slice_get marks i ≡ Some m
       → slice_get (map (marked_interpretation S rules) marks) i ≡ Some (marked_interpretation S rules m)
   mapped [] i m e = absurd (none-some m e)
   mapped (n ∷ marks) zero m e = ap (λ n. Some (marked_interpretation S rules n)) (same_Some n m e)
