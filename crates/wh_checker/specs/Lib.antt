@@ -1,5 +1,6 @@
 pub mod Looked
 pub mod Valid
+pub mod Small
 pub mod Faults
 pub mod Walk
 pub mod Accepted

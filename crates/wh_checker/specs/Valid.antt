@@ -15,7 +15,7 @@ abbrev pub IsWhole : List PairData → List ℕ → Type 0
 IsWhole ps set = IsSetOf (λ n. n < length ps) set
 
 -- a YES certificate with these parts is valid: the system is passing under its ranks, its count of the pairs is right, and
--- its nodes prove the set of all pairs (Kop 2012; Fuhs and Kop 2019; the form is ours)
+-- its nodes prove the set of all pairs (Kop 2012; Fuhs and Kop 2012 and 2019; the form is ours)
 pub record IsValidYes (d : SystemData) (ps : List PairData) (ranks : List ℕ) (pairs : ℕ) (lines : List w.Node) : Type 0 where
   pub rank_count : length ranks ≡ d.symbols.sorts
   pub passing : IsPassing d ranks
@@ -24,7 +24,7 @@ pub record IsValidYes (d : SystemData) (ps : List PairData) (ranks : List ℕ) (
   pub whole : IsWhole ps set
   pub nodes : List Node
   pub says : SayNodes d lines nodes
-  pub proves : Proves d.rules ps (set ∷ []) nodes
+  pub proves : Proves d.symbols d.rules ps (set ∷ []) nodes
 
 -- the certificate is valid for the system and its pairs
 abbrev pub IsValidCert : SystemData → List PairData → Cert → Type 0

@@ -12,6 +12,8 @@ use Rattle.wh_cert.specs.Written.{Preorder}
 use Rattle.wh_nodes.specs.Nodes.{Node, Leaves, IsSetOf, IsKept}
 use Rattle.wh_nodes.specs.Proves.{Proves}
 use Rattle.wh_checker.specs.Looked.{SayChoices, SaysNode, SayNodes}
+use Rattle.wh_covering.specs.CoveringFaults.{limited}
+use Rattle.wh_checker.specs.Small.{IsSmallNode, AreSmall}
 use Rattle.wh_checker.specs.Faults.{IsFirstNodeFault}
 use Rattle.wh_checker.specs.declared.rejected.NodeFault.{NodeFault}
 use Rattle.wh_checker.specs.declared.rejected.Rejected.{Rejected}
@@ -36,17 +38,18 @@ abbrev pub IsReduced : SystemData → List PairData → List ℕ → List w.Arg 
 IsReduced d ps set lines drop rest =
     (args : List Chosen) × SayChoices d lines args × IsProjection d.rules ps set args drop × IsSetOf (IsKept set drop) rest
 
--- the lines of a node say one whose conditions hold of the set, and what it leaves comes before the other sets
+-- the lines of a node say one whose conditions hold of the set and which is small, and what it leaves comes before the other sets
 pub record GoesOn (d : SystemData) (ps : List PairData) (set : List ℕ) (line : w.Node) (sets after : List (List ℕ)) : Type 0 where
   pub node : Node
   pub left : List (List ℕ)
   pub says : SaysNode d line node
-  pub leaves : Leaves d.rules ps set node left
+  pub leaves : Leaves d.symbols d.rules ps set node left
+  pub small : IsSmallNode limited d.symbols d.rules ps set node
   pub after_is : after ≡ left ++ sets
 
--- the lines say nodes that prove the sets
+-- the lines say nodes that prove the sets, and each is small
 abbrev pub AreProvedBy : SystemData → List PairData → List (List ℕ) → List w.Node → Type 0
-AreProvedBy d ps sets lines = (nodes : List Node) × SayNodes d lines nodes × Proves d.rules ps sets nodes
+AreProvedBy d ps sets lines = (nodes : List Node) × SayNodes d lines nodes × Proves d.symbols d.rules ps sets nodes × AreSmall d.symbols d.rules ps sets nodes
 
 -- a walk over all the lines, which began with one set, has come to the line number k: these sets are open and these lines are
 -- left
@@ -57,4 +60,4 @@ pub record HasCome (d : SystemData) (ps : List PairData) (set : List ℕ) (lines
   -- where the rest is proved, so is the whole
   pub proved : AreProvedBy d ps sets left → AreProvedBy d ps (set ∷ []) lines
   -- the first fault of the rest is that of the whole
-  pub first : (m : ℕ) (f : NodeFault) → IsFirstNodeFault d ps k sets left m f → IsFirstNodeFault d ps 0 (set ∷ []) lines m f
+  pub first : (m : ℕ) (f : NodeFault) → IsFirstNodeFault limited d ps k sets left m f → IsFirstNodeFault limited d ps 0 (set ∷ []) lines m f

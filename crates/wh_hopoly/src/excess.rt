@@ -1,7 +1,7 @@
 //! How a value exceeds the limits.
 
 /// The limit that a value exceeds.
-#[derive(Drop)]
+#[derive(Clone, Copy)]
 pub enum Excess {
     /// A coefficient is above 2^128 - 1.
     Overflow,

@@ -9,6 +9,7 @@ mod expression;
 mod fault;
 mod laws;
 mod limits;
+mod moves;
 mod normalising;
 mod normality;
 mod polynomial;
@@ -33,6 +34,7 @@ pub use laws::{
     values_are_normal, values_are_those_of_the_parts,
 };
 pub use limits::check_limits;
+pub use moves::{Covers, Moves};
 pub use normalising::{normal, normal_call};
 pub use normality::is_normal;
 pub use polynomial::{Atom, Atoms, Monomial, Poly, Polys};

@@ -4,3 +4,4 @@ pub mod Meaning
 pub mod TermValues
 pub mod Calls
 pub mod PairCovers
+pub mod Covering

@@ -1,15 +1,16 @@
 -- When a list of nodes, in preorder, is a termination proof.
 use Rattle.std.specs.Prelude.{ℕ, ◌≡◌, List, [], ◌∷◌, ◌++◌, Some, Contains, slice_get}
+use Rattle.wh_terms.specs.Typing.{Symbols}
 use Rattle.wh_terms.specs.Rules.{RewriteRule}
 use Rattle.wh_system.specs.PairData.{PairData}
 use Rattle.wh_nodes.specs.Nodes.{Node, Leaves}
 
--- `Proves rules pairs sets nodes`: the nodes, in preorder, prove the sets, one after another; what a node leaves comes before
+-- `Proves S rules pairs sets nodes`: the nodes, in preorder, prove the sets, one after another; what a node leaves comes before
 -- the sets behind its own (ours)
-pub data Proves (rules : List RewriteRule) (pairs : List PairData) : List (List ℕ) → List Node → Type 0 where
-  all_proved : Proves rules pairs [] []
-  one_proved : {set : List ℕ} {left sets : List (List ℕ)} {node : Node} {nodes : List Node} → Leaves rules pairs set node left → Proves rules pairs (left ++ sets) nodes
-      → Proves rules pairs (set ∷ sets) (node ∷ nodes)
+pub data Proves (S : Symbols) (rules : List RewriteRule) (pairs : List PairData) : List (List ℕ) → List Node → Type 0 where
+  all_proved : Proves S rules pairs [] []
+  one_proved : {set : List ℕ} {left sets : List (List ℕ)} {node : Node} {nodes : List Node} → Leaves S rules pairs set node left → Proves S rules pairs (left ++ sets) nodes
+      → Proves S rules pairs (set ∷ sets) (node ∷ nodes)
 
 -- the pair is one of those with the numbers of the set
 abbrev pub InSet : List PairData → List ℕ → PairData → Type 0

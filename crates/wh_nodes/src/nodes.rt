@@ -31,11 +31,11 @@ pub fn may_is_sound()
 /// any one of them (Kop 2012 for the dependency graph and the subterm criterion; Fuhs and Kop 2019 for calls whose
 /// arguments end, the minimal chains).
 pub fn nodes_keep_that_calls_end()
-    ensures { (S : Symbols) (rules : List RewriteRule) (pairs : List PairData) (sets : List (List ℕ)) (nodes : List Node) (set : List ℕ) → AreWellMade S rules → Proves rules pairs sets nodes → Contains sets set → CallsEnd S rules (Step rules) (InSet pairs set) }
+    ensures { (S : Symbols) (rules : List RewriteRule) (pairs : List PairData) (sets : List (List ℕ)) (nodes : List Node) (set : List ℕ) → AreWellMade S rules → Proves S rules pairs sets nodes → Contains sets set → CallsEnd S rules (Step rules) (InSet pairs set) }
 {}
 
 /// Where a system is passing under ranks, and the nodes prove the set of all its pairs, each well-typed term is
 /// bounded: there is a longest reduction from it (Kop 2012; Fuhs and Kop 2019).
 pub fn proved_systems_are_bounded()
-    ensures { (d : SystemData) (ranks : List ℕ) (ps : List PairData) (all : List ℕ) (nodes : List Node) → IsWellMadeSystem d → IsPassing d ranks → ArePairs (candidates d.symbols d.rules) ps → ((n : ℕ) → n < length ps → Contains all n) → Proves d.rules ps (all ∷ []) nodes → (t : Tm) → WellTyped d.symbols t → Bounded d.rules t }
+    ensures { (d : SystemData) (ranks : List ℕ) (ps : List PairData) (all : List ℕ) (nodes : List Node) → IsWellMadeSystem d → IsPassing d ranks → ArePairs (candidates d.symbols d.rules) ps → ((n : ℕ) → n < length ps → Contains all n) → Proves d.symbols d.rules ps (all ∷ []) nodes → (t : Tm) → WellTyped d.symbols t → Bounded d.rules t }
 {}

@@ -1,7 +1,7 @@
 //! What can be wrong with a cover.
 
 /// The first test that a list of moves fails.
-#[derive(Drop)]
+#[derive(Clone, Copy)]
 pub enum CoverFault {
     /// A monomial of the move is not there, its two monomials have other variables, or an argument on the left is not at
     /// least the one on the right.

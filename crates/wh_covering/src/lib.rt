@@ -1,0 +1,9 @@
+//! The node of interpretations: whether polynomials for all symbols, and moves between their monomials, show that no rule and no pair
+//! of a set grows, and that the dropped ones shrink.
+#![tactic(auto)]
+
+mod check;
+mod fault;
+
+pub use check::check_covering;
+pub use fault::{CoveringFault, LineFault};
