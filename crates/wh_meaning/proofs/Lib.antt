@@ -14,3 +14,4 @@ pub mod Measures
 pub mod PairsEnd
 pub mod MarkedPairs
 pub mod Rows
+pub mod PairSides

@@ -51,7 +51,7 @@ module _ (few many : List Interpretation) where
   alike_lambda Γ A e d h = record {
     kinds = ap (λ B. A ⇒ B) h.kinds;
     runs = h.runs;
-    counts = ap suc h.counts;
+    counts = ap (λ n. 1 + n) h.counts;
     values = values;
   }
     where

@@ -6,3 +6,5 @@ pub mod MoreInterpretations
 pub mod SideWalk
 pub mod Alike
 pub mod MarkedSides
+pub mod MarkWalk
+pub mod Pushes

@@ -29,7 +29,7 @@ marked_typed S rules symbols marks i M f ts h p c =
     (side_applied_typed S M all (interprets_more symbols (map (marked_interpretation S rules) marks) S i) (length (types_of_metas M)) refl (symbol k) (sort 0)
     ((s, e), ap (λ s. s.kind) (interpretation_is all k s e) ∙ j) p c).0
 
-contains_there : {A : Type 0} (xs : List A) (i : ℕ) (a : A) → slice_get xs i ≡ Some a → Contains xs a
+pub contains_there : {A : Type 0} (xs : List A) (i : ℕ) (a : A) → slice_get xs i ≡ Some a → Contains xs a
 contains_there [] i a e = absurd (none-some a e)
 contains_there (x ∷ xs) zero a e = (0, omega arith, same_Some x a e)
 contains_there (x ∷ xs) (suc i) a e = let (j, l, h) = contains_there xs i a e in (suc j, omega (arith, l), h)

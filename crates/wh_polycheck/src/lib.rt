@@ -7,11 +7,13 @@ mod check;
 mod expressions;
 mod fault;
 mod good;
+mod laws;
 mod marks;
 mod scopes;
 mod sides;
 
 pub use check::{check_strict, check_weak};
 pub use fault::CoverFault;
+pub use laws::interpretations_in_order_interpret;
 pub use marks::MarkedSymbol;
 pub use sides::{side_of_pair, side_of_rule};

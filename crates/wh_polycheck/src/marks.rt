@@ -41,9 +41,11 @@ pub fn kind_of_mark(alloc: Global, system: &System, symbol: u32) -> Result<Simpl
     ensures { IfOk result (λ kind. ty kind ≡ marked_kind (system_data system.now).symbols (system_data system.now).rules symbol) }
 {
     let need = system.need(symbol).unwrap_or(0);
-    match system.signature().funs.as_slice().get(symbol as usize) {
-        Some(kind) => of_first_arguments(alloc, kind, need),
-        None => Ok(SimpleType::Sort(0)),
+    let kinds = system.signature().funs.as_slice();
+    if (symbol as usize) < kinds.len() {
+        of_first_arguments(alloc, &kinds[symbol as usize], need)
+    } else {
+        Ok(SimpleType::Sort(0))
     }
 }
 
