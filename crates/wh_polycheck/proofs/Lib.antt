@@ -8,3 +8,4 @@ pub mod Alike
 pub mod MarkedSides
 pub mod MarkWalk
 pub mod Pushes
+pub mod SideFacts
