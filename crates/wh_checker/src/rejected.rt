@@ -4,6 +4,7 @@ ghost use Rattle.std.specs.Prelude.{◌≡◌};
 ghost use Rattle.wh_checker.specs.Faults.{at_node, of_claim};
 ghost use Rattle.wh_checker.specs.declared.rejected.NodeFault.TheVariants.{Blocks, Subterm};
 
+use wh_covering::CoveringFault;
 use wh_graph::BlockFault;
 use wh_no::NoFault;
 use wh_subterm::SubtermFault;
@@ -24,6 +25,10 @@ pub enum NodeFault {
     Blocks(BlockFault),
     /// Of a node `subterm`.
     Subterm(SubtermFault),
+    /// The lines of a node `poly` are not for all symbols of the system and for the marked symbols of the set, in order.
+    BadSymbols,
+    /// What else is wrong with a node `poly`.
+    Poly(CoveringFault),
 }
 
 /// The first condition of a valid certificate that is false. Nodes are counted from 0, each before its children; so are rules,
@@ -58,6 +63,26 @@ pub enum Rejected {
     BadDrop { node: u32 },
     /// This pair is neither equal nor below, or it is dropped and not below.
     NotDecreasing { node: u32, pair: u32 },
+    /// The lines `fun` are not for the symbols of the system, or the lines `mark` not for the marked symbols of the set, in order.
+    BadSymbols { node: u32 },
+    /// The polynomial of this symbol, or of its marked symbol, is the first that is not normal in its scope.
+    BadPolynomial { node: u32, symbol: u32, marked: bool },
+    /// There are not as many lines `rule` as rules, or not as many lines `pair` as pairs of the set.
+    BadLines { node: u32 },
+    /// This move for this rule is the first that is not between monomials that fit.
+    BadMoveRule { node: u32, rule: u32, entry: u32 },
+    /// The moves for this rule take more from this left monomial than its coefficient.
+    OverSpentRule { node: u32, rule: u32, monomial: u32 },
+    /// The moves for this rule bring less to this right monomial than its coefficient.
+    NotCoveredRule { node: u32, rule: u32, monomial: u32 },
+    /// This move for this pair is the first that is not between monomials that fit.
+    BadMovePair { node: u32, pair: u32, entry: u32 },
+    /// The moves for this pair take more from this left monomial than its coefficient.
+    OverSpentPair { node: u32, pair: u32, monomial: u32 },
+    /// The moves for this pair bring less to this right monomial than its coefficient.
+    NotCoveredPair { node: u32, pair: u32, monomial: u32 },
+    /// This pair is dropped, and its left side has no constant, or the moves leave none of it.
+    NotStrict { node: u32, pair: u32 },
     /// The names do not stand for a well-typed term that fits.
     NotATerm,
     /// There is no step.
@@ -70,6 +95,23 @@ pub enum Rejected {
     BadPut { index: u32 },
     /// There is no such place in the last term, or what stands there is not the instance.
     NoInstance,
+}
+
+/// Why a certificate is not accepted.
+#[derive(Clone, Copy)]
+pub enum CheckFault {
+    /// This condition is the first that is false, and no value exceeds a limit before it.
+    Rejected(Rejected),
+    /// A coefficient is above 2^128 - 1 in the evaluation of a side in this node; all conditions before that hold.
+    Overflow {
+        /// The number of the node.
+        node: u32,
+    },
+    /// A value is too large in the evaluation of a side in this node; all conditions before that hold.
+    TooLarge {
+        /// The number of the node.
+        node: u32,
+    },
 }
 
 impl NodeFault {
