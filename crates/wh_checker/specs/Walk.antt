@@ -12,7 +12,7 @@ use Rattle.wh_cert.specs.Written.{Preorder}
 use Rattle.wh_nodes.specs.Nodes.{Node, Leaves, IsSetOf, IsKept}
 use Rattle.wh_nodes.specs.Proves.{Proves}
 use Rattle.wh_checker.specs.Looked.{SayChoices, SaysNode, SayNodes}
-use Rattle.wh_covering.specs.CoveringFaults.{limited}
+use Rattle.wh_covering.specs.CoveringFaults.{with_limits}
 use Rattle.wh_checker.specs.Small.{IsSmallNode, AreSmall}
 use Rattle.wh_checker.specs.Faults.{IsFirstNodeFault}
 use Rattle.wh_checker.specs.declared.rejected.NodeFault.{NodeFault}
@@ -44,7 +44,7 @@ pub record GoesOn (d : SystemData) (ps : List PairData) (set : List ℕ) (line :
   pub left : List (List ℕ)
   pub says : SaysNode d line node
   pub leaves : Leaves d.symbols d.rules ps set node left
-  pub small : IsSmallNode limited d.symbols d.rules ps set node
+  pub small : IsSmallNode with_limits d.symbols d.rules ps set node
   pub after_is : after ≡ left ++ sets
 
 -- the lines say nodes that prove the sets, and each is small
@@ -60,4 +60,4 @@ pub record HasCome (d : SystemData) (ps : List PairData) (set : List ℕ) (lines
   -- where the rest is proved, so is the whole
   pub proved : AreProvedBy d ps sets left → AreProvedBy d ps (set ∷ []) lines
   -- the first fault of the rest is that of the whole
-  pub first : (m : ℕ) (f : NodeFault) → IsFirstNodeFault limited d ps k sets left m f → IsFirstNodeFault limited d ps 0 (set ∷ []) lines m f
+  pub first : (m : ℕ) (f : NodeFault) → IsFirstNodeFault with_limits d ps k sets left m f → IsFirstNodeFault with_limits d ps 0 (set ∷ []) lines m f

@@ -22,12 +22,12 @@ use Rattle.wh_covering.specs.declared.fault.LineFault.TheVariants as line
 
 -- whether numbers may be as large as they like, or values that exceed the limits of a program are a fault of their own (ours)
 pub data Limits : Type 0 where
-  unlimited limited : Limits
+  without_limits with_limits : Limits
 
 -- with limits, no value on the way exceeds one; without, nothing is asked
 abbrev pub StaysWithin : Limits → Run Polynomial → Type 0
-StaysWithin unlimited run = Unit {0}
-StaysWithin limited run = (w : Polynomial) → Contains run.values w → Exceeds w → ⊥
+StaysWithin without_limits run = Unit {0}
+StaysWithin with_limits run = (w : Polynomial) → Contains run.values w → Exceeds w → ⊥
 
 -- some value on the way exceeds this limit
 abbrev pub RunExceeds : Run Polynomial → Excess → Type 0
@@ -42,8 +42,8 @@ IsFirstFaultOfMoves true left right ms f = IsFirstStrictCoverFault left right ms
 abbrev pub IsFirstLineFault : Limits → Run Polynomial → Run Polynomial → Bool → List Transfer → LineFault → Type 0
 IsFirstLineFault limits left right strict ms (line.Cover f) =
     StaysWithin limits left × StaysWithin limits right × IsFirstFaultOfMoves strict left.result right.result ms f
-IsFirstLineFault limited left right strict ms (line.Exceeds e) = RunExceeds left e ⊎ (StaysWithin limited left × RunExceeds right e)
-IsFirstLineFault unlimited left right strict ms (line.Exceeds e) = ⊥
+IsFirstLineFault with_limits left right strict ms (line.Exceeds e) = RunExceeds left e ⊎ (StaysWithin with_limits left × RunExceeds right e)
+IsFirstLineFault without_limits left right strict ms (line.Exceeds e) = ⊥
 
 -- nothing is wrong with it
 abbrev pub IsRightLine : Limits → Run Polynomial → Run Polynomial → Bool → List Transfer → Type 0
@@ -128,6 +128,6 @@ IsFirstCoveringFault limits S rules pairs set symbols marks rule_lines pair_line
 -- the sides of the rules and of the pairs of the set are evaluated without a value that exceeds a limit
 pub record IsSmall (S : Symbols) (rules : List RewriteRule) (pairs : List PairData) (set : List ℕ) (symbols : List Interpretation)
     (marks : List Mark) : Type 0 where
-  pub of_rules : (r : RewriteRule) (right : Bool) → Contains rules r → StaysWithin limited (rule_run symbols r right)
+  pub of_rules : (r : RewriteRule) (right : Bool) → Contains rules r → StaysWithin with_limits (rule_run symbols r right)
   pub of_pairs : (n : ℕ) (p : PairData) (right : Bool) → Contains set n → slice_get pairs n ≡ Some p
-      → StaysWithin limited (pair_run S rules symbols marks p right)
+      → StaysWithin with_limits (pair_run S rules symbols marks p right)
