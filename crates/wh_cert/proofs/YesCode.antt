@@ -3,7 +3,7 @@ use Rattle.std.proofs.Common.{◌≡◌, ℕ, zero, suc, ◌+◌, ◌<◌, ◌==
 use Rattle.std.proofs.lemmas.Bool.{cond-true, eq-eqb}
 use Rattle.std.proofs.lemmas.List.{drop_more}
 use Rattle.wh_cert.specs.Said.{said_arg, said_node}
-use Rattle.wh_cert.specs.YesMachine.{Behind, of_block, list_ended, word, LineStep, on, refused, spelling, word_on, word_step}
+use Rattle.wh_cert.specs.YesMachine.{Behind, of_block, list_ended, word, on, refused, spelling, word_step}
 use Rattle.wh_cert.specs.YesViews.{behind_of, next_block, yes_place}
 use Rattle.wh_cert.specs.declared.yes_line.Listed.TheVariants as listed
 use Rattle.wh_cert.specs.declared.yes_line.YesBehind.{YesBehind}
@@ -31,7 +31,7 @@ block_ended zero parts xs = refl
 block_ended (suc left) parts xs = refl
 
 -- what stands behind a word does not depend on the place
-pub behind_same : (o : YesBehind) (l : YesLine) (p : YesPlace) → behind_of o (record { place = p; numbers = l.numbers; parts = l.parts; args = l.args; name = l.name; lines = l.lines }) ≡ behind_of o l
+behind_same : (o : YesBehind) (l : YesLine) (p : YesPlace) → behind_of o (record { place = p; numbers = l.numbers; parts = l.parts; args = l.args; name = l.name; lines = l.lines }) ≡ behind_of o l
 behind_same (behind.List listed.Ranks) l p = refl
 behind_same (behind.List (listed.Block left)) l p = refl
 behind_same (behind.List listed.Drop) l p = refl
