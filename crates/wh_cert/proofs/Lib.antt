@@ -16,6 +16,7 @@ pub mod Reached
 pub mod LineComplete
 pub mod LineEnds
 pub mod Whole
+pub mod TextLengths
 pub mod RawLaws
 pub mod TypeCode
 pub mod PolyCode

@@ -4,6 +4,7 @@ pub mod Limits
 pub mod Interps
 pub mod PolyText
 pub mod PolyLimits
+pub mod PolyCounts
 pub mod CertText
 pub mod Said
 pub mod TypeMachine

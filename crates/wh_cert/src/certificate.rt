@@ -2,10 +2,10 @@
 
 ghost use Rattle.std.specs.Prelude.{◌≡◌, [], ◌∷◌, ◌++◌, IfOk, OnOk, OnErr};
 
+use crate::poly_node::PolyNode;
 use std::alloc::{AllocError, Global};
 use std::marker::Model;
 use thiserror::Error;
-use crate::poly_node::PolyNode;
 use wh_terms::{Path, Step};
 use wh_text::{Name, RawTerm, RawType};
 use wh_types::{Blocks, Numbers};

@@ -1,8 +1,9 @@
 //! Certificates and their texts determine one another.
 
-ghost use Rattle.std.specs.Prelude.{◌≡◌, ℕ, List, [], ◌++◌};
+ghost use Rattle.std.specs.Prelude.{◌≡◌, ℕ, List, [], ◌++◌, length};
 ghost use Rattle.wh_cert.specs.Written.{Cert};
 ghost use Rattle.wh_cert.specs.CertText.{CertText, SyntaxAt};
+ghost use Rattle.wh_cert.specs.PolyCounts.{AllPolysWithin};
 
 /// A text is that of one certificate. So reading the text of a certificate gives it back.
 pub fn one_certificate()
@@ -22,4 +23,9 @@ pub fn no_proper_prefix()
 /// Bytes have one place where they stop being the front of a certificate text.
 pub fn one_place()
     ensures { (bytes : List ℕ) (n m : ℕ) → SyntaxAt bytes n → SyntaxAt bytes m → n ≡ m }
+{}
+
+/// No list inside a polynomial has more entries than the text has bytes. So a text below 2^32 bytes keeps their limit.
+pub fn polynomials_short()
+    ensures { (bytes : List ℕ) (c : Cert) → CertText bytes c → AllPolysWithin (length bytes) c }
 {}

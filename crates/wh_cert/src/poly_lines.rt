@@ -453,7 +453,12 @@ impl PolyLines {
     }
 
     /// An amount goes on with the byte, or has ended before it.
-    fn step_amount(&mut self, alloc: Global, number: u128, byte: u8) -> Result<LinesStep, AllocError>
+    fn step_amount(
+        &mut self,
+        alloc: Global,
+        number: u128,
+        byte: u8,
+    ) -> Result<LinesStep, AllocError>
         ensures { IfOk result (λ went. lines_went went self.new
             ≡ lines_step (lines_of self.old) (amount self.old.moves self.old.from self.old.to number) byte) }
     {

@@ -361,7 +361,7 @@ impl PolyText {
     fn end_factor(&mut self, frame: PolyFrame) -> Result<PolyStep, AllocError>
         ensures { IfOk result (λ went. (b : ℕ) → poly_went self.new b went
             ≡ goes (poly_stack self.old.stack.items) (closed_poly (poly frame.part.sum) frame.part.coefficient
-                (add_factor (atoms frame.part.atoms) frame.head (polys frame.args)))) }
+            (add_factor (atoms frame.part.atoms) frame.head (polys frame.args)))) }
     {
         let PolyFrame { part, head, args } = frame;
         self.part = part;

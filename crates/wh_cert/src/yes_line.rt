@@ -174,7 +174,6 @@ impl YesLine {
     }
 
     /// The next byte of a fixed word.
-    #[tactic(auto, using(crate::proofs::YesCode::behind_same))]
     fn step_word(
         &mut self,
         alloc: Global,
