@@ -2,14 +2,13 @@
 -- among others.
 use Rattle.std.proofs.Common.{◌≡◌, ◌<◌, ◌+◌, ℕ, zero, suc, Bool, true, false, List, [], ◌∷◌, ◌++◌, length, map, get_or, refl, ap, sym, subst, ◌∙◌, arith, Some, slice_get, Contains}
 use Rattle.std.proofs.lemmas.Option.{none-some, same_Some}
-use Rattle.std.proofs.lemmas.List.{length-map}
 use Rattle.wh_types.specs.Ty.{Ty, sort}
-use Rattle.wh_terms.specs.Tree.{Tm, Tms}
-use Rattle.wh_terms.specs.Sight.{NoFree, AllNoFree}
-use Rattle.wh_terms.specs.Typing.{Symbols, Declared, Typed, AllTyped, typed_none, typed_more}
+use Rattle.wh_terms.specs.Tree.{Tms}
+use Rattle.wh_terms.specs.Sight.{AllNoFree}
+use Rattle.wh_terms.specs.Typing.{Symbols, Declared, AllTyped, typed_none, typed_more}
 use Rattle.wh_terms.specs.Rules.{RewriteRule}
 use Rattle.wh_system.specs.PairData.{PairData}
-use Rattle.wh_hopoly.specs.Evaluation.{Expression, symbol, apply, Interpretation, interpretation_at, TypedExpression, NormalInterpretations}
+use Rattle.wh_hopoly.specs.Evaluation.{Expression, symbol, apply, Interpretation, TypedExpression, NormalInterpretations}
 use Rattle.wh_hopoly.specs.Polynomials.{Normal}
 use Rattle.wh_hopoly.proofs.ValueLaws.{interpretation_is}
 use Rattle.wh_polycheck.specs.Sides.{types_of_metas, side, side_applied, marked_expression, Interprets}

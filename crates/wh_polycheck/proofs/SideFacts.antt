@@ -1,5 +1,5 @@
 -- What is known of the sides of rules and pairs where they are evaluated, and what the evaluation answers.
-use Rattle.std.proofs.Common.{◌≡◌, ◌<◌, ℕ, zero, suc, Bool, true, false, List, [], ◌∷◌, length, map, get_or, take, unwrap_or, Result, Ok, Err, IfOk, refl, ap, ap₂, sym, subst, ◌∙◌, arith, Some, slice_get, Contains}
+use Rattle.std.proofs.Common.{◌≡◌, ◌<◌, ℕ, zero, suc, Bool, true, false, List, [], ◌∷◌, length, map, get_or, take, unwrap_or, Result, Ok, Err, IfOk, refl, ap, ap₂, sym, ◌∙◌, arith, Some, slice_get}
 use Rattle.std.proofs.lemmas.List.{length-map}
 use Rattle.std.proofs.lemmas.Result.{IfOk-weaker}
 use Rattle.wh_types.specs.Ty.{Ty, sort, arguments}

@@ -1,5 +1,5 @@
 -- The mark stands alone behind the symbols, where its call comes to the same as among all marks.
-use Rattle.std.proofs.Common.{◌≡◌, List, [], ◌∷◌, ◌++◌, length, map, ap, sym, subst, ◌∙◌, IfOk, arith, rules}
+use Rattle.std.proofs.Common.{◌≡◌, [], ◌∷◌, ◌++◌, length, map, ap, sym, ◌∙◌, IfOk, rules}
 use Rattle.std.proofs.lemmas.List.{length-map}
 use Rattle.std.proofs.lemmas.Result.{IfOk-weaker}
 use mathlib.Core.Path.{subst₂}
@@ -10,8 +10,8 @@ use Rattle.wh_terms.specs.Tree.{tms_of}
 use Rattle.wh_terms.specs.Erase.{tm, list, declared_metas}
 use Rattle.wh_system.specs.SystemView.{system_data}
 use Rattle.wh_hopoly.specs.Erase.{poly, expression, interpretation, interpretations}
-use Rattle.wh_hopoly.specs.Evaluation.{Expression, symbol, Interpretation, evaluate, TypedExpression}
-use Rattle.wh_hopoly.specs.Outcomes.{ComesTo, IsFaultOf, applied_to}
+use Rattle.wh_hopoly.specs.Evaluation.{Interpretation, evaluate, TypedExpression}
+use Rattle.wh_hopoly.specs.Outcomes.{ComesTo, IsFaultOf}
 use Rattle.wh_polycheck.specs.Sides.{types_of_metas, marked_expression}
 use Rattle.wh_polycheck.specs.Marks.{with_marks, mark_number, marked_interpretation}
 use Rattle.wh_polycheck.specs.SideResults.{mark, marks_of}

@@ -1,5 +1,5 @@
 -- A side of a rule of a well-made system is a typed expression.
-use Rattle.std.proofs.Common.{◌≡◌, ◌<◌, Bool, true, false, length, sym, ap, subst, ◌∙◌, IfOk, Some, slice_get, arith}
+use Rattle.std.proofs.Common.{◌≡◌, ◌<◌, Bool, true, false, length, sym, ap, subst, ◌∙◌, IfOk, arith}
 use Rattle.std.proofs.lemmas.List.{length-map}
 use Rattle.wh_types.specs.Outcome.{IfBecause}
 use Rattle.wh_terms.specs.Rules.{RewriteRule}
