@@ -16,7 +16,8 @@ pub mapped_push : {A B C : Type 0} (f : A → C) (g : B → C) (out longer : Lis
     → map f longer ≡ map g (take (i + 1) xs)
 mapped_push f g out longer xs i r x same pushed equal within there =
     ap (map f) pushed ∙ map-append f out (r ∷ []) ∙ ap₂ (λ l c. l ++ c ∷ []) same equal
-    ∙ sym (rw (add-one, take-suc xs i x within) (map-append g (take i xs) (get_or xs i x ∷ []) ∙ ap (λ y. map g (take i xs) ++ g y ∷ []) (sym there)))
+    ∙ sym (rw (add-one, take-suc xs i x within) (map-append g (take i xs) (get_or xs i x ∷ [])
+    ∙ ap (λ y. map g (take i xs) ++ g y ∷ []) (sym there)))
 
 -- the type of a meta-variable
 abbrev pub meta_type : MetaDecl → Ty
