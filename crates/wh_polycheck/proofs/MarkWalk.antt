@@ -1,9 +1,9 @@
 -- The search for the mark of a symbol, mark by mark.
-use Rattle.std.proofs.Common.{◌≡◌, ◌<◌, ◌≤◌, ◌+◌, ◌==◌, ℕ, zero, suc, Bool, true, false, if◌then◌else◌, List, [], ◌∷◌, length, drop, get_or, refl, ap, sym, ◌∙◌, arith, Some, slice_get}
+use Rattle.std.proofs.Common.{◌≡◌, ◌<◌, ◌≤◌, ◌+◌, ℕ, zero, suc, List, [], ◌∷◌, length, drop, get_or, ap, sym, ◌∙◌, arith, Some, slice_get}
 use Rattle.std.proofs.lemmas.List.{length-map}
 use Rattle.std.proofs.lemmas.Option.{slice_get_within}
 use Rattle.wh_polycheck.specs.declared.marks.MarkedSymbol.{MarkedSymbol}
-use Rattle.wh_polycheck.specs.Marks.{Mark, place_of, HasMark}
+use Rattle.wh_polycheck.specs.Marks.{place_of, HasMark}
 use Rattle.wh_polycheck.specs.SideResults.{mark, marks_of}
 use Rattle.wh_polycheck.proofs.MoreInterpretations.{mark_at}
 
@@ -28,15 +28,16 @@ Passed xs f i = place_of (marks_of xs) f ≡ i + place_of (marks_of (drop i xs))
 pub none_passed : (xs : List MarkedSymbol) (f : ℕ) → Passed xs f 0
 none_passed xs f = omega arith
 
-pub one_passed : (xs : List MarkedSymbol) (f i : ℕ) (x : MarkedSymbol) → Passed xs f i → i < length xs → x ≡ get_or xs i x → (x.symbol ≡ f → ⊥)
-    → Passed xs f (i + 1)
+pub one_passed : (xs : List MarkedSymbol) (f i : ℕ) (x : MarkedSymbol) → Passed xs f i → i < length xs → x ≡ get_or xs i x
+    → (x.symbol ≡ f → ⊥) → Passed xs f (i + 1)
 one_passed xs f i x passed within there other =
     let e = place_behind xs i x f within there other in
     let s : suc i ≡ i + 1 = omega arith in
     let g = ap (λ j. place_of (marks_of (drop j xs)) f) s in
     omega (arith, e, g, passed)
 
-mark_there : (xs : List MarkedSymbol) (i : ℕ) (x : MarkedSymbol) → i < length xs → x ≡ get_or xs i x → slice_get (marks_of xs) i ≡ Some (mark x)
+mark_there : (xs : List MarkedSymbol) (i : ℕ) (x : MarkedSymbol) → i < length xs → x ≡ get_or xs i x
+    → slice_get (marks_of xs) i ≡ Some (mark x)
 mark_there [] i x within there = absurd (omega arith)
 mark_there (y ∷ xs) zero x within there = ap (λ m. Some (mark m)) (sym there)
 mark_there (y ∷ xs) (suc i) x within there = mark_there xs i x (omega arith) there

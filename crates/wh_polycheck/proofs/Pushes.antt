@@ -1,12 +1,11 @@
 -- Lists that are made element by element, and types that are made from the last argument on.
 use Rattle.std.proofs.Common.{◌≡◌, ◌<◌, ◌≤◌, ◌+◌, ◌-◌, ℕ, zero, suc, List, [], ◌∷◌, ◌++◌, length, map, take, drop, get_or, refl, ap, ap₂, sym, ◌∙◌, add-one, arith}
 use Rattle.std.proofs.Math.Seq.{take-suc, drop-cons}
-use Rattle.std.proofs.lemmas.List.{take_all, drop_all, map-append}
+use Rattle.std.proofs.lemmas.List.{map-append}
 use Rattle.wh_types.specs.Ty.{Ty, sort, ◌⇒◌, arguments}
 use Rattle.wh_types.specs.Erase.{ty, tys}
 use Rattle.wh_types.specs.declared.simple_type.SimpleType.{SimpleType}
-use Rattle.wh_terms.specs.Typing.{Declared}
-use Rattle.wh_terms.specs.Erase.{declared_meta, declared_metas}
+use Rattle.wh_terms.specs.Erase.{declared_metas}
 use Rattle.wh_terms.specs.declared.rule.MetaDecl.{MetaDecl}
 use Rattle.wh_hopoly.specs.Evaluation.{type_at}
 use Rattle.wh_polycheck.specs.Sides.{arrows, types_of_metas}
@@ -17,7 +16,8 @@ pub mapped_push : {A B C : Type 0} (f : A → C) (g : B → C) (out longer : Lis
     → map f longer ≡ map g (take (i + 1) xs)
 mapped_push f g out longer xs i r x same pushed equal within there =
     ap (map f) pushed ∙ map-append f out (r ∷ []) ∙ ap₂ (λ l c. l ++ c ∷ []) same equal
-    ∙ sym (rw (add-one, take-suc xs i x within) (map-append g (take i xs) (get_or xs i x ∷ []) ∙ ap (λ y. map g (take i xs) ++ g y ∷ []) (sym there)))
+    ∙ sym (rw (add-one, take-suc xs i x within) (map-append g (take i xs) (get_or xs i x ∷ [])
+    ∙ ap (λ y. map g (take i xs) ++ g y ∷ []) (sym there)))
 
 -- the type of a meta-variable
 abbrev pub meta_type : MetaDecl → Ty

@@ -12,7 +12,8 @@ use Rattle.wh_polycheck.specs.Sides.{side, side_applied}
 pub side_of_meta : (n : ℕ) (t : Term) (z : ℕ) (ts : Terms) → t ≡ Meta z ts → side n (tm t) ≡ side_applied n (var z) (terms ts)
 side_of_meta n t z ts e = ap (side n) (tm_of_meta t z ts e)
 
-applied_last : (n : ℕ) (e : Expression) (ts : Tms) (t : Tm) → side_applied n e (join ts (more t none)) ≡ apply (side_applied n e ts) (side n t)
+applied_last : (n : ℕ) (e : Expression) (ts : Tms) (t : Tm)
+    → side_applied n e (join ts (more t none)) ≡ apply (side_applied n e ts) (side n t)
 applied_last n e none t = refl
 applied_last n e (more u us) t = applied_last n (apply e (side n u)) us t
 
@@ -21,9 +22,11 @@ pub applied_next : (n : ℕ) (e : Expression) (xs : List Term) (i : ℕ) (t : Te
     → before ≡ side_applied n e (tms (take i xs)) → d ≡ side n (tm t) → after ≡ apply before d → i < length xs → t ≡ get_or xs i t
     → after ≡ side_applied n e (tms (take (i + 1) xs))
 applied_next n e xs i t before after d same is made within there =
-    made ∙ ap₂ apply same is ∙ sym (applied_last n e (tms (take i xs)) (tm t)) ∙ ap (side_applied n e) (sym (tms_take_next xs i t within there))
+    made ∙ ap₂ apply same is ∙ sym (applied_last n e (tms (take i xs)) (tm t))
+    ∙ ap (side_applied n e) (sym (tms_take_next xs i t within there))
 
 -- all arguments in turn
-pub applied_in_turn : (n : ℕ) (e : Expression) (xs : List Term) → applied_to e (map (λ t. side n (tm t)) xs) ≡ side_applied n e (tms_of (map tm xs))
+pub applied_in_turn : (n : ℕ) (e : Expression) (xs : List Term)
+    → applied_to e (map (λ t. side n (tm t)) xs) ≡ side_applied n e (tms_of (map tm xs))
 applied_in_turn n e [] = refl
 applied_in_turn n e (x ∷ xs) = applied_in_turn n (apply e (side n (tm x))) xs

@@ -35,12 +35,7 @@ pub fn expression_of(alloc: Global, term: &Term, scope: u32) -> Result<Expr, All
 
 // The variable applied to the terms in turn.
 #[cycle(expressions)]
-fn meta_applied(
-    alloc: Global,
-    variable: u32,
-    items: &Terms,
-    scope: u32,
-) -> Result<Expr, AllocError>
+fn meta_applied(alloc: Global, variable: u32, items: &Terms, scope: u32) -> Result<Expr, AllocError>
     ensures { IfOk result (λ e. expression e ≡ side_applied scope (var variable) (terms items.now)) }
 {
     let mut whole = Expr::Var(variable);

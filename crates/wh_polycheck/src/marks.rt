@@ -50,11 +50,7 @@ pub fn kind_of_mark(alloc: Global, system: &System, symbol: u32) -> Result<Simpl
 }
 
 // The type of functions of the first arguments of the type to a sort.
-fn of_first_arguments(
-    alloc: Global,
-    kind: &SimpleType,
-    need: u32,
-) -> Result<SimpleType, AllocError>
+fn of_first_arguments(alloc: Global, kind: &SimpleType, need: u32) -> Result<SimpleType, AllocError>
     ensures { IfOk result (λ r. ty r ≡ arrows (take need (arguments (ty kind.now))) (sort 0)) }
 {
     if need == 0 {

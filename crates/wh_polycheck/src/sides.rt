@@ -88,9 +88,25 @@ pub fn side_of_pair(
     ensures fault { IfBecause result (λ e. IsFaultOfPairSide (system_data system.now).symbols (system_data system.now).rules (interpretations symbols.now) (marks_of marks.now) (pair_data pair.now) right e) }
 {
     if right {
-        normal_of_marked(alloc, system, symbols, marks, &pair.metas, pair.right_fun, &pair.right)
+        normal_of_marked(
+            alloc,
+            system,
+            symbols,
+            marks,
+            &pair.metas,
+            pair.right_fun,
+            &pair.right,
+        )
     } else {
-        normal_of_marked(alloc, system, symbols, marks, &pair.metas, pair.left_fun, &pair.left)
+        normal_of_marked(
+            alloc,
+            system,
+            symbols,
+            marks,
+            &pair.metas,
+            pair.left_fun,
+            &pair.left,
+        )
     }
 }
 
@@ -118,5 +134,12 @@ fn normal_of_marked(
     let kind = kind_of_mark(alloc, system, mark.symbol)?;
     let scope = scope_of(alloc, metas)?;
     let args = expressions_of(alloc, terms, counted(scope.len())?)?;
-    normal_call(alloc, &kind, &mark.poly, args.as_slice(), scope.as_slice(), symbols)
+    normal_call(
+        alloc,
+        &kind,
+        &mark.poly,
+        args.as_slice(),
+        scope.as_slice(),
+        symbols,
+    )
 }

@@ -2,7 +2,6 @@
 use Rattle.std.proofs.Common.{◌≡◌, sym, subst, IfOk}
 use Rattle.wh_hopoly.specs.Erase.{expression}
 use Rattle.wh_hopoly.specs.Evaluation.{Expression, var}
-use Rattle.wh_polycheck.specs.Sides.{side, side_applied}
 use Rattle.wh_polycheck.proofs.SideWalk.{side_of_meta, applied_next}
 use Rattle.wh_polycheck.proofs.expressions.+expressions.Goals as goal
 

@@ -1,5 +1,5 @@
 -- The type of the symbol, and how many of its arguments are needed.
-use Rattle.std.proofs.Common.{◌≡◌, unwrap_or, take, ap, sym, subst, ◌∙◌, IfOk, rules}
+use Rattle.std.proofs.Common.{◌≡◌, unwrap_or, ap, sym, subst, ◌∙◌, IfOk, rules}
 use Rattle.wh_types.specs.Erase.{ty, tys}
 use Rattle.wh_types.specs.Ty.{Ty, sort}
 use Rattle.wh_system.specs.Needs.{need_of}

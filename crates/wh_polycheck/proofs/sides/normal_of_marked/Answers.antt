@@ -1,5 +1,5 @@
 -- The mark stands alone behind the symbols, where its call comes to the same as among all marks.
-use Rattle.std.proofs.Common.{◌≡◌, List, [], ◌∷◌, ◌++◌, length, map, ap, sym, subst, ◌∙◌, IfOk, arith, rules}
+use Rattle.std.proofs.Common.{◌≡◌, [], ◌∷◌, ◌++◌, length, map, ap, sym, ◌∙◌, IfOk, rules}
 use Rattle.std.proofs.lemmas.List.{length-map}
 use Rattle.std.proofs.lemmas.Result.{IfOk-weaker}
 use mathlib.Core.Path.{subst₂}
@@ -10,8 +10,8 @@ use Rattle.wh_terms.specs.Tree.{tms_of}
 use Rattle.wh_terms.specs.Erase.{tm, list, declared_metas}
 use Rattle.wh_system.specs.SystemView.{system_data}
 use Rattle.wh_hopoly.specs.Erase.{poly, expression, interpretation, interpretations}
-use Rattle.wh_hopoly.specs.Evaluation.{Expression, symbol, Interpretation, evaluate, TypedExpression}
-use Rattle.wh_hopoly.specs.Outcomes.{ComesTo, IsFaultOf, applied_to}
+use Rattle.wh_hopoly.specs.Evaluation.{Interpretation, evaluate, TypedExpression}
+use Rattle.wh_hopoly.specs.Outcomes.{ComesTo, IsFaultOf}
 use Rattle.wh_polycheck.specs.Sides.{types_of_metas, marked_expression}
 use Rattle.wh_polycheck.specs.Marks.{with_marks, mark_number, marked_interpretation}
 use Rattle.wh_polycheck.specs.SideResults.{mark, marks_of}
@@ -31,8 +31,9 @@ normal_call-requires-clause-typed c =
     let scope : map ty c.as_slice-2.result.now ≡ types_of_metas M = ap (map ty) c.as_slice-2.ensures.value ∙ c.in_ok-scope.ensures in
     let count : c.in_ok-counted.field-0 ≡ length c.as_slice-2.result.now = search rules in
     let long = scope_counted c.as_slice-2.result.now (types_of_metas M) c.in_ok-counted.field-0 scope count in
-    let whole = call_told M c.in_ok-counted.field-0 (length c.args.symbols.now) (length symbols) (list c.args.terms.now) (map expression c.as_slice.result.now)
-    long (ap (map expression) c.as_slice.ensures.value ∙ c.in_ok-args.ensures) (sym (length-map c.args.symbols.now interpretation)) in
+    let whole = call_told M c.in_ok-counted.field-0 (length c.args.symbols.now) (length symbols) (list c.args.terms.now)
+    (map expression c.as_slice.result.now) long (ap (map expression) c.as_slice.ensures.value ∙ c.in_ok-args.ensures)
+    (sym (length-map c.args.symbols.now interpretation)) in
     subst₂ (TypedExpression (symbols ++ a ∷ [])) (sym scope) (sym whole)
     (alone_typed d.symbols d.rules symbols c.requires.interpreted (marks_of c.args.marks.now) c.args.fun (mark c.mark_of-mark.result.now)
     c.mark_of-mark.ensures c.requires.marked a is M (tms_of (map tm (list c.args.terms.now))) c.requires.typed c.requires.closed)
@@ -60,16 +61,19 @@ returns-clause-ok c =
     let scope : map ty c.as_slice-2.result.now ≡ types_of_metas M = ap (map ty) c.as_slice-2.ensures.value ∙ c.in_ok-scope.ensures in
     let count : c.in_ok-counted.field-0 ≡ length c.as_slice-2.result.now = search rules in
     let long = scope_counted c.as_slice-2.result.now (types_of_metas M) c.in_ok-counted.field-0 scope count in
-    let whole = call_told M c.in_ok-counted.field-0 (length c.args.symbols.now) (length symbols) (list c.args.terms.now) (map expression c.as_slice.result.now)
-    long (ap (map expression) c.as_slice.ensures.value ∙ c.in_ok-args.ensures) (sym (length-map c.args.symbols.now interpretation)) in
+    let whole = call_told M c.in_ok-counted.field-0 (length c.args.symbols.now) (length symbols) (list c.args.terms.now)
+    (map expression c.as_slice.result.now) long (ap (map expression) c.as_slice.ensures.value ∙ c.in_ok-args.ensures)
+    (sym (length-map c.args.symbols.now interpretation)) in
     let alike = alone_alike d.symbols d.rules symbols c.requires.interpreted marks c.args.fun (mark c.mark_of-mark.result.now)
     c.mark_of-mark.ensures c.requires.marked a is M ts c.requires.typed c.requires.closed in
     let all = with_marks d.symbols d.rules symbols marks in
     let e = marked_expression M (length symbols) ts in
     let f = marked_expression M (mark_number symbols marks c.args.fun) ts in
-    IfOk-weaker c.normal_call.result (λ p. ComesTo (evaluate (symbols ++ a ∷ []) (types_of_metas M) e) (poly p)) (λ p. ComesTo (evaluate all (types_of_metas M) f) (poly p))
+    IfOk-weaker c.normal_call.result (λ p. ComesTo (evaluate (symbols ++ a ∷ []) (types_of_metas M) e) (poly p))
+    (λ p. ComesTo (evaluate all (types_of_metas M) f) (poly p))
     (λ p h. comes_to_alike (symbols ++ a ∷ []) all (types_of_metas M) e f alike (poly p) h)
-    (subst₂ (λ Γ e. IfOk c.normal_call.result (λ p. ComesTo (evaluate (symbols ++ a ∷ []) Γ e) (poly p))) scope whole c.normal_call.ensures.ok)
+    (subst₂ (λ Γ e. IfOk c.normal_call.result (λ p. ComesTo (evaluate (symbols ++ a ∷ []) Γ e) (poly p))) scope whole
+    c.normal_call.ensures.ok)
 
 pub returns-clause-fault : goal.returns-clause-fault
 returns-clause-fault c =
@@ -84,8 +88,9 @@ returns-clause-fault c =
     let scope : map ty c.as_slice-2.result.now ≡ types_of_metas M = ap (map ty) c.as_slice-2.ensures.value ∙ c.in_ok-scope.ensures in
     let count : c.in_ok-counted.field-0 ≡ length c.as_slice-2.result.now = search rules in
     let long = scope_counted c.as_slice-2.result.now (types_of_metas M) c.in_ok-counted.field-0 scope count in
-    let whole = call_told M c.in_ok-counted.field-0 (length c.args.symbols.now) (length symbols) (list c.args.terms.now) (map expression c.as_slice.result.now)
-    long (ap (map expression) c.as_slice.ensures.value ∙ c.in_ok-args.ensures) (sym (length-map c.args.symbols.now interpretation)) in
+    let whole = call_told M c.in_ok-counted.field-0 (length c.args.symbols.now) (length symbols) (list c.args.terms.now)
+    (map expression c.as_slice.result.now) long (ap (map expression) c.as_slice.ensures.value ∙ c.in_ok-args.ensures)
+    (sym (length-map c.args.symbols.now interpretation)) in
     let alike = alone_alike d.symbols d.rules symbols c.requires.interpreted marks c.args.fun (mark c.mark_of-mark.result.now)
     c.mark_of-mark.ensures c.requires.marked a is M ts c.requires.typed c.requires.closed in
     let all = with_marks d.symbols d.rules symbols marks in

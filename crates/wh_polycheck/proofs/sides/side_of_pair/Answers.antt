@@ -1,45 +1,32 @@
 -- The marked call is a typed expression over the marks, so that its result is a normal form, and a fault's value one on the way.
-use Rattle.std.proofs.Common.{Bool, true, false, sym, subst, IfOk}
-use Rattle.wh_types.specs.Outcome.{IfBecause}
+use Rattle.std.proofs.Common.{true, false}
 use Rattle.wh_system.specs.PairData.{pair_data}
 use Rattle.wh_system.specs.SystemView.{system_data}
-use Rattle.wh_hopoly.specs.Erase.{poly, interpretations}
-use Rattle.wh_polycheck.specs.SideResults.{marks_of, PairSideComesTo, IsFaultOfPairSide}
+use Rattle.wh_hopoly.specs.Erase.{interpretations}
+use Rattle.wh_polycheck.specs.SideResults.{marks_of}
 use Rattle.wh_polycheck.proofs.SideFacts.{pair_side_normal, pair_side_fault}
 use Rattle.wh_polycheck.proofs.sides.side_of_pair.Goals as goal
 
 pub returns-then-right-clause-ok : goal.returns-then-right-clause-ok
 returns-then-right-clause-ok c =
     let d = system_data c.args.system.now in
-    let symbols = interpretations c.args.symbols.now in
-    let marks = marks_of c.args.marks.now in
-    let a = pair_data c.args.pair.now in
-    subst (λ (right : Bool). IfOk c.normal_of_marked.result (λ p. PairSideComesTo d.symbols d.rules symbols marks a right (poly p))) (sym c.if-right.true)
-    (pair_side_normal d.symbols d.rules symbols marks a c.requires.interpreted c.requires.sides true c.normal_of_marked.result c.normal_of_marked.ensures.ok)
+    pair_side_normal d.symbols d.rules (interpretations c.args.symbols.now) (marks_of c.args.marks.now) (pair_data c.args.pair.now) c.args.right
+    true c.if-right.true c.normal_of_marked.result c.requires.interpreted c.requires.sides c.normal_of_marked.ensures.ok
 
 pub returns-then-right-clause-fault : goal.returns-then-right-clause-fault
 returns-then-right-clause-fault c =
     let d = system_data c.args.system.now in
-    let symbols = interpretations c.args.symbols.now in
-    let marks = marks_of c.args.marks.now in
-    let a = pair_data c.args.pair.now in
-    subst (λ (right : Bool). IfBecause c.normal_of_marked.result (IsFaultOfPairSide d.symbols d.rules symbols marks a right)) (sym c.if-right.true)
-    (pair_side_fault d.symbols d.rules symbols marks a true c.normal_of_marked.result c.normal_of_marked.ensures.fault)
+    pair_side_fault d.symbols d.rules (interpretations c.args.symbols.now) (marks_of c.args.marks.now) (pair_data c.args.pair.now) c.args.right
+    true c.if-right.true c.normal_of_marked.result c.normal_of_marked.ensures.fault
 
 pub returns-else-right-clause-ok : goal.returns-else-right-clause-ok
 returns-else-right-clause-ok c =
     let d = system_data c.args.system.now in
-    let symbols = interpretations c.args.symbols.now in
-    let marks = marks_of c.args.marks.now in
-    let a = pair_data c.args.pair.now in
-    subst (λ (right : Bool). IfOk c.normal_of_marked-else-right.result (λ p. PairSideComesTo d.symbols d.rules symbols marks a right (poly p))) (sym c.if-right.false)
-    (pair_side_normal d.symbols d.rules symbols marks a c.requires.interpreted c.requires.sides false c.normal_of_marked-else-right.result c.normal_of_marked-else-right.ensures.ok)
+    pair_side_normal d.symbols d.rules (interpretations c.args.symbols.now) (marks_of c.args.marks.now) (pair_data c.args.pair.now) c.args.right
+    false c.if-right.false c.normal_of_marked-else-right.result c.requires.interpreted c.requires.sides c.normal_of_marked-else-right.ensures.ok
 
 pub returns-else-right-clause-fault : goal.returns-else-right-clause-fault
 returns-else-right-clause-fault c =
     let d = system_data c.args.system.now in
-    let symbols = interpretations c.args.symbols.now in
-    let marks = marks_of c.args.marks.now in
-    let a = pair_data c.args.pair.now in
-    subst (λ (right : Bool). IfBecause c.normal_of_marked-else-right.result (IsFaultOfPairSide d.symbols d.rules symbols marks a right)) (sym c.if-right.false)
-    (pair_side_fault d.symbols d.rules symbols marks a false c.normal_of_marked-else-right.result c.normal_of_marked-else-right.ensures.fault)
+    pair_side_fault d.symbols d.rules (interpretations c.args.symbols.now) (marks_of c.args.marks.now) (pair_data c.args.pair.now) c.args.right
+    false c.if-right.false c.normal_of_marked-else-right.result c.normal_of_marked-else-right.ensures.fault
