@@ -21,6 +21,6 @@ pub use certificate::{
     YesCertificate,
 };
 pub use laws::{no_proper_prefix, one_certificate, one_place, one_text};
-pub use poly_node::{Covers, Interp, Interps, Moves, PolyNode};
+pub use poly_node::{Interp, Interps, PolyNode};
 pub use print::print_certificate;
 pub use read::read_certificate;

@@ -11,11 +11,11 @@ ghost use Rattle.wh_cert.specs.declared.poly_lines.Section.TheVariants as sectio
 ghost use Rattle.wh_cert.specs.declared.poly_lines.LinesPlace.TheVariants as place;
 
 use crate::letters::{Letters, begins_name, first_big, first_number, next_big, next_number};
-use crate::poly_node::{Covers, Interp, Interps, Moves, PolyNode};
+use crate::poly_node::{Interp, Interps, PolyNode};
 use crate::poly_reader::{PolyStep, PolyText};
 use std::alloc::{AllocError, Global};
 use std::mem;
-use wh_hopoly::{Move, Poly};
+use wh_hopoly::{Covers, Move, Moves, Poly};
 use wh_types::Numbers;
 
 /// Of which kind the last line is.
