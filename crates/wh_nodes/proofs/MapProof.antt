@@ -129,7 +129,7 @@ none_kept = record {
   each = λ n. ((λ never. absurd (none_there n never)), (λ (there, kept). absurd (kept there)));
 }
 
-pub map_proved : Proves map_system.rules (map_pair ∷ []) ((0 ∷ []) ∷ []) map_nodes
+pub map_proved : Proves map_symbols map_system.rules (map_pair ∷ []) ((0 ∷ []) ∷ []) map_nodes
 map_proved = one_proved (by_subterm map_projection none_kept) (one_proved by_done all_proved)
 
 -- the set has all pairs
