@@ -10,17 +10,8 @@ use Rattle.wh_text.specs.Words.{IsName}
 use Rattle.wh_system.specs.Nesting.{type_nesting, TypesNestWithin}
 use Rattle.wh_system.specs.WellMade.{TypesWithin, IsTypeOver, IsDeclarationOver, AreDistinct, AreApart, IsWellMadeSystem}
 use Rattle.wh_nodes.specs.MapSystem.{nat, list, map_symbols, function_meta, plain_meta, map_metas, mapped, cons_term, map_over, map_nil, map_cons, map_system}
+use Rattle.wh_nodes.proofs.FewLemmas.{each_of_two, all_of_two}
 use Rattle.wh_nodes.proofs.NameTests.{is_name, name_by, all_differ, distinct_by, every, all_by, is_apart, apart_by}
-
--- what holds of each of two rules
-
-pub two_rules : (P : RewriteRule → Type 0) (q r : RewriteRule) → P q → P r → (s : RewriteRule) → Contains (q ∷ r ∷ []) s → P s
-two_rules P q r first second s (zero, within, e) = subst P e first
-two_rules P q r first second s (suc zero, within, e) = subst P e second
-two_rules P q r first second s (suc (suc k), within, e) = absurd (omega arith)
-
-all_two : (P : RewriteRule → Type 0) (q r : RewriteRule) → P q → P r → All P (q ∷ r ∷ [])
-all_two P q r first second = All-from_recursion P (q ∷ r ∷ []) (first, (second, tt))
 
 -- types
 
@@ -137,11 +128,11 @@ map_cons_made = record {
 
 -- the rules of the one symbol that has rules have two arguments
 two_arguments : (r : RewriteRule) → Contains map_system.rules r → argument_count r.left ≡ 2
-two_arguments = two_rules (λ r. argument_count r.left ≡ 2) map_nil map_cons refl refl
+two_arguments = each_of_two (λ r. argument_count r.left ≡ 2) map_nil map_cons refl refl
 
 rules_made : AreWellMade map_symbols map_system.rules
 rules_made = record {
-  each = two_rules (IsWellMade map_symbols) map_nil map_cons map_nil_made map_cons_made;
+  each = each_of_two (IsWellMade map_symbols) map_nil map_cons map_nil_made map_cons_made;
   even = λ r s first second same. two_arguments r first ∙ sym (two_arguments s second);
 }
 
@@ -163,13 +154,13 @@ map_made = record {
   sorts_within = omega arith;
   symbols_within = omega arith;
   rules_within = omega arith;
-  metas_within = all_two (λ r. length r.metas ≤ 32) map_nil map_cons (omega arith) (omega arith);
+  metas_within = all_of_two (λ r. length r.metas ≤ 32) map_nil map_cons (omega arith) (omega arith);
   symbol_types = symbols_over;
-  meta_types = all_two (λ r. All (IsDeclarationOver 2) r.metas) map_nil map_cons function_metas_over metas_over;
-  side_types = all_two (λ r. TypesWithin 32 r.left × TypesWithin 32 r.right) map_nil map_cons
+  meta_types = all_of_two (λ r. All (IsDeclarationOver 2) r.metas) map_nil map_cons function_metas_over metas_over;
+  side_types = all_of_two (λ r. TypesWithin 32 r.left × TypesWithin 32 r.right) map_nil map_cons
       (((tt, (tt, (tt, tt))), tt), tt)
       (((tt, (tt, (tt, tt))), ((tt, tt), tt)), ((tt, (tt, tt)), ((tt, (tt, (tt, tt))), tt)));
-  side_types_shallow = all_two (λ r. TypesNestWithin 16 r.left × TypesNestWithin 16 r.right) map_nil map_cons
+  side_types_shallow = all_of_two (λ r. TypesNestWithin 16 r.left × TypesNestWithin 16 r.right) map_nil map_cons
       (((tt, (omega arith, (tt, tt))), tt), tt)
       (((tt, (omega arith, (tt, tt))), ((tt, tt), tt)), ((tt, (tt, tt)), ((tt, (omega arith, (tt, tt))), tt)));
   sorts_named = refl;
