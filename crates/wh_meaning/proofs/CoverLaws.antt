@@ -1,6 +1,6 @@
 -- What the conditions of a node of interpretations say of a set of pairs: its calls end where those by the pairs that are kept do.
-use Rattle.std.proofs.Common.{◌≡◌, ◌⊎◌, ℕ, zero, suc, ◌<◌, inl, inr, List, [], ◌∷◌, length, map, Some, slice_get, get_or, Contains, refl, ap, sym, subst, ◌∙◌}
-use Rattle.std.proofs.lemmas.Option.{none-some, same_Some, slice_get_within, slice_get-get_or}
+use Rattle.std.proofs.Common.{◌≡◌, ◌⊎◌, ℕ, zero, suc, inl, inr, List, [], ◌∷◌, length, map, Some, slice_get, Contains, refl, ap, ◌∙◌}
+use Rattle.std.proofs.lemmas.Option.{none-some, same_Some}
 use Rattle.wh_types.specs.Ty.{Ty}
 use Rattle.wh_terms.specs.Typing.{Symbols}
 use Rattle.wh_terms.specs.Rules.{RewriteRule, AreWellMade}

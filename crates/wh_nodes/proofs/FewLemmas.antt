@@ -1,5 +1,5 @@
 -- Members of lists of one and of two.
-use Rattle.std.proofs.Common.{◌≡◌, ℕ, zero, suc, inl, inr, List, [], ◌∷◌, Some, length, slice_get, All, Contains, refl, subst, arith}
+use Rattle.std.proofs.Common.{◌≡◌, ℕ, zero, suc, inl, inr, [], ◌∷◌, Some, slice_get, All, Contains, refl, subst, arith}
 use Rattle.std.proofs.lemmas.List.Elements.{All-from_recursion}
 use Rattle.wh_pairs.proofs.MemberLemmas.{none_there, at_head, head_or_behind}
 

@@ -13,7 +13,7 @@ use Rattle.wh_hopoly.specs.Moves.{Transfer, Good, NotOverSpent, Covered, IsCover
 use Rattle.wh_polycheck.specs.Marks.{Mark, AreNormalMarks, marked_types}
 use Rattle.wh_meaning.specs.Covering.{rule_run, pair_run, CoversRule, CoversPair, CoversSides, IsCovering}
 use Rattle.wh_nodes.specs.MapSystem.{nat}
-use Rattle.wh_nodes.specs.IdentitySystem.{unary, identity_symbols, identity_rule, count_rule, identity_system, count_pair, call_pair, identity_pairs, itself, one_more, readings, marked_reading, unit_from, rule_moves, pair_moves}
+use Rattle.wh_nodes.specs.IdentitySystem.{unary, identity_symbols, identity_rule, count_rule, identity_system, count_pair, identity_pairs, itself, one_more, readings, marked_reading, unit_from, rule_moves, pair_moves}
 use Rattle.wh_nodes.proofs.FewLemmas.{in_one, from_one, get_one, get_two}
 
 -- the polynomials are normal
@@ -113,7 +113,7 @@ RuleCovered r ms = CoversSides (rule_run readings r false) (rule_run readings r 
 rules_covered : (i : ℕ) → CoversRule readings identity_system.rules rule_moves i
 rules_covered i r ms at line =
     let by_rule = get_two (λ i r. (ms : List Transfer) → slice_get rule_moves i ≡ Some ms → RuleCovered r ms) identity_rule count_rule
-        (λ ms line. subst (RuleCovered identity_rule) (cc) itself_covers) (λ ms line. subst (RuleCovered count_rule) (cc) nothing_covers) in
+    (λ ms line. subst (RuleCovered identity_rule) (cc) itself_covers) (λ ms line. subst (RuleCovered count_rule) (cc) nothing_covers) in
     by_rule i r at ms line
 
 -- the pair
@@ -153,7 +153,8 @@ count_is_marked = record { in_order = tt; each = λ f. (marked f, only f) }
     only f (n, there, (p, found, heading)) = from_one 2 f (sym (heads f p (the_pair n p (in_one 0 n there) found) heading))
 
 -- the conditions of the node
-pub count_covering : IsCovering identity_symbols identity_system.rules identity_pairs (0 ∷ []) readings (marked_reading ∷ []) rule_moves pair_moves (0 ∷ [])
+pub count_covering : IsCovering identity_symbols identity_system.rules identity_pairs (0 ∷ []) readings (marked_reading ∷ []) rule_moves
+    pair_moves (0 ∷ [])
 count_covering = record {
   kinds = refl;
   marked = count_is_marked;

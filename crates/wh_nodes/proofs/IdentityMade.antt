@@ -1,16 +1,16 @@
 -- The worked system that needs interpretations is well made.
-use Rattle.std.proofs.Common.{◌≡◌, ◌≤◌, ℕ, List, [], ◌∷◌, length, All, Contains, inr, true, refl, sym, ◌∙◌, arith}
+use Rattle.std.proofs.Common.{◌≡◌, ◌≤◌, [], length, All, Contains, inr, refl, sym, ◌∙◌, arith}
 use Rattle.std.proofs.lemmas.List.Elements.{All-from_recursion, All-nil}
-use Rattle.wh_terms.specs.Tree.{Tm, argument_count}
+use Rattle.wh_terms.specs.Tree.{argument_count}
 use Rattle.wh_terms.specs.Typing.{Typed, typed_fun, typed_meta, typed_app, typed_none}
 use Rattle.wh_terms.specs.Rules.{RewriteRule, IsWellMade, AreWellMade}
 use Rattle.wh_text.specs.Words.{IsName}
 use Rattle.wh_system.specs.Nesting.{TypesNestWithin}
-use Rattle.wh_system.specs.WellMade.{TypesWithin, IsTypeOver, IsDeclarationOver, AreDistinct, AreApart, IsWellMadeSystem}
-use Rattle.wh_nodes.specs.MapSystem.{nat, plain_meta}
+use Rattle.wh_system.specs.WellMade.{TypesWithin, IsTypeOver, IsDeclarationOver, AreDistinct, IsWellMadeSystem}
+use Rattle.wh_nodes.specs.MapSystem.{nat}
 use Rattle.wh_nodes.specs.IdentitySystem.{unary, identity_symbols, identity_metas, number, next_number, same_number, identity_rule, count_rule, identity_system}
 use Rattle.wh_nodes.proofs.FewLemmas.{each_of_two, all_of_two}
-use Rattle.wh_nodes.proofs.NameTests.{is_name, name_by, all_differ, distinct_by, every, all_by, is_apart, apart_by}
+use Rattle.wh_nodes.proofs.NameTests.{is_name, names_by, all_differ, distinct_by, every, all_by, metas_apart}
 
 -- types
 
@@ -65,22 +65,11 @@ count_rule_made = record {
 one_argument : (r : RewriteRule) → Contains identity_system.rules r → argument_count r.left ≡ 1
 one_argument = each_of_two (λ r. argument_count r.left ≡ 1) identity_rule count_rule refl refl
 
-pub identity_rules_made : AreWellMade identity_symbols identity_system.rules
+identity_rules_made : AreWellMade identity_symbols identity_system.rules
 identity_rules_made = record {
   each = each_of_two (IsWellMade identity_symbols) identity_rule count_rule identity_rule_made count_rule_made;
   even = λ r s first second same. one_argument r first ∙ sym (one_argument s second);
 }
-
--- names
-
-names_by : (names : List (List ℕ)) → every is_name names ≡ true → All IsName names
-names_by = all_by IsName is_name name_by
-
-metas_apart : (metas : List (List (List ℕ))) → every (λ names. is_apart names identity_system.fun_names) metas ≡ true
-    → All (λ names. AreApart names identity_system.fun_names) metas
-metas_apart =
-    let funs = identity_system.fun_names in
-    all_by (λ names. AreApart names funs) (λ names. is_apart names funs) (apart_by funs)
 
 -- the whole system
 pub identity_made : IsWellMadeSystem identity_system
@@ -105,5 +94,5 @@ identity_made = record {
   sort_names_distinct = distinct_by identity_system.sort_names refl;
   fun_names_distinct = distinct_by identity_system.fun_names refl;
   meta_names_distinct = all_by AreDistinct all_differ distinct_by identity_system.meta_names refl;
-  metas_no_symbols = metas_apart identity_system.meta_names refl;
+  metas_no_symbols = metas_apart identity_system.fun_names identity_system.meta_names refl;
 }

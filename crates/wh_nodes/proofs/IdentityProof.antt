@@ -5,14 +5,14 @@ use Rattle.wh_terms.specs.Substitution.{act, acts, cons, up, up_free}
 use Rattle.wh_laws.specs.Ranks.{rank_of, IsAccessible}
 use Rattle.wh_system.specs.PairData.{PairData}
 use Rattle.wh_access.specs.Readings.{Place}
-use Rattle.wh_access.specs.Passing.{EachUsed, Passes, IsPassing}
+use Rattle.wh_access.specs.Passing.{AllAccessible, EachUsed, Passes, IsPassing}
 use Rattle.wh_pairs.specs.Candidates.{candidates, freed}
 use Rattle.wh_pairs.specs.Subsumption.{IsDropped, ArePairs, none_left, one_kept, for_earlier, for_later}
 use Rattle.wh_pairs.proofs.MemberLemmas.{none_there, at_head, behind}
 use Rattle.wh_graph.specs.May.{Follows}
 use Rattle.wh_graph.specs.Components.{StandsAt, IsIn, Partition}
 use Rattle.wh_graph.specs.Blocks.{AreBlocks}
-use Rattle.wh_nodes.specs.Nodes.{IsSetOf, IsKept, AreSetsOf, no_sets, more_sets, by_done, by_alone, by_blocks, by_poly}
+use Rattle.wh_nodes.specs.Nodes.{IsSetOf, IsKept, no_sets, more_sets, by_done, by_alone, by_blocks, by_poly}
 use Rattle.wh_nodes.specs.Proves.{Proves, all_proved, one_proved}
 use Rattle.wh_nodes.specs.MapSystem.{nat}
 use Rattle.wh_nodes.specs.IdentitySystem.{unary, identity_symbols, identity_rule, count_rule, identity_system, count_pair, call_pair, identity_pairs, identity_nodes}
@@ -34,11 +34,14 @@ identity_rule_passes z (inl e) =
     ([], refl, All-nil (λ p. IsAccessible identity_symbols one_rank p.symbol p.index))
 identity_rule_passes z (inr never) = absurd never
 
+s_is_open : IsAccessible identity_symbols one_rank 0 0
+s_is_open = (nat, unary, refl, refl, omega arith)
+
 count_rule_passes : EachUsed (Passes identity_symbols one_rank) count_rule
 count_rule_passes z (inr (inr (inl e))) =
-    subst (Passes identity_symbols one_rank count_rule.left) e
-    (way_behind_s, refl,
-    All-from_recursion (λ p. IsAccessible identity_symbols one_rank p.symbol p.index) way_behind_s ((nat, unary, refl, refl, omega arith), tt))
+    let accessible : AllAccessible identity_symbols one_rank way_behind_s =
+    All-from_recursion (λ p. IsAccessible identity_symbols one_rank p.symbol p.index) way_behind_s (s_is_open, tt) in
+    subst (Passes identity_symbols one_rank count_rule.left) e (way_behind_s, refl, accessible)
 count_rule_passes z (inr (inr (inr never))) = absurd never
 count_rule_passes z (inr (inl never)) = absurd never
 count_rule_passes z (inl never) = absurd never

@@ -1,5 +1,5 @@
 -- The worked system is well made. Limits are seen by computing, names by tests.
-use Rattle.std.proofs.Common.{◌≡◌, ℕ, ◌+◌, ◌≤◌, zero, suc, inl, inr, true, List, [], ◌∷◌, length, All, Contains, refl, sym, ◌∙◌, subst, arith}
+use Rattle.std.proofs.Common.{◌≡◌, ℕ, ◌+◌, ◌≤◌, inl, inr, List, [], ◌∷◌, length, All, Contains, refl, sym, ◌∙◌, arith}
 use Rattle.std.proofs.lemmas.List.Elements.{All-from_recursion, All-nil, All-cons}
 use Rattle.wh_types.specs.Ty.{Ty, ◌⇒◌, arguments}
 use Rattle.wh_terms.specs.Tree.{Tm, fun, meta, none, argument_count}
@@ -8,10 +8,10 @@ use Rattle.wh_terms.specs.Sight.{Occurs}
 use Rattle.wh_terms.specs.Rules.{RewriteRule, IsWellMade, AreWellMade}
 use Rattle.wh_text.specs.Words.{IsName}
 use Rattle.wh_system.specs.Nesting.{type_nesting, TypesNestWithin}
-use Rattle.wh_system.specs.WellMade.{TypesWithin, IsTypeOver, IsDeclarationOver, AreDistinct, AreApart, IsWellMadeSystem}
+use Rattle.wh_system.specs.WellMade.{TypesWithin, IsTypeOver, IsDeclarationOver, AreDistinct, IsWellMadeSystem}
 use Rattle.wh_nodes.specs.MapSystem.{nat, list, map_symbols, function_meta, plain_meta, map_metas, mapped, cons_term, map_over, map_nil, map_cons, map_system}
 use Rattle.wh_nodes.proofs.FewLemmas.{each_of_two, all_of_two}
-use Rattle.wh_nodes.proofs.NameTests.{is_name, name_by, all_differ, distinct_by, every, all_by, is_apart, apart_by}
+use Rattle.wh_nodes.proofs.NameTests.{is_name, names_by, all_differ, distinct_by, every, all_by, metas_apart}
 
 -- types
 
@@ -136,17 +136,6 @@ rules_made = record {
   even = λ r s first second same. two_arguments r first ∙ sym (two_arguments s second);
 }
 
--- names
-
-names_by : (names : List (List ℕ)) → every is_name names ≡ true → All IsName names
-names_by = all_by IsName is_name name_by
-
-metas_apart : (metas : List (List (List ℕ))) → every (λ names. is_apart names map_system.fun_names) metas ≡ true
-    → All (λ names. AreApart names map_system.fun_names) metas
-metas_apart =
-    let funs = map_system.fun_names in
-    all_by (λ names. AreApart names funs) (λ names. is_apart names funs) (apart_by funs)
-
 -- the whole system
 pub map_made : IsWellMadeSystem map_system
 map_made = record {
@@ -172,5 +161,5 @@ map_made = record {
   sort_names_distinct = distinct_by map_system.sort_names refl;
   fun_names_distinct = distinct_by map_system.fun_names refl;
   meta_names_distinct = all_by AreDistinct all_differ distinct_by map_system.meta_names refl;
-  metas_no_symbols = metas_apart map_system.meta_names refl;
+  metas_no_symbols = metas_apart map_system.fun_names map_system.meta_names refl;
 }

@@ -1,5 +1,5 @@
 -- The worked system is passing under equal ranks, its one pair is that of the second rule, and its nodes are a proof.
-use Rattle.std.proofs.Common.{◌≡◌, ◌<◌, ℕ, zero, suc, inl, inr, List, [], ◌∷◌, Some, length, slice_get, Contains, refl, sym, ap, ◌∙◌, subst, arith}
+use Rattle.std.proofs.Common.{◌≡◌, ◌<◌, ℕ, inl, inr, List, [], ◌∷◌, Some, length, slice_get, Contains, refl, sym, ap, ◌∙◌, subst, arith}
 use Rattle.std.specs.Prelude.{◌⊎◌}
 use Rattle.std.proofs.lemmas.List.Elements.{All-from_recursion, All-nil, All-cons}
 use Rattle.wh_types.specs.Ty.{Ty, ◌⇒◌}
@@ -11,7 +11,7 @@ use Rattle.wh_access.specs.Readings.{Place}
 use Rattle.wh_access.specs.Passing.{AllAccessible, EachUsed, Passes, IsPassing}
 use Rattle.wh_pairs.specs.Candidates.{candidates, freed}
 use Rattle.wh_pairs.specs.Subsumption.{IsDropped, ArePairs, none_left, one_kept, for_earlier, for_later}
-use Rattle.wh_pairs.proofs.MemberLemmas.{none_there, at_head, head_or_behind}
+use Rattle.wh_pairs.proofs.MemberLemmas.{none_there, at_head}
 use Rattle.wh_subterm.specs.Marked.{IsMarked, AreMarked}
 use Rattle.wh_subterm.specs.Parts.{argument, last}
 use Rattle.wh_subterm.specs.Projections.{Below}
