@@ -10,3 +10,4 @@ pub mod Lines
 pub mod Claims
 pub mod PolyDecisions
 pub mod CoverDecisions
+pub mod Coverings
