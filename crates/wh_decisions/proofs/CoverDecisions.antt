@@ -1,5 +1,5 @@
 -- Moves are a cover, or a strict one, or there is a first thing wrong with them.
-use Rattle.std.proofs.Common.{◌≡◌, ℕ, ◌<◌, ◌≤◌, ◌⊎◌, inl, inr, List, Contains, refl, subst, arith}
+use Rattle.std.proofs.Common.{◌≡◌, ℕ, ◌<◌, ◌⊎◌, inl, inr, List, refl, subst, arith}
 use Rattle.wh_system.proofs.TypedDecided.{Decided, below_decided, decided_by, both_decided}
 use Rattle.wh_hopoly.specs.Polynomials.{Polynomial, Factors, no_factors}
 use Rattle.wh_hopoly.specs.Moves.{Transfer, MonomialAt, Good, given_by, taken_by, NotOverSpent, Covered, IsCover, IsStrictCover}

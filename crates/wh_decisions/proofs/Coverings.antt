@@ -1,5 +1,5 @@
 -- The conditions of a node of interpretations hold, or there is a first thing wrong with it.
-use Rattle.std.proofs.Common.{◌≡◌, ℕ, zero, suc, ◌<◌, ◌⊎◌, inl, inr, Bool, true, false, List, length, map, Option, Some, None, slice_get, All, Contains, refl, sym, subst, arith}
+use Rattle.std.proofs.Common.{◌≡◌, ℕ, zero, suc, ◌<◌, ◌⊎◌, inl, inr, Bool, true, false, List, length, map, Option, Some, None, slice_get, All, refl, sym, subst, arith}
 use Rattle.std.proofs.lemmas.Bool.{cases_lt}
 use Rattle.std.proofs.lemmas.Option.{slice_get_within}
 use Rattle.wh_types.specs.Ty.{arguments}
@@ -10,13 +10,12 @@ use Rattle.wh_system.proofs.TypedDecided.{Decided}
 use Rattle.wh_system.proofs.ByPlace.{some_one, contains_at}
 use Rattle.wh_graph.proofs.TimesLemmas.{contains_or_not}
 use Rattle.wh_subterm.specs.Marked.{AreMarked}
-use Rattle.wh_subterm.specs.SubtermRows.{IsBadDrop}
 use Rattle.wh_subterm.proofs.DropLemmas.{drops_some, drops_once, drops_within}
 use Rattle.wh_hopoly.specs.Polynomials.{Polynomial, Normal}
 use Rattle.wh_hopoly.specs.Evaluation.{Run, Interpretation, NormalInterpretations}
 use Rattle.wh_hopoly.specs.Moves.{Transfer}
 use Rattle.wh_polycheck.specs.Marks.{Mark, marked_types, AreNormalMarks}
-use Rattle.wh_meaning.specs.Covering.{rule_run, pair_run, CoversSides, CoversPair, IsCovering}
+use Rattle.wh_meaning.specs.Covering.{rule_run, pair_run, CoversPair, IsCovering}
 use Rattle.wh_covering.specs.CoveringFaults.{without_limits, IsFirstLineFault, IsRightLine, IsRightRule, IsRuleFault, IsDropped, IsRightPair, IsPairFault, IsFirstNotNormal, IsFirstNotNormalMark, AreBadLines, IsReady, IsFirstCoveringFault}
 use Rattle.wh_covering.specs.declared.fault.CoveringFault.{CoveringFault}
 use Rattle.wh_covering.specs.declared.fault.CoveringFault.TheVariants.{BadPolynomial, BadLines, BadDrop, Rule, Pair}
@@ -95,8 +94,8 @@ module _ (rules : List RewriteRule) (symbols : List Interpretation) (lines : Lis
       at_line : (r : RewriteRule) (ms : List Transfer) → slice_get rules i ≡ Some r → slice_get lines i ≡ Some ms → RuleOrFault i
       at_line r ms at also = elim (line_or_fault (rule_run symbols r false) (rule_run symbols r true) false ms) [
         | inl right ↦ inl (λ q ns here there.
-          subst (λ o. IsRightLine without_limits (rule_run symbols o false) (rule_run symbols o true) false ns) (some_one at here)
-          (subst (λ l. IsRightLine without_limits (rule_run symbols r false) (rule_run symbols r true) false l) (some_one also there) right))
+            subst (λ o. IsRightLine without_limits (rule_run symbols o false) (rule_run symbols o true) false ns) (some_one at here)
+            (subst (λ l. IsRightLine without_limits (rule_run symbols r false) (rule_run symbols r true) false l) (some_one also there) right))
         | inr (f, first) ↦ inr (f, (r, ms, at, also, first))
       ]
 
@@ -152,7 +151,7 @@ module _ (S : Symbols) (rules : List RewriteRule) (pairs : List PairData) (set :
           → (strict : Bool) × IsDropped drop n strict → RightPair i ⊎ ((x : ℕ × LineFault) × WrongPair i x)
       at_line n p ms place at moves (strict, is) = elim (line_or_fault (pair_run S rules symbols marks p false) (pair_run S rules symbols marks p true) strict ms) [
         | inl right ↦ inl (λ m q ns other here there also dropped.
-          right_as_well n m p q strict other ms ns (some_one place here) at there is dropped (some_one moves also) right)
+            right_as_well n m p q strict other ms ns (some_one place here) at there is dropped (some_one moves also) right)
         | inr (f, first) ↦ inr ((n, f), (p, ms, strict, place, at, moves, is, first))
       ]
 
