@@ -59,7 +59,8 @@ covered_or_not right ms = elim (least_monomial right (λ j c. taken_by j ms < c)
 abbrev pub CoverOrFault : Polynomial → Polynomial → List Transfer → Type 0
 CoverOrFault left right ms = IsCover left right ms ⊎ ((f : CoverFault) × IsFirstCoverFault left right ms f)
 
-right_or_fault : (left right : Polynomial) (ms : List Transfer) → AreGood left right ms → ((i : ℕ) → NotOverSpent left ms i) → CoverOrFault left right ms
+right_or_fault : (left right : Polynomial) (ms : List Transfer) → AreGood left right ms → ((i : ℕ) → NotOverSpent left ms i)
+    → CoverOrFault left right ms
 right_or_fault left right ms good spent = elim (covered_or_not right ms) [
   | inl (j, first) ↦ inr (NotCovered j, (good, spent, first))
   | inr covered ↦ inl (record { good = good; not_over_spent = spent; covered = covered })
@@ -81,7 +82,9 @@ cover_or_fault left right ms = elim (good_or_bad left right ms) [
 
 pub leaves_constant_decided : (left : Polynomial) (ms : List Transfer) → Decided (LeavesConstant left ms)
 leaves_constant_decided left ms =
-    decided_by (λ (c, us, here, (same, less)). (c, subst (MonomialAt left 0 c) same here, less)) (λ (c, here, less). (c, no_factors, here, (refl, less)))
+    decided_by
+    (λ (c, us, here, (same, less)). (c, subst (MonomialAt left 0 c) same here, less))
+    (λ (c, here, less). (c, no_factors, here, (refl, less)))
     (monomial_with_decided left (λ c us. (us ≡ no_factors) × (given_by 0 ms < c))
     (λ c us. both_decided (factors_decided us no_factors) (below_decided (given_by 0 ms) c)) 0)
 
@@ -89,7 +92,8 @@ abbrev pub StrictCoverOrFault : Polynomial → Polynomial → List Transfer → 
 StrictCoverOrFault left right ms = IsStrictCover left right ms ⊎ ((f : CoverFault) × IsFirstStrictCoverFault left right ms f)
 
 -- what is wrong first with a cover is so with a strict one
-strict_fault : (left right : Polynomial) (ms : List Transfer) (f : CoverFault) → IsFirstCoverFault left right ms f → IsFirstStrictCoverFault left right ms f
+strict_fault : (left right : Polynomial) (ms : List Transfer) (f : CoverFault) → IsFirstCoverFault left right ms f
+    → IsFirstStrictCoverFault left right ms f
 strict_fault left right ms (BadMove e) first = first
 strict_fault left right ms (OverSpent i) first = first
 strict_fault left right ms (NotCovered j) first = first

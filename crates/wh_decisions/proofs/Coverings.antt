@@ -37,20 +37,28 @@ normal_or_first symbols = elim (first_place (λ s. Normal (arguments s.kind) s.p
     decided : (s : Interpretation) → Decided (Normal (arguments s.kind) s.polynomial)
     decided s = normal_decided (arguments s.kind) s.polynomial
 
-normal_marks_or_first : (S : Symbols) (rules : List RewriteRule) (marks : List Mark) → ((f : ℕ) × IsFirstNotNormalMark S rules marks f) ⊎ AreNormalMarks S rules marks
-normal_marks_or_first S rules marks = elim (first_place (λ m. Normal (marked_types S rules m.symbol) m.polynomial → ⊥) (λ m. not_decided (decided m)) marks) [
+-- the mark's polynomial is normal in the scope of its arguments
+abbrev IsNormalMark : Symbols → List RewriteRule → Mark → Type 0
+IsNormalMark S rules m = Normal (marked_types S rules m.symbol) m.polynomial
+
+normal_marks_or_first : (S : Symbols) (rules : List RewriteRule) (marks : List Mark)
+    → ((f : ℕ) × IsFirstNotNormalMark S rules marks f) ⊎ AreNormalMarks S rules marks
+normal_marks_or_first S rules marks = elim (first_place (λ m. IsNormalMark S rules m → ⊥) (λ m. not_decided (decided m)) marks) [
   | inl (i, m, at, bad, before) ↦ inl (m.symbol, (i, m, at, refl, bad, λ j u less also. not_refuted (decided u) (before j u less also)))
   | inr none ↦ inr (λ m found. not_refuted (decided m) (none m found))
 ]
   where
-    decided : (m : Mark) → Decided (Normal (marked_types S rules m.symbol) m.polynomial)
+    decided : (m : Mark) → Decided (IsNormalMark S rules m)
     decided m = normal_decided (marked_types S rules m.symbol) m.polynomial
 
 -- the lines
 
-bad_lines_decided : (rules : List RewriteRule) (set : List ℕ) (rule_lines pair_lines : List (List Transfer)) → Decided (AreBadLines rules set rule_lines pair_lines)
+bad_lines_decided : (rules : List RewriteRule) (set : List ℕ) (rule_lines pair_lines : List (List Transfer))
+    → Decided (AreBadLines rules set rule_lines pair_lines)
 bad_lines_decided rules set rule_lines pair_lines =
-    either_decided (not_decided (equal_decided (length rule_lines) (length rules))) (not_decided (equal_decided (length pair_lines) (length set)))
+    either_decided
+    (not_decided (equal_decided (length rule_lines) (length rules)))
+    (not_decided (equal_decided (length pair_lines) (length set)))
 
 line_or_fault : (left right : Run Polynomial) (strict : Bool) (ms : List Transfer)
     → IsRightLine without_limits left right strict ms ⊎ ((f : LineFault) × IsFirstLineFault without_limits left right strict ms f)
@@ -85,8 +93,18 @@ right_below {F = F} Right Wrong each (suc b) = go (right_below Right Wrong each 
 -- the rules
 
 module _ (rules : List RewriteRule) (symbols : List Interpretation) (lines : List (List Transfer)) where
+  abbrev RightRule : ℕ → Type 0
+  RightRule = IsRightRule without_limits rules symbols lines
+
+  abbrev WrongRule : ℕ → LineFault → Type 0
+  WrongRule = IsRuleFault without_limits rules symbols lines
+
+  -- the line of moves shows what is asked of the rule
+  abbrev RuleMoves : RewriteRule → List Transfer → Type 0
+  RuleMoves r ms = IsRightLine without_limits (rule_run symbols r false) (rule_run symbols r true) false ms
+
   abbrev RuleOrFault : ℕ → Type 0
-  RuleOrFault i = IsRightRule without_limits rules symbols lines i ⊎ ((f : LineFault) × IsRuleFault without_limits rules symbols lines i f)
+  RuleOrFault i = RightRule i ⊎ ((f : LineFault) × WrongRule i f)
 
   rule_or_fault : (i : ℕ) → RuleOrFault i
   rule_or_fault i = go (slice_get rules i) (slice_get lines i) refl refl
@@ -94,8 +112,7 @@ module _ (rules : List RewriteRule) (symbols : List Interpretation) (lines : Lis
       at_line : (r : RewriteRule) (ms : List Transfer) → slice_get rules i ≡ Some r → slice_get lines i ≡ Some ms → RuleOrFault i
       at_line r ms at also = elim (line_or_fault (rule_run symbols r false) (rule_run symbols r true) false ms) [
         | inl right ↦ inl (λ q ns here there.
-            subst (λ o. IsRightLine without_limits (rule_run symbols o false) (rule_run symbols o true) false ns) (some_one at here)
-            (subst (λ l. IsRightLine without_limits (rule_run symbols r false) (rule_run symbols r true) false l) (some_one also there) right))
+            subst (λ o. RuleMoves o ns) (some_one at here) (subst (RuleMoves r) (some_one also there) right))
         | inr (f, first) ↦ inr (f, (r, ms, at, also, first))
       ]
 
@@ -104,9 +121,8 @@ module _ (rules : List RewriteRule) (symbols : List Interpretation) (lines : Lis
       go (Some r) None d e = inl (λ q ms at also. absurd (cc (e, also)))
       go (Some r) (Some ms) d e = at_line r ms d e
 
-  rules_or_fault : ((k : ℕ) → IsRightRule without_limits rules symbols lines k)
-      ⊎ ((r : ℕ) × (f : LineFault) × IsFirstWrong (IsRightRule without_limits rules symbols lines) (IsRuleFault without_limits rules symbols lines) r f)
-  rules_or_fault = elim (right_below (IsRightRule without_limits rules symbols lines) (IsRuleFault without_limits rules symbols lines) rule_or_fault (length rules)) [
+  rules_or_fault : ((k : ℕ) → RightRule k) ⊎ ((r : ℕ) × (f : LineFault) × IsFirstWrong RightRule WrongRule r f)
+  rules_or_fault = elim (right_below RightRule WrongRule rule_or_fault (length rules)) [
     | inl right ↦ inl (λ k r ms at also. right k (slice_get_within rules k r at) r ms at also)
     | inr first ↦ inr first
   ]
@@ -133,35 +149,43 @@ module _ (S : Symbols) (rules : List RewriteRule) (pairs : List PairData) (set :
   abbrev WrongPair : ℕ → ℕ × LineFault → Type 0
   WrongPair i (n, f) = IsPairFault without_limits S rules pairs set symbols marks lines drop i n f
 
+  abbrev PairOrFault : ℕ → Type 0
+  PairOrFault i = RightPair i ⊎ ((x : ℕ × LineFault) × WrongPair i x)
+
+  abbrev run : PairData → Bool → Run Polynomial
+  run = pair_run S rules symbols marks
+
   -- the line of moves shows what is asked of the pair
-  abbrev RightMoves : PairData → Bool → List Transfer → Type 0
-  RightMoves p strict ms = IsRightLine without_limits (pair_run S rules symbols marks p false) (pair_run S rules symbols marks p true) strict ms
+  abbrev PairMoves : PairData → Bool → List Transfer → Type 0
+  PairMoves p strict ms = IsRightLine without_limits (run p false) (run p true) strict ms
 
-  right_as_well : (n m : ℕ) (p q : PairData) (strict other : Bool) (ms ns : List Transfer) → n ≡ m → slice_get pairs n ≡ Some p → slice_get pairs m ≡ Some q
-      → IsDropped drop n strict → IsDropped drop m other → ms ≡ ns → RightMoves p strict ms → RightMoves q other ns
+  right_as_well : (n m : ℕ) (p q : PairData) (strict other : Bool) (ms ns : List Transfer) → n ≡ m → slice_get pairs n ≡ Some p
+      → slice_get pairs m ≡ Some q → IsDropped drop n strict → IsDropped drop m other → ms ≡ ns
+      → PairMoves p strict ms → PairMoves q other ns
   right_as_well n m p q strict other ms ns number at also is dropped moves right =
-      subst (RightMoves q other) moves
-      (subst (λ b. RightMoves q b ms) (dropped_one drop n strict other is (subst (λ k. IsDropped drop k other) (sym number) dropped))
-      (subst (λ o. RightMoves o strict ms) (some_one at (subst (λ k. slice_get pairs k ≡ Some q) (sym number) also)) right))
+      subst (PairMoves q other) moves
+      (subst (λ b. PairMoves q b ms) (dropped_one drop n strict other is (subst (λ k. IsDropped drop k other) (sym number) dropped))
+      (subst (λ o. PairMoves o strict ms) (some_one at (subst (λ k. slice_get pairs k ≡ Some q) (sym number) also)) right))
 
-  pair_or_fault : (i : ℕ) → RightPair i ⊎ ((x : ℕ × LineFault) × WrongPair i x)
+  pair_or_fault : (i : ℕ) → PairOrFault i
   pair_or_fault i = at_place (slice_get set i) (slice_get lines i) refl refl
     where
-      at_line : (n : ℕ) (p : PairData) (ms : List Transfer) → slice_get set i ≡ Some n → slice_get pairs n ≡ Some p → slice_get lines i ≡ Some ms
-          → (strict : Bool) × IsDropped drop n strict → RightPair i ⊎ ((x : ℕ × LineFault) × WrongPair i x)
-      at_line n p ms place at moves (strict, is) = elim (line_or_fault (pair_run S rules symbols marks p false) (pair_run S rules symbols marks p true) strict ms) [
+      at_line : (n : ℕ) (p : PairData) (ms : List Transfer) → slice_get set i ≡ Some n → slice_get pairs n ≡ Some p
+          → slice_get lines i ≡ Some ms → (strict : Bool) × IsDropped drop n strict → PairOrFault i
+      at_line n p ms place at moves (strict, is) = elim (line_or_fault (run p false) (run p true) strict ms) [
         | inl right ↦ inl (λ m q ns other here there also dropped.
             right_as_well n m p q strict other ms ns (some_one place here) at there is dropped (some_one moves also) right)
         | inr (f, first) ↦ inr ((n, f), (p, ms, strict, place, at, moves, is, first))
       ]
 
-      at_number : (n : ℕ) (ms : List Transfer) → slice_get set i ≡ Some n → slice_get lines i ≡ Some ms → (o : Option PairData) → slice_get pairs n ≡ o
-          → RightPair i ⊎ ((x : ℕ × LineFault) × WrongPair i x)
+      at_number : (n : ℕ) (ms : List Transfer) → slice_get set i ≡ Some n → slice_get lines i ≡ Some ms
+          → (o : Option PairData) → slice_get pairs n ≡ o → PairOrFault i
       at_number n ms place moves None d = inl (λ m q ns other here there also dropped.
-          let gone : slice_get pairs n ≡ Some q = subst (λ k. slice_get pairs k ≡ Some q) (some_one here place) there in absurd (cc (d, gone)))
+          let gone : slice_get pairs n ≡ Some q = subst (λ k. slice_get pairs k ≡ Some q) (some_one here place) there in
+          absurd (cc (d, gone)))
       at_number n ms place moves (Some p) d = at_line n p ms place d moves (dropped_or_not drop n)
 
-      at_place : (o : Option ℕ) (l : Option (List Transfer)) → slice_get set i ≡ o → slice_get lines i ≡ l → RightPair i ⊎ ((x : ℕ × LineFault) × WrongPair i x)
+      at_place : (o : Option ℕ) (l : Option (List Transfer)) → slice_get set i ≡ o → slice_get lines i ≡ l → PairOrFault i
       at_place None l d e = inl (λ m q ns other here there also dropped. absurd (cc (d, here)))
       at_place (Some n) None d e = inl (λ m q ns other here there also dropped. absurd (cc (e, also)))
       at_place (Some n) (Some ms) d e = at_number n ms d e (slice_get pairs n) refl
@@ -181,8 +205,8 @@ module _ (S : Symbols) (rules : List RewriteRule) (pairs : List PairData) (set :
 
 -- all together, from the last condition to the first
 
-abbrev pub CoveringOrFault : Symbols → List RewriteRule → List PairData → List ℕ → List Interpretation → List Mark → List (List Transfer) → List (List Transfer)
-    → List ℕ → Type 0
+abbrev pub CoveringOrFault : Symbols → List RewriteRule → List PairData → List ℕ → List Interpretation → List Mark
+    → List (List Transfer) → List (List Transfer) → List ℕ → Type 0
 CoveringOrFault S rules pairs set symbols marks rule_lines pair_lines drop =
     IsCovering S rules pairs set symbols marks rule_lines pair_lines drop
     ⊎ ((f : CoveringFault) × IsFirstCoveringFault without_limits S rules pairs set symbols marks rule_lines pair_lines drop f)
@@ -193,7 +217,13 @@ module _ (S : Symbols) (rules : List RewriteRule) (pairs : List PairData) (set :
   abbrev Outcome : Type 0
   Outcome = CoveringOrFault S rules pairs set symbols marks rule_lines pair_lines drop
 
-  nothing_wrong : IsReady S rules set symbols marks rule_lines pair_lines drop → ((k : ℕ) → IsRightRule without_limits rules symbols rule_lines k)
+  abbrev Ready : Type 0
+  Ready = IsReady S rules set symbols marks rule_lines pair_lines drop
+
+  abbrev RulesAreRight : Type 0
+  RulesAreRight = (k : ℕ) → IsRightRule without_limits rules symbols rule_lines k
+
+  nothing_wrong : Ready → RulesAreRight
       → ((k : ℕ) → IsRightPair without_limits S rules pairs set symbols marks pair_lines drop k)
       → IsCovering S rules pairs set symbols marks rule_lines pair_lines drop
   nothing_wrong ready right all = record {
@@ -210,13 +240,13 @@ module _ (S : Symbols) (rules : List RewriteRule) (pairs : List PairData) (set :
     pairs_covered = λ i. covers_pair S rules pairs set symbols marks pair_lines drop i (all i);
   }
 
-  at_pairs : IsReady S rules set symbols marks rule_lines pair_lines drop → ((k : ℕ) → IsRightRule without_limits rules symbols rule_lines k) → Outcome
+  at_pairs : Ready → RulesAreRight → Outcome
   at_pairs ready right = elim (pairs_or_fault S rules pairs set symbols marks pair_lines drop) [
     | inl all ↦ inl (nothing_wrong ready right all)
     | inr (i, (n, f), (before, wrong)) ↦ inr (Pair n f, (ready, right, (i, before, wrong)))
   ]
 
-  at_rules : IsReady S rules set symbols marks rule_lines pair_lines drop → Outcome
+  at_rules : Ready → Outcome
   at_rules ready = elim (rules_or_fault rules symbols rule_lines) [
     | inl right ↦ at_pairs ready right
     | inr (r, f, (before, wrong)) ↦ inr (Rule r f, (ready, before, wrong))
@@ -252,8 +282,9 @@ module _ (S : Symbols) (rules : List RewriteRule) (pairs : List PairData) (set :
     | inr normal ↦ at_marks normal
   ]
 
-pub covering_or_fault : (S : Symbols) (rules : List RewriteRule) (pairs : List PairData) (set : List ℕ) (symbols : List Interpretation) (marks : List Mark)
-    (rule_lines pair_lines : List (List Transfer)) (drop : List ℕ) → map (λ s. s.kind) symbols ≡ S.funs → AreMarked pairs set (map (λ m. m.symbol) marks)
-    → All (λ n. n < length pairs) set → CoveringOrFault S rules pairs set symbols marks rule_lines pair_lines drop
+pub covering_or_fault : (S : Symbols) (rules : List RewriteRule) (pairs : List PairData) (set : List ℕ) (symbols : List Interpretation)
+    (marks : List Mark) (rule_lines pair_lines : List (List Transfer)) (drop : List ℕ) → map (λ s. s.kind) symbols ≡ S.funs
+    → AreMarked pairs set (map (λ m. m.symbol) marks) → All (λ n. n < length pairs) set
+    → CoveringOrFault S rules pairs set symbols marks rule_lines pair_lines drop
 covering_or_fault S rules pairs set symbols marks rule_lines pair_lines drop kinds marked within =
     at_symbols S rules pairs set symbols marks rule_lines pair_lines drop kinds marked

@@ -44,7 +44,8 @@ type_or_none (B ∷ Γ) zero = inl (B, refl)
 type_or_none (B ∷ Γ) (suc x) = type_or_none Γ x
 
 -- the arguments of a variable, where it is decided for each type
-arguments_of_variable : (Γ : List Ty) (x : ℕ) (ps : Arguments) → ((A : Ty) → Decided (NormalArguments Γ A ps)) → Decided (HasNormalArguments Γ x ps)
+arguments_of_variable : (Γ : List Ty) (x : ℕ) (ps : Arguments) → ((A : Ty) → Decided (NormalArguments Γ A ps))
+    → Decided (HasNormalArguments Γ x ps)
 arguments_of_variable Γ x ps decided = elim (type_or_none Γ x) [
   | inl (A, has) ↦ let same = one_type Γ x ps A has in decided_by same.1 same.0 (decided A)
   | inr none ↦ inr (λ (A, has, normal). none A has)
@@ -54,14 +55,18 @@ mutual
   pub normal_decided : (Γ : List Ty) (p : Polynomial) → Decided (Normal Γ p)
   normal_decided Γ zero_poly = inl tt
   normal_decided Γ (plus c us p) =
-      decided_by (λ (some, (normal, (before, rest))). (some, normal, before, rest)) (λ (some, normal, before, rest). (some, (normal, (before, rest))))
+      decided_by
+      (λ (some, (normal, (before, rest))). (some, normal, before, rest))
+      (λ (some, normal, before, rest). (some, (normal, (before, rest))))
       (both_decided (at_most_decided 1 c)
       (both_decided (normal_factors_decided Γ us) (both_decided (monomial_before_decided us p) (normal_decided Γ p))))
 
   normal_factors_decided : (Γ : List Ty) (us : Factors) → Decided (NormalFactors Γ us)
   normal_factors_decided Γ no_factors = inl tt
   normal_factors_decided Γ (times x ps us) =
-      decided_by (λ ((A, has, normal), (before, rest)). (A, has, normal, before, rest)) (λ (A, has, normal, before, rest). ((A, has, normal), (before, rest)))
+      decided_by
+      (λ ((A, has, normal), (before, rest)). (A, has, normal, before, rest))
+      (λ (A, has, normal, before, rest). ((A, has, normal), (before, rest)))
       (both_decided (arguments_of_variable Γ x ps (λ A. normal_arguments_decided Γ A ps))
       (both_decided (factor_before_decided x ps us) (normal_factors_decided Γ us)))
 
@@ -107,13 +112,15 @@ abbrev pub MonomialWith : Polynomial → (ℕ → Factors → Type 0) → ℕ �
 MonomialWith p Q i = (c : ℕ) × (us : Factors) × MonomialAt p i c us × Q c us
 
 -- there is a monomial at the place, or none
-pub monomial_or_none : (p : Polynomial) (i : ℕ) → ((c : ℕ) × (us : Factors) × MonomialAt p i c us) ⊎ ((c : ℕ) (us : Factors) → MonomialAt p i c us → ⊥)
+pub monomial_or_none : (p : Polynomial) (i : ℕ)
+    → ((c : ℕ) × (us : Factors) × MonomialAt p i c us) ⊎ ((c : ℕ) (us : Factors) → MonomialAt p i c us → ⊥)
 monomial_or_none zero_poly i = inr (λ c us here. here)
 monomial_or_none (plus d vs p) zero = inl (d, vs, (refl, refl))
 monomial_or_none (plus d vs p) (suc i) = monomial_or_none p i
 
 -- what holds of one reading of the monomial at a place holds of each
-pub of_each : (p : Polynomial) (Q : ℕ → Factors → Type 0) (i c d : ℕ) (us vs : Factors) → MonomialAt p i c us → MonomialAt p i d vs → Q c us → Q d vs
+pub of_each : (p : Polynomial) (Q : ℕ → Factors → Type 0) (i c d : ℕ) (us vs : Factors) → MonomialAt p i c us → MonomialAt p i d vs
+    → Q c us → Q d vs
 of_each p Q i c d us vs here also q =
     let same = one_monomial p i c d us vs here also in subst (Q d) same.1 (subst (λ e. Q e us) same.0 q)
 
@@ -149,6 +156,14 @@ fits_at_decided right j us = monomial_with_decided right (λ d vs. FactorsAtLeas
 pub good_decided : (left right : Polynomial) (m : Transfer) → Decided (Good left right m)
 good_decided left right m =
     decided_by
-    (λ (c, us, source, (d, vs, target, fits)). record { given = c; taken = d; giver = us; taker = vs; source = source; target = target; fits = fits })
+    (λ (c, us, source, (d, vs, target, fits)). record {
+      given = c;
+      taken = d;
+      giver = us;
+      taker = vs;
+      source = source;
+      target = target;
+      fits = fits;
+    })
     (λ good. (good.given, good.giver, good.source, (good.taken, good.taker, good.target, good.fits)))
     (monomial_with_decided left (λ c us. FitsAt right m.to us) (λ c us. fits_at_decided right m.to us) m.from)

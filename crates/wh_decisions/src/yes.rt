@@ -44,8 +44,8 @@ pub fn choices_are_a_projection_or_have_a_first_fault()
 /// Interpretations of the system's symbols and of the marked symbols of a set of pairs, with moves for its rules and pairs, are a
 /// covering, or something is wrong first with them or with what is dropped. Numbers may be as large as they like.
 pub fn coverings_hold_or_have_a_first_fault()
-    ensures { (S : Symbols) (rules : List RewriteRule) (pairs : List PairData) (set : List ℕ) (symbols : List Interpretation) (marks : List Mark)
-        (rule_lines pair_lines : List (List Transfer)) (drop : List ℕ) → map (λ s. s.kind) symbols ≡ S.funs
+    ensures { (S : Symbols) (rules : List RewriteRule) (pairs : List PairData) (set : List ℕ) (symbols : List Interpretation)
+        (marks : List Mark) (rule_lines pair_lines : List (List Transfer)) (drop : List ℕ) → map (λ s. s.kind) symbols ≡ S.funs
         → AreMarked pairs set (map (λ m. m.symbol) marks) → All (λ n. n < length pairs) set
         → IsCovering S rules pairs set symbols marks rule_lines pair_lines drop
         ⊎ ((f : CoveringFault) × IsFirstCoveringFault without_limits S rules pairs set symbols marks rule_lines pair_lines drop f) }
