@@ -23,3 +23,5 @@ pub mod ProductWalk
 pub mod RenumberLaws
 pub mod FaultLaws
 pub mod AddedLaws
+pub mod RunLaws
+pub mod ReplacingLaws

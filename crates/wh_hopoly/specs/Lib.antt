@@ -12,3 +12,4 @@ pub mod Merges
 pub mod Totals
 pub mod Added
 pub mod Scopes
+pub mod Replacements

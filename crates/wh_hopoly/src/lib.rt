@@ -14,6 +14,7 @@ mod normality;
 mod polynomial;
 mod products;
 mod renumbering;
+mod replacing;
 mod scope;
 mod sums;
 mod totals;
