@@ -25,3 +25,4 @@ pub mod FaultLaws
 pub mod AddedLaws
 pub mod RunLaws
 pub mod ReplacingLaws
+pub mod ValuedLaws

@@ -13,3 +13,4 @@ pub mod Totals
 pub mod Added
 pub mod Scopes
 pub mod Replacements
+pub mod Valued

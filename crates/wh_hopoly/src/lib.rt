@@ -4,6 +4,7 @@
 mod comparing;
 mod copying;
 mod covers;
+mod evaluating;
 mod excess;
 mod expression;
 mod fault;
@@ -17,7 +18,9 @@ mod renumbering;
 mod replacing;
 mod scope;
 mod sums;
+mod table;
 mod totals;
+mod valued;
 mod variables;
 mod weighing;
 
