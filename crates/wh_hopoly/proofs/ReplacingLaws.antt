@@ -1,10 +1,10 @@
 -- The steps of a replacement: sums, products, arguments and applications, one after another.
-use Rattle.std.proofs.Common.{append_assoc, append-nil, length-append, ◌≡◌, ℕ, zero, suc, ◌+◌, ◌-◌, ◌*◌, ◌^◌, ◌<◌, ◌≤◌, ◌==◌, ◌⊎◌, inl, inr, List, [], ◌∷◌, ◌++◌, length, drop, get_or, refl, ap, ap₂, sym, subst, ◌∙◌, arith, Bool, true, false, if◌then◌else◌}
+use Rattle.std.proofs.Common.{append_assoc, append-nil, length-append, ◌≡◌, ℕ, zero, suc, ◌+◌, ◌^◌, ◌<◌, ◌≤◌, ◌==◌, inl, inr, List, [], ◌∷◌, ◌++◌, length, drop, get_or, refl, ap, ap₂, sym, subst, ◌∙◌, arith, true, false, if◌then◌else◌}
 use Rattle.std.specs.Prelude.{Contains}
-use Rattle.std.proofs.lemmas.List.Elements.{Contains-append_left, Contains-append_right, Contains-append_cases}
+use Rattle.std.proofs.lemmas.List.Elements.{Contains-append_right, Contains-append_cases}
 use mathlib.Core.Path.{subst₂}
 use Rattle.wh_types.specs.Ty.{Ty, sort, ◌⇒◌, arguments}
-use Rattle.wh_hopoly.specs.Polynomials.{HasType, Polynomial, zero_poly, plus, Factors, no_factors, times, Arguments, no_arguments, argument, Normal, NormalFactors, NormalArguments, HasNormalArguments, Ordered}
+use Rattle.wh_hopoly.specs.Polynomials.{HasType, Polynomial, zero_poly, plus, Factors, no_factors, times, Arguments, no_arguments, argument, Normal, NormalFactors, NormalArguments, HasNormalArguments}
 use Rattle.wh_hopoly.specs.Arithmetic.{sum_poly, multiply, constant, atom}
 use Rattle.wh_hopoly.specs.Evaluation.{Run, one, next, without, down, type_at, moved, replace, replace_factors, replace_arguments, applied, pure}
 use Rattle.wh_hopoly.specs.Limits.{Exceeds}
@@ -22,11 +22,11 @@ use Rattle.wh_hopoly.specs.declared.totals.Total.{Total}
 use Rattle.wh_hopoly.proofs.Walks.{sum_drop, sum_ended, product_drop, product_ended, arguments_drop, arguments_ended}
 use Rattle.wh_hopoly.proofs.Pushes.{arguments_followed_by, arguments_of_append}
 use Rattle.wh_hopoly.proofs.AddedLaws.{followed_assoc, followed_by_none}
-use Rattle.wh_hopoly.proofs.OrderedLaws.{normal_ordered, exceeds_right}
+use Rattle.wh_hopoly.proofs.OrderedLaws.{exceeds_right}
 use Rattle.wh_hopoly.proofs.SumLaws.{normal_multiply}
 use Rattle.wh_hopoly.proofs.ReplaceLaws.{HeadOk, without_is, type_is, at_itself, replaced_atom, normal_replace, normal_replace_factors, normal_replace_arguments}
 use Rattle.wh_hopoly.proofs.ValueLaws.{normal_moved, normal_applied, normal_apply_one}
-use Rattle.wh_hopoly.proofs.RunLaws.{Within, first_is_there, contains_one, within_one, within_both, exceeds_as, Follows, follows_itself, follows_on, all_within, fault_within, fault_left, fault_right}
+use Rattle.wh_hopoly.proofs.RunLaws.{Within, first_is_there, contains_one, within_one, within_both, Follows, follows_itself, follows_on, all_within, fault_within, fault_left, fault_right}
 
 -- what a place is, one type further
 pub wider : (A : Ty) (n : ℕ) (g : Polynomial) (Γ Δ X : List Ty) → Replaces A n g Γ Δ → Replaces A n g (Γ ++ X) (Δ ++ X)

@@ -1,12 +1,10 @@
 -- Runs that go on: what is left of one is told by what was done, and no value is lost.
-use Rattle.std.proofs.Common.{◌≡◌, ℕ, zero, suc, ◌+◌, ◌*◌, ◌<◌, ◌≤◌, ◌⊎◌, inl, inr, List, [], ◌∷◌, ◌++◌, refl, ap, sym, subst, arith, length, length-append}
+use Rattle.std.proofs.Common.{◌≡◌, zero, suc, ◌≤◌, ◌⊎◌, inl, inr, List, [], ◌∷◌, ◌++◌, refl, ap, sym, subst, arith, length, length-append}
 use Rattle.std.specs.Prelude.{Contains}
 use Rattle.std.proofs.lemmas.List.Elements.{Contains-append_left, Contains-append_right, Contains-append_cases}
 use Rattle.wh_hopoly.specs.Polynomials.{Polynomial}
-use Rattle.wh_hopoly.specs.Limits.{Overflows, TooLarge, Exceeds}
+use Rattle.wh_hopoly.specs.Limits.{Exceeds}
 use Rattle.wh_hopoly.specs.Excesses.{ExceedsAs}
-use Rattle.wh_hopoly.specs.Evaluation.{Run}
-use Rattle.wh_hopoly.specs.Outcomes.{PassesLimit}
 use Rattle.wh_hopoly.specs.declared.excess.Excess.{Excess}
 use Rattle.wh_hopoly.specs.declared.excess.Excess.TheVariants as excess
 

@@ -1,30 +1,33 @@
 -- Readings of symbols, values that are renumbered, and faults of parts.
-use Rattle.std.proofs.Common.{◌≡◌, ℕ, zero, suc, ◌+◌, ◌-◌, ◌<◌, ◌≤◌, ◌^◌, ◌⊎◌, inl, inr, List, [], ◌∷◌, ◌++◌, length, get_or, refl, ap, ap₂, sym, subst, ◌∙◌, arith, Result, Ok, Err, Some, slice_get}
+use Rattle.std.proofs.Common.{◌≡◌, ℕ, zero, suc, ◌+◌, ◌-◌, ◌<◌, ◌≤◌, inl, inr, List, [], ◌∷◌, ◌++◌, length, get_or, drop, map, refl, ap, ap₂, sym, subst, ◌∙◌, arith, Result, Ok, Err}
 use Rattle.std.specs.Prelude.{Contains, IfOk}
 use Rattle.std.proofs.lemmas.Option.{none-some}
-use Rattle.wh_types.specs.Ty.{Ty, sort, ◌⇒◌, arguments}
+use Rattle.std.proofs.Math.ListN.{drop_of_length-le}
+use Rattle.wh_types.specs.Ty.{Ty, ◌⇒◌, arguments}
 use Rattle.wh_types.specs.Erase.{ty}
 use Rattle.wh_types.specs.Outcome.{IfBecause}
 use Rattle.wh_types.specs.declared.want.Or.{Or}
 use Rattle.wh_types.specs.declared.want.Or.TheVariants.{NoMemory, Because}
 use Rattle.wh_hopoly.specs.Polynomials.{Polynomial, zero_poly, plus, Factors, no_factors, times, Arguments, no_arguments, argument, Normal}
 use Rattle.wh_hopoly.specs.Arithmetic.{renumber, renumber_factors, renumber_arguments}
-use Rattle.wh_hopoly.specs.Evaluation.{Run, Expression, var, symbol, lambda, apply, Interpretation, interpretation_at, evaluate, type_of, codomain, apply_one, TypedExpression, NormalInterpretations}
+use Rattle.wh_hopoly.specs.Evaluation.{one, Expression, var, symbol, lambda, apply, Interpretation, interpretation_at, evaluate, type_of, codomain, apply_one, TypedExpression, NormalInterpretations}
 use Rattle.wh_hopoly.specs.Limits.{weight, weight_of_factors, weight_of_arguments, nesting, nesting_of_factors, nesting_of_arguments, Overflows, TooLarge, Exceeds}
 use Rattle.wh_hopoly.specs.Excesses.{ExceedsAs}
 use Rattle.wh_hopoly.specs.Parts.{parts, own_values, ValueOfPart}
-use Rattle.wh_hopoly.specs.Outcomes.{ComesTo, PassesLimit, IsFaultOf}
+use Rattle.wh_hopoly.specs.Outcomes.{ComesTo, PassesLimit, IsFaultOf, applied_to}
 use Rattle.wh_hopoly.specs.Replacements.{apply_at, NormalFor}
-use Rattle.wh_hopoly.specs.Valued.{IsKnown, Yields, IsValueOf, fault_at, located_at, IsFaultFrom}
-use Rattle.wh_hopoly.specs.Erase.{poly, interpretation, interpretations}
+use Rattle.wh_hopoly.specs.Valued.{IsKnown, Yields, IsValueOf, located_at, IsFaultFrom}
+use Rattle.wh_hopoly.specs.Erase.{poly, expression, interpretation, interpretations}
 use Rattle.wh_hopoly.specs.declared.excess.Excess.{Excess}
 use Rattle.wh_hopoly.specs.declared.excess.Excess.TheVariants as excess
 use Rattle.wh_hopoly.specs.declared.fault.PolyFault.{PolyFault}
 use Rattle.wh_hopoly.specs.declared.fault.PolyFault.TheVariants as fault
 use Rattle.wh_hopoly.specs.declared.expression.Symbol.{Symbol}
+use Rattle.wh_hopoly.specs.declared.expression.Expr.{Expr}
 use Rattle.wh_hopoly.specs.declared.valued.Valued.{Valued}
+use Rattle.wh_hopoly.proofs.Walks.{drop_next}
 use Rattle.wh_hopoly.proofs.ValueLaws.{normal_value}
-use Rattle.wh_hopoly.proofs.RunLaws.{Within, within_both}
+use Rattle.wh_hopoly.proofs.RunLaws.{within_both}
 
 -- readings
 pub reading_left : (xs : List Symbol) (ys : List Interpretation) (i : ℕ) → i < length xs → interpretation_at (interpretations xs ++ ys) i ≡ interpretation_at (interpretations xs) i
@@ -175,3 +178,81 @@ module _ (S : List Interpretation) (n : NormalInterpretations S) (Γ : List Ty) 
 
   pub application_exceeds : (x : Excess) → PassesLimit (apply_at (ty f.kind) Γ (poly f.value) (poly a.value)) x → (w : Polynomial) × Contains (own_values S Γ (apply e d)) w × ExceedsAs x w
   application_exceeds x h = subst (λ run. PassesLimit run x) own_run h
+
+-- the value of a symbol, by its reading
+pub symbol_is : (S : List Interpretation) (Γ : List Ty) (f c : ℕ) (A : Ty) (g : Polynomial) (v : Valued) → interpretation_at S f ≡ record { kind = A; polynomial = g } → c ≡ length Γ
+    → Yields (one (renumber (λ i. c + i) g)) A v → IsValueOf S Γ (symbol f) v
+symbol_is S Γ f c A g v e k y =
+    subst (λ s. Yields (one (renumber (λ i. length Γ + i) s.polynomial)) s.kind v) (sym e) (subst (λ c. Yields (one (renumber (λ i. c + i) g)) A v) k y)
+
+pub symbol_exceeds : (S : List Interpretation) (Γ : List Ty) (f c : ℕ) (A : Ty) (g : Polynomial) (x : Excess) → interpretation_at S f ≡ record { kind = A; polynomial = g } → c ≡ length Γ
+    → PassesLimit (one (renumber (λ i. c + i) g)) x → (w : Polynomial) × Contains (own_values S Γ (symbol f)) w × ExceedsAs x w
+symbol_exceeds S Γ f c A g x e k y =
+    subst (λ s. PassesLimit (one (renumber (λ i. length Γ + i) s.polynomial)) x) (sym e) (subst (λ c. PassesLimit (one (renumber (λ i. c + i) g)) x) k y)
+
+-- an expression that is applied to others in turn
+pub typed_start : (S : List Interpretation) (Γ : List Ty) (e : Expression) (ds : List Expression) → TypedExpression S Γ (applied_to e ds) → TypedExpression S Γ e
+typed_start S Γ e [] t = t
+typed_start S Γ e (d ∷ ds) t = (typed_start S Γ (apply e d) ds t).0
+
+start_embeds : (S : List Interpretation) (Γ : List Ty) (e : Expression) (ds : List Expression) → Embeds S Γ e (length ds) Γ (applied_to e ds)
+start_embeds S Γ e [] k w v = let z : k ≡ 0 + k = omega arith in subst (λ k. ValueOfPart S Γ e k w) z v
+start_embeds S Γ e (d ∷ ds) k w v =
+    let z : length ds + (1 + k) ≡ length (d ∷ ds) + k = omega arith in
+    subst (λ k. ValueOfPart S Γ (applied_to e (d ∷ ds)) k w) z (start_embeds S Γ (apply e d) ds (1 + k) w (function_embeds S Γ e d k w v))
+
+pub start_fault : (S : List Interpretation) (Γ : List Ty) (e : Expression) (ds : List Expression) (whole : Expression) (n : ℕ) (f : PolyFault) → applied_to e ds ≡ whole → n ≡ length ds → IsFaultFrom n S Γ e f
+    → IsFaultOf S Γ whole f
+start_fault S Γ e ds whole n f e' k h =
+    subst (λ d. IsFaultOf S Γ d f) e' (fault_of_whole S Γ (applied_to e ds) f
+    (fault_embeds n 0 (length ds) S Γ Γ e (applied_to e ds) (omega (arith, k)) (start_embeds S Γ e ds) f h))
+
+-- the value so far, which is still to be applied to the expressions ds
+pub record Calling (S : List Interpretation) (Γ : List Ty) (whole : Expression) (ds : List Expression) (v : Valued) (next at : ℕ) : Type 0 where
+  pub start : Expression
+  pub same : applied_to start ds ≡ whole
+  pub value : IsValueOf S Γ start v
+  pub numbered : next ≡ length ds + parts start
+  pub number : at ≡ length ds
+
+module _ (S : List Interpretation) (n : NormalInterpretations S) (Γ : List Ty) (whole : Expression) (t : TypedExpression S Γ whole) (xs : List Expr) (i : ℕ) (x : Expr) (v : Valued) (next at : ℕ)
+    (g : Calling S Γ whole (map expression (drop i xs)) v next at) (l : i < length xs) (h : x ≡ get_or xs i x) where
+  abbrev rest : List Expression
+  rest = map expression (drop (i + 1) xs)
+
+  split : map expression (drop i xs) ≡ expression x ∷ rest
+  split = ap (map expression) (drop_next xs i x l h)
+
+  now : applied_to (apply g.start (expression x)) rest ≡ whole
+  now = sym (ap (applied_to g.start) split) ∙ g.same
+
+  pub application_typed : TypedExpression S Γ (apply g.start (expression x))
+  application_typed = typed_start S Γ (apply g.start (expression x)) rest (subst (TypedExpression S Γ) (sym now) t)
+
+  pub one_number : at ≡ suc (length rest)
+  one_number = g.number ∙ ap length split
+
+  -- the argument at hand
+  pub call_argument_fault : (f : PolyFault) → IsFaultFrom next S Γ (expression x) f → IsFaultOf S Γ whole f
+  call_argument_fault f k =
+      let m = g.numbered in let z = ap length split in
+      start_fault S Γ (apply g.start (expression x)) rest whole (length rest) f now refl
+      (fault_embeds next (length rest) (1 + parts g.start) S Γ Γ (expression x) (apply g.start (expression x)) (omega (arith, m, z)) (argument_embeds S Γ g.start (expression x)) f k)
+
+  pub call_fault : (b : ℕ) (f : PolyFault) → b ≡ at - 1 → IsFaultFrom b S Γ (apply g.start (expression x)) f → IsFaultOf S Γ whole f
+  call_fault b f e k = let m = one_number in start_fault S Γ (apply g.start (expression x)) rest whole b f now (omega (arith, m, e)) k
+
+  pub calling_steps : (r : Valued) (new b : ℕ) → IsValueOf S Γ (apply g.start (expression x)) r → new ≡ next + parts (expression x) → b ≡ at - 1 → Calling S Γ whole rest r new b
+  calling_steps r new b y k e = record {
+    start = apply g.start (expression x);
+    same = now;
+    value = y;
+    numbered = (let m = g.numbered in let z = ap length split in omega (arith, m, z, k));
+    number = (let m = one_number in omega (arith, m, e));
+  }
+
+pub calling_ends : (S : List Interpretation) (Γ : List Ty) (whole : Expression) (xs : List Expr) (i : ℕ) (v : Valued) (next at : ℕ) → Calling S Γ whole (map expression (drop i xs)) v next at → length xs ≤ i
+    → ComesTo (evaluate S Γ whole) (poly v.value)
+calling_ends S Γ whole xs i v next at g l =
+    let none : map expression (drop i xs) ≡ [] = ap (map expression) (drop_of_length-le xs l) in
+    subst (λ e. ComesTo (evaluate S Γ e) (poly v.value)) (sym (ap (applied_to g.start) none) ∙ g.same) g.value.0

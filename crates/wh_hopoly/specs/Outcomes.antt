@@ -1,5 +1,5 @@
 -- What the call that evaluates an expression answers.
-use Rattle.std.specs.Prelude.{ℕ, ◌≡◌, List, [], ◌∷◌, ◌++◌, Contains}
+use Rattle.std.specs.Prelude.{◌≡◌, List, [], ◌∷◌, Contains}
 use Rattle.wh_types.specs.Ty.{Ty}
 use Rattle.wh_hopoly.specs.Polynomials.{Polynomial, Arguments}
 use Rattle.wh_hopoly.specs.Evaluation.{Run, Expression, apply, Interpretation}

@@ -32,9 +32,9 @@ pub use expression::{Expr, Move, Symbol};
 pub use fault::PolyFault;
 pub use laws::{
     comparing_is_reversed, comparing_is_transitive, equal_polynomials_compare_as_equal,
-    partial_sums_exceed_in_the_next, parts_of_sums_exceed_in_them, products_are_normal,
-    rows_of_products_exceed_in_them, sums_are_normal, sums_associate, sums_commute,
-    values_are_normal, values_are_those_of_the_parts,
+    faults_are_of_values, partial_sums_exceed_in_the_next, parts_of_sums_exceed_in_them,
+    products_are_normal, rows_of_products_exceed_in_them, sums_are_normal, sums_associate,
+    sums_commute, values_are_normal, values_are_those_of_the_parts,
 };
 pub use limits::check_limits;
 pub use normalising::{normal, normal_call};

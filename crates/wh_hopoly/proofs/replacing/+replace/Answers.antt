@@ -1,16 +1,16 @@
 -- Each call's run is a part of the run that it is in, and a loop's invariant says what is left of that.
-use Rattle.std.proofs.Common.{rules, ◌≡◌, ◌+◌, ◌*◌, ◌-◌, ◌<◌, ◌≤◌, ◌++◌, ◌==◌, ap, ap₂, sym, subst, ◌∙◌, arith, ℕ, List, get_or, length, length-append, true, false, if◌then◌else◌, refl}
+use Rattle.std.proofs.Common.{◌≡◌, ◌-◌, ◌<◌, ◌++◌, ap, sym, subst, ◌∙◌, arith, ℕ, List, get_or, length, length-append}
 use Rattle.wh_types.specs.Erase.{ty}
 use Rattle.wh_types.specs.Ty.{Ty, ◌⇒◌, arguments}
-use Rattle.wh_hopoly.specs.Polynomials.{Polynomial, Factors, Arguments, zero_poly, Ordered, Normal, NormalFactors, NormalArguments, HasNormalArguments}
+use Rattle.wh_hopoly.specs.Polynomials.{Polynomial, zero_poly, Normal, NormalFactors, NormalArguments}
 use Rattle.wh_hopoly.specs.Arithmetic.{constant, sum_poly, multiply, atom}
 use Rattle.wh_hopoly.specs.Limits.{Exceeds}
 use Rattle.wh_hopoly.specs.Excesses.{ExceedsAs}
-use Rattle.wh_hopoly.specs.Evaluation.{Run, type_at, down, without, moved, replace, replace_factors, replace_arguments, applied}
+use Rattle.wh_hopoly.specs.Evaluation.{down, replace, replace_factors, replace_arguments, applied}
 use Rattle.wh_hopoly.specs.Outcomes.{ComesTo, ComesToArguments, PassesLimit}
 use Rattle.wh_hopoly.specs.Scopes.{scope_of}
 use Rattle.wh_hopoly.specs.Totals.{total}
-use Rattle.wh_hopoly.specs.Replacements.{head_of, head_by, replace_factor, apply_at, NormalFor, Replaces}
+use Rattle.wh_hopoly.specs.Replacements.{head_of, head_by, replace_factor, apply_at, Replaces}
 use Rattle.wh_hopoly.specs.declared.polynomial.Monomial.{out-Monomial}
 use Rattle.wh_hopoly.specs.declared.polynomial.Atom.{Atom, out-Atom}
 use Rattle.wh_hopoly.specs.Erase.{poly, atoms, polys, list, sum_of, product_of, arguments_of}
@@ -37,11 +37,13 @@ applied-apply_one-requires t c =
     let p = poly c.loop-item.applied_value in
     let same : polys c.args.args.now ≡ arguments_of ps = polys_is c.args.args.now ∙ ap arguments_of (sym c.as_slice-item-items.ensures) in
     let shorter = laws.application_shorter Γ A g ps K p c.loop-item.item-index c.item-item.result c.loop-item.invariant c.loop-item-test.true c.item-item.is (ty c.in-Arrow.field-0.value) (ty c.in-Arrow.rest.value) (ap ty c.in-Arrow.is) in
-    let whole = ap (λ ps. length (applied A Γ g ps).values) same in
-    (omega (arith, shorter, whole), (
-      c.requires.counted,
-      (c.loop-item.invariant.normal, laws.argument_fits Γ A g ps K p c.loop-item.item-index c.item-item.result c.loop-item.invariant c.loop-item-test.true c.item-item.is),
-    ))
+    let whole = ap (λ ps. length (applied A Γ g ps).values) same in (
+      omega (arith, shorter, whole),
+      (
+        c.requires.counted,
+        (c.loop-item.invariant.normal, laws.argument_fits Γ A g ps K p c.loop-item.item-index c.item-item.result c.loop-item.invariant c.loop-item-test.true c.item-item.is),
+      ),
+    )
 
 pub applied-returns-in_err-applied_value-clause-fault : goal.applied-returns-in_err-applied_value-clause-fault
 applied-returns-in_err-applied_value-clause-fault t c =
@@ -131,7 +133,8 @@ replace-add-requires-clause-value t c =
     let same : poly c.args.p.now ≡ sum_of xs = poly_is c.args.p.now ∙ ap sum_of (sym c.as_slice-item-items.ensures) in
     let m = laws.monomial_normal Γ xs c.loop-item.item-index c.item-item.result (subst (Normal Γ) same c.requires.normal) c.loop-item-test.true c.item-item.is in
     let coefficient = (out-Monomial c.item-item.result).coefficient in
-    normal_ordered Δ (poly c.in_ok-value.value) (subst (Normal Δ) (sym c.in_ok-value.ensures.ok.0)
+    let run = replace_factors (head_of c.args.replacement.now) v Γ (constant coefficient) (atoms (out-Monomial c.item-item.result).atoms) in
+    normal_ordered Δ (poly c.in_ok-value.value) (subst (Normal Δ) (sym {b = run.result} c.in_ok-value.ensures.ok.0)
     (laws.factors_normal (ty c.args.replacement.now.kind.now) v (poly c.args.replacement.now.value.now) Γ Δ c.requires.fits.0 (constant coefficient) (atoms (out-Monomial c.item-item.result).atoms)
     (m.0, tt, tt, tt) m.1))
 
@@ -183,9 +186,10 @@ replace_factors-replace_factor-requires t c =
     let us = c.as_slice-item-items.result.now in
     let same : atoms c.args.us.now ≡ product_of us = atoms_is c.args.us.now ∙ ap product_of (sym c.as_slice-item-items.ensures) in
     let shorter = laws.factor_shorter H v Γ Δ c.args.coefficient us (poly c.loop-item.value) c.loop-item.item-index c.item-item.result c.loop-item.invariant c.loop-item-test.true c.item-item.is in
-    let whole = ap (λ us. length (replace_factors H v Γ (constant c.args.coefficient) us).values) same in
-    (omega (arith, shorter, whole),
-    (c.requires.fits, laws.atom_normal Γ us c.loop-item.item-index c.item-item.result (subst (NormalFactors Γ) same c.requires.normal) c.loop-item-test.true c.item-item.is))
+    let whole = ap (λ us. length (replace_factors H v Γ (constant c.args.coefficient) us).values) same in (
+      omega (arith, shorter, whole),
+      (c.requires.fits, laws.atom_normal Γ us c.loop-item.item-index c.item-item.result (subst (NormalFactors Γ) same c.requires.normal) c.loop-item-test.true c.item-item.is),
+    )
 
 pub replace_factors-returns-in_err-factor-clause-fault : goal.replace_factors-returns-in_err-factor-clause-fault
 replace_factors-returns-in_err-factor-clause-fault t c =
@@ -296,14 +300,16 @@ replace_factor-applied-requires t c =
     let B = ty c.in-Ok.kind.now in
     let counts = laws.place_counts A r.variable c.args.place.now.count g Γ Δ c.requires.fits.0 c.requires.fits.1 in
     let value = c.in_ok-value.ensures ∙ moved_by r.variable (c.args.place.now.count - 1 - r.variable) Δ g (let n = counts.0 in let m = counts.1 in omega (arith, n, m)) in
-    let shorter = laws.applied_shorter A r.variable g Γ Δ c.requires.fits.0 x ps B c.in-Ok.ensures c.if-item-replacement.true (polys c.in_ok-args.args) (poly c.in_ok-value.value) c.in_ok-args.ensures.ok.0 value in
-    (omega (arith, shorter), (
-      (let n = counts.0 in omega (arith, n)),
+    let shorter = laws.applied_shorter A r.variable g Γ Δ c.requires.fits.0 x ps B c.in-Ok.ensures c.if-item-replacement.true (polys c.in_ok-args.args) (poly c.in_ok-value.value) c.in_ok-args.ensures.ok.0 value in (
+      omega (arith, shorter),
       (
-        laws.moved_normal A r.variable g Γ Δ c.requires.fits.0 x ps B c.in-Ok.ensures (poly c.in_ok-value.value) value,
-        laws.passed_normal A r.variable g Γ Δ c.requires.fits.0 x ps B c.in-Ok.ensures c.if-item-replacement.true ((one_type Γ x ps B c.in-Ok.ensures).0 c.requires.normal) (polys c.in_ok-args.args) c.in_ok-args.ensures.ok.0,
+        (let n = counts.0 in omega (arith, n)),
+        (
+          laws.moved_normal A r.variable g Γ Δ c.requires.fits.0 x ps B c.in-Ok.ensures (poly c.in_ok-value.value) value,
+          laws.passed_normal A r.variable g Γ Δ c.requires.fits.0 x ps B c.in-Ok.ensures c.if-item-replacement.true ((one_type Γ x ps B c.in-Ok.ensures).0 c.requires.normal) (polys c.in_ok-args.args) c.in_ok-args.ensures.ok.0,
+        ),
       ),
-    ))
+    )
 
 pub replace_factor-returns-then-item-replacement-clause-ok : goal.replace_factor-returns-then-item-replacement-clause-ok
 replace_factor-returns-then-item-replacement-clause-ok t c =
@@ -391,15 +397,17 @@ replace_arguments-replace-requires t c =
     let here = ap (λ B. length (replace H v (Γ ++ arguments B) zero_poly (poly c.item-item.result)).values) first in
     let whole = ap (λ ps. length (replace_arguments H v Γ A ps).values) same in
     let arity = ap (λ T. length (arguments T)) (ap ty c.deref-in-loop-item-2.ensures ∙ sym first) in
-    let wide = laws.wider (ty r.kind.now) v (poly r.value.now) Γ Δ (arguments D) c.requires.fits.0 in
-    (omega (arith, shorter, whole, here), (
+    let wide = laws.wider (ty r.kind.now) v (poly r.value.now) Γ Δ (arguments D) c.requires.fits.0 in (
+      omega (arith, shorter, whole, here),
       (
-        subst (λ E. Replaces (ty r.kind.now) v (poly r.value.now) (Γ ++ arguments D) (Δ ++ arguments E)) (ap ty c.deref.ensures ∙ sym (ap ty c.deref-in-loop-item.ensures)) wide,
-        c.in_ok-with_arguments.ensures ∙ (let l = length-append Γ (arguments D) in let n = c.requires.fits.1 in omega (arith, l, n, arity)),
+        (
+          subst (λ E. Replaces (ty r.kind.now) v (poly r.value.now) (Γ ++ arguments D) (Δ ++ arguments E)) (ap ty c.deref.ensures ∙ sym (ap ty c.deref-in-loop-item.ensures)) wide,
+          c.in_ok-with_arguments.ensures ∙ (let l = length-append Γ (arguments D) in let n = c.requires.fits.1 in omega (arith, l, n, arity)),
+        ),
+        subst (λ B. Normal (Γ ++ arguments B) (poly c.item-item.result)) (sym first)
+            (laws.argument_is_normal H v Γ A ps (list c.loop-item.out) K B (ty c.in-Arrow.rest.value) c.loop-item.item-index c.item-item.result c.loop-item.invariant c.loop-item-test.true c.item-item.is split),
       ),
-      subst (λ B. Normal (Γ ++ arguments B) (poly c.item-item.result)) (sym first)
-          (laws.argument_is_normal H v Γ A ps (list c.loop-item.out) K B (ty c.in-Arrow.rest.value) c.loop-item.item-index c.item-item.result c.loop-item.invariant c.loop-item-test.true c.item-item.is split),
-    ))
+    )
 
 pub replace_arguments-returns-in_err-replace-clause-fault : goal.replace_arguments-returns-in_err-replace-clause-fault
 replace_arguments-returns-in_err-replace-clause-fault t c =

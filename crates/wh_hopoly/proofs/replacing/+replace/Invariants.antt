@@ -1,5 +1,5 @@
 -- A call has fewer values on its way than the call that it is in.
-use Rattle.std.proofs.Common.{◌≡◌, ◌+◌, ◌*◌, length, drop}
+use Rattle.std.proofs.Common.{◌+◌, ◌*◌, length}
 use Rattle.wh_types.specs.Erase.{ty}
 use Rattle.wh_hopoly.specs.Polynomials.{zero_poly}
 use Rattle.wh_hopoly.specs.Arithmetic.{constant}

@@ -1,5 +1,5 @@
 -- The reading counts as it does once it is renumbered.
-use Rattle.std.proofs.Common.{◌+◌, [], sym, subst, ◌∙◌}
+use Rattle.std.proofs.Common.{◌+◌, [], ◌∙◌}
 use Rattle.wh_hopoly.specs.Arithmetic.{renumber}
 use Rattle.wh_hopoly.specs.Erase.{poly}
 use Rattle.wh_hopoly.proofs.RenumberLaws.{moved_from_start}

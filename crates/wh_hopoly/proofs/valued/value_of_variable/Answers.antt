@@ -1,7 +1,6 @@
 -- The variable has one type, and its value is the only one.
-use Rattle.std.proofs.Common.{◌≡◌, [], ap, ap₂, sym, subst, ◌∙◌, arith, length}
+use Rattle.std.proofs.Common.{◌≡◌, [], ap₂, sym, subst, ◌∙◌, arith, length}
 use Rattle.wh_types.specs.Erase.{ty}
-use Rattle.wh_hopoly.specs.Polynomials.{Polynomial}
 use Rattle.wh_hopoly.specs.Evaluation.{one, variable, type_at}
 use Rattle.wh_hopoly.specs.Limits.{Exceeds}
 use Rattle.wh_hopoly.specs.Excesses.{ExceedsAs}
