@@ -26,3 +26,4 @@ pub mod AddedLaws
 pub mod RunLaws
 pub mod ReplacingLaws
 pub mod ValuedLaws
+pub mod GrowingLaws

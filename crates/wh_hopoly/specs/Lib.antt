@@ -10,6 +10,7 @@ pub mod Excesses
 pub mod Outcomes
 pub mod Merges
 pub mod Totals
+pub mod Growing
 pub mod Added
 pub mod Scopes
 pub mod Replacements

@@ -8,6 +8,8 @@ mod evaluating;
 mod excess;
 mod expression;
 mod fault;
+mod growing;
+mod joining;
 mod laws;
 mod limits;
 mod normalising;

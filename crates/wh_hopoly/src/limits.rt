@@ -47,8 +47,8 @@ fn coefficients_fit(p: &Poly)
     }
 }
 
-// A number of 128 bits is below 2^128.
-fn fits(coefficient: u128)
+/// A number of 128 bits is below 2^128.
+pub fn fits(coefficient: u128)
     ensures { coefficient < 2 ^ 128 }
 {
     let _ = coefficient;

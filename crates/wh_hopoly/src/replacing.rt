@@ -18,14 +18,14 @@ ghost use Rattle.wh_hopoly.specs.Outcomes.{ComesTo, ComesToArguments, PassesLimi
 ghost use Rattle.wh_hopoly.specs.declared.polynomial.Atom.{out-Atom};
 
 use crate::excess::Excess;
+use crate::growing::{finish, multiplied, start};
 use crate::limits::tested;
-use crate::polynomial::{Atom, Atoms, Monomial, Poly, Polys};
-use crate::products::product;
+use crate::polynomial::{Atom, Atoms, Poly, Polys};
 use crate::renumbering::raise;
 use crate::scope::{Scope, find};
 use crate::totals::Total;
 use crate::variables::{one_factor, with_arguments};
-use std::alloc::{AllocError, Global};
+use std::alloc::Global;
 use wh_types::{Or, SimpleType};
 
 /// What stands for a variable.
@@ -119,12 +119,12 @@ fn replace_factors<'a>(
     ensures ok { IfOk result (λ r. ComesTo (factors_run (head_of replacement.now) replacement.now.variable (scope_of place.now.inner) (constant coefficient) (atoms us.now)) (poly r)) }
     ensures fault { IfBecause result (λ e. PassesLimit (factors_run (head_of replacement.now) replacement.now.variable (scope_of place.now.inner) (constant coefficient) (atoms us.now)) e) }
 {
-    let mut value = number(alloc, coefficient)?;
+    let mut so_far = start(alloc, coefficient)?;
     for item in us.as_slice() {
         let factor = replace_factor(alloc, replacement, place, item)?;
-        value = product(alloc, &value, &factor)?;
+        so_far = multiplied(alloc, so_far, factor)?;
     }
-    Ok(value)
+    Ok(finish(alloc, so_far)?)
 }
 
 // A factor with its arguments replaced, which is applied to them if it is the variable.
@@ -216,18 +216,6 @@ fn applied<'a>(
         here = rest;
     }
     tested(applied_value)
-}
-
-// A number as a polynomial.
-fn number(alloc: Global, coefficient: u128) -> Result<Poly, AllocError>
-    ensures { IfOk result (λ r. poly r ≡ constant coefficient) }
-{
-    let mut value = Poly::new(alloc)?;
-    value.push(Monomial {
-        coefficient,
-        atoms: Atoms::new(alloc)?,
-    })?;
-    Ok(value)
 }
 
 // The number of the variable once the other one is gone.

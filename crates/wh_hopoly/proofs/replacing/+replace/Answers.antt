@@ -9,6 +9,7 @@ use Rattle.wh_hopoly.specs.Excesses.{ExceedsAs}
 use Rattle.wh_hopoly.specs.Evaluation.{down, replace, replace_factors, replace_arguments, applied}
 use Rattle.wh_hopoly.specs.Outcomes.{ComesTo, ComesToArguments, PassesLimit}
 use Rattle.wh_hopoly.specs.Scopes.{scope_of}
+use Rattle.wh_hopoly.specs.Growing.{grown}
 use Rattle.wh_hopoly.specs.Totals.{total}
 use Rattle.wh_hopoly.specs.Replacements.{head_of, head_by, replace_factor, apply_at, Replaces}
 use Rattle.wh_hopoly.specs.declared.polynomial.Monomial.{out-Monomial}
@@ -19,6 +20,7 @@ use Rattle.wh_hopoly.proofs.FaultLaws.{ok_so, because_so, passed_on}
 use Rattle.wh_hopoly.proofs.OrderedLaws.{normal_ordered}
 use Rattle.wh_hopoly.proofs.NormalWalk.{one_type, not_past}
 use Rattle.wh_hopoly.proofs.RenumberLaws.{moved_by}
+use Rattle.wh_hopoly.proofs.GrowingLaws.{room_is_within}
 use Rattle.wh_hopoly.proofs.ReplacingLaws as laws
 use Rattle.wh_hopoly.proofs.replacing.+replace.Goals as goal
 
@@ -185,7 +187,7 @@ replace_factors-replace_factor-requires t c =
     let Δ = scope_of c.args.place.now.outer in
     let us = c.as_slice-item-items.result.now in
     let same : atoms c.args.us.now ≡ product_of us = atoms_is c.args.us.now ∙ ap product_of (sym c.as_slice-item-items.ensures) in
-    let shorter = laws.factor_shorter H v Γ Δ c.args.coefficient us (poly c.loop-item.value) c.loop-item.item-index c.item-item.result c.loop-item.invariant c.loop-item-test.true c.item-item.is in
+    let shorter = laws.factor_shorter H v Γ Δ c.args.coefficient us (grown c.loop-item.so_far) c.loop-item.item-index c.item-item.result c.loop-item.invariant.multiplying c.loop-item-test.true c.item-item.is in
     let whole = ap (λ us. length (replace_factors H v Γ (constant c.args.coefficient) us).values) same in (
       omega (arith, shorter, whole),
       (c.requires.fits, laws.atom_normal Γ us c.loop-item.item-index c.item-item.result (subst (NormalFactors Γ) same c.requires.normal) c.loop-item-test.true c.item-item.is),
@@ -203,18 +205,18 @@ replace_factors-returns-in_err-factor-clause-fault t c =
     (PassesLimit (replace_factor H v Γ (out-Atom c.item-item.result).head (polys (out-Atom c.item-item.result).args)))
     (PassesLimit (replace_factors H v Γ (constant c.args.coefficient) (atoms c.args.us.now))) c.from_residual-in_err-factor.ensures.1 c.in_err-factor.ensures.fault
     (λ e f. subst (λ us. PassesLimit (replace_factors H v Γ (constant c.args.coefficient) us) e) (sym same)
-    (laws.factor_fault H v Γ Δ c.args.coefficient us (poly c.loop-item.value) c.loop-item.item-index c.item-item.result e c.loop-item.invariant c.loop-item-test.true c.item-item.is f))
+    (laws.factor_fault H v Γ Δ c.args.coefficient us (grown c.loop-item.so_far) c.loop-item.item-index c.item-item.result e c.loop-item.invariant.multiplying c.loop-item-test.true c.item-item.is f))
 
-pub replace_factors-product-requires-clause-left : goal.replace_factors-product-requires-clause-left
-replace_factors-product-requires-clause-left t c = normal_ordered (scope_of c.args.place.now.outer) (poly c.loop-item.value) c.loop-item.invariant.normal
+pub replace_factors-multiplied-requires-clause-left : goal.replace_factors-multiplied-requires-clause-left
+replace_factors-multiplied-requires-clause-left t c = normal_ordered (scope_of c.args.place.now.outer) (grown c.loop-item.so_far) c.loop-item.invariant.multiplying.normal
 
 factor_is_normal : (A : Ty) (n : ℕ) (g : Polynomial) (Γ Δ : List Ty) (us : List Atom) (i : ℕ) (u : Atom) (p : Polynomial) → Replaces A n g Γ Δ → NormalFactors Γ (product_of us) → i < length us → u ≡ get_or us i u
     → p ≡ (replace_factor (head_by A n g) n Γ (out-Atom u).head (polys (out-Atom u).args)).result → Normal Δ p
 factor_is_normal A n g Γ Δ us i u p r m l e k =
     subst (Normal Δ) (sym k) (laws.factor_normal A n g Γ Δ r (out-Atom u).head (polys (out-Atom u).args) (laws.atom_normal Γ us i u m l e))
 
-pub replace_factors-product-requires-clause-right : goal.replace_factors-product-requires-clause-right
-replace_factors-product-requires-clause-right t c =
+pub replace_factors-multiplied-requires-clause-right : goal.replace_factors-multiplied-requires-clause-right
+replace_factors-multiplied-requires-clause-right t c =
     let Γ = scope_of c.args.place.now.inner in
     let Δ = scope_of c.args.place.now.outer in
     let us = c.as_slice-item-items.result.now in
@@ -223,18 +225,18 @@ replace_factors-product-requires-clause-right t c =
     (factor_is_normal (ty c.args.replacement.now.kind.now) c.args.replacement.now.variable (poly c.args.replacement.now.value.now) Γ Δ us c.loop-item.item-index c.item-item.result (poly c.in_ok-factor.factor)
     c.requires.fits.0 (subst (NormalFactors Γ) same c.requires.normal) c.loop-item-test.true c.item-item.is c.in_ok-factor.ensures.ok.0)
 
-pub replace_factors-returns-in_err-value-2-clause-fault : goal.replace_factors-returns-in_err-value-2-clause-fault
-replace_factors-returns-in_err-value-2-clause-fault t c =
+pub replace_factors-returns-in_err-so_far-2-clause-fault : goal.replace_factors-returns-in_err-so_far-2-clause-fault
+replace_factors-returns-in_err-so_far-2-clause-fault t c =
     let H = head_of c.args.replacement.now in
     let v = c.args.replacement.now.variable in
     let Γ = scope_of c.args.place.now.inner in
     let Δ = scope_of c.args.place.now.outer in
     let us = c.as_slice-item-items.result.now in
     let same : atoms c.args.us.now ≡ product_of us = atoms_is c.args.us.now ∙ ap product_of (sym c.as_slice-item-items.ensures) in
-    passed_on c.product.result c.from_residual-in_err-value-2.result c.in_err-value-2.field-0.0 (λ e. ExceedsAs e (multiply (poly c.loop-item.value) (poly c.in_ok-factor.factor)))
-    (PassesLimit (replace_factors H v Γ (constant c.args.coefficient) (atoms c.args.us.now))) c.from_residual-in_err-value-2.ensures.1 c.in_err-value-2.ensures.fault
+    passed_on c.multiplied.result c.from_residual-in_err-so_far-2.result c.in_err-so_far-2.field-0.0 (λ e. ExceedsAs e (multiply (grown c.loop-item.so_far) (poly c.in_ok-factor.factor)))
+    (PassesLimit (replace_factors H v Γ (constant c.args.coefficient) (atoms c.args.us.now))) c.from_residual-in_err-so_far-2.ensures.1 c.in_err-so_far-2.ensures.fault
     (λ e h. subst (λ us. PassesLimit (replace_factors H v Γ (constant c.args.coefficient) us) e) (sym same)
-    (laws.product_fault H v Γ Δ c.args.coefficient us (poly c.loop-item.value) (poly c.in_ok-factor.factor) c.loop-item.item-index c.item-item.result e c.loop-item.invariant c.loop-item-test.true c.item-item.is
+    (laws.product_fault H v Γ Δ c.args.coefficient us (grown c.loop-item.so_far) (poly c.in_ok-factor.factor) c.loop-item.item-index c.item-item.result e c.loop-item.invariant.multiplying c.loop-item-test.true c.item-item.is
     c.in_ok-factor.ensures.ok.0 h))
 
 pub replace_factors-loop-item-preserved : goal.replace_factors-loop-item-preserved
@@ -245,11 +247,15 @@ replace_factors-loop-item-preserved t c =
     let Δ = scope_of c.args.place.now.outer in
     let us = c.as_slice-item-items.result.now in
     let same : atoms c.args.us.now ≡ product_of us = atoms_is c.args.us.now ∙ ap product_of (sym c.as_slice-item-items.ensures) in
-    laws.multiplying_steps H v Γ Δ c.args.coefficient us (poly c.loop-item.value) (poly c.in_ok-factor.factor) (poly c.in_ok-value-2.value) c.loop-item.item-index c.item-item.result c.loop-item.invariant
-    c.loop-item-test.true c.item-item.is c.in_ok-factor.ensures.ok
-    (factor_is_normal (ty c.args.replacement.now.kind.now) v (poly c.args.replacement.now.value.now) Γ Δ us c.loop-item.item-index c.item-item.result (poly c.in_ok-factor.factor)
-    c.requires.fits.0 (subst (NormalFactors Γ) same c.requires.normal) c.loop-item-test.true c.item-item.is c.in_ok-factor.ensures.ok.0)
-    c.in_ok-value-2.ensures.ok
+    let made = c.in_ok-so_far-2.ensures.ok in
+    record {
+      multiplying = laws.multiplying_steps H v Γ Δ c.args.coefficient us (grown c.loop-item.so_far) (poly c.in_ok-factor.factor) (grown c.in_ok-so_far-2.so_far) c.loop-item.item-index c.item-item.result
+          c.loop-item.invariant.multiplying c.loop-item-test.true c.item-item.is c.in_ok-factor.ensures.ok
+          (factor_is_normal (ty c.args.replacement.now.kind.now) v (poly c.args.replacement.now.value.now) Γ Δ us c.loop-item.item-index c.item-item.result (poly c.in_ok-factor.factor)
+          c.requires.fits.0 (subst (NormalFactors Γ) same c.requires.normal) c.loop-item-test.true c.item-item.is c.in_ok-factor.ensures.ok.0)
+          (made.0, room_is_within c.in_ok-so_far-2.so_far made.1);
+      room = made.1;
+    }
 
 pub replace_factors-returns-clause-ok : goal.replace_factors-returns-clause-ok
 replace_factors-returns-clause-ok t c =
@@ -259,8 +265,8 @@ replace_factors-returns-clause-ok t c =
     let Δ = scope_of c.args.place.now.outer in
     let us = c.as_slice-item-items.result.now in
     let same : atoms c.args.us.now ≡ product_of us = atoms_is c.args.us.now ∙ ap product_of (sym c.as_slice-item-items.ensures) in
-    subst (λ us. ComesTo (replace_factors H v Γ (constant c.args.coefficient) us) (poly c.loop-item.value)) (sym same)
-    (laws.multiplying_ends H v Γ Δ c.args.coefficient us (poly c.loop-item.value) c.loop-item.item-index c.loop-item.invariant c.loop-item-test.false)
+    let end = laws.multiplying_ends H v Γ Δ c.args.coefficient us (grown c.loop-item.so_far) c.loop-item.item-index c.loop-item.invariant.multiplying c.loop-item-test.false in
+    subst (λ us. ComesTo (replace_factors H v Γ (constant c.args.coefficient) us) (poly c.in_ok-finish.field-0)) (sym same) (c.in_ok-finish.ensures ∙ end.0, end.1)
 
 pub replace_factor-unreachable-requires : goal.replace_factor-unreachable-requires
 replace_factor-unreachable-requires t c =

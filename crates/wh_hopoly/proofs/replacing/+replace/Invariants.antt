@@ -8,6 +8,7 @@ use Rattle.wh_hopoly.specs.Scopes.{scope_of}
 use Rattle.wh_hopoly.specs.Replacements.{head_of, replace_factor, apply_at}
 use Rattle.wh_hopoly.specs.declared.polynomial.Atom.{out-Atom}
 use Rattle.wh_hopoly.specs.Erase.{poly, atoms, polys, list}
+use Rattle.wh_hopoly.specs.Growing.{grown, HasRoom}
 use Rattle.wh_hopoly.proofs.ReplacingLaws.{Summing, Multiplying, Passing, Applying}
 use Rattle.wh_hopoly.proofs.replacing.+replace.Given as goal
 
@@ -36,8 +37,10 @@ abbrev pub invariant-replace-loop-item : goal.invariant-replace-loop-item
 invariant-replace-loop-item l = Summing (head_of l.replacement) l.replacement.variable (scope_of l.place.inner) l.item-items l.total l.item-index
 
 abbrev pub invariant-replace_factors-loop-item : goal.invariant-replace_factors-loop-item
-invariant-replace_factors-loop-item l =
-    Multiplying (head_of l.replacement) l.replacement.variable (scope_of l.place.inner) (scope_of l.place.outer) l.coefficient l.item-items (poly l.value) l.item-index
+invariant-replace_factors-loop-item l = record {
+  multiplying : Multiplying (head_of l.replacement) l.replacement.variable (scope_of l.place.inner) (scope_of l.place.outer) l.coefficient l.item-items (grown l.so_far) l.item-index;
+  room : HasRoom l.so_far;
+}
 
 abbrev pub invariant-replace_arguments-loop-item : goal.invariant-replace_arguments-loop-item
 invariant-replace_arguments-loop-item l =
