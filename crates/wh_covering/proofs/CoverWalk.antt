@@ -124,10 +124,10 @@ module _ (S : Symbols) (rules : List RewriteRule) (pairs : List PairData) (set :
       ];
     }
 
-    rule_within : (r : RewriteRule) (right : Bool) → IsRightLine with_limits (rule_run symbols r false) (rule_run symbols r true) false _
+    rule_within : (r : RewriteRule) (right : Bool) (ms : List Transfer) → IsRightLine with_limits (rule_run symbols r false) (rule_run symbols r true) false ms
         → StaysWithin with_limits (rule_run symbols r right)
-    rule_within r false h = h.0
-    rule_within r true h = h.1
+    rule_within r false ms h = h.0
+    rule_within r true ms h = h.1
 
     pair_within : (p : PairData) (strict right : Bool) (ms : List Transfer)
         → IsRightLine with_limits (pair_run S rules symbols marks p false) (pair_run S rules symbols marks p true) strict ms
@@ -141,7 +141,7 @@ module _ (S : Symbols) (rules : List RewriteRule) (pairs : List PairData) (set :
           let at = place_of rules r found in
           let within = slice_get_within rules at.0 r at.1 in
           let line = some_at rule_lines at.0 (omega (arith, within, ready.rule_count)) in
-          rule_within r right (right_rules at.0 r line.0 at.1 line.1);
+          rule_within r right line.0 (right_rules at.0 r line.0 at.1 line.1);
       of_pairs = λ n p right found there.
           let at = place_of set n found in
           let within = slice_get_within set at.0 n at.1 in
@@ -164,6 +164,10 @@ cause_so (Err (Because e)) P Q f h = f e h
 pub ok_so : {T E : Type 0} (r : Result T E) (P Q : Type 0) → (P → Q) → OnOk r P → OnOk r Q
 ok_so (Ok x) P Q f h = f h
 ok_so (Err e) P Q f h = tt
+
+pub ok_both : {T E : Type 0} (r : Result T E) (P Q R : Type 0) → (P → Q → R) → OnOk r P → OnOk r Q → OnOk r R
+ok_both (Ok x) P Q R f h k = f h k
+ok_both (Err e) P Q R f h k = tt
 
 -- the pairs of the set have marked sides
 pub set_sides : (S : Symbols) (rules : List RewriteRule) (pairs : List PairData) (set : List ℕ) (marks : List Mark) → HaveTypedSides S rules pairs

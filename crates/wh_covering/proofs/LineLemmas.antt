@@ -53,3 +53,12 @@ told_cause T o f Q same h = subst (λ o. IfBecause {T = T} (Err o) Q) same h
 
 pub told_of : (T : Type 0) {E : Type 0} (o : Or E) (f : E) (P : T → Type 0) (Q : E → Type 0) → o ≡ Because f → MatchOr {T = T} (Err o) P Q → Q f
 told_of T o f P Q same h = subst (λ o. MatchOr {T = T} (Err o) P Q) same h
+
+pub handed_on : (T : Type 0) {U E : Type 0} (r : Result U (Or E)) (f : Or E) (P : T → Type 0) (Q : E → Type 0) → IsErrAnd r (λ x. x ≡ f)
+    → MatchOr {T = T} (Err f) P Q → IfBecause r Q
+handed_on T (Ok x) f P Q is h = absurd is
+handed_on T {U} (Err x) f P Q is h = subst (λ y. IfBecause {T = U} (Err y) Q) (sym is) (by f h)
+  where
+    by : (f : Or _) → MatchOr {T = T} (Err f) P Q → IfBecause {T = U} (Err f) Q
+    by NoMemory h = tt
+    by (Because e) h = h

@@ -20,7 +20,7 @@ use crate::readings::{first_not_normal, first_not_normal_mark};
 use crate::rules::check_rules;
 use std::alloc::Global;
 use wh_hopoly::{Covers, Moves, Symbol};
-use wh_polycheck::MarkedSymbol;
+use wh_polycheck::{MarkedSymbol, interpretations_in_order_interpret};
 use wh_subterm::is_bad_drop;
 use wh_system::{Pair, PairList, PairSet, System};
 use wh_types::Or;
@@ -48,6 +48,7 @@ pub fn check_covering(
     let (pairs, set) = (pairs.as_slice(), set.as_slice());
     let (rule_lines, pair_lines) = (rule_lines.as_slice(), pair_lines.as_slice());
     system.is_well_made();
+    interpretations_in_order_interpret();
     check_ready(alloc, system, set, symbols, marks, rule_lines, pair_lines, drop)?;
     check_lines(alloc, system, pairs, set, symbols, marks, rule_lines, pair_lines, drop)
 }

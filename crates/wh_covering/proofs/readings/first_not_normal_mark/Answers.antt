@@ -13,11 +13,11 @@ use Rattle.wh_covering.proofs.readings.first_not_normal_mark.Goals as goal
 pub returns-then-not-is_normal : goal.returns-then-not-is_normal
 returns-then-not-is_normal c =
     let d = system_data c.args.system.now in
-    let x = c.loop-mark-item.result in
+    let x = c.mark-item.result in
     let scope = ap tys c.as_slice.ensures.value ∙ c.in_ok-scope.ensures ∙ ap arguments c.in_ok-kind.ensures ∙ arguments_of_arrows (marked_types d.symbols d.rules x.symbol) 0 in (
       c.loop-mark.mark-index,
       mark x,
-      read_map mark c.args.marks.now c.loop-mark.mark-index x c.loop-mark-test.true c.loop-mark-item.is,
+      read_map mark c.args.marks.now c.loop-mark.mark-index x c.loop-mark-test.true c.mark-item.is,
       refl,
       λ normal. cc (c.is_normal.ensures.1 (subst (λ Γ. Normal Γ (poly x.poly)) (sym scope) normal), c.if-not-is_normal.true),
       c.loop-mark.invariant,
@@ -26,10 +26,10 @@ returns-then-not-is_normal c =
 pub loop-mark-preserved : goal.loop-mark-preserved
 loop-mark-preserved c =
     let d = system_data c.args.system.now in
-    let x = c.loop-mark-item.result in
+    let x = c.mark-item.result in
     let scope = ap tys c.as_slice.ensures.value ∙ c.in_ok-scope.ensures ∙ ap arguments c.in_ok-kind.ensures ∙ arguments_of_arrows (marked_types d.symbols d.rules x.symbol) 0 in
     before_more (λ u. Normal (marked_types d.symbols d.rules u.symbol) u.polynomial) (marks_of c.args.marks.now) c.loop-mark.mark-index (mark x) c.loop-mark.invariant
-    (read_map mark c.args.marks.now c.loop-mark.mark-index x c.loop-mark-test.true c.loop-mark-item.is)
+    (read_map mark c.args.marks.now c.loop-mark.mark-index x c.loop-mark-test.true c.mark-item.is)
     (subst (λ Γ. Normal Γ (poly x.poly)) scope (c.is_normal.ensures.0 c.if-not-is_normal.false))
 
 pub returns : goal.returns

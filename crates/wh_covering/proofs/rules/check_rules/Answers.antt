@@ -1,8 +1,10 @@
-use Rattle.std.proofs.Common.{ℕ, map, Contains, true, false, ap, sym, subst, ◌∙◌, arith}
+use Rattle.std.proofs.Common.{map, sym, subst, arith}
 use Rattle.wh_system.specs.SystemView.{system_data}
 use Rattle.wh_system.proofs.ByPlace.{read_map, map_length}
 use Rattle.wh_hopoly.specs.Erase.{interpretations, transfers}
 use Rattle.wh_covering.specs.CoveringFaults.{IsRightRule, with_limits}
+use Rattle.wh_covering.specs.Lines.{IsFirstRuleFault}
+use Rattle.wh_covering.specs.declared.fault.CoveringFault.TheVariants.{Rule}
 use Rattle.wh_covering.proofs.LineLemmas.{told_of}
 use Rattle.wh_covering.proofs.Walks.{one_more}
 use Rattle.wh_covering.proofs.CoverWalk.{rule_right, rule_wrong, rule_past}
@@ -14,9 +16,10 @@ returns-in-Err-Because-clause-fault c =
     let lines = c.args.lines.now in
     let i = c.loop-i.i in
     let within = c.loop-i-test.true in
-    rule_wrong d.rules (interpretations c.args.symbols.now) (map transfers lines) i (transfers c.index-lines-i.result)
+    subst (λ f. IsFirstRuleFault d.rules (interpretations c.args.symbols.now) (map transfers lines) (Rule i f)) (sym c.in-Err-Because.fault-is)
+    (rule_wrong d.rules (interpretations c.args.symbols.now) (map transfers lines) i (transfers c.index-lines-i.result)
     (read_map transfers lines i c.index-lines-i.result within c.index-lines-i.is) c.loop-i.invariant (omega (arith, within, c.requires.count)) c.in-Err-Because.fault
-    (λ r at. told_of (Unit {0}) c.in-Err-Because.field-0 c.in-Err-Because.fault _ _ c.in-Err-Because.field-0-is (c.in-Err-Because.ensures r at))
+    (λ r at. told_of (Unit {0}) c.in-Err-Because.field-0 c.in-Err-Because.fault _ _ c.in-Err-Because.field-0-is (c.in-Err-Because.ensures r at)))
 
 pub loop-i-preserved : goal.loop-i-preserved
 loop-i-preserved c =
