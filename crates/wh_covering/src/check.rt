@@ -15,8 +15,8 @@ ghost use Rattle.wh_covering.specs.CoveringFaults.{IsFirstCoveringFault, IsReady
 
 use crate::dropping::sorted;
 use crate::fault::CoveringFault;
+use crate::normality::{first_not_normal, first_not_normal_mark};
 use crate::pairs::check_pairs;
-use crate::readings::{first_not_normal, first_not_normal_mark};
 use crate::rules::check_rules;
 use std::alloc::Global;
 use wh_hopoly::{Covers, Moves, Symbol};
@@ -25,7 +25,17 @@ use wh_subterm::is_bad_drop;
 use wh_system::{Pair, PairList, PairSet, System};
 use wh_types::Or;
 
-/// Whether interpretations and moves let the pairs in `drop` go from the set.
+/// Whether interpretations and moves let the pairs in `drop` go from the set (the reduction pair processor of Kop 2012 with the
+/// polynomials of Fuhs and Kop 2012, in the form of this project).
+///
+/// `symbols` read the system's symbols and `marks` the marked symbols of the set, each by a polynomial that must be normal in the
+/// scope of its arguments. There must be a line of moves for each rule and for each pair of the set, and `drop` must have some
+/// pairs of the set, each once. Then each line must show that the left side of its rule or pair is at least the right one, and
+/// that it is greater where the pair is one of `drop`.
+///
+/// `Err` names the first condition that fails, in this order: of the symbols, the marks, the rules and the pairs of the set the
+/// first one, and of a line first that a value in the evaluation of a side exceeds a limit. Each side is evaluated once. A line of
+/// more moves than 32 bits count is told as want of memory.
 pub fn check_covering(
     alloc: Global,
     system: &System,

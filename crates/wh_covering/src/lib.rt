@@ -6,8 +6,8 @@ mod check;
 mod dropping;
 mod fault;
 mod lines;
+mod normality;
 mod pairs;
-mod readings;
 mod rules;
 
 pub use check::check_covering;

@@ -3,7 +3,7 @@ use Rattle.wh_system.proofs.ByPlace.{Before}
 use Rattle.wh_hopoly.specs.Polynomials.{Normal}
 use Rattle.wh_polycheck.specs.Marks.{marked_types}
 use Rattle.wh_polycheck.specs.SideResults.{marks_of}
-use Rattle.wh_covering.proofs.readings.first_not_normal_mark.Given as goal
+use Rattle.wh_covering.proofs.normality.first_not_normal_mark.Given as goal
 
 abbrev pub invariant-loop-mark : goal.invariant-loop-mark
 invariant-loop-mark l =

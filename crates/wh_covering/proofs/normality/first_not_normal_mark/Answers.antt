@@ -8,7 +8,7 @@ use Rattle.wh_hopoly.specs.Erase.{poly}
 use Rattle.wh_polycheck.specs.Marks.{marked_types}
 use Rattle.wh_polycheck.specs.SideResults.{mark, marks_of}
 use Rattle.wh_polycheck.proofs.MoreInterpretations.{arguments_of_arrows}
-use Rattle.wh_covering.proofs.readings.first_not_normal_mark.Goals as goal
+use Rattle.wh_covering.proofs.normality.first_not_normal_mark.Goals as goal
 
 pub returns-then-not-is_normal : goal.returns-then-not-is_normal
 returns-then-not-is_normal c =

@@ -5,7 +5,7 @@ use Rattle.wh_system.proofs.ByPlace.{read_map, before_more, map_length}
 use Rattle.wh_hopoly.specs.Polynomials.{Normal}
 use Rattle.wh_hopoly.specs.Erase.{interpretation, interpretations, poly}
 use Rattle.wh_covering.proofs.Walks.{at_each}
-use Rattle.wh_covering.proofs.readings.first_not_normal.Goals as goal
+use Rattle.wh_covering.proofs.normality.first_not_normal.Goals as goal
 
 pub returns-then-not-is_normal : goal.returns-then-not-is_normal
 returns-then-not-is_normal c =
