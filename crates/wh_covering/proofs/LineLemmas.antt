@@ -1,5 +1,5 @@
 -- What is answered for a line, test by test.
-use Rattle.std.proofs.Common.{◌≡◌, ◌⊎◌, inl, inr, List, Bool, true, false, Result, Ok, Err, IsErrAnd, MatchResult, sym, subst, ◌∙◌}
+use Rattle.std.proofs.Common.{◌≡◌, inl, inr, List, Bool, Result, Ok, Err, IsErrAnd, MatchResult, sym, subst, ◌∙◌}
 use mathlib.Core.Path.{subst₂}
 use Rattle.wh_types.specs.Outcome.{MatchOr, IfBecause}
 use Rattle.wh_types.specs.declared.want.Or.{Or}

@@ -1,5 +1,5 @@
 -- What a side comes to: the result of an evaluation is one of its values, so it has few monomials where no value exceeds a limit.
-use Rattle.std.proofs.Common.{◌≡◌, ◌<◌, ◌≤◌, ◌+◌, ◌^◌, ◌⊎◌, inl, inr, ℕ, List, [], ◌∷◌, ◌++◌, length, Bool, Contains, refl, ap, sym, subst, ◌∙◌, arith}
+use Rattle.std.proofs.Common.{◌≡◌, ◌<◌, ◌≤◌, ◌^◌, inl, inr, ℕ, List, [], ◌∷◌, ◌++◌, length, Bool, Contains, refl, sym, subst, arith}
 use Rattle.std.proofs.lemmas.List.Elements.{Contains-append_right}
 use Rattle.wh_types.specs.Ty.{Ty, arguments}
 use Rattle.wh_terms.specs.Typing.{Symbols}
@@ -9,10 +9,10 @@ use Rattle.wh_system.specs.CanonicalView.{side_of}
 use Rattle.wh_hopoly.specs.Polynomials.{Polynomial, zero_poly, plus, Arguments}
 use Rattle.wh_hopoly.specs.Arithmetic.{sum_poly, constant}
 use Rattle.wh_hopoly.specs.Evaluation.{Run, one, next, replace, replace_factors, moved, applied, Expression, var, symbol, lambda, apply, Interpretation, type_of, codomain, apply_one, evaluate, NormalInterpretations, Norm, Values}
-use Rattle.wh_hopoly.specs.Limits.{Exceeds, weight, weight_of_factors}
-use Rattle.wh_hopoly.specs.Erase.{poly, atoms, monomials, sum_of}
+use Rattle.wh_hopoly.specs.Limits.{Exceeds, weight}
+use Rattle.wh_hopoly.specs.Erase.{poly, monomials, sum_of}
 use Rattle.wh_hopoly.specs.declared.polynomial.Poly.{Poly}
-use Rattle.wh_hopoly.specs.declared.polynomial.Monomial.{Monomial, out-Monomial}
+use Rattle.wh_hopoly.specs.declared.polynomial.Monomial.{Monomial}
 use Rattle.wh_hopoly.specs.declared.fault.PolyFault.{PolyFault}
 use Rattle.wh_hopoly.specs.declared.fault.PolyFault.TheVariants.{Overflow, TooLarge}
 use Rattle.wh_hopoly.specs.declared.excess.Excess.{Excess}
@@ -21,7 +21,7 @@ use Rattle.wh_hopoly.proofs.ValueLaws.{normal_value}
 use Rattle.wh_polycheck.specs.CoverFaults.{IsNormal}
 use Rattle.wh_polycheck.specs.Sides.{types_of_metas, side_expression, marked_expression}
 use Rattle.wh_polycheck.specs.Marks.{Mark, with_marks, mark_number, head_of_side, arguments_of_side, AreNormalMarks}
-use Rattle.wh_polycheck.specs.SideResults.{HasExcess, SideComesTo, IsFaultOfSide, PairSideComesTo, IsFaultOfPairSide}
+use Rattle.wh_polycheck.specs.SideResults.{SideComesTo, IsFaultOfSide, PairSideComesTo, IsFaultOfPairSide}
 use Rattle.wh_polycheck.proofs.MoreInterpretations.{normal_with_marks}
 use Rattle.wh_meaning.specs.Covering.{rule_run, pair_run}
 use Rattle.wh_covering.specs.CoveringFaults.{RunExceeds}

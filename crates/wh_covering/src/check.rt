@@ -59,8 +59,12 @@ pub fn check_covering(
     let (rule_lines, pair_lines) = (rule_lines.as_slice(), pair_lines.as_slice());
     system.is_well_made();
     interpretations_in_order_interpret();
-    check_ready(alloc, system, set, symbols, marks, rule_lines, pair_lines, drop)?;
-    check_lines(alloc, system, pairs, set, symbols, marks, rule_lines, pair_lines, drop)
+    check_ready(
+        alloc, system, set, symbols, marks, rule_lines, pair_lines, drop,
+    )?;
+    check_lines(
+        alloc, system, pairs, set, symbols, marks, rule_lines, pair_lines, drop,
+    )
 }
 
 // All that is tested before the first line.
@@ -79,10 +83,16 @@ fn check_ready(
     ensures { (pairs : List PairData) → MatchOr result (λ _. IsReady (system_data system.now).symbols (system_data system.now).rules set.now (interpretations symbols.now) (marks_of marks.now) (map transfers rule_lines.now) (map transfers pair_lines.now) drop.now) (IsFirstCoveringFault with_limits (system_data system.now).symbols (system_data system.now).rules pairs set.now (interpretations symbols.now) (marks_of marks.now) (map transfers rule_lines.now) (map transfers pair_lines.now) drop.now) }
 {
     if let Some(symbol) = first_not_normal(alloc, symbols)? {
-        return Err(Or::Because(CoveringFault::BadPolynomial { symbol, marked: false }));
+        return Err(Or::Because(CoveringFault::BadPolynomial {
+            symbol,
+            marked: false,
+        }));
     }
     if let Some(symbol) = first_not_normal_mark(alloc, system, marks)? {
-        return Err(Or::Because(CoveringFault::BadPolynomial { symbol, marked: true }));
+        return Err(Or::Because(CoveringFault::BadPolynomial {
+            symbol,
+            marked: true,
+        }));
     }
     if rule_lines.len() != system.rules().len() || pair_lines.len() != set.len() {
         return Err(Or::Because(CoveringFault::BadLines));
@@ -115,5 +125,14 @@ fn check_lines(
 {
     check_rules(alloc, system, symbols, rule_lines)?;
     let dropped = sorted(alloc, drop)?;
-    check_pairs(alloc, system, pairs, set, symbols, marks, pair_lines, dropped.as_slice())
+    check_pairs(
+        alloc,
+        system,
+        pairs,
+        set,
+        symbols,
+        marks,
+        pair_lines,
+        dropped.as_slice(),
+    )
 }

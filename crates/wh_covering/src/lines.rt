@@ -115,12 +115,7 @@ fn limit_of(fault: &PolyFault) -> Excess
 
 // Whether the moves show that the first side is at least the second one, or greater. Moves past what 32 bits count are more than
 // memory holds, and are told as want of memory.
-fn check_line(
-    left: &Poly,
-    right: &Poly,
-    strict: bool,
-    moves: &Moves,
-) -> Result<(), Or<LineFault>>
+fn check_line(left: &Poly, right: &Poly, strict: bool, moves: &Moves) -> Result<(), Or<LineFault>>
     requires left { IsSomeSide (poly left.now) }
     requires right { IsSomeSide (poly right.now) }
     ensures { (a b : Run Polynomial) → IsSide a (poly left.now) → IsSide b (poly right.now) → IsAnswerOf a b strict (transfers moves.now) result }

@@ -47,7 +47,15 @@ pub fn check_pairs(
     for (i, moves) in lines.iter().enumerate() {
         let pair = set[i];
         let strict = is_dropped(drop, pair);
-        match check_pair(alloc, system, symbols, marks, &pairs[pair as usize], strict, moves) {
+        match check_pair(
+            alloc,
+            system,
+            symbols,
+            marks,
+            &pairs[pair as usize],
+            strict,
+            moves,
+        ) {
             Ok(()) => {}
             Err(Or::NoMemory) => return Err(Or::NoMemory),
             Err(Or::Because(fault)) => return Err(Or::Because(CoveringFault::Pair { pair, fault })),

@@ -1,4 +1,4 @@
-use Rattle.std.proofs.Common.{map, Contains, refl, ap, sym, subst, ◌∙◌}
+use Rattle.std.proofs.Common.{refl, ap, sym, subst, ◌∙◌}
 use Rattle.wh_types.specs.Erase.{tys}
 use Rattle.wh_types.specs.Ty.{arguments}
 use Rattle.wh_system.specs.SystemView.{system_data}
