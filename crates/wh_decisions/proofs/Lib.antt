@@ -3,6 +3,8 @@ pub mod Clashes
 pub mod BlockFaults
 pub mod Parts
 pub mod Projections
+pub mod Polynomials
+pub mod Coverings
 pub mod Breaks
 pub mod Meant
 pub mod Stops
