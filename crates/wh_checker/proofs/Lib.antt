@@ -1,10 +1,13 @@
 pub mod SetLemmas
 pub mod ChoiceLemmas
+pub mod InterpretationLemmas
 pub mod NodeLemmas
 pub mod WalkLemmas
 pub mod GoLemmas
 pub mod YesLemmas
 pub mod RowLaws
+pub mod CoverLaws
+pub mod CoveringLaws
 pub mod NodeLaws
 pub mod FaultLaws
 pub mod Bounded
