@@ -4,9 +4,9 @@
 mod names;
 mod print;
 mod report;
+mod rows;
+mod words;
 
 pub use names::Names;
 pub use print::{bad_words_line, out_of_memory_line, print_answer};
-pub use report::{
-    NamedCause, NamedFinder, NamedRejection, ReasonWord, Report, Role,
-};
+pub use report::{NamedCause, NamedFinder, NamedRejection, ReasonWord, Report, Role};
