@@ -16,10 +16,9 @@ pub fn read_row(alloc: Global, words: &[&str]) -> Result<Option<Row>, AllocError
     ensures { IfOk result (Reads RowStands row_words (seen words.now)) }
 {
     match words {
+        [] => Ok(None),
         [word] => Ok(bare_row(word)),
-        [word, number] => Ok(counted_row(word, number)),
         [front, number, rest @ ..] => long_row(alloc, front, number, rest),
-        _ => Ok(None),
     }
 }
 
@@ -76,7 +75,7 @@ fn place_row(word: &str, number: &str) -> Option<Row>
     }
 }
 
-// Three words and more.
+// Two words and more.
 fn long_row(
     alloc: Global,
     front: &str,
@@ -85,20 +84,23 @@ fn long_row(
 ) -> Result<Option<Row>, AllocError>
     ensures { IfOk result (Reads RowStands row_words (front.now ∷ number.now ∷ seen rest.now)) }
 {
-    let Some(number) = short_number(number) else {
-        return Ok(None);
-    };
     match front {
         "node" => node_row(alloc, number, rest),
         "inaccessible" => inaccessible(alloc, number, rest),
-        _ => Ok(None),
+        _ => match rest {
+            [] => Ok(counted_row(front, number)),
+            _ => Ok(None),
+        },
     }
 }
 
 // A rule and one of its meta-variables.
-fn inaccessible(alloc: Global, rule: u32, rest: &[&str]) -> Result<Option<Row>, AllocError>
-    ensures { IfOk result (Reads RowStands row_words (codes "inaccessible" ∷ decimal rule ∷ seen rest.now)) }
+fn inaccessible(alloc: Global, number: &str, rest: &[&str]) -> Result<Option<Row>, AllocError>
+    ensures { IfOk result (Reads RowStands row_words (codes "inaccessible" ∷ number.now ∷ seen rest.now)) }
 {
+    let Some(rule) = short_number(number) else {
+        return Ok(None);
+    };
     match rest {
         [name] => match name_of(alloc, name.as_bytes())? {
             Some(meta) => Ok(Some(Row::Inaccessible { rule, meta })),
@@ -109,9 +111,12 @@ fn inaccessible(alloc: Global, rule: u32, rest: &[&str]) -> Result<Option<Row>, 
 }
 
 // What is said of a node.
-fn node_row(alloc: Global, node: u32, rest: &[&str]) -> Result<Option<Row>, AllocError>
-    ensures { IfOk result (Reads RowStands row_words (at_node node (seen rest.now))) }
+fn node_row(alloc: Global, number: &str, rest: &[&str]) -> Result<Option<Row>, AllocError>
+    ensures { IfOk result (Reads RowStands row_words (codes "node" ∷ number.now ∷ seen rest.now)) }
 {
+    let Some(node) = short_number(number) else {
+        return Ok(None);
+    };
     match rest {
         [word] => Ok(plain_row(node, word)),
         [word, last] => last_row(alloc, node, word, last),
