@@ -7,7 +7,7 @@ ghost use Rattle.wh_answer.specs.Stands.{RowStands, Short};
 ghost use Rattle.wh_answer.specs.Words.{Reads, at_node, row_words, seen};
 
 use crate::report::NamedRejection as Row;
-use crate::words::{long_number, name_of, short_number};
+use crate::words::{long_number, name_of, short_number, unmarked};
 use std::alloc::{AllocError, Global};
 use wh_text::Name;
 
@@ -190,12 +190,12 @@ fn marked_row(alloc: Global, node: u32, word: &str, last: &str) -> Result<Option
     requires name { IsWord last.now → ⊥ }
     ensures { IfOk result (Reads RowStands row_words (at_node node (word.now ∷ last.now ∷ []))) }
 {
-    let [name @ .., b'#'] = last.as_bytes() else {
-        return Ok(None);
-    };
     if word != "bad-polynomial" {
         return Ok(None);
     }
+    let Some(name) = unmarked(last.as_bytes()) else {
+        return Ok(None);
+    };
     match name_of(alloc, name)? {
         Some(symbol) => Ok(Some(Row::BadPolynomial {
             node,

@@ -1,6 +1,6 @@
 //! The words of a line, and the numbers and names among them.
 
-ghost use Rattle.std.specs.Prelude.{◌≡◌, ◌↔◌, ℕ, IfOk, IsTrue, MatchOption};
+ghost use Rattle.std.specs.Prelude.{◌≡◌, ◌↔◌, ◌++◌, List, ℕ, codes, IfOk, IsTrue, MatchOption};
 ghost use Rattle.std.specs.Fmt.{decimal};
 ghost use Rattle.wh_text.specs.Chars.{AllPass, is_part, is_start};
 ghost use Rattle.wh_text.specs.Words.{IsWord};
@@ -54,6 +54,16 @@ pub fn name_of(alloc: Global, word: &[u8]) -> Result<Option<Name>, AllocError>
         Ok(Some(Name::new(alloc, word)?))
     } else {
         Ok(None)
+    }
+}
+
+/// What stands before the mark at the end of the word.
+pub fn unmarked(word: &[u8]) -> Option<&[u8]>
+    ensures { MatchOption result ((name : List ℕ) → name ++ codes "#" ≡ word.now → ⊥) (λ name. name.now ++ codes "#" ≡ word.now) }
+{
+    match word {
+        [name @ .., last] => if *last == b'#' { Some(name) } else { None },
+        [] => None,
     }
 }
 
