@@ -1,3 +1,4 @@
 pub mod Numbers
 pub mod Spelled
 pub mod OtherRows
+pub mod Lists
