@@ -2,3 +2,4 @@ pub mod Numbers
 pub mod Spelled
 pub mod OtherRows
 pub mod Lists
+pub mod Joined
