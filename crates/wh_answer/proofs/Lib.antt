@@ -3,3 +3,5 @@ pub mod Spelled
 pub mod OtherRows
 pub mod Lists
 pub mod Joined
+pub mod PlainWords
+pub mod Cut
