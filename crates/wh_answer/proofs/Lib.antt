@@ -5,3 +5,4 @@ pub mod Lists
 pub mod Joined
 pub mod PlainWords
 pub mod Cut
+pub mod SameAnswer

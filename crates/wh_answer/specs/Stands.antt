@@ -1,5 +1,5 @@
--- What a report can hold: numbers of its widths, and names that are words.
-use Rattle.std.specs.Prelude.{ℕ, ◌<◌, ◌^◌, List, [], ◌∷◌}
+-- Which reports can be: their numbers fit, and their names are spelled as names.
+use Rattle.std.specs.Prelude.{ℕ, ◌≡◌, ◌<◌, ◌^◌, List, [], ◌∷◌, Option, MatchOption}
 use Rattle.wh_text.specs.Words.{IsWord}
 use Rattle.wh_answer.specs.declared.report.Report.{Report}
 use Rattle.wh_answer.specs.declared.report.Report.TheVariants as answer
@@ -80,3 +80,7 @@ Stands answer.OutOfMemory = Unit {0}
 Stands (answer.TooLong r) = Unit {0}
 Stands (answer.Overflow k) = Short k
 Stands (answer.TooLarge k) = Short k
+
+-- a reading of what is shown: one that can be and is shown like this, or none where there is none (ours)
+abbrev pub Reads : {A B : Type 0} → (A → Type 0) → (A → B) → B → Option A → Type 0
+Reads {A} CanBe show shown found = MatchOption found ((x : A) → CanBe x → show x ≡ shown → ⊥) (λ x. CanBe x × (show x ≡ shown))

@@ -1,5 +1,5 @@
--- The words of each answer: its line without the line feed is these words with a space between any two.
-use Rattle.std.specs.Prelude.{ℕ, ◌≡◌, ◌≢◌, ◌==◌, ◌++◌, List, [], ◌∷◌, map, codes, true, false, Option, MatchOption}
+-- The words of each answer: its line without the line feed is these words with a space between any two (ours).
+use Rattle.std.specs.Prelude.{ℕ, ◌≡◌, ◌≢◌, ◌==◌, ◌++◌, List, [], ◌∷◌, map, codes, true, false}
 use Rattle.std.specs.Borrow.{Bor}
 use Rattle.std.specs.Fmt.{decimal}
 use Rattle.std.specs.List.{slice_split}
@@ -78,10 +78,6 @@ report_words answer.OutOfMemory = codes "OUT" ∷ codes "OF" ∷ codes "MEMORY" 
 report_words (answer.TooLong r) = codes "TOO" ∷ codes "LONG" ∷ role_word r ∷ []
 report_words (answer.Overflow k) = codes "OVERFLOW" ∷ decimal k ∷ []
 report_words (answer.TooLarge k) = codes "TOO" ∷ codes "LARGE" ∷ decimal k ∷ []
-
--- a reading of words: one that stands and has them, or none where none does (ours)
-abbrev pub Reads : {A : Type 0} → (A → Type 0) → (A → List (List ℕ)) → List (List ℕ) → Option A → Type 0
-Reads {A} Stands words_of words found = MatchOption found ((x : A) → Stands x → words_of x ≡ words → ⊥) (λ x. Stands x × (words_of x ≡ words))
 
 -- a number is spelled with no `+` in front, and with 0 there only where it stands alone (ours)
 abbrev pub BeginsNumber : List ℕ → Type 0

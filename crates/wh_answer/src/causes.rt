@@ -2,9 +2,9 @@
 
 ghost use Rattle.std.specs.Prelude.{◌≡◌, ◌∷◌, [], List, ℕ, codes, IfOk, MatchOption, map};
 ghost use Rattle.std.specs.Fmt.{decimal};
-ghost use Rattle.wh_answer.specs.Stands.{AllShort, AllWords, CauseStands};
+ghost use Rattle.wh_answer.specs.Stands.{AllShort, AllWords, CauseStands, Reads};
 ghost use Rattle.wh_answer.specs.Texts.{finder_word};
-ghost use Rattle.wh_answer.specs.Words.{Reads, cause_words, seen};
+ghost use Rattle.wh_answer.specs.Words.{cause_words, seen};
 
 use crate::names::Names;
 use crate::report::{NamedCause, NamedFinder};

@@ -2,6 +2,7 @@
 #![tactic(auto)]
 
 mod causes;
+mod laws;
 mod names;
 mod print;
 mod read;
@@ -9,6 +10,7 @@ mod report;
 mod rows;
 mod words;
 
+pub use laws::{one_answer, read_back};
 pub use names::Names;
 pub use print::{bad_words_line, out_of_memory_line, print_answer};
 pub use read::read_answer;

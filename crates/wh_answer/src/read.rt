@@ -2,9 +2,9 @@
 //! `read_answer`.
 
 ghost use Rattle.std.specs.Prelude.{◌≡◌, ◌≢◌, ◌∷◌, ◌++◌, [], List, ℕ, codes, IfOk, MatchOption};
-ghost use Rattle.wh_answer.specs.Stands.{Stands};
+ghost use Rattle.wh_answer.specs.Stands.{Reads, Stands};
 ghost use Rattle.wh_answer.specs.Texts.{line, reason_word, report_text, role_word};
-ghost use Rattle.wh_answer.specs.Words.{Reads, report_words, seen};
+ghost use Rattle.wh_answer.specs.Words.{report_words, seen};
 
 use crate::causes::read_cause;
 use crate::report::{ReasonWord, Report, Role};
@@ -15,7 +15,7 @@ use std::str;
 
 /// The answer with this line; `None` where there is none.
 pub fn read_answer(alloc: Global, bytes: &[u8]) -> Result<Option<Report>, AllocError>
-    ensures { IfOk result (λ found. MatchOption found ((r : Report) → Stands r → report_text r ≡ bytes.now → ⊥) (λ r. Stands r × (report_text r ≡ bytes.now))) }
+    ensures { IfOk result (Reads Stands report_text bytes.now) }
 {
     let Some(text) = unended(bytes) else {
         return Ok(None);
@@ -38,7 +38,7 @@ fn unended(bytes: &[u8]) -> Option<&[u8]>
 
 // The answer whose line is the text and a line feed.
 fn read_text(alloc: Global, text: &str) -> Result<Option<Report>, AllocError>
-    ensures { IfOk result (λ found. MatchOption found ((r : Report) → Stands r → report_text r ≡ line text.now → ⊥) (λ r. Stands r × (report_text r ≡ line text.now))) }
+    ensures { IfOk result (Reads Stands report_text (line text.now)) }
 {
     let words = words_of(alloc, text)?;
     read_words(alloc, words.as_slice())

@@ -3,8 +3,8 @@
 ghost use Rattle.std.specs.Prelude.{◌≡◌, ◌∷◌, [], ℕ, codes, IfOk};
 ghost use Rattle.std.specs.Fmt.{decimal};
 ghost use Rattle.wh_text.specs.Words.{IsWord};
-ghost use Rattle.wh_answer.specs.Stands.{RowStands, Short};
-ghost use Rattle.wh_answer.specs.Words.{Reads, at_node, row_words, seen};
+ghost use Rattle.wh_answer.specs.Stands.{Reads, RowStands, Short};
+ghost use Rattle.wh_answer.specs.Words.{at_node, row_words, seen};
 
 use crate::report::NamedRejection as Row;
 use crate::words::{long_number, name_of, short_number, unmarked};
