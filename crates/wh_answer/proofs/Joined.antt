@@ -1,5 +1,5 @@
 -- The line of an answer without its line feed is the answer's words with a space between any two.
-use Rattle.std.proofs.Common.{ℕ, ◌≡◌, ◌++◌, true, false, List, [], ◌∷◌, map, codes, refl, sym, ◌∙◌, ap, append_assoc, arith}
+use Rattle.std.proofs.Common.{ℕ, ◌≡◌, ◌++◌, true, false, List, [], ◌∷◌, map, codes, refl, ◌∙◌, ap, append_assoc}
 use Rattle.std.specs.Fmt.{decimal}
 use Rattle.std.specs.List.{join_with_byte}
 use Rattle.wh_answer.specs.declared.report.Report.{Report}
@@ -8,8 +8,6 @@ use Rattle.wh_answer.specs.declared.report.NamedRejection.{NamedRejection}
 use Rattle.wh_answer.specs.declared.report.NamedRejection.TheVariants as row
 use Rattle.wh_answer.specs.declared.report.NamedCause.{NamedCause}
 use Rattle.wh_answer.specs.declared.report.NamedCause.TheVariants as cause
-use Rattle.wh_answer.specs.declared.report.NamedFinder.{NamedFinder}
-use Rattle.wh_answer.specs.declared.report.ReasonWord.{ReasonWord}
 use Rattle.wh_answer.specs.Texts.{all_named, all_numbered, cause_text, line, named, numbered, rejection_text, report_text}
 use Rattle.wh_answer.specs.Words.{cause_words, report_words, row_words}
 

@@ -1,5 +1,5 @@
 -- Lists of words that are read one by one.
-use Rattle.std.proofs.Common.{ℕ, ◌≡◌, ◌+◌, ◌<◌, ◌^◌, ◌++◌, List, [], ◌∷◌, length, get_or, drop, map, refl, sym, ◌∙◌, ap, subst, append_assoc, arith}
+use Rattle.std.proofs.Common.{ℕ, ◌≡◌, ◌+◌, ◌<◌, ◌++◌, List, [], ◌∷◌, length, get_or, drop, map, refl, sym, ◌∙◌, ap, subst, append_assoc}
 use Rattle.std.specs.Borrow.{Bor}
 use Rattle.std.specs.Fmt.{decimal}
 use Rattle.std.proofs.lemmas.List.{at_drop_more}
@@ -23,8 +23,7 @@ words_at (v ∷ vs) w rest h = words_at vs w rest h.1
 
 pub names_more : (names after : List (List ℕ)) (name w : List ℕ) (rest all : List (List ℕ)) → AllWords names → names ++ (w ∷ rest) ≡ all → IsWord name × (name ≡ w) → after ≡ names ++ (name ∷ []) → AllWords after × (after ++ rest ≡ all)
 names_more names after name w rest all h e is put =
-    let shown : after ≡ names ++ (w ∷ []) = put ∙ ap (λ (v : List ℕ). names ++ (v ∷ [])) is.1 in
-    (
+    let shown : after ≡ names ++ (w ∷ []) = put ∙ ap (λ (v : List ℕ). names ++ (v ∷ [])) is.1 in (
       subst AllWords (sym put) (words_push names name h is.0),
       ap (λ (t : List (List ℕ)). t ++ rest) shown ∙ (append_assoc names (w ∷ []) rest ∙ e),
     )
@@ -42,11 +41,10 @@ spelled_push [] n rest = refl
 spelled_push (m ∷ ms) n rest = ap (λ (t : List (List ℕ)). decimal m ∷ t) (spelled_push ms n rest)
 
 pub numbers_more : (ns after : List ℕ) (n : ℕ) (w : List ℕ) (rest all : List (List ℕ)) → AllShort ns → map decimal ns ++ (w ∷ rest) ≡ all → Short n × (decimal n ≡ w) → after ≡ ns ++ (n ∷ []) → AllShort after × (map decimal after ++ rest ≡ all)
-numbers_more ns after n w rest all h e is put =
-    (
-      subst AllShort (sym put) (short_push ns n h is.0),
-      ap (λ (t : List ℕ). map decimal t ++ rest) put ∙ (spelled_push ns n rest ∙ (ap (λ (v : List ℕ). map decimal ns ++ (v ∷ rest)) is.1 ∙ e)),
-    )
+numbers_more ns after n w rest all h e is put = (
+  subst AllShort (sym put) (short_push ns n h is.0),
+  ap (λ (t : List ℕ). map decimal t ++ rest) put ∙ (spelled_push ns n rest ∙ (ap (λ (v : List ℕ). map decimal ns ++ (v ∷ rest)) is.1 ∙ e)),
+)
 
 numbers_at : (ns : List ℕ) (front : List (List ℕ)) (w : List ℕ) (rest : List (List ℕ)) → AllShort ns → map decimal ns ≡ front ++ (w ∷ rest) → (n : ℕ) × Short n × (decimal n ≡ w)
 numbers_at [] [] w rest h e = cc

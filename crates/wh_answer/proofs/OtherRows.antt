@@ -6,7 +6,7 @@ use Rattle.wh_answer.specs.declared.report.NamedRejection.{NamedRejection}
 use Rattle.wh_answer.specs.declared.report.NamedRejection.TheVariants as row
 use Rattle.wh_answer.specs.Stands.{RowStands}
 use Rattle.wh_answer.specs.Words.{at_node, row_words}
-use Rattle.wh_answer.proofs.Spelled.{number_no_word, number_no_marked, word_no_mark}
+use Rattle.wh_answer.proofs.Spelled.{number_no_word, number_no_marked}
 
 pub no_number_row : (r : NamedRejection) (k a : ℕ) (word : List ℕ) → RowStands r → a < 2 ^ 32 → word ≢ codes "loops" → word ≢ codes "not-partition" → word ≢ codes "not-decreasing" → row_words r ≡ at_node k (word ∷ decimal a ∷ []) → ⊥
 no_number_row (row.NoProjection j f) k a word h s l p d e = let q : decimal a ≡ f = cc in number_no_word a f s h.1 q

@@ -1,8 +1,8 @@
 -- The words of an answer have no space and only ASCII bytes, so the cut at spaces gives them back.
-use Rattle.std.proofs.Common.{ℕ, ◌≡◌, ◌≢◌, ◌<◌, ◌≤◌, ◌^◌, ◌==◌, ◌&&◌, ◌++◌, Bool, true, false, List, [], ◌∷◌, map, codes, refl, sym, ◌∙◌, ap, subst, nat_lt, arith, rules}
+use Rattle.std.proofs.Common.{ℕ, ◌≡◌, ◌≢◌, ◌==◌, ◌&&◌, ◌++◌, Bool, true, false, List, [], ◌∷◌, map, codes, refl, ◌∙◌, ap, nat_lt, arith, rules}
 use Rattle.std.specs.Fmt.{decimal}
 use Rattle.std.specs.Int.{IsInRange}
-use Rattle.std.specs.List.{All, join_with_byte, list_all, slice_split}
+use Rattle.std.specs.List.{All, join_with_byte, list_all}
 use Rattle.std.specs.Str.{IsAscii}
 use Rattle.std.specs.Str.Parse.{AllDigits}
 use Rattle.std.proofs.lemmas.Bool.Decides.{nat_tests}
@@ -21,7 +21,6 @@ use Rattle.wh_answer.specs.declared.report.NamedRejection.TheVariants as row
 use Rattle.wh_answer.specs.declared.report.NamedCause.{NamedCause}
 use Rattle.wh_answer.specs.declared.report.NamedCause.TheVariants as cause
 use Rattle.wh_answer.specs.declared.report.NamedFinder.{NamedFinder}
-use Rattle.wh_answer.specs.declared.report.NamedFinder.TheVariants as finder
 use Rattle.wh_answer.specs.declared.report.ReasonWord.{ReasonWord}
 use Rattle.wh_answer.specs.declared.report.ReasonWord.TheVariants as reason
 use Rattle.wh_answer.specs.declared.report.Role.{Role}
@@ -29,7 +28,6 @@ use Rattle.wh_answer.specs.declared.report.Role.TheVariants as role
 use Rattle.wh_answer.specs.Stands.{AllShort, AllWords, CauseStands, Long, RowStands, Short, Stands}
 use Rattle.wh_answer.specs.Texts.{finder_word, reason_word, role_word}
 use Rattle.wh_answer.specs.Words.{cause_words, report_words, row_words, words_of}
-use Rattle.wh_answer.proofs.Spelled.{passes_all}
 
 -- above the space and below 128
 abbrev is_plain : ℕ → Bool

@@ -1,10 +1,9 @@
 -- Two answers that stand and have the same words are the same.
-use Rattle.std.proofs.Common.{ℕ, ◌≡◌, ◌≢◌, ◌<◌, ◌^◌, ◌++◌, true, false, List, [], ◌∷◌, Option, Some, None, map, codes, refl, sym, ◌∙◌, ap, arith}
+use Rattle.std.proofs.Common.{ℕ, ◌≡◌, ◌<◌, ◌^◌, true, false, List, [], ◌∷◌, Option, Some, None, map, codes, refl, sym, ◌∙◌, ap, arith}
 use Rattle.std.specs.Fmt.{decimal}
 use Rattle.std.specs.List.{join_with_byte}
 use Rattle.std.proofs.lemmas.Fmt.{decimal_injective}
 use Rattle.std.proofs.lemmas.List.{append_cancel_right}
-use Rattle.wh_text.specs.Words.{IsWord}
 use Rattle.wh_answer.specs.declared.report.Report.{Report}
 use Rattle.wh_answer.specs.declared.report.Report.TheVariants as answer
 use Rattle.wh_answer.specs.declared.report.NamedRejection.{NamedRejection}
@@ -12,17 +11,14 @@ use Rattle.wh_answer.specs.declared.report.NamedRejection.TheVariants as row
 use Rattle.wh_answer.specs.declared.report.NamedCause.{NamedCause}
 use Rattle.wh_answer.specs.declared.report.NamedCause.TheVariants as cause
 use Rattle.wh_answer.specs.declared.report.NamedFinder.{NamedFinder}
-use Rattle.wh_answer.specs.declared.report.NamedFinder.TheVariants as finder
 use Rattle.wh_answer.specs.declared.report.ReasonWord.{ReasonWord}
-use Rattle.wh_answer.specs.declared.report.ReasonWord.TheVariants as reason
 use Rattle.wh_answer.specs.declared.report.Role.{Role}
-use Rattle.wh_answer.specs.declared.report.Role.TheVariants as role
-use Rattle.wh_answer.specs.Stands.{AllShort, AllWords, CauseStands, Long, Reads, RowStands, Short, Stands}
+use Rattle.wh_answer.specs.Stands.{AllShort, CauseStands, Reads, RowStands, Stands}
 use Rattle.wh_answer.specs.Texts.{finder_word, reason_word, role_word, report_text}
 use Rattle.wh_answer.specs.Words.{cause_words, report_words, row_words, words_of}
 use Rattle.wh_answer.proofs.Joined.{report_joined}
 use Rattle.wh_answer.proofs.PlainWords.{report_split}
-use Rattle.wh_answer.proofs.Spelled.{number_no_word, number_no_marked, word_no_mark}
+use Rattle.wh_answer.proofs.Spelled.{word_no_mark}
 
 same_role : (r s : Role) → role_word r ≡ role_word s → r ≡ s
 same_role r s e = grind arith

@@ -1,5 +1,5 @@
 -- The words of each answer: its line without the line feed is these words with a space between any two (ours).
-use Rattle.std.specs.Prelude.{ℕ, ◌≡◌, ◌≢◌, ◌==◌, ◌++◌, List, [], ◌∷◌, map, codes, true, false}
+use Rattle.std.specs.Prelude.{ℕ, ◌≢◌, ◌==◌, ◌++◌, List, [], ◌∷◌, map, codes, true, false}
 use Rattle.std.specs.Borrow.{Bor}
 use Rattle.std.specs.Fmt.{decimal}
 use Rattle.std.specs.List.{slice_split}

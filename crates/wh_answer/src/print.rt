@@ -168,7 +168,11 @@ fn node_words(alloc: Global, row: &Row) -> Result<Bytes, AllocError>
         Row::BadDrop { node } => of_node(alloc, *node, b"bad-drop"),
         Row::NotDecreasing { node, pair } => node_number(alloc, *node, b"not-decreasing", *pair),
         Row::BadSymbols { node } => of_node(alloc, *node, b"bad-symbols"),
-        Row::BadPolynomial { node, symbol, marked } => bad_polynomial(alloc, *node, symbol, *marked),
+        Row::BadPolynomial {
+            node,
+            symbol,
+            marked,
+        } => bad_polynomial(alloc, *node, symbol, *marked),
         Row::BadLines { node } => of_node(alloc, *node, b"bad-lines"),
         Row::NotStrict { node, pair } => not_strict(alloc, *node, *pair),
         _ => line_words(alloc, row),
@@ -244,7 +248,12 @@ fn back_edge(alloc: Global, node: u32, a: u32, b: u32) -> Result<Bytes, AllocErr
 }
 
 // A symbol of a node whose interpretation is not normal.
-fn bad_polynomial(alloc: Global, node: u32, symbol: &Name, marked: bool) -> Result<Bytes, AllocError>
+fn bad_polynomial(
+    alloc: Global,
+    node: u32,
+    symbol: &Name,
+    marked: bool,
+) -> Result<Bytes, AllocError>
     ensures { IfOk result (λ text. text ≡ rejection_text (BadPolynomial node symbol.now marked)) }
 {
     let mut text = node_name(alloc, node, b"bad-polynomial", symbol)?;

@@ -112,7 +112,11 @@ fn two_words(first: &str, second: &str) -> Option<Report>
     ensures { Reads Stands report_words (first.now ∷ second.now ∷ []) result }
 {
     match first {
-        "BAD" => if second == "WORDS" { Some(Report::BadWords) } else { None },
+        "BAD" => if second == "WORDS" {
+            Some(Report::BadWords)
+        } else {
+            None
+        },
         "OVERFLOW" => {
             let node = short_number(second)?;
             Some(Report::Overflow(node))

@@ -1,4 +1,3 @@
-use Rattle.std.proofs.Common.{arith}
 use Rattle.wh_answer.proofs.Lists.{next_word, names_more, names_end}
 use Rattle.wh_answer.proofs.causes.names_of.Goals as goal
 

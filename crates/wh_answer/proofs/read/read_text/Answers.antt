@@ -1,4 +1,4 @@
-use Rattle.std.proofs.Common.{◌≡◌, ◌∙◌, ap}
+use Rattle.std.proofs.Common.{◌∙◌, ap}
 use Rattle.wh_answer.specs.Words.{seen}
 use Rattle.wh_answer.proofs.Cut.{line_by_words}
 use Rattle.wh_answer.proofs.read.read_text.Goals as goal
