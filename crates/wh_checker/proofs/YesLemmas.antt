@@ -74,7 +74,8 @@ pub valid_yes : (d : SystemData) (ps : List PairData) (ranks : List ℕ) (pairs 
     → IsPassingUnder d ranks → pairs ≡ length ps → IsWhole ps set → AreProvedBy d ps (set ∷ []) lines
     → IsValidYes d ps ranks pairs lines
 valid_yes d ps ranks pairs lines set (count, passing) right whole (nodes, says, proves, small) =
-    record { rank_count = count; passing = passing; pair_count = right; set = set; whole = whole; nodes = nodes; says = says; proves = proves }
+    record { rank_count = count; passing = passing; pair_count = right; set = set; whole = whole; nodes = nodes; says = says; proves =
+    proves }
 
 pub small_yes : (d : SystemData) (ps : List PairData) (lines : List w.Node) (set : List ℕ) → IsWhole ps set
     → AreProvedBy d ps (set ∷ []) lines → IsSmallYes d ps lines
