@@ -1,12 +1,10 @@
 -- Of the things that can be wrong with the moves for a line one at most is the first, but that values may exceed both limits; and none
 -- is where nothing is wrong.
-use Rattle.std.proofs.Common.{◌≡◌, ℕ, ◌<◌, ◌⊎◌, inl, inr, Bool, true, false, List, Some, slice_get, Contains, refl, sym, ap, subst, ◌∙◌, arith}
-use Rattle.wh_system.proofs.ByPlace.{contains_at, some_one}
+use Rattle.std.proofs.Common.{◌≡◌, ℕ, ◌⊎◌, inl, inr, Bool, true, false, List, refl, sym, ap, ◌∙◌, arith}
+use Rattle.wh_system.proofs.ByPlace.{contains_at}
 use Rattle.wh_hopoly.specs.Polynomials.{Polynomial}
 use Rattle.wh_hopoly.specs.Evaluation.{Run}
-use Rattle.wh_hopoly.specs.Limits.{Exceeds}
-use Rattle.wh_hopoly.specs.Excesses.{ExceedsAs}
-use Rattle.wh_hopoly.specs.Moves.{Transfer, NotOverSpent, Covered, IsCover, IsStrictCover}
+use Rattle.wh_hopoly.specs.Moves.{Transfer, NotOverSpent, Covered, IsCover}
 use Rattle.wh_hopoly.specs.declared.excess.Excess.{Excess}
 use Rattle.wh_hopoly.specs.declared.excess.Excess.TheVariants as excess
 use Rattle.wh_polycheck.specs.CoverFaults.{AreGood, IsFirstBad, IsOverSpent, IsFirstOverSpent, IsNotCovered, IsFirstNotCovered, LeavesConstant, IsFirstCoverFault, IsFirstStrictCoverFault}

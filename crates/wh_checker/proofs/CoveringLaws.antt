@@ -1,8 +1,7 @@
 -- Of the things that can be wrong with a node of interpretations one at most is the first, but that values may exceed both limits; and
 -- none is where its conditions hold. What is found wrong before a value exceeds a limit is wrong first without limits too.
-use Rattle.std.proofs.Common.{◌≡◌, ℕ, ◌<◌, ◌⊎◌, inl, inr, Bool, true, false, List, [], length, map, Some, slice_get, Contains, All, refl, sym, ap, subst, ◌∙◌, arith}
+use Rattle.std.proofs.Common.{◌≡◌, ℕ, ◌<◌, ◌⊎◌, inl, inr, Bool, true, false, List, Some, slice_get, Contains, refl, sym, ap, subst, ◌∙◌, arith}
 use Rattle.std.proofs.lemmas.List.Elements.{All-contains}
-use Rattle.wh_types.specs.Ty.{arguments}
 use Rattle.wh_terms.specs.Typing.{Symbols}
 use Rattle.wh_terms.specs.Rules.{RewriteRule}
 use Rattle.wh_system.specs.PairData.{PairData}
@@ -24,7 +23,7 @@ use Rattle.wh_checker.specs.Faults.{in_excess, at_covering}
 use Rattle.wh_checker.specs.declared.rejected.CheckFault.{CheckFault}
 use Rattle.wh_checker.specs.declared.rejected.CheckFault.TheVariants as check
 use Rattle.wh_checker.proofs.RowLaws.{neither_below}
-use Rattle.wh_checker.proofs.CoverLaws.{IsExcessOfLine, LinesAlike, line_fault_one, right_or_line_fault}
+use Rattle.wh_checker.proofs.CoverLaws.{LinesAlike, line_fault_one, right_or_line_fault}
 
 -- it is that a value exceeds a limit
 abbrev pub IsExcess : CoveringFault → Type 0
@@ -113,7 +112,7 @@ module _ (limits : Limits) (S : Symbols) (rules : List RewriteRule) (pairs : Lis
       → IsRuleFault limits rules symbols rule_lines t g → CoveringsAlike (Rule r f) (Rule t g)
   rule_fault_one r t f g before wrong earlier also =
       let place : t ≡ r = neither_below t r (λ less. rule_or_not t g also (before t less))
-          (λ less. rule_or_not r f wrong (earlier r less)) in
+      (λ less. rule_or_not r f wrong (earlier r less)) in
       subst (λ n. CoveringsAlike (Rule r f) (Rule n g)) (sym place)
       (rules_alike r f g (lines_alike wrong (subst (λ n. IsRuleFault limits rules symbols rule_lines n g) place also)))
     where
@@ -135,7 +134,7 @@ module _ (limits : Limits) (S : Symbols) (rules : List RewriteRule) (pairs : Lis
       → WrongPair j m g → CoveringsAlike (Pair n f) (Pair m g)
   pair_fault_one i j n m f g before wrong earlier also =
       let place : j ≡ i = neither_below j i (λ less. pair_or_not j m g also (before j less))
-          (λ less. pair_or_not i n f wrong (earlier i less)) in
+      (λ less. pair_or_not i n f wrong (earlier i less)) in
       here wrong (subst (λ k. WrongPair k m g) place also)
     where
       lines_alike : WrongPair i n f → WrongPair i n g → LinesAlike f g

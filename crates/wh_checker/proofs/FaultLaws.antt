@@ -18,7 +18,7 @@ use Rattle.wh_nodes.specs.Nodes.{Node, Leaves}
 use Rattle.wh_nodes.specs.Proves.{Proves, one_proved}
 use Rattle.wh_checker.specs.Looked.{SaysNode, SayNodes}
 use Rattle.wh_checker.specs.Valid.{IsValidYes, IsValidCert}
-use Rattle.wh_checker.specs.Small.{IsSmallNode, AreSmall, all_small, one_small, IsSmallYes, IsSmallCert}
+use Rattle.wh_checker.specs.Small.{IsSmallNode, AreSmall, one_small, IsSmallYes, IsSmallCert}
 use Rattle.wh_checker.specs.Faults.{IsNodeFault, IsFirstNodeFault, at_first, behind_first, in_excess, at_node, of_claim, IsFirstYesFault, rank_count, inaccessible, pair_count, in_node, IsFirstFault, AreAlike}
 use Rattle.wh_checker.specs.declared.rejected.NodeFault.{NodeFault}
 use Rattle.wh_checker.specs.declared.rejected.CheckFault.{CheckFault}
@@ -168,7 +168,7 @@ yes_fault_one limits d ps ranks pairs lines r s apart (in_node {k = k} {set = se
     (in_node {k = m} {set = all} {f = g} also pass true_count also_whole other) =
     let same : all ≡ set = set_one _ all set also_whole whole in
     let one = walk_one limits d ps 0 k m (set ∷ []) lines f g apart first
-        (subst (λ (l : List ℕ). IsFirstNodeFault limits d ps 0 (l ∷ []) lines m g) same other) in
+    (subst (λ (l : List ℕ). IsFirstNodeFault limits d ps 0 (l ∷ []) lines m g) same other) in
     subst (λ n. AreAlike (at_node k f) (at_node n g)) one.0 (nodes_alike k f g one.1)
 
 -- with limits, the nodes of a valid certificate are small

@@ -1,5 +1,5 @@
 -- Lines that say interpretations, by the lists of their names, types and polynomials; and the one reading that such lines have.
-use Rattle.std.proofs.Common.{◌≡◌, ◌≢◌, ℕ, ◌+◌, ◌<◌, ◌≤◌, List, [], ◌∷◌, ◌++◌, length, map, get_or, take, Some, slice_get, refl, sym, ap, subst, ◌∙◌, arith}
+use Rattle.std.proofs.Common.{◌≡◌, ℕ, ◌+◌, ◌<◌, ◌≤◌, List, [], ◌∷◌, ◌++◌, length, map, get_or, take, Some, slice_get, refl, sym, ap, subst, ◌∙◌}
 use Rattle.std.proofs.lemmas.List.{take_more, take_all, map-append, length-map}
 use Rattle.wh_types.specs.Ty.{Ty}
 use Rattle.wh_types.specs.Erase.{ty}
@@ -30,9 +30,9 @@ pub pace_next : {A B C : Type 0} (f : A → C) (g : B → C) (xs : List A) (ys :
     → map f (take (i + 1) xs) ≡ map g (take (i + 1) ys)
 pace_next {A = A} {B = B} f g xs ys i x y so_far within x_is inside y_is same =
     let left : take (i + 1) xs ≡ take i xs ++ x ∷ [] = subst (λ (a : A). take (i + 1) xs ≡ take i xs ++ a ∷ []) (sym x_is)
-        (take_more xs i x within) in
+    (take_more xs i x within) in
     let right : take (i + 1) ys ≡ take i ys ++ y ∷ [] = subst (λ (b : B). take (i + 1) ys ≡ take i ys ++ b ∷ []) (sym y_is)
-        (take_more ys i y inside) in
+    (take_more ys i y inside) in
     let both : map f (take i xs) ++ f x ∷ [] ≡ map g (take i ys) ++ g y ∷ [] = cc in
     ap (map f) left ∙ map-append f (take i xs) (x ∷ []) ∙ both ∙ sym (map-append g (take i ys) (y ∷ [])) ∙ sym (ap (map g) right)
 

@@ -1,6 +1,6 @@
 -- A node leaves one list of sets, one thing at most is wrong first with it, but that values may exceed both limits, and none where its
 -- conditions hold.
-use Rattle.std.proofs.Common.{◌≡◌, ◌≢◌, ◌⊎◌, ℕ, inl, inr, List, [], ◌∷◌, map, Contains, refl, sym, ap, subst, ◌∙◌}
+use Rattle.std.proofs.Common.{◌≡◌, ◌≢◌, ℕ, inl, inr, List, [], ◌∷◌, map, Contains, refl, sym, ap, subst, ◌∙◌}
 use Rattle.wh_terms.specs.Typing.{Symbols}
 use Rattle.wh_terms.specs.Rules.{RewriteRule}
 use Rattle.wh_system.specs.Systems.{SystemData}
@@ -24,7 +24,7 @@ use Rattle.wh_polycheck.specs.Marks.{Mark}
 use Rattle.wh_meaning.specs.Covering.{IsCovering}
 use Rattle.wh_covering.specs.CoveringFaults.{Limits, without_limits, with_limits, IsFirstCoveringFault}
 use Rattle.wh_covering.specs.declared.fault.CoveringFault.{CoveringFault}
-use Rattle.wh_nodes.specs.Nodes.{Node, done, alone, blocks, subterm, poly, IsSetOf, AreSetsOf, no_sets, more_sets, Leaves, by_done, by_alone, by_blocks, by_subterm, by_poly}
+use Rattle.wh_nodes.specs.Nodes.{Node, done, alone, blocks, subterm, poly, AreSetsOf, no_sets, more_sets, Leaves, by_done, by_alone, by_blocks, by_subterm, by_poly}
 use Rattle.wh_checker.specs.Looked.{SayChoices, SaysNode}
 use Rattle.wh_checker.specs.Small.{IsSmallNode}
 use Rattle.wh_checker.specs.Faults.{IsSubtermFault, SayCovering, IsNodeFault, at_node, in_excess}
@@ -34,7 +34,7 @@ use Rattle.wh_checker.proofs.SetLemmas.{set_one}
 use Rattle.wh_checker.proofs.ChoiceLemmas.{one_list_said}
 use Rattle.wh_checker.proofs.InterpretationLemmas.{one_interpretations_said, one_marks_said}
 use Rattle.wh_checker.proofs.RowLaws.{block_fault_one, blocks_or_fault, subterm_fault_one, projection_or_fault}
-use Rattle.wh_checker.proofs.CoveringLaws.{IsExcess, CoveringsAlike, SmallFor, IsRejection, covering_fault_one, covering_or_fault, fault_unlimited}
+use Rattle.wh_checker.proofs.CoveringLaws.{CoveringsAlike, SmallFor, IsRejection, covering_fault_one, covering_or_fault, fault_unlimited}
 
 sets_one : (parts xs ys : List (List ℕ)) → AreSetsOf parts xs → AreSetsOf parts ys → xs ≡ ys
 sets_one [] [] [] no_sets no_sets = refl
@@ -367,9 +367,13 @@ kind_unlimited d ps set w.alone k f is (of_loop one follows) = (one, follows)
 kind_unlimited d ps set (w.blocks parts) k f is (of_blocks first) = first
 kind_unlimited d ps set (w.subterm lines drop) k f is (of_subterm {f = g} first) = from_choice d ps set lines drop g first
 kind_unlimited d ps set (w.interpretations funs lines rules pairs drop) k f is (of_poly (no_symbols none)) = none
-kind_unlimited d ps set (w.interpretations funs lines rules pairs drop) k f is (of_poly (with_symbols {f = g} symbols marks says first)) =
-    (symbols, marks, says, fault_unlimited d.symbols d.rules ps set symbols marks (map transfers rules)
-    (map transfers pairs) drop k g is first)
+kind_unlimited d ps set (w.interpretations funs lines rules pairs drop) k f is (of_poly (with_symbols {f = g} symbols marks says first)) = (
+  symbols,
+  marks,
+  says,
+  fault_unlimited d.symbols d.rules ps set symbols marks (map transfers rules)
+      (map transfers pairs) drop k g is first,
+)
 
 pub node_unlimited : (d : SystemData) (ps : List PairData) (set : List ℕ) (line : w.Node) (k : ℕ) (f : NodeFault)
     → IsRejection (at_node k f) → IsNodeFault with_limits d ps set line f → IsNodeFault without_limits d ps set line f

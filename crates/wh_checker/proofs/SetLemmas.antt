@@ -102,8 +102,11 @@ distinct_skip xs set i n up at is not_below =
     ] in
     set_same (StandsBefore xs i) (StandsBefore xs (i + 1)) set is (λ m. (
       λ stands. (before_next xs i n at m).1 (inl stands),
-      λ stands. elim ((before_next xs i n at m).0 stands) [ inl old ↦ old | inr same ↦ (is.each m).0
-          (subst (Contains set) (sym same) there) ],
+      λ stands. elim ((before_next xs i n at m).0 stands) [
+        | inl old ↦ old
+        | inr same ↦ (is.each m).0
+            (subst (Contains set) (sym same) there)
+      ],
     ))
 
 -- the set of what stands before a place and is not dropped, one more place
@@ -146,8 +149,11 @@ kept_skip xs drop rest i n at dropped is =
 pub kept_end : (xs drop rest : List ℕ) (i : ℕ) → length xs ≤ i → IsSetOf (KeptBefore xs drop i) rest → IsSetOf (IsKept xs drop) rest
 kept_end xs drop rest i past is =
     set_same (KeptBefore xs drop i) (IsKept xs drop) rest is
-    (λ m. (λ (stands, undropped). ((before_end xs i past m).0 stands, undropped), λ (found, undropped).
-    ((before_end xs i past m).1 found, undropped)))
+    (λ m. (
+      λ (stands, undropped). ((before_end xs i past m).0 stands, undropped),
+      λ (found, undropped).
+          ((before_end xs i past m).1 found, undropped),
+    ))
 
 -- the set of a list in another order
 pub set_sorted : (xs ys set : List ℕ) → IsPermutation xs ys → IsSetOf (Contains ys) set → IsSetOf (Contains xs) set

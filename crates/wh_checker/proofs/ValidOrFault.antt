@@ -35,7 +35,7 @@ use Rattle.wh_decisions.proofs.Coverings.{CoveringOrFault, covering_or_fault}
 use Rattle.wh_decisions.proofs.Breaks.{passing_or_break}
 use Rattle.wh_decisions.proofs.Claims.{ClaimOrFault, claim_or_fault}
 use Rattle.wh_covering.specs.CoveringFaults.{without_limits}
-use Rattle.wh_checker.specs.Looked.{SayChoices, SayInterpretations, SaysMark, SayMarks, SaysNode, SayNodes}
+use Rattle.wh_checker.specs.Looked.{SayChoices, SayInterpretations, SayMarks, SaysNode, SayNodes}
 use Rattle.wh_checker.specs.Valid.{IsValidYes, IsValidCert}
 use Rattle.wh_checker.specs.Faults.{IsSubtermFault, SayCovering, IsNodeFault, IsFirstNodeFault, at_first, behind_first, at_node, of_claim, IsFirstYesFault, rank_count, inaccessible, pair_count, in_node, IsFirstFault}
 use Rattle.wh_checker.specs.declared.rejected.NodeFault.{NodeFault}
@@ -153,8 +153,10 @@ marks_or_none d (line ∷ lines) =
     go : HasFirst (λ (name : List ℕ). name ≡ line.name) d.fun_names ⊎ HasNoneOf (λ (name : List ℕ). name ≡ line.name) d.fun_names
         → SomeOrNone (SayMarks d lines) → SomeOrNone (SayMarks d (line ∷ lines))
     go (inl (i, name, at, same, before)) (inl (marks, says)) =
-        inl (record { symbol = i; polynomial = line.poly } ∷ marks,
-        (record { named = at ∙ ap (λ n. Some n) same; polynomial = refl }, says))
+        inl (
+          record { symbol = i; polynomial = line.poly } ∷ marks,
+          (record { named = at ∙ ap (λ n. Some n) same; polynomial = refl }, says),
+        )
     go (inl found) (inr none) = inr (no_mark_behind d line lines none)
     go (inr none) rest = inr (no_mark_named d line lines none)
 
@@ -229,8 +231,12 @@ poly_said d ps set funs lines rules pairs drop (inl (symbols, marks, said)) =
     go (inr (f, first)) = inr (Poly f, (symbols, marks, said, first))
     go (inl is) =
         let (rest, kept) = kept_set set drop in
-        inl (poly symbols marks (map transfers rules) (map transfers pairs) drop, rest ∷ [],
-        (said.0, said.1, refl, refl, refl), by_poly is kept)
+        inl (
+          poly symbols marks (map transfers rules) (map transfers pairs) drop,
+          rest ∷ [],
+          (said.0, said.1, refl, refl, refl),
+          by_poly is kept,
+        )
 
 node_or_fault : (d : SystemData) (ps : List PairData) (set : List ℕ) (line : w.Node) → AreDistinct d.fun_names → NodeOrFault d ps set line
 node_or_fault d ps set w.done apart = done_or_fault d ps set
@@ -260,7 +266,7 @@ proved_or_fault d ps k (set ∷ sets) (line ∷ lines) apart counted = elim (nod
   | inr (f, fault) ↦ inr (k, f, at_first fault)
   | inl (node, left, says, leaves) ↦
       let count : length (left ++ sets) ≡ w.children line + length sets =
-          length-append left sets ∙ ap (λ n. n + length sets) (leaves_count d ps set line node left says leaves) in
+      length-append left sets ∙ ap (λ n. n + length sets) (leaves_count d ps set line node left says leaves) in
       elim (proved_or_fault d ps (suc k) (left ++ sets) lines apart (subst (λ n. Preorder n lines) (sym count) counted)) [
         | inl (nodes, say, proves) ↦ inl (node ∷ nodes, (says, say), one_proved leaves proves)
         | inr (m, f, first) ↦ inr (m, f, behind_first says leaves tt first)
@@ -287,15 +293,15 @@ valid_or_yes_fault d ps ranks pairs lines apart counted =
         let (set, whole) = whole_set ps in
         elim (proved_or_fault d ps 0 (set ∷ []) lines apart counted) [
           | inl (nodes, say, proves) ↦ inl (record {
-              rank_count = ranked;
-              passing = passing;
-              pair_count = right;
-              set = set;
-              whole = whole;
-              nodes = nodes;
-              says = say;
-              proves = proves;
-            })
+            rank_count = ranked;
+            passing = passing;
+            pair_count = right;
+            set = set;
+            whole = whole;
+            nodes = nodes;
+            says = say;
+            proves = proves;
+          })
           | inr (k, f, first) ↦ inr (at_node k f, in_node ranked passing right whole first)
         ]
 

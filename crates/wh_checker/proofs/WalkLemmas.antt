@@ -46,8 +46,12 @@ come_next d ps set lines k here sets after line left come goes =
           subst (λ n. Preorder n left) (sym (length-append goes.left sets ∙ ap (λ n. n + length sets)
           (leaves_count d ps here line goes.node goes.left goes.says goes.leaves))) come.counted;
       proved =
-          λ (nodes, say, proves, small). come.proved (goes.node ∷ nodes,
-              (goes.says, say), one_proved goes.leaves proves, one_small goes.leaves goes.small small);
+          λ (nodes, say, proves, small). come.proved (
+            goes.node ∷ nodes,
+            (goes.says, say),
+            one_proved goes.leaves proves,
+            one_small goes.leaves goes.small small,
+          );
       first = λ m f first. come.first m f (behind_first goes.says goes.leaves goes.small first);
     } in
     subst (λ n. HasCome d ps set lines n after left) (sym (add-one k))
@@ -72,7 +76,7 @@ pub come_here : (d : SystemData) (ps : List PairData) (set : List ℕ) (lines : 
     → HasCome d ps set lines k (here ∷ reverse rest) (said_node node ∷ map said_node (drop (k + 1) nodes))
 come_here d ps set lines k stack rest here nodes node come top within is =
     let split : drop k nodes ≡ node ∷ drop (k + 1) nodes = subst (λ (n : code.Node). drop k nodes ≡ n ∷ drop (k + 1) nodes) (sym is)
-        (drop_more nodes k node within) in
+    (drop_more nodes k node within) in
     let turned : reverse stack ≡ here ∷ reverse rest = ap reverse top ∙ reverse_push rest here in
     subst (λ (l : List w.Node). HasCome d ps set lines k (here ∷ reverse rest) l) (ap (map said_node) split)
     (subst (λ (s : List (List ℕ)). HasCome d ps set lines k s (map said_node (drop k nodes))) turned come)

@@ -99,9 +99,7 @@ fn check_yes(
     check_passing(alloc, system, certificate.ranks.as_slice())?;
     let count = pairs.as_slice().len() as u32;
     if certificate.pairs != count {
-        return Err(Or::Because(CheckFault::Rejected(Rejected::PairCount {
-            pairs: count,
-        })));
+        return Err(Or::Because(CheckFault::Rejected(Rejected::PairCount { pairs: count })));
     }
     let whole = numbers_below(alloc, count)?;
     check_nodes(alloc, system, pairs, whole, certificate.nodes.as_slice())

@@ -30,9 +30,9 @@ pub fn symbols_of(
 ) -> Result<Option<Vec<Symbol>>, AllocError>
     ensures { IfOk result (λ found. MatchOption found
         ((symbols : List Interpretation) → SayInterpretations (system_data system.now).fun_names (system_data system.now).symbols.funs
-            (map said_interp lines.now) symbols → ⊥)
+        (map said_interp lines.now) symbols → ⊥)
         (λ made. SayInterpretations (system_data system.now).fun_names (system_data system.now).symbols.funs (map said_interp lines.now)
-            (interpretations made.items))) }
+        (interpretations made.items))) }
 {
     system.is_well_made();
     if !name_all(system.fun_names(), lines) {
@@ -53,9 +53,9 @@ pub fn marks_of_set(
     requires { All (λ n. n < length pairs.now) set.now }
     ensures { IfOk result (λ found. MatchOption found
         ((marks : List Mark) → SayMarks (system_data system.now) (map said_interp lines.now) marks
-            → AreMarked (pairs_data pairs.now) set.now (map (λ m. m.symbol) marks) → ⊥)
+        → AreMarked (pairs_data pairs.now) set.now (map (λ m. m.symbol) marks) → ⊥)
         (λ made. SayMarks (system_data system.now) (map said_interp lines.now) (marks_of made.items)
-            × AreMarked (pairs_data pairs.now) set.now (map (λ m. m.symbol) (marks_of made.items)))) }
+        × AreMarked (pairs_data pairs.now) set.now (map (λ m. m.symbol) (marks_of made.items)))) }
 {
     let numbers = marked_symbols(alloc, pairs, set)?;
     if !name_these(system.fun_names(), &numbers, lines) {

@@ -1,13 +1,13 @@
 -- The conditions of a node of interpretations on a set of pairs hold, or there is a first thing wrong with them; numbers may be as
 -- large as they like.
-use Rattle.std.proofs.Common.{◌≡◌, ◌<◌, ◌⊎◌, ℕ, inl, inr, Bool, true, false, List, [], ◌∷◌, length, map, Option, Some, None, slice_get, All, Contains, refl, sym, subst}
+use Rattle.std.proofs.Common.{◌≡◌, ◌⊎◌, ℕ, inl, inr, Bool, true, false, List, length, map, Option, Some, None, slice_get, refl, subst}
 use Rattle.std.proofs.lemmas.Option.{slice_get_within}
 use Rattle.wh_types.specs.Ty.{arguments}
 use Rattle.wh_terms.specs.Typing.{Symbols}
 use Rattle.wh_terms.specs.Rules.{RewriteRule}
 use Rattle.wh_system.specs.PairData.{PairData}
 use Rattle.wh_system.proofs.TypedDecided.{Decided}
-use Rattle.wh_system.proofs.ByPlace.{contains_at, place_of, some_one}
+use Rattle.wh_system.proofs.ByPlace.{contains_at, some_one}
 use Rattle.wh_graph.proofs.TimesLemmas.{contains_or_not}
 use Rattle.wh_subterm.specs.Marked.{AreMarked}
 use Rattle.wh_subterm.specs.SubtermRows.{IsBadDrop}
@@ -16,15 +16,14 @@ use Rattle.wh_hopoly.specs.Polynomials.{Polynomial, Normal}
 use Rattle.wh_hopoly.specs.Evaluation.{Run, Interpretation, NormalInterpretations}
 use Rattle.wh_hopoly.specs.Moves.{Transfer}
 use Rattle.wh_polycheck.specs.Marks.{Mark, marked_types, AreNormalMarks}
-use Rattle.wh_polycheck.specs.declared.fault.CoverFault.{CoverFault}
 use Rattle.wh_meaning.specs.Covering.{rule_run, pair_run, CoversSides, IsCovering}
-use Rattle.wh_covering.specs.CoveringFaults.{without_limits, IsFirstFaultOfMoves, IsFirstLineFault, IsRightLine, IsRightRule, IsRuleFault, IsDropped, IsRightPair, IsPairFault, IsFirstNotNormal, IsFirstNotNormalMark, AreBadLines, IsReady, IsFirstCoveringFault}
+use Rattle.wh_covering.specs.CoveringFaults.{without_limits, IsFirstLineFault, IsRightLine, IsRightRule, IsRuleFault, IsDropped, IsRightPair, IsPairFault, IsFirstNotNormal, IsFirstNotNormalMark, AreBadLines, IsReady, IsFirstCoveringFault}
 use Rattle.wh_covering.specs.declared.fault.CoveringFault.{CoveringFault}
 use Rattle.wh_covering.specs.declared.fault.CoveringFault.TheVariants.{BadPolynomial, BadLines, BadDrop, Rule, Pair}
 use Rattle.wh_covering.specs.declared.fault.LineFault.{LineFault}
 use Rattle.wh_covering.specs.declared.fault.LineFault.TheVariants as line
-use Rattle.wh_decisions.proofs.Searches.{not_decided, either_decided, not_refuted, equal_decided, HasFirst, HasNoneOf, first_place}
-use Rattle.wh_decisions.proofs.Polynomials.{normal_decided, AllOrFirst, all_or_first, CoverOrFault, cover_or_fault, StrictCoverOrFault, strict_cover_or_fault}
+use Rattle.wh_decisions.proofs.Searches.{not_decided, either_decided, not_refuted, equal_decided, first_place}
+use Rattle.wh_decisions.proofs.Polynomials.{normal_decided, all_or_first, cover_or_fault, strict_cover_or_fault}
 use Rattle.wh_decisions.proofs.Projections.{bad_drop_decided}
 
 -- lines
@@ -96,7 +95,7 @@ module _ (S : Symbols) (rules : List RewriteRule) (pairs : List PairData) (set :
             let pair_same : p ≡ q = some_one (subst (λ k. slice_get pairs k ≡ Some p) number_same here) there in
             let line_same : ms ≡ ns = some_one moves others in
             let strict_same : strict ≡ asked = dropped_one drop m strict asked
-                (subst (λ k. IsDropped drop k strict) number_same dropped) also_dropped in
+            (subst (λ k. IsDropped drop k strict) number_same dropped) also_dropped in
             subst (λ (b : Bool). IsRightLine without_limits (pair_run S rules symbols marks q false)
             (pair_run S rules symbols marks q true) b ns) strict_same
             (subst (λ (l : List Transfer). IsRightLine without_limits (pair_run S rules symbols marks q false)
@@ -125,20 +124,30 @@ module _ (S : Symbols) (rules : List RewriteRule) (pairs : List PairData) (set :
   first_not_normal =
       elim (first_place (λ (s : Interpretation). Normal (arguments s.kind) s.polynomial → ⊥)
       (λ (s : Interpretation). not_decided (normal_decided (arguments s.kind) s.polynomial)) symbols) [
-    | inl (f, s, at, not, before) ↦
-        inr (f, (s, at, not, λ g u less also. not_refuted (normal_decided (arguments u.kind) u.polynomial) (before g u less also)))
-    | inr none ↦ inl (λ f s at. not_refuted (normal_decided (arguments s.kind) s.polynomial) (none s (contains_at symbols f s at)))
-  ]
+        | inl (f, s, at, not, before) ↦
+            inr (f, (s, at, not, λ g u less also. not_refuted (normal_decided (arguments u.kind) u.polynomial) (before g u less also)))
+        | inr none ↦ inl (λ f s at. not_refuted (normal_decided (arguments s.kind) s.polynomial) (none s (contains_at symbols f s at)))
+      ]
 
   first_not_normal_mark : AreNormalMarks S rules marks ⊎ ((f : ℕ) × IsFirstNotNormalMark S rules marks f)
   first_not_normal_mark =
       elim (first_place (λ (m : Mark). Normal (marked_types S rules m.symbol) m.polynomial → ⊥)
       (λ (m : Mark). not_decided (normal_decided (marked_types S rules m.symbol) m.polynomial)) marks) [
-    | inl (i, m, at, not, before) ↦
-        inr (m.symbol, (i, m, at, refl, not, λ j u less also. not_refuted (normal_decided (marked_types S rules u.symbol) u.polynomial)
-        (before j u less also)))
-    | inr none ↦ inl (λ m found. not_refuted (normal_decided (marked_types S rules m.symbol) m.polynomial) (none m found))
-  ]
+        | inl (i, m, at, not, before) ↦
+            inr (
+              m.symbol,
+              (
+                i,
+                m,
+                at,
+                refl,
+                not,
+                λ j u less also. not_refuted (normal_decided (marked_types S rules u.symbol) u.polynomial)
+                    (before j u less also),
+              ),
+            )
+        | inr none ↦ inl (λ m found. not_refuted (normal_decided (marked_types S rules m.symbol) m.polynomial) (none m found))
+      ]
 
   -- all together, from the last condition to the first
 

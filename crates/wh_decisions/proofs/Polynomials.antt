@@ -1,5 +1,5 @@
 -- What is asked of polynomials is decided: that they are normal, that one is at least another, and that moves show it.
-use Rattle.std.proofs.Common.{◌≡◌, ◌<◌, ◌≤◌, ◌⊎◌, ℕ, zero, suc, inl, inr, Bool, true, false, List, [], ◌∷◌, ◌++◌, Some, slice_get, Contains, refl, sym, subst, arith}
+use Rattle.std.proofs.Common.{◌≡◌, ◌<◌, ◌≤◌, ◌⊎◌, ℕ, zero, suc, inl, inr, List, [], ◌∷◌, ◌++◌, refl, sym, subst, arith}
 use Rattle.std.proofs.lemmas.Bool.{cases_lt}
 use Rattle.std.specs.declared.cmp.Ordering.{Ordering}
 use Rattle.std.specs.declared.cmp.Ordering.TheVariants.{Less, Equal, Greater}
@@ -15,7 +15,7 @@ use Rattle.wh_polycheck.specs.CoverFaults.{AreGood, IsOverSpent, IsNotCovered, L
 use Rattle.wh_polycheck.specs.declared.fault.CoverFault.{CoverFault}
 use Rattle.wh_polycheck.specs.declared.fault.CoverFault.TheVariants.{BadMove, OverSpent, NotCovered, NotStrict}
 use Rattle.wh_polycheck.proofs.GoodWalk.{one_monomial}
-use Rattle.wh_decisions.proofs.Searches.{not_decided, not_refuted, equal_decided, at_most_decided, HasFirst, HasNoneOf, first_place}
+use Rattle.wh_decisions.proofs.Searches.{not_decided, not_refuted, equal_decided, at_most_decided, first_place}
 
 -- orders
 
@@ -153,9 +153,9 @@ spent_or_not left ms i = go (monomial_or_none left i)
     at_monomial c us at (inl more) = inr (c, us, at, more)
     at_monomial c us at (inr not) =
         inl (λ d vs also. let same : d ≡ c = (one_monomial left i d c vs us also at).0 in elim (cases_lt c (given_by i ms)) [
-      | inl more ↦ absurd (not more)
-      | inr le ↦ omega (arith, le, same)
-    ])
+          | inl more ↦ absurd (not more)
+          | inr le ↦ omega (arith, le, same)
+        ])
 
     go : MonomialOrNone left i → NotOverSpent left ms i ⊎ IsOverSpent left ms i
     go (inr none) = inl (λ c us at. absurd (none c us at))
@@ -169,9 +169,9 @@ covered_or_not right ms j = go (monomial_or_none right j)
     at_monomial c us at (inl fewer) = inr (c, us, at, fewer)
     at_monomial c us at (inr not) =
         inl (λ d vs also. let same : d ≡ c = (one_monomial right j d c vs us also at).0 in elim (cases_lt (taken_by j ms) c) [
-      | inl fewer ↦ absurd (not fewer)
-      | inr le ↦ omega (arith, le, same)
-    ])
+          | inl fewer ↦ absurd (not fewer)
+          | inr le ↦ omega (arith, le, same)
+        ])
 
     go : MonomialOrNone right j → Covered right ms j ⊎ IsNotCovered right ms j
     go (inr none) = inl (λ c us at. absurd (none c us at))
@@ -200,16 +200,16 @@ targets_or_fault : (left right : Polynomial) (ms : List Transfer) → AreGood le
     → CoverOrFault left right ms
 targets_or_fault left right ms good enough =
     elim (all_or_first (Covered right ms) (IsNotCovered right ms) (covered_or_not right ms) (monomial_count right)) [
-  | inl all ↦ inl (record { good = good; not_over_spent = enough; covered = λ j c us at. all j (monomial_counted right j c us at) c us at })
-  | inr (j, less, missing, before) ↦ inr (NotCovered j, (good, enough, (missing, before)))
-]
+      | inl all ↦ inl (record { good = good; not_over_spent = enough; covered = λ j c us at. all j (monomial_counted right j c us at) c us at })
+      | inr (j, less, missing, before) ↦ inr (NotCovered j, (good, enough, (missing, before)))
+    ]
 
 sources_or_fault : (left right : Polynomial) (ms : List Transfer) → AreGood left right ms → CoverOrFault left right ms
 sources_or_fault left right ms good =
     elim (all_or_first (NotOverSpent left ms) (IsOverSpent left ms) (spent_or_not left ms) (monomial_count left)) [
-  | inl all ↦ targets_or_fault left right ms good (λ i c us at. all i (monomial_counted left i c us at) c us at)
-  | inr (i, less, spent, before) ↦ inr (OverSpent i, (good, (spent, before)))
-]
+      | inl all ↦ targets_or_fault left right ms good (λ i c us at. all i (monomial_counted left i c us at) c us at)
+      | inr (i, less, spent, before) ↦ inr (OverSpent i, (good, (spent, before)))
+    ]
 
 pub cover_or_fault : (left right : Polynomial) (ms : List Transfer) → CoverOrFault left right ms
 cover_or_fault left right ms = elim (first_place (λ m. Good left right m → ⊥) (λ m. not_decided (good_decided left right m)) ms) [

@@ -34,14 +34,14 @@ returns-then-certificate-count-clause-fault c =
     let lines = map said_node cert.nodes in
     let passing = subst (IsPassingUnder d) c.as_slice.ensures c.in_ok-check_passing.ensures in
     let count : length c.as_slice-2.result.now ≡ length ps = ap (λ (l : List Pair). length l) c.as_slice-2.ensures
-        ∙ sym (length-map c.args.pairs.now pair_data) in
+    ∙ sym (length-map c.args.pairs.now pair_data) in
     subst (λ n. IsFirstYesFault with_limits d ps cert.ranks cert.pairs lines (check.Rejected (PairCount n))) (sym count)
     (pair_count passing.0 passing.1 (λ same. c.if-certificate-count.true (same ∙ sym count)))
 
 pub check_nodes-requires-clause-typed : goal.check_nodes-requires-clause-typed
 check_nodes-requires-clause-typed c =
     λ marks p found. c.pairs_have_marked_sides.ensures (system_data c.args.system.now)
-        (pairs_data c.args.pairs.now) marks p c.is_well_made.ensures c.requires.pairs.are found
+    (pairs_data c.args.pairs.now) marks p c.is_well_made.ensures c.requires.pairs.are found
 
 pub check_nodes-requires-clause-set : goal.check_nodes-requires-clause-set
 check_nodes-requires-clause-set c =
@@ -56,7 +56,7 @@ returns-clause-valid c =
     let cert = c.args.certificate.now in
     let passing = subst (IsPassingUnder d) c.as_slice.ensures c.in_ok-check_passing.ensures in
     let count : length c.as_slice-2.result.now ≡ length ps = ap (λ (l : List Pair). length l) c.as_slice-2.ensures
-        ∙ sym (length-map c.args.pairs.now pair_data) in
+    ∙ sym (length-map c.args.pairs.now pair_data) in
     let set = c.in_ok-whole.whole in
     let whole = subst (λ n. IsSetOf (λ m. m < n) set) count c.in_ok-whole.ensures in
     ok_weaker c.check_nodes.result _ _ c.check_nodes.ensures.proved (λ proved.
@@ -69,7 +69,7 @@ returns-clause-small c =
     let ps = pairs_data c.args.pairs.now in
     let cert = c.args.certificate.now in
     let count : length c.as_slice-2.result.now ≡ length ps = ap (λ (l : List Pair). length l) c.as_slice-2.ensures
-        ∙ sym (length-map c.args.pairs.now pair_data) in
+    ∙ sym (length-map c.args.pairs.now pair_data) in
     let set = c.in_ok-whole.whole in
     let whole = subst (λ n. IsSetOf (λ m. m < n) set) count c.in_ok-whole.ensures in
     ok_weaker c.check_nodes.result _ _ c.check_nodes.ensures.proved (λ proved.
@@ -83,7 +83,7 @@ returns-clause-fault c =
     let cert = c.args.certificate.now in
     let passing = subst (IsPassingUnder d) c.as_slice.ensures c.in_ok-check_passing.ensures in
     let count : length c.as_slice-2.result.now ≡ length ps = ap (λ (l : List Pair). length l) c.as_slice-2.ensures
-        ∙ sym (length-map c.args.pairs.now pair_data) in
+    ∙ sym (length-map c.args.pairs.now pair_data) in
     let set = c.in_ok-whole.whole in
     let whole = subst (λ n. IsSetOf (λ m. m < n) set) count c.in_ok-whole.ensures in
     cause_weaker c.check_nodes.result (FaultInNodes d ps set (map said_node c.as_slice-3.result.now)) _ c.check_nodes.ensures.fault
@@ -98,7 +98,7 @@ returns-clause-bounded c =
     let cert = c.args.certificate.now in
     let passing = subst (IsPassingUnder d) c.as_slice.ensures c.in_ok-check_passing.ensures in
     let count : length c.as_slice-2.result.now ≡ length ps = ap (λ (l : List Pair). length l) c.as_slice-2.ensures
-        ∙ sym (length-map c.args.pairs.now pair_data) in
+    ∙ sym (length-map c.args.pairs.now pair_data) in
     let set = c.in_ok-whole.whole in
     let whole = subst (λ n. IsSetOf (λ m. m < n) set) count c.in_ok-whole.ensures in
     ok_weaker c.check_nodes.result _ _ c.check_nodes.ensures.proved (λ (nodes, says, proves, small).

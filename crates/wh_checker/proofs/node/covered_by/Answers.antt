@@ -1,5 +1,4 @@
 use Rattle.std.proofs.Common.{[], ◌∷◌, ℕ, List, map, sym, subst}
-use Rattle.wh_types.specs.Erase.{ty}
 use Rattle.wh_system.specs.SystemView.{system_data}
 use Rattle.wh_pairs.specs.Views.{pairs_data}
 use Rattle.wh_subterm.specs.Marked.{AreMarked}
@@ -51,7 +50,7 @@ returns-in-Err-Because c =
       marks,
       c.requires.says,
       subst (λ (g : CoveringFault). IsFirstCoveringFault with_limits d.symbols d.rules ps set symbols marks (map transfers node.rules)
-      (map transfers node.pairs) node.drop g) (sym c.in-Err-Because.fault-is)
-      (subst (λ (l : List ℕ). IsFirstCoveringFault with_limits d.symbols d.rules ps set symbols marks (map transfers node.rules)
-      (map transfers node.pairs) l f) c.as_slice-drop.ensures first),
+          (map transfers node.pairs) node.drop g) (sym c.in-Err-Because.fault-is)
+          (subst (λ (l : List ℕ). IsFirstCoveringFault with_limits d.symbols d.rules ps set symbols marks (map transfers node.rules)
+          (map transfers node.pairs) l f) c.as_slice-drop.ensures first),
     )
