@@ -180,7 +180,7 @@ const MAP_CHANGES: &[(&str, &str, &[u8])] = &[
     (
         "fun map 1*y0(1*y1)*y1+1*y1",
         "fun map 1*y0(1*y2)*y1+1*y1",
-        b"REJECTED node 0 not-covered rule 1 1\n",
+        b"REJECTED node 0 bad-polynomial map\n",
     ),
 ];
 
@@ -202,13 +202,7 @@ const TWICE_ROWS: &[(&str, &str, &str, &[u8])] = &[
         "170141183460469231731687303715884105728*y0",
         "1*y0(0)*y0(1)*y0(1)",
         "1*y0",
-        b"REJECTED node 0 not-covered rule 0 0\n",
-    ),
-    (
-        "1+1*y0",
-        "1*y0(0)*y0(1)*y0(1)",
-        "1*y0",
-        b"REJECTED node 0 not-covered rule 0 0\n",
+        b"REJECTED node 0 not-covered pair 0 0\n",
     ),
 ];
 
