@@ -20,7 +20,7 @@ pub use certificate::{
     Arg, Args, CertSyntax, Certificate, NoCertificate, Node, Nodes, Put, Puts, Steps,
     YesCertificate,
 };
-pub use laws::{no_proper_prefix, one_certificate, one_place, one_text};
+pub use laws::{no_proper_prefix, one_certificate, one_place, one_text, polynomials_short};
 pub use poly_node::{Interp, Interps, PolyNode};
 pub use print::print_certificate;
 pub use read::read_certificate;

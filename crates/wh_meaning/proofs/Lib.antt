@@ -15,3 +15,4 @@ pub mod PairsEnd
 pub mod MarkedPairs
 pub mod Rows
 pub mod PairSides
+pub mod CoverLaws

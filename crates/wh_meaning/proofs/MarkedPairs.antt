@@ -1,21 +1,20 @@
 -- Sets of pairs whose marked symbols have interpretations of their own.
-use Rattle.std.proofs.Common.{◌≡◌, ◌⊎◌, ℕ, List, [], length, refl, ap, ◌∙◌, map, Some, slice_get, Contains, true, false}
-use Rattle.wh_types.specs.Ty.{Ty, sort}
-use Rattle.wh_terms.specs.Tree.{Tm, Tms, tms_of}
-use Rattle.wh_terms.specs.Sight.{NoFree, AllNoFree}
-use Rattle.wh_terms.specs.Typing.{Symbols, Declared, Typed, AllTyped}
+use Rattle.std.proofs.Common.{◌≡◌, ◌⊎◌, ℕ, List, [], length, refl, map, Some, slice_get, Contains, true, false}
+use Rattle.wh_types.specs.Ty.{Ty}
+use Rattle.wh_terms.specs.Tree.{Tm, tms_of}
+use Rattle.wh_terms.specs.Sight.{NoFree}
+use Rattle.wh_terms.specs.Typing.{Symbols, Declared, Typed}
 use Rattle.wh_terms.specs.Rules.{RewriteRule, AreWellMade}
 use Rattle.wh_step.specs.Step.{Step}
 use Rattle.wh_system.specs.PairData.{PairData}
 use Rattle.wh_calls.specs.MarkedCalls.{CallsEnd}
-use Rattle.wh_hopoly.specs.Evaluation.{symbol, Interpretation, TypedExpression, NormalInterpretations}
-use Rattle.wh_hopoly.proofs.ValueLaws.{interpretation_is}
-use Rattle.wh_polycheck.specs.Sides.{types_of_metas, marked_expression, side_polynomial, Interprets, RulesAreCovered, IsNormOfSide}
-use Rattle.wh_polycheck.specs.Marks.{Mark, marked_types, marked_interpretation, with_marks, mark_number, HasMark, AreNormalMarks, HasMarkedSides, IsNormOfPairSide}
+use Rattle.wh_hopoly.specs.Evaluation.{Interpretation, NormalInterpretations}
+use Rattle.wh_polycheck.specs.Sides.{types_of_metas, side_polynomial, Interprets, RulesAreCovered, IsNormOfSide}
+use Rattle.wh_polycheck.specs.Marks.{Mark, marked_interpretation, with_marks, mark_number, AreNormalMarks, HasMarkedSides, IsNormOfPairSide}
 use Rattle.wh_meaning.specs.PairCovers.{PairIsCovered, PairIsStrictlyCovered, MarkedPairIsCovered, IsOneOf, left_polynomial, right_polynomial}
 use Rattle.wh_polycheck.proofs.MoreInterpretations.{interprets_more, rules_covered_more, mark_interpreted, normal_with_marks}
 use Rattle.wh_polycheck.proofs.MarkedSides.{marked_typed}
-use Rattle.wh_polycheck.proofs.SideTypes.{side_typed, side_applied_typed}
+use Rattle.wh_polycheck.proofs.SideTypes.{side_typed}
 use Rattle.wh_meaning.proofs.PairsEnd.{sets_end_by_worth}
 
 covered_by_marks : (S : Symbols) (rules : List RewriteRule) (symbols : List Interpretation) (marks : List Mark) (p : PairData)

@@ -1,9 +1,9 @@
 -- The sides of the pairs of a well-made system are typed and closed.
-use Rattle.std.proofs.Common.{◌≡◌, ◌⊎◌, inl, inr, ℕ, zero, suc, ◌+◌, ◌-◌, ◌<◌, ◌≤◌, List, [], ◌∷◌, ◌++◌, length, map, take, drop, reverse, unwrap_or, Option, Some, None, slice_get, get_or, Contains, refl, ap, ap₂, sym, ◌∙◌, subst, subst₂, arith}
+use Rattle.std.proofs.Common.{◌≡◌, ◌⊎◌, inl, inr, ℕ, zero, suc, ◌+◌, ◌-◌, ◌<◌, ◌≤◌, List, [], ◌∷◌, ◌++◌, length, map, take, drop, reverse, unwrap_or, Option, Some, None, slice_get, get_or, Contains, refl, ap, ap₂, sym, ◌∙◌, subst, arith}
 use Rattle.std.proofs.lemmas.List.{take_at, length-take-le, length-drop, length-reverse, reverse-append, drop_all}
 use Rattle.std.proofs.lemmas.List.Elements.{Contains-append_cases}
-use Rattle.std.proofs.lemmas.Option.{none-some, slice_get_within, slice_get-get_or, get_or_from_slice_get}
-use Rattle.wh_types.specs.Ty.{Ty, sort, ◌⇒◌, arguments}
+use Rattle.std.proofs.lemmas.Option.{none-some, slice_get_within, get_or_from_slice_get}
+use Rattle.wh_types.specs.Ty.{Ty, sort, arguments}
 use Rattle.wh_terms.specs.Tree.{Tm, bound, free, fun, meta, lam, app, Tms, none, more, head, spine, argument_count, tms_of}
 use Rattle.wh_terms.specs.Substitution.{rename, renames, up, up_free, act, acts, cons}
 use Rattle.wh_terms.specs.Sight.{NoFree, AllNoFree}
@@ -37,7 +37,8 @@ use Rattle.wh_polycheck.proofs.MarkedSides.{contains_there}
 
 mutual
   -- a tree keeps its type where more meta-variables are declared
-  typed_wider : {S : Symbols} {M : List Declared} {Γ : List Ty} {t : Tm} {a : Ty} (N : List Declared) → Typed S M Γ t a → Typed S (M ++ N) Γ t a
+  typed_wider : {S : Symbols} {M : List Declared} {Γ : List Ty} {t : Tm} {a : Ty} (N : List Declared) → Typed S M Γ t a
+      → Typed S (M ++ N) Γ t a
   typed_wider N (typed_bound e) = typed_bound e
   typed_wider N (typed_free p) = typed_free p
   typed_wider N (typed_fun e) = typed_fun e
@@ -53,7 +54,8 @@ mutual
 list_typed_act : {S : Symbols} {M : List Declared} {Γ : List Ty} (σ : ℕ → Tm) → FitsLoose S M Γ [] σ → (ts : List Tm) (cs : List Ty)
     → AllTyped S M Γ (tms_of ts) cs → AllTyped S M [] (tms_of (map (act σ free) ts)) cs
 list_typed_act σ h [] cs typed_none = typed_none
-list_typed_act σ h (t ∷ ts) cs (typed_more {bs = bs} p ps) = typed_more (typed-act [] σ free h (fits-free []) p) (list_typed_act σ h ts bs ps)
+list_typed_act σ h (t ∷ ts) cs (typed_more {bs = bs} p ps) =
+    typed_more (typed-act [] σ free h (fits-free []) p) (list_typed_act σ h ts bs ps)
 
 typed_take : {S : Symbols} {M : List Declared} {Γ : List Ty} (n : ℕ) (ts : List Tm) (cs : List Ty) → AllTyped S M Γ (tms_of ts) cs
     → AllTyped S M Γ (tms_of (take n ts)) (take n cs)
@@ -109,14 +111,16 @@ module _ (M : List Declared) (Γ ds : List Ty) where
       ap (slice_get all) sum ∙ fresh_there (length (reverse Γ) + i) a (slice_get_behind (reverse Γ) ds i ∙ e)
 
 numbered_typed : {S : Symbols} {M : List Declared} (y n : ℕ) (ds : List Ty) → n ≡ length ds
-    → ((i : ℕ) (a : Ty) → slice_get ds i ≡ Some a → slice_get M (y + i) ≡ Some (nullary a)) → AllTyped S M [] (tms_of (numbered_from y n)) ds
+    → ((i : ℕ) (a : Ty) → slice_get ds i ≡ Some a → slice_get M (y + i) ≡ Some (nullary a))
+    → AllTyped S M [] (tms_of (numbered_from y n)) ds
 numbered_typed y zero [] many h = typed_none
 numbered_typed y zero (d ∷ ds) many h = absurd (omega arith)
 numbered_typed y (suc n) [] many h = absurd (omega arith)
 numbered_typed {M = M} y (suc n) (d ∷ ds) many h =
     let here : y ≡ y + 0 = omega arith in
     typed_more (typed_meta (ap (slice_get M) here ∙ h 0 d refl) typed_none refl)
-    (numbered_typed (y + 1) n ds (omega arith) (λ i a e. let next : y + 1 + i ≡ y + suc i = omega arith in ap (slice_get M) next ∙ h (suc i) a e))
+    (numbered_typed (y + 1) n ds (omega arith)
+    (λ i a e. let next : y + 1 + i ≡ y + suc i = omega arith in ap (slice_get M) next ∙ h (suc i) a e))
 
 -- trees without free variables
 
@@ -161,7 +165,8 @@ freed_closed x [] i = tt
 freed_closed x (a ∷ Γ) zero = tt
 freed_closed x (a ∷ Γ) (suc i) = freed_closed x Γ i
 
-list_act_closed : (σ : ℕ → Tm) → ((i : ℕ) → NoFree (σ i)) → (ts : List Tm) → AllNoFree (tms_of ts) → AllNoFree (tms_of (map (act σ free) ts))
+list_act_closed : (σ : ℕ → Tm) → ((i : ℕ) → NoFree (σ i)) → (ts : List Tm) → AllNoFree (tms_of ts)
+    → AllNoFree (tms_of (map (act σ free) ts))
 list_act_closed σ h [] f = tt
 list_act_closed σ h (t ∷ ts) f = (act_keeps_closed σ free h t f.0, list_act_closed σ h ts f.1)
 
@@ -269,7 +274,8 @@ module _ (d : SystemData) (made : IsWellMadeSystem d) (r : RewriteRule) (listed 
       ap (take (length cs)) (arguments-arrows cs a) ∙ take_at cs (arguments a) (length cs) refl in
       let marked : cs ≡ marked_types S d.rules f =
       sym types ∙ marked_types_are S d.rules f (length cs) (arrows cs a) (typed_symbol h) needed in
-      subst (AllTyped S r.metas [] (tms_of (spine_arguments r.left))) (marked ∙ ap (λ t. marked_types S d.rules (symbol_of t)) (sym headed)) ps
+      subst (AllTyped S r.metas [] (tms_of (spine_arguments r.left)))
+      (marked ∙ ap (λ t. marked_types S d.rules (symbol_of t)) (sym headed)) ps
 
   module _ (k : ℕ) (c : Call) (called : Contains (calls_of d.rules r) c) where
     abbrev p : PairData
@@ -287,7 +293,8 @@ module _ (d : SystemData) (made : IsWellMadeSystem d) (r : RewriteRule) (listed 
         let here : get_or S.funs c.symbol (sort 0) ≡ a = get_or_from_slice_get S.funs c.symbol a (sort 0) t.known in
         let kinds : arguments (get_or S.funs c.symbol (sort 0)) ≡ t.types ++ arguments t.result =
         ap arguments here ∙ arguments-arrows t.types t.result in
-        let enough : c.need ≤ length (arguments (get_or S.funs c.symbol (sort 0))) = (takes_arguments d made c.symbol c.need needed).enough in
+        let enough : c.need ≤ length (arguments (get_or S.funs c.symbol (sort 0))) =
+        (takes_arguments d made c.symbol c.need needed).enough in
         let many : c.need - length c.arguments ≡ length (missing_types S c) =
         sym (length-drop (length c.arguments) (take c.need (arguments (get_or S.funs c.symbol (sort 0))))
         ∙ ap (λ n. n - length c.arguments) (length-take-le c.need (arguments (get_or S.funs c.symbol (sort 0))) enough)) in
@@ -325,7 +332,8 @@ pub pair_sides : (d : SystemData) → IsWellMadeSystem d → (ps : List PairData
     → (marks : List Mark) (p : PairData) → Contains ps p → HasMark marks p.left_fun → HasMark marks p.right_fun
     → HasMarkedSides d.symbols d.rules marks p
 pair_sides d made ps pairs marks p at l m =
-    let from : IsOfCall d.symbols d.rules p = candidate_of_call d.symbols d.rules p (left-member [] (candidates d.symbols d.rules) ps p pairs at) in
+    let from : IsOfCall d.symbols d.rules p =
+    candidate_of_call d.symbols d.rules p (left-member [] (candidates d.symbols d.rules) ps p pairs at) in
     subst (HasMarkedSides d.symbols d.rules marks) (sym from.is)
     (candidate_sides d made from.rule (contains_there d.rules p.rule from.rule from.listed) p.rule from.call from.called marks
     (subst (λ q. HasMark marks q.left_fun) from.is l) (subst (λ q. HasMark marks q.right_fun) from.is m))

@@ -1,6 +1,6 @@
 -- Pairs that are covered, and what their marked calls are worth. `marked` gives the number of the interpretation of a marked symbol, and
 -- `target` the sort that it leads to.
-use Rattle.std.specs.Prelude.{ℕ, ◌≡◌, List, [], Some, slice_get, Contains}
+use Rattle.std.specs.Prelude.{ℕ, ◌≡◌, List, Some, slice_get, Contains}
 use Rattle.wh_terms.specs.Tree.{tms_of}
 use Rattle.wh_terms.specs.Typing.{Symbols}
 use Rattle.wh_terms.specs.Rules.{RewriteRule}

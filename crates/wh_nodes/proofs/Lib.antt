@@ -8,6 +8,11 @@ pub mod SubtermLaws
 pub mod NodeLaws
 pub mod SystemLaws
 pub mod NameTests
+pub mod FewLemmas
 pub mod MapMade
 pub mod MapProof
 pub mod MapLaws
+pub mod IdentityMade
+pub mod IdentityCovers
+pub mod IdentityProof
+pub mod IdentityLaws

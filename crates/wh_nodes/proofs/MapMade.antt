@@ -1,5 +1,5 @@
 -- The worked system is well made. Limits are seen by computing, names by tests.
-use Rattle.std.proofs.Common.{◌≡◌, ℕ, ◌+◌, ◌≤◌, zero, suc, inl, inr, true, List, [], ◌∷◌, length, All, Contains, refl, sym, ◌∙◌, subst, arith}
+use Rattle.std.proofs.Common.{◌≡◌, ℕ, ◌+◌, ◌≤◌, inl, inr, List, [], ◌∷◌, length, All, Contains, refl, sym, ◌∙◌, arith}
 use Rattle.std.proofs.lemmas.List.Elements.{All-from_recursion, All-nil, All-cons}
 use Rattle.wh_types.specs.Ty.{Ty, ◌⇒◌, arguments}
 use Rattle.wh_terms.specs.Tree.{Tm, fun, meta, none, argument_count}
@@ -8,19 +8,10 @@ use Rattle.wh_terms.specs.Sight.{Occurs}
 use Rattle.wh_terms.specs.Rules.{RewriteRule, IsWellMade, AreWellMade}
 use Rattle.wh_text.specs.Words.{IsName}
 use Rattle.wh_system.specs.Nesting.{type_nesting, TypesNestWithin}
-use Rattle.wh_system.specs.WellMade.{TypesWithin, IsTypeOver, IsDeclarationOver, AreDistinct, AreApart, IsWellMadeSystem}
+use Rattle.wh_system.specs.WellMade.{TypesWithin, IsTypeOver, IsDeclarationOver, AreDistinct, IsWellMadeSystem}
 use Rattle.wh_nodes.specs.MapSystem.{nat, list, map_symbols, function_meta, plain_meta, map_metas, mapped, cons_term, map_over, map_nil, map_cons, map_system}
-use Rattle.wh_nodes.proofs.NameTests.{is_name, name_by, all_differ, distinct_by, every, all_by, is_apart, apart_by}
-
--- what holds of each of two rules
-
-pub two_rules : (P : RewriteRule → Type 0) (q r : RewriteRule) → P q → P r → (s : RewriteRule) → Contains (q ∷ r ∷ []) s → P s
-two_rules P q r first second s (zero, within, e) = subst P e first
-two_rules P q r first second s (suc zero, within, e) = subst P e second
-two_rules P q r first second s (suc (suc k), within, e) = absurd (omega arith)
-
-all_two : (P : RewriteRule → Type 0) (q r : RewriteRule) → P q → P r → All P (q ∷ r ∷ [])
-all_two P q r first second = All-from_recursion P (q ∷ r ∷ []) (first, (second, tt))
+use Rattle.wh_nodes.proofs.FewLemmas.{each_of_two, all_of_two}
+use Rattle.wh_nodes.proofs.NameTests.{is_name, names_by, all_differ, distinct_by, every, all_by, metas_apart}
 
 -- types
 
@@ -137,24 +128,13 @@ map_cons_made = record {
 
 -- the rules of the one symbol that has rules have two arguments
 two_arguments : (r : RewriteRule) → Contains map_system.rules r → argument_count r.left ≡ 2
-two_arguments = two_rules (λ r. argument_count r.left ≡ 2) map_nil map_cons refl refl
+two_arguments = each_of_two (λ r. argument_count r.left ≡ 2) map_nil map_cons refl refl
 
 rules_made : AreWellMade map_symbols map_system.rules
 rules_made = record {
-  each = two_rules (IsWellMade map_symbols) map_nil map_cons map_nil_made map_cons_made;
+  each = each_of_two (IsWellMade map_symbols) map_nil map_cons map_nil_made map_cons_made;
   even = λ r s first second same. two_arguments r first ∙ sym (two_arguments s second);
 }
-
--- names
-
-names_by : (names : List (List ℕ)) → every is_name names ≡ true → All IsName names
-names_by = all_by IsName is_name name_by
-
-metas_apart : (metas : List (List (List ℕ))) → every (λ names. is_apart names map_system.fun_names) metas ≡ true
-    → All (λ names. AreApart names map_system.fun_names) metas
-metas_apart =
-    let funs = map_system.fun_names in
-    all_by (λ names. AreApart names funs) (λ names. is_apart names funs) (apart_by funs)
 
 -- the whole system
 pub map_made : IsWellMadeSystem map_system
@@ -163,13 +143,13 @@ map_made = record {
   sorts_within = omega arith;
   symbols_within = omega arith;
   rules_within = omega arith;
-  metas_within = all_two (λ r. length r.metas ≤ 32) map_nil map_cons (omega arith) (omega arith);
+  metas_within = all_of_two (λ r. length r.metas ≤ 32) map_nil map_cons (omega arith) (omega arith);
   symbol_types = symbols_over;
-  meta_types = all_two (λ r. All (IsDeclarationOver 2) r.metas) map_nil map_cons function_metas_over metas_over;
-  side_types = all_two (λ r. TypesWithin 32 r.left × TypesWithin 32 r.right) map_nil map_cons
+  meta_types = all_of_two (λ r. All (IsDeclarationOver 2) r.metas) map_nil map_cons function_metas_over metas_over;
+  side_types = all_of_two (λ r. TypesWithin 32 r.left × TypesWithin 32 r.right) map_nil map_cons
       (((tt, (tt, (tt, tt))), tt), tt)
       (((tt, (tt, (tt, tt))), ((tt, tt), tt)), ((tt, (tt, tt)), ((tt, (tt, (tt, tt))), tt)));
-  side_types_shallow = all_two (λ r. TypesNestWithin 16 r.left × TypesNestWithin 16 r.right) map_nil map_cons
+  side_types_shallow = all_of_two (λ r. TypesNestWithin 16 r.left × TypesNestWithin 16 r.right) map_nil map_cons
       (((tt, (omega arith, (tt, tt))), tt), tt)
       (((tt, (omega arith, (tt, tt))), ((tt, tt), tt)), ((tt, (tt, tt)), ((tt, (omega arith, (tt, tt))), tt)));
   sorts_named = refl;
@@ -181,5 +161,5 @@ map_made = record {
   sort_names_distinct = distinct_by map_system.sort_names refl;
   fun_names_distinct = distinct_by map_system.fun_names refl;
   meta_names_distinct = all_by AreDistinct all_differ distinct_by map_system.meta_names refl;
-  metas_no_symbols = metas_apart map_system.meta_names refl;
+  metas_no_symbols = metas_apart map_system.fun_names map_system.meta_names refl;
 }

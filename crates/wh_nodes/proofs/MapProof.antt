@@ -1,5 +1,5 @@
 -- The worked system is passing under equal ranks, its one pair is that of the second rule, and its nodes are a proof.
-use Rattle.std.proofs.Common.{◌≡◌, ◌<◌, ℕ, zero, suc, inl, inr, List, [], ◌∷◌, Some, length, slice_get, Contains, refl, sym, ap, ◌∙◌, subst, arith}
+use Rattle.std.proofs.Common.{◌≡◌, ◌<◌, ℕ, inl, inr, List, [], ◌∷◌, Some, length, slice_get, Contains, refl, sym, ap, ◌∙◌, subst, arith}
 use Rattle.std.specs.Prelude.{◌⊎◌}
 use Rattle.std.proofs.lemmas.List.Elements.{All-from_recursion, All-nil, All-cons}
 use Rattle.wh_types.specs.Ty.{Ty, ◌⇒◌}
@@ -11,7 +11,7 @@ use Rattle.wh_access.specs.Readings.{Place}
 use Rattle.wh_access.specs.Passing.{AllAccessible, EachUsed, Passes, IsPassing}
 use Rattle.wh_pairs.specs.Candidates.{candidates, freed}
 use Rattle.wh_pairs.specs.Subsumption.{IsDropped, ArePairs, none_left, one_kept, for_earlier, for_later}
-use Rattle.wh_pairs.proofs.MemberLemmas.{none_there, at_head, head_or_behind}
+use Rattle.wh_pairs.proofs.MemberLemmas.{none_there, at_head}
 use Rattle.wh_subterm.specs.Marked.{IsMarked, AreMarked}
 use Rattle.wh_subterm.specs.Parts.{argument, last}
 use Rattle.wh_subterm.specs.Projections.{Below}
@@ -19,7 +19,7 @@ use Rattle.wh_subterm.specs.SubtermRows.{IsPlace, IsProjection}
 use Rattle.wh_nodes.specs.Nodes.{IsSetOf, IsKept, by_done, by_subterm}
 use Rattle.wh_nodes.specs.Proves.{Proves, all_proved, one_proved}
 use Rattle.wh_nodes.specs.MapSystem.{nat, list, map_symbols, cons_term, map_nil, map_cons, map_system, map_pair, map_choice, map_nodes}
-use Rattle.wh_nodes.proofs.MapMade.{two_rules}
+use Rattle.wh_nodes.proofs.FewLemmas.{in_one, from_one, get_one, each_of_two}
 
 -- passing: the arguments of cons are of sorts, so that equal ranks do
 
@@ -60,7 +60,7 @@ map_cons_passes z o =
     ]
 
 pub map_passes : IsPassing map_system (0 ∷ 0 ∷ [])
-map_passes = two_rules (EachUsed (Passes map_symbols equal_ranks)) map_nil map_cons (λ z never. absurd never) map_cons_passes
+map_passes = each_of_two (EachUsed (Passes map_symbols equal_ranks)) map_nil map_cons (λ z never. absurd never) map_cons_passes
 
 -- pairs
 
@@ -74,21 +74,6 @@ lone_stays p (for_later {b = b} there s proper) = none_there b there
 
 pub map_pairs : ArePairs (candidates map_symbols map_system.rules) (map_pair ∷ [])
 map_pairs = subst (λ cs. ArePairs cs (map_pair ∷ [])) (sym map_candidates) (one_kept (lone_stays map_pair) none_left)
-
--- members of a list of one
-
-in_one : {A : Type 0} (x y : A) → Contains (x ∷ []) y → x ≡ y
-in_one x y there = elim (head_or_behind [] x y there) [
-  | inl e ↦ e
-  | inr never ↦ absurd (none_there y never)
-]
-
-from_one : {A : Type 0} (x y : A) → x ≡ y → Contains (x ∷ []) y
-from_one x y e = subst (Contains (x ∷ [])) e (at_head [] x)
-
-get_one : {A : Type 0} (x y : A) (n : ℕ) → slice_get (x ∷ []) n ≡ Some y → (n ≡ 0) × (x ≡ y)
-get_one x y zero e = (refl, cc)
-get_one x y (suc n) e = absurd (cc)
 
 -- the subterm node: Y is a part of cons X Y
 
@@ -129,7 +114,7 @@ none_kept = record {
   each = λ n. ((λ never. absurd (none_there n never)), (λ (there, kept). absurd (kept there)));
 }
 
-pub map_proved : Proves map_system.rules (map_pair ∷ []) ((0 ∷ []) ∷ []) map_nodes
+pub map_proved : Proves map_symbols map_system.rules (map_pair ∷ []) ((0 ∷ []) ∷ []) map_nodes
 map_proved = one_proved (by_subterm map_projection none_kept) (one_proved by_done all_proved)
 
 -- the set has all pairs

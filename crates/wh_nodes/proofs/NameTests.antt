@@ -87,3 +87,12 @@ name_by (b ∷ bs) e =
       word = record { starts = first.0; parts = pass_by (b ∷ bs) rest.0; short = leb-true (length (b ∷ bs)) 64 first.1 };
       free = free_by (b ∷ bs) rest.1;
     }
+
+-- lists of names
+
+pub names_by : (names : List (List ℕ)) → every is_name names ≡ true → All IsName names
+names_by = all_by IsName is_name name_by
+
+pub metas_apart : (funs : List (List ℕ)) (metas : List (List (List ℕ))) → every (λ names. is_apart names funs) metas ≡ true
+    → All (λ names. AreApart names funs) metas
+metas_apart funs = all_by (λ names. AreApart names funs) (λ names. is_apart names funs) (apart_by funs)

@@ -1,13 +1,21 @@
-//! A worked system, so that the law on proved systems is seen to be about something.
+//! Worked systems, so that the law on proved systems is seen to be about something.
 
 ghost use Rattle.wh_terms.specs.Tree.{Tm};
 ghost use Rattle.wh_terms.specs.Typing.{WellTyped};
 ghost use Rattle.wh_step.specs.Reduction.{Bounded};
 ghost use Rattle.wh_nodes.specs.MapSystem.{map_system};
+ghost use Rattle.wh_nodes.specs.IdentitySystem.{identity_system};
 
 /// Each well-typed term over the system `map`, which maps a function over a list, is bounded. The system is well made
 /// and passing under equal ranks, and its one dependency pair is proved by the subterm criterion: map's second argument
 /// gets smaller (Kop 2012).
 pub fn terms_over_map_are_bounded()
     ensures { (t : Tm) → WellTyped map_system.symbols t → Bounded map_system.rules t }
+{}
+
+/// Each well-typed term over the system `identity` is bounded. Its rule `t (s X) => t (i X)` counts a number down, but with the
+/// identity i around what is left, which is no part of the number, so that the subterm criterion does not do. Interpretations do:
+/// where s adds 1 and i changes nothing, the argument of the marked t shrinks (Kop 2012; Fuhs and Kop 2012).
+pub fn terms_over_identity_are_bounded()
+    ensures { (t : Tm) → WellTyped identity_system.symbols t → Bounded identity_system.rules t }
 {}

@@ -16,6 +16,7 @@ ghost use Rattle.wh_pairs.specs.Candidates.{candidates};
 ghost use Rattle.wh_pairs.specs.Subsumption.{ArePairs};
 ghost use Rattle.wh_graph.specs.May.{May};
 ghost use Rattle.wh_calls.specs.MarkedCalls.{CallsEnd};
+ghost use Rattle.wh_meaning.specs.Covering.{HaveTypedSides};
 ghost use Rattle.wh_nodes.specs.Many.{Many};
 ghost use Rattle.wh_nodes.specs.Nodes.{Node};
 ghost use Rattle.wh_nodes.specs.Proves.{InSet, Proves};
@@ -27,11 +28,11 @@ pub fn may_is_sound()
     ensures { (S : Symbols) (rules : List RewriteRule) (a b : PairData) (g h : ℕ → Body) (us vs : List Tm) → AreWellMade S rules → a.right_fun ≡ b.left_fun → Values g (tms_of a.right) (tms_of us) → Values h (tms_of b.left) (tms_of vs) → Many (StepsIn (Step rules)) us vs → May rules a b }
 {}
 
-/// Where the nodes prove the sets, a call whose arguments end leads to no endless sequence of calls by the pairs of
-/// any one of them (Kop 2012 for the dependency graph and the subterm criterion; Fuhs and Kop 2019 for calls whose
-/// arguments end, the minimal chains).
+/// Where the nodes prove the sets, and the sides of all pairs are typed and closed, a call whose arguments end leads to no
+/// endless sequence of calls by the pairs of any one of the sets (Kop 2012 for the dependency graph and the subterm criterion,
+/// Fuhs and Kop 2012 for interpretations; Fuhs and Kop 2019 for calls whose arguments end, the minimal chains).
 pub fn nodes_keep_that_calls_end()
-    ensures { (S : Symbols) (rules : List RewriteRule) (pairs : List PairData) (sets : List (List ℕ)) (nodes : List Node) (set : List ℕ) → AreWellMade S rules → Proves S rules pairs sets nodes → Contains sets set → CallsEnd S rules (Step rules) (InSet pairs set) }
+    ensures { (S : Symbols) (rules : List RewriteRule) (pairs : List PairData) (sets : List (List ℕ)) (nodes : List Node) (set : List ℕ) → AreWellMade S rules → HaveTypedSides S rules pairs → Proves S rules pairs sets nodes → Contains sets set → CallsEnd S rules (Step rules) (InSet pairs set) }
 {}
 
 /// Where a system is passing under ranks, and the nodes prove the set of all its pairs, each well-typed term is

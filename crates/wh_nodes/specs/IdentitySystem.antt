@@ -1,0 +1,115 @@
+-- A worked system that needs interpretations: the second rule counts a number down, but puts the identity around what is left of it. With
+-- it stand its two dependency pairs and the proof of them, as a certificate says it.
+use Rattle.std.specs.Prelude.{ℕ, List, [], ◌∷◌, codes}
+use Rattle.wh_types.specs.Ty.{Ty, ◌⇒◌}
+use Rattle.wh_terms.specs.Tree.{Tm, fun, meta, app, none}
+use Rattle.wh_terms.specs.Typing.{Symbols, Declared}
+use Rattle.wh_terms.specs.Rules.{RewriteRule}
+use Rattle.wh_system.specs.PairData.{PairData}
+use Rattle.wh_system.specs.Systems.{SystemData}
+use Rattle.wh_hopoly.specs.Polynomials.{Polynomial, zero_poly, plus, no_factors, times, no_arguments}
+use Rattle.wh_hopoly.specs.Evaluation.{Interpretation}
+use Rattle.wh_hopoly.specs.Moves.{Transfer}
+use Rattle.wh_polycheck.specs.Marks.{Mark}
+use Rattle.wh_nodes.specs.Nodes.{Node, done, alone, blocks, poly}
+use Rattle.wh_nodes.specs.MapSystem.{nat, plain_meta}
+
+-- each symbol is a function of a number
+abbrev pub unary : Ty
+unary = nat ⇒ nat
+
+-- the symbols: 0 s, 1 i and 2 t, over the one sort nat
+abbrev pub identity_symbols : Symbols
+identity_symbols = record { sorts = 1; funs = unary ∷ unary ∷ unary ∷ [] }
+
+-- the one meta-variable of each rule: 0 X:nat
+abbrev pub identity_metas : List Declared
+identity_metas = plain_meta nat ∷ []
+
+-- `X`, `s X` and `i X`
+abbrev pub number : Tm
+number = meta 0 none
+
+abbrev pub next_number : Tm
+next_number = app (fun 0) number
+
+abbrev pub same_number : Tm
+same_number = app (fun 1) number
+
+-- {X:nat} i X => X
+abbrev pub identity_rule : RewriteRule
+identity_rule = record { metas = identity_metas; left = same_number; right = number }
+
+-- {X:nat} t (s X) => t (i X)
+abbrev pub count_rule : RewriteRule
+count_rule = record { metas = identity_metas; left = app (fun 2) next_number; right = app (fun 2) same_number }
+
+-- the system, with the names of its text (ours)
+abbrev pub identity_system : SystemData
+identity_system = record {
+  sort_names = codes "nat" ∷ [];
+  fun_names = codes "s" ∷ codes "i" ∷ codes "t" ∷ [];
+  symbols = identity_symbols;
+  rules = identity_rule ∷ count_rule ∷ [];
+  meta_names = (codes "X" ∷ []) ∷ (codes "X" ∷ []) ∷ [];
+}
+
+-- its pairs: 0 is t# (s X) => t# (i X)
+abbrev pub count_pair : PairData
+count_pair = record {
+  rule = 1;
+  metas = identity_metas;
+  left_fun = 2;
+  left = next_number ∷ [];
+  right_fun = 2;
+  right = same_number ∷ [];
+  conditions = [];
+}
+
+-- and 1 is t# (s X) => i# X
+abbrev pub call_pair : PairData
+call_pair = record {
+  rule = 1;
+  metas = identity_metas;
+  left_fun = 2;
+  left = next_number ∷ [];
+  right_fun = 1;
+  right = number ∷ [];
+  conditions = [];
+}
+
+abbrev pub identity_pairs : List PairData
+identity_pairs = count_pair ∷ call_pair ∷ []
+
+-- the polynomials 1*y0 and 1 + 1*y0
+abbrev pub itself : Polynomial
+itself = plus 1 (times 0 no_arguments no_factors) zero_poly
+
+abbrev pub one_more : Polynomial
+one_more = plus 1 no_factors itself
+
+-- s is read as 1 + 1*y0, i as 1*y0 and t as 0
+abbrev pub readings : List Interpretation
+readings =
+    record { kind = unary; polynomial = one_more } ∷ record { kind = unary; polynomial = itself }
+    ∷ record { kind = unary; polynomial = zero_poly } ∷ []
+
+-- and the marked t as 1*y0
+abbrev pub marked_reading : Mark
+marked_reading = record { symbol = 2; polynomial = itself }
+
+-- a unit of the given monomial goes to the first one of the right side
+abbrev pub unit_from : ℕ → Transfer
+unit_from i = record { from = i; to = 0; amount = 1 }
+
+-- the first rule keeps X, and the sides of the second one are 0; of the pair's left side 1 + 1*X the constant is left over
+abbrev pub rule_moves : List (List Transfer)
+rule_moves = (unit_from 0 ∷ []) ∷ [] ∷ []
+
+abbrev pub pair_moves : List (List Transfer)
+pair_moves = (unit_from 1 ∷ []) ∷ []
+
+-- each pair is a block; the first one shrinks, so that no pair is left of its block, and the second one may not follow itself
+abbrev pub identity_nodes : List Node
+identity_nodes =
+    blocks ((0 ∷ []) ∷ (1 ∷ []) ∷ []) ∷ poly readings (marked_reading ∷ []) rule_moves pair_moves (0 ∷ []) ∷ done ∷ alone ∷ []
