@@ -2,7 +2,7 @@
 
 use std::alloc::{AllocError, Global};
 use std::test::Fail;
-use wh_cert::{CertFault, print_certificate, read_certificate};
+use wh_cert::{print_certificate, read_certificate};
 use wh_text::print_number;
 use wh_types::{Bytes, Or};
 
@@ -18,8 +18,13 @@ const SUBTERM: &[u8] = b"YES 1\nranks 0 0\npairs 1\nsubterm\narg map 2\ndrop 0\n
 /// Blocks, with a node for each.
 const BLOCKS: &[u8] = b"YES 1\nranks 0\npairs 2\nblocks 2\nblock 0\nblock 1\nalone\nalone\nend\n";
 
+/// Interpretations, with moves for a rule and for a pair.
+const POLY: &[u8] =
+    b"YES 1\nranks\npairs 1\npoly\nfun sort 0\nfun g 1+2*y0*y1(1*y0+1*y0*y2,0)+340282366920938463463374607431768211455*y65535\nmark g 3\nrule\nrule 0>65535:1 1>2:340282366920938463463374607431768211455\npair\ndrop 0 5\ndone\nend\n";
+
 /// Texts that are read and printed: with an argument, with abstractions and bound variables, with an abstraction as a head,
-/// functional types, and beta; of termination without ranks, with keywords as names, with blocks in a block and with none.
+/// functional types, and beta; of termination without ranks, with keywords as names, with blocks in a block and with none, and
+/// with interpretations.
 const TEXTS: &[&[u8]] = &[
     LOOP,
     PUT,
@@ -31,6 +36,8 @@ const TEXTS: &[&[u8]] = &[
     b"YES 1\nranks\npairs 0\ndone\nend\n",
     b"YES 1\nranks 65535 0 10\npairs 65535\nsubterm\narg sort 0\narg fun 65535\ndrop\nalone\nend\n",
     b"YES 1\nranks\npairs 3\nblocks 2\nblock 2 1\nblock\nblocks 1\nblock 7\ndone\nblocks 0\nend\n",
+    POLY,
+    b"YES 1\nranks\npairs 0\npoly\ndrop\ndone\nend\n",
 ];
 
 /// The text of the certificate that is read, or the place of the fault.
@@ -40,17 +47,9 @@ fn read_text(alloc: Global, bytes: &[u8]) -> Result<Bytes, AllocError> {
     }
     match read_certificate(alloc, bytes) {
         Ok(certificate) => print_certificate(alloc, &certificate),
-        Err(Or::Because(CertFault::Syntax(fault))) => number_text(alloc, fault.at),
-        Err(Or::Because(CertFault::Later)) => word(alloc, b"later"),
+        Err(Or::Because(fault)) => number_text(alloc, fault.at),
         Err(Or::NoMemory) => Err(AllocError),
     }
-}
-
-/// One word.
-fn word(alloc: Global, word: &[u8]) -> Result<Bytes, AllocError> {
-    let mut out = Bytes::new(alloc)?;
-    out.append(word)?;
-    Ok(out)
 }
 
 /// The digits of a number.
@@ -72,7 +71,7 @@ fn reads_what_it_prints(rt: HostRuntime) -> Result<(), Fail> {
 #[test]
 fn every_front_is_at_fault_at_its_end(rt: HostRuntime) -> Result<(), Fail> {
     let alloc = rt.alloc();
-    for text in [LOOP, PUT, SUBTERM, BLOCKS] {
+    for text in [LOOP, PUT, SUBTERM, BLOCKS, POLY] {
         for length in 0..text.len() {
             let found = read_text(alloc, &text[..length])?;
             let expected = number_text(alloc, length as u64)?;
@@ -105,7 +104,7 @@ fn tells_the_place_of_a_fault(rt: HostRuntime) -> Result<(), Fail> {
             b"YES 1\nranks\npairs 0\nblocks 1\nblock\nend\n".as_slice(),
             b"35".as_slice(),
         ),
-        // a block too few, a byte behind the end, another version, and a node of a kind that is not built yet
+        // a block too few, a byte behind the end, and another version
         (
             b"YES 1\nranks\npairs 0\nblocks 1\ndone\nend\n".as_slice(),
             b"29".as_slice(),
@@ -115,9 +114,31 @@ fn tells_the_place_of_a_fault(rt: HostRuntime) -> Result<(), Fail> {
             b"29".as_slice(),
         ),
         (b"YES 2".as_slice(), b"4".as_slice()),
+        // a digit behind the polynomial 0, a coefficient of 2^128, a variable's number that is too great, none, no units, and lines
+        // in another order
         (
-            b"YES 1\nranks\npairs 0\npoly\n".as_slice(),
-            b"later".as_slice(),
+            b"YES 1\nranks\npairs 0\npoly\nfun f 01\n".as_slice(),
+            b"32".as_slice(),
+        ),
+        (
+            b"YES 1\nranks\npairs 0\npoly\nfun f 340282366920938463463374607431768211456\n".as_slice(),
+            b"69".as_slice(),
+        ),
+        (
+            b"YES 1\nranks\npairs 0\npoly\nfun f 1*y65536\n".as_slice(),
+            b"38".as_slice(),
+        ),
+        (
+            b"YES 1\nranks\npairs 0\npoly\nfun f 1*0\n".as_slice(),
+            b"33".as_slice(),
+        ),
+        (
+            b"YES 1\nranks\npairs 0\npoly\nrule 0>0:0\n".as_slice(),
+            b"34".as_slice(),
+        ),
+        (
+            b"YES 1\nranks\npairs 0\npoly\nrule\nmark f 0\n".as_slice(),
+            b"30".as_slice(),
         ),
     ] {
         let found = read_text(rt.alloc(), text)?;
