@@ -8,3 +8,6 @@ pub mod Meant
 pub mod Stops
 pub mod Lines
 pub mod Claims
+pub mod PolyDecisions
+pub mod CoverDecisions
+pub mod Coverings

@@ -125,7 +125,7 @@ stray_decided set drop = elim (first_place (λ n. Contains set n → ⊥) (λ n.
   | inr none ↦ inr (λ (n, found, stray). none n found stray)
 ]
 
-bad_drop_decided : (set drop : List ℕ) → Decided (IsBadDrop set drop)
+pub bad_drop_decided : (set drop : List ℕ) → Decided (IsBadDrop set drop)
 bad_drop_decided set drop = either_decided (empty_decided drop) (either_decided (some_twice_decided drop) (stray_decided set drop))
 
 -- the projected sides
