@@ -1,6 +1,6 @@
 -- The answers of the parts of a node's check, as what they say of the node.
 use Rattle.std.proofs.Common.{Contains, ◌≡◌, ◌-◌, ℕ, ◌+◌, ◌<◌, ◌≤◌, List, [], ◌∷◌, ◌++◌, length, map, reverse, drop, get_or, Some, Result, Ok, Err, OnOk, slice_get, refl, sym, ap, subst, ◌∙◌, arith}
-use Rattle.std.proofs.lemmas.List.{drop_more, reverse-append}
+use Rattle.std.proofs.lemmas.List.{drop_more, reverse-append, append-nil}
 use Rattle.wh_types.specs.Outcome.{IfBecause, MatchOr}
 use Rattle.wh_types.specs.declared.want.Or.{Or}
 use Rattle.wh_types.specs.declared.want.Or.TheVariants.{NoMemory, Because}
@@ -17,9 +17,16 @@ use Rattle.wh_subterm.specs.SubtermRows.{AreForMarked, IsFirstSubtermFault}
 use Rattle.wh_subterm.specs.declared.projection.SubtermFault.{SubtermFault}
 use Rattle.wh_subterm.specs.declared.projection.SubtermFault.TheVariants.{BadArgs, NoProjection, BadArgument, BadDrop, NotDecreasing}
 use Rattle.wh_cert.specs.Written as w
-use Rattle.wh_nodes.specs.Nodes.{done, alone, blocks, subterm, IsSetOf, AreSetsOf, more_sets, Leaves, by_done, by_alone, by_blocks, by_subterm}
+use Rattle.wh_cert.specs.Interps.{Interp}
+use Rattle.wh_hopoly.specs.Erase.{transfers}
+use Rattle.wh_hopoly.specs.Evaluation.{Interpretation}
+use Rattle.wh_hopoly.specs.declared.expression.Move.{Move}
+use Rattle.wh_polycheck.specs.Marks.{Mark}
+use Rattle.wh_meaning.specs.Covering.{IsCovering}
+use Rattle.wh_covering.specs.CoveringFaults.{IsSmall}
+use Rattle.wh_nodes.specs.Nodes.{done, alone, blocks, subterm, poly, IsSetOf, IsKept, AreSetsOf, more_sets, Leaves, by_done, by_alone, by_blocks, by_subterm, by_poly}
 use Rattle.wh_checker.specs.Looked.{SayChoices}
-use Rattle.wh_checker.specs.Faults.{IsSubtermFault}
+use Rattle.wh_checker.specs.Faults.{IsSubtermFault, SayCovering}
 use Rattle.wh_checker.specs.Walk.{IsSingle, IsReduced, GoesOn}
 use Rattle.wh_checker.proofs.ChoiceLemmas.{one_list_said}
 
@@ -39,24 +46,53 @@ because_says NoMemory x P is p = cc
 
 pub goes_done : (d : SystemData) (ps : List PairData) (set : List ℕ) (sets : List (List ℕ)) → set ≡ [] → GoesOn d ps set w.done sets sets
 goes_done d ps set sets empty =
-    record { node = done; left = []; says = tt; leaves = subst (λ (s : List ℕ). Leaves d.rules ps s done []) (sym empty) by_done; after_is = refl }
+    record { node = done; left = []; says = tt; leaves = subst (λ (s : List ℕ). Leaves d.symbols d.rules ps s done []) (sym empty) by_done; small = tt; after_is = refl }
 
 pub goes_alone : (d : SystemData) (ps : List PairData) (set : List ℕ) (sets : List (List ℕ)) → IsSingle d.rules ps set
     → GoesOn d ps set w.alone sets sets
 goes_alone d ps set sets (a, one, free) =
-    record { node = alone; left = []; says = tt; leaves = subst (λ (s : List ℕ). Leaves d.rules ps s alone []) (sym one) (by_alone free); after_is = refl }
+    record { node = alone; left = []; says = tt; leaves = subst (λ (s : List ℕ). Leaves d.symbols d.rules ps s alone []) (sym one) (by_alone free); small = tt; after_is = refl }
 
 pub goes_blocks : (d : SystemData) (ps : List PairData) (set : List ℕ) (parts sets after : List (List ℕ))
     → AreBlocks (Follows d.rules ps) set parts → (left : List (List ℕ)) × AreSetsOf parts left × (after ≡ left ++ sets)
     → GoesOn d ps set (w.blocks parts) sets after
 goes_blocks d ps set parts sets after are (left, is, after_is) =
-    record { node = blocks parts; left = left; says = refl; leaves = by_blocks are is; after_is = after_is }
+    record { node = blocks parts; left = left; says = refl; leaves = by_blocks are is; small = tt; after_is = after_is }
 
 pub goes_subterm : (d : SystemData) (ps : List PairData) (set : List ℕ) (lines : List w.Arg) (drop rest : List ℕ)
     (sets after : List (List ℕ)) → IsReduced d ps set lines drop rest → after ≡ rest ∷ sets
     → GoesOn d ps set (w.subterm lines drop) sets after
 goes_subterm d ps set lines drop rest sets after (args, says, is, kept) after_is =
-    record { node = subterm args drop; left = rest ∷ []; says = (says, refl); leaves = by_subterm is kept; after_is = after_is }
+    record { node = subterm args drop; left = rest ∷ []; says = (says, refl); leaves = by_subterm is kept; small = tt; after_is = after_is }
+
+-- the conditions of a node of interpretations, under what its lines say
+pub goes_poly : (d : SystemData) (ps : List PairData) (set : List ℕ) (funs lines : List Interp) (rules pairs : List (List Move))
+    (drop rest : List ℕ) (symbols : List Interpretation) (marks : List Mark) → SayCovering d ps set funs lines symbols marks
+    → IsCovering d.symbols d.rules ps set symbols marks (map transfers rules) (map transfers pairs) drop
+    → IsSmall d.symbols d.rules ps set symbols marks → IsSetOf (IsKept set drop) rest
+    → GoesOn d ps set (w.interpretations funs lines rules pairs drop) [] (rest ∷ [])
+goes_poly d ps set funs lines rules pairs drop rest symbols marks (says, says_marks, marked) is small kept = record {
+  node = poly symbols marks (map transfers rules) (map transfers pairs) drop;
+  left = rest ∷ [];
+  says = (says, says_marks, refl, refl, refl);
+  leaves = by_poly is kept;
+  small = small;
+  after_is = refl;
+}
+
+-- what is left of it comes before other sets
+pub goes_before : (d : SystemData) (ps : List PairData) (set : List ℕ) (line : w.Node) (rest : List ℕ) (sets after : List (List ℕ))
+    → GoesOn d ps set line [] (rest ∷ []) → after ≡ rest ∷ sets → GoesOn d ps set line sets after
+goes_before d ps set line rest sets after goes after_is =
+    let one : rest ∷ [] ≡ goes.left = goes.after_is ∙ append-nil goes.left in
+    record {
+      node = goes.node;
+      left = goes.left;
+      says = goes.says;
+      leaves = goes.leaves;
+      small = goes.small;
+      after_is = after_is ∙ ap (λ (l : List (List ℕ)). l ++ sets) one;
+    }
 
 -- a stack from its top, with one more on it
 pub reverse_push : {A : Type 0} (xs : List A) (x : A) → reverse (xs ++ x ∷ []) ≡ x ∷ reverse xs

@@ -1,5 +1,6 @@
 pub mod SetLemmas
 pub mod ChoiceLemmas
+pub mod InterpretationLemmas
 pub mod NodeLemmas
 pub mod WalkLemmas
 pub mod GoLemmas

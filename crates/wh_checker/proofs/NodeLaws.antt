@@ -24,48 +24,6 @@ use Rattle.wh_checker.specs.declared.rejected.NodeFault.TheVariants.{NotEmpty, N
 use Rattle.wh_checker.proofs.ChoiceLemmas.{one_list_said}
 use Rattle.wh_checker.proofs.RowLaws.{block_fault_one, blocks_or_fault, subterm_fault_one, projection_or_fault}
 
--- increasing lists with the same members are one
-
-rest_increasing : (n : ℕ) (ns : List ℕ) → IsIncreasing (n ∷ ns) → IsIncreasing ns
-rest_increasing n [] up = tt
-rest_increasing n (m ∷ ns) up = up.1
-
-head_below : (n m : ℕ) (ns : List ℕ) → IsIncreasing (n ∷ ns) → Contains ns m → n < m
-head_below n m ns up found =
-    let at = place_of ns m found in
-    let within = slice_get_within ns at.0 m at.1 in
-    let is : get_or ns at.0 0 ≡ m = get_or_from_slice_get ns at.0 m 0 at.1 in
-    let less : n < get_or ns at.0 0 = increasing_at (n ∷ ns) 0 (suc at.0) up (omega arith) (omega arith) in
-    omega (arith, less, is)
-
-increasing_one : (xs ys : List ℕ) → IsIncreasing xs → IsIncreasing ys → ((n : ℕ) → Contains xs n → Contains ys n)
-    → ((n : ℕ) → Contains ys n → Contains xs n) → xs ≡ ys
-increasing_one [] [] up also into back = refl
-increasing_one [] (y ∷ ys) up also into back = absurd (none_there y (back y (at_head ys y)))
-increasing_one (x ∷ xs) [] up also into back = absurd (none_there x (into x (at_head xs x)))
-increasing_one (x ∷ xs) (y ∷ ys) up also into back =
-    let same : x ≡ y = elim (head_or_behind ys y x (into x (at_head xs x))) [
-      | inl is ↦ sym is
-      | inr later ↦ elim (head_or_behind xs x y (back y (at_head ys y))) [
-        | inl is ↦ is
-        | inr after ↦ let less = head_below y x ys also later in let more = head_below x y xs up after in absurd (omega (arith, less, more))
-      ]
-    ] in
-    let rest : xs ≡ ys = increasing_one xs ys (rest_increasing x xs up) (rest_increasing y ys also)
-    (λ n found. elim (head_or_behind ys y n (into n (behind xs x n found))) [
-      | inl is ↦ let less = head_below x n xs up found in absurd (omega (arith, less, same, is))
-      | inr later ↦ later
-    ])
-    (λ n found. elim (head_or_behind xs x n (back n (behind ys y n found))) [
-      | inl is ↦ let less = head_below y n ys also found in absurd (omega (arith, less, same, is))
-      | inr later ↦ later
-    ]) in
-    cc (same, rest)
-
-pub set_one : (P : ℕ → Type 0) (xs ys : List ℕ) → IsSetOf P xs → IsSetOf P ys → xs ≡ ys
-set_one P xs ys is also =
-    increasing_one xs ys is.increasing also.increasing (λ n found. (also.each n).1 ((is.each n).0 found)) (λ n found. (is.each n).1 ((also.each n).0 found))
-
 sets_one : (parts xs ys : List (List ℕ)) → AreSetsOf parts xs → AreSetsOf parts ys → xs ≡ ys
 sets_one [] [] [] no_sets no_sets = refl
 sets_one (part ∷ parts) (x ∷ xs) (y ∷ ys) (more_sets is rest) (more_sets also others) =

@@ -4,11 +4,12 @@ use Rattle.std.proofs.lemmas.List.Elements.{All-nil, All-cons, All-contains}
 use Rattle.wh_system.specs.Systems.{SystemData}
 use Rattle.wh_system.specs.PairData.{PairData}
 use Rattle.wh_terms.specs.Rules.{RewriteRule}
+use Rattle.wh_terms.specs.Typing.{Symbols}
 use Rattle.wh_system.proofs.ByPlace.{place_of}
 use Rattle.wh_graph.specs.Components.{IsIn}
 use Rattle.wh_cert.specs.Written as w
 use Rattle.wh_cert.specs.Written.{children}
-use Rattle.wh_nodes.specs.Nodes.{Node, done, alone, blocks, subterm, AreSetsOf, no_sets, more_sets, Leaves, by_done, by_alone, by_blocks, by_subterm}
+use Rattle.wh_nodes.specs.Nodes.{Node, done, alone, blocks, subterm, poly, AreSetsOf, no_sets, more_sets, Leaves, by_done, by_alone, by_blocks, by_subterm, by_poly}
 use Rattle.wh_checker.specs.Looked.{SaysNode}
 use Rattle.wh_checker.proofs.SetLemmas.{all_from_members}
 
@@ -20,25 +21,34 @@ sets_count (part ∷ parts) [] none = elim none [ ]
 
 -- a node leaves as many sets as its line has children
 pub leaves_count : (d : SystemData) (ps : List PairData) (set : List ℕ) (line : w.Node) (node : Node) (left : List (List ℕ))
-    → SaysNode d line node → Leaves d.rules ps set node left → length left ≡ children line
+    → SaysNode d line node → Leaves d.symbols d.rules ps set node left → length left ≡ children line
 leaves_count d ps set w.done done [] says by_done = refl
 leaves_count d ps set w.alone alone [] says (by_alone free) = refl
 leaves_count d ps set (w.blocks listed) (blocks parts) left says (by_blocks are sets) = sets_count parts left sets ∙ ap length (sym says)
 leaves_count d ps set (w.subterm lines listed) (subterm args drop) left says (by_subterm is rest) = refl
+leaves_count d ps set (w.interpretations funs lines rules pairs listed) (poly symbols marks rule_lines pair_lines drop) left says (by_poly is rest) = refl
 leaves_count d ps set w.done done (_ ∷ _) says leaves = elim leaves [ ]
 leaves_count d ps set w.alone alone (_ ∷ _) says leaves = elim leaves [ ]
 leaves_count d ps set w.done alone left says leaves = absurd says
 leaves_count d ps set w.done (blocks parts) left says leaves = absurd says
 leaves_count d ps set w.done (subterm args drop) left says leaves = absurd says
+leaves_count d ps set w.done (poly symbols marks rule_lines pair_lines drop) left says leaves = absurd says
 leaves_count d ps set w.alone done left says leaves = absurd says
 leaves_count d ps set w.alone (blocks parts) left says leaves = absurd says
 leaves_count d ps set w.alone (subterm args drop) left says leaves = absurd says
+leaves_count d ps set w.alone (poly symbols marks rule_lines pair_lines drop) left says leaves = absurd says
 leaves_count d ps set (w.blocks listed) done left says leaves = absurd says
 leaves_count d ps set (w.blocks listed) alone left says leaves = absurd says
 leaves_count d ps set (w.blocks listed) (subterm args drop) left says leaves = absurd says
+leaves_count d ps set (w.blocks listed) (poly symbols marks rule_lines pair_lines drop) left says leaves = absurd says
 leaves_count d ps set (w.subterm lines listed) done left says leaves = absurd says
 leaves_count d ps set (w.subterm lines listed) alone left says leaves = absurd says
 leaves_count d ps set (w.subterm lines listed) (blocks parts) left says leaves = absurd says
+leaves_count d ps set (w.subterm lines listed) (poly symbols marks rule_lines pair_lines drop) left says leaves = absurd says
+leaves_count d ps set (w.interpretations funs lines rules pairs listed) done left says leaves = absurd says
+leaves_count d ps set (w.interpretations funs lines rules pairs listed) alone left says leaves = absurd says
+leaves_count d ps set (w.interpretations funs lines rules pairs listed) (blocks parts) left says leaves = absurd says
+leaves_count d ps set (w.interpretations funs lines rules pairs listed) (subterm args drop) left says leaves = absurd says
 
 sets_within : (P : ℕ → Type 0) (parts sets : List (List ℕ)) → AreSetsOf parts sets → ((i n : ℕ) → IsIn parts i n → P n) → All (All P) sets
 sets_within P [] [] no_sets each = All-nil (All P)
@@ -50,13 +60,15 @@ sets_within P [] (set ∷ sets) none each = elim none [ ]
 sets_within P (part ∷ parts) [] none each = elim none [ ]
 
 -- what holds of the numbers of a set holds of those of what is left of it
-pub left_within : (rules : List RewriteRule) (ps : List PairData) (P : ℕ → Type 0) (set : List ℕ) (node : Node) (left : List (List ℕ))
-    → Leaves rules ps set node left → All P set → All (All P) left
-left_within rules ps P set done [] by_done all = All-nil (All P)
-left_within rules ps P set alone [] (by_alone free) all = All-nil (All P)
-left_within rules ps P set (blocks parts) left (by_blocks are sets) all =
+pub left_within : (S : Symbols) (rules : List RewriteRule) (ps : List PairData) (P : ℕ → Type 0) (set : List ℕ) (node : Node) (left : List (List ℕ))
+    → Leaves S rules ps set node left → All P set → All (All P) left
+left_within S rules ps P set done [] by_done all = All-nil (All P)
+left_within S rules ps P set alone [] (by_alone free) all = All-nil (All P)
+left_within S rules ps P set (blocks parts) left (by_blocks are sets) all =
     sets_within P parts left sets (λ i n found. All-contains P set n all (are.partition.within i n found))
-left_within rules ps P set (subterm args drop) left (by_subterm {rest = rest} is rest_is) all =
+left_within S rules ps P set (subterm args drop) left (by_subterm {rest = rest} is rest_is) all =
     All-cons (All P) rest [] (all_from_members P rest (λ n found. All-contains P set n all ((rest_is.each n).0 found).0)) (All-nil (All P))
-left_within rules ps P set done (_ ∷ _) leaves all = elim leaves [ ]
-left_within rules ps P set alone (_ ∷ _) leaves all = elim leaves [ ]
+left_within S rules ps P set (poly symbols marks rule_lines pair_lines drop) left (by_poly {rest = rest} is rest_is) all =
+    All-cons (All P) rest [] (all_from_members P rest (λ n found. All-contains P set n all ((rest_is.each n).0 found).0)) (All-nil (All P))
+left_within S rules ps P set done (_ ∷ _) leaves all = elim leaves [ ]
+left_within S rules ps P set alone (_ ∷ _) leaves all = elim leaves [ ]

@@ -9,6 +9,8 @@ use Rattle.wh_cert.specs.Written.{children, Preorder}
 use Rattle.wh_cert.specs.Said.{said_node}
 use Rattle.wh_cert.specs.declared.certificate.Node as code
 use Rattle.wh_nodes.specs.Proves.{all_proved, one_proved}
+use Rattle.wh_covering.specs.CoveringFaults.{with_limits}
+use Rattle.wh_checker.specs.Small.{all_small, one_small}
 use Rattle.wh_checker.specs.Faults.{IsNodeFault, IsFirstNodeFault, at_first, behind_first}
 use Rattle.wh_checker.specs.Walk.{GoesOn, AreProvedBy, HasCome}
 use Rattle.wh_checker.specs.declared.rejected.NodeFault.{NodeFault}
@@ -37,23 +39,23 @@ pub come_next : (d : SystemData) (ps : List PairData) (set : List ℕ) (lines : 
     → HasCome d ps set lines k (here ∷ sets) (line ∷ left) → GoesOn d ps here line sets after → HasCome d ps set lines (k + 1) after left
 come_next d ps set lines k here sets after line left come goes =
     let below = All-head (Below ps) here sets come.within in
-    let within = left_within d.rules ps (λ n. n < length ps) here goes.node goes.left goes.leaves below in
+    let within = left_within d.symbols d.rules ps (λ n. n < length ps) here goes.node goes.left goes.leaves below in
     let joined : HasCome d ps set lines (suc k) (goes.left ++ sets) left = record {
       within = All-append (Below ps) goes.left sets within (All-tail (Below ps) here sets come.within);
       counted = subst (λ n. Preorder n left) (sym (length-append goes.left sets ∙ ap (λ n. n + length sets) (leaves_count d ps here line goes.node goes.left goes.says goes.leaves))) come.counted;
-      proved = λ (nodes, say, proves). come.proved (goes.node ∷ nodes, (goes.says, say), one_proved goes.leaves proves);
-      first = λ m f first. come.first m f (behind_first goes.says goes.leaves first);
+      proved = λ (nodes, say, proves, small). come.proved (goes.node ∷ nodes, (goes.says, say), one_proved goes.leaves proves, one_small goes.leaves goes.small small);
+      first = λ m f first. come.first m f (behind_first goes.says goes.leaves goes.small first);
     } in
     subst (λ n. HasCome d ps set lines n after left) (sym (add-one k)) (subst (λ s. HasCome d ps set lines (suc k) s left) (sym goes.after_is) joined)
 
 pub come_fault : (d : SystemData) (ps : List PairData) (set : List ℕ) (lines : List w.Node) (k : ℕ) (here : List ℕ) (sets : List (List ℕ))
     (line : w.Node) (left : List w.Node) (f : NodeFault)
-    → HasCome d ps set lines k (here ∷ sets) (line ∷ left) → IsNodeFault d ps here line f → IsFirstNodeFault d ps 0 (set ∷ []) lines k f
+    → HasCome d ps set lines k (here ∷ sets) (line ∷ left) → IsNodeFault with_limits d ps here line f → IsFirstNodeFault with_limits d ps 0 (set ∷ []) lines k f
 come_fault d ps set lines k here sets line left f come fault = come.first k f (at_first fault)
 
 pub come_last : (d : SystemData) (ps : List PairData) (set : List ℕ) (lines : List w.Node) (k : ℕ) (sets : List (List ℕ))
     → HasCome d ps set lines k sets [] → AreProvedBy d ps (set ∷ []) lines
-come_last d ps set lines k [] come = come.proved ([], tt, all_proved)
+come_last d ps set lines k [] come = come.proved ([], tt, all_proved, all_small)
 come_last d ps set lines k (here ∷ sets) come = absurd come.counted
 
 -- the walk at a node, where the stack has a set on top

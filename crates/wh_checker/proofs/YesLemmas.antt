@@ -6,62 +6,89 @@ use Rattle.wh_types.specs.declared.want.Or.TheVariants.{NoMemory, Because}
 use Rattle.wh_system.specs.Systems.{SystemData}
 use Rattle.wh_system.specs.PairData.{PairData}
 use Rattle.wh_cert.specs.Written as w
+use Rattle.wh_covering.specs.CoveringFaults.{Limits, with_limits}
 use Rattle.wh_checker.specs.Valid.{IsWhole, IsValidYes}
 use Rattle.wh_checker.specs.Faults.{IsFirstNodeFault, at_node, IsFirstYesFault, rank_count, inaccessible, in_node}
+use Rattle.wh_checker.specs.Small.{IsSmallYes}
 use Rattle.wh_checker.specs.Walk.{IsPassingUnder, IsRankFault, AreProvedBy}
 use Rattle.wh_checker.specs.declared.rejected.NodeFault.{NodeFault}
+use Rattle.wh_checker.specs.declared.rejected.CheckFault.{CheckFault}
+use Rattle.wh_checker.specs.declared.rejected.CheckFault.TheVariants as check
 use Rattle.wh_checker.specs.declared.rejected.Rejected.{Rejected}
 use Rattle.wh_checker.specs.declared.rejected.Rejected.TheVariants as row
 
-because_one : {x y : Rejected} → ◌≡◌ {A = Or Rejected} (Because x) (Because y) → x ≡ y
+because_one : {x y : CheckFault} → ◌≡◌ {A = Or CheckFault} (Because x) (Because y) → x ≡ y
 because_one e = cc
 
 -- the cause of one part, as the cause of the whole
-pub passed_on : {T U : Type 0} (r : Result T (Or Rejected)) (e : Or Rejected) (P : U → Type 0) (Q R : Rejected → Type 0)
-    → IsErrAnd r (λ x. x ≡ e) → MatchOr (Err e) P Q → ((f : Rejected) → Q f → R f) → IfBecause r R
+pub passed_on : {T U : Type 0} (r : Result T (Or CheckFault)) (e : Or CheckFault) (P : U → Type 0) (Q R : CheckFault → Type 0)
+    → IsErrAnd r (λ x. x ≡ e) → MatchOr (Err e) P Q → ((f : CheckFault) → Q f → R f) → IfBecause r R
 passed_on (Ok x) e P Q R same h k = tt
 passed_on (Err NoMemory) e P Q R same h k = tt
 passed_on (Err (Because f)) NoMemory P Q R same h k = absurd (cc)
 passed_on (Err (Because f)) (Because g) P Q R same h k = k f (subst Q (sym (because_one same)) h)
 
-pub rank_fault : (d : SystemData) (ps : List PairData) (ranks : List ℕ) (pairs : ℕ) (lines : List w.Node) (r : Rejected)
-    → IsRankFault d ranks r → IsFirstYesFault d ps ranks pairs lines r
-rank_fault d ps ranks pairs lines row.RankCount not = rank_count not
-rank_fault d ps ranks pairs lines (row.Inaccessible r z) (count, first) = inaccessible count first
-rank_fault d ps ranks pairs lines (row.PairCount n) fault = absurd fault
-rank_fault d ps ranks pairs lines (row.NotEmpty k) fault = absurd fault
-rank_fault d ps ranks pairs lines (row.NotOne k) fault = absurd fault
-rank_fault d ps ranks pairs lines (row.Loops k a) fault = absurd fault
-rank_fault d ps ranks pairs lines (row.FewBlocks k) fault = absurd fault
-rank_fault d ps ranks pairs lines (row.NotPartition k a) fault = absurd fault
-rank_fault d ps ranks pairs lines (row.BackEdge k a b) fault = absurd fault
-rank_fault d ps ranks pairs lines (row.BadArgs k) fault = absurd fault
-rank_fault d ps ranks pairs lines (row.NoProjection k f) fault = absurd fault
-rank_fault d ps ranks pairs lines (row.BadArgument k f) fault = absurd fault
-rank_fault d ps ranks pairs lines (row.BadDrop k) fault = absurd fault
-rank_fault d ps ranks pairs lines (row.NotDecreasing k a) fault = absurd fault
-rank_fault d ps ranks pairs lines row.NotATerm fault = absurd fault
-rank_fault d ps ranks pairs lines row.NoStep fault = absurd fault
-rank_fault d ps ranks pairs lines (row.StepFails i) fault = absurd fault
-rank_fault d ps ranks pairs lines (row.TooBig i) fault = absurd fault
-rank_fault d ps ranks pairs lines (row.BadPut i) fault = absurd fault
-rank_fault d ps ranks pairs lines row.NoInstance fault = absurd fault
+-- a row that is what is wrong first with ranks
+abbrev pub HasRankFault : SystemData → List ℕ → CheckFault → Type 0
+HasRankFault d ranks f = (r : Rejected) × (f ≡ check.Rejected r) × IsRankFault d ranks r
+
+rank_row : (d : SystemData) (ps : List PairData) (ranks : List ℕ) (pairs : ℕ) (lines : List w.Node) (r : Rejected)
+    → IsRankFault d ranks r → IsFirstYesFault with_limits d ps ranks pairs lines (check.Rejected r)
+rank_row d ps ranks pairs lines row.RankCount not = rank_count not
+rank_row d ps ranks pairs lines (row.Inaccessible r z) (count, first) = inaccessible count first
+rank_row d ps ranks pairs lines (row.PairCount n) fault = absurd fault
+rank_row d ps ranks pairs lines (row.NotEmpty k) fault = absurd fault
+rank_row d ps ranks pairs lines (row.NotOne k) fault = absurd fault
+rank_row d ps ranks pairs lines (row.Loops k a) fault = absurd fault
+rank_row d ps ranks pairs lines (row.FewBlocks k) fault = absurd fault
+rank_row d ps ranks pairs lines (row.NotPartition k a) fault = absurd fault
+rank_row d ps ranks pairs lines (row.BackEdge k a b) fault = absurd fault
+rank_row d ps ranks pairs lines (row.BadArgs k) fault = absurd fault
+rank_row d ps ranks pairs lines (row.NoProjection k f) fault = absurd fault
+rank_row d ps ranks pairs lines (row.BadArgument k f) fault = absurd fault
+rank_row d ps ranks pairs lines (row.BadDrop k) fault = absurd fault
+rank_row d ps ranks pairs lines (row.NotDecreasing k a) fault = absurd fault
+rank_row d ps ranks pairs lines (row.BadSymbols k) fault = absurd fault
+rank_row d ps ranks pairs lines (row.BadPolynomial k f marked) fault = absurd fault
+rank_row d ps ranks pairs lines (row.BadLines k) fault = absurd fault
+rank_row d ps ranks pairs lines (row.BadMoveRule k r e) fault = absurd fault
+rank_row d ps ranks pairs lines (row.OverSpentRule k r i) fault = absurd fault
+rank_row d ps ranks pairs lines (row.NotCoveredRule k r j) fault = absurd fault
+rank_row d ps ranks pairs lines (row.BadMovePair k a e) fault = absurd fault
+rank_row d ps ranks pairs lines (row.OverSpentPair k a i) fault = absurd fault
+rank_row d ps ranks pairs lines (row.NotCoveredPair k a j) fault = absurd fault
+rank_row d ps ranks pairs lines (row.NotStrict k a) fault = absurd fault
+rank_row d ps ranks pairs lines row.NotATerm fault = absurd fault
+rank_row d ps ranks pairs lines row.NoStep fault = absurd fault
+rank_row d ps ranks pairs lines (row.StepFails i) fault = absurd fault
+rank_row d ps ranks pairs lines (row.TooBig i) fault = absurd fault
+rank_row d ps ranks pairs lines (row.BadPut i) fault = absurd fault
+rank_row d ps ranks pairs lines row.NoInstance fault = absurd fault
+
+pub rank_fault : (d : SystemData) (ps : List PairData) (ranks : List ℕ) (pairs : ℕ) (lines : List w.Node) (f : CheckFault)
+    → HasRankFault d ranks f → IsFirstYesFault with_limits d ps ranks pairs lines f
+rank_fault d ps ranks pairs lines f (r, is, fault) =
+    subst (IsFirstYesFault with_limits d ps ranks pairs lines) (sym is) (rank_row d ps ranks pairs lines r fault)
 
 pub valid_yes : (d : SystemData) (ps : List PairData) (ranks : List ℕ) (pairs : ℕ) (lines : List w.Node) (set : List ℕ)
     → IsPassingUnder d ranks → pairs ≡ length ps → IsWhole ps set → AreProvedBy d ps (set ∷ []) lines
     → IsValidYes d ps ranks pairs lines
-valid_yes d ps ranks pairs lines set (count, passing) right whole (nodes, says, proves) =
+valid_yes d ps ranks pairs lines set (count, passing) right whole (nodes, says, proves, small) =
     record { rank_count = count; passing = passing; pair_count = right; set = set; whole = whole; nodes = nodes; says = says; proves = proves }
 
+pub small_yes : (d : SystemData) (ps : List PairData) (lines : List w.Node) (set : List ℕ) → IsWhole ps set
+    → AreProvedBy d ps (set ∷ []) lines → IsSmallYes d ps lines
+small_yes d ps lines set whole (nodes, says, proves, small) = record { set = set; whole = whole; nodes = nodes; says = says; small = small }
+
 -- the fault of a node is that of the certificate
-abbrev pub FaultInNodes : SystemData → List PairData → List ℕ → List w.Node → Rejected → Type 0
-FaultInNodes d ps set lines r = (k : ℕ) × (f : NodeFault) × (r ≡ at_node k f) × IsFirstNodeFault d ps 0 (set ∷ []) lines k f
+abbrev pub FaultInNodes : SystemData → List PairData → List ℕ → List w.Node → CheckFault → Type 0
+FaultInNodes d ps set lines r = (k : ℕ) × (f : NodeFault) × (r ≡ at_node k f) × IsFirstNodeFault with_limits d ps 0 (set ∷ []) lines k f
 
 pub node_fault : (d : SystemData) (ps : List PairData) (ranks : List ℕ) (pairs : ℕ) (lines : List w.Node) (set : List ℕ)
     → IsPassingUnder d ranks → pairs ≡ length ps → IsWhole ps set
-    → (r : Rejected) → FaultInNodes d ps set lines r → IsFirstYesFault d ps ranks pairs lines r
+    → (r : CheckFault) → FaultInNodes d ps set lines r → IsFirstYesFault with_limits d ps ranks pairs lines r
 node_fault d ps ranks pairs lines set (count, passing) right whole r (k, f, is, first) =
-    subst (IsFirstYesFault d ps ranks pairs lines) (sym is) (in_node count passing right whole first)
+    subst (IsFirstYesFault with_limits d ps ranks pairs lines) (sym is) (in_node count passing right whole first)
 
 pub ok_weaker : {T E : Type 0} (r : Result T E) (P Q : Type 0) → OnOk r P → (P → Q) → OnOk r Q
 ok_weaker (Ok x) P Q p then = then p

@@ -9,16 +9,21 @@ ghost use Rattle.wh_pairs.specs.Views.{pairs_data};
 ghost use Rattle.wh_cert.specs.Limits.{IsCert};
 ghost use Rattle.wh_cert.specs.Said.{said, said_node, said_no, said_yes};
 ghost use Rattle.wh_checker.specs.Accepted.{AreBounded, IsAccepted, IsBoundedAtYes};
+ghost use Rattle.wh_covering.specs.CoveringFaults.{with_limits};
 ghost use Rattle.wh_checker.specs.Faults.{IsFirstFault, IsFirstYesFault};
+ghost use Rattle.wh_checker.specs.Small.{IsSmallCert, IsSmallYes};
 ghost use Rattle.wh_checker.specs.Valid.{IsValidYes};
 ghost use Rattle.wh_checker.specs.Walk.{IsPassingUnder, IsRankFault};
+ghost use Rattle.wh_checker.specs.declared.rejected.CheckFault.TheVariants.{Rejected as refusal};
+ghost use Rattle.wh_checker.specs.declared.rejected.Rejected as row;
 
-use crate::rejected::{Rejected, of_claim};
+use crate::rejected::{CheckFault, Rejected, of_claim};
 use crate::sets::numbers_below;
 use crate::walk::check_nodes;
 use std::alloc::Global;
 use wh_access::{Inaccessible, check_ranks};
 use wh_cert::{Certificate, NoCertificate, YesCertificate};
+use wh_meaning::pairs_have_marked_sides;
 use wh_no::{AcceptedNo, check_no};
 use wh_nodes::proved_systems_are_bounded;
 use wh_system::{PairList, System};
@@ -40,19 +45,21 @@ pub struct AcceptedYes {
     pub nodes: u32,
 }
 
-/// Checks a certificate over a system and its dependency pairs. It is accepted exactly where it is valid; else the first
-/// condition of a valid certificate that is false is named. The certificate is one that `read_certificate` gives. Where the
-/// answer is YES, each well-typed term over the system has a longest reduction (Kop 2012; Fuhs and Kop 2019).
+/// Checks a certificate over a system and its dependency pairs. It is accepted exactly where it is valid and no value exceeds a
+/// limit in a side that a node of interpretations evaluates; else the first condition that is false is named, or the first node
+/// in which a value exceeds a limit before that. The certificate is one that `read_certificate` gives. Where the answer is YES,
+/// each well-typed term over the system has a longest reduction (Kop 2012; Fuhs and Kop 2019).
 pub fn check(
     alloc: Global,
     system: &System,
     pairs: &PairList,
     certificate: &Certificate,
-) -> Result<Accepted, Or<Rejected>>
+) -> Result<Accepted, Or<CheckFault>>
     requires pairs { HasPairs (system_data system.now) (pairs_data pairs.now) }
     requires certificate { IsCert (said certificate.now) }
     ensures accepted { IfOk result (IsAccepted (system_data system.now) (pairs_data pairs.now) (said certificate.now)) }
-    ensures rejected { IfBecause result (IsFirstFault (system_data system.now) (pairs_data pairs.now) (said certificate.now)) }
+    ensures small { OnOk result (IsSmallCert (system_data system.now) (pairs_data pairs.now) (said certificate.now)) }
+    ensures rejected { IfBecause result (IsFirstFault with_limits (system_data system.now) (pairs_data pairs.now) (said certificate.now)) }
     ensures bounded { IfOk result (IsBoundedAtYes (system_data system.now)) }
 {
     match certificate {
@@ -64,7 +71,7 @@ pub fn check(
         }
         Certificate::No(certificate) => match check_no(alloc, system, certificate) {
             Ok(accepted) => Ok(Accepted::No(accepted)),
-            Err(Or::Because(fault)) => Err(Or::Because(of_claim(fault))),
+            Err(Or::Because(fault)) => Err(Or::Because(CheckFault::Rejected(of_claim(fault)))),
             Err(Or::NoMemory) => Err(Or::NoMemory),
         },
     }
@@ -76,34 +83,44 @@ fn check_yes(
     system: &System,
     pairs: &PairList,
     certificate: &YesCertificate,
-) -> Result<(), Or<Rejected>>
+) -> Result<(), Or<CheckFault>>
     requires pairs { HasPairs (system_data system.now) (pairs_data pairs.now) }
     requires certificate { IsCert (said_yes certificate.now) }
     ensures valid { OnOk result (IsValidYes (system_data system.now) (pairs_data pairs.now) certificate.now.ranks certificate.now.pairs (map said_node certificate.now.nodes)) }
-    ensures fault { IfBecause result (IsFirstYesFault (system_data system.now) (pairs_data pairs.now) certificate.now.ranks certificate.now.pairs (map said_node certificate.now.nodes)) }
+    ensures small { OnOk result (IsSmallYes (system_data system.now) (pairs_data pairs.now) (map said_node certificate.now.nodes)) }
+    ensures fault { IfBecause result (IsFirstYesFault with_limits (system_data system.now) (pairs_data pairs.now) certificate.now.ranks certificate.now.pairs (map said_node certificate.now.nodes)) }
     ensures bounded { OnOk result (AreBounded (system_data system.now)) }
 {
     system.is_well_made();
+    pairs_have_marked_sides();
     proved_systems_are_bounded();
     check_passing(alloc, system, certificate.ranks.as_slice())?;
     let count = pairs.as_slice().len() as u32;
     if certificate.pairs != count {
-        return Err(Or::Because(Rejected::PairCount { pairs: count }));
+        return Err(Or::Because(CheckFault::Rejected(Rejected::PairCount {
+            pairs: count,
+        })));
     }
     let whole = numbers_below(alloc, count)?;
     check_nodes(alloc, system, pairs, whole, certificate.nodes.as_slice())
 }
 
 // Whether there is one rank for each sort, and the system is passing under the ranks.
-fn check_passing(alloc: Global, system: &System, ranks: &[u32]) -> Result<(), Or<Rejected>>
-    ensures { MatchOr result (λ _. IsPassingUnder (system_data system.now) ranks.now) (IsRankFault (system_data system.now) ranks.now) }
+fn check_passing(alloc: Global, system: &System, ranks: &[u32]) -> Result<(), Or<CheckFault>>
+    ensures { MatchOr result (λ _. IsPassingUnder (system_data system.now) ranks.now)
+        (λ f. (r : row.Rejected) × (f ≡ refusal r) × IsRankFault (system_data system.now) ranks.now r) }
 {
     if ranks.len() != system.signature().sorts as usize {
-        return Err(Or::Because(Rejected::RankCount));
+        return Err(Or::Because(CheckFault::Rejected(Rejected::RankCount)));
     }
     let ranks = Ranks::new(alloc, ranks)?;
     match check_ranks(system, &ranks) {
         Ok(()) => Ok(()),
-        Err(Inaccessible { rule, meta }) => Err(Or::Because(Rejected::Inaccessible { rule, meta })),
+        Err(Inaccessible { rule, meta }) => {
+            Err(Or::Because(CheckFault::Rejected(Rejected::Inaccessible {
+                rule,
+                meta,
+            })))
+        }
     }
 }

@@ -4,6 +4,7 @@
 
 mod checking;
 mod choices;
+mod interpretations;
 mod laws;
 mod node;
 mod rejected;
@@ -11,5 +12,8 @@ mod sets;
 mod walk;
 
 pub use checking::{Accepted, AcceptedYes, check};
-pub use laws::{one_first_fault, valid_or_at_fault, valid_or_refused};
-pub use rejected::{NodeFault, Rejected};
+pub use laws::{
+    one_first_fault, rejections_are_first_rows, valid_certificates_have_no_fault,
+    valid_or_at_fault,
+};
+pub use rejected::{CheckFault, NodeFault, Rejected};

@@ -1,27 +1,35 @@
 //! One node of a YES certificate: its conditions, and the sets that it leaves.
 
-ghost use Rattle.std.specs.Prelude.{◌≡◌, ◌≢◌, [], ◌++◌, ◌<◌, All, List, MatchResult, OnOk, ℕ, length, map, reverse};
+ghost use Rattle.std.specs.Prelude.{◌≡◌, ◌≢◌, [], ◌∷◌, ◌++◌, ◌<◌, All, List, MatchResult, OnOk, ℕ, length, map, reverse};
 ghost use Rattle.wh_types.specs.Outcome.{IfBecause, MatchOr};
 ghost use Rattle.wh_pairs.specs.Views.{pairs_data};
 ghost use Rattle.wh_system.specs.SystemView.{system_data};
-ghost use Rattle.wh_cert.specs.Said.{said_arg, said_node};
+ghost use Rattle.wh_cert.specs.Said.{said_arg, said_interp, said_node, said_poly};
 ghost use Rattle.wh_cert.specs.Written as w;
+ghost use Rattle.wh_hopoly.specs.Erase.{interpretations};
+ghost use Rattle.wh_polycheck.specs.SideResults.{marks_of};
+ghost use Rattle.wh_meaning.specs.Covering.{HaveTypedSides};
+ghost use Rattle.wh_covering.specs.CoveringFaults.{with_limits};
 ghost use Rattle.wh_nodes.specs.Nodes.{AreSetsOf};
-ghost use Rattle.wh_checker.specs.Faults.{IsNodeFault, IsSubtermFault};
+ghost use Rattle.wh_checker.specs.Faults.{IsNodeFault, IsSubtermFault, SayCovering};
 ghost use Rattle.wh_checker.specs.Walk.{GoesOn, IsReduced, IsSingle};
 ghost use Rattle.wh_checker.specs.declared.rejected.NodeFault.TheVariants.{NotEmpty};
 
 use crate::choices::choices_of;
+use crate::interpretations::{marks_of_set, symbols_of};
 use crate::rejected::NodeFault;
 use crate::sets::{kept, set_of};
 use std::alloc::{AllocError, Global};
-use wh_cert::{Arg, Node};
+use wh_cert::{Arg, Node, PolyNode};
+use wh_covering::check_covering;
 use wh_graph::{check_blocks, may_follow};
+use wh_hopoly::Symbol;
+use wh_polycheck::MarkedSymbol;
 use wh_subterm::{SubtermFault, check_projection};
 use wh_system::{Pair, PairList, PairSet, System};
 use wh_types::{Numbers, Or};
 
-/// Whether the conditions of the node hold of the set. Then what it leaves to be proved comes on top of the stack, the
+/// Whether the conditions of the node hold of the set, and no value exceeds a limit. Then what it leaves to be proved comes on top of the stack, the
 /// first of it on top.
 pub fn check_node(
     alloc: Global,
@@ -31,9 +39,10 @@ pub fn check_node(
     node: &Node,
     stack: &mut Vec<PairSet>,
 ) -> Result<(), Or<NodeFault>>
-    requires { All (λ n. n < length pairs.now) set.now }
+    requires typed { HaveTypedSides (system_data system.now).symbols (system_data system.now).rules (pairs_data pairs.now) }
+    requires set { All (λ n. n < length pairs.now) set.now }
     ensures proved { OnOk result (GoesOn (system_data system.now) (pairs_data pairs.now) set.now (said_node node.now) (reverse stack.old.items) (reverse stack.new.items)) }
-    ensures fault { IfBecause result (IsNodeFault (system_data system.now) (pairs_data pairs.now) set.now (said_node node.now)) }
+    ensures fault { IfBecause result (IsNodeFault with_limits (system_data system.now) (pairs_data pairs.now) set.now (said_node node.now)) }
 {
     match node {
         Node::Done => check_done(set),
@@ -53,6 +62,10 @@ pub fn check_node(
             }
             Ok(())
         }
+        Node::Poly(node) => {
+            stack.push(covered(alloc, system, pairs, set, node)?)?;
+            Ok(())
+        }
     }
 }
 
@@ -70,7 +83,7 @@ fn check_done(set: &PairSet) -> Result<(), Or<NodeFault>>
 // Whether the set has one pair, which may not follow itself.
 fn check_alone(system: &System, pairs: &[Pair], set: &[u32]) -> Result<(), Or<NodeFault>>
     requires { All (λ n. n < length pairs.now) set.now }
-    ensures { MatchOr result (λ _. IsSingle (system_data system.now).rules (pairs_data pairs.now) set.now) (IsNodeFault (system_data system.now) (pairs_data pairs.now) set.now w.alone) }
+    ensures { MatchOr result (λ _. IsSingle (system_data system.now).rules (pairs_data pairs.now) set.now) (IsNodeFault with_limits (system_data system.now) (pairs_data pairs.now) set.now w.alone) }
 {
     if set.len() != 1 {
         return Err(Or::Because(NodeFault::NotOne));
@@ -117,4 +130,60 @@ fn reduced(
         return Err(Or::Because(fault));
     }
     Ok(kept(alloc, set, drop)?)
+}
+
+// What a node of interpretations leaves of the set, if its conditions hold.
+fn covered(
+    alloc: Global,
+    system: &System,
+    pairs: &PairList,
+    set: &PairSet,
+    node: &PolyNode,
+) -> Result<PairSet, Or<NodeFault>>
+    requires typed { HaveTypedSides (system_data system.now).symbols (system_data system.now).rules (pairs_data pairs.now) }
+    requires set { All (λ n. n < length pairs.now) set.now }
+    ensures { MatchOr result (λ rest. GoesOn (system_data system.now) (pairs_data pairs.now) set.now (said_poly node.now) [] (rest ∷ []))
+        (IsNodeFault with_limits (system_data system.now) (pairs_data pairs.now) set.now (said_poly node.now)) }
+{
+    let Some(symbols) = symbols_of(alloc, system, node.funs.as_slice())? else {
+        return Err(Or::Because(NodeFault::BadSymbols));
+    };
+    let Some(marks) = marks_of_set(alloc, system, pairs, set, node.marks.as_slice())? else {
+        return Err(Or::Because(NodeFault::BadSymbols));
+    };
+    covered_by(alloc, system, pairs, set, node, &symbols, &marks)
+}
+
+// The same under the interpretations that its lines say.
+fn covered_by(
+    alloc: Global,
+    system: &System,
+    pairs: &PairList,
+    set: &PairSet,
+    node: &PolyNode,
+    symbols: &[Symbol],
+    marks: &[MarkedSymbol],
+) -> Result<PairSet, Or<NodeFault>>
+    requires typed { HaveTypedSides (system_data system.now).symbols (system_data system.now).rules (pairs_data pairs.now) }
+    requires set { All (λ n. n < length pairs.now) set.now }
+    requires says { SayCovering (system_data system.now) (pairs_data pairs.now) set.now (map said_interp node.now.funs) (map said_interp node.now.marks) (interpretations symbols.now) (marks_of marks.now) }
+    ensures { MatchOr result (λ rest. GoesOn (system_data system.now) (pairs_data pairs.now) set.now (said_poly node.now) [] (rest ∷ []))
+        (IsNodeFault with_limits (system_data system.now) (pairs_data pairs.now) set.now (said_poly node.now)) }
+{
+    let drop = node.drop.as_slice();
+    match check_covering(
+        alloc,
+        system,
+        pairs,
+        set,
+        symbols,
+        marks,
+        &node.rules,
+        &node.pairs,
+        drop,
+    ) {
+        Ok(()) => Ok(kept(alloc, set, drop)?),
+        Err(Or::Because(fault)) => Err(Or::Because(NodeFault::Poly(fault))),
+        Err(Or::NoMemory) => Err(Or::NoMemory),
+    }
 }

@@ -1,12 +1,15 @@
 //! Why a certificate is refused.
 
 ghost use Rattle.std.specs.Prelude.{◌≡◌};
-ghost use Rattle.wh_checker.specs.Faults.{at_node, of_claim};
+ghost use Rattle.wh_checker.specs.Faults.{at_covering, at_node, at_pair, at_rule, in_excess, of_claim};
 ghost use Rattle.wh_checker.specs.declared.rejected.NodeFault.TheVariants.{Blocks, Subterm};
+ghost use Rattle.wh_covering.specs.declared.fault.CoveringFault.TheVariants.{Pair, Rule};
 
-use wh_covering::CoveringFault;
+use wh_covering::{CoveringFault, LineFault};
 use wh_graph::BlockFault;
+use wh_hopoly::Excess;
 use wh_no::NoFault;
+use wh_polycheck::CoverFault;
 use wh_subterm::SubtermFault;
 
 /// What is wrong with a node of a YES certificate.
@@ -116,40 +119,133 @@ pub enum CheckFault {
 
 impl NodeFault {
     /// The fault of the node of that number.
-    pub fn at_node(self, node: u32) -> Rejected
+    pub fn at_node(self, node: u32) -> CheckFault
         ensures { result ≡ at_node node self }
     {
         match self {
-            NodeFault::NotEmpty => Rejected::NotEmpty { node },
-            NodeFault::NotOne => Rejected::NotOne { node },
-            NodeFault::Loops { pair } => Rejected::Loops { node, pair },
-            NodeFault::Blocks(fault) => in_blocks(fault, node),
-            NodeFault::Subterm(fault) => in_subterm(fault, node),
+            NodeFault::NotEmpty => CheckFault::Rejected(Rejected::NotEmpty { node }),
+            NodeFault::NotOne => CheckFault::Rejected(Rejected::NotOne { node }),
+            NodeFault::Loops { pair } => CheckFault::Rejected(Rejected::Loops { node, pair }),
+            NodeFault::Blocks(fault) => in_blocks(node, fault),
+            NodeFault::Subterm(fault) => in_subterm(node, fault),
+            NodeFault::BadSymbols => CheckFault::Rejected(Rejected::BadSymbols { node }),
+            NodeFault::Poly(fault) => at_covering(node, fault),
         }
     }
 }
 
 // The fault of the node `blocks` of that number.
-fn in_blocks(fault: BlockFault, node: u32) -> Rejected
+fn in_blocks(node: u32, fault: BlockFault) -> CheckFault
     ensures { result ≡ at_node node (Blocks fault) }
 {
-    match fault {
+    let row = match fault {
         BlockFault::FewBlocks => Rejected::FewBlocks { node },
         BlockFault::NotPartition { pair } => Rejected::NotPartition { node, pair },
         BlockFault::BackEdge { a, b } => Rejected::BackEdge { node, a, b },
-    }
+    };
+    CheckFault::Rejected(row)
 }
 
 // The fault of the node `subterm` of that number.
-fn in_subterm(fault: SubtermFault, node: u32) -> Rejected
+fn in_subterm(node: u32, fault: SubtermFault) -> CheckFault
     ensures { result ≡ at_node node (Subterm fault) }
 {
-    match fault {
+    let row = match fault {
         SubtermFault::BadArgs => Rejected::BadArgs { node },
         SubtermFault::NoProjection { symbol } => Rejected::NoProjection { node, symbol },
         SubtermFault::BadArgument { symbol } => Rejected::BadArgument { node, symbol },
         SubtermFault::BadDrop => Rejected::BadDrop { node },
         SubtermFault::NotDecreasing { pair } => Rejected::NotDecreasing { node, pair },
+    };
+    CheckFault::Rejected(row)
+}
+
+// The fault of the node `poly` of that number, whose names are looked up.
+fn at_covering(node: u32, fault: CoveringFault) -> CheckFault
+    ensures { result ≡ at_covering node fault }
+{
+    match fault {
+        CoveringFault::BadPolynomial { symbol, marked } => {
+            CheckFault::Rejected(Rejected::BadPolynomial {
+                node,
+                symbol,
+                marked,
+            })
+        }
+        CoveringFault::BadLines => CheckFault::Rejected(Rejected::BadLines { node }),
+        CoveringFault::BadDrop => CheckFault::Rejected(Rejected::BadDrop { node }),
+        CoveringFault::Rule { rule, fault } => in_rule_line(node, rule, fault),
+        CoveringFault::Pair { pair, fault } => in_pair_line(node, pair, fault),
+    }
+}
+
+// The fault of the line of a rule.
+fn in_rule_line(node: u32, rule: u32, fault: LineFault) -> CheckFault
+    ensures { result ≡ at_covering node (Rule rule fault) }
+{
+    match fault {
+        LineFault::Exceeds(excess) => in_excess(node, excess),
+        LineFault::Cover(fault) => CheckFault::Rejected(at_rule(node, rule, fault)),
+    }
+}
+
+// The fault of the line of a pair.
+fn in_pair_line(node: u32, pair: u32, fault: LineFault) -> CheckFault
+    ensures { result ≡ at_covering node (Pair pair fault) }
+{
+    match fault {
+        LineFault::Exceeds(excess) => in_excess(node, excess),
+        LineFault::Cover(fault) => CheckFault::Rejected(at_pair(node, pair, fault)),
+    }
+}
+
+// That a value exceeds a limit in the node.
+fn in_excess(node: u32, excess: Excess) -> CheckFault
+    ensures { result ≡ in_excess node excess }
+{
+    match excess {
+        Excess::Overflow => CheckFault::Overflow { node },
+        Excess::TooLarge => CheckFault::TooLarge { node },
+    }
+}
+
+// The fault of the moves for a rule.
+fn at_rule(node: u32, rule: u32, fault: CoverFault) -> Rejected
+    ensures { result ≡ at_rule node rule fault }
+{
+    match fault {
+        CoverFault::BadMove { entry } => Rejected::BadMoveRule { node, rule, entry },
+        CoverFault::OverSpent { monomial } => Rejected::OverSpentRule {
+            node,
+            rule,
+            monomial,
+        },
+        CoverFault::NotCovered { monomial } => Rejected::NotCoveredRule {
+            node,
+            rule,
+            monomial,
+        },
+        CoverFault::NotStrict => Rejected::NotStrict { node, pair: rule },
+    }
+}
+
+// The fault of the moves for a pair.
+fn at_pair(node: u32, pair: u32, fault: CoverFault) -> Rejected
+    ensures { result ≡ at_pair node pair fault }
+{
+    match fault {
+        CoverFault::BadMove { entry } => Rejected::BadMovePair { node, pair, entry },
+        CoverFault::OverSpent { monomial } => Rejected::OverSpentPair {
+            node,
+            pair,
+            monomial,
+        },
+        CoverFault::NotCovered { monomial } => Rejected::NotCoveredPair {
+            node,
+            pair,
+            monomial,
+        },
+        CoverFault::NotStrict => Rejected::NotStrict { node, pair },
     }
 }
 

@@ -6,12 +6,14 @@ ghost use Rattle.wh_pairs.specs.Views.{pairs_data};
 ghost use Rattle.wh_system.specs.SystemView.{system_data};
 ghost use Rattle.wh_cert.specs.Said.{said_node};
 ghost use Rattle.wh_cert.specs.Written.{Preorder};
+ghost use Rattle.wh_covering.specs.CoveringFaults.{with_limits};
+ghost use Rattle.wh_meaning.specs.Covering.{HaveTypedSides};
 ghost use Rattle.wh_checker.specs.Faults.{IsFirstNodeFault, at_node};
 ghost use Rattle.wh_checker.specs.Walk.{AreProvedBy};
 ghost use Rattle.wh_checker.specs.declared.rejected.NodeFault.{NodeFault};
 
 use crate::node::check_node;
-use crate::rejected::Rejected;
+use crate::rejected::CheckFault;
 use std::alloc::Global;
 use wh_cert::Node;
 use wh_system::{PairList, PairSet, System};
@@ -24,12 +26,13 @@ pub fn check_nodes(
     pairs: &PairList,
     whole: PairSet,
     nodes: &[Node],
-) -> Result<(), Or<Rejected>>
+) -> Result<(), Or<CheckFault>>
+    requires typed { HaveTypedSides (system_data system.now).symbols (system_data system.now).rules (pairs_data pairs.now) }
     requires set { All (λ n. n < length pairs.now) whole }
     requires preorder { Preorder 1 (map said_node nodes.now) }
     requires few { length nodes.now < 2 ^ 32 }
     ensures proved { OnOk result (AreProvedBy (system_data system.now) (pairs_data pairs.now) (whole ∷ []) (map said_node nodes.now)) }
-    ensures fault { IfBecause result (λ r. (k : ℕ) × (f : NodeFault) × (r ≡ at_node k f) × IsFirstNodeFault (system_data system.now) (pairs_data pairs.now) 0 (whole ∷ []) (map said_node nodes.now) k f) }
+    ensures fault { IfBecause result (λ r. (k : ℕ) × (f : NodeFault) × (r ≡ at_node k f) × IsFirstNodeFault with_limits (system_data system.now) (pairs_data pairs.now) 0 (whole ∷ []) (map said_node nodes.now) k f) }
 {
     let mut stack = Vec::new(alloc);
     stack.push(whole)?;
