@@ -10,8 +10,8 @@ use Rattle.wh_checker.proofs.GoLemmas.{because_says}
 use Rattle.wh_checker.proofs.WalkLemmas.{come_here, come_next, come_fault, come_over}
 use Rattle.wh_checker.proofs.walk.check_nodes.Goals as goal
 
-pub check_node-requires : goal.check_node-requires
-check_node-requires c =
+pub check_node-requires-clause-set : goal.check_node-requires-clause-set
+check_node-requires-clause-set c =
     let d = system_data c.args.system.now in
     let ps = pairs_data c.args.pairs.now in
     let nodes = c.args.nodes.now in
