@@ -8,6 +8,7 @@ ghost use Rattle.wh_cert.specs.Limits.{IsCert};
 ghost use Rattle.wh_cert.specs.Written.{Cert};
 ghost use Rattle.wh_covering.specs.CoveringFaults.{Limits, with_limits, without_limits};
 ghost use Rattle.wh_checker.specs.Faults.{AreAlike, IsFirstFault};
+ghost use Rattle.wh_checker.specs.Named.{NamesAreThere};
 ghost use Rattle.wh_checker.specs.Small.{IsSmallCert};
 ghost use Rattle.wh_checker.specs.Valid.{IsValidCert};
 ghost use Rattle.wh_checker.specs.declared.rejected.CheckFault.TheVariants.{Rejected as refusal};
@@ -33,6 +34,12 @@ pub fn valid_certificates_have_no_fault()
 pub fn rejections_are_first_rows()
     ensures { (d : SystemData) (ps : List PairData) (c : Cert) (r : Rejected) → IsFirstFault with_limits d ps c (refusal r)
         → IsFirstFault without_limits d ps c (refusal r) }
+{}
+
+/// The symbols and the meta-variables that a first fault names are there.
+pub fn rejections_name_what_is_there()
+    ensures { (m : Limits) (d : SystemData) (ps : List PairData) (c : Cert) (r : Rejected) → IsWellMadeSystem d
+        → IsFirstFault m d ps c (refusal r) → NamesAreThere d r }
 {}
 
 /// A certificate within the limits of the format is valid or has a first fault.
