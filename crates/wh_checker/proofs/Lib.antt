@@ -6,8 +6,11 @@ pub mod WalkLemmas
 pub mod GoLemmas
 pub mod YesLemmas
 pub mod RowLaws
+pub mod CoverLaws
+pub mod CoveringLaws
 pub mod NodeLaws
 pub mod FaultLaws
 pub mod Bounded
 pub mod SomeSets
 pub mod ValidOrFault
+pub mod Named
