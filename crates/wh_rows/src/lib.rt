@@ -6,6 +6,8 @@
 #[cfg(test)]
 mod method_rows;
 #[cfg(test)]
+mod poly_rows;
+#[cfg(test)]
 mod run_rows;
 #[cfg(test)]
 mod samples;

@@ -134,7 +134,10 @@ const MAP_ROWS: &[(&[u8], &[u8])] = &[
         b"REJECTED syntax 49\n",
     ),
     (b"YES 2\n", b"REJECTED syntax 4\n"),
-    (b"YES 1\nranks 0 0\npairs 1\npoly\n", b"LATER\n"),
+    (
+        b"YES 1\nranks 0 0\npairs 1\npoly\n",
+        b"REJECTED syntax 30\n",
+    ),
 ];
 
 /// Certificates for `FUNCTION_LIST`, and what a check writes.
@@ -303,10 +306,6 @@ fn ends_by_its_answer(rt: HostRuntime) -> Result<(), Fail> {
         (
             b"YES 1\nranks 0 0\npairs 1\ndone\nend\n".as_slice(),
             Status::Rejected,
-        ),
-        (
-            b"YES 1\nranks 0 0\npairs 1\npoly\n".as_slice(),
-            Status::Later,
         ),
     ] {
         let (ended, _) = told(

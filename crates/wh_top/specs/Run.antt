@@ -14,17 +14,19 @@ use Rattle.wh_no.specs.Claim.{Claim}
 use Rattle.wh_no.specs.Meaning.{Says}
 use Rattle.wh_top.specs.declared.status.Status.{Status}
 use Rattle.wh_top.specs.declared.status.Status.TheVariants.{Answered, BadWords, NoMemory, WriteFault}
-use Rattle.wh_top.specs.declared.outcome.Outcome.{Outcome}
+use Rattle.wh_answer.specs.declared.report.Report.{Report}
+use Rattle.wh_answer.specs.declared.report.Report.TheVariants as answer
+use Rattle.wh_answer.specs.Texts.{line, report_text}
 use Rattle.wh_top.specs.Words.{Request, check, show, Asks}
-use Rattle.wh_top.specs.Texts.{line, text_of, status_of, shown_text}
+use Rattle.wh_top.specs.Texts.{status_of, shown_text}
 use Rattle.wh_top.specs.Outcomes.{Shelves, BeginsWith, ToldSystem, StandsBySystem, Stands}
 
--- P holds of an outcome, and status and text are its own
-pub record Tells (P : Outcome → Type 0) (status : Status) (text : List ℕ) : Type 0 where
-  pub outcome : Outcome
-  pub stands : P outcome
-  pub status_is : status ≡ status_of outcome
-  pub text_is : text ≡ text_of outcome
+-- P holds of an answer, and status and text are its own
+pub record Tells (P : Report → Type 0) (status : Status) (text : List ℕ) : Type 0 where
+  pub report : Report
+  pub stands : P report
+  pub status_is : status ≡ status_of report
+  pub text_is : text ≡ report_text report
 
 -- the text shows the system in the file and its pairs; what it says of the system is a text of that very system
 pub record Shows (s : Shelves) (file : List ℕ) (status : Status) (text : List ℕ) : Type 0 where
@@ -32,7 +34,7 @@ pub record Shows (s : Shelves) (file : List ℕ) (status : Status) (text : List 
   pub begins : BeginsWith (line (codes "SYSTEM")) text
   pub status_is : status ≡ Answered
 
--- the reply to a request: of a check its outcome; for a system to be shown its text, or why there is none
+-- the reply to a request: of a check its answer; for a system to be shown its text, or why there is none
 abbrev pub Replies : Shelves → Request → Status → List ℕ → Type 0
 Replies s (check file cert) status text = Tells (Stands s file cert) status text
 Replies s (show file) status text = Shows s file status text ⊎ Tells (StandsBySystem s file) status text
@@ -47,13 +49,13 @@ pub record Served (s : Shelves) (words : List (List ℕ)) (status : Status) (tex
 pub record Misspoken (words : List (List ℕ)) (status : Status) (text : List ℕ) : Type 0 where
   pub none : (request : Request) → Asks words request → ⊥
   pub status_is : status ≡ BadWords
-  pub text_is : text ≡ line (codes "BAD WORDS")
+  pub text_is : text ≡ report_text answer.BadWords
 
 -- there was no memory; of this alone nothing says when it comes, but that the words were good
 pub record Starved (words : List (List ℕ)) (status : Status) (text : List ℕ) : Type 0 where
   pub asks : (request : Request) × Asks words request
   pub status_is : status ≡ NoMemory
-  pub text_is : text ≡ line (codes "OUT OF MEMORY")
+  pub text_is : text ≡ report_text answer.OutOfMemory
 
 -- a run with these words answers with this status and this text
 abbrev pub Answers : Shelves → List (List ℕ) → Status → List ℕ → Type 0

@@ -1,7 +1,7 @@
 -- The number of each status.
 use Rattle.std.specs.Prelude.{ℕ}
 use Rattle.wh_top.specs.declared.status.Status.{Status}
-use Rattle.wh_top.specs.declared.status.Status.TheVariants.{Answered, Rejected, BadWords, Refused, ReadFault, WriteFault, NoMemory, TooLong, TooBig, Later}
+use Rattle.wh_top.specs.declared.status.Status.TheVariants.{Answered, Rejected, BadWords, Refused, ReadFault, WriteFault, NoMemory, TooLong, TooBig}
 
 abbrev pub number_of_status : Status → ℕ
 number_of_status Answered = 0
@@ -13,4 +13,3 @@ number_of_status WriteFault = 5
 number_of_status NoMemory = 6
 number_of_status TooLong = 7
 number_of_status TooBig = 8
-number_of_status Later = 9

@@ -5,17 +5,19 @@ ghost use Rattle.wh_types.specs.Outcome.{MatchOr};
 ghost use Rattle.wh_io.specs.Outside.{Rose};
 ghost use Rattle.wh_system.specs.SystemView.{system_data};
 ghost use Rattle.wh_pairs.specs.SystemPairs.{HasPairs, HasTooManyPairs};
-ghost use Rattle.wh_top.specs.Outcomes.{AreWithin, IsProblemIn, IsSystemIn, StandsBySystem, Told, UnreadBy, certificate_limit};
+ghost use Rattle.wh_answer.specs.declared.report.ReasonWord.TheVariants as reason;
+ghost use Rattle.wh_answer.specs.declared.report.Report.TheVariants.{Refused as refused_answer};
+ghost use Rattle.wh_top.specs.Outcomes.{AreWithin, IsProblemIn, IsSystemIn, StandsBySystem, Told, UnreadBy, certificate_limit, outside};
+ghost use Rattle.wh_top.specs.Rows.{reason_of};
 ghost use Rattle.wh_top.specs.Unread.{CertificateFault, RefusedBy};
 ghost use Rattle.wh_pairs.specs.Views.{pairs_data};
-ghost use Rattle.wh_top.specs.declared.outcome.Outcome.TheVariants.{Refused as refused_outcome};
 ghost use Rattle.wh_types.specs.declared.want.Or.TheVariants.{NoMemory, Because};
 
-use crate::outcome::{Outcome, Role};
 use std::alloc::Global;
+use wh_answer::{ReasonWord, Report, Role};
 use wh_io::{ReadFault, Shelf, read_whole};
 use wh_pairs::pairs;
-use wh_read::{Refused, read_system};
+use wh_read::{Reason, Refused, read_system};
 use wh_system::{PairList, System};
 use wh_types::{Bytes, Or};
 
@@ -39,8 +41,8 @@ pub fn problem_in<S: Shelf>(
     alloc: Global,
     shelf: &mut S,
     file: &str,
-) -> Result<Problem, Or<Outcome>>
-    ensures read { MatchOr result (λ problem. IsProblemIn (S.held shelf.old file.now) (system_data problem.system) (pairs_data problem.pairs)) (StandsBySystem (record { held = S.held shelf.old; before = S.faults shelf.old; after = S.faults shelf.new }) file.now) }
+) -> Result<Problem, Or<Report>>
+    ensures read { MatchOr result (λ problem. IsProblemIn (S.held shelf.old file.now) (system_data problem.system) (pairs_data problem.pairs)) (StandsBySystem (outside (S.held shelf.old) (S.faults shelf.old) (S.faults shelf.new)) file.now) }
     ensures later { (other : List ℕ) → S.faults shelf.old other ≤ S.faults shelf.new other }
     ensures kept { (other : List ℕ) → S.held shelf.new other ≡ S.held shelf.old other }
 {
@@ -50,19 +52,19 @@ pub fn problem_in<S: Shelf>(
 }
 
 // The dependency pairs of a system, or that they are too many.
-fn pairs_of(alloc: Global, system: &System) -> Result<PairList, Or<Outcome>>
-    ensures { MatchOr result (λ list. HasPairs (system_data system.now) (pairs_data list)) (λ o. (o ≡ Outcome.TooManyPairs) × HasTooManyPairs (system_data system.now)) }
+fn pairs_of(alloc: Global, system: &System) -> Result<PairList, Or<Report>>
+    ensures { MatchOr result (λ list. HasPairs (system_data system.now) (pairs_data list)) (λ o. (o ≡ refused_answer reason.TooManyPairs 0) × HasTooManyPairs (system_data system.now)) }
 {
     match pairs(alloc, system) {
         Ok(list) => Ok(list),
         Err(Or::NoMemory) => Err(Or::NoMemory),
-        Err(Or::Because(_)) => Err(Or::Because(Outcome::TooManyPairs)),
+        Err(Or::Because(_)) => Err(Or::Because(Report::Refused(ReasonWord::TooManyPairs, 0))),
     }
 }
 
 // The system of which the file of that name is a text, or why there is none.
-fn system_in<S: Shelf>(alloc: Global, shelf: &mut S, file: &str) -> Result<System, Or<Outcome>>
-    ensures read { MatchOr result (λ system. IsSystemIn (S.held shelf.old file.now) (system_data system)) (StandsBySystem (record { held = S.held shelf.old; before = S.faults shelf.old; after = S.faults shelf.new }) file.now) }
+fn system_in<S: Shelf>(alloc: Global, shelf: &mut S, file: &str) -> Result<System, Or<Report>>
+    ensures read { MatchOr result (λ system. IsSystemIn (S.held shelf.old file.now) (system_data system)) (StandsBySystem (outside (S.held shelf.old) (S.faults shelf.old) (S.faults shelf.new)) file.now) }
     ensures later { (other : List ℕ) → S.faults shelf.old other ≤ S.faults shelf.new other }
     ensures kept { (other : List ℕ) → S.held shelf.new other ≡ S.held shelf.old other }
 {
@@ -77,7 +79,7 @@ pub fn certificate_in<S: Shelf>(
     alloc: Global,
     shelf: &mut S,
     cert: &str,
-) -> Result<Bytes, Or<Outcome>>
+) -> Result<Bytes, Or<Report>>
     ensures read { MatchOr result (λ bytes. Told (S.held shelf.old cert.now) (AreWithin certificate_limit bytes)) (CertificateFault (S.held shelf.old cert.now) (S.faults shelf.old cert.now) (S.faults shelf.new cert.now)) }
     ensures short { IfOk result (λ bytes. length bytes ≤ certificate_limit) }
     ensures kept { (other : List ℕ) → S.held shelf.new other ≡ S.held shelf.old other }
@@ -88,23 +90,44 @@ pub fn certificate_in<S: Shelf>(
     }
 }
 
-// The outcome where that file was not read.
-fn unread(fault: Or<ReadFault>, role: Role) -> Or<Outcome>
+// The answer where that file was not read.
+fn unread(fault: Or<ReadFault>, role: Role) -> Or<Report>
     ensures { UnreadBy fault role result }
 {
     match fault {
         Or::NoMemory => Or::NoMemory,
-        Or::Because(ReadFault::Failed) => Or::Because(Outcome::ReadFault(role)),
-        Or::Because(ReadFault::TooLong) => Or::Because(Outcome::TooLong(role)),
+        Or::Because(ReadFault::Failed) => Or::Because(Report::ReadFault(role)),
+        Or::Because(ReadFault::TooLong) => Or::Because(Report::TooLong(role)),
     }
 }
 
-// The outcome where a text is refused.
-fn refused(fault: Or<Refused>) -> Or<Outcome>
+// The answer where a text is refused.
+fn refused(fault: Or<Refused>) -> Or<Report>
     ensures { RefusedBy fault result }
 {
     match fault {
         Or::NoMemory => Or::NoMemory,
-        Or::Because(reason) => Or::Because(Outcome::Refused(reason)),
+        Or::Because(refused) => Or::Because(Report::Refused(word_of(&refused.reason), refused.at)),
+    }
+}
+
+// The word for a reason.
+fn word_of(reason: &Reason) -> ReasonWord
+    ensures { result ≡ reason_of reason.now }
+{
+    match reason {
+        Reason::BadByte => ReasonWord::BadByte,
+        Reason::BadNumber => ReasonWord::BadNumber,
+        Reason::NameTooLong => ReasonWord::NameTooLong,
+        Reason::Syntax => ReasonWord::Syntax,
+        Reason::UnknownName => ReasonWord::UnknownName,
+        Reason::Twice => ReasonWord::Twice,
+        Reason::IllTyped => ReasonWord::IllTyped,
+        Reason::NotPattern => ReasonWord::NotPattern,
+        Reason::OpenSide => ReasonWord::OpenSide,
+        Reason::NewMeta => ReasonWord::NewMeta,
+        Reason::HeadNotFun => ReasonWord::HeadNotFun,
+        Reason::UnevenRules => ReasonWord::UnevenRules,
+        Reason::TooMany => ReasonWord::TooMany,
     }
 }

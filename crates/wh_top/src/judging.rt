@@ -7,17 +7,18 @@ ghost use Rattle.wh_pairs.specs.Views.{pairs_data};
 ghost use Rattle.wh_print.specs.SystemText.{system_text};
 ghost use Rattle.wh_read.specs.Reading.{Reads};
 ghost use Rattle.wh_pairs.specs.SystemPairs.{HasPairs};
-ghost use Rattle.wh_top.specs.Outcomes.{BeginsWith, Judged, Stands, StandsBySystem, ToldSystem, Weighed};
-ghost use Rattle.wh_top.specs.Texts.{line, shown_text};
+ghost use Rattle.wh_top.specs.Outcomes.{BeginsWith, Judged, Stands, StandsBySystem, ToldSystem, Weighed, outside};
+ghost use Rattle.wh_answer.specs.Texts.{line};
+ghost use Rattle.wh_top.specs.Texts.{shown_text};
 ghost use Rattle.wh_cert.specs.Limits.{IsCert};
 ghost use Rattle.wh_cert.specs.Said.{said};
 
 use crate::files::{Problem, certificate_in, problem_in};
-use crate::outcome::{Outcome, Rejection};
-use crate::rejection::rejection_words;
+use crate::rejection::named_rejection;
 use std::alloc::{AllocError, Global};
-use wh_cert::{CertFault, Certificate, read_certificate};
-use wh_checker::{Accepted, check};
+use wh_answer::{NamedRejection, Report};
+use wh_cert::{Certificate, read_certificate};
+use wh_checker::{Accepted, CheckFault, check, rejections_name_what_is_there};
 use wh_io::Shelf;
 use wh_print::{print_pairs, print_system};
 use wh_round::printed_systems_are_read_back;
@@ -29,8 +30,8 @@ pub fn check_files<S: Shelf>(
     shelf: &mut S,
     file: &str,
     cert: &str,
-) -> Result<Outcome, Or<Outcome>>
-    ensures stands { MatchOr result (Stands (record { held = S.held shelf.old; before = S.faults shelf.old; after = S.faults shelf.new }) file.now cert.now) (Stands (record { held = S.held shelf.old; before = S.faults shelf.old; after = S.faults shelf.new }) file.now cert.now) }
+) -> Result<Report, Or<Report>>
+    ensures stands { MatchOr result (Stands (outside (S.held shelf.old) (S.faults shelf.old) (S.faults shelf.new)) file.now cert.now) (Stands (outside (S.held shelf.old) (S.faults shelf.old) (S.faults shelf.new)) file.now cert.now) }
     ensures kept { (other : List ℕ) → S.held shelf.new other ≡ S.held shelf.old other }
 {
     let problem = problem_in(alloc, shelf, file)?;
@@ -39,8 +40,8 @@ pub fn check_files<S: Shelf>(
 }
 
 /// The text that shows the system in the file with its dependency pairs, or why there is none.
-pub fn show_file<S: Shelf>(alloc: Global, shelf: &mut S, file: &str) -> Result<Bytes, Or<Outcome>>
-    ensures shows { MatchOr result (λ text. ToldSystem (S.held shelf.old file.now) (λ d ps. (text ≡ shown_text d ps) × Reads (system_text d) d)) (StandsBySystem (record { held = S.held shelf.old; before = S.faults shelf.old; after = S.faults shelf.new }) file.now) }
+pub fn show_file<S: Shelf>(alloc: Global, shelf: &mut S, file: &str) -> Result<Bytes, Or<Report>>
+    ensures shows { MatchOr result (λ text. ToldSystem (S.held shelf.old file.now) (λ d ps. (text ≡ shown_text d ps) × Reads (system_text d) d)) (StandsBySystem (outside (S.held shelf.old) (S.faults shelf.old) (S.faults shelf.new)) file.now) }
     ensures begins { IfOk result (BeginsWith (line (codes "SYSTEM"))) }
     ensures kept { (other : List ℕ) → S.held shelf.new other ≡ S.held shelf.old other }
 {
@@ -64,7 +65,7 @@ fn shown(alloc: Global, problem: &Problem) -> Result<Bytes, AllocError>
 }
 
 // What the bytes of the certificate come to.
-fn judge(alloc: Global, problem: &Problem, bytes: &[u8]) -> Result<Outcome, AllocError>
+fn judge(alloc: Global, problem: &Problem, bytes: &[u8]) -> Result<Report, AllocError>
     requires length { length bytes.now ≤ 8388608 }
     requires pairs { HasPairs (system_data problem.now.system) (pairs_data problem.now.pairs) }
     ensures { IfOk result (Judged (system_data problem.now.system) (pairs_data problem.now.pairs) bytes.now) }
@@ -72,26 +73,28 @@ fn judge(alloc: Global, problem: &Problem, bytes: &[u8]) -> Result<Outcome, Allo
     match read_certificate(alloc, bytes) {
         Ok(certificate) => weigh(alloc, problem, &certificate),
         Err(Or::NoMemory) => Err(AllocError),
-        Err(Or::Because(CertFault::Later)) => Ok(Outcome::Later),
-        Err(Or::Because(CertFault::Syntax(fault))) => {
-            Ok(Outcome::Rejected(Rejection::Syntax { at: fault.at }))
+        Err(Or::Because(fault)) => {
+            Ok(Report::Rejected(NamedRejection::Syntax { at: fault.at }))
         }
     }
 }
 
 // What a certificate that was read comes to.
-fn weigh(alloc: Global, problem: &Problem, certificate: &Certificate) -> Result<Outcome, AllocError>
+fn weigh(alloc: Global, problem: &Problem, certificate: &Certificate) -> Result<Report, AllocError>
     requires certificate { IsCert (said certificate.now) }
     requires pairs { HasPairs (system_data problem.now.system) (pairs_data problem.now.pairs) }
     ensures { IfOk result (Weighed (system_data problem.now.system) (pairs_data problem.now.pairs) (said certificate.now)) }
 {
+    problem.system.is_well_made();
+    rejections_name_what_is_there();
     match check(alloc, &problem.system, &problem.pairs, certificate) {
-        Ok(Accepted::Yes(_)) => Ok(Outcome::Yes),
-        Ok(Accepted::No(_)) => Ok(Outcome::No),
+        Ok(Accepted::Yes(_)) => Ok(Report::Yes),
+        Ok(Accepted::No(_)) => Ok(Report::No),
         Err(Or::NoMemory) => Err(AllocError),
-        Err(Or::Because(fault)) => {
-            let words = rejection_words(alloc, &problem.system, &fault)?;
-            Ok(Outcome::Rejected(Rejection::Condition(words)))
+        Err(Or::Because(CheckFault::Rejected(row))) => {
+            Ok(Report::Rejected(named_rejection(alloc, &problem.system, &row)?))
         }
+        Err(Or::Because(CheckFault::Overflow { node })) => Ok(Report::Overflow(node)),
+        Err(Or::Because(CheckFault::TooLarge { node })) => Ok(Report::TooLarge(node)),
     }
 }

@@ -3,7 +3,6 @@
 
 mod files;
 mod judging;
-mod outcome;
 mod program;
 mod rejection;
 mod status;

@@ -2,16 +2,18 @@
 
 ghost use Rattle.std.specs.Prelude.{◌≡◌, ◌++◌, ℕ, List, Some, IfOk, map, codes, string_bytes};
 ghost use Rattle.wh_top.specs.Asked.{request};
-ghost use Rattle.wh_top.specs.Outcomes.{BeginsWith, Told};
+ghost use Rattle.wh_answer.specs.Texts.{report_text};
+ghost use Rattle.wh_answer.specs.declared.report.Report.TheVariants.{OutOfMemory};
+ghost use Rattle.wh_top.specs.Outcomes.{BeginsWith, Told, outside};
 ghost use Rattle.wh_top.specs.Run.{Answers, Ends, MeansNo, MeansYes, Replies};
-ghost use Rattle.wh_top.specs.Texts.{line, status_of, text_of};
+ghost use Rattle.wh_top.specs.Texts.{status_of};
 ghost use Rattle.wh_top.specs.Words.{Asks, check};
 
 use crate::judging::{check_files, show_file};
-use crate::outcome::Outcome;
-use crate::status::Status;
+use crate::status::{Status, status_of};
 use crate::words::{Command, read_words};
 use std::alloc::{AllocError, Global};
+use wh_answer::{Report, bad_words_line, out_of_memory_line, print_answer};
 use wh_io::{Shelf, Sink, write_all_of};
 use wh_types::{Bytes, Or};
 
@@ -21,13 +23,13 @@ use wh_types::{Bytes, Or};
 /// `answer` says which status and text answer which words and files, with the cause of each refusal; `termination` and
 /// `non_termination` say what an output means that begins with `YES` or with `NO`.
 pub fn run<S: Shelf, K: Sink>(alloc: Global, words: &[String], shelf: &mut S, out: &mut K) -> Status
-    ensures answer { (status : Status) × (text : List ℕ) × Answers (record { held = S.held shelf.old; before = S.faults shelf.old; after = S.faults shelf.new }) (map string_bytes words.now) status text × Ends (K.written out.old) (K.written out.new) (K.faults out.old) (K.faults out.new) status text result }
+    ensures answer { (status : Status) × (text : List ℕ) × Answers (outside (S.held shelf.old) (S.faults shelf.old) (S.faults shelf.new)) (map string_bytes words.now) status text × Ends (K.written out.old) (K.written out.new) (K.faults out.old) (K.faults out.new) status text result }
     ensures termination { (before output : List ℕ) → K.written out.old ≡ Some before → K.written out.new ≡ Some (before ++ output) → BeginsWith (codes "YES") output → (file cert : List ℕ) × Asks (map string_bytes words.now) (check file cert) × Told (S.held shelf.old file) MeansYes }
     ensures non_termination { (before output : List ℕ) → K.written out.old ≡ Some before → K.written out.new ≡ Some (before ++ output) → BeginsWith (codes "NO") output → (file cert : List ℕ) × Asks (map string_bytes words.now) (check file cert) × Told (S.held shelf.old file) (λ system. Told (S.held shelf.old cert) (λ certificate. MeansNo system certificate)) }
     ensures kept { (other : List ℕ) → S.held shelf.new other ≡ S.held shelf.old other }
 {
     let Some(command) = read_words(words) else {
-        return tell(out, Status::BadWords, b"BAD WORDS\n");
+        return tell(out, Status::BadWords, bad_words_line());
     };
     match reply_to(alloc, shelf, &command) {
         Ok(reply) => tell(out, reply.status, reply.text.as_slice()),
@@ -37,9 +39,9 @@ pub fn run<S: Shelf, K: Sink>(alloc: Global, words: &[String], shelf: &mut S, ou
 
 /// Ends a run for want of memory: writes `OUT OF MEMORY`, without taking any.
 pub fn report_no_memory<K: Sink>(out: &mut K) -> Status
-    ensures { Ends (K.written out.old) (K.written out.new) (K.faults out.old) (K.faults out.new) Status.NoMemory (line (codes "OUT OF MEMORY")) result }
+    ensures { Ends (K.written out.old) (K.written out.new) (K.faults out.old) (K.faults out.new) Status.NoMemory (report_text OutOfMemory) result }
 {
-    tell(out, Status::NoMemory, b"OUT OF MEMORY\n")
+    tell(out, Status::NoMemory, out_of_memory_line())
 }
 
 /// A status and the text that goes with it.
@@ -51,12 +53,12 @@ struct Reply {
 
 // The reply to a command.
 fn reply_to<S: Shelf>(alloc: Global, shelf: &mut S, command: &Command) -> Result<Reply, AllocError>
-    ensures served { IfOk result (λ reply. Replies (record { held = S.held shelf.old; before = S.faults shelf.old; after = S.faults shelf.new }) (request command.now) reply.status reply.text) }
+    ensures served { IfOk result (λ reply. Replies (outside (S.held shelf.old) (S.faults shelf.old) (S.faults shelf.new)) (request command.now) reply.status reply.text) }
     ensures kept { (other : List ℕ) → S.held shelf.new other ≡ S.held shelf.old other }
 {
     match command {
         Command::Check { file, cert } => match check_files(alloc, shelf, file, cert) {
-            Ok(outcome) | Err(Or::Because(outcome)) => told(alloc, &outcome),
+            Ok(report) | Err(Or::Because(report)) => told(alloc, &report),
             Err(Or::NoMemory) => Err(AllocError),
         },
         Command::Show { file } => match show_file(alloc, shelf, file) {
@@ -64,20 +66,20 @@ fn reply_to<S: Shelf>(alloc: Global, shelf: &mut S, command: &Command) -> Result
                 status: Status::Answered,
                 text,
             }),
-            Err(Or::Because(outcome)) => told(alloc, &outcome),
+            Err(Or::Because(report)) => told(alloc, &report),
             Err(Or::NoMemory) => Err(AllocError),
         },
     }
 }
 
-// The reply that tells an outcome.
-fn told(alloc: Global, outcome: &Outcome) -> Result<Reply, AllocError>
-    ensures status { IfOk result (λ reply. reply.status ≡ status_of outcome.now) }
-    ensures text { IfOk result (λ reply. reply.text ≡ text_of outcome.now) }
+// The reply that tells an answer.
+fn told(alloc: Global, report: &Report) -> Result<Reply, AllocError>
+    ensures status { IfOk result (λ reply. reply.status ≡ status_of report.now) }
+    ensures text { IfOk result (λ reply. reply.text ≡ report_text report.now) }
 {
     Ok(Reply {
-        status: outcome.status(),
-        text: outcome.text(alloc)?,
+        status: status_of(report),
+        text: print_answer(alloc, report)?,
     })
 }
 

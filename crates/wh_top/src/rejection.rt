@@ -1,177 +1,86 @@
-//! The words for a condition of a certificate that is false.
+//! Rejections with the names of symbols and meta-variables in place of their numbers.
 
-ghost use Rattle.std.specs.Prelude.{◌≡◌, IfOk, OnOk, codes, get_or, []};
+ghost use Rattle.std.specs.Prelude.{◌≡◌, ◌<◌, IfOk, length};
 ghost use Rattle.wh_system.specs.SystemView.{system_data};
-ghost use Rattle.wh_top.specs.Rows.{meta_name, named, numbered, of_node, row_text, symbol_name};
+ghost use Rattle.wh_top.specs.Rows.{meta_name, named_row, symbol_name};
+ghost use Rattle.wh_checker.specs.Named.{HasMeta, NamesAreThere};
 
 use std::alloc::{AllocError, Global};
+use wh_answer::NamedRejection;
 use wh_checker::Rejected;
 use wh_system::System;
 use wh_text::Name;
-use wh_types::Bytes;
 
-/// The words that name the condition, with the names of symbols and meta-variables in place of their numbers.
-pub fn rejection_words(
+/// The rejection with names. What it names must be there, as it is with each rejection of the check.
+pub fn named_rejection(
     alloc: Global,
     system: &System,
     rejected: &Rejected,
-) -> Result<Bytes, AllocError>
-    ensures { IfOk result (λ words. words ≡ row_text (system_data system.now) rejected.now) }
+) -> Result<NamedRejection, AllocError>
+    requires { NamesAreThere (system_data system.now) rejected.now }
+    ensures { IfOk result (λ named. named ≡ named_row (system_data system.now) rejected.now) }
 {
-    match rejected {
-        Rejected::RankCount => word(alloc, b"rank-count"),
-        Rejected::Inaccessible { rule, meta } => inaccessible(alloc, system, *rule, *meta),
-        Rejected::PairCount { pairs } => numbered(alloc, b"pair-count", *pairs),
-        Rejected::NotEmpty { node } => of_node(alloc, *node, b"not-empty"),
-        Rejected::NotOne { node } => of_node(alloc, *node, b"not-one"),
-        Rejected::Loops { node, pair } => numbered_of_node(alloc, *node, b"loops", *pair),
-        Rejected::FewBlocks { node } => of_node(alloc, *node, b"few-blocks"),
-        Rejected::NotPartition { node, pair } => numbered_of_node(
-            alloc,
-            *node,
-            b"not-partition",
-            *pair,
-        ),
-        Rejected::BackEdge { node, a, b } => edge_of_node(alloc, *node, *a, *b),
-        Rejected::BadArgs { node } => of_node(alloc, *node, b"bad-args"),
-        Rejected::NoProjection { node, symbol } => named_of_node(
-            alloc,
-            *node,
-            b"no-projection",
-            symbol_name(system, *symbol),
-        ),
-        Rejected::BadArgument { node, symbol } => named_of_node(
-            alloc,
-            *node,
-            b"bad-argument",
-            symbol_name(system, *symbol),
-        ),
-        Rejected::BadDrop { node } => of_node(alloc, *node, b"bad-drop"),
-        Rejected::NotDecreasing { node, pair } => numbered_of_node(
-            alloc,
-            *node,
-            b"not-decreasing",
-            *pair,
-        ),
-        Rejected::NotATerm => word(alloc, b"term"),
-        Rejected::NoStep => word(alloc, b"no-step"),
-        Rejected::StepFails { index } => numbered(alloc, b"step", *index),
-        Rejected::TooBig { index } => numbered(alloc, b"too-big", *index),
-        Rejected::BadPut { index } => numbered(alloc, b"put", *index),
-        Rejected::NoInstance => word(alloc, b"no-instance"),
-    }
+    let named = match *rejected {
+        Rejected::Inaccessible { rule, meta } => NamedRejection::Inaccessible {
+            rule,
+            meta: meta_name(alloc, system, rule, meta)?,
+        },
+        Rejected::NoProjection { node, symbol } => NamedRejection::NoProjection {
+            node,
+            symbol: symbol_name(alloc, system, symbol)?,
+        },
+        Rejected::BadArgument { node, symbol } => NamedRejection::BadArgument {
+            node,
+            symbol: symbol_name(alloc, system, symbol)?,
+        },
+        Rejected::BadPolynomial { node, symbol, marked } => NamedRejection::BadPolynomial {
+            node,
+            symbol: symbol_name(alloc, system, symbol)?,
+            marked,
+        },
+        Rejected::RankCount => NamedRejection::RankCount,
+        Rejected::PairCount { pairs } => NamedRejection::PairCount { pairs },
+        Rejected::NotEmpty { node } => NamedRejection::NotEmpty { node },
+        Rejected::NotOne { node } => NamedRejection::NotOne { node },
+        Rejected::Loops { node, pair } => NamedRejection::Loops { node, pair },
+        Rejected::FewBlocks { node } => NamedRejection::FewBlocks { node },
+        Rejected::NotPartition { node, pair } => NamedRejection::NotPartition { node, pair },
+        Rejected::BackEdge { node, a, b } => NamedRejection::BackEdge { node, a, b },
+        Rejected::BadArgs { node } => NamedRejection::BadArgs { node },
+        Rejected::BadDrop { node } => NamedRejection::BadDrop { node },
+        Rejected::NotDecreasing { node, pair } => NamedRejection::NotDecreasing { node, pair },
+        Rejected::BadSymbols { node } => NamedRejection::BadSymbols { node },
+        Rejected::BadLines { node } => NamedRejection::BadLines { node },
+        Rejected::BadMoveRule { node, rule, entry } => NamedRejection::BadMoveRule { node, rule, entry },
+        Rejected::OverSpentRule { node, rule, monomial } => NamedRejection::OverSpentRule { node, rule, monomial },
+        Rejected::NotCoveredRule { node, rule, monomial } => NamedRejection::NotCoveredRule { node, rule, monomial },
+        Rejected::BadMovePair { node, pair, entry } => NamedRejection::BadMovePair { node, pair, entry },
+        Rejected::OverSpentPair { node, pair, monomial } => NamedRejection::OverSpentPair { node, pair, monomial },
+        Rejected::NotCoveredPair { node, pair, monomial } => NamedRejection::NotCoveredPair { node, pair, monomial },
+        Rejected::NotStrict { node, pair } => NamedRejection::NotStrict { node, pair },
+        Rejected::NotATerm => NamedRejection::NotATerm,
+        Rejected::NoStep => NamedRejection::NoStep,
+        Rejected::StepFails { index } => NamedRejection::StepFails { index },
+        Rejected::TooBig { index } => NamedRejection::TooBig { index },
+        Rejected::BadPut { index } => NamedRejection::BadPut { index },
+        Rejected::NoInstance => NamedRejection::NoInstance,
+    };
+    Ok(named)
 }
 
-// One word.
-fn word(alloc: Global, word: &[u8]) -> Result<Bytes, AllocError>
-    ensures { IfOk result (λ words. words ≡ word.now) }
+// The name of a symbol.
+fn symbol_name(alloc: Global, system: &System, symbol: u32) -> Result<Name, AllocError>
+    requires { symbol < length (system_data system.now).fun_names }
+    ensures { IfOk result (λ name. name ≡ symbol_name (system_data system.now) symbol) }
 {
-    let mut words = Bytes::new(alloc)?;
-    words.append(word)?;
-    Ok(words)
+    Name::new(alloc, system.fun_names()[symbol as usize].bytes())
 }
 
-// A word and a number.
-fn numbered(alloc: Global, word: &[u8], number: u32) -> Result<Bytes, AllocError>
-    ensures { IfOk result (λ words. words ≡ numbered word.now number) }
-{
-    let mut words = Bytes::new(alloc)?;
-    words.append(word)?;
-    append_number(alloc, &mut words, number)?;
-    Ok(words)
-}
-
-// What is said of a node.
-fn of_node(alloc: Global, node: u32, what: &[u8]) -> Result<Bytes, AllocError>
-    ensures { IfOk result (λ words. words ≡ of_node node what.now) }
-{
-    let mut words = node_front(alloc, node)?;
-    words.append(what)?;
-    Ok(words)
-}
-
-// A word and a number, said of a node.
-fn numbered_of_node(alloc: Global, node: u32, what: &[u8], number: u32) -> Result<Bytes, AllocError>
-    ensures { IfOk result (λ words. words ≡ of_node node (numbered what.now number)) }
-{
-    let mut words = of_node(alloc, node, what)?;
-    append_number(alloc, &mut words, number)?;
-    Ok(words)
-}
-
-// A back edge between blocks of a node.
-fn edge_of_node(alloc: Global, node: u32, a: u32, b: u32) -> Result<Bytes, AllocError>
-    ensures { IfOk result (λ words. words ≡ of_node node (numbered (numbered (codes "back-edge") a) b)) }
-{
-    let mut words = numbered_of_node(alloc, node, b"back-edge", a)?;
-    append_number(alloc, &mut words, b)?;
-    Ok(words)
-}
-
-// A word and a name, said of a node.
-fn named_of_node(alloc: Global, node: u32, what: &[u8], name: &[u8]) -> Result<Bytes, AllocError>
-    ensures { IfOk result (λ words. words ≡ of_node node (named what.now name.now)) }
-{
-    let mut words = of_node(alloc, node, what)?;
-    words.append(b" ")?;
-    words.append(name)?;
-    Ok(words)
-}
-
-// A rule and the name of one of its meta-variables.
-fn inaccessible(alloc: Global, system: &System, rule: u32, meta: u32) -> Result<Bytes, AllocError>
-    ensures { IfOk result (λ words. words ≡ named (numbered (codes "inaccessible") rule) (meta_name (system_data system.now) rule meta)) }
-{
-    let mut words = numbered(alloc, b"inaccessible", rule)?;
-    words.append(b" ")?;
-    words.append(meta_name(system, rule, meta))?;
-    Ok(words)
-}
-
-// `node K ` for a node.
-fn node_front(alloc: Global, node: u32) -> Result<Bytes, AllocError>
-    ensures { IfOk result (λ words. words ≡ of_node node []) }
-{
-    let mut words = Bytes::new(alloc)?;
-    words.append(b"node")?;
-    append_number(alloc, &mut words, node)?;
-    words.append(b" ")?;
-    Ok(words)
-}
-
-// A space and a number behind what is there.
-fn append_number(alloc: Global, words: &mut Bytes, number: u32) -> Result<(), AllocError>
-    ensures { OnOk result (words.new ≡ numbered words.old number) }
-{
-    let digits = format!(in alloc; " {number}")?;
-    words.append(digits.as_bytes())
-}
-
-// The name of a symbol; empty where there is none.
-fn symbol_name(system: &System, symbol: u32) -> &[u8]
-    ensures { result.now ≡ symbol_name (system_data system.now) symbol }
-{
-    name_in(system.fun_names(), symbol)
-}
-
-// The name of a meta-variable of a rule; empty where there is none.
-fn meta_name(system: &System, rule: u32, meta: u32) -> &[u8]
-    ensures { result.now ≡ meta_name (system_data system.now) rule meta }
+// The name of a meta-variable of a rule.
+fn meta_name(alloc: Global, system: &System, rule: u32, meta: u32) -> Result<Name, AllocError>
+    requires { HasMeta (system_data system.now) rule meta }
+    ensures { IfOk result (λ name. name ≡ meta_name (system_data system.now) rule meta) }
 {
     system.is_well_made();
-    if (rule as usize) < system.rules().len() {
-        name_in(system.meta_names(rule), meta)
-    } else {
-        &[]
-    }
-}
-
-// The name with that number; empty where there is none.
-fn name_in(names: &[Name], number: u32) -> &[u8]
-    ensures { result.now ≡ get_or names.now number [] }
-{
-    match names.get(number as usize) {
-        Some(name) => name.bytes(),
-        None => &[],
-    }
+    Name::new(alloc, system.meta_names(rule)[meta as usize].bytes())
 }

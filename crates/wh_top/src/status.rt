@@ -2,6 +2,9 @@
 
 ghost use Rattle.std.specs.Prelude.{◌≡◌};
 ghost use Rattle.wh_top.specs.Status.{number_of_status};
+ghost use Rattle.wh_top.specs.Texts.{status_of};
+
+use wh_answer::Report;
 
 /// How a run ended; `number` is the program's exit status.
 #[derive(Clone, Copy)]
@@ -22,14 +25,12 @@ pub enum Status {
     NoMemory,
     /// 7: a file is longer than its limit.
     TooLong,
-    /// 8: a number or a polynomial passed a limit.
+    /// 8: a value passed a limit in the evaluation of a side.
     TooBig,
-    /// 9: a form of input that is not built yet.
-    Later,
 }
 
 impl Status {
-    /// The exit status, 0 to 9.
+    /// The exit status, 0 to 8.
     pub fn number(self) -> u8
         ensures { result ≡ number_of_status self }
     {
@@ -43,7 +44,22 @@ impl Status {
             Status::NoMemory => 6,
             Status::TooLong => 7,
             Status::TooBig => 8,
-            Status::Later => 9,
         }
+    }
+}
+
+/// The status that a run with this answer ends with.
+pub fn status_of(report: &Report) -> Status
+    ensures { result ≡ status_of report.now }
+{
+    match report {
+        Report::Yes | Report::No | Report::Maybe(_) => Status::Answered,
+        Report::Rejected(_) => Status::Rejected,
+        Report::Refused(_, _) => Status::Refused,
+        Report::BadWords => Status::BadWords,
+        Report::ReadFault(_) => Status::ReadFault,
+        Report::OutOfMemory => Status::NoMemory,
+        Report::TooLong(_) => Status::TooLong,
+        Report::Overflow(_) | Report::TooLarge(_) => Status::TooBig,
     }
 }

@@ -1,0 +1,352 @@
+//! Rows of nodes of interpretations: what they accept, each reason for a rejection, which comes first, and the limits on values.
+
+use crate::run_rows::told;
+use crate::samples::{IDENTITY, MAP};
+use std::alloc::{AllocError, Global};
+use std::test::Fail;
+use wh_top::Status;
+use wh_types::Bytes;
+
+/// A certificate for `IDENTITY`: the call of `t` gets smaller by an interpretation.
+const IDENTITY_CERTIFICATE: &str =
+    "YES 1\nranks 0\npairs 2\nblocks 2\nblock 0\nblock 1\npoly\nfun s 1+1*y0\nfun i 1*y0\nfun t 0\nmark t 1*y0\nrule 0>0:1\nrule\npair 1>0:1\ndrop 0\ndone\nalone\nend\n";
+
+/// A certificate for `MAP` by an interpretation of its function.
+const MAP_CERTIFICATE: &str =
+    "YES 1\nranks 0 0\npairs 1\npoly\nfun zero 0\nfun s 1*y0\nfun nil 0\nfun cons 1+1*y0+1*y1\nfun map 1*y0(1*y1)*y1+1*y1\nmark map 1*y1\nrule\nrule 0>0:1 1>1:1 3>2:1 5>3:1\npair 2>0:1\ndrop 0\ndone\nend\n";
+
+/// Lines of `IDENTITY_CERTIFICATE`, what stands in their place, and what a check writes.
+const IDENTITY_CHANGES: &[(&str, &str, &[u8])] = &[
+    ("end", "end", b"YES\n"),
+    (
+        "fun i 1*y0",
+        "fun i 2*y0",
+        b"REJECTED node 1 not-covered pair 0 0\n",
+    ),
+    (
+        "pair 1>0:1",
+        "pair 1>0:1 1>0:1",
+        b"REJECTED node 1 over-spent pair 0 1\n",
+    ),
+    (
+        "fun s 1+1*y0\nfun i 1*y0\nfun t 0\nmark t 1*y0\nrule 0>0:1\nrule\npair 1>0:1",
+        "fun s 1*y0\nfun i 1*y0\nfun t 0\nmark t 1*y0\nrule 0>0:1\nrule\npair 0>0:1",
+        b"REJECTED node 1 not-strict pair 0\n",
+    ),
+    // The constant is spent.
+    (
+        "fun i 1*y0\nfun t 0\nmark t 1*y0\nrule 0>0:1\nrule\npair 1>0:1",
+        "fun i 1+1*y0\nfun t 0\nmark t 1*y0\nrule 1>0:1\nrule\npair 0>0:1 1>1:1",
+        b"REJECTED node 1 not-strict pair 0\n",
+    ),
+    // The lines `fun` and `mark`.
+    ("mark t 1*y0", "mark i 0", b"REJECTED node 1 bad-symbols\n"),
+    ("mark t 1*y0\n", "", b"REJECTED node 1 bad-symbols\n"),
+    ("fun i 1*y0\n", "", b"REJECTED node 1 bad-symbols\n"),
+    (
+        "fun s 1+1*y0\nfun i 1*y0",
+        "fun i 1*y0\nfun s 1+1*y0",
+        b"REJECTED node 1 bad-symbols\n",
+    ),
+    (
+        "fun t 0\n",
+        "fun t 0\nfun t 0\n",
+        b"REJECTED node 1 bad-symbols\n",
+    ),
+    // Polynomials that are not normal: a constant behind, a variable that is not there, equal monomials, arguments of a number.
+    (
+        "fun s 1+1*y0",
+        "fun s 1*y0+1",
+        b"REJECTED node 1 bad-polynomial s\n",
+    ),
+    (
+        "fun i 1*y0",
+        "fun i 1*y1",
+        b"REJECTED node 1 bad-polynomial i\n",
+    ),
+    (
+        "fun i 1*y0",
+        "fun i 1*y0+1*y0",
+        b"REJECTED node 1 bad-polynomial i\n",
+    ),
+    (
+        "fun i 1*y0",
+        "fun i 1*y0(1)",
+        b"REJECTED node 1 bad-polynomial i\n",
+    ),
+    (
+        "mark t 1*y0",
+        "mark t 1*y1",
+        b"REJECTED node 1 bad-polynomial t#\n",
+    ),
+    // The numbers of lines, and the list of dropped pairs.
+    (
+        "rule 0>0:1\nrule\n",
+        "rule 0>0:1\n",
+        b"REJECTED node 1 bad-lines\n",
+    ),
+    (
+        "pair 1>0:1\n",
+        "pair 1>0:1\npair\n",
+        b"REJECTED node 1 bad-lines\n",
+    ),
+    ("drop 0", "drop 0 0", b"REJECTED node 1 bad-drop\n"),
+    ("drop 0", "drop 1", b"REJECTED node 1 bad-drop\n"),
+    ("drop 0", "drop", b"REJECTED node 1 bad-drop\n"),
+    // The moves for a rule and for a pair.
+    (
+        "rule 0>0:1\nrule",
+        "rule 0>1:1\nrule",
+        b"REJECTED node 1 bad-move rule 0 0\n",
+    ),
+    (
+        "rule 0>0:1\nrule",
+        "rule 0>0:1 1>0:1\nrule",
+        b"REJECTED node 1 bad-move rule 0 1\n",
+    ),
+    (
+        "rule 0>0:1\nrule",
+        "rule 0>0:2\nrule",
+        b"REJECTED node 1 over-spent rule 0 0\n",
+    ),
+    (
+        "rule 0>0:1\nrule",
+        "rule\nrule",
+        b"REJECTED node 1 not-covered rule 0 0\n",
+    ),
+    (
+        "pair 1>0:1",
+        "pair 0>0:1",
+        b"REJECTED node 1 bad-move pair 0 0\n",
+    ),
+    // Of two conditions that are false the first one.
+    (
+        "fun i 1*y0\nfun t 0\nmark t 1*y0\nrule 0>0:1\nrule",
+        "fun i 1*y1\nfun t 0\nmark t 1*y1\nrule",
+        b"REJECTED node 1 bad-polynomial i\n",
+    ),
+    (
+        "rule\npair 1>0:1\ndrop 0",
+        "pair 1>0:1\ndrop 7",
+        b"REJECTED node 1 bad-lines\n",
+    ),
+    (
+        "rule 0>0:1\nrule\npair 1>0:1\ndrop 0",
+        "rule\nrule\npair 1>0:1\ndrop 7",
+        b"REJECTED node 1 bad-drop\n",
+    ),
+    (
+        "rule 0>0:1\nrule\npair 1>0:1",
+        "rule\nrule\npair",
+        b"REJECTED node 1 not-covered rule 0 0\n",
+    ),
+    // Coefficients: 2^127 times itself, 2^128 - 1, and one more.
+    (
+        "fun s 1+1*y0\nfun i 1*y0\nfun t 0\nmark t 1*y0",
+        "fun s 170141183460469231731687303715884105728*y0\nfun i 1*y0\nfun t 0\nmark t 1*y0*y0",
+        b"OVERFLOW 1\n",
+    ),
+    (
+        "fun s 1+1*y0",
+        "fun s 340282366920938463463374607431768211455+1*y0",
+        b"YES\n",
+    ),
+    (
+        "fun s 1+1*y0\nfun i 1*y0\nfun t 0\nmark t 1*y0",
+        "fun s 340282366920938463463374607431768211455+1*y0\nfun i 1*y0\nfun t 0\nmark t 1+1*y0",
+        b"OVERFLOW 1\n",
+    ),
+    // A rule that is not covered comes before a pair whose value exceeds.
+    (
+        "fun s 1+1*y0\nfun i 1*y0\nfun t 0\nmark t 1*y0\nrule 0>0:1",
+        "fun s 170141183460469231731687303715884105728*y0\nfun i 1*y0\nfun t 0\nmark t 1*y0*y0\nrule",
+        b"REJECTED node 1 not-covered rule 0 0\n",
+    ),
+];
+
+/// The same of `MAP_CERTIFICATE`.
+const MAP_CHANGES: &[(&str, &str, &[u8])] = &[
+    ("end", "end", b"YES\n"),
+    (
+        "5>3:1",
+        "4>3:1",
+        b"REJECTED node 0 bad-move rule 1 3\n",
+    ),
+    (
+        "fun map 1*y0(1*y1)*y1+1*y1",
+        "fun map 1*y0*y1+1*y1",
+        b"REJECTED node 0 bad-polynomial map\n",
+    ),
+    (
+        "fun map 1*y0(1*y1)*y1+1*y1",
+        "fun map 1*y0(1*y2)*y1+1*y1",
+        b"REJECTED node 0 bad-polynomial map\n",
+    ),
+];
+
+/// A symbol that calls itself beside a function that is applied to functions.
+const TWICE: &[u8] =
+    b"sort nat;\nfun s : nat -> nat;\nfun h : (nat -> nat) -> nat;\nfun p : nat -> nat -> nat;\nfun g : nat -> nat;\nrule {X:nat} g (s X) => p (g X) (h (\\x:nat.s x));\n";
+
+/// Polynomials of the symbols `s`, `h` and `p` of `TWICE`, and what a check writes.
+const TWICE_ROWS: &[(&str, &str, &str, &[u8])] = &[
+    // h multiplies 2^127 with itself before the factor 0, and p throws the value away.
+    (
+        "170141183460469231731687303715884105728*y0",
+        "1*y0(1)*y0(1)*y0(1*y0(0))",
+        "1*y0",
+        b"OVERFLOW 0\n",
+    ),
+    // Behind the factor 0 nothing exceeds: 0 times 2^127 times 2^127.
+    (
+        "170141183460469231731687303715884105728*y0",
+        "1*y0(0)*y0(1)*y0(1)",
+        "1*y0",
+        b"REJECTED node 0 not-covered pair 0 0\n",
+    ),
+];
+
+/// Checks the certificate with the one text in the place of the other, and gives how the run ends and what is written.
+fn checks_changed(
+    alloc: Global,
+    system: &[u8],
+    certificate: &str,
+    change: (&str, &str),
+    text: &[u8],
+) -> Result<bool, AllocError> {
+    let Some((front, back)) = certificate.split_once(change.0) else {
+        return Ok(false);
+    };
+    let to = change.1;
+    let changed = format!(in alloc; "{front}{to}{back}")?;
+    writes(alloc, system, changed.as_bytes(), text)
+}
+
+/// Whether a check of the certificate writes the text.
+fn writes(
+    alloc: Global,
+    system: &[u8],
+    certificate: &[u8],
+    text: &[u8],
+) -> Result<bool, AllocError> {
+    let (_, out) = told(
+        alloc,
+        &["check", "system", "certificate"],
+        system,
+        certificate,
+    )?;
+    Ok(out.bytes() == text)
+}
+
+#[test]
+fn judges_interpretations(rt: HostRuntime) -> Result<(), Fail> {
+    for (system, certificate, changes) in [
+        (IDENTITY, IDENTITY_CERTIFICATE, IDENTITY_CHANGES),
+        (MAP, MAP_CERTIFICATE, MAP_CHANGES),
+    ] {
+        for (from, to, text) in changes {
+            assert!(rt; checks_changed(rt.alloc(), system, certificate, (*from, *to), *text)?);
+        }
+    }
+    Ok(())
+}
+
+#[test]
+fn ends_by_its_limits(rt: HostRuntime) -> Result<(), Fail> {
+    let alloc = rt.alloc();
+    for (s, h, p, text) in TWICE_ROWS {
+        let (s, h, p) = (*s, *h, *p);
+        let certificate = format!(
+            in alloc;
+            "YES 1\nranks 0\npairs 1\npoly\nfun s {s}\nfun h {h}\nfun p {p}\nfun g 0\nmark g 1*y0\nrule\npair\ndrop 0\ndone\nend\n"
+        )?;
+        assert!(rt; writes(alloc, TWICE, certificate.as_bytes(), *text)?);
+    }
+    let (ended, _) = told(
+        alloc,
+        &["check", "system", "certificate"],
+        IDENTITY,
+        b"YES 1\nranks 0\npairs 2\nblocks 2\nblock 0\nblock 1\npoly\nfun s 170141183460469231731687303715884105728*y0\nfun i 1*y0\nfun t 0\nmark t 1*y0*y0\nrule 0>0:1\nrule\npair 1>0:1\ndrop 0\ndone\nalone\nend\n",
+    )?;
+    assert!(rt; ended == Status::TooBig);
+    Ok(())
+}
+
+#[test]
+fn every_front_of_a_node_is_no_certificate(rt: HostRuntime) -> Result<(), Fail> {
+    let alloc = rt.alloc();
+    for certificate in [IDENTITY_CERTIFICATE, MAP_CERTIFICATE] {
+        let bytes = certificate.as_bytes();
+        for at in 0..bytes.len() {
+            let line = format!(in alloc; "REJECTED syntax {at}\n")?;
+            assert!(rt; writes(alloc, MAP, &bytes[..at], line.as_bytes())?);
+        }
+    }
+    Ok(())
+}
+
+/// A front, a piece so many times, and an end.
+fn repeated(
+    alloc: Global,
+    front: &[u8],
+    piece: &[u8],
+    times: u32,
+    end: &[u8],
+) -> Result<Bytes, AllocError> {
+    let mut text = Bytes::new(alloc)?;
+    text.append(front)?;
+    for _ in 0..times {
+        text.append(piece)?;
+    }
+    text.append(end)?;
+    Ok(text)
+}
+
+/// The text with another behind it.
+fn followed(alloc: Global, text: &Bytes, more: &Bytes) -> Result<Bytes, AllocError> {
+    repeated(alloc, text.as_slice(), more.as_slice(), 1, b"")
+}
+
+#[test]
+fn stops_at_heavy_values(rt: HostRuntime) -> Result<(), Fail> {
+    let alloc = rt.alloc();
+    // Three hundred factors of three hundred factors each.
+    let front = b"YES 1\nranks 0\npairs 2\nblocks 2\nblock 0\nblock 1\npoly\nfun s 1".as_slice();
+    let s = repeated(alloc, front, b"*y0", 300, b"\nfun i 1*y0\nfun t 0\nmark t 1")?;
+    let end = b"\nrule 0>0:1\nrule\npair 1>0:1\ndrop 0\ndone\nalone\nend\n".as_slice();
+    let mark = repeated(alloc, b"", b"*y0", 300, end)?;
+    let heavy = followed(alloc, &s, &mark)?;
+    assert!(rt; writes(alloc, IDENTITY, heavy.as_slice(), b"TOO LARGE 1\n")?);
+    // A weight of 65,536, and one of 65,537.
+    let end = b"\nfun i 1*y0\nfun t 0\nmark t 1*y0\nrule 0>0:1\nrule\npair 1>0:1\ndrop 0\ndone\nalone\nend\n".as_slice();
+    let most = repeated(alloc, front, b"*y0", 65_535, end)?;
+    assert!(rt; writes(alloc, IDENTITY, most.as_slice(), b"REJECTED node 1 bad-move pair 0 0\n")?);
+    let more = repeated(alloc, front, b"*y0", 65_536, end)?;
+    assert!(rt; writes(alloc, IDENTITY, more.as_slice(), b"TOO LARGE 1\n")?);
+    // A heavy polynomial of a symbol that stands in no side.
+    let front = b"YES 1\nranks 0 0\npairs 1\npoly\nfun zero 0\nfun s 1".as_slice();
+    let end = b"\nfun nil 0\nfun cons 1+1*y0+1*y1\nfun map 1*y0(1*y1)*y1+1*y1\nmark map 1*y1\nrule\nrule 0>0:1 1>1:1 3>2:1 5>3:1\npair 2>0:1\ndrop 0\ndone\nend\n".as_slice();
+    let unused = repeated(alloc, front, b"*y0", 70_000, end)?;
+    assert!(rt; writes(alloc, MAP, unused.as_slice(), b"YES\n")?);
+    Ok(())
+}
+
+/// A system whose right side applies a function so often to the result of an iteration of four times a hundred.
+fn nested_system(alloc: Global, outer: u32) -> Result<Bytes, AllocError> {
+    let head = b"sort nat;\nfun s : nat -> nat;\nfun h : (nat -> nat) -> nat -> nat;\nfun q : (nat -> nat) -> nat -> nat;\nrule {F:[nat] nat, X:nat} q (\\x:nat.F[x]) (s X) => q (\\x:nat.F[x]) (".as_slice();
+    let opened = repeated(alloc, head, b"F[", outer, b"h (\\x:nat.")?;
+    let inner = repeated(alloc, opened.as_slice(), b"F[", 100, b"x")?;
+    let closed = repeated(alloc, inner.as_slice(), b"]", 100, b") X")?;
+    repeated(alloc, closed.as_slice(), b"]", outer, b");\n")
+}
+
+#[test]
+fn stops_at_deep_values(rt: HostRuntime) -> Result<(), Fail> {
+    let alloc = rt.alloc();
+    let certificate = b"YES 1\nranks 0\npairs 1\npoly\nfun s 1*y0\nfun h 1*y0(1*y0(1*y0(1*y0(1*y1))))\nfun q 1*y1\nmark q 0\nrule\npair\ndrop 0\ndone\nend\n".as_slice();
+    let most = nested_system(alloc, 0)?;
+    assert!(rt; writes(alloc, most.as_slice(), certificate, b"REJECTED node 0 not-covered rule 0 0\n")?);
+    let more = nested_system(alloc, 1)?;
+    assert!(rt; writes(alloc, more.as_slice(), certificate, b"TOO LARGE 0\n")?);
+    Ok(())
+}
