@@ -167,11 +167,7 @@ const IDENTITY_CHANGES: &[(&str, &str, &[u8])] = &[
 /// The same of `MAP_CERTIFICATE`.
 const MAP_CHANGES: &[(&str, &str, &[u8])] = &[
     ("end", "end", b"YES\n"),
-    (
-        "5>3:1",
-        "4>3:1",
-        b"REJECTED node 0 bad-move rule 1 3\n",
-    ),
+    ("5>3:1", "4>3:1", b"REJECTED node 0 bad-move rule 1 3\n"),
     (
         "fun map 1*y0(1*y1)*y1+1*y1",
         "fun map 1*y0*y1+1*y1",
@@ -256,8 +252,7 @@ fn ends_by_its_limits(rt: HostRuntime) -> Result<(), Fail> {
     let alloc = rt.alloc();
     for (s, h, p, text) in TWICE_ROWS {
         let (s, h, p) = (*s, *h, *p);
-        let certificate = format!(
-            in alloc;
+        let certificate = format!(in alloc;
             "YES 1\nranks 0\npairs 1\npoly\nfun s {s}\nfun h {h}\nfun p {p}\nfun g 0\nmark g 1*y0\nrule\npair\ndrop 0\ndone\nend\n"
         )?;
         assert!(rt; writes(alloc, TWICE, certificate.as_bytes(), *text)?);
@@ -312,20 +307,35 @@ fn stops_at_heavy_values(rt: HostRuntime) -> Result<(), Fail> {
     let alloc = rt.alloc();
     // Three hundred factors of three hundred factors each.
     let front = b"YES 1\nranks 0\npairs 2\nblocks 2\nblock 0\nblock 1\npoly\nfun s 1".as_slice();
-    let s = repeated(alloc, front, b"*y0", 300, b"\nfun i 1*y0\nfun t 0\nmark t 1")?;
+    let s = repeated(
+        alloc,
+        front,
+        b"*y0",
+        300,
+        b"\nfun i 1*y0\nfun t 0\nmark t 1",
+    )?;
     let end = b"\nrule 0>0:1\nrule\npair 1>0:1\ndrop 0\ndone\nalone\nend\n".as_slice();
     let mark = repeated(alloc, b"", b"*y0", 300, end)?;
     let heavy = followed(alloc, &s, &mark)?;
     assert!(rt; writes(alloc, IDENTITY, heavy.as_slice(), b"TOO LARGE 1\n")?);
     // A weight of 65,536, and one of 65,537.
-    let end = b"\nfun i 1*y0\nfun t 0\nmark t 1*y0\nrule 0>0:1\nrule\npair 1>0:1\ndrop 0\ndone\nalone\nend\n".as_slice();
+    let end =
+        b"\nfun i 1*y0\nfun t 0\nmark t 1*y0\nrule 0>0:1\nrule\npair 1>0:1\ndrop 0\ndone\nalone\nend\n".as_slice();
     let most = repeated(alloc, front, b"*y0", 65_535, end)?;
-    assert!(rt; writes(alloc, IDENTITY, most.as_slice(), b"REJECTED node 1 bad-move pair 0 0\n")?);
+    assert!(rt;
+        writes(
+            alloc,
+            IDENTITY,
+            most.as_slice(),
+            b"REJECTED node 1 bad-move pair 0 0\n"
+        )?
+    );
     let more = repeated(alloc, front, b"*y0", 65_536, end)?;
     assert!(rt; writes(alloc, IDENTITY, more.as_slice(), b"TOO LARGE 1\n")?);
     // A heavy polynomial of a symbol that stands in no side.
     let front = b"YES 1\nranks 0 0\npairs 1\npoly\nfun zero 0\nfun s 1".as_slice();
-    let end = b"\nfun nil 0\nfun cons 1+1*y0+1*y1\nfun map 1*y0(1*y1)*y1+1*y1\nmark map 1*y1\nrule\nrule 0>0:1 1>1:1 3>2:1 5>3:1\npair 2>0:1\ndrop 0\ndone\nend\n".as_slice();
+    let end =
+        b"\nfun nil 0\nfun cons 1+1*y0+1*y1\nfun map 1*y0(1*y1)*y1+1*y1\nmark map 1*y1\nrule\nrule 0>0:1 1>1:1 3>2:1 5>3:1\npair 2>0:1\ndrop 0\ndone\nend\n".as_slice();
     let unused = repeated(alloc, front, b"*y0", 70_000, end)?;
     assert!(rt; writes(alloc, MAP, unused.as_slice(), b"YES\n")?);
     Ok(())
@@ -333,7 +343,8 @@ fn stops_at_heavy_values(rt: HostRuntime) -> Result<(), Fail> {
 
 /// A system whose right side applies a function so often to the result of an iteration of four times a hundred.
 fn nested_system(alloc: Global, outer: u32) -> Result<Bytes, AllocError> {
-    let head = b"sort nat;\nfun s : nat -> nat;\nfun h : (nat -> nat) -> nat -> nat;\nfun q : (nat -> nat) -> nat -> nat;\nrule {F:[nat] nat, X:nat} q (\\x:nat.F[x]) (s X) => q (\\x:nat.F[x]) (".as_slice();
+    let head =
+        b"sort nat;\nfun s : nat -> nat;\nfun h : (nat -> nat) -> nat -> nat;\nfun q : (nat -> nat) -> nat -> nat;\nrule {F:[nat] nat, X:nat} q (\\x:nat.F[x]) (s X) => q (\\x:nat.F[x]) (".as_slice();
     let opened = repeated(alloc, head, b"F[", outer, b"h (\\x:nat.")?;
     let inner = repeated(alloc, opened.as_slice(), b"F[", 100, b"x")?;
     let closed = repeated(alloc, inner.as_slice(), b"]", 100, b") X")?;
@@ -343,9 +354,17 @@ fn nested_system(alloc: Global, outer: u32) -> Result<Bytes, AllocError> {
 #[test]
 fn stops_at_deep_values(rt: HostRuntime) -> Result<(), Fail> {
     let alloc = rt.alloc();
-    let certificate = b"YES 1\nranks 0\npairs 1\npoly\nfun s 1*y0\nfun h 1*y0(1*y0(1*y0(1*y0(1*y1))))\nfun q 1*y1\nmark q 0\nrule\npair\ndrop 0\ndone\nend\n".as_slice();
+    let certificate =
+        b"YES 1\nranks 0\npairs 1\npoly\nfun s 1*y0\nfun h 1*y0(1*y0(1*y0(1*y0(1*y1))))\nfun q 1*y1\nmark q 0\nrule\npair\ndrop 0\ndone\nend\n".as_slice();
     let most = nested_system(alloc, 0)?;
-    assert!(rt; writes(alloc, most.as_slice(), certificate, b"REJECTED node 0 not-covered rule 0 0\n")?);
+    assert!(rt;
+        writes(
+            alloc,
+            most.as_slice(),
+            certificate,
+            b"REJECTED node 0 not-covered rule 0 0\n"
+        )?
+    );
     let more = nested_system(alloc, 1)?;
     assert!(rt; writes(alloc, more.as_slice(), certificate, b"TOO LARGE 0\n")?);
     Ok(())
