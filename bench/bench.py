@@ -153,6 +153,58 @@ def wide_leaf(steps):
     return system, "\n".join(lines) + "\n"
 
 
+IDENTITY = "\n".join(["sort nat;", "fun s : nat -> nat;", "fun i : nat -> nat;", "fun t : nat -> nat;",
+                      "rule {X:nat} i X => X;", "rule {X:nat} t (s X) => t (i X);"]) + "\n"
+
+
+def identity_node(s, i, t, mark, rules, pair):
+    """A certificate for IDENTITY with one node of interpretations."""
+    return "\n".join(["YES 1", "ranks 0", "pairs 2", "blocks 2", "block 0", "block 1", "poly", f"fun s {s}", f"fun i {i}", f"fun t {t}",
+                      f"mark t {mark}", *rules, pair, "drop 0", "done", "alone", "end"]) + "\n"
+
+
+def many_monomials(count):
+    """A sum of powers of about that weight, put for a variable and compared with itself."""
+    powers = 1
+    while (powers + 1) * (powers + 4) // 2 <= count:
+        powers += 1
+    value = "+".join("1" + "*y0" * k for k in range(1, powers + 1))
+    moves = " ".join(f"{k + 1}>{k}:1" for k in range(powers))
+    return IDENTITY, identity_node(f"1+{value}", value, "0", "1*y0", ["rule 0>0:1", "rule"], f"pair {moves}")
+
+
+def many_factors(count):
+    """One monomial with that many factors, evaluated."""
+    return IDENTITY, identity_node("1" + "*y0" * count, "1*y0", "0", "1*y0", ["rule 0>0:1", "rule"], "pair 1>0:1")
+
+
+def heavy_product(count):
+    """A product of factors of many factors each, which stops at the limit."""
+    return IDENTITY, identity_node("1" + "*y0" * count, "1*y0", "0", "1" + "*y0" * count, ["rule 0>0:1", "rule"], "pair 1>0:1")
+
+
+def many_moves(count):
+    """A list of moves for one pair, which take all of a great coefficient, and one that is no move at its end."""
+    moves = " ".join(["1>0:1"] * (count - 1) + ["0>0:1"])
+    return IDENTITY, identity_node(f"1+{count}*y0", "1*y0", "0", "1*y0", ["rule 0>0:1", "rule"], f"pair {moves}")
+
+
+def rule_chain(count):
+    """A chain of rules, all covered in each node; one node of interpretations drops the one pair that may follow itself."""
+    names = [f"f{k}" for k in range(count)]
+    lines = ["sort nat;", "fun s : nat -> nat;", *[f"fun {name} : nat -> nat;" for name in names]]
+    lines.append("rule {X:nat} f0 (s X) => f0 X;")
+    for k in range(1, count):
+        lines.append(f"rule {{X:nat}} f{k} (s X) => f{k - 1} (f{k} X);")
+    pairs = 2 * count - 1
+    marks = [f"mark {name} 1*y0" for name in names]
+    funs = ["fun s 1+1*y0", *[f"fun {name} 1*y0" for name in names]]
+    # pair 0 is that of f0; then for each k a call of f(k - 1) and one of f(k)
+    certificate = ["YES 1", "ranks 0", f"pairs {pairs}", "poly", *funs, *marks, *["rule 1>0:1"] * count, *["pair 1>0:1"] * pairs,
+                   "drop " + " ".join(str(k) for k in range(pairs)), "done", "end"]
+    return "\n".join(lines) + "\n", "\n".join(certificate) + "\n"
+
+
 def make_apart(folder, maker, count):
     """Writes the inputs in a process of its own, so that this one stays small, and gives the file that counts: a program's
     greatest memory is never seen below that of the process that starts it."""
@@ -227,6 +279,15 @@ def main():
         cases.append(("check drop list", f"{numbers} numbers", long_drop, numbers))
     for numbers in (500000, 1000000, 2000000):
         cases.append(("check blocks", f"{numbers} numbers", long_blocks, numbers))
+    for count in (15000, 30000, 60000):
+        cases.append(("poly factors", f"{count} factors", many_factors, count))
+    for count in (15000, 30000, 60000):
+        cases.append(("poly monomials", f"weight {count}", many_monomials, count))
+    cases.append(("poly product", "300 x 300", heavy_product, 300))
+    for count in (250000, 500000, 1000000):
+        cases.append(("poly moves", f"{count} moves", many_moves, count))
+    for count in (25, 50, 100):
+        cases.append(("poly rules", f"{count} rules", rule_chain, count))
     for symbols in (125, 250, 500, 1000):
         cases.append(("show chain", f"{symbols} pairs", chain, symbols))
     for symbols in (125, 250, 500, 1000):
