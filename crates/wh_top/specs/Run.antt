@@ -17,9 +17,10 @@ use Rattle.wh_top.specs.declared.status.Status.TheVariants.{Answered, BadWords, 
 use Rattle.wh_answer.specs.declared.report.Report.{Report}
 use Rattle.wh_answer.specs.declared.report.Report.TheVariants as answer
 use Rattle.wh_answer.specs.Texts.{line, report_text}
-use Rattle.wh_top.specs.Words.{Request, check, show, Asks}
+use Rattle.wh_top.specs.Words.{Request, check, prove, show, Asks}
 use Rattle.wh_top.specs.Texts.{status_of, shown_text}
 use Rattle.wh_top.specs.Outcomes.{Shelves, BeginsWith, ToldSystem, StandsBySystem, Stands}
+use Rattle.wh_top.specs.Proving.{ShowsProof, StandsForSearch}
 
 -- P holds of an answer, and status and text are its own
 pub record Tells (P : Report → Type 0) (status : Status) (text : List ℕ) : Type 0 where
@@ -34,9 +35,11 @@ pub record Shows (s : Shelves) (file : List ℕ) (status : Status) (text : List 
   pub begins : BeginsWith (line (codes "SYSTEM")) text
   pub status_is : status ≡ Answered
 
--- the reply to a request: of a check its answer; for a system to be shown its text, or why there is none
+-- the reply to a request: of a check its answer; of a search a proof, or why there is none; for a system to be shown its text, or why
+-- there is none
 abbrev pub Replies : Shelves → Request → Status → List ℕ → Type 0
 Replies s (check file cert) status text = Tells (Stands s file cert) status text
+Replies s (prove file tries) status text = ShowsProof s file status text ⊎ Tells (StandsForSearch s file tries) status text
 Replies s (show file) status text = Shows s file status text ⊎ Tells (StandsBySystem s file) status text
 
 -- the words ask for something, and this is the reply

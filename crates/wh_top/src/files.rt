@@ -25,7 +25,7 @@ use wh_types::{Bytes, Or};
 const SYSTEM_LIMIT: u64 = 1_048_576;
 
 /// How many bytes a certificate file may have.
-const CERTIFICATE_LIMIT: u64 = 8_388_608;
+pub const CERTIFICATE_LIMIT: u64 = 8_388_608;
 
 /// A system and its dependency pairs.
 #[derive(Drop)]

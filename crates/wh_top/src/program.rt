@@ -7,9 +7,10 @@ ghost use Rattle.wh_answer.specs.declared.report.Report.TheVariants.{OutOfMemory
 ghost use Rattle.wh_top.specs.Outcomes.{BeginsWith, Told, outside};
 ghost use Rattle.wh_top.specs.Run.{Answers, Ends, MeansNo, MeansYes, Replies};
 ghost use Rattle.wh_top.specs.Texts.{status_of};
-ghost use Rattle.wh_top.specs.Words.{Asks, check};
+ghost use Rattle.wh_top.specs.Words.{Asks, AsksWhether, check};
 
 use crate::judging::{check_files, show_file};
+use crate::proving::prove_file;
 use crate::status::{Status, status_of};
 use crate::words::{Command, read_words};
 use std::alloc::{AllocError, Global};
@@ -24,7 +25,7 @@ use wh_types::{Bytes, Or};
 /// `non_termination` say what an output means that begins with `YES` or with `NO`.
 pub fn run<S: Shelf, K: Sink>(alloc: Global, words: &[String], shelf: &mut S, out: &mut K) -> Status
     ensures answer { (status : Status) × (text : List ℕ) × Answers (outside (S.held shelf.old) (S.faults shelf.old) (S.faults shelf.new)) (map string_bytes words.now) status text × Ends (K.written out.old) (K.written out.new) (K.faults out.old) (K.faults out.new) status text result }
-    ensures termination { (before output : List ℕ) → K.written out.old ≡ Some before → K.written out.new ≡ Some (before ++ output) → BeginsWith (codes "YES") output → (file cert : List ℕ) × Asks (map string_bytes words.now) (check file cert) × Told (S.held shelf.old file) MeansYes }
+    ensures termination { (before output : List ℕ) → K.written out.old ≡ Some before → K.written out.new ≡ Some (before ++ output) → BeginsWith (codes "YES") output → (file : List ℕ) × AsksWhether (map string_bytes words.now) file × Told (S.held shelf.old file) MeansYes }
     ensures non_termination { (before output : List ℕ) → K.written out.old ≡ Some before → K.written out.new ≡ Some (before ++ output) → BeginsWith (codes "NO") output → (file cert : List ℕ) × Asks (map string_bytes words.now) (check file cert) × Told (S.held shelf.old file) (λ system. Told (S.held shelf.old cert) (λ certificate. MeansNo system certificate)) }
     ensures kept { (other : List ℕ) → S.held shelf.new other ≡ S.held shelf.old other }
 {
@@ -59,6 +60,14 @@ fn reply_to<S: Shelf>(alloc: Global, shelf: &mut S, command: &Command) -> Result
     match command {
         Command::Check { file, cert } => match check_files(alloc, shelf, file, cert) {
             Ok(report) | Err(Or::Because(report)) => told(alloc, &report),
+            Err(Or::NoMemory) => Err(AllocError),
+        },
+        Command::Prove { file, tries } => match prove_file(alloc, shelf, file, *tries) {
+            Ok(text) => Ok(Reply {
+                status: Status::Answered,
+                text,
+            }),
+            Err(Or::Because(report)) => told(alloc, &report),
             Err(Or::NoMemory) => Err(AllocError),
         },
         Command::Show { file } => match show_file(alloc, shelf, file) {
