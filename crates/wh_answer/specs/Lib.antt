@@ -1,2 +1,4 @@
 pub mod Groups
 pub mod Texts
+pub mod Stands
+pub mod Words

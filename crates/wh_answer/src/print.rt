@@ -32,14 +32,14 @@ pub fn print_answer(alloc: Global, report: &Report) -> Result<Bytes, AllocError>
     ensures { IfOk result (λ text. text ≡ report_text report.now) }
 {
     match report {
-        Report::Yes => text(alloc, b"YES\n"),
-        Report::No => text(alloc, b"NO\n"),
+        Report::Yes => fixed(alloc, b"YES\n"),
+        Report::No => fixed(alloc, b"NO\n"),
         Report::Rejected(row) => named_line(alloc, b"REJECTED", row_words(alloc, row)?),
         Report::Maybe(cause) => named_line(alloc, b"MAYBE", cause_words(alloc, cause)?),
         Report::Refused(reason, at) => refused_line(alloc, *reason, *at),
-        Report::BadWords => text(alloc, bad_words_line()),
+        Report::BadWords => fixed(alloc, bad_words_line()),
         Report::ReadFault(role) => role_line(alloc, b"READ FAULT", *role),
-        Report::OutOfMemory => text(alloc, out_of_memory_line()),
+        Report::OutOfMemory => fixed(alloc, out_of_memory_line()),
         Report::TooLong(role) => role_line(alloc, b"TOO LONG", *role),
         Report::Overflow(node) => numbered_line(alloc, b"OVERFLOW", *node),
         Report::TooLarge(node) => numbered_line(alloc, b"TOO LARGE", *node),
@@ -47,7 +47,7 @@ pub fn print_answer(alloc: Global, report: &Report) -> Result<Bytes, AllocError>
 }
 
 // A text that is always the same.
-fn text(alloc: Global, front: &[u8]) -> Result<Bytes, AllocError>
+fn fixed(alloc: Global, front: &[u8]) -> Result<Bytes, AllocError>
     ensures { IfOk result (λ text. text ≡ front.now) }
 {
     let mut text = Bytes::new(alloc)?;
@@ -75,7 +75,7 @@ fn put_number(alloc: Global, text: &mut Bytes, number: u64) -> Result<(), AllocE
 fn named_line(alloc: Global, front: &[u8], words: Bytes) -> Result<Bytes, AllocError>
     ensures { IfOk result (λ text. text ≡ line (named front.now words)) }
 {
-    let mut line = text(alloc, front)?;
+    let mut line = fixed(alloc, front)?;
     put_word(&mut line, words.as_slice())?;
     line.push(b'\n')?;
     Ok(line)
@@ -113,7 +113,7 @@ fn refused_line(alloc: Global, reason: ReasonWord, at: u32) -> Result<Bytes, All
 fn numbered(alloc: Global, front: &[u8], number: u64) -> Result<Bytes, AllocError>
     ensures { IfOk result (λ text. text ≡ numbered front.now number) }
 {
-    let mut text = text(alloc, front)?;
+    let mut text = fixed(alloc, front)?;
     put_number(alloc, &mut text, number)?;
     Ok(text)
 }
@@ -122,7 +122,7 @@ fn numbered(alloc: Global, front: &[u8], number: u64) -> Result<Bytes, AllocErro
 fn named(alloc: Global, front: &[u8], word: &[u8]) -> Result<Bytes, AllocError>
     ensures { IfOk result (λ text. text ≡ named front.now word.now) }
 {
-    let mut text = text(alloc, front)?;
+    let mut text = fixed(alloc, front)?;
     put_word(&mut text, word)?;
     Ok(text)
 }
@@ -133,19 +133,19 @@ fn row_words(alloc: Global, row: &Row) -> Result<Bytes, AllocError>
 {
     match row {
         Row::Syntax { at } => numbered(alloc, b"syntax", *at),
-        Row::RankCount => text(alloc, b"rank-count"),
+        Row::RankCount => fixed(alloc, b"rank-count"),
         Row::Inaccessible { rule, meta } => {
             let mut text = numbered(alloc, b"inaccessible", u64::from(*rule))?;
             put_word(&mut text, meta.bytes())?;
             Ok(text)
         }
         Row::PairCount { pairs } => numbered(alloc, b"pair-count", u64::from(*pairs)),
-        Row::NotATerm => text(alloc, b"term"),
-        Row::NoStep => text(alloc, b"no-step"),
+        Row::NotATerm => fixed(alloc, b"term"),
+        Row::NoStep => fixed(alloc, b"no-step"),
         Row::StepFails { index } => numbered(alloc, b"step", u64::from(*index)),
         Row::TooBig { index } => numbered(alloc, b"too-big", u64::from(*index)),
         Row::BadPut { index } => numbered(alloc, b"put", u64::from(*index)),
-        Row::NoInstance => text(alloc, b"no-instance"),
+        Row::NoInstance => fixed(alloc, b"no-instance"),
         _ => node_words(alloc, row),
     }
 }
@@ -168,7 +168,11 @@ fn node_words(alloc: Global, row: &Row) -> Result<Bytes, AllocError>
         Row::BadDrop { node } => of_node(alloc, *node, b"bad-drop"),
         Row::NotDecreasing { node, pair } => node_number(alloc, *node, b"not-decreasing", *pair),
         Row::BadSymbols { node } => of_node(alloc, *node, b"bad-symbols"),
-        Row::BadPolynomial { node, symbol, marked } => bad_polynomial(alloc, *node, symbol, *marked),
+        Row::BadPolynomial {
+            node,
+            symbol,
+            marked,
+        } => bad_polynomial(alloc, *node, symbol, *marked),
         Row::BadLines { node } => of_node(alloc, *node, b"bad-lines"),
         Row::NotStrict { node, pair } => not_strict(alloc, *node, *pair),
         _ => line_words(alloc, row),
@@ -244,7 +248,12 @@ fn back_edge(alloc: Global, node: u32, a: u32, b: u32) -> Result<Bytes, AllocErr
 }
 
 // A symbol of a node whose interpretation is not normal.
-fn bad_polynomial(alloc: Global, node: u32, symbol: &Name, marked: bool) -> Result<Bytes, AllocError>
+fn bad_polynomial(
+    alloc: Global,
+    node: u32,
+    symbol: &Name,
+    marked: bool,
+) -> Result<Bytes, AllocError>
     ensures { IfOk result (λ text. text ≡ rejection_text (BadPolynomial node symbol.now marked)) }
 {
     let mut text = node_name(alloc, node, b"bad-polynomial", symbol)?;
@@ -310,7 +319,7 @@ fn cause_words(alloc: Global, cause: &NamedCause) -> Result<Bytes, AllocError>
 {
     match cause {
         NamedCause::Sorts(names) => {
-            let mut text = text(alloc, b"no-ranks sorts")?;
+            let mut text = fixed(alloc, b"no-ranks sorts")?;
             put_names(&mut text, names)?;
             Ok(text)
         }
@@ -320,7 +329,7 @@ fn cause_words(alloc: Global, cause: &NamedCause) -> Result<Bytes, AllocError>
             Ok(text)
         }
         NamedCause::Stuck(pairs) => {
-            let mut text = text(alloc, b"stuck")?;
+            let mut text = fixed(alloc, b"stuck")?;
             put_numbers(alloc, &mut text, pairs)?;
             Ok(text)
         }

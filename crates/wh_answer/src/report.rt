@@ -115,65 +115,142 @@ pub enum ReasonWord {
 #[derive(Drop)]
 pub enum NamedRejection {
     /// The bytes are no certificate text, and no such text begins with more of them than this.
-    Syntax { at: u64 },
+    Syntax {
+        at: u64,
+    },
     /// There is not one rank for each sort.
     RankCount,
     /// The system is not passing under the ranks: this meta-variable of this rule is not read on a way of accessible places.
-    Inaccessible { rule: u32, meta: Name },
+    Inaccessible {
+        rule: u32,
+        meta: Name,
+    },
     /// There are this many pairs, and the certificate states another number.
-    PairCount { pairs: u32 },
+    PairCount {
+        pairs: u32,
+    },
     /// The set of a node `done` has a pair.
-    NotEmpty { node: u32 },
+    NotEmpty {
+        node: u32,
+    },
     /// The set of a node `alone` has not one pair.
-    NotOne { node: u32 },
+    NotOne {
+        node: u32,
+    },
     /// The pair of a node `alone` may follow itself.
-    Loops { node: u32, pair: u32 },
+    Loops {
+        node: u32,
+        pair: u32,
+    },
     /// There are fewer than two blocks, or an empty one.
-    FewBlocks { node: u32 },
+    FewBlocks {
+        node: u32,
+    },
     /// The blocks do not have this pair just once, or have it and the set does not.
-    NotPartition { node: u32, pair: u32 },
+    NotPartition {
+        node: u32,
+        pair: u32,
+    },
     /// The pair `a` of a later block may be followed by the pair `b` of an earlier one.
-    BackEdge { node: u32, a: u32, b: u32 },
+    BackEdge {
+        node: u32,
+        a: u32,
+        b: u32,
+    },
     /// The lines `arg` are not for the marked symbols of the set, each once and in order.
-    BadArgs { node: u32 },
+    BadArgs {
+        node: u32,
+    },
     /// The rules of this symbol need no argument.
-    NoProjection { node: u32, symbol: Name },
+    NoProjection {
+        node: u32,
+        symbol: Name,
+    },
     /// The number chosen for this symbol is none of the arguments that its rules need.
-    BadArgument { node: u32, symbol: Name },
+    BadArgument {
+        node: u32,
+        symbol: Name,
+    },
     /// The list of dropped pairs is empty, has one twice, or one that is not of the set.
-    BadDrop { node: u32 },
+    BadDrop {
+        node: u32,
+    },
     /// This pair is neither equal nor below, or it is dropped and not below.
-    NotDecreasing { node: u32, pair: u32 },
+    NotDecreasing {
+        node: u32,
+        pair: u32,
+    },
     /// The lines `fun` are not for the symbols of the system in order, or the lines `mark` not for the marked symbols of the set.
-    BadSymbols { node: u32 },
+    BadSymbols {
+        node: u32,
+    },
     /// The interpretation of this symbol, as it stands or marked, is not normal in its scope.
-    BadPolynomial { node: u32, symbol: Name, marked: bool },
+    BadPolynomial {
+        node: u32,
+        symbol: Name,
+        marked: bool,
+    },
     /// There is not one line `rule` for each rule, or not one line `pair` for each pair of the set.
-    BadLines { node: u32 },
+    BadLines {
+        node: u32,
+    },
     /// This move of the rule's line is not good: a monomial is not there, or the left one is not of the right one's kind.
-    BadMoveRule { node: u32, rule: u32, entry: u32 },
+    BadMoveRule {
+        node: u32,
+        rule: u32,
+        entry: u32,
+    },
     /// The moves of the rule take more from this monomial of its left side than its coefficient.
-    OverSpentRule { node: u32, rule: u32, monomial: u32 },
+    OverSpentRule {
+        node: u32,
+        rule: u32,
+        monomial: u32,
+    },
     /// The moves of the rule bring less to this monomial of its right side than its coefficient.
-    NotCoveredRule { node: u32, rule: u32, monomial: u32 },
+    NotCoveredRule {
+        node: u32,
+        rule: u32,
+        monomial: u32,
+    },
     /// This move of the pair's line is not good, in the same way.
-    BadMovePair { node: u32, pair: u32, entry: u32 },
+    BadMovePair {
+        node: u32,
+        pair: u32,
+        entry: u32,
+    },
     /// The moves of the pair take more from this monomial of its left side than its coefficient.
-    OverSpentPair { node: u32, pair: u32, monomial: u32 },
+    OverSpentPair {
+        node: u32,
+        pair: u32,
+        monomial: u32,
+    },
     /// The moves of the pair bring less to this monomial of its right side than its coefficient.
-    NotCoveredPair { node: u32, pair: u32, monomial: u32 },
+    NotCoveredPair {
+        node: u32,
+        pair: u32,
+        monomial: u32,
+    },
     /// This pair is dropped, and its moves leave nothing of the constant of its left side.
-    NotStrict { node: u32, pair: u32 },
+    NotStrict {
+        node: u32,
+        pair: u32,
+    },
     /// The names do not stand for a well-typed term that fits.
     NotATerm,
     /// There is no step.
     NoStep,
     /// This step is the first that does not apply.
-    StepFails { index: u32 },
+    StepFails {
+        index: u32,
+    },
     /// The result of this step is the first that does not fit.
-    TooBig { index: u32 },
+    TooBig {
+        index: u32,
+    },
     /// This line of what is put for a variable is the first that is not right.
-    BadPut { index: u32 },
+    BadPut {
+        index: u32,
+    },
     /// There is no such place in the last term, or what stands there is not the instance.
     NoInstance,
 }

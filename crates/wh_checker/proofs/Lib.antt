@@ -6,6 +6,8 @@ pub mod WalkLemmas
 pub mod GoLemmas
 pub mod YesLemmas
 pub mod RowLaws
+pub mod CoverLaws
+pub mod CoveringLaws
 pub mod NodeLaws
 pub mod FaultLaws
 pub mod Bounded

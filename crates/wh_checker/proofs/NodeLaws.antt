@@ -1,13 +1,11 @@
--- A node leaves one list of sets, one thing at most is wrong first with it, and none where its conditions hold.
-use Rattle.std.proofs.Common.{◌≡◌, ◌≢◌, ℕ, suc, ◌<◌, inl, inr, List, [], ◌∷◌, get_or, Contains, refl, sym, ap, subst, ◌∙◌, arith}
-use Rattle.std.proofs.lemmas.Option.{slice_get_within, get_or_from_slice_get}
+-- A node leaves one list of sets, one thing at most is wrong first with it, but that values may exceed both limits, and none where its
+-- conditions hold.
+use Rattle.std.proofs.Common.{◌≡◌, ◌≢◌, ◌⊎◌, ℕ, inl, inr, List, [], ◌∷◌, map, Contains, refl, sym, ap, subst, ◌∙◌}
+use Rattle.wh_terms.specs.Typing.{Symbols}
 use Rattle.wh_terms.specs.Rules.{RewriteRule}
 use Rattle.wh_system.specs.Systems.{SystemData}
 use Rattle.wh_system.specs.WellMade.{AreDistinct}
-use Rattle.wh_system.specs.PairData.{PairData, IsIncreasing}
-use Rattle.wh_system.proofs.Increasing.{increasing_at}
-use Rattle.wh_system.proofs.ByPlace.{place_of}
-use Rattle.wh_pairs.proofs.MemberLemmas.{none_there, at_head, behind, head_or_behind}
+use Rattle.wh_system.specs.PairData.{PairData}
 use Rattle.wh_graph.specs.May.{Follows}
 use Rattle.wh_graph.specs.Blocks.{IsFirstBlockFault}
 use Rattle.wh_graph.specs.declared.blocks.BlockFault.{BlockFault}
@@ -16,13 +14,27 @@ use Rattle.wh_subterm.specs.SubtermRows.{AreForMarked, IsProjection, IsFirstSubt
 use Rattle.wh_subterm.specs.declared.projection.SubtermFault.{SubtermFault}
 use Rattle.wh_subterm.specs.declared.projection.SubtermFault.TheVariants as projected
 use Rattle.wh_cert.specs.Written as w
-use Rattle.wh_nodes.specs.Nodes.{Node, done, alone, blocks, subterm, IsSetOf, AreSetsOf, no_sets, more_sets, Leaves, by_done, by_alone, by_blocks, by_subterm}
+use Rattle.wh_cert.specs.Interps.{Interp}
+use Rattle.wh_hopoly.specs.Erase.{transfers}
+use Rattle.wh_hopoly.specs.Evaluation.{Interpretation}
+use Rattle.wh_hopoly.specs.Moves.{Transfer}
+use Rattle.wh_hopoly.specs.declared.excess.Excess.{Excess}
+use Rattle.wh_hopoly.specs.declared.expression.Move.{Move}
+use Rattle.wh_polycheck.specs.Marks.{Mark}
+use Rattle.wh_meaning.specs.Covering.{IsCovering}
+use Rattle.wh_covering.specs.CoveringFaults.{Limits, without_limits, with_limits, IsFirstCoveringFault}
+use Rattle.wh_covering.specs.declared.fault.CoveringFault.{CoveringFault}
+use Rattle.wh_nodes.specs.Nodes.{Node, done, alone, blocks, subterm, poly, IsSetOf, AreSetsOf, no_sets, more_sets, Leaves, by_done, by_alone, by_blocks, by_subterm, by_poly}
 use Rattle.wh_checker.specs.Looked.{SayChoices, SaysNode}
-use Rattle.wh_checker.specs.Faults.{IsSubtermFault, IsNodeFault}
+use Rattle.wh_checker.specs.Small.{IsSmallNode}
+use Rattle.wh_checker.specs.Faults.{IsSubtermFault, SayCovering, IsNodeFault, at_node, in_excess}
 use Rattle.wh_checker.specs.declared.rejected.NodeFault.{NodeFault}
-use Rattle.wh_checker.specs.declared.rejected.NodeFault.TheVariants.{NotEmpty, NotOne, Loops, Blocks, Subterm}
+use Rattle.wh_checker.specs.declared.rejected.NodeFault.TheVariants.{NotEmpty, NotOne, Loops, Blocks, Subterm, BadSymbols, Poly}
+use Rattle.wh_checker.proofs.SetLemmas.{set_one}
 use Rattle.wh_checker.proofs.ChoiceLemmas.{one_list_said}
+use Rattle.wh_checker.proofs.InterpretationLemmas.{one_interpretations_said, one_marks_said}
 use Rattle.wh_checker.proofs.RowLaws.{block_fault_one, blocks_or_fault, subterm_fault_one, projection_or_fault}
+use Rattle.wh_checker.proofs.CoveringLaws.{IsExcess, CoveringsAlike, SmallFor, IsRejection, covering_fault_one, covering_or_fault, fault_unlimited}
 
 sets_one : (parts xs ys : List (List ℕ)) → AreSetsOf parts xs → AreSetsOf parts ys → xs ≡ ys
 sets_one [] [] [] no_sets no_sets = refl
@@ -33,17 +45,23 @@ sets_one [] [] (y ∷ ys) is none = elim none [ ]
 sets_one (part ∷ parts) [] ys none also = elim none [ ]
 sets_one (part ∷ parts) (x ∷ xs) [] is none = elim none [ ]
 
-pub leaves_one : (rules : List RewriteRule) (ps : List PairData) (set : List ℕ) (node : Node) (left other : List (List ℕ))
-    → Leaves rules ps set node left → Leaves rules ps set node other → left ≡ other
-leaves_one rules ps set done [] [] by_done by_done = refl
-leaves_one rules ps set alone [] [] (by_alone free) (by_alone also) = refl
-leaves_one rules ps set (blocks parts) left other (by_blocks are sets) (by_blocks also others) = sets_one parts left other sets others
-leaves_one rules ps set (subterm args drop) left other (by_subterm {rest = rest} is kept) (by_subterm {rest = others} also same) =
+pub leaves_one : (S : Symbols) (rules : List RewriteRule) (ps : List PairData) (set : List ℕ) (node : Node) (left other : List (List ℕ))
+    → Leaves S rules ps set node left → Leaves S rules ps set node other → left ≡ other
+leaves_one S rules ps set done [] [] by_done by_done = refl
+leaves_one S rules ps set alone [] [] (by_alone free) (by_alone also) = refl
+leaves_one S rules ps set (blocks parts) left other (by_blocks are sets) (by_blocks also others) = sets_one parts left other sets others
+leaves_one S rules ps set (subterm args drop) left other (by_subterm {rest = rest} is kept) (by_subterm {rest = others} also same) =
     ap (λ l. l ∷ []) (set_one _ rest others kept same)
-leaves_one rules ps set done (_ ∷ _) other leaves also = elim leaves [ ]
-leaves_one rules ps set done [] (_ ∷ _) leaves also = elim also [ ]
-leaves_one rules ps set alone (_ ∷ _) other leaves also = elim leaves [ ]
-leaves_one rules ps set alone [] (_ ∷ _) leaves also = elim also [ ]
+leaves_one S rules ps set (poly symbols marks rule_lines pair_lines drop) left other (by_poly {rest = rest} is kept) (by_poly {rest = others} also same) =
+    ap (λ l. l ∷ []) (set_one _ rest others kept same)
+leaves_one S rules ps set done (_ ∷ _) other leaves also = elim leaves [ ]
+leaves_one S rules ps set done [] (_ ∷ _) leaves also = elim also [ ]
+leaves_one S rules ps set alone (_ ∷ _) other leaves also = elim leaves [ ]
+leaves_one S rules ps set alone [] (_ ∷ _) leaves also = elim also [ ]
+
+poly_one : (ss us : List Interpretation) (ms ns : List Mark) (rs ts ps qs : List (List Transfer)) (drop left : List ℕ) → ss ≡ us → ms ≡ ns
+    → rs ≡ ts → ps ≡ qs → drop ≡ left → poly ss ms rs ps drop ≡ poly us ns ts qs left
+poly_one ss us ms ns rs ts ps qs drop left symbols marks rules pairs dropped = cc
 
 -- a line says one node
 pub node_said_one : (d : SystemData) (line : w.Node) (node other : Node) → AreDistinct d.fun_names → SaysNode d line node
@@ -55,30 +73,49 @@ node_said_one d (w.subterm lines listed) (subterm args drop) (subterm others lef
     let args_one : args ≡ others = one_list_said d lines args others apart says.0 also.0 in
     let drop_one : drop ≡ left = sym says.1 ∙ also.1 in
     cc (args_one, drop_one)
+node_said_one d (w.interpretations funs lines rules pairs listed) (poly ss ms rs ps drop) (poly us ns ts qs left) apart (funs_say, marks_say, rules_say, pairs_say, drop_says) (funs_also, marks_also, rules_also, pairs_also, drop_also) =
+    poly_one ss us ms ns rs ts ps qs drop left (one_interpretations_said d.fun_names d.symbols.funs funs ss us funs_say funs_also)
+    (one_marks_said d lines ms ns apart marks_say marks_also) (sym rules_say ∙ rules_also) (sym pairs_say ∙ pairs_also) (sym drop_says ∙ drop_also)
 node_said_one d w.done alone other apart says also = absurd says
 node_said_one d w.done (blocks parts) other apart says also = absurd says
 node_said_one d w.done (subterm args drop) other apart says also = absurd says
+node_said_one d w.done (poly symbols marks rule_lines pair_lines drop) other apart says also = absurd says
 node_said_one d w.done done alone apart says also = absurd also
 node_said_one d w.done done (blocks parts) apart says also = absurd also
-node_said_one d w.done done (subterm args drop) apart says also = absurd also
+node_said_one d w.done done (subterm args left) apart says also = absurd also
+node_said_one d w.done done (poly symbols marks rule_lines pair_lines left) apart says also = absurd also
 node_said_one d w.alone done other apart says also = absurd says
 node_said_one d w.alone (blocks parts) other apart says also = absurd says
 node_said_one d w.alone (subterm args drop) other apart says also = absurd says
+node_said_one d w.alone (poly symbols marks rule_lines pair_lines drop) other apart says also = absurd says
 node_said_one d w.alone alone done apart says also = absurd also
 node_said_one d w.alone alone (blocks parts) apart says also = absurd also
-node_said_one d w.alone alone (subterm args drop) apart says also = absurd also
+node_said_one d w.alone alone (subterm args left) apart says also = absurd also
+node_said_one d w.alone alone (poly symbols marks rule_lines pair_lines left) apart says also = absurd also
 node_said_one d (w.blocks listed) done other apart says also = absurd says
 node_said_one d (w.blocks listed) alone other apart says also = absurd says
 node_said_one d (w.blocks listed) (subterm args drop) other apart says also = absurd says
+node_said_one d (w.blocks listed) (poly symbols marks rule_lines pair_lines drop) other apart says also = absurd says
 node_said_one d (w.blocks listed) (blocks parts) done apart says also = absurd also
 node_said_one d (w.blocks listed) (blocks parts) alone apart says also = absurd also
-node_said_one d (w.blocks listed) (blocks parts) (subterm args drop) apart says also = absurd also
+node_said_one d (w.blocks listed) (blocks parts) (subterm args left) apart says also = absurd also
+node_said_one d (w.blocks listed) (blocks parts) (poly symbols marks rule_lines pair_lines left) apart says also = absurd also
 node_said_one d (w.subterm lines listed) done other apart says also = absurd says
 node_said_one d (w.subterm lines listed) alone other apart says also = absurd says
 node_said_one d (w.subterm lines listed) (blocks parts) other apart says also = absurd says
+node_said_one d (w.subterm lines listed) (poly symbols marks rule_lines pair_lines drop) other apart says also = absurd says
 node_said_one d (w.subterm lines listed) (subterm args drop) done apart says also = absurd also
 node_said_one d (w.subterm lines listed) (subterm args drop) alone apart says also = absurd also
 node_said_one d (w.subterm lines listed) (subterm args drop) (blocks parts) apart says also = absurd also
+node_said_one d (w.subterm lines listed) (subterm args drop) (poly symbols marks rule_lines pair_lines left) apart says also = absurd also
+node_said_one d (w.interpretations funs lines rules pairs listed) done other apart says also = absurd says
+node_said_one d (w.interpretations funs lines rules pairs listed) alone other apart says also = absurd says
+node_said_one d (w.interpretations funs lines rules pairs listed) (blocks parts) other apart says also = absurd says
+node_said_one d (w.interpretations funs lines rules pairs listed) (subterm args drop) other apart says also = absurd says
+node_said_one d (w.interpretations funs lines rules pairs listed) (poly symbols marks rule_lines pair_lines drop) done apart says also = absurd also
+node_said_one d (w.interpretations funs lines rules pairs listed) (poly symbols marks rule_lines pair_lines drop) alone apart says also = absurd also
+node_said_one d (w.interpretations funs lines rules pairs listed) (poly symbols marks rule_lines pair_lines drop) (blocks parts) apart says also = absurd also
+node_said_one d (w.interpretations funs lines rules pairs listed) (poly symbols marks rule_lines pair_lines drop) (subterm args left) apart says also = absurd also
 
 -- the faults of nodes, by their kinds
 
@@ -111,80 +148,198 @@ choices_or_fault d ps set lines args drop f apart says is (with_args others also
     let one : others ≡ args = one_list_said d lines others args apart also says in
     projection_or_fault d.rules ps set args drop f is (subst (λ (cs : List Chosen). IsFirstSubtermFault d.rules ps set cs drop f) one first)
 
-data KindFault (d : SystemData) (ps : List PairData) (set : List ℕ) : w.Node → NodeFault → Type 0 where
-  of_done : set ≢ [] → KindFault d ps set w.done NotEmpty
-  of_alone : ((a : ℕ) → set ≢ a ∷ []) → KindFault d ps set w.alone NotOne
-  of_loop : {a : ℕ} → set ≡ a ∷ [] → Follows d.rules ps a a → KindFault d ps set w.alone (Loops a)
-  of_blocks : {parts : List (List ℕ)} {f : BlockFault} → IsFirstBlockFault (Follows d.rules ps) set parts f → KindFault d ps set (w.blocks parts) (Blocks f)
-  of_subterm : {lines : List w.Arg} {drop : List ℕ} {f : SubtermFault} → ChoiceFault d ps set lines drop f → KindFault d ps set (w.subterm lines drop) (Subterm f)
+from_choice : (d : SystemData) (ps : List PairData) (set : List ℕ) (lines : List w.Arg) (drop : List ℕ) (f : SubtermFault)
+    → ChoiceFault d ps set lines drop f → IsSubtermFault d ps set lines drop f
+from_choice d ps set lines drop f (no_args not) = not
+from_choice d ps set lines drop projected.BadArgs (with_args args says marked first) = absurd (first marked)
+from_choice d ps set lines drop (projected.NoProjection f) (with_args args says marked first) = (args, says, first)
+from_choice d ps set lines drop (projected.BadArgument f) (with_args args says marked first) = (args, says, first)
+from_choice d ps set lines drop projected.BadDrop (with_args args says marked first) = (args, says, first)
+from_choice d ps set lines drop (projected.NotDecreasing n) (with_args args says marked first) = (args, says, first)
 
-kind_fault : (d : SystemData) (ps : List PairData) (set : List ℕ) (line : w.Node) (f : NodeFault) → IsNodeFault d ps set line f
-    → KindFault d ps set line f
-kind_fault d ps set w.done NotEmpty fault = of_done fault
-kind_fault d ps set w.done NotOne fault = absurd fault
-kind_fault d ps set w.done (Loops a) fault = absurd fault
-kind_fault d ps set w.done (Blocks f) fault = absurd fault
-kind_fault d ps set w.done (Subterm f) fault = absurd fault
-kind_fault d ps set w.alone NotEmpty fault = absurd fault
-kind_fault d ps set w.alone NotOne fault = of_alone fault
-kind_fault d ps set w.alone (Loops a) (is, follows) = of_loop is follows
-kind_fault d ps set w.alone (Blocks f) fault = absurd fault
-kind_fault d ps set w.alone (Subterm f) fault = absurd fault
-kind_fault d ps set (w.blocks parts) NotEmpty fault = absurd fault
-kind_fault d ps set (w.blocks parts) NotOne fault = absurd fault
-kind_fault d ps set (w.blocks parts) (Loops a) fault = absurd fault
-kind_fault d ps set (w.blocks parts) (Blocks f) fault = of_blocks fault
-kind_fault d ps set (w.blocks parts) (Subterm f) fault = absurd fault
-kind_fault d ps set (w.subterm lines drop) NotEmpty fault = absurd fault
-kind_fault d ps set (w.subterm lines drop) NotOne fault = absurd fault
-kind_fault d ps set (w.subterm lines drop) (Loops a) fault = absurd fault
-kind_fault d ps set (w.subterm lines drop) (Blocks f) fault = absurd fault
-kind_fault d ps set (w.subterm lines drop) (Subterm f) fault = of_subterm (choice_fault d ps set lines drop f fault)
+-- the same for nodes of interpretations
+data PolyFault (limits : Limits) (d : SystemData) (ps : List PairData) (set : List ℕ) (funs lines : List Interp) (rules pairs : List (List Move))
+    (drop : List ℕ) : NodeFault → Type 0 where
+  no_symbols : ((symbols : List Interpretation) (marks : List Mark) → SayCovering d ps set funs lines symbols marks → ⊥)
+      → PolyFault limits d ps set funs lines rules pairs drop BadSymbols
+  with_symbols : {f : CoveringFault} (symbols : List Interpretation) (marks : List Mark) → SayCovering d ps set funs lines symbols marks
+      → IsFirstCoveringFault limits d.symbols d.rules ps set symbols marks (map transfers rules) (map transfers pairs) drop f
+      → PolyFault limits d ps set funs lines rules pairs drop (Poly f)
 
-kind_fault_one : (d : SystemData) (ps : List PairData) (set : List ℕ) (line : w.Node) (f g : NodeFault) → AreDistinct d.fun_names
-    → KindFault d ps set line f → KindFault d ps set line g → f ≡ g
-kind_fault_one d ps set w.done f g apart (of_done some) (of_done also) = refl
-kind_fault_one d ps set w.alone f g apart (of_alone other) (of_alone also) = refl
-kind_fault_one d ps set w.alone f g apart (of_alone other) (of_loop {a = a} is follows) = absurd (other a is)
-kind_fault_one d ps set w.alone f g apart (of_loop {a = a} is follows) (of_alone other) = absurd (other a is)
-kind_fault_one d ps set w.alone f g apart (of_loop {a = a} is follows) (of_loop {a = b} also again) =
-    let both : a ∷ [] ≡ b ∷ [] = sym is ∙ also in let same : a ≡ b = cc both in ap Loops same
-kind_fault_one d ps set (w.blocks parts) f g apart (of_blocks {f = a} first) (of_blocks {f = b} other) =
-    ap Blocks (block_fault_one (Follows d.rules ps) set parts a b first other)
-kind_fault_one d ps set (w.subterm lines drop) f g apart (of_subterm {f = a} first) (of_subterm {f = b} other) =
-    ap Subterm (choice_fault_one d ps set lines drop a b apart first other)
+-- it is that a value exceeds a limit
+pub record IsExcessOfNode (f : NodeFault) : Type 0 where
+  pub excess : Excess
+  pub row : (k : ℕ) → at_node k f ≡ in_excess k excess
 
-pub node_fault_one : (d : SystemData) (ps : List PairData) (set : List ℕ) (line : w.Node) (f g : NodeFault) → AreDistinct d.fun_names
-    → IsNodeFault d ps set line f → IsNodeFault d ps set line g → f ≡ g
-node_fault_one d ps set line f g apart fault other =
-    kind_fault_one d ps set line f g apart (kind_fault d ps set line f fault) (kind_fault d ps set line g other)
+-- two faults are one, or both are that a value exceeds a limit
+pub data NodesAlike (f g : NodeFault) : Type 0 where
+  one_fault : f ≡ g → NodesAlike f g
+  both_exceed : IsExcessOfNode f → IsExcessOfNode g → NodesAlike f g
 
-leaves_or_kind : (d : SystemData) (ps : List PairData) (set : List ℕ) (line : w.Node) (node : Node) (left : List (List ℕ))
-    (f : NodeFault) → AreDistinct d.fun_names → SaysNode d line node → Leaves d.rules ps set node left
-    → KindFault d ps set line f → ⊥
-leaves_or_kind d ps set w.done node left f apart says by_done (of_done some) = some refl
-leaves_or_kind d ps set w.alone node left f apart says (by_alone {a = a} free) (of_alone other) = other a refl
-leaves_or_kind d ps set w.alone node left f apart says (by_alone {a = a} free) (of_loop {a = b} is follows) =
+polys_alike : (f g : CoveringFault) → CoveringsAlike f g → NodesAlike (Poly f) (Poly g)
+polys_alike f g (inl same) = one_fault (ap Poly same)
+polys_alike f g (inr ((e, is), (h, also))) = both_exceed (record { excess = e; row = is }) (record { excess = h; row = also })
+
+poly_fault_one : (limits : Limits) (d : SystemData) (ps : List PairData) (set : List ℕ) (funs lines : List Interp) (rules pairs : List (List Move))
+    (drop : List ℕ) (f g : NodeFault) → AreDistinct d.fun_names → PolyFault limits d ps set funs lines rules pairs drop f
+    → PolyFault limits d ps set funs lines rules pairs drop g → NodesAlike f g
+poly_fault_one limits d ps set funs lines rules pairs drop f g apart (no_symbols none) (no_symbols also) = one_fault refl
+poly_fault_one limits d ps set funs lines rules pairs drop f g apart (no_symbols none) (with_symbols symbols marks says first) = absurd (none symbols marks says)
+poly_fault_one limits d ps set funs lines rules pairs drop f g apart (with_symbols symbols marks says first) (no_symbols none) = absurd (none symbols marks says)
+poly_fault_one limits d ps set funs lines rules pairs drop f g apart (with_symbols {f = a} ss ms says first) (with_symbols {f = b} us ns also other) =
+    let symbols_one : us ≡ ss = one_interpretations_said d.fun_names d.symbols.funs funs us ss also.0 says.0 in
+    let marks_one : ns ≡ ms = one_marks_said d lines ns ms apart also.1 says.1 in
+    polys_alike a b (covering_fault_one limits d.symbols d.rules ps set ss ms (map transfers rules) (map transfers pairs) drop a b first
+    (subst (λ (l : List Mark). IsFirstCoveringFault limits d.symbols d.rules ps set ss l (map transfers rules) (map transfers pairs) drop b) marks_one
+    (subst (λ (l : List Interpretation). IsFirstCoveringFault limits d.symbols d.rules ps set l ns (map transfers rules) (map transfers pairs) drop b) symbols_one other)))
+
+small_for : (limits : Limits) (S : Symbols) (rules : List RewriteRule) (ps : List PairData) (set : List ℕ) (symbols : List Interpretation)
+    (marks : List Mark) (rule_lines pair_lines : List (List Transfer)) (drop : List ℕ)
+    → IsSmallNode limits S rules ps set (poly symbols marks rule_lines pair_lines drop) → SmallFor limits S rules ps set symbols marks
+small_for with_limits S rules ps set symbols marks rule_lines pair_lines drop small = small
+small_for without_limits S rules ps set symbols marks rule_lines pair_lines drop small = tt
+
+covering_or_poly : (limits : Limits) (d : SystemData) (ps : List PairData) (set : List ℕ) (funs lines : List Interp) (rules pairs : List (List Move))
+    (listed : List ℕ) (ss : List Interpretation) (ms : List Mark) (rule_lines pair_lines : List (List Transfer)) (drop : List ℕ) (f : NodeFault)
+    → AreDistinct d.fun_names → SaysNode d (w.interpretations funs lines rules pairs listed) (poly ss ms rule_lines pair_lines drop)
+    → IsCovering d.symbols d.rules ps set ss ms rule_lines pair_lines drop → SmallFor limits d.symbols d.rules ps set ss ms
+    → PolyFault limits d ps set funs lines rules pairs listed f → ⊥
+covering_or_poly limits d ps set funs lines rules pairs listed ss ms rule_lines pair_lines drop f apart says is small (no_symbols none) =
+    none ss ms (says.0, says.1, is.marked)
+covering_or_poly limits d ps set funs lines rules pairs listed ss ms rule_lines pair_lines drop f apart says is small (with_symbols {f = g} us ns also first) =
+    let symbols_one : us ≡ ss = one_interpretations_said d.fun_names d.symbols.funs funs us ss also.0 says.0 in
+    let marks_one : ns ≡ ms = one_marks_said d lines ns ms apart also.1 says.1 in
+    covering_or_fault limits d.symbols d.rules ps set ss ms rule_lines pair_lines drop is small g
+    (subst (λ (l : List ℕ). IsFirstCoveringFault limits d.symbols d.rules ps set ss ms rule_lines pair_lines l g) says.4
+    (subst (λ (l : List (List Transfer)). IsFirstCoveringFault limits d.symbols d.rules ps set ss ms rule_lines l listed g) says.3
+    (subst (λ (l : List (List Transfer)). IsFirstCoveringFault limits d.symbols d.rules ps set ss ms l (map transfers pairs) listed g) says.2
+    (subst (λ (l : List Mark). IsFirstCoveringFault limits d.symbols d.rules ps set ss l (map transfers rules) (map transfers pairs) listed g) marks_one
+    (subst (λ (l : List Interpretation). IsFirstCoveringFault limits d.symbols d.rules ps set l ns (map transfers rules) (map transfers pairs) listed g) symbols_one first)))))
+
+data KindFault (limits : Limits) (d : SystemData) (ps : List PairData) (set : List ℕ) : w.Node → NodeFault → Type 0 where
+  of_done : set ≢ [] → KindFault limits d ps set w.done NotEmpty
+  of_alone : ((a : ℕ) → set ≢ a ∷ []) → KindFault limits d ps set w.alone NotOne
+  of_loop : {a : ℕ} → set ≡ a ∷ [] → Follows d.rules ps a a → KindFault limits d ps set w.alone (Loops a)
+  of_blocks : {parts : List (List ℕ)} {f : BlockFault} → IsFirstBlockFault (Follows d.rules ps) set parts f
+      → KindFault limits d ps set (w.blocks parts) (Blocks f)
+  of_subterm : {lines : List w.Arg} {drop : List ℕ} {f : SubtermFault} → ChoiceFault d ps set lines drop f
+      → KindFault limits d ps set (w.subterm lines drop) (Subterm f)
+  of_poly : {funs lines : List Interp} {rules pairs : List (List Move)} {drop : List ℕ} {f : NodeFault}
+      → PolyFault limits d ps set funs lines rules pairs drop f → KindFault limits d ps set (w.interpretations funs lines rules pairs drop) f
+
+kind_fault : (limits : Limits) (d : SystemData) (ps : List PairData) (set : List ℕ) (line : w.Node) (f : NodeFault)
+    → IsNodeFault limits d ps set line f → KindFault limits d ps set line f
+kind_fault limits d ps set w.done NotEmpty fault = of_done fault
+kind_fault limits d ps set w.done NotOne fault = absurd fault
+kind_fault limits d ps set w.done (Loops a) fault = absurd fault
+kind_fault limits d ps set w.done (Blocks f) fault = absurd fault
+kind_fault limits d ps set w.done (Subterm f) fault = absurd fault
+kind_fault limits d ps set w.done BadSymbols fault = absurd fault
+kind_fault limits d ps set w.done (Poly f) fault = absurd fault
+kind_fault limits d ps set w.alone NotEmpty fault = absurd fault
+kind_fault limits d ps set w.alone NotOne fault = of_alone fault
+kind_fault limits d ps set w.alone (Loops a) (is, follows) = of_loop is follows
+kind_fault limits d ps set w.alone (Blocks f) fault = absurd fault
+kind_fault limits d ps set w.alone (Subterm f) fault = absurd fault
+kind_fault limits d ps set w.alone BadSymbols fault = absurd fault
+kind_fault limits d ps set w.alone (Poly f) fault = absurd fault
+kind_fault limits d ps set (w.blocks parts) NotEmpty fault = absurd fault
+kind_fault limits d ps set (w.blocks parts) NotOne fault = absurd fault
+kind_fault limits d ps set (w.blocks parts) (Loops a) fault = absurd fault
+kind_fault limits d ps set (w.blocks parts) (Blocks f) fault = of_blocks fault
+kind_fault limits d ps set (w.blocks parts) (Subterm f) fault = absurd fault
+kind_fault limits d ps set (w.blocks parts) BadSymbols fault = absurd fault
+kind_fault limits d ps set (w.blocks parts) (Poly f) fault = absurd fault
+kind_fault limits d ps set (w.subterm lines drop) NotEmpty fault = absurd fault
+kind_fault limits d ps set (w.subterm lines drop) NotOne fault = absurd fault
+kind_fault limits d ps set (w.subterm lines drop) (Loops a) fault = absurd fault
+kind_fault limits d ps set (w.subterm lines drop) (Blocks f) fault = absurd fault
+kind_fault limits d ps set (w.subterm lines drop) (Subterm f) fault = of_subterm (choice_fault d ps set lines drop f fault)
+kind_fault limits d ps set (w.subterm lines drop) BadSymbols fault = absurd fault
+kind_fault limits d ps set (w.subterm lines drop) (Poly f) fault = absurd fault
+kind_fault limits d ps set (w.interpretations funs lines rules pairs drop) NotEmpty fault = absurd fault
+kind_fault limits d ps set (w.interpretations funs lines rules pairs drop) NotOne fault = absurd fault
+kind_fault limits d ps set (w.interpretations funs lines rules pairs drop) (Loops a) fault = absurd fault
+kind_fault limits d ps set (w.interpretations funs lines rules pairs drop) (Blocks f) fault = absurd fault
+kind_fault limits d ps set (w.interpretations funs lines rules pairs drop) (Subterm f) fault = absurd fault
+kind_fault limits d ps set (w.interpretations funs lines rules pairs drop) BadSymbols none = of_poly (no_symbols none)
+kind_fault limits d ps set (w.interpretations funs lines rules pairs drop) (Poly f) (symbols, marks, says, first) = of_poly (with_symbols symbols marks says first)
+
+kind_fault_one : (limits : Limits) (d : SystemData) (ps : List PairData) (set : List ℕ) (line : w.Node) (f g : NodeFault) → AreDistinct d.fun_names
+    → KindFault limits d ps set line f → KindFault limits d ps set line g → NodesAlike f g
+kind_fault_one limits d ps set w.done f g apart (of_done some) (of_done also) = one_fault refl
+kind_fault_one limits d ps set w.alone f g apart (of_alone other) (of_alone also) = one_fault refl
+kind_fault_one limits d ps set w.alone f g apart (of_alone other) (of_loop {a = a} is follows) = absurd (other a is)
+kind_fault_one limits d ps set w.alone f g apart (of_loop {a = a} is follows) (of_alone other) = absurd (other a is)
+kind_fault_one limits d ps set w.alone f g apart (of_loop {a = a} is follows) (of_loop {a = b} also again) =
+    let both : a ∷ [] ≡ b ∷ [] = sym is ∙ also in let same : a ≡ b = cc both in one_fault (ap Loops same)
+kind_fault_one limits d ps set (w.blocks parts) f g apart (of_blocks {f = a} first) (of_blocks {f = b} other) =
+    one_fault (ap Blocks (block_fault_one (Follows d.rules ps) set parts a b first other))
+kind_fault_one limits d ps set (w.subterm lines drop) f g apart (of_subterm {f = a} first) (of_subterm {f = b} other) =
+    one_fault (ap Subterm (choice_fault_one d ps set lines drop a b apart first other))
+kind_fault_one limits d ps set (w.interpretations funs lines rules pairs drop) f g apart (of_poly first) (of_poly other) =
+    poly_fault_one limits d ps set funs lines rules pairs drop f g apart first other
+
+pub node_fault_one : (limits : Limits) (d : SystemData) (ps : List PairData) (set : List ℕ) (line : w.Node) (f g : NodeFault)
+    → AreDistinct d.fun_names → IsNodeFault limits d ps set line f → IsNodeFault limits d ps set line g → NodesAlike f g
+node_fault_one limits d ps set line f g apart fault other =
+    kind_fault_one limits d ps set line f g apart (kind_fault limits d ps set line f fault) (kind_fault limits d ps set line g other)
+
+leaves_or_kind : (limits : Limits) (d : SystemData) (ps : List PairData) (set : List ℕ) (line : w.Node) (node : Node) (left : List (List ℕ))
+    (f : NodeFault) → AreDistinct d.fun_names → SaysNode d line node → Leaves d.symbols d.rules ps set node left
+    → IsSmallNode limits d.symbols d.rules ps set node → KindFault limits d ps set line f → ⊥
+leaves_or_kind limits d ps set w.done node left f apart says by_done small (of_done some) = some refl
+leaves_or_kind limits d ps set w.alone node left f apart says (by_alone {a = a} free) small (of_alone other) = other a refl
+leaves_or_kind limits d ps set w.alone node left f apart says (by_alone {a = a} free) small (of_loop {a = b} is follows) =
     let same : b ≡ a = cc is in free (subst (λ n. Follows d.rules ps n n) same follows)
-leaves_or_kind d ps set (w.blocks listed) node left f apart says (by_blocks {parts = parts} are sets) (of_blocks {f = g} first) =
+leaves_or_kind limits d ps set (w.blocks listed) node left f apart says (by_blocks {parts = parts} are sets) small (of_blocks {f = g} first) =
     blocks_or_fault (Follows d.rules ps) set parts g are (subst (λ (l : List (List ℕ)). IsFirstBlockFault (Follows d.rules ps) set l g) says first)
-leaves_or_kind d ps set (w.subterm lines listed) node left f apart says (by_subterm {drop = drop} {args = args} is kept) (of_subterm {f = g} first) =
+leaves_or_kind limits d ps set (w.subterm lines listed) node left f apart says (by_subterm {drop = drop} {args = args} is kept) small (of_subterm {f = g} first) =
     choices_or_fault d ps set lines args drop g apart says.0 is (subst (λ (l : List ℕ). ChoiceFault d ps set lines l g) says.1 first)
-leaves_or_kind d ps set w.done node left f apart says (by_alone free) fault = elim says [ ]
-leaves_or_kind d ps set w.done node left f apart says (by_blocks are sets) fault = elim says [ ]
-leaves_or_kind d ps set w.done node left f apart says (by_subterm is kept) fault = elim says [ ]
-leaves_or_kind d ps set w.alone node left f apart says by_done fault = elim says [ ]
-leaves_or_kind d ps set w.alone node left f apart says (by_blocks are sets) fault = elim says [ ]
-leaves_or_kind d ps set w.alone node left f apart says (by_subterm is kept) fault = elim says [ ]
-leaves_or_kind d ps set (w.blocks listed) node left f apart says by_done fault = elim says [ ]
-leaves_or_kind d ps set (w.blocks listed) node left f apart says (by_alone free) fault = elim says [ ]
-leaves_or_kind d ps set (w.blocks listed) node left f apart says (by_subterm is kept) fault = elim says [ ]
-leaves_or_kind d ps set (w.subterm lines listed) node left f apart says by_done fault = elim says [ ]
-leaves_or_kind d ps set (w.subterm lines listed) node left f apart says (by_alone free) fault = elim says [ ]
-leaves_or_kind d ps set (w.subterm lines listed) node left f apart says (by_blocks are sets) fault = elim says [ ]
+leaves_or_kind limits d ps set (w.interpretations funs lines rules pairs listed) node left f apart says
+    (by_poly {drop = drop} {symbols = ss} {marks = ms} {rule_lines = rule_lines} {pair_lines = pair_lines} is kept) small (of_poly first) =
+    covering_or_poly limits d ps set funs lines rules pairs listed ss ms rule_lines pair_lines drop f apart says is
+    (small_for limits d.symbols d.rules ps set ss ms rule_lines pair_lines drop small) first
+leaves_or_kind limits d ps set w.done node left f apart says (by_alone free) small fault = elim says [ ]
+leaves_or_kind limits d ps set w.done node left f apart says (by_blocks are sets) small fault = elim says [ ]
+leaves_or_kind limits d ps set w.done node left f apart says (by_subterm is kept) small fault = elim says [ ]
+leaves_or_kind limits d ps set w.done node left f apart says (by_poly is kept) small fault = elim says [ ]
+leaves_or_kind limits d ps set w.alone node left f apart says by_done small fault = elim says [ ]
+leaves_or_kind limits d ps set w.alone node left f apart says (by_blocks are sets) small fault = elim says [ ]
+leaves_or_kind limits d ps set w.alone node left f apart says (by_subterm is kept) small fault = elim says [ ]
+leaves_or_kind limits d ps set w.alone node left f apart says (by_poly is kept) small fault = elim says [ ]
+leaves_or_kind limits d ps set (w.blocks listed) node left f apart says by_done small fault = elim says [ ]
+leaves_or_kind limits d ps set (w.blocks listed) node left f apart says (by_alone free) small fault = elim says [ ]
+leaves_or_kind limits d ps set (w.blocks listed) node left f apart says (by_subterm is kept) small fault = elim says [ ]
+leaves_or_kind limits d ps set (w.blocks listed) node left f apart says (by_poly is kept) small fault = elim says [ ]
+leaves_or_kind limits d ps set (w.subterm lines listed) node left f apart says by_done small fault = elim says [ ]
+leaves_or_kind limits d ps set (w.subterm lines listed) node left f apart says (by_alone free) small fault = elim says [ ]
+leaves_or_kind limits d ps set (w.subterm lines listed) node left f apart says (by_blocks are sets) small fault = elim says [ ]
+leaves_or_kind limits d ps set (w.subterm lines listed) node left f apart says (by_poly is kept) small fault = elim says [ ]
+leaves_or_kind limits d ps set (w.interpretations funs lines rules pairs listed) node left f apart says by_done small fault = elim says [ ]
+leaves_or_kind limits d ps set (w.interpretations funs lines rules pairs listed) node left f apart says (by_alone free) small fault = elim says [ ]
+leaves_or_kind limits d ps set (w.interpretations funs lines rules pairs listed) node left f apart says (by_blocks are sets) small fault = elim says [ ]
+leaves_or_kind limits d ps set (w.interpretations funs lines rules pairs listed) node left f apart says (by_subterm is kept) small fault = elim says [ ]
 
-pub leaves_or_fault : (d : SystemData) (ps : List PairData) (set : List ℕ) (line : w.Node) (node : Node) (left : List (List ℕ))
-    (f : NodeFault) → AreDistinct d.fun_names → SaysNode d line node → Leaves d.rules ps set node left
-    → IsNodeFault d ps set line f → ⊥
-leaves_or_fault d ps set line node left f apart says leaves fault =
-    leaves_or_kind d ps set line node left f apart says leaves (kind_fault d ps set line f fault)
+pub leaves_or_fault : (limits : Limits) (d : SystemData) (ps : List PairData) (set : List ℕ) (line : w.Node) (node : Node) (left : List (List ℕ))
+    (f : NodeFault) → AreDistinct d.fun_names → SaysNode d line node → Leaves d.symbols d.rules ps set node left
+    → IsSmallNode limits d.symbols d.rules ps set node → IsNodeFault limits d ps set line f → ⊥
+leaves_or_fault limits d ps set line node left f apart says leaves small fault =
+    leaves_or_kind limits d ps set line node left f apart says leaves small (kind_fault limits d ps set line f fault)
+
+-- a false condition of a node that is found before a value exceeds a limit
+
+kind_unlimited : (d : SystemData) (ps : List PairData) (set : List ℕ) (line : w.Node) (k : ℕ) (f : NodeFault) → IsRejection (at_node k f)
+    → KindFault with_limits d ps set line f → IsNodeFault without_limits d ps set line f
+kind_unlimited d ps set w.done k f is (of_done some) = some
+kind_unlimited d ps set w.alone k f is (of_alone other) = other
+kind_unlimited d ps set w.alone k f is (of_loop one follows) = (one, follows)
+kind_unlimited d ps set (w.blocks parts) k f is (of_blocks first) = first
+kind_unlimited d ps set (w.subterm lines drop) k f is (of_subterm {f = g} first) = from_choice d ps set lines drop g first
+kind_unlimited d ps set (w.interpretations funs lines rules pairs drop) k f is (of_poly (no_symbols none)) = none
+kind_unlimited d ps set (w.interpretations funs lines rules pairs drop) k f is (of_poly (with_symbols {f = g} symbols marks says first)) =
+    (symbols, marks, says, fault_unlimited d.symbols d.rules ps set symbols marks (map transfers rules) (map transfers pairs) drop k g is first)
+
+pub node_unlimited : (d : SystemData) (ps : List PairData) (set : List ℕ) (line : w.Node) (k : ℕ) (f : NodeFault) → IsRejection (at_node k f)
+    → IsNodeFault with_limits d ps set line f → IsNodeFault without_limits d ps set line f
+node_unlimited d ps set line k f is fault = kind_unlimited d ps set line k f is (kind_fault with_limits d ps set line f fault)

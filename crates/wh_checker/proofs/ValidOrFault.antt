@@ -1,5 +1,5 @@
 -- A certificate is valid, or it has a first fault.
-use Rattle.std.proofs.Common.{◌≡◌, ℕ, suc, ◌+◌, ◌⊎◌, inl, inr, List, [], ◌∷◌, ◌++◌, length, Some, refl, sym, ap, subst, ◌∙◌}
+use Rattle.std.proofs.Common.{◌≡◌, ℕ, suc, ◌+◌, ◌⊎◌, inl, inr, List, [], ◌∷◌, ◌++◌, length, map, Some, refl, sym, ap, subst, ◌∙◌}
 use Rattle.std.proofs.lemmas.List.{length-append}
 use Rattle.wh_terms.specs.declared.path.Step as taken
 use Rattle.wh_text.specs.RawTree.{RTm}
@@ -18,25 +18,34 @@ use Rattle.wh_subterm.specs.declared.projection.SubtermFault.TheVariants as proj
 use Rattle.wh_cert.specs.Written as w
 use Rattle.wh_cert.specs.Written.{Cert, yes, no, Preorder}
 use Rattle.wh_cert.specs.Limits.{IsCert}
-use Rattle.wh_nodes.specs.Nodes.{Node, done, alone, blocks, subterm, Leaves, by_done, by_alone, by_blocks, by_subterm}
-use Rattle.wh_nodes.specs.Proves.{all_proved, one_proved}
+use Rattle.wh_cert.specs.Interps.{Interp}
+use Rattle.wh_types.specs.Ty.{Ty}
+use Rattle.wh_subterm.specs.Marked.{AreMarked}
+use Rattle.wh_hopoly.specs.Erase.{transfers}
+use Rattle.wh_hopoly.specs.Evaluation.{Interpretation}
+use Rattle.wh_hopoly.specs.declared.expression.Move.{Move}
+use Rattle.wh_polycheck.specs.Marks.{Mark}
+use Rattle.wh_nodes.specs.Nodes.{Node, done, alone, blocks, subterm, poly, Leaves, by_done, by_alone, by_blocks, by_subterm, by_poly}
+use Rattle.wh_nodes.specs.Proves.{Proves, all_proved, one_proved}
 use Rattle.wh_decisions.proofs.Searches.{SomeOrNone, equal_decided, list_decided, HasFirst, HasNoneOf, first_place}
 use Rattle.wh_decisions.proofs.Clashes.{follows_decided}
 use Rattle.wh_decisions.proofs.BlockFaults.{BlocksOrFault, blocks_or_fault}
-use Rattle.wh_decisions.proofs.Projections.{ProjectionOrFault, projection_or_fault}
+use Rattle.wh_decisions.proofs.Projections.{ProjectionOrFault, projection_or_fault, are_marked_decided}
+use Rattle.wh_decisions.proofs.Coverings.{CoveringOrFault, covering_or_fault}
 use Rattle.wh_decisions.proofs.Breaks.{passing_or_break}
 use Rattle.wh_decisions.proofs.Claims.{ClaimOrFault, claim_or_fault}
-use Rattle.wh_checker.specs.Looked.{SayChoices, SaysNode}
+use Rattle.wh_covering.specs.CoveringFaults.{without_limits}
+use Rattle.wh_checker.specs.Looked.{SayChoices, SayInterpretations, SaysMark, SayMarks, SaysNode, SayNodes}
 use Rattle.wh_checker.specs.Valid.{IsValidYes, IsValidCert}
-use Rattle.wh_checker.specs.Faults.{IsSubtermFault, IsNodeFault, IsFirstNodeFault, at_first, behind_first, at_node, of_claim, IsFirstYesFault, rank_count, inaccessible, pair_count, in_node, IsFirstFault}
-use Rattle.wh_checker.specs.Walk.{AreProvedBy}
+use Rattle.wh_checker.specs.Faults.{IsSubtermFault, SayCovering, IsNodeFault, IsFirstNodeFault, at_first, behind_first, at_node, of_claim, IsFirstYesFault, rank_count, inaccessible, pair_count, in_node, IsFirstFault}
 use Rattle.wh_checker.specs.declared.rejected.NodeFault.{NodeFault}
-use Rattle.wh_checker.specs.declared.rejected.NodeFault.TheVariants.{NotEmpty, NotOne, Loops, Blocks, Subterm}
-use Rattle.wh_checker.specs.declared.rejected.Rejected.{Rejected}
+use Rattle.wh_checker.specs.declared.rejected.NodeFault.TheVariants.{NotEmpty, NotOne, Loops, Blocks, Subterm, BadSymbols, Poly}
+use Rattle.wh_checker.specs.declared.rejected.CheckFault.{CheckFault}
+use Rattle.wh_checker.specs.declared.rejected.CheckFault.TheVariants as check
 use Rattle.wh_checker.specs.declared.rejected.Rejected.TheVariants as row
 use Rattle.wh_checker.proofs.ChoiceLemmas.{one_list_said}
+use Rattle.wh_checker.proofs.InterpretationLemmas.{said_lists, marked_numbers, one_marks_said}
 use Rattle.wh_checker.proofs.NodeLemmas.{leaves_count}
-use Rattle.wh_checker.proofs.YesLemmas.{valid_yes}
 use Rattle.wh_checker.proofs.SomeSets.{sets_of_lists, whole_set, kept_set}
 
 -- lines that say choices
@@ -94,14 +103,86 @@ projection_said d ps set lines drop apart = go (said_or_not d lines)
     go (inl (args, says)) = at_args args says (projection_or_fault d.rules ps set args drop)
     go (inr none) = inr (projected.BadArgs, λ args says marked. none args says)
 
+-- lines that say interpretations
+
+interpretations_or_none : (names : List (List ℕ)) (kinds : List Ty) (lines : List Interp) → SomeOrNone (SayInterpretations names kinds lines)
+interpretations_or_none [] [] [] = inl ([], tt)
+interpretations_or_none [] [] (line ∷ lines) = inr (λ symbols says. says)
+interpretations_or_none [] (a ∷ kinds) lines = inr (λ symbols says. says)
+interpretations_or_none (name ∷ names) [] lines = inr (λ symbols says. says)
+interpretations_or_none (name ∷ names) (a ∷ kinds) [] = inr (λ symbols says. says)
+interpretations_or_none (name ∷ names) (a ∷ kinds) (line ∷ lines) =
+    go (list_decided equal_decided line.name name) (interpretations_or_none names kinds lines)
+  where
+    other : (line.name ≡ name → ⊥) → (symbols : List Interpretation) → SayInterpretations (name ∷ names) (a ∷ kinds) (line ∷ lines) symbols → ⊥
+    other not [] says = says
+    other not (s ∷ symbols) says = not says.0
+
+    none_behind_it : ((symbols : List Interpretation) → SayInterpretations names kinds lines symbols → ⊥) → (symbols : List Interpretation)
+        → SayInterpretations (name ∷ names) (a ∷ kinds) (line ∷ lines) symbols → ⊥
+    none_behind_it none [] says = says
+    none_behind_it none (s ∷ symbols) says = none symbols says.3
+
+    go : Decided (line.name ≡ name) → SomeOrNone (SayInterpretations names kinds lines)
+        → SomeOrNone (SayInterpretations (name ∷ names) (a ∷ kinds) (line ∷ lines))
+    go (inr not) rest = inr (other not)
+    go (inl same) (inr none) = inr (none_behind_it none)
+    go (inl same) (inl (symbols, says)) = inl (record { kind = a; polynomial = line.poly } ∷ symbols, (same, refl, refl, says))
+
+no_mark_behind : (d : SystemData) (line : Interp) (lines : List Interp) → ((marks : List Mark) → SayMarks d lines marks → ⊥)
+    → (marks : List Mark) → SayMarks d (line ∷ lines) marks → ⊥
+no_mark_behind d line lines none [] says = says
+no_mark_behind d line lines none (m ∷ marks) says = none marks says.1
+
+no_mark_named : (d : SystemData) (line : Interp) (lines : List Interp) → HasNoneOf (λ (name : List ℕ). name ≡ line.name) d.fun_names
+    → (marks : List Mark) → SayMarks d (line ∷ lines) marks → ⊥
+no_mark_named d line lines none [] says = says
+no_mark_named d line lines none (m ∷ marks) says = none line.name (contains_at d.fun_names m.symbol line.name says.0.named) refl
+
+marks_or_none : (d : SystemData) (lines : List Interp) → SomeOrNone (SayMarks d lines)
+marks_or_none d [] = inl ([], tt)
+marks_or_none d (line ∷ lines) =
+    go (first_place (λ (name : List ℕ). name ≡ line.name) (λ name. list_decided equal_decided name line.name) d.fun_names) (marks_or_none d lines)
+  where
+    go : HasFirst (λ (name : List ℕ). name ≡ line.name) d.fun_names ⊎ HasNoneOf (λ (name : List ℕ). name ≡ line.name) d.fun_names
+        → SomeOrNone (SayMarks d lines) → SomeOrNone (SayMarks d (line ∷ lines))
+    go (inl (i, name, at, same, before)) (inl (marks, says)) =
+        inl (record { symbol = i; polynomial = line.poly } ∷ marks, (record { named = at ∙ ap (λ n. Some n) same; polynomial = refl }, says))
+    go (inl found) (inr none) = inr (no_mark_behind d line lines none)
+    go (inr none) rest = inr (no_mark_named d line lines none)
+
+-- the lines of a node of interpretations say some of all symbols and of the marked symbols of the set, or not
+
+abbrev SaysSome : SystemData → List PairData → List ℕ → List Interp → List Interp → Type 0
+SaysSome d ps set funs lines = (symbols : List Interpretation) × (marks : List Mark) × SayCovering d ps set funs lines symbols marks
+
+abbrev SaysNothing : SystemData → List PairData → List ℕ → List Interp → List Interp → Type 0
+SaysNothing d ps set funs lines = (symbols : List Interpretation) (marks : List Mark) → SayCovering d ps set funs lines symbols marks → ⊥
+
+covering_said : (d : SystemData) (ps : List PairData) (set : List ℕ) (funs lines : List Interp) → AreDistinct d.fun_names
+    → SaysSome d ps set funs lines ⊎ SaysNothing d ps set funs lines
+covering_said d ps set funs lines apart = go (interpretations_or_none d.fun_names d.symbols.funs funs) (marks_or_none d lines)
+  where
+    at_marks : (symbols : List Interpretation) (marks : List Mark) → SayInterpretations d.fun_names d.symbols.funs funs symbols → SayMarks d lines marks
+        → Decided (AreMarked ps set (marked_numbers marks)) → SaysSome d ps set funs lines ⊎ SaysNothing d ps set funs lines
+    at_marks symbols marks says also (inl marked) = inl (symbols, marks, (says, also, marked))
+    at_marks symbols marks says also (inr not) =
+        inr (λ others more said. not (subst (λ (l : List Mark). AreMarked ps set (marked_numbers l)) (one_marks_said d lines more marks apart said.1 also) said.2))
+
+    go : SomeOrNone (SayInterpretations d.fun_names d.symbols.funs funs) → SomeOrNone (SayMarks d lines)
+        → SaysSome d ps set funs lines ⊎ SaysNothing d ps set funs lines
+    go (inr none) marks = inr (λ symbols others said. none symbols said.0)
+    go (inl symbols) (inr none) = inr (λ others marks said. none marks said.1)
+    go (inl (symbols, says)) (inl (marks, also)) = at_marks symbols marks says also (are_marked_decided ps set (marked_numbers marks))
+
 -- a node
 
 -- the line says a node whose conditions hold of the set
 abbrev SaysRight : SystemData → List PairData → List ℕ → w.Node → Type 0
-SaysRight d ps set line = (node : Node) × (left : List (List ℕ)) × SaysNode d line node × Leaves d.rules ps set node left
+SaysRight d ps set line = (node : Node) × (left : List (List ℕ)) × SaysNode d line node × Leaves d.symbols d.rules ps set node left
 
 abbrev NodeOrFault : SystemData → List PairData → List ℕ → w.Node → Type 0
-NodeOrFault d ps set line = SaysRight d ps set line ⊎ ((f : NodeFault) × IsNodeFault d ps set line f)
+NodeOrFault d ps set line = SaysRight d ps set line ⊎ ((f : NodeFault) × IsNodeFault without_limits d ps set line f)
 
 done_or_fault : (d : SystemData) (ps : List PairData) (set : List ℕ) → NodeOrFault d ps set w.done
 done_or_fault d ps [] = inl (done, [], tt, by_done)
@@ -127,16 +208,34 @@ subterm_said d ps set lines drop (inl (args, says, is)) =
     let (rest, kept) = kept_set set drop in inl (subterm args drop, rest ∷ [], (says, refl), by_subterm is kept)
 subterm_said d ps set lines drop (inr (f, fault)) = inr (Subterm f, fault)
 
+poly_said : (d : SystemData) (ps : List PairData) (set : List ℕ) (funs lines : List Interp) (rules pairs : List (List Move)) (drop : List ℕ)
+    → SaysSome d ps set funs lines ⊎ SaysNothing d ps set funs lines → NodeOrFault d ps set (w.interpretations funs lines rules pairs drop)
+poly_said d ps set funs lines rules pairs drop (inr nothing) = inr (BadSymbols, nothing)
+poly_said d ps set funs lines rules pairs drop (inl (symbols, marks, said)) =
+    go (covering_or_fault d.symbols d.rules ps set symbols marks (map transfers rules) (map transfers pairs) drop (said_lists d.fun_names d.symbols.funs funs symbols said.0).1 said.2)
+  where
+    go : CoveringOrFault d.symbols d.rules ps set symbols marks (map transfers rules) (map transfers pairs) drop
+        → NodeOrFault d ps set (w.interpretations funs lines rules pairs drop)
+    go (inr (f, first)) = inr (Poly f, (symbols, marks, said, first))
+    go (inl is) =
+        let (rest, kept) = kept_set set drop in
+        inl (poly symbols marks (map transfers rules) (map transfers pairs) drop, rest ∷ [], (said.0, said.1, refl, refl, refl), by_poly is kept)
+
 node_or_fault : (d : SystemData) (ps : List PairData) (set : List ℕ) (line : w.Node) → AreDistinct d.fun_names → NodeOrFault d ps set line
 node_or_fault d ps set w.done apart = done_or_fault d ps set
 node_or_fault d ps set w.alone apart = alone_or_fault d ps set
 node_or_fault d ps set (w.blocks parts) apart = blocks_said d ps set parts (blocks_or_fault (Follows d.rules ps) (follows_decided d.rules ps) set parts)
 node_or_fault d ps set (w.subterm lines drop) apart = subterm_said d ps set lines drop (projection_said d ps set lines drop apart)
+node_or_fault d ps set (w.interpretations funs lines rules pairs drop) apart = poly_said d ps set funs lines rules pairs drop (covering_said d ps set funs lines apart)
 
 -- the nodes in preorder
 
+-- the lines say nodes that prove the sets
+abbrev AreProvedBy : SystemData → List PairData → List (List ℕ) → List w.Node → Type 0
+AreProvedBy d ps sets lines = (nodes : List Node) × SayNodes d lines nodes × Proves d.symbols d.rules ps sets nodes
+
 abbrev HasNodeFault : SystemData → List PairData → ℕ → List (List ℕ) → List w.Node → Type 0
-HasNodeFault d ps k sets lines = (m : ℕ) × (f : NodeFault) × IsFirstNodeFault d ps k sets lines m f
+HasNodeFault d ps k sets lines = (m : ℕ) × (f : NodeFault) × IsFirstNodeFault without_limits d ps k sets lines m f
 
 proved_or_fault : (d : SystemData) (ps : List PairData) (k : ℕ) (sets : List (List ℕ)) (lines : List w.Node) → AreDistinct d.fun_names
     → Preorder (length sets) lines
@@ -151,14 +250,14 @@ proved_or_fault d ps k (set ∷ sets) (line ∷ lines) apart counted = elim (nod
           length-append left sets ∙ ap (λ n. n + length sets) (leaves_count d ps set line node left says leaves) in
       elim (proved_or_fault d ps (suc k) (left ++ sets) lines apart (subst (λ n. Preorder n lines) (sym count) counted)) [
         | inl (nodes, say, proves) ↦ inl (node ∷ nodes, (says, say), one_proved leaves proves)
-        | inr (m, f, first) ↦ inr (m, f, behind_first says leaves first)
+        | inr (m, f, first) ↦ inr (m, f, behind_first says leaves tt first)
       ]
 ]
 
 -- a certificate of termination
 
 abbrev YesOrFault : SystemData → List PairData → List ℕ → ℕ → List w.Node → Type 0
-YesOrFault d ps ranks pairs lines = IsValidYes d ps ranks pairs lines ⊎ ((r : Rejected) × IsFirstYesFault d ps ranks pairs lines r)
+YesOrFault d ps ranks pairs lines = IsValidYes d ps ranks pairs lines ⊎ ((r : CheckFault) × IsFirstYesFault without_limits d ps ranks pairs lines r)
 
 valid_or_yes_fault : (d : SystemData) (ps : List PairData) (ranks : List ℕ) (pairs : ℕ) (lines : List w.Node) → AreDistinct d.fun_names → Preorder 1 lines
     → YesOrFault d ps ranks pairs lines
@@ -167,25 +266,34 @@ valid_or_yes_fault d ps ranks pairs lines apart counted =
   where
     go : Decided (length ranks ≡ d.symbols.sorts) → Passing d.symbols (rank_of ranks) d.rules ⊎ ((i z : ℕ) × IsFirstBreak d.symbols (rank_of ranks) d.rules i z)
         → Decided (pairs ≡ length ps) → YesOrFault d ps ranks pairs lines
-    go (inr other) passing count = inr (row.RankCount, rank_count other)
-    go (inl ranked) (inr (i, z, first)) count = inr (row.Inaccessible i z, inaccessible ranked first)
-    go (inl ranked) (inl passing) (inr other) = inr (row.PairCount (length ps), pair_count ranked passing other)
+    go (inr other) passing count = inr (check.Rejected row.RankCount, rank_count other)
+    go (inl ranked) (inr (i, z, first)) count = inr (check.Rejected (row.Inaccessible i z), inaccessible ranked first)
+    go (inl ranked) (inl passing) (inr other) = inr (check.Rejected (row.PairCount (length ps)), pair_count ranked passing other)
     go (inl ranked) (inl passing) (inl right) =
         let (set, whole) = whole_set ps in
         elim (proved_or_fault d ps 0 (set ∷ []) lines apart counted) [
-          | inl proved ↦ inl (valid_yes d ps ranks pairs lines set (ranked, passing) right whole proved)
+          | inl (nodes, say, proves) ↦ inl (record {
+              rank_count = ranked;
+              passing = passing;
+              pair_count = right;
+              set = set;
+              whole = whole;
+              nodes = nodes;
+              says = say;
+              proves = proves;
+            })
           | inr (k, f, first) ↦ inr (at_node k f, in_node ranked passing right whole first)
         ]
 
 -- a certificate of either kind
 
 abbrev pub ValidOrFault : SystemData → List PairData → Cert → Type 0
-ValidOrFault d ps c = IsValidCert d ps c ⊎ ((r : Rejected) × IsFirstFault d ps c r)
+ValidOrFault d ps c = IsValidCert d ps c ⊎ ((r : CheckFault) × IsFirstFault without_limits d ps c r)
 
 of_claim_too : (d : SystemData) (ps : List PairData) (t : RTm) (steps : List taken.Step) (at : List ℕ) (puts : List w.Put)
     → ClaimOrFault d t steps at puts → ValidOrFault d ps (no t steps at puts)
 of_claim_too d ps t steps at puts (inl valid) = inl valid
-of_claim_too d ps t steps at puts (inr (f, first)) = inr (of_claim f, (f, refl, first))
+of_claim_too d ps t steps at puts (inr (f, first)) = inr (check.Rejected (of_claim f), (f, refl, first))
 
 pub valid_or_faulty : (d : SystemData) (ps : List PairData) (c : Cert) → IsWellMadeSystem d → IsCert c → ValidOrFault d ps c
 valid_or_faulty d ps (yes version ranks pairs lines) made cert = valid_or_yes_fault d ps ranks pairs lines made.fun_names_distinct cert.parts.4

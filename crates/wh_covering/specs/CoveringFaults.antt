@@ -1,5 +1,5 @@
 -- What can be wrong with a node of interpretations, and what comes first.
-use Rattle.std.specs.Prelude.{ℕ, ◌<◌, ◌≡◌, ◌≢◌, ◌⊎◌, List, Some, length, map, Bool, true, false, Contains, slice_get}
+use Rattle.std.specs.Prelude.{ℕ, ◌<◌, ◌≡◌, ◌≢◌, ◌⊎◌, List, Some, length, Bool, true, false, Contains, slice_get}
 use Rattle.wh_types.specs.Ty.{arguments}
 use Rattle.wh_terms.specs.Typing.{Symbols}
 use Rattle.wh_terms.specs.Rules.{RewriteRule}
@@ -123,7 +123,7 @@ IsFirstCoveringFault limits S rules pairs set symbols marks rule_lines pair_line
     IsReady S rules set symbols marks rule_lines pair_lines drop
     × ((k : ℕ) → IsRightRule limits rules symbols rule_lines k)
     × ((i : ℕ) × ((k : ℕ) → k < i → IsRightPair limits S rules pairs set symbols marks pair_lines drop k)
-      × IsPairFault limits S rules pairs set symbols marks pair_lines drop i n f)
+    × IsPairFault limits S rules pairs set symbols marks pair_lines drop i n f)
 
 -- the sides of the rules and of the pairs of the set are evaluated without a value that exceeds a limit
 pub record IsSmall (S : Symbols) (rules : List RewriteRule) (pairs : List PairData) (set : List ℕ) (symbols : List Interpretation)

@@ -1,1 +1,2 @@
 pub mod CoveringFaults
+pub mod Lines

@@ -3,7 +3,12 @@
 #![tactic(auto)]
 
 mod check;
+mod dropping;
 mod fault;
+mod lines;
+mod normality;
+mod pairs;
+mod rules;
 
 pub use check::check_covering;
 pub use fault::{CoveringFault, LineFault};

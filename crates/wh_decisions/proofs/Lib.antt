@@ -3,11 +3,10 @@ pub mod Clashes
 pub mod BlockFaults
 pub mod Parts
 pub mod Projections
+pub mod Polynomials
+pub mod Coverings
 pub mod Breaks
 pub mod Meant
 pub mod Stops
 pub mod Lines
 pub mod Claims
-pub mod PolyDecisions
-pub mod CoverDecisions
-pub mod Coverings

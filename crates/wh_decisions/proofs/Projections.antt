@@ -9,7 +9,7 @@ use Rattle.wh_system.specs.PairData.{PairData, IsIncreasing}
 use Rattle.wh_system.proofs.TypedDecided.{Decided, below_decided, decided_by, both_decided}
 use Rattle.wh_system.proofs.ByPlace.{some_one, contains_at}
 use Rattle.wh_graph.proofs.TimesLemmas.{contains_or_not}
-use Rattle.wh_subterm.specs.Marked.{HeadsASide, Heads, IsMarked}
+use Rattle.wh_subterm.specs.Marked.{HeadsASide, Heads, IsMarked, AreMarked}
 use Rattle.wh_subterm.specs.Parts.{Part}
 use Rattle.wh_subterm.specs.Projections.{Chosen, IsProjected, Equal, Below, Decreasing}
 use Rattle.wh_subterm.specs.SubtermRows.{chosen_symbols, AreForMarked, HasNone, IsPlace, StandsTwice, HasStray, IsBadDrop, IsNotDecreasing, NoneIs, IsProjection, IsFirstSubtermFault}
@@ -82,12 +82,14 @@ all_listed_decided pairs set fs = elim (first_place (IsUnlisted pairs fs) (unlis
   | inr none ↦ inl (listed_all pairs set fs none)
 ]
 
-pub for_marked_decided : (pairs : List PairData) (set : List ℕ) (args : List Chosen) → Decided (AreForMarked pairs set args)
-for_marked_decided pairs set args =
+pub are_marked_decided : (pairs : List PairData) (set fs : List ℕ) → Decided (AreMarked pairs set fs)
+are_marked_decided pairs set fs =
     decided_by (λ (up, (each, all)). record { in_order = up; each = λ f. (each f, all f) })
     (λ marked. (marked.in_order, (λ f found. (marked.each f).0 found, λ f is. (marked.each f).1 is)))
-    (both_decided (increasing_decided (chosen_symbols args))
-    (both_decided (each_marked_decided pairs set (chosen_symbols args)) (all_listed_decided pairs set (chosen_symbols args))))
+    (both_decided (increasing_decided fs) (both_decided (each_marked_decided pairs set fs) (all_listed_decided pairs set fs)))
+
+pub for_marked_decided : (pairs : List PairData) (set : List ℕ) (args : List Chosen) → Decided (AreForMarked pairs set args)
+for_marked_decided pairs set args = are_marked_decided pairs set (chosen_symbols args)
 
 -- places
 

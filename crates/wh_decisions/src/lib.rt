@@ -8,5 +8,5 @@ mod yes;
 pub use no::claims_are_valid_or_have_a_first_fault;
 pub use yes::{
     blocks_are_right_or_have_a_first_fault, choices_are_a_projection_or_have_a_first_fault,
-    coverings_hold_or_have_a_first_fault, may_is_decided, rules_pass_or_have_a_first_break,
+    interpretations_cover_or_have_a_first_fault, may_is_decided, rules_pass_or_have_a_first_break,
 };

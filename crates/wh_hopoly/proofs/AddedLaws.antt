@@ -31,7 +31,7 @@ weighed_is_within A n x h k (inl (inr o)) = o
 weighed_is_within A n x h k (inr (inl o)) = let e = weight_added A (n + length (arguments A)) n in omega (arith, e, h, o)
 weighed_is_within A n x h k (inr (inr o)) = let e = nesting_added A (n + length (arguments A)) n in omega (arith, e, k, o)
 
-followed_assoc : (ps qs rs : Arguments) → arguments_followed_by (arguments_followed_by ps qs) rs ≡ arguments_followed_by ps (arguments_followed_by qs rs)
+pub followed_assoc : (ps qs rs : Arguments) → arguments_followed_by (arguments_followed_by ps qs) rs ≡ arguments_followed_by ps (arguments_followed_by qs rs)
 followed_assoc no_arguments qs rs = refl
 followed_assoc (argument p ps) qs rs = ap (argument p) (followed_assoc ps qs rs)
 

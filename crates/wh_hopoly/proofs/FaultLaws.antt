@@ -4,7 +4,6 @@ use Rattle.std.proofs.Common.{sym, subst}
 use Rattle.wh_types.specs.Outcome.{IfBecause}
 use Rattle.wh_types.specs.declared.want.Or.{Or}
 use Rattle.wh_types.specs.declared.want.Or.TheVariants.{NoMemory, Because}
-use Rattle.wh_hopoly.specs.declared.excess.Excess.{Excess}
 
 -- a weaker fact of a value
 pub ok_so : {T E : Type 0} (r : Result T E) (P Q : T → Type 0) → ((x : T) → P x → Q x) → IfOk r P → IfOk r Q
@@ -12,14 +11,14 @@ ok_so (Ok x) P Q f h = f x h
 ok_so (Err e) P Q f h = tt
 
 -- and of a cause
-pub because_so : {T : Type 0} (r : Result T (Or Excess)) (P Q : Excess → Type 0) → ((e : Excess) → P e → Q e) → IfBecause r P → IfBecause r Q
+pub because_so : {T E : Type 0} (r : Result T (Or E)) (P Q : E → Type 0) → ((e : E) → P e → Q e) → IfBecause r P → IfBecause r Q
 because_so (Ok x) P Q f h = tt
 because_so (Err NoMemory) P Q f h = tt
 because_so (Err (Because e)) P Q f h = f e h
 
 -- the cause of the callee's result s in a result of another type
-pub passed_on : {T U : Type 0} (s : Result U (Or Excess)) (r : Result T (Or Excess)) (e : Or Excess) (P Q : Excess → Type 0) → IsErrAnd r (λ x. x ≡ e) → IfBecause {T = U} {E = Excess} (Err e) P
-    → ((x : Excess) → P x → Q x) → IfBecause r Q
+pub passed_on : {T U E : Type 0} (s : Result U (Or E)) (r : Result T (Or E)) (e : Or E) (P Q : E → Type 0) → IsErrAnd r (λ x. x ≡ e) → IfBecause {T = U} {E = E} (Err e) P
+    → ((x : E) → P x → Q x) → IfBecause r Q
 passed_on s (Ok x) e P Q same h f = tt
 passed_on s (Err NoMemory) e P Q same h f = tt
 passed_on s (Err (Because x)) NoMemory P Q same h f = absurd (cc)

@@ -23,3 +23,7 @@ pub mod ProductWalk
 pub mod RenumberLaws
 pub mod FaultLaws
 pub mod AddedLaws
+pub mod RunLaws
+pub mod ReplacingLaws
+pub mod ValuedLaws
+pub mod GrowingLaws

@@ -14,7 +14,7 @@ reverse_then Less u = refl
 reverse_then Equal u = refl
 reverse_then Greater u = refl
 
-nat_equal : (x y : ℕ) → nat_cmp x y ≡ Equal → x ≡ y
+pub nat_equal : (x y : ℕ) → nat_cmp x y ≡ Equal → x ≡ y
 nat_equal x y h = grind arith
 
 nat_same : (x : ℕ) → nat_cmp x x ≡ Equal

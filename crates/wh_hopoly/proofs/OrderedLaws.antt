@@ -43,7 +43,7 @@ pub ordered_sum : (p q : Polynomial) → Ordered p → Ordered q → Ordered (su
 ordered_sum zero_poly q n m = m
 ordered_sum (plus c us p) q n m = ordered_add c us (sum_poly p q) n.0 n.1 (ordered_sum p q n.3 m)
 
-ordered_join : (x : ℕ) (ps : Arguments) (us : Factors) → OrderedFactors us → OrderedFactors (join_factor x ps us)
+pub ordered_join : (x : ℕ) (ps : Arguments) (us : Factors) → OrderedFactors us → OrderedFactors (join_factor x ps us)
 ordered_join x ps no_factors n = (tt, tt)
 ordered_join x ps (times y qs us) n = go (ordered_join x ps us n.1) (ordering_then (nat_cmp x y) (compare_arguments ps qs)) refl
   where

@@ -38,7 +38,7 @@ HeadOk Γ A head = (X : List Ty) (ps : Arguments) → NormalArguments (Γ ++ X) 
 normal_atom : (Γ : List Ty) (x : ℕ) (ps : Arguments) (A : Ty) → HasType Γ x A → NormalArguments Γ A ps → Normal Γ (atom x ps)
 normal_atom Γ x ps A a n = (omega arith, (A, a, n, tt, tt), tt, tt)
 
-replaced_atom : (head : List Ty → Arguments → Run Polynomial) (Γ : List Ty) (A : Ty) (Θ : List Ty) (x : ℕ) (B : Ty) (qs : Arguments) → HeadOk Γ A head → HasType (Γ ++ A ∷ Θ) x B → NormalArguments (Γ ++ Θ) B qs
+pub replaced_atom : (head : List Ty → Arguments → Run Polynomial) (Γ : List Ty) (A : Ty) (Θ : List Ty) (x : ℕ) (B : Ty) (qs : Arguments) → HeadOk Γ A head → HasType (Γ ++ A ∷ Θ) x B → NormalArguments (Γ ++ Θ) B qs
     → Normal (Γ ++ Θ) (if x == length Γ then head (without (length Γ) (Γ ++ A ∷ Θ)) qs else one (atom (down (length Γ) x) qs)).result
 replaced_atom head Γ A Θ x B qs h a n = go (x == length Γ) refl
   where

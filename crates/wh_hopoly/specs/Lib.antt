@@ -10,5 +10,8 @@ pub mod Excesses
 pub mod Outcomes
 pub mod Merges
 pub mod Totals
+pub mod Growing
 pub mod Added
 pub mod Scopes
+pub mod Replacements
+pub mod Valued

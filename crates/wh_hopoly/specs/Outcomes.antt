@@ -1,16 +1,26 @@
 -- What the call that evaluates an expression answers.
-use Rattle.std.specs.Prelude.{ℕ, ◌≡◌, List, [], ◌∷◌, ◌++◌, Contains}
+use Rattle.std.specs.Prelude.{◌≡◌, List, [], ◌∷◌, Contains}
 use Rattle.wh_types.specs.Ty.{Ty}
-use Rattle.wh_hopoly.specs.Polynomials.{Polynomial}
+use Rattle.wh_hopoly.specs.Polynomials.{Polynomial, Arguments}
 use Rattle.wh_hopoly.specs.Evaluation.{Run, Expression, apply, Interpretation}
 use Rattle.wh_hopoly.specs.Limits.{Exceeds, Overflows, TooLarge}
+use Rattle.wh_hopoly.specs.Excesses.{ExceedsAs}
 use Rattle.wh_hopoly.specs.Parts.{ValueOfPart}
+use Rattle.wh_hopoly.specs.declared.excess.Excess.{Excess}
 use Rattle.wh_hopoly.specs.declared.fault.PolyFault.{PolyFault}
 use Rattle.wh_hopoly.specs.declared.fault.PolyFault.TheVariants.{Overflow, TooLarge as too_large}
 
 -- p is the result, and no value on the way to it exceeds a limit (ours)
 abbrev pub ComesTo : Run Polynomial → Polynomial → Type 0
 ComesTo run p = (p ≡ run.result) × ((w : Polynomial) → Contains run.values w → Exceeds w → ⊥)
+
+-- the arguments ps are the result, and no value on the way to them exceeds a limit (ours)
+abbrev pub ComesToArguments : Run Arguments → Arguments → Type 0
+ComesToArguments run ps = (ps ≡ run.result) × ((w : Polynomial) → Contains run.values w → Exceeds w → ⊥)
+
+-- some value on the way exceeds the limit that is named (ours)
+abbrev pub PassesLimit : {A : Type 0} → Run A → Excess → Type 0
+PassesLimit run e = (w : Polynomial) × Contains run.values w × ExceedsAs e w
 
 -- the rule of the part that is named gives a value that exceeds the limit that is named (ours)
 abbrev pub IsFaultOf : List Interpretation → List Ty → Expression → PolyFault → Type 0

@@ -9,6 +9,8 @@ ghost use Rattle.wh_hopoly.specs.Arithmetic.{sum_poly, scale, multiply};
 ghost use Rattle.wh_hopoly.specs.Limits.{Overflows, TooLarge};
 ghost use Rattle.wh_hopoly.specs.Evaluation.{Expression, Interpretation, TypedExpression, NormalInterpretations, type_of, evaluate, Values};
 ghost use Rattle.wh_hopoly.specs.Parts.{parts, ValueOfPart};
+ghost use Rattle.wh_hopoly.specs.Outcomes.{IsFaultOf};
+ghost use Rattle.wh_hopoly.specs.declared.fault.PolyFault.TheVariants.{Overflow, TooLarge as too_large};
 
 /// The value of a well-typed expression over normal interpretations is normal.
 pub fn values_are_normal()
@@ -71,4 +73,10 @@ pub fn partial_sums_exceed_in_the_next()
 /// The values of an evaluation are those that the rules of its parts give.
 pub fn values_are_those_of_the_parts()
     ensures { (symbols : List Interpretation) (scope : List Ty) (e : Expression) (w : Polynomial) → Values symbols scope e w ↔ ((k : ℕ) × (k < parts e) × ValueOfPart symbols scope e k w) }
+{}
+
+/// The value that a fault speaks of is one of the values of the evaluation.
+pub fn faults_are_of_values()
+    ensures overflow { (symbols : List Interpretation) (scope : List Ty) (e : Expression) (k : ℕ) → IsFaultOf symbols scope e (Overflow k) → (w : Polynomial) × Values symbols scope e w × Overflows w }
+    ensures large { (symbols : List Interpretation) (scope : List Ty) (e : Expression) (k : ℕ) → IsFaultOf symbols scope e (too_large k) → (w : Polynomial) × Values symbols scope e w × TooLarge w }
 {}

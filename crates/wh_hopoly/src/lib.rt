@@ -4,9 +4,12 @@
 mod comparing;
 mod copying;
 mod covers;
+mod evaluating;
 mod excess;
 mod expression;
 mod fault;
+mod growing;
+mod joining;
 mod laws;
 mod limits;
 mod moves;
@@ -15,9 +18,12 @@ mod normality;
 mod polynomial;
 mod products;
 mod renumbering;
+mod replacing;
 mod scope;
 mod sums;
+mod table;
 mod totals;
+mod valued;
 mod variables;
 mod weighing;
 
@@ -29,9 +35,9 @@ pub use expression::{Expr, Move, Symbol};
 pub use fault::PolyFault;
 pub use laws::{
     comparing_is_reversed, comparing_is_transitive, equal_polynomials_compare_as_equal,
-    partial_sums_exceed_in_the_next, parts_of_sums_exceed_in_them, products_are_normal,
-    rows_of_products_exceed_in_them, sums_are_normal, sums_associate, sums_commute,
-    values_are_normal, values_are_those_of_the_parts,
+    faults_are_of_values, partial_sums_exceed_in_the_next, parts_of_sums_exceed_in_them,
+    products_are_normal, rows_of_products_exceed_in_them, sums_are_normal, sums_associate,
+    sums_commute, values_are_normal, values_are_those_of_the_parts,
 };
 pub use limits::check_limits;
 pub use moves::{Covers, Moves};

@@ -1,6 +1,7 @@
 //! The test of a value against the limits.
 
-ghost use Rattle.std.specs.Prelude.{◌<◌, ◌^◌, MatchResult};
+ghost use Rattle.std.specs.Prelude.{◌≡◌, ◌<◌, ◌^◌, IfOk, MatchResult};
+ghost use Rattle.wh_types.specs.Outcome.{IfBecause};
 ghost use Rattle.wh_hopoly.specs.Erase.{poly};
 ghost use Rattle.wh_hopoly.specs.Limits.{Overflows, Exceeds};
 ghost use Rattle.wh_hopoly.specs.Excesses.{ExceedsAs};
@@ -8,6 +9,7 @@ ghost use Rattle.wh_hopoly.specs.Excesses.{ExceedsAs};
 use crate::excess::Excess;
 use crate::polynomial::Poly;
 use crate::weighing::weigh;
+use wh_types::Or;
 
 /// The greatest weight of a value.
 pub const MAX_WEIGHT: u32 = 65_536;
@@ -25,6 +27,17 @@ pub fn check_limits(p: &Poly) -> Result<(), Excess>
     }
 }
 
+/// The value, if it is within the limits.
+pub fn tested(value: Poly) -> Result<Poly, Or<Excess>>
+    ensures ok { IfOk result (λ r. (poly r ≡ poly value) × (Exceeds (poly r) → ⊥)) }
+    ensures fault { IfBecause result (λ e. ExceedsAs e (poly value)) }
+{
+    match check_limits(&value) {
+        Ok(()) => Ok(value),
+        Err(excess) => Err(Or::Because(excess)),
+    }
+}
+
 // What is stored never overflows: a walk that does nothing at run time.
 fn coefficients_fit(p: &Poly)
     ensures { Overflows (poly p.now) → ⊥ }
@@ -34,8 +47,8 @@ fn coefficients_fit(p: &Poly)
     }
 }
 
-// A number of 128 bits is below 2^128.
-fn fits(coefficient: u128)
+/// A number of 128 bits is below 2^128.
+pub fn fits(coefficient: u128)
     ensures { coefficient < 2 ^ 128 }
 {
     let _ = coefficient;

@@ -1,16 +1,20 @@
 //! The normal form of an expression: its value by the rules of evaluation, which stop at the first value that exceeds a limit.
 
-ghost use Rattle.std.specs.Prelude.{◌++◌, ◌∷◌, [], map, length, IfOk};
+ghost use Rattle.std.specs.Prelude.{◌≡◌, ◌++◌, ◌∷◌, [], map, length, IfOk};
 ghost use Rattle.wh_types.specs.Erase.{ty};
 ghost use Rattle.wh_types.specs.Outcome.{IfBecause};
 ghost use Rattle.wh_hopoly.specs.Erase.{poly, expression, interpretations};
 ghost use Rattle.wh_hopoly.specs.Evaluation.{symbol, evaluate, Interpretation, TypedExpression, NormalInterpretations};
 ghost use Rattle.wh_hopoly.specs.Outcomes.{ComesTo, IsFaultOf, applied_to};
 
+use crate::evaluating::evaluate;
 use crate::expression::{Expr, Symbol};
 use crate::fault::PolyFault;
 use crate::polynomial::Poly;
-use std::alloc::Global;
+use crate::scope::Scope;
+use crate::table::Table;
+use crate::valued::{apply_valued, located, value_of_symbol};
+use std::alloc::{AllocError, Global};
 use wh_types::{Or, SimpleType};
 
 /// The normal form of a well-typed expression: its value in the scope that goes on with the arguments of its type.
@@ -29,7 +33,11 @@ pub fn normal(
     ensures ok { IfOk result (λ r. ComesTo (evaluate (interpretations symbols.now) (map ty scope.now) (expression expr.now)) (poly r)) }
     ensures fault { IfBecause result (λ e. IsFaultOf (interpretations symbols.now) (map ty scope.now) (expression expr.now) e) }
 {
-    Err(Or::NoMemory)
+    let count = count_of(scope.len())?;
+    let mut next = 0;
+    let table = Table::Alone(symbols);
+    let valued = evaluate(alloc, expr, &Scope::Given(scope), count, &table, &mut next)?;
+    Ok(valued.value)
 }
 
 /// The same of a function that is no symbol of the expressions, told by its type and its polynomial, applied to arguments in turn.
@@ -47,5 +55,27 @@ pub fn normal_call(
     ensures ok { IfOk result (λ r. let all = interpretations symbols.now ++ record { kind = ty kind.now; polynomial = poly function.now } ∷ [] in ComesTo (evaluate all (map ty scope.now) (applied_to (symbol (length symbols.now)) (map expression args.now))) (poly r)) }
     ensures fault { IfBecause result (λ e. let all = interpretations symbols.now ++ record { kind = ty kind.now; polynomial = poly function.now } ∷ [] in IsFaultOf all (map ty scope.now) (applied_to (symbol (length symbols.now)) (map expression args.now)) e) }
 {
-    Err(Or::NoMemory)
+    let count = count_of(scope.len())?;
+    let given = Scope::Given(scope);
+    let table = Table::With(symbols, kind, function);
+    // The whole is part 0, and the function is the part behind all applications to its arguments.
+    let mut at = count_of(args.len())?;
+    let mut next = at.checked_add(1).ok_or(AllocError)?;
+    let mut value = located(at, value_of_symbol(alloc, kind, function, count))?;
+    for arg in args {
+        let argument = evaluate(alloc, arg, &given, count, &table, &mut next)?;
+        at -= 1;
+        value = located(
+            at,
+            apply_valued(alloc, value, &argument.value, &given, count),
+        )?;
+    }
+    Ok(value.value)
+}
+
+// A number of variables or of arguments. One beyond 32 bits is told as want of memory.
+fn count_of(length: usize) -> Result<u32, AllocError>
+    ensures { IfOk result (λ count. count ≡ length) }
+{
+    u32::try_from(length).or(Err(AllocError))
 }

@@ -1,6 +1,6 @@
-//! The scope inside the arguments of a polynomial, as a chain of frames on the stack: no memory is taken to widen it.
+//! A scope that grows, inside arguments and under binders, as a chain of frames on the stack: no memory is taken to widen it.
 
-ghost use Rattle.std.specs.Prelude.{◌≡◌, ◌+◌, length, MatchResult};
+ghost use Rattle.std.specs.Prelude.{◌≡◌, ◌+◌, [], ◌∷◌, length, MatchResult};
 ghost use Rattle.wh_types.specs.Erase.{ty};
 ghost use Rattle.wh_types.specs.Ty.{arguments};
 ghost use Rattle.wh_hopoly.specs.Polynomials.{HasType};
@@ -15,6 +15,8 @@ pub enum Scope<'a> {
     Given(&'a [SimpleType]),
     /// The types of a scope, and then the types of the arguments of one more type.
     Wider(&'a Scope<'a>, &'a SimpleType),
+    /// The types of a scope, and then one more type.
+    Bound(&'a Scope<'a>, &'a SimpleType),
 }
 
 /// The type of the variable, or how far past the end of the scope its number is.
@@ -33,6 +35,10 @@ pub fn find<'a>(scope: &'a Scope<'a>, variable: usize) -> Result<&'a SimpleType,
             Ok(found) => Ok(found),
             Err(past) => find_argument(kind, past),
         },
+        Scope::Bound(around, kind) => match find(around, variable) {
+            Ok(found) => Ok(found),
+            Err(past) => find_single(kind, past),
+        },
     }
 }
 
@@ -50,4 +56,11 @@ fn find_argument(kind: &SimpleType, i: usize) -> Result<&SimpleType, usize>
         here = rest;
     }
     Err(left)
+}
+
+// The type itself where none are past, or how far past it is.
+fn find_single(kind: &SimpleType, past: usize) -> Result<&SimpleType, usize>
+    ensures { MatchResult result (λ found. HasType (ty kind.now ∷ []) past (ty found.now)) (λ more. 1 + more ≡ past) }
+{
+    if past == 0 { Ok(kind) } else { Err(past - 1) }
 }

@@ -11,7 +11,7 @@ ghost use Rattle.wh_hopoly.specs.Merges.{FirstOfSum, AddsFirst, FirstOverflows};
 
 use crate::comparing::order_factors;
 use crate::excess::Excess;
-use crate::limits::check_limits;
+use crate::limits::tested;
 use crate::polynomial::{Monomial, Poly};
 use std::alloc::Global;
 use std::cmp::Ordering;
@@ -24,11 +24,7 @@ pub fn sum(alloc: Global, a: Poly, b: Poly) -> Result<Poly, Or<Excess>>
     ensures ok { IfOk result (λ r. (poly r ≡ sum_poly (poly a) (poly b)) × (Exceeds (poly r) → ⊥)) }
     ensures fault { IfBecause result (λ e. ExceedsAs e (sum_poly (poly a) (poly b))) }
 {
-    let merged = merge(alloc, a, b)?;
-    match check_limits(&merged) {
-        Ok(()) => Ok(merged),
-        Err(excess) => Err(Or::Because(excess)),
-    }
+    tested(merge(alloc, a, b)?)
 }
 
 // The sum, whatever its weight.

@@ -80,8 +80,8 @@ pub fn one_factor(alloc: Global, head: u32, args: Polys) -> Result<Poly, AllocEr
     Ok(value)
 }
 
-// The count of a scope with the arguments of the type. One beyond 32 bits is told as want of memory.
-fn with_arguments(count: u32, kind: &SimpleType) -> Result<u32, AllocError>
+/// The count of a scope with the arguments of the type. One beyond 32 bits is told as want of memory.
+pub fn with_arguments(count: u32, kind: &SimpleType) -> Result<u32, AllocError>
     ensures { IfOk result (λ r. r ≡ count + length (arguments (ty kind.now))) }
 {
     let mut more = count;

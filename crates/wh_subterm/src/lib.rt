@@ -12,6 +12,7 @@ mod symbols;
 
 pub use check::check_projection;
 pub use decrease::is_below;
+pub use dropped::is_bad_drop;
 pub use projection::{Choice, Projection, SubtermFault};
 pub use relation::{Relation, relation_at};
 pub use symbols::marked_symbols;

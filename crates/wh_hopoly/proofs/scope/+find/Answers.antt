@@ -1,5 +1,5 @@
 -- A variable is one of the frames around, or an argument of the last one.
-use Rattle.std.proofs.Common.{◌≡◌, ◌+◌, length, sym, subst, ap}
+use Rattle.std.proofs.Common.{◌≡◌, ◌+◌, [], ◌∷◌, length, sym, subst, ap}
 use Rattle.std.specs.Prelude.{MatchResult}
 use Rattle.wh_types.specs.Ty.{arguments}
 use Rattle.wh_types.specs.Erase.{ty}
@@ -21,3 +21,11 @@ returns-in-Ok t c = subst (λ Γ. HasType Γ c.args.variable (ty c.in-Ok.found.n
 pub returns-in-Err : goal.returns-in-Err
 returns-in-Err t c = subst (λ Γ. MatchResult c.find_argument.result (λ k. HasType Γ c.args.variable (ty k.now)) (λ past. length Γ + past ≡ c.args.variable)) (sym (ap scope_of c.in-Wider.is))
     (found_behind (λ k. ty k.now) (scope_of c.in-Wider.around.now) (arguments (ty c.in-Wider.kind.now)) c.args.variable c.in-Err.past c.find_argument.result c.in-Err.ensures c.find_argument.ensures)
+
+pub returns-in-Ok-find : goal.returns-in-Ok-find
+returns-in-Ok-find t c = subst (λ Γ. HasType Γ c.args.variable (ty c.in-Ok-find.found.now)) (sym (ap scope_of c.in-Bound.is))
+    (at_left (scope_of c.in-Bound.around.now) (ty c.in-Bound.kind.now ∷ []) c.args.variable (ty c.in-Ok-find.found.now) c.in-Ok-find.ensures)
+
+pub returns-in-Err-find : goal.returns-in-Err-find
+returns-in-Err-find t c = subst (λ Γ. MatchResult c.find_single.result (λ k. HasType Γ c.args.variable (ty k.now)) (λ past. length Γ + past ≡ c.args.variable)) (sym (ap scope_of c.in-Bound.is))
+    (found_behind (λ k. ty k.now) (scope_of c.in-Bound.around.now) (ty c.in-Bound.kind.now ∷ []) c.args.variable c.in-Err-find.past c.find_single.result c.in-Err-find.ensures c.find_single.ensures)

@@ -1,0 +1,4 @@
+pub mod SideLemmas
+pub mod LineLemmas
+pub mod Walks
+pub mod CoverWalk

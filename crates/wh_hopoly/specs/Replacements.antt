@@ -1,0 +1,48 @@
+-- What stands for a variable that is replaced, and the scopes before and after.
+use Rattle.std.specs.Prelude.{ℕ, ◌==◌, ◌≡◌, List, ◌∷◌, ◌++◌, length, if◌then◌else◌}
+use Rattle.wh_types.specs.Ty.{Ty, sort, ◌⇒◌, arguments}
+use Rattle.wh_types.specs.Erase.{ty}
+use Rattle.wh_hopoly.specs.Polynomials.{Polynomial, Arguments, Normal}
+use Rattle.wh_hopoly.specs.Arithmetic.{atom}
+use Rattle.wh_hopoly.specs.Evaluation.{Run, one, next, type_at, down, without, moved, applied, apply_one, replace_arguments}
+use Rattle.wh_hopoly.specs.Scopes.{scope_of}
+use Rattle.wh_hopoly.specs.Erase.{poly}
+use Rattle.wh_hopoly.specs.declared.replacing.Replacement.{Replacement}
+use Rattle.wh_hopoly.specs.declared.replacing.Place.{Place}
+
+-- what a factor headed by the variable becomes: the value, of this type and of a scope of length n, applied to its arguments (Fuhs and Kop 2012)
+abbrev pub head_by : Ty → ℕ → Polynomial → List Ty → Arguments → Run Polynomial
+head_by A n g Δ ps = applied A Δ (moved n Δ g) ps
+
+-- the same, by what stands for the variable in the program (ours)
+abbrev pub head_of : Replacement → List Ty → Arguments → Run Polynomial
+head_of r = head_by (ty r.kind.now) r.variable (poly r.value.now)
+
+-- what a factor becomes, once its arguments are replaced (Fuhs and Kop 2012)
+abbrev pub replace_factor : (List Ty → Arguments → Run Polynomial) → ℕ → List Ty → ℕ → Arguments → Run Polynomial
+replace_factor head v Γ x ps = next (replace_arguments head v Γ (type_at Γ x) ps) (λ qs. if x == v then head (without v Γ) qs else one (atom (down v x) qs))
+
+-- the variable n has the type A between two parts of the scope Γ, it is gone from Δ, and the value g is normal where A's arguments go
+-- on from the first part (ours)
+pub record Replaces (A : Ty) (n : ℕ) (g : Polynomial) (Γ Δ : List Ty) : Type 0 where
+  pub around : List Ty
+  pub behind : List Ty
+  pub before : Γ ≡ around ++ A ∷ behind
+  pub after : Δ ≡ around ++ behind
+  pub number : n ≡ length around
+  pub normal : Normal (around ++ arguments A) g
+
+-- the replacement fits the place, whose variables are counted (ours)
+abbrev pub Fits : Replacement → Place → Type 0
+Fits r place =
+    Replaces (ty r.kind.now) r.variable (poly r.value.now) (scope_of place.inner) (scope_of place.outer) × (place.count ≡ length (scope_of place.inner))
+
+-- a value of a functional type applied to a value of its first argument's type; a sort has no arguments, and the value stays (ours)
+abbrev pub apply_at : Ty → List Ty → Polynomial → Polynomial → Run Polynomial
+apply_at (sort s) Γ g p = one g
+apply_at (A ⇒ B) Γ g p = apply_one A B Γ g p
+
+-- the type is functional, and p is normal for its first argument (ours)
+abbrev pub NormalFor : List Ty → Ty → Polynomial → Type 0
+NormalFor Γ (sort s) p = ⊥
+NormalFor Γ (A ⇒ B) p = Normal (Γ ++ arguments A) p

@@ -1,0 +1,8 @@
+pub mod SetLemmas
+pub mod CountLemmas
+pub mod ArriveLemmas
+pub mod LimitLemmas
+pub mod WalkLemmas
+pub mod NodeLemmas
+pub mod LineLemmas
+pub mod ProofLemmas

@@ -1,0 +1,173 @@
+-- A node for a set, from the answers of its parts.
+use Rattle.std.proofs.Common.{◌≡◌, ◌≢◌, ◌↔◌, ℕ, zero, suc, ◌+◌, ◌^◌, ◌<◌, ◌≤◌, ◌==◌, eqb-true, Bool, true, false, not, List, [], ◌∷◌, ◌++◌, length, map, reverse, get_or, Some, slice_get, IsTrue, Contains, All, refl, sym, ap, subst, ◌∙◌, arith}
+use Rattle.std.proofs.lemmas.List.Elements.{All-nil, All-cons}
+use Rattle.wh_terms.specs.Rules.{RewriteRule}
+use Rattle.wh_system.specs.Systems.{SystemData}
+use Rattle.wh_system.specs.WellMade.{IsWellMadeSystem}
+use Rattle.wh_system.specs.PairData.{PairData, pair_data, IsIncreasing}
+use Rattle.wh_system.specs.declared.pairs.Pair.{Pair}
+use Rattle.wh_system.proofs.ByPlace.{some_one, read_map}
+use Rattle.wh_graph.specs.May.{May, Follows}
+use Rattle.wh_graph.specs.Components.{AreComponents}
+use Rattle.wh_subterm.specs.Projections.{Chosen}
+use Rattle.wh_subterm.specs.SubtermRows.{IsProjection}
+use Rattle.wh_find_subterm.specs.Found.{DropsAllBelow}
+use Rattle.wh_cert.specs.Written as w
+use Rattle.wh_cert.specs.Limits.{NodeFits, NodeWithin}
+use Rattle.wh_nodes.specs.Nodes.{done, alone, blocks, subterm, IsSetOf, IsKept, Leaves, by_done, by_alone, by_blocks, by_subterm}
+use Rattle.wh_checker.specs.Walk.{GoesOn}
+use Rattle.wh_prover.specs.Arriving.{IsAlone, Arrives, behind_projection, Ended}
+use Rattle.wh_prover.specs.Walk.{weight, SaysProjection, Adds}
+use Rattle.wh_prover.proofs.CountLemmas.{components_lighter, rest_lighter, weighs_something}
+use Rattle.wh_prover.proofs.ArriveLemmas.{arrives_below, arrives_apart, sets_themselves, components_are_blocks}
+use Rattle.wh_prover.proofs.LimitLemmas.{blocks_fit, blocks_within, subterm_fits, subterm_within}
+
+-- the one number of a set of which the pair may not follow itself
+
+one_number : (set : List ℕ) → length set ≡ 1 → set ≡ get_or set 0 0 ∷ []
+one_number (a ∷ []) one = refl
+one_number [] one = absurd (omega arith)
+one_number (a ∷ b ∷ rest) one = absurd (omega arith)
+
+follows_itself : (rules : List RewriteRule) (ps : List PairData) (a : ℕ) (p : PairData) → slice_get ps a ≡ Some p
+    → Follows rules ps a a ↔ May rules p p
+follows_itself rules ps a p here = (
+  λ (x, y, at, also, may).
+      let first : x ≡ p = some_one at here in
+      let second : y ≡ p = some_one also here in
+      subst (λ (q : PairData). May rules q p) first (subst (λ (q : PairData). May rules x q) second may),
+  λ may. (p, p, here, here, may),
+)
+
+not_true : (b : Bool) (P : Type 0) → IsTrue b ↔ P → IsTrue (not b) ↔ (P → ⊥)
+not_true true P is = (λ no. cc, λ free. absurd (free (is.0 refl)))
+not_true false P is = (λ yes p. let both = is.1 p in cc, λ free. refl)
+
+same_head : (a b : ℕ) (xs ys : List ℕ) → a ∷ xs ≡ b ∷ ys → a ≡ b
+same_head a b xs ys e = cc
+
+pub alone_decided : (rules : List RewriteRule) (pairs : List Pair) (set : List ℕ) (pair : Pair) (b : Bool) → length set ≡ 1
+    → get_or set 0 0 < length pairs → pair ≡ get_or pairs (get_or set 0 0) pair → IsTrue b ↔ May rules (pair_data pair) (pair_data pair)
+    → IsTrue (not b) ↔ IsAlone rules (map pair_data pairs) set
+alone_decided rules pairs set pair b one within is may =
+    let n = get_or set 0 0 in
+    let ps = map pair_data pairs in
+    let here = read_map pair_data pairs n pair within is in
+    let itself = follows_itself rules ps n (pair_data pair) here in
+    let free = not_true b (May rules (pair_data pair) (pair_data pair)) may in (
+      λ yes. (n, one_number set one, λ follows. free.0 yes (itself.0 follows)),
+      λ (a, single, none). free.1 (λ may.
+          let same : n ≡ a = same_head n a [] [] (sym (one_number set one) ∙ single) in
+          none (subst (λ m. Follows rules ps m m) same (itself.1 may))),
+    )
+
+pub not_one : (rules : List RewriteRule) (ps : List PairData) (set : List ℕ) → length set ≢ 1 → IsAlone rules ps set → ⊥
+not_one rules ps set other (a, single, none) = other (ap length single)
+
+-- nodes that leave nothing
+
+adds_nothing : (d : SystemData) (ps : List PairData) (set : List ℕ) (sets : List (List ℕ)) (lines longer : List w.Node) (line : w.Node)
+    → longer ≡ lines ++ line ∷ [] → (goes : GoesOn d ps set line sets sets) → NodeFits line → NodeWithin (2 ^ 32) line → goes.left ≡ []
+    → Adds d ps set sets sets lines longer
+adds_nothing d ps set sets lines longer line joined goes fits within nothing = record {
+  line = line;
+  joined = joined;
+  goes = goes;
+  fits = fits;
+  within = within;
+  arrives = subst (All (Arrives d.rules ps)) (sym nothing) (All-nil (Arrives d.rules ps));
+  lighter = omega (arith, weighs_something set, ap weight nothing);
+}
+
+pub adds_done : (d : SystemData) (ps : List PairData) (set : List ℕ) (sets : List (List ℕ)) (lines longer : List w.Node) → set ≡ []
+    → longer ≡ lines ++ w.done ∷ [] → Adds d ps set sets sets lines longer
+adds_done d ps set sets lines longer empty joined =
+    let goes : GoesOn d ps set w.done sets sets = record {
+      node = done;
+      left = [];
+      says = tt;
+      leaves = subst (λ (s : List ℕ). Leaves d.symbols d.rules ps s done []) (sym empty) by_done;
+      small = tt;
+      after_is = refl;
+    } in
+    adds_nothing d ps set sets lines longer w.done joined goes tt tt refl
+
+pub adds_alone : (d : SystemData) (ps : List PairData) (set : List ℕ) (sets : List (List ℕ)) (lines longer : List w.Node) → IsAlone d.rules ps set
+    → longer ≡ lines ++ w.alone ∷ [] → Adds d ps set sets sets lines longer
+adds_alone d ps set sets lines longer (a, one, free) joined =
+    let goes : GoesOn d ps set w.alone sets sets = record {
+      node = alone;
+      left = [];
+      says = tt;
+      leaves = subst (λ (s : List ℕ). Leaves d.symbols d.rules ps s alone []) (sym one) (by_alone free);
+      small = tt;
+      after_is = refl;
+    } in
+    adds_nothing d ps set sets lines longer w.alone joined goes tt tt refl
+
+-- a node by blocks
+
+pub adds_blocks : (d : SystemData) (ps : List PairData) (set : List ℕ) (parts sets after : List (List ℕ)) (lines longer : List w.Node)
+    → length ps ≤ 4096 → IsIncreasing set → Arrives d.rules ps set → AreComponents (Follows d.rules ps) set parts → All IsIncreasing parts → 2 ≤ length parts
+    → after ≡ parts ++ sets → longer ≡ lines ++ w.blocks parts ∷ [] → Adds d ps set sets after lines longer
+adds_blocks d ps set parts sets after lines longer few up arrives are parts_up enough after_is joined =
+    let E = Follows d.rules ps in
+    let below = arrives_below d.rules ps set arrives in
+    record {
+      line = w.blocks parts;
+      joined = joined;
+      goes = record {
+        node = blocks parts;
+        left = parts;
+        says = refl;
+        leaves = by_blocks (components_are_blocks E set parts are enough) (sets_themselves parts parts_up);
+        small = tt;
+        after_is = after_is;
+      };
+      fits = blocks_fit E (length ps) set parts few up below parts_up are;
+      within = blocks_within E (length ps) set parts few below parts_up are;
+      arrives = arrives_apart d.rules ps set parts arrives are parts_up enough;
+      lighter = components_lighter E set parts parts_up are enough;
+    }
+
+-- a node by a projection
+
+pub adds_subterm : (d : SystemData) (ps : List PairData) (set drop rest : List ℕ) (args : List Chosen) (line : w.Node) (sets after : List (List ℕ))
+    (lines longer : List w.Node) → IsWellMadeSystem d → length ps ≤ 4096 → Ended d.rules ps set → IsProjection d.rules ps set args drop
+    → DropsAllBelow ps set args drop → IsSetOf (IsKept set drop) rest → SaysProjection d line args drop → after ≡ rest ∷ sets → longer ≡ lines ++ line ∷ []
+    → Adds d ps set sets after lines longer
+adds_subterm d ps set drop rest args line sets after lines longer made few end is all kept (said, line_is, says, fit) after_is joined =
+    let below = arrives_below d.rules ps set end.arrives in
+    let one : w.Node = w.subterm said drop in
+    record {
+      line = one;
+      joined = joined ∙ ap (λ (x : w.Node). lines ++ x ∷ []) line_is;
+      goes = record {
+        node = subterm args drop;
+        left = rest ∷ [];
+        says = (says, refl);
+        leaves = by_subterm is kept;
+        small = tt;
+        after_is = after_is;
+      };
+      fits = subterm_fits (length ps) set said drop few below is.within fit;
+      within = subterm_within d ps (length ps) set said args drop made few below says is;
+      arrives = All-cons (Arrives d.rules ps) rest [] (behind_projection end.arrives end.knot is all kept) (All-nil (Arrives d.rules ps));
+      lighter = omega (arith, rest_lighter set drop rest kept is.some_dropped is.within);
+    }
+
+-- whether a list is empty, as a test tells it
+
+pub is_none : {A : Type 0} (xs : List A) → length xs ≡ 0 → xs ≡ []
+is_none [] none = refl
+is_none (x ∷ xs) none = absurd (omega arith)
+
+pub tested_none : {A : Type 0} (xs : List A) (b : Bool) → b ≡ (length xs == 0) → b ≡ true → xs ≡ []
+tested_none xs b is true_b = is_none xs (eqb-true (length xs) 0 (sym is ∙ true_b))
+
+pub tested_some : {A : Type 0} (xs : List A) (b : Bool) → b ≡ (length xs == 0) → b ≡ false → xs ≢ []
+tested_some [] b is false_b = absurd (let true_b : b ≡ true = is in cc)
+tested_some (x ∷ xs) b is false_b = λ empty. cc
+
+pub not_so : (b : Bool) (P : Type 0) → (P → IsTrue b) → b ≡ false → P → ⊥
+not_so b P is false_b p = let true_b : b ≡ true = is p in cc

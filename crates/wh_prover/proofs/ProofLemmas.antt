@@ -1,0 +1,49 @@
+-- A tree of nodes for the set of all pairs, with ranks, is a proof.
+use Rattle.std.proofs.Common.{◌≡◌, ℕ, zero, suc, ◌+◌, ◌*◌, ◌^◌, ◌<◌, ◌≤◌, List, [], ◌∷◌, length, All, refl, sym, ap, subst, ◌∙◌, arith}
+use Rattle.wh_system.specs.Systems.{SystemData}
+use Rattle.wh_system.specs.WellMade.{IsWellMadeSystem}
+use Rattle.wh_system.specs.PairData.{PairData}
+use Rattle.wh_access.specs.Passing.{IsPassing}
+use Rattle.wh_pairs.specs.SystemPairs.{HasPairs}
+use Rattle.wh_cert.specs.Written as w
+use Rattle.wh_cert.specs.Limits.{IsCert}
+use Rattle.wh_checker.specs.Valid.{IsWhole}
+use Rattle.wh_prover.specs.Answers.{IsProof, IsReason, HasRanks}
+use Rattle.wh_prover.specs.Walk.{weigh, IsTree, IsEnd}
+use Rattle.wh_prover.specs.declared.answer.Cause.{Cause}
+use Rattle.wh_prover.specs.declared.answer.Cause.TheVariants.{NoRanks, Stuck, Spent}
+use Rattle.wh_prover.specs.declared.answer.Finder.TheVariants.{Subterm}
+use Rattle.wh_prover.proofs.CountLemmas.{apart_increasing, few_below}
+
+weigh_low : (set : List ℕ) → length set ≤ 4096 → weigh set ≤ 12287
+weigh_low [] few = omega arith
+weigh_low (n ∷ ns) few = omega (arith, few)
+
+tree_fits : (d : SystemData) (ps : List PairData) (ranks : List ℕ) (count : ℕ) (set : List ℕ) (lines : List w.Node) → IsWellMadeSystem d
+    → HasPairs d ps → length ranks ≡ d.symbols.sorts → All (λ r. r ≤ 65535) ranks → count ≡ length ps → IsWhole ps set
+    → IsTree d ps set lines → IsCert (w.yes 1 ranks count lines)
+tree_fits d ps ranks count set lines made pairs each low right whole tree =
+    let few = few_below set (length ps) (apart_increasing set whole.increasing) (λ n found. (whole.each n).0 found) in
+    let nodes = weigh_low set (omega (arith, few, pairs.few)) in
+    record {
+      parts = (refl, low, omega (arith, right, pairs.few), tree.fit, tree.counted);
+      counts = (omega (arith, each, made.sorts_within), omega (arith, nodes, tree.few), tree.within);
+    }
+
+pub proof_of_tree : (d : SystemData) (ps : List PairData) (ranks : List ℕ) (count : ℕ) (set : List ℕ) (lines : List w.Node) → IsWellMadeSystem d
+    → HasPairs d ps → IsPassing d ranks → length ranks ≡ d.symbols.sorts → All (λ r. r ≤ 65535) ranks → count ≡ length ps → IsWhole ps set
+    → IsTree d ps set lines → IsProof d ps (w.yes 1 ranks count lines)
+proof_of_tree d ps ranks count set lines made pairs passing each low right whole tree =
+    let (nodes, says, proves, small) = tree.proved in
+    record {
+      yes = tt;
+      fits = tree_fits d ps ranks count set lines made pairs each low right whole tree;
+      valid = record { rank_count = each; passing = passing; pair_count = right; set = set; whole = whole; nodes = nodes; says = says; proves = proves };
+      small = record { set = set; whole = whole; nodes = nodes; says = says; small = small };
+    }
+
+-- what ended the walk is a reason
+pub reason_of_end : (d : SystemData) (ps : List PairData) (tries : ℕ) (cause : Cause) → HasRanks d → IsEnd d ps tries cause → IsReason d ps tries cause
+reason_of_end d ps tries (NoRanks cause) ranks end = absurd end
+reason_of_end d ps tries (Stuck set) ranks end = (ranks, end.0, end.1)
+reason_of_end d ps tries (Spent Subterm set list) ranks end = (ranks, end.0, end.1)

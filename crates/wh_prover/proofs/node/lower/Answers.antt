@@ -1,0 +1,50 @@
+use Rattle.std.proofs.Common.{◌≡◌, ◌<◌, ◌≤◌, ◌∷◌, ◌++◌, ℕ, List, [], length, map, reverse, All, sym, ap, subst, ◌∙◌}
+use Rattle.std.proofs.lemmas.List.{length-map}
+use Rattle.wh_system.specs.SystemView.{system_data}
+use Rattle.wh_system.specs.PairData.{pair_data}
+use Rattle.wh_pairs.specs.Views.{pairs_data}
+use Rattle.wh_subterm.specs.SubtermRows.{chosen}
+use Rattle.wh_cert.specs.Said.{said_node}
+use Rattle.wh_nodes.specs.Nodes.{IsKept, IsSetOf}
+use Rattle.wh_find_subterm.specs.Found.{IsAnswer}
+use Rattle.wh_prover.proofs.ArriveLemmas.{arrives_within}
+use Rattle.wh_prover.proofs.LimitLemmas.{choices_named, choices_low}
+use Rattle.wh_prover.proofs.NodeLemmas.{adds_subterm}
+use Rattle.wh_prover.proofs.WalkLemmas.{reverse_push, said_push}
+use Rattle.wh_prover.proofs.node.lower.Goals as goal
+
+pub find_projection-requires-clause-set : goal.find_projection-requires-clause-set
+find_projection-requires-clause-set c =
+    let pairs = c.args.pairs.now in
+    let set = c.args.set in
+    subst (λ n. All (λ m. m < n) set) (length-map pairs pair_data) (arrives_within (system_data c.args.system.now).rules (pairs_data pairs) set c.requires.ended.arrives)
+
+pub node_of-requires-clause-symbols : goal.node_of-requires-clause-symbols
+node_of-requires-clause-symbols c =
+    let d = system_data c.args.system.now in
+    let found = subst (IsAnswer d.rules (pairs_data c.args.pairs.now) c.args.set c.args.tries) c.in-Found.is c.in_ok-found.ensures in
+    choices_named d c.in-Found.found.args c.is_well_made.ensures found.0.places
+
+pub node_of-requires-clause-arguments : goal.node_of-requires-clause-arguments
+node_of-requires-clause-arguments c =
+    let d = system_data c.args.system.now in
+    let found = subst (IsAnswer d.rules (pairs_data c.args.pairs.now) c.args.set c.args.tries) c.in-Found.is c.in_ok-found.ensures in
+    choices_low d c.in-Found.found.args c.is_well_made.ensures found.0.places
+
+pub returns-in_ok-push-in-Found-2 : goal.returns-in_ok-push-in-Found-2
+returns-in_ok-push-in-Found-2 c =
+    let d = system_data c.args.system.now in
+    let pairs = c.args.pairs.now in
+    let ps = pairs_data pairs in
+    let set = c.args.set in
+    let drop = c.in-Found.found.drop in
+    let rest = c.in_ok-kept-in-Found.field-0 in
+    let node = c.in_ok-node_of-in-Found.field-0 in
+    let stack = c.args.stack.now.items in
+    let found = subst (IsAnswer d.rules ps set c.args.tries) c.in-Found.is c.in_ok-found.ensures in
+    let few = subst (λ n. n ≤ 4096) (sym (length-map pairs pair_data)) c.requires.few in
+    let kept = subst (λ (s : List ℕ). IsSetOf (IsKept s drop) rest) c.as_slice.ensures.numbers (subst (λ (s : List ℕ). IsSetOf (IsKept c.as_slice.result.now s) rest) c.as_slice-in-Found.ensures.numbers c.in_ok-kept-in-Found.ensures) in
+    adds_subterm d ps set drop rest (map chosen c.in-Found.found.args) (said_node node) (reverse stack) (reverse c.push.new.self.items) (map said_node c.args.nodes.now) (map said_node c.push-in-Found.new.self)
+    c.is_well_made.ensures few c.requires.ended found.0 found.1 kept c.in_ok-node_of-in-Found.ensures
+    (ap reverse c.in_ok-push-in-Found.ensures.items ∙ reverse_push stack rest)
+    (said_push c.args.nodes.now c.push-in-Found.new.self node c.in_ok-push-in-Found-2.ensures.ok)

@@ -1,0 +1,71 @@
+use Rattle.std.proofs.Common.{◌≡◌, ◌≢◌, ◌<◌, ◌≤◌, ◌∷◌, ◌++◌, ℕ, List, [], length, map, reverse, All, sym, ap, subst, ◌∙◌, arith}
+use Rattle.std.proofs.lemmas.List.{length-map}
+use Rattle.wh_system.specs.SystemView.{system_data}
+use Rattle.wh_system.specs.PairData.{pair_data}
+use Rattle.wh_system.specs.declared.pairs.Pair.{Pair}
+use Rattle.wh_pairs.specs.Views.{pairs_data}
+use Rattle.wh_cert.specs.Said.{said_node}
+use Rattle.wh_cert.specs.declared.certificate.Node.TheVariants as code
+use Rattle.wh_prover.specs.Arriving.{IsAlone}
+use Rattle.wh_prover.proofs.ArriveLemmas.{arrives_within, ended}
+use Rattle.wh_prover.proofs.NodeLemmas.{adds_done, adds_alone, adds_blocks, tested_none, tested_some, not_so}
+use Rattle.wh_prover.proofs.WalkLemmas.{said_push}
+use Rattle.wh_prover.proofs.node.settle.Goals as goal
+
+pub returns-then-is_empty : goal.returns-then-is_empty
+returns-then-is_empty c =
+    let nodes = c.args.nodes.now in
+    let longer = c.push.new.self in
+    let empty = sym c.as_slice.ensures.numbers ∙ tested_none c.as_slice.result.now c.is_empty.result c.is_empty.ensures c.if-is_empty.true in
+    adds_done (system_data c.args.system.now) (pairs_data c.args.pairs.now) c.args.set (reverse c.args.stack.now.items) (map said_node nodes) (map said_node longer) empty
+    (said_push nodes longer code.Done c.in_ok-push.ensures.ok)
+
+pub components-requires : goal.components-requires
+components-requires c =
+    let pairs = c.args.pairs.now in
+    let set = c.args.set in
+    subst (λ n. All (λ m. m < n) set) (length-map pairs pair_data) (arrives_within (system_data c.args.system.now).rules (pairs_data pairs) set c.requires.arrives)
+
+pub returns-then-as_slice-gt1 : goal.returns-then-as_slice-gt1
+returns-then-as_slice-gt1 c =
+    let pairs = c.args.pairs.now in
+    let ps = pairs_data pairs in
+    let set = c.args.set in
+    let nodes = c.args.nodes.now in
+    let longer = c.push-then-as_slice-gt1.new.self in
+    let parts = c.in_ok-blocks.blocks in
+    let sets = reverse c.args.stack.now.items in
+    let few = subst (λ n. n ≤ 4096) (sym (length-map pairs pair_data)) c.requires.few in
+    let enough : 2 ≤ length parts = omega (arith, c.if-as_slice-gt1.true, ap (λ (l : List (List ℕ)). length l) c.as_slice-2.ensures) in
+    adds_blocks (system_data c.args.system.now) ps set parts sets (reverse c.open_blocks.new.stack.items) (map said_node nodes) (map said_node longer) few c.as_slice.ensures.increasing c.requires.arrives
+    c.in_ok-blocks.ensures.components c.in_ok-blocks.ensures.increasing enough
+    (c.in_ok-open_blocks.ensures ∙ ap (λ (l : List (List ℕ)). l ++ sets) c.as_slice-then-as_slice-gt1.ensures)
+    (said_push nodes longer (code.Blocks parts) c.in_ok-push-2.ensures.ok)
+
+pub is_alone-requires : goal.is_alone-requires
+is_alone-requires c =
+    let pairs = c.args.pairs.now in
+    let set = c.args.set in
+    let within = subst (λ n. All (λ m. m < n) set) (length-map pairs pair_data) (arrives_within (system_data c.args.system.now).rules (pairs_data pairs) set c.requires.arrives) in
+    subst (λ (l : List Pair). All (λ m. m < length l) c.as_slice-4.result.now) (sym c.as_slice-3.ensures) (subst (All (λ m. m < length pairs)) (sym c.as_slice-4.ensures.numbers) within)
+
+pub returns-then-is_alone : goal.returns-then-is_alone
+returns-then-is_alone c =
+    let d = system_data c.args.system.now in
+    let nodes = c.args.nodes.now in
+    let longer = c.push-then-is_alone.new.self in
+    let alone = c.is_alone.ensures.0 c.if-is_alone.true in
+    let here = subst (λ (s : List ℕ). IsAlone d.rules (pairs_data c.args.pairs.now) s) c.as_slice-4.ensures.numbers (subst (λ (l : List Pair). IsAlone d.rules (pairs_data l) c.as_slice-4.result.now) c.as_slice-3.ensures alone) in
+    adds_alone d (pairs_data c.args.pairs.now) c.args.set (reverse c.args.stack.now.items) (map said_node nodes) (map said_node longer) here
+    (said_push nodes longer code.Alone c.in_ok-push-3.ensures.ok)
+
+pub lower-requires-clause-ended : goal.lower-requires-clause-ended
+lower-requires-clause-ended c =
+    let rules = (system_data c.args.system.now).rules in
+    let ps = pairs_data c.args.pairs.now in
+    let set = c.args.set in
+    let some = subst (λ (s : List ℕ). s ≢ []) c.as_slice.ensures.numbers (tested_some c.as_slice.result.now c.is_empty.result c.is_empty.ensures c.if-is_empty.false) in
+    let few : length c.in_ok-blocks.blocks ≤ 1 = omega (arith, c.if-as_slice-gt1.false, ap (λ (l : List (List ℕ)). length l) c.as_slice-2.ensures) in
+    let free = not_so c.is_alone.result (IsAlone rules (pairs_data c.as_slice-3.result.now) c.as_slice-4.result.now) c.is_alone.ensures.1 c.if-is_alone.false in
+    let not_alone = subst (λ (s : List ℕ). IsAlone rules ps s → ⊥) c.as_slice-4.ensures.numbers (subst (λ (l : List Pair). IsAlone rules (pairs_data l) c.as_slice-4.result.now → ⊥) c.as_slice-3.ensures free) in
+    ended rules ps set c.in_ok-blocks.blocks c.requires.arrives some c.in_ok-blocks.ensures.components few not_alone

@@ -1,0 +1,34 @@
+use Rattle.std.proofs.Common.{◌≡◌, ◌<◌, ℕ, List, length, map, sym, ap, subst, ◌∙◌}
+use Rattle.std.proofs.lemmas.List.{length-map}
+use Rattle.std.proofs.lemmas.Option.{MatchOption-at_none}
+use Rattle.wh_system.specs.SystemView.{system_data}
+use Rattle.wh_system.specs.PairData.{pair_data}
+use Rattle.wh_system.specs.declared.pairs.Pair.{Pair}
+use Rattle.wh_pairs.specs.Views.{pairs_data}
+use Rattle.wh_nodes.specs.Nodes.{IsSetOf}
+use Rattle.wh_cert.specs.Written as w
+use Rattle.wh_cert.specs.Said.{said_node}
+use Rattle.wh_prover.specs.Answers.{IsProof}
+use Rattle.wh_prover.proofs.ProofLemmas.{proof_of_tree, reason_of_end}
+use Rattle.wh_prover.proofs.search.prove_under.Goals as goal
+
+pub walk-requires-clause-whole : goal.walk-requires-clause-whole
+walk-requires-clause-whole c =
+    let pairs = c.args.pairs.now in
+    let count : length c.as_slice.result.now ≡ length (pairs_data pairs) = ap (λ (l : List Pair). length l) c.as_slice.ensures ∙ sym (length-map pairs pair_data) in
+    subst (λ m. IsSetOf (λ n. n < m) c.in_ok-whole.whole) count c.in_ok-whole.ensures
+
+pub returns : goal.returns
+returns c =
+    let d = system_data c.args.system.now in
+    let pairs = c.args.pairs.now in
+    let ps = pairs_data pairs in
+    let ranks = c.args.ranks.now in
+    let set = c.in_ok-whole.whole in
+    let m = length c.as_slice.result.now in
+    let lines = map said_node c.walk.new.nodes in
+    let count : m ≡ length ps = ap (λ (l : List Pair). length l) c.as_slice.ensures ∙ sym (length-map pairs pair_data) in
+    let whole = subst (λ k. IsSetOf (λ n. n < k) set) count c.in_ok-whole.ensures in
+    let tree = MatchOption-at_none _ _ c.in_default.is c.in_ok-cause.ensures in
+    subst (λ (l : List ℕ). IsProof d ps (w.yes 1 l m lines)) (sym c.in_ok-numbers_of_ranks.ensures)
+    (proof_of_tree d ps ranks m set lines c.is_well_made.ensures c.requires.pairs c.requires.passing c.requires.each c.requires.low count whole tree)

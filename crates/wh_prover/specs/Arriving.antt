@@ -1,0 +1,43 @@
+-- The sets of pairs that the search for a proof of termination comes to, and those on which it can end.
+use Rattle.std.specs.Prelude.{ℕ, ◌≡◌, ◌≢◌, ◌≤◌, List, [], ◌∷◌, length, Contains}
+use Rattle.wh_terms.specs.Rules.{RewriteRule}
+use Rattle.wh_system.specs.PairData.{PairData}
+use Rattle.wh_graph.specs.May.{Follows}
+use Rattle.wh_graph.specs.Components.{Reaches, AreComponents}
+use Rattle.wh_subterm.specs.Projections.{Chosen}
+use Rattle.wh_subterm.specs.SubtermRows.{IsProjection}
+use Rattle.wh_find_subterm.specs.Found.{DropsAllBelow}
+use Rattle.wh_nodes.specs.Nodes.{IsSetOf, IsKept}
+use Rattle.wh_checker.specs.Valid.{IsWhole}
+
+-- the set is one component: each pair of it leads to each other one within it
+abbrev pub IsOneComponent : List RewriteRule → List PairData → List ℕ → Type 0
+IsOneComponent rules pairs set = (a b : ℕ) → Contains set a → Contains set b → Reaches (Follows rules pairs) set a b
+
+-- the set has one pair, which may not follow itself
+abbrev pub IsAlone : List RewriteRule → List PairData → List ℕ → Type 0
+IsAlone rules pairs set = (a : ℕ) × (set ≡ a ∷ []) × (Follows rules pairs a a → ⊥)
+
+-- what the graph settles nothing of: a set that is not empty and is one component, and not one pair that may not follow itself
+pub record IsKnot (rules : List RewriteRule) (pairs : List PairData) (set : List ℕ) : Type 0 where
+  pub some : set ≢ []
+  pub one : IsOneComponent rules pairs set
+  pub not_alone : IsAlone rules pairs set → ⊥
+
+-- no projection lets a pair of the set go
+abbrev pub HasNoProjection : List RewriteRule → List PairData → List ℕ → Type 0
+HasNoProjection rules pairs set = (args : List Chosen) (drop : List ℕ) → IsProjection rules pairs set args drop → ⊥
+
+-- the search comes to the set of all pairs; from a set with several components to each of them; and from a knot to what a projection
+-- leaves of it that lets some pair go and drops all pairs that are below (ours)
+pub data Arrives (rules : List RewriteRule) (pairs : List PairData) : List ℕ → Type 0 where
+  at_all : {set : List ℕ} → IsWhole pairs set → Arrives rules pairs set
+  at_component : {set part component : List ℕ} {parts : List (List ℕ)} → Arrives rules pairs set → AreComponents (Follows rules pairs) set parts
+      → 2 ≤ length parts → Contains parts part → IsSetOf (Contains part) component → Arrives rules pairs component
+  behind_projection : {set drop rest : List ℕ} {args : List Chosen} → Arrives rules pairs set → IsKnot rules pairs set
+      → IsProjection rules pairs set args drop → DropsAllBelow pairs set args drop → IsSetOf (IsKept set drop) rest → Arrives rules pairs rest
+
+-- the search can end on a knot that it comes to (ours)
+pub record Ended (rules : List RewriteRule) (pairs : List PairData) (set : List ℕ) : Type 0 where
+  pub arrives : Arrives rules pairs set
+  pub knot : IsKnot rules pairs set

@@ -1,0 +1,14 @@
+-- What the text of a proof comes to.
+use Rattle.std.specs.Prelude.{ℕ, ◌≡◌, List}
+use Rattle.wh_system.specs.Systems.{SystemData}
+use Rattle.wh_system.specs.PairData.{PairData}
+use Rattle.wh_system.specs.WellMade.{IsWellMadeSystem}
+use Rattle.wh_pairs.specs.SystemPairs.{HasPairs}
+use Rattle.wh_cert.specs.Written.{Cert}
+use Rattle.wh_cert.specs.CertText.{CertText}
+use Rattle.wh_prover.specs.Answers.{IsProof}
+
+-- the text of a proof is that of no other certificate
+abbrev pub ProofsAreAccepted : Type 0
+ProofsAreAccepted = (d : SystemData) (ps : List PairData) (c : Cert) (bytes : List ℕ) → IsWellMadeSystem d → HasPairs d ps → IsProof d ps c → CertText bytes c
+    → ((e : Cert) → CertText bytes e → e ≡ c)

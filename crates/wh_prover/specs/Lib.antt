@@ -1,0 +1,4 @@
+pub mod Arriving
+pub mod Answers
+pub mod Walk
+pub mod Laws

@@ -1,0 +1,65 @@
+-- What the walk over the sets of pairs keeps true.
+use Rattle.std.specs.Prelude.{ℕ, suc, ◌≡◌, ◌+◌, ◌*◌, ◌^◌, ◌<◌, ◌≤◌, List, [], ◌∷◌, ◌++◌, length, All}
+use Rattle.wh_system.specs.Systems.{SystemData}
+use Rattle.wh_system.specs.PairData.{PairData}
+use Rattle.wh_cert.specs.Written as w
+use Rattle.wh_cert.specs.Written.{Preorder}
+use Rattle.wh_cert.specs.Limits.{ArgFits, NodeFits, NodeWithin}
+use Rattle.wh_find_subterm.specs.Found.{IsSpent}
+use Rattle.wh_subterm.specs.Projections.{Chosen}
+use Rattle.wh_checker.specs.Looked.{SayChoices}
+use Rattle.wh_checker.specs.Walk.{GoesOn, AreProvedBy}
+use Rattle.wh_prover.specs.Arriving.{Arrives, Ended, HasNoProjection}
+use Rattle.wh_prover.specs.declared.answer.Cause.{Cause}
+use Rattle.wh_prover.specs.declared.answer.Cause.TheVariants.{NoRanks, Stuck, Spent}
+use Rattle.wh_prover.specs.declared.answer.Finder.TheVariants.{Subterm}
+
+-- more nodes than a set can have: of so many pairs one less than three times as many, and one of no pair (ours)
+abbrev pub weigh : List ℕ → ℕ
+weigh [] = 1
+weigh (n ∷ ns) = 3 * length ns + 2
+
+-- the same of some sets together
+abbrev pub weight : List (List ℕ) → ℕ
+weight [] = 0
+weight (set ∷ sets) = weigh set + weight sets
+
+-- why the walk ended on a set (ours)
+abbrev pub IsEnd : SystemData → List PairData → ℕ → Cause → Type 0
+IsEnd d ps tries (NoRanks cause) = ⊥
+IsEnd d ps tries (Stuck set) = Ended d.rules ps set × HasNoProjection d.rules ps set
+IsEnd d ps tries (Spent Subterm set list) = Ended d.rules ps set × IsSpent d.rules ps set tries list
+
+-- the lines of a node are for these choices and this drop list, and fit (ours)
+abbrev pub SaysProjection : SystemData → w.Node → List Chosen → List ℕ → Type 0
+SaysProjection d line args drop = (lines : List w.Arg) × (line ≡ w.subterm lines drop) × SayChoices d lines args × All ArgFits lines
+
+-- a node for the set joins the lines: its conditions hold, what it leaves comes before the other sets, and its lines are within
+-- the limits of certificates; the search comes to what it leaves, and that weighs less than the set (ours)
+pub record Adds (d : SystemData) (ps : List PairData) (set : List ℕ) (sets after : List (List ℕ)) (lines longer : List w.Node) : Type 0 where
+  pub line : w.Node
+  pub joined : longer ≡ lines ++ line ∷ []
+  pub goes : GoesOn d ps set line sets after
+  pub fits : NodeFits line
+  pub within : NodeWithin (2 ^ 32) line
+  pub arrives : All (Arrives d.rules ps) goes.left
+  pub lighter : weight goes.left < weigh set
+
+-- a walk that began with one set has come to these sets, with these lines for those before them (ours)
+pub record HasWalked (d : SystemData) (ps : List PairData) (set : List ℕ) (sets : List (List ℕ)) (lines : List w.Node) : Type 0 where
+  pub arrive : All (Arrives d.rules ps) sets
+  pub fit : All NodeFits lines
+  pub within : All (NodeWithin (2 ^ 32)) lines
+  pub few : length lines + weight sets ≤ weigh set
+  -- where the rest is one tree for each set, the whole is one tree
+  pub counted : (rest : List w.Node) → Preorder (length sets) rest → Preorder 1 (lines ++ rest)
+  -- where the rest proves the sets, the whole proves the one that the walk began with
+  pub proved : (rest : List w.Node) → AreProvedBy d ps sets rest → AreProvedBy d ps (set ∷ []) (lines ++ rest)
+
+-- the lines are a tree within the limits of certificates, which proves the set (ours)
+pub record IsTree (d : SystemData) (ps : List PairData) (set : List ℕ) (lines : List w.Node) : Type 0 where
+  pub fit : All NodeFits lines
+  pub within : All (NodeWithin (2 ^ 32)) lines
+  pub few : length lines ≤ weigh set
+  pub counted : Preorder 1 lines
+  pub proved : AreProvedBy d ps (set ∷ []) lines

@@ -1,0 +1,8 @@
+//! What the text of a proof comes to.
+
+ghost use Rattle.wh_prover.specs.Laws.{ProofsAreAccepted};
+
+/// The text of a proof is that of no other certificate.
+pub fn proofs_are_accepted()
+    ensures { ProofsAreAccepted }
+{}

@@ -1,0 +1,46 @@
+//! The lines of a node that a projection gives.
+
+ghost use Rattle.std.specs.Prelude.{◌<◌, ◌≤◌, All, IfOk, length, map};
+ghost use Rattle.wh_system.specs.SystemView.{system_data};
+ghost use Rattle.wh_subterm.specs.SubtermRows.{chosen};
+ghost use Rattle.wh_cert.specs.Limits.{ArgFits};
+ghost use Rattle.wh_cert.specs.Said.{said_arg, said_node};
+ghost use Rattle.wh_checker.specs.Looked.{SayChoices};
+ghost use Rattle.wh_prover.specs.Walk.{SaysProjection};
+
+use crate::sets::numbers_of;
+use std::alloc::{AllocError, Global};
+use wh_cert::{Arg, Args, Node};
+use wh_find_subterm::ProjectionFound;
+use wh_subterm::Choice;
+use wh_system::System;
+use wh_text::Name;
+
+/// The node of a projection and the pairs that it drops.
+pub fn node_of(alloc: Global, system: &System, found: &ProjectionFound) -> Result<Node, AllocError>
+    requires symbols { All (λ c. c.symbol < length (system_data system.now).fun_names) found.now.args }
+    requires arguments { All (λ c. c.argument ≤ 65535) found.now.args }
+    ensures { IfOk result (λ node. SaysProjection (system_data system.now) (said_node node) (map chosen found.now.args) found.now.drop) }
+{
+    let args = args_of(alloc, system, found.args.as_slice())?;
+    let drop = numbers_of(alloc, found.drop.as_slice())?;
+    Ok(Node::Subterm { args, drop })
+}
+
+// The lines `arg` of some choices.
+fn args_of(alloc: Global, system: &System, choices: &[Choice]) -> Result<Args, AllocError>
+    requires symbols { All (λ c. c.symbol < length (system_data system.now).fun_names) choices.now }
+    requires arguments { All (λ c. c.argument ≤ 65535) choices.now }
+    ensures said { IfOk result (λ args. SayChoices (system_data system.now) (map said_arg args) (map chosen choices.now)) }
+    ensures fit { IfOk result (λ args. All ArgFits (map said_arg args)) }
+{
+    let mut args = Args::new(alloc)?;
+    for choice in choices {
+        let name = Name::new(alloc, system.fun_name(choice.symbol).bytes())?;
+        args.push(Arg {
+            name,
+            place: choice.argument,
+        })?;
+    }
+    Ok(args)
+}

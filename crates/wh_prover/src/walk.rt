@@ -1,0 +1,39 @@
+//! The walk over the sets of pairs, from the set of all pairs on.
+
+ghost use Rattle.std.specs.Prelude.{◌≡◌, ◌≤◌, [], IfOk, MatchOption, length, map};
+ghost use Rattle.wh_pairs.specs.Views.{pairs_data};
+ghost use Rattle.wh_system.specs.SystemView.{system_data};
+ghost use Rattle.wh_cert.specs.Said.{said_node};
+ghost use Rattle.wh_checker.specs.Valid.{IsWhole};
+ghost use Rattle.wh_prover.specs.Walk.{IsEnd, IsTree};
+
+use crate::answer::Cause;
+use crate::node::settle;
+use std::alloc::{AllocError, Global};
+use wh_cert::Nodes;
+use wh_system::{PairList, PairSet, System};
+
+/// Puts the nodes of a proof for the set of all pairs into the list, each before what it leaves; or says on which set the walk
+/// ends, and why. The sets that are still to be settled are kept on a stack, the next on top.
+pub fn walk(
+    alloc: Global,
+    system: &System,
+    pairs: &PairList,
+    tries: u64,
+    whole: PairSet,
+    nodes: &mut Nodes,
+) -> Result<Option<Cause>, AllocError>
+    requires few { length pairs.now ≤ 4096 }
+    requires whole { IsWhole (pairs_data pairs.now) whole }
+    requires none { nodes.old ≡ [] }
+    ensures { IfOk result (λ end. MatchOption end (IsTree (system_data system.now) (pairs_data pairs.now) whole (map said_node nodes.new)) (IsEnd (system_data system.now) (pairs_data pairs.now) tries)) }
+{
+    let mut stack = Vec::new(alloc);
+    stack.push(whole)?;
+    while let Some(set) = stack.pop() {
+        if let Some(cause) = settle(alloc, system, pairs, tries, set, &mut stack, nodes)? {
+            return Ok(Some(cause));
+        }
+    }
+    Ok(None)
+}
