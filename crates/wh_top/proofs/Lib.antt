@@ -1,2 +1,4 @@
+pub mod Causes
 pub mod Meaning
+pub mod ProofText
 pub mod Standing

@@ -45,6 +45,7 @@ fn proof_text(alloc: Global, problem: &Problem, tries: u64) -> Result<Bytes, Or<
     ensures within { IfOk result (λ text. length text ≤ certificate_limit) }
 {
     let options = Options { tries };
+    problem.system.is_well_made();
     match prove(alloc, &problem.system, &problem.pairs, &options)? {
         Answer::Yes(certificate) => {
             let text = print_certificate(alloc, &certificate)?;
