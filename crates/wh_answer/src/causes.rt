@@ -103,7 +103,7 @@ fn finder_of(word: &str) -> Option<NamedFinder>
 
 // Each word as a name.
 fn names_of(alloc: Global, words: &[&str]) -> Result<Option<Names>, AllocError>
-    ensures { IfOk result (λ found. MatchOption found (AllWords (seen words.now) → ⊥) (λ names. AllWords names × (names ≡ seen words.now))) }
+    ensures { IfOk result (λ found. MatchOption found (AllWords (seen words.now) → ⊥) (λ all. AllWords all × (all ≡ seen words.now))) }
 {
     let mut names = Names::new(alloc)?;
     for word in words {
@@ -117,7 +117,7 @@ fn names_of(alloc: Global, words: &[&str]) -> Result<Option<Names>, AllocError>
 
 // Each word as a number below 2^32.
 fn numbers_of(alloc: Global, words: &[&str]) -> Result<Option<Numbers>, AllocError>
-    ensures { IfOk result (λ found. MatchOption found ((ns : List ℕ) → AllShort ns → map decimal ns ≡ seen words.now → ⊥) (λ ns. AllShort ns × (map decimal ns ≡ seen words.now))) }
+    ensures { IfOk result (Reads AllShort (map decimal) (seen words.now)) }
 {
     let mut numbers = Numbers::new(alloc)?;
     for word in words {

@@ -13,7 +13,7 @@ use crate::words::{short_number, words_of};
 use std::alloc::{AllocError, Global};
 use std::str;
 
-/// The answer with this line; `None` where there is none.
+/// The answer with this line; `None` where no answer has it whose numbers fit and whose names are spelled as names.
 pub fn read_answer(alloc: Global, bytes: &[u8]) -> Result<Option<Report>, AllocError>
     ensures { IfOk result (Reads Stands report_text bytes.now) }
 {

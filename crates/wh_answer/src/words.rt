@@ -4,7 +4,7 @@ ghost use Rattle.std.specs.Prelude.{◌≡◌, ◌↔◌, ◌++◌, List, ℕ, c
 ghost use Rattle.std.specs.Fmt.{decimal};
 ghost use Rattle.wh_text.specs.Chars.{AllPass, is_part, is_start};
 ghost use Rattle.wh_text.specs.Words.{IsWord};
-ghost use Rattle.wh_answer.specs.Stands.{Long, Short};
+ghost use Rattle.wh_answer.specs.Stands.{Long, Reads, Short};
 ghost use Rattle.wh_answer.specs.Words.{BeginsNumber, seen, words_of};
 
 use std::alloc::{AllocError, Global};
@@ -19,7 +19,7 @@ pub fn words_of(alloc: Global, text: &str) -> Result<Vec<&str>, AllocError>
 
 /// The number below 2^64 that the word spells.
 pub fn long_number(word: &str) -> Option<u64>
-    ensures { MatchOption result ((n : ℕ) → Long n → decimal n ≡ word.now → ⊥) (λ n. Long n × (decimal n ≡ word.now)) }
+    ensures { Reads Long decimal word.now result }
 {
     if !begins_number(word.as_bytes()) {
         return None;
@@ -32,7 +32,7 @@ pub fn long_number(word: &str) -> Option<u64>
 
 /// The number below 2^32 that the word spells.
 pub fn short_number(word: &str) -> Option<u32>
-    ensures { MatchOption result ((n : ℕ) → Short n → decimal n ≡ word.now → ⊥) (λ n. Short n × (decimal n ≡ word.now)) }
+    ensures { Reads Short decimal word.now result }
 {
     match long_number(word) {
         Some(number) => {

@@ -8,7 +8,7 @@ ghost use Rattle.wh_hopoly.specs.Erase.{poly, atoms, polys, sum_of, arguments_of
 ghost use Rattle.wh_cert.specs.PolyText.{put_poly, put_sum, put_factors, put_polys, put_more, put_interp, put_interps, put_move, put_moves, put_cover, put_covers};
 ghost use Rattle.wh_cert.specs.Said.{said_interp};
 
-use crate::poly_node::{Interp};
+use crate::poly_node::Interp;
 use std::alloc::{AllocError, Global};
 use wh_hopoly::{Atoms, Monomial, Move, Moves, Poly, Polys};
 use wh_text::print_number;

@@ -1,12 +1,10 @@
 -- Of the things that can be wrong with the moves for a line one at most is the first, but that values may exceed both limits; and none
 -- is where nothing is wrong.
-use Rattle.std.proofs.Common.{◌≡◌, ℕ, ◌<◌, ◌⊎◌, inl, inr, Bool, true, false, List, Some, slice_get, Contains, refl, sym, ap, subst, ◌∙◌, arith}
-use Rattle.wh_system.proofs.ByPlace.{contains_at, some_one}
+use Rattle.std.proofs.Common.{◌≡◌, ℕ, ◌⊎◌, inl, inr, Bool, true, false, List, refl, sym, ap, ◌∙◌, arith}
+use Rattle.wh_system.proofs.ByPlace.{contains_at}
 use Rattle.wh_hopoly.specs.Polynomials.{Polynomial}
 use Rattle.wh_hopoly.specs.Evaluation.{Run}
-use Rattle.wh_hopoly.specs.Limits.{Exceeds}
-use Rattle.wh_hopoly.specs.Excesses.{ExceedsAs}
-use Rattle.wh_hopoly.specs.Moves.{Transfer, NotOverSpent, Covered, IsCover, IsStrictCover}
+use Rattle.wh_hopoly.specs.Moves.{Transfer, NotOverSpent, Covered, IsCover}
 use Rattle.wh_hopoly.specs.declared.excess.Excess.{Excess}
 use Rattle.wh_hopoly.specs.declared.excess.Excess.TheVariants as excess
 use Rattle.wh_polycheck.specs.CoverFaults.{AreGood, IsFirstBad, IsOverSpent, IsFirstOverSpent, IsNotCovered, IsFirstNotCovered, LeavesConstant, IsFirstCoverFault, IsFirstStrictCoverFault}
@@ -57,7 +55,8 @@ cover_fault_one left right ms (NotCovered j) (NotCovered k) first other = ap Not
 cover_fault_one left right ms (NotCovered j) NotStrict first other = absurd other
 cover_fault_one left right ms NotStrict g first other = absurd first
 
-cover_or_fault : (left right : Polynomial) (ms : List Transfer) (f : CoverFault) → IsCover left right ms → IsFirstCoverFault left right ms f → ⊥
+cover_or_fault : (left right : Polynomial) (ms : List Transfer) (f : CoverFault) → IsCover left right ms → IsFirstCoverFault left right ms f
+    → ⊥
 cover_or_fault left right ms (BadMove e) is first = good_or_bad left right ms e first is.good
 cover_or_fault left right ms (OverSpent i) is first = spent_or_not left ms i first.1.0 (is.not_over_spent i)
 cover_or_fault left right ms (NotCovered j) is first = covered_or_not right ms j first.2.0 (is.covered j)
@@ -74,8 +73,8 @@ strict_cases left right ms (OverSpent i) first = inl first
 strict_cases left right ms (NotCovered j) first = inl first
 strict_cases left right ms NotStrict first = inr (refl, first)
 
-moves_fault_one : (strict : Bool) (left right : Polynomial) (ms : List Transfer) (f g : CoverFault) → IsFirstFaultOfMoves strict left right ms f
-    → IsFirstFaultOfMoves strict left right ms g → f ≡ g
+moves_fault_one : (strict : Bool) (left right : Polynomial) (ms : List Transfer) (f g : CoverFault)
+    → IsFirstFaultOfMoves strict left right ms f → IsFirstFaultOfMoves strict left right ms g → f ≡ g
 moves_fault_one false left right ms f g first other = cover_fault_one left right ms f g first other
 moves_fault_one true left right ms f g first other = go (strict_cases left right ms f first) (strict_cases left right ms g other)
   where

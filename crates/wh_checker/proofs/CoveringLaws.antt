@@ -1,8 +1,7 @@
 -- Of the things that can be wrong with a node of interpretations one at most is the first, but that values may exceed both limits; and
 -- none is where its conditions hold. What is found wrong before a value exceeds a limit is wrong first without limits too.
-use Rattle.std.proofs.Common.{◌≡◌, ℕ, ◌<◌, ◌⊎◌, inl, inr, Bool, true, false, List, [], length, map, Some, slice_get, Contains, All, refl, sym, ap, subst, ◌∙◌, arith}
+use Rattle.std.proofs.Common.{◌≡◌, ℕ, ◌<◌, ◌⊎◌, inl, inr, Bool, true, false, List, Some, slice_get, Contains, refl, sym, ap, subst, ◌∙◌, arith}
 use Rattle.std.proofs.lemmas.List.Elements.{All-contains}
-use Rattle.wh_types.specs.Ty.{arguments}
 use Rattle.wh_terms.specs.Typing.{Symbols}
 use Rattle.wh_terms.specs.Rules.{RewriteRule}
 use Rattle.wh_system.specs.PairData.{PairData}
@@ -24,7 +23,7 @@ use Rattle.wh_checker.specs.Faults.{in_excess, at_covering}
 use Rattle.wh_checker.specs.declared.rejected.CheckFault.{CheckFault}
 use Rattle.wh_checker.specs.declared.rejected.CheckFault.TheVariants as check
 use Rattle.wh_checker.proofs.RowLaws.{neither_below}
-use Rattle.wh_checker.proofs.CoverLaws.{IsExcessOfLine, LinesAlike, line_fault_one, right_or_line_fault}
+use Rattle.wh_checker.proofs.CoverLaws.{LinesAlike, line_fault_one, right_or_line_fault}
 
 -- it is that a value exceeds a limit
 abbrev pub IsExcess : CoveringFault → Type 0
@@ -36,11 +35,13 @@ CoveringsAlike f g = (f ≡ g) ⊎ (IsExcess f × IsExcess g)
 
 rules_alike : (r : ℕ) (f g : LineFault) → LinesAlike f g → CoveringsAlike (Rule r f) (Rule r g)
 rules_alike r f g (inl same) = inl (ap (Rule r) same)
-rules_alike r f g (inr ((e, is), (h, also))) = inr ((e, λ k. ap (λ x. at_covering k (Rule r x)) is), (h, λ k. ap (λ x. at_covering k (Rule r x)) also))
+rules_alike r f g (inr ((e, is), (h, also))) =
+    inr ((e, λ k. ap (λ x. at_covering k (Rule r x)) is), (h, λ k. ap (λ x. at_covering k (Rule r x)) also))
 
 pairs_alike : (n : ℕ) (f g : LineFault) → LinesAlike f g → CoveringsAlike (Pair n f) (Pair n g)
 pairs_alike n f g (inl same) = inl (ap (Pair n) same)
-pairs_alike n f g (inr ((e, is), (h, also))) = inr ((e, λ k. ap (λ x. at_covering k (Pair n x)) is), (h, λ k. ap (λ x. at_covering k (Pair n x)) also))
+pairs_alike n f g (inr ((e, is), (h, also))) =
+    inr ((e, λ k. ap (λ x. at_covering k (Pair n x)) is), (h, λ k. ap (λ x. at_covering k (Pair n x)) also))
 
 -- a dropped pair is not kept
 dropped_one : (drop : List ℕ) (n : ℕ) (a b : Bool) → IsDropped drop n a → IsDropped drop n b → a ≡ b
@@ -101,7 +102,8 @@ module _ (limits : Limits) (S : Symbols) (rules : List RewriteRule) (pairs : Lis
   good_lines ready (inl other) = other ready.rule_count
   good_lines ready (inr other) = other ready.pair_count
 
-  rule_or_not : (r : ℕ) (f : LineFault) → IsRuleFault limits rules symbols rule_lines r f → IsRightRule limits rules symbols rule_lines r → ⊥
+  rule_or_not : (r : ℕ) (f : LineFault) → IsRuleFault limits rules symbols rule_lines r f → IsRightRule limits rules symbols rule_lines r
+      → ⊥
   rule_or_not r f (u, ms, at, here, first) right =
       right_or_line_fault limits (rule_run symbols u false) (rule_run symbols u true) false ms f (right u ms at here) first
 
@@ -109,7 +111,8 @@ module _ (limits : Limits) (S : Symbols) (rules : List RewriteRule) (pairs : Lis
       → IsRuleFault limits rules symbols rule_lines r f → ((k : ℕ) → k < t → IsRightRule limits rules symbols rule_lines k)
       → IsRuleFault limits rules symbols rule_lines t g → CoveringsAlike (Rule r f) (Rule t g)
   rule_fault_one r t f g before wrong earlier also =
-      let place : t ≡ r = neither_below t r (λ less. rule_or_not t g also (before t less)) (λ less. rule_or_not r f wrong (earlier r less)) in
+      let place : t ≡ r = neither_below t r (λ less. rule_or_not t g also (before t less))
+      (λ less. rule_or_not r f wrong (earlier r less)) in
       subst (λ n. CoveringsAlike (Rule r f) (Rule n g)) (sym place)
       (rules_alike r f g (lines_alike wrong (subst (λ n. IsRuleFault limits rules symbols rule_lines n g) place also)))
     where
@@ -119,7 +122,8 @@ module _ (limits : Limits) (S : Symbols) (rules : List RewriteRule) (pairs : Lis
           let line_same : ns ≡ ms = some_one line_there here in
           line_fault_one limits (rule_run symbols u false) (rule_run symbols u true) false ms f g first
           (subst (λ (l : List Transfer). IsFirstLineFault limits (rule_run symbols u false) (rule_run symbols u true) false l g) line_same
-          (subst (λ (x : RewriteRule). IsFirstLineFault limits (rule_run symbols x false) (rule_run symbols x true) false ns g) rule_same other))
+          (subst (λ (x : RewriteRule). IsFirstLineFault limits (rule_run symbols x false)
+          (rule_run symbols x true) false ns g) rule_same other))
 
   pair_or_not : (i n : ℕ) (f : LineFault) → WrongPair i n f → RightPair i → ⊥
   pair_or_not i n f (p, ms, strict, at, here, moves, dropped, first) right =
@@ -129,7 +133,8 @@ module _ (limits : Limits) (S : Symbols) (rules : List RewriteRule) (pairs : Lis
   pair_fault_one : (i j n m : ℕ) (f g : LineFault) → ((k : ℕ) → k < i → RightPair k) → WrongPair i n f → ((k : ℕ) → k < j → RightPair k)
       → WrongPair j m g → CoveringsAlike (Pair n f) (Pair m g)
   pair_fault_one i j n m f g before wrong earlier also =
-      let place : j ≡ i = neither_below j i (λ less. pair_or_not j m g also (before j less)) (λ less. pair_or_not i n f wrong (earlier i less)) in
+      let place : j ≡ i = neither_below j i (λ less. pair_or_not j m g also (before j less))
+      (λ less. pair_or_not i n f wrong (earlier i less)) in
       here wrong (subst (λ k. WrongPair k m g) place also)
     where
       lines_alike : WrongPair i n f → WrongPair i n g → LinesAlike f g
@@ -138,26 +143,32 @@ module _ (limits : Limits) (S : Symbols) (rules : List RewriteRule) (pairs : Lis
           let line_same : ns ≡ ms = some_one other_moves moves in
           let strict_same : other_strict ≡ strict = dropped_one drop n other_strict strict also_dropped dropped in
           line_fault_one limits (pair_run S rules symbols marks p false) (pair_run S rules symbols marks p true) strict ms f g first
-          (subst (λ (l : List Transfer). IsFirstLineFault limits (pair_run S rules symbols marks p false) (pair_run S rules symbols marks p true) strict l g) line_same
-          (subst (λ (b : Bool). IsFirstLineFault limits (pair_run S rules symbols marks p false) (pair_run S rules symbols marks p true) b ns g) strict_same
-          (subst (λ (x : PairData). IsFirstLineFault limits (pair_run S rules symbols marks x false) (pair_run S rules symbols marks x true) other_strict ns g) pair_same other)))
+          (subst (λ (l : List Transfer). IsFirstLineFault limits (pair_run S rules symbols marks p false)
+          (pair_run S rules symbols marks p true) strict l g) line_same
+          (subst (λ (b : Bool). IsFirstLineFault limits (pair_run S rules symbols marks p false)
+          (pair_run S rules symbols marks p true) b ns g) strict_same
+          (subst (λ (x : PairData). IsFirstLineFault limits (pair_run S rules symbols marks x false)
+          (pair_run S rules symbols marks x true) other_strict ns g) pair_same other)))
 
       here : WrongPair i n f → WrongPair i m g → CoveringsAlike (Pair n f) (Pair m g)
       here first other =
           let (p, ms, strict, at, _, _, _, _) = first in
           let (q, ns, other_strict, also_at, _, _, _, _) = other in
           let number : m ≡ n = some_one also_at at in
-          subst (λ k. CoveringsAlike (Pair n f) (Pair k g)) (sym number) (pairs_alike n f g (lines_alike first (subst (λ k. WrongPair i k g) number other)))
+          subst (λ k. CoveringsAlike (Pair n f) (Pair k g)) (sym number)
+          (pairs_alike n f g (lines_alike first (subst (λ k. WrongPair i k g) number other)))
 
   pub covering_fault_one : (f g : CoveringFault) → First f → First g → CoveringsAlike f g
-  covering_fault_one (BadPolynomial f false) (BadPolynomial g false) first other = inl (ap (λ x. BadPolynomial x false) (not_normal_one f g first other))
+  covering_fault_one (BadPolynomial f false) (BadPolynomial g false) first other =
+      inl (ap (λ x. BadPolynomial x false) (not_normal_one f g first other))
   covering_fault_one (BadPolynomial f false) (BadPolynomial g true) first other = absurd (normal_or_not f first other.0)
   covering_fault_one (BadPolynomial f false) BadLines first other = absurd (normal_or_not f first other.0)
   covering_fault_one (BadPolynomial f false) BadDrop first other = absurd (normal_or_not f first other.0)
   covering_fault_one (BadPolynomial f false) (Rule t g) first other = absurd (normal_or_not f first other.0.normal)
   covering_fault_one (BadPolynomial f false) (Pair m g) first other = absurd (normal_or_not f first other.0.normal)
   covering_fault_one (BadPolynomial f true) (BadPolynomial g false) first other = absurd (normal_or_not g other first.0)
-  covering_fault_one (BadPolynomial f true) (BadPolynomial g true) first other = inl (ap (λ x. BadPolynomial x true) (not_normal_mark_one f g first.1 other.1))
+  covering_fault_one (BadPolynomial f true) (BadPolynomial g true) first other =
+      inl (ap (λ x. BadPolynomial x true) (not_normal_mark_one f g first.1 other.1))
   covering_fault_one (BadPolynomial f true) BadLines first other = absurd (marks_normal_or_not f first.1 other.1)
   covering_fault_one (BadPolynomial f true) BadDrop first other = absurd (marks_normal_or_not f first.1 other.1)
   covering_fault_one (BadPolynomial f true) (Rule t g) first other = absurd (marks_normal_or_not f first.1 other.0.normal_marks)
@@ -197,8 +208,8 @@ module _ (limits : Limits) (S : Symbols) (rules : List RewriteRule) (pairs : Lis
       stays with_limits is = is.of_rules r right found
       stays without_limits is = tt
 
-  pair_stays : SmallFor limits S rules pairs set symbols marks → (n : ℕ) (p : PairData) (right : Bool) → Contains set n → slice_get pairs n ≡ Some p
-      → StaysWithin limits (pair_run S rules symbols marks p right)
+  pair_stays : SmallFor limits S rules pairs set symbols marks → (n : ℕ) (p : PairData) (right : Bool) → Contains set n
+      → slice_get pairs n ≡ Some p → StaysWithin limits (pair_run S rules symbols marks p right)
   pair_stays small n p right found at = stays limits small
     where
       stays : (some : Limits) → SmallFor some S rules pairs set symbols marks → StaysWithin some (pair_run S rules symbols marks p right)

@@ -18,7 +18,7 @@ use Rattle.wh_nodes.specs.Nodes.{Node, Leaves}
 use Rattle.wh_nodes.specs.Proves.{Proves, one_proved}
 use Rattle.wh_checker.specs.Looked.{SaysNode, SayNodes}
 use Rattle.wh_checker.specs.Valid.{IsValidYes, IsValidCert}
-use Rattle.wh_checker.specs.Small.{IsSmallNode, AreSmall, all_small, one_small, IsSmallYes, IsSmallCert}
+use Rattle.wh_checker.specs.Small.{IsSmallNode, AreSmall, one_small, IsSmallYes, IsSmallCert}
 use Rattle.wh_checker.specs.Faults.{IsNodeFault, IsFirstNodeFault, at_first, behind_first, in_excess, at_node, of_claim, IsFirstYesFault, rank_count, inaccessible, pair_count, in_node, IsFirstFault, AreAlike}
 use Rattle.wh_checker.specs.declared.rejected.NodeFault.{NodeFault}
 use Rattle.wh_checker.specs.declared.rejected.CheckFault.{CheckFault}
@@ -51,7 +51,8 @@ nodes_alike k f g (both_exceed first other) =
 -- two readings of one line leave the same sets
 left_one : (d : SystemData) (ps : List PairData) (set : List ℕ) (line : w.Node) (node other : Node) (left rest : List (List ℕ))
     → AreDistinct d.fun_names
-    → SaysNode d line node → Leaves d.symbols d.rules ps set node left → SaysNode d line other → Leaves d.symbols d.rules ps set other rest → left ≡ rest
+    → SaysNode d line node → Leaves d.symbols d.rules ps set node left → SaysNode d line other → Leaves d.symbols d.rules ps set other rest
+    → left ≡ rest
 left_one d ps set line node other left rest apart says leaves also others =
     let same : node ≡ other = node_said_one d line node other apart says also in
     leaves_one d.symbols d.rules ps set other left rest (subst (λ (n : Node). Leaves d.symbols d.rules ps set n left) same leaves) others
@@ -97,8 +98,8 @@ one_step limits d ps k m n set sets line lines f g apart later (is_behind a) (is
     let same : b.left ≡ a.left = left_one d ps set line b.node a.node b.left a.left apart b.says b.leaves a.says a.leaves in
     later a.left a.rest (subst (λ (l : List (List ℕ)). IsFirstNodeFault limits d ps (suc k) (l ++ sets) lines n g) same b.rest)
 
-walk_one : (limits : Limits) (d : SystemData) (ps : List PairData) (k m n : ℕ) (sets : List (List ℕ)) (lines : List w.Node) (f g : NodeFault)
-    → AreDistinct d.fun_names → AreOne limits d ps k m n sets lines f g
+walk_one : (limits : Limits) (d : SystemData) (ps : List PairData) (k m n : ℕ) (sets : List (List ℕ)) (lines : List w.Node)
+    (f g : NodeFault) → AreDistinct d.fun_names → AreOne limits d ps k m n sets lines f g
 walk_one limits d ps k m n [] lines f g apart first other = elim first [ ]
 walk_one limits d ps k m n (set ∷ sets) [] f g apart first other = elim first [ ]
 walk_one limits d ps k m n (set ∷ sets) (line ∷ lines) f g apart first other =
@@ -111,30 +112,34 @@ AreSmallFor with_limits S rules ps sets nodes = AreSmall S rules ps sets nodes
 AreSmallFor without_limits S rules ps sets nodes = Unit {0}
 
 -- so it is of the first node and of the others
-small_split : (limits : Limits) (S : Symbols) (rules : List RewriteRule) (ps : List PairData) (set : List ℕ) (left sets : List (List ℕ)) (node : Node)
-    (nodes : List Node) → Leaves S rules ps set node left → AreSmallFor limits S rules ps (set ∷ sets) (node ∷ nodes)
+small_split : (limits : Limits) (S : Symbols) (rules : List RewriteRule) (ps : List PairData) (set : List ℕ) (left sets : List (List ℕ))
+    (node : Node) (nodes : List Node) → Leaves S rules ps set node left → AreSmallFor limits S rules ps (set ∷ sets) (node ∷ nodes)
     → IsSmallNode limits S rules ps set node × AreSmallFor limits S rules ps (left ++ sets) nodes
 small_split with_limits S rules ps set left sets node nodes leaves (one_small {left = right} also small rest) =
     let same : right ≡ left = leaves_one S rules ps set node right left also leaves in
     (small, subst (λ (l : List (List ℕ)). AreSmall S rules ps (l ++ sets) nodes) same rest)
 small_split without_limits S rules ps set left sets node nodes leaves small = (tt, tt)
 
-proved_or_fault : (limits : Limits) (d : SystemData) (ps : List PairData) (k m : ℕ) (sets : List (List ℕ)) (lines : List w.Node) (nodes : List Node)
-    (f : NodeFault) → AreDistinct d.fun_names
+proved_or_fault : (limits : Limits) (d : SystemData) (ps : List PairData) (k m : ℕ) (sets : List (List ℕ)) (lines : List w.Node)
+    (nodes : List Node) (f : NodeFault) → AreDistinct d.fun_names
     → SayNodes d lines nodes → Proves d.symbols d.rules ps sets nodes → AreSmallFor limits d.symbols d.rules ps sets nodes
     → IsFirstNodeFault limits d ps k sets lines m f → ⊥
-proved_or_fault limits d ps k m (set ∷ sets) (line ∷ lines) (node ∷ nodes) f apart say (one_proved {left = left} leaves proves) small (at_first fault) =
-    leaves_or_fault limits d ps set line node left f apart say.0 leaves (small_split limits d.symbols d.rules ps set left sets node nodes leaves small).0 fault
-proved_or_fault limits d ps k m (set ∷ sets) (line ∷ lines) (node ∷ nodes) f apart say (one_proved {left = left} leaves proves) small (behind_first {left = right} {node = other} says others few rest) =
+proved_or_fault limits d ps k m (set ∷ sets) (line ∷ lines) (node ∷ nodes) f apart say (one_proved {left = left} leaves proves) small
+    (at_first fault) =
+    leaves_or_fault limits d ps set line node left f apart say.0 leaves
+    (small_split limits d.symbols d.rules ps set left sets node nodes leaves small).0 fault
+proved_or_fault limits d ps k m (set ∷ sets) (line ∷ lines) (node ∷ nodes) f apart say (one_proved {left = left} leaves proves) small
+    (behind_first {left = right} {node = other} says others few rest) =
     let same : right ≡ left = left_one d ps set line other node right left apart says others say.0 leaves in
-    proved_or_fault limits d ps (suc k) m (left ++ sets) lines nodes f apart say.1 proves (small_split limits d.symbols d.rules ps set left sets node nodes leaves small).1
+    proved_or_fault limits d ps (suc k) m (left ++ sets) lines nodes f apart say.1 proves
+    (small_split limits d.symbols d.rules ps set left sets node nodes leaves small).1
     (subst (λ (l : List (List ℕ)). IsFirstNodeFault limits d ps (suc k) (l ++ sets) lines m f) same rest)
 proved_or_fault limits d ps k m (set ∷ sets) (line ∷ lines) [] f apart say proves small first = absurd say
 proved_or_fault limits d ps k m [] lines nodes f apart say proves small first = elim first [ ]
 proved_or_fault limits d ps k m (set ∷ sets) [] nodes f apart say proves small first = elim first [ ]
 
-yes_fault_one : (limits : Limits) (d : SystemData) (ps : List PairData) (ranks : List ℕ) (pairs : ℕ) (lines : List w.Node) (r s : CheckFault)
-    → AreDistinct d.fun_names
+yes_fault_one : (limits : Limits) (d : SystemData) (ps : List PairData) (ranks : List ℕ) (pairs : ℕ) (lines : List w.Node)
+    (r s : CheckFault) → AreDistinct d.fun_names
     → IsFirstYesFault limits d ps ranks pairs lines r → IsFirstYesFault limits d ps ranks pairs lines s → AreAlike r s
 yes_fault_one limits d ps ranks pairs lines r s apart (rank_count not) (rank_count also) = refl
 yes_fault_one limits d ps ranks pairs lines r s apart (rank_count not) (inaccessible count first) = absurd (not count)
@@ -152,14 +157,18 @@ yes_fault_one limits d ps ranks pairs lines r s apart (pair_count count passing 
 yes_fault_one limits d ps ranks pairs lines r s apart (pair_count count passing other) (inaccessible {r = i} {z = y} also first) =
     absurd (break_or_passing (Passes d.symbols (rank_of ranks)) d.rules i y first passing)
 yes_fault_one limits d ps ranks pairs lines r s apart (pair_count count passing other) (pair_count also pass not) = refl
-yes_fault_one limits d ps ranks pairs lines r s apart (pair_count count passing other) (in_node also pass right whole first) = absurd (other right)
+yes_fault_one limits d ps ranks pairs lines r s apart (pair_count count passing other) (in_node also pass right whole first) =
+    absurd (other right)
 yes_fault_one limits d ps ranks pairs lines r s apart (in_node count passing right whole first) (rank_count not) = absurd (not count)
 yes_fault_one limits d ps ranks pairs lines r s apart (in_node count passing right whole first) (inaccessible {r = i} {z = y} also break) =
     absurd (break_or_passing (Passes d.symbols (rank_of ranks)) d.rules i y break passing)
-yes_fault_one limits d ps ranks pairs lines r s apart (in_node count passing right whole first) (pair_count also pass other) = absurd (other right)
-yes_fault_one limits d ps ranks pairs lines r s apart (in_node {k = k} {set = set} {f = f} count passing right whole first) (in_node {k = m} {set = all} {f = g} also pass true_count also_whole other) =
+yes_fault_one limits d ps ranks pairs lines r s apart (in_node count passing right whole first) (pair_count also pass other) =
+    absurd (other right)
+yes_fault_one limits d ps ranks pairs lines r s apart (in_node {k = k} {set = set} {f = f} count passing right whole first)
+    (in_node {k = m} {set = all} {f = g} also pass true_count also_whole other) =
     let same : all ≡ set = set_one _ all set also_whole whole in
-    let one = walk_one limits d ps 0 k m (set ∷ []) lines f g apart first (subst (λ (l : List ℕ). IsFirstNodeFault limits d ps 0 (l ∷ []) lines m g) same other) in
+    let one = walk_one limits d ps 0 k m (set ∷ []) lines f g apart first
+    (subst (λ (l : List ℕ). IsFirstNodeFault limits d ps 0 (l ∷ []) lines m g) same other) in
     subst (λ n. AreAlike (at_node k f) (at_node n g)) one.0 (nodes_alike k f g one.1)
 
 -- with limits, the nodes of a valid certificate are small
@@ -177,8 +186,8 @@ nodes_said_one d [] [] (other ∷ others) apart say also = absurd also
 nodes_said_one d (line ∷ lines) [] others apart say also = absurd say
 nodes_said_one d (line ∷ lines) (node ∷ nodes) [] apart say also = absurd also
 
-small_nodes : (limits : Limits) (d : SystemData) (ps : List PairData) (ranks : List ℕ) (pairs : ℕ) (lines : List w.Node) → AreDistinct d.fun_names
-    → (valid : IsValidYes d ps ranks pairs lines) → IsSmallFor limits d ps lines
+small_nodes : (limits : Limits) (d : SystemData) (ps : List PairData) (ranks : List ℕ) (pairs : ℕ) (lines : List w.Node)
+    → AreDistinct d.fun_names → (valid : IsValidYes d ps ranks pairs lines) → IsSmallFor limits d ps lines
     → AreSmallFor limits d.symbols d.rules ps (valid.set ∷ []) valid.nodes
 small_nodes with_limits d ps ranks pairs lines apart valid small =
     let sets_same : small.set ≡ valid.set = set_one _ small.set valid.set small.whole valid.whole in
@@ -187,15 +196,17 @@ small_nodes with_limits d ps ranks pairs lines apart valid small =
     (subst (λ (l : List Node). AreSmall d.symbols d.rules ps (small.set ∷ []) l) nodes_same small.small)
 small_nodes without_limits d ps ranks pairs lines apart valid small = tt
 
-valid_or_yes_fault : (limits : Limits) (d : SystemData) (ps : List PairData) (ranks : List ℕ) (pairs : ℕ) (lines : List w.Node) (r : CheckFault)
-    → AreDistinct d.fun_names → IsValidYes d ps ranks pairs lines → IsSmallFor limits d ps lines → IsFirstYesFault limits d ps ranks pairs lines r → ⊥
+valid_or_yes_fault : (limits : Limits) (d : SystemData) (ps : List PairData) (ranks : List ℕ) (pairs : ℕ) (lines : List w.Node)
+    (r : CheckFault) → AreDistinct d.fun_names → IsValidYes d ps ranks pairs lines → IsSmallFor limits d ps lines
+    → IsFirstYesFault limits d ps ranks pairs lines r → ⊥
 valid_or_yes_fault limits d ps ranks pairs lines r apart valid small (rank_count not) = not valid.rank_count
 valid_or_yes_fault limits d ps ranks pairs lines r apart valid small (inaccessible {r = i} {z = z} count first) =
     break_or_passing (Passes d.symbols (rank_of ranks)) d.rules i z first valid.passing
 valid_or_yes_fault limits d ps ranks pairs lines r apart valid small (pair_count count passing other) = other valid.pair_count
 valid_or_yes_fault limits d ps ranks pairs lines r apart valid small (in_node {k = k} {set = set} {f = f} count passing right whole first) =
     let same : set ≡ valid.set = set_one _ set valid.set whole valid.whole in
-    proved_or_fault limits d ps 0 k (valid.set ∷ []) lines valid.nodes f apart valid.says valid.proves (small_nodes limits d ps ranks pairs lines apart valid small)
+    proved_or_fault limits d ps 0 k (valid.set ∷ []) lines valid.nodes f apart valid.says valid.proves
+    (small_nodes limits d ps ranks pairs lines apart valid small)
     (subst (λ (l : List ℕ). IsFirstNodeFault limits d ps 0 (l ∷ []) lines k f) same first)
 
 pub first_fault_one : (limits : Limits) (d : SystemData) (ps : List PairData) (c : Cert) (f g : CheckFault) → IsWellMadeSystem d
@@ -213,8 +224,8 @@ valid_or_fault d ps (yes version ranks pairs lines) f made valid first =
 valid_or_fault d ps (no t steps at puts) f made (c, says, valid) (e, is, first) =
     accepted_or_fault d (no t steps at puts) (record { steps = length c.steps }) e made.rules (c, says, valid, refl) first
 
-pub small_or_fault : (d : SystemData) (ps : List PairData) (c : Cert) (f : CheckFault) → IsWellMadeSystem d → IsValidCert d ps c → IsSmallCert d ps c
-    → IsFirstFault with_limits d ps c f → ⊥
+pub small_or_fault : (d : SystemData) (ps : List PairData) (c : Cert) (f : CheckFault) → IsWellMadeSystem d → IsValidCert d ps c
+    → IsSmallCert d ps c → IsFirstFault with_limits d ps c f → ⊥
 small_or_fault d ps (yes version ranks pairs lines) f made valid small first =
     valid_or_yes_fault with_limits d ps ranks pairs lines f made.fun_names_distinct valid small first
 small_or_fault d ps (no t steps at puts) f made (c, says, valid) small (e, is, first) =
@@ -238,7 +249,7 @@ yes_unlimited d ps ranks pairs lines r is (pair_count count passing other) = pai
 yes_unlimited d ps ranks pairs lines r is (in_node {k = k} {set = set} {f = f} count passing right whole first) =
     in_node count passing right whole (walk_unlimited d ps 0 k (set ∷ []) lines f is first)
 
-pub rejected_unlimited : (d : SystemData) (ps : List PairData) (c : Cert) (r : Rejected) → IsFirstFault with_limits d ps c (check.Rejected r)
-    → IsFirstFault without_limits d ps c (check.Rejected r)
+pub rejected_unlimited : (d : SystemData) (ps : List PairData) (c : Cert) (r : Rejected)
+    → IsFirstFault with_limits d ps c (check.Rejected r) → IsFirstFault without_limits d ps c (check.Rejected r)
 rejected_unlimited d ps (yes version ranks pairs lines) r first = yes_unlimited d ps ranks pairs lines (check.Rejected r) tt first
 rejected_unlimited d ps (no t steps at puts) r first = first

@@ -46,12 +46,28 @@ because_says NoMemory x P is p = cc
 
 pub goes_done : (d : SystemData) (ps : List PairData) (set : List ℕ) (sets : List (List ℕ)) → set ≡ [] → GoesOn d ps set w.done sets sets
 goes_done d ps set sets empty =
-    record { node = done; left = []; says = tt; leaves = subst (λ (s : List ℕ). Leaves d.symbols d.rules ps s done []) (sym empty) by_done; small = tt; after_is = refl }
+    record {
+      node = done;
+      left = [];
+      says = tt;
+      leaves = subst (λ (s : List ℕ). Leaves d.symbols d.rules ps s done [])
+          (sym empty) by_done;
+      small = tt;
+      after_is = refl;
+    }
 
 pub goes_alone : (d : SystemData) (ps : List PairData) (set : List ℕ) (sets : List (List ℕ)) → IsSingle d.rules ps set
     → GoesOn d ps set w.alone sets sets
 goes_alone d ps set sets (a, one, free) =
-    record { node = alone; left = []; says = tt; leaves = subst (λ (s : List ℕ). Leaves d.symbols d.rules ps s alone []) (sym one) (by_alone free); small = tt; after_is = refl }
+    record {
+      node = alone;
+      left = [];
+      says = tt;
+      leaves = subst (λ (s : List ℕ). Leaves d.symbols d.rules ps s alone []) (sym one)
+          (by_alone free);
+      small = tt;
+      after_is = refl;
+    }
 
 pub goes_blocks : (d : SystemData) (ps : List PairData) (set : List ℕ) (parts sets after : List (List ℕ))
     → AreBlocks (Follows d.rules ps) set parts → (left : List (List ℕ)) × AreSetsOf parts left × (after ≡ left ++ sets)
@@ -115,8 +131,12 @@ follows_itself rules pairs a pair here (x, y, at, also, may) =
 pub single : (rules : List RewriteRule) (pairs : List Pair) (set : List ℕ) (pair : Pair) → length set ≡ 1 → get_or set 0 0 < length pairs
     → pair ≡ get_or pairs (get_or set 0 0) pair
     → (May rules (pair_data pair) (pair_data pair) → ⊥) → IsSingle rules (map pair_data pairs) set
-single rules pairs set pair one within is free =
-    (get_or set 0 0, one_number set one, λ follows. free (follows_itself rules pairs (get_or set 0 0) pair (read_map pair_data pairs (get_or set 0 0) pair within is) follows))
+single rules pairs set pair one within is free = (
+  get_or set 0 0,
+  one_number set one,
+  λ follows. free (follows_itself rules pairs (get_or set 0 0) pair
+      (read_map pair_data pairs (get_or set 0 0) pair within is) follows),
+)
 
 -- what is wrong first with the choices that the lines say is what is wrong first with the lines
 pub subterm_fault : (d : SystemData) (ps : List PairData) (set : List ℕ) (lines : List w.Arg) (args : List Chosen) (drop : List ℕ)
@@ -136,5 +156,6 @@ pub sets_before : (parts sets : List (List ℕ)) (i : ℕ) (block set : List ℕ
 sets_before parts sets i block set above within is set_is rest =
     let next : i - 1 + 1 ≡ i = omega arith in
     let split = drop_more parts (i - 1) block (omega arith) in
-    let whole : drop (i - 1) parts ≡ block ∷ drop i parts = split ∙ ap (λ b. b ∷ drop (i - 1 + 1) parts) (sym is) ∙ ap (λ j. block ∷ drop j parts) next in
+    let whole : drop (i - 1) parts ≡ block ∷ drop i parts = split ∙ ap (λ b. b ∷ drop (i - 1 + 1) parts) (sym is)
+    ∙ ap (λ j. block ∷ drop j parts) next in
     subst (λ (l : List (List ℕ)). AreSetsOf l (set ∷ sets)) (sym whole) (more_sets set_is rest)

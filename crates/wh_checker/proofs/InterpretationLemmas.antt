@@ -1,5 +1,5 @@
 -- Lines that say interpretations, by the lists of their names, types and polynomials; and the one reading that such lines have.
-use Rattle.std.proofs.Common.{◌≡◌, ◌≢◌, ℕ, ◌+◌, ◌<◌, ◌≤◌, List, [], ◌∷◌, ◌++◌, length, map, get_or, take, Some, slice_get, refl, sym, ap, subst, ◌∙◌, arith}
+use Rattle.std.proofs.Common.{◌≡◌, ℕ, ◌+◌, ◌<◌, ◌≤◌, List, [], ◌∷◌, ◌++◌, length, map, get_or, take, Some, slice_get, refl, sym, ap, subst, ◌∙◌}
 use Rattle.std.proofs.lemmas.List.{take_more, take_all, map-append, length-map}
 use Rattle.wh_types.specs.Ty.{Ty}
 use Rattle.wh_types.specs.Erase.{ty}
@@ -29,15 +29,18 @@ pub pace_next : {A B C : Type 0} (f : A → C) (g : B → C) (xs : List A) (ys :
     → map f (take i xs) ≡ map g (take i ys) → i < length xs → x ≡ get_or xs i x → i < length ys → y ≡ get_or ys i y → f x ≡ g y
     → map f (take (i + 1) xs) ≡ map g (take (i + 1) ys)
 pace_next {A = A} {B = B} f g xs ys i x y so_far within x_is inside y_is same =
-    let left : take (i + 1) xs ≡ take i xs ++ x ∷ [] = subst (λ (a : A). take (i + 1) xs ≡ take i xs ++ a ∷ []) (sym x_is) (take_more xs i x within) in
-    let right : take (i + 1) ys ≡ take i ys ++ y ∷ [] = subst (λ (b : B). take (i + 1) ys ≡ take i ys ++ b ∷ []) (sym y_is) (take_more ys i y inside) in
+    let left : take (i + 1) xs ≡ take i xs ++ x ∷ [] = subst (λ (a : A). take (i + 1) xs ≡ take i xs ++ a ∷ []) (sym x_is)
+    (take_more xs i x within) in
+    let right : take (i + 1) ys ≡ take i ys ++ y ∷ [] = subst (λ (b : B). take (i + 1) ys ≡ take i ys ++ b ∷ []) (sym y_is)
+    (take_more ys i y inside) in
     let both : map f (take i xs) ++ f x ∷ [] ≡ map g (take i ys) ++ g y ∷ [] = cc in
     ap (map f) left ∙ map-append f (take i xs) (x ∷ []) ∙ both ∙ sym (map-append g (take i ys) (y ∷ [])) ∙ sym (ap (map g) right)
 
 pub pace_broken : {A B C : Type 0} (f : A → C) (g : B → C) (xs : List A) (ys : List B) (i : ℕ) (x : A) (y : B) → i < length xs
     → x ≡ get_or xs i x → i < length ys → y ≡ get_or ys i y → (f x ≡ g y → ⊥) → map f xs ≡ map g ys → ⊥
 pace_broken f g xs ys i x y within x_is inside y_is apart same =
-    apart (some_one (sym (ap (λ l. slice_get l i) same) ∙ remap f xs i x (read xs i x within x_is)) (remap g ys i y (read ys i y inside y_is)))
+    apart (some_one (sym (ap (λ l. slice_get l i) same) ∙ remap f xs i x (read xs i x within x_is))
+    (remap g ys i y (read ys i y inside y_is)))
 
 pub pace_ended : {A B C : Type 0} (f : A → C) (g : B → C) (xs : List A) (ys : List B) (i : ℕ)
     → map f (take i xs) ≡ map g (take i ys) → length xs ≤ i → length ys ≤ i → map f xs ≡ map g ys
@@ -131,7 +134,8 @@ marks_named d (l ∷ lines) (m ∷ marks) (here, rest) = let same = marks_named 
 marks_named d [] (m ∷ marks) says = absurd says
 marks_named d (l ∷ lines) [] says = absurd says
 
-mark_one : (s t : ℕ) (p q : Polynomial) → s ≡ t → p ≡ q → ◌≡◌ {A = Mark} (record { symbol = s; polynomial = p }) (record { symbol = t; polynomial = q })
+mark_one : (s t : ℕ) (p q : Polynomial) → s ≡ t → p ≡ q → ◌≡◌ {A = Mark} (record { symbol = s; polynomial = p })
+    (record { symbol = t; polynomial = q })
 mark_one s t p q symbol polynomial = cc
 
 one_mark_said : (d : SystemData) (line : Interp) (m n : Mark) → AreDistinct d.fun_names → SaysMark d line m → SaysMark d line n → m ≡ n
@@ -160,7 +164,8 @@ symbols_read names kinds lines made names_are kinds_are polynomials_are =
     lists_say names kinds (map said_interp lines) (interpretations made)
     (map-map (λ (l : Interp). l.name) said_interp lines ∙ names_are)
     (map-map (λ (s : Interpretation). s.kind) interpretation made ∙ kinds_are)
-    (map-map (λ (s : Interpretation). s.polynomial) interpretation made ∙ polynomials_are ∙ sym (map-map (λ (l : Interp). l.poly) said_interp lines))
+    (map-map (λ (s : Interpretation). s.polynomial) interpretation made ∙ polynomials_are
+    ∙ sym (map-map (λ (l : Interp). l.poly) said_interp lines))
 
 -- other names than the symbols': the lines say nothing
 pub symbols_unread : (names : List (List ℕ)) (kinds : List Ty) (lines : List code.Interp)
@@ -179,7 +184,8 @@ pub numbers_of : (made : List MarkedSymbol) → marked_numbers (marks_of made) �
 numbers_of made = map-map (λ (m : Mark). m.symbol) mark made
 
 pub marks_read : (d : SystemData) (lines : List code.Interp) (numbers : List ℕ) (made : List MarkedSymbol)
-    → map (λ n. slice_get d.fun_names n) numbers ≡ map (λ (l : code.Interp). Some l.name) lines → map (λ (m : MarkedSymbol). m.symbol) made ≡ numbers
+    → map (λ n. slice_get d.fun_names n) numbers ≡ map (λ (l : code.Interp). Some l.name) lines
+    → map (λ (m : MarkedSymbol). m.symbol) made ≡ numbers
     → map (λ (m : MarkedSymbol). poly m.poly) made ≡ map (λ (l : code.Interp). poly l.poly) lines
     → SayMarks d (map said_interp lines) (marks_of made)
 marks_read d lines numbers made named numbers_are polynomials_are =
@@ -191,11 +197,12 @@ marks_read d lines numbers made named numbers_are polynomials_are =
 
 pub marked_one : (ps : List PairData) (set fs gs : List ℕ) → AreMarked ps set fs → AreMarked ps set gs → fs ≡ gs
 marked_one ps set fs gs are also =
-    increasing_one fs gs are.in_order also.in_order (λ f found. (also.each f).1 ((are.each f).0 found)) (λ f found. (are.each f).1 ((also.each f).0 found))
+    increasing_one fs gs are.in_order also.in_order (λ f found. (also.each f).1 ((are.each f).0 found))
+    (λ f found. (are.each f).1 ((also.each f).0 found))
 
 -- other names than the marked symbols': the lines say nothing
-pub marks_unread : (d : SystemData) (ps : List PairData) (set : List ℕ) (lines : List code.Interp) (numbers : List ℕ) → AreMarked ps set numbers
-    → (map (λ n. slice_get d.fun_names n) numbers ≡ map (λ (l : code.Interp). Some l.name) lines → ⊥)
+pub marks_unread : (d : SystemData) (ps : List PairData) (set : List ℕ) (lines : List code.Interp) (numbers : List ℕ)
+    → AreMarked ps set numbers → (map (λ n. slice_get d.fun_names n) numbers ≡ map (λ (l : code.Interp). Some l.name) lines → ⊥)
     → (marks : List Mark) → SayMarks d (map said_interp lines) marks → AreMarked ps set (marked_numbers marks) → ⊥
 marks_unread d ps set lines numbers are other marks says marked =
     other (ap (map (λ n. slice_get d.fun_names n)) (marked_one ps set numbers (marked_numbers marks) are marked)
@@ -206,4 +213,5 @@ marks_unread d ps set lines numbers are other marks says marked =
 pub named_same : (names others : List (List ℕ)) (ns ms : List ℕ) → names ≡ others → ns ≡ ms
     → map (λ n. slice_get names n) ns ≡ map (λ n. slice_get others n) ms
 named_same names others ns ms same equal =
-    subst (λ (l : List (List ℕ)). map (λ n. slice_get names n) ns ≡ map (λ n. slice_get l n) ms) same (ap (map (λ n. slice_get names n)) equal)
+    subst (λ (l : List (List ℕ)). map (λ n. slice_get names n) ns ≡ map (λ n. slice_get l n) ms) same
+    (ap (map (λ n. slice_get names n)) equal)

@@ -13,3 +13,4 @@ pub mod FaultLaws
 pub mod Bounded
 pub mod SomeSets
 pub mod ValidOrFault
+pub mod Named

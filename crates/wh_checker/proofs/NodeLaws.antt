@@ -1,6 +1,6 @@
 -- A node leaves one list of sets, one thing at most is wrong first with it, but that values may exceed both limits, and none where its
 -- conditions hold.
-use Rattle.std.proofs.Common.{◌≡◌, ◌≢◌, ◌⊎◌, ℕ, inl, inr, List, [], ◌∷◌, map, Contains, refl, sym, ap, subst, ◌∙◌}
+use Rattle.std.proofs.Common.{◌≡◌, ◌≢◌, ℕ, inl, inr, List, [], ◌∷◌, map, Contains, refl, sym, ap, subst, ◌∙◌}
 use Rattle.wh_terms.specs.Typing.{Symbols}
 use Rattle.wh_terms.specs.Rules.{RewriteRule}
 use Rattle.wh_system.specs.Systems.{SystemData}
@@ -24,7 +24,7 @@ use Rattle.wh_polycheck.specs.Marks.{Mark}
 use Rattle.wh_meaning.specs.Covering.{IsCovering}
 use Rattle.wh_covering.specs.CoveringFaults.{Limits, without_limits, with_limits, IsFirstCoveringFault}
 use Rattle.wh_covering.specs.declared.fault.CoveringFault.{CoveringFault}
-use Rattle.wh_nodes.specs.Nodes.{Node, done, alone, blocks, subterm, poly, IsSetOf, AreSetsOf, no_sets, more_sets, Leaves, by_done, by_alone, by_blocks, by_subterm, by_poly}
+use Rattle.wh_nodes.specs.Nodes.{Node, done, alone, blocks, subterm, poly, AreSetsOf, no_sets, more_sets, Leaves, by_done, by_alone, by_blocks, by_subterm, by_poly}
 use Rattle.wh_checker.specs.Looked.{SayChoices, SaysNode}
 use Rattle.wh_checker.specs.Small.{IsSmallNode}
 use Rattle.wh_checker.specs.Faults.{IsSubtermFault, SayCovering, IsNodeFault, at_node, in_excess}
@@ -34,7 +34,7 @@ use Rattle.wh_checker.proofs.SetLemmas.{set_one}
 use Rattle.wh_checker.proofs.ChoiceLemmas.{one_list_said}
 use Rattle.wh_checker.proofs.InterpretationLemmas.{one_interpretations_said, one_marks_said}
 use Rattle.wh_checker.proofs.RowLaws.{block_fault_one, blocks_or_fault, subterm_fault_one, projection_or_fault}
-use Rattle.wh_checker.proofs.CoveringLaws.{IsExcess, CoveringsAlike, SmallFor, IsRejection, covering_fault_one, covering_or_fault, fault_unlimited}
+use Rattle.wh_checker.proofs.CoveringLaws.{CoveringsAlike, SmallFor, IsRejection, covering_fault_one, covering_or_fault, fault_unlimited}
 
 sets_one : (parts xs ys : List (List ℕ)) → AreSetsOf parts xs → AreSetsOf parts ys → xs ≡ ys
 sets_one [] [] [] no_sets no_sets = refl
@@ -52,7 +52,8 @@ leaves_one S rules ps set alone [] [] (by_alone free) (by_alone also) = refl
 leaves_one S rules ps set (blocks parts) left other (by_blocks are sets) (by_blocks also others) = sets_one parts left other sets others
 leaves_one S rules ps set (subterm args drop) left other (by_subterm {rest = rest} is kept) (by_subterm {rest = others} also same) =
     ap (λ l. l ∷ []) (set_one _ rest others kept same)
-leaves_one S rules ps set (poly symbols marks rule_lines pair_lines drop) left other (by_poly {rest = rest} is kept) (by_poly {rest = others} also same) =
+leaves_one S rules ps set (poly symbols marks rule_lines pair_lines drop) left other (by_poly {rest = rest} is kept)
+    (by_poly {rest = others} also same) =
     ap (λ l. l ∷ []) (set_one _ rest others kept same)
 leaves_one S rules ps set done (_ ∷ _) other leaves also = elim leaves [ ]
 leaves_one S rules ps set done [] (_ ∷ _) leaves also = elim also [ ]
@@ -73,9 +74,11 @@ node_said_one d (w.subterm lines listed) (subterm args drop) (subterm others lef
     let args_one : args ≡ others = one_list_said d lines args others apart says.0 also.0 in
     let drop_one : drop ≡ left = sym says.1 ∙ also.1 in
     cc (args_one, drop_one)
-node_said_one d (w.interpretations funs lines rules pairs listed) (poly ss ms rs ps drop) (poly us ns ts qs left) apart (funs_say, marks_say, rules_say, pairs_say, drop_says) (funs_also, marks_also, rules_also, pairs_also, drop_also) =
+node_said_one d (w.interpretations funs lines rules pairs listed) (poly ss ms rs ps drop) (poly us ns ts qs left) apart
+    (funs_say, marks_say, rules_say, pairs_say, drop_says) (funs_also, marks_also, rules_also, pairs_also, drop_also) =
     poly_one ss us ms ns rs ts ps qs drop left (one_interpretations_said d.fun_names d.symbols.funs funs ss us funs_say funs_also)
-    (one_marks_said d lines ms ns apart marks_say marks_also) (sym rules_say ∙ rules_also) (sym pairs_say ∙ pairs_also) (sym drop_says ∙ drop_also)
+    (one_marks_said d lines ms ns apart marks_say marks_also) (sym rules_say ∙ rules_also) (sym pairs_say ∙ pairs_also)
+    (sym drop_says ∙ drop_also)
 node_said_one d w.done alone other apart says also = absurd says
 node_said_one d w.done (blocks parts) other apart says also = absurd says
 node_said_one d w.done (subterm args drop) other apart says also = absurd says
@@ -112,16 +115,22 @@ node_said_one d (w.interpretations funs lines rules pairs listed) done other apa
 node_said_one d (w.interpretations funs lines rules pairs listed) alone other apart says also = absurd says
 node_said_one d (w.interpretations funs lines rules pairs listed) (blocks parts) other apart says also = absurd says
 node_said_one d (w.interpretations funs lines rules pairs listed) (subterm args drop) other apart says also = absurd says
-node_said_one d (w.interpretations funs lines rules pairs listed) (poly symbols marks rule_lines pair_lines drop) done apart says also = absurd also
-node_said_one d (w.interpretations funs lines rules pairs listed) (poly symbols marks rule_lines pair_lines drop) alone apart says also = absurd also
-node_said_one d (w.interpretations funs lines rules pairs listed) (poly symbols marks rule_lines pair_lines drop) (blocks parts) apart says also = absurd also
-node_said_one d (w.interpretations funs lines rules pairs listed) (poly symbols marks rule_lines pair_lines drop) (subterm args left) apart says also = absurd also
+node_said_one d (w.interpretations funs lines rules pairs listed) (poly symbols marks rule_lines pair_lines drop) done apart says also =
+    absurd also
+node_said_one d (w.interpretations funs lines rules pairs listed) (poly symbols marks rule_lines pair_lines drop) alone apart says also =
+    absurd also
+node_said_one d (w.interpretations funs lines rules pairs listed) (poly symbols marks rule_lines pair_lines drop)
+    (blocks parts) apart says also = absurd also
+node_said_one d (w.interpretations funs lines rules pairs listed) (poly symbols marks rule_lines pair_lines drop)
+    (subterm args left) apart says also = absurd also
 
 -- the faults of nodes, by their kinds
 
 data ChoiceFault (d : SystemData) (ps : List PairData) (set : List ℕ) (lines : List w.Arg) (drop : List ℕ) : SubtermFault → Type 0 where
-  no_args : ((args : List Chosen) → SayChoices d lines args → AreForMarked ps set args → ⊥) → ChoiceFault d ps set lines drop projected.BadArgs
-  with_args : {f : SubtermFault} (args : List Chosen) → SayChoices d lines args → AreForMarked ps set args → IsFirstSubtermFault d.rules ps set args drop f → ChoiceFault d ps set lines drop f
+  no_args : ((args : List Chosen) → SayChoices d lines args → AreForMarked ps set args → ⊥)
+      → ChoiceFault d ps set lines drop projected.BadArgs
+  with_args : {f : SubtermFault} (args : List Chosen) → SayChoices d lines args → AreForMarked ps set args
+      → IsFirstSubtermFault d.rules ps set args drop f → ChoiceFault d ps set lines drop f
 
 choice_fault : (d : SystemData) (ps : List PairData) (set : List ℕ) (lines : List w.Arg) (drop : List ℕ) (f : SubtermFault)
     → IsSubtermFault d ps set lines drop f → ChoiceFault d ps set lines drop f
@@ -138,7 +147,8 @@ choice_fault_one d ps set lines drop f g apart (no_args not) (with_args args say
 choice_fault_one d ps set lines drop f g apart (with_args args says marked first) (no_args not) = absurd (not args says marked)
 choice_fault_one d ps set lines drop f g apart (with_args args says marked first) (with_args others also same other) =
     let one : args ≡ others = one_list_said d lines args others apart says also in
-    subterm_fault_one d.rules ps set others drop f g (subst (λ (cs : List Chosen). IsFirstSubtermFault d.rules ps set cs drop f) one first) other
+    subterm_fault_one d.rules ps set others drop f g (subst (λ (cs : List Chosen). IsFirstSubtermFault d.rules ps set cs drop f) one first)
+    other
 
 choices_or_fault : (d : SystemData) (ps : List PairData) (set : List ℕ) (lines : List w.Arg) (args : List Chosen) (drop : List ℕ)
     (f : SubtermFault) → AreDistinct d.fun_names → SayChoices d lines args → IsProjection d.rules ps set args drop
@@ -158,8 +168,8 @@ from_choice d ps set lines drop projected.BadDrop (with_args args says marked fi
 from_choice d ps set lines drop (projected.NotDecreasing n) (with_args args says marked first) = (args, says, first)
 
 -- the same for nodes of interpretations
-data PolyFault (limits : Limits) (d : SystemData) (ps : List PairData) (set : List ℕ) (funs lines : List Interp) (rules pairs : List (List Move))
-    (drop : List ℕ) : NodeFault → Type 0 where
+data PolyFault (limits : Limits) (d : SystemData) (ps : List PairData) (set : List ℕ) (funs lines : List Interp)
+    (rules pairs : List (List Move)) (drop : List ℕ) : NodeFault → Type 0 where
   no_symbols : ((symbols : List Interpretation) (marks : List Mark) → SayCovering d ps set funs lines symbols marks → ⊥)
       → PolyFault limits d ps set funs lines rules pairs drop BadSymbols
   with_symbols : {f : CoveringFault} (symbols : List Interpretation) (marks : List Mark) → SayCovering d ps set funs lines symbols marks
@@ -180,18 +190,24 @@ polys_alike : (f g : CoveringFault) → CoveringsAlike f g → NodesAlike (Poly 
 polys_alike f g (inl same) = one_fault (ap Poly same)
 polys_alike f g (inr ((e, is), (h, also))) = both_exceed (record { excess = e; row = is }) (record { excess = h; row = also })
 
-poly_fault_one : (limits : Limits) (d : SystemData) (ps : List PairData) (set : List ℕ) (funs lines : List Interp) (rules pairs : List (List Move))
+poly_fault_one : (limits : Limits) (d : SystemData) (ps : List PairData) (set : List ℕ) (funs lines : List Interp)
+    (rules pairs : List (List Move))
     (drop : List ℕ) (f g : NodeFault) → AreDistinct d.fun_names → PolyFault limits d ps set funs lines rules pairs drop f
     → PolyFault limits d ps set funs lines rules pairs drop g → NodesAlike f g
 poly_fault_one limits d ps set funs lines rules pairs drop f g apart (no_symbols none) (no_symbols also) = one_fault refl
-poly_fault_one limits d ps set funs lines rules pairs drop f g apart (no_symbols none) (with_symbols symbols marks says first) = absurd (none symbols marks says)
-poly_fault_one limits d ps set funs lines rules pairs drop f g apart (with_symbols symbols marks says first) (no_symbols none) = absurd (none symbols marks says)
-poly_fault_one limits d ps set funs lines rules pairs drop f g apart (with_symbols {f = a} ss ms says first) (with_symbols {f = b} us ns also other) =
+poly_fault_one limits d ps set funs lines rules pairs drop f g apart (no_symbols none) (with_symbols symbols marks says first) =
+    absurd (none symbols marks says)
+poly_fault_one limits d ps set funs lines rules pairs drop f g apart (with_symbols symbols marks says first) (no_symbols none) =
+    absurd (none symbols marks says)
+poly_fault_one limits d ps set funs lines rules pairs drop f g apart (with_symbols {f = a} ss ms says first)
+    (with_symbols {f = b} us ns also other) =
     let symbols_one : us ≡ ss = one_interpretations_said d.fun_names d.symbols.funs funs us ss also.0 says.0 in
     let marks_one : ns ≡ ms = one_marks_said d lines ns ms apart also.1 says.1 in
     polys_alike a b (covering_fault_one limits d.symbols d.rules ps set ss ms (map transfers rules) (map transfers pairs) drop a b first
-    (subst (λ (l : List Mark). IsFirstCoveringFault limits d.symbols d.rules ps set ss l (map transfers rules) (map transfers pairs) drop b) marks_one
-    (subst (λ (l : List Interpretation). IsFirstCoveringFault limits d.symbols d.rules ps set l ns (map transfers rules) (map transfers pairs) drop b) symbols_one other)))
+    (subst (λ (l : List Mark). IsFirstCoveringFault limits d.symbols d.rules ps set ss l (map transfers rules)
+    (map transfers pairs) drop b) marks_one
+    (subst (λ (l : List Interpretation). IsFirstCoveringFault limits d.symbols d.rules ps set l ns (map transfers rules)
+    (map transfers pairs) drop b) symbols_one other)))
 
 small_for : (limits : Limits) (S : Symbols) (rules : List RewriteRule) (ps : List PairData) (set : List ℕ) (symbols : List Interpretation)
     (marks : List Mark) (rule_lines pair_lines : List (List Transfer)) (drop : List ℕ)
@@ -199,22 +215,28 @@ small_for : (limits : Limits) (S : Symbols) (rules : List RewriteRule) (ps : Lis
 small_for with_limits S rules ps set symbols marks rule_lines pair_lines drop small = small
 small_for without_limits S rules ps set symbols marks rule_lines pair_lines drop small = tt
 
-covering_or_poly : (limits : Limits) (d : SystemData) (ps : List PairData) (set : List ℕ) (funs lines : List Interp) (rules pairs : List (List Move))
-    (listed : List ℕ) (ss : List Interpretation) (ms : List Mark) (rule_lines pair_lines : List (List Transfer)) (drop : List ℕ) (f : NodeFault)
+covering_or_poly : (limits : Limits) (d : SystemData) (ps : List PairData) (set : List ℕ) (funs lines : List Interp)
+    (rules pairs : List (List Move))
+    (listed : List ℕ) (ss : List Interpretation) (ms : List Mark) (rule_lines pair_lines : List (List Transfer)) (drop : List ℕ)
+    (f : NodeFault)
     → AreDistinct d.fun_names → SaysNode d (w.interpretations funs lines rules pairs listed) (poly ss ms rule_lines pair_lines drop)
     → IsCovering d.symbols d.rules ps set ss ms rule_lines pair_lines drop → SmallFor limits d.symbols d.rules ps set ss ms
     → PolyFault limits d ps set funs lines rules pairs listed f → ⊥
 covering_or_poly limits d ps set funs lines rules pairs listed ss ms rule_lines pair_lines drop f apart says is small (no_symbols none) =
     none ss ms (says.0, says.1, is.marked)
-covering_or_poly limits d ps set funs lines rules pairs listed ss ms rule_lines pair_lines drop f apart says is small (with_symbols {f = g} us ns also first) =
+covering_or_poly limits d ps set funs lines rules pairs listed ss ms rule_lines pair_lines drop f apart says is small
+    (with_symbols {f = g} us ns also first) =
     let symbols_one : us ≡ ss = one_interpretations_said d.fun_names d.symbols.funs funs us ss also.0 says.0 in
     let marks_one : ns ≡ ms = one_marks_said d lines ns ms apart also.1 says.1 in
     covering_or_fault limits d.symbols d.rules ps set ss ms rule_lines pair_lines drop is small g
     (subst (λ (l : List ℕ). IsFirstCoveringFault limits d.symbols d.rules ps set ss ms rule_lines pair_lines l g) says.4
     (subst (λ (l : List (List Transfer)). IsFirstCoveringFault limits d.symbols d.rules ps set ss ms rule_lines l listed g) says.3
-    (subst (λ (l : List (List Transfer)). IsFirstCoveringFault limits d.symbols d.rules ps set ss ms l (map transfers pairs) listed g) says.2
-    (subst (λ (l : List Mark). IsFirstCoveringFault limits d.symbols d.rules ps set ss l (map transfers rules) (map transfers pairs) listed g) marks_one
-    (subst (λ (l : List Interpretation). IsFirstCoveringFault limits d.symbols d.rules ps set l ns (map transfers rules) (map transfers pairs) listed g) symbols_one first)))))
+    (subst (λ (l : List (List Transfer)). IsFirstCoveringFault limits d.symbols d.rules ps set ss ms l
+    (map transfers pairs) listed g) says.2
+    (subst (λ (l : List Mark). IsFirstCoveringFault limits d.symbols d.rules ps set ss l (map transfers rules)
+    (map transfers pairs) listed g) marks_one
+    (subst (λ (l : List Interpretation). IsFirstCoveringFault limits d.symbols d.rules ps set l ns (map transfers rules)
+    (map transfers pairs) listed g) symbols_one first)))))
 
 data KindFault (limits : Limits) (d : SystemData) (ps : List PairData) (set : List ℕ) : w.Node → NodeFault → Type 0 where
   of_done : set ≢ [] → KindFault limits d ps set w.done NotEmpty
@@ -225,7 +247,8 @@ data KindFault (limits : Limits) (d : SystemData) (ps : List PairData) (set : Li
   of_subterm : {lines : List w.Arg} {drop : List ℕ} {f : SubtermFault} → ChoiceFault d ps set lines drop f
       → KindFault limits d ps set (w.subterm lines drop) (Subterm f)
   of_poly : {funs lines : List Interp} {rules pairs : List (List Move)} {drop : List ℕ} {f : NodeFault}
-      → PolyFault limits d ps set funs lines rules pairs drop f → KindFault limits d ps set (w.interpretations funs lines rules pairs drop) f
+      → PolyFault limits d ps set funs lines rules pairs drop f → KindFault limits d ps set
+      (w.interpretations funs lines rules pairs drop) f
 
 kind_fault : (limits : Limits) (d : SystemData) (ps : List PairData) (set : List ℕ) (line : w.Node) (f : NodeFault)
     → IsNodeFault limits d ps set line f → KindFault limits d ps set line f
@@ -263,10 +286,11 @@ kind_fault limits d ps set (w.interpretations funs lines rules pairs drop) (Loop
 kind_fault limits d ps set (w.interpretations funs lines rules pairs drop) (Blocks f) fault = absurd fault
 kind_fault limits d ps set (w.interpretations funs lines rules pairs drop) (Subterm f) fault = absurd fault
 kind_fault limits d ps set (w.interpretations funs lines rules pairs drop) BadSymbols none = of_poly (no_symbols none)
-kind_fault limits d ps set (w.interpretations funs lines rules pairs drop) (Poly f) (symbols, marks, says, first) = of_poly (with_symbols symbols marks says first)
+kind_fault limits d ps set (w.interpretations funs lines rules pairs drop) (Poly f) (symbols, marks, says, first) =
+    of_poly (with_symbols symbols marks says first)
 
-kind_fault_one : (limits : Limits) (d : SystemData) (ps : List PairData) (set : List ℕ) (line : w.Node) (f g : NodeFault) → AreDistinct d.fun_names
-    → KindFault limits d ps set line f → KindFault limits d ps set line g → NodesAlike f g
+kind_fault_one : (limits : Limits) (d : SystemData) (ps : List PairData) (set : List ℕ) (line : w.Node) (f g : NodeFault)
+    → AreDistinct d.fun_names → KindFault limits d ps set line f → KindFault limits d ps set line g → NodesAlike f g
 kind_fault_one limits d ps set w.done f g apart (of_done some) (of_done also) = one_fault refl
 kind_fault_one limits d ps set w.alone f g apart (of_alone other) (of_alone also) = one_fault refl
 kind_fault_one limits d ps set w.alone f g apart (of_alone other) (of_loop {a = a} is follows) = absurd (other a is)
@@ -292,9 +316,12 @@ leaves_or_kind limits d ps set w.done node left f apart says by_done small (of_d
 leaves_or_kind limits d ps set w.alone node left f apart says (by_alone {a = a} free) small (of_alone other) = other a refl
 leaves_or_kind limits d ps set w.alone node left f apart says (by_alone {a = a} free) small (of_loop {a = b} is follows) =
     let same : b ≡ a = cc is in free (subst (λ n. Follows d.rules ps n n) same follows)
-leaves_or_kind limits d ps set (w.blocks listed) node left f apart says (by_blocks {parts = parts} are sets) small (of_blocks {f = g} first) =
-    blocks_or_fault (Follows d.rules ps) set parts g are (subst (λ (l : List (List ℕ)). IsFirstBlockFault (Follows d.rules ps) set l g) says first)
-leaves_or_kind limits d ps set (w.subterm lines listed) node left f apart says (by_subterm {drop = drop} {args = args} is kept) small (of_subterm {f = g} first) =
+leaves_or_kind limits d ps set (w.blocks listed) node left f apart says (by_blocks {parts = parts} are sets) small
+    (of_blocks {f = g} first) =
+    blocks_or_fault (Follows d.rules ps) set parts g are (subst
+    (λ (l : List (List ℕ)). IsFirstBlockFault (Follows d.rules ps) set l g) says first)
+leaves_or_kind limits d ps set (w.subterm lines listed) node left f apart says (by_subterm {drop = drop} {args = args} is kept) small
+    (of_subterm {f = g} first) =
     choices_or_fault d ps set lines args drop g apart says.0 is (subst (λ (l : List ℕ). ChoiceFault d ps set lines l g) says.1 first)
 leaves_or_kind limits d ps set (w.interpretations funs lines rules pairs listed) node left f apart says
     (by_poly {drop = drop} {symbols = ss} {marks = ms} {rule_lines = rule_lines} {pair_lines = pair_lines} is kept) small (of_poly first) =
@@ -317,12 +344,15 @@ leaves_or_kind limits d ps set (w.subterm lines listed) node left f apart says (
 leaves_or_kind limits d ps set (w.subterm lines listed) node left f apart says (by_blocks are sets) small fault = elim says [ ]
 leaves_or_kind limits d ps set (w.subterm lines listed) node left f apart says (by_poly is kept) small fault = elim says [ ]
 leaves_or_kind limits d ps set (w.interpretations funs lines rules pairs listed) node left f apart says by_done small fault = elim says [ ]
-leaves_or_kind limits d ps set (w.interpretations funs lines rules pairs listed) node left f apart says (by_alone free) small fault = elim says [ ]
-leaves_or_kind limits d ps set (w.interpretations funs lines rules pairs listed) node left f apart says (by_blocks are sets) small fault = elim says [ ]
-leaves_or_kind limits d ps set (w.interpretations funs lines rules pairs listed) node left f apart says (by_subterm is kept) small fault = elim says [ ]
+leaves_or_kind limits d ps set (w.interpretations funs lines rules pairs listed) node left f apart says (by_alone free) small fault =
+    elim says [ ]
+leaves_or_kind limits d ps set (w.interpretations funs lines rules pairs listed) node left f apart says (by_blocks are sets) small fault =
+    elim says [ ]
+leaves_or_kind limits d ps set (w.interpretations funs lines rules pairs listed) node left f apart says (by_subterm is kept) small fault =
+    elim says [ ]
 
-pub leaves_or_fault : (limits : Limits) (d : SystemData) (ps : List PairData) (set : List ℕ) (line : w.Node) (node : Node) (left : List (List ℕ))
-    (f : NodeFault) → AreDistinct d.fun_names → SaysNode d line node → Leaves d.symbols d.rules ps set node left
+pub leaves_or_fault : (limits : Limits) (d : SystemData) (ps : List PairData) (set : List ℕ) (line : w.Node) (node : Node)
+    (left : List (List ℕ)) (f : NodeFault) → AreDistinct d.fun_names → SaysNode d line node → Leaves d.symbols d.rules ps set node left
     → IsSmallNode limits d.symbols d.rules ps set node → IsNodeFault limits d ps set line f → ⊥
 leaves_or_fault limits d ps set line node left f apart says leaves small fault =
     leaves_or_kind limits d ps set line node left f apart says leaves small (kind_fault limits d ps set line f fault)
@@ -337,9 +367,14 @@ kind_unlimited d ps set w.alone k f is (of_loop one follows) = (one, follows)
 kind_unlimited d ps set (w.blocks parts) k f is (of_blocks first) = first
 kind_unlimited d ps set (w.subterm lines drop) k f is (of_subterm {f = g} first) = from_choice d ps set lines drop g first
 kind_unlimited d ps set (w.interpretations funs lines rules pairs drop) k f is (of_poly (no_symbols none)) = none
-kind_unlimited d ps set (w.interpretations funs lines rules pairs drop) k f is (of_poly (with_symbols {f = g} symbols marks says first)) =
-    (symbols, marks, says, fault_unlimited d.symbols d.rules ps set symbols marks (map transfers rules) (map transfers pairs) drop k g is first)
+kind_unlimited d ps set (w.interpretations funs lines rules pairs drop) k f is (of_poly (with_symbols {f = g} symbols marks says first)) = (
+  symbols,
+  marks,
+  says,
+  fault_unlimited d.symbols d.rules ps set symbols marks (map transfers rules)
+      (map transfers pairs) drop k g is first,
+)
 
-pub node_unlimited : (d : SystemData) (ps : List PairData) (set : List ℕ) (line : w.Node) (k : ℕ) (f : NodeFault) → IsRejection (at_node k f)
-    → IsNodeFault with_limits d ps set line f → IsNodeFault without_limits d ps set line f
+pub node_unlimited : (d : SystemData) (ps : List PairData) (set : List ℕ) (line : w.Node) (k : ℕ) (f : NodeFault)
+    → IsRejection (at_node k f) → IsNodeFault with_limits d ps set line f → IsNodeFault without_limits d ps set line f
 node_unlimited d ps set line k f is fault = kind_unlimited d ps set line k f is (kind_fault with_limits d ps set line f fault)

@@ -26,7 +26,8 @@ leaves_count d ps set w.done done [] says by_done = refl
 leaves_count d ps set w.alone alone [] says (by_alone free) = refl
 leaves_count d ps set (w.blocks listed) (blocks parts) left says (by_blocks are sets) = sets_count parts left sets ∙ ap length (sym says)
 leaves_count d ps set (w.subterm lines listed) (subterm args drop) left says (by_subterm is rest) = refl
-leaves_count d ps set (w.interpretations funs lines rules pairs listed) (poly symbols marks rule_lines pair_lines drop) left says (by_poly is rest) = refl
+leaves_count d ps set (w.interpretations funs lines rules pairs listed) (poly symbols marks rule_lines pair_lines drop) left says
+    (by_poly is rest) = refl
 leaves_count d ps set w.done done (_ ∷ _) says leaves = elim leaves [ ]
 leaves_count d ps set w.alone alone (_ ∷ _) says leaves = elim leaves [ ]
 leaves_count d ps set w.done alone left says leaves = absurd says
@@ -60,8 +61,8 @@ sets_within P [] (set ∷ sets) none each = elim none [ ]
 sets_within P (part ∷ parts) [] none each = elim none [ ]
 
 -- what holds of the numbers of a set holds of those of what is left of it
-pub left_within : (S : Symbols) (rules : List RewriteRule) (ps : List PairData) (P : ℕ → Type 0) (set : List ℕ) (node : Node) (left : List (List ℕ))
-    → Leaves S rules ps set node left → All P set → All (All P) left
+pub left_within : (S : Symbols) (rules : List RewriteRule) (ps : List PairData) (P : ℕ → Type 0) (set : List ℕ) (node : Node)
+    (left : List (List ℕ)) → Leaves S rules ps set node left → All P set → All (All P) left
 left_within S rules ps P set done [] by_done all = All-nil (All P)
 left_within S rules ps P set alone [] (by_alone free) all = All-nil (All P)
 left_within S rules ps P set (blocks parts) left (by_blocks are sets) all =

@@ -87,7 +87,8 @@ not_greater xs i n m up at (k, below, there) =
 pub distinct_push : (xs set : List ℕ) (i n : ℕ) → slice_get xs i ≡ Some n → IsSetOf (StandsBefore xs i) set → All (λ m. m < n) set
     → IsSetOf (StandsBefore xs (i + 1)) (set ++ n ∷ [])
 distinct_push xs set i n at is below =
-    set_push (StandsBefore xs i) (StandsBefore xs (i + 1)) set n is (λ m stands. All-contains (λ k. k < n) set m below ((is.each m).1 stands)) (before_next xs i n at)
+    set_push (StandsBefore xs i) (StandsBefore xs (i + 1)) set n is
+    (λ m stands. All-contains (λ k. k < n) set m below ((is.each m).1 stands)) (before_next xs i n at)
 
 pub distinct_skip : (xs set : List ℕ) (i n : ℕ) → IsNonDecreasing xs → slice_get xs i ≡ Some n → IsSetOf (StandsBefore xs i) set
     → (All (λ m. m < n) set → ⊥) → IsSetOf (StandsBefore xs (i + 1)) set
@@ -101,7 +102,11 @@ distinct_skip xs set i n up at is not_below =
     ] in
     set_same (StandsBefore xs i) (StandsBefore xs (i + 1)) set is (λ m. (
       λ stands. (before_next xs i n at m).1 (inl stands),
-      λ stands. elim ((before_next xs i n at m).0 stands) [ inl old ↦ old | inr same ↦ (is.each m).0 (subst (Contains set) (sym same) there) ],
+      λ stands. elim ((before_next xs i n at m).0 stands) [
+        | inl old ↦ old
+        | inr same ↦ (is.each m).0
+            (subst (Contains set) (sym same) there)
+      ],
     ))
 
 -- the set of what stands before a place and is not dropped, one more place
@@ -144,12 +149,17 @@ kept_skip xs drop rest i n at dropped is =
 pub kept_end : (xs drop rest : List ℕ) (i : ℕ) → length xs ≤ i → IsSetOf (KeptBefore xs drop i) rest → IsSetOf (IsKept xs drop) rest
 kept_end xs drop rest i past is =
     set_same (KeptBefore xs drop i) (IsKept xs drop) rest is
-    (λ m. (λ (stands, undropped). ((before_end xs i past m).0 stands, undropped), λ (found, undropped). ((before_end xs i past m).1 found, undropped)))
+    (λ m. (
+      λ (stands, undropped). ((before_end xs i past m).0 stands, undropped),
+      λ (found, undropped).
+          ((before_end xs i past m).1 found, undropped),
+    ))
 
 -- the set of a list in another order
 pub set_sorted : (xs ys set : List ℕ) → IsPermutation xs ys → IsSetOf (Contains ys) set → IsSetOf (Contains xs) set
 set_sorted xs ys set moved is =
-    set_same (Contains ys) (Contains xs) set is (λ n. (Contains-permutation ys xs n (IsPermutation-sym xs ys moved), Contains-permutation xs ys n moved))
+    set_same (Contains ys) (Contains xs) set is
+    (λ n. (Contains-permutation ys xs n (IsPermutation-sym xs ys moved), Contains-permutation xs ys n moved))
 
 pub kept_above : (xs drop rest : List ℕ) (i n : ℕ) → IsIncreasing xs → slice_get xs i ≡ Some n → IsSetOf (KeptBefore xs drop i) rest
     → All (λ m. m < n) rest
@@ -220,4 +230,5 @@ increasing_one (x ∷ xs) (y ∷ ys) up also into back =
 
 pub set_one : (P : ℕ → Type 0) (xs ys : List ℕ) → IsSetOf P xs → IsSetOf P ys → xs ≡ ys
 set_one P xs ys is also =
-    increasing_one xs ys is.increasing also.increasing (λ n found. (also.each n).1 ((is.each n).0 found)) (λ n found. (is.each n).1 ((also.each n).0 found))
+    increasing_one xs ys is.increasing also.increasing (λ n found. (also.each n).1 ((is.each n).0 found))
+    (λ n found. (is.each n).1 ((also.each n).0 found))

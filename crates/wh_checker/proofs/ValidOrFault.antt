@@ -35,7 +35,7 @@ use Rattle.wh_decisions.proofs.Coverings.{CoveringOrFault, covering_or_fault}
 use Rattle.wh_decisions.proofs.Breaks.{passing_or_break}
 use Rattle.wh_decisions.proofs.Claims.{ClaimOrFault, claim_or_fault}
 use Rattle.wh_covering.specs.CoveringFaults.{without_limits}
-use Rattle.wh_checker.specs.Looked.{SayChoices, SayInterpretations, SaysMark, SayMarks, SaysNode, SayNodes}
+use Rattle.wh_checker.specs.Looked.{SayChoices, SayInterpretations, SayMarks, SaysNode, SayNodes}
 use Rattle.wh_checker.specs.Valid.{IsValidYes, IsValidCert}
 use Rattle.wh_checker.specs.Faults.{IsSubtermFault, SayCovering, IsNodeFault, IsFirstNodeFault, at_first, behind_first, at_node, of_claim, IsFirstYesFault, rank_count, inaccessible, pair_count, in_node, IsFirstFault}
 use Rattle.wh_checker.specs.declared.rejected.NodeFault.{NodeFault}
@@ -57,17 +57,19 @@ none_behind : (d : SystemData) (line : w.Arg) (lines : List w.Arg) → SaysNone 
 none_behind d line lines none [] says = says
 none_behind d line lines none (c ∷ args) says = none args says.1
 
-none_named : (d : SystemData) (line : w.Arg) (lines : List w.Arg) → HasNoneOf (λ (name : List ℕ). name ≡ line.name) d.fun_names → SaysNone d (line ∷ lines)
+none_named : (d : SystemData) (line : w.Arg) (lines : List w.Arg) → HasNoneOf (λ (name : List ℕ). name ≡ line.name) d.fun_names
+    → SaysNone d (line ∷ lines)
 none_named d line lines none [] says = says
 none_named d line lines none (c ∷ args) says = none line.name (contains_at d.fun_names c.symbol line.name says.0.named) refl
 
 said_or_not : (d : SystemData) (lines : List w.Arg) → SomeOrNone (SayChoices d lines)
 said_or_not d [] = inl ([], tt)
 said_or_not d (line ∷ lines) =
-    go (first_place (λ (name : List ℕ). name ≡ line.name) (λ name. list_decided equal_decided name line.name) d.fun_names) (said_or_not d lines)
+    go (first_place (λ (name : List ℕ). name ≡ line.name) (λ name. list_decided equal_decided name line.name) d.fun_names)
+    (said_or_not d lines)
   where
-    go : HasFirst (λ (name : List ℕ). name ≡ line.name) d.fun_names ⊎ HasNoneOf (λ (name : List ℕ). name ≡ line.name) d.fun_names → SomeOrNone (SayChoices d lines)
-        → SomeOrNone (SayChoices d (line ∷ lines))
+    go : HasFirst (λ (name : List ℕ). name ≡ line.name) d.fun_names ⊎ HasNoneOf (λ (name : List ℕ). name ≡ line.name) d.fun_names
+        → SomeOrNone (SayChoices d lines) → SomeOrNone (SayChoices d (line ∷ lines))
     go (inl (i, name, at, same, before)) (inl (args, says)) =
         inl (record { symbol = i; argument = line.place } ∷ args, (record { named = at ∙ ap (λ n. Some n) same; place = refl }, says))
     go (inl found) (inr none) = inr (none_behind d line lines none)
@@ -81,8 +83,9 @@ SaysProjection d ps set lines drop = (args : List Chosen) × SayChoices d lines 
 abbrev HasSubtermFault : SystemData → List PairData → List ℕ → List w.Arg → List ℕ → Type 0
 HasSubtermFault d ps set lines drop = (f : SubtermFault) × IsSubtermFault d ps set lines drop f
 
-said_fault : (d : SystemData) (ps : List PairData) (set : List ℕ) (lines : List w.Arg) (args : List Chosen) (drop : List ℕ) (f : SubtermFault)
-    → AreDistinct d.fun_names → SayChoices d lines args → IsFirstSubtermFault d.rules ps set args drop f → IsSubtermFault d ps set lines drop f
+said_fault : (d : SystemData) (ps : List PairData) (set : List ℕ) (lines : List w.Arg) (args : List Chosen) (drop : List ℕ)
+    (f : SubtermFault) → AreDistinct d.fun_names → SayChoices d lines args → IsFirstSubtermFault d.rules ps set args drop f
+    → IsSubtermFault d ps set lines drop f
 said_fault d ps set lines args drop projected.BadArgs apart says first =
     λ others also marked. first (subst (AreForMarked ps set) (one_list_said d lines others args apart also says) marked)
 said_fault d ps set lines args drop (projected.NoProjection f) apart says first = (args, says, first)
@@ -105,7 +108,8 @@ projection_said d ps set lines drop apart = go (said_or_not d lines)
 
 -- lines that say interpretations
 
-interpretations_or_none : (names : List (List ℕ)) (kinds : List Ty) (lines : List Interp) → SomeOrNone (SayInterpretations names kinds lines)
+interpretations_or_none : (names : List (List ℕ)) (kinds : List Ty) (lines : List Interp)
+    → SomeOrNone (SayInterpretations names kinds lines)
 interpretations_or_none [] [] [] = inl ([], tt)
 interpretations_or_none [] [] (line ∷ lines) = inr (λ symbols says. says)
 interpretations_or_none [] (a ∷ kinds) lines = inr (λ symbols says. says)
@@ -114,7 +118,8 @@ interpretations_or_none (name ∷ names) (a ∷ kinds) [] = inr (λ symbols says
 interpretations_or_none (name ∷ names) (a ∷ kinds) (line ∷ lines) =
     go (list_decided equal_decided line.name name) (interpretations_or_none names kinds lines)
   where
-    other : (line.name ≡ name → ⊥) → (symbols : List Interpretation) → SayInterpretations (name ∷ names) (a ∷ kinds) (line ∷ lines) symbols → ⊥
+    other : (line.name ≡ name → ⊥) → (symbols : List Interpretation) → SayInterpretations (name ∷ names) (a ∷ kinds) (line ∷ lines) symbols
+        → ⊥
     other not [] says = says
     other not (s ∷ symbols) says = not says.0
 
@@ -142,12 +147,16 @@ no_mark_named d line lines none (m ∷ marks) says = none line.name (contains_at
 marks_or_none : (d : SystemData) (lines : List Interp) → SomeOrNone (SayMarks d lines)
 marks_or_none d [] = inl ([], tt)
 marks_or_none d (line ∷ lines) =
-    go (first_place (λ (name : List ℕ). name ≡ line.name) (λ name. list_decided equal_decided name line.name) d.fun_names) (marks_or_none d lines)
+    go (first_place (λ (name : List ℕ). name ≡ line.name) (λ name. list_decided equal_decided name line.name) d.fun_names)
+    (marks_or_none d lines)
   where
     go : HasFirst (λ (name : List ℕ). name ≡ line.name) d.fun_names ⊎ HasNoneOf (λ (name : List ℕ). name ≡ line.name) d.fun_names
         → SomeOrNone (SayMarks d lines) → SomeOrNone (SayMarks d (line ∷ lines))
     go (inl (i, name, at, same, before)) (inl (marks, says)) =
-        inl (record { symbol = i; polynomial = line.poly } ∷ marks, (record { named = at ∙ ap (λ n. Some n) same; polynomial = refl }, says))
+        inl (
+          record { symbol = i; polynomial = line.poly } ∷ marks,
+          (record { named = at ∙ ap (λ n. Some n) same; polynomial = refl }, says),
+        )
     go (inl found) (inr none) = inr (no_mark_behind d line lines none)
     go (inr none) rest = inr (no_mark_named d line lines none)
 
@@ -163,11 +172,13 @@ covering_said : (d : SystemData) (ps : List PairData) (set : List ℕ) (funs lin
     → SaysSome d ps set funs lines ⊎ SaysNothing d ps set funs lines
 covering_said d ps set funs lines apart = go (interpretations_or_none d.fun_names d.symbols.funs funs) (marks_or_none d lines)
   where
-    at_marks : (symbols : List Interpretation) (marks : List Mark) → SayInterpretations d.fun_names d.symbols.funs funs symbols → SayMarks d lines marks
+    at_marks : (symbols : List Interpretation) (marks : List Mark) → SayInterpretations d.fun_names d.symbols.funs funs symbols
+        → SayMarks d lines marks
         → Decided (AreMarked ps set (marked_numbers marks)) → SaysSome d ps set funs lines ⊎ SaysNothing d ps set funs lines
     at_marks symbols marks says also (inl marked) = inl (symbols, marks, (says, also, marked))
     at_marks symbols marks says also (inr not) =
-        inr (λ others more said. not (subst (λ (l : List Mark). AreMarked ps set (marked_numbers l)) (one_marks_said d lines more marks apart said.1 also) said.2))
+        inr (λ others more said. not (subst (λ (l : List Mark). AreMarked ps set (marked_numbers l))
+        (one_marks_said d lines more marks apart said.1 also) said.2))
 
     go : SomeOrNone (SayInterpretations d.fun_names d.symbols.funs funs) → SomeOrNone (SayMarks d lines)
         → SaysSome d ps set funs lines ⊎ SaysNothing d ps set funs lines
@@ -212,21 +223,29 @@ poly_said : (d : SystemData) (ps : List PairData) (set : List ℕ) (funs lines :
     → SaysSome d ps set funs lines ⊎ SaysNothing d ps set funs lines → NodeOrFault d ps set (w.interpretations funs lines rules pairs drop)
 poly_said d ps set funs lines rules pairs drop (inr nothing) = inr (BadSymbols, nothing)
 poly_said d ps set funs lines rules pairs drop (inl (symbols, marks, said)) =
-    go (covering_or_fault d.symbols d.rules ps set symbols marks (map transfers rules) (map transfers pairs) drop (said_lists d.fun_names d.symbols.funs funs symbols said.0).1 said.2)
+    go (covering_or_fault d.symbols d.rules ps set symbols marks (map transfers rules) (map transfers pairs) drop
+    (said_lists d.fun_names d.symbols.funs funs symbols said.0).1 said.2)
   where
     go : CoveringOrFault d.symbols d.rules ps set symbols marks (map transfers rules) (map transfers pairs) drop
         → NodeOrFault d ps set (w.interpretations funs lines rules pairs drop)
     go (inr (f, first)) = inr (Poly f, (symbols, marks, said, first))
     go (inl is) =
         let (rest, kept) = kept_set set drop in
-        inl (poly symbols marks (map transfers rules) (map transfers pairs) drop, rest ∷ [], (said.0, said.1, refl, refl, refl), by_poly is kept)
+        inl (
+          poly symbols marks (map transfers rules) (map transfers pairs) drop,
+          rest ∷ [],
+          (said.0, said.1, refl, refl, refl),
+          by_poly is kept,
+        )
 
 node_or_fault : (d : SystemData) (ps : List PairData) (set : List ℕ) (line : w.Node) → AreDistinct d.fun_names → NodeOrFault d ps set line
 node_or_fault d ps set w.done apart = done_or_fault d ps set
 node_or_fault d ps set w.alone apart = alone_or_fault d ps set
-node_or_fault d ps set (w.blocks parts) apart = blocks_said d ps set parts (blocks_or_fault (Follows d.rules ps) (follows_decided d.rules ps) set parts)
+node_or_fault d ps set (w.blocks parts) apart =
+    blocks_said d ps set parts (blocks_or_fault (Follows d.rules ps) (follows_decided d.rules ps) set parts)
 node_or_fault d ps set (w.subterm lines drop) apart = subterm_said d ps set lines drop (projection_said d ps set lines drop apart)
-node_or_fault d ps set (w.interpretations funs lines rules pairs drop) apart = poly_said d ps set funs lines rules pairs drop (covering_said d ps set funs lines apart)
+node_or_fault d ps set (w.interpretations funs lines rules pairs drop) apart =
+    poly_said d ps set funs lines rules pairs drop (covering_said d ps set funs lines apart)
 
 -- the nodes in preorder
 
@@ -247,7 +266,7 @@ proved_or_fault d ps k (set ∷ sets) (line ∷ lines) apart counted = elim (nod
   | inr (f, fault) ↦ inr (k, f, at_first fault)
   | inl (node, left, says, leaves) ↦
       let count : length (left ++ sets) ≡ w.children line + length sets =
-          length-append left sets ∙ ap (λ n. n + length sets) (leaves_count d ps set line node left says leaves) in
+      length-append left sets ∙ ap (λ n. n + length sets) (leaves_count d ps set line node left says leaves) in
       elim (proved_or_fault d ps (suc k) (left ++ sets) lines apart (subst (λ n. Preorder n lines) (sym count) counted)) [
         | inl (nodes, say, proves) ↦ inl (node ∷ nodes, (says, say), one_proved leaves proves)
         | inr (m, f, first) ↦ inr (m, f, behind_first says leaves tt first)
@@ -257,15 +276,16 @@ proved_or_fault d ps k (set ∷ sets) (line ∷ lines) apart counted = elim (nod
 -- a certificate of termination
 
 abbrev YesOrFault : SystemData → List PairData → List ℕ → ℕ → List w.Node → Type 0
-YesOrFault d ps ranks pairs lines = IsValidYes d ps ranks pairs lines ⊎ ((r : CheckFault) × IsFirstYesFault without_limits d ps ranks pairs lines r)
+YesOrFault d ps ranks pairs lines =
+    IsValidYes d ps ranks pairs lines ⊎ ((r : CheckFault) × IsFirstYesFault without_limits d ps ranks pairs lines r)
 
-valid_or_yes_fault : (d : SystemData) (ps : List PairData) (ranks : List ℕ) (pairs : ℕ) (lines : List w.Node) → AreDistinct d.fun_names → Preorder 1 lines
-    → YesOrFault d ps ranks pairs lines
+valid_or_yes_fault : (d : SystemData) (ps : List PairData) (ranks : List ℕ) (pairs : ℕ) (lines : List w.Node) → AreDistinct d.fun_names
+    → Preorder 1 lines → YesOrFault d ps ranks pairs lines
 valid_or_yes_fault d ps ranks pairs lines apart counted =
     go (equal_decided (length ranks) d.symbols.sorts) (passing_or_break d.symbols (rank_of ranks) d.rules) (equal_decided pairs (length ps))
   where
-    go : Decided (length ranks ≡ d.symbols.sorts) → Passing d.symbols (rank_of ranks) d.rules ⊎ ((i z : ℕ) × IsFirstBreak d.symbols (rank_of ranks) d.rules i z)
-        → Decided (pairs ≡ length ps) → YesOrFault d ps ranks pairs lines
+    go : Decided (length ranks ≡ d.symbols.sorts) → Passing d.symbols (rank_of ranks) d.rules
+        ⊎ ((i z : ℕ) × IsFirstBreak d.symbols (rank_of ranks) d.rules i z) → Decided (pairs ≡ length ps) → YesOrFault d ps ranks pairs lines
     go (inr other) passing count = inr (check.Rejected row.RankCount, rank_count other)
     go (inl ranked) (inr (i, z, first)) count = inr (check.Rejected (row.Inaccessible i z), inaccessible ranked first)
     go (inl ranked) (inl passing) (inr other) = inr (check.Rejected (row.PairCount (length ps)), pair_count ranked passing other)
@@ -273,15 +293,15 @@ valid_or_yes_fault d ps ranks pairs lines apart counted =
         let (set, whole) = whole_set ps in
         elim (proved_or_fault d ps 0 (set ∷ []) lines apart counted) [
           | inl (nodes, say, proves) ↦ inl (record {
-              rank_count = ranked;
-              passing = passing;
-              pair_count = right;
-              set = set;
-              whole = whole;
-              nodes = nodes;
-              says = say;
-              proves = proves;
-            })
+            rank_count = ranked;
+            passing = passing;
+            pair_count = right;
+            set = set;
+            whole = whole;
+            nodes = nodes;
+            says = say;
+            proves = proves;
+          })
           | inr (k, f, first) ↦ inr (at_node k f, in_node ranked passing right whole first)
         ]
 
@@ -296,5 +316,6 @@ of_claim_too d ps t steps at puts (inl valid) = inl valid
 of_claim_too d ps t steps at puts (inr (f, first)) = inr (check.Rejected (of_claim f), (f, refl, first))
 
 pub valid_or_faulty : (d : SystemData) (ps : List PairData) (c : Cert) → IsWellMadeSystem d → IsCert c → ValidOrFault d ps c
-valid_or_faulty d ps (yes version ranks pairs lines) made cert = valid_or_yes_fault d ps ranks pairs lines made.fun_names_distinct cert.parts.4
+valid_or_faulty d ps (yes version ranks pairs lines) made cert =
+    valid_or_yes_fault d ps ranks pairs lines made.fun_names_distinct cert.parts.4
 valid_or_faulty d ps (no t steps at puts) made cert = of_claim_too d ps t steps at puts (claim_or_fault d t steps at puts made.rules)

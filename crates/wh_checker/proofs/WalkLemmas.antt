@@ -42,15 +42,25 @@ come_next d ps set lines k here sets after line left come goes =
     let within = left_within d.symbols d.rules ps (λ n. n < length ps) here goes.node goes.left goes.leaves below in
     let joined : HasCome d ps set lines (suc k) (goes.left ++ sets) left = record {
       within = All-append (Below ps) goes.left sets within (All-tail (Below ps) here sets come.within);
-      counted = subst (λ n. Preorder n left) (sym (length-append goes.left sets ∙ ap (λ n. n + length sets) (leaves_count d ps here line goes.node goes.left goes.says goes.leaves))) come.counted;
-      proved = λ (nodes, say, proves, small). come.proved (goes.node ∷ nodes, (goes.says, say), one_proved goes.leaves proves, one_small goes.leaves goes.small small);
+      counted =
+          subst (λ n. Preorder n left) (sym (length-append goes.left sets ∙ ap (λ n. n + length sets)
+          (leaves_count d ps here line goes.node goes.left goes.says goes.leaves))) come.counted;
+      proved =
+          λ (nodes, say, proves, small). come.proved (
+            goes.node ∷ nodes,
+            (goes.says, say),
+            one_proved goes.leaves proves,
+            one_small goes.leaves goes.small small,
+          );
       first = λ m f first. come.first m f (behind_first goes.says goes.leaves goes.small first);
     } in
-    subst (λ n. HasCome d ps set lines n after left) (sym (add-one k)) (subst (λ s. HasCome d ps set lines (suc k) s left) (sym goes.after_is) joined)
+    subst (λ n. HasCome d ps set lines n after left) (sym (add-one k))
+    (subst (λ s. HasCome d ps set lines (suc k) s left) (sym goes.after_is) joined)
 
 pub come_fault : (d : SystemData) (ps : List PairData) (set : List ℕ) (lines : List w.Node) (k : ℕ) (here : List ℕ) (sets : List (List ℕ))
     (line : w.Node) (left : List w.Node) (f : NodeFault)
-    → HasCome d ps set lines k (here ∷ sets) (line ∷ left) → IsNodeFault with_limits d ps here line f → IsFirstNodeFault with_limits d ps 0 (set ∷ []) lines k f
+    → HasCome d ps set lines k (here ∷ sets) (line ∷ left) → IsNodeFault with_limits d ps here line f
+    → IsFirstNodeFault with_limits d ps 0 (set ∷ []) lines k f
 come_fault d ps set lines k here sets line left f come fault = come.first k f (at_first fault)
 
 pub come_last : (d : SystemData) (ps : List PairData) (set : List ℕ) (lines : List w.Node) (k : ℕ) (sets : List (List ℕ))
@@ -65,13 +75,16 @@ pub come_here : (d : SystemData) (ps : List PairData) (set : List ℕ) (lines : 
     → node ≡ get_or nodes k node
     → HasCome d ps set lines k (here ∷ reverse rest) (said_node node ∷ map said_node (drop (k + 1) nodes))
 come_here d ps set lines k stack rest here nodes node come top within is =
-    let split : drop k nodes ≡ node ∷ drop (k + 1) nodes = subst (λ (n : code.Node). drop k nodes ≡ n ∷ drop (k + 1) nodes) (sym is) (drop_more nodes k node within) in
+    let split : drop k nodes ≡ node ∷ drop (k + 1) nodes = subst (λ (n : code.Node). drop k nodes ≡ n ∷ drop (k + 1) nodes) (sym is)
+    (drop_more nodes k node within) in
     let turned : reverse stack ≡ here ∷ reverse rest = ap reverse top ∙ reverse_push rest here in
-    subst (λ (l : List w.Node). HasCome d ps set lines k (here ∷ reverse rest) l) (ap (map said_node) split) (subst (λ (s : List (List ℕ)). HasCome d ps set lines k s (map said_node (drop k nodes))) turned come)
+    subst (λ (l : List w.Node). HasCome d ps set lines k (here ∷ reverse rest) l) (ap (map said_node) split)
+    (subst (λ (s : List (List ℕ)). HasCome d ps set lines k s (map said_node (drop k nodes))) turned come)
 
 -- the walk where no node is left
 pub come_over : (d : SystemData) (ps : List PairData) (set : List ℕ) (lines : List w.Node) (k : ℕ) (sets : List (List ℕ))
     (nodes : List code.Node) → HasCome d ps set lines k sets (map said_node (drop k nodes)) → length nodes ≤ k
     → AreProvedBy d ps (set ∷ []) lines
 come_over d ps set lines k sets nodes come past =
-    come_last d ps set lines k sets (subst (λ (l : List w.Node). HasCome d ps set lines k sets l) (ap (map said_node) (drop_all k nodes past)) come)
+    come_last d ps set lines k sets (subst (λ (l : List w.Node). HasCome d ps set lines k sets l)
+    (ap (map said_node) (drop_all k nodes past)) come)

@@ -6,7 +6,7 @@ use Rattle.wh_types.specs.declared.want.Or.TheVariants.{NoMemory, Because}
 use Rattle.wh_system.specs.Systems.{SystemData}
 use Rattle.wh_system.specs.PairData.{PairData}
 use Rattle.wh_cert.specs.Written as w
-use Rattle.wh_covering.specs.CoveringFaults.{Limits, with_limits}
+use Rattle.wh_covering.specs.CoveringFaults.{with_limits}
 use Rattle.wh_checker.specs.Valid.{IsWhole, IsValidYes}
 use Rattle.wh_checker.specs.Faults.{IsFirstNodeFault, at_node, IsFirstYesFault, rank_count, inaccessible, in_node}
 use Rattle.wh_checker.specs.Small.{IsSmallYes}
@@ -74,7 +74,17 @@ pub valid_yes : (d : SystemData) (ps : List PairData) (ranks : List ℕ) (pairs 
     → IsPassingUnder d ranks → pairs ≡ length ps → IsWhole ps set → AreProvedBy d ps (set ∷ []) lines
     → IsValidYes d ps ranks pairs lines
 valid_yes d ps ranks pairs lines set (count, passing) right whole (nodes, says, proves, small) =
-    record { rank_count = count; passing = passing; pair_count = right; set = set; whole = whole; nodes = nodes; says = says; proves = proves }
+    record {
+      rank_count = count;
+      passing = passing;
+      pair_count = right;
+      set = set;
+      whole = whole;
+      nodes = nodes;
+      says = says;
+      proves =
+          proves;
+    }
 
 pub small_yes : (d : SystemData) (ps : List PairData) (lines : List w.Node) (set : List ℕ) → IsWhole ps set
     → AreProvedBy d ps (set ∷ []) lines → IsSmallYes d ps lines

@@ -86,9 +86,11 @@ fn check_yes(
 ) -> Result<(), Or<CheckFault>>
     requires pairs { HasPairs (system_data system.now) (pairs_data pairs.now) }
     requires certificate { IsCert (said_yes certificate.now) }
-    ensures valid { OnOk result (IsValidYes (system_data system.now) (pairs_data pairs.now) certificate.now.ranks certificate.now.pairs (map said_node certificate.now.nodes)) }
+    ensures valid { OnOk result (IsValidYes (system_data system.now) (pairs_data pairs.now) certificate.now.ranks certificate.now.pairs
+        (map said_node certificate.now.nodes)) }
     ensures small { OnOk result (IsSmallYes (system_data system.now) (pairs_data pairs.now) (map said_node certificate.now.nodes)) }
-    ensures fault { IfBecause result (IsFirstYesFault with_limits (system_data system.now) (pairs_data pairs.now) certificate.now.ranks certificate.now.pairs (map said_node certificate.now.nodes)) }
+    ensures fault { IfBecause result (IsFirstYesFault with_limits (system_data system.now)
+        (pairs_data pairs.now) certificate.now.ranks certificate.now.pairs (map said_node certificate.now.nodes)) }
     ensures bounded { OnOk result (AreBounded (system_data system.now)) }
 {
     system.is_well_made();
@@ -97,9 +99,7 @@ fn check_yes(
     check_passing(alloc, system, certificate.ranks.as_slice())?;
     let count = pairs.as_slice().len() as u32;
     if certificate.pairs != count {
-        return Err(Or::Because(CheckFault::Rejected(Rejected::PairCount {
-            pairs: count,
-        })));
+        return Err(Or::Because(CheckFault::Rejected(Rejected::PairCount { pairs: count })));
     }
     let whole = numbers_below(alloc, count)?;
     check_nodes(alloc, system, pairs, whole, certificate.nodes.as_slice())
@@ -114,13 +114,9 @@ fn check_passing(alloc: Global, system: &System, ranks: &[u32]) -> Result<(), Or
         return Err(Or::Because(CheckFault::Rejected(Rejected::RankCount)));
     }
     let ranks = Ranks::new(alloc, ranks)?;
-    match check_ranks(system, &ranks) {
-        Ok(()) => Ok(()),
-        Err(Inaccessible { rule, meta }) => {
-            Err(Or::Because(CheckFault::Rejected(Rejected::Inaccessible {
-                rule,
-                meta,
-            })))
-        }
+    if let Err(Inaccessible { rule, meta }) = check_ranks(system, &ranks) {
+        let row = Rejected::Inaccessible { rule, meta };
+        return Err(Or::Because(CheckFault::Rejected(row)));
     }
+    Ok(())
 }

@@ -29,8 +29,10 @@ pub fn symbols_of(
     lines: &[Interp],
 ) -> Result<Option<Vec<Symbol>>, AllocError>
     ensures { IfOk result (λ found. MatchOption found
-        ((symbols : List Interpretation) → SayInterpretations (system_data system.now).fun_names (system_data system.now).symbols.funs (map said_interp lines.now) symbols → ⊥)
-        (λ made. SayInterpretations (system_data system.now).fun_names (system_data system.now).symbols.funs (map said_interp lines.now) (interpretations made.items))) }
+        ((symbols : List Interpretation) → SayInterpretations (system_data system.now).fun_names (system_data system.now).symbols.funs
+        (map said_interp lines.now) symbols → ⊥)
+        (λ made. SayInterpretations (system_data system.now).fun_names (system_data system.now).symbols.funs (map said_interp lines.now)
+        (interpretations made.items))) }
 {
     system.is_well_made();
     if !name_all(system.fun_names(), lines) {
@@ -50,9 +52,10 @@ pub fn marks_of_set(
 ) -> Result<Option<Vec<MarkedSymbol>>, AllocError>
     requires { All (λ n. n < length pairs.now) set.now }
     ensures { IfOk result (λ found. MatchOption found
-        ((marks : List Mark) → SayMarks (system_data system.now) (map said_interp lines.now) marks → AreMarked (pairs_data pairs.now) set.now (map (λ m. m.symbol) marks) → ⊥)
+        ((marks : List Mark) → SayMarks (system_data system.now) (map said_interp lines.now) marks
+        → AreMarked (pairs_data pairs.now) set.now (map (λ m. m.symbol) marks) → ⊥)
         (λ made. SayMarks (system_data system.now) (map said_interp lines.now) (marks_of made.items)
-            × AreMarked (pairs_data pairs.now) set.now (map (λ m. m.symbol) (marks_of made.items)))) }
+        × AreMarked (pairs_data pairs.now) set.now (map (λ m. m.symbol) (marks_of made.items)))) }
 {
     let numbers = marked_symbols(alloc, pairs, set)?;
     if !name_these(system.fun_names(), &numbers, lines) {

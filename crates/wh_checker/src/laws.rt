@@ -8,6 +8,7 @@ ghost use Rattle.wh_cert.specs.Limits.{IsCert};
 ghost use Rattle.wh_cert.specs.Written.{Cert};
 ghost use Rattle.wh_covering.specs.CoveringFaults.{Limits, with_limits, without_limits};
 ghost use Rattle.wh_checker.specs.Faults.{AreAlike, IsFirstFault};
+ghost use Rattle.wh_checker.specs.Named.{NamesAreThere};
 ghost use Rattle.wh_checker.specs.Small.{IsSmallCert};
 ghost use Rattle.wh_checker.specs.Valid.{IsValidCert};
 ghost use Rattle.wh_checker.specs.declared.rejected.CheckFault.TheVariants.{Rejected as refusal};
@@ -16,22 +17,33 @@ ghost use Rattle.wh_checker.specs.declared.rejected.Rejected.{Rejected};
 
 /// One fault at most is the first of a certificate, but that values may exceed both limits in one node.
 pub fn one_first_fault()
-    ensures { (m : Limits) (d : SystemData) (ps : List PairData) (c : Cert) (f g : CheckFault) → IsWellMadeSystem d → IsFirstFault m d ps c f → IsFirstFault m d ps c g → AreAlike f g }
+    ensures { (m : Limits) (d : SystemData) (ps : List PairData) (c : Cert) (f g : CheckFault) → IsWellMadeSystem d
+        → IsFirstFault m d ps c f → IsFirstFault m d ps c g → AreAlike f g }
 {}
 
 /// A valid certificate has no fault; with limits it has none where no value exceeds one. So the check accepts a certificate
 /// exactly where it is valid and small.
 pub fn valid_certificates_have_no_fault()
-    ensures unlimited { (d : SystemData) (ps : List PairData) (c : Cert) (f : CheckFault) → IsWellMadeSystem d → IsValidCert d ps c → IsFirstFault without_limits d ps c f → ⊥ }
-    ensures limited { (d : SystemData) (ps : List PairData) (c : Cert) (f : CheckFault) → IsWellMadeSystem d → IsValidCert d ps c → IsSmallCert d ps c → IsFirstFault with_limits d ps c f → ⊥ }
+    ensures unlimited { (d : SystemData) (ps : List PairData) (c : Cert) (f : CheckFault) → IsWellMadeSystem d → IsValidCert d ps c
+        → IsFirstFault without_limits d ps c f → ⊥ }
+    ensures limited { (d : SystemData) (ps : List PairData) (c : Cert) (f : CheckFault) → IsWellMadeSystem d → IsValidCert d ps c
+        → IsSmallCert d ps c → IsFirstFault with_limits d ps c f → ⊥ }
 {}
 
 /// Where a condition is found false before a value exceeds a limit, it is the first false one.
 pub fn rejections_are_first_rows()
-    ensures { (d : SystemData) (ps : List PairData) (c : Cert) (r : Rejected) → IsFirstFault with_limits d ps c (refusal r) → IsFirstFault without_limits d ps c (refusal r) }
+    ensures { (d : SystemData) (ps : List PairData) (c : Cert) (r : Rejected) → IsFirstFault with_limits d ps c (refusal r)
+        → IsFirstFault without_limits d ps c (refusal r) }
+{}
+
+/// The symbols and the meta-variables that a first fault names are there.
+pub fn rejections_name_what_is_there()
+    ensures { (m : Limits) (d : SystemData) (ps : List PairData) (c : Cert) (r : Rejected) → IsWellMadeSystem d
+        → IsFirstFault m d ps c (refusal r) → NamesAreThere d r }
 {}
 
 /// A certificate within the limits of the format is valid or has a first fault.
 pub fn valid_or_at_fault()
-    ensures { (d : SystemData) (ps : List PairData) (c : Cert) → IsWellMadeSystem d → IsCert c → IsValidCert d ps c ⊎ ((f : CheckFault) × IsFirstFault without_limits d ps c f) }
+    ensures { (d : SystemData) (ps : List PairData) (c : Cert) → IsWellMadeSystem d → IsCert c → IsValidCert d ps c
+        ⊎ ((f : CheckFault) × IsFirstFault without_limits d ps c f) }
 {}

@@ -13,7 +13,7 @@ mod walk;
 
 pub use checking::{Accepted, AcceptedYes, check};
 pub use laws::{
-    one_first_fault, rejections_are_first_rows, valid_certificates_have_no_fault,
-    valid_or_at_fault,
+    one_first_fault, rejections_are_first_rows, rejections_name_what_is_there,
+    valid_certificates_have_no_fault, valid_or_at_fault,
 };
 pub use rejected::{CheckFault, NodeFault, Rejected};

@@ -41,8 +41,10 @@ pub fn check_node(
 ) -> Result<(), Or<NodeFault>>
     requires typed { HaveTypedSides (system_data system.now).symbols (system_data system.now).rules (pairs_data pairs.now) }
     requires set { All (λ n. n < length pairs.now) set.now }
-    ensures proved { OnOk result (GoesOn (system_data system.now) (pairs_data pairs.now) set.now (said_node node.now) (reverse stack.old.items) (reverse stack.new.items)) }
-    ensures fault { IfBecause result (IsNodeFault with_limits (system_data system.now) (pairs_data pairs.now) set.now (said_node node.now)) }
+    ensures proved { OnOk result (GoesOn (system_data system.now) (pairs_data pairs.now) set.now (said_node node.now)
+        (reverse stack.old.items) (reverse stack.new.items)) }
+    ensures fault { IfBecause result (IsNodeFault with_limits (system_data system.now) (pairs_data pairs.now) set.now
+        (said_node node.now)) }
 {
     match node {
         Node::Done => check_done(set),
@@ -83,7 +85,8 @@ fn check_done(set: &PairSet) -> Result<(), Or<NodeFault>>
 // Whether the set has one pair, which may not follow itself.
 fn check_alone(system: &System, pairs: &[Pair], set: &[u32]) -> Result<(), Or<NodeFault>>
     requires { All (λ n. n < length pairs.now) set.now }
-    ensures { MatchOr result (λ _. IsSingle (system_data system.now).rules (pairs_data pairs.now) set.now) (IsNodeFault with_limits (system_data system.now) (pairs_data pairs.now) set.now w.alone) }
+    ensures { MatchOr result (λ _. IsSingle (system_data system.now).rules (pairs_data pairs.now) set.now)
+        (IsNodeFault with_limits (system_data system.now) (pairs_data pairs.now) set.now w.alone) }
 {
     if set.len() != 1 {
         return Err(Or::Because(NodeFault::NotOne));
@@ -101,7 +104,8 @@ fn open_blocks(
     blocks: &[Numbers],
     stack: &mut Vec<PairSet>,
 ) -> Result<(), AllocError>
-    ensures { OnOk result ((sets : List (List ℕ)) × AreSetsOf blocks.now sets × (reverse stack.new.items ≡ sets ++ reverse stack.old.items)) }
+    ensures { OnOk result ((sets : List (List ℕ)) × AreSetsOf blocks.now sets
+        × (reverse stack.new.items ≡ sets ++ reverse stack.old.items)) }
 {
     for i in (0..blocks.len()).rev() {
         stack.push(set_of(alloc, blocks[i].as_slice())?)?;
@@ -166,7 +170,8 @@ fn covered_by(
 ) -> Result<PairSet, Or<NodeFault>>
     requires typed { HaveTypedSides (system_data system.now).symbols (system_data system.now).rules (pairs_data pairs.now) }
     requires set { All (λ n. n < length pairs.now) set.now }
-    requires says { SayCovering (system_data system.now) (pairs_data pairs.now) set.now (map said_interp node.now.funs) (map said_interp node.now.marks) (interpretations symbols.now) (marks_of marks.now) }
+    requires says { SayCovering (system_data system.now) (pairs_data pairs.now) set.now (map said_interp node.now.funs)
+        (map said_interp node.now.marks) (interpretations symbols.now) (marks_of marks.now) }
     ensures { MatchOr result (λ rest. GoesOn (system_data system.now) (pairs_data pairs.now) set.now (said_poly node.now) [] (rest ∷ []))
         (IsNodeFault with_limits (system_data system.now) (pairs_data pairs.now) set.now (said_poly node.now)) }
 {

@@ -41,61 +41,136 @@ pub enum Rejected {
     /// There is not one rank for each sort.
     RankCount,
     /// The system is not passing under the ranks: this meta-variable of this rule is not read on a way of accessible places.
-    Inaccessible { rule: u32, meta: u32 },
+    Inaccessible {
+        rule: u32,
+        meta: u32,
+    },
     /// There are this many pairs.
-    PairCount { pairs: u32 },
+    PairCount {
+        pairs: u32,
+    },
     /// The set of a node `done` has a pair.
-    NotEmpty { node: u32 },
+    NotEmpty {
+        node: u32,
+    },
     /// The set of a node `alone` has not one pair.
-    NotOne { node: u32 },
+    NotOne {
+        node: u32,
+    },
     /// The pair of a node `alone` may follow itself.
-    Loops { node: u32, pair: u32 },
+    Loops {
+        node: u32,
+        pair: u32,
+    },
     /// There are fewer than two blocks, or an empty one.
-    FewBlocks { node: u32 },
+    FewBlocks {
+        node: u32,
+    },
     /// The blocks do not have this pair just once, or have it and the set does not.
-    NotPartition { node: u32, pair: u32 },
+    NotPartition {
+        node: u32,
+        pair: u32,
+    },
     /// The pair `a` of a later block may be followed by the pair `b` of an earlier one.
-    BackEdge { node: u32, a: u32, b: u32 },
+    BackEdge {
+        node: u32,
+        a: u32,
+        b: u32,
+    },
     /// The lines `arg` are not for the marked symbols of the set, each once and in order.
-    BadArgs { node: u32 },
+    BadArgs {
+        node: u32,
+    },
     /// The rules of this symbol need no argument.
-    NoProjection { node: u32, symbol: u32 },
+    NoProjection {
+        node: u32,
+        symbol: u32,
+    },
     /// The number chosen for this symbol is none of the arguments that its rules need.
-    BadArgument { node: u32, symbol: u32 },
+    BadArgument {
+        node: u32,
+        symbol: u32,
+    },
     /// The list of dropped pairs is empty, has one twice, or one that is not of the set.
-    BadDrop { node: u32 },
+    BadDrop {
+        node: u32,
+    },
     /// This pair is neither equal nor below, or it is dropped and not below.
-    NotDecreasing { node: u32, pair: u32 },
+    NotDecreasing {
+        node: u32,
+        pair: u32,
+    },
     /// The lines `fun` are not for the symbols of the system, or the lines `mark` not for the marked symbols of the set, in order.
-    BadSymbols { node: u32 },
+    BadSymbols {
+        node: u32,
+    },
     /// The polynomial of this symbol, or of its marked symbol, is the first that is not normal in its scope.
-    BadPolynomial { node: u32, symbol: u32, marked: bool },
+    BadPolynomial {
+        node: u32,
+        symbol: u32,
+        marked: bool,
+    },
     /// There are not as many lines `rule` as rules, or not as many lines `pair` as pairs of the set.
-    BadLines { node: u32 },
+    BadLines {
+        node: u32,
+    },
     /// This move for this rule is the first that is not between monomials that fit.
-    BadMoveRule { node: u32, rule: u32, entry: u32 },
+    BadMoveRule {
+        node: u32,
+        rule: u32,
+        entry: u32,
+    },
     /// The moves for this rule take more from this left monomial than its coefficient.
-    OverSpentRule { node: u32, rule: u32, monomial: u32 },
+    OverSpentRule {
+        node: u32,
+        rule: u32,
+        monomial: u32,
+    },
     /// The moves for this rule bring less to this right monomial than its coefficient.
-    NotCoveredRule { node: u32, rule: u32, monomial: u32 },
+    NotCoveredRule {
+        node: u32,
+        rule: u32,
+        monomial: u32,
+    },
     /// This move for this pair is the first that is not between monomials that fit.
-    BadMovePair { node: u32, pair: u32, entry: u32 },
+    BadMovePair {
+        node: u32,
+        pair: u32,
+        entry: u32,
+    },
     /// The moves for this pair take more from this left monomial than its coefficient.
-    OverSpentPair { node: u32, pair: u32, monomial: u32 },
+    OverSpentPair {
+        node: u32,
+        pair: u32,
+        monomial: u32,
+    },
     /// The moves for this pair bring less to this right monomial than its coefficient.
-    NotCoveredPair { node: u32, pair: u32, monomial: u32 },
+    NotCoveredPair {
+        node: u32,
+        pair: u32,
+        monomial: u32,
+    },
     /// This pair is dropped, and its left side has no constant, or the moves leave none of it.
-    NotStrict { node: u32, pair: u32 },
+    NotStrict {
+        node: u32,
+        pair: u32,
+    },
     /// The names do not stand for a well-typed term that fits.
     NotATerm,
     /// There is no step.
     NoStep,
     /// This step is the first that does not apply.
-    StepFails { index: u32 },
+    StepFails {
+        index: u32,
+    },
     /// The result of this step is the first that does not fit.
-    TooBig { index: u32 },
+    TooBig {
+        index: u32,
+    },
     /// This line of what is put for a variable is the first that is not right.
-    BadPut { index: u32 },
+    BadPut {
+        index: u32,
+    },
     /// There is no such place in the last term, or what stands there is not the instance.
     NoInstance,
 }

@@ -32,7 +32,8 @@ pub fn check_nodes(
     requires preorder { Preorder 1 (map said_node nodes.now) }
     requires few { length nodes.now < 2 ^ 32 }
     ensures proved { OnOk result (AreProvedBy (system_data system.now) (pairs_data pairs.now) (whole ∷ []) (map said_node nodes.now)) }
-    ensures fault { IfBecause result (λ r. (k : ℕ) × (f : NodeFault) × (r ≡ at_node k f) × IsFirstNodeFault with_limits (system_data system.now) (pairs_data pairs.now) 0 (whole ∷ []) (map said_node nodes.now) k f) }
+    ensures fault { IfBecause result (λ r. (k : ℕ) × (f : NodeFault) × (r ≡ at_node k f) × IsFirstNodeFault with_limits
+        (system_data system.now) (pairs_data pairs.now) 0 (whole ∷ []) (map said_node nodes.now) k f) }
 {
     let mut stack = Vec::new(alloc);
     stack.push(whole)?;

@@ -1,13 +1,13 @@
 -- The conditions of a node of interpretations on a set of pairs hold, or there is a first thing wrong with them; numbers may be as
 -- large as they like.
-use Rattle.std.proofs.Common.{◌≡◌, ◌<◌, ◌⊎◌, ℕ, inl, inr, Bool, true, false, List, [], ◌∷◌, length, map, Option, Some, None, slice_get, All, Contains, refl, sym, subst}
+use Rattle.std.proofs.Common.{◌≡◌, ◌⊎◌, ℕ, inl, inr, Bool, true, false, List, length, map, Option, Some, None, slice_get, refl, subst}
 use Rattle.std.proofs.lemmas.Option.{slice_get_within}
 use Rattle.wh_types.specs.Ty.{arguments}
 use Rattle.wh_terms.specs.Typing.{Symbols}
 use Rattle.wh_terms.specs.Rules.{RewriteRule}
 use Rattle.wh_system.specs.PairData.{PairData}
 use Rattle.wh_system.proofs.TypedDecided.{Decided}
-use Rattle.wh_system.proofs.ByPlace.{contains_at, place_of, some_one}
+use Rattle.wh_system.proofs.ByPlace.{contains_at, some_one}
 use Rattle.wh_graph.proofs.TimesLemmas.{contains_or_not}
 use Rattle.wh_subterm.specs.Marked.{AreMarked}
 use Rattle.wh_subterm.specs.SubtermRows.{IsBadDrop}
@@ -16,21 +16,21 @@ use Rattle.wh_hopoly.specs.Polynomials.{Polynomial, Normal}
 use Rattle.wh_hopoly.specs.Evaluation.{Run, Interpretation, NormalInterpretations}
 use Rattle.wh_hopoly.specs.Moves.{Transfer}
 use Rattle.wh_polycheck.specs.Marks.{Mark, marked_types, AreNormalMarks}
-use Rattle.wh_polycheck.specs.declared.fault.CoverFault.{CoverFault}
 use Rattle.wh_meaning.specs.Covering.{rule_run, pair_run, CoversSides, IsCovering}
-use Rattle.wh_covering.specs.CoveringFaults.{without_limits, IsFirstFaultOfMoves, IsFirstLineFault, IsRightLine, IsRightRule, IsRuleFault, IsDropped, IsRightPair, IsPairFault, IsFirstNotNormal, IsFirstNotNormalMark, AreBadLines, IsReady, IsFirstCoveringFault}
+use Rattle.wh_covering.specs.CoveringFaults.{without_limits, IsFirstLineFault, IsRightLine, IsRightRule, IsRuleFault, IsDropped, IsRightPair, IsPairFault, IsFirstNotNormal, IsFirstNotNormalMark, AreBadLines, IsReady, IsFirstCoveringFault}
 use Rattle.wh_covering.specs.declared.fault.CoveringFault.{CoveringFault}
 use Rattle.wh_covering.specs.declared.fault.CoveringFault.TheVariants.{BadPolynomial, BadLines, BadDrop, Rule, Pair}
 use Rattle.wh_covering.specs.declared.fault.LineFault.{LineFault}
 use Rattle.wh_covering.specs.declared.fault.LineFault.TheVariants as line
-use Rattle.wh_decisions.proofs.Searches.{not_decided, either_decided, not_refuted, equal_decided, HasFirst, HasNoneOf, first_place}
-use Rattle.wh_decisions.proofs.Polynomials.{normal_decided, AllOrFirst, all_or_first, CoverOrFault, cover_or_fault, StrictCoverOrFault, strict_cover_or_fault}
+use Rattle.wh_decisions.proofs.Searches.{not_decided, either_decided, not_refuted, equal_decided, first_place}
+use Rattle.wh_decisions.proofs.Polynomials.{normal_decided, all_or_first, cover_or_fault, strict_cover_or_fault}
 use Rattle.wh_decisions.proofs.Projections.{bad_drop_decided}
 
 -- lines
 
 abbrev LineOrFault : Run Polynomial → Run Polynomial → Bool → List Transfer → Type 0
-LineOrFault left right strict ms = IsRightLine without_limits left right strict ms ⊎ ((f : LineFault) × IsFirstLineFault without_limits left right strict ms f)
+LineOrFault left right strict ms =
+    IsRightLine without_limits left right strict ms ⊎ ((f : LineFault) × IsFirstLineFault without_limits left right strict ms f)
 
 line_or_fault : (left right : Run Polynomial) (strict : Bool) (ms : List Transfer) → LineOrFault left right strict ms
 line_or_fault left right false ms = elim (cover_or_fault left.result right.result ms) [
@@ -57,7 +57,8 @@ dropped_one drop n false false not also = refl
 module _ (S : Symbols) (rules : List RewriteRule) (pairs : List PairData) (set : List ℕ) (symbols : List Interpretation) (marks : List Mark)
     (rule_lines pair_lines : List (List Transfer)) (drop : List ℕ) where
   abbrev RuleOrFault : ℕ → Type 0
-  RuleOrFault i = IsRightRule without_limits rules symbols rule_lines i ⊎ ((f : LineFault) × IsRuleFault without_limits rules symbols rule_lines i f)
+  RuleOrFault i =
+      IsRightRule without_limits rules symbols rule_lines i ⊎ ((f : LineFault) × IsRuleFault without_limits rules symbols rule_lines i f)
 
   rule_at : (i : ℕ) (r : RewriteRule) (ms : List Transfer) → slice_get rules i ≡ Some r → slice_get rule_lines i ≡ Some ms → RuleOrFault i
   rule_at i r ms at here = elim (line_or_fault (rule_run symbols r false) (rule_run symbols r true) false ms) [
@@ -66,7 +67,8 @@ module _ (S : Symbols) (rules : List RewriteRule) (pairs : List PairData) (set :
         let rule_same : r ≡ u = some_one at also in
         let line_same : ms ≡ ns = some_one here there in
         subst (λ (l : List Transfer). IsRightLine without_limits (rule_run symbols u false) (rule_run symbols u true) false l) line_same
-        (subst (λ (x : RewriteRule). IsRightLine without_limits (rule_run symbols x false) (rule_run symbols x true) false ms) rule_same right))
+        (subst (λ (x : RewriteRule). IsRightLine without_limits (rule_run symbols x false)
+        (rule_run symbols x true) false ms) rule_same right))
   ]
 
   rule_or_fault : (i : ℕ) → RuleOrFault i
@@ -92,10 +94,14 @@ module _ (S : Symbols) (rules : List RewriteRule) (pairs : List PairData) (set :
             let number_same : n ≡ m = some_one at also in
             let pair_same : p ≡ q = some_one (subst (λ k. slice_get pairs k ≡ Some p) number_same here) there in
             let line_same : ms ≡ ns = some_one moves others in
-            let strict_same : strict ≡ asked = dropped_one drop m strict asked (subst (λ k. IsDropped drop k strict) number_same dropped) also_dropped in
-            subst (λ (b : Bool). IsRightLine without_limits (pair_run S rules symbols marks q false) (pair_run S rules symbols marks q true) b ns) strict_same
-            (subst (λ (l : List Transfer). IsRightLine without_limits (pair_run S rules symbols marks q false) (pair_run S rules symbols marks q true) strict l) line_same
-            (subst (λ (x : PairData). IsRightLine without_limits (pair_run S rules symbols marks x false) (pair_run S rules symbols marks x true) strict ms) pair_same right)))
+            let strict_same : strict ≡ asked = dropped_one drop m strict asked
+            (subst (λ k. IsDropped drop k strict) number_same dropped) also_dropped in
+            subst (λ (b : Bool). IsRightLine without_limits (pair_run S rules symbols marks q false)
+            (pair_run S rules symbols marks q true) b ns) strict_same
+            (subst (λ (l : List Transfer). IsRightLine without_limits (pair_run S rules symbols marks q false)
+            (pair_run S rules symbols marks q true) strict l) line_same
+            (subst (λ (x : PairData). IsRightLine without_limits (pair_run S rules symbols marks x false)
+            (pair_run S rules symbols marks x true) strict ms) pair_same right)))
       ]
 
   pair_or_fault : (i : ℕ) → RightPair i ⊎ WrongPair i
@@ -115,18 +121,33 @@ module _ (S : Symbols) (rules : List RewriteRule) (pairs : List PairData) (set :
   -- polynomials
 
   first_not_normal : NormalInterpretations symbols ⊎ ((f : ℕ) × IsFirstNotNormal symbols f)
-  first_not_normal = elim (first_place (λ (s : Interpretation). Normal (arguments s.kind) s.polynomial → ⊥) (λ (s : Interpretation). not_decided (normal_decided (arguments s.kind) s.polynomial)) symbols) [
-    | inl (f, s, at, not, before) ↦
-        inr (f, (s, at, not, λ g u less also. not_refuted (normal_decided (arguments u.kind) u.polynomial) (before g u less also)))
-    | inr none ↦ inl (λ f s at. not_refuted (normal_decided (arguments s.kind) s.polynomial) (none s (contains_at symbols f s at)))
-  ]
+  first_not_normal =
+      elim (first_place (λ (s : Interpretation). Normal (arguments s.kind) s.polynomial → ⊥)
+      (λ (s : Interpretation). not_decided (normal_decided (arguments s.kind) s.polynomial)) symbols) [
+        | inl (f, s, at, not, before) ↦
+            inr (f, (s, at, not, λ g u less also. not_refuted (normal_decided (arguments u.kind) u.polynomial) (before g u less also)))
+        | inr none ↦ inl (λ f s at. not_refuted (normal_decided (arguments s.kind) s.polynomial) (none s (contains_at symbols f s at)))
+      ]
 
   first_not_normal_mark : AreNormalMarks S rules marks ⊎ ((f : ℕ) × IsFirstNotNormalMark S rules marks f)
-  first_not_normal_mark = elim (first_place (λ (m : Mark). Normal (marked_types S rules m.symbol) m.polynomial → ⊥) (λ (m : Mark). not_decided (normal_decided (marked_types S rules m.symbol) m.polynomial)) marks) [
-    | inl (i, m, at, not, before) ↦
-        inr (m.symbol, (i, m, at, refl, not, λ j u less also. not_refuted (normal_decided (marked_types S rules u.symbol) u.polynomial) (before j u less also)))
-    | inr none ↦ inl (λ m found. not_refuted (normal_decided (marked_types S rules m.symbol) m.polynomial) (none m found))
-  ]
+  first_not_normal_mark =
+      elim (first_place (λ (m : Mark). Normal (marked_types S rules m.symbol) m.polynomial → ⊥)
+      (λ (m : Mark). not_decided (normal_decided (marked_types S rules m.symbol) m.polynomial)) marks) [
+        | inl (i, m, at, not, before) ↦
+            inr (
+              m.symbol,
+              (
+                i,
+                m,
+                at,
+                refl,
+                not,
+                λ j u less also. not_refuted (normal_decided (marked_types S rules u.symbol) u.polynomial)
+                    (before j u less also),
+              ),
+            )
+        | inr none ↦ inl (λ m found. not_refuted (normal_decided (marked_types S rules m.symbol) m.polynomial) (none m found))
+      ]
 
   -- all together, from the last condition to the first
 
@@ -144,7 +165,8 @@ module _ (S : Symbols) (rules : List RewriteRule) (pairs : List PairData) (set :
   abbrev Ready : Type 0
   Ready = IsReady S rules set symbols marks rule_lines pair_lines drop
 
-  module _ (kinds : map (λ (s : Interpretation). s.kind) symbols ≡ S.funs) (marked : AreMarked pairs set (map (λ (m : Mark). m.symbol) marks)) where
+  module _ (kinds : map (λ (s : Interpretation). s.kind) symbols ≡ S.funs)
+      (marked : AreMarked pairs set (map (λ (m : Mark). m.symbol) marks)) where
     no_fault : Ready → ((i : ℕ) → IsRightRule without_limits rules symbols rule_lines i) → ((i : ℕ) → RightPair i)
         → IsCovering S rules pairs set symbols marks rule_lines pair_lines drop
     no_fault ready right_rules right_pairs = record {
@@ -173,7 +195,8 @@ module _ (S : Symbols) (rules : List RewriteRule) (pairs : List PairData) (set :
 
     rules_or_fault : Ready → CoveringOrFault
     rules_or_fault ready =
-        elim (all_or_first (IsRightRule without_limits rules symbols rule_lines) (λ i. (f : LineFault) × IsRuleFault without_limits rules symbols rule_lines i f) rule_or_fault (length rules)) [
+        elim (all_or_first (IsRightRule without_limits rules symbols rule_lines)
+        (λ i. (f : LineFault) × IsRuleFault without_limits rules symbols rule_lines i f) rule_or_fault (length rules)) [
           | inl all ↦ pairs_or_fault ready (λ i r ms at. all i (slice_get_within rules i r at) r ms at)
           | inr (i, less, (f, wrong), before) ↦ inr (Rule i f, (ready, before, wrong))
         ]
@@ -189,15 +212,18 @@ module _ (S : Symbols) (rules : List RewriteRule) (pairs : List PairData) (set :
       good_drop = good;
     })
 
-    lines_or_fault : NormalInterpretations symbols → AreNormalMarks S rules marks → Decided (AreBadLines rules set rule_lines pair_lines) → CoveringOrFault
+    lines_or_fault : NormalInterpretations symbols → AreNormalMarks S rules marks → Decided (AreBadLines rules set rule_lines pair_lines)
+        → CoveringOrFault
     lines_or_fault normal normal_marks (inl bad) = inr (BadLines, (normal, normal_marks, bad))
     lines_or_fault normal normal_marks (inr good) = drop_or_fault normal normal_marks good (bad_drop_decided set drop)
 
-    marks_or_fault : NormalInterpretations symbols → AreNormalMarks S rules marks ⊎ ((f : ℕ) × IsFirstNotNormalMark S rules marks f) → CoveringOrFault
+    marks_or_fault : NormalInterpretations symbols → AreNormalMarks S rules marks ⊎ ((f : ℕ) × IsFirstNotNormalMark S rules marks f)
+        → CoveringOrFault
     marks_or_fault normal (inr (f, first)) = inr (BadPolynomial f true, (normal, first))
     marks_or_fault normal (inl normal_marks) =
         lines_or_fault normal normal_marks
-        (either_decided (not_decided (equal_decided (length rule_lines) (length rules))) (not_decided (equal_decided (length pair_lines) (length set))))
+        (either_decided (not_decided (equal_decided (length rule_lines) (length rules)))
+        (not_decided (equal_decided (length pair_lines) (length set))))
 
     symbols_or_fault : NormalInterpretations symbols ⊎ ((f : ℕ) × IsFirstNotNormal symbols f) → CoveringOrFault
     symbols_or_fault (inr (f, first)) = inr (BadPolynomial f false, first)

@@ -1,5 +1,5 @@
 -- What is asked of polynomials is decided: that they are normal, that one is at least another, and that moves show it.
-use Rattle.std.proofs.Common.{◌≡◌, ◌<◌, ◌≤◌, ◌⊎◌, ℕ, zero, suc, inl, inr, Bool, true, false, List, [], ◌∷◌, ◌++◌, Some, slice_get, Contains, refl, sym, subst, arith}
+use Rattle.std.proofs.Common.{◌≡◌, ◌<◌, ◌≤◌, ◌⊎◌, ℕ, zero, suc, inl, inr, List, [], ◌∷◌, ◌++◌, refl, sym, subst, arith}
 use Rattle.std.proofs.lemmas.Bool.{cases_lt}
 use Rattle.std.specs.declared.cmp.Ordering.{Ordering}
 use Rattle.std.specs.declared.cmp.Ordering.TheVariants.{Less, Equal, Greater}
@@ -15,7 +15,7 @@ use Rattle.wh_polycheck.specs.CoverFaults.{AreGood, IsOverSpent, IsNotCovered, L
 use Rattle.wh_polycheck.specs.declared.fault.CoverFault.{CoverFault}
 use Rattle.wh_polycheck.specs.declared.fault.CoverFault.TheVariants.{BadMove, OverSpent, NotCovered, NotStrict}
 use Rattle.wh_polycheck.proofs.GoodWalk.{one_monomial}
-use Rattle.wh_decisions.proofs.Searches.{not_decided, not_refuted, equal_decided, at_most_decided, HasFirst, HasNoneOf, first_place}
+use Rattle.wh_decisions.proofs.Searches.{not_decided, not_refuted, equal_decided, at_most_decided, first_place}
 
 -- orders
 
@@ -36,7 +36,8 @@ greater_decided Greater = inl refl
 
 same_factors_decided : (us vs : Factors) → Decided (us ≡ vs)
 same_factors_decided us vs =
-    decided_by (factors_equal us vs) (λ same. subst (λ z. compare_factors us z ≡ Equal) same (factors_same us)) (equal_order_decided (compare_factors us vs))
+    decided_by (factors_equal us vs) (λ same. subst (λ z. compare_factors us z ≡ Equal) same (factors_same us))
+    (equal_order_decided (compare_factors us vs))
 
 -- normal polynomials
 
@@ -53,8 +54,8 @@ type_or_none [] x = inr (λ A there. there)
 type_or_none (B ∷ Γ) zero = inl (B, refl)
 type_or_none (B ∷ Γ) (suc x) = type_or_none Γ x
 
-times_decided : (Γ : List Ty) (x : ℕ) (ps : Arguments) (us : Factors) → ((A : Ty) → Decided (NormalArguments Γ A ps)) → Decided (NormalFactors Γ us)
-    → Decided (NormalFactors Γ (times x ps us))
+times_decided : (Γ : List Ty) (x : ℕ) (ps : Arguments) (us : Factors) → ((A : Ty) → Decided (NormalArguments Γ A ps))
+    → Decided (NormalFactors Γ us) → Decided (NormalFactors Γ (times x ps us))
 times_decided Γ x ps us each rest = go (type_or_none Γ x)
   where
     go : ((A : Ty) × HasType Γ x A) ⊎ ((A : Ty) → HasType Γ x A → ⊥) → Decided (NormalFactors Γ (times x ps us))
@@ -68,8 +69,10 @@ mutual
   pub normal_decided : (Γ : List Ty) (p : Polynomial) → Decided (Normal Γ p)
   normal_decided Γ zero_poly = inl tt
   normal_decided Γ (plus c us p) =
-      decided_by (λ (some, (factors, (before, rest))). (some, factors, before, rest)) (λ (some, factors, before, rest). (some, (factors, (before, rest))))
-      (both_decided (at_most_decided 1 c) (both_decided (normal_factors_decided Γ us) (both_decided (monomial_before_decided us p) (normal_decided Γ p))))
+      decided_by (λ (some, (factors, (before, rest))). (some, factors, before, rest))
+      (λ (some, factors, before, rest). (some, (factors, (before, rest))))
+      (both_decided (at_most_decided 1 c) (both_decided (normal_factors_decided Γ us)
+      (both_decided (monomial_before_decided us p) (normal_decided Γ p))))
 
   normal_factors_decided : (Γ : List Ty) (us : Factors) → Decided (NormalFactors Γ us)
   normal_factors_decided Γ no_factors = inl tt
@@ -145,12 +148,14 @@ good_decided left right m = go (monomial_or_none left m.from) (monomial_or_none 
 spent_or_not : (left : Polynomial) (ms : List Transfer) (i : ℕ) → NotOverSpent left ms i ⊎ IsOverSpent left ms i
 spent_or_not left ms i = go (monomial_or_none left i)
   where
-    at_monomial : (c : ℕ) (us : Factors) → MonomialAt left i c us → Decided (c < given_by i ms) → NotOverSpent left ms i ⊎ IsOverSpent left ms i
+    at_monomial : (c : ℕ) (us : Factors) → MonomialAt left i c us → Decided (c < given_by i ms) → NotOverSpent left ms i
+        ⊎ IsOverSpent left ms i
     at_monomial c us at (inl more) = inr (c, us, at, more)
-    at_monomial c us at (inr not) = inl (λ d vs also. let same : d ≡ c = (one_monomial left i d c vs us also at).0 in elim (cases_lt c (given_by i ms)) [
-      | inl more ↦ absurd (not more)
-      | inr le ↦ omega (arith, le, same)
-    ])
+    at_monomial c us at (inr not) =
+        inl (λ d vs also. let same : d ≡ c = (one_monomial left i d c vs us also at).0 in elim (cases_lt c (given_by i ms)) [
+          | inl more ↦ absurd (not more)
+          | inr le ↦ omega (arith, le, same)
+        ])
 
     go : MonomialOrNone left i → NotOverSpent left ms i ⊎ IsOverSpent left ms i
     go (inr none) = inl (λ c us at. absurd (none c us at))
@@ -159,12 +164,14 @@ spent_or_not left ms i = go (monomial_or_none left i)
 covered_or_not : (right : Polynomial) (ms : List Transfer) (j : ℕ) → Covered right ms j ⊎ IsNotCovered right ms j
 covered_or_not right ms j = go (monomial_or_none right j)
   where
-    at_monomial : (c : ℕ) (us : Factors) → MonomialAt right j c us → Decided (taken_by j ms < c) → Covered right ms j ⊎ IsNotCovered right ms j
+    at_monomial : (c : ℕ) (us : Factors) → MonomialAt right j c us → Decided (taken_by j ms < c) → Covered right ms j
+        ⊎ IsNotCovered right ms j
     at_monomial c us at (inl fewer) = inr (c, us, at, fewer)
-    at_monomial c us at (inr not) = inl (λ d vs also. let same : d ≡ c = (one_monomial right j d c vs us also at).0 in elim (cases_lt (taken_by j ms) c) [
-      | inl fewer ↦ absurd (not fewer)
-      | inr le ↦ omega (arith, le, same)
-    ])
+    at_monomial c us at (inr not) =
+        inl (λ d vs also. let same : d ≡ c = (one_monomial right j d c vs us also at).0 in elim (cases_lt (taken_by j ms) c) [
+          | inl fewer ↦ absurd (not fewer)
+          | inr le ↦ omega (arith, le, same)
+        ])
 
     go : MonomialOrNone right j → Covered right ms j ⊎ IsNotCovered right ms j
     go (inr none) = inl (λ c us at. absurd (none c us at))
@@ -189,21 +196,25 @@ all_or_first P Q each (suc k) = go (all_or_first P Q each k) (each k)
 abbrev pub CoverOrFault : Polynomial → Polynomial → List Transfer → Type 0
 CoverOrFault left right ms = IsCover left right ms ⊎ ((f : CoverFault) × IsFirstCoverFault left right ms f)
 
-targets_or_fault : (left right : Polynomial) (ms : List Transfer) → AreGood left right ms → ((i : ℕ) → NotOverSpent left ms i) → CoverOrFault left right ms
-targets_or_fault left right ms good enough = elim (all_or_first (Covered right ms) (IsNotCovered right ms) (covered_or_not right ms) (monomial_count right)) [
-  | inl all ↦ inl (record { good = good; not_over_spent = enough; covered = λ j c us at. all j (monomial_counted right j c us at) c us at })
-  | inr (j, less, missing, before) ↦ inr (NotCovered j, (good, enough, (missing, before)))
-]
+targets_or_fault : (left right : Polynomial) (ms : List Transfer) → AreGood left right ms → ((i : ℕ) → NotOverSpent left ms i)
+    → CoverOrFault left right ms
+targets_or_fault left right ms good enough =
+    elim (all_or_first (Covered right ms) (IsNotCovered right ms) (covered_or_not right ms) (monomial_count right)) [
+      | inl all ↦ inl (record { good = good; not_over_spent = enough; covered = λ j c us at. all j (monomial_counted right j c us at) c us at })
+      | inr (j, less, missing, before) ↦ inr (NotCovered j, (good, enough, (missing, before)))
+    ]
 
 sources_or_fault : (left right : Polynomial) (ms : List Transfer) → AreGood left right ms → CoverOrFault left right ms
-sources_or_fault left right ms good = elim (all_or_first (NotOverSpent left ms) (IsOverSpent left ms) (spent_or_not left ms) (monomial_count left)) [
-  | inl all ↦ targets_or_fault left right ms good (λ i c us at. all i (monomial_counted left i c us at) c us at)
-  | inr (i, less, spent, before) ↦ inr (OverSpent i, (good, (spent, before)))
-]
+sources_or_fault left right ms good =
+    elim (all_or_first (NotOverSpent left ms) (IsOverSpent left ms) (spent_or_not left ms) (monomial_count left)) [
+      | inl all ↦ targets_or_fault left right ms good (λ i c us at. all i (monomial_counted left i c us at) c us at)
+      | inr (i, less, spent, before) ↦ inr (OverSpent i, (good, (spent, before)))
+    ]
 
 pub cover_or_fault : (left right : Polynomial) (ms : List Transfer) → CoverOrFault left right ms
 cover_or_fault left right ms = elim (first_place (λ m. Good left right m → ⊥) (λ m. not_decided (good_decided left right m)) ms) [
-  | inl (e, m, at, bad, before) ↦ inr (BadMove e, (m, at, bad, λ i n less also. not_refuted (good_decided left right n) (before i n less also)))
+  | inl (e, m, at, bad, before) ↦ inr
+      (BadMove e, (m, at, bad, λ i n less also. not_refuted (good_decided left right n) (before i n less also)))
   | inr none ↦ sources_or_fault left right ms (λ m found. not_refuted (good_decided left right m) (none m found))
 ]
 
@@ -214,13 +225,15 @@ constant_decided left ms = go (monomial_or_none left 0)
     go (inr none) = inr (λ (c, at, less). none c no_factors at)
     go (inl (c, us, at)) =
         decided_by (λ (plain, less). (c, subst (λ (z : Factors). MonomialAt left 0 c z) plain at, less))
-        (λ (d, also, less). let same = one_monomial left 0 d c no_factors us also at in (sym same.1, subst (λ n. given_by 0 ms < n) same.0 less))
+        (λ (d, also, less). let same = one_monomial left 0 d c no_factors us also at in
+        (sym same.1, subst (λ n. given_by 0 ms < n) same.0 less))
         (both_decided (same_factors_decided us no_factors) (below_decided (given_by 0 ms) c))
 
 abbrev pub StrictCoverOrFault : Polynomial → Polynomial → List Transfer → Type 0
 StrictCoverOrFault left right ms = IsStrictCover left right ms ⊎ ((f : CoverFault) × IsFirstStrictCoverFault left right ms f)
 
-weak_is_strict : (left right : Polynomial) (ms : List Transfer) (f : CoverFault) → IsFirstCoverFault left right ms f → IsFirstStrictCoverFault left right ms f
+weak_is_strict : (left right : Polynomial) (ms : List Transfer) (f : CoverFault) → IsFirstCoverFault left right ms f
+    → IsFirstStrictCoverFault left right ms f
 weak_is_strict left right ms (BadMove e) first = first
 weak_is_strict left right ms (OverSpent i) first = first
 weak_is_strict left right ms (NotCovered j) first = first

@@ -44,7 +44,8 @@ pub fn choices_are_a_projection_or_have_a_first_fault()
 /// Interpretations of all symbols and of the marked symbols of a set cover it with their moves, or something is wrong first with
 /// them, where numbers may be as large as they like.
 pub fn interpretations_cover_or_have_a_first_fault()
-    ensures { (S : Symbols) (rules : List RewriteRule) (ps : List PairData) (set : List ℕ) (symbols : List Interpretation) (marks : List Mark) (rule_lines pair_lines : List (List Transfer)) (drop : List ℕ)
+    ensures { (S : Symbols) (rules : List RewriteRule) (ps : List PairData) (set : List ℕ) (symbols : List Interpretation)
+        (marks : List Mark) (rule_lines pair_lines : List (List Transfer)) (drop : List ℕ)
         → map (λ s. s.kind) symbols ≡ S.funs → AreMarked ps set (map (λ m. m.symbol) marks)
         → IsCovering S rules ps set symbols marks rule_lines pair_lines drop
         ⊎ ((f : CoveringFault) × IsFirstCoveringFault without_limits S rules ps set symbols marks rule_lines pair_lines drop f) }

@@ -1,7 +1,7 @@
 -- The sets that the search comes to: of which numbers they are, and what the graph settles nothing of.
-use Rattle.std.proofs.Common.{◌≡◌, ◌≢◌, ℕ, zero, suc, ◌<◌, ◌≤◌, List, [], ◌∷◌, length, Contains, All, refl, sym, subst, arith}
+use Rattle.std.proofs.Common.{◌≡◌, ◌≢◌, ℕ, ◌<◌, ◌≤◌, List, [], ◌∷◌, length, Contains, All, arith}
 use Rattle.std.proofs.lemmas.Option.{slice_get_within}
-use Rattle.std.proofs.lemmas.List.Elements.{All-nil, All-cons, All-head, All-tail, All-contains}
+use Rattle.std.proofs.lemmas.List.Elements.{All-head, All-tail, All-contains}
 use Rattle.wh_terms.specs.Rules.{RewriteRule}
 use Rattle.wh_system.specs.PairData.{PairData, IsIncreasing}
 use Rattle.wh_system.proofs.ByPlace.{place_of}
@@ -9,9 +9,8 @@ use Rattle.wh_graph.specs.May.{Follows}
 use Rattle.wh_graph.specs.Blocks.{AreBlocks}
 use Rattle.wh_graph.specs.Components.{IsIn, AreComponents}
 use Rattle.wh_nodes.specs.Nodes.{AreSetsOf, no_sets, more_sets}
-use Rattle.wh_prover.specs.Arriving.{IsOneComponent, IsAlone, IsKnot, Arrives, at_all, at_component, behind_projection, Ended}
+use Rattle.wh_prover.specs.Arriving.{IsOneComponent, IsAlone, Arrives, at_all, at_component, behind_projection, Ended}
 use Rattle.wh_prover.proofs.SetLemmas.{all_numbers, all_from_members, set_itself}
-use Rattle.wh_prover.proofs.CountLemmas.{in_first, in_later}
 
 -- each number is that of a pair
 pub arrives_below : (rules : List RewriteRule) (ps : List PairData) (set : List ℕ) → Arrives rules ps set → (n : ℕ) → Contains set n → n < length ps

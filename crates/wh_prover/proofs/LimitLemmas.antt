@@ -1,10 +1,9 @@
 -- The limits of certificates hold of what the search makes.
-use Rattle.std.proofs.Common.{◌≡◌, ◌≢◌, ℕ, zero, suc, ◌+◌, ◌^◌, ◌<◌, ◌≤◌, List, [], ◌∷◌, ◌++◌, length, map, Some, get_or, slice_get, Contains, All, refl, sym, ap, subst, ◌∙◌, arith}
-use Rattle.std.proofs.lemmas.Option.{slice_get_within, slice_get-get_or}
-use Rattle.std.proofs.lemmas.List.{length-map, get_or_default}
+use Rattle.std.proofs.Common.{◌≡◌, ℕ, suc, ◌^◌, ◌<◌, ◌≤◌, List, [], ◌∷◌, length, map, Some, get_or, slice_get, Contains, All, refl, sym, ap, subst, ◌∙◌, arith}
+use Rattle.std.proofs.lemmas.Option.{slice_get-get_or}
+use Rattle.std.proofs.lemmas.List.{length-map}
 use Rattle.std.proofs.lemmas.List.Elements.{All-contains, All-get_or, All-weaker}
 use Rattle.wh_types.specs.Ty.{Ty, sort, ◌⇒◌, arguments}
-use Rattle.wh_terms.specs.Rules.{RewriteRule}
 use Rattle.wh_system.specs.Systems.{SystemData}
 use Rattle.wh_system.specs.WellMade.{IsWellMadeSystem, ArgumentsWithin, IsTypeOver}
 use Rattle.wh_system.specs.PairData.{PairData, IsIncreasing}
@@ -18,7 +17,7 @@ use Rattle.wh_cert.specs.Written as w
 use Rattle.wh_cert.specs.Limits.{IsSmall, ArgFits, NodeFits, NodeWithin}
 use Rattle.wh_checker.specs.Looked.{SayChoices}
 use Rattle.wh_prover.proofs.SetLemmas.{all_numbers, all_from_members}
-use Rattle.wh_prover.proofs.CountLemmas.{Apart, apart_increasing, no_longer, few_below, few_components}
+use Rattle.wh_prover.proofs.CountLemmas.{Apart, apart_increasing, few_below, few_components}
 
 -- blocks
 

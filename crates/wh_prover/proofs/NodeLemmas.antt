@@ -1,5 +1,5 @@
 -- A node for a set, from the answers of its parts.
-use Rattle.std.proofs.Common.{◌≡◌, ◌≢◌, ◌↔◌, ℕ, zero, suc, ◌+◌, ◌^◌, ◌<◌, ◌≤◌, ◌==◌, eqb-true, Bool, true, false, not, List, [], ◌∷◌, ◌++◌, length, map, reverse, get_or, Some, slice_get, IsTrue, Contains, All, refl, sym, ap, subst, ◌∙◌, arith}
+use Rattle.std.proofs.Common.{◌≡◌, ◌≢◌, ◌↔◌, ℕ, ◌^◌, ◌<◌, ◌≤◌, ◌==◌, eqb-true, Bool, true, false, not, List, [], ◌∷◌, ◌++◌, length, map, get_or, Some, slice_get, IsTrue, All, refl, sym, ap, subst, ◌∙◌, arith}
 use Rattle.std.proofs.lemmas.List.Elements.{All-nil, All-cons}
 use Rattle.wh_terms.specs.Rules.{RewriteRule}
 use Rattle.wh_system.specs.Systems.{SystemData}

@@ -6,7 +6,6 @@ use Rattle.wh_access.specs.Passing.{IsPassing}
 use Rattle.wh_access.specs.Found.{IsCause}
 use Rattle.wh_cert.specs.Limits.{IsCert}
 use Rattle.wh_cert.specs.Said.{said}
-use Rattle.wh_cert.specs.Written as w
 use Rattle.wh_cert.specs.Written.{Cert, yes, no}
 use Rattle.wh_find_subterm.specs.Found.{IsSpent}
 use Rattle.wh_checker.specs.Valid.{IsValidCert}

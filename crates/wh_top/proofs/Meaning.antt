@@ -17,10 +17,10 @@ use Rattle.wh_no.proofs.Valid.{valid-unbounded}
 use Rattle.wh_checker.specs.Valid.{IsValidCert}
 use Rattle.wh_checker.proofs.Bounded.{valid_yes-bounded}
 use Rattle.wh_top.specs.declared.status.Status.{Status}
-use Rattle.wh_top.specs.declared.outcome.Outcome.{Outcome}
-use Rattle.wh_top.specs.declared.outcome.Outcome.TheVariants.{Yes, No, Rejected, Refused, TooManyPairs, ReadFault, TooLong, Later}
+use Rattle.wh_answer.specs.Texts.{report_text}
+use Rattle.wh_answer.specs.declared.report.Report.{Report}
+use Rattle.wh_answer.specs.declared.report.Report.TheVariants.{Yes, No, Rejected, Maybe, Refused, BadWords, ReadFault, OutOfMemory, TooLong, Overflow, TooLarge}
 use Rattle.wh_top.specs.Words.{Request, check, show, Asks}
-use Rattle.wh_top.specs.Texts.{text_of}
 use Rattle.wh_top.specs.Outcomes.{Shelves, Told, IsYes, IsNo, BeginsWith, Checked, Stands, StandsBySystem, system_limit}
 use Rattle.wh_top.specs.Run.{Answers, Ends, MeansYes, MeansNo, Replies}
 
@@ -57,27 +57,33 @@ first_byte a b xs ys e = cc
 not_byte : (n a : ℕ) (xs rest : List ℕ) → (a ≡ n → ⊥) → a ∷ xs ≡ n ∷ rest → ⊥
 not_byte n a xs rest differs e = differs (first_byte a n xs rest e)
 
--- of the texts of outcomes only that of YES begins so
-only_yes : (o : Outcome) (rest : List ℕ) → text_of o ≡ 89 ∷ rest → o ≡ Yes
+-- of the texts of answers only that of YES begins so
+only_yes : (o : Report) (rest : List ℕ) → report_text o ≡ 89 ∷ rest → o ≡ Yes
 only_yes Yes rest e = refl
 only_yes No rest e = absurd (not_byte 89 78 _ rest (λ d. omega arith) e)
-only_yes (Rejected fault) rest e = absurd (not_byte 89 82 _ rest (λ d. omega arith) e)
-only_yes (Refused reason) rest e = absurd (not_byte 89 82 _ rest (λ d. omega arith) e)
-only_yes TooManyPairs rest e = absurd (not_byte 89 82 _ rest (λ d. omega arith) e)
+only_yes (Rejected r) rest e = absurd (not_byte 89 82 _ rest (λ d. omega arith) e)
+only_yes (Maybe c) rest e = absurd (not_byte 89 77 _ rest (λ d. omega arith) e)
+only_yes (Refused r at) rest e = absurd (not_byte 89 82 _ rest (λ d. omega arith) e)
+only_yes BadWords rest e = absurd (not_byte 89 66 _ rest (λ d. omega arith) e)
 only_yes (ReadFault role) rest e = absurd (not_byte 89 82 _ rest (λ d. omega arith) e)
+only_yes OutOfMemory rest e = absurd (not_byte 89 79 _ rest (λ d. omega arith) e)
 only_yes (TooLong role) rest e = absurd (not_byte 89 84 _ rest (λ d. omega arith) e)
-only_yes Later rest e = absurd (not_byte 89 76 _ rest (λ d. omega arith) e)
+only_yes (Overflow k) rest e = absurd (not_byte 89 79 _ rest (λ d. omega arith) e)
+only_yes (TooLarge k) rest e = absurd (not_byte 89 84 _ rest (λ d. omega arith) e)
 
--- of the texts of outcomes only that of NO begins so
-only_no : (o : Outcome) (rest : List ℕ) → text_of o ≡ 78 ∷ rest → o ≡ No
+-- of the texts of answers only that of NO begins so
+only_no : (o : Report) (rest : List ℕ) → report_text o ≡ 78 ∷ rest → o ≡ No
 only_no Yes rest e = absurd (not_byte 78 89 _ rest (λ d. omega arith) e)
 only_no No rest e = refl
-only_no (Rejected fault) rest e = absurd (not_byte 78 82 _ rest (λ d. omega arith) e)
-only_no (Refused reason) rest e = absurd (not_byte 78 82 _ rest (λ d. omega arith) e)
-only_no TooManyPairs rest e = absurd (not_byte 78 82 _ rest (λ d. omega arith) e)
+only_no (Rejected r) rest e = absurd (not_byte 78 82 _ rest (λ d. omega arith) e)
+only_no (Maybe c) rest e = absurd (not_byte 78 77 _ rest (λ d. omega arith) e)
+only_no (Refused r at) rest e = absurd (not_byte 78 82 _ rest (λ d. omega arith) e)
+only_no BadWords rest e = absurd (not_byte 78 66 _ rest (λ d. omega arith) e)
 only_no (ReadFault role) rest e = absurd (not_byte 78 82 _ rest (λ d. omega arith) e)
+only_no OutOfMemory rest e = absurd (not_byte 78 79 _ rest (λ d. omega arith) e)
 only_no (TooLong role) rest e = absurd (not_byte 78 84 _ rest (λ d. omega arith) e)
-only_no Later rest e = absurd (not_byte 78 76 _ rest (λ d. omega arith) e)
+only_no (Overflow k) rest e = absurd (not_byte 78 79 _ rest (λ d. omega arith) e)
+only_no (TooLarge k) rest e = absurd (not_byte 78 84 _ rest (λ d. omega arith) e)
 
 some_same : (a b : List ℕ) → Some a ≡ Some b → a ≡ b
 some_same a b e = cc
@@ -90,17 +96,17 @@ output_front old new f g status result before text output (inr (fault, (front, b
     let same = append_cancel_left before front output (some_same (before ++ front) (before ++ output) (sym (wrote before e) ∙ h)) in
     (back, cut ∙ ap (λ x. x ++ back) same)
 
--- an answer whose text begins with a letter that none but the outcome o has as the first of its text, is that outcome of a check
-only_check : (s : Shelves) (words : List (List ℕ)) (status : Status) (text rest : List ℕ) (letter : ℕ) (o : Outcome)
-    → ((p : Outcome) (more : List ℕ) → text_of p ≡ letter ∷ more → p ≡ o) → ((file : List ℕ) → StandsBySystem s file o → ⊥)
+-- an answer whose text begins with a letter that none but the answer o has as the first of its text, is that answer to a check
+only_check : (s : Shelves) (words : List (List ℕ)) (status : Status) (text rest : List ℕ) (letter : ℕ) (o : Report)
+    → ((p : Report) (more : List ℕ) → report_text p ≡ letter ∷ more → p ≡ o) → ((file : List ℕ) → StandsBySystem s file o → ⊥)
     → (83 ≡ letter → ⊥) → (66 ≡ letter → ⊥) → (79 ≡ letter → ⊥) → Answers s words status text → text ≡ letter ∷ rest
     → (file cert : List ℕ) × Asks words (check file cert) × Stands s file cert o
 only_check s words status text rest letter o only never show_differs words_differ memory_differs (inl served) e = by served.request served.asks served.reply
   where
     by : (r : Request) → Asks words r → Replies s r status text → (file cert : List ℕ) × Asks words (check file cert) × Stands s file cert o
-    by (check file cert) asks reply = (file, cert, asks, subst (λ p. Stands s file cert p) (only reply.outcome rest (sym reply.text_is ∙ e)) reply.stands)
+    by (check file cert) asks reply = (file, cert, asks, subst (λ p. Stands s file cert p) (only reply.report rest (sym reply.text_is ∙ e)) reply.stands)
     by (show file) asks (inl shows) = absurd (not_byte letter 83 _ rest show_differs (sym shows.begins.1 ∙ e))
-    by (show file) asks (inr tells) = absurd (never file (subst (λ p. StandsBySystem s file p) (only tells.outcome rest (sym tells.text_is ∙ e)) tells.stands))
+    by (show file) asks (inr tells) = absurd (never file (subst (λ p. StandsBySystem s file p) (only tells.report rest (sym tells.text_is ∙ e)) tells.stands))
 only_check s words status text rest letter o only never show_differs words_differ memory_differs (inr (inl misspoken)) e = absurd (not_byte letter 66 _ rest words_differ (sym misspoken.text_is ∙ e))
 only_check s words status text rest letter o only never show_differs words_differ memory_differs (inr (inr starved)) e = absurd (not_byte letter 79 _ rest memory_differs (sym starved.text_is ∙ e))
 

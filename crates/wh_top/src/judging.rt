@@ -18,7 +18,7 @@ use crate::rejection::named_rejection;
 use std::alloc::{AllocError, Global};
 use wh_answer::{NamedRejection, Report};
 use wh_cert::{Certificate, read_certificate};
-use wh_checker::{Accepted, CheckFault, check};
+use wh_checker::{Accepted, CheckFault, check, rejections_name_what_is_there};
 use wh_io::Shelf;
 use wh_print::{print_pairs, print_system};
 use wh_round::printed_systems_are_read_back;
@@ -85,6 +85,8 @@ fn weigh(alloc: Global, problem: &Problem, certificate: &Certificate) -> Result<
     requires pairs { HasPairs (system_data problem.now.system) (pairs_data problem.now.pairs) }
     ensures { IfOk result (Weighed (system_data problem.now.system) (pairs_data problem.now.pairs) (said certificate.now)) }
 {
+    problem.system.is_well_made();
+    rejections_name_what_is_there();
     match check(alloc, &problem.system, &problem.pairs, certificate) {
         Ok(Accepted::Yes(_)) => Ok(Report::Yes),
         Ok(Accepted::No(_)) => Ok(Report::No),

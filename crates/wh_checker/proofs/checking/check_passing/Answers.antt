@@ -4,8 +4,8 @@ use Rattle.wh_system.specs.SystemView.{system_data}
 use Rattle.wh_access.specs.Passing.{IsPassing}
 use Rattle.wh_checker.proofs.checking.check_passing.Goals as goal
 
-pub returns-in-Ok : goal.returns-in-Ok
-returns-in-Ok c = (
+pub returns : goal.returns
+returns c = (
   c.if-ranks-signature.false ∙ ap (λ (s : Symbols). s.sorts) c.signature.ensures,
-  subst (IsPassing (system_data c.args.system.now)) c.in_ok-ranks.ensures c.in-Ok.ensures.passing,
+  subst (IsPassing (system_data c.args.system.now)) c.in_ok-ranks.ensures c.in_default.ensures.passing,
 )

@@ -22,7 +22,8 @@ returns-in_err-check_passing-clause-fault c =
     let ps = pairs_data c.args.pairs.now in
     let cert = c.args.certificate.now in
     let lines = map said_node cert.nodes in
-    passed_on c.from_residual.result c.in_err-check_passing.field-0.0 _ (HasRankFault d c.as_slice.result.now) (IsFirstYesFault with_limits d ps cert.ranks cert.pairs lines) c.from_residual.ensures.1 c.in_err-check_passing.ensures
+    passed_on c.from_residual.result c.in_err-check_passing.field-0.0 _ (HasRankFault d c.as_slice.result.now)
+    (IsFirstYesFault with_limits d ps cert.ranks cert.pairs lines) c.from_residual.ensures.1 c.in_err-check_passing.ensures
     (λ f fault. rank_fault d ps cert.ranks cert.pairs lines f (subst (λ (l : List ℕ). HasRankFault d l f) c.as_slice.ensures fault))
 
 pub returns-then-certificate-count-clause-fault : goal.returns-then-certificate-count-clause-fault
@@ -32,17 +33,21 @@ returns-then-certificate-count-clause-fault c =
     let cert = c.args.certificate.now in
     let lines = map said_node cert.nodes in
     let passing = subst (IsPassingUnder d) c.as_slice.ensures c.in_ok-check_passing.ensures in
-    let count : length c.as_slice-2.result.now ≡ length ps = ap (λ (l : List Pair). length l) c.as_slice-2.ensures ∙ sym (length-map c.args.pairs.now pair_data) in
-    subst (λ n. IsFirstYesFault with_limits d ps cert.ranks cert.pairs lines (check.Rejected (PairCount n))) (sym count) (pair_count passing.0 passing.1 (λ same. c.if-certificate-count.true (same ∙ sym count)))
+    let count : length c.as_slice-2.result.now ≡ length ps = ap (λ (l : List Pair). length l) c.as_slice-2.ensures
+    ∙ sym (length-map c.args.pairs.now pair_data) in
+    subst (λ n. IsFirstYesFault with_limits d ps cert.ranks cert.pairs lines (check.Rejected (PairCount n))) (sym count)
+    (pair_count passing.0 passing.1 (λ same. c.if-certificate-count.true (same ∙ sym count)))
 
 pub check_nodes-requires-clause-typed : goal.check_nodes-requires-clause-typed
 check_nodes-requires-clause-typed c =
-    λ marks p found. c.pairs_have_marked_sides.ensures (system_data c.args.system.now) (pairs_data c.args.pairs.now) marks p c.is_well_made.ensures c.requires.pairs.are found
+    λ marks p found. c.pairs_have_marked_sides.ensures (system_data c.args.system.now)
+    (pairs_data c.args.pairs.now) marks p c.is_well_made.ensures c.requires.pairs.are found
 
 pub check_nodes-requires-clause-set : goal.check_nodes-requires-clause-set
 check_nodes-requires-clause-set c =
     let count = ap (λ (l : List Pair). length l) c.as_slice-2.ensures in
-    subst (λ n. All (λ m. m < n) c.in_ok-whole.whole) count (all_from_members (λ m. m < length c.as_slice-2.result.now) c.in_ok-whole.whole (λ m found. (c.in_ok-whole.ensures.each m).0 found))
+    subst (λ n. All (λ m. m < n) c.in_ok-whole.whole) count (all_from_members (λ m. m < length c.as_slice-2.result.now) c.in_ok-whole.whole
+    (λ m found. (c.in_ok-whole.ensures.each m).0 found))
 
 pub returns-clause-valid : goal.returns-clause-valid
 returns-clause-valid c =
@@ -50,22 +55,26 @@ returns-clause-valid c =
     let ps = pairs_data c.args.pairs.now in
     let cert = c.args.certificate.now in
     let passing = subst (IsPassingUnder d) c.as_slice.ensures c.in_ok-check_passing.ensures in
-    let count : length c.as_slice-2.result.now ≡ length ps = ap (λ (l : List Pair). length l) c.as_slice-2.ensures ∙ sym (length-map c.args.pairs.now pair_data) in
+    let count : length c.as_slice-2.result.now ≡ length ps = ap (λ (l : List Pair). length l) c.as_slice-2.ensures
+    ∙ sym (length-map c.args.pairs.now pair_data) in
     let set = c.in_ok-whole.whole in
     let whole = subst (λ n. IsSetOf (λ m. m < n) set) count c.in_ok-whole.ensures in
     ok_weaker c.check_nodes.result _ _ c.check_nodes.ensures.proved (λ proved.
-    valid_yes d ps cert.ranks cert.pairs (map said_node cert.nodes) set passing (c.if-certificate-count.false ∙ count) whole (subst (λ (l : List Node). AreProvedBy d ps (set ∷ []) (map said_node l)) c.as_slice-3.ensures proved))
+    valid_yes d ps cert.ranks cert.pairs (map said_node cert.nodes) set passing (c.if-certificate-count.false ∙ count) whole
+    (subst (λ (l : List Node). AreProvedBy d ps (set ∷ []) (map said_node l)) c.as_slice-3.ensures proved))
 
 pub returns-clause-small : goal.returns-clause-small
 returns-clause-small c =
     let d = system_data c.args.system.now in
     let ps = pairs_data c.args.pairs.now in
     let cert = c.args.certificate.now in
-    let count : length c.as_slice-2.result.now ≡ length ps = ap (λ (l : List Pair). length l) c.as_slice-2.ensures ∙ sym (length-map c.args.pairs.now pair_data) in
+    let count : length c.as_slice-2.result.now ≡ length ps = ap (λ (l : List Pair). length l) c.as_slice-2.ensures
+    ∙ sym (length-map c.args.pairs.now pair_data) in
     let set = c.in_ok-whole.whole in
     let whole = subst (λ n. IsSetOf (λ m. m < n) set) count c.in_ok-whole.ensures in
     ok_weaker c.check_nodes.result _ _ c.check_nodes.ensures.proved (λ proved.
-    small_yes d ps (map said_node cert.nodes) set whole (subst (λ (l : List Node). AreProvedBy d ps (set ∷ []) (map said_node l)) c.as_slice-3.ensures proved))
+    small_yes d ps (map said_node cert.nodes) set whole (subst
+    (λ (l : List Node). AreProvedBy d ps (set ∷ []) (map said_node l)) c.as_slice-3.ensures proved))
 
 pub returns-clause-fault : goal.returns-clause-fault
 returns-clause-fault c =
@@ -73,11 +82,14 @@ returns-clause-fault c =
     let ps = pairs_data c.args.pairs.now in
     let cert = c.args.certificate.now in
     let passing = subst (IsPassingUnder d) c.as_slice.ensures c.in_ok-check_passing.ensures in
-    let count : length c.as_slice-2.result.now ≡ length ps = ap (λ (l : List Pair). length l) c.as_slice-2.ensures ∙ sym (length-map c.args.pairs.now pair_data) in
+    let count : length c.as_slice-2.result.now ≡ length ps = ap (λ (l : List Pair). length l) c.as_slice-2.ensures
+    ∙ sym (length-map c.args.pairs.now pair_data) in
     let set = c.in_ok-whole.whole in
     let whole = subst (λ n. IsSetOf (λ m. m < n) set) count c.in_ok-whole.ensures in
-    cause_weaker c.check_nodes.result (FaultInNodes d ps set (map said_node c.as_slice-3.result.now)) _ c.check_nodes.ensures.fault (λ r fault.
-    node_fault d ps cert.ranks cert.pairs (map said_node cert.nodes) set passing (c.if-certificate-count.false ∙ count) whole r (subst (λ (l : List Node). FaultInNodes d ps set (map said_node l) r) c.as_slice-3.ensures fault))
+    cause_weaker c.check_nodes.result (FaultInNodes d ps set (map said_node c.as_slice-3.result.now)) _ c.check_nodes.ensures.fault
+    (λ r fault.
+    node_fault d ps cert.ranks cert.pairs (map said_node cert.nodes) set passing (c.if-certificate-count.false ∙ count) whole r
+    (subst (λ (l : List Node). FaultInNodes d ps set (map said_node l) r) c.as_slice-3.ensures fault))
 
 pub returns-clause-bounded : goal.returns-clause-bounded
 returns-clause-bounded c =
@@ -85,8 +97,10 @@ returns-clause-bounded c =
     let ps = pairs_data c.args.pairs.now in
     let cert = c.args.certificate.now in
     let passing = subst (IsPassingUnder d) c.as_slice.ensures c.in_ok-check_passing.ensures in
-    let count : length c.as_slice-2.result.now ≡ length ps = ap (λ (l : List Pair). length l) c.as_slice-2.ensures ∙ sym (length-map c.args.pairs.now pair_data) in
+    let count : length c.as_slice-2.result.now ≡ length ps = ap (λ (l : List Pair). length l) c.as_slice-2.ensures
+    ∙ sym (length-map c.args.pairs.now pair_data) in
     let set = c.in_ok-whole.whole in
     let whole = subst (λ n. IsSetOf (λ m. m < n) set) count c.in_ok-whole.ensures in
     ok_weaker c.check_nodes.result _ _ c.check_nodes.ensures.proved (λ (nodes, says, proves, small).
-    c.proved_systems_are_bounded.ensures d cert.ranks ps set nodes c.is_well_made.ensures passing.1 c.requires.pairs.are (λ n below. (whole.each n).1 below) proves)
+    c.proved_systems_are_bounded.ensures d cert.ranks ps set nodes c.is_well_made.ensures passing.1 c.requires.pairs.are
+    (λ n below. (whole.each n).1 below) proves)

@@ -8,6 +8,7 @@ pub returns : goal.returns
 returns c =
     let names = c.args.names.now in
     let lines = c.args.lines.now in (
-      λ _. pace_ended (λ (line : Interp). line.name) (λ (name : List ℕ). name) lines names c.loop-i.i c.loop-i.invariant c.loop-i-test.false (omega arith) ∙ map-id names,
+      λ _. pace_ended (λ (line : Interp). line.name) (λ (name : List ℕ). name) lines names c.loop-i.i c.loop-i.invariant c.loop-i-test.false
+          (omega arith) ∙ map-id names,
       λ _. refl,
     )

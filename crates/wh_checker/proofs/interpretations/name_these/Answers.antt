@@ -12,6 +12,9 @@ returns-then-not-is_name_of c =
     let i = c.loop-i.i in
     let within : i < length numbers = omega (arith, c.loop-i-test.true) in (
       λ no_way. cc,
-      λ same. absurd (pace_broken (λ n. slice_get names n) (λ (line : Interp). Some line.name) numbers lines i (get_or numbers i 0) c.index-lines-i.result
-      within (get_or_default numbers i 0 (get_or numbers i 0) within) c.loop-i-test.true c.index-lines-i.is (λ here. cc (c.is_name_of.ensures.1 (here ∙ ap (λ (line : Interp). Some line.name) c.index-lines-i.is), c.if-not-is_name_of.true)) same),
+      λ same. absurd (pace_broken (λ n. slice_get names n) (λ (line : Interp). Some line.name) numbers lines i
+          (get_or numbers i 0) c.index-lines-i.result
+          within (get_or_default numbers i 0 (get_or numbers i 0) within) c.loop-i-test.true c.index-lines-i.is
+          (λ here. cc (c.is_name_of.ensures.1 (here ∙ ap (λ (line : Interp). Some line.name) c.index-lines-i.is), c.if-not-is_name_of.true))
+          same),
     )

@@ -1,6 +1,5 @@
 use Rattle.std.proofs.Common.{◌≡◌, ℕ, List, map, ap, subst, sym, ◌∙◌}
 use Rattle.wh_types.specs.Erase.{ty}
-use Rattle.wh_types.specs.declared.simple_type.SimpleType.{SimpleType}
 use Rattle.wh_terms.specs.Typing.{Symbols}
 use Rattle.wh_system.specs.SystemView.{system_data}
 use Rattle.wh_checker.proofs.InterpretationLemmas.{symbols_read, symbols_unread}
@@ -10,7 +9,11 @@ pub returns-then-not-name_all : goal.returns-then-not-name_all
 returns-then-not-name_all c =
     let d = system_data c.args.system.now in
     symbols_unread d.fun_names d.symbols.funs c.args.lines.now
-    (λ same. cc (c.name_all.ensures.1 (subst (λ (l : List (List ℕ)). map (λ line. line.name) c.args.lines.now ≡ l) (sym c.fun_names.ensures) same), c.if-not-name_all.true))
+    (λ same. cc (
+      c.name_all.ensures.1 (subst (λ (l : List (List ℕ)). map (λ line. line.name) c.args.lines.now ≡ l)
+          (sym c.fun_names.ensures) same),
+      c.if-not-name_all.true,
+    ))
 
 pub returns : goal.returns
 returns c =

@@ -7,4 +7,5 @@ pub returns : goal.returns
 returns c =
     let set = c.args.set.now in
     let within = c.requires 0 0 (omega (arith, c.if-set-ne1.false)) in
-    single (system_data c.args.system.now).rules c.args.pairs.now set c.index-pairs-set.result c.if-set-ne1.false within c.index-pairs-set.is (λ may. cc (c.may_follow.ensures.1 may, c.if-may_follow.false))
+    single (system_data c.args.system.now).rules c.args.pairs.now set c.index-pairs-set.result c.if-set-ne1.false within
+    c.index-pairs-set.is (λ may. cc (c.may_follow.ensures.1 may, c.if-may_follow.false))

@@ -1,5 +1,4 @@
 use Rattle.std.proofs.Common.{[], ◌∷◌, ℕ, List, map, sym, subst}
-use Rattle.wh_types.specs.Erase.{ty}
 use Rattle.wh_system.specs.SystemView.{system_data}
 use Rattle.wh_pairs.specs.Views.{pairs_data}
 use Rattle.wh_subterm.specs.Marked.{AreMarked}
@@ -33,7 +32,8 @@ returns-in_ok-kept-in-Ok c =
     let lines = map said_interp node.marks in
     let rest = c.in_ok-kept-in-Ok.field-0 in
     subst (λ (l : List ℕ). GoesOn d ps set (w.interpretations funs lines node.rules node.pairs l) [] (rest ∷ [])) c.as_slice-drop.ensures
-    (goes_poly d ps set funs lines node.rules node.pairs c.as_slice-drop.result.now rest (interpretations c.args.symbols.now) (marks_of c.args.marks.now) c.requires.says
+    (goes_poly d ps set funs lines node.rules node.pairs c.as_slice-drop.result.now rest (interpretations c.args.symbols.now)
+    (marks_of c.args.marks.now) c.requires.says
     c.in-Ok.ensures.covering c.in-Ok.ensures.small c.in_ok-kept-in-Ok.ensures)
 
 pub returns-in-Err-Because : goal.returns-in-Err-Because
@@ -49,6 +49,8 @@ returns-in-Err-Because c =
       symbols,
       marks,
       c.requires.says,
-      subst (λ (g : CoveringFault). IsFirstCoveringFault with_limits d.symbols d.rules ps set symbols marks (map transfers node.rules) (map transfers node.pairs) node.drop g) (sym c.in-Err-Because.fault-is)
-      (subst (λ (l : List ℕ). IsFirstCoveringFault with_limits d.symbols d.rules ps set symbols marks (map transfers node.rules) (map transfers node.pairs) l f) c.as_slice-drop.ensures first),
+      subst (λ (g : CoveringFault). IsFirstCoveringFault with_limits d.symbols d.rules ps set symbols marks (map transfers node.rules)
+          (map transfers node.pairs) node.drop g) (sym c.in-Err-Because.fault-is)
+          (subst (λ (l : List ℕ). IsFirstCoveringFault with_limits d.symbols d.rules ps set symbols marks (map transfers node.rules)
+          (map transfers node.pairs) l f) c.as_slice-drop.ensures first),
     )

@@ -17,6 +17,7 @@ loop-i-preserved c =
     let (sets, are, stack) = c.loop-i.invariant in
     let is = subst (λ (l : List ℕ). IsSetOf (Contains l) set) c.as_slice.ensures c.in_ok-set_of.ensures in (
       set ∷ sets,
-      sets_before blocks sets i c.index-blocks-i.result set (omega (arith, c.loop-i-test.true)) (omega (arith, c.loop-i.auto.i)) c.index-blocks-i.is is are,
+      sets_before blocks sets i c.index-blocks-i.result set (omega (arith, c.loop-i-test.true))
+          (omega (arith, c.loop-i.auto.i)) c.index-blocks-i.is is are,
       ap reverse c.in_ok-push.ensures.items ∙ reverse_push c.loop-i.stack.items set ∙ ap (λ (l : List (List ℕ)). set ∷ l) stack,
     )

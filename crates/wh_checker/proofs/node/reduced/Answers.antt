@@ -11,4 +11,5 @@ pub returns-in-Err : goal.returns-in-Err
 returns-in-Err c =
     let d = system_data c.args.system.now in
     let says = MatchOption-at_some _ _ c.in-Some.choices c.in-Some.is c.in_ok-choices.ensures in
-    subterm_fault d (pairs_data c.args.pairs.now) c.args.set.now (map said_arg c.args.args.now) (map chosen c.in-Some.choices) c.args.drop.now c.in-Err.fault c.is_well_made.ensures.fun_names_distinct says c.in-Err.ensures
+    subterm_fault d (pairs_data c.args.pairs.now) c.args.set.now (map said_arg c.args.args.now)
+    (map chosen c.in-Some.choices) c.args.drop.now c.in-Err.fault c.is_well_made.ensures.fun_names_distinct says c.in-Err.ensures

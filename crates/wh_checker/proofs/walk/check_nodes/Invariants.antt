@@ -7,4 +7,5 @@ use Rattle.wh_checker.proofs.walk.check_nodes.Given as goal
 
 abbrev pub invariant-loop-index : goal.invariant-loop-index
 invariant-loop-index l =
-    HasCome (system_data l.system) (pairs_data l.pairs) l.fn.whole (map said_node l.nodes) l.index (reverse l.stack.items) (map said_node (drop l.index l.nodes))
+    HasCome (system_data l.system) (pairs_data l.pairs) l.fn.whole (map said_node l.nodes) l.index (reverse l.stack.items)
+    (map said_node (drop l.index l.nodes))

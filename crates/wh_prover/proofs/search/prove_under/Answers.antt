@@ -9,7 +9,7 @@ use Rattle.wh_nodes.specs.Nodes.{IsSetOf}
 use Rattle.wh_cert.specs.Written as w
 use Rattle.wh_cert.specs.Said.{said_node}
 use Rattle.wh_prover.specs.Answers.{IsProof}
-use Rattle.wh_prover.proofs.ProofLemmas.{proof_of_tree, reason_of_end}
+use Rattle.wh_prover.proofs.ProofLemmas.{proof_of_tree}
 use Rattle.wh_prover.proofs.search.prove_under.Goals as goal
 
 pub walk-requires-clause-whole : goal.walk-requires-clause-whole

@@ -1,4 +1,4 @@
-use Rattle.std.proofs.Common.{◌+◌, ◌≡◌, ℕ, List, get_or, sym, subst, ◌∙◌}
+use Rattle.std.proofs.Common.{◌+◌, ℕ, List, get_or, sym, subst, ◌∙◌}
 use Rattle.wh_nodes.specs.Nodes.{IsSetOf}
 use Rattle.wh_system.proofs.ByPlace.{number_at}
 use Rattle.wh_system.proofs.Increasing.{search_misses, search_finds}

@@ -1,10 +1,8 @@
-use Rattle.std.proofs.Common.{◌≡◌, ℕ, List, [], ◌∷◌, ◌++◌, length, map, reverse, sym, ap, subst, ◌∙◌, arith}
+use Rattle.std.proofs.Common.{◌≡◌, ℕ, List, [], ◌∷◌, ◌++◌, map, reverse, sym, ap, subst, ◌∙◌, arith}
 use Rattle.std.proofs.lemmas.Option.{MatchOption-at_none}
 use Rattle.wh_system.specs.SystemView.{system_data}
 use Rattle.wh_pairs.specs.Views.{pairs_data}
 use Rattle.wh_cert.specs.Said.{said_node}
-use Rattle.wh_cert.specs.Written as w
-use Rattle.wh_cert.specs.declared.certificate.Node as code
 use Rattle.wh_prover.specs.Walk.{HasWalked}
 use Rattle.wh_prover.proofs.NodeLemmas.{is_none}
 use Rattle.wh_prover.proofs.WalkLemmas.{walked_first, walked_here, walked_next, walked_last, adds_lighter}
