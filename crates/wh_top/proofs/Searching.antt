@@ -8,15 +8,9 @@ use Rattle.wh_system.specs.PairData.{PairData}
 use Rattle.wh_answer.specs.declared.report.Role.TheVariants.{Output}
 use Rattle.wh_answer.specs.declared.report.Report.{Report}
 use Rattle.wh_answer.specs.declared.report.Report.TheVariants.{Maybe, TooLong}
-use Rattle.wh_top.specs.Outcomes.{Shelves, IsProblemIn, ToldSystem, StandsBySystem}
+use Rattle.wh_top.specs.Outcomes.{Shelves, IsProblemIn, ToldSystem}
 use Rattle.wh_top.specs.Proving.{IsProofText, IsNoProof, StandsForSearch}
 use Rattle.wh_top.proofs.Standing.{told_with}
-
--- what the system file alone decides is an answer to a search
-pub system_stands : (s : Shelves) (file : List ℕ) (tries : ℕ) (o : Report) → StandsBySystem s file o → StandsForSearch s file tries o
-system_stands s file tries (Maybe named) h = absurd h
-system_stands s file tries (TooLong Output) h = absurd h
-system_stands s file tries o h = h
 
 -- why there is no proof for the system in the file
 no_proof_stands : (s : Shelves) (file : List ℕ) (tries : ℕ) (d : SystemData) (ps : List PairData) (o : Report) → IsProblemIn (s.held file) d ps
