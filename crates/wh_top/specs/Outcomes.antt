@@ -1,5 +1,5 @@
 -- When each answer of a run comes.
-use Rattle.std.specs.Prelude.{ℕ, ◌≡◌, ◌<◌, ◌≤◌, List, [], ◌∷◌, ◌++◌, length, Option, Some}
+use Rattle.std.specs.Prelude.{ℕ, ◌≡◌, ◌<◌, ◌≤◌, List, ◌++◌, length, Option, Some}
 use Rattle.wh_io.specs.Outside.{Rose}
 use Rattle.wh_types.specs.declared.want.Or.{Or}
 use Rattle.wh_types.specs.declared.want.Or.TheVariants.{NoMemory, Because}

@@ -37,11 +37,7 @@ pub struct Problem {
 }
 
 /// The system of which the file of that name is a text, with its dependency pairs, or why there is none.
-pub fn problem_in<S: Shelf>(
-    alloc: Global,
-    shelf: &mut S,
-    file: &str,
-) -> Result<Problem, Or<Report>>
+pub fn problem_in<S: Shelf>(alloc: Global, shelf: &mut S, file: &str) -> Result<Problem, Or<Report>>
     ensures read { MatchOr result (λ problem. IsProblemIn (S.held shelf.old file.now) (system_data problem.system) (pairs_data problem.pairs)) (StandsBySystem (outside (S.held shelf.old) (S.faults shelf.old) (S.faults shelf.new)) file.now) }
     ensures later { (other : List ℕ) → S.faults shelf.old other ≤ S.faults shelf.new other }
     ensures kept { (other : List ℕ) → S.held shelf.new other ≡ S.held shelf.old other }

@@ -73,9 +73,7 @@ fn judge(alloc: Global, problem: &Problem, bytes: &[u8]) -> Result<Report, Alloc
     match read_certificate(alloc, bytes) {
         Ok(certificate) => weigh(alloc, problem, &certificate),
         Err(Or::NoMemory) => Err(AllocError),
-        Err(Or::Because(fault)) => {
-            Ok(Report::Rejected(NamedRejection::Syntax { at: fault.at }))
-        }
+        Err(Or::Because(fault)) => { Ok(Report::Rejected(NamedRejection::Syntax { at: fault.at })) }
     }
 }
 

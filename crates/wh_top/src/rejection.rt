@@ -33,7 +33,11 @@ pub fn named_rejection(
             node,
             symbol: symbol_name(alloc, system, symbol)?,
         },
-        Rejected::BadPolynomial { node, symbol, marked } => NamedRejection::BadPolynomial {
+        Rejected::BadPolynomial {
+            node,
+            symbol,
+            marked,
+        } => NamedRejection::BadPolynomial {
             node,
             symbol: symbol_name(alloc, system, symbol)?,
             marked,
@@ -51,12 +55,52 @@ pub fn named_rejection(
         Rejected::NotDecreasing { node, pair } => NamedRejection::NotDecreasing { node, pair },
         Rejected::BadSymbols { node } => NamedRejection::BadSymbols { node },
         Rejected::BadLines { node } => NamedRejection::BadLines { node },
-        Rejected::BadMoveRule { node, rule, entry } => NamedRejection::BadMoveRule { node, rule, entry },
-        Rejected::OverSpentRule { node, rule, monomial } => NamedRejection::OverSpentRule { node, rule, monomial },
-        Rejected::NotCoveredRule { node, rule, monomial } => NamedRejection::NotCoveredRule { node, rule, monomial },
-        Rejected::BadMovePair { node, pair, entry } => NamedRejection::BadMovePair { node, pair, entry },
-        Rejected::OverSpentPair { node, pair, monomial } => NamedRejection::OverSpentPair { node, pair, monomial },
-        Rejected::NotCoveredPair { node, pair, monomial } => NamedRejection::NotCoveredPair { node, pair, monomial },
+        Rejected::BadMoveRule { node, rule, entry } => NamedRejection::BadMoveRule {
+            node,
+            rule,
+            entry,
+        },
+        Rejected::OverSpentRule {
+            node,
+            rule,
+            monomial,
+        } => NamedRejection::OverSpentRule {
+            node,
+            rule,
+            monomial,
+        },
+        Rejected::NotCoveredRule {
+            node,
+            rule,
+            monomial,
+        } => NamedRejection::NotCoveredRule {
+            node,
+            rule,
+            monomial,
+        },
+        Rejected::BadMovePair { node, pair, entry } => NamedRejection::BadMovePair {
+            node,
+            pair,
+            entry,
+        },
+        Rejected::OverSpentPair {
+            node,
+            pair,
+            monomial,
+        } => NamedRejection::OverSpentPair {
+            node,
+            pair,
+            monomial,
+        },
+        Rejected::NotCoveredPair {
+            node,
+            pair,
+            monomial,
+        } => NamedRejection::NotCoveredPair {
+            node,
+            pair,
+            monomial,
+        },
         Rejected::NotStrict { node, pair } => NamedRejection::NotStrict { node, pair },
         Rejected::NotATerm => NamedRejection::NotATerm,
         Rejected::NoStep => NamedRejection::NoStep,

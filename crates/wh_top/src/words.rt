@@ -82,12 +82,7 @@ fn file_words<'a>(command: &str, file: &'a str) -> Option<Command<'a>>
 }
 
 // `prove FILE --tries N`.
-fn option_words<'a>(
-    command: &str,
-    file: &'a str,
-    option: &str,
-    number: &str,
-) -> Option<Command<'a>>
+fn option_words<'a>(command: &str, file: &'a str, option: &str, number: &str) -> Option<Command<'a>>
     ensures { MatchOption result ((asked : Request) → Asks (command.now ∷ file.now ∷ option.now ∷ number.now ∷ []) asked → ⊥) (λ asked. Asks (command.now ∷ file.now ∷ option.now ∷ number.now ∷ []) (request asked)) }
 {
     if command != "prove" || option != "--tries" || !names_file(file) {
