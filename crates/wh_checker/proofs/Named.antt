@@ -1,5 +1,5 @@
 -- The symbols and the meta-variables that a fault names are there.
-use Rattle.std.proofs.Common.{◌≡◌, ℕ, zero, suc, ◌<◌, inl, inr, List, [], ◌∷◌, length, map, get_or, Some, slice_get, true, false, refl, sym, ap, subst, ◌∙◌, arith}
+use Rattle.std.proofs.Common.{◌≡◌, ℕ, zero, suc, ◌<◌, inl, inr, List, [], ◌∷◌, length, map, get_or, Some, slice_get, true, false, refl, sym, ap, subst, ◌∙◌}
 use Rattle.std.proofs.lemmas.Option.{slice_get_within, get_or_from_slice_get}
 use Rattle.wh_types.specs.Ty.{Ty}
 use Rattle.wh_terms.specs.Tree.{Tm, Tms}
@@ -59,7 +59,7 @@ pub used_there : (d : SystemData) (r z : ℕ) (rule : RewriteRule) → IsWellMad
 used_there d r z rule made at occurs =
     let declared : z < length rule.metas = occurs_declared z (rule_made d r rule made at).typed.2 occurs in
     let count : slice_get (map length d.meta_names) r ≡ Some (length rule.metas) =
-      ap (λ l. slice_get l r) made.metas_named ∙ remap (λ (u : RewriteRule). length u.metas) d.rules r rule at in
+    ap (λ l. slice_get l r) made.metas_named ∙ remap (λ (u : RewriteRule). length u.metas) d.rules r rule at in
     let (names, there, long) = unmap length d.meta_names r (length rule.metas) count in
     let same : get_or d.meta_names r [] ≡ names = get_or_from_slice_get d.meta_names r names [] there in
     (slice_get_within d.rules r rule at, subst (λ (l : List (List ℕ)). z < length l) (sym same) (subst (λ n. z < n) (sym long) declared))

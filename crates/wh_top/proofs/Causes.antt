@@ -41,10 +41,11 @@ demand_there d e made (r, listed, (z, (used, (way, read, (p, on, (a, b, has, at,
     asker_below n a _ e asks (argument_below n b p.index a (sorts_known d made p.symbol b has) at)
 
 -- each sort of a way is one from which it goes on
-along_there : (n : ℕ) (P : ℕ → ℕ → Type 0) → ((s t : ℕ) → P s t → s < n) → (s : ℕ) (us : List ℕ) (t : ℕ) → LeadsAlong P s us t
-    → All (λ u. u < n) (s ∷ us)
+along_there : (n : ℕ) (P : ℕ → ℕ → Type 0) → ((s t : ℕ) → P s t → s < n) → (s : ℕ) (us : List ℕ) (t : ℕ)
+    → LeadsAlong P s us t → All (λ u. u < n) (s ∷ us)
 along_there n P h s [] t leads = All-cons (λ u. u < n) s [] (h s t leads) (All-nil (λ u. u < n))
-along_there n P h s (u ∷ us) t leads = All-cons (λ u. u < n) s (u ∷ us) (h s u leads.0) (along_there n P h u us t leads.1)
+along_there n P h s (u ∷ us) t leads =
+    All-cons (λ u. u < n) s (u ∷ us) (h s u leads.0) (along_there n P h u us t leads.1)
 
 cycle_there : (d : SystemData) (sorts : List ℕ) → IsWellMadeSystem d → IsStrictCycle d.symbols d.rules sorts
     → All (λ s. s < length d.sort_names) sorts
@@ -55,7 +56,8 @@ cycle_there d (s ∷ ss) made cycle =
     (along_there n (Leads d.symbols d.rules) (λ s t leads. demand_there d _ made leads.1) s ss s cycle.1)
 
 -- what a reason for giving up names
-pub reason_there : (d : SystemData) (ps : List PairData) (tries : ℕ) (c : Cause) → IsWellMadeSystem d → IsReason d ps tries c → CauseIsThere d c
+pub reason_there : (d : SystemData) (ps : List PairData) (tries : ℕ) (c : Cause) → IsWellMadeSystem d → IsReason d ps tries c
+    → CauseIsThere d c
 reason_there d ps tries (cause.NoRanks (ranks.Unread r z)) made is = unread_there d r z made is
 reason_there d ps tries (cause.NoRanks (ranks.Cycle sorts)) made is = cycle_there d sorts made is.1
 reason_there d ps tries (cause.Stuck set) made is = tt

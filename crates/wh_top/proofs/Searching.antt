@@ -13,8 +13,8 @@ use Rattle.wh_top.specs.Proving.{IsProofText, IsNoProof, StandsForSearch}
 use Rattle.wh_top.proofs.Standing.{told_with}
 
 -- why there is no proof for the system in the file
-no_proof_stands : (s : Shelves) (file : List ℕ) (tries : ℕ) (d : SystemData) (ps : List PairData) (o : Report) → IsProblemIn (s.held file) d ps
-    → IsNoProof d ps tries o → StandsForSearch s file tries o
+no_proof_stands : (s : Shelves) (file : List ℕ) (tries : ℕ) (d : SystemData) (ps : List PairData) (o : Report)
+    → IsProblemIn (s.held file) d ps → IsNoProof d ps tries o → StandsForSearch s file tries o
 no_proof_stands s file tries d ps (Maybe named) is h = told_with (s.held file) d ps (λ e es. IsNoProof e es tries (Maybe named)) is h
 no_proof_stands s file tries d ps (TooLong Output) is h = told_with (s.held file) d ps (λ e es. IsNoProof e es tries (TooLong Output)) is h
 no_proof_stands s file tries d ps o is h = absurd h

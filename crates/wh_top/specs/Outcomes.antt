@@ -58,7 +58,8 @@ IsProblemIn held d ps = IsSystemIn held d × HasPairs d ps
 
 -- the file is a text of a system with few enough pairs, and P holds of the system and its pairs
 abbrev pub ToldSystem : Option (List ℕ) → (SystemData → List PairData → Type 0) → Type 0
-ToldSystem held P = Told held (λ bytes. (length bytes ≤ system_limit) × (d : SystemData) × (ps : List PairData) × Reads bytes d × HasPairs d ps × P d ps)
+ToldSystem held P =
+    Told held (λ bytes. (length bytes ≤ system_limit) × (d : SystemData) × (ps : List PairData) × Reads bytes d × HasPairs d ps × P d ps)
 
 -- the text begins with these bytes
 abbrev pub BeginsWith : List ℕ → List ℕ → Type 0

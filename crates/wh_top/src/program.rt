@@ -24,9 +24,16 @@ use wh_types::{Bytes, Or};
 /// `answer` says which status and text answer which words and files, with the cause of each refusal; `termination` and
 /// `non_termination` say what an output means that begins with `YES` or with `NO`.
 pub fn run<S: Shelf, K: Sink>(alloc: Global, words: &[String], shelf: &mut S, out: &mut K) -> Status
-    ensures answer { (status : Status) × (text : List ℕ) × Answers (outside (S.held shelf.old) (S.faults shelf.old) (S.faults shelf.new)) (map string_bytes words.now) status text × Ends (K.written out.old) (K.written out.new) (K.faults out.old) (K.faults out.new) status text result }
-    ensures termination { (before output : List ℕ) → K.written out.old ≡ Some before → K.written out.new ≡ Some (before ++ output) → BeginsWith (codes "YES") output → (file : List ℕ) × AsksWhether (map string_bytes words.now) file × Told (S.held shelf.old file) MeansYes }
-    ensures non_termination { (before output : List ℕ) → K.written out.old ≡ Some before → K.written out.new ≡ Some (before ++ output) → BeginsWith (codes "NO") output → (file cert : List ℕ) × Asks (map string_bytes words.now) (check file cert) × Told (S.held shelf.old file) (λ system. Told (S.held shelf.old cert) (λ certificate. MeansNo system certificate)) }
+    ensures answer { (status : Status) × (text : List ℕ)
+        × Answers (outside (S.held shelf.old) (S.faults shelf.old) (S.faults shelf.new)) (map string_bytes words.now) status text
+        × Ends (K.written out.old) (K.written out.new) (K.faults out.old) (K.faults out.new) status text result }
+    ensures termination { (before output : List ℕ) → K.written out.old ≡ Some before → K.written out.new ≡ Some (before ++ output)
+        → BeginsWith (codes "YES") output
+        → (file : List ℕ) × AsksWhether (map string_bytes words.now) file × Told (S.held shelf.old file) MeansYes }
+    ensures non_termination { (before output : List ℕ) → K.written out.old ≡ Some before → K.written out.new ≡ Some (before ++ output)
+        → BeginsWith (codes "NO") output
+        → (file cert : List ℕ) × Asks (map string_bytes words.now) (check file cert)
+        × Told (S.held shelf.old file) (λ system. Told (S.held shelf.old cert) (λ certificate. MeansNo system certificate)) }
     ensures kept { (other : List ℕ) → S.held shelf.new other ≡ S.held shelf.old other }
 {
     let Some(command) = read_words(words) else {
@@ -40,7 +47,8 @@ pub fn run<S: Shelf, K: Sink>(alloc: Global, words: &[String], shelf: &mut S, ou
 
 /// Ends a run for want of memory: writes `OUT OF MEMORY`, without taking any.
 pub fn report_no_memory<K: Sink>(out: &mut K) -> Status
-    ensures { Ends (K.written out.old) (K.written out.new) (K.faults out.old) (K.faults out.new) Status.NoMemory (report_text OutOfMemory) result }
+    ensures { Ends (K.written out.old) (K.written out.new) (K.faults out.old) (K.faults out.new) Status.NoMemory
+        (report_text OutOfMemory) result }
 {
     tell(out, Status::NoMemory, out_of_memory_line())
 }
@@ -54,7 +62,8 @@ struct Reply {
 
 // The reply to a command.
 fn reply_to<S: Shelf>(alloc: Global, shelf: &mut S, command: &Command) -> Result<Reply, AllocError>
-    ensures served { IfOk result (λ reply. Replies (outside (S.held shelf.old) (S.faults shelf.old) (S.faults shelf.new)) (request command.now) reply.status reply.text) }
+    ensures served { IfOk result (λ reply.
+        Replies (outside (S.held shelf.old) (S.faults shelf.old) (S.faults shelf.new)) (request command.now) reply.status reply.text) }
     ensures kept { (other : List ℕ) → S.held shelf.new other ≡ S.held shelf.old other }
 {
     match command {

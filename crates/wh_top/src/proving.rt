@@ -28,7 +28,8 @@ pub fn prove_file<S: Shelf>(
     file: &str,
     tries: u64,
 ) -> Result<Bytes, Or<Report>>
-    ensures proof { MatchOr result (λ text. ToldSystem (S.held shelf.old file.now) (λ d ps. IsProofText d ps text)) (StandsForSearch (outside (S.held shelf.old) (S.faults shelf.old) (S.faults shelf.new)) file.now tries) }
+    ensures proof { MatchOr result (λ text. ToldSystem (S.held shelf.old file.now) (λ d ps. IsProofText d ps text))
+        (StandsForSearch (outside (S.held shelf.old) (S.faults shelf.old) (S.faults shelf.new)) file.now tries) }
     ensures begins { IfOk result (BeginsWith (codes "YES 1")) }
     ensures within { IfOk result (λ text. length text ≤ certificate_limit) }
     ensures kept { (other : List ℕ) → S.held shelf.new other ≡ S.held shelf.old other }
@@ -40,7 +41,8 @@ pub fn prove_file<S: Shelf>(
 // The text of a proof of termination, or why there is none.
 fn proof_text(alloc: Global, problem: &Problem, tries: u64) -> Result<Bytes, Or<Report>>
     requires { HasPairs (system_data problem.now.system) (pairs_data problem.now.pairs) }
-    ensures proof { MatchOr result (IsProofText (system_data problem.now.system) (pairs_data problem.now.pairs)) (IsNoProof (system_data problem.now.system) (pairs_data problem.now.pairs) tries) }
+    ensures proof { MatchOr result (IsProofText (system_data problem.now.system) (pairs_data problem.now.pairs))
+        (IsNoProof (system_data problem.now.system) (pairs_data problem.now.pairs) tries) }
     ensures begins { IfOk result (BeginsWith (codes "YES 1")) }
     ensures within { IfOk result (λ text. length text ≤ certificate_limit) }
 {

@@ -38,7 +38,8 @@ pub enum Command<'a> {
 
 /// What the words ask for; `None` where they are none of the program's.
 pub fn read_words(words: &[String]) -> Option<Command<'_>>
-    ensures { MatchOption result ((asked : Request) → Asks (map string_bytes words.now) asked → ⊥) (λ command. Asks (map string_bytes words.now) (request command)) }
+    ensures { MatchOption result ((asked : Request) → Asks (map string_bytes words.now) asked → ⊥)
+        (λ command. Asks (map string_bytes words.now) (request command)) }
 {
     match words {
         [command, file, cert] => check_words(command.as_str(), file.as_str(), cert.as_str()),
@@ -55,7 +56,8 @@ pub fn read_words(words: &[String]) -> Option<Command<'_>>
 
 // `check FILE CERT`.
 fn check_words<'a>(command: &str, file: &'a str, cert: &'a str) -> Option<Command<'a>>
-    ensures { MatchOption result ((asked : Request) → Asks (command.now ∷ file.now ∷ cert.now ∷ []) asked → ⊥) (λ asked. Asks (command.now ∷ file.now ∷ cert.now ∷ []) (request asked)) }
+    ensures { MatchOption result ((asked : Request) → Asks (command.now ∷ file.now ∷ cert.now ∷ []) asked → ⊥)
+        (λ asked. Asks (command.now ∷ file.now ∷ cert.now ∷ []) (request asked)) }
 {
     if command == "check" && names_file(file) && names_file(cert) {
         Some(Command::Check { file, cert })
@@ -66,7 +68,8 @@ fn check_words<'a>(command: &str, file: &'a str, cert: &'a str) -> Option<Comman
 
 // `show FILE` or `prove FILE`.
 fn file_words<'a>(command: &str, file: &'a str) -> Option<Command<'a>>
-    ensures { MatchOption result ((asked : Request) → Asks (command.now ∷ file.now ∷ []) asked → ⊥) (λ asked. Asks (command.now ∷ file.now ∷ []) (request asked)) }
+    ensures { MatchOption result ((asked : Request) → Asks (command.now ∷ file.now ∷ []) asked → ⊥)
+        (λ asked. Asks (command.now ∷ file.now ∷ []) (request asked)) }
 {
     if !names_file(file) {
         return None;
@@ -83,7 +86,8 @@ fn file_words<'a>(command: &str, file: &'a str) -> Option<Command<'a>>
 
 // `prove FILE --tries N`.
 fn option_words<'a>(command: &str, file: &'a str, option: &str, number: &str) -> Option<Command<'a>>
-    ensures { MatchOption result ((asked : Request) → Asks (command.now ∷ file.now ∷ option.now ∷ number.now ∷ []) asked → ⊥) (λ asked. Asks (command.now ∷ file.now ∷ option.now ∷ number.now ∷ []) (request asked)) }
+    ensures { MatchOption result ((asked : Request) → Asks (command.now ∷ file.now ∷ option.now ∷ number.now ∷ []) asked → ⊥)
+        (λ asked. Asks (command.now ∷ file.now ∷ option.now ∷ number.now ∷ []) (request asked)) }
 {
     if command != "prove" || option != "--tries" || !names_file(file) {
         return None;
