@@ -35,11 +35,7 @@ const GIVEN_UP: &[(&[&str], &[u8], &[u8])] = &[
     (SEARCH, UNTYPED, b"MAYBE no-ranks sorts o\n"),
     (SEARCH, IDENTITY, b"MAYBE stuck 0\n"),
     (SEARCH, PARTIAL, b"MAYBE stuck 1\n"),
-    (
-        SEARCH,
-        b"sort nat;sort nat;",
-        b"REFUSED twice 14\n",
-    ),
+    (SEARCH, b"sort nat;sort nat;", b"REFUSED twice 14\n"),
 ];
 
 /// Words that are none of the program's.

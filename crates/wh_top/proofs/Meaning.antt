@@ -106,7 +106,7 @@ output_front old new f g status result before text output (inr (fault, (front, b
 abbrev IsAnswerTo : Shelves → List (List ℕ) → Status → List ℕ → Report → Type 0
 IsAnswerTo s words status text o =
     ((file cert : List ℕ) × Asks words (check file cert) × Stands s file cert o)
-      ⊎ ((file : List ℕ) × (tries : ℕ) × Asks words (prove file tries) × ShowsProof s file status text)
+    ⊎ ((file : List ℕ) × (tries : ℕ) × Asks words (prove file tries) × ShowsProof s file status text)
 
 -- it is one of these where no other answer has a text that begins so, and o is none of the system file alone nor of a search
 only_answer : (s : Shelves) (words : List (List ℕ)) (status : Status) (text rest : List ℕ) (letter : ℕ) (o : Report)
@@ -174,7 +174,7 @@ pub non_termination : (s : Shelves) (words : List (List ℕ)) (status : Status) 
     (result : Status) → Answers s words status text → Ends old new f g status text result
     → (before output : List ℕ) → old ≡ Some before → new ≡ Some (before ++ output) → BeginsWith (codes "NO") output
     → (file cert : List ℕ) × Asks words (check file cert)
-      × Told (s.held file) (λ system. Told (s.held cert) (λ certificate. MeansNo system certificate))
+    × Told (s.held file) (λ system. Told (s.held cert) (λ certificate. MeansNo system certificate))
 non_termination s words status text old new f g result answers ends before output e h (rest, begins) =
     let (back, cut) = output_front old new f g status result before text output ends e h in
     let begun = cut ∙ ap (λ x. x ++ back) begins in
@@ -188,7 +188,7 @@ non_termination s words status text old new f g result answers ends before outpu
 
     by : (more : List ℕ) → text ≡ 78 ∷ more → IsAnswerTo s words status text No
         → (file cert : List ℕ) × Asks words (check file cert)
-          × Told (s.held file) (λ system. Told (s.held cert) (λ certificate. MeansNo system certificate))
+        × Told (s.held file) (λ system. Told (s.held cert) (λ certificate. MeansNo system certificate))
     by more begun (inl (file, cert, asks, stands)) =
         (file, cert, asks, λ system held certificate certified. by_system cert system certificate certified (stands system held))
     by more begun (inr (file, tries, asks, shows)) = absurd (not_byte 78 89 _ more (λ d. omega arith) (sym shows.begins.1 ∙ begun))

@@ -15,7 +15,7 @@ yes_begins : (c : Cert) → IsYes c → IsCert c → BeginsWith (codes "YES 1") 
 yes_begins (yes version ranks pairs nodes) is fits =
     let first : version ≡ 1 = fits.parts.0 in
     let rest : List ℕ =
-      10 ∷ (codes "ranks" ++ put_line ranks (codes "pairs " ++ (decimal pairs ++ (10 ∷ put_nodes nodes (codes "end" ++ (10 ∷ [])))))) in
+    10 ∷ (codes "ranks" ++ put_line ranks (codes "pairs " ++ (decimal pairs ++ (10 ∷ put_nodes nodes (codes "end" ++ (10 ∷ [])))))) in
     subst (λ v. BeginsWith (codes "YES 1") (text (yes v ranks pairs nodes))) (sym first)
     (rest, ap (λ (digits : List ℕ). codes "YES " ++ (digits ++ rest)) (decimal_digit 1 (omega arith)))
 yes_begins (no t steps at puts) is fits = absurd is
