@@ -15,3 +15,4 @@ pub use names::Names;
 pub use print::{bad_words_line, out_of_memory_line, print_answer};
 pub use read::read_answer;
 pub use report::{NamedCause, NamedFinder, NamedRejection, ReasonWord, Report, Role};
+pub use words::long_number;

@@ -1,5 +1,5 @@
 -- The symbols and the meta-variables that a fault names are there.
-use Rattle.std.proofs.Common.{◌≡◌, ℕ, zero, suc, ◌<◌, inl, inr, List, [], ◌∷◌, length, map, get_or, Some, slice_get, true, false, refl, sym, ap, subst, ◌∙◌, arith}
+use Rattle.std.proofs.Common.{◌≡◌, ℕ, zero, suc, ◌<◌, inl, inr, List, [], ◌∷◌, length, map, get_or, Some, slice_get, true, false, refl, sym, ap, subst, ◌∙◌}
 use Rattle.std.proofs.lemmas.Option.{slice_get_within, get_or_from_slice_get}
 use Rattle.wh_types.specs.Ty.{Ty}
 use Rattle.wh_terms.specs.Tree.{Tm, Tms}
@@ -54,16 +54,21 @@ mutual
   occurs_in_declared z (typed_more t ts) (inl o) = occurs_declared z t o
   occurs_in_declared z (typed_more t ts) (inr o) = occurs_in_declared z ts o
 
--- the rule and the meta-variable that break passing
-break_there : (d : SystemData) (ranks : List ℕ) (r z : ℕ) → IsWellMadeSystem d → IsFirstBreakIn d ranks r z → HasMeta d r z
-break_there d ranks r z made first =
-    let (rule, at, occurs, not, least) = first.here in
+-- a meta-variable that occurs in the right side of a rule has a name
+pub used_there : (d : SystemData) (r z : ℕ) (rule : RewriteRule) → IsWellMadeSystem d → slice_get d.rules r ≡ Some rule → Occurs z rule.right → HasMeta d r z
+used_there d r z rule made at occurs =
     let declared : z < length rule.metas = occurs_declared z (rule_made d r rule made at).typed.2 occurs in
     let count : slice_get (map length d.meta_names) r ≡ Some (length rule.metas) =
     ap (λ l. slice_get l r) made.metas_named ∙ remap (λ (u : RewriteRule). length u.metas) d.rules r rule at in
     let (names, there, long) = unmap length d.meta_names r (length rule.metas) count in
     let same : get_or d.meta_names r [] ≡ names = get_or_from_slice_get d.meta_names r names [] there in
     (slice_get_within d.rules r rule at, subst (λ (l : List (List ℕ)). z < length l) (sym same) (subst (λ n. z < n) (sym long) declared))
+
+-- the rule and the meta-variable that break passing
+break_there : (d : SystemData) (ranks : List ℕ) (r z : ℕ) → IsWellMadeSystem d → IsFirstBreakIn d ranks r z → HasMeta d r z
+break_there d ranks r z made first =
+    let (rule, at, occurs, not, least) = first.here in
+    used_there d r z rule made at occurs
 
 -- what lines say is of symbols that are there
 

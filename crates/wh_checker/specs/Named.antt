@@ -1,5 +1,5 @@
 -- That the symbols and meta-variables that a rejection names are there.
-use Rattle.std.specs.Prelude.{ℕ, ◌<◌, List, length, get_or, []}
+use Rattle.std.specs.Prelude.{ℕ, ◌<◌, length, get_or, []}
 use Rattle.wh_system.specs.Systems.{SystemData}
 use Rattle.wh_checker.specs.declared.rejected.Rejected.{Rejected}
 use Rattle.wh_checker.specs.declared.rejected.Rejected.TheVariants as row

@@ -6,9 +6,12 @@ use Rattle.wh_system.specs.WellMade.{IsWellMadeSystem}
 use Rattle.wh_pairs.specs.SystemPairs.{HasPairs}
 use Rattle.wh_cert.specs.Written.{Cert}
 use Rattle.wh_cert.specs.CertText.{CertText}
+use Rattle.wh_covering.specs.CoveringFaults.{with_limits}
+use Rattle.wh_checker.specs.Faults.{IsFirstFault}
+use Rattle.wh_checker.specs.declared.rejected.CheckFault.{CheckFault}
 use Rattle.wh_prover.specs.Answers.{IsProof}
 
--- the text of a proof is that of no other certificate
+-- the text of a proof is that of no other certificate, and no fault is the first of it, also where values have limits
 abbrev pub ProofsAreAccepted : Type 0
 ProofsAreAccepted = (d : SystemData) (ps : List PairData) (c : Cert) (bytes : List ℕ) → IsWellMadeSystem d → HasPairs d ps → IsProof d ps c → CertText bytes c
-    → ((e : Cert) → CertText bytes e → e ≡ c)
+    → ((e : Cert) → CertText bytes e → e ≡ c) × ((f : CheckFault) → IsFirstFault with_limits d ps c f → ⊥)

@@ -8,6 +8,8 @@ mod method_rows;
 #[cfg(test)]
 mod poly_rows;
 #[cfg(test)]
+mod prove_rows;
+#[cfg(test)]
 mod run_rows;
 #[cfg(test)]
 mod samples;

@@ -20,7 +20,6 @@ const OTHER_WORDS: &[&[&str]] = &[
     &["show", "system", "certificate"],
     &["show", "-system"],
     &["show"],
-    &["prove", "system"],
 ];
 
 pub(crate) fn words(alloc: Global, words: &[&str]) -> Result<Vec<String>, AllocError> {

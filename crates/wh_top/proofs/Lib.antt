@@ -1,2 +1,5 @@
+pub mod Causes
 pub mod Meaning
+pub mod ProofText
+pub mod Searching
 pub mod Standing

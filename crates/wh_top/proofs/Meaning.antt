@@ -1,5 +1,5 @@
 -- What an output means that begins with YES or with NO.
-use Rattle.std.proofs.Common.{◌≡◌, ℕ, ◌≤◌, inl, inr, List, length, [], ◌∷◌, ◌++◌, Option, Some, refl, sym, ap, ◌∙◌, subst, arith, append-nil}
+use Rattle.std.proofs.Common.{◌≡◌, ℕ, ◌≤◌, ◌⊎◌, inl, inr, List, length, [], ◌∷◌, ◌++◌, Option, Some, refl, sym, ap, ◌∙◌, subst, arith, append-nil}
 use Rattle.std.specs.Prelude.{codes}
 use Rattle.std.proofs.lemmas.List.{append_cancel_left}
 use Rattle.wh_terms.specs.Tree.{Tm}
@@ -16,16 +16,19 @@ use Rattle.wh_cert.specs.CertText.{CertText}
 use Rattle.wh_no.proofs.Valid.{valid-unbounded}
 use Rattle.wh_checker.specs.Valid.{IsValidCert}
 use Rattle.wh_checker.proofs.Bounded.{valid_yes-bounded}
+use Rattle.wh_prover.specs.Answers as proofs
 use Rattle.wh_top.specs.declared.status.Status.{Status}
 use Rattle.wh_answer.specs.Texts.{report_text}
 use Rattle.wh_answer.specs.declared.report.Report.{Report}
 use Rattle.wh_answer.specs.declared.report.Report.TheVariants.{Yes, No, Rejected, Maybe, Refused, BadWords, ReadFault, OutOfMemory, TooLong, Overflow, TooLarge}
-use Rattle.wh_top.specs.Words.{Request, check, show, Asks}
+use Rattle.wh_top.specs.Words.{Request, check, prove, show, Asks, AsksWhether}
 use Rattle.wh_top.specs.Outcomes.{Shelves, Told, IsYes, IsNo, BeginsWith, Checked, Stands, StandsBySystem, system_limit}
-use Rattle.wh_top.specs.Run.{Answers, Ends, MeansYes, MeansNo, Replies}
+use Rattle.wh_top.specs.Proving.{IsProofText, ShowsProof, StandsForSearch}
+use Rattle.wh_top.specs.Run.{Answers, Ends, MeansYes, MeansNo, Replies, Tells}
 
 -- a system that is read and has a valid YES certificate
-pub yes_means : (system : List ℕ) (d : SystemData) (ps : List PairData) (c : Cert) → Reads system d → HasPairs d ps → IsYes c → IsValidCert d ps c → MeansYes system
+pub yes_means : (system : List ℕ) (d : SystemData) (ps : List PairData) (c : Cert) → Reads system d → HasPairs d ps → IsYes c
+    → IsValidCert d ps c → MeansYes system
 yes_means system d ps c reads has is valid = record {
   data_read = d;
   reads = reads;
@@ -38,7 +41,8 @@ yes_means system d ps c reads has is valid = record {
     by (no term steps at puts) is valid = absurd is
 
 -- a valid NO certificate that is read for a system that is read
-pub no_means : (system cert : List ℕ) (d : SystemData) (ps : List PairData) (c : Cert) → Reads system d → CertText cert c → IsNo c → IsValidCert d ps c → MeansNo system cert
+pub no_means : (system cert : List ℕ) (d : SystemData) (ps : List PairData) (c : Cert) → Reads system d → CertText cert c → IsNo c
+    → IsValidCert d ps c → MeansNo system cert
 no_means system cert d ps (yes version ranks pairs nodes) reads text is valid = absurd is
 no_means system cert d ps (no term steps at puts) reads text is (claim, says, valid) = record {
   data_read = d;
@@ -89,46 +93,102 @@ some_same : (a b : List ℕ) → Some a ≡ Some b → a ≡ b
 some_same a b e = cc
 
 -- what was written is a front part of the text
-output_front : (old new : Option (List ℕ)) (f g : ℕ) (status result : Status) (before text output : List ℕ) → Ends old new f g status text result → old ≡ Some before → new ≡ Some (before ++ output) → (back : List ℕ) × (text ≡ output ++ back)
+output_front : (old new : Option (List ℕ)) (f g : ℕ) (status result : Status) (before text output : List ℕ)
+    → Ends old new f g status text result → old ≡ Some before → new ≡ Some (before ++ output) → (back : List ℕ) × (text ≡ output ++ back)
 output_front old new f g status result before text output (inl (same, wrote, faults)) e h =
-    ([], append_cancel_left before text output (some_same (before ++ text) (before ++ output) (sym (wrote before e) ∙ h)) ∙ sym (append-nil output))
+    let both = some_same (before ++ text) (before ++ output) (sym (wrote before e) ∙ h) in
+    ([], append_cancel_left before text output both ∙ sym (append-nil output))
 output_front old new f g status result before text output (inr (fault, (front, back, some, cut, wrote), rose)) e h =
     let same = append_cancel_left before front output (some_same (before ++ front) (before ++ output) (sym (wrote before e) ∙ h)) in
     (back, cut ∙ ap (λ x. x ++ back) same)
 
--- an answer whose text begins with a letter that none but the answer o has as the first of its text, is that answer to a check
-only_check : (s : Shelves) (words : List (List ℕ)) (status : Status) (text rest : List ℕ) (letter : ℕ) (o : Report)
-    → ((p : Report) (more : List ℕ) → report_text p ≡ letter ∷ more → p ≡ o) → ((file : List ℕ) → StandsBySystem s file o → ⊥)
+-- what an answer can be whose text begins with a letter: the answer o to a check, or the text of a proof
+abbrev IsAnswerTo : Shelves → List (List ℕ) → Status → List ℕ → Report → Type 0
+IsAnswerTo s words status text o =
+    ((file cert : List ℕ) × Asks words (check file cert) × Stands s file cert o)
+    ⊎ ((file : List ℕ) × (tries : ℕ) × Asks words (prove file tries) × ShowsProof s file status text)
+
+-- it is one of these where no other answer has a text that begins so, and o is none of the system file alone nor of a search
+only_answer : (s : Shelves) (words : List (List ℕ)) (status : Status) (text rest : List ℕ) (letter : ℕ) (o : Report)
+    → ((p : Report) (more : List ℕ) → report_text p ≡ letter ∷ more → p ≡ o)
+    → ((file : List ℕ) → StandsBySystem s file o → ⊥) → ((file : List ℕ) (tries : ℕ) → StandsForSearch s file tries o → ⊥)
     → (83 ≡ letter → ⊥) → (66 ≡ letter → ⊥) → (79 ≡ letter → ⊥) → Answers s words status text → text ≡ letter ∷ rest
-    → (file cert : List ℕ) × Asks words (check file cert) × Stands s file cert o
-only_check s words status text rest letter o only never show_differs words_differ memory_differs (inl served) e = by served.request served.asks served.reply
+    → IsAnswerTo s words status text o
+only_answer s words status text rest letter o only never never_found show_differs words_differ memory_differs (inl served) e =
+    by served.request served.asks served.reply
   where
-    by : (r : Request) → Asks words r → Replies s r status text → (file cert : List ℕ) × Asks words (check file cert) × Stands s file cert o
-    by (check file cert) asks reply = (file, cert, asks, subst (λ p. Stands s file cert p) (only reply.report rest (sym reply.text_is ∙ e)) reply.stands)
+    told : (P : Report → Type 0) → Tells P status text → P o
+    told P tells = subst P (only tells.report rest (sym tells.text_is ∙ e)) tells.stands
+
+    by : (r : Request) → Asks words r → Replies s r status text → IsAnswerTo s words status text o
+    by (check file cert) asks reply = inl (file, cert, asks, told (Stands s file cert) reply)
+    by (prove file tries) asks (inl shows) = inr (file, tries, asks, shows)
+    by (prove file tries) asks (inr tells) = absurd (never_found file tries (told (StandsForSearch s file tries) tells))
     by (show file) asks (inl shows) = absurd (not_byte letter 83 _ rest show_differs (sym shows.begins.1 ∙ e))
-    by (show file) asks (inr tells) = absurd (never file (subst (λ p. StandsBySystem s file p) (only tells.report rest (sym tells.text_is ∙ e)) tells.stands))
-only_check s words status text rest letter o only never show_differs words_differ memory_differs (inr (inl misspoken)) e = absurd (not_byte letter 66 _ rest words_differ (sym misspoken.text_is ∙ e))
-only_check s words status text rest letter o only never show_differs words_differ memory_differs (inr (inr starved)) e = absurd (not_byte letter 79 _ rest memory_differs (sym starved.text_is ∙ e))
+    by (show file) asks (inr tells) = absurd (never file (told (StandsBySystem s file) tells))
+only_answer s words status text rest letter o only never never_found show_differs words_differ memory_differs (inr (inl misspoken)) e =
+    absurd (not_byte letter 66 _ rest words_differ (sym misspoken.text_is ∙ e))
+only_answer s words status text rest letter o only never never_found show_differs words_differ memory_differs (inr (inr starved)) e =
+    absurd (not_byte letter 79 _ rest memory_differs (sym starved.text_is ∙ e))
+
+only_yes_answers : (s : Shelves) (words : List (List ℕ)) (status : Status) (text rest : List ℕ) → Answers s words status text
+    → text ≡ 89 ∷ rest → IsAnswerTo s words status text Yes
+only_yes_answers s words status text rest answers e =
+    only_answer s words status text rest 89 Yes only_yes (λ file h. h) (λ file tries h. h)
+    (λ d. omega arith) (λ d. omega arith) (λ d. omega arith) answers e
+
+only_no_answers : (s : Shelves) (words : List (List ℕ)) (status : Status) (text rest : List ℕ) → Answers s words status text
+    → text ≡ 78 ∷ rest → IsAnswerTo s words status text No
+only_no_answers s words status text rest answers e =
+    only_answer s words status text rest 78 No only_no (λ file h. h) (λ file tries h. h)
+    (λ d. omega arith) (λ d. omega arith) (λ d. omega arith) answers e
+
+-- a certificate of termination, in the words of the search and of the check
+same_yes : (c : Cert) → proofs.IsYes c → IsYes c
+same_yes (yes version ranks pairs nodes) is = tt
+same_yes (no term steps at puts) is = absurd is
 
 -- an output that begins with YES means what it says
-pub termination : (s : Shelves) (words : List (List ℕ)) (status : Status) (text : List ℕ) (old new : Option (List ℕ)) (f g : ℕ) (result : Status) → Answers s words status text → Ends old new f g status text result
-    → (before output : List ℕ) → old ≡ Some before → new ≡ Some (before ++ output) → BeginsWith (codes "YES") output → (file cert : List ℕ) × Asks words (check file cert) × Told (s.held file) MeansYes
+pub termination : (s : Shelves) (words : List (List ℕ)) (status : Status) (text : List ℕ) (old new : Option (List ℕ)) (f g : ℕ)
+    (result : Status) → Answers s words status text → Ends old new f g status text result
+    → (before output : List ℕ) → old ≡ Some before → new ≡ Some (before ++ output) → BeginsWith (codes "YES") output
+    → (file : List ℕ) × AsksWhether words file × Told (s.held file) MeansYes
 termination s words status text old new f g result answers ends before output e h (rest, begins) =
     let (back, cut) = output_front old new f g status result before text output ends e h in
-    let (file, cert, asks, stands) = only_check s words status text _ 89 Yes only_yes (λ file h. h) (λ d. omega arith) (λ d. omega arith) (λ d. omega arith) answers (cut ∙ ap (λ x. x ++ back) begins) in
-    (file, cert, asks, λ system held. by_system file cert system (stands system held))
+    by (only_yes_answers s words status text _ answers (cut ∙ ap (λ x. x ++ back) begins))
   where
-    by_system : (file cert system : List ℕ) → (length system ≤ system_limit) × (d : SystemData) × (ps : List PairData) × Reads system d × HasPairs d ps × Checked (s.held cert) d ps Yes → MeansYes system
-    by_system file cert system (within, d, ps, reads, has, (c, (is, valid), told)) = yes_means system d ps c reads has is valid
+    by_check : (cert system : List ℕ) → (length system ≤ system_limit)
+        × (d : SystemData) × (ps : List PairData) × Reads system d × HasPairs d ps × Checked (s.held cert) d ps Yes → MeansYes system
+    by_check cert system (within, d, ps, reads, has, (c, (is, valid), told)) = yes_means system d ps c reads has is valid
+
+    by_proof : (system : List ℕ) → (length system ≤ system_limit)
+        × (d : SystemData) × (ps : List PairData) × Reads system d × HasPairs d ps × IsProofText d ps text → MeansYes system
+    by_proof system (within, d, ps, reads, has, (c, is, spelled)) = yes_means system d ps c reads has (same_yes c is.yes) is.valid
+
+    by : IsAnswerTo s words status text Yes → (file : List ℕ) × AsksWhether words file × Told (s.held file) MeansYes
+    by (inl (file, cert, asks, stands)) = (file, inl (cert, asks), λ system held. by_check cert system (stands system held))
+    by (inr (file, tries, asks, shows)) = (file, inr (tries, asks), λ system held. by_proof system (shows.proof system held))
 
 -- an output that begins with NO means what it says
-pub non_termination : (s : Shelves) (words : List (List ℕ)) (status : Status) (text : List ℕ) (old new : Option (List ℕ)) (f g : ℕ) (result : Status) → Answers s words status text → Ends old new f g status text result
+pub non_termination : (s : Shelves) (words : List (List ℕ)) (status : Status) (text : List ℕ) (old new : Option (List ℕ)) (f g : ℕ)
+    (result : Status) → Answers s words status text → Ends old new f g status text result
     → (before output : List ℕ) → old ≡ Some before → new ≡ Some (before ++ output) → BeginsWith (codes "NO") output
-    → (file cert : List ℕ) × Asks words (check file cert) × Told (s.held file) (λ system. Told (s.held cert) (λ certificate. MeansNo system certificate))
+    → (file cert : List ℕ) × Asks words (check file cert)
+    × Told (s.held file) (λ system. Told (s.held cert) (λ certificate. MeansNo system certificate))
 non_termination s words status text old new f g result answers ends before output e h (rest, begins) =
     let (back, cut) = output_front old new f g status result before text output ends e h in
-    let (file, cert, asks, stands) = only_check s words status text _ 78 No only_no (λ file h. h) (λ d. omega arith) (λ d. omega arith) (λ d. omega arith) answers (cut ∙ ap (λ x. x ++ back) begins) in
-    (file, cert, asks, λ system held certificate certified. by_system file cert system certificate certified (stands system held))
+    let begun = cut ∙ ap (λ x. x ++ back) begins in
+    by _ begun (only_no_answers s words status text _ answers begun)
   where
-    by_system : (file cert system certificate : List ℕ) → s.held cert ≡ Some certificate → (length system ≤ system_limit) × (d : SystemData) × (ps : List PairData) × Reads system d × HasPairs d ps × Checked (s.held cert) d ps No → MeansNo system certificate
-    by_system file cert system certificate certified (within, d, ps, reads, has, (c, (is, valid), told)) = no_means system certificate d ps c reads (told certificate certified).1 is valid
+    by_system : (cert system certificate : List ℕ) → s.held cert ≡ Some certificate → (length system ≤ system_limit)
+        × (d : SystemData) × (ps : List PairData) × Reads system d × HasPairs d ps × Checked (s.held cert) d ps No
+        → MeansNo system certificate
+    by_system cert system certificate certified (within, d, ps, reads, has, (c, (is, valid), told)) =
+        no_means system certificate d ps c reads (told certificate certified).1 is valid
+
+    by : (more : List ℕ) → text ≡ 78 ∷ more → IsAnswerTo s words status text No
+        → (file cert : List ℕ) × Asks words (check file cert)
+        × Told (s.held file) (λ system. Told (s.held cert) (λ certificate. MeansNo system certificate))
+    by more begun (inl (file, cert, asks, stands)) =
+        (file, cert, asks, λ system held certificate certified. by_system cert system certificate certified (stands system held))
+    by more begun (inr (file, tries, asks, shows)) = absurd (not_byte 78 89 _ more (λ d. omega arith) (sym shows.begins.1 ∙ begun))

@@ -5,4 +5,5 @@ pub mod Outcomes
 pub mod Unread
 pub mod Rows
 pub mod Texts
+pub mod Proving
 pub mod Run

@@ -1,5 +1,5 @@
 -- When each answer of a run comes.
-use Rattle.std.specs.Prelude.{ℕ, ◌≡◌, ◌<◌, ◌≤◌, List, [], ◌∷◌, ◌++◌, length, Option, Some}
+use Rattle.std.specs.Prelude.{ℕ, ◌≡◌, ◌<◌, ◌≤◌, List, ◌++◌, length, Option, Some}
 use Rattle.wh_io.specs.Outside.{Rose}
 use Rattle.wh_types.specs.declared.want.Or.{Or}
 use Rattle.wh_types.specs.declared.want.Or.TheVariants.{NoMemory, Because}
@@ -58,7 +58,8 @@ IsProblemIn held d ps = IsSystemIn held d × HasPairs d ps
 
 -- the file is a text of a system with few enough pairs, and P holds of the system and its pairs
 abbrev pub ToldSystem : Option (List ℕ) → (SystemData → List PairData → Type 0) → Type 0
-ToldSystem held P = Told held (λ bytes. (length bytes ≤ system_limit) × (d : SystemData) × (ps : List PairData) × Reads bytes d × HasPairs d ps × P d ps)
+ToldSystem held P =
+    Told held (λ bytes. (length bytes ≤ system_limit) × (d : SystemData) × (ps : List PairData) × Reads bytes d × HasPairs d ps × P d ps)
 
 -- the text begins with these bytes
 abbrev pub BeginsWith : List ℕ → List ℕ → Type 0

@@ -1,5 +1,12 @@
 -- Names in place of the numbers of symbols and of meta-variables.
-use Rattle.std.specs.Prelude.{ℕ, List, [], get_or}
+use Rattle.std.specs.Prelude.{ℕ, List, [], get_or, length, map}
+use Rattle.wh_access.specs.declared.find.NoRanks.TheVariants as ranks
+use Rattle.wh_prover.specs.declared.answer.Cause.{Cause}
+use Rattle.wh_prover.specs.declared.answer.Cause.TheVariants as cause
+use Rattle.wh_prover.specs.declared.answer.Finder.TheVariants as finder
+use Rattle.wh_answer.specs.declared.report.NamedCause.{NamedCause}
+use Rattle.wh_answer.specs.declared.report.NamedCause.TheVariants as named_cause_of
+use Rattle.wh_answer.specs.declared.report.NamedFinder.TheVariants as named_finder
 use Rattle.wh_system.specs.Systems.{SystemData}
 use Rattle.wh_read.specs.declared.reasons.Reason.{Reason}
 use Rattle.wh_read.specs.declared.reasons.Reason.TheVariants as read
@@ -10,7 +17,10 @@ use Rattle.wh_answer.specs.declared.report.NamedRejection.TheVariants as named
 use Rattle.wh_answer.specs.declared.report.ReasonWord.{ReasonWord}
 use Rattle.wh_answer.specs.declared.report.ReasonWord.TheVariants as reason
 
--- the name of a symbol, and of a meta-variable of a rule
+-- the name of a sort, of a symbol, and of a meta-variable of a rule
+abbrev pub sort_name : SystemData → ℕ → List ℕ
+sort_name d s = get_or d.sort_names s []
+
 abbrev pub symbol_name : SystemData → ℕ → List ℕ
 symbol_name d f = get_or d.fun_names f []
 
@@ -65,3 +75,10 @@ reason_of read.NewMeta = reason.NewMeta
 reason_of read.HeadNotFun = reason.HeadNotFun
 reason_of read.UnevenRules = reason.UnevenRules
 reason_of read.TooMany = reason.TooMany
+
+-- why no proof was found, with names; of clauses only their number
+abbrev pub named_cause : SystemData → Cause → NamedCause
+named_cause d (cause.NoRanks (ranks.Unread r z)) = named_cause_of.Meta r (meta_name d r z)
+named_cause d (cause.NoRanks (ranks.Cycle sorts)) = named_cause_of.Sorts (map (sort_name d) sorts)
+named_cause d (cause.Stuck set) = named_cause_of.Stuck set
+named_cause d (cause.Spent finder.Subterm set list) = named_cause_of.Spent named_finder.Subterm (length list)

@@ -7,7 +7,6 @@ use Rattle.wh_terms.specs.Typing.{WellTyped}
 use Rattle.wh_step.specs.Reduction.{Bounded, Unbounded}
 use Rattle.wh_system.specs.Systems.{SystemData}
 use Rattle.wh_read.specs.Reading.{Reads}
-use Rattle.wh_print.specs.SystemText.{system_text}
 use Rattle.wh_cert.specs.Written.{Cert}
 use Rattle.wh_cert.specs.CertText.{CertText}
 use Rattle.wh_no.specs.Claim.{Claim}
@@ -17,9 +16,10 @@ use Rattle.wh_top.specs.declared.status.Status.TheVariants.{Answered, BadWords, 
 use Rattle.wh_answer.specs.declared.report.Report.{Report}
 use Rattle.wh_answer.specs.declared.report.Report.TheVariants as answer
 use Rattle.wh_answer.specs.Texts.{line, report_text}
-use Rattle.wh_top.specs.Words.{Request, check, show, Asks}
-use Rattle.wh_top.specs.Texts.{status_of, shown_text}
+use Rattle.wh_top.specs.Words.{Request, check, prove, show, Asks}
+use Rattle.wh_top.specs.Texts.{status_of, IsShown}
 use Rattle.wh_top.specs.Outcomes.{Shelves, BeginsWith, ToldSystem, StandsBySystem, Stands}
+use Rattle.wh_top.specs.Proving.{ShowsProof, StandsForSearch}
 
 -- P holds of an answer, and status and text are its own
 pub record Tells (P : Report → Type 0) (status : Status) (text : List ℕ) : Type 0 where
@@ -28,15 +28,17 @@ pub record Tells (P : Report → Type 0) (status : Status) (text : List ℕ) : T
   pub status_is : status ≡ status_of report
   pub text_is : text ≡ report_text report
 
--- the text shows the system in the file and its pairs; what it says of the system is a text of that very system
+-- the text shows the system in the file and its pairs
 pub record Shows (s : Shelves) (file : List ℕ) (status : Status) (text : List ℕ) : Type 0 where
-  pub system : ToldSystem (s.held file) (λ d ps. (text ≡ shown_text d ps) × Reads (system_text d) d)
+  pub system : ToldSystem (s.held file) (IsShown text)
   pub begins : BeginsWith (line (codes "SYSTEM")) text
   pub status_is : status ≡ Answered
 
--- the reply to a request: of a check its answer; for a system to be shown its text, or why there is none
+-- the reply to a request: of a check its answer; of a search a proof, or why there is none; for a system to be shown its text, or why
+-- there is none
 abbrev pub Replies : Shelves → Request → Status → List ℕ → Type 0
 Replies s (check file cert) status text = Tells (Stands s file cert) status text
+Replies s (prove file tries) status text = ShowsProof s file status text ⊎ Tells (StandsForSearch s file tries) status text
 Replies s (show file) status text = Shows s file status text ⊎ Tells (StandsBySystem s file) status text
 
 -- the words ask for something, and this is the reply

@@ -1,9 +1,10 @@
 -- The status of each answer, and the text that shows a system.
-use Rattle.std.specs.Prelude.{ℕ, List, ◌++◌, codes}
+use Rattle.std.specs.Prelude.{ℕ, ◌≡◌, List, ◌++◌, codes}
 use Rattle.wh_system.specs.Systems.{SystemData}
 use Rattle.wh_system.specs.PairData.{PairData}
 use Rattle.wh_print.specs.SystemText.{system_text}
 use Rattle.wh_print.specs.PairText.{pairs_text}
+use Rattle.wh_read.specs.Reading.{Reads}
 use Rattle.wh_answer.specs.Texts.{line}
 use Rattle.wh_answer.specs.declared.report.Report.{Report}
 use Rattle.wh_answer.specs.declared.report.Report.TheVariants.{Yes, No, Rejected, Maybe, Refused, BadWords, ReadFault, OutOfMemory, TooLong, Overflow, TooLarge}
@@ -26,3 +27,7 @@ status_of (TooLarge k) = statuses.TooBig
 -- the text that shows a system and its dependency pairs
 abbrev pub shown_text : SystemData → List PairData → List ℕ
 shown_text d ps = line (codes "SYSTEM") ++ (system_text d ++ pairs_text d ps)
+
+-- the text shows the system and its pairs; what it says of the system is a text of that very system
+abbrev pub IsShown : List ℕ → SystemData → List PairData → Type 0
+IsShown text d ps = (text ≡ shown_text d ps) × Reads (system_text d) d

@@ -25,7 +25,7 @@ use wh_types::{Bytes, Or};
 const SYSTEM_LIMIT: u64 = 1_048_576;
 
 /// How many bytes a certificate file may have.
-const CERTIFICATE_LIMIT: u64 = 8_388_608;
+pub const CERTIFICATE_LIMIT: u64 = 8_388_608;
 
 /// A system and its dependency pairs.
 #[derive(Drop)]
@@ -38,7 +38,9 @@ pub struct Problem {
 
 /// The system of which the file of that name is a text, with its dependency pairs, or why there is none.
 pub fn problem_in<S: Shelf>(alloc: Global, shelf: &mut S, file: &str) -> Result<Problem, Or<Report>>
-    ensures read { MatchOr result (λ problem. IsProblemIn (S.held shelf.old file.now) (system_data problem.system) (pairs_data problem.pairs)) (StandsBySystem (outside (S.held shelf.old) (S.faults shelf.old) (S.faults shelf.new)) file.now) }
+    ensures read { MatchOr result
+        (λ problem. IsProblemIn (S.held shelf.old file.now) (system_data problem.system) (pairs_data problem.pairs))
+        (StandsBySystem (outside (S.held shelf.old) (S.faults shelf.old) (S.faults shelf.new)) file.now) }
     ensures later { (other : List ℕ) → S.faults shelf.old other ≤ S.faults shelf.new other }
     ensures kept { (other : List ℕ) → S.held shelf.new other ≡ S.held shelf.old other }
 {
@@ -49,7 +51,8 @@ pub fn problem_in<S: Shelf>(alloc: Global, shelf: &mut S, file: &str) -> Result<
 
 // The dependency pairs of a system, or that they are too many.
 fn pairs_of(alloc: Global, system: &System) -> Result<PairList, Or<Report>>
-    ensures { MatchOr result (λ list. HasPairs (system_data system.now) (pairs_data list)) (λ o. (o ≡ refused_answer reason.TooManyPairs 0) × HasTooManyPairs (system_data system.now)) }
+    ensures { MatchOr result (λ list. HasPairs (system_data system.now) (pairs_data list))
+        (λ o. (o ≡ refused_answer reason.TooManyPairs 0) × HasTooManyPairs (system_data system.now)) }
 {
     match pairs(alloc, system) {
         Ok(list) => Ok(list),
@@ -60,7 +63,8 @@ fn pairs_of(alloc: Global, system: &System) -> Result<PairList, Or<Report>>
 
 // The system of which the file of that name is a text, or why there is none.
 fn system_in<S: Shelf>(alloc: Global, shelf: &mut S, file: &str) -> Result<System, Or<Report>>
-    ensures read { MatchOr result (λ system. IsSystemIn (S.held shelf.old file.now) (system_data system)) (StandsBySystem (outside (S.held shelf.old) (S.faults shelf.old) (S.faults shelf.new)) file.now) }
+    ensures read { MatchOr result (λ system. IsSystemIn (S.held shelf.old file.now) (system_data system))
+        (StandsBySystem (outside (S.held shelf.old) (S.faults shelf.old) (S.faults shelf.new)) file.now) }
     ensures later { (other : List ℕ) → S.faults shelf.old other ≤ S.faults shelf.new other }
     ensures kept { (other : List ℕ) → S.held shelf.new other ≡ S.held shelf.old other }
 {
@@ -76,7 +80,8 @@ pub fn certificate_in<S: Shelf>(
     shelf: &mut S,
     cert: &str,
 ) -> Result<Bytes, Or<Report>>
-    ensures read { MatchOr result (λ bytes. Told (S.held shelf.old cert.now) (AreWithin certificate_limit bytes)) (CertificateFault (S.held shelf.old cert.now) (S.faults shelf.old cert.now) (S.faults shelf.new cert.now)) }
+    ensures read { MatchOr result (λ bytes. Told (S.held shelf.old cert.now) (AreWithin certificate_limit bytes))
+        (CertificateFault (S.held shelf.old cert.now) (S.faults shelf.old cert.now) (S.faults shelf.new cert.now)) }
     ensures short { IfOk result (λ bytes. length bytes ≤ certificate_limit) }
     ensures kept { (other : List ℕ) → S.held shelf.new other ≡ S.held shelf.old other }
 {

@@ -4,12 +4,10 @@ ghost use Rattle.std.specs.Prelude.{◌≡◌, ◌≤◌, ℕ, List, IfOk, lengt
 ghost use Rattle.wh_types.specs.Outcome.{MatchOr};
 ghost use Rattle.wh_system.specs.SystemView.{system_data};
 ghost use Rattle.wh_pairs.specs.Views.{pairs_data};
-ghost use Rattle.wh_print.specs.SystemText.{system_text};
-ghost use Rattle.wh_read.specs.Reading.{Reads};
 ghost use Rattle.wh_pairs.specs.SystemPairs.{HasPairs};
 ghost use Rattle.wh_top.specs.Outcomes.{BeginsWith, Judged, Stands, StandsBySystem, ToldSystem, Weighed, outside};
 ghost use Rattle.wh_answer.specs.Texts.{line};
-ghost use Rattle.wh_top.specs.Texts.{shown_text};
+ghost use Rattle.wh_top.specs.Texts.{IsShown, shown_text};
 ghost use Rattle.wh_cert.specs.Limits.{IsCert};
 ghost use Rattle.wh_cert.specs.Said.{said};
 
@@ -31,7 +29,8 @@ pub fn check_files<S: Shelf>(
     file: &str,
     cert: &str,
 ) -> Result<Report, Or<Report>>
-    ensures stands { MatchOr result (Stands (outside (S.held shelf.old) (S.faults shelf.old) (S.faults shelf.new)) file.now cert.now) (Stands (outside (S.held shelf.old) (S.faults shelf.old) (S.faults shelf.new)) file.now cert.now) }
+    ensures stands { MatchOr result (Stands (outside (S.held shelf.old) (S.faults shelf.old) (S.faults shelf.new)) file.now cert.now)
+        (Stands (outside (S.held shelf.old) (S.faults shelf.old) (S.faults shelf.new)) file.now cert.now) }
     ensures kept { (other : List ℕ) → S.held shelf.new other ≡ S.held shelf.old other }
 {
     let problem = problem_in(alloc, shelf, file)?;
@@ -41,7 +40,8 @@ pub fn check_files<S: Shelf>(
 
 /// The text that shows the system in the file with its dependency pairs, or why there is none.
 pub fn show_file<S: Shelf>(alloc: Global, shelf: &mut S, file: &str) -> Result<Bytes, Or<Report>>
-    ensures shows { MatchOr result (λ text. ToldSystem (S.held shelf.old file.now) (λ d ps. (text ≡ shown_text d ps) × Reads (system_text d) d)) (StandsBySystem (outside (S.held shelf.old) (S.faults shelf.old) (S.faults shelf.new)) file.now) }
+    ensures shows { MatchOr result (λ text. ToldSystem (S.held shelf.old file.now) (IsShown text))
+        (StandsBySystem (outside (S.held shelf.old) (S.faults shelf.old) (S.faults shelf.new)) file.now) }
     ensures begins { IfOk result (BeginsWith (line (codes "SYSTEM"))) }
     ensures kept { (other : List ℕ) → S.held shelf.new other ≡ S.held shelf.old other }
 {

@@ -4,6 +4,7 @@
 mod files;
 mod judging;
 mod program;
+mod proving;
 mod rejection;
 mod status;
 mod words;

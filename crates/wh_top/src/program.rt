@@ -7,9 +7,10 @@ ghost use Rattle.wh_answer.specs.declared.report.Report.TheVariants.{OutOfMemory
 ghost use Rattle.wh_top.specs.Outcomes.{BeginsWith, Told, outside};
 ghost use Rattle.wh_top.specs.Run.{Answers, Ends, MeansNo, MeansYes, Replies};
 ghost use Rattle.wh_top.specs.Texts.{status_of};
-ghost use Rattle.wh_top.specs.Words.{Asks, check};
+ghost use Rattle.wh_top.specs.Words.{Asks, AsksWhether, check};
 
 use crate::judging::{check_files, show_file};
+use crate::proving::prove_file;
 use crate::status::{Status, status_of};
 use crate::words::{Command, read_words};
 use std::alloc::{AllocError, Global};
@@ -23,9 +24,16 @@ use wh_types::{Bytes, Or};
 /// `answer` says which status and text answer which words and files, with the cause of each refusal; `termination` and
 /// `non_termination` say what an output means that begins with `YES` or with `NO`.
 pub fn run<S: Shelf, K: Sink>(alloc: Global, words: &[String], shelf: &mut S, out: &mut K) -> Status
-    ensures answer { (status : Status) × (text : List ℕ) × Answers (outside (S.held shelf.old) (S.faults shelf.old) (S.faults shelf.new)) (map string_bytes words.now) status text × Ends (K.written out.old) (K.written out.new) (K.faults out.old) (K.faults out.new) status text result }
-    ensures termination { (before output : List ℕ) → K.written out.old ≡ Some before → K.written out.new ≡ Some (before ++ output) → BeginsWith (codes "YES") output → (file cert : List ℕ) × Asks (map string_bytes words.now) (check file cert) × Told (S.held shelf.old file) MeansYes }
-    ensures non_termination { (before output : List ℕ) → K.written out.old ≡ Some before → K.written out.new ≡ Some (before ++ output) → BeginsWith (codes "NO") output → (file cert : List ℕ) × Asks (map string_bytes words.now) (check file cert) × Told (S.held shelf.old file) (λ system. Told (S.held shelf.old cert) (λ certificate. MeansNo system certificate)) }
+    ensures answer { (status : Status) × (text : List ℕ)
+        × Answers (outside (S.held shelf.old) (S.faults shelf.old) (S.faults shelf.new)) (map string_bytes words.now) status text
+        × Ends (K.written out.old) (K.written out.new) (K.faults out.old) (K.faults out.new) status text result }
+    ensures termination { (before output : List ℕ) → K.written out.old ≡ Some before → K.written out.new ≡ Some (before ++ output)
+        → BeginsWith (codes "YES") output
+        → (file : List ℕ) × AsksWhether (map string_bytes words.now) file × Told (S.held shelf.old file) MeansYes }
+    ensures non_termination { (before output : List ℕ) → K.written out.old ≡ Some before → K.written out.new ≡ Some (before ++ output)
+        → BeginsWith (codes "NO") output
+        → (file cert : List ℕ) × Asks (map string_bytes words.now) (check file cert)
+        × Told (S.held shelf.old file) (λ system. Told (S.held shelf.old cert) (λ certificate. MeansNo system certificate)) }
     ensures kept { (other : List ℕ) → S.held shelf.new other ≡ S.held shelf.old other }
 {
     let Some(command) = read_words(words) else {
@@ -39,7 +47,8 @@ pub fn run<S: Shelf, K: Sink>(alloc: Global, words: &[String], shelf: &mut S, ou
 
 /// Ends a run for want of memory: writes `OUT OF MEMORY`, without taking any.
 pub fn report_no_memory<K: Sink>(out: &mut K) -> Status
-    ensures { Ends (K.written out.old) (K.written out.new) (K.faults out.old) (K.faults out.new) Status.NoMemory (report_text OutOfMemory) result }
+    ensures { Ends (K.written out.old) (K.written out.new) (K.faults out.old) (K.faults out.new) Status.NoMemory
+        (report_text OutOfMemory) result }
 {
     tell(out, Status::NoMemory, out_of_memory_line())
 }
@@ -53,12 +62,21 @@ struct Reply {
 
 // The reply to a command.
 fn reply_to<S: Shelf>(alloc: Global, shelf: &mut S, command: &Command) -> Result<Reply, AllocError>
-    ensures served { IfOk result (λ reply. Replies (outside (S.held shelf.old) (S.faults shelf.old) (S.faults shelf.new)) (request command.now) reply.status reply.text) }
+    ensures served { IfOk result (λ reply.
+        Replies (outside (S.held shelf.old) (S.faults shelf.old) (S.faults shelf.new)) (request command.now) reply.status reply.text) }
     ensures kept { (other : List ℕ) → S.held shelf.new other ≡ S.held shelf.old other }
 {
     match command {
         Command::Check { file, cert } => match check_files(alloc, shelf, file, cert) {
             Ok(report) | Err(Or::Because(report)) => told(alloc, &report),
+            Err(Or::NoMemory) => Err(AllocError),
+        },
+        Command::Prove { file, tries } => match prove_file(alloc, shelf, file, *tries) {
+            Ok(text) => Ok(Reply {
+                status: Status::Answered,
+                text,
+            }),
+            Err(Or::Because(report)) => told(alloc, &report),
             Err(Or::NoMemory) => Err(AllocError),
         },
         Command::Show { file } => match show_file(alloc, shelf, file) {

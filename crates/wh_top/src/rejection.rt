@@ -120,8 +120,8 @@ fn symbol_name(alloc: Global, system: &System, symbol: u32) -> Result<Name, Allo
     Name::new(alloc, system.fun_names()[symbol as usize].bytes())
 }
 
-// The name of a meta-variable of a rule.
-fn meta_name(alloc: Global, system: &System, rule: u32, meta: u32) -> Result<Name, AllocError>
+/// The name of a meta-variable of a rule.
+pub fn meta_name(alloc: Global, system: &System, rule: u32, meta: u32) -> Result<Name, AllocError>
     requires { HasMeta (system_data system.now) rule meta }
     ensures { IfOk result (λ name. name ≡ meta_name (system_data system.now) rule meta) }
 {

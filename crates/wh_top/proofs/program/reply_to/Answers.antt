@@ -5,6 +5,13 @@ use Rattle.wh_top.specs.Run.{Replies}
 use Rattle.wh_top.specs.declared.status.Status.TheVariants.{Answered}
 use Rattle.wh_top.proofs.program.reply_to.Goals as goal
 
+pub returns-in-Ok-prove_file-clause-served : goal.returns-in-Ok-prove_file-clause-served
+returns-in-Ok-prove_file-clause-served g c =
+    let s : Shelves = outside (g.S.Shelf.held c.args.shelf.now) (g.S.Shelf.faults c.args.shelf.now) (g.S.Shelf.faults c.prove_file.new.shelf) in
+    let found = c.in-Ok-prove_file.ensures in
+    subst (λ command. Replies s (request command) Answered c.in-Ok-prove_file.text) (sym c.in-Prove.is)
+    (inl (record { proof = found.proof; begins = found.begins; within = found.within; status_is = refl }))
+
 pub returns-in-Ok-show_file-clause-served : goal.returns-in-Ok-show_file-clause-served
 returns-in-Ok-show_file-clause-served g c =
     let s : Shelves = outside (g.S.Shelf.held c.args.shelf.now) (g.S.Shelf.faults c.args.shelf.now) (g.S.Shelf.faults c.show_file.new.shelf) in
