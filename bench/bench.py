@@ -205,6 +205,30 @@ def rule_chain(count):
     return "\n".join(lines) + "\n", "\n".join(certificate) + "\n"
 
 
+def wide_ring(symbols):
+    """A ring of symbols with four arguments, of which the last one alone gets smaller: one projection of 4 to that power drops a pair."""
+    lines = ["sort o;", "fun s : o -> o;", *[f"fun f{i} : o -> o -> o -> o -> o;" for i in range(symbols)]]
+    for i in range(symbols):
+        lines.append(f"rule {{X:o,Y:o,Z:o,W:o}} f{i} X Y Z (s W) => f{(i + 1) % symbols} (s X) (s Y) (s Z) W;")
+    return "\n".join(lines) + "\n"
+
+
+def calls_within(symbols):
+    """Each symbol calls itself and, around that, the one before: as many components as symbols, of one pair each."""
+    return rule_chain(symbols)[0]
+
+
+def one_by_one(symbols):
+    """Each symbol calls the next and the one before. Of what is left one projection drops a pair, and only that of the first symbol:
+    so the whole falls apart one pair at a time, and each set but the first is what the one before leaves."""
+    lines = ["sort o;", "fun e : o;", "fun s : o -> o;", "fun d : o -> o -> o;", *[f"fun f{i} : o -> o -> o;" for i in range(symbols)]]
+    lines.append("rule {X:o} f0 X (s X) => f1 X e;")
+    for i in range(1, symbols - 1):
+        lines.append(f"rule {{X:o}} f{i} X (s X) => d (f{i + 1} X e) (f{i - 1} X X);")
+    lines.append(f"rule {{X:o}} f{symbols - 1} X (s X) => f{symbols - 2} X X;")
+    return "\n".join(lines) + "\n"
+
+
 def make_apart(folder, maker, count):
     """Writes the inputs in a process of its own, so that this one stays small, and gives the file that counts: a program's
     greatest memory is never seen below that of the process that starts it."""
@@ -294,13 +318,22 @@ def main():
         cases.append(("components chain", f"{symbols} pairs", chain, symbols))
     cases.append(("show most-pairs", "4096 pairs", most_pairs, 4096))
     cases.append(("components most", "4096 pairs", most_pairs, 4096))
+    for symbols in (30, 300, 1000):
+        cases.append(("prove ring", f"{symbols} rules", wide_ring, symbols))
+    for symbols in (50, 100, 200):
+        cases.append(("prove chain", f"{symbols} symbols", calls_within, symbols))
+    for symbols in (255, 510, 1020):
+        cases.append(("prove one by one", f"{2 * symbols - 2} pairs", one_by_one, symbols))
+    cases.append(("prove most-pairs", "4096 pairs", most_pairs, 4096))
+    for example in sorted((HERE.parent / "examples").glob("*.afs")):
+        cases.append(("prove example", example.stem, lambda _count, file=example: file.read_text(), 0))
     with tempfile.TemporaryDirectory() as name:
         folder = pathlib.Path(name)
         for what, size, maker, count in cases:
             if given.only not in what:
                 continue
             written = make_apart(folder, maker, count)
-            program, words = given.program, ["show", str(folder / "system")]
+            program, words = given.program, [what.split()[0], str(folder / "system")]
             if what.startswith("components"):
                 program, words = str(COMPONENTS), [str(folder / "system")]
             if written.name == "certificate":

@@ -14,6 +14,7 @@ mod sides;
 
 pub use check::{check_strict, check_weak};
 pub use fault::CoverFault;
+pub use good::are_factors_at_least;
 pub use laws::{interpretations_in_order_interpret, symbols_of_marks_have_marks};
 pub use marks::{MarkedSymbol, kind_of_mark};
 pub use sides::{side_of_pair, side_of_rule};
