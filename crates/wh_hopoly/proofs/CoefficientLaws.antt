@@ -17,7 +17,7 @@ abbrev pub coefficient : Factors → Polynomial → ℕ
 coefficient ws zero_poly = 0
 coefficient ws (plus c us p) = only_if_equal (compare_factors ws us) c + coefficient ws p
 
-two_parts : (o : Ordering) (c d n : ℕ) → only_if_equal o (c + d) + n ≡ only_if_equal o c + (only_if_equal o d + n)
+pub two_parts : (o : Ordering) (c d n : ℕ) → only_if_equal o (c + d) + n ≡ only_if_equal o c + (only_if_equal o d + n)
 two_parts Less c d n = omega arith
 two_parts Equal c d n = omega arith
 two_parts Greater c d n = omega arith
@@ -25,7 +25,7 @@ two_parts Greater c d n = omega arith
 swapped : (a b m n : ℕ) → n ≡ a + m → b + n ≡ a + (b + m)
 swapped a b m n e = omega (arith, e)
 
-coefficient_add : (ws : Factors) (c : ℕ) (us : Factors) (q : Polynomial) → coefficient ws (add_monomial c us q) ≡ only_if_equal (compare_factors ws us) c + coefficient ws q
+pub coefficient_add : (ws : Factors) (c : ℕ) (us : Factors) (q : Polynomial) → coefficient ws (add_monomial c us q) ≡ only_if_equal (compare_factors ws us) c + coefficient ws q
 coefficient_add ws c us zero_poly = refl
 coefficient_add ws c us (plus d vs q) = go (coefficient_add ws c us q) (compare_factors us vs) refl
   where

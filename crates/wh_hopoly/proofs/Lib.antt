@@ -27,3 +27,5 @@ pub mod RunLaws
 pub mod ReplacingLaws
 pub mod ValuedLaws
 pub mod GrowingLaws
+pub mod ScaleLaws
+pub mod RoomLaws

@@ -66,7 +66,7 @@ ordered_multiply zero_poly q n m = tt
 ordered_multiply (plus c us p) q n m = ordered_sum (scale c us q) (multiply p q) (ordered_scale c us q n.0 m) (ordered_multiply p q n.3 m)
 
 -- they commute and associate
-equal_ordered : (p q : Polynomial) → Ordered p → Ordered q → ((ws : Factors) → coefficient ws p ≡ coefficient ws q) → p ≡ q
+pub equal_ordered : (p q : Polynomial) → Ordered p → Ordered q → ((ws : Factors) → coefficient ws p ≡ coefficient ws q) → p ≡ q
 equal_ordered p q n m h = same_coefficients p q (ordered_sorted p n) (ordered_sorted q m) (ordered_positive p n) (ordered_positive q m) h
 
 pub ordered_commute : (p q : Polynomial) → Ordered p → Ordered q → sum_poly p q ≡ sum_poly q p

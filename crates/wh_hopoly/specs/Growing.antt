@@ -1,18 +1,51 @@
 -- What a product that grows has come to.
-use Rattle.std.specs.Prelude.{◌≡◌, ◌+◌, ◌≤◌, ◌<◌, ◌^◌}
-use Rattle.wh_hopoly.specs.Polynomials.{Polynomial, plus, zero_poly}
-use Rattle.wh_hopoly.specs.Limits.{weight_of_factors, nesting_of_factors, Exceeds}
+use Rattle.std.specs.Prelude.{ℕ, ◌≡◌, ◌+◌, ◌*◌, ◌≤◌, ◌<◌, ◌^◌, Option, None, Some}
+use Rattle.wh_hopoly.specs.Polynomials.{Polynomial, Factors, plus, zero_poly, Ordered}
+use Rattle.wh_hopoly.specs.Arithmetic.{constant, multiply}
+use Rattle.wh_hopoly.specs.Limits.{weight, weight_of_factors, nesting, nesting_of_factors}
 use Rattle.wh_hopoly.specs.Merges.{joined}
-use Rattle.wh_hopoly.specs.Erase.{poly, factors}
+use Rattle.wh_hopoly.specs.Erase.{poly, atoms, factors}
 use Rattle.wh_hopoly.specs.declared.growing.Growing.{Growing}
-use Rattle.wh_hopoly.specs.declared.growing.Growing.TheVariants.{Single, Many}
+use Rattle.wh_hopoly.specs.declared.growing.Room.{Room}
+use Rattle.wh_hopoly.specs.declared.polynomial.Poly.{Poly}
+use Rattle.wh_hopoly.specs.declared.polynomial.Monomial.{Monomial, out-Monomial}
+
+-- how many monomials (ours)
+abbrev pub monomial_count : Polynomial → ℕ
+monomial_count zero_poly = 0
+monomial_count (plus c us p) = 1 + monomial_count p
+
+-- no coefficient is above n (ours)
+abbrev pub HasCoefficientsUpTo : ℕ → Polynomial → Type 0
+HasCoefficientsUpTo n zero_poly = Unit {0}
+HasCoefficientsUpTo n (plus c us p) = c ≤ n × HasCoefficientsUpTo n p
+
+-- the first value (ours)
+abbrev pub first_value : Option Poly → Polynomial
+first_value None = constant 1
+first_value (Some p) = poly p
 
 -- the product so far (ours)
 abbrev pub grown : Growing → Polynomial
-grown (Single c us left) = plus c (joined (factors us)) zero_poly
-grown (Many p) = poly p
+grown g = multiply (first_value g.first) (plus g.coefficient (joined (factors g.factors)) zero_poly)
 
--- it is within the limits, and what is left of the weight is told (ours)
+-- p times a monomial is within the limits, and stays so while what joins its factors weighs no more than is left (ours)
+pub record LeavesRoom (p : Polynomial) (greatest coefficient : ℕ) (us : Factors) (left : ℕ) : Type 0 where
+  pub ordered : Ordered p
+  pub positive : 1 ≤ coefficient
+  pub up_to : HasCoefficientsUpTo greatest p
+  pub fitting : greatest * coefficient < 2 ^ 128
+  pub light : weight p + monomial_count p * (weight_of_factors us + left) ≤ 65536
+  pub first_shallow : nesting p ≤ 400
+  pub shallow : nesting_of_factors us ≤ 400
+
+-- the product is within the limits, and what is left of the weight is told (ours)
 abbrev pub HasRoom : Growing → Type 0
-HasRoom (Single c us left) = (c < 2 ^ 128) × ((1 + weight_of_factors (joined (factors us))) + left ≡ 65536) × (nesting_of_factors (joined (factors us)) ≤ 400)
-HasRoom (Many p) = Exceeds (poly p) → ⊥
+HasRoom g = LeavesRoom (first_value g.first) g.greatest g.coefficient (joined (factors g.factors)) g.left
+
+-- with one more monomial the coefficient is multiplied and fits, and its factors are taken from what is left (ours)
+pub record TakesIn (g : Growing) (m : Monomial) (room : Room) : Type 0 where
+  pub multiplied : room.coefficient ≡ g.coefficient * (out-Monomial m).coefficient
+  pub fitting : g.greatest * room.coefficient < 2 ^ 128
+  pub weighed : weight_of_factors (atoms (out-Monomial m).atoms) + room.left ≡ g.left
+  pub shallow : nesting_of_factors (atoms (out-Monomial m).atoms) ≤ 400

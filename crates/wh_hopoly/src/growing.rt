@@ -1,16 +1,16 @@
-//! A product that grows by one value after another. While all of them are single monomials, their factors are kept in the order in
-//! which they come, and their weight is counted; they are put in order once, at the end. So a long monomial is not copied, compared or
-//! weighed anew for each of its factors.
+//! A product that grows by one value after another. A single monomial is not multiplied in at once: its factors join those of the
+//! monomials before it in any order, and what they may still weigh is counted; they are put in order once, and multiplied in once. So
+//! what stands before a long row of factors is not copied, compared or weighed anew for each of them.
 
-ghost use Rattle.std.specs.Prelude.{◌≡◌, ◌++◌, ◌≤◌, ◌<◌, ◌^◌, IfOk, OnOk, MatchResult};
+ghost use Rattle.std.specs.Prelude.{◌≡◌, ◌++◌, ◌+◌, ◌*◌, ◌≤◌, ◌<◌, ◌^◌, IfOk, OnOk, IfSome, MatchResult};
 ghost use Rattle.wh_types.specs.Outcome.{IfBecause};
 ghost use Rattle.wh_hopoly.specs.Erase.{poly, atoms, factors, factors as factors_of};
 ghost use Rattle.wh_hopoly.specs.Polynomials.{Ordered, OrderedFactors, plus, zero_poly};
 ghost use Rattle.wh_hopoly.specs.Arithmetic.{constant, multiply};
+ghost use Rattle.wh_hopoly.specs.Limits.{weight, Exceeds};
 ghost use Rattle.wh_hopoly.specs.Excesses.{ExceedsAs};
 ghost use Rattle.wh_hopoly.specs.Merges.{joined};
-ghost use Rattle.wh_hopoly.specs.Growing.{grown, HasRoom};
-ghost use Rattle.wh_hopoly.specs.declared.growing.Growing.TheVariants.{Single as one_monomial};
+ghost use Rattle.wh_hopoly.specs.Growing.{grown, HasRoom, TakesIn, HasCoefficientsUpTo, monomial_count};
 ghost use Rattle.wh_hopoly.specs.declared.polynomial.Monomial.{out-Monomial};
 
 use crate::excess::Excess;
@@ -18,34 +18,43 @@ use crate::joining::sorted;
 use crate::limits::{MAX_NESTING, MAX_WEIGHT, fits};
 use crate::polynomial::{Atoms, Monomial, Poly};
 use crate::products::product;
-use crate::weighing::weigh_factors;
+use crate::weighing::{weigh, weigh_factors};
 use std::alloc::{AllocError, Global};
 use wh_types::Or;
 
-/// The product so far.
+/// The product so far: a first value times a monomial.
 #[derive(Drop)]
-pub enum Growing {
-    /// A single monomial.
-    Single {
-        /// Its coefficient.
-        coefficient: u128,
-        /// Its factors, in any order.
-        factors: Atoms,
-        /// How much more it may weigh.
-        left: u32,
-    },
-    /// Any value.
-    Many(Poly),
+pub struct Growing {
+    // None stands for 1.
+    first: Option<Poly>,
+    // The greatest coefficient of the first value.
+    greatest: u128,
+    coefficient: u128,
+    // In any order.
+    factors: Atoms,
+    // How much more the factors may weigh.
+    left: u32,
+}
+
+/// What the monomial becomes with one more.
+#[derive(Clone, Copy)]
+pub struct Room {
+    coefficient: u128,
+    left: u32,
 }
 
 /// The product of no values: the number alone.
 pub fn start(alloc: Global, coefficient: u128) -> Result<Growing, AllocError>
+    requires { 1 ≤ coefficient }
     ensures { IfOk result (λ r. (grown r ≡ constant coefficient) × HasRoom r) }
 {
     fits(coefficient);
-    Ok(Growing::Single {
+    let factors = Atoms::new(alloc)?;
+    Ok(Growing {
+        first: None,
+        greatest: 1,
         coefficient,
-        factors: Atoms::new(alloc)?,
+        factors,
         left: MAX_WEIGHT - 1,
     })
 }
@@ -58,33 +67,34 @@ pub fn multiplied(alloc: Global, so_far: Growing, value: Poly) -> Result<Growing
     ensures ok { IfOk result (λ r. (grown r ≡ multiply (grown so_far) (poly value)) × HasRoom r) }
     ensures fault { IfBecause result (λ e. ExceedsAs e (multiply (grown so_far) (poly value))) }
 {
-    match so_far {
-        Growing::Many(p) => Ok(Growing::Many(product(alloc, &p, &value)?)),
-        Growing::Single {
-            coefficient,
-            factors,
-            left,
-        } => match only_monomial(value) {
-            Ok(item) => with_monomial(coefficient, factors, left, item),
-            Err(value) => {
-                let p = single(alloc, coefficient, factors)?;
-                Ok(Growing::Many(product(alloc, &p, &value)?))
-            }
-        },
+    match only_monomial(value) {
+        Ok(item) => with_monomial(alloc, so_far, item),
+        Err(value) => with_value(alloc, so_far, &value),
     }
 }
 
 /// The product.
 pub fn finish(alloc: Global, so_far: Growing) -> Result<Poly, AllocError>
+    requires { HasRoom so_far }
     ensures { IfOk result (λ r. poly r ≡ grown so_far) }
 {
-    match so_far {
-        Growing::Many(p) => Ok(p),
-        Growing::Single {
-            coefficient,
-            factors,
-            ..
-        } => single(alloc, coefficient, factors),
+    let Growing {
+        first,
+        coefficient,
+        factors,
+        ..
+    } = so_far;
+    let Some(p) = first else {
+        return single(alloc, coefficient, factors);
+    };
+    if coefficient == 1 && factors.as_slice().is_empty() {
+        return Ok(p);
+    }
+    let last = single(alloc, coefficient, factors)?;
+    match product(alloc, &p, &last) {
+        Ok(value) => Ok(value),
+        Err(Or::NoMemory) => Err(AllocError),
+        Err(Or::Because(_)) => unreachable!(),
     }
 }
 
@@ -101,35 +111,55 @@ fn only_monomial(value: Poly) -> Result<Monomial, Poly>
     }
 }
 
-// A single monomial times another.
-fn with_monomial(
-    coefficient: u128,
-    factors: Atoms,
-    left: u32,
-    item: Monomial,
-) -> Result<Growing, Or<Excess>>
-    requires ordered { OrderedFactors (atoms (out-Monomial item).atoms) }
-    requires room { HasRoom (one_monomial coefficient factors left) }
-    ensures ok { IfOk result (λ r. (grown r ≡ multiply (plus coefficient (joined (factors_of factors)) zero_poly) (plus (out-Monomial item).coefficient (atoms (out-Monomial item).atoms) zero_poly)) × HasRoom r) }
-    ensures fault { IfBecause result (λ e. ExceedsAs e (multiply (plus coefficient (joined (factors_of factors)) zero_poly) (plus (out-Monomial item).coefficient (atoms (out-Monomial item).atoms) zero_poly))) }
+// The product with one more monomial.
+fn with_monomial(alloc: Global, so_far: Growing, item: Monomial) -> Result<Growing, Or<Excess>>
+    requires room { HasRoom so_far }
+    requires left { Ordered (grown so_far) }
+    requires right { Ordered (plus (out-Monomial item).coefficient (atoms (out-Monomial item).atoms) zero_poly) }
+    ensures ok { IfOk result (λ r. (grown r ≡ multiply (grown so_far) (plus (out-Monomial item).coefficient (atoms (out-Monomial item).atoms) zero_poly)) × HasRoom r) }
+    ensures fault { IfBecause result (λ e. ExceedsAs e (multiply (grown so_far) (plus (out-Monomial item).coefficient (atoms (out-Monomial item).atoms) zero_poly))) }
 {
-    let Monomial {
-        coefficient: times,
-        atoms,
-    } = item;
-    let Some(coefficient) = coefficient.checked_mul(times) else {
-        return Err(Or::Because(Excess::Overflow));
-    };
-    fits(coefficient);
-    let Some(left) = weigh_factors(&atoms, left, MAX_NESTING) else {
-        return Err(Or::Because(Excess::TooLarge));
-    };
+    match room_for(&so_far, &item) {
+        Some(room) => Ok(extended(so_far, item, room)?),
+        None => {
+            let value = alone(alloc, item)?;
+            with_value(alloc, so_far, &value)
+        }
+    }
+}
+
+// What becomes of the monomial with one more, if the product then surely stays within the limits.
+fn room_for(so_far: &Growing, item: &Monomial) -> Option<Room>
+    ensures { IfSome result (TakesIn so_far.now item.now) }
+{
+    let coefficient = so_far.coefficient.checked_mul(item.coefficient)?;
+    fits(so_far.greatest.checked_mul(coefficient)?);
+    let left = weigh_factors(&item.atoms, so_far.left, MAX_NESTING)?;
+    Some(Room { coefficient, left })
+}
+
+// The monomial takes in one more.
+fn extended(so_far: Growing, item: Monomial, room: Room) -> Result<Growing, AllocError>
+    requires room { HasRoom so_far }
+    requires right { Ordered (plus (out-Monomial item).coefficient (atoms (out-Monomial item).atoms) zero_poly) }
+    requires takes { TakesIn so_far item room }
+    ensures { IfOk result (λ r. (grown r ≡ multiply (grown so_far) (plus (out-Monomial item).coefficient (atoms (out-Monomial item).atoms) zero_poly)) × HasRoom r) }
+{
+    let Growing {
+        first,
+        greatest,
+        factors,
+        ..
+    } = so_far;
+    let Monomial { atoms, .. } = item;
     let mut all = factors;
     append(&mut all, atoms)?;
-    Ok(Growing::Single {
-        coefficient,
+    Ok(Growing {
+        first,
+        greatest,
+        coefficient: room.coefficient,
         factors: all,
-        left,
+        left: room.left,
     })
 }
 
@@ -144,6 +174,64 @@ fn append(us: &mut Atoms, vs: Atoms) -> Result<(), AllocError>
     Ok(())
 }
 
+// The product with one more value, multiplied out.
+fn with_value(alloc: Global, so_far: Growing, value: &Poly) -> Result<Growing, Or<Excess>>
+    requires room { HasRoom so_far }
+    requires left { Ordered (grown so_far) }
+    requires right { Ordered (poly value.now) }
+    ensures ok { IfOk result (λ r. (grown r ≡ multiply (grown so_far) (poly value.now)) × HasRoom r) }
+    ensures fault { IfBecause result (λ e. ExceedsAs e (multiply (grown so_far) (poly value.now))) }
+{
+    let before = finish(alloc, so_far)?;
+    let whole = product(alloc, &before, value)?;
+    Ok(begun(alloc, whole)?)
+}
+
+// The value as the first one of a product.
+fn begun(alloc: Global, first: Poly) -> Result<Growing, AllocError>
+    requires ordered { Ordered (poly first) }
+    requires within { Exceeds (poly first) → ⊥ }
+    ensures { IfOk result (λ r. (grown r ≡ poly first) × HasRoom r) }
+{
+    let greatest = greatest_coefficient(&first);
+    let left = left_behind(&first);
+    fits(greatest);
+    let factors = Atoms::new(alloc)?;
+    Ok(Growing {
+        first: Some(first),
+        greatest,
+        coefficient: 1,
+        factors,
+        left,
+    })
+}
+
+// The greatest coefficient, 0 where there is none.
+fn greatest_coefficient(p: &Poly) -> u128
+    ensures { HasCoefficientsUpTo result (poly p.now) }
+{
+    let mut greatest = 0;
+    for item in p.as_slice() {
+        greatest = item.coefficient.max(greatest);
+    }
+    greatest
+}
+
+// How much the factors of a monomial may weigh, which each monomial of the value takes in.
+fn left_behind(p: &Poly) -> u32
+    requires { Exceeds (poly p.now) → ⊥ }
+    ensures { weight (poly p.now) + monomial_count (poly p.now) * result ≤ 65536 }
+{
+    let count = p.as_slice().len();
+    let Some(left) = weigh(p, MAX_WEIGHT, MAX_NESTING) else {
+        unreachable!();
+    };
+    if count == 0 {
+        return left;
+    }
+    (left as usize / count) as u32
+}
+
 // A coefficient times factors as a polynomial.
 fn single(alloc: Global, coefficient: u128, factors: Atoms) -> Result<Poly, AllocError>
     ensures { IfOk result (λ r. poly r ≡ plus coefficient (joined (factors_of factors)) zero_poly) }
@@ -153,5 +241,14 @@ fn single(alloc: Global, coefficient: u128, factors: Atoms) -> Result<Poly, Allo
     let atoms = sorted(alloc, &mut items, count)?;
     let mut value = Poly::new(alloc)?;
     value.push(Monomial { coefficient, atoms })?;
+    Ok(value)
+}
+
+// A monomial as a polynomial.
+fn alone(alloc: Global, item: Monomial) -> Result<Poly, AllocError>
+    ensures { IfOk result (λ r. poly r ≡ plus (out-Monomial item).coefficient (atoms (out-Monomial item).atoms) zero_poly) }
+{
+    let mut value = Poly::new(alloc)?;
+    value.push(item)?;
     Ok(value)
 }

@@ -20,7 +20,7 @@ use Rattle.wh_hopoly.proofs.FaultLaws.{ok_so, because_so, passed_on}
 use Rattle.wh_hopoly.proofs.OrderedLaws.{normal_ordered}
 use Rattle.wh_hopoly.proofs.NormalWalk.{one_type, not_past}
 use Rattle.wh_hopoly.proofs.RenumberLaws.{moved_by}
-use Rattle.wh_hopoly.proofs.GrowingLaws.{room_is_within}
+use Rattle.wh_hopoly.proofs.RoomLaws.{room_is_within}
 use Rattle.wh_hopoly.proofs.ReplacingLaws as laws
 use Rattle.wh_hopoly.proofs.replacing.+replace.Goals as goal
 
