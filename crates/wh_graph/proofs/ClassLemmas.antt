@@ -1,15 +1,12 @@
 -- Classes of mutual reachability, one after another.
-use Rattle.std.proofs.Common.{◌≡◌, ℕ, zero, suc, ◌+◌, ◌<◌, ◌⊎◌, inl, inr, Bool, true, false, not, List, [], ◌∷◌, ◌++◌, length, get_or, eqb, Option, Some, None, is_some, slice_get, Contains, refl, ap, sym, subst, ◌∙◌, arith}
+use Rattle.std.proofs.Common.{◌≡◌, ℕ, zero, suc, ◌+◌, ◌<◌, ◌⊎◌, inl, inr, Bool, true, false, not, List, [], ◌∷◌, ◌++◌, length, get_or, Option, Some, None, is_some, slice_get, Contains, refl, ap, sym, subst, ◌∙◌, arith}
 use Rattle.std.proofs.Math.ListN.{set, replicate}
-use Rattle.std.specs.Option.{option_eq}
-use Rattle.std.proofs.lemmas.Bool.Decides.{nat_tests}
 use Rattle.std.proofs.lemmas.Bool.{cases_eq, cases_lt}
 use Rattle.std.proofs.lemmas.List.{length-set}
 use Rattle.std.proofs.lemmas.List.Elements.{Contains-append_left, Contains-push, Contains-push_cases}
 use Rattle.std.proofs.lemmas.Option.{slice_get_within, get_or_from_slice_get}
-use Rattle.wh_graph.specs.Tables.{Edge, IsSquare}
 use Rattle.wh_graph.specs.Walks.{Path, stay, go, StandsUpTo, IsLeftInOrder, IsLeavingOrder}
-use Rattle.wh_graph.specs.Classes.{HasClass, IsNew, Grown, AreGiven}
+use Rattle.wh_graph.specs.Classes.{HasClass, IsPlaced, IsNew, Grown, AreGiven}
 use Rattle.wh_system.proofs.ByPlace.{some_one, read, place_of}
 use Rattle.wh_graph.proofs.PushLemmas.{set_here, set_there, same_marks}
 use Rattle.wh_graph.proofs.WalkLemmas.{path_join}
@@ -54,16 +51,13 @@ class_or_none (None ∷ of) zero within = inl refl
 class_or_none (Some c ∷ of) zero within = inr (c, refl)
 class_or_none (x ∷ of) (suc v) within = class_or_none of v (omega arith)
 
-none_has : (of : List (Option ℕ)) (v c : ℕ) → slice_get of v ≡ Some None → HasClass of v c → ⊥
+pub none_has : (of : List (Option ℕ)) (v c : ℕ) → slice_get of v ≡ Some None → HasClass of v c → ⊥
 none_has of v c none has = let both : ◌≡◌ {A = Option ℕ} None (Some c) = some_one none has in cc
 
-pub edge_target : (rows : List (List Bool)) (a b : ℕ) → IsSquare rows → Edge rows a b → b < length rows
-edge_target rows a b square (row, at, mark) = let within = slice_get_within row b _ mark in omega (arith, square a row at)
-
 -- the next class
-pub given_next : (rows : List (List Bool)) (order : List ℕ) (k r count : ℕ) (of new : List (Option ℕ)) → IsSquare rows → IsLeavingOrder rows order → AreGiven rows count of
-    → ((i v : ℕ) → k < i → slice_get order i ≡ Some v → (c : ℕ) × HasClass of v c) → slice_get order k ≡ Some r → Grown rows r count of new → AreGiven rows (count + 1) new
-given_next rows order k r count of new square leaving given passed at grown =
+pub given_next : (E : ℕ → ℕ → Type 0) (n : ℕ) (order : List ℕ) (k r count : ℕ) (of new : List (Option ℕ)) → ((a b : ℕ) → E a b → b < n) → IsLeavingOrder E n order → AreGiven E n count of
+    → ((i v : ℕ) → k < i → slice_get order i ≡ Some v → (c : ℕ) × HasClass of v c) → slice_get order k ≡ Some r → Grown E r count of new → AreGiven E n (count + 1) new
+given_next E n order k r count of new target_within leaving given passed at grown =
     let early : (w : ℕ) → slice_get of w ≡ Some None → StandsUpTo order k w = λ w none.
     let within = slice_get_within of w None none in
     let there = place_of order w (leaving.whole w (omega (arith, given.size))) in
@@ -71,13 +65,13 @@ given_next rows order k r count of new square leaving given passed at grown =
       | inl later ↦ let has = passed there.0 w later there.1 in absurd (none_has of w has.0 none has.1)
       | inr le ↦ (there.0, le, there.1)
     ] in
-    let closed : (a b : ℕ) → slice_get of a ≡ Some None → Edge rows a b → slice_get of b ≡ Some None = λ a b none edge.
-    let target = edge_target rows a b square edge in
+    let closed : (a b : ℕ) → slice_get of a ≡ Some None → E a b → slice_get of b ≡ Some None = λ a b none edge.
+    let target = target_within a b edge in
     elim (class_or_none of b (omega (arith, given.size))) [
       | inl free ↦ free
       | inr (c, has) ↦ let from = given.back b a c edge has in absurd (none_has of a from.0 none from.1)
     ] in
-    let old_or_new : (v c : ℕ) → HasClass new v c → HasClass of v c ⊎ ((c ≡ count) × (slice_get of v ≡ Some None) × Path (Edge rows) v r) = grown.given in
+    let old_or_new : (v c : ℕ) → HasClass new v c → HasClass of v c ⊎ ((c ≡ count) × (slice_get of v ≡ Some None) × Path E v r) = grown.given in
     let under : (v c : ℕ) → HasClass new v c → c < count + 1 = λ v c has. elim (old_or_new v c has) [
       | inl old ↦ let less = given.below v c old in omega arith
       | inr fresh ↦ omega (arith, fresh.0)
@@ -98,7 +92,7 @@ given_next rows order k r count of new square leaving given passed at grown =
         ]
         | inr fresh_x ↦ elim (old_or_new y c has_y) [
           | inl old_y ↦ let less = given.below y c old_y in absurd (omega (arith, fresh_x.0))
-          | inr fresh_y ↦ path_join fresh_x.2 (back_all (Edge rows) order k r (λ w. slice_get of w ≡ Some None) leaving.ordered leaving.once at early closed y fresh_y.2 fresh_y.1).1
+          | inr fresh_y ↦ path_join fresh_x.2 (back_all E order k r (λ w. slice_get of w ≡ Some None) leaving.ordered leaving.once at early closed y fresh_y.2 fresh_y.1).1
         ]
       ];
       filled = λ c less. elim (cases_lt c count) [
@@ -109,9 +103,9 @@ given_next rows order k r count of new square leaving given passed at grown =
       ];
     }
 
-pub given_none : (rows : List (List Bool)) (n : ℕ) → n ≡ length rows → length (replicate {A = Option ℕ} n None) ≡ n → AreGiven rows 0 (replicate n None)
-given_none rows n size long =
-    let nobody : (v c : ℕ) → HasClass (replicate n None) v c → ⊥ = λ v c has. let both : ◌≡◌ {A = Option ℕ} None (Some c) = same_marks n None v (Some c) has in cc in
+pub given_none : (E : ℕ → ℕ → Type 0) (n m : ℕ) → m ≡ n → length (replicate {A = Option ℕ} m None) ≡ m → AreGiven E n 0 (replicate m None)
+given_none E n m size long =
+    let nobody : (v c : ℕ) → HasClass (replicate m None) v c → ⊥ = λ v c has. let both : ◌≡◌ {A = Option ℕ} None (Some c) = same_marks m None v (Some c) has in cc in
     record {
       size = long ∙ size;
       below = λ v c has. absurd (nobody v c has);
@@ -121,20 +115,24 @@ given_none rows n size long =
     }
 
 -- one class, while it grows: what is on the stack may still have predecessors without a class
-pub record Growing (rows : List (List Bool)) (root number : ℕ) (old new : List (Option ℕ)) (stack : List ℕ) : Type 0 where
+pub record Growing (E : ℕ → ℕ → Type 0) (root number : ℕ) (old new : List (Option ℕ)) (stack : List ℕ) : Type 0 where
   pub fresh : IsNew number old
   pub size : length new ≡ length old
   pub kept : (v c : ℕ) → HasClass old v c → HasClass new v c
-  pub given : (v c : ℕ) → HasClass new v c → HasClass old v c ⊎ ((c ≡ number) × (slice_get old v ≡ Some None) × Path (Edge rows) v root)
+  pub given : (v c : ℕ) → HasClass new v c → HasClass old v c ⊎ ((c ≡ number) × (slice_get old v ≡ Some None) × Path E v root)
   pub root_has : HasClass new root number
   pub on_stack : (x : ℕ) → Contains stack x → HasClass new x number
-  pub closed : (x : ℕ) → HasClass new x number → Contains stack x ⊎ ((y : ℕ) → Edge rows y x → (d : ℕ) × HasClass new y d)
+  pub closed : (x : ℕ) → HasClass new x number → Contains stack x ⊎ ((y : ℕ) → E y x → (d : ℕ) × HasClass new y d)
 
 has_stays : (of : List (Option ℕ)) (w number v c : ℕ) → slice_get of w ≡ Some None → HasClass of v c → HasClass (set of w (Some number)) v c
 has_stays of w number v c none has = elim (cases_eq w v) [
   | inl same ↦ absurd (none_has of v c (sym (ap (slice_get of) same) ∙ none) has)
   | inr other ↦ set_there of w v (Some number) other ∙ has
 ]
+
+-- a vertex that has a class has one when another is given one
+pub placed_stays : (of : List (Option ℕ)) (w number v : ℕ) → slice_get of w ≡ Some None → IsPlaced of v → IsPlaced (set of w (Some number)) v
+placed_stays of w number v none (c, has) = (c, has_stays of w number v c none has)
 
 has_now : (of : List (Option ℕ)) (w number v c : ℕ) → w < length of → HasClass (set of w (Some number)) v c → HasClass of v c ⊎ ((w ≡ v) × (c ≡ number))
 has_now of w number v c within has = elim (cases_eq w v) [
@@ -144,8 +142,8 @@ has_now of w number v c within has = elim (cases_eq w v) [
   | inr other ↦ inl (sym (set_there of w v (Some number) other) ∙ has)
 ]
 
-pub grow_start : (rows : List (List Bool)) (root number : ℕ) (old : List (Option ℕ)) → IsNew number old → slice_get old root ≡ Some None → Growing rows root number old (set old root (Some number)) (root ∷ [])
-grow_start rows root number old fresh none =
+pub grow_start : (E : ℕ → ℕ → Type 0) (root number : ℕ) (old : List (Option ℕ)) → IsNew number old → slice_get old root ≡ Some None → Growing E root number old (set old root (Some number)) (root ∷ [])
+grow_start E root number old fresh none =
     let within = slice_get_within old root None none in
     let has_root : HasClass (set old root (Some number)) root number = set_here old root (Some number) within in
     let there : Contains (root ∷ []) root = (0, omega arith, refl) in
@@ -155,7 +153,7 @@ grow_start rows root number old fresh none =
       kept = λ v c has. has_stays old root number v c none has;
       given = λ v c has. elim (has_now old root number v c within has) [
         | inl before ↦ inl before
-        | inr now ↦ inr (now.1, sym (ap (slice_get old) now.0) ∙ none, subst (λ x. Path (Edge rows) x root) now.0 stay)
+        | inr now ↦ inr (now.1, sym (ap (slice_get old) now.0) ∙ none, subst (λ x. Path E x root) now.0 stay)
       ];
       root_has = has_root;
       on_stack = λ x found. elim (Contains-push_cases [] root x found) [
@@ -168,13 +166,13 @@ grow_start rows root number old fresh none =
       ];
     }
 
-pub grow_more : (rows : List (List Bool)) (root number : ℕ) (old new : List (Option ℕ)) (rest : List ℕ) (v w : ℕ) → Growing rows root number old new (rest ++ v ∷ []) → Edge rows w v → slice_get new w ≡ Some None
-    → Growing rows root number old (set new w (Some number)) ((rest ++ v ∷ []) ++ w ∷ [])
-grow_more rows root number old new rest v w growing edge none =
+pub grow_more : (E : ℕ → ℕ → Type 0) (root number : ℕ) (old new : List (Option ℕ)) (rest : List ℕ) (v w : ℕ) → Growing E root number old new (rest ++ v ∷ []) → E w v → slice_get new w ≡ Some None
+    → Growing E root number old (set new w (Some number)) ((rest ++ v ∷ []) ++ w ∷ [])
+grow_more E root number old new rest v w growing edge none =
     let stack = rest ++ v ∷ [] in
     let within = slice_get_within new w None none in
     let now : HasClass (set new w (Some number)) w number = set_here new w (Some number) within in
-    let from_v : Path (Edge rows) v root = elim (growing.given v number (growing.on_stack v (Contains-push rest v))) [
+    let from_v : Path E v root = elim (growing.given v number (growing.on_stack v (Contains-push rest v))) [
       | inl before ↦ absurd (growing.fresh v before)
       | inr fresh ↦ fresh.2
     ] in
@@ -188,7 +186,7 @@ grow_more rows root number old new rest v w growing edge none =
       kept = λ x c has. has_stays new w number x c none (growing.kept x c has);
       given = λ x c has. elim (has_now new w number x c within has) [
         | inl before ↦ growing.given x c before
-        | inr here ↦ inr (here.1, sym (ap (slice_get old) here.0) ∙ unplaced, subst (λ y. Path (Edge rows) y root) here.0 (go edge from_v))
+        | inr here ↦ inr (here.1, sym (ap (slice_get old) here.0) ∙ unplaced, subst (λ y. Path E y root) here.0 (go edge from_v))
       ];
       root_has = has_stays new w number root number none growing.root_has;
       on_stack = λ x found. elim (Contains-push_cases stack w x found) [
@@ -204,9 +202,9 @@ grow_more rows root number old new rest v w growing edge none =
       ];
     }
 
-pub grow_leave : (rows : List (List Bool)) (root number : ℕ) (old new : List (Option ℕ)) (rest : List ℕ) (v : ℕ) → Growing rows root number old new (rest ++ v ∷ []) → ((y : ℕ) → Edge rows y v → (d : ℕ) × HasClass new y d)
-    → Growing rows root number old new rest
-grow_leave rows root number old new rest v growing all = record {
+pub grow_leave : (E : ℕ → ℕ → Type 0) (root number : ℕ) (old new : List (Option ℕ)) (rest : List ℕ) (v : ℕ) → Growing E root number old new (rest ++ v ∷ []) → ((y : ℕ) → E y v → (d : ℕ) × HasClass new y d)
+    → Growing E root number old new rest
+grow_leave E root number old new rest v growing all = record {
   fresh = growing.fresh;
   size = growing.size;
   kept = growing.kept;
@@ -216,14 +214,14 @@ grow_leave rows root number old new rest v growing all = record {
   closed = λ x has. elim (growing.closed x has) [
     | inl there ↦ elim (Contains-push_cases rest v x there) [
       | inl before ↦ inl before
-      | inr same ↦ inr (λ y edge. all y (subst (Edge rows y) (sym same) edge))
+      | inr same ↦ inr (λ y edge. all y (subst (E y) (sym same) edge))
     ]
     | inr done ↦ inr done
   ];
 }
 
-pub grown_all : (rows : List (List Bool)) (root number : ℕ) (old new : List (Option ℕ)) → Growing rows root number old new [] → Grown rows root number old new
-grown_all rows root number old new growing = record {
+pub grown_all : (E : ℕ → ℕ → Type 0) (root number : ℕ) (old new : List (Option ℕ)) → Growing E root number old new [] → Grown E root number old new
+grown_all E root number old new growing = record {
   size = growing.size;
   kept = growing.kept;
   given = growing.given;
@@ -256,29 +254,6 @@ read_class of v none within says is = elim (class_or_none of v within) [
       let both : false ≡ true = sym (ap is_some empty) ∙ says ∙ ap not is in cc
   | inr has ↦ has
 ]
-
-pub read_none : (of : List (Option ℕ)) (v : ℕ) (none : Bool) → v < length of → is_some (get_or of v None) ≡ not none → none ≡ true → slice_get of v ≡ Some None
-read_none of v none within says is = elim (class_or_none of v within) [
-  | inl free ↦ free
-  | inr (c, has) ↦
-      let full : get_or of v None ≡ Some c = get_or_from_slice_get of v (Some c) None has in
-      let both : true ≡ false = sym (ap is_some full) ∙ says ∙ ap not is in cc
-]
-
-pub class_equal : (of : List (Option ℕ)) (v c : ℕ) → v < length of → option_eq eqb (get_or of v None) (Some c) ≡ true → HasClass of v c
-class_equal of v c within same = elim (class_or_none of v within) [
-  | inl free ↦
-      let both : ◌≡◌ {A = Bool} false true = sym (ap (λ o. option_eq eqb o (Some c)) (get_or_from_slice_get of v None None free)) ∙ same in cc
-  | inr (d, has) ↦
-      let both : eqb d c ≡ true = sym (ap (λ o. option_eq eqb o (Some c)) (get_or_from_slice_get of v (Some d) None has)) ∙ same in
-      let one : d ≡ c = grind (arith, nat_tests, both) in
-      subst (HasClass of v) one has
-]
-
-pub class_unequal : (of : List (Option ℕ)) (v c : ℕ) → v < length of → option_eq eqb (get_or of v None) (Some c) ≡ false → HasClass of v c → ⊥
-class_unequal of v c within other has =
-    let both : eqb c c ≡ false = sym (ap (λ o. option_eq eqb o (Some c)) (get_or_from_slice_get of v (Some c) None has)) ∙ other in
-    grind (arith, nat_tests, both)
 
 -- the same, where the walk read the place
 pub class_at : (of : List (Option ℕ)) (v : ℕ) (x : Option ℕ) (none : Bool) → v < length of → x ≡ get_or of v x → is_some x ≡ not none → none ≡ false → (c : ℕ) × HasClass of v c

@@ -8,5 +8,5 @@ pub mod FollowLemmas
 pub mod PushLemmas
 pub mod WalkLemmas
 pub mod ClassLemmas
-pub mod TableLemmas
+pub mod GraphLemmas
 pub mod ComponentLemmas

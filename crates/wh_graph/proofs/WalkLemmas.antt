@@ -5,7 +5,6 @@ use Rattle.std.proofs.lemmas.Bool.{cases_eq}
 use Rattle.std.proofs.lemmas.List.{length-set}
 use Rattle.std.proofs.lemmas.List.Elements.{Contains-append_left, Contains-push, Contains-push_cases}
 use Rattle.std.proofs.lemmas.Option.{slice_get_within}
-use Rattle.wh_graph.specs.Tables.{Edge}
 use Rattle.wh_graph.specs.Walks.{Path, stay, go, Walked, IsLeavingOrder}
 use Rattle.wh_system.proofs.ByPlace.{contains_at, place_of}
 use Rattle.wh_graph.proofs.PushLemmas.{push_old, push_new, push_cases, set_here, set_there, same_marks}
@@ -29,9 +28,9 @@ seen_now seen w x here = elim (cases_eq w x) [
 ]
 
 -- a new vertex joins the stack
-pub walked_push : (rows : List (List Bool)) (seen : List Bool) (stack left : List ℕ) (w : ℕ) → Walked rows seen stack left → slice_get seen w ≡ Some false
-    → ((k u : ℕ) → slice_get stack k ≡ Some u → Path (Edge rows) u w) → Walked rows (set seen w true) (stack ++ w ∷ []) left
-walked_push rows seen stack left w walked unseen paths =
+pub walked_push : (E : ℕ → ℕ → Type 0) (n : ℕ) (seen : List Bool) (stack left : List ℕ) (w : ℕ) → Walked E n seen stack left → slice_get seen w ≡ Some false
+    → ((k u : ℕ) → slice_get stack k ≡ Some u → Path E u w) → Walked E n (set seen w true) (stack ++ w ∷ []) left
+walked_push E n seen stack left w walked unseen paths =
     let now : slice_get (set seen w true) w ≡ Some true = set_here seen w true (slice_get_within seen w false unseen) in
     record {
       size = length-set seen w true ∙ walked.size;
@@ -53,8 +52,8 @@ walked_push rows seen stack left w walked unseen paths =
           | inr new_j ↦ let within = slice_get_within stack k x old_k in absurd (omega (arith, new_j.0))
         ]
         | inr new_k ↦ elim (push_cases stack w j u at_j) [
-          | inl old_j ↦ subst (Path (Edge rows) u) (sym new_k.1) (paths j u old_j)
-          | inr new_j ↦ subst (Path (Edge rows) u) (new_j.1 ∙ sym new_k.1) stay
+          | inl old_j ↦ subst (Path E u) (sym new_k.1) (paths j u old_j)
+          | inr new_j ↦ subst (Path E u) (new_j.1 ∙ sym new_k.1) stay
         ]
       ];
       apart = λ x gone there. elim (Contains-push_cases stack w x there) [
@@ -79,14 +78,14 @@ walked_push rows seen stack left w walked unseen paths =
     }
 
 -- the top of the stack is left, when all that follows it was seen
-pub walked_leave : (rows : List (List Bool)) (seen : List Bool) (rest : List ℕ) (v : ℕ) (left : List ℕ) → Walked rows seen (rest ++ v ∷ []) left
-    → ((w : ℕ) → Edge rows v w → slice_get seen w ≡ Some true) → Walked rows seen rest (left ++ v ∷ [])
-walked_leave rows seen rest v left walked followers =
+pub walked_leave : (E : ℕ → ℕ → Type 0) (n : ℕ) (seen : List Bool) (rest : List ℕ) (v : ℕ) (left : List ℕ) → Walked E n seen (rest ++ v ∷ []) left
+    → ((w : ℕ) → E v w → slice_get seen w ≡ Some true) → Walked E n seen rest (left ++ v ∷ [])
+walked_leave E n seen rest v left walked followers =
     let on_top : Contains (rest ++ v ∷ []) v = Contains-push rest v in
     let missing : Contains left v → ⊥ = λ gone. walked.apart v gone on_top in
-    let sees : (u w : ℕ) → Contains (left ++ v ∷ []) u → Edge rows u w → slice_get seen w ≡ Some true = λ u w gone edge. elim (Contains-push_cases left v u gone) [
+    let sees : (u w : ℕ) → Contains (left ++ v ∷ []) u → E u w → slice_get seen w ≡ Some true = λ u w gone edge. elim (Contains-push_cases left v u gone) [
       | inl before ↦ walked.closed u w before edge
-      | inr same ↦ followers w (subst (λ x. Edge rows x w) (sym same) edge)
+      | inr same ↦ followers w (subst (λ x. E x w) (sym same) edge)
     ] in
     record {
       size = walked.size;
@@ -143,17 +142,17 @@ walked_leave rows seen rest v left walked followers =
                 | inl old ↦ let below = slice_get_within rest at.0 w old in omega arith
                 | inr new ↦ omega (arith, new.0)
               ] in
-              inr (subst (Path (Edge rows) w) (sym new_i.1) (walked.path at.0 (length rest) w v within at.1 top))
+              inr (subst (Path E w) (sym new_i.1) (walked.path at.0 (length rest) w v within at.1 top))
         ]
       ];
     }
 
 -- before the walk, and after it
 
-pub walked_none : (rows : List (List Bool)) → (n : ℕ) → n ≡ length rows → length (replicate n false) ≡ n → Walked rows (replicate n false) [] []
-walked_none rows n size long = record {
+pub walked_none : (E : ℕ → ℕ → Type 0) (n m : ℕ) → m ≡ n → length (replicate m false) ≡ m → Walked E n (replicate m false) [] []
+walked_none E n m size long = record {
   size = long ∙ size;
-  seen_are = λ w here. let both : false ≡ true = same_marks n false w true here in cc;
+  seen_are = λ w here. let both : false ≡ true = same_marks m false w true here in cc;
   left_seen = λ w (k, within, at). absurd (omega arith);
   stack_seen = λ w (k, within, at). absurd (omega arith);
   path = λ j k u w le at_j at_k. cc;
@@ -164,8 +163,8 @@ walked_none rows n size long = record {
   ordered = λ i j y u w at_i le at_j edge. cc;
 }
 
-pub walked_all : (rows : List (List Bool)) (seen : List Bool) (left : List ℕ) → Walked rows seen [] left → ((v : ℕ) → v < length rows → slice_get seen v ≡ Some true) → IsLeavingOrder rows left
-walked_all rows seen left walked all = record {
+pub walked_all : (E : ℕ → ℕ → Type 0) (n : ℕ) (seen : List Bool) (left : List ℕ) → Walked E n seen [] left → ((v : ℕ) → v < n → slice_get seen v ≡ Some true) → IsLeavingOrder E n left
+walked_all E n seen left walked all = record {
   within = λ v gone. let below = slice_get_within seen v true (walked.left_seen v gone) in omega (arith, walked.size);
   whole = λ v below. elim (walked.seen_are v (all v below)) [
     | inl gone ↦ gone
@@ -190,8 +189,8 @@ one_less_unseen (true ∷ marks) (suc w) at = one_less_unseen marks w at
 one_less_unseen (false ∷ marks) (suc w) at = let less = one_less_unseen marks w at in omega arith
 
 -- each vertex on the stack leads to the top
-pub path_to_top : (rows : List (List Bool)) (seen : List Bool) (rest : List ℕ) (v : ℕ) (left : List ℕ) → Walked rows seen (rest ++ v ∷ []) left → (k u : ℕ) → slice_get (rest ++ v ∷ []) k ≡ Some u → Path (Edge rows) u v
-path_to_top rows seen rest v left walked k u at =
+pub path_to_top : (E : ℕ → ℕ → Type 0) (n : ℕ) (seen : List Bool) (rest : List ℕ) (v : ℕ) (left : List ℕ) → Walked E n seen (rest ++ v ∷ []) left → (k u : ℕ) → slice_get (rest ++ v ∷ []) k ≡ Some u → Path E u v
+path_to_top E n seen rest v left walked k u at =
     let within : k ≤ length rest = elim (push_cases rest v k u at) [
       | inl old ↦ let below = slice_get_within rest k u old in omega arith
       | inr new ↦ omega (arith, new.0)

@@ -5,6 +5,6 @@ pub mod Components
 pub mod Blocks
 pub mod Least
 pub mod Times
-pub mod Tables
+pub mod Graphs
 pub mod Walks
 pub mod Classes

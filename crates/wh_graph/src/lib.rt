@@ -6,13 +6,14 @@ mod blocks;
 mod clash;
 mod classes;
 mod component;
+mod edges;
 mod follow;
 mod least;
 mod places;
 mod root;
-mod table;
 mod walk;
 
 pub use blocks::{BlockFault, check_blocks};
 pub use component::components;
+pub use edges::Graph;
 pub use follow::may_follow;

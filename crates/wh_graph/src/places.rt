@@ -140,8 +140,8 @@ pub fn block_of(blocks: &[Numbers], number: u32) -> usize
     blocks.len()
 }
 
-// Whether the list has the number.
-fn is_in(list: &[u32], number: u32) -> bool
+/// Whether the list has the number.
+pub fn is_in(list: &[u32], number: u32) -> bool
     ensures { IsTrue result ↔ Contains list.now number }
 {
     for item in list {

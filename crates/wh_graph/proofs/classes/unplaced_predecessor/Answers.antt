@@ -1,26 +1,44 @@
-use Rattle.std.proofs.Common.{◌≡◌, ℕ, Some, slice_get, inl, inr, sym, subst, arith}
-use Rattle.std.proofs.lemmas.Option.{slice_get_within}
-use Rattle.wh_graph.specs.Tables.{Edge}
-use Rattle.wh_system.proofs.ByPlace.{same_or_below}
-use Rattle.wh_graph.proofs.ClassLemmas.{read_class}
+use Rattle.std.proofs.Common.{◌≡◌, Some, length, get_or, slice_get, sym, ap, ◌∙◌, arith}
+use Rattle.wh_system.proofs.ByPlace.{number_at}
+use Rattle.wh_graph.specs.Classes.{IsPlaced}
+use Rattle.wh_graph.proofs.GraphLemmas.{row_at, row_within, passed_on, passed_edges, edge_at}
 use Rattle.wh_graph.proofs.classes.unplaced_predecessor.Goals as goal
-use Rattle.wh_graph.proofs.classes.unplaced_predecessor.Goals.{else-is_none-via-then-is_none+else-has_edge, else-is_none-via-else-is_none}
 
-pub loop-other-preserved : goal.loop-other-preserved
-loop-other-preserved c =
-    let v = c.loop-other.other in
-    let of = c.args.of.now in
-    λ y below edge. elim (same_or_below y v below) [
-      | inl same ↦ elim c.else-is_none.branch [
-        | else-is_none-via-then-is_none+else-has_edge w ↦
-            let here : Edge c.args.table.now v c.args.vertex = subst (λ (u : ℕ). Edge c.args.table.now u c.args.vertex) same edge in
-            cc (w.has_edge.ensures.1 here, w.if-has_edge.false)
-        | else-is_none-via-else-is_none w ↦
-            let has = read_class of v c.is_none.result (omega arith) c.is_none.ensures w.if-is_none.false in
-            (has.0, subst (λ (u : ℕ). slice_get of u ≡ Some (Some has.0)) (sym same) has.1)
-      ]
-      | inr less ↦ c.loop-other.invariant y less edge
-    ]
+pub first_unplaced-place-requires : goal.first_unplaced-place-requires
+first_unplaced-place-requires c =
+    let rows = c.args.rows.now in
+    let v = c.args.vertex in
+    let row = c.as_slice-row.result.now in
+    let at : slice_get rows v ≡ Some row = row_at rows v c.index-rows-vertex.result c.requires.vertex c.index-rows-vertex.is ∙ ap Some (sym c.as_slice-row.ensures) in
+    row_within rows v (length c.args.of.now) row c.requires.within at c.requires.size
 
-pub returns : goal.returns
-returns c = λ y (row, at, mark). c.loop-other.invariant y (omega (arith, slice_get_within c.args.table.now y row at, c.loop-other-test.false)) (row, at, mark)
+pub returns-then-place-row : goal.returns-then-place-row
+returns-then-place-row c =
+    let P = IsPlaced c.args.of.now in
+    let rows = c.args.rows.now in
+    let v = c.args.vertex in
+    let next = c.args.next.now in
+    let row = c.as_slice-row.result.now in
+    let place = c.first_unplaced-place.result in
+    let at : slice_get rows v ≡ Some row = row_at rows v c.index-rows-vertex.result c.requires.vertex c.index-rows-vertex.is ∙ ap Some (sym c.as_slice-row.ensures) in
+    let was = number_at next v (omega (arith, c.requires.vertex, c.requires.passed.size)) in
+    let here = number_at row place c.if-place-row.true in
+    record {
+      passed = passed_on P rows next v (get_or next v 0) place row c.requires.passed at was c.first_unplaced-place.ensures.passed;
+      found = (edge_at rows v place (get_or row place 0) row at here, c.first_unplaced-place.ensures.found (get_or row place 0) here);
+    }
+
+pub returns-else-place-row : goal.returns-else-place-row
+returns-else-place-row c =
+    let P = IsPlaced c.args.of.now in
+    let rows = c.args.rows.now in
+    let v = c.args.vertex in
+    let next = c.args.next.now in
+    let row = c.as_slice-row.result.now in
+    let place = c.first_unplaced-place.result in
+    let at : slice_get rows v ≡ Some row = row_at rows v c.index-rows-vertex.result c.requires.vertex c.index-rows-vertex.is ∙ ap Some (sym c.as_slice-row.ensures) in
+    let was = number_at next v (omega (arith, c.requires.vertex, c.requires.passed.size)) in
+    record {
+      passed = passed_on P rows next v (get_or next v 0) place row c.requires.passed at was c.first_unplaced-place.ensures.passed;
+      found = passed_edges P rows next v (get_or next v 0) place row c.requires.passed at was c.first_unplaced-place.ensures.passed c.if-place-row.false;
+    }

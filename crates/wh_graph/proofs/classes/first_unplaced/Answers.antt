@@ -1,0 +1,23 @@
+use Rattle.std.proofs.Common.{◌<◌, inl, inr, length, get_or, slice_get, sym, ap, subst, ◌∙◌, arith}
+use Rattle.std.proofs.lemmas.List.Elements.{All-get_or}
+use Rattle.std.proofs.lemmas.Option.{slice_get_within}
+use Rattle.wh_system.proofs.ByPlace.{number_at, same_or_below, some_one}
+use Rattle.wh_graph.specs.Classes.{IsPlaced}
+use Rattle.wh_graph.proofs.ClassLemmas.{read_class}
+use Rattle.wh_graph.proofs.classes.first_unplaced.Goals as goal
+
+pub loop-place-preserved : goal.loop-place-preserved
+loop-place-preserved c =
+    let row = c.args.row.now in
+    let of = c.args.of.now in
+    let place = c.loop-place.place in
+    let v = get_or row place 0 in
+    let within : v < length of = All-get_or (λ w. w < length of) row place 0 c.loop-place-test.true c.requires in
+    let has = read_class of v c.is_none.result within c.is_none.ensures c.if-is_none.false in
+    λ k w from below at. elim (same_or_below k place below) [
+      | inl same ↦ subst (IsPlaced of) (some_one (number_at row place c.loop-place-test.true) (ap (slice_get row) (sym same) ∙ at)) has
+      | inr less ↦ c.loop-place.invariant k w from less at
+    ]
+
+pub returns-clause-found : goal.returns-clause-found
+returns-clause-found c = λ w at. let within = slice_get_within c.args.row.now (length c.args.row.now) w at in absurd (omega arith)

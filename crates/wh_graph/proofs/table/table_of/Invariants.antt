@@ -1,9 +1,0 @@
-use Rattle.std.proofs.Common.{map}
-use Rattle.wh_system.specs.PairData.{pair_data}
-use Rattle.wh_system.specs.SystemView.{system_data}
-use Rattle.wh_graph.specs.May.{Follows}
-use Rattle.wh_graph.proofs.TableLemmas.{AreRows}
-use Rattle.wh_graph.proofs.table.table_of.Given as goal
-
-abbrev pub invariant-loop-number : goal.invariant-loop-number
-invariant-loop-number l = AreRows (Follows (system_data l.system).rules (map pair_data l.pairs)) l.set l.number-index l.table.items
