@@ -1,6 +1,6 @@
 -- What a product that grows may still take in.
 use Rattle.std.proofs.Common.{◌≡◌, ℕ, ◌+◌, ◌*◌, ◌<◌, ◌≤◌, ◌^◌, inl, inr, List, [], ◌∷◌, ◌++◌, length, take, get_or, refl, ap, ap₂, sym, subst, ◌∙◌, arith, one-mul, mul-one, mul-le-mul, mul_comm, div-mul-le_self, le_refl, ◌/◌}
-use Rattle.std.specs.Prelude.{Option, Some, Result, Err}
+use Rattle.std.specs.Prelude.{Some, Result, Err}
 use Rattle.wh_types.specs.Outcome.{IfBecause}
 use Rattle.wh_types.specs.declared.want.Or.{Or}
 use Rattle.wh_types.specs.declared.want.Or.TheVariants.{Because}

@@ -1,5 +1,5 @@
 -- Products with one monomial on the right: two of them are one with the factors of both, and no two monomials become one.
-use Rattle.std.proofs.Common.{◌≡◌, ℕ, suc, ◌+◌, ◌*◌, ◌<◌, ◌≤◌, ◌^◌, ◌⊎◌, inl, inr, refl, ap, ap₂, sym, subst, ◌∙◌, arith, mul_assoc, add-mul, mul-one, one-mul, mul-le-mul, le_refl, Ordering, Less, Equal, Greater}
+use Rattle.std.proofs.Common.{◌≡◌, ℕ, ◌+◌, ◌*◌, ◌<◌, ◌≤◌, ◌^◌, inl, inr, refl, ap, ap₂, sym, ◌∙◌, arith, mul_assoc, add-mul, mul-one, one-mul, mul-le-mul, le_refl, Ordering, Less, Equal, Greater}
 use Rattle.std.specs.Prelude.{max}
 use Rattle.wh_hopoly.specs.Polynomials.{Polynomial, zero_poly, plus, Factors, no_factors, times, Arguments, compare_factors, compare_factor, MonomialBefore, Sorted, OrderedFactors, Ordered}
 use Rattle.wh_hopoly.specs.Arithmetic.{by_order, add_monomial, join_factor, join_factors, multiply, constant}
@@ -10,7 +10,7 @@ use Rattle.wh_hopoly.proofs.SumLaws.{add_front, before_then, one_product}
 use Rattle.wh_hopoly.proofs.JoinLaws.{join_front}
 use Rattle.wh_hopoly.proofs.CoefficientLaws.{coefficient, coefficient_add, two_parts}
 use Rattle.wh_hopoly.proofs.OrderedLaws.{ordered_add, ordered_joins, ordered_multiply, ordered_sorted, equal_ordered}
-use Rattle.wh_hopoly.proofs.GrowingLaws.{join_behind, join_commutes, join_out, weight_joins, nesting_joins}
+use Rattle.wh_hopoly.proofs.GrowingLaws.{join_commutes, join_out, weight_joins, nesting_joins}
 
 abbrev pub one : ℕ → Factors → Polynomial
 one c us = plus c us zero_poly

@@ -1,8 +1,8 @@
 -- Each coefficient so far is at most the greatest.
-use Rattle.std.proofs.Common.{◌≡◌, ap, sym, subst, ◌∙◌, arith, take, rules}
+use Rattle.std.proofs.Common.{◌≡◌, ap, sym, subst, ◌∙◌, arith, take}
 use Rattle.std.proofs.Math.Seq.{take_all}
 use Rattle.wh_hopoly.specs.Growing.{HasCoefficientsUpTo}
-use Rattle.wh_hopoly.specs.Erase.{poly, sum_of}
+use Rattle.wh_hopoly.specs.Erase.{sum_of}
 use Rattle.wh_hopoly.proofs.Lists.{poly_is}
 use Rattle.wh_hopoly.proofs.RoomLaws.{up_to_next}
 use Rattle.wh_hopoly.proofs.growing.greatest_coefficient.Goals as goal
