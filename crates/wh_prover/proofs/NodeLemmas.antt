@@ -1,13 +1,11 @@
 -- A node for a set, from the answers of its parts.
-use Rattle.std.proofs.Common.{◌≡◌, ◌≢◌, ◌↔◌, ℕ, ◌^◌, ◌<◌, ◌≤◌, ◌==◌, eqb-true, Bool, true, false, not, List, [], ◌∷◌, ◌++◌, length, map, get_or, Some, slice_get, IsTrue, All, refl, sym, ap, subst, ◌∙◌, arith}
+use Rattle.std.proofs.Common.{◌≡◌, ◌≢◌, ◌↔◌, ℕ, ◌^◌, ◌<◌, ◌≤◌, ◌==◌, eqb-true, Bool, true, false, not, List, [], ◌∷◌, ◌++◌, length, get_or, IsTrue, All, refl, sym, ap, subst, ◌∙◌, arith}
 use Rattle.std.proofs.lemmas.List.Elements.{All-nil, All-cons}
 use Rattle.wh_terms.specs.Rules.{RewriteRule}
 use Rattle.wh_system.specs.Systems.{SystemData}
 use Rattle.wh_system.specs.WellMade.{IsWellMadeSystem}
-use Rattle.wh_system.specs.PairData.{PairData, pair_data, IsIncreasing}
-use Rattle.wh_system.specs.declared.pairs.Pair.{Pair}
-use Rattle.wh_system.proofs.ByPlace.{some_one, read_map}
-use Rattle.wh_graph.specs.May.{May, Follows}
+use Rattle.wh_system.specs.PairData.{PairData, IsIncreasing}
+use Rattle.wh_graph.specs.May.{Follows}
 use Rattle.wh_graph.specs.Components.{AreComponents}
 use Rattle.wh_subterm.specs.Projections.{Chosen}
 use Rattle.wh_subterm.specs.SubtermRows.{IsProjection}
@@ -16,28 +14,18 @@ use Rattle.wh_cert.specs.Written as w
 use Rattle.wh_cert.specs.Limits.{NodeFits, NodeWithin}
 use Rattle.wh_nodes.specs.Nodes.{done, alone, blocks, subterm, IsSetOf, IsKept, Leaves, by_done, by_alone, by_blocks, by_subterm}
 use Rattle.wh_checker.specs.Walk.{GoesOn}
-use Rattle.wh_prover.specs.Arriving.{IsAlone, Arrives, behind_projection, Ended}
+use Rattle.wh_prover.specs.Arriving.{IsAlone, IsAloneUnder, Arrives, behind_projection, Ended}
 use Rattle.wh_prover.specs.Walk.{weight, SaysProjection, Adds}
 use Rattle.wh_prover.proofs.CountLemmas.{components_lighter, rest_lighter, weighs_something}
 use Rattle.wh_prover.proofs.ArriveLemmas.{arrives_below, arrives_apart, sets_themselves, components_are_blocks}
 use Rattle.wh_prover.proofs.LimitLemmas.{blocks_fit, blocks_within, subterm_fits, subterm_within}
 
--- the one number of a set of which the pair may not follow itself
+-- the one number of a set that is not related to itself
 
 one_number : (set : List ℕ) → length set ≡ 1 → set ≡ get_or set 0 0 ∷ []
 one_number (a ∷ []) one = refl
 one_number [] one = absurd (omega arith)
 one_number (a ∷ b ∷ rest) one = absurd (omega arith)
-
-follows_itself : (rules : List RewriteRule) (ps : List PairData) (a : ℕ) (p : PairData) → slice_get ps a ≡ Some p
-    → Follows rules ps a a ↔ May rules p p
-follows_itself rules ps a p here = (
-  λ (x, y, at, also, may).
-      let first : x ≡ p = some_one at here in
-      let second : y ≡ p = some_one also here in
-      subst (λ (q : PairData). May rules q p) first (subst (λ (q : PairData). May rules x q) second may),
-  λ may. (p, p, here, here, may),
-)
 
 not_true : (b : Bool) (P : Type 0) → IsTrue b ↔ P → IsTrue (not b) ↔ (P → ⊥)
 not_true true P is = (λ no. cc, λ free. absurd (free (is.0 refl)))
@@ -46,23 +34,22 @@ not_true false P is = (λ yes p. let both = is.1 p in cc, λ free. refl)
 same_head : (a b : ℕ) (xs ys : List ℕ) → a ∷ xs ≡ b ∷ ys → a ≡ b
 same_head a b xs ys e = cc
 
-pub alone_decided : (rules : List RewriteRule) (pairs : List Pair) (set : List ℕ) (pair : Pair) (b : Bool) → length set ≡ 1
-    → get_or set 0 0 < length pairs → pair ≡ get_or pairs (get_or set 0 0) pair → IsTrue b ↔ May rules (pair_data pair) (pair_data pair)
-    → IsTrue (not b) ↔ IsAlone rules (map pair_data pairs) set
-alone_decided rules pairs set pair b one within is may =
+pub alone_decided : (E : ℕ → ℕ → Type 0) (set : List ℕ) (b : Bool) → length set ≡ 1 → IsTrue b ↔ E (get_or set 0 0) (get_or set 0 0)
+    → IsTrue (not b) ↔ IsAloneUnder E set
+alone_decided E set b one itself =
     let n = get_or set 0 0 in
-    let ps = map pair_data pairs in
-    let here = read_map pair_data pairs n pair within is in
-    let itself = follows_itself rules ps n (pair_data pair) here in
-    let free = not_true b (May rules (pair_data pair) (pair_data pair)) may in (
-      λ yes. (n, one_number set one, λ follows. free.0 yes (itself.0 follows)),
-      λ (a, single, none). free.1 (λ may.
+    let free = not_true b (E n n) itself in (
+      λ yes. (n, one_number set one, free.0 yes),
+      λ (a, single, none). free.1 (λ edge.
           let same : n ≡ a = same_head n a [] [] (sym (one_number set one) ∙ single) in
-          none (subst (λ m. Follows rules ps m m) same (itself.1 may))),
+          none (subst (λ m. E m m) same edge)),
     )
 
-pub not_one : (rules : List RewriteRule) (ps : List PairData) (set : List ℕ) → length set ≢ 1 → IsAlone rules ps set → ⊥
-not_one rules ps set other (a, single, none) = other (ap length single)
+pub alone_same : (E F : ℕ → ℕ → Type 0) (set : List ℕ) → ((a b : ℕ) → E a b ↔ F a b) → IsAloneUnder E set ↔ IsAloneUnder F set
+alone_same E F set same = (
+  λ (a, single, none). (a, single, λ f. none ((same a a).1 f)),
+  λ (a, single, none). (a, single, λ e. none ((same a a).0 e)),
+)
 
 -- nodes that leave nothing
 

@@ -14,9 +14,13 @@ use Rattle.wh_checker.specs.Valid.{IsWhole}
 abbrev pub IsOneComponent : List RewriteRule → List PairData → List ℕ → Type 0
 IsOneComponent rules pairs set = (a b : ℕ) → Contains set a → Contains set b → Reaches (Follows rules pairs) set a b
 
+-- the set has one number, which is not related to itself
+abbrev pub IsAloneUnder : (ℕ → ℕ → Type 0) → List ℕ → Type 0
+IsAloneUnder E set = (a : ℕ) × (set ≡ a ∷ []) × (E a a → ⊥)
+
 -- the set has one pair, which may not follow itself
 abbrev pub IsAlone : List RewriteRule → List PairData → List ℕ → Type 0
-IsAlone rules pairs set = (a : ℕ) × (set ≡ a ∷ []) × (Follows rules pairs a a → ⊥)
+IsAlone rules pairs set = IsAloneUnder (Follows rules pairs) set
 
 -- what the graph settles nothing of: a set that is not empty and is one component, and not one pair that may not follow itself
 pub record IsKnot (rules : List RewriteRule) (pairs : List PairData) (set : List ℕ) : Type 0 where

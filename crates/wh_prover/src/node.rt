@@ -4,7 +4,8 @@ ghost use Rattle.std.specs.Prelude.{◌↔◌, ◌<◌, ◌≤◌, All, IfOk, Is
 ghost use Rattle.wh_pairs.specs.Views.{pairs_data};
 ghost use Rattle.wh_system.specs.SystemView.{system_data};
 ghost use Rattle.wh_cert.specs.Said.{said_node};
-ghost use Rattle.wh_prover.specs.Arriving.{Arrives, Ended, IsAlone};
+ghost use Rattle.wh_graph.specs.Graphs.{IsGraphOf, edge_of, size_of};
+ghost use Rattle.wh_prover.specs.Arriving.{Arrives, Ended, IsAloneUnder};
 ghost use Rattle.wh_prover.specs.Walk.{Adds, IsEnd};
 
 use crate::answer::{Cause, Finder};
@@ -13,9 +14,9 @@ use crate::sets::{kept, open_blocks};
 use std::alloc::{AllocError, Global};
 use wh_cert::{Node, Nodes};
 use wh_find_subterm::{ProjectionFound, find_projection};
-use wh_graph::{components, may_follow};
+use wh_graph::Graph;
 use wh_sat::Search;
-use wh_system::{Pair, PairList, PairSet, System};
+use wh_system::{PairList, PairSet, System};
 
 /// Gives the set a node, and puts what this leaves on top of the stack, the first of it on top; or says why the search ends on the
 /// set. The graph comes first: a set without pairs, with several components, or with one pair that may not follow itself. Then
@@ -24,12 +25,14 @@ pub fn settle(
     alloc: Global,
     system: &System,
     pairs: &PairList,
+    graph: &Graph,
     tries: u64,
     set: PairSet,
     stack: &mut Vec<PairSet>,
     nodes: &mut Nodes,
 ) -> Result<Option<Cause>, AllocError>
     requires few { length pairs.now ≤ 4096 }
+    requires graph { IsGraphOf (system_data system.now).rules (pairs_data pairs.now) graph.now }
     requires arrives { Arrives (system_data system.now).rules (pairs_data pairs.now) set }
     ensures { IfOk result (λ end. MatchOption end (Adds (system_data system.now) (pairs_data pairs.now) set (reverse stack.old.items) (reverse stack.new.items) (map said_node nodes.old) (map said_node nodes.new))
         (IsEnd (system_data system.now) (pairs_data pairs.now) tries)) }
@@ -38,13 +41,13 @@ pub fn settle(
         nodes.push(Node::Done)?;
         return Ok(None);
     }
-    let blocks = components(alloc, system, pairs, &set)?;
+    let blocks = graph.components(alloc, &set)?;
     if blocks.as_slice().len() > 1 {
         open_blocks(alloc, blocks.as_slice(), stack)?;
         nodes.push(Node::Blocks(blocks))?;
         return Ok(None);
     }
-    if is_alone(system, pairs.as_slice(), set.as_slice()) {
+    if is_alone(graph, set.as_slice()) {
         nodes.push(Node::Alone)?;
         return Ok(None);
     }
@@ -52,15 +55,15 @@ pub fn settle(
 }
 
 // Whether the set has one pair, which may not follow itself.
-fn is_alone(system: &System, pairs: &[Pair], set: &[u32]) -> bool
-    requires { All (λ n. n < length pairs.now) set.now }
-    ensures { IsTrue result ↔ IsAlone (system_data system.now).rules (pairs_data pairs.now) set.now }
+fn is_alone(graph: &Graph, set: &[u32]) -> bool
+    requires { All (λ n. n < size_of graph.now) set.now }
+    ensures { IsTrue result ↔ IsAloneUnder (edge_of graph.now) set.now }
 {
     if set.len() != 1 {
         return false;
     }
-    let pair = &pairs[set[0] as usize];
-    !may_follow(system, pair, pair)
+    let pair = set[0];
+    !graph.has_edge(pair, pair)
 }
 
 // A node by what a finder gives for a set of which the graph settles nothing.

@@ -13,6 +13,7 @@ use crate::walk::walk;
 use std::alloc::{AllocError, Global};
 use wh_access::find_ranks;
 use wh_cert::{Certificate, Nodes, YesCertificate};
+use wh_graph::Graph;
 use wh_system::{PairList, System};
 use wh_types::{Or, Ranks};
 
@@ -52,9 +53,10 @@ fn prove_under(
 {
     system.is_well_made();
     let count = pairs.as_slice().len() as u32;
+    let graph = Graph::new(alloc, system, pairs)?;
     let whole = numbers_below(alloc, count)?;
     let mut nodes = Nodes::new(alloc)?;
-    if let Some(cause) = walk(alloc, system, pairs, tries, whole, &mut nodes)? {
+    if let Some(cause) = walk(alloc, system, pairs, &graph, tries, whole, &mut nodes)? {
         return Ok(Answer::Maybe(cause));
     }
     Ok(Answer::Yes(Certificate::Yes(YesCertificate {

@@ -4,6 +4,7 @@ ghost use Rattle.std.specs.Prelude.{◌≡◌, ◌≤◌, [], IfOk, MatchOption,
 ghost use Rattle.wh_pairs.specs.Views.{pairs_data};
 ghost use Rattle.wh_system.specs.SystemView.{system_data};
 ghost use Rattle.wh_cert.specs.Said.{said_node};
+ghost use Rattle.wh_graph.specs.Graphs.{IsGraphOf};
 ghost use Rattle.wh_checker.specs.Valid.{IsWhole};
 ghost use Rattle.wh_prover.specs.Walk.{IsEnd, IsTree};
 
@@ -11,6 +12,7 @@ use crate::answer::Cause;
 use crate::node::settle;
 use std::alloc::{AllocError, Global};
 use wh_cert::Nodes;
+use wh_graph::Graph;
 use wh_system::{PairList, PairSet, System};
 
 /// Puts the nodes of a proof for the set of all pairs into the list, each before what it leaves; or says on which set the walk
@@ -19,11 +21,13 @@ pub fn walk(
     alloc: Global,
     system: &System,
     pairs: &PairList,
+    graph: &Graph,
     tries: u64,
     whole: PairSet,
     nodes: &mut Nodes,
 ) -> Result<Option<Cause>, AllocError>
     requires few { length pairs.now ≤ 4096 }
+    requires graph { IsGraphOf (system_data system.now).rules (pairs_data pairs.now) graph.now }
     requires whole { IsWhole (pairs_data pairs.now) whole }
     requires none { nodes.old ≡ [] }
     ensures { IfOk result (λ end. MatchOption end (IsTree (system_data system.now) (pairs_data pairs.now) whole (map said_node nodes.new)) (IsEnd (system_data system.now) (pairs_data pairs.now) tries)) }
@@ -31,7 +35,7 @@ pub fn walk(
     let mut stack = Vec::new(alloc);
     stack.push(whole)?;
     while let Some(set) = stack.pop() {
-        if let Some(cause) = settle(alloc, system, pairs, tries, set, &mut stack, nodes)? {
+        if let Some(cause) = settle(alloc, system, pairs, graph, tries, set, &mut stack, nodes)? {
             return Ok(Some(cause));
         }
     }

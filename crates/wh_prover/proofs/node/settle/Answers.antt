@@ -2,13 +2,15 @@ use Rattle.std.proofs.Common.{◌≢◌, ◌<◌, ◌≤◌, ◌++◌, ℕ, List
 use Rattle.std.proofs.lemmas.List.{length-map}
 use Rattle.wh_system.specs.SystemView.{system_data}
 use Rattle.wh_system.specs.PairData.{pair_data}
-use Rattle.wh_system.specs.declared.pairs.Pair.{Pair}
 use Rattle.wh_pairs.specs.Views.{pairs_data}
 use Rattle.wh_cert.specs.Said.{said_node}
 use Rattle.wh_cert.specs.declared.certificate.Node.TheVariants as code
-use Rattle.wh_prover.specs.Arriving.{IsAlone}
+use Rattle.wh_graph.specs.Graphs.{edge_of, size_of}
+use Rattle.wh_graph.specs.May.{Follows}
+use Rattle.wh_graph.proofs.GraphLemmas.{components_of_pairs}
+use Rattle.wh_prover.specs.Arriving.{IsAlone, IsAloneUnder}
 use Rattle.wh_prover.proofs.ArriveLemmas.{arrives_within, ended}
-use Rattle.wh_prover.proofs.NodeLemmas.{adds_done, adds_alone, adds_blocks, tested_none, tested_some, not_so}
+use Rattle.wh_prover.proofs.NodeLemmas.{adds_done, adds_alone, adds_blocks, alone_same, tested_none, tested_some, not_so}
 use Rattle.wh_prover.proofs.WalkLemmas.{said_push}
 use Rattle.wh_prover.proofs.node.settle.Goals as goal
 
@@ -20,11 +22,13 @@ returns-then-is_empty c =
     adds_done (system_data c.args.system.now) (pairs_data c.args.pairs.now) c.args.set (reverse c.args.stack.now.items) (map said_node nodes) (map said_node longer) empty
     (said_push nodes longer code.Done c.in_ok-push.ensures.ok)
 
-pub components-requires : goal.components-requires
-components-requires c =
-    let pairs = c.args.pairs.now in
+pub components-requires-clause-graph : goal.components-requires-clause-graph
+components-requires-clause-graph c = c.requires.graph.graph
+
+pub components-requires-clause-set : goal.components-requires-clause-set
+components-requires-clause-set c =
     let set = c.args.set in
-    subst (λ n. All (λ m. m < n) set) (length-map pairs pair_data) (arrives_within (system_data c.args.system.now).rules (pairs_data pairs) set c.requires.arrives)
+    subst (λ n. All (λ m. m < n) set) (sym c.requires.graph.size) (arrives_within (system_data c.args.system.now).rules (pairs_data c.args.pairs.now) set c.requires.arrives)
 
 pub returns-then-as_slice-gt1 : goal.returns-then-as_slice-gt1
 returns-then-as_slice-gt1 c =
@@ -38,25 +42,27 @@ returns-then-as_slice-gt1 c =
     let few = subst (λ n. n ≤ 4096) (sym (length-map pairs pair_data)) c.requires.few in
     let enough : 2 ≤ length parts = omega (arith, c.if-as_slice-gt1.true, ap (λ (l : List (List ℕ)). length l) c.as_slice-2.ensures) in
     adds_blocks (system_data c.args.system.now) ps set parts sets (reverse c.open_blocks.new.stack.items) (map said_node nodes) (map said_node longer) few c.as_slice.ensures.increasing c.requires.arrives
-    c.in_ok-blocks.ensures.components c.in_ok-blocks.ensures.increasing enough
+    (components_of_pairs (system_data c.args.system.now).rules ps c.args.graph.now set parts c.requires.graph c.in_ok-blocks.ensures.components)
+    c.in_ok-blocks.ensures.increasing enough
     (c.in_ok-open_blocks.ensures ∙ ap (λ (l : List (List ℕ)). l ++ sets) c.as_slice-then-as_slice-gt1.ensures)
     (said_push nodes longer (code.Blocks parts) c.in_ok-push-2.ensures.ok)
 
 pub is_alone-requires : goal.is_alone-requires
 is_alone-requires c =
-    let pairs = c.args.pairs.now in
     let set = c.args.set in
-    let within = subst (λ n. All (λ m. m < n) set) (length-map pairs pair_data) (arrives_within (system_data c.args.system.now).rules (pairs_data pairs) set c.requires.arrives) in
-    subst (λ (l : List Pair). All (λ m. m < length l) c.as_slice-4.result.now) (sym c.as_slice-3.ensures) (subst (All (λ m. m < length pairs)) (sym c.as_slice-4.ensures.numbers) within)
+    let graph = c.args.graph.now in
+    let within = subst (λ n. All (λ m. m < n) set) (sym c.requires.graph.size) (arrives_within (system_data c.args.system.now).rules (pairs_data c.args.pairs.now) set c.requires.arrives) in
+    subst (All (λ m. m < size_of graph)) (sym c.as_slice-3.ensures.numbers) within
 
 pub returns-then-is_alone : goal.returns-then-is_alone
 returns-then-is_alone c =
     let d = system_data c.args.system.now in
     let nodes = c.args.nodes.now in
     let longer = c.push-then-is_alone.new.self in
-    let alone = c.is_alone.ensures.0 c.if-is_alone.true in
-    let here = subst (λ (s : List ℕ). IsAlone d.rules (pairs_data c.args.pairs.now) s) c.as_slice-4.ensures.numbers (subst (λ (l : List Pair). IsAlone d.rules (pairs_data l) c.as_slice-4.result.now) c.as_slice-3.ensures alone) in
-    adds_alone d (pairs_data c.args.pairs.now) c.args.set (reverse c.args.stack.now.items) (map said_node nodes) (map said_node longer) here
+    let ps = pairs_data c.args.pairs.now in
+    let same = alone_same (edge_of c.args.graph.now) (Follows d.rules ps) c.as_slice-3.result.now c.requires.graph.each in
+    let here = subst (λ (s : List ℕ). IsAlone d.rules ps s) c.as_slice-3.ensures.numbers (same.0 (c.is_alone.ensures.0 c.if-is_alone.true)) in
+    adds_alone d ps c.args.set (reverse c.args.stack.now.items) (map said_node nodes) (map said_node longer) here
     (said_push nodes longer code.Alone c.in_ok-push-3.ensures.ok)
 
 pub lower-requires-clause-ended : goal.lower-requires-clause-ended
@@ -66,6 +72,9 @@ lower-requires-clause-ended c =
     let set = c.args.set in
     let some = subst (λ (s : List ℕ). s ≢ []) c.as_slice.ensures.numbers (tested_some c.as_slice.result.now c.is_empty.result c.is_empty.ensures c.if-is_empty.false) in
     let few : length c.in_ok-blocks.blocks ≤ 1 = omega (arith, c.if-as_slice-gt1.false, ap (λ (l : List (List ℕ)). length l) c.as_slice-2.ensures) in
-    let free = not_so c.is_alone.result (IsAlone rules (pairs_data c.as_slice-3.result.now) c.as_slice-4.result.now) c.is_alone.ensures.1 c.if-is_alone.false in
-    let not_alone = subst (λ (s : List ℕ). IsAlone rules ps s → ⊥) c.as_slice-4.ensures.numbers (subst (λ (l : List Pair). IsAlone rules (pairs_data l) c.as_slice-4.result.now → ⊥) c.as_slice-3.ensures free) in
-    ended rules ps set c.in_ok-blocks.blocks c.requires.arrives some c.in_ok-blocks.ensures.components few not_alone
+    let graph = c.args.graph.now in
+    let free = not_so c.is_alone.result (IsAloneUnder (edge_of graph) c.as_slice-3.result.now) c.is_alone.ensures.1 c.if-is_alone.false in
+    let same = alone_same (edge_of graph) (Follows rules ps) c.as_slice-3.result.now c.requires.graph.each in
+    let not_alone = subst (λ (s : List ℕ). IsAlone rules ps s → ⊥) c.as_slice-3.ensures.numbers (λ alone. free (same.1 alone)) in
+    let are = components_of_pairs rules ps graph set c.in_ok-blocks.blocks c.requires.graph c.in_ok-blocks.ensures.components in
+    ended rules ps set c.in_ok-blocks.blocks c.requires.arrives some are few not_alone
