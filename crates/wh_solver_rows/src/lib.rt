@@ -1,0 +1,11 @@
+//! Rows of the solver, and of the search for projections, which goes through the solver.
+//!
+//! This crate has tests alone: a library with tests of its own would be proved a second time with them.
+#![tactic(auto)]
+
+#[cfg(test)]
+mod formulas;
+#[cfg(test)]
+mod projection_rows;
+#[cfg(test)]
+mod solver_rows;
