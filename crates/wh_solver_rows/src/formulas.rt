@@ -1,11 +1,11 @@
 //! Formulas from lists of numbers.
 
-ghost use Rattle.std.specs.Bool.{OnTrue};
+ghost use Rattle.std.specs.Prelude.{◌<◌, ◌↔◌, IsTrue, OnTrue};
 ghost use Rattle.wh_sat_trail.specs.Assignment.{AllBelow};
 ghost use Rattle.wh_sat_trail.specs.Propagation.{Within};
 
 use std::alloc::{AllocError, Global};
-use wh_sat_trail::{Clause, Clauses, Formula, Literal};
+use wh_sat_trail::{Clause, Clauses, Literal};
 
 // The literal of a number as in files of formulas: `n` is the variable `n - 1`, and `-n` its negation.
 fn literal_of(number: i32) -> Literal {
@@ -33,24 +33,31 @@ pub fn clauses_of(alloc: Global, lists: &[&[i32]]) -> Result<Clauses, AllocError
     Ok(clauses)
 }
 
-// Whether the literals' variables are below a number.
-fn is_below(variables: u32, clause: &[Literal]) -> bool
+// Whether the literal's variable is below a number.
+fn is_below(variables: u32, literal: Literal) -> bool
+    ensures { IsTrue result ↔ literal.variable < variables }
+{
+    literal.variable < variables
+}
+
+// Whether the literals' variables are.
+fn are_below(variables: u32, clause: &[Literal]) -> bool
     ensures { OnTrue result (AllBelow variables clause.now) }
 {
     for literal in clause {
-        if literal.variable >= variables {
+        if !is_below(variables, *literal) {
             return false;
         }
     }
     true
 }
 
-/// Whether the clauses have no variables but those of the formula.
-pub fn is_within(formula: &Formula) -> bool
-    ensures { OnTrue result (Within formula.now.variables formula.now.clauses) }
+/// Whether the variables of all clauses are below a number.
+pub fn are_within(variables: u32, clauses: &[Clause]) -> bool
+    ensures { OnTrue result (Within variables clauses.now) }
 {
-    for clause in formula.clauses.as_slice() {
-        if !is_below(formula.variables, clause.as_slice()) {
+    for clause in clauses {
+        if !are_below(variables, clause.as_slice()) {
             return false;
         }
     }

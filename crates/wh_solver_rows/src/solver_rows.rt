@@ -1,17 +1,22 @@
 //! Rows of the solver: small formulas with their answers.
 
-use crate::formulas::{clauses_of, is_within};
+use crate::formulas::{are_within, clauses_of};
 use std::alloc::{AllocError, Global};
 use std::test::Fail;
 use wh_sat::{Outcome, solve};
-use wh_sat_trail::Formula;
+use wh_sat_trail::{Clauses, Formula};
 
 /// The answer for a formula; want of memory stands for one that has too few variables.
-fn solved(alloc: Global, formula: &Formula, budget: u64) -> Result<Outcome, AllocError> {
-    if !is_within(formula) {
+fn solved(
+    alloc: Global,
+    variables: u32,
+    clauses: Clauses,
+    budget: u64,
+) -> Result<Outcome, AllocError> {
+    if !are_within(variables, clauses.as_slice()) {
         return Err(AllocError);
     }
-    solve(alloc, formula, budget)
+    solve(alloc, &Formula { variables, clauses }, budget)
 }
 
 /// What the answer is, with the value of a single variable.
@@ -53,11 +58,8 @@ const ANSWERS: &[(u32, &[&[i32]], u64, &str)] = &[
 fn solves_small_formulas(rt: HostRuntime) -> Result<(), Fail> {
     let alloc = rt.alloc();
     for (variables, lists, budget, expected) in ANSWERS {
-        let formula = Formula {
-            variables: *variables,
-            clauses: clauses_of(alloc, *lists)?,
-        };
-        let answer = solved(alloc, &formula, *budget)?;
+        let clauses = clauses_of(alloc, *lists)?;
+        let answer = solved(alloc, *variables, clauses, *budget)?;
         assert_eq!(rt; told(answer), *expected);
     }
     Ok(())
