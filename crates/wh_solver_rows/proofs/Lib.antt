@@ -1,1 +1,1 @@
-pub mod Formulas
+pub mod Shown

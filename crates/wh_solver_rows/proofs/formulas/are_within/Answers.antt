@@ -3,7 +3,7 @@ use Rattle.std.proofs.lemmas.Option.{slice_get-get_or}
 use Rattle.wh_sat_trail.specs.declared.literal.Literal.{Literal}
 use Rattle.wh_sat_trail.specs.Assignment.{AllBelow}
 use Rattle.wh_system.proofs.ByPlace.{before_more}
-use Rattle.wh_solver_rows.proofs.Formulas.{on_true}
+use Rattle.wh_solver_rows.proofs.Shown.{on_true}
 use Rattle.wh_solver_rows.proofs.formulas.are_within.Goals as goal
 
 pub loop-clause-preserved : goal.loop-clause-preserved

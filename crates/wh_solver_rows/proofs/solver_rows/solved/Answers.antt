@@ -1,7 +1,7 @@
 use Rattle.std.proofs.Common.{List, subst}
 use Rattle.wh_sat_trail.specs.declared.literal.Literal.{Literal}
 use Rattle.wh_sat_trail.specs.Propagation.{Within}
-use Rattle.wh_solver_rows.proofs.Formulas.{on_true}
+use Rattle.wh_solver_rows.proofs.Shown.{on_true}
 use Rattle.wh_solver_rows.proofs.solver_rows.solved.Goals as goal
 
 pub solve-requires : goal.solve-requires
