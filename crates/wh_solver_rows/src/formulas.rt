@@ -1,6 +1,7 @@
 //! Formulas from lists of numbers.
 
-ghost use Rattle.std.specs.Prelude.{◌<◌, ◌↔◌, IsTrue, OnTrue};
+ghost use Rattle.std.specs.Bool.{OnTrue};
+ghost use Rattle.std.specs.Prelude.{◌<◌, ◌↔◌, IsTrue};
 ghost use Rattle.wh_sat_trail.specs.Assignment.{AllBelow};
 ghost use Rattle.wh_sat_trail.specs.Propagation.{Within};
 
