@@ -178,6 +178,14 @@ def many_factors(count):
     return IDENTITY, identity_node("1" + "*y0" * count, "1*y0", "0", "1*y0", ["rule 0>0:1", "rule"], "pair 1>0:1")
 
 
+def behind_a_sum(count):
+    """A sum that is put for the first of that many factors: a product of two monomials, to which single ones come."""
+    system = "\n".join(["sort nat;", "fun s : nat -> nat;", "fun g : nat -> nat -> nat;", "fun t : nat -> nat;",
+                        "rule {X:nat,Y:nat} g (s X) Y => X;", "rule {X:nat} t (s X) => t X;"]) + "\n"
+    return system, "\n".join(["YES 1", "ranks 0", "pairs 1", "poly", "fun s 1+1*y0", "fun g 1*y0" + "*y1" * (count - 1), "fun t 1*y0", "mark t 1*y0",
+                              "rule", "rule 1>0:1", "pair 1>0:1", "drop 0", "done", "end"]) + "\n"
+
+
 def heavy_product(count):
     """A product of factors of many factors each, which stops at the limit."""
     return IDENTITY, identity_node("1" + "*y0" * count, "1*y0", "0", "1" + "*y0" * count, ["rule 0>0:1", "rule"], "pair 1>0:1")
@@ -220,11 +228,12 @@ def calls_within(symbols):
 
 def one_by_one(symbols):
     """Each symbol calls the next and the one before. Of what is left one projection drops a pair, and only that of the first symbol:
-    so the whole falls apart one pair at a time, and each set but the first is what the one before leaves."""
-    lines = ["sort o;", "fun e : o;", "fun s : o -> o;", "fun d : o -> o -> o;", *[f"fun f{i} : o -> o -> o;" for i in range(symbols)]]
-    lines.append("rule {X:o} f0 X (s X) => f1 X e;")
+    so the whole falls apart one pair at a time, and each set but the first is what the one before leaves. The calls of e stand alone."""
+    lines = ["sort o;", "fun s : o -> o;", "fun e : o -> o;", "fun d : o -> o -> o;", *[f"fun f{i} : o -> o -> o;" for i in range(symbols)]]
+    lines.append("rule {X:o} e X => X;")
+    lines.append("rule {X:o} f0 X (s X) => f1 X (e X);")
     for i in range(1, symbols - 1):
-        lines.append(f"rule {{X:o}} f{i} X (s X) => d (f{i + 1} X e) (f{i - 1} X X);")
+        lines.append(f"rule {{X:o}} f{i} X (s X) => d (f{i + 1} X (e X)) (f{i - 1} X X);")
     lines.append(f"rule {{X:o}} f{symbols - 1} X (s X) => f{symbols - 2} X X;")
     return "\n".join(lines) + "\n"
 
@@ -307,6 +316,8 @@ def main():
         cases.append(("poly factors", f"{count} factors", many_factors, count))
     for count in (15000, 30000, 60000):
         cases.append(("poly monomials", f"weight {count}", many_monomials, count))
+    for count in (2000, 8000, 30000):
+        cases.append(("poly behind a sum", f"{count} factors", behind_a_sum, count))
     cases.append(("poly product", "300 x 300", heavy_product, 300))
     for count in (250000, 500000, 1000000):
         cases.append(("poly moves", f"{count} moves", many_moves, count))
@@ -323,7 +334,7 @@ def main():
     for symbols in (50, 100, 200):
         cases.append(("prove chain", f"{symbols} symbols", calls_within, symbols))
     for symbols in (255, 510, 1020):
-        cases.append(("prove one by one", f"{2 * symbols - 2} pairs", one_by_one, symbols))
+        cases.append(("prove one by one", f"{3 * symbols - 3} pairs", one_by_one, symbols))
     cases.append(("prove most-pairs", "4096 pairs", most_pairs, 4096))
     for example in sorted((HERE.parent / "examples").glob("*.afs")):
         cases.append(("prove example", example.stem, lambda _count, file=example: file.read_text(), 0))
