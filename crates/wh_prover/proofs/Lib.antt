@@ -6,3 +6,4 @@ pub mod WalkLemmas
 pub mod NodeLemmas
 pub mod LineLemmas
 pub mod ProofLemmas
+pub mod LoopLemmas

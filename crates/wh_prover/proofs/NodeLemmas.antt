@@ -11,10 +11,13 @@ use Rattle.wh_subterm.specs.Projections.{Chosen}
 use Rattle.wh_subterm.specs.SubtermRows.{IsProjection}
 use Rattle.wh_find_subterm.specs.Found.{DropsAllBelow}
 use Rattle.wh_cert.specs.Written as w
+use Rattle.wh_cert.specs.Interps.{Interp}
+use Rattle.wh_hopoly.specs.declared.expression.Move as moved
+use Rattle.wh_find_poly.specs.Found.{IsInterpretation}
 use Rattle.wh_cert.specs.Limits.{NodeFits, NodeWithin}
-use Rattle.wh_nodes.specs.Nodes.{done, alone, blocks, subterm, IsSetOf, IsKept, Leaves, by_done, by_alone, by_blocks, by_subterm}
+use Rattle.wh_nodes.specs.Nodes.{done, alone, blocks, subterm, poly, IsSetOf, IsKept, Leaves, by_done, by_alone, by_blocks, by_subterm, by_poly}
 use Rattle.wh_checker.specs.Walk.{GoesOn}
-use Rattle.wh_prover.specs.Arriving.{IsAlone, IsAloneUnder, Arrives, behind_projection, Ended}
+use Rattle.wh_prover.specs.Arriving.{IsAlone, IsAloneUnder, Arrives, behind_projection, behind_interpretation, Ended, HasNoProjection}
 use Rattle.wh_prover.specs.Walk.{weight, SaysProjection, Adds}
 use Rattle.wh_prover.proofs.CountLemmas.{components_lighter, rest_lighter, weighs_something}
 use Rattle.wh_prover.proofs.ArriveLemmas.{arrives_below, arrives_apart, sets_themselves, components_are_blocks}
@@ -62,7 +65,7 @@ adds_nothing d ps set sets lines longer line joined goes fits within nothing = r
   goes = goes;
   fits = fits;
   within = within;
-  arrives = subst (All (Arrives d.rules ps)) (sym nothing) (All-nil (Arrives d.rules ps));
+  arrives = subst (All (Arrives d ps)) (sym nothing) (All-nil (Arrives d ps));
   lighter = omega (arith, weighs_something set, ap weight nothing);
 }
 
@@ -95,11 +98,11 @@ adds_alone d ps set sets lines longer (a, one, free) joined =
 -- a node by blocks
 
 pub adds_blocks : (d : SystemData) (ps : List PairData) (set : List ℕ) (parts sets after : List (List ℕ)) (lines longer : List w.Node)
-    → length ps ≤ 4096 → IsIncreasing set → Arrives d.rules ps set → AreComponents (Follows d.rules ps) set parts → All IsIncreasing parts → 2 ≤ length parts
+    → length ps ≤ 4096 → IsIncreasing set → Arrives d ps set → AreComponents (Follows d.rules ps) set parts → All IsIncreasing parts → 2 ≤ length parts
     → after ≡ parts ++ sets → longer ≡ lines ++ w.blocks parts ∷ [] → Adds d ps set sets after lines longer
 adds_blocks d ps set parts sets after lines longer few up arrives are parts_up enough after_is joined =
     let E = Follows d.rules ps in
-    let below = arrives_below d.rules ps set arrives in
+    let below = arrives_below d ps set arrives in
     record {
       line = w.blocks parts;
       joined = joined;
@@ -113,18 +116,18 @@ adds_blocks d ps set parts sets after lines longer few up arrives are parts_up e
       };
       fits = blocks_fit E (length ps) set parts few up below parts_up are;
       within = blocks_within E (length ps) set parts few below parts_up are;
-      arrives = arrives_apart d.rules ps set parts arrives are parts_up enough;
+      arrives = arrives_apart d ps set parts arrives are parts_up enough;
       lighter = components_lighter E set parts parts_up are enough;
     }
 
 -- a node by a projection
 
 pub adds_subterm : (d : SystemData) (ps : List PairData) (set drop rest : List ℕ) (args : List Chosen) (line : w.Node) (sets after : List (List ℕ))
-    (lines longer : List w.Node) → IsWellMadeSystem d → length ps ≤ 4096 → Ended d.rules ps set → IsProjection d.rules ps set args drop
+    (lines longer : List w.Node) → IsWellMadeSystem d → length ps ≤ 4096 → Ended d ps set → IsProjection d.rules ps set args drop
     → DropsAllBelow ps set args drop → IsSetOf (IsKept set drop) rest → SaysProjection d line args drop → after ≡ rest ∷ sets → longer ≡ lines ++ line ∷ []
     → Adds d ps set sets after lines longer
 adds_subterm d ps set drop rest args line sets after lines longer made few end is all kept (said, line_is, says, fit) after_is joined =
-    let below = arrives_below d.rules ps set end.arrives in
+    let below = arrives_below d ps set end.arrives in
     let one : w.Node = w.subterm said drop in
     record {
       line = one;
@@ -139,9 +142,38 @@ adds_subterm d ps set drop rest args line sets after lines longer made few end i
       };
       fits = subterm_fits (length ps) set said drop few below is.within fit;
       within = subterm_within d ps (length ps) set said args drop made few below says is;
-      arrives = All-cons (Arrives d.rules ps) rest [] (behind_projection end.arrives end.knot is all kept) (All-nil (Arrives d.rules ps));
+      arrives = All-cons (Arrives d ps) rest [] (behind_projection end.arrives end.knot is all kept) (All-nil (Arrives d ps));
       lighter = omega (arith, rest_lighter set drop rest kept is.some_dropped is.within);
     }
+
+-- a node by interpretations
+
+pub adds_interpretation : (d : SystemData) (ps : List PairData) (set rest : List ℕ) (line : w.Node) (sets after : List (List ℕ)) (lines longer : List w.Node)
+    → Ended d ps set → HasNoProjection d.rules ps set → (is : IsInterpretation d ps set line) → IsSetOf (IsKept set is.drop) rest → after ≡ rest ∷ sets
+    → longer ≡ lines ++ line ∷ [] → Adds d ps set sets after lines longer
+adds_interpretation d ps set rest line sets after lines longer end none is kept after_is joined =
+    let covering = is.covering in
+    record {
+      line = line;
+      joined = joined;
+      goes = record {
+        node = poly is.symbols is.marks is.rule_lines is.pair_lines is.drop;
+        left = rest ∷ [];
+        says = is.says;
+        leaves = by_poly covering kept;
+        small = is.small;
+        after_is = after_is;
+      };
+      fits = is.fits;
+      within = is.within;
+      arrives = All-cons (Arrives d ps) rest [] (behind_interpretation end.arrives end.knot none covering kept) (All-nil (Arrives d ps));
+      lighter = omega (arith, rest_lighter set is.drop rest kept covering.some_dropped covering.within);
+    }
+
+-- the drop list of a line that says a node of interpretations is that of the node
+pub drop_of_line : (d : SystemData) (ps : List PairData) (set : List ℕ) (funs marks : List Interp) (rules pairs : List (List moved.Move)) (drop : List ℕ)
+    → (is : IsInterpretation d ps set (w.interpretations funs marks rules pairs drop)) → drop ≡ is.drop
+drop_of_line d ps set funs marks rules pairs drop is = is.says.4
 
 -- whether a list is empty, as a test tells it
 

@@ -1,5 +1,5 @@
 -- A tree of nodes for the set of all pairs, with ranks, is a proof.
-use Rattle.std.proofs.Common.{◌≡◌, ℕ, ◌≤◌, List, [], ◌∷◌, length, All, refl, arith}
+use Rattle.std.proofs.Common.{◌≡◌, ◌⊎◌, inl, inr, ℕ, ◌≤◌, List, [], ◌∷◌, length, All, refl, arith}
 use Rattle.wh_system.specs.Systems.{SystemData}
 use Rattle.wh_system.specs.WellMade.{IsWellMadeSystem}
 use Rattle.wh_system.specs.PairData.{PairData}
@@ -8,10 +8,12 @@ use Rattle.wh_pairs.specs.SystemPairs.{HasPairs}
 use Rattle.wh_cert.specs.Written as w
 use Rattle.wh_cert.specs.Limits.{IsCert}
 use Rattle.wh_checker.specs.Valid.{IsWhole}
-use Rattle.wh_prover.specs.Answers.{IsProof, IsReason, HasRanks}
+use Rattle.wh_prover.specs.Answers.{IsProof, IsReason, IsFull, HasNoLoops, HasNoProof, HasRanks}
 use Rattle.wh_prover.specs.Walk.{weigh, IsTree, IsEnd}
+use Rattle.wh_find_loop.specs.Answers.{Arrival}
+use Rattle.wh_prover.specs.declared.answer.Options.{Options}
 use Rattle.wh_prover.specs.declared.answer.Cause.{Cause}
-use Rattle.wh_prover.specs.declared.answer.Cause.TheVariants.{NoRanks, Stuck, Spent}
+use Rattle.wh_prover.specs.declared.answer.Cause.TheVariants.{NoRanks, Stuck, Spent, Full}
 use Rattle.wh_prover.specs.declared.answer.Finder.TheVariants.{Subterm}
 use Rattle.wh_prover.proofs.CountLemmas.{apart_increasing, few_below}
 
@@ -42,8 +44,24 @@ proof_of_tree d ps ranks count set lines made pairs passing each low right whole
       small = record { set = set; whole = whole; nodes = nodes; says = says; small = small };
     }
 
--- what ended the walk is a reason
-pub reason_of_end : (d : SystemData) (ps : List PairData) (tries : ℕ) (cause : Cause) → HasRanks d → IsEnd d ps tries cause → IsReason d ps tries cause
-reason_of_end d ps tries (NoRanks cause) ranks end = absurd end
-reason_of_end d ps tries (Stuck set) ranks end = (ranks, end.0, end.1)
-reason_of_end d ps tries (Spent Subterm set list) ranks end = (ranks, end.0, end.1)
+-- what ended the walk is why there is no proof
+pub no_proof_of_end : (d : SystemData) (ps : List PairData) (tries : ℕ) (cause : Cause) → HasRanks d → IsEnd d ps tries cause → HasNoProof d ps tries cause
+no_proof_of_end d ps tries (NoRanks cause) ranks end = absurd end
+no_proof_of_end d ps tries (Stuck set) ranks end = record { ranks = ranks; ended = end.0; no_projection = end.1 }
+no_proof_of_end d ps tries (Spent Subterm set list) ranks end = record { ranks = ranks; ended = end.0; spent = end.1 }
+no_proof_of_end d ps tries (Full visits) ranks end = absurd end
+
+-- where there are no loops, that is the reason
+pub reason_without_loops : (d : SystemData) (ps : List PairData) (o : Options) (cause : Cause) → HasNoProof d ps o.tries cause → HasNoLoops d o → IsReason d ps o cause
+reason_without_loops d ps o (NoRanks cause) why none = (why, inl none)
+reason_without_loops d ps o (Stuck set) why none = (why, none)
+reason_without_loops d ps o (Spent Subterm set list) why none = (why, inl none)
+reason_without_loops d ps o (Full visits) why none = absurd why
+
+-- where the search for loops is full, it is so but where nothing lets a pair of a set go
+pub reason_beside_full : (d : SystemData) (ps : List PairData) (o : Options) (cause : Cause) (list : List Arrival) → HasNoProof d ps o.tries cause → IsFull d o list
+    → ((set : List ℕ) → cause ≡ Stuck set → ⊥) → IsReason d ps o cause
+reason_beside_full d ps o (NoRanks cause) list why full other = (why, inr (list, full))
+reason_beside_full d ps o (Stuck set) list why full other = absurd (other set refl)
+reason_beside_full d ps o (Spent Subterm set list) listed why full other = (why, inr (listed, full))
+reason_beside_full d ps o (Full visits) list why full other = absurd why

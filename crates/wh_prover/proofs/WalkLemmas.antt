@@ -61,7 +61,7 @@ reverse_push xs x = reverse-append xs (x ∷ [])
 
 pub walked_first : (d : SystemData) (ps : List PairData) (set : List ℕ) → IsWhole ps set → HasWalked d ps set (set ∷ []) []
 walked_first d ps set whole = record {
-  arrive = All-cons (Arrives d.rules ps) set [] (at_all whole) (All-nil (Arrives d.rules ps));
+  arrive = All-cons (Arrives d ps) set [] (at_all whole) (All-nil (Arrives d ps));
   fit = All-nil NodeFits;
   within = All-nil (NodeWithin (2 ^ 32));
   few = omega arith;
@@ -81,7 +81,7 @@ walked_next d ps whole set sets after lines longer walked adds =
     let split : (rest : List w.Node) → longer ++ rest ≡ lines ++ line ∷ rest = λ rest. ap (λ (l : List w.Node). l ++ rest) adds.joined ∙ append_assoc lines (line ∷ []) rest in
     let count : length after ≡ children line + length sets = ap length goes.after_is ∙ length-append left sets ∙ ap (λ n. n + length sets) (leaves_count d ps set line node left goes.says goes.leaves) in
     record {
-      arrive = subst (All (Arrives d.rules ps)) (sym goes.after_is) (All-append (Arrives d.rules ps) left sets adds.arrives (All-tail (Arrives d.rules ps) set sets walked.arrive));
+      arrive = subst (All (Arrives d ps)) (sym goes.after_is) (All-append (Arrives d ps) left sets adds.arrives (All-tail (Arrives d ps) set sets walked.arrive));
       fit = subst (All NodeFits) (sym adds.joined) (All-push NodeFits lines line walked.fit adds.fits);
       within = subst (All (NodeWithin (2 ^ 32))) (sym adds.joined) (All-push (NodeWithin (2 ^ 32)) lines line walked.within adds.within);
       few = omega (arith, long, weighs, walked.few, adds.lighter);

@@ -1,5 +1,5 @@
--- What the prover answers: a certificate that is valid, or why it gives up.
-use Rattle.std.specs.Prelude.{ℕ, ◌≡◌, List, length}
+-- What the prover answers: a certificate of termination or of a loop that is valid, or why it gives up.
+use Rattle.std.specs.Prelude.{ℕ, ◌≡◌, ◌⊎◌, List, length, map}
 use Rattle.wh_system.specs.Systems.{SystemData}
 use Rattle.wh_system.specs.PairData.{PairData}
 use Rattle.wh_access.specs.Passing.{IsPassing}
@@ -7,14 +7,19 @@ use Rattle.wh_access.specs.Found.{IsCause}
 use Rattle.wh_cert.specs.Limits.{IsCert}
 use Rattle.wh_cert.specs.Said.{said}
 use Rattle.wh_cert.specs.Written.{Cert, yes, no}
+use Rattle.wh_sat_trail.specs.declared.literal.Literal.{Literal}
 use Rattle.wh_find_subterm.specs.Found.{IsSpent}
+use Rattle.wh_loops.specs.Space.{HasNoLoop}
+use Rattle.wh_loops.specs.Found.{IsLoopCertificate}
+use Rattle.wh_find_loop.specs.Answers.{Arrival, arrival, AreVisited, ReachesFewer}
 use Rattle.wh_checker.specs.Valid.{IsValidCert}
 use Rattle.wh_checker.specs.Small.{IsSmallCert}
 use Rattle.wh_prover.specs.Arriving.{Ended, HasNoProjection}
 use Rattle.wh_prover.specs.declared.answer.Answer.{Answer}
-use Rattle.wh_prover.specs.declared.answer.Answer.TheVariants.{Yes, Maybe}
+use Rattle.wh_prover.specs.declared.answer.Answer.TheVariants.{Yes, No, Maybe}
+use Rattle.wh_prover.specs.declared.answer.Options.{Options}
 use Rattle.wh_prover.specs.declared.answer.Cause.{Cause}
-use Rattle.wh_prover.specs.declared.answer.Cause.TheVariants.{NoRanks, Stuck, Spent}
+use Rattle.wh_prover.specs.declared.answer.Cause.TheVariants.{NoRanks, Stuck, Spent, Full}
 use Rattle.wh_prover.specs.declared.answer.Finder.TheVariants.{Subterm}
 
 -- a certificate of termination
@@ -33,14 +38,59 @@ pub record IsProof (d : SystemData) (ps : List PairData) (c : Cert) : Type 0 whe
 abbrev pub HasRanks : SystemData → Type 0
 HasRanks d = (ranks : List ℕ) × (length ranks ≡ d.symbols.sorts) × IsPassing d ranks
 
--- why the search gave up: there are no ranks; it ended on a set of which no projection lets a pair go; or the search for a projection
--- of such a set learnt as many clauses as it may, which are shown (ours)
-abbrev pub IsReason : SystemData → List PairData → ℕ → Cause → Type 0
-IsReason d ps tries (NoRanks cause) = IsCause d cause
-IsReason d ps tries (Stuck set) = HasRanks d × Ended d.rules ps set × HasNoProjection d.rules ps set
-IsReason d ps tries (Spent Subterm set list) = HasRanks d × Ended d.rules ps set × IsSpent d.rules ps set tries list
+-- no projection lets a pair go of a knot that the search comes to, under some ranks (ours)
+pub record IsStuck (d : SystemData) (ps : List PairData) (set : List ℕ) : Type 0 where
+  pub ranks : HasRanks d
+  pub ended : Ended d ps set
+  pub no_projection : HasNoProjection d.rules ps set
 
--- the answer is a proof, or a reason for there being none
-abbrev pub IsAnswer : SystemData → List PairData → ℕ → Answer → Type 0
-IsAnswer d ps tries (Yes certificate) = IsProof d ps (said certificate)
-IsAnswer d ps tries (Maybe cause) = IsReason d ps tries cause
+-- the search for a projection of a knot that the search comes to learnt as many clauses as it may, which are shown (ours)
+pub record IsSpentOn (d : SystemData) (ps : List PairData) (tries : ℕ) (set : List ℕ) (list : List (List Literal)) : Type 0 where
+  pub ranks : HasRanks d
+  pub ended : Ended d ps set
+  pub spent : IsSpent d.rules ps set tries list
+
+-- why there is no proof of termination: there are no ranks; no projection lets a pair of a set go; or the search for a projection was
+-- given up (ours)
+abbrev pub HasNoProof : SystemData → List PairData → ℕ → Cause → Type 0
+HasNoProof d ps tries (NoRanks cause) = IsCause d cause
+HasNoProof d ps tries (Stuck set) = IsStuck d ps set
+HasNoProof d ps tries (Spent Subterm set list) = IsSpentOn d ps tries set list
+HasNoProof d ps tries (Full visits) = ⊥
+
+-- no loop was found: there is none of at most so many steps, and all terms on the way to one were looked at (ours)
+pub record HasNoLoops (d : SystemData) (o : Options) : Type 0 where
+  pub none : HasNoLoop d o.depth
+  pub all : ReachesFewer d.rules o.depth o.visited
+
+-- or as many terms were reached as may be, and none of them ends a loop (ours)
+abbrev pub IsFull : SystemData → Options → List Arrival → Type 0
+IsFull d o list = AreVisited d o.depth o.visited list
+
+abbrev pub FoundNoLoop : SystemData → Options → Type 0
+FoundNoLoop d o = HasNoLoops d o ⊎ ((list : List Arrival) × IsFull d o list)
+
+-- why the search gave up: there are no ranks; it ended on a set of which no projection lets a pair go, and there are no loops; the
+-- search for a projection of such a set was given up; or it ended on such a set, and the search for loops is full, which outweighs
+-- only that (ours)
+abbrev pub IsReason : SystemData → List PairData → Options → Cause → Type 0
+IsReason d ps o (NoRanks cause) = IsCause d cause × FoundNoLoop d o
+IsReason d ps o (Stuck set) = IsStuck d ps set × HasNoLoops d o
+IsReason d ps o (Spent Subterm set list) = IsSpentOn d ps o.tries set list × FoundNoLoop d o
+IsReason d ps o (Full visits) = ((set : List ℕ) × IsStuck d ps set) × IsFull d o (map arrival visits)
+
+-- a certificate of a loop
+abbrev pub IsNo : Cert → Type 0
+IsNo (yes version ranks pairs lines) = ⊥
+IsNo (no t steps at puts) = Unit {0}
+
+-- a certificate of non-termination that is valid, within the limits of its format, and of the space that was searched
+pub record IsLoopProof (d : SystemData) (depth : ℕ) (c : Cert) : Type 0 where
+  pub no : IsNo c
+  pub loops : IsLoopCertificate d depth c
+
+-- the answer is a proof, a loop, or a reason for there being neither
+abbrev pub IsAnswer : SystemData → List PairData → Options → Answer → Type 0
+IsAnswer d ps o (Yes certificate) = IsProof d ps (said certificate)
+IsAnswer d ps o (No certificate) = IsLoopProof d o.depth (said certificate)
+IsAnswer d ps o (Maybe cause) = IsReason d ps o cause

@@ -1,6 +1,7 @@
 -- The sets of pairs that the search for a proof of termination comes to, and those on which it can end.
 use Rattle.std.specs.Prelude.{ℕ, ◌≡◌, ◌≢◌, ◌≤◌, List, [], ◌∷◌, length, Contains}
 use Rattle.wh_terms.specs.Rules.{RewriteRule}
+use Rattle.wh_system.specs.Systems.{SystemData}
 use Rattle.wh_system.specs.PairData.{PairData}
 use Rattle.wh_graph.specs.May.{Follows}
 use Rattle.wh_graph.specs.Components.{Reaches, AreComponents}
@@ -8,6 +9,10 @@ use Rattle.wh_subterm.specs.Projections.{Chosen}
 use Rattle.wh_subterm.specs.SubtermRows.{IsProjection}
 use Rattle.wh_find_subterm.specs.Found.{DropsAllBelow}
 use Rattle.wh_nodes.specs.Nodes.{IsSetOf, IsKept}
+use Rattle.wh_hopoly.specs.Evaluation.{Interpretation}
+use Rattle.wh_hopoly.specs.Moves.{Transfer}
+use Rattle.wh_polycheck.specs.Marks.{Mark}
+use Rattle.wh_meaning.specs.Covering.{IsCovering}
 use Rattle.wh_checker.specs.Valid.{IsWhole}
 
 -- the set is one component: each pair of it leads to each other one within it
@@ -32,16 +37,20 @@ pub record IsKnot (rules : List RewriteRule) (pairs : List PairData) (set : List
 abbrev pub HasNoProjection : List RewriteRule → List PairData → List ℕ → Type 0
 HasNoProjection rules pairs set = (args : List Chosen) (drop : List ℕ) → IsProjection rules pairs set args drop → ⊥
 
--- the search comes to the set of all pairs; from a set with several components to each of them; and from a knot to what a projection
--- leaves of it that lets some pair go and drops all pairs that are below (ours)
-pub data Arrives (rules : List RewriteRule) (pairs : List PairData) : List ℕ → Type 0 where
-  at_all : {set : List ℕ} → IsWhole pairs set → Arrives rules pairs set
-  at_component : {set part component : List ℕ} {parts : List (List ℕ)} → Arrives rules pairs set → AreComponents (Follows rules pairs) set parts
-      → 2 ≤ length parts → Contains parts part → IsSetOf (Contains part) component → Arrives rules pairs component
-  behind_projection : {set drop rest : List ℕ} {args : List Chosen} → Arrives rules pairs set → IsKnot rules pairs set
-      → IsProjection rules pairs set args drop → DropsAllBelow pairs set args drop → IsSetOf (IsKept set drop) rest → Arrives rules pairs rest
+-- the search comes to the set of all pairs; from a set with several components to each of them; from a knot to what a projection
+-- leaves of it that lets some pair go and drops all pairs that are below; and, where no projection lets one go, to what any
+-- interpretation leaves of it (ours)
+pub data Arrives (d : SystemData) (pairs : List PairData) : List ℕ → Type 0 where
+  at_all : {set : List ℕ} → IsWhole pairs set → Arrives d pairs set
+  at_component : {set part component : List ℕ} {parts : List (List ℕ)} → Arrives d pairs set → AreComponents (Follows d.rules pairs) set parts
+      → 2 ≤ length parts → Contains parts part → IsSetOf (Contains part) component → Arrives d pairs component
+  behind_projection : {set drop rest : List ℕ} {args : List Chosen} → Arrives d pairs set → IsKnot d.rules pairs set
+      → IsProjection d.rules pairs set args drop → DropsAllBelow pairs set args drop → IsSetOf (IsKept set drop) rest → Arrives d pairs rest
+  behind_interpretation : {set drop rest : List ℕ} {symbols : List Interpretation} {marks : List Mark} {rule_lines pair_lines : List (List Transfer)}
+      → Arrives d pairs set → IsKnot d.rules pairs set → HasNoProjection d.rules pairs set
+      → IsCovering d.symbols d.rules pairs set symbols marks rule_lines pair_lines drop → IsSetOf (IsKept set drop) rest → Arrives d pairs rest
 
 -- the search can end on a knot that it comes to (ours)
-pub record Ended (rules : List RewriteRule) (pairs : List PairData) (set : List ℕ) : Type 0 where
-  pub arrives : Arrives rules pairs set
-  pub knot : IsKnot rules pairs set
+pub record Ended (d : SystemData) (pairs : List PairData) (set : List ℕ) : Type 0 where
+  pub arrives : Arrives d pairs set
+  pub knot : IsKnot d.rules pairs set

@@ -11,7 +11,7 @@ use Rattle.wh_checker.specs.Looked.{SayChoices}
 use Rattle.wh_checker.specs.Walk.{GoesOn, AreProvedBy}
 use Rattle.wh_prover.specs.Arriving.{Arrives, Ended, HasNoProjection}
 use Rattle.wh_prover.specs.declared.answer.Cause.{Cause}
-use Rattle.wh_prover.specs.declared.answer.Cause.TheVariants.{NoRanks, Stuck, Spent}
+use Rattle.wh_prover.specs.declared.answer.Cause.TheVariants.{NoRanks, Stuck, Spent, Full}
 use Rattle.wh_prover.specs.declared.answer.Finder.TheVariants.{Subterm}
 
 -- more nodes than a set can have: of so many pairs one less than three times as many, and one of no pair (ours)
@@ -27,8 +27,9 @@ weight (set ∷ sets) = weigh set + weight sets
 -- why the walk ended on a set (ours)
 abbrev pub IsEnd : SystemData → List PairData → ℕ → Cause → Type 0
 IsEnd d ps tries (NoRanks cause) = ⊥
-IsEnd d ps tries (Stuck set) = Ended d.rules ps set × HasNoProjection d.rules ps set
-IsEnd d ps tries (Spent Subterm set list) = Ended d.rules ps set × IsSpent d.rules ps set tries list
+IsEnd d ps tries (Stuck set) = Ended d ps set × HasNoProjection d.rules ps set
+IsEnd d ps tries (Spent Subterm set list) = Ended d ps set × IsSpent d.rules ps set tries list
+IsEnd d ps tries (Full visits) = ⊥
 
 -- the lines of a node are for these choices and this drop list, and fit (ours)
 abbrev pub SaysProjection : SystemData → w.Node → List Chosen → List ℕ → Type 0
@@ -42,12 +43,12 @@ pub record Adds (d : SystemData) (ps : List PairData) (set : List ℕ) (sets aft
   pub goes : GoesOn d ps set line sets after
   pub fits : NodeFits line
   pub within : NodeWithin (2 ^ 32) line
-  pub arrives : All (Arrives d.rules ps) goes.left
+  pub arrives : All (Arrives d ps) goes.left
   pub lighter : weight goes.left < weigh set
 
 -- a walk that began with one set has come to these sets, with these lines for those before them (ours)
 pub record HasWalked (d : SystemData) (ps : List PairData) (set : List ℕ) (sets : List (List ℕ)) (lines : List w.Node) : Type 0 where
-  pub arrive : All (Arrives d.rules ps) sets
+  pub arrive : All (Arrives d ps) sets
   pub fit : All NodeFits lines
   pub within : All (NodeWithin (2 ^ 32)) lines
   pub few : length lines + weight sets ≤ weigh set

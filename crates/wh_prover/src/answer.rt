@@ -2,6 +2,7 @@
 
 use wh_access::NoRanks;
 use wh_cert::Certificate;
+use wh_find_loop::Visits;
 use wh_sat_trail::Clauses;
 use wh_system::PairSet;
 
@@ -10,6 +11,10 @@ use wh_system::PairSet;
 pub struct Options {
     /// How many clauses a finder may learn for one set.
     pub tries: u64,
+    /// How many steps a loop may have.
+    pub depth: u32,
+    /// How many terms the search for loops may keep.
+    pub visited: u32,
 }
 
 /// The answer of the search.
@@ -17,6 +22,8 @@ pub struct Options {
 pub enum Answer {
     /// Every reduction ends: a certificate of it, which the check accepts.
     Yes(Certificate),
+    /// Some term has reductions of every length: a certificate of it, which the check accepts.
+    No(Certificate),
     /// The search gave up.
     Maybe(Cause),
 }
@@ -26,7 +33,8 @@ pub enum Answer {
 pub enum Cause {
     /// The system is passing under no ranks.
     NoRanks(NoRanks),
-    /// The search came to this set, of which the graph settles nothing and no finder lets a pair go.
+    /// The search came to this set, of which the graph settles nothing and no projection lets a pair go, and no interpretation was
+    /// found. There is no loop in the space that was searched.
     Stuck(PairSet),
     /// A finder ended on a set without an answer.
     Spent {
@@ -37,6 +45,8 @@ pub enum Cause {
         /// The clauses that it learnt, as many as it may.
         list: Clauses,
     },
+    /// No projection lets a pair of some set go, and the search for loops kept as many terms as it may, which are shown.
+    Full(Visits),
 }
 
 /// What looks for a way to let pairs go.

@@ -1,4 +1,5 @@
-//! The search for a proof of termination: a tree of nodes by the graph of pairs and by projections, or why there is none.
+//! The search for a proof of termination: a tree of nodes by the graph of pairs, by projections and by interpretations; else for a loop;
+//! or why there is neither.
 #![tactic(auto)]
 
 mod answer;
@@ -10,5 +11,5 @@ mod sets;
 mod walk;
 
 pub use answer::{Answer, Cause, Finder, Options};
-pub use laws::proofs_are_accepted;
+pub use laws::{loops_are_accepted, proofs_are_accepted};
 pub use search::prove;

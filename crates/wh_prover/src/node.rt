@@ -1,11 +1,12 @@
 //! One node of a proof: how the chains of a set end, or why the search ends on it.
 
-ghost use Rattle.std.specs.Prelude.{◌↔◌, ◌<◌, ◌≤◌, All, IfOk, IsTrue, MatchOption, length, map, reverse};
+ghost use Rattle.std.specs.Prelude.{◌↔◌, ◌<◌, ◌≤◌, ℕ, All, IfOk, IsTrue, MatchOption, length, map, reverse};
+ghost use Rattle.wh_pairs.specs.SystemPairs.{HasPairs};
 ghost use Rattle.wh_pairs.specs.Views.{pairs_data};
 ghost use Rattle.wh_system.specs.SystemView.{system_data};
 ghost use Rattle.wh_cert.specs.Said.{said_node};
 ghost use Rattle.wh_graph.specs.Graphs.{IsGraphOf, edge_of, size_of};
-ghost use Rattle.wh_prover.specs.Arriving.{Arrives, Ended, IsAloneUnder};
+ghost use Rattle.wh_prover.specs.Arriving.{Arrives, Ended, HasNoProjection, IsAloneUnder};
 ghost use Rattle.wh_prover.specs.Walk.{Adds, IsEnd};
 
 use crate::answer::{Cause, Finder};
@@ -13,10 +14,16 @@ use crate::lines::node_of;
 use crate::sets::{kept, open_blocks};
 use std::alloc::{AllocError, Global};
 use wh_cert::{Node, Nodes};
-use wh_find_subterm::{ProjectionFound, find_projection};
+use wh_find_poly::climb;
+use wh_find_subterm::find_projection;
 use wh_graph::Graph;
 use wh_sat::Search;
 use wh_system::{PairList, PairSet, System};
+
+// How many times the sides of a rule or pair are evaluated in the search for an interpretation: so often, and so often more for each of
+// them.
+const EVALUATIONS: u64 = 30_000;
+const EVALUATIONS_FOR_EACH: u64 = 50;
 
 /// Gives the set a node, and puts what this leaves on top of the stack, the first of it on top; or says why the search ends on the
 /// set. The graph comes first: a set without pairs, with several components, or with one pair that may not follow itself. Then
@@ -32,8 +39,9 @@ pub fn settle(
     nodes: &mut Nodes,
 ) -> Result<Option<Cause>, AllocError>
     requires few { length pairs.now ≤ 4096 }
+    requires pairs { HasPairs (system_data system.now) (pairs_data pairs.now) }
     requires graph { IsGraphOf (system_data system.now).rules (pairs_data pairs.now) graph.now }
-    requires arrives { Arrives (system_data system.now).rules (pairs_data pairs.now) set }
+    requires arrives { Arrives (system_data system.now) (pairs_data pairs.now) set }
     ensures { IfOk result (λ end. MatchOption end (Adds (system_data system.now) (pairs_data pairs.now) set (reverse stack.old.items) (reverse stack.new.items) (map said_node nodes.old) (map said_node nodes.new))
         (IsEnd (system_data system.now) (pairs_data pairs.now) tries)) }
 {
@@ -77,7 +85,8 @@ fn lower(
     nodes: &mut Nodes,
 ) -> Result<Option<Cause>, AllocError>
     requires few { length pairs.now ≤ 4096 }
-    requires ended { Ended (system_data system.now).rules (pairs_data pairs.now) set }
+    requires pairs { HasPairs (system_data system.now) (pairs_data pairs.now) }
+    requires ended { Ended (system_data system.now) (pairs_data pairs.now) set }
     ensures { IfOk result (λ end. MatchOption end (Adds (system_data system.now) (pairs_data pairs.now) set (reverse stack.old.items) (reverse stack.new.items) (map said_node nodes.old) (map said_node nodes.new))
         (IsEnd (system_data system.now) (pairs_data pairs.now) tries)) }
 {
@@ -88,11 +97,37 @@ fn lower(
             nodes.push(node_of(alloc, system, &found)?)?;
             Ok(None)
         }
-        Search::Nothing => Ok(Some(Cause::Stuck(set))),
+        Search::Nothing => interpret(alloc, system, pairs, set, stack, nodes),
         Search::Spent(list) => Ok(Some(Cause::Spent {
             finder: Finder::Subterm,
             set,
             list,
         })),
     }
+}
+
+// A node by interpretations, where no projection lets a pair go.
+fn interpret(
+    alloc: Global,
+    system: &System,
+    pairs: &PairList,
+    set: PairSet,
+    stack: &mut Vec<PairSet>,
+    nodes: &mut Nodes,
+) -> Result<Option<Cause>, AllocError>
+    requires few { length pairs.now ≤ 4096 }
+    requires pairs { HasPairs (system_data system.now) (pairs_data pairs.now) }
+    requires ended { Ended (system_data system.now) (pairs_data pairs.now) set }
+    requires none { HasNoProjection (system_data system.now).rules (pairs_data pairs.now) set }
+    ensures { (tries : ℕ) → IfOk result (λ end. MatchOption end (Adds (system_data system.now) (pairs_data pairs.now) set (reverse stack.old.items) (reverse stack.new.items) (map said_node nodes.old) (map said_node nodes.new))
+        (IsEnd (system_data system.now) (pairs_data pairs.now) tries)) }
+{
+    let conditions = system.rules().len() as u64 + set.as_slice().len() as u64;
+    let limit = EVALUATIONS + EVALUATIONS_FOR_EACH * conditions;
+    let Some(node) = climb(alloc, system, pairs, &set, limit)? else {
+        return Ok(Some(Cause::Stuck(set)));
+    };
+    stack.push(kept(alloc, set.as_slice(), node.drop.as_slice())?)?;
+    nodes.push(Node::Poly(Box::new(alloc, node)?))?;
+    Ok(None)
 }

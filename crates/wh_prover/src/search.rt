@@ -1,11 +1,12 @@
-//! The search for a proof.
+//! The search for a proof, and then for a loop.
 
-ghost use Rattle.std.specs.Prelude.{◌≡◌, ◌≤◌, All, IfOk, length};
+ghost use Rattle.std.specs.Prelude.{◌≡◌, ◌≤◌, All, IfOk, MatchResult, length};
 ghost use Rattle.wh_access.specs.Passing.{IsPassing};
 ghost use Rattle.wh_pairs.specs.SystemPairs.{HasPairs};
 ghost use Rattle.wh_pairs.specs.Views.{pairs_data};
 ghost use Rattle.wh_system.specs.SystemView.{system_data};
-ghost use Rattle.wh_prover.specs.Answers.{IsAnswer};
+ghost use Rattle.wh_cert.specs.Said.{said};
+ghost use Rattle.wh_prover.specs.Answers.{HasNoProof, IsAnswer, IsProof};
 
 use crate::answer::{Answer, Cause, Options};
 use crate::sets::{numbers_below, numbers_of_ranks};
@@ -13,43 +14,50 @@ use crate::walk::walk;
 use std::alloc::{AllocError, Global};
 use wh_access::find_ranks;
 use wh_cert::{Certificate, Nodes, YesCertificate};
+use wh_find_loop::{LoopSearch, find_loop};
 use wh_graph::Graph;
 use wh_system::{PairList, System};
 use wh_types::{Or, Ranks};
 
-/// A proof that every reduction of the system ends, or why the search gave up.
+/// A proof that every reduction of the system ends, or a loop, or why the search gave up.
 ///
-/// `Yes` is a certificate that is valid and within the limits of its format, and no value exceeds a limit where it is checked.
-/// `Maybe` names the first set on which the search ends, or why there are no ranks.
+/// `Yes` is a certificate that is valid and within the limits of its format, and no value exceeds a limit where it is checked. `No` is a
+/// certificate of a loop of at most `depth` steps from the left side of a rule. `Maybe` names the first set on which the search
+/// ended, or why there are no ranks; it comes only where no loop was found.
 pub fn prove(
     alloc: Global,
     system: &System,
     pairs: &PairList,
     options: &Options,
 ) -> Result<Answer, AllocError>
-    requires { HasPairs (system_data system.now) (pairs_data pairs.now) }
-    ensures { IfOk result (IsAnswer (system_data system.now) (pairs_data pairs.now) options.now.tries) }
+    requires pairs { HasPairs (system_data system.now) (pairs_data pairs.now) }
+    requires depth { options.now.depth ≤ 100 }
+    ensures { IfOk result (IsAnswer (system_data system.now) (pairs_data pairs.now) options.now) }
 {
-    match find_ranks(alloc, system) {
-        Ok(ranks) => prove_under(alloc, system, pairs, options.tries, &ranks),
-        Err(Or::Because(cause)) => Ok(Answer::Maybe(Cause::NoRanks(cause))),
-        Err(Or::NoMemory) => Err(AllocError),
+    let found = match find_ranks(alloc, system) {
+        Ok(ranks) => prove_under(alloc, system, pairs, options.tries, &ranks)?,
+        Err(Or::Because(cause)) => Err(Cause::NoRanks(cause)),
+        Err(Or::NoMemory) => return Err(AllocError),
+    };
+    match found {
+        Ok(certificate) => Ok(Answer::Yes(certificate)),
+        Err(cause) => disprove(alloc, system, pairs, options, cause),
     }
 }
 
-// The same, under ranks that were found.
+// A proof under ranks that were found, or why there is none.
 fn prove_under(
     alloc: Global,
     system: &System,
     pairs: &PairList,
     tries: u64,
     ranks: &Ranks,
-) -> Result<Answer, AllocError>
+) -> Result<Result<Certificate, Cause>, AllocError>
     requires pairs { HasPairs (system_data system.now) (pairs_data pairs.now) }
     requires passing { IsPassing (system_data system.now) ranks.now }
     requires each { length ranks.now ≡ (system_data system.now).symbols.sorts }
     requires low { All (λ r. r ≤ 65535) ranks.now }
-    ensures { IfOk result (IsAnswer (system_data system.now) (pairs_data pairs.now) tries) }
+    ensures { IfOk result (λ found. MatchResult found (λ certificate. IsProof (system_data system.now) (pairs_data pairs.now) (said certificate)) (HasNoProof (system_data system.now) (pairs_data pairs.now) tries)) }
 {
     system.is_well_made();
     let count = pairs.as_slice().len() as u32;
@@ -57,12 +65,34 @@ fn prove_under(
     let whole = numbers_below(alloc, count)?;
     let mut nodes = Nodes::new(alloc)?;
     if let Some(cause) = walk(alloc, system, pairs, &graph, tries, whole, &mut nodes)? {
-        return Ok(Answer::Maybe(cause));
+        return Ok(Err(cause));
     }
-    Ok(Answer::Yes(Certificate::Yes(YesCertificate {
+    Ok(Ok(Certificate::Yes(YesCertificate {
         version: 1,
         ranks: numbers_of_ranks(alloc, ranks)?,
         pairs: count,
         nodes,
     })))
+}
+
+// A loop, or why there is neither a proof nor a loop. A search for loops that is full outweighs only that nothing lets a pair go.
+fn disprove(
+    alloc: Global,
+    system: &System,
+    pairs: &PairList,
+    options: &Options,
+    cause: Cause,
+) -> Result<Answer, AllocError>
+    requires no_proof { HasNoProof (system_data system.now) (pairs_data pairs.now) options.now.tries cause }
+    requires depth { options.now.depth ≤ 100 }
+    ensures { IfOk result (IsAnswer (system_data system.now) (pairs_data pairs.now) options.now) }
+{
+    match find_loop(alloc, system, options.depth, options.visited)? {
+        LoopSearch::Found(certificate) => Ok(Answer::No(Certificate::No(certificate))),
+        LoopSearch::Nothing => Ok(Answer::Maybe(cause)),
+        LoopSearch::Full(visits) => match cause {
+            Cause::Stuck(_) => Ok(Answer::Maybe(Cause::Full(visits))),
+            other => Ok(Answer::Maybe(other)),
+        },
+    }
 }

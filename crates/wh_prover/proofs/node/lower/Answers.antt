@@ -17,7 +17,7 @@ pub find_projection-requires-clause-set : goal.find_projection-requires-clause-s
 find_projection-requires-clause-set c =
     let pairs = c.args.pairs.now in
     let set = c.args.set in
-    subst (λ n. All (λ m. m < n) set) (length-map pairs pair_data) (arrives_within (system_data c.args.system.now).rules (pairs_data pairs) set c.requires.ended.arrives)
+    subst (λ n. All (λ m. m < n) set) (length-map pairs pair_data) (arrives_within (system_data c.args.system.now) (pairs_data pairs) set c.requires.ended.arrives)
 
 pub node_of-requires-clause-symbols : goal.node_of-requires-clause-symbols
 node_of-requires-clause-symbols c =

@@ -28,7 +28,7 @@ components-requires-clause-graph c = c.requires.graph.graph
 pub components-requires-clause-set : goal.components-requires-clause-set
 components-requires-clause-set c =
     let set = c.args.set in
-    subst (λ n. All (λ m. m < n) set) (sym c.requires.graph.size) (arrives_within (system_data c.args.system.now).rules (pairs_data c.args.pairs.now) set c.requires.arrives)
+    subst (λ n. All (λ m. m < n) set) (sym c.requires.graph.size) (arrives_within (system_data c.args.system.now) (pairs_data c.args.pairs.now) set c.requires.arrives)
 
 pub returns-then-as_slice-gt1 : goal.returns-then-as_slice-gt1
 returns-then-as_slice-gt1 c =
@@ -51,7 +51,7 @@ pub is_alone-requires : goal.is_alone-requires
 is_alone-requires c =
     let set = c.args.set in
     let graph = c.args.graph.now in
-    let within = subst (λ n. All (λ m. m < n) set) (sym c.requires.graph.size) (arrives_within (system_data c.args.system.now).rules (pairs_data c.args.pairs.now) set c.requires.arrives) in
+    let within = subst (λ n. All (λ m. m < n) set) (sym c.requires.graph.size) (arrives_within (system_data c.args.system.now) (pairs_data c.args.pairs.now) set c.requires.arrives) in
     subst (All (λ m. m < size_of graph)) (sym c.as_slice-3.ensures.numbers) within
 
 pub returns-then-is_alone : goal.returns-then-is_alone
@@ -67,14 +67,14 @@ returns-then-is_alone c =
 
 pub lower-requires-clause-ended : goal.lower-requires-clause-ended
 lower-requires-clause-ended c =
-    let rules = (system_data c.args.system.now).rules in
+    let d = system_data c.args.system.now in
     let ps = pairs_data c.args.pairs.now in
     let set = c.args.set in
     let some = subst (λ (s : List ℕ). s ≢ []) c.as_slice.ensures.numbers (tested_some c.as_slice.result.now c.is_empty.result c.is_empty.ensures c.if-is_empty.false) in
     let few : length c.in_ok-blocks.blocks ≤ 1 = omega (arith, c.if-as_slice-gt1.false, ap (λ (l : List (List ℕ)). length l) c.as_slice-2.ensures) in
     let graph = c.args.graph.now in
     let free = not_so c.is_alone.result (IsAloneUnder (edge_of graph) c.as_slice-3.result.now) c.is_alone.ensures.1 c.if-is_alone.false in
-    let same = alone_same (edge_of graph) (Follows rules ps) c.as_slice-3.result.now c.requires.graph.each in
-    let not_alone = subst (λ (s : List ℕ). IsAlone rules ps s → ⊥) c.as_slice-3.ensures.numbers (λ alone. free (same.1 alone)) in
-    let are = components_of_pairs rules ps graph set c.in_ok-blocks.blocks c.requires.graph c.in_ok-blocks.ensures.components in
-    ended rules ps set c.in_ok-blocks.blocks c.requires.arrives some are few not_alone
+    let same = alone_same (edge_of graph) (Follows d.rules ps) c.as_slice-3.result.now c.requires.graph.each in
+    let not_alone = subst (λ (s : List ℕ). IsAlone d.rules ps s → ⊥) c.as_slice-3.ensures.numbers (λ alone. free (same.1 alone)) in
+    let are = components_of_pairs d.rules ps graph set c.in_ok-blocks.blocks c.requires.graph c.in_ok-blocks.ensures.components in
+    ended d ps set c.in_ok-blocks.blocks c.requires.arrives some are few not_alone
