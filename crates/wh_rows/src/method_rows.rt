@@ -2,7 +2,7 @@
 
 ghost use Rattle.std.specs.Prelude.{◌<◌, All, IfOk, length};
 
-use crate::samples::{ETA, EVEN_ODD, FUNCTION_LIST, IDENTITY, MAP, ORDINALS, UNTYPED};
+use crate::samples::{APART, BETA, ETA, EVEN_ODD, FUNCTION_LIST, IDENTITY, MAP, ORDINALS, UNTYPED};
 use std::alloc::{AllocError, Global};
 use std::test::Fail;
 use wh_access::{Inaccessible, NoRanks, check_ranks, find_ranks};
@@ -155,9 +155,7 @@ fn checks_projections(rt: HostRuntime) -> Result<(), Fail> {
 
 #[test]
 fn a_beta_redex_may_become_a_call(rt: HostRuntime) -> Result<(), Fail> {
-    let text =
-        b"sort o;fun c:o;fun s:o->o;fun f:o->o;rule {X:o} f (s X) => f ((\\x:o.x) (s X));".as_slice();
-    let (system, list) = problem_of(rt.alloc(), text)?;
+    let (system, list) = problem_of(rt.alloc(), BETA)?;
     match list.as_slice() {
         [pair] => assert!(rt; may_follow(&system, pair, pair)),
         _ => panic!(rt; "there is one pair"),
@@ -182,10 +180,6 @@ fn finds_components(rt: HostRuntime) -> Result<(), Fail> {
     }
     Ok(())
 }
-
-/// Two symbols that call each other, and one that calls itself: pair 0 follows pair 1 and the other way round.
-const APART: &[u8] =
-    b"sort o;fun s:o->o;fun e:o->o;fun d:o->o;fun h:o->o;rule {X:o} e (s X) => d X;rule {X:o} d (s X) => e X;rule {X:o} h (s X) => h X;";
 
 /// What is wrong with blocks, and at which pairs.
 fn told_of_blocks(answer: Result<(), BlockFault>) -> (&'static str, u32, u32) {

@@ -1,7 +1,7 @@
 //! Rows of nodes of interpretations: what they accept, each reason for a rejection, which comes first, and the limits on values.
 
 use crate::run_rows::told;
-use crate::samples::{IDENTITY, MAP};
+use crate::samples::{IDENTITY, MAP, TWICE};
 use std::alloc::{AllocError, Global};
 use std::test::Fail;
 use wh_top::Status;
@@ -179,10 +179,6 @@ const MAP_CHANGES: &[(&str, &str, &[u8])] = &[
         b"REJECTED node 0 bad-polynomial map\n",
     ),
 ];
-
-/// A symbol that calls itself beside a function that is applied to functions.
-const TWICE: &[u8] =
-    b"sort nat;\nfun s : nat -> nat;\nfun h : (nat -> nat) -> nat;\nfun p : nat -> nat -> nat;\nfun g : nat -> nat;\nrule {X:nat} g (s X) => p (g X) (h (\\x:nat.s x));\n";
 
 /// Polynomials of the symbols `s`, `h` and `p` of `TWICE`, and what a check writes.
 const TWICE_ROWS: &[(&str, &str, &str, &[u8])] = &[

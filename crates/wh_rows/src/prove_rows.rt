@@ -1,40 +1,74 @@
-//! Rows of the search for a proof: the text of each proof is accepted by the check, and where there is none the line says why.
+//! Rows of the search for a proof or a loop: the text of each certificate that it prints is given to the check, which accepts it; and where
+//! there is none the line says why.
 
-use crate::run_rows::told;
+use crate::run_rows::{NEIGHBOURS, PAIRS, READ, told};
 use crate::samples::{
-    ETA, EVEN_ODD, FOLD, FUNCTION_LIST, IDENTITY, INNER_CALL, ITERATION, LOOP, MAP, NO_RULES,
-    ORDINALS, PARTIAL, PRENEX, PROCESSES, RECURSOR, SORT, TWO_CALLS, UNDER_BINDER, UNTYPED,
+    APART, BETA, CALLS, DOUBLE, ETA, EVEN_ODD, FOLD, FUNCTION_LIST, IDENTITY, INNER_CALL,
+    ITERATION, LOOP, MAP, NO_RULES, ORDINALS, PARTIAL, PRENEX, PROCESSES, RECURSOR, SORT, TWICE,
+    TWO_CALLS, UNDER_BINDER, UNTYPED,
 };
 use std::alloc::{AllocError, Global};
 use std::test::Fail;
 use wh_top::Status;
 
-/// A search with as many clauses as are usual.
+/// A search within the usual bounds.
 const SEARCH: &[&str] = &["prove", "system"];
 
-/// A search without any clause that is learnt.
-const NO_TRIES: &[&str] = &["prove", "system", "--tries", "0"];
-
-/// A search with as many clauses as may be asked for.
-const MOST_TRIES: &[&str] = &["prove", "system", "--tries", "1000000"];
-
-/// Searches that find a proof.
-const PROVED: &[(&[&str], &[u8])] = &[
-    (SEARCH, b""),
-    (SEARCH, MAP),
-    (SEARCH, ITERATION),
-    (MOST_TRIES, ITERATION),
-    (SEARCH, NO_RULES),
-    (SEARCH, EVEN_ODD),
+/// Systems of which the search finds a proof.
+const PROVED: &[&[u8]] = &[
+    b"",
+    NO_RULES,
+    MAP,
+    FUNCTION_LIST,
+    INNER_CALL,
+    TWO_CALLS,
+    EVEN_ODD,
+    IDENTITY,
+    ITERATION,
+    FOLD,
+    SORT,
+    RECURSOR,
+    CALLS,
+    DOUBLE,
+    TWICE,
+    APART,
 ];
+
+/// Systems of which it finds a loop.
+const LOOPS: &[&[u8]] = &[LOOP, PARTIAL, UNDER_BINDER, BETA];
 
 /// Searches that give up, and what is written.
 const GIVEN_UP: &[(&[&str], &[u8], &[u8])] = &[
-    (NO_TRIES, ITERATION, b"MAYBE spent subterm 0\n"),
+    (
+        &["prove", "system", "--tries", "0"],
+        ITERATION,
+        b"MAYBE spent subterm 0\n",
+    ),
+    (
+        &["prove", "--tries=0", "system"],
+        ITERATION,
+        b"MAYBE spent subterm 0\n",
+    ),
+    (
+        &["prove", "system", "--depth", "0", "--tries", "1000000"],
+        PARTIAL,
+        b"MAYBE stuck 1\n",
+    ),
+    (
+        &["prove", "system", "--visited", "1"],
+        PARTIAL,
+        b"MAYBE spent loop 1\n",
+    ),
+    (
+        &["prove", "system", "--depth=0"],
+        LOOP,
+        b"MAYBE stuck 0 1\n",
+    ),
     (SEARCH, ORDINALS, b"MAYBE no-ranks sorts ord\n"),
     (SEARCH, UNTYPED, b"MAYBE no-ranks sorts o\n"),
-    (SEARCH, IDENTITY, b"MAYBE stuck 0\n"),
-    (SEARCH, PARTIAL, b"MAYBE stuck 1\n"),
+    (SEARCH, PRENEX, b"MAYBE no-ranks sorts form\n"),
+    (SEARCH, PROCESSES, b"MAYBE no-ranks sorts proc\n"),
+    (SEARCH, ETA, b"MAYBE stuck 0\n"),
     (SEARCH, b"sort nat;sort nat;", b"REFUSED twice 14\n"),
 ];
 
@@ -42,11 +76,35 @@ const GIVEN_UP: &[(&[&str], &[u8], &[u8])] = &[
 const OTHER_WORDS: &[&[&str]] = &[
     &["prove"],
     &["prove", "-system"],
+    &["prove", "system", "more"],
     &["prove", "system", "--tries"],
+    &["prove", "system", "--tries", "--"],
     &["prove", "system", "--tries", "007"],
     &["prove", "system", "--tries", "1000001"],
-    &["prove", "system", "--depth", "1"],
-    &["prove", "--tries", "1", "system"],
+    &["prove", "system", "--tries", "0", "--tries", "1"],
+    &["prove", "system", "--depth", "101"],
+    &["prove", "system", "--visited", "0"],
+    &["prove", "--", "system", "--depth", "1"],
+    &["prove", "--help"],
+    &["check", "system", "certificate", "--depth", "1"],
+    &["gen", "0"],
+    &["gen", "201"],
+    &["gen", "03"],
+];
+
+/// Words for the same as `SEARCH`.
+const SAME_WORDS: &[&[&str]] = &[
+    &["prove", "--", "system"],
+    &[
+        "prove",
+        "--tries",
+        "10000",
+        "system",
+        "--depth=6",
+        "--visited",
+        "500",
+    ],
+    &["prove", "--tries=10000", "--", "system"],
 ];
 
 /// What a search writes comes to.
@@ -54,6 +112,8 @@ const OTHER_WORDS: &[&[&str]] = &[
 enum Found {
     /// A text that begins with `YES 1` and that a check accepts.
     Proof,
+    /// A text that begins with `NO 1` and that a check accepts.
+    Loop,
     /// A line that begins with `MAYBE`.
     None,
     /// Another text.
@@ -68,8 +128,11 @@ fn searched(alloc: Global, given: &[&str], system: &[u8]) -> Result<Found, Alloc
         return Ok(Found::None);
     }
     let (_, checked) = told(alloc, &["check", "system", "certificate"], system, text)?;
-    if text.starts_with(b"YES 1\n".as_slice()) && checked.bytes() == b"YES\n".as_slice() {
+    let answer = checked.bytes();
+    if text.starts_with(b"YES 1\n".as_slice()) && answer == b"YES\n".as_slice() {
         Ok(Found::Proof)
+    } else if text.starts_with(b"NO 1\n".as_slice()) && answer == b"NO\n".as_slice() {
+        Ok(Found::Loop)
     } else {
         Ok(Found::Other)
     }
@@ -77,8 +140,19 @@ fn searched(alloc: Global, given: &[&str], system: &[u8]) -> Result<Found, Alloc
 
 #[test]
 fn finds_proofs(rt: HostRuntime) -> Result<(), Fail> {
-    for (given, system) in PROVED {
-        assert!(rt; searched(rt.alloc(), *given, *system)? == Found::Proof);
+    for system in PROVED {
+        assert!(rt; searched(rt.alloc(), SEARCH, *system)? == Found::Proof);
+    }
+    for given in SAME_WORDS {
+        assert!(rt; searched(rt.alloc(), *given, MAP)? == Found::Proof);
+    }
+    Ok(())
+}
+
+#[test]
+fn finds_loops(rt: HostRuntime) -> Result<(), Fail> {
+    for system in LOOPS {
+        assert!(rt; searched(rt.alloc(), SEARCH, *system)? == Found::Loop);
     }
     Ok(())
 }
@@ -93,21 +167,37 @@ fn says_why_there_is_none(rt: HostRuntime) -> Result<(), Fail> {
 }
 
 #[test]
-fn answers_every_sample(rt: HostRuntime) -> Result<(), Fail> {
-    for system in [
-        LOOP,
-        FUNCTION_LIST,
-        ETA,
-        INNER_CALL,
-        TWO_CALLS,
-        UNDER_BINDER,
-        FOLD,
-        SORT,
-        RECURSOR,
-        PRENEX,
-        PROCESSES,
+fn answers_all_systems(rt: HostRuntime) -> Result<(), Fail> {
+    for (system, _) in PAIRS {
+        assert!(rt; searched(rt.alloc(), SEARCH, *system)? != Found::Other);
+    }
+    for (system, _, _) in NEIGHBOURS {
+        assert!(rt; searched(rt.alloc(), SEARCH, *system)? != Found::Other);
+    }
+    for system in READ {
+        assert!(rt; searched(rt.alloc(), SEARCH, *system)? != Found::Other);
+    }
+    Ok(())
+}
+
+#[test]
+fn proves_generated_systems(rt: HostRuntime) -> Result<(), Fail> {
+    for (number, text) in [
+        (
+            "1",
+            b"GEN 1\nrules 2\npairs 1\nnodes 2\nanswer YES\n".as_slice(),
+        ),
+        (
+            "3",
+            b"GEN 3\nrules 6\npairs 5\nnodes 9\nanswer YES\n".as_slice(),
+        ),
+        (
+            "200",
+            b"GEN 200\nrules 400\npairs 399\nnodes 600\nanswer YES\n".as_slice(),
+        ),
     ] {
-        assert!(rt; searched(rt.alloc(), SEARCH, system)? != Found::Other);
+        let (_, out) = told(rt.alloc(), &["gen", number], b"", b"")?;
+        assert_eq!(rt; out.bytes(), text);
     }
     Ok(())
 }

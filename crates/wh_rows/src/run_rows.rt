@@ -257,7 +257,7 @@ fn shows_what_reads_back(rt: HostRuntime) -> Result<(), Fail> {
 }
 
 /// Systems with how their pairs are shown.
-const PAIRS: &[(&[u8], &[u8])] = &[
+pub(crate) const PAIRS: &[(&[u8], &[u8])] = &[
     (
         PARTIAL,
         b"PAIRS 2\npair 0 rule 0 (f# X) => (h# f)\npair 1 rule 0 (f# X) => (f# ?0)\n",
@@ -446,7 +446,7 @@ fn tells_why_a_system_is_refused(rt: HostRuntime) -> Result<(), Fail> {
 }
 
 /// Texts that just keep a rule of the format.
-const READ: &[&[u8]] = &[
+pub(crate) const READ: &[&[u8]] = &[
     b"",
     b"sort o;\nfun a : o;\nfun b : o;\nrule {} a => b;\nrule {} b => a;",
     b"sort abcdefghijklmnopqrstuvwxyz0123456789_'ABCDEFGHIJKLMNOPQRSTUVWXYZ;",
@@ -672,7 +672,7 @@ fn keeps_the_size_of_sides(rt: HostRuntime) -> Result<(), Fail> {
 }
 
 /// Texts of systems, each with one that differs from it little and is refused, and with what is told of that.
-const NEIGHBOURS: &[(&[u8], &[u8], &[u8])] = &[
+pub(crate) const NEIGHBOURS: &[(&[u8], &[u8], &[u8])] = &[
     (b"sort a;", b"sort a?;", b"REFUSED bad-byte 6\n"),
     (
         b"sort o;fun k:(o->o)->o;rule {} k (\\$65535:o.$65535) => k (\\x:o.x);",

@@ -106,3 +106,23 @@ pub const PRENEX: &[u8] =
 /// Processes: `examples/processes.afs`.
 pub const PROCESSES: &[u8] =
     b"# Choice and sequence of processes that may read data: sequences are moved inward.\nsort proc;\nsort data;\nfun stop : proc;\nfun choice : proc -> proc -> proc;\nfun seq : proc -> proc -> proc;\nfun read : (data -> proc) -> proc;\nrule {P:proc} seq stop P => stop;\nrule {P:proc} choice P P => P;\nrule {P:proc, Q:proc, R:proc} seq (choice P Q) R => choice (seq P R) (seq Q R);\nrule {P:proc, Q:proc, R:proc} seq (seq P Q) R => seq P (seq Q R);\nrule {P:[data] proc, Q:proc} seq (read (\\x:data.P[x])) Q => read (\\x:data.seq P[x] Q);\n";
+
+/// Doubling, where one function calls another: `examples/calls.afs`.
+pub const CALLS: &[u8] =
+    b"# Doubling by addition: one function calls another, which calls itself.\nsort nat;\nfun zero : nat;\nfun s : nat -> nat;\nfun add : nat -> nat -> nat;\nfun double : nat -> nat;\nrule {Y:nat} add zero Y => Y;\nrule {X:nat, Y:nat} add (s X) Y => s (add X Y);\nrule {X:nat} double X => add X X;\n";
+
+/// A call that stands in a beta redex.
+pub const BETA: &[u8] =
+    b"sort o;fun c:o;fun s:o->o;fun f:o->o;rule {X:o} f (s X) => f ((\\x:o.x) (s X));";
+
+/// Two symbols that call each other, and one that calls itself: pair 0 follows pair 1 and the other way round.
+pub const APART: &[u8] =
+    b"sort o;fun s:o->o;fun e:o->o;fun d:o->o;fun h:o->o;rule {X:o} e (s X) => d X;rule {X:o} d (s X) => e X;rule {X:o} h (s X) => h X;";
+
+/// A symbol that calls itself beside a function that is applied to functions.
+pub const TWICE: &[u8] =
+    b"sort nat;\nfun s : nat -> nat;\nfun h : (nat -> nat) -> nat;\nfun p : nat -> nat -> nat;\nfun g : nat -> nat;\nrule {X:nat} g (s X) => p (g X) (h (\\x:nat.s x));\n";
+
+/// Doubling by addition.
+pub const DOUBLE: &[u8] =
+    b"sort n;fun z:n;fun s:n->n;fun add:n->n->n;fun double:n->n;rule {Y:n} add z Y => Y;rule {X:n,Y:n} add (s X) Y => s (add X Y);rule {X:n} double X => add X X;";

@@ -2,8 +2,8 @@
 
 use crate::run_rows::{told, words};
 use crate::samples::{
-    ETA, EVEN_ODD, FUNCTION_LIST, IDENTITY, ITERATION, LOOP, MAP, MAP_CERTIFICATE, NO_RULES,
-    UNTYPED,
+    DOUBLE, ETA, EVEN_ODD, FUNCTION_LIST, IDENTITY, ITERATION, LOOP, MAP, MAP_CERTIFICATE,
+    NO_RULES, UNTYPED,
 };
 use std::alloc::{AllocError, Global};
 use std::test::Fail;
@@ -259,10 +259,6 @@ const IDENTITY_ROWS: &[(&[u8], &[u8])] = &[
         b"REJECTED node 1 loops 0\n",
     ),
 ];
-
-/// Doubling by addition.
-const DOUBLE: &[u8] =
-    b"sort n;fun z:n;fun s:n->n;fun add:n->n->n;fun double:n->n;rule {Y:n} add z Y => Y;rule {X:n,Y:n} add (s X) Y => s (add X Y);rule {X:n} double X => add X X;";
 
 /// Checks each certificate for the system, and compares what is written.
 fn checks(alloc: Global, system: &[u8], rows: &[(&[u8], &[u8])]) -> Result<bool, AllocError> {

@@ -14,6 +14,7 @@ use Rattle.wh_access.proofs.FindLemmas.{sorts_known}
 use Rattle.wh_checker.specs.Named.{HasMeta}
 use Rattle.wh_checker.proofs.Named.{used_there}
 use Rattle.wh_prover.specs.Answers.{IsReason}
+use Rattle.wh_prover.specs.declared.answer.Options.{Options}
 use Rattle.wh_prover.specs.declared.answer.Cause.{Cause}
 use Rattle.wh_prover.specs.declared.answer.Cause.TheVariants as cause
 use Rattle.wh_top.specs.Proving.{CauseIsThere}
@@ -56,9 +57,10 @@ cycle_there d (s ∷ ss) made cycle =
     (along_there n (Leads d.symbols d.rules) (λ s t leads. demand_there d _ made leads.1) s ss s cycle.1)
 
 -- what a reason for giving up names
-pub reason_there : (d : SystemData) (ps : List PairData) (tries : ℕ) (c : Cause) → IsWellMadeSystem d → IsReason d ps tries c
+pub reason_there : (d : SystemData) (ps : List PairData) (o : Options) (c : Cause) → IsWellMadeSystem d → IsReason d ps o c
     → CauseIsThere d c
-reason_there d ps tries (cause.NoRanks (ranks.Unread r z)) made is = unread_there d r z made is
-reason_there d ps tries (cause.NoRanks (ranks.Cycle sorts)) made is = cycle_there d sorts made is.1
-reason_there d ps tries (cause.Stuck set) made is = tt
-reason_there d ps tries (cause.Spent finder set list) made is = tt
+reason_there d ps o (cause.NoRanks (ranks.Unread r z)) made is = unread_there d r z made is.0
+reason_there d ps o (cause.NoRanks (ranks.Cycle sorts)) made is = cycle_there d sorts made is.0.1
+reason_there d ps o (cause.Stuck set) made is = tt
+reason_there d ps o (cause.Spent finder set list) made is = tt
+reason_there d ps o (cause.Full visits) made is = tt

@@ -3,3 +3,4 @@ pub mod Meaning
 pub mod ProofText
 pub mod Searching
 pub mod Standing
+pub mod Asking

@@ -21,10 +21,14 @@ use Rattle.wh_top.specs.declared.status.Status.{Status}
 use Rattle.wh_answer.specs.Texts.{report_text}
 use Rattle.wh_answer.specs.declared.report.Report.{Report}
 use Rattle.wh_answer.specs.declared.report.Report.TheVariants.{Yes, No, Rejected, Maybe, Refused, BadWords, ReadFault, OutOfMemory, TooLong, Overflow, TooLarge}
-use Rattle.wh_top.specs.Words.{Request, check, prove, show, Asks, AsksWhether}
+use Rattle.wh_words.specs.Words.{Bounds, Request, check, prove, show, gen, Asks}
+use Rattle.wh_top.specs.Words.{AsksWhether, options_of}
 use Rattle.wh_top.specs.Outcomes.{Shelves, Told, IsYes, IsNo, BeginsWith, Checked, Stands, StandsBySystem, system_limit}
-use Rattle.wh_top.specs.Proving.{IsProofText, ShowsProof, StandsForSearch}
-use Rattle.wh_top.specs.Run.{Answers, Ends, MeansYes, MeansNo, Replies, Tells}
+use Rattle.wh_prover.specs.declared.answer.Options.{Options}
+use Rattle.wh_prover.proofs.LoopLemmas.{loop_is_valid}
+use Rattle.wh_top.specs.Proving.{IsFoundText, ShowsFound, StandsForSearch}
+use Rattle.wh_top.specs.Generating.{StandsForGenerated}
+use Rattle.wh_top.specs.Run.{Answers, Ends, MeansYes, MeansNo, Replies, SaysNo, Tells}
 
 -- a system that is read and has a valid YES certificate
 pub yes_means : (system : List ℕ) (d : SystemData) (ps : List PairData) (c : Cert) → Reads system d → HasPairs d ps → IsYes c
@@ -102,19 +106,21 @@ output_front old new f g status result before text output (inr (fault, (front, b
     let same = append_cancel_left before front output (some_same (before ++ front) (before ++ output) (sym (wrote before e) ∙ h)) in
     (back, cut ∙ ap (λ x. x ++ back) same)
 
--- what an answer can be whose text begins with a letter: the answer o to a check, or the text of a proof
+-- what an answer can be whose text begins with a letter: the answer o to a check, or the text of a proof or of a loop
 abbrev IsAnswerTo : Shelves → List (List ℕ) → Status → List ℕ → Report → Type 0
 IsAnswerTo s words status text o =
     ((file cert : List ℕ) × Asks words (check file cert) × Stands s file cert o)
-    ⊎ ((file : List ℕ) × (tries : ℕ) × Asks words (prove file tries) × ShowsProof s file status text)
+    ⊎ ((file : List ℕ) × (b : Bounds) × Asks words (prove file b) × ShowsFound s file (options_of b) status text)
 
--- it is one of these where no other answer has a text that begins so, and o is none of the system file alone nor of a search
+-- it is one of these where no other answer has a text that begins so, and o is none of the system file alone, of a search or of a
+-- generated system
 only_answer : (s : Shelves) (words : List (List ℕ)) (status : Status) (text rest : List ℕ) (letter : ℕ) (o : Report)
     → ((p : Report) (more : List ℕ) → report_text p ≡ letter ∷ more → p ≡ o)
-    → ((file : List ℕ) → StandsBySystem s file o → ⊥) → ((file : List ℕ) (tries : ℕ) → StandsForSearch s file tries o → ⊥)
-    → (83 ≡ letter → ⊥) → (66 ≡ letter → ⊥) → (79 ≡ letter → ⊥) → Answers s words status text → text ≡ letter ∷ rest
+    → ((file : List ℕ) → StandsBySystem s file o → ⊥) → ((file : List ℕ) (options : Options) → StandsForSearch s file options o → ⊥)
+    → ((n : ℕ) → StandsForGenerated n o → ⊥)
+    → (83 ≡ letter → ⊥) → (71 ≡ letter → ⊥) → (66 ≡ letter → ⊥) → (79 ≡ letter → ⊥) → Answers s words status text → text ≡ letter ∷ rest
     → IsAnswerTo s words status text o
-only_answer s words status text rest letter o only never never_found show_differs words_differ memory_differs (inl served) e =
+only_answer s words status text rest letter o only never never_found never_made show_differs made_differs words_differ memory_differs (inl served) e =
     by served.request served.asks served.reply
   where
     told : (P : Report → Type 0) → Tells P status text → P o
@@ -122,31 +128,37 @@ only_answer s words status text rest letter o only never never_found show_differ
 
     by : (r : Request) → Asks words r → Replies s r status text → IsAnswerTo s words status text o
     by (check file cert) asks reply = inl (file, cert, asks, told (Stands s file cert) reply)
-    by (prove file tries) asks (inl shows) = inr (file, tries, asks, shows)
-    by (prove file tries) asks (inr tells) = absurd (never_found file tries (told (StandsForSearch s file tries) tells))
+    by (prove file b) asks (inl shows) = inr (file, b, asks, shows)
+    by (prove file b) asks (inr tells) = absurd (never_found file (options_of b) (told (StandsForSearch s file (options_of b)) tells))
     by (show file) asks (inl shows) = absurd (not_byte letter 83 _ rest show_differs (sym shows.begins.1 ∙ e))
     by (show file) asks (inr tells) = absurd (never file (told (StandsBySystem s file) tells))
-only_answer s words status text rest letter o only never never_found show_differs words_differ memory_differs (inr (inl misspoken)) e =
+    by (gen n) asks (inl shows) = absurd (not_byte letter 71 _ rest made_differs (sym shows.text_is ∙ e))
+    by (gen n) asks (inr tells) = absurd (never_made n (told (StandsForGenerated n) tells))
+only_answer s words status text rest letter o only never never_found never_made show_differs made_differs words_differ memory_differs (inr (inl misspoken)) e =
     absurd (not_byte letter 66 _ rest words_differ (sym misspoken.text_is ∙ e))
-only_answer s words status text rest letter o only never never_found show_differs words_differ memory_differs (inr (inr starved)) e =
+only_answer s words status text rest letter o only never never_found never_made show_differs made_differs words_differ memory_differs (inr (inr starved)) e =
     absurd (not_byte letter 79 _ rest memory_differs (sym starved.text_is ∙ e))
 
 only_yes_answers : (s : Shelves) (words : List (List ℕ)) (status : Status) (text rest : List ℕ) → Answers s words status text
     → text ≡ 89 ∷ rest → IsAnswerTo s words status text Yes
 only_yes_answers s words status text rest answers e =
-    only_answer s words status text rest 89 Yes only_yes (λ file h. h) (λ file tries h. h)
-    (λ d. omega arith) (λ d. omega arith) (λ d. omega arith) answers e
+    only_answer s words status text rest 89 Yes only_yes (λ file h. h) (λ file options h. h) (λ n h. h)
+    (λ d. omega arith) (λ d. omega arith) (λ d. omega arith) (λ d. omega arith) answers e
 
 only_no_answers : (s : Shelves) (words : List (List ℕ)) (status : Status) (text rest : List ℕ) → Answers s words status text
     → text ≡ 78 ∷ rest → IsAnswerTo s words status text No
 only_no_answers s words status text rest answers e =
-    only_answer s words status text rest 78 No only_no (λ file h. h) (λ file tries h. h)
-    (λ d. omega arith) (λ d. omega arith) (λ d. omega arith) answers e
+    only_answer s words status text rest 78 No only_no (λ file h. h) (λ file options h. h) (λ n h. h)
+    (λ d. omega arith) (λ d. omega arith) (λ d. omega arith) (λ d. omega arith) answers e
 
 -- a certificate of termination, in the words of the search and of the check
 same_yes : (c : Cert) → proofs.IsYes c → IsYes c
 same_yes (yes version ranks pairs nodes) is = tt
 same_yes (no term steps at puts) is = absurd is
+
+same_no : (c : Cert) → proofs.IsNo c → IsNo c
+same_no (yes version ranks pairs nodes) is = absurd is
+same_no (no term steps at puts) is = tt
 
 -- an output that begins with YES means what it says
 pub termination : (s : Shelves) (words : List (List ℕ)) (status : Status) (text : List ℕ) (old new : Option (List ℕ)) (f g : ℕ)
@@ -155,30 +167,31 @@ pub termination : (s : Shelves) (words : List (List ℕ)) (status : Status) (tex
     → (file : List ℕ) × AsksWhether words file × Told (s.held file) MeansYes
 termination s words status text old new f g result answers ends before output e h (rest, begins) =
     let (back, cut) = output_front old new f g status result before text output ends e h in
-    by (only_yes_answers s words status text _ answers (cut ∙ ap (λ x. x ++ back) begins))
+    let begun = cut ∙ ap (λ x. x ++ back) begins in
+    by _ begun (only_yes_answers s words status text _ answers begun)
   where
     by_check : (cert system : List ℕ) → (length system ≤ system_limit)
         × (d : SystemData) × (ps : List PairData) × Reads system d × HasPairs d ps × Checked (s.held cert) d ps Yes → MeansYes system
     by_check cert system (within, d, ps, reads, has, (c, (is, valid), told)) = yes_means system d ps c reads has is valid
 
-    by_proof : (system : List ℕ) → (length system ≤ system_limit)
-        × (d : SystemData) × (ps : List PairData) × Reads system d × HasPairs d ps × IsProofText d ps text → MeansYes system
-    by_proof system (within, d, ps, reads, has, (c, is, spelled)) = yes_means system d ps c reads has (same_yes c is.yes) is.valid
+    by_found : (options : Options) (system more : List ℕ) → text ≡ 89 ∷ more → (length system ≤ system_limit)
+        × (d : SystemData) × (ps : List PairData) × Reads system d × HasPairs d ps × IsFoundText d ps options text → MeansYes system
+    by_found options system more begun (within, d, ps, reads, has, inl ((c, is, spelled), first)) = yes_means system d ps c reads has (same_yes c is.yes) is.valid
+    by_found options system more begun (within, d, ps, reads, has, inr (loops, first)) = absurd (not_byte 89 78 _ more (λ d. omega arith) (sym first.1 ∙ begun))
 
-    by : IsAnswerTo s words status text Yes → (file : List ℕ) × AsksWhether words file × Told (s.held file) MeansYes
-    by (inl (file, cert, asks, stands)) = (file, inl (cert, asks), λ system held. by_check cert system (stands system held))
-    by (inr (file, tries, asks, shows)) = (file, inr (tries, asks), λ system held. by_proof system (shows.proof system held))
+    by : (more : List ℕ) → text ≡ 89 ∷ more → IsAnswerTo s words status text Yes → (file : List ℕ) × AsksWhether words file × Told (s.held file) MeansYes
+    by more begun (inl (file, cert, asks, stands)) = (file, inl (cert, asks), λ system held. by_check cert system (stands system held))
+    by more begun (inr (file, b, asks, shows)) = (file, inr (b, asks), λ system held. by_found (options_of b) system more begun (shows.found system held))
 
 -- an output that begins with NO means what it says
 pub non_termination : (s : Shelves) (words : List (List ℕ)) (status : Status) (text : List ℕ) (old new : Option (List ℕ)) (f g : ℕ)
     (result : Status) → Answers s words status text → Ends old new f g status text result
     → (before output : List ℕ) → old ≡ Some before → new ≡ Some (before ++ output) → BeginsWith (codes "NO") output
-    → (file cert : List ℕ) × Asks words (check file cert)
-    × Told (s.held file) (λ system. Told (s.held cert) (λ certificate. MeansNo system certificate))
+    → SaysNo s words output
 non_termination s words status text old new f g result answers ends before output e h (rest, begins) =
     let (back, cut) = output_front old new f g status result before text output ends e h in
     let begun = cut ∙ ap (λ x. x ++ back) begins in
-    by _ begun (only_no_answers s words status text _ answers begun)
+    by _ begun back cut (only_no_answers s words status text _ answers begun)
   where
     by_system : (cert system certificate : List ℕ) → s.held cert ≡ Some certificate → (length system ≤ system_limit)
         × (d : SystemData) × (ps : List PairData) × Reads system d × HasPairs d ps × Checked (s.held cert) d ps No
@@ -186,9 +199,14 @@ non_termination s words status text old new f g result answers ends before outpu
     by_system cert system certificate certified (within, d, ps, reads, has, (c, (is, valid), told)) =
         no_means system certificate d ps c reads (told certificate certified).1 is valid
 
-    by : (more : List ℕ) → text ≡ 78 ∷ more → IsAnswerTo s words status text No
-        → (file cert : List ℕ) × Asks words (check file cert)
-        × Told (s.held file) (λ system. Told (s.held cert) (λ certificate. MeansNo system certificate))
-    by more begun (inl (file, cert, asks, stands)) =
-        (file, cert, asks, λ system held certificate certified. by_system cert system certificate certified (stands system held))
-    by more begun (inr (file, tries, asks, shows)) = absurd (not_byte 78 89 _ more (λ d. omega arith) (sym shows.begins.1 ∙ begun))
+    by_found : (options : Options) (system more : List ℕ) → text ≡ 78 ∷ more → (length system ≤ system_limit)
+        × (d : SystemData) × (ps : List PairData) × Reads system d × HasPairs d ps × IsFoundText d ps options text → MeansNo system text
+    by_found options system more begun (within, d, ps, reads, has, inl (proof, first)) = absurd (not_byte 78 89 _ more (λ d. omega arith) (sym first.1 ∙ begun))
+    by_found options system more begun (within, d, ps, reads, has, inr ((c, is, spelled), first)) =
+        no_means system text d ps c reads spelled (same_no c is.no) (loop_is_valid d ps options.depth c is.loops)
+
+    by : (more : List ℕ) → text ≡ 78 ∷ more → (back : List ℕ) → text ≡ output ++ back → IsAnswerTo s words status text No → SaysNo s words output
+    by more begun back cut (inl (file, cert, asks, stands)) =
+        inl (file, cert, asks, λ system held certificate certified. by_system cert system certificate certified (stands system held))
+    by more begun back cut (inr (file, b, asks, shows)) =
+        inr (file, b, text, asks, (back, cut), λ system held. by_found (options_of b) system more begun (shows.found system held))

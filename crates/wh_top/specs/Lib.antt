@@ -1,9 +1,9 @@
 pub mod Status
 pub mod Words
-pub mod Asked
 pub mod Outcomes
 pub mod Unread
 pub mod Rows
 pub mod Texts
 pub mod Proving
+pub mod Generating
 pub mod Run

@@ -76,9 +76,10 @@ reason_of read.HeadNotFun = reason.HeadNotFun
 reason_of read.UnevenRules = reason.UnevenRules
 reason_of read.TooMany = reason.TooMany
 
--- why no proof was found, with names; of clauses only their number
+-- why nothing was found, with names; of clauses and of terms only their number
 abbrev pub named_cause : SystemData → Cause → NamedCause
 named_cause d (cause.NoRanks (ranks.Unread r z)) = named_cause_of.Meta r (meta_name d r z)
 named_cause d (cause.NoRanks (ranks.Cycle sorts)) = named_cause_of.Sorts (map (sort_name d) sorts)
 named_cause d (cause.Stuck set) = named_cause_of.Stuck set
 named_cause d (cause.Spent finder.Subterm set list) = named_cause_of.Spent named_finder.Subterm (length list)
+named_cause d (cause.Full visits) = named_cause_of.Spent named_finder.Loop (length visits)

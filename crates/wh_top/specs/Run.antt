@@ -16,10 +16,12 @@ use Rattle.wh_top.specs.declared.status.Status.TheVariants.{Answered, BadWords, 
 use Rattle.wh_answer.specs.declared.report.Report.{Report}
 use Rattle.wh_answer.specs.declared.report.Report.TheVariants as answer
 use Rattle.wh_answer.specs.Texts.{line, report_text}
-use Rattle.wh_top.specs.Words.{Request, check, prove, show, Asks}
+use Rattle.wh_words.specs.Words.{Bounds, Request, check, prove, show, gen, Asks}
+use Rattle.wh_top.specs.Words.{options_of}
 use Rattle.wh_top.specs.Texts.{status_of, IsShown}
-use Rattle.wh_top.specs.Outcomes.{Shelves, BeginsWith, ToldSystem, StandsBySystem, Stands}
-use Rattle.wh_top.specs.Proving.{ShowsProof, StandsForSearch}
+use Rattle.wh_top.specs.Outcomes.{Shelves, BeginsWith, Told, ToldSystem, StandsBySystem, Stands}
+use Rattle.wh_top.specs.Proving.{ShowsFound, StandsForSearch}
+use Rattle.wh_top.specs.Generating.{ShowsGenerated, StandsForGenerated}
 
 -- P holds of an answer, and status and text are its own
 pub record Tells (P : Report → Type 0) (status : Status) (text : List ℕ) : Type 0 where
@@ -34,12 +36,13 @@ pub record Shows (s : Shelves) (file : List ℕ) (status : Status) (text : List 
   pub begins : BeginsWith (line (codes "SYSTEM")) text
   pub status_is : status ≡ Answered
 
--- the reply to a request: of a check its answer; of a search a proof, or why there is none; for a system to be shown its text, or why
--- there is none
+-- the reply to a request: of a check its answer; of a search a proof or a loop, or why there is neither; for a system to be shown its
+-- text, or why there is none; and what the search comes to for a generated system
 abbrev pub Replies : Shelves → Request → Status → List ℕ → Type 0
 Replies s (check file cert) status text = Tells (Stands s file cert) status text
-Replies s (prove file tries) status text = ShowsProof s file status text ⊎ Tells (StandsForSearch s file tries) status text
+Replies s (prove file b) status text = ShowsFound s file (options_of b) status text ⊎ Tells (StandsForSearch s file (options_of b)) status text
 Replies s (show file) status text = Shows s file status text ⊎ Tells (StandsBySystem s file) status text
+Replies s (gen n) status text = ShowsGenerated n status text ⊎ Tells (StandsForGenerated n) status text
 
 -- the words ask for something, and this is the reply
 pub record Served (s : Shelves) (words : List (List ℕ)) (status : Status) (text : List ℕ) : Type 0 where
@@ -77,8 +80,8 @@ pub record MeansYes (system : List ℕ) : Type 0 where
   pub one : (other : SystemData) → Reads system other → other ≡ data_read
   pub bounded : (t : Tm) → WellTyped data_read.symbols t → Bounded data_read.rules t
 
--- what NO means of the bytes of the two files: the first is a text of one system, and the term of the certificate has
--- reductions of every length by its rules and beta
+-- what NO means of the bytes of a system file and of a certificate, which a file has or the output is: the first are a text of one
+-- system, and the term of the certificate has reductions of every length by its rules and beta
 pub record MeansNo (system cert : List ℕ) : Type 0 where
   pub data_read : SystemData
   pub reads : Reads system data_read
@@ -88,3 +91,11 @@ pub record MeansNo (system cert : List ℕ) : Type 0 where
   pub claim : Claim
   pub claims : Says data_read certificate claim
   pub unbounded : Unbounded data_read.rules claim.term
+
+-- what an output that begins with NO says, of these words: it answers a check, and means what NO means of the two files; or it is the
+-- front part of a certificate that answers a search, and means that of the file and of the certificate
+abbrev pub SaysNo : Shelves → List (List ℕ) → List ℕ → Type 0
+SaysNo s words output =
+    ((file cert : List ℕ) × Asks words (check file cert) × Told (s.held file) (λ system. Told (s.held cert) (λ certificate. MeansNo system certificate)))
+    ⊎ ((file : List ℕ) × (b : Bounds) × (text : List ℕ) × Asks words (prove file b) × BeginsWith output text
+    × Told (s.held file) (λ system. MeansNo system text))

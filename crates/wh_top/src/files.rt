@@ -49,8 +49,8 @@ pub fn problem_in<S: Shelf>(alloc: Global, shelf: &mut S, file: &str) -> Result<
     Ok(Problem { system, pairs })
 }
 
-// The dependency pairs of a system, or that they are too many.
-fn pairs_of(alloc: Global, system: &System) -> Result<PairList, Or<Report>>
+/// The dependency pairs of a system, or that they are too many.
+pub fn pairs_of(alloc: Global, system: &System) -> Result<PairList, Or<Report>>
     ensures { MatchOr result (λ list. HasPairs (system_data system.now) (pairs_data list))
         (λ o. (o ≡ refused_answer reason.TooManyPairs 0) × HasTooManyPairs (system_data system.now)) }
 {

@@ -2,12 +2,13 @@
 #![tactic(auto)]
 
 mod files;
+mod generating;
 mod judging;
 mod program;
 mod proving;
 mod rejection;
 mod status;
-mod words;
 
 pub use program::{report_no_memory, run};
 pub use status::Status;
+pub use wh_words::{Command, read_words};

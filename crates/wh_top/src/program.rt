@@ -1,22 +1,26 @@
 //! The program's one call.
 
 ghost use Rattle.std.specs.Prelude.{◌≡◌, ◌++◌, ℕ, List, Some, IfOk, map, codes, string_bytes};
-ghost use Rattle.wh_top.specs.Asked.{request};
+ghost use Rattle.wh_words.specs.Asked.{bounds_of, request};
+ghost use Rattle.wh_words.specs.Words.{Asks};
 ghost use Rattle.wh_answer.specs.Texts.{report_text};
 ghost use Rattle.wh_answer.specs.declared.report.Report.TheVariants.{OutOfMemory};
 ghost use Rattle.wh_top.specs.Outcomes.{BeginsWith, Told, outside};
-ghost use Rattle.wh_top.specs.Run.{Answers, Ends, MeansNo, MeansYes, Replies};
+ghost use Rattle.wh_top.specs.Run.{Answers, Ends, MeansYes, Replies, SaysNo};
 ghost use Rattle.wh_top.specs.Texts.{status_of};
-ghost use Rattle.wh_top.specs.Words.{Asks, AsksWhether, check};
+ghost use Rattle.wh_top.specs.Words.{AsksWhether, options_of};
+ghost use Rattle.wh_top.specs.declared.status.Status.TheVariants.{Answered};
 
+use crate::generating::generated;
 use crate::judging::{check_files, show_file};
 use crate::proving::prove_file;
 use crate::status::{Status, status_of};
-use crate::words::{Command, read_words};
 use std::alloc::{AllocError, Global};
 use wh_answer::{Report, bad_words_line, out_of_memory_line, print_answer};
 use wh_io::{Shelf, Sink, write_all_of};
+use wh_prover::Options;
 use wh_types::{Bytes, Or};
+use wh_words::{Command, Limits, read_words};
 
 /// Does what the words ask, reads files from the shelf and writes one text to the sink.
 ///
@@ -32,8 +36,7 @@ pub fn run<S: Shelf, K: Sink>(alloc: Global, words: &[String], shelf: &mut S, ou
         → (file : List ℕ) × AsksWhether (map string_bytes words.now) file × Told (S.held shelf.old file) MeansYes }
     ensures non_termination { (before output : List ℕ) → K.written out.old ≡ Some before → K.written out.new ≡ Some (before ++ output)
         → BeginsWith (codes "NO") output
-        → (file cert : List ℕ) × Asks (map string_bytes words.now) (check file cert)
-        × Told (S.held shelf.old file) (λ system. Told (S.held shelf.old cert) (λ certificate. MeansNo system certificate)) }
+        → SaysNo (outside (S.held shelf.old) (S.faults shelf.old) (S.faults shelf.new)) (map string_bytes words.now) output }
     ensures kept { (other : List ℕ) → S.held shelf.new other ≡ S.held shelf.old other }
 {
     let Some(command) = read_words(words) else {
@@ -62,6 +65,7 @@ struct Reply {
 
 // The reply to a command.
 fn reply_to<S: Shelf>(alloc: Global, shelf: &mut S, command: &Command) -> Result<Reply, AllocError>
+    requires { (words : List (List ℕ)) × Asks words (request command.now) }
     ensures served { IfOk result (λ reply.
         Replies (outside (S.held shelf.old) (S.faults shelf.old) (S.faults shelf.new)) (request command.now) reply.status reply.text) }
     ensures kept { (other : List ℕ) → S.held shelf.new other ≡ S.held shelf.old other }
@@ -71,22 +75,46 @@ fn reply_to<S: Shelf>(alloc: Global, shelf: &mut S, command: &Command) -> Result
             Ok(report) | Err(Or::Because(report)) => told(alloc, &report),
             Err(Or::NoMemory) => Err(AllocError),
         },
-        Command::Prove { file, tries } => match prove_file(alloc, shelf, file, *tries) {
-            Ok(text) => Ok(Reply {
-                status: Status::Answered,
-                text,
-            }),
-            Err(Or::Because(report)) => told(alloc, &report),
-            Err(Or::NoMemory) => Err(AllocError),
-        },
+        Command::Prove { file, limits } => {
+            let options = options_of(limits);
+            match prove_file(alloc, shelf, file, &options) {
+                Ok(text) => Ok(answered(text)),
+                Err(Or::Because(report)) => told(alloc, &report),
+                Err(Or::NoMemory) => Err(AllocError),
+            }
+        }
         Command::Show { file } => match show_file(alloc, shelf, file) {
-            Ok(text) => Ok(Reply {
-                status: Status::Answered,
-                text,
-            }),
+            Ok(text) => Ok(answered(text)),
             Err(Or::Because(report)) => told(alloc, &report),
             Err(Or::NoMemory) => Err(AllocError),
         },
+        Command::Gen { n } => match generated(alloc, *n) {
+            Ok(text) => Ok(answered(text)),
+            Err(Or::Because(report)) => told(alloc, &report),
+            Err(Or::NoMemory) => Err(AllocError),
+        },
+    }
+}
+
+// The bounds of a search.
+fn options_of(limits: &Limits) -> Options
+    ensures { result ≡ options_of (bounds_of limits.now) }
+{
+    Options {
+        tries: limits.tries,
+        depth: limits.depth,
+        visited: limits.visited,
+    }
+}
+
+// The reply that is a text of its own.
+fn answered(text: Bytes) -> Reply
+    ensures status { result.status ≡ Answered }
+    ensures text { result.text ≡ text }
+{
+    Reply {
+        status: Status::Answered,
+        text,
     }
 }
 

@@ -1,12 +1,14 @@
-//! Searching for a proof of termination of the system in a file.
+//! Searching for a proof of termination of the system in a file, or for a loop.
 
-ghost use Rattle.std.specs.Prelude.{◌≡◌, ◌≤◌, ◌<◌, ℕ, All, List, IfOk, length, map, codes};
+ghost use Rattle.std.specs.Prelude.{◌≡◌, ◌≤◌, ◌<◌, ◌⊎◌, ℕ, All, List, IfOk, length, map, codes};
+ghost use Rattle.wh_cert.specs.Limits.{IsCert};
+ghost use Rattle.wh_cert.specs.Said.{said};
 ghost use Rattle.wh_types.specs.Outcome.{MatchOr};
 ghost use Rattle.wh_system.specs.SystemView.{system_data};
 ghost use Rattle.wh_pairs.specs.SystemPairs.{HasPairs};
 ghost use Rattle.wh_pairs.specs.Views.{pairs_data};
 ghost use Rattle.wh_top.specs.Outcomes.{BeginsWith, ToldSystem, certificate_limit, outside};
-ghost use Rattle.wh_top.specs.Proving.{CauseIsThere, IsNoProof, IsProofText, StandsForSearch};
+ghost use Rattle.wh_top.specs.Proving.{CauseIsThere, IsFoundText, IsNotFound, IsTextOf, StandsForSearch};
 ghost use Rattle.wh_top.specs.Rows.{named_cause, sort_name};
 
 use crate::files::{CERTIFICATE_LIMIT, Problem, problem_in};
@@ -14,48 +16,44 @@ use crate::rejection::meta_name;
 use std::alloc::{AllocError, Global};
 use wh_access::NoRanks;
 use wh_answer::{NamedCause, NamedFinder, Names, Report, Role};
-use wh_cert::print_certificate;
+use wh_cert::{Certificate, print_certificate};
 use wh_io::Shelf;
 use wh_prover::{Answer, Cause, Options, prove};
 use wh_system::System;
 use wh_text::Name;
 use wh_types::{Bytes, Numbers, Or};
 
-/// The text of a proof of termination of the system in the file, or why there is none.
+/// The text of a proof of termination of the system in the file, or of a loop, or why there is neither.
 pub fn prove_file<S: Shelf>(
     alloc: Global,
     shelf: &mut S,
     file: &str,
-    tries: u64,
+    options: &Options,
 ) -> Result<Bytes, Or<Report>>
-    ensures proof { MatchOr result (λ text. ToldSystem (S.held shelf.old file.now) (λ d ps. IsProofText d ps text))
-        (StandsForSearch (outside (S.held shelf.old) (S.faults shelf.old) (S.faults shelf.new)) file.now tries) }
-    ensures begins { IfOk result (BeginsWith (codes "YES 1")) }
+    requires { options.now.depth ≤ 100 }
+    ensures found { MatchOr result (λ text. ToldSystem (S.held shelf.old file.now) (λ d ps. IsFoundText d ps options.now text))
+        (StandsForSearch (outside (S.held shelf.old) (S.faults shelf.old) (S.faults shelf.new)) file.now options.now) }
+    ensures begins { IfOk result (λ text. BeginsWith (codes "YES 1") text ⊎ BeginsWith (codes "NO 1") text) }
     ensures within { IfOk result (λ text. length text ≤ certificate_limit) }
     ensures kept { (other : List ℕ) → S.held shelf.new other ≡ S.held shelf.old other }
 {
     let problem = problem_in(alloc, shelf, file)?;
-    proof_text(alloc, &problem, tries)
+    found_text(alloc, &problem, options)
 }
 
-// The text of a proof of termination, or why there is none.
-fn proof_text(alloc: Global, problem: &Problem, tries: u64) -> Result<Bytes, Or<Report>>
-    requires { HasPairs (system_data problem.now.system) (pairs_data problem.now.pairs) }
-    ensures proof { MatchOr result (IsProofText (system_data problem.now.system) (pairs_data problem.now.pairs))
-        (IsNoProof (system_data problem.now.system) (pairs_data problem.now.pairs) tries) }
-    ensures begins { IfOk result (BeginsWith (codes "YES 1")) }
+// The text of what the search finds, or why it finds nothing.
+fn found_text(alloc: Global, problem: &Problem, options: &Options) -> Result<Bytes, Or<Report>>
+    requires pairs { HasPairs (system_data problem.now.system) (pairs_data problem.now.pairs) }
+    requires depth { options.now.depth ≤ 100 }
+    ensures found { MatchOr result (IsFoundText (system_data problem.now.system) (pairs_data problem.now.pairs) options.now)
+        (IsNotFound (system_data problem.now.system) (pairs_data problem.now.pairs) options.now) }
+    ensures begins { IfOk result (λ text. BeginsWith (codes "YES 1") text ⊎ BeginsWith (codes "NO 1") text) }
     ensures within { IfOk result (λ text. length text ≤ certificate_limit) }
 {
-    let options = Options { tries };
     problem.system.is_well_made();
-    match prove(alloc, &problem.system, &problem.pairs, &options)? {
-        Answer::Yes(certificate) => {
-            let text = print_certificate(alloc, &certificate)?;
-            if text.as_slice().len() as u64 > CERTIFICATE_LIMIT {
-                return Err(Or::Because(Report::TooLong(Role::Output)));
-            }
-            Ok(text)
-        }
+    match prove(alloc, &problem.system, &problem.pairs, options)? {
+        Answer::Yes(certificate) => certificate_text(alloc, &certificate),
+        Answer::No(certificate) => certificate_text(alloc, &certificate),
         Answer::Maybe(cause) => {
             let named = name_cause(alloc, &problem.system, &cause)?;
             Err(Or::Because(Report::Maybe(named)))
@@ -63,8 +61,21 @@ fn proof_text(alloc: Global, problem: &Problem, tries: u64) -> Result<Bytes, Or<
     }
 }
 
-// Why no proof was found, with names in place of numbers. A list of clauses is told by its length.
-fn name_cause(alloc: Global, system: &System, cause: &Cause) -> Result<NamedCause, AllocError>
+// The text of a certificate, if it is not longer than an output may be.
+fn certificate_text(alloc: Global, certificate: &Certificate) -> Result<Bytes, Or<Report>>
+    requires { IsCert (said certificate.now) }
+    ensures text { IsTextOf (said certificate.now) result }
+    ensures within { IfOk result (λ text. length text ≤ certificate_limit) }
+{
+    let text = print_certificate(alloc, certificate)?;
+    if text.as_slice().len() as u64 > CERTIFICATE_LIMIT {
+        return Err(Or::Because(Report::TooLong(Role::Output)));
+    }
+    Ok(text)
+}
+
+/// Why nothing was found, with names in place of numbers. A list of clauses or of terms is told by its length.
+pub fn name_cause(alloc: Global, system: &System, cause: &Cause) -> Result<NamedCause, AllocError>
     requires { CauseIsThere (system_data system.now) cause.now }
     ensures { IfOk result (λ named. named ≡ named_cause (system_data system.now) cause.now) }
 {
@@ -80,6 +91,10 @@ fn name_cause(alloc: Global, system: &System, cause: &Cause) -> Result<NamedCaus
         Cause::Spent { list, .. } => Ok(NamedCause::Spent {
             by: NamedFinder::Subterm,
             count: list.as_slice().len() as u64,
+        }),
+        Cause::Full(visits) => Ok(NamedCause::Spent {
+            by: NamedFinder::Loop,
+            count: visits.as_slice().len() as u64,
         }),
     }
 }

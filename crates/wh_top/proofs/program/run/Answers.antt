@@ -1,6 +1,6 @@
 -- What an output means follows from what is answered and what is written.
 use Rattle.std.proofs.Common.{inl, inr, refl, sym, subst}
-use Rattle.wh_top.specs.Asked.{request}
+use Rattle.wh_words.specs.Asked.{request}
 use Rattle.wh_top.specs.Outcomes.{Shelves, outside}
 use Rattle.wh_top.specs.Run.{Replies}
 use Rattle.wh_top.proofs.Meaning.{termination, non_termination}

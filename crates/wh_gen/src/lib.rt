@@ -1,0 +1,6 @@
+//! Generated systems.
+#![tactic(auto)]
+
+mod family;
+
+pub use family::{GenTooMany, generate};

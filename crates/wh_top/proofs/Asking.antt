@@ -1,0 +1,13 @@
+-- What the words that were read ask for is within its limits.
+use Rattle.std.proofs.Common.{ℕ, ◌≤◌, inl, inr, List, sym, subst, arith}
+use Rattle.wh_words.specs.Words.{Bounds, Item, SetTo, depth, prove, gen, Asks}
+
+set_depth : (items : List Item) (n : ℕ) → SetTo items depth n → n ≤ 100
+set_depth items n (inl (none, is)) = omega (arith, is)
+set_depth items n (inr (one, low, high)) = high
+
+pub depth_asked : (words : List (List ℕ)) (file : List ℕ) (b : Bounds) → Asks words (prove file b) → b.depth ≤ 100
+depth_asked words file b (more, items, split, say, one, bounds) = set_depth items b.depth bounds.depth
+
+pub count_asked : (words : List (List ℕ)) (n : ℕ) → Asks words (gen n) → (1 ≤ n) × (n ≤ 200)
+count_asked words n (more, split, say, some, few) = (some, few)

@@ -1,0 +1,136 @@
+//! The search for a proof of a generated system.
+
+ghost use Rattle.std.specs.Prelude.{◌≡◌, ◌≤◌, ◌++◌, IfOk, OnOk, length};
+ghost use Rattle.wh_types.specs.Outcome.{MatchOr};
+ghost use Rattle.wh_system.specs.SystemView.{system_data};
+ghost use Rattle.wh_pairs.specs.SystemPairs.{HasPairs};
+ghost use Rattle.wh_pairs.specs.Views.{pairs_data};
+ghost use Rattle.wh_gen.specs.Family.{gen_data};
+ghost use Rattle.wh_cert.specs.Limits.{IsCert};
+ghost use Rattle.wh_cert.specs.Said.{said};
+ghost use Rattle.wh_top.specs.declared.status.Status.TheVariants.{Answered};
+ghost use Rattle.wh_top.specs.Generating.{Comes, ShowsGenerated, StandsForGenerated, counted_line, generated_text, nodes_of};
+
+use crate::files::pairs_of;
+use crate::proving::name_cause;
+use std::alloc::{AllocError, Global};
+use wh_answer::{Report, print_answer};
+use wh_cert::Certificate;
+use wh_gen::generate;
+use wh_prover::{Answer, Options, prove};
+use wh_system::{PairList, System};
+use wh_text::print_number;
+use wh_types::{Bytes, Or};
+
+/// The bounds of the search.
+const USUAL: Options = Options {
+    tries: 10_000,
+    depth: 6,
+    visited: 500,
+};
+
+/// What the search for a proof came to: how many nodes the certificate has, and the last line.
+#[derive(Drop)]
+struct Outcome {
+    nodes: u32,
+    answer: Bytes,
+}
+
+/// How many rules and pairs the generated system with the number has, and what the search for a proof of it comes to.
+pub fn generated(alloc: Global, n: u32) -> Result<Bytes, Or<Report>>
+    requires some { 1 ≤ n }
+    requires few { n ≤ 200 }
+    ensures { MatchOr result (ShowsGenerated n Answered) (StandsForGenerated n) }
+{
+    let system = made(alloc, n)?;
+    let pairs = pairs_of(alloc, &system)?;
+    let outcome = searched(alloc, &system, &pairs)?;
+    let rules = system.rules().len() as u32;
+    let count = pairs.as_slice().len() as u32;
+    Ok(lines(alloc, n, rules, count, &outcome)?)
+}
+
+// The generated system.
+fn made(alloc: Global, n: u32) -> Result<System, AllocError>
+    requires some { 1 ≤ n }
+    requires few { n ≤ 200 }
+    ensures { IfOk result (λ system. system_data system ≡ gen_data n) }
+{
+    match generate(alloc, n) {
+        Ok(system) => Ok(system),
+        Err(_) => Err(AllocError),
+    }
+}
+
+// What the search for a proof comes to.
+fn searched(alloc: Global, system: &System, pairs: &PairList) -> Result<Outcome, AllocError>
+    requires { HasPairs (system_data system.now) (pairs_data pairs.now) }
+    ensures { IfOk result (λ outcome. Comes (system_data system.now) (pairs_data pairs.now) outcome.nodes outcome.answer) }
+{
+    system.is_well_made();
+    match prove(alloc, system, pairs, &USUAL)? {
+        Answer::Yes(certificate) => Ok(Outcome {
+            nodes: nodes_of(&certificate),
+            answer: text_of(alloc, b"answer YES\n")?,
+        }),
+        Answer::No(_) => Ok(Outcome {
+            nodes: 0,
+            answer: text_of(alloc, b"answer NO\n")?,
+        }),
+        Answer::Maybe(cause) => {
+            let named = name_cause(alloc, system, &cause)?;
+            Ok(Outcome {
+                nodes: 0,
+                answer: print_answer(alloc, &Report::Maybe(named))?,
+            })
+        }
+    }
+}
+
+// How many nodes a certificate has.
+fn nodes_of(certificate: &Certificate) -> u32
+    requires { IsCert (said certificate.now) }
+    ensures { result ≡ length (nodes_of (said certificate.now)) }
+{
+    match certificate {
+        Certificate::Yes(yes) => yes.nodes.as_slice().len() as u32,
+        Certificate::No(_) => 0,
+    }
+}
+
+// The bytes as a text.
+fn text_of(alloc: Global, bytes: &[u8]) -> Result<Bytes, AllocError>
+    ensures { IfOk result (λ text. text ≡ bytes.now) }
+{
+    let mut text = Bytes::new(alloc)?;
+    text.append(bytes)?;
+    Ok(text)
+}
+
+// All lines.
+fn lines(
+    alloc: Global,
+    n: u32,
+    rules: u32,
+    pairs: u32,
+    outcome: &Outcome,
+) -> Result<Bytes, AllocError>
+    ensures { IfOk result (λ text. text ≡ generated_text n rules pairs outcome.now.nodes outcome.now.answer) }
+{
+    let mut text = Bytes::new(alloc)?;
+    put_line(&mut text, b"GEN ", n)?;
+    put_line(&mut text, b"rules ", rules)?;
+    put_line(&mut text, b"pairs ", pairs)?;
+    put_line(&mut text, b"nodes ", outcome.nodes)?;
+    text.append(outcome.answer.as_slice())?;
+    Ok(text)
+}
+
+// A line of a word and a number.
+fn put_line(text: &mut Bytes, word: &[u8], number: u32) -> Result<(), AllocError>
+    ensures { OnOk result (text.new ≡ text.old ++ counted_line word.now number) }
+{
+    text.append(word)?;
+    print_number(text, number)?;
+    text.push(b'\n')
+}
