@@ -1,6 +1,6 @@
 //! The search for interpretations under which no rule and no pair of a set grows and some pair shrinks.
 #![tactic(auto)]
 
-mod climb;
+mod search;
 
-pub use climb::climb;
+pub use search::climb;

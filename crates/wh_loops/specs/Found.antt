@@ -2,7 +2,7 @@
 use Rattle.std.specs.Prelude.{ℕ, ◌≡◌, ◌≤◌, List, length, All}
 use Rattle.wh_terms.specs.Tree.{Tm}
 use Rattle.wh_terms.specs.Typing.{Symbols}
-use Rattle.wh_terms.specs.Sight.{Fresh}
+use Rattle.wh_terms.specs.Sight.{Lacks}
 use Rattle.wh_system.specs.Systems.{SystemData}
 use Rattle.wh_cert.specs.Written.{Cert}
 use Rattle.wh_cert.specs.Limits.{IsCert}
@@ -14,16 +14,16 @@ use Rattle.std.specs.Prelude.{AllPairs}
 use Rattle.wh_loops.specs.Starts.{IsSomeStart}
 use Rattle.wh_loops.specs.declared.instance.Instance.{Instance}
 
--- the put is for a variable of the term
+-- the put is for a variable of the term: one with its number and its type stands there (ours)
 abbrev pub IsPutFor : Tm → Put → Type 0
-IsPutFor t p = Fresh p.number t → ⊥
+IsPutFor t p = Lacks p.number p.kind t → ⊥
 
 -- the instance of t in u: where it stands, and what is put for variables of t there (ours)
 pub record IsInstanceIn (S : Symbols) (t u : Tm) (i : Instance) : Type 0 where
-  pub typed : All (IsPutOver S) (entry_puts i.puts)
-  pub increasing : AllPairs IsBelow (entry_puts i.puts)
-  pub for_variables : All (IsPutFor t) (entry_puts i.puts)
-  pub holds : HoldsInstance t (entry_puts i.puts) i.at u
+  pub typed : All (IsPutOver S) (entry_puts i.puts.items)
+  pub increasing : AllPairs IsBelow (entry_puts i.puts.items)
+  pub for_variables : All (IsPutFor t) (entry_puts i.puts.items)
+  pub holds : HoldsInstance t (entry_puts i.puts.items) i.at u
 
 -- the claim is of the search's space: its term is the start of a rule, there are at most `depth` steps, and what is put is put for
 -- variables of the term (ours)
