@@ -1,0 +1,12 @@
+pub mod Units
+pub mod Sums
+pub mod Changes
+pub mod Moves
+pub mod FlowSteps
+pub mod SearchSteps
+pub mod ReachWalk
+pub mod VisitWalk
+pub mod Cut
+pub mod PathLeft
+pub mod Matching
+pub mod Covering

@@ -1,1 +1,3 @@
 pub mod Found
+pub mod Flows
+pub mod Paths

@@ -1,6 +1,12 @@
-//! Generated systems.
+//! Generated systems: each has as many functions like `map` as are asked for, and is well made.
 #![tactic(auto)]
 
+mod declarations;
 mod family;
+mod laws;
+mod rules;
+mod terms;
+mod types;
 
 pub use family::{GenTooMany, generate};
+pub use laws::generated_systems_are_well_made;

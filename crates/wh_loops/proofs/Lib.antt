@@ -1,0 +1,11 @@
+pub mod Outcomes
+pub mod PlaceLemmas
+pub mod MeetLemmas
+pub mod StartLemmas
+pub mod FillLemmas
+pub mod EntryLemmas
+pub mod TypesKept
+pub mod SmallTypes
+pub mod PartLimits
+pub mod CertRaw
+pub mod CertLemmas

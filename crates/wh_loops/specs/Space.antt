@@ -1,5 +1,5 @@
 -- The paths that the search for loops goes, and the loops among them.
-use Rattle.std.specs.Prelude.{ℕ, suc, ◌≡◌, ◌≤◌, ◌<◌, List, All, AllPairs, length}
+use Rattle.std.specs.Prelude.{ℕ, suc, ◌≤◌, List, All, AllPairs}
 use Rattle.wh_terms.specs.Tree.{Tm}
 use Rattle.wh_terms.specs.Typing.{Symbols}
 use Rattle.wh_terms.specs.Measures.{Fits, size}

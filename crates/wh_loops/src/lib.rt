@@ -2,8 +2,11 @@
 #![tactic(auto)]
 
 mod certify;
+mod entries;
 mod instance;
+mod meets;
 mod start;
+mod unused;
 
 pub use certify::certificate_of;
 pub use instance::{Instance, find_instance};

@@ -1,2 +1,5 @@
 pub mod Words
 pub mod Asked
+pub mod Options
+pub mod Kept
+pub mod Answers

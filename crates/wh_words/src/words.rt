@@ -1,8 +1,15 @@
 //! What the words ask for.
 
-ghost use Rattle.std.specs.Prelude.{MatchOption, map, string_bytes};
-ghost use Rattle.wh_words.specs.Asked.{request};
-ghost use Rattle.wh_words.specs.Words.{Asks, Request};
+ghost use Rattle.std.specs.Prelude.{ℕ, ◌≡◌, ◌≤◌, MatchOption, codes, map, string_bytes};
+ghost use Rattle.std.specs.Fmt.{decimal};
+ghost use Rattle.wh_words.specs.Answers.{Answers};
+ghost use Rattle.wh_words.specs.Asked.{bounds_of, request};
+ghost use Rattle.wh_words.specs.Kept.{AllWithin, SetsAll};
+ghost use Rattle.wh_words.specs.Words.{Asks, Request, gen};
+
+use crate::items::read_items;
+use crate::kept::{Alone, Kept};
+use wh_answer::long_number;
 
 /// What bounds a search for a proof or a loop.
 #[derive(Clone, Copy)]
@@ -54,5 +61,92 @@ pub fn read_words(words: &[String]) -> Option<Command<'_>>
     ensures { MatchOption result ((asked : Request) → Asks (map string_bytes words.now) asked → ⊥)
         (λ command. Asks (map string_bytes words.now) (request command)) }
 {
-    None
+    let [command, behind @ ..] = words else {
+        return None;
+    };
+    let kept = read_items(behind)?;
+    asked(command.as_str(), &kept)
+}
+
+// What the command asks for, with what is kept of the words behind it.
+fn asked<'a>(command: &str, kept: &Kept<'a>) -> Option<Command<'a>>
+    requires { AllWithin kept.now }
+    ensures { Answers command.now kept.now result }
+{
+    match command {
+        "check" => check(kept),
+        "prove" => prove(kept),
+        "show" => show(kept),
+        "gen" => generate(kept),
+        _ => None,
+    }
+}
+
+// `check FILE CERT`.
+fn check<'a>(kept: &Kept<'a>) -> Option<Command<'a>>
+    ensures { Answers (codes "check") kept.now result }
+{
+    match kept.alone {
+        Alone::Two(file, cert) if kept.sets_none() => Some(Command::Check { file, cert }),
+        _ => None,
+    }
+}
+
+// `prove FILE`, with options.
+fn prove<'a>(kept: &Kept<'a>) -> Option<Command<'a>>
+    requires { AllWithin kept.now }
+    ensures { Answers (codes "prove") kept.now result }
+{
+    match kept.alone {
+        Alone::One(file) => Some(Command::Prove {
+            file,
+            limits: bounds(kept),
+        }),
+        _ => None,
+    }
+}
+
+// `show FILE`.
+fn show<'a>(kept: &Kept<'a>) -> Option<Command<'a>>
+    ensures { Answers (codes "show") kept.now result }
+{
+    match kept.alone {
+        Alone::One(file) if kept.sets_none() => Some(Command::Show { file }),
+        _ => None,
+    }
+}
+
+// `gen N`.
+fn generate<'a>(kept: &Kept<'a>) -> Option<Command<'a>>
+    ensures { Answers (codes "gen") kept.now result }
+{
+    match kept.alone {
+        Alone::One(number) if kept.sets_none() => generated(number),
+        _ => None,
+    }
+}
+
+// The generated system with the number that the word spells.
+fn generated(word: &str) -> Option<Command<'static>>
+    ensures { MatchOption result ((n : ℕ) → decimal n ≡ word.now → 1 ≤ n → n ≤ 200 → ⊥)
+        (λ command. (n : ℕ) × (request command ≡ gen n) × (decimal n ≡ word.now) × (1 ≤ n) × (n ≤ 200)) }
+{
+    let n = long_number(word)?;
+    if 1 <= n && n <= 200 {
+        Some(Command::Gen { n: n as u32 })
+    } else {
+        None
+    }
+}
+
+// What is set, or usual where nothing is.
+fn bounds(kept: &Kept<'_>) -> Limits
+    requires { AllWithin kept.now }
+    ensures { SetsAll kept.now (bounds_of result) }
+{
+    Limits {
+        tries: kept.tries.unwrap_or(10_000),
+        depth: kept.depth.unwrap_or(6) as u32,
+        visited: kept.visited.unwrap_or(500) as u32,
+    }
 }
