@@ -1,6 +1,6 @@
 //! One node of a proof: how the chains of a set end, or why the search ends on it.
 
-ghost use Rattle.std.specs.Prelude.{◌↔◌, ◌<◌, ◌≤◌, ℕ, All, IfOk, IsTrue, MatchOption, length, map, reverse};
+ghost use Rattle.std.specs.Prelude.{◌↔◌, ◌<◌, ◌≤◌, All, IfOk, IsTrue, MatchOption, length, map, reverse};
 ghost use Rattle.wh_pairs.specs.SystemPairs.{HasPairs};
 ghost use Rattle.wh_pairs.specs.Views.{pairs_data};
 ghost use Rattle.wh_system.specs.SystemView.{system_data};
@@ -97,7 +97,13 @@ fn lower(
             nodes.push(node_of(alloc, system, &found)?)?;
             Ok(None)
         }
-        Search::Nothing => interpret(alloc, system, pairs, set, stack, nodes),
+        Search::Nothing => {
+            if interpret(alloc, system, pairs, &set, stack, nodes)? {
+                Ok(None)
+            } else {
+                Ok(Some(Cause::Stuck(set)))
+            }
+        }
         Search::Spent(list) => Ok(Some(Cause::Spent {
             finder: Finder::Subterm,
             set,
@@ -106,28 +112,27 @@ fn lower(
     }
 }
 
-// A node by interpretations, where no projection lets a pair go.
+// Whether an interpretation is found, where no projection lets a pair go; then the set has a node by it.
 fn interpret(
     alloc: Global,
     system: &System,
     pairs: &PairList,
-    set: PairSet,
+    set: &PairSet,
     stack: &mut Vec<PairSet>,
     nodes: &mut Nodes,
-) -> Result<Option<Cause>, AllocError>
+) -> Result<bool, AllocError>
     requires few { length pairs.now ≤ 4096 }
     requires pairs { HasPairs (system_data system.now) (pairs_data pairs.now) }
-    requires ended { Ended (system_data system.now) (pairs_data pairs.now) set }
-    requires none { HasNoProjection (system_data system.now).rules (pairs_data pairs.now) set }
-    ensures { (tries : ℕ) → IfOk result (λ end. MatchOption end (Adds (system_data system.now) (pairs_data pairs.now) set (reverse stack.old.items) (reverse stack.new.items) (map said_node nodes.old) (map said_node nodes.new))
-        (IsEnd (system_data system.now) (pairs_data pairs.now) tries)) }
+    requires ended { Ended (system_data system.now) (pairs_data pairs.now) set.now }
+    requires none { HasNoProjection (system_data system.now).rules (pairs_data pairs.now) set.now }
+    ensures { IfOk result (λ found. IsTrue found → Adds (system_data system.now) (pairs_data pairs.now) set.now (reverse stack.old.items) (reverse stack.new.items) (map said_node nodes.old) (map said_node nodes.new)) }
 {
     let conditions = system.rules().len() as u64 + set.as_slice().len() as u64;
-    let limit = EVALUATIONS + EVALUATIONS_FOR_EACH * conditions;
-    let Some(node) = climb(alloc, system, pairs, &set, limit)? else {
-        return Ok(Some(Cause::Stuck(set)));
+    let more = EVALUATIONS_FOR_EACH.saturating_mul(conditions);
+    let Some(node) = climb(alloc, system, pairs, set, EVALUATIONS.saturating_add(more))? else {
+        return Ok(false);
     };
     stack.push(kept(alloc, set.as_slice(), node.drop.as_slice())?)?;
     nodes.push(Node::Poly(Box::new(alloc, node)?))?;
-    Ok(None)
+    Ok(true)
 }
