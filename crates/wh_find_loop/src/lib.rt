@@ -2,7 +2,14 @@
 #![tactic(auto)]
 
 mod answer;
+mod candidates;
+mod listing;
+mod marks;
+mod reduct;
+mod rule_table;
 mod search;
+mod starts;
+mod table;
 
 pub use answer::{LoopSearch, Visit, Visits};
 pub use search::find_loop;

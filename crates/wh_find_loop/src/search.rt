@@ -1,12 +1,254 @@
 //! The search, level by level.
 
-ghost use Rattle.std.specs.Prelude.{◌≤◌, IfOk};
+ghost use Rattle.std.specs.Prelude.{◌≡◌, ◌<◌, ◌≤◌, ◌^◌, ◌+◌, ℕ, [], IfOk, OnOk, length};
+ghost use Rattle.wh_terms.specs.Erase.{tm};
+ghost use Rattle.wh_terms.specs.Measures.{Fits};
+ghost use Rattle.wh_terms.specs.Typing.{WellTyped};
+ghost use Rattle.wh_system.specs.Systems.{SystemData};
 ghost use Rattle.wh_system.specs.SystemView.{system_data};
+ghost use Rattle.wh_cert.specs.Said.{said_no};
+ghost use Rattle.wh_loops.specs.Starts.{IsStart};
+ghost use Rattle.wh_loops.specs.Found.{IsLoopCertificate};
 ghost use Rattle.wh_find_loop.specs.Answers.{IsAnswer};
+ghost use Rattle.wh_find_loop.specs.Listing.{AreAllLinked, AreBelow, AreDone, AreMarked, AreStarts, Comes, EndsAt, GoesOn, GoesThrough, IsLinked, IsListing, IsPlan, ListsStarts, TakesStart, Tries};
 
-use crate::answer::LoopSearch;
+use crate::answer::{LoopSearch, Visit};
+use crate::candidates::steps_of;
+use crate::listing::{Entry, Listing, Origin, list_if_new, new_listing, steps_to, visits_of};
+use crate::reduct::{copy_in_space, reduct_by};
+use crate::starts::{Plan, plan_of};
 use std::alloc::{AllocError, Global};
+use wh_cert::NoCertificate;
+use wh_loops::{Instance, certificate_of, find_instance};
 use wh_system::System;
+use wh_terms::{Step, Term};
+
+/// How far the search came.
+#[derive(Drop)]
+pub enum Progress {
+    /// All that was to be tried is tried.
+    More,
+    /// As many terms are listed as may be.
+    Full,
+    /// There is a loop.
+    Found(Box<NoCertificate>),
+}
+
+// The certificate of the loop that goes to the entry and on by the step, where the instance stands.
+fn certify(
+    alloc: Global,
+    system: &System,
+    start: &Term,
+    entries: &[Entry],
+    entry: &Entry,
+    step: Step,
+    instance: Instance,
+) -> Result<NoCertificate, AllocError>
+    requires linked { AreAllLinked (system_data system.now).rules entries.now }
+    requires entry { IsLinked (system_data system.now).rules entries.now entry.now }
+    requires start { IsStart (system_data system.now).rules entry.now.visit.start (tm start.now) }
+    requires fits { Fits (tm start.now) }
+    requires leads { EndsAt (system_data system.now) entry.now step (tm start.now) instance }
+    ensures { (level : ℕ) → entry.now.level < level → level ≤ 100 → IfOk result (λ c. IsLoopCertificate (system_data system.now) level (said_no c)) }
+{
+    let mut steps = steps_to(alloc, entries, entry)?;
+    steps.push(step)?;
+    certificate_of(alloc, system, start, steps, instance)
+}
+
+// Takes the step from the entry with the number, and tests and lists what it leads to. A term is tested also where it is listed.
+fn try_step(
+    alloc: Global,
+    system: &System,
+    plan: &Plan,
+    listing: &mut Listing,
+    at: usize,
+    step: Step,
+    level: u32,
+) -> Result<Option<Box<NoCertificate>>, AllocError>
+    requires plan { IsPlan (system_data system.now) plan.now }
+    requires listing { IsListing (system_data system.now) level listing.old }
+    requires at { at < length listing.old.entries.items }
+    requires below { AreBelow level (at + 1) listing.old.entries.items }
+    requires few { length listing.old.entries.items < 2 ^ 32 }
+    requires deep { level ≤ 100 }
+    ensures { IfOk result (λ found. Tries (system_data system.now) level at step listing.old found listing.new) }
+{
+    system.is_well_made();
+    let entry = &listing.entries[at];
+    let Some(reduct) = reduct_by(alloc, system.rules(), &entry.visit.term, &step)? else {
+        return Ok(None);
+    };
+    let start = &plan.starts[entry.visit.start as usize];
+    if let Some(instance) = find_instance(alloc, system, start, &reduct)? {
+        let found = certify(
+            alloc,
+            system,
+            start,
+            &listing.entries,
+            entry,
+            step,
+            instance,
+        )?;
+        return Ok(Some(Box::new(alloc, found)?));
+    }
+    let next = Entry {
+        visit: Visit {
+            start: entry.visit.start,
+            term: reduct,
+        },
+        level,
+        origin: Some(Origin { parent: at, step }),
+    };
+    list_if_new(listing, next)?;
+    Ok(None)
+}
+
+// Tries all steps from the entry with the number.
+fn search_entry(
+    alloc: Global,
+    system: &System,
+    plan: &Plan,
+    listing: &mut Listing,
+    at: usize,
+    level: u32,
+    visited: u32,
+) -> Result<Progress, AllocError>
+    requires plan { IsPlan (system_data system.now) plan.now }
+    requires listing { IsListing (system_data system.now) level listing.old }
+    requires at { at < length listing.old.entries.items }
+    requires below { AreBelow level (at + 1) listing.old.entries.items }
+    requires done { AreDone (system_data system.now) listing.old.entries.items at }
+    requires fewer { length listing.old.entries.items < visited }
+    requires deep { level ≤ 100 }
+    ensures { IfOk result (Comes (system_data system.now) level visited (GoesOn (system_data system.now) level visited (at + 1) listing.old.entries.items listing.new) listing.new) }
+{
+    system.is_well_made();
+    let term = &listing.entries[at].visit.term;
+    let steps = steps_of(alloc, system.rules(), &plan.table, term)?;
+    for step in steps {
+        if let Some(found) = try_step(alloc, system, plan, listing, at, step, level)? {
+            return Ok(Progress::Found(found));
+        }
+        if listing.entries.len() >= visited as usize {
+            return Ok(Progress::Full);
+        }
+    }
+    Ok(Progress::More)
+}
+
+// Tries all steps from the entries from the number on; what they lead to has the level.
+fn search_level(
+    alloc: Global,
+    system: &System,
+    plan: &Plan,
+    listing: &mut Listing,
+    from: usize,
+    level: u32,
+    visited: u32,
+) -> Result<Progress, AllocError>
+    requires plan { IsPlan (system_data system.now) plan.now }
+    requires listing { IsListing (system_data system.now) level listing.old }
+    requires from { from ≤ length listing.old.entries.items }
+    requires below { AreBelow level (length listing.old.entries.items) listing.old.entries.items }
+    requires done { AreDone (system_data system.now) listing.old.entries.items from }
+    requires fewer { length listing.old.entries.items < visited }
+    requires deep { level ≤ 100 }
+    ensures { IfOk result (Comes (system_data system.now) level visited (GoesOn (system_data system.now) level visited (length listing.old.entries.items) listing.old.entries.items listing.new) listing.new) }
+{
+    let end = listing.entries.len();
+    for at in from..end {
+        match search_entry(alloc, system, plan, listing, at, level, visited)? {
+            Progress::More => {}
+            Progress::Full => return Ok(Progress::Full),
+            Progress::Found(found) => return Ok(Progress::Found(found)),
+        }
+    }
+    Ok(Progress::More)
+}
+
+// Lists the start of the rule with the number, if it is in the space.
+fn list_start(
+    alloc: Global,
+    start: &Term,
+    number: u32,
+    listing: &mut Listing,
+) -> Result<(), AllocError>
+    requires few { length listing.old.entries.items < 2 ^ 32 }
+    requires keys { length listing.old.marks ≡ 16384 }
+    requires marked { AreMarked listing.old.marks listing.old.entries.items }
+    ensures { OnOk result ((d : SystemData) → IsListing d 0 listing.old → IsStart d.rules number (tm start.now) → WellTyped d.symbols (tm start.now) → TakesStart d number (tm start.now) listing.old.entries.items listing.new) }
+{
+    let Some(term) = copy_in_space(alloc, start)? else {
+        return Ok(());
+    };
+    let entry = Entry {
+        visit: Visit {
+            start: number,
+            term,
+        },
+        level: 0,
+        origin: None,
+    };
+    list_if_new(listing, entry)
+}
+
+// Lists the starts of the rules, and says whether the list is full.
+fn list_starts(
+    alloc: Global,
+    system: &System,
+    starts: &[Term],
+    listing: &mut Listing,
+    visited: u32,
+) -> Result<bool, AllocError>
+    requires starts { AreStarts (system_data system.now) starts.now }
+    requires keys { length listing.old.marks ≡ 16384 }
+    requires none { listing.old.entries.items ≡ [] }
+    requires some { 0 < visited }
+    ensures { IfOk result (λ full. ListsStarts (system_data system.now) visited full listing.new) }
+{
+    system.is_well_made();
+    for (number, start) in starts.iter().enumerate() {
+        list_start(alloc, start, number as u32, listing)?;
+        if listing.entries.len() >= visited as usize {
+            return Ok(true);
+        }
+    }
+    Ok(false)
+}
+
+// Tries all steps of at most so many levels.
+fn search(
+    alloc: Global,
+    system: &System,
+    plan: &Plan,
+    listing: &mut Listing,
+    depth: u32,
+    visited: u32,
+) -> Result<Progress, AllocError>
+    requires plan { IsPlan (system_data system.now) plan.now }
+    requires keys { length listing.old.marks ≡ 16384 }
+    requires none { listing.old.entries.items ≡ [] }
+    requires deep { depth ≤ 100 }
+    ensures { IfOk result (Comes (system_data system.now) depth visited (GoesThrough (system_data system.now) depth visited listing.new) listing.new) }
+{
+    if visited == 0 {
+        return Ok(Progress::Full);
+    }
+    if list_starts(alloc, system, &plan.starts, listing, visited)? {
+        return Ok(Progress::Full);
+    }
+    let mut from = 0;
+    for level in 0..depth {
+        let end = listing.entries.len();
+        match search_level(alloc, system, plan, listing, from, level + 1, visited)? {
+            Progress::More => from = end,
+            Progress::Full => return Ok(Progress::Full),
+            Progress::Found(found) => return Ok(Progress::Found(found)),
+        }
+    }
+    Ok(Progress::More)
+}
 
 /// Looks for a loop: from the left side of each rule, read with free variables in place of its meta-variables, over all paths of at most
 /// `depth` steps through terms that fit and have at most 2,048 nodes. A loop is a path of at least one step to a term that holds an
@@ -23,5 +265,11 @@ pub fn find_loop(
     requires { depth ≤ 100 }
     ensures { IfOk result (IsAnswer (system_data system.now) depth visited) }
 {
-    Err(AllocError)
+    let plan = plan_of(alloc, system)?;
+    let mut listing = new_listing(alloc)?;
+    match search(alloc, system, &plan, &mut listing, depth, visited)? {
+        Progress::More => Ok(LoopSearch::Nothing),
+        Progress::Full => Ok(LoopSearch::Full(visits_of(alloc, listing.entries)?)),
+        Progress::Found(found) => Ok(LoopSearch::Found(Box::into_inner(found))),
+    }
 }

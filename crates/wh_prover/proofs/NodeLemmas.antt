@@ -11,14 +11,12 @@ use Rattle.wh_subterm.specs.Projections.{Chosen}
 use Rattle.wh_subterm.specs.SubtermRows.{IsProjection}
 use Rattle.wh_find_subterm.specs.Found.{DropsAllBelow}
 use Rattle.wh_cert.specs.Written as w
-use Rattle.wh_cert.specs.Interps.{Interp}
-use Rattle.wh_hopoly.specs.declared.expression.Move as moved
 use Rattle.wh_find_poly.specs.Found.{IsInterpretation}
 use Rattle.wh_cert.specs.Limits.{NodeFits, NodeWithin}
 use Rattle.wh_nodes.specs.Nodes.{done, alone, blocks, subterm, poly, IsSetOf, IsKept, Leaves, by_done, by_alone, by_blocks, by_subterm, by_poly}
 use Rattle.wh_checker.specs.Walk.{GoesOn}
 use Rattle.wh_prover.specs.Arriving.{IsAlone, IsAloneUnder, Arrives, behind_projection, behind_interpretation, Ended, HasNoProjection}
-use Rattle.wh_prover.specs.Walk.{weight, SaysProjection, Adds}
+use Rattle.wh_prover.specs.Walk.{weight, SaysProjection, Adds, dropped_by}
 use Rattle.wh_prover.proofs.CountLemmas.{components_lighter, rest_lighter, weighs_something}
 use Rattle.wh_prover.proofs.ArriveLemmas.{arrives_below, arrives_apart, sets_themselves, components_are_blocks}
 use Rattle.wh_prover.proofs.LimitLemmas.{blocks_fit, blocks_within, subterm_fits, subterm_within}
@@ -170,10 +168,13 @@ adds_interpretation d ps set rest line sets after lines longer end none is kept 
       lighter = omega (arith, rest_lighter set is.drop rest kept covering.some_dropped covering.within);
     }
 
--- the drop list of a line that says a node of interpretations is that of the node
-pub drop_of_line : (d : SystemData) (ps : List PairData) (set : List ℕ) (funs marks : List Interp) (rules pairs : List (List moved.Move)) (drop : List ℕ)
-    → (is : IsInterpretation d ps set (w.interpretations funs marks rules pairs drop)) → drop ≡ is.drop
-drop_of_line d ps set funs marks rules pairs drop is = is.says.4
+-- the pairs that its line drops are those that it drops
+pub dropped_by_interpretation : (d : SystemData) (ps : List PairData) (set : List ℕ) (line : w.Node) → (is : IsInterpretation d ps set line) → dropped_by line ≡ is.drop
+dropped_by_interpretation d ps set (w.interpretations funs marks rules pairs drop) is = is.says.4
+dropped_by_interpretation d ps set w.done is = absurd is.says
+dropped_by_interpretation d ps set w.alone is = absurd is.says
+dropped_by_interpretation d ps set (w.blocks parts) is = absurd is.says
+dropped_by_interpretation d ps set (w.subterm lines drop) is = absurd is.says
 
 -- whether a list is empty, as a test tells it
 

@@ -35,6 +35,12 @@ IsEnd d ps tries (Full visits) = ⊥
 abbrev pub SaysProjection : SystemData → w.Node → List Chosen → List ℕ → Type 0
 SaysProjection d line args drop = (lines : List w.Arg) × (line ≡ w.subterm lines drop) × SayChoices d lines args × All ArgFits lines
 
+-- the pairs that the lines of a node drop
+abbrev pub dropped_by : w.Node → List ℕ
+dropped_by (w.subterm lines drop) = drop
+dropped_by (w.interpretations funs marks rules pairs drop) = drop
+dropped_by _ = []
+
 -- a node for the set joins the lines: its conditions hold, what it leaves comes before the other sets, and its lines are within
 -- the limits of certificates; the search comes to what it leaves, and that weighs less than the set (ours)
 pub record Adds (d : SystemData) (ps : List PairData) (set : List ℕ) (sets after : List (List ℕ)) (lines longer : List w.Node) : Type 0 where

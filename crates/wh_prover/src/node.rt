@@ -1,13 +1,13 @@
 //! One node of a proof: how the chains of a set end, or why the search ends on it.
 
-ghost use Rattle.std.specs.Prelude.{◌↔◌, ◌<◌, ◌≤◌, All, IfOk, IsTrue, MatchOption, length, map, reverse};
+ghost use Rattle.std.specs.Prelude.{◌≡◌, ◌↔◌, ◌<◌, ◌≤◌, All, IfOk, IsTrue, MatchOption, length, map, reverse};
 ghost use Rattle.wh_pairs.specs.SystemPairs.{HasPairs};
 ghost use Rattle.wh_pairs.specs.Views.{pairs_data};
 ghost use Rattle.wh_system.specs.SystemView.{system_data};
 ghost use Rattle.wh_cert.specs.Said.{said_node};
 ghost use Rattle.wh_graph.specs.Graphs.{IsGraphOf, edge_of, size_of};
 ghost use Rattle.wh_prover.specs.Arriving.{Arrives, Ended, HasNoProjection, IsAloneUnder};
-ghost use Rattle.wh_prover.specs.Walk.{Adds, IsEnd};
+ghost use Rattle.wh_prover.specs.Walk.{Adds, IsEnd, dropped_by};
 
 use crate::answer::{Cause, Finder};
 use crate::lines::node_of;
@@ -132,7 +132,18 @@ fn interpret(
     let Some(node) = climb(alloc, system, pairs, set, EVALUATIONS.saturating_add(more))? else {
         return Ok(false);
     };
-    stack.push(kept(alloc, set.as_slice(), node.drop.as_slice())?)?;
-    nodes.push(Node::Poly(Box::new(alloc, node)?))?;
+    stack.push(kept(alloc, set.as_slice(), dropped_by(&node))?)?;
+    nodes.push(node)?;
     Ok(true)
+}
+
+// The pairs that a node drops.
+fn dropped_by(node: &Node) -> &[u32]
+    ensures { result.now ≡ dropped_by (said_node node.now) }
+{
+    match node {
+        Node::Subterm { drop, .. } => drop.as_slice(),
+        Node::Poly(poly) => poly.drop.as_slice(),
+        Node::Done | Node::Alone | Node::Blocks(_) => &[],
+    }
 }
