@@ -1,6 +1,6 @@
 //! What the symbols and the marked symbols of a set are read as.
 
-ghost use Rattle.std.specs.Prelude.{◌≡◌, ◌<◌, All, IfOk, IfSome, map, length};
+ghost use Rattle.std.specs.Prelude.{◌≡◌, All, IfOk, IfSome, map};
 ghost use Rattle.wh_types.specs.Erase.{ty, tys};
 ghost use Rattle.wh_types.specs.Ty.{arguments};
 ghost use Rattle.wh_system.specs.SystemView.{system_data};

@@ -1,6 +1,6 @@
 //! A small generator of numbers, which begins with a fixed one: so each search goes the same way when it is run again.
 
-ghost use Rattle.std.specs.Prelude.{◌<◌, ◌≤◌};
+ghost use Rattle.std.specs.Prelude.{◌<◌};
 
 /// A linear congruence on 64 bits (Knuth), of which the high bits are given.
 #[derive(Clone, Copy)]

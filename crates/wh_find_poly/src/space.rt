@@ -2,13 +2,12 @@
 
 ghost use Rattle.std.specs.Prelude.{◌≡◌, ◌<◌, ◌≤◌, All, IfOk, IfSome, OnOk, if◌then◌else◌, length};
 ghost use Rattle.wh_types.specs.Erase.{ty, tys};
-ghost use Rattle.wh_types.specs.Ty.{arguments};
 ghost use Rattle.wh_hopoly.specs.Erase.{atoms, monomials, poly, polys};
 ghost use Rattle.wh_hopoly.specs.Evaluation.{type_at};
 ghost use Rattle.wh_hopoly.specs.Polynomials.{no_arguments, no_factors, times, zero_poly};
 ghost use Rattle.wh_hopoly.specs.declared.polynomial.Atom.{out-Atom};
 ghost use Rattle.wh_hopoly.specs.declared.polynomial.Monomial.{out-Monomial};
-ghost use Rattle.wh_find_poly.specs.Space.{IsOfSpace, filled, is_sort, sort_variables, space_of, sum_of_variables};
+ghost use Rattle.wh_find_poly.specs.Space.{IsOfSpace, filled, is_sort, sort_variables, sum_of_variables};
 ghost use Rattle.wh_find_poly.specs.Spots.{IsSpaceMonomial, IsSpot, factors_at};
 
 use std::alloc::{AllocError, Global};
@@ -64,7 +63,8 @@ fn is_sort(kind: &SimpleType) -> bool
 }
 
 /// What a symbol of this type is read as, by the coefficients of the monomials in order; those that are missing are 0, and none
-/// is above 3. The monomials are made in the order of normal forms, so the answer is never `None`.
+/// is above 3. The monomials are made in the order of normal forms, so `None` does not come; a test of the result shows that it is
+/// normal.
 pub fn reading_of(
     alloc: Global,
     scope: &[SimpleType],

@@ -1,4 +1,4 @@
-use Rattle.std.proofs.Common.{◌≡◌, ℕ, ◌+◌, ◌*◌, ◌<◌, ◌≤◌, Bool, true, false, not, cond, List, [], ◌∷◌, ◌++◌, length, get_or, take, map, Option, Some, None, refl, sym, ◌∙◌, ap, subst, inl, inr, arith}
+use Rattle.std.proofs.Common.{◌≡◌, ℕ, ◌+◌, ◌-◌, ◌*◌, ◌<◌, ◌≤◌, Bool, true, false, not, cond, List, [], ◌∷◌, ◌++◌, length, get_or, take, map, Option, Some, None, refl, sym, ◌∙◌, ap, subst, inl, inr, arith}
 use Rattle.std.specs.Option.{unwrap_or}
 use Rattle.std.proofs.Math.Nat.{mul-le-mul_left}
 use Rattle.std.proofs.lemmas.List.{take-take, take_all, length-take, get_or-take, nil_from_length}
@@ -61,27 +61,30 @@ extends_trans a b c f g =
       count = g.count ∙ f.count;
     }
 
--- another trail over the same formula
-pub extends_trail : (a b : Learner) (u : Trail) → formula_of u ≡ formula_of b.trail → Extends a b → Extends a (record b { trail = u })
-extends_trail a b u e f = record {
+-- another learner with the same clauses
+pub extends_as : (a b c : Learner) → formula_of c.trail ≡ formula_of b.trail → c.learnt.items ≡ b.learnt.items → c.left ≡ b.left → Extends a b → Extends a c
+extends_as a b c e el ek f = record {
   variables = ap (λ (x : Formula). x.variables) e ∙ f.variables;
   clauses = ap (λ (x : Formula). take (length (clauses_of a)) x.clauses) e ∙ f.clauses;
-  earlier = f.earlier;
-  later = f.later;
-  count = ap (λ (x : Formula). length x.clauses + b.left) e ∙ f.count;
+  earlier = ap (take (length a.learnt.items)) el ∙ f.earlier;
+  later = λ k w v. ap (λ xs. get_or xs k false) el ∙ f.later k w (subst (λ xs. k < length xs) el v);
+  count = ap (λ (x : Formula). length x.clauses + c.left) e ∙ ap (λ n. length (clauses_of b) + n) ek ∙ f.count;
 }
 
 pub known_trail : (b : Learner) (u : Trail) → formula_of u ≡ formula_of b.trail → Known (variables_of b) (clauses_of b) b.learnt.items → Known (formula_of u).variables (formula_of u).clauses b.learnt.items
 known_trail b u e q = known_as (variables_of b) (formula_of u).variables (clauses_of b) (formula_of u).clauses b.learnt.items b.learnt.items (ap (λ (x : Formula). x.variables) e) (ap (λ (x : Formula). x.clauses) e) refl q
 
--- back at the ground level
-pub sound_back : (b : Learner) (u : Trail) → formula_of u ≡ formula_of b.trail → marks_of u ≡ [] → assigned u ≡ take (get_or (marks_of b.trail) 0 (length (assigned b.trail))) (assigned b.trail)
-    → Known (variables_of b) (clauses_of b) b.learnt.items → Levels (clauses_of b) (assigned b.trail) (marks_of b.trail) → Sound (record b { trail = u })
-sound_back b u e em ea q lv = record {
-  known = known_trail b u e q;
-  ground = em;
-  derived = λ m h. subst (λ (x : Formula). Derives x.clauses [] m) (sym e) (lv.ground m (subst (λ x. Has x m) ea h));
-}
+-- back at the ground level, from a trail t
+pub sound_back : (b c : Learner) (t : Trail) → t ≡ b.trail → c.learnt.items ≡ b.learnt.items → formula_of c.trail ≡ formula_of t → marks_of c.trail ≡ [] → assigned c.trail ≡ take (get_or (marks_of t) 0 (length (assigned t))) (assigned t)
+    → Known (variables_of b) (clauses_of b) b.learnt.items → Levels (clauses_of b) (assigned b.trail) (marks_of b.trail) → Sound c
+sound_back b c t et el ef em ea' q lv =
+    let e : formula_of c.trail ≡ formula_of b.trail = ef ∙ ap formula_of et in
+    let ea : assigned c.trail ≡ take (get_or (marks_of b.trail) 0 (length (assigned b.trail))) (assigned b.trail) = ea' ∙ ap (λ (x : Trail). take (get_or (marks_of x) 0 (length (assigned x))) (assigned x)) et in
+    record {
+      known = known_as (variables_of b) (variables_of c) (clauses_of b) (clauses_of c) b.learnt.items c.learnt.items (ap (λ (x : Formula). x.variables) e) (ap (λ (x : Formula). x.clauses) e) el q;
+      ground = em;
+      derived = λ m h. subst (λ (x : Formula). Derives x.clauses [] m) (sym e) (lv.ground m (subst (λ x. Has x m) ea h));
+    }
 
 -- without a level
 pub sound_ground : (b : Learner) → length (marks_of b.trail) ≡ 0 → Known (variables_of b) (clauses_of b) b.learnt.items → Levels (clauses_of b) (assigned b.trail) (marks_of b.trail) → Sound b
@@ -122,6 +125,28 @@ closed_solves n clauses t values b c full same k w =
 
 pub fewer_left : (n a b x y : ℕ) → a < b → x ≤ n → (n + 1) * a + x < (n + 1) * b + y
 fewer_left n a b x y w v = omega (arith, mul-le-mul_left (n + 1) w, v)
+
+pub measure_turned : (n m t s x y : ℕ) → m ≡ n → s < t → (m + 1) * s + (m - y) < (n + 1) * t + (n - x)
+measure_turned n m t s x y e w = subst (λ k. (k + 1) * s + (k - y) < (n + 1) * t + (n - x)) (sym e) (fewer_left n s t (n - y) (n - x) w (omega arith))
+
+pub measure_decided : (n m t s x y : ℕ) → m ≡ n → s ≡ t → x < y → y ≤ n → (m + 1) * s + (m - y) < (n + 1) * t + (n - x)
+measure_decided n m t s x y e f w v =
+    subst (λ k. (k + 1) * s + (k - y) < (n + 1) * t + (n - x)) (sym e) (subst (λ k. (n + 1) * k + (n - y) < (n + 1) * t + (n - x)) (sym f) (omega (arith, w, v)))
+
+-- what is left counts twice, and a plan once less
+abbrev pub turns : ℕ → Bool → ℕ
+turns left is_planned = 2 * left + cond is_planned 0 1
+
+pub turns_planned : (a b : ℕ) (was is : Bool) → a ≡ b → was ≡ false → is ≡ true → turns a is < turns b was
+turns_planned a b true is e f g = absurd (grind (arith, f))
+turns_planned a b false true e f g = omega (arith, e)
+turns_planned a b false false e f g = absurd (grind (arith, g))
+
+pub turns_learnt : (a b : ℕ) (was is : Bool) → a < b → turns a is < turns b was
+turns_learnt a b true true w = omega (arith, w)
+turns_learnt a b true false w = omega (arith, w)
+turns_learnt a b false true w = omega (arith, w)
+turns_learnt a b false false w = omega (arith, w)
 
 -- the levels after propagation, and after a decision
 pub levels_after : (s u : Trail) → formula_of u ≡ formula_of s → marks_of u ≡ marks_of s → Grows (formula_of s).clauses (assigned s) (assigned u)

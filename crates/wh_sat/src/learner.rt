@@ -4,6 +4,7 @@ mod conflicts;
 mod models;
 mod search;
 
+use crate::guide::Guide;
 use std::alloc::Global;
 use wh_sat_trail::Trail;
 
@@ -14,6 +15,7 @@ pub struct Learner {
     trail: Trail,
     learnt: Vec<bool>,
     left: u64,
+    guide: Guide,
 }
 
 /// What a search ends with: a truth value for each variable under which all clauses are true, that

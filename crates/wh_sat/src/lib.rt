@@ -3,6 +3,7 @@
 #![tactic(auto)]
 
 mod copying;
+mod guide;
 mod halving;
 mod learner;
 mod solving;

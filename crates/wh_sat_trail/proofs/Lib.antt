@@ -4,3 +4,4 @@ pub mod Looking
 pub mod Watching
 pub mod Guarding
 pub mod Visiting
+pub mod Settling

@@ -4,6 +4,7 @@ pub mod Assignment
 pub mod Propagation
 pub mod Look
 pub mod Watch
+pub mod Settled
 pub mod Visit
 pub mod State
 pub mod Find

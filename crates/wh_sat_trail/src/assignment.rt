@@ -69,6 +69,13 @@ impl Assignment {
         }
     }
 
+    /// The number of the clause that forced the variable's last value.
+    pub fn reason(&self, variable: u32) -> Option<usize>
+        requires { variable < vec_len self.now.values }
+    {
+        self.reasons[variable as usize]
+    }
+
     /// A literal without a value becomes true.
     pub fn assign(&mut self, literal: Literal, reason: Option<usize>)
         requires below { literal.variable < vec_len self.old.values }

@@ -1,8 +1,10 @@
 //! What a clause says under an assignment, and which of its literals can be watched.
 
+ghost use Rattle.std.specs.Bool.{OnTrue};
 ghost use Rattle.std.specs.Prelude.{◌≡◌, ◌≢◌, ℕ, ◌<◌, MatchOption, IfSome, get_or, length, true, vec_len};
 ghost use Rattle.wh_sat_trail.specs.Assignment.{AllBelow, Fails};
 ghost use Rattle.wh_sat_trail.specs.Look.{IsCandidate, Looks};
+ghost use Rattle.wh_sat_trail.specs.Settled.{IsMet};
 ghost use Rattle.wh_sat_trail.specs.declared.literal.Literal.{Literal};
 
 use crate::assignment::Assignment;
@@ -38,6 +40,21 @@ impl Assignment {
             None => Look::Refuted,
             Some(literal) => Look::Forces(literal),
         }
+    }
+
+    /// Whether a literal of a clause is true.
+    pub fn meets(&self, clause: &[Literal]) -> bool
+        requires { AllBelow (vec_len self.now.values) clause.now }
+        ensures { OnTrue result (IsMet self.now.literals.items clause.now) }
+    {
+        for literal in clause {
+            match self.truth(*literal) {
+                None => {}
+                Some(false) => {}
+                Some(true) => return true,
+            }
+        }
+        false
     }
 
     /// A literal that is not false, and not the other one.

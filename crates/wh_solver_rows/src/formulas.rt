@@ -41,8 +41,8 @@ fn is_below(variables: u32, literal: Literal) -> bool
     literal.variable < variables
 }
 
-// Whether the literals' variables are.
-fn are_below(variables: u32, clause: &[Literal]) -> bool
+/// Whether the literals' variables are.
+pub fn are_below(variables: u32, clause: &[Literal]) -> bool
     ensures { OnTrue result (AllBelow variables clause.now) }
 {
     for literal in clause {

@@ -4,7 +4,15 @@
 #![tactic(auto)]
 
 #[cfg(test)]
+mod chance;
+#[cfg(test)]
+mod chance_rows;
+#[cfg(test)]
 mod formulas;
+#[cfg(test)]
+mod learner_rows;
+#[cfg(test)]
+mod plain_solver;
 #[cfg(test)]
 mod projection_rows;
 #[cfg(test)]

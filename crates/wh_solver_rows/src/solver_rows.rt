@@ -4,19 +4,14 @@ use crate::formulas::{are_within, clauses_of};
 use std::alloc::{AllocError, Global};
 use std::test::Fail;
 use wh_sat::{Outcome, solve};
-use wh_sat_trail::{Clauses, Formula};
+use wh_sat_trail::Formula;
 
 /// The answer for a formula; want of memory stands for one that has too few variables.
-fn solved(
-    alloc: Global,
-    variables: u32,
-    clauses: Clauses,
-    budget: u64,
-) -> Result<Outcome, AllocError> {
-    if !are_within(variables, clauses.as_slice()) {
+pub fn solved(alloc: Global, formula: &Formula, budget: u64) -> Result<Outcome, AllocError> {
+    if !are_within(formula.variables, formula.clauses.as_slice()) {
         return Err(AllocError);
     }
-    solve(alloc, &Formula { variables, clauses }, budget)
+    solve(alloc, formula, budget)
 }
 
 /// What the answer is, with the value of a single variable.
@@ -39,7 +34,7 @@ fn told(outcome: Outcome) -> &'static str {
 }
 
 /// Of two variables both values of each are refused.
-const REFUSED: &[&[i32]] = &[&[1, 2], &[1, -2], &[-1, 2], &[-1, -2]];
+pub const REFUSED: &[&[i32]] = &[&[1, 2], &[1, -2], &[-1, 2], &[-1, -2]];
 
 /// Formulas and budgets with the answers.
 const ANSWERS: &[(u32, &[&[i32]], u64, &str)] = &[
@@ -58,8 +53,11 @@ const ANSWERS: &[(u32, &[&[i32]], u64, &str)] = &[
 fn solves_small_formulas(rt: HostRuntime) -> Result<(), Fail> {
     let alloc = rt.alloc();
     for (variables, lists, budget, expected) in ANSWERS {
-        let clauses = clauses_of(alloc, *lists)?;
-        let answer = solved(alloc, *variables, clauses, *budget)?;
+        let formula = Formula {
+            variables: *variables,
+            clauses: clauses_of(alloc, *lists)?,
+        };
+        let answer = solved(alloc, &formula, *budget)?;
         assert_eq!(rt; told(answer), *expected);
     }
     Ok(())

@@ -1,12 +1,13 @@
 //! Truth values for all variables.
 
-ghost use Rattle.std.specs.Prelude.{◌≡◌, ◌<◌, ◌≤◌, IfOk, MatchOption, None, ℕ, false, get_or, length, unwrap_or};
+ghost use Rattle.std.specs.Prelude.{◌≡◌, ◌<◌, IfOk, MatchOption, None, ℕ, false, get_or, length, unwrap_or};
 ghost use Rattle.wh_sat.specs.State.{variables_of};
 ghost use Rattle.wh_sat_trail.specs.Assignment.{value_in};
 ghost use Rattle.wh_sat_trail.specs.State.{assigned, formula_of};
 
 use crate::learner::Learner;
 use std::alloc::AllocError;
+use wh_sat_trail::Literal;
 
 impl Learner {
     /// The values that are assigned, and false where there is none.
@@ -21,21 +22,25 @@ impl Learner {
         Ok(values)
     }
 
-    /// A variable without a value, the first one from a number on where there is one.
-    pub(crate) fn choose(&self, from: u32) -> Option<u32>
-        ensures { MatchOption result ((v : ℕ) → v < variables_of self.now → value_in (assigned self.now.trail) v ≡ None → ⊥) (λ v. (v < variables_of self.now) × (value_in (assigned self.now.trail) v ≡ None)) }
+    /// A literal whose variable has no value: the guide's, or else the first one's where there is one.
+    pub(crate) fn choose(&mut self) -> Option<Literal>
+        ensures same { self.new ≡ record self.old { guide = self.new.guide } }
+        ensures answer { MatchOption result ((v : ℕ) → v < variables_of self.old → value_in (assigned self.old.trail) v ≡ None → ⊥) (λ l. (l.variable < variables_of self.old) × (value_in (assigned self.old.trail) l.variable ≡ None)) }
     {
-        match self.open_from(from) {
-            Some(variable) => Some(variable),
-            None => self.open_from(0),
+        match self.guide.advise(&self.trail) {
+            Some(literal) => Some(literal),
+            None => match self.first_open() {
+                Some(variable) => Some(self.guide.literal_of(variable)),
+                None => None,
+            },
         }
     }
 
-    /// The first variable without a value, from a number on.
-    fn open_from(&self, from: u32) -> Option<u32>
-        ensures { MatchOption result ((v : ℕ) → from ≤ v → v < variables_of self.now → value_in (assigned self.now.trail) v ≡ None → ⊥) (λ v. (v < variables_of self.now) × (value_in (assigned self.now.trail) v ≡ None)) }
+    /// The first variable without a value.
+    fn first_open(&self) -> Option<u32>
+        ensures { MatchOption result ((v : ℕ) → v < variables_of self.now → value_in (assigned self.now.trail) v ≡ None → ⊥) (λ v. (v < variables_of self.now) × (value_in (assigned self.now.trail) v ≡ None)) }
     {
-        for variable in from..self.trail.formula().variables {
+        for variable in 0..self.trail.formula().variables {
             match self.trail.value(variable) {
                 None => return Some(variable),
                 Some(_) => {}

@@ -1,5 +1,6 @@
 //! The search: propagation, decisions, and a clause from each conflict.
 
+ghost use Rattle.std.specs.Bool.{OnTrue};
 ghost use Rattle.std.specs.Prelude.{◌≡◌, ◌+◌, ◌<◌, ◌++◌, [], ◌∷◌, IfOk, OnOk, false, length, replicate};
 ghost use Rattle.wh_sat.specs.Answers.{Answers};
 ghost use Rattle.wh_sat.specs.State.{Extends, Sound, clauses_of, variables_of};
@@ -7,9 +8,10 @@ ghost use Rattle.wh_sat_trail.specs.Assignment.{AllBelow};
 ghost use Rattle.wh_sat_trail.specs.Propagation.{Within};
 ghost use Rattle.wh_sat_trail.specs.State.{assigned, formula_of, marks_of};
 
+use crate::guide::Guide;
 use crate::learner::{Learner, Next};
 use std::alloc::{AllocError, Global};
-use wh_sat_trail::{Clause, Formula, Literal, Trail};
+use wh_sat_trail::{Clause, Formula, Trail};
 
 impl Learner {
     /// All clauses of the formula are given.
@@ -22,12 +24,14 @@ impl Learner {
         ensures left { IfOk result (λ made. made.left ≡ budget) }
     {
         let learnt = Vec::from_elem(alloc, false, formula.clauses.as_slice().len())?;
+        let guide = Guide::new(alloc, formula.variables)?;
         let trail = Trail::new(alloc, formula)?;
         Ok(Learner {
             alloc,
             trail,
             learnt,
             left: budget,
+            guide,
         })
     }
 
@@ -60,36 +64,47 @@ impl Learner {
         ensures extends { OnOk result (Extends self.old self.new) }
         ensures answer { IfOk result (Answers self.new) }
     {
-        // Variables below this one have values until the next conflict.
-        let mut from = 0;
+        // Whether the decisions were planned at the last conflict: the next one is learnt from.
+        let mut is_planned = false;
         loop {
             if self.left == 0 {
                 self.trail.undo(0);
                 return Ok(Next::Spent);
             }
             match self.trail.propagate()? {
-                Some(_) => {
+                Some(clause) => {
                     if self.trail.levels() == 0 {
                         return Ok(Next::Exhausted);
                     }
-                    self.learn()?;
-                    from = 0;
+                    is_planned = self.plan(clause as usize, is_planned)?;
+                    if is_planned {
+                        self.trail.undo(0);
+                    } else {
+                        self.learn()?;
+                    }
                 }
-                None => match self.choose(from) {
+                None => match self.choose() {
                     None => {
                         let values = self.values()?;
+                        self.guide.note(&self.trail)?;
                         self.trail.undo(0);
                         return Ok(Next::Model(values));
                     }
-                    Some(variable) => {
-                        from = variable;
-                        self.trail.decide(Literal {
-                            variable,
-                            positive: false,
-                        })?;
-                    }
+                    Some(literal) => self.trail.decide(literal)?,
                 },
             }
         }
+    }
+
+    // whether other decisions were planned for a conflict at a clause; those that were planned are not planned again
+    fn plan(&mut self, clause: usize, is_planned: bool) -> Result<bool, AllocError>
+        ensures same { self.new ≡ record self.old { guide = self.new.guide } }
+        ensures once { IfOk result (λ again. OnTrue again (is_planned ≡ false)) }
+    {
+        self.guide.note(&self.trail)?;
+        if is_planned {
+            return Ok(false);
+        }
+        self.guide.study(&self.trail, clause)
     }
 }

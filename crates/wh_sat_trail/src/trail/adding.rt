@@ -45,6 +45,7 @@ impl Trail {
             lists,
             pairs: Vec::new(alloc),
             short: Vec::new(alloc),
+            settled: 0,
         })
     }
 

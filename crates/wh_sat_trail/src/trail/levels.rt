@@ -2,6 +2,7 @@
 
 ghost use Rattle.std.specs.Prelude.{◌≡◌, ◌+◌, ◌<◌, ◌≤◌, ◌++◌, [], ◌∷◌, OnErr, OnOk, get_or, length, take, ℕ};
 ghost use Rattle.wh_sat_trail.specs.Assignment.{Open, value_in};
+ghost use Rattle.wh_sat_trail.specs.Settled.{Settled, ground_of};
 ghost use Rattle.wh_sat_trail.specs.State.{assigned, formula_of, marks_of};
 ghost use Rattle.wh_sat_trail.specs.Watch.{AllSafe, no_stop};
 
@@ -32,6 +33,22 @@ impl Trail {
         ensures { result ≡ length (assigned self.now) }
     {
         self.assignment.len()
+    }
+
+    /// The literal at a place, in the order in which they became true.
+    pub fn literal(&self, place: usize) -> Literal
+        requires { place < length (assigned self.now) }
+        ensures { result ≡ get_or (assigned self.now) place result }
+    {
+        self.assignment.at(place)
+    }
+
+    /// The number of the clause that forced the variable's last value, if one did. Nothing is claimed of it: it is a hint for the
+    /// choice of what to learn.
+    pub fn reason(&self, variable: u32) -> Option<usize>
+        requires { variable < (formula_of self.now).variables }
+    {
+        self.assignment.reason(variable)
     }
 
     /// The number of levels.
@@ -90,6 +107,7 @@ impl Trail {
         requires dones { (j : ℕ) → j < length self.old.stops.items → (get_or self.old.stops.items j no_stop).done ≤ to.done }
         requires marks { (j : ℕ) → j < length self.old.stops.items → (get_or self.old.stops.items j no_stop).mark < to.mark }
         requires safe { AllSafe self.old.formula.clauses self.old.assignment.literals.items self.old.pairs.items to.done to.mark }
+        requires settling { Settled self.old.formula.clauses (ground_of self.old.stops.items (take to.mark self.old.assignment.literals.items)) self.old.short.items self.old.settled }
         ensures same { self.new.formula ≡ self.old.formula }
         ensures stops { self.new.stops.items ≡ self.old.stops.items }
         ensures literals { self.new.assignment.literals.items ≡ take to.mark self.old.assignment.literals.items }

@@ -1,8 +1,10 @@
 //! Propagation: the queue of literals whose clauses have not been visited, then the clauses without two watches.
 
+ghost use Rattle.std.specs.Bool.{OnTrue};
 ghost use Rattle.std.specs.Prelude.{◌≡◌, ℕ, ◌+◌, ◌<◌, ◌≤◌, [], IfOk, MatchOption, OnErr, OnOk, get_or, length};
 ghost use Rattle.wh_sat_trail.specs.Find.{Finds};
 ghost use Rattle.wh_sat_trail.specs.Propagation.{Grows, IsClosed, IsRefuted};
+ghost use Rattle.wh_sat_trail.specs.Settled.{IsMet, ground_of};
 ghost use Rattle.wh_sat_trail.specs.State.{assigned, formula_of, marks_of};
 ghost use Rattle.wh_sat_trail.specs.Watch.{AllSafe, done_of};
 
@@ -28,6 +30,7 @@ impl Trail {
             Ok(Some(number)) => Ok(Some(number as u64)),
             Err(_) => {
                 let done = self.last_done();
+                self.settled = 0;
                 self.cut(Stop { done, mark: before });
                 Err(AllocError)
             }
@@ -55,6 +58,7 @@ impl Trail {
             if let Some(number) = self.empty_queue()? {
                 return Ok(Some(number));
             }
+            self.settle();
             match self.find() {
                 Find::Nothing => return Ok(None),
                 Find::Refuted(number) => return Ok(Some(number)),
@@ -96,17 +100,44 @@ impl Trail {
         self.head += 1;
     }
 
+    /// Passes the short clauses that are true before the first level: they stay true.
+    fn settle(&mut self)
+        ensures same { self.new.formula ≡ self.old.formula }
+        ensures stops { self.new.stops ≡ self.old.stops }
+        ensures head { self.new.head ≡ self.old.head }
+        ensures assignment { self.new.assignment ≡ self.old.assignment }
+    {
+        while self.is_next_met() {
+            self.settled += 1;
+        }
+    }
+
+    /// Whether the next short clause is true, and no level has begun.
+    fn is_next_met(&self) -> bool
+        ensures { OnTrue result ((self.now.settled < length self.now.short.items) × (get_or self.now.short.items self.now.settled 0 < length self.now.formula.clauses) × IsMet (ground_of self.now.stops.items self.now.assignment.literals.items) (get_or self.now.formula.clauses (get_or self.now.short.items self.now.settled 0) [])) }
+    {
+        if !self.stops.is_empty() || self.settled >= self.short.len() {
+            return false;
+        }
+        let number = self.short[self.settled];
+        if number >= self.pairs.len() {
+            return false;
+        }
+        self.assignment.meets(self.clause(number))
+    }
+
     /// The first of the short clauses that is false or forces a literal.
     fn find(&self) -> Find
         requires { self.now.head ≡ length self.now.assignment.literals.items }
         ensures { Finds self.now.formula.clauses self.now.assignment.literals.items result }
     {
-        for number in &self.short {
-            if *number < self.pairs.len() {
-                match self.assignment.look(self.clause(*number)) {
+        for place in self.settled..self.short.len() {
+            let number = self.short[place];
+            if number < self.pairs.len() {
+                match self.assignment.look(self.clause(number)) {
                     Look::Quiet => {}
-                    Look::Refuted => return Find::Refuted(*number),
-                    Look::Forces(literal) => return Find::Forces(*number, literal),
+                    Look::Refuted => return Find::Refuted(number),
+                    Look::Forces(literal) => return Find::Forces(number, literal),
                 }
             }
         }

@@ -6,5 +6,6 @@ use Rattle.wh_solver_rows.proofs.solver_rows.solved.Goals as goal
 
 pub solve-requires : goal.solve-requires
 solve-requires c =
-    let within = on_true c.are_within.result (Within c.args.variables c.as_slice.result.now) c.are_within.ensures c.if-not-are_within.false in
-    subst (λ (l : List (List Literal)). Within c.args.variables l) c.as_slice.ensures within
+    let f = c.args.formula.now in
+    let within = on_true c.are_within.result (Within f.variables c.as_slice.result.now) c.are_within.ensures c.if-not-are_within.false in
+    subst (λ (l : List (List Literal)). Within f.variables l) c.as_slice.ensures within

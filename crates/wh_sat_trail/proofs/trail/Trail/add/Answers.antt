@@ -3,6 +3,7 @@ use Rattle.wh_sat_trail.specs.Assignment.{Fails}
 use Rattle.wh_sat_trail.specs.Member.{member}
 use Rattle.wh_sat_trail.specs.Watch.{Guard, Listed, pair}
 use Rattle.wh_sat_trail.proofs.Guarding.{guard_new}
+use Rattle.wh_sat_trail.proofs.Settling.{settled_try}
 use Rattle.wh_sat_trail.proofs.trail.Trail.add.Goals as goal
 
 pub join-requires-clause-guard : goal.join-requires-clause-guard
@@ -23,3 +24,8 @@ join-requires-clause-guard c _ =
     let f2 : Fails b.assignment.literals.items second → ⊥ = λ f. u.1.possible (subst (λ x. Fails x.literals.items second) t f) in
     subst (λ n. Guard b.assignment.literals.items b.stops.items b.head b.lists.items c.args.clause n (pair first second)) k
     (guard_new b.assignment.literals.items b.stops.items b.head b.lists.items c.args.clause c.len-number.result first second m1 m2 (λ e. u.2 (sym e)) f1 f2 l1 l2)
+
+pub invariant_of-self-in-None-clause-settling : goal.invariant_of-self-in-None-clause-settling
+invariant_of-self-in-None-clause-settling c =
+    let s = c.args.self.now in
+    settled_try s.formula.clauses _ s.short.items c.push.new.self.items s.settled c.len-number.result c.push.result c.push.ensures.items s.settling

@@ -1,5 +1,6 @@
 use Rattle.std.proofs.Common.{rules, ◌≡◌, [], ◌∷◌, ◌++◌}
 use Rattle.wh_sat_trail.proofs.Guarding.{ordered_push, guarded_push}
+use Rattle.wh_sat_trail.proofs.Settling.{settled_push}
 use Rattle.wh_sat_trail.proofs.trail.Trail.assign.Goals as goal
 
 pub invariant_of-self : goal.invariant_of-self
@@ -15,4 +16,5 @@ invariant_of-self c =
       paired = s.paired;
       ordered = rw is (ordered_push s.stops.items s.head t l s.ordered);
       guarded = rw is (guarded_push s.formula.clauses t s.stops.items s.head s.lists.items s.pairs.items s.short.items l s.ordered s.guarded);
+      settling = rw is (settled_push s.formula.clauses t s.stops.items s.head s.short.items s.settled l s.ordered s.settling);
     }

@@ -1,6 +1,7 @@
-use Rattle.std.proofs.Common.{ap, ◌∙◌, ◌≡◌, [], ◌∷◌, ◌++◌, length}
+use Rattle.std.proofs.Common.{ap, refl, ◌∙◌, ◌≡◌, [], ◌∷◌, ◌++◌, length}
 use Rattle.wh_sat_trail.proofs.Guarding.{guarded_decide, ordered_decide}
 use Rattle.wh_sat_trail.specs.declared.watch.Stop.{Stop}
+use Rattle.wh_sat_trail.proofs.Settling.{settled_decide}
 use Rattle.wh_sat_trail.proofs.trail.Trail.decide.Goals as goal
 
 pub invariant_of-self-2 : goal.invariant_of-self-2
@@ -18,4 +19,5 @@ invariant_of-self-2 c =
       paired = s.paired;
       ordered = rw (is, ss) (ordered_decide t s.stops.items s.head l s.ordered);
       guarded = rw (is, ss) (guarded_decide s.formula.clauses t s.stops.items s.head s.lists.items s.pairs.items s.short.items l s.ordered s.guarded);
+      settling = rw (is, ss) (settled_decide s.formula.clauses t s.stops.items s.head s.short.items s.settled l at refl s.ordered s.settling);
     }

@@ -3,5 +3,5 @@ use Rattle.wh_sat_trail.specs.Look.{Looks}
 use Rattle.wh_sat_trail.specs.declared.look.Look.TheVariants.{Quiet}
 use Rattle.wh_sat_trail.proofs.trail.Trail.find.Given as goal
 
-abbrev pub invariant-loop-number : goal.invariant-loop-number
-invariant-loop-number l = (i : ℕ) → i < l.number-index → get_or l.self.short.items i 0 < length l.self.formula.clauses → Looks l.self.assignment.literals.items (get_or l.self.formula.clauses (get_or l.self.short.items i 0) []) Quiet
+abbrev pub invariant-loop-place : goal.invariant-loop-place
+invariant-loop-place l = (i : ℕ) → i < l.place → get_or l.self.short.items i 0 < length l.self.formula.clauses → Looks l.self.assignment.literals.items (get_or l.self.formula.clauses (get_or l.self.short.items i 0) []) Quiet

@@ -3,6 +3,7 @@ use Rattle.std.proofs.lemmas.List.{length_push}
 use Rattle.wh_sat_trail.proofs.Looking.{within_push}
 use Rattle.wh_sat_trail.proofs.Guarding.{guarded_join}
 use Rattle.wh_sat_trail.proofs.Rooms.{if_ok, length-items}
+use Rattle.wh_sat_trail.proofs.Settling.{settled_join}
 use Rattle.wh_sat_trail.proofs.trail.Trail.join.Goals as goal
 
 pub invariant_of-self-2 : goal.invariant_of-self-2
@@ -19,4 +20,5 @@ invariant_of-self-2 c =
       paired = length-items c.push-2.new.self ∙ rw (ps, cs) (omega (arith, same, length_push s.pairs.items c.args.pair, length_push s.formula.clauses c.args.clause));
       ordered = s.ordered;
       guarded = rw (ps, cs) (guarded_join s.formula.clauses t s.stops.items s.head s.lists.items s.pairs.items s.short.items c.args.clause c.args.pair same c.requires.guard c.requires.short s.guarded);
+      settling = rw cs (settled_join s.formula.clauses _ s.short.items s.settled c.args.clause s.settling);
     }

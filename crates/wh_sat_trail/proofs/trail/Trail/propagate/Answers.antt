@@ -1,7 +1,11 @@
 use Rattle.std.proofs.Common.{ℕ, ◌<◌, length, get_or}
 use Rattle.wh_sat_trail.specs.Watch.{no_stop}
 use Rattle.wh_sat_trail.proofs.Visiting.{safe_at_last}
+use Rattle.wh_sat_trail.proofs.Settling.{settled_none}
 use Rattle.wh_sat_trail.proofs.trail.Trail.propagate.Goals as goal
+
+pub cut-requires-clause-settling : goal.cut-requires-clause-settling
+cut-requires-clause-settling c = let n = c.close.new.self in settled_none n.formula.clauses _ n.short.items
 
 pub cut-requires-clause-safe : goal.cut-requires-clause-safe
 cut-requires-clause-safe c =

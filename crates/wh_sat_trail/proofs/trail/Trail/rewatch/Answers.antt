@@ -34,4 +34,5 @@ invariant_of-self-2 c =
       ordered = s.ordered;
       guarded = rw e4 (guarded_move s.formula.clauses s.assignment.literals.items s.stops.items s.head s.lists.items s.pairs.items s.short.items a.number a.at a.falsified a.other a.new
           (omega (arith, far, q.number_in)) code_in old_in q.number_in q.both q.fails q.candidate.in_clause q.distinct q.candidate.possible q.at_in q.is s.guarded);
+      settling = s.settling;
     }

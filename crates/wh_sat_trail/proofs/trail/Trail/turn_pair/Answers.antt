@@ -23,4 +23,5 @@ invariant_of-self c =
       paired = search rules;
       ordered = s.ordered;
       guarded = guarded_set s.formula.clauses s.assignment.literals.items s.stops.items s.head s.lists.items s.pairs.items s.short.items n c.args.falsified c.args.other w mine s.guarded;
+      settling = s.settling;
     }

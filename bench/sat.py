@@ -1,0 +1,129 @@
+#!/usr/bin/env python3
+"""The time of the solver beside that of MiniSat, on formulas in DIMACS form.
+
+    bench/sat.py [--program PATH] [--only WORD] [--seconds N]
+
+The program is that of crates/wh_bench_sat, which `rt run` in its folder builds; MiniSat comes from the system's packages.
+
+Makes its formulas in a temporary folder: random formulas of three literals a clause at 4.26 clauses a variable, of ten seeds
+for each size, pigeonholes, and formulas that want nothing but propagation. Runs each program three times on each, adds up the
+least processor times of each kind, and prints the sums and their ratio.
+"""
+import argparse
+import itertools
+import pathlib
+import random
+import resource
+import shutil
+import subprocess
+import tempfile
+
+HERE = pathlib.Path(__file__).resolve().parent
+PROGRAM = HERE.parent / "crates" / "wh_bench_sat" / "out" / "wh_bench_sat"
+RUNS = 3
+
+
+def by_chance(variables, seed):
+    """Clauses of three different variables each, 4.26 for each variable."""
+    source = random.Random(seed)
+    clauses = []
+    for _ in range(round(4.26 * variables)):
+        chosen = source.sample(range(1, variables + 1), 3)
+        clauses.append([variable * source.choice((1, -1)) for variable in chosen])
+    return variables, clauses
+
+
+def pigeons(holes):
+    """One pigeon more than there are holes."""
+    places = [[pigeon * holes + hole + 1 for hole in range(holes)] for pigeon in range(holes + 1)]
+    clauses = list(places)
+    for hole in range(holes):
+        clauses += [[-one[hole], -other[hole]] for one, other in itertools.combinations(places, 2)]
+    return holes * (holes + 1), clauses
+
+
+def units(variables):
+    """Nothing but literals."""
+    return variables, [[variable] for variable in range(1, variables + 1)]
+
+
+def chain(variables):
+    """Each variable implies the next one, and the last one is false."""
+    return variables, [[-variable, variable + 1] for variable in range(1, variables)] + [[-variables]]
+
+
+def kinds():
+    """The formulas, by the name of their kind."""
+    for variables in (100, 150, 200):
+        yield f"random {variables}", [by_chance(variables, seed) for seed in range(10)]
+    for holes in (6, 7, 8):
+        yield f"pigeons {holes}", [pigeons(holes)]
+    for variables in (10_000, 20_000):
+        yield f"units {variables}", [units(variables)]
+        yield f"chain {variables}", [chain(variables)]
+
+
+def write(path, formula):
+    """The formula as a file."""
+    variables, clauses = formula
+    lines = [f"p cnf {variables} {len(clauses)}"]
+    lines += [" ".join(map(str, clause + [0])) for clause in clauses]
+    path.write_text("\n".join(lines) + "\n")
+
+
+def answer_of(text):
+    """SAT, UNSAT or SPENT: the last word that either program writes."""
+    words = text.split()
+    return {"SATISFIABLE": "SAT", "UNSATISFIABLE": "UNSAT"}.get(words[-1], words[-1]) if words else "none"
+
+
+def processor_time():
+    """The processor time of the programs that have ended so far."""
+    used = resource.getrusage(resource.RUSAGE_CHILDREN)
+    return used.ru_utime + used.ru_stime
+
+
+def least(command, seconds):
+    """The least processor time of some runs, and the answer; after a run that is too long there is no other."""
+    best, answer = None, "none"
+    for _ in range(RUNS):
+        begin = processor_time()
+        try:
+            done = subprocess.run(command, capture_output=True, text=True, timeout=seconds)
+        except subprocess.TimeoutExpired:
+            return seconds, "late"
+        spent = processor_time() - begin
+        best, answer = min(best or spent, spent), answer_of(done.stdout)
+    return best, answer
+
+
+def compare(name, formulas, program, folder, seconds):
+    """One line: the sums of the least times over the formulas of a kind."""
+    ours, theirs, answers = 0.0, 0.0, []
+    for formula in formulas:
+        path = folder / "formula.cnf"
+        write(path, formula)
+        spent, answer = least([program, path], seconds)
+        wanted, right = least(["minisat", "-verb=0", path], seconds)
+        ours, theirs = ours + spent, theirs + wanted
+        answers.append(answer if answer == right else f"{answer}, MiniSat {right}")
+    told = ", ".join(f"{answers.count(answer)} {answer}" for answer in sorted(set(answers)))
+    print(f"{name:14} {ours:9.3f} s  MiniSat {theirs:9.3f} s  {ours / theirs:7.1f} times  {told}", flush=True)
+
+
+def main():
+    parser = argparse.ArgumentParser()
+    parser.add_argument("--program", default=str(PROGRAM))
+    parser.add_argument("--only", default="")
+    parser.add_argument("--seconds", type=float, default=60)
+    options = parser.parse_args()
+    if not shutil.which("minisat"):
+        raise SystemExit("bench/sat.py: there is no minisat: apt-get install -y minisat")
+    with tempfile.TemporaryDirectory() as folder:
+        for name, formulas in kinds():
+            if options.only in name:
+                compare(name, formulas, options.program, pathlib.Path(folder), options.seconds)
+
+
+if __name__ == "__main__":
+    main()
