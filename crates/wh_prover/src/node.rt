@@ -23,6 +23,7 @@ use wh_system::{PairList, PairSet, System};
 // How many times the sides of a rule or pair are evaluated in the search for an interpretation: so often, and so often more for each of
 // them.
 const EVALUATIONS: u64 = 30_000;
+
 const EVALUATIONS_FOR_EACH: u64 = 50;
 
 /// Gives the set a node, and puts what this leaves on top of the stack, the first of it on top; or says why the search ends on the
