@@ -1,7 +1,6 @@
 -- A node for a set, from the answers of its parts.
-use Rattle.std.proofs.Common.{◌≡◌, ◌≢◌, ◌↔◌, ℕ, ◌^◌, ◌<◌, ◌≤◌, ◌==◌, eqb-true, Bool, true, false, not, List, [], ◌∷◌, ◌++◌, length, get_or, IsTrue, All, refl, sym, ap, subst, ◌∙◌, arith}
+use Rattle.std.proofs.Common.{◌≡◌, ◌≢◌, ◌↔◌, ℕ, ◌^◌, ◌≤◌, ◌==◌, eqb-true, Bool, true, false, not, List, [], ◌∷◌, ◌++◌, length, get_or, IsTrue, All, refl, sym, ap, subst, ◌∙◌, arith}
 use Rattle.std.proofs.lemmas.List.Elements.{All-nil, All-cons}
-use Rattle.wh_terms.specs.Rules.{RewriteRule}
 use Rattle.wh_system.specs.Systems.{SystemData}
 use Rattle.wh_system.specs.WellMade.{IsWellMadeSystem}
 use Rattle.wh_system.specs.PairData.{PairData, IsIncreasing}
