@@ -16,7 +16,7 @@ const OTHER_WORDS: &[&[&str]] = &[
     &["check", "system"],
     &["check", "system", "certificate", "more"],
     &["check", "", "certificate"],
-    &["check", "system", "-"],
+    &["check", "system", "-x"],
     &["show", "system", "certificate"],
     &["show", "-system"],
     &["show"],
