@@ -4,3 +4,4 @@ pub mod ProofText
 pub mod Searching
 pub mod Standing
 pub mod Asking
+pub mod Replying

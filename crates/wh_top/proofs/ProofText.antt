@@ -1,5 +1,5 @@
 -- How the text of a proof or of a loop that was found begins.
-use Rattle.std.proofs.Common.{◌≡◌, ℕ, ◌⊎◌, inl, inr, List, [], ◌∷◌, ◌++◌, codes, Result, Ok, Err, refl, sym, ap, subst, ◌∙◌, arith}
+use Rattle.std.proofs.Common.{◌≡◌, ℕ, ◌⊎◌, inl, inr, List, [], ◌∷◌, ◌++◌, codes, Result, Ok, Err, IfOk, refl, sym, ap, subst, ◌∙◌, arith}
 use Rattle.wh_types.specs.Outcome.{MatchOr}
 use Rattle.wh_types.specs.declared.want.Or.{Or}
 use Rattle.wh_types.specs.declared.want.Or.TheVariants.{NoMemory, Because}
@@ -72,3 +72,9 @@ pub found_begins : (d : SystemData) (ps : List PairData) (o : Options) (bytes : 
     → BeginsWith (codes "YES 1") bytes ⊎ BeginsWith (codes "NO 1") bytes
 found_begins d ps o bytes (inl (proof, begins)) = inl begins
 found_begins d ps o bytes (inr (loops, begins)) = inr begins
+
+-- so does what was found where it is not too long
+pub begins_if_found : (d : SystemData) (ps : List PairData) (o : Options) (r : Result (List ℕ) (Or Report)) → MatchOr r (IsFoundText d ps o) (IsNotFound d ps o)
+    → IfOk r (λ bytes. BeginsWith (codes "YES 1") bytes ⊎ BeginsWith (codes "NO 1") bytes)
+begins_if_found d ps o (Ok bytes) found = found_begins d ps o bytes found
+begins_if_found d ps o (Err e) found = tt

@@ -45,9 +45,16 @@ pub fn generated(alloc: Global, n: u32) -> Result<Bytes, Or<Report>>
     let system = made(alloc, n)?;
     let pairs = pairs_of(alloc, &system)?;
     let outcome = searched(alloc, &system, &pairs)?;
-    let rules = system.rules().len() as u32;
-    let count = pairs.as_slice().len() as u32;
+    let rules = counted(system.rules().len())?;
+    let count = counted(pairs.as_slice().len())?;
     Ok(lines(alloc, n, rules, count, &outcome)?)
+}
+
+// A length as a number of 32 bits; one beyond them would count more than memory holds, and is told as want of memory.
+fn counted(length: usize) -> Result<u32, AllocError>
+    ensures { IfOk result (λ number. number ≡ length) }
+{
+    u32::try_from(length).or(Err(AllocError))
 }
 
 // The generated system.

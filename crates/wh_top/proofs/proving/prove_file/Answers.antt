@@ -4,9 +4,9 @@ use Rattle.wh_top.specs.Outcomes.{Shelves, outside}
 use Rattle.wh_top.proofs.Searching.{search_stands}
 use Rattle.wh_top.proofs.proving.prove_file.Goals as goal
 
-pub returns-clause-proof : goal.returns-clause-proof
-returns-clause-proof g c =
+pub returns-clause-found : goal.returns-clause-found
+returns-clause-found g c =
     let s : Shelves = outside (g.S.Shelf.held c.args.shelf.now) (g.S.Shelf.faults c.args.shelf.now) (g.S.Shelf.faults c.problem_in.new.shelf) in
     let problem = c.in_ok-problem.problem in
-    search_stands s c.args.file.now c.args.tries (system_data problem.system) (pairs_data problem.pairs) c.proof_text.result c.in_ok-problem.ensures.read
-    c.proof_text.ensures.proof
+    search_stands s c.args.file.now c.args.options.now (system_data problem.system) (pairs_data problem.pairs) c.found_text.result c.in_ok-problem.ensures.read
+    c.found_text.ensures.found
