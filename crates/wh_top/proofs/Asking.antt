@@ -1,5 +1,5 @@
 -- What the words that were read ask for is within its limits.
-use Rattle.std.proofs.Common.{ℕ, ◌≤◌, inl, inr, List, sym, subst, arith}
+use Rattle.std.proofs.Common.{ℕ, ◌≤◌, inl, inr, List, arith}
 use Rattle.wh_words.specs.Words.{Bounds, Item, SetTo, depth, prove, gen, Asks}
 
 set_depth : (items : List Item) (n : ℕ) → SetTo items depth n → n ≤ 100

@@ -1,5 +1,5 @@
 -- Replies that are texts of their own.
-use Rattle.std.proofs.Common.{◌≡◌, ℕ, ◌≤◌, ◌⊎◌, inl, List, length, codes, subst, sym, refl}
+use Rattle.std.proofs.Common.{◌≡◌, ℕ, ◌≤◌, ◌⊎◌, inl, List, length, codes, subst, sym}
 use Rattle.wh_words.specs.Words.{Bounds, prove}
 use Rattle.wh_prover.specs.declared.answer.Options.{Options}
 use Rattle.wh_top.specs.declared.status.Status.{Status}

@@ -1,11 +1,10 @@
-use Rattle.std.proofs.Common.{◌≡◌, length, codes, sym, ap, subst, ◌∙◌}
+use Rattle.std.proofs.Common.{length, sym, ap, subst, ◌∙◌}
 use Rattle.wh_system.specs.SystemView.{system_data}
 use Rattle.wh_pairs.specs.Views.{pairs_data}
 use Rattle.wh_cert.specs.Said.{said}
 use Rattle.wh_answer.specs.Texts.{report_text}
 use Rattle.wh_answer.specs.declared.report.Report.TheVariants as answer
 use Rattle.wh_top.specs.Generating.{Comes, comes_yes, comes_no, comes_maybe, nodes_of, usual_options}
-use Rattle.wh_top.specs.Rows.{named_cause}
 use Rattle.wh_top.proofs.Causes.{reason_there}
 use Rattle.wh_top.proofs.generating.searched.Goals as goal
 

@@ -11,5 +11,5 @@ returns-in-Ok-prove_file-clause-served g c =
     let found = c.in-Ok-prove_file.ensures in
     let reply = c.answered.result in
     subst (λ command. Replies s (request command) reply.status reply.text) (sym c.in-Prove.is)
-    (found_replies s c.in-Prove.file.now (bounds_of c.in-Prove.limits) c.options_of.result reply.status c.in-Ok-prove_file.text reply.text c.options_of.ensures c.answered.ensures.status c.answered.ensures.text
+    (found_replies s c.in-Prove.file.now (bounds_of c.in-Prove.limits) c.options_of-options.result reply.status c.in-Ok-prove_file.text reply.text c.options_of-options.ensures c.answered.ensures.status c.answered.ensures.text
     found.found found.begins found.within)
