@@ -6,7 +6,7 @@
 The program is that of crates/wh_bench_sat, which `rt run` in its folder builds; MiniSat comes from the system's packages.
 
 Makes its formulas in a temporary folder: random formulas of three literals a clause at 4.26 clauses a variable, of ten seeds
-for each size, pigeonholes, and formulas that want nothing but propagation. Runs each program three times on each, adds up the
+for each size, pigeonholes, the formulas of projections of a ring of symbols, and formulas that want nothing but propagation. Runs each program three times on each, adds up the
 least processor times of each kind, and prints the sums and their ratio.
 """
 import argparse
@@ -52,8 +52,27 @@ def chain(variables):
     return variables, [[-variable, variable + 1] for variable in range(1, variables)] + [[-variables]]
 
 
+def ring(symbols):
+    """The projections of a ring of symbols with four arguments, of which the last one gets smaller (examples of the tests)."""
+    argument = lambda symbol, place: 4 * symbol + place + 1
+    pair = lambda symbol: 4 * symbols + symbol + 1
+    clauses = [[argument(symbol, place) for place in range(4)] for symbol in range(symbols)]
+    for symbol in range(symbols):
+        clauses += [[-argument(symbol, one), -argument(symbol, other)] for one, other in itertools.combinations(range(4), 2)]
+    for own in (False, True):
+        for symbol in range(symbols):
+            for left, right in itertools.product(range(4), range(4)):
+                if (left, right) != (3, 3):
+                    both = [-argument(symbol, left), -argument((symbol + 1) % symbols, right)]
+                    clauses.append(both + [-pair(symbol)] if own else both)
+    clauses.append([pair(symbol) for symbol in range(symbols)])
+    return 5 * symbols, clauses
+
+
 def kinds():
     """The formulas, by the name of their kind."""
+    for symbols in (30, 300, 1000):
+        yield f"ring {symbols}", [ring(symbols)]
     for variables in (100, 150, 200):
         yield f"random {variables}", [by_chance(variables, seed) for seed in range(10)]
     for holes in (6, 7, 8):
