@@ -10,7 +10,9 @@ use Rattle.wh_subterm.specs.Projections.{Chosen}
 use Rattle.wh_subterm.specs.SubtermRows.{IsProjection}
 use Rattle.wh_find_subterm.specs.Found.{DropsAllBelow}
 use Rattle.wh_cert.specs.Written as w
+use Rattle.wh_find_moves.specs.Found.{AreApart}
 use Rattle.wh_find_poly.specs.Found.{IsInterpretation}
+use Rattle.wh_prover.specs.Searched.{IsSearched}
 use Rattle.wh_cert.specs.Limits.{NodeFits, NodeWithin}
 use Rattle.wh_nodes.specs.Nodes.{done, alone, blocks, subterm, poly, IsSetOf, IsKept, Leaves, by_done, by_alone, by_blocks, by_subterm, by_poly}
 use Rattle.wh_checker.specs.Walk.{GoesOn}
@@ -54,14 +56,15 @@ alone_same E F set same = (
 -- nodes that leave nothing
 
 adds_nothing : (d : SystemData) (ps : List PairData) (set : List ℕ) (sets : List (List ℕ)) (lines longer : List w.Node) (line : w.Node)
-    → longer ≡ lines ++ line ∷ [] → (goes : GoesOn d ps set line sets sets) → NodeFits line → NodeWithin (2 ^ 32) line → goes.left ≡ []
+    → longer ≡ lines ++ line ∷ [] → (goes : GoesOn d ps set line sets sets) → NodeFits line → NodeWithin (2 ^ 32) line → IsSearched d line → goes.left ≡ []
     → Adds d ps set sets sets lines longer
-adds_nothing d ps set sets lines longer line joined goes fits within nothing = record {
+adds_nothing d ps set sets lines longer line joined goes fits within searched nothing = record {
   line = line;
   joined = joined;
   goes = goes;
   fits = fits;
   within = within;
+  searched = searched;
   arrives = subst (All (Arrives d ps)) (sym nothing) (All-nil (Arrives d ps));
   lighter = omega (arith, weighs_something set, ap weight nothing);
 }
@@ -77,7 +80,7 @@ adds_done d ps set sets lines longer empty joined =
       small = tt;
       after_is = refl;
     } in
-    adds_nothing d ps set sets lines longer w.done joined goes tt tt refl
+    adds_nothing d ps set sets lines longer w.done joined goes tt tt tt refl
 
 pub adds_alone : (d : SystemData) (ps : List PairData) (set : List ℕ) (sets : List (List ℕ)) (lines longer : List w.Node) → IsAlone d.rules ps set
     → longer ≡ lines ++ w.alone ∷ [] → Adds d ps set sets sets lines longer
@@ -90,7 +93,7 @@ adds_alone d ps set sets lines longer (a, one, free) joined =
       small = tt;
       after_is = refl;
     } in
-    adds_nothing d ps set sets lines longer w.alone joined goes tt tt refl
+    adds_nothing d ps set sets lines longer w.alone joined goes tt tt tt refl
 
 -- a node by blocks
 
@@ -113,6 +116,7 @@ adds_blocks d ps set parts sets after lines longer few up arrives are parts_up e
       };
       fits = blocks_fit E (length ps) set parts few up below parts_up are;
       within = blocks_within E (length ps) set parts few below parts_up are;
+      searched = tt;
       arrives = arrives_apart d ps set parts arrives are parts_up enough;
       lighter = components_lighter E set parts parts_up are enough;
     }
@@ -139,11 +143,29 @@ adds_subterm d ps set drop rest args line sets after lines longer made few end i
       };
       fits = subterm_fits (length ps) set said drop few below is.within fit;
       within = subterm_within d ps (length ps) set said args drop made few below says is;
+      searched = tt;
       arrives = All-cons (Arrives d ps) rest [] (behind_projection end.arrives end.knot is all kept) (All-nil (Arrives d ps));
       lighter = omega (arith, rest_lighter set drop rest kept is.some_dropped is.within);
     }
 
 -- a node by interpretations
+
+-- it is of the space that is searched
+interpretation_searched : (d : SystemData) (ps : List PairData) (set : List ℕ) (line : w.Node) → IsInterpretation d ps set line → IsSearched d line
+interpretation_searched d ps set (w.interpretations funs marks rules pairs drop) is = record {
+  symbols = is.symbols;
+  marked = is.marks;
+  says = is.says.0;
+  says_marks = is.says.1;
+  of_space = is.symbols_of_space;
+  marks_of_space = is.marks_of_space;
+  rules_apart = subst (All AreApart) (sym is.says.2) is.rules_apart;
+  pairs_apart = subst (All AreApart) (sym is.says.3) is.pairs_apart;
+}
+interpretation_searched d ps set w.done is = tt
+interpretation_searched d ps set w.alone is = tt
+interpretation_searched d ps set (w.blocks parts) is = tt
+interpretation_searched d ps set (w.subterm lines drop) is = tt
 
 pub adds_interpretation : (d : SystemData) (ps : List PairData) (set rest : List ℕ) (line : w.Node) (sets after : List (List ℕ)) (lines longer : List w.Node)
     → Ended d ps set → HasNoProjection d.rules ps set → (is : IsInterpretation d ps set line) → IsSetOf (IsKept set is.drop) rest → after ≡ rest ∷ sets
@@ -163,6 +185,7 @@ adds_interpretation d ps set rest line sets after lines longer end none is kept 
       };
       fits = is.fits;
       within = is.within;
+      searched = interpretation_searched d ps set line is;
       arrives = All-cons (Arrives d ps) rest [] (behind_interpretation end.arrives end.knot none covering kept) (All-nil (Arrives d ps));
       lighter = omega (arith, rest_lighter set is.drop rest kept covering.some_dropped covering.within);
     }

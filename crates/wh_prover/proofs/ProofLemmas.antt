@@ -42,6 +42,7 @@ proof_of_tree d ps ranks count set lines made pairs passing each low right whole
       fits = tree_fits d ps ranks count set lines made pairs each low right whole tree;
       valid = record { rank_count = each; passing = passing; pair_count = right; set = set; whole = whole; nodes = nodes; says = says; proves = proves };
       small = record { set = set; whole = whole; nodes = nodes; says = says; small = small };
+      searched = tree.searched;
     }
 
 -- what ended the walk is why there is no proof

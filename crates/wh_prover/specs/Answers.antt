@@ -1,5 +1,5 @@
 -- What the prover answers: a certificate of termination or of a loop that is valid, or why it gives up.
-use Rattle.std.specs.Prelude.{ℕ, ◌≡◌, ◌⊎◌, List, length, map}
+use Rattle.std.specs.Prelude.{ℕ, ◌≡◌, ◌⊎◌, List, length, map, All}
 use Rattle.wh_system.specs.Systems.{SystemData}
 use Rattle.wh_system.specs.PairData.{PairData}
 use Rattle.wh_access.specs.Passing.{IsPassing}
@@ -14,6 +14,7 @@ use Rattle.wh_loops.specs.Found.{IsLoopCertificate}
 use Rattle.wh_find_loop.specs.Answers.{Arrival, arrival, AreVisited, ReachesFewer}
 use Rattle.wh_checker.specs.Valid.{IsValidCert}
 use Rattle.wh_checker.specs.Small.{IsSmallCert}
+use Rattle.wh_prover.specs.Searched.{IsSearched}
 use Rattle.wh_prover.specs.Arriving.{Ended, HasNoProjection}
 use Rattle.wh_prover.specs.declared.answer.Answer.{Answer}
 use Rattle.wh_prover.specs.declared.answer.Answer.TheVariants.{Yes, No, Maybe}
@@ -27,12 +28,18 @@ abbrev pub IsYes : Cert → Type 0
 IsYes (yes version ranks pairs lines) = Unit {0}
 IsYes (no t steps at puts) = ⊥
 
--- a certificate of termination that is valid, within the limits of its format, and small
+-- each of its nodes of interpretations is of the space that is searched
+abbrev pub IsSearchedCert : SystemData → Cert → Type 0
+IsSearchedCert d (yes version ranks pairs lines) = All (IsSearched d) lines
+IsSearchedCert d (no t steps at puts) = ⊥
+
+-- a certificate of termination that is valid, within the limits of its format, small, and of the space that is searched
 pub record IsProof (d : SystemData) (ps : List PairData) (c : Cert) : Type 0 where
   pub yes : IsYes c
   pub fits : IsCert c
   pub valid : IsValidCert d ps c
   pub small : IsSmallCert d ps c
+  pub searched : IsSearchedCert d c
 
 -- there are ranks under which the system is passing
 abbrev pub HasRanks : SystemData → Type 0

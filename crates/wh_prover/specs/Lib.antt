@@ -1,4 +1,5 @@
 pub mod Arriving
+pub mod Searched
 pub mod Answers
 pub mod Walk
 pub mod Laws

@@ -1,0 +1,29 @@
+-- Nodes of the space that the search for interpretations looks through.
+use Rattle.std.specs.Prelude.{List, All, map}
+use Rattle.wh_types.specs.Ty.{arguments}
+use Rattle.wh_system.specs.Systems.{SystemData}
+use Rattle.wh_cert.specs.Written as w
+use Rattle.wh_cert.specs.Interps.{Interp}
+use Rattle.wh_hopoly.specs.declared.expression.Move as moved
+use Rattle.wh_hopoly.specs.Erase.{transfers}
+use Rattle.wh_hopoly.specs.Evaluation.{Interpretation}
+use Rattle.wh_polycheck.specs.Marks.{Mark, marked_types}
+use Rattle.wh_checker.specs.Looked.{SayInterpretations, SayMarks}
+use Rattle.wh_find_moves.specs.Found.{AreApart}
+use Rattle.wh_find_poly.specs.Space.{IsOfSpace}
+
+-- the lines say interpretations of the space, and in no line of moves are two between the same monomials (ours)
+pub record AreSearched (d : SystemData) (funs marks : List Interp) (rules pairs : List (List moved.Move)) : Type 0 where
+  pub symbols : List Interpretation
+  pub marked : List Mark
+  pub says : SayInterpretations d.fun_names d.symbols.funs funs symbols
+  pub says_marks : SayMarks d marks marked
+  pub of_space : All (λ s. IsOfSpace (arguments s.kind) s.polynomial) symbols
+  pub marks_of_space : All (λ m. IsOfSpace (marked_types d.symbols d.rules m.symbol) m.polynomial) marked
+  pub rules_apart : All AreApart (map transfers rules)
+  pub pairs_apart : All AreApart (map transfers pairs)
+
+-- so it is of a node of interpretations; of any other nothing is asked
+abbrev pub IsSearched : SystemData → w.Node → Type 0
+IsSearched d (w.interpretations funs marks rules pairs drop) = AreSearched d funs marks rules pairs
+IsSearched d _ = Unit {0}
