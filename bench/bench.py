@@ -238,6 +238,26 @@ def one_by_one(symbols):
     return "\n".join(lines) + "\n"
 
 
+def round_by_identities(symbols):
+    """A ring of symbols, each of which calls the next one on what an identity gives: two rules a symbol, and no projection."""
+    funs = "".join(f"fun f{i} : nat -> nat;\nfun i{i} : nat -> nat;\n" for i in range(symbols))
+    rules = "".join(
+        f"rule {{X:nat}} i{i} X => X;\nrule {{X:nat}} f{i} (s X) => f{(i + 1) % symbols} (i{i} X);\n" for i in range(symbols)
+    )
+    return f"sort nat;\nfun s : nat -> nat;\n{funs}{rules}"
+
+
+def many_terms(places):
+    """A constant that becomes a term of size 3 a place, each place with a step of its own; beside it a pair that nothing lets go."""
+    term = "a"
+    for _ in range(places):
+        term = f"(p a {term})"
+    return (
+        "sort o;\nfun zero : o;\nfun one : o;\nfun f : o -> o -> o -> o;\nfun a : o;\nfun b : o;\nfun p : o -> o -> o;\nfun c : o;\n"
+        f"rule {{X:o}} f zero one X => f X X X;\nrule {{}} a => b;\nrule {{}} c => {term};\n"
+    )
+
+
 def make_apart(folder, maker, count):
     """Writes the inputs in a process of its own, so that this one stays small, and gives the file that counts: a program's
     greatest memory is never seen below that of the process that starts it."""
@@ -336,6 +356,10 @@ def main():
     for symbols in (255, 510, 1020):
         cases.append(("prove one by one", f"{3 * symbols - 3} pairs", one_by_one, symbols))
     cases.append(("prove most-pairs", "4096 pairs", most_pairs, 4096))
+    for symbols in (25, 50, 100, 200):
+        cases.append(("prove identities", f"{2 * symbols} rules", round_by_identities, symbols))
+    for terms in (2500, 5000, 10000):
+        cases.append(("prove many terms", f"{terms} terms", lambda _count: many_terms(32), terms))
     for example in sorted((HERE.parent / "examples").glob("*.afs")):
         cases.append(("prove example", example.stem, lambda _count, file=example: file.read_text(), 0))
     with tempfile.TemporaryDirectory() as name:
@@ -345,6 +369,8 @@ def main():
                 continue
             written = make_apart(folder, maker, count)
             program, words = given.program, [what.split()[0], str(folder / "system")]
+            if what == "prove many terms":
+                words += ["--depth", "100", "--visited", str(count)]
             if what.startswith("components"):
                 program, words = str(COMPONENTS), [str(folder / "system")]
             if written.name == "certificate":
