@@ -1,0 +1,90 @@
+//! Words that both readers accept, and that they read alike.
+
+use clap::{Arg, ArgMatches, Command as Stock};
+use std::alloc::{AllocError, Global};
+use std::test::Fail;
+use wh_words::{Command, Limits, read_words};
+
+/// The program's name and its words.
+const ROWS: &[&[&str]] = &[
+    &["wanda", "check", "system", "certificate"],
+    &["wanda", "check", "--", "system", "certificate"],
+    &["wanda", "show", "system"],
+    &["wanda", "prove", "system"],
+    &["wanda", "prove", "--tries=0", "system"],
+    &[
+        "wanda", "prove", "system", "--depth", "0", "--tries", "1000000",
+    ],
+    &["wanda", "prove", "--visited", "10", "--", "system"],
+];
+
+/// A command line of the same commands, options and files.
+fn stock(alloc: Global) -> Result<Stock<'static>, AllocError> {
+    let check = Stock::new(alloc, "check")
+        .arg(Arg::new(alloc, "file"))?
+        .arg(Arg::new(alloc, "cert"))?;
+    let show = Stock::new(alloc, "show").arg(Arg::new(alloc, "file"))?;
+    let prove = Stock::new(alloc, "prove")
+        .arg(Arg::new(alloc, "file"))?
+        .arg(Arg::new(alloc, "tries").long("tries"))?
+        .arg(Arg::new(alloc, "depth").long("depth"))?
+        .arg(Arg::new(alloc, "visited").long("visited"))?;
+    Stock::new(alloc, "wanda")
+        .subcommand(check)?
+        .subcommand(show)?
+        .subcommand(prove)
+}
+
+/// Whether the option has that number, or is not there and the number is the usual one.
+fn is_number(matches: &ArgMatches<'_>, option: &str, number: u64, usual: u64) -> bool {
+    match matches.get_str(option) {
+        Some(text) => text.parse::<u64>().ok() == Some(number),
+        None => number == usual,
+    }
+}
+
+/// Whether the options have these limits.
+fn are_limits(matches: &ArgMatches<'_>, limits: Limits) -> bool {
+    is_number(matches, "tries", limits.tries, 10_000)
+        && is_number(matches, "depth", u64::from(limits.depth), 6)
+        && is_number(matches, "visited", u64::from(limits.visited), 500)
+}
+
+/// Whether the command is the same.
+fn is_same(command: &Command<'_>, name: &str, matches: &ArgMatches<'_>) -> bool {
+    match command {
+        Command::Check { file, cert } => {
+            name == "check"
+                && matches.get_str("file") == Some(*file)
+                && matches.get_str("cert") == Some(*cert)
+        }
+        Command::Prove { file, limits } => {
+            name == "prove"
+                && matches.get_str("file") == Some(*file)
+                && are_limits(matches, *limits)
+        }
+        Command::Show { file } => name == "show" && matches.get_str("file") == Some(*file),
+        Command::Gen { .. } => false,
+    }
+}
+
+/// The words behind the program's name.
+fn words_of(alloc: Global, row: &[&str]) -> Result<Vec<String>, AllocError> {
+    let mut words = Vec::new(alloc);
+    for word in row.iter().skip(1) {
+        words.push(String::from_str(alloc, *word)?)?;
+    }
+    Ok(words)
+}
+
+#[test]
+fn reads_words_as_clap_does(rt: HostRuntime) -> Result<(), Fail> {
+    for row in ROWS {
+        let matches = stock(rt.alloc())?.try_get_matches_from(*row)?;
+        let (name, inner) = matches.subcommand().ok_or("a command")?;
+        let words = words_of(rt.alloc(), *row)?;
+        let command = read_words(words.as_slice()).ok_or("words of the program")?;
+        assert!(rt; is_same(&command, name, inner));
+    }
+    Ok(())
+}
