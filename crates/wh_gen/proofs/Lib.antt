@@ -6,3 +6,4 @@ pub mod FamilyMade
 pub mod FamilyRaw
 pub mod FamilyProper
 pub mod FamilySystem
+pub mod PairCount

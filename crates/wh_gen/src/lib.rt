@@ -9,4 +9,7 @@ mod terms;
 mod types;
 
 pub use family::{GenTooMany, generate};
-pub use laws::generated_systems_are_well_made;
+pub use laws::{
+    generated_systems_are_well_made, generated_systems_have_few_pairs,
+    generated_systems_have_two_rules_each,
+};
