@@ -4,6 +4,7 @@
     bench/definitions.py                  # the files, as docs/DEFINITIONS.md lists them
     bench/definitions.py --names          # each file with the words that are used of it
     bench/definitions.py --check          # whether docs/DEFINITIONS.md has just these lists
+    bench/definitions.py --write          # puts them there
 
 It begins with the words in the clauses of `run` (crates/wh_top/src/program.rt). A word is looked up in its file: it is defined there, or a
 line `use Rattle.CRATE.specs.FILE.{..}` imports it; then the words of its own definition are looked up in the same way. The lists are: what
@@ -29,6 +30,7 @@ NAMED = re.compile(r"^\s*(?:abbrev |unfoldable )?(?:pub )?(?:data |record )([\w'
 RECORD = re.compile(r"(?:abbrev |unfoldable )?(?:pub )?record ")
 KEYWORDS = {"pub", "abbrev", "unfoldable", "data", "record", "mutual", "where"}
 PLAIN = re.compile(r"[\w'-]+|◌[^\s:]+◌")
+LIST = re.compile(r"(?:^    wh_\w+: .*\n)+", re.M)
 OPERATOR = re.compile(r"◌([^\s◌]+)◌")
 
 
@@ -193,24 +195,40 @@ def lists():
     yield "no clause of run", {path: set() for path in files if path not in used}, set()
 
 
-def main():
-    parser = argparse.ArgumentParser(description=__doc__, formatter_class=argparse.RawDescriptionHelpFormatter)
-    parser.add_argument("--names", action="store_true", help="the words, too")
-    parser.add_argument("--check", action="store_true", help="compare with docs/DEFINITIONS.md")
-    options = parser.parse_args()
+def page_with(blocks):
+    """docs/DEFINITIONS.md with these lists in place of its own, which are its only indented lines that begin with a crate."""
+    page, count = LIST.subn(lambda _: blocks.pop(0), PAGE.read_text())
+    if blocks or count != 4:
+        sys.exit(f"docs/DEFINITIONS.md has {count} lists, and not 4")
+    return page
+
+
+def print_lists(named):
+    """Prints the lists; with `named` a line for each file, and the words that are used of it."""
     for title, files, types in lists():
-        lines = lines_of(files)
-        if options.check:
-            block = "".join(f"    {line}\n" for line in lines)
-            if block not in PAGE.read_text():
-                sys.exit(f"docs/DEFINITIONS.md has not the list of {title}:\n{block}")
-            continue
         print(f"== {title}: {len(files)} files")
-        if options.names:
-            lines = [f"{path.parts[-3]} {path.stem}: {', '.join(sorted(files[path]))}" for path in sorted(files)]
-        print(*lines, sep="\n")
+        if named:
+            print(*(f"{path.parts[-3]} {path.stem}: {', '.join(sorted(files[path]))}" for path in sorted(files)), sep="\n")
+        else:
+            print(*lines_of(files), sep="\n")
         if types:
             print("types of the program:", ", ".join(sorted(types)))
+
+
+def main():
+    parser = argparse.ArgumentParser(description=__doc__, formatter_class=argparse.RawDescriptionHelpFormatter)
+    parser.add_argument("--names", action="store_true", help="the words of each file that are used, too")
+    parser.add_argument("--check", action="store_true", help="compare with docs/DEFINITIONS.md")
+    parser.add_argument("--write", action="store_true", help="put the lists into docs/DEFINITIONS.md")
+    options = parser.parse_args()
+    if not options.check and not options.write:
+        print_lists(options.names)
+        return
+    page = page_with(["".join(f"    {line}\n" for line in lines_of(files)) for _, files, _ in lists()])
+    if options.write:
+        PAGE.write_text(page)
+    elif page != PAGE.read_text():
+        sys.exit("docs/DEFINITIONS.md has other lists: bench/definitions.py --write puts these into it")
 
 
 if __name__ == "__main__":
