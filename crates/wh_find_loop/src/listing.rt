@@ -30,7 +30,7 @@ pub struct Origin {
 pub struct Entry {
     /// The term, and the rule from whose start it was reached.
     pub visit: Visit,
-    /// No fewer steps lead to it than this many.
+    /// It is reached from its start in so many steps.
     pub level: u32,
     /// The step to it; `None` for a start.
     pub origin: Option<Origin>,
