@@ -30,7 +30,7 @@ pub struct Origin {
 pub struct Entry {
     /// The term, and the rule from whose start it was reached.
     pub visit: Visit,
-    /// It is reached from its start in so many steps.
+    /// It is reached from its start in at most so many steps.
     pub level: u32,
     /// The step to it; `None` for a start.
     pub origin: Option<Origin>,
