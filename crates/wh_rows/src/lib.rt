@@ -12,6 +12,4 @@ mod prove_rows;
 #[cfg(test)]
 mod run_rows;
 #[cfg(test)]
-mod samples;
-#[cfg(test)]
 mod yes_rows;

@@ -1,19 +1,11 @@
 //! Rows of nodes of interpretations: what they accept, each reason for a rejection, which comes first, and the limits on values.
 
 use crate::run_rows::told;
-use crate::samples::{IDENTITY, MAP, TWICE};
 use std::alloc::{AllocError, Global};
 use std::test::Fail;
+use wh_samples::{IDENTITY, IDENTITY_CERTIFICATE, MAP, MAP_VALUES_CERTIFICATE, TWICE};
 use wh_top::Status;
 use wh_types::Bytes;
-
-/// A certificate for `IDENTITY`: the call of `t` gets smaller by an interpretation.
-const IDENTITY_CERTIFICATE: &str =
-    "YES 1\nranks 0\npairs 2\nblocks 2\nblock 0\nblock 1\npoly\nfun s 1+1*y0\nfun i 1*y0\nfun t 0\nmark t 1*y0\nrule 0>0:1\nrule\npair 1>0:1\ndrop 0\ndone\nalone\nend\n";
-
-/// A certificate for `MAP` by an interpretation of its function.
-const MAP_CERTIFICATE: &str =
-    "YES 1\nranks 0 0\npairs 1\npoly\nfun zero 0\nfun s 1*y0\nfun nil 0\nfun cons 1+1*y0+1*y1\nfun map 1*y0(1*y1)*y1+1*y1\nmark map 1*y1\nrule\nrule 0>0:1 1>1:1 3>2:1 5>3:1\npair 2>0:1\ndrop 0\ndone\nend\n";
 
 /// Lines of `IDENTITY_CERTIFICATE`, what stands in their place, and what a check writes.
 const IDENTITY_CHANGES: &[(&str, &str, &[u8])] = &[
@@ -40,7 +32,6 @@ const IDENTITY_CHANGES: &[(&str, &str, &[u8])] = &[
         b"REJECTED node 1 not-strict pair 0\n",
     ),
     // The lines `fun` and `mark`.
-    ("mark t 1*y0", "mark i 0", b"REJECTED node 1 bad-symbols\n"),
     ("mark t 1*y0\n", "", b"REJECTED node 1 bad-symbols\n"),
     ("fun i 1*y0\n", "", b"REJECTED node 1 bad-symbols\n"),
     (
@@ -164,7 +155,7 @@ const IDENTITY_CHANGES: &[(&str, &str, &[u8])] = &[
     ),
 ];
 
-/// The same of `MAP_CERTIFICATE`.
+/// The same of `MAP_VALUES_CERTIFICATE`.
 const MAP_CHANGES: &[(&str, &str, &[u8])] = &[
     ("end", "end", b"YES\n"),
     ("5>3:1", "4>3:1", b"REJECTED node 0 bad-move rule 1 3\n"),
@@ -202,11 +193,12 @@ const TWICE_ROWS: &[(&str, &str, &str, &[u8])] = &[
 fn checks_changed(
     alloc: Global,
     system: &[u8],
-    certificate: &str,
+    certificate: &[u8],
     change: (&str, &str),
     text: &[u8],
 ) -> Result<bool, AllocError> {
-    let Some((front, back)) = certificate.split_once(change.0) else {
+    let whole = str::from_utf8(certificate).or(Err(AllocError))?;
+    let Some((front, back)) = whole.split_once(change.0) else {
         return Ok(false);
     };
     let to = change.1;
@@ -234,7 +226,7 @@ fn writes(
 fn judges_interpretations(rt: HostRuntime) -> Result<(), Fail> {
     for (system, certificate, changes) in [
         (IDENTITY, IDENTITY_CERTIFICATE, IDENTITY_CHANGES),
-        (MAP, MAP_CERTIFICATE, MAP_CHANGES),
+        (MAP, MAP_VALUES_CERTIFICATE, MAP_CHANGES),
     ] {
         for (from, to, text) in changes {
             assert!(rt; checks_changed(rt.alloc(), system, certificate, (*from, *to), *text)?);
@@ -260,19 +252,6 @@ fn ends_by_its_limits(rt: HostRuntime) -> Result<(), Fail> {
         b"YES 1\nranks 0\npairs 2\nblocks 2\nblock 0\nblock 1\npoly\nfun s 170141183460469231731687303715884105728*y0\nfun i 1*y0\nfun t 0\nmark t 1*y0*y0\nrule 0>0:1\nrule\npair 1>0:1\ndrop 0\ndone\nalone\nend\n",
     )?;
     assert!(rt; ended == Status::TooBig);
-    Ok(())
-}
-
-#[test]
-fn every_front_of_a_node_is_no_certificate(rt: HostRuntime) -> Result<(), Fail> {
-    let alloc = rt.alloc();
-    for certificate in [IDENTITY_CERTIFICATE, MAP_CERTIFICATE] {
-        let bytes = certificate.as_bytes();
-        for at in 0..bytes.len() {
-            let line = format!(in alloc; "REJECTED syntax {at}\n")?;
-            assert!(rt; writes(alloc, MAP, &bytes[..at], line.as_bytes())?);
-        }
-    }
     Ok(())
 }
 

@@ -2,13 +2,13 @@
 //! there is none the line says why.
 
 use crate::run_rows::{NEIGHBOURS, PAIRS, READ, told};
-use crate::samples::{
+use std::alloc::{AllocError, Global};
+use std::test::Fail;
+use wh_samples::{
     APART, BETA, CALLS, DOUBLE, ETA, EVEN_ODD, FOLD, FUNCTION_LIST, IDENTITY, INNER_CALL,
     ITERATION, LOOP, MAP, NO_RULES, ORDINALS, PARTIAL, PRENEX, PROCESSES, RECURSOR, SORT, TWICE,
     TWO_CALLS, UNDER_BINDER, UNTYPED,
 };
-use std::alloc::{AllocError, Global};
-use std::test::Fail;
 use wh_top::Status;
 
 /// A search within the usual bounds.

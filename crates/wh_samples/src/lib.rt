@@ -1,4 +1,5 @@
-//! Systems and certificates for the tests, and the examples of the repository.
+//! Systems and certificates for the crates of tests, and the examples of the repository.
+#![tactic(auto)]
 
 /// Two constants that lead to each other.
 pub const LOOP: &[u8] = b"sort o;\nfun a : o;\nfun b : o;\nrule {} a => b;\nrule {} b => a;\n";
@@ -71,6 +72,14 @@ pub const DONE_CERTIFICATE: &[u8] = b"YES 1\nranks 0\npairs 0\ndone\nend\n";
 /// A certificate of termination for `MAP`.
 pub const MAP_CERTIFICATE: &[u8] =
     b"YES 1\nranks 0 0\npairs 1\nsubterm\narg map 2\ndrop 0\ndone\nend\n";
+
+/// A certificate of termination for `MAP` by an interpretation of its function.
+pub const MAP_VALUES_CERTIFICATE: &[u8] =
+    b"YES 1\nranks 0 0\npairs 1\npoly\nfun zero 0\nfun s 1*y0\nfun nil 0\nfun cons 1+1*y0+1*y1\nfun map 1*y0(1*y1)*y1+1*y1\nmark map 1*y1\nrule\nrule 0>0:1 1>1:1 3>2:1 5>3:1\npair 2>0:1\ndrop 0\ndone\nend\n";
+
+/// A certificate of termination for `IDENTITY`: the call of `t` gets smaller by an interpretation.
+pub const IDENTITY_CERTIFICATE: &[u8] =
+    b"YES 1\nranks 0\npairs 2\nblocks 2\nblock 0\nblock 1\npoly\nfun s 1+1*y0\nfun i 1*y0\nfun t 0\nmark t 1*y0\nrule 0>0:1\nrule\npair 1>0:1\ndrop 0\ndone\nalone\nend\n";
 
 /// A loop of `PARTIAL`.
 pub const PARTIAL_CERTIFICATE: &[u8] = b"NO 1\nterm (f zero)\nstep 0 /\nstep 1 /\nat /\nend\n";
