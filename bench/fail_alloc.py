@@ -21,7 +21,7 @@ import tempfile
 TOP = os.path.dirname(os.path.dirname(os.path.abspath(__file__)))
 PROGRAM = f"{TOP}/crates/wanda/out/wanda"
 EXAMPLES = f"{TOP}/examples"
-MOST, FIRST, SPREAD = 20_000, 300, 5_000
+MOST, FIRST, SPREAD = 5_000, 300, 1_000
 OUT_OF_MEMORY = 6, b"OUT OF MEMORY\n"
 
 REFUSING = r"""
