@@ -126,7 +126,7 @@ bounds_fit items b sets depth = bound_fits items depth b.depth sets.depth
 bounds_fit items b sets visited = bound_fits items visited b.visited sets.visited
 
 -- what a command asks for can be kept
-wants_fit : (command : List ℕ) (items : List Item) (asked : Request) → Wants command items asked → Fits items
+pub wants_fit : (command : List ℕ) (items : List Item) (asked : Request) → Wants command items asked → Fits items
 wants_fit command items (check file cert) w = rw w.1 (fits_alone (file ∷ cert ∷ []) (omega arith))
 wants_fit command items (prove file b) w = record {
   words = rw w.1 (omega arith);
@@ -142,7 +142,7 @@ asks command rest items (prove file b) said w = (rest, items, ap (λ c. c ∷ re
 asks command rest items (show file) said w = (rest, ap (λ c. c ∷ rest) w.0, subst (Say rest) w.1 said)
 asks command rest items (gen n) said w = (rest, ap (λ c. c ∷ rest) w.0, subst (Say rest) w.1 said, w.2, w.3)
 
-asked_by : (command : List ℕ) (rest : List (List ℕ)) (asked : Request) → Asks (command ∷ rest) asked
+pub asked_by : (command : List ℕ) (rest : List (List ℕ)) (asked : Request) → Asks (command ∷ rest) asked
     → (items : List Item) × Say rest items × Wants command items asked
 asked_by command rest (check file cert) a =
     let c : command ≡ codes "check" = cc a.1 in let r : a.0 ≡ rest = cc a.1 in

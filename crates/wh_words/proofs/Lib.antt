@@ -5,3 +5,4 @@ pub mod Keeping
 pub mod AllWords
 pub mod Knowing
 pub mod Asking
+pub mod OneRequest

@@ -3,7 +3,9 @@
 
 mod items;
 mod kept;
+mod laws;
 mod options;
 mod words;
 
+pub use laws::words_ask_for_one_request;
 pub use words::{Command, Limits, read_words};
