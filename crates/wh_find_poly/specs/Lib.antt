@@ -1,6 +1,7 @@
-pub mod Space
-pub mod Spots
-pub mod Guesses
-pub mod Tasks
-pub mod Lines
-pub mod Found
+pub mod Bits
+pub mod Tried
+pub mod Answers
+pub mod Sizes
+pub mod Literals
+pub mod Numbers
+pub mod Encodings

@@ -1,18 +1,13 @@
-//! The search for interpretations, by climbing from a first guess.
+//! The search for interpretations that let pairs go: a climb, and then guesses by a solver.
 #![tactic(auto)]
 
-mod climbing;
-mod conditions;
-mod evaluating;
-mod guess;
-mod lines;
-mod node;
-mod random;
-mod search;
-mod sides;
-mod space;
-mod state;
-mod task;
-mod terms;
+mod bits;
+mod blocking;
+mod clauses;
+mod encoding;
+mod find;
+mod guessing;
+mod hints;
+mod numbers;
 
-pub use search::climb;
+pub use find::find_interpretation;

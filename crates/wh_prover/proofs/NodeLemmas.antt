@@ -11,7 +11,7 @@ use Rattle.wh_subterm.specs.SubtermRows.{IsProjection}
 use Rattle.wh_find_subterm.specs.Found.{DropsAllBelow}
 use Rattle.wh_cert.specs.Written as w
 use Rattle.wh_find_moves.specs.Found.{AreApart}
-use Rattle.wh_find_poly.specs.Found.{IsInterpretation}
+use Rattle.wh_guesses.specs.Found.{IsInterpretation}
 use Rattle.wh_prover.specs.Searched.{IsSearched}
 use Rattle.wh_cert.specs.Limits.{NodeFits, NodeWithin}
 use Rattle.wh_nodes.specs.Nodes.{done, alone, blocks, subterm, poly, IsSetOf, IsKept, Leaves, by_done, by_alone, by_blocks, by_subterm, by_poly}

@@ -9,6 +9,8 @@ use Rattle.wh_cert.specs.Said.{said}
 use Rattle.wh_cert.specs.Written.{Cert, yes, no}
 use Rattle.wh_sat_trail.specs.declared.literal.Literal.{Literal}
 use Rattle.wh_find_subterm.specs.Found.{IsSpent}
+use Rattle.wh_find_poly.specs.Answers.{HasNoInterpretation}
+use Rattle.wh_find_poly.specs.Answers as tried
 use Rattle.wh_loops.specs.Space.{HasNoLoop}
 use Rattle.wh_loops.specs.Found.{IsLoopCertificate}
 use Rattle.wh_find_loop.specs.Answers.{Arrival, arrival, AreVisited, ReachesFewer}
@@ -21,7 +23,7 @@ use Rattle.wh_prover.specs.declared.answer.Answer.TheVariants.{Yes, No, Maybe}
 use Rattle.wh_prover.specs.declared.answer.Options.{Options}
 use Rattle.wh_prover.specs.declared.answer.Cause.{Cause}
 use Rattle.wh_prover.specs.declared.answer.Cause.TheVariants.{NoRanks, Stuck, Spent, Full}
-use Rattle.wh_prover.specs.declared.answer.Finder.TheVariants.{Subterm}
+use Rattle.wh_prover.specs.declared.answer.Finder.TheVariants.{Subterm, Poly}
 
 -- a certificate of termination
 abbrev pub IsYes : Cert → Type 0
@@ -45,11 +47,12 @@ pub record IsProof (d : SystemData) (ps : List PairData) (c : Cert) : Type 0 whe
 abbrev pub HasRanks : SystemData → Type 0
 HasRanks d = (ranks : List ℕ) × (length ranks ≡ d.symbols.sorts) × IsPassing d ranks
 
--- no projection lets a pair go of a knot that the search comes to, under some ranks (ours)
+-- no projection and no interpretation lets a pair go of a knot that the search comes to, under some ranks (ours)
 pub record IsStuck (d : SystemData) (ps : List PairData) (set : List ℕ) : Type 0 where
   pub ranks : HasRanks d
   pub ended : Ended d ps set
   pub no_projection : HasNoProjection d.rules ps set
+  pub no_interpretation : HasNoInterpretation d ps set
 
 -- the search for a projection of a knot that the search comes to learnt as many clauses as it may, which are shown (ours)
 pub record IsSpentOn (d : SystemData) (ps : List PairData) (tries : ℕ) (set : List ℕ) (list : List (List Literal)) : Type 0 where
@@ -57,12 +60,21 @@ pub record IsSpentOn (d : SystemData) (ps : List PairData) (tries : ℕ) (set : 
   pub ended : Ended d ps set
   pub spent : IsSpent d.rules ps set tries list
 
--- why there is no proof of termination: there are no ranks; no projection lets a pair of a set go; or the search for a projection was
--- given up (ours)
+-- no projection lets a pair go of a knot that the search comes to, and the search for interpretations made as many clauses as it may,
+-- which are shown (ours)
+pub record IsTriedOn (d : SystemData) (ps : List PairData) (tries : ℕ) (set : List ℕ) (list : List (List Literal)) : Type 0 where
+  pub ranks : HasRanks d
+  pub ended : Ended d ps set
+  pub no_projection : HasNoProjection d.rules ps set
+  pub spent : tried.IsSpent d ps set tries list
+
+-- why there is no proof of termination: there are no ranks; nothing lets a pair of a set go; or a search for what does was given up
+-- (ours)
 abbrev pub HasNoProof : SystemData → List PairData → ℕ → Cause → Type 0
 HasNoProof d ps tries (NoRanks cause) = IsCause d cause
 HasNoProof d ps tries (Stuck set) = IsStuck d ps set
 HasNoProof d ps tries (Spent Subterm set list) = IsSpentOn d ps tries set list
+HasNoProof d ps tries (Spent Poly set list) = IsTriedOn d ps tries set list
 HasNoProof d ps tries (Full visits) = ⊥
 
 -- no loop was found: there is none of at most so many steps, and all terms on the way to one were looked at (ours)
@@ -77,13 +89,13 @@ IsFull d o list = AreVisited d o.depth o.visited list
 abbrev pub FoundNoLoop : SystemData → Options → Type 0
 FoundNoLoop d o = HasNoLoops d o ⊎ ((list : List Arrival) × IsFull d o list)
 
--- why the search gave up: there are no ranks; it ended on a set of which no projection lets a pair go, and there are no loops; the
--- search for a projection of such a set was given up; or it ended on such a set, and the search for loops is full, which outweighs
--- only that (ours)
+-- why the search gave up: there are no ranks; it ended on a set of which nothing lets a pair go, and there are no loops; the search
+-- for what lets one go was given up; or it ended on such a set, and the search for loops is full, which outweighs only that (ours)
 abbrev pub IsReason : SystemData → List PairData → Options → Cause → Type 0
 IsReason d ps o (NoRanks cause) = IsCause d cause × FoundNoLoop d o
 IsReason d ps o (Stuck set) = IsStuck d ps set × HasNoLoops d o
 IsReason d ps o (Spent Subterm set list) = IsSpentOn d ps o.tries set list × FoundNoLoop d o
+IsReason d ps o (Spent Poly set list) = IsTriedOn d ps o.tries set list × FoundNoLoop d o
 IsReason d ps o (Full visits) = ((set : List ℕ) × IsStuck d ps set) × IsFull d o (map arrival visits)
 
 -- a certificate of a loop

@@ -6,6 +6,8 @@ use Rattle.wh_cert.specs.Written as w
 use Rattle.wh_cert.specs.Written.{Preorder}
 use Rattle.wh_cert.specs.Limits.{ArgFits, NodeFits, NodeWithin}
 use Rattle.wh_find_subterm.specs.Found.{IsSpent}
+use Rattle.wh_find_poly.specs.Answers.{HasNoInterpretation}
+use Rattle.wh_find_poly.specs.Answers as tried
 use Rattle.wh_subterm.specs.Projections.{Chosen}
 use Rattle.wh_checker.specs.Looked.{SayChoices}
 use Rattle.wh_checker.specs.Walk.{GoesOn, AreProvedBy}
@@ -13,7 +15,7 @@ use Rattle.wh_prover.specs.Arriving.{Arrives, Ended, HasNoProjection}
 use Rattle.wh_prover.specs.Searched.{IsSearched}
 use Rattle.wh_prover.specs.declared.answer.Cause.{Cause}
 use Rattle.wh_prover.specs.declared.answer.Cause.TheVariants.{NoRanks, Stuck, Spent, Full}
-use Rattle.wh_prover.specs.declared.answer.Finder.TheVariants.{Subterm}
+use Rattle.wh_prover.specs.declared.answer.Finder.TheVariants.{Subterm, Poly}
 
 -- more nodes than a set can have: of so many pairs one less than three times as many, and one of no pair (ours)
 abbrev pub weigh : List ℕ → ℕ
@@ -28,8 +30,9 @@ weight (set ∷ sets) = weigh set + weight sets
 -- why the walk ended on a set (ours)
 abbrev pub IsEnd : SystemData → List PairData → ℕ → Cause → Type 0
 IsEnd d ps tries (NoRanks cause) = ⊥
-IsEnd d ps tries (Stuck set) = Ended d ps set × HasNoProjection d.rules ps set
+IsEnd d ps tries (Stuck set) = Ended d ps set × HasNoProjection d.rules ps set × HasNoInterpretation d ps set
 IsEnd d ps tries (Spent Subterm set list) = Ended d ps set × IsSpent d.rules ps set tries list
+IsEnd d ps tries (Spent Poly set list) = Ended d ps set × HasNoProjection d.rules ps set × tried.IsSpent d ps set tries list
 IsEnd d ps tries (Full visits) = ⊥
 
 -- the lines of a node are for these choices and this drop list, and fit (ours)

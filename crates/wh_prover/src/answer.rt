@@ -9,7 +9,7 @@ use wh_system::PairSet;
 /// What bounds the search.
 #[derive(Clone, Copy)]
 pub struct Options {
-    /// How many clauses a finder may learn for one set.
+    /// How many clauses a finder may make for one set.
     pub tries: u64,
     /// How many steps a loop may have.
     pub depth: u32,
@@ -33,8 +33,8 @@ pub enum Answer {
 pub enum Cause {
     /// The system is passing under no ranks.
     NoRanks(NoRanks),
-    /// The search came to this set, of which the graph settles nothing and no projection lets a pair go, and no interpretation was
-    /// found. There is no loop in the space that was searched.
+    /// The search came to this set, of which the graph settles nothing, and no projection and no interpretation lets a pair go. There
+    /// is no loop in the space that was searched.
     Stuck(PairSet),
     /// A finder ended on a set without an answer.
     Spent {
@@ -42,10 +42,11 @@ pub enum Cause {
         finder: Finder,
         /// The set.
         set: PairSet,
-        /// The clauses that it learnt, as many as it may.
+        /// The clauses that it made, as many as it may.
         list: Clauses,
     },
-    /// No projection lets a pair of some set go, and the search for loops kept as many terms as it may, which are shown.
+    /// No projection and no interpretation lets a pair of some set go, and the search for loops kept as many terms as it may, which
+    /// are shown.
     Full(Visits),
 }
 
@@ -54,4 +55,6 @@ pub enum Cause {
 pub enum Finder {
     /// The search for a projection to arguments.
     Subterm,
+    /// The search for interpretations.
+    Poly,
 }

@@ -14,17 +14,11 @@ use crate::lines::node_of;
 use crate::sets::{kept, open_blocks};
 use std::alloc::{AllocError, Global};
 use wh_cert::{Node, Nodes};
-use wh_find_poly::climb;
+use wh_find_poly::find_interpretation;
 use wh_find_subterm::find_projection;
 use wh_graph::Graph;
 use wh_sat::Search;
 use wh_system::{PairList, PairSet, System};
-
-// How many times the sides of a rule or pair are evaluated in the search for an interpretation: so often, and so often more for each of
-// them.
-const EVALUATIONS: u64 = 30_000;
-
-const EVALUATIONS_FOR_EACH: u64 = 50;
 
 /// Gives the set a node, and puts what this leaves on top of the stack, the first of it on top; or says why the search ends on the
 /// set. The graph comes first: a set without pairs, with several components, or with one pair that may not follow itself. Then
@@ -98,13 +92,7 @@ fn lower(
             nodes.push(node_of(alloc, system, &found)?)?;
             Ok(None)
         }
-        Search::Nothing => {
-            if interpret(alloc, system, pairs, &set, stack, nodes)? {
-                Ok(None)
-            } else {
-                Ok(Some(Cause::Stuck(set)))
-            }
-        }
+        Search::Nothing => interpret(alloc, system, pairs, tries, set, stack, nodes),
         Search::Spent(list) => Ok(Some(Cause::Spent {
             finder: Finder::Subterm,
             set,
@@ -113,29 +101,36 @@ fn lower(
     }
 }
 
-// Whether an interpretation is found, where no projection lets a pair go; then the set has a node by it.
+// A node by interpretations, where no projection lets a pair go.
 fn interpret(
     alloc: Global,
     system: &System,
     pairs: &PairList,
-    set: &PairSet,
+    tries: u64,
+    set: PairSet,
     stack: &mut Vec<PairSet>,
     nodes: &mut Nodes,
-) -> Result<bool, AllocError>
+) -> Result<Option<Cause>, AllocError>
     requires few { length pairs.now ≤ 4096 }
     requires pairs { HasPairs (system_data system.now) (pairs_data pairs.now) }
-    requires ended { Ended (system_data system.now) (pairs_data pairs.now) set.now }
-    requires none { HasNoProjection (system_data system.now).rules (pairs_data pairs.now) set.now }
-    ensures { IfOk result (λ found. IsTrue found → Adds (system_data system.now) (pairs_data pairs.now) set.now (reverse stack.old.items) (reverse stack.new.items) (map said_node nodes.old) (map said_node nodes.new)) }
+    requires ended { Ended (system_data system.now) (pairs_data pairs.now) set }
+    requires none { HasNoProjection (system_data system.now).rules (pairs_data pairs.now) set }
+    ensures { IfOk result (λ end. MatchOption end (Adds (system_data system.now) (pairs_data pairs.now) set (reverse stack.old.items) (reverse stack.new.items) (map said_node nodes.old) (map said_node nodes.new))
+        (IsEnd (system_data system.now) (pairs_data pairs.now) tries)) }
 {
-    let conditions = system.rules().len() as u64 + set.as_slice().len() as u64;
-    let more = EVALUATIONS_FOR_EACH.saturating_mul(conditions);
-    let Some(node) = climb(alloc, system, pairs, set, EVALUATIONS.saturating_add(more))? else {
-        return Ok(false);
-    };
-    stack.push(kept(alloc, set.as_slice(), dropped_by(&node))?)?;
-    nodes.push(node)?;
-    Ok(true)
+    match find_interpretation(alloc, system, pairs, &set, tries)? {
+        Search::Found(node) => {
+            stack.push(kept(alloc, set.as_slice(), dropped_by(&node))?)?;
+            nodes.push(node)?;
+            Ok(None)
+        }
+        Search::Nothing => Ok(Some(Cause::Stuck(set))),
+        Search::Spent(list) => Ok(Some(Cause::Spent {
+            finder: Finder::Poly,
+            set,
+            list,
+        })),
+    }
 }
 
 // The pairs that a node drops.

@@ -10,6 +10,7 @@ use Rattle.wh_cert.specs.Written.{Cert, yes, no}
 use Rattle.wh_prover.specs.Answers.{IsProof, IsLoopProof, IsReason}
 use Rattle.wh_prover.specs.declared.answer.Cause.{Cause}
 use Rattle.wh_prover.specs.declared.answer.Options.{Options}
+use Rattle.wh_words.specs.Words.{usual, tries, depth, visited}
 use Rattle.wh_answer.specs.declared.report.ReasonWord.TheVariants.{TooManyPairs}
 use Rattle.wh_answer.specs.declared.report.Report.{Report}
 use Rattle.wh_answer.specs.declared.report.Report.TheVariants.{Maybe, Refused}
@@ -18,9 +19,9 @@ use Rattle.wh_top.specs.declared.status.Status.{Status}
 use Rattle.wh_top.specs.declared.status.Status.TheVariants.{Answered}
 use Rattle.wh_top.specs.Rows.{named_cause}
 
--- the usual bounds
+-- the bounds of a search where the words do not say
 abbrev pub usual_options : Options
-usual_options = record { tries = 10000; depth = 6; visited = 500 }
+usual_options = record { tries = usual tries; depth = usual depth; visited = usual visited }
 
 -- the nodes of a certificate of termination
 abbrev pub nodes_of : Cert → List w.Node
@@ -30,7 +31,7 @@ nodes_of (no term steps at puts) = []
 -- what the search answered: how many nodes the certificate has, and the last line
 pub data Comes (d : SystemData) (ps : List PairData) : ℕ → List ℕ → Type 0 where
   comes_yes : (c : Cert) → IsProof d ps c → Comes d ps (length (nodes_of c)) (line (codes "answer YES"))
-  comes_no : (c : Cert) → IsLoopProof d 6 c → Comes d ps 0 (line (codes "answer NO"))
+  comes_no : (c : Cert) → IsLoopProof d usual_options.depth c → Comes d ps 0 (line (codes "answer NO"))
   comes_maybe : (cause : Cause) → IsReason d ps usual_options cause → Comes d ps 0 (report_text (Maybe (named_cause d cause)))
 
 -- a line of a word and a number

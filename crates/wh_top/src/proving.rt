@@ -9,7 +9,7 @@ ghost use Rattle.wh_pairs.specs.SystemPairs.{HasPairs};
 ghost use Rattle.wh_pairs.specs.Views.{pairs_data};
 ghost use Rattle.wh_top.specs.Outcomes.{BeginsWith, ToldSystem, certificate_limit, outside};
 ghost use Rattle.wh_top.specs.Proving.{CauseIsThere, IsFoundText, IsNotFound, IsTextOf, StandsForSearch};
-ghost use Rattle.wh_top.specs.Rows.{named_cause, sort_name};
+ghost use Rattle.wh_top.specs.Rows.{finder_named, named_cause, sort_name};
 
 use crate::files::{CERTIFICATE_LIMIT, Problem, problem_in};
 use crate::rejection::meta_name;
@@ -18,7 +18,7 @@ use wh_access::NoRanks;
 use wh_answer::{NamedCause, NamedFinder, Names, Report, Role};
 use wh_cert::{Certificate, print_certificate};
 use wh_io::Shelf;
-use wh_prover::{Answer, Cause, Options, prove};
+use wh_prover::{Answer, Cause, Finder, Options, prove};
 use wh_system::System;
 use wh_text::Name;
 use wh_types::{Bytes, Numbers, Or};
@@ -88,14 +88,24 @@ pub fn name_cause(alloc: Global, system: &System, cause: &Cause) -> Result<Named
             Ok(NamedCause::Sorts(sort_names(alloc, system, sorts.as_slice())?))
         }
         Cause::Stuck(set) => Ok(NamedCause::Stuck(copied(alloc, set.as_slice())?)),
-        Cause::Spent { list, .. } => Ok(NamedCause::Spent {
-            by: NamedFinder::Subterm,
+        Cause::Spent { finder, list, .. } => Ok(NamedCause::Spent {
+            by: named_finder(*finder),
             count: list.as_slice().len() as u64,
         }),
         Cause::Full(visits) => Ok(NamedCause::Spent {
             by: NamedFinder::Loop,
             count: visits.as_slice().len() as u64,
         }),
+    }
+}
+
+// The word for what searched.
+fn named_finder(finder: Finder) -> NamedFinder
+    ensures { result ≡ finder_named finder }
+{
+    match finder {
+        Finder::Subterm => NamedFinder::Subterm,
+        Finder::Poly => NamedFinder::Poly,
     }
 }
 

@@ -5,40 +5,41 @@ use Rattle.wh_system.specs.PairData.{IsIncreasing, pair_data}
 use Rattle.wh_pairs.specs.Views.{pairs_data}
 use Rattle.wh_cert.specs.Said.{said_node}
 use Rattle.wh_nodes.specs.Nodes.{IsKept, IsSetOf}
-use Rattle.wh_find_poly.specs.Found.{IsInterpretation}
+use Rattle.wh_guesses.specs.Found.{IsInterpretation}
+use Rattle.wh_find_poly.specs.Answers.{IsAnswer}
 use Rattle.wh_prover.proofs.ArriveLemmas.{arrives_within}
 use Rattle.wh_prover.proofs.NodeLemmas.{adds_interpretation, dropped_by_interpretation}
 use Rattle.wh_prover.proofs.WalkLemmas.{reverse_push, said_push}
 use Rattle.wh_prover.proofs.node.interpret.Goals as goal
 
-pub climb-requires-clause-set : goal.climb-requires-clause-set
-climb-requires-clause-set c =
+pub find_interpretation-requires-clause-set : goal.find_interpretation-requires-clause-set
+find_interpretation-requires-clause-set c =
     let pairs = c.args.pairs.now in
-    let set = c.args.set.now in
+    let set = c.args.set in
     subst (λ n. All (λ m. m < n) set) (length-map pairs pair_data) (arrives_within (system_data c.args.system.now) (pairs_data pairs) set c.requires.ended.arrives)
 
 pub kept-requires-clause-drop : goal.kept-requires-clause-drop
 kept-requires-clause-drop c =
     let d = system_data c.args.system.now in
     let ps = pairs_data c.args.pairs.now in
-    let node = c.in-Some.node in
-    let is : IsInterpretation d ps c.args.set.now (said_node node) = rw c.in-Some.is at c.in_ok-node.ensures in
-    subst IsIncreasing (sym (c.dropped_by.ensures ∙ dropped_by_interpretation d ps c.args.set.now (said_node node) is)) is.increasing
+    let node = c.in-Found.node in
+    let is : IsInterpretation d ps c.args.set (said_node node) = subst (IsAnswer d ps c.args.set c.args.tries) c.in-Found.is c.in_ok-node.ensures in
+    subst IsIncreasing (sym (c.dropped_by.ensures ∙ dropped_by_interpretation d ps c.args.set (said_node node) is)) is.increasing
 
-pub returns : goal.returns
-returns c = λ found.
+pub returns-in_ok-push-in-Found-2 : goal.returns-in_ok-push-in-Found-2
+returns-in_ok-push-in-Found-2 c =
     let d = system_data c.args.system.now in
     let ps = pairs_data c.args.pairs.now in
-    let set = c.args.set.now in
-    let node = c.in-Some.node in
+    let set = c.args.set in
+    let node = c.in-Found.node in
     let line = said_node node in
     let stack = c.args.stack.now.items in
-    let rest = c.in_ok-kept.field-0 in
-    let is : IsInterpretation d ps set line = rw c.in-Some.is at c.in_ok-node.ensures in
+    let rest = c.in_ok-kept-in-Found.field-0 in
+    let is : IsInterpretation d ps set line = subst (IsAnswer d ps set c.args.tries) c.in-Found.is c.in_ok-node.ensures in
     let drops : c.dropped_by.result.now ≡ is.drop = c.dropped_by.ensures ∙ dropped_by_interpretation d ps set line is in
-    let kept = subst (λ (s : List ℕ). IsSetOf (IsKept s is.drop) rest) c.as_slice-2.ensures.numbers
-    (subst (λ (s : List ℕ). IsSetOf (IsKept c.as_slice-2.result.now s) rest) drops c.in_ok-kept.ensures) in
-    adds_interpretation d ps set rest line (reverse stack) (reverse c.push.new.self.items) (map said_node c.args.nodes.now) (map said_node c.push-2.new.self)
+    let kept = subst (λ (s : List ℕ). IsSetOf (IsKept s is.drop) rest) c.as_slice.ensures.numbers
+    (subst (λ (s : List ℕ). IsSetOf (IsKept c.as_slice.result.now s) rest) drops c.in_ok-kept-in-Found.ensures) in
+    adds_interpretation d ps set rest line (reverse stack) (reverse c.push.new.self.items) (map said_node c.args.nodes.now) (map said_node c.push-in-Found.new.self)
     c.requires.ended c.requires.none is kept
-    (ap reverse c.in_ok-push.ensures.items ∙ reverse_push stack rest)
-    (said_push c.args.nodes.now c.push-2.new.self node c.in_ok-push-2.ensures.ok)
+    (ap reverse c.in_ok-push-in-Found.ensures.items ∙ reverse_push stack rest)
+    (said_push c.args.nodes.now c.push-in-Found.new.self node c.in_ok-push-in-Found-2.ensures.ok)

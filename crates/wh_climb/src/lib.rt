@@ -1,0 +1,10 @@
+//! The search for interpretations by climbing from a first guess.
+#![tactic(auto)]
+
+mod climbing;
+mod holders;
+mod random;
+mod search;
+mod state;
+
+pub use search::{Climbed, climb};

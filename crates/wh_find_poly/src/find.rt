@@ -1,0 +1,102 @@
+//! The search for interpretations of a set.
+
+ghost use Rattle.std.specs.Prelude.{◌<◌, ◌≤◌, All, IfOk, length, map};
+ghost use Rattle.wh_pairs.specs.SystemPairs.{HasPairs};
+ghost use Rattle.wh_pairs.specs.Views.{pairs_data};
+ghost use Rattle.wh_system.specs.PairData.{pair_data};
+ghost use Rattle.wh_system.specs.SystemView.{system_data};
+ghost use Rattle.wh_subterm.specs.Marked.{AreMarked};
+ghost use Rattle.wh_guesses.specs.Tasks.{IsTaskOf};
+ghost use Rattle.wh_find_poly.specs.Answers.{IsAnswer};
+
+use crate::bits::bits_by;
+use crate::blocking::search_from;
+use crate::encoding::encoding_of;
+use std::alloc::{AllocError, Global};
+use wh_cert::Node;
+use wh_climb::{Climbed, climb};
+use wh_guesses::Task;
+use wh_sat::Search;
+use wh_sat_trail::Clauses;
+use wh_subterm::marked_symbols;
+use wh_system::{PairList, PairSet, System};
+
+// How many times the sides of a rule or pair are evaluated in the climb: so often, and so often more for each of them.
+const EVALUATIONS: u64 = 30_000;
+
+const EVALUATIONS_FOR_EACH: u64 = 50;
+
+/// Interpretations under which no rule and no pair of the set grows and some pair shrinks (the reduction pair processor of Kop 2012
+/// with the polynomials of Fuhs and Kop 2012; the search is ours).
+///
+/// `Found` drops every pair that is covered strictly. `Nothing` comes only where no interpretation of the space lets a pair go, and
+/// `Spent` only with `budget` clauses, each of which shuts out a guess under which a condition fails, or is learnt.
+pub fn find_interpretation(
+    alloc: Global,
+    system: &System,
+    pairs: &PairList,
+    set: &PairSet,
+    budget: u64,
+) -> Result<Search<Node>, AllocError>
+    requires few { length pairs.now ≤ 4096 }
+    requires whole { HasPairs (system_data system.now) (pairs_data pairs.now) }
+    requires set { All (λ n. n < length pairs.now) set.now }
+    ensures { IfOk result (IsAnswer (system_data system.now) (pairs_data pairs.now) set.now budget) }
+{
+    let task = Task {
+        system,
+        pairs: pairs.as_slice(),
+        set: set.as_slice(),
+    };
+    system.is_well_made();
+    let marked = marked_symbols(alloc, pairs, set)?;
+    find_for(alloc, &task, &marked, budget)
+}
+
+// The same with the marked symbols of the set: a climb, and then guesses, of which the first is the best of the climb.
+fn find_for<'a>(
+    alloc: Global,
+    task: &Task<'a>,
+    marked: &'a [u32],
+    budget: u64,
+) -> Result<Search<Node>, AllocError>
+    requires few { length task.now.pairs.now ≤ 4096 }
+    requires task { IsTaskOf task.now }
+    requires marked { AreMarked (map pair_data task.now.pairs.now) task.now.set.now marked.now }
+    ensures { IfOk result (IsAnswer (system_data task.now.system.now) (map pair_data task.now.pairs.now) task.now.set.now budget) }
+{
+    match climb(alloc, task, marked, evaluations(task))? {
+        Climbed::Found(node) => Ok(Search::Found(node)),
+        Climbed::Best(lists) => find_by_guesses(alloc, task, marked, &lists, budget),
+    }
+}
+
+// How many evaluations the climb has.
+fn evaluations<'a>(task: &Task<'a>) -> u64 {
+    let conditions = task.system.rules().len() as u64 + task.set.len() as u64;
+    let more = EVALUATIONS_FOR_EACH.saturating_mul(conditions);
+    EVALUATIONS.saturating_add(more)
+}
+
+// Guess by guess, beginning with these coefficients.
+fn find_by_guesses<'a>(
+    alloc: Global,
+    task: &Task<'a>,
+    marked: &'a [u32],
+    lists: &[Vec<u8>],
+    budget: u64,
+) -> Result<Search<Node>, AllocError>
+    requires few { length task.now.pairs.now ≤ 4096 }
+    requires task { IsTaskOf task.now }
+    requires marked { AreMarked (map pair_data task.now.pairs.now) task.now.set.now marked.now }
+    ensures { IfOk result (IsAnswer (system_data task.now.system.now) (map pair_data task.now.pairs.now) task.now.set.now budget) }
+{
+    if budget == 0 {
+        let none = Clauses::new(alloc)?;
+        return Ok(Search::Spent(none));
+    }
+    let encoding = encoding_of(alloc, task, marked)?;
+    let first = bits_by(alloc, lists, &encoding.sizes)?;
+    let found = search_from(alloc, &encoding, first, budget)?;
+    Ok(found)
+}

@@ -1,0 +1,18 @@
+use Rattle.std.proofs.Common.{◌≡◌, List, ℕ, length, map, ap, sym, subst, ◌∙◌, arith}
+use Rattle.std.proofs.lemmas.List.{length-map}
+use Rattle.wh_types.specs.Erase.{ty, tys}
+use Rattle.wh_system.specs.PairData.{pair_data}
+use Rattle.wh_system.specs.SystemView.{system_data}
+use Rattle.wh_subterm.specs.Marked.{AreMarked}
+use Rattle.wh_guesses.specs.Reads.{list_of}
+use Rattle.wh_guesses.proofs.ReadLemmas.{all_read, all_marks, have_coefficients}
+use Rattle.wh_guesses.proofs.guess.guess_by.Goals as goal
+
+pub returns-clause-lists : goal.returns-clause-lists
+returns-clause-lists c =
+    let d = system_data c.args.task.now.system.now in
+    let symbols = c.in_ok-symbols.symbols.items in
+    let kinds = c.as_slice-kinds.result.now in
+    let long : length symbols ≡ length kinds = sym (length-map symbols (λ s. ty s.kind)) ∙ ap length c.in_ok-symbols.ensures.kinds ∙ length-map kinds ty in
+    have_coefficients d.symbols d.rules (map (λ l. l.items) c.args.lists.now) symbols c.in_ok-marks.marks.items _ c.in_ok-symbols.ensures.read c.in_ok-marks.ensures.read
+    (sym long)

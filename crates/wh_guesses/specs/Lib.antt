@@ -1,0 +1,11 @@
+pub mod Space
+pub mod Spots
+pub mod Coefficients
+pub mod Reads
+pub mod Guesses
+pub mod Tasks
+pub mod Conditions
+pub mod Lines
+pub mod Readings
+pub mod Found
+pub mod Weighing

@@ -1,0 +1,166 @@
+//! The node of interpretations that a guess gives.
+
+ghost use Rattle.std.specs.Prelude.{◌+◌, ◌≡◌, ◌≢◌, ◌≤◌, [], IfOk, Some, length, map, slice_get};
+ghost use Rattle.wh_system.specs.PairData.{pair_data};
+ghost use Rattle.wh_system.specs.SystemView.{system_data};
+ghost use Rattle.wh_hopoly.specs.Erase.{interpretations, poly, transfers};
+ghost use Rattle.wh_polycheck.specs.SideResults.{marks_of};
+ghost use Rattle.wh_guesses.specs.Guesses.{IsGuess, IsTask};
+ghost use Rattle.wh_guesses.specs.Lines.{ArePairLines, AreRuleLines};
+ghost use Rattle.wh_guesses.specs.Tasks.{IsGuessOf, IsTaskOf};
+ghost use Rattle.wh_guesses.specs.Weighing.{Weighs, WeighsBy};
+
+use crate::lines::{PairLines, pair_lines, rule_lines};
+use crate::task::{Guess, Task};
+use std::alloc::{AllocError, Global};
+use wh_cert::{Interp, Interps, Node, PolyNode};
+use wh_hopoly::{Covers, Symbol, copy};
+use wh_polycheck::MarkedSymbol;
+use wh_system::{Pair, System};
+use wh_text::Name;
+use wh_types::Or;
+
+/// What a guess comes to.
+#[derive(Drop)]
+pub enum Weighing {
+    /// The node of it: all conditions hold.
+    Found(Node),
+    /// The number of a condition that fails.
+    Failing(usize),
+}
+
+/// The node of the guess, if under it moves cover every rule and every pair of the set, and some pair strictly; else the first
+/// condition that fails. All pairs that are covered strictly are dropped.
+pub fn node_of_guess<'a>(
+    alloc: Global,
+    task: &Task<'a>,
+    guess: &Guess,
+) -> Result<Weighing, AllocError>
+    requires few { length task.now.pairs.now ≤ 4096 }
+    requires task { IsTaskOf task.now }
+    requires guess { IsGuessOf task.now guess.now }
+    ensures { IfOk result (Weighs task.now guess.now) }
+{
+    weighed(
+        alloc,
+        task.system,
+        task.pairs,
+        task.set,
+        &guess.symbols,
+        &guess.marks,
+    )
+}
+
+// The same of the parts of the task and of the guess.
+fn weighed(
+    alloc: Global,
+    system: &System,
+    pairs: &[Pair],
+    set: &[u32],
+    symbols: &[Symbol],
+    marks: &[MarkedSymbol],
+) -> Result<Weighing, AllocError>
+    requires few { length pairs.now ≤ 4096 }
+    requires task { IsTask (system_data system.now).symbols (system_data system.now).rules (map pair_data pairs.now) set.now }
+    requires guess { IsGuess (system_data system.now).symbols (system_data system.now).rules (map pair_data pairs.now) set.now symbols.now marks.now }
+    ensures { IfOk result (WeighsBy (system_data system.now) (map pair_data pairs.now) set.now (interpretations symbols.now) (marks_of marks.now)) }
+{
+    let rules = match rule_lines(alloc, system, symbols) {
+        Ok(lines) => lines,
+        Err(Or::Because(rule)) => return Ok(Weighing::Failing(rule)),
+        Err(Or::NoMemory) => return Err(AllocError),
+    };
+    let found = match pair_lines(alloc, system, pairs, set, symbols, marks) {
+        Ok(found) => found,
+        Err(Or::Because(place)) => return Ok(Weighing::Failing(number_of_pair(system, set, place))),
+        Err(Or::NoMemory) => return Err(AllocError),
+    };
+    if found.drop.as_slice().is_empty() {
+        return Ok(Weighing::Failing(number_of_pair(system, set, set.len())));
+    }
+    node_with(alloc, system, pairs, set, symbols, marks, rules, found)
+}
+
+// The number of the condition of the pair with this place in the set, and behind these of the last condition.
+fn number_of_pair(system: &System, set: &[u32], place: usize) -> usize
+    requires few { length set.now ≤ 4096 }
+    requires place { place ≤ length set.now }
+    ensures { result ≡ length (system_data system.now).rules + place }
+{
+    system.is_well_made();
+    system.rules().len() + place
+}
+
+// The node with these lines.
+fn node_with(
+    alloc: Global,
+    system: &System,
+    pairs: &[Pair],
+    set: &[u32],
+    symbols: &[Symbol],
+    marks: &[MarkedSymbol],
+    rules: Covers,
+    found: PairLines,
+) -> Result<Weighing, AllocError>
+    requires few { length pairs.now ≤ 4096 }
+    requires task { IsTask (system_data system.now).symbols (system_data system.now).rules (map pair_data pairs.now) set.now }
+    requires guess { IsGuess (system_data system.now).symbols (system_data system.now).rules (map pair_data pairs.now) set.now symbols.now marks.now }
+    requires rules { AreRuleLines (system_data system.now).rules (interpretations symbols.now) (map transfers rules) }
+    requires pairs { ArePairLines (system_data system.now).symbols (system_data system.now).rules (map pair_data pairs.now) (interpretations symbols.now) (marks_of marks.now) set.now (map transfers found.lines) found.drop }
+    requires some { found.drop ≢ [] }
+    ensures { IfOk result (WeighsBy (system_data system.now) (map pair_data pairs.now) set.now (interpretations symbols.now) (marks_of marks.now)) }
+{
+    system.is_well_made();
+    let names = system.fun_names();
+    let funs = lines_of_symbols(alloc, names, symbols)?;
+    let marks = lines_of_marks(alloc, names, marks)?;
+    let PairLines { lines, drop } = found;
+    let node = PolyNode {
+        funs,
+        marks,
+        rules,
+        pairs: lines,
+        drop,
+    };
+    Ok(Weighing::Found(Node::Poly(Box::new(alloc, node)?)))
+}
+
+// The lines `fun` of the symbols.
+fn lines_of_symbols(
+    alloc: Global,
+    names: &[Name],
+    symbols: &[Symbol],
+) -> Result<Interps, AllocError>
+    requires { length names.now ≡ length symbols.now }
+    ensures names { IfOk result (λ lines. map (λ l. l.name) lines ≡ names.now) }
+    ensures polynomials { IfOk result (λ lines. map (λ s. poly s.poly) symbols.now ≡ map (λ l. poly l.poly) lines) }
+{
+    let mut lines = Interps::new(alloc)?;
+    for i in 0..symbols.len() {
+        let name = Name::new(alloc, names[i].bytes())?;
+        let poly = copy(alloc, &symbols[i].poly)?;
+        lines.push(Interp { name, poly })?;
+    }
+    Ok(lines)
+}
+
+// The lines `mark` of the marked symbols. Each is a symbol of the system, so want of a name does not come.
+fn lines_of_marks(
+    alloc: Global,
+    names: &[Name],
+    marks: &[MarkedSymbol],
+) -> Result<Interps, AllocError>
+    ensures names { IfOk result (λ lines. map (λ m. slice_get names.now m.symbol) marks.now ≡ map (λ l. Some l.name) lines) }
+    ensures polynomials { IfOk result (λ lines. map (λ m. poly m.poly) marks.now ≡ map (λ l. poly l.poly) lines) }
+{
+    let mut lines = Interps::new(alloc)?;
+    for mark in marks {
+        if mark.symbol as usize >= names.len() {
+            return Err(AllocError);
+        }
+        let name = Name::new(alloc, names[mark.symbol as usize].bytes())?;
+        let poly = copy(alloc, &mark.poly)?;
+        lines.push(Interp { name, poly })?;
+    }
+    Ok(lines)
+}

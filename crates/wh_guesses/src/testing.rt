@@ -1,0 +1,196 @@
+//! What a condition is under a guess.
+
+ghost use Rattle.std.specs.Bool.{OnTrue};
+ghost use Rattle.std.specs.Prelude.{◌≡◌, ◌<◌, IfOk, Some, false, true, length, slice_get};
+ghost use Rattle.wh_terms.specs.Rules.{RewriteRule};
+ghost use Rattle.wh_system.specs.PairData.{pair_data};
+ghost use Rattle.wh_system.specs.SystemView.{system_data};
+ghost use Rattle.wh_hopoly.specs.Erase.{interpretations, poly};
+ghost use Rattle.wh_hopoly.specs.Evaluation.{NormalInterpretations};
+ghost use Rattle.wh_polycheck.specs.Marks.{AreNormalMarks, HasMarkedSides};
+ghost use Rattle.wh_polycheck.specs.SideResults.{marks_of};
+ghost use Rattle.wh_polycheck.specs.Sides.{Interprets};
+ghost use Rattle.wh_meaning.specs.Covering.{pair_run, rule_run};
+ghost use Rattle.wh_covering.specs.Lines.{IsSomeSide};
+ghost use Rattle.wh_guesses.specs.Lines.{IsNotMet};
+ghost use Rattle.wh_guesses.specs.Weighing.{Fails};
+ghost use Rattle.wh_guesses.specs.Tasks.{IsGuessOf, IsTaskOf};
+
+use crate::lines::{pair_line, rule_line, strict_line};
+use crate::sides::{pair_side, rule_side};
+use crate::task::{Guess, Task};
+use std::alloc::{AllocError, Global};
+use wh_find_moves::deficit;
+use wh_hopoly::{Poly, Symbol};
+use wh_polycheck::MarkedSymbol;
+use wh_system::{Pair, System};
+
+/// How far a condition is from being met, and whether a pair is covered strictly.
+#[derive(Clone, Copy)]
+pub struct Outcome {
+    pub wanting: u64,
+    pub strict: bool,
+}
+
+/// How much is wanting where a value exceeds a limit.
+const EXCEEDING: u64 = 1000;
+
+/// What the condition with the number is under the guess: that of a rule, or behind these that of a pair of the set.
+pub fn outcome_of<'a>(
+    alloc: Global,
+    task: &Task<'a>,
+    guess: &Guess,
+    number: usize,
+) -> Result<Outcome, AllocError>
+    requires task { IsTaskOf task.now }
+    requires guess { IsGuessOf task.now guess.now }
+{
+    task.system.is_well_made();
+    let rules = task.system.rules().len();
+    if number < rules {
+        return rule_outcome(alloc, task.system, &guess.symbols, number as u32);
+    }
+    let place = number - rules;
+    if place < task.set.len() {
+        let pair = &task.pairs[task.set[place] as usize];
+        return pair_outcome(alloc, task.system, &guess.symbols, &guess.marks, pair);
+    }
+    Ok(Outcome {
+        wanting: 0,
+        strict: false,
+    })
+}
+
+// What the condition of the rule is.
+fn rule_outcome(
+    alloc: Global,
+    system: &System,
+    symbols: &[Symbol],
+    rule: u32,
+) -> Result<Outcome, AllocError>
+    requires interpreted { Interprets (system_data system.now).symbols (interpretations symbols.now) }
+    requires normal { NormalInterpretations (interpretations symbols.now) }
+    requires rule { rule < length (system_data system.now).rules }
+{
+    let Some(left) = rule_side(alloc, system, symbols, rule, false)? else {
+        return Ok(exceeding());
+    };
+    let Some(right) = rule_side(alloc, system, symbols, rule, true)? else {
+        return Ok(exceeding());
+    };
+    Ok(Outcome {
+        wanting: wanting(alloc, &left, &right)?,
+        strict: false,
+    })
+}
+
+// What the condition of the pair is.
+fn pair_outcome(
+    alloc: Global,
+    system: &System,
+    symbols: &[Symbol],
+    marks: &[MarkedSymbol],
+    pair: &Pair,
+) -> Result<Outcome, AllocError>
+    requires interpreted { Interprets (system_data system.now).symbols (interpretations symbols.now) }
+    requires normal { NormalInterpretations (interpretations symbols.now) }
+    requires marks { AreNormalMarks (system_data system.now).symbols (system_data system.now).rules (marks_of marks.now) }
+    requires sides { HasMarkedSides (system_data system.now).symbols (system_data system.now).rules (marks_of marks.now) (pair_data pair.now) }
+{
+    let Some(left) = pair_side(alloc, system, symbols, marks, pair, false)? else {
+        return Ok(exceeding());
+    };
+    let Some(right) = pair_side(alloc, system, symbols, marks, pair, true)? else {
+        return Ok(exceeding());
+    };
+    let wanting = wanting(alloc, &left, &right)?;
+    let strict = wanting == 0 && is_greater(alloc, &left, &right)?;
+    Ok(Outcome { wanting, strict })
+}
+
+// What is told where a value exceeds a limit.
+fn exceeding() -> Outcome {
+    Outcome {
+        wanting: EXCEEDING,
+        strict: false,
+    }
+}
+
+// How many units of the right side are not covered.
+fn wanting(alloc: Global, left: &Poly, right: &Poly) -> Result<u64, AllocError>
+    requires left { IsSomeSide (poly left.now) }
+    requires right { IsSomeSide (poly right.now) }
+{
+    let units = deficit(alloc, left, right)?;
+    Ok(u64::try_from(units).unwrap_or(EXCEEDING))
+}
+
+// Whether moves show that the left side is greater.
+fn is_greater(alloc: Global, left: &Poly, right: &Poly) -> Result<bool, AllocError>
+    requires left { IsSomeSide (poly left.now) }
+    requires right { IsSomeSide (poly right.now) }
+{
+    match strict_line(alloc, left, right)? {
+        Some(line) => Ok(line.strict),
+        None => Ok(false),
+    }
+}
+
+/// Whether the condition with that number fails under the guess: that of a rule, or behind these that of a pair of the set. Of
+/// any other number nothing is said.
+pub fn fails<'a>(
+    alloc: Global,
+    task: &Task<'a>,
+    guess: &Guess,
+    number: usize,
+) -> Result<bool, AllocError>
+    requires task { IsTaskOf task.now }
+    requires guess { IsGuessOf task.now guess.now }
+    ensures { IfOk result (λ told. OnTrue told (Fails task.now guess.now number)) }
+{
+    task.system.is_well_made();
+    let rules = task.system.rules().len();
+    if number < rules {
+        return rule_fails(alloc, task.system, &guess.symbols, number as u32);
+    }
+    let place = number - rules;
+    if place < task.set.len() {
+        let pair = &task.pairs[task.set[place] as usize];
+        return pair_fails(alloc, task.system, &guess.symbols, &guess.marks, pair);
+    }
+    Ok(false)
+}
+
+// Whether no moves cover the rule.
+fn rule_fails(
+    alloc: Global,
+    system: &System,
+    symbols: &[Symbol],
+    rule: u32,
+) -> Result<bool, AllocError>
+    requires interpreted { Interprets (system_data system.now).symbols (interpretations symbols.now) }
+    requires normal { NormalInterpretations (interpretations symbols.now) }
+    requires rule { rule < length (system_data system.now).rules }
+    ensures { (r : RewriteRule) → slice_get (system_data system.now).rules rule ≡ Some r → IfOk result (λ told. OnTrue told
+        (IsNotMet (rule_run (interpretations symbols.now) r false) (rule_run (interpretations symbols.now) r true))) }
+{
+    Ok(rule_line(alloc, system, symbols, rule)?.is_none())
+}
+
+// Whether no moves cover the pair.
+fn pair_fails(
+    alloc: Global,
+    system: &System,
+    symbols: &[Symbol],
+    marks: &[MarkedSymbol],
+    pair: &Pair,
+) -> Result<bool, AllocError>
+    requires interpreted { Interprets (system_data system.now).symbols (interpretations symbols.now) }
+    requires normal { NormalInterpretations (interpretations symbols.now) }
+    requires marks { AreNormalMarks (system_data system.now).symbols (system_data system.now).rules (marks_of marks.now) }
+    requires sides { HasMarkedSides (system_data system.now).symbols (system_data system.now).rules (marks_of marks.now) (pair_data pair.now) }
+    ensures { IfOk result (λ told. OnTrue told (IsNotMet (pair_run (system_data system.now).symbols (system_data system.now).rules (interpretations symbols.now) (marks_of marks.now) (pair_data pair.now) false)
+        (pair_run (system_data system.now).symbols (system_data system.now).rules (interpretations symbols.now) (marks_of marks.now) (pair_data pair.now) true))) }
+{
+    Ok(pair_line(alloc, system, symbols, marks, pair)?.is_none())
+}
