@@ -5,3 +5,5 @@ pub mod Searching
 pub mod Standing
 pub mod Asking
 pub mod Replying
+pub mod OneAnswer
+pub mod Complete

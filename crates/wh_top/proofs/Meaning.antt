@@ -28,7 +28,8 @@ use Rattle.wh_prover.specs.declared.answer.Options.{Options}
 use Rattle.wh_prover.proofs.LoopLemmas.{loop_is_valid}
 use Rattle.wh_top.specs.Proving.{IsFoundText, ShowsFound, StandsForSearch}
 use Rattle.wh_top.specs.Generating.{StandsForGenerated}
-use Rattle.wh_top.specs.Run.{Answers, Ends, MeansYes, MeansNo, Replies, SaysNo, Tells}
+use Rattle.wh_top.specs.Texts.{Tells}
+use Rattle.wh_top.specs.Run.{Answers, Ends, MeansYes, MeansNo, Replies, SaysNo}
 
 -- a system that is read and has a valid YES certificate
 pub yes_means : (system : List ℕ) (d : SystemData) (ps : List PairData) (c : Cert) → Reads system d → HasPairs d ps → IsYes c
@@ -152,11 +153,11 @@ only_no_answers s words status text rest answers e =
     (λ d. omega arith) (λ d. omega arith) (λ d. omega arith) (λ d. omega arith) answers e
 
 -- a certificate of termination, in the words of the search and of the check
-same_yes : (c : Cert) → proofs.IsYes c → IsYes c
+pub same_yes : (c : Cert) → proofs.IsYes c → IsYes c
 same_yes (yes version ranks pairs nodes) is = tt
 same_yes (no term steps at puts) is = absurd is
 
-same_no : (c : Cert) → proofs.IsNo c → IsNo c
+pub same_no : (c : Cert) → proofs.IsNo c → IsNo c
 same_no (yes version ranks pairs nodes) is = absurd is
 same_no (no term steps at puts) is = tt
 
@@ -172,7 +173,7 @@ termination s words status text old new f g result answers ends before output e 
   where
     by_check : (cert system : List ℕ) → (length system ≤ system_limit)
         × (d : SystemData) × (ps : List PairData) × Reads system d × HasPairs d ps × Checked (s.held cert) d ps Yes → MeansYes system
-    by_check cert system (within, d, ps, reads, has, (c, (is, valid), told)) = yes_means system d ps c reads has is valid
+    by_check cert system (within, d, ps, reads, has, (c, (is, valid, small), told)) = yes_means system d ps c reads has is valid
 
     by_found : (options : Options) (system more : List ℕ) → text ≡ 89 ∷ more → (length system ≤ system_limit)
         × (d : SystemData) × (ps : List PairData) × Reads system d × HasPairs d ps × IsFoundText d ps options text → MeansYes system

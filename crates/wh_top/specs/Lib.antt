@@ -6,4 +6,5 @@ pub mod Rows
 pub mod Texts
 pub mod Proving
 pub mod Generating
+pub mod Complete
 pub mod Run

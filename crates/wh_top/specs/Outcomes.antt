@@ -12,6 +12,7 @@ use Rattle.wh_read.specs.Reading.{Reads, Refuses}
 use Rattle.wh_cert.specs.Written.{Cert, yes, no}
 use Rattle.wh_cert.specs.CertText.{CertText, FaultAt}
 use Rattle.wh_checker.specs.Valid.{IsValidCert}
+use Rattle.wh_checker.specs.Small.{IsSmallCert}
 use Rattle.wh_checker.specs.Faults.{IsFirstFault}
 use Rattle.wh_checker.specs.declared.rejected.Rejected as conditions
 use Rattle.wh_checker.specs.declared.rejected.CheckFault.TheVariants as check
@@ -79,9 +80,10 @@ IsNo (no term steps at puts) = Unit {0}
 abbrev pub IsRejectedFor : SystemData → List PairData → Cert → NamedRejection → Type 0
 IsRejectedFor d ps c named = (r : conditions.Rejected) × IsFirstFault with_limits d ps c (check.Rejected r) × (named ≡ named_row d r)
 
--- what a certificate that was read comes to, for a system with its pairs
+-- what a certificate that was read comes to, for a system with its pairs: it is valid, and no value exceeds a limit; or what is wrong
+-- first with it, or exceeds a limit first
 abbrev pub Weighed : SystemData → List PairData → Cert → Report → Type 0
-Weighed d ps c Yes = IsYes c × IsValidCert d ps c
+Weighed d ps c Yes = IsYes c × IsValidCert d ps c × IsSmallCert d ps c
 Weighed d ps c No = IsNo c × IsValidCert d ps c
 Weighed d ps c (Rejected named) = IsRejectedFor d ps c named
 Weighed d ps c (Overflow k) = IsFirstFault with_limits d ps c (check.Overflow k)

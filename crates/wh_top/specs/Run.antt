@@ -18,17 +18,11 @@ use Rattle.wh_answer.specs.declared.report.Report.TheVariants as answer
 use Rattle.wh_answer.specs.Texts.{line, report_text}
 use Rattle.wh_words.specs.Words.{Bounds, Request, check, prove, show, gen, Asks}
 use Rattle.wh_top.specs.Words.{options_of}
-use Rattle.wh_top.specs.Texts.{status_of, IsShown}
+use Rattle.wh_top.specs.Texts.{IsShown, Tells}
 use Rattle.wh_top.specs.Outcomes.{Shelves, BeginsWith, Told, ToldSystem, StandsBySystem, Stands}
 use Rattle.wh_top.specs.Proving.{ShowsFound, StandsForSearch}
 use Rattle.wh_top.specs.Generating.{ShowsGenerated, StandsForGenerated}
-
--- P holds of an answer, and status and text are its own
-pub record Tells (P : Report → Type 0) (status : Status) (text : List ℕ) : Type 0 where
-  pub report : Report
-  pub stands : P report
-  pub status_is : status ≡ status_of report
-  pub text_is : text ≡ report_text report
+use Rattle.wh_top.specs.Complete.{IsComplete}
 
 -- the text shows the system in the file and its pairs
 pub record Shows (s : Shelves) (file : List ℕ) (status : Status) (text : List ℕ) : Type 0 where
@@ -44,11 +38,12 @@ Replies s (prove file b) status text = ShowsFound s file (options_of b) status t
 Replies s (show file) status text = Shows s file status text ⊎ Tells (StandsBySystem s file) status text
 Replies s (gen n) status text = ShowsGenerated n status text ⊎ Tells (StandsForGenerated n) status text
 
--- the words ask for something, and this is the reply
+-- the words ask for something, and this is the reply; where nothing goes wrong outside, it is one that answers what is asked
 pub record Served (s : Shelves) (words : List (List ℕ)) (status : Status) (text : List ℕ) : Type 0 where
   pub request : Request
   pub asks : Asks words request
   pub reply : Replies s request status text
+  pub complete : IsComplete s request status text
 
 -- the words are none of the program's
 pub record Misspoken (words : List (List ℕ)) (status : Status) (text : List ℕ) : Type 0 where

@@ -5,7 +5,7 @@ use Rattle.wh_system.specs.PairData.{PairData}
 use Rattle.wh_print.specs.SystemText.{system_text}
 use Rattle.wh_print.specs.PairText.{pairs_text}
 use Rattle.wh_read.specs.Reading.{Reads}
-use Rattle.wh_answer.specs.Texts.{line}
+use Rattle.wh_answer.specs.Texts.{line, report_text}
 use Rattle.wh_answer.specs.declared.report.Report.{Report}
 use Rattle.wh_answer.specs.declared.report.Report.TheVariants.{Yes, No, Rejected, Maybe, Refused, BadWords, ReadFault, OutOfMemory, TooLong, Overflow, TooLarge}
 use Rattle.wh_top.specs.declared.status.Status as status
@@ -31,3 +31,10 @@ shown_text d ps = line (codes "SYSTEM") ++ (system_text d ++ pairs_text d ps)
 -- the text shows the system and its pairs; what it says of the system is a text of that very system
 abbrev pub IsShown : List ℕ → SystemData → List PairData → Type 0
 IsShown text d ps = (text ≡ shown_text d ps) × Reads (system_text d) d
+
+-- P holds of an answer, and status and text are its own
+pub record Tells (P : Report → Type 0) (status : status.Status) (text : List ℕ) : Type 0 where
+  pub report : Report
+  pub stands : P report
+  pub status_is : status ≡ status_of report
+  pub text_is : text ≡ report_text report

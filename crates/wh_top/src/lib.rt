@@ -4,11 +4,13 @@
 mod files;
 mod generating;
 mod judging;
+mod laws;
 mod program;
 mod proving;
 mod rejection;
 mod status;
 
+pub use laws::checks_have_one_answer;
 pub use program::{report_no_memory, run};
 pub use status::Status;
 pub use wh_words::{Command, read_words};

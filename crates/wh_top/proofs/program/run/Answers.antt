@@ -3,8 +3,15 @@ use Rattle.std.proofs.Common.{inl, inr, refl, sym, subst}
 use Rattle.wh_words.specs.Asked.{request}
 use Rattle.wh_top.specs.Outcomes.{Shelves, outside}
 use Rattle.wh_top.specs.Run.{Replies}
+use Rattle.wh_top.proofs.Complete.{served}
 use Rattle.wh_top.proofs.Meaning.{termination, non_termination}
 use Rattle.wh_top.proofs.program.run.Goals as goal
+
+pub returns-in-Ok-clause-answer : goal.returns-in-Ok-clause-answer
+returns-in-Ok-clause-answer g c =
+    let s : Shelves = outside (g.S.Shelf.held c.args.shelf.now) (g.S.Shelf.faults c.args.shelf.now) (g.S.Shelf.faults c.reply_to.new.shelf) in
+    let replies = subst (Replies s (request c.in-Some.command) c.in-Ok.reply.status) (sym c.as_slice.ensures) c.in-Ok.ensures.served in
+    (_, _, inl (served s _ (request c.in-Some.command) _ _ c.in-Some.ensures replies), c.tell-in-Ok.ensures)
 
 pub returns-in_default-clause-termination : goal.returns-in_default-clause-termination
 returns-in_default-clause-termination g c =
@@ -15,7 +22,7 @@ pub returns-in-Ok-clause-termination : goal.returns-in-Ok-clause-termination
 returns-in-Ok-clause-termination g c =
     let s : Shelves = outside (g.S.Shelf.held c.args.shelf.now) (g.S.Shelf.faults c.args.shelf.now) (g.S.Shelf.faults c.reply_to.new.shelf) in
     let replies = subst (Replies s (request c.in-Some.command) c.in-Ok.reply.status) (sym c.as_slice.ensures) c.in-Ok.ensures.served in
-    termination s _ _ _ _ _ _ _ _ (inl (record { request = request c.in-Some.command; asks = c.in-Some.ensures; reply = replies })) c.tell-in-Ok.ensures
+    termination s _ _ _ _ _ _ _ _ (inl (served s _ (request c.in-Some.command) _ _ c.in-Some.ensures replies)) c.tell-in-Ok.ensures
 
 pub returns-in-Err-clause-termination : goal.returns-in-Err-clause-termination
 returns-in-Err-clause-termination g c =
@@ -31,7 +38,7 @@ pub returns-in-Ok-clause-non_termination : goal.returns-in-Ok-clause-non_termina
 returns-in-Ok-clause-non_termination g c =
     let s : Shelves = outside (g.S.Shelf.held c.args.shelf.now) (g.S.Shelf.faults c.args.shelf.now) (g.S.Shelf.faults c.reply_to.new.shelf) in
     let replies = subst (Replies s (request c.in-Some.command) c.in-Ok.reply.status) (sym c.as_slice.ensures) c.in-Ok.ensures.served in
-    non_termination s _ _ _ _ _ _ _ _ (inl (record { request = request c.in-Some.command; asks = c.in-Some.ensures; reply = replies })) c.tell-in-Ok.ensures
+    non_termination s _ _ _ _ _ _ _ _ (inl (served s _ (request c.in-Some.command) _ _ c.in-Some.ensures replies)) c.tell-in-Ok.ensures
 
 pub returns-in-Err-clause-non_termination : goal.returns-in-Err-clause-non_termination
 returns-in-Err-clause-non_termination g c =

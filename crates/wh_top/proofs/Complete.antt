@@ -1,0 +1,155 @@
+-- Where all files are read and the system is one with few enough pairs, a reply answers what is asked.
+use Rattle.std.proofs.Common.{ℕ, ◌≡◌, ◌≤◌, ◌⊎◌, inl, inr, List, length, Option, Some, subst, arith}
+use Rattle.wh_system.specs.Systems.{SystemData}
+use Rattle.wh_system.specs.PairData.{PairData}
+use Rattle.wh_pairs.specs.Candidates.{candidates}
+use Rattle.wh_pairs.specs.SystemPairs.{HasPairs, HasTooManyPairs}
+use Rattle.wh_pairs.proofs.SubsumptionLaws.{one_list}
+use Rattle.wh_read.specs.Reading.{Reads}
+use Rattle.wh_read.proofs.OneSystem.{one_reading, read_or_refused}
+use Rattle.wh_gen.specs.Family.{gen_data}
+use Rattle.wh_gen.proofs.PairCount.{few_pairs}
+use Rattle.wh_prover.specs.declared.answer.Options.{Options}
+use Rattle.wh_prover.proofs.LoopLemmas.{loop_is_valid}
+use Rattle.wh_answer.specs.declared.report.NamedRejection.TheVariants.{Syntax}
+use Rattle.wh_answer.specs.declared.report.ReasonWord.{ReasonWord}
+use Rattle.wh_answer.specs.declared.report.ReasonWord.TheVariants.{TooManyPairs}
+use Rattle.wh_answer.specs.declared.report.Role.TheVariants.{System, Certificate, Output}
+use Rattle.wh_answer.specs.declared.report.Report.{Report}
+use Rattle.wh_answer.specs.declared.report.Report.TheVariants.{Yes, No, Rejected, Maybe, Refused, ReadFault, TooLong, Overflow, TooLarge}
+use Rattle.wh_words.specs.Words.{Request, check, prove, show, gen, Asks}
+use Rattle.wh_top.specs.declared.status.Status.{Status}
+use Rattle.wh_top.specs.Words.{options_of}
+use Rattle.wh_top.specs.Texts.{IsShown}
+use Rattle.wh_top.specs.Outcomes.{Shelves, ToldSystem, Judged, Checked, IsRefusedFor, StandsBySystem, Stands, certificate_limit, system_limit}
+use Rattle.wh_top.specs.Proving.{IsFoundText, IsNotFound, StandsForSearch}
+use Rattle.wh_top.specs.Generating.{StandsForGenerated}
+use Rattle.wh_top.specs.Complete.{HoldsSystem, IsComplete, IsRead}
+use Rattle.wh_top.specs.Run.{Replies, Served}
+use Rattle.wh_top.proofs.Asking.{count_asked}
+use Rattle.wh_top.proofs.Meaning.{same_yes, same_no}
+
+-- a system has one list of pairs
+pairs_one : (d : SystemData) (ps es : List PairData) → HasPairs d ps → HasPairs d es → ps ≡ es
+pairs_one d ps es has also = one_list _ _ _ _ has.are also.are
+
+not_too_many : (d : SystemData) (ps : List PairData) → HasPairs d ps → HasTooManyPairs d → ⊥
+not_too_many d ps has (many, are, more) =
+    let same : ps ≡ many = one_list _ _ _ _ has.are are in
+    let few : length many ≤ 4096 = subst (λ (l : List PairData). length l ≤ 4096) same has.few in
+    omega (arith, few, more)
+
+-- what is told of the system in the file holds of the one that is read, and its pairs
+told_holds : (s : Shelves) (file : List ℕ) (d : SystemData) (ps : List PairData) (P : SystemData → List PairData → Type 0)
+    → HoldsSystem s file d ps → ToldSystem (s.held file) P → P d ps
+told_holds s file d ps P holds told = by (told holds.bytes holds.read.told)
+  where
+    by : (length holds.bytes ≤ system_limit) × (e : SystemData) × (es : List PairData) × Reads holds.bytes e × HasPairs e es × P e es
+        → P d ps
+    by (within, e, es, reads, has, p) =
+        let same : e ≡ d = one_reading holds.bytes e d reads holds.reads in
+        let pairs : es ≡ ps = pairs_one d es ps (subst (λ x. HasPairs x es) same has) holds.has in
+        subst (P d) pairs (subst (λ x. P x es) same p)
+
+-- the system file is not refused
+not_refused : (s : Shelves) (file : List ℕ) (d : SystemData) (ps : List PairData) (at : ℕ) (word : ReasonWord) → HoldsSystem s file d ps
+    → IsRefusedFor (s.held file) word at → ⊥
+not_refused s file d ps at TooManyPairs holds (first, many) =
+    let (within, e, reads, more) = many holds.bytes holds.read.told in
+    not_too_many d ps holds.has (subst HasTooManyPairs (one_reading holds.bytes e d reads holds.reads) more)
+not_refused s file d ps at word holds refused =
+    let (within, r, is, place, refuses) = refused holds.bytes holds.read.told in
+    read_or_refused holds.bytes d r holds.reads refuses
+
+-- nor does it decide any other answer alone
+not_by_system : (s : Shelves) (file : List ℕ) (d : SystemData) (ps : List PairData) (o : Report) → HoldsSystem s file d ps
+    → StandsBySystem s file o → ⊥
+not_by_system s file d ps (ReadFault System) holds rose = holds.read.calm rose
+not_by_system s file d ps (TooLong System) holds long =
+    let more = long holds.bytes holds.read.told in
+    omega (arith, more, holds.read.within)
+not_by_system s file d ps (Refused word at) holds refused = not_refused s file d ps at word holds refused
+not_by_system s file d ps o holds stands = stands
+
+-- what the certificate's file was told to come to, its bytes come to
+checked_judged : (held : Option (List ℕ)) (d : SystemData) (ps : List PairData) (bytes : List ℕ) (o : Report) → held ≡ Some bytes
+    → Checked held d ps o → Judged d ps bytes o
+checked_judged held d ps bytes (Rejected (Syntax at)) told checked = (checked bytes told).1
+checked_judged held d ps bytes o told (c, weighed, text) = (c, (text bytes told).1, weighed)
+
+check_judged : (s : Shelves) (file cert : List ℕ) (d : SystemData) (ps : List PairData) (bytes : List ℕ) (o : Report)
+    → HoldsSystem s file d ps → IsRead s cert certificate_limit bytes → Stands s file cert o → Judged d ps bytes o
+check_judged s file cert d ps bytes o holds read stands = by o stands
+  where
+    judged : (o : Report) → ToldSystem (s.held file) (λ e es. Checked (s.held cert) e es o) → Judged d ps bytes o
+    judged o told = checked_judged (s.held cert) d ps bytes o read.told
+        (told_holds s file d ps (λ e es. Checked (s.held cert) e es o) holds told)
+
+    by : (o : Report) → Stands s file cert o → Judged d ps bytes o
+    by (ReadFault Certificate) stands = absurd (read.calm stands.0)
+    by (TooLong Certificate) stands = let more = stands.0 bytes read.told in absurd (omega (arith, more, read.within))
+    by Yes stands = judged Yes stands
+    by No stands = judged No stands
+    by (Rejected named) stands = judged (Rejected named) stands
+    by (Overflow k) stands = judged (Overflow k) stands
+    by (TooLarge k) stands = judged (TooLarge k) stands
+    by o stands = absurd (not_by_system s file d ps o holds stands)
+
+-- a check of the text that a search writes accepts it
+found_judged : (d : SystemData) (ps : List PairData) (o : Options) (text : List ℕ) → IsFoundText d ps o text
+    → Judged d ps text Yes ⊎ Judged d ps text No
+found_judged d ps o text (inl ((c, is, spelled), begins)) = inl (c, spelled, (same_yes c is.yes, is.valid, is.small))
+found_judged d ps o text (inr ((c, is, spelled), begins)) = inr (c, spelled, (same_no c is.no, loop_is_valid d ps o.depth c is.loops))
+
+search_told : (s : Shelves) (file : List ℕ) (d : SystemData) (ps : List PairData) (options : Options) (o : Report) → HoldsSystem s file d ps
+    → StandsForSearch s file options o → IsNotFound d ps options o
+search_told s file d ps options (Maybe named) holds stands =
+    told_holds s file d ps (λ e es. IsNotFound e es options (Maybe named)) holds stands
+search_told s file d ps options (TooLong Output) holds stands =
+    told_holds s file d ps (λ e es. IsNotFound e es options (TooLong Output)) holds stands
+search_told s file d ps options o holds stands = absurd (not_by_system s file d ps o holds stands)
+
+-- a generated system is not refused
+never_refused : (n : ℕ) (o : Report) → 1 ≤ n → n ≤ 200 → StandsForGenerated n o → ⊥
+never_refused n (Refused TooManyPairs at) some few (first, many) = few_pairs n some few many
+never_refused n o some few stands = stands
+
+complete : (s : Shelves) (words : List (List ℕ)) (request : Request) (status : Status) (text : List ℕ) → Asks words request
+    → Replies s request status text → IsComplete s request status text
+complete s words (check file cert) status text asks reply = λ d ps bytes holds read. record {
+  report = reply.report;
+  stands = check_judged s file cert d ps bytes reply.report holds read reply.stands;
+  status_is = reply.status_is;
+  text_is = reply.text_is;
+}
+complete s words (prove file b) status text asks (inl shows) = λ d ps holds.
+    inl (
+      shows.status_is,
+      shows.within,
+      found_judged d ps (options_of b) text
+          (told_holds s file d ps (λ e es. IsFoundText e es (options_of b) text) holds shows.found),
+    )
+complete s words (prove file b) status text asks (inr tells) = λ d ps holds. inr (record {
+  report = tells.report;
+  stands = search_told s file d ps (options_of b) tells.report holds tells.stands;
+  status_is = tells.status_is;
+  text_is = tells.text_is;
+})
+complete s words (show file) status text asks (inl shows) = λ d ps holds.
+    (shows.status_is, (told_holds s file d ps (IsShown text) holds shows.system).0)
+complete s words (show file) status text asks (inr tells) = λ d ps holds.
+    absurd (not_by_system s file d ps tells.report holds tells.stands)
+complete s words (gen n) status text asks (inl shows) = shows.status_is
+complete s words (gen n) status text asks (inr tells) =
+    let (some, few) = count_asked words n asks in
+    absurd (never_refused n tells.report some few tells.stands)
+
+-- what is asked is served
+pub served : (s : Shelves) (words : List (List ℕ)) (request : Request) (status : Status) (text : List ℕ) → Asks words request
+    → Replies s request status text → Served s words status text
+served s words request status text asks reply = record {
+  request = request;
+  asks = asks;
+  reply = reply;
+  complete = complete s words request status text asks reply;
+}

@@ -1,0 +1,53 @@
+-- What is answered where nothing goes wrong outside: all files are read, and the system is one with few enough pairs.
+use Rattle.std.specs.Prelude.{ℕ, ◌≡◌, ◌≤◌, ◌⊎◌, List, length, Some}
+use Rattle.wh_io.specs.Outside.{Rose}
+use Rattle.wh_system.specs.Systems.{SystemData}
+use Rattle.wh_system.specs.PairData.{PairData}
+use Rattle.wh_pairs.specs.SystemPairs.{HasPairs}
+use Rattle.wh_read.specs.Reading.{Reads}
+use Rattle.wh_answer.specs.declared.report.Report.{Report}
+use Rattle.wh_answer.specs.declared.report.Report.TheVariants.{Yes, No, Overflow, TooLarge}
+use Rattle.wh_words.specs.Words.{Bounds, Request, check, prove, show, gen}
+use Rattle.wh_top.specs.declared.status.Status.{Status}
+use Rattle.wh_top.specs.declared.status.Status.TheVariants.{Answered}
+use Rattle.wh_top.specs.Words.{options_of}
+use Rattle.wh_top.specs.Texts.{status_of, shown_text, Tells}
+use Rattle.wh_top.specs.Outcomes.{Shelves, Judged, system_limit, certificate_limit}
+use Rattle.wh_top.specs.Proving.{IsNotFound}
+
+-- the file was read without a fault, and these are its bytes, within the limit
+pub record IsRead (s : Shelves) (file : List ℕ) (limit : ℕ) (bytes : List ℕ) : Type 0 where
+  pub told : s.held file ≡ Some bytes
+  pub calm : Rose (s.before file) (s.after file) → ⊥
+  pub within : length bytes ≤ limit
+
+-- it was read, and is a text of this system, which has these pairs
+pub record HoldsSystem (s : Shelves) (file : List ℕ) (d : SystemData) (ps : List PairData) : Type 0 where
+  pub bytes : List ℕ
+  pub read : IsRead s file system_limit bytes
+  pub reads : Reads bytes d
+  pub has : HasPairs d ps
+
+-- then a check answers what the certificate comes to; a search writes a certificate that a check accepts, or says why there is none; a
+-- system is shown; and a generated system is always answered (ours)
+abbrev pub IsComplete : Shelves → Request → Status → List ℕ → Type 0
+IsComplete s (check file cert) status text =
+    (d : SystemData) (ps : List PairData) (bytes : List ℕ) → HoldsSystem s file d ps → IsRead s cert certificate_limit bytes
+    → Tells (Judged d ps bytes) status text
+IsComplete s (prove file b) status text =
+    (d : SystemData) (ps : List PairData) → HoldsSystem s file d ps
+    → ((status ≡ Answered) × (length text ≤ certificate_limit) × (Judged d ps text Yes ⊎ Judged d ps text No))
+    ⊎ Tells (IsNotFound d ps (options_of b)) status text
+IsComplete s (show file) status text =
+    (d : SystemData) (ps : List PairData) → HoldsSystem s file d ps → (status ≡ Answered) × (text ≡ shown_text d ps)
+IsComplete s (gen n) status text = status ≡ Answered
+
+-- a value exceeds a limit in the node with that number
+abbrev pub IsTooBigAt : ℕ → Report → Type 0
+IsTooBigAt k (Overflow m) = m ≡ k
+IsTooBigAt k (TooLarge m) = m ≡ k
+IsTooBigAt k _ = ⊥
+
+-- two answers are one, but that values may exceed both limits in one node (ours)
+abbrev pub AreOneAnswer : Report → Report → Type 0
+AreOneAnswer a b = (a ≡ b) ⊎ ((k : ℕ) × IsTooBigAt k a × IsTooBigAt k b)
