@@ -1,5 +1,4 @@
 pub mod Locality
-pub mod Uniqueness
 pub mod Written
 pub mod NothingLemmas
 pub mod BitLemmas

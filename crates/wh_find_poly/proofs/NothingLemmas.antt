@@ -24,7 +24,7 @@ use Rattle.wh_guesses.specs.Conditions.{Condition, ReadsSymbol, ReadsMark, Reads
 use Rattle.wh_find_poly.specs.Bits.{bits_of, first_bit, digits, lists_from, lists_by}
 use Rattle.wh_find_poly.specs.Tried.{IsBitOf, AreWritten, IsBlocked}
 use Rattle.wh_find_poly.proofs.Locality.{IsAlike, count_of, meets_alike}
-use Rattle.wh_find_poly.proofs.Uniqueness.{same_polynomial}
+use Rattle.wh_ranges.proofs.Uniqueness.{same_polynomial}
 use Rattle.wh_find_poly.proofs.Written.{written}
 
 -- bits that agree write the same numbers

@@ -18,7 +18,8 @@ use Rattle.wh_guesses.specs.Conditions.{Condition, IsCondition}
 use Rattle.wh_guesses.specs.Weighing.{Fails}
 use Rattle.wh_guesses.proofs.GuessLemmas.{guess_kinds}
 use Rattle.wh_guesses.proofs.PushLemmas.{all_members}
-use Rattle.wh_find_poly.specs.Answers.{HasNoInterpretation, IsSpent}
+use Rattle.wh_guesses.specs.Conditions.{HasNoInterpretation}
+use Rattle.wh_find_poly.specs.Answers.{IsSpent}
 use Rattle.wh_find_poly.specs.Bits.{bit_count}
 use Rattle.wh_find_poly.specs.Encodings.{system_of, pairs_of, set_of, scopes_for, IsEncoding, IsWritten, IsBlocking}
 use Rattle.wh_find_poly.specs.Literals.{literals_on}

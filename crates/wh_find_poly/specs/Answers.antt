@@ -3,23 +3,14 @@ use Rattle.std.specs.Prelude.{ℕ, ◌≡◌, List, length}
 use Rattle.wh_system.specs.Systems.{SystemData}
 use Rattle.wh_system.specs.PairData.{PairData}
 use Rattle.wh_subterm.specs.Marked.{AreMarked}
-use Rattle.wh_hopoly.specs.Evaluation.{Interpretation}
-use Rattle.wh_polycheck.specs.Marks.{Mark}
 use Rattle.wh_cert.specs.declared.certificate.Node.{Node}
 use Rattle.wh_cert.specs.Said.{said_node}
 use Rattle.wh_sat_trail.specs.declared.literal.Literal.{Literal}
 use Rattle.wh_sat.specs.declared.solving.Search.{Search}
 use Rattle.wh_sat.specs.declared.solving.Search.TheVariants as search
-use Rattle.wh_guesses.specs.Coefficients.{AreOfSpace}
-use Rattle.wh_guesses.specs.Conditions.{LetsGo}
+use Rattle.wh_guesses.specs.Conditions.{HasNoInterpretation}
 use Rattle.wh_guesses.specs.Found.{IsInterpretation}
 use Rattle.wh_find_poly.specs.Tried.{Tried}
-
--- no interpretation of the space lets a pair of the set go
-abbrev pub HasNoInterpretation : SystemData → List PairData → List ℕ → Type 0
-HasNoInterpretation d pairs set =
-    (symbols : List Interpretation) (marks : List Mark) → AreOfSpace d.symbols d.rules pairs set symbols marks
-    → LetsGo d.symbols d.rules pairs set symbols marks → ⊥
 
 -- clauses as many as the budget, each of a guess that was tried or learnt (ours)
 pub record IsSpent (d : SystemData) (pairs : List PairData) (set : List ℕ) (budget : ℕ) (list : List (List Literal)) : Type 0 where

@@ -16,6 +16,7 @@ use std::alloc::{AllocError, Global};
 use wh_cert::Node;
 use wh_climb::{Climbed, climb};
 use wh_guesses::Task;
+use wh_ranges::has_none;
 use wh_sat::Search;
 use wh_sat_trail::Clauses;
 use wh_subterm::marked_symbols;
@@ -25,6 +26,14 @@ use wh_system::{PairList, PairSet, System};
 const EVALUATIONS: u64 = 30_000;
 
 const EVALUATIONS_FOR_EACH: u64 = 50;
+
+// How much work the search in ranges has: so much, and so much more for each rule or pair beside each other, since each pair is asked to
+// be covered strictly and that may go through all; and no more than so much.
+const WORK: u64 = 50_000;
+
+const WORK_FOR_EACH_TWO: u64 = 5;
+
+const MOST_WORK: u64 = 1_000_000;
 
 /// Interpretations under which no rule and no pair of the set grows and some pair shrinks (the reduction pair processor of Kop 2012
 /// with the polynomials of Fuhs and Kop 2012; the search is ours).
@@ -53,7 +62,8 @@ pub fn find_interpretation(
     find_for(alloc, &task, &marked, budget)
 }
 
-// The same with the marked symbols of the set: a climb, and then guesses, of which the first is the best of the climb.
+// The same with the marked symbols of the set: a climb, then ranges of coefficients, and then guesses, of which the first is the best of
+// the climb.
 fn find_for<'a>(
     alloc: Global,
     task: &Task<'a>,
@@ -67,15 +77,31 @@ fn find_for<'a>(
 {
     match climb(alloc, task, marked, evaluations(task))? {
         Climbed::Found(node) => Ok(Search::Found(node)),
-        Climbed::Best(lists) => find_by_guesses(alloc, task, marked, &lists, budget),
+        Climbed::Best(lists) => {
+            if has_none(alloc, task, marked, work(task))? {
+                return Ok(Search::Nothing);
+            }
+            find_by_guesses(alloc, task, marked, &lists, budget)
+        }
     }
 }
 
 // How many evaluations the climb has.
 fn evaluations<'a>(task: &Task<'a>) -> u64 {
-    let conditions = task.system.rules().len() as u64 + task.set.len() as u64;
-    let more = EVALUATIONS_FOR_EACH.saturating_mul(conditions);
+    let more = EVALUATIONS_FOR_EACH.saturating_mul(conditions(task));
     EVALUATIONS.saturating_add(more)
+}
+
+// How much work the search in ranges has.
+fn work<'a>(task: &Task<'a>) -> u64 {
+    let conditions = conditions(task);
+    let more = WORK_FOR_EACH_TWO.saturating_mul(conditions.saturating_mul(conditions));
+    WORK.saturating_add(more).min(MOST_WORK)
+}
+
+// How many rules and pairs there are.
+fn conditions<'a>(task: &Task<'a>) -> u64 {
+    task.system.rules().len() as u64 + task.set.len() as u64
 }
 
 // Guess by guess, beginning with these coefficients.

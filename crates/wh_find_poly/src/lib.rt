@@ -1,4 +1,4 @@
-//! The search for interpretations that let pairs go: a climb, and then guesses by a solver.
+//! The search for interpretations that let pairs go: a climb, then ranges of coefficients, and then guesses by a solver.
 #![tactic(auto)]
 
 mod bits;

@@ -1,13 +1,11 @@
 -- Sums, arguments and factors, as they are made item by item.
 use Rattle.std.specs.declared.alloc.AllocError.{AllocError}
-use Rattle.std.proofs.Common.{Result, Ok, Err, IfOk, ◌≡◌, ℕ, zero, suc, ◌+◌, ◌<◌, ◌≤◌, Bool, true, false, cond, List, [], ◌∷◌, ◌++◌, length, drop, get_or, All, Contains, refl, ap, ap₂, sym, subst, ◌∙◌, arith}
-use Rattle.std.proofs.lemmas.List.Elements.{All-head, All-tail}
+use Rattle.std.proofs.Common.{Result, Ok, Err, IfOk, ◌≡◌, ℕ, zero, suc, ◌+◌, ◌<◌, ◌≤◌, Bool, true, false, cond, List, [], ◌∷◌, ◌++◌, length, drop, get_or, refl, ap, ap₂, sym, ◌∙◌, arith}
 use Rattle.wh_types.specs.Ty.{Ty, sort, ◌⇒◌}
 use Rattle.wh_types.specs.Erase.{ty, tys}
 use Rattle.wh_types.specs.declared.simple_type.SimpleType.{SimpleType}
-use Rattle.wh_hopoly.specs.Polynomials.{Polynomial, zero_poly, plus, Factors, no_factors, times, Arguments, no_arguments, argument}
+use Rattle.wh_hopoly.specs.Polynomials.{Polynomial, zero_poly, plus, no_factors, times, Arguments, no_arguments, argument}
 use Rattle.wh_hopoly.specs.Arithmetic.{followed_by}
-use Rattle.wh_hopoly.specs.Moves.{MonomialAt}
 use Rattle.wh_hopoly.specs.Erase.{poly, atoms, polys, monomials, factors, list, sum_of, product_of, arguments_of}
 use Rattle.wh_hopoly.specs.declared.polynomial.Poly.{Poly}
 use Rattle.wh_hopoly.specs.declared.polynomial.Polys.{Polys}
@@ -18,7 +16,7 @@ use Rattle.wh_hopoly.proofs.Lists.{poly_is, atoms_is, polys_is}
 use Rattle.wh_hopoly.proofs.Pushes.{arguments_followed_by, sum_of_append, arguments_of_append}
 use Rattle.wh_hopoly.proofs.AddedLaws.{followed_assoc, followed_by_none}
 use Rattle.wh_hopoly.proofs.Walks.{drop_next}
-use Rattle.wh_guesses.specs.Space.{is_sort, variables_where, sum_of_variables, filled, space_of, HasMonomial}
+use Rattle.wh_guesses.specs.Space.{is_sort, variables_where, sum_of_variables, filled}
 
 -- arguments for the rest of a type are still to be made
 

@@ -1,6 +1,6 @@
 -- A guess whose first symbols are read by new lists.
 use Rattle.std.specs.Bool.{OnTrue}
-use Rattle.std.proofs.Common.{◌≡◌, ◌<◌, ℕ, zero, suc, List, [], ◌∷◌, Bool, true, false, not, Vec, Global, length, map, get_or, refl, ap, sym, ◌∙◌, arith}
+use Rattle.std.proofs.Common.{◌≡◌, ◌<◌, ℕ, zero, suc, List, [], ◌∷◌, Bool, true, false, Vec, Global, length, map, get_or, ap, arith}
 use Rattle.wh_system.specs.SystemView.{system_data}
 use Rattle.wh_polycheck.specs.declared.marks.MarkedSymbol.{MarkedSymbol}
 use Rattle.wh_guesses.specs.Reads.{AreReadBy, AreMarksBy}

@@ -19,3 +19,4 @@ pub mod LineLemmas
 pub mod ToldLemmas
 pub mod LimitLemmas
 pub mod NodeLemmas
+pub mod SetLemmas

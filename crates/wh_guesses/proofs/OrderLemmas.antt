@@ -1,6 +1,6 @@
 -- Spots that join one after another in the order of normal forms.
-use Rattle.std.proofs.Common.{◌≡◌, ◌≢◌, ℕ, zero, suc, ◌+◌, ◌<◌, ◌≤◌, ◌⊎◌, inl, inr, List, [], ◌∷◌, ◌++◌, length, All, Contains, refl, ap, sym, subst, ◌∙◌, arith}
-use Rattle.std.proofs.lemmas.List.Elements.{All-nil, All-cons, All-head, All-tail, All-contains, All-same, All-push, Contains-append_left, Contains-push}
+use Rattle.std.proofs.Common.{◌≡◌, ℕ, zero, suc, ◌+◌, ◌<◌, ◌≤◌, ◌⊎◌, inl, inr, List, [], ◌∷◌, ◌++◌, length, All, Contains, refl, ap, sym, subst, ◌∙◌, arith}
+use Rattle.std.proofs.lemmas.List.Elements.{All-nil, All-head, All-tail, All-contains, All-same, All-push, Contains-append_left, Contains-push}
 use Rattle.wh_types.specs.Ty.{Ty}
 use Rattle.wh_guesses.specs.Spots.{IsSpot, first_of, second_of, IsBefore, Ascends, AreSpotsTo, AreAllSpots}
 use Rattle.wh_guesses.specs.declared.space.Spot.{Spot}

@@ -1,10 +1,10 @@
 -- The polynomial of the chosen coefficients, with its monomials in the order of normal forms.
-use Rattle.std.proofs.Common.{◌≡◌, ◌≢◌, ℕ, zero, suc, ◌+◌, ◌<◌, ◌≤◌, ◌⊎◌, ◌↔◌, inl, inr, nat_lt, Bool, true, false, not, cond, List, [], ◌∷◌, ◌++◌, length, drop, get_or, All, Contains, Some, slice_get, refl, ap, ap₂, sym, subst, ◌∙◌, arith, Ordering, Less, Equal, Greater, nat_cmp}
+use Rattle.std.proofs.Common.{◌≡◌, ℕ, zero, suc, ◌+◌, ◌<◌, ◌≤◌, inl, inr, nat_lt, Bool, true, false, cond, List, [], ◌∷◌, ◌++◌, length, drop, get_or, All, Contains, Some, slice_get, refl, ap, ap₂, sym, subst, ◌∙◌, arith, Less, Equal, Greater, nat_cmp}
 use Rattle.std.specs.Ordering.{ordering_then}
 use Rattle.std.proofs.lemmas.Bool.Decides.{nat_tests}
 use Rattle.std.proofs.lemmas.List.Elements.{All-nil, All-cons, All-head, All-tail, All-contains}
 use Rattle.wh_types.specs.Ty.{Ty, sort, ◌⇒◌, arguments}
-use Rattle.wh_hopoly.specs.Polynomials.{Polynomial, zero_poly, plus, Factors, no_factors, times, Arguments, no_arguments, argument, HasType, compare_factors, compare_arguments, compare_factor, MonomialBefore, Normal, NormalFactors, NormalArguments, FactorBefore}
+use Rattle.wh_hopoly.specs.Polynomials.{Polynomial, zero_poly, plus, Factors, no_factors, times, Arguments, no_arguments, HasType, compare_factors, compare_arguments, MonomialBefore, Normal, NormalFactors, NormalArguments, FactorBefore}
 use Rattle.wh_hopoly.specs.Arithmetic.{followed_by}
 use Rattle.wh_hopoly.specs.Evaluation.{type_at}
 use Rattle.wh_hopoly.specs.Moves.{MonomialAt}
@@ -16,7 +16,7 @@ use Rattle.wh_hopoly.proofs.Lists.{poly_is}
 use Rattle.wh_hopoly.proofs.OrderLaws.{arguments_same}
 use Rattle.wh_hopoly.proofs.Pushes.{sum_of_append}
 use Rattle.wh_hopoly.proofs.ReplaceLaws.{at_left}
-use Rattle.wh_guesses.specs.Space.{is_sort, variables_where, sort_variables, sum_of_variables, filled, variable_before, alone, space_of, HasMonomial, IsOfSpace}
+use Rattle.wh_guesses.specs.Space.{is_sort, variables_where, sort_variables, sum_of_variables, filled, variable_before, alone, space_of, HasMonomial}
 use Rattle.wh_guesses.specs.Coefficients.{capped, HasCoefficients}
 use Rattle.wh_guesses.specs.Spots.{IsSpot, factors_at, first_of, second_of, IsBefore, Ascends, AreAllSpots, place}
 use Rattle.wh_guesses.specs.declared.space.Spot.{Spot}

@@ -1,13 +1,13 @@
 -- Places that are counted along a scope.
-use Rattle.std.proofs.Common.{◌≡◌, ℕ, zero, suc, ◌+◌, ◌-◌, ◌^◌, ◌<◌, ◌≤◌, ◌⊎◌, inl, inr, Bool, true, false, not, cond, min, nat_lt, List, [], ◌∷◌, ◌++◌, length, get_or, Some, slice_get, refl, ap, sym, subst, ◌∙◌, arith}
+use Rattle.std.proofs.Common.{◌≡◌, ℕ, zero, suc, ◌+◌, ◌-◌, ◌^◌, ◌<◌, ◌≤◌, ◌⊎◌, inl, inr, Bool, true, false, cond, min, nat_lt, List, [], ◌∷◌, length, get_or, Some, slice_get, refl, ap, sym, subst, ◌∙◌, arith}
 use Rattle.std.proofs.lemmas.Bool.Decides.{nat_tests}
 use Rattle.std.proofs.lemmas.List.{get_or_past}
 use Rattle.std.proofs.lemmas.Option.{slice_get_within, get_or_from_slice_get}
 use Rattle.wh_types.specs.Ty.{Ty}
 use Rattle.wh_guesses.specs.Coefficients.{capped}
 use Rattle.wh_hopoly.specs.Evaluation.{type_at}
-use Rattle.wh_guesses.specs.Space.{is_sort, variables_where, sort_variables, functional_variables}
-use Rattle.wh_guesses.specs.Spots.{IsSpot, IsSpotBelow, weight_before, sorts_before, functional_before, products_before, alone_place, row_place, place, IsUpTo, IsPlace, IsWalk, ArePlaces}
+use Rattle.wh_guesses.specs.Space.{is_sort, sort_variables, functional_variables}
+use Rattle.wh_guesses.specs.Spots.{IsSpot, IsSpotBelow, weight_before, sorts_before, functional_before, products_before, alone_place, row_place, place, IsUpTo, IsPlace, IsWalk}
 use Rattle.wh_guesses.specs.declared.space.Spot.{Spot}
 use Rattle.wh_guesses.specs.declared.space.Spot.TheVariants.{Constant, One, Two}
 use Rattle.wh_guesses.specs.declared.places.Place.{Place}

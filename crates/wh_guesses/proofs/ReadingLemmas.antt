@@ -1,24 +1,22 @@
 -- What is read in rules and in pairs.
-use Rattle.std.proofs.Common.{◌≡◌, ℕ, zero, suc, ◌+◌, ◌<◌, ◌≤◌, ◌⊎◌, ◌↔◌, inl, inr, List, [], ◌∷◌, ◌++◌, length, map, take, get_or, Some, slice_get, All, Contains, refl, ap, sym, subst, ◌∙◌, arith}
+use Rattle.std.proofs.Common.{◌≡◌, ℕ, ◌+◌, ◌<◌, ◌⊎◌, ◌↔◌, inl, inr, List, [], ◌∷◌, ◌++◌, length, map, Some, slice_get, Contains, refl, ap, sym, subst, ◌∙◌, arith}
 use Rattle.std.proofs.lemmas.Option.{slice_get_within}
 use Rattle.std.proofs.lemmas.List.{length-append}
-use Rattle.std.proofs.lemmas.List.Elements.{All-contains, Contains-push_cases, Contains-append_left, Contains-push}
+use Rattle.std.proofs.lemmas.List.Elements.{Contains-push_cases, Contains-append_left, Contains-push}
 use Rattle.wh_types.specs.Ty.{Ty}
-use Rattle.wh_terms.specs.Tree.{Tm, bound, free, fun, meta, lam, app, Tms, none, more, tms_of}
+use Rattle.wh_terms.specs.Tree.{Tm, Tms, none, more, tms_of}
 use Rattle.wh_terms.specs.Typing.{Symbols, Declared, Typed, typed_bound, typed_free, typed_fun, typed_meta, typed_lam, typed_app, AllTyped, typed_none, typed_more}
-use Rattle.wh_terms.specs.Rules.{RewriteRule, AreWellMade}
+use Rattle.wh_terms.specs.Rules.{RewriteRule}
 use Rattle.wh_system.specs.Systems.{SystemData}
 use Rattle.wh_system.specs.WellMade.{IsWellMadeSystem}
 use Rattle.wh_system.specs.PairData.{PairData, IsIncreasing, pair_data}
 use Rattle.wh_system.specs.SystemView.{system_data}
-use Rattle.wh_system.proofs.ByPlace.{contains_at, some_one}
+use Rattle.wh_system.proofs.ByPlace.{contains_at}
 use Rattle.wh_system.proofs.Increasing.{one_place}
-use Rattle.wh_subterm.specs.Marked.{HeadsASide}
 use Rattle.wh_hopoly.specs.Polynomials.{zero_poly}
-use Rattle.wh_polycheck.specs.Marks.{Mark, HasMark, HasMarkedSides}
+use Rattle.wh_polycheck.specs.Marks.{Mark}
 use Rattle.wh_meaning.specs.Covering.{HaveTypedSides}
-use Rattle.wh_guesses.specs.Conditions.{Condition, IsCondition, of_rule, of_pair, of_set, HasSymbol, SomeHasSymbol, StandsInPair, ReadsNumber}
-use Rattle.wh_guesses.specs.Guesses.{IsTask}
+use Rattle.wh_guesses.specs.Conditions.{Condition, IsCondition, of_rule, of_pair, of_set, HasSymbol, SomeHasSymbol, StandsInPair}
 use Rattle.wh_guesses.specs.Readings.{Joins, ListsAll, ReadsAll, StandsInRule, IsMarkOf, AreRuleReadings, ArePairReadings}
 use Rattle.wh_guesses.specs.Tasks.{IsTaskOf}
 use Rattle.wh_guesses.specs.Weighing.{IsReading, AreReadings}

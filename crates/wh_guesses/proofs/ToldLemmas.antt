@@ -1,5 +1,5 @@
 -- What is told of a condition under a guess.
-use Rattle.std.proofs.Common.{◌≡◌, ℕ, ◌+◌, List, Bool, true, false, Some, slice_get, map, length, Result, Ok, Err, IfOk, refl, sym, subst}
+use Rattle.std.proofs.Common.{◌≡◌, ℕ, ◌+◌, List, Bool, true, false, Some, slice_get, map, length, Result, Ok, Err, IfOk, sym, subst}
 use Rattle.std.specs.Bool.{OnTrue}
 use Rattle.std.specs.declared.alloc.AllocError.{AllocError}
 use Rattle.wh_types.specs.Outcome.{IfBecause, MatchOr}

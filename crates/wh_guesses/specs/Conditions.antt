@@ -1,8 +1,9 @@
 -- The conditions under which interpretations let a pair of a set go, one by one, and what is read in each.
 use Rattle.std.specs.Prelude.{ℕ, ◌+◌, ◌<◌, ◌≡◌, ◌⊎◌, List, Some, length, Bool, true, false, Contains, slice_get}
-use Rattle.wh_terms.specs.Tree.{Tm, bound, free, fun, meta, lam, app, Tms, none, more, tms_of}
+use Rattle.wh_terms.specs.Tree.{Tm, fun, meta, lam, app, Tms, none, more, tms_of}
 use Rattle.wh_terms.specs.Typing.{Symbols}
 use Rattle.wh_terms.specs.Rules.{RewriteRule}
+use Rattle.wh_system.specs.Systems.{SystemData}
 use Rattle.wh_system.specs.PairData.{PairData}
 use Rattle.wh_subterm.specs.Marked.{HeadsASide}
 use Rattle.wh_hopoly.specs.Polynomials.{Polynomial}
@@ -11,6 +12,7 @@ use Rattle.wh_hopoly.specs.Moves.{Transfer}
 use Rattle.wh_polycheck.specs.Marks.{Mark}
 use Rattle.wh_meaning.specs.Covering.{rule_run, pair_run, CoversSides}
 use Rattle.wh_covering.specs.Lines.{IsSide}
+use Rattle.wh_guesses.specs.Coefficients.{AreOfSpace}
 
 -- a condition: that a rule is covered, that a pair is, or that some pair of the set is covered strictly (ours)
 pub data Condition : Type 0 where
@@ -88,3 +90,9 @@ module _ (S : Symbols) (rules : List RewriteRule) (pairs : List PairData) (set :
   -- the interpretations let a pair of the set go: all conditions hold (ours)
   abbrev pub LetsGo : Type 0
   LetsGo = (k : ℕ) (c : Condition) → IsCondition rules pairs set k c → Meets c
+
+-- no interpretation of the space lets a pair of the set go (ours)
+abbrev pub HasNoInterpretation : SystemData → List PairData → List ℕ → Type 0
+HasNoInterpretation d pairs set =
+    (symbols : List Interpretation) (marks : List Mark) → AreOfSpace d.symbols d.rules pairs set symbols marks
+    → LetsGo d.symbols d.rules pairs set symbols marks → ⊥

@@ -1,5 +1,5 @@
 -- Lines of moves that are found for the rules and for the pairs of a set.
-use Rattle.std.specs.Prelude.{ℕ, ◌≡◌, ◌↔◌, List, length, Bool, true, false, IsTrue, Some, All, Contains, slice_get}
+use Rattle.std.specs.Prelude.{ℕ, ◌≡◌, ◌↔◌, List, length, true, false, IsTrue, Some, All, Contains, slice_get}
 use Rattle.wh_terms.specs.Typing.{Symbols}
 use Rattle.wh_terms.specs.Rules.{RewriteRule}
 use Rattle.wh_system.specs.PairData.{PairData, IsIncreasing}

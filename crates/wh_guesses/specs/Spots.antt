@@ -1,5 +1,5 @@
 -- Spots of a scope: which variables a monomial has, where it stands in the space, and in which order normal forms have it.
-use Rattle.std.specs.Prelude.{ℕ, zero, suc, ◌+◌, ◌<◌, ◌≤◌, ◌≡◌, ◌≢◌, ◌⊎◌, ◌^◌, ◌-◌, nat_lt, Bool, not, List, [], ◌∷◌, ◌++◌, map, length, if◌then◌else◌, All, Contains, Some, slice_get}
+use Rattle.std.specs.Prelude.{ℕ, zero, suc, ◌+◌, ◌<◌, ◌≤◌, ◌≡◌, ◌≢◌, ◌⊎◌, ◌^◌, ◌-◌, nat_lt, List, [], ◌∷◌, ◌++◌, map, length, if◌then◌else◌, All, Contains, Some, slice_get}
 use Rattle.wh_types.specs.Ty.{Ty}
 use Rattle.wh_hopoly.specs.Polynomials.{Factors, no_factors}
 use Rattle.wh_hopoly.specs.Evaluation.{type_at}

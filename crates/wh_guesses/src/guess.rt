@@ -155,8 +155,8 @@ fn is_same(a: &[u8], b: &[u8]) -> bool
     a == b
 }
 
-// Reads anew what has the number.
-fn change_at<'a>(
+/// Reads anew what has the number: a symbol, or behind all symbols a marked one.
+pub fn change_at<'a>(
     alloc: Global,
     task: &Task<'a>,
     guess: &mut Guess,

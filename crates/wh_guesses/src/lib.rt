@@ -13,9 +13,12 @@ mod task;
 mod terms;
 mod testing;
 
-pub use guess::{arguments_of, change_guess, change_mark, change_symbol, guess_by, sizes_of};
+pub use guess::{
+    arguments_of, change_at, change_guess, change_mark, change_symbol, guess_by, sizes_of,
+};
 pub use node::{Weighing, node_of_guess};
 pub use readings::{Reading, readings_of};
+pub use sides::{pair_side, rule_side};
 pub use space::{MAX_COEFFICIENT, Spot};
 pub use spots::spots_of;
 pub use task::{Guess, Task};

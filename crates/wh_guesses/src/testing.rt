@@ -1,7 +1,7 @@
 //! What a condition is under a guess.
 
 ghost use Rattle.std.specs.Bool.{OnTrue};
-ghost use Rattle.std.specs.Prelude.{◌≡◌, ◌<◌, IfOk, Some, false, true, length, slice_get};
+ghost use Rattle.std.specs.Prelude.{◌≡◌, ◌↔◌, ◌<◌, IfOk, IsTrue, Some, false, true, length, map, slice_get};
 ghost use Rattle.wh_terms.specs.Rules.{RewriteRule};
 ghost use Rattle.wh_system.specs.PairData.{pair_data};
 ghost use Rattle.wh_system.specs.SystemView.{system_data};
@@ -12,6 +12,8 @@ ghost use Rattle.wh_polycheck.specs.SideResults.{marks_of};
 ghost use Rattle.wh_polycheck.specs.Sides.{Interprets};
 ghost use Rattle.wh_meaning.specs.Covering.{pair_run, rule_run};
 ghost use Rattle.wh_covering.specs.Lines.{IsSomeSide};
+ghost use Rattle.wh_guesses.specs.Conditions.{IsMet, Meets, some_strictly};
+ghost use Rattle.wh_guesses.specs.Guesses.{IsGuess, IsTask};
 ghost use Rattle.wh_guesses.specs.Lines.{IsNotMet};
 ghost use Rattle.wh_guesses.specs.Weighing.{Fails};
 ghost use Rattle.wh_guesses.specs.Tasks.{IsGuessOf, IsTaskOf};
@@ -136,8 +138,8 @@ fn is_greater(alloc: Global, left: &Poly, right: &Poly) -> Result<bool, AllocErr
     }
 }
 
-/// Whether the condition with that number fails under the guess: that of a rule, or behind these that of a pair of the set. Of
-/// any other number nothing is said.
+/// Whether the condition with that number fails under the guess: that of a rule, behind these that of a pair of the set, or last
+/// that some pair of the set is covered strictly. Of any other number nothing is said.
 pub fn fails<'a>(
     alloc: Global,
     task: &Task<'a>,
@@ -157,6 +159,16 @@ pub fn fails<'a>(
     if place < task.set.len() {
         let pair = &task.pairs[task.set[place] as usize];
         return pair_fails(alloc, task.system, &guess.symbols, &guess.marks, pair);
+    }
+    if place == task.set.len() {
+        return set_fails(
+            alloc,
+            task.system,
+            task.pairs,
+            task.set,
+            &guess.symbols,
+            &guess.marks,
+        );
     }
     Ok(false)
 }
@@ -193,4 +205,48 @@ fn pair_fails(
         (pair_run (system_data system.now).symbols (system_data system.now).rules (interpretations symbols.now) (marks_of marks.now) (pair_data pair.now) true))) }
 {
     Ok(pair_line(alloc, system, symbols, marks, pair)?.is_none())
+}
+
+// Whether no pair of the set is covered strictly.
+fn set_fails(
+    alloc: Global,
+    system: &System,
+    pairs: &[Pair],
+    set: &[u32],
+    symbols: &[Symbol],
+    marks: &[MarkedSymbol],
+) -> Result<bool, AllocError>
+    requires task { IsTask (system_data system.now).symbols (system_data system.now).rules (map pair_data pairs.now) set.now }
+    requires guess { IsGuess (system_data system.now).symbols (system_data system.now).rules (map pair_data pairs.now) set.now symbols.now marks.now }
+    ensures { IfOk result (λ told. OnTrue told (Meets (system_data system.now).symbols (system_data system.now).rules (map pair_data pairs.now) set.now
+        (interpretations symbols.now) (marks_of marks.now) some_strictly → ⊥)) }
+{
+    for number in set {
+        let pair = &pairs[*number as usize];
+        if is_strict_pair(alloc, system, symbols, marks, pair)? {
+            return Ok(false);
+        }
+    }
+    Ok(true)
+}
+
+// Whether moves cover the pair strictly.
+fn is_strict_pair(
+    alloc: Global,
+    system: &System,
+    symbols: &[Symbol],
+    marks: &[MarkedSymbol],
+    pair: &Pair,
+) -> Result<bool, AllocError>
+    requires interpreted { Interprets (system_data system.now).symbols (interpretations symbols.now) }
+    requires normal { NormalInterpretations (interpretations symbols.now) }
+    requires marks { AreNormalMarks (system_data system.now).symbols (system_data system.now).rules (marks_of marks.now) }
+    requires sides { HasMarkedSides (system_data system.now).symbols (system_data system.now).rules (marks_of marks.now) (pair_data pair.now) }
+    ensures { IfOk result (λ told. IsTrue told ↔ IsMet (pair_run (system_data system.now).symbols (system_data system.now).rules (interpretations symbols.now) (marks_of marks.now) (pair_data pair.now) false)
+        (pair_run (system_data system.now).symbols (system_data system.now).rules (interpretations symbols.now) (marks_of marks.now) (pair_data pair.now) true) true) }
+{
+    match pair_line(alloc, system, symbols, marks, pair)? {
+        Some(line) => Ok(line.strict),
+        None => Ok(false),
+    }
 }

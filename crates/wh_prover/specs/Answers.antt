@@ -9,7 +9,7 @@ use Rattle.wh_cert.specs.Said.{said}
 use Rattle.wh_cert.specs.Written.{Cert, yes, no}
 use Rattle.wh_sat_trail.specs.declared.literal.Literal.{Literal}
 use Rattle.wh_find_subterm.specs.Found.{IsSpent}
-use Rattle.wh_find_poly.specs.Answers.{HasNoInterpretation}
+use Rattle.wh_guesses.specs.Conditions.{HasNoInterpretation}
 use Rattle.wh_find_poly.specs.Answers as tried
 use Rattle.wh_loops.specs.Space.{HasNoLoop}
 use Rattle.wh_loops.specs.Found.{IsLoopCertificate}

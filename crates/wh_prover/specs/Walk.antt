@@ -6,7 +6,7 @@ use Rattle.wh_cert.specs.Written as w
 use Rattle.wh_cert.specs.Written.{Preorder}
 use Rattle.wh_cert.specs.Limits.{ArgFits, NodeFits, NodeWithin}
 use Rattle.wh_find_subterm.specs.Found.{IsSpent}
-use Rattle.wh_find_poly.specs.Answers.{HasNoInterpretation}
+use Rattle.wh_guesses.specs.Conditions.{HasNoInterpretation}
 use Rattle.wh_find_poly.specs.Answers as tried
 use Rattle.wh_subterm.specs.Projections.{Chosen}
 use Rattle.wh_checker.specs.Looked.{SayChoices}

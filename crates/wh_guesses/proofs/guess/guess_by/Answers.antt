@@ -1,11 +1,8 @@
-use Rattle.std.proofs.Common.{◌≡◌, List, ℕ, length, map, ap, sym, subst, ◌∙◌, arith}
+use Rattle.std.proofs.Common.{◌≡◌, length, map, ap, sym, ◌∙◌}
 use Rattle.std.proofs.lemmas.List.{length-map}
-use Rattle.wh_types.specs.Erase.{ty, tys}
-use Rattle.wh_system.specs.PairData.{pair_data}
+use Rattle.wh_types.specs.Erase.{ty}
 use Rattle.wh_system.specs.SystemView.{system_data}
-use Rattle.wh_subterm.specs.Marked.{AreMarked}
-use Rattle.wh_guesses.specs.Reads.{list_of}
-use Rattle.wh_guesses.proofs.ReadLemmas.{all_read, all_marks, have_coefficients}
+use Rattle.wh_guesses.proofs.ReadLemmas.{have_coefficients}
 use Rattle.wh_guesses.proofs.guess.guess_by.Goals as goal
 
 pub returns-clause-lists : goal.returns-clause-lists

@@ -1,5 +1,5 @@
 use Rattle.std.proofs.Common.{◌≡◌, ◌+◌, ◌++◌, ◌∷◌, [], length, map, get_or, ap, sym, ◌∙◌, arith}
-use Rattle.std.proofs.lemmas.List.{take_more, length-append}
+use Rattle.std.proofs.lemmas.List.{take_more}
 use Rattle.wh_types.specs.Erase.{tys}
 use Rattle.wh_system.specs.SystemView.{system_data}
 use Rattle.wh_guesses.specs.Reads.{IsMarkBy, list_of}

@@ -1,5 +1,4 @@
-use Rattle.std.proofs.Common.{◌≡◌, ◌+◌, ◌++◌, ◌∷◌, [], List, ℕ, length, map, ap, ap₂, sym, subst, ◌∙◌, arith}
-use Rattle.std.proofs.lemmas.List.{length-append}
+use Rattle.std.proofs.Common.{◌++◌, ◌∷◌, [], map, ap, ap₂, sym, ◌∙◌}
 use Rattle.wh_types.specs.Erase.{ty, tys}
 use Rattle.wh_types.specs.Ty.{arguments}
 use Rattle.wh_guesses.specs.Reads.{IsReadBy, list_of}

@@ -1,4 +1,4 @@
-use Rattle.std.proofs.Common.{refl, map}
+use Rattle.std.proofs.Common.{map}
 use Rattle.wh_system.specs.SystemView.{system_data}
 use Rattle.wh_system.specs.PairData.{pair_data}
 use Rattle.wh_guesses.proofs.GuessLemmas.{guess_same}

@@ -1,7 +1,6 @@
 use Rattle.std.proofs.Common.{◌+◌, ◌≡◌, ◌<◌, suc, length, ap, sym, subst, ◌∙◌, arith}
-use Rattle.std.proofs.lemmas.List.{length-map, length-append}
+use Rattle.std.proofs.lemmas.List.{length-map}
 use Rattle.wh_types.specs.Erase.{ty, tys}
-use Rattle.wh_hopoly.specs.Evaluation.{type_at}
 use Rattle.wh_guesses.specs.Space.{is_sort}
 use Rattle.wh_guesses.specs.Spots.{IsPlace, IsWalk}
 use Rattle.wh_guesses.proofs.PushLemmas.{each_push}

@@ -1,4 +1,4 @@
-use Rattle.std.proofs.Common.{◌≡◌, ◌<◌, ℕ, length, Some, slice_get}
+use Rattle.std.proofs.Common.{◌≡◌, length}
 use Rattle.wh_types.specs.Erase.{tys}
 use Rattle.wh_guesses.specs.Spots.{IsPlace, IsWalk}
 use Rattle.wh_guesses.proofs.PushLemmas.{EachAt}

@@ -1,4 +1,4 @@
-use Rattle.std.proofs.Common.{ℕ, Result, Ok, Err, refl, subst}
+use Rattle.std.proofs.Common.{ℕ, Result, Err, refl, subst}
 use Rattle.std.specs.List.Sorted.{IsBinarySearchResult}
 use Rattle.std.specs.Ordering.{nat_cmp}
 use Rattle.wh_system.proofs.Increasing.{search_misses}

@@ -1,6 +1,5 @@
 use Rattle.std.proofs.Common.{List, length, ap, subst, ◌∙◌}
 use Rattle.wh_terms.specs.Rules.{RewriteRule}
-use Rattle.wh_system.specs.SystemView.{system_data}
 use Rattle.wh_guesses.specs.Readings.{AreRuleReadings}
 use Rattle.wh_guesses.proofs.ReadingLemmas.{all_readings}
 use Rattle.wh_guesses.proofs.readings.readings_of.Goals as goal

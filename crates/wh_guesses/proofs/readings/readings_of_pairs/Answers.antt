@@ -1,5 +1,4 @@
-use Rattle.std.proofs.Common.{◌≡◌, ◌⊎◌, inl, inr, ℕ, length, map, get_or, Some, slice_get, refl, ap, sym, subst, ◌∙◌, arith}
-use Rattle.std.proofs.lemmas.List.{length-map}
+use Rattle.std.proofs.Common.{◌≡◌, ◌⊎◌, inl, inr, ℕ, map, get_or, Some, slice_get, refl, ap, sym, subst, ◌∙◌, arith}
 use Rattle.wh_system.specs.PairData.{PairData, pair_data}
 use Rattle.wh_system.proofs.ByPlace.{read_map, number_at, contains_number, some_one}
 use Rattle.wh_guesses.specs.Conditions.{StandsInPair}

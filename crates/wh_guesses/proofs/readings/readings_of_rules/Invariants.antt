@@ -1,4 +1,4 @@
-use Rattle.std.proofs.Common.{◌≡◌, ℕ, length, Some, slice_get}
+use Rattle.std.proofs.Common.{◌≡◌, length, Some, slice_get}
 use Rattle.wh_terms.specs.Rules.{RewriteRule}
 use Rattle.wh_terms.specs.Erase.{rewrite_rules}
 use Rattle.wh_guesses.specs.Readings.{ReadsAll, StandsInRule}

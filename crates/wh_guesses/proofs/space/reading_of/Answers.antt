@@ -1,9 +1,9 @@
-use Rattle.std.proofs.Common.{◌≡◌, ◌+◌, ◌∷◌, List, length, drop, get_or, ap, sym, subst, ◌∙◌}
+use Rattle.std.proofs.Common.{◌≡◌, ◌+◌, List, drop, get_or, ap, sym, subst, ◌∙◌}
 use Rattle.std.proofs.lemmas.List.{get_or_default}
-use Rattle.std.proofs.lemmas.List.Elements.{All-same, All-get_or}
+use Rattle.std.proofs.lemmas.List.Elements.{All-get_or}
 use Rattle.wh_types.specs.Erase.{tys}
 use Rattle.wh_hopoly.specs.Arithmetic.{followed_by}
-use Rattle.wh_hopoly.specs.Erase.{atoms, monomials, poly, sum_of}
+use Rattle.wh_hopoly.specs.Erase.{atoms, monomials, sum_of}
 use Rattle.wh_hopoly.specs.declared.polynomial.Monomial.{out-roll-Monomial}
 use Rattle.wh_hopoly.proofs.Walks.{drop_next}
 use Rattle.wh_guesses.specs.Coefficients.{HasCoefficients}

@@ -1,10 +1,10 @@
-use Rattle.std.proofs.Common.{◌≡◌, ◌+◌, ◌∷◌, [], ◌++◌, suc, length, ap, sym, subst, refl, ◌∙◌, arith}
+use Rattle.std.proofs.Common.{◌≡◌, ◌+◌, suc, ap, sym, subst, refl, ◌∙◌, arith}
 use Rattle.std.proofs.lemmas.List.{length-map}
 use Rattle.wh_types.specs.Erase.{ty, tys}
 use Rattle.wh_guesses.specs.Space.{is_sort}
 use Rattle.wh_guesses.specs.Spots.{AreSpotsTo}
 use Rattle.wh_guesses.specs.declared.space.Spot.TheVariants.{Two}
-use Rattle.wh_guesses.proofs.OrderLemmas.{spots_push, no_product, row_ends, behind_alone}
+use Rattle.wh_guesses.proofs.OrderLemmas.{spots_push, no_product, row_ends}
 use Rattle.wh_guesses.proofs.SpaceLemmas.{type_there, differ, do_not_differ}
 use Rattle.wh_guesses.proofs.spots.add_products.Goals as goal
 use Rattle.wh_guesses.proofs.spots.add_products.Goals.{then-is_sort+in_ok-push, else-is_sort}

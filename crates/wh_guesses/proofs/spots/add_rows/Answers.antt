@@ -1,4 +1,4 @@
-use Rattle.std.proofs.Common.{◌≡◌, ◌++◌, map, take, get_or, append_assoc, ap, sym, ◌∙◌}
+use Rattle.std.proofs.Common.{◌++◌, map, take, get_or, append_assoc, ap, sym, ◌∙◌}
 use Rattle.wh_guesses.specs.Spots.{spot_of_two, rows_of}
 use Rattle.wh_guesses.proofs.SpotLemmas.{rows_more}
 use Rattle.wh_guesses.proofs.spots.add_rows.Goals as goal

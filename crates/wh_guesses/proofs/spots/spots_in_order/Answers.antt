@@ -1,4 +1,4 @@
-use Rattle.std.proofs.Common.{◌<◌, suc, length, refl, arith}
+use Rattle.std.proofs.Common.{suc, refl, arith}
 use Rattle.std.proofs.lemmas.List.{length-map}
 use Rattle.wh_types.specs.Erase.{ty, tys}
 use Rattle.wh_guesses.specs.declared.space.Spot.TheVariants.{One}

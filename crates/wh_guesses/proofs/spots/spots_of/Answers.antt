@@ -1,8 +1,7 @@
-use Rattle.std.proofs.Common.{◌≡◌, ◌++◌, ◌∷◌, [], List, ℕ, map, append_assoc, ap, ap₂, sym, subst, ◌∙◌}
+use Rattle.std.proofs.Common.{◌++◌, ◌∷◌, [], List, ℕ, map, ap, ap₂, ◌∙◌}
 use Rattle.std.proofs.lemmas.List.Elements.{All-same}
 use Rattle.wh_types.specs.Erase.{tys}
-use Rattle.wh_guesses.specs.Space.{sort_variables, functional_variables}
-use Rattle.wh_guesses.specs.Spots.{IsSpot, factors_at, rows_of, spots_by}
+use Rattle.wh_guesses.specs.Spots.{IsSpot, factors_at, rows_of}
 use Rattle.wh_guesses.specs.declared.space.Spot.{Spot}
 use Rattle.wh_guesses.specs.declared.space.Spot.TheVariants.{Constant, One}
 use Rattle.wh_guesses.proofs.SpotLemmas.{spots_made, spots_are, space_of_spots}

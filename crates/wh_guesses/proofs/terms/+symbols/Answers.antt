@@ -1,4 +1,4 @@
-use Rattle.std.proofs.Common.{List, ℕ, ◌+◌, drop, OnOk, sym, ap, subst, ◌∙◌}
+use Rattle.std.proofs.Common.{List, ◌+◌, drop, OnOk, sym, ap, subst}
 use Rattle.std.proofs.Math.ListN.{drop_of_length-le}
 use Rattle.wh_terms.specs.Tree.{Tm, app}
 use Rattle.wh_terms.specs.Erase.{tm, tms}

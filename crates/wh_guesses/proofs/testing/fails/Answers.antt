@@ -6,6 +6,7 @@ use Rattle.wh_system.specs.SystemView.{system_data}
 use Rattle.wh_guesses.proofs.GuessLemmas.{guess_same, guess_normal, guess_normal_marks, guess_interprets, guess_sides}
 use Rattle.wh_terms.specs.Erase.{rewrite_rule}
 use Rattle.wh_covering.proofs.Walks.{some_at}
+use Rattle.wh_guesses.proofs.SetLemmas.{set_told}
 use Rattle.wh_guesses.proofs.ToldLemmas.{rule_told, pair_told}
 use Rattle.wh_guesses.proofs.testing.fails.Goals as goal
 
@@ -92,3 +93,9 @@ returns-then-place-task c =
     c.deref-then-place-task.ensures.value c.deref-then-place-task-2.ensures.value
     (omega (arith, c.if-number-rules.false, ap length c.rules-rules.ensures, length-map c.rules-rules.result.now rewrite_rule))
     (number_at set i c.if-place-task.true) (map_at pair_data pairs n c.index-task-task.result (omega (arith, below, length-map pairs pair_data))) c.pair_fails.ensures
+
+pub returns-then-place-task-2 : goal.returns-then-place-task-2
+returns-then-place-task-2 c =
+    set_told c.args.task.now c.args.guess.now c.args.number c.set_fails.result c.deref-then-place-task-2-2.result.now c.deref-then-place-task-2-3.result.now
+    c.deref-then-place-task-2-2.ensures.value c.deref-then-place-task-2-3.ensures.value
+    (omega (arith, c.if-number-rules.false, c.if-place-task-2.true, ap length c.rules-rules.ensures, length-map c.rules-rules.result.now rewrite_rule)) c.set_fails.ensures

@@ -1,5 +1,4 @@
-use Rattle.std.proofs.Common.{◌≡◌, true, false, rules}
-use Rattle.std.specs.Option.{is_none}
+use Rattle.std.proofs.Common.{true, false, rules}
 use Rattle.wh_hopoly.specs.Erase.{interpretations, transfers}
 use Rattle.wh_meaning.specs.Covering.{rule_run}
 use Rattle.wh_guesses.specs.Lines.{IsLine, IsNotMet}

@@ -1,0 +1,4 @@
+pub mod Saturated
+pub mod WeightLaws
+pub mod GrowthValues
+pub mod Growth

@@ -1,0 +1,6 @@
+pub mod Uniqueness
+pub mod Lists
+pub mod OutLemmas
+pub mod Kept
+pub mod Whole
+pub mod Spans

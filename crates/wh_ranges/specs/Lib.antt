@@ -1,0 +1,3 @@
+pub mod Excluded
+pub mod Bounds
+pub mod Out

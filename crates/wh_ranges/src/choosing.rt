@@ -1,0 +1,140 @@
+//! Where ranges are split. Answers rest on none of this.
+
+ghost use Rattle.std.specs.Prelude.{OnOk, map};
+ghost use Rattle.wh_system.specs.PairData.{pair_data};
+ghost use Rattle.wh_subterm.specs.Marked.{AreMarked};
+ghost use Rattle.wh_guesses.specs.Tasks.{IsTaskOf};
+ghost use Rattle.wh_ranges.specs.Bounds.{AreRanges, IsBound};
+
+use crate::bounds::{Bound, Coefficient, End, Ranges, copy_lists};
+use crate::narrowing::Goal;
+use crate::plan::{Plan, Work};
+use crate::testing::fails_at;
+use std::alloc::{AllocError, Global};
+use wh_guesses::Task;
+
+/// A coefficient at which ranges may be split: whether the condition is mended where it alone is at its upper end, and in how many
+/// conditions its list is read.
+#[derive(Clone, Copy)]
+pub struct Candidate {
+    at: Coefficient,
+    mends: bool,
+    weight: usize,
+}
+
+/// The coefficient at which the ranges are split: one on the left side of a condition that fails at the lower ends, since only more there
+/// can help. None where no condition is seen to fail, or no work is left.
+pub fn place_to_split<'a>(
+    alloc: Global,
+    task: &Task<'a>,
+    marked: &[u32],
+    plan: &Plan,
+    work: &mut Work,
+    ranges: &Ranges,
+    strict: usize,
+) -> Result<Option<Coefficient>, AllocError>
+    requires task { IsTaskOf task.now }
+    requires marked { AreMarked (map pair_data task.now.pairs.now) task.now.set.now marked.now }
+    requires ranges { AreRanges task.now ranges.now }
+{
+    for number in 0..plan.readings.len() {
+        if work.is_spent() {
+            return Ok(None);
+        }
+        if fails_at(alloc, task, work, &ranges.low.guess, number, strict)? {
+            let goal = Goal { number, strict };
+            let lists = copy_lists(alloc, &ranges.low.lists)?;
+            let mut probe = Bound::by(alloc, task, marked, lists)?;
+            return place_for(alloc, task, plan, work, ranges, goal, &mut probe);
+        }
+    }
+    Ok(None)
+}
+
+// The best open coefficient on the left side of the condition. The probe has the lower ends.
+fn place_for<'a>(
+    alloc: Global,
+    task: &Task<'a>,
+    plan: &Plan,
+    work: &mut Work,
+    ranges: &Ranges,
+    goal: Goal,
+    probe: &mut Bound,
+) -> Result<Option<Coefficient>, AllocError>
+    requires task { IsTaskOf task.now }
+    requires probe { IsBound task.now probe.old }
+    ensures probe { OnOk result (IsBound task.now probe.new) }
+{
+    let mut best = None;
+    for number in plan.read_at(goal.number, End::Low) {
+        let weight = plan.weight_of(*number);
+        best = best_in_list(
+            alloc, task, work, ranges, goal, probe, *number, weight, best,
+        )?;
+    }
+    Ok(best.map(|candidate| candidate.at))
+}
+
+// The best so far, and the open coefficients of the list with the number.
+fn best_in_list<'a>(
+    alloc: Global,
+    task: &Task<'a>,
+    work: &mut Work,
+    ranges: &Ranges,
+    goal: Goal,
+    probe: &mut Bound,
+    number: usize,
+    weight: usize,
+    best: Option<Candidate>,
+) -> Result<Option<Candidate>, AllocError>
+    requires task { IsTaskOf task.now }
+    requires probe { IsBound task.now probe.old }
+    ensures probe { OnOk result (IsBound task.now probe.new) }
+{
+    let mut best = best;
+    for place in 0..ranges.high.count(number) {
+        let at = Coefficient { number, place };
+        if ranges.low.at(at) < ranges.high.at(at) {
+            let mends = is_mended(alloc, task, work, ranges, goal, probe, at)?;
+            best = Some(better(best, Candidate { at, mends, weight }));
+        }
+    }
+    Ok(best)
+}
+
+// Whether the condition is not seen to fail where the coefficient is at its upper end, and all others are at their lower ends.
+fn is_mended<'a>(
+    alloc: Global,
+    task: &Task<'a>,
+    work: &mut Work,
+    ranges: &Ranges,
+    goal: Goal,
+    probe: &mut Bound,
+    at: Coefficient,
+) -> Result<bool, AllocError>
+    requires task { IsTaskOf task.now }
+    requires probe { IsBound task.now probe.old }
+    ensures probe { OnOk result (IsBound task.now probe.new) }
+{
+    probe.set(alloc, task, at, ranges.high.at(at))?;
+    let fails = fails_at(alloc, task, work, &probe.guess, goal.number, goal.strict)?;
+    probe.set(alloc, task, at, ranges.low.at(at))?;
+    Ok(!fails)
+}
+
+// The better one of two: one that mends, then one that is read in more conditions, then the first.
+fn better(best: Option<Candidate>, other: Candidate) -> Candidate {
+    match best {
+        Some(best) if is_better(best, other) => best,
+        _ => other,
+    }
+}
+
+// Whether the first is at least as good as the second.
+fn is_better(best: Candidate, other: Candidate) -> bool {
+    if best.mends == other.mends {
+        best.weight >= other.weight
+    } else {
+        best.mends
+    }
+}
