@@ -29,11 +29,11 @@ const EVALUATIONS_FOR_EACH: u64 = 50;
 
 // How much work the search in ranges has: so much, and so much more for each rule or pair beside each other, since each pair is asked to
 // be covered strictly and that may go through all; and no more than so much.
-const WORK: u64 = 50_000;
+const WORK: u64 = 150_000;
 
-const WORK_FOR_EACH_TWO: u64 = 5;
+const WORK_FOR_EACH_TWO: u64 = 15;
 
-const MOST_WORK: u64 = 1_000_000;
+const MOST_WORK: u64 = 6_000_000;
 
 /// Interpretations under which no rule and no pair of the set grows and some pair shrinks (the reduction pair processor of Kop 2012
 /// with the polynomials of Fuhs and Kop 2012; the search is ours).

@@ -17,10 +17,10 @@ use wh_guesses::{Guess, Task, pair_side, rule_side};
 use wh_hopoly::Poly;
 
 // How much work it is where a value exceeds a limit.
-const EXCEEDING: u64 = 500;
+const EXCEEDING: u64 = 2_000;
 
 // How many monomials of both sides are as much work as looking at a condition.
-const MONOMIALS: usize = 8;
+const MONOMIALS: usize = 2;
 
 /// Whether numbers show that the condition with the number is not met under the guess.
 pub fn fails_at<'a>(
