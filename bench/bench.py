@@ -247,6 +247,15 @@ def round_by_identities(symbols):
     return f"sort nat;\nfun s : nat -> nat;\n{funs}{rules}"
 
 
+def round_in_vain(symbols):
+    """The same ring where no argument gets smaller: nothing lets a pair go, and an interpretation is looked for in vain."""
+    funs = "".join(f"fun f{i} : nat -> nat;\nfun i{i} : nat -> nat;\n" for i in range(symbols))
+    rules = "".join(
+        f"rule {{X:nat}} i{i} X => X;\nrule {{X:nat}} f{i} X => f{(i + 1) % symbols} (i{i} X);\n" for i in range(symbols)
+    )
+    return f"sort nat;\n{funs}{rules}"
+
+
 def many_terms(places):
     """A constant that becomes a term of size 3 a place, each place with a step of its own; beside it a pair that nothing lets go."""
     term = "a"
@@ -358,10 +367,14 @@ def main():
     cases.append(("prove most-pairs", "4096 pairs", most_pairs, 4096))
     for symbols in (25, 50, 100, 200):
         cases.append(("prove identities", f"{2 * symbols} rules", round_by_identities, symbols))
+    for symbols in (25, 50, 100, 200):
+        cases.append(("prove in vain", f"{2 * symbols} rules", round_in_vain, symbols))
     for terms in (2500, 5000, 10000):
         cases.append(("prove many terms", f"{terms} terms", lambda _count: many_terms(32), terms))
     for example in sorted((HERE.parent / "examples").glob("*.afs")):
         cases.append(("prove example", example.stem, lambda _count, file=example: file.read_text(), 0))
+    for system in sorted((HERE / "systems").glob("*.afs")):
+        cases.append(("prove system", system.stem, lambda _count, file=system: file.read_text(), 0))
     with tempfile.TemporaryDirectory() as name:
         folder = pathlib.Path(name)
         for what, size, maker, count in cases:

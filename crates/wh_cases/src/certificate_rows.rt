@@ -1,8 +1,10 @@
 //! Texts of certificates, and the places of their faults.
 
+use crate::asking::{Asked, expect_answer, expect_answers};
 use std::alloc::{AllocError, Global};
+use std::process::Abort;
 use std::test::Fail;
-use wh_cert::{print_certificate, read_certificate};
+use wh_cert::{Certificate, print_certificate, read_certificate};
 use wh_text::print_number;
 use wh_types::{Bytes, Or};
 
@@ -40,109 +42,134 @@ const TEXTS: &[&[u8]] = &[
     b"YES 1\nranks\npairs 0\npoly\ndrop\ndone\nend\n",
 ];
 
+/// Texts with the places of their faults.
+const FAULTS: &[(Asked, &[u8])] = &[
+    (
+        Asked::Certificate(b"NO 1\nterm a\nstep 0 /\nstep 1 /\nat /\nend\nx"),
+        b"39",
+    ),
+    (
+        Asked::Certificate(b"NO 1\nterm a\nat /\nput %65536:o a\nend\n"),
+        b"26",
+    ),
+    // a rank with a leading zero, and one past the greatest number
+    (Asked::Certificate(b"YES 1\nranks 00"), b"13"),
+    (Asked::Certificate(b"YES 1\nranks 65536"), b"16"),
+    // a node behind the last one, and none where one is wanted
+    (
+        Asked::Certificate(b"YES 1\nranks\npairs 0\ndone\ndone\nend\n"),
+        b"25",
+    ),
+    (
+        Asked::Certificate(b"YES 1\nranks\npairs 0\nblocks 1\nblock\nend\n"),
+        b"35",
+    ),
+    // a block too few, a byte behind the end, and another version
+    (
+        Asked::Certificate(b"YES 1\nranks\npairs 0\nblocks 1\ndone\nend\n"),
+        b"29",
+    ),
+    (
+        Asked::Certificate(b"YES 1\nranks\npairs 0\ndone\nend\n\n"),
+        b"29",
+    ),
+    (Asked::Certificate(b"YES 2"), b"4"),
+    // a digit behind the polynomial 0, a coefficient of 2^128, a variable's number that is too great, none, no units, and lines
+    // in another order
+    (
+        Asked::Certificate(b"YES 1\nranks\npairs 0\npoly\nfun f 01\n"),
+        b"32",
+    ),
+    (
+        Asked::Certificate(
+            b"YES 1\nranks\npairs 0\npoly\nfun f 340282366920938463463374607431768211456\n",
+        ),
+        b"69",
+    ),
+    (
+        Asked::Certificate(b"YES 1\nranks\npairs 0\npoly\nfun f 1*y65536\n"),
+        b"38",
+    ),
+    (
+        Asked::Certificate(b"YES 1\nranks\npairs 0\npoly\nfun f 1*0\n"),
+        b"33",
+    ),
+    (
+        Asked::Certificate(b"YES 1\nranks\npairs 0\npoly\nrule 0>0:0\n"),
+        b"34",
+    ),
+    (
+        Asked::Certificate(b"YES 1\nranks\npairs 0\npoly\nrule\nmark f 0\n"),
+        b"30",
+    ),
+];
+
+/// The text of a certificate.
+fn add_certificate(
+    alloc: Global,
+    out: &mut Bytes,
+    certificate: &Certificate,
+) -> Result<(), AllocError> {
+    let text = print_certificate(alloc, certificate)?;
+    out.append(text.as_slice())
+}
+
+/// The digits of a number.
+fn add_place(out: &mut Bytes, number: u64) -> Result<(), AllocError> {
+    match u32::try_from(number) {
+        Ok(number) => print_number(out, number),
+        Err(_) => Err(AllocError),
+    }
+}
+
 /// The text of the certificate that is read, or the place of the fault.
-fn read_text(alloc: Global, bytes: &[u8]) -> Result<Bytes, AllocError> {
+pub fn add_read(alloc: Global, out: &mut Bytes, bytes: &[u8]) -> Result<(), AllocError> {
     if bytes.len() > 8_388_608 {
         return Err(AllocError);
     }
     match read_certificate(alloc, bytes) {
-        Ok(certificate) => print_certificate(alloc, &certificate),
-        Err(Or::Because(fault)) => number_text(alloc, fault.at),
+        Ok(certificate) => add_certificate(alloc, out, &certificate),
+        Err(Or::Because(fault)) => add_place(out, fault.at),
         Err(Or::NoMemory) => Err(AllocError),
     }
-}
-
-/// The digits of a number.
-fn number_text(alloc: Global, number: u64) -> Result<Bytes, AllocError> {
-    let mut out = Bytes::new(alloc)?;
-    print_number(&mut out, u32::try_from(number).or(Err(AllocError))?)?;
-    Ok(out)
 }
 
 #[test]
 fn reads_what_it_prints(rt: HostRuntime) -> Result<(), Fail> {
     for text in TEXTS {
-        let found = read_text(rt.alloc(), *text)?;
-        assert_eq!(rt; found.as_slice(), *text);
+        expect_answer(&rt, rt.alloc(), Asked::Certificate(*text), *text)?;
     }
     Ok(())
 }
 
+/// The fault of a front part of a certificate is at its end.
+fn expect_fault_at_end(rt: &impl Abort, alloc: Global, front: &[u8]) -> Result<(), AllocError> {
+    let mut expected = Bytes::new(alloc)?;
+    add_place(&mut expected, front.len() as u64)?;
+    expect_answer(rt, alloc, Asked::Certificate(front), expected.as_slice())
+}
+
+/// The fault of each front part of a certificate is at its end.
+fn expect_faults_at_ends(rt: &impl Abort, alloc: Global, text: &[u8]) -> Result<(), AllocError> {
+    for length in 0..text.len() {
+        expect_fault_at_end(rt, alloc, &text[..length])?;
+    }
+    Ok(())
+}
+
+/// Texts of which each front part is read.
+const WHOLE: &[&[u8]] = &[LOOP, PUT, SUBTERM, BLOCKS, POLY];
+
 #[test]
 fn every_front_is_at_fault_at_its_end(rt: HostRuntime) -> Result<(), Fail> {
-    let alloc = rt.alloc();
-    for text in [LOOP, PUT, SUBTERM, BLOCKS, POLY] {
-        for length in 0..text.len() {
-            let found = read_text(alloc, &text[..length])?;
-            let expected = number_text(alloc, length as u64)?;
-            assert_eq!(rt; found.as_slice(), expected.as_slice());
-        }
+    for text in WHOLE {
+        expect_faults_at_ends(&rt, rt.alloc(), *text)?;
     }
     Ok(())
 }
 
 #[test]
 fn tells_the_place_of_a_fault(rt: HostRuntime) -> Result<(), Fail> {
-    for (text, expected) in [
-        (
-            b"NO 1\nterm a\nstep 0 /\nstep 1 /\nat /\nend\nx".as_slice(),
-            b"39".as_slice(),
-        ),
-        (
-            b"NO 1\nterm a\nat /\nput %65536:o a\nend\n".as_slice(),
-            b"26".as_slice(),
-        ),
-        // a rank with a leading zero, and one past the greatest number
-        (b"YES 1\nranks 00".as_slice(), b"13".as_slice()),
-        (b"YES 1\nranks 65536".as_slice(), b"16".as_slice()),
-        // a node behind the last one, and none where one is wanted
-        (
-            b"YES 1\nranks\npairs 0\ndone\ndone\nend\n".as_slice(),
-            b"25".as_slice(),
-        ),
-        (
-            b"YES 1\nranks\npairs 0\nblocks 1\nblock\nend\n".as_slice(),
-            b"35".as_slice(),
-        ),
-        // a block too few, a byte behind the end, and another version
-        (
-            b"YES 1\nranks\npairs 0\nblocks 1\ndone\nend\n".as_slice(),
-            b"29".as_slice(),
-        ),
-        (
-            b"YES 1\nranks\npairs 0\ndone\nend\n\n".as_slice(),
-            b"29".as_slice(),
-        ),
-        (b"YES 2".as_slice(), b"4".as_slice()),
-        // a digit behind the polynomial 0, a coefficient of 2^128, a variable's number that is too great, none, no units, and lines
-        // in another order
-        (
-            b"YES 1\nranks\npairs 0\npoly\nfun f 01\n".as_slice(),
-            b"32".as_slice(),
-        ),
-        (
-            b"YES 1\nranks\npairs 0\npoly\nfun f 340282366920938463463374607431768211456\n".as_slice(),
-            b"69".as_slice(),
-        ),
-        (
-            b"YES 1\nranks\npairs 0\npoly\nfun f 1*y65536\n".as_slice(),
-            b"38".as_slice(),
-        ),
-        (
-            b"YES 1\nranks\npairs 0\npoly\nfun f 1*0\n".as_slice(),
-            b"33".as_slice(),
-        ),
-        (
-            b"YES 1\nranks\npairs 0\npoly\nrule 0>0:0\n".as_slice(),
-            b"34".as_slice(),
-        ),
-        (
-            b"YES 1\nranks\npairs 0\npoly\nrule\nmark f 0\n".as_slice(),
-            b"30".as_slice(),
-        ),
-    ] {
-        let found = read_text(rt.alloc(), text)?;
-        assert_eq!(rt; found.as_slice(), expected);
-    }
+    expect_answers(&rt, rt.alloc(), FAULTS)?;
     Ok(())
 }

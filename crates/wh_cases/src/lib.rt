@@ -6,6 +6,10 @@
 #![tactic(auto)]
 
 #[cfg(test)]
+mod asking;
+#[cfg(test)]
+mod calls;
+#[cfg(test)]
 mod certificate_rows;
 #[cfg(test)]
 mod list_rows;

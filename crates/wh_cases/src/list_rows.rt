@@ -33,21 +33,52 @@ fn parts_of_a_type(rt: HostRuntime) -> Result<(), Fail> {
     Ok(())
 }
 
-#[test]
-fn lists_keep_what_is_pushed(rt: HostRuntime) -> Result<(), Fail> {
-    let alloc = rt.alloc();
+/// Bytes that are pushed in both ways.
+fn pushed_bytes(alloc: Global) -> Result<Bytes, AllocError> {
     let mut bytes = Bytes::new(alloc)?;
     bytes.append(b"ye")?;
     bytes.push(b's')?;
-    assert_eq!(rt; bytes.as_slice(), b"yes".as_slice());
+    Ok(bytes)
+}
+
+/// One number.
+fn pushed_number(alloc: Global) -> Result<Numbers, AllocError> {
     let mut numbers = Numbers::new(alloc)?;
     numbers.push(70000)?;
-    assert_eq!(rt; numbers.as_slice(), [70000].as_slice());
+    Ok(numbers)
+}
+
+/// Whether the bytes are kept.
+fn keeps_bytes(alloc: Global) -> Result<bool, AllocError> {
+    let bytes = pushed_bytes(alloc)?;
+    Ok(bytes.as_slice() == b"yes".as_slice())
+}
+
+/// Whether the number is kept.
+fn keeps_numbers(alloc: Global) -> Result<bool, AllocError> {
+    let numbers = pushed_number(alloc)?;
+    Ok(numbers.as_slice() == [70000].as_slice())
+}
+
+/// A block of one number and an empty one.
+fn add_blocks(alloc: Global, blocks: &mut Blocks) -> Result<(), AllocError> {
+    blocks.push(pushed_number(alloc)?)?;
+    blocks.push(Numbers::new(alloc)?)
+}
+
+/// Whether the blocks are kept, by their lengths.
+fn keeps_blocks(alloc: Global) -> Result<bool, AllocError> {
     let mut blocks = Blocks::new(alloc)?;
-    blocks.push(numbers)?;
-    blocks.push(Numbers::new(alloc)?)?;
+    add_blocks(alloc, &mut blocks)?;
     let lengths = blocks.as_slice().iter().map(|block| block.as_slice().len());
-    assert!(rt; lengths.eq([1, 0]));
+    Ok(lengths.eq([1, 0]))
+}
+
+#[test]
+fn lists_keep_what_is_pushed(rt: HostRuntime) -> Result<(), Fail> {
+    assert!(rt; keeps_bytes(rt.alloc())?);
+    assert!(rt; keeps_numbers(rt.alloc())?);
+    assert!(rt; keeps_blocks(rt.alloc())?);
     Ok(())
 }
 

@@ -3,8 +3,10 @@
 
 ghost use Rattle.std.specs.Prelude.{None};
 
+use crate::asking::expect_text;
 use std::alloc::{AllocError, Global};
 use std::fs;
+use std::process::Abort;
 use std::test::Fail;
 use wh_io::{
     Failed, FileShelf, MemoryShelf, MemorySink, ReadFault, Shelf, Sink, StdSink, read_whole,
@@ -31,24 +33,58 @@ fn told(outcome: &Result<Bytes, Or<ReadFault>>) -> (usize, &'static str) {
     }
 }
 
-#[test]
-fn reads_up_to_the_limit(rt: HostRuntime) -> Result<(), Fail> {
-    let alloc = rt.alloc();
-    let mut shelf = MemoryShelf::new(alloc, &[])?;
+/// The number of bytes that are read of a file, and why none were.
+fn told_of<S: Shelf>(
+    alloc: Global,
+    shelf: &mut S,
+    name: &str,
+    limit: u64,
+) -> (usize, &'static str) {
+    let read = read_whole(alloc, shelf, name, limit);
+    told(&read)
+}
+
+/// Whether these bytes are read.
+fn reads<S: Shelf>(alloc: Global, shelf: &mut S, name: &str, limit: u64, text: &[u8]) -> bool {
+    let read = read_whole(alloc, shelf, name, limit);
+    matches!(&read, Ok(bytes) if bytes.as_slice() == text)
+}
+
+/// Three files, of which the last one takes the place of the first.
+fn add_files(shelf: &mut MemoryShelf) -> Result<(), AllocError> {
     shelf.add_file("a", b"earlier")?;
     shelf.add_file("b", b"other")?;
-    shelf.add_file("a", b"later")?;
-    let read = read_whole(alloc, &mut shelf, "a", 5);
-    assert!(rt; matches!(&read, Ok(bytes) if bytes.as_slice() == b"later".as_slice()));
-    for (name, limit, want) in [
-        ("a", u64::MAX, (5, "")),
-        ("b", 5, (5, "")),
-        ("b", 4, (0, "too long")),
-        ("b", 0, (0, "too long")),
-        ("c", 5, (0, "failed")),
-    ] {
-        let read = read_whole(alloc, &mut shelf, name, limit);
-        assert!(rt; told(&read) == want, "{name} {limit}");
+    shelf.add_file("a", b"later")
+}
+
+/// Compares what is told; the name and the number say of which row.
+fn expect_told(
+    rt: &impl Abort,
+    name: &str,
+    number: u64,
+    found: (usize, &str),
+    want: (usize, &str),
+) {
+    assert!(rt; found == want, "{name} {number}");
+}
+
+/// Files and limits, with what is told of the reading.
+const LIMITS: &[(&str, u64, (usize, &str))] = &[
+    ("a", u64::MAX, (5, "")),
+    ("b", 5, (5, "")),
+    ("b", 4, (0, "too long")),
+    ("b", 0, (0, "too long")),
+    ("c", 5, (0, "failed")),
+];
+
+#[test]
+fn reads_up_to_the_limit(rt: HostRuntime) -> Result<(), Fail> {
+    let mut shelf = MemoryShelf::new(rt.alloc(), &[])?;
+    add_files(&mut shelf)?;
+    assert!(rt; reads(rt.alloc(), &mut shelf, "a", 5, b"later"));
+    for (name, limit, want) in LIMITS {
+        let found = told_of(rt.alloc(), &mut shelf, *name, *limit);
+        expect_told(&rt, *name, *limit, found, *want);
     }
     Ok(())
 }
@@ -60,20 +96,30 @@ fn failing_shelf(alloc: Global, text: &[u8], failing: u64) -> Result<MemoryShelf
     Ok(shelf)
 }
 
+/// What is told of the text on a shelf that fails at that read.
+fn told_of_failing(
+    alloc: Global,
+    text: &[u8],
+    failing: u64,
+) -> Result<(usize, &'static str), AllocError> {
+    let mut shelf = failing_shelf(alloc, text, failing)?;
+    Ok(told_of(alloc, &mut shelf, "a", 1_000_000))
+}
+
+/// Reads that fail, with what is told. A text of three pieces takes four reads: the last one gives none.
+const FAILURES: &[(u64, (usize, &str))] = &[
+    (0, (0, "failed")),
+    (2, (0, "failed")),
+    (3, (0, "failed")),
+    (4, (150_000, "")),
+];
+
 #[test]
 fn fails_at_the_stated_reads(rt: HostRuntime) -> Result<(), Fail> {
-    let alloc = rt.alloc();
-    let text = long_text(alloc)?;
-    // A text of three pieces takes four reads: the last one gives none.
-    for (failing, want) in [
-        (0, (0, "failed")),
-        (2, (0, "failed")),
-        (3, (0, "failed")),
-        (4, (150_000, "")),
-    ] {
-        let mut shelf = failing_shelf(alloc, text.as_slice(), failing)?;
-        let read = read_whole(alloc, &mut shelf, "a", 1_000_000);
-        assert!(rt; told(&read) == want, "failing {failing}");
+    let text = long_text(rt.alloc())?;
+    for (failing, want) in FAILURES {
+        let found = told_of_failing(rt.alloc(), text.as_slice(), *failing)?;
+        expect_told(&rt, "failing", *failing, found, *want);
     }
     Ok(())
 }
@@ -100,10 +146,29 @@ impl Shelf for Endless {
 fn asks_for_one_byte_past_the_limit(rt: HostRuntime) {
     for limit in [0, 10, 65_535, 65_536, 100_000] {
         let mut shelf = Endless { asked: 0 };
-        let read = read_whole(rt.alloc(), &mut shelf, "a", limit);
-        assert!(rt; told(&read) == (0, "too long"), "limit {limit}");
+        let found = told_of(rt.alloc(), &mut shelf, "a", limit);
+        expect_told(&rt, "limit", limit, found, (0, "too long"));
         assert_eq!(rt; shelf.asked, limit + 1);
     }
+}
+
+/// Compares whether all is written, and what is.
+fn expect_written(
+    rt: &impl Abort,
+    sink: &mut MemorySink,
+    want: bool,
+    written: &[u8],
+    failing: u64,
+) {
+    let all = write_all_of(sink, b"yesterday").is_ok();
+    assert!(rt; all == want, "failing {failing}");
+    expect_text(rt, sink.bytes(), written);
+}
+
+/// Whether a sink with no room takes nothing.
+fn full_takes_nothing(alloc: Global) -> Result<bool, AllocError> {
+    let mut full = MemorySink::new(alloc, 1, 0, &[])?;
+    Ok(matches!(full.put(b""), Ok(0)))
 }
 
 #[test]
@@ -116,25 +181,28 @@ fn writes_all_or_a_front_part(rt: HostRuntime) -> Result<(), Fail> {
         (3, 4, 99, false, "yest"),
     ] {
         let mut sink = MemorySink::new(rt.alloc(), most, room, &[failing])?;
-        let all = write_all_of(&mut sink, b"yesterday").is_ok();
-        assert_eq!(rt; all, want, "failing {failing}");
-        assert_eq!(rt; sink.bytes(), written.as_bytes(), "failing {failing}");
+        expect_written(&rt, &mut sink, want, written.as_bytes(), failing);
     }
-    let mut full = MemorySink::new(rt.alloc(), 1, 0, &[])?;
-    assert!(rt; matches!(full.put(b""), Ok(0)));
+    assert!(rt; full_takes_nothing(rt.alloc())?);
     Ok(())
 }
 
 #[test]
 fn reads_a_real_file(rt: HostRuntime) -> Result<(), Fail> {
-    let alloc = rt.alloc();
-    let text = long_text(alloc)?;
+    let text = long_text(rt.alloc())?;
     fs::write(&rt, "wh_cases.tmp", text.as_slice())?;
     let mut shelf = FileShelf::new(&rt);
-    let read = read_whole(alloc, &mut shelf, "wh_cases.tmp", 150_000);
-    assert!(rt; matches!(&read, Ok(bytes) if bytes.as_slice() == text.as_slice()));
-    let missing = read_whole(alloc, &mut shelf, "wh_cases.none", 150_000);
-    assert!(rt; told(&missing) == (0, "failed"));
+    assert!(rt;
+        reads(
+            rt.alloc(),
+            &mut shelf,
+            "wh_cases.tmp",
+            150_000,
+            text.as_slice()
+        )
+    );
+    let missing = told_of(rt.alloc(), &mut shelf, "wh_cases.none", 150_000);
+    expect_told(&rt, "missing", 150_000, missing, (0, "failed"));
     fs::remove_file(&rt, "wh_cases.tmp")?;
     Ok(())
 }

@@ -29,25 +29,33 @@ fn pairs_in(alloc: Global, text: &[u8]) -> Result<PairList, AllocError> {
     pairs(alloc, &system).map_err(|_| AllocError)
 }
 
-/// Whether the one pair of the first system is subsumed by that of the second.
-fn is_subsumed(alloc: Global, first: &[u8], second: &[u8]) -> Result<bool, AllocError> {
-    let a = pairs_in(alloc, first)?;
-    let b = pairs_in(alloc, second)?;
-    match (a.as_slice(), b.as_slice()) {
-        ([a], [b]) => Ok(subsumed(a, b)),
+/// Whether the one pair of the first list is subsumed by that of the second.
+fn list_is_subsumed(first: &PairList, second: &PairList) -> Result<bool, AllocError> {
+    match (first.as_slice(), second.as_slice()) {
+        ([first], [second]) => Ok(subsumed(first, second)),
         _ => Err(AllocError),
     }
 }
 
+/// Whether the one pair of the first system is subsumed by that of the second.
+fn is_subsumed(alloc: Global, first: &[u8], second: &[u8]) -> Result<bool, AllocError> {
+    let first = pairs_in(alloc, first)?;
+    let second = pairs_in(alloc, second)?;
+    list_is_subsumed(&first, &second)
+}
+
+/// Systems, with whether the pair of the first is subsumed by that of the second.
+const SUBSUMED: &[(&[u8], &[u8], bool)] = &[
+    (BOTH, FREE, true),
+    (FREE, BOTH, false),
+    (BOTH, SECOND, true),
+    (OTHER, FREE, false),
+];
+
 #[test]
 fn fewer_conditions_subsume(rt: HostRuntime) -> Result<(), Fail> {
-    for (first, second, expected) in [
-        (BOTH, FREE, true),
-        (FREE, BOTH, false),
-        (BOTH, SECOND, true),
-        (OTHER, FREE, false),
-    ] {
-        assert_eq!(rt; is_subsumed(rt.alloc(), first, second)?, expected);
+    for (first, second, expected) in SUBSUMED {
+        assert!(rt; is_subsumed(rt.alloc(), *first, *second)? == *expected);
     }
     Ok(())
 }

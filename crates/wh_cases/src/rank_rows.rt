@@ -21,10 +21,11 @@ ghost use Rattle.wh_access.specs.Samples.{
 };
 ghost use Rattle.wh_laws.specs.Ranks.{rank_of};
 
-use crate::reading::system_of;
+use crate::asking::{Asked, Question, expect_answers};
 use std::alloc::{AllocError, Global};
 use std::test::Fail;
 use wh_access::{NoRanks, check_ranks, find_ranks};
+use wh_system::System;
 use wh_text::print_number;
 use wh_types::{Bytes, Or, Ranks};
 
@@ -90,53 +91,59 @@ fn add_ranks(out: &mut Bytes, ranks: &Ranks) -> Result<(), AllocError> {
     Ok(())
 }
 
-/// The ranks that are found for a system, or why there are none.
-fn ranks_text(alloc: Global, text: &[u8]) -> Result<Bytes, AllocError> {
-    let system = system_of(alloc, text)?;
-    let mut out = Bytes::new(alloc)?;
-    match find_ranks(alloc, &system) {
-        Ok(ranks) => {
-            out.append(if check_ranks(&system, &ranks).is_ok() {
-                b"ranks"
-            } else {
-                b"fails"
-            })?;
-            add_ranks(&mut out, &ranks)?;
-        }
-        Err(Or::Because(NoRanks::Cycle(sorts))) => {
-            out.append(b"cycle")?;
-            add_numbers(&mut out, sorts.as_slice())?;
-        }
-        Err(Or::Because(NoRanks::Unread { rule, meta })) => {
-            out.append(b"unread")?;
-            add_numbers(&mut out, &[rule, meta])?;
-        }
-        Err(Or::NoMemory) => return Err(AllocError),
+/// A word, and numbers behind it.
+fn add_words(out: &mut Bytes, word: &[u8], numbers: &[u32]) -> Result<(), AllocError> {
+    out.append(word)?;
+    add_numbers(out, numbers)
+}
+
+/// The ranks, behind what their check says.
+fn add_checked(out: &mut Bytes, passes: bool, ranks: &Ranks) -> Result<(), AllocError> {
+    out.append(if passes { b"ranks" } else { b"fails" })?;
+    add_ranks(out, ranks)
+}
+
+/// Why there are no ranks.
+fn add_cause(out: &mut Bytes, cause: &NoRanks) -> Result<(), AllocError> {
+    match cause {
+        NoRanks::Cycle(sorts) => add_words(out, b"cycle", sorts.as_slice()),
+        NoRanks::Unread { rule, meta } => add_words(out, b"unread", &[*rule, *meta]),
     }
-    Ok(out)
+}
+
+/// The ranks that are found for a system, or why there are none.
+pub fn add_found_ranks(alloc: Global, out: &mut Bytes, system: &System) -> Result<(), AllocError> {
+    match find_ranks(alloc, system) {
+        Ok(ranks) => add_checked(out, check_ranks(system, &ranks).is_ok(), &ranks),
+        Err(Or::Because(cause)) => add_cause(out, &cause),
+        Err(Or::NoMemory) => Err(AllocError),
+    }
 }
 
 /// Systems with the ranks that are found.
-const FOUND: &[(&[u8], &[u8])] = &[
+const FOUND: &[(Asked, &[u8])] = &[
     // no sorts, no ranks
-    (b"", b"ranks"),
+    (Asked::In(b"", Question::Ranks), b"ranks"),
     // the sorts 0 and 1 demand each other, and 2 strictly 0: a rank counts the sorts that come before
     (
-        b"sort s;sort t;sort u;fun p:u->u;fun q:(u->u)->s;fun r:s->t;fun v:t->s;fun d:u->u;fun e:s->u->u;fun f:t->s;fun g:s->t;rule {X:u} d (p X) => X;rule {F:[u]u,X:u} e (q (\\x:u.F[x])) X => F[X];rule {X:s} f (r X) => X;rule {X:t} g (v X) => X;",
+        Asked::In(
+            b"sort s;sort t;sort u;fun p:u->u;fun q:(u->u)->s;fun r:s->t;fun v:t->s;fun d:u->u;fun e:s->u->u;fun f:t->s;fun g:s->t;rule {X:u} d (p X) => X;rule {F:[u]u,X:u} e (q (\\x:u.F[x])) X => F[X];rule {X:s} f (r X) => X;rule {X:t} g (v X) => X;",
+            Question::Ranks,
+        ),
         b"ranks 2 2 0",
     ),
     // the sort 1 demands 2 strictly, which leads back by 3; the sort 0 comes before these
     (
-        b"sort z;sort s;sort t;sort u;fun p:(s->s)->t;fun q:t->u;fun r:u->s;fun v:(z->z)->s;fun d:t->s->s;fun e:u->t;fun f:s->u;fun g:s->z->z;rule {F:[s]s,X:s} d (p (\\x:s.F[x])) X => F[X];rule {X:t} e (q X) => X;rule {X:u} f (r X) => X;rule {F:[z]z,X:z} g (v (\\x:z.F[x])) X => F[X];",
+        Asked::In(
+            b"sort z;sort s;sort t;sort u;fun p:(s->s)->t;fun q:t->u;fun r:u->s;fun v:(z->z)->s;fun d:t->s->s;fun e:u->t;fun f:s->u;fun g:s->z->z;rule {F:[s]s,X:s} d (p (\\x:s.F[x])) X => F[X];rule {X:t} e (q X) => X;rule {X:u} f (r X) => X;rule {F:[z]z,X:z} g (v (\\x:z.F[x])) X => F[X];",
+            Question::Ranks,
+        ),
         b"cycle 2 3 1",
     ),
 ];
 
 #[test]
 fn finds_ranks(rt: HostRuntime) -> Result<(), Fail> {
-    for (text, expected) in FOUND {
-        let found = ranks_text(rt.alloc(), *text)?;
-        assert_eq!(rt; found.as_slice(), *expected);
-    }
+    expect_answers(&rt, rt.alloc(), FOUND)?;
     Ok(())
 }

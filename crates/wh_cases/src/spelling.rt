@@ -1,7 +1,7 @@
 //! Terms and types as texts: a bound variable is `#` with its number, a symbol `f` with its number, and a type shows the
 //! numbers of its sorts. A meta-variable is not shown with its arguments.
 
-use std::alloc::{AllocError, Global};
+use std::alloc::AllocError;
 use wh_terms::Term;
 use wh_text::print_number;
 use wh_types::{Bytes, SimpleType};
@@ -54,11 +54,9 @@ pub fn spell(out: &mut Bytes, term: &Term) -> Result<(), AllocError> {
 }
 
 /// The text of a term, or `none`.
-pub fn spelled(alloc: Global, term: Option<&Term>) -> Result<Bytes, AllocError> {
-    let mut out = Bytes::new(alloc)?;
+pub fn spell_option(out: &mut Bytes, term: Option<&Term>) -> Result<(), AllocError> {
     match term {
-        Some(term) => spell(&mut out, term)?,
-        None => out.append(b"none")?,
+        Some(term) => spell(out, term),
+        None => out.append(b"none"),
     }
-    Ok(out)
 }

@@ -23,19 +23,34 @@ fn applied(alloc: Global, stack: &mut Vec<Term>) -> Result<Term, AllocError> {
     Ok(Term::App(Box::new(alloc, last(stack)?)?, argument))
 }
 
+/// The last term goes into a list.
+fn move_last(stack: &mut Vec<Term>, items: &mut Terms) -> Result<(), AllocError> {
+    items.push(last(stack)?)
+}
+
 /// A meta-variable with the last term.
 fn with_one(alloc: Global, stack: &mut Vec<Term>, meta: u32) -> Result<Term, AllocError> {
     let mut items = Terms::new(alloc)?;
-    items.push(last(stack)?)?;
+    move_last(stack, &mut items)?;
     Ok(Term::Meta(meta, items))
+}
+
+/// The last two terms change their places.
+fn exchange(stack: &mut Vec<Term>) -> Result<(), AllocError> {
+    let count = stack.len();
+    if count < 2 {
+        return Err(AllocError);
+    }
+    stack.swap(count - 2, count - 1);
+    Ok(())
 }
 
 /// A meta-variable with the last two terms, in their order.
 fn with_two(alloc: Global, stack: &mut Vec<Term>, meta: u32) -> Result<Term, AllocError> {
-    let second = last(stack)?;
+    exchange(stack)?;
     let mut items = Terms::new(alloc)?;
-    items.push(last(stack)?)?;
-    items.push(second)?;
+    move_last(stack, &mut items)?;
+    move_last(stack, &mut items)?;
     Ok(Term::Meta(meta, items))
 }
 
@@ -80,14 +95,27 @@ pub fn repeated(
     Ok(text)
 }
 
+/// The text of a tree makes one of two such trees.
+fn double(text: &mut Vec<u8>) -> Result<(), AllocError> {
+    let half = text.clone()?;
+    text.extend_from_slice(half.as_slice())?;
+    text.push(b'@')?;
+    Ok(())
+}
+
+/// A tree that branches at each of the levels joins an empty text.
+fn add_balanced(text: &mut Vec<u8>, levels: u32) -> Result<(), AllocError> {
+    text.push(b'a')?;
+    for _ in 0..levels {
+        double(text)?;
+    }
+    Ok(())
+}
+
 /// The text of a tree that branches at each of the levels: of size 2^(levels + 1) - 1.
 pub fn balanced(alloc: Global, levels: u32, end: &[u8]) -> Result<Vec<u8>, AllocError> {
-    let mut text = Vec::from_slice(alloc, b"a".as_slice())?;
-    for _ in 0..levels {
-        let half = text.clone()?;
-        text.extend_from_slice(half.as_slice())?;
-        text.push(b'@')?;
-    }
+    let mut text = Vec::new(alloc);
+    add_balanced(&mut text, levels)?;
     text.extend_from_slice(end)?;
     Ok(text)
 }

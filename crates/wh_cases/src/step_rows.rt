@@ -1,12 +1,18 @@
 //! Rows of steps, over systems and certificates that are read from texts.
 
-use crate::reading::{certificate_of, system_of, term_in};
-use crate::spelling::{spell, spelled};
+ghost use Rattle.wh_terms.specs.Erase.{tm};
+ghost use Rattle.wh_terms.specs.Measures.{Fits};
+ghost use Rattle.wh_terms.specs.Sight.{IsTerm, LooseBelow};
+
+use crate::asking::{Asked, Question, expect_answer, expect_answers};
+use crate::calls::Call;
+use crate::spelling::{spell, spell_option};
 use std::alloc::{AllocError, Global};
+use std::process::Abort;
 use std::test::Fail;
-use wh_cert::NoCertificate;
 use wh_step::{StepFault, reducts, replay, step_at};
 use wh_system::System;
+use wh_terms::{Step, Term};
 use wh_text::print_number;
 use wh_types::Bytes;
 
@@ -31,136 +37,244 @@ const EXCHANGE: &[u8] =
 const FUNCTIONS: &[u8] =
     b"sort o;fun q:o->o->o;fun n:(o->o->o)->o;fun p:(o->o->o)->o;rule {F:[o]o->o} n (\\x:o.F[x]) => p (\\x:o.F[x]);";
 
-/// A system, a term of it in a certificate, and the reducts of the term in their order, each behind a blank.
-const REDUCTS: &[(&[u8], &[u8], &[u8])] = &[
+/// A system, a term of it in a certificate, and the reducts of the term.
+const REDUCTS: &[(Asked, &[u8])] = &[
     // by preorder
     (
-        UNDER_BINDER,
-        b"NO 1\nterm ((\\$0:o.(g $0)) (g %0:o))\nat /\nend\n",
+        Asked::In(
+            UNDER_BINDER,
+            Question::Call(
+                Call::Reducts,
+                b"NO 1\nterm ((\\$0:o.(g $0)) (g %0:o))\nat /\nend\n",
+            ),
+        ),
         b" (f1 (f1 %0:0)) (\\0.(f0 \\0.(f1 #0)) (f1 %0:0)) (\\0.(f1 #0) (f0 \\0.(f1 #0)))",
     ),
     // a body has no variable of a binder that is no argument
-    (CONSTANT, b"NO 1\nterm (m (\\$0:o.$0))\nat /\nend\n", b""),
-    (CONSTANT, b"NO 1\nterm (m (\\$0:o.c))\nat /\nend\n", b" f0"),
+    (
+        Asked::In(
+            CONSTANT,
+            Question::Call(Call::Reducts, b"NO 1\nterm (m (\\$0:o.$0))\nat /\nend\n"),
+        ),
+        b"",
+    ),
+    (
+        Asked::In(
+            CONSTANT,
+            Question::Call(Call::Reducts, b"NO 1\nterm (m (\\$0:o.c))\nat /\nend\n"),
+        ),
+        b" f0",
+    ),
     // a repeated meta-variable has one body
-    (TWICE, b"NO 1\nterm (q a b)\nat /\nend\n", b""),
-    (TWICE, b"NO 1\nterm (q a a)\nat /\nend\n", b" f0"),
+    (
+        Asked::In(
+            TWICE,
+            Question::Call(Call::Reducts, b"NO 1\nterm (q a b)\nat /\nend\n"),
+        ),
+        b"",
+    ),
+    (
+        Asked::In(
+            TWICE,
+            Question::Call(Call::Reducts, b"NO 1\nterm (q a a)\nat /\nend\n"),
+        ),
+        b" f0",
+    ),
     // an argument becomes a parameter
     (
-        b"sort o;fun a:o;fun q:o->o->o;fun m:(o->o)->o;rule {F:[o]o} m (\\x:o.F[x]) => F[a];",
-        b"NO 1\nterm (m (\\$0:o.(q $0 $0)))\nat /\nend\n",
+        Asked::In(
+            b"sort o;fun a:o;fun q:o->o->o;fun m:(o->o)->o;rule {F:[o]o} m (\\x:o.F[x]) => F[a];",
+            Question::Call(
+                Call::Reducts,
+                b"NO 1\nterm (m (\\$0:o.(q $0 $0)))\nat /\nend\n",
+            ),
+        ),
         b" ((f1 f0) f0)",
     ),
     // arguments may come in another order
     (
-        EXCHANGE,
-        b"NO 1\nterm (n (\\$0:o.(\\$1:o.(q $0 $1))))\nat /\nend\n",
+        Asked::In(
+            EXCHANGE,
+            Question::Call(
+                Call::Reducts,
+                b"NO 1\nterm (n (\\$0:o.(\\$1:o.(q $0 $1))))\nat /\nend\n",
+            ),
+        ),
         b" ((f2 f1) f0)",
     ),
     // a value takes the arguments below the binders of the body
     (
-        FUNCTIONS,
-        b"NO 1\nterm (n (\\$0:o.(\\$1:o.(q $0 $1))))\nat /\nend\n",
+        Asked::In(
+            FUNCTIONS,
+            Question::Call(
+                Call::Reducts,
+                b"NO 1\nterm (n (\\$0:o.(\\$1:o.(q $0 $1))))\nat /\nend\n",
+            ),
+        ),
         b" (f2 \\0.\\0.((f0 #1) #0))",
     ),
 ];
 
-/// The reducts of the certificate's term.
-fn reducts_text(alloc: Global, system: &System, no: &NoCertificate) -> Result<Bytes, AllocError> {
-    let term = term_in(alloc, system, &no.term)?;
-    system.is_well_made();
-    let found = reducts(alloc, system.rules(), &term)?;
-    let mut out = Bytes::new(alloc)?;
-    for reduct in found.as_slice() {
+/// Each of the terms, behind a blank.
+fn spell_list(out: &mut Bytes, terms: &[Term]) -> Result<(), AllocError> {
+    for term in terms {
         out.push(b' ')?;
-        spell(&mut out, reduct)?;
+        spell(out, term)?;
     }
-    Ok(out)
+    Ok(())
+}
+
+/// The reducts of a term.
+pub fn add_reducts(
+    alloc: Global,
+    out: &mut Bytes,
+    system: &System,
+    term: &Term,
+) -> Result<(), AllocError>
+    requires fits { Fits (tm term.now) }
+    requires shut { LooseBelow 0 (tm term.now) }
+    requires plain { IsTerm (tm term.now) }
+{
+    system.is_well_made();
+    let found = reducts(alloc, system.rules(), term)?;
+    spell_list(out, found.as_slice())
 }
 
 #[test]
 fn lists_reducts(rt: HostRuntime) -> Result<(), Fail> {
-    let alloc = rt.alloc();
-    for (text, term, expected) in REDUCTS {
-        let system = system_of(alloc, *text)?;
-        let no = certificate_of(alloc, *term)?;
-        let found = reducts_text(alloc, &system, &no)?;
-        assert_eq!(rt; found.as_slice(), *expected);
-    }
+    expect_answers(&rt, rt.alloc(), REDUCTS)?;
     Ok(())
 }
 
-/// The result of the certificate's one step.
-fn step_text(alloc: Global, system: &System, no: &NoCertificate) -> Result<Bytes, AllocError> {
-    let term = term_in(alloc, system, &no.term)?;
-    system.is_well_made();
-    let [step] = no.steps.as_slice() else {
+/// The result of the one step.
+pub fn add_step(
+    alloc: Global,
+    out: &mut Bytes,
+    system: &System,
+    term: &Term,
+    steps: &[Step],
+) -> Result<(), AllocError>
+    requires fits { Fits (tm term.now) }
+    requires shut { LooseBelow 0 (tm term.now) }
+    requires plain { IsTerm (tm term.now) }
+{
+    let [step] = steps else {
         return Err(AllocError);
     };
-    let result = step_at(alloc, system.rules(), &term, &step.path, step.rule)?;
-    spelled(alloc, result.as_ref())
+    system.is_well_made();
+    let result = step_at(alloc, system.rules(), term, &step.path, step.rule)?;
+    spell_option(out, result.as_ref())
 }
+
+/// A term of two redexes, one in the other, with a step at each of two places.
+const STEPS: &[(Asked, &[u8])] = &[
+    (
+        Asked::In(
+            UNDER_BINDER,
+            Question::Call(
+                Call::Step,
+                b"NO 1\nterm ((\\$0:o.(g $0)) (g %0:o))\nstep 0 /1\nat /\nend\n",
+            ),
+        ),
+        b"(\\0.(f1 #0) (f0 \\0.(f1 #0)))",
+    ),
+    (
+        Asked::In(
+            UNDER_BINDER,
+            Question::Call(
+                Call::Step,
+                b"NO 1\nterm ((\\$0:o.(g $0)) (g %0:o))\nstep 0 /0\nat /\nend\n",
+            ),
+        ),
+        b"none",
+    ),
+];
 
 #[test]
 fn steps_at_its_place_alone(rt: HostRuntime) -> Result<(), Fail> {
-    let alloc = rt.alloc();
-    let system = system_of(alloc, UNDER_BINDER)?;
-    for (text, expected) in [
-        (
-            b"NO 1\nterm ((\\$0:o.(g $0)) (g %0:o))\nstep 0 /1\nat /\nend\n".as_slice(),
-            b"(\\0.(f1 #0) (f0 \\0.(f1 #0)))".as_slice(),
-        ),
-        (
-            b"NO 1\nterm ((\\$0:o.(g $0)) (g %0:o))\nstep 0 /0\nat /\nend\n".as_slice(),
-            b"none".as_slice(),
-        ),
-    ] {
-        let no = certificate_of(alloc, text)?;
-        let found = step_text(alloc, &system, &no)?;
-        assert_eq!(rt; found.as_slice(), expected);
-    }
+    expect_answers(&rt, rt.alloc(), STEPS)?;
     Ok(())
 }
 
-/// Where the certificate's steps lead, or which step fails.
-fn end_text(alloc: Global, system: &System, no: &NoCertificate) -> Result<Bytes, AllocError> {
-    let term = term_in(alloc, system, &no.term)?;
-    system.is_well_made();
-    let steps = no.steps.as_slice();
+/// What befell a step, and its index.
+fn add_fault(out: &mut Bytes, what: &[u8], index: u32) -> Result<(), AllocError> {
+    out.append(what)?;
+    print_number(out, index)
+}
+
+/// The last term, or which step fails.
+fn add_outcome(out: &mut Bytes, outcome: &Result<Term, StepFault>) -> Result<(), AllocError> {
+    match outcome {
+        Ok(end) => spell(out, end),
+        Err(StepFault::Fails { index }) => add_fault(out, b"fails ", *index),
+        Err(StepFault::TooBig { index }) => add_fault(out, b"too big ", *index),
+    }
+}
+
+/// Where the steps lead, or which step fails.
+pub fn add_end(
+    alloc: Global,
+    out: &mut Bytes,
+    system: &System,
+    term: &Term,
+    steps: &[Step],
+) -> Result<(), AllocError>
+    requires fits { Fits (tm term.now) }
+    requires shut { LooseBelow 0 (tm term.now) }
+    requires plain { IsTerm (tm term.now) }
+{
     if steps.len() > 20_000 {
         return Err(AllocError);
     }
-    let mut out = Bytes::new(alloc)?;
-    match replay(alloc, system.rules(), &term, steps)? {
-        Ok(end) => spell(&mut out, &end)?,
-        Err(StepFault::Fails { index }) => {
-            out.append(b"fails ")?;
-            print_number(&mut out, index)?;
-        }
-        Err(StepFault::TooBig { index }) => {
-            out.append(b"too big ")?;
-            print_number(&mut out, index)?;
-        }
-    }
-    Ok(out)
+    system.is_well_made();
+    let outcome = replay(alloc, system.rules(), term, steps)?;
+    add_outcome(out, &outcome)
 }
 
-/// The certificate's steps in a system.
-fn replayed(alloc: Global, system: &[u8], text: &[u8]) -> Result<Bytes, AllocError> {
-    let system = system_of(alloc, system)?;
-    let no = certificate_of(alloc, text)?;
-    end_text(alloc, &system, &no)
-}
+/// Certificates whose second step fails.
+const FAILING: &[(Asked, &[u8])] = &[
+    (
+        Asked::In(
+            SWAP,
+            Question::Call(
+                Call::Replay,
+                b"NO 1\nterm a\nstep 0 /\nstep 1 /1\nat /\nend\n",
+            ),
+        ),
+        b"fails 1",
+    ),
+    (
+        Asked::In(
+            SWAP,
+            Question::Call(
+                Call::Replay,
+                b"NO 1\nterm a\nstep 0 /\nstep 2 /\nat /\nend\n",
+            ),
+        ),
+        b"fails 1",
+    ),
+    (
+        Asked::In(
+            SWAP,
+            Question::Call(
+                Call::Replay,
+                b"NO 1\nterm a\nstep 0 /\nstep 0 /\nat /\nend\n",
+            ),
+        ),
+        b"fails 1",
+    ),
+];
 
 #[test]
 fn tells_the_first_step_that_fails(rt: HostRuntime) -> Result<(), Fail> {
-    for text in [
-        b"NO 1\nterm a\nstep 0 /\nstep 1 /1\nat /\nend\n".as_slice(),
-        b"NO 1\nterm a\nstep 0 /\nstep 2 /\nat /\nend\n".as_slice(),
-        b"NO 1\nterm a\nstep 0 /\nstep 0 /\nat /\nend\n".as_slice(),
-    ] {
-        let found = replayed(rt.alloc(), SWAP, text)?;
-        assert_eq!(rt; found.as_slice(), b"fails 1".as_slice());
+    expect_answers(&rt, rt.alloc(), FAILING)?;
+    Ok(())
+}
+
+/// An item that many times.
+fn add_times(text: &mut Vec<u8>, times: u32, item: &[u8]) -> Result<(), AllocError> {
+    for _ in 0..times {
+        text.extend_from_slice(item)?;
     }
     Ok(())
 }
@@ -173,72 +287,46 @@ fn add_nest(
     middle: &[u8],
     close: &[u8],
 ) -> Result<(), AllocError> {
-    for _ in 0..times {
-        text.extend_from_slice(open)?;
-    }
+    add_times(text, times, open)?;
     text.extend_from_slice(middle)?;
-    for _ in 0..times {
-        text.extend_from_slice(close)?;
-    }
-    Ok(())
+    add_times(text, times, close)
 }
 
 /// A certificate of 10,000 steps round a loop.
-fn long(alloc: Global) -> Result<Vec<u8>, AllocError> {
-    let mut text = Vec::from_slice(alloc, b"NO 1\nterm a\n".as_slice())?;
-    add_nest(
-        &mut text,
-        5_000,
-        b"step 0 /\nstep 1 /\n",
-        b"at /\nend\n",
-        b"",
-    )?;
-    Ok(text)
+fn add_long(text: &mut Vec<u8>) -> Result<(), AllocError> {
+    text.extend_from_slice(b"NO 1\nterm a\n".as_slice())?;
+    add_nest(text, 5_000, b"step 0 /\nstep 1 /\n", b"at /\nend\n", b"")
 }
 
 /// A term of which beta makes one of height 250.
-fn high(alloc: Global) -> Result<Vec<u8>, AllocError> {
-    let mut text = Vec::from_slice(alloc, b"NO 1\nterm ((\\$0:o.".as_slice())?;
-    add_nest(&mut text, 150, b"(f ", b"$0", b")")?;
+fn add_high(text: &mut Vec<u8>) -> Result<(), AllocError> {
+    text.extend_from_slice(b"NO 1\nterm ((\\$0:o.".as_slice())?;
+    add_nest(text, 150, b"(f ", b"$0", b")")?;
     text.extend_from_slice(b") ".as_slice())?;
-    add_nest(&mut text, 100, b"(f ", b"c", b")")?;
-    text.extend_from_slice(b")\nstep beta /\nat /\nend\n".as_slice())?;
-    Ok(text)
+    add_nest(text, 100, b"(f ", b"c", b")")?;
+    text.extend_from_slice(b")\nstep beta /\nat /\nend\n".as_slice())
 }
 
 /// A tree of a binary symbol with 2^levels leaves.
-fn doubled(alloc: Global, leaf: &[u8], levels: u32) -> Result<Vec<u8>, AllocError> {
-    let mut tree = Vec::from_slice(alloc, leaf)?;
-    for _ in 0..levels {
-        let mut next = Vec::from_slice(alloc, b"(d ".as_slice())?;
-        next.extend_from_slice(tree.as_slice())?;
-        next.push(b' ')?;
-        next.extend_from_slice(tree.as_slice())?;
-        next.push(b')')?;
-        tree = next;
+fn add_doubled(text: &mut Vec<u8>, leaf: &[u8], levels: u32) -> Result<(), AllocError> {
+    if levels == 0 {
+        return text.extend_from_slice(leaf);
     }
-    Ok(tree)
-}
-
-/// A tree of a binary symbol joins the text.
-fn add_doubled(
-    alloc: Global,
-    text: &mut Vec<u8>,
-    leaf: &[u8],
-    levels: u32,
-) -> Result<(), AllocError> {
-    let tree = doubled(alloc, leaf, levels)?;
-    text.extend_from_slice(tree.as_slice())
+    text.extend_from_slice(b"(d ".as_slice())?;
+    add_doubled(text, leaf, levels - 1)?;
+    text.push(b' ')?;
+    add_doubled(text, leaf, levels - 1)?;
+    text.push(b')')?;
+    Ok(())
 }
 
 /// A term of which beta makes one of size 131,069.
-fn large(alloc: Global) -> Result<Vec<u8>, AllocError> {
-    let mut text = Vec::from_slice(alloc, b"NO 1\nterm ((\\$0:o.".as_slice())?;
-    add_doubled(alloc, &mut text, b"$0", 8)?;
+fn add_large(text: &mut Vec<u8>) -> Result<(), AllocError> {
+    text.extend_from_slice(b"NO 1\nterm ((\\$0:o.".as_slice())?;
+    add_doubled(text, b"$0", 8)?;
     text.extend_from_slice(b") ".as_slice())?;
-    add_doubled(alloc, &mut text, b"c", 7)?;
-    text.extend_from_slice(b")\nstep beta /\nat /\nend\n".as_slice())?;
-    Ok(text)
+    add_doubled(text, b"c", 7)?;
+    text.extend_from_slice(b")\nstep beta /\nat /\nend\n".as_slice())
 }
 
 /// Symbols to build large terms of, and two constants that lead to each other.
@@ -246,25 +334,33 @@ const BUILDERS: &[u8] =
     b"sort o;fun a:o;fun b:o;fun c:o;fun f:o->o;fun d:o->o->o;rule {} a => b;rule {} b => a;";
 
 /// A certificate: `l` is long, `h` grows high, and `s` grows in size.
-fn grown(alloc: Global, how: u8) -> Result<Vec<u8>, AllocError> {
+fn add_grown(text: &mut Vec<u8>, how: u8) -> Result<(), AllocError> {
     match how {
-        b'l' => long(alloc),
-        b'h' => high(alloc),
-        _ => large(alloc),
+        b'l' => add_long(text),
+        b'h' => add_high(text),
+        _ => add_large(text),
     }
 }
 
+/// Compares where the steps of such a certificate lead.
+fn expect_end(rt: &impl Abort, alloc: Global, how: u8, expected: &[u8]) -> Result<(), AllocError> {
+    let mut text = Vec::new(alloc);
+    add_grown(&mut text, how)?;
+    expect_answer(
+        rt,
+        alloc,
+        Asked::In(BUILDERS, Question::Call(Call::Replay, text.as_slice())),
+        expected,
+    )
+}
+
+/// Such certificates, with where their steps lead.
+const GROWN: &[(u8, &[u8])] = &[(b'l', b"f0"), (b'h', b"too big 0"), (b's', b"too big 0")];
+
 #[test]
 fn replays_to_the_end_or_a_limit(rt: HostRuntime) -> Result<(), Fail> {
-    let alloc = rt.alloc();
-    for (how, expected) in [
-        (b'l', b"f0".as_slice()),
-        (b'h', b"too big 0".as_slice()),
-        (b's', b"too big 0".as_slice()),
-    ] {
-        let text = grown(alloc, how)?;
-        let found = replayed(alloc, BUILDERS, text.as_slice())?;
-        assert_eq!(rt; found.as_slice(), expected);
+    for (how, expected) in GROWN {
+        expect_end(&rt, rt.alloc(), *how, *expected)?;
     }
     Ok(())
 }

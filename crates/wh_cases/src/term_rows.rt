@@ -1,21 +1,21 @@
 //! Rows of terms: types, measures, limits, parts, patterns, opening, closing and substitution.
 
-ghost use Rattle.std.specs.Prelude.{◌≡◌, ◌<◌, ◌^◌, IfOk};
+ghost use Rattle.std.specs.Prelude.{◌≡◌, ◌<◌, ◌^◌, All, IfOk};
 ghost use Rattle.wh_terms.specs.Erase.{tm};
 ghost use Rattle.wh_terms.specs.Measures.{Manageable};
 ghost use Rattle.wh_terms.specs.Tree.{app, bound, lam, meta, more, none};
 ghost use Rattle.wh_types.specs.Ty.{sort as sort_type};
 
-use crate::reading::{certificate_of, system_of, term_in};
-use crate::spelling::{spell, spell_type, spelled};
+use crate::asking::{Asked, Question, expect_answers};
+use crate::calls::Call;
+use crate::spelling::{spell, spell_option, spell_type};
 use crate::stack::{balanced, repeated, term_of};
 use std::alloc::{AllocError, Global};
 use std::test::Fail;
-use wh_cert::NoCertificate;
 use wh_system::System;
 use wh_terms::{
-    Path, Subst, SubstEntry, Term, Terms, close, fits, height, is_pattern, open_with, opened_at,
-    size, substitute, subterm_at, type_of,
+    Metas, Path, Signature, Subst, SubstEntry, Term, Terms, close, fits, height, is_pattern,
+    open_with, opened_at, size, substitute, subterm_at, type_of,
 };
 use wh_types::{Bytes, SimpleType};
 
@@ -23,49 +23,74 @@ use wh_types::{Bytes, SimpleType};
 const TYPED: &[u8] =
     b"sort o;fun a:o;fun b:o->o;fun c:(o->o)->o;rule {F:[o]o} c (\\x:o.F[x]) => a;";
 
-/// The type of the term, over the symbols and the meta-variables of the one rule, or `none`.
-fn type_text(alloc: Global, system: &System, text: &[u8]) -> Result<Bytes, AllocError> {
-    let mut out = Bytes::new(alloc)?;
-    let term = term_of(alloc, text)?;
-    let [rule] = system.rules() else {
-        return Err(AllocError);
-    };
-    match type_of(alloc, system.signature(), &rule.metas, &term)? {
-        Some(kind) => spell_type(&mut out, &kind)?,
-        None => out.append(b"none")?,
+/// The type, or `none`.
+fn add_type_option(out: &mut Bytes, kind: Option<&SimpleType>) -> Result<(), AllocError> {
+    match kind {
+        Some(kind) => spell_type(out, kind),
+        None => out.append(b"none"),
     }
-    Ok(out)
+}
+
+/// The type of the term over the symbols and the meta-variables.
+fn add_type(
+    alloc: Global,
+    out: &mut Bytes,
+    signature: &Signature,
+    metas: &Metas,
+    term: &Term,
+) -> Result<(), AllocError> {
+    let kind = type_of(alloc, signature, metas, term)?;
+    add_type_option(out, kind.as_ref())
+}
+
+/// The type of the term, over the symbols and the meta-variables of the one rule, or `none`.
+fn add_type_in(
+    alloc: Global,
+    out: &mut Bytes,
+    system: &System,
+    term: &Term,
+) -> Result<(), AllocError> {
+    match system.rules() {
+        [rule] => add_type(alloc, out, system.signature(), &rule.metas, term),
+        _ => Err(AllocError),
+    }
+}
+
+/// The same of the term of a text.
+pub fn add_type_of(
+    alloc: Global,
+    out: &mut Bytes,
+    system: &System,
+    text: &[u8],
+) -> Result<(), AllocError> {
+    let term = term_of(alloc, text)?;
+    add_type_in(alloc, out, system, &term)
 }
 
 /// Terms with their types.
-const TYPES: &[(&[u8], &[u8])] = &[
-    (b"0\\", b"(0->0)"),
-    (b"0\\a@", b"0"),
-    (b"b0\\a@@", b"0"),
-    (b"xF", b"0"),
+const TYPES: &[(Asked, &[u8])] = &[
+    (Asked::In(TYPED, Question::Type(b"0\\")), b"(0->0)"),
+    (Asked::In(TYPED, Question::Type(b"0\\a@")), b"0"),
+    (Asked::In(TYPED, Question::Type(b"b0\\a@@")), b"0"),
+    (Asked::In(TYPED, Question::Type(b"xF")), b"0"),
     // a symbol of the sort as a function, and an argument of another type
-    (b"aa@", b"none"),
-    (b"bb@", b"none"),
+    (Asked::In(TYPED, Question::Type(b"aa@")), b"none"),
+    (Asked::In(TYPED, Question::Type(b"bb@")), b"none"),
     // a loose variable, also under a binder
-    (b"0", b"none"),
-    (b"1\\", b"none"),
+    (Asked::In(TYPED, Question::Type(b"0")), b"none"),
+    (Asked::In(TYPED, Question::Type(b"1\\")), b"none"),
     // a sort that is not declared
-    (b"a/", b"none"),
-    (b"y", b"none"),
+    (Asked::In(TYPED, Question::Type(b"a/")), b"none"),
+    (Asked::In(TYPED, Question::Type(b"y")), b"none"),
     // a symbol and a meta-variable that are not declared, and an argument of another type
-    (b"d", b"none"),
-    (b"aG", b"none"),
-    (b"bF", b"none"),
+    (Asked::In(TYPED, Question::Type(b"d")), b"none"),
+    (Asked::In(TYPED, Question::Type(b"aG")), b"none"),
+    (Asked::In(TYPED, Question::Type(b"bF")), b"none"),
 ];
 
 #[test]
 fn tells_types(rt: HostRuntime) -> Result<(), Fail> {
-    let alloc = rt.alloc();
-    let system = system_of(alloc, TYPED)?;
-    for (text, expected) in TYPES {
-        let found = type_text(alloc, &system, *text)?;
-        assert_eq!(rt; found.as_slice(), *expected);
-    }
+    expect_answers(&rt, rt.alloc(), TYPES)?;
     Ok(())
 }
 
@@ -78,14 +103,14 @@ fn measured(alloc: Global, text: &[u8]) -> Result<(u32, u64), AllocError> {
     Ok((height(&term), size(&term)))
 }
 
+/// Terms with their heights and sizes: a spine of two arguments of which the first is the highest, and a head that is an
+/// abstraction.
+const MEASURES: &[(&[u8], (u32, u64))] = &[(b"a10Z\\\\@b@", (4, 9)), (b"0\\a@", (2, 4))];
+
 #[test]
 fn measures_terms(rt: HostRuntime) -> Result<(), Fail> {
-    // a spine of two arguments of which the first is the highest, and a head that is an abstraction
-    for (text, expected) in [
-        (b"a10Z\\\\@b@".as_slice(), (4, 9)),
-        (b"0\\a@".as_slice(), (2, 4)),
-    ] {
-        assert_eq!(rt; measured(rt.alloc(), text)?, expected);
+    for (text, expected) in MEASURES {
+        assert!(rt; measured(rt.alloc(), *text)? == *expected);
     }
     Ok(())
 }
@@ -96,21 +121,28 @@ fn text_fits(alloc: Global, text: &[u8]) -> Result<bool, AllocError> {
     Ok(fits(&term))
 }
 
+/// Whether a symbol with an item that many times behind it fits.
+fn repeated_fits(alloc: Global, item: &[u8], times: u32) -> Result<bool, AllocError> {
+    let text = repeated(alloc, b"a", item, times)?;
+    text_fits(alloc, text.as_slice())
+}
+
+/// Whether a tree that branches at each of 15 levels fits, with such an end.
+fn balanced_fits(alloc: Global, end: &[u8]) -> Result<bool, AllocError> {
+    let text = balanced(alloc, 15, end)?;
+    text_fits(alloc, text.as_slice())
+}
+
 #[test]
 fn keeps_the_limits_of_terms(rt: HostRuntime) -> Result<(), Fail> {
-    let alloc = rt.alloc();
     // 200 abstractions, one in another, and 32 arguments of a symbol
     for (item, most) in [(b"\\".as_slice(), 200), (b"b@".as_slice(), 32)] {
-        let inside = repeated(alloc, b"a", item, most)?;
-        assert!(rt; text_fits(alloc, inside.as_slice())?);
-        let outside = repeated(alloc, b"a", item, most + 1)?;
-        assert!(rt; !text_fits(alloc, outside.as_slice())?);
+        assert!(rt; repeated_fits(rt.alloc(), item, most)?);
+        assert!(rt; !repeated_fits(rt.alloc(), item, most + 1)?);
     }
     // the sizes 65,536 and 65,537
-    for (end, expected) in [(b"\\".as_slice(), true), (b"\\\\".as_slice(), false)] {
-        let text = balanced(alloc, 15, end)?;
-        assert_eq!(rt; text_fits(alloc, text.as_slice())?, expected);
-    }
+    assert!(rt; balanced_fits(rt.alloc(), b"\\")?);
+    assert!(rt; !balanced_fits(rt.alloc(), b"\\\\")?);
     Ok(())
 }
 
@@ -124,32 +156,34 @@ fn path_of(alloc: Global, digits: &[u8]) -> Result<Path, AllocError> {
 }
 
 /// What stands at the path in the term of a text.
-fn part_text(alloc: Global, text: &[u8], digits: &[u8]) -> Result<Bytes, AllocError> {
-    let path = path_of(alloc, digits)?;
+fn add_part_at(alloc: Global, out: &mut Bytes, text: &[u8], path: &Path) -> Result<(), AllocError> {
     let term = term_of(alloc, text)?;
-    spelled(alloc, subterm_at(&term, &path))
+    spell_option(out, subterm_at(&term, path))
 }
+
+/// What stands at the path of these digits.
+pub fn add_part(
+    alloc: Global,
+    out: &mut Bytes,
+    text: &[u8],
+    digits: &[u8],
+) -> Result<(), AllocError> {
+    let path = path_of(alloc, digits)?;
+    add_part_at(alloc, out, text, &path)
+}
+
+/// Terms and paths, with what stands there.
+const PARTS: &[(Asked, &[u8])] = &[
+    (Asked::Part(b"cb0@\\@", b""), b"(f2 \\0.(f1 #0))"),
+    (Asked::Part(b"cb0@\\@", b"101"), b"#0"),
+    (Asked::Part(b"cb0@\\@", b"1010"), b"none"),
+    // an abstraction is left by 0 alone
+    (Asked::Part(b"0\\", b"1"), b"none"),
+];
 
 #[test]
 fn follows_paths(rt: HostRuntime) -> Result<(), Fail> {
-    for (text, digits, expected) in [
-        (
-            b"cb0@\\@".as_slice(),
-            b"".as_slice(),
-            b"(f2 \\0.(f1 #0))".as_slice(),
-        ),
-        (b"cb0@\\@".as_slice(), b"101".as_slice(), b"#0".as_slice()),
-        (
-            b"cb0@\\@".as_slice(),
-            b"1010".as_slice(),
-            b"none".as_slice(),
-        ),
-        // an abstraction is left by 0 alone
-        (b"0\\".as_slice(), b"1".as_slice(), b"none".as_slice()),
-    ] {
-        let found = part_text(rt.alloc(), text, digits)?;
-        assert_eq!(rt; found.as_slice(), expected);
-    }
+    expect_answers(&rt, rt.alloc(), PARTS)?;
     Ok(())
 }
 
@@ -187,141 +221,198 @@ fn under_two(alloc: Global, i: u32, j: u32) -> Result<Term, AllocError>
     applied(alloc, Term::Fun(0), abstracted(alloc, inner)?)
 }
 
+/// Whether a meta-variable with the outer one of two variables and the variable `j` is a pattern.
+fn binds_a_pattern(alloc: Global, j: u32) -> Result<bool, AllocError>
+    requires { j < 2 ^ 30 }
+{
+    let term = under_two(alloc, 1, j)?;
+    Ok(is_pattern(&term))
+}
+
+/// Whether a symbol with an argument is a pattern.
+fn spine_is_a_pattern(alloc: Global) -> Result<bool, AllocError> {
+    let spine = applied(alloc, Term::Fun(0), Term::Fun(1))?;
+    Ok(is_pattern(&spine))
+}
+
+/// Whether an abstraction with an argument is a pattern.
+fn redex_is_a_pattern(alloc: Global) -> Result<bool, AllocError> {
+    let redex = applied(alloc, abstracted(alloc, Term::Bound(0))?, Term::Fun(0))?;
+    Ok(is_pattern(&redex))
+}
+
 #[test]
 fn tells_patterns(rt: HostRuntime) -> Result<(), Fail> {
-    let alloc = rt.alloc();
     // two variables, a repeated one, and a loose one
     for (j, expected) in [(0, true), (1, false), (2, false)] {
-        let term = under_two(alloc, 1, j)?;
-        assert_eq!(rt; is_pattern(&term), expected);
+        assert!(rt; binds_a_pattern(rt.alloc(), j)? == expected);
     }
-    let spine = applied(alloc, Term::Fun(0), Term::Fun(1))?;
-    assert!(rt; is_pattern(&spine));
+    assert!(rt; spine_is_a_pattern(rt.alloc())?);
     // an abstraction as a head
-    let redex = applied(alloc, abstracted(alloc, Term::Bound(0))?, Term::Fun(0))?;
-    assert!(rt; !is_pattern(&redex));
+    assert!(rt; !redex_is_a_pattern(rt.alloc())?);
     Ok(())
 }
 
 /// Terms of functions of two arguments.
 const BINARY: &[u8] = b"sort o;fun q:o->o->o;fun p:o->(o->o)->o;fun a:o;";
 
-/// What stands at the place that the certificate names, opened from the number 5 on.
-fn opened_text(alloc: Global, system: &System, no: &NoCertificate) -> Result<Bytes, AllocError> {
-    let term = term_in(alloc, system, &no.term)?;
-    if no.at.as_slice().len() > 100 {
+/// What stands at the path, opened from the number 5 on.
+pub fn add_opened_at(
+    alloc: Global,
+    out: &mut Bytes,
+    term: &Term,
+    at: &Path,
+) -> Result<(), AllocError>
+    requires { Manageable (tm term.now) }
+{
+    if at.as_slice().len() > 100 {
         return Err(AllocError);
     }
-    let part = opened_at(alloc, &term, &no.at, 5)?;
-    spelled(alloc, part.as_ref())
+    let part = opened_at(alloc, term, at, 5)?;
+    spell_option(out, part.as_ref())
 }
+
+/// The body of `\x. \y. q y x`, a part of it, and no part.
+const PASSED: &[(Asked, &[u8])] = &[
+    (
+        Asked::In(
+            BINARY,
+            Question::Call(
+                Call::OpenAt,
+                b"NO 1\nterm (\\$0:o.(\\$1:o.(q $1 $0)))\nat /00\nend\n",
+            ),
+        ),
+        b"((f0 %6:0) %5:0)",
+    ),
+    (
+        Asked::In(
+            BINARY,
+            Question::Call(
+                Call::OpenAt,
+                b"NO 1\nterm (\\$0:o.(\\$1:o.(q $1 $0)))\nat /0001\nend\n",
+            ),
+        ),
+        b"%6:0",
+    ),
+    (
+        Asked::In(
+            BINARY,
+            Question::Call(
+                Call::OpenAt,
+                b"NO 1\nterm (\\$0:o.(\\$1:o.(q $1 $0)))\nat /00011\nend\n",
+            ),
+        ),
+        b"none",
+    ),
+];
 
 #[test]
 fn passed_binders_are_numbered_from_the_outside(rt: HostRuntime) -> Result<(), Fail> {
-    let alloc = rt.alloc();
-    let system = system_of(alloc, BINARY)?;
-    // the body of `\x. \y. q y x`, a part of it, and no part
-    for (text, expected) in [
-        (
-            b"NO 1\nterm (\\$0:o.(\\$1:o.(q $1 $0)))\nat /00\nend\n".as_slice(),
-            b"((f0 %6:0) %5:0)".as_slice(),
-        ),
-        (
-            b"NO 1\nterm (\\$0:o.(\\$1:o.(q $1 $0)))\nat /0001\nend\n".as_slice(),
-            b"%6:0".as_slice(),
-        ),
-        (
-            b"NO 1\nterm (\\$0:o.(\\$1:o.(q $1 $0)))\nat /00011\nend\n".as_slice(),
-            b"none".as_slice(),
-        ),
-    ] {
-        let no = certificate_of(alloc, text)?;
-        let found = opened_text(alloc, &system, &no)?;
-        assert_eq!(rt; found.as_slice(), expected);
-    }
+    expect_answers(&rt, rt.alloc(), PASSED)?;
     Ok(())
 }
 
-/// The body of the inner abstraction with the symbol 2 for its variable.
-fn body_opened(alloc: Global, system: &System, no: &NoCertificate) -> Result<Bytes, AllocError> {
-    let term = term_in(alloc, system, &no.term)?;
-    match &term {
-        Term::Lam(_, body) => inner_opened(alloc, body),
+/// The body of an abstraction with the symbol 2 for its variable.
+fn add_opened(alloc: Global, out: &mut Bytes, body: &Term) -> Result<(), AllocError>
+    requires { Manageable (tm body.now) }
+{
+    let opened = open_with(alloc, body, &Term::Fun(2))?;
+    spell(out, &opened)
+}
+
+/// The body of the abstraction with the symbol 2 for its variable.
+fn add_inner_opened(alloc: Global, out: &mut Bytes, term: &Term) -> Result<(), AllocError>
+    requires { Manageable (tm term.now) }
+{
+    match term {
+        Term::Lam(_, body) => add_opened(alloc, out, body),
         _ => Err(AllocError),
     }
 }
 
-/// The body of the abstraction with the symbol 2 for its variable.
-fn inner_opened(alloc: Global, term: &Term) -> Result<Bytes, AllocError>
+/// The body of the inner abstraction with the symbol 2 for its variable.
+pub fn add_body_opened(alloc: Global, out: &mut Bytes, term: &Term) -> Result<(), AllocError>
     requires { Manageable (tm term.now) }
 {
     match term {
-        Term::Lam(_, body) => {
-            let opened = open_with(alloc, body, &Term::Fun(2))?;
-            spelled(alloc, Some(&opened))
-        }
+        Term::Lam(_, body) => add_inner_opened(alloc, out, body),
         _ => Err(AllocError),
     }
 }
 
 /// The term with its variable 2 of the sort 0 closed.
-fn closed(alloc: Global, system: &System, no: &NoCertificate) -> Result<Bytes, AllocError> {
-    let term = term_in(alloc, system, &no.term)?;
-    let closed = close(alloc, &term, 2, &SimpleType::Sort(0))?;
-    spelled(alloc, Some(&closed))
+pub fn add_closed(alloc: Global, out: &mut Bytes, term: &Term) -> Result<(), AllocError>
+    requires { Manageable (tm term.now) }
+{
+    let closed = close(alloc, term, 2, &SimpleType::Sort(0))?;
+    spell(out, &closed)
 }
 
-/// The term with the nearest loose variable for its variable 3.
-fn substituted(alloc: Global, system: &System, no: &NoCertificate) -> Result<Bytes, AllocError> {
-    let term = term_in(alloc, system, &no.term)?;
+/// The nearest loose variable for the variable 3 of the sort 0.
+fn bound_for_free(alloc: Global) -> Result<Subst, AllocError>
+    ensures { IfOk result (λ by. All (λ entry. Manageable (tm entry.value)) by) }
+{
     let mut by = Subst::new(alloc)?;
     by.push(SubstEntry {
         number: 3,
         kind: SimpleType::Sort(0),
         value: Term::Bound(0),
     })?;
-    let value = substitute(alloc, &term, &by)?;
-    spelled(alloc, Some(&value))
+    Ok(by)
 }
 
-/// Terms with what becomes of them: `o` opens, `c` closes, `s` substitutes.
-const CHANGED: &[(u8, &[u8], &[u8])] = &[
+/// The term after a substitution.
+fn add_value(alloc: Global, out: &mut Bytes, term: &Term, by: &Subst) -> Result<(), AllocError>
+    requires term_in_range { Manageable (tm term.now) }
+    requires values_in_range { All (λ entry. Manageable (tm entry.value)) by.now }
+{
+    let value = substitute(alloc, term, by)?;
+    spell(out, &value)
+}
+
+/// The term with the nearest loose variable for its variable 3.
+pub fn add_substituted(alloc: Global, out: &mut Bytes, term: &Term) -> Result<(), AllocError>
+    requires { Manageable (tm term.now) }
+{
+    let by = bound_for_free(alloc)?;
+    add_value(alloc, out, term, &by)
+}
+
+/// Terms with what becomes of them.
+const CHANGED: &[(Asked, &[u8])] = &[
     (
-        b'o',
-        b"NO 1\nterm (\\$0:o.(\\$1:o.(q $1 $0)))\nat /\nend\n",
+        Asked::In(
+            BINARY,
+            Question::Call(
+                Call::Open,
+                b"NO 1\nterm (\\$0:o.(\\$1:o.(q $1 $0)))\nat /\nend\n",
+            ),
+        ),
         b"((f0 f2) #0)",
     ),
     // variables of one number and two types are two variables
     (
-        b'c',
-        b"NO 1\nterm (p %2:o %2:(o->o))\nat /\nend\n",
+        Asked::In(
+            BINARY,
+            Question::Call(Call::Close, b"NO 1\nterm (p %2:o %2:(o->o))\nat /\nend\n"),
+        ),
         b"((f1 #0) %2:(0->0))",
     ),
     // below the binder the loose variable 0 is the loose variable 1
     (
-        b's',
-        b"NO 1\nterm (\\$0:o.(q $0 %3:o))\nat /\nend\n",
+        Asked::In(
+            BINARY,
+            Question::Call(
+                Call::Substitute,
+                b"NO 1\nterm (\\$0:o.(q $0 %3:o))\nat /\nend\n",
+            ),
+        ),
         b"\\0.((f0 #0) #1)",
     ),
 ];
 
-/// What becomes of the certificate's term.
-fn changed(alloc: Global, system: &System, how: u8, text: &[u8]) -> Result<Bytes, AllocError> {
-    let no = certificate_of(alloc, text)?;
-    match how {
-        b'o' => body_opened(alloc, system, &no),
-        b'c' => closed(alloc, system, &no),
-        _ => substituted(alloc, system, &no),
-    }
-}
-
 #[test]
 fn opens_closes_and_substitutes(rt: HostRuntime) -> Result<(), Fail> {
-    let alloc = rt.alloc();
-    let system = system_of(alloc, BINARY)?;
-    for (how, text, expected) in CHANGED {
-        let found = changed(alloc, &system, *how, *text)?;
-        assert_eq!(rt; found.as_slice(), *expected);
-    }
+    expect_answers(&rt, rt.alloc(), CHANGED)?;
     Ok(())
 }

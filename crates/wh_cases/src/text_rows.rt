@@ -1,5 +1,6 @@
 //! Rows of tokens and of printed texts.
 
+use crate::asking::expect_text;
 use crate::reading::{certificate_of, system_of};
 use std::alloc::{AllocError, Global};
 use std::test::Fail;
@@ -22,15 +23,20 @@ fn add_kind(text: &mut String, kind: TokenKind) -> Result<(), AllocError> {
     }
 }
 
-/// The tokens with their places, each in brackets.
+/// The token with its place, in brackets.
+fn add_token(text: &mut String, token: &Token) -> Result<(), AllocError> {
+    text.push('[')?;
+    add_kind(text, token.kind)?;
+    let from = token.from;
+    let to = token.to;
+    write!(text, " {from} {to}]")
+}
+
+/// The tokens.
 fn listed(alloc: Global, found: &[Token]) -> Result<String, AllocError> {
     let mut text = String::new(alloc);
     for token in found {
-        text.push('[')?;
-        add_kind(&mut text, token.kind)?;
-        let from = token.from;
-        let to = token.to;
-        write!(text, " {from} {to}]")?;
+        add_token(&mut text, token)?;
     }
     Ok(text)
 }
@@ -150,13 +156,18 @@ fn add_put(alloc: Global, out: &mut Bytes, put: &Put) -> Result<(), AllocError> 
     add_raw(alloc, out, &put.term)
 }
 
-/// What the lines of a certificate put.
-fn add_puts(alloc: Global, out: &mut Bytes, text: &[u8]) -> Result<(), AllocError> {
-    let no = certificate_of(alloc, text)?;
-    for put in no.puts.as_slice() {
+/// What each line puts.
+fn add_each_put(alloc: Global, out: &mut Bytes, puts: &[Put]) -> Result<(), AllocError> {
+    for put in puts {
         add_put(alloc, out, put)?;
     }
     Ok(())
+}
+
+/// What the lines of a certificate put.
+fn add_puts(alloc: Global, out: &mut Bytes, text: &[u8]) -> Result<(), AllocError> {
+    let no = certificate_of(alloc, text)?;
+    add_each_put(alloc, out, no.puts.as_slice())
 }
 
 /// The abstraction.
@@ -168,17 +179,22 @@ fn add_abstraction(alloc: Global, out: &mut Bytes) -> Result<(), AllocError> {
 /// A type of functions on functions, and a free variable of a functional type.
 const FUNCTIONAL: &[u8] = b"NO 1\nterm a\nat /\nput %0:((nat->o)->list) %65535:(nat->o)\nend\n";
 
+/// All these, and the greatest number.
+fn add_texts(alloc: Global, out: &mut Bytes) -> Result<(), AllocError> {
+    add_left_of(alloc, out, MAP)?;
+    add_puts(alloc, out, FUNCTIONAL)?;
+    add_abstraction(alloc, out)?;
+    print_number(out, 4_294_967_295)
+}
+
+/// What is expected of them.
+const PRINTED: &[u8] =
+    b"(map (\\$0:nat.F[$0]) (cons X Y))\n(nat->o)->list ((nat->o)->list) %65535:(nat->o)\n(\\x:(nat->o).Z[a,x])\n4294967295";
+
 #[test]
 fn prints_texts(rt: HostRuntime) -> Result<(), Fail> {
-    let alloc = rt.alloc();
-    let mut out = Bytes::new(alloc)?;
-    add_left_of(alloc, &mut out, MAP)?;
-    add_puts(alloc, &mut out, FUNCTIONAL)?;
-    add_abstraction(alloc, &mut out)?;
-    print_number(&mut out, 4_294_967_295)?;
-    assert_eq!(rt;
-        out.as_slice(),
-        b"(map (\\$0:nat.F[$0]) (cons X Y))\n(nat->o)->list ((nat->o)->list) %65535:(nat->o)\n(\\x:(nat->o).Z[a,x])\n4294967295".as_slice()
-    );
+    let mut out = Bytes::new(rt.alloc())?;
+    add_texts(rt.alloc(), &mut out)?;
+    expect_text(&rt, out.as_slice(), PRINTED);
     Ok(())
 }

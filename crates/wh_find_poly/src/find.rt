@@ -29,7 +29,7 @@ const EVALUATIONS_FOR_EACH: u64 = 50;
 
 // How much work the search in ranges has: so much, and so much more for each rule or pair beside each other, since each pair is asked to
 // be covered strictly and that may go through all; and no more than so much.
-const WORK: u64 = 150_000;
+const WORK: u64 = 30_000;
 
 const WORK_FOR_EACH_TWO: u64 = 15;
 
