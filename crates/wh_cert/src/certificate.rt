@@ -1,14 +1,10 @@
 //! What a certificate says.
 
-ghost use Rattle.std.specs.Prelude.{◌≡◌, [], ◌∷◌, ◌++◌, IfOk, OnOk, OnErr};
-
 use crate::poly_node::PolyNode;
-use std::alloc::{AllocError, Global};
-use std::marker::Model;
 use thiserror::Error;
 use wh_terms::{Path, Step};
 use wh_text::{Name, RawTerm, RawType};
-use wh_types::{Blocks, Numbers};
+use wh_types::{Blocks, List, Numbers};
 
 /// A certificate. All places in its raw trees are 0.
 #[derive(Drop)]
@@ -75,142 +71,13 @@ pub struct NoCertificate {
 }
 
 /// A list of symbols with arguments.
-#[derive(Drop)]
-pub struct Args {
-    items: Vec<Arg>,
-}
-
-impl Model for Args {
-    ghost use Rattle.std.specs.Prelude.{List};
-    ghost use Rattle.std.specs.Coded.{coded_list};
-    ghost use Rattle.wh_cert.specs.contracts.certificate.Arg as element;
-    ghost use Rattle.wh_cert.specs.declared.certificate.Arg.{Arg};
-
-    ghost Value = { List Arg };
-
-    ghost coded = { coded_list element.the_row.coded };
-
-    ghost view = { λ list. list.items.items };
-}
-
-impl Args {
-    /// The empty list.
-    pub fn new(alloc: Global) -> Result<Args, AllocError>
-        ensures { IfOk result (λ list. list ≡ []) }
-    {
-        Ok(Args {
-            items: Vec::new(alloc),
-        })
-    }
-
-    /// The item joins at the end; without memory the list stays as it was.
-    pub fn push(&mut self, item: Arg) -> Result<(), AllocError>
-        ensures ok { OnOk result (self.new ≡ self.old ++ item ∷ []) }
-        ensures err { OnErr result (self.new ≡ self.old) }
-    {
-        self.items.push(item)?;
-        Ok(())
-    }
-
-    /// The items in order.
-    pub fn as_slice(&self) -> &[Arg]
-        ensures { result.now ≡ self.now }
-    {
-        self.items.as_slice()
-    }
-}
+pub type Args = List<Arg>;
 
 /// A list of nodes.
-#[derive(Drop)]
-pub struct Nodes {
-    items: Vec<Node>,
-}
-
-impl Model for Nodes {
-    ghost use Rattle.std.specs.Prelude.{List};
-    ghost use Rattle.std.specs.Coded.{coded_list};
-    ghost use Rattle.wh_cert.specs.contracts.certificate.Node as element;
-    ghost use Rattle.wh_cert.specs.declared.certificate.Node.{Node};
-
-    ghost Value = { List Node };
-
-    ghost coded = { coded_list element.the_row.coded };
-
-    ghost view = { λ list. list.items.items };
-}
-
-impl Nodes {
-    /// The empty list.
-    pub fn new(alloc: Global) -> Result<Nodes, AllocError>
-        ensures { IfOk result (λ list. list ≡ []) }
-    {
-        Ok(Nodes {
-            items: Vec::new(alloc),
-        })
-    }
-
-    /// The item joins at the end; without memory the list stays as it was.
-    pub fn push(&mut self, item: Node) -> Result<(), AllocError>
-        ensures ok { OnOk result (self.new ≡ self.old ++ item ∷ []) }
-        ensures err { OnErr result (self.new ≡ self.old) }
-    {
-        self.items.push(item)?;
-        Ok(())
-    }
-
-    /// The items in order.
-    pub fn as_slice(&self) -> &[Node]
-        ensures { result.now ≡ self.now }
-    {
-        self.items.as_slice()
-    }
-}
+pub type Nodes = List<Node>;
 
 /// A list of steps.
-#[derive(Drop)]
-pub struct Steps {
-    items: Vec<Step>,
-}
-
-impl Model for Steps {
-    ghost use Rattle.std.specs.Prelude.{List};
-    ghost use Rattle.std.specs.Coded.{coded_list};
-    ghost use Rattle.wh_terms.specs.contracts.path.Step as element;
-    ghost use Rattle.wh_terms.specs.declared.path.Step.{Step};
-
-    ghost Value = { List Step };
-
-    ghost coded = { coded_list element.the_row.coded };
-
-    ghost view = { λ list. list.items.items };
-}
-
-impl Steps {
-    /// The empty list.
-    pub fn new(alloc: Global) -> Result<Steps, AllocError>
-        ensures { IfOk result (λ list. list ≡ []) }
-    {
-        Ok(Steps {
-            items: Vec::new(alloc),
-        })
-    }
-
-    /// The step joins at the end; without memory the list stays as it was.
-    pub fn push(&mut self, item: Step) -> Result<(), AllocError>
-        ensures ok { OnOk result (self.new ≡ self.old ++ item ∷ []) }
-        ensures err { OnErr result (self.new ≡ self.old) }
-    {
-        self.items.push(item)?;
-        Ok(())
-    }
-
-    /// The steps in order.
-    pub fn as_slice(&self) -> &[Step]
-        ensures { result.now ≡ self.now }
-    {
-        self.items.as_slice()
-    }
-}
+pub type Steps = List<Step>;
 
 /// A variable, by its number and its type, and the term that is put for it.
 #[derive(Drop)]
@@ -224,50 +91,7 @@ pub struct Put {
 }
 
 /// A list of terms that are put for variables.
-#[derive(Drop)]
-pub struct Puts {
-    items: Vec<Put>,
-}
-
-impl Model for Puts {
-    ghost use Rattle.std.specs.Prelude.{List};
-    ghost use Rattle.std.specs.Coded.{coded_list};
-    ghost use Rattle.wh_cert.specs.contracts.certificate.Put as element;
-    ghost use Rattle.wh_cert.specs.declared.certificate.Put.{Put};
-
-    ghost Value = { List Put };
-
-    ghost coded = { coded_list element.the_row.coded };
-
-    ghost view = { λ list. list.items.items };
-}
-
-impl Puts {
-    /// The empty list.
-    pub fn new(alloc: Global) -> Result<Puts, AllocError>
-        ensures { IfOk result (λ list. list ≡ []) }
-    {
-        Ok(Puts {
-            items: Vec::new(alloc),
-        })
-    }
-
-    /// The item joins at the end; without memory the list stays as it was.
-    pub fn push(&mut self, item: Put) -> Result<(), AllocError>
-        ensures ok { OnOk result (self.new ≡ self.old ++ item ∷ []) }
-        ensures err { OnErr result (self.new ≡ self.old) }
-    {
-        self.items.push(item)?;
-        Ok(())
-    }
-
-    /// The items in order.
-    pub fn as_slice(&self) -> &[Put]
-        ensures { result.now ≡ self.now }
-    {
-        self.items.as_slice()
-    }
-}
+pub type Puts = List<Put>;
 
 /// The bytes are no certificate text.
 #[derive(Clone, Copy, Debug, Error)]

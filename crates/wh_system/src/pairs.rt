@@ -6,6 +6,7 @@ ghost use Rattle.wh_system.specs.PairData.{IsIncreasing};
 use std::alloc::{AllocError, Global};
 use std::marker::Model;
 use wh_terms::{Metas, Terms};
+use wh_types::List;
 
 /// That a call stands within an argument of a meta-variable on the right side: the meta-variable and the place of the
 /// argument, counted from 1.
@@ -18,50 +19,7 @@ pub struct Condition {
 }
 
 /// A list of conditions.
-#[derive(Drop)]
-pub struct Conditions {
-    items: Vec<Condition>,
-}
-
-impl Model for Conditions {
-    ghost use Rattle.std.specs.Prelude.{List};
-    ghost use Rattle.std.specs.Coded.{coded_list};
-    ghost use Rattle.wh_system.specs.contracts.pairs.Condition as element;
-    ghost use Rattle.wh_system.specs.declared.pairs.Condition.{Condition};
-
-    ghost Value = { List Condition };
-
-    ghost coded = { coded_list element.the_row.coded };
-
-    ghost view = { λ list. list.items.items };
-}
-
-impl Conditions {
-    /// The empty list.
-    pub fn new(alloc: Global) -> Result<Conditions, AllocError>
-        ensures { IfOk result (λ list. list ≡ []) }
-    {
-        Ok(Conditions {
-            items: Vec::new(alloc),
-        })
-    }
-
-    /// The condition joins at the end; without memory the list stays as it was.
-    pub fn push(&mut self, item: Condition) -> Result<(), AllocError>
-        ensures ok { OnOk result (self.new ≡ self.old ++ item ∷ []) }
-        ensures err { OnErr result (self.new ≡ self.old) }
-    {
-        self.items.push(item)?;
-        Ok(())
-    }
-
-    /// The conditions in order.
-    pub fn as_slice(&self) -> &[Condition]
-        ensures { result.now ≡ self.now }
-    {
-        self.items.as_slice()
-    }
-}
+pub type Conditions = List<Condition>;
 
 /// A dependency pair of a rule (Kop 2012; Fuhs and Kop 2019): a call of a defined symbol in the right side, with the left
 /// side that leads to it. The meta-variables are those of the rule, followed by fresh ones: for the binders of the right side
@@ -85,50 +43,7 @@ pub struct Pair {
 }
 
 /// A list of dependency pairs.
-#[derive(Drop)]
-pub struct PairList {
-    items: Vec<Pair>,
-}
-
-impl Model for PairList {
-    ghost use Rattle.std.specs.Prelude.{List};
-    ghost use Rattle.std.specs.Coded.{coded_list};
-    ghost use Rattle.wh_system.specs.contracts.pairs.Pair as element;
-    ghost use Rattle.wh_system.specs.declared.pairs.Pair.{Pair};
-
-    ghost Value = { List Pair };
-
-    ghost coded = { coded_list element.the_row.coded };
-
-    ghost view = { λ list. list.items.items };
-}
-
-impl PairList {
-    /// The empty list.
-    pub fn new(alloc: Global) -> Result<PairList, AllocError>
-        ensures { IfOk result (λ list. list ≡ []) }
-    {
-        Ok(PairList {
-            items: Vec::new(alloc),
-        })
-    }
-
-    /// The pair joins at the end; without memory the list stays as it was.
-    pub fn push(&mut self, item: Pair) -> Result<(), AllocError>
-        ensures ok { OnOk result (self.new ≡ self.old ++ item ∷ []) }
-        ensures err { OnErr result (self.new ≡ self.old) }
-    {
-        self.items.push(item)?;
-        Ok(())
-    }
-
-    /// The pairs in order.
-    pub fn as_slice(&self) -> &[Pair]
-        ensures { result.now ≡ self.now }
-    {
-        self.items.as_slice()
-    }
-}
+pub type PairList = List<Pair>;
 
 /// A set of pairs by their numbers, in increasing order.
 #[derive(Drop)]

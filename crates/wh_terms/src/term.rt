@@ -1,12 +1,8 @@
 //! The trees themselves.
 
-ghost use Rattle.std.specs.Prelude.{◌≡◌, [], ◌∷◌, ◌++◌, IfOk, OnOk, OnErr};
-
-use std::alloc::{AllocError, Global};
-use wh_types::SimpleType;
+use wh_types::{List, SimpleType};
 
 /// A term or meta-term.
-#[cycle(term)]
 #[derive(Drop)]
 pub enum Term {
     /// A bound variable; its number counts the binders around it, outward from 0.
@@ -24,37 +20,4 @@ pub enum Term {
 }
 
 /// A list of terms.
-#[cycle(term)]
-#[derive(Drop)]
-pub struct Terms {
-    items: Vec<Term>,
-}
-
-impl Terms {
-    ghost use Rattle.wh_terms.specs.Erase.{list};
-
-    /// The empty list.
-    pub fn new(alloc: Global) -> Result<Terms, AllocError>
-        ensures { IfOk result (λ terms. list terms ≡ []) }
-    {
-        Ok(Terms {
-            items: Vec::new(alloc),
-        })
-    }
-
-    /// The term joins at the end; without memory the list stays as it was.
-    pub fn push(&mut self, item: Term) -> Result<(), AllocError>
-        ensures ok { OnOk result (list self.new ≡ list self.old ++ item ∷ []) }
-        ensures err { OnErr result (list self.new ≡ list self.old) }
-    {
-        self.items.push(item)?;
-        Ok(())
-    }
-
-    /// The terms in order.
-    pub fn as_slice(&self) -> &[Term]
-        ensures { result.now ≡ list self.now }
-    {
-        self.items.as_slice()
-    }
-}
+pub type Terms = List<Term>;

@@ -1,11 +1,7 @@
 //! Tokens, with the places where they stand.
 
-ghost use Rattle.std.specs.Prelude.{◌≡◌, [], ◌∷◌, ◌++◌, IfOk, OnOk, OnErr};
-
-use std::alloc::{AllocError, Global};
-use std::marker::Model;
 use thiserror::Error;
-use wh_types::Or;
+use wh_types::{List, Or};
 
 /// What a token is. The bytes of a name, a keyword or a sign are those of the text where it stands.
 #[derive(Clone, Copy)]
@@ -34,50 +30,7 @@ pub struct Token {
 }
 
 /// A list of tokens.
-#[derive(Drop)]
-pub struct Tokens {
-    items: Vec<Token>,
-}
-
-impl Model for Tokens {
-    ghost use Rattle.std.specs.Prelude.{List};
-    ghost use Rattle.std.specs.Coded.{coded_list};
-    ghost use Rattle.wh_text.specs.contracts.token.Token as token;
-    ghost use Rattle.wh_text.specs.declared.token.Token.{Token};
-
-    ghost Value = { List Token };
-
-    ghost coded = { coded_list token.the_row.coded };
-
-    ghost view = { λ tokens. tokens.items.items };
-}
-
-impl Tokens {
-    /// The empty list.
-    pub fn new(alloc: Global) -> Result<Tokens, AllocError>
-        ensures { IfOk result (λ tokens. tokens ≡ []) }
-    {
-        Ok(Tokens {
-            items: Vec::new(alloc),
-        })
-    }
-
-    /// The token joins at the end; without memory the list stays as it was.
-    pub fn push(&mut self, item: Token) -> Result<(), AllocError>
-        ensures ok { OnOk result (self.new ≡ self.old ++ item ∷ []) }
-        ensures err { OnErr result (self.new ≡ self.old) }
-    {
-        self.items.push(item)?;
-        Ok(())
-    }
-
-    /// The tokens in order.
-    pub fn as_slice(&self) -> &[Token]
-        ensures { result.now ≡ self.now }
-    {
-        self.items.as_slice()
-    }
-}
+pub type Tokens = List<Token>;
 
 /// The first place at which a text can't be cut into tokens.
 #[derive(Clone, Copy, Debug, Error)]

@@ -1,3 +1,4 @@
 pub mod Ty
 pub mod Erase
 pub mod Outcome
+pub mod formers

@@ -2,16 +2,19 @@
 //! the one error that tells want of memory from a cause.
 #![tactic(auto)]
 
-mod blocks;
-mod bytes;
-mod numbers;
+mod list;
 mod ranks;
 mod simple_type;
 mod want;
 
-pub use blocks::Blocks;
-pub use bytes::Bytes;
-pub use numbers::Numbers;
+pub use list::List;
 pub use ranks::Ranks;
 pub use simple_type::{SimpleType, same_type};
 pub use want::Or;
+
+/// A list of numbers: of pairs, of sorts, of places.
+pub type Numbers = List<u32>;
+/// A list of bytes: the text of a file, of an answer or of a certificate.
+pub type Bytes = List<u8>;
+/// A list of blocks, each a list of numbers.
+pub type Blocks = List<Numbers>;
