@@ -1,7 +1,7 @@
 //! Whether a meta-variable occurs in a term.
 
 ghost use Rattle.std.specs.Prelude.{◌↔◌, IsTrue};
-ghost use Rattle.wh_terms.specs.Erase.{tm, terms};
+ghost use Rattle.wh_terms.specs.Erase.{tm, tms};
 ghost use Rattle.wh_terms.specs.Sight.{Occurs, OccursIn};
 
 use wh_terms::{Term, Terms};
@@ -22,7 +22,7 @@ pub fn occurs(meta: u32, term: &Term) -> bool
 // The same of the terms of a list.
 #[cycle(occurrence)]
 fn occurs_in(meta: u32, items: &Terms) -> bool
-    ensures { IsTrue result ↔ OccursIn meta (terms items.now) }
+    ensures { IsTrue result ↔ OccursIn meta (tms items.now) }
 {
     for item in items.as_slice() {
         if occurs(meta, item) {

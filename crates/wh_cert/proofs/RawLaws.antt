@@ -1,21 +1,20 @@
 -- What raw trees that are put together stand for.
 use Rattle.std.proofs.Common.{◌≡◌, ℕ, suc, List, [], ◌∷◌, ◌++◌, length, refl, ap, ◌∙◌}
 use Rattle.wh_text.specs.RawTree.{raw_type, RTys, more_types, RTms, more}
-use Rattle.wh_text.specs.Erase.{rty, rtys, type_list, rtm, rtms}
+use Rattle.wh_text.specs.Erase.{rty, rtys, rtm, rtms}
 use Rattle.wh_text.specs.declared.raw.RawType.{RawType, out-RawType}
-use Rattle.wh_text.specs.declared.raw.RawTypes.{RawTypes}
 use Rattle.wh_text.specs.declared.raw.RawTerm.{RawTerm}
 use Rattle.wh_text.proofs.RawLemmas.{rty_parts}
 use Rattle.wh_cert.specs.Limits.{type_count, term_count}
 use Rattle.wh_cert.specs.TypeMachine.{add_type}
 use Rattle.wh_cert.specs.TermMachine.{add_term}
 
-pub functional_type : (a : RawType) (args : RawTypes) (sort : List ℕ) → (out-RawType a).args ≡ args → (out-RawType a).sort ≡ sort → (out-RawType a).at ≡ 0 → rty a ≡ raw_type (rtys (type_list args)) sort 0
+pub functional_type : (a : RawType) (args : List RawType) (sort : List ℕ) → (out-RawType a).args ≡ args → (out-RawType a).sort ≡ sort → (out-RawType a).at ≡ 0 → rty a ≡ raw_type (rtys args) sort 0
 functional_type a args sort f g h =
     rty_parts a
-    ∙ ap (λ (bs : RawTypes). raw_type (rtys (type_list bs)) (out-RawType a).sort (out-RawType a).at) f
-    ∙ ap (λ (s : List ℕ). raw_type (rtys (type_list args)) s (out-RawType a).at) g
-    ∙ ap (λ (n : ℕ). raw_type (rtys (type_list args)) sort n) h
+    ∙ ap (λ (bs : List RawType). raw_type (rtys bs) (out-RawType a).sort (out-RawType a).at) f
+    ∙ ap (λ (s : List ℕ). raw_type (rtys args) s (out-RawType a).at) g
+    ∙ ap (λ (n : ℕ). raw_type (rtys args) sort n) h
 
 rtys_push : (as_are : List RawType) (a : RawType) → rtys (as_are ++ a ∷ []) ≡ add_type (rtys as_are) (rty a)
 rtys_push [] a = refl

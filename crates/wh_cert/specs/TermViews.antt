@@ -1,6 +1,6 @@
 -- What the values of the reader of terms stand for.
 use Rattle.std.specs.Prelude.{List, [], ◌∷◌, Option, Some, None}
-use Rattle.wh_text.specs.Erase.{rty, rtm, rtms, term_list}
+use Rattle.wh_text.specs.Erase.{rty, rtm, rtms}
 use Rattle.wh_cert.specs.TermMachine as m
 use Rattle.wh_cert.specs.TypeViews.{type_stack, type_place}
 use Rattle.wh_cert.specs.declared.term_reader.Frame.{Frame}
@@ -15,7 +15,7 @@ use Rattle.wh_cert.specs.declared.term_reader.TermStep.TheVariants.{Goes, Whole,
 -- a parenthesis inside others
 abbrev pub framed : Frame → m.Stack → m.Stack
 framed Head fs = m.in_head fs
-framed (Spine head args) fs = m.in_spine (rtm head.value) (rtms (term_list args)) fs
+framed (Spine head args) fs = m.in_spine (rtm head.value) (rtms args) fs
 framed (Body n a) fs = m.in_body n (rty a) fs
 
 -- the open parentheses of the list, from the outermost on, inside those given

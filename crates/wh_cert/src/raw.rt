@@ -2,14 +2,14 @@
 
 ghost use Rattle.std.specs.Prelude.{◌≡◌, IfOk};
 ghost use Rattle.wh_text.specs.RawTree.{raw_type, no_types, numbered_binder, lam, spine};
-ghost use Rattle.wh_text.specs.Erase.{rty, rtys, type_list, rtm, rtms, term_list};
+ghost use Rattle.wh_text.specs.Erase.{rty, rtys, rtm, rtms};
 
 use std::alloc::{AllocError, Global};
 use wh_text::{Name, RawBinder, RawTerm, RawTerms, RawType, RawTypes};
 
 /// The type of functions from the arguments to the sort.
 pub fn functional(args: RawTypes, sort: Name) -> RawType
-    ensures { rty result ≡ raw_type (rtys (type_list args)) sort 0 }
+    ensures { rty result ≡ raw_type (rtys args) sort 0 }
 {
     RawType { args, sort, at: 0 }
 }
@@ -35,7 +35,7 @@ pub fn abstraction(
 
 /// The head with these arguments.
 pub fn applied(head: Box<RawTerm>, args: RawTerms) -> RawTerm
-    ensures { rtm result ≡ spine (rtm head.value) (rtms (term_list args)) 0 }
+    ensures { rtm result ≡ spine (rtm head.value) (rtms args) 0 }
 {
     RawTerm::Spine(head, args, 0)
 }

@@ -1,7 +1,7 @@
 //! Terms up to a line feed, byte by byte.
 
 ghost use Rattle.std.specs.Prelude.{◌≡◌, ◌==◌, ◌&&◌, List, suc, cond, nat_lt, IfOk, OnOk, MatchOption};
-ghost use Rattle.wh_text.specs.Erase.{rty, rtm, rtms, term_list};
+ghost use Rattle.wh_text.specs.Erase.{rty, rtm, rtms};
 ghost use Rattle.wh_cert.specs.Limits.{term_count};
 ghost use Rattle.wh_cert.specs.TypeMachine.{outside, type_wanted, type_ended};
 ghost use Rattle.wh_cert.specs.TermMachine.{Stack, base, State, at, failed, in_head, in_spine, in_body, wanted, opened, letters as name_letters, bound_number, free_number, binder_number, typing, level, after, begin, typed, step};
@@ -176,7 +176,7 @@ fn opens_second(stack: &[Frame], byte: u8) -> bool
 /// The byte begins one more argument behind these and another one, and may.
 #[tactic(auto, using(crate::proofs::TermCode::next_argument))]
 fn begins_argument(args: &RawTerms, byte: u8) -> bool
-    ensures { result ≡ ((byte == 32) && nat_lt (suc (term_count (rtms (term_list args.now)))) 32) }
+    ensures { result ≡ ((byte == 32) && nat_lt (suc (term_count (rtms args.now))) 32) }
 {
     byte == b' ' && args.as_slice().len() < MOST_ARGUMENTS - 1
 }
@@ -395,7 +395,7 @@ fn end_argument(
     byte: u8,
 ) -> Result<TermStep, AllocError>
     ensures { IfOk result (λ next. term_went stack.new.items next
-        ≡ after (in_spine (rtm head.value) (rtms (term_list args)) (term_stack stack.old.items)) (rtm term) byte) }
+        ≡ after (in_spine (rtm head.value) (rtms args) (term_stack stack.old.items)) (rtm term) byte) }
 {
     if byte == b')' {
         args.push(term)?;

@@ -1,7 +1,7 @@
 //! Types, byte by byte.
 
 ghost use Rattle.std.specs.Prelude.{◌≡◌, ◌==◌, ◌&&◌, nat_lt, IfOk, OnOk, MatchOption};
-ghost use Rattle.wh_text.specs.Erase.{rty, rtys, type_list};
+ghost use Rattle.wh_text.specs.Erase.{rty, rtys};
 ghost use Rattle.wh_cert.specs.Limits.{type_count};
 ghost use Rattle.wh_cert.specs.TypeMachine.{outside, inside, type_wanted, dash, closed_type, sort_name, type_level, has_room, has_types, name_ended, type_step};
 ghost use Rattle.wh_cert.specs.TypeViews.{type_stack, type_place, type_went};
@@ -61,7 +61,7 @@ pub fn type_step(
 /// A parenthesis opens, with these arguments read in it.
 #[tactic(auto, using(crate::proofs::TypeCode::type_push))]
 fn open_type(stack: &mut Vec<RawTypes>, args: RawTypes) -> Result<(), AllocError>
-    ensures { OnOk result (type_stack stack.new.items ≡ inside (rtys (type_list args)) (type_stack stack.old.items)) }
+    ensures { OnOk result (type_stack stack.new.items ≡ inside (rtys args) (type_stack stack.old.items)) }
 {
     stack.push(args)?;
     Ok(())
@@ -71,7 +71,7 @@ fn open_type(stack: &mut Vec<RawTypes>, args: RawTypes) -> Result<(), AllocError
 fn close_type(stack: &mut Vec<RawTypes>) -> Option<RawTypes>
     ensures { MatchOption result
         (type_stack stack.old.items ≡ outside)
-        (λ args. type_stack stack.old.items ≡ inside (rtys (type_list args)) (type_stack stack.new.items)) }
+        (λ args. type_stack stack.old.items ≡ inside (rtys args) (type_stack stack.new.items)) }
 {
     stack.pop()
 }
@@ -104,7 +104,7 @@ fn opens(stack: &[RawTypes], byte: u8) -> bool
 /// The byte begins an arrow behind one more argument, and may.
 #[tactic(auto, using(crate::proofs::RawLaws::rtys_count))]
 fn begins_arrow(args: &RawTypes, byte: u8) -> bool
-    ensures { result ≡ ((byte == 45) && nat_lt (type_count (rtys (type_list args.now))) 64) }
+    ensures { result ≡ ((byte == 45) && nat_lt (type_count (rtys args.now)) 64) }
 {
     byte == b'-' && args.as_slice().len() < MOST_ARGUMENTS
 }
@@ -112,7 +112,7 @@ fn begins_arrow(args: &RawTypes, byte: u8) -> bool
 /// The byte closes a parenthesis with these arguments in it, and may.
 #[tactic(auto, using(crate::proofs::TypeCode::has_types_is))]
 fn closes(args: &RawTypes, byte: u8) -> bool
-    ensures { result ≡ ((byte == 41) && has_types (rtys (type_list args.now))) }
+    ensures { result ≡ ((byte == 41) && has_types (rtys args.now)) }
 {
     byte == b')' && !args.as_slice().is_empty()
 }

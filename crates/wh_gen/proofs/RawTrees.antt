@@ -1,8 +1,7 @@
 -- What the raw trees that the code makes stand for.
 use Rattle.std.proofs.Common.{◌≡◌, ℕ, List, ap₂, ◌∙◌}
 use Rattle.wh_text.specs.RawTree.{RTy, raw_type, RTys}
-use Rattle.wh_text.specs.Erase.{rty, rtys, type_list}
-use Rattle.wh_text.specs.declared.raw.RawTypes.{RawTypes}
+use Rattle.wh_text.specs.Erase.{rty, rtys}
 use Rattle.wh_text.specs.declared.raw.RawType.{RawType, roll-RawType}
 use Rattle.wh_text.proofs.RawLemmas.{arguments_are}
 use Rattle.wh_parts.specs.Erase.{rname, rmeta}
@@ -10,11 +9,11 @@ use Rattle.wh_parts.specs.declared.parts.RawName.{RawName}
 use Rattle.wh_system.specs.CanonicalParts.{raw_name}
 use Rattle.wh_gen.specs.RawFamily.{raw_meta}
 
-pub rty_over : (args : RawTypes) (name sort : List ℕ) → name ≡ sort → rty (roll-RawType (record { args = args; sort = name; at = 0 })) ≡ raw_type (rtys (type_list args)) sort 0
+pub rty_over : (args : List RawType) (name sort : List ℕ) → name ≡ sort → rty (roll-RawType (record { args = args; sort = name; at = 0 })) ≡ raw_type (rtys args) sort 0
 unfolding roll-RawType denote.Hole.Carrier.roll
 rty_over args name sort same = ap₂ (λ as_well s. raw_type as_well s 0) (arguments_are args) same
 
-pub rmeta_of : (raw : RawName) (args : RawTypes) (kind : RawType) (name : List ℕ) (as_well : RTys) (out : RTy) → rname raw ≡ raw_name name → rtys (type_list args) ≡ as_well → rty kind ≡ out
+pub rmeta_of : (raw : RawName) (args : List RawType) (kind : RawType) (name : List ℕ) (as_well : RTys) (out : RTy) → rname raw ≡ raw_name name → rtys args ≡ as_well → rty kind ≡ out
     → rmeta (record { name = raw; args = args; result = kind }) ≡ raw_meta name as_well out
 rmeta_of raw args kind name as_well out named args_are kind_is =
     λ i. record { name = named i; args = (arguments_are args ∙ args_are) i; out = kind_is i }

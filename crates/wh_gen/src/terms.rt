@@ -1,7 +1,7 @@
 //! The terms of a generated system, as a text has them.
 
 ghost use Rattle.std.specs.Prelude.{◌≡◌, [], ◌∷◌, IfOk};
-ghost use Rattle.wh_text.specs.Erase.{rtm, rtms, term_list};
+ghost use Rattle.wh_text.specs.Erase.{rtm, rtms};
 ghost use Rattle.wh_text.specs.Words.{IsWord};
 ghost use Rattle.wh_gen.specs.Family.{map_name};
 ghost use Rattle.wh_gen.specs.RawFamily.{raw_plain, raw_image, raw_mapped, raw_call, raw_cons, raw_map_of};
@@ -31,7 +31,7 @@ pub fn plain(alloc: Global, name: &[u8]) -> Result<RawTerm, AllocError>
 
 // The list of one term.
 fn single(alloc: Global, term: RawTerm) -> Result<RawTerms, AllocError>
-    ensures { IfOk result (λ terms. term_list terms ≡ term ∷ []) }
+    ensures { IfOk result (λ terms. terms ≡ term ∷ []) }
 {
     let mut terms = RawTerms::new(alloc)?;
     terms.push(term)?;
@@ -40,7 +40,7 @@ fn single(alloc: Global, term: RawTerm) -> Result<RawTerms, AllocError>
 
 // The list of two terms.
 fn pair(alloc: Global, first: RawTerm, second: RawTerm) -> Result<RawTerms, AllocError>
-    ensures { IfOk result (λ terms. term_list terms ≡ first ∷ second ∷ []) }
+    ensures { IfOk result (λ terms. terms ≡ first ∷ second ∷ []) }
 {
     let mut terms = single(alloc, first)?;
     terms.push(second)?;
@@ -66,7 +66,7 @@ fn mapped(alloc: Global) -> Result<RawTerm, AllocError>
 // The symbol of that name with its arguments.
 fn call(alloc: Global, name: &[u8], arguments: RawTerms) -> Result<RawTerm, AllocError>
     requires { IsWord name.now }
-    ensures { IfOk result (λ raw. rtm raw ≡ raw_call name.now (rtms (term_list arguments))) }
+    ensures { IfOk result (λ raw. rtm raw ≡ raw_call name.now (rtms arguments)) }
 {
     let head = Box::new(alloc, plain(alloc, name)?)?;
     Ok(RawTerm::Spine(head, arguments, 0))

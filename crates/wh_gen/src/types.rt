@@ -1,7 +1,7 @@
 //! The types of a generated system, as a text has them.
 
 ghost use Rattle.std.specs.Prelude.{◌≡◌, IfOk};
-ghost use Rattle.wh_text.specs.Erase.{rty, rtys, type_list};
+ghost use Rattle.wh_text.specs.Erase.{rty, rtys};
 ghost use Rattle.wh_text.specs.RawTree.{raw_type, no_types};
 ghost use Rattle.wh_text.specs.Words.{IsWord};
 ghost use Rattle.wh_gen.specs.RawFamily.{raw_nat, raw_list, raw_step, raw_onto_lists};
@@ -12,7 +12,7 @@ use wh_text::{Name, RawType, RawTypes};
 // The type of functions of these types, one after another, to a sort.
 fn over(alloc: Global, args: RawTypes, sort: &[u8]) -> Result<RawType, AllocError>
     requires { IsWord sort.now }
-    ensures { IfOk result (λ raw. rty raw ≡ raw_type (rtys (type_list args)) sort.now 0) }
+    ensures { IfOk result (λ raw. rty raw ≡ raw_type (rtys args) sort.now 0) }
 {
     let sort = Name::new(alloc, sort)?;
     Ok(RawType { args, sort, at: 0 })

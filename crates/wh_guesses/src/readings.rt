@@ -2,7 +2,7 @@
 //! symbols.
 
 ghost use Rattle.std.specs.Prelude.{ℕ, ◌+◌, ◌≡◌, ◌⊎◌, ◌<◌, ◌≤◌, All, Contains, IfOk, Some, length, map, slice_get};
-ghost use Rattle.wh_terms.specs.Erase.{rewrite_rule, rewrite_rules, terms as trees, tm};
+ghost use Rattle.wh_terms.specs.Erase.{rewrite_rule, rewrite_rules, tms as trees, tm};
 ghost use Rattle.wh_system.specs.PairData.{IsIncreasing, pair_data};
 ghost use Rattle.wh_subterm.specs.Marked.{AreMarked};
 ghost use Rattle.wh_guesses.specs.Conditions.{HasSymbol, SomeHasSymbol, StandsInPair};

@@ -1,7 +1,7 @@
 //! The symbols of terms.
 
 ghost use Rattle.std.specs.Prelude.{OnOk};
-ghost use Rattle.wh_terms.specs.Erase.{terms as trees, tm};
+ghost use Rattle.wh_terms.specs.Erase.{tms as trees, tm};
 ghost use Rattle.wh_guesses.specs.Conditions.{HasSymbol, SomeHasSymbol};
 ghost use Rattle.wh_guesses.specs.Readings.{Joins};
 

@@ -2,7 +2,7 @@
 
 ghost use Rattle.std.specs.Prelude.{◌≡◌, ◌<◌, IfOk, length};
 ghost use Rattle.wh_types.specs.Erase.{ty, tys};
-ghost use Rattle.wh_terms.specs.Erase.{tm, terms, declared_metas};
+ghost use Rattle.wh_terms.specs.Erase.{tm, tms, declared_metas};
 ghost use Rattle.wh_terms.specs.Tree.{free};
 ghost use Rattle.wh_terms.specs.Typing.{WellTyped};
 ghost use Rattle.wh_system.specs.SystemView.{system_data};
@@ -68,7 +68,7 @@ fn freed(alloc: Global, metas: &[MetaDecl], term: &Term) -> Result<Term, AllocEr
 // The head applied to the arguments of a meta-variable, with free variables in place of meta-variables in these.
 #[cycle(freed)]
 fn applied(alloc: Global, metas: &[MetaDecl], head: Term, items: &Terms) -> Result<Term, AllocError>
-    ensures { IfOk result (λ r. tm r ≡ freed_spine (declared_metas metas.now) (tm head) (terms items.now)) }
+    ensures { IfOk result (λ r. tm r ≡ freed_spine (declared_metas metas.now) (tm head) (tms items.now)) }
 {
     let mut whole = head;
     for item in items.as_slice() {

@@ -4,7 +4,7 @@
 
 ghost use Rattle.std.specs.Prelude.{◌≡◌, ◌+◌, ◌++◌, ◌∷◌, [], ℕ, length, map, drop, OnOk, IfOk};
 ghost use Rattle.wh_types.specs.Erase.{ty};
-ghost use Rattle.wh_terms.specs.Erase.{tm, tms, terms, list, rewrite_rule};
+ghost use Rattle.wh_terms.specs.Erase.{tm, tms, rewrite_rule};
 ghost use Rattle.wh_terms.specs.Tree.{head, tms_of};
 ghost use Rattle.wh_terms.specs.Scope.{scope};
 ghost use Rattle.wh_system.specs.PairData.{within};
@@ -146,8 +146,8 @@ fn add_within<'a>(
     items: &'a Terms,
     found: &mut Vec<Call<'a>>,
 ) -> Result<(), AllocError>
-    requires { AllSymbolsBelow (length (system_data system.now).fun_names) (terms items.now) }
-    ensures { OnOk result (map call_data found.new.items ≡ map call_data found.old.items ++ calls_within (system_data system.now).rules (map within conditions.now) (scope binders.now) meta 1 (terms items.now)) }
+    requires { AllSymbolsBelow (length (system_data system.now).fun_names) (tms items.now) }
+    ensures { OnOk result (map call_data found.new.items ≡ map call_data found.old.items ++ calls_within (system_data system.now).rules (map within conditions.now) (scope binders.now) meta 1 (tms items.now)) }
 {
     for (i, item) in items.as_slice().iter().enumerate() {
         let added = Condition {

@@ -3,7 +3,7 @@
 ghost use Rattle.std.specs.Prelude.{◌≡◌, ◌+◌, ◌-◌, ◌++◌, ◌<◌, ◌≤◌, ℕ, length, map, reverse, take, IfOk};
 ghost use Rattle.wh_types.specs.Erase.{ty};
 ghost use Rattle.wh_terms.specs.Tree.{free, fun, head};
-ghost use Rattle.wh_terms.specs.Erase.{tm, list, symbols, declared_metas, declared_meta, rewrite_rule};
+ghost use Rattle.wh_terms.specs.Erase.{tm, symbols, declared_metas, declared_meta, rewrite_rule};
 ghost use Rattle.wh_terms.specs.Scope.{scope};
 ghost use Rattle.wh_terms.specs.Kinds.{kinds_of};
 ghost use Rattle.wh_terms.specs.Substitution.{act};
@@ -89,7 +89,7 @@ fn candidate_metas(alloc: Global, metas: &Metas, kinds: &[&SimpleType]) -> Resul
 
 // Copies of the arguments of the left side.
 fn left_arguments(alloc: Global, arguments: &[&Term]) -> Result<Terms, AllocError>
-    ensures { IfOk result (λ left. map tm (list left) ≡ trees arguments.now) }
+    ensures { IfOk result (λ left. map tm left ≡ trees arguments.now) }
 {
     let mut left = Terms::new(alloc)?;
     for argument in arguments {
@@ -105,7 +105,7 @@ fn add_missing(
     first: u32,
     count: u32,
 ) -> Result<Terms, AllocError>
-    ensures { IfOk result (λ all. map tm (list all) ≡ map tm (list arguments) ++ numbered_from first count) }
+    ensures { IfOk result (λ all. map tm all ≡ map tm arguments ++ numbered_from first count) }
 {
     for number in first..sum(first, count)? {
         arguments.push(nullary(alloc, number)?)?;
@@ -115,7 +115,7 @@ fn add_missing(
 
 // The right arguments of a candidate, where the first fresh meta-variable has the number `first`.
 fn right_arguments(alloc: Global, first: u32, call: &Call<'_>) -> Result<Terms, AllocError>
-    ensures { IfOk result (λ right. map tm (list right) ≡ map (act (freed first (call_data call.now).binders) free) (take call.now.need (call_data call.now).arguments) ++ numbered_from (first + length (call_data call.now).binders) (call.now.need - length (call_data call.now).arguments)) }
+    ensures { IfOk result (λ right. map tm right ≡ map (act (freed first (call_data call.now).binders) free) (take call.now.need (call_data call.now).arguments) ++ numbered_from (first + length (call_data call.now).binders) (call.now.need - length (call_data call.now).arguments)) }
 {
     let by = Freeing {
         first,

@@ -5,7 +5,7 @@
 ghost use Rattle.std.specs.Prelude.{◌≡◌, ◌+◌, ℕ, map, IfOk};
 ghost use Rattle.wh_types.specs.Erase.{ty};
 ghost use Rattle.wh_terms.specs.Tree.{free, meta as meta_tree, none};
-ghost use Rattle.wh_terms.specs.Erase.{tm, terms, list};
+ghost use Rattle.wh_terms.specs.Erase.{tm, tms};
 ghost use Rattle.wh_terms.specs.Scope.{scope};
 ghost use Rattle.wh_terms.specs.Substitution.{act, acts};
 ghost use Rattle.wh_terms.specs.Under.{ups, ups_free};
@@ -91,7 +91,7 @@ fn freed_each(
     items: &Terms,
     depth: u32,
 ) -> Result<Terms, AllocError>
-    ensures { IfOk result (λ r. terms r ≡ acts (ups depth (freed by.now.first (scope by.now.binders.now))) (ups_free depth free) (terms items.now)) }
+    ensures { IfOk result (λ r. tms r ≡ acts (ups depth (freed by.now.first (scope by.now.binders.now))) (ups_free depth free) (tms items.now)) }
 {
     let mut results = Terms::new(alloc)?;
     for item in items.as_slice() {
@@ -106,7 +106,7 @@ pub fn freed_arguments(
     by: &Freeing<'_>,
     arguments: &[&Term],
 ) -> Result<Terms, AllocError>
-    ensures { IfOk result (λ r. map tm (list r) ≡ map (act (freed by.now.first (scope by.now.binders.now)) free) (trees arguments.now)) }
+    ensures { IfOk result (λ r. map tm r ≡ map (act (freed by.now.first (scope by.now.binders.now)) free) (trees arguments.now)) }
 {
     let mut results = Terms::new(alloc)?;
     for argument in arguments {

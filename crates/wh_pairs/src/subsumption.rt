@@ -3,7 +3,7 @@
 ghost use Rattle.std.specs.Prelude.{◌≡◌, ◌↔◌, ℕ, IsTrue, map, slice_get, option_map};
 ghost use Rattle.wh_types.specs.Erase.{ty, tys};
 ghost use Rattle.wh_terms.specs.Tree.{tms_of};
-ghost use Rattle.wh_terms.specs.Erase.{tm, tms, terms, list, declared_meta, declared_metas};
+ghost use Rattle.wh_terms.specs.Erase.{tm, tms, declared_meta, declared_metas};
 ghost use Rattle.wh_terms.specs.Sight.{Occurs, OccursIn};
 ghost use Rattle.wh_system.specs.PairData.{pair_data};
 ghost use Rattle.wh_pairs.specs.Subsumption.{IsSubsumed};
@@ -15,7 +15,7 @@ use wh_types::{SimpleType, same_type};
 
 // Whether two lists of terms are equal, term by term.
 fn same_terms(a: &Terms, b: &Terms) -> bool
-    ensures { IsTrue result ↔ (map tm (list a.now) ≡ map tm (list b.now)) }
+    ensures { IsTrue result ↔ (map tm a.now ≡ map tm b.now) }
 {
     let (items, others) = (a.as_slice(), b.as_slice());
     if items.len() != others.len() {
@@ -84,7 +84,7 @@ fn are_declared_alike(a: &Metas, b: &Metas, term: &Term) -> bool
 // The same for the terms of a list.
 #[cycle(alike)]
 fn all_declared_alike(a: &Metas, b: &Metas, items: &Terms) -> bool
-    ensures { IsTrue result ↔ ((z : ℕ) → OccursIn z (terms items.now) → slice_get (declared_metas a.now) z ≡ slice_get (declared_metas b.now) z) }
+    ensures { IsTrue result ↔ ((z : ℕ) → OccursIn z (tms items.now) → slice_get (declared_metas a.now) z ≡ slice_get (declared_metas b.now) z) }
 {
     for item in items.as_slice() {
         if !are_declared_alike(a, b, item) {

@@ -6,21 +6,9 @@ use Rattle.wh_parts.specs.Faults.{first_fault}
 use Rattle.wh_parts.specs.Tests.{type_place, width_of_type, width_of_types, count_of_types}
 use Rattle.wh_parts.specs.declared.fault.SystemFault.TheVariants.{TooMany}
 use Rattle.wh_parts.proofs.FaultLemmas.{fault_after, fault_in_first, past_test, fault_at_test}
-use Rattle.wh_text.specs.Erase.{rty, rtys, arguments, type_row, type_list}
-use Rattle.wh_text.specs.declared.raw.RawType.{RawType, RawType', out-RawType, outs-RawType'}
-use Rattle.wh_text.specs.declared.raw.RawTypes.{RawTypes, RawTypes', RawTypes-F, outs-RawTypes', Row_of-RawType, end_of-RawType, more_of-RawType, items-the_row-RawType, items_shown-the_row-RawType-0}
-
-type_row-items : (n : _) (r : Row_of-RawType n) → type_row r ≡ rtys (items-the_row-RawType n r)
-type_row-items n end_of-RawType = refl
-type_row-items n (more_of-RawType a rest) = ap (λ (more : RTys). more_types (rty a) more) (type_row-items _ rest)
-
-pub arguments_are : (a : RawTypes) → arguments a ≡ rtys (type_list a)
-arguments_are (RawTypes' shape all) =
-    type_row-items _ all ∙ ap rtys (sym (items_shown-the_row-RawType-0 shape all)) ∙ sym (ap (λ (f : RawTypes-F RawType RawTypes). rtys f.items.items) (outs-RawTypes' shape all))
-
-pub rty_parts : (a : RawType) → rty a ≡ raw_type (rtys (type_list (out-RawType a).args)) (out-RawType a).sort (out-RawType a).at
-rty_parts (RawType' args sort at) =
-    rw (outs-RawType' args sort at) (ap (λ (all : RTys). raw_type all sort at) (arguments_are args))
+use Rattle.wh_text.specs.Erase.{rty, rtys}
+use Rattle.wh_text.specs.declared.raw.RawType.{RawType, out-RawType}
+use Rattle.wh_text.proofs.RawLemmas.{rty_parts}
 
 -- what is left of a list at a place: one step on, and at the end
 pub types_next : (xs : List RawType) (i : ℕ) (a : RawType) → i < length xs → a ≡ get_or xs i a → rtys (drop i xs) ≡ more_types (rty a) (rtys (drop (i + 1) xs))
@@ -44,7 +32,7 @@ weight-get [] i a within e = absurd (omega arith)
 weight-get (x ∷ xs) zero a within e = omega (arith, ap (λ b. type_weight (rty b)) e)
 weight-get (x ∷ xs) (suc i) a within e = omega (arith, weight-get xs i a (omega arith) e)
 
-pub type_weight_in : (a : RawType) (xs : List RawType) (i : ℕ) (b : RawType) → xs ≡ type_list (out-RawType a).args → i < length xs → b ≡ get_or xs i b
+pub type_weight_in : (a : RawType) (xs : List RawType) (i : ℕ) (b : RawType) → xs ≡ (out-RawType a).args → i < length xs → b ≡ get_or xs i b
     → type_weight (rty b) < type_weight (rty a)
 type_weight_in a xs i b from within e =
     omega (arith, weight-get xs i b within e, ap (λ us. type_weights (rtys us)) from, ap type_weight (rty_parts a))
@@ -55,7 +43,7 @@ place-first : (xs : List RawType) (s : List ℕ) (at : ℕ) (b : RawType) → sl
 place-first [] s at b e = absurd (cc)
 place-first (x ∷ xs) s at b e = let is : b ≡ x = cc in ap (λ c. type_place (rty c)) is
 
-pub place_some : (a : RawType) (xs : List RawType) (b : RawType) → xs ≡ type_list (out-RawType a).args → slice_get xs 0 ≡ Some b
+pub place_some : (a : RawType) (xs : List RawType) (b : RawType) → xs ≡ (out-RawType a).args → slice_get xs 0 ≡ Some b
     → type_place (rty b) ≡ type_place (rty a)
 place_some a xs b from e =
     place-first xs (out-RawType a).sort (out-RawType a).at b e
@@ -65,14 +53,14 @@ place-none : (xs : List RawType) (s : List ℕ) (at : ℕ) → slice_get xs 0 �
 place-none [] s at e = refl
 place-none (x ∷ xs) s at e = absurd (cc)
 
-pub place_none : (a : RawType) (xs : List RawType) → xs ≡ type_list (out-RawType a).args → slice_get xs 0 ≡ None → (out-RawType a).at ≡ type_place (rty a)
+pub place_none : (a : RawType) (xs : List RawType) → xs ≡ (out-RawType a).args → slice_get xs 0 ≡ None → (out-RawType a).at ≡ type_place (rty a)
 place_none a xs from e =
     place-none xs (out-RawType a).sort (out-RawType a).at e
     ∙ ap (λ ys. type_place (raw_type (rtys ys) (out-RawType a).sort (out-RawType a).at)) from ∙ sym (ap type_place (rty_parts a))
 
 -- the tests of a type's width, from one argument on
 
-pub width_start : (a : RawType) (xs : List RawType) → xs ≡ type_list (out-RawType a).args → first_fault (width_of_type (rty a)) ≡ first_fault (width_of_types 0 (rtys xs))
+pub width_start : (a : RawType) (xs : List RawType) → xs ≡ (out-RawType a).args → first_fault (width_of_type (rty a)) ≡ first_fault (width_of_types 0 (rtys xs))
 width_start a xs from = ap (λ t. first_fault (width_of_type t)) (rty_parts a) ∙ ap (λ ys. first_fault (width_of_types 0 (rtys ys))) (sym from)
 
 pub is_false : (k n : ℕ) → (k ≡ n → ⊥) → (k == n) ≡ false

@@ -1,7 +1,7 @@
 //! How high a side is, as far as its limit: the walk stops where that is passed.
 
 ghost use Rattle.std.specs.Prelude.{◌<◌, ◌≤◌, MatchOption};
-ghost use Rattle.wh_text.specs.Erase.{rtm, rtms, term_list};
+ghost use Rattle.wh_text.specs.Erase.{rtm, rtms};
 ghost use Rattle.wh_parts.specs.Tests.{raw_height, raw_heights};
 
 use wh_text::{RawTerm, RawTerms};
@@ -32,7 +32,7 @@ pub fn keep_low(side: &RawTerm, low: u32) -> Option<()>
 #[cycle(heights)]
 #[tactic(auto, using(crate::proofs::RawTerms::left_next, crate::proofs::RawTerms::left_none))]
 fn keep_all_low(items: &RawTerms, low: u32) -> Option<()>
-    ensures { MatchOption result (low < raw_heights (rtms (term_list items.now))) (λ _. raw_heights (rtms (term_list items.now)) ≤ low) }
+    ensures { MatchOption result (low < raw_heights (rtms items.now)) (λ _. raw_heights (rtms items.now) ≤ low) }
 {
     for item in items.as_slice() {
         keep_low(item, low)?;

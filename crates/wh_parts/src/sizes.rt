@@ -1,14 +1,14 @@
 //! How large and how high a side is, as far as its limits: the walks stop where a limit is passed.
 
 ghost use Rattle.std.specs.Prelude.{◌≡◌, ◌+◌, ◌<◌, ◌≤◌, MatchBool, MatchOption};
-ghost use Rattle.wh_text.specs.Erase.{rtm, rtms, term_list};
+ghost use Rattle.wh_text.specs.Erase.{rtm, rtms};
 ghost use Rattle.wh_parts.specs.Tests.{raw_height, raw_heights, raw_size, raw_sizes, raw_spine_size};
 
 use wh_text::{RawTerm, RawTerms};
 
 /// What is left of the size `room` beyond the side, if that is enough.
 #[cycle(sizes)]
-#[tactic(auto, using(crate::proofs::RawTerms::of_meta, crate::proofs::RawTerms::of_spine))]
+#[tactic(auto, using(wh_text::proofs::RawLemmas::rtm_of_meta, wh_text::proofs::RawLemmas::rtm_of_spine))]
 pub fn spend(side: &RawTerm, room: u32) -> Option<u32>
     ensures { MatchOption result (room < raw_size (rtm side.now)) (λ rest. rest + raw_size (rtm side.now) ≡ room) }
 {
@@ -26,7 +26,7 @@ pub fn spend(side: &RawTerm, room: u32) -> Option<u32>
 #[cycle(sizes)]
 #[tactic(auto, using(crate::proofs::RawTerms::left_next, crate::proofs::RawTerms::left_none))]
 fn spend_each(items: &RawTerms, room: u32) -> Option<u32>
-    ensures { MatchOption result (room < raw_sizes (rtms (term_list items.now))) (λ rest. rest + raw_sizes (rtms (term_list items.now)) ≡ room) }
+    ensures { MatchOption result (room < raw_sizes (rtms items.now)) (λ rest. rest + raw_sizes (rtms items.now) ≡ room) }
 {
     let mut left = room;
     for item in items.as_slice() {
@@ -39,7 +39,7 @@ fn spend_each(items: &RawTerms, room: u32) -> Option<u32>
 #[cycle(sizes)]
 #[tactic(auto, using(crate::proofs::RawTerms::left_next, crate::proofs::RawTerms::left_none))]
 fn spend_arguments(items: &RawTerms, room: u32) -> Option<u32>
-    ensures { MatchOption result (room < raw_spine_size (rtms (term_list items.now))) (λ rest. rest + raw_spine_size (rtms (term_list items.now)) ≡ room) }
+    ensures { MatchOption result (room < raw_spine_size (rtms items.now)) (λ rest. rest + raw_spine_size (rtms items.now) ≡ room) }
 {
     let mut left = room;
     for item in items.as_slice() {

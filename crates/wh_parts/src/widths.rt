@@ -1,7 +1,7 @@
 //! How wide a side is: no spine, and no type in it, has more than 32 arguments.
 
 ghost use Rattle.std.specs.Prelude.{◌≡◌, ◌+◌, ◌≤◌, MatchResult};
-ghost use Rattle.wh_text.specs.Erase.{rtm, rtms, term_list};
+ghost use Rattle.wh_text.specs.Erase.{rtm, rtms};
 ghost use Rattle.wh_parts.specs.Widths.{HasSpare, LeavesRoom};
 ghost use Rattle.wh_parts.specs.declared.fault.SystemFault.TheVariants.{TooMany};
 ghost use Rattle.wh_parts.specs.Faults.{IsFirstFault};
@@ -53,7 +53,7 @@ fn spare(side: &RawTerm) -> Result<u32, SystemFault>
 #[cycle(widths)]
 #[tactic(auto, using(crate::proofs::FaultLemmas::first_fault_append, crate::proofs::RawTerms::left_next, crate::proofs::RawTerms::left_none))]
 fn check_each_width(items: &RawTerms) -> Result<(), SystemFault>
-    ensures { IsFirstFault (widths_of_terms (rtms (term_list items.now))) result }
+    ensures { IsFirstFault (widths_of_terms (rtms items.now)) result }
 {
     for item in items.as_slice() {
         let _left = spare(item)?;
@@ -64,7 +64,7 @@ fn check_each_width(items: &RawTerms) -> Result<(), SystemFault>
 // What is left of the room of a spine behind these arguments; the fault is at the first argument past it.
 #[cycle(widths)]
 fn check_arguments(items: &RawTerms, room: u32) -> Result<u32, SystemFault>
-    ensures { room ≤ 32 → LeavesRoom room (rtms (term_list items.now)) result }
+    ensures { room ≤ 32 → LeavesRoom room (rtms items.now) result }
 {
     let mut left = room;
     for item in items.as_slice() {

@@ -1,15 +1,14 @@
--- Terms of sides as expressions, argument by argument.
+-- List Term of sides as expressions, argument by argument.
 use Rattle.std.proofs.Common.{◌≡◌, ℕ, ◌+◌, ◌<◌, List, [], ◌∷◌, length, map, take, get_or, refl, ap, ap₂, sym, ◌∙◌}
 use Rattle.wh_terms.specs.Tree.{Tm, Tms, none, more, tms_of}
-use Rattle.wh_terms.specs.Erase.{tm, tms, terms}
+use Rattle.wh_terms.specs.Erase.{tm, tms}
 use Rattle.wh_terms.specs.declared.term.Term.{Term, Meta}
-use Rattle.wh_terms.specs.declared.term.Terms.{Terms}
 use Rattle.wh_terms.proofs.TermLemmas.{join, tms_take_next, tm_of_meta}
 use Rattle.wh_hopoly.specs.Evaluation.{Expression, var, apply}
 use Rattle.wh_hopoly.specs.Outcomes.{applied_to}
 use Rattle.wh_polycheck.specs.Sides.{side, side_applied}
 
-pub side_of_meta : (n : ℕ) (t : Term) (z : ℕ) (ts : Terms) → t ≡ Meta z ts → side n (tm t) ≡ side_applied n (var z) (terms ts)
+pub side_of_meta : (n : ℕ) (t : Term) (z : ℕ) (ts : List Term) → t ≡ Meta z ts → side n (tm t) ≡ side_applied n (var z) (tms ts)
 side_of_meta n t z ts e = ap (side n) (tm_of_meta t z ts e)
 
 applied_last : (n : ℕ) (e : Expression) (ts : Tms) (t : Tm)

@@ -1,7 +1,7 @@
 //! Terms of sides as expressions: one walk, which knows how long the scope is at each place.
 
 ghost use Rattle.std.specs.Prelude.{◌≡◌, ◌+◌, IfOk, map};
-ghost use Rattle.wh_terms.specs.Erase.{list, terms, tm};
+ghost use Rattle.wh_terms.specs.Erase.{tms, tm};
 ghost use Rattle.wh_hopoly.specs.Erase.{expression};
 ghost use Rattle.wh_hopoly.specs.Evaluation.{apply, var};
 ghost use Rattle.wh_polycheck.specs.Sides.{side, side_applied};
@@ -36,7 +36,7 @@ pub fn expression_of(alloc: Global, term: &Term, scope: u32) -> Result<Expr, All
 // The variable applied to the terms in turn.
 #[cycle(expressions)]
 fn meta_applied(alloc: Global, variable: u32, items: &Terms, scope: u32) -> Result<Expr, AllocError>
-    ensures { IfOk result (λ e. expression e ≡ side_applied scope (var variable) (terms items.now)) }
+    ensures { IfOk result (λ e. expression e ≡ side_applied scope (var variable) (tms items.now)) }
 {
     let mut whole = Expr::Var(variable);
     for item in items.as_slice() {
@@ -55,7 +55,7 @@ fn application(alloc: Global, function: Expr, argument: Expr) -> Result<Expr, Al
 
 /// The terms as expressions, in the same order.
 pub fn expressions_of(alloc: Global, items: &Terms, scope: u32) -> Result<Vec<Expr>, AllocError>
-    ensures { IfOk result (λ es. map expression es.items ≡ map (λ t. side scope (tm t)) (list items.now)) }
+    ensures { IfOk result (λ es. map expression es.items ≡ map (λ t. side scope (tm t)) items.now) }
 {
     let mut expressions = Vec::new(alloc);
     for item in items.as_slice() {

@@ -3,7 +3,7 @@
 ghost use Rattle.std.specs.Prelude.{◌≡◌, ◌<◌, ◌++◌, ◌∷◌, [], IfOk, Some, length, map, slice_get};
 ghost use Rattle.wh_types.specs.Erase.{ty};
 ghost use Rattle.wh_types.specs.Outcome.{IfBecause};
-ghost use Rattle.wh_terms.specs.Erase.{declared_metas, list, tm};
+ghost use Rattle.wh_terms.specs.Erase.{declared_metas, tm};
 ghost use Rattle.wh_terms.specs.Rules.{RewriteRule};
 ghost use Rattle.wh_terms.specs.Sight.{AllNoFree};
 ghost use Rattle.wh_terms.specs.Tree.{tms_of};
@@ -125,10 +125,10 @@ fn normal_of_marked(
     requires normal { NormalInterpretations (interpretations symbols.now) }
     requires marks { AreNormalMarks (system_data system.now).symbols (system_data system.now).rules (marks_of marks.now) }
     requires marked { HasMark (marks_of marks.now) fun }
-    requires typed { AllTyped (system_data system.now).symbols (declared_metas metas.now) [] (tms_of (map tm (list terms.now))) (marked_types (system_data system.now).symbols (system_data system.now).rules fun) }
-    requires closed { AllNoFree (tms_of (map tm (list terms.now))) }
-    ensures ok { IfOk result (λ p. let all = with_marks (system_data system.now).symbols (system_data system.now).rules (interpretations symbols.now) (marks_of marks.now) in ComesTo (evaluate all (types_of_metas (declared_metas metas.now)) (marked_expression (declared_metas metas.now) (mark_number (interpretations symbols.now) (marks_of marks.now) fun) (tms_of (map tm (list terms.now))))) (poly p)) }
-    ensures fault { IfBecause result (λ e. let all = with_marks (system_data system.now).symbols (system_data system.now).rules (interpretations symbols.now) (marks_of marks.now) in IsFaultOf all (types_of_metas (declared_metas metas.now)) (marked_expression (declared_metas metas.now) (mark_number (interpretations symbols.now) (marks_of marks.now) fun) (tms_of (map tm (list terms.now)))) e) }
+    requires typed { AllTyped (system_data system.now).symbols (declared_metas metas.now) [] (tms_of (map tm terms.now)) (marked_types (system_data system.now).symbols (system_data system.now).rules fun) }
+    requires closed { AllNoFree (tms_of (map tm terms.now)) }
+    ensures ok { IfOk result (λ p. let all = with_marks (system_data system.now).symbols (system_data system.now).rules (interpretations symbols.now) (marks_of marks.now) in ComesTo (evaluate all (types_of_metas (declared_metas metas.now)) (marked_expression (declared_metas metas.now) (mark_number (interpretations symbols.now) (marks_of marks.now) fun) (tms_of (map tm terms.now)))) (poly p)) }
+    ensures fault { IfBecause result (λ e. let all = with_marks (system_data system.now).symbols (system_data system.now).rules (interpretations symbols.now) (marks_of marks.now) in IsFaultOf all (types_of_metas (declared_metas metas.now)) (marked_expression (declared_metas metas.now) (mark_number (interpretations symbols.now) (marks_of marks.now) fun) (tms_of (map tm terms.now))) e) }
 {
     let mark = mark_of(marks, fun);
     let kind = kind_of_mark(alloc, system, mark.symbol)?;

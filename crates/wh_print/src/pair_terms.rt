@@ -6,7 +6,7 @@
 ghost use Rattle.std.specs.Prelude.{◌∷◌, OnOk, length};
 ghost use Rattle.wh_types.specs.Ty.{SortsBelow};
 ghost use Rattle.wh_types.specs.Erase.{ty};
-ghost use Rattle.wh_terms.specs.Erase.{tm, terms};
+ghost use Rattle.wh_terms.specs.Erase.{tm, tms};
 ghost use Rattle.wh_text.specs.Pushes.{Pushes};
 ghost use Rattle.wh_text.specs.Spelling.{put_part, put_term, put_each, put_bracketed};
 ghost use Rattle.wh_system.specs.Canonical.{raw_type_of, raw_below, each_raw_below, IsNamedBelow, AreNamedBelow};
@@ -95,8 +95,8 @@ fn print_bracketed(
     items: &Terms,
     depth: u32,
 ) -> Result<(), AllocError>
-    requires { AreNamedBelow (pair_names names.now) depth (terms items.now) }
-    ensures { OnOk result (Pushes out.old out.new (put_bracketed (each_raw_below (pair_names names.now) depth (terms items.now)))) }
+    requires { AreNamedBelow (pair_names names.now) depth (tms items.now) }
+    ensures { OnOk result (Pushes out.old out.new (put_bracketed (each_raw_below (pair_names names.now) depth (tms items.now)))) }
 {
     if items.as_slice().is_empty() {
         return Ok(());
@@ -114,8 +114,8 @@ fn print_listed(
     items: &Terms,
     depth: u32,
 ) -> Result<(), AllocError>
-    requires { AreNamedBelow (pair_names names.now) depth (terms items.now) }
-    ensures { OnOk result (Pushes out.old out.new (put_each 91 44 (each_raw_below (pair_names names.now) depth (terms items.now)))) }
+    requires { AreNamedBelow (pair_names names.now) depth (tms items.now) }
+    ensures { OnOk result (Pushes out.old out.new (put_each 91 44 (each_raw_below (pair_names names.now) depth (tms items.now)))) }
 {
     let mut sign = b'[';
     for item in items.as_slice() {

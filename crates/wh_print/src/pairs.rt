@@ -1,7 +1,7 @@
 //! The text of dependency pairs.
 
 ghost use Rattle.std.specs.Prelude.{◌≡◌, ◌<◌, ◌∷◌, IfOk, OnOk, All, Contains, length, map};
-ghost use Rattle.wh_terms.specs.Erase.{tm, list};
+ghost use Rattle.wh_terms.specs.Erase.{tm};
 ghost use Rattle.wh_text.specs.Pushes.{Pushes};
 ghost use Rattle.wh_system.specs.Canonical.{IsNamedBelow};
 ghost use Rattle.wh_system.specs.PairData.{PairData, within, pair_data};
@@ -85,8 +85,8 @@ fn print_side(
     arguments: &Terms,
 ) -> Result<(), AllocError>
     requires symbol { fun < length (pair_names names.now).funs }
-    requires arguments { All (IsNamedBelow (pair_names names.now) 0) (map tm (list arguments.now)) }
-    ensures { OnOk result (Pushes out.old out.new (put_side (pair_names names.now) fun (map tm (list arguments.now)))) }
+    requires arguments { All (IsNamedBelow (pair_names names.now) 0) (map tm arguments.now) }
+    ensures { OnOk result (Pushes out.old out.new (put_side (pair_names names.now) fun (map tm arguments.now))) }
 {
     if arguments.as_slice().is_empty() {
         return print_marked(out, names, fun);

@@ -3,11 +3,9 @@ use Rattle.std.proofs.Common.{◌≡◌, ℕ, zero, suc, ◌+◌, ◌<◌, ◌�
 use Rattle.std.proofs.lemmas.Bool.{le-ltb}
 use Rattle.std.proofs.lemmas.List.{map-append}
 use Rattle.wh_text.specs.RawTree.{RTy, raw_type, RTys, no_types, more_types, RTm, named, lam, spine, RTms, more}
-use Rattle.wh_text.specs.Erase.{rty, rtys, type_list, rtm, rtms, term_list}
+use Rattle.wh_text.specs.Erase.{rty, rtys, rtm, rtms}
 use Rattle.wh_text.specs.declared.raw.RawType.{RawType, out-RawType}
-use Rattle.wh_text.specs.declared.raw.RawTypes.{RawTypes}
 use Rattle.wh_text.specs.declared.raw.RawTerm.{RawTerm, Spine}
-use Rattle.wh_text.specs.declared.raw.RawTerms.{RawTerms}
 use Rattle.wh_text.proofs.RawLemmas.{rty_parts, rtm_of_spine, arguments_are}
 use Rattle.wh_parts.specs.Parts.{RParts}
 use Rattle.wh_parts.specs.Erase.{rname, rmeta}
@@ -38,18 +36,18 @@ pub terms_grow : (old new : List RawTerm) (t : RawTerm) → new ≡ old ++ t ∷
 terms_grow old new t e = ap rtms e ∙ rtms_push old t
 
 -- the type whose arguments are those of b behind others
-pub with_joined : (args new : RawTypes) (a b : RawType) → type_list new ≡ type_list args ++ type_list (out-RawType b).args → (out-RawType a).args ≡ new → (out-RawType a).sort ≡ (out-RawType b).sort → (out-RawType a).at ≡ (out-RawType b).at → rty a ≡ r.with_arguments (rtys (type_list args)) (rty b)
+pub with_joined : (args new : List RawType) (a b : RawType) → new ≡ args ++ (out-RawType b).args → (out-RawType a).args ≡ new → (out-RawType a).sort ≡ (out-RawType b).sort → (out-RawType a).at ≡ (out-RawType b).at → rty a ≡ r.with_arguments (rtys args) (rty b)
 with_joined args new a b e f g h =
-    rty_parts a ∙ ap (λ (ts : RawTypes). raw_type (rtys (type_list ts)) (out-RawType a).sort (out-RawType a).at) f ∙ ap (λ (ts : List RawType). raw_type (rtys ts) (out-RawType a).sort (out-RawType a).at) e
-    ∙ ap₂ (λ (s : List ℕ) (n : ℕ). raw_type (rtys (type_list args ++ type_list (out-RawType b).args)) s n) g h
-    ∙ ap (λ (ts : RTys). raw_type ts (out-RawType b).sort (out-RawType b).at) (rtys_append (type_list args) (type_list (out-RawType b).args))
-    ∙ sym (ap (r.with_arguments (rtys (type_list args))) (rty_parts b))
+    rty_parts a ∙ ap (λ (ts : List RawType). raw_type (rtys ts) (out-RawType a).sort (out-RawType a).at) f ∙ ap (λ (ts : List RawType). raw_type (rtys ts) (out-RawType a).sort (out-RawType a).at) e
+    ∙ ap₂ (λ (s : List ℕ) (n : ℕ). raw_type (rtys (args ++ (out-RawType b).args)) s n) g h
+    ∙ ap (λ (ts : RTys). raw_type ts (out-RawType b).sort (out-RawType b).at) (rtys_append args (out-RawType b).args)
+    ∙ sym (ap (r.with_arguments (rtys args)) (rty_parts b))
 
 -- a spine with one more argument
-pub spine_longer : (t : RawTerm) (h : Box RawTerm Global) (old new : RawTerms) (u : RawTerm) (at : ℕ) → t ≡ Spine h new at → term_list new ≡ term_list old ++ u ∷ [] → rtm t ≡ spine (rtm h.value) (r.add_term (rtms (term_list old)) (rtm u)) at
-spine_longer t h old new u at e f = rtm_of_spine t h new at e ∙ ap (λ (ts : RTms). spine (rtm h.value) ts at) (terms_grow (term_list old) (term_list new) u f)
+pub spine_longer : (t : RawTerm) (h : Box RawTerm Global) (old new : List RawTerm) (u : RawTerm) (at : ℕ) → t ≡ Spine h new at → new ≡ old ++ u ∷ [] → rtm t ≡ spine (rtm h.value) (r.add_term (rtms old) (rtm u)) at
+spine_longer t h old new u at e f = rtm_of_spine t h new at e ∙ ap (λ (ts : RTms). spine (rtm h.value) ts at) (terms_grow old new u f)
 
-pub applied_spine : (t : RawTerm) (h : Box RawTerm Global) (ts : RawTerms) (at : ℕ) (u : RTm) → t ≡ Spine h ts at → r.applied (Some (rtm t)) u ≡ spine (rtm h.value) (r.add_term (rtms (term_list ts)) u) at
+pub applied_spine : (t : RawTerm) (h : Box RawTerm Global) (ts : List RawTerm) (at : ℕ) (u : RTm) → t ≡ Spine h ts at → r.applied (Some (rtm t)) u ≡ spine (rtm h.value) (r.add_term (rtms ts) u) at
 applied_spine t h ts at u e = ap (λ (s : RTm). r.applied (Some s) u) (rtm_of_spine t h ts at e)
 
 -- stacks, the innermost last
@@ -60,12 +58,12 @@ frames_push w xs ys f e = ap (held.frames_in w) e ∙ pushed w xs
     pushed v [] = refl
     pushed v (z ∷ zs) = pushed (held.frame z v) zs
 
-pub outer_push : (b : List RTys) (xs ys : List RawTypes) (t : RawTypes) → ys ≡ xs ++ t ∷ [] → held.types_in b ys ≡ rtys (type_list t) ∷ held.types_in b xs
+pub outer_push : (b : List RTys) (xs ys : List List RawType) (t : List RawType) → ys ≡ xs ++ t ∷ [] → held.types_in b ys ≡ rtys t ∷ held.types_in b xs
 outer_push b xs ys t e = ap (held.types_in b) e ∙ pushed b xs
   where
-    pushed : (v : List RTys) (zs : List RawTypes) → held.types_in v (zs ++ t ∷ []) ≡ rtys (type_list t) ∷ held.types_in v zs
+    pushed : (v : List RTys) (zs : List List RawType) → held.types_in v (zs ++ t ∷ []) ≡ rtys t ∷ held.types_in v zs
     pushed v [] = refl
-    pushed v (z ∷ zs) = pushed (rtys (type_list z) ∷ v) zs
+    pushed v (z ∷ zs) = pushed (rtys z ∷ v) zs
 
 level_frame : (f : Frame) (w : r.Frames) → r.level (held.frame f w) ≡ r.level w + 1
 level_frame (Body x a at) w = refl
@@ -84,13 +82,13 @@ level_is xs =
     let all = level_in r.no_frames xs in
     omega (arith, all)
 
-pub outer_in : (b : List RTys) (xs : List RawTypes) → length (held.types_in b xs) ≡ length b + length xs
+pub outer_in : (b : List RTys) (xs : List List RawType) → length (held.types_in b xs) ≡ length b + length xs
 outer_in b [] = omega arith
 outer_in b (x ∷ xs) =
-    let rest = outer_in (rtys (type_list x) ∷ b) xs in
+    let rest = outer_in (rtys x ∷ b) xs in
     omega (arith, rest)
 
-pub outer_is : (xs : List RawTypes) → length (held.types_in [] xs) ≡ length xs
+pub outer_is : (xs : List List RawType) → length (held.types_in [] xs) ≡ length xs
 outer_is xs =
     let all = outer_in [] xs in
     omega (arith, all)
@@ -98,7 +96,7 @@ outer_is xs =
 pub level_of : (v : Vec Frame Global) → r.level (held.frames_in r.no_frames v.items) ≡ vec_len v
 level_of v = level_is v.items ∙ sym v.ok.0
 
-pub outer_of : (v : Vec RawTypes Global) → length (held.types_in [] v.items) ≡ vec_len v
+pub outer_of : (v : Vec List RawType Global) → length (held.types_in [] v.items) ≡ vec_len v
 outer_of v = outer_is v.items ∙ sym v.ok.0
 
 -- with a parenthesis around it a part of a type is only a part
@@ -106,7 +104,7 @@ had_within : (parts : RParts) (u : r.Use) (args : RTys) (outer : List RTys) (a :
 had_within parts u args [] a h = absurd (omega (arith, h))
 had_within parts u args (b ∷ bs) a h = refl
 
-pub had_inner : (parts : RParts) (u : r.Use) (args : RTys) (v : Vec RawTypes Global) (a : RTy) → (vec_len v == 0) ≡ false → r.inside parts (r.behind_atype u (record { args = args; outer = held.types_in [] v.items }) a) ≡ r.had_atype parts u args (held.types_in [] v.items) a
+pub had_inner : (parts : RParts) (u : r.Use) (args : RTys) (v : Vec List RawType Global) (a : RTy) → (vec_len v == 0) ≡ false → r.inside parts (r.behind_atype u (record { args = args; outer = held.types_in [] v.items }) a) ≡ r.had_atype parts u args (held.types_in [] v.items) a
 had_inner parts u args v a h =
     let some : 0 < length (held.types_in [] v.items) = above (vec_len v) (length (held.types_in [] v.items)) (outer_of v) h in
     sym (had_within parts u args (held.types_in [] v.items) a some)
@@ -123,15 +121,15 @@ pub open_over : (parts : RParts) (k n m : ℕ) (p : r.Place) → k ≡ m → n �
 open_over parts k n m p e h = ap (λ (c : Bool). if c then r.inside parts p else r.too_many) (le-ltb k n (omega (arith, e, h)))
 
 -- one more meta-variable
-pub metas_grow : (old new : List RawMeta) (x : RawName) (args : RawTypes) (out : RawType) → new ≡ old ++ record { name = x; args = args; result = out } ∷ [] → map rmeta new ≡ map rmeta old ++ record { name = rname x; args = rtys (type_list args); out = rty out } ∷ []
+pub metas_grow : (old new : List RawMeta) (x : RawName) (args : List RawType) (out : RawType) → new ≡ old ++ record { name = x; args = args; result = out } ∷ [] → map rmeta new ≡ map rmeta old ++ record { name = rname x; args = rtys args; out = rty out } ∷ []
 metas_grow old new x args out e =
     ap (map rmeta) e ∙ map-append rmeta old _
     ∙ ap (λ (ts : RTys). map rmeta old ++ record { name = rname x; args = ts; out = rty out } ∷ []) (arguments_are args)
 
 -- a type without arguments
-pub plain_sort : (a : RawType) (args : RawTypes) (sort : List ℕ) (at : ℕ) → type_list args ≡ [] → (out-RawType a).args ≡ args → (out-RawType a).sort ≡ sort → (out-RawType a).at ≡ at → rty a ≡ raw_type no_types sort at
+pub plain_sort : (a : RawType) (args : List RawType) (sort : List ℕ) (at : ℕ) → args ≡ [] → (out-RawType a).args ≡ args → (out-RawType a).sort ≡ sort → (out-RawType a).at ≡ at → rty a ≡ raw_type no_types sort at
 plain_sort a args sort at empty f g h =
-    rty_parts a ∙ ap (λ (ts : RawTypes). raw_type (rtys (type_list ts)) (out-RawType a).sort (out-RawType a).at) f
+    rty_parts a ∙ ap (λ (ts : List RawType). raw_type (rtys ts) (out-RawType a).sort (out-RawType a).at) f
     ∙ ap (λ (ts : List RawType). raw_type (rtys ts) (out-RawType a).sort (out-RawType a).at) empty
     ∙ ap₂ (λ (s : List ℕ) (n : ℕ). raw_type no_types s n) g h
 

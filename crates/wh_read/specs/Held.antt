@@ -1,10 +1,9 @@
 -- What the reader's values stand for, without pointers.
 use Rattle.std.specs.Prelude.{ℕ, List, [], ◌∷◌, map, option_map}
 use Rattle.wh_text.specs.RawTree.{RTys}
-use Rattle.wh_text.specs.Erase.{rty, rtys, rtm, rtms, rbinder, type_list, term_list}
+use Rattle.wh_text.specs.Erase.{rty, rtys, rtm, rtms, rbinder}
 use Rattle.wh_parts.specs.Parts.{RParts}
 use Rattle.wh_parts.specs.Erase.{rname, rmeta}
-use Rattle.wh_text.specs.declared.raw.RawTypes.{RawTypes}
 use Rattle.wh_read.specs.Lexemes as s
 use Rattle.wh_read.specs.Reader as r
 use Rattle.wh_read.specs.declared.lexeme.Lexeme.{Lexeme}
@@ -48,7 +47,7 @@ letter ThickArrow = s.thick_arrow
 abbrev pub frame : Frame → r.Frames → r.Frames
 frame (Body x a at) w = r.body (rbinder x) (rty a) at w
 frame (Paren before) w = r.paren (option_map rtm before) w
-frame (Bracket x args before) w = r.bracket x.name x.at (rtms (term_list args)) (option_map rtm before) w
+frame (Bracket x args before) w = r.bracket x.name x.at (rtms args) (option_map rtm before) w
 
 -- frames inside w, the innermost last
 abbrev pub frames_in : r.Frames → List Frame → r.Frames
@@ -66,18 +65,18 @@ meta m = record { rule = metas m.rule; name = rname m.name }
 
 abbrev pub purpose : Purpose → r.Use
 purpose (OfFun x) = r.of_fun (rname x)
-purpose (InBrackets m args) = r.in_brackets (meta m) (rtys (type_list args))
-purpose (OfMeta m args) = r.of_meta (meta m) (rtys (type_list args))
+purpose (InBrackets m args) = r.in_brackets (meta m) (rtys args)
+purpose (OfMeta m args) = r.of_meta (meta m) (rtys args)
 purpose (OfBinder u x at) = r.of_binder (rule u) (rbinder x) at
 purpose (OfVariable u n at) = r.of_variable (rule u.rule) (option_map rtm u.before) n at
 
 -- lists around those before, the innermost last
-abbrev pub types_in : List RTys → List RawTypes → List RTys
+abbrev pub types_in : List RTys → List List RawType → List RTys
 types_in before [] = before
-types_in before (ts ∷ rest) = types_in (rtys (type_list ts) ∷ before) rest
+types_in before (ts ∷ rest) = types_in (rtys ts ∷ before) rest
 
 abbrev pub open_type : OpenType → r.OpenType
-open_type t = record { args = rtys (type_list t.args); outer = types_in [] t.outer.items }
+open_type t = record { args = rtys t.args; outer = types_in [] t.outer.items }
 
 abbrev pub place : Place → r.Place
 place Between = r.between

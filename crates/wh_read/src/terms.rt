@@ -1,7 +1,7 @@
 //! Reading terms: the atoms of a spine are joined as they come, and a frame is kept for each open level.
 
 ghost use Rattle.std.specs.Prelude.{◌≡◌, None, Some, option_map, IfOk};
-ghost use Rattle.wh_text.specs.Erase.{rty, rtm, rtms, rbinder, term_list};
+ghost use Rattle.wh_text.specs.Erase.{rty, rtm, rtms, rbinder};
 ghost use Rattle.wh_parts.specs.Parts.{RParts};
 ghost use Rattle.wh_parts.specs.Erase.{rparts};
 ghost use Rattle.wh_text.specs.RawTree.{spine, more, none};
@@ -26,7 +26,7 @@ fn longer(
     atom: RawTerm,
     at: u32,
 ) -> Result<RawTerm, AllocError>
-    ensures { IfOk result (λ term. rtm term ≡ spine (rtm head.value) (r.add_term (rtms (term_list args)) (rtm atom)) at) }
+    ensures { IfOk result (λ term. rtm term ≡ spine (rtm head.value) (r.add_term (rtms args) (rtm atom)) at) }
 {
     args.push(atom)?;
     Ok(RawTerm::Spine(head, args, at))
@@ -169,7 +169,7 @@ fn argument_ended(
     term: RawTerm,
     letter: Lexeme,
 ) -> Result<Step, AllocError>
-    ensures { IfOk result (λ step. (parts : RParts) → held.state parts step ≡ r.term_ended parts (held.rule spine.rule) (r.bracket name.name name.at (rtms (term_list args)) (option_map rtm spine.before) (held.rule spine.rule).frames) (rtm term) (held.letter letter)) }
+    ensures { IfOk result (λ step. (parts : RParts) → held.state parts step ≡ r.term_ended parts (held.rule spine.rule) (r.bracket name.name name.at (rtms args) (option_map rtm spine.before) (held.rule spine.rule).frames) (rtm term) (held.letter letter)) }
 {
     args.push(term)?;
     match letter {

@@ -2,7 +2,7 @@
 //! arguments so far is kept for each open parenthesis.
 
 ghost use Rattle.std.specs.Prelude.{◌≡◌, [], IfOk};
-ghost use Rattle.wh_text.specs.Erase.{rty, rtys, type_list};
+ghost use Rattle.wh_text.specs.Erase.{rty, rtys};
 ghost use Rattle.wh_parts.specs.Parts.{RParts};
 ghost use Rattle.wh_parts.specs.Erase.{rparts, rname};
 ghost use Rattle.wh_read.specs.Lexemes.{a_name, open_paren};
@@ -32,7 +32,7 @@ pub fn new_type(alloc: Global) -> Result<OpenType, AllocError>
 
 /// The type with these arguments before its own.
 fn with_arguments(mut args: RawTypes, own: RawType) -> Result<RawType, AllocError>
-    ensures { IfOk result (λ whole. rty whole ≡ r.with_arguments (rtys (type_list args)) (rty own)) }
+    ensures { IfOk result (λ whole. rty whole ≡ r.with_arguments (rtys args) (rty own)) }
 {
     args.append(own.args)?;
     Ok(RawType {
@@ -137,7 +137,7 @@ pub fn at_atype(
 
 /// A meta-variable was read.
 fn add_meta(meta: OpenMeta, args: RawTypes, out: RawType) -> Result<OpenMetas, AllocError>
-    ensures { IfOk result (λ metas. held.metas metas ≡ r.add_meta (held.meta meta) (rtys (type_list args)) (rty out)) }
+    ensures { IfOk result (λ metas. held.metas metas ≡ r.add_meta (held.meta meta) (rtys args) (rty out)) }
 {
     let mut rule = meta.rule;
     rule.metas.push(RawMeta {
@@ -175,7 +175,7 @@ fn bracket_type_ended(
     whole: RawType,
     letter: Lexeme,
 ) -> Result<Step, AllocError>
-    ensures { IfOk result (λ step. (parts : RParts) → held.state parts step ≡ r.whole_type_ended parts (r.in_brackets (held.meta meta) (rtys (type_list args))) (rty whole) (held.letter letter)) }
+    ensures { IfOk result (λ step. (parts : RParts) → held.state parts step ≡ r.whole_type_ended parts (r.in_brackets (held.meta meta) (rtys args)) (rty whole) (held.letter letter)) }
 {
     args.push(whole)?;
     let started = new_type(alloc)?;
@@ -197,7 +197,7 @@ fn meta_type_ended(
     whole: RawType,
     letter: Lexeme,
 ) -> Result<Step, AllocError>
-    ensures { IfOk result (λ step. (parts : RParts) → held.state parts step ≡ r.whole_type_ended parts (r.of_meta (held.meta meta) (rtys (type_list args))) (rty whole) (held.letter letter)) }
+    ensures { IfOk result (λ step. (parts : RParts) → held.state parts step ≡ r.whole_type_ended parts (r.of_meta (held.meta meta) (rtys args)) (rty whole) (held.letter letter)) }
 {
     let metas = add_meta(meta, args, whole)?;
     match letter {

@@ -1,11 +1,10 @@
 -- How many arguments a left side has.
 use Rattle.std.proofs.Common.{◌≡◌, ℕ, ◌+◌, ◌≤◌, List, [], ◌∷◌, length, refl, ap, ◌∙◌, arith}
 use Rattle.wh_text.specs.RawTree.{RTm, named, numbered, free_variable, meta, lam, spine, RTms, none, more}
-use Rattle.wh_text.specs.Erase.{rtm, rtms, term_list}
+use Rattle.wh_text.specs.Erase.{rtm, rtms}
 use Rattle.wh_text.specs.declared.raw.RawTerm.{RawTerm, Spine}
-use Rattle.wh_text.specs.declared.raw.RawTerms.{RawTerms}
 use Rattle.wh_parts.specs.Tests.{arguments_of, count_of, raw_size, raw_spine_size}
-use Rattle.wh_parts.proofs.RawTerms.{raws, of_spine}
+use Rattle.wh_text.proofs.RawLemmas.{rtm_of_spine}
 
 count-size : (ts : RTms) → count_of ts ≤ raw_spine_size ts
 count-size none = omega arith
@@ -24,9 +23,9 @@ count_rtms : (xs : List RawTerm) → count_of (rtms xs) ≡ length xs
 count_rtms [] = refl
 count_rtms (x ∷ xs) = omega (arith, count_rtms xs)
 
-pub count_raws : (ts : RawTerms) → count_of (raws ts) ≡ length (term_list ts)
-count_raws ts = count_rtms (term_list ts)
+pub count_raws : (ts : List RawTerm) → count_of (rtms ts) ≡ length ts
+count_raws ts = count_rtms ts
 
 -- one spine further down
-pub arguments_spine : (t : RawTerm) (h : _) (ts : RawTerms) (at : ℕ) → t ≡ Spine h ts at → arguments_of (rtm t) ≡ arguments_of (rtm h.value) + length (term_list ts)
-arguments_spine t h ts at e = ap arguments_of (of_spine t h ts at e) ∙ ap (λ n. arguments_of (rtm h.value) + n) (count_raws ts)
+pub arguments_spine : (t : RawTerm) (h : _) (ts : List RawTerm) (at : ℕ) → t ≡ Spine h ts at → arguments_of (rtm t) ≡ arguments_of (rtm h.value) + length ts
+arguments_spine t h ts at e = ap arguments_of (rtm_of_spine t h ts at e) ∙ ap (λ n. arguments_of (rtm h.value) + n) (count_raws ts)

@@ -7,7 +7,7 @@ use Rattle.wh_types.specs.Erase.{ty, tys}
 use Rattle.wh_types.specs.declared.want.Or.{Or}
 use Rattle.wh_types.specs.declared.want.Or.TheVariants.{NoMemory, Because}
 use Rattle.wh_terms.specs.Tree.{Tm, app, Tms, none as no_tms, more as more_tms}
-use Rattle.wh_terms.specs.Erase.{tm, terms}
+use Rattle.wh_terms.specs.Erase.{tm, tms}
 use Rattle.wh_terms.proofs.TermLemmas.{join}
 use Rattle.wh_text.specs.RawTree.{RTm, RTms, none, more}
 use Rattle.wh_parts.specs.declared.fault.SystemFault.{SystemFault}
@@ -144,11 +144,11 @@ append-none : (ks : List (Option Ty)) → ks ++ [] ≡ ks
 append-none [] = refl
 append-none (k ∷ ks) = ap (λ xs. k ∷ xs) (append-none ks)
 
-pub part_all : (s : Scope) (bs : List TypedBinder) (ts left : RTms) (r : ResolvedList) → Part s bs ts (terms r.trees) (tys r.kinds) left → left ≡ none → AreResolved s bs ts r
+pub part_all : (s : Scope) (bs : List TypedBinder) (ts left : RTms) (r : ResolvedList) → Part s bs ts (tms r.trees) (tys r.kinds) left → left ≡ none → AreResolved s bs ts r
 part_all s bs ts left r part is =
-    let Here : RTms → Type 0 = λ xs. Part s bs ts (terms r.trees) (tys r.kinds) xs in
-    let here : Part s bs ts (terms r.trees) (tys r.kinds) none = subst Here is part in
-    record { passed = here.tests; trees = here.trees ∙ ap Some (join-none (terms r.trees)); kinds = here.kinds ∙ append-none (map Some (tys r.kinds)) }
+    let Here : RTms → Type 0 = λ xs. Part s bs ts (tms r.trees) (tys r.kinds) xs in
+    let here : Part s bs ts (tms r.trees) (tys r.kinds) none = subst Here is part in
+    record { passed = here.tests; trees = here.trees ∙ ap Some (join-none (tms r.trees)); kinds = here.kinds ∙ append-none (map Some (tys r.kinds)) }
 
 pub part_fails : (s : Scope) (bs : List TypedBinder) (ts left rest : RTms) (us : Tms) (ks : List Ty) (t : RTm) (e : Or SystemFault) → Part s bs ts us ks left → left ≡ more t rest
     → Fails (first_fault (naming_tests s bs t)) e → Fails (first_fault (namings_tests s bs ts)) e

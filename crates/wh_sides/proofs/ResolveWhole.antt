@@ -9,7 +9,7 @@ use Rattle.wh_types.specs.Outcome.{MatchOr}
 use Rattle.wh_types.specs.declared.want.Or.{Or}
 use Rattle.wh_types.specs.declared.want.Or.TheVariants.{NoMemory, Because}
 use Rattle.wh_terms.specs.Tree.{Tm, meta as meta_tree, lam as lam_tree}
-use Rattle.wh_terms.specs.Erase.{tm, terms}
+use Rattle.wh_terms.specs.Erase.{tm, tms}
 use Rattle.wh_text.specs.RawTree.{RTy, Binder, RTm, meta, lam, spine, RTms}
 use Rattle.wh_text.specs.Erase.{rtms}
 use Rattle.wh_text.specs.declared.raw.RawTerm.{RawTerm}
@@ -63,10 +63,10 @@ pub meta_whole : (s : Scope) (bs : List TypedBinder) (u : RTm) (n : List ℕ) (t
     → AreResolved s bs ts list → ResolvesMeta s n list ts at r → ResolvesTerm s bs u r
 meta_whole s bs u n ts at list r is each h =
     let tail : List Test → List Test = λ rest. test (not (is_declared s.metas n)) (UnknownName at) ∷ test (not (arity_of (declaration s n) == count_of ts)) (IllTyped at) ∷ rest in
-    resolves_along r (applied_tests s n (tys list.kinds) ts at) (naming_tests s bs u) (option_map (λ z. meta_tree z (terms list.trees)) (number_of s.metas n)) (meant s (binders_of bs) u)
+    resolves_along r (applied_tests s n (tys list.kinds) ts at) (naming_tests s bs u) (option_map (λ z. meta_tree z (tms list.trees)) (number_of s.metas n)) (meant s (binders_of bs) u)
     (meta_kind (declaration s n) (map Some (tys list.kinds))) (kind_of s bs u)
     (ap (λ v. first_fault (naming_tests s bs v)) is ∙ fault_after (namings_tests s bs ts) (tail (wanted_tests s bs ts (args_of (declaration s n)))) each.passed ∙ ap (λ rest. first_fault (tail rest)) (wanted_are s bs ts (tys list.kinds) (args_of (declaration s n)) each.kinds))
-    (ap (meant s (binders_of bs)) is ∙ ap (both meta_tree (number_of s.metas n)) each.trees ∙ both-map meta_tree (number_of s.metas n) (terms list.trees))
+    (ap (meant s (binders_of bs)) is ∙ ap (both meta_tree (number_of s.metas n)) each.trees ∙ both-map meta_tree (number_of s.metas n) (tms list.trees))
     (ap (kind_of s bs) is ∙ ap (meta_kind (declaration s n)) each.kinds) h
 
 pub meta_fails : (s : Scope) (bs : List TypedBinder) (u : RTm) (n : List ℕ) (ts : RTms) (at : ℕ) (e : Or SystemFault) → u ≡ meta n ts at → Fails (first_fault (namings_tests s bs ts)) e

@@ -5,7 +5,7 @@ use Rattle.wh_types.specs.Outcome.{MatchOr}
 use Rattle.wh_types.specs.Erase.{tys}
 use Rattle.wh_types.specs.declared.want.Or.{Or}
 use Rattle.wh_terms.specs.Tree.{Tm, meta}
-use Rattle.wh_terms.specs.Erase.{terms}
+use Rattle.wh_terms.specs.Erase.{tms}
 use Rattle.wh_text.specs.RawTree.{RTm, RTms, more}
 use Rattle.wh_parts.specs.declared.fault.SystemFault.{SystemFault}
 use Rattle.wh_parts.specs.declared.fault.SystemFault.TheVariants.{UnknownName, IllTyped}
@@ -28,7 +28,7 @@ ResolvesSpine s bs u a ts result = Resolves (applying_tests s bs a ts) (applied_
 -- no test of these terms fails, and the trees and types are these
 pub record AreResolved (s : Scope) (bs : List TypedBinder) (ts : RTms) (r : ResolvedList) : Type 0 where
   pub passed : first_fault (namings_tests s bs ts) ≡ None
-  pub trees : all_meant s (binders_of bs) ts ≡ Some (terms r.trees)
+  pub trees : all_meant s (binders_of bs) ts ≡ Some (tms r.trees)
   pub kinds : kinds_of s bs ts ≡ map Some (tys r.kinds)
 
 -- the answer for terms one after another
@@ -48,4 +48,4 @@ applied_tests s n given ts at =
 -- the answer for a meta-variable with resolved arguments
 abbrev pub ResolvesMeta : Scope → List ℕ → ResolvedList → RTms → ℕ → Result Resolved (Or SystemFault) → Type 0
 ResolvesMeta s n list ts at result =
-    Resolves (applied_tests s n (tys list.kinds) ts at) (option_map (λ z. meta z (terms list.trees)) (number_of s.metas n)) (meta_kind (declaration s n) (map Some (tys list.kinds))) result
+    Resolves (applied_tests s n (tys list.kinds) ts at) (option_map (λ z. meta z (tms list.trees)) (number_of s.metas n)) (meta_kind (declaration s n) (map Some (tys list.kinds))) result

@@ -2,7 +2,7 @@
 
 ghost use Rattle.std.specs.Prelude.{◌≡◌, ◌==◌, [], not, reverse, IfOk, OnOk};
 ghost use Rattle.std.specs.List.{list_all};
-ghost use Rattle.wh_text.specs.Erase.{rtm, rtms, rbinder, term_list};
+ghost use Rattle.wh_text.specs.Erase.{rtm, rtms, rbinder};
 ghost use Rattle.wh_text.specs.RawTree.{named_binder, numbered_binder};
 ghost use Rattle.wh_sides.specs.Answers.{Reports};
 ghost use Rattle.wh_sides.specs.InScope.{scope as in_scope, bare, nearest_bare};
@@ -67,7 +67,7 @@ fn check_forms<'a>(
     binders: &mut Vec<&'a RawBinder>,
     items: &'a RawTerms,
 ) -> Result<(), Or<SystemFault>>
-    ensures told { Reports (patterns_tests (in_scope scope.now) (bare binders.old.items) (rtms (term_list items.now))) result }
+    ensures told { Reports (patterns_tests (in_scope scope.now) (bare binders.old.items) (rtms items.now)) result }
     ensures kept { OnOk result (binders.new.items ≡ binders.old.items) }
 {
     for item in items.as_slice() {
@@ -82,7 +82,7 @@ fn have_distinct(
     binders: &[&RawBinder],
     items: &RawTerms,
 ) -> Result<bool, AllocError>
-    ensures { IfOk result (λ yes. yes ≡ are_distinct (bare binders.now) [] (rtms (term_list items.now))) }
+    ensures { IfOk result (λ yes. yes ≡ are_distinct (bare binders.now) [] (rtms items.now)) }
 {
     let mut seen = Vec::new(alloc);
     for item in items.as_slice() {

@@ -2,7 +2,7 @@
 //! there, and one over the right side looks at the marks.
 
 ghost use Rattle.std.specs.Prelude.{◌≡◌, ◌∷◌, ◌<◌, ℕ, List, [], Some, None, false, IfOk, OnOk, length, slice_index_or};
-ghost use Rattle.wh_text.specs.Erase.{rtm, rtms, term_list};
+ghost use Rattle.wh_text.specs.Erase.{rtm, rtms};
 ghost use Rattle.wh_text.specs.RawTree.{named};
 ghost use Rattle.wh_sides.specs.Answers.{Reports};
 ghost use Rattle.wh_sides.specs.InScope.{scope as in_scope, bare};
@@ -90,7 +90,7 @@ fn mark_each<'a>(
     items: &'a RawTerms,
     marks: &mut [bool],
 ) -> Result<(), AllocError>
-    ensures marked { OnOk result (Marks (in_scope scope.now) marks.old marks.new (λ n. any_occurs (in_scope scope.now) (bare binders.old.items) n (rtms (term_list items.now)))) }
+    ensures marked { OnOk result (Marks (in_scope scope.now) marks.old marks.new (λ n. any_occurs (in_scope scope.now) (bare binders.old.items) n (rtms items.now))) }
     ensures kept { OnOk result (binders.new.items ≡ binders.old.items) }
 {
     for item in items.as_slice() {
@@ -163,7 +163,7 @@ fn check_each_marked<'a>(
     binders: &mut Vec<&'a RawBinder>,
     items: &'a RawTerms,
 ) -> Result<(), Or<SystemFault>>
-    ensures told { Reports (missing_each (in_scope scope.now) (is_marked (in_scope scope.now) marks.now) (bare binders.old.items) (rtms (term_list items.now))) result }
+    ensures told { Reports (missing_each (in_scope scope.now) (is_marked (in_scope scope.now) marks.now) (bare binders.old.items) (rtms items.now)) result }
     ensures kept { OnOk result (binders.new.items ≡ binders.old.items) }
 {
     for item in items.as_slice() {

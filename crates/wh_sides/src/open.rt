@@ -1,6 +1,6 @@
 //! The free variables of a side: it has none.
 
-ghost use Rattle.wh_text.specs.Erase.{rtm, rtms, term_list};
+ghost use Rattle.wh_text.specs.Erase.{rtm, rtms};
 ghost use Rattle.wh_parts.specs.Faults.{IsFirstFault};
 ghost use Rattle.wh_parts.specs.RuleTests.{open_tests, opens_tests};
 
@@ -9,7 +9,7 @@ use wh_text::{RawTerm, RawTerms};
 
 /// Whether the side has no free variable: the fault is at the first one.
 #[cycle(open)]
-#[tactic(auto, using(wh_parts::proofs::FaultLemmas::first_fault_append, wh_parts::proofs::RawTerms::of_meta, wh_parts::proofs::RawTerms::of_spine))]
+#[tactic(auto, using(wh_parts::proofs::FaultLemmas::first_fault_append, wh_text::proofs::RawLemmas::rtm_of_meta, wh_text::proofs::RawLemmas::rtm_of_spine))]
 pub fn check_open(side: &RawTerm) -> Result<(), SystemFault>
     ensures { IsFirstFault (open_tests (rtm side.now)) result }
 {
@@ -29,7 +29,7 @@ pub fn check_open(side: &RawTerm) -> Result<(), SystemFault>
 #[cycle(open)]
 #[tactic(auto, using(wh_parts::proofs::FaultLemmas::first_fault_append, wh_parts::proofs::RawTerms::left_next, wh_parts::proofs::RawTerms::left_none))]
 fn check_open_each(items: &RawTerms) -> Result<(), SystemFault>
-    ensures { IsFirstFault (opens_tests (rtms (term_list items.now))) result }
+    ensures { IsFirstFault (opens_tests (rtms items.now)) result }
 {
     for item in items.as_slice() {
         check_open(item)?;

@@ -6,7 +6,7 @@ ghost use Rattle.wh_types.specs.Erase.{ty, tys};
 ghost use Rattle.wh_types.specs.Outcome.{MatchOr};
 ghost use Rattle.wh_terms.specs.Erase.{tm};
 ghost use Rattle.wh_terms.specs.Tree.{app};
-ghost use Rattle.wh_text.specs.Erase.{rtm, rty, rtms, rbinder, term_list};
+ghost use Rattle.wh_text.specs.Erase.{rtm, rty, rtms, rbinder};
 ghost use Rattle.wh_text.specs.RawTree.{named, numbered, free_variable, lam as raw_lam};
 ghost use Rattle.wh_sides.specs.Answers.{Resolves};
 ghost use Rattle.wh_parts.specs.Faults.{IsFirstFault, first_fault};
@@ -101,7 +101,7 @@ fn resolve_each<'a>(
     passed: &mut Vec<Around<'a>>,
     items: &'a RawTerms,
 ) -> Result<ResolvedList, Or<SystemFault>>
-    ensures told { ResolvesEach (in_scope scope.now) (typed passed.old.items) (rtms (term_list items.now)) result }
+    ensures told { ResolvesEach (in_scope scope.now) (typed passed.old.items) (rtms items.now) result }
     ensures kept { OnOk result (passed.new.items ≡ passed.old.items) }
 {
     let mut trees = Terms::new(alloc)?;
@@ -123,7 +123,7 @@ fn resolve_applied<'a>(
     head: Resolved,
     items: &'a RawTerms,
 ) -> Result<Resolved, Or<SystemFault>>
-    ensures told { ResolvesSpine (in_scope scope.now) (typed passed.old.items) (Some (tm head.term)) (Some (ty head.kind)) (rtms (term_list items.now)) result }
+    ensures told { ResolvesSpine (in_scope scope.now) (typed passed.old.items) (Some (tm head.term)) (Some (ty head.kind)) (rtms items.now) result }
     ensures kept { OnOk result (passed.new.items ≡ passed.old.items) }
 {
     let mut whole = head;

@@ -5,7 +5,7 @@ ghost use Rattle.wh_types.specs.Erase.{ty, tys};
 ghost use Rattle.wh_types.specs.Ty.{◌⇒◌};
 ghost use Rattle.wh_terms.specs.Erase.{tm};
 ghost use Rattle.wh_terms.specs.Tree.{app, lam};
-ghost use Rattle.wh_text.specs.Erase.{rtms, term_list};
+ghost use Rattle.wh_text.specs.Erase.{rtms};
 ghost use Rattle.wh_text.specs.RawTree.{named, numbered};
 ghost use Rattle.wh_sides.specs.Answers.{Resolves};
 ghost use Rattle.wh_parts.specs.Faults.{IsFirstFault};
@@ -94,8 +94,8 @@ pub fn applied_meta(
     items: &RawTerms,
     at: u32,
 ) -> Result<Resolved, Or<SystemFault>>
-    requires { length list.kinds ≡ length (term_list items.now) }
-    ensures { ResolvesMeta (in_scope scope.now) name.now list (rtms (term_list items.now)) at result }
+    requires { length list.kinds ≡ length items.now }
+    ensures { ResolvesMeta (in_scope scope.now) name.now list (rtms items.now) at result }
 {
     let Some(meta) = scope.metas.number(name.bytes()) else {
         return Err(Or::Because(SystemFault::UnknownName { at }));
@@ -119,9 +119,9 @@ fn check_fitting(
     items: &RawTerms,
     wanted: &[SimpleType],
 ) -> Result<(), SystemFault>
-    requires given { length given.now ≡ length (term_list items.now) }
-    requires wanted { length wanted.now ≡ length (term_list items.now) }
-    ensures { IsFirstFault (fitting_tests (tys given.now) (rtms (term_list items.now)) (tys wanted.now)) result }
+    requires given { length given.now ≡ length items.now }
+    requires wanted { length wanted.now ≡ length items.now }
+    ensures { IsFirstFault (fitting_tests (tys given.now) (rtms items.now) (tys wanted.now)) result }
 {
     let items = items.as_slice();
     for i in 0..items.len() {

@@ -11,9 +11,8 @@ use Rattle.wh_terms.specs.Typing.{Symbols}
 use Rattle.wh_terms.specs.Rules.{RewriteRule, AreWellMade}
 use Rattle.wh_types.specs.Erase.{ty}
 use Rattle.wh_types.specs.declared.simple_type.SimpleType.{SimpleType}
-use Rattle.wh_terms.specs.Erase.{tm, terms}
+use Rattle.wh_terms.specs.Erase.{tm, tms}
 use Rattle.wh_terms.specs.declared.term.Term.{Term, Bound, Free, Fun, Meta}
-use Rattle.wh_terms.specs.declared.term.Terms.{Terms}
 use Rattle.wh_terms.proofs.TermLemmas.{tm_of_meta}
 use Rattle.wh_step.specs.Reducts.{IsBefore, IsEarlier, Redex, Precedes, InOrder, StepsTo, AreReducts}
 use Rattle.wh_step.specs.Roots.{BetaStep, RuleStep, RootStep, StepsAt, put_at}
@@ -254,13 +253,13 @@ childless_meta z ts (suc (suc d)) = refl
 
 -- variables, symbols and meta-applications
 abbrev pub IsLeaf : Term → Type 0
-IsLeaf t = ((x : ℕ) × (t ≡ Bound x)) ⊎ (((x : ℕ) × (a : SimpleType) × (t ≡ Free x a)) ⊎ (((f : ℕ) × (t ≡ Fun f)) ⊎ ((z : ℕ) × (ts : Terms) × (t ≡ Meta z ts))))
+IsLeaf t = ((x : ℕ) × (t ≡ Bound x)) ⊎ (((x : ℕ) × (a : SimpleType) × (t ≡ Free x a)) ⊎ (((f : ℕ) × (t ≡ Fun f)) ⊎ ((z : ℕ) × (ts : List Term) × (t ≡ Meta z ts))))
 
 pub childless_leaf : (t : Term) → IsLeaf t → (d : ℕ) → child d (tm t) ≡ None
 childless_leaf t (inl (i, is)) d = ap (λ s. child d (tm s)) is ∙ childless_bound i d
 childless_leaf t (inr (inl (x, a, is))) d = ap (λ s. child d (tm s)) is ∙ childless_free x (ty a) d
 childless_leaf t (inr (inr (inl (f, is)))) d = ap (λ s. child d (tm s)) is ∙ childless_fun f d
-childless_leaf t (inr (inr (inr (z, ts, is)))) d = ap (child d) (tm_of_meta t z ts is) ∙ childless_meta z (terms ts) d
+childless_leaf t (inr (inr (inr (z, ts, is)))) d = ap (child d) (tm_of_meta t z ts is) ∙ childless_meta z (tms ts) d
 
 -- as reducts
 

@@ -1,14 +1,13 @@
 -- What the walks that measure a contractum come to.
 use Rattle.std.proofs.Common.{◌≡◌, ℕ, zero, suc, ◌+◌, ◌<◌, inl, inr, List, [], ◌∷◌, ◌++◌, length, take, get_or, Option, refl, ap, sym, ◌∙◌, subst, arith}
 use Rattle.wh_terms.specs.Tree.{free, meta, Tms, none, more}
-use Rattle.wh_terms.specs.Erase.{tm, tms, list, terms}
+use Rattle.wh_terms.specs.Erase.{tm, tms}
 use Rattle.wh_terms.specs.Entries.{bodies}
 use Rattle.wh_terms.specs.Substitution.{act}
 use Rattle.wh_terms.specs.Under.{ups, ups_free, moved}
 use Rattle.wh_terms.specs.Value.{parameters}
 use Rattle.wh_terms.specs.Valued.{valued, all_valued}
 use Rattle.wh_terms.specs.declared.term.Term.{Term, Meta}
-use Rattle.wh_terms.specs.declared.term.Terms.{Terms}
 use Rattle.wh_terms.specs.declared.subst.MetaBody.{MetaBody}
 use Rattle.wh_terms.proofs.TermLemmas.{join, tm_of_meta, tms_take_next}
 use Rattle.wh_terms.proofs.UnderLemmas.{act_top}
@@ -18,9 +17,9 @@ use Rattle.wh_step.specs.Contracta.{TermsFor, AllTermsFor}
 
 -- the bodies that the arguments of a meta-variable look at are terms
 
-pub terms_meta : (bs : List MetaBody) (t : Term) (z : ℕ) (ts : Terms) → t ≡ Meta z ts → TermsFor bs (tm t) → AllTermsFor bs (terms ts)
+pub terms_meta : (bs : List MetaBody) (t : Term) (z : ℕ) (ts : List Term) → t ≡ Meta z ts → TermsFor bs (tm t) → AllTermsFor bs (tms ts)
 terms_meta bs t z ts is h =
-    let known : TermsFor bs (meta z (terms ts)) = subst (TermsFor bs) (tm_of_meta t z ts is) h in
+    let known : TermsFor bs (meta z (tms ts)) = subst (TermsFor bs) (tm_of_meta t z ts is) h in
     λ y o. known y (inr o)
 
 terms-get : (bs : List MetaBody) (xs : List Term) (i : ℕ) (t : Term) → i < length xs → t ≡ get_or xs i t → AllTermsFor bs (tms xs) → TermsFor bs (tm t)
@@ -28,7 +27,7 @@ terms-get bs [] i t within e h = absurd (omega arith)
 terms-get bs (x ∷ xs) zero t within e h = subst (λ u. TermsFor bs (tm u)) (sym e) (λ z o. h z (inl o))
 terms-get bs (x ∷ xs) (suc i) t within e h = terms-get bs xs i t (omega arith) e (λ z o. h z (inr o))
 
-pub terms_item : (bs : List MetaBody) (ts : Terms) (xs : List Term) (i : ℕ) (t : Term) → xs ≡ list ts → i < length xs → t ≡ get_or xs i t → AllTermsFor bs (terms ts) → TermsFor bs (tm t)
+pub terms_item : (bs : List MetaBody) (ts : List Term) (xs : List Term) (i : ℕ) (t : Term) → xs ≡ ts → i < length xs → t ≡ get_or xs i t → AllTermsFor bs (tms ts) → TermsFor bs (tm t)
 terms_item bs ts xs i t from within e h = terms-get bs xs i t within e (subst (λ us. AllTermsFor bs (tms us)) (sym from) h)
 
 -- the values of the arguments, one after another
@@ -52,8 +51,8 @@ known_push k bs xs es ds i e t so_far pushed here within is =
     (subst (λ ts. AllKnown ts (es ++ e ∷ [])) (sym joined) (known-join (all_valued k (bodies bs) (tms (take i xs))) (more (valued k (bodies bs) (tm t)) none) es (e ∷ []) so_far (here, tt)))
 
 -- the value of a meta-application is its body with the values of the arguments
-pub act_value : (k : ℕ) (bs : List MetaBody) (t : Term) (z : ℕ) (ts : Terms) (b : MetaBody) → t ≡ Meta z ts → bodies bs z ≡ record { arity = b.arity; tree = tm b.body }
-    → valued k (bodies bs) (tm t) ≡ act (ups 0 (parameters (all_valued k (bodies bs) (terms ts)) (moved k))) (ups_free 0 free) (tm b.body)
+pub act_value : (k : ℕ) (bs : List MetaBody) (t : Term) (z : ℕ) (ts : List Term) (b : MetaBody) → t ≡ Meta z ts → bodies bs z ≡ record { arity = b.arity; tree = tm b.body }
+    → valued k (bodies bs) (tm t) ≡ act (ups 0 (parameters (all_valued k (bodies bs) (tms ts)) (moved k))) (ups_free 0 free) (tm b.body)
 act_value k bs t z ts b is body =
-    ap (valued k (bodies bs)) (tm_of_meta t z ts is) ∙ ap (λ c. act (parameters (all_valued k (bodies bs) (terms ts)) (moved k)) free c.tree) body
-    ∙ sym (act_top (parameters (all_valued k (bodies bs) (terms ts)) (moved k)) free (tm b.body))
+    ap (valued k (bodies bs)) (tm_of_meta t z ts is) ∙ ap (λ c. act (parameters (all_valued k (bodies bs) (tms ts)) (moved k)) free c.tree) body
+    ∙ sym (act_top (parameters (all_valued k (bodies bs) (tms ts)) (moved k)) free (tm b.body))

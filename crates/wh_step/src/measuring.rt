@@ -7,7 +7,7 @@
 ghost use Rattle.std.specs.Prelude.{ℕ, IfOk};
 ghost use Rattle.wh_types.specs.Erase.{ty};
 ghost use Rattle.wh_terms.specs.Tree.{Tm, Tms, free};
-ghost use Rattle.wh_terms.specs.Erase.{tm, terms};
+ghost use Rattle.wh_terms.specs.Erase.{tm, tms};
 ghost use Rattle.wh_terms.specs.Sight.{IsTerm, Occurs};
 ghost use Rattle.wh_terms.specs.Substitution.{act};
 ghost use Rattle.wh_terms.specs.Under.{ups, ups_free, moved};
@@ -108,9 +108,9 @@ fn value_extents(
     by: &MetaSubst,
     items: &Terms,
 ) -> Result<Vec<Option<Extent>>, AllocError>
-    requires covered { CoversAll by.now (terms items.now) }
-    requires terms { AllTermsFor by.now (terms items.now) }
-    ensures { IfOk result (λ r. (k : ℕ) → AllKnown (all_valued k (bodies by.now) (terms items.now)) r.items) }
+    requires covered { CoversAll by.now (tms items.now) }
+    requires terms { AllTermsFor by.now (tms items.now) }
+    ensures { IfOk result (λ r. (k : ℕ) → AllKnown (all_valued k (bodies by.now) (tms items.now)) r.items) }
 {
     let mut values = Vec::new(alloc);
     for item in items.as_slice() {

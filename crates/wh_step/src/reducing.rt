@@ -8,7 +8,7 @@ ghost use Rattle.wh_types.specs.Erase.{ty};
 ghost use Rattle.wh_terms.specs.Typing.{Symbols};
 ghost use Rattle.wh_terms.specs.Sight.{LooseBelow, IsTerm};
 ghost use Rattle.wh_terms.specs.Measures.{Fits};
-ghost use Rattle.wh_terms.specs.Erase.{tm, list, rewrite_rules};
+ghost use Rattle.wh_terms.specs.Erase.{tm, rewrite_rules};
 ghost use Rattle.wh_terms.specs.Rules.{AreWellMade};
 ghost use Rattle.wh_step.specs.Reducts.{AreReducts};
 ghost use Rattle.wh_step.specs.Contracta.{AreReady, IsPlain, results_of};
@@ -118,7 +118,7 @@ fn reducts_below(alloc: Global, rules: &[Rule], term: &Term) -> Result<Vec<Term>
 
 // The terms in the same order.
 fn collected(alloc: Global, found: Vec<Term>) -> Result<Terms, AllocError>
-    ensures { IfOk result (λ r. map tm (list r) ≡ map tm found.items) }
+    ensures { IfOk result (λ r. map tm r ≡ map tm found.items) }
 {
     let mut all = Terms::new(alloc)?;
     for term in found {
@@ -134,7 +134,7 @@ pub fn reducts(alloc: Global, rules: &[Rule], term: &Term) -> Result<Terms, Allo
     requires fits { Fits (tm term.now) }
     requires shut { LooseBelow 0 (tm term.now) }
     requires plain { IsTerm (tm term.now) }
-    ensures { IfOk result (λ r. AreReducts (rewrite_rules rules.now) (tm term.now) (map tm (list r))) }
+    ensures { IfOk result (λ r. AreReducts (rewrite_rules rules.now) (tm term.now) (map tm r)) }
 {
     let found = reducts_below(alloc, rules, term)?;
     collected(alloc, found)

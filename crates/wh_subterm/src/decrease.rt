@@ -2,7 +2,7 @@
 
 ghost use Rattle.std.specs.Prelude.{◌≡◌, ◌↔◌, ◌<◌, ℕ, All, Contains, IsTrue, MatchOption, MatchResult, length, map};
 ghost use Rattle.wh_terms.specs.Tree.{Tm};
-ghost use Rattle.wh_terms.specs.Erase.{list, tm};
+ghost use Rattle.wh_terms.specs.Erase.{tm};
 ghost use Rattle.wh_system.specs.PairData.{IsIncreasing, pair_data};
 ghost use Rattle.wh_subterm.specs.Projections.{Below, Decreasing, IsProjected};
 ghost use Rattle.wh_subterm.specs.SubtermRows.{IsDecreasing, IsNotDecreasing, chosen, chosen_symbols};
@@ -70,7 +70,7 @@ fn is_decreasing(pair: &Pair, args: &[Choice], dropped: bool) -> bool
 // The argument that is chosen for the symbol.
 fn projected<'a>(args: &[Choice], symbol: u32, terms: &'a Terms) -> Option<&'a Term>
     requires { IsIncreasing (chosen_symbols (map chosen args.now)) }
-    ensures { MatchOption result ((t : Tm) → IsProjected (map chosen args.now) symbol (map tm (list terms.now)) t → ⊥) (λ r. IsProjected (map chosen args.now) symbol (map tm (list terms.now)) (tm r.now)) }
+    ensures { MatchOption result ((t : Tm) → IsProjected (map chosen args.now) symbol (map tm terms.now) t → ⊥) (λ r. IsProjected (map chosen args.now) symbol (map tm terms.now) (tm r.now)) }
 {
     let argument = choice_for(args, symbol)?;
     let place = argument.checked_sub(1)? as usize;

@@ -1,7 +1,7 @@
 //! How the two sides of a pair stand to one another under a choice of an argument for each.
 
 ghost use Rattle.std.specs.Prelude.{◌≡◌, MatchOption, None, Some, map, slice_get};
-ghost use Rattle.wh_terms.specs.Erase.{list, tm};
+ghost use Rattle.wh_terms.specs.Erase.{tm};
 ghost use Rattle.wh_system.specs.PairData.{pair_data};
 ghost use Rattle.wh_subterm.specs.Relations.{IsRelation, Relates};
 
@@ -35,7 +35,7 @@ pub fn relation_at(pair: &Pair, left: u32, right: u32) -> Relation
 
 // The term at a place.
 fn argument(terms: &Terms, place: u32) -> Option<&Term>
-    ensures { MatchOption result (slice_get (map tm (list terms.now)) place ≡ None) (λ r. slice_get (map tm (list terms.now)) place ≡ Some (tm r.now)) }
+    ensures { MatchOption result (slice_get (map tm terms.now) place ≡ None) (λ r. slice_get (map tm terms.now) place ≡ Some (tm r.now)) }
 {
     let items = terms.as_slice();
     if (place as usize) < items.len() {

@@ -3,17 +3,14 @@ use Rattle.std.proofs.Common.{Box, Global, ◌⊎◌, inl, inr, ◌≡◌, ℕ, 
 use Rattle.std.proofs.lemmas.List.{get_or_default}
 use Rattle.wh_types.specs.Ty.{Ty, sort, ◌⇒◌, result_sort, SortsBelow}
 use Rattle.wh_terms.specs.Tree.{Tm, meta, Tms, none as no_tms, more as more_tms}
-use Rattle.wh_terms.specs.Erase.{tm, tms, terms, list}
+use Rattle.wh_terms.specs.Erase.{tm, tms}
 use Rattle.wh_terms.specs.declared.term.Term.{Term, Meta}
-use Rattle.wh_terms.specs.declared.term.Terms.{Terms}
 use Rattle.wh_terms.proofs.TermLemmas.{join, tms_take_next, tm_of_meta}
 use Rattle.wh_text.specs.RawTree.{raw_type, RTys, no_types, more_types, RTm, named, meta as raw_meta, spine, RTms, none, more}
-use Rattle.wh_text.specs.Erase.{rty, rtys, type_list, rtm, rtms}
-use Rattle.wh_text.specs.declared.raw.RawTypes.{RawTypes}
+use Rattle.wh_text.specs.Erase.{rty, rtys, rtm, rtms}
 use Rattle.wh_text.proofs.RawLemmas.{arguments_are, rtm_of_meta}
 use Rattle.wh_text.specs.declared.raw.RawBinder.{RawBinder}
 use Rattle.wh_text.specs.declared.raw.RawTerm.{RawTerm, Named, Numbered, Free, Meta as RawMeta, Lam}
-use Rattle.wh_text.specs.declared.raw.RawTerms.{RawTerms}
 use Rattle.wh_text.specs.declared.raw.RawType.{RawType, roll-RawType}
 use Rattle.wh_system.specs.Canonical.{Names, name_at, and_last, join_types, raw_type_of, raw_arguments_of, raw_below, each_raw_below, with_argument, IsNamedBelow, AreNamedBelow}
 
@@ -40,11 +37,11 @@ named-get n d [] i t within e all = absurd (omega arith)
 named-get n d (x ∷ xs) zero t within e all = subst (λ u. IsNamedBelow n d (tm u)) (sym e) all.0
 named-get n d (x ∷ xs) (suc i) t within e all = named-get n d xs i t (omega arith) e all.1
 
-pub named_item : (n : Names) (d : ℕ) (ts : Terms) (xs : List Term) (i : ℕ) (t : Term) → xs ≡ list ts → i < length xs → t ≡ get_or xs i t → AreNamedBelow n d (terms ts)
+pub named_item : (n : Names) (d : ℕ) (ts : List Term) (xs : List Term) (i : ℕ) (t : Term) → xs ≡ ts → i < length xs → t ≡ get_or xs i t → AreNamedBelow n d (tms ts)
     → IsNamedBelow n d (tm t)
 named_item n d ts xs i t from within e all = named-get n d xs i t within e (subst (λ us. AreNamedBelow n d (tms us)) (sym from) all)
 
-pub named_meta : (n : Names) (d : ℕ) (t : Term) (z : ℕ) (ts : Terms) → t ≡ Meta z ts → IsNamedBelow n d (tm t) → (z < length n.metas) × AreNamedBelow n d (terms ts)
+pub named_meta : (n : Names) (d : ℕ) (t : Term) (z : ℕ) (ts : List Term) → t ≡ Meta z ts → IsNamedBelow n d (tm t) → (z < length n.metas) × AreNamedBelow n d (tms ts)
 named_meta n d t z ts e all = subst (IsNamedBelow n d) (tm_of_meta t z ts e) all
 
 -- raw types
@@ -78,7 +75,7 @@ pub type_whole : (sorts : List (List ℕ)) (a : Ty) → raw_type_of sorts a ≡ 
 type_whole sorts (sort s) = refl
 type_whole sorts (a ⇒ b) = refl
 
-pub made_type : (sorts : List (List ℕ)) (a : Ty) (args : RawTypes) (empty : List RawType) (k : ℕ) (there copy : List ℕ) → empty ≡ [] → rtys (type_list args) ≡ join_types (rtys empty) (raw_arguments_of sorts a)
+pub made_type : (sorts : List (List ℕ)) (a : Ty) (args : List RawType) (empty : List RawType) (k : ℕ) (there copy : List ℕ) → empty ≡ [] → rtys args ≡ join_types (rtys empty) (raw_arguments_of sorts a)
     → k ≡ result_sort a → result_sort a < length sorts → copy ≡ get_or sorts k there
     → rty (roll-RawType (record { args = args; sort = copy; at = 0 })) ≡ raw_type_of sorts a
 unfolding roll-RawType denote.Hole.Carrier.roll
@@ -87,7 +84,7 @@ made_type sorts a args empty k there copy none_first args_are k_is within same =
     (same ∙ ap (λ k. get_or sorts k there) k_is ∙ get_or_default sorts (result_sort a) there [] within) ∙ sym (type_whole sorts a)
 
 -- a tree that is no spine, with one argument more
-pub begun : (r : RawTerm) (u : RTm) → ((x : List ℕ) × (at : ℕ) × (r ≡ Named x at)) ⊎ (((k : ℕ) × (at : ℕ) × (r ≡ Numbered k at)) ⊎ (((k : ℕ) × (a : RawType) × (at : ℕ) × (r ≡ Free k a at)) ⊎ (((x : List ℕ) × (ts : RawTerms) × (at : ℕ) × (r ≡ RawMeta x ts at)) ⊎ ((x : RawBinder) × (a : RawType) × (t : Box RawTerm Global) × (at : ℕ) × (r ≡ Lam x a t at)))))
+pub begun : (r : RawTerm) (u : RTm) → ((x : List ℕ) × (at : ℕ) × (r ≡ Named x at)) ⊎ (((k : ℕ) × (at : ℕ) × (r ≡ Numbered k at)) ⊎ (((k : ℕ) × (a : RawType) × (at : ℕ) × (r ≡ Free k a at)) ⊎ (((x : List ℕ) × (ts : List RawTerm) × (at : ℕ) × (r ≡ RawMeta x ts at)) ⊎ ((x : RawBinder) × (a : RawType) × (t : Box RawTerm Global) × (at : ℕ) × (r ≡ Lam x a t at)))))
     → with_argument (rtm r) u ≡ spine (rtm r) (more u none) 0
 begun r u (inl (x, at, is)) = subst (λ q. with_argument (rtm q) u ≡ spine (rtm q) (more u none) 0) (sym is) refl
 begun r u (inr (inl (k, at, is))) = subst (λ q. with_argument (rtm q) u ≡ spine (rtm q) (more u none) 0) (sym is) refl
@@ -96,14 +93,14 @@ begun r u (inr (inr (inr (inl (x, ts, at, is))))) = subst (λ q. with_argument q
 begun r u (inr (inr (inr (inr (x, a, t, at, is))))) = subst (λ q. with_argument (rtm q) u ≡ spine (rtm q) (more u none) 0) (sym is) refl
 
 -- a meta-variable, without arguments and with them
-pub bare_meta : (n : Names) (d z : ℕ) (t : Term) (ts : Terms) (xs : List Term) (there copy : List ℕ) → t ≡ Meta z ts → xs ≡ list ts → length xs ≡ 0 → z < length n.metas
+pub bare_meta : (n : Names) (d z : ℕ) (t : Term) (ts : List Term) (xs : List Term) (there copy : List ℕ) → t ≡ Meta z ts → xs ≡ ts → length xs ≡ 0 → z < length n.metas
     → copy ≡ get_or n.metas z there → named copy 0 ≡ raw_below n d (tm t)
 bare_meta n d z t ts [] there copy is from empty within same =
     ap (λ x. named x 0) (same ∙ get_or_default n.metas z there [] within) ∙ ap (λ us. raw_below n d (meta z (tms us))) from ∙ sym (ap (raw_below n d) (tm_of_meta t z ts is))
 bare_meta n d z t ts (x ∷ xs) there copy is from empty within same = absurd (omega arith)
 
-pub meta_with : (n : Names) (d z : ℕ) (t : Term) (ts : Terms) (xs : List Term) (there copy : List ℕ) (raw : RTms) → t ≡ Meta z ts → xs ≡ list ts → (length xs ≡ 0 → ⊥) → z < length n.metas
-    → copy ≡ get_or n.metas z there → raw ≡ each_raw_below n d (terms ts) → raw_meta copy raw 0 ≡ raw_below n d (tm t)
+pub meta_with : (n : Names) (d z : ℕ) (t : Term) (ts : List Term) (xs : List Term) (there copy : List ℕ) (raw : RTms) → t ≡ Meta z ts → xs ≡ ts → (length xs ≡ 0 → ⊥) → z < length n.metas
+    → copy ≡ get_or n.metas z there → raw ≡ each_raw_below n d (tms ts) → raw_meta copy raw 0 ≡ raw_below n d (tm t)
 meta_with n d z t ts [] there copy raw is from filled within same args = absurd (filled refl)
 meta_with n d z t ts (x ∷ xs) there copy raw is from filled within same args =
     ap₂ (λ x us. raw_meta x us 0) (same ∙ get_or_default n.metas z there [] within) (args ∙ ap (λ us. each_raw_below n d (tms us)) (sym from))

@@ -2,7 +2,7 @@
 use Rattle.std.specs.Prelude.{ℕ, ◌<◌, List, [], ◌∷◌, map}
 use Rattle.wh_terms.specs.Tree.{Tm}
 use Rattle.wh_terms.specs.Typing.{Declared}
-use Rattle.wh_terms.specs.Erase.{declared_metas, tm, list}
+use Rattle.wh_terms.specs.Erase.{declared_metas, tm}
 use Rattle.wh_system.specs.declared.pairs.Condition as code
 use Rattle.wh_system.specs.declared.pairs.Pair as pair
 
@@ -30,9 +30,9 @@ pair_data p = record {
   rule = p.rule;
   metas = declared_metas p.metas;
   left_fun = p.left_fun;
-  left = map tm (list p.left);
+  left = map tm p.left;
   right_fun = p.right_fun;
-  right = map tm (list p.right);
+  right = map tm p.right;
   conditions = map within p.conditions;
 }
 

@@ -6,8 +6,8 @@ ghost use Rattle.wh_terms.specs.Rules.{RewriteRule};
 ghost use Rattle.wh_terms.specs.Typing.{WellTyped};
 ghost use Rattle.wh_types.specs.Ty.{SortsBelow};
 ghost use Rattle.wh_types.specs.Erase.{ty};
-ghost use Rattle.wh_terms.specs.Erase.{tm, terms, rewrite_rule};
-ghost use Rattle.wh_text.specs.Erase.{rty, rtys, rtm, rtms, type_list, term_list};
+ghost use Rattle.wh_terms.specs.Erase.{tm, tms, rewrite_rule};
+ghost use Rattle.wh_text.specs.Erase.{rty, rtys, rtm, rtms};
 ghost use Rattle.wh_system.specs.Canonical.{IsNamedBelow, AreNamedBelow, join_types, raw_type_of, raw_arguments_of, raw_below, each_raw_below, raw_of, with_argument};
 ghost use Rattle.wh_system.specs.CanonicalView.{term_names, names_of_system, names_of_rule, side_of};
 ghost use Rattle.wh_system.specs.Resolve.{Means};
@@ -123,8 +123,8 @@ fn raw_each(
     items: &Terms,
     depth: u32,
 ) -> Result<RawTerms, AllocError>
-    requires { AreNamedBelow (term_names names.now) depth (terms items.now) }
-    ensures { IfOk result (λ raw. rtms (term_list raw) ≡ each_raw_below (term_names names.now) depth (terms items.now)) }
+    requires { AreNamedBelow (term_names names.now) depth (tms items.now) }
+    ensures { IfOk result (λ raw. rtms raw ≡ each_raw_below (term_names names.now) depth (tms items.now)) }
 {
     let mut raw = RawTerms::new(alloc)?;
     for item in items.as_slice() {
@@ -185,7 +185,7 @@ fn push_arguments(
     args: &mut RawTypes,
 ) -> Result<(), AllocError>
     requires { SortsBelow (length sorts.now) (ty kind.now) }
-    ensures { OnOk result (rtys (type_list args.new) ≡ join_types (rtys (type_list args.old)) (raw_arguments_of sorts.now (ty kind.now))) }
+    ensures { OnOk result (rtys args.new ≡ join_types (rtys args.old) (raw_arguments_of sorts.now (ty kind.now))) }
 {
     if let SimpleType::Arrow(domain, rest) = kind {
         args.push(raw_type(alloc, sorts, domain)?)?;

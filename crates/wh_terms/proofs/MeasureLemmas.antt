@@ -2,9 +2,8 @@
 use Rattle.std.proofs.Common.{◌≡◌, ℕ, zero, suc, ◌+◌, ◌<◌, ◌≤◌, max, List, [], ◌∷◌, length, take, get_or, refl, ap, ◌∙◌, arith}
 use Rattle.wh_terms.specs.Tree.{Tm, bound, free, fun, meta, lam, app, Tms, none, more}
 use Rattle.wh_terms.specs.Measures.{size, sizes, height, heights, risen, nesting, nestings}
-use Rattle.wh_terms.specs.Erase.{tm, tms, terms, list}
+use Rattle.wh_terms.specs.Erase.{tm, tms}
 use Rattle.wh_terms.specs.declared.term.Term.{Term}
-use Rattle.wh_terms.specs.declared.term.Terms.{Terms}
 use Rattle.wh_terms.proofs.TermLemmas.{join, tms_take_next}
 
 -- no tree is higher than it is nested
@@ -71,12 +70,12 @@ height-of_count : (z : ℕ) (xs : List Term) → 0 < length xs → height (meta 
 height-of_count z [] some = absurd (omega arith)
 height-of_count z (x ∷ xs) some = refl
 
-pub height_of_some : (t : Term) (z : ℕ) (ts : Terms) → tm t ≡ meta z (terms ts) → 0 < length (list ts) → height (tm t) ≡ 1 + heights (terms ts)
-height_of_some t z ts e some = ap height e ∙ height-of_count z (list ts) some
+pub height_of_some : (t : Term) (z : ℕ) (ts : List Term) → tm t ≡ meta z (tms ts) → 0 < length ts → height (tm t) ≡ 1 + heights (tms ts)
+height_of_some t z ts e some = ap height e ∙ height-of_count z ts some
 
 height-of_no : (z : ℕ) (xs : List Term) → length xs ≡ 0 → height (meta z (tms xs)) ≡ 0
 height-of_no z [] no_item = refl
 height-of_no z (x ∷ xs) no_item = absurd (omega arith)
 
-pub height_of_none : (t : Term) (z : ℕ) (ts : Terms) → tm t ≡ meta z (terms ts) → length (list ts) ≡ 0 → height (tm t) ≡ 0
-height_of_none t z ts e no_item = ap height e ∙ height-of_no z (list ts) no_item
+pub height_of_none : (t : Term) (z : ℕ) (ts : List Term) → tm t ≡ meta z (tms ts) → length ts ≡ 0 → height (tm t) ≡ 0
+height_of_none t z ts e no_item = ap height e ∙ height-of_no z ts no_item

@@ -8,7 +8,6 @@ use Rattle.wh_types.specs.Ty.{Ty}
 use Rattle.wh_terms.specs.Tree.{Tm, bound, free, fun, meta, lam, app}
 use Rattle.wh_terms.specs.declared.term.Term.{Term, Meta}
 use Rattle.wh_terms.specs.declared.term.Term.TheVariants.{Bound, Free, Fun}
-use Rattle.wh_terms.specs.declared.term.Terms.{Terms}
 use Rattle.wh_terms.specs.Erase.{tm}
 use Rattle.wh_terms.proofs.TermLemmas.{tm_of_meta}
 use Rattle.wh_terms.specs.Places.{opened_part_at}
@@ -142,7 +141,7 @@ IsLeaf (fun f) = Unit {0}
 IsLeaf (meta z ts) = Unit {0}
 IsLeaf _ = ⊥
 
-pub childless : (t : Term) → ((i : ℕ) × (t ≡ Bound i)) ⊎ (((x : ℕ) × (a : SimpleType) × (t ≡ Free x a)) ⊎ (((f : ℕ) × (t ≡ Fun f)) ⊎ ((z : ℕ) × (ts : Terms) × (t ≡ Meta z ts))))
+pub childless : (t : Term) → ((i : ℕ) × (t ≡ Bound i)) ⊎ (((x : ℕ) × (a : SimpleType) × (t ≡ Free x a)) ⊎ (((f : ℕ) × (t ≡ Fun f)) ⊎ ((z : ℕ) × (ts : List Term) × (t ≡ Meta z ts))))
     → IsLeaf (tm t)
 childless t (inl (i, is)) = subst (λ s. IsLeaf (tm s)) (sym is) tt
 childless t (inr (inl (x, a, is))) = subst (λ s. IsLeaf (tm s)) (sym is) tt

@@ -3,7 +3,7 @@ use Rattle.std.proofs.Common.{◌≡◌, ◌≢◌, ℕ, zero, suc, ◌+◌, ◌
 use Rattle.std.proofs.lemmas.List.{take_all}
 use Rattle.wh_types.specs.Ty.{Ty}
 use Rattle.wh_terms.specs.Tree.{Tm, bound, free, fun, meta, lam, app, Tms, none, more, count}
-use Rattle.wh_terms.specs.Erase.{tm, tms, list, terms}
+use Rattle.wh_terms.specs.Erase.{tm, tms}
 use Rattle.wh_terms.specs.Pattern.{AllBoundBelow, Misses, Distinct}
 use Rattle.wh_terms.specs.Substitution.{up_renaming, rename, renames, up, act, cons}
 use Rattle.wh_terms.specs.Value.{parameters}
@@ -13,7 +13,6 @@ use Rattle.wh_terms.specs.declared.term.Term.{Term, Meta}
 use Rattle.wh_terms.specs.declared.term.Term.TheVariants.{Bound, Free, Fun, Meta', Lam', App'}
 use Rattle.wh_terms.proofs.ActLaws.{act_same, rename-is-act}
 use Rattle.wh_terms.proofs.UnderLemmas.{raised_bound, ups_high}
-use Rattle.wh_terms.specs.declared.term.Terms.{Terms}
 use Rattle.wh_terms.proofs.TermLemmas.{join, tms_append, tms_take_next, tm_of_meta}
 use Rattle.wh_terms.proofs.BodyLemmas.{count-tms, parameter_here, parameters-near, parameters-far}
 
@@ -297,7 +296,7 @@ placed_next args k d xs ys i x y so_far within long ex ey e =
     ap (all_placed args k d) (tms_take_next xs i x within ex) ∙ all_placed-join args k d (tms (take i xs)) (more (tm x) none)
     ∙ ap₂ (λ ts t. join ts (more t none)) so_far e ∙ sym (tms_take_next ys i y (omega arith) ey)
 
-pub placed_meta : (args : Tms) (k d : ℕ) (b : Term) (z : ℕ) (ts : Terms) → b ≡ Meta z ts → placed args k d (tm b) ≡ meta z (all_placed args k d (terms ts))
+pub placed_meta : (args : Tms) (k d : ℕ) (b : Term) (z : ℕ) (ts : List Term) → b ≡ Meta z ts → placed args k d (tm b) ≡ meta z (all_placed args k d (tms ts))
 placed_meta args k d b z ts is = ap (placed args k d) (tm_of_meta b z ts is)
 
 pub bound_of : (t : Term) (n : ℕ) → tm t ≡ bound n → t ≡ Bound n
@@ -392,10 +391,10 @@ pub no_argument : (k d : ℕ) (ts : Tms) (t u : Tm) → AllBoundBelow k ts → (
 no_argument k d ts t u all none_here b e =
     let (s, v, is, left, right) = from-app (up_by d (seat k ts)) b t u (sym (placed-rename k d ts b all) ∙ e) in none_here v (placed-rename k d ts v all ∙ right)
 
-pub no_meta : (k d : ℕ) (args : Tms) (t : Term) (z : ℕ) (ts : Terms) → AllBoundBelow k args → t ≡ Meta z ts → ((bs : Tms) → all_placed args k d bs ≢ terms ts)
+pub no_meta : (k d : ℕ) (args : Tms) (t : Term) (z : ℕ) (ts : List Term) → AllBoundBelow k args → t ≡ Meta z ts → ((bs : Tms) → all_placed args k d bs ≢ tms ts)
     → (b : Tm) → placed args k d b ≢ tm t
 no_meta k d args t z ts all at none_here b e =
-    let (us, is, to) = from-meta (up_by d (seat k args)) b z (terms ts) (sym (placed-rename k d args b all) ∙ e ∙ tm_of_meta t z ts at) in
+    let (us, is, to) = from-meta (up_by d (seat k args)) b z (tms ts) (sym (placed-rename k d args b all) ∙ e ∙ tm_of_meta t z ts at) in
     none_here us (all_placed-renames k d args us all ∙ to)
 
 no_item_at : (k d : ℕ) (args : Tms) (xs : List Term) (i : ℕ) (t : Term) → i < length xs → t ≡ get_or xs i t → ((b : Tm) → placed args k d b ≢ tm t)
@@ -407,8 +406,8 @@ no_item_at k d args (x ∷ xs) zero t within is none_here (more b bs) e =
 no_item_at k d args (x ∷ xs) (suc i) t within is none_here (more b bs) e =
     let rest : all_placed args k d bs ≡ tms xs = cc in no_item_at k d args xs i t (omega arith) is none_here bs rest
 
-pub no_item : (k d : ℕ) (args : Tms) (ts : Terms) (xs : List Term) (i : ℕ) (t : Term) → xs ≡ list ts → i < length xs → t ≡ get_or xs i t
-    → ((b : Tm) → placed args k d b ≢ tm t) → (bs : Tms) → all_placed args k d bs ≢ terms ts
+pub no_item : (k d : ℕ) (args : Tms) (ts : List Term) (xs : List Term) (i : ℕ) (t : Term) → xs ≡ ts → i < length xs → t ≡ get_or xs i t
+    → ((b : Tm) → placed args k d b ≢ tm t) → (bs : Tms) → all_placed args k d bs ≢ tms ts
 no_item k d args ts xs i t from within is none_here bs e = no_item_at k d args xs i t within is none_here bs (e ∙ ap tms (sym from))
 
 pub bodies_push : (args : Tms) (k d : ℕ) (xs ys : List Term) (i : ℕ) (out : List Term) (r t : Term) → all_placed args k d (tms out) ≡ tms (take i xs)

@@ -4,10 +4,9 @@ use Rattle.std.proofs.Common.{◌≡◌, ℕ, zero, suc, ◌+◌, ◌<◌, ◌�
 use Rattle.std.proofs.Math.Seq.{take-suc, take-length}
 use Rattle.wh_terms.specs.Tree.{Tm, meta, lam, app, Tms, none, more}
 use Rattle.wh_terms.specs.Measures.{nesting, nestings, BoundNumbersBelow, AllBoundNumbersBelow}
-use Rattle.wh_terms.specs.Erase.{tm, row, tms, list, terms}
+use Rattle.wh_terms.specs.Erase.{tm, row, tms}
 use Rattle.wh_terms.specs.declared.term.Term.{Term, Meta, Row_of-Term, end_of-Term, more_of-Term, items-the_row-Term, items_hidden-the_row-Term-0}
 use Rattle.wh_terms.specs.declared.term.Term.TheVariants.{Meta'}
-use Rattle.wh_terms.specs.declared.term.Terms.{Terms}
 
 -- the arguments of a meta-variable, as trees
 
@@ -19,10 +18,10 @@ abbrev row_of : Term → (n : Count) × Row_of-Term n
 row_of (Meta' z _ r) = (_, r)
 row_of _ = (_, end_of-Term)
 
-pub tm_meta : (z : ℕ) (ts : Terms) → tm (Meta z ts) ≡ meta z (terms ts)
-tm_meta z ts = ap (λ us. meta z us) (row-items _ (row_of (Meta z ts)).1 ∙ ap tms (items_hidden-the_row-Term-0 ts.items))
+pub tm_meta : (z : ℕ) (ts : List Term) → tm (Meta z ts) ≡ meta z (tms ts)
+tm_meta z ts = ap (λ us. meta z us) (row-items _ (row_of (Meta z ts)).1 ∙ ap tms (items_hidden-the_row-Term-0 ts))
 
-pub tm_of_meta : (t : Term) (z : ℕ) (ts : Terms) → t ≡ Meta z ts → tm t ≡ meta z (terms ts)
+pub tm_of_meta : (t : Term) (z : ℕ) (ts : List Term) → t ≡ Meta z ts → tm t ≡ meta z (tms ts)
 tm_of_meta t z ts e = ap tm e ∙ tm_meta z ts
 
 -- lists of trees
@@ -65,7 +64,7 @@ abbrev mutual
   weights none = 0
   weights (more t ts) = 1 + (weight t + weights ts)
 
-pub weight_in_meta : (t : Term) (z : ℕ) (ts : Terms) → t ≡ Meta z ts → weights (terms ts) < weight (tm t)
+pub weight_in_meta : (t : Term) (z : ℕ) (ts : List Term) → t ≡ Meta z ts → weights (tms ts) < weight (tm t)
 weight_in_meta t z ts e = omega (arith, ap weight (tm_of_meta t z ts e))
 
 weight-get : (xs : List Term) (i : ℕ) (t : Term) → i < length xs → t ≡ get_or xs i t → weight (tm t) < weights (tms xs)
@@ -73,13 +72,13 @@ weight-get [] i t within e = absurd (omega arith)
 weight-get (x ∷ xs) zero t within e = omega (arith, ap (λ u. weight (tm u)) e)
 weight-get (x ∷ xs) (suc i) t within e = omega (arith, weight-get xs i t (omega arith) e)
 
-pub weight_in_item : (ts : Terms) (xs : List Term) (i : ℕ) (t : Term) → xs ≡ list ts → i < length xs → t ≡ get_or xs i t
-    → weight (tm t) < weights (terms ts)
+pub weight_in_item : (ts : List Term) (xs : List Term) (i : ℕ) (t : Term) → xs ≡ ts → i < length xs → t ≡ get_or xs i t
+    → weight (tm t) < weights (tms ts)
 weight_in_item ts xs i t from within e = omega (arith, weight-get xs i t within e, ap (λ us. weights (tms us)) from)
 
 -- an argument of a meta-variable is nested less deep, and its bound variables are among those of the whole
 
-pub nesting_of_meta : (t : Term) (z : ℕ) (ts : Terms) → t ≡ Meta z ts → nestings (terms ts) < nesting (tm t)
+pub nesting_of_meta : (t : Term) (z : ℕ) (ts : List Term) → t ≡ Meta z ts → nestings (tms ts) < nesting (tm t)
 nesting_of_meta t z ts e = omega (arith, ap nesting (tm_of_meta t z ts e))
 
 nesting-get : (xs : List Term) (i : ℕ) (t : Term) → i < length xs → t ≡ get_or xs i t → nesting (tm t) ≤ nestings (tms xs)
@@ -87,11 +86,11 @@ nesting-get [] i t within e = absurd (omega arith)
 nesting-get (x ∷ xs) zero t within e = omega (arith, ap (λ u. nesting (tm u)) e)
 nesting-get (x ∷ xs) (suc i) t within e = omega (arith, nesting-get xs i t (omega arith) e)
 
-pub nesting_of_item : (ts : Terms) (xs : List Term) (i : ℕ) (t : Term) → xs ≡ list ts → i < length xs → t ≡ get_or xs i t
-    → nesting (tm t) ≤ nestings (terms ts)
+pub nesting_of_item : (ts : List Term) (xs : List Term) (i : ℕ) (t : Term) → xs ≡ ts → i < length xs → t ≡ get_or xs i t
+    → nesting (tm t) ≤ nestings (tms ts)
 nesting_of_item ts xs i t from within e = omega (arith, nesting-get xs i t within e, ap (λ us. nestings (tms us)) from)
 
-pub numbers_of_meta : (n : ℕ) (t : Term) (z : ℕ) (ts : Terms) → t ≡ Meta z ts → BoundNumbersBelow n (tm t) → AllBoundNumbersBelow n (terms ts)
+pub numbers_of_meta : (n : ℕ) (t : Term) (z : ℕ) (ts : List Term) → t ≡ Meta z ts → BoundNumbersBelow n (tm t) → AllBoundNumbersBelow n (tms ts)
 numbers_of_meta n t z ts e below = subst (BoundNumbersBelow n) (tm_of_meta t z ts e) below
 
 numbers-get : (n : ℕ) (xs : List Term) (i : ℕ) (t : Term) → i < length xs → t ≡ get_or xs i t → AllBoundNumbersBelow n (tms xs) → BoundNumbersBelow n (tm t)
@@ -99,6 +98,6 @@ numbers-get n [] i t within e below = absurd (omega arith)
 numbers-get n (x ∷ xs) zero t within e below = subst (λ u. BoundNumbersBelow n (tm u)) (sym e) below.0
 numbers-get n (x ∷ xs) (suc i) t within e below = numbers-get n xs i t (omega arith) e below.1
 
-pub numbers_of_item : (n : ℕ) (ts : Terms) (xs : List Term) (i : ℕ) (t : Term) → xs ≡ list ts → i < length xs → t ≡ get_or xs i t
-    → AllBoundNumbersBelow n (terms ts) → BoundNumbersBelow n (tm t)
+pub numbers_of_item : (n : ℕ) (ts : List Term) (xs : List Term) (i : ℕ) (t : Term) → xs ≡ ts → i < length xs → t ≡ get_or xs i t
+    → AllBoundNumbersBelow n (tms ts) → BoundNumbersBelow n (tm t)
 numbers_of_item n ts xs i t from within e below = numbers-get n xs i t within e (subst (λ us. AllBoundNumbersBelow n (tms us)) (sym from) below)

@@ -4,12 +4,11 @@ use Rattle.std.proofs.Math.Path.{fun_ext}
 use Rattle.wh_terms.specs.Tree.{Tm, bound, free, fun, meta, lam, app, Tms, none, more, count}
 use Rattle.wh_terms.specs.Substitution.{up_renaming, rename, act, cons}
 use Rattle.wh_terms.specs.Entries.{bodies, Lists, Covers, CoversAll}
-use Rattle.wh_terms.specs.Erase.{tm, tms, list, terms}
+use Rattle.wh_terms.specs.Erase.{tm, tms}
 use Rattle.wh_terms.specs.Under.{moved}
 use Rattle.wh_terms.specs.Value.{Body, parameters, Value}
 use Rattle.wh_terms.specs.Valued.{valued, all_valued, HasArities, AllHaveArities}
 use Rattle.wh_terms.specs.declared.term.Term.{Term, Meta}
-use Rattle.wh_terms.specs.declared.term.Terms.{Terms}
 use Rattle.wh_terms.specs.declared.subst.MetaBody.{MetaBody}
 use Rattle.wh_terms.proofs.TermLemmas.{join, tm_of_meta, tms_append, tms_take_next}
 use Rattle.wh_terms.proofs.ActLaws.{act_same, act-rename}
@@ -137,20 +136,20 @@ covers-get bs [] i t within e covers = absurd (omega arith)
 covers-get bs (x ∷ xs) zero t within e covers = subst (λ u. Covers bs (tm u)) (sym e) covers.0
 covers-get bs (x ∷ xs) (suc i) t within e covers = covers-get bs xs i t (omega arith) e covers.1
 
-pub covers_item : (bs : List MetaBody) (ts : Terms) (xs : List Term) (i : ℕ) (t : Term) → xs ≡ list ts → i < length xs → t ≡ get_or xs i t
-    → CoversAll bs (terms ts) → Covers bs (tm t)
+pub covers_item : (bs : List MetaBody) (ts : List Term) (xs : List Term) (i : ℕ) (t : Term) → xs ≡ ts → i < length xs → t ≡ get_or xs i t
+    → CoversAll bs (tms ts) → Covers bs (tm t)
 covers_item bs ts xs i t from within e covers = covers-get bs xs i t within e (subst (λ us. CoversAll bs (tms us)) (sym from) covers)
 
 -- what a value takes from the body and the values of the arguments
-pub valued_meta : (k : ℕ) (bs : List MetaBody) (t : Term) (z : ℕ) (ts : Terms) (vs : Tms) (b : MetaBody) → t ≡ Meta z ts
-    → vs ≡ all_valued k (bodies bs) (terms ts) → bodies bs z ≡ record { arity = b.arity; tree = tm b.body }
+pub valued_meta : (k : ℕ) (bs : List MetaBody) (t : Term) (z : ℕ) (ts : List Term) (vs : Tms) (b : MetaBody) → t ≡ Meta z ts
+    → vs ≡ all_valued k (bodies bs) (tms ts) → bodies bs z ≡ record { arity = b.arity; tree = tm b.body }
     → act (parameters vs (moved k)) free (tm b.body) ≡ valued k (bodies bs) (tm t)
 valued_meta k bs t z ts vs b is values body =
     ap₂ (λ us u. act (parameters us (moved k)) free u) values (ap (λ c. c.tree) (sym body))
     ∙ sym (ap (valued k (bodies bs)) (tm_of_meta t z ts is))
 
-pub covers_meta : (bs : List MetaBody) (t : Term) (z : ℕ) (ts : Terms) → t ≡ Meta z ts → Covers bs (tm t) → CoversAll bs (terms ts)
+pub covers_meta : (bs : List MetaBody) (t : Term) (z : ℕ) (ts : List Term) → t ≡ Meta z ts → Covers bs (tm t) → CoversAll bs (tms ts)
 covers_meta bs t z ts is covers = (subst (Covers bs) (tm_of_meta t z ts is) covers).2
 
-pub lists_meta : (bs : List MetaBody) (t : Term) (z : ℕ) (ts : Terms) → t ≡ Meta z ts → Covers bs (tm t) → Lists bs z
+pub lists_meta : (bs : List MetaBody) (t : Term) (z : ℕ) (ts : List Term) → t ≡ Meta z ts → Covers bs (tm t) → Lists bs z
 lists_meta bs t z ts is covers = (subst (Covers bs) (tm_of_meta t z ts is) covers).0

@@ -2,11 +2,10 @@
 use Rattle.std.proofs.Common.{◌≡◌, ℕ, ◌+◌, ◌<◌, List, [], ◌∷◌, ◌++◌, length, take, get_or, refl, ap, sym, ◌∙◌, add-one}
 use Rattle.wh_types.specs.Ty.{Ty}
 use Rattle.wh_terms.specs.Tree.{Tm, bound, free, fun, meta, lam, app, Tms, none, more}
-use Rattle.wh_terms.specs.Erase.{tm, tms, terms}
+use Rattle.wh_terms.specs.Erase.{tm, tms}
 use Rattle.wh_terms.specs.Substitution.{act, acts}
 use Rattle.wh_terms.specs.Under.{ups, ups_free}
 use Rattle.wh_terms.specs.declared.term.Term.{Term, Meta}
-use Rattle.wh_terms.specs.declared.term.Terms.{Terms}
 use Rattle.wh_terms.proofs.TermLemmas.{join, tms_append, tms_take_next, tm_of_meta}
 
 pub act_at_bound : (σ : ℕ → Tm) (φ : ℕ → Ty → Tm) (i : ℕ) → act σ φ (bound i) ≡ σ i
@@ -25,8 +24,8 @@ pub act_at_app : (σ : ℕ → Tm) (φ : ℕ → Ty → Tm) (t u : Tm) → act �
 unfolding act
 act_at_app σ φ t u = refl
 
-pub act_at_meta : (σ : ℕ → Tm) (φ : ℕ → Ty → Tm) (t : Term) (z : ℕ) (ts : Terms) → t ≡ Meta z ts
-    → act σ φ (tm t) ≡ meta z (acts σ φ (terms ts))
+pub act_at_meta : (σ : ℕ → Tm) (φ : ℕ → Ty → Tm) (t : Term) (z : ℕ) (ts : List Term) → t ≡ Meta z ts
+    → act σ φ (tm t) ≡ meta z (acts σ φ (tms ts))
 unfolding act acts
 act_at_meta σ φ t z ts e = ap (act σ φ) (tm_of_meta t z ts e)
 

@@ -6,7 +6,6 @@ use Rattle.wh_terms.specs.Typing.{Symbols, Declared}
 use Rattle.wh_terms.specs.Rules.{RewriteRule}
 use Rattle.wh_terms.specs.declared.term.Term.{Term, Row_of-Term, end_of-Term, more_of-Term}
 use Rattle.wh_terms.specs.declared.term.Term.TheVariants.{Bound, Free, Fun, Meta', Lam', App'}
-use Rattle.wh_terms.specs.declared.term.Terms.{Terms}
 use Rattle.wh_terms.specs.declared.rule.Signature.{Signature}
 use Rattle.wh_terms.specs.declared.rule.MetaDecl.{MetaDecl}
 use Rattle.wh_terms.specs.declared.rule.Rule.{Rule}
@@ -29,14 +28,6 @@ abbrev mutual
 abbrev pub tms : List Term → Tms
 tms [] = none
 tms (t ∷ ts) = more (tm t) (tms ts)
-
--- the list that a `Terms` holds
-abbrev pub list : Terms → List Term
-list ts = ts.items.items
-
--- the trees that a `Terms` stands for
-abbrev pub terms : Terms → Tms
-terms ts = tms (list ts)
 
 -- what terms are built over
 abbrev pub symbols : Signature → Symbols

@@ -2,7 +2,7 @@
 
 ghost use Rattle.std.specs.Prelude.{◌≡◌, IfOk, All};
 ghost use Rattle.wh_types.specs.Erase.{ty};
-ghost use Rattle.wh_terms.specs.Erase.{tm, terms};
+ghost use Rattle.wh_terms.specs.Erase.{tm, tms};
 ghost use Rattle.wh_terms.specs.Entries.{bodies, Covers, CoversAll};
 ghost use Rattle.wh_terms.specs.Measures.{Manageable};
 ghost use Rattle.wh_terms.specs.Value.{Value};
@@ -66,8 +66,8 @@ fn values_under(
     items: &Terms,
     depth: u32,
 ) -> Result<Terms, AllocError>
-    requires { CoversAll by.now (terms items.now) }
-    ensures { IfOk result (λ r. terms r ≡ all_valued depth (bodies by.now) (terms items.now)) }
+    requires { CoversAll by.now (tms items.now) }
+    ensures { IfOk result (λ r. tms r ≡ all_valued depth (bodies by.now) (tms items.now)) }
 {
     let mut values = Terms::new(alloc)?;
     for item in items.as_slice() {

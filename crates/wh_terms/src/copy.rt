@@ -1,7 +1,7 @@
 //! Copies of terms.
 
 ghost use Rattle.std.specs.Prelude.{◌≡◌, IfOk};
-ghost use Rattle.wh_terms.specs.Erase.{tm, terms};
+ghost use Rattle.wh_terms.specs.Erase.{tm, tms};
 
 use crate::term::{Term, Terms};
 use std::alloc::{AllocError, Global};
@@ -31,7 +31,7 @@ pub fn copy_term(alloc: Global, t: &Term) -> Result<Term, AllocError>
 #[cycle(copy)]
 #[tactic(auto, using(crate::proofs::TermLemmas::tms_push))]
 fn copy_terms(alloc: Global, items: &Terms) -> Result<Terms, AllocError>
-    ensures { IfOk result (λ r. terms r ≡ terms items.now) }
+    ensures { IfOk result (λ r. tms r ≡ tms items.now) }
 {
     let mut copies = Terms::new(alloc)?;
     for item in items.as_slice() {

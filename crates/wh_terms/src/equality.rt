@@ -1,7 +1,7 @@
 //! Equality of terms, as trees.
 
 ghost use Rattle.std.specs.Prelude.{◌≡◌, ◌↔◌, IsTrue};
-ghost use Rattle.wh_terms.specs.Erase.{tm, terms};
+ghost use Rattle.wh_terms.specs.Erase.{tm, tms};
 
 use crate::term::{Term, Terms};
 use wh_types::same_type;
@@ -27,7 +27,7 @@ pub fn same(a: &Term, b: &Term) -> bool
 // Whether two lists of terms are equal, term by term.
 #[cycle(same)]
 fn same_terms(a: &Terms, b: &Terms) -> bool
-    ensures { IsTrue result ↔ (terms a.now ≡ terms b.now) }
+    ensures { IsTrue result ↔ (tms a.now ≡ tms b.now) }
 {
     let (items, others) = (a.as_slice(), b.as_slice());
     if items.len() != others.len() {

@@ -5,7 +5,7 @@
 
 ghost use Rattle.std.specs.Prelude.{◌≡◌, ◌↔◌, IsTrue};
 ghost use Rattle.wh_terms.specs.Budget.{AllKeep, Keeps, KeepsAsFront, Left};
-ghost use Rattle.wh_terms.specs.Erase.{tm, terms};
+ghost use Rattle.wh_terms.specs.Erase.{tm, tms};
 ghost use Rattle.wh_terms.specs.Measures.{Fits, size, sizes};
 
 use crate::term::{Term, Terms};
@@ -64,7 +64,7 @@ fn spend_front(t: &Term, low: u32, more_arguments: u32, room: u32) -> Option<u32
 // The same of the arguments of a meta-variable: each is less than `low` high.
 #[cycle(limits)]
 fn spend_all(items: &Terms, low: u32, room: u32) -> Option<u32>
-    ensures { Left room (sizes (terms items.now)) (AllKeep low room (terms items.now)) result }
+    ensures { Left room (sizes (tms items.now)) (AllKeep low room (tms items.now)) result }
 {
     let mut left = room;
     for item in items.as_slice() {

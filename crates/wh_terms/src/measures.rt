@@ -1,7 +1,7 @@
 //! The height and the size of a term.
 
 ghost use Rattle.std.specs.Prelude.{◌≡◌, ◌≤◌, ◌<◌, ◌^◌};
-ghost use Rattle.wh_terms.specs.Erase.{tm, terms};
+ghost use Rattle.wh_terms.specs.Erase.{tm, tms};
 ghost use Rattle.wh_terms.specs.Measures.{size, sizes, height, heights, nesting, nestings, risen};
 
 use crate::term::{Term, Terms};
@@ -34,8 +34,8 @@ pub fn height(t: &Term) -> u32
 // The greatest height of the terms, 0 if there are none.
 #[cycle(height)]
 fn greatest_height(items: &Terms) -> u32
-    requires { nestings (terms items.now) < 2 ^ 30 }
-    ensures { result ≡ heights (terms items.now) }
+    requires { nestings (tms items.now) < 2 ^ 30 }
+    ensures { result ≡ heights (tms items.now) }
 {
     let mut greatest = 0;
     for item in items.as_slice() {
@@ -74,8 +74,8 @@ pub fn size(t: &Term) -> u64
 // The sizes of the terms together.
 #[cycle(size)]
 fn total_size(items: &Terms) -> u64
-    requires { sizes (terms items.now) ≤ 2 ^ 40 }
-    ensures { result ≡ sizes (terms items.now) }
+    requires { sizes (tms items.now) ≤ 2 ^ 40 }
+    ensures { result ≡ sizes (tms items.now) }
 {
     let mut total = 0;
     for item in items.as_slice() {

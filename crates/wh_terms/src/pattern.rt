@@ -2,7 +2,7 @@
 //! bound variable as its head.
 
 ghost use Rattle.std.specs.Prelude.{◌≡◌, ◌↔◌, ◌+◌, ◌<◌, ◌^◌, IsTrue};
-ghost use Rattle.wh_terms.specs.Erase.{tm, tms, terms};
+ghost use Rattle.wh_terms.specs.Erase.{tm, tms};
 ghost use Rattle.wh_terms.specs.Measures.{Manageable, nesting};
 ghost use Rattle.wh_terms.specs.Pattern.{
   AllBoundBelow,

@@ -7,7 +7,7 @@
 ghost use Rattle.std.specs.Prelude.{◌≡◌, ◌≢◌, ◌↔◌, ◌+◌, ◌<◌, ℕ, length, IfOk, IsTrue, MatchOption};
 ghost use Rattle.wh_types.specs.Erase.{ty};
 ghost use Rattle.wh_terms.specs.Tree.{Tm, Tms, bound};
-ghost use Rattle.wh_terms.specs.Erase.{tm, tms, terms};
+ghost use Rattle.wh_terms.specs.Erase.{tm, tms};
 ghost use Rattle.wh_terms.specs.Pattern.{AllBoundBelow};
 ghost use Rattle.wh_terms.specs.Value.{parameters};
 ghost use Rattle.wh_terms.specs.Under.{ups, moved};
@@ -96,7 +96,7 @@ fn are_placed(
     inner: u32,
 ) -> Result<bool, AllocError>
     requires { AllBoundBelow seat.now.depth (tms seat.now.args.now) }
-    ensures { IfOk result (λ same. IsTrue same ↔ (all_placed (tms seat.now.args.now) seat.now.depth inner (terms bodies.now) ≡ terms parts.now)) }
+    ensures { IfOk result (λ same. IsTrue same ↔ (all_placed (tms seat.now.args.now) seat.now.depth inner (tms bodies.now) ≡ tms parts.now)) }
 {
     let (items, others) = (bodies.as_slice(), parts.as_slice());
     if items.len() != others.len() {
@@ -204,8 +204,8 @@ fn bodies_of(
 ) -> Result<Option<Terms>, AllocError>
     requires { AllBoundBelow seat.now.depth (tms seat.now.args.now) }
     ensures { IfOk result (λ found. MatchOption found
-        ((bodies : Tms) → all_placed (tms seat.now.args.now) seat.now.depth inner bodies ≢ terms items.now)
-        (λ bodies. all_placed (tms seat.now.args.now) seat.now.depth inner (terms bodies) ≡ terms items.now)) }
+        ((bodies : Tms) → all_placed (tms seat.now.args.now) seat.now.depth inner bodies ≢ tms items.now)
+        (λ bodies. all_placed (tms seat.now.args.now) seat.now.depth inner (tms bodies) ≡ tms items.now)) }
 {
     let mut bodies = Terms::new(alloc)?;
     for item in items.as_slice() {

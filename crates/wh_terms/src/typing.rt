@@ -11,7 +11,7 @@ ghost use Rattle.std.specs.Prelude.{
   option_map,
   slice_get,
 };
-ghost use Rattle.wh_terms.specs.Erase.{declared_metas, symbols, terms, tm};
+ghost use Rattle.wh_terms.specs.Erase.{declared_metas, symbols, tms, tm};
 ghost use Rattle.wh_terms.specs.Tree.{lam, meta as meta_tree};
 ghost use Rattle.wh_terms.specs.Typing.{AllTyped, Typed};
 ghost use Rattle.wh_terms.specs.Scope.{TellsType, scope};
@@ -84,7 +84,7 @@ fn type_of_meta<'a>(
     meta: u32,
     items: &'a Terms,
 ) -> Result<Option<SimpleType>, AllocError>
-    ensures typed { IfOk result (λ answer. TellsType (symbols signature.now) (declared_metas metas.now) (scope binders.old.items) (meta_tree meta (terms items.now)) answer) }
+    ensures typed { IfOk result (λ answer. TellsType (symbols signature.now) (declared_metas metas.now) (scope binders.old.items) (meta_tree meta (tms items.now)) answer) }
     ensures kept { OnOk result (binders.new.items ≡ binders.old.items) }
 {
     let Some(declared) = metas.as_slice().get(meta as usize) else {
@@ -133,7 +133,7 @@ fn have_types<'a>(
     items: &'a Terms,
     kinds: &[SimpleType],
 ) -> Result<bool, AllocError>
-    ensures typed { IfOk result (λ yes. IsTrue yes ↔ AllTyped (symbols signature.now) (declared_metas metas.now) (scope binders.old.items) (terms items.now) (tys kinds.now)) }
+    ensures typed { IfOk result (λ yes. IsTrue yes ↔ AllTyped (symbols signature.now) (declared_metas metas.now) (scope binders.old.items) (tms items.now) (tys kinds.now)) }
     ensures kept { OnOk result (binders.new.items ≡ binders.old.items) }
 {
     let terms = items.as_slice();

@@ -4,7 +4,7 @@
 //! number of binders that it has passed, and what takes a variable's place is told for that number.
 
 ghost use Rattle.std.specs.Prelude.{◌≡◌, ◌+◌, ℕ, IfOk};
-ghost use Rattle.wh_terms.specs.Erase.{tm, terms};
+ghost use Rattle.wh_terms.specs.Erase.{tm, tms};
 ghost use Rattle.wh_terms.specs.Substitution.{act, acts};
 ghost use Rattle.wh_terms.specs.Under.{ups, ups_free};
 ghost use Rattle.wh_types.specs.Erase.{ty};
@@ -93,7 +93,7 @@ fn act_each<R: Replace>(
     depth: u32,
 ) -> Result<Terms, AllocError>
     requires { R.is_ready by.now }
-    ensures { IfOk result (λ r. terms r ≡ acts (ups depth (R.for_bound by.now)) (ups_free depth (R.for_free by.now)) (terms items.now)) }
+    ensures { IfOk result (λ r. tms r ≡ acts (ups depth (R.for_bound by.now)) (ups_free depth (R.for_free by.now)) (tms items.now)) }
 {
     let mut results = Terms::new(alloc)?;
     for item in items.as_slice() {

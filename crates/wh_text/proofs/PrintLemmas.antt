@@ -7,7 +7,7 @@ use Rattle.std.proofs.lemmas.Fmt.{decimal_digit, decimal_step}
 use Rattle.wh_text.specs.RawTree.{RTy, raw_type, Binder, RTm, meta, lam, spine, RTms, none, more}
 use Rattle.wh_text.specs.Spelling.{put_type, put_part, put_arguments, put_binder, put_term, put_listed, put_parts, put_each, put_bracketed}
 use Rattle.wh_text.specs.Pushes.{Pushes}
-use Rattle.wh_text.specs.Erase.{rty, rtys, type_list, rtm, rtms}
+use Rattle.wh_text.specs.Erase.{rty, rtys, rtm, rtms}
 use Rattle.wh_text.specs.declared.raw.RawType.{RawType, out-RawType}
 use Rattle.wh_text.specs.declared.raw.RawTerm.{RawTerm}
 use Rattle.wh_text.proofs.RawLemmas.{rty_parts}
@@ -54,31 +54,31 @@ pub part_enclosed : (xs : List RawType) (sort : List ℕ) (at : ℕ) → (length
 part_enclosed [] sort at some r = absurd (true≢false some)
 part_enclosed (x ∷ xs) sort at some r = refl
 
-pub type_put : (raw : RawType) (a b c s : List ℕ) → Pushes a b (put_arguments (rtys (type_list (out-RawType raw).args))) → s ≡ (out-RawType raw).sort → c ≡ b ++ s → Pushes a c (put_type (rty raw))
+pub type_put : (raw : RawType) (a b c s : List ℕ) → Pushes a b (put_arguments (rtys (out-RawType raw).args)) → s ≡ (out-RawType raw).sort → c ≡ b ++ s → Pushes a c (put_type (rty raw))
 type_put raw a b c s args sort e =
     let Put : RTy → Type 0 = λ t. Pushes a c (put_type t) in
-    let whole : Put (raw_type (rtys (type_list (out-RawType raw).args)) (out-RawType raw).sort (out-RawType raw).at) = push_then a b c (put_arguments (rtys (type_list (out-RawType raw).args))) (λ r. (out-RawType raw).sort ++ r) args (push_bytes b c (out-RawType raw).sort (e ∙ ap (λ (t : List ℕ). b ++ t) sort)) in
+    let whole : Put (raw_type (rtys (out-RawType raw).args) (out-RawType raw).sort (out-RawType raw).at) = push_then a b c (put_arguments (rtys (out-RawType raw).args)) (λ r. (out-RawType raw).sort ++ r) args (push_bytes b c (out-RawType raw).sort (e ∙ ap (λ (t : List ℕ). b ++ t) sort)) in
     subst Put (sym (rty_parts raw)) whole
 
-pub part_alone_put : (raw : RawType) (a b s : List ℕ) (xs : List RawType) → xs ≡ type_list (out-RawType raw).args → (length xs == 0) ≡ true → s ≡ (out-RawType raw).sort → b ≡ a ++ s → Pushes a b (put_part (rty raw))
+pub part_alone_put : (raw : RawType) (a b s : List ℕ) (xs : List RawType) → xs ≡ (out-RawType raw).args → (length xs == 0) ≡ true → s ≡ (out-RawType raw).sort → b ≡ a ++ s → Pushes a b (put_part (rty raw))
 part_alone_put raw a b s xs args lone sort e =
-    let all : List RawType = type_list (out-RawType raw).args in
+    let all : List RawType = (out-RawType raw).args in
     let sort_put = push_bytes a b (out-RawType raw).sort (e ∙ ap (λ (t : List ℕ). a ++ t) sort) in
     let empty : (length all == 0) ≡ true = subst (λ (ys : List RawType). (length ys == 0) ≡ true) args lone in
     let Put : RTy → Type 0 = λ t. Pushes a b (put_part t) in
-    let whole : Put (raw_type (rtys (type_list (out-RawType raw).args)) (out-RawType raw).sort (out-RawType raw).at) = push_same a b (λ r. (out-RawType raw).sort ++ r) (put_part (raw_type (rtys all) (out-RawType raw).sort (out-RawType raw).at)) (part_alone all (out-RawType raw).sort (out-RawType raw).at empty) sort_put in
+    let whole : Put (raw_type (rtys (out-RawType raw).args) (out-RawType raw).sort (out-RawType raw).at) = push_same a b (λ r. (out-RawType raw).sort ++ r) (put_part (raw_type (rtys all) (out-RawType raw).sort (out-RawType raw).at)) (part_alone all (out-RawType raw).sort (out-RawType raw).at empty) sort_put in
     subst Put (sym (rty_parts raw)) whole
 
-pub part_enclosed_put : (raw : RawType) (a b c d f s : List ℕ) (xs : List RawType) → xs ≡ type_list (out-RawType raw).args → (length xs == 0) ≡ false → b ≡ a ++ 40 ∷ [] → Pushes b c (put_arguments (rtys (type_list (out-RawType raw).args))) → s ≡ (out-RawType raw).sort → d ≡ c ++ s → f ≡ d ++ 41 ∷ [] → Pushes a f (put_part (rty raw))
+pub part_enclosed_put : (raw : RawType) (a b c d f s : List ℕ) (xs : List RawType) → xs ≡ (out-RawType raw).args → (length xs == 0) ≡ false → b ≡ a ++ 40 ∷ [] → Pushes b c (put_arguments (rtys (out-RawType raw).args)) → s ≡ (out-RawType raw).sort → d ≡ c ++ s → f ≡ d ++ 41 ∷ [] → Pushes a f (put_part (rty raw))
 part_enclosed_put raw a b c d f s xs args some opens inner sort e closes =
-    let all : List RawType = type_list (out-RawType raw).args in
+    let all : List RawType = (out-RawType raw).args in
     let sort_put = push_bytes c d (out-RawType raw).sort (e ∙ ap (λ (t : List ℕ). c ++ t) sort) in
     let full : (length all == 0) ≡ false = subst (λ (ys : List RawType). (length ys == 0) ≡ false) args some in
     let ends = push_then c d f (λ r. (out-RawType raw).sort ++ r) (λ r. 41 ∷ r) sort_put (push_byte d f 41 closes) in
     let inside = push_then b c f (put_arguments (rtys all)) (λ r. (out-RawType raw).sort ++ (41 ∷ r)) inner ends in
     let enclosed = push_then a b f (λ r. 40 ∷ r) (λ r. put_arguments (rtys all) ((out-RawType raw).sort ++ (41 ∷ r))) (push_byte a b 40 opens) inside in
     let Put : RTy → Type 0 = λ t. Pushes a f (put_part t) in
-    let whole : Put (raw_type (rtys (type_list (out-RawType raw).args)) (out-RawType raw).sort (out-RawType raw).at) = push_same a f (λ r. 40 ∷ put_arguments (rtys all) ((out-RawType raw).sort ++ (41 ∷ r))) (put_part (raw_type (rtys all) (out-RawType raw).sort (out-RawType raw).at)) (part_enclosed all (out-RawType raw).sort (out-RawType raw).at full) enclosed in
+    let whole : Put (raw_type (rtys (out-RawType raw).args) (out-RawType raw).sort (out-RawType raw).at) = push_same a f (λ r. 40 ∷ put_arguments (rtys all) ((out-RawType raw).sort ++ (41 ∷ r))) (put_part (raw_type (rtys all) (out-RawType raw).sort (out-RawType raw).at)) (part_enclosed all (out-RawType raw).sort (out-RawType raw).at full) enclosed in
     subst Put (sym (rty_parts raw)) whole
 
 pub types_step : (old a b c : List ℕ) (all : List ℕ → List ℕ) (xs : List RawType) (i : ℕ) (x : RawType) → Leaves old a (put_arguments (rtys (drop i xs))) all → i < length xs → x ≡ get_or xs i x → Pushes a b (put_part (rty x)) → c ≡ b ++ 45 ∷ 62 ∷ [] → Leaves old c (put_arguments (rtys (drop (i + 1) xs))) all

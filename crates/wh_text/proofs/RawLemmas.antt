@@ -2,11 +2,9 @@
 use Rattle.std.proofs.Common.{◌≡◌, ℕ, List, refl, sym, ap, ◌∙◌}
 use mathlib.Core.Former.{Count}
 use Rattle.wh_text.specs.RawTree.{raw_type, RTys, more_types, meta, spine, RTms, more}
-use Rattle.wh_text.specs.Erase.{rty, rtys, arguments, type_row, type_list, rtm, rtms, term_row, term_list}
-use Rattle.wh_text.specs.declared.raw.RawType.{RawType, RawType', out-RawType, outs-RawType'}
-use Rattle.wh_text.specs.declared.raw.RawTypes.{RawTypes, RawTypes', RawTypes-F, outs-RawTypes', Row_of-RawType, end_of-RawType, more_of-RawType, items-the_row-RawType, items_shown-the_row-RawType-0}
+use Rattle.wh_text.specs.Erase.{rty, rtys, type_row, rtm, rtms, term_row}
+use Rattle.wh_text.specs.declared.raw.RawType.{RawType, RawType', RawType-F, out-RawType, outs-RawType', Row_of-RawType, end_of-RawType, more_of-RawType, items-the_row-RawType, items_shown-the_row-RawType-0}
 use Rattle.wh_text.specs.declared.raw.RawTerm.{RawTerm, Meta, Meta', Spine, Spine', Row_of-RawTerm, end_of-RawTerm, more_of-RawTerm, items-the_row-RawTerm, items_hidden-the_row-RawTerm-0}
-use Rattle.wh_text.specs.declared.raw.RawTerms.{RawTerms}
 
 term_row-items : (n : _) (r : Row_of-RawTerm n) → term_row r ≡ rtms (items-the_row-RawTerm n r)
 term_row-items n end_of-RawTerm = refl
@@ -17,25 +15,21 @@ term_row_of (Meta' _ _ r _) = (_, r)
 term_row_of (Spine' _ _ _ r _) = (_, r)
 term_row_of _ = (_, end_of-RawTerm)
 
-pub rtm_meta : (z : List ℕ) (ts : RawTerms) (at : ℕ) → rtm (Meta z ts at) ≡ meta z (rtms (term_list ts)) at
+pub rtm_meta : (z : List ℕ) (ts : List RawTerm) (at : ℕ) → rtm (Meta z ts at) ≡ meta z (rtms ts) at
 rtm_meta z ts at =
-    ap (λ (us : RTms). meta z us at) (term_row-items _ (term_row_of (Meta z ts at)).1 ∙ ap rtms (items_hidden-the_row-RawTerm-0 ts.items))
+    ap (λ (us : RTms). meta z us at) (term_row-items _ (term_row_of (Meta z ts at)).1 ∙ ap rtms (items_hidden-the_row-RawTerm-0 ts))
 
-pub rtm_of_meta : (t : RawTerm) (z : List ℕ) (ts : RawTerms) (at : ℕ) → t ≡ Meta z ts at → rtm t ≡ meta z (rtms (term_list ts)) at
+pub rtm_of_meta : (t : RawTerm) (z : List ℕ) (ts : List RawTerm) (at : ℕ) → t ≡ Meta z ts at → rtm t ≡ meta z (rtms ts) at
 rtm_of_meta t z ts at e = ap rtm e ∙ rtm_meta z ts at
 
-pub rtm_of_spine : (t : RawTerm) (h : _) (ts : RawTerms) (at : ℕ) → t ≡ Spine h ts at → rtm t ≡ spine (rtm h.value) (rtms (term_list ts)) at
+pub rtm_of_spine : (t : RawTerm) (h : _) (ts : List RawTerm) (at : ℕ) → t ≡ Spine h ts at → rtm t ≡ spine (rtm h.value) (rtms ts) at
 rtm_of_spine t h ts at e =
-    ap rtm e ∙ ap (λ (us : RTms). spine (rtm h.value) us at) (term_row-items _ (term_row_of (Spine h ts at)).1 ∙ ap rtms (items_hidden-the_row-RawTerm-0 ts.items))
+    ap rtm e ∙ ap (λ (us : RTms). spine (rtm h.value) us at) (term_row-items _ (term_row_of (Spine h ts at)).1 ∙ ap rtms (items_hidden-the_row-RawTerm-0 ts))
 
 type_row-items : (n : _) (r : Row_of-RawType n) → type_row r ≡ rtys (items-the_row-RawType n r)
 type_row-items n end_of-RawType = refl
 type_row-items n (more_of-RawType a rest) = ap (λ (more : RTys). more_types (rty a) more) (type_row-items _ rest)
 
-pub arguments_are : (a : RawTypes) → arguments a ≡ rtys (type_list a)
-arguments_are (RawTypes' shape all) =
-    type_row-items _ all ∙ ap rtys (sym (items_shown-the_row-RawType-0 shape all)) ∙ sym (ap (λ (f : RawTypes-F RawType RawTypes). rtys f.items.items) (outs-RawTypes' shape all))
-
-pub rty_parts : (a : RawType) → rty a ≡ raw_type (rtys (type_list (out-RawType a).args)) (out-RawType a).sort (out-RawType a).at
-rty_parts (RawType' args sort at) =
-    rw (outs-RawType' args sort at) (ap (λ (all : RTys). raw_type all sort at) (arguments_are args))
+pub rty_parts : (a : RawType) → rty a ≡ raw_type (rtys (out-RawType a).args) (out-RawType a).sort (out-RawType a).at
+rty_parts (RawType' shape all sort at) =
+    rw (outs-RawType' shape all sort at) (ap (λ (ts : RTys). raw_type ts sort at) (type_row-items _ all ∙ ap rtys (sym (items_shown-the_row-RawType-0 shape all))))

@@ -7,13 +7,11 @@ use Rattle.wh_text.specs.declared.token.TokenKind.{TokenKind}
 use Rattle.wh_text.specs.declared.token.TokenKind.TheVariants.{Name, Keyword, Dollar, Percent, Sign}
 use Rattle.wh_text.specs.declared.token.TextFault.{TextFault}
 use Rattle.wh_text.specs.declared.token.TextFault.TheVariants.{BadByte, BadNumber, NameTooLong}
-use Rattle.wh_text.specs.declared.raw.RawType.{RawType, RawType'}
-use Rattle.wh_text.specs.declared.raw.RawTypes.{RawTypes, RawTypes', out-RawTypes, Row_of-RawType, end_of-RawType, more_of-RawType}
+use Rattle.wh_text.specs.declared.raw.RawType.{RawType, RawType', Row_of-RawType, end_of-RawType, more_of-RawType}
 use Rattle.wh_text.specs.declared.raw.RawBinder.{RawBinder}
 use Rattle.wh_text.specs.declared.raw.RawBinder.TheVariants as binder
 use Rattle.wh_text.specs.declared.raw.RawTerm.{RawTerm, Row_of-RawTerm, end_of-RawTerm, more_of-RawTerm}
 use Rattle.wh_text.specs.declared.raw.RawTerm.TheVariants.{Named, Numbered, Free, Meta', Lam', Spine'}
-use Rattle.wh_text.specs.declared.raw.RawTerms.{RawTerms}
 
 -- the kind of a token that is cut from these bytes
 abbrev pub kind_of : List ℕ → TokenKind → Kind
@@ -43,10 +41,7 @@ ending (NameTooLong at) = name_too_long at
 -- the tree that a `RawType` stands for, and the trees of its arguments
 abbrev mutual
   pub rty : RawType → RTy
-  rty (RawType' args sort at) = raw_type (arguments args) sort at
-
-  pub arguments : RawTypes → RTys
-  arguments (RawTypes' shape all) = type_row all
+  rty (RawType' shape all sort at) = raw_type (type_row all) sort at
 
   pub type_row : {m : _} → Row_of-RawType m → RTys
   type_row end_of-RawType = no_types
@@ -56,10 +51,6 @@ abbrev mutual
 abbrev pub rtys : List RawType → RTys
 rtys [] = no_types
 rtys (a ∷ rest) = more_types (rty a) (rtys rest)
-
--- the list that a `RawTypes` holds
-abbrev pub type_list : RawTypes → List RawType
-type_list a = (out-RawTypes a).items.items
 
 abbrev pub rbinder : RawBinder → Binder
 rbinder (binder.Named x) = named_binder x
@@ -83,7 +74,3 @@ abbrev mutual
 abbrev pub rtms : List RawTerm → RTms
 rtms [] = none
 rtms (t ∷ ts) = more (rtm t) (rtms ts)
-
--- the list that a `RawTerms` holds
-abbrev pub term_list : RawTerms → List RawTerm
-term_list ts = ts.items.items

@@ -5,7 +5,7 @@ ghost use Rattle.std.specs.Prelude.{◌≡◌, [], ◌∷◌, ◌++◌, IfOk, On
 ghost use Rattle.std.specs.Fmt.{decimal};
 ghost use Rattle.wh_text.specs.Pushes.{Pushes};
 ghost use Rattle.wh_text.specs.Spelling.{put_type, put_part, put_arguments, put_binder, put_term, put_each, put_bracketed, spelled};
-ghost use Rattle.wh_text.specs.Erase.{rty, rtys, rbinder, rtm, rtms, type_list, term_list};
+ghost use Rattle.wh_text.specs.Erase.{rty, rtys, rbinder, rtm, rtms};
 
 use crate::raw::{RawBinder, RawTerm, RawTerms, RawType, RawTypes};
 use std::alloc::{AllocError, Global};
@@ -46,7 +46,7 @@ pub fn print_part(out: &mut Bytes, raw: &RawType) -> Result<(), AllocError>
 /// Appends each type with an arrow behind it.
 #[cycle(print_part)]
 fn print_types(out: &mut Bytes, args: &RawTypes) -> Result<(), AllocError>
-    ensures { OnOk result (Pushes out.old out.new (put_arguments (rtys (type_list args.now)))) }
+    ensures { OnOk result (Pushes out.old out.new (put_arguments (rtys args.now))) }
 {
     for arg in args.as_slice() {
         print_part(out, arg)?;
@@ -110,7 +110,7 @@ pub fn print_term(out: &mut Bytes, term: &RawTerm) -> Result<(), AllocError>
 /// Appends the arguments of a meta-variable in brackets, and nothing where there are none.
 #[cycle(print_term)]
 fn print_bracketed(out: &mut Bytes, args: &RawTerms) -> Result<(), AllocError>
-    ensures { OnOk result (Pushes out.old out.new (put_bracketed (rtms (term_list args.now)))) }
+    ensures { OnOk result (Pushes out.old out.new (put_bracketed (rtms args.now))) }
 {
     if args.as_slice().is_empty() {
         return Ok(());
@@ -122,7 +122,7 @@ fn print_bracketed(out: &mut Bytes, args: &RawTerms) -> Result<(), AllocError>
 /// Appends each term behind a sign, one for the first term and one for the others.
 #[cycle(print_term)]
 fn print_each(out: &mut Bytes, first: u8, other: u8, terms: &RawTerms) -> Result<(), AllocError>
-    ensures { OnOk result (Pushes out.old out.new (put_each first other (rtms (term_list terms.now)))) }
+    ensures { OnOk result (Pushes out.old out.new (put_each first other (rtms terms.now))) }
 {
     let mut sign = first;
     for term in terms.as_slice() {

@@ -1,5 +1,5 @@
 use Rattle.std.proofs.Common.{sym, ◌∙◌}
-use Rattle.wh_text.specs.Erase.{rtm, rtms, term_list}
+use Rattle.wh_text.specs.Erase.{rtm, rtms}
 use Rattle.wh_cert.specs.TermViews.{term_stack}
 use Rattle.wh_cert.proofs.RawLaws.{rtms_grow}
 use Rattle.wh_cert.proofs.TermCode.{argument_joins}

@@ -1,4 +1,4 @@
-use Rattle.wh_terms.specs.Erase.{terms as trees}
+use Rattle.wh_terms.specs.Erase.{tms as trees}
 use Rattle.wh_guesses.specs.Conditions.{SomeHasSymbol}
 use Rattle.wh_guesses.proofs.ListedLemmas.{listed, listed_mark}
 use Rattle.wh_guesses.proofs.readings.read_in_terms.Goals as goal

@@ -1,4 +1,4 @@
-use Rattle.wh_terms.specs.Erase.{list, terms as trees}
+use Rattle.wh_terms.specs.Erase.{tms as trees}
 use Rattle.wh_system.specs.PairData.{pair_data}
 use Rattle.wh_pairs.proofs.AlikeLemmas.{tms_of_map}
 use Rattle.wh_guesses.proofs.ReadingLemmas.{pair_reads}
@@ -8,4 +8,4 @@ pub returns : goal.returns
 returns c =
     let p = c.args.pair.now in
     pair_reads c.args.first c.args.marked.now (pair_data p) (record { left = c.in_ok-left.left; right = c.in_ok-right.right }) (trees p.left) (trees p.right) c.place_of-left.result c.place_of-right.result c.requires.increasing
-    (tms_of_map (list p.left)) (tms_of_map (list p.right)) c.in_ok-left.ensures c.in_ok-right.ensures c.place_of-left.ensures c.place_of-right.ensures
+    (tms_of_map p.left) (tms_of_map p.right) c.in_ok-left.ensures c.in_ok-right.ensures c.place_of-left.ensures c.place_of-right.ensures

@@ -1,6 +1,6 @@
 -- The head applied to the arguments so far goes on with the rest.
 use Rattle.std.proofs.Common.{◌≡◌, drop}
-use Rattle.wh_terms.specs.Erase.{tm, tms, terms, declared_metas}
+use Rattle.wh_terms.specs.Erase.{tm, tms, declared_metas}
 use Rattle.wh_terms.proofs.TermLemmas.{weight, weights}
 use Rattle.wh_loops.specs.Starts.{freed_spine}
 use Rattle.wh_loops.proofs.start.+freed.Given as goal
@@ -9,7 +9,7 @@ abbrev pub decreases-freed : goal.decreases-freed
 decreases-freed l = weight (tm l.term.now)
 
 abbrev pub decreases-applied : goal.decreases-applied
-decreases-applied l = weights (terms l.items.now)
+decreases-applied l = weights (tms l.items.now)
 
 abbrev pub invariant-applied-loop-item : goal.invariant-applied-loop-item
 invariant-applied-loop-item l =

@@ -1,6 +1,6 @@
 use Rattle.std.proofs.Common.{◌≡◌, ◌++◌, ◌+◌, ◌*◌, take, map}
 use Rattle.wh_terms.specs.Tree.{tms_of}
-use Rattle.wh_terms.specs.Erase.{tm, tms, terms}
+use Rattle.wh_terms.specs.Erase.{tm, tms}
 use Rattle.wh_terms.specs.Scope.{scope}
 use Rattle.wh_terms.proofs.TermLemmas.{weight, weights}
 use Rattle.wh_system.specs.PairData.{within}
@@ -33,4 +33,4 @@ abbrev pub decreases-add_each : goal.decreases-add_each
 decreases-add_each l = 4 * weights (tms_of (trees l.arguments.now)) + 1
 
 abbrev pub decreases-add_within : goal.decreases-add_within
-decreases-add_within l = 4 * weights (terms l.items.now)
+decreases-add_within l = 4 * weights (tms l.items.now)

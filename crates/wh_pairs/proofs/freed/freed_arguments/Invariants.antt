@@ -1,6 +1,6 @@
 use Rattle.std.proofs.Common.{◌≡◌, take, map}
 use Rattle.wh_terms.specs.Tree.{free}
-use Rattle.wh_terms.specs.Erase.{tm, list}
+use Rattle.wh_terms.specs.Erase.{tm}
 use Rattle.wh_terms.specs.Scope.{scope}
 use Rattle.wh_terms.specs.Substitution.{act}
 use Rattle.wh_pairs.specs.Candidates.{freed}
@@ -8,4 +8,4 @@ use Rattle.wh_pairs.proofs.freed.freed_arguments.Given as goal
 
 abbrev pub invariant-loop-argument : goal.invariant-loop-argument
 invariant-loop-argument l =
-    map tm (list l.results) ≡ map (λ t. act (freed l.by.first (scope l.by.binders.now)) free (tm t.now)) (take l.argument-index l.arguments)
+    map tm l.results ≡ map (λ t. act (freed l.by.first (scope l.by.binders.now)) free (tm t.now)) (take l.argument-index l.arguments)

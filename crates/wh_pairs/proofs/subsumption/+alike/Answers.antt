@@ -1,5 +1,5 @@
 use Rattle.std.proofs.Common.{◌≡◌, ℕ, slice_get, inr, subst, sym, rules}
-use Rattle.wh_terms.specs.Erase.{tms, terms, declared_metas}
+use Rattle.wh_terms.specs.Erase.{tms, declared_metas}
 use Rattle.wh_terms.specs.Sight.{Occurs, OccursIn}
 use Rattle.wh_terms.proofs.TermLemmas.{tm_of_meta}
 use Rattle.wh_pairs.proofs.AlikeLemmas.{occurs_in_item, alike_next, both}
@@ -22,6 +22,6 @@ are_declared_alike-returns-then-is_declared_alike t c =
     let is = tm_of_meta c.args.term.now c.in-Meta.meta c.in-Meta.items c.in-Meta.is in
     let P : ℕ → Type 0 = λ z. slice_get (declared_metas c.args.a.now) z ≡ slice_get (declared_metas c.args.b.now) z in
     let here : P c.in-Meta.meta = c.is_declared_alike.ensures.0 (search rules) in (
-      λ yes z o. both P (terms c.in-Meta.items) c.in-Meta.meta here (c.all_declared_alike.ensures.0 yes) z (subst (Occurs z) is o),
+      λ yes z o. both P (tms c.in-Meta.items) c.in-Meta.meta here (c.all_declared_alike.ensures.0 yes) z (subst (Occurs z) is o),
       λ all. c.all_declared_alike.ensures.1 (λ z o. all z (subst (Occurs z) (sym is) (inr o))),
     )

@@ -1,5 +1,4 @@
 use Rattle.std.proofs.Common.{List, map, subst, sym, rules}
-use Rattle.wh_terms.specs.Erase.{list}
 use Rattle.wh_terms.specs.Sight.{OccursIn}
 use Rattle.wh_system.specs.PairData.{within}
 use Rattle.wh_system.specs.declared.pairs.Condition.{Condition}

@@ -7,7 +7,7 @@ use Rattle.wh_types.specs.Erase.{ty}
 use Rattle.wh_types.specs.Ty.{Ty}
 use Rattle.wh_types.specs.Outcome.{IfBecause}
 use Rattle.wh_terms.specs.Tree.{tms_of}
-use Rattle.wh_terms.specs.Erase.{tm, list, declared_metas}
+use Rattle.wh_terms.specs.Erase.{tm, declared_metas}
 use Rattle.wh_system.specs.SystemView.{system_data}
 use Rattle.wh_hopoly.specs.Erase.{poly, expression, interpretation, interpretations}
 use Rattle.wh_hopoly.specs.Evaluation.{Interpretation, evaluate, TypedExpression}
@@ -31,12 +31,12 @@ normal_call-requires-clause-typed c =
     let scope : map ty c.as_slice-2.result.now ≡ types_of_metas M = ap (map ty) c.as_slice-2.ensures.value ∙ c.in_ok-scope.ensures in
     let count : c.in_ok-counted.field-0 ≡ length c.as_slice-2.result.now = search rules in
     let long = scope_counted c.as_slice-2.result.now (types_of_metas M) c.in_ok-counted.field-0 scope count in
-    let whole = call_told M c.in_ok-counted.field-0 (length c.args.symbols.now) (length symbols) (list c.args.terms.now)
+    let whole = call_told M c.in_ok-counted.field-0 (length c.args.symbols.now) (length symbols) c.args.terms.now
     (map expression c.as_slice.result.now) long (ap (map expression) c.as_slice.ensures.value ∙ c.in_ok-args.ensures)
     (sym (length-map c.args.symbols.now interpretation)) in
     subst₂ (TypedExpression (symbols ++ a ∷ [])) (sym scope) (sym whole)
     (alone_typed d.symbols d.rules symbols c.requires.interpreted (marks_of c.args.marks.now) c.args.fun (mark c.mark_of-mark.result.now)
-    c.mark_of-mark.ensures c.requires.marked a is M (tms_of (map tm (list c.args.terms.now))) c.requires.typed c.requires.closed)
+    c.mark_of-mark.ensures c.requires.marked a is M (tms_of (map tm c.args.terms.now)) c.requires.typed c.requires.closed)
 
 pub normal_call-requires-clause-normal : goal.normal_call-requires-clause-normal
 normal_call-requires-clause-normal c =
@@ -54,14 +54,14 @@ returns-clause-ok c =
     let symbols = interpretations c.args.symbols.now in
     let marks = marks_of c.args.marks.now in
     let M = declared_metas c.args.metas.now in
-    let ts = tms_of (map tm (list c.args.terms.now)) in
+    let ts = tms_of (map tm c.args.terms.now) in
     let a : Interpretation = record { kind = ty c.in_ok-kind.kind; polynomial = poly c.mark_of-mark.result.now.poly } in
     let is : a ≡ marked_interpretation d.symbols d.rules (mark c.mark_of-mark.result.now) =
     ap (λ (k : Ty). record { kind = k; polynomial = poly c.mark_of-mark.result.now.poly }) c.in_ok-kind.ensures in
     let scope : map ty c.as_slice-2.result.now ≡ types_of_metas M = ap (map ty) c.as_slice-2.ensures.value ∙ c.in_ok-scope.ensures in
     let count : c.in_ok-counted.field-0 ≡ length c.as_slice-2.result.now = search rules in
     let long = scope_counted c.as_slice-2.result.now (types_of_metas M) c.in_ok-counted.field-0 scope count in
-    let whole = call_told M c.in_ok-counted.field-0 (length c.args.symbols.now) (length symbols) (list c.args.terms.now)
+    let whole = call_told M c.in_ok-counted.field-0 (length c.args.symbols.now) (length symbols) c.args.terms.now
     (map expression c.as_slice.result.now) long (ap (map expression) c.as_slice.ensures.value ∙ c.in_ok-args.ensures)
     (sym (length-map c.args.symbols.now interpretation)) in
     let alike = alone_alike d.symbols d.rules symbols c.requires.interpreted marks c.args.fun (mark c.mark_of-mark.result.now)
@@ -81,14 +81,14 @@ returns-clause-fault c =
     let symbols = interpretations c.args.symbols.now in
     let marks = marks_of c.args.marks.now in
     let M = declared_metas c.args.metas.now in
-    let ts = tms_of (map tm (list c.args.terms.now)) in
+    let ts = tms_of (map tm c.args.terms.now) in
     let a : Interpretation = record { kind = ty c.in_ok-kind.kind; polynomial = poly c.mark_of-mark.result.now.poly } in
     let is : a ≡ marked_interpretation d.symbols d.rules (mark c.mark_of-mark.result.now) =
     ap (λ (k : Ty). record { kind = k; polynomial = poly c.mark_of-mark.result.now.poly }) c.in_ok-kind.ensures in
     let scope : map ty c.as_slice-2.result.now ≡ types_of_metas M = ap (map ty) c.as_slice-2.ensures.value ∙ c.in_ok-scope.ensures in
     let count : c.in_ok-counted.field-0 ≡ length c.as_slice-2.result.now = search rules in
     let long = scope_counted c.as_slice-2.result.now (types_of_metas M) c.in_ok-counted.field-0 scope count in
-    let whole = call_told M c.in_ok-counted.field-0 (length c.args.symbols.now) (length symbols) (list c.args.terms.now)
+    let whole = call_told M c.in_ok-counted.field-0 (length c.args.symbols.now) (length symbols) c.args.terms.now
     (map expression c.as_slice.result.now) long (ap (map expression) c.as_slice.ensures.value ∙ c.in_ok-args.ensures)
     (sym (length-map c.args.symbols.now interpretation)) in
     let alike = alone_alike d.symbols d.rules symbols c.requires.interpreted marks c.args.fun (mark c.mark_of-mark.result.now)

@@ -1,6 +1,6 @@
 use Rattle.std.proofs.Common.{◌≡◌, ◌∙◌, ap, ap₂, sym, arith}
 use Rattle.wh_terms.specs.Tree.{app}
-use Rattle.wh_terms.specs.Erase.{tm, terms, list}
+use Rattle.wh_terms.specs.Erase.{tm, tms}
 use Rattle.wh_terms.proofs.TermLemmas.{tm_of_meta, weight_in_meta, weight_in_item}
 use Rattle.wh_text.proofs.PrintLemmas.{on_ok}
 use Rattle.wh_system.proofs.CanonicalWalk.{named_item, named_meta}
@@ -11,7 +11,7 @@ use Rattle.wh_print.proofs.pair_terms.+print_tree.Goals as goal
 pub print_bracketed-returns : goal.print_bracketed-returns
 print_bracketed-returns t c =
     on_ok c.push.result _ _
-    (bracketed_pushes (pair_names c.args.names.now) c.args.depth (list c.args.items.now) c.as_slice.result.now c.args.out.now c.print_listed.new.out c.push.new.self c.as_slice.ensures
+    (bracketed_pushes (pair_names c.args.names.now) c.args.depth c.args.items.now c.as_slice.result.now c.args.out.now c.print_listed.new.out c.push.new.self c.as_slice.ensures
     (sym c.is_empty.ensures ∙ c.if-is_empty.false) c.in_ok-print_listed.ensures)
     c.push.ensures.ok
 
@@ -40,7 +40,7 @@ print_tree-print_bracketed-requires t c = (
 pub print_tree-returns-in_ok-print_meta-in-Meta : goal.print_tree-returns-in_ok-print_meta-in-Meta
 print_tree-returns-in_ok-print_meta-in-Meta t c =
     on_ok c.print_bracketed.result _ _
-    (meta_pushes (pair_names c.args.names.now) c.args.depth (tm c.args.term.now) c.in-Meta.meta (terms c.in-Meta.items) c.args.out.now c.print_meta.new.out c.print_bracketed.new.out
+    (meta_pushes (pair_names c.args.names.now) c.args.depth (tm c.args.term.now) c.in-Meta.meta (tms c.in-Meta.items) c.args.out.now c.print_meta.new.out c.print_bracketed.new.out
     (tm_of_meta c.args.term.now c.in-Meta.meta c.in-Meta.items c.in-Meta.is) c.in_ok-print_meta-in-Meta.ensures)
     c.print_bracketed.ensures
 

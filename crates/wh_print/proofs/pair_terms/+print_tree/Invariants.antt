@@ -1,5 +1,5 @@
 use Rattle.std.proofs.Common.{◌+◌, ◌*◌, drop}
-use Rattle.wh_terms.specs.Erase.{tm, tms, terms}
+use Rattle.wh_terms.specs.Erase.{tm, tms}
 use Rattle.wh_terms.proofs.TermLemmas.{weight, weights}
 use Rattle.wh_text.specs.Spelling.{put_each}
 use Rattle.wh_text.proofs.PrintLemmas.{Leaves}
@@ -14,10 +14,10 @@ abbrev pub decreases-print_front : goal.decreases-print_front
 decreases-print_front l = 2 * weight (tm l.term.now) + 1
 
 abbrev pub decreases-print_bracketed : goal.decreases-print_bracketed
-decreases-print_bracketed l = 2 * weights (terms l.items.now) + 1
+decreases-print_bracketed l = 2 * weights (tms l.items.now) + 1
 
 abbrev pub decreases-print_listed : goal.decreases-print_listed
-decreases-print_listed l = 2 * weights (terms l.items.now)
+decreases-print_listed l = 2 * weights (tms l.items.now)
 
 -- the terms from here on are left to print, with the sign before the next one
 abbrev pub invariant-print_listed-loop-item : goal.invariant-print_listed-loop-item

@@ -1,6 +1,6 @@
 use Rattle.std.proofs.Common.{option_map, ap, ◌∙◌, arith, [], ◌∷◌, length}
 use Rattle.std.proofs.lemmas.List.{length-append}
-use Rattle.wh_text.specs.Erase.{rtm, rtms, term_list, rty, rbinder}
+use Rattle.wh_text.specs.Erase.{rtm, rtms, rty, rbinder}
 use Rattle.wh_text.specs.RawTree.{lam}
 use Rattle.wh_parts.specs.Erase.{rparts}
 use Rattle.wh_read.specs.Held as held
@@ -39,6 +39,6 @@ returns-in-Some-Bracket t c =
     let w = held.frames_in r.no_frames c.pop.new.self.items in
     let x = c.in-Some-Bracket.name in
     state_at c.argument_ended.result (rparts c.args.parts.now)
-    (λ parts. r.term_ended parts (r.with_frames u w) (r.bracket x.name x.at (rtms (term_list c.in-Some-Bracket.args)) (option_map rtm c.in-Some-Bracket.before) w) (rtm c.args.term) (held.letter c.args.letter)) _
+    (λ parts. r.term_ended parts (r.with_frames u w) (r.bracket x.name x.at (rtms c.in-Some-Bracket.args) (option_map rtm c.in-Some-Bracket.before) w) (rtm c.args.term) (held.letter c.args.letter)) _
     (term_under (rparts c.args.parts.now) u c.args.rule.frames.items c.pop.new.self.items c.in-Some-Bracket.field-0 _ (rtm c.args.term) (held.letter c.args.letter) c.in-Some-Bracket.ensures.items c.in-Some-Bracket.field-0-is)
     c.argument_ended.ensures

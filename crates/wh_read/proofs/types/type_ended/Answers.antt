@@ -1,5 +1,5 @@
 use Rattle.std.proofs.Common.{[], ap, sym, ◌∙◌}
-use Rattle.wh_text.specs.Erase.{rty, rtys, type_list}
+use Rattle.wh_text.specs.Erase.{rty, rtys}
 use Rattle.wh_parts.specs.Erase.{rparts}
 use Rattle.wh_read.specs.Held as held
 use Rattle.wh_read.specs.Reader as r
@@ -12,4 +12,4 @@ returns-in_default-letter c =
     let use_for = held.purpose c.args.purpose in
     let rest = c.pop.new.self.items in
     sym (ap (λ os. r.type_ended parts use_for os (rty c.args.whole) (held.letter c.args.letter)) (outer_push [] rest c.args.outer.items c.in-Some.args c.in-Some.ensures.items)
-    ∙ paren_wanted parts use_for (rtys (type_list c.in-Some.args)) (held.types_in [] rest) (rty c.args.whole) c.args.letter c.in_default-letter.not-CloseParen)
+    ∙ paren_wanted parts use_for (rtys c.in-Some.args) (held.types_in [] rest) (rty c.args.whole) c.args.letter c.in_default-letter.not-CloseParen)

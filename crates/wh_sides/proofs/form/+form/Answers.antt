@@ -9,22 +9,23 @@ use Rattle.wh_parts.specs.RuleTests.{are_distinct, is_pattern_head, pattern_test
 use Rattle.wh_parts.specs.declared.fault.SystemFault.TheVariants.{NotPattern}
 use Rattle.wh_sides.proofs.AnswerLemmas.{Fails, reports_along, reported_fails, matched_err, fails_along, fails_first}
 use Rattle.wh_parts.proofs.FaultLemmas.{fault_after}
-use Rattle.wh_parts.proofs.RawTerms.{raws, of_meta, of_spine, left_next}
+use Rattle.wh_text.proofs.RawLemmas.{rtm_of_meta, rtm_of_spine}
+use Rattle.wh_parts.proofs.RawTerms.{left_next}
 use Rattle.wh_sides.proofs.form.+form.Goals as goal
 
 pub check_form-returns-then-branch-clause-told : goal.check_form-returns-then-branch-clause-told
 check_form-returns-then-branch-clause-told t c =
     let s = in_scope c.args.scope.now in
-    let ts = raws c.in-Meta.items in
-    ap (λ u. first_fault (pattern_tests s (bare c.args.binders.now.items) u)) (of_meta c.args.part.now c.in-Meta.field-0 c.in-Meta.items c.in-Meta.at c.in-Meta.is)
+    let ts = rtms c.in-Meta.items in
+    ap (λ u. first_fault (pattern_tests s (bare c.args.binders.now.items) u)) (rtm_of_meta c.args.part.now c.in-Meta.field-0 c.in-Meta.items c.in-Meta.at c.in-Meta.is)
     ∙ ap (λ bs. first_of (not (are_distinct (bare bs) [] ts)) (NotPattern c.in-Meta.at) None) (sym c.deref.ensures.value)
     ∙ ap (λ b. first_of (not b) (NotPattern c.in-Meta.at) None) (sym c.in_ok-have_distinct-in-Meta.ensures ∙ c.if-branch.true)
 
 pub check_form-returns-else-branch-clause-told : goal.check_form-returns-else-branch-clause-told
 check_form-returns-else-branch-clause-told t c =
     let s = in_scope c.args.scope.now in
-    let ts = raws c.in-Meta.items in
-    ap (λ u. first_fault (pattern_tests s (bare c.args.binders.now.items) u)) (of_meta c.args.part.now c.in-Meta.field-0 c.in-Meta.items c.in-Meta.at c.in-Meta.is)
+    let ts = rtms c.in-Meta.items in
+    ap (λ u. first_fault (pattern_tests s (bare c.args.binders.now.items) u)) (rtm_of_meta c.args.part.now c.in-Meta.field-0 c.in-Meta.items c.in-Meta.at c.in-Meta.is)
     ∙ ap (λ bs. first_of (not (are_distinct (bare bs) [] ts)) (NotPattern c.in-Meta.at) None) (sym c.deref.ensures.value)
     ∙ ap (λ b. first_of (not b) (NotPattern c.in-Meta.at) None) (sym c.in_ok-have_distinct-in-Meta.ensures ∙ c.if-branch.false)
 
@@ -32,12 +33,12 @@ pub check_form-returns-else-not-may_head-clause-told : goal.check_form-returns-e
 check_form-returns-else-not-may_head-clause-told t c =
     let s = in_scope c.args.scope.now in
     let bs = bare c.args.binders.now.items in
-    let ts = raws c.in-Spine.items in
+    let ts = rtms c.in-Spine.items in
     let head : is_pattern_head s bs (rtm c.in-Spine.head.value) ≡ true =
     ap (λ h. is_pattern_head s bs (rtm h)) (sym c.deref-in-Spine-2.ensures)
     ∙ ap (λ ps. is_pattern_head s (bare ps) (rtm c.deref-in-Spine-2.result.now)) (sym c.deref-in-Spine.ensures.value) ∙ sym c.may_head.ensures ∙ c.if-not-may_head.false in
     reports_along c.check_forms.result (patterns_tests s bs ts) (pattern_tests s bs (rtm c.args.part.now))
-    (ap (λ u. first_fault (pattern_tests s bs u)) (of_spine c.args.part.now c.in-Spine.head c.in-Spine.items c.in-Spine.at c.in-Spine.is)
+    (ap (λ u. first_fault (pattern_tests s bs u)) (rtm_of_spine c.args.part.now c.in-Spine.head c.in-Spine.items c.in-Spine.at c.in-Spine.is)
     ∙ ap (λ b. first_of (not b) (NotPattern c.in-Spine.at) (first_fault (patterns_tests s bs ts))) head) c.check_forms.ensures.told
 
 pub check_forms-returns-in_err-check_form-clause-told : goal.check_forms-returns-in_err-check_form-clause-told

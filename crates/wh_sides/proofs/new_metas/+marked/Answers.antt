@@ -9,7 +9,8 @@ use Rattle.wh_sides.specs.Marks.{is_marked, missing_each, missing_tests}
 use Rattle.wh_parts.specs.declared.fault.SystemFault.TheVariants.{NewMeta}
 use Rattle.wh_sides.proofs.AnswerLemmas.{Fails, reports_along, reported_fails, matched_err, fails_along, fails_first}
 use Rattle.wh_parts.proofs.FaultLemmas.{fault_after}
-use Rattle.wh_parts.proofs.RawTerms.{raws, of_meta, of_spine, left_next}
+use Rattle.wh_text.proofs.RawLemmas.{rtm_of_meta, rtm_of_spine}
+use Rattle.wh_parts.proofs.RawTerms.{left_next}
 use Rattle.wh_sides.proofs.new_metas.+marked.Goals as goal
 
 pub check_marked-returns-else-not-is_in-clause-told : goal.check_marked-returns-else-not-is_in-clause-told
@@ -17,9 +18,9 @@ check_marked-returns-else-not-is_in-clause-told t c =
     let s = in_scope c.args.scope.now in
     let known = is_marked s c.args.marks.now in
     let bs = bare c.args.binders.now.items in
-    let ts = raws c.in-Meta.items in
+    let ts = rtms c.in-Meta.items in
     reports_along c.check_each_marked.result (missing_each s known bs ts) (missing_tests s known bs (rtm c.args.term.now))
-    (ap (λ u. first_fault (missing_tests s known bs u)) (of_meta c.args.term.now c.in-Meta.name c.in-Meta.items c.in-Meta.at c.in-Meta.is)
+    (ap (λ u. first_fault (missing_tests s known bs u)) (rtm_of_meta c.args.term.now c.in-Meta.name c.in-Meta.items c.in-Meta.at c.in-Meta.is)
     ∙ ap (λ b. first_of (not b) (NewMeta c.in-Meta.at) (first_fault (missing_each s known bs ts))) (sym c.is_in.ensures ∙ c.if-not-is_in.false)) c.check_each_marked.ensures.told
 
 pub check_marked-returns-in_err-check_marked-in-Spine-clause-told : goal.check_marked-returns-in_err-check_marked-in-Spine-clause-told
@@ -30,12 +31,12 @@ check_marked-returns-in_err-check_marked-in-Spine-clause-told t c =
     let u = rtm c.args.term.now in
     let h = rtm c.deref-in-Spine.result.now in
     let e = c.in_err-check_marked-in-Spine.field-0.0 in
-    let rest = missing_each s known bs (raws c.in-Spine.items) in
+    let rest = missing_each s known bs (rtms c.in-Spine.items) in
     let here = reported_fails (missing_tests s known bs h) e c.in_err-check_marked-in-Spine.ensures.told in
     matched_err (λ _. first_fault (missing_tests s known bs u) ≡ None) (missing_tests s known bs u) c.from_residual-in_err-check_marked-in-Spine.result e
     c.from_residual-in_err-check_marked-in-Spine.ensures.1
     (fails_along e (first_fault (missing_tests s known bs h ++ rest)) (first_fault (missing_tests s known bs u))
-    (ap (λ v. first_fault (missing_tests s known bs v)) (of_spine c.args.term.now c.in-Spine.head c.in-Spine.items c.in-Spine.field-2 c.in-Spine.is)
+    (ap (λ v. first_fault (missing_tests s known bs v)) (rtm_of_spine c.args.term.now c.in-Spine.head c.in-Spine.items c.in-Spine.field-2 c.in-Spine.is)
     ∙ ap (λ v. first_fault (missing_tests s known bs (rtm v) ++ rest)) (sym c.deref-in-Spine.ensures))
     (fails_first e (missing_tests s known bs h) rest here))
 
@@ -45,9 +46,9 @@ check_marked-returns-in_ok-check_marked-in-Spine-clause-told t c =
     let known = is_marked s c.args.marks.now in
     let bs = bare c.args.binders.now.items in
     let h = rtm c.deref-in-Spine.result.now in
-    let ts = raws c.in-Spine.items in
+    let ts = rtms c.in-Spine.items in
     reports_along c.check_each_marked-in-Spine.result (missing_each s known bs ts) (missing_tests s known bs (rtm c.args.term.now))
-    (ap (λ v. first_fault (missing_tests s known bs v)) (of_spine c.args.term.now c.in-Spine.head c.in-Spine.items c.in-Spine.field-2 c.in-Spine.is)
+    (ap (λ v. first_fault (missing_tests s known bs v)) (rtm_of_spine c.args.term.now c.in-Spine.head c.in-Spine.items c.in-Spine.field-2 c.in-Spine.is)
     ∙ ap (λ v. first_fault (missing_tests s known bs (rtm v) ++ missing_each s known bs ts)) (sym c.deref-in-Spine.ensures)
     ∙ fault_after (missing_tests s known bs h) (missing_each s known bs ts) c.in_ok-check_marked-in-Spine.ensures.told)
     (subst (λ (ps : List (Bor RawBinder)). Reports (missing_each s known (bare ps) ts) c.check_each_marked-in-Spine.result) c.in_ok-check_marked-in-Spine.ensures.kept c.check_each_marked-in-Spine.ensures.told)

@@ -6,7 +6,8 @@ use Rattle.wh_text.specs.declared.raw.RawBinder.{RawBinder}
 use Rattle.wh_text.specs.declared.raw.RawTerm.{RawTerm}
 use Rattle.wh_parts.specs.Naming.{is_declared, binder_number}
 use Rattle.wh_parts.specs.RuleTests.{occurs, any_occurs}
-use Rattle.wh_parts.proofs.RawTerms.{raws, of_meta, of_spine, left_next, left_none}
+use Rattle.wh_text.proofs.RawLemmas.{rtm_of_meta, rtm_of_spine}
+use Rattle.wh_parts.proofs.RawTerms.{left_next, left_none}
 use Rattle.wh_sides.specs.InScope.{scope as in_scope, bare}
 use Rattle.wh_sides.specs.Marks.{Marks}
 use Rattle.wh_sides.proofs.BareLemmas.{bare_push}
@@ -33,7 +34,7 @@ mark_each-returns-clause-marked t c =
     let s = in_scope c.args.scope.now in
     let bs = bare c.args.binders.now.items in
     let xs = c.as_slice-item-items.result.now in
-    marks_as s c.args.marks.now c.loop-item.marks (λ n. any_occurs s bs n (rtms xs)) (λ n. any_occurs s bs n (raws c.args.items.now))
+    marks_as s c.args.marks.now c.loop-item.marks (λ n. any_occurs s bs n (rtms xs)) (λ n. any_occurs s bs n (rtms c.args.items.now))
     (λ n. ap (λ (ys : List RawTerm). any_occurs s bs n (rtms ys)) (sym c.as_slice-item-items.ensures))
     (all_marked s bs c.args.marks.now c.loop-item.marks (rtms xs) (rtms (drop c.loop-item.item-index xs)) c.loop-item.invariant.1 (left_none xs c.loop-item.item-index c.loop-item-test.false))
 
@@ -65,10 +66,10 @@ mark_term-returns-in-Meta-clause-marked t c =
     let s = in_scope c.args.scope.now in
     let bs = bare c.args.binders.now.items in
     let own = λ (n : List ℕ). is_declared (n ∷ []) c.in-Meta.name in
-    let inner = λ (n : List ℕ). any_occurs s bs n (raws c.in-Meta.items) in
+    let inner = λ (n : List ℕ). any_occurs s bs n (rtms c.in-Meta.items) in
     on_ok c.mark_each.result
     (λ m. marks_as s c.args.marks.now c.mark_each.new.marks (λ n. own n || inner n) (λ n. occurs s bs n (rtm c.args.term.now))
-    (λ n. ap (occurs s bs n) (of_meta c.args.term.now c.in-Meta.name c.in-Meta.items c.in-Meta.field-2 c.in-Meta.is))
+    (λ n. ap (occurs s bs n) (rtm_of_meta c.args.term.now c.in-Meta.name c.in-Meta.items c.in-Meta.field-2 c.in-Meta.is))
     (marks_both s c.args.marks.now c.mark-in-Meta.new.marks c.mark_each.new.marks own inner c.mark-in-Meta.auto.marks c.mark-in-Meta.ensures m)) c.mark_each.ensures.marked
 
 pub mark_term-returns-in_ok-mark_term-in-Lam-clause-marked : goal.mark_term-returns-in_ok-mark_term-in-Lam-clause-marked
@@ -85,13 +86,13 @@ mark_term-returns-in_ok-mark_term-in-Spine-clause-marked t c =
     let s = in_scope c.args.scope.now in
     let bs = bare c.args.binders.now.items in
     let first = λ (n : List ℕ). occurs s bs n (rtm c.in-Spine.head.value) in
-    let inner = λ (n : List ℕ). any_occurs s bs n (raws c.in-Spine.items) in
+    let inner = λ (n : List ℕ). any_occurs s bs n (rtms c.in-Spine.items) in
     let here = c.mark_term-in-Spine.new.marks in
     let there = c.mark_each-in-Spine.new.marks in
     let head = marks_as s c.args.marks.now here (λ n. occurs s bs n (rtm c.deref-in-Spine.result.now)) first (λ n. ap (λ h. occurs s bs n (rtm h)) (sym c.deref-in-Spine.ensures)) c.in_ok-mark_term-in-Spine.ensures.marked in
     on_ok c.mark_each-in-Spine.result
     (λ m. marks_as s c.args.marks.now there (λ n. first n || inner n) (λ n. occurs s bs n (rtm c.args.term.now))
-    (λ n. ap (occurs s bs n) (of_spine c.args.term.now c.in-Spine.head c.in-Spine.items c.in-Spine.field-2 c.in-Spine.is))
+    (λ n. ap (occurs s bs n) (rtm_of_spine c.args.term.now c.in-Spine.head c.in-Spine.items c.in-Spine.field-2 c.in-Spine.is))
     (marks_both s c.args.marks.now here there first inner c.mark_term-in-Spine.auto.marks head
-    (subst (λ (ps : List (Bor RawBinder)). Marks s here there (λ n. any_occurs s (bare ps) n (raws c.in-Spine.items))) c.in_ok-mark_term-in-Spine.ensures.kept m)))
+    (subst (λ (ps : List (Bor RawBinder)). Marks s here there (λ n. any_occurs s (bare ps) n (rtms c.in-Spine.items))) c.in_ok-mark_term-in-Spine.ensures.kept m)))
     c.mark_each-in-Spine.ensures.marked

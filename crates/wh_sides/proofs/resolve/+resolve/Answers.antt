@@ -3,9 +3,9 @@ use Rattle.std.proofs.lemmas.List.{map-append}
 use Rattle.wh_types.specs.Erase.{ty, tys}
 use Rattle.wh_types.specs.Ty.{◌⇒◌}
 use Rattle.wh_terms.specs.Tree.{app, lam as lam_tree}
-use Rattle.wh_terms.specs.Erase.{tm, tms, terms, list}
+use Rattle.wh_terms.specs.Erase.{tm, tms}
 use Rattle.wh_terms.proofs.TermLemmas.{tms_append}
-use Rattle.wh_text.specs.Erase.{rtm, rty, rtms, rbinder, term_list}
+use Rattle.wh_text.specs.Erase.{rtm, rty, rtms, rbinder}
 use Rattle.wh_text.specs.RawTree.{lam, spine}
 use Rattle.wh_text.specs.declared.raw.RawTerm.{RawTerm}
 use Rattle.wh_sides.specs.declared.around.Around.{Around}
@@ -20,7 +20,8 @@ use Rattle.wh_sides.specs.Resolving.{AreResolved, ResolvesEach, ResolvesSpine}
 use Rattle.wh_parts.specs.Tests.{test, naming_tests, namings_tests, applying_tests}
 use Rattle.std.specs.Prelude.{not}
 use Rattle.wh_sides.proofs.AnswerLemmas.{Fails, told_fails, matched_err}
-use Rattle.wh_parts.proofs.RawTerms.{raws, of_meta, of_spine, left_next, left_none, weight_in_meta, weight_in_spine, weight_in_item}
+use Rattle.wh_text.proofs.RawLemmas.{rtm_of_meta, rtm_of_spine}
+use Rattle.wh_parts.proofs.RawTerms.{left_next, left_none, weight_in_meta, weight_in_spine, weight_in_item}
 use Rattle.wh_sides.proofs.ResolveLemmas.{spine_next, spine_fails_in, spine_fails_at, part_next, part_all, part_fails}
 use Rattle.wh_sides.proofs.ResolveWhole.{term_fails, each_fails, type_fails, kinds_long, meta_whole, meta_fails, lam_whole, lam_fails_at, lam_fails_in, spine_whole, spine_fails_head}
 use Rattle.wh_sides.proofs.resolve.+resolve.Goals as goal
@@ -46,12 +47,12 @@ resolve_under-returns-in_err-list-in-Meta-clause-told t c =
     let u = rtm c.args.term.now in
     let e = c.in_err-list-in-Meta.field-0.0 in
     matched_err (IsResolved (naming_tests s bs u) (meant s (binders_of bs) u) (kind_of s bs u)) (naming_tests s bs u) c.from_residual-in_err-list-in-Meta.result e c.from_residual-in_err-list-in-Meta.ensures.1
-    (meta_fails s bs u c.in-Meta.name (raws c.in-Meta.items) c.in-Meta.at e (of_meta c.args.term.now c.in-Meta.name c.in-Meta.items c.in-Meta.at c.in-Meta.is)
-    (each_fails s bs (raws c.in-Meta.items) e c.in_err-list-in-Meta.ensures.told))
+    (meta_fails s bs u c.in-Meta.name (rtms c.in-Meta.items) c.in-Meta.at e (rtm_of_meta c.args.term.now c.in-Meta.name c.in-Meta.items c.in-Meta.at c.in-Meta.is)
+    (each_fails s bs (rtms c.in-Meta.items) e c.in_err-list-in-Meta.ensures.told))
 
 pub resolve_under-applied_meta-requires : goal.resolve_under-applied_meta-requires
 resolve_under-applied_meta-requires t c =
-    kinds_long (in_scope c.args.scope.now) (typed c.args.passed.now.items) (term_list c.in-Meta.items) c.in_ok-list-in-Meta.list.kinds c.in_ok-list-in-Meta.ensures.told.kinds
+    kinds_long (in_scope c.args.scope.now) (typed c.args.passed.now.items) c.in-Meta.items c.in_ok-list-in-Meta.list.kinds c.in_ok-list-in-Meta.ensures.told.kinds
 
 pub resolve_under-returns-in_err-kind-in-Lam-clause-told : goal.resolve_under-returns-in_err-kind-in-Lam-clause-told
 resolve_under-returns-in_err-kind-in-Lam-clause-told t c =
@@ -84,17 +85,17 @@ resolve_under-returns-in_err-head-in-Spine-clause-told t c =
     let bs = typed c.args.passed.now.items in
     let u = rtm c.args.term.now in
     let h = rtm c.deref-in-Spine.result.now in
-    let ts = raws c.in-Spine.items in
+    let ts = rtms c.in-Spine.items in
     let e = c.in_err-head-in-Spine.field-0.0 in
     let is : u ≡ spine h ts c.in-Spine.field-2 =
-    of_spine c.args.term.now c.in-Spine.head c.in-Spine.items c.in-Spine.field-2 c.in-Spine.is ∙ ap (λ b. spine (rtm b) ts c.in-Spine.field-2) (sym c.deref-in-Spine.ensures) in
+    rtm_of_spine c.args.term.now c.in-Spine.head c.in-Spine.items c.in-Spine.field-2 c.in-Spine.is ∙ ap (λ b. spine (rtm b) ts c.in-Spine.field-2) (sym c.deref-in-Spine.ensures) in
     matched_err (IsResolved (naming_tests s bs u) (meant s (binders_of bs) u) (kind_of s bs u)) (naming_tests s bs u) c.from_residual-in_err-head-in-Spine.result e c.from_residual-in_err-head-in-Spine.ensures.1
     (spine_fails_head s bs u h ts c.in-Spine.field-2 e is (term_fails s bs h e c.in_err-head-in-Spine.ensures.told))
 
 pub resolve_under-returns-in_ok-list-in-Meta-clause-told : goal.resolve_under-returns-in_ok-list-in-Meta-clause-told
 resolve_under-returns-in_ok-list-in-Meta-clause-told t c =
-    meta_whole (in_scope c.args.scope.now) (typed c.args.passed.now.items) (rtm c.args.term.now) c.in-Meta.name (raws c.in-Meta.items) c.in-Meta.at c.in_ok-list-in-Meta.list c.applied_meta.result
-    (of_meta c.args.term.now c.in-Meta.name c.in-Meta.items c.in-Meta.at c.in-Meta.is) c.in_ok-list-in-Meta.ensures.told c.applied_meta.ensures
+    meta_whole (in_scope c.args.scope.now) (typed c.args.passed.now.items) (rtm c.args.term.now) c.in-Meta.name (rtms c.in-Meta.items) c.in-Meta.at c.in_ok-list-in-Meta.list c.applied_meta.result
+    (rtm_of_meta c.args.term.now c.in-Meta.name c.in-Meta.items c.in-Meta.at c.in-Meta.is) c.in_ok-list-in-Meta.ensures.told c.applied_meta.ensures
 
 pub resolve_under-returns-in_ok-abstracted-in-Lam-clause-told : goal.resolve_under-returns-in_ok-abstracted-in-Lam-clause-told
 resolve_under-returns-in_ok-abstracted-in-Lam-clause-told t c =
@@ -113,9 +114,9 @@ pub resolve_under-returns-in_ok-head-in-Spine-clause-told : goal.resolve_under-r
 resolve_under-returns-in_ok-head-in-Spine-clause-told t c =
     let s = in_scope c.args.scope.now in
     let h = rtm c.deref-in-Spine.result.now in
-    let ts = raws c.in-Spine.items in
+    let ts = rtms c.in-Spine.items in
     let is : rtm c.args.term.now ≡ spine h ts c.in-Spine.field-2 =
-    of_spine c.args.term.now c.in-Spine.head c.in-Spine.items c.in-Spine.field-2 c.in-Spine.is ∙ ap (λ b. spine (rtm b) ts c.in-Spine.field-2) (sym c.deref-in-Spine.ensures) in
+    rtm_of_spine c.args.term.now c.in-Spine.head c.in-Spine.items c.in-Spine.field-2 c.in-Spine.is ∙ ap (λ b. spine (rtm b) ts c.in-Spine.field-2) (sym c.deref-in-Spine.ensures) in
     spine_whole s (typed c.args.passed.now.items) (rtm c.args.term.now) h ts c.in-Spine.field-2 c.in_ok-head-in-Spine.head c.resolve_applied.result is c.in_ok-head-in-Spine.ensures.told
     (subst (λ (ps : List Around). ResolvesSpine s (typed ps) (Some (tm c.in_ok-head-in-Spine.head.term)) (Some (ty c.in_ok-head-in-Spine.head.kind)) ts c.resolve_applied.result)
     c.in_ok-head-in-Spine.ensures.kept c.resolve_applied.ensures.told)
@@ -130,7 +131,7 @@ resolve_each-returns-in_err-term-clause-told t c =
     let here = subst (λ (ps : List Around). Fails (first_fault (naming_tests s (typed ps) u)) e) c.loop-item.invariant.0 (term_fails s (typed c.loop-item.passed.items) u e c.in_err-term.ensures.told) in
     subst (λ (ys : List RawTerm). ResolvesEach s bs (rtms ys) c.from_residual-in_err-term.result) c.as_slice-item-items.ensures
     (matched_err (AreResolved s bs (rtms xs)) (namings_tests s bs (rtms xs)) c.from_residual-in_err-term.result e c.from_residual-in_err-term.ensures.1
-    (part_fails s bs (rtms xs) (rtms (drop c.loop-item.item-index xs)) (rtms (drop (c.loop-item.item-index + 1) xs)) (terms c.loop-item.trees) (tys c.loop-item.kinds) u e c.loop-item.invariant.1
+    (part_fails s bs (rtms xs) (rtms (drop c.loop-item.item-index xs)) (rtms (drop (c.loop-item.item-index + 1) xs)) (tms c.loop-item.trees) (tys c.loop-item.kinds) u e c.loop-item.invariant.1
     (left_next xs c.loop-item.item-index c.item-item.result c.loop-item-test.true c.item-item.is) here))
 
 pub resolve_each-loop-item-preserved : goal.resolve_each-loop-item-preserved
@@ -142,9 +143,9 @@ resolve_each-loop-item-preserved t c =
     let r = c.in_ok-term.field-0 in
     let here = subst (λ (ps : List Around). IsResolved (naming_tests s (typed ps) u) (meant s (binders_of (typed ps)) u) (kind_of s (typed ps) u) r) c.loop-item.invariant.0 c.in_ok-term.ensures.told in (
       ◌∙◌ {A = List Around} c.in_ok-term.ensures.kept c.loop-item.invariant.0,
-      part_next s bs (rtms xs) (rtms (drop c.loop-item.item-index xs)) (rtms (drop (c.loop-item.item-index + 1) xs)) (terms c.loop-item.trees) (terms c.push.new.self) (tys c.loop-item.kinds) (tys c.push-in-loop-item.new.self)
+      part_next s bs (rtms xs) (rtms (drop c.loop-item.item-index xs)) (rtms (drop (c.loop-item.item-index + 1) xs)) (tms c.loop-item.trees) (tms c.push.new.self) (tys c.loop-item.kinds) (tys c.push-in-loop-item.new.self)
           u (tm r.term) (ty r.kind) c.loop-item.invariant.1 (left_next xs c.loop-item.item-index c.item-item.result c.loop-item-test.true c.item-item.is) here.passed here.term here.kind
-          (ap tms c.in_ok-push.ensures.ok ∙ tms_append (list c.loop-item.trees) (r.term ∷ []))
+          (ap tms c.in_ok-push.ensures.ok ∙ tms_append c.loop-item.trees (r.term ∷ []))
           (ap tys c.in_ok-push-2.ensures.ok ∙ map-append ty c.loop-item.kinds (r.kind ∷ [])),
     )
 

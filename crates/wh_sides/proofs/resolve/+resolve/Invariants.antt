@@ -1,15 +1,15 @@
 use Rattle.std.proofs.Common.{◌≡◌, ◌+◌, ◌*◌, Some, drop}
 use Rattle.wh_types.specs.Erase.{ty, tys}
-use Rattle.wh_terms.specs.Erase.{tm, terms}
+use Rattle.wh_terms.specs.Erase.{tm, tms}
 use Rattle.wh_text.specs.Erase.{rtm, rtms}
 use Rattle.wh_sides.specs.InScope.{scope as in_scope, typed}
-use Rattle.wh_parts.proofs.RawTerms.{weight, weights, raws}
+use Rattle.wh_parts.proofs.RawTerms.{weight, weights}
 use Rattle.wh_sides.proofs.ResolveLemmas.{SameSpine, Part}
 use Rattle.wh_sides.proofs.resolve.+resolve.Given as goal
 
 abbrev pub invariant-resolve_each-loop-item : goal.invariant-resolve_each-loop-item
 invariant-resolve_each-loop-item l =
-    (l.passed.items ≡ l.initial.passed.items) × Part (in_scope l.scope) (typed l.initial.passed.items) (rtms l.item-items) (terms l.trees) (tys l.kinds) (rtms (drop l.item-index l.item-items))
+    (l.passed.items ≡ l.initial.passed.items) × Part (in_scope l.scope) (typed l.initial.passed.items) (rtms l.item-items) (tms l.trees) (tys l.kinds) (rtms (drop l.item-index l.item-items))
 
 abbrev pub invariant-resolve_applied-loop-item : goal.invariant-resolve_applied-loop-item
 invariant-resolve_applied-loop-item l =
@@ -23,7 +23,7 @@ abbrev pub decreases-resolve_below : goal.decreases-resolve_below
 decreases-resolve_below l = 2 * weight (rtm l.body.now) + 1
 
 abbrev pub decreases-resolve_each : goal.decreases-resolve_each
-decreases-resolve_each l = 2 * weights (raws l.items.now)
+decreases-resolve_each l = 2 * weights (rtms l.items.now)
 
 abbrev pub decreases-resolve_applied : goal.decreases-resolve_applied
-decreases-resolve_applied l = 2 * weights (raws l.items.now)
+decreases-resolve_applied l = 2 * weights (rtms l.items.now)

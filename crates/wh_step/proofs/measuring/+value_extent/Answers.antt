@@ -2,7 +2,7 @@ use Rattle.std.proofs.Common.{◌≡◌, ◌+◌, sym, ◌∙◌, ap, subst, ari
 use Rattle.std.specs.Prelude.{Err}
 use Rattle.wh_types.specs.Erase.{ty}
 use Rattle.wh_terms.specs.Tree.{app, lam, free, bound, fun}
-use Rattle.wh_terms.specs.Erase.{tm, terms}
+use Rattle.wh_terms.specs.Erase.{tm, tms}
 use Rattle.wh_terms.specs.Entries.{bodies}
 use Rattle.wh_terms.specs.Valued.{valued, all_valued}
 use Rattle.wh_terms.proofs.TermLemmas.{weight_in_meta, weight_in_item}
@@ -43,7 +43,7 @@ value_extent-returns-in-Fun n c k =
 pub value_extent-returns-in-Some : goal.value_extent-returns-in-Some
 value_extent-returns-in-Some n c k =
     let bs = c.args.by.now in
-    let args = all_valued k (bodies bs) (terms c.in-Meta.items) in
+    let args = all_valued k (bodies bs) (tms c.in-Meta.items) in
     measures_same (valued k (bodies bs) (tm c.args.term.now)) _ c.extent_of.result (act_value k bs c.args.term.now c.in-Meta.meta c.in-Meta.items c.in-Some.body.now c.in-Meta.is c.in-Some.ensures.1)
     (c.extent_of.ensures args k (subst (AllKnown args) (sym c.as_slice.ensures.value) (c.in_ok-values-in-Meta.ensures k)))
 

@@ -1,6 +1,6 @@
 -- The walk's list, read on a term without loose variables.
 use Rattle.std.proofs.Common.{◌≡◌, map, sym, subst}
-use Rattle.wh_terms.specs.Erase.{tm, list, rewrite_rules}
+use Rattle.wh_terms.specs.Erase.{tm, rewrite_rules}
 use Rattle.wh_terms.proofs.Results.{IfOk-map}
 use Rattle.wh_step.specs.Reducts.{AreReducts}
 use Rattle.wh_step.proofs.PlaceLemmas.{plain_whole}
@@ -16,5 +16,5 @@ returns c =
     let rules = rewrite_rules c.args.rules.now in
     let t = tm c.args.term.now in
     let found = map tm c.in_ok-found.found.items in
-    IfOk-map (λ r. map tm (list r) ≡ found) (λ r. AreReducts rules t (map tm (list r))) c.collected.result
+    IfOk-map (λ r. map tm r ≡ found) (λ r. AreReducts rules t (map tm r)) c.collected.result
     (λ r same. subst (AreReducts rules t) (sym same) (reducts_of_steps S made t found c.requires.shut c.requires.plain c.in_ok-found.ensures)) c.collected.ensures

@@ -1,6 +1,6 @@
 use Rattle.std.proofs.Common.{◌≡◌, take}
-use Rattle.wh_terms.specs.Erase.{terms, tms}
+use Rattle.wh_terms.specs.Erase.{tms}
 use Rattle.wh_terms.proofs.copy.+copy.Given as goal
 
 abbrev pub invariant-copy_terms-loop-item : goal.invariant-copy_terms-loop-item
-invariant-copy_terms-loop-item l = terms l.copies ≡ tms (take l.item-index l.item-items)
+invariant-copy_terms-loop-item l = tms l.copies ≡ tms (take l.item-index l.item-items)

@@ -1,7 +1,6 @@
 use Rattle.std.proofs.Common.{List, ◌≡◌, ap, sym, ◌∙◌, arith, rules}
-use Rattle.wh_terms.specs.Erase.{terms, list, tms}
+use Rattle.wh_terms.specs.Erase.{tms}
 use Rattle.wh_terms.specs.declared.term.Term.{Term}
-use Rattle.wh_terms.specs.declared.term.Terms.{Terms}
 use Rattle.wh_terms.proofs.TermLemmas.{tm_of_meta, weight_in_meta, weight_in_item}
 use Rattle.wh_terms.proofs.SameLemmas.{same_length, same_at, same_next}
 use Rattle.wh_terms.proofs.equality.+same.Goals as goal
@@ -17,7 +16,7 @@ same-returns-then-y-z t c =
     (λ yes. let here = c.same_terms.ensures.0 yes in cc, λ e. c.same_terms.ensures.1 cc)
 
 -- the lists that the slices stand for
-abbrev both : (us vs : Terms) (xs ys : List Term) → xs ≡ list us → ys ≡ list vs → terms us ≡ terms vs → tms xs ≡ tms ys
+abbrev both : (us vs : List Term) (xs ys : List Term) → xs ≡ us → ys ≡ vs → tms us ≡ tms vs → tms xs ≡ tms ys
 both us vs xs ys ex ey e = ap tms ex ∙ e ∙ sym (ap tms ey)
 
 pub same_terms-returns-then-items-others : goal.same_terms-returns-then-items-others
@@ -33,7 +32,7 @@ same_terms-same-requires t c =
 
 pub same_terms-returns-then-not-same : goal.same_terms-returns-then-not-same
 same_terms-returns-then-not-same t c =
-    let at = λ (e : terms c.args.a.now ≡ terms c.args.b.now). same_at c.as_slice-items.result.now c.as_slice-others.result.now c.loop-i.i c.index-items-i.result c.index-others-i.result
+    let at = λ (e : tms c.args.a.now ≡ tms c.args.b.now). same_at c.as_slice-items.result.now c.as_slice-others.result.now c.loop-i.i c.index-items-i.result c.index-others-i.result
     (both c.args.a.now c.args.b.now c.as_slice-items.result.now c.as_slice-others.result.now c.as_slice-items.ensures c.as_slice-others.ensures e)
     c.loop-i-test.true c.index-items-i.is c.index-others-i.is in
     (λ no_way. cc, λ e. c.if-not-same.ensures.1 (at e))

@@ -1,5 +1,5 @@
 use Rattle.std.proofs.Common.{ap, arith, rules}
-use Rattle.wh_terms.specs.Erase.{tm, terms}
+use Rattle.wh_terms.specs.Erase.{tm, tms}
 use Rattle.wh_terms.specs.Measures.{nesting}
 use Rattle.wh_terms.proofs.TermLemmas.{tm_of_meta, weight_in_meta, weight_in_item, nesting_of_meta, nesting_of_item}
 use Rattle.wh_terms.proofs.MeasureLemmas.{height_le, heights_le, heights_next, height_of_some, height_of_none}
@@ -13,7 +13,7 @@ height-greatest_height-requires t c = (
 
 pub height-overflow_add-result : goal.height-overflow_add-result
 height-overflow_add-result t c =
-    omega (arith, heights_le (terms c.in-Meta.items), nesting_of_meta c.args.t.now c.in-Meta.field-0 c.in-Meta.items c.in-Meta.is)
+    omega (arith, heights_le (tms c.in-Meta.items), nesting_of_meta c.args.t.now c.in-Meta.field-0 c.in-Meta.items c.in-Meta.is)
 
 pub height-returns-then-is_empty : goal.height-returns-then-is_empty
 height-returns-then-is_empty t c =

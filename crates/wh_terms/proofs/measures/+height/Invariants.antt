@@ -1,11 +1,11 @@
 use Rattle.std.proofs.Common.{◌≡◌, take}
-use Rattle.wh_terms.specs.Erase.{tm, terms, tms}
+use Rattle.wh_terms.specs.Erase.{tm, tms}
 use Rattle.wh_terms.specs.Measures.{heights}
 use Rattle.wh_terms.proofs.TermLemmas.{weight, weights}
 use Rattle.wh_terms.proofs.measures.+height.Given as goal
 
 abbrev pub decreases-greatest_height : goal.decreases-greatest_height
-decreases-greatest_height l = weights (terms l.items.now)
+decreases-greatest_height l = weights (tms l.items.now)
 
 abbrev pub decreases-height : goal.decreases-height
 decreases-height l = weight (tm l.t.now)

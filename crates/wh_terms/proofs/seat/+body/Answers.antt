@@ -1,7 +1,7 @@
 use Rattle.std.proofs.Common.{◌≡◌, ap, sym, ◌∙◌, arith, rules}
 use Rattle.wh_terms.specs.Tree.{meta, app, lam}
 use Rattle.wh_types.specs.Erase.{ty}
-use Rattle.wh_terms.specs.Erase.{tm, list, tms}
+use Rattle.wh_terms.specs.Erase.{tm, tms}
 use Rattle.wh_terms.specs.MatchSearch.{placed}
 use Rattle.wh_terms.proofs.TermLemmas.{weight_in_meta, weight_in_item, tm_meta, tm_of_meta}
 use Rattle.wh_terms.proofs.SeatLemmas.{no_lam, no_function, no_argument, no_meta, no_item, bodies_push}
@@ -21,7 +21,7 @@ bodies_of-returns-in_default t c =
 
 pub bodies_of-loop-item-preserved : goal.bodies_of-loop-item-preserved
 bodies_of-loop-item-preserved t c =
-    bodies_push (tms c.args.seat.now.args.now) c.args.seat.now.depth c.args.inner c.as_slice-item-items.result.now _ c.loop-item.item-index (list c.loop-item.bodies) c.in-Some.body c.item-item.result
+    bodies_push (tms c.args.seat.now.args.now) c.args.seat.now.depth c.args.inner c.as_slice-item-items.result.now _ c.loop-item.item-index c.loop-item.bodies c.in-Some.body c.item-item.result
     c.loop-item.invariant (rw c.in_ok-push.was at c.push.ensures.ok) (rw c.in-Some.is at c.in_ok-body.ensures) c.loop-item-test.true c.item-item.is
 
 pub body_of-returns-in_default : goal.body_of-returns-in_default

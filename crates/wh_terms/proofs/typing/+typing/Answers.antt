@@ -6,7 +6,7 @@ use Rattle.wh_types.specs.Ty.{◌⇒◌}
 use Rattle.wh_terms.specs.Tree.{Tm, app}
 use Rattle.wh_terms.specs.Typing.{AllTyped, typed_none}
 use Rattle.wh_terms.specs.Scope.{TellsType, scope}
-use Rattle.wh_terms.specs.Erase.{tm, tms, terms, symbols, declared_metas}
+use Rattle.wh_terms.specs.Erase.{tm, tms, symbols, declared_metas}
 use Rattle.wh_terms.specs.declared.term.Term.{Term}
 use Rattle.wh_terms.specs.declared.rule.MetaDecl.{MetaDecl}
 use Rattle.wh_terms.proofs.TermLemmas.{tm_of_meta, weight_in_meta, weight_in_item}
@@ -52,7 +52,7 @@ type_of_meta-returns-in_ok-copy-clause-typed t c =
     let found : slice_get c.args.metas.now c.args.meta ≡ Some c.in-Some.declared.now =
     subst (λ (ds : List MetaDecl). slice_get ds c.args.meta ≡ Some c.in-Some.declared.now) c.as_slice.ensures
     (slice_get_read c.as_slice.result.now (length c.as_slice.result.now) c.args.meta c.in-Some.declared.now refl c.in-Some.ensures.lookup.3.0 c.in-Some.ensures.lookup.1) in
-    meta_answer (symbols c.args.signature.now) c.args.metas.now (scope c.args.binders.now.items) c.args.meta (terms c.args.items.now) c.in-Some.declared.now
+    meta_answer (symbols c.args.signature.now) c.args.metas.now (scope c.args.binders.now.items) c.args.meta (tms c.args.items.now) c.in-Some.declared.now
     c.as_slice-kinds.result.now (ty c.in_ok-copy.field-0) found c.as_slice-kinds.ensures (c.in_ok-have_types.ensures.typed.0 c.if-branch.true) c.in_ok-copy.ensures
 
 pub type_of_meta-returns-else-branch-clause-typed : goal.type_of_meta-returns-else-branch-clause-typed
@@ -60,7 +60,7 @@ type_of_meta-returns-else-branch-clause-typed t c =
     let found : slice_get c.args.metas.now c.args.meta ≡ Some c.in-Some.declared.now =
     subst (λ (ds : List MetaDecl). slice_get ds c.args.meta ≡ Some c.in-Some.declared.now) c.as_slice.ensures
     (slice_get_read c.as_slice.result.now (length c.as_slice.result.now) c.args.meta c.in-Some.declared.now refl c.in-Some.ensures.lookup.3.0 c.in-Some.ensures.lookup.1) in
-    meta_none (symbols c.args.signature.now) c.args.metas.now (scope c.args.binders.now.items) c.args.meta (terms c.args.items.now) c.in-Some.declared.now
+    meta_none (symbols c.args.signature.now) c.args.metas.now (scope c.args.binders.now.items) c.args.meta (tms c.args.items.now) c.in-Some.declared.now
     c.as_slice-kinds.result.now found c.as_slice-kinds.ensures (λ all. let yes = c.in_ok-have_types.ensures.typed.1 all in cc (yes, c.if-branch.false))
 
 pub type_of_abstraction-returns-in_ok-arrow-in-Some-clause-typed : goal.type_of_abstraction-returns-in_ok-arrow-in-Some-clause-typed

@@ -1,6 +1,6 @@
 use Rattle.std.proofs.Common.{◌≡◌, ◌+◌, ◌*◌, take}
 use Rattle.wh_types.specs.Erase.{tys}
-use Rattle.wh_terms.specs.Erase.{declared_metas, symbols, terms, tm, tms}
+use Rattle.wh_terms.specs.Erase.{declared_metas, symbols, tms, tm}
 use Rattle.wh_terms.proofs.TermLemmas.{weight, weights}
 use Rattle.wh_terms.specs.Typing.{AllTyped}
 use Rattle.wh_terms.specs.Scope.{scope}
@@ -19,7 +19,7 @@ abbrev pub decreases-type_of_abstraction : goal.decreases-type_of_abstraction
 decreases-type_of_abstraction l = 2 * weight (tm l.body.now) + 1
 
 abbrev pub decreases-type_of_meta : goal.decreases-type_of_meta
-decreases-type_of_meta l = 2 * weights (terms l.items.now) + 1
+decreases-type_of_meta l = 2 * weights (tms l.items.now) + 1
 
 abbrev pub decreases-have_types : goal.decreases-have_types
-decreases-have_types l = 2 * weights (terms l.items.now)
+decreases-have_types l = 2 * weights (tms l.items.now)
