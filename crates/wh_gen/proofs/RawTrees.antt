@@ -3,7 +3,6 @@ use Rattle.std.proofs.Common.{◌≡◌, ℕ, List, ap₂, ◌∙◌}
 use Rattle.wh_text.specs.RawTree.{RTy, raw_type, RTys}
 use Rattle.wh_text.specs.Erase.{rty, rtys}
 use Rattle.wh_text.specs.declared.raw.RawType.{RawType, roll-RawType}
-use Rattle.wh_text.proofs.RawLemmas.{arguments_are}
 use Rattle.wh_parts.specs.Erase.{rname, rmeta}
 use Rattle.wh_parts.specs.declared.parts.RawName.{RawName}
 use Rattle.wh_system.specs.CanonicalParts.{raw_name}
@@ -16,4 +15,4 @@ rty_over args name sort same = ap₂ (λ as_well s. raw_type as_well s 0) (argum
 pub rmeta_of : (raw : RawName) (args : List RawType) (kind : RawType) (name : List ℕ) (as_well : RTys) (out : RTy) → rname raw ≡ raw_name name → rtys args ≡ as_well → rty kind ≡ out
     → rmeta (record { name = raw; args = args; result = kind }) ≡ raw_meta name as_well out
 rmeta_of raw args kind name as_well out named args_are kind_is =
-    λ i. record { name = named i; args = (arguments_are args ∙ args_are) i; out = kind_is i }
+    λ i. record { name = named i; args = args_are i; out = kind_is i }

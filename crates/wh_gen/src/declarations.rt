@@ -2,7 +2,7 @@
 
 ghost use Rattle.std.specs.Prelude.{◌≡◌, ◌∷◌, [], ◌++◌, IfOk, OnOk, map};
 ghost use Rattle.std.specs.List.{range_with_len};
-ghost use Rattle.wh_text.specs.Erase.{rty, arguments};
+ghost use Rattle.wh_text.specs.Erase.{rty, rtys};
 ghost use Rattle.wh_text.specs.RawTree.{no_types};
 ghost use Rattle.wh_text.specs.Words.{IsWord};
 ghost use Rattle.wh_parts.specs.Erase.{rname, rfun, rmeta};

@@ -2,8 +2,9 @@
 use Rattle.std.proofs.Common.{◌≡◌, ℕ, ◌+◌, ◌<◌, ◌≤◌, false, not, List, [], ◌∷◌, ◌++◌, length, drop, get_or, Option, Some, None, option_map, option_and_then, unwrap_or, is_some, refl, ap, sym, ◌∙◌, append_assoc, append-nil}
 use Rattle.std.proofs.lemmas.List.{map-append}
 use Rattle.wh_text.specs.RawTree.{RTy, raw_type, RTys, no_types, more_types}
-use Rattle.wh_text.specs.Erase.{rty, rtys, arguments}
-use Rattle.wh_text.specs.declared.raw.RawType.{RawType, RawType', out-RawType, outs-RawType'}
+use Rattle.wh_text.specs.Erase.{rty, rtys}
+use Rattle.wh_text.specs.declared.raw.RawType.{RawType, out-RawType}
+use Rattle.wh_text.proofs.RawLemmas.{rty_parts}
 use Rattle.wh_types.specs.Ty.{Ty, sort, ◌⇒◌}
 use Rattle.wh_types.specs.Erase.{ty, tys}
 use Rattle.wh_types.specs.declared.simple_type.SimpleType.{SimpleType}
@@ -39,37 +40,34 @@ mutual
       stands_by (type_meant S (raw_type args s at)) (number_of S s) (λ o. arrows_meant S args (option_map sort o)) (λ n. arrows_over (types_of_raw S args) (sort n)) refl
       (λ n. arrows_stand S args (sort n) parts.0) there.0
 
-rty_is : (a : RawType) → rty a ≡ raw_type (arguments (out-RawType a).args) (out-RawType a).sort (out-RawType a).at
-rty_is (RawType' args s at) = rw (outs-RawType' args s at) refl
-
 -- a type whose arguments and sort are there
 
 pub type_resolved : (S : List (List ℕ)) (a : RawType) (domains : List SimpleType) (n : ℕ) (whole : SimpleType)
-    → first_fault (sorts_of_types S (arguments (out-RawType a).args)) ≡ None → types_of_raw S (arguments (out-RawType a).args) ≡ tys domains
+    → first_fault (sorts_of_types S (rtys (out-RawType a).args)) ≡ None → types_of_raw S (rtys (out-RawType a).args) ≡ tys domains
     → number_of S (out-RawType a).sort ≡ Some n → ty whole ≡ arrows_over (tys domains) (sort n)
     → (first_fault (sorts_of_type S (rty a)) ≡ None) × (type_meant S (rty a) ≡ Some (ty whole))
 type_resolved S a domains n whole passed same number is =
-    let args = arguments (out-RawType a).args in
+    let args = rtys (out-RawType a).args in
     let last = test (not (is_declared S (out-RawType a).sort)) (UnknownName (out-RawType a).at) ∷ [] in (
-      ap (λ t. first_fault (sorts_of_type S t)) (rty_is a)
+      ap (λ t. first_fault (sorts_of_type S t)) (rty_parts a)
           ∙ no_fault_in_both (sorts_of_types S args) last passed (past_test (not (is_declared S (out-RawType a).sort)) (UnknownName (out-RawType a).at) [] (ap (λ o. not (is_some o)) number)),
-      ap (type_meant S) (rty_is a) ∙ ap (λ o. arrows_meant S args (option_map sort o)) number ∙ arrows_stand S args (sort n) passed
+      ap (type_meant S) (rty_parts a) ∙ ap (λ o. arrows_meant S args (option_map sort o)) number ∙ arrows_stand S args (sort n) passed
           ∙ ap (λ ds. Some (arrows_over ds (sort n))) same ∙ ap Some (sym is),
     )
 
-pub type_unknown : (S : List (List ℕ)) (a : RawType) → first_fault (sorts_of_types S (arguments (out-RawType a).args)) ≡ None
+pub type_unknown : (S : List (List ℕ)) (a : RawType) → first_fault (sorts_of_types S (rtys (out-RawType a).args)) ≡ None
     → number_of S (out-RawType a).sort ≡ None → first_fault (sorts_of_type S (rty a)) ≡ Some (UnknownName (out-RawType a).at)
 type_unknown S a passed number =
     let last = test (not (is_declared S (out-RawType a).sort)) (UnknownName (out-RawType a).at) ∷ [] in
-    ap (λ t. first_fault (sorts_of_type S t)) (rty_is a)
-    ∙ fault_in_second (sorts_of_types S (arguments (out-RawType a).args)) last (UnknownName (out-RawType a).at) passed
+    ap (λ t. first_fault (sorts_of_type S t)) (rty_parts a)
+    ∙ fault_in_second (sorts_of_types S (rtys (out-RawType a).args)) last (UnknownName (out-RawType a).at) passed
     (fault_at_test (not (is_declared S (out-RawType a).sort)) (UnknownName (out-RawType a).at) [] (ap (λ o. not (is_some o)) number))
 
-pub type_inner : (S : List (List ℕ)) (a : RawType) (f : SystemFault) → first_fault (sorts_of_types S (arguments (out-RawType a).args)) ≡ Some f
+pub type_inner : (S : List (List ℕ)) (a : RawType) (f : SystemFault) → first_fault (sorts_of_types S (rtys (out-RawType a).args)) ≡ Some f
     → first_fault (sorts_of_type S (rty a)) ≡ Some f
 type_inner S a f e =
-    ap (λ t. first_fault (sorts_of_type S t)) (rty_is a)
-    ∙ fault_in_first (sorts_of_types S (arguments (out-RawType a).args)) (test (not (is_declared S (out-RawType a).sort)) (UnknownName (out-RawType a).at) ∷ []) f e
+    ap (λ t. first_fault (sorts_of_type S t)) (rty_parts a)
+    ∙ fault_in_first (sorts_of_types S (rtys (out-RawType a).args)) (test (not (is_declared S (out-RawType a).sort)) (UnknownName (out-RawType a).at) ∷ []) f e
 
 -- the last of the arguments goes first
 

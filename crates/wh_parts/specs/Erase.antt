@@ -1,6 +1,6 @@
 -- What parts stand for: without pointers.
 use Rattle.std.specs.Prelude.{map}
-use Rattle.wh_text.specs.Erase.{rty, arguments, rtm}
+use Rattle.wh_text.specs.Erase.{rty, rtys, rtm}
 use Rattle.wh_parts.specs.Parts.{RName, RFun, RMeta, RRule, RParts}
 use Rattle.wh_parts.specs.declared.parts.RawName.{RawName}
 use Rattle.wh_parts.specs.declared.parts.RawFun.{RawFun}
@@ -15,7 +15,7 @@ abbrev pub rfun : RawFun → RFun
 rfun f = record { name = rname f.name; kind = rty f.kind }
 
 abbrev pub rmeta : RawMeta → RMeta
-rmeta m = record { name = rname m.name; args = arguments m.args; out = rty m.result }
+rmeta m = record { name = rname m.name; args = rtys m.args; out = rty m.result }
 
 abbrev pub rrule : RawRule → RRule
 rrule r = record { metas = map rmeta r.metas; left = rtm r.left; right = rtm r.right; at = r.at }

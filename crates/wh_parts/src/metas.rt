@@ -1,7 +1,7 @@
 //! The meta-variables of a rule.
 
 ghost use Rattle.std.specs.Prelude.{◌≡◌, ◌<◌, ◌++◌, ◌||◌, [], ◌∷◌, OnOk, length, map};
-ghost use Rattle.wh_text.specs.Erase.{arguments};
+ghost use Rattle.wh_text.specs.Erase.{rtys};
 ghost use Rattle.wh_types.specs.Erase.{tys};
 ghost use Rattle.wh_terms.specs.Erase.{declared_meta, declared_metas};
 ghost use Rattle.wh_parts.specs.Declarations.{meta_count, tests_of_meta};
@@ -95,7 +95,7 @@ fn declared_types(
     sorts: &NameTable,
     kinds: &RawTypes,
 ) -> Result<Types, Or<SystemFault>>
-    ensures { Passes (types_tests sorts.now (arguments kinds.now)) result (λ types. types_of_raw sorts.now (arguments kinds.now) ≡ tys types) }
+    ensures { Passes (types_tests sorts.now (rtys kinds.now)) result (λ types. types_of_raw sorts.now (rtys kinds.now) ≡ tys types) }
 {
     let mut types = Types::new(alloc)?;
     for kind in kinds.as_slice() {

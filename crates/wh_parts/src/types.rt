@@ -1,7 +1,7 @@
 //! Types as they are written: where they stand, that none is too wide, and what they stand for.
 
 ghost use Rattle.std.specs.Prelude.{◌≡◌, Some, IfOk};
-ghost use Rattle.wh_text.specs.Erase.{rty, arguments};
+ghost use Rattle.wh_text.specs.Erase.{rty, rtys};
 ghost use Rattle.wh_types.specs.Erase.{ty, tys};
 ghost use Rattle.wh_parts.specs.Faults.{IsFirstFault, Passes};
 ghost use Rattle.wh_parts.specs.Naming.{arrows_over, type_meant};
@@ -43,7 +43,7 @@ pub fn check_width(kind: &RawType) -> Result<(), SystemFault>
 
 /// Whether there are at most 32 types; the fault is at the first one past them.
 pub fn check_type_count(kinds: &RawTypes) -> Result<(), SystemFault>
-    ensures { IsFirstFault (count_of_types 0 (arguments kinds.now)) result }
+    ensures { IsFirstFault (count_of_types 0 (rtys kinds.now)) result }
 {
     match kinds.as_slice().get(MOST_ARGUMENTS) {
         Some(kind) => Err(SystemFault::TooMany {
@@ -76,7 +76,7 @@ fn resolve_types(
     sorts: &NameTable,
     kinds: &RawTypes,
 ) -> Result<Vec<SimpleType>, Or<SystemFault>>
-    ensures { Passes (sorts_of_types sorts.now (arguments kinds.now)) result (λ domains. types_of_raw sorts.now (arguments kinds.now) ≡ tys domains.items) }
+    ensures { Passes (sorts_of_types sorts.now (rtys kinds.now)) result (λ domains. types_of_raw sorts.now (rtys kinds.now) ≡ tys domains.items) }
 {
     let mut domains = Vec::new(alloc);
     for kind in kinds.as_slice() {

@@ -1,4 +1,4 @@
--- List Term of sides as expressions, argument by argument.
+-- Terms of sides as expressions, argument by argument.
 use Rattle.std.proofs.Common.{◌≡◌, ℕ, ◌+◌, ◌<◌, List, [], ◌∷◌, length, map, take, get_or, refl, ap, ap₂, sym, ◌∙◌}
 use Rattle.wh_terms.specs.Tree.{Tm, Tms, none, more, tms_of}
 use Rattle.wh_terms.specs.Erase.{tm, tms}

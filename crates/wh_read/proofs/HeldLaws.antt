@@ -6,7 +6,7 @@ use Rattle.wh_text.specs.RawTree.{RTy, raw_type, RTys, no_types, more_types, RTm
 use Rattle.wh_text.specs.Erase.{rty, rtys, rtm, rtms}
 use Rattle.wh_text.specs.declared.raw.RawType.{RawType, out-RawType}
 use Rattle.wh_text.specs.declared.raw.RawTerm.{RawTerm, Spine}
-use Rattle.wh_text.proofs.RawLemmas.{rty_parts, rtm_of_spine, arguments_are}
+use Rattle.wh_text.proofs.RawLemmas.{rty_parts, rtm_of_spine}
 use Rattle.wh_parts.specs.Parts.{RParts}
 use Rattle.wh_parts.specs.Erase.{rname, rmeta}
 use Rattle.wh_parts.specs.declared.parts.RawName.{RawName}
@@ -124,7 +124,6 @@ open_over parts k n m p e h = ap (λ (c : Bool). if c then r.inside parts p else
 pub metas_grow : (old new : List RawMeta) (x : RawName) (args : List RawType) (out : RawType) → new ≡ old ++ record { name = x; args = args; result = out } ∷ [] → map rmeta new ≡ map rmeta old ++ record { name = rname x; args = rtys args; out = rty out } ∷ []
 metas_grow old new x args out e =
     ap (map rmeta) e ∙ map-append rmeta old _
-    ∙ ap (λ (ts : RTys). map rmeta old ++ record { name = rname x; args = ts; out = rty out } ∷ []) (arguments_are args)
 
 -- a type without arguments
 pub plain_sort : (a : RawType) (args : List RawType) (sort : List ℕ) (at : ℕ) → args ≡ [] → (out-RawType a).args ≡ args → (out-RawType a).sort ≡ sort → (out-RawType a).at ≡ at → rty a ≡ raw_type no_types sort at

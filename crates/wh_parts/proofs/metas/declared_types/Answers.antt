@@ -1,12 +1,12 @@
 use Rattle.std.proofs.Common.{◌≡◌, Some, List, ap, sym, ◌∙◌}
 use Rattle.wh_types.specs.declared.simple_type.SimpleType.{SimpleType}
 use Rattle.wh_types.specs.Erase.{ty, tys}
-use Rattle.wh_text.specs.Erase.{rty, rtys, arguments}
+use Rattle.wh_text.specs.Erase.{rty, rtys}
 use Rattle.wh_parts.specs.Faults.{first_fault}
 use Rattle.wh_parts.specs.Naming.{type_meant}
 use Rattle.wh_parts.specs.RuleTests.{types_of_raw}
 use Rattle.wh_parts.specs.Tests.{type_tests, types_tests}
-use Rattle.wh_parts.proofs.RawTypes.{arguments_are, types_end}
+use Rattle.wh_parts.proofs.RawTypes.{types_end}
 use Rattle.wh_parts.proofs.TypeLemmas.{types_push, types_done}
 use Rattle.wh_parts.proofs.PassLemmas.{error_on}
 use Rattle.wh_parts.proofs.MetaLemmas.{typed_next, typed_fails}
@@ -16,8 +16,8 @@ pub returns-in_err-declared_type : goal.returns-in_err-declared_type
 returns-in_err-declared_type c =
     let S = c.args.sorts.now in
     let xs = c.as_slice-kind-items.result.now in
-    let args = arguments c.args.kinds.now in
-    let start = ap (λ us. first_fault (types_tests S us)) (arguments_are c.args.kinds.now) ∙ ap (λ ys. first_fault (types_tests S (rtys ys))) (sym c.as_slice-kind-items.ensures) in
+    let args = rtys c.args.kinds.now in
+    let start = ap (λ ys. first_fault (types_tests S (rtys ys))) (sym c.as_slice-kind-items.ensures) in
     error_on (type_tests S (rty c.kind-item.result)) (types_tests S args) c.from_residual-in_err-declared_type.result c.in_err-declared_type.field-0.0
     (λ (a : SimpleType). type_meant S (rty c.kind-item.result) ≡ Some (ty a)) (λ (types : List SimpleType). types_of_raw S args ≡ tys types)
     c.from_residual-in_err-declared_type.ensures.1
@@ -37,7 +37,7 @@ pub returns : goal.returns
 returns c =
     let S = c.args.sorts.now in
     let xs = c.as_slice-kind-items.result.now in
-    let args : arguments c.args.kinds.now ≡ rtys xs = arguments_are c.args.kinds.now ∙ ap rtys (sym c.as_slice-kind-items.ensures) in (
+    let args : rtys c.args.kinds.now ≡ rtys xs = ap rtys (sym c.as_slice-kind-items.ensures) in (
       ap (λ us. first_fault (types_tests S us)) args ∙ c.loop-kind.invariant.0 ∙ ap (λ us. first_fault (types_tests S us)) (types_end xs c.loop-kind.kind-index c.loop-kind-test.false),
       ap (types_of_raw S) args ∙ types_done S xs c.loop-kind.kind-index (types_of_raw S (rtys xs)) c.loop-kind.types c.loop-kind-test.false c.loop-kind.invariant.1,
     )

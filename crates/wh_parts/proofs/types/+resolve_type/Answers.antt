@@ -1,5 +1,5 @@
 use Rattle.std.proofs.Common.{Vec, Global, ap, sym, ◌∙◌, Some, ◌≡◌}
-use Rattle.wh_text.specs.Erase.{rty, rtys, arguments}
+use Rattle.wh_text.specs.Erase.{rty, rtys}
 use Rattle.wh_types.specs.declared.simple_type.SimpleType.{SimpleType}
 use Rattle.wh_types.specs.Erase.{ty, tys}
 use Rattle.wh_text.specs.declared.raw.RawType.{out-RawType}
@@ -7,7 +7,7 @@ use Rattle.wh_parts.specs.Faults.{first_fault}
 use Rattle.wh_parts.specs.Naming.{number_of, type_meant}
 use Rattle.wh_parts.specs.Tests.{sorts_of_type, sorts_of_types}
 use Rattle.wh_parts.specs.RuleTests.{types_of_raw}
-use Rattle.wh_parts.proofs.RawTypes.{arguments_are, types_end}
+use Rattle.wh_parts.proofs.RawTypes.{types_end}
 use Rattle.wh_parts.proofs.PassLemmas.{error_on}
 use Rattle.wh_parts.proofs.TypeLemmas.{type_inner, type_unknown, type_resolved, sorts_next, sorts_fail, types_push, types_done}
 use Rattle.wh_parts.proofs.types.+resolve_type.Goals as goal
@@ -15,7 +15,7 @@ use Rattle.wh_parts.proofs.types.+resolve_type.Goals as goal
 pub resolve_type-returns-in_err-domains : goal.resolve_type-returns-in_err-domains
 resolve_type-returns-in_err-domains t c =
     let S = c.args.sorts.now in
-    let args = arguments (out-RawType c.args.kind.now).args in
+    let args = rtys (out-RawType c.args.kind.now).args in
     error_on (sorts_of_types S args) (sorts_of_type S (rty c.args.kind.now)) c.from_residual.result c.in_err-domains.field-0.0
     (λ (domains : Vec SimpleType Global). types_of_raw S args ≡ tys domains.items) (λ (a : SimpleType). type_meant S (rty c.args.kind.now) ≡ Some (ty a))
     c.from_residual.ensures.1 (type_inner S c.args.kind.now) c.in_err-domains.ensures
@@ -33,8 +33,8 @@ pub resolve_types-returns-in_err-resolve_type : goal.resolve_types-returns-in_er
 resolve_types-returns-in_err-resolve_type t c =
     let S = c.args.sorts.now in
     let xs = c.as_slice-kind-items.result.now in
-    let args = arguments c.args.kinds.now in
-    let start = ap (λ us. first_fault (sorts_of_types S us)) (arguments_are c.args.kinds.now) ∙ ap (λ ys. first_fault (sorts_of_types S (rtys ys))) (sym c.as_slice-kind-items.ensures) in
+    let args = rtys c.args.kinds.now in
+    let start = ap (λ ys. first_fault (sorts_of_types S (rtys ys))) (sym c.as_slice-kind-items.ensures) in
     error_on (sorts_of_type S (rty c.kind-item.result)) (sorts_of_types S args) c.from_residual.result c.in_err-resolve_type.field-0.0
     (λ (a : SimpleType). type_meant S (rty c.kind-item.result) ≡ Some (ty a)) (λ (domains : Vec SimpleType Global). types_of_raw S args ≡ tys domains.items)
     c.from_residual.ensures.1
@@ -54,7 +54,7 @@ pub resolve_types-returns : goal.resolve_types-returns
 resolve_types-returns t c =
     let S = c.args.sorts.now in
     let xs = c.as_slice-kind-items.result.now in
-    let args : arguments c.args.kinds.now ≡ rtys xs = arguments_are c.args.kinds.now ∙ ap rtys (sym c.as_slice-kind-items.ensures) in (
+    let args : rtys c.args.kinds.now ≡ rtys xs = ap rtys (sym c.as_slice-kind-items.ensures) in (
       ap (λ us. first_fault (sorts_of_types S us)) args ∙ c.loop-kind.invariant.0 ∙ ap (λ us. first_fault (sorts_of_types S us)) (types_end xs c.loop-kind.kind-index c.loop-kind-test.false),
       ap (types_of_raw S) args ∙ types_done S xs c.loop-kind.kind-index (types_of_raw S (rtys xs)) c.loop-kind.domains.items c.loop-kind-test.false c.loop-kind.invariant.1,
     )

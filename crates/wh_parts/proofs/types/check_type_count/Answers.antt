@@ -4,19 +4,17 @@ use Rattle.wh_text.specs.Erase.{rtys}
 use Rattle.wh_parts.specs.Faults.{first_fault}
 use Rattle.wh_parts.specs.Tests.{count_of_types}
 use Rattle.wh_parts.specs.declared.fault.SystemFault.TheVariants.{TooMany}
-use Rattle.wh_parts.proofs.RawTypes.{arguments_are, count_past, count_within}
+use Rattle.wh_parts.proofs.RawTypes.{count_past, count_within}
 use Rattle.wh_parts.proofs.types.check_type_count.Goals as goal
 
 pub returns-in-Some : goal.returns-in-Some
 returns-in-Some c =
     let found : slice_get c.as_slice.result.now 32 ≡ Some c.in-Some.kind.now =
     slice_get_read c.as_slice.result.now (length c.as_slice.result.now) 32 c.in-Some.kind.now refl c.in-Some.ensures.lookup.3.0 c.in-Some.ensures.lookup.1 in
-    ap (λ us. first_fault (count_of_types 0 us)) (arguments_are c.args.kinds.now)
-    ∙ ap (λ xs. first_fault (count_of_types 0 (rtys xs))) (sym c.as_slice.ensures)
+    ap (λ xs. first_fault (count_of_types 0 (rtys xs))) (sym c.as_slice.ensures)
     ∙ count_past c.as_slice.result.now 32 0 c.in-Some.kind.now refl found ∙ ap (λ at. Some (TooMany at)) (sym c.place_of_type.ensures)
 
 pub returns-in-None : goal.returns-in-None
 returns-in-None c =
-    ap (λ us. first_fault (count_of_types 0 us)) (arguments_are c.args.kinds.now)
-    ∙ ap (λ xs. first_fault (count_of_types 0 (rtys xs))) (sym c.as_slice.ensures)
+    ap (λ xs. first_fault (count_of_types 0 (rtys xs))) (sym c.as_slice.ensures)
     ∙ count_within c.as_slice.result.now 32 0 refl c.in-None.ensures.lookup.3
