@@ -8,7 +8,7 @@ use Rattle.wh_terms.specs.declared.term.Term.{Term, Meta}
 use Rattle.wh_terms.proofs.TermLemmas.{join, tms_take_next, tm_of_meta}
 use Rattle.wh_text.specs.RawTree.{raw_type, RTys, no_types, more_types, RTm, named, meta as raw_meta, spine, RTms, none, more}
 use Rattle.wh_text.specs.Erase.{rty, rtys, rtm, rtms}
-use Rattle.wh_text.proofs.RawLemmas.{rtm_of_meta}
+use Rattle.wh_text.proofs.RawLemmas.{rtm_of_meta, rty_made}
 use Rattle.wh_text.specs.declared.raw.RawBinder.{RawBinder}
 use Rattle.wh_text.specs.declared.raw.RawTerm.{RawTerm, Named, Numbered, Free, Meta as RawMeta, Lam}
 use Rattle.wh_text.specs.declared.raw.RawType.{RawType, roll-RawType}
@@ -78,9 +78,8 @@ type_whole sorts (a ⇒ b) = refl
 pub made_type : (sorts : List (List ℕ)) (a : Ty) (args : List RawType) (empty : List RawType) (k : ℕ) (there copy : List ℕ) → empty ≡ [] → rtys args ≡ join_types (rtys empty) (raw_arguments_of sorts a)
     → k ≡ result_sort a → result_sort a < length sorts → copy ≡ get_or sorts k there
     → rty (roll-RawType (record { args = args; sort = copy; at = 0 })) ≡ raw_type_of sorts a
-unfolding roll-RawType denote.Hole.Carrier.roll
 made_type sorts a args empty k there copy none_first args_are k_is within same =
-    ap₂ (λ as_well s. raw_type as_well s 0) (args_are ∙ ap (λ xs. join_types (rtys xs) (raw_arguments_of sorts a)) none_first)
+    rty_made args copy 0 ∙ ap₂ (λ as_well s. raw_type as_well s 0) (args_are ∙ ap (λ xs. join_types (rtys xs) (raw_arguments_of sorts a)) none_first)
     (same ∙ ap (λ k. get_or sorts k there) k_is ∙ get_or_default sorts (result_sort a) there [] within) ∙ sym (type_whole sorts a)
 
 -- a tree that is no spine, with one argument more

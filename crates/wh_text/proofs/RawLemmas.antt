@@ -3,7 +3,7 @@ use Rattle.std.proofs.Common.{◌≡◌, ℕ, List, refl, sym, ap, ◌∙◌}
 use mathlib.Core.Former.{Count}
 use Rattle.wh_text.specs.RawTree.{raw_type, RTys, more_types, meta, spine, RTms, more}
 use Rattle.wh_text.specs.Erase.{rty, rtys, type_row, rtm, rtms, term_row}
-use Rattle.wh_text.specs.declared.raw.RawType.{RawType, RawType', RawType-F, out-RawType, outs-RawType', Row_of-RawType, end_of-RawType, more_of-RawType, items-the_row-RawType, items_shown-the_row-RawType-0}
+use Rattle.wh_text.specs.declared.raw.RawType.{RawType, RawType', out-RawType, outs-RawType', Row_of-RawType, end_of-RawType, more_of-RawType, items-the_row-RawType, items_shown-the_row-RawType-0, items_hidden-the_row-RawType-0, roll-RawType}
 use Rattle.wh_text.specs.declared.raw.RawTerm.{RawTerm, Meta, Meta', Spine, Spine', Row_of-RawTerm, end_of-RawTerm, more_of-RawTerm, items-the_row-RawTerm, items_hidden-the_row-RawTerm-0}
 
 term_row-items : (n : _) (r : Row_of-RawTerm n) → term_row r ≡ rtms (items-the_row-RawTerm n r)
@@ -33,3 +33,13 @@ type_row-items n (more_of-RawType a rest) = ap (λ (more : RTys). more_types (rt
 pub rty_parts : (a : RawType) → rty a ≡ raw_type (rtys (out-RawType a).args) (out-RawType a).sort (out-RawType a).at
 rty_parts (RawType' shape all sort at) =
     rw (outs-RawType' shape all sort at) (ap (λ (ts : RTys). raw_type ts sort at) (type_row-items _ all ∙ ap rtys (sym (items_shown-the_row-RawType-0 shape all))))
+
+abbrev type_row_of : RawType → (n : Count) × Row_of-RawType n
+type_row_of (RawType' _ all _ _) = (_, all)
+
+-- the tree of a type that is made of its parts
+pub rty_made : (args : List RawType) (sort : List ℕ) (at : ℕ) → rty (roll-RawType (record { args = args; sort = sort; at = at })) ≡ raw_type (rtys args) sort at
+unfolding roll-RawType denote.Hole.Carrier.roll
+rty_made args sort at =
+    ap (λ (ts : RTys). raw_type ts sort at)
+      (type_row-items _ (type_row_of (roll-RawType (record { args = args; sort = sort; at = at }))).1 ∙ ap rtys (items_hidden-the_row-RawType-0 args))
