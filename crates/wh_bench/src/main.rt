@@ -10,9 +10,8 @@ use std::process::ExitCode;
 use std::rt::{Env, Files};
 use wh_graph::components;
 use wh_io::{FileShelf, read_whole};
-use wh_pairs::pairs;
+use wh_pairs::{PairList, PairSet, pairs};
 use wh_read::read_system;
-use wh_system::{PairList, PairSet};
 
 /// How many bytes a system file may have.
 const SYSTEM_LIMIT: u64 = 1_048_576;

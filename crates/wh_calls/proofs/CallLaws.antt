@@ -23,7 +23,7 @@ use Rattle.wh_laws.proofs.Spines.{spine-append}
 use Rattle.wh_laws.proofs.SystemSteps.{instances_root}
 use Rattle.wh_laws.proofs.SystemComputable.{computable-typed}
 use Rattle.wh_system.specs.Needs.{need_of}
-use Rattle.wh_system.specs.PairData.{PairData}
+use Rattle.wh_pairs.specs.PairData.{PairData}
 use Rattle.wh_system.specs.Systems.{SystemData}
 use Rattle.wh_system.specs.WellMade.{IsWellMadeSystem}
 use Rattle.wh_access.proofs.FindLemmas.{sorts_known}

@@ -20,7 +20,7 @@ use Rattle.wh_terms.proofs.ValueForm.{value, values, value_agree, FitsBodies, Al
 use Rattle.wh_terms.proofs.ValueLaws.{has_value}
 use Rattle.wh_terms.proofs.ValueTyping.{TypedBodiesIn, typed-value}
 use Rattle.wh_system.specs.Needs.{need_of}
-use Rattle.wh_system.specs.PairData.{Within}
+use Rattle.wh_pairs.specs.PairData.{Within}
 use Rattle.wh_pairs.specs.Calls.{Call, calls, calls_within, call_where_defined, calls_of}
 use Rattle.wh_pairs.specs.Candidates.{nullary, freed, numbered_from}
 use Rattle.wh_pairs.proofs.MemberLemmas.{none_there, head_or_behind}

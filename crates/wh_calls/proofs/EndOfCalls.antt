@@ -19,7 +19,7 @@ use Rattle.wh_laws.proofs.EndsLaws.{ends-next, ends-simulated}
 use Rattle.wh_laws.proofs.BetaAlone.{symbols-bounded}
 use Rattle.wh_laws.proofs.SameSteps.{raw-computable}
 use Rattle.wh_laws.proofs.SystemSteps.{IsShutTerm, shut-step}
-use Rattle.wh_system.specs.PairData.{PairData}
+use Rattle.wh_pairs.specs.PairData.{PairData}
 use Rattle.wh_system.specs.Systems.{SystemData}
 use Rattle.wh_system.specs.WellMade.{IsWellMadeSystem}
 use Rattle.wh_access.specs.Passing.{IsPassing}

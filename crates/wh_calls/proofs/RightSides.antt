@@ -25,7 +25,7 @@ use Rattle.wh_laws.proofs.SystemComputable.{computable-typed, known_type, comput
 use Rattle.wh_laws.proofs.SameSteps.{computable-raw, raw-computable}
 use Rattle.wh_laws.proofs.SystemSteps.{instances_root}
 use Rattle.wh_system.specs.Needs.{need_of}
-use Rattle.wh_system.specs.PairData.{Within}
+use Rattle.wh_pairs.specs.PairData.{Within}
 use Rattle.wh_system.specs.Systems.{SystemData}
 use Rattle.wh_system.specs.WellMade.{IsWellMadeSystem}
 use Rattle.wh_access.proofs.FindLemmas.{sorts_known}

@@ -14,7 +14,7 @@ use Rattle.wh_terms.specs.Rules.{RewriteRule, IsWellMade}
 use Rattle.wh_terms.proofs.TypingLaws.{some_one}
 use Rattle.wh_terms.proofs.ValueForm.{value, FitsArities, AllFitArities, FitsBodies}
 use Rattle.wh_terms.proofs.ValueLaws.{values_are}
-use Rattle.wh_system.specs.PairData.{PairData}
+use Rattle.wh_pairs.specs.PairData.{PairData}
 use Rattle.wh_system.specs.Systems.{SystemData}
 use Rattle.wh_system.specs.WellMade.{IsWellMadeSystem}
 use Rattle.wh_pairs.specs.Spines.{spine_arguments, symbol_of}

@@ -21,7 +21,7 @@ use Rattle.wh_laws.proofs.Spines.{spine_one, spine-append, symbol_step}
 use Rattle.wh_laws.proofs.SystemSteps.{instance_headed, instances_root}
 use Rattle.wh_laws.proofs.SystemComputable.{known_type}
 use Rattle.wh_system.specs.Needs.{need_of}
-use Rattle.wh_system.specs.PairData.{PairData}
+use Rattle.wh_pairs.specs.PairData.{PairData}
 use Rattle.wh_system.specs.Systems.{SystemData}
 use Rattle.wh_system.specs.WellMade.{IsWellMadeSystem}
 use Rattle.wh_access.specs.Passing.{IsPassing}

@@ -9,7 +9,7 @@ use Rattle.wh_terms.specs.Value.{Body, Values}
 use Rattle.wh_terms.specs.TypedBodies.{FitsDeclared}
 use Rattle.wh_terms.specs.Rules.{RewriteRule}
 use Rattle.wh_system.specs.Needs.{need_of}
-use Rattle.wh_system.specs.PairData.{PairData}
+use Rattle.wh_pairs.specs.PairData.{PairData}
 use Rattle.wh_laws.specs.Ends.{Ends, StepsIn}
 
 -- a marked symbol with its arguments (Kop 2012; Fuhs and Kop 2019)

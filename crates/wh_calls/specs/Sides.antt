@@ -8,7 +8,7 @@ use Rattle.wh_terms.specs.Typing.{Symbols, Declared, Typed, AllTyped}
 use Rattle.wh_terms.specs.Value.{Body, Values}
 use Rattle.wh_terms.specs.TypedBodies.{TypedBodies}
 use Rattle.wh_terms.specs.Rules.{RewriteRule}
-use Rattle.wh_system.specs.PairData.{PairData}
+use Rattle.wh_pairs.specs.PairData.{PairData}
 use Rattle.wh_laws.specs.Computable.{Computable, ComputableList}
 use Rattle.wh_pairs.specs.Spines.{spine_arguments, symbol_of}
 use Rattle.wh_pairs.specs.Calls.{Call}

@@ -8,7 +8,7 @@ ghost use Rattle.wh_step.specs.Step.{Step};
 ghost use Rattle.wh_step.specs.Reduction.{Bounded};
 ghost use Rattle.wh_laws.specs.Ranks.{rank_of};
 ghost use Rattle.wh_laws.specs.Computable.{Computable};
-ghost use Rattle.wh_system.specs.PairData.{PairData};
+ghost use Rattle.wh_pairs.specs.PairData.{PairData};
 ghost use Rattle.wh_system.specs.Systems.{SystemData};
 ghost use Rattle.wh_system.specs.WellMade.{IsWellMadeSystem};
 ghost use Rattle.wh_access.specs.Passing.{IsPassing};

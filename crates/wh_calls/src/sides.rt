@@ -7,7 +7,7 @@ ghost use Rattle.wh_terms.specs.Typing.{Typed};
 ghost use Rattle.wh_terms.specs.Value.{Body, Value};
 ghost use Rattle.wh_terms.specs.Rules.{RewriteRule};
 ghost use Rattle.wh_step.specs.Step.{Step};
-ghost use Rattle.wh_system.specs.PairData.{PairData};
+ghost use Rattle.wh_pairs.specs.PairData.{PairData};
 ghost use Rattle.wh_system.specs.Systems.{SystemData};
 ghost use Rattle.wh_system.specs.WellMade.{IsWellMadeSystem};
 ghost use Rattle.wh_laws.specs.Computable.{Computable};

@@ -4,8 +4,7 @@
 use crate::reading::system_of;
 use std::alloc::{AllocError, Global};
 use std::test::Fail;
-use wh_pairs::{pairs, subsumed};
-use wh_system::PairList;
+use wh_pairs::{PairList, pairs, subsumed};
 
 /// A call with no condition.
 const FREE: &[u8] =

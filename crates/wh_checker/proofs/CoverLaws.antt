@@ -1,7 +1,7 @@
 -- Of the things that can be wrong with the moves for a line one at most is the first, but that values may exceed both limits; and none
 -- is where nothing is wrong.
 use Rattle.std.proofs.Common.{◌≡◌, ℕ, ◌⊎◌, inl, inr, Bool, true, false, List, refl, sym, ap, ◌∙◌, arith}
-use Rattle.wh_system.proofs.ByPlace.{contains_at}
+use Rattle.wh_pairs.proofs.ByPlace.{contains_at}
 use Rattle.wh_hopoly.specs.Polynomials.{Polynomial}
 use Rattle.wh_hopoly.specs.Evaluation.{Run}
 use Rattle.wh_hopoly.specs.Moves.{Transfer, NotOverSpent, Covered, IsCover}

@@ -7,9 +7,9 @@ use Rattle.wh_types.specs.declared.want.Or.TheVariants.{NoMemory, Because}
 use Rattle.wh_terms.specs.Rules.{RewriteRule}
 use Rattle.wh_system.specs.Systems.{SystemData}
 use Rattle.wh_system.specs.WellMade.{AreDistinct}
-use Rattle.wh_system.specs.PairData.{PairData, pair_data}
-use Rattle.wh_system.specs.declared.pairs.Pair.{Pair}
-use Rattle.wh_system.proofs.ByPlace.{some_one, read_map}
+use Rattle.wh_pairs.specs.PairData.{PairData, pair_data}
+use Rattle.wh_pairs.specs.declared.pair.Pair.{Pair}
+use Rattle.wh_pairs.proofs.ByPlace.{some_one, read_map}
 use Rattle.wh_graph.specs.May.{May, Follows}
 use Rattle.wh_graph.specs.Blocks.{AreBlocks}
 use Rattle.wh_subterm.specs.Projections.{Chosen}

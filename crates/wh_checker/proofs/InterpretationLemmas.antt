@@ -5,8 +5,8 @@ use Rattle.wh_types.specs.Ty.{Ty}
 use Rattle.wh_types.specs.Erase.{ty}
 use Rattle.wh_system.specs.Systems.{SystemData}
 use Rattle.wh_system.specs.WellMade.{AreDistinct}
-use Rattle.wh_system.specs.PairData.{PairData}
-use Rattle.wh_system.proofs.ByPlace.{read, remap, some_one}
+use Rattle.wh_pairs.specs.PairData.{PairData}
+use Rattle.wh_pairs.proofs.ByPlace.{read, remap, some_one}
 use Rattle.wh_pairs.proofs.ListLemmas.{map-map}
 use Rattle.wh_subterm.specs.Marked.{AreMarked}
 use Rattle.wh_cert.specs.Interps.{Interp}

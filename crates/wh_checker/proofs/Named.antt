@@ -8,8 +8,8 @@ use Rattle.wh_terms.specs.Sight.{Occurs, OccursIn}
 use Rattle.wh_terms.specs.Rules.{RewriteRule}
 use Rattle.wh_system.specs.Systems.{SystemData}
 use Rattle.wh_system.specs.WellMade.{IsWellMadeSystem}
-use Rattle.wh_system.specs.PairData.{PairData}
-use Rattle.wh_system.proofs.ByPlace.{remap, unmap}
+use Rattle.wh_pairs.specs.PairData.{PairData}
+use Rattle.wh_pairs.proofs.ByPlace.{remap, unmap}
 use Rattle.wh_access.specs.Passing.{IsFirstBreakIn}
 use Rattle.wh_access.proofs.MadeLemmas.{rule_made}
 use Rattle.wh_graph.specs.declared.blocks.BlockFault.TheVariants as blocked

@@ -5,7 +5,7 @@ use Rattle.wh_terms.specs.Typing.{Symbols}
 use Rattle.wh_terms.specs.Rules.{RewriteRule}
 use Rattle.wh_system.specs.Systems.{SystemData}
 use Rattle.wh_system.specs.WellMade.{AreDistinct}
-use Rattle.wh_system.specs.PairData.{PairData}
+use Rattle.wh_pairs.specs.PairData.{PairData}
 use Rattle.wh_graph.specs.May.{Follows}
 use Rattle.wh_graph.specs.Blocks.{IsFirstBlockFault}
 use Rattle.wh_graph.specs.declared.blocks.BlockFault.{BlockFault}

@@ -2,10 +2,10 @@
 use Rattle.std.proofs.Common.{◌≡◌, ℕ, suc, List, [], ◌∷◌, length, All, refl, sym, ap, ◌∙◌}
 use Rattle.std.proofs.lemmas.List.Elements.{All-nil, All-cons, All-contains}
 use Rattle.wh_system.specs.Systems.{SystemData}
-use Rattle.wh_system.specs.PairData.{PairData}
+use Rattle.wh_pairs.specs.PairData.{PairData}
 use Rattle.wh_terms.specs.Rules.{RewriteRule}
 use Rattle.wh_terms.specs.Typing.{Symbols}
-use Rattle.wh_system.proofs.ByPlace.{place_of}
+use Rattle.wh_pairs.proofs.ByPlace.{place_of}
 use Rattle.wh_graph.specs.Components.{IsIn}
 use Rattle.wh_cert.specs.Written as w
 use Rattle.wh_cert.specs.Written.{children}

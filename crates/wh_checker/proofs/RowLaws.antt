@@ -5,8 +5,8 @@ use Rattle.std.proofs.lemmas.List.Elements.{All-contains}
 use Rattle.wh_terms.specs.Tree.{Tm}
 use Rattle.wh_terms.specs.Sight.{Occurs}
 use Rattle.wh_terms.specs.Rules.{RewriteRule}
-use Rattle.wh_system.specs.PairData.{PairData}
-use Rattle.wh_system.proofs.ByPlace.{contains_at, some_one}
+use Rattle.wh_pairs.specs.PairData.{PairData}
+use Rattle.wh_pairs.proofs.ByPlace.{contains_at, some_one}
 use Rattle.wh_access.specs.Passing.{EachUsed, IsFirstWithout}
 use Rattle.wh_graph.specs.Blocks.{IsMisplaced, IsBackEdge, AreBlocks, IsFirstBlockFault}
 use Rattle.wh_graph.specs.declared.blocks.BlockFault.{BlockFault}

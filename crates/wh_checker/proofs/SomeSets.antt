@@ -1,7 +1,7 @@
 -- What is decided and bounded has its set of numbers: so have lists, all pairs, and what is not dropped.
 use Rattle.std.proofs.Common.{◌≡◌, ◌↔◌, ℕ, zero, suc, ◌<◌, ◌⊎◌, inl, inr, List, [], ◌∷◌, ◌++◌, length, Contains, sym, subst, arith}
 use Rattle.std.proofs.lemmas.Bool.{cases_lt}
-use Rattle.wh_system.specs.PairData.{PairData}
+use Rattle.wh_pairs.specs.PairData.{PairData}
 use Rattle.wh_system.proofs.TypedDecided.{Decided, below_decided, both_decided}
 use Rattle.wh_graph.proofs.TimesLemmas.{contains_or_not}
 use Rattle.wh_nodes.specs.Nodes.{IsSetOf, AreSetsOf, no_sets, more_sets, IsKept}

@@ -6,9 +6,9 @@ use Rattle.wh_text.specs.RawTree.{RTm}
 use Rattle.wh_laws.specs.Ranks.{rank_of}
 use Rattle.wh_system.specs.Systems.{SystemData}
 use Rattle.wh_system.specs.WellMade.{AreDistinct, IsWellMadeSystem}
-use Rattle.wh_system.specs.PairData.{PairData}
+use Rattle.wh_pairs.specs.PairData.{PairData}
 use Rattle.wh_system.proofs.TypedDecided.{Decided}
-use Rattle.wh_system.proofs.ByPlace.{contains_at}
+use Rattle.wh_pairs.proofs.ByPlace.{contains_at}
 use Rattle.wh_access.specs.Passing.{Passing, IsFirstBreak}
 use Rattle.wh_graph.specs.May.{Follows}
 use Rattle.wh_subterm.specs.Projections.{Chosen}

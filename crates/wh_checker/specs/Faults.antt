@@ -1,7 +1,7 @@
 -- The first condition of a valid certificate that is false.
 use Rattle.std.specs.Prelude.{ℕ, suc, ◌≡◌, ◌≢◌, List, [], ◌∷◌, ◌++◌, length, map}
 use Rattle.wh_system.specs.Systems.{SystemData}
-use Rattle.wh_system.specs.PairData.{PairData}
+use Rattle.wh_pairs.specs.PairData.{PairData}
 use Rattle.wh_access.specs.Passing.{IsPassing, IsFirstBreakIn}
 use Rattle.wh_graph.specs.May.{Follows}
 use Rattle.wh_graph.specs.Blocks.{IsFirstBlockFault}

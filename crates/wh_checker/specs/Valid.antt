@@ -1,7 +1,7 @@
 -- When a certificate is valid for a system and its dependency pairs.
 use Rattle.std.specs.Prelude.{ℕ, ◌≡◌, ◌<◌, List, [], ◌∷◌, length}
 use Rattle.wh_system.specs.Systems.{SystemData}
-use Rattle.wh_system.specs.PairData.{PairData}
+use Rattle.wh_pairs.specs.PairData.{PairData}
 use Rattle.wh_access.specs.Passing.{IsPassing}
 use Rattle.wh_cert.specs.Written as w
 use Rattle.wh_cert.specs.Written.{Cert, yes, no}

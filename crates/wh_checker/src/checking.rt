@@ -26,7 +26,8 @@ use wh_cert::{Certificate, NoCertificate, YesCertificate};
 use wh_meaning::pairs_have_marked_sides;
 use wh_no::{AcceptedNo, check_no};
 use wh_nodes::proved_systems_are_bounded;
-use wh_system::{PairList, System};
+use wh_pairs::PairList;
+use wh_system::System;
 use wh_types::{Or, Ranks};
 
 /// An accepted certificate.

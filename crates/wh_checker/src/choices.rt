@@ -1,7 +1,7 @@
 //! The choices that the lines `arg` of a node say.
 
 ghost use Rattle.std.specs.Prelude.{◌≡◌, ◌≤◌, ◌<◌, ◌^◌, ◌↔◌, ℕ, List, IfOk, IsTrue, MatchOption, Some, length, map, slice_get};
-ghost use Rattle.wh_system.specs.PairData.{IsIncreasing};
+ghost use Rattle.wh_pairs.specs.PairData.{IsIncreasing};
 ghost use Rattle.wh_system.specs.SystemView.{system_data};
 ghost use Rattle.wh_subterm.specs.Projections.{Chosen};
 ghost use Rattle.wh_subterm.specs.SubtermRows.{chosen, chosen_symbols};

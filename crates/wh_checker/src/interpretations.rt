@@ -18,7 +18,8 @@ use wh_cert::Interp;
 use wh_hopoly::{Symbol, copy};
 use wh_polycheck::MarkedSymbol;
 use wh_subterm::marked_symbols;
-use wh_system::{PairList, PairSet, System};
+use wh_pairs::{PairList, PairSet};
+use wh_system::System;
 use wh_text::Name;
 use wh_types::SimpleType;
 

@@ -26,7 +26,8 @@ use wh_graph::{check_blocks, may_follow};
 use wh_hopoly::Symbol;
 use wh_polycheck::MarkedSymbol;
 use wh_subterm::{SubtermFault, check_projection};
-use wh_system::{Pair, PairList, PairSet, System};
+use wh_pairs::{Pair, PairList, PairSet};
+use wh_system::System;
 use wh_types::{Numbers, Or};
 
 /// Whether the conditions of the node hold of the set, and no value exceeds a limit. Then what it leaves to be proved comes on top of the stack, the

@@ -5,7 +5,7 @@ ghost use Rattle.std.specs.List.Sorted.{IsNonDecreasing};
 ghost use Rattle.wh_nodes.specs.Nodes.{IsKept, IsSetOf};
 
 use std::alloc::{AllocError, Global};
-use wh_system::PairSet;
+use wh_pairs::PairSet;
 
 /// The set of the numbers below `count`.
 pub fn numbers_below(alloc: Global, count: u32) -> Result<PairSet, AllocError>

@@ -16,7 +16,8 @@ use crate::node::check_node;
 use crate::rejected::CheckFault;
 use std::alloc::Global;
 use wh_cert::Node;
-use wh_system::{PairList, PairSet, System};
+use wh_pairs::{PairList, PairSet};
+use wh_system::System;
 use wh_types::Or;
 
 /// Whether the nodes, in preorder, prove the set. The sets that are still to be proved are kept on a stack, the next on top.

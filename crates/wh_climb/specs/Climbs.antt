@@ -1,6 +1,6 @@
 -- What a climb ends with.
 use Rattle.std.specs.Prelude.{map}
-use Rattle.wh_system.specs.PairData.{pair_data}
+use Rattle.wh_pairs.specs.PairData.{pair_data}
 use Rattle.wh_system.specs.SystemView.{system_data}
 use Rattle.wh_cert.specs.Said.{said_node}
 use Rattle.wh_guesses.specs.Found.{IsInterpretation}

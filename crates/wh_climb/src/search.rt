@@ -1,7 +1,7 @@
 //! The search for interpretations of a set, by climbing.
 
 ghost use Rattle.std.specs.Prelude.{◌<◌, ◌≤◌, IfOk, length, map};
-ghost use Rattle.wh_system.specs.PairData.{pair_data};
+ghost use Rattle.wh_pairs.specs.PairData.{pair_data};
 ghost use Rattle.wh_system.specs.SystemView.{system_data};
 ghost use Rattle.wh_subterm.specs.Marked.{AreMarked};
 ghost use Rattle.wh_guesses.specs.Tasks.{IsTaskOf};

@@ -6,8 +6,8 @@ use Rattle.wh_types.specs.declared.want.Or.{Or}
 use Rattle.wh_types.specs.declared.want.Or.TheVariants.{NoMemory, Because}
 use Rattle.wh_terms.specs.Typing.{Symbols}
 use Rattle.wh_terms.specs.Rules.{RewriteRule}
-use Rattle.wh_system.specs.PairData.{PairData}
-use Rattle.wh_system.proofs.ByPlace.{some_one, contains_at, place_of, unmap}
+use Rattle.wh_pairs.specs.PairData.{PairData}
+use Rattle.wh_pairs.proofs.ByPlace.{some_one, contains_at, place_of, unmap}
 use Rattle.wh_subterm.specs.Marked.{AreMarked}
 use Rattle.wh_subterm.proofs.DropLemmas.{contains_or_not, drops_some, drops_once, drops_within}
 use Rattle.wh_hopoly.specs.Evaluation.{Interpretation}

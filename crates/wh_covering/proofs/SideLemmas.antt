@@ -4,7 +4,7 @@ use Rattle.std.proofs.lemmas.List.Elements.{Contains-append_right}
 use Rattle.wh_types.specs.Ty.{Ty, arguments}
 use Rattle.wh_terms.specs.Typing.{Symbols}
 use Rattle.wh_terms.specs.Rules.{RewriteRule}
-use Rattle.wh_system.specs.PairData.{PairData}
+use Rattle.wh_pairs.specs.PairData.{PairData}
 use Rattle.wh_system.specs.CanonicalView.{side_of}
 use Rattle.wh_hopoly.specs.Polynomials.{Polynomial, zero_poly, plus, Arguments}
 use Rattle.wh_hopoly.specs.Arithmetic.{sum_poly, constant}

@@ -2,7 +2,7 @@
 use Rattle.std.proofs.Common.{◌≡◌, ◌<◌, ◌≤◌, ◌+◌, inl, inr, ℕ, zero, suc, List, [], ◌∷◌, length, map, Some, slice_get, refl, ap, sym, subst, arith}
 use Rattle.std.proofs.lemmas.Option.{slice_get_within}
 use Rattle.wh_types.specs.Erase.{ty}
-use Rattle.wh_system.proofs.ByPlace.{Before, same_or_below}
+use Rattle.wh_pairs.proofs.ByPlace.{Before, same_or_below}
 use Rattle.wh_hopoly.specs.Erase.{interpretations}
 use Rattle.wh_hopoly.specs.declared.expression.Symbol.{Symbol}
 use Rattle.wh_polycheck.specs.SideResults.{marks_of}

@@ -5,7 +5,7 @@ ghost use Rattle.wh_types.specs.Erase.{ty};
 ghost use Rattle.wh_types.specs.Outcome.{IfBecause, MatchOr};
 ghost use Rattle.wh_system.specs.SystemView.{system_data};
 ghost use Rattle.wh_subterm.specs.Marked.{AreMarked};
-ghost use Rattle.wh_system.specs.PairData.{IsIncreasing, PairData, pair_data};
+ghost use Rattle.wh_pairs.specs.PairData.{IsIncreasing, PairData, pair_data};
 ghost use Rattle.wh_hopoly.specs.Erase.{interpretations, transfers};
 ghost use Rattle.wh_polycheck.specs.Marks.{HasMarkedSides};
 ghost use Rattle.wh_polycheck.specs.SideResults.{marks_of};
@@ -22,7 +22,8 @@ use std::alloc::Global;
 use wh_hopoly::{Covers, Moves, Symbol};
 use wh_polycheck::{MarkedSymbol, interpretations_in_order_interpret};
 use wh_subterm::is_bad_drop;
-use wh_system::{Pair, PairList, PairSet, System};
+use wh_pairs::{Pair, PairList, PairSet};
+use wh_system::System;
 use wh_types::Or;
 
 /// Whether interpretations and moves let the pairs in `drop` go from the set (the reduction pair processor of Kop 2012 with the

@@ -4,7 +4,7 @@ ghost use Rattle.std.specs.Prelude.{◌≡◌, ◌<◌, Some, false, true, lengt
 ghost use Rattle.wh_types.specs.Erase.{ty};
 ghost use Rattle.wh_types.specs.Outcome.{MatchOr};
 ghost use Rattle.wh_terms.specs.Rules.{RewriteRule};
-ghost use Rattle.wh_system.specs.PairData.{pair_data};
+ghost use Rattle.wh_pairs.specs.PairData.{pair_data};
 ghost use Rattle.wh_system.specs.SystemView.{system_data};
 ghost use Rattle.wh_hopoly.specs.Polynomials.{Polynomial};
 ghost use Rattle.wh_hopoly.specs.Erase.{interpretations, poly, transfers};
@@ -19,7 +19,8 @@ use crate::fault::LineFault;
 use std::alloc::Global;
 use wh_hopoly::{Excess, Moves, Poly, PolyFault, Symbol};
 use wh_polycheck::{MarkedSymbol, check_strict, check_weak, side_of_pair, side_of_rule};
-use wh_system::{Pair, System};
+use wh_pairs::Pair;
+use wh_system::System;
 use wh_types::Or;
 
 /// Whether the moves show that the left side of the rule is at least the right one.

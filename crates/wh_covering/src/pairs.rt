@@ -3,7 +3,7 @@
 ghost use Rattle.std.specs.Prelude.{ℕ, ◌≡◌, ◌<◌, All, Contains, OnOk, Some, length, map, slice_get};
 ghost use Rattle.std.specs.List.Sorted.{IsNonDecreasing};
 ghost use Rattle.wh_types.specs.Outcome.{IfBecause};
-ghost use Rattle.wh_system.specs.PairData.{PairData, pair_data};
+ghost use Rattle.wh_pairs.specs.PairData.{PairData, pair_data};
 ghost use Rattle.wh_system.specs.SystemView.{system_data};
 ghost use Rattle.wh_hopoly.specs.Erase.{interpretations, transfers};
 ghost use Rattle.wh_hopoly.specs.Evaluation.{NormalInterpretations};
@@ -19,7 +19,8 @@ use crate::lines::check_pair;
 use std::alloc::Global;
 use wh_hopoly::{Moves, Symbol};
 use wh_polycheck::MarkedSymbol;
-use wh_system::{Pair, System};
+use wh_pairs::Pair;
+use wh_system::System;
 use wh_types::Or;
 
 /// Whether each pair of the set is covered by its line, and strictly where its number is one of `drop`, in which no number falls;

@@ -3,7 +3,7 @@ use Rattle.std.proofs.Common.{◌≡◌, ℕ, zero, suc, ◌+◌, ◌<◌, ◌�
 use Rattle.std.proofs.lemmas.Bool.{cases_lt}
 use Rattle.std.proofs.lemmas.Option.{slice_get_within}
 use Rattle.wh_system.proofs.TypedDecided.{Decided, below_decided, decided_by, both_decided}
-use Rattle.wh_system.proofs.ByPlace.{some_one, contains_at, place_of}
+use Rattle.wh_pairs.proofs.ByPlace.{some_one, contains_at, place_of}
 use Rattle.wh_graph.specs.Components.{StandsAt, IsIn}
 use Rattle.wh_graph.specs.Blocks.{AreFew, IsListed, IsRepeated, IsMisplaced, IsBackEdge, IsFirstBackEdge, AreBlocks, IsFirstBlockFault}
 use Rattle.wh_graph.specs.declared.blocks.BlockFault.{BlockFault}

@@ -7,7 +7,7 @@ use Rattle.wh_terms.specs.Sight.{Occurs, OccursIn}
 use Rattle.wh_terms.specs.Rules.{RewriteRule}
 use Rattle.wh_laws.specs.Ranks.{RanksBelow, IsAccessibleIn, IsAccessible}
 use Rattle.wh_system.proofs.TypedDecided.{Decided, below_decided, decided_by, both_decided}
-use Rattle.wh_system.proofs.ByPlace.{some_one}
+use Rattle.wh_pairs.proofs.ByPlace.{some_one}
 use Rattle.wh_access.specs.Readings.{Place, reading_of}
 use Rattle.wh_access.specs.Passing.{AllAccessible, Passes, EachUsed, IsFirstWithout, Passing, IsFirstBreak}
 use Rattle.wh_decisions.proofs.Searches.{not_decided, not_refuted, equal_decided, at_most_decided, all_decided, first_place, least_of}

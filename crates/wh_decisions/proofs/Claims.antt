@@ -8,7 +8,7 @@ use Rattle.wh_terms.specs.declared.path.Step as taken
 use Rattle.wh_text.specs.RawTree.{RTm}
 use Rattle.wh_system.specs.Systems.{SystemData}
 use Rattle.wh_system.proofs.TypedDecided.{Decided, decided_by}
-use Rattle.wh_system.proofs.ByPlace.{some_one}
+use Rattle.wh_pairs.proofs.ByPlace.{some_one}
 use Rattle.wh_cert.specs.Written as written
 use Rattle.wh_cert.specs.Written.{Cert, no}
 use Rattle.wh_no.specs.declared.fault.NoFault.{NoFault}

@@ -3,9 +3,9 @@ use Rattle.std.proofs.Common.{◌≡◌, ◌≢◌, ℕ, zero, suc, ◌⊎◌, i
 use Rattle.wh_terms.specs.Tree.{Tm, lam, app}
 use Rattle.wh_terms.specs.Rules.{RewriteRule}
 use Rattle.wh_system.specs.Needs.{need_of}
-use Rattle.wh_system.specs.PairData.{PairData}
+use Rattle.wh_pairs.specs.PairData.{PairData}
 use Rattle.wh_system.proofs.TypedDecided.{Decided, below_decided, decided_by, both_decided}
-use Rattle.wh_system.proofs.ByPlace.{some_one}
+use Rattle.wh_pairs.proofs.ByPlace.{some_one}
 use Rattle.wh_graph.specs.Rigid.{Root, abstraction, variable, symbol, root, TooFew, IsFixed}
 use Rattle.wh_graph.specs.Clash.{Clash, roots, parts, PartsClash}
 use Rattle.wh_graph.specs.May.{SomeClash, May, Follows}

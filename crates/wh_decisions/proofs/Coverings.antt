@@ -5,9 +5,9 @@ use Rattle.std.proofs.lemmas.Option.{slice_get_within}
 use Rattle.wh_types.specs.Ty.{arguments}
 use Rattle.wh_terms.specs.Typing.{Symbols}
 use Rattle.wh_terms.specs.Rules.{RewriteRule}
-use Rattle.wh_system.specs.PairData.{PairData}
+use Rattle.wh_pairs.specs.PairData.{PairData}
 use Rattle.wh_system.proofs.TypedDecided.{Decided}
-use Rattle.wh_system.proofs.ByPlace.{contains_at, some_one}
+use Rattle.wh_pairs.proofs.ByPlace.{contains_at, some_one}
 use Rattle.wh_graph.proofs.TimesLemmas.{contains_or_not}
 use Rattle.wh_subterm.specs.Marked.{AreMarked}
 use Rattle.wh_subterm.specs.SubtermRows.{IsBadDrop}

@@ -8,7 +8,7 @@ use Rattle.wh_parts.specs.Naming.{type_meant}
 use Rattle.wh_system.specs.Systems.{SystemData}
 use Rattle.wh_system.specs.Resolve.{Means}
 use Rattle.wh_system.proofs.TypedDecided.{Decided, below_decided, decided_by, both_decided, sorts_decided}
-use Rattle.wh_system.proofs.ByPlace.{some_one}
+use Rattle.wh_pairs.proofs.ByPlace.{some_one}
 use Rattle.wh_cert.specs.Written as written
 use Rattle.wh_no.specs.Claim.{Put}
 use Rattle.wh_no.specs.Valid.{IsPutOver}

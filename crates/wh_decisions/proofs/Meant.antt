@@ -10,7 +10,7 @@ use Rattle.wh_parts.specs.Naming.{meant}
 use Rattle.wh_system.specs.Systems.{SystemData}
 use Rattle.wh_system.specs.Resolve.{term_scope, Means}
 use Rattle.wh_system.proofs.TypedDecided.{Decided, HasType, decided_by, both_decided, same_type_decided, typed_decided}
-use Rattle.wh_system.proofs.ByPlace.{some_one}
+use Rattle.wh_pairs.proofs.ByPlace.{some_one}
 use Rattle.wh_no.specs.Faults.{IsTermFor}
 use Rattle.wh_decisions.proofs.Searches.{SomeOrNone, at_most_decided}
 

@@ -5,9 +5,9 @@ use Rattle.std.proofs.lemmas.List.Elements.{All-contains}
 use Rattle.wh_terms.specs.Tree.{Tm, bound}
 use Rattle.wh_terms.specs.Rules.{RewriteRule}
 use Rattle.wh_system.specs.Needs.{need_of}
-use Rattle.wh_system.specs.PairData.{PairData, IsIncreasing}
+use Rattle.wh_pairs.specs.PairData.{PairData, IsIncreasing}
 use Rattle.wh_system.proofs.TypedDecided.{Decided, below_decided, decided_by, both_decided}
-use Rattle.wh_system.proofs.ByPlace.{some_one, contains_at}
+use Rattle.wh_pairs.proofs.ByPlace.{some_one, contains_at}
 use Rattle.wh_graph.proofs.TimesLemmas.{contains_or_not}
 use Rattle.wh_subterm.specs.Marked.{HeadsASide, Heads, IsMarked, AreMarked}
 use Rattle.wh_subterm.specs.Parts.{Part}

@@ -4,7 +4,7 @@ use Rattle.std.proofs.lemmas.Bool.{cases_eq, cases_lt}
 use Rattle.std.proofs.lemmas.Option.{slice_get-get_or}
 use Rattle.std.proofs.lemmas.List.Elements.{All-contains}
 use Rattle.wh_system.proofs.TypedDecided.{Decided, below_decided, decided_by, both_decided}
-use Rattle.wh_system.proofs.ByPlace.{some_one, contains_at}
+use Rattle.wh_pairs.proofs.ByPlace.{some_one, contains_at}
 use Rattle.wh_pairs.proofs.MemberLemmas.{none_there, head_or_behind}
 
 pub not_decided : {A : Type 0} → Decided A → Decided (A → ⊥)

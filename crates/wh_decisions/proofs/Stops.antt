@@ -19,7 +19,7 @@ use Rattle.wh_step.proofs.RootLaws.{rule_made}
 use Rattle.wh_step.proofs.PlaceLemmas.{step_there, no_step_nowhere, no_step_there}
 use Rattle.wh_step.proofs.ReplayLemmas.{step_shut, step_term}
 use Rattle.wh_system.proofs.TypedDecided.{Decided}
-use Rattle.wh_system.proofs.ByPlace.{some_one}
+use Rattle.wh_pairs.proofs.ByPlace.{some_one}
 use Rattle.wh_decisions.proofs.Searches.{SomeOrNone}
 use Rattle.wh_decisions.proofs.Parts.{tree_decided}
 use Rattle.wh_decisions.proofs.Meant.{fits_decided}

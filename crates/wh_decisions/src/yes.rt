@@ -3,7 +3,7 @@
 ghost use Rattle.std.specs.Prelude.{ℕ, ◌≡◌, ◌⊎◌, List, map};
 ghost use Rattle.wh_terms.specs.Rules.{RewriteRule};
 ghost use Rattle.wh_terms.specs.Typing.{Symbols};
-ghost use Rattle.wh_system.specs.PairData.{PairData};
+ghost use Rattle.wh_pairs.specs.PairData.{PairData};
 ghost use Rattle.wh_access.specs.Passing.{IsFirstBreak, Passing};
 ghost use Rattle.wh_graph.specs.May.{Follows, May};
 ghost use Rattle.wh_graph.specs.Blocks.{AreBlocks, IsFirstBlockFault};

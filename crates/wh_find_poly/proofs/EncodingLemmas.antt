@@ -8,9 +8,9 @@ use Rattle.std.proofs.lemmas.List.Elements.{All-contains, Contains-append_cases,
 use Rattle.wh_types.specs.Ty.{Ty, arguments}
 use Rattle.wh_terms.specs.Typing.{Symbols}
 use Rattle.wh_terms.specs.Rules.{RewriteRule}
-use Rattle.wh_system.specs.PairData.{PairData, pair_data}
+use Rattle.wh_pairs.specs.PairData.{PairData, pair_data}
 use Rattle.wh_system.specs.SystemView.{system_data}
-use Rattle.wh_system.proofs.ByPlace.{contains_at, place_of}
+use Rattle.wh_pairs.proofs.ByPlace.{contains_at, place_of}
 use Rattle.wh_polycheck.specs.Marks.{marked_types}
 use Rattle.wh_covering.proofs.Walks.{some_at}
 use Rattle.wh_guesses.specs.Coefficients.{scopes_of}

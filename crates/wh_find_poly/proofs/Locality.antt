@@ -7,8 +7,8 @@ use Rattle.wh_terms.specs.Tree.{Tm, bound, free, fun, meta, lam, app, Tms, none,
 use Rattle.wh_terms.specs.Typing.{Symbols, Declared, Typed, typed_fun, typed_meta, typed_lam, typed_app, AllTyped, typed_more}
 use Rattle.wh_terms.specs.Rules.{RewriteRule}
 use Rattle.wh_system.specs.CanonicalView.{side_of}
-use Rattle.wh_system.specs.PairData.{PairData}
-use Rattle.wh_system.proofs.ByPlace.{contains_at, place_of as place_in_list, unmap, remap}
+use Rattle.wh_pairs.specs.PairData.{PairData}
+use Rattle.wh_pairs.proofs.ByPlace.{contains_at, place_of as place_in_list, unmap, remap}
 use Rattle.wh_subterm.specs.Marked.{AreMarked, HeadsASide}
 use Rattle.wh_hopoly.specs.Arithmetic.{renumber}
 use Rattle.wh_hopoly.specs.Evaluation.{one, next, Expression, var, symbol, lambda, apply, Interpretation, interpretation_at, type_of, codomain, apply_one, evaluate}

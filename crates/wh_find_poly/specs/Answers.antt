@@ -1,7 +1,7 @@
 -- What the search for interpretations ends with.
 use Rattle.std.specs.Prelude.{ℕ, ◌≡◌, List, length}
 use Rattle.wh_system.specs.Systems.{SystemData}
-use Rattle.wh_system.specs.PairData.{PairData}
+use Rattle.wh_pairs.specs.PairData.{PairData}
 use Rattle.wh_subterm.specs.Marked.{AreMarked}
 use Rattle.wh_cert.specs.declared.certificate.Node.{Node}
 use Rattle.wh_cert.specs.Said.{said_node}

@@ -3,7 +3,7 @@
 use Rattle.std.specs.Prelude.{ℕ, suc, ◌<◌, ◌≤◌, ◌≡◌, ◌⊎◌, ◌↔◌, Bool, false, List, [], length, map, take, get_or}
 use Rattle.wh_terms.specs.Typing.{Symbols}
 use Rattle.wh_terms.specs.Rules.{RewriteRule}
-use Rattle.wh_system.specs.PairData.{PairData}
+use Rattle.wh_pairs.specs.PairData.{PairData}
 use Rattle.wh_hopoly.specs.Evaluation.{Interpretation}
 use Rattle.wh_polycheck.specs.Marks.{Mark}
 use Rattle.wh_sat_trail.specs.declared.literal.Literal.{Literal}

@@ -4,7 +4,7 @@ ghost use Rattle.std.specs.Prelude.{◌≡◌, IfOk, map};
 ghost use Rattle.wh_find_poly.specs.Encodings.{IsEncoding};
 ghost use Rattle.wh_guesses.specs.Tasks.{IsTaskOf};
 ghost use Rattle.wh_subterm.specs.Marked.{AreMarked};
-ghost use Rattle.wh_system.specs.PairData.{pair_data};
+ghost use Rattle.wh_pairs.specs.PairData.{pair_data};
 
 use crate::bits::first_bits;
 use crate::numbers::numbers_of_conditions;

@@ -3,7 +3,7 @@
 ghost use Rattle.std.specs.Prelude.{◌<◌, ◌≤◌, All, IfOk, length, map};
 ghost use Rattle.wh_pairs.specs.SystemPairs.{HasPairs};
 ghost use Rattle.wh_pairs.specs.Views.{pairs_data};
-ghost use Rattle.wh_system.specs.PairData.{pair_data};
+ghost use Rattle.wh_pairs.specs.PairData.{pair_data};
 ghost use Rattle.wh_system.specs.SystemView.{system_data};
 ghost use Rattle.wh_subterm.specs.Marked.{AreMarked};
 ghost use Rattle.wh_guesses.specs.Tasks.{IsTaskOf};
@@ -20,7 +20,8 @@ use wh_ranges::has_none;
 use wh_sat::Search;
 use wh_sat_trail::Clauses;
 use wh_subterm::marked_symbols;
-use wh_system::{PairList, PairSet, System};
+use wh_pairs::{PairList, PairSet};
+use wh_system::System;
 
 // How many times the sides of a rule or pair are evaluated in the climb: so often, and so often more for each of them.
 const EVALUATIONS: u64 = 30_000;

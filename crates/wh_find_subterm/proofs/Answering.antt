@@ -1,8 +1,8 @@
 -- What the solver ends with, as an answer of the search.
 use Rattle.std.proofs.Common.{◌≡◌, ℕ, ◌<◌, Bool, List, length, All, sym, ap, subst, ◌∙◌}
 use Rattle.wh_terms.specs.Rules.{RewriteRule}
-use Rattle.wh_system.specs.PairData.{PairData}
-use Rattle.wh_system.proofs.Increasing.{one_place}
+use Rattle.wh_pairs.specs.PairData.{PairData}
+use Rattle.wh_pairs.proofs.Increasing.{one_place}
 use Rattle.wh_sat_trail.specs.declared.literal.Literal.{Literal}
 use Rattle.wh_sat.specs.Learning.{Learnt}
 use Rattle.wh_sat.specs.Solving.{Solves}

@@ -1,10 +1,10 @@
 -- The pairs of a set that are below, gathered in order.
 use Rattle.std.proofs.Common.{◌≡◌, ◌≢◌, ℕ, ◌+◌, ◌<◌, ◌≤◌, inl, inr, List, [], ◌∷◌, ◌++◌, length, get_or, All, Contains, Some, slice_get, sym, ap, subst, ◌∙◌, arith}
 use Rattle.std.proofs.lemmas.Option.{get_or_from_slice_get, slice_get_within}
-use Rattle.wh_system.specs.PairData.{PairData, IsIncreasing}
-use Rattle.wh_system.proofs.ByPlace.{contains_at, place_of, same_or_below, some_one}
-use Rattle.wh_system.proofs.Increasing.{increasing_at}
-use Rattle.wh_system.proofs.PairLemmas.{increasing_push}
+use Rattle.wh_pairs.specs.PairData.{PairData, IsIncreasing}
+use Rattle.wh_pairs.proofs.ByPlace.{contains_at, place_of, same_or_below, some_one}
+use Rattle.wh_pairs.proofs.Increasing.{increasing_at}
+use Rattle.wh_pairs.proofs.PairLemmas.{increasing_push}
 use Rattle.wh_subterm.specs.Projections.{Below, Chosen}
 use Rattle.wh_find_subterm.specs.Cases.{pair_at}
 use Rattle.wh_find_subterm.specs.Found.{DropsAllBelow}

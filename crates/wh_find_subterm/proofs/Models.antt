@@ -4,8 +4,8 @@ use Rattle.std.proofs.lemmas.Bool.{cases_order}
 use Rattle.std.proofs.lemmas.Option.{slice_get_within}
 use Rattle.wh_terms.specs.Rules.{RewriteRule}
 use Rattle.wh_system.specs.Needs.{need_of}
-use Rattle.wh_system.specs.PairData.{PairData, IsIncreasing}
-use Rattle.wh_system.proofs.ByPlace.{contains_at, number_at, place_of}
+use Rattle.wh_pairs.specs.PairData.{PairData, IsIncreasing}
+use Rattle.wh_pairs.proofs.ByPlace.{contains_at, number_at, place_of}
 use Rattle.wh_sat_trail.specs.declared.literal.Literal.{Literal}
 use Rattle.wh_sat.specs.Solving.{Solves, clause_true}
 use Rattle.wh_subterm.specs.Marked.{AreMarked}

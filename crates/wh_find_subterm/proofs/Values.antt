@@ -3,7 +3,7 @@ use Rattle.std.proofs.Common.{◌≡◌, ℕ, ◌+◌, ◌-◌, ◌<◌, ◌≤�
 use Rattle.std.proofs.lemmas.Bool.{cond-true, cond-false, cases_eq, eqb-true, eq-eqb, ne_eqb, lt-ltb, le-ltb, or_cases, or_left, or_right, and_parts, and_from}
 use Rattle.wh_terms.specs.Rules.{RewriteRule}
 use Rattle.wh_subterm.specs.Projections.{Chosen}
-use Rattle.wh_system.specs.PairData.{IsIncreasing}
+use Rattle.wh_pairs.specs.PairData.{IsIncreasing}
 use Rattle.wh_find_subterm.specs.declared.rows.Row.{Row}
 use Rattle.wh_find_subterm.specs.Rows.{choices_of, end_from, row_of, rows_from}
 use Rattle.wh_find_subterm.proofs.Members.{In}

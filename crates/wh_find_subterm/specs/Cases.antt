@@ -1,7 +1,7 @@
 -- The choices of an argument for the left and for the right symbol of each pair, in order.
 use Rattle.std.specs.Prelude.{ℕ, ◌+◌, ◌≡◌, List, [], ◌∷◌, ◌++◌, cond, nat_eq, map, get_or}
 use Rattle.std.specs.List.{flat_map, range_with_len}
-use Rattle.wh_system.specs.PairData.{PairData}
+use Rattle.wh_pairs.specs.PairData.{PairData}
 use Rattle.wh_subterm.specs.Relations.{Relates}
 use Rattle.wh_find_subterm.specs.declared.rows.Row.{Row}
 use Rattle.wh_find_subterm.specs.declared.cases.Case.{Case}

@@ -1,7 +1,7 @@
 -- The formula whose models are the projections of a set of pairs that let a pair go.
 use Rattle.std.specs.Prelude.{ℕ, ◌+◌, ◌≡◌, List, length}
 use Rattle.wh_terms.specs.Rules.{RewriteRule}
-use Rattle.wh_system.specs.PairData.{PairData}
+use Rattle.wh_pairs.specs.PairData.{PairData}
 use Rattle.wh_sat_trail.specs.declared.literal.Literal.{Literal}
 use Rattle.wh_subterm.specs.Marked.{AreMarked}
 use Rattle.wh_find_subterm.specs.declared.rows.Row.{Row}

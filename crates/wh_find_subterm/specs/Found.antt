@@ -1,7 +1,7 @@
 -- What the search for a projection ends with.
 use Rattle.std.specs.Prelude.{ℕ, ◌≡◌, List, length, map, Contains, Some, slice_get}
 use Rattle.wh_terms.specs.Rules.{RewriteRule}
-use Rattle.wh_system.specs.PairData.{PairData}
+use Rattle.wh_pairs.specs.PairData.{PairData}
 use Rattle.wh_sat_trail.specs.declared.literal.Literal.{Literal}
 use Rattle.wh_sat.specs.declared.solving.Search.{Search}
 use Rattle.wh_sat.specs.declared.solving.Search.TheVariants as search

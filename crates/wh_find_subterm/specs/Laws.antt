@@ -1,7 +1,7 @@
 -- What the models of the formula are.
 use Rattle.std.specs.Prelude.{ℕ, ◌+◌, ◌<◌, ◌≡◌, ◌↔◌, Bool, true, List, length, All, Contains}
 use Rattle.wh_terms.specs.Rules.{RewriteRule}
-use Rattle.wh_system.specs.PairData.{PairData}
+use Rattle.wh_pairs.specs.PairData.{PairData}
 use Rattle.wh_sat_trail.specs.declared.literal.Literal.{Literal}
 use Rattle.wh_sat.specs.Solving.{Solves}
 use Rattle.wh_subterm.specs.Projections.{Chosen}

@@ -1,7 +1,7 @@
 //! The choices of an argument for the left and for the right symbol of each pair, each with what the pair is under it.
 
 ghost use Rattle.std.specs.Prelude.{◌+◌, ◌<◌, ◌≤◌, ◌^◌, ℕ, All, IfOk, OnOk, length, map};
-ghost use Rattle.wh_system.specs.PairData.{pair_data};
+ghost use Rattle.wh_pairs.specs.PairData.{pair_data};
 ghost use Rattle.wh_find_subterm.specs.Rows.{row_of};
 ghost use Rattle.wh_find_subterm.specs.Cases.{Adds, AreCases, IsCase, spot, spots, spots_alike, spots_apart, spots_beside, spots_of};
 ghost use Rattle.wh_find_subterm.specs.declared.rows.Row.{Row};
@@ -9,7 +9,7 @@ ghost use Rattle.wh_find_subterm.specs.declared.rows.Row.{Row};
 use crate::rows::{Row, row_of};
 use std::alloc::{AllocError, Global};
 use wh_subterm::{Relation, relation_at};
-use wh_system::Pair;
+use wh_pairs::Pair;
 
 /// The variables of the arguments and of the pair, and what the pair is under the choice.
 #[derive(Clone, Copy)]

@@ -1,7 +1,7 @@
 //! The search for a projection that lets pairs go.
 
 ghost use Rattle.std.specs.Prelude.{◌≢◌, ◌≡◌, ◌+◌, ◌<◌, ◌^◌, ℕ, [], false, All, IfOk, get_or, length, map};
-ghost use Rattle.wh_system.specs.PairData.{IsIncreasing, pair_data};
+ghost use Rattle.wh_pairs.specs.PairData.{IsIncreasing, pair_data};
 ghost use Rattle.wh_system.specs.SystemView.{system_data};
 ghost use Rattle.wh_subterm.specs.SubtermRows.{chosen};
 ghost use Rattle.wh_find_subterm.specs.Found.{IsAnswer};
@@ -13,7 +13,8 @@ use crate::rows::{Row, rows_of};
 use std::alloc::{AllocError, Global};
 use wh_sat::{Outcome, Search, solve_owned};
 use wh_subterm::{Projection, marked_symbols};
-use wh_system::{Pair, PairList, PairSet, System};
+use wh_pairs::{Pair, PairList, PairSet};
+use wh_system::System;
 
 /// A projection and the pairs that it lets go.
 #[derive(Drop)]

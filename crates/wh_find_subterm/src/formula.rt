@@ -1,7 +1,7 @@
 //! The formula whose models are the projections of a set of pairs that let a pair go.
 
 ghost use Rattle.std.specs.Prelude.{◌≡◌, ◌+◌, ◌<◌, ◌≤◌, ◌^◌, ℕ, All, IfOk, length, map};
-ghost use Rattle.wh_system.specs.PairData.{pair_data};
+ghost use Rattle.wh_pairs.specs.PairData.{pair_data};
 ghost use Rattle.wh_find_subterm.specs.Clauses.{clauses_of};
 ghost use Rattle.wh_find_subterm.specs.Formula.{IsFormula};
 ghost use Rattle.wh_find_subterm.specs.Rows.{row_of};
@@ -11,7 +11,7 @@ use crate::clauses::{add_fourth, add_one_chosen, add_only_one_chosen, add_third,
 use crate::rows::Rows;
 use std::alloc::{AllocError, Global};
 use wh_sat_trail::{Clauses, Formula};
-use wh_system::Pair;
+use wh_pairs::Pair;
 
 /// The formula of a set of pairs over the rows of its marked symbols. More variables than numbers count as want of memory.
 pub fn formula_of(

@@ -1,14 +1,14 @@
 //! The projection that a model says.
 
 ghost use Rattle.std.specs.Prelude.{◌≡◌, ◌+◌, ◌<◌, ◌≤◌, ◌^◌, ℕ, false, All, IfOk, get_or, length, map};
-ghost use Rattle.wh_system.specs.PairData.{IsIncreasing, pair_data};
+ghost use Rattle.wh_pairs.specs.PairData.{IsIncreasing, pair_data};
 ghost use Rattle.wh_subterm.specs.SubtermRows.{chosen, chosen_symbols};
 ghost use Rattle.wh_find_subterm.specs.Reading.{IsBelowSet, chosen_by, first_true};
 
 use crate::rows::Row;
 use std::alloc::{AllocError, Global};
 use wh_subterm::{Choice, Projection, is_below};
-use wh_system::{Pair, PairSet};
+use wh_pairs::{Pair, PairSet};
 
 /// Of each symbol the first argument whose variable is true.
 pub fn choices_by(alloc: Global, values: &[bool], rows: &[Row]) -> Result<Projection, AllocError>

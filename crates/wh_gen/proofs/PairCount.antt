@@ -6,7 +6,7 @@ use Rattle.wh_types.specs.Ty.{Ty}
 use Rattle.wh_terms.specs.Tree.{Tm, bound, free, fun, meta, lam, app, Tms, none, more}
 use Rattle.wh_terms.specs.Typing.{Symbols}
 use Rattle.wh_terms.specs.Rules.{RewriteRule}
-use Rattle.wh_system.specs.PairData.{PairData, Within}
+use Rattle.wh_pairs.specs.PairData.{PairData, Within}
 use Rattle.wh_system.specs.Needs.{need_of}
 use Rattle.wh_pairs.specs.Conditions.{with_condition}
 use Rattle.wh_pairs.specs.Calls.{call_where_defined, calls, calls_within, calls_of}

@@ -7,7 +7,7 @@ use Rattle.std.proofs.lemmas.List.Elements.{Contains-append_left, Contains-push,
 use Rattle.std.proofs.lemmas.Option.{slice_get_within, get_or_from_slice_get}
 use Rattle.wh_graph.specs.Walks.{Path, stay, go, StandsUpTo, IsLeftInOrder, IsLeavingOrder}
 use Rattle.wh_graph.specs.Classes.{HasClass, IsPlaced, IsNew, Grown, AreGiven}
-use Rattle.wh_system.proofs.ByPlace.{some_one, read, place_of}
+use Rattle.wh_pairs.proofs.ByPlace.{some_one, read, place_of}
 use Rattle.wh_graph.proofs.PushLemmas.{set_here, set_there, same_marks}
 use Rattle.wh_graph.proofs.WalkLemmas.{path_join}
 

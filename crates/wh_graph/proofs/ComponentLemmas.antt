@@ -5,14 +5,14 @@ use Rattle.std.proofs.lemmas.Bool.{cases_eq}
 use Rattle.std.proofs.lemmas.List.{length-set}
 use Rattle.std.proofs.lemmas.List.Elements.{All-contains, Contains-push, Contains-push_cases, Contains-append_left, Contains-get_or}
 use Rattle.std.proofs.lemmas.Option.{slice_get_within, slice_get-get_or}
-use Rattle.wh_system.specs.PairData.{IsIncreasing}
-use Rattle.wh_system.proofs.PairLemmas.{increasing_push}
+use Rattle.wh_pairs.specs.PairData.{IsIncreasing}
+use Rattle.wh_pairs.proofs.PairLemmas.{increasing_push}
 use Rattle.wh_graph.specs.Components.{Reaches, here, step, IsIn, AreComponents}
 use Rattle.wh_graph.specs.Graphs.{Edge, Turned, AtPlaces, AreLists, edge_of, IsGraph}
 use Rattle.wh_graph.specs.Walks.{Path, stay, go}
 use Rattle.wh_graph.specs.Classes.{HasClass, AreGiven, AreClasses, IsClass, AreGathered}
-use Rattle.wh_system.proofs.ByPlace.{some_one, contains_at, place_of, same_or_below}
-use Rattle.wh_system.proofs.Increasing.{increasing_at, one_place}
+use Rattle.wh_pairs.proofs.ByPlace.{some_one, contains_at, place_of, same_or_below}
+use Rattle.wh_pairs.proofs.Increasing.{increasing_at, one_place}
 use Rattle.wh_graph.proofs.PushLemmas.{set_here, set_there}
 use Rattle.wh_graph.specs.declared.edges.Graph.{Graph}
 use Rattle.wh_graph.proofs.ClassLemmas.{none_has}

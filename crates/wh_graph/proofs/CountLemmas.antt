@@ -8,13 +8,13 @@ use Rattle.std.proofs.lemmas.List.Sorted.{searched}
 use Rattle.std.proofs.lemmas.Option.{slice_get_within, get_or_from_slice_get, slice_get-get_or}
 use Rattle.std.specs.List.Sorted.{IsBinarySearchResult}
 use Rattle.std.specs.Ordering.{nat_cmp}
-use Rattle.wh_system.specs.PairData.{IsIncreasing}
+use Rattle.wh_pairs.specs.PairData.{IsIncreasing}
 use Rattle.wh_graph.specs.Least.{LeastOf, smaller}
 use Rattle.wh_graph.specs.Times.{plus, TimesIn, TimesListed, AreCounted, AreAdded, IsUneven}
 use Rattle.wh_graph.specs.declared.places.Times.{Times}
 use Rattle.wh_graph.specs.declared.places.Times.TheVariants.{Never, Once, Often}
-use Rattle.wh_system.proofs.ByPlace.{some_one, contains_at}
-use Rattle.wh_system.proofs.Increasing.{increasing_at, increasing_from_adjacent, one_place}
+use Rattle.wh_pairs.proofs.ByPlace.{some_one, contains_at}
+use Rattle.wh_pairs.proofs.Increasing.{increasing_at, increasing_from_adjacent, one_place}
 use Rattle.wh_graph.proofs.LeastLemmas.{least_smaller}
 use Rattle.wh_graph.proofs.PushLemmas.{set_here, set_there}
 use Rattle.wh_graph.proofs.TimesLemmas.{times_skip, times_more, listed_more}

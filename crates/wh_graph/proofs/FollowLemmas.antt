@@ -1,9 +1,9 @@
 -- Which pair may follow which, by their numbers.
 use Rattle.std.proofs.Common.{◌≡◌, ℕ, List, Some, slice_get, subst}
 use Rattle.wh_terms.specs.Rules.{RewriteRule}
-use Rattle.wh_system.specs.PairData.{PairData}
+use Rattle.wh_pairs.specs.PairData.{PairData}
 use Rattle.wh_graph.specs.May.{May, Follows}
-use Rattle.wh_system.proofs.ByPlace.{some_one}
+use Rattle.wh_pairs.proofs.ByPlace.{some_one}
 
 pub follows_from : (rules : List RewriteRule) (pairs : List PairData) (a b : ℕ) (x y : PairData) → slice_get pairs a ≡ Some x → slice_get pairs b ≡ Some y → May rules x y → Follows rules pairs a b
 follows_from rules pairs a b x y first second may = (x, y, first, second, may)

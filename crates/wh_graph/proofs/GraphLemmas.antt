@@ -6,9 +6,9 @@ use Rattle.std.proofs.lemmas.List.{length-append, length-set}
 use Rattle.std.proofs.lemmas.List.Elements.{All-contains, All-get_or, All-from_get_or, Contains-append_left, Contains-get_or, Contains-push, Contains-push_cases}
 use Rattle.std.proofs.lemmas.Option.{slice_get_within, slice_get-get_or}
 use Rattle.wh_terms.specs.Rules.{RewriteRule}
-use Rattle.wh_system.specs.PairData.{PairData, IsIncreasing}
-use Rattle.wh_system.proofs.ByPlace.{some_one, contains_at, place_of, same_or_below}
-use Rattle.wh_system.proofs.Increasing.{increasing_at, one_place}
+use Rattle.wh_pairs.specs.PairData.{PairData, IsIncreasing}
+use Rattle.wh_pairs.proofs.ByPlace.{some_one, contains_at, place_of, same_or_below}
+use Rattle.wh_pairs.proofs.Increasing.{increasing_at, one_place}
 use Rattle.wh_graph.specs.Components.{Reaches, here, step, AreComponents}
 use Rattle.wh_graph.specs.Graphs.{Edge, AreWithin, Turned, AtPlaces, AreLists, edge_of, IsGraph, IsGraphOf, HavePassed}
 use Rattle.wh_graph.specs.May.{Follows}

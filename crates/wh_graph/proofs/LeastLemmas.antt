@@ -5,7 +5,7 @@ use Rattle.std.proofs.lemmas.Option.{slice_get_within}
 use Rattle.wh_graph.specs.Components.{StandsAt}
 use Rattle.wh_graph.specs.Blocks.{IsListed}
 use Rattle.wh_graph.specs.Least.{LeastOf, smaller}
-use Rattle.wh_system.proofs.ByPlace.{some_one, contains_at, place_of, same_or_below}
+use Rattle.wh_pairs.proofs.ByPlace.{some_one, contains_at, place_of, same_or_below}
 
 pub least_same : (P R : ℕ → Type 0) → ((n : ℕ) → P n → R n) → ((n : ℕ) → R n → P n) → (o : Option ℕ) → LeastOf P o → LeastOf R o
 least_same P R there back None least = λ n r. least n (back n r)

@@ -6,7 +6,7 @@ use Rattle.std.proofs.lemmas.List.{length-set}
 use Rattle.std.proofs.lemmas.List.Elements.{Contains-append_left, Contains-push, Contains-push_cases}
 use Rattle.std.proofs.lemmas.Option.{slice_get_within}
 use Rattle.wh_graph.specs.Walks.{Path, stay, go, Walked, IsLeavingOrder}
-use Rattle.wh_system.proofs.ByPlace.{contains_at, place_of}
+use Rattle.wh_pairs.proofs.ByPlace.{contains_at, place_of}
 use Rattle.wh_graph.proofs.PushLemmas.{push_old, push_new, push_cases, set_here, set_there, same_marks}
 
 pub path_join : {E : ℕ → ℕ → Type 0} {a b c : ℕ} → Path E a b → Path E b c → Path E a c

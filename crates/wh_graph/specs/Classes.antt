@@ -1,6 +1,6 @@
 -- Classes of vertices by their numbers.
 use Rattle.std.specs.Prelude.{ℕ, ◌<◌, ◌≤◌, ◌≡◌, ◌⊎◌, ◌↔◌, List, Option, Some, None, length, slice_get, Contains}
-use Rattle.wh_system.specs.PairData.{IsIncreasing}
+use Rattle.wh_pairs.specs.PairData.{IsIncreasing}
 use Rattle.wh_graph.specs.Walks.{Path}
 
 -- the vertex v has the class c

@@ -1,7 +1,7 @@
 -- Graphs as lists: for each vertex the vertices that edges lead to from it.
 use Rattle.std.specs.Prelude.{ℕ, ◌<◌, ◌≡◌, ◌^◌, ◌↔◌, List, Some, length, slice_get, Contains}
 use Rattle.wh_terms.specs.Rules.{RewriteRule}
-use Rattle.wh_system.specs.PairData.{PairData}
+use Rattle.wh_pairs.specs.PairData.{PairData}
 use Rattle.wh_graph.specs.May.{Follows}
 use Rattle.wh_graph.specs.declared.edges.Graph.{Graph}
 

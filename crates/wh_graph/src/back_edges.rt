@@ -1,7 +1,7 @@
 //! Pairs of a later block that one of an earlier block may follow.
 
 ghost use Rattle.std.specs.Prelude.{◌≡◌, ◌<◌, ◌≤◌, ℕ, All, Contains, MatchOption, length, map};
-ghost use Rattle.wh_system.specs.PairData.{IsIncreasing, pair_data};
+ghost use Rattle.wh_pairs.specs.PairData.{IsIncreasing, pair_data};
 ghost use Rattle.wh_system.specs.SystemView.{system_data};
 ghost use Rattle.wh_graph.specs.Components.{IsIn, Partition};
 ghost use Rattle.wh_graph.specs.Blocks.{IsBackEdge, IsFirstBackEdge, IsListed};
@@ -11,7 +11,8 @@ ghost use Rattle.wh_graph.specs.May.{Follows};
 use crate::follow::may_follow;
 use crate::least::smaller;
 use crate::places::block_of;
-use wh_system::{Pair, System};
+use wh_pairs::Pair;
+use wh_system::System;
 use wh_types::Numbers;
 
 /// A pair of a later block and one of an earlier block that may follow it.

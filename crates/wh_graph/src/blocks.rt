@@ -1,14 +1,15 @@
 //! The blocks of a proof node.
 
 ghost use Rattle.std.specs.Prelude.{◌<◌, ◌≡◌, ◌↔◌, All, IsTrue, MatchResult, length, map};
-ghost use Rattle.wh_system.specs.PairData.{IsIncreasing, pair_data};
+ghost use Rattle.wh_pairs.specs.PairData.{IsIncreasing, pair_data};
 ghost use Rattle.wh_system.specs.SystemView.{system_data};
 ghost use Rattle.wh_graph.specs.Blocks.{AreBlocks, AreFew, IsFirstBlockFault};
 ghost use Rattle.wh_graph.specs.May.{Follows};
 
 use crate::back_edges::first_back_edge;
 use crate::places::first_misplaced;
-use wh_system::{Pair, PairList, PairSet, System};
+use wh_pairs::{Pair, PairList, PairSet};
+use wh_system::System;
 use wh_types::Numbers;
 
 /// What is wrong with the blocks of a proof node.

@@ -1,7 +1,7 @@
 //! The components of a set of pairs.
 
 ghost use Rattle.std.specs.Prelude.{◌≡◌, ◌↔◌, ◌<◌, ◌^◌, ℕ, [], All, Contains, IfOk, OnOk, Some, length, map, slice_get};
-ghost use Rattle.wh_system.specs.PairData.{IsIncreasing, pair_data};
+ghost use Rattle.wh_pairs.specs.PairData.{IsIncreasing, pair_data};
 ghost use Rattle.wh_system.specs.SystemView.{system_data};
 ghost use Rattle.wh_graph.specs.Classes.{AreGathered, HasClass};
 ghost use Rattle.wh_graph.specs.Components.{AreComponents};
@@ -12,7 +12,8 @@ use crate::classes::{Classes, classes_of};
 use crate::edges::{Graph, empty_lists};
 use crate::walk::leaving_order;
 use std::alloc::{AllocError, Global};
-use wh_system::{PairList, PairSet, System};
+use wh_pairs::{PairList, PairSet};
+use wh_system::System;
 use wh_types::{Blocks, Numbers};
 
 /// The components of a set of pairs: the classes of mutual reachability in it by "may follow".
@@ -36,7 +37,7 @@ pub fn components(
 
 impl Graph {
     ghost use Rattle.std.specs.Prelude.{◌<◌, All, IfOk};
-    ghost use Rattle.wh_system.specs.PairData.{IsIncreasing};
+    ghost use Rattle.wh_pairs.specs.PairData.{IsIncreasing};
     ghost use Rattle.wh_graph.specs.Components.{AreComponents};
     ghost use Rattle.wh_graph.specs.Graphs.{IsGraph, edge_of, size_of};
 

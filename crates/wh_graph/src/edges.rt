@@ -2,7 +2,7 @@
 //! follow.
 
 ghost use Rattle.std.specs.Prelude.{◌≡◌, ◌↔◌, ◌<◌, ◌^◌, ◌⊎◌, ℕ, [], All, Contains, IfOk, OnOk, length, map};
-ghost use Rattle.wh_system.specs.PairData.{pair_data};
+ghost use Rattle.wh_pairs.specs.PairData.{pair_data};
 ghost use Rattle.wh_system.specs.SystemView.{system_data};
 ghost use Rattle.wh_graph.specs.Graphs.{AreLists, AreWithin, Edge, Turned};
 ghost use Rattle.wh_graph.specs.May.{Follows};
@@ -10,7 +10,8 @@ ghost use Rattle.wh_graph.specs.May.{Follows};
 use crate::follow::may_follow;
 use crate::places::is_in;
 use std::alloc::{AllocError, Global};
-use wh_system::{Pair, PairList, System};
+use wh_pairs::{Pair, PairList};
+use wh_system::System;
 use wh_types::Numbers;
 
 /// Which pair of a list may follow which.
@@ -22,7 +23,7 @@ pub struct Graph {
 
 impl Graph {
     ghost use Rattle.std.specs.Prelude.{◌↔◌, ◌<◌, IfOk, IsTrue, map};
-    ghost use Rattle.wh_system.specs.PairData.{pair_data};
+    ghost use Rattle.wh_pairs.specs.PairData.{pair_data};
     ghost use Rattle.wh_system.specs.SystemView.{system_data};
     ghost use Rattle.wh_graph.specs.Graphs.{IsGraphOf, edge_of, size_of};
 

@@ -2,12 +2,13 @@
 
 ghost use Rattle.std.specs.Prelude.{◌↔◌, IsTrue, map};
 ghost use Rattle.wh_terms.specs.Erase.{tm};
-ghost use Rattle.wh_system.specs.PairData.{pair_data};
+ghost use Rattle.wh_pairs.specs.PairData.{pair_data};
 ghost use Rattle.wh_system.specs.SystemView.{system_data};
 ghost use Rattle.wh_graph.specs.May.{May, SomeClash};
 
 use crate::clash::clashes;
-use wh_system::{Pair, System};
+use wh_pairs::Pair;
+use wh_system::System;
 use wh_terms::Term;
 
 /// Whether the pair `b` may follow the pair `a` (Fuhs and Kop 2019): the right side of `a` has the head of the left side of

@@ -1,7 +1,7 @@
 //! Where numbers stand in blocks: the numbers that keep blocks from being a partition.
 
 ghost use Rattle.std.specs.Prelude.{◌≡◌, ◌↔◌, ◌<◌, ◌≤◌, ℕ, Contains, IsTrue, length};
-ghost use Rattle.wh_system.specs.PairData.{IsIncreasing};
+ghost use Rattle.wh_pairs.specs.PairData.{IsIncreasing};
 ghost use Rattle.wh_graph.specs.Components.{IsIn};
 ghost use Rattle.wh_graph.specs.Blocks.{IsMisplaced};
 ghost use Rattle.wh_graph.specs.Least.{LeastOf};

@@ -7,10 +7,10 @@ use Rattle.wh_types.specs.Erase.{ty}
 use Rattle.wh_terms.specs.Typing.{Symbols}
 use Rattle.wh_terms.specs.Rules.{RewriteRule}
 use Rattle.std.proofs.lemmas.List.{length-map}
-use Rattle.wh_system.specs.PairData.{PairData, IsIncreasing, pair_data}
-use Rattle.wh_system.specs.declared.pairs.Pair.{Pair}
+use Rattle.wh_pairs.specs.PairData.{PairData, IsIncreasing, pair_data}
+use Rattle.wh_pairs.specs.declared.pair.Pair.{Pair}
 use Rattle.wh_meaning.specs.Covering.{HaveTypedSides}
-use Rattle.wh_system.proofs.ByPlace.{contains_at, place_of, unmap}
+use Rattle.wh_pairs.proofs.ByPlace.{contains_at, place_of, unmap}
 use Rattle.wh_subterm.specs.Marked.{AreMarked}
 use Rattle.wh_hopoly.specs.Evaluation.{Interpretation, NormalInterpretations}
 use Rattle.wh_hopoly.specs.Erase.{interpretation, interpretations}

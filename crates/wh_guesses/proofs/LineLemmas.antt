@@ -10,10 +10,10 @@ use Rattle.std.proofs.lemmas.List.{length-map, length-append}
 use Rattle.std.proofs.lemmas.List.Elements.{Contains-push_cases, Contains-append_left, Contains-push}
 use Rattle.wh_terms.specs.Typing.{Symbols}
 use Rattle.wh_terms.specs.Rules.{RewriteRule}
-use Rattle.wh_system.specs.PairData.{PairData, IsIncreasing}
-use Rattle.wh_system.proofs.Increasing.{one_place, increasing_at}
-use Rattle.wh_system.proofs.PairLemmas.{increasing_push}
-use Rattle.wh_system.proofs.ByPlace.{some_one, contains_at}
+use Rattle.wh_pairs.specs.PairData.{PairData, IsIncreasing}
+use Rattle.wh_pairs.proofs.Increasing.{one_place, increasing_at}
+use Rattle.wh_pairs.proofs.PairLemmas.{increasing_push}
+use Rattle.wh_pairs.proofs.ByPlace.{some_one, contains_at}
 use Rattle.wh_hopoly.specs.Polynomials.{Polynomial}
 use Rattle.wh_hopoly.specs.Evaluation.{Run, Interpretation}
 use Rattle.wh_hopoly.specs.Moves.{Transfer, IsCover, IsStrictCover}

@@ -5,9 +5,9 @@ use Rattle.std.proofs.lemmas.List.Elements.{All-contains}
 use Rattle.std.proofs.lemmas.Option.{slice_get_within}
 use Rattle.wh_system.specs.Systems.{SystemData}
 use Rattle.wh_system.specs.WellMade.{IsWellMadeSystem}
-use Rattle.wh_system.specs.PairData.{PairData, IsIncreasing}
-use Rattle.wh_system.proofs.Increasing.{one_place}
-use Rattle.wh_system.proofs.ByPlace.{contains_at, place_of, unmap, remap}
+use Rattle.wh_pairs.specs.PairData.{PairData, IsIncreasing}
+use Rattle.wh_pairs.proofs.Increasing.{one_place}
+use Rattle.wh_pairs.proofs.ByPlace.{contains_at, place_of, unmap, remap}
 use Rattle.wh_subterm.specs.SubtermRows.{IsBadDrop}
 use Rattle.wh_hopoly.specs.Polynomials.{Polynomial}
 use Rattle.wh_hopoly.specs.Evaluation.{Run}
@@ -32,7 +32,7 @@ use Rattle.wh_guesses.specs.Guesses.{IsTask, IsGuess}
 use Rattle.wh_guesses.specs.Lines.{IsLine, IsStrictLine, IsFailingRule, IsFailingPair, AreRuleLines, ArePairLines}
 use Rattle.std.specs.declared.alloc.AllocError.{AllocError}
 use Rattle.wh_system.specs.SystemView.{system_data}
-use Rattle.wh_system.specs.PairData.{pair_data}
+use Rattle.wh_pairs.specs.PairData.{pair_data}
 use Rattle.wh_hopoly.specs.Evaluation.{Interpretation}
 use Rattle.wh_guesses.specs.Conditions.{covers_rule, covers_pair, some_strictly, of_rule, of_pair, of_set, IsMet}
 use Rattle.wh_guesses.specs.Weighing.{Weighs, WeighsBy}

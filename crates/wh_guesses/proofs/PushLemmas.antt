@@ -3,10 +3,10 @@ use Rattle.std.proofs.Common.{◌≡◌, ℕ, zero, suc, ◌<◌, ◌≤◌, ◌
 use Rattle.std.proofs.lemmas.Option.{none-some}
 use Rattle.std.proofs.lemmas.List.{map-append}
 use Rattle.std.proofs.lemmas.List.Elements.{Contains-get_or}
-use Rattle.wh_system.specs.PairData.{IsIncreasing}
-use Rattle.wh_system.proofs.Increasing.{increasing_at}
+use Rattle.wh_pairs.specs.PairData.{IsIncreasing}
+use Rattle.wh_pairs.proofs.Increasing.{increasing_at}
 use Rattle.std.proofs.lemmas.Option.{slice_get-get_or}
-use Rattle.wh_system.proofs.ByPlace.{contains_at}
+use Rattle.wh_pairs.proofs.ByPlace.{contains_at}
 
 -- what holds of each member holds of all
 pub all_members : {A : Type 0} (P : A → Type 0) (xs : List A) → ((x : A) → Contains xs x → P x) → All P xs

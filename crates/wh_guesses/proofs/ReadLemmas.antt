@@ -8,7 +8,7 @@ use Rattle.wh_types.specs.Ty.{Ty, arguments}
 use Rattle.wh_types.specs.Erase.{ty}
 use Rattle.wh_terms.specs.Typing.{Symbols}
 use Rattle.wh_terms.specs.Rules.{RewriteRule}
-use Rattle.wh_system.proofs.ByPlace.{place_of, unmap, remap}
+use Rattle.wh_pairs.proofs.ByPlace.{place_of, unmap, remap}
 use Rattle.wh_hopoly.specs.Polynomials.{Polynomial}
 use Rattle.wh_hopoly.specs.Evaluation.{Interpretation}
 use Rattle.wh_hopoly.specs.Erase.{interpretation, interpretations}

@@ -9,10 +9,10 @@ use Rattle.wh_terms.specs.Typing.{Symbols, Declared, Typed, typed_bound, typed_f
 use Rattle.wh_terms.specs.Rules.{RewriteRule}
 use Rattle.wh_system.specs.Systems.{SystemData}
 use Rattle.wh_system.specs.WellMade.{IsWellMadeSystem}
-use Rattle.wh_system.specs.PairData.{PairData, IsIncreasing, pair_data}
+use Rattle.wh_pairs.specs.PairData.{PairData, IsIncreasing, pair_data}
 use Rattle.wh_system.specs.SystemView.{system_data}
-use Rattle.wh_system.proofs.ByPlace.{contains_at}
-use Rattle.wh_system.proofs.Increasing.{one_place}
+use Rattle.wh_pairs.proofs.ByPlace.{contains_at}
+use Rattle.wh_pairs.proofs.Increasing.{one_place}
 use Rattle.wh_hopoly.specs.Polynomials.{zero_poly}
 use Rattle.wh_polycheck.specs.Marks.{Mark}
 use Rattle.wh_meaning.specs.Covering.{HaveTypedSides}

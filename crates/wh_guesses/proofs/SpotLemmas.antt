@@ -5,7 +5,7 @@ use Rattle.std.proofs.lemmas.Option.{none-some, same_Some}
 use Rattle.std.proofs.lemmas.List.{length-map, map-append, take_more, append-nil}
 use Rattle.std.proofs.lemmas.List.Elements.{Contains-append_cases}
 use Rattle.wh_types.specs.Ty.{Ty}
-use Rattle.wh_system.proofs.ByPlace.{contains_at, place_of, unmap}
+use Rattle.wh_pairs.proofs.ByPlace.{contains_at, place_of, unmap}
 use Rattle.wh_hopoly.specs.Polynomials.{Factors, no_factors}
 use Rattle.wh_hopoly.specs.Evaluation.{type_at}
 use Rattle.wh_guesses.specs.Space.{is_sort, variables_where, sort_variables, functional_variables, variable_before, alone, both, products, space_of}

@@ -6,7 +6,7 @@ use Rattle.wh_types.specs.Outcome.{IfBecause, MatchOr}
 use Rattle.wh_types.specs.declared.want.Or.{Or}
 use Rattle.wh_types.specs.declared.want.Or.TheVariants.{NoMemory, Because}
 use Rattle.wh_terms.specs.Rules.{RewriteRule}
-use Rattle.wh_system.specs.PairData.{PairData, pair_data}
+use Rattle.wh_pairs.specs.PairData.{PairData, pair_data}
 use Rattle.wh_system.specs.SystemView.{system_data}
 use Rattle.wh_hopoly.specs.Erase.{interpretations}
 use Rattle.wh_hopoly.specs.declared.expression.Symbol.{Symbol}

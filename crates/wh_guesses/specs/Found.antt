@@ -2,7 +2,7 @@
 use Rattle.std.specs.Prelude.{ℕ, ◌≡◌, ◌^◌, List, Some, All, Contains, slice_get, false, true}
 use Rattle.wh_types.specs.Ty.{arguments}
 use Rattle.wh_system.specs.Systems.{SystemData}
-use Rattle.wh_system.specs.PairData.{PairData, IsIncreasing}
+use Rattle.wh_pairs.specs.PairData.{PairData, IsIncreasing}
 use Rattle.wh_hopoly.specs.Evaluation.{Interpretation}
 use Rattle.wh_hopoly.specs.Moves.{Transfer, IsStrictCover}
 use Rattle.wh_polycheck.specs.Marks.{Mark, marked_types}

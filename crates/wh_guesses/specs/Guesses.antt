@@ -4,7 +4,7 @@ use Rattle.wh_types.specs.Ty.{arguments}
 use Rattle.wh_types.specs.Erase.{ty}
 use Rattle.wh_terms.specs.Typing.{Symbols}
 use Rattle.wh_terms.specs.Rules.{RewriteRule}
-use Rattle.wh_system.specs.PairData.{PairData, IsIncreasing}
+use Rattle.wh_pairs.specs.PairData.{PairData, IsIncreasing}
 use Rattle.wh_subterm.specs.Marked.{AreMarked}
 use Rattle.wh_hopoly.specs.Erase.{poly}
 use Rattle.wh_hopoly.specs.declared.expression.Symbol.{Symbol}

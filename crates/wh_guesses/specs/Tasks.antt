@@ -1,6 +1,6 @@
 -- What the climb keeps true of the program's guess.
 use Rattle.std.specs.Prelude.{map}
-use Rattle.wh_system.specs.PairData.{pair_data}
+use Rattle.wh_pairs.specs.PairData.{pair_data}
 use Rattle.wh_system.specs.SystemView.{system_data}
 use Rattle.wh_guesses.specs.Guesses.{IsTask, IsGuess}
 use Rattle.wh_guesses.specs.declared.task.Task.{Task}

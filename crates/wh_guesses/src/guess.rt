@@ -4,7 +4,7 @@ ghost use Rattle.std.specs.Bool.{OnTrue};
 ghost use Rattle.std.specs.Prelude.{ℕ, ◌++◌, ◌<◌, ◌^◌, ◌≡◌, ◌≢◌, Some, All, IfOk, OnOk, map, length, slice_get};
 ghost use Rattle.wh_types.specs.Erase.{ty, tys};
 ghost use Rattle.wh_types.specs.Ty.{arguments};
-ghost use Rattle.wh_system.specs.PairData.{pair_data};
+ghost use Rattle.wh_pairs.specs.PairData.{pair_data};
 ghost use Rattle.wh_system.specs.SystemView.{system_data};
 ghost use Rattle.wh_subterm.specs.Marked.{AreMarked};
 ghost use Rattle.wh_hopoly.specs.Erase.{interpretations};

@@ -2,7 +2,7 @@
 
 ghost use Rattle.std.specs.Prelude.{◌≡◌, ◌↔◌, ◌<◌, ◌≤◌, ◌^◌, IfOk, IsTrue, MatchOption, Some, false, true, length, map, slice_get};
 ghost use Rattle.wh_terms.specs.Rules.{RewriteRule};
-ghost use Rattle.wh_system.specs.PairData.{pair_data};
+ghost use Rattle.wh_pairs.specs.PairData.{pair_data};
 ghost use Rattle.wh_system.specs.SystemView.{system_data};
 ghost use Rattle.wh_hopoly.specs.Erase.{interpretations, poly, transfers};
 ghost use Rattle.wh_hopoly.specs.Polynomials.{Polynomial};
@@ -22,7 +22,8 @@ use std::alloc::{AllocError, Global};
 use wh_find_moves::find_moves;
 use wh_hopoly::{Covers, Moves, Poly, Symbol};
 use wh_polycheck::{MarkedSymbol, check_strict};
-use wh_system::{Pair, System};
+use wh_pairs::Pair;
+use wh_system::System;
 use wh_types::{Numbers, Or};
 
 /// The moves for a pair, and whether they show that its left side is greater.

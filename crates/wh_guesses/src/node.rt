@@ -1,7 +1,7 @@
 //! The node of interpretations that a guess gives.
 
 ghost use Rattle.std.specs.Prelude.{◌+◌, ◌≡◌, ◌≢◌, ◌≤◌, [], IfOk, Some, length, map, slice_get};
-ghost use Rattle.wh_system.specs.PairData.{pair_data};
+ghost use Rattle.wh_pairs.specs.PairData.{pair_data};
 ghost use Rattle.wh_system.specs.SystemView.{system_data};
 ghost use Rattle.wh_hopoly.specs.Erase.{interpretations, poly, transfers};
 ghost use Rattle.wh_polycheck.specs.SideResults.{marks_of};
@@ -16,7 +16,8 @@ use std::alloc::{AllocError, Global};
 use wh_cert::{Interp, Interps, Node, PolyNode};
 use wh_hopoly::{Covers, Symbol, copy};
 use wh_polycheck::MarkedSymbol;
-use wh_system::{Pair, System};
+use wh_pairs::Pair;
+use wh_system::System;
 use wh_text::Name;
 use wh_types::Or;
 

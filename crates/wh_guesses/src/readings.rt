@@ -3,7 +3,7 @@
 
 ghost use Rattle.std.specs.Prelude.{ℕ, ◌+◌, ◌≡◌, ◌⊎◌, ◌<◌, ◌≤◌, All, Contains, IfOk, Some, length, map, slice_get};
 ghost use Rattle.wh_terms.specs.Erase.{rewrite_rule, rewrite_rules, tms as trees, tm};
-ghost use Rattle.wh_system.specs.PairData.{IsIncreasing, pair_data};
+ghost use Rattle.wh_pairs.specs.PairData.{IsIncreasing, pair_data};
 ghost use Rattle.wh_subterm.specs.Marked.{AreMarked};
 ghost use Rattle.wh_guesses.specs.Conditions.{HasSymbol, SomeHasSymbol, StandsInPair};
 ghost use Rattle.wh_guesses.specs.Readings.{ArePairReadings, AreRuleReadings, IsMarkOf, ListsAll, ReadsAll, StandsInRule};
@@ -13,7 +13,7 @@ ghost use Rattle.wh_guesses.specs.Weighing.{AreReadings};
 use crate::task::Task;
 use crate::terms::{add_symbols, add_symbols_of_all};
 use std::alloc::{AllocError, Global};
-use wh_system::Pair;
+use wh_pairs::Pair;
 use wh_terms::{Rule, Term, Terms};
 
 /// What is read on the two sides of a rule or a pair, each once and in order.

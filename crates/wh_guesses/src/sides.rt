@@ -2,7 +2,7 @@
 
 ghost use Rattle.std.specs.Prelude.{◌≡◌, ◌<◌, IfOk, MatchOption, Some, length, slice_get};
 ghost use Rattle.wh_terms.specs.Rules.{RewriteRule};
-ghost use Rattle.wh_system.specs.PairData.{pair_data};
+ghost use Rattle.wh_pairs.specs.PairData.{pair_data};
 ghost use Rattle.wh_system.specs.SystemView.{system_data};
 ghost use Rattle.wh_hopoly.specs.Erase.{interpretations, poly};
 ghost use Rattle.wh_hopoly.specs.Evaluation.{NormalInterpretations};
@@ -16,7 +16,8 @@ ghost use Rattle.wh_guesses.specs.Lines.{HasNoSide};
 use std::alloc::{AllocError, Global};
 use wh_hopoly::{Poly, PolyFault, Symbol};
 use wh_polycheck::{MarkedSymbol, side_of_pair, side_of_rule};
-use wh_system::{Pair, System};
+use wh_pairs::Pair;
+use wh_system::System;
 use wh_types::Or;
 
 /// A side of the rule; `None` where a value exceeds a limit.

@@ -2,7 +2,8 @@
 
 use wh_hopoly::Symbol;
 use wh_polycheck::MarkedSymbol;
-use wh_system::{Pair, System};
+use wh_pairs::Pair;
+use wh_system::System;
 
 /// A set of pairs of a system.
 #[derive(Clone, Copy)]

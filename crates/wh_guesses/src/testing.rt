@@ -3,7 +3,7 @@
 ghost use Rattle.std.specs.Bool.{OnTrue};
 ghost use Rattle.std.specs.Prelude.{◌≡◌, ◌↔◌, ◌<◌, IfOk, IsTrue, Some, false, true, length, map, slice_get};
 ghost use Rattle.wh_terms.specs.Rules.{RewriteRule};
-ghost use Rattle.wh_system.specs.PairData.{pair_data};
+ghost use Rattle.wh_pairs.specs.PairData.{pair_data};
 ghost use Rattle.wh_system.specs.SystemView.{system_data};
 ghost use Rattle.wh_hopoly.specs.Erase.{interpretations, poly};
 ghost use Rattle.wh_hopoly.specs.Evaluation.{NormalInterpretations};
@@ -25,7 +25,8 @@ use std::alloc::{AllocError, Global};
 use wh_find_moves::deficit;
 use wh_hopoly::{Poly, Symbol};
 use wh_polycheck::MarkedSymbol;
-use wh_system::{Pair, System};
+use wh_pairs::Pair;
+use wh_system::System;
 
 /// How far a condition is from being met, and whether a pair is covered strictly.
 #[derive(Clone, Copy)]

@@ -5,8 +5,8 @@ use Rattle.wh_types.specs.Ty.{Ty}
 use Rattle.wh_terms.specs.Typing.{Symbols}
 use Rattle.wh_terms.specs.Rules.{RewriteRule, AreWellMade}
 use Rattle.wh_step.specs.Step.{Step}
-use Rattle.wh_system.specs.PairData.{PairData}
-use Rattle.wh_system.proofs.ByPlace.{contains_at, place_of, unmap}
+use Rattle.wh_pairs.specs.PairData.{PairData}
+use Rattle.wh_pairs.proofs.ByPlace.{contains_at, place_of, unmap}
 use Rattle.wh_subterm.specs.Marked.{HeadsASide}
 use Rattle.wh_subterm.proofs.DropLemmas.{contains_or_not}
 use Rattle.wh_calls.specs.MarkedCalls.{CallsEnd}

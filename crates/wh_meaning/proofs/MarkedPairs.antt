@@ -6,7 +6,7 @@ use Rattle.wh_terms.specs.Sight.{NoFree}
 use Rattle.wh_terms.specs.Typing.{Symbols, Declared, Typed}
 use Rattle.wh_terms.specs.Rules.{RewriteRule, AreWellMade}
 use Rattle.wh_step.specs.Step.{Step}
-use Rattle.wh_system.specs.PairData.{PairData}
+use Rattle.wh_pairs.specs.PairData.{PairData}
 use Rattle.wh_calls.specs.MarkedCalls.{CallsEnd}
 use Rattle.wh_hopoly.specs.Evaluation.{Interpretation, NormalInterpretations}
 use Rattle.wh_polycheck.specs.Sides.{types_of_metas, side_polynomial, Interprets, RulesAreCovered, IsNormOfSide}

@@ -11,7 +11,7 @@ use Rattle.wh_terms.specs.Typing.{Symbols, Declared, Typed, typed_bound, typed_f
 use Rattle.wh_terms.specs.Rules.{RewriteRule, IsWellMade}
 use Rattle.wh_terms.proofs.TypingLaws.{FitsLoose, fits-free, typed-act}
 use Rattle.wh_system.specs.Needs.{need_of}
-use Rattle.wh_system.specs.PairData.{PairData, Within}
+use Rattle.wh_pairs.specs.PairData.{PairData, Within}
 use Rattle.wh_system.specs.Systems.{SystemData}
 use Rattle.wh_system.specs.WellMade.{IsWellMadeSystem}
 use Rattle.wh_pairs.specs.Spines.{spine_arguments, symbol_of}

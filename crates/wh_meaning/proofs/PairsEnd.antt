@@ -11,7 +11,7 @@ use Rattle.wh_terms.specs.Rules.{RewriteRule, AreWellMade}
 use Rattle.wh_step.specs.Step.{Step}
 use Rattle.wh_laws.specs.Ends.{Ends, StepsIn, step_here, step_there}
 use Rattle.wh_laws.proofs.EndsLaws.{ends-next}
-use Rattle.wh_system.specs.PairData.{PairData}
+use Rattle.wh_pairs.specs.PairData.{PairData}
 use Rattle.wh_calls.specs.MarkedCalls.{MarkedCall, IsTypedCall, AreTypedBodies, PairStep, ArgumentsStep, SomePairStep, CallStep, CallsEnd}
 use Rattle.wh_hopoly.specs.Evaluation.{Interpretation, NormalInterpretations}
 use Rattle.wh_polycheck.specs.Sides.{Interprets, RulesAreCovered}

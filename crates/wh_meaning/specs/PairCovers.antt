@@ -4,7 +4,7 @@ use Rattle.std.specs.Prelude.{ℕ, ◌≡◌, List, Some, slice_get, Contains}
 use Rattle.wh_terms.specs.Tree.{tms_of}
 use Rattle.wh_terms.specs.Typing.{Symbols}
 use Rattle.wh_terms.specs.Rules.{RewriteRule}
-use Rattle.wh_system.specs.PairData.{PairData}
+use Rattle.wh_pairs.specs.PairData.{PairData}
 use Rattle.wh_calls.specs.MarkedCalls.{MarkedCall}
 use Rattle.wh_hopoly.specs.Evaluation.{Interpretation}
 use Rattle.wh_hopoly.specs.Polynomials.{Polynomial}

@@ -4,7 +4,7 @@ ghost use Rattle.std.specs.Prelude.{ℕ, ◌≡◌, ◌⊎◌, List, Contains, S
 ghost use Rattle.wh_terms.specs.Typing.{Symbols};
 ghost use Rattle.wh_terms.specs.Rules.{RewriteRule, AreWellMade};
 ghost use Rattle.wh_step.specs.Step.{Step};
-ghost use Rattle.wh_system.specs.PairData.{PairData};
+ghost use Rattle.wh_pairs.specs.PairData.{PairData};
 ghost use Rattle.wh_system.specs.Systems.{SystemData};
 ghost use Rattle.wh_system.specs.WellMade.{IsWellMadeSystem};
 ghost use Rattle.wh_pairs.specs.Candidates.{candidates};

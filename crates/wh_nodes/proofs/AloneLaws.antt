@@ -4,7 +4,7 @@ use Rattle.wh_terms.specs.Tree.{Tm}
 use Rattle.wh_terms.specs.Typing.{Symbols}
 use Rattle.wh_terms.specs.Rules.{RewriteRule}
 use Rattle.wh_laws.specs.Ends.{Ends}
-use Rattle.wh_system.specs.PairData.{PairData}
+use Rattle.wh_pairs.specs.PairData.{PairData}
 use Rattle.wh_graph.specs.May.{Follows}
 use Rattle.wh_pairs.proofs.MemberLemmas.{none_there, head_or_behind}
 use Rattle.wh_calls.specs.MarkedCalls.{MarkedCall, SomePairStep, CallStep, CallsEnd}

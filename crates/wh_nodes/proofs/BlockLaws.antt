@@ -5,13 +5,13 @@ use Rattle.wh_terms.specs.Tree.{Tm}
 use Rattle.wh_terms.specs.Typing.{Symbols}
 use Rattle.wh_terms.specs.Rules.{RewriteRule}
 use Rattle.wh_laws.specs.Ends.{Ends, ends}
-use Rattle.wh_system.specs.PairData.{PairData}
+use Rattle.wh_pairs.specs.PairData.{PairData}
 use Rattle.wh_graph.specs.May.{Follows}
 use Rattle.wh_graph.specs.Components.{IsIn}
 use Rattle.wh_graph.specs.Blocks.{AreBlocks}
 use Rattle.wh_calls.specs.MarkedCalls.{MarkedCall, CallStep, CallsEnd}
 use Rattle.wh_nodes.specs.Proves.{InSet}
-use Rattle.wh_system.proofs.ByPlace.{some_one, contains_at}
+use Rattle.wh_pairs.proofs.ByPlace.{some_one, contains_at}
 use Rattle.wh_nodes.proofs.ManyLaws.{ends_induct}
 use Rattle.wh_nodes.proofs.MayLaws.{MayIsSound}
 use Rattle.wh_nodes.proofs.CallLaws.{calls_fewer, no_pair_calls, other_pairs, other_arguments, ComesFrom, comes_step, comes_kept, comes_may}

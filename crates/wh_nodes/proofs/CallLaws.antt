@@ -7,7 +7,7 @@ use Rattle.wh_terms.specs.Value.{Body, Values}
 use Rattle.wh_terms.specs.Rules.{RewriteRule}
 use Rattle.wh_laws.specs.Ends.{Ends, ends, StepsIn}
 use Rattle.wh_laws.proofs.EndsLaws.{ends-simulated, ends-list}
-use Rattle.wh_system.specs.PairData.{PairData}
+use Rattle.wh_pairs.specs.PairData.{PairData}
 use Rattle.wh_graph.specs.May.{May}
 use Rattle.wh_calls.specs.MarkedCalls.{MarkedCall, PairStep, ArgumentsStep, SomePairStep, CallStep, CallsEnd}
 use Rattle.wh_nodes.specs.Many.{Many, stay}

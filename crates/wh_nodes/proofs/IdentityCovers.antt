@@ -4,7 +4,7 @@ use Rattle.std.specs.Prelude.{◌⊎◌, true, false}
 use Rattle.std.proofs.lemmas.List.Elements.{All-nil, All-cons}
 use Rattle.wh_types.specs.Ty.{arguments}
 use Rattle.wh_terms.specs.Rules.{RewriteRule}
-use Rattle.wh_system.specs.PairData.{PairData}
+use Rattle.wh_pairs.specs.PairData.{PairData}
 use Rattle.wh_pairs.proofs.MemberLemmas.{none_there, at_head}
 use Rattle.wh_subterm.specs.Marked.{IsMarked, AreMarked}
 use Rattle.wh_hopoly.specs.Polynomials.{zero_poly, no_factors, times, no_arguments, Normal}

@@ -2,7 +2,7 @@
 use Rattle.std.proofs.Common.{◌≡◌, ℕ, zero, suc, List, ◌⊎◌, inl, inr, Some, slice_get, refl, sym, subst}
 use Rattle.wh_laws.specs.Ends.{Ends, ends, StepsIn, step_here, step_there}
 use Rattle.wh_nodes.specs.Many.{Many, stay, go}
-use Rattle.wh_system.proofs.ByPlace.{some_one}
+use Rattle.wh_pairs.proofs.ByPlace.{some_one}
 
 pub many-join : {A : Type 0} {R : A → A → Type 0} {a b c : A} → Many R a b → Many R b c → Many R a c
 many-join stay m = m

@@ -6,7 +6,7 @@ use Rattle.wh_types.specs.Ty.{Ty, ◌⇒◌}
 use Rattle.wh_terms.specs.Tree.{meta, none}
 use Rattle.wh_terms.specs.Substitution.{act, acts, cons, up, up_free}
 use Rattle.wh_laws.specs.Ranks.{rank_of, IsAccessible}
-use Rattle.wh_system.specs.PairData.{PairData}
+use Rattle.wh_pairs.specs.PairData.{PairData}
 use Rattle.wh_access.specs.Readings.{Place}
 use Rattle.wh_access.specs.Passing.{AllAccessible, EachUsed, Passes, IsPassing}
 use Rattle.wh_pairs.specs.Candidates.{candidates, freed}

@@ -11,7 +11,7 @@ use Rattle.wh_step.proofs.Instances.{Instance}
 use Rattle.wh_step.proofs.RawStep.{RawStep, step_raw}
 use Rattle.wh_laws.specs.Ends.{StepsIn}
 use Rattle.wh_laws.proofs.SystemSteps.{instance_headed}
-use Rattle.wh_system.specs.PairData.{PairData}
+use Rattle.wh_pairs.specs.PairData.{PairData}
 use Rattle.wh_graph.specs.May.{May}
 use Rattle.wh_calls.proofs.NeedLaws.{rule_need}
 use Rattle.wh_nodes.specs.Many.{Many}

@@ -5,7 +5,7 @@ use Rattle.wh_terms.specs.Typing.{Symbols}
 use Rattle.wh_terms.specs.Rules.{RewriteRule, AreWellMade}
 use Rattle.wh_step.specs.Step.{Step, in_function, in_argument}
 use Rattle.wh_laws.proofs.PartLaws.{PassesToParts}
-use Rattle.wh_system.specs.PairData.{PairData}
+use Rattle.wh_pairs.specs.PairData.{PairData}
 use Rattle.wh_pairs.proofs.MemberLemmas.{none_there, at_head, behind, head_or_behind}
 use Rattle.wh_calls.specs.MarkedCalls.{CallsEnd}
 use Rattle.wh_meaning.specs.Covering.{HaveTypedSides}

@@ -5,10 +5,10 @@ use Rattle.wh_terms.specs.Tree.{Tm}
 use Rattle.wh_terms.specs.Typing.{WellTyped}
 use Rattle.wh_step.specs.Step.{Step}
 use Rattle.wh_step.specs.Reduction.{Bounded}
-use Rattle.wh_system.specs.PairData.{PairData}
+use Rattle.wh_pairs.specs.PairData.{PairData}
 use Rattle.wh_system.specs.Systems.{SystemData}
 use Rattle.wh_system.specs.WellMade.{IsWellMadeSystem}
-use Rattle.wh_system.proofs.ByPlace.{place_of}
+use Rattle.wh_pairs.proofs.ByPlace.{place_of}
 use Rattle.wh_access.specs.Passing.{IsPassing}
 use Rattle.wh_pairs.specs.Candidates.{candidates}
 use Rattle.wh_pairs.specs.Subsumption.{ArePairs}

@@ -5,7 +5,7 @@ use Rattle.wh_types.specs.Ty.{Ty, sort, ◌⇒◌}
 use Rattle.wh_terms.specs.Tree.{Tm, bound, fun, meta, lam, app, none, more}
 use Rattle.wh_terms.specs.Typing.{Symbols, Declared}
 use Rattle.wh_terms.specs.Rules.{RewriteRule}
-use Rattle.wh_system.specs.PairData.{PairData}
+use Rattle.wh_pairs.specs.PairData.{PairData}
 use Rattle.wh_system.specs.Systems.{SystemData}
 use Rattle.wh_subterm.specs.Projections.{Chosen}
 use Rattle.wh_nodes.specs.Nodes.{Node, done, subterm}

@@ -2,7 +2,7 @@
 use Rattle.std.specs.Prelude.{ℕ, ◌↔◌, List, [], ◌∷◌, Contains}
 use Rattle.wh_terms.specs.Typing.{Symbols}
 use Rattle.wh_terms.specs.Rules.{RewriteRule}
-use Rattle.wh_system.specs.PairData.{PairData, IsIncreasing}
+use Rattle.wh_pairs.specs.PairData.{PairData, IsIncreasing}
 use Rattle.wh_graph.specs.May.{Follows}
 use Rattle.wh_graph.specs.Blocks.{AreBlocks}
 use Rattle.wh_subterm.specs.Projections.{Chosen}

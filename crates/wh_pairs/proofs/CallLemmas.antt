@@ -9,7 +9,7 @@ use Rattle.wh_terms.specs.Rules.{RewriteRule}
 use Rattle.wh_terms.specs.declared.term.Term.{Term}
 use Rattle.wh_terms.proofs.TermLemmas.{join, tms_take_next, weight, weights}
 use Rattle.wh_terms.proofs.SameLemmas.{count_tms}
-use Rattle.wh_system.specs.PairData.{Within}
+use Rattle.wh_pairs.specs.PairData.{Within}
 use Rattle.wh_pairs.specs.Spines.{spine_arguments}
 use Rattle.wh_pairs.specs.Conditions.{with_condition}
 use Rattle.wh_pairs.specs.Calls.{Call, calls, calls_within}

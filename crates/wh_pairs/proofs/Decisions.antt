@@ -7,7 +7,7 @@ use Rattle.wh_terms.specs.Tree.{Tm, bound, free, fun, meta, lam, app, Tms, none,
 use Rattle.wh_terms.specs.Typing.{Declared}
 use Rattle.wh_terms.specs.Sight.{Occurs, OccursIn}
 use Rattle.wh_terms.proofs.TypeTests.{same_ty-self, same_ty-equal}
-use Rattle.wh_system.specs.PairData.{PairData, Within}
+use Rattle.wh_pairs.specs.PairData.{PairData, Within}
 use Rattle.wh_pairs.specs.Conditions.{AreAmong}
 use Rattle.wh_pairs.specs.Subsumption.{EqualSides, IsSubsumed, IsDropped, for_earlier, for_later, AreLeft, none_left, one_dropped, one_kept}
 use Rattle.wh_pairs.proofs.MemberLemmas.{none_there, at_head, behind, head_or_behind}

@@ -9,7 +9,7 @@ use Rattle.wh_terms.specs.Rules.{RewriteRule}
 use Rattle.wh_system.specs.Needs.{need_of, first_need, is_symbol}
 use Rattle.wh_system.specs.Systems.{SystemData}
 use Rattle.wh_system.specs.WellMade.{IsWellMadeSystem}
-use Rattle.wh_system.specs.PairData.{Within}
+use Rattle.wh_pairs.specs.PairData.{Within}
 use Rattle.wh_pairs.specs.Calls.{Call, calls, calls_within, call_where_defined, calls_of}
 use Rattle.wh_pairs.specs.Known.{SymbolsBelow, AllSymbolsBelow, TakesArguments}
 use Rattle.wh_pairs.proofs.MemberLemmas.{none_there, at_head, behind, head_or_behind}

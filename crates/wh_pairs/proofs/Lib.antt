@@ -1,3 +1,6 @@
+pub mod PairLemmas
+pub mod ByPlace
+pub mod Increasing
 pub mod Rows
 pub mod SubsumptionLaws
 pub mod ListLemmas

@@ -2,8 +2,8 @@
 use Rattle.std.proofs.Common.{◌≡◌, Bool, true, false, List, [], ◌∷◌, length, refl, subst, sym, arith}
 use Rattle.std.specs.List.Retain.{IsFiltered, ReturnsInTurn}
 use Rattle.std.specs.List.{items_where_true}
-use Rattle.wh_system.specs.PairData.{PairData, pair_data}
-use Rattle.wh_system.specs.declared.pairs.Pair.{Pair}
+use Rattle.wh_pairs.specs.PairData.{PairData, pair_data}
+use Rattle.wh_pairs.specs.declared.pair.Pair.{Pair}
 use Rattle.wh_pairs.specs.Subsumption.{IsSubsumed}
 use Rattle.wh_pairs.specs.Views.{pairs_data}
 use Rattle.wh_pairs.proofs.SubsumptionLaws.{Thinned, thin_none, thin_out, thin_keep}

@@ -5,7 +5,7 @@ use Rattle.wh_terms.specs.Tree.{Tm, bound, fun, meta, lam, app, none, more}
 use Rattle.wh_terms.specs.Typing.{Symbols, Declared}
 use Rattle.wh_terms.specs.Rules.{RewriteRule}
 use Rattle.wh_terms.specs.Substitution.{act, acts, cons, up, up_free}
-use Rattle.wh_system.specs.PairData.{PairData, Within}
+use Rattle.wh_pairs.specs.PairData.{PairData, Within}
 use Rattle.wh_pairs.specs.Candidates.{candidates, freed}
 use Rattle.wh_pairs.specs.Conditions.{AreAmong}
 use Rattle.wh_pairs.specs.Subsumption.{IsSubsumed, IsDropped, ArePairs, none_left, one_dropped, one_kept, for_earlier, for_later}

@@ -7,7 +7,7 @@ use Rattle.wh_terms.specs.Typing.{Symbols}
 use Rattle.wh_terms.specs.Rules.{RewriteRule}
 use Rattle.wh_terms.specs.Erase.{rewrite_rule, rewrite_rules}
 use Rattle.wh_terms.specs.declared.rule.Rule.{Rule}
-use Rattle.wh_system.specs.PairData.{PairData}
+use Rattle.wh_pairs.specs.PairData.{PairData}
 use Rattle.wh_pairs.specs.Calls.{Call, calls_of}
 use Rattle.wh_pairs.specs.Candidates.{candidate, candidates_from}
 use Rattle.wh_pairs.specs.Subsumption.{IsDropped, for_earlier, for_later, AreLeft, none_left, one_dropped, one_kept, ArePairs}

@@ -4,7 +4,7 @@ use Rattle.std.specs.Prelude.{Contains}
 use Rattle.std.proofs.lemmas.List.Elements.{Contains-append_cases, Contains-append_left, Contains-append_right}
 use Rattle.wh_terms.specs.Tree.{tms_of}
 use Rattle.wh_terms.specs.Sight.{OccursIn}
-use Rattle.wh_system.specs.PairData.{PairData}
+use Rattle.wh_pairs.specs.PairData.{PairData}
 use Rattle.wh_pairs.specs.Conditions.{AreAmong}
 use Rattle.wh_pairs.specs.Subsumption.{EqualSides, IsSubsumed, IsDropped, for_earlier, for_later, AreLeft, none_left, one_dropped, one_kept}
 use Rattle.wh_pairs.specs.Survivors.{Survive}

@@ -4,7 +4,7 @@ use Rattle.wh_types.specs.Ty.{Ty}
 use Rattle.wh_terms.specs.Tree.{Tm, fun, meta, lam, app, Tms, none, more}
 use Rattle.wh_terms.specs.Rules.{RewriteRule}
 use Rattle.wh_system.specs.Needs.{need_of}
-use Rattle.wh_system.specs.PairData.{Within}
+use Rattle.wh_pairs.specs.PairData.{Within}
 use Rattle.wh_pairs.specs.Conditions.{with_condition}
 
 -- a defined symbol as the head of a spine (Fuhs and Kop 2019, the candidate terms of a right side)

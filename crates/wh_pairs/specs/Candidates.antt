@@ -5,7 +5,7 @@ use Rattle.wh_terms.specs.Tree.{Tm, bound, free, meta, none, head}
 use Rattle.wh_terms.specs.Substitution.{act, cons}
 use Rattle.wh_terms.specs.Typing.{Symbols, Declared}
 use Rattle.wh_terms.specs.Rules.{RewriteRule}
-use Rattle.wh_system.specs.PairData.{PairData}
+use Rattle.wh_pairs.specs.PairData.{PairData}
 use Rattle.wh_pairs.specs.Spines.{spine_arguments, symbol_of}
 use Rattle.wh_pairs.specs.Calls.{Call, calls_of}
 

@@ -1,3 +1,4 @@
+pub mod PairData
 pub mod Spines
 pub mod Conditions
 pub mod Calls

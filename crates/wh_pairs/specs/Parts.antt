@@ -3,7 +3,7 @@ use Rattle.std.specs.Prelude.{List, [], ◌∷◌, ◌++◌}
 use Rattle.wh_types.specs.Ty.{Ty}
 use Rattle.wh_terms.specs.Tree.{Tm}
 use Rattle.wh_terms.specs.Rules.{RewriteRule}
-use Rattle.wh_system.specs.PairData.{Within}
+use Rattle.wh_pairs.specs.PairData.{Within}
 use Rattle.wh_pairs.specs.Calls.{Call, calls}
 
 -- the calls in the arguments of a spine, one after another

@@ -2,7 +2,7 @@
 use Rattle.std.specs.Prelude.{ℕ, ◌≡◌, List, [], ◌∷◌, Contains, slice_get}
 use Rattle.wh_terms.specs.Tree.{tms_of}
 use Rattle.wh_terms.specs.Sight.{OccursIn}
-use Rattle.wh_system.specs.PairData.{PairData}
+use Rattle.wh_pairs.specs.PairData.{PairData}
 use Rattle.wh_pairs.specs.Conditions.{AreAmong}
 
 -- two candidates of one rule have equal sides: their right sides are the same trees, and each meta-variable that occurs in

@@ -1,6 +1,6 @@
 -- What is known of the pairs among the candidates of a rule while these come one by one.
 use Rattle.std.specs.Prelude.{List, Contains}
-use Rattle.wh_system.specs.PairData.{PairData}
+use Rattle.wh_pairs.specs.PairData.{PairData}
 use Rattle.wh_pairs.specs.Subsumption.{IsSubsumed, ArePairs}
 
 -- one of the pairs subsumes the candidate

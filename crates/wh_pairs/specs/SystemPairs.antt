@@ -1,7 +1,7 @@
 -- The dependency pairs of a system.
 use Rattle.std.specs.Prelude.{◌<◌, ◌≤◌, List, length}
 use Rattle.wh_system.specs.Systems.{SystemData}
-use Rattle.wh_system.specs.PairData.{PairData}
+use Rattle.wh_pairs.specs.PairData.{PairData}
 use Rattle.wh_pairs.specs.Candidates.{candidates}
 use Rattle.wh_pairs.specs.Subsumption.{ArePairs}
 

@@ -5,8 +5,8 @@ use Rattle.wh_terms.specs.Tree.{Tm}
 use Rattle.wh_terms.specs.Erase.{tm}
 use Rattle.wh_terms.specs.Scope.{scope}
 use Rattle.wh_terms.specs.declared.term.Term.{Term}
-use Rattle.wh_system.specs.PairData.{PairData, within, pair_data}
-use Rattle.wh_system.specs.declared.pairs.Pair.{Pair}
+use Rattle.wh_pairs.specs.PairData.{PairData, within, pair_data}
+use Rattle.wh_pairs.specs.declared.pair.Pair.{Pair}
 use Rattle.wh_pairs.specs.Calls.{Call}
 use Rattle.wh_pairs.specs.declared.calling.Call as code
 

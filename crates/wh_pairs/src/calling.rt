@@ -7,7 +7,7 @@ ghost use Rattle.wh_types.specs.Erase.{ty};
 ghost use Rattle.wh_terms.specs.Erase.{tm, tms, rewrite_rule};
 ghost use Rattle.wh_terms.specs.Tree.{head, tms_of};
 ghost use Rattle.wh_terms.specs.Scope.{scope};
-ghost use Rattle.wh_system.specs.PairData.{within};
+ghost use Rattle.wh_pairs.specs.PairData.{within};
 ghost use Rattle.wh_system.specs.SystemView.{system_data};
 ghost use Rattle.wh_pairs.specs.Calls.{calls, calls_within, calls_of};
 ghost use Rattle.wh_pairs.specs.Parts.{calls_each};
@@ -18,7 +18,8 @@ use crate::conditions::with_condition;
 use crate::numbers::{counted, sum};
 use crate::spine::{Spine, spine_of};
 use std::alloc::{AllocError, Global};
-use wh_system::{Condition, System};
+use crate::pair::Condition;
+use wh_system::System;
 use wh_terms::{Rule, Term, Terms};
 use wh_types::SimpleType;
 

@@ -7,7 +7,7 @@ ghost use Rattle.wh_terms.specs.Erase.{tm, symbols, declared_metas, declared_met
 ghost use Rattle.wh_terms.specs.Scope.{scope};
 ghost use Rattle.wh_terms.specs.Kinds.{kinds_of};
 ghost use Rattle.wh_terms.specs.Substitution.{act};
-ghost use Rattle.wh_system.specs.PairData.{within, pair_data};
+ghost use Rattle.wh_pairs.specs.PairData.{within, pair_data};
 ghost use Rattle.wh_pairs.specs.Candidates.{candidate, freed, missing_types, nullary, numbered_from};
 ghost use Rattle.wh_pairs.specs.Known.{TakesArguments};
 ghost use Rattle.wh_pairs.specs.Spines.{spine_arguments, symbol_of};
@@ -19,7 +19,7 @@ use crate::freed::{Freeing, freed_arguments, nullary};
 use crate::numbers::{counted, sum};
 use crate::spine::spine_of;
 use std::alloc::{AllocError, Global};
-use wh_system::Pair;
+use crate::pair::Pair;
 use wh_terms::{MetaDecl, Metas, Rule, Signature, Term, Terms, Types, copy_term};
 use wh_types::SimpleType;
 

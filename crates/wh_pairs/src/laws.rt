@@ -3,7 +3,7 @@
 ghost use Rattle.std.specs.Prelude.{◌≡◌, ◌⊎◌, ◌↔◌, List, Contains};
 ghost use Rattle.wh_terms.specs.Typing.{Symbols};
 ghost use Rattle.wh_terms.specs.Rules.{RewriteRule};
-ghost use Rattle.wh_system.specs.PairData.{PairData, Within};
+ghost use Rattle.wh_pairs.specs.PairData.{PairData, Within};
 ghost use Rattle.wh_pairs.specs.Conditions.{AreInOrder, with_condition};
 ghost use Rattle.wh_pairs.specs.Candidates.{candidates};
 ghost use Rattle.wh_pairs.specs.Subsumption.{ArePairs};

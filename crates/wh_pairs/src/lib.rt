@@ -10,6 +10,7 @@ mod conditions;
 mod freed;
 mod laws;
 mod numbers;
+mod pair;
 mod spine;
 mod subsumption;
 mod survivors;
@@ -17,5 +18,6 @@ mod survivors;
 pub use laws::{
     conditions_are_in_order, conditions_join_in_order, one_list_of_pairs, there_are_pairs,
 };
+pub use pair::{Condition, Conditions, Pair, PairList, PairSet};
 pub use subsumption::subsumed;
 pub use survivors::{TooManyPairs, pairs};

@@ -5,11 +5,11 @@ ghost use Rattle.wh_types.specs.Erase.{ty, tys};
 ghost use Rattle.wh_terms.specs.Tree.{tms_of};
 ghost use Rattle.wh_terms.specs.Erase.{tm, tms, declared_meta, declared_metas};
 ghost use Rattle.wh_terms.specs.Sight.{Occurs, OccursIn};
-ghost use Rattle.wh_system.specs.PairData.{pair_data};
+ghost use Rattle.wh_pairs.specs.PairData.{pair_data};
 ghost use Rattle.wh_pairs.specs.Subsumption.{IsSubsumed};
 
 use crate::conditions::are_among;
-use wh_system::Pair;
+use crate::pair::Pair;
 use wh_terms::{MetaDecl, Metas, Term, Terms, same};
 use wh_types::{SimpleType, same_type};
 

@@ -7,7 +7,7 @@ ghost use Rattle.std.specs.Prelude.{◌≡◌, ◌<◌, ◌≤◌, ◌++◌, ◌
 ghost use Rattle.wh_types.specs.Outcome.{MatchOr};
 ghost use Rattle.wh_types.specs.declared.want.Or.TheVariants.{Because};
 ghost use Rattle.wh_terms.specs.Erase.{tm, rewrite_rule};
-ghost use Rattle.wh_system.specs.PairData.{PairData, pair_data};
+ghost use Rattle.wh_pairs.specs.PairData.{PairData, pair_data};
 ghost use Rattle.wh_system.specs.SystemView.{system_data};
 ghost use Rattle.wh_pairs.specs.Calls.{calls_of};
 ghost use Rattle.wh_pairs.specs.Candidates.{candidate, candidates};
@@ -20,7 +20,8 @@ use crate::candidate::candidate;
 use crate::numbers::counted;
 use crate::subsumption::subsumed;
 use std::alloc::{AllocError, Global};
-use wh_system::{Pair, PairList, System};
+use crate::pair::{Pair, PairList};
+use wh_system::System;
 use wh_terms::Rule;
 use wh_types::Or;
 

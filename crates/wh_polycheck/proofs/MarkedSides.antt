@@ -7,7 +7,7 @@ use Rattle.wh_terms.specs.Tree.{Tms}
 use Rattle.wh_terms.specs.Sight.{AllNoFree}
 use Rattle.wh_terms.specs.Typing.{Symbols, Declared, AllTyped, typed_none, typed_more}
 use Rattle.wh_terms.specs.Rules.{RewriteRule}
-use Rattle.wh_system.specs.PairData.{PairData}
+use Rattle.wh_pairs.specs.PairData.{PairData}
 use Rattle.wh_hopoly.specs.Evaluation.{Expression, symbol, apply, Interpretation, TypedExpression, NormalInterpretations}
 use Rattle.wh_hopoly.specs.Polynomials.{Normal}
 use Rattle.wh_hopoly.proofs.ValueLaws.{interpretation_is}

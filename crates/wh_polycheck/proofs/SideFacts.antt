@@ -18,7 +18,7 @@ use Rattle.wh_terms.specs.declared.rule.Rule.{Rule}
 use Rattle.wh_terms.proofs.TypingLaws.{some_one}
 use Rattle.wh_system.specs.CanonicalView.{side_of}
 use Rattle.wh_system.specs.Needs.{need_of}
-use Rattle.wh_system.specs.PairData.{PairData}
+use Rattle.wh_pairs.specs.PairData.{PairData}
 use Rattle.wh_system.specs.Systems.{SystemData}
 use Rattle.wh_system.specs.WellMade.{IsWellMadeSystem}
 use Rattle.wh_hopoly.specs.Polynomials.{Polynomial}

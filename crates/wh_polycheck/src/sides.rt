@@ -9,7 +9,7 @@ ghost use Rattle.wh_terms.specs.Sight.{AllNoFree};
 ghost use Rattle.wh_terms.specs.Tree.{tms_of};
 ghost use Rattle.wh_terms.specs.Typing.{AllTyped};
 ghost use Rattle.wh_system.specs.CanonicalView.{side_of};
-ghost use Rattle.wh_system.specs.PairData.{pair_data};
+ghost use Rattle.wh_pairs.specs.PairData.{pair_data};
 ghost use Rattle.wh_system.specs.SystemView.{system_data};
 ghost use Rattle.wh_hopoly.specs.Erase.{interpretations, poly};
 ghost use Rattle.wh_hopoly.specs.Evaluation.{NormalInterpretations, TypedExpression, evaluate};
@@ -23,7 +23,8 @@ use crate::marks::{MarkedSymbol, kind_of_mark, mark_of};
 use crate::scopes::scope_of;
 use std::alloc::Global;
 use wh_hopoly::{Poly, PolyFault, Symbol, normal, normal_call};
-use wh_system::{Pair, System};
+use wh_pairs::Pair;
+use wh_system::System;
 use wh_terms::{Metas, Term, Terms};
 use wh_types::Or;
 

@@ -12,7 +12,7 @@ use Rattle.wh_system.specs.Systems.{SystemData}
 use Rattle.wh_system.specs.WellMade.{IsWellMadeSystem}
 use Rattle.wh_system.specs.Canonical.{Names, IsNamedBelow}
 use Rattle.wh_system.specs.CanonicalView.{names_of_rule}
-use Rattle.wh_system.specs.PairData.{PairData}
+use Rattle.wh_pairs.specs.PairData.{PairData}
 use Rattle.wh_system.proofs.CanonicalBack.{rule_there, metas_there, side_named}
 use Rattle.wh_pairs.specs.Spines.{symbol_of}
 use Rattle.wh_pairs.specs.Calls.{Call, calls_of}

@@ -9,7 +9,7 @@ use Rattle.wh_terms.specs.Rules.{RewriteRule}
 use Rattle.wh_terms.proofs.ActLaws.{act-id}
 use Rattle.wh_system.specs.Canonical.{Names, IsNamedBelow, AreNamedBelow}
 use Rattle.wh_system.specs.Needs.{need_of}
-use Rattle.wh_system.specs.PairData.{Within}
+use Rattle.wh_pairs.specs.PairData.{Within}
 use Rattle.wh_pairs.specs.Spines.{spine_arguments}
 use Rattle.wh_pairs.specs.Conditions.{with_condition}
 use Rattle.wh_pairs.specs.Calls.{Call, calls, calls_within, call_where_defined}

@@ -6,7 +6,7 @@ use Rattle.wh_text.specs.Pushes.{Pushes}
 use Rattle.wh_text.proofs.PrintLemmas.{push_bytes, push_byte, push_then}
 use Rattle.wh_system.specs.Systems.{SystemData}
 use Rattle.wh_system.specs.Canonical.{Names}
-use Rattle.wh_system.specs.PairData.{PairData}
+use Rattle.wh_pairs.specs.PairData.{PairData}
 use Rattle.wh_print.specs.PairText.{names_of_pair, put_side, put_if, put_pair}
 
 -- the line of a pair, part by part

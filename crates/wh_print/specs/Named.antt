@@ -2,7 +2,7 @@
 use Rattle.std.specs.Prelude.{◌<◌, ◌≤◌, [], length, get_or, All}
 use Rattle.wh_system.specs.Systems.{SystemData}
 use Rattle.wh_system.specs.Canonical.{IsNamedBelow}
-use Rattle.wh_system.specs.PairData.{PairData}
+use Rattle.wh_pairs.specs.PairData.{PairData}
 use Rattle.wh_print.specs.PairText.{names_of_pair}
 
 -- the rule has names for its own meta-variables, which come first in the pair; there are names for the symbols of both

@@ -5,7 +5,7 @@ use Rattle.wh_terms.specs.Tree.{Tm}
 use Rattle.wh_text.specs.Spelling.{put_term}
 use Rattle.wh_system.specs.Systems.{SystemData}
 use Rattle.wh_system.specs.Canonical.{Names, name_at, raw_of}
-use Rattle.wh_system.specs.PairData.{PairData, Within}
+use Rattle.wh_pairs.specs.PairData.{PairData, Within}
 
 -- the name of a fresh meta-variable: `?` and its number
 abbrev pub fresh_name : ℕ → List ℕ

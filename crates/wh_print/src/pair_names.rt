@@ -3,7 +3,7 @@
 
 ghost use Rattle.std.specs.Prelude.{◌≡◌, ◌<◌, ◌++◌, OnOk, IfOk, length};
 ghost use Rattle.wh_system.specs.Canonical.{name_at};
-ghost use Rattle.wh_system.specs.PairData.{pair_data};
+ghost use Rattle.wh_pairs.specs.PairData.{pair_data};
 ghost use Rattle.wh_system.specs.SystemView.{system_data};
 ghost use Rattle.wh_print.specs.Named.{IsNamedPair};
 ghost use Rattle.wh_print.specs.PairText.{names_of_pair};
@@ -11,7 +11,8 @@ ghost use Rattle.wh_print.specs.PairViews.{pair_names};
 
 use crate::counts::counted;
 use std::alloc::AllocError;
-use wh_system::{Pair, System};
+use wh_pairs::Pair;
+use wh_system::System;
 use wh_text::{Name, print_number};
 use wh_types::Bytes;
 

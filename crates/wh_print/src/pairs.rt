@@ -4,7 +4,7 @@ ghost use Rattle.std.specs.Prelude.{◌≡◌, ◌<◌, ◌∷◌, IfOk, OnOk, A
 ghost use Rattle.wh_terms.specs.Erase.{tm};
 ghost use Rattle.wh_text.specs.Pushes.{Pushes};
 ghost use Rattle.wh_system.specs.Canonical.{IsNamedBelow};
-ghost use Rattle.wh_system.specs.PairData.{PairData, within, pair_data};
+ghost use Rattle.wh_pairs.specs.PairData.{PairData, within, pair_data};
 ghost use Rattle.wh_system.specs.SystemView.{system_data};
 ghost use Rattle.wh_pairs.specs.Candidates.{candidates};
 ghost use Rattle.wh_pairs.specs.Subsumption.{ArePairs};
@@ -17,7 +17,8 @@ use crate::counts::counted;
 use crate::pair_names::{PairNames, names_in, print_meta};
 use crate::pair_terms::print_tree;
 use std::alloc::{AllocError, Global};
-use wh_system::{Condition, Pair, PairList, System};
+use wh_pairs::{Condition, Pair, PairList};
+use wh_system::System;
 use wh_terms::{Term, Terms};
 use wh_text::print_number;
 use wh_types::Bytes;

@@ -8,9 +8,9 @@ use Rattle.std.proofs.lemmas.List.{length-append, get_or_append_left, get_or-app
 use Rattle.std.proofs.lemmas.List.Elements.{All-head, All-tail, Contains-get_or, Contains-append_cases}
 use Rattle.std.proofs.lemmas.Map.Made.{length-le_from_is_member, IsDistinct-from_AllPairs, is_member-Decides}
 use Rattle.std.proofs.lemmas.Map.Steps.{length-le_from_distinct_below}
-use Rattle.wh_system.specs.PairData.{IsIncreasing}
-use Rattle.wh_system.proofs.Increasing.{increasing_at}
-use Rattle.wh_system.proofs.ByPlace.{place_of}
+use Rattle.wh_pairs.specs.PairData.{IsIncreasing}
+use Rattle.wh_pairs.proofs.Increasing.{increasing_at}
+use Rattle.wh_pairs.proofs.ByPlace.{place_of}
 use Rattle.wh_pairs.proofs.MemberLemmas.{none_there, at_head, behind, head_or_behind}
 use Rattle.wh_graph.specs.Components.{IsIn, AreComponents}
 use Rattle.wh_nodes.specs.Nodes.{IsSetOf, IsKept}

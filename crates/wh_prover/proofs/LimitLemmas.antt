@@ -6,8 +6,8 @@ use Rattle.std.proofs.lemmas.List.Elements.{All-contains, All-get_or, All-weaker
 use Rattle.wh_types.specs.Ty.{Ty, sort, ◌⇒◌, arguments}
 use Rattle.wh_system.specs.Systems.{SystemData}
 use Rattle.wh_system.specs.WellMade.{IsWellMadeSystem, ArgumentsWithin, IsTypeOver}
-use Rattle.wh_system.specs.PairData.{PairData, IsIncreasing}
-use Rattle.wh_system.proofs.ByPlace.{place_of, contains_at, unmap, remap}
+use Rattle.wh_pairs.specs.PairData.{PairData, IsIncreasing}
+use Rattle.wh_pairs.proofs.ByPlace.{place_of, contains_at, unmap, remap}
 use Rattle.wh_pairs.proofs.KnownLemmas.{takes_arguments}
 use Rattle.wh_graph.specs.Components.{AreComponents}
 use Rattle.wh_subterm.specs.Projections.{Chosen}

@@ -2,7 +2,7 @@
 use Rattle.std.proofs.Common.{ℕ, List}
 use Rattle.wh_system.specs.Systems.{SystemData}
 use Rattle.wh_system.specs.WellMade.{IsWellMadeSystem}
-use Rattle.wh_system.specs.PairData.{PairData}
+use Rattle.wh_pairs.specs.PairData.{PairData}
 use Rattle.wh_cert.specs.Written.{Cert, yes, no}
 use Rattle.wh_covering.specs.CoveringFaults.{with_limits}
 use Rattle.wh_checker.specs.Valid.{IsValidCert}

@@ -3,10 +3,10 @@ use Rattle.std.proofs.Common.{◌≡◌, ◌↔◌, ℕ, ◌+◌, ◌<◌, ◌�
 use Rattle.std.proofs.lemmas.Option.{slice_get_within, get_or_from_slice_get}
 use Rattle.std.proofs.lemmas.List.{get_or-take, length-take}
 use Rattle.std.proofs.lemmas.List.Elements.{All-from_get_or, Contains-append_left, Contains-push, Contains-push_cases, Contains-get_or}
-use Rattle.wh_system.specs.PairData.{IsIncreasing}
-use Rattle.wh_system.proofs.PairLemmas.{increasing_push}
-use Rattle.wh_system.proofs.Increasing.{increasing_at}
-use Rattle.wh_system.proofs.ByPlace.{contains_at, place_of, same_or_below, some_one}
+use Rattle.wh_pairs.specs.PairData.{IsIncreasing}
+use Rattle.wh_pairs.proofs.PairLemmas.{increasing_push}
+use Rattle.wh_pairs.proofs.Increasing.{increasing_at}
+use Rattle.wh_pairs.proofs.ByPlace.{contains_at, place_of, same_or_below, some_one}
 use Rattle.wh_pairs.proofs.MemberLemmas.{none_there}
 use Rattle.wh_nodes.specs.Nodes.{IsSetOf, IsKept}
 

@@ -1,7 +1,7 @@
 -- What the prover answers: a certificate of termination or of a loop that is valid, or why it gives up.
 use Rattle.std.specs.Prelude.{ℕ, ◌≡◌, ◌⊎◌, List, length, map, All}
 use Rattle.wh_system.specs.Systems.{SystemData}
-use Rattle.wh_system.specs.PairData.{PairData}
+use Rattle.wh_pairs.specs.PairData.{PairData}
 use Rattle.wh_access.specs.Passing.{IsPassing}
 use Rattle.wh_access.specs.Found.{IsCause}
 use Rattle.wh_cert.specs.Limits.{IsCert}

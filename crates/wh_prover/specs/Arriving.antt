@@ -2,7 +2,7 @@
 use Rattle.std.specs.Prelude.{ℕ, ◌≡◌, ◌≢◌, ◌≤◌, List, [], ◌∷◌, length, Contains}
 use Rattle.wh_terms.specs.Rules.{RewriteRule}
 use Rattle.wh_system.specs.Systems.{SystemData}
-use Rattle.wh_system.specs.PairData.{PairData}
+use Rattle.wh_pairs.specs.PairData.{PairData}
 use Rattle.wh_graph.specs.May.{Follows}
 use Rattle.wh_graph.specs.Components.{Reaches, AreComponents}
 use Rattle.wh_subterm.specs.Projections.{Chosen}

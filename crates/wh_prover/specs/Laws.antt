@@ -1,7 +1,7 @@
 -- What the text of a proof comes to.
 use Rattle.std.specs.Prelude.{ℕ, ◌≡◌, List}
 use Rattle.wh_system.specs.Systems.{SystemData}
-use Rattle.wh_system.specs.PairData.{PairData}
+use Rattle.wh_pairs.specs.PairData.{PairData}
 use Rattle.wh_system.specs.WellMade.{IsWellMadeSystem}
 use Rattle.wh_pairs.specs.SystemPairs.{HasPairs}
 use Rattle.wh_cert.specs.Written.{Cert}

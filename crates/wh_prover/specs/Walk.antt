@@ -1,7 +1,7 @@
 -- What the walk over the sets of pairs keeps true.
 use Rattle.std.specs.Prelude.{ℕ, ◌≡◌, ◌+◌, ◌*◌, ◌^◌, ◌<◌, ◌≤◌, List, [], ◌∷◌, ◌++◌, length, All}
 use Rattle.wh_system.specs.Systems.{SystemData}
-use Rattle.wh_system.specs.PairData.{PairData}
+use Rattle.wh_pairs.specs.PairData.{PairData}
 use Rattle.wh_cert.specs.Written as w
 use Rattle.wh_cert.specs.Written.{Preorder}
 use Rattle.wh_cert.specs.Limits.{ArgFits, NodeFits, NodeWithin}

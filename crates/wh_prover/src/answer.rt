@@ -4,7 +4,7 @@ use wh_access::NoRanks;
 use wh_cert::Certificate;
 use wh_find_loop::Visits;
 use wh_sat_trail::Clauses;
-use wh_system::PairSet;
+use wh_pairs::PairSet;
 
 /// What bounds the search.
 #[derive(Clone, Copy)]

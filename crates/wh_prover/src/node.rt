@@ -18,7 +18,8 @@ use wh_find_poly::find_interpretation;
 use wh_find_subterm::find_projection;
 use wh_graph::Graph;
 use wh_sat::Search;
-use wh_system::{PairList, PairSet, System};
+use wh_pairs::{PairList, PairSet};
+use wh_system::System;
 
 /// Gives the set a node, and puts what this leaves on top of the stack, the first of it on top; or says why the search ends on the
 /// set. The graph comes first: a set without pairs, with several components, or with one pair that may not follow itself. Then

@@ -16,7 +16,8 @@ use wh_access::find_ranks;
 use wh_cert::{Certificate, Nodes, YesCertificate};
 use wh_find_loop::{LoopSearch, find_loop};
 use wh_graph::Graph;
-use wh_system::{PairList, System};
+use wh_pairs::PairList;
+use wh_system::System;
 use wh_types::{Or, Ranks};
 
 /// A proof that every reduction of the system ends, or a loop, or why the search gave up.

@@ -2,10 +2,10 @@
 
 ghost use Rattle.std.specs.Prelude.{◌≡◌, ◌++◌, ◌<◌, ℕ, All, IfOk, OnOk, length, reverse};
 ghost use Rattle.wh_nodes.specs.Nodes.{IsKept, IsSetOf};
-ghost use Rattle.wh_system.specs.PairData.{IsIncreasing};
+ghost use Rattle.wh_pairs.specs.PairData.{IsIncreasing};
 
 use std::alloc::{AllocError, Global};
-use wh_system::PairSet;
+use wh_pairs::PairSet;
 use wh_types::{Numbers, Ranks};
 
 /// The set of the numbers below `count`.

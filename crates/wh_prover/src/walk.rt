@@ -14,7 +14,8 @@ use crate::node::settle;
 use std::alloc::{AllocError, Global};
 use wh_cert::Nodes;
 use wh_graph::Graph;
-use wh_system::{PairList, PairSet, System};
+use wh_pairs::{PairList, PairSet};
+use wh_system::System;
 
 /// Puts the nodes of a proof for the set of all pairs into the list, each before what it leaves; or says on which set the walk
 /// ends, and why. The sets that are still to be settled are kept on a stack, the next on top.

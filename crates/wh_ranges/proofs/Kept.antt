@@ -4,7 +4,7 @@ use Rattle.std.specs.Bool.{OnTrue}
 use Rattle.std.specs.declared.alloc.AllocError.{AllocError}
 use Rattle.wh_terms.specs.Typing.{Symbols}
 use Rattle.wh_terms.specs.Rules.{RewriteRule}
-use Rattle.wh_system.specs.PairData.{PairData}
+use Rattle.wh_pairs.specs.PairData.{PairData}
 use Rattle.wh_ranges.specs.Excluded.{coefficient_in, LieIn, IsExcluded, AreKept}
 use Rattle.wh_ranges.specs.Bounds.{Has, IsSetTo}
 

@@ -9,8 +9,8 @@ use Rattle.std.proofs.lemmas.Option.{get_or_from_slice_get}
 use Rattle.wh_types.specs.Ty.{Ty, arguments}
 use Rattle.wh_terms.specs.Typing.{Symbols}
 use Rattle.wh_terms.specs.Rules.{RewriteRule}
-use Rattle.wh_system.specs.PairData.{PairData}
-use Rattle.wh_system.proofs.ByPlace.{contains_at, place_of, remap, some_one}
+use Rattle.wh_pairs.specs.PairData.{PairData}
+use Rattle.wh_pairs.proofs.ByPlace.{contains_at, place_of, remap, some_one}
 use Rattle.wh_hopoly.specs.Polynomials.{Polynomial, zero_poly, plus, Factors}
 use Rattle.wh_hopoly.specs.Evaluation.{Interpretation}
 use Rattle.wh_hopoly.specs.Erase.{interpretations}

@@ -11,11 +11,11 @@ use Rattle.wh_terms.specs.declared.rule.Rule.{Rule}
 use Rattle.wh_terms.specs.Sight.{NoFree}
 use Rattle.wh_terms.specs.Typing.{Symbols, Declared, Typed}
 use Rattle.wh_terms.specs.Rules.{RewriteRule, AreWellMade}
-use Rattle.wh_system.specs.PairData.{PairData, pair_data}
-use Rattle.wh_system.specs.declared.pairs.Pair.{Pair}
+use Rattle.wh_pairs.specs.PairData.{PairData, pair_data}
+use Rattle.wh_pairs.specs.declared.pair.Pair.{Pair}
 use Rattle.wh_system.specs.SystemView.{system_data}
 use Rattle.wh_system.specs.WellMade.{IsWellMadeSystem}
-use Rattle.wh_system.proofs.ByPlace.{contains_at, contains_number, map_at, place_of, some_one}
+use Rattle.wh_pairs.proofs.ByPlace.{contains_at, contains_number, map_at, place_of, some_one}
 use Rattle.wh_subterm.specs.Marked.{AreMarked}
 use Rattle.wh_hopoly.specs.Polynomials.{Polynomial, Normal}
 use Rattle.wh_hopoly.specs.Evaluation.{Interpretation, NormalInterpretations, Run}

@@ -3,7 +3,7 @@ use Rattle.std.proofs.Common.{◌≡◌, ℕ, zero, suc, ◌+◌, ◌<◌, ◌�
 use Rattle.std.specs.Ordering.{ordering_reverse}
 use Rattle.std.proofs.lemmas.Option.{slice_get_within}
 use Rattle.wh_types.specs.Ty.{Ty}
-use Rattle.wh_system.proofs.ByPlace.{place_of}
+use Rattle.wh_pairs.proofs.ByPlace.{place_of}
 use Rattle.wh_hopoly.specs.Polynomials.{Polynomial, zero_poly, plus, Factors, compare_factors, MonomialBefore, Sorted, Normal}
 use Rattle.wh_hopoly.specs.Arithmetic.{by_order}
 use Rattle.wh_hopoly.specs.Moves.{MonomialAt}

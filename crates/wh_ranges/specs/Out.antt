@@ -1,7 +1,7 @@
 -- What is told of ranges: that no interpretations in them let a pair go, or that none is lost with what was cut off.
 use Rattle.std.specs.Prelude.{ℕ, ◌≡◌, Bool, false, true, List, Some, length, map, slice_get, Contains}
 use Rattle.wh_terms.specs.Rules.{RewriteRule}
-use Rattle.wh_system.specs.PairData.{PairData, pair_data}
+use Rattle.wh_pairs.specs.PairData.{PairData, pair_data}
 use Rattle.wh_system.specs.SystemView.{system_data}
 use Rattle.wh_hopoly.specs.Erase.{interpretations}
 use Rattle.wh_polycheck.specs.SideResults.{marks_of}

@@ -1,7 +1,7 @@
 //! Ranges of coefficients, told by their ends.
 
 ghost use Rattle.std.specs.Prelude.{◌≡◌, IfOk, OnOk, [], get_or, map, replicate, set};
-ghost use Rattle.wh_system.specs.PairData.{pair_data};
+ghost use Rattle.wh_pairs.specs.PairData.{pair_data};
 ghost use Rattle.wh_subterm.specs.Marked.{AreMarked};
 ghost use Rattle.wh_ranges.specs.Bounds.{AreRanges, IsBound, IsSetTo, lists_in, lists_of};
 ghost use Rattle.wh_ranges.specs.Excluded.{coefficient_in};

@@ -1,7 +1,7 @@
 //! What guides the search in ranges: which conditions read what, and which of them wait to be looked at. Answers rest on none of this.
 
 ghost use Rattle.std.specs.Prelude.{map};
-ghost use Rattle.wh_system.specs.PairData.{pair_data};
+ghost use Rattle.wh_pairs.specs.PairData.{pair_data};
 ghost use Rattle.wh_subterm.specs.Marked.{AreMarked};
 ghost use Rattle.wh_guesses.specs.Tasks.{IsTaskOf};
 

@@ -3,7 +3,7 @@
 ghost use Rattle.std.specs.Bool.{OnTrue};
 ghost use Rattle.std.specs.Prelude.{◌≡◌, ◌<◌, IfOk, Some, false, length, map, slice_get, true};
 ghost use Rattle.wh_terms.specs.Rules.{RewriteRule};
-ghost use Rattle.wh_system.specs.PairData.{pair_data};
+ghost use Rattle.wh_pairs.specs.PairData.{pair_data};
 ghost use Rattle.wh_system.specs.SystemView.{system_data};
 ghost use Rattle.wh_guesses.specs.Tasks.{IsGuessOf, IsTaskOf};
 ghost use Rattle.wh_ranges.specs.Bounds.{AreRanges};

@@ -6,11 +6,11 @@ use std::alloc::{AllocError, Global};
 use std::test::Fail;
 use wh_access::{Inaccessible, NoRanks, check_ranks, find_ranks};
 use wh_graph::{BlockFault, check_blocks, components, may_follow};
-use wh_pairs::pairs;
+use wh_pairs::{PairList, PairSet, pairs};
 use wh_read::read_system;
 use wh_samples::{APART, BETA, ETA, EVEN_ODD, FUNCTION_LIST, IDENTITY, MAP, ORDINALS, UNTYPED};
 use wh_subterm::{Choice, Projection, SubtermFault, check_projection};
-use wh_system::{PairList, PairSet, System};
+use wh_system::System;
 use wh_types::{Blocks, Numbers, Or, Ranks};
 
 /// The system of a text that is one; want of memory stands for all else.

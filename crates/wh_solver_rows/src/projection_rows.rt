@@ -5,10 +5,10 @@ ghost use Rattle.std.specs.Prelude.{◌<◌, All, IfOk, length};
 use std::alloc::{AllocError, Global};
 use std::test::Fail;
 use wh_find_subterm::{ProjectionFound, find_projection};
-use wh_pairs::pairs;
+use wh_pairs::{PairList, PairSet, pairs};
 use wh_read::read_system;
 use wh_sat::Search;
-use wh_system::{PairList, PairSet, System};
+use wh_system::System;
 
 /// The system of a text that is one, and its pairs; want of memory stands for all else.
 fn problem_of(alloc: Global, text: &[u8]) -> Result<(System, PairList), AllocError> {

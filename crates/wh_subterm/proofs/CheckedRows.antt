@@ -1,8 +1,8 @@
 -- What a check of a projection answers.
 use Rattle.std.proofs.Common.{◌≡◌, ℕ, List, Result, map, MatchResult, Contains, All, subst}
 use Rattle.wh_terms.specs.Rules.{RewriteRule}
-use Rattle.wh_system.specs.PairData.{PairData, pair_data}
-use Rattle.wh_system.specs.declared.pairs.Pair as pair
+use Rattle.wh_pairs.specs.PairData.{PairData, pair_data}
+use Rattle.wh_pairs.specs.declared.pair.Pair as pair
 use Rattle.wh_subterm.specs.Projections.{Chosen}
 use Rattle.wh_subterm.specs.declared.projection.Choice as code
 use Rattle.wh_subterm.specs.declared.projection.SubtermFault.{SubtermFault}

@@ -2,12 +2,12 @@
 use Rattle.std.proofs.Common.{◌≡◌, ℕ, ◌<◌, ◌≤◌, List, length, map, get_or, Some, slice_get, Contains, ap, sym, ◌∙◌, arith}
 use Rattle.std.proofs.lemmas.List.{length-map}
 use Rattle.std.proofs.lemmas.Option.{get_or_from_slice_get}
-use Rattle.wh_system.specs.PairData.{IsIncreasing}
+use Rattle.wh_pairs.specs.PairData.{IsIncreasing}
 use Rattle.wh_subterm.specs.declared.projection.Choice as code
 use Rattle.wh_subterm.specs.Projections.{Chosen}
 use Rattle.wh_subterm.specs.SubtermRows.{chosen, chosen_symbols}
-use Rattle.wh_system.proofs.ByPlace.{some_one, contains_at, place_of, map_at, remap}
-use Rattle.wh_system.proofs.Increasing.{one_place}
+use Rattle.wh_pairs.proofs.ByPlace.{some_one, contains_at, place_of, map_at, remap}
+use Rattle.wh_pairs.proofs.Increasing.{one_place}
 
 -- the choice and the symbol at a place, as a loop reads them
 

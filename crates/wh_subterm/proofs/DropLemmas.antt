@@ -7,7 +7,7 @@ use Rattle.std.proofs.lemmas.Map.Made.{length-le_from_is_member, is_member-Decid
 use Rattle.std.proofs.lemmas.Option.{slice_get-get_or}
 use Rattle.std.proofs.lemmas.Bool.{cases_eq}
 use Rattle.wh_subterm.specs.SubtermRows.{StandsTwice, HasStray, IsBadDrop}
-use Rattle.wh_system.proofs.ByPlace.{contains_at, place_of}
+use Rattle.wh_pairs.proofs.ByPlace.{contains_at, place_of}
 
 later : (m n : ℕ) (ns : List ℕ) → Contains ns n → Contains (m ∷ ns) n
 later m n ns found = let at = place_of ns n found in contains_at (m ∷ ns) (suc at.0) n at.1

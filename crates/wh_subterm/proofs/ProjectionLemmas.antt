@@ -2,11 +2,11 @@
 use Rattle.std.proofs.Common.{◌≡◌, ◌↔◌, IsTrue, ℕ, ◌+◌, ◌<◌, ◌≤◌, ◌⊎◌, inl, inr, Bool, true, false, List, length, Some, slice_get, Contains, refl, ap, sym, subst, ◌∙◌, arith}
 use Rattle.std.proofs.lemmas.Option.{slice_get_within}
 use Rattle.wh_terms.specs.Tree.{Tm}
-use Rattle.wh_system.specs.PairData.{PairData, IsIncreasing}
+use Rattle.wh_pairs.specs.PairData.{PairData, IsIncreasing}
 use Rattle.wh_subterm.specs.Parts.{Part}
 use Rattle.wh_subterm.specs.Projections.{Chosen, IsProjected, Equal, Below, Decreasing}
 use Rattle.wh_subterm.specs.SubtermRows.{chosen_symbols, IsDecreasing, IsNotDecreasing}
-use Rattle.wh_system.proofs.ByPlace.{some_one}
+use Rattle.wh_pairs.proofs.ByPlace.{some_one}
 use Rattle.wh_subterm.proofs.ChoiceLemmas.{one_choice, symbol_chosen}
 
 pub project_unchosen : (args : List Chosen) (f : ℕ) (ts : List Tm) (t : Tm) → (Contains (chosen_symbols args) f → ⊥) → IsProjected args f ts t → ⊥

@@ -1,6 +1,6 @@
 -- The marked symbols of a set of pairs.
 use Rattle.std.specs.Prelude.{ℕ, ◌≡◌, ◌⊎◌, ◌↔◌, List, Some, Contains, slice_get}
-use Rattle.wh_system.specs.PairData.{PairData, IsIncreasing}
+use Rattle.wh_pairs.specs.PairData.{PairData, IsIncreasing}
 
 -- the symbol heads a side of the pair
 abbrev pub HeadsASide : ℕ → PairData → Type 0

@@ -1,7 +1,7 @@
 -- Projections of marked symbols to arguments, and what they say of a pair.
 use Rattle.std.specs.Prelude.{ℕ, ◌+◌, ◌≡◌, ◌⊎◌, Bool, true, false, List, Some, Contains, slice_get}
 use Rattle.wh_terms.specs.Tree.{Tm}
-use Rattle.wh_system.specs.PairData.{PairData}
+use Rattle.wh_pairs.specs.PairData.{PairData}
 use Rattle.wh_subterm.specs.Parts.{Part}
 
 -- a choice: for a marked symbol the number of one of its arguments, counted from 1

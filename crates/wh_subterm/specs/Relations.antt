@@ -1,7 +1,7 @@
 -- How the two sides of a pair stand to one another under a choice of an argument for each.
 use Rattle.std.specs.Prelude.{ℕ, ◌≡◌, ◌⊎◌, Some, slice_get}
 use Rattle.wh_terms.specs.Tree.{Tm}
-use Rattle.wh_system.specs.PairData.{PairData}
+use Rattle.wh_pairs.specs.PairData.{PairData}
 use Rattle.wh_subterm.specs.Parts.{Part}
 use Rattle.wh_subterm.specs.declared.relation.Relation.{Relation}
 use Rattle.wh_subterm.specs.declared.relation.Relation.TheVariants as is

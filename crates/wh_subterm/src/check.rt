@@ -1,7 +1,7 @@
 //! The conditions of the subterm criterion, in the order in which they are tested.
 
 ghost use Rattle.std.specs.Prelude.{◌<◌, All, MatchResult, length, map};
-ghost use Rattle.wh_system.specs.PairData.{IsIncreasing, pair_data};
+ghost use Rattle.wh_pairs.specs.PairData.{IsIncreasing, pair_data};
 ghost use Rattle.wh_system.specs.SystemView.{system_data};
 ghost use Rattle.wh_subterm.specs.SubtermRows.{IsFirstSubtermFault, IsProjection, chosen};
 
@@ -9,7 +9,8 @@ use crate::decrease::first_not_decreasing;
 use crate::dropped::is_bad_drop;
 use crate::marked::{are_for_marked, first_out_of_place, first_without_argument};
 use crate::projection::{Choice, Projection, SubtermFault};
-use wh_system::{Pair, PairList, PairSet, System};
+use wh_pairs::{Pair, PairList, PairSet};
+use wh_system::System;
 
 /// Whether a projection lets the pairs in `drop` go from the set (the subterm criterion of Kop 2012, in the profile of this
 /// project).

@@ -3,14 +3,14 @@
 ghost use Rattle.std.specs.Prelude.{◌≡◌, ◌↔◌, ◌<◌, ℕ, All, Contains, IsTrue, MatchOption, MatchResult, length, map};
 ghost use Rattle.wh_terms.specs.Tree.{Tm};
 ghost use Rattle.wh_terms.specs.Erase.{tm};
-ghost use Rattle.wh_system.specs.PairData.{IsIncreasing, pair_data};
+ghost use Rattle.wh_pairs.specs.PairData.{IsIncreasing, pair_data};
 ghost use Rattle.wh_subterm.specs.Projections.{Below, Decreasing, IsProjected};
 ghost use Rattle.wh_subterm.specs.SubtermRows.{IsDecreasing, IsNotDecreasing, chosen, chosen_symbols};
 
 use crate::marked::choice_for;
 use crate::parts::has_part;
 use crate::projection::Choice;
-use wh_system::Pair;
+use wh_pairs::Pair;
 use wh_terms::{Term, Terms, same};
 
 /// The least pair of the set that is neither equal nor below, or that is dropped and not below.

@@ -1,14 +1,15 @@
 //! The marked symbols of a set of pairs, and what is chosen for them.
 
 ghost use Rattle.std.specs.Prelude.{◌≡◌, ◌≢◌, ◌↔◌, ◌<◌, ◌⊎◌, ℕ, All, Contains, IsTrue, MatchOption, length, map};
-ghost use Rattle.wh_system.specs.PairData.{IsIncreasing, pair_data};
+ghost use Rattle.wh_pairs.specs.PairData.{IsIncreasing, pair_data};
 ghost use Rattle.wh_system.specs.SystemView.{system_data};
 ghost use Rattle.wh_subterm.specs.Marked.{HeadsASide, IsMarked};
 ghost use Rattle.wh_subterm.specs.Projections.{Chosen};
 ghost use Rattle.wh_subterm.specs.SubtermRows.{AreForMarked, HasNone, IsFirstOf, IsPlace, NoneIs, chosen, chosen_symbols};
 
 use crate::projection::Choice;
-use wh_system::{Pair, System};
+use wh_pairs::Pair;
+use wh_system::System;
 
 /// Whether the choices are for the marked symbols of the set, each once and in order.
 pub fn are_for_marked(pairs: &[Pair], set: &[u32], args: &[Choice]) -> bool

@@ -2,11 +2,11 @@
 
 ghost use Rattle.std.specs.Prelude.{◌≡◌, MatchOption, None, Some, map, slice_get};
 ghost use Rattle.wh_terms.specs.Erase.{tm};
-ghost use Rattle.wh_system.specs.PairData.{pair_data};
+ghost use Rattle.wh_pairs.specs.PairData.{pair_data};
 ghost use Rattle.wh_subterm.specs.Relations.{IsRelation, Relates};
 
 use crate::parts::has_part;
-use wh_system::Pair;
+use wh_pairs::Pair;
 use wh_terms::{Term, Terms, same};
 
 /// What the chosen arguments of a pair are to one another.

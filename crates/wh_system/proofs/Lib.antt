@@ -16,9 +16,6 @@ pub mod ScopeLemmas
 pub mod RuleSteps
 pub mod PartsAlong
 pub mod SaidLemmas
-pub mod PairLemmas
-pub mod ByPlace
-pub mod Increasing
 pub mod TypedDecided
 pub mod MadeDecided
 pub mod TypedPassed

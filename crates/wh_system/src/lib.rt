@@ -1,9 +1,8 @@
-//! Systems: what a text says with its names looked up, and pairs of marked terms as data.
+//! Systems: what a text says with its names looked up.
 #![tactic(auto)]
 
 mod laws;
 mod names;
-mod pairs;
 mod raw_term;
 mod resolution;
 mod resolving;
@@ -15,7 +14,6 @@ pub use laws::{
     canonical_terms_stand_for_themselves, parts_say_one_system, places_do_not_matter,
     systems_are_well_made,
 };
-pub use pairs::{Condition, Conditions, Pair, PairList, PairSet};
 pub use raw_term::{TermNames, raw_type, raw_with};
 pub use system::System;
 pub use wh_parts::{

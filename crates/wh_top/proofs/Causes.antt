@@ -4,7 +4,7 @@ use Rattle.std.specs.List.{All}
 use Rattle.std.proofs.lemmas.List.Elements.{All-nil, All-cons}
 use Rattle.wh_types.specs.Ty.{Ty, sort, ◌⇒◌, SortsBelow}
 use Rattle.wh_system.specs.Systems.{SystemData}
-use Rattle.wh_system.specs.PairData.{PairData}
+use Rattle.wh_pairs.specs.PairData.{PairData}
 use Rattle.wh_system.specs.WellMade.{IsWellMadeSystem}
 use Rattle.wh_access.specs.Passing.{IsFirstUnread}
 use Rattle.wh_access.specs.Demands.{Demand, HasSort, Asks, IsDemand, Leads, LeadsAlong, IsStrictCycle}

@@ -1,7 +1,7 @@
 -- Where all files are read and the system is one with few enough pairs, a reply answers what is asked.
 use Rattle.std.proofs.Common.{ℕ, ◌≡◌, ◌≤◌, ◌⊎◌, inl, inr, List, length, Option, Some, subst, arith}
 use Rattle.wh_system.specs.Systems.{SystemData}
-use Rattle.wh_system.specs.PairData.{PairData}
+use Rattle.wh_pairs.specs.PairData.{PairData}
 use Rattle.wh_pairs.specs.Candidates.{candidates}
 use Rattle.wh_pairs.specs.SystemPairs.{HasPairs, HasTooManyPairs}
 use Rattle.wh_pairs.proofs.SubsumptionLaws.{one_list}

@@ -6,7 +6,7 @@ use Rattle.wh_terms.specs.Tree.{Tm}
 use Rattle.wh_terms.specs.Typing.{WellTyped}
 use Rattle.wh_step.specs.Reduction.{Bounded}
 use Rattle.wh_system.specs.Systems.{SystemData}
-use Rattle.wh_system.specs.PairData.{PairData}
+use Rattle.wh_pairs.specs.PairData.{PairData}
 use Rattle.wh_pairs.specs.SystemPairs.{HasPairs}
 use Rattle.wh_read.specs.Reading.{Reads}
 use Rattle.wh_read.proofs.OneSystem.{one_reading}

@@ -2,7 +2,7 @@
 use Rattle.std.specs.Prelude.{ℕ, ◌≡◌, ◌≤◌, ◌⊎◌, List, length, Some}
 use Rattle.wh_io.specs.Outside.{Rose}
 use Rattle.wh_system.specs.Systems.{SystemData}
-use Rattle.wh_system.specs.PairData.{PairData}
+use Rattle.wh_pairs.specs.PairData.{PairData}
 use Rattle.wh_pairs.specs.SystemPairs.{HasPairs}
 use Rattle.wh_read.specs.Reading.{Reads}
 use Rattle.wh_answer.specs.declared.report.Report.{Report}

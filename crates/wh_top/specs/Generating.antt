@@ -2,7 +2,7 @@
 use Rattle.std.specs.Prelude.{ℕ, ◌≡◌, ◌++◌, List, [], length, codes}
 use Rattle.std.specs.Fmt.{decimal}
 use Rattle.wh_system.specs.Systems.{SystemData}
-use Rattle.wh_system.specs.PairData.{PairData}
+use Rattle.wh_pairs.specs.PairData.{PairData}
 use Rattle.wh_pairs.specs.SystemPairs.{HasPairs, HasTooManyPairs}
 use Rattle.wh_gen.specs.Family.{gen_data}
 use Rattle.wh_cert.specs.Written as w

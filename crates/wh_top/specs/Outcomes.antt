@@ -6,7 +6,7 @@ use Rattle.wh_types.specs.declared.want.Or.TheVariants.{NoMemory, Because}
 use Rattle.wh_io.specs.declared.read.ReadFault as read
 use Rattle.wh_io.specs.declared.read.ReadFault.TheVariants as faults
 use Rattle.wh_system.specs.Systems.{SystemData}
-use Rattle.wh_system.specs.PairData.{PairData}
+use Rattle.wh_pairs.specs.PairData.{PairData}
 use Rattle.wh_pairs.specs.SystemPairs.{HasPairs, HasTooManyPairs}
 use Rattle.wh_read.specs.Reading.{Reads, Refuses}
 use Rattle.wh_cert.specs.Written.{Cert, yes, no}

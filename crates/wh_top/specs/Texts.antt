@@ -1,7 +1,7 @@
 -- The status of each answer, and the text that shows a system.
 use Rattle.std.specs.Prelude.{ℕ, ◌≡◌, List, ◌++◌, codes}
 use Rattle.wh_system.specs.Systems.{SystemData}
-use Rattle.wh_system.specs.PairData.{PairData}
+use Rattle.wh_pairs.specs.PairData.{PairData}
 use Rattle.wh_print.specs.SystemText.{system_text}
 use Rattle.wh_print.specs.PairText.{pairs_text}
 use Rattle.wh_read.specs.Reading.{Reads}

@@ -16,9 +16,9 @@ ghost use Rattle.wh_types.specs.declared.want.Or.TheVariants.{NoMemory, Because}
 use std::alloc::Global;
 use wh_answer::{ReasonWord, Report, Role};
 use wh_io::{ReadFault, Shelf, read_whole};
-use wh_pairs::pairs;
+use wh_pairs::{PairList, pairs};
 use wh_read::{Reason, Refused, read_system};
-use wh_system::{PairList, System};
+use wh_system::System;
 use wh_types::{Bytes, Or};
 
 /// How many bytes a system file may have.

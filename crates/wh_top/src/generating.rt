@@ -18,7 +18,8 @@ use wh_answer::{Report, print_answer};
 use wh_cert::Certificate;
 use wh_gen::generate;
 use wh_prover::{Answer, Options, prove};
-use wh_system::{PairList, System};
+use wh_pairs::PairList;
+use wh_system::System;
 use wh_text::print_number;
 use wh_types::{Bytes, Or};
 

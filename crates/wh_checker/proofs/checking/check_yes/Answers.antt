@@ -1,8 +1,8 @@
 use Rattle.std.proofs.Common.{◌≡◌, ◌<◌, ℕ, List, [], ◌∷◌, All, length, map, ap, sym, subst, ◌∙◌}
 use Rattle.std.proofs.lemmas.List.{length-map}
 use Rattle.wh_system.specs.SystemView.{system_data}
-use Rattle.wh_system.specs.PairData.{pair_data}
-use Rattle.wh_system.specs.declared.pairs.Pair.{Pair}
+use Rattle.wh_pairs.specs.PairData.{pair_data}
+use Rattle.wh_pairs.specs.declared.pair.Pair.{Pair}
 use Rattle.wh_pairs.specs.Views.{pairs_data}
 use Rattle.wh_nodes.specs.Nodes.{IsSetOf}
 use Rattle.wh_cert.specs.Said.{said_node}

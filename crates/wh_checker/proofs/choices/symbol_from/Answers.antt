@@ -1,7 +1,7 @@
 use Rattle.std.proofs.Common.{◌≡◌, Some, inl, inr, slice_get, sym, ap, ◌∙◌}
 use Rattle.std.proofs.lemmas.Bool.Decides.{Decides-eqb}
 use Rattle.std.proofs.lemmas.Slice.Eq.{slice_eq-Decides}
-use Rattle.wh_system.proofs.ByPlace.{read, same_or_below, some_one}
+use Rattle.wh_pairs.proofs.ByPlace.{read, same_or_below, some_one}
 use Rattle.wh_checker.proofs.choices.symbol_from.Goals as goal
 
 pub returns-then-eq-clause-found : goal.returns-then-eq-clause-found

@@ -1,6 +1,6 @@
 use Rattle.std.proofs.Common.{◌≡◌, ◌++◌, ℕ, List, map, reverse, sym, ap, subst, ◌∙◌}
 use Rattle.wh_system.specs.SystemView.{system_data}
-use Rattle.wh_system.specs.declared.pairs.Pair.{Pair}
+use Rattle.wh_pairs.specs.declared.pair.Pair.{Pair}
 use Rattle.wh_pairs.specs.Views.{pairs_data}
 use Rattle.wh_graph.specs.Blocks.{AreBlocks}
 use Rattle.wh_graph.specs.May.{Follows}

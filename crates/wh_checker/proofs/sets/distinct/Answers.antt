@@ -1,6 +1,6 @@
 use Rattle.std.proofs.Common.{◌+◌, ℕ, List, get_or, sym, subst, ◌∙◌}
 use Rattle.wh_nodes.specs.Nodes.{IsSetOf}
-use Rattle.wh_system.proofs.ByPlace.{number_at}
+use Rattle.wh_pairs.proofs.ByPlace.{number_at}
 use Rattle.wh_checker.proofs.SetLemmas.{StandsBefore, distinct_push, distinct_skip, set_same, before_end}
 use Rattle.std.proofs.Common.{Contains}
 use Rattle.wh_checker.proofs.sets.distinct.Goals as goal

@@ -1,8 +1,8 @@
 use Rattle.std.proofs.Common.{◌+◌, ◌≡◌, ◌≤◌, ℕ, List, Contains, Some, get_or, slice_get, length, sym, subst, ◌∙◌}
 use Rattle.wh_nodes.specs.Nodes.{IsSetOf}
-use Rattle.wh_system.specs.PairData.{IsIncreasing}
-use Rattle.wh_system.proofs.ByPlace.{number_at}
-use Rattle.wh_system.proofs.Increasing.{search_misses, search_finds}
+use Rattle.wh_pairs.specs.PairData.{IsIncreasing}
+use Rattle.wh_pairs.proofs.ByPlace.{number_at}
+use Rattle.wh_pairs.proofs.Increasing.{search_misses, search_finds}
 use Rattle.wh_checker.proofs.SetLemmas.{KeptBefore, kept_above, kept_push, kept_skip, kept_end}
 use Rattle.wh_checker.proofs.sets.kept.Goals as goal
 use Rattle.wh_checker.proofs.sets.kept.Goals.{then-is_err+in_ok-push, else-is_err}

@@ -1,7 +1,7 @@
 use Rattle.std.proofs.Common.{◌+◌, ◌<◌, All, length, map, reverse, drop, ap, subst, ◌∙◌}
 use Rattle.std.proofs.lemmas.List.{length-map}
 use Rattle.std.proofs.lemmas.List.Elements.{All-head}
-use Rattle.wh_system.specs.PairData.{pair_data}
+use Rattle.wh_pairs.specs.PairData.{pair_data}
 use Rattle.wh_system.specs.SystemView.{system_data}
 use Rattle.wh_pairs.specs.Views.{pairs_data}
 use Rattle.wh_cert.specs.Said.{said_node}

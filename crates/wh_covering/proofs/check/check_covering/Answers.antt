@@ -1,8 +1,8 @@
 use Rattle.std.proofs.Common.{◌≡◌, ℕ, List, [], map, Contains, Err, OnOk, Some, slice_get, refl, sym, subst, ◌∙◌}
 use Rattle.wh_types.specs.Outcome.{IfBecause, MatchOr}
 use Rattle.wh_system.specs.SystemView.{system_data}
-use Rattle.wh_system.specs.PairData.{pair_data}
-use Rattle.wh_system.specs.declared.pairs.Pair.{Pair}
+use Rattle.wh_pairs.specs.PairData.{pair_data}
+use Rattle.wh_pairs.specs.declared.pair.Pair.{Pair}
 use Rattle.wh_subterm.specs.Marked.{AreMarked}
 use Rattle.wh_hopoly.specs.Erase.{interpretations, transfers}
 use Rattle.wh_polycheck.specs.SideResults.{marks_of}

@@ -1,6 +1,6 @@
 use Rattle.std.proofs.Common.{ℕ, ◌↔◌, List, map, Contains, sym, subst}
 use Rattle.wh_system.specs.SystemView.{system_data}
-use Rattle.wh_system.specs.PairData.{pair_data}
+use Rattle.wh_pairs.specs.PairData.{pair_data}
 use Rattle.wh_hopoly.specs.Erase.{interpretations, transfers}
 use Rattle.wh_polycheck.specs.SideResults.{marks_of}
 use Rattle.wh_covering.proofs.CoverWalk.{ok_so, cause_so, right_pair_same, pair_fault_same}

@@ -1,6 +1,6 @@
 use Rattle.std.proofs.Common.{true, false}
 use Rattle.wh_system.specs.SystemView.{system_data}
-use Rattle.wh_system.specs.PairData.{pair_data}
+use Rattle.wh_pairs.specs.PairData.{pair_data}
 use Rattle.wh_hopoly.specs.Erase.{interpretations, poly, transfers}
 use Rattle.wh_polycheck.specs.SideResults.{marks_of}
 use Rattle.wh_meaning.specs.Covering.{pair_run}

@@ -2,7 +2,7 @@ use Rattle.std.proofs.Common.{refl, ap, sym, subst, ◌∙◌}
 use Rattle.wh_types.specs.Erase.{tys}
 use Rattle.wh_types.specs.Ty.{arguments}
 use Rattle.wh_system.specs.SystemView.{system_data}
-use Rattle.wh_system.proofs.ByPlace.{read_map, before_more, before_all, map_length}
+use Rattle.wh_pairs.proofs.ByPlace.{read_map, before_more, before_all, map_length}
 use Rattle.wh_hopoly.specs.Polynomials.{Normal}
 use Rattle.wh_hopoly.specs.Erase.{poly}
 use Rattle.wh_polycheck.specs.Marks.{marked_types}

@@ -1,5 +1,5 @@
 use Rattle.wh_system.specs.SystemView.{system_data}
-use Rattle.wh_system.proofs.ByPlace.{Before}
+use Rattle.wh_pairs.proofs.ByPlace.{Before}
 use Rattle.wh_hopoly.specs.Polynomials.{Normal}
 use Rattle.wh_polycheck.specs.Marks.{marked_types}
 use Rattle.wh_polycheck.specs.SideResults.{marks_of}

@@ -1,7 +1,7 @@
 use Rattle.std.proofs.Common.{◌<◌, true, false, map, length, get_or, sym, subst, arith}
 use Rattle.wh_system.specs.SystemView.{system_data}
-use Rattle.wh_system.specs.PairData.{pair_data}
-use Rattle.wh_system.proofs.ByPlace.{read_map, map_length, number_at, contains_number}
+use Rattle.wh_pairs.specs.PairData.{pair_data}
+use Rattle.wh_pairs.proofs.ByPlace.{read_map, map_length, number_at, contains_number}
 use Rattle.wh_hopoly.specs.Erase.{interpretations, transfers}
 use Rattle.wh_polycheck.specs.SideResults.{marks_of}
 use Rattle.wh_meaning.specs.Covering.{pair_run}

@@ -1,6 +1,6 @@
 use Rattle.std.proofs.Common.{ℕ, ◌+◌, [], ◌∷◌, map}
 use Rattle.std.specs.List.{range_with_len}
-use Rattle.wh_system.specs.PairData.{pair_data}
+use Rattle.wh_pairs.specs.PairData.{pair_data}
 use Rattle.wh_find_subterm.specs.Cases.{spot}
 use Rattle.wh_find_subterm.proofs.CaseLemmas.{adds_more, adds_one, made_more}
 use Rattle.wh_find_subterm.proofs.cases.add_alike.Goals as goal

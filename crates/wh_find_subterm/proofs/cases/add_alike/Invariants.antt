@@ -1,6 +1,6 @@
 use Rattle.std.proofs.Common.{map}
 use Rattle.std.specs.List.{range_with_len}
-use Rattle.wh_system.specs.PairData.{pair_data}
+use Rattle.wh_pairs.specs.PairData.{pair_data}
 use Rattle.wh_find_subterm.specs.Cases.{Adds, spot}
 use Rattle.wh_find_subterm.proofs.cases.add_alike.Given as goal
 

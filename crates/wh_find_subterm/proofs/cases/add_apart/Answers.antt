@@ -1,6 +1,6 @@
 use Rattle.std.proofs.Common.{ℕ, ◌+◌}
 use Rattle.std.specs.List.{flat_map, range_with_len}
-use Rattle.wh_system.specs.PairData.{pair_data}
+use Rattle.wh_pairs.specs.PairData.{pair_data}
 use Rattle.wh_find_subterm.specs.Cases.{spots_beside}
 use Rattle.wh_find_subterm.proofs.CaseLemmas.{adds_more, joined_more}
 use Rattle.wh_find_subterm.proofs.cases.add_apart.Goals as goal

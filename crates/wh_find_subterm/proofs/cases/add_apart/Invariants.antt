@@ -1,5 +1,5 @@
 use Rattle.std.specs.List.{flat_map, range_with_len}
-use Rattle.wh_system.specs.PairData.{pair_data}
+use Rattle.wh_pairs.specs.PairData.{pair_data}
 use Rattle.wh_find_subterm.specs.Cases.{Adds, spots_beside}
 use Rattle.wh_find_subterm.proofs.cases.add_apart.Given as goal
 

@@ -1,6 +1,6 @@
 use Rattle.std.proofs.Common.{map, get_or, sym, arith}
-use Rattle.wh_system.specs.PairData.{pair_data}
-use Rattle.wh_system.proofs.ByPlace.{read_map}
+use Rattle.wh_pairs.specs.PairData.{pair_data}
+use Rattle.wh_pairs.proofs.ByPlace.{read_map}
 use Rattle.wh_find_subterm.proofs.CaseLemmas.{cases_more}
 use Rattle.wh_find_subterm.proofs.Chosen.{pair_is}
 use Rattle.wh_find_subterm.proofs.cases.cases_of.Goals as goal

@@ -1,5 +1,5 @@
 use Rattle.std.proofs.Common.{◌≡◌, ◌+◌, map, take}
-use Rattle.wh_system.specs.PairData.{pair_data}
+use Rattle.wh_pairs.specs.PairData.{pair_data}
 use Rattle.wh_find_subterm.specs.Cases.{AreCases, spots}
 use Rattle.wh_find_subterm.proofs.cases.cases_of.Given as goal
 

@@ -1,8 +1,8 @@
 use Rattle.std.proofs.Common.{List, ℕ, ◌≡◌, ◌+◌, ◌<◌, false, length, get_or, map, All, sym, ap, subst, ◌∙◌}
 use Rattle.std.proofs.lemmas.List.{length-map}
-use Rattle.wh_system.specs.PairData.{IsIncreasing, pair_data}
+use Rattle.wh_pairs.specs.PairData.{IsIncreasing, pair_data}
 use Rattle.wh_system.specs.SystemView.{system_data}
-use Rattle.wh_system.specs.declared.pairs.Pair as code
+use Rattle.wh_pairs.specs.declared.pair.Pair as code
 use Rattle.wh_sat.specs.Outcomes.{IsOutcome}
 use Rattle.wh_sat.specs.Solving.{Solves}
 use Rattle.wh_subterm.specs.Marked.{AreMarked}

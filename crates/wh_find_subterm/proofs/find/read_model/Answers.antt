@@ -1,5 +1,5 @@
 use Rattle.std.proofs.Common.{List, ℕ, false, get_or, map, sym, ap, subst, ◌∙◌}
-use Rattle.wh_system.specs.PairData.{IsIncreasing}
+use Rattle.wh_pairs.specs.PairData.{IsIncreasing}
 use Rattle.wh_subterm.specs.declared.projection.Choice as code
 use Rattle.wh_subterm.specs.SubtermRows.{chosen, chosen_symbols}
 use Rattle.wh_find_subterm.proofs.Models.{symbols_by}

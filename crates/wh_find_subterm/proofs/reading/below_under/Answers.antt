@@ -1,6 +1,6 @@
 use Rattle.std.proofs.Common.{List, ℕ, ◌+◌, map, get_or, sym, subst, ◌∙◌}
-use Rattle.wh_system.specs.PairData.{pair_data}
-use Rattle.wh_system.proofs.ByPlace.{number_at, read_map}
+use Rattle.wh_pairs.specs.PairData.{pair_data}
+use Rattle.wh_pairs.proofs.ByPlace.{number_at, read_map}
 use Rattle.wh_subterm.specs.Projections.{Below}
 use Rattle.wh_subterm.specs.SubtermRows.{chosen}
 use Rattle.wh_find_subterm.specs.Reading.{IsBelowSet}

@@ -1,5 +1,5 @@
 use Rattle.std.proofs.Common.{map}
-use Rattle.wh_system.specs.PairData.{pair_data}
+use Rattle.wh_pairs.specs.PairData.{pair_data}
 use Rattle.wh_subterm.specs.SubtermRows.{chosen}
 use Rattle.wh_find_subterm.specs.Reading.{IsBelowSet}
 use Rattle.wh_find_subterm.proofs.reading.below_under.Given as goal

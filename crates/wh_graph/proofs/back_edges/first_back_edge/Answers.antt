@@ -1,11 +1,11 @@
 use Rattle.std.proofs.Common.{ℕ, Option, map, take, length, get_or, subst, arith}
-use Rattle.wh_system.specs.PairData.{pair_data}
+use Rattle.wh_pairs.specs.PairData.{pair_data}
 use Rattle.wh_system.specs.SystemView.{system_data}
 use Rattle.wh_graph.specs.Blocks.{IsListed, IsBackEdge}
 use Rattle.wh_graph.specs.Least.{LeastOf}
 use Rattle.wh_graph.specs.May.{Follows}
-use Rattle.wh_system.proofs.ByPlace.{number_at, contains_number, place_of, before_more, before_all}
-use Rattle.wh_system.proofs.Increasing.{smaller_earlier}
+use Rattle.wh_pairs.proofs.ByPlace.{number_at, contains_number, place_of, before_more, before_all}
+use Rattle.wh_pairs.proofs.Increasing.{smaller_earlier}
 use Rattle.wh_graph.proofs.EdgeLemmas.{IsPlaceOf, edge_from, edge_to, edge_source, listed_below}
 use Rattle.wh_graph.proofs.back_edges.first_back_edge.Goals as goal
 

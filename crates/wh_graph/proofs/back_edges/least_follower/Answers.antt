@@ -1,10 +1,10 @@
 use Rattle.std.proofs.Common.{◌+◌, ℕ, List, Option, map, get_or, Contains, sym, subst}
 use Rattle.std.proofs.lemmas.List.Elements.{Contains-get_or}
-use Rattle.wh_system.specs.PairData.{pair_data}
+use Rattle.wh_pairs.specs.PairData.{pair_data}
 use Rattle.wh_system.specs.SystemView.{system_data}
 use Rattle.wh_graph.specs.Least.{LeastOf}
 use Rattle.wh_graph.specs.May.{Follows}
-use Rattle.wh_system.proofs.ByPlace.{read, place_of}
+use Rattle.wh_pairs.proofs.ByPlace.{read, place_of}
 use Rattle.wh_graph.proofs.LeastLemmas.{AmongBlocks, blocks_more, blocks_all}
 use Rattle.wh_graph.proofs.back_edges.least_follower.Goals as goal
 

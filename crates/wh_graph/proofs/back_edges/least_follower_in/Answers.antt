@@ -1,9 +1,9 @@
 use Rattle.std.proofs.Common.{◌+◌, ℕ, Option, map, get_or, sym, subst, ◌∙◌}
-use Rattle.wh_system.specs.PairData.{PairData, pair_data}
+use Rattle.wh_pairs.specs.PairData.{PairData, pair_data}
 use Rattle.wh_system.specs.SystemView.{system_data}
 use Rattle.wh_graph.specs.Least.{LeastOf}
 use Rattle.wh_graph.specs.May.{Follows}
-use Rattle.wh_system.proofs.ByPlace.{number_at, read_map}
+use Rattle.wh_pairs.proofs.ByPlace.{number_at, read_map}
 use Rattle.wh_graph.proofs.FollowLemmas.{follows_from, follows_may}
 use Rattle.wh_graph.proofs.LeastLemmas.{Among, among_more, among_skip, among_all}
 use Rattle.wh_graph.proofs.back_edges.least_follower_in.Goals as goal

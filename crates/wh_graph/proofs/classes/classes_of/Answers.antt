@@ -5,7 +5,7 @@ use Rattle.std.proofs.lemmas.Option.{slice_get_within}
 use Rattle.wh_graph.specs.Classes.{HasClass, IsPlaced, AreGiven, Grown}
 use Rattle.wh_graph.specs.Graphs.{Edge, HavePassed, Turned}
 use Rattle.wh_graph.proofs.GraphLemmas.{edge_within, passed_none}
-use Rattle.wh_system.proofs.ByPlace.{some_one, contains_at, place_of}
+use Rattle.wh_pairs.proofs.ByPlace.{some_one, contains_at, place_of}
 use Rattle.wh_graph.proofs.PushLemmas.{push_old, push_new, lent_whole}
 use Rattle.wh_graph.proofs.ClassLemmas.{given_next, given_none, class_at, none_at}
 use Rattle.wh_graph.proofs.classes.classes_of.Goals as goal

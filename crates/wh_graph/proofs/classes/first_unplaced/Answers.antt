@@ -1,7 +1,7 @@
 use Rattle.std.proofs.Common.{◌<◌, inl, inr, length, get_or, slice_get, sym, ap, subst, ◌∙◌, arith}
 use Rattle.std.proofs.lemmas.List.Elements.{All-get_or}
 use Rattle.std.proofs.lemmas.Option.{slice_get_within}
-use Rattle.wh_system.proofs.ByPlace.{number_at, same_or_below, some_one}
+use Rattle.wh_pairs.proofs.ByPlace.{number_at, same_or_below, some_one}
 use Rattle.wh_graph.specs.Classes.{IsPlaced}
 use Rattle.wh_graph.proofs.ClassLemmas.{read_class}
 use Rattle.wh_graph.proofs.classes.first_unplaced.Goals as goal

@@ -1,6 +1,6 @@
 use Rattle.std.proofs.Common.{◌≡◌, ◌+◌, ◌<◌, ℕ, List, length, get_or, Some, slice_get, sym, ap, subst, ◌∙◌, arith}
 use Rattle.std.proofs.lemmas.List.Elements.{All-get_or}
-use Rattle.wh_system.proofs.ByPlace.{number_at}
+use Rattle.wh_pairs.proofs.ByPlace.{number_at}
 use Rattle.wh_graph.specs.Graphs.{AtPlaces, Edge}
 use Rattle.wh_graph.proofs.GraphLemmas.{AreListsTo, lists_none, lists_push, lists_all, row_at, row_at_place, at_places_within}
 use Rattle.wh_graph.proofs.component.at_places.Goals as goal

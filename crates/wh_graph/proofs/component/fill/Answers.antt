@@ -1,6 +1,6 @@
 use Rattle.std.proofs.Common.{◌≡◌, ◌+◌, ◌<◌, ◌++◌, ℕ, List, [], ◌∷◌, Some, None, length, get_or, slice_get, sym, ap, subst, ◌∙◌, arith}
 use Rattle.std.proofs.lemmas.Option.{slice_get-get_or}
-use Rattle.wh_system.proofs.ByPlace.{number_at}
+use Rattle.wh_pairs.proofs.ByPlace.{number_at}
 use Rattle.wh_graph.specs.Classes.{AreGathered, HasClass}
 use Rattle.wh_graph.proofs.ComponentLemmas.{gathered_none, gathered_put, gathered_skip}
 use Rattle.wh_graph.proofs.GraphLemmas.{row_at}

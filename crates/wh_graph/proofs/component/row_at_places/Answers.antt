@@ -1,9 +1,9 @@
 use Rattle.std.proofs.Common.{◌+◌, ℕ, List, Result, Err, get_or, refl, sym, subst, ◌∙◌}
 use Rattle.std.specs.List.Sorted.{IsBinarySearchResult}
 use Rattle.std.specs.Ordering.{nat_cmp}
-use Rattle.wh_system.proofs.Increasing.{search_misses}
+use Rattle.wh_pairs.proofs.Increasing.{search_misses}
 use Rattle.wh_graph.proofs.CountLemmas.{search_place}
-use Rattle.wh_system.proofs.ByPlace.{number_at}
+use Rattle.wh_pairs.proofs.ByPlace.{number_at}
 use Rattle.wh_graph.proofs.GraphLemmas.{HasPlaces, places_none, places_push, places_skip, places_all}
 use Rattle.wh_graph.proofs.component.row_at_places.Goals as goal
 use Rattle.wh_graph.proofs.component.row_at_places.Goals.{in-Ok+in_ok-push-in-Ok, in-Err}

@@ -1,8 +1,8 @@
 use Rattle.std.proofs.Common.{◌≡◌, ◌+◌, ℕ, List, map, true, false, sym, subst, ◌∙◌, arith}
 use Rattle.std.proofs.lemmas.List.{length-map}
-use Rattle.wh_system.specs.PairData.{pair_data}
+use Rattle.wh_pairs.specs.PairData.{pair_data}
 use Rattle.wh_system.specs.SystemView.{system_data}
-use Rattle.wh_system.proofs.ByPlace.{read_map}
+use Rattle.wh_pairs.proofs.ByPlace.{read_map}
 use Rattle.wh_graph.specs.May.{Follows}
 use Rattle.wh_graph.proofs.FollowLemmas.{follows_from, follows_may}
 use Rattle.wh_graph.proofs.GraphLemmas.{HasBelow, below_none, below_push, below_skip, follows_within}

@@ -3,7 +3,7 @@ use Rattle.wh_terms.specs.Tree.{Tm}
 use Rattle.wh_terms.specs.Erase.{tm}
 use Rattle.wh_system.specs.SystemView.{system_data}
 use Rattle.wh_graph.specs.Clash.{Clash}
-use Rattle.wh_system.proofs.ByPlace.{some_one, read_map, map_within, same_or_below}
+use Rattle.wh_pairs.proofs.ByPlace.{some_one, read_map, map_within, same_or_below}
 use Rattle.wh_graph.proofs.follow.some_clash.Goals as goal
 use Rattle.wh_graph.proofs.follow.some_clash.Goals.{else-i-patterns-via-then-i-patterns+else-clashes, else-i-patterns-via-else-i-patterns}
 

@@ -1,5 +1,5 @@
 use Rattle.std.proofs.Common.{◌≡◌, ℕ, List, inl, inr, slice_get, Contains, sym, subst, ap, ◌∙◌, arith}
-use Rattle.wh_system.proofs.ByPlace.{read, some_one, contains_at, same_or_below}
+use Rattle.wh_pairs.proofs.ByPlace.{read, some_one, contains_at, same_or_below}
 use Rattle.wh_graph.proofs.places.block_of.Goals as goal
 
 pub loop-i-preserved : goal.loop-i-preserved

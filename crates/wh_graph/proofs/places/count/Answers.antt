@@ -1,6 +1,6 @@
 use Rattle.std.proofs.Common.{ℕ, List, length, subst, arith}
 use Rattle.wh_graph.specs.Times.{AreAdded, AreCounted}
-use Rattle.wh_system.proofs.ByPlace.{read}
+use Rattle.wh_pairs.proofs.ByPlace.{read}
 use Rattle.wh_graph.proofs.CountLemmas.{counted_none, counted_more}
 use Rattle.wh_graph.proofs.places.count.Goals as goal
 

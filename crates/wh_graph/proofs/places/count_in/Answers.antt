@@ -6,8 +6,8 @@ use Rattle.std.specs.Ordering.{nat_cmp}
 use Rattle.wh_graph.specs.Times.{AreAdded}
 use Rattle.wh_graph.specs.declared.places.Times.{Times}
 use Rattle.wh_graph.specs.declared.places.Times.TheVariants.{Never}
-use Rattle.wh_system.proofs.ByPlace.{number_at}
-use Rattle.wh_system.proofs.Increasing.{search_misses}
+use Rattle.wh_pairs.proofs.ByPlace.{number_at}
+use Rattle.wh_pairs.proofs.Increasing.{search_misses}
 use Rattle.wh_graph.proofs.CountLemmas.{added_none, added_skip, added_more, search_place}
 use Rattle.wh_graph.proofs.places.count_in.Goals as goal
 use Rattle.wh_graph.proofs.places.count_in.Goals.{in-Ok, in-Err}

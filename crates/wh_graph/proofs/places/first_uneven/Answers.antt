@@ -2,8 +2,8 @@ use Rattle.std.proofs.Common.{length, get_or, inl, inr, subst}
 use Rattle.std.proofs.lemmas.Bool.{cases_lt}
 use Rattle.wh_graph.specs.Times.{IsUneven, TimesListed}
 use Rattle.wh_graph.specs.declared.places.Times.{Times}
-use Rattle.wh_system.proofs.ByPlace.{number_at, contains_number, place_of, before_more, before_all}
-use Rattle.wh_system.proofs.Increasing.{smaller_earlier}
+use Rattle.wh_pairs.proofs.ByPlace.{number_at, contains_number, place_of, before_more, before_all}
+use Rattle.wh_pairs.proofs.Increasing.{smaller_earlier}
 use Rattle.wh_graph.proofs.CountLemmas.{times_at}
 use Rattle.wh_graph.proofs.TimesLemmas.{never_uneven, often_uneven, once_even}
 use Rattle.wh_graph.proofs.places.first_uneven.Goals as goal

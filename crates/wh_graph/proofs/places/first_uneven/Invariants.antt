@@ -1,5 +1,5 @@
 use Rattle.wh_graph.specs.Times.{IsUneven}
-use Rattle.wh_system.proofs.ByPlace.{Before}
+use Rattle.wh_pairs.proofs.ByPlace.{Before}
 use Rattle.wh_graph.proofs.places.first_uneven.Given as goal
 
 abbrev pub invariant-loop-place : goal.invariant-loop-place

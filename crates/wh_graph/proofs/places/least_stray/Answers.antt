@@ -1,7 +1,7 @@
 use Rattle.std.proofs.Common.{◌+◌, ℕ, List, Option, Contains, sym, subst}
 use Rattle.wh_graph.specs.Least.{LeastOf}
 use Rattle.wh_graph.specs.Times.{IsStrayIn}
-use Rattle.wh_system.proofs.ByPlace.{read}
+use Rattle.wh_pairs.proofs.ByPlace.{read}
 use Rattle.wh_graph.proofs.LeastLemmas.{AmongBlocks, blocks_none, blocks_more, blocks_all}
 use Rattle.wh_graph.proofs.places.least_stray.Goals as goal
 

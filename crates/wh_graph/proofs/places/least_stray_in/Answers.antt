@@ -1,8 +1,8 @@
 use Rattle.std.proofs.Common.{◌+◌, Option, ℕ, Contains, get_or, sym, subst, ◌∙◌}
 use Rattle.wh_graph.specs.Least.{LeastOf}
-use Rattle.wh_system.proofs.ByPlace.{number_at}
+use Rattle.wh_pairs.proofs.ByPlace.{number_at}
 use Rattle.wh_graph.proofs.LeastLemmas.{Among, among_none, among_more, among_skip, among_all}
-use Rattle.wh_system.proofs.Increasing.{search_misses, search_finds}
+use Rattle.wh_pairs.proofs.Increasing.{search_misses, search_finds}
 use Rattle.wh_graph.proofs.places.least_stray_in.Goals as goal
 use Rattle.wh_graph.proofs.places.least_stray_in.Goals.{then-is_err, else-is_err}
 

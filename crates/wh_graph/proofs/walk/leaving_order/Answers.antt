@@ -1,7 +1,7 @@
 use Rattle.std.proofs.Common.{◌-◌, ◌≡◌, ℕ, Bool, false, List, [], Some, slice_get, inl, inr, length, replicate, refl, rules, ap, ◌∙◌, sym, subst, arith}
 use Rattle.std.proofs.lemmas.Bool.{cases_eq}
 use Rattle.std.proofs.lemmas.List.{length-replicate}
-use Rattle.wh_system.proofs.ByPlace.{read}
+use Rattle.wh_pairs.proofs.ByPlace.{read}
 use Rattle.wh_graph.specs.Graphs.{Edge, HavePassed}
 use Rattle.wh_graph.specs.Walks.{IsSeen, Walked}
 use Rattle.wh_graph.proofs.WalkLemmas.{walked_all, walked_none}

@@ -1,5 +1,5 @@
 use Rattle.std.proofs.Common.{◌≡◌, Some, length, get_or, slice_get, sym, ap, ◌∙◌, arith}
-use Rattle.wh_system.proofs.ByPlace.{number_at}
+use Rattle.wh_pairs.proofs.ByPlace.{number_at}
 use Rattle.wh_graph.specs.Walks.{IsSeen}
 use Rattle.wh_graph.proofs.GraphLemmas.{row_at, row_within, passed_on, passed_edges, edge_at}
 use Rattle.wh_graph.proofs.walk.unseen_successor.Goals as goal

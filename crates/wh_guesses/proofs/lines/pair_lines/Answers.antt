@@ -3,11 +3,11 @@ use Rattle.std.proofs.lemmas.List.{length-map}
 use Rattle.wh_hopoly.specs.Erase.{interpretations}
 use Rattle.wh_polycheck.specs.SideResults.{marks_of}
 use Rattle.wh_meaning.specs.Covering.{pair_run}
-use Rattle.wh_system.proofs.ByPlace.{read_map, number_at, contains_number}
+use Rattle.wh_pairs.proofs.ByPlace.{read_map, number_at, contains_number}
 use Rattle.wh_guesses.specs.Lines.{IsNotMet, IsPairLine}
 use Rattle.wh_guesses.proofs.LineLemmas.{matched_some, matched_none, HasPairLines, pair_kept, pair_dropped, pair_lines_all}
 use Rattle.wh_guesses.proofs.lines.pair_lines.Goals.{then-line+in_ok-push-2, else-line}
-use Rattle.wh_system.specs.PairData.{pair_data}
+use Rattle.wh_pairs.specs.PairData.{pair_data}
 use Rattle.wh_system.specs.SystemView.{system_data}
 use Rattle.wh_guesses.proofs.GuessLemmas.{guess_normal, guess_normal_marks, guess_interprets, guess_sides}
 use Rattle.wh_guesses.proofs.lines.pair_lines.Goals as goal

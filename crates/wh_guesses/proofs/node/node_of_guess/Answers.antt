@@ -1,6 +1,6 @@
 use Rattle.std.proofs.Common.{map}
 use Rattle.wh_system.specs.SystemView.{system_data}
-use Rattle.wh_system.specs.PairData.{pair_data}
+use Rattle.wh_pairs.specs.PairData.{pair_data}
 use Rattle.wh_guesses.proofs.GuessLemmas.{guess_same}
 use Rattle.wh_guesses.proofs.NodeLemmas.{weighs}
 use Rattle.wh_guesses.proofs.node.node_of_guess.Goals as goal

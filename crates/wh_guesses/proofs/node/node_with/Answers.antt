@@ -2,7 +2,7 @@ use Rattle.std.proofs.Common.{◌≡◌, ◌≤◌, ℕ, List, length, map, Some
 use Rattle.std.proofs.lemmas.List.{length-map}
 use Rattle.wh_pairs.proofs.ListLemmas.{map-map}
 use Rattle.wh_system.specs.SystemView.{system_data}
-use Rattle.wh_system.specs.PairData.{pair_data}
+use Rattle.wh_pairs.specs.PairData.{pair_data}
 use Rattle.wh_polycheck.specs.declared.marks.MarkedSymbol.{MarkedSymbol}
 use Rattle.wh_cert.specs.Said.{said_interp, said_poly}
 use Rattle.wh_cert.specs.declared.poly_node.Interp.{Interp}

@@ -16,7 +16,7 @@ use Rattle.wh_guesses.proofs.PushLemmas.{few_increasing}
 use Rattle.wh_guesses.proofs.EmptyLemmas.{empty_list}
 use Rattle.wh_guesses.proofs.ToldLemmas.{matched_because}
 use Rattle.wh_system.specs.SystemView.{system_data}
-use Rattle.wh_system.specs.PairData.{PairData, pair_data}
+use Rattle.wh_pairs.specs.PairData.{PairData, pair_data}
 use Rattle.wh_guesses.proofs.GuessLemmas.{guess_normal, guess_interprets}
 use Rattle.wh_guesses.proofs.node.weighed.Goals as goal
 

@@ -1,7 +1,7 @@
 use Rattle.std.proofs.Common.{ℕ, Result, Err, refl, subst}
 use Rattle.std.specs.List.Sorted.{IsBinarySearchResult}
 use Rattle.std.specs.Ordering.{nat_cmp}
-use Rattle.wh_system.proofs.Increasing.{search_misses}
+use Rattle.wh_pairs.proofs.Increasing.{search_misses}
 use Rattle.wh_graph.proofs.CountLemmas.{search_place}
 use Rattle.wh_guesses.proofs.readings.place_of.Goals as goal
 

@@ -1,5 +1,5 @@
 use Rattle.wh_terms.specs.Erase.{tms as trees}
-use Rattle.wh_system.specs.PairData.{pair_data}
+use Rattle.wh_pairs.specs.PairData.{pair_data}
 use Rattle.wh_pairs.proofs.AlikeLemmas.{tms_of_map}
 use Rattle.wh_guesses.proofs.ReadingLemmas.{pair_reads}
 use Rattle.wh_guesses.proofs.readings.reading_of_pair.Goals as goal

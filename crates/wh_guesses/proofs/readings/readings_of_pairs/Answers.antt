@@ -1,6 +1,6 @@
 use Rattle.std.proofs.Common.{◌≡◌, ◌⊎◌, inl, inr, ℕ, map, get_or, Some, slice_get, refl, ap, sym, subst, ◌∙◌, arith}
-use Rattle.wh_system.specs.PairData.{PairData, pair_data}
-use Rattle.wh_system.proofs.ByPlace.{read_map, number_at, contains_number, some_one}
+use Rattle.wh_pairs.specs.PairData.{PairData, pair_data}
+use Rattle.wh_pairs.proofs.ByPlace.{read_map, number_at, contains_number, some_one}
 use Rattle.wh_guesses.specs.Conditions.{StandsInPair}
 use Rattle.wh_guesses.specs.Readings.{ReadsAll, IsMarkOf}
 use Rattle.wh_guesses.proofs.CountLemmas.{pushed_one}

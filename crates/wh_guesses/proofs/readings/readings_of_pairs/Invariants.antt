@@ -1,5 +1,5 @@
 use Rattle.std.proofs.Common.{◌≡◌, ◌⊎◌, ℕ, length, map, Some, slice_get}
-use Rattle.wh_system.specs.PairData.{PairData, pair_data}
+use Rattle.wh_pairs.specs.PairData.{PairData, pair_data}
 use Rattle.wh_guesses.specs.Conditions.{StandsInPair}
 use Rattle.wh_guesses.specs.Readings.{ReadsAll, IsMarkOf}
 use Rattle.wh_guesses.proofs.PushLemmas.{EachAt}

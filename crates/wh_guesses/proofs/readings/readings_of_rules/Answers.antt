@@ -2,7 +2,7 @@ use Rattle.std.proofs.Common.{◌≡◌, slice_get, ap, sym, subst, ◌∙◌, a
 use Rattle.std.proofs.lemmas.List.{length-map}
 use Rattle.wh_terms.specs.Rules.{RewriteRule}
 use Rattle.wh_terms.specs.Erase.{rewrite_rule, rewrite_rules}
-use Rattle.wh_system.proofs.ByPlace.{read_map, some_one}
+use Rattle.wh_pairs.proofs.ByPlace.{read_map, some_one}
 use Rattle.wh_guesses.specs.Readings.{ReadsAll, StandsInRule}
 use Rattle.wh_guesses.proofs.CountLemmas.{pushed_one}
 use Rattle.wh_guesses.proofs.PushLemmas.{each_push}

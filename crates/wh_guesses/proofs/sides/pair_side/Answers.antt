@@ -1,6 +1,6 @@
 use Rattle.wh_guesses.proofs.ToldLemmas.{because_so}
 use Rattle.wh_system.specs.SystemView.{system_data}
-use Rattle.wh_system.specs.PairData.{pair_data}
+use Rattle.wh_pairs.specs.PairData.{pair_data}
 use Rattle.wh_hopoly.specs.Erase.{interpretations, poly}
 use Rattle.wh_polycheck.specs.SideResults.{IsFaultOfPairSide, marks_of}
 use Rattle.wh_covering.proofs.SideLemmas.{pair_side_is}

@@ -1,5 +1,5 @@
 use Rattle.std.proofs.Common.{get_or, arith}
-use Rattle.wh_system.proofs.ByPlace.{number_at}
+use Rattle.wh_pairs.proofs.ByPlace.{number_at}
 use Rattle.wh_guesses.proofs.PlaceLemmas.{coefficient_there, coefficient_past}
 use Rattle.wh_guesses.proofs.space.coefficient_at.Goals as goal
 

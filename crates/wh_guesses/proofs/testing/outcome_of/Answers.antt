@@ -1,7 +1,7 @@
 use Rattle.std.proofs.Common.{◌-◌, length, get_or, map, refl, arith}
 use Rattle.std.proofs.lemmas.List.{length-map}
-use Rattle.wh_system.proofs.ByPlace.{map_at, contains_number}
-use Rattle.wh_system.specs.PairData.{pair_data}
+use Rattle.wh_pairs.proofs.ByPlace.{map_at, contains_number}
+use Rattle.wh_pairs.specs.PairData.{pair_data}
 use Rattle.wh_system.specs.SystemView.{system_data}
 use Rattle.wh_guesses.proofs.GuessLemmas.{guess_same, guess_normal, guess_normal_marks, guess_interprets, guess_sides}
 use Rattle.wh_guesses.proofs.testing.outcome_of.Goals as goal

@@ -1,8 +1,8 @@
 use Rattle.std.proofs.Common.{◌≡◌, map, length, get_or, arith}
 use Rattle.std.proofs.lemmas.List.{length-map}
-use Rattle.wh_system.specs.PairData.{pair_data}
+use Rattle.wh_pairs.specs.PairData.{pair_data}
 use Rattle.wh_system.specs.SystemView.{system_data}
-use Rattle.wh_system.proofs.ByPlace.{read_map, number_at, contains_number}
+use Rattle.wh_pairs.proofs.ByPlace.{read_map, number_at, contains_number}
 use Rattle.wh_hopoly.specs.Erase.{interpretations}
 use Rattle.wh_polycheck.specs.SideResults.{marks_of}
 use Rattle.wh_guesses.proofs.GuessLemmas.{guess_normal, guess_normal_marks, guess_interprets, guess_sides}

@@ -7,7 +7,7 @@ use Rattle.wh_terms.specs.Erase.{tm, tms, rewrite_rules}
 use Rattle.wh_terms.specs.Rules.{RewriteRule}
 use Rattle.wh_terms.specs.Scope.{scope}
 use Rattle.wh_terms.proofs.TermLemmas.{weight, weights, tm_of_meta, weight_in_meta, weight_in_item}
-use Rattle.wh_system.specs.PairData.{Within, within}
+use Rattle.wh_pairs.specs.PairData.{Within, within}
 use Rattle.wh_system.specs.SystemView.{system_data}
 use Rattle.wh_pairs.specs.Spines.{spine_arguments}
 use Rattle.wh_pairs.specs.Calls.{Call, calls}

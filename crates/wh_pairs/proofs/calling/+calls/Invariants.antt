@@ -3,7 +3,7 @@ use Rattle.wh_terms.specs.Tree.{tms_of}
 use Rattle.wh_terms.specs.Erase.{tm, tms}
 use Rattle.wh_terms.specs.Scope.{scope}
 use Rattle.wh_terms.proofs.TermLemmas.{weight, weights}
-use Rattle.wh_system.specs.PairData.{within}
+use Rattle.wh_pairs.specs.PairData.{within}
 use Rattle.wh_system.specs.SystemView.{system_data}
 use Rattle.wh_pairs.specs.Calls.{calls_within}
 use Rattle.wh_pairs.specs.Parts.{calls_each}

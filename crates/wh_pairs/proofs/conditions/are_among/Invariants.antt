@@ -1,5 +1,5 @@
 use Rattle.std.proofs.Common.{take, map}
-use Rattle.wh_system.specs.PairData.{within}
+use Rattle.wh_pairs.specs.PairData.{within}
 use Rattle.wh_pairs.specs.Conditions.{AreAmong}
 use Rattle.wh_pairs.proofs.conditions.are_among.Given as goal
 

@@ -1,7 +1,7 @@
 use Rattle.std.proofs.Common.{List, map, subst, sym, rules}
 use Rattle.wh_terms.specs.Sight.{OccursIn}
-use Rattle.wh_system.specs.PairData.{within}
-use Rattle.wh_system.specs.declared.pairs.Condition.{Condition}
+use Rattle.wh_pairs.specs.PairData.{within}
+use Rattle.wh_pairs.specs.declared.pair.Condition.{Condition}
 use Rattle.wh_pairs.specs.Conditions.{AreAmong}
 use Rattle.wh_pairs.proofs.AlikeLemmas.{tms_of_map}
 use Rattle.wh_pairs.proofs.subsumption.subsumed.Goals as goal

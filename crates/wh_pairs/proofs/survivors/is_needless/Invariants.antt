@@ -1,5 +1,5 @@
 use Rattle.std.proofs.Common.{take}
-use Rattle.wh_system.specs.PairData.{pair_data}
+use Rattle.wh_pairs.specs.PairData.{pair_data}
 use Rattle.wh_pairs.specs.Survivors.{IsSubsumedByOne}
 use Rattle.wh_pairs.specs.Views.{pairs_data}
 use Rattle.wh_pairs.proofs.survivors.is_needless.Given as goal

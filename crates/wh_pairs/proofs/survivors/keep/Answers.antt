@@ -1,7 +1,7 @@
 use Rattle.std.proofs.Common.{◌++◌, ◌∷◌, [], List, IsTrue, ap, sym, subst, ◌∙◌, rules}
 use Rattle.std.proofs.lemmas.List.{map-append}
-use Rattle.wh_system.specs.PairData.{PairData, pair_data}
-use Rattle.wh_system.specs.declared.pairs.Pair.{Pair}
+use Rattle.wh_pairs.specs.PairData.{PairData, pair_data}
+use Rattle.wh_pairs.specs.declared.pair.Pair.{Pair}
 use Rattle.wh_pairs.specs.Survivors.{Survive, IsSubsumedByOne}
 use Rattle.wh_pairs.specs.Views.{pairs_data}
 use Rattle.wh_pairs.proofs.RetainLemmas.{thinned_by}

@@ -2,9 +2,9 @@ use Rattle.std.proofs.Common.{◌≡◌, ◌++◌, ◌+◌, [], ℕ, List, lengt
 use Rattle.std.proofs.lemmas.List.{length-map, length-append}
 use Rattle.wh_terms.specs.Rules.{RewriteRule}
 use Rattle.wh_terms.specs.Erase.{rewrite_rule, rewrite_rules}
-use Rattle.wh_system.specs.PairData.{PairData, pair_data}
+use Rattle.wh_pairs.specs.PairData.{PairData, pair_data}
 use Rattle.wh_system.specs.SystemView.{system_data}
-use Rattle.wh_system.specs.declared.pairs.Pair.{Pair}
+use Rattle.wh_pairs.specs.declared.pair.Pair.{Pair}
 use Rattle.wh_pairs.specs.Calls.{calls_of}
 use Rattle.wh_pairs.specs.Candidates.{candidate, candidates, candidates_from}
 use Rattle.wh_pairs.specs.Subsumption.{ArePairs, none_left}

@@ -3,9 +3,9 @@ use Rattle.std.specs.Prelude.{Contains}
 use Rattle.std.proofs.lemmas.List.{take_all}
 use Rattle.wh_terms.specs.Typing.{Symbols}
 use Rattle.wh_terms.specs.Erase.{rewrite_rule}
-use Rattle.wh_system.specs.PairData.{PairData, pair_data}
+use Rattle.wh_pairs.specs.PairData.{PairData, pair_data}
 use Rattle.wh_system.specs.SystemView.{system_data}
-use Rattle.wh_system.specs.declared.pairs.Pair.{Pair}
+use Rattle.wh_pairs.specs.declared.pair.Pair.{Pair}
 use Rattle.wh_system.proofs.MadeDecided.{system_is_well_made}
 use Rattle.wh_pairs.specs.Calls.{Call, calls_of}
 use Rattle.wh_pairs.specs.Candidates.{candidate}

@@ -1,6 +1,6 @@
 -- The marked call is a typed expression over the marks, so that its result is a normal form, and a fault's value one on the way.
 use Rattle.std.proofs.Common.{true, false}
-use Rattle.wh_system.specs.PairData.{pair_data}
+use Rattle.wh_pairs.specs.PairData.{pair_data}
 use Rattle.wh_system.specs.SystemView.{system_data}
 use Rattle.wh_hopoly.specs.Erase.{interpretations}
 use Rattle.wh_polycheck.specs.SideResults.{marks_of}

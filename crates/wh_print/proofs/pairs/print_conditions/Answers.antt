@@ -1,5 +1,5 @@
 use Rattle.std.proofs.Common.{◌<◌, length}
-use Rattle.wh_system.specs.PairData.{within}
+use Rattle.wh_pairs.specs.PairData.{within}
 use Rattle.wh_print.specs.PairViews.{pair_names}
 use Rattle.wh_print.proofs.ListPrinting.{at_copy}
 use Rattle.wh_print.proofs.pairs.print_conditions.Goals as goal

@@ -1,6 +1,6 @@
 use Rattle.std.proofs.Common.{drop, map}
 use Rattle.wh_text.proofs.PrintLemmas.{Leaves}
-use Rattle.wh_system.specs.PairData.{within}
+use Rattle.wh_pairs.specs.PairData.{within}
 use Rattle.wh_print.specs.PairText.{put_conditions}
 use Rattle.wh_print.specs.PairViews.{pair_names}
 use Rattle.wh_print.proofs.pairs.print_conditions.Given as goal

@@ -1,4 +1,4 @@
-use Rattle.wh_system.specs.PairData.{pair_data}
+use Rattle.wh_pairs.specs.PairData.{pair_data}
 use Rattle.wh_pairs.proofs.MemberLemmas.{image_there}
 use Rattle.wh_print.proofs.pairs.print_lines.Goals as goal
 

@@ -1,7 +1,7 @@
 use Rattle.std.proofs.Common.{map, subst}
 use Rattle.wh_text.specs.Pushes.{Pushes}
 use Rattle.wh_text.proofs.PrintLemmas.{on_ok}
-use Rattle.wh_system.specs.PairData.{within, pair_data}
+use Rattle.wh_pairs.specs.PairData.{within, pair_data}
 use Rattle.wh_system.specs.SystemView.{system_data}
 use Rattle.wh_print.specs.PairText.{put_if}
 use Rattle.wh_print.specs.PairViews.{pair_names}

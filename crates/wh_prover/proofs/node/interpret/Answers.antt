@@ -1,7 +1,7 @@
 use Rattle.std.proofs.Common.{◌≡◌, ◌<◌, ℕ, List, map, reverse, All, sym, ap, subst, ◌∙◌}
 use Rattle.std.proofs.lemmas.List.{length-map}
 use Rattle.wh_system.specs.SystemView.{system_data}
-use Rattle.wh_system.specs.PairData.{IsIncreasing, pair_data}
+use Rattle.wh_pairs.specs.PairData.{IsIncreasing, pair_data}
 use Rattle.wh_pairs.specs.Views.{pairs_data}
 use Rattle.wh_cert.specs.Said.{said_node}
 use Rattle.wh_nodes.specs.Nodes.{IsKept, IsSetOf}

@@ -2,8 +2,8 @@ use Rattle.std.proofs.Common.{◌≡◌, ◌<◌, ℕ, List, length, map, sym, a
 use Rattle.std.proofs.lemmas.List.{length-map}
 use Rattle.std.proofs.lemmas.Option.{MatchOption-at_none}
 use Rattle.wh_system.specs.SystemView.{system_data}
-use Rattle.wh_system.specs.PairData.{pair_data}
-use Rattle.wh_system.specs.declared.pairs.Pair.{Pair}
+use Rattle.wh_pairs.specs.PairData.{pair_data}
+use Rattle.wh_pairs.specs.declared.pair.Pair.{Pair}
 use Rattle.wh_pairs.specs.Views.{pairs_data}
 use Rattle.wh_nodes.specs.Nodes.{IsSetOf}
 use Rattle.wh_cert.specs.Written as w

@@ -1,5 +1,5 @@
 use Rattle.std.proofs.Common.{◌≡◌, ◌-◌, suc, map, arith}
-use Rattle.wh_system.specs.PairData.{pair_data}
+use Rattle.wh_pairs.specs.PairData.{pair_data}
 use Rattle.wh_system.specs.SystemView.{system_data}
 use Rattle.wh_ranges.specs.Bounds.{lists_of}
 use Rattle.wh_ranges.proofs.Kept.{told, kept_then, low_back, lowered}

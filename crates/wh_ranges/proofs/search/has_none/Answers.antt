@@ -1,5 +1,5 @@
 use Rattle.std.proofs.Common.{◌<◌, ℕ, length, map, ◌∙◌}
-use Rattle.wh_system.specs.PairData.{pair_data}
+use Rattle.wh_pairs.specs.PairData.{pair_data}
 use Rattle.wh_system.specs.SystemView.{system_data}
 use Rattle.wh_guesses.specs.Conditions.{HasNoInterpretation}
 use Rattle.wh_ranges.specs.Bounds.{lists_of}

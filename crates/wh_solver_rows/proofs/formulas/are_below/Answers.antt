@@ -2,7 +2,7 @@ use Rattle.std.proofs.Common.{◌<◌, get_or, arith}
 use Rattle.std.proofs.lemmas.Option.{slice_get-get_or}
 use Rattle.wh_sat_trail.specs.declared.literal.Literal.{Literal}
 use Rattle.wh_sat_trail.specs.Watch.{nothing}
-use Rattle.wh_system.proofs.ByPlace.{before_more}
+use Rattle.wh_pairs.proofs.ByPlace.{before_more}
 use Rattle.wh_solver_rows.proofs.formulas.are_below.Goals as goal
 
 pub loop-literal-preserved : goal.loop-literal-preserved

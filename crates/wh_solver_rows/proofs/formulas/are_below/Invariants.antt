@@ -1,6 +1,6 @@
 use Rattle.std.proofs.Common.{◌<◌}
 use Rattle.wh_sat_trail.specs.declared.literal.Literal.{Literal}
-use Rattle.wh_system.proofs.ByPlace.{Before}
+use Rattle.wh_pairs.proofs.ByPlace.{Before}
 use Rattle.wh_solver_rows.proofs.formulas.are_below.Given as goal
 
 abbrev pub invariant-loop-literal : goal.invariant-loop-literal

@@ -2,7 +2,7 @@ use Rattle.std.proofs.Common.{[], List, get_or, subst, arith}
 use Rattle.std.proofs.lemmas.Option.{slice_get-get_or}
 use Rattle.wh_sat_trail.specs.declared.literal.Literal.{Literal}
 use Rattle.wh_sat_trail.specs.Assignment.{AllBelow}
-use Rattle.wh_system.proofs.ByPlace.{before_more, read}
+use Rattle.wh_pairs.proofs.ByPlace.{before_more, read}
 use Rattle.wh_solver_rows.proofs.Shown.{on_true}
 use Rattle.wh_solver_rows.proofs.formulas.are_within.Goals as goal
 

@@ -1,5 +1,5 @@
 use Rattle.wh_sat_trail.specs.Assignment.{AllBelow}
-use Rattle.wh_system.proofs.ByPlace.{Before}
+use Rattle.wh_pairs.proofs.ByPlace.{Before}
 use Rattle.wh_solver_rows.proofs.formulas.are_within.Given as goal
 
 abbrev pub invariant-loop-clause : goal.invariant-loop-clause

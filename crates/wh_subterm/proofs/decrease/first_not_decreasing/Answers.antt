@@ -1,8 +1,8 @@
 use Rattle.std.proofs.Common.{map, get_or}
-use Rattle.wh_system.specs.PairData.{pair_data}
+use Rattle.wh_pairs.specs.PairData.{pair_data}
 use Rattle.wh_subterm.specs.SubtermRows.{IsDecreasing, chosen}
-use Rattle.wh_system.proofs.ByPlace.{read_map, number_at, contains_number, place_of, before_more, before_all}
-use Rattle.wh_system.proofs.Increasing.{smaller_earlier}
+use Rattle.wh_pairs.proofs.ByPlace.{read_map, number_at, contains_number, place_of, before_more, before_all}
+use Rattle.wh_pairs.proofs.Increasing.{smaller_earlier}
 use Rattle.wh_subterm.proofs.ProjectionLemmas.{decreasing_right, decreasing_wrong, not_both}
 use Rattle.wh_subterm.proofs.decrease.first_not_decreasing.Goals as goal
 

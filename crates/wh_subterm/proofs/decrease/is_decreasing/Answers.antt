@@ -1,6 +1,6 @@
 use Rattle.std.proofs.Common.{map, inl, inr, not, ap}
 use Rattle.wh_terms.specs.Erase.{tm}
-use Rattle.wh_system.specs.PairData.{pair_data}
+use Rattle.wh_pairs.specs.PairData.{pair_data}
 use Rattle.wh_subterm.specs.SubtermRows.{chosen}
 use Rattle.wh_subterm.proofs.ProjectionLemmas.{unprojected, decreasing_part, decreasing_same, decreasing_cases}
 use Rattle.wh_subterm.proofs.decrease.is_decreasing.Goals as goal

@@ -1,5 +1,5 @@
 use Rattle.std.proofs.Common.{◌≡◌}
-use Rattle.wh_system.proofs.ByPlace.{Before}
+use Rattle.wh_pairs.proofs.ByPlace.{Before}
 use Rattle.wh_subterm.proofs.decrease.is_in.Given as goal
 
 abbrev pub invariant-loop-item : goal.invariant-loop-item

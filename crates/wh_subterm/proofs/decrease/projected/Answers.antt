@@ -5,7 +5,7 @@ use Rattle.wh_terms.specs.Erase.{tm}
 use Rattle.wh_terms.specs.declared.term.Term.{Term}
 use Rattle.wh_subterm.specs.Projections.{IsProjected}
 use Rattle.wh_subterm.specs.SubtermRows.{chosen}
-use Rattle.wh_system.proofs.ByPlace.{read_map}
+use Rattle.wh_pairs.proofs.ByPlace.{read_map}
 use Rattle.wh_subterm.proofs.ProjectionLemmas.{project_zero, project_past, project_at}
 use Rattle.wh_subterm.proofs.decrease.projected.Goals as goal
 

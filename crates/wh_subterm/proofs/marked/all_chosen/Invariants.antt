@@ -1,8 +1,8 @@
 use Rattle.std.proofs.Common.{map, ℕ, Contains}
-use Rattle.wh_system.specs.PairData.{pair_data}
+use Rattle.wh_pairs.specs.PairData.{pair_data}
 use Rattle.wh_subterm.specs.Marked.{Heads}
 use Rattle.wh_subterm.specs.SubtermRows.{chosen, chosen_symbols}
-use Rattle.wh_system.proofs.ByPlace.{Before}
+use Rattle.wh_pairs.proofs.ByPlace.{Before}
 use Rattle.wh_subterm.proofs.marked.all_chosen.Given as goal
 
 abbrev pub invariant-loop-number : goal.invariant-loop-number

@@ -1,8 +1,8 @@
 use Rattle.std.proofs.Common.{◌≡◌, ◌+◌, ◌-◌, map, get_or, inl, inr, refl, ap, arith}
 use Rattle.wh_subterm.specs.SubtermRows.{chosen, chosen_symbols}
-use Rattle.wh_system.proofs.ByPlace.{same_or_below}
+use Rattle.wh_pairs.proofs.ByPlace.{same_or_below}
 use Rattle.wh_subterm.proofs.ChoiceLemmas.{symbol_number, symbols_long}
-use Rattle.wh_system.proofs.Increasing.{increasing_at, increasing_from_adjacent}
+use Rattle.wh_pairs.proofs.Increasing.{increasing_at, increasing_from_adjacent}
 use Rattle.wh_subterm.proofs.marked.are_in_order.Goals as goal
 
 pub returns-then-args-i : goal.returns-then-args-i

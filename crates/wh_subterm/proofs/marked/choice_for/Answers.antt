@@ -1,6 +1,6 @@
 use Rattle.std.proofs.Common.{◌≡◌, map, refl}
 use Rattle.wh_subterm.specs.SubtermRows.{chosen, chosen_symbols}
-use Rattle.wh_system.proofs.ByPlace.{before_more, before_all}
+use Rattle.wh_pairs.proofs.ByPlace.{before_more, before_all}
 use Rattle.wh_subterm.proofs.ChoiceLemmas.{choice, symbol_at, symbols_past}
 use Rattle.wh_subterm.proofs.marked.choice_for.Goals as goal
 

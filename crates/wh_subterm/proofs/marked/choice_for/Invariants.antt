@@ -1,6 +1,6 @@
 use Rattle.std.proofs.Common.{map, ◌≡◌}
 use Rattle.wh_subterm.specs.SubtermRows.{chosen, chosen_symbols}
-use Rattle.wh_system.proofs.ByPlace.{Before}
+use Rattle.wh_pairs.proofs.ByPlace.{Before}
 use Rattle.wh_subterm.proofs.marked.choice_for.Given as goal
 
 abbrev pub invariant-loop-choice : goal.invariant-loop-choice

@@ -2,7 +2,7 @@ use Rattle.std.proofs.Common.{map, get_or, refl}
 use Rattle.std.proofs.lemmas.List.Elements.{Contains-get_or}
 use Rattle.wh_system.specs.SystemView.{system_data}
 use Rattle.wh_subterm.specs.SubtermRows.{IsPlace, chosen}
-use Rattle.wh_system.proofs.ByPlace.{before_more, before_all, map_length}
+use Rattle.wh_pairs.proofs.ByPlace.{before_more, before_all, map_length}
 use Rattle.wh_subterm.proofs.ChoiceLemmas.{choice, chosen_at}
 use Rattle.wh_subterm.proofs.marked.first_out_of_place.Goals as goal
 

@@ -1,7 +1,7 @@
 use Rattle.std.proofs.Common.{map}
 use Rattle.wh_system.specs.SystemView.{system_data}
 use Rattle.wh_subterm.specs.SubtermRows.{IsPlace, chosen}
-use Rattle.wh_system.proofs.ByPlace.{Before}
+use Rattle.wh_pairs.proofs.ByPlace.{Before}
 use Rattle.wh_subterm.proofs.marked.first_out_of_place.Given as goal
 
 abbrev pub invariant-loop-choice : goal.invariant-loop-choice

@@ -1,7 +1,7 @@
 use Rattle.std.proofs.Common.{map, refl}
 use Rattle.wh_system.specs.SystemView.{system_data}
 use Rattle.wh_subterm.specs.SubtermRows.{HasNone, chosen}
-use Rattle.wh_system.proofs.ByPlace.{before_more, before_all, map_length}
+use Rattle.wh_pairs.proofs.ByPlace.{before_more, before_all, map_length}
 use Rattle.wh_subterm.proofs.ChoiceLemmas.{choice, chosen_at}
 use Rattle.wh_subterm.proofs.marked.first_without_argument.Goals as goal
 

@@ -1,7 +1,7 @@
 use Rattle.std.proofs.Common.{map, get_or, refl, subst}
-use Rattle.wh_system.specs.PairData.{pair_data}
+use Rattle.wh_pairs.specs.PairData.{pair_data}
 use Rattle.wh_subterm.specs.Marked.{Heads, HeadsASide}
-use Rattle.wh_system.proofs.ByPlace.{some_one, read_map, number_at, contains_number, before_more, before_all}
+use Rattle.wh_pairs.proofs.ByPlace.{some_one, read_map, number_at, contains_number, before_more, before_all}
 use Rattle.wh_subterm.proofs.marked.is_marked.Goals as goal
 
 pub returns-then-heads : goal.returns-then-heads

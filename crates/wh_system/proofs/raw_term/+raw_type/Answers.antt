@@ -1,6 +1,7 @@
-use Rattle.std.proofs.Common.{ap, sym, subst, ◌∙◌, ◌<◌, ◌≡◌, length, rules}
+use Rattle.std.proofs.Common.{List, ap, sym, subst, ◌∙◌, ◌<◌, ◌≡◌, length, rules}
 use Rattle.wh_types.specs.Erase.{ty}
-use Rattle.wh_text.specs.Erase.{rtys}
+use Rattle.wh_text.specs.Erase.{rty, rtys}
+use Rattle.wh_text.specs.declared.raw.RawType.{RawType, roll-RawType}
 use Rattle.wh_system.specs.Canonical.{raw_arguments_of, join_types}
 use Rattle.wh_system.proofs.CanonicalWalk.{types_next, types_none, result_there, made_type}
 use Rattle.wh_system.proofs.raw_term.+raw_type.Goals as goal
@@ -22,5 +23,6 @@ raw_type-bounds-sorts-result_sort t c =
 
 pub raw_type-returns : goal.raw_type-returns
 raw_type-returns t c =
-    made_type c.args.sorts.now (ty c.args.kind.now) c.push_arguments.new.args c.in_ok-args.args c.result_sort.result c.index-sorts-result_sort.result c.in_ok-copy_of.field-0
+    ap (λ (xs : List RawType). rty (roll-RawType (record { args = xs; sort = c.in_ok-copy_of.field-0; at = 0 }))) c.args-2.view_is
+    ∙ made_type c.args.sorts.now (ty c.args.kind.now) c.push_arguments.new.args c.in_ok-args.args c.result_sort.result c.index-sorts-result_sort.result c.in_ok-copy_of.field-0
     c.in_ok-args.ensures c.in_ok-push_arguments.ensures c.result_sort.ensures (result_there (length c.args.sorts.now) (ty c.args.kind.now) c.requires) (c.in_ok-copy_of.ensures ∙ c.index-sorts-result_sort.is)

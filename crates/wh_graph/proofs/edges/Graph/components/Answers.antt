@@ -1,5 +1,5 @@
 use Rattle.std.proofs.Common.{◌<◌, ℕ, All, List, length, sym, subst, arith}
-use Rattle.wh_system.specs.PairData.{IsIncreasing}
+use Rattle.wh_pairs.specs.PairData.{IsIncreasing}
 use Rattle.wh_graph.specs.Classes.{AreClasses, AreGathered}
 use Rattle.wh_graph.specs.Components.{AreComponents}
 use Rattle.wh_graph.specs.Graphs.{AreLists, AreWithin, AtPlaces, Edge, Turned, edge_of, size_of}

@@ -1,7 +1,7 @@
 use Rattle.std.proofs.Common.{◌≡◌, ℕ, List, length, map, rules, sym, subst, ◌∙◌, arith}
 use Rattle.std.proofs.lemmas.List.{length-map}
-use Rattle.wh_system.specs.PairData.{pair_data}
-use Rattle.wh_system.specs.declared.pairs.Pair.{Pair}
+use Rattle.wh_pairs.specs.PairData.{pair_data}
+use Rattle.wh_pairs.specs.declared.pair.Pair.{Pair}
 use Rattle.wh_system.specs.SystemView.{system_data}
 use Rattle.wh_graph.specs.Graphs.{AreLists, AreWithin, Edge, Turned}
 use Rattle.wh_graph.specs.May.{Follows}

@@ -1,7 +1,7 @@
 -- Increasing lists of numbers.
 use Rattle.std.proofs.Common.{ℕ, ◌<◌, List, [], ◌∷◌, ◌++◌, All}
 use Rattle.std.proofs.lemmas.List.Elements.{All-head, All-tail}
-use Rattle.wh_system.specs.PairData.{IsIncreasing}
+use Rattle.wh_pairs.specs.PairData.{IsIncreasing}
 
 pub increasing_push : (ns : List ℕ) (n : ℕ) → IsIncreasing ns → All (λ m. m < n) ns → IsIncreasing (ns ++ n ∷ [])
 increasing_push [] n up below = tt

@@ -1,7 +1,7 @@
 //! Dependency pairs as data.
 
 ghost use Rattle.std.specs.Prelude.{◌≡◌, ◌<◌, [], ◌∷◌, ◌++◌, IfOk, OnOk, OnErr, All};
-ghost use Rattle.wh_system.specs.PairData.{IsIncreasing};
+ghost use Rattle.wh_pairs.specs.PairData.{IsIncreasing};
 
 use std::alloc::{AllocError, Global};
 use std::marker::Model;
@@ -53,7 +53,7 @@ pub struct PairSet {
 
 impl Model for PairSet {
     ghost use Rattle.std.specs.Prelude.{List, ℕ};
-    ghost use Rattle.wh_system.specs.PairData.{IsIncreasing};
+    ghost use Rattle.wh_pairs.specs.PairData.{IsIncreasing};
 
     ghost Value = { List ℕ };
 

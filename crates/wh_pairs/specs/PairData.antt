@@ -3,8 +3,8 @@ use Rattle.std.specs.Prelude.{ℕ, ◌<◌, List, [], ◌∷◌, map}
 use Rattle.wh_terms.specs.Tree.{Tm}
 use Rattle.wh_terms.specs.Typing.{Declared}
 use Rattle.wh_terms.specs.Erase.{declared_metas, tm}
-use Rattle.wh_system.specs.declared.pairs.Condition as code
-use Rattle.wh_system.specs.declared.pairs.Pair as pair
+use Rattle.wh_pairs.specs.declared.pair.Condition as code
+use Rattle.wh_pairs.specs.declared.pair.Pair as pair
 
 -- a condition: the call stands within that argument of the meta-variable, the place counted from 1 (Fuhs and Kop 2019)
 pub record Within : Type 0 where
