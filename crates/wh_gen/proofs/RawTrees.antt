@@ -8,10 +8,6 @@ use Rattle.wh_parts.specs.declared.parts.RawName.{RawName}
 use Rattle.wh_system.specs.CanonicalParts.{raw_name}
 use Rattle.wh_gen.specs.RawFamily.{raw_meta}
 
-pub rty_over : (args : List RawType) (name sort : List ℕ) → name ≡ sort → rty (roll-RawType (record { args = args; sort = name; at = 0 })) ≡ raw_type (rtys args) sort 0
-unfolding roll-RawType denote.Hole.Carrier.roll
-rty_over args name sort same = ap₂ (λ as_well s. raw_type as_well s 0) (arguments_are args) same
-
 pub rmeta_of : (raw : RawName) (args : List RawType) (kind : RawType) (name : List ℕ) (as_well : RTys) (out : RTy) → rname raw ≡ raw_name name → rtys args ≡ as_well → rty kind ≡ out
     → rmeta (record { name = raw; args = args; result = kind }) ≡ raw_meta name as_well out
 rmeta_of raw args kind name as_well out named args_are kind_is =

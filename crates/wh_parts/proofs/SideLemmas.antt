@@ -7,7 +7,7 @@ use Rattle.wh_text.specs.declared.raw.RawTerm.{RawTerm}
 use Rattle.wh_parts.specs.declared.fault.SystemFault.{SystemFault}
 use Rattle.wh_parts.specs.declared.fault.SystemFault.TheVariants.{TooMany}
 use Rattle.wh_parts.specs.Faults.{first_fault}
-use Rattle.wh_parts.specs.Tests.{test, raw_height, raw_heights, raw_size, side_tests, term_place, width_of_term, width_of_arguments}
+use Rattle.wh_parts.specs.Tests.{test, raw_height, raw_heights, raw_size, side_tests, term_offset, width_of_term, width_of_arguments}
 use Rattle.wh_parts.proofs.FaultLemmas.{fault_after, fault_in_first, fault_in_second, no_fault_in_both, past_test, fault_at_test}
 use Rattle.wh_parts.proofs.RawTypes.{is_true, is_false}
 use Rattle.wh_parts.proofs.RawTerms.{left_next, left_none}
@@ -17,7 +17,7 @@ pub argument_next : (xs : List RawTerm) (k : ℕ) (t : RawTerm) → k < length x
 argument_next xs k t within e other passed =
     let rest = width_of_arguments (k + 1) (rtms (drop (k + 1) xs)) in
     ap (λ us. first_fault (width_of_arguments k us)) (left_next xs k t within e)
-    ∙ past_test (k == 32) (TooMany (term_place (rtm t))) (width_of_term (rtm t) ++ rest) (is_false k 32 other)
+    ∙ past_test (k == 32) (TooMany (term_offset (rtm t))) (width_of_term (rtm t) ++ rest) (is_false k 32 other)
     ∙ fault_after (width_of_term (rtm t)) rest passed
 
 pub argument_fails : (xs : List RawTerm) (k : ℕ) (t : RawTerm) (f : SystemFault) → k < length xs → t ≡ get_or xs k t → (k ≡ 32 → ⊥) → first_fault (width_of_term (rtm t)) ≡ Some f
@@ -25,14 +25,14 @@ pub argument_fails : (xs : List RawTerm) (k : ℕ) (t : RawTerm) (f : SystemFaul
 argument_fails xs k t f within e other failed =
     let rest = width_of_arguments (k + 1) (rtms (drop (k + 1) xs)) in
     ap (λ us. first_fault (width_of_arguments k us)) (left_next xs k t within e)
-    ∙ past_test (k == 32) (TooMany (term_place (rtm t))) (width_of_term (rtm t) ++ rest) (is_false k 32 other)
+    ∙ past_test (k == 32) (TooMany (term_offset (rtm t))) (width_of_term (rtm t) ++ rest) (is_false k 32 other)
     ∙ fault_in_first (width_of_term (rtm t)) rest f failed
 
 pub argument_past : (xs : List RawTerm) (k : ℕ) (t : RawTerm) → k < length xs → t ≡ get_or xs k t → k ≡ 32
-    → first_fault (width_of_arguments k (rtms (drop k xs))) ≡ Some (TooMany (term_place (rtm t)))
+    → first_fault (width_of_arguments k (rtms (drop k xs))) ≡ Some (TooMany (term_offset (rtm t)))
 argument_past xs k t within e same =
     ap (λ us. first_fault (width_of_arguments k us)) (left_next xs k t within e)
-    ∙ fault_at_test (k == 32) (TooMany (term_place (rtm t))) (width_of_term (rtm t) ++ width_of_arguments (k + 1) (rtms (drop (k + 1) xs))) (is_true k 32 same)
+    ∙ fault_at_test (k == 32) (TooMany (term_offset (rtm t))) (width_of_term (rtm t) ++ width_of_arguments (k + 1) (rtms (drop (k + 1) xs))) (is_true k 32 same)
 
 pub arguments_end : (xs : List RawTerm) (k : ℕ) → length xs ≤ k → first_fault (width_of_arguments k (rtms (drop k xs))) ≡ None
 arguments_end xs k past = ap (λ us. first_fault (width_of_arguments k us)) (left_none xs k past)
@@ -76,21 +76,21 @@ height_some n (x ∷ xs) at e = refl
 
 pub side_wide : (t : RTm) (f : SystemFault) → first_fault (width_of_term t) ≡ Some f → first_fault (side_tests t) ≡ Some f
 side_wide t f wide =
-    fault_in_first (width_of_term t) (test (nat_lt 200 (raw_height t)) (TooMany (term_place t)) ∷ test (nat_lt 65536 (raw_size t)) (TooMany (term_place t)) ∷ []) f wide
+    fault_in_first (width_of_term t) (test (nat_lt 200 (raw_height t)) (TooMany (term_offset t)) ∷ test (nat_lt 65536 (raw_size t)) (TooMany (term_offset t)) ∷ []) f wide
 
-pub side_high : (t : RTm) → first_fault (width_of_term t) ≡ None → 200 < raw_height t → first_fault (side_tests t) ≡ Some (TooMany (term_place t))
+pub side_high : (t : RTm) → first_fault (width_of_term t) ≡ None → 200 < raw_height t → first_fault (side_tests t) ≡ Some (TooMany (term_offset t))
 side_high t narrow high =
-    fault_in_second (width_of_term t) (test (nat_lt 200 (raw_height t)) (TooMany (term_place t)) ∷ test (nat_lt 65536 (raw_size t)) (TooMany (term_place t)) ∷ []) (TooMany (term_place t)) narrow
-    (fault_at_test (nat_lt 200 (raw_height t)) (TooMany (term_place t)) (test (nat_lt 65536 (raw_size t)) (TooMany (term_place t)) ∷ []) (lt-ltb 200 (raw_height t) high))
+    fault_in_second (width_of_term t) (test (nat_lt 200 (raw_height t)) (TooMany (term_offset t)) ∷ test (nat_lt 65536 (raw_size t)) (TooMany (term_offset t)) ∷ []) (TooMany (term_offset t)) narrow
+    (fault_at_test (nat_lt 200 (raw_height t)) (TooMany (term_offset t)) (test (nat_lt 65536 (raw_size t)) (TooMany (term_offset t)) ∷ []) (lt-ltb 200 (raw_height t) high))
 
-pub side_large : (t : RTm) → first_fault (width_of_term t) ≡ None → raw_height t ≤ 200 → 65536 < raw_size t → first_fault (side_tests t) ≡ Some (TooMany (term_place t))
+pub side_large : (t : RTm) → first_fault (width_of_term t) ≡ None → raw_height t ≤ 200 → 65536 < raw_size t → first_fault (side_tests t) ≡ Some (TooMany (term_offset t))
 side_large t narrow low large =
-    fault_in_second (width_of_term t) (test (nat_lt 200 (raw_height t)) (TooMany (term_place t)) ∷ test (nat_lt 65536 (raw_size t)) (TooMany (term_place t)) ∷ []) (TooMany (term_place t)) narrow
-    (past_test (nat_lt 200 (raw_height t)) (TooMany (term_place t)) (test (nat_lt 65536 (raw_size t)) (TooMany (term_place t)) ∷ []) (le-ltb 200 (raw_height t) low)
-    ∙ fault_at_test (nat_lt 65536 (raw_size t)) (TooMany (term_place t)) [] (lt-ltb 65536 (raw_size t) large))
+    fault_in_second (width_of_term t) (test (nat_lt 200 (raw_height t)) (TooMany (term_offset t)) ∷ test (nat_lt 65536 (raw_size t)) (TooMany (term_offset t)) ∷ []) (TooMany (term_offset t)) narrow
+    (past_test (nat_lt 200 (raw_height t)) (TooMany (term_offset t)) (test (nat_lt 65536 (raw_size t)) (TooMany (term_offset t)) ∷ []) (le-ltb 200 (raw_height t) low)
+    ∙ fault_at_test (nat_lt 65536 (raw_size t)) (TooMany (term_offset t)) [] (lt-ltb 65536 (raw_size t) large))
 
 pub side_fits : (t : RTm) → first_fault (width_of_term t) ≡ None → raw_height t ≤ 200 → raw_size t ≤ 65536 → first_fault (side_tests t) ≡ None
 side_fits t narrow low small =
-    no_fault_in_both (width_of_term t) (test (nat_lt 200 (raw_height t)) (TooMany (term_place t)) ∷ test (nat_lt 65536 (raw_size t)) (TooMany (term_place t)) ∷ []) narrow
-    (past_test (nat_lt 200 (raw_height t)) (TooMany (term_place t)) (test (nat_lt 65536 (raw_size t)) (TooMany (term_place t)) ∷ []) (le-ltb 200 (raw_height t) low)
-    ∙ past_test (nat_lt 65536 (raw_size t)) (TooMany (term_place t)) [] (le-ltb 65536 (raw_size t) small))
+    no_fault_in_both (width_of_term t) (test (nat_lt 200 (raw_height t)) (TooMany (term_offset t)) ∷ test (nat_lt 65536 (raw_size t)) (TooMany (term_offset t)) ∷ []) narrow
+    (past_test (nat_lt 200 (raw_height t)) (TooMany (term_offset t)) (test (nat_lt 65536 (raw_size t)) (TooMany (term_offset t)) ∷ []) (le-ltb 200 (raw_height t) low)
+    ∙ past_test (nat_lt 65536 (raw_size t)) (TooMany (term_offset t)) [] (le-ltb 65536 (raw_size t) small))

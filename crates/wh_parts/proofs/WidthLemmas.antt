@@ -5,7 +5,7 @@ use Rattle.wh_text.specs.Erase.{rtm, rtms}
 use Rattle.wh_text.specs.declared.raw.RawTerm.{RawTerm}
 use Rattle.wh_parts.specs.declared.fault.SystemFault.{SystemFault}
 use Rattle.wh_parts.specs.Faults.{first_fault}
-use Rattle.wh_parts.specs.Tests.{term_place, width_of_term, width_of_arguments, arguments_of, count_of}
+use Rattle.wh_parts.specs.Tests.{term_offset, width_of_term, width_of_arguments, arguments_of, count_of}
 use Rattle.wh_parts.specs.Widths.{HasSpare, LeavesRoom}
 use Rattle.wh_parts.proofs.FaultLemmas.{fault_after, fault_in_first, past_test}
 use Rattle.wh_parts.specs.declared.fault.SystemFault.TheVariants.{TooMany}
@@ -40,7 +40,7 @@ pub argument_next_at : (xs : List RawTerm) (i k : ℕ) (t : RawTerm) → i < len
 argument_next_at xs i k t within e other passed =
     let rest = width_of_arguments (k + 1) (rtms (drop (i + 1) xs)) in
     ap (λ us. first_fault (width_of_arguments k us)) (left_next xs i t within e)
-    ∙ past_test (k == 32) (TooMany (term_place (rtm t))) (width_of_term (rtm t) ++ rest) (is_false k 32 other)
+    ∙ past_test (k == 32) (TooMany (term_offset (rtm t))) (width_of_term (rtm t) ++ rest) (is_false k 32 other)
     ∙ fault_after (width_of_term (rtm t)) rest passed
 
 pub argument_fails_at : (xs : List RawTerm) (i k : ℕ) (t : RawTerm) (f : SystemFault) → i < length xs → t ≡ get_or xs i t → (k ≡ 32 → ⊥) → first_fault (width_of_term (rtm t)) ≡ Some f
@@ -48,7 +48,7 @@ pub argument_fails_at : (xs : List RawTerm) (i k : ℕ) (t : RawTerm) (f : Syste
 argument_fails_at xs i k t f within e other failed =
     let rest = width_of_arguments (k + 1) (rtms (drop (i + 1) xs)) in
     ap (λ us. first_fault (width_of_arguments k us)) (left_next xs i t within e)
-    ∙ past_test (k == 32) (TooMany (term_place (rtm t))) (width_of_term (rtm t) ++ rest) (is_false k 32 other)
+    ∙ past_test (k == 32) (TooMany (term_offset (rtm t))) (width_of_term (rtm t) ++ rest) (is_false k 32 other)
     ∙ fault_in_first (width_of_term (rtm t)) rest f failed
 
 -- as many arguments as the list has terms

@@ -2,7 +2,7 @@
 use Rattle.std.specs.Prelude.{ℕ, List}
 use Rattle.wh_text.specs.RawTree.{RTy, RTys, RTm}
 
--- a declared name, and its place
+-- a declared name, and its offset
 pub record RName : Type 0 where
   pub name : List ℕ
   pub at : ℕ
@@ -18,7 +18,7 @@ pub record RMeta : Type 0 where
   pub args : RTys
   pub out : RTy
 
--- a rule; its place is that of its keyword
+-- a rule; its offset is that of its keyword
 pub record RRule : Type 0 where
   pub metas : List RMeta
   pub left : RTm

@@ -9,7 +9,7 @@ use Rattle.wh_parts.specs.declared.fault.SystemFault.TheVariants.{IllTyped, NotP
 use Rattle.wh_parts.specs.Faults.{Test, first_fault}
 use Rattle.wh_parts.specs.Naming.{number_of, is_declared, type_meant, Scope, binder_number}
 use Rattle.wh_parts.specs.Kinds.{kind_of}
-use Rattle.wh_parts.specs.Tests.{test, term_place, arguments_of, count_test, sort_names, fun_names, sorts_tests, funs_tests, meta_tests, side_tests, naming_tests}
+use Rattle.wh_parts.specs.Tests.{test, term_offset, arguments_of, count_test, sort_names, fun_names, sorts_tests, funs_tests, meta_tests, side_tests, naming_tests}
 
 -- the type that a raw type stands for; where a sort is not there, which an earlier test finds, any type
 abbrev pub type_of_raw : List (List ℕ) → RTy → Ty
@@ -36,7 +36,7 @@ abbrev pub same_kind : Option Ty → Option Ty → Bool
 same_kind (Some a) (Some b) = same_ty a b
 same_kind _ _ = false
 
--- the free variables of a side, each a fault, by their places
+-- the free variables of a side, each a fault, by their offsets
 abbrev mutual
   pub open_tests : RTm → List Test
   open_tests (free_variable n a at) = test true (OpenSide at) ∷ []
@@ -111,7 +111,7 @@ abbrev mutual
   any_occurs s binders name none = false
   any_occurs s binders name (more t ts) = occurs s binders name t || any_occurs s binders name ts
 
--- the occurrences of meta-variables on the right, by their places, each tested to be in the left side
+-- the occurrences of meta-variables on the right, by their offsets, each tested to be in the left side
 abbrev mutual
   pub new_meta_tests : Scope → RTm → List Binder → RTm → List Test
   new_meta_tests s left binders (named n at) = test (is_plain_meta s binders n && not (occurs s [] n left)) (NewMeta at) ∷ []
@@ -137,7 +137,7 @@ is_uneven head n (e ∷ earlier) = (same_head head e.0 && not (n == e.1)) || is_
 abbrev pub rule_tests : RParts → List (Option ℕ × ℕ) → RRule → List Test
 rule_tests p earlier r =
     let s = scope_of p r in
-    count_test 32 (map (λ m. m.name.at) r.metas) ++ meta_tests (sort_names p) (fun_names p) [] r.metas ++ side_tests r.left ++ side_tests r.right ++ naming_tests s [] r.left ++ naming_tests s [] r.right ++ test (not (same_kind (kind_of s [] r.left) (kind_of s [] r.right))) (IllTyped (term_place r.right)) ∷ (open_tests r.left ++ open_tests r.right ++ test (not (is_some (head_symbol s r.left))) (HeadNotFun (term_place r.left)) ∷ (pattern_tests s [] r.left ++ new_meta_tests s r.left [] r.right ++ test (is_uneven (head_symbol s r.left) (arguments_of r.left) earlier) (UnevenRules (term_place r.left)) ∷ []))
+    count_test 32 (map (λ m. m.name.at) r.metas) ++ meta_tests (sort_names p) (fun_names p) [] r.metas ++ side_tests r.left ++ side_tests r.right ++ naming_tests s [] r.left ++ naming_tests s [] r.right ++ test (not (same_kind (kind_of s [] r.left) (kind_of s [] r.right))) (IllTyped (term_offset r.right)) ∷ (open_tests r.left ++ open_tests r.right ++ test (not (is_some (head_symbol s r.left))) (HeadNotFun (term_offset r.left)) ∷ (pattern_tests s [] r.left ++ new_meta_tests s r.left [] r.right ++ test (is_uneven (head_symbol s r.left) (arguments_of r.left) earlier) (UnevenRules (term_offset r.left)) ∷ []))
 
 abbrev pub rules_tests : RParts → List (Option ℕ × ℕ) → List RRule → List Test
 rules_tests p earlier [] = []

@@ -13,18 +13,18 @@ use Rattle.wh_parts.specs.Kinds.{TypedBinder, binders_of, kind_of, declaration, 
 abbrev pub test : Bool → SystemFault → Test
 test fails fault = record { fails = fails; fault = fault }
 
--- the places of types and terms. A functional type stands where its first argument stands.
-abbrev pub type_place : RTy → ℕ
-type_place (raw_type no_types sort at) = at
-type_place (raw_type (more_types a rest) sort at) = type_place a
+-- the offsets of types and terms. A functional type stands where its first argument stands.
+abbrev pub type_offset : RTy → ℕ
+type_offset (raw_type no_types sort at) = at
+type_offset (raw_type (more_types a rest) sort at) = type_offset a
 
-abbrev pub term_place : RTm → ℕ
-term_place (named n at) = at
-term_place (numbered n at) = at
-term_place (free_variable n a at) = at
-term_place (meta n ts at) = at
-term_place (lam x a t at) = at
-term_place (spine h ts at) = at
+abbrev pub term_offset : RTm → ℕ
+term_offset (named n at) = at
+term_offset (numbered n at) = at
+term_offset (free_variable n a at) = at
+term_offset (meta n ts at) = at
+term_offset (lam x a t at) = at
+term_offset (spine h ts at) = at
 
 -- each sort of a type is there, from the left
 abbrev mutual
@@ -42,12 +42,12 @@ abbrev mutual
 
   pub width_of_types : ℕ → RTys → List Test
   width_of_types k no_types = []
-  width_of_types k (more_types a rest) = test (k == 32) (TooMany (type_place a)) ∷ (width_of_type a ++ width_of_types (k + 1) rest)
+  width_of_types k (more_types a rest) = test (k == 32) (TooMany (type_offset a)) ∷ (width_of_type a ++ width_of_types (k + 1) rest)
 
 -- the same for types in brackets: their number, and then each
 abbrev pub count_of_types : ℕ → RTys → List Test
 count_of_types k no_types = []
-count_of_types k (more_types a rest) = test (k == 32) (TooMany (type_place a)) ∷ count_of_types (k + 1) rest
+count_of_types k (more_types a rest) = test (k == 32) (TooMany (type_offset a)) ∷ count_of_types (k + 1) rest
 
 abbrev pub type_tests : List (List ℕ) → RTy → List Test
 type_tests sorts a = sorts_of_type sorts a ++ width_of_type a
@@ -62,7 +62,7 @@ names_tests others before [] = []
 names_tests others before (n ∷ ns) =
     test (is_declared before n.name || is_declared others n.name) (Twice n.at) ∷ names_tests others (before ++ n.name ∷ []) ns
 
--- at most n things, that stand at these places; the fault is at the first one past them
+-- at most n things, that stand at these offsets; the fault is at the first one past them
 abbrev pub count_test : ℕ → List ℕ → List Test
 count_test n places = test (nat_lt n (length places)) (TooMany (slice_index places n)) ∷ []
 
@@ -115,7 +115,7 @@ abbrev mutual
 
   pub width_of_arguments : ℕ → RTms → List Test
   width_of_arguments k none = []
-  width_of_arguments k (more t ts) = test (k == 32) (TooMany (term_place t)) ∷ (width_of_term t ++ width_of_arguments (k + 1) ts)
+  width_of_arguments k (more t ts) = test (k == 32) (TooMany (term_offset t)) ∷ (width_of_term t ++ width_of_arguments (k + 1) ts)
 
 -- height and size of a side as it is read, in the sense of those of terms
 abbrev mutual
@@ -148,7 +148,7 @@ abbrev mutual
 
 abbrev pub side_tests : RTm → List Test
 side_tests t =
-    width_of_term t ++ test (nat_lt 200 (raw_height t)) (TooMany (term_place t)) ∷ test (nat_lt 65536 (raw_size t)) (TooMany (term_place t)) ∷ []
+    width_of_term t ++ test (nat_lt 200 (raw_height t)) (TooMany (term_offset t)) ∷ test (nat_lt 65536 (raw_size t)) (TooMany (term_offset t)) ∷ []
 
 -- names and types of a side, inner terms before outer ones and left before right
 abbrev pub is_meta : Scope → List TypedBinder → List ℕ → Bool
@@ -163,7 +163,7 @@ arity_of None = 0
 
 -- the arguments of a meta-variable have the types that are wanted
 abbrev pub wanted_tests : Scope → List TypedBinder → RTms → List Ty → List Test
-wanted_tests s bs (more t ts) (a ∷ wanted) = test (not (has_kind (kind_of s bs t) a)) (IllTyped (term_place t)) ∷ wanted_tests s bs ts wanted
+wanted_tests s bs (more t ts) (a ∷ wanted) = test (not (has_kind (kind_of s bs t) a)) (IllTyped (term_offset t)) ∷ wanted_tests s bs ts wanted
   where
     has_kind : Option Ty → Ty → Bool
     has_kind (Some b) a = same_ty b a
@@ -194,4 +194,4 @@ abbrev mutual
   pub applying_tests : Scope → List TypedBinder → Option Ty → RTms → List Test
   applying_tests s bs f none = []
   applying_tests s bs f (more t ts) =
-      naming_tests s bs t ++ test (not (takes f (kind_of s bs t))) (IllTyped (term_place t)) ∷ applying_tests s bs (gives f) ts
+      naming_tests s bs t ++ test (not (takes f (kind_of s bs t))) (IllTyped (term_offset t)) ∷ applying_tests s bs (gives f) ts

@@ -6,7 +6,7 @@ ghost use Rattle.wh_parts.specs.Tests.{side_tests};
 
 use crate::fault::SystemFault;
 use crate::heights::keep_low;
-use crate::places::place;
+use crate::offsets::offset;
 use crate::sizes::spend;
 use crate::widths::check_widths;
 use wh_text::RawTerm;
@@ -22,10 +22,10 @@ pub fn check_side(side: &RawTerm) -> Result<(), SystemFault>
 {
     check_widths(side)?;
     let Some(_) = keep_low(side, MOST_HEIGHT) else {
-        return Err(SystemFault::TooMany { at: place(side) });
+        return Err(SystemFault::TooMany { at: offset(side) });
     };
     let Some(_) = spend(side, MOST_SIZE) else {
-        return Err(SystemFault::TooMany { at: place(side) });
+        return Err(SystemFault::TooMany { at: offset(side) });
     };
     Ok(())
 }

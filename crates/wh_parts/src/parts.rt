@@ -3,12 +3,12 @@
 use wh_text::{Name, RawTerm, RawType, RawTypes};
 use wh_types::List;
 
-/// A declared name, and the place where it stands.
+/// A declared name, and the offset where it stands.
 #[derive(Drop)]
 pub struct RawName {
     /// The name.
     pub name: Name,
-    /// The place of its first byte.
+    /// The offset of its first byte.
     pub at: u32,
 }
 
@@ -50,7 +50,7 @@ pub struct RawRule {
     pub left: RawTerm,
     /// The right side.
     pub right: RawTerm,
-    /// The place of its keyword.
+    /// The offset of its keyword.
     pub at: u32,
 }
 

@@ -6,7 +6,7 @@ ghost use Rattle.wh_types.specs.Erase.{ty, tys};
 ghost use Rattle.wh_parts.specs.Faults.{IsFirstFault, Passes};
 ghost use Rattle.wh_parts.specs.Naming.{arrows_over, type_meant};
 ghost use Rattle.wh_parts.specs.RuleTests.{types_of_raw};
-ghost use Rattle.wh_parts.specs.Tests.{count_of_types, sorts_of_type, sorts_of_types, type_place, width_of_type};
+ghost use Rattle.wh_parts.specs.Tests.{count_of_types, sorts_of_type, sorts_of_types, type_offset, width_of_type};
 
 use crate::fault::SystemFault;
 use crate::names::NameTable;
@@ -16,12 +16,12 @@ use wh_types::{Or, SimpleType};
 
 const MOST_ARGUMENTS: usize = 32;
 
-/// The place of a type: a functional type stands where its first argument stands.
-pub fn place_of_type(kind: &RawType) -> u32
-    ensures { result ≡ type_place (rty kind.now) }
+/// The offset of a type: a functional type stands where its first argument stands.
+pub fn offset_of_type(kind: &RawType) -> u32
+    ensures { result ≡ type_offset (rty kind.now) }
 {
     match kind.args.as_slice().first() {
-        Some(first) => place_of_type(first),
+        Some(first) => offset_of_type(first),
         None => kind.at,
     }
 }
@@ -33,7 +33,7 @@ pub fn check_width(kind: &RawType) -> Result<(), SystemFault>
     for (k, argument) in kind.args.as_slice().iter().enumerate() {
         if k == MOST_ARGUMENTS {
             return Err(SystemFault::TooMany {
-                at: place_of_type(argument),
+                at: offset_of_type(argument),
             });
         }
         check_width(argument)?;
@@ -47,7 +47,7 @@ pub fn check_type_count(kinds: &RawTypes) -> Result<(), SystemFault>
 {
     match kinds.as_slice().get(MOST_ARGUMENTS) {
         Some(kind) => Err(SystemFault::TooMany {
-            at: place_of_type(kind),
+            at: offset_of_type(kind),
         }),
         None => Ok(()),
     }

@@ -5,10 +5,10 @@ ghost use Rattle.wh_text.specs.Erase.{rtm, rtms};
 ghost use Rattle.wh_parts.specs.Widths.{HasSpare, LeavesRoom};
 ghost use Rattle.wh_parts.specs.declared.fault.SystemFault.TheVariants.{TooMany};
 ghost use Rattle.wh_parts.specs.Faults.{IsFirstFault};
-ghost use Rattle.wh_parts.specs.Tests.{term_place, width_of_term, widths_of_terms};
+ghost use Rattle.wh_parts.specs.Tests.{term_offset, width_of_term, widths_of_terms};
 
 use crate::fault::SystemFault;
-use crate::places::place;
+use crate::offsets::offset;
 use crate::types::check_width;
 use wh_text::{RawTerm, RawTerms};
 
@@ -76,10 +76,10 @@ fn check_arguments(items: &RawTerms, room: u32) -> Result<u32, SystemFault>
 
 // One place less for arguments; the fault is at the argument, where there is none.
 fn take_place(item: &RawTerm, left: u32) -> Result<u32, SystemFault>
-    ensures { MatchResult result (λ rest. rest + 1 ≡ left) (λ fault. (left ≡ 0) × (fault ≡ TooMany (term_place (rtm item.now)))) }
+    ensures { MatchResult result (λ rest. rest + 1 ≡ left) (λ fault. (left ≡ 0) × (fault ≡ TooMany (term_offset (rtm item.now)))) }
 {
     match left.checked_sub(1) {
         Some(rest) => Ok(rest),
-        None => Err(SystemFault::TooMany { at: place(item) }),
+        None => Err(SystemFault::TooMany { at: offset(item) }),
     }
 }

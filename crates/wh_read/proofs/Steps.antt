@@ -13,7 +13,7 @@ use Rattle.wh_read.specs.Parsing.{Parses}
 use Rattle.wh_read.specs.SyntaxFaults.{letters, place_in, HasSyntaxFault}
 use Rattle.wh_read.specs.declared.fault.SyntaxFault.{SyntaxFault}
 use Rattle.wh_read.specs.declared.fault.SyntaxFault.TheVariants.{Syntax, TooMany}
-use Rattle.wh_read.specs.Held.{stopped, fault_place}
+use Rattle.wh_read.specs.Held.{stopped, fault_offset}
 use Rattle.wh_read.specs.Reader as r
 use Rattle.wh_read.proofs.ReaderLaws.{says_parts, stops_early, fails_at, too_many_at}
 
@@ -43,7 +43,7 @@ place_at text ts i d size below =
     ∙ ap (λ (k : Placed). k.at) (letter_at text ts i d below)
 
 -- the reader stops at a token
-pub stops_there : (text : List ℕ) (ts : List code.Token) (i : ℕ) (d : code.Token) (p : RParts) (q : r.Place) (fault : SyntaxFault) → i < length ts → r.run r.start (take i (letters text ts)) ≡ r.inside p q → r.step (r.inside p q) (placed (cut_token text (get_or ts i d))) ≡ stopped fault → fault_place fault ≡ (get_or ts i d).from → HasSyntaxFault (letters text ts) (length text) fault
+pub stops_there : (text : List ℕ) (ts : List code.Token) (i : ℕ) (d : code.Token) (p : RParts) (q : r.Place) (fault : SyntaxFault) → i < length ts → r.run r.start (take i (letters text ts)) ≡ r.inside p q → r.step (r.inside p q) (placed (cut_token text (get_or ts i d))) ≡ stopped fault → fault_offset fault ≡ (get_or ts i d).from → HasSyntaxFault (letters text ts) (length text) fault
 stops_there text ts i d p q (Syntax at) below f g h =
     (i, fails_at (letters text ts) i p q (omega (arith, below, letters_long text ts)) f (one_more text ts i d (r.inside p q) r.failed below f g), h ∙ sym (place_at text ts i d (length text) below))
 stops_there text ts i d p q (TooMany at) below f g h =

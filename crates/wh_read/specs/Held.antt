@@ -108,6 +108,6 @@ abbrev pub stopped : SyntaxFault → r.State
 stopped (fault.Syntax at) = r.failed
 stopped (fault.TooMany at) = r.too_many
 
-abbrev pub fault_place : SyntaxFault → ℕ
-fault_place (fault.Syntax at) = at
-fault_place (fault.TooMany at) = at
+abbrev pub fault_offset : SyntaxFault → ℕ
+fault_offset (fault.Syntax at) = at
+fault_offset (fault.TooMany at) = at

@@ -72,7 +72,7 @@ fn read_token(
     requires word { token.now.kind ≡ token_kind.Name → IsWord (part text.now token.now.from token.now.to) }
     ensures goes_on { IfOk result (λ next. r.step (r.inside (rparts parts.old) (held.place place)) (placed (cut_token text.now token.now)) ≡ r.inside (rparts parts.new) (held.place next)) }
     ensures stops { IfBecause result (λ fault. r.step (r.inside (rparts parts.old) (held.place place)) (placed (cut_token text.now token.now)) ≡ held.stopped fault) }
-    ensures stops_at { IfBecause result (λ fault. held.fault_place fault ≡ token.now.from) }
+    ensures stops_at { IfBecause result (λ fault. held.fault_offset fault ≡ token.now.from) }
 {
     let at = token.from;
     let Some(letter) = letter_of(alloc, text, token)? else {

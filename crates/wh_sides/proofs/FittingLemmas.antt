@@ -15,7 +15,7 @@ use Rattle.wh_parts.specs.Faults.{first_of, first_fault}
 use Rattle.wh_parts.specs.Kinds.{takes, are_wanted, kind_of, kinds_of, TypedBinder}
 use Rattle.wh_parts.specs.Naming.{Scope}
 use Rattle.wh_sides.specs.Resolving.{fitting_tests}
-use Rattle.wh_parts.specs.Tests.{test, term_place, count_of, wanted_tests}
+use Rattle.wh_parts.specs.Tests.{test, term_offset, count_of, wanted_tests}
 use Rattle.wh_parts.proofs.FaultLemmas.{no_fault_at_test}
 use Rattle.wh_parts.proofs.RawTerms.{left_next, left_none}
 
@@ -50,7 +50,7 @@ fitting_left gs xs ws i = first_fault (fitting_tests (tys (drop i gs)) (rtms (dr
 
 fitting-step : (gs ws : List SimpleType) (xs : List RawTerm) (i : ℕ) (g w : SimpleType) (x : RawTerm) → i < length gs → i < length ws → i < length xs
     → g ≡ get_or gs i g → w ≡ get_or ws i w → x ≡ get_or xs i x
-    → fitting_left gs xs ws i ≡ first_of (not (same_ty (ty g) (ty w))) (IllTyped (term_place (rtm x))) (fitting_left gs xs ws (i + 1))
+    → fitting_left gs xs ws i ≡ first_of (not (same_ty (ty g) (ty w))) (IllTyped (term_offset (rtm x))) (fitting_left gs xs ws (i + 1))
 fitting-step gs ws xs i g w x a b c e f h =
     ap (λ ks. first_fault (fitting_tests ks (rtms (drop i xs)) (tys (drop i ws)))) (tys_next gs i g a e)
     ∙ ap (λ ks. first_fault (fitting_tests (ty g ∷ tys (drop (i + 1) gs)) (rtms (drop i xs)) ks)) (tys_next ws i w b f)
@@ -60,12 +60,12 @@ pub fitting_next : (gs ws : List SimpleType) (xs : List RawTerm) (i : ℕ) (g w 
     → g ≡ get_or gs i g → w ≡ get_or ws i w → ty g ≡ ty w → all ≡ fitting_left gs xs ws i → all ≡ fitting_left gs xs ws (i + 1)
 fitting_next gs ws xs i g w all a b c e f same is =
     let (x, h) = item_at xs i c in
-    is ∙ fitting-step gs ws xs i g w x a b c e f h ∙ ap (λ t. first_of t (IllTyped (term_place (rtm x))) (fitting_left gs xs ws (i + 1))) (same_type-true (ty g) (ty w) same)
+    is ∙ fitting-step gs ws xs i g w x a b c e f h ∙ ap (λ t. first_of t (IllTyped (term_offset (rtm x))) (fitting_left gs xs ws (i + 1))) (same_type-true (ty g) (ty w) same)
 
 pub fitting_fails : (gs ws : List SimpleType) (xs : List RawTerm) (i : ℕ) (g w : SimpleType) (x : RawTerm) (at : ℕ) (all : Option SystemFault) → i < length gs → i < length ws → i < length xs
-    → g ≡ get_or gs i g → w ≡ get_or ws i w → x ≡ get_or xs i x → at ≡ term_place (rtm x) → (ty g ≡ ty w → ⊥) → all ≡ fitting_left gs xs ws i → all ≡ Some (IllTyped at)
+    → g ≡ get_or gs i g → w ≡ get_or ws i w → x ≡ get_or xs i x → at ≡ term_offset (rtm x) → (ty g ≡ ty w → ⊥) → all ≡ fitting_left gs xs ws i → all ≡ Some (IllTyped at)
 fitting_fails gs ws xs i g w x at all a b c e f h place other is =
-    is ∙ fitting-step gs ws xs i g w x a b c e f h ∙ ap (λ t. first_of t (IllTyped (term_place (rtm x))) (fitting_left gs xs ws (i + 1))) (same_type-false (ty g) (ty w) other)
+    is ∙ fitting-step gs ws xs i g w x a b c e f h ∙ ap (λ t. first_of t (IllTyped (term_offset (rtm x))) (fitting_left gs xs ws (i + 1))) (same_type-false (ty g) (ty w) other)
     ∙ ap (λ p. Some (IllTyped p)) (sym place)
 
 no-terms : (gs ws : List Ty) → first_fault (fitting_tests gs none ws) ≡ None
@@ -85,7 +85,7 @@ wanted_are s bs (more t ts) (g ∷ gs) [] e = refl
 wanted_are s bs (more t ts) (g ∷ gs) (w ∷ ws) e =
     let first : kind_of s bs t ≡ Some g = grind arith in
     let others : kinds_of s bs ts ≡ map Some gs = grind arith in
-    rw first (ap (λ rest. test (not (same_ty g w)) (IllTyped (term_place t)) ∷ rest) (wanted_are s bs ts gs ws others))
+    rw first (ap (λ rest. test (not (same_ty g w)) (IllTyped (term_offset t)) ∷ rest) (wanted_are s bs ts gs ws others))
 
 -- all that are wanted are there
 not-false : (b : Bool) → not b ≡ false → b ≡ true
@@ -98,6 +98,6 @@ fit [] (w ∷ ws) ts a b e = absurd (omega arith)
 fit (g ∷ gs) [] ts a b e = absurd (omega arith)
 fit (g ∷ gs) (w ∷ ws) none a b e = absurd (omega arith)
 fit (g ∷ gs) (w ∷ ws) (more t ts) a b e =
-    let parts = no_fault_at_test (not (same_ty g w)) (IllTyped (term_place t)) (fitting_tests gs ts ws) e in
+    let parts = no_fault_at_test (not (same_ty g w)) (IllTyped (term_offset t)) (fitting_tests gs ts ws) e in
     let rest = fit gs ws ts (omega arith) (omega arith) parts.1 in
     ap (λ x. x && are_wanted (map Some gs) ws) (not-false (same_ty g w) parts.0) ∙ rest

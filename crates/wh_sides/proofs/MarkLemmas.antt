@@ -13,7 +13,7 @@ use Rattle.wh_parts.specs.declared.fault.SystemFault.TheVariants.{IllTyped, NewM
 use Rattle.wh_parts.specs.Faults.{first_fault, first_of}
 use Rattle.wh_parts.specs.Naming.{Scope, number_of, is_declared, binder_number, type_meant}
 use Rattle.wh_parts.specs.Kinds.{TypedBinder, binders_of, declaration, kind_of, takes, gives}
-use Rattle.wh_parts.specs.Tests.{test, term_place, count_of, arity_of, args_of, wanted_tests, sorts_of_type, naming_tests, namings_tests, applying_tests}
+use Rattle.wh_parts.specs.Tests.{test, term_offset, count_of, arity_of, args_of, wanted_tests, sorts_of_type, naming_tests, namings_tests, applying_tests}
 use Rattle.wh_parts.specs.RuleTests.{is_plain_meta, occurs, any_occurs, new_meta_tests, new_metas_tests}
 use Rattle.wh_parts.proofs.FaultLemmas.{no_fault_in_first, no_fault_in_second, no_fault_at_test}
 use Rattle.wh_text.specs.declared.raw.RawBinder.{RawBinder}
@@ -213,7 +213,7 @@ mutual
   known_arguments s left known knows bs f none p = refl
   known_arguments s left known knows bs f (more t ts) p =
       let rest = no_fault_in_second (naming_tests s bs t) _ p in
-      ap₂ (λ us vs. us ++ vs) (known_tests s left known knows bs t (no_fault_in_first (naming_tests s bs t) _ p)) (known_arguments s left known knows bs (gives f) ts (no_fault_at_test (not (takes f (kind_of s bs t))) (IllTyped (term_place t)) (applying_tests s bs (gives f) ts) rest).1)
+      ap₂ (λ us vs. us ++ vs) (known_tests s left known knows bs t (no_fault_in_first (naming_tests s bs t) _ p)) (known_arguments s left known knows bs (gives f) ts (no_fault_at_test (not (takes f (kind_of s bs t))) (IllTyped (term_offset t)) (applying_tests s bs (gives f) ts) rest).1)
 
 -- a plain name on the right, as the walk finds it
 

@@ -19,7 +19,7 @@ use Rattle.wh_parts.specs.Faults.{Test, first_of, first_fault}
 use Rattle.wh_parts.specs.Naming.{Scope, meant, all_meant, applied_meant, both}
 use Rattle.wh_parts.specs.Kinds.{TypedBinder, binders_of, kind_of, kinds_of, spine_kind, takes, gives, where_true}
 use Rattle.wh_sides.specs.Resolving.{AreResolved}
-use Rattle.wh_parts.specs.Tests.{test, term_place, naming_tests, namings_tests, applying_tests}
+use Rattle.wh_parts.specs.Tests.{test, term_offset, naming_tests, namings_tests, applying_tests}
 use Rattle.wh_parts.proofs.FaultLemmas.{fault_after, no_fault_at_test}
 use Rattle.wh_sides.proofs.AnswerLemmas.{Fails, fails_along, fails_first}
 
@@ -39,15 +39,15 @@ where-true : (b : Bool) (a : Option Ty) → not b ≡ false → where_true b a �
 where-true true a e = refl
 where-true false a e = absurd (grind arith)
 
-spine-tests : (s : Scope) (bs : List TypedBinder) (a k c : Option Ty) (t : RTm) (rest : RTms) (at : ℕ) → first_fault (naming_tests s bs t) ≡ None → kind_of s bs t ≡ k → term_place t ≡ at
+spine-tests : (s : Scope) (bs : List TypedBinder) (a k c : Option Ty) (t : RTm) (rest : RTms) (at : ℕ) → first_fault (naming_tests s bs t) ≡ None → kind_of s bs t ≡ k → term_offset t ≡ at
     → not (takes a k) ≡ false → gives a ≡ c → first_fault (applying_tests s bs a (more t rest)) ≡ first_fault (applying_tests s bs c rest)
 spine-tests s bs a k c t rest at passed kind place fits given =
-    fault_after (naming_tests s bs t) (test (not (takes a (kind_of s bs t))) (IllTyped (term_place t)) ∷ applying_tests s bs (gives a) rest) passed
-    ∙ ap (λ b. first_of b (IllTyped (term_place t)) (first_fault (applying_tests s bs (gives a) rest))) (ap (λ j. not (takes a j)) kind ∙ fits)
+    fault_after (naming_tests s bs t) (test (not (takes a (kind_of s bs t))) (IllTyped (term_offset t)) ∷ applying_tests s bs (gives a) rest) passed
+    ∙ ap (λ b. first_of b (IllTyped (term_offset t)) (first_fault (applying_tests s bs (gives a) rest))) (ap (λ j. not (takes a j)) kind ∙ fits)
     ∙ ap (λ j. first_fault (applying_tests s bs j rest)) given
 
 pub spine_next : (s : Scope) (bs : List TypedBinder) (u : Option Tm) (a : Option Ty) (ts : RTms) (f x w : Resolved) (t : RTm) (left rest : RTms) (at : ℕ)
-    → SameSpine s bs u a ts (Some (tm f.term)) (Some (ty f.kind)) left → left ≡ more t rest → at ≡ term_place t
+    → SameSpine s bs u a ts (Some (tm f.term)) (Some (ty f.kind)) left → left ≡ more t rest → at ≡ term_offset t
     → IsResolved (naming_tests s bs t) (meant s (binders_of bs) t) (kind_of s bs t) x
     → IsResolved (test (not (takes (Some (ty f.kind)) (Some (ty x.kind)))) (IllTyped at) ∷ []) (Some (app (tm f.term) (tm x.term))) (gives (Some (ty f.kind))) w
     → SameSpine s bs u a ts (Some (tm w.term)) (Some (ty w.kind)) rest
@@ -73,7 +73,7 @@ spine_done s bs u a ts w left same is =
 pub spine_fails_in : (s : Scope) (bs : List TypedBinder) (u v : Option Tm) (a b : Option Ty) (ts left rest : RTms) (t : RTm) (e : Or SystemFault) → SameSpine s bs u a ts v b left
     → left ≡ more t rest → Fails (first_fault (naming_tests s bs t)) e → Fails (first_fault (applying_tests s bs a ts)) e
 spine_fails_in s bs u v a b ts left rest t e same is h =
-    let tail : List Test = test (not (takes b (kind_of s bs t))) (IllTyped (term_place t)) ∷ applying_tests s bs (gives b) rest in
+    let tail : List Test = test (not (takes b (kind_of s bs t))) (IllTyped (term_offset t)) ∷ applying_tests s bs (gives b) rest in
     fails_along e (first_fault (naming_tests s bs t ++ tail)) (first_fault (applying_tests s bs a ts))
     (same.tests ∙ ap (λ us. first_fault (applying_tests s bs b us)) is) (fails_first e (naming_tests s bs t) tail h)
 
@@ -83,7 +83,7 @@ fails-test (Because x) true f rest h = h
 fails-test (Because x) false f rest h = absurd (grind arith)
 
 pub spine_fails_at : (s : Scope) (bs : List TypedBinder) (u : Option Tm) (a : Option Ty) (ts : RTms) (f x : Resolved) (t : RTm) (left rest : RTms) (at : ℕ) (e : Or SystemFault)
-    → SameSpine s bs u a ts (Some (tm f.term)) (Some (ty f.kind)) left → left ≡ more t rest → at ≡ term_place t
+    → SameSpine s bs u a ts (Some (tm f.term)) (Some (ty f.kind)) left → left ≡ more t rest → at ≡ term_offset t
     → IsResolved (naming_tests s bs t) (meant s (binders_of bs) t) (kind_of s bs t) x
     → Fails (first_fault (test (not (takes (Some (ty f.kind)) (Some (ty x.kind)))) (IllTyped at) ∷ [])) e
     → Fails (first_fault (applying_tests s bs a ts)) e
@@ -92,7 +92,7 @@ spine_fails_at s bs u a ts f x t left rest at e same is place argument h =
     let after : Option SystemFault = first_fault (applying_tests s bs (gives (Some (ty f.kind))) rest) in
     fails_along e (first_of b (IllTyped at) after) (first_fault (applying_tests s bs a ts))
     (same.tests ∙ ap (λ us. first_fault (applying_tests s bs (Some (ty f.kind)) us)) is
-    ∙ fault_after (naming_tests s bs t) (test (not (takes (Some (ty f.kind)) (kind_of s bs t))) (IllTyped (term_place t)) ∷ applying_tests s bs (gives (Some (ty f.kind))) rest) argument.passed
+    ∙ fault_after (naming_tests s bs t) (test (not (takes (Some (ty f.kind)) (kind_of s bs t))) (IllTyped (term_offset t)) ∷ applying_tests s bs (gives (Some (ty f.kind))) rest) argument.passed
     ∙ ap₂ (λ k p. first_of (not (takes (Some (ty f.kind)) k)) (IllTyped p) after) argument.kind (sym place))
     (fails-test e b (IllTyped at) after h)
 

@@ -21,7 +21,7 @@ is_marked s flags n = flag_at flags (number_of s.metas n)
 abbrev pub Marks : Scope → List Bool → List Bool → (List ℕ → Bool) → Type 0
 Marks s old new occurs = (n : List ℕ) (z : ℕ) → number_of s.metas n ≡ Some z → z < length old → slice_index_or new z false ≡ (slice_index_or old z false || occurs n)
 
--- the occurrences of meta-variables in a term, by their places, each tested to be known
+-- the occurrences of meta-variables in a term, by their offsets, each tested to be known
 abbrev mutual
   pub missing_tests : Scope → (List ℕ → Bool) → List Binder → RTm → List Test
   missing_tests s known binders (named n at) = test (is_plain_meta s binders n && not (known n)) (NewMeta at) ∷ []

@@ -15,7 +15,7 @@ use Rattle.wh_sides.specs.Answers.{Resolves}
 use Rattle.wh_parts.specs.Faults.{Test, first_fault}
 use Rattle.wh_parts.specs.Naming.{Scope, number_of, is_declared, meant, all_meant, applied_meant}
 use Rattle.wh_parts.specs.Kinds.{TypedBinder, binders_of, kind_of, kinds_of, spine_kind, declaration, meta_kind}
-use Rattle.wh_parts.specs.Tests.{test, term_place, count_of, arity_of, args_of, naming_tests, namings_tests, applying_tests}
+use Rattle.wh_parts.specs.Tests.{test, term_offset, count_of, arity_of, args_of, naming_tests, namings_tests, applying_tests}
 
 -- the answer for a raw term below these binders
 abbrev pub ResolvesTerm : Scope → List TypedBinder → RTm → Result Resolved (Or SystemFault) → Type 0
@@ -37,7 +37,7 @@ ResolvesEach s bs ts result = MatchOr result (AreResolved s bs ts) (λ fault. fi
 
 -- the arguments, whose types are given, have the types that are wanted
 abbrev pub fitting_tests : List Ty → RTms → List Ty → List Test
-fitting_tests (k ∷ given) (more t ts) (a ∷ wanted) = test (not (same_ty k a)) (IllTyped (term_place t)) ∷ fitting_tests given ts wanted
+fitting_tests (k ∷ given) (more t ts) (a ∷ wanted) = test (not (same_ty k a)) (IllTyped (term_offset t)) ∷ fitting_tests given ts wanted
 fitting_tests _ _ _ = []
 
 -- the tests of a meta-variable with resolved arguments of these types

@@ -4,20 +4,20 @@ ghost use Rattle.std.specs.Prelude.{◌≡◌, ◌≤◌, Some, None, MatchResul
 ghost use Rattle.wh_text.specs.Erase.{rtm};
 ghost use Rattle.wh_sides.specs.InScope.{scope as in_scope};
 ghost use Rattle.wh_parts.specs.RuleTests.{head_symbol};
-ghost use Rattle.wh_parts.specs.Tests.{arguments_of, raw_size, term_place};
+ghost use Rattle.wh_parts.specs.Tests.{arguments_of, raw_size, term_offset};
 ghost use Rattle.wh_parts.specs.declared.fault.SystemFault.TheVariants.{HeadNotFun};
 
 use crate::scope::Scope;
-use wh_parts::{SystemFault, place};
+use wh_parts::{SystemFault, offset};
 use wh_text::RawTerm;
 
 /// The symbol that heads a left side; the fault is at the side, where none does.
 pub fn head_of(scope: &Scope, left: &RawTerm) -> Result<u32, SystemFault>
-    ensures { MatchResult result (λ fun. head_symbol (in_scope scope.now) (rtm left.now) ≡ Some fun) (λ fault. (head_symbol (in_scope scope.now) (rtm left.now) ≡ None) × (fault ≡ HeadNotFun (term_place (rtm left.now)))) }
+    ensures { MatchResult result (λ fun. head_symbol (in_scope scope.now) (rtm left.now) ≡ Some fun) (λ fault. (head_symbol (in_scope scope.now) (rtm left.now) ≡ None) × (fault ≡ HeadNotFun (term_offset (rtm left.now)))) }
 {
     match symbol_of(scope, left) {
         Some(fun) => Ok(fun),
-        None => Err(SystemFault::HeadNotFun { at: place(left) }),
+        None => Err(SystemFault::HeadNotFun { at: offset(left) }),
     }
 }
 

@@ -21,7 +21,7 @@ use crate::around::{Around, Resolved, ResolvedList};
 use crate::resolve_parts::{abstracted, applied, applied_meta, resolve_name, resolve_numbered};
 use crate::scope::Scope;
 use std::alloc::Global;
-use wh_parts::{SystemFault, place, resolve_type};
+use wh_parts::{SystemFault, offset, resolve_type};
 use wh_terms::{Term, Terms, Types};
 use wh_text::{RawBinder, RawTerm, RawTerms};
 use wh_types::{Or, SimpleType};
@@ -129,7 +129,7 @@ fn resolve_applied<'a>(
     let mut whole = head;
     for item in items.as_slice() {
         let argument = resolve_under(alloc, scope, passed, item)?;
-        whole = applied(alloc, whole, argument, place(item))?;
+        whole = applied(alloc, whole, argument, offset(item))?;
     }
     Ok(whole)
 }

@@ -19,7 +19,7 @@ use crate::around::{Around, Resolved, ResolvedList};
 use crate::lookup::{nearest_named, nearest_numbered, variable_of};
 use crate::scope::Scope;
 use std::alloc::{AllocError, Global};
-use wh_parts::{SystemFault, place};
+use wh_parts::{SystemFault, offset};
 use wh_terms::{Term, Terms};
 use wh_text::{Name, RawTerms};
 use wh_types::{Or, SimpleType, same_type};
@@ -127,7 +127,7 @@ fn check_fitting(
     for i in 0..items.len() {
         if !same_type(&given[i], &wanted[i]) {
             return Err(SystemFault::IllTyped {
-                at: place(&items[i]),
+                at: offset(&items[i]),
             });
         }
     }

@@ -13,7 +13,7 @@ use Rattle.wh_parts.specs.Faults.{Test, first_fault}
 use Rattle.wh_parts.specs.Declarations.{meta_count}
 use Rattle.wh_parts.specs.Naming.{Scope, is_declared}
 use Rattle.wh_parts.specs.Kinds.{kind_of}
-use Rattle.wh_parts.specs.Tests.{test, term_place, arguments_of, sort_names, fun_names, meta_tests, side_tests, naming_tests}
+use Rattle.wh_parts.specs.Tests.{test, term_offset, arguments_of, sort_names, fun_names, meta_tests, side_tests, naming_tests}
 use Rattle.wh_parts.specs.RuleTests.{type_of_raw, scope_of, same_kind, open_tests, head_symbol, pattern_tests, new_meta_tests, is_uneven, rule_tests, rules_tests}
 use Rattle.wh_parts.proofs.FaultLemmas.{fault_in_first, fault_after, fault_at_test, past_test}
 use Rattle.wh_system.specs.RulePasses.{own_tests}
@@ -43,15 +43,15 @@ regroup : (C M L R NL NR OL OR P N : List Test) (t h u : Test)
 regroup C M L R NL NR OL OR P N t h u = simp append_assoc
 
 abbrev pub uneven_test : List (Option ℕ × ℕ) → Option ℕ → RTm → Test
-uneven_test earlier f left = test (is_uneven f (arguments_of left) earlier) (UnevenRules (term_place left))
+uneven_test earlier f left = test (is_uneven f (arguments_of left) earlier) (UnevenRules (term_offset left))
 
 rule-tests : (p : RParts) (earlier : List (Option ℕ × ℕ)) (r : RRule) → rule_tests p earlier r ≡ own_tests (scope_of p r) r ++ uneven_test earlier (head_symbol (scope_of p r) r.left) r.left ∷ []
 rule-tests p earlier r =
     let s = scope_of p r in
     regroup (meta_count r.metas) (meta_tests s.sorts s.funs [] r.metas) (side_tests r.left) (side_tests r.right) (naming_tests s [] r.left) (naming_tests s [] r.right)
     (open_tests r.left) (open_tests r.right) (pattern_tests s [] r.left) (new_meta_tests s r.left [] r.right)
-    (test (not (same_kind (kind_of s [] r.left) (kind_of s [] r.right))) (IllTyped (term_place r.right)))
-    (test (not (is_some (head_symbol s r.left))) (HeadNotFun (term_place r.left)))
+    (test (not (same_kind (kind_of s [] r.left) (kind_of s [] r.right))) (IllTyped (term_offset r.right)))
+    (test (not (is_some (head_symbol s r.left))) (HeadNotFun (term_offset r.left)))
     (uneven_test earlier (head_symbol s r.left) r.left)
 
 -- a rule whose own tests fail
@@ -65,11 +65,11 @@ rule_fails p earlier r rs f e =
 
 -- one that is uneven
 pub rule_uneven : (p : RParts) (earlier : List (Option ℕ × ℕ)) (r : RRule) (rs : List RRule) → first_fault (own_tests (scope_of p r) r) ≡ None
-    → is_uneven (head_symbol (scope_of p r) r.left) (arguments_of r.left) earlier ≡ true → first_fault (rules_tests p earlier (r ∷ rs)) ≡ Some (UnevenRules (term_place r.left))
+    → is_uneven (head_symbol (scope_of p r) r.left) (arguments_of r.left) earlier ≡ true → first_fault (rules_tests p earlier (r ∷ rs)) ≡ Some (UnevenRules (term_offset r.left))
 rule_uneven p earlier r rs own e =
     let s = scope_of p r in
     let b = is_uneven (head_symbol s r.left) (arguments_of r.left) earlier in
-    let place = UnevenRules (term_place r.left) in
+    let place = UnevenRules (term_offset r.left) in
     fault_in_first (rule_tests p earlier r) (rules_tests p ((head_symbol s r.left, arguments_of r.left) ∷ earlier) rs) place
     (ap first_fault (rule-tests p earlier r) ∙ fault_after (own_tests s r) (test b place ∷ []) own ∙ fault_at_test b place [] e)
 
@@ -80,7 +80,7 @@ pub rule_passes : (p : RParts) (earlier : List (Option ℕ × ℕ)) (r : RRule) 
 rule_passes p earlier r rs f n own is counted e =
     let s = scope_of p r in
     let b = is_uneven (head_symbol s r.left) (arguments_of r.left) earlier in
-    let place = UnevenRules (term_place r.left) in
+    let place = UnevenRules (term_offset r.left) in
     let even : b ≡ false = ap₂ (λ o k. is_uneven o k earlier) is (sym counted) ∙ e in
     fault_after (rule_tests p earlier r) (rules_tests p ((head_symbol s r.left, arguments_of r.left) ∷ earlier) rs)
     (ap first_fault (rule-tests p earlier r) ∙ fault_after (own_tests s r) (test b place ∷ []) own ∙ past_test b place [] even)

@@ -12,7 +12,7 @@ use Rattle.wh_parts.specs.Faults.{first_fault}
 use Rattle.wh_parts.specs.Declarations.{meta_count}
 use Rattle.wh_parts.specs.Naming.{Scope}
 use Rattle.wh_parts.specs.Kinds.{kind_of}
-use Rattle.wh_parts.specs.Tests.{test, term_place, width_of_term, raw_height, raw_size, meta_tests, side_tests, naming_tests}
+use Rattle.wh_parts.specs.Tests.{test, term_offset, width_of_term, raw_height, raw_size, meta_tests, side_tests, naming_tests}
 use Rattle.wh_parts.specs.RuleTests.{declared_by, same_kind}
 use Rattle.wh_parts.proofs.FaultLemmas.{no_fault_in_first, no_fault_in_second, no_fault_at_test}
 use Rattle.wh_system.specs.RulePasses.{scope_over, sides_tests}
@@ -33,15 +33,15 @@ declared_along sorts funs xs ys e = ap (λ ms. first_fault (meta_count (map rmet
 -- a side within its limits has few enough parts
 pub small_side : (t : RTm) → first_fault (side_tests t) ≡ None → raw_size t ≤ 65536
 small_side t p =
-    let low = test (nat_lt 200 (raw_height t)) (TooMany (term_place t)) in
-    let small = test (nat_lt 65536 (raw_size t)) (TooMany (term_place t)) in
+    let low = test (nat_lt 200 (raw_height t)) (TooMany (term_offset t)) in
+    let small = test (nat_lt 65536 (raw_size t)) (TooMany (term_offset t)) in
     let both = no_fault_in_second (width_of_term t) (low ∷ small ∷ []) p in
-    let last = (no_fault_at_test (nat_lt 200 (raw_height t)) (TooMany (term_place t)) (small ∷ []) both).1 in
-    ltb-false 65536 (raw_size t) (no_fault_at_test (nat_lt 65536 (raw_size t)) (TooMany (term_place t)) [] last).0
+    let last = (no_fault_at_test (nat_lt 200 (raw_height t)) (TooMany (term_offset t)) (small ∷ []) both).1 in
+    ltb-false 65536 (raw_size t) (no_fault_at_test (nat_lt 65536 (raw_size t)) (TooMany (term_offset t)) [] last).0
 
 -- where the sides pass, the names of the right one do
 pub right_named : (s : Scope) (r : RRule) → first_fault (sides_tests s r) ≡ None → first_fault (naming_tests s [] r.right) ≡ None
 right_named s r p =
     let l = naming_tests s [] r.left in
     let n = naming_tests s [] r.right in
-    no_fault_in_second l n (no_fault_in_first (l ++ n) (test (not (same_kind (kind_of s [] r.left) (kind_of s [] r.right))) (IllTyped (term_place r.right)) ∷ []) p)
+    no_fault_in_second l n (no_fault_in_first (l ++ n) (test (not (same_kind (kind_of s [] r.left) (kind_of s [] r.right))) (IllTyped (term_offset r.right)) ∷ []) p)

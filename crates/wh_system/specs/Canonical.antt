@@ -1,4 +1,4 @@
--- The canonical raw trees of types and terms (ours): the trees that their canonical texts say. All places are 0.
+-- The canonical raw trees of types and terms (ours): the trees that their canonical texts say. All offsets are 0.
 use Rattle.std.specs.Prelude.{ℕ, ◌+◌, ◌-◌, ◌<◌, List, [], length, get_or}
 use Rattle.wh_types.specs.Ty.{Ty, sort, ◌⇒◌, result_sort, SortsBelow}
 use Rattle.wh_terms.specs.Tree.{Tm, bound, free, fun, meta, lam, app, Tms, none as no_tms, more as more_tms}

@@ -1,4 +1,4 @@
--- The canonical parts of a system (ours): what its canonical text says. All places are 0.
+-- The canonical parts of a system (ours): what its canonical text says. All offsets are 0.
 use Rattle.std.specs.Prelude.{ℕ, List, [], ◌∷◌, map}
 use Rattle.wh_types.specs.Ty.{Ty}
 use Rattle.wh_terms.specs.Typing.{Declared}

@@ -8,7 +8,7 @@ use Rattle.wh_parts.specs.Faults.{Test}
 use Rattle.wh_parts.specs.Declarations.{meta_count}
 use Rattle.wh_parts.specs.Naming.{Scope, meant}
 use Rattle.wh_parts.specs.Kinds.{kind_of}
-use Rattle.wh_parts.specs.Tests.{test, term_place, arguments_of, meta_tests, side_tests, naming_tests}
+use Rattle.wh_parts.specs.Tests.{test, term_offset, arguments_of, meta_tests, side_tests, naming_tests}
 use Rattle.wh_parts.specs.RuleTests.{declared_by, same_kind, open_tests, head_symbol, pattern_tests, new_meta_tests}
 use Rattle.wh_system.specs.declared.rules.ResolvedRule.{ResolvedRule}
 
@@ -19,12 +19,12 @@ scope_over sorts funs kinds r = record { sorts = sorts; funs = funs; kinds = kin
 -- names and types of the sides
 abbrev pub sides_tests : Scope → RRule → List Test
 sides_tests s r =
-    naming_tests s [] r.left ++ naming_tests s [] r.right ++ test (not (same_kind (kind_of s [] r.left) (kind_of s [] r.right))) (IllTyped (term_place r.right)) ∷ []
+    naming_tests s [] r.left ++ naming_tests s [] r.right ++ test (not (same_kind (kind_of s [] r.left) (kind_of s [] r.right))) (IllTyped (term_offset r.right)) ∷ []
 
 -- the form of the sides
 abbrev pub form_tests : Scope → RRule → List Test
 form_tests s r =
-    open_tests r.left ++ open_tests r.right ++ test (not (is_some (head_symbol s r.left))) (HeadNotFun (term_place r.left)) ∷ (pattern_tests s [] r.left ++ new_meta_tests s r.left [] r.right)
+    open_tests r.left ++ open_tests r.right ++ test (not (is_some (head_symbol s r.left))) (HeadNotFun (term_offset r.left)) ∷ (pattern_tests s [] r.left ++ new_meta_tests s r.left [] r.right)
 
 -- all tests of a rule that look at no other rule
 abbrev pub own_tests : Scope → RRule → List Test

@@ -1,4 +1,4 @@
--- Raw trees and parts without their places (ours): each place is 0.
+-- Raw trees and parts without their offsets (ours): each offset is 0.
 use Rattle.std.specs.Prelude.{map}
 use Rattle.wh_text.specs.RawTree.{RTy, raw_type, RTys, no_types, more_types, RTm, named, numbered, free_variable, meta, lam, spine, RTms, none, more}
 use Rattle.wh_parts.specs.Parts.{RName, RFun, RMeta, RRule, RParts}

@@ -35,13 +35,13 @@ pub fn canonical_terms_stand_for_themselves()
     ensures { (d : SystemData) (t : Tm) → IsWellMadeSystem d → WellTyped d.symbols t → Means d (raw_of (names_of_system d) t) t }
 {}
 
-/// Parts that are the same but for their places have no fault together, and say the same system.
+/// Parts that are the same but for their offsets have no fault together, and say the same system.
 pub fn places_do_not_matter()
     ensures passed { (p q : RParts) → unplaced p ≡ unplaced q → refusal p ≡ None → refusal q ≡ None }
     ensures said { (p q : RParts) (d : SystemData) → unplaced p ≡ unplaced q → Says p d → Says q d }
 {}
 
-/// Parts that are the canonical ones of a well-made system but for their places have no fault, and say that system.
+/// Parts that are the canonical ones of a well-made system but for their offsets have no fault, and say that system.
 pub fn canonical_parts_are_read_back()
     ensures passed { (p : RParts) (d : SystemData) → IsWellMadeSystem d → unplaced p ≡ canonical d → refusal p ≡ None }
     ensures said { (p : RParts) (d : SystemData) → IsWellMadeSystem d → unplaced p ≡ canonical d → Says p d }

@@ -16,7 +16,7 @@ ghost use Rattle.wh_system.specs.RulesPassed.{AreResolvedRules};
 
 use crate::names::names_of_metas;
 use std::alloc::Global;
-use wh_parts::{Funs, NameTable, Parts, RawRule, SystemFault, check_side, declare_metas, place};
+use wh_parts::{Funs, NameTable, Parts, RawRule, SystemFault, check_side, declare_metas, offset};
 use wh_sides::{
     Scope, arguments_of, check_new_metas, check_open, check_pattern, head_of, resolve_side,
 };
@@ -65,7 +65,7 @@ pub fn resolve_rules(
     let mut needs = vec![in alloc; None; funs.kinds.as_slice().len()]?;
     for raw in parts.rules.as_slice() {
         let resolved = resolve_rule(alloc, sorts, funs, raw)?;
-        meet_need(&mut needs, resolved.head, resolved.count, place(&raw.left))?;
+        meet_need(&mut needs, resolved.head, resolved.count, offset(&raw.left))?;
         rules.push(resolved.rule)?;
         meta_names.push(resolved.meta_names)?;
     }
@@ -139,7 +139,7 @@ fn resolve_sides(
     let (right, right_kind) = resolve_side(alloc, scope, &raw.right)?;
     if !same_type(&left_kind, &right_kind) {
         return Err(Or::Because(SystemFault::IllTyped {
-            at: place(&raw.right),
+            at: offset(&raw.right),
         }));
     }
     Ok((left, right))

@@ -21,7 +21,7 @@ kind_of bytes (Dollar n) = dollar n
 kind_of bytes (Percent n) = percent n
 kind_of bytes Sign = sign bytes
 
--- the bytes of a text from one place up to, not including, another
+-- the bytes of a text from one offset up to, not including, another
 abbrev pub part : List ℕ → ℕ → ℕ → List ℕ
 part text from to = take (to - from) (drop from text)
 

@@ -1,4 +1,4 @@
--- What the cutting of a text finds: in all, and at one place (ours).
+-- What the cutting of a text finds: in all, and at one offset (ours).
 use Rattle.std.specs.Prelude.{ℕ, ◌≡◌, ◌<◌, ◌≤◌, List, [], ◌∷◌, length, drop}
 use Rattle.wh_text.specs.Tokens.{Token, Ending, whole, Cuts}
 use Rattle.wh_text.specs.Erase.{token, tokens, ending}

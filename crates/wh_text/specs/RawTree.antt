@@ -1,7 +1,7 @@
--- Raw trees without pointers, with the places where their parts stand.
+-- Raw trees without pointers, with the offsets where their parts stand.
 use Rattle.std.specs.Prelude.{ℕ, List}
 
--- a type as it is written: the types of its arguments, the name of the sort that it gives, and the place of that name
+-- a type as it is written: the types of its arguments, the name of the sort that it gives, and the offset of that name
 mutual
   pub data RTy : Type 0 where
     raw_type : (args : RTys) (sort : List ℕ) (at : ℕ) → RTy
@@ -15,7 +15,7 @@ pub data Binder : Type 0 where
   named_binder : (name : List ℕ) → Binder
   numbered_binder : (n : ℕ) → Binder
 
--- a term as it is written; the last number of each is the place where it stands
+-- a term as it is written; the last number of each is the offset where it stands
 mutual
   pub data RTm : Type 0 where
     named : (name : List ℕ) (at : ℕ) → RTm

@@ -15,7 +15,7 @@ pub record Token : Type 0 where
   pub from : ℕ
   pub to : ℕ
 
--- how a text ends: with all of it cut, or at its first fault, of a kind and with its place
+-- how a text ends: with all of it cut, or at its first fault, of a kind and with its offset
 pub data Ending : Type 0 where
   whole : Ending
   bad_byte bad_number name_too_long : (at : ℕ) → Ending
@@ -51,7 +51,7 @@ pub record BeginsNothing (b : ℕ) : Type 0 where
 abbrev pub BadDigits : List ℕ → Type 0
 BadDigits ds = ((NoLeadingZero ds → ⊥) ⊎ (65535 < number_from 0 ds))
 
--- `Cuts at bytes tokens ending`: from the place `at` on, the bytes are cut into these tokens, from the left, words and
+-- `Cuts at bytes tokens ending`: from the offset `at` on, the bytes are cut into these tokens, from the left, words and
 -- digits as long as they go on, up to that ending; the tokens are those before it
 pub data Cuts : ℕ → List ℕ → List Token → Ending → Type 0 where
   ended : {at : ℕ} → Cuts at [] [] whole
@@ -65,7 +65,7 @@ pub data Cuts : ℕ → List ℕ → List Token → Ending → Type 0 where
   nothing_begins : {at b : ℕ} {r : List ℕ} → BeginsNothing b → Cuts at (b ∷ r) [] (bad_byte at)
   no_arrow : {at b : ℕ} {r : List ℕ} → BeginsArrow b → NoHead r → Cuts at (b ∷ r) [] (bad_byte at)
   no_number : {at b : ℕ} {r : List ℕ} (kind : ℕ → Kind) → Marks b kind → NoDigit r → Cuts at (b ∷ r) [] (bad_byte at)
-  -- the digits are no number; the place is the first digit
+  -- the digits are no number; the offset is the first digit
   bad_digits : {at b : ℕ} {bytes : List ℕ} (r : List ℕ) (ds : List ℕ) (kind : ℕ → Kind) → Marks b kind → AllPass is_digit ds → 0 < length ds → BadDigits ds → NoDigit r → bytes ≡ b ∷ (ds ++ r) → Cuts at bytes [] (bad_number (at + 1))
-  -- a word of more than 64 bytes; the place is its first byte
+  -- a word of more than 64 bytes; the offset is its first byte
   long_word : {at : ℕ} {bytes : List ℕ} (r : List ℕ) (w : List ℕ) → Starts w → AllPass is_part w → Stops is_part r → bytes ≡ w ++ r → 64 < length w → Cuts at bytes [] (name_too_long at)

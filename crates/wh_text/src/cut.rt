@@ -15,7 +15,7 @@ use wh_types::Or;
 
 /// What one step of the cutting finds.
 enum Piece {
-    /// White space or a comment, up to this place.
+    /// White space or a comment, up to this offset.
     Gap(usize),
     /// A token.
     Cut(Token),
@@ -110,7 +110,7 @@ fn numeral(digits: &[u8]) -> Option<u32>
     Some(value)
 }
 
-/// The token from one place up to another.
+/// The token from one offset up to another.
 fn token_of(kind: TokenKind, from: usize, to: usize) -> Token
     requires from { from < 2 ^ 32 }
     requires to { to < 2 ^ 32 }
@@ -123,7 +123,7 @@ fn token_of(kind: TokenKind, from: usize, to: usize) -> Token
     }
 }
 
-/// The word that begins at the place, as a keyword or a name.
+/// The word that begins at the offset, as a keyword or a name.
 fn word_at(bytes: &[u8], at: usize) -> Result<Token, TextFault>
     requires room { at < length bytes.now }
     requires size { length bytes.now ≤ 8388609 }
@@ -144,7 +144,7 @@ fn word_at(bytes: &[u8], at: usize) -> Result<Token, TextFault>
     Ok(token_of(kind, at, at + length))
 }
 
-/// The number that is marked at the place by `$` or `%`.
+/// The number that is marked at the offset by `$` or `%`.
 fn number_at(bytes: &[u8], at: usize) -> Result<Token, TextFault>
     requires room { at < length bytes.now }
     requires size { length bytes.now ≤ 8388609 }
@@ -168,7 +168,7 @@ fn number_at(bytes: &[u8], at: usize) -> Result<Token, TextFault>
     Ok(token_of(kind, at, at + 1 + length))
 }
 
-/// The arrow that begins at the place with `-` or `=`.
+/// The arrow that begins at the offset with `-` or `=`.
 fn arrow_at(bytes: &[u8], at: usize) -> Result<Token, TextFault>
     requires room { at < length bytes.now }
     requires size { length bytes.now ≤ 8388609 }
@@ -181,7 +181,7 @@ fn arrow_at(bytes: &[u8], at: usize) -> Result<Token, TextFault>
     Err(TextFault::BadByte { at: at as u32 })
 }
 
-/// Where the comment ends that begins at the place.
+/// Where the comment ends that begins at the offset.
 fn comment_end(bytes: &[u8], at: usize) -> usize
     requires room { at < length bytes.now }
     requires mark { slice_index bytes.now at ≡ 35 }
@@ -191,7 +191,7 @@ fn comment_end(bytes: &[u8], at: usize) -> usize
     at + 1 + comment_run(rest)
 }
 
-/// What stands at the place.
+/// What stands at the offset.
 fn piece_at(bytes: &[u8], at: usize) -> Result<Piece, TextFault>
     requires room { at < length bytes.now }
     requires size { length bytes.now ≤ 8388609 }
@@ -219,7 +219,7 @@ fn piece_at(bytes: &[u8], at: usize) -> Result<Piece, TextFault>
     Err(TextFault::BadByte { at: at as u32 })
 }
 
-/// The tokens of a text, in order. A fault is the first byte that can't be cut, with its place; the tokens before it
+/// The tokens of a text, in order. A fault is the first byte that can't be cut, with its offset; the tokens before it
 /// are not handed out.
 pub fn tokens(alloc: Global, bytes: &[u8]) -> Result<Tokens, Or<TextFault>>
     requires { length bytes.now ≤ 8388609 }

@@ -10,7 +10,7 @@ pub struct RawType {
     pub args: RawTypes,
     /// The name of the sort.
     pub sort: Name,
-    /// The place of that name; 0 in a certificate.
+    /// The offset of that name; 0 in a certificate.
     pub at: u32,
 }
 

@@ -1,4 +1,4 @@
-//! Tokens, with the places where they stand.
+//! Tokens, with the offsets where they stand.
 
 use thiserror::Error;
 use wh_types::{List, Or};
@@ -23,34 +23,34 @@ pub enum TokenKind {
 pub struct Token {
     /// What it is.
     pub kind: TokenKind,
-    /// The place of its first byte.
+    /// The offset of its first byte.
     pub from: u32,
-    /// The place behind its last byte.
+    /// The offset behind its last byte.
     pub to: u32,
 }
 
 /// A list of tokens.
 pub type Tokens = List<Token>;
 
-/// The first place at which a text can't be cut into tokens.
+/// The first offset at which a text can't be cut into tokens.
 #[derive(Clone, Copy, Debug, Error)]
 pub enum TextFault {
     /// A byte that begins no token, an arrow without its head, or `$` or `%` without a digit.
     #[error("a byte that begins no token, at {at}")]
     BadByte {
-        /// The place of the byte.
+        /// The offset of the byte.
         at: u32,
     },
     /// Digits with a leading zero, or of a number above 65,535.
     #[error("a bad number, at {at}")]
     BadNumber {
-        /// The place of the first digit.
+        /// The offset of the first digit.
         at: u32,
     },
     /// A name of more than 64 bytes.
     #[error("a name that is too long, at {at}")]
     NameTooLong {
-        /// The place of its first byte.
+        /// The offset of its first byte.
         at: u32,
     },
 }

@@ -15,7 +15,7 @@ returns-then-not-are_among c = (
 
 pub returns : goal.returns
 returns c =
-    let right = list c.args.a.now.right in
+    let right = c.args.a.now.right in
     let among : AreAmong (map within c.args.b.now.conditions) (map within c.args.a.now.conditions) =
     subst (λ (ds : List Condition). AreAmong (map within c.args.b.now.conditions) (map within ds)) c.as_slice-2.ensures
     (subst (λ (cs : List Condition). AreAmong (map within cs) (map within c.as_slice-2.result.now)) c.as_slice.ensures (c.are_among.ensures.0 (search rules))) in (

@@ -13,11 +13,11 @@ returns-in_err-check_widths c =
 
 pub returns-in_default : goal.returns-in_default
 returns-in_default c =
-    side_high (rtm c.args.side.now) c.in_ok-check_widths.ensures c.in_default.ensures ∙ ap (λ a. Some (TooMany a)) (sym c.place.ensures)
+    side_high (rtm c.args.side.now) c.in_ok-check_widths.ensures c.in_default.ensures ∙ ap (λ a. Some (TooMany a)) (sym c.offset.ensures)
 
 pub returns-in_default-spend : goal.returns-in_default-spend
 returns-in_default-spend c =
-    side_large (rtm c.args.side.now) c.in_ok-check_widths.ensures c.in-Some.ensures c.in_default-spend.ensures ∙ ap (λ a. Some (TooMany a)) (sym c.place-in_default-spend.ensures)
+    side_large (rtm c.args.side.now) c.in_ok-check_widths.ensures c.in-Some.ensures c.in_default-spend.ensures ∙ ap (λ a. Some (TooMany a)) (sym c.offset-in_default-spend.ensures)
 
 pub returns : goal.returns
 returns c = side_fits (rtm c.args.side.now) c.in_ok-check_widths.ensures c.in-Some.ensures (omega (arith, c.in-Some-spend.ensures))

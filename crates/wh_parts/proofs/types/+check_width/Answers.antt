@@ -15,7 +15,7 @@ returns-then-k-eq-MOST_ARGUMENTS t c =
     let xs = c.as_slice-argument-items.result.now in
     width_start c.args.kind.now xs c.as_slice-argument-items.ensures ∙ c.loop-k.invariant
     ∙ width_past xs c.loop-k.k c.argument-item.result c.loop-k-test.true c.argument-item.is c.if-k-eq-MOST_ARGUMENTS.true
-    ∙ ap (λ at. Some (TooMany at)) (sym c.place_of_type.ensures)
+    ∙ ap (λ at. Some (TooMany at)) (sym c.offset_of_type.ensures)
 
 pub returns-in_err-check_width : goal.returns-in_err-check_width
 returns-in_err-check_width t c =

@@ -12,7 +12,7 @@ returns-in-Some c =
     let found : slice_get c.as_slice.result.now 32 ≡ Some c.in-Some.kind.now =
     slice_get_read c.as_slice.result.now (length c.as_slice.result.now) 32 c.in-Some.kind.now refl c.in-Some.ensures.lookup.3.0 c.in-Some.ensures.lookup.1 in
     ap (λ xs. first_fault (count_of_types 0 (rtys xs))) (sym c.as_slice.ensures)
-    ∙ count_past c.as_slice.result.now 32 0 c.in-Some.kind.now refl found ∙ ap (λ at. Some (TooMany at)) (sym c.place_of_type.ensures)
+    ∙ count_past c.as_slice.result.now 32 0 c.in-Some.kind.now refl found ∙ ap (λ at. Some (TooMany at)) (sym c.offset_of_type.ensures)
 
 pub returns-in-None : goal.returns-in-None
 returns-in-None c =

@@ -187,9 +187,9 @@ resolve_applied-returns-in_err-whole-clause-told t c =
     let here = subst (λ (ps : List Around). IsResolved (naming_tests s (typed ps) x) (meant s (binders_of (typed ps)) x) (kind_of s (typed ps) x) r) c.loop-item.invariant.0 c.in_ok-argument.ensures.told in
     subst (λ (ys : List RawTerm). ResolvesSpine s bs u a (rtms ys) c.from_residual-in_err-whole.result) c.as_slice-item-items.ensures
     (matched_err (IsResolved (applying_tests s bs a (rtms xs)) (applied_meant s (binders_of bs) u (rtms xs)) (spine_kind s bs a (rtms xs))) (applying_tests s bs a (rtms xs)) c.from_residual-in_err-whole.result e c.from_residual-in_err-whole.ensures.1
-    (spine_fails_at s bs u a (rtms xs) f r x (rtms (drop c.loop-item.item-index xs)) (rtms (drop (c.loop-item.item-index + 1) xs)) c.place.result e c.loop-item.invariant.1
-    (left_next xs c.loop-item.item-index c.item-item.result c.loop-item-test.true c.item-item.is) c.place.ensures here
-    (told_fails (test (not (takes (Some (ty f.kind)) (Some (ty r.kind)))) (IllTyped c.place.result) ∷ []) (Some (app (tm f.term) (tm r.term))) (gives (Some (ty f.kind))) e c.in_err-whole.ensures)))
+    (spine_fails_at s bs u a (rtms xs) f r x (rtms (drop c.loop-item.item-index xs)) (rtms (drop (c.loop-item.item-index + 1) xs)) c.offset.result e c.loop-item.invariant.1
+    (left_next xs c.loop-item.item-index c.item-item.result c.loop-item-test.true c.item-item.is) c.offset.ensures here
+    (told_fails (test (not (takes (Some (ty f.kind)) (Some (ty r.kind)))) (IllTyped c.offset.result) ∷ []) (Some (app (tm f.term) (tm r.term))) (gives (Some (ty f.kind))) e c.in_err-whole.ensures)))
 
 pub resolve_applied-loop-item-preserved : goal.resolve_applied-loop-item-preserved
 resolve_applied-loop-item-preserved t c =
@@ -200,6 +200,6 @@ resolve_applied-loop-item-preserved t c =
     let r = c.in_ok-argument.argument in
     let here = subst (λ (ps : List Around). IsResolved (naming_tests s (typed ps) x) (meant s (binders_of (typed ps)) x) (kind_of s (typed ps) x) r) c.loop-item.invariant.0 c.in_ok-argument.ensures.told in (
       ◌∙◌ {A = List Around} c.in_ok-argument.ensures.kept c.loop-item.invariant.0,
-      spine_next s bs (Some (tm c.args.head.term)) (Some (ty c.args.head.kind)) (rtms xs) c.loop-item.whole r c.in_ok-whole.whole x (rtms (drop c.loop-item.item-index xs)) (rtms (drop (c.loop-item.item-index + 1) xs)) c.place.result
-          c.loop-item.invariant.1 (left_next xs c.loop-item.item-index c.item-item.result c.loop-item-test.true c.item-item.is) c.place.ensures here c.in_ok-whole.ensures,
+      spine_next s bs (Some (tm c.args.head.term)) (Some (ty c.args.head.kind)) (rtms xs) c.loop-item.whole r c.in_ok-whole.whole x (rtms (drop c.loop-item.item-index xs)) (rtms (drop (c.loop-item.item-index + 1) xs)) c.offset.result
+          c.loop-item.invariant.1 (left_next xs c.loop-item.item-index c.item-item.result c.loop-item-test.true c.item-item.is) c.offset.ensures here c.in_ok-whole.ensures,
     )

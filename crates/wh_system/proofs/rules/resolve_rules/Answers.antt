@@ -71,7 +71,7 @@ returns-in_err-meet_need c =
     fault_up (rules_tests p [] p.rules) c.from_residual-in_err-meet_need.result c.in_err-meet_need.field-0.0 (AreResolvedRules p) c.from_residual-in_err-meet_need.ensures.1
     (ap (λ (ys : List RawRule). first_fault (rules_tests p [] (map rrule ys))) (sym c.as_slice-raw-items.ensures) ∙ c.loop-raw.invariant.tests
     ∙ ap (λ rs. first_fault (rules_tests p earlier rs)) (map_next rrule xs c.loop-raw.raw-index c.raw-item.result c.loop-raw-test.true c.raw-item.is)
-    ∙ rule_uneven p earlier r _ own uneven ∙ ap (λ k. Some (UnevenRules k)) (sym c.place.ensures) ∙ ap Some (sym c.in_err-meet_need.ensures.1))
+    ∙ rule_uneven p earlier r _ own uneven ∙ ap (λ k. Some (UnevenRules k)) (sym c.offset.ensures) ∙ ap Some (sym c.in_err-meet_need.ensures.1))
 
 pub loop-raw-preserved : goal.loop-raw-preserved
 loop-raw-preserved c =

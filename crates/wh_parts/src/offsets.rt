@@ -1,14 +1,14 @@
-//! Where terms stand.
+//! Where terms begin in a text.
 
 ghost use Rattle.std.specs.Prelude.{◌≡◌};
-ghost use Rattle.wh_parts.specs.Tests.{term_place};
+ghost use Rattle.wh_parts.specs.Tests.{term_offset};
 ghost use Rattle.wh_text.specs.Erase.{rtm};
 
 use wh_text::RawTerm;
 
-/// The place of a term.
-pub fn place(term: &RawTerm) -> u32
-    ensures { result ≡ term_place (rtm term.now) }
+/// The offset of a term in its text, in bytes.
+pub fn offset(term: &RawTerm) -> u32
+    ensures { result ≡ term_offset (rtm term.now) }
 {
     match term {
         RawTerm::Named(_, at)
