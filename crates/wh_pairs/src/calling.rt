@@ -16,9 +16,9 @@ ghost use Rattle.wh_pairs.specs.Views.{call_data, trees};
 
 use crate::conditions::with_condition;
 use crate::numbers::{counted, sum};
+use crate::pair::Condition;
 use crate::spine::{Spine, spine_of};
 use std::alloc::{AllocError, Global};
-use crate::pair::Condition;
 use wh_system::System;
 use wh_terms::{Rule, Term, Terms};
 use wh_types::SimpleType;

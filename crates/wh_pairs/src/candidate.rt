@@ -17,9 +17,9 @@ use crate::calling::Call;
 use crate::conditions::conditions_of;
 use crate::freed::{Freeing, freed_arguments, nullary};
 use crate::numbers::{counted, sum};
+use crate::pair::Pair;
 use crate::spine::spine_of;
 use std::alloc::{AllocError, Global};
-use crate::pair::Pair;
 use wh_terms::{MetaDecl, Metas, Rule, Signature, Term, Terms, Types, copy_term};
 use wh_types::SimpleType;
 

@@ -1,5 +1,5 @@
 -- Raw terms whose parts are a list: their trees, what is left of a list, and the measure of a recursion.
-use Rattle.std.proofs.Common.{◌≡◌, ℕ, zero, suc, ◌+◌, ◌<◌, ◌≤◌, List, [], ◌∷◌, length, drop, get_or, refl, ap, sym, ◌∙◌, arith}
+use Rattle.std.proofs.Common.{◌≡◌, ℕ, zero, suc, ◌+◌, ◌<◌, ◌≤◌, List, [], ◌∷◌, length, drop, get_or, ap, sym, ◌∙◌, arith}
 use Rattle.std.proofs.lemmas.List.{drop_more, drop_all}
 use Rattle.wh_text.specs.RawTree.{RTm, meta, lam, spine, RTms, none, more}
 use Rattle.wh_text.specs.Erase.{rtm, rtms}

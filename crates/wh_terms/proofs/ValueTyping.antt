@@ -4,7 +4,7 @@ use Rattle.std.specs.Prelude.{slice_get}
 use Rattle.wh_types.specs.Ty.{Ty}
 use Rattle.wh_terms.specs.Tree.{Tm, bound, free, fun, meta, lam, app, Tms, none, more, count, head, argument_count}
 use Rattle.wh_terms.specs.Substitution.{up_renaming, rename, act, cons}
-use Rattle.wh_terms.specs.Sight.{Occurs, OccursIn}
+use Rattle.wh_terms.specs.Sight.{OccursIn}
 use Rattle.wh_terms.specs.Pattern.{AllBoundBelow, IsPatternUnder, IsPatternSpine}
 use Rattle.wh_terms.specs.Typing.{Symbols, Declared, Typed, typed_bound, typed_free, typed_fun, typed_meta, typed_lam, typed_app, AllTyped, typed_none, typed_more}
 use Rattle.wh_terms.specs.Value.{Body, parameters}

@@ -42,4 +42,4 @@ pub rty_made : (args : List RawType) (sort : List ℕ) (at : ℕ) → rty (roll-
 unfolding roll-RawType denote.Hole.Carrier.roll
 rty_made args sort at =
     ap (λ (ts : RTys). raw_type ts sort at)
-      (type_row-items _ (type_row_of (roll-RawType (record { args = args; sort = sort; at = at }))).1 ∙ ap rtys (items_hidden-the_row-RawType-0 args))
+    (type_row-items _ (type_row_of (roll-RawType (record { args = args; sort = sort; at = at }))).1 ∙ ap rtys (items_hidden-the_row-RawType-0 args))

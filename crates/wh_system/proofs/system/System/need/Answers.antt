@@ -1,6 +1,4 @@
-use Rattle.std.proofs.Common.{length, sym, arith}
-use Rattle.std.proofs.lemmas.List.{length-map}
-use Rattle.wh_types.specs.Erase.{ty}
+use Rattle.std.proofs.Common.{sym, arith}
 use Rattle.wh_system.specs.SystemView.{system_data}
 use Rattle.wh_system.proofs.NoNeed.{no_need}
 use Rattle.wh_system.proofs.system.System.need.Goals as goal
