@@ -24,9 +24,9 @@ use wh_cert::{Arg, Node, PolyNode};
 use wh_covering::check_covering;
 use wh_graph::{check_blocks, may_follow};
 use wh_hopoly::Symbol;
+use wh_pairs::{Pair, PairList, PairSet};
 use wh_polycheck::MarkedSymbol;
 use wh_subterm::{SubtermFault, check_projection};
-use wh_pairs::{Pair, PairList, PairSet};
 use wh_system::System;
 use wh_types::{Numbers, Or};
 

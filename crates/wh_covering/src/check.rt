@@ -20,9 +20,9 @@ use crate::pairs::check_pairs;
 use crate::rules::check_rules;
 use std::alloc::Global;
 use wh_hopoly::{Covers, Moves, Symbol};
+use wh_pairs::{Pair, PairList, PairSet};
 use wh_polycheck::{MarkedSymbol, interpretations_in_order_interpret};
 use wh_subterm::is_bad_drop;
-use wh_pairs::{Pair, PairList, PairSet};
 use wh_system::System;
 use wh_types::Or;
 

@@ -18,8 +18,8 @@ ghost use Rattle.wh_covering.specs.Lines.{IsAnswerOf, IsExcessOf, IsSide, IsSome
 use crate::fault::LineFault;
 use std::alloc::Global;
 use wh_hopoly::{Excess, Moves, Poly, PolyFault, Symbol};
-use wh_polycheck::{MarkedSymbol, check_strict, check_weak, side_of_pair, side_of_rule};
 use wh_pairs::Pair;
+use wh_polycheck::{MarkedSymbol, check_strict, check_weak, side_of_pair, side_of_rule};
 use wh_system::System;
 use wh_types::Or;
 

@@ -18,8 +18,8 @@ use crate::fault::CoveringFault;
 use crate::lines::check_pair;
 use std::alloc::Global;
 use wh_hopoly::{Moves, Symbol};
-use wh_polycheck::MarkedSymbol;
 use wh_pairs::Pair;
+use wh_polycheck::MarkedSymbol;
 use wh_system::System;
 use wh_types::Or;
 

@@ -16,11 +16,11 @@ use std::alloc::{AllocError, Global};
 use wh_cert::Node;
 use wh_climb::{Climbed, climb};
 use wh_guesses::Task;
+use wh_pairs::{PairList, PairSet};
 use wh_ranges::has_none;
 use wh_sat::Search;
 use wh_sat_trail::Clauses;
 use wh_subterm::marked_symbols;
-use wh_pairs::{PairList, PairSet};
 use wh_system::System;
 
 // How many times the sides of a rule or pair are evaluated in the climb: so often, and so often more for each of them.

@@ -8,8 +8,8 @@ ghost use Rattle.wh_find_subterm.specs.declared.rows.Row.{Row};
 
 use crate::rows::{Row, row_of};
 use std::alloc::{AllocError, Global};
-use wh_subterm::{Relation, relation_at};
 use wh_pairs::Pair;
+use wh_subterm::{Relation, relation_at};
 
 /// The variables of the arguments and of the pair, and what the pair is under the choice.
 #[derive(Clone, Copy)]

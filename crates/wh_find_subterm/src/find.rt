@@ -11,9 +11,9 @@ use crate::formula::formula_of;
 use crate::reading::{below_under, choices_by};
 use crate::rows::{Row, rows_of};
 use std::alloc::{AllocError, Global};
+use wh_pairs::{Pair, PairList, PairSet};
 use wh_sat::{Outcome, Search, solve_owned};
 use wh_subterm::{Projection, marked_symbols};
-use wh_pairs::{Pair, PairList, PairSet};
 use wh_system::System;
 
 /// A projection and the pairs that it lets go.

@@ -10,8 +10,8 @@ use crate::cases::{Case, cases_of};
 use crate::clauses::{add_fourth, add_one_chosen, add_only_one_chosen, add_third, some_of};
 use crate::rows::Rows;
 use std::alloc::{AllocError, Global};
-use wh_sat_trail::{Clauses, Formula};
 use wh_pairs::Pair;
+use wh_sat_trail::{Clauses, Formula};
 
 /// The formula of a set of pairs over the rows of its marked symbols. More variables than numbers count as want of memory.
 pub fn formula_of(

@@ -7,8 +7,8 @@ ghost use Rattle.wh_find_subterm.specs.Reading.{IsBelowSet, chosen_by, first_tru
 
 use crate::rows::Row;
 use std::alloc::{AllocError, Global};
-use wh_subterm::{Choice, Projection, is_below};
 use wh_pairs::{Pair, PairSet};
+use wh_subterm::{Choice, Projection, is_below};
 
 /// Of each symbol the first argument whose variable is true.
 pub fn choices_by(alloc: Global, values: &[bool], rows: &[Row]) -> Result<Projection, AllocError>

@@ -21,8 +21,8 @@ use crate::sides::{pair_side, rule_side};
 use std::alloc::{AllocError, Global};
 use wh_find_moves::find_moves;
 use wh_hopoly::{Covers, Moves, Poly, Symbol};
-use wh_polycheck::{MarkedSymbol, check_strict};
 use wh_pairs::Pair;
+use wh_polycheck::{MarkedSymbol, check_strict};
 use wh_system::System;
 use wh_types::{Numbers, Or};
 

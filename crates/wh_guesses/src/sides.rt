@@ -15,8 +15,8 @@ ghost use Rattle.wh_guesses.specs.Lines.{HasNoSide};
 
 use std::alloc::{AllocError, Global};
 use wh_hopoly::{Poly, PolyFault, Symbol};
-use wh_polycheck::{MarkedSymbol, side_of_pair, side_of_rule};
 use wh_pairs::Pair;
+use wh_polycheck::{MarkedSymbol, side_of_pair, side_of_rule};
 use wh_system::System;
 use wh_types::Or;
 

@@ -1,8 +1,8 @@
 //! The set that interpretations are looked for, and a guess.
 
 use wh_hopoly::Symbol;
-use wh_polycheck::MarkedSymbol;
 use wh_pairs::Pair;
+use wh_polycheck::MarkedSymbol;
 use wh_system::System;
 
 /// A set of pairs of a system.

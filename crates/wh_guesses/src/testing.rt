@@ -24,8 +24,8 @@ use crate::task::{Guess, Task};
 use std::alloc::{AllocError, Global};
 use wh_find_moves::deficit;
 use wh_hopoly::{Poly, Symbol};
-use wh_polycheck::MarkedSymbol;
 use wh_pairs::Pair;
+use wh_polycheck::MarkedSymbol;
 use wh_system::System;
 
 /// How far a condition is from being met, and whether a pair is covered strictly.

@@ -5,3 +5,12 @@ pub mod NamedParts
 pub mod NamedPairs
 pub mod TreePrinting
 pub mod PairPrinting
+pub mod Pieces
+pub mod SpelledTypes
+pub mod SpelledTerms
+pub mod CanonicalTypes
+pub mod CanonicalTerms
+pub mod Declarations
+pub mod Lines
+pub mod SpelledSystem
+pub mod ReadBack

@@ -3,8 +3,8 @@
 use wh_access::NoRanks;
 use wh_cert::Certificate;
 use wh_find_loop::Visits;
-use wh_sat_trail::Clauses;
 use wh_pairs::PairSet;
+use wh_sat_trail::Clauses;
 
 /// What bounds the search.
 #[derive(Clone, Copy)]

@@ -17,8 +17,8 @@ use wh_cert::{Node, Nodes};
 use wh_find_poly::find_interpretation;
 use wh_find_subterm::find_projection;
 use wh_graph::Graph;
-use wh_sat::Search;
 use wh_pairs::{PairList, PairSet};
+use wh_sat::Search;
 use wh_system::System;
 
 /// Gives the set a node, and puts what this leaves on top of the stack, the first of it on top; or says why the search ends on the

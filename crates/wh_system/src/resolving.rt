@@ -10,7 +10,7 @@ ghost use Rattle.wh_system.specs.SystemView.{system_data};
 use crate::system::System;
 use std::alloc::{AllocError, Global};
 use wh_parts::{NameTable, resolve_type};
-use wh_sides::{Scope, resolve_side};
+use wh_resolve::{Scope, resolve_side};
 use wh_terms::{Metas, Term};
 use wh_text::{RawTerm, RawType};
 use wh_types::{Or, SimpleType};

@@ -9,7 +9,7 @@ ghost use Rattle.wh_parts.specs.Naming.{meant};
 ghost use Rattle.wh_parts.specs.RuleTests.{head_symbol, rules_tests, type_of_raw};
 ghost use Rattle.wh_parts.specs.Tests.{fun_names, naming_tests, sort_names};
 ghost use Rattle.wh_parts.specs.declared.fault.SystemFault.TheVariants.{UnevenRules};
-ghost use Rattle.wh_sides.specs.InScope.{scope as in_scope};
+ghost use Rattle.wh_resolve.specs.InScope.{scope as in_scope};
 ghost use Rattle.wh_system.specs.Needs.{need_of};
 ghost use Rattle.wh_system.specs.RulePasses.{IsResolvedRule, differs, form_tests, own_tests, scope_over, sides_tests};
 ghost use Rattle.wh_system.specs.RulesPassed.{AreResolvedRules};
@@ -17,7 +17,7 @@ ghost use Rattle.wh_system.specs.RulesPassed.{AreResolvedRules};
 use crate::names::names_of_metas;
 use std::alloc::Global;
 use wh_parts::{Funs, NameTable, Parts, RawRule, SystemFault, check_side, declare_metas, offset};
-use wh_sides::{
+use wh_resolve::{
     Scope, arguments_of, check_new_metas, check_open, check_pattern, head_of, resolve_side,
 };
 use wh_terms::{Rule, Term};

@@ -18,8 +18,7 @@ use wh_answer::{NamedRejection, Report};
 use wh_cert::{Certificate, read_certificate};
 use wh_checker::{Accepted, CheckFault, check, rejections_name_what_is_there};
 use wh_io::Shelf;
-use wh_print::{print_pairs, print_system};
-use wh_round::printed_systems_are_read_back;
+use wh_print::{print_pairs, print_system, printed_systems_are_read_back};
 use wh_types::{Bytes, Or};
 
 /// Checks the certificate in the second file against the system in the first one. Both files are read.

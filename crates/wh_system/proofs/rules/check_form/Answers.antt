@@ -6,7 +6,7 @@ use Rattle.wh_parts.specs.Tests.{test, term_offset}
 use Rattle.wh_parts.specs.RuleTests.{open_tests, head_symbol, pattern_tests, new_meta_tests}
 use Rattle.wh_parts.proofs.FaultLemmas.{fault_at_test, past_test, fault_after, fault_in_first, no_fault_in_both}
 use Rattle.wh_parts.proofs.PassLemmas.{fault_up}
-use Rattle.wh_sides.specs.InScope.{scope as in_scope}
+use Rattle.wh_resolve.specs.InScope.{scope as in_scope}
 use Rattle.wh_system.proofs.PassOrder.{handed, after_both, in_first, in_second}
 use Rattle.wh_system.specs.RulePasses.{form_tests}
 use Rattle.wh_parts.specs.Erase.{rrule}

@@ -7,8 +7,8 @@ use Rattle.wh_parts.specs.Kinds.{kind_of}
 use Rattle.wh_parts.specs.Tests.{test, term_offset, naming_tests}
 use Rattle.wh_parts.specs.RuleTests.{same_kind}
 use Rattle.wh_parts.proofs.FaultLemmas.{fault_at_test, past_test}
-use Rattle.wh_sides.specs.InScope.{scope as in_scope}
-use Rattle.wh_sides.proofs.FittingLemmas.{same_type-true, same_type-false}
+use Rattle.wh_resolve.specs.InScope.{scope as in_scope}
+use Rattle.wh_resolve.proofs.FittingLemmas.{same_type-true, same_type-false}
 use Rattle.wh_system.specs.RulePasses.{sides_tests}
 use Rattle.wh_system.proofs.PassOrder.{handed, after_both, in_first, in_second}
 use Rattle.wh_system.proofs.rules.resolve_sides.Goals as goal

@@ -1,0 +1,171 @@
+//! The parts of terms, resolved: names, meta-variables with arguments, applications and abstractions.
+
+ghost use Rattle.std.specs.Prelude.{◌≡◌, Some, None, [], ◌∷◌, not, option_map, length, IfOk};
+ghost use Rattle.wh_types.specs.Erase.{ty, tys};
+ghost use Rattle.wh_types.specs.Ty.{◌⇒◌};
+ghost use Rattle.wh_terms.specs.Erase.{tm};
+ghost use Rattle.wh_terms.specs.Tree.{app, lam};
+ghost use Rattle.wh_text.specs.Erase.{rtms};
+ghost use Rattle.wh_text.specs.RawTree.{named, numbered};
+ghost use Rattle.wh_resolve.specs.Answers.{Resolves};
+ghost use Rattle.wh_parts.specs.Faults.{IsFirstFault};
+ghost use Rattle.wh_resolve.specs.InScope.{scope as in_scope, typed};
+ghost use Rattle.wh_parts.specs.Kinds.{takes, gives};
+ghost use Rattle.wh_resolve.specs.Resolving.{ResolvesTerm, ResolvesMeta, fitting_tests};
+ghost use Rattle.wh_parts.specs.Tests.{test};
+ghost use Rattle.wh_parts.specs.declared.fault.SystemFault.TheVariants.{IllTyped};
+
+use crate::around::{Around, Resolved, ResolvedList};
+use crate::lookup::{nearest_named, nearest_numbered, variable_of};
+use crate::scope::Scope;
+use std::alloc::{AllocError, Global};
+use wh_parts::{SystemFault, offset};
+use wh_terms::{Term, Terms};
+use wh_text::{Name, RawTerms};
+use wh_types::{Or, SimpleType, same_type};
+
+/// A plain name: the innermost binder of that name, else the meta-variable, else the symbol.
+pub fn resolve_name(
+    alloc: Global,
+    scope: &Scope,
+    passed: &[Around],
+    name: &Name,
+    at: u32,
+) -> Result<Resolved, Or<SystemFault>>
+    ensures { ResolvesTerm (in_scope scope.now) (typed passed.now) (named name.now at) result }
+{
+    match nearest_named(passed, name.bytes()) {
+        Some(number) => variable_of(alloc, passed, number),
+        None => resolve_declared(alloc, scope, name, at),
+    }
+}
+
+/// A plain name that no binder has.
+pub fn resolve_declared(
+    alloc: Global,
+    scope: &Scope,
+    name: &Name,
+    at: u32,
+) -> Result<Resolved, Or<SystemFault>>
+    ensures { ResolvesTerm (in_scope scope.now) [] (named name.now at) result }
+{
+    if let Some(meta) = scope.metas.number(name.bytes()) {
+        let declared = &scope.declared.as_slice()[meta as usize];
+        if !declared.args.as_slice().is_empty() {
+            return Err(Or::Because(SystemFault::IllTyped { at }));
+        }
+        return Ok(Resolved {
+            term: Term::Meta(meta, Terms::new(alloc)?),
+            kind: declared.result.copy(alloc)?,
+        });
+    }
+    match scope.funs.number(name.bytes()) {
+        Some(fun) => Ok(Resolved {
+            term: Term::Fun(fun),
+            kind: scope.kinds.as_slice()[fun as usize].copy(alloc)?,
+        }),
+        None => Err(Or::Because(SystemFault::UnknownName { at })),
+    }
+}
+
+/// `$` with a number.
+pub fn resolve_numbered(
+    alloc: Global,
+    scope: &Scope,
+    passed: &[Around],
+    number: u32,
+    at: u32,
+) -> Result<Resolved, Or<SystemFault>>
+    ensures { ResolvesTerm (in_scope scope.now) (typed passed.now) (numbered number at) result }
+{
+    let _ = scope;
+    match nearest_numbered(passed, number) {
+        Some(nearest) => variable_of(alloc, passed, nearest),
+        None => Err(Or::Because(SystemFault::UnknownName { at })),
+    }
+}
+
+/// A meta-variable with its resolved arguments.
+pub fn applied_meta(
+    alloc: Global,
+    scope: &Scope,
+    name: &Name,
+    list: ResolvedList,
+    items: &RawTerms,
+    at: u32,
+) -> Result<Resolved, Or<SystemFault>>
+    requires { length list.kinds ≡ length items.now }
+    ensures { ResolvesMeta (in_scope scope.now) name.now list (rtms items.now) at result }
+{
+    let Some(meta) = scope.metas.number(name.bytes()) else {
+        return Err(Or::Because(SystemFault::UnknownName { at }));
+    };
+    let declared = &scope.declared.as_slice()[meta as usize];
+    let wanted = declared.args.as_slice();
+    if wanted.len() != items.as_slice().len() {
+        return Err(Or::Because(SystemFault::IllTyped { at }));
+    }
+    check_fitting(list.kinds.as_slice(), items, wanted)?;
+    Ok(Resolved {
+        term: Term::Meta(meta, list.trees),
+        kind: declared.result.copy(alloc)?,
+    })
+}
+
+// Whether the arguments, whose types are given, have the types that are wanted.
+#[tactic(auto, using(crate::proofs::FittingLemmas::fitting_next, crate::proofs::FittingLemmas::fitting_end))]
+fn check_fitting(
+    given: &[SimpleType],
+    items: &RawTerms,
+    wanted: &[SimpleType],
+) -> Result<(), SystemFault>
+    requires given { length given.now ≡ length items.now }
+    requires wanted { length wanted.now ≡ length items.now }
+    ensures { IsFirstFault (fitting_tests (tys given.now) (rtms items.now) (tys wanted.now)) result }
+{
+    let items = items.as_slice();
+    for i in 0..items.len() {
+        if !same_type(&given[i], &wanted[i]) {
+            return Err(SystemFault::IllTyped {
+                at: offset(&items[i]),
+            });
+        }
+    }
+    Ok(())
+}
+
+/// The function applied to the argument, which stands at `at`.
+pub fn applied(
+    alloc: Global,
+    function: Resolved,
+    argument: Resolved,
+    at: u32,
+) -> Result<Resolved, Or<SystemFault>>
+    ensures { Resolves (test (not (takes (Some (ty function.kind)) (Some (ty argument.kind)))) (IllTyped at) ∷ []) (Some (app (tm function.term) (tm argument.term))) (gives (Some (ty function.kind))) result }
+{
+    let Resolved { term, kind } = function;
+    match kind {
+        SimpleType::Arrow(domain, rest) => {
+            if !same_type(&domain, &argument.kind) {
+                return Err(Or::Because(SystemFault::IllTyped { at }));
+            }
+            Ok(Resolved {
+                term: Term::App(Box::new(alloc, term)?, Box::new(alloc, argument.term)?),
+                kind: Box::into_inner(rest),
+            })
+        }
+        SimpleType::Sort(_) => Err(Or::Because(SystemFault::IllTyped { at })),
+    }
+}
+
+/// The abstraction of a body over a variable of the type.
+pub fn abstracted(alloc: Global, kind: SimpleType, body: Resolved) -> Result<Resolved, AllocError>
+    ensures term { IfOk result (λ whole. tm whole.term ≡ lam (ty kind) (tm body.term)) }
+    ensures kind { IfOk result (λ whole. ty whole.kind ≡ ty kind ⇒ ty body.kind) }
+{
+    let own = kind.copy(alloc)?;
+    Ok(Resolved {
+        term: Term::Lam(own, Box::new(alloc, body.term)?),
+        kind: SimpleType::Arrow(Box::new(alloc, kind)?, Box::new(alloc, body.kind)?),
+    })
+}
