@@ -2,6 +2,7 @@
 
 use std::alloc::{AllocError, Global};
 use wh_io::{MemoryShelf, MemorySink};
+use wh_samples::words_of;
 use wh_top::run;
 
 /// The words of a check of the two files.
@@ -33,12 +34,4 @@ pub fn told(
     let words = words_of(alloc, given.words)?;
     let status = run(alloc, words.as_slice(), &mut shelf, &mut out);
     Ok((status.number(), out))
-}
-
-fn words_of(alloc: Global, given: &[&str]) -> Result<Vec<String>, AllocError> {
-    let mut words = Vec::new(alloc);
-    for word in given {
-        words.push(String::from_str(alloc, *word)?)?;
-    }
-    Ok(words)
 }

@@ -1,15 +1,7 @@
-//! The worked rows, run over files and a sink in memory, and rows of the method's calls over systems that are read from texts.
+//! The worked rows of NO certificates, words, files and limits, run over files and a sink in memory.
 //!
 //! This crate has tests alone. They stand apart, so that no crate that the program is made of is proved once more with them.
 #![tactic(auto)]
 
 #[cfg(test)]
-mod method_rows;
-#[cfg(test)]
-mod poly_rows;
-#[cfg(test)]
-mod prove_rows;
-#[cfg(test)]
 mod run_rows;
-#[cfg(test)]
-mod yes_rows;

@@ -1,9 +1,8 @@
 //! Rows of nodes of interpretations: what they accept, each reason for a rejection, which comes first, and the limits on values.
 
-use crate::run_rows::told;
 use std::alloc::{AllocError, Global};
 use std::test::Fail;
-use wh_samples::{IDENTITY, IDENTITY_CERTIFICATE, MAP, MAP_VALUES_CERTIFICATE, TWICE};
+use wh_samples::{IDENTITY, IDENTITY_CERTIFICATE, MAP, MAP_VALUES_CERTIFICATE, TWICE, told};
 use wh_top::Status;
 use wh_types::Bytes;
 

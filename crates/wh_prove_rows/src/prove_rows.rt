@@ -1,13 +1,12 @@
 //! Rows of the search for a proof or a loop: the text of each certificate that it prints is given to the check, which accepts it; and where
 //! there is none the line says why.
 
-use crate::run_rows::{NEIGHBOURS, PAIRS, READ, told};
 use std::alloc::{AllocError, Global};
 use std::test::Fail;
 use wh_samples::{
     APART, BETA, CALLS, DOUBLE, ETA, EVEN_ODD, FOLD, FUNCTION_LIST, IDENTITY, INNER_CALL,
-    ITERATION, LOOP, MAP, NO_RULES, ORDINALS, PARTIAL, PRENEX, PROCESSES, RECURSOR, SORT, TWICE,
-    TWO_CALLS, UNDER_BINDER, UNTYPED,
+    ITERATION, LOOP, MAP, NEIGHBOURS, NO_RULES, ORDINALS, PAIRS, PARTIAL, PRENEX, PROCESSES, READ,
+    RECURSOR, SORT, TWICE, TWO_CALLS, UNDER_BINDER, UNTYPED, told,
 };
 use wh_top::Status;
 

@@ -1,12 +1,11 @@
 //! Rows of certificates of termination: what each node accepts, each reason for a rejection, and which comes first.
 
-use crate::run_rows::{told, words};
 use std::alloc::{AllocError, Global};
 use std::test::Fail;
 use wh_io::{MemoryShelf, MemorySink};
 use wh_samples::{
     DOUBLE, ETA, EVEN_ODD, FUNCTION_LIST, IDENTITY, ITERATION, LOOP, MAP, MAP_CERTIFICATE,
-    NO_RULES, UNTYPED,
+    NO_RULES, UNTYPED, told, words_of,
 };
 use wh_top::{Status, run};
 
@@ -306,7 +305,7 @@ fn leaves_a_front_of_a_yes(rt: HostRuntime) -> Result<(), Fail> {
         b"YES 1\nranks\npairs 0\ndone\nend\n".as_slice(),
     )?;
     let mut out = MemorySink::new(alloc, 2, 100, &[1])?;
-    let asked = words(alloc, &["check", "system", "certificate"])?;
+    let asked = words_of(alloc, &["check", "system", "certificate"])?;
     let status = run(alloc, asked.as_slice(), &mut shelf, &mut out);
     assert!(rt; status == Status::WriteFault);
     assert_eq!(rt; out.bytes(), b"YE".as_slice());
