@@ -63,6 +63,12 @@ const GIVEN_UP: &[(&[&str], &[u8], &[u8])] = &[
         LOOP,
         b"MAYBE stuck 0 1\n",
     ),
+    // ranges of coefficients come to that without a guess; one guess alone would leave it open
+    (
+        &["prove", "system", "--depth=0", "--tries", "1"],
+        LOOP,
+        b"MAYBE stuck 0 1\n",
+    ),
     (SEARCH, ORDINALS, b"MAYBE no-ranks sorts ord\n"),
     (SEARCH, UNTYPED, b"MAYBE no-ranks sorts o\n"),
     (SEARCH, PRENEX, b"MAYBE no-ranks sorts form\n"),

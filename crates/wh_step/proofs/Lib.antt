@@ -6,6 +6,7 @@ pub mod RootLaws
 pub mod RedexLemmas
 pub mod PlaceLemmas
 pub mod EnumerationLaws
+pub mod ReductLemmas
 pub mod ExtentLemmas
 pub mod MeasuringLemmas
 pub mod ContextLemmas

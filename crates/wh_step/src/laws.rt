@@ -1,6 +1,6 @@
 //! Laws of steps and reductions, each the contract of a function that does nothing.
 
-ghost use Rattle.std.specs.Prelude.{◌≡◌, ◌<◌, ◌≤◌, ℕ, List, [], length, Option};
+ghost use Rattle.std.specs.Prelude.{◌≡◌, ◌<◌, ◌≤◌, ◌↔◌, ℕ, Contains, List, [], length, Option};
 ghost use Rattle.wh_types.specs.Ty.{Ty};
 ghost use Rattle.wh_terms.specs.Tree.{Tm, bound, lam};
 ghost use Rattle.wh_terms.specs.Substitution.{act, opened};
@@ -11,6 +11,7 @@ ghost use Rattle.wh_step.specs.Step.{Step};
 ghost use Rattle.wh_terms.specs.declared.path.Step as taken;
 ghost use Rattle.wh_step.specs.Replay.{StepAt, Replays};
 ghost use Rattle.wh_step.specs.Reduction.{Reduction, last_of, Bounded, Unbounded};
+ghost use Rattle.wh_step.specs.Reducts.{AreReducts};
 
 /// A step keeps the type of a well-typed term.
 pub fn steps_keep_types()
@@ -76,4 +77,9 @@ pub fn replays_are_reductions()
 /// A step at a place, by one rule or by beta, has one result.
 pub fn one_result()
     ensures { (S : Symbols) (rules : List RewriteRule) (k : Option ℕ) (path : List ℕ) (t u v : Tm) → AreWellMade S rules → StepAt rules k path t u → StepAt rules k path t v → u ≡ v }
+{}
+
+/// A term is in the list of the reducts of another exactly where that steps to it.
+pub fn reducts_are_steps()
+    ensures { (S : Symbols) (rules : List RewriteRule) (t u : Tm) (us : List Tm) → AreWellMade S rules → AreReducts rules t us → Contains us u ↔ Step rules t u }
 {}
