@@ -5,10 +5,10 @@ use Rattle.std.proofs.lemmas.List.{length-append}
 use Rattle.std.proofs.lemmas.List.Elements.{All-nil, All-cons}
 use Rattle.wh_hopoly.specs.Polynomials.{Polynomial, zero_poly, plus, Factors, no_factors, times, Arguments, no_arguments, argument}
 use Rattle.wh_hopoly.specs.declared.expression.Move as moved
+use Rattle.wh_cert_parts.specs.PolyText.{put_poly, put_sum, put_factors, put_polys, put_more}
 use Rattle.wh_cert.specs.Interps.{Interp}
 use Rattle.wh_cert.specs.Written.{Arg, Node, done, alone, blocks, subterm, interpretations, Cert, yes, no}
-use Rattle.wh_cert.specs.PolyText.{put_poly, put_sum, put_factors, put_polys, put_more, put_interp, put_interps, put_moves, put_covers}
-use Rattle.wh_cert.specs.Text.{put_numbers, put_line, put_blocks, put_args, put_node, put_nodes, text}
+use Rattle.wh_cert.specs.Text.{put_interp, put_interps, put_moves, put_covers, put_numbers, put_line, put_blocks, put_args, put_node, put_nodes, text}
 use Rattle.wh_cert.specs.CertText.{CertText}
 use Rattle.wh_cert.specs.PolyCounts.{monomial_count, atom_count, argument_count, MonomialsWithin, AtomsWithin, ArgumentsWithin, PolyWithin, PolysWithin, AllPolysWithin}
 

@@ -1,0 +1,9 @@
+pub mod TermLimits
+pub mod PolyText
+pub mod PolyLimits
+pub mod TypeMachine
+pub mod TermMachine
+pub mod PolyMachine
+pub mod TypeViews
+pub mod PolyViews
+pub mod TermViews
