@@ -2,6 +2,7 @@ pub mod NamesAndNumbers
 pub mod TypeLaws
 pub mod PolyLaws
 pub mod PolyRuns
+pub mod PolyTextLengths
 pub mod TermSound
 pub mod TermComplete
 pub mod RawLaws
