@@ -1,10 +1,4 @@
-pub mod NamesAndNumbers
-pub mod TypeLaws
-pub mod PolyLaws
-pub mod PolyRuns
 pub mod PolyLinesSound
-pub mod TermSound
-pub mod TermComplete
 pub mod YesSound
 pub mod LinesComplete
 pub mod YesComplete
@@ -17,12 +11,8 @@ pub mod LineComplete
 pub mod LineEnds
 pub mod Whole
 pub mod TextLengths
-pub mod RawLaws
-pub mod TypeCode
-pub mod PolyCode
 pub mod PolyLinesCode
-pub mod TermCode
 pub mod YesCode
 pub mod ReadCode
 pub mod PrintCode
-pub mod PrintPolyCode
+pub mod PrintLinesCode

@@ -8,20 +8,21 @@ use Rattle.wh_terms.specs.declared.path.Step as taken
 use Rattle.wh_text.specs.Chars.{is_digit}
 use Rattle.wh_text.specs.RawTree.{RTy, RTm}
 use Rattle.wh_text.specs.Spelling.{put_part, put_term}
+use Rattle.wh_cert_parts.specs.TermLimits.{TermFits}
+use Rattle.wh_cert_parts.specs.TypeMachine.{outside, type_wanted, TypeStep, goes, type_ended, no_type, type_step}
+use Rattle.wh_cert_parts.specs.TermMachine as m
+use Rattle.wh_cert_parts.specs.TermMachine.{goes_on}
+use Rattle.wh_cert_parts.proofs.NamesAndNumbers.{ReadsNumbers, number_run, is_digit_48, goes_on_48}
+use Rattle.wh_cert_parts.proofs.TypeLaws.{TypeScan, in_type, type_read, no_scan, type_scan, type_run}
+use Rattle.wh_cert_parts.proofs.TermComplete.{Scan, still, read, stuck, scan, term_run}
 use Rattle.wh_cert.specs.Written.{Put, Cert, yes, no}
 use Rattle.wh_cert.specs.Text.{put_path, put_rule, put_step, put_steps, put_put, put_puts, text}
-use Rattle.wh_cert.specs.Limits.{TermFits, RuleFits, StepFits, PutFits, PartsFit}
-use Rattle.wh_cert.specs.TypeMachine.{outside, type_wanted, TypeStep, goes, type_ended, no_type, type_step}
-use Rattle.wh_cert.specs.TermMachine as m
-use Rattle.wh_cert.specs.TermMachine.{goes_on}
+use Rattle.wh_cert.specs.Limits.{RuleFits, StepFits, PutFits, PartsFit}
 use Rattle.wh_cert.specs.LineMachine.{head_item, step_item, at_item, put_item, LinePlace, in_term, line, rule_wanted, rule_number, step_path, at_path, later_line, put_percent, put_number, put_type, put_term as placing, LineStep, on, term_line, put_line, type_line, Past, nothing, begun, placed, gather, Standing, stands, wrong, moved, run, start}
 use Rattle.wh_cert.specs.ReadEnd.{IsEnd}
 use Rattle.wh_cert.proofs.Ended.{run_wrong}
 use Rattle.wh_cert.proofs.YesReached.{text_one}
 use Rattle.wh_cert.proofs.YesComplete.{yes_run}
-use Rattle.wh_cert.proofs.NamesAndNumbers.{ReadsNumbers, number_run, is_digit_48, goes_on_48}
-use Rattle.wh_cert.proofs.TypeLaws.{TypeScan, in_type, type_read, no_scan, type_scan, type_run}
-use Rattle.wh_cert.proofs.TermComplete.{Scan, still, read, stuck, scan, term_run}
 
 -- the same through the readers of terms and types
 

@@ -2,13 +2,13 @@
 use Rattle.std.proofs.Common.{◌≡◌, ℕ, suc, ◌≤◌, ◌==◌, List, [], ◌∷◌, ◌++◌, length, Option, Some, codes, refl, sym, ap, ◌∙◌, arith}
 use Rattle.std.proofs.lemmas.Bool.{cond-true, eq-eqb}
 use Rattle.wh_text.specs.RawTree.{RTy}
+use Rattle.wh_cert_parts.specs.TypeMachine.{TypeStack, outside, TypePlace, type_wanted, goes}
+use Rattle.wh_cert_parts.specs.TermMachine as m
+use Rattle.wh_cert_parts.proofs.TypeLaws.{GoodTypePlace, type_ends}
+use Rattle.wh_cert_parts.proofs.TermSound.{GoodPlace}
+use Rattle.wh_cert_parts.proofs.TermComplete.{term_ends}
 use Rattle.wh_cert.specs.Written.{no}
-use Rattle.wh_cert.specs.TypeMachine.{TypeStack, outside, TypePlace, type_wanted, goes}
-use Rattle.wh_cert.specs.TermMachine as m
 use Rattle.wh_cert.specs.LineMachine.{Item, head_item, step_item, at_item, put_item, end_item, Behind, to_term, to_rule, to_path, to_at, to_put, to_finish, LinePlace, word, in_term, line, rule_wanted, rule_number, step_path, at_path, later_line, put_percent, put_number, put_type, put_term as placing, finished, LineStep, on, refused, behind, Past, nothing, begun, placed, gather, stands, moved, run}
-use Rattle.wh_cert.proofs.TypeLaws.{GoodTypePlace, type_ends}
-use Rattle.wh_cert.proofs.TermSound.{GoodPlace}
-use Rattle.wh_cert.proofs.TermComplete.{term_ends}
 use Rattle.wh_cert.proofs.LineSound.{first, second, third, word_stage, stage, past_stage, item_from, item_to, GoodLine, ItemWithin, PastWithin}
 use Rattle.wh_cert.proofs.Ended.{Ends, ends_after}
 use Rattle.wh_cert.proofs.Reached.{gather_stage, gather_within, past_wider}

@@ -8,16 +8,17 @@ use Rattle.wh_terms.specs.Places.{IsPath}
 use Rattle.wh_text.specs.Chars.{is_digit}
 use Rattle.wh_text.specs.RawTree.{RTy}
 use Rattle.wh_text.specs.Spelling.{put_part, put_term}
+use Rattle.wh_cert_parts.specs.TermLimits.{TypeFits, TermFits}
+use Rattle.wh_cert_parts.specs.TypeMachine.{outside, type_wanted, TypeStep, goes, type_ended, no_type, type_step}
+use Rattle.wh_cert_parts.specs.TermMachine as m
+use Rattle.wh_cert_parts.specs.TermMachine.{goes_on}
+use Rattle.wh_cert_parts.proofs.NamesAndNumbers.{first_digit_spelled, first_digit_small, goes_on_true, next_digit_spelled}
+use Rattle.wh_cert_parts.proofs.TypeLaws.{type_seen, GoodTypes, GoodTypePlace, TypeNext, type_kept}
+use Rattle.wh_cert_parts.proofs.TermSound.{seen, GoodStack, GoodPlace, Next, step_kept}
 use Rattle.wh_cert.specs.Written.{no}
 use Rattle.wh_cert.specs.Text.{put_path, put_rule, put_step, put_steps, put_put, put_puts}
-use Rattle.wh_cert.specs.Limits.{TypeFits, TermFits, RuleFits, StepFits, PutFits, PartsFit, PathsWithin, CountsWithin}
-use Rattle.wh_cert.specs.TypeMachine.{outside, type_wanted, TypeStep, goes, type_ended, no_type, type_step}
-use Rattle.wh_cert.specs.TermMachine as m
-use Rattle.wh_cert.specs.TermMachine.{goes_on}
+use Rattle.wh_cert.specs.Limits.{RuleFits, StepFits, PutFits, PartsFit, PathsWithin, CountsWithin}
 use Rattle.wh_cert.specs.LineMachine.{Item, head_item, step_item, at_item, put_item, end_item, Behind, to_term, to_rule, to_path, to_at, to_put, to_finish, LinePlace, word, in_term, line, rule_wanted, rule_number, step_path, at_path, later_line, put_percent, put_number, put_type, put_term as placing, finished, LineStep, on, gives, refused, spelling, behind, word_on, path_step, term_line, put_line, type_line, step_ended, at_ended, line_step, Past, nothing, begun, placed}
-use Rattle.wh_cert.proofs.NamesAndNumbers.{first_digit_spelled, first_digit_small, goes_on_true, next_digit_spelled}
-use Rattle.wh_cert.proofs.TypeLaws.{type_seen, GoodTypes, GoodTypePlace, TypeNext, type_kept}
-use Rattle.wh_cert.proofs.TermSound.{seen, GoodStack, GoodPlace, Next, step_kept}
 
 -- the parts of a certificate come in three stages: the term, the steps, what is put
 

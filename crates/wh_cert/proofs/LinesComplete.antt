@@ -7,18 +7,19 @@ use Rattle.std.specs.Fmt.{decimal}
 use Rattle.wh_hopoly.specs.Polynomials.{Polynomial}
 use Rattle.wh_hopoly.specs.declared.expression.Move as moved
 use Rattle.wh_text.specs.Chars.{is_digit, is_start, is_part}
+use Rattle.wh_cert_parts.specs.PolyText.{put_poly}
+use Rattle.wh_cert_parts.specs.TermMachine.{goes_on}
+use Rattle.wh_cert_parts.specs.PolyMachine.{outside, poly_wanted, PolyStep, goes, poly_ended, no_poly, begins_big, goes_on_big, poly_step}
+use Rattle.wh_cert_parts.proofs.NamesAndNumbers.{ReadsNames, name_run, ReadsNumbers, number_run, is_digit_48, goes_on_48, ReadsBigs, big_run, begins_big_48, goes_on_big_48}
+use Rattle.wh_cert_parts.proofs.PolyLaws.{poly_read, poly_scan}
+use Rattle.wh_cert_parts.proofs.PolyRuns.{poly_run}
 use Rattle.wh_cert.specs.Interps.{Interp}
-use Rattle.wh_cert.specs.PolyText.{put_poly, put_interps, put_move, put_moves, put_covers}
-use Rattle.wh_cert.specs.PolyLimits.{InterpFits, MoveFits}
-use Rattle.wh_cert.specs.TermMachine.{goes_on}
-use Rattle.wh_cert.specs.PolyMachine.{outside, poly_wanted, PolyStep, goes, poly_ended, no_poly, begins_big, goes_on_big, poly_step}
+use Rattle.wh_cert.specs.Text.{put_interps, put_move, put_moves, put_covers}
+use Rattle.wh_cert.specs.Limits.{InterpFits, MoveFits}
 use Rattle.wh_cert.specs.PolyLines as l
 use Rattle.wh_cert.specs.PolyLines.{Lines, in_funs, in_marks, in_rules, in_pairs, lines_front, name_wanted, name, in_poly, moves, from_wanted, from, to_wanted, to, amount_wanted, amount, LinesStep, line_first, line_rest, line_begun, add_interp, add_cover, poly_led, moves_step, add_move, lines_step}
 use Rattle.wh_cert.specs.YesMachine.{poly_lines, lines_led, Past}
 use Rattle.wh_cert.specs.LineMachine.{stands_yes, moved_yes, run}
-use Rattle.wh_cert.proofs.NamesAndNumbers.{ReadsNames, name_run, ReadsNumbers, number_run, is_digit_48, goes_on_48, ReadsBigs, big_run, begins_big_48, goes_on_big_48}
-use Rattle.wh_cert.proofs.PolyLaws.{poly_read, poly_scan}
-use Rattle.wh_cert.proofs.PolyRuns.{poly_run}
 
 -- names and numbers
 

@@ -8,15 +8,17 @@ use Rattle.std.specs.Fmt.{decimal}
 use Rattle.wh_hopoly.specs.declared.expression.Move as moved
 use Rattle.wh_text.specs.Chars.{is_digit, is_start, is_part}
 use Rattle.wh_text.specs.Words.{IsWord}
+use Rattle.wh_cert_parts.specs.PolyText.{put_poly}
+use Rattle.wh_cert_parts.specs.TermLimits.{IsSmall}
+use Rattle.wh_cert_parts.specs.PolyLimits.{IsBig}
+use Rattle.wh_cert_parts.specs.TermMachine.{goes_on}
+use Rattle.wh_cert_parts.specs.PolyMachine.{outside, poly_wanted, PolyStep, goes, poly_ended, no_poly, begins_big, goes_on_big, poly_step}
+use Rattle.wh_cert_parts.proofs.NamesAndNumbers.{first_letter, next_letter, first_digit_spelled, first_digit_small, goes_on_true, next_digit_spelled, begins_big_spelled, first_big, next_big, next_big_spelled}
+use Rattle.wh_cert_parts.proofs.PolyLaws.{poly_seen, GoodPolys, GoodPolyPlace, PolyNext, poly_kept}
 use Rattle.wh_cert.specs.Interps.{Interp}
-use Rattle.wh_cert.specs.PolyText.{put_poly, put_interp, put_interps, put_move, put_moves, put_cover, put_covers}
-use Rattle.wh_cert.specs.Limits.{IsSmall}
-use Rattle.wh_cert.specs.PolyLimits.{IsBig, InterpFits, MoveFits}
-use Rattle.wh_cert.specs.TermMachine.{goes_on}
-use Rattle.wh_cert.specs.PolyMachine.{outside, poly_wanted, PolyStep, goes, poly_ended, no_poly, begins_big, goes_on_big, poly_step}
+use Rattle.wh_cert.specs.Text.{put_interp, put_interps, put_move, put_moves, put_cover, put_covers}
+use Rattle.wh_cert.specs.Limits.{InterpFits, MoveFits}
 use Rattle.wh_cert.specs.PolyLines.{Lines, in_funs, in_marks, in_rules, in_pairs, LinesPlace, lines_front, name_wanted, name, in_poly, moves, from_wanted, from, to_wanted, to, amount_wanted, amount, LinesStep, on, begins, drops, refused, line_first, line_rest, line_begun, to_marks, to_rules, to_pairs, add_interp, add_cover, pair_step, rule_step, mark_step, first_step, poly_led, moves_step, add_move, lines_step}
-use Rattle.wh_cert.proofs.NamesAndNumbers.{first_letter, next_letter, first_digit_spelled, first_digit_small, goes_on_true, next_digit_spelled, begins_big_spelled, first_big, next_big, next_big_spelled}
-use Rattle.wh_cert.proofs.PolyLaws.{poly_seen, GoodPolys, GoodPolyPlace, PolyNext, poly_kept}
 
 -- what was read, with r behind it
 

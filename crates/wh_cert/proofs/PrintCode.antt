@@ -1,28 +1,18 @@
 -- What the printers of a certificate append, one after another.
-use Rattle.std.proofs.Common.{◌≡◌, ℕ, ◌+◌, ◌<◌, ◌≤◌, List, [], ◌∷◌, ◌++◌, length, get_or, drop, map, codes, refl, sym, ap, ◌∙◌, append-nil}
-use Rattle.std.proofs.lemmas.List.{drop_more, drop_all}
+use Rattle.std.proofs.Common.{◌≡◌, ℕ, ◌+◌, ◌<◌, ◌≤◌, List, [], ◌∷◌, ◌++◌, length, get_or, drop, map, codes, refl, sym, ◌∙◌, append-nil}
 use Rattle.std.specs.Fmt.{decimal}
 use Rattle.wh_terms.specs.declared.path.Step as taken
 use Rattle.wh_text.specs.RawTree.{RTm}
 use Rattle.wh_text.specs.Spelling.{put_part, put_term}
 use Rattle.wh_text.specs.Pushes.{Pushes}
 use Rattle.wh_text.proofs.PrintLemmas.{push_bytes, push_byte, push_then, Leaves}
+use Rattle.wh_cert_parts.proofs.PrintedLists.{next_left, none_left}
 use Rattle.wh_cert.specs.Written as w
 use Rattle.wh_cert.specs.Text.{put_path, put_rule, put_step, put_steps, put_put, put_puts, put_entry, put_numbers, put_line, put_block, put_blocks, put_arg, put_args, put_node, put_nodes, text}
 use Rattle.wh_cert.specs.Said.{said_arg, said_node, said_put}
 use Rattle.wh_cert.specs.declared.certificate.Arg.{Arg}
 use Rattle.wh_cert.specs.declared.certificate.Node.{Node}
 use Rattle.wh_cert.specs.declared.certificate.Put.{Put}
-
--- one more of a list, each of which appends what `one` spells
-pub next_left : {X : Type 0} (one : X → List ℕ → List ℕ) (all : List X → List ℕ → List ℕ) → ((x : X) (xs : List X) (r : List ℕ) → one x (all xs r) ≡ all (x ∷ xs) r) → (old a b : List ℕ) (whole : List ℕ → List ℕ) (xs : List X) (i : ℕ) (x : X) → Leaves old a (all (drop i xs)) whole → i < length xs → x ≡ get_or xs i x → Pushes a b (one x) → Leaves old b (all (drop (i + 1) xs)) whole
-next_left {X} one all joins old a b whole xs i x left below is part =
-    let next : drop i xs ≡ x ∷ drop (i + 1) xs = drop_more xs i x below ∙ ap (λ (y : X). y ∷ drop (i + 1) xs) (sym is) in
-    record { behind = λ r. part.behind (all (drop (i + 1) xs) r) ∙ ap (λ (s : List ℕ). a ++ s) (joins x (drop (i + 1) xs) r) ∙ ap (λ (ys : List X). a ++ all ys r) (sym next) ∙ left.behind r }
-
-pub none_left : {X : Type 0} (all : List X → List ℕ → List ℕ) → ((r : List ℕ) → all [] r ≡ r) → (old a : List ℕ) (whole : List ℕ → List ℕ) (xs : List X) (i : ℕ) → Leaves old a (all (drop i xs)) whole → length xs ≤ i → Pushes old a whole
-none_left {X} all ends old a whole xs i left past =
-    record { behind = λ r. ap (λ (s : List ℕ). a ++ s) (sym (ends r)) ∙ ap (λ (ys : List X). a ++ all ys r) (sym (drop_all i xs past)) ∙ left.behind r }
 
 pub steps_next : (old a b : List ℕ) (whole : List ℕ → List ℕ) (xs : List taken.Step) (i : ℕ) (x : taken.Step) → Leaves old a (put_steps (drop i xs)) whole → i < length xs → x ≡ get_or xs i x → Pushes a b (put_step x) → Leaves old b (put_steps (drop (i + 1) xs)) whole
 steps_next = next_left put_step put_steps (λ x xs r. refl)

@@ -5,15 +5,15 @@ use Rattle.std.proofs.lemmas.Bool.{cond-true, lt-ltb, and_from}
 use Rattle.std.proofs.lemmas.List.Elements.{All-head, All-tail}
 use Rattle.std.specs.Fmt.{decimal}
 use Rattle.wh_text.specs.Chars.{is_digit, is_start, is_part}
+use Rattle.wh_cert_parts.specs.TermLimits.{IsSmall}
+use Rattle.wh_cert_parts.specs.TermMachine.{goes_on}
+use Rattle.wh_cert_parts.proofs.NamesAndNumbers.{ReadsNames, name_run, ReadsNumbers, number_run, is_digit_48, goes_on_48}
 use Rattle.wh_cert.specs.Written.{Arg, Node, done, alone, blocks, subterm, interpretations, children, Preorder}
-use Rattle.wh_cert.specs.Text.{put_numbers, put_blocks, put_arg, put_args, put_node, put_nodes}
-use Rattle.wh_cert.specs.Limits.{IsSmall, ArgFits, NodeFits}
-use Rattle.wh_cert.specs.TermMachine.{goes_on}
+use Rattle.wh_cert.specs.Text.{put_numbers, put_blocks, put_arg, put_args, put_node, put_nodes, put_interps, put_covers}
+use Rattle.wh_cert.specs.Limits.{ArgFits, NodeFits}
 use Rattle.wh_cert.specs.YesMachine.{Listed, of_ranks, of_block, of_drop, of_poly, Counted, of_pairs, of_blocks, of_place, of_list, to_list, node_item, word, listed, number_wanted, number, front, arg_front, name_wanted, letters, LineStep, on, refused, list_ended, number_ended, front_step, Past, so_far, nothing, gather, wants}
 use Rattle.wh_cert.specs.LineMachine.{stands_yes, moved_yes, run, start}
-use Rattle.wh_cert.specs.PolyText.{put_interps, put_covers}
 use Rattle.wh_cert.proofs.LinesComplete.{lines_run}
-use Rattle.wh_cert.proofs.NamesAndNumbers.{ReadsNames, name_run, ReadsNumbers, number_run, is_digit_48, goes_on_48}
 
 -- names and numbers
 

@@ -7,21 +7,20 @@ use Rattle.std.proofs.lemmas.List.Elements.{All-nil, All-push, All-weaker}
 use Rattle.wh_hopoly.specs.Polynomials.{zero_poly}
 use Rattle.wh_hopoly.specs.declared.expression.Move as moved
 use Rattle.wh_text.specs.Words.{IsWord}
+use Rattle.wh_cert_parts.specs.PolyMachine.{goes}
+use Rattle.wh_cert_parts.proofs.PolyLaws.{poly_seen, poly_sound}
+use Rattle.wh_cert_parts.proofs.PolyRuns.{poly_ends}
+use Rattle.wh_cert_parts.proofs.NamesAndNumbers.{first_letter}
 use Rattle.wh_cert.specs.Interps.{Interp}
-use Rattle.wh_cert.specs.PolyLimits.{InterpFits, MoveFits}
+use Rattle.wh_cert.specs.Limits.{InterpFits, MoveFits, NodeWithin}
 use Rattle.wh_cert.specs.PolyLines.{Lines, in_funs, in_marks, in_rules, in_pairs, LinesPlace, lines_front, name_wanted, name as line_name, in_poly, moves, from_wanted, from, to_wanted, to, amount_wanted, amount, line_begun, add_interp, add_cover, add_move}
-use Rattle.wh_cert.specs.PolyMachine.{goes}
-use Rattle.wh_cert.proofs.PolyLaws.{poly_seen, poly_sound}
-use Rattle.wh_cert.proofs.PolyRuns.{poly_ends}
 use Rattle.wh_cert.proofs.PolyLinesSound.{TakesInterp, TakesMoves, GoodMoves, GoodLines, GoodLinesPlace, no_interps, lines_wider, pairs_good, interp_good, cover_good, begun_good}
 use Rattle.wh_cert.proofs.LinesComplete.{poly_lift}
 use Rattle.wh_cert.specs.Written.{Arg, Node, done, alone, blocks, subterm, interpretations, children, yes}
-use Rattle.wh_cert.specs.Limits.{NodeWithin}
 use Rattle.wh_cert.specs.YesMachine.{node_item, end_item, Listed, of_ranks, of_block, of_drop, of_poly, Counted, of_pairs, of_blocks, of_place, of_list, Behind, to_list, to_pairs, to_done, to_alone, to_blocks, to_subterm, to_name, to_poly, to_line, to_finish, Place, word, listed, number_wanted, number, front, arg_front, name_wanted as arg_name_wanted, letters, poly_lines, finished, LineStep, on, refused, behind, list_ended, Past, so_far, gather, wants}
 use Rattle.wh_cert.specs.LineMachine.{stands_yes, moved_yes, run}
 use Rattle.wh_cert.proofs.YesSound.{second, third, listed_stage, counted_stage, word_stage, stage, GoodListed, GoodCounted, GoodBehind, GoodPlace, ListedFor, CountedFor, BehindFor, PlaceFor}
 use Rattle.wh_cert.proofs.YesReached.{GoodPast, Good, no_wanted, nodes_wider}
-use Rattle.wh_cert.proofs.NamesAndNumbers.{first_letter}
 use Rattle.wh_cert.proofs.YesComplete.{node_run, wants_some}
 use Rattle.wh_cert.proofs.Ended.{Ends, ends_after}
 

@@ -6,9 +6,10 @@ use Rattle.std.proofs.lemmas.List.Elements.{All-nil, All-push, All-weaker}
 use Rattle.std.specs.Fmt.{decimal}
 use Rattle.std.proofs.lemmas.Fmt.{decimal_digit}
 use Rattle.wh_hopoly.specs.declared.expression.Move as moved
+use Rattle.wh_cert_parts.specs.TermLimits.{IsSmall}
 use Rattle.wh_cert.specs.Written.{Node, done, alone, blocks, subterm, interpretations, children, Preorder, yes}
 use Rattle.wh_cert.specs.Text.{put_numbers, put_nodes, text}
-use Rattle.wh_cert.specs.Limits.{IsSmall, NodeFits, NodeWithin, PartsFit}
+use Rattle.wh_cert.specs.Limits.{NodeFits, NodeWithin, PartsFit}
 use Rattle.wh_cert.specs.YesMachine.{Item, ranks_item, pairs_item, node_item, end_item, to_list, of_ranks, Place, word, finished, LineStep, on, gives, refused, step, Past, so_far, nothing, gather, wants}
 use Rattle.wh_cert.proofs.YesSound.{put_nodes_add, Stage, first, second, third, stage, item_from, item_to, PlaceReads, item_text, GoodNumbers, GoodPlace, PlaceFor, ItemGood, PlaceAfter, LineNext, lead_kept}
 

@@ -2,9 +2,9 @@
 use Rattle.std.specs.Prelude.{ℕ, [], drop, Option, Some, None}
 use Rattle.wh_text.specs.Erase.{rty, rtm}
 use Rattle.wh_text.specs.declared.raw.RawType.{RawType}
+use Rattle.wh_cert_parts.specs.TypeViews.{type_stack, type_place}
+use Rattle.wh_cert_parts.specs.TermViews.{term_stack, term_place}
 use Rattle.wh_cert.specs.Said.{said_put}
-use Rattle.wh_cert.specs.TypeViews.{type_stack, type_place}
-use Rattle.wh_cert.specs.TermViews.{term_stack, term_place}
 use Rattle.wh_cert.specs.LineMachine as m
 use Rattle.wh_cert.specs.declared.line_reader.Behind.{Behind}
 use Rattle.wh_cert.specs.declared.line_reader.Behind.TheVariants as behind

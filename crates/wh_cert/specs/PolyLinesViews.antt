@@ -1,8 +1,8 @@
 -- What the values of the reader of the lines of a node of interpretations stand for.
 use Rattle.std.specs.Prelude.{map}
+use Rattle.wh_cert_parts.specs.PolyViews.{poly_stack, poly_place}
 use Rattle.wh_cert.specs.Said.{said_interp}
 use Rattle.wh_cert.specs.PolyLines as m
-use Rattle.wh_cert.specs.PolyViews.{poly_stack, poly_place}
 use Rattle.wh_cert.specs.declared.poly_lines.Section.{Section}
 use Rattle.wh_cert.specs.declared.poly_lines.Section.TheVariants.{Funs, Marks, Rules, Pairs}
 use Rattle.wh_cert.specs.declared.poly_lines.LinesPlace.{LinesPlace}

@@ -3,8 +3,10 @@ use Rattle.std.specs.Prelude.{ℕ, ◌+◌, List, [], ◌∷◌, ◌++◌, lengt
 use Rattle.std.specs.Fmt.{decimal}
 use Rattle.wh_terms.specs.declared.path.Step as taken
 use Rattle.wh_text.specs.Spelling.{put_part, put_term}
+use Rattle.wh_hopoly.specs.declared.expression.Move as moved
+use Rattle.wh_cert_parts.specs.PolyText.{put_poly}
+use Rattle.wh_cert.specs.Interps.{Interp}
 use Rattle.wh_cert.specs.Written.{Put, Arg, Node, done, alone, blocks, subterm, interpretations, Cert, yes, no}
-use Rattle.wh_cert.specs.PolyText.{put_interps, put_covers}
 
 -- a path behind its `/`: a digit for each entry
 abbrev pub put_path : List ℕ → List ℕ → List ℕ
@@ -59,6 +61,30 @@ put_arg a r = codes "arg " ++ (a.name ++ (32 ∷ (decimal a.place ++ (10 ∷ r))
 abbrev pub put_args : List Arg → List ℕ → List ℕ
 put_args [] r = r
 put_args (a ∷ rest) r = put_arg a (put_args rest r)
+
+-- the line of an interpretation, behind its word
+abbrev pub put_interp : List ℕ → Interp → List ℕ → List ℕ
+put_interp word i r = word ++ (i.name ++ (32 ∷ put_poly i.poly (10 ∷ r)))
+
+abbrev pub put_interps : List ℕ → List Interp → List ℕ → List ℕ
+put_interps word [] r = r
+put_interps word (i ∷ is) r = put_interp word i (put_interps word is r)
+
+-- a move: the monomial that gives, the one that gets, and the amount
+abbrev pub put_move : moved.Move → List ℕ → List ℕ
+put_move m r = 32 ∷ (decimal m.from ++ (62 ∷ (decimal m.to ++ (58 ∷ (decimal m.amount ++ r)))))
+
+abbrev pub put_moves : List moved.Move → List ℕ → List ℕ
+put_moves [] r = r
+put_moves (m ∷ ms) r = put_move m (put_moves ms r)
+
+-- the line of moves, behind its word
+abbrev pub put_cover : List ℕ → List moved.Move → List ℕ → List ℕ
+put_cover word ms r = word ++ put_moves ms (10 ∷ r)
+
+abbrev pub put_covers : List ℕ → List (List moved.Move) → List ℕ → List ℕ
+put_covers word [] r = r
+put_covers word (ms ∷ rest) r = put_cover word ms (put_covers word rest r)
 
 -- the lines of a node, without its children's
 abbrev pub put_node : Node → List ℕ → List ℕ

@@ -3,9 +3,9 @@
 use Rattle.std.specs.Prelude.{ℕ, zero, suc, ◌+◌, ◌-◌, ◌*◌, ◌==◌, ◌&&◌, nat_lt, Bool, cond, List, [], ◌∷◌, ◌++◌, length, codes}
 use Rattle.wh_text.specs.Chars.{is_digit, is_start, is_part}
 use Rattle.wh_hopoly.specs.declared.expression.Move as moved
+use Rattle.wh_cert_parts.specs.TermMachine.{goes_on}
 use Rattle.wh_cert.specs.Interps.{Interp}
 use Rattle.wh_cert.specs.Written.{Arg, Node, done, alone, blocks, subterm, interpretations, children}
-use Rattle.wh_cert.specs.TermMachine.{goes_on}
 use Rattle.wh_cert.specs.PolyLines as l
 use Rattle.wh_cert.specs.PolyLines.{Lines, in_funs, in_marks, in_rules, in_pairs, LinesPlace, lines_front, LinesStep, begins, drops, line_first, line_rest, line_begun, lines_step}
 

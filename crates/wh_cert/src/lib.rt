@@ -3,17 +3,12 @@
 
 mod certificate;
 mod laws;
-mod letters;
 mod line_reader;
 mod poly_lines;
 mod poly_node;
-mod poly_reader;
 mod print;
-mod print_poly;
-mod raw;
+mod print_lines;
 mod read;
-mod term_reader;
-mod type_reader;
 mod yes_line;
 
 pub use certificate::{

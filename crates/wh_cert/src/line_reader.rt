@@ -9,11 +9,12 @@ ghost use Rattle.wh_cert.specs.declared.line_reader.Behind.TheVariants as behind
 ghost use Rattle.wh_cert.specs.declared.line_reader.LinePlace.TheVariants.{Word, Term, StepPath, AtPath, PutType, PutTerm};
 
 use crate::certificate::Put;
-use crate::letters::{first_number, next_number};
-use crate::term_reader::{Frame, TermPlace, TermStep, term_step};
-use crate::type_reader::{TypePlace, TypeStep, type_step};
 use std::alloc::{AllocError, Global};
 use std::mem;
+use wh_cert_parts::{
+    Frame, TermPlace, TermStep, TypePlace, TypeStep, first_number, next_number, term_step,
+    type_step,
+};
 use wh_terms::{Path, Step};
 use wh_text::{RawTerm, RawType, RawTypes};
 

@@ -2,19 +2,20 @@
 
 ghost use Rattle.std.specs.Prelude.{◌≡◌, [], IfOk, OnOk};
 ghost use Rattle.wh_hopoly.specs.Erase.{poly};
+ghost use Rattle.wh_cert_parts.specs.PolyMachine.{poly_ended};
 ghost use Rattle.wh_cert.specs.PolyLines.{in_funs, lines_front, name_wanted, from_wanted, from, to_wanted, to, amount_wanted, amount, name as in_name, line_begun, to_marks, to_rules, to_pairs, first_step, mark_step, rule_step, pair_step, poly_led, moves_step, lines_step};
-ghost use Rattle.wh_cert.specs.PolyMachine.{poly_ended};
 ghost use Rattle.wh_cert.specs.YesMachine.{gives, node_item, front, list_ended, dropped};
 ghost use Rattle.wh_cert.specs.PolyLinesViews.{section_of, lines_of, lines_place, lines_went};
 ghost use Rattle.wh_cert.specs.Said.{said_poly};
 ghost use Rattle.wh_cert.specs.declared.poly_lines.Section.TheVariants as section;
 ghost use Rattle.wh_cert.specs.declared.poly_lines.LinesPlace.TheVariants as place;
 
-use crate::letters::{Letters, begins_name, first_big, first_number, next_big, next_number};
 use crate::poly_node::{Interp, Interps, PolyNode};
-use crate::poly_reader::{PolyStep, PolyText};
 use std::alloc::{AllocError, Global};
 use std::mem;
+use wh_cert_parts::{
+    Letters, PolyStep, PolyText, begins_name, first_big, first_number, next_big, next_number,
+};
 use wh_hopoly::{Covers, Move, Moves, Poly};
 use wh_types::Numbers;
 

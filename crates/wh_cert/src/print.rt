@@ -11,7 +11,7 @@ ghost use Rattle.wh_cert.specs.Said.{said_arg, said_poly, said_node, said_yes, s
 
 use crate::certificate::{Arg, Certificate, NoCertificate, Node, Put, YesCertificate};
 use crate::poly_node::PolyNode;
-use crate::print_poly::{print_covers, print_interps};
+use crate::print_lines::{print_covers, print_interps};
 use std::alloc::{AllocError, Global};
 use wh_terms::Step;
 use wh_text::{print_number, print_part, print_term};

@@ -5,7 +5,7 @@ ghost use Rattle.wh_types.specs.Outcome.{IfBecause};
 ghost use Rattle.wh_cert.specs.Written.{Cert, children};
 ghost use Rattle.wh_cert.specs.CertText.{CertText, FaultAt};
 ghost use Rattle.wh_cert.specs.Said.{said, said_node};
-ghost use Rattle.wh_cert.specs.YesMachine.{nothing as yes_nothing, gather as yes_gather};
+ghost use Rattle.wh_cert.specs.YesMachine.{gather as yes_gather};
 ghost use Rattle.wh_cert.specs.LineMachine.{gather as no_gather, take_byte, first_byte};
 ghost use Rattle.wh_cert.specs.ReadEnd.{IsEnd};
 ghost use Rattle.wh_cert.specs.LineViews.{item_of as no_item};

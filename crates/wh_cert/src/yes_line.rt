@@ -13,10 +13,10 @@ ghost use Rattle.wh_cert.specs.declared.yes_line.YesBehind.TheVariants as behind
 ghost use Rattle.wh_cert.specs.declared.yes_line.YesPlace.TheVariants as place;
 
 use crate::certificate::{Arg, Args, Node};
-use crate::letters::{Letters, begins_name, first_number, next_number};
 use crate::poly_lines::{LinesStep, PolyLines, Section};
 use std::alloc::{AllocError, Global};
 use std::mem;
+use wh_cert_parts::{Letters, begins_name, first_number, next_number};
 use wh_types::{Blocks, Numbers};
 
 /// A list of numbers.

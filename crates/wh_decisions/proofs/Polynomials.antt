@@ -5,7 +5,7 @@ use Rattle.std.specs.declared.cmp.Ordering.{Ordering}
 use Rattle.std.specs.declared.cmp.Ordering.TheVariants.{Less, Equal, Greater}
 use Rattle.wh_types.specs.Ty.{Ty, sort, ◌⇒◌, arguments}
 use Rattle.wh_system.proofs.TypedDecided.{Decided, decided_by, both_decided, below_decided}
-use Rattle.wh_cert.specs.PolyCounts.{monomial_count}
+use Rattle.wh_cert_parts.specs.PolyCounts.{monomial_count}
 use Rattle.wh_hopoly.specs.Polynomials.{Polynomial, zero_poly, plus, Factors, no_factors, times, Arguments, no_arguments, argument, HasType, compare_factors, compare_factor, FactorBefore, MonomialBefore, Normal, NormalFactors, NormalArguments}
 use Rattle.wh_hopoly.specs.Covers.{Has, AtLeast}
 use Rattle.wh_hopoly.specs.Moves.{Transfer, ArgumentsAtLeast, FactorsAtLeast, MonomialAt, Good, given_by, taken_by, NotOverSpent, Covered, IsCover, IsStrictCover}

@@ -22,10 +22,10 @@ use Rattle.wh_meaning.specs.Covering.{rule_run, pair_run}
 use Rattle.wh_covering.specs.CoveringFaults.{with_limits, IsReady, IsRightRule, IsRightPair}
 use Rattle.wh_covering.proofs.Walks.{some_at}
 use Rattle.wh_covering.proofs.CoverWalk.{covering_holds, small_holds}
+use Rattle.wh_cert_parts.specs.TermLimits.{IsSmall}
 use Rattle.wh_cert.specs.Written as w
 use Rattle.wh_cert.specs.Interps.{Interp}
-use Rattle.wh_cert.specs.Limits.{IsSmall, NodeFits, NodeWithin}
-use Rattle.wh_cert.specs.PolyLimits.{MoveFits}
+use Rattle.wh_cert.specs.Limits.{NodeFits, NodeWithin, MoveFits}
 use Rattle.wh_checker.specs.Looked.{SayInterpretations, SayMarks}
 use Rattle.wh_find_moves.specs.Found.{AreApart}
 use Rattle.wh_guesses.specs.Guesses.{IsTask, IsGuess}

@@ -2,10 +2,10 @@
 //! monomials before it in any order, and what they may still weigh is counted; they are put in order once, and multiplied in once. So
 //! what stands before a long row of factors is not copied, compared or weighed anew for each of them.
 
-ghost use Rattle.std.specs.Prelude.{◌≡◌, ◌++◌, ◌+◌, ◌*◌, ◌≤◌, ◌<◌, ◌^◌, IfOk, OnOk, IfSome, MatchResult};
+ghost use Rattle.std.specs.Prelude.{◌≡◌, ◌++◌, ◌+◌, ◌*◌, ◌≤◌, ◌<◌, IfOk, OnOk, IfSome, MatchResult};
 ghost use Rattle.wh_types.specs.Outcome.{IfBecause};
 ghost use Rattle.wh_hopoly.specs.Erase.{poly, atoms, factors, factors as factors_of};
-ghost use Rattle.wh_hopoly.specs.Polynomials.{Ordered, OrderedFactors, plus, zero_poly};
+ghost use Rattle.wh_hopoly.specs.Polynomials.{Ordered, plus, zero_poly};
 ghost use Rattle.wh_hopoly.specs.Arithmetic.{constant, multiply};
 ghost use Rattle.wh_hopoly.specs.Limits.{weight, Exceeds};
 ghost use Rattle.wh_hopoly.specs.Excesses.{ExceedsAs};

@@ -4,7 +4,7 @@ ghost use Rattle.std.specs.Prelude.{◌≡◌, ◌++◌, ◌∷◌, [], map, len
 ghost use Rattle.wh_types.specs.Erase.{ty};
 ghost use Rattle.wh_types.specs.Outcome.{IfBecause};
 ghost use Rattle.wh_hopoly.specs.Erase.{poly, expression, interpretations};
-ghost use Rattle.wh_hopoly.specs.Evaluation.{symbol, evaluate, Interpretation, TypedExpression, NormalInterpretations};
+ghost use Rattle.wh_hopoly.specs.Evaluation.{symbol, evaluate, TypedExpression, NormalInterpretations};
 ghost use Rattle.wh_hopoly.specs.Outcomes.{ComesTo, IsFaultOf, applied_to};
 
 use crate::evaluating::evaluate;

@@ -1,6 +1,6 @@
 //! Whether a polynomial is normal. The scope inside arguments is a chain of frames, so no memory is taken.
 
-ghost use Rattle.std.specs.Prelude.{◌≡◌, ◌↔◌, IsTrue};
+ghost use Rattle.std.specs.Prelude.{◌↔◌, IsTrue};
 ghost use Rattle.wh_types.specs.Erase.{ty, tys};
 ghost use Rattle.wh_hopoly.specs.Erase.{poly, atoms, polys, sum_of, product_of};
 ghost use Rattle.wh_hopoly.specs.Scopes.{scope_of};

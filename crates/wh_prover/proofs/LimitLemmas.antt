@@ -13,8 +13,9 @@ use Rattle.wh_graph.specs.Components.{AreComponents}
 use Rattle.wh_subterm.specs.Projections.{Chosen}
 use Rattle.wh_subterm.specs.SubtermRows.{IsPlace, IsProjection, chosen, chosen_symbols}
 use Rattle.wh_subterm.specs.declared.projection.Choice.{Choice}
+use Rattle.wh_cert_parts.specs.TermLimits.{IsSmall}
 use Rattle.wh_cert.specs.Written as w
-use Rattle.wh_cert.specs.Limits.{IsSmall, ArgFits, NodeFits, NodeWithin}
+use Rattle.wh_cert.specs.Limits.{ArgFits, NodeFits, NodeWithin}
 use Rattle.wh_checker.specs.Looked.{SayChoices}
 use Rattle.wh_prover.proofs.SetLemmas.{all_numbers, all_from_members}
 use Rattle.wh_prover.proofs.CountLemmas.{Apart, apart_increasing, few_below, few_components}

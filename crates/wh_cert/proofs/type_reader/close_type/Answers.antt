@@ -1,7 +1,0 @@
-use Rattle.std.proofs.Common.{arith}
-use Rattle.wh_cert.proofs.TypeCode.{type_pop}
-use Rattle.wh_cert.proofs.type_reader.close_type.Goals as goal
-
-pub returns : goal.returns
-returns c =
-    type_pop c.args.stack.now.items c.pop.new.self.items c.pop.result c.args.stack.now.len (omega (arith, c.args.stack.now.ok.0)) c.pop.ensures.items c.pop.ensures.variant

@@ -1,0 +1,13 @@
+pub mod NamesAndNumbers
+pub mod TypeLaws
+pub mod PolyLaws
+pub mod PolyRuns
+pub mod PolyTextLengths
+pub mod TermSound
+pub mod TermComplete
+pub mod RawLaws
+pub mod TypeCode
+pub mod PolyCode
+pub mod TermCode
+pub mod PrintedLists
+pub mod PrintPolyCode

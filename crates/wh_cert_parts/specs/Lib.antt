@@ -1,0 +1,10 @@
+pub mod TermLimits
+pub mod PolyText
+pub mod PolyLimits
+pub mod PolyCounts
+pub mod TypeMachine
+pub mod TermMachine
+pub mod PolyMachine
+pub mod TypeViews
+pub mod PolyViews
+pub mod TermViews
