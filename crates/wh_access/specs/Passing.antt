@@ -32,7 +32,8 @@ Passing S rank rules = (r : RewriteRule) → Contains rules r → EachUsed (Pass
 -- the rule number i is the first with a meta-variable of its right side of which Q does not hold, and z is the least
 -- of these in it
 pub record IsFirstWithout (Q : Tm → ℕ → Type 0) (rules : List RewriteRule) (i z : ℕ) : Type 0 where
-  pub here : (r : RewriteRule) × (slice_get rules i ≡ Some r) × Occurs z r.right × (Q r.left z → ⊥) × ((y : ℕ) → y < z → Occurs y r.right → Q r.left y)
+  pub here : (r : RewriteRule) × (slice_get rules i ≡ Some r) × Occurs z r.right × (Q r.left z → ⊥)
+      × ((y : ℕ) → y < z → Occurs y r.right → Q r.left y)
   pub before : (j : ℕ) (r : RewriteRule) → j < i → slice_get rules j ≡ Some r → EachUsed Q r
 
 -- the first rule, and in it the least meta-variable, that breaks passing

@@ -43,7 +43,12 @@ lists = record { sorts = 2; funs = sort 1 ∷ ((sort 0 ⇒ (sort 1 ⇒ sort 1)) 
 
 -- {F} map (\x.F[x]) nil => nil
 abbrev pub map_nil : RewriteRule
-map_nil = record { metas = record { args = sort 0 ∷ []; out = sort 0 } ∷ []; left = app (app (fun 2) (lam (sort 0) (applied 0 (bound 0)))) (fun 0); right = fun 0 }
+map_nil = record {
+  metas = record { args = sort 0 ∷ []; out = sort 0 }
+      ∷ [];
+  left = app (app (fun 2) (lam (sort 0) (applied 0 (bound 0)))) (fun 0);
+  right = fun 0;
+}
 
 -- {F, X, Y} map (\x.F[x]) (cons X Y) => cons F[X] (map (\x.F[x]) Y)
 abbrev pub map_cons : RewriteRule

@@ -47,7 +47,8 @@ pub fn find_ranks(alloc: Global, system: &System) -> Result<Ranks, Or<NoRanks>>
 
 // What the rules of the system demand.
 fn demands_of(alloc: Global, system: &System) -> Result<Demands, Or<NoRanks>>
-    ensures { MatchOr result (λ demands. AllRead (system_data system.now).rules × HasDemands (system_data system.now) demands) (IsUnread (system_data system.now).rules) }
+    ensures { MatchOr result (λ demands. AllRead (system_data system.now).rules × HasDemands (system_data system.now) demands)
+        (IsUnread (system_data system.now).rules) }
 {
     system.is_well_made();
     let mut demands = Demands::new(alloc)?;

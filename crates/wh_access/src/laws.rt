@@ -8,5 +8,6 @@ ghost use Rattle.wh_access.specs.Passing.{Passing};
 
 /// Where demands lead round in a cycle with a strict one, rules are passing under no ranks.
 pub fn strict_cycles_forbid_ranks()
-    ensures { (S : Symbols) (rules : List RewriteRule) (rank : ℕ → ℕ) (sorts : List ℕ) → IsStrictCycle S rules sorts → Passing S rank rules → ⊥ }
+    ensures { (S : Symbols) (rules : List RewriteRule) (rank : ℕ → ℕ) (sorts : List ℕ) → IsStrictCycle S rules sorts
+        → Passing S rank rules → ⊥ }
 {}

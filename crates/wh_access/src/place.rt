@@ -24,7 +24,8 @@ pub struct Place {
 /// The place of what comes next after the spine, if a symbol heads it.
 pub fn place_after(spine: &Term) -> Option<Place>
     requires { nesting (tm spine.now) < 2 ^ 30 }
-    ensures { MatchOption result (symbol_of (head (tm spine.now)) ≡ None) (λ p. (symbol_of (head (tm spine.now)) ≡ Some p.symbol) × (p.index ≡ argument_count (tm spine.now))) }
+    ensures { MatchOption result (symbol_of (head (tm spine.now)) ≡ None)
+        (λ p. (symbol_of (head (tm spine.now)) ≡ Some p.symbol) × (p.index ≡ argument_count (tm spine.now))) }
 {
     let mut index = 0;
     let mut here = spine;

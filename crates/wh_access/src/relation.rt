@@ -31,7 +31,8 @@ impl Relation {
     pub fn insert(&mut self, from: u32, to: u32)
         requires from { from < 256 }
         requires to { to < 256 }
-        ensures { (s t : ℕ) → s < 256 → t < 256 → IsTrue (relates self.new s t) ↔ (IsTrue (relates self.old s t) ⊎ ((s ≡ from) × (t ≡ to))) }
+        ensures { (s t : ℕ) → s < 256 → t < 256 → IsTrue (relates self.new s t) ↔
+            (IsTrue (relates self.old s t) ⊎ ((s ≡ from) × (t ≡ to))) }
     {
         self.held[from as usize * SORTS + to as usize] = true;
     }

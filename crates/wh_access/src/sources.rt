@@ -91,7 +91,8 @@ pub fn way_from(alloc: Global, found: &[Source], start: usize) -> Result<Numbers
 pub fn strict_return(demands: &Demands, goal: u32, found: &[Source]) -> Option<usize>
     requires goal { goal < 256 }
     requires within { (k : _) → k < length found.now → sort_at found.now k < 256 }
-    ensures { MatchOption result ((k : _) → k < length found.now → LeadsStrictlyIn demands.now goal (sort_at found.now k) → ⊥) (λ k. (k < length found.now) × LeadsStrictlyIn demands.now goal (sort_at found.now k)) }
+    ensures { MatchOption result ((k : _) → k < length found.now → LeadsStrictlyIn demands.now goal (sort_at found.now k) → ⊥)
+        (λ k. (k < length found.now) × LeadsStrictlyIn demands.now goal (sort_at found.now k)) }
 {
     for (k, source) in found.iter().enumerate() {
         if demands.leads_strictly(goal, source.sort) {

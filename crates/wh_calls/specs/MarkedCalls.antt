@@ -27,7 +27,8 @@ pub record IsTypedCall (S : Symbols) (rules : List RewriteRule) (c : MarkedCall)
 
 -- each meta-variable that occurs in a side of the pair has a body of the type that it is declared with (ours)
 abbrev pub AreTypedBodies : Symbols → PairData → (ℕ → Body) → Type 0
-AreTypedBodies S p g = (z : ℕ) (d : Declared) → OccursIn z (tms_of (p.left ++ p.right)) → slice_get p.metas z ≡ Some d → FitsDeclared S [] [] d (g z)
+AreTypedBodies S p g = (z : ℕ) (d : Declared) → OccursIn z (tms_of (p.left ++ p.right)) → slice_get p.metas z ≡ Some d
+    → FitsDeclared S [] [] d (g z)
 
 -- the pair leads from c to d: these are the values of its sides under one meta-substitution, and the arguments of d end
 -- by the steps R (Fuhs and Kop 2019, the minimal chains)
@@ -50,7 +51,8 @@ abbrev pub SomePairStep : Symbols → (Tm → Tm → Type 0) → (PairData → T
 SomePairStep S R P c d = (p : PairData) × P p × PairStep S R p c d
 
 -- the call c leads to the call d, both typed, by a step in an argument or by a pair of which P holds
-pub record CallStep (S : Symbols) (rules : List RewriteRule) (R : Tm → Tm → Type 0) (P : PairData → Type 0) (c d : MarkedCall) : Type 0 where
+pub record CallStep (S : Symbols) (rules : List RewriteRule) (R : Tm → Tm → Type 0) (P : PairData → Type 0)
+    (c d : MarkedCall) : Type 0 where
   pub from_typed : IsTypedCall S rules c
   pub to_typed : IsTypedCall S rules d
   pub leads : ArgumentsStep R c d ⊎ SomePairStep S R P c d

@@ -19,5 +19,8 @@ ghost use Rattle.wh_calls.specs.Bodies.{IsComputableBody};
 /// arguments: then each meta-variable of the right side has a computable body (Fuhs and Kop 2019,
 /// accessible function passing).
 pub fn arguments_give_computable_bodies()
-    ensures { (d : SystemData) (ranks : List ℕ) (r : RewriteRule) (g : ℕ → Body) (f : ℕ) (ts : List Tm) (b : Ty) (cs : List Ty) (z : ℕ) (q : Declared) → IsWellMadeSystem d → IsPassing d ranks → Contains d.rules r → Value g r.left (spine (fun f) ts) → Typed d.symbols [] [] (spine (fun f) ts) b → ComputableList d.symbols (rank_of ranks) (Step d.rules) cs ts → Occurs z r.right → slice_get r.metas z ≡ Some q → IsComputableBody d.symbols (rank_of ranks) (Step d.rules) q (g z) }
+    ensures { (d : SystemData) (ranks : List ℕ) (r : RewriteRule) (g : ℕ → Body) (f : ℕ) (ts : List Tm) (b : Ty) (cs : List Ty) (z : ℕ)
+        (q : Declared) → IsWellMadeSystem d → IsPassing d ranks → Contains d.rules r → Value g r.left (spine (fun f) ts)
+        → Typed d.symbols [] [] (spine (fun f) ts) b → ComputableList d.symbols (rank_of ranks) (Step d.rules) cs ts → Occurs z r.right
+        → slice_get r.metas z ≡ Some q → IsComputableBody d.symbols (rank_of ranks) (Step d.rules) q (g z) }
 {}

@@ -20,11 +20,16 @@ ghost use Rattle.wh_calls.specs.Sides.{HasComputableBodies, IsComputableUnder, I
 /// Let the bodies of the meta-variables of a right side be computable, and the calls in it: then its value is
 /// computable (Fuhs and Kop 2019, from rules to the calls in their right sides).
 pub fn right_sides_are_computable()
-    ensures { (d : SystemData) (rank : ℕ → ℕ) (r : RewriteRule) (g : ℕ → Body) (a : Ty) (v : Tm) → IsWellMadeSystem d → Contains d.rules r → Typed d.symbols r.metas [] r.right a → HasComputableBodies d.symbols rank (Step d.rules) r g → ((c : Call) → Contains (calls_of d.rules r) c → IsComputableUnder d.symbols rank (Step d.rules) g c) → Value g r.right v → Computable d.symbols rank (Step d.rules) a v }
+    ensures { (d : SystemData) (rank : ℕ → ℕ) (r : RewriteRule) (g : ℕ → Body) (a : Ty) (v : Tm) → IsWellMadeSystem d
+        → Contains d.rules r → Typed d.symbols r.metas [] r.right a → HasComputableBodies d.symbols rank (Step d.rules) r g
+        → ((c : Call) → Contains (calls_of d.rules r) c → IsComputableUnder d.symbols rank (Step d.rules) g c) → Value g r.right v
+        → Computable d.symbols rank (Step d.rules) a v }
 {}
 
 /// Where a rule leads from one marked call to another by a call of its right side, one of the dependency pairs does
 /// (Kop 2012; Fuhs and Kop 2019; that it may be one that subsumes the call's own candidate is ours).
 pub fn calls_are_served_by_pairs()
-    ensures { (d : SystemData) (pairs : List PairData) (r : RewriteRule) (c : Call) (from to : MarkedCall) → IsWellMadeSystem d → ArePairs (candidates d.symbols d.rules) pairs → Contains d.rules r → Contains (calls_of d.rules r) c → IsLedByCall d.symbols r c from to → IsLedByPair d.symbols pairs from to }
+    ensures { (d : SystemData) (pairs : List PairData) (r : RewriteRule) (c : Call) (from to : MarkedCall) → IsWellMadeSystem d
+        → ArePairs (candidates d.symbols d.rules) pairs → Contains d.rules r → Contains (calls_of d.rules r) c
+        → IsLedByCall d.symbols r c from to → IsLedByPair d.symbols pairs from to }
 {}

@@ -57,7 +57,8 @@ abbrev pub NodeWithin : ℕ → Node → Type 0
 NodeWithin n (blocks parts) = All (λ block. length block ≤ n) parts
 NodeWithin n (subterm args drop) = (length args ≤ n) × (length drop ≤ n)
 NodeWithin n (interpretations funs marks rules pairs drop) =
-    (length funs ≤ n) × (length marks ≤ n) × All (λ moves. length moves ≤ n) rules × (length rules ≤ n) × All (λ moves. length moves ≤ n) pairs × (length pairs ≤ n) × (length drop ≤ n)
+    (length funs ≤ n) × (length marks ≤ n) × All (λ moves. length moves ≤ n) rules × (length rules ≤ n)
+    × All (λ moves. length moves ≤ n) pairs × (length pairs ≤ n) × (length drop ≤ n)
 NodeWithin n _ = Unit {0}
 
 -- there are fewer than n nodes, fewer than n steps, and at most n entries in each other list

@@ -93,7 +93,9 @@ put_node alone r = codes "alone" ++ (10 ∷ r)
 put_node (blocks parts) r = codes "blocks " ++ (decimal (length parts) ++ (10 ∷ put_blocks parts r))
 put_node (subterm args drop) r = codes "subterm" ++ (10 ∷ put_args args (codes "drop" ++ put_line drop r))
 put_node (interpretations funs marks rules pairs drop) r =
-    codes "poly" ++ (10 ∷ put_interps (codes "fun ") funs (put_interps (codes "mark ") marks (put_covers (codes "rule") rules (put_covers (codes "pair") pairs (codes "drop" ++ put_line drop r)))))
+    codes "poly" ++ (10 ∷ put_interps (codes "fun ") funs
+    (put_interps (codes "mark ") marks (put_covers (codes "rule") rules
+    (put_covers (codes "pair") pairs (codes "drop" ++ put_line drop r)))))
 
 abbrev pub put_nodes : List Node → List ℕ → List ℕ
 put_nodes [] r = r
@@ -102,6 +104,8 @@ put_nodes (x ∷ xs) r = put_node x (put_nodes xs r)
 -- the text of a certificate, line by line
 abbrev pub text : Cert → List ℕ
 text (yes version ranks pairs nodes) =
-    codes "YES " ++ (decimal version ++ (10 ∷ (codes "ranks" ++ put_line ranks (codes "pairs " ++ (decimal pairs ++ (10 ∷ put_nodes nodes (codes "end" ++ (10 ∷ []))))))))
+    codes "YES " ++ (decimal version ++ (10 ∷ (codes "ranks" ++ put_line ranks
+    (codes "pairs " ++ (decimal pairs ++ (10 ∷ put_nodes nodes (codes "end" ++ (10 ∷ []))))))))
 text (no t steps at puts) =
-    codes "NO 1" ++ (10 ∷ (codes "term " ++ put_term t (10 ∷ put_steps steps (codes "at /" ++ put_path at (10 ∷ put_puts puts (codes "end" ++ (10 ∷ [])))))))
+    codes "NO 1" ++ (10 ∷ (codes "term " ++ put_term t
+    (10 ∷ put_steps steps (codes "at /" ++ put_path at (10 ∷ put_puts puts (codes "end" ++ (10 ∷ [])))))))

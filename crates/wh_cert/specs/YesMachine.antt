@@ -157,7 +157,8 @@ letter_step args b = cond (is_start b) (on (letters args (b ∷ []))) refused
 -- in a name
 abbrev pub letters_step : List Arg → List ℕ → ℕ → LineStep
 letters_step args xs b =
-    cond (is_part b && nat_lt (length xs) 64) (on (letters args (xs ++ b ∷ []))) (cond (b == 32) (on (number_wanted (of_place args xs))) refused)
+    cond (is_part b && nat_lt (length xs) 64) (on (letters args (xs ++ b ∷ [])))
+    (cond (b == 32) (on (number_wanted (of_place args xs))) refused)
 
 -- behind all lines of a node of interpretations but that of `drop`
 abbrev pub dropped : Lines → Listed

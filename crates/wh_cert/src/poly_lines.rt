@@ -337,7 +337,8 @@ impl PolyLines {
     /// A polynomial has ended before the byte, which ends its line.
     #[tactic(auto, using(crate::proofs::PolyLinesCode::interps_grow))]
     fn end_interp(&mut self, alloc: Global, part: Poly, byte: u8) -> Result<LinesStep, AllocError>
-        ensures { IfOk result (λ went. lines_went went self.new ≡ poly_led (lines_of self.old) self.old.name (poly_ended (poly part) byte)) }
+        ensures { IfOk result (λ went. lines_went went self.new ≡ poly_led (lines_of self.old) self.old.name
+            (poly_ended (poly part) byte)) }
     {
         if byte != b'\n' {
             return Ok(LinesStep::Wrong);
@@ -442,7 +443,8 @@ impl PolyLines {
 
     /// The first digit of an amount.
     fn begin_amount(&mut self, byte: u8) -> LinesStep
-        ensures { lines_went result self.new ≡ lines_step (lines_of self.old) (amount_wanted self.old.moves self.old.from self.old.to) byte }
+        ensures { lines_went result self.new ≡ lines_step (lines_of self.old) (amount_wanted self.old.moves self.old.from self.old.to)
+            byte }
     {
         match first_big(byte) {
             Some(number) => {

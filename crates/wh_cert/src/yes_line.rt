@@ -286,7 +286,8 @@ impl YesLine {
 
     /// The lines of a node of interpretations go on with the byte.
     fn step_lines(&mut self, alloc: Global, byte: u8) -> Result<YesStep, AllocError>
-        ensures { IfOk result (λ went. yes_went went self.new ≡ lines_led (lines_step (lines_of self.old.lines.value) (lines_place self.old.lines.value) byte)) }
+        ensures { IfOk result (λ went. yes_went went self.new ≡ lines_led
+            (lines_step (lines_of self.old.lines.value) (lines_place self.old.lines.value) byte)) }
     {
         match self.lines.step(alloc, byte)? {
             LinesStep::On => self.place = YesPlace::Lines,

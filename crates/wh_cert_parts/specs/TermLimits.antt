@@ -40,7 +40,8 @@ abbrev mutual
   TermFits k (meta z ts at) = ⊥
   TermFits k (lam (named_binder x) a t at) = ⊥
   TermFits k (lam (numbered_binder n) a t at) = (k < 200) × (n ≤ 65535) × TypeFits 0 a × TermFits (suc k) t × (at ≡ 0)
-  TermFits k (spine h ts at) = (k < 200) × IsHead h × TermFits (suc k) h × (0 < term_count ts) × (term_count ts ≤ 32) × TermsFit (suc k) ts × (at ≡ 0)
+  TermFits k (spine h ts at) = (k < 200) × IsHead h × TermFits (suc k) h × (0 < term_count ts) × (term_count ts ≤ 32)
+      × TermsFit (suc k) ts × (at ≡ 0)
 
   pub TermsFit : ℕ → RTms → Type 0
   TermsFit k none = Unit {0}

@@ -56,7 +56,8 @@ abbrev pub after : Stack → RTm → ℕ → State
 after base t b = cond (b == 10) (whole t) failed
 after (in_head fs) t b = cond (b == 32) (at (in_spine t none fs) wanted) failed
 after (in_spine h ts fs) t b =
-    cond (b == 41) (at fs (closed (spine h (add_term ts t) 0))) (cond ((b == 32) && nat_lt (suc (term_count ts)) 32) (at (in_spine h (add_term ts t) fs) wanted) failed)
+    cond (b == 41) (at fs (closed (spine h (add_term ts t) 0)))
+    (cond ((b == 32) && nat_lt (suc (term_count ts)) 32) (at (in_spine h (add_term ts t) fs) wanted) failed)
 after (in_body n a fs) t b = cond (b == 41) (at fs (closed (lam (numbered_binder n) a t 0))) failed
 
 -- the byte begins a name, a bound or a free variable, or does what is said
@@ -78,7 +79,8 @@ typed fs of no_type = failed
 abbrev pub step : Stack → Place → ℕ → State
 step fs wanted b = begin fs b (cond ((b == 40) && nat_lt (level fs) 200) (at fs opened) failed)
 step fs opened b =
-    begin (in_head fs) b (cond (b == 92) (at fs slash) (cond ((b == 40) && nat_lt (suc (level fs)) 200) (at (in_head fs) head_opened) failed))
+    begin (in_head fs) b (cond (b == 92) (at fs slash)
+    (cond ((b == 40) && nat_lt (suc (level fs)) 200) (at (in_head fs) head_opened) failed))
 step fs head_opened b = cond (b == 92) (at fs slash) failed
 step fs (letters xs) b =
     cond (is_part b && nat_lt (length xs) 64) (at fs (letters (xs ++ b ∷ []))) (after fs (named xs 0) b)
@@ -90,7 +92,8 @@ step fs (bound_number n) b =
 step fs (free_number n) b =
     cond (goes_on n b) (at fs (free_number (10 * n + (b - 48)))) (cond (b == 58) (at fs (typing (of_free n) outside type_wanted)) failed)
 step fs (binder_number n) b =
-    cond (goes_on n b) (at fs (binder_number (10 * n + (b - 48)))) (cond (b == 58) (at fs (typing (of_binder n) outside type_wanted)) failed)
+    cond (goes_on n b) (at fs (binder_number (10 * n + (b - 48))))
+    (cond (b == 58) (at fs (typing (of_binder n) outside type_wanted)) failed)
 step fs slash b = cond (b == 36) (at fs binder) failed
 step fs (typing of tfs tk) b = typed fs of (type_step tfs tk b)
 step fs (closed t) b = after fs t b

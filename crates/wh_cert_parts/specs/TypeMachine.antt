@@ -45,11 +45,13 @@ add_type (more_types a rest) b = more_types a (add_type rest b)
 abbrev pub name_ended : TypeStack → List ℕ → ℕ → TypeStep
 name_ended outside xs b = type_ended (raw_type no_types xs 0) b
 name_ended (inside args fs) xs b =
-    cond ((b == 45) && nat_lt (type_count args) 64) (goes (inside args fs) (dash (raw_type no_types xs 0))) (cond ((b == 41) && has_types args) (goes fs (closed_type (raw_type args xs 0))) no_type)
+    cond ((b == 45) && nat_lt (type_count args) 64) (goes (inside args fs) (dash (raw_type no_types xs 0)))
+    (cond ((b == 41) && has_types args) (goes fs (closed_type (raw_type args xs 0))) no_type)
 
 abbrev pub type_step : TypeStack → TypePlace → ℕ → TypeStep
 type_step fs type_wanted b =
-    cond (is_start b) (goes fs (sort_name (b ∷ []))) (cond ((b == 40) && (nat_lt (type_level fs) 18 && has_room fs)) (goes (inside no_types fs) type_wanted) no_type)
+    cond (is_start b) (goes fs (sort_name (b ∷ []))) (cond ((b == 40) && (nat_lt (type_level fs) 18 && has_room fs))
+    (goes (inside no_types fs) type_wanted) no_type)
 type_step fs (sort_name xs) b =
     cond (is_part b && nat_lt (length xs) 64) (goes fs (sort_name (xs ++ b ∷ []))) (name_ended fs xs b)
 type_step (inside args fs) (dash a) b = cond (b == 62) (goes (inside (add_type args a) fs) type_wanted) no_type

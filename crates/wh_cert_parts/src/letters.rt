@@ -119,7 +119,8 @@ pub fn first_big(byte: u8) -> Option<u128>
 
 /// The number with one more digit, if the byte is one and the number stays below 2^128.
 pub fn next_big(number: u128, byte: u8) -> Option<u128>
-    ensures { MatchOption result (goes_on_big number byte ≡ false) (λ n. (goes_on_big number byte ≡ true) × (n ≡ 10 * number + (byte - 48))) }
+    ensures { MatchOption result (goes_on_big number byte ≡ false)
+        (λ n. (goes_on_big number byte ≡ true) × (n ≡ 10 * number + (byte - 48))) }
 {
     if !byte.is_ascii_digit() {
         return None;

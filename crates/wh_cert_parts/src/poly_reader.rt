@@ -195,7 +195,8 @@ impl PolyText {
 
     /// The step from a place in a polynomial.
     pub fn step(&mut self, alloc: Global, byte: u8) -> Result<PolyStep, AllocError>
-        ensures { IfOk result (λ went. poly_went self.new byte went ≡ poly_step (poly_stack self.old.stack.items) (poly_place self.old) byte) }
+        ensures { IfOk result (λ went. poly_went self.new byte went ≡ poly_step (poly_stack self.old.stack.items) (poly_place self.old)
+            byte) }
     {
         match self.place {
             PolyPlace::Wanted => self.begin(alloc, byte),

@@ -331,7 +331,8 @@ fn end_type(
     kind: RawType,
     byte: u8,
 ) -> Result<TermStep, AllocError>
-    ensures { IfOk result (λ next. term_went stack.new.items next ≡ typed (term_stack stack.old.items) (typed_of of) (type_ended (rty kind) byte)) }
+    ensures { IfOk result (λ next. term_went stack.new.items next ≡ typed (term_stack stack.old.items) (typed_of of)
+        (type_ended (rty kind) byte)) }
 {
     match of {
         Typed::Variable(number) => end_term(alloc, stack, RawTerm::Free(number, kind, 0), byte),
@@ -418,7 +419,8 @@ fn end_body(
     term: RawTerm,
     byte: u8,
 ) -> Result<TermStep, AllocError>
-    ensures { IfOk result (λ next. (fs : List Frame) → term_went fs next ≡ after (in_body number (rty kind) (term_stack fs)) (rtm term) byte) }
+    ensures { IfOk result (λ next. (fs : List Frame) → term_went fs next ≡ after (in_body number (rty kind) (term_stack fs)) (rtm term)
+        byte) }
 {
     if byte != b')' {
         return Ok(TermStep::Wrong);

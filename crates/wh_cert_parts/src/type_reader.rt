@@ -193,7 +193,8 @@ fn end_arrow(stack: &mut Vec<RawTypes>, part: RawType, byte: u8) -> Result<TypeS
 
 /// A type that ended with `)` is the whole, or the byte begins an arrow behind it.
 fn begin_arrow(stack: &mut Vec<RawTypes>, part: RawType, byte: u8) -> Result<TypeStep, AllocError>
-    ensures { IfOk result (λ step. type_went stack.new.items byte step ≡ type_step (type_stack stack.old.items) (closed_type (rty part)) byte) }
+    ensures { IfOk result (λ step. type_went stack.new.items byte step ≡ type_step (type_stack stack.old.items) (closed_type (rty part))
+        byte) }
 {
     match close_type(stack) {
         None => Ok(TypeStep::Ended(part)),

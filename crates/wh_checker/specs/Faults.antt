@@ -67,7 +67,8 @@ IsNodeFault limits d ps set _ _ = ⊥
 
 -- of the nodes that these lines say, in preorder, the one with that number, counted from the number of the first, is the first
 -- with something wrong, and this is what is wrong first with it; the sets are those still to be proved (ours)
-pub data IsFirstNodeFault (limits : Limits) (d : SystemData) (ps : List PairData) : ℕ → List (List ℕ) → List w.Node → ℕ → NodeFault → Type 0 where
+pub data IsFirstNodeFault (limits : Limits) (d : SystemData) (ps : List PairData) : ℕ → List (List ℕ) → List w.Node → ℕ → NodeFault
+    → Type 0 where
   at_first : {k : ℕ} {set : List ℕ} {sets : List (List ℕ)} {line : w.Node} {lines : List w.Node} {f : NodeFault}
       → IsNodeFault limits d ps set line f → IsFirstNodeFault limits d ps k (set ∷ sets) (line ∷ lines) k f
   behind_first : {k m : ℕ} {set : List ℕ} {left sets : List (List ℕ)} {line : w.Node} {node : Node} {lines : List w.Node} {f : NodeFault}
@@ -132,7 +133,8 @@ of_claim refuted.NoInstance = row.NoInstance
 
 -- the first false condition of a YES certificate: its ranks are not as many as the sorts; the system is not passing under
 -- them; the count of the pairs is wrong; then its nodes in preorder (ours)
-pub data IsFirstYesFault (limits : Limits) (d : SystemData) (ps : List PairData) (ranks : List ℕ) (pairs : ℕ) (lines : List w.Node) : CheckFault → Type 0 where
+pub data IsFirstYesFault (limits : Limits) (d : SystemData) (ps : List PairData) (ranks : List ℕ) (pairs : ℕ)
+    (lines : List w.Node) : CheckFault → Type 0 where
   rank_count : length ranks ≢ d.symbols.sorts → IsFirstYesFault limits d ps ranks pairs lines (check.Rejected row.RankCount)
   inaccessible : {r z : ℕ} → length ranks ≡ d.symbols.sorts → IsFirstBreakIn d ranks r z
       → IsFirstYesFault limits d ps ranks pairs lines (check.Rejected (row.Inaccessible r z))
@@ -144,7 +146,8 @@ pub data IsFirstYesFault (limits : Limits) (d : SystemData) (ps : List PairData)
 -- the first false condition of a certificate; with limits, also the first node in which a value exceeds one before that
 abbrev pub IsFirstFault : Limits → SystemData → List PairData → Cert → CheckFault → Type 0
 IsFirstFault limits d ps (yes version ranks pairs lines) f = IsFirstYesFault limits d ps ranks pairs lines f
-IsFirstFault limits d ps (no t steps at puts) r = (f : NoFault) × (r ≡ check.Rejected (of_claim f)) × claims.IsFirstFault d (no t steps at puts) f
+IsFirstFault limits d ps (no t steps at puts) r = (f : NoFault) × (r ≡ check.Rejected (of_claim f))
+    × claims.IsFirstFault d (no t steps at puts) f
 
 -- two faults are one, but that values may exceed both limits in one node (ours)
 abbrev pub AreAlike : CheckFault → CheckFault → Type 0

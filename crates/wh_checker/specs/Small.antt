@@ -20,7 +20,8 @@ IsSmallNode _ S rules pairs set _ = Unit {0}
 pub data AreSmall (S : Symbols) (rules : List RewriteRule) (pairs : List PairData) : List (List ℕ) → List Node → Type 0 where
   all_small : AreSmall S rules pairs [] []
   one_small : {set : List ℕ} {left sets : List (List ℕ)} {node : Node} {nodes : List Node} → Leaves S rules pairs set node left
-      → IsSmallNode with_limits S rules pairs set node → AreSmall S rules pairs (left ++ sets) nodes → AreSmall S rules pairs (set ∷ sets) (node ∷ nodes)
+      → IsSmallNode with_limits S rules pairs set node → AreSmall S rules pairs (left ++ sets) nodes
+      → AreSmall S rules pairs (set ∷ sets) (node ∷ nodes)
 
 -- the nodes of a YES certificate are small (ours)
 pub record IsSmallYes (d : SystemData) (ps : List PairData) (lines : List w.Node) : Type 0 where

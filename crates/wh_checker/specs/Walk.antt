@@ -49,15 +49,18 @@ pub record GoesOn (d : SystemData) (ps : List PairData) (set : List ℕ) (line :
 
 -- the lines say nodes that prove the sets, and each is small
 abbrev pub AreProvedBy : SystemData → List PairData → List (List ℕ) → List w.Node → Type 0
-AreProvedBy d ps sets lines = (nodes : List Node) × SayNodes d lines nodes × Proves d.symbols d.rules ps sets nodes × AreSmall d.symbols d.rules ps sets nodes
+AreProvedBy d ps sets lines = (nodes : List Node) × SayNodes d lines nodes × Proves d.symbols d.rules ps sets nodes
+    × AreSmall d.symbols d.rules ps sets nodes
 
 -- a walk over all the lines, which began with one set, has come to the line number k: these sets are open and these lines are
 -- left
-pub record HasCome (d : SystemData) (ps : List PairData) (set : List ℕ) (lines : List w.Node) (k : ℕ) (sets : List (List ℕ)) (left : List w.Node) : Type 0 where
+pub record HasCome (d : SystemData) (ps : List PairData) (set : List ℕ) (lines : List w.Node) (k : ℕ) (sets : List (List ℕ))
+    (left : List w.Node) : Type 0 where
   pub within : All (All (λ n. n < length ps)) sets
   -- each set has a node
   pub counted : Preorder (length sets) left
   -- where the rest is proved, so is the whole
   pub proved : AreProvedBy d ps sets left → AreProvedBy d ps (set ∷ []) lines
   -- the first fault of the rest is that of the whole
-  pub first : (m : ℕ) (f : NodeFault) → IsFirstNodeFault with_limits d ps k sets left m f → IsFirstNodeFault with_limits d ps 0 (set ∷ []) lines m f
+  pub first : (m : ℕ) (f : NodeFault) → IsFirstNodeFault with_limits d ps k sets left m f
+      → IsFirstNodeFault with_limits d ps 0 (set ∷ []) lines m f

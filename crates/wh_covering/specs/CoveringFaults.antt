@@ -67,16 +67,20 @@ IsDropped drop n true = Contains drop n
 IsDropped drop n false = Contains drop n → ⊥
 
 -- nothing is wrong with the line of the pair at this place of the set
-abbrev pub IsRightPair : Limits → Symbols → List RewriteRule → List PairData → List ℕ → List Interpretation → List Mark → List (List Transfer) → List ℕ → ℕ → Type 0
+abbrev pub IsRightPair : Limits → Symbols → List RewriteRule → List PairData → List ℕ → List Interpretation → List Mark
+    → List (List Transfer) → List ℕ → ℕ → Type 0
 IsRightPair limits S rules pairs set symbols marks lines drop i =
-    (n : ℕ) (p : PairData) (ms : List Transfer) (strict : Bool) → slice_get set i ≡ Some n → slice_get pairs n ≡ Some p → slice_get lines i ≡ Some ms
+    (n : ℕ) (p : PairData) (ms : List Transfer) (strict : Bool) → slice_get set i ≡ Some n → slice_get pairs n ≡ Some p
+    → slice_get lines i ≡ Some ms
     → IsDropped drop n strict
     → IsRightLine limits (pair_run S rules symbols marks p false) (pair_run S rules symbols marks p true) strict ms
 
 -- this is wrong first with the line of the pair number n, which stands at this place of the set
-abbrev pub IsPairFault : Limits → Symbols → List RewriteRule → List PairData → List ℕ → List Interpretation → List Mark → List (List Transfer) → List ℕ → ℕ → ℕ → LineFault → Type 0
+abbrev pub IsPairFault : Limits → Symbols → List RewriteRule → List PairData → List ℕ → List Interpretation → List Mark
+    → List (List Transfer) → List ℕ → ℕ → ℕ → LineFault → Type 0
 IsPairFault limits S rules pairs set symbols marks lines drop i n f =
-    (p : PairData) × (ms : List Transfer) × (strict : Bool) × (slice_get set i ≡ Some n) × (slice_get pairs n ≡ Some p) × (slice_get lines i ≡ Some ms)
+    (p : PairData) × (ms : List Transfer) × (strict : Bool) × (slice_get set i ≡ Some n) × (slice_get pairs n ≡ Some p)
+    × (slice_get lines i ≡ Some ms)
     × IsDropped drop n strict
     × IsFirstLineFault limits (pair_run S rules symbols marks p false) (pair_run S rules symbols marks p true) strict ms f
 
@@ -107,7 +111,8 @@ pub record IsReady (S : Symbols) (rules : List RewriteRule) (set : List ℕ) (sy
 
 -- the first thing wrong: an interpretation, the numbers of lines, the list of dropped pairs, the rules in order, the pairs of the set
 -- in order, each line with all its tests before the next (ours)
-abbrev pub IsFirstCoveringFault : Limits → Symbols → List RewriteRule → List PairData → List ℕ → List Interpretation → List Mark → List (List Transfer) → List (List Transfer) → List ℕ → CoveringFault → Type 0
+abbrev pub IsFirstCoveringFault : Limits → Symbols → List RewriteRule → List PairData → List ℕ → List Interpretation → List Mark
+    → List (List Transfer) → List (List Transfer) → List ℕ → CoveringFault → Type 0
 IsFirstCoveringFault limits S rules pairs set symbols marks rule_lines pair_lines drop (BadPolynomial f false) = IsFirstNotNormal symbols f
 IsFirstCoveringFault limits S rules pairs set symbols marks rule_lines pair_lines drop (BadPolynomial f true) =
     NormalInterpretations symbols × IsFirstNotNormalMark S rules marks f

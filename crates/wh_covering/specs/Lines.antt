@@ -54,7 +54,8 @@ IsFirstRuleFault rules symbols lines (Rule r f) =
 IsFirstRuleFault rules symbols lines _ = ⊥
 
 -- the fault is the first one of the pairs of the set in order (ours)
-abbrev pub IsFirstPairFault : Symbols → List RewriteRule → List PairData → List ℕ → List Interpretation → List Mark → List (List Transfer) → List ℕ → CoveringFault → Type 0
+abbrev pub IsFirstPairFault : Symbols → List RewriteRule → List PairData → List ℕ → List Interpretation → List Mark
+    → List (List Transfer) → List ℕ → CoveringFault → Type 0
 IsFirstPairFault S rules pairs set symbols marks lines drop (Pair n f) =
     (i : ℕ) × ((k : ℕ) → k < i → IsRightPair with_limits S rules pairs set symbols marks lines drop k)
     × IsPairFault with_limits S rules pairs set symbols marks lines drop i n f

@@ -52,9 +52,14 @@ pub fn check_covering(
     requires set { All (λ n. n < length pairs.now) set.now }
     requires kinds { map (λ s. ty s.kind) symbols.now ≡ (system_data system.now).symbols.funs }
     requires marked { AreMarked (map pair_data pairs.now) set.now (map (λ m. m.symbol) marks.now) }
-    ensures covering { OnOk result (IsCovering (system_data system.now).symbols (system_data system.now).rules (map pair_data pairs.now) set.now (interpretations symbols.now) (marks_of marks.now) (map transfers rule_lines.now) (map transfers pair_lines.now) drop.now) }
-    ensures small { OnOk result (IsSmall (system_data system.now).symbols (system_data system.now).rules (map pair_data pairs.now) set.now (interpretations symbols.now) (marks_of marks.now)) }
-    ensures fault { IfBecause result (IsFirstCoveringFault with_limits (system_data system.now).symbols (system_data system.now).rules (map pair_data pairs.now) set.now (interpretations symbols.now) (marks_of marks.now) (map transfers rule_lines.now) (map transfers pair_lines.now) drop.now) }
+    ensures covering { OnOk result (IsCovering (system_data system.now).symbols (system_data system.now).rules (map pair_data pairs.now)
+        set.now (interpretations symbols.now) (marks_of marks.now) (map transfers rule_lines.now) (map transfers pair_lines.now)
+        drop.now) }
+    ensures small { OnOk result (IsSmall (system_data system.now).symbols (system_data system.now).rules (map pair_data pairs.now)
+        set.now (interpretations symbols.now) (marks_of marks.now)) }
+    ensures fault { IfBecause result (IsFirstCoveringFault with_limits (system_data system.now).symbols (system_data system.now).rules
+        (map pair_data pairs.now) set.now (interpretations symbols.now) (marks_of marks.now) (map transfers rule_lines.now)
+        (map transfers pair_lines.now) drop.now) }
 {
     let (pairs, set) = (pairs.as_slice(), set.as_slice());
     let (rule_lines, pair_lines) = (rule_lines.as_slice(), pair_lines.as_slice());
@@ -81,7 +86,11 @@ fn check_ready(
 ) -> Result<(), Or<CoveringFault>>
     requires few { length symbols.now ≤ 2 ^ 32 }
     requires increasing { IsIncreasing set.now }
-    ensures { (pairs : List PairData) → MatchOr result (λ _. IsReady (system_data system.now).symbols (system_data system.now).rules set.now (interpretations symbols.now) (marks_of marks.now) (map transfers rule_lines.now) (map transfers pair_lines.now) drop.now) (IsFirstCoveringFault with_limits (system_data system.now).symbols (system_data system.now).rules pairs set.now (interpretations symbols.now) (marks_of marks.now) (map transfers rule_lines.now) (map transfers pair_lines.now) drop.now) }
+    ensures { (pairs : List PairData) → MatchOr result
+        (λ _. IsReady (system_data system.now).symbols (system_data system.now).rules set.now (interpretations symbols.now)
+        (marks_of marks.now) (map transfers rule_lines.now) (map transfers pair_lines.now) drop.now)
+        (IsFirstCoveringFault with_limits (system_data system.now).symbols (system_data system.now).rules pairs set.now
+        (interpretations symbols.now) (marks_of marks.now) (map transfers rule_lines.now) (map transfers pair_lines.now) drop.now) }
 {
     if let Some(symbol) = first_not_normal(alloc, symbols)? {
         return Err(Or::Because(CoveringFault::BadPolynomial {
@@ -117,12 +126,18 @@ fn check_lines(
     drop: &[u32],
 ) -> Result<(), Or<CoveringFault>>
     requires interpreted { Interprets (system_data system.now).symbols (interpretations symbols.now) }
-    requires ready { IsReady (system_data system.now).symbols (system_data system.now).rules set.now (interpretations symbols.now) (marks_of marks.now) (map transfers rule_lines.now) (map transfers pair_lines.now) drop.now }
+    requires ready { IsReady (system_data system.now).symbols (system_data system.now).rules set.now (interpretations symbols.now)
+        (marks_of marks.now) (map transfers rule_lines.now) (map transfers pair_lines.now) drop.now }
     requires set { All (λ n. n < length pairs.now) set.now }
-    requires sides { (n : ℕ) (p : PairData) → Contains set.now n → slice_get (map pair_data pairs.now) n ≡ Some p → HasMarkedSides (system_data system.now).symbols (system_data system.now).rules (marks_of marks.now) p }
-    ensures rules { OnOk result ((k : ℕ) → IsRightRule with_limits (system_data system.now).rules (interpretations symbols.now) (map transfers rule_lines.now) k) }
-    ensures pairs { OnOk result ((k : ℕ) → IsRightPair with_limits (system_data system.now).symbols (system_data system.now).rules (map pair_data pairs.now) set.now (interpretations symbols.now) (marks_of marks.now) (map transfers pair_lines.now) drop.now k) }
-    ensures fault { IfBecause result (IsFirstCoveringFault with_limits (system_data system.now).symbols (system_data system.now).rules (map pair_data pairs.now) set.now (interpretations symbols.now) (marks_of marks.now) (map transfers rule_lines.now) (map transfers pair_lines.now) drop.now) }
+    requires sides { (n : ℕ) (p : PairData) → Contains set.now n → slice_get (map pair_data pairs.now) n ≡ Some p
+        → HasMarkedSides (system_data system.now).symbols (system_data system.now).rules (marks_of marks.now) p }
+    ensures rules { OnOk result ((k : ℕ) → IsRightRule with_limits (system_data system.now).rules (interpretations symbols.now)
+        (map transfers rule_lines.now) k) }
+    ensures pairs { OnOk result ((k : ℕ) → IsRightPair with_limits (system_data system.now).symbols (system_data system.now).rules
+        (map pair_data pairs.now) set.now (interpretations symbols.now) (marks_of marks.now) (map transfers pair_lines.now) drop.now k) }
+    ensures fault { IfBecause result (IsFirstCoveringFault with_limits (system_data system.now).symbols (system_data system.now).rules
+        (map pair_data pairs.now) set.now (interpretations symbols.now) (marks_of marks.now) (map transfers rule_lines.now)
+        (map transfers pair_lines.now) drop.now) }
 {
     check_rules(alloc, system, symbols, rule_lines)?;
     let dropped = sorted(alloc, drop)?;

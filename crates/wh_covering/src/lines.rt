@@ -34,7 +34,9 @@ pub fn check_rule(
     requires interpreted { Interprets (system_data system.now).symbols (interpretations symbols.now) }
     requires normal { NormalInterpretations (interpretations symbols.now) }
     requires rule { rule < length (system_data system.now).rules }
-    ensures { (r : RewriteRule) → slice_get (system_data system.now).rules rule ≡ Some r → IsAnswerOf (rule_run (interpretations symbols.now) r false) (rule_run (interpretations symbols.now) r true) false (transfers moves.now) result }
+    ensures { (r : RewriteRule) → slice_get (system_data system.now).rules rule ≡ Some r
+        → IsAnswerOf (rule_run (interpretations symbols.now) r false) (rule_run (interpretations symbols.now) r true) false
+        (transfers moves.now) result }
 {
     let left = rule_side(alloc, system, symbols, rule, false)?;
     let right = rule_side(alloc, system, symbols, rule, true)?;
@@ -52,7 +54,9 @@ fn rule_side(
     requires interpreted { Interprets (system_data system.now).symbols (interpretations symbols.now) }
     requires normal { NormalInterpretations (interpretations symbols.now) }
     requires rule { rule < length (system_data system.now).rules }
-    ensures { (r : RewriteRule) → slice_get (system_data system.now).rules rule ≡ Some r → MatchOr result (λ p. IsSide (rule_run (interpretations symbols.now) r right) (poly p)) (IsExcessOf (rule_run (interpretations symbols.now) r right)) }
+    ensures { (r : RewriteRule) → slice_get (system_data system.now).rules rule ≡ Some r
+        → MatchOr result (λ p. IsSide (rule_run (interpretations symbols.now) r right) (poly p))
+        (IsExcessOf (rule_run (interpretations symbols.now) r right)) }
 {
     match side_of_rule(alloc, system, symbols, rule, right) {
         Ok(side) => Ok(side),
@@ -74,8 +78,11 @@ pub fn check_pair(
     requires interpreted { Interprets (system_data system.now).symbols (interpretations symbols.now) }
     requires normal { NormalInterpretations (interpretations symbols.now) }
     requires marks { AreNormalMarks (system_data system.now).symbols (system_data system.now).rules (marks_of marks.now) }
-    requires sides { HasMarkedSides (system_data system.now).symbols (system_data system.now).rules (marks_of marks.now) (pair_data pair.now) }
-    ensures { IsAnswerOf (pair_run (system_data system.now).symbols (system_data system.now).rules (interpretations symbols.now) (marks_of marks.now) (pair_data pair.now) false) (pair_run (system_data system.now).symbols (system_data system.now).rules (interpretations symbols.now) (marks_of marks.now) (pair_data pair.now) true) strict (transfers moves.now) result }
+    requires sides { HasMarkedSides (system_data system.now).symbols (system_data system.now).rules (marks_of marks.now)
+        (pair_data pair.now) }
+    ensures { IsAnswerOf (pair_run (system_data system.now).symbols (system_data system.now).rules (interpretations symbols.now)
+        (marks_of marks.now) (pair_data pair.now) false) (pair_run (system_data system.now).symbols (system_data system.now).rules
+        (interpretations symbols.now) (marks_of marks.now) (pair_data pair.now) true) strict (transfers moves.now) result }
 {
     let left = pair_side(alloc, system, symbols, marks, pair, false)?;
     let right = pair_side(alloc, system, symbols, marks, pair, true)?;
@@ -94,8 +101,10 @@ fn pair_side(
     requires interpreted { Interprets (system_data system.now).symbols (interpretations symbols.now) }
     requires normal { NormalInterpretations (interpretations symbols.now) }
     requires marks { AreNormalMarks (system_data system.now).symbols (system_data system.now).rules (marks_of marks.now) }
-    requires sides { HasMarkedSides (system_data system.now).symbols (system_data system.now).rules (marks_of marks.now) (pair_data pair.now) }
-    ensures { let run = pair_run (system_data system.now).symbols (system_data system.now).rules (interpretations symbols.now) (marks_of marks.now) (pair_data pair.now) right in MatchOr result (λ p. IsSide run (poly p)) (IsExcessOf run) }
+    requires sides { HasMarkedSides (system_data system.now).symbols (system_data system.now).rules (marks_of marks.now)
+        (pair_data pair.now) }
+    ensures { let run = pair_run (system_data system.now).symbols (system_data system.now).rules (interpretations symbols.now)
+        (marks_of marks.now) (pair_data pair.now) right in MatchOr result (λ p. IsSide run (poly p)) (IsExcessOf run) }
 {
     match side_of_pair(alloc, system, symbols, marks, pair, right) {
         Ok(side) => Ok(side),
@@ -119,7 +128,8 @@ fn limit_of(fault: &PolyFault) -> Excess
 fn check_line(left: &Poly, right: &Poly, strict: bool, moves: &Moves) -> Result<(), Or<LineFault>>
     requires left { IsSomeSide (poly left.now) }
     requires right { IsSomeSide (poly right.now) }
-    ensures { (a b : Run Polynomial) → IsSide a (poly left.now) → IsSide b (poly right.now) → IsAnswerOf a b strict (transfers moves.now) result }
+    ensures { (a b : Run Polynomial) → IsSide a (poly left.now) → IsSide b (poly right.now)
+        → IsAnswerOf a b strict (transfers moves.now) result }
 {
     let items = moves.as_slice();
     if items.len() > u32::MAX as usize {

@@ -19,7 +19,8 @@ use wh_types::SimpleType;
 /// The number of the first symbol whose polynomial is not normal in the scope of its type's arguments.
 pub fn first_not_normal(alloc: Global, symbols: &[Symbol]) -> Result<Option<u32>, AllocError>
     requires { length symbols.now ≤ 2 ^ 32 }
-    ensures { IfOk result (λ found. MatchOption found (NormalInterpretations (interpretations symbols.now)) (IsFirstNotNormal (interpretations symbols.now))) }
+    ensures { IfOk result (λ found. MatchOption found (NormalInterpretations (interpretations symbols.now))
+        (IsFirstNotNormal (interpretations symbols.now))) }
 {
     for (i, symbol) in symbols.iter().enumerate() {
         let scope = arguments_of(alloc, &symbol.kind)?;
@@ -36,7 +37,9 @@ pub fn first_not_normal_mark(
     system: &System,
     marks: &[MarkedSymbol],
 ) -> Result<Option<u32>, AllocError>
-    ensures { IfOk result (λ found. MatchOption found (AreNormalMarks (system_data system.now).symbols (system_data system.now).rules (marks_of marks.now)) (IsFirstNotNormalMark (system_data system.now).symbols (system_data system.now).rules (marks_of marks.now))) }
+    ensures { IfOk result (λ found. MatchOption found (AreNormalMarks (system_data system.now).symbols (system_data system.now).rules
+        (marks_of marks.now)) (IsFirstNotNormalMark (system_data system.now).symbols (system_data system.now).rules
+        (marks_of marks.now))) }
 {
     for mark in marks {
         let kind = kind_of_mark(alloc, system, mark.symbol)?;

@@ -39,11 +39,14 @@ pub fn check_pairs(
     requires normal { NormalInterpretations (interpretations symbols.now) }
     requires marks { AreNormalMarks (system_data system.now).symbols (system_data system.now).rules (marks_of marks.now) }
     requires set { All (λ n. n < length pairs.now) set.now }
-    requires sides { (n : ℕ) (p : PairData) → Contains set.now n → slice_get (map pair_data pairs.now) n ≡ Some p → HasMarkedSides (system_data system.now).symbols (system_data system.now).rules (marks_of marks.now) p }
+    requires sides { (n : ℕ) (p : PairData) → Contains set.now n → slice_get (map pair_data pairs.now) n ≡ Some p
+        → HasMarkedSides (system_data system.now).symbols (system_data system.now).rules (marks_of marks.now) p }
     requires count { length lines.now ≡ length set.now }
     requires sorted { IsNonDecreasing drop.now }
-    ensures ok { OnOk result ((k : ℕ) → IsRightPair with_limits (system_data system.now).symbols (system_data system.now).rules (map pair_data pairs.now) set.now (interpretations symbols.now) (marks_of marks.now) (map transfers lines.now) drop.now k) }
-    ensures fault { IfBecause result (IsFirstPairFault (system_data system.now).symbols (system_data system.now).rules (map pair_data pairs.now) set.now (interpretations symbols.now) (marks_of marks.now) (map transfers lines.now) drop.now) }
+    ensures ok { OnOk result ((k : ℕ) → IsRightPair with_limits (system_data system.now).symbols (system_data system.now).rules
+        (map pair_data pairs.now) set.now (interpretations symbols.now) (marks_of marks.now) (map transfers lines.now) drop.now k) }
+    ensures fault { IfBecause result (IsFirstPairFault (system_data system.now).symbols (system_data system.now).rules
+        (map pair_data pairs.now) set.now (interpretations symbols.now) (marks_of marks.now) (map transfers lines.now) drop.now) }
 {
     for (i, moves) in lines.iter().enumerate() {
         let pair = set[i];

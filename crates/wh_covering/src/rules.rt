@@ -26,8 +26,10 @@ pub fn check_rules(
     requires interpreted { Interprets (system_data system.now).symbols (interpretations symbols.now) }
     requires normal { NormalInterpretations (interpretations symbols.now) }
     requires count { length lines.now ≡ length (system_data system.now).rules }
-    ensures ok { OnOk result ((k : ℕ) → IsRightRule with_limits (system_data system.now).rules (interpretations symbols.now) (map transfers lines.now) k) }
-    ensures fault { IfBecause result (IsFirstRuleFault (system_data system.now).rules (interpretations symbols.now) (map transfers lines.now)) }
+    ensures ok { OnOk result ((k : ℕ) → IsRightRule with_limits (system_data system.now).rules (interpretations symbols.now)
+        (map transfers lines.now) k) }
+    ensures fault { IfBecause result (IsFirstRuleFault (system_data system.now).rules (interpretations symbols.now)
+        (map transfers lines.now)) }
 {
     system.is_well_made();
     for (i, moves) in lines.iter().enumerate() {

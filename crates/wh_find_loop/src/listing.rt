@@ -111,7 +111,8 @@ pub fn list_if_new(listing: &mut Listing, entry: Entry) -> Result<(), AllocError
     requires few { length listing.old.entries.items < 2 ^ 32 }
     requires keys { length listing.old.marks ≡ 16384 }
     requires marked { AreMarked listing.old.marks listing.old.entries.items }
-    ensures { OnOk result ((d : SystemData) (level : ℕ) → IsListing d level listing.old → IsEntry d level entry → IsLinked d.rules listing.old.entries.items entry → Takes d level listing.old (arrival_of entry) listing.new) }
+    ensures { OnOk result ((d : SystemData) (level : ℕ) → IsListing d level listing.old → IsEntry d level entry
+        → IsLinked d.rules listing.old.entries.items entry → Takes d level listing.old (arrival_of entry) listing.new) }
 {
     if is_listed(listing, entry.visit.start, &entry.visit.term) {
         return Ok(());
@@ -123,7 +124,8 @@ pub fn list_if_new(listing: &mut Listing, entry: Entry) -> Result<(), AllocError
 /// The steps that lead to the entry from its start.
 pub fn steps_to(alloc: Global, entries: &[Entry], entry: &Entry) -> Result<Steps, AllocError>
     requires { (rules : List RewriteRule) × AreAllLinked rules entries.now × IsLinked rules entries.now entry.now }
-    ensures { IfOk result (λ steps. (rules : List RewriteRule) → AreAllLinked rules entries.now → IsLinked rules entries.now entry.now → LeadTo rules entry.now steps) }
+    ensures { IfOk result (λ steps. (rules : List RewriteRule) → AreAllLinked rules entries.now → IsLinked rules entries.now entry.now
+        → LeadTo rules entry.now steps) }
 {
     match &entry.origin {
         None => Steps::new(alloc),

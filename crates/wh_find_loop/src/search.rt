@@ -49,7 +49,8 @@ fn certify(
     requires start { IsStart (system_data system.now).rules entry.now.visit.start (tm start.now) }
     requires fits { Fits (tm start.now) }
     requires leads { EndsAt (system_data system.now) entry.now step (tm start.now) instance }
-    ensures { (level : ℕ) → entry.now.level < level → level ≤ 100 → IfOk result (λ c. IsLoopCertificate (system_data system.now) level (said_no c)) }
+    ensures { (level : ℕ) → entry.now.level < level → level ≤ 100
+        → IfOk result (λ c. IsLoopCertificate (system_data system.now) level (said_no c)) }
 {
     let mut steps = steps_to(alloc, entries, entry)?;
     steps.push(step)?;
@@ -121,7 +122,8 @@ fn search_entry(
     requires done { AreDone (system_data system.now) listing.old.entries.items at }
     requires fewer { length listing.old.entries.items < visited }
     requires deep { level ≤ 100 }
-    ensures { IfOk result (Comes (system_data system.now) level visited (GoesOn (system_data system.now) level visited (at + 1) listing.old.entries.items listing.new) listing.new) }
+    ensures { IfOk result (Comes (system_data system.now) level visited
+        (GoesOn (system_data system.now) level visited (at + 1) listing.old.entries.items listing.new) listing.new) }
 {
     system.is_well_made();
     let term = &listing.entries[at].visit.term;
@@ -154,7 +156,9 @@ fn search_level(
     requires done { AreDone (system_data system.now) listing.old.entries.items from }
     requires fewer { length listing.old.entries.items < visited }
     requires deep { level ≤ 100 }
-    ensures { IfOk result (Comes (system_data system.now) level visited (GoesOn (system_data system.now) level visited (length listing.old.entries.items) listing.old.entries.items listing.new) listing.new) }
+    ensures { IfOk result (Comes (system_data system.now) level visited
+        (GoesOn (system_data system.now) level visited (length listing.old.entries.items) listing.old.entries.items listing.new)
+        listing.new) }
 {
     let end = listing.entries.len();
     for at in from..end {
@@ -177,7 +181,8 @@ fn list_start(
     requires few { length listing.old.entries.items < 2 ^ 32 }
     requires keys { length listing.old.marks ≡ 16384 }
     requires marked { AreMarked listing.old.marks listing.old.entries.items }
-    ensures { OnOk result ((d : SystemData) → IsListing d 0 listing.old → IsStart d.rules number (tm start.now) → WellTyped d.symbols (tm start.now) → TakesStart d number (tm start.now) listing.old.entries.items listing.new) }
+    ensures { OnOk result ((d : SystemData) → IsListing d 0 listing.old → IsStart d.rules number (tm start.now)
+        → WellTyped d.symbols (tm start.now) → TakesStart d number (tm start.now) listing.old.entries.items listing.new) }
 {
     let Some(term) = copy_in_space(alloc, start)? else {
         return Ok(());
@@ -230,7 +235,8 @@ fn search(
     requires keys { length listing.old.marks ≡ 16384 }
     requires none { listing.old.entries.items ≡ [] }
     requires deep { depth ≤ 100 }
-    ensures { IfOk result (Comes (system_data system.now) depth visited (GoesThrough (system_data system.now) depth visited listing.new) listing.new) }
+    ensures { IfOk result (Comes (system_data system.now) depth visited (GoesThrough (system_data system.now) depth visited listing.new)
+        listing.new) }
 {
     if visited == 0 {
         return Ok(Progress::Full);

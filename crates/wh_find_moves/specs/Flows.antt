@@ -66,8 +66,10 @@ pub record HasGiven (old : Flow) (giver taker amount : ℕ) (new : Flow) : Type 
 
 -- so many units of a move have gone back (ours)
 pub record HasTakenBack (old : Flow) (place amount : ℕ) (new : Flow) : Type 0 where
-  pub free : let giver = (move_at (transfers old.moves.items) place).from in new.free.items ≡ slice_set old.free.items giver (slice_index old.free.items giver + amount)
-  pub want : let taker = (move_at (transfers old.moves.items) place).to in new.want.items ≡ slice_set old.want.items taker (slice_index old.want.items taker + amount)
+  pub free : let giver = (move_at (transfers old.moves.items) place).from in new.free.items ≡ slice_set old.free.items giver
+      (slice_index old.free.items giver + amount)
+  pub want : let taker = (move_at (transfers old.moves.items) place).to in new.want.items ≡ slice_set old.want.items taker
+      (slice_index old.want.items taker + amount)
   pub kept : AreKeptBut (λ e. e ≡ place) (transfers old.moves.items) (transfers new.moves.items)
   pub flow : (left right : List Monomial) → IsFlow left right old → IsFlow left right new
 
@@ -75,10 +77,12 @@ pub record HasTakenBack (old : Flow) (place amount : ℕ) (new : Flow) : Type 0 
 pub record IsRerouted (old : Flow) (place giver first : ℕ) (new : Flow) : Type 0 where
   pub first_is : first ≡ (move_at (transfers old.moves.items) place).from
   pub free_long : length new.free.items ≡ length old.free.items
-  pub free : 0 < slice_index old.free.items giver → 0 < (move_at (transfers old.moves.items) place).amount → 0 < slice_index new.free.items first
+  pub free : 0 < slice_index old.free.items giver → 0 < (move_at (transfers old.moves.items) place).amount
+      → 0 < slice_index new.free.items first
   pub want : new.want.items ≡ old.want.items
   pub kept : AreKeptBut (λ e. e ≡ place) (transfers old.moves.items) (transfers new.moves.items)
-  pub flow : (left right : List Monomial) → IsFlow left right old → CanGive left right giver (move_at (transfers old.moves.items) place).to → IsFlow left right new
+  pub flow : (left right : List Monomial) → IsFlow left right old
+      → CanGive left right giver (move_at (transfers old.moves.items) place).to → IsFlow left right new
 
 -- what is wanted is the same but at one right monomial (ours)
 abbrev pub WantsAlike : ℕ → Flow → Flow → Type 0

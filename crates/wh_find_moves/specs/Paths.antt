@@ -69,7 +69,8 @@ pub record IsSpent (left right : List Monomial) (flow : Flow) (ss : List Step) (
   pub spent : slice_index flow.free.items i ≡ 0
 
 -- what a search keeps, by its lists (ours)
-pub record AreFound (left right : List Monomial) (flow : Flow) (ss : List Step) (reached : List Bool) (givers : List (Option ℕ)) : Type 0 where
+pub record AreFound (left right : List Monomial) (flow : Flow) (ss : List Step) (reached : List Bool)
+    (givers : List (Option ℕ)) : Type 0 where
   pub begun : 0 < length ss
   pub steps : AreSteps left right (transfers flow.moves.items) ss
   pub reached_long : length reached ≡ length right

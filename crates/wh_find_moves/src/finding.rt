@@ -17,7 +17,8 @@ pub fn find_moves(alloc: Global, left: &Poly, right: &Poly) -> Result<Option<Mov
     requires right { IsNormal (poly right.now) }
     requires few_left { length (monomials left.now) ≤ 65536 }
     requires few_right { length (monomials right.now) ≤ 65536 }
-    ensures { IfOk result (λ found. MatchOption found (NoneCovers (poly left.now) (poly right.now)) (λ ms. AreCovering (poly left.now) (poly right.now) (transfers ms))) }
+    ensures { IfOk result (λ found. MatchOption found (NoneCovers (poly left.now) (poly right.now))
+        (λ ms. AreCovering (poly left.now) (poly right.now) (transfers ms))) }
 {
     let (givers, takers) = (left.as_slice(), right.as_slice());
     let mut flow = matched(alloc, givers, takers)?;

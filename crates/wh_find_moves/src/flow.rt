@@ -67,7 +67,8 @@ impl Flow {
         requires wanted { amount ≤ slice_index self.old.want.items taker }
         requires first { NoneBetween giver taker (transfers self.old.moves.items) }
         ensures given { OnOk result (HasGiven self.old giver taker amount self.new) }
-        ensures joined { OnOk result (transfers self.new.moves.items ≡ transfers self.old.moves.items ++ record { from = giver; to = taker; amount = amount } ∷ []) }
+        ensures joined { OnOk result (transfers self.new.moves.items ≡ transfers self.old.moves.items ++ record
+            { from = giver; to = taker; amount = amount } ∷ []) }
     {
         self.moves.push(Move {
             from: giver as u32,

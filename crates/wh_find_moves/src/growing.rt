@@ -56,7 +56,8 @@ impl Flow {
         requires here { root < length right.now }
         ensures flow { OnOk result (IsFlow left.now right.now self.new) }
         ensures others { OnOk result (WantsAlike root self.old self.new) }
-        ensures filled { IfOk result (λ filled. MatchBool filled (slice_index self.new.want.items root ≡ 0) (NoneCovers (sum_of left.now) (sum_of right.now) × (0 < slice_index self.new.want.items root))) }
+        ensures filled { IfOk result (λ filled. MatchBool filled (slice_index self.new.want.items root ≡ 0)
+            (NoneCovers (sum_of left.now) (sum_of right.now) × (0 < slice_index self.new.want.items root))) }
     {
         while self.want[root] > 0 {
             if !self.grow(alloc, left, right, root)? {
@@ -83,7 +84,9 @@ impl Flow {
         requires wants { 0 < slice_index self.old.want.items root }
         ensures flow { OnOk result (IsFlow left.now right.now self.new) }
         ensures others { OnOk result (WantsAlike root self.old self.new) }
-        ensures grown { IfOk result (λ grown. MatchBool grown (slice_index self.new.want.items root < slice_index self.old.want.items root) (NoneCovers (sum_of left.now) (sum_of right.now) × (self.new.want.items ≡ self.old.want.items))) }
+        ensures grown { IfOk result (λ grown. MatchBool grown
+            (slice_index self.new.want.items root < slice_index self.old.want.items root)
+            (NoneCovers (sum_of left.now) (sum_of right.now) × (self.new.want.items ≡ self.old.want.items))) }
     {
         let path = match find_path(alloc, left, right, self, root)? {
             Some(path) => path,

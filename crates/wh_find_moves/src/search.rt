@@ -70,7 +70,8 @@ pub fn find_path(
     requires flow { IsFlow left.now right.now flow.now }
     requires here { root < length right.now }
     requires wants { 0 < slice_index flow.now.want.items root }
-    ensures { IfOk result (λ found. MatchOption found (NoneCovers (sum_of left.now) (sum_of right.now)) (IsPath left.now right.now flow.now root)) }
+    ensures { IfOk result (λ found. MatchOption found (NoneCovers (sum_of left.now) (sum_of right.now))
+        (IsPath left.now right.now flow.now root)) }
 {
     let mut search = Search::start(alloc, left, right, root)?;
     let mut at = 0;
@@ -130,7 +131,8 @@ impl Search {
         requires here { at < length self.old.steps.items }
         ensures search { IsSearch left.now right.now flow.now self.new }
         ensures marked { HasMarked self.old self.new }
-        ensures found { MatchOption result (AllMarked left.now right.now (target self.old.steps.items at) self.new) (GivesTo left.now right.now flow.now (target self.old.steps.items at)) }
+        ensures found { MatchOption result (AllMarked left.now right.now (target self.old.steps.items at) self.new)
+            (GivesTo left.now right.now flow.now (target self.old.steps.items at)) }
     {
         let target = self.steps[at].target;
         for giver in 0..left.len() {
@@ -147,7 +149,8 @@ impl Search {
     // Gets to the right monomials that get something from a marked left one.
     fn reach(&mut self, flow: &Flow) -> Result<(), AllocError>
         requires { (left : List Monomial) × (right : List Monomial) × IsFlow left right flow.now × IsSearch left right flow.now self.old }
-        ensures search { OnOk result ((left right : List Monomial) → IsFlow left right flow.now → IsSearch left right flow.now self.old → IsSearch left right flow.now self.new) }
+        ensures search { OnOk result ((left right : List Monomial) → IsFlow left right flow.now → IsSearch left right flow.now self.old
+            → IsSearch left right flow.now self.new) }
         ensures reached { OnOk result (HasReached flow.now self.new) }
         ensures stepped { OnOk result (HasStepped self.old self.new) }
     {

@@ -44,7 +44,8 @@ pair_at pairs n = get_or pairs n no_pair
 abbrev pub spots : List Row → List PairData → ℕ → List ℕ → List Spot
 spots rows pairs own [] = []
 spots rows pairs own (n ∷ set) =
-    spots_of (pair_at pairs n) (row_of rows (pair_at pairs n).left_fun) (row_of rows (pair_at pairs n).right_fun) own ++ spots rows pairs (own + 1) set
+    spots_of (pair_at pairs n) (row_of rows (pair_at pairs n).left_fun) (row_of rows (pair_at pairs n).right_fun) own ++ spots rows pairs
+    (own + 1) set
 
 -- a choice with what the pair is under it: equal, below or neither
 pub record IsCase (s : Spot) (c : Case) : Type 0 where

@@ -14,7 +14,8 @@ use Rattle.wh_find_subterm.specs.Clauses.{clauses_of}
 -- say, in this order: of each symbol some argument is chosen; no two are; no two are chosen under which a pair is neither
 -- equal nor below; where two are chosen under which a pair is not below, the pair's variable is false; some pair's variable
 -- is true (ours)
-pub record IsFormula (rows : List Row) (end : ℕ) (pairs : List PairData) (set : List ℕ) (variables : ℕ) (clauses : List (List Literal)) : Type 0 where
+pub record IsFormula (rows : List Row) (end : ℕ) (pairs : List PairData) (set : List ℕ) (variables : ℕ)
+    (clauses : List (List Literal)) : Type 0 where
   pub cases : List Case
   pub are_cases : AreCases (spots rows pairs end set) cases
   pub count : variables ≡ end + length set
@@ -22,7 +23,8 @@ pub record IsFormula (rows : List Row) (end : ℕ) (pairs : List PairData) (set 
 
 -- the rows are those of the marked symbols of the set in order of declaration: each with as many variables as its rules need
 -- arguments
-pub record IsProjections (rules : List RewriteRule) (pairs : List PairData) (set : List ℕ) (variables : ℕ) (clauses : List (List Literal)) : Type 0 where
+pub record IsProjections (rules : List RewriteRule) (pairs : List PairData) (set : List ℕ) (variables : ℕ)
+    (clauses : List (List Literal)) : Type 0 where
   pub symbols : List ℕ
   pub marked : AreMarked pairs set symbols
   pub formula : IsFormula (rows_from rules 0 symbols) (end_from rules 0 symbols) pairs set variables clauses

@@ -16,7 +16,8 @@ abbrev pub DropsAllBelow : List PairData → List ℕ → List Chosen → List �
 DropsAllBelow pairs set args drop = (n : ℕ) (a : PairData) → Contains set n → slice_get pairs n ≡ Some a → Below args a → Contains drop n
 
 -- clauses as many as the budget, each learnt from the formula of the set and those before it
-pub record IsSpent (rules : List RewriteRule) (pairs : List PairData) (set : List ℕ) (budget : ℕ) (learnt : List (List Literal)) : Type 0 where
+pub record IsSpent (rules : List RewriteRule) (pairs : List PairData) (set : List ℕ) (budget : ℕ)
+    (learnt : List (List Literal)) : Type 0 where
   pub count : length learnt ≡ budget
   pub variables : ℕ
   pub clauses : List (List Literal)
@@ -25,6 +26,7 @@ pub record IsSpent (rules : List RewriteRule) (pairs : List PairData) (set : Lis
 
 -- a projection that drops all that is below; that none drops a pair; or the learnt clauses
 abbrev pub IsAnswer : List RewriteRule → List PairData → List ℕ → ℕ → Search ProjectionFound → Type 0
-IsAnswer rules pairs set budget (search.Found f) = IsProjection rules pairs set (map chosen f.args) f.drop × DropsAllBelow pairs set (map chosen f.args) f.drop
+IsAnswer rules pairs set budget (search.Found f) = IsProjection rules pairs set (map chosen f.args) f.drop
+    × DropsAllBelow pairs set (map chosen f.args) f.drop
 IsAnswer rules pairs set budget search.Nothing = (args : List Chosen) (drop : List ℕ) → IsProjection rules pairs set args drop → ⊥
 IsAnswer rules pairs set budget (search.Spent learnt) = IsSpent rules pairs set budget learnt

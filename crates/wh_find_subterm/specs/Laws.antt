@@ -16,13 +16,15 @@ Says rules fs v args = (f i : ℕ) → Contains fs f → i < choices_of rules f
 
 -- each model says a projection that drops a pair
 abbrev pub ModelsAreProjections : Type 0
-ModelsAreProjections = (rules : List RewriteRule) (pairs : List PairData) (set : List ℕ) (n : ℕ) (clauses : List (List Literal)) (v : ℕ → Bool)
+ModelsAreProjections = (rules : List RewriteRule) (pairs : List PairData) (set : List ℕ) (n : ℕ) (clauses : List (List Literal))
+    (v : ℕ → Bool)
     → All (λ k. k < length pairs) set → (formula : IsProjections rules pairs set n clauses) → Solves v clauses
     → (args : List Chosen) × (drop : List ℕ) × IsProjection rules pairs set args drop × Says rules formula.symbols v args
 
 -- each such projection is said by a model
 abbrev pub ProjectionsAreModels : Type 0
-ProjectionsAreModels = (rules : List RewriteRule) (pairs : List PairData) (set : List ℕ) (n : ℕ) (clauses : List (List Literal)) (args : List Chosen) (drop : List ℕ)
+ProjectionsAreModels = (rules : List RewriteRule) (pairs : List PairData) (set : List ℕ) (n : ℕ) (clauses : List (List Literal))
+    (args : List Chosen) (drop : List ℕ)
     → All (λ k. k < length pairs) set → (formula : IsProjections rules pairs set n clauses) → IsProjection rules pairs set args drop
     → (v : ℕ → Bool) × Solves v clauses × Says rules formula.symbols v args
 

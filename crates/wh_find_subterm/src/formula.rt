@@ -24,7 +24,8 @@ pub fn formula_of(
     requires each { All (λ r. r.first + r.need ≤ rows.now.end) rows.now.items.items }
     requires rows { (f : ℕ) → (row_of rows.now.items.items f).first + (row_of rows.now.items.items f).need ≤ rows.now.end }
     ensures small { IfOk result (λ made. made.variables < 2 ^ 32) }
-    ensures formula { IfOk result (λ made. IsFormula rows.now.items.items rows.now.end (map pair_data pairs.now) set.now made.variables made.clauses) }
+    ensures formula { IfOk result (λ made. IsFormula rows.now.items.items rows.now.end (map pair_data pairs.now)
+        set.now made.variables made.clauses) }
 {
     let count = u32::try_from(set.len()).or(Err(AllocError))?;
     let variables = rows.end.checked_add(count).ok_or(AllocError)?;

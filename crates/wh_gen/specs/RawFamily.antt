@@ -130,7 +130,8 @@ raw_second_rule i = record {
 
 -- the symbols before the functions
 abbrev pub raw_base : List RFun
-raw_base = raw_fun (codes "zero") raw_nat ∷ raw_fun (codes "s") raw_step ∷ raw_fun (codes "nil") raw_list ∷ raw_fun (codes "cons") (raw_onto_lists raw_nat) ∷ []
+raw_base = raw_fun (codes "zero") raw_nat ∷ raw_fun (codes "s") raw_step ∷ raw_fun (codes "nil") raw_list
+    ∷ raw_fun (codes "cons") (raw_onto_lists raw_nat) ∷ []
 
 -- the function number i
 abbrev pub raw_map_fun : ℕ → RFun

@@ -43,6 +43,7 @@ pub record AreBlocks (E : ℕ → ℕ → Type 0) (set : List ℕ) (blocks : Lis
 -- the first thing wrong, in this order: too few blocks; the least misplaced number; the first back edge (ours)
 abbrev pub IsFirstBlockFault : (ℕ → ℕ → Type 0) → List ℕ → List (List ℕ) → BlockFault → Type 0
 IsFirstBlockFault E set blocks FewBlocks = AreFew blocks
-IsFirstBlockFault E set blocks (NotPartition a) = (AreFew blocks → ⊥) × IsMisplaced set blocks a × ((n : ℕ) → n < a → IsMisplaced set blocks n → ⊥)
+IsFirstBlockFault E set blocks (NotPartition a) = (AreFew blocks → ⊥) × IsMisplaced set blocks a
+    × ((n : ℕ) → n < a → IsMisplaced set blocks n → ⊥)
 IsFirstBlockFault E set blocks (BackEdge a b) =
     (AreFew blocks → ⊥) × ((n : ℕ) → IsMisplaced set blocks n → ⊥) × IsFirstBackEdge E blocks a b

@@ -34,7 +34,8 @@ pub fn first_back_edge(
     requires set { All (λ n. n < length pairs.now) set.now }
     requires increasing { IsIncreasing set.now }
     requires partition { Partition set.now blocks.now }
-    ensures { MatchOption result ((a b : ℕ) → IsBackEdge (Follows (system_data system.now).rules (map pair_data pairs.now)) blocks.now a b → ⊥) (λ e. IsFirstBackEdge (Follows (system_data system.now).rules (map pair_data pairs.now)) blocks.now e.a e.b) }
+    ensures { MatchOption result ((a b : ℕ) → IsBackEdge (Follows (system_data system.now).rules (map pair_data pairs.now))
+        blocks.now a b → ⊥) (λ e. IsFirstBackEdge (Follows (system_data system.now).rules (map pair_data pairs.now)) blocks.now e.a e.b) }
 {
     for number in set {
         let place = block_of(blocks, *number);

@@ -43,7 +43,8 @@ pub fn check_blocks(
     blocks: &[Numbers],
 ) -> Result<(), BlockFault>
     requires { All (λ n. n < length pairs.now) set.now }
-    ensures { MatchResult result (λ _. AreBlocks (Follows (system_data system.now).rules (map pair_data pairs.now)) set.now blocks.now) (IsFirstBlockFault (Follows (system_data system.now).rules (map pair_data pairs.now)) set.now blocks.now) }
+    ensures { MatchResult result (λ _. AreBlocks (Follows (system_data system.now).rules (map pair_data pairs.now)) set.now blocks.now)
+        (IsFirstBlockFault (Follows (system_data system.now).rules (map pair_data pairs.now)) set.now blocks.now) }
 {
     check_conditions(system, pairs.as_slice(), set.as_slice(), blocks)
 }
@@ -57,7 +58,8 @@ fn check_conditions(
 ) -> Result<(), BlockFault>
     requires set { All (λ n. n < length pairs.now) set.now }
     requires increasing { IsIncreasing set.now }
-    ensures { MatchResult result (λ _. AreBlocks (Follows (system_data system.now).rules (map pair_data pairs.now)) set.now blocks.now) (IsFirstBlockFault (Follows (system_data system.now).rules (map pair_data pairs.now)) set.now blocks.now) }
+    ensures { MatchResult result (λ _. AreBlocks (Follows (system_data system.now).rules (map pair_data pairs.now)) set.now blocks.now)
+        (IsFirstBlockFault (Follows (system_data system.now).rules (map pair_data pairs.now)) set.now blocks.now) }
 {
     if are_few(blocks) {
         return Err(BlockFault::FewBlocks);

@@ -28,7 +28,8 @@ pub fn components(
     set: &PairSet,
 ) -> Result<Blocks, AllocError>
     requires { All (λ n. n < length pairs.now) set.now }
-    ensures components { IfOk result (λ blocks. AreComponents (Follows (system_data system.now).rules (map pair_data pairs.now)) set.now blocks) }
+    ensures components { IfOk result (λ blocks. AreComponents (Follows (system_data system.now).rules (map pair_data pairs.now))
+        set.now blocks) }
     ensures increasing { IfOk result (λ blocks. All IsIncreasing blocks) }
 {
     let graph = Graph::new(alloc, system, pairs)?;

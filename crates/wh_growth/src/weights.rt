@@ -45,7 +45,8 @@ fn product_of(weights: &[Weight], factors: &Atoms) -> u128
 // What the variable is worth at these arguments, at most the greatest number.
 #[cycle(number_of)]
 fn value_of(weights: &[Weight], variable: u32, arguments: &Polys) -> u128
-    ensures { result ≡ saturated (constant_at weights.now variable + factor_at weights.now variable * sum weights.now (polys arguments.now)) }
+    ensures { result ≡ saturated (constant_at weights.now variable + factor_at weights.now variable * sum weights.now
+        (polys arguments.now)) }
 {
     let weight = weight_at(weights, variable);
     // Then the arguments make no difference.

@@ -25,13 +25,16 @@ abbrev pub scopes_of : Symbols → List RewriteRule → List ℕ → List (List 
 scopes_of S rules marked = map arguments S.funs ++ map (marked_types S rules) marked
 
 -- the interpretations of all symbols, and then those of the marked symbols, have the coefficients of the lists, one list for each (ours)
-pub record HaveCoefficients (S : Symbols) (rules : List RewriteRule) (lists : List (List ℕ)) (symbols : List Interpretation) (marks : List Mark) : Type 0 where
-  pub of_symbols : (f : ℕ) (s : Interpretation) → slice_get symbols f ≡ Some s → HasCoefficients (arguments s.kind) (get_or lists f []) s.polynomial
+pub record HaveCoefficients (S : Symbols) (rules : List RewriteRule) (lists : List (List ℕ)) (symbols : List Interpretation)
+    (marks : List Mark) : Type 0 where
+  pub of_symbols : (f : ℕ) (s : Interpretation) → slice_get symbols f ≡ Some s
+      → HasCoefficients (arguments s.kind) (get_or lists f []) s.polynomial
   pub of_marks : (i : ℕ) (m : Mark) → slice_get marks i ≡ Some m
       → HasCoefficients (marked_types S rules m.symbol) (get_or lists (length symbols + i) []) m.polynomial
 
 -- the interpretations are of the system's symbols and of the marked symbols of the set, and all are of the space (ours)
-pub record AreOfSpace (S : Symbols) (rules : List RewriteRule) (pairs : List PairData) (set : List ℕ) (symbols : List Interpretation) (marks : List Mark) : Type 0 where
+pub record AreOfSpace (S : Symbols) (rules : List RewriteRule) (pairs : List PairData) (set : List ℕ) (symbols : List Interpretation)
+    (marks : List Mark) : Type 0 where
   pub kinds : map (λ s. s.kind) symbols ≡ S.funs
   pub marked : AreMarked pairs set (map (λ m. m.symbol) marks)
   pub symbols_of_space : All (λ s. IsOfSpace (arguments s.kind) s.polynomial) symbols

@@ -76,7 +76,8 @@ pub record IsMet (left right : Run Polynomial) (strict : Bool) : Type 0 where
   pub moves : List Transfer
   pub covers : CoversSides left right strict moves
 
-module _ (S : Symbols) (rules : List RewriteRule) (pairs : List PairData) (set : List ℕ) (symbols : List Interpretation) (marks : List Mark) where
+module _ (S : Symbols) (rules : List RewriteRule) (pairs : List PairData) (set : List ℕ) (symbols : List Interpretation)
+    (marks : List Mark) where
   -- so it is of the sides of a pair
   abbrev pub IsMetBy : PairData → Bool → Type 0
   IsMetBy p strict = IsMet (pair_run S rules symbols marks p false) (pair_run S rules symbols marks p true) strict

@@ -35,8 +35,10 @@ pub record IsInterpretation (d : SystemData) (ps : List PairData) (set : List �
   pub pairs_apart : All AreApart pair_lines
   pub increasing : IsIncreasing drop
   -- each pair of the set that its line covers strictly is dropped
-  pub all_strict : (i n : ℕ) (p : PairData) (ms : List Transfer) → slice_get set i ≡ Some n → slice_get ps n ≡ Some p → slice_get pair_lines i ≡ Some ms
-      → IsStrictCover (pair_run d.symbols d.rules symbols marks p false).result (pair_run d.symbols d.rules symbols marks p true).result ms → Contains drop n
+  pub all_strict : (i n : ℕ) (p : PairData) (ms : List Transfer) → slice_get set i ≡ Some n → slice_get ps n ≡ Some p
+      → slice_get pair_lines i ≡ Some ms
+      → IsStrictCover (pair_run d.symbols d.rules symbols marks p false).result
+      (pair_run d.symbols d.rules symbols marks p true).result ms → Contains drop n
   -- the node is within the limits of certificates
   pub fits : NodeFits line
   pub within : NodeWithin (2 ^ 32) line

@@ -28,7 +28,8 @@ abbrev pub IsReadMark : Symbols → List RewriteRule → MarkedSymbol → Type 0
 IsReadMark S rules m = IsOfSpace (marked_types S rules m.symbol) (poly m.poly)
 
 -- all symbols, and the marked symbols of the set, are read by polynomials that are tried (ours)
-pub record IsGuess (S : Symbols) (rules : List RewriteRule) (pairs : List PairData) (set : List ℕ) (symbols : List Symbol) (marks : List MarkedSymbol) : Type 0 where
+pub record IsGuess (S : Symbols) (rules : List RewriteRule) (pairs : List PairData) (set : List ℕ) (symbols : List Symbol)
+    (marks : List MarkedSymbol) : Type 0 where
   pub kinds : map (λ s. ty s.kind) symbols ≡ S.funs
   pub marked : AreMarked pairs set (map (λ m. m.symbol) marks)
   pub symbols_read : All IsReadSymbol symbols

@@ -36,7 +36,8 @@ pub record AreRuleLines (rules : List RewriteRule) (symbols : List Interpretatio
 
 -- there is none for the rule with this number
 abbrev pub IsFailingRule : List RewriteRule → List Interpretation → ℕ → Type 0
-IsFailingRule rules symbols k = (r : RewriteRule) × (slice_get rules k ≡ Some r) × IsNotMet (rule_run symbols r false) (rule_run symbols r true)
+IsFailingRule rules symbols k = (r : RewriteRule) × (slice_get rules k ≡ Some r)
+    × IsNotMet (rule_run symbols r false) (rule_run symbols r true)
 
 -- the moves show that the left side is greater
 abbrev pub IsStrictLine : Run Polynomial → Run Polynomial → List Transfer → Type 0

@@ -35,5 +35,6 @@ pub record AreRuleReadings (rules : List RewriteRule) (readings : List Reading) 
 -- there is a reading for each pair of the set
 pub record ArePairReadings (first : ℕ) (marked : List ℕ) (pairs : List PairData) (set : List ℕ) (readings : List Reading) : Type 0 where
   pub count : length readings ≡ length set
-  pub each : (i n : ℕ) (p : PairData) (reading : Reading) → slice_get set i ≡ Some n → slice_get pairs n ≡ Some p → slice_get readings i ≡ Some reading
+  pub each : (i n : ℕ) (p : PairData) (reading : Reading) → slice_get set i ≡ Some n → slice_get pairs n ≡ Some p
+      → slice_get readings i ≡ Some reading
       → ReadsAll (λ n. StandsInPair n p ⊎ IsMarkOf first marked p n) reading

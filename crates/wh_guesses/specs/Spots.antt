@@ -93,7 +93,8 @@ alone_place Γ x = if is_sort (type_at Γ x) then 1 + sorts_before Γ x else 1 +
 
 abbrev pub row_place : List Ty → ℕ → ℕ
 row_place Γ x =
-    if is_sort (type_at Γ x) then sorts_before Γ x else 1 + (length (sort_variables Γ) + (length (functional_variables Γ) + products_before (length (sort_variables Γ)) Γ x))
+    if is_sort (type_at Γ x) then sorts_before Γ x else
+    1 + (length (sort_variables Γ) + (length (functional_variables Γ) + products_before (length (sort_variables Γ)) Γ x))
 
 -- where the monomial of the spot stands in the space
 abbrev pub place : List Ty → Spot → ℕ
@@ -114,7 +115,8 @@ pub record IsPlace (Γ : List Ty) (x : ℕ) (p : Place) : Type 0 where
 pub record IsWalk (Γ : List Ty) (x : ℕ) (w : Walk) : Type 0 where
   pub sorts : IsUpTo (sorts_before Γ x) w.sorts
   pub functional : IsUpTo (1 + (length (sort_variables Γ) + functional_before Γ x)) w.functional
-  pub row : IsUpTo (1 + (length (sort_variables Γ) + (length (functional_variables Γ) + products_before (length (sort_variables Γ)) Γ x))) w.row
+  pub row : IsUpTo (1 + (length (sort_variables Γ) + (length (functional_variables Γ) + products_before (length (sort_variables Γ))
+      Γ x))) w.row
 
 -- the places of all variables
 abbrev pub ArePlaces : List Ty → List Place → Type 0

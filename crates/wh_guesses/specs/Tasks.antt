@@ -12,4 +12,5 @@ IsTaskOf t = IsTask (system_data t.system.now).symbols (system_data t.system.now
 
 -- the guess reads all symbols, and the marked symbols of the set
 abbrev pub IsGuessOf : Task → Guess → Type 0
-IsGuessOf t g = IsGuess (system_data t.system.now).symbols (system_data t.system.now).rules (map pair_data t.pairs.now) t.set.now g.symbols.items g.marks.items
+IsGuessOf t g = IsGuess (system_data t.system.now).symbols (system_data t.system.now).rules (map pair_data t.pairs.now)
+    t.set.now g.symbols.items g.marks.items

@@ -78,7 +78,8 @@ fn marks_by(
 ) -> Result<Vec<MarkedSymbol>, AllocError>
     requires { first < 2 ^ 63 }
     ensures symbols { IfOk result (λ made. map (λ m. m.symbol) made.items ≡ numbers.now) }
-    ensures read { IfOk result (λ made. AreMarksBy (system_data system.now).symbols (system_data system.now).rules (list_of (map (λ l. l.items) lists.now)) first made.items) }
+    ensures read { IfOk result (λ made. AreMarksBy (system_data system.now).symbols (system_data system.now).rules
+        (list_of (map (λ l. l.items) lists.now)) first made.items) }
 {
     let mut marks = Vec::new(alloc);
     for (i, number) in numbers.iter().enumerate() {
@@ -216,7 +217,8 @@ pub fn change_mark(
     requires { All (IsReadMark (system_data system.now).symbols (system_data system.now).rules) marks.old }
     ensures symbols { map (λ m. m.symbol) marks.new ≡ map (λ m. m.symbol) marks.old }
     ensures read { All (IsReadMark (system_data system.now).symbols (system_data system.now).rules) marks.new }
-    ensures here { OnOk result ((m : MarkedSymbol) → slice_get marks.new i ≡ Some m → IsMarkBy (system_data system.now).symbols (system_data system.now).rules coefficients.now m) }
+    ensures here { OnOk result ((m : MarkedSymbol) → slice_get marks.new i ≡ Some m
+        → IsMarkBy (system_data system.now).symbols (system_data system.now).rules coefficients.now m) }
     ensures others { (j : ℕ) → j ≢ i → slice_get marks.new j ≡ slice_get marks.old j }
 {
     if i >= marks.len() {
@@ -261,7 +263,8 @@ fn add_sizes_of_marks(
     marked: &[u32],
     sizes: &mut Vec<usize>,
 ) -> Result<(), AllocError>
-    ensures { OnOk result (sizes.new.items ≡ sizes.old.items ++ map (λ f. length (space_of (marked_types (system_data system.now).symbols (system_data system.now).rules f))) marked.now) }
+    ensures { OnOk result (sizes.new.items ≡ sizes.old.items ++ map
+        (λ f. length (space_of (marked_types (system_data system.now).symbols (system_data system.now).rules f))) marked.now) }
 {
     for symbol in marked {
         let scope = scope_of_mark(alloc, system, *symbol)?;

@@ -84,7 +84,8 @@ pub fn rule_line(
 fn line(alloc: Global, left: &Poly, right: &Poly) -> Result<Option<Moves>, AllocError>
     requires left { IsSomeSide (poly left.now) }
     requires right { IsSomeSide (poly right.now) }
-    ensures { (a b : Run Polynomial) → IsSide a (poly left.now) → IsSide b (poly right.now) → IfOk result (λ found. MatchOption found (IsNotMet a b) (λ ms. IsLine a b (transfers ms))) }
+    ensures { (a b : Run Polynomial) → IsSide a (poly left.now) → IsSide b (poly right.now)
+        → IfOk result (λ found. MatchOption found (IsNotMet a b) (λ ms. IsLine a b (transfers ms))) }
 {
     find_moves(alloc, left, right)
 }
@@ -99,7 +100,8 @@ pub fn pair_lines(
     marks: &[MarkedSymbol],
 ) -> Result<PairLines, Or<usize>>
     requires task { IsTask (system_data system.now).symbols (system_data system.now).rules (map pair_data pairs.now) set.now }
-    requires guess { IsGuess (system_data system.now).symbols (system_data system.now).rules (map pair_data pairs.now) set.now symbols.now marks.now }
+    requires guess { IsGuess (system_data system.now).symbols (system_data system.now).rules (map pair_data pairs.now)
+        set.now symbols.now marks.now }
     ensures { MatchOr result (λ made. ArePairLines (system_data system.now).symbols (system_data system.now).rules (map pair_data pairs.now) (interpretations symbols.now) (marks_of marks.now) set.now (map transfers made.lines) made.drop)
         (IsFailingPair (system_data system.now).symbols (system_data system.now).rules (map pair_data pairs.now) (interpretations symbols.now) (marks_of marks.now) set.now) }
 {
@@ -129,7 +131,8 @@ pub fn pair_line(
     requires interpreted { Interprets (system_data system.now).symbols (interpretations symbols.now) }
     requires normal { NormalInterpretations (interpretations symbols.now) }
     requires marks { AreNormalMarks (system_data system.now).symbols (system_data system.now).rules (marks_of marks.now) }
-    requires sides { HasMarkedSides (system_data system.now).symbols (system_data system.now).rules (marks_of marks.now) (pair_data pair.now) }
+    requires sides { HasMarkedSides (system_data system.now).symbols (system_data system.now).rules (marks_of marks.now)
+        (pair_data pair.now) }
     ensures { IfOk result (λ found. MatchOption found (IsNotMet (pair_run (system_data system.now).symbols (system_data system.now).rules (interpretations symbols.now) (marks_of marks.now) (pair_data pair.now) false) (pair_run (system_data system.now).symbols (system_data system.now).rules (interpretations symbols.now) (marks_of marks.now) (pair_data pair.now) true))
         (IsPairLine (pair_run (system_data system.now).symbols (system_data system.now).rules (interpretations symbols.now) (marks_of marks.now) (pair_data pair.now) false) (pair_run (system_data system.now).symbols (system_data system.now).rules (interpretations symbols.now) (marks_of marks.now) (pair_data pair.now) true))) }
 {
@@ -146,7 +149,8 @@ pub fn pair_line(
 pub fn strict_line(alloc: Global, left: &Poly, right: &Poly) -> Result<Option<PairLine>, AllocError>
     requires left { IsSomeSide (poly left.now) }
     requires right { IsSomeSide (poly right.now) }
-    ensures { (a b : Run Polynomial) → IsSide a (poly left.now) → IsSide b (poly right.now) → IfOk result (λ found. MatchOption found (IsNotMet a b) (IsPairLine a b)) }
+    ensures { (a b : Run Polynomial) → IsSide a (poly left.now) → IsSide b (poly right.now)
+        → IfOk result (λ found. MatchOption found (IsNotMet a b) (IsPairLine a b)) }
 {
     match line(alloc, left, right)? {
         Some(moves) => {

@@ -63,8 +63,10 @@ fn weighed(
 ) -> Result<Weighing, AllocError>
     requires few { length pairs.now ≤ 4096 }
     requires task { IsTask (system_data system.now).symbols (system_data system.now).rules (map pair_data pairs.now) set.now }
-    requires guess { IsGuess (system_data system.now).symbols (system_data system.now).rules (map pair_data pairs.now) set.now symbols.now marks.now }
-    ensures { IfOk result (WeighsBy (system_data system.now) (map pair_data pairs.now) set.now (interpretations symbols.now) (marks_of marks.now)) }
+    requires guess { IsGuess (system_data system.now).symbols (system_data system.now).rules (map pair_data pairs.now)
+        set.now symbols.now marks.now }
+    ensures { IfOk result (WeighsBy (system_data system.now) (map pair_data pairs.now) set.now (interpretations symbols.now)
+        (marks_of marks.now)) }
 {
     let rules = match rule_lines(alloc, system, symbols) {
         Ok(lines) => lines,
@@ -105,11 +107,14 @@ fn node_with(
 ) -> Result<Weighing, AllocError>
     requires few { length pairs.now ≤ 4096 }
     requires task { IsTask (system_data system.now).symbols (system_data system.now).rules (map pair_data pairs.now) set.now }
-    requires guess { IsGuess (system_data system.now).symbols (system_data system.now).rules (map pair_data pairs.now) set.now symbols.now marks.now }
+    requires guess { IsGuess (system_data system.now).symbols (system_data system.now).rules (map pair_data pairs.now)
+        set.now symbols.now marks.now }
     requires rules { AreRuleLines (system_data system.now).rules (interpretations symbols.now) (map transfers rules) }
-    requires pairs { ArePairLines (system_data system.now).symbols (system_data system.now).rules (map pair_data pairs.now) (interpretations symbols.now) (marks_of marks.now) set.now (map transfers found.lines) found.drop }
+    requires pairs { ArePairLines (system_data system.now).symbols (system_data system.now).rules (map pair_data pairs.now)
+        (interpretations symbols.now) (marks_of marks.now) set.now (map transfers found.lines) found.drop }
     requires some { found.drop ≢ [] }
-    ensures { IfOk result (WeighsBy (system_data system.now) (map pair_data pairs.now) set.now (interpretations symbols.now) (marks_of marks.now)) }
+    ensures { IfOk result (WeighsBy (system_data system.now) (map pair_data pairs.now) set.now (interpretations symbols.now)
+        (marks_of marks.now)) }
 {
     system.is_well_made();
     let names = system.fun_names();

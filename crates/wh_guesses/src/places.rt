@@ -80,7 +80,8 @@ fn place_here(walk: Walk, of_sort: bool) -> Place
 
 // What is counted behind it.
 fn next_walk(walk: Walk, sorts: usize, of_sort: bool) -> Walk
-    ensures { (Γ : List Ty) (x : ℕ) → x < length Γ → is_sort (type_at Γ x) ≡ of_sort → sorts ≡ length (sort_variables Γ) → IsWalk Γ x walk → IsWalk Γ (suc x) result }
+    ensures { (Γ : List Ty) (x : ℕ) → x < length Γ → is_sort (type_at Γ x) ≡ of_sort → sorts ≡ length (sort_variables Γ)
+        → IsWalk Γ x walk → IsWalk Γ (suc x) result }
 {
     if of_sort {
         Walk {

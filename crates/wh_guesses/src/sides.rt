@@ -31,7 +31,9 @@ pub fn rule_side(
     requires interpreted { Interprets (system_data system.now).symbols (interpretations symbols.now) }
     requires normal { NormalInterpretations (interpretations symbols.now) }
     requires rule { rule < length (system_data system.now).rules }
-    ensures { (r : RewriteRule) → slice_get (system_data system.now).rules rule ≡ Some r → IfOk result (λ found. MatchOption found (HasNoSide (rule_run (interpretations symbols.now) r right)) (λ p. IsSide (rule_run (interpretations symbols.now) r right) (poly p))) }
+    ensures { (r : RewriteRule) → slice_get (system_data system.now).rules rule ≡ Some r
+        → IfOk result (λ found. MatchOption found (HasNoSide (rule_run (interpretations symbols.now) r right))
+        (λ p. IsSide (rule_run (interpretations symbols.now) r right) (poly p))) }
 {
     match side_of_rule(alloc, system, symbols, rule, right) {
         Ok(side) => Ok(Some(side)),
@@ -52,7 +54,8 @@ pub fn pair_side(
     requires interpreted { Interprets (system_data system.now).symbols (interpretations symbols.now) }
     requires normal { NormalInterpretations (interpretations symbols.now) }
     requires marks { AreNormalMarks (system_data system.now).symbols (system_data system.now).rules (marks_of marks.now) }
-    requires sides { HasMarkedSides (system_data system.now).symbols (system_data system.now).rules (marks_of marks.now) (pair_data pair.now) }
+    requires sides { HasMarkedSides (system_data system.now).symbols (system_data system.now).rules (marks_of marks.now)
+        (pair_data pair.now) }
     ensures { IfOk result (λ found. MatchOption found (HasNoSide (pair_run (system_data system.now).symbols (system_data system.now).rules (interpretations symbols.now) (marks_of marks.now) (pair_data pair.now) right))
         (λ p. IsSide (pair_run (system_data system.now).symbols (system_data system.now).rules (interpretations symbols.now) (marks_of marks.now) (pair_data pair.now) right) (poly p))) }
 {

@@ -98,7 +98,8 @@ fn pair_outcome(
     requires interpreted { Interprets (system_data system.now).symbols (interpretations symbols.now) }
     requires normal { NormalInterpretations (interpretations symbols.now) }
     requires marks { AreNormalMarks (system_data system.now).symbols (system_data system.now).rules (marks_of marks.now) }
-    requires sides { HasMarkedSides (system_data system.now).symbols (system_data system.now).rules (marks_of marks.now) (pair_data pair.now) }
+    requires sides { HasMarkedSides (system_data system.now).symbols (system_data system.now).rules (marks_of marks.now)
+        (pair_data pair.now) }
 {
     let Some(left) = pair_side(alloc, system, symbols, marks, pair, false)? else {
         return Ok(exceeding());
@@ -201,7 +202,8 @@ fn pair_fails(
     requires interpreted { Interprets (system_data system.now).symbols (interpretations symbols.now) }
     requires normal { NormalInterpretations (interpretations symbols.now) }
     requires marks { AreNormalMarks (system_data system.now).symbols (system_data system.now).rules (marks_of marks.now) }
-    requires sides { HasMarkedSides (system_data system.now).symbols (system_data system.now).rules (marks_of marks.now) (pair_data pair.now) }
+    requires sides { HasMarkedSides (system_data system.now).symbols (system_data system.now).rules (marks_of marks.now)
+        (pair_data pair.now) }
     ensures { IfOk result (λ told. OnTrue told (IsNotMet (pair_run (system_data system.now).symbols (system_data system.now).rules (interpretations symbols.now) (marks_of marks.now) (pair_data pair.now) false)
         (pair_run (system_data system.now).symbols (system_data system.now).rules (interpretations symbols.now) (marks_of marks.now) (pair_data pair.now) true))) }
 {
@@ -218,7 +220,8 @@ fn set_fails(
     marks: &[MarkedSymbol],
 ) -> Result<bool, AllocError>
     requires task { IsTask (system_data system.now).symbols (system_data system.now).rules (map pair_data pairs.now) set.now }
-    requires guess { IsGuess (system_data system.now).symbols (system_data system.now).rules (map pair_data pairs.now) set.now symbols.now marks.now }
+    requires guess { IsGuess (system_data system.now).symbols (system_data system.now).rules (map pair_data pairs.now)
+        set.now symbols.now marks.now }
     ensures { IfOk result (λ told. OnTrue told (Meets (system_data system.now).symbols (system_data system.now).rules (map pair_data pairs.now) set.now
         (interpretations symbols.now) (marks_of marks.now) some_strictly → ⊥)) }
 {
@@ -242,7 +245,8 @@ fn is_strict_pair(
     requires interpreted { Interprets (system_data system.now).symbols (interpretations symbols.now) }
     requires normal { NormalInterpretations (interpretations symbols.now) }
     requires marks { AreNormalMarks (system_data system.now).symbols (system_data system.now).rules (marks_of marks.now) }
-    requires sides { HasMarkedSides (system_data system.now).symbols (system_data system.now).rules (marks_of marks.now) (pair_data pair.now) }
+    requires sides { HasMarkedSides (system_data system.now).symbols (system_data system.now).rules (marks_of marks.now)
+        (pair_data pair.now) }
     ensures { IfOk result (λ told. IsTrue told ↔ IsMet (pair_run (system_data system.now).symbols (system_data system.now).rules (interpretations symbols.now) (marks_of marks.now) (pair_data pair.now) false)
         (pair_run (system_data system.now).symbols (system_data system.now).rules (interpretations symbols.now) (marks_of marks.now) (pair_data pair.now) true) true) }
 {

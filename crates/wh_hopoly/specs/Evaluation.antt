@@ -121,7 +121,8 @@ evaluate symbols Γ (var x) = one (variable (type_at Γ x) (length Γ) x)
 evaluate symbols Γ (symbol f) = one (renumber (λ i. length Γ + i) (interpretation_at symbols f).polynomial)
 evaluate symbols Γ (lambda A e) = evaluate symbols (Γ ++ A ∷ []) e
 evaluate symbols Γ (apply e d) =
-    next (evaluate symbols Γ e) (λ g. next (evaluate symbols Γ d) (λ p. apply_one (type_of symbols Γ d) (codomain (type_of symbols Γ e)) Γ g p))
+    next (evaluate symbols Γ e) (λ g. next (evaluate symbols Γ d)
+    (λ p. apply_one (type_of symbols Γ d) (codomain (type_of symbols Γ e)) Γ g p))
 
 -- an expression is well typed: its variables and symbols are there, and functions are applied to arguments of their types (ours)
 abbrev pub TypedExpression : List Interpretation → List Ty → Expression → Type 0

@@ -25,4 +25,5 @@ ValueOfPart symbols Γ e zero w = Contains (own_values symbols Γ e) w
 ValueOfPart symbols Γ (var x) (suc k) w = ⊥
 ValueOfPart symbols Γ (symbol f) (suc k) w = ⊥
 ValueOfPart symbols Γ (lambda A e) (suc k) w = ValueOfPart symbols (Γ ++ A ∷ []) e k w
-ValueOfPart symbols Γ (apply e d) (suc k) w = (k < parts e × ValueOfPart symbols Γ e k w) ⊎ (parts e ≤ k × ValueOfPart symbols Γ d (k - parts e) w)
+ValueOfPart symbols Γ (apply e d) (suc k) w = (k < parts e × ValueOfPart symbols Γ e k w)
+    ⊎ (parts e ≤ k × ValueOfPart symbols Γ d (k - parts e) w)

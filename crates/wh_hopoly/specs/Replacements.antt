@@ -20,7 +20,8 @@ head_of r = head_by (ty r.kind.now) r.variable (poly r.value.now)
 
 -- what a factor becomes, once its arguments are replaced (Fuhs and Kop 2012)
 abbrev pub replace_factor : (List Ty → Arguments → Run Polynomial) → ℕ → List Ty → ℕ → Arguments → Run Polynomial
-replace_factor head v Γ x ps = next (replace_arguments head v Γ (type_at Γ x) ps) (λ qs. if x == v then head (without v Γ) qs else one (atom (down v x) qs))
+replace_factor head v Γ x ps = next (replace_arguments head v Γ (type_at Γ x) ps)
+    (λ qs. if x == v then head (without v Γ) qs else one (atom (down v x) qs))
 
 -- the variable n has the type A between two parts of the scope Γ, it is gone from Δ, and the value g is normal where A's arguments go
 -- on from the first part (ours)
@@ -35,7 +36,8 @@ pub record Replaces (A : Ty) (n : ℕ) (g : Polynomial) (Γ Δ : List Ty) : Type
 -- the replacement fits the place, whose variables are counted (ours)
 abbrev pub Fits : Replacement → Place → Type 0
 Fits r place =
-    Replaces (ty r.kind.now) r.variable (poly r.value.now) (scope_of place.inner) (scope_of place.outer) × (place.count ≡ length (scope_of place.inner))
+    Replaces (ty r.kind.now) r.variable (poly r.value.now) (scope_of place.inner) (scope_of place.outer)
+    × (place.count ≡ length (scope_of place.inner))
 
 -- a value of a functional type applied to a value of its first argument's type; a sort has no arguments, and the value stays (ours)
 abbrev pub apply_at : Ty → List Ty → Polynomial → Polynomial → Run Polynomial

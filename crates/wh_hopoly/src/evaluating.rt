@@ -31,7 +31,8 @@ pub fn evaluate<'a>(
     requires typed { TypedExpression (readings table.now) (scope_of scope.now) (expression expr.now) }
     requires normal { NormalInterpretations (readings table.now) }
     requires counted { count ≡ length (scope_of scope.now) }
-    ensures ok { IfOk result (λ r. IsValueOf (readings table.now) (scope_of scope.now) (expression expr.now) r × (next.new ≡ next.old + parts (expression expr.now))) }
+    ensures ok { IfOk result (λ r. IsValueOf (readings table.now) (scope_of scope.now) (expression expr.now) r
+        × (next.new ≡ next.old + parts (expression expr.now))) }
     ensures fault { IfBecause result (IsFaultFrom next.old (readings table.now) (scope_of scope.now) (expression expr.now)) }
 {
     let at = *next;
@@ -68,8 +69,10 @@ fn evaluate_abstraction<'a>(
     requires normal { NormalInterpretations (readings table.now) }
     requires counted { count ≡ length (scope_of scope.now) }
     requires numbered { next.old ≡ at + 1 }
-    ensures ok { IfOk result (λ r. IsValueOf (readings table.now) (scope_of scope.now) (lambda (ty kind.now) (expression body.now)) r × (next.new ≡ next.old + parts (expression body.now))) }
-    ensures fault { IfBecause result (IsFaultFrom at (readings table.now) (scope_of scope.now) (lambda (ty kind.now) (expression body.now))) }
+    ensures ok { IfOk result (λ r. IsValueOf (readings table.now) (scope_of scope.now) (lambda (ty kind.now) (expression body.now)) r
+        × (next.new ≡ next.old + parts (expression body.now))) }
+    ensures fault { IfBecause result (IsFaultFrom at (readings table.now) (scope_of scope.now)
+        (lambda (ty kind.now) (expression body.now))) }
 {
     let inner = count.checked_add(1).ok_or(AllocError)?;
     let Valued { value, kind: rest } = evaluate(
@@ -103,8 +106,11 @@ fn evaluate_application<'a>(
     requires normal { NormalInterpretations (readings table.now) }
     requires counted { count ≡ length (scope_of scope.now) }
     requires numbered { next.old ≡ at + 1 }
-    ensures ok { IfOk result (λ r. IsValueOf (readings table.now) (scope_of scope.now) (apply (expression function.now) (expression argument.now)) r × (next.new ≡ next.old + (parts (expression function.now) + parts (expression argument.now)))) }
-    ensures fault { IfBecause result (IsFaultFrom at (readings table.now) (scope_of scope.now) (apply (expression function.now) (expression argument.now))) }
+    ensures ok { IfOk result (λ r. IsValueOf (readings table.now) (scope_of scope.now)
+        (apply (expression function.now) (expression argument.now)) r
+        × (next.new ≡ next.old + (parts (expression function.now) + parts (expression argument.now)))) }
+    ensures fault { IfBecause result (IsFaultFrom at (readings table.now) (scope_of scope.now)
+        (apply (expression function.now) (expression argument.now))) }
 {
     let applied = evaluate(alloc, function, &*scope, count, &*table, next)?;
     let passed = evaluate(alloc, argument, &*scope, count, &*table, next)?;

@@ -100,7 +100,8 @@ pub fn finish(alloc: Global, so_far: Growing) -> Result<Poly, AllocError>
 
 // The monomial, if there is one and no other, and else the value again.
 fn only_monomial(value: Poly) -> Result<Monomial, Poly>
-    ensures { MatchResult result (λ m. poly value ≡ plus (out-Monomial m).coefficient (atoms (out-Monomial m).atoms) zero_poly) (λ p. poly p ≡ poly value) }
+    ensures { MatchResult result (λ m. poly value ≡ plus (out-Monomial m).coefficient (atoms (out-Monomial m).atoms) zero_poly)
+        (λ p. poly p ≡ poly value) }
 {
     if value.as_slice().len() != 1 {
         return Err(value);
@@ -116,8 +117,10 @@ fn with_monomial(alloc: Global, so_far: Growing, item: Monomial) -> Result<Growi
     requires room { HasRoom so_far }
     requires left { Ordered (grown so_far) }
     requires right { Ordered (plus (out-Monomial item).coefficient (atoms (out-Monomial item).atoms) zero_poly) }
-    ensures ok { IfOk result (λ r. (grown r ≡ multiply (grown so_far) (plus (out-Monomial item).coefficient (atoms (out-Monomial item).atoms) zero_poly)) × HasRoom r) }
-    ensures fault { IfBecause result (λ e. ExceedsAs e (multiply (grown so_far) (plus (out-Monomial item).coefficient (atoms (out-Monomial item).atoms) zero_poly))) }
+    ensures ok { IfOk result (λ r. (grown r ≡ multiply (grown so_far)
+        (plus (out-Monomial item).coefficient (atoms (out-Monomial item).atoms) zero_poly)) × HasRoom r) }
+    ensures fault { IfBecause result (λ e. ExceedsAs e
+        (multiply (grown so_far) (plus (out-Monomial item).coefficient (atoms (out-Monomial item).atoms) zero_poly))) }
 {
     match room_for(&so_far, &item) {
         Some(room) => Ok(extended(so_far, item, room)?),
@@ -143,7 +146,8 @@ fn extended(so_far: Growing, item: Monomial, room: Room) -> Result<Growing, Allo
     requires room { HasRoom so_far }
     requires right { Ordered (plus (out-Monomial item).coefficient (atoms (out-Monomial item).atoms) zero_poly) }
     requires takes { TakesIn so_far item room }
-    ensures { IfOk result (λ r. (grown r ≡ multiply (grown so_far) (plus (out-Monomial item).coefficient (atoms (out-Monomial item).atoms) zero_poly)) × HasRoom r) }
+    ensures { IfOk result (λ r. (grown r ≡ multiply (grown so_far)
+        (plus (out-Monomial item).coefficient (atoms (out-Monomial item).atoms) zero_poly)) × HasRoom r) }
 {
     let Growing {
         first,

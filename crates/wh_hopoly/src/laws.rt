@@ -14,7 +14,8 @@ ghost use Rattle.wh_hopoly.specs.declared.fault.PolyFault.TheVariants.{Overflow,
 
 /// The value of a well-typed expression over normal interpretations is normal.
 pub fn values_are_normal()
-    ensures { (symbols : List Interpretation) (scope : List Ty) (e : Expression) → NormalInterpretations symbols → TypedExpression symbols scope e → Normal (scope ++ arguments (type_of symbols scope e)) (evaluate symbols scope e).result }
+    ensures { (symbols : List Interpretation) (scope : List Ty) (e : Expression) → NormalInterpretations symbols
+        → TypedExpression symbols scope e → Normal (scope ++ arguments (type_of symbols scope e)) (evaluate symbols scope e).result }
 {}
 
 /// The sum of two normal polynomials is normal.
@@ -34,7 +35,8 @@ pub fn sums_commute()
 
 /// Nor does it matter which are added first.
 pub fn sums_associate()
-    ensures { (scope : List Ty) (p q r : Polynomial) → Normal scope p → Normal scope q → Normal scope r → sum_poly (sum_poly p q) r ≡ sum_poly p (sum_poly q r) }
+    ensures { (scope : List Ty) (p q r : Polynomial) → Normal scope p → Normal scope q → Normal scope r
+        → sum_poly (sum_poly p q) r ≡ sum_poly p (sum_poly q r) }
 {}
 
 /// What exceeds a limit does so in each sum with a normal polynomial.
@@ -45,8 +47,10 @@ pub fn parts_of_sums_exceed_in_them()
 
 /// What exceeds a limit in a row of a product, or in the product without that row, does so in the product.
 pub fn rows_of_products_exceed_in_them()
-    ensures overflow { (c : ℕ) (us : Factors) (p q : Polynomial) → Overflows (scale c us q) ⊎ Overflows (multiply p q) → Overflows (multiply (plus c us p) q) }
-    ensures large { (scope : List Ty) (c : ℕ) (us : Factors) (p q : Polynomial) → Normal scope (plus c us p) → Normal scope q → TooLarge (scale c us q) ⊎ TooLarge (multiply p q) → TooLarge (multiply (plus c us p) q) }
+    ensures overflow { (c : ℕ) (us : Factors) (p q : Polynomial) → Overflows (scale c us q) ⊎ Overflows (multiply p q)
+        → Overflows (multiply (plus c us p) q) }
+    ensures large { (scope : List Ty) (c : ℕ) (us : Factors) (p q : Polynomial) → Normal scope (plus c us p) → Normal scope q
+        → TooLarge (scale c us q) ⊎ TooLarge (multiply p q) → TooLarge (multiply (plus c us p) q) }
 {}
 
 /// Two polynomials compare as equal exactly where they are equal.
@@ -72,11 +76,14 @@ pub fn partial_sums_exceed_in_the_next()
 
 /// The values of an evaluation are those that the rules of its parts give.
 pub fn values_are_those_of_the_parts()
-    ensures { (symbols : List Interpretation) (scope : List Ty) (e : Expression) (w : Polynomial) → Values symbols scope e w ↔ ((k : ℕ) × (k < parts e) × ValueOfPart symbols scope e k w) }
+    ensures { (symbols : List Interpretation) (scope : List Ty) (e : Expression) (w : Polynomial)
+        → Values symbols scope e w ↔ ((k : ℕ) × (k < parts e) × ValueOfPart symbols scope e k w) }
 {}
 
 /// The value that a fault speaks of is one of the values of the evaluation.
 pub fn faults_are_of_values()
-    ensures overflow { (symbols : List Interpretation) (scope : List Ty) (e : Expression) (k : ℕ) → IsFaultOf symbols scope e (Overflow k) → (w : Polynomial) × Values symbols scope e w × Overflows w }
-    ensures large { (symbols : List Interpretation) (scope : List Ty) (e : Expression) (k : ℕ) → IsFaultOf symbols scope e (too_large k) → (w : Polynomial) × Values symbols scope e w × TooLarge w }
+    ensures overflow { (symbols : List Interpretation) (scope : List Ty) (e : Expression) (k : ℕ)
+        → IsFaultOf symbols scope e (Overflow k) → (w : Polynomial) × Values symbols scope e w × Overflows w }
+    ensures large { (symbols : List Interpretation) (scope : List Ty) (e : Expression) (k : ℕ) → IsFaultOf symbols scope e (too_large k)
+        → (w : Polynomial) × Values symbols scope e w × TooLarge w }
 {}

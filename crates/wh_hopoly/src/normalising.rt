@@ -50,10 +50,15 @@ pub fn normal_call(
     scope: &[SimpleType],
     symbols: &[Symbol],
 ) -> Result<Poly, Or<PolyFault>>
-    requires typed { let all = interpretations symbols.now ++ record { kind = ty kind.now; polynomial = poly function.now } ∷ [] in TypedExpression all (map ty scope.now) (applied_to (symbol (length symbols.now)) (map expression args.now)) }
-    requires normal { let all = interpretations symbols.now ++ record { kind = ty kind.now; polynomial = poly function.now } ∷ [] in NormalInterpretations all }
-    ensures ok { IfOk result (λ r. let all = interpretations symbols.now ++ record { kind = ty kind.now; polynomial = poly function.now } ∷ [] in ComesTo (evaluate all (map ty scope.now) (applied_to (symbol (length symbols.now)) (map expression args.now))) (poly r)) }
-    ensures fault { IfBecause result (λ e. let all = interpretations symbols.now ++ record { kind = ty kind.now; polynomial = poly function.now } ∷ [] in IsFaultOf all (map ty scope.now) (applied_to (symbol (length symbols.now)) (map expression args.now)) e) }
+    requires typed { let all = interpretations symbols.now ++ record { kind = ty kind.now; polynomial = poly function.now }
+        ∷ [] in TypedExpression all (map ty scope.now) (applied_to (symbol (length symbols.now)) (map expression args.now)) }
+    requires normal { let all = interpretations symbols.now ++ record { kind = ty kind.now; polynomial = poly function.now }
+        ∷ [] in NormalInterpretations all }
+    ensures ok { IfOk result (λ r. let all = interpretations symbols.now ++ record { kind = ty kind.now; polynomial = poly function.now }
+        ∷ [] in ComesTo (evaluate all (map ty scope.now) (applied_to (symbol (length symbols.now)) (map expression args.now))) (poly r)) }
+    ensures fault { IfBecause result (λ e. let all = interpretations symbols.now ++ record
+        { kind = ty kind.now; polynomial = poly function.now }
+        ∷ [] in IsFaultOf all (map ty scope.now) (applied_to (symbol (length symbols.now)) (map expression args.now)) e) }
 {
     let count = count_of(scope.len())?;
     let given = Scope::Given(scope);

@@ -65,7 +65,8 @@ pub fn apply_one<'a>(
     requires function { Normal (scope_of scope.now ++ arguments (ty kind.now)) (poly function.now) }
     requires argument { NormalFor (scope_of scope.now) (ty kind.now) (poly argument.now) }
     ensures ok { IfOk result (λ r. ComesTo (apply_at (ty kind.now) (scope_of scope.now) (poly function.now) (poly argument.now)) (poly r)) }
-    ensures fault { IfBecause result (λ e. PassesLimit (apply_at (ty kind.now) (scope_of scope.now) (poly function.now) (poly argument.now)) e) }
+    ensures fault { IfBecause result (λ e. PassesLimit
+        (apply_at (ty kind.now) (scope_of scope.now) (poly function.now) (poly argument.now)) e) }
 {
     let SimpleType::Arrow(first, rest) = kind else {
         unreachable!();
@@ -93,8 +94,10 @@ fn replace<'a>(
 ) -> Result<Poly, Or<Excess>>
     requires fits { Fits replacement.now place.now }
     requires normal { Normal (scope_of place.now.inner) (poly p.now) }
-    ensures ok { IfOk result (λ r. ComesTo (replace_run (head_of replacement.now) replacement.now.variable (scope_of place.now.inner) zero_poly (poly p.now)) (poly r)) }
-    ensures fault { IfBecause result (λ e. PassesLimit (replace_run (head_of replacement.now) replacement.now.variable (scope_of place.now.inner) zero_poly (poly p.now)) e) }
+    ensures ok { IfOk result (λ r. ComesTo (replace_run (head_of replacement.now) replacement.now.variable (scope_of place.now.inner)
+        zero_poly (poly p.now)) (poly r)) }
+    ensures fault { IfBecause result (λ e. PassesLimit
+        (replace_run (head_of replacement.now) replacement.now.variable (scope_of place.now.inner) zero_poly (poly p.now)) e) }
 {
     let mut total = Total::new(alloc);
     for item in p.as_slice() {
@@ -116,8 +119,11 @@ fn replace_factors<'a>(
     requires fits { Fits replacement.now place.now }
     requires positive { 1 ≤ coefficient }
     requires normal { NormalFactors (scope_of place.now.inner) (atoms us.now) }
-    ensures ok { IfOk result (λ r. ComesTo (factors_run (head_of replacement.now) replacement.now.variable (scope_of place.now.inner) (constant coefficient) (atoms us.now)) (poly r)) }
-    ensures fault { IfBecause result (λ e. PassesLimit (factors_run (head_of replacement.now) replacement.now.variable (scope_of place.now.inner) (constant coefficient) (atoms us.now)) e) }
+    ensures ok { IfOk result (λ r. ComesTo (factors_run (head_of replacement.now) replacement.now.variable (scope_of place.now.inner)
+        (constant coefficient) (atoms us.now)) (poly r)) }
+    ensures fault { IfBecause result (λ e. PassesLimit
+        (factors_run (head_of replacement.now) replacement.now.variable (scope_of place.now.inner) (constant coefficient) (atoms us.now))
+        e) }
 {
     let mut so_far = start(alloc, coefficient)?;
     for item in us.as_slice() {
@@ -137,8 +143,11 @@ fn replace_factor<'a>(
 ) -> Result<Poly, Or<Excess>>
     requires fits { Fits replacement.now place.now }
     requires normal { HasNormalArguments (scope_of place.now.inner) (out-Atom item.now).head (polys (out-Atom item.now).args) }
-    ensures ok { IfOk result (λ r. ComesTo (factor_run (head_of replacement.now) replacement.now.variable (scope_of place.now.inner) (out-Atom item.now).head (polys (out-Atom item.now).args)) (poly r)) }
-    ensures fault { IfBecause result (λ e. PassesLimit (factor_run (head_of replacement.now) replacement.now.variable (scope_of place.now.inner) (out-Atom item.now).head (polys (out-Atom item.now).args)) e) }
+    ensures ok { IfOk result (λ r. ComesTo (factor_run (head_of replacement.now) replacement.now.variable (scope_of place.now.inner)
+        (out-Atom item.now).head (polys (out-Atom item.now).args)) (poly r)) }
+    ensures fault { IfBecause result (λ e. PassesLimit
+        (factor_run (head_of replacement.now) replacement.now.variable (scope_of place.now.inner) (out-Atom item.now).head
+        (polys (out-Atom item.now).args)) e) }
 {
     let Ok(kind) = find(&place.inner, item.head as usize) else {
         unreachable!();
@@ -170,8 +179,10 @@ fn replace_arguments<'a>(
 ) -> Result<Polys, Or<Excess>>
     requires fits { Fits replacement.now place.now }
     requires normal { NormalArguments (scope_of place.now.inner) (ty kind.now) (polys ps.now) }
-    ensures ok { IfOk result (λ r. ComesToArguments (arguments_run (head_of replacement.now) replacement.now.variable (scope_of place.now.inner) (ty kind.now) (polys ps.now)) (polys r)) }
-    ensures fault { IfBecause result (λ e. PassesLimit (arguments_run (head_of replacement.now) replacement.now.variable (scope_of place.now.inner) (ty kind.now) (polys ps.now)) e) }
+    ensures ok { IfOk result (λ r. ComesToArguments (arguments_run (head_of replacement.now) replacement.now.variable
+        (scope_of place.now.inner) (ty kind.now) (polys ps.now)) (polys r)) }
+    ensures fault { IfBecause result (λ e. PassesLimit
+        (arguments_run (head_of replacement.now) replacement.now.variable (scope_of place.now.inner) (ty kind.now) (polys ps.now)) e) }
 {
     let mut out = Polys::new(alloc)?;
     let mut here = kind;

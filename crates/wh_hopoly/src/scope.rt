@@ -21,7 +21,8 @@ pub enum Scope<'a> {
 
 /// The type of the variable, or how far past the end of the scope its number is.
 pub fn find<'a>(scope: &'a Scope<'a>, variable: usize) -> Result<&'a SimpleType, usize>
-    ensures { MatchResult result (λ kind. HasType (scope_of scope.now) variable (ty kind.now)) (λ past. length (scope_of scope.now) + past ≡ variable) }
+    ensures { MatchResult result (λ kind. HasType (scope_of scope.now) variable (ty kind.now))
+        (λ past. length (scope_of scope.now) + past ≡ variable) }
 {
     match scope {
         Scope::Given(types) => {
@@ -44,7 +45,8 @@ pub fn find<'a>(scope: &'a Scope<'a>, variable: usize) -> Result<&'a SimpleType,
 
 // The type of argument `i`, or how far past the last one it is.
 fn find_argument(kind: &SimpleType, i: usize) -> Result<&SimpleType, usize>
-    ensures { MatchResult result (λ found. HasType (arguments (ty kind.now)) i (ty found.now)) (λ past. length (arguments (ty kind.now)) + past ≡ i) }
+    ensures { MatchResult result (λ found. HasType (arguments (ty kind.now)) i (ty found.now))
+        (λ past. length (arguments (ty kind.now)) + past ≡ i) }
 {
     let mut left = i;
     let mut here = kind;

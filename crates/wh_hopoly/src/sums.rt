@@ -71,7 +71,8 @@ fn next_of_sum(
 fn add_first(xs: &mut VecDeque<Monomial>, ys: &mut VecDeque<Monomial>) -> Option<Monomial>
     requires left { 0 < length xs.old.items }
     requires right { 0 < length ys.old.items }
-    ensures { MatchOption result (FirstOverflows xs.old.items ys.old.items) (AddsFirst xs.old.items ys.old.items xs.new.items ys.new.items) }
+    ensures { MatchOption result (FirstOverflows xs.old.items ys.old.items)
+        (AddsFirst xs.old.items ys.old.items xs.new.items ys.new.items) }
 {
     let x = xs.pop_front()?;
     let Monomial { coefficient, atoms } = ys.pop_front()?;

@@ -42,7 +42,8 @@ pub fn value_of_variable<'a>(
 ) -> Result<Valued, Or<Excess>>
     requires typed { (A : Ty) × HasType (scope_of scope.now) x A }
     requires counted { count ≡ length (scope_of scope.now) }
-    ensures ok { IfOk result (Yields (one (variable_at (type_at (scope_of scope.now) x) (length (scope_of scope.now)) x)) (type_at (scope_of scope.now) x)) }
+    ensures ok { IfOk result (Yields (one (variable_at (type_at (scope_of scope.now) x) (length (scope_of scope.now)) x))
+        (type_at (scope_of scope.now) x)) }
     ensures fault { IfBecause result (PassesLimit (one (variable_at (type_at (scope_of scope.now) x) (length (scope_of scope.now)) x))) }
 {
     let Ok(kind) = find(scope, x as usize) else {
@@ -87,8 +88,10 @@ pub fn apply_valued<'a>(
     requires counted { count ≡ length (scope_of scope.now) }
     requires function { Normal (scope_of scope.now ++ arguments (ty function.kind)) (poly function.value) }
     requires argument { NormalFor (scope_of scope.now) (ty function.kind) (poly argument.now) }
-    ensures ok { IfOk result (Yields (apply_at (ty function.kind) (scope_of scope.now) (poly function.value) (poly argument.now)) (result_type (ty function.kind))) }
-    ensures fault { IfBecause result (PassesLimit (apply_at (ty function.kind) (scope_of scope.now) (poly function.value) (poly argument.now))) }
+    ensures ok { IfOk result (Yields (apply_at (ty function.kind) (scope_of scope.now) (poly function.value) (poly argument.now))
+        (result_type (ty function.kind))) }
+    ensures fault { IfBecause result (PassesLimit (apply_at (ty function.kind) (scope_of scope.now) (poly function.value)
+        (poly argument.now))) }
 {
     let Valued { value, kind } = function;
     let value = apply_one(alloc, &kind, &*scope, count, &value, &*argument)?;

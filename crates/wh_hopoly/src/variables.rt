@@ -35,7 +35,8 @@ pub fn variable(alloc: Global, kind: &SimpleType, count: u32, x: u32) -> Result<
 
 // What is left of the budget without the weight of the variables that the type adds; None as in `weigh`.
 fn weigh_added(kind: &SimpleType, budget: u32, depth: u32) -> Option<u32>
-    ensures { MatchOption result ((budget < added_weight (ty kind.now)) ⊎ (depth < added_nesting (ty kind.now))) (λ left. (added_weight (ty kind.now) + left ≡ budget) × (added_nesting (ty kind.now) ≤ depth)) }
+    ensures { MatchOption result ((budget < added_weight (ty kind.now)) ⊎ (depth < added_nesting (ty kind.now)))
+        (λ left. (added_weight (ty kind.now) + left ≡ budget) × (added_nesting (ty kind.now) ≤ depth)) }
 {
     let mut left = budget;
     let mut here = kind;

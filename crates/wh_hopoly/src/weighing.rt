@@ -9,7 +9,8 @@ use crate::polynomial::{Atoms, Poly, Polys};
 /// What is left of the budget without the weight; None where the weight is above it, or the arguments nest deeper than the depth.
 #[cycle(weigh)]
 pub fn weigh(p: &Poly, budget: u32, depth: u32) -> Option<u32>
-    ensures { MatchOption result ((budget < weight (poly p.now)) ⊎ (depth < nesting (poly p.now))) (λ left. (weight (poly p.now) + left ≡ budget) × (nesting (poly p.now) ≤ depth)) }
+    ensures { MatchOption result ((budget < weight (poly p.now)) ⊎ (depth < nesting (poly p.now)))
+        (λ left. (weight (poly p.now) + left ≡ budget) × (nesting (poly p.now) ≤ depth)) }
 {
     let mut left = budget;
     for item in p.as_slice() {
@@ -24,7 +25,8 @@ pub fn weigh(p: &Poly, budget: u32, depth: u32) -> Option<u32>
 /// The same of factors.
 #[cycle(weigh)]
 pub fn weigh_factors(us: &Atoms, budget: u32, depth: u32) -> Option<u32>
-    ensures { MatchOption result ((budget < weight_of_factors (atoms us.now)) ⊎ (depth < nesting_of_factors (atoms us.now))) (λ left. (weight_of_factors (atoms us.now) + left ≡ budget) × (nesting_of_factors (atoms us.now) ≤ depth)) }
+    ensures { MatchOption result ((budget < weight_of_factors (atoms us.now)) ⊎ (depth < nesting_of_factors (atoms us.now)))
+        (λ left. (weight_of_factors (atoms us.now) + left ≡ budget) × (nesting_of_factors (atoms us.now) ≤ depth)) }
 {
     let mut left = budget;
     for item in us.as_slice() {
@@ -39,7 +41,8 @@ pub fn weigh_factors(us: &Atoms, budget: u32, depth: u32) -> Option<u32>
 /// The same of arguments, which nest one level deeper than what is in them.
 #[cycle(weigh)]
 pub fn weigh_arguments(ps: &Polys, budget: u32, depth: u32) -> Option<u32>
-    ensures { MatchOption result ((budget < weight_of_arguments (polys ps.now)) ⊎ (depth < nesting_of_arguments (polys ps.now))) (λ left. (weight_of_arguments (polys ps.now) + left ≡ budget) × (nesting_of_arguments (polys ps.now) ≤ depth)) }
+    ensures { MatchOption result ((budget < weight_of_arguments (polys ps.now)) ⊎ (depth < nesting_of_arguments (polys ps.now)))
+        (λ left. (weight_of_arguments (polys ps.now) + left ≡ budget) × (nesting_of_arguments (polys ps.now) ≤ depth)) }
 {
     let mut left = budget;
     for item in ps.as_slice() {

@@ -13,8 +13,10 @@ pub data ComputableAt (S : Symbols) (rank : ℕ → ℕ) (R : Tm → Tm → Type
   computable_at : {s : ℕ} {t : Tm}
       → Typed S [] [] t (sort s)
       → ((u : Tm) → R t u → ComputableAt S rank R Low s u)
-      → ((f i r : ℕ) (ts : List Tm) (u : Tm) → t ≡ spine (fun f) ts → PlaceHas S f i (sort r) → rank r ≡ rank s → slice_get ts i ≡ Some u → ComputableAt S rank R Low r u)
-      → ((f i : ℕ) (a : Ty) (ts : List Tm) (u : Tm) → t ≡ spine (fun f) ts → PlaceHas S f i a → RanksBelow rank (rank s) a → slice_get ts i ≡ Some u → Low a u)
+      → ((f i r : ℕ) (ts : List Tm) (u : Tm) → t ≡ spine (fun f) ts → PlaceHas S f i (sort r) → rank r ≡ rank s → slice_get ts i ≡ Some u
+      → ComputableAt S rank R Low r u)
+      → ((f i : ℕ) (a : Ty) (ts : List Tm) (u : Tm) → t ≡ spine (fun f) ts → PlaceHas S f i a → RanksBelow rank (rank s) a
+      → slice_get ts i ≡ Some u → Low a u)
       → ComputableAt S rank R Low s t
 
 -- P where the test holds, Q where it fails
@@ -26,7 +28,8 @@ by_test false P Q = Q
 -- computable terms to computable terms (Tait 1967)
 abbrev pub ComputableUpTo : Symbols → (ℕ → ℕ) → (Tm → Tm → Type 0) → (Ty → Tm → Type 0) → ℕ → Ty → Tm → Type 0
 ComputableUpTo S rank R Low k (sort s) t = by_test (ltb (rank s) k) (Low (sort s) t) (ComputableAt S rank R Low s t)
-ComputableUpTo S rank R Low k (a ⇒ b) t = Typed S [] [] t (a ⇒ b) × ((u : Tm) → ComputableUpTo S rank R Low k a u → ComputableUpTo S rank R Low k b (app t u))
+ComputableUpTo S rank R Low k (a ⇒ b) t = Typed S [] [] t (a ⇒ b)
+    × ((u : Tm) → ComputableUpTo S rank R Low k a u → ComputableUpTo S rank R Low k b (app t u))
 
 -- computability for types whose sorts have ranks below k
 abbrev pub ComputableBelow : Symbols → (ℕ → ℕ) → (Tm → Tm → Type 0) → ℕ → Ty → Tm → Type 0
@@ -42,7 +45,8 @@ Computable S rank R a = ComputableBelow S rank R (above_ranks rank a) a
 pub record IsComputableAtSort (S : Symbols) (rank : ℕ → ℕ) (R : Tm → Tm → Type 0) (s : ℕ) (t : Tm) : Type 0 where
   pub typed : Typed S [] [] t (sort s)
   pub reducts : (u : Tm) → R t u → Computable S rank R (sort s) u
-  pub accessible : (f i : ℕ) (a : Ty) (ts : List Tm) (u : Tm) → t ≡ spine (fun f) ts → PlaceHas S f i a → IsAccessibleIn rank s a → slice_get ts i ≡ Some u → Computable S rank R a u
+  pub accessible : (f i : ℕ) (a : Ty) (ts : List Tm) (u : Tm) → t ≡ spine (fun f) ts → PlaceHas S f i a → IsAccessibleIn rank s a
+      → slice_get ts i ≡ Some u → Computable S rank R a u
 
 -- what it is at the arrow a ⇒ b: the term is well typed, and takes computable terms to computable ones
 pub record IsComputableAtArrow (S : Symbols) (rank : ℕ → ℕ) (R : Tm → Tm → Type 0) (a b : Ty) (t : Tm) : Type 0 where

@@ -30,4 +30,5 @@ PlaceHas S f i a = (b : Ty) × (slice_get S.funs f ≡ Some b) × (slice_get (ar
 
 -- the place i of the symbol f is accessible
 abbrev pub IsAccessible : Symbols → (ℕ → ℕ) → ℕ → ℕ → Type 0
-IsAccessible S rank f i = (a b : Ty) × (slice_get S.funs f ≡ Some b) × (slice_get (arguments b) i ≡ Some a) × IsAccessibleIn rank (result_sort b) a
+IsAccessible S rank f i = (a b : Ty) × (slice_get S.funs f ≡ Some b) × (slice_get (arguments b) i ≡ Some a)
+    × IsAccessibleIn rank (result_sort b) a

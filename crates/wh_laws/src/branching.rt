@@ -17,10 +17,12 @@ pub fn matches_agree()
 
 /// A meta-substitution gives a rule's left side the term as its value, or none does.
 pub fn matching_is_decided()
-    ensures { (S : Symbols) (r : RewriteRule) (t : Tm) → IsWellMade S r → (((g : ℕ → Body) × Value g r.left t) ⊎ ((g : ℕ → Body) → Value g r.left t → ⊥)) }
+    ensures { (S : Symbols) (r : RewriteRule) (t : Tm) → IsWellMade S r
+        → (((g : ℕ → Body) × Value g r.left t) ⊎ ((g : ℕ → Body) → Value g r.left t → ⊥)) }
 {}
 
 /// There is a list of exactly the reducts of a term.
 pub fn reducts_are_finite()
-    ensures { (S : Symbols) (rules : List RewriteRule) (t : Tm) → AreWellMade S rules → LooseBelow 0 t → IsTerm t → (l : List Tm) × ListsAll (Step rules) t l }
+    ensures { (S : Symbols) (rules : List RewriteRule) (t : Tm) → AreWellMade S rules → LooseBelow 0 t → IsTerm t
+        → (l : List Tm) × ListsAll (Step rules) t l }
 {}

@@ -90,7 +90,8 @@ TellsEntry S x m (Some e) = IsTypedMet S m × (e.number ≡ x) × (ty e.kind ≡
 -- the puts `new` are `old` and one for the variable of the number x, if something stands in its place (ours)
 abbrev pub IsPushed : Symbols → ℕ → Option Met → List Put → List Put → Type 0
 IsPushed S x None old new = new ≡ old
-IsPushed S x (Some m) old new = (p : Put) × IsTypedMet S m × (p.number ≡ x) × (p.kind ≡ ty m.kind.now) × (p.value ≡ tm m.value.now) × (new ≡ old ++ p ∷ [])
+IsPushed S x (Some m) old new = (p : Put) × IsTypedMet S m × (p.number ≡ x) × (p.kind ≡ ty m.kind.now) × (p.value ≡ tm m.value.now)
+    × (new ≡ old ++ p ∷ [])
 
 -- what stands in the place of a variable has not its type (ours)
 abbrev pub IsUntyped : Symbols → Option Met → Type 0

@@ -57,8 +57,10 @@ pub fn certificate_of(
     requires start { IsSomeStart (system_data system.now).rules (tm start.now) }
     requires fits { Fits (tm start.now) }
     requires some { 0 < length steps }
-    requires leads { (last : Tm) × Replays (system_data system.now).rules steps (tm start.now) last × IsInstanceIn (system_data system.now).symbols (tm start.now) last instance }
-    ensures { (depth : ℕ) → length steps ≤ depth → depth ≤ 100 → IfOk result (λ c. IsLoopCertificate (system_data system.now) depth (said_no c)) }
+    requires leads { (last : Tm) × Replays (system_data system.now).rules steps (tm start.now) last
+        × IsInstanceIn (system_data system.now).symbols (tm start.now) last instance }
+    ensures { (depth : ℕ) → length steps ≤ depth → depth ≤ 100
+        → IfOk result (λ c. IsLoopCertificate (system_data system.now) depth (said_no c)) }
 {
     system.is_well_made();
     let Instance { at, puts } = instance;

@@ -22,7 +22,8 @@ fn has_type(
     term: &Term,
     kind: &SimpleType,
 ) -> Result<bool, AllocError>
-    ensures { IfOk result (λ yes. MatchBool yes (Typed (symbols signature.now) [] [] (tm term.now) (ty kind.now)) (Typed (symbols signature.now) [] [] (tm term.now) (ty kind.now) → ⊥)) }
+    ensures { IfOk result (λ yes. MatchBool yes (Typed (symbols signature.now) [] [] (tm term.now) (ty kind.now))
+        (Typed (symbols signature.now) [] [] (tm term.now) (ty kind.now) → ⊥)) }
 {
     let no_metas = Metas::new(alloc)?;
     match type_of(alloc, signature, &no_metas, term)? {

@@ -160,7 +160,8 @@ pub fn find_instance(
     requires start { IsSomeStart (system_data system.now).rules (tm start.now) }
     requires small { InSpace (tm term.now) }
     requires typed { WellTyped (system_data system.now).symbols (tm term.now) }
-    ensures { IfOk result (λ found. MatchOption found (HoldsInstanceOf (system_data system.now).symbols (tm start.now) (tm term.now) → ⊥) (IsInstanceIn (system_data system.now).symbols (tm start.now) (tm term.now))) }
+    ensures { IfOk result (λ found. MatchOption found (HoldsInstanceOf (system_data system.now).symbols (tm start.now) (tm term.now) → ⊥)
+        (IsInstanceIn (system_data system.now).symbols (tm start.now) (tm term.now))) }
 {
     system.is_well_made();
     let search = Search {

@@ -41,7 +41,8 @@ fn meets_variable<'a>(
 ) -> bool
     requires { number < length table.old.items }
     ensures kept { length table.new.items ≡ length table.old.items }
-    ensures told { MatchBool result (IsMeeting (free number (ty kind.now)) (tm part.now) table.old.items table.new.items) (HasNoMeeting (free number (ty kind.now)) (tm part.now) table.old.items) }
+    ensures told { MatchBool result (IsMeeting (free number (ty kind.now)) (tm part.now) table.old.items table.new.items)
+        (HasNoMeeting (free number (ty kind.now)) (tm part.now) table.old.items) }
     ensures from { OnTrue result (IsFrom (free number (ty kind.now)) table.old.items table.new.items) }
 {
     match table[number as usize] {
@@ -60,7 +61,8 @@ pub fn meets<'a>(start: &'a Term, part: &'a Term, table: &mut Vec<Option<Met<'a>
     requires plain { IsTerm (tm start.now) }
     requires numbers { first_unused (tm start.now) ≤ length table.old.items }
     ensures kept { length table.new.items ≡ length table.old.items }
-    ensures told { MatchBool result (IsMeeting (tm start.now) (tm part.now) table.old.items table.new.items) (HasNoMeeting (tm start.now) (tm part.now) table.old.items) }
+    ensures told { MatchBool result (IsMeeting (tm start.now) (tm part.now) table.old.items table.new.items)
+        (HasNoMeeting (tm start.now) (tm part.now) table.old.items) }
     ensures from { OnTrue result (IsFrom (tm start.now) table.old.items table.new.items) }
 {
     match start {

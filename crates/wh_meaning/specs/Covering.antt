@@ -33,7 +33,8 @@ CoversRule symbols rules lines i =
     → CoversSides (rule_run symbols r false) (rule_run symbols r true) false ms
 
 -- and of the line with this place, which is that of a pair of the set; the dropped ones shrink
-abbrev pub CoversPair : Symbols → List RewriteRule → List PairData → List ℕ → List Interpretation → List Mark → List (List Transfer) → List ℕ → ℕ → Type 0
+abbrev pub CoversPair : Symbols → List RewriteRule → List PairData → List ℕ → List Interpretation → List Mark → List (List Transfer)
+    → List ℕ → ℕ → Type 0
 CoversPair S rules pairs set symbols marks lines drop i =
     (n : ℕ) (p : PairData) (ms : List Transfer) → slice_get set i ≡ Some n → slice_get pairs n ≡ Some p → slice_get lines i ≡ Some ms
     → CoversSides (pair_run S rules symbols marks p false) (pair_run S rules symbols marks p true) false ms
@@ -63,4 +64,5 @@ pub record IsCovering (S : Symbols) (rules : List RewriteRule) (pairs : List Pai
 -- asks (ours)
 abbrev pub HaveTypedSides : Symbols → List RewriteRule → List PairData → Type 0
 HaveTypedSides S rules pairs =
-    (marks : List Mark) (p : PairData) → Contains pairs p → HasMark marks p.left_fun → HasMark marks p.right_fun → HasMarkedSides S rules marks p
+    (marks : List Mark) (p : PairData) → Contains pairs p → HasMark marks p.left_fun → HasMark marks p.right_fun
+    → HasMarkedSides S rules marks p

@@ -10,7 +10,9 @@ ghost use Rattle.wh_meaning.specs.Meaning.{den, reading, mean};
 
 /// The value of a well-typed expression over normal interpretations means the same as the expression.
 pub fn values_mean_the_same()
-    ensures { (symbols : List Interpretation) (scope : List Ty) (e : Expression) (v : Valuation) → NormalInterpretations symbols → TypedExpression symbols scope e → reading (type_of symbols scope e) scope v (evaluate symbols scope e).result ≡ mean symbols scope e v }
+    ensures { (symbols : List Interpretation) (scope : List Ty) (e : Expression) (v : Valuation) → NormalInterpretations symbols
+        → TypedExpression symbols scope e → reading (type_of symbols scope e) scope v
+        (evaluate symbols scope e).result ≡ mean symbols scope e v }
 {}
 
 /// A polynomial that is at least another one by its monomials means a number at least as great.

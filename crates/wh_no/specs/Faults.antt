@@ -79,7 +79,8 @@ IsPlaceFault t puts at u _ = ⊥
 abbrev pub IsFirstFalse : SystemData → RTm → List taken.Step → List ℕ → List written.Put → NoFault → Type 0
 IsFirstFalse d raw steps at lines NotATerm = (t : Tm) → IsTermFor d raw t → ⊥
 IsFirstFalse d raw steps at lines (BadPut i) = (t : Tm) × (u : Tm) × IsTermFor d raw t × Arrive d.rules steps t u × IsFirstBadLine d lines i
-IsFirstFalse d raw steps at lines NoInstance = (t : Tm) × (u : Tm) × (puts : List Put) × IsTermFor d raw t × Arrive d.rules steps t u × AreRight d lines puts × (HoldsInstance t puts at u → ⊥)
+IsFirstFalse d raw steps at lines NoInstance = (t : Tm) × (u : Tm) × (puts : List Put) × IsTermFor d raw t × Arrive d.rules steps t u
+    × AreRight d lines puts × (HoldsInstance t puts at u → ⊥)
 IsFirstFalse d raw steps at lines fault = (t : Tm) × IsTermFor d raw t × IsStepFault d.rules steps t fault
 
 -- the fault names the first condition of a valid certificate that is false, in the order of its parts (ours)

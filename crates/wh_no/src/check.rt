@@ -32,7 +32,8 @@ pub struct AcceptedNo {
 
 // The term that a raw term stands for, if it fits.
 fn check_term(alloc: Global, system: &System, raw: &RawTerm) -> Result<Term, Or<NoFault>>
-    ensures { MatchOr result (λ term. IsTermFor (system_data system.now) (rtm raw.now) (tm term)) (IsTermFault (system_data system.now) (rtm raw.now)) }
+    ensures { MatchOr result (λ term. IsTermFor (system_data system.now) (rtm raw.now) (tm term))
+        (IsTermFault (system_data system.now) (rtm raw.now)) }
 {
     match system.resolve(alloc, raw)? {
         Some(term) if fits(&term) => Ok(term),
@@ -52,7 +53,8 @@ pub fn check_no(
     requires { IsCert (said_no certificate.now) }
     ensures accepted { IfOk result (IsAccepted (system_data system.now) (said_no certificate.now)) }
     ensures refused { IfBecause result (IsFirstFault (system_data system.now) (said_no certificate.now)) }
-    ensures unbounded { OnOk result ((t : Tm) → Means (system_data system.now) (rtm certificate.now.term) t → Unbounded (system_data system.now).rules t) }
+    ensures unbounded { OnOk result ((t : Tm) → Means (system_data system.now) (rtm certificate.now.term) t
+        → Unbounded (system_data system.now).rules t) }
 {
     let term = check_term(alloc, system, &certificate.term)?;
     system.is_well_made();

@@ -68,7 +68,8 @@ pub fn check_instance(
     requires increasing { AllPairs IsBelow (entry_puts entries.now) }
     requires fits { Fits (tm last.now) }
     requires closed { LooseBelow 0 (tm last.now) }
-    ensures { MatchOr result (λ _. HoldsInstance (tm term.now) (entry_puts entries.now) at.now (tm last.now)) (IsPlaceFault (tm term.now) (entry_puts entries.now) at.now (tm last.now)) }
+    ensures { MatchOr result (λ _. HoldsInstance (tm term.now) (entry_puts entries.now) at.now (tm last.now))
+        (IsPlaceFault (tm term.now) (entry_puts entries.now) at.now (tm last.now)) }
 {
     if at.as_slice().len() > MOST_SIZE {
         return Err(Or::Because(NoFault::NoInstance));

@@ -19,10 +19,12 @@ pub fn valid_claims_are_unbounded()
 
 /// One fault at most is the first of a certificate.
 pub fn one_first_fault()
-    ensures { (d : SystemData) (cert : Cert) (f g : fault.NoFault) → AreWellMade d.symbols d.rules → IsFirstFault d cert f → IsFirstFault d cert g → f ≡ g }
+    ensures { (d : SystemData) (cert : Cert) (f g : fault.NoFault) → AreWellMade d.symbols d.rules → IsFirstFault d cert f
+        → IsFirstFault d cert g → f ≡ g }
 {}
 
 /// A certificate that is accepted has no fault; so the check accepts exactly the certificates of valid claims.
 pub fn accepted_or_refused()
-    ensures { (d : SystemData) (cert : Cert) (accepted : check.AcceptedNo) (f : fault.NoFault) → AreWellMade d.symbols d.rules → IsAccepted d cert accepted → IsFirstFault d cert f → ⊥ }
+    ensures { (d : SystemData) (cert : Cert) (accepted : check.AcceptedNo) (f : fault.NoFault) → AreWellMade d.symbols d.rules
+        → IsAccepted d cert accepted → IsFirstFault d cert f → ⊥ }
 {}

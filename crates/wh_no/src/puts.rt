@@ -25,7 +25,8 @@ fn has_type(
     term: &Term,
     kind: &SimpleType,
 ) -> Result<bool, AllocError>
-    ensures { IfOk result (λ yes. MatchBool yes (Typed (system_data system.now).symbols [] [] (tm term.now) (ty kind.now)) (Typed (system_data system.now).symbols [] [] (tm term.now) (ty kind.now) → ⊥)) }
+    ensures { IfOk result (λ yes. MatchBool yes (Typed (system_data system.now).symbols [] [] (tm term.now) (ty kind.now))
+        (Typed (system_data system.now).symbols [] [] (tm term.now) (ty kind.now) → ⊥)) }
 {
     let no_metas = Metas::new(alloc)?;
     match type_of(alloc, system.signature(), &no_metas, term)? {
@@ -57,7 +58,8 @@ fn typed_put(alloc: Global, system: &System, put: &Put) -> Result<Option<SubstEn
 
 // Whether the number is above that of the last entry, if there is one.
 fn is_above(entries: &[SubstEntry], number: u32) -> bool
-    ensures { IsTrue result ↔ ((k : ℕ) (e : entry.SubstEntry) → k + 1 ≡ length entries.now → slice_get entries.now k ≡ Some e → e.number < number) }
+    ensures { IsTrue result ↔ ((k : ℕ) (e : entry.SubstEntry) → k + 1 ≡ length entries.now → slice_get entries.now k ≡ Some e
+        → e.number < number) }
 {
     match entries.last() {
         Some(before) => before.number < number,
@@ -73,7 +75,8 @@ pub fn check_puts(
     puts: &[Put],
 ) -> Result<Vec<SubstEntry>, Or<NoFault>>
     requires { length puts.now ≤ 2 ^ 32 }
-    ensures { MatchOr result (λ entries. AreRight (system_data system.now) (map said_put puts.now) (entry_puts entries.items)) (IsPutFault (system_data system.now) (map said_put puts.now)) }
+    ensures { MatchOr result (λ entries. AreRight (system_data system.now) (map said_put puts.now) (entry_puts entries.items))
+        (IsPutFault (system_data system.now) (map said_put puts.now)) }
 {
     let mut entries = Vec::new(alloc);
     for (i, put) in puts.iter().enumerate() {

@@ -28,7 +28,8 @@ pub fn check_steps(
     requires shut { LooseBelow 0 (tm term.now) }
     requires plain { IsTerm (tm term.now) }
     requires counted { length steps.now < 2 ^ 32 }
-    ensures { MatchOr result (λ last. Arrive (rewrite_rules rules.now) steps.now (tm term.now) (tm last)) (IsStepFault (rewrite_rules rules.now) steps.now (tm term.now)) }
+    ensures { MatchOr result (λ last. Arrive (rewrite_rules rules.now) steps.now (tm term.now) (tm last))
+        (IsStepFault (rewrite_rules rules.now) steps.now (tm term.now)) }
 {
     if steps.is_empty() {
         return Err(Or::Because(NoFault::NoStep));

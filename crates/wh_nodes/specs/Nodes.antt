@@ -28,7 +28,8 @@ pub record IsSetOf (P : ℕ → Type 0) (set : List ℕ) : Type 0 where
 -- the sets are those of the blocks, in order
 pub data AreSetsOf : List (List ℕ) → List (List ℕ) → Type 0 where
   no_sets : AreSetsOf [] []
-  more_sets : {part set : List ℕ} {parts sets : List (List ℕ)} → IsSetOf (Contains part) set → AreSetsOf parts sets → AreSetsOf (part ∷ parts) (set ∷ sets)
+  more_sets : {part set : List ℕ} {parts sets : List (List ℕ)} → IsSetOf (Contains part) set → AreSetsOf parts sets
+      → AreSetsOf (part ∷ parts) (set ∷ sets)
 
 -- the numbers of the set that are not dropped
 abbrev pub IsKept : List ℕ → List ℕ → ℕ → Type 0
@@ -39,8 +40,10 @@ IsKept set drop n = Contains set n × (Contains drop n → ⊥)
 pub data Leaves (S : Symbols) (rules : List RewriteRule) (pairs : List PairData) : List ℕ → Node → List (List ℕ) → Type 0 where
   by_done : Leaves S rules pairs [] done []
   by_alone : {a : ℕ} → (Follows rules pairs a a → ⊥) → Leaves S rules pairs (a ∷ []) alone []
-  by_blocks : {set : List ℕ} {parts sets : List (List ℕ)} → AreBlocks (Follows rules pairs) set parts → AreSetsOf parts sets → Leaves S rules pairs set (blocks parts) sets
-  by_subterm : {set drop rest : List ℕ} {args : List Chosen} → IsProjection rules pairs set args drop → IsSetOf (IsKept set drop) rest → Leaves S rules pairs set (subterm args drop) (rest ∷ [])
+  by_blocks : {set : List ℕ} {parts sets : List (List ℕ)} → AreBlocks (Follows rules pairs) set parts → AreSetsOf parts sets
+      → Leaves S rules pairs set (blocks parts) sets
+  by_subterm : {set drop rest : List ℕ} {args : List Chosen} → IsProjection rules pairs set args drop → IsSetOf (IsKept set drop) rest
+      → Leaves S rules pairs set (subterm args drop) (rest ∷ [])
   by_poly : {set drop rest : List ℕ} {symbols : List Interpretation} {marks : List Mark} {rule_lines pair_lines : List (List Transfer)}
       → IsCovering S rules pairs set symbols marks rule_lines pair_lines drop → IsSetOf (IsKept set drop) rest
       → Leaves S rules pairs set (poly symbols marks rule_lines pair_lines drop) (rest ∷ [])

@@ -9,7 +9,8 @@ use Rattle.wh_nodes.specs.Nodes.{Node, Leaves}
 -- the sets behind its own (ours)
 pub data Proves (S : Symbols) (rules : List RewriteRule) (pairs : List PairData) : List (List ℕ) → List Node → Type 0 where
   all_proved : Proves S rules pairs [] []
-  one_proved : {set : List ℕ} {left sets : List (List ℕ)} {node : Node} {nodes : List Node} → Leaves S rules pairs set node left → Proves S rules pairs (left ++ sets) nodes
+  one_proved : {set : List ℕ} {left sets : List (List ℕ)} {node : Node} {nodes : List Node} → Leaves S rules pairs set node left
+      → Proves S rules pairs (left ++ sets) nodes
       → Proves S rules pairs (set ∷ sets) (node ∷ nodes)
 
 -- the pair is one of those with the numbers of the set

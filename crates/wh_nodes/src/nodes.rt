@@ -25,18 +25,24 @@ ghost use Rattle.wh_nodes.specs.Proves.{InSet, Proves};
 /// a time and however often, to those of a value of the other's left side, which has the same symbol (Kop 2012;
 /// Fuhs and Kop 2019, approximations of the dependency graph).
 pub fn may_is_sound()
-    ensures { (S : Symbols) (rules : List RewriteRule) (a b : PairData) (g h : ℕ → Body) (us vs : List Tm) → AreWellMade S rules → a.right_fun ≡ b.left_fun → Values g (tms_of a.right) (tms_of us) → Values h (tms_of b.left) (tms_of vs) → Many (StepsIn (Step rules)) us vs → May rules a b }
+    ensures { (S : Symbols) (rules : List RewriteRule) (a b : PairData) (g h : ℕ → Body) (us vs : List Tm) → AreWellMade S rules
+        → a.right_fun ≡ b.left_fun → Values g (tms_of a.right) (tms_of us) → Values h (tms_of b.left) (tms_of vs)
+        → Many (StepsIn (Step rules)) us vs → May rules a b }
 {}
 
 /// Where the nodes prove the sets, and the sides of all pairs are typed and closed, a call whose arguments end leads to no
 /// endless sequence of calls by the pairs of any one of the sets (Kop 2012 for the dependency graph and the subterm criterion,
 /// Fuhs and Kop 2012 for interpretations; Fuhs and Kop 2019 for calls whose arguments end, the minimal chains).
 pub fn nodes_keep_that_calls_end()
-    ensures { (S : Symbols) (rules : List RewriteRule) (pairs : List PairData) (sets : List (List ℕ)) (nodes : List Node) (set : List ℕ) → AreWellMade S rules → HaveTypedSides S rules pairs → Proves S rules pairs sets nodes → Contains sets set → CallsEnd S rules (Step rules) (InSet pairs set) }
+    ensures { (S : Symbols) (rules : List RewriteRule) (pairs : List PairData) (sets : List (List ℕ)) (nodes : List Node) (set : List ℕ)
+        → AreWellMade S rules → HaveTypedSides S rules pairs → Proves S rules pairs sets nodes → Contains sets set
+        → CallsEnd S rules (Step rules) (InSet pairs set) }
 {}
 
 /// Where a system is passing under ranks, and the nodes prove the set of all its pairs, each well-typed term is
 /// bounded: there is a longest reduction from it (Kop 2012; Fuhs and Kop 2019).
 pub fn proved_systems_are_bounded()
-    ensures { (d : SystemData) (ranks : List ℕ) (ps : List PairData) (all : List ℕ) (nodes : List Node) → IsWellMadeSystem d → IsPassing d ranks → ArePairs (candidates d.symbols d.rules) ps → ((n : ℕ) → n < length ps → Contains all n) → Proves d.symbols d.rules ps (all ∷ []) nodes → (t : Tm) → WellTyped d.symbols t → Bounded d.rules t }
+    ensures { (d : SystemData) (ranks : List ℕ) (ps : List PairData) (all : List ℕ) (nodes : List Node) → IsWellMadeSystem d
+        → IsPassing d ranks → ArePairs (candidates d.symbols d.rules) ps → ((n : ℕ) → n < length ps → Contains all n)
+        → Proves d.symbols d.rules ps (all ∷ []) nodes → (t : Tm) → WellTyped d.symbols t → Bounded d.rules t }
 {}

@@ -28,8 +28,10 @@ pub data IsDropped (before : List PairData) (c : PairData) (after : List PairDat
 -- of the candidates `after`, which stand behind the candidates `before`, these are left: all that are not dropped, in order
 pub data AreLeft : List PairData → List PairData → List PairData → Type 0 where
   none_left : {before : List PairData} → AreLeft before [] []
-  one_dropped : {before after pairs : List PairData} {c : PairData} → IsDropped before c after → AreLeft (c ∷ before) after pairs → AreLeft before (c ∷ after) pairs
-  one_kept : {before after pairs : List PairData} {c : PairData} → (IsDropped before c after → ⊥) → AreLeft (c ∷ before) after pairs → AreLeft before (c ∷ after) (c ∷ pairs)
+  one_dropped : {before after pairs : List PairData} {c : PairData} → IsDropped before c after → AreLeft (c ∷ before) after pairs
+      → AreLeft before (c ∷ after) pairs
+  one_kept : {before after pairs : List PairData} {c : PairData} → (IsDropped before c after → ⊥) → AreLeft (c ∷ before) after pairs
+      → AreLeft before (c ∷ after) (c ∷ pairs)
 
 -- the pairs among the candidates: all that are not dropped, in order (ours)
 abbrev pub ArePairs : List PairData → List PairData → Type 0

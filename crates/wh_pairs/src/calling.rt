@@ -63,7 +63,8 @@ fn add_calls<'a>(
     found: &mut Vec<Call<'a>>,
 ) -> Result<(), AllocError>
     requires { SymbolsBelow (length (system_data system.now).fun_names) (tm term.now) }
-    ensures { OnOk result (map call_data found.new.items ≡ map call_data found.old.items ++ calls (system_data system.now).rules (map within conditions.now) (scope binders.now) (tm term.now) []) }
+    ensures { OnOk result (map call_data found.new.items ≡ map call_data found.old.items ++ calls (system_data system.now).rules
+        (map within conditions.now) (scope binders.now) (tm term.now) []) }
 {
     let spine = spine_of(alloc, term)?;
     add_head(alloc, system, conditions, binders, &spine, found)?;
@@ -89,7 +90,8 @@ fn add_head<'a>(
 ) -> Result<(), AllocError>
     requires symbols { SymbolsBelow (length (system_data system.now).fun_names) (tm spine.now.head.now) }
     requires head { head (tm spine.now.head.now) ≡ tm spine.now.head.now }
-    ensures { OnOk result (map call_data found.new.items ≡ map call_data found.old.items ++ calls (system_data system.now).rules (map within conditions.now) (scope binders.now) (tm spine.now.head.now) (trees spine.now.arguments.items)) }
+    ensures { OnOk result (map call_data found.new.items ≡ map call_data found.old.items ++ calls (system_data system.now).rules
+        (map within conditions.now) (scope binders.now) (tm spine.now.head.now) (trees spine.now.arguments.items)) }
 {
     match spine.head {
         Term::Fun(symbol) => {
@@ -128,7 +130,8 @@ fn add_each<'a>(
     found: &mut Vec<Call<'a>>,
 ) -> Result<(), AllocError>
     requires { AllSymbolsBelow (length (system_data system.now).fun_names) (tms_of (trees arguments.now)) }
-    ensures { OnOk result (map call_data found.new.items ≡ map call_data found.old.items ++ calls_each (system_data system.now).rules (map within conditions.now) (scope binders.now) (trees arguments.now)) }
+    ensures { OnOk result (map call_data found.new.items ≡ map call_data found.old.items ++ calls_each (system_data system.now).rules
+        (map within conditions.now) (scope binders.now) (trees arguments.now)) }
 {
     for argument in arguments {
         add_calls(alloc, system, conditions, binders, argument, found)?;
@@ -148,7 +151,8 @@ fn add_within<'a>(
     found: &mut Vec<Call<'a>>,
 ) -> Result<(), AllocError>
     requires { AllSymbolsBelow (length (system_data system.now).fun_names) (tms items.now) }
-    ensures { OnOk result (map call_data found.new.items ≡ map call_data found.old.items ++ calls_within (system_data system.now).rules (map within conditions.now) (scope binders.now) meta 1 (tms items.now)) }
+    ensures { OnOk result (map call_data found.new.items ≡ map call_data found.old.items ++ calls_within (system_data system.now).rules
+        (map within conditions.now) (scope binders.now) meta 1 (tms items.now)) }
 {
     for (i, item) in items.as_slice().iter().enumerate() {
         let added = Condition {

@@ -65,7 +65,8 @@ fn fresh_kinds<'a>(
     call: &Call<'a>,
 ) -> Result<Vec<&'a SimpleType>, AllocError>
     requires { TakesArguments (symbols signature.now) call.now.symbol call.now.need }
-    ensures { IfOk result (λ kinds. kinds_of kinds.items ≡ reverse (call_data call.now).binders ++ missing_types (symbols signature.now) (call_data call.now)) }
+    ensures { IfOk result (λ kinds. kinds_of kinds.items ≡ reverse (call_data call.now).binders ++ missing_types (symbols signature.now)
+        (call_data call.now)) }
 {
     let mut kinds = Vec::from_slice(alloc, call.binders.as_slice())?;
     let kind = &signature.funs.as_slice()[call.symbol as usize];
@@ -115,7 +116,9 @@ fn add_missing(
 
 // The right arguments of a candidate, where the first fresh meta-variable has the number `first`.
 fn right_arguments(alloc: Global, first: u32, call: &Call<'_>) -> Result<Terms, AllocError>
-    ensures { IfOk result (λ right. map tm right ≡ map (act (freed first (call_data call.now).binders) free) (take call.now.need (call_data call.now).arguments) ++ numbered_from (first + length (call_data call.now).binders) (call.now.need - length (call_data call.now).arguments)) }
+    ensures { IfOk result (λ right. map tm right ≡ map (act (freed first (call_data call.now).binders) free)
+        (take call.now.need (call_data call.now).arguments) ++ numbered_from (first + length (call_data call.now).binders)
+        (call.now.need - length (call_data call.now).arguments)) }
 {
     let by = Freeing {
         first,

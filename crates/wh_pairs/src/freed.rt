@@ -60,7 +60,8 @@ fn freed_variable(
 #[cycle(freed)]
 #[tactic(auto, using(wh_terms::proofs::UnderLemmas::ups_free_stays, wh_terms::proofs::WalkLemmas::act_at_bound, wh_terms::proofs::WalkLemmas::act_at_free, wh_terms::proofs::WalkLemmas::act_at_fun, wh_terms::proofs::WalkLemmas::act_at_app, wh_terms::proofs::WalkLemmas::act_at_lam))]
 fn freed_under(alloc: Global, by: &Freeing<'_>, term: &Term, depth: u32) -> Result<Term, AllocError>
-    ensures { IfOk result (λ r. tm r ≡ act (ups depth (freed by.now.first (scope by.now.binders.now))) (ups_free depth free) (tm term.now)) }
+    ensures { IfOk result (λ r. tm r ≡ act (ups depth (freed by.now.first (scope by.now.binders.now))) (ups_free depth free)
+        (tm term.now)) }
 {
     match term {
         Term::Bound(number) => freed_variable(alloc, by, *number, depth),
@@ -91,7 +92,8 @@ fn freed_each(
     items: &Terms,
     depth: u32,
 ) -> Result<Terms, AllocError>
-    ensures { IfOk result (λ r. tms r ≡ acts (ups depth (freed by.now.first (scope by.now.binders.now))) (ups_free depth free) (tms items.now)) }
+    ensures { IfOk result (λ r. tms r ≡ acts (ups depth (freed by.now.first (scope by.now.binders.now))) (ups_free depth free)
+        (tms items.now)) }
 {
     let mut results = Terms::new(alloc)?;
     for item in items.as_slice() {

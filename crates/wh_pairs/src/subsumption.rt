@@ -84,7 +84,8 @@ fn are_declared_alike(a: &Metas, b: &Metas, term: &Term) -> bool
 // The same for the terms of a list.
 #[cycle(alike)]
 fn all_declared_alike(a: &Metas, b: &Metas, items: &Terms) -> bool
-    ensures { IsTrue result ↔ ((z : ℕ) → OccursIn z (tms items.now) → slice_get (declared_metas a.now) z ≡ slice_get (declared_metas b.now) z) }
+    ensures { IsTrue result ↔ ((z : ℕ) → OccursIn z (tms items.now)
+        → slice_get (declared_metas a.now) z ≡ slice_get (declared_metas b.now) z) }
 {
     for item in items.as_slice() {
         if !are_declared_alike(a, b, item) {

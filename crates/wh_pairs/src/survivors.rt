@@ -55,7 +55,8 @@ fn is_needless(candidate: &Pair, kept: &[Pair]) -> bool
 // A further candidate joins the pairs that are left: it is dropped where one of them subsumes it, else it drops those that it
 // subsumes.
 fn keep(kept: &mut Vec<Pair>, candidate: Pair) -> Result<(), AllocError>
-    ensures { (earlier : List PairData) → Survive earlier (pairs_data kept.old.items) → OnOk result (Survive (earlier ++ pair_data candidate ∷ []) (pairs_data kept.new.items)) }
+    ensures { (earlier : List PairData) → Survive earlier (pairs_data kept.old.items)
+        → OnOk result (Survive (earlier ++ pair_data candidate ∷ []) (pairs_data kept.new.items)) }
 {
     if is_needless(&candidate, kept.as_slice()) {
         return Ok(());
@@ -73,7 +74,8 @@ fn pairs_of_rule(
     rule: &Rule,
 ) -> Result<Vec<Pair>, AllocError>
     requires { Contains (system_data system.now).rules (rewrite_rule rule.now) }
-    ensures { IfOk result (λ kept. ArePairs (map (candidate (system_data system.now).symbols number (rewrite_rule rule.now)) (calls_of (system_data system.now).rules (rewrite_rule rule.now))) (pairs_data kept.items)) }
+    ensures { IfOk result (λ kept. ArePairs (map (candidate (system_data system.now).symbols number (rewrite_rule rule.now))
+        (calls_of (system_data system.now).rules (rewrite_rule rule.now))) (pairs_data kept.items)) }
 {
     let signature = system.signature();
     let calls = calls_of(alloc, system, rule)?;

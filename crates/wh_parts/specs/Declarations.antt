@@ -13,7 +13,8 @@ tests_of_fun sorts before f = test (is_declared before f.name.name) (Twice f.nam
 -- of a meta-variable, where the names `before` come before it
 abbrev pub tests_of_meta : List (List ℕ) → List (List ℕ) → List (List ℕ) → RMeta → List Test
 tests_of_meta sorts funs before m =
-    test (is_declared before m.name.name || is_declared funs m.name.name) (Twice m.name.at) ∷ (count_of_types 0 m.args ++ types_tests sorts m.args ++ type_tests sorts m.out)
+    test (is_declared before m.name.name || is_declared funs m.name.name) (Twice m.name.at)
+    ∷ (count_of_types 0 m.args ++ types_tests sorts m.args ++ type_tests sorts m.out)
 
 -- the number of sorts, of symbols, of a rule's meta-variables and of rules
 abbrev pub sort_count : List RName → List Test

@@ -60,7 +60,8 @@ abbrev mutual
   kind_of s bs (numbered k at) = kind_of_binder bs (numbered_binder k)
   kind_of s bs (free_variable k a at) = type_meant s.sorts a
   kind_of s bs (raw_meta n ts at) = meta_kind (declaration s n) (kinds_of s bs ts)
-  kind_of s bs (raw_lam x a t at) = both (λ b c. b ⇒ c) (type_meant s.sorts a) (kind_of s (record { binder = x; kind = type_meant s.sorts a } ∷ bs) t)
+  kind_of s bs (raw_lam x a t at) = both (λ b c. b ⇒ c) (type_meant s.sorts a)
+      (kind_of s (record { binder = x; kind = type_meant s.sorts a } ∷ bs) t)
   kind_of s bs (spine h ts at) = spine_kind s bs (kind_of s bs h) ts
 
   pub kinds_of : Scope → List TypedBinder → RTms → List (Option Ty)

@@ -20,7 +20,8 @@ abbrev mutual
 
   pub arrows_meant : List (List ℕ) → RTys → Option Ty → Option Ty
   arrows_meant sorts no_types result = result
-  arrows_meant sorts (more_types a rest) result = option_and_then (λ b. option_map (λ c. b ⇒ c) (arrows_meant sorts rest result)) (type_meant sorts a)
+  arrows_meant sorts (more_types a rest) result = option_and_then (λ b. option_map (λ c. b ⇒ c) (arrows_meant sorts rest result))
+      (type_meant sorts a)
 
 -- the type of functions from these types, one after another, to the last
 abbrev pub arrows_over : List Ty → Ty → Ty
@@ -52,7 +53,8 @@ or_else None b = b
 -- a plain name: the innermost enclosing binder of that name; else the rule's meta-variable; else the symbol
 abbrev pub name_meant : Scope → List Binder → List ℕ → Option Tm
 name_meant s binders n =
-    or_else (option_map bound (binder_number binders (named_binder n))) (or_else (option_map (λ z. meta z no_tms) (number_of s.metas n)) (option_map fun (number_of s.funs n)))
+    or_else (option_map bound (binder_number binders (named_binder n)))
+    (or_else (option_map (λ z. meta z no_tms) (number_of s.metas n)) (option_map fun (number_of s.funs n)))
 
 abbrev pub both : {A B C : Type 0} → (A → B → C) → Option A → Option B → Option C
 both f (Some a) (Some b) = Some (f a b)

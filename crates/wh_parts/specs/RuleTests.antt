@@ -73,7 +73,8 @@ is_new (Some i) (j ∷ seen) = not (i == j) && is_new (Some i) seen
 -- the arguments are distinct bound variables, and none of those seen
 abbrev pub are_distinct : List Binder → List ℕ → RTms → Bool
 are_distinct binders seen none = true
-are_distinct binders seen (more t ts) = is_new (bound_number binders t) seen && are_distinct binders (unwrap_or (bound_number binders t) 0 ∷ seen) ts
+are_distinct binders seen (more t ts) = is_new (bound_number binders t) seen && are_distinct binders
+    (unwrap_or (bound_number binders t) 0 ∷ seen) ts
 
 -- a head that a pattern may have: a bound variable or a symbol
 abbrev pub is_pattern_head : Scope → List Binder → RTm → Bool
@@ -137,7 +138,12 @@ is_uneven head n (e ∷ earlier) = (same_head head e.0 && not (n == e.1)) || is_
 abbrev pub rule_tests : RParts → List (Option ℕ × ℕ) → RRule → List Test
 rule_tests p earlier r =
     let s = scope_of p r in
-    count_test 32 (map (λ m. m.name.at) r.metas) ++ meta_tests (sort_names p) (fun_names p) [] r.metas ++ side_tests r.left ++ side_tests r.right ++ naming_tests s [] r.left ++ naming_tests s [] r.right ++ test (not (same_kind (kind_of s [] r.left) (kind_of s [] r.right))) (IllTyped (term_offset r.right)) ∷ (open_tests r.left ++ open_tests r.right ++ test (not (is_some (head_symbol s r.left))) (HeadNotFun (term_offset r.left)) ∷ (pattern_tests s [] r.left ++ new_meta_tests s r.left [] r.right ++ test (is_uneven (head_symbol s r.left) (arguments_of r.left) earlier) (UnevenRules (term_offset r.left)) ∷ []))
+    count_test 32 (map (λ m. m.name.at) r.metas) ++ meta_tests (sort_names p) (fun_names p)
+    [] r.metas ++ side_tests r.left ++ side_tests r.right ++ naming_tests s [] r.left ++ naming_tests s [] r.right ++ test
+    (not (same_kind (kind_of s [] r.left) (kind_of s [] r.right))) (IllTyped (term_offset r.right))
+    ∷ (open_tests r.left ++ open_tests r.right ++ test (not (is_some (head_symbol s r.left))) (HeadNotFun (term_offset r.left))
+    ∷ (pattern_tests s [] r.left ++ new_meta_tests s r.left [] r.right ++ test
+    (is_uneven (head_symbol s r.left) (arguments_of r.left) earlier) (UnevenRules (term_offset r.left)) ∷ []))
 
 abbrev pub rules_tests : RParts → List (Option ℕ × ℕ) → List RRule → List Test
 rules_tests p earlier [] = []

@@ -89,7 +89,9 @@ funs_tests p = count_test 1024 (map (λ f. f.name.at) p.funs) ++ fun_tests (sort
 abbrev pub meta_tests : List (List ℕ) → List (List ℕ) → List (List ℕ) → List RMeta → List Test
 meta_tests sorts funs before [] = []
 meta_tests sorts funs before (m ∷ ms) =
-    test (is_declared before m.name.name || is_declared funs m.name.name) (Twice m.name.at) ∷ (count_of_types 0 m.args ++ types_tests sorts m.args ++ type_tests sorts m.out ++ meta_tests sorts funs (before ++ m.name.name ∷ []) ms)
+    test (is_declared before m.name.name || is_declared funs m.name.name) (Twice m.name.at)
+    ∷ (count_of_types 0 m.args ++ types_tests sorts m.args ++ type_tests sorts m.out ++ meta_tests sorts funs
+    (before ++ m.name.name ∷ []) ms)
 
 abbrev pub count_of : RTms → ℕ
 count_of none = 0
@@ -148,7 +150,8 @@ abbrev mutual
 
 abbrev pub side_tests : RTm → List Test
 side_tests t =
-    width_of_term t ++ test (nat_lt 200 (raw_height t)) (TooMany (term_offset t)) ∷ test (nat_lt 65536 (raw_size t)) (TooMany (term_offset t)) ∷ []
+    width_of_term t ++ test (nat_lt 200 (raw_height t)) (TooMany (term_offset t))
+    ∷ test (nat_lt 65536 (raw_size t)) (TooMany (term_offset t)) ∷ []
 
 -- names and types of a side, inner terms before outer ones and left before right
 abbrev pub is_meta : Scope → List TypedBinder → List ℕ → Bool
@@ -163,7 +166,8 @@ arity_of None = 0
 
 -- the arguments of a meta-variable have the types that are wanted
 abbrev pub wanted_tests : Scope → List TypedBinder → RTms → List Ty → List Test
-wanted_tests s bs (more t ts) (a ∷ wanted) = test (not (has_kind (kind_of s bs t) a)) (IllTyped (term_offset t)) ∷ wanted_tests s bs ts wanted
+wanted_tests s bs (more t ts) (a ∷ wanted) = test (not (has_kind (kind_of s bs t) a)) (IllTyped (term_offset t))
+    ∷ wanted_tests s bs ts wanted
   where
     has_kind : Option Ty → Ty → Bool
     has_kind (Some b) a = same_ty b a
@@ -181,7 +185,8 @@ abbrev mutual
   naming_tests s bs (numbered k at) = test (not (is_some (binder_number (binders_of bs) (numbered_binder k)))) (UnknownName at) ∷ []
   naming_tests s bs (free_variable k a at) = sorts_of_type s.sorts a
   naming_tests s bs (meta n ts at) =
-      namings_tests s bs ts ++ test (not (is_declared s.metas n)) (UnknownName at) ∷ test (not (arity_of (declaration s n) == count_of ts)) (IllTyped at) ∷ wanted_tests s bs ts (args_of (declaration s n))
+      namings_tests s bs ts ++ test (not (is_declared s.metas n)) (UnknownName at)
+      ∷ test (not (arity_of (declaration s n) == count_of ts)) (IllTyped at) ∷ wanted_tests s bs ts (args_of (declaration s n))
   naming_tests s bs (lam x a t at) =
       sorts_of_type s.sorts a ++ naming_tests s (record { binder = x; kind = type_meant s.sorts a } ∷ bs) t
   naming_tests s bs (spine h ts at) = naming_tests s bs h ++ applying_tests s bs (kind_of s bs h) ts

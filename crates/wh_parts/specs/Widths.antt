@@ -7,9 +7,11 @@ use Rattle.wh_parts.specs.Tests.{arguments_of, count_of, width_of_term, width_of
 
 -- no width is passed, and the number with the term's own arguments is 32; or the fault is that of the first test that fails
 abbrev pub HasSpare : RTm → Result ℕ SystemFault → Type 0
-HasSpare t result = MatchResult result (λ left. (first_fault (width_of_term t) ≡ None) × (left + arguments_of t ≡ 32)) (λ fault. first_fault (width_of_term t) ≡ Some fault)
+HasSpare t result = MatchResult result (λ left. (first_fault (width_of_term t) ≡ None) × (left + arguments_of t ≡ 32))
+    (λ fault. first_fault (width_of_term t) ≡ Some fault)
 
 -- the same of arguments, of which room many may still come
 abbrev pub LeavesRoom : ℕ → RTms → Result ℕ SystemFault → Type 0
 LeavesRoom room ts result =
-    MatchResult result (λ left. (first_fault (width_of_arguments (32 - room) ts) ≡ None) × (left + count_of ts ≡ room)) (λ fault. first_fault (width_of_arguments (32 - room) ts) ≡ Some fault)
+    MatchResult result (λ left. (first_fault (width_of_arguments (32 - room) ts) ≡ None) × (left + count_of ts ≡ room))
+    (λ fault. first_fault (width_of_arguments (32 - room) ts) ≡ Some fault)

@@ -78,7 +78,8 @@ pub fn check_rule_count(rules: &[RawRule]) -> Result<(), SystemFault>
 
 /// The table of the sorts. The fault is that there are too many, or else at the first name that stands again.
 pub fn declare_sorts(alloc: Global, sorts: &[RawName]) -> Result<NameTable, Or<SystemFault>>
-    ensures { Passes (sort_count (map rname sorts.now) ++ names_tests [] [] (map rname sorts.now)) result (λ table. table ≡ map (λ s. s.name) (map rname sorts.now)) }
+    ensures { Passes (sort_count (map rname sorts.now) ++ names_tests [] [] (map rname sorts.now)) result
+        (λ table. table ≡ map (λ s. s.name) (map rname sorts.now)) }
 {
     check_sort_count(sorts)?;
     let mut table = NameTable::new(alloc);
@@ -96,7 +97,9 @@ pub fn declare_funs(
     sorts: &NameTable,
     funs: &[RawFun],
 ) -> Result<Funs, Or<SystemFault>>
-    ensures { Passes (fun_count (map rfun funs.now) ++ fun_tests sorts.now [] (map rfun funs.now)) result (λ declared. (declared.names ≡ map (λ f. f.name.name) (map rfun funs.now)) × (tys declared.kinds ≡ map (λ f. type_of_raw sorts.now f.kind) (map rfun funs.now))) }
+    ensures { Passes (fun_count (map rfun funs.now) ++ fun_tests sorts.now [] (map rfun funs.now)) result
+        (λ declared. (declared.names ≡ map (λ f. f.name.name) (map rfun funs.now))
+        × (tys declared.kinds ≡ map (λ f. type_of_raw sorts.now f.kind) (map rfun funs.now))) }
 {
     check_fun_count(funs)?;
     let mut names = NameTable::new(alloc);
@@ -116,7 +119,8 @@ fn declare_fun(
     fun: &RawFun,
 ) -> Result<SimpleType, Or<SystemFault>>
     requires { length names.old < 1024 }
-    ensures kind { Passes (tests_of_fun sorts.now names.old (rfun fun.now)) result (λ kind. type_meant sorts.now (rty fun.now.kind) ≡ Some (ty kind)) }
+    ensures kind { Passes (tests_of_fun sorts.now names.old (rfun fun.now)) result
+        (λ kind. type_meant sorts.now (rty fun.now.kind) ≡ Some (ty kind)) }
     ensures joined { OnOk result (names.new ≡ names.old ++ fun.now.name.name ∷ []) }
 {
     if !names.add(alloc, fun.name.name.bytes())? {

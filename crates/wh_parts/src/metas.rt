@@ -38,7 +38,9 @@ pub fn declare_metas(
     funs: &NameTable,
     metas: &[RawMeta],
 ) -> Result<RuleMetas, Or<SystemFault>>
-    ensures { Passes (meta_count (map rmeta metas.now) ++ meta_tests sorts.now funs.now [] (map rmeta metas.now)) result (λ rule. (rule.names ≡ map (λ m. m.name.name) (map rmeta metas.now)) × (declared_metas rule.declared ≡ map (declared_by sorts.now) (map rmeta metas.now))) }
+    ensures { Passes (meta_count (map rmeta metas.now) ++ meta_tests sorts.now funs.now [] (map rmeta metas.now)) result
+        (λ rule. (rule.names ≡ map (λ m. m.name.name) (map rmeta metas.now))
+        × (declared_metas rule.declared ≡ map (declared_by sorts.now) (map rmeta metas.now))) }
 {
     check_meta_count(metas)?;
     let mut names = NameTable::new(alloc);
@@ -59,7 +61,8 @@ fn declare_meta(
     meta: &RawMeta,
 ) -> Result<MetaDecl, Or<SystemFault>>
     requires { length names.old < 1024 }
-    ensures meta { Passes (tests_of_meta sorts.now funs.now names.old (rmeta meta.now)) result (λ made. declared_meta made ≡ declared_by sorts.now (rmeta meta.now)) }
+    ensures meta { Passes (tests_of_meta sorts.now funs.now names.old (rmeta meta.now)) result
+        (λ made. declared_meta made ≡ declared_by sorts.now (rmeta meta.now)) }
     ensures joined { OnOk result (names.new ≡ names.old ++ meta.now.name.name ∷ []) }
 {
     join_meta(alloc, funs, names, &meta.name)?;
@@ -77,7 +80,8 @@ fn join_meta(
     name: &RawName,
 ) -> Result<(), Or<SystemFault>>
     requires { length names.old < 1024 }
-    ensures { Passes (test (is_declared names.old name.now.name || is_declared funs.now name.now.name) (Twice name.now.at) ∷ []) result (λ _. names.new ≡ names.old ++ name.now.name ∷ []) }
+    ensures { Passes (test (is_declared names.old name.now.name || is_declared funs.now name.now.name) (Twice name.now.at) ∷ []) result
+        (λ _. names.new ≡ names.old ++ name.now.name ∷ []) }
 {
     let bytes = name.name.bytes();
     if funs.number(bytes).is_some() {

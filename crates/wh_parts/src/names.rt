@@ -36,7 +36,9 @@ impl NameTable {
     /// The name joins at the end, unless it is there: whether it joined.
     pub fn add(&mut self, alloc: Global, name: &[u8]) -> Result<bool, AllocError>
         requires { length self.old < 1024 }
-        ensures ok { IfOk result (λ joined. MatchBool joined ((is_declared self.old name.now ≡ false) × (self.new ≡ self.old ++ name.now ∷ [])) ((is_declared self.old name.now ≡ true) × (self.new ≡ self.old))) }
+        ensures ok { IfOk result (λ joined. MatchBool joined
+            ((is_declared self.old name.now ≡ false) × (self.new ≡ self.old ++ name.now ∷ []))
+            ((is_declared self.old name.now ≡ true) × (self.new ≡ self.old))) }
         ensures err { OnErr result (self.new ≡ self.old) }
     {
         let joined = self.names.insert(Vec::from_slice(alloc, name)?)?;

@@ -76,7 +76,8 @@ fn resolve_types(
     sorts: &NameTable,
     kinds: &RawTypes,
 ) -> Result<Vec<SimpleType>, Or<SystemFault>>
-    ensures { Passes (sorts_of_types sorts.now (rtys kinds.now)) result (λ domains. types_of_raw sorts.now (rtys kinds.now) ≡ tys domains.items) }
+    ensures { Passes (sorts_of_types sorts.now (rtys kinds.now)) result
+        (λ domains. types_of_raw sorts.now (rtys kinds.now) ≡ tys domains.items) }
 {
     let mut domains = Vec::new(alloc);
     for kind in kinds.as_slice() {

@@ -15,7 +15,8 @@ const WIDTH: usize = 4096;
 /// The first left monomial from which the moves take more than its coefficient.
 pub fn first_over_spent(items: &[Monomial], moves: &[Move]) -> Option<u32>
     requires { length items.now ≤ 2 ^ 32 }
-    ensures { MatchOption result ((i : ℕ) → NotOverSpent (sum_of items.now) (transfers moves.now) i) (IsFirstOverSpent (sum_of items.now) (transfers moves.now)) }
+    ensures { MatchOption result ((i : ℕ) → NotOverSpent (sum_of items.now) (transfers moves.now) i)
+        (IsFirstOverSpent (sum_of items.now) (transfers moves.now)) }
 {
     let mut sums = [0; WIDTH];
     let mut base = 0;
@@ -36,7 +37,9 @@ fn over_spent_from(
     moves: &[Move],
 ) -> Option<usize>
     requires { base < length items.now }
-    ensures { MatchOption result ((k : ℕ) → k < length sums.old → NotOverSpent (sum_of items.now) (transfers moves.now) (base + k)) (λ i. base ≤ i × IsOverSpent (sum_of items.now) (transfers moves.now) i × ((k : ℕ) → base + k < i → NotOverSpent (sum_of items.now) (transfers moves.now) (base + k))) }
+    ensures { MatchOption result ((k : ℕ) → k < length sums.old → NotOverSpent (sum_of items.now) (transfers moves.now) (base + k))
+        (λ i. base ≤ i × IsOverSpent (sum_of items.now) (transfers moves.now) i
+        × ((k : ℕ) → base + k < i → NotOverSpent (sum_of items.now) (transfers moves.now) (base + k))) }
 {
     let width = set_out(sums, items, base);
     let least = take_away(sums, base, width, moves);
@@ -50,7 +53,8 @@ fn over_spent_from(
 /// The first right monomial to which the moves bring less than its coefficient.
 pub fn first_not_covered(items: &[Monomial], moves: &[Move]) -> Option<u32>
     requires { length items.now ≤ 2 ^ 32 }
-    ensures { MatchOption result ((i : ℕ) → Covered (sum_of items.now) (transfers moves.now) i) (IsFirstNotCovered (sum_of items.now) (transfers moves.now)) }
+    ensures { MatchOption result ((i : ℕ) → Covered (sum_of items.now) (transfers moves.now) i)
+        (IsFirstNotCovered (sum_of items.now) (transfers moves.now)) }
 {
     let mut sums = [0; WIDTH];
     let mut base = 0;
@@ -71,7 +75,9 @@ fn not_covered_from(
     moves: &[Move],
 ) -> Option<usize>
     requires { base < length items.now }
-    ensures { MatchOption result ((k : ℕ) → k < length sums.old → Covered (sum_of items.now) (transfers moves.now) (base + k)) (λ i. base ≤ i × IsNotCovered (sum_of items.now) (transfers moves.now) i × ((k : ℕ) → base + k < i → Covered (sum_of items.now) (transfers moves.now) (base + k))) }
+    ensures { MatchOption result ((k : ℕ) → k < length sums.old → Covered (sum_of items.now) (transfers moves.now) (base + k))
+        (λ i. base ≤ i × IsNotCovered (sum_of items.now) (transfers moves.now) i
+        × ((k : ℕ) → base + k < i → Covered (sum_of items.now) (transfers moves.now) (base + k))) }
 {
     let width = set_out(sums, items, base);
     fill_up(sums, base, moves);

@@ -22,7 +22,8 @@ pub fn check_weak(left: &Poly, right: &Poly, moves: &[Move]) -> Result<(), Cover
     requires few_left { length (monomials left.now) ≤ 2 ^ 32 }
     requires few_right { length (monomials right.now) ≤ 2 ^ 32 }
     requires few_moves { length moves.now ≤ 2 ^ 32 }
-    ensures { MatchResult result (λ _. IsCover (poly left.now) (poly right.now) (transfers moves.now)) (IsFirstCoverFault (poly left.now) (poly right.now) (transfers moves.now)) }
+    ensures { MatchResult result (λ _. IsCover (poly left.now) (poly right.now) (transfers moves.now))
+        (IsFirstCoverFault (poly left.now) (poly right.now) (transfers moves.now)) }
 {
     let (items, others) = (left.as_slice(), right.as_slice());
     if let Some(entry) = first_bad(items, others, moves) {
@@ -45,7 +46,8 @@ pub fn check_strict(left: &Poly, right: &Poly, moves: &[Move]) -> Result<(), Cov
     requires few_left { length (monomials left.now) ≤ 2 ^ 32 }
     requires few_right { length (monomials right.now) ≤ 2 ^ 32 }
     requires few_moves { length moves.now ≤ 2 ^ 32 }
-    ensures { MatchResult result (λ _. IsStrictCover (poly left.now) (poly right.now) (transfers moves.now)) (IsFirstStrictCoverFault (poly left.now) (poly right.now) (transfers moves.now)) }
+    ensures { MatchResult result (λ _. IsStrictCover (poly left.now) (poly right.now) (transfers moves.now))
+        (IsFirstStrictCoverFault (poly left.now) (poly right.now) (transfers moves.now)) }
 {
     match check_weak(left, right, moves) {
         Err(fault) => Err(fault),

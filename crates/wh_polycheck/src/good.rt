@@ -14,7 +14,8 @@ pub fn first_bad(left: &[Monomial], right: &[Monomial], moves: &[Move]) -> Optio
     requires left { IsNormal (sum_of left.now) }
     requires right { IsNormal (sum_of right.now) }
     requires few { length moves.now ≤ 2 ^ 32 }
-    ensures { MatchOption result (AreGood (sum_of left.now) (sum_of right.now) (transfers moves.now)) (IsFirstBad (sum_of left.now) (sum_of right.now) (transfers moves.now)) }
+    ensures { MatchOption result (AreGood (sum_of left.now) (sum_of right.now) (transfers moves.now))
+        (IsFirstBad (sum_of left.now) (sum_of right.now) (transfers moves.now)) }
 {
     for (i, item) in moves.iter().enumerate() {
         if !is_good(left, right, item) {

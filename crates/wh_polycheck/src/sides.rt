@@ -43,8 +43,10 @@ pub fn side_of_rule(
     requires interpreted { Interprets (system_data system.now).symbols (interpretations symbols.now) }
     requires normal { NormalInterpretations (interpretations symbols.now) }
     requires rule { rule < length (system_data system.now).rules }
-    ensures ok { (r : RewriteRule) → slice_get (system_data system.now).rules rule ≡ Some r → IfOk result (λ p. SideComesTo (interpretations symbols.now) r.metas (side_of right r) (poly p)) }
-    ensures fault { (r : RewriteRule) → slice_get (system_data system.now).rules rule ≡ Some r → IfBecause result (λ e. IsFaultOfSide (interpretations symbols.now) r.metas (side_of right r) e) }
+    ensures ok { (r : RewriteRule) → slice_get (system_data system.now).rules rule ≡ Some r
+        → IfOk result (λ p. SideComesTo (interpretations symbols.now) r.metas (side_of right r) (poly p)) }
+    ensures fault { (r : RewriteRule) → slice_get (system_data system.now).rules rule ≡ Some r
+        → IfBecause result (λ e. IsFaultOfSide (interpretations symbols.now) r.metas (side_of right r) e) }
 {
     let item = &system.rules()[rule as usize];
     if right {
@@ -61,10 +63,13 @@ fn normal_of_side(
     side: &Term,
     symbols: &[Symbol],
 ) -> Result<Poly, Or<PolyFault>>
-    requires typed { TypedExpression (interpretations symbols.now) (types_of_metas (declared_metas metas.now)) (side_expression (declared_metas metas.now) (tm side.now)) }
+    requires typed { TypedExpression (interpretations symbols.now) (types_of_metas (declared_metas metas.now))
+        (side_expression (declared_metas metas.now) (tm side.now)) }
     requires normal { NormalInterpretations (interpretations symbols.now) }
-    ensures ok { IfOk result (λ p. ComesTo (evaluate (interpretations symbols.now) (types_of_metas (declared_metas metas.now)) (side_expression (declared_metas metas.now) (tm side.now))) (poly p)) }
-    ensures fault { IfBecause result (λ e. IsFaultOf (interpretations symbols.now) (types_of_metas (declared_metas metas.now)) (side_expression (declared_metas metas.now) (tm side.now)) e) }
+    ensures ok { IfOk result (λ p. ComesTo (evaluate (interpretations symbols.now) (types_of_metas (declared_metas metas.now))
+        (side_expression (declared_metas metas.now) (tm side.now))) (poly p)) }
+    ensures fault { IfBecause result (λ e. IsFaultOf (interpretations symbols.now) (types_of_metas (declared_metas metas.now))
+        (side_expression (declared_metas metas.now) (tm side.now)) e) }
 {
     let scope = scope_of(alloc, metas)?;
     let expression = expression_of(alloc, side, counted(scope.len())?)?;
@@ -84,9 +89,12 @@ pub fn side_of_pair(
     requires interpreted { Interprets (system_data system.now).symbols (interpretations symbols.now) }
     requires normal { NormalInterpretations (interpretations symbols.now) }
     requires marks { AreNormalMarks (system_data system.now).symbols (system_data system.now).rules (marks_of marks.now) }
-    requires sides { HasMarkedSides (system_data system.now).symbols (system_data system.now).rules (marks_of marks.now) (pair_data pair.now) }
-    ensures ok { IfOk result (λ p. PairSideComesTo (system_data system.now).symbols (system_data system.now).rules (interpretations symbols.now) (marks_of marks.now) (pair_data pair.now) right (poly p)) }
-    ensures fault { IfBecause result (λ e. IsFaultOfPairSide (system_data system.now).symbols (system_data system.now).rules (interpretations symbols.now) (marks_of marks.now) (pair_data pair.now) right e) }
+    requires sides { HasMarkedSides (system_data system.now).symbols (system_data system.now).rules (marks_of marks.now)
+        (pair_data pair.now) }
+    ensures ok { IfOk result (λ p. PairSideComesTo (system_data system.now).symbols (system_data system.now).rules
+        (interpretations symbols.now) (marks_of marks.now) (pair_data pair.now) right (poly p)) }
+    ensures fault { IfBecause result (λ e. IsFaultOfPairSide (system_data system.now).symbols (system_data system.now).rules
+        (interpretations symbols.now) (marks_of marks.now) (pair_data pair.now) right e) }
 {
     if right {
         normal_of_marked(
@@ -126,10 +134,18 @@ fn normal_of_marked(
     requires normal { NormalInterpretations (interpretations symbols.now) }
     requires marks { AreNormalMarks (system_data system.now).symbols (system_data system.now).rules (marks_of marks.now) }
     requires marked { HasMark (marks_of marks.now) fun }
-    requires typed { AllTyped (system_data system.now).symbols (declared_metas metas.now) [] (tms_of (map tm terms.now)) (marked_types (system_data system.now).symbols (system_data system.now).rules fun) }
+    requires typed { AllTyped (system_data system.now).symbols (declared_metas metas.now) [] (tms_of (map tm terms.now))
+        (marked_types (system_data system.now).symbols (system_data system.now).rules fun) }
     requires closed { AllNoFree (tms_of (map tm terms.now)) }
-    ensures ok { IfOk result (λ p. let all = with_marks (system_data system.now).symbols (system_data system.now).rules (interpretations symbols.now) (marks_of marks.now) in ComesTo (evaluate all (types_of_metas (declared_metas metas.now)) (marked_expression (declared_metas metas.now) (mark_number (interpretations symbols.now) (marks_of marks.now) fun) (tms_of (map tm terms.now)))) (poly p)) }
-    ensures fault { IfBecause result (λ e. let all = with_marks (system_data system.now).symbols (system_data system.now).rules (interpretations symbols.now) (marks_of marks.now) in IsFaultOf all (types_of_metas (declared_metas metas.now)) (marked_expression (declared_metas metas.now) (mark_number (interpretations symbols.now) (marks_of marks.now) fun) (tms_of (map tm terms.now))) e) }
+    ensures ok { IfOk result (λ p. let all = with_marks (system_data system.now).symbols (system_data system.now).rules
+        (interpretations symbols.now) (marks_of marks.now) in ComesTo
+        (evaluate all (types_of_metas (declared_metas metas.now))
+        (marked_expression (declared_metas metas.now) (mark_number (interpretations symbols.now) (marks_of marks.now) fun)
+        (tms_of (map tm terms.now)))) (poly p)) }
+    ensures fault { IfBecause result (λ e. let all = with_marks (system_data system.now).symbols (system_data system.now).rules
+        (interpretations symbols.now) (marks_of marks.now) in IsFaultOf all (types_of_metas (declared_metas metas.now))
+        (marked_expression (declared_metas metas.now) (mark_number (interpretations symbols.now) (marks_of marks.now) fun)
+        (tms_of (map tm terms.now))) e) }
 {
     let mark = mark_of(marks, fun);
     let kind = kind_of_mark(alloc, system, mark.symbol)?;

@@ -50,7 +50,8 @@ put_if n (c ∷ cs) r = codes " if" ++ put_conditions n (c ∷ cs) r
 abbrev pub put_pair : SystemData → ℕ → PairData → List ℕ → List ℕ
 put_pair d k p r =
     let n = names_of_pair d p in
-    codes "pair " ++ (decimal k ++ (codes " rule " ++ (decimal p.rule ++ (32 ∷ put_side n p.left_fun p.left (codes " => " ++ put_side n p.right_fun p.right (put_if n p.conditions (10 ∷ r)))))))
+    codes "pair " ++ (decimal k ++ (codes " rule " ++ (decimal
+    p.rule ++ (32 ∷ put_side n p.left_fun p.left (codes " => " ++ put_side n p.right_fun p.right (put_if n p.conditions (10 ∷ r)))))))
 
 -- the lines of the pairs from number k on
 abbrev pub put_pairs : SystemData → ℕ → List PairData → List ℕ → List ℕ

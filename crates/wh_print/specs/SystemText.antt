@@ -51,7 +51,9 @@ put_metas sorts _ _ r = r
 -- a line `rule {METAS} LEFT => RIGHT;`, of the rule with the number k
 abbrev pub put_rule : SystemData → ℕ → RewriteRule → List ℕ → List ℕ
 put_rule d k rule r =
-    codes "rule {" ++ put_metas d.sort_names (get_or d.meta_names k []) rule.metas (codes "} " ++ put_term (raw_of (names_of_rule d k) rule.left) (codes " => " ++ put_term (raw_of (names_of_rule d k) rule.right) (59 ∷ 10 ∷ r)))
+    codes "rule {" ++ put_metas d.sort_names (get_or d.meta_names k []) rule.metas
+    (codes "} " ++ put_term (raw_of (names_of_rule d k) rule.left)
+    (codes " => " ++ put_term (raw_of (names_of_rule d k) rule.right) (59 ∷ 10 ∷ r)))
 
 -- the rules from number k on
 abbrev pub put_rules : SystemData → ℕ → List RewriteRule → List ℕ → List ℕ

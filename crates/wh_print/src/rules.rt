@@ -63,7 +63,8 @@ fn print_side(
     right: bool,
 ) -> Result<(), AllocError>
     requires { k < length (system_data system.now).rules }
-    ensures { (r : RewriteRule) → slice_get (system_data system.now).rules k ≡ Some r → OnOk result (Pushes out.old out.new (put_term (raw_of (names_of_rule (system_data system.now) k) (side_of right r)))) }
+    ensures { (r : RewriteRule) → slice_get (system_data system.now).rules k ≡ Some r
+        → OnOk result (Pushes out.old out.new (put_term (raw_of (names_of_rule (system_data system.now) k) (side_of right r)))) }
 {
     let raw = system.raw_side(alloc, k, right)?;
     print_term(out, &raw)

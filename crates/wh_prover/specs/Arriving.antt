@@ -42,13 +42,16 @@ HasNoProjection rules pairs set = (args : List Chosen) (drop : List ℕ) → IsP
 -- interpretation leaves of it (ours)
 pub data Arrives (d : SystemData) (pairs : List PairData) : List ℕ → Type 0 where
   at_all : {set : List ℕ} → IsWhole pairs set → Arrives d pairs set
-  at_component : {set part component : List ℕ} {parts : List (List ℕ)} → Arrives d pairs set → AreComponents (Follows d.rules pairs) set parts
+  at_component : {set part component : List ℕ} {parts : List (List ℕ)} → Arrives d pairs set
+      → AreComponents (Follows d.rules pairs) set parts
       → 2 ≤ length parts → Contains parts part → IsSetOf (Contains part) component → Arrives d pairs component
   behind_projection : {set drop rest : List ℕ} {args : List Chosen} → Arrives d pairs set → IsKnot d.rules pairs set
       → IsProjection d.rules pairs set args drop → DropsAllBelow pairs set args drop → IsSetOf (IsKept set drop) rest → Arrives d pairs rest
-  behind_interpretation : {set drop rest : List ℕ} {symbols : List Interpretation} {marks : List Mark} {rule_lines pair_lines : List (List Transfer)}
+  behind_interpretation : {set drop rest : List ℕ} {symbols : List Interpretation} {marks : List Mark}
+      {rule_lines pair_lines : List (List Transfer)}
       → Arrives d pairs set → IsKnot d.rules pairs set → HasNoProjection d.rules pairs set
-      → IsCovering d.symbols d.rules pairs set symbols marks rule_lines pair_lines drop → IsSetOf (IsKept set drop) rest → Arrives d pairs rest
+      → IsCovering d.symbols d.rules pairs set symbols marks rule_lines pair_lines drop → IsSetOf (IsKept set drop) rest
+      → Arrives d pairs rest
 
 -- the search can end on a knot that it comes to (ours)
 pub record Ended (d : SystemData) (pairs : List PairData) (set : List ℕ) : Type 0 where

@@ -14,10 +14,12 @@ use Rattle.wh_prover.specs.Answers.{IsProof}
 
 -- the text of a proof is that of no other certificate, and no fault is the first of it, also where values have limits
 abbrev pub ProofsAreAccepted : Type 0
-ProofsAreAccepted = (d : SystemData) (ps : List PairData) (c : Cert) (bytes : List ℕ) → IsWellMadeSystem d → HasPairs d ps → IsProof d ps c → CertText bytes c
+ProofsAreAccepted = (d : SystemData) (ps : List PairData) (c : Cert) (bytes : List ℕ) → IsWellMadeSystem d → HasPairs d ps
+    → IsProof d ps c → CertText bytes c
     → ((e : Cert) → CertText bytes e → e ≡ c) × ((f : CheckFault) → IsFirstFault with_limits d ps c f → ⊥)
 
 -- so it is with the text of a loop's certificate
 abbrev pub LoopsAreAccepted : Type 0
-LoopsAreAccepted = (d : SystemData) (ps : List PairData) (depth : ℕ) (c : Cert) (bytes : List ℕ) → IsWellMadeSystem d → IsLoopCertificate d depth c → CertText bytes c
+LoopsAreAccepted = (d : SystemData) (ps : List PairData) (depth : ℕ) (c : Cert) (bytes : List ℕ) → IsWellMadeSystem d
+    → IsLoopCertificate d depth c → CertText bytes c
     → ((e : Cert) → CertText bytes e → e ≡ c) × ((f : CheckFault) → IsFirstFault with_limits d ps c f → ⊥)

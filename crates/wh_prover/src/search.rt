@@ -58,7 +58,8 @@ fn prove_under(
     requires passing { IsPassing (system_data system.now) ranks.now }
     requires each { length ranks.now ≡ (system_data system.now).symbols.sorts }
     requires low { All (λ r. r ≤ 65535) ranks.now }
-    ensures { IfOk result (λ found. MatchResult found (λ certificate. IsProof (system_data system.now) (pairs_data pairs.now) (said certificate)) (HasNoProof (system_data system.now) (pairs_data pairs.now) tries)) }
+    ensures { IfOk result (λ found. MatchResult found (λ certificate. IsProof (system_data system.now) (pairs_data pairs.now)
+        (said certificate)) (HasNoProof (system_data system.now) (pairs_data pairs.now) tries)) }
 {
     system.is_well_made();
     let count = pairs.as_slice().len() as u32;

@@ -33,7 +33,8 @@ pub fn walk(
     requires graph { IsGraphOf (system_data system.now).rules (pairs_data pairs.now) graph.now }
     requires whole { IsWhole (pairs_data pairs.now) whole }
     requires none { nodes.old ≡ [] }
-    ensures { IfOk result (λ end. MatchOption end (IsTree (system_data system.now) (pairs_data pairs.now) whole (map said_node nodes.new)) (IsEnd (system_data system.now) (pairs_data pairs.now) tries)) }
+    ensures { IfOk result (λ end. MatchOption end (IsTree (system_data system.now) (pairs_data pairs.now) whole
+        (map said_node nodes.new)) (IsEnd (system_data system.now) (pairs_data pairs.now) tries)) }
 {
     let mut stack = Vec::new(alloc);
     stack.push(whole)?;

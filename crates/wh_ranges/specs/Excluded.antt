@@ -37,7 +37,8 @@ module _ (S : Symbols) (rules : List RewriteRule) (pairs : List PairData) (set :
   -- none with coefficients in the ranges do (ours)
   abbrev pub IsExcluded : ℕ → List (List ℕ) → List (List ℕ) → Type 0
   IsExcluded strict low high =
-      (lists : List (List ℕ)) (symbols : List Interpretation) (marks : List Mark) → Fit strict lists symbols marks → LieIn low high lists → ⊥
+      (lists : List (List ℕ)) (symbols : List Interpretation) (marks : List Mark) → Fit strict lists symbols marks → LieIn low high lists
+      → ⊥
 
   -- all that do and have coefficients in the first ranges have them in the second ones (ours)
   abbrev pub AreKept : ℕ → List (List ℕ) → List (List ℕ) → List (List ℕ) → List (List ℕ) → Type 0

@@ -47,6 +47,8 @@ abbrev pub IsPairOut : Task → Guess → Guess → ℕ → Bool → Type 0
 IsPairOut t low high place strict =
     (n : ℕ) × (p : PairData) × (slice_get t.set.now place ≡ Some n) × (slice_get (map pair_data t.pairs.now) n ≡ Some p)
     × IsRefuted (length p.metas)
-    (pair_run (system_data t.system.now).symbols (system_data t.system.now).rules (interpretations high.symbols.items) (marks_of high.marks.items) p false).result
-    (pair_run (system_data t.system.now).symbols (system_data t.system.now).rules (interpretations low.symbols.items) (marks_of low.marks.items) p true).result
+    (pair_run (system_data t.system.now).symbols (system_data t.system.now).rules (interpretations high.symbols.items)
+    (marks_of high.marks.items) p false).result
+    (pair_run (system_data t.system.now).symbols (system_data t.system.now).rules (interpretations low.symbols.items)
+    (marks_of low.marks.items) p true).result
     strict

@@ -178,7 +178,8 @@ fn raise<'a>(
 ) -> Result<bool, AllocError>
     requires task { IsTaskOf task.now }
     requires ranges { AreRanges task.now ranges.old }
-    requires open { coefficient_in (lists_of ranges.old.low) at.number at.place < coefficient_in (lists_of ranges.old.high) at.number at.place }
+    requires open { coefficient_in (lists_of ranges.old.low) at.number at.place < coefficient_in (lists_of ranges.old.high)
+        at.number at.place }
     ensures ranges { OnOk result (AreRanges task.now ranges.new) }
     ensures kept { OnOk result (KeepsAll task.now goal.strict ranges.old ranges.new) }
 {
@@ -203,7 +204,8 @@ fn lower<'a>(
 ) -> Result<bool, AllocError>
     requires task { IsTaskOf task.now }
     requires ranges { AreRanges task.now ranges.old }
-    requires open { coefficient_in (lists_of ranges.old.low) at.number at.place < coefficient_in (lists_of ranges.old.high) at.number at.place }
+    requires open { coefficient_in (lists_of ranges.old.low) at.number at.place < coefficient_in (lists_of ranges.old.high)
+        at.number at.place }
     ensures ranges { OnOk result (AreRanges task.now ranges.new) }
     ensures kept { OnOk result (KeepsAll task.now goal.strict ranges.old ranges.new) }
 {

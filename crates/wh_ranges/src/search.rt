@@ -30,7 +30,8 @@ pub fn has_none<'a>(
 ) -> Result<bool, AllocError>
     requires task { IsTaskOf task.now }
     requires marked { AreMarked (map pair_data task.now.pairs.now) task.now.set.now marked.now }
-    ensures { IfOk result (λ told. OnTrue told (HasNoInterpretation (system_data task.now.system.now) (map pair_data task.now.pairs.now) task.now.set.now)) }
+    ensures { IfOk result (λ told. OnTrue told (HasNoInterpretation (system_data task.now.system.now) (map pair_data task.now.pairs.now)
+        task.now.set.now)) }
 {
     let sizes = sizes_of(alloc, task, marked)?;
     let plan = Plan::new(alloc, task, marked, sizes.len(), limit)?;
@@ -123,7 +124,8 @@ fn split(
     ranges: &Ranges,
     at: Coefficient,
 ) -> Result<bool, AllocError>
-    ensures { IfOk result (λ told. OnTrue told ((t : Task) (strict : ℕ) → AllOut t strict spans.new.items → IsOut t strict ranges.now × AllOut t strict spans.old.items)) }
+    ensures { IfOk result (λ told. OnTrue told ((t : Task) (strict : ℕ) → AllOut t strict spans.new.items
+        → IsOut t strict ranges.now × AllOut t strict spans.old.items)) }
 {
     let (least, most) = (ranges.low.at(at), ranges.high.at(at));
     if least >= most {

@@ -115,7 +115,12 @@ abbrev pub add_fun : RParts → RName → RTy → RParts
 add_fun p x a = record { sorts = p.sorts; funs = p.funs ++ record { name = x; kind = a } ∷ []; rules = p.rules }
 
 abbrev pub add_rule : RParts → OpenRule → RTm → RTm → RParts
-add_rule p u left right = record { sorts = p.sorts; funs = p.funs; rules = p.rules ++ record { metas = u.metas; left = left; right = right; at = u.at } ∷ [] }
+add_rule p u left right = record {
+  sorts = p.sorts;
+  funs = p.funs;
+  rules = p.rules ++ record
+      { metas = u.metas; left = left; right = right; at = u.at } ∷ [];
+}
 
 abbrev pub add_meta : OpenMeta → RTys → RTy → OpenMetas
 add_meta m args out = record { metas = m.rule.metas ++ record { name = m.name; args = args; out = out } ∷ []; at = m.rule.at }
@@ -176,8 +181,10 @@ term_ended parts u no_frames t l = side_ended parts u u.left t l
 term_ended parts u (body x a at w) t l = term_ended parts u w (lam x a t at) l
 term_ended parts u (paren before w) t close_paren = inside parts (want_atom (with_frames u w) (next before t))
 term_ended parts u (paren before w) t l = failed
-term_ended parts u (bracket n at args before w) t comma = inside parts (want_atom (with_frames u (bracket n at (add_term args t) before w)) None)
-term_ended parts u (bracket n at args before w) t close_bracket = inside parts (want_atom (with_frames u w) (next before (meta n (add_term args t) at)))
+term_ended parts u (bracket n at args before w) t comma = inside parts
+    (want_atom (with_frames u (bracket n at (add_term args t) before w)) None)
+term_ended parts u (bracket n at args before w) t close_bracket = inside parts
+    (want_atom (with_frames u w) (next before (meta n (add_term args t) at)))
 term_ended parts u (bracket n at args before w) t l = failed
 
 abbrev pub spine_ended : RParts → OpenRule → Option RTm → Lexeme → State
@@ -198,7 +205,8 @@ at_atom parts u before backslash at = lambda_begins parts u before at
 at_atom parts u before l at = spine_ended parts u before l
 
 abbrev pub behind_plain : RParts → OpenRule → Option RTm → List ℕ → ℕ → Lexeme → ℕ → State
-behind_plain parts u before n n_at open_bracket at = open_term parts u (want_atom (with_frames u (bracket n n_at none before u.frames)) None)
+behind_plain parts u before n n_at open_bracket at = open_term parts u
+    (want_atom (with_frames u (bracket n n_at none before u.frames)) None)
 behind_plain parts u before n n_at l at = at_atom parts u (next before (named n n_at)) l at
 
 abbrev pub at_atype : RParts → Use → OpenType → Lexeme → ℕ → State
@@ -212,7 +220,8 @@ behind_type parts use_for t a l = type_ended parts use_for t.outer (with_argumen
 
 -- a name, or the end of no meta-variables at all
 abbrev pub at_meta : RParts → ℕ → List RMeta → Lexeme → ℕ → State
-at_meta parts rule_at metas (a_name n) at = inside parts (meta_named (record { rule = record { metas = metas; at = rule_at }; name = record { name = n; at = at } }))
+at_meta parts rule_at metas (a_name n) at = inside parts
+    (meta_named (record { rule = record { metas = metas; at = rule_at }; name = record { name = n; at = at } }))
 at_meta parts rule_at [] close_brace at = inside parts (left_of (record { metas = []; at = rule_at }))
 at_meta parts rule_at metas l at = failed
 

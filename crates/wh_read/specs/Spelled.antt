@@ -78,11 +78,14 @@ put_sort s r = token (keyword (codes "sort")) s.at ∷ token (name s.name) s.nam
 
 abbrev pub put_fun : WFun → List Placed → List Placed
 put_fun f r =
-    token (keyword (codes "fun")) f.at ∷ token (name f.name) f.name_at ∷ mark (codes ":") f.colon_at ∷ put_type f.kind (mark (codes ";") f.end_at ∷ r)
+    token (keyword (codes "fun")) f.at ∷ token (name f.name) f.name_at ∷ mark (codes ":") f.colon_at
+    ∷ put_type f.kind (mark (codes ";") f.end_at ∷ r)
 
 abbrev pub put_rule : WRule → List Placed → List Placed
 put_rule u r =
-    token (keyword (codes "rule")) u.at ∷ mark (codes "{") u.open_at ∷ put_declared u.metas (mark (codes "}") u.close_at ∷ put_term u.left (mark (codes "=>") u.arrow_at ∷ put_term u.right (mark (codes ";") u.end_at ∷ r)))
+    token (keyword (codes "rule")) u.at ∷ mark (codes "{") u.open_at
+    ∷ put_declared u.metas (mark (codes "}") u.close_at
+    ∷ put_term u.left (mark (codes "=>") u.arrow_at ∷ put_term u.right (mark (codes ";") u.end_at ∷ r)))
 
 -- one after another
 abbrev pub put_all : {A : Type 0} → (A → List Placed → List Placed) → List A → List Placed → List Placed

@@ -62,7 +62,8 @@ pub fn fun_name(letter: Lexeme, at: u32) -> Step
 
 /// The colon behind the name of a symbol.
 pub fn fun_colon(alloc: Global, name: RawName, letter: Lexeme) -> Result<Step, AllocError>
-    ensures { IfOk result (λ step. (parts : RParts) → held.state parts step ≡ r.expect_colon parts (r.want_atype (r.of_fun (rname name)) r.new_type) (held.letter letter)) }
+    ensures { IfOk result (λ step. (parts : RParts) → held.state parts step ≡ r.expect_colon parts
+        (r.want_atype (r.of_fun (rname name)) r.new_type) (held.letter letter)) }
 {
     match letter {
         Lexeme::Colon => Ok(Step::To(Place::WantAtype(Purpose::OfFun(name), new_type(alloc)?))),
@@ -130,7 +131,8 @@ pub fn behind_colon(
     letter: Lexeme,
     at: u32,
 ) -> Result<Step, AllocError>
-    ensures { IfOk result (λ step. (parts : RParts) → held.state parts step ≡ r.behind_colon parts (held.meta meta) (held.letter letter) at) }
+    ensures { IfOk result (λ step. (parts : RParts) → held.state parts step ≡ r.behind_colon parts (held.meta meta) (held.letter letter)
+        at) }
 {
     let args = RawTypes::new(alloc)?;
     let started = new_type(alloc)?;

@@ -34,7 +34,8 @@ fn move_on(
     letter: Lexeme,
     at: u32,
 ) -> Result<Step, AllocError>
-    ensures { IfOk result (λ step. held.state (rparts parts.new) step ≡ r.move (rparts parts.old) (held.place place) (held.letter letter) at) }
+    ensures { IfOk result (λ step. held.state (rparts parts.new) step ≡ r.move (rparts parts.old) (held.place place) (held.letter letter)
+        at) }
 {
     match place {
         Place::Between => Ok(begin(parts, letter, at)),
@@ -70,8 +71,10 @@ fn read_token(
     requires ordered { token.now.from ≤ token.now.to }
     requires within { token.now.to ≤ length text.now }
     requires word { token.now.kind ≡ token_kind.Name → IsWord (part text.now token.now.from token.now.to) }
-    ensures goes_on { IfOk result (λ next. r.step (r.inside (rparts parts.old) (held.place place)) (placed (cut_token text.now token.now)) ≡ r.inside (rparts parts.new) (held.place next)) }
-    ensures stops { IfBecause result (λ fault. r.step (r.inside (rparts parts.old) (held.place place)) (placed (cut_token text.now token.now)) ≡ held.stopped fault) }
+    ensures goes_on { IfOk result (λ next. r.step (r.inside (rparts parts.old) (held.place place))
+        (placed (cut_token text.now token.now)) ≡ r.inside (rparts parts.new) (held.place next)) }
+    ensures stops { IfBecause result (λ fault. r.step (r.inside (rparts parts.old) (held.place place))
+        (placed (cut_token text.now token.now)) ≡ held.stopped fault) }
     ensures stops_at { IfBecause result (λ fault. held.fault_offset fault ≡ token.now.from) }
 {
     let at = token.from;
@@ -98,7 +101,8 @@ fn may_end(place: &Place) -> bool
 pub fn parse(alloc: Global, text: &[u8], tokens: &[Token]) -> Result<Parts, Or<SyntaxFault>>
     requires size { length text.now ≤ 8388609 }
     requires cut { IsCutInto text.now tokens.now }
-    ensures { MatchOr result (λ parts. Parses (letters text.now tokens.now) (rparts parts)) (HasSyntaxFault (letters text.now tokens.now) (length text.now)) }
+    ensures { MatchOr result (λ parts. Parses (letters text.now tokens.now) (rparts parts))
+        (HasSyntaxFault (letters text.now tokens.now) (length text.now)) }
 {
     let mut parts = Parts {
         sorts: RawNames::new(alloc)?,

@@ -66,7 +66,8 @@ pub fn applied(alloc: Global, before: Option<RawTerm>, atom: RawTerm) -> Result<
 
 /// The place behind one more atom of the spine.
 fn behind_atom(alloc: Global, spine: OpenSpine, atom: RawTerm) -> Result<OpenSpine, AllocError>
-    ensures { IfOk result (λ next. held.place (WantAtom next) ≡ r.want_atom (held.rule spine.rule) (r.next (option_map rtm spine.before) (rtm atom))) }
+    ensures { IfOk result (λ next. held.place (WantAtom next) ≡ r.want_atom (held.rule spine.rule)
+        (r.next (option_map rtm spine.before) (rtm atom))) }
 {
     Ok(OpenSpine {
         rule: spine.rule,
@@ -76,7 +77,8 @@ fn behind_atom(alloc: Global, spine: OpenSpine, atom: RawTerm) -> Result<OpenSpi
 
 /// A level opens, and a term begins in it.
 fn open_frame(mut rule: OpenRule, frame: Frame) -> Result<Step, AllocError>
-    ensures { IfOk result (λ step. (parts : RParts) → held.state parts step ≡ r.open_term parts (held.rule rule) (r.want_atom (r.with_frames (held.rule rule) (held.frame frame (held.rule rule).frames)) None)) }
+    ensures { IfOk result (λ step. (parts : RParts) → held.state parts step ≡ r.open_term parts (held.rule rule)
+        (r.want_atom (r.with_frames (held.rule rule) (held.frame frame (held.rule rule).frames)) None)) }
 {
     if rule.frames.len() >= DEEPEST_TERM {
         return Ok(Step::TooMany);
@@ -114,7 +116,8 @@ fn side_ended(
     term: RawTerm,
     letter: Lexeme,
 ) -> Result<Step, AllocError>
-    ensures { IfOk result (λ step. held.state (rparts parts.new) step ≡ r.side_ended (rparts parts.old) (held.rule rule) (option_map rtm rule.left) (rtm term) (held.letter letter)) }
+    ensures { IfOk result (λ step. held.state (rparts parts.new) step ≡ r.side_ended (rparts parts.old) (held.rule rule)
+        (option_map rtm rule.left) (rtm term) (held.letter letter)) }
 {
     let OpenRule {
         metas,
@@ -152,7 +155,8 @@ fn paren_ended(
     term: RawTerm,
     letter: Lexeme,
 ) -> Result<Step, AllocError>
-    ensures { IfOk result (λ step. (parts : RParts) → held.state parts step ≡ r.term_ended parts (held.rule spine.rule) (r.paren (option_map rtm spine.before) (held.rule spine.rule).frames) (rtm term) (held.letter letter)) }
+    ensures { IfOk result (λ step. (parts : RParts) → held.state parts step ≡ r.term_ended parts (held.rule spine.rule)
+        (r.paren (option_map rtm spine.before) (held.rule spine.rule).frames) (rtm term) (held.letter letter)) }
 {
     match letter {
         Lexeme::CloseParen => Ok(Step::To(Place::WantAtom(behind_atom(alloc, spine, term)?))),
@@ -169,7 +173,9 @@ fn argument_ended(
     term: RawTerm,
     letter: Lexeme,
 ) -> Result<Step, AllocError>
-    ensures { IfOk result (λ step. (parts : RParts) → held.state parts step ≡ r.term_ended parts (held.rule spine.rule) (r.bracket name.name name.at (rtms args) (option_map rtm spine.before) (held.rule spine.rule).frames) (rtm term) (held.letter letter)) }
+    ensures { IfOk result (λ step. (parts : RParts) → held.state parts step ≡ r.term_ended parts (held.rule spine.rule)
+        (r.bracket name.name name.at (rtms args) (option_map rtm spine.before) (held.rule spine.rule).frames) (rtm term)
+        (held.letter letter)) }
 {
     args.push(term)?;
     match letter {
@@ -194,7 +200,8 @@ fn term_ended(
     term: RawTerm,
     letter: Lexeme,
 ) -> Result<Step, AllocError>
-    ensures { IfOk result (λ step. held.state (rparts parts.new) step ≡ r.term_ended (rparts parts.old) (held.rule rule) (held.rule rule).frames (rtm term) (held.letter letter)) }
+    ensures { IfOk result (λ step. held.state (rparts parts.new) step ≡ r.term_ended (rparts parts.old) (held.rule rule)
+        (held.rule rule).frames (rtm term) (held.letter letter)) }
 {
     match rule.frames.pop() {
         None => side_ended(alloc, parts, rule, term, letter),
@@ -216,7 +223,8 @@ fn spine_ended(
     spine: OpenSpine,
     letter: Lexeme,
 ) -> Result<Step, AllocError>
-    ensures { IfOk result (λ step. held.state (rparts parts.new) step ≡ r.spine_ended (rparts parts.old) (held.rule spine.rule) (option_map rtm spine.before) (held.letter letter)) }
+    ensures { IfOk result (λ step. held.state (rparts parts.new) step ≡ r.spine_ended (rparts parts.old) (held.rule spine.rule)
+        (option_map rtm spine.before) (held.letter letter)) }
 {
     let OpenSpine { rule, before } = spine;
     match before {
@@ -233,7 +241,8 @@ pub fn at_atom(
     letter: Lexeme,
     at: u32,
 ) -> Result<Step, AllocError>
-    ensures { IfOk result (λ step. held.state (rparts parts.new) step ≡ r.at_atom (rparts parts.old) (held.rule spine.rule) (option_map rtm spine.before) (held.letter letter) at) }
+    ensures { IfOk result (λ step. held.state (rparts parts.new) step ≡ r.at_atom (rparts parts.old) (held.rule spine.rule)
+        (option_map rtm spine.before) (held.letter letter) at) }
 {
     match letter {
         Lexeme::Name(name) => Ok(Step::To(Place::BehindName(spine, RawName { name, at }))),
@@ -257,7 +266,8 @@ pub fn behind_name(
     letter: Lexeme,
     at: u32,
 ) -> Result<Step, AllocError>
-    ensures { IfOk result (λ step. held.state (rparts parts.new) step ≡ r.behind_plain (rparts parts.old) (held.rule spine.rule) (option_map rtm spine.before) name.name name.at (held.letter letter) at) }
+    ensures { IfOk result (λ step. held.state (rparts parts.new) step ≡ r.behind_plain (rparts parts.old) (held.rule spine.rule)
+        (option_map rtm spine.before) name.name name.at (held.letter letter) at) }
 {
     match letter {
         Lexeme::OpenBracket => {
@@ -280,7 +290,8 @@ pub fn variable_colon(
     n_at: u32,
     letter: Lexeme,
 ) -> Result<Step, AllocError>
-    ensures { IfOk result (λ step. (parts : RParts) → held.state parts step ≡ r.expect_colon parts (r.want_atype (r.of_variable (held.rule spine.rule) (option_map rtm spine.before) n n_at) r.new_type) (held.letter letter)) }
+    ensures { IfOk result (λ step. (parts : RParts) → held.state parts step ≡ r.expect_colon parts
+        (r.want_atype (r.of_variable (held.rule spine.rule) (option_map rtm spine.before) n n_at) r.new_type) (held.letter letter)) }
 {
     match letter {
         Lexeme::Colon => Ok(Step::To(Place::WantAtype(
@@ -314,7 +325,8 @@ pub fn binder_colon(
     lambda_at: u32,
     letter: Lexeme,
 ) -> Result<Step, AllocError>
-    ensures { IfOk result (λ step. (parts : RParts) → held.state parts step ≡ r.expect_colon parts (r.want_atype (r.of_binder (held.rule rule) (rbinder x) lambda_at) r.new_type) (held.letter letter)) }
+    ensures { IfOk result (λ step. (parts : RParts) → held.state parts step ≡ r.expect_colon parts
+        (r.want_atype (r.of_binder (held.rule rule) (rbinder x) lambda_at) r.new_type) (held.letter letter)) }
 {
     match letter {
         Lexeme::Colon => Ok(Step::To(Place::WantAtype(
@@ -333,7 +345,9 @@ pub fn binder_dot(
     lambda_at: u32,
     letter: Lexeme,
 ) -> Result<Step, AllocError>
-    ensures { IfOk result (λ step. (parts : RParts) → held.state parts step ≡ r.expect_dot parts (r.want_atom (r.with_frames (held.rule rule) (r.body (rbinder x) (rty a) lambda_at (held.rule rule).frames)) None) (held.letter letter)) }
+    ensures { IfOk result (λ step. (parts : RParts) → held.state parts step ≡ r.expect_dot parts
+        (r.want_atom (r.with_frames (held.rule rule) (r.body (rbinder x) (rty a) lambda_at (held.rule rule).frames)) None)
+        (held.letter letter)) }
 {
     match letter {
         Lexeme::Dot => {

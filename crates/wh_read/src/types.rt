@@ -49,7 +49,8 @@ fn had_outer(
     started: OpenType,
     part: RawType,
 ) -> Result<Step, AllocError>
-    ensures { IfOk result (λ step. (parts : RParts) → held.state parts step ≡ r.had_outer parts (held.purpose purpose) (held.open_type started) (rty part)) }
+    ensures { IfOk result (λ step. (parts : RParts) → held.state parts step ≡ r.had_outer parts (held.purpose purpose)
+        (held.open_type started) (rty part)) }
 {
     match purpose {
         Purpose::OfBinder(rule, x, at) => Ok(Step::To(Place::BinderTyped(rule, x, part, at))),
@@ -71,7 +72,8 @@ fn had_atype(
     started: OpenType,
     part: RawType,
 ) -> Result<Step, AllocError>
-    ensures { IfOk result (λ step. (parts : RParts) → held.state parts step ≡ r.had_atype parts (held.purpose purpose) (held.open_type started).args (held.open_type started).outer (rty part)) }
+    ensures { IfOk result (λ step. (parts : RParts) → held.state parts step ≡ r.had_atype parts (held.purpose purpose)
+        (held.open_type started).args (held.open_type started).outer (rty part)) }
 {
     if started.outer.is_empty() {
         had_outer(alloc, purpose, started, part)
@@ -95,7 +97,8 @@ fn inner_type(alloc: Global, started: OpenType) -> Result<OpenType, AllocError>
 
 /// A parenthesis opens in a type.
 fn paren_in_type(alloc: Global, purpose: Purpose, started: OpenType) -> Result<Step, AllocError>
-    ensures { IfOk result (λ step. (parts : RParts) → held.state parts step ≡ r.at_atype parts (held.purpose purpose) (held.open_type started) open_paren 0) }
+    ensures { IfOk result (λ step. (parts : RParts) → held.state parts step ≡ r.at_atype parts (held.purpose purpose)
+        (held.open_type started) open_paren 0) }
 {
     if started.outer.len() >= DEEPEST_TYPE {
         return Ok(Step::TooMany);
@@ -112,7 +115,8 @@ fn sort_in_type(
     sort: Name,
     at: u32,
 ) -> Result<Step, AllocError>
-    ensures { IfOk result (λ step. (parts : RParts) → held.state parts step ≡ r.at_atype parts (held.purpose purpose) (held.open_type started) (a_name sort) at) }
+    ensures { IfOk result (λ step. (parts : RParts) → held.state parts step ≡ r.at_atype parts (held.purpose purpose)
+        (held.open_type started) (a_name sort) at) }
 {
     let args = RawTypes::new(alloc)?;
     had_atype(alloc, purpose, started, RawType { args, sort, at })
@@ -126,7 +130,8 @@ pub fn at_atype(
     letter: Lexeme,
     at: u32,
 ) -> Result<Step, AllocError>
-    ensures { IfOk result (λ step. (parts : RParts) → held.state parts step ≡ r.at_atype parts (held.purpose purpose) (held.open_type started) (held.letter letter) at) }
+    ensures { IfOk result (λ step. (parts : RParts) → held.state parts step ≡ r.at_atype parts (held.purpose purpose)
+        (held.open_type started) (held.letter letter) at) }
 {
     match letter {
         Lexeme::Name(sort) => sort_in_type(alloc, purpose, started, sort, at),
@@ -155,7 +160,8 @@ fn fun_end(
     kind: RawType,
     letter: Lexeme,
 ) -> Result<Step, AllocError>
-    ensures { IfOk result (λ step. held.state (rparts parts.new) step ≡ r.whole_type_ended (rparts parts.old) (r.of_fun (rname name)) (rty kind) (held.letter letter)) }
+    ensures { IfOk result (λ step. held.state (rparts parts.new) step ≡ r.whole_type_ended (rparts parts.old) (r.of_fun (rname name))
+        (rty kind) (held.letter letter)) }
 {
     match letter {
         Lexeme::Semicolon => {
@@ -175,7 +181,8 @@ fn bracket_type_ended(
     whole: RawType,
     letter: Lexeme,
 ) -> Result<Step, AllocError>
-    ensures { IfOk result (λ step. (parts : RParts) → held.state parts step ≡ r.whole_type_ended parts (r.in_brackets (held.meta meta) (rtys args)) (rty whole) (held.letter letter)) }
+    ensures { IfOk result (λ step. (parts : RParts) → held.state parts step ≡ r.whole_type_ended parts
+        (r.in_brackets (held.meta meta) (rtys args)) (rty whole) (held.letter letter)) }
 {
     args.push(whole)?;
     let started = new_type(alloc)?;
@@ -197,7 +204,8 @@ fn meta_type_ended(
     whole: RawType,
     letter: Lexeme,
 ) -> Result<Step, AllocError>
-    ensures { IfOk result (λ step. (parts : RParts) → held.state parts step ≡ r.whole_type_ended parts (r.of_meta (held.meta meta) (rtys args)) (rty whole) (held.letter letter)) }
+    ensures { IfOk result (λ step. (parts : RParts) → held.state parts step ≡ r.whole_type_ended parts
+        (r.of_meta (held.meta meta) (rtys args)) (rty whole) (held.letter letter)) }
 {
     let metas = add_meta(meta, args, whole)?;
     match letter {
@@ -215,7 +223,8 @@ fn whole_type_ended(
     whole: RawType,
     letter: Lexeme,
 ) -> Result<Step, AllocError>
-    ensures { IfOk result (λ step. held.state (rparts parts.new) step ≡ r.whole_type_ended (rparts parts.old) (held.purpose purpose) (rty whole) (held.letter letter)) }
+    ensures { IfOk result (λ step. held.state (rparts parts.new) step ≡ r.whole_type_ended (rparts parts.old) (held.purpose purpose)
+        (rty whole) (held.letter letter)) }
 {
     match purpose {
         Purpose::OfFun(name) => fun_end(parts, name, whole, letter),
@@ -235,7 +244,8 @@ fn type_ended(
     whole: RawType,
     letter: Lexeme,
 ) -> Result<Step, AllocError>
-    ensures { IfOk result (λ step. held.state (rparts parts.new) step ≡ r.type_ended (rparts parts.old) (held.purpose purpose) (held.types_in [] outer.items) (rty whole) (held.letter letter)) }
+    ensures { IfOk result (λ step. held.state (rparts parts.new) step ≡ r.type_ended (rparts parts.old) (held.purpose purpose)
+        (held.types_in [] outer.items) (rty whole) (held.letter letter)) }
 {
     let Some(args) = outer.pop() else {
         return whole_type_ended(alloc, parts, purpose, whole, letter);
@@ -256,7 +266,8 @@ pub fn behind_type(
     part: RawType,
     letter: Lexeme,
 ) -> Result<Step, AllocError>
-    ensures { IfOk result (λ step. held.state (rparts parts.new) step ≡ r.behind_type (rparts parts.old) (held.purpose purpose) (held.open_type started) (rty part) (held.letter letter)) }
+    ensures { IfOk result (λ step. held.state (rparts parts.new) step ≡ r.behind_type (rparts parts.old) (held.purpose purpose)
+        (held.open_type started) (rty part) (held.letter letter)) }
 {
     let OpenType { mut args, outer } = started;
     match letter {

@@ -13,7 +13,14 @@ use Rattle.wh_resolve.specs.declared.around.Around.{Around}
 
 -- what names may stand for
 abbrev pub scope : code.Scope → Scope
-scope s = record { sorts = s.sorts.now; funs = s.funs.now; kinds = tys s.kinds.now; metas = s.metas.now; declared = declared_metas s.declared.now }
+scope s = record {
+  sorts = s.sorts.now;
+  funs = s.funs.now;
+  kinds = tys s.kinds.now;
+  metas = s.metas.now;
+  declared = declared_metas
+      s.declared.now;
+}
 
 abbrev pub typed_binder : Around → TypedBinder
 typed_binder a = record { binder = rbinder a.binder.now; kind = Some (ty a.kind) }

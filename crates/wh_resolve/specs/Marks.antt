@@ -19,7 +19,8 @@ is_marked s flags n = flag_at flags (number_of s.metas n)
 
 -- the flags of meta-variables that occur are set in `new`, and the others are as in `old`
 abbrev pub Marks : Scope → List Bool → List Bool → (List ℕ → Bool) → Type 0
-Marks s old new occurs = (n : List ℕ) (z : ℕ) → number_of s.metas n ≡ Some z → z < length old → slice_index_or new z false ≡ (slice_index_or old z false || occurs n)
+Marks s old new occurs = (n : List ℕ) (z : ℕ) → number_of s.metas n ≡ Some z → z < length old
+    → slice_index_or new z false ≡ (slice_index_or old z false || occurs n)
 
 -- the occurrences of meta-variables in a term, by their offsets, each tested to be known
 abbrev mutual

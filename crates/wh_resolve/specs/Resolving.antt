@@ -43,9 +43,11 @@ fitting_tests _ _ _ = []
 -- the tests of a meta-variable with resolved arguments of these types
 abbrev pub applied_tests : Scope → List ℕ → List Ty → RTms → ℕ → List Test
 applied_tests s n given ts at =
-    test (not (is_declared s.metas n)) (UnknownName at) ∷ test (not (arity_of (declaration s n) == count_of ts)) (IllTyped at) ∷ fitting_tests given ts (args_of (declaration s n))
+    test (not (is_declared s.metas n)) (UnknownName at) ∷ test (not (arity_of (declaration s n) == count_of ts)) (IllTyped at)
+    ∷ fitting_tests given ts (args_of (declaration s n))
 
 -- the answer for a meta-variable with resolved arguments
 abbrev pub ResolvesMeta : Scope → List ℕ → ResolvedList → RTms → ℕ → Result Resolved (Or SystemFault) → Type 0
 ResolvesMeta s n list ts at result =
-    Resolves (applied_tests s n (tys list.kinds) ts at) (option_map (λ z. meta z (tms list.trees)) (number_of s.metas n)) (meta_kind (declaration s n) (map Some (tys list.kinds))) result
+    Resolves (applied_tests s n (tys list.kinds) ts at) (option_map (λ z. meta z (tms list.trees)) (number_of s.metas n))
+    (meta_kind (declaration s n) (map Some (tys list.kinds))) result

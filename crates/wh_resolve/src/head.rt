@@ -13,7 +13,8 @@ use wh_text::RawTerm;
 
 /// The symbol that heads a left side; the fault is at the side, where none does.
 pub fn head_of(scope: &Scope, left: &RawTerm) -> Result<u32, SystemFault>
-    ensures { MatchResult result (λ fun. head_symbol (in_scope scope.now) (rtm left.now) ≡ Some fun) (λ fault. (head_symbol (in_scope scope.now) (rtm left.now) ≡ None) × (fault ≡ HeadNotFun (term_offset (rtm left.now)))) }
+    ensures { MatchResult result (λ fun. head_symbol (in_scope scope.now) (rtm left.now) ≡ Some fun)
+        (λ fault. (head_symbol (in_scope scope.now) (rtm left.now) ≡ None) × (fault ≡ HeadNotFun (term_offset (rtm left.now)))) }
 {
     match symbol_of(scope, left) {
         Some(fun) => Ok(fun),

@@ -38,7 +38,8 @@ pub fn check_new_metas(
 
 // A flag for each meta-variable of the rule: whether it occurs in the left side.
 fn marks_of(alloc: Global, scope: &Scope, left: &RawTerm) -> Result<Vec<bool>, AllocError>
-    ensures { IfOk result (λ flags. (n : List ℕ) (z : ℕ) → number_of (in_scope scope.now).metas n ≡ Some z → slice_index_or flags.items z false ≡ occurs (in_scope scope.now) [] n (rtm left.now)) }
+    ensures { IfOk result (λ flags. (n : List ℕ) (z : ℕ) → number_of (in_scope scope.now).metas n ≡ Some z
+        → slice_index_or flags.items z false ≡ occurs (in_scope scope.now) [] n (rtm left.now)) }
 {
     let mut marks = vec![in alloc; false; scope.declared.as_slice().len()]?;
     let mut binders = Vec::new(alloc);
@@ -54,7 +55,8 @@ fn mark_term<'a>(
     term: &'a RawTerm,
     marks: &mut [bool],
 ) -> Result<(), AllocError>
-    ensures marked { OnOk result (Marks (in_scope scope.now) marks.old marks.new (λ n. occurs (in_scope scope.now) (bare binders.old.items) n (rtm term.now))) }
+    ensures marked { OnOk result (Marks (in_scope scope.now) marks.old marks.new
+        (λ n. occurs (in_scope scope.now) (bare binders.old.items) n (rtm term.now))) }
     ensures kept { OnOk result (binders.new.items ≡ binders.old.items) }
 {
     match term {
@@ -90,7 +92,8 @@ fn mark_each<'a>(
     items: &'a RawTerms,
     marks: &mut [bool],
 ) -> Result<(), AllocError>
-    ensures marked { OnOk result (Marks (in_scope scope.now) marks.old marks.new (λ n. any_occurs (in_scope scope.now) (bare binders.old.items) n (rtms items.now))) }
+    ensures marked { OnOk result (Marks (in_scope scope.now) marks.old marks.new
+        (λ n. any_occurs (in_scope scope.now) (bare binders.old.items) n (rtms items.now))) }
     ensures kept { OnOk result (binders.new.items ≡ binders.old.items) }
 {
     for item in items.as_slice() {
@@ -130,7 +133,8 @@ fn check_marked<'a>(
     binders: &mut Vec<&'a RawBinder>,
     term: &'a RawTerm,
 ) -> Result<(), Or<SystemFault>>
-    ensures told { Reports (missing_tests (in_scope scope.now) (is_marked (in_scope scope.now) marks.now) (bare binders.old.items) (rtm term.now)) result }
+    ensures told { Reports (missing_tests (in_scope scope.now) (is_marked (in_scope scope.now) marks.now) (bare binders.old.items)
+        (rtm term.now)) result }
     ensures kept { OnOk result (binders.new.items ≡ binders.old.items) }
 {
     match term {
@@ -163,7 +167,8 @@ fn check_each_marked<'a>(
     binders: &mut Vec<&'a RawBinder>,
     items: &'a RawTerms,
 ) -> Result<(), Or<SystemFault>>
-    ensures told { Reports (missing_each (in_scope scope.now) (is_marked (in_scope scope.now) marks.now) (bare binders.old.items) (rtms items.now)) result }
+    ensures told { Reports (missing_each (in_scope scope.now) (is_marked (in_scope scope.now) marks.now) (bare binders.old.items)
+        (rtms items.now)) result }
     ensures kept { OnOk result (binders.new.items ≡ binders.old.items) }
 {
     for item in items.as_slice() {
@@ -180,7 +185,8 @@ fn check_name(
     name: &Name,
     at: u32,
 ) -> Result<(), SystemFault>
-    ensures { IsFirstFault (missing_tests (in_scope scope.now) (is_marked (in_scope scope.now) marks.now) (bare binders.now) (named name.now at)) result }
+    ensures { IsFirstFault (missing_tests (in_scope scope.now) (is_marked (in_scope scope.now) marks.now) (bare binders.now)
+        (named name.now at)) result }
 {
     if bare_named(binders, name.bytes()).is_some() || scope.metas.number(name.bytes()).is_none() {
         return Ok(());

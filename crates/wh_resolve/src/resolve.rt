@@ -33,7 +33,10 @@ pub fn resolve_side(
     scope: &Scope,
     side: &RawTerm,
 ) -> Result<(Term, SimpleType), Or<SystemFault>>
-    ensures { MatchOr result (λ r. (first_fault (naming_tests (in_scope scope.now) [] (rtm side.now)) ≡ None) × (meant (in_scope scope.now) [] (rtm side.now) ≡ Some (tm r.0)) × (kind_of (in_scope scope.now) [] (rtm side.now) ≡ Some (ty r.1))) (λ fault. first_fault (naming_tests (in_scope scope.now) [] (rtm side.now)) ≡ Some fault) }
+    ensures { MatchOr result (λ r. (first_fault (naming_tests (in_scope scope.now) [] (rtm side.now)) ≡ None)
+        × (meant (in_scope scope.now) [] (rtm side.now) ≡ Some (tm r.0))
+        × (kind_of (in_scope scope.now) [] (rtm side.now) ≡ Some (ty r.1)))
+        (λ fault. first_fault (naming_tests (in_scope scope.now) [] (rtm side.now)) ≡ Some fault) }
 {
     let mut passed = Vec::new(alloc);
     let Resolved { term, kind } = resolve_under(alloc, scope, &mut passed, side)?;
@@ -84,7 +87,8 @@ fn resolve_below<'a>(
     kind: SimpleType,
     body: &'a RawTerm,
 ) -> Result<Resolved, Or<SystemFault>>
-    ensures told { ResolvesTerm (in_scope scope.now) (record { binder = rbinder binder.now; kind = Some (ty kind) } ∷ typed passed.old.items) (rtm body.now) result }
+    ensures told { ResolvesTerm (in_scope scope.now) (record { binder = rbinder binder.now; kind = Some (ty kind) }
+        ∷ typed passed.old.items) (rtm body.now) result }
     ensures kept { OnOk result (passed.new.items ≡ passed.old.items) }
 {
     passed.push(Around { binder, kind })?;
@@ -123,7 +127,8 @@ fn resolve_applied<'a>(
     head: Resolved,
     items: &'a RawTerms,
 ) -> Result<Resolved, Or<SystemFault>>
-    ensures told { ResolvesSpine (in_scope scope.now) (typed passed.old.items) (Some (tm head.term)) (Some (ty head.kind)) (rtms items.now) result }
+    ensures told { ResolvesSpine (in_scope scope.now) (typed passed.old.items) (Some (tm head.term)) (Some (ty head.kind))
+        (rtms items.now) result }
     ensures kept { OnOk result (passed.new.items ≡ passed.old.items) }
 {
     let mut whole = head;

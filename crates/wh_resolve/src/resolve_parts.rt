@@ -141,7 +141,8 @@ pub fn applied(
     argument: Resolved,
     at: u32,
 ) -> Result<Resolved, Or<SystemFault>>
-    ensures { Resolves (test (not (takes (Some (ty function.kind)) (Some (ty argument.kind)))) (IllTyped at) ∷ []) (Some (app (tm function.term) (tm argument.term))) (gives (Some (ty function.kind))) result }
+    ensures { Resolves (test (not (takes (Some (ty function.kind)) (Some (ty argument.kind)))) (IllTyped at) ∷ [])
+        (Some (app (tm function.term) (tm argument.term))) (gives (Some (ty function.kind))) result }
 {
     let Resolved { term, kind } = function;
     match kind {

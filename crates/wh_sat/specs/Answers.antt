@@ -7,6 +7,7 @@ use Rattle.wh_sat.specs.Solving.{Solves, SolvesGiven}
 use Rattle.wh_sat.specs.State.{clauses_of, variables_of}
 
 abbrev pub Answers : Learner → Next → Type 0
-Answers learner (Model values) = (0 < learner.left) × (length values.items ≡ variables_of learner) × Solves (λ v. get_or values.items v false) (clauses_of learner)
+Answers learner (Model values) = (0 < learner.left) × (length values.items ≡ variables_of learner)
+    × Solves (λ v. get_or values.items v false) (clauses_of learner)
 Answers learner Exhausted = (0 < learner.left) × ((v : ℕ → Bool) → SolvesGiven v (clauses_of learner) learner.learnt.items → ⊥)
 Answers learner Spent = learner.left ≡ 0

@@ -14,14 +14,16 @@ pub record Has (c : List Literal) (l : Literal) : Type 0 where
 pub data Derives (clauses : List (List Literal)) (start : List Literal) : Literal → Type 0 where
   given : (l : Literal) → Has start l → Derives clauses start l
   forced : (k : ℕ) (l : Literal) → k < length clauses → Has (get_or clauses k []) l
-      → ((i : ℕ) (d : Literal) → i < length (get_or clauses k []) → get_or (get_or clauses k []) i d ≢ l → Derives clauses start (negated (get_or (get_or clauses k []) i d)))
+      → ((i : ℕ) (d : Literal) → i < length (get_or clauses k []) → get_or (get_or clauses k []) i d ≢ l
+      → Derives clauses start (negated (get_or (get_or clauses k []) i d)))
       → Derives clauses start l
 
 -- propagation leaves some clause with only false literals
 pub record Refutes (clauses : List (List Literal)) (start : List Literal) : Type 0 where
   pub clause : ℕ
   pub known : clause < length clauses
-  pub all : (i : ℕ) (d : Literal) → i < length (get_or clauses clause []) → Derives clauses start (negated (get_or (get_or clauses clause []) i d))
+  pub all : (i : ℕ) (d : Literal) → i < length (get_or clauses clause [])
+      → Derives clauses start (negated (get_or (get_or clauses clause []) i d))
 
 abbrev pub Includes : List Literal → List Literal → Type 0
 Includes c e = (l : Literal) → Has e l → Has c l

@@ -15,9 +15,11 @@ fn suppose(trail: &mut Trail, literals: &[Literal]) -> Result<bool, AllocError>
     requires closed { IsClosed (formula_of trail.old).clauses (assigned trail.old) }
     ensures same { formula_of trail.new ≡ formula_of trail.old }
     ensures marks { OnOk result (take (length (marks_of trail.old)) (marks_of trail.new) ≡ marks_of trail.old) }
-    ensures stop { OnOk result (get_or (marks_of trail.new) (length (marks_of trail.old)) (length (assigned trail.new)) ≡ length (assigned trail.old)) }
+    ensures stop { OnOk result (get_or (marks_of trail.new) (length (marks_of trail.old)) (length (assigned trail.new)) ≡ length
+        (assigned trail.old)) }
     ensures front { OnOk result (take (length (assigned trail.old)) (assigned trail.new) ≡ assigned trail.old) }
-    ensures answer { IfOk result (λ clash. Supposes (formula_of trail.old).clauses (assigned trail.old) literals.now (assigned trail.new) clash) }
+    ensures answer { IfOk result (λ clash. Supposes (formula_of trail.old).clauses (assigned trail.old) literals.now (assigned trail.new)
+        clash) }
 {
     for literal in literals {
         match trail.value(literal.variable) {

@@ -18,4 +18,5 @@ PendingIn s a i = Pending s.formula.clauses s.assignment.literals.items s.head s
 abbrev pub Visits : Trail → Trail → ℕ → Literal → Visit → Type 0
 Visits before after at a Stays = PendingIn after a (at + 1) × (length (list_of after a) ≡ length (list_of before a))
 Visits before after at a Moved = PendingIn after a at × (length (list_of after a) + 1 ≡ length (list_of before a))
-Visits before after at a (Refuted k) = (k < length before.formula.clauses) × IsRefuted after.assignment.literals.items (get_or before.formula.clauses k [])
+Visits before after at a (Refuted k) = (k < length before.formula.clauses)
+    × IsRefuted after.assignment.literals.items (get_or before.formula.clauses k [])

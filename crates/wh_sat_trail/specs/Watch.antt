@@ -31,7 +31,8 @@ abbrev pub Listed : List (List ℕ) → Literal → ℕ → Type 0
 Listed lists l k = 0 < count_of k (get_or lists (code_of l) [])
 
 -- what clause k keeps with its two watches
-pub record Guard (t : List Literal) (stops : List Stop) (head : ℕ) (lists : List (List ℕ)) (c : List Literal) (k : ℕ) (p : Pair) : Type 0 where
+pub record Guard (t : List Literal) (stops : List Stop) (head : ℕ) (lists : List (List ℕ)) (c : List Literal) (k : ℕ)
+    (p : Pair) : Type 0 where
   pub first_in : member p.first c ≡ true
   pub second_in : member p.second c ≡ true
   pub distinct : p.first ≢ p.second
@@ -41,8 +42,10 @@ pub record Guard (t : List Literal) (stops : List Stop) (head : ℕ) (lists : Li
   pub past : (j : ℕ) → j < length stops → Safe t p.first p.second (get_or stops j no_stop).done (get_or stops j no_stop).mark
 
 -- a watched clause is guarded, and any other one is among the short ones
-pub record Guarded (clauses : List (List Literal)) (t : List Literal) (stops : List Stop) (head : ℕ) (lists : List (List ℕ)) (pairs : List Pair) (short : List ℕ) : Type 0 where
-  pub watched : (k : ℕ) → k < length clauses → (get_or pairs k no_pair).watched ≡ true → Guard t stops head lists (get_or clauses k []) k (get_or pairs k no_pair)
+pub record Guarded (clauses : List (List Literal)) (t : List Literal) (stops : List Stop) (head : ℕ) (lists : List (List ℕ))
+    (pairs : List Pair) (short : List ℕ) : Type 0 where
+  pub watched : (k : ℕ) → k < length clauses → (get_or pairs k no_pair).watched ≡ true
+      → Guard t stops head lists (get_or clauses k []) k (get_or pairs k no_pair)
   pub others : (k : ℕ) → k < length clauses → (get_or pairs k no_pair).watched ≡ false → 0 < count_of k short
 
 -- the stops rise within n literals, of which `head` are done
@@ -56,7 +59,8 @@ pub record Ordered (stops : List Stop) (head n : ℕ) : Type 0 where
 
 -- every watched clause is safe at a stop
 abbrev pub AllSafe : List (List Literal) → List Literal → List Pair → ℕ → ℕ → Type 0
-AllSafe clauses t pairs done mark = (k : ℕ) → k < length clauses → (get_or pairs k no_pair).watched ≡ true → Safe t (get_or pairs k no_pair).first (get_or pairs k no_pair).second done mark
+AllSafe clauses t pairs done mark = (k : ℕ) → k < length clauses → (get_or pairs k no_pair).watched ≡ true
+    → Safe t (get_or pairs k no_pair).first (get_or pairs k no_pair).second done mark
 
 -- the literal behind `head` makes a false
 pub record Turn (t : List Literal) (head : ℕ) (a : Literal) : Type 0 where
@@ -67,7 +71,8 @@ pub record Turn (t : List Literal) (head : ℕ) (a : Literal) : Type 0 where
 -- while the list of a is walked, each watched clause is safe one literal further, or stands in the list from place i on
 abbrev pub Pending : List (List Literal) → List Literal → ℕ → List (List ℕ) → List Pair → Literal → ℕ → Type 0
 Pending clauses t head lists pairs a i = (k : ℕ) → k < length clauses → (get_or pairs k no_pair).watched ≡ true
-    → (Safe t (get_or pairs k no_pair).first (get_or pairs k no_pair).second (head + 1) (length t)) ⊎ (0 < count_of k (drop i (get_or lists (code_of a) [])))
+    → (Safe t (get_or pairs k no_pair).first (get_or pairs k no_pair).second (head + 1) (length t))
+    ⊎ (0 < count_of k (drop i (get_or lists (code_of a) [])))
 
 -- how much of the queue was done when the last level began
 abbrev pub done_of : List Stop → ℕ

@@ -61,7 +61,8 @@ impl Assignment {
     /// The value of a literal.
     pub fn truth(&self, literal: Literal) -> Option<bool>
         requires { literal.variable < vec_len self.now.values }
-        ensures { let t = self.now.literals.items in MatchOption result (Open t literal) (λ b. MatchBool b (Holds t literal) (Fails t literal)) }
+        ensures { let t = self.now.literals.items in MatchOption result (Open t literal)
+            (λ b. MatchBool b (Holds t literal) (Fails t literal)) }
     {
         match self.value(literal.variable) {
             None => None,

@@ -60,7 +60,8 @@ impl Assignment {
     /// A literal that is not false, and not the other one.
     pub fn replacement(&self, clause: &[Literal], other: Literal) -> Option<Literal>
         requires { AllBelow (vec_len self.now.values) clause.now }
-        ensures { MatchOption result ((i : ℕ) (d : Literal) → i < length clause.now → get_or clause.now i d ≢ other → Fails self.now.literals.items (get_or clause.now i d)) (λ new. IsCandidate self.now clause.now new × (new ≢ other)) }
+        ensures { MatchOption result ((i : ℕ) (d : Literal) → i < length clause.now → get_or clause.now i d ≢ other
+            → Fails self.now.literals.items (get_or clause.now i d)) (λ new. IsCandidate self.now clause.now new × (new ≢ other)) }
     {
         for literal in clause {
             match self.truth(*literal) {
@@ -94,7 +95,8 @@ impl Assignment {
     /// Two different literals that are not false.
     pub fn watches(&self, clause: &[Literal]) -> Option<(Literal, Literal)>
         requires { AllBelow (vec_len self.now.values) clause.now }
-        ensures { IfSome result (λ both. IsCandidate self.now clause.now both.0 × IsCandidate self.now clause.now both.1 × (both.1 ≢ both.0)) }
+        ensures { IfSome result (λ both. IsCandidate self.now clause.now both.0 × IsCandidate self.now clause.now both.1
+            × (both.1 ≢ both.0)) }
     {
         match self.candidate(clause) {
             None => None,

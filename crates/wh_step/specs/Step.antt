@@ -16,9 +16,11 @@ pub data Step (rules : List RewriteRule) : Tm → Tm → Type 0 where
   -- an abstraction with an argument steps to its body with the argument for its variable
   beta : {a : Ty} {t u v : Tm} → v ≡ opened u t → Step rules (app (lam a t) u) v
   -- the values of the two sides of a rule under one meta-substitution
-  by_rule : {t u : Tm} (r : RewriteRule) (g : ℕ → Body) → Contains rules r → AreWhole g r → Value g r.left t → Value g r.right u → Step rules t u
+  by_rule : {t u : Tm} (r : RewriteRule) (g : ℕ → Body) → Contains rules r → AreWhole g r → Value g r.left t → Value g r.right u
+      → Step rules t u
   -- a step in the function, or in the argument, of an application
   in_function : {t t' u : Tm} → Step rules t t' → Step rules (app t u) (app t' u)
   in_argument : {t u u' : Tm} → Step rules u u' → Step rules (app t u) (app t u')
   -- a step in the body of an abstraction, opened with a variable that is fresh for both bodies
-  in_body : {a : Ty} {t t' : Tm} (x : ℕ) → Fresh x t → Fresh x t' → Step rules (opened (free x a) t) (opened (free x a) t') → Step rules (lam a t) (lam a t')
+  in_body : {a : Ty} {t t' : Tm} (x : ℕ) → Fresh x t → Fresh x t' → Step rules (opened (free x a) t) (opened (free x a) t')
+      → Step rules (lam a t) (lam a t')

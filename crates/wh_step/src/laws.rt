@@ -15,7 +15,8 @@ ghost use Rattle.wh_step.specs.Reducts.{AreReducts};
 
 /// A step keeps the type of a well-typed term.
 pub fn steps_keep_types()
-    ensures { (S : Symbols) (rules : List RewriteRule) (t u : Tm) (a : Ty) → AreWellMade S rules → Typed S [] [] t a → Step rules t u → Typed S [] [] u a }
+    ensures { (S : Symbols) (rules : List RewriteRule) (t u : Tm) (a : Ty) → AreWellMade S rules → Typed S [] [] t a → Step rules t u
+        → Typed S [] [] u a }
 {}
 
 /// A step brings no loose variable.
@@ -30,13 +31,17 @@ pub fn steps_keep_terms()
 
 /// Steps are kept by substitution of terms without loose variables for free variables.
 pub fn steps_under_substitution()
-    ensures { (S : Symbols) (rules : List RewriteRule) (t u : Tm) (φ : ℕ → Ty → Tm) → AreWellMade S rules → LooseBelow 0 t → IsTerm t → ((x : ℕ) (a : Ty) → LooseBelow 0 (φ x a)) → ((x : ℕ) (a : Ty) → IsTerm (φ x a)) → Step rules t u → Step rules (act bound φ t) (act bound φ u) }
+    ensures { (S : Symbols) (rules : List RewriteRule) (t u : Tm) (φ : ℕ → Ty → Tm) → AreWellMade S rules → LooseBelow 0 t → IsTerm t
+        → ((x : ℕ) (a : Ty) → LooseBelow 0 (φ x a)) → ((x : ℕ) (a : Ty) → IsTerm (φ x a)) → Step rules t u
+        → Step rules (act bound φ t) (act bound φ u) }
 {}
 
 /// An abstraction steps in its body alone, and then the body steps whatever term opens it. (That a step of bodies which
 /// a fresh variable opens is a step of the abstractions stands in the definition of a step.)
 pub fn steps_of_abstractions()
-    ensures { (S : Symbols) (rules : List RewriteRule) (a : Ty) (t v : Tm) → AreWellMade S rules → LooseBelow 0 (lam a t) → IsTerm (lam a t) → Step rules (lam a t) v → (t' : Tm) × (v ≡ lam a t') × ((u : Tm) → LooseBelow 0 u → IsTerm u → Step rules (opened u t) (opened u t')) }
+    ensures { (S : Symbols) (rules : List RewriteRule) (a : Ty) (t v : Tm) → AreWellMade S rules → LooseBelow 0 (lam a t)
+        → IsTerm (lam a t) → Step rules (lam a t) v → (t' : Tm) × (v ≡ lam a t')
+        × ((u : Tm) → LooseBelow 0 u → IsTerm u → Step rules (opened u t) (opened u t')) }
 {}
 
 /// A reduction of at least one step that comes back to its beginning goes on for ever.
@@ -51,7 +56,8 @@ pub fn unbounded_before()
 
 /// A term is bounded if one number bounds the reductions from all of its reducts.
 pub fn bounded_by_reducts()
-    ensures { (rules : List RewriteRule) (t : Tm) (n : ℕ) → ((u : Tm) → Step rules t u → (l : List Tm) → Reduction rules u l → length l ≤ n) → Bounded rules t }
+    ensures { (rules : List RewriteRule) (t : Tm) (n : ℕ)
+        → ((u : Tm) → Step rules t u → (l : List Tm) → Reduction rules u l → length l ≤ n) → Bounded rules t }
 {}
 
 /// The reducts of a bounded term are bounded.
@@ -71,15 +77,18 @@ pub fn places_of_steps()
 
 /// Steps that follow each other are a reduction of as many steps.
 pub fn replays_are_reductions()
-    ensures { (rules : List RewriteRule) (steps : List taken.Step) (t u : Tm) → Replays rules steps t u → (l : List Tm) × Reduction rules t l × (length l ≡ length steps) × (last_of t l ≡ u) }
+    ensures { (rules : List RewriteRule) (steps : List taken.Step) (t u : Tm) → Replays rules steps t u
+        → (l : List Tm) × Reduction rules t l × (length l ≡ length steps) × (last_of t l ≡ u) }
 {}
 
 /// A step at a place, by one rule or by beta, has one result.
 pub fn one_result()
-    ensures { (S : Symbols) (rules : List RewriteRule) (k : Option ℕ) (path : List ℕ) (t u v : Tm) → AreWellMade S rules → StepAt rules k path t u → StepAt rules k path t v → u ≡ v }
+    ensures { (S : Symbols) (rules : List RewriteRule) (k : Option ℕ) (path : List ℕ) (t u v : Tm) → AreWellMade S rules
+        → StepAt rules k path t u → StepAt rules k path t v → u ≡ v }
 {}
 
 /// A term is in the list of the reducts of another exactly where that steps to it.
 pub fn reducts_are_steps()
-    ensures { (S : Symbols) (rules : List RewriteRule) (t u : Tm) (us : List Tm) → AreWellMade S rules → AreReducts rules t us → Contains us u ↔ Step rules t u }
+    ensures { (S : Symbols) (rules : List RewriteRule) (t u : Tm) (us : List Tm) → AreWellMade S rules → AreReducts rules t us
+        → Contains us u ↔ Step rules t u }
 {}

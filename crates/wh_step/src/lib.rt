@@ -19,9 +19,10 @@ mod stepping;
 mod weighing;
 
 pub use laws::{
-    bounded_by_reducts, loops_are_unbounded, one_result, places_of_steps, reducts_are_steps, reducts_of_bounded,
-    replays_are_reductions, steps_at_places, steps_bring_nothing_loose, steps_keep_terms,
-    steps_keep_types, steps_of_abstractions, steps_under_substitution, unbounded_before,
+    bounded_by_reducts, loops_are_unbounded, one_result, places_of_steps, reducts_are_steps,
+    reducts_of_bounded, replays_are_reductions, steps_at_places, steps_bring_nothing_loose,
+    steps_keep_terms, steps_keep_types, steps_of_abstractions, steps_under_substitution,
+    unbounded_before,
 };
 pub use place::step_at;
 pub use reducing::reducts;

@@ -57,7 +57,8 @@ fn variable_extent(
 // The extent of a body with the values for its parameters, `depth` binders below its own root.
 fn extent_of(term: &Term, values: &[Option<Extent>], depth: u32) -> Result<Extent, Or<PastLimit>>
     requires { IsTerm (tm term.now) }
-    ensures { (ts : Tms) (k : ℕ) → AllKnown ts values.now → Measures (act (ups depth (parameters ts (moved k))) (ups_free depth free) (tm term.now)) result }
+    ensures { (ts : Tms) (k : ℕ) → AllKnown ts values.now
+        → Measures (act (ups depth (parameters ts (moved k))) (ups_free depth free) (tm term.now)) result }
 {
     match term {
         Term::Bound(number) => variable_extent(*number, values, depth),

@@ -63,7 +63,8 @@ pub fn step_at(
     requires fits { Fits (tm term.now) }
     requires shut { LooseBelow 0 (tm term.now) }
     requires plain { IsTerm (tm term.now) }
-    ensures { IfOk result (λ o. MatchOption o ((u : Tm) → StepAt (rewrite_rules rules.now) rule path.now (tm term.now) u → ⊥) (λ u. StepAt (rewrite_rules rules.now) rule path.now (tm term.now) (tm u))) }
+    ensures { IfOk result (λ o. MatchOption o ((u : Tm) → StepAt (rewrite_rules rules.now) rule path.now (tm term.now) u → ⊥)
+        (λ u. StepAt (rewrite_rules rules.now) rule path.now (tm term.now) (tm u))) }
 {
     let Some(redex) = subterm_at(term, path) else {
         return Ok(None);

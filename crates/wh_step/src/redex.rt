@@ -57,7 +57,8 @@ pub fn rule_step<'a>(
 ) -> Result<Option<Contractum<'a>>, AllocError>
     requires well_made { (S : Symbols) × IsWellMade S (rewrite_rule rule.now) }
     requires plain { IsPlain (tm term.now) }
-    ensures { IfOk result (λ o. MatchOption o ((v : Tm) → RuleStep (rewrite_rule rule.now) (tm term.now) v → ⊥) (λ c. IsReady c × RuleStep (rewrite_rule rule.now) (tm term.now) (result_of c))) }
+    ensures { IfOk result (λ o. MatchOption o ((v : Tm) → RuleStep (rewrite_rule rule.now) (tm term.now) v → ⊥)
+        (λ c. IsReady c × RuleStep (rewrite_rule rule.now) (tm term.now) (result_of c))) }
 {
     if !same_head(&rule.left, term) {
         return Ok(None);
@@ -77,7 +78,8 @@ pub fn root_step<'a>(
 ) -> Result<Option<Contractum<'a>>, AllocError>
     requires well_made { (S : Symbols) × AreWellMade S (rewrite_rules rules.now) }
     requires plain { IsPlain (tm term.now) }
-    ensures { IfOk result (λ o. MatchOption o ((v : Tm) → RootStep (rewrite_rules rules.now) rule (tm term.now) v → ⊥) (λ c. IsReady c × RootStep (rewrite_rules rules.now) rule (tm term.now) (result_of c))) }
+    ensures { IfOk result (λ o. MatchOption o ((v : Tm) → RootStep (rewrite_rules rules.now) rule (tm term.now) v → ⊥)
+        (λ c. IsReady c × RootStep (rewrite_rules rules.now) rule (tm term.now) (result_of c))) }
 {
     match rule {
         None => Ok(beta_step(term)),

@@ -63,7 +63,8 @@ IsFirstOf P args f =
 
 -- the choices make each pair of the set equal or below, and each dropped one below (Kop 2012, the subterm criterion; the
 -- form is ours)
-pub record IsProjection (rules : List RewriteRule) (pairs : List PairData) (set : List ℕ) (args : List Chosen) (drop : List ℕ) : Type 0 where
+pub record IsProjection (rules : List RewriteRule) (pairs : List PairData) (set : List ℕ) (args : List Chosen)
+    (drop : List ℕ) : Type 0 where
   pub marked : AreForMarked pairs set args
   pub places : All (IsPlace rules) args
   -- some pair is dropped

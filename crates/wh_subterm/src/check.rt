@@ -31,7 +31,9 @@ pub fn check_projection(
     drop: &[u32],
 ) -> Result<(), SubtermFault>
     requires { All (λ n. n < length pairs.now) set.now }
-    ensures { MatchResult result (λ _. IsProjection (system_data system.now).rules (map pair_data pairs.now) set.now (map chosen args.now) drop.now) (IsFirstSubtermFault (system_data system.now).rules (map pair_data pairs.now) set.now (map chosen args.now) drop.now) }
+    ensures { MatchResult result (λ _. IsProjection (system_data system.now).rules (map pair_data pairs.now) set.now
+        (map chosen args.now) drop.now) (IsFirstSubtermFault (system_data system.now).rules (map pair_data pairs.now) set.now
+        (map chosen args.now) drop.now) }
 {
     check_conditions(
         system,
@@ -52,7 +54,9 @@ fn check_conditions(
 ) -> Result<(), SubtermFault>
     requires set { All (λ n. n < length pairs.now) set.now }
     requires increasing { IsIncreasing set.now }
-    ensures { MatchResult result (λ _. IsProjection (system_data system.now).rules (map pair_data pairs.now) set.now (map chosen args.now) drop.now) (IsFirstSubtermFault (system_data system.now).rules (map pair_data pairs.now) set.now (map chosen args.now) drop.now) }
+    ensures { MatchResult result (λ _. IsProjection (system_data system.now).rules (map pair_data pairs.now) set.now
+        (map chosen args.now) drop.now) (IsFirstSubtermFault (system_data system.now).rules (map pair_data pairs.now) set.now
+        (map chosen args.now) drop.now) }
 {
     if !are_for_marked(pairs, set, args) {
         return Err(SubtermFault::BadArgs);

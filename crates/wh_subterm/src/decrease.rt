@@ -23,7 +23,9 @@ pub fn first_not_decreasing(
     requires set { All (λ n. n < length pairs.now) set.now }
     requires increasing { IsIncreasing set.now }
     requires args { IsIncreasing (chosen_symbols (map chosen args.now)) }
-    ensures { MatchOption result ((n : ℕ) → Contains set.now n → IsDecreasing (map pair_data pairs.now) (map chosen args.now) drop.now n) (λ n. Contains set.now n × IsNotDecreasing (map pair_data pairs.now) (map chosen args.now) drop.now n × ((m : ℕ) → m < n → Contains set.now m → IsNotDecreasing (map pair_data pairs.now) (map chosen args.now) drop.now m → ⊥)) }
+    ensures { MatchOption result ((n : ℕ) → Contains set.now n → IsDecreasing (map pair_data pairs.now) (map chosen args.now) drop.now n)
+        (λ n. Contains set.now n × IsNotDecreasing (map pair_data pairs.now) (map chosen args.now) drop.now n
+        × ((m : ℕ) → m < n → Contains set.now m → IsNotDecreasing (map pair_data pairs.now) (map chosen args.now) drop.now m → ⊥)) }
 {
     for number in set {
         if !is_decreasing(&pairs[*number as usize], args, is_in(drop, *number)) {
@@ -70,7 +72,8 @@ fn is_decreasing(pair: &Pair, args: &[Choice], dropped: bool) -> bool
 // The argument that is chosen for the symbol.
 fn projected<'a>(args: &[Choice], symbol: u32, terms: &'a Terms) -> Option<&'a Term>
     requires { IsIncreasing (chosen_symbols (map chosen args.now)) }
-    ensures { MatchOption result ((t : Tm) → IsProjected (map chosen args.now) symbol (map tm terms.now) t → ⊥) (λ r. IsProjected (map chosen args.now) symbol (map tm terms.now) (tm r.now)) }
+    ensures { MatchOption result ((t : Tm) → IsProjected (map chosen args.now) symbol (map tm terms.now) t → ⊥)
+        (λ r. IsProjected (map chosen args.now) symbol (map tm terms.now) (tm r.now)) }
 {
     let argument = choice_for(args, symbol)?;
     let place = argument.checked_sub(1)? as usize;

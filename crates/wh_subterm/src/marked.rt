@@ -86,7 +86,8 @@ fn has_choices(pair: &Pair, args: &[Choice]) -> bool
 
 /// The argument that is chosen first for the symbol.
 pub fn choice_for(args: &[Choice], symbol: u32) -> Option<u32>
-    ensures { MatchOption result (Contains (chosen_symbols (map chosen args.now)) symbol → ⊥) (λ a. Contains (map chosen args.now) (record { symbol = symbol; argument = a })) }
+    ensures { MatchOption result (Contains (chosen_symbols (map chosen args.now)) symbol → ⊥)
+        (λ a. Contains (map chosen args.now) (record { symbol = symbol; argument = a })) }
 {
     for choice in args {
         if choice.symbol == symbol {
@@ -98,7 +99,8 @@ pub fn choice_for(args: &[Choice], symbol: u32) -> Option<u32>
 
 /// The symbol of the first choice whose symbol has rules that need no argument.
 pub fn first_without_argument(system: &System, args: &[Choice]) -> Option<u32>
-    ensures { MatchOption result (NoneIs (HasNone (system_data system.now).rules) (map chosen args.now)) (IsFirstOf (HasNone (system_data system.now).rules) (map chosen args.now)) }
+    ensures { MatchOption result (NoneIs (HasNone (system_data system.now).rules) (map chosen args.now))
+        (IsFirstOf (HasNone (system_data system.now).rules) (map chosen args.now)) }
 {
     for choice in args {
         if needs_none(system, choice) {
@@ -120,7 +122,8 @@ fn needs_none(system: &System, choice: &Choice) -> bool
 
 /// The symbol of the first choice whose number is none of the arguments that the rules of the symbol need.
 pub fn first_out_of_place(system: &System, args: &[Choice]) -> Option<u32>
-    ensures { MatchOption result (All (IsPlace (system_data system.now).rules) (map chosen args.now)) (IsFirstOf (λ c. IsPlace (system_data system.now).rules c → ⊥) (map chosen args.now)) }
+    ensures { MatchOption result (All (IsPlace (system_data system.now).rules) (map chosen args.now))
+        (IsFirstOf (λ c. IsPlace (system_data system.now).rules c → ⊥) (map chosen args.now)) }
 {
     for choice in args {
         if !is_place(system, choice) {

@@ -23,7 +23,8 @@ raw_funs_of sorts _ _ = []
 
 -- each meta-variable with its name and its types
 abbrev pub raw_metas_of : List (List ℕ) → List (List ℕ) → List Declared → List RMeta
-raw_metas_of sorts (n ∷ ns) (d ∷ ds) = record { name = raw_name n; args = raw_types_of sorts d.args; out = raw_type_of sorts d.out } ∷ raw_metas_of sorts ns ds
+raw_metas_of sorts (n ∷ ns) (d ∷ ds) = record { name = raw_name n; args = raw_types_of sorts d.args; out = raw_type_of sorts d.out }
+    ∷ raw_metas_of sorts ns ds
 raw_metas_of sorts _ _ = []
 
 -- a rule, whose meta-variables have these names

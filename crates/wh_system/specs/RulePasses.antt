@@ -14,22 +14,32 @@ use Rattle.wh_system.specs.declared.rules.ResolvedRule.{ResolvedRule}
 
 -- what names may stand for in a rule of a system with these sorts, these symbols and their types
 abbrev pub scope_over : List (List ℕ) → List (List ℕ) → List Ty → RRule → Scope
-scope_over sorts funs kinds r = record { sorts = sorts; funs = funs; kinds = kinds; metas = map (λ m. m.name.name) r.metas; declared = map (declared_by sorts) r.metas }
+scope_over sorts funs kinds r = record {
+  sorts = sorts;
+  funs = funs;
+  kinds = kinds;
+  metas = map (λ m. m.name.name)
+      r.metas;
+  declared = map (declared_by sorts) r.metas;
+}
 
 -- names and types of the sides
 abbrev pub sides_tests : Scope → RRule → List Test
 sides_tests s r =
-    naming_tests s [] r.left ++ naming_tests s [] r.right ++ test (not (same_kind (kind_of s [] r.left) (kind_of s [] r.right))) (IllTyped (term_offset r.right)) ∷ []
+    naming_tests s [] r.left ++ naming_tests s [] r.right ++ test (not (same_kind (kind_of s [] r.left) (kind_of s [] r.right)))
+    (IllTyped (term_offset r.right)) ∷ []
 
 -- the form of the sides
 abbrev pub form_tests : Scope → RRule → List Test
 form_tests s r =
-    open_tests r.left ++ open_tests r.right ++ test (not (is_some (head_symbol s r.left))) (HeadNotFun (term_offset r.left)) ∷ (pattern_tests s [] r.left ++ new_meta_tests s r.left [] r.right)
+    open_tests r.left ++ open_tests r.right ++ test (not (is_some (head_symbol s r.left))) (HeadNotFun (term_offset r.left))
+    ∷ (pattern_tests s [] r.left ++ new_meta_tests s r.left [] r.right)
 
 -- all tests of a rule that look at no other rule
 abbrev pub own_tests : Scope → RRule → List Test
 own_tests s r =
-    (meta_count r.metas ++ meta_tests s.sorts s.funs [] r.metas) ++ ((side_tests r.left ++ side_tests r.right) ++ (sides_tests s r ++ form_tests s r))
+    (meta_count r.metas ++ meta_tests s.sorts s.funs []
+    r.metas) ++ ((side_tests r.left ++ side_tests r.right) ++ (sides_tests s r ++ form_tests s r))
 
 -- the number of arguments is not the one that is needed, if one is
 abbrev pub differs : ℕ → Option ℕ → Bool

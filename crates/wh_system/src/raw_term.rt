@@ -49,7 +49,8 @@ impl System {
     /// meta-variables.
     pub fn raw_side(&self, alloc: Global, rule: u32, right: bool) -> Result<RawTerm, AllocError>
         requires { rule < length (system_data self.now).rules }
-        ensures { (r : RewriteRule) → slice_get (system_data self.now).rules rule ≡ Some r → IfOk result (λ raw. rtm raw ≡ raw_of (names_of_rule (system_data self.now) rule) (side_of right r)) }
+        ensures { (r : RewriteRule) → slice_get (system_data self.now).rules rule ≡ Some r
+            → IfOk result (λ raw. rtm raw ≡ raw_of (names_of_rule (system_data self.now) rule) (side_of right r)) }
     {
         let names = TermNames {
             sorts: self.sort_names(),

@@ -79,7 +79,9 @@ pub fn resolve_rules(
 // The symbol needs this number of arguments from now on; the fault, at the left side, is that it needs another one.
 fn meet_need(needs: &mut [Option<u32>], fun: u32, count: u32, at: u32) -> Result<(), SystemFault>
     requires { fun < length needs.old }
-    ensures { MatchResult result (λ _. (differs count (slice_index_or needs.old fun None) ≡ false) × (needs.new ≡ slice_set needs.old fun (Some count))) (λ fault. (differs count (slice_index_or needs.old fun None) ≡ true) × (fault ≡ UnevenRules at)) }
+    ensures { MatchResult result (λ _. (differs count (slice_index_or needs.old fun None) ≡ false)
+        × (needs.new ≡ slice_set needs.old fun (Some count)))
+        (λ fault. (differs count (slice_index_or needs.old fun None) ≡ true) × (fault ≡ UnevenRules at)) }
 {
     if let Some(need) = needs[fun as usize] {
         if count != need {
@@ -98,7 +100,8 @@ fn resolve_rule(
     raw: &RawRule,
 ) -> Result<ResolvedRule, Or<SystemFault>>
     requires { length funs.now.names ≡ length funs.now.kinds }
-    ensures { Passes (own_tests (scope_over sorts.now funs.now.names (tys funs.now.kinds) (rrule raw.now)) (rrule raw.now)) result (IsResolvedRule (scope_over sorts.now funs.now.names (tys funs.now.kinds) (rrule raw.now)) (rrule raw.now)) }
+    ensures { Passes (own_tests (scope_over sorts.now funs.now.names (tys funs.now.kinds) (rrule raw.now)) (rrule raw.now)) result
+        (IsResolvedRule (scope_over sorts.now funs.now.names (tys funs.now.kinds) (rrule raw.now)) (rrule raw.now)) }
 {
     let metas = declare_metas(alloc, sorts, &funs.names, raw.metas.as_slice())?;
     check_side(&raw.left)?;
@@ -133,7 +136,9 @@ fn resolve_sides(
     scope: &Scope,
     raw: &RawRule,
 ) -> Result<(Term, Term), Or<SystemFault>>
-    ensures { Passes (sides_tests (in_scope scope.now) (rrule raw.now)) result (λ sides. (meant (in_scope scope.now) [] (rrule raw.now).left ≡ Some (tm sides.0)) × (meant (in_scope scope.now) [] (rrule raw.now).right ≡ Some (tm sides.1))) }
+    ensures { Passes (sides_tests (in_scope scope.now) (rrule raw.now)) result
+        (λ sides. (meant (in_scope scope.now) [] (rrule raw.now).left ≡ Some (tm sides.0))
+        × (meant (in_scope scope.now) [] (rrule raw.now).right ≡ Some (tm sides.1))) }
 {
     let (left, left_kind) = resolve_side(alloc, scope, &raw.left)?;
     let (right, right_kind) = resolve_side(alloc, scope, &raw.right)?;
@@ -148,7 +153,8 @@ fn resolve_sides(
 // The symbol that heads the left side of a rule, whose sides have the form that a rule's have.
 fn check_form(alloc: Global, scope: &Scope, raw: &RawRule) -> Result<u32, Or<SystemFault>>
     requires { first_fault (naming_tests (in_scope scope.now) [] (rrule raw.now).right) ≡ None }
-    ensures { Passes (form_tests (in_scope scope.now) (rrule raw.now)) result (λ fun. head_symbol (in_scope scope.now) (rrule raw.now).left ≡ Some fun) }
+    ensures { Passes (form_tests (in_scope scope.now) (rrule raw.now)) result
+        (λ fun. head_symbol (in_scope scope.now) (rrule raw.now).left ≡ Some fun) }
 {
     check_open(&raw.left)?;
     check_open(&raw.right)?;

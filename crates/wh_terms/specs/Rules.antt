@@ -27,7 +27,8 @@ pub record IsWellMade (S : Symbols) (r : RewriteRule) : Type 0 where
 
 -- all rules of one symbol have the same number of arguments on the left (ours)
 abbrev pub IsEven : List RewriteRule → Type 0
-IsEven rules = (r s : RewriteRule) → Contains rules r → Contains rules s → head r.left ≡ head s.left → argument_count r.left ≡ argument_count s.left
+IsEven rules = (r s : RewriteRule) → Contains rules r → Contains rules s → head r.left ≡ head s.left
+    → argument_count r.left ≡ argument_count s.left
 
 -- the rules of a system, as far as terms go
 pub record AreWellMade (S : Symbols) (rules : List RewriteRule) : Type 0 where

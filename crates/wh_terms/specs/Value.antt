@@ -32,8 +32,10 @@ mutual
     of_bound : {g : ℕ → Body} {i : ℕ} → Value g (bound i) (bound i)
     of_free : {g : ℕ → Body} {x : ℕ} {a : Ty} → Value g (free x a) (free x a)
     of_fun : {g : ℕ → Body} {f : ℕ} → Value g (fun f) (fun f)
-    of_meta : {g : ℕ → Body} {z : ℕ} {ts vs : Tms} {v : Tm} → (g z).arity ≡ count ts → Values g ts vs → v ≡ act (parameters vs bound) free (g z).tree → Value g (meta z ts) v
-    of_lam : {g : ℕ → Body} {a : Ty} {t w : Tm} (x : ℕ) → Fresh x t → Fresh x w → FreshForBodies x g t → Value g (opened (free x a) t) (opened (free x a) w) → Value g (lam a t) (lam a w)
+    of_meta : {g : ℕ → Body} {z : ℕ} {ts vs : Tms} {v : Tm} → (g z).arity ≡ count ts → Values g ts vs
+        → v ≡ act (parameters vs bound) free (g z).tree → Value g (meta z ts) v
+    of_lam : {g : ℕ → Body} {a : Ty} {t w : Tm} (x : ℕ) → Fresh x t → Fresh x w → FreshForBodies x g t
+        → Value g (opened (free x a) t) (opened (free x a) w) → Value g (lam a t) (lam a w)
     of_app : {g : ℕ → Body} {t u v w : Tm} → Value g t v → Value g u w → Value g (app t u) (app v w)
 
   pub data Values : (ℕ → Body) → Tms → Tms → Type 0 where

@@ -21,12 +21,14 @@ pub fn one_value()
 
 /// Substitution keeps types, where what is put for each free variable has that variable's type.
 pub fn substitution_keeps_types()
-    ensures { (S : Symbols) (M : List Declared) (Γ : List Ty) (φ : ℕ → Ty → Tm) (t : Tm) (a : Ty) → Typed S M Γ t a → ((x : ℕ) (b : Ty) → SortsBelow S.sorts b → Typed S M Γ (φ x b) b) → Typed S M Γ (act bound φ t) a }
+    ensures { (S : Symbols) (M : List Declared) (Γ : List Ty) (φ : ℕ → Ty → Tm) (t : Tm) (a : Ty) → Typed S M Γ t a
+        → ((x : ℕ) (b : Ty) → SortsBelow S.sorts b → Typed S M Γ (φ x b) b) → Typed S M Γ (act bound φ t) a }
 {}
 
 /// The value of a meta-term has its type, where each body has the type that its meta-variable is declared with.
 pub fn values_keep_types()
-    ensures { (S : Symbols) (M : List Declared) (Γ : List Ty) (g : ℕ → Body) (m v : Tm) (a : Ty) → Typed S M Γ m a → TypedBodies S M [] Γ g m → Value g m v → Typed S [] Γ v a }
+    ensures { (S : Symbols) (M : List Declared) (Γ : List Ty) (g : ℕ → Body) (m v : Tm) (a : Ty) → Typed S M Γ m a
+        → TypedBodies S M [] Γ g m → Value g m v → Typed S [] Γ v a }
 {}
 
 /// Opening with a fresh variable can be undone: one body at most, for which the variable is fresh, opens to a tree.

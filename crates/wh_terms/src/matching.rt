@@ -34,7 +34,8 @@ pub fn match_pattern(
     requires pattern_in_range { Manageable (tm pattern.now) }
     requires term_in_range { Manageable (tm term.now) }
     requires linear { IsPattern (tm pattern.now) }
-    ensures { IfOk result (λ found. MatchOption found (HasNoMatch (tm pattern.now) (tm term.now)) (IsMatch (tm pattern.now) (tm term.now))) }
+    ensures { IfOk result (λ found. MatchOption found (HasNoMatch (tm pattern.now) (tm term.now))
+        (IsMatch (tm pattern.now) (tm term.now))) }
 {
     let mut found = MetaSubst::new(alloc)?;
     if match_under(alloc, pattern, term, 0, &mut found)? {

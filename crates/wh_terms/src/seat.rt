@@ -96,7 +96,8 @@ fn are_placed(
     inner: u32,
 ) -> Result<bool, AllocError>
     requires { AllBoundBelow seat.now.depth (tms seat.now.args.now) }
-    ensures { IfOk result (λ same. IsTrue same ↔ (all_placed (tms seat.now.args.now) seat.now.depth inner (tms bodies.now) ≡ tms parts.now)) }
+    ensures { IfOk result (λ same. IsTrue same ↔ (all_placed (tms seat.now.args.now) seat.now.depth inner
+        (tms bodies.now) ≡ tms parts.now)) }
 {
     let (items, others) = (bodies.as_slice(), parts.as_slice());
     if items.len() != others.len() {

@@ -47,7 +47,8 @@ fn type_under<'a>(
     binders: &mut Vec<&'a SimpleType>,
     term: &'a Term,
 ) -> Result<Option<SimpleType>, AllocError>
-    ensures typed { IfOk result (λ answer. TellsType (symbols signature.now) (declared_metas metas.now) (scope binders.old.items) (tm term.now) answer) }
+    ensures typed { IfOk result (λ answer. TellsType (symbols signature.now) (declared_metas metas.now) (scope binders.old.items)
+        (tm term.now) answer) }
     ensures kept { OnOk result (binders.new.items ≡ binders.old.items) }
 {
     match term {
@@ -84,7 +85,8 @@ fn type_of_meta<'a>(
     meta: u32,
     items: &'a Terms,
 ) -> Result<Option<SimpleType>, AllocError>
-    ensures typed { IfOk result (λ answer. TellsType (symbols signature.now) (declared_metas metas.now) (scope binders.old.items) (meta_tree meta (tms items.now)) answer) }
+    ensures typed { IfOk result (λ answer. TellsType (symbols signature.now) (declared_metas metas.now) (scope binders.old.items)
+        (meta_tree meta (tms items.now)) answer) }
     ensures kept { OnOk result (binders.new.items ≡ binders.old.items) }
 {
     let Some(declared) = metas.as_slice().get(meta as usize) else {
@@ -108,7 +110,8 @@ fn type_of_abstraction<'a>(
     kind: &'a SimpleType,
     body: &'a Term,
 ) -> Result<Option<SimpleType>, AllocError>
-    ensures typed { IfOk result (λ answer. TellsType (symbols signature.now) (declared_metas metas.now) (scope binders.old.items) (lam (ty kind.now) (tm body.now)) answer) }
+    ensures typed { IfOk result (λ answer. TellsType (symbols signature.now) (declared_metas metas.now) (scope binders.old.items)
+        (lam (ty kind.now) (tm body.now)) answer) }
     ensures kept { OnOk result (binders.new.items ≡ binders.old.items) }
 {
     if !has_sorts_below(kind, signature.sorts) {
@@ -133,7 +136,8 @@ fn have_types<'a>(
     items: &'a Terms,
     kinds: &[SimpleType],
 ) -> Result<bool, AllocError>
-    ensures typed { IfOk result (λ yes. IsTrue yes ↔ AllTyped (symbols signature.now) (declared_metas metas.now) (scope binders.old.items) (tms items.now) (tys kinds.now)) }
+    ensures typed { IfOk result (λ yes. IsTrue yes ↔ AllTyped (symbols signature.now) (declared_metas metas.now)
+        (scope binders.old.items) (tms items.now) (tys kinds.now)) }
     ensures kept { OnOk result (binders.new.items ≡ binders.old.items) }
 {
     let terms = items.as_slice();

@@ -23,7 +23,8 @@ is_comment b = not (b == 10)
 
 -- the signs of one byte: \ : . ; , ( ) [ ] { }
 abbrev pub is_sign : ℕ → Bool
-is_sign b = (b == 92) || ((b == 58) || ((b == 46) || ((b == 59) || ((b == 44) || ((b == 40) || ((b == 41) || ((b == 91) || ((b == 93) || ((b == 123) || (b == 125))))))))))
+is_sign b = (b == 92) || ((b == 58) || ((b == 46) ||
+    ((b == 59) || ((b == 44) || ((b == 40) || ((b == 41) || ((b == 91) || ((b == 93) || ((b == 123) || (b == 125))))))))))
 
 -- each byte passes the test
 abbrev pub AllPass : (ℕ → Bool) → List ℕ → Type 0

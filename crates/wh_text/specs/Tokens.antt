@@ -56,16 +56,25 @@ BadDigits ds = ((NoLeadingZero ds → ⊥) ⊎ (65535 < number_from 0 ds))
 pub data Cuts : ℕ → List ℕ → List Token → Ending → Type 0 where
   ended : {at : ℕ} → Cuts at [] [] whole
   space : {at b : ℕ} {r : List ℕ} {ts : List Token} {e : Ending} → is_space b ≡ true → Cuts (at + 1) r ts e → Cuts at (b ∷ r) ts e
-  comment : {at : ℕ} {bytes : List ℕ} (r : List ℕ) {ts : List Token} {e : Ending} (c : List ℕ) → AllPass is_comment c → Stops is_comment r → bytes ≡ 35 ∷ (c ++ r) → Cuts (at + 1 + length c) r ts e → Cuts at bytes ts e
-  word : {at : ℕ} {bytes : List ℕ} (r : List ℕ) {ts : List Token} {e : Ending} (w : List ℕ) (kind : Kind) → Starts w → AllPass is_part w → Stops is_part r → bytes ≡ w ++ r → length w ≤ 64 → (IsKeyword w × (kind ≡ keyword w)) ⊎ ((IsKeyword w → ⊥) × (kind ≡ name w)) → Cuts (at + length w) r ts e → Cuts at bytes (record { kind = kind; from = at; to = at + length w } ∷ ts) e
-  number : {at b n : ℕ} {bytes : List ℕ} (r : List ℕ) {ts : List Token} {e : Ending} (ds : List ℕ) (kind : ℕ → Kind) → Marks b kind → IsNumeral ds n → NoDigit r → bytes ≡ b ∷ (ds ++ r) → Cuts (at + 1 + length ds) r ts e → Cuts at bytes (record { kind = kind n; from = at; to = at + 1 + length ds } ∷ ts) e
-  one_sign : {at b : ℕ} {r : List ℕ} {ts : List Token} {e : Ending} → is_sign b ≡ true → Cuts (at + 1) r ts e → Cuts at (b ∷ r) (record { kind = sign (b ∷ []); from = at; to = at + 1 } ∷ ts) e
-  arrow : {at b : ℕ} {r : List ℕ} {ts : List Token} {e : Ending} → BeginsArrow b → Cuts (at + 2) r ts e → Cuts at (b ∷ 62 ∷ r) (record { kind = sign (b ∷ 62 ∷ []); from = at; to = at + 2 } ∷ ts) e
+  comment : {at : ℕ} {bytes : List ℕ} (r : List ℕ) {ts : List Token} {e : Ending} (c : List ℕ) → AllPass is_comment c
+      → Stops is_comment r → bytes ≡ 35 ∷ (c ++ r) → Cuts (at + 1 + length c) r ts e → Cuts at bytes ts e
+  word : {at : ℕ} {bytes : List ℕ} (r : List ℕ) {ts : List Token} {e : Ending} (w : List ℕ) (kind : Kind) → Starts w → AllPass is_part w
+      → Stops is_part r → bytes ≡ w ++ r → length w ≤ 64 → (IsKeyword w × (kind ≡ keyword w)) ⊎ ((IsKeyword w → ⊥) × (kind ≡ name w))
+      → Cuts (at + length w) r ts e → Cuts at bytes (record { kind = kind; from = at; to = at + length w } ∷ ts) e
+  number : {at b n : ℕ} {bytes : List ℕ} (r : List ℕ) {ts : List Token} {e : Ending} (ds : List ℕ) (kind : ℕ → Kind) → Marks b kind
+      → IsNumeral ds n → NoDigit r → bytes ≡ b ∷ (ds ++ r) → Cuts (at + 1 + length ds) r ts e
+      → Cuts at bytes (record { kind = kind n; from = at; to = at + 1 + length ds } ∷ ts) e
+  one_sign : {at b : ℕ} {r : List ℕ} {ts : List Token} {e : Ending} → is_sign b ≡ true → Cuts (at + 1) r ts e
+      → Cuts at (b ∷ r) (record { kind = sign (b ∷ []); from = at; to = at + 1 } ∷ ts) e
+  arrow : {at b : ℕ} {r : List ℕ} {ts : List Token} {e : Ending} → BeginsArrow b → Cuts (at + 2) r ts e
+      → Cuts at (b ∷ 62 ∷ r) (record { kind = sign (b ∷ 62 ∷ []); from = at; to = at + 2 } ∷ ts) e
   -- a byte that begins nothing; `-` or `=` without `>`; `$` or `%` without a digit
   nothing_begins : {at b : ℕ} {r : List ℕ} → BeginsNothing b → Cuts at (b ∷ r) [] (bad_byte at)
   no_arrow : {at b : ℕ} {r : List ℕ} → BeginsArrow b → NoHead r → Cuts at (b ∷ r) [] (bad_byte at)
   no_number : {at b : ℕ} {r : List ℕ} (kind : ℕ → Kind) → Marks b kind → NoDigit r → Cuts at (b ∷ r) [] (bad_byte at)
   -- the digits are no number; the offset is the first digit
-  bad_digits : {at b : ℕ} {bytes : List ℕ} (r : List ℕ) (ds : List ℕ) (kind : ℕ → Kind) → Marks b kind → AllPass is_digit ds → 0 < length ds → BadDigits ds → NoDigit r → bytes ≡ b ∷ (ds ++ r) → Cuts at bytes [] (bad_number (at + 1))
+  bad_digits : {at b : ℕ} {bytes : List ℕ} (r : List ℕ) (ds : List ℕ) (kind : ℕ → Kind) → Marks b kind → AllPass is_digit ds
+      → 0 < length ds → BadDigits ds → NoDigit r → bytes ≡ b ∷ (ds ++ r) → Cuts at bytes [] (bad_number (at + 1))
   -- a word of more than 64 bytes; the offset is its first byte
-  long_word : {at : ℕ} {bytes : List ℕ} (r : List ℕ) (w : List ℕ) → Starts w → AllPass is_part w → Stops is_part r → bytes ≡ w ++ r → 64 < length w → Cuts at bytes [] (name_too_long at)
+  long_word : {at : ℕ} {bytes : List ℕ} (r : List ℕ) (w : List ℕ) → Starts w → AllPass is_part w → Stops is_part r → bytes ≡ w ++ r
+      → 64 < length w → Cuts at bytes [] (name_too_long at)

@@ -40,7 +40,8 @@ counted_line word n = line (word ++ decimal n)
 
 abbrev pub generated_text : ℕ → ℕ → ℕ → ℕ → List ℕ → List ℕ
 generated_text n rules pairs nodes answer =
-    counted_line (codes "GEN ") n ++ (counted_line (codes "rules ") rules ++ (counted_line (codes "pairs ") pairs ++ (counted_line (codes "nodes ") nodes ++ answer)))
+    counted_line (codes "GEN ") n ++ (counted_line (codes "rules ")
+    rules ++ (counted_line (codes "pairs ") pairs ++ (counted_line (codes "nodes ") nodes ++ answer)))
 
 -- the text shows how many rules and pairs the generated system has, and what the search for a proof of it comes to
 pub record ShowsGenerated (n : ℕ) (status : Status) (text : List ℕ) : Type 0 where

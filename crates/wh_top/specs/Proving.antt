@@ -30,7 +30,8 @@ IsLoopText d depth text = (c : Cert) × IsLoopProof d depth c × CertText text c
 
 -- the text is that of one or the other
 abbrev pub IsFoundText : SystemData → List PairData → Options → List ℕ → Type 0
-IsFoundText d ps o text = (IsProofText d ps text × BeginsWith (codes "YES 1") text) ⊎ (IsLoopText d o.depth text × BeginsWith (codes "NO 1") text)
+IsFoundText d ps o text = (IsProofText d ps text × BeginsWith (codes "YES 1") text)
+    ⊎ (IsLoopText d o.depth text × BeginsWith (codes "NO 1") text)
 
 -- why there is none: nothing was found, for a reason; or the text of what was found is too long
 abbrev pub IsNotFound : SystemData → List PairData → Options → Report → Type 0

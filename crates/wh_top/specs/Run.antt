@@ -34,7 +34,8 @@ pub record Shows (s : Shelves) (file : List ℕ) (status : Status) (text : List 
 -- text, or why there is none; and what the search comes to for a generated system
 abbrev pub Replies : Shelves → Request → Status → List ℕ → Type 0
 Replies s (check file cert) status text = Tells (Stands s file cert) status text
-Replies s (prove file b) status text = ShowsFound s file (options_of b) status text ⊎ Tells (StandsForSearch s file (options_of b)) status text
+Replies s (prove file b) status text = ShowsFound s file (options_of b) status text
+    ⊎ Tells (StandsForSearch s file (options_of b)) status text
 Replies s (show file) status text = Shows s file status text ⊎ Tells (StandsBySystem s file) status text
 Replies s (gen n) status text = ShowsGenerated n status text ⊎ Tells (StandsForGenerated n) status text
 
@@ -91,6 +92,7 @@ pub record MeansNo (system cert : List ℕ) : Type 0 where
 -- front part of a certificate that answers a search, and means that of the file and of the certificate
 abbrev pub SaysNo : Shelves → List (List ℕ) → List ℕ → Type 0
 SaysNo s words output =
-    ((file cert : List ℕ) × Asks words (check file cert) × Told (s.held file) (λ system. Told (s.held cert) (λ certificate. MeansNo system certificate)))
+    ((file cert : List ℕ) × Asks words (check file cert)
+    × Told (s.held file) (λ system. Told (s.held cert) (λ certificate. MeansNo system certificate)))
     ⊎ ((file : List ℕ) × (b : Bounds) × (text : List ℕ) × Asks words (prove file b) × BeginsWith output text
     × Told (s.held file) (λ system. MeansNo system text))

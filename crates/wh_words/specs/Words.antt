@@ -47,9 +47,12 @@ IsPlain (b ∷ c ∷ bs) = b ≢ 45
 pub data Say : List (List ℕ) → List Item → Type 0 where
   say_none : Say [] []
   say_rest : {words : List (List ℕ)} → All IsFilled words → Say (codes "--" ∷ words) (map alone words)
-  say_alone : {word : List ℕ} {words : List (List ℕ)} {items : List Item} → IsPlain word → Say words items → Say (word ∷ words) (alone word ∷ items)
-  say_joined : {s : Setting} {n : ℕ} {words : List (List ℕ)} {items : List Item} → Say words items → Say ((option_of s ++ 61 ∷ decimal n) ∷ words) (set s n ∷ items)
-  say_apart : {s : Setting} {n : ℕ} {words : List (List ℕ)} {items : List Item} → Say words items → Say (option_of s ∷ decimal n ∷ words) (set s n ∷ items)
+  say_alone : {word : List ℕ} {words : List (List ℕ)} {items : List Item} → IsPlain word → Say words items
+      → Say (word ∷ words) (alone word ∷ items)
+  say_joined : {s : Setting} {n : ℕ} {words : List (List ℕ)} {items : List Item} → Say words items
+      → Say ((option_of s ++ 61 ∷ decimal n) ∷ words) (set s n ∷ items)
+  say_apart : {s : Setting} {n : ℕ} {words : List (List ℕ)} {items : List Item} → Say words items
+      → Say (option_of s ∷ decimal n ∷ words) (set s n ∷ items)
 
 -- the words by themselves, in order
 abbrev pub words_in : List Item → List (List ℕ)
@@ -93,6 +96,7 @@ pub data Request : Type 0 where
 abbrev pub Asks : List (List ℕ) → Request → Type 0
 Asks words (check file cert) = (more : List (List ℕ)) × (words ≡ codes "check" ∷ more) × Say more (alone file ∷ alone cert ∷ [])
 Asks words (prove file b) =
-    (more : List (List ℕ)) × (items : List Item) × (words ≡ codes "prove" ∷ more) × Say more items × (words_in items ≡ file ∷ []) × SetBounds items b
+    (more : List (List ℕ)) × (items : List Item) × (words ≡ codes "prove" ∷ more) × Say more items × (words_in items ≡ file ∷ [])
+    × SetBounds items b
 Asks words (show file) = (more : List (List ℕ)) × (words ≡ codes "show" ∷ more) × Say more (alone file ∷ [])
 Asks words (gen n) = (more : List (List ℕ)) × (words ≡ codes "gen" ∷ more) × Say more (alone (decimal n) ∷ []) × (1 ≤ n) × (n ≤ 200)

@@ -32,7 +32,8 @@ impl Trail {
 
     /// No clause, nothing assigned, and no level.
     fn empty(alloc: Global, variables: u32) -> Result<Trail, AllocError>
-        ensures { IfOk result (λ made. ((formula_of made).variables ≡ variables) × ((formula_of made).clauses ≡ []) × (assigned made ≡ []) × (marks_of made ≡ [])) }
+        ensures { IfOk result (λ made. ((formula_of made).variables ≡ variables) × ((formula_of made).clauses ≡ [])
+            × (assigned made ≡ []) × (marks_of made ≡ [])) }
     {
         let assignment = Assignment::new(alloc, variables)?;
         let lists = empty_lists(alloc, 2 * variables as usize)?;
@@ -110,7 +111,8 @@ impl Trail {
     fn join(&mut self, clause: Clause, pair: Pair) -> Result<(), AllocError>
         requires below { AllBelow self.old.formula.variables clause }
         requires room { vec_len self.old.pairs < vec_capacity self.old.pairs }
-        requires guard { pair.watched ≡ true → Guard self.old.assignment.literals.items self.old.stops.items self.old.head self.old.lists.items clause (length self.old.formula.clauses) pair }
+        requires guard { pair.watched ≡ true → Guard self.old.assignment.literals.items self.old.stops.items self.old.head
+            self.old.lists.items clause (length self.old.formula.clauses) pair }
         requires short { pair.watched ≡ false → 0 < count_of (length self.old.formula.clauses) self.old.short.items }
         ensures variables { self.new.formula.variables ≡ self.old.formula.variables }
         ensures clauses { OnOk result (self.new.formula.clauses ≡ self.old.formula.clauses ++ clause ∷ []) }

@@ -107,7 +107,8 @@ impl Trail {
         requires dones { (j : ℕ) → j < length self.old.stops.items → (get_or self.old.stops.items j no_stop).done ≤ to.done }
         requires marks { (j : ℕ) → j < length self.old.stops.items → (get_or self.old.stops.items j no_stop).mark < to.mark }
         requires safe { AllSafe self.old.formula.clauses self.old.assignment.literals.items self.old.pairs.items to.done to.mark }
-        requires settling { Settled self.old.formula.clauses (ground_of self.old.stops.items (take to.mark self.old.assignment.literals.items)) self.old.short.items self.old.settled }
+        requires settling { Settled self.old.formula.clauses
+            (ground_of self.old.stops.items (take to.mark self.old.assignment.literals.items)) self.old.short.items self.old.settled }
         ensures same { self.new.formula ≡ self.old.formula }
         ensures stops { self.new.stops.items ≡ self.old.stops.items }
         ensures literals { self.new.assignment.literals.items ≡ take to.mark self.old.assignment.literals.items }

@@ -21,7 +21,9 @@ impl Trail {
         ensures same { formula_of self.new ≡ formula_of self.old }
         ensures marks { marks_of self.new ≡ marks_of self.old }
         ensures grows { Grows (formula_of self.old).clauses (assigned self.old) (assigned self.new) }
-        ensures answer { IfOk result (λ answer. MatchOption answer (IsClosed (formula_of self.old).clauses (assigned self.new)) (λ k. (k < length (formula_of self.old).clauses) × IsRefuted (assigned self.new) (get_or (formula_of self.old).clauses k []))) }
+        ensures answer { IfOk result (λ answer. MatchOption answer (IsClosed (formula_of self.old).clauses (assigned self.new))
+            (λ k. (k < length (formula_of self.old).clauses) × IsRefuted (assigned self.new)
+            (get_or (formula_of self.old).clauses k []))) }
         ensures err { OnErr result (assigned self.new ≡ assigned self.old) }
     {
         let before = self.assignment.len();
@@ -52,7 +54,9 @@ impl Trail {
         ensures same { self.new.formula ≡ self.old.formula }
         ensures stops { self.new.stops.items ≡ self.old.stops.items }
         ensures grows { Grows self.old.formula.clauses self.old.assignment.literals.items self.new.assignment.literals.items }
-        ensures answer { IfOk result (λ answer. MatchOption answer (IsClosed self.old.formula.clauses self.new.assignment.literals.items) (λ k. (k < length self.old.formula.clauses) × IsRefuted self.new.assignment.literals.items (get_or self.old.formula.clauses k []))) }
+        ensures answer { IfOk result (λ answer. MatchOption answer (IsClosed self.old.formula.clauses self.new.assignment.literals.items)
+            (λ k. (k < length self.old.formula.clauses) × IsRefuted self.new.assignment.literals.items
+            (get_or self.old.formula.clauses k []))) }
     {
         loop {
             if let Some(number) = self.empty_queue()? {
@@ -72,7 +76,9 @@ impl Trail {
         ensures same { self.new.formula ≡ self.old.formula }
         ensures stops { self.new.stops.items ≡ self.old.stops.items }
         ensures grows { Grows self.old.formula.clauses self.old.assignment.literals.items self.new.assignment.literals.items }
-        ensures answer { IfOk result (λ answer. MatchOption answer (self.new.head ≡ length self.new.assignment.literals.items) (λ k. (k < length self.old.formula.clauses) × IsRefuted self.new.assignment.literals.items (get_or self.old.formula.clauses k []))) }
+        ensures answer { IfOk result (λ answer. MatchOption answer (self.new.head ≡ length self.new.assignment.literals.items)
+            (λ k. (k < length self.old.formula.clauses) × IsRefuted self.new.assignment.literals.items
+            (get_or self.old.formula.clauses k []))) }
     {
         while self.head < self.assignment.len() {
             let literal = self.assignment.at(self.head);
@@ -91,7 +97,8 @@ impl Trail {
     /// One literal more of the queue is done.
     fn advance(&mut self)
         requires more { self.old.head < length self.old.assignment.literals.items }
-        requires safe { AllSafe self.old.formula.clauses self.old.assignment.literals.items self.old.pairs.items (self.old.head + 1) (length self.old.assignment.literals.items) }
+        requires safe { AllSafe self.old.formula.clauses self.old.assignment.literals.items self.old.pairs.items (self.old.head + 1)
+            (length self.old.assignment.literals.items) }
         ensures same { self.new.formula ≡ self.old.formula }
         ensures stops { self.new.stops.items ≡ self.old.stops.items }
         ensures literals { self.new.assignment.literals.items ≡ self.old.assignment.literals.items }
@@ -114,7 +121,10 @@ impl Trail {
 
     /// Whether the next short clause is true, and no level has begun.
     fn is_next_met(&self) -> bool
-        ensures { OnTrue result ((self.now.settled < length self.now.short.items) × (get_or self.now.short.items self.now.settled 0 < length self.now.formula.clauses) × IsMet (ground_of self.now.stops.items self.now.assignment.literals.items) (get_or self.now.formula.clauses (get_or self.now.short.items self.now.settled 0) [])) }
+        ensures { OnTrue result ((self.now.settled < length self.now.short.items)
+            × (get_or self.now.short.items self.now.settled 0 < length self.now.formula.clauses)
+            × IsMet (ground_of self.now.stops.items self.now.assignment.literals.items)
+            (get_or self.now.formula.clauses (get_or self.now.short.items self.now.settled 0) [])) }
     {
         if !self.stops.is_empty() || self.settled >= self.short.len() {
             return false;

@@ -32,7 +32,11 @@ impl Trail {
 
     /// The other watch of a clause that watches a literal.
     fn other_watch(&self, number: usize, falsified: Literal) -> Option<Literal>
-        ensures { MatchOption result (number < vec_len self.now.pairs → (get_or self.now.pairs.items number no_pair).watched ≡ true → ((get_or self.now.pairs.items number no_pair).first ≢ falsified) × ((get_or self.now.pairs.items number no_pair).second ≢ falsified)) (λ other. (number < vec_len self.now.pairs) × ((get_or self.now.pairs.items number no_pair ≡ pair falsified other) ⊎ (get_or self.now.pairs.items number no_pair ≡ pair other falsified))) }
+        ensures { MatchOption result (number < vec_len self.now.pairs → (get_or self.now.pairs.items number no_pair).watched ≡ true
+            → ((get_or self.now.pairs.items number no_pair).first ≢ falsified)
+            × ((get_or self.now.pairs.items number no_pair).second ≢ falsified))
+            (λ other. (number < vec_len self.now.pairs) × ((get_or self.now.pairs.items number no_pair ≡ pair falsified other)
+            ⊎ (get_or self.now.pairs.items number no_pair ≡ pair other falsified))) }
     {
         if number >= self.pairs.len() {
             return None;
@@ -168,7 +172,8 @@ impl Trail {
     /// The false watch of a clause becomes its first.
     fn turn_pair(&mut self, number: usize, falsified: Literal, other: Literal)
         requires number_in { number < vec_len self.old.pairs }
-        requires both { (get_or self.old.pairs.items number no_pair ≡ pair falsified other) ⊎ (get_or self.old.pairs.items number no_pair ≡ pair other falsified) }
+        requires both { (get_or self.old.pairs.items number no_pair ≡ pair falsified other)
+            ⊎ (get_or self.old.pairs.items number no_pair ≡ pair other falsified) }
         ensures same { self.new.formula ≡ self.old.formula }
         ensures stops { self.new.stops ≡ self.old.stops }
         ensures head { self.new.head ≡ self.old.head }
@@ -204,7 +209,10 @@ impl Trail {
         ensures stops { self.new.stops.items ≡ self.old.stops.items }
         ensures head { self.new.head ≡ self.old.head }
         ensures grows { Grows self.old.formula.clauses self.old.assignment.literals.items self.new.assignment.literals.items }
-        ensures answer { IfOk result (λ answer. MatchOption answer (AllSafe self.new.formula.clauses self.new.assignment.literals.items self.new.pairs.items (self.new.head + 1) (length self.new.assignment.literals.items)) (λ k. (k < length self.old.formula.clauses) × IsRefuted self.new.assignment.literals.items (get_or self.old.formula.clauses k []))) }
+        ensures answer { IfOk result (λ answer. MatchOption answer
+            (AllSafe self.new.formula.clauses self.new.assignment.literals.items self.new.pairs.items (self.new.head + 1)
+            (length self.new.assignment.literals.items)) (λ k. (k < length self.old.formula.clauses)
+            × IsRefuted self.new.assignment.literals.items (get_or self.old.formula.clauses k []))) }
     {
         let mut at = 0;
         while at < self.watchers(falsified) {
