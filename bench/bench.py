@@ -69,6 +69,24 @@ def sized_loop(steps, size=50):
     return system, "\n".join(lines) + "\n"
 
 
+def joined(leaves):
+    """A balanced tree of `p` over these leaves."""
+    if len(leaves) == 1:
+        return leaves[0]
+    half = len(leaves) // 2
+    return f"(p {joined(leaves[:half])} {joined(leaves[half:])})"
+
+
+def large_left(calls):
+    """A rule with a left side of size 24,575 and that many calls: each is a pair with this left side."""
+    lines = ["sort nat;", "fun a : nat;", "fun s : nat -> nat;", "fun p : nat -> nat -> nat;", "fun big : nat -> nat;"]
+    lines += [f"fun h{i} : nat -> nat;" for i in range(calls)]
+    left, right = joined(["a"] * 6143 + ["X"]), joined([f"(h{i} X)" for i in range(calls)])
+    lines.append(f"rule {{X:nat}} big {left} => {right};")
+    lines += [f"rule {{X:nat}} h{i} (s X) => X;" for i in range(calls)]
+    return "\n".join(lines) + "\n"
+
+
 def binder_loop(steps):
     """A loop of constants under a binder."""
     system = "sort o;\nfun a : o;\nfun b : o;\nfun k : (o -> o) -> o;\nrule {} a => b;\nrule {} b => a;\n"
@@ -356,6 +374,8 @@ def main():
         cases.append(("show chain", f"{symbols} pairs", chain, symbols))
     for symbols in (125, 250, 500, 1000):
         cases.append(("components chain", f"{symbols} pairs", chain, symbols))
+    for calls in (250, 500, 1000):
+        cases.append(("show large-left", f"{calls} pairs", large_left, calls))
     cases.append(("show most-pairs", "4096 pairs", most_pairs, 4096))
     cases.append(("components most", "4096 pairs", most_pairs, 4096))
     for symbols in (30, 300, 1000):
