@@ -1,5 +1,5 @@
 -- What the reader's lists and trees stand for once they have grown by one.
-use Rattle.std.proofs.Common.{◌≡◌, ℕ, zero, suc, ◌+◌, ◌<◌, ◌≤◌, List, [], ◌∷◌, ◌++◌, map, length, Option, None, Some, Box, Global, refl, sym, ap, ap₂, ◌∙◌, arith, Vec, vec_len, ◌==◌, Bool, false, true≢false, lt-ltb, if◌then◌else◌, Result, Ok, Err, IfOk}
+use Rattle.std.proofs.Common.{◌≡◌, ℕ, zero, suc, ◌+◌, ◌<◌, ◌≤◌, List, [], ◌∷◌, ◌++◌, map, length, Option, None, Some, option_map, is_some, Box, Global, refl, sym, ap, ◌∙◌, arith, Vec, vec_len, ◌==◌, Bool, false, true≢false, lt-ltb, if◌then◌else◌, Result, Ok, Err, IfOk}
 use Rattle.std.proofs.lemmas.Bool.{le-ltb}
 use Rattle.std.proofs.lemmas.List.{map-append}
 use Rattle.wh_text.specs.RawTree.{RTy, raw_type, RTys, no_types, more_types, RTm, named, lam, spine, RTms, more}
@@ -15,6 +15,8 @@ use Rattle.wh_read.specs.declared.lexeme.Lexeme.{Lexeme}
 use Rattle.wh_read.specs.declared.lexeme.Lexeme.TheVariants.{CloseParen, OpenBracket}
 use Rattle.wh_read.specs.declared.place.Step.{Step}
 use Rattle.wh_read.specs.declared.place.Frame.{Frame}
+use Rattle.wh_read.specs.declared.place.OpenRule.{OpenRule}
+use Rattle.wh_read.specs.declared.place.Place.TheVariants.{WantAtom}
 use Rattle.wh_read.specs.declared.place.Frame.TheVariants.{Body, Paren, Bracket}
 use Rattle.wh_read.specs.Lexemes as s
 use Rattle.wh_read.specs.Held as held
@@ -36,10 +38,9 @@ pub terms_grow : (old new : List RawTerm) (t : RawTerm) → new ≡ old ++ t ∷
 terms_grow old new t e = ap rtms e ∙ rtms_push old t
 
 -- the type whose arguments are those of b behind others
-pub with_joined : (args new : List RawType) (a b : RawType) → new ≡ args ++ (out-RawType b).args → (out-RawType a).args ≡ new → (out-RawType a).sort ≡ (out-RawType b).sort → (out-RawType a).at ≡ (out-RawType b).at → rty a ≡ r.with_arguments (rtys args) (rty b)
-with_joined args new a b e f g h =
-    rty_parts a ∙ ap (λ (ts : List RawType). raw_type (rtys ts) (out-RawType a).sort (out-RawType a).at) f ∙ ap (λ (ts : List RawType). raw_type (rtys ts) (out-RawType a).sort (out-RawType a).at) e
-    ∙ ap₂ (λ (s : List ℕ) (n : ℕ). raw_type (rtys (args ++ (out-RawType b).args)) s n) g h
+pub with_joined : (args new : List RawType) (b : RawType) → new ≡ args ++ (out-RawType b).args → raw_type (rtys new) (out-RawType b).sort (out-RawType b).at ≡ r.with_arguments (rtys args) (rty b)
+with_joined args new b e =
+    ap (λ (ts : List RawType). raw_type (rtys ts) (out-RawType b).sort (out-RawType b).at) e
     ∙ ap (λ (ts : RTys). raw_type ts (out-RawType b).sort (out-RawType b).at) (rtys_append args (out-RawType b).args)
     ∙ sym (ap (r.with_arguments (rtys args)) (rty_parts b))
 
@@ -58,10 +59,10 @@ frames_push w xs ys f e = ap (held.frames_in w) e ∙ pushed w xs
     pushed v [] = refl
     pushed v (z ∷ zs) = pushed (held.frame z v) zs
 
-pub outer_push : (b : List RTys) (xs ys : List List RawType) (t : List RawType) → ys ≡ xs ++ t ∷ [] → held.types_in b ys ≡ rtys t ∷ held.types_in b xs
+pub outer_push : (b : List RTys) (xs ys : List (List RawType)) (t : List RawType) → ys ≡ xs ++ t ∷ [] → held.types_in b ys ≡ rtys t ∷ held.types_in b xs
 outer_push b xs ys t e = ap (held.types_in b) e ∙ pushed b xs
   where
-    pushed : (v : List RTys) (zs : List List RawType) → held.types_in v (zs ++ t ∷ []) ≡ rtys t ∷ held.types_in v zs
+    pushed : (v : List RTys) (zs : List (List RawType)) → held.types_in v (zs ++ t ∷ []) ≡ rtys t ∷ held.types_in v zs
     pushed v [] = refl
     pushed v (z ∷ zs) = pushed (rtys z ∷ v) zs
 
@@ -82,13 +83,13 @@ level_is xs =
     let all = level_in r.no_frames xs in
     omega (arith, all)
 
-pub outer_in : (b : List RTys) (xs : List List RawType) → length (held.types_in b xs) ≡ length b + length xs
+pub outer_in : (b : List RTys) (xs : List (List RawType)) → length (held.types_in b xs) ≡ length b + length xs
 outer_in b [] = omega arith
 outer_in b (x ∷ xs) =
     let rest = outer_in (rtys x ∷ b) xs in
     omega (arith, rest)
 
-pub outer_is : (xs : List List RawType) → length (held.types_in [] xs) ≡ length xs
+pub outer_is : (xs : List (List RawType)) → length (held.types_in [] xs) ≡ length xs
 outer_is xs =
     let all = outer_in [] xs in
     omega (arith, all)
@@ -96,7 +97,16 @@ outer_is xs =
 pub level_of : (v : Vec Frame Global) → r.level (held.frames_in r.no_frames v.items) ≡ vec_len v
 level_of v = level_is v.items ∙ sym v.ok.0
 
-pub outer_of : (v : Vec List RawType Global) → length (held.types_in [] v.items) ≡ vec_len v
+-- the frames of the place where an atom may begin
+abbrev frames_at : r.Place → r.Frames
+frames_at (r.want_atom u before) = u.frames
+frames_at p = r.no_frames
+
+-- one more frame is one more level
+pub levels_grow : (u : r.OpenRule) (f : Frame) (b : Box OpenRule Global) → held.place (WantAtom b) ≡ r.want_atom (r.with_frames u (held.frame f u.frames)) None → r.level u.frames + 1 ≡ vec_len b.value.frames
+levels_grow u f b e = sym (level_frame f u.frames) ∙ sym (ap (λ (p : r.Place). r.level (frames_at p)) e) ∙ level_of b.value.frames
+
+pub outer_of : (v : Vec (List RawType) Global) → length (held.types_in [] v.items) ≡ vec_len v
 outer_of v = outer_is v.items ∙ sym v.ok.0
 
 -- with a parenthesis around it a part of a type is only a part
@@ -104,7 +114,7 @@ had_within : (parts : RParts) (u : r.Use) (args : RTys) (outer : List RTys) (a :
 had_within parts u args [] a h = absurd (omega (arith, h))
 had_within parts u args (b ∷ bs) a h = refl
 
-pub had_inner : (parts : RParts) (u : r.Use) (args : RTys) (v : Vec List RawType Global) (a : RTy) → (vec_len v == 0) ≡ false → r.inside parts (r.behind_atype u (record { args = args; outer = held.types_in [] v.items }) a) ≡ r.had_atype parts u args (held.types_in [] v.items) a
+pub had_inner : (parts : RParts) (u : r.Use) (args : RTys) (v : Vec (List RawType) Global) (a : RTy) → (vec_len v == 0) ≡ false → r.inside parts (r.behind_atype u (record { args = args; outer = held.types_in [] v.items }) a) ≡ r.had_atype parts u args (held.types_in [] v.items) a
 had_inner parts u args v a h =
     let some : 0 < length (held.types_in [] v.items) = above (vec_len v) (length (held.types_in [] v.items)) (outer_of v) h in
     sym (had_within parts u args (held.types_in [] v.items) a some)
@@ -120,17 +130,15 @@ open_under parts k n m p e h = ap (λ (c : Bool). if c then r.inside parts p els
 pub open_over : (parts : RParts) (k n m : ℕ) (p : r.Place) → k ≡ m → n ≤ m → r.opened parts k n p ≡ r.too_many
 open_over parts k n m p e h = ap (λ (c : Bool). if c then r.inside parts p else r.too_many) (le-ltb k n (omega (arith, e, h)))
 
+-- where no atom stands before it an abstraction opens a level
+pub begins_empty : (parts : RParts) (u : r.OpenRule) (before : Option RawTerm) (at : ℕ) → is_some before ≡ false → r.lambda_begins parts u (option_map rtm before) at ≡ r.open_term parts u (r.behind_lambda u at)
+begins_empty parts u None at e = refl
+begins_empty parts u (Some t) at e = absurd (true≢false e)
+
 -- one more meta-variable
 pub metas_grow : (old new : List RawMeta) (x : RawName) (args : List RawType) (out : RawType) → new ≡ old ++ record { name = x; args = args; result = out } ∷ [] → map rmeta new ≡ map rmeta old ++ record { name = rname x; args = rtys args; out = rty out } ∷ []
 metas_grow old new x args out e =
     ap (map rmeta) e ∙ map-append rmeta old _
-
--- a type without arguments
-pub plain_sort : (a : RawType) (args : List RawType) (sort : List ℕ) (at : ℕ) → args ≡ [] → (out-RawType a).args ≡ args → (out-RawType a).sort ≡ sort → (out-RawType a).at ≡ at → rty a ≡ raw_type no_types sort at
-plain_sort a args sort at empty f g h =
-    rty_parts a ∙ ap (λ (ts : List RawType). raw_type (rtys ts) (out-RawType a).sort (out-RawType a).at) f
-    ∙ ap (λ (ts : List RawType). raw_type (rtys ts) (out-RawType a).sort (out-RawType a).at) empty
-    ∙ ap₂ (λ (s : List ℕ) (n : ℕ). raw_type no_types s n) g h
 
 -- in a parenthesis a type ends at nothing but the closing one
 pub paren_wanted : (parts : RParts) (u : r.Use) (args : RTys) (outer : List RTys) (a : RTy) (l : Lexeme) → (l ≡ CloseParen → ⊥) → r.inner_type_ended parts u args outer a (held.letter l) ≡ r.failed
@@ -176,6 +184,9 @@ pub term_under : (parts : RParts) (u : r.OpenRule) (xs ys : List Frame) (f frame
 term_under parts u xs ys f frame t l e h =
     frames_apart parts u (held.frames_in r.no_frames ys) (held.frame frame (held.frames_in r.no_frames ys)) t l ∙ ap (λ (k : Frame). r.term_ended parts u (held.frame k (held.frames_in r.no_frames ys)) t l) (sym h)
     ∙ ap (λ (w : r.Frames). r.term_ended parts u w t l) (sym (frames_push r.no_frames ys xs f e))
+
+pub ended_there : (parts : RParts) (u v : OpenRule) (t : RTm) (l : s.Lexeme) → u ≡ v → r.term_ended parts (held.open_rule u) (held.open_rule u).frames t l ≡ r.term_ended parts (held.open_rule v) (held.open_rule v).frames t l
+ended_there parts u v t l e = ap (λ (w : OpenRule). r.term_ended parts (held.open_rule w) (held.open_rule w).frames t l) e
 
 -- behind a name, with no bracket
 pub no_application : (parts : RParts) (u : r.OpenRule) (before : Option RTm) (n : List ℕ) (n_at : ℕ) (l : Lexeme) (at : ℕ) → (l ≡ OpenBracket → ⊥) → r.at_atom parts u (r.next before (named n n_at)) (held.letter l) at ≡ r.behind_plain parts u before n n_at (held.letter l) at

@@ -1,7 +1,9 @@
 -- What the reader's values stand for, without pointers.
-use Rattle.std.specs.Prelude.{ℕ, List, [], ◌∷◌, map, option_map}
-use Rattle.wh_text.specs.RawTree.{RTys}
+use Rattle.std.specs.Prelude.{ℕ, List, [], ◌∷◌, map, Option, option_map, Box}
+use Rattle.std.specs.Global.{Global}
+use Rattle.wh_text.specs.RawTree.{RTys, RTm}
 use Rattle.wh_text.specs.Erase.{rty, rtys, rtm, rtms, rbinder}
+use Rattle.wh_text.specs.declared.raw.RawType.{RawType}
 use Rattle.wh_parts.specs.Parts.{RParts}
 use Rattle.wh_parts.specs.Erase.{rname, rmeta}
 use Rattle.wh_read.specs.Lexemes as s
@@ -54,8 +56,15 @@ abbrev pub frames_in : r.Frames → List Frame → r.Frames
 frames_in w [] = w
 frames_in w (f ∷ fs) = frames_in (frame f w) fs
 
-abbrev pub rule : OpenRule → r.OpenRule
-rule u = record { metas = map rmeta u.metas; at = u.at; left = option_map rtm u.left; frames = frames_in r.no_frames u.frames.items }
+abbrev pub open_rule : OpenRule → r.OpenRule
+open_rule u = record { metas = map rmeta u.metas; at = u.at; left = option_map rtm u.left; frames = frames_in r.no_frames u.frames.items }
+
+abbrev pub rule : Box OpenRule Global → r.OpenRule
+rule u = open_rule u.value
+
+-- the spine that is read in a rule
+abbrev pub spine_of : Box OpenRule Global → Option RTm
+spine_of u = option_map rtm u.value.before
 
 abbrev pub metas : OpenMetas → r.OpenMetas
 metas u = record { metas = map rmeta u.metas; at = u.at }
@@ -63,15 +72,18 @@ metas u = record { metas = map rmeta u.metas; at = u.at }
 abbrev pub meta : OpenMeta → r.OpenMeta
 meta m = record { rule = metas m.rule; name = rname m.name }
 
-abbrev pub purpose : Purpose → r.Use
-purpose (OfFun x) = r.of_fun (rname x)
-purpose (InBrackets m args) = r.in_brackets (meta m) (rtys args)
-purpose (OfMeta m args) = r.of_meta (meta m) (rtys args)
-purpose (OfBinder u x at) = r.of_binder (rule u) (rbinder x) at
-purpose (OfVariable u n at) = r.of_variable (rule u.rule) (option_map rtm u.before) n at
+abbrev pub purpose_of : Purpose → r.Use
+purpose_of (OfFun x) = r.of_fun (rname x)
+purpose_of (InBrackets m args) = r.in_brackets (meta m) (rtys args)
+purpose_of (OfMeta m args) = r.of_meta (meta m) (rtys args)
+purpose_of (OfBinder u x at) = r.of_binder (rule u) (rbinder x) at
+purpose_of (OfVariable u n at) = r.of_variable (rule u) (spine_of u) n at
+
+abbrev pub purpose : Box Purpose Global → r.Use
+purpose p = purpose_of p.value
 
 -- lists around those before, the innermost last
-abbrev pub types_in : List RTys → List List RawType → List RTys
+abbrev pub types_in : List RTys → List (List RawType) → List RTys
 types_in before [] = before
 types_in before (ts ∷ rest) = types_in (rtys ts ∷ before) rest
 
@@ -93,9 +105,9 @@ place (BehindAtype p t a) = r.behind_atype (purpose p) (open_type t) (rty a)
 place (BehindLambda u at) = r.behind_lambda (rule u) at
 place (BinderNamed u x at) = r.binder_named (rule u) (rbinder x) at
 place (BinderTyped u x a at) = r.binder_typed (rule u) (rbinder x) (rty a) at
-place (WantAtom u) = r.want_atom (rule u.rule) (option_map rtm u.before)
-place (BehindName u x) = r.behind_name (rule u.rule) (option_map rtm u.before) x.name x.at
-place (BehindPercent u n at) = r.behind_percent (rule u.rule) (option_map rtm u.before) n at
+place (WantAtom u) = r.want_atom (rule u) (spine_of u)
+place (BehindName u x) = r.behind_name (rule u) (spine_of u) x.name x.at
+place (BehindPercent u n at) = r.behind_percent (rule u) (spine_of u) n at
 
 -- the state behind a step, with these parts so far
 abbrev pub state : RParts → Step → r.State

@@ -7,8 +7,8 @@ ghost use Rattle.wh_read.specs.Held as held;
 ghost use Rattle.wh_read.specs.Reader as r;
 
 use crate::lexeme::Lexeme;
-use crate::place::{OpenMeta, OpenMetas, OpenRule, OpenSpine, OpenType, Place, Purpose, Step};
-use crate::types::{at_atype, new_type};
+use crate::place::{OpenMeta, OpenMetas, OpenRule, Place, Purpose, Step};
+use crate::types::{at_atype, new_type, want_type};
 use std::alloc::{AllocError, Global};
 use wh_parts::{Parts, RawMetas, RawName};
 use wh_text::RawTypes;
@@ -62,11 +62,11 @@ pub fn fun_name(letter: Lexeme, at: u32) -> Step
 
 /// The colon behind the name of a symbol.
 pub fn fun_colon(alloc: Global, name: RawName, letter: Lexeme) -> Result<Step, AllocError>
-    ensures { IfOk result (λ step. (parts : RParts) → held.state parts step ≡ r.expect_colon parts
-        (r.want_atype (r.of_fun (rname name)) r.new_type) (held.letter letter)) }
+    ensures { IfOk result (λ step. (parts : RParts) → held.state parts step
+        ≡ r.expect_colon parts (r.want_atype (r.of_fun (rname name)) r.new_type) (held.letter letter)) }
 {
     match letter {
-        Lexeme::Colon => Ok(Step::To(Place::WantAtype(Purpose::OfFun(name), new_type(alloc)?))),
+        Lexeme::Colon => want_type(alloc, Purpose::OfFun(name)),
         _ => Ok(Step::Failed),
     }
 }
@@ -85,32 +85,32 @@ pub fn rule_open(alloc: Global, rule_at: u32, letter: Lexeme) -> Result<Step, Al
 }
 
 /// The place where the left side of the rule begins.
-pub fn left_of(alloc: Global, metas: OpenMetas) -> Place
-    ensures { held.place result ≡ r.left_of (held.metas metas) }
+pub fn left_of(alloc: Global, metas: OpenMetas) -> Result<Place, AllocError>
+    ensures { IfOk result (λ place. held.place place ≡ r.left_of (held.metas metas)) }
 {
-    Place::WantAtom(OpenSpine {
-        rule: OpenRule {
-            metas: metas.metas,
-            at: metas.at,
-            left: None,
-            frames: Vec::new(alloc),
-        },
+    let rule = OpenRule {
+        metas: metas.metas,
+        at: metas.at,
+        left: None,
+        frames: Vec::new(alloc),
         before: None,
-    })
+    };
+    Ok(Place::WantAtom(Box::new(alloc, rule)?))
 }
 
 /// A meta-variable, or the end of none at all.
-pub fn at_meta(alloc: Global, metas: OpenMetas, letter: Lexeme, at: u32) -> Step
-    ensures { (parts : RParts) → held.state parts result ≡ r.move parts (r.want_meta (held.metas metas)) (held.letter letter) at }
+pub fn at_meta(alloc: Global, metas: OpenMetas, letter: Lexeme, at: u32) -> Result<Step, AllocError>
+    ensures { IfOk result (λ step. (parts : RParts) → held.state parts step
+        ≡ r.move parts (r.want_meta (held.metas metas)) (held.letter letter) at) }
 {
     let none = metas.metas.as_slice().is_empty();
     match letter {
-        Lexeme::Name(name) => Step::To(Place::MetaNamed(OpenMeta {
+        Lexeme::Name(name) => Ok(Step::To(Place::MetaNamed(OpenMeta {
             rule: metas,
             name: RawName { name, at },
-        })),
-        Lexeme::CloseBrace if none => Step::To(left_of(alloc, metas)),
-        _ => Step::Failed,
+        }))),
+        Lexeme::CloseBrace if none => Ok(Step::To(left_of(alloc, metas)?)),
+        _ => Ok(Step::Failed),
     }
 }
 
@@ -131,16 +131,16 @@ pub fn behind_colon(
     letter: Lexeme,
     at: u32,
 ) -> Result<Step, AllocError>
-    ensures { IfOk result (λ step. (parts : RParts) → held.state parts step ≡ r.behind_colon parts (held.meta meta) (held.letter letter)
-        at) }
+    ensures { IfOk result (λ step. (parts : RParts) → held.state parts step
+        ≡ r.behind_colon parts (held.meta meta) (held.letter letter) at) }
 {
     let args = RawTypes::new(alloc)?;
-    let started = new_type(alloc)?;
     match letter {
-        Lexeme::OpenBracket => Ok(Step::To(Place::WantAtype(
-            Purpose::InBrackets(meta, args),
-            started,
-        ))),
-        letter => at_atype(alloc, Purpose::OfMeta(meta, args), started, letter, at),
+        Lexeme::OpenBracket => want_type(alloc, Purpose::InBrackets(meta, args)),
+        letter => {
+            let started = new_type(alloc)?;
+            let purpose = Box::new(alloc, Purpose::OfMeta(meta, args))?;
+            at_atype(alloc, purpose, started, letter, at)
+        }
     }
 }

@@ -1,12 +1,13 @@
 //! Reading a system text: token by token, each from the place that those before it led to.
 
-ghost use Rattle.std.specs.Prelude.{◌≡◌, ◌≤◌, ◌↔◌, length, IfOk, IsTrue};
+ghost use Rattle.std.specs.Prelude.{◌≡◌, ◌≤◌, ◌↔◌, length, Some, None, IfOk, IsTrue};
 ghost use Rattle.wh_types.specs.Outcome.{IfBecause, MatchOr};
-ghost use Rattle.wh_text.specs.Erase.{part, token as cut_token};
+ghost use Rattle.wh_text.specs.Erase.{kind_of, part, token as cut_token};
 ghost use Rattle.wh_text.specs.Pieces.{IsCutInto};
 ghost use Rattle.wh_text.specs.Words.{IsWord};
 ghost use Rattle.wh_text.specs.declared.token.TokenKind.TheVariants as token_kind;
 ghost use Rattle.wh_parts.specs.Erase.{rparts};
+ghost use Rattle.wh_read.specs.Lexemes.{lexeme};
 ghost use Rattle.wh_read.specs.Spelled.{placed};
 ghost use Rattle.wh_read.specs.Parsing.{Parses};
 ghost use Rattle.wh_read.specs.SyntaxFaults.{letters, HasSyntaxFault};
@@ -34,8 +35,8 @@ fn move_on(
     letter: Lexeme,
     at: u32,
 ) -> Result<Step, AllocError>
-    ensures { IfOk result (λ step. held.state (rparts parts.new) step ≡ r.move (rparts parts.old) (held.place place) (held.letter letter)
-        at) }
+    ensures { IfOk result (λ step. held.state (rparts parts.new) step
+        ≡ r.move (rparts parts.old) (held.place place) (held.letter letter) at) }
 {
     match place {
         Place::Between => Ok(begin(parts, letter, at)),
@@ -44,7 +45,7 @@ fn move_on(
         Place::BehindFun => Ok(fun_name(letter, at)),
         Place::FunNamed(name) => fun_colon(alloc, name, letter),
         Place::BehindRule(rule_at) => rule_open(alloc, rule_at, letter),
-        Place::WantMeta(metas) => Ok(at_meta(alloc, metas, letter, at)),
+        Place::WantMeta(metas) => at_meta(alloc, metas, letter, at),
         Place::MetaNamed(meta) => Ok(meta_colon(meta, letter)),
         Place::MetaColon(meta) => behind_colon(alloc, meta, letter, at),
         Place::WantAtype(purpose, started) => at_atype(alloc, purpose, started, letter, at),
@@ -54,9 +55,26 @@ fn move_on(
         Place::BehindLambda(rule, lambda_at) => Ok(at_binder(rule, lambda_at, letter)),
         Place::BinderNamed(rule, x, lambda_at) => binder_colon(alloc, rule, x, lambda_at, letter),
         Place::BinderTyped(rule, x, a, lambda_at) => binder_dot(rule, x, a, lambda_at, letter),
-        Place::WantAtom(spine) => at_atom(alloc, parts, spine, letter, at),
-        Place::BehindName(spine, name) => behind_name(alloc, parts, spine, name, letter, at),
-        Place::BehindPercent(spine, n, n_at) => variable_colon(alloc, spine, n, n_at, letter),
+        Place::WantAtom(rule) => at_atom(alloc, parts, rule, letter, at),
+        Place::BehindName(rule, name) => behind_name(alloc, parts, rule, name, letter, at),
+        Place::BehindPercent(rule, n, n_at) => variable_colon(alloc, rule, n, n_at, letter),
+    }
+}
+
+/// The letter that a token of the text is; a fault where the grammar has no such token.
+fn wanted_letter(alloc: Global, text: &[u8], token: &Token) -> Result<Lexeme, Or<SyntaxFault>>
+    requires ordered { token.now.from ≤ token.now.to }
+    requires within { token.now.to ≤ length text.now }
+    requires word { token.now.kind ≡ token_kind.Name → IsWord (part text.now token.now.from token.now.to) }
+    ensures found { IfOk result (λ letter. Some (held.letter letter)
+        ≡ lexeme (kind_of (part text.now token.now.from token.now.to) token.now.kind)) }
+    ensures none { IfBecause result (λ fault. None ≡ lexeme (kind_of (part text.now token.now.from token.now.to) token.now.kind)) }
+    ensures stops { IfBecause result (λ fault. held.stopped fault ≡ r.failed) }
+    ensures stops_at { IfBecause result (λ fault. held.fault_offset fault ≡ token.now.from) }
+{
+    match letter_of(alloc, text, token)? {
+        Some(letter) => Ok(letter),
+        None => Err(Or::Because(SyntaxFault::Syntax { at: token.from })),
     }
 }
 
@@ -71,15 +89,20 @@ fn read_token(
     requires ordered { token.now.from ≤ token.now.to }
     requires within { token.now.to ≤ length text.now }
     requires word { token.now.kind ≡ token_kind.Name → IsWord (part text.now token.now.from token.now.to) }
-    ensures goes_on { IfOk result (λ next. r.step (r.inside (rparts parts.old) (held.place place))
-        (placed (cut_token text.now token.now)) ≡ r.inside (rparts parts.new) (held.place next)) }
-    ensures stops { IfBecause result (λ fault. r.step (r.inside (rparts parts.old) (held.place place))
-        (placed (cut_token text.now token.now)) ≡ held.stopped fault) }
+    ensures goes_on { IfOk result (λ next.
+        r.step (r.inside (rparts parts.old) (held.place place)) (placed (cut_token text.now token.now))
+        ≡ r.inside (rparts parts.new) (held.place next)) }
+    ensures stops { IfBecause result (λ fault.
+        r.step (r.inside (rparts parts.old) (held.place place)) (placed (cut_token text.now token.now)) ≡ held.stopped fault) }
     ensures stops_at { IfBecause result (λ fault. held.fault_offset fault ≡ token.now.from) }
 {
     let at = token.from;
-    let Some(letter) = letter_of(alloc, text, token)? else {
-        return Err(Or::Because(SyntaxFault::Syntax { at }));
+    let letter = match wanted_letter(alloc, text, token) {
+        Ok(letter) => letter,
+        Err(fault) => {
+            let_go(place);
+            return Err(fault);
+        }
     };
     match move_on(alloc, parts, place, letter, at)? {
         Step::To(next) => Ok(next),
@@ -88,11 +111,23 @@ fn read_token(
     }
 }
 
+/// Drops a place, in one function, since its many kinds make that long.
+fn let_go(_place: Place) {}
+
 /// Whether a text may end at the place.
 fn may_end(place: &Place) -> bool
     ensures { IsTrue result ↔ (held.place place.now ≡ r.between) }
 {
     matches!(place, Place::Between)
+}
+
+/// The same of a place that is then let go.
+fn ended(place: Place) -> bool
+    ensures { IsTrue result ↔ (held.place place ≡ r.between) }
+{
+    let ends = may_end(&place);
+    let_go(place);
+    ends
 }
 
 /// What the tokens of a text say, where they are a system text that nests within the limits. Else the fault is at the
@@ -113,7 +148,7 @@ pub fn parse(alloc: Global, text: &[u8], tokens: &[Token]) -> Result<Parts, Or<S
     for token in tokens {
         place = read_token(alloc, text, &mut parts, place, token)?;
     }
-    if may_end(&place) {
+    if ended(place) {
         Ok(parts)
     } else {
         let at = text.len() as u32;

@@ -25,14 +25,7 @@ pub struct OpenRule {
     pub left: Option<RawTerm>,
     /// The open terms, the innermost last.
     pub frames: Vec<Frame>,
-}
-
-/// A spine of a rule's side.
-#[derive(Drop)]
-pub struct OpenSpine {
-    /// The rule.
-    pub rule: OpenRule,
-    /// The spine so far; None where a term begins.
+    /// The spine so far, where one is read; None where a term begins.
     pub before: Option<RawTerm>,
 }
 
@@ -64,9 +57,9 @@ pub enum Purpose {
     /// It stands behind the brackets of a meta-variable, in which these types are.
     OfMeta(OpenMeta, RawTypes),
     /// It is the type of a binder, of an abstraction at this place.
-    OfBinder(OpenRule, RawBinder, u32),
+    OfBinder(Box<OpenRule>, RawBinder, u32),
     /// It is the type of a free variable of this number and place.
-    OfVariable(OpenSpine, u32, u32),
+    OfVariable(Box<OpenRule>, u32, u32),
 }
 
 /// A type that is read.
@@ -100,21 +93,21 @@ pub enum Place {
     /// Behind the colon of a meta-variable.
     MetaColon(OpenMeta),
     /// Where a sort's name or a parenthesis of a type begins.
-    WantAtype(Purpose, OpenType),
+    WantAtype(Box<Purpose>, OpenType),
     /// Behind such a part of a type.
-    BehindAtype(Purpose, OpenType, RawType),
+    BehindAtype(Box<Purpose>, OpenType, RawType),
     /// Behind `\`, which stands there.
-    BehindLambda(OpenRule, u32),
+    BehindLambda(Box<OpenRule>, u32),
     /// Behind a binder.
-    BinderNamed(OpenRule, RawBinder, u32),
+    BinderNamed(Box<OpenRule>, RawBinder, u32),
     /// Behind the type of a binder.
-    BinderTyped(OpenRule, RawBinder, RawType, u32),
+    BinderTyped(Box<OpenRule>, RawBinder, RawType, u32),
     /// Where an atom may begin.
-    WantAtom(OpenSpine),
+    WantAtom(Box<OpenRule>),
     /// Behind a name, before which a spine stands.
-    BehindName(OpenSpine, RawName),
+    BehindName(Box<OpenRule>, RawName),
     /// Behind `%` with a number, which stands there.
-    BehindPercent(OpenSpine, u32, u32),
+    BehindPercent(Box<OpenRule>, u32, u32),
 }
 
 /// What one more token does.

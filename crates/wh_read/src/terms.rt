@@ -6,12 +6,13 @@ ghost use Rattle.wh_parts.specs.Parts.{RParts};
 ghost use Rattle.wh_parts.specs.Erase.{rparts};
 ghost use Rattle.wh_text.specs.RawTree.{spine, more, none};
 ghost use Rattle.wh_read.specs.declared.place.Place.TheVariants.{WantAtom};
+ghost use Rattle.wh_read.specs.Lexemes.{semicolon};
 ghost use Rattle.wh_read.specs.Held as held;
 ghost use Rattle.wh_read.specs.Reader as r;
 
 use crate::lexeme::Lexeme;
-use crate::place::{Frame, OpenRule, OpenSpine, Place, Purpose, Step};
-use crate::types::new_type;
+use crate::place::{Frame, OpenRule, Place, Purpose, Step};
+use crate::types::want_type;
 use std::alloc::{AllocError, Global};
 use wh_parts::{Parts, RawName, RawRule};
 use wh_text::{RawBinder, RawTerm, RawTerms, RawType};
@@ -55,7 +56,7 @@ fn applied_to(alloc: Global, term: RawTerm, atom: RawTerm) -> Result<RawTerm, Al
 }
 
 /// The spine so far, with one more atom.
-pub fn applied(alloc: Global, before: Option<RawTerm>, atom: RawTerm) -> Result<RawTerm, AllocError>
+fn applied(alloc: Global, before: Option<RawTerm>, atom: RawTerm) -> Result<RawTerm, AllocError>
     ensures { IfOk result (λ term. rtm term ≡ r.applied (option_map rtm before) (rtm atom)) }
 {
     match before {
@@ -64,86 +65,138 @@ pub fn applied(alloc: Global, before: Option<RawTerm>, atom: RawTerm) -> Result<
     }
 }
 
-/// The place behind one more atom of the spine.
-fn behind_atom(alloc: Global, spine: OpenSpine, atom: RawTerm) -> Result<OpenSpine, AllocError>
-    ensures { IfOk result (λ next. held.place (WantAtom next) ≡ r.want_atom (held.rule spine.rule)
-        (r.next (option_map rtm spine.before) (rtm atom))) }
+/// The rule behind an atom, where this spine stands before it.
+fn behind_spine(
+    alloc: Global,
+    mut rule: Box<OpenRule>,
+    before: Option<RawTerm>,
+    atom: RawTerm,
+) -> Result<Box<OpenRule>, AllocError>
+    ensures { IfOk result (λ next. held.place (WantAtom next) ≡ r.want_atom (held.rule rule) (r.next (option_map rtm before) (rtm atom))) }
 {
-    Ok(OpenSpine {
-        rule: spine.rule,
-        before: Some(applied(alloc, spine.before, atom)?),
-    })
+    rule.before = Some(applied(alloc, before, atom)?);
+    Ok(rule)
+}
+
+/// The rule behind one more atom of its spine.
+pub fn behind_atom(
+    alloc: Global,
+    mut rule: Box<OpenRule>,
+    atom: RawTerm,
+) -> Result<Box<OpenRule>, AllocError>
+    ensures { IfOk result (λ next. held.place (WantAtom next) ≡ r.want_atom (held.rule rule) (r.next (held.spine_of rule) (rtm atom))) }
+{
+    let before = rule.before.take();
+    behind_spine(alloc, rule, before, atom)
+}
+
+/// A term begins in one more frame.
+#[tactic(auto, using(crate::proofs::HeldLaws::frames_push))]
+fn begin_in(mut rule: Box<OpenRule>, frame: Frame) -> Result<Box<OpenRule>, AllocError>
+    ensures { IfOk result (λ next. held.place (WantAtom next)
+        ≡ r.want_atom (r.with_frames (held.rule rule) (held.frame frame (held.rule rule).frames)) None) }
+{
+    rule.frames.push(frame)?;
+    rule.before = None;
+    Ok(rule)
 }
 
 /// A level opens, and a term begins in it.
-fn open_frame(mut rule: OpenRule, frame: Frame) -> Result<Step, AllocError>
-    ensures { IfOk result (λ step. (parts : RParts) → held.state parts step ≡ r.open_term parts (held.rule rule)
-        (r.want_atom (r.with_frames (held.rule rule) (held.frame frame (held.rule rule).frames)) None)) }
+fn open_frame(rule: Box<OpenRule>, frame: Frame) -> Result<Step, AllocError>
+    ensures { IfOk result (λ step. (parts : RParts) → held.state parts step
+        ≡ r.open_term parts (held.rule rule) (r.want_atom (r.with_frames (held.rule rule) (held.frame frame (held.rule rule).frames))
+        None)) }
 {
-    if rule.frames.len() >= DEEPEST_TERM {
+    let opened = begin_in(rule, frame)?;
+    if opened.frames.len() > DEEPEST_TERM {
         return Ok(Step::TooMany);
     }
-    rule.frames.push(frame)?;
-    Ok(Step::To(Place::WantAtom(OpenSpine { rule, before: None })))
+    Ok(Step::To(Place::WantAtom(opened)))
 }
 
-/// The level of an abstraction opens.
-fn open_lambda(rule: OpenRule, at: u32) -> Step
-    ensures { (parts : RParts) → held.state parts result ≡ r.open_term parts (held.rule rule) (r.behind_lambda (held.rule rule) at) }
+/// A parenthesis opens, behind the spine so far.
+fn open_paren(mut rule: Box<OpenRule>) -> Result<Step, AllocError>
+    ensures { IfOk result (λ step. (parts : RParts) → held.state parts step
+        ≡ r.open_term parts (held.rule rule) (r.want_atom (r.with_frames (held.rule rule)
+        (r.paren (held.spine_of rule) (held.rule rule).frames)) None)) }
 {
-    if rule.frames.len() >= DEEPEST_TERM {
+    let before = rule.before.take();
+    open_frame(rule, Frame::Paren(before))
+}
+
+/// The bracket behind a name opens, behind the spine so far.
+fn open_bracket(alloc: Global, mut rule: Box<OpenRule>, name: RawName) -> Result<Step, AllocError>
+    ensures { IfOk result (λ step. (parts : RParts) → held.state parts step
+        ≡ r.open_term parts (held.rule rule) (r.want_atom (r.with_frames (held.rule rule)
+        (r.bracket name.name name.at none (held.spine_of rule) (held.rule rule).frames)) None)) }
+{
+    let before = rule.before.take();
+    let args = RawTerms::new(alloc)?;
+    open_frame(rule, Frame::Bracket(name, args, before))
+}
+
+/// An abstraction begins, where no atom stands before it: its level opens.
+fn lambda_begins(rule: Box<OpenRule>, at: u32) -> Step
+    ensures { (parts : RParts) → held.state parts result ≡ r.lambda_begins parts (held.rule rule) (held.spine_of rule) at }
+{
+    if rule.before.is_some() {
+        Step::Failed
+    } else if rule.frames.len() >= DEEPEST_TERM {
         Step::TooMany
     } else {
         Step::To(Place::BehindLambda(rule, at))
     }
 }
 
-/// An abstraction begins, where no atom stands before it.
-fn lambda_begins(spine: OpenSpine, at: u32) -> Step
-    ensures { (parts : RParts) → held.state parts result ≡ r.lambda_begins parts (held.rule spine.rule) (option_map rtm spine.before) at }
+/// The left side has ended, and the right one begins.
+fn left_ended(mut rule: Box<OpenRule>, term: RawTerm) -> Box<OpenRule>
+    ensures { held.place (WantAtom result) ≡ r.want_atom (r.with_left (held.rule rule) (rtm term)) None }
 {
-    match spine.before {
-        Some(_) => Step::Failed,
-        None => open_lambda(spine.rule, at),
-    }
+    rule.left = Some(term);
+    rule.frames.clear();
+    rule.before = None;
+    rule
 }
 
-/// A side has ended: the left one before the arrow; the right one, and with it the rule, at its end.
-fn side_ended(
-    alloc: Global,
-    parts: &mut Parts,
-    rule: OpenRule,
-    term: RawTerm,
-    letter: Lexeme,
-) -> Result<Step, AllocError>
-    ensures { IfOk result (λ step. held.state (rparts parts.new) step ≡ r.side_ended (rparts parts.old) (held.rule rule)
-        (option_map rtm rule.left) (rtm term) (held.letter letter)) }
+/// The right side has ended, if it is the one that is read: with it the rule ends.
+fn rule_ended(parts: &mut Parts, rule: Box<OpenRule>, right: RawTerm) -> Result<Step, AllocError>
+    ensures { IfOk result (λ step. held.state (rparts parts.new) step
+        ≡ r.side_ended (rparts parts.old) (held.rule rule) (option_map rtm rule.value.left) (rtm right) semicolon) }
 {
     let OpenRule {
         metas,
         at,
         left,
-        frames: _frames,
-    } = rule;
-    match (left, letter) {
-        (None, Lexeme::ThickArrow) => {
-            let rule = OpenRule {
-                metas,
-                at,
-                left: Some(term),
-                frames: Vec::new(alloc),
-            };
-            Ok(Step::To(Place::WantAtom(OpenSpine { rule, before: None })))
+        ..
+    } = Box::into_inner(rule);
+    let Some(left) = left else {
+        return Ok(Step::Failed);
+    };
+    parts.rules.push(RawRule {
+        metas,
+        left,
+        right,
+        at,
+    })?;
+    Ok(Step::To(Place::Between))
+}
+
+/// A side has ended: the left one before the arrow; the right one, and with it the rule, at its end.
+fn side_ended(
+    parts: &mut Parts,
+    rule: Box<OpenRule>,
+    term: RawTerm,
+    letter: Lexeme,
+) -> Result<Step, AllocError>
+    ensures { IfOk result (λ step. held.state (rparts parts.new) step
+        ≡ r.side_ended (rparts parts.old) (held.rule rule) (option_map rtm rule.value.left) (rtm term) (held.letter letter)) }
+{
+    let left_is_read = rule.left.is_some();
+    match letter {
+        Lexeme::ThickArrow if !left_is_read => {
+            Ok(Step::To(Place::WantAtom(left_ended(rule, term))))
         }
-        (Some(left), Lexeme::Semicolon) => {
-            parts.rules.push(RawRule {
-                metas,
-                left,
-                right: term,
-                at,
-            })?;
-            Ok(Step::To(Place::Between))
-        }
+        Lexeme::Semicolon => rule_ended(parts, rule, term),
         _ => Ok(Step::Failed),
     }
 }
@@ -151,15 +204,19 @@ fn side_ended(
 /// A term in a parenthesis has ended.
 fn paren_ended(
     alloc: Global,
-    spine: OpenSpine,
+    rule: Box<OpenRule>,
+    before: Option<RawTerm>,
     term: RawTerm,
     letter: Lexeme,
 ) -> Result<Step, AllocError>
-    ensures { IfOk result (λ step. (parts : RParts) → held.state parts step ≡ r.term_ended parts (held.rule spine.rule)
-        (r.paren (option_map rtm spine.before) (held.rule spine.rule).frames) (rtm term) (held.letter letter)) }
+    ensures { IfOk result (λ step. (parts : RParts) → held.state parts step
+        ≡ r.term_ended parts (held.rule rule) (r.paren (option_map rtm before) (held.rule rule).frames) (rtm term) (held.letter letter)) }
 {
     match letter {
-        Lexeme::CloseParen => Ok(Step::To(Place::WantAtom(behind_atom(alloc, spine, term)?))),
+        Lexeme::CloseParen => {
+            let behind = behind_spine(alloc, rule, before, term)?;
+            Ok(Step::To(Place::WantAtom(behind)))
+        }
         _ => Ok(Step::Failed),
     }
 }
@@ -167,26 +224,27 @@ fn paren_ended(
 /// An argument in a bracket has ended.
 fn argument_ended(
     alloc: Global,
-    spine: OpenSpine,
+    rule: Box<OpenRule>,
     name: RawName,
     mut args: RawTerms,
+    before: Option<RawTerm>,
     term: RawTerm,
     letter: Lexeme,
 ) -> Result<Step, AllocError>
-    ensures { IfOk result (λ step. (parts : RParts) → held.state parts step ≡ r.term_ended parts (held.rule spine.rule)
-        (r.bracket name.name name.at (rtms args) (option_map rtm spine.before) (held.rule spine.rule).frames) (rtm term)
-        (held.letter letter)) }
+    ensures { IfOk result (λ step. (parts : RParts) → held.state parts step
+        ≡ r.term_ended parts (held.rule rule) (r.bracket name.name name.at (rtms args) (option_map rtm before) (held.rule rule).frames)
+        (rtm term) (held.letter letter)) }
 {
     args.push(term)?;
     match letter {
         Lexeme::Comma => {
-            let OpenSpine { mut rule, before } = spine;
-            rule.frames.push(Frame::Bracket(name, args, before))?;
-            Ok(Step::To(Place::WantAtom(OpenSpine { rule, before: None })))
+            let behind = begin_in(rule, Frame::Bracket(name, args, before))?;
+            Ok(Step::To(Place::WantAtom(behind)))
         }
         Lexeme::CloseBracket => {
             let atom = RawTerm::Meta(name.name, args, name.at);
-            Ok(Step::To(Place::WantAtom(behind_atom(alloc, spine, atom)?)))
+            let behind = behind_spine(alloc, rule, before, atom)?;
+            Ok(Step::To(Place::WantAtom(behind)))
         }
         _ => Ok(Step::Failed),
     }
@@ -196,22 +254,22 @@ fn argument_ended(
 fn term_ended(
     alloc: Global,
     parts: &mut Parts,
-    mut rule: OpenRule,
+    mut rule: Box<OpenRule>,
     term: RawTerm,
     letter: Lexeme,
 ) -> Result<Step, AllocError>
-    ensures { IfOk result (λ step. held.state (rparts parts.new) step ≡ r.term_ended (rparts parts.old) (held.rule rule)
-        (held.rule rule).frames (rtm term) (held.letter letter)) }
+    ensures { IfOk result (λ step. held.state (rparts parts.new) step
+        ≡ r.term_ended (rparts parts.old) (held.rule rule) (held.rule rule).frames (rtm term) (held.letter letter)) }
 {
     match rule.frames.pop() {
-        None => side_ended(alloc, parts, rule, term, letter),
+        None => side_ended(parts, rule, term, letter),
         Some(Frame::Body(x, a, at)) => {
             let whole = RawTerm::Lam(x, a, Box::new(alloc, term)?, at);
             term_ended(alloc, parts, rule, whole, letter)
         }
-        Some(Frame::Paren(before)) => paren_ended(alloc, OpenSpine { rule, before }, term, letter),
+        Some(Frame::Paren(before)) => paren_ended(alloc, rule, before, term, letter),
         Some(Frame::Bracket(name, args, before)) => {
-            argument_ended(alloc, OpenSpine { rule, before }, name, args, term, letter)
+            argument_ended(alloc, rule, name, args, before, term, letter)
         }
     }
 }
@@ -220,14 +278,13 @@ fn term_ended(
 fn spine_ended(
     alloc: Global,
     parts: &mut Parts,
-    spine: OpenSpine,
+    mut rule: Box<OpenRule>,
     letter: Lexeme,
 ) -> Result<Step, AllocError>
-    ensures { IfOk result (λ step. held.state (rparts parts.new) step ≡ r.spine_ended (rparts parts.old) (held.rule spine.rule)
-        (option_map rtm spine.before) (held.letter letter)) }
+    ensures { IfOk result (λ step. held.state (rparts parts.new) step
+        ≡ r.spine_ended (rparts parts.old) (held.rule rule) (held.spine_of rule) (held.letter letter)) }
 {
-    let OpenSpine { rule, before } = spine;
-    match before {
+    match rule.before.take() {
         None => Ok(Step::Failed),
         Some(term) => term_ended(alloc, parts, rule, term, letter),
     }
@@ -237,23 +294,23 @@ fn spine_ended(
 pub fn at_atom(
     alloc: Global,
     parts: &mut Parts,
-    spine: OpenSpine,
+    rule: Box<OpenRule>,
     letter: Lexeme,
     at: u32,
 ) -> Result<Step, AllocError>
-    ensures { IfOk result (λ step. held.state (rparts parts.new) step ≡ r.at_atom (rparts parts.old) (held.rule spine.rule)
-        (option_map rtm spine.before) (held.letter letter) at) }
+    ensures { IfOk result (λ step. held.state (rparts parts.new) step
+        ≡ r.at_atom (rparts parts.old) (held.rule rule) (held.spine_of rule) (held.letter letter) at) }
 {
     match letter {
-        Lexeme::Name(name) => Ok(Step::To(Place::BehindName(spine, RawName { name, at }))),
+        Lexeme::Name(name) => Ok(Step::To(Place::BehindName(rule, RawName { name, at }))),
         Lexeme::Dollar(n) => {
             let atom = RawTerm::Numbered(n, at);
-            Ok(Step::To(Place::WantAtom(behind_atom(alloc, spine, atom)?)))
+            Ok(Step::To(Place::WantAtom(behind_atom(alloc, rule, atom)?)))
         }
-        Lexeme::Percent(n) => Ok(Step::To(Place::BehindPercent(spine, n, at))),
-        Lexeme::OpenParen => open_frame(spine.rule, Frame::Paren(spine.before)),
-        Lexeme::Backslash => Ok(lambda_begins(spine, at)),
-        letter => spine_ended(alloc, parts, spine, letter),
+        Lexeme::Percent(n) => Ok(Step::To(Place::BehindPercent(rule, n, at))),
+        Lexeme::OpenParen => open_paren(rule),
+        Lexeme::Backslash => Ok(lambda_begins(rule, at)),
+        letter => spine_ended(alloc, parts, rule, letter),
     }
 }
 
@@ -261,22 +318,19 @@ pub fn at_atom(
 pub fn behind_name(
     alloc: Global,
     parts: &mut Parts,
-    spine: OpenSpine,
+    rule: Box<OpenRule>,
     name: RawName,
     letter: Lexeme,
     at: u32,
 ) -> Result<Step, AllocError>
-    ensures { IfOk result (λ step. held.state (rparts parts.new) step ≡ r.behind_plain (rparts parts.old) (held.rule spine.rule)
-        (option_map rtm spine.before) name.name name.at (held.letter letter) at) }
+    ensures { IfOk result (λ step. held.state (rparts parts.new) step
+        ≡ r.behind_plain (rparts parts.old) (held.rule rule) (held.spine_of rule) name.name name.at (held.letter letter) at) }
 {
     match letter {
-        Lexeme::OpenBracket => {
-            let args = RawTerms::new(alloc)?;
-            open_frame(spine.rule, Frame::Bracket(name, args, spine.before))
-        }
+        Lexeme::OpenBracket => open_bracket(alloc, rule, name),
         letter => {
             let atom = RawTerm::Named(name.name, name.at);
-            let behind = behind_atom(alloc, spine, atom)?;
+            let behind = behind_atom(alloc, rule, atom)?;
             at_atom(alloc, parts, behind, letter, at)
         }
     }
@@ -285,25 +339,23 @@ pub fn behind_name(
 /// The colon behind a free variable.
 pub fn variable_colon(
     alloc: Global,
-    spine: OpenSpine,
+    rule: Box<OpenRule>,
     n: u32,
     n_at: u32,
     letter: Lexeme,
 ) -> Result<Step, AllocError>
-    ensures { IfOk result (λ step. (parts : RParts) → held.state parts step ≡ r.expect_colon parts
-        (r.want_atype (r.of_variable (held.rule spine.rule) (option_map rtm spine.before) n n_at) r.new_type) (held.letter letter)) }
+    ensures { IfOk result (λ step. (parts : RParts) → held.state parts step
+        ≡ r.expect_colon parts (r.want_atype (r.of_variable (held.rule rule) (held.spine_of rule) n n_at) r.new_type)
+        (held.letter letter)) }
 {
     match letter {
-        Lexeme::Colon => Ok(Step::To(Place::WantAtype(
-            Purpose::OfVariable(spine, n, n_at),
-            new_type(alloc)?,
-        ))),
+        Lexeme::Colon => want_type(alloc, Purpose::OfVariable(rule, n, n_at)),
         _ => Ok(Step::Failed),
     }
 }
 
 /// A binder.
-pub fn at_binder(rule: OpenRule, lambda_at: u32, letter: Lexeme) -> Step
+pub fn at_binder(rule: Box<OpenRule>, lambda_at: u32, letter: Lexeme) -> Step
     ensures { (parts : RParts) → held.state parts result ≡ r.at_binder parts (held.rule rule) lambda_at (held.letter letter) }
 {
     match letter {
@@ -320,39 +372,36 @@ pub fn at_binder(rule: OpenRule, lambda_at: u32, letter: Lexeme) -> Step
 /// The colon behind a binder.
 pub fn binder_colon(
     alloc: Global,
-    rule: OpenRule,
+    rule: Box<OpenRule>,
     x: RawBinder,
     lambda_at: u32,
     letter: Lexeme,
 ) -> Result<Step, AllocError>
-    ensures { IfOk result (λ step. (parts : RParts) → held.state parts step ≡ r.expect_colon parts
-        (r.want_atype (r.of_binder (held.rule rule) (rbinder x) lambda_at) r.new_type) (held.letter letter)) }
+    ensures { IfOk result (λ step. (parts : RParts) → held.state parts step
+        ≡ r.expect_colon parts (r.want_atype (r.of_binder (held.rule rule) (rbinder x) lambda_at) r.new_type) (held.letter letter)) }
 {
     match letter {
-        Lexeme::Colon => Ok(Step::To(Place::WantAtype(
-            Purpose::OfBinder(rule, x, lambda_at),
-            new_type(alloc)?,
-        ))),
+        Lexeme::Colon => want_type(alloc, Purpose::OfBinder(rule, x, lambda_at)),
         _ => Ok(Step::Failed),
     }
 }
 
 /// The dot behind the type of a binder.
 pub fn binder_dot(
-    mut rule: OpenRule,
+    rule: Box<OpenRule>,
     x: RawBinder,
     a: RawType,
     lambda_at: u32,
     letter: Lexeme,
 ) -> Result<Step, AllocError>
-    ensures { IfOk result (λ step. (parts : RParts) → held.state parts step ≡ r.expect_dot parts
-        (r.want_atom (r.with_frames (held.rule rule) (r.body (rbinder x) (rty a) lambda_at (held.rule rule).frames)) None)
-        (held.letter letter)) }
+    ensures { IfOk result (λ step. (parts : RParts) → held.state parts step
+        ≡ r.expect_dot parts (r.want_atom (r.with_frames (held.rule rule) (r.body (rbinder x) (rty a) lambda_at (held.rule rule).frames))
+        None) (held.letter letter)) }
 {
     match letter {
         Lexeme::Dot => {
-            rule.frames.push(Frame::Body(x, a, lambda_at))?;
-            Ok(Step::To(Place::WantAtom(OpenSpine { rule, before: None })))
+            let behind = begin_in(rule, Frame::Body(x, a, lambda_at))?;
+            Ok(Step::To(Place::WantAtom(behind)))
         }
         _ => Ok(Step::Failed),
     }

@@ -11,8 +11,8 @@ ghost use Rattle.wh_read.specs.Reader as r;
 
 use crate::declarations::left_of;
 use crate::lexeme::Lexeme;
-use crate::place::{OpenMeta, OpenMetas, OpenSpine, OpenType, Place, Purpose, Step};
-use crate::terms::applied;
+use crate::place::{OpenMeta, OpenMetas, OpenType, Place, Purpose, Step};
+use crate::terms::behind_atom;
 use std::alloc::{AllocError, Global};
 use wh_parts::{Parts, RawFun, RawMeta, RawName};
 use wh_text::{Name, RawTerm, RawType, RawTypes};
@@ -30,11 +30,21 @@ pub fn new_type(alloc: Global) -> Result<OpenType, AllocError>
     })
 }
 
+/// A type begins, which is for that.
+pub fn want_type(alloc: Global, purpose: Purpose) -> Result<Step, AllocError>
+    ensures { IfOk result (λ step. (parts : RParts) → held.state parts step
+        ≡ r.inside parts (r.want_atype (held.purpose_of purpose) r.new_type)) }
+{
+    let started = new_type(alloc)?;
+    let purpose = Box::new(alloc, purpose)?;
+    Ok(Step::To(Place::WantAtype(purpose, started)))
+}
+
 /// The type with these arguments before its own.
 fn with_arguments(mut args: RawTypes, own: RawType) -> Result<RawType, AllocError>
     ensures { IfOk result (λ whole. rty whole ≡ r.with_arguments (rtys args) (rty own)) }
 {
-    args.append(own.args)?;
+    args.extend(own.args)?;
     Ok(RawType {
         args,
         sort: own.sort,
@@ -45,35 +55,32 @@ fn with_arguments(mut args: RawTypes, own: RawType) -> Result<RawType, AllocErro
 /// A part of a type was read, with no parenthesis around it.
 fn had_outer(
     alloc: Global,
-    purpose: Purpose,
+    purpose: Box<Purpose>,
     started: OpenType,
     part: RawType,
 ) -> Result<Step, AllocError>
-    ensures { IfOk result (λ step. (parts : RParts) → held.state parts step ≡ r.had_outer parts (held.purpose purpose)
-        (held.open_type started) (rty part)) }
+    ensures { IfOk result (λ step. (parts : RParts) → held.state parts step
+        ≡ r.had_outer parts (held.purpose purpose) (held.open_type started) (rty part)) }
 {
-    match purpose {
+    match Box::into_inner(purpose) {
         Purpose::OfBinder(rule, x, at) => Ok(Step::To(Place::BinderTyped(rule, x, part, at))),
-        Purpose::OfVariable(spine, n, at) => {
-            let before = applied(alloc, spine.before, RawTerm::Free(n, part, at))?;
-            Ok(Step::To(Place::WantAtom(OpenSpine {
-                rule: spine.rule,
-                before: Some(before),
-            })))
+        Purpose::OfVariable(rule, n, at) => {
+            let behind = behind_atom(alloc, rule, RawTerm::Free(n, part, at))?;
+            Ok(Step::To(Place::WantAtom(behind)))
         }
-        other => Ok(Step::To(Place::BehindAtype(other, started, part))),
+        other => Ok(Step::To(Place::BehindAtype(Box::new(alloc, other)?, started, part))),
     }
 }
 
 /// A part of a type was read.
 fn had_atype(
     alloc: Global,
-    purpose: Purpose,
+    purpose: Box<Purpose>,
     started: OpenType,
     part: RawType,
 ) -> Result<Step, AllocError>
-    ensures { IfOk result (λ step. (parts : RParts) → held.state parts step ≡ r.had_atype parts (held.purpose purpose)
-        (held.open_type started).args (held.open_type started).outer (rty part)) }
+    ensures { IfOk result (λ step. (parts : RParts) → held.state parts step
+        ≡ r.had_atype parts (held.purpose purpose) (held.open_type started).args (held.open_type started).outer (rty part)) }
 {
     if started.outer.is_empty() {
         had_outer(alloc, purpose, started, part)
@@ -96,9 +103,13 @@ fn inner_type(alloc: Global, started: OpenType) -> Result<OpenType, AllocError>
 }
 
 /// A parenthesis opens in a type.
-fn paren_in_type(alloc: Global, purpose: Purpose, started: OpenType) -> Result<Step, AllocError>
-    ensures { IfOk result (λ step. (parts : RParts) → held.state parts step ≡ r.at_atype parts (held.purpose purpose)
-        (held.open_type started) open_paren 0) }
+fn paren_in_type(
+    alloc: Global,
+    purpose: Box<Purpose>,
+    started: OpenType,
+) -> Result<Step, AllocError>
+    ensures { IfOk result (λ step. (parts : RParts) → held.state parts step
+        ≡ r.at_atype parts (held.purpose purpose) (held.open_type started) open_paren 0) }
 {
     if started.outer.len() >= DEEPEST_TYPE {
         return Ok(Step::TooMany);
@@ -110,13 +121,13 @@ fn paren_in_type(alloc: Global, purpose: Purpose, started: OpenType) -> Result<S
 /// The name of a sort in a type.
 fn sort_in_type(
     alloc: Global,
-    purpose: Purpose,
+    purpose: Box<Purpose>,
     started: OpenType,
     sort: Name,
     at: u32,
 ) -> Result<Step, AllocError>
-    ensures { IfOk result (λ step. (parts : RParts) → held.state parts step ≡ r.at_atype parts (held.purpose purpose)
-        (held.open_type started) (a_name sort) at) }
+    ensures { IfOk result (λ step. (parts : RParts) → held.state parts step
+        ≡ r.at_atype parts (held.purpose purpose) (held.open_type started) (a_name sort) at) }
 {
     let args = RawTypes::new(alloc)?;
     had_atype(alloc, purpose, started, RawType { args, sort, at })
@@ -125,13 +136,13 @@ fn sort_in_type(
 /// A letter where a part of a type begins.
 pub fn at_atype(
     alloc: Global,
-    purpose: Purpose,
+    purpose: Box<Purpose>,
     started: OpenType,
     letter: Lexeme,
     at: u32,
 ) -> Result<Step, AllocError>
-    ensures { IfOk result (λ step. (parts : RParts) → held.state parts step ≡ r.at_atype parts (held.purpose purpose)
-        (held.open_type started) (held.letter letter) at) }
+    ensures { IfOk result (λ step. (parts : RParts) → held.state parts step
+        ≡ r.at_atype parts (held.purpose purpose) (held.open_type started) (held.letter letter) at) }
 {
     match letter {
         Lexeme::Name(sort) => sort_in_type(alloc, purpose, started, sort, at),
@@ -160,8 +171,8 @@ fn fun_end(
     kind: RawType,
     letter: Lexeme,
 ) -> Result<Step, AllocError>
-    ensures { IfOk result (λ step. held.state (rparts parts.new) step ≡ r.whole_type_ended (rparts parts.old) (r.of_fun (rname name))
-        (rty kind) (held.letter letter)) }
+    ensures { IfOk result (λ step. held.state (rparts parts.new) step
+        ≡ r.whole_type_ended (rparts parts.old) (r.of_fun (rname name)) (rty kind) (held.letter letter)) }
 {
     match letter {
         Lexeme::Semicolon => {
@@ -181,17 +192,13 @@ fn bracket_type_ended(
     whole: RawType,
     letter: Lexeme,
 ) -> Result<Step, AllocError>
-    ensures { IfOk result (λ step. (parts : RParts) → held.state parts step ≡ r.whole_type_ended parts
-        (r.in_brackets (held.meta meta) (rtys args)) (rty whole) (held.letter letter)) }
+    ensures { IfOk result (λ step. (parts : RParts) → held.state parts step
+        ≡ r.whole_type_ended parts (r.in_brackets (held.meta meta) (rtys args)) (rty whole) (held.letter letter)) }
 {
     args.push(whole)?;
-    let started = new_type(alloc)?;
     match letter {
-        Lexeme::Comma => Ok(Step::To(Place::WantAtype(Purpose::InBrackets(meta, args), started))),
-        Lexeme::CloseBracket => Ok(Step::To(Place::WantAtype(
-            Purpose::OfMeta(meta, args),
-            started,
-        ))),
+        Lexeme::Comma => want_type(alloc, Purpose::InBrackets(meta, args)),
+        Lexeme::CloseBracket => want_type(alloc, Purpose::OfMeta(meta, args)),
         _ => Ok(Step::Failed),
     }
 }
@@ -204,13 +211,13 @@ fn meta_type_ended(
     whole: RawType,
     letter: Lexeme,
 ) -> Result<Step, AllocError>
-    ensures { IfOk result (λ step. (parts : RParts) → held.state parts step ≡ r.whole_type_ended parts
-        (r.of_meta (held.meta meta) (rtys args)) (rty whole) (held.letter letter)) }
+    ensures { IfOk result (λ step. (parts : RParts) → held.state parts step
+        ≡ r.whole_type_ended parts (r.of_meta (held.meta meta) (rtys args)) (rty whole) (held.letter letter)) }
 {
     let metas = add_meta(meta, args, whole)?;
     match letter {
         Lexeme::Comma => Ok(Step::To(Place::WantMeta(metas))),
-        Lexeme::CloseBrace => Ok(Step::To(left_of(alloc, metas))),
+        Lexeme::CloseBrace => Ok(Step::To(left_of(alloc, metas)?)),
         _ => Ok(Step::Failed),
     }
 }
@@ -219,14 +226,14 @@ fn meta_type_ended(
 fn whole_type_ended(
     alloc: Global,
     parts: &mut Parts,
-    purpose: Purpose,
+    purpose: Box<Purpose>,
     whole: RawType,
     letter: Lexeme,
 ) -> Result<Step, AllocError>
-    ensures { IfOk result (λ step. held.state (rparts parts.new) step ≡ r.whole_type_ended (rparts parts.old) (held.purpose purpose)
-        (rty whole) (held.letter letter)) }
+    ensures { IfOk result (λ step. held.state (rparts parts.new) step
+        ≡ r.whole_type_ended (rparts parts.old) (held.purpose purpose) (rty whole) (held.letter letter)) }
 {
-    match purpose {
+    match Box::into_inner(purpose) {
         Purpose::OfFun(name) => fun_end(parts, name, whole, letter),
         Purpose::InBrackets(meta, args) => bracket_type_ended(alloc, meta, args, whole, letter),
         Purpose::OfMeta(meta, args) => meta_type_ended(alloc, meta, args, whole, letter),
@@ -239,13 +246,13 @@ fn whole_type_ended(
 fn type_ended(
     alloc: Global,
     parts: &mut Parts,
-    purpose: Purpose,
+    purpose: Box<Purpose>,
     mut outer: Vec<RawTypes>,
     whole: RawType,
     letter: Lexeme,
 ) -> Result<Step, AllocError>
-    ensures { IfOk result (λ step. held.state (rparts parts.new) step ≡ r.type_ended (rparts parts.old) (held.purpose purpose)
-        (held.types_in [] outer.items) (rty whole) (held.letter letter)) }
+    ensures { IfOk result (λ step. held.state (rparts parts.new) step
+        ≡ r.type_ended (rparts parts.old) (held.purpose purpose) (held.types_in [] outer.items) (rty whole) (held.letter letter)) }
 {
     let Some(args) = outer.pop() else {
         return whole_type_ended(alloc, parts, purpose, whole, letter);
@@ -261,13 +268,13 @@ fn type_ended(
 pub fn behind_type(
     alloc: Global,
     parts: &mut Parts,
-    purpose: Purpose,
+    purpose: Box<Purpose>,
     started: OpenType,
     part: RawType,
     letter: Lexeme,
 ) -> Result<Step, AllocError>
-    ensures { IfOk result (λ step. held.state (rparts parts.new) step ≡ r.behind_type (rparts parts.old) (held.purpose purpose)
-        (held.open_type started) (rty part) (held.letter letter)) }
+    ensures { IfOk result (λ step. held.state (rparts parts.new) step
+        ≡ r.behind_type (rparts parts.old) (held.purpose purpose) (held.open_type started) (rty part) (held.letter letter)) }
 {
     let OpenType { mut args, outer } = started;
     match letter {

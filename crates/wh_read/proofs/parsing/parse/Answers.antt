@@ -47,10 +47,10 @@ pub loop-token-preserved : goal.loop-token-preserved
 loop-token-preserved c =
     one_more c.args.text.now c.args.tokens.now c.loop-token.token-index none _ _ c.loop-token-test.true c.loop-token.invariant c.in_ok-place.ensures.goes_on
 
-pub returns-then-may_end : goal.returns-then-may_end
-returns-then-may_end c =
-    reads_parts c.args.text.now c.args.tokens.now c.loop-token.token-index (rparts c.loop-token.parts) (held.place c.loop-token.place) (omega (arith, c.loop-token-test.false)) c.loop-token.invariant (c.may_end.ensures.0 c.if-may_end.true)
+pub returns-then-ended : goal.returns-then-ended
+returns-then-ended c =
+    reads_parts c.args.text.now c.args.tokens.now c.loop-token.token-index (rparts c.loop-token.parts) (held.place c.loop-token.place) (omega (arith, c.loop-token-test.false)) c.loop-token.invariant (c.ended.ensures.0 c.if-ended.true)
 
-pub returns-else-may_end : goal.returns-else-may_end
-returns-else-may_end c =
-    ends_there c.args.text.now c.args.tokens.now c.loop-token.token-index (rparts c.loop-token.parts) (held.place c.loop-token.place) (length c.args.text.now) (omega (arith, c.loop-token-test.false)) c.loop-token.invariant (λ h. true≢false (sym (c.may_end.ensures.1 h) ∙ c.if-may_end.false)) refl
+pub returns-else-ended : goal.returns-else-ended
+returns-else-ended c =
+    ends_there c.args.text.now c.args.tokens.now c.loop-token.token-index (rparts c.loop-token.parts) (held.place c.loop-token.place) (length c.args.text.now) (omega (arith, c.loop-token-test.false)) c.loop-token.invariant (λ h. true≢false (sym (c.ended.ensures.1 h) ∙ c.if-ended.false)) refl

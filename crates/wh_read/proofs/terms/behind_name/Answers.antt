@@ -1,5 +1,4 @@
-use Rattle.std.proofs.Common.{option_map, ◌∙◌}
-use Rattle.wh_text.specs.Erase.{rtm}
+use Rattle.std.proofs.Common.{◌∙◌}
 use Rattle.wh_text.specs.RawTree.{named}
 use Rattle.wh_parts.specs.Erase.{rparts}
 use Rattle.wh_read.specs.Held as held
@@ -10,11 +9,11 @@ use Rattle.wh_read.proofs.terms.behind_name.Goals as goal
 pub returns-in_ok-behind-in_default : goal.returns-in_ok-behind-in_default
 returns-in_ok-behind-in_default c =
     let parts = rparts c.args.parts.now in
-    let u = held.rule c.args.spine.rule in
-    let before = option_map rtm c.args.spine.before in
+    let u = held.rule c.args.rule in
+    let before = held.spine_of c.args.rule in
     let behind = c.in_ok-behind-in_default.behind in
     let l = c.args.letter in
-    state_along c.at_atom.result (rparts c.at_atom.new.parts) (r.at_atom parts (held.rule behind.rule) (option_map rtm behind.before) (held.letter l) c.args.at) _
-    (atom_after parts (held.rule behind.rule) u (option_map rtm behind.before) (r.next before (named c.args.name.name c.args.name.at)) (held.letter l) c.args.at c.in_ok-behind-in_default.ensures
+    state_along c.at_atom.result (rparts c.at_atom.new.parts) (r.at_atom parts (held.rule behind) (held.spine_of behind) (held.letter l) c.args.at) _
+    (atom_after parts (held.rule behind) u (held.spine_of behind) (r.next before (named c.args.name.name c.args.name.at)) (held.letter l) c.args.at c.in_ok-behind-in_default.ensures
     ∙ no_application parts u before c.args.name.name c.args.name.at l c.args.at c.in_default.not-OpenBracket)
     c.at_atom.ensures

@@ -1,14 +1,20 @@
-use Rattle.std.proofs.Common.{None, ap, sym, ◌∙◌, arith}
+use Rattle.std.proofs.Common.{◌≡◌, vec_len, refl, ap, sym, ◌∙◌, arith, rules}
 use Rattle.wh_read.specs.Held as held
 use Rattle.wh_read.specs.Reader as r
-use Rattle.wh_read.proofs.HeldLaws.{level_of, frames_push, open_under, open_over}
+use Rattle.wh_read.proofs.HeldLaws.{levels_grow, open_under, open_over}
 use Rattle.wh_read.proofs.terms.open_frame.Goals as goal
 
-pub returns-then-len-ge-DEEPEST_TERM : goal.returns-then-len-ge-DEEPEST_TERM
-returns-then-len-ge-DEEPEST_TERM c =
-    λ parts. sym (open_over parts _ 400 c.len.result _ (level_of c.args.rule.frames ∙ sym c.len.ensures) c.if-len-ge-DEEPEST_TERM.true)
+pub returns-then-len-gt-DEEPEST_TERM : goal.returns-then-len-gt-DEEPEST_TERM
+returns-then-len-gt-DEEPEST_TERM c =
+    let u = held.rule c.args.rule in
+    let levels : vec_len c.in_ok-opened.opened.value.frames ≡ c.len.result = search rules in
+    let grown = levels_grow u c.args.frame c.in_ok-opened.opened c.in_ok-opened.ensures in
+    λ parts. sym (open_over parts (r.level u.frames) 400 (r.level u.frames) _ refl (omega (arith, grown, levels, c.if-len-gt-DEEPEST_TERM.true)))
 
 pub returns : goal.returns
 returns c =
-    λ parts. ap (λ w. r.inside parts (r.want_atom (r.with_frames (held.rule c.args.rule) w) None)) (frames_push r.no_frames c.args.rule.frames.items c.push.new.self.items c.args.frame c.in_ok-push.ensures.items)
-    ∙ sym (open_under parts _ 400 c.len.result _ (level_of c.args.rule.frames ∙ sym c.len.ensures) (omega (arith, c.if-len-ge-DEEPEST_TERM.false)))
+    let u = held.rule c.args.rule in
+    let levels : vec_len c.in_ok-opened.opened.value.frames ≡ c.len.result = search rules in
+    let grown = levels_grow u c.args.frame c.in_ok-opened.opened c.in_ok-opened.ensures in
+    λ parts. ap (r.inside parts) c.in_ok-opened.ensures
+    ∙ sym (open_under parts (r.level u.frames) 400 (r.level u.frames) _ refl (omega (arith, grown, levels, c.if-len-gt-DEEPEST_TERM.false)))
