@@ -10,7 +10,7 @@ pub mod SpelledTypes
 pub mod SpelledTerms
 pub mod CanonicalTypes
 pub mod CanonicalTerms
-pub mod Declarations
+pub mod SpelledDeclarations
 pub mod Lines
 pub mod SpelledSystem
 pub mod ReadBack

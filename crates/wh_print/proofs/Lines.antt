@@ -19,7 +19,7 @@ use Rattle.wh_print.specs.Sound.{IsSpelledTerm}
 use Rattle.wh_print.specs.Cutting.{Cutting, Any}
 use Rattle.wh_print.proofs.Pieces.{cutting_then, any_then, nothing_cut, sign_cut, space_cut, line_feed_cut, thick_arrow_cut, rule_cut}
 use Rattle.wh_print.proofs.SpelledTerms.{term_written}
-use Rattle.wh_print.proofs.Declarations.{IsSpelledOver, IsSpelledDeclaration, declared_written, sorts_written, funs_written}
+use Rattle.wh_print.proofs.SpelledDeclarations.{IsSpelledOver, IsSpelledDeclaration, declared_written, sorts_written, funs_written}
 
 -- the names that the rule number k has in the system
 abbrev metas_at : SystemData → ℕ → List (List ℕ)

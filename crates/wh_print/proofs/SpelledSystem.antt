@@ -11,7 +11,7 @@ use Rattle.wh_system.specs.CanonicalView.{names_of_rule}
 use Rattle.wh_system.proofs.CanonicalBack.{HasNames, typed_named}
 use Rattle.wh_print.proofs.CanonicalTypes.{type_spelled}
 use Rattle.wh_print.proofs.CanonicalTerms.{AreNames, term_spelled}
-use Rattle.wh_print.proofs.Declarations.{IsSpelledOver}
+use Rattle.wh_print.proofs.SpelledDeclarations.{IsSpelledOver}
 use Rattle.wh_print.proofs.Lines.{IsSpelledRule, AreSpelledRules, IsSpelledSystem}
 
 -- a type of the system is spelled as a text may have it
