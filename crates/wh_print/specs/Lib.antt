@@ -4,3 +4,5 @@ pub mod PairText
 pub mod PairViews
 pub mod Fronts
 pub mod Named
+pub mod Sound
+pub mod Cutting
