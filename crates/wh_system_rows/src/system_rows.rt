@@ -343,31 +343,6 @@ fn keeps_the_limits_of_systems(rt: HostRuntime) -> Result<(), Fail> {
 }
 
 #[test]
-fn keeps_the_size_of_sides(rt: HostRuntime) -> Result<(), Fail> {
-    let alloc = rt.alloc();
-    let given = ["show", "system"];
-    // Right sides of the sizes 65,536 and 65,537.
-    for (before, status, text) in [
-        (
-            b"sort o;fun a:o;fun d:o->o->o;fun f:o->o;fun k:(o->o)->o;rule {} a => k (\\x:o.".as_slice(),
-            Status::Answered,
-            b"SYSTEM\n".as_slice(),
-        ),
-        (
-            b"sort o;fun a:o;fun d:o->o->o;fun f:o->o;fun k:(o->o)->o;rule {} a => f (f ".as_slice(),
-            Status::Refused,
-            b"REFUSED too-many 69\n".as_slice(),
-        ),
-    ] {
-        let system = around_large(alloc, before, b");")?;
-        let (ended, out) = told(alloc, &given, system.as_slice(), b"")?;
-        assert_eq!(rt; ended.number(), status.number());
-        assert!(rt; out.bytes().starts_with(text));
-    }
-    Ok(())
-}
-
-#[test]
 fn refuses_neighbours(rt: HostRuntime) -> Result<(), Fail> {
     let given = ["show", "system"];
     for (read, refused, text) in NEIGHBOURS {
