@@ -1,9 +1,7 @@
-//! Rows of the search, run over files and a sink in memory, and rows of the calls of the method over systems that are read from texts.
+//! Rows of the search for a proof or a loop, run over files and a sink in memory.
 //!
 //! This crate has tests alone. They stand apart, so that no crate that the program is made of is proved once more with them.
 #![tactic(auto)]
 
-#[cfg(test)]
-mod method_rows;
 #[cfg(test)]
 mod prove_rows;
