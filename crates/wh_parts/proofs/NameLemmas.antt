@@ -1,32 +1,13 @@
--- The keys of a table of names, and the names.
-use Rattle.std.proofs.Common.{◌≡◌, ℕ, suc, ◌+◌, Bool, true, false, cond, not, ◌||◌, List, [], ◌∷◌, ◌++◌, map, length, Some, None, MatchBool, if◌then◌else◌, is_some, position, nat_lt, nat_eq, refl, ap, sym, ◌∙◌, subst, arith}
+-- Names in a list, by their bytes.
+use Rattle.std.proofs.Common.{◌≡◌, ℕ, suc, ◌+◌, Bool, true, false, cond, not, ◌||◌, List, [], ◌∷◌, ◌++◌, length, Some, None, MatchBool, if◌then◌else◌, is_some, nat_lt, refl, ap, sym, ◌∙◌, subst, arith}
 use native.Mathlib.Numerals.{unary_clauses}
 use Rattle.std.specs.List.{list_any, position_or_len}
 use Rattle.std.specs.Str.{bytes_eq}
-use Rattle.std.specs.Cmp.Lexicographic.{pointwise}
 use Rattle.std.proofs.lemmas.Cmp.{nat_list_eq_equiv}
-use Rattle.std.proofs.lemmas.List.{map-append}
-use Rattle.wh_parts.specs.Naming.{number_of, is_declared}
+use Rattle.std.specs.Prelude.{position}
+use Rattle.wh_parts.specs.Naming.{is_declared, number_of}
 
--- a first place is the same by keys and by names
-place-same : {K : Type 0} (f : K → List ℕ) (name : List ℕ) (ks : List K)
-    → position_or_len (λ k. pointwise nat_eq name (f k)) ks ≡ position_or_len (λ other. bytes_eq other name) (map f ks)
-place-same f name [] = refl
-place-same f name (k ∷ ks) =
-    rw (nat_list_eq_equiv.symm name (f k)) (ap (λ n. cond (not (bytes_eq (f k) name)) (1 + n) 0) (place-same f name ks))
-
-pub map_length : {K : Type 0} (f : K → List ℕ) (ks : List K) → length (map f ks) ≡ length ks
-map_length f [] = refl
-map_length f (k ∷ ks) = ap suc (map_length f ks)
-
-pub same_number : {K : Type 0} (f : K → List ℕ) (name : List ℕ) (ks : List K)
-    → position (λ k. pointwise nat_eq name (f k)) ks ≡ number_of (map f ks) name
-same_number f name ks =
-    let at = place-same f name ks in
-    let long = sym (map_length f ks) in
-    (λ i. cond (nat_lt (at i) (long i)) (Some (at i)) None)
-
--- a name is there by keys where it is there by names
+-- a name is declared where it is in the list
 
 less-step : (a b : ℕ) → nat_lt (1 + a) (suc b) ≡ nat_lt a b
 less-step a b = first_of (simp unary_clauses, grind arith)
@@ -43,29 +24,36 @@ is_some-cond : (b : Bool) (n : ℕ) → is_some (cond b (Some n) None) ≡ b
 is_some-cond true n = refl
 is_some-cond false n = refl
 
-pub same_declared : {K : Type 0} (f : K → List ℕ) (name : List ℕ) (ks : List K)
-    → is_declared (map f ks) name ≡ list_any (λ k. pointwise nat_eq name (f k)) ks
-same_declared {K} f name ks =
-    let p = λ (k : K). pointwise nat_eq name (f k) in
-    sym (ap is_some (same_number f name ks)) ∙ is_some-cond (nat_lt (position_or_len p ks) (length ks)) (position_or_len p ks) ∙ in_reach p ks
+any-turned : (name : List ℕ) (names : List (List ℕ)) → list_any (λ other. bytes_eq other name) names ≡ list_any (bytes_eq name) names
+any-turned name [] = refl
+any-turned name (other ∷ names) = λ i. nat_list_eq_equiv.symm other name i || any-turned name names i
+
+-- a name is looked up by its equality with each, from either side
+pub number_of-turned : (names : List (List ℕ)) (name : List ℕ) → position (bytes_eq name) names ≡ number_of names name
+number_of-turned names name = λ i. position (λ other. nat_list_eq_equiv.symm name other i) names
+
+pub is_declared-any : (names : List (List ℕ)) (name : List ℕ) → is_declared names name ≡ list_any (bytes_eq name) names
+is_declared-any names name =
+    let p = λ (other : List ℕ). bytes_eq other name in
+    is_some-cond (nat_lt (position_or_len p names) (length names)) (position_or_len p names) ∙ in_reach p names ∙ any-turned name names
 
 -- what `add` answers, and the names after it
 abbrev pub Added : Bool → List (List ℕ) → List ℕ → List (List ℕ) → Type 0
 Added joined old name new = MatchBool joined ((is_declared old name ≡ false) × (new ≡ old ++ name ∷ [])) ((is_declared old name ≡ true) × (new ≡ old))
 
-pub table_added : {K : Type 0} (f : K → List ℕ) (joined : Bool) (ks : List K) (news : List K) (k : K) (names : List (List ℕ)) (name : List ℕ)
-    → names ≡ map f ks → f k ≡ name → joined ≡ not (list_any (λ x. pointwise nat_eq (f k) (f x)) ks)
-    → news ≡ (if list_any (λ x. pointwise nat_eq (f k) (f x)) ks then ks else ks ++ k ∷ []) → Added joined names name (map f news)
-table_added f joined ks news k names name from is answer after = by (list_any (λ x. pointwise nat_eq (f k) (f x)) ks) refl
+pub table_added : (joined : Bool) (keys after : List (List ℕ)) (copy : List ℕ) (names : List (List ℕ)) (name : List ℕ)
+    → names ≡ keys → copy ≡ name → joined ≡ not (list_any (bytes_eq copy) keys)
+    → after ≡ (if list_any (bytes_eq copy) keys then keys else keys ++ copy ∷ []) → Added joined names name after
+table_added joined keys after copy names name from is answer put = by (list_any (bytes_eq copy) keys) refl
   where
-    known : is_declared names name ≡ list_any (λ x. pointwise nat_eq (f k) (f x)) ks
-    known = ap (λ ns. is_declared ns name) from ∙ ap (is_declared (map f ks)) (sym is) ∙ same_declared f (f k) ks
+    known : is_declared names name ≡ list_any (bytes_eq copy) keys
+    known = (λ i. is_declared (from i) (sym is i)) ∙ is_declared-any keys copy
 
-    by : (b : Bool) → list_any (λ x. pointwise nat_eq (f k) (f x)) ks ≡ b → Added joined names name (map f news)
+    by : (b : Bool) → list_any (bytes_eq copy) keys ≡ b → Added joined names name after
     by true e =
-        let no_new = answer ∙ ap not e in
-        subst (λ j. Added j names name (map f news)) (sym no_new) (known ∙ e, ap (map f) (after ∙ ap (λ b. if b then ks else ks ++ k ∷ []) e) ∙ sym from)
+        let stays = answer ∙ ap not e in
+        subst (λ j. Added j names name after) (sym stays) (known ∙ e, put ∙ ap (λ b. if b then keys else keys ++ copy ∷ []) e ∙ sym from)
     by false e =
-        let yes = answer ∙ ap not e in
-        subst (λ j. Added j names name (map f news)) (sym yes)
-        (known ∙ e, ap (map f) (after ∙ ap (λ b. if b then ks else ks ++ k ∷ []) e) ∙ map-append f ks (k ∷ []) ∙ (λ i. sym from i ++ is i ∷ []))
+        let joins = answer ∙ ap not e in
+        subst (λ j. Added j names name after) (sym joins)
+        (known ∙ e, put ∙ ap (λ b. if b then keys else keys ++ copy ∷ []) e ∙ (λ i. sym from i ++ is i ∷ []))

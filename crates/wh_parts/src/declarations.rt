@@ -84,7 +84,7 @@ pub fn declare_sorts(alloc: Global, sorts: &[RawName]) -> Result<NameTable, Or<S
     check_sort_count(sorts)?;
     let mut table = NameTable::new(alloc);
     for sort in sorts {
-        if !table.add(alloc, sort.name.bytes())? {
+        if !table.add(alloc, &sort.name)? {
             return Err(Or::Because(SystemFault::Twice { at: sort.at }));
         }
     }
@@ -123,7 +123,7 @@ fn declare_fun(
         (λ kind. type_meant sorts.now (rty fun.now.kind) ≡ Some (ty kind)) }
     ensures joined { OnOk result (names.new ≡ names.old ++ fun.now.name.name ∷ []) }
 {
-    if !names.add(alloc, fun.name.name.bytes())? {
+    if !names.add(alloc, &fun.name.name)? {
         return Err(Or::Because(SystemFault::Twice { at: fun.name.at }));
     }
     declared_type(alloc, sorts, &fun.kind)

@@ -9,11 +9,8 @@ use crate::heights::keep_low;
 use crate::offsets::offset;
 use crate::sizes::spend;
 use crate::widths::check_widths;
+use wh_terms::{MOST_HEIGHT, MOST_SIZE};
 use wh_text::RawTerm;
-
-const MOST_HEIGHT: u32 = 200;
-
-const MOST_SIZE: u32 = 65536;
 
 /// Whether the side is within the limits: spines and types have at most 32 arguments, it is at most 200 high and has at
 /// most the size 65,536. The fault is at the first argument past its limit, or else at the side.

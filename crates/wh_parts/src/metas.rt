@@ -83,11 +83,10 @@ fn join_meta(
     ensures { Passes (test (is_declared names.old name.now.name || is_declared funs.now name.now.name) (Twice name.now.at) ∷ []) result
         (λ _. names.new ≡ names.old ++ name.now.name ∷ []) }
 {
-    let bytes = name.name.bytes();
-    if funs.number(bytes).is_some() {
+    if funs.number(&name.name).is_some() {
         return Err(Or::Because(SystemFault::Twice { at: name.at }));
     }
-    if !names.add(alloc, bytes)? {
+    if !names.add(alloc, &name.name)? {
         return Err(Or::Because(SystemFault::Twice { at: name.at }));
     }
     Ok(())

@@ -63,7 +63,7 @@ pub fn resolve_type(
     ensures { Passes (sorts_of_type sorts.now (rty kind.now)) result (λ a. type_meant sorts.now (rty kind.now) ≡ Some (ty a)) }
 {
     let domains = resolve_types(alloc, sorts, &kind.args)?;
-    let Some(sort) = sorts.number(kind.sort.bytes()) else {
+    let Some(sort) = sorts.number(&kind.sort) else {
         return Err(Or::Because(SystemFault::UnknownName { at: kind.at }));
     };
     Ok(arrows(alloc, domains, SimpleType::Sort(sort))?)

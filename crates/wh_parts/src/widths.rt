@@ -10,9 +10,8 @@ ghost use Rattle.wh_parts.specs.Tests.{term_offset, width_of_term, widths_of_ter
 use crate::fault::SystemFault;
 use crate::offsets::offset;
 use crate::types::check_width;
+use wh_terms::MOST_ARGUMENTS;
 use wh_text::{RawTerm, RawTerms};
-
-const MOST_ARGUMENTS: u32 = 32;
 
 /// Whether no spine, and no type, has more than 32 arguments; the fault is at the first argument past them.
 pub fn check_widths(side: &RawTerm) -> Result<(), SystemFault>

@@ -1,8 +1,9 @@
 pub mod AnswerLemmas
-pub mod BareLemmas
 pub mod FittingLemmas
+pub mod FormLemmas
 pub mod HeadLemmas
 pub mod LookupLemmas
+pub mod MeantParts
 pub mod PlainNames
 pub mod ResolveLemmas
 pub mod ResolveWhole

@@ -13,7 +13,7 @@ use Rattle.wh_parts.specs.Kinds.{TypedBinder, binders_of}
 use Rattle.wh_resolve.specs.InScope.{typed_binder, typed, nearest}
 use Rattle.wh_resolve.specs.declared.around.Around.{Around}
 
-pub map-reverse : {X Y : Type 0} (f : X → Y) (xs : List X) → map f (reverse xs) ≡ reverse (map f xs)
+map-reverse : {X Y : Type 0} (f : X → Y) (xs : List X) → map f (reverse xs) ≡ reverse (map f xs)
 map-reverse f [] = refl
 map-reverse f (x ∷ xs) =
     ap (map f) (reverse-append (x ∷ []) xs) ∙ map-append f (reverse xs) (x ∷ []) ∙ ap (λ l. l ++ f x ∷ []) (map-reverse f xs) ∙ sym (reverse-append (f x ∷ []) (map f xs))
@@ -23,7 +23,7 @@ module _ {X Y : Type 0} (f : X → Y) (p : Y → Bool) where
   position_or_len-map [] = refl
   position_or_len-map (x ∷ xs) = ap (λ n. cond (not (p (f x))) (1 + n) 0) (position_or_len-map xs)
 
-  pub position-map : (xs : List X) → position p (map f xs) ≡ position (λ x. p (f x)) xs
+  position-map : (xs : List X) → position p (map f xs) ≡ position (λ x. p (f x)) xs
   position-map xs = ap₂ (λ n m. cond (nat_lt n m) (Some n) None) (position_or_len-map xs) (length-map xs f)
 
 -- the number of the nearest binder, in the list that has the innermost first

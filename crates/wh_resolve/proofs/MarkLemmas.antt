@@ -1,26 +1,31 @@
--- Flags of the meta-variables that occur in a left side.
-use Rattle.std.proofs.Common.{replicate, take, drop, Bor, ◌≡◌, ℕ, ◌+◌, ◌<◌, ◌≤◌, arith, List, [], ◌∷◌, ◌++◌, length, get_or, cond, Option, Some, None, Bool, true, false, not, Result, Ok, Err, OnOk, refl, ap, ap₂, sym, ◌∙◌, subst, eqb-true}
+-- Flags of the meta-variables that occur in a left side, and the meta-variables of a right side that are among them.
+use Rattle.std.proofs.Common.{replicate, take, drop, ◌≡◌, ℕ, ◌+◌, ◌<◌, ◌≤◌, arith, List, [], ◌∷◌, ◌++◌, length, get_or, cond, Option, Some, None, Bool, true, false, not, Box, Global, Result, Ok, Err, IsErrAnd, refl, ap, ap₂, sym, ◌∙◌, subst, eqb-true, append_assoc, append-nil}
 use Rattle.std.specs.Prelude.{◌==◌, ◌&&◌, ◌||◌, is_some, nat_lt, slice_set}
 use Rattle.std.specs.Str.{bytes_eq}
 use Rattle.std.proofs.lemmas.Bool.{eqb-false}
-use Rattle.std.proofs.lemmas.List.{get_or-set_same, get_or-set_other, get_or-replicate}
+use Rattle.std.proofs.lemmas.List.{get_or-set_same, get_or-set_other, get_or-replicate, drop_all}
 use Rattle.std.proofs.Math.Seq.{take-append_seam}
 use Rattle.std.proofs.lemmas.List.Quantifiers.{position-Some}
 use Rattle.std.proofs.lemmas.Slice.Eq.{bytes_eq-Decides}
 use Rattle.wh_types.specs.Ty.{Ty}
-use Rattle.wh_text.specs.RawTree.{Binder, named_binder, RTm, named, numbered, free_variable, meta, lam, spine, RTms, none, more}
-use Rattle.wh_parts.specs.declared.fault.SystemFault.TheVariants.{IllTyped, NewMeta, UnknownName}
-use Rattle.wh_parts.specs.Faults.{first_fault, first_of}
-use Rattle.wh_parts.specs.Naming.{Scope, number_of, is_declared, binder_number, type_meant}
-use Rattle.wh_parts.specs.Kinds.{TypedBinder, binders_of, declaration, kind_of, takes, gives}
-use Rattle.wh_parts.specs.Tests.{test, term_offset, count_of, arity_of, args_of, wanted_tests, sorts_of_type, naming_tests, namings_tests, applying_tests}
-use Rattle.wh_parts.specs.RuleTests.{is_plain_meta, occurs, any_occurs, new_meta_tests, new_metas_tests}
-use Rattle.wh_parts.proofs.FaultLemmas.{no_fault_in_first, no_fault_in_second, no_fault_at_test}
-use Rattle.wh_text.specs.declared.raw.RawBinder.{RawBinder}
+use Rattle.wh_types.specs.declared.simple_type.SimpleType.{SimpleType}
+use Rattle.wh_terms.specs.Tree.{Tm, bound, free, meta, lam, app, Tms, none as no_tms, more as more_tms}
+use Rattle.wh_terms.specs.Erase.{tm, tms}
+use Rattle.wh_terms.specs.declared.term.Term.{Term, Lam, App}
+use Rattle.wh_text.specs.RawTree.{RTy, Binder, named_binder, numbered_binder, RTm, named, numbered, free_variable, meta as raw_meta, lam as raw_lam, spine, RTms, none, more}
 use Rattle.wh_parts.specs.declared.fault.SystemFault.{SystemFault}
-use Rattle.wh_resolve.specs.InScope.{bare, nearest_bare}
-use Rattle.wh_resolve.proofs.BareLemmas.{nearest_bare_is}
-use Rattle.wh_resolve.specs.Marks.{flag_at, is_marked, Marks, missing_tests, missing_each}
+use Rattle.wh_parts.specs.declared.fault.SystemFault.TheVariants.{NewMeta}
+use Rattle.wh_parts.specs.Faults.{first_fault, first_of, IsFirstFault}
+use Rattle.wh_parts.specs.Naming.{Scope, number_of, is_declared, binder_number, type_meant, both, meant, all_meant, applied_meant}
+use Rattle.wh_parts.specs.Tests.{test}
+use Rattle.wh_parts.specs.RuleTests.{is_plain_meta, occurs, any_occurs, new_meta_tests, new_metas_tests}
+use Rattle.wh_parts.proofs.FaultLemmas.{fault_after, fault_in_first}
+use Rattle.wh_parts.proofs.PassLemmas.{fault_on}
+use Rattle.wh_resolve.specs.Form.{arguments_in}
+use Rattle.wh_resolve.specs.Marks.{occurs_in, occurs_in_any, Marks, is_unmarked, AreMarked, TellsNew, TellsNewEach}
+use Rattle.wh_resolve.proofs.AnswerLemmas.{first_along}
+use Rattle.wh_resolve.proofs.MeantParts.{some_same, none_some, both_parts, map_part, name_by, tms_next, body_meant, put_last, last_meant, no_lam_meant, no_app_meant}
+use Rattle.wh_resolve.proofs.PlainNames.{number_below}
 
 -- truth values
 
@@ -36,18 +41,13 @@ or-or : (a b c : Bool) → ((a || b) || c) ≡ (a || (b || c))
 or-or true b c = refl
 or-or false b c = refl
 
--- an answer that says more
-pub on_ok : {T E P Q : Type 0} (r : Result T E) → (P → Q) → OnOk r P → OnOk r Q
-on_ok (Ok x) f h = f h
-on_ok (Err e) f h = h
-
 -- one name
 
 alone-is : (b : Bool) → is_some (cond (nat_lt (cond (not b) (1 + 0) 0) 1) (Some (cond (not b) (1 + 0) 0)) None) ≡ b
 alone-is true = refl
 alone-is false = refl
 
-pub alone : (n m : List ℕ) → is_declared (n ∷ []) m ≡ bytes_eq n m
+alone : (n m : List ℕ) → is_declared (n ∷ []) m ≡ bytes_eq n m
 alone n m = alone-is (bytes_eq n m)
 
 other : (n m : List ℕ) → (n ≡ m → ⊥) → is_declared (n ∷ []) m ≡ false
@@ -67,196 +67,237 @@ named_at names n z e = (bytes_eq-Decides (get_or names z []) n).0 (position-Some
 one_name : (names : List (List ℕ)) (n m : List ℕ) (z : ℕ) → number_of names n ≡ Some z → number_of names m ≡ Some z → n ≡ m
 one_name names n m z e f = sym (named_at names n z e) ∙ named_at names m z f
 
-pub number_within : (names : List (List ℕ)) (n : List ℕ) (z : ℕ) → number_of names n ≡ Some z → z < length names
-number_within names n z e = (position-Some (λ x. bytes_eq x n) names z [] e).0
+-- names are one where their numbers are
+same_number : (names : List (List ℕ)) (n m : List ℕ) (z y : ℕ) → number_of names n ≡ Some z → number_of names m ≡ Some y → is_declared (n ∷ []) m ≡ (y == z)
+same_number names n m z y e f = go (y == z) refl
+  where
+    go : (b : Bool) → (y == z) ≡ b → is_declared (n ∷ []) m ≡ b
+    go true is = same n m (one_name names n m z e (f ∙ ap (λ k. Some k) (eqb-true y z is)))
+    go false is = other n m (λ one. eqb-false y z is (some_same (sym f ∙ ap (number_of names) (sym one) ∙ e)))
 
--- where z is the number of n, and not that of m
-unlike : (s : Scope) (n m : List ℕ) (z : ℕ) → number_of s.metas n ≡ Some z → (number_of s.metas m ≡ Some z → ⊥) → is_declared (n ∷ []) m ≡ false
-unlike s n m z at differ = other n m (λ e. differ (ap (number_of s.metas) (sym e) ∙ at))
+-- what occurs in a raw term occurs in the tree that it stands for
+
+plain-occurs : (s : Scope) (bs : List Binder) (name n : List ℕ) (z : ℕ) (t : Tm) (x y w : Option ℕ) → number_of s.metas name ≡ Some z → binder_number bs (named_binder n) ≡ x
+    → number_of s.metas n ≡ y → name_by x y w ≡ Some t → (is_plain_meta s bs n && is_declared (name ∷ []) n) ≡ occurs_in z t
+plain-occurs s bs name n z t (Some i) y w known e f m = ap (λ o. (not (is_some o) && is_declared s.metas n) && is_declared (name ∷ []) n) e ∙ ap (occurs_in z) (some_same m)
+plain-occurs s bs name n z t None (Some y) w known e f m =
+    ap₂ (λ o q. (not (is_some o) && is_some q) && is_declared (name ∷ []) n) e f ∙ same_number s.metas name n z y known f ∙ or-none (y == z) ∙ ap (occurs_in z) (some_same m)
+plain-occurs s bs name n z t None None (Some g) known e f m = ap₂ (λ o q. (not (is_some o) && is_some q) && is_declared (name ∷ []) n) e f ∙ ap (occurs_in z) (some_same m)
+plain-occurs s bs name n z t None None None known e f m = absurd (none_some m)
+
+mutual
+  occurs_meant : (s : Scope) (bs : List Binder) (name : List ℕ) (z : ℕ) (r : RTm) (t : Tm) → number_of s.metas name ≡ Some z → meant s bs r ≡ Some t → occurs s bs name r ≡ occurs_in z t
+  occurs_meant s bs name z (named n at) t known m = plain-occurs s bs name n z t (binder_number bs (named_binder n)) (number_of s.metas n) (number_of s.funs n) known refl refl m
+  occurs_meant s bs name z (numbered k at) t known m = ap (occurs_in z) (map_part bound (binder_number bs (numbered_binder k)) t m).2
+  occurs_meant s bs name z (free_variable k a at) t known m = ap (occurs_in z) (map_part (free k) (type_meant s.sorts a) t m).2
+  occurs_meant s bs name z (raw_meta n ts at) t known m =
+      let parts = both_parts meta (number_of s.metas n) (all_meant s bs ts) t m in
+      ap₂ (λ a b. a || b) (same_number s.metas name n z parts.0 known parts.2) (any-occurs s bs name z ts parts.1 known parts.3) ∙ ap (occurs_in z) parts.4
+  occurs_meant s bs name z (raw_lam x a r at) t known m =
+      let parts = both_parts lam (type_meant s.sorts a) (meant s (x ∷ bs) r) t m in
+      occurs_meant s (x ∷ bs) name z r parts.1 known parts.3 ∙ ap (occurs_in z) parts.4
+  occurs_meant s bs name z (spine h ts at) t known m =
+      let front = spine-occurs s bs name z ts (meant s bs h) t known m in
+      ap (λ b. b || any_occurs s bs name ts) (occurs_meant s bs name z h front.0 known front.1) ∙ front.2
+
+  any-occurs : (s : Scope) (bs : List Binder) (name : List ℕ) (z : ℕ) (ts : RTms) (us : Tms) → number_of s.metas name ≡ Some z → all_meant s bs ts ≡ Some us
+      → any_occurs s bs name ts ≡ occurs_in_any z us
+  any-occurs s bs name z none us known m = ap (occurs_in_any z) (some_same m)
+  any-occurs s bs name z (more r ts) us known m =
+      let parts = both_parts more_tms (meant s bs r) (all_meant s bs ts) us m in
+      ap₂ (λ a b. a || b) (occurs_meant s bs name z r parts.0 known parts.2) (any-occurs s bs name z ts parts.1 known parts.3) ∙ ap (occurs_in_any z) parts.4
+
+  spine-occurs : (s : Scope) (bs : List Binder) (name : List ℕ) (z : ℕ) (ts : RTms) (o : Option Tm) (t : Tm) → number_of s.metas name ≡ Some z → applied_meant s bs o ts ≡ Some t
+      → (u : Tm) × (o ≡ Some u) × ((occurs_in z u || any_occurs s bs name ts) ≡ occurs_in z t)
+  spine-occurs s bs name z none o t known m = (t, m, sym (or-none (occurs_in z t)))
+  spine-occurs s bs name z (more r ts) o t known m =
+      let rest = spine-occurs s bs name z ts (both app o (meant s bs r)) t known m in
+      let parts = both_parts app o (meant s bs r) rest.0 rest.1 in (
+        parts.0,
+        parts.2,
+        sym (or-or (occurs_in z parts.0) (occurs s bs name r) (any_occurs s bs name ts))
+            ∙ ap (λ b. (occurs_in z parts.0 || b) || any_occurs s bs name ts) (occurs_meant s bs name z r parts.1 known parts.3)
+            ∙ ap (λ u. occurs_in z u || any_occurs s bs name ts) parts.4 ∙ rest.2,
+      )
 
 -- flags
 
-pub set_mark : (s : Scope) (old new : List Bool) (m : List ℕ) (w : ℕ) → number_of s.metas m ≡ Some w → w < length old → new ≡ slice_set old w true
-    → Marks s old new (λ n. is_declared (n ∷ []) m)
-set_mark s old new m w at within is n z here inside = ap (λ l. get_or l z false) is ∙ go (z == w) refl
+pub set_mark : (old new : List Bool) (w : ℕ) → w < length old → new ≡ slice_set old w true → Marks old new (λ z. w == z)
+set_mark old new w within is z inside = ap (λ l. get_or l z false) is ∙ go (w == z) refl
   where
-    go : (b : Bool) → (z == w) ≡ b → get_or (slice_set old w true) z false ≡ (get_or old z false || is_declared (n ∷ []) m)
+    go : (b : Bool) → (w == z) ≡ b → get_or (slice_set old w true) z false ≡ (get_or old z false || b)
     go true e =
-        let one : z ≡ w = eqb-true z w e in
-        ap (λ k. get_or (slice_set old w true) k false) one ∙ get_or-set_same old w true false within ∙ or-held (get_or old z false)
-        ∙ ap (λ b. get_or old z false || b) (sym (same n m (one_name s.metas n m w (here ∙ ap (λ k. Some k) one) at)))
-    go false e =
-        let two : z ≡ w → ⊥ = eqb-false z w e in
-        get_or-set_other old w z true false two ∙ or-none (get_or old z false)
-        ∙ ap (λ b. get_or old z false || b) (sym (unlike s n m z here (λ f. two (some-same (sym f ∙ at)))))
-      where
-        some-same : {a b : ℕ} → Some a ≡ Some b → a ≡ b
-        some-same e = cc
+        ap (λ k. get_or (slice_set old w true) k false) (sym (eqb-true w z e)) ∙ get_or-set_same old w true false within ∙ or-held (get_or old z false)
+    go false e = get_or-set_other old w z true false (λ one. eqb-false w z e (sym one)) ∙ or-none (get_or old z false)
 
-pub past_marks : (s : Scope) (old : List Bool) (m : List ℕ) (w : ℕ) → number_of s.metas m ≡ Some w → length old ≤ w → Marks s old old (λ n. is_declared (n ∷ []) m)
-past_marks s old m w at past n z here inside =
-    or-none (get_or old z false) ∙ ap (λ b. get_or old z false || b) (sym (unlike s n m z here (λ f. apart w z (sym at ∙ f) inside past)))
+pub past_marks : (old : List Bool) (w : ℕ) → length old ≤ w → Marks old old (λ z. w == z)
+past_marks old w past z inside = or-none (get_or old z false) ∙ ap (λ b. get_or old z false || b) (sym (go (w == z) refl))
   where
-    apart : (w z : ℕ) → Some w ≡ Some z → z < length old → length old ≤ w → ⊥
-    apart w z e inside past = grind arith
+    go : (b : Bool) → (w == z) ≡ b → b ≡ false
+    go true e = let one : w ≡ z = eqb-true w z e in absurd (omega arith)
+    go false e = refl
 
-pub no_mark : (s : Scope) (old : List Bool) (m : List ℕ) → number_of s.metas m ≡ None → Marks s old old (λ n. is_declared (n ∷ []) m)
-no_mark s old m at n z here inside =
-    or-none (get_or old z false) ∙ ap (λ b. get_or old z false || b) (sym (unlike s n m z here (λ f. none-some (sym at ∙ f))))
-  where
-    none-some : {z : ℕ} → ◌≡◌ {A = Option ℕ} None (Some z) → ⊥
-    none-some e = cc
+pub marks_as : (old new : List Bool) (f g : ℕ → Bool) → ((z : ℕ) → g z ≡ f z) → Marks old new f → Marks old new g
+marks_as old new f g as_is m z inside = m z inside ∙ ap (λ b. get_or old z false || b) (sym (as_is z))
 
-pub marks_as : (s : Scope) (old new : List Bool) (f g : List ℕ → Bool) → ((n : List ℕ) → g n ≡ f n) → Marks s old new f → Marks s old new g
-marks_as s old new f g as_is m n z at inside = m n z at inside ∙ ap (λ b. get_or old z false || b) (sym (as_is n))
-
-pub marks_both : (s : Scope) (a b c : List Bool) (f g : List ℕ → Bool) → length b ≡ length a → Marks s a b f → Marks s b c g → Marks s a c (λ n. f n || g n)
-marks_both s a b c f g long m k n z at inside =
-    k n z at (subst (λ l. z < l) (sym long) inside) ∙ ap (λ x. x || g n) (m n z at inside) ∙ or-or (get_or a z false) (f n) (g n)
-
--- a plain name
-
-pub mark_free : (s : Scope) (bs : List Binder) (old new : List Bool) (m : List ℕ) (at : ℕ) → is_some (binder_number bs (named_binder m)) ≡ false
-    → Marks s old new (λ n. is_declared (n ∷ []) m) → Marks s old new (λ n. occurs s bs n (named m at))
-mark_free s bs old new m at free k n z here inside =
-    k n z here inside ∙ ap (λ b. get_or old z false || b) (sym (ap (λ b. (not b && is_declared s.metas m) && is_declared (n ∷ []) m) free ∙ go (bytes_eq n m) refl))
-  where
-    with-false : (a : Bool) → (a && false) ≡ false
-    with-false true = refl
-    with-false false = refl
-
-    go : (b : Bool) → bytes_eq n m ≡ b → (is_declared s.metas m && is_declared (n ∷ []) m) ≡ is_declared (n ∷ []) m
-    go true e =
-        let known : is_declared s.metas m ≡ true = ap (λ x. is_declared s.metas x) (sym ((bytes_eq-Decides n m).0 e)) ∙ ap is_some here in
-        ap (λ b. b && is_declared (n ∷ []) m) known
-    go false e =
-        let not_it : is_declared (n ∷ []) m ≡ false = alone n m ∙ e in
-        ap (λ b. is_declared s.metas m && b) not_it ∙ with-false (is_declared s.metas m) ∙ sym not_it
-
-pub mark_bound : (s : Scope) (bs : List Binder) (old : List Bool) (m : List ℕ) (at : ℕ) → is_some (binder_number bs (named_binder m)) ≡ true
-    → Marks s old old (λ n. occurs s bs n (named m at))
-mark_bound s bs old m at bound n z here inside =
-    or-none (get_or old z false) ∙ ap (λ b. get_or old z false || b) (sym (ap (λ b. (not b && is_declared s.metas m) && is_declared (n ∷ []) m) bound))
+pub marks_both : (a b c : List Bool) (f g : ℕ → Bool) → length b ≡ length a → Marks a b f → Marks b c g → Marks a c (λ z. f z || g z)
+marks_both a b c f g long m k z inside =
+    k z (subst (λ l. z < l) (sym long) inside) ∙ ap (λ x. x || g z) (m z inside) ∙ or-or (get_or a z false) (f z) (g z)
 
 -- terms one after another: what is marked or occurs in those left is what was marked or occurs in all
 
-abbrev pub LeftToMark : Scope → List Binder → List Bool → List Bool → RTms → RTms → Type 0
-LeftToMark s bs old now all left = (n : List ℕ) (z : ℕ) → number_of s.metas n ≡ Some z → z < length old
-    → (get_or now z false || any_occurs s bs n left) ≡ (get_or old z false || any_occurs s bs n all)
+abbrev pub LeftToMark : List Bool → List Bool → Tms → Tms → Type 0
+LeftToMark old now all left = (z : ℕ) → z < length old → (get_or now z false || occurs_in_any z left) ≡ (get_or old z false || occurs_in_any z all)
 
-pub left_marked : (s : Scope) (bs : List Binder) (old now new : List Bool) (all left rest : RTms) (t : RTm) → LeftToMark s bs old now all left → left ≡ more t rest → length now ≡ length old
-    → Marks s now new (λ n. occurs s bs n t) → LeftToMark s bs old new all rest
-left_marked s bs old now new all left rest t so_far is long m n z at inside =
-    ap (λ b. b || any_occurs s bs n rest) (m n z at (subst (λ l. z < l) (sym long) inside)) ∙ or-or (get_or now z false) (occurs s bs n t) (any_occurs s bs n rest)
-    ∙ ap (λ us. get_or now z false || any_occurs s bs n us) (sym is) ∙ so_far n z at inside
+pub left_marked : (old now new : List Bool) (xs : List Term) (i : ℕ) (t : Term) → i < length xs → t ≡ get_or xs i t → length now ≡ length old
+    → LeftToMark old now (tms xs) (tms (drop i xs)) → Marks now new (λ z. occurs_in z (tm t)) → LeftToMark old new (tms xs) (tms (drop (i + 1) xs))
+left_marked old now new xs i t within e long so_far m z inside =
+    let rest = tms (drop (i + 1) xs) in
+    ap (λ b. b || occurs_in_any z rest) (m z (subst (λ l. z < l) (sym long) inside)) ∙ or-or (get_or now z false) (occurs_in z (tm t)) (occurs_in_any z rest)
+    ∙ ap (λ us. get_or now z false || occurs_in_any z us) (sym (tms_next xs i t within e)) ∙ so_far z inside
 
-pub all_marked : (s : Scope) (bs : List Binder) (old now : List Bool) (all left : RTms) → LeftToMark s bs old now all left → left ≡ none → Marks s old now (λ n. any_occurs s bs n all)
-all_marked s bs old now all left so_far is n z at inside =
-    or-none (get_or now z false) ∙ ap (λ us. get_or now z false || any_occurs s bs n us) (sym is) ∙ so_far n z at inside
+pub all_marked : (old now : List Bool) (xs : List Term) (i : ℕ) → length xs ≤ i → LeftToMark old now (tms xs) (tms (drop i xs)) → Marks old now (λ z. occurs_in_any z (tms xs))
+all_marked old now xs i past so_far z inside =
+    or-none (get_or now z false) ∙ ap (λ ys. get_or now z false || occurs_in_any z (tms ys)) (sym (drop_all i xs past)) ∙ so_far z inside
 
--- where each name of a term stands for something, and what is known of the names of meta-variables is what occurs
-
-abbrev pub Knows : Scope → RTm → (List ℕ → Bool) → Type 0
-Knows s left known = (n : List ℕ) (z : ℕ) → number_of s.metas n ≡ Some z → known n ≡ occurs s [] n left
-
-declared-known : (s : Scope) (left : RTm) (known : List ℕ → Bool) → Knows s left known → (n : List ℕ) → is_declared s.metas n ≡ true → known n ≡ occurs s [] n left
-declared-known s left known knows n e = go (number_of s.metas n) refl
-  where
-    go : (o : Option ℕ) → number_of s.metas n ≡ o → known n ≡ occurs s [] n left
-    go (Some z) at = knows n z at
-    go None at = absurd (false-true (sym (ap is_some at) ∙ e))
-      where
-        false-true : false ≡ true → ⊥
-        false-true e = cc
-
-plain-known : (s : Scope) (left : RTm) (known : List ℕ → Bool) → Knows s left known → (bs : List Binder) (n : List ℕ)
-    → (is_plain_meta s bs n && not (known n)) ≡ (is_plain_meta s bs n && not (occurs s [] n left))
-plain-known s left known knows bs n = go (is_declared s.metas n) refl
-  where
-    never : (a x : Bool) → ((a && false) && x) ≡ false
-    never true x = refl
-    never false x = refl
-
-    go : (b : Bool) → is_declared s.metas n ≡ b → (is_plain_meta s bs n && not (known n)) ≡ (is_plain_meta s bs n && not (occurs s [] n left))
-    go true e = ap (λ k. is_plain_meta s bs n && not k) (declared-known s left known knows n e)
-    go false e =
-        let none : (x : Bool) → (is_plain_meta s bs n && x) ≡ false = λ x. ap (λ d. (not (is_some (binder_number bs (named_binder n))) && d) && x) e ∙ never (not (is_some (binder_number bs (named_binder n)))) x in
-        none (not (known n)) ∙ sym (none (not (occurs s [] n left)))
-
-not-not : (b : Bool) → not b ≡ false → b ≡ true
-not-not true e = refl
-not-not false e = absurd (cc)
-
-mutual
-  pub known_tests : (s : Scope) (left : RTm) (known : List ℕ → Bool) → Knows s left known → (bs : List TypedBinder) (t : RTm) → first_fault (naming_tests s bs t) ≡ None
-      → missing_tests s known (binders_of bs) t ≡ new_meta_tests s left (binders_of bs) t
-  known_tests s left known knows bs (named n at) p = ap (λ b. test b (NewMeta at) ∷ []) (plain-known s left known knows (binders_of bs) n)
-  known_tests s left known knows bs (numbered k at) p = refl
-  known_tests s left known knows bs (free_variable k a at) p = refl
-  known_tests s left known knows bs (meta n ts at) p =
-      let others = test (not (arity_of (declaration s n) == count_of ts)) (IllTyped at) ∷ wanted_tests s bs ts (args_of (declaration s n)) in
-      let own = no_fault_in_second (namings_tests s bs ts) (test (not (is_declared s.metas n)) (UnknownName at) ∷ others) p in
-      let named : not (is_declared s.metas n) ≡ false = (no_fault_at_test (not (is_declared s.metas n)) (UnknownName at) others own).0 in
-      ap₂ (λ b ts. test (not b) (NewMeta at) ∷ ts) (declared-known s left known knows n (not-not _ named)) (known_each s left known knows bs ts (no_fault_in_first (namings_tests s bs ts) (test (not (is_declared s.metas n)) (UnknownName at) ∷ others) p))
-  known_tests s left known knows bs (lam x a t at) p = known_tests s left known knows (record { binder = x; kind = type_meant s.sorts a } ∷ bs) t (no_fault_in_second (sorts_of_type s.sorts a) _ p)
-  known_tests s left known knows bs (spine h ts at) p =
-      ap₂ (λ us vs. us ++ vs) (known_tests s left known knows bs h (no_fault_in_first (naming_tests s bs h) _ p)) (known_arguments s left known knows bs (kind_of s bs h) ts (no_fault_in_second (naming_tests s bs h) _ p))
-
-  known_each : (s : Scope) (left : RTm) (known : List ℕ → Bool) → Knows s left known → (bs : List TypedBinder) (ts : RTms) → first_fault (namings_tests s bs ts) ≡ None
-      → missing_each s known (binders_of bs) ts ≡ new_metas_tests s left (binders_of bs) ts
-  known_each s left known knows bs none p = refl
-  known_each s left known knows bs (more t ts) p =
-      ap₂ (λ us vs. us ++ vs) (known_tests s left known knows bs t (no_fault_in_first (naming_tests s bs t) _ p)) (known_each s left known knows bs ts (no_fault_in_second (naming_tests s bs t) _ p))
-
-  known_arguments : (s : Scope) (left : RTm) (known : List ℕ → Bool) → Knows s left known → (bs : List TypedBinder) (f : Option Ty) (ts : RTms)
-      → first_fault (applying_tests s bs f ts) ≡ None → missing_each s known (binders_of bs) ts ≡ new_metas_tests s left (binders_of bs) ts
-  known_arguments s left known knows bs f none p = refl
-  known_arguments s left known knows bs f (more t ts) p =
-      let rest = no_fault_in_second (naming_tests s bs t) _ p in
-      ap₂ (λ us vs. us ++ vs) (known_tests s left known knows bs t (no_fault_in_first (naming_tests s bs t) _ p)) (known_arguments s left known knows bs (gives f) ts (no_fault_at_test (not (takes f (kind_of s bs t))) (IllTyped (term_offset t)) (applying_tests s bs (gives f) ts) rest).1)
-
--- a plain name on the right, as the walk finds it
-
-looked : (bs : List (Bor RawBinder)) (n b : List ℕ) (o : Option ℕ) (r : Bool) → b ≡ n → o ≡ nearest_bare bs (named_binder b) → r ≡ is_some o → is_some (binder_number (bare bs) (named_binder n)) ≡ r
-looked bs n b o r same at is = sym (is ∙ ap is_some (at ∙ nearest_bare_is bs (named_binder b) ∙ ap (λ m. binder_number (bare bs) (named_binder m)) same))
-
-pub bound_passes : (s : Scope) (bs : List (Bor RawBinder)) (n b : List ℕ) (o : Option ℕ) (r x : Bool) (f : SystemFault) → b ≡ n → o ≡ nearest_bare bs (named_binder b) → r ≡ is_some o → r ≡ true
-    → first_of (is_plain_meta s (bare bs) n && x) f None ≡ None
-bound_passes s bs n b o r x f same at is held = ap (λ t. first_of ((not t && is_declared s.metas n) && x) f None) (looked bs n b o r same at is ∙ held)
-
-pub undeclared_passes : (s : Scope) (bs : List Binder) (n : List ℕ) (x : Bool) (f : SystemFault) → is_declared s.metas n ≡ false → first_of (is_plain_meta s bs n && x) f None ≡ None
-undeclared_passes s bs n x f e =
-    ap (λ d. first_of ((not (is_some (binder_number bs (named_binder n))) && d) && x) f None) e ∙ ap (λ t. first_of t f None) (never (not (is_some (binder_number bs (named_binder n)))) x)
-  where
-    never : (a x : Bool) → ((a && false) && x) ≡ false
-    never true x = refl
-    never false x = refl
-
-pub plain_decides : (s : Scope) (bs : List (Bor RawBinder)) (n b : List ℕ) (o : Option ℕ) (r x : Bool) (f : SystemFault) → b ≡ n → o ≡ nearest_bare bs (named_binder b) → r ≡ is_some o → r ≡ false
-    → is_declared s.metas n ≡ true → first_of (is_plain_meta s (bare bs) n && x) f None ≡ first_of x f None
-plain_decides s bs n b o r x f same at is lacks declared =
-    ap₂ (λ t d. first_of ((not t && d) && x) f None) (looked bs n b o r same at is ∙ lacks) declared
-
-pub found_free : (bs : List (Bor RawBinder)) (n b : List ℕ) (o : Option ℕ) (r : Bool) → b ≡ n → o ≡ nearest_bare bs (named_binder b) → is_some o ≡ not r → r ≡ true
-    → is_some (binder_number (bare bs) (named_binder n)) ≡ false
-found_free bs n b o r same at is held = looked bs n b o (not r) same at (sym is) ∙ ap not held
-
-pub found_bound : (bs : List (Bor RawBinder)) (n b : List ℕ) (o : Option ℕ) (r : Bool) → b ≡ n → o ≡ nearest_bare bs (named_binder b) → is_some o ≡ not r → r ≡ false
-    → is_some (binder_number (bare bs) (named_binder n)) ≡ true
-found_bound bs n b o r same at is lacks = looked bs n b o (not r) same at (sym is) ∙ ap not lacks
-
--- what is marked is known
-pub marked_known : (s : Scope) (left : RTm) (flags : List Bool) → ((n : List ℕ) (z : ℕ) → number_of s.metas n ≡ Some z → get_or flags z false ≡ occurs s [] n left)
-    → Knows s left (is_marked s flags)
-marked_known s left flags each n z at = ap (flag_at flags) at ∙ each n z at
-
--- flags that are marked from the first on, and written back
-pub fresh_marks : (s : Scope) (left : RTm) (clean new : List Bool) (k len : ℕ) → clean ≡ replicate k false → length s.metas ≡ k → len ≡ k → length clean ≡ k → length new ≡ length clean
-    → Marks s clean new (λ n. occurs s [] n left) → (n : List ℕ) (z : ℕ) → number_of s.metas n ≡ Some z → get_or (take len (new ++ drop (length new) clean)) z false ≡ occurs s [] n left
-fresh_marks s left clean new k len is metas one whole two m n z at =
-    let inside : z < length s.metas = number_within s.metas n z at in
-    let short : z < k = omega arith in
+-- flags that are marked from clear ones on, and written back
+pub fresh_marks : (t : Tm) (clean new : List Bool) (k len : ℕ) → clean ≡ replicate k false → len ≡ k → length clean ≡ k → length new ≡ length clean → Marks clean new (λ z. occurs_in z t)
+    → (z : ℕ) → z < k → get_or (take len (new ++ drop (length new) clean)) z false ≡ occurs_in z t
+fresh_marks t clean new k len is one whole two m z short =
     let unset : get_or clean z false ≡ false = ap (λ l. get_or l z false) is ∙ get_or-replicate k z false false short in
     let back : take len (new ++ drop (length new) clean) ≡ new =
     ap (λ i. take i (new ++ drop (length new) clean)) (one ∙ sym whole ∙ sym two) ∙ take-append_seam new (drop (length new) clean) in
-    ap (λ l. get_or l z false) back ∙ m n z at (omega arith) ∙ ap (λ b. b || occurs s [] n left) unset
+    ap (λ l. get_or l z false) back ∙ m z (omega arith) ∙ ap (λ b. b || occurs_in z t) unset
+
+-- the flags of what occurs in the tree are those of what occurs in the raw left side
+pub are_marked : (s : Scope) (l : RTm) (t : Tm) (flags : List Bool) (k : ℕ) → ((z : ℕ) → z < k → get_or flags z false ≡ occurs_in z t) → meant s [] l ≡ Some t → length s.metas ≤ k
+    → AreMarked s l flags
+are_marked s l t flags k each m fits n z e =
+    let within : z < length s.metas = number_below s.metas n z e in
+    each z (omega arith) ∙ sym (occurs_meant s [] n z l t e m)
+
+-- what occurs on the right
+
+plain-new : (s : Scope) (left : RTm) (bs : List Binder) (flags : List Bool) (n : List ℕ) (t : Tm) (x y w : Option ℕ) → AreMarked s left flags → binder_number bs (named_binder n) ≡ x
+    → number_of s.metas n ≡ y → name_by x y w ≡ Some t → (is_plain_meta s bs n && not (occurs s [] n left)) ≡ is_unmarked flags t
+plain-new s left bs flags n t (Some i) y w marked e f m = ap (λ o. (not (is_some o) && is_declared s.metas n) && not (occurs s [] n left)) e ∙ ap (is_unmarked flags) (some_same m)
+plain-new s left bs flags n t None (Some y) w marked e f m =
+    ap₂ (λ o q. (not (is_some o) && is_some q) && not (occurs s [] n left)) e f ∙ ap not (sym (marked n y f)) ∙ ap (is_unmarked flags) (some_same m)
+plain-new s left bs flags n t None None (Some g) marked e f m =
+    ap₂ (λ o q. (not (is_some o) && is_some q) && not (occurs s [] n left)) e f ∙ ap (is_unmarked flags) (some_same m)
+plain-new s left bs flags n t None None None marked e f m = absurd (none_some m)
+
+pub named_new : (flags : List Bool) (t : Tm) (n : List ℕ) (at : ℕ) (result : Result (Unit {0}) SystemFault) → IsFirstFault (test (is_unmarked flags t) (NewMeta at) ∷ []) result
+    → TellsNew flags t (named n at) result
+named_new flags t n at result told s left bs marked m =
+    first_along result (test (is_unmarked flags t) (NewMeta at) ∷ []) (new_meta_tests s left bs (named n at))
+    (ap (λ b. first_of b (NewMeta at) None) (plain-new s left bs flags n t (binder_number bs (named_binder n)) (number_of s.metas n) (number_of s.funs n) marked refl refl m)) told
+
+-- a meta-variable with arguments: its own test, and those of the arguments
+own-new : (s : Scope) (left : RTm) (bs : List Binder) (flags : List Bool) (n : List ℕ) (ts : RTms) (at : ℕ) (t : Tm) → AreMarked s left flags → meant s bs (raw_meta n ts at) ≡ Some t
+    → (us : Tms) × (arguments_in t ≡ Some us) × (all_meant s bs ts ≡ Some us) × (not (occurs s [] n left) ≡ is_unmarked flags t)
+own-new s left bs flags n ts at t marked m =
+    let parts = both_parts meta (number_of s.metas n) (all_meant s bs ts) t m in
+    (parts.1, ap arguments_in (sym parts.4), parts.3, ap not (sym (marked n parts.0 parts.2)) ∙ ap (is_unmarked flags) parts.4)
+
+pub meta_new_fails : (flags : List Bool) (t : Tm) (n : List ℕ) (ts : RTms) (at : ℕ) (f : SystemFault) (result : Result (Unit {0}) SystemFault) → IsErrAnd result (λ x. x ≡ f)
+    → first_of (is_unmarked flags t) (NewMeta at) None ≡ Some f → TellsNew flags t (raw_meta n ts at) result
+meta_new_fails flags t n ts at f result is fails s left bs marked m =
+    let own = own-new s left bs flags n ts at t marked m in
+    let own_tests = test (not (occurs s [] n left)) (NewMeta at) ∷ [] in
+    fault_on (new_meta_tests s left bs (raw_meta n ts at)) result f is
+    (fault_in_first own_tests (new_metas_tests s left bs ts) f (ap (λ b. first_of b (NewMeta at) None) own.3 ∙ fails))
+
+pub meta_new : (flags : List Bool) (t : Tm) (n : List ℕ) (ts : RTms) (at : ℕ) (us : Tms) (result : Result (Unit {0}) SystemFault) → first_of (is_unmarked flags t) (NewMeta at) None ≡ None
+    → arguments_in t ≡ Some us → TellsNewEach flags us ts result → TellsNew flags t (raw_meta n ts at) result
+meta_new flags t n ts at us result passes there told s left bs marked m =
+    let own = own-new s left bs flags n ts at t marked m in
+    let own_tests = test (not (occurs s [] n left)) (NewMeta at) ∷ [] in
+    first_along result (new_metas_tests s left bs ts) (new_meta_tests s left bs (raw_meta n ts at))
+    (fault_after own_tests (new_metas_tests s left bs ts) (ap (λ b. first_of b (NewMeta at) None) own.3 ∙ passes))
+    (told s left bs marked (own.2 ∙ sym own.1 ∙ there))
+
+pub no_meta_new : (flags : List Bool) (t : Tm) (n : List ℕ) (ts : RTms) (at : ℕ) (result : Result (Unit {0}) SystemFault) → arguments_in t ≡ None → TellsNew flags t (raw_meta n ts at) result
+no_meta_new flags t n ts at result lacks s left bs marked m = absurd (none_some (sym lacks ∙ (own-new s left bs flags n ts at t marked m).1))
+
+-- an abstraction
+pub lam_new : (flags : List Bool) (t body : Tm) (k : Ty) (x : Binder) (a : RTy) (r : RTm) (at : ℕ) (result : Result (Unit {0}) SystemFault) → t ≡ lam k body → TellsNew flags body r result
+    → TellsNew flags t (raw_lam x a r at) result
+lam_new flags t body k x a r at result is told s left bs marked m = told s left (x ∷ bs) marked (body_meant s bs x a r at k body (m ∙ ap Some is))
+
+pub no_lam_new : (flags : List Bool) (t : Term) (x : Binder) (a : RTy) (r : RTm) (at : ℕ) (result : Result (Unit {0}) SystemFault)
+    → ((k : SimpleType) (b : Box Term Global) → t ≡ Lam k b → ⊥) → TellsNew flags (tm t) (raw_lam x a r at) result
+no_lam_new flags t x a r at result lacks s left bs marked m = absurd (no_lam_meant s bs t lacks x a r at m)
+
+-- a head without arguments, and one argument more
+
+pub head_new : (flags : List Bool) (t : Tm) (h : RTm) (result : Result (Unit {0}) SystemFault) → TellsNew flags t h result → TellsNew flags t (spine h none 0) result
+head_new flags t h result told s left bs marked m =
+    first_along result (new_meta_tests s left bs h) (new_meta_tests s left bs (spine h none 0)) (ap first_fault (append-nil (new_meta_tests s left bs h))) (told s left bs marked m)
+
+news-last : (s : Scope) (left : RTm) (bs : List Binder) (ts : RTms) (t : RTm) → new_metas_tests s left bs (put_last ts t) ≡ new_metas_tests s left bs ts ++ new_meta_tests s left bs t
+news-last s left bs none t = append-nil (new_meta_tests s left bs t)
+news-last s left bs (more u ts) t =
+    ap (λ us. new_meta_tests s left bs u ++ us) (news-last s left bs ts t)
+    ∙ sym (append_assoc (new_meta_tests s left bs u) (new_metas_tests s left bs ts) (new_meta_tests s left bs t))
+
+new-last : (s : Scope) (left : RTm) (bs : List Binder) (h : RTm) (ts : RTms) (t : RTm)
+    → first_fault (new_meta_tests s left bs (spine h (put_last ts t) 0)) ≡ first_fault (new_meta_tests s left bs (spine h ts 0) ++ new_meta_tests s left bs t)
+new-last s left bs h ts t =
+    ap first_fault (ap (λ us. new_meta_tests s left bs h ++ us) (news-last s left bs ts t)
+    ∙ sym (append_assoc (new_meta_tests s left bs h) (new_metas_tests s left bs ts) (new_meta_tests s left bs t)))
+
+pub last_new : (flags : List Bool) (f a : Tm) (h : RTm) (ts : RTms) (t : RTm) (result : Result (Unit {0}) SystemFault) → TellsNew flags f (spine h ts 0) (Ok tt) → TellsNew flags a t result
+    → TellsNew flags (app f a) (spine h (put_last ts t) 0) result
+last_new flags f a h ts t result before told s left bs marked m =
+    let parts = last_meant s bs h ts t 0 f a m in
+    first_along result (new_meta_tests s left bs t) (new_meta_tests s left bs (spine h (put_last ts t) 0))
+    (new-last s left bs h ts t ∙ fault_after (new_meta_tests s left bs (spine h ts 0)) (new_meta_tests s left bs t) (before s left bs marked parts.0)) (told s left bs marked parts.1)
+
+pub last_new_fails : (flags : List Bool) (f a : Tm) (h : RTm) (ts : RTms) (t : RTm) (x : SystemFault) (result : Result (Unit {0}) SystemFault) → IsErrAnd result (λ y. y ≡ x)
+    → TellsNew flags f (spine h ts 0) (Err x) → TellsNew flags (app f a) (spine h (put_last ts t) 0) result
+last_new_fails flags f a h ts t x result is told s left bs marked m =
+    let parts = last_meant s bs h ts t 0 f a m in
+    fault_on (new_meta_tests s left bs (spine h (put_last ts t) 0)) result x is
+    (new-last s left bs h ts t ∙ fault_in_first (new_meta_tests s left bs (spine h ts 0)) (new_meta_tests s left bs t) x (told s left bs marked parts.0))
+
+pub no_app_new : (flags : List Bool) (t : Term) (h : RTm) (ts : RTms) (r : RTm) (result : Result (Unit {0}) SystemFault) → ((b c : Box Term Global) → t ≡ App b c → ⊥)
+    → TellsNew flags (tm t) (spine h (put_last ts r) 0) result
+no_app_new flags t h ts r result lacks s left bs marked m = absurd (no_app_meant s bs t lacks h ts r 0 m)
+
+-- raw terms one after another
+
+more-same : (s : Scope) (bs : List Binder) (r : RTm) (rs : RTms) (t : Tm) (ts : Tms) → all_meant s bs (more r rs) ≡ Some (more_tms t ts) → (meant s bs r ≡ Some t) × (all_meant s bs rs ≡ Some ts)
+more-same s bs r rs t ts m =
+    let parts = both_parts more_tms (meant s bs r) (all_meant s bs rs) (more_tms t ts) m in
+    (parts.2 ∙ ap Some (front parts.0 t parts.1 ts parts.4), parts.3 ∙ ap Some (further parts.0 t parts.1 ts parts.4))
+  where
+    front : (t u : Tm) (ts us : Tms) → more_tms t ts ≡ more_tms u us → t ≡ u
+    front t u ts us e = cc
+
+    further : (t u : Tm) (ts us : Tms) → more_tms t ts ≡ more_tms u us → ts ≡ us
+    further t u ts us e = cc
+
+pub each_new : (flags : List Bool) (t : Tm) (ts : Tms) (r : RTm) (rs : RTms) (result : Result (Unit {0}) SystemFault) → TellsNew flags t r (Ok tt) → TellsNewEach flags ts rs result
+    → TellsNewEach flags (more_tms t ts) (more r rs) result
+each_new flags t ts r rs result before told s left bs marked m =
+    let parts = more-same s bs r rs t ts m in
+    first_along result (new_metas_tests s left bs rs) (new_metas_tests s left bs (more r rs))
+    (fault_after (new_meta_tests s left bs r) (new_metas_tests s left bs rs) (before s left bs marked parts.0)) (told s left bs marked parts.1)
+
+pub each_new_fails : (flags : List Bool) (t : Tm) (ts : Tms) (r : RTm) (rs : RTms) (x : SystemFault) (result : Result (Unit {0}) SystemFault) → IsErrAnd result (λ y. y ≡ x)
+    → TellsNew flags t r (Err x) → TellsNewEach flags (more_tms t ts) (more r rs) result
+each_new_fails flags t ts r rs x result is told s left bs marked m =
+    fault_on (new_metas_tests s left bs (more r rs)) result x is
+    (fault_in_first (new_meta_tests s left bs r) (new_metas_tests s left bs rs) x (told s left bs marked (more-same s bs r rs t ts m).0))
+
+pub none_new : (flags : List Bool) (ts : Tms) → TellsNewEach flags ts none (Ok tt)
+none_new flags ts s left bs marked m = refl
+
+pub fewer_new : (flags : List Bool) (r : RTm) (rs : RTms) (result : Result (Unit {0}) SystemFault) → TellsNewEach flags no_tms (more r rs) result
+fewer_new flags r rs result s left bs marked m =
+    let parts = both_parts more_tms (meant s bs r) (all_meant s bs rs) no_tms m in
+    absurd (never parts.0 parts.1 parts.4)
+  where
+    never : (t : Tm) (ts : Tms) → more_tms t ts ≡ no_tms → ⊥
+    never t ts e = cc

@@ -3,7 +3,6 @@ use Rattle.std.proofs.Common.{◌≡◌, ℕ, List, [], ◌∷◌, ◌++◌, Opt
 use Rattle.std.proofs.lemmas.List.{map-append}
 use Rattle.std.specs.Prelude.{option_map}
 use Rattle.wh_types.specs.Ty.{Ty}
-use Rattle.wh_types.specs.Erase.{ty, tys}
 use Rattle.wh_types.specs.declared.want.Or.{Or}
 use Rattle.wh_types.specs.declared.want.Or.TheVariants.{NoMemory, Because}
 use Rattle.wh_terms.specs.Tree.{Tm, app, Tms, none as no_tms, more as more_tms}
@@ -15,6 +14,7 @@ use Rattle.wh_parts.specs.declared.fault.SystemFault.TheVariants.{IllTyped}
 use Rattle.wh_resolve.specs.declared.around.Resolved.{Resolved}
 use Rattle.wh_resolve.specs.declared.around.ResolvedList.{ResolvedList}
 use Rattle.wh_resolve.specs.Answers.{IsResolved}
+use Rattle.wh_resolve.specs.InScope.{type_of, types_of}
 use Rattle.wh_parts.specs.Faults.{Test, first_of, first_fault}
 use Rattle.wh_parts.specs.Naming.{Scope, meant, all_meant, applied_meant, both}
 use Rattle.wh_parts.specs.Kinds.{TypedBinder, binders_of, kind_of, kinds_of, spine_kind, takes, gives, where_true}
@@ -47,26 +47,26 @@ spine-tests s bs a k c t rest at passed kind place fits given =
     ∙ ap (λ j. first_fault (applying_tests s bs j rest)) given
 
 pub spine_next : (s : Scope) (bs : List TypedBinder) (u : Option Tm) (a : Option Ty) (ts : RTms) (f x w : Resolved) (t : RTm) (left rest : RTms) (at : ℕ)
-    → SameSpine s bs u a ts (Some (tm f.term)) (Some (ty f.kind)) left → left ≡ more t rest → at ≡ term_offset t
+    → SameSpine s bs u a ts (Some (tm f.term)) (Some (type_of f.kind)) left → left ≡ more t rest → at ≡ term_offset t
     → IsResolved (naming_tests s bs t) (meant s (binders_of bs) t) (kind_of s bs t) x
-    → IsResolved (test (not (takes (Some (ty f.kind)) (Some (ty x.kind)))) (IllTyped at) ∷ []) (Some (app (tm f.term) (tm x.term))) (gives (Some (ty f.kind))) w
-    → SameSpine s bs u a ts (Some (tm w.term)) (Some (ty w.kind)) rest
+    → IsResolved (test (not (takes (Some (type_of f.kind)) (Some (type_of x.kind)))) (IllTyped at) ∷ []) (Some (app (tm f.term) (tm x.term))) (gives (Some (type_of f.kind))) w
+    → SameSpine s bs u a ts (Some (tm w.term)) (Some (type_of w.kind)) rest
 spine_next s bs u a ts f x w t left rest at same is place argument whole =
-    let fits : not (takes (Some (ty f.kind)) (Some (ty x.kind))) ≡ false = (no_fault_at_test (not (takes (Some (ty f.kind)) (Some (ty x.kind)))) (IllTyped at) [] whole.passed).0 in
-    let Here : RTms → Type 0 = λ us. SameSpine s bs u a ts (Some (tm f.term)) (Some (ty f.kind)) us in
-    let here : SameSpine s bs u a ts (Some (tm f.term)) (Some (ty f.kind)) (more t rest) = subst Here is same in
+    let fits : not (takes (Some (type_of f.kind)) (Some (type_of x.kind))) ≡ false = (no_fault_at_test (not (takes (Some (type_of f.kind)) (Some (type_of x.kind)))) (IllTyped at) [] whole.passed).0 in
+    let Here : RTms → Type 0 = λ us. SameSpine s bs u a ts (Some (tm f.term)) (Some (type_of f.kind)) us in
+    let here : SameSpine s bs u a ts (Some (tm f.term)) (Some (type_of f.kind)) (more t rest) = subst Here is same in
     record {
-      tests = here.tests ∙ spine-tests s bs (Some (ty f.kind)) (Some (ty x.kind)) (Some (ty w.kind)) t rest at argument.passed argument.kind (sym place) fits whole.kind;
+      tests = here.tests ∙ spine-tests s bs (Some (type_of f.kind)) (Some (type_of x.kind)) (Some (type_of w.kind)) t rest at argument.passed argument.kind (sym place) fits whole.kind;
       tree = here.tree ∙ ap (λ o. applied_meant s (binders_of bs) o rest) (ap (both app (Some (tm f.term))) argument.term ∙ whole.term);
       kind = here.kind ∙ ap (λ o. spine_kind s bs o rest)
-          (ap (λ k. where_true (takes (Some (ty f.kind)) k) (gives (Some (ty f.kind)))) argument.kind ∙ where-true (takes (Some (ty f.kind)) (Some (ty x.kind))) (gives (Some (ty f.kind))) fits ∙ whole.kind);
+          (ap (λ k. where_true (takes (Some (type_of f.kind)) k) (gives (Some (type_of f.kind)))) argument.kind ∙ where-true (takes (Some (type_of f.kind)) (Some (type_of x.kind))) (gives (Some (type_of f.kind))) fits ∙ whole.kind);
     }
 
 pub spine_done : (s : Scope) (bs : List TypedBinder) (u : Option Tm) (a : Option Ty) (ts : RTms) (w : Resolved) (left : RTms)
-    → SameSpine s bs u a ts (Some (tm w.term)) (Some (ty w.kind)) left → left ≡ none → IsResolved (applying_tests s bs a ts) (applied_meant s (binders_of bs) u ts) (spine_kind s bs a ts) w
+    → SameSpine s bs u a ts (Some (tm w.term)) (Some (type_of w.kind)) left → left ≡ none → IsResolved (applying_tests s bs a ts) (applied_meant s (binders_of bs) u ts) (spine_kind s bs a ts) w
 spine_done s bs u a ts w left same is =
-    let Here : RTms → Type 0 = λ us. SameSpine s bs u a ts (Some (tm w.term)) (Some (ty w.kind)) us in
-    let here : SameSpine s bs u a ts (Some (tm w.term)) (Some (ty w.kind)) none = subst Here is same in
+    let Here : RTms → Type 0 = λ us. SameSpine s bs u a ts (Some (tm w.term)) (Some (type_of w.kind)) us in
+    let here : SameSpine s bs u a ts (Some (tm w.term)) (Some (type_of w.kind)) none = subst Here is same in
     record { passed = here.tests; term = here.tree; kind = here.kind }
 
 -- the argument fails, or it does not fit
@@ -83,17 +83,17 @@ fails-test (Because x) true f rest h = h
 fails-test (Because x) false f rest h = absurd (grind arith)
 
 pub spine_fails_at : (s : Scope) (bs : List TypedBinder) (u : Option Tm) (a : Option Ty) (ts : RTms) (f x : Resolved) (t : RTm) (left rest : RTms) (at : ℕ) (e : Or SystemFault)
-    → SameSpine s bs u a ts (Some (tm f.term)) (Some (ty f.kind)) left → left ≡ more t rest → at ≡ term_offset t
+    → SameSpine s bs u a ts (Some (tm f.term)) (Some (type_of f.kind)) left → left ≡ more t rest → at ≡ term_offset t
     → IsResolved (naming_tests s bs t) (meant s (binders_of bs) t) (kind_of s bs t) x
-    → Fails (first_fault (test (not (takes (Some (ty f.kind)) (Some (ty x.kind)))) (IllTyped at) ∷ [])) e
+    → Fails (first_fault (test (not (takes (Some (type_of f.kind)) (Some (type_of x.kind)))) (IllTyped at) ∷ [])) e
     → Fails (first_fault (applying_tests s bs a ts)) e
 spine_fails_at s bs u a ts f x t left rest at e same is place argument h =
-    let b : Bool = not (takes (Some (ty f.kind)) (Some (ty x.kind))) in
-    let after : Option SystemFault = first_fault (applying_tests s bs (gives (Some (ty f.kind))) rest) in
+    let b : Bool = not (takes (Some (type_of f.kind)) (Some (type_of x.kind))) in
+    let after : Option SystemFault = first_fault (applying_tests s bs (gives (Some (type_of f.kind))) rest) in
     fails_along e (first_of b (IllTyped at) after) (first_fault (applying_tests s bs a ts))
-    (same.tests ∙ ap (λ us. first_fault (applying_tests s bs (Some (ty f.kind)) us)) is
-    ∙ fault_after (naming_tests s bs t) (test (not (takes (Some (ty f.kind)) (kind_of s bs t))) (IllTyped (term_offset t)) ∷ applying_tests s bs (gives (Some (ty f.kind))) rest) argument.passed
-    ∙ ap₂ (λ k p. first_of (not (takes (Some (ty f.kind)) k)) (IllTyped p) after) argument.kind (sym place))
+    (same.tests ∙ ap (λ us. first_fault (applying_tests s bs (Some (type_of f.kind)) us)) is
+    ∙ fault_after (naming_tests s bs t) (test (not (takes (Some (type_of f.kind)) (kind_of s bs t))) (IllTyped (term_offset t)) ∷ applying_tests s bs (gives (Some (type_of f.kind))) rest) argument.passed
+    ∙ ap₂ (λ k p. first_of (not (takes (Some (type_of f.kind)) k)) (IllTyped p) after) argument.kind (sym place))
     (fails-test e b (IllTyped at) after h)
 
 -- terms one after another: of these, the first have these trees and types, and the rest are left
@@ -144,11 +144,11 @@ append-none : (ks : List (Option Ty)) → ks ++ [] ≡ ks
 append-none [] = refl
 append-none (k ∷ ks) = ap (λ xs. k ∷ xs) (append-none ks)
 
-pub part_all : (s : Scope) (bs : List TypedBinder) (ts left : RTms) (r : ResolvedList) → Part s bs ts (tms r.trees) (tys r.kinds) left → left ≡ none → AreResolved s bs ts r
+pub part_all : (s : Scope) (bs : List TypedBinder) (ts left : RTms) (r : ResolvedList) → Part s bs ts (tms r.trees) (types_of r.kinds) left → left ≡ none → AreResolved s bs ts r
 part_all s bs ts left r part is =
-    let Here : RTms → Type 0 = λ xs. Part s bs ts (tms r.trees) (tys r.kinds) xs in
-    let here : Part s bs ts (tms r.trees) (tys r.kinds) none = subst Here is part in
-    record { passed = here.tests; trees = here.trees ∙ ap Some (join-none (tms r.trees)); kinds = here.kinds ∙ append-none (map Some (tys r.kinds)) }
+    let Here : RTms → Type 0 = λ xs. Part s bs ts (tms r.trees) (types_of r.kinds) xs in
+    let here : Part s bs ts (tms r.trees) (types_of r.kinds) none = subst Here is part in
+    record { passed = here.tests; trees = here.trees ∙ ap Some (join-none (tms r.trees)); kinds = here.kinds ∙ append-none (map Some (types_of r.kinds)) }
 
 pub part_fails : (s : Scope) (bs : List TypedBinder) (ts left rest : RTms) (us : Tms) (ks : List Ty) (t : RTm) (e : Or SystemFault) → Part s bs ts us ks left → left ≡ more t rest
     → Fails (first_fault (naming_tests s bs t)) e → Fails (first_fault (namings_tests s bs ts)) e

@@ -3,7 +3,7 @@ use Rattle.std.proofs.Common.{◌≡◌, ℕ, List, [], ◌∷◌, ◌++◌, Opt
 use Rattle.std.specs.Prelude.{option_map, ◌==◌}
 use Rattle.std.proofs.lemmas.List.{length-map}
 use Rattle.wh_types.specs.Ty.{Ty, ◌⇒◌}
-use Rattle.wh_types.specs.Erase.{ty, tys}
+use Rattle.wh_types.specs.Erase.{ty}
 use Rattle.wh_types.specs.declared.simple_type.SimpleType.{SimpleType}
 use Rattle.wh_types.specs.Outcome.{MatchOr}
 use Rattle.wh_types.specs.declared.want.Or.{Or}
@@ -17,7 +17,9 @@ use Rattle.wh_parts.specs.declared.fault.SystemFault.{SystemFault}
 use Rattle.wh_parts.specs.declared.fault.SystemFault.TheVariants.{UnknownName, IllTyped}
 use Rattle.wh_resolve.specs.declared.around.Resolved.{Resolved}
 use Rattle.wh_resolve.specs.declared.around.ResolvedList.{ResolvedList}
+use Rattle.wh_resolve.specs.declared.kind.Kind.{Kind}
 use Rattle.wh_resolve.specs.Answers.{IsResolved}
+use Rattle.wh_resolve.specs.InScope.{type_of, types_of}
 use Rattle.wh_parts.specs.Faults.{Test, first_fault}
 use Rattle.wh_parts.specs.Naming.{Scope, number_of, is_declared, type_meant, meant, applied_meant, both}
 use Rattle.wh_parts.specs.Kinds.{TypedBinder, binders_of, kind_of, kinds_of, spine_kind, declaration, meta_kind}
@@ -32,11 +34,11 @@ kinds-long : (s : Scope) (bs : List TypedBinder) (xs : List RawTerm) → length 
 kinds-long s bs [] = refl
 kinds-long s bs (x ∷ xs) = omega (arith, kinds-long s bs xs)
 
-pub kinds_long : (s : Scope) (bs : List TypedBinder) (xs : List RawTerm) (ks : List SimpleType) → kinds_of s bs (rtms xs) ≡ map Some (tys ks) → length ks ≡ length xs
+pub kinds_long : (s : Scope) (bs : List TypedBinder) (xs : List RawTerm) (ks : List Kind) → kinds_of s bs (rtms xs) ≡ map Some (types_of ks) → length ks ≡ length xs
 kinds_long s bs xs ks e =
-    let one : length (map Some (tys ks)) ≡ length xs = sym (ap length e) ∙ kinds-long s bs xs in
-    let two : length (map Some (tys ks)) ≡ length (tys ks) = length-map (tys ks) Some in
-    let three : length (tys ks) ≡ length ks = length-map ks ty in
+    let one : length (map Some (types_of ks)) ≡ length xs = sym (ap length e) ∙ kinds-long s bs xs in
+    let two : length (map Some (types_of ks)) ≡ length (types_of ks) = length-map (types_of ks) Some in
+    let three : length (types_of ks) ≡ length ks = length-map ks type_of in
     omega arith
 
 both-map : {A B : Type 0} (f : A → B → Tm) (o : Option A) (b : B) → both f o (Some b) ≡ option_map (λ a. f a b) o
@@ -63,9 +65,9 @@ pub meta_whole : (s : Scope) (bs : List TypedBinder) (u : RTm) (n : List ℕ) (t
     → AreResolved s bs ts list → ResolvesMeta s n list ts at r → ResolvesTerm s bs u r
 meta_whole s bs u n ts at list r is each h =
     let tail : List Test → List Test = λ rest. test (not (is_declared s.metas n)) (UnknownName at) ∷ test (not (arity_of (declaration s n) == count_of ts)) (IllTyped at) ∷ rest in
-    resolves_along r (applied_tests s n (tys list.kinds) ts at) (naming_tests s bs u) (option_map (λ z. meta_tree z (tms list.trees)) (number_of s.metas n)) (meant s (binders_of bs) u)
-    (meta_kind (declaration s n) (map Some (tys list.kinds))) (kind_of s bs u)
-    (ap (λ v. first_fault (naming_tests s bs v)) is ∙ fault_after (namings_tests s bs ts) (tail (wanted_tests s bs ts (args_of (declaration s n)))) each.passed ∙ ap (λ rest. first_fault (tail rest)) (wanted_are s bs ts (tys list.kinds) (args_of (declaration s n)) each.kinds))
+    resolves_along r (applied_tests s n (types_of list.kinds) ts at) (naming_tests s bs u) (option_map (λ z. meta_tree z (tms list.trees)) (number_of s.metas n)) (meant s (binders_of bs) u)
+    (meta_kind (declaration s n) (map Some (types_of list.kinds))) (kind_of s bs u)
+    (ap (λ v. first_fault (naming_tests s bs v)) is ∙ fault_after (namings_tests s bs ts) (tail (wanted_tests s bs ts (args_of (declaration s n)))) each.passed ∙ ap (λ rest. first_fault (tail rest)) (wanted_are s bs ts (types_of list.kinds) (args_of (declaration s n)) each.kinds))
     (ap (meant s (binders_of bs)) is ∙ ap (both meta_tree (number_of s.metas n)) each.trees ∙ both-map meta_tree (number_of s.metas n) (tms list.trees))
     (ap (kind_of s bs) is ∙ ap (meta_kind (declaration s n)) each.kinds) h
 
@@ -82,7 +84,7 @@ below x a bs = record { binder = x; kind = a } ∷ bs
 pub lam_whole : (s : Scope) (bs : List TypedBinder) (u t : RTm) (x : Binder) (a : RTy) (at : ℕ) (k : Ty) (body w : Resolved) → u ≡ lam x a t at
     → first_fault (sorts_of_type s.sorts a) ≡ None → type_meant s.sorts a ≡ Some k
     → IsResolved (naming_tests s (below x (Some k) bs) t) (meant s (x ∷ binders_of bs) t) (kind_of s (below x (Some k) bs) t) body
-    → tm w.term ≡ lam_tree k (tm body.term) → ty w.kind ≡ k ⇒ ty body.kind
+    → tm w.term ≡ lam_tree k (tm body.term) → type_of w.kind ≡ k ⇒ type_of body.kind
     → IsResolved (naming_tests s bs u) (meant s (binders_of bs) u) (kind_of s bs u) w
 lam_whole s bs u t x a at k body w is sorts kind inner term type =
     record {
@@ -107,10 +109,10 @@ lam_fails_in s bs u t x a at k e is sorts kind h =
 
 -- a spine
 pub spine_whole : (s : Scope) (bs : List TypedBinder) (u h : RTm) (ts : RTms) (at : ℕ) (x : Resolved) (r : Result Resolved (Or SystemFault)) → u ≡ spine h ts at
-    → IsResolved (naming_tests s bs h) (meant s (binders_of bs) h) (kind_of s bs h) x → ResolvesSpine s bs (Some (tm x.term)) (Some (ty x.kind)) ts r → ResolvesTerm s bs u r
+    → IsResolved (naming_tests s bs h) (meant s (binders_of bs) h) (kind_of s bs h) x → ResolvesSpine s bs (Some (tm x.term)) (Some (type_of x.kind)) ts r → ResolvesTerm s bs u r
 spine_whole s bs u h ts at x r is head rest =
-    resolves_along r (applying_tests s bs (Some (ty x.kind)) ts) (naming_tests s bs u) (applied_meant s (binders_of bs) (Some (tm x.term)) ts) (meant s (binders_of bs) u)
-    (spine_kind s bs (Some (ty x.kind)) ts) (kind_of s bs u)
+    resolves_along r (applying_tests s bs (Some (type_of x.kind)) ts) (naming_tests s bs u) (applied_meant s (binders_of bs) (Some (tm x.term)) ts) (meant s (binders_of bs) u)
+    (spine_kind s bs (Some (type_of x.kind)) ts) (kind_of s bs u)
     (ap (λ v. first_fault (naming_tests s bs v)) is ∙ fault_after (naming_tests s bs h) (applying_tests s bs (kind_of s bs h) ts) head.passed ∙ ap (λ k. first_fault (applying_tests s bs k ts)) head.kind)
     (ap (meant s (binders_of bs)) is ∙ ap (λ o. applied_meant s (binders_of bs) o ts) head.term)
     (ap (kind_of s bs) is ∙ ap (λ k. spine_kind s bs k ts) head.kind) rest

@@ -1,7 +1,6 @@
 -- What the answer of a pass over a rule's sides says of its tests (ours).
 use Rattle.std.specs.Prelude.{◌≡◌, List, Option, Some, None, Result}
 use Rattle.wh_types.specs.Ty.{Ty}
-use Rattle.wh_types.specs.Erase.{ty}
 use Rattle.wh_types.specs.Outcome.{MatchOr}
 use Rattle.wh_types.specs.declared.want.Or.{Or}
 use Rattle.wh_terms.specs.Tree.{Tm}
@@ -9,6 +8,7 @@ use Rattle.wh_terms.specs.Erase.{tm}
 use Rattle.wh_parts.specs.declared.fault.SystemFault.{SystemFault}
 use Rattle.wh_resolve.specs.declared.around.Resolved.{Resolved}
 use Rattle.wh_parts.specs.Faults.{Test, first_fault}
+use Rattle.wh_resolve.specs.InScope.{type_of}
 
 -- no test fails, or the fault of a pass that takes memory is that of the first that fails
 abbrev pub Reports : {T : Type 0} → List Test → Result T (Or SystemFault) → Type 0
@@ -18,7 +18,7 @@ Reports tests result = MatchOr result (λ _. first_fault tests ≡ None) (λ fau
 pub record IsResolved (tests : List Test) (u : Option Tm) (a : Option Ty) (r : Resolved) : Type 0 where
   pub passed : first_fault tests ≡ None
   pub term : u ≡ Some (tm r.term)
-  pub kind : a ≡ Some (ty r.kind)
+  pub kind : a ≡ Some (type_of r.kind)
 
 -- what stands there is resolved, or the fault is that of the first test that fails
 abbrev pub Resolves : List Test → Option Tm → Option Ty → Result Resolved (Or SystemFault) → Type 0

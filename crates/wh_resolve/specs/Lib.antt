@@ -1,4 +1,5 @@
 pub mod InScope
 pub mod Answers
 pub mod Resolving
+pub mod Form
 pub mod Marks

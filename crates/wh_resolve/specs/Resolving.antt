@@ -2,7 +2,6 @@
 use Rattle.std.specs.Prelude.{◌==◌, ◌≡◌, ℕ, not, List, [], ◌∷◌, Option, Some, None, Result, map, option_map}
 use Rattle.wh_types.specs.Ty.{Ty, same_ty}
 use Rattle.wh_types.specs.Outcome.{MatchOr}
-use Rattle.wh_types.specs.Erase.{tys}
 use Rattle.wh_types.specs.declared.want.Or.{Or}
 use Rattle.wh_terms.specs.Tree.{Tm, meta}
 use Rattle.wh_terms.specs.Erase.{tms}
@@ -12,6 +11,7 @@ use Rattle.wh_parts.specs.declared.fault.SystemFault.TheVariants.{UnknownName, I
 use Rattle.wh_resolve.specs.declared.around.Resolved.{Resolved}
 use Rattle.wh_resolve.specs.declared.around.ResolvedList.{ResolvedList}
 use Rattle.wh_resolve.specs.Answers.{Resolves}
+use Rattle.wh_resolve.specs.InScope.{types_of}
 use Rattle.wh_parts.specs.Faults.{Test, first_fault}
 use Rattle.wh_parts.specs.Naming.{Scope, number_of, is_declared, meant, all_meant, applied_meant}
 use Rattle.wh_parts.specs.Kinds.{TypedBinder, binders_of, kind_of, kinds_of, spine_kind, declaration, meta_kind}
@@ -29,7 +29,7 @@ ResolvesSpine s bs u a ts result = Resolves (applying_tests s bs a ts) (applied_
 pub record AreResolved (s : Scope) (bs : List TypedBinder) (ts : RTms) (r : ResolvedList) : Type 0 where
   pub passed : first_fault (namings_tests s bs ts) ≡ None
   pub trees : all_meant s (binders_of bs) ts ≡ Some (tms r.trees)
-  pub kinds : kinds_of s bs ts ≡ map Some (tys r.kinds)
+  pub kinds : kinds_of s bs ts ≡ map Some (types_of r.kinds)
 
 -- the answer for terms one after another
 abbrev pub ResolvesEach : Scope → List TypedBinder → RTms → Result ResolvedList (Or SystemFault) → Type 0
@@ -49,5 +49,5 @@ applied_tests s n given ts at =
 -- the answer for a meta-variable with resolved arguments
 abbrev pub ResolvesMeta : Scope → List ℕ → ResolvedList → RTms → ℕ → Result Resolved (Or SystemFault) → Type 0
 ResolvesMeta s n list ts at result =
-    Resolves (applied_tests s n (tys list.kinds) ts at) (option_map (λ z. meta z (tms list.trees)) (number_of s.metas n))
-    (meta_kind (declaration s n) (map Some (tys list.kinds))) result
+    Resolves (applied_tests s n (types_of list.kinds) ts at) (option_map (λ z. meta z (tms list.trees)) (number_of s.metas n))
+    (meta_kind (declaration s n) (map Some (types_of list.kinds))) result

@@ -1,8 +1,9 @@
 //! What the walk over a side passes on.
 
-use wh_terms::{Term, Terms, Types};
+use crate::kind::Kind;
+use wh_terms::{Term, Terms};
 use wh_text::RawBinder;
-use wh_types::SimpleType;
+use wh_types::{List, SimpleType};
 
 /// A binder around the place of a walk, with the type of its variable.
 #[derive(Drop)]
@@ -15,18 +16,18 @@ pub struct Around<'a> {
 
 /// What a raw term stands for, and its type.
 #[derive(Drop)]
-pub struct Resolved {
+pub struct Resolved<'a> {
     /// The term.
     pub term: Term,
     /// Its type.
-    pub kind: SimpleType,
+    pub kind: Kind<'a>,
 }
 
 /// What raw terms stand for, one after another, and their types.
 #[derive(Drop)]
-pub struct ResolvedList {
+pub struct ResolvedList<'a> {
     /// The terms.
     pub trees: Terms,
     /// Their types.
-    pub kinds: Types,
+    pub kinds: List<Kind<'a>>,
 }

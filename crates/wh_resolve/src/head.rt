@@ -1,41 +1,38 @@
 //! The head of a left side, and how many arguments it has.
 
-ghost use Rattle.std.specs.Prelude.{◌≡◌, ◌≤◌, Some, None, MatchResult};
+ghost use Rattle.std.specs.Prelude.{◌≡◌, ◌≤◌, [], Some, None, MatchResult};
+ghost use Rattle.wh_terms.specs.Erase.{tm};
 ghost use Rattle.wh_text.specs.Erase.{rtm};
-ghost use Rattle.wh_resolve.specs.InScope.{scope as in_scope};
+ghost use Rattle.wh_resolve.specs.Form.{symbol_of};
+ghost use Rattle.wh_parts.specs.Naming.{Scope, meant};
 ghost use Rattle.wh_parts.specs.RuleTests.{head_symbol};
 ghost use Rattle.wh_parts.specs.Tests.{arguments_of, raw_size, term_offset};
 ghost use Rattle.wh_parts.specs.declared.fault.SystemFault.TheVariants.{HeadNotFun};
 
-use crate::scope::Scope;
 use wh_parts::{SystemFault, offset};
+use wh_terms::Term;
 use wh_text::RawTerm;
 
-/// The symbol that heads a left side; the fault is at the side, where none does.
-pub fn head_of(scope: &Scope, left: &RawTerm) -> Result<u32, SystemFault>
-    ensures { MatchResult result (λ fun. head_symbol (in_scope scope.now) (rtm left.now) ≡ Some fun)
-        (λ fault. (head_symbol (in_scope scope.now) (rtm left.now) ≡ None) × (fault ≡ HeadNotFun (term_offset (rtm left.now)))) }
+/// The symbol that heads a left side, which stands for the term; the fault is at the side, where none does.
+pub fn head_of(left: &Term, raw: &RawTerm) -> Result<u32, SystemFault>
+    ensures { (s : Scope) → meant s [] (rtm raw.now) ≡ Some (tm left.now)
+        → MatchResult result (λ fun. head_symbol s (rtm raw.now) ≡ Some fun)
+        (λ fault. (head_symbol s (rtm raw.now) ≡ None) × (fault ≡ HeadNotFun (term_offset (rtm raw.now)))) }
 {
-    match symbol_of(scope, left) {
+    match symbol_of(left) {
         Some(fun) => Ok(fun),
-        None => Err(SystemFault::HeadNotFun { at: offset(left) }),
+        None => Err(SystemFault::HeadNotFun { at: offset(raw) }),
     }
 }
 
 // The symbol that heads a term, if one does.
-fn symbol_of(scope: &Scope, term: &RawTerm) -> Option<u32>
-    ensures { result ≡ head_symbol (in_scope scope.now) (rtm term.now) }
+fn symbol_of(term: &Term) -> Option<u32>
+    ensures { result ≡ symbol_of (tm term.now) }
 {
     match term {
-        RawTerm::Named(name, _) => {
-            if scope.metas.number(name.bytes()).is_some() {
-                None
-            } else {
-                scope.funs.number(name.bytes())
-            }
-        }
-        RawTerm::Spine(head, _, _) => symbol_of(scope, head),
-        _ => None,
+        Term::Fun(fun) => Some(*fun),
+        Term::App(function, _) => symbol_of(function),
+        Term::Bound(_) | Term::Free(_, _) | Term::Meta(_, _) | Term::Lam(_, _) => None,
     }
 }
 

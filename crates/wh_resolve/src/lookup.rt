@@ -9,6 +9,7 @@ ghost use Rattle.wh_resolve.specs.InScope.{nearest, typed};
 ghost use Rattle.wh_parts.specs.Naming.{same_binder};
 
 use crate::around::{Around, Resolved};
+use crate::kind::Kind;
 use std::alloc::Global;
 use wh_parts::SystemFault;
 use wh_terms::Term;
@@ -57,11 +58,11 @@ pub fn is_numbered(binder: &RawBinder, number: u32) -> bool
 
 /// The variable of the binder of that number, counted from the innermost. Where the number does not fit the numbers of
 /// terms there are more binders than memory holds.
-pub fn variable_of(
+pub fn variable_of<'a>(
     alloc: Global,
     passed: &[Around],
     number: usize,
-) -> Result<Resolved, Or<SystemFault>>
+) -> Result<Resolved<'a>, Or<SystemFault>>
     requires { number < length passed.now }
     ensures { Resolves [] (Some (bound number)) (slice_index_or (map (λ b. b.kind) (typed passed.now)) number None) result }
 {
@@ -71,6 +72,6 @@ pub fn variable_of(
     let nearest = &passed[passed.len() - 1 - number];
     Ok(Resolved {
         term: Term::Bound(outward),
-        kind: nearest.kind.copy(alloc)?,
+        kind: Kind::Own(nearest.kind.copy(alloc)?),
     })
 }

@@ -1,199 +1,173 @@
-//! The meta-variables of a right side: each occurs in the left side. One walk over the left side marks what occurs
-//! there, and one over the right side looks at the marks.
+//! The meta-variables of a right side: each occurs in the left side. One walk over the term that the left side stands for
+//! marks what occurs there. One over that of the right side looks at the marks; beside it the raw right side tells where a
+//! fault is.
 
-ghost use Rattle.std.specs.Prelude.{◌≡◌, ◌∷◌, ◌<◌, ℕ, List, [], Some, None, false, IfOk, OnOk, length, slice_index_or};
+ghost use Rattle.std.specs.Prelude.{◌≡◌, ◌<◌, ◌≤◌, ◌∷◌, ◌==◌, ℕ, [], Some, false, IfOk, length, slice_index_or};
+ghost use Rattle.wh_terms.specs.Erase.{tm, tms};
 ghost use Rattle.wh_text.specs.Erase.{rtm, rtms};
-ghost use Rattle.wh_text.specs.RawTree.{named};
+ghost use Rattle.wh_text.specs.RawTree.{RTm, spine};
 ghost use Rattle.wh_resolve.specs.Answers.{Reports};
-ghost use Rattle.wh_resolve.specs.InScope.{scope as in_scope, bare};
-ghost use Rattle.wh_resolve.specs.Marks.{Marks, is_marked, missing_each, missing_tests};
-ghost use Rattle.wh_parts.specs.Faults.{IsFirstFault, first_fault};
-ghost use Rattle.wh_parts.specs.Naming.{is_declared, number_of};
-ghost use Rattle.wh_parts.specs.RuleTests.{any_occurs, new_meta_tests, occurs};
-ghost use Rattle.wh_parts.specs.Tests.{naming_tests, test};
+ghost use Rattle.wh_resolve.specs.Marks.{Marks, TellsNew, TellsNewEach, is_unmarked, occurs_in, occurs_in_any};
+ghost use Rattle.wh_parts.specs.Faults.{IsFirstFault};
+ghost use Rattle.wh_parts.specs.Naming.{Scope, meant};
+ghost use Rattle.wh_parts.specs.RuleTests.{new_meta_tests};
+ghost use Rattle.wh_parts.specs.Tests.{test};
 ghost use Rattle.wh_parts.specs.declared.fault.SystemFault.TheVariants.{NewMeta};
 
-use crate::form::bare_named;
-use crate::scope::Scope;
+use crate::parts::meta_arguments;
 use std::alloc::{AllocError, Global};
 use wh_parts::SystemFault;
-use wh_text::{Name, RawBinder, RawTerm, RawTerms};
+use wh_terms::{Term, Terms};
+use wh_text::RawTerm;
 use wh_types::Or;
 
-/// Whether each meta-variable of the right side, whose names all stand for something, occurs in the left side; the
-/// fault is at the first occurrence of one that does not.
+/// Whether each meta-variable of the right side occurs in the left side; the fault is at the first occurrence of one that
+/// does not. The sides stand for the terms `left` and `right`, `raw` is the right one as it is written, and the rule has
+/// at most `metas` meta-variables.
 pub fn check_new_metas(
     alloc: Global,
-    scope: &Scope,
-    left: &RawTerm,
-    right: &RawTerm,
+    metas: usize,
+    left: &Term,
+    right: &Term,
+    raw: &RawTerm,
 ) -> Result<(), Or<SystemFault>>
-    requires { first_fault (naming_tests (in_scope scope.now) [] (rtm right.now)) ≡ None }
-    ensures { Reports (new_meta_tests (in_scope scope.now) (rtm left.now) [] (rtm right.now)) result }
+    ensures { (s : Scope) (l : RTm) → meant s [] l ≡ Some (tm left.now) → meant s [] (rtm raw.now) ≡ Some (tm right.now)
+        → length s.metas ≤ metas → Reports (new_meta_tests s l [] (rtm raw.now)) result }
 {
-    let marks = marks_of(alloc, scope, left)?;
-    let mut binders = Vec::new(alloc);
-    check_marked(scope, &marks, &mut binders, right)
+    let marks = marks_of(alloc, metas, left)?;
+    check_marked(&marks, right, raw)?;
+    Ok(())
 }
 
 // A flag for each meta-variable of the rule: whether it occurs in the left side.
-fn marks_of(alloc: Global, scope: &Scope, left: &RawTerm) -> Result<Vec<bool>, AllocError>
-    ensures { IfOk result (λ flags. (n : List ℕ) (z : ℕ) → number_of (in_scope scope.now).metas n ≡ Some z
-        → slice_index_or flags.items z false ≡ occurs (in_scope scope.now) [] n (rtm left.now)) }
+fn marks_of(alloc: Global, metas: usize, left: &Term) -> Result<Vec<bool>, AllocError>
+    ensures { IfOk result (λ flags. (z : ℕ) → z < metas → slice_index_or flags.items z false ≡ occurs_in z (tm left.now)) }
 {
-    let mut marks = vec![in alloc; false; scope.declared.as_slice().len()]?;
-    let mut binders = Vec::new(alloc);
-    mark_term(scope, &mut binders, left, &mut marks)?;
+    let mut marks = vec![in alloc; false; metas]?;
+    mark_term(left, &mut marks);
     Ok(marks)
 }
 
-// Marks the meta-variables of a term below these binders, the innermost last.
+// Marks the meta-variables of a term.
 #[cycle(marking)]
-fn mark_term<'a>(
-    scope: &Scope,
-    binders: &mut Vec<&'a RawBinder>,
-    term: &'a RawTerm,
-    marks: &mut [bool],
-) -> Result<(), AllocError>
-    ensures marked { OnOk result (Marks (in_scope scope.now) marks.old marks.new
-        (λ n. occurs (in_scope scope.now) (bare binders.old.items) n (rtm term.now))) }
-    ensures kept { OnOk result (binders.new.items ≡ binders.old.items) }
+fn mark_term(term: &Term, marks: &mut [bool])
+    ensures { Marks marks.old marks.new (λ z. occurs_in z (tm term.now)) }
 {
     match term {
-        RawTerm::Named(name, _) => {
-            if bare_named(binders, name.bytes()).is_none() {
-                mark(scope, name, marks);
-            }
-            Ok(())
+        Term::Meta(number, items) => {
+            mark(*number, marks);
+            mark_each(items, marks);
         }
-        RawTerm::Meta(name, items, _) => {
-            mark(scope, name, marks);
-            mark_each(scope, binders, items, marks)
+        Term::Lam(_, body) => mark_term(body, marks),
+        Term::App(function, argument) => {
+            mark_term(function, marks);
+            mark_term(argument, marks);
         }
-        RawTerm::Lam(binder, _, body, _) => {
-            binders.push(binder)?;
-            mark_term(scope, binders, body, marks)?;
-            let _ = binders.pop();
-            Ok(())
-        }
-        RawTerm::Spine(head, items, _) => {
-            mark_term(scope, binders, head, marks)?;
-            mark_each(scope, binders, items, marks)
-        }
-        RawTerm::Numbered(_, _) | RawTerm::Free(_, _, _) => Ok(()),
+        Term::Bound(_) | Term::Free(_, _) | Term::Fun(_) => {}
     }
 }
 
 // The same of terms, one after another.
 #[cycle(marking)]
-fn mark_each<'a>(
-    scope: &Scope,
-    binders: &mut Vec<&'a RawBinder>,
-    items: &'a RawTerms,
-    marks: &mut [bool],
-) -> Result<(), AllocError>
-    ensures marked { OnOk result (Marks (in_scope scope.now) marks.old marks.new
-        (λ n. any_occurs (in_scope scope.now) (bare binders.old.items) n (rtms items.now))) }
-    ensures kept { OnOk result (binders.new.items ≡ binders.old.items) }
+fn mark_each(items: &Terms, marks: &mut [bool])
+    ensures { Marks marks.old marks.new (λ z. occurs_in_any z (tms items.now)) }
 {
     for item in items.as_slice() {
-        mark_term(scope, binders, item, marks)?;
+        mark_term(item, marks);
     }
-    Ok(())
 }
 
-// Marks the meta-variable of the name, if the rule has it.
-fn mark(scope: &Scope, name: &Name, marks: &mut [bool])
-    ensures { Marks (in_scope scope.now) marks.old marks.new (λ n. is_declared (n ∷ []) name.now) }
+// Marks the meta-variable with the number, if it has a flag.
+fn mark(number: u32, marks: &mut [bool])
+    ensures { Marks marks.old marks.new (λ z. number == z) }
 {
-    let Some(number) = scope.metas.number(name.bytes()) else {
-        return;
-    };
     let index = number as usize;
     if index < marks.len() {
         marks[index] = true;
     }
 }
 
-// Whether the meta-variable of the name is marked.
-fn is_in(scope: &Scope, marks: &[bool], name: &Name) -> bool
-    ensures { result ≡ is_marked (in_scope scope.now) marks.now name.now }
-{
-    match scope.metas.number(name.bytes()) {
-        Some(number) => marks.get(number as usize).copied().unwrap_or(false),
-        None => false,
-    }
-}
-
-// Whether each meta-variable of a term below these binders is marked; the fault is at the first one that is not.
+// Whether each meta-variable of a raw term, which stands for the term below any binders, is marked; the fault is at the
+// first one that is not.
 #[cycle(marked)]
-fn check_marked<'a>(
-    scope: &Scope,
-    marks: &[bool],
-    binders: &mut Vec<&'a RawBinder>,
-    term: &'a RawTerm,
-) -> Result<(), Or<SystemFault>>
-    ensures told { Reports (missing_tests (in_scope scope.now) (is_marked (in_scope scope.now) marks.now) (bare binders.old.items)
-        (rtm term.now)) result }
-    ensures kept { OnOk result (binders.new.items ≡ binders.old.items) }
+fn check_marked(marks: &[bool], term: &Term, raw: &RawTerm) -> Result<(), SystemFault>
+    ensures { TellsNew marks.now (tm term.now) (rtm raw.now) result }
 {
-    match term {
-        RawTerm::Named(name, at) => Ok(check_name(scope, marks, binders, name, *at)?),
-        RawTerm::Meta(name, items, at) => {
-            if !is_in(scope, marks, name) {
-                return Err(Or::Because(SystemFault::NewMeta { at: *at }));
-            }
-            check_each_marked(scope, marks, binders, items)
+    match raw {
+        RawTerm::Named(_, at) => check_mark(marks, term, *at),
+        RawTerm::Meta(_, items, at) => {
+            check_mark(marks, term, *at)?;
+            let Some(arguments) = meta_arguments(term) else {
+                return Ok(());
+            };
+            check_each_marked(marks, arguments, items.as_slice())
         }
-        RawTerm::Lam(binder, _, body, _) => {
-            binders.push(binder)?;
-            check_marked(scope, marks, binders, body)?;
-            let _ = binders.pop();
-            Ok(())
+        RawTerm::Lam(_, _, inner, _) => {
+            let Term::Lam(_, body) = term else {
+                return Ok(());
+            };
+            check_marked(marks, body, inner)
         }
         RawTerm::Spine(head, items, _) => {
-            check_marked(scope, marks, binders, head)?;
-            check_each_marked(scope, marks, binders, items)
+            check_applied_marked(marks, term, head, items.as_slice())
         }
         RawTerm::Numbered(_, _) | RawTerm::Free(_, _, _) => Ok(()),
     }
 }
 
-// The same of terms, one after another.
+// The same of a head that is applied to the items: the last one is the argument of the term.
 #[cycle(marked)]
-fn check_each_marked<'a>(
-    scope: &Scope,
+fn check_applied_marked(
     marks: &[bool],
-    binders: &mut Vec<&'a RawBinder>,
-    items: &'a RawTerms,
-) -> Result<(), Or<SystemFault>>
-    ensures told { Reports (missing_each (in_scope scope.now) (is_marked (in_scope scope.now) marks.now) (bare binders.old.items)
-        (rtms items.now)) result }
-    ensures kept { OnOk result (binders.new.items ≡ binders.old.items) }
+    term: &Term,
+    head: &RawTerm,
+    items: &[RawTerm],
+) -> Result<(), SystemFault>
+    ensures { TellsNew marks.now (tm term.now) (spine (rtm head.now) (rtms items.now) 0) result }
 {
-    for item in items.as_slice() {
-        check_marked(scope, marks, binders, item)?;
+    let Some((last, front)) = items.split_last() else {
+        return check_marked(marks, term, head);
+    };
+    let Term::App(function, argument) = term else {
+        return Ok(());
+    };
+    check_applied_marked(marks, function, head, front)?;
+    check_marked(marks, argument, last)
+}
+
+// The same of raw terms one after another, which stand for the terms.
+#[cycle(marked)]
+fn check_each_marked(marks: &[bool], terms: &[Term], items: &[RawTerm]) -> Result<(), SystemFault>
+    ensures { TellsNewEach marks.now (tms terms.now) (rtms items.now) result }
+{
+    let Some((item, further)) = items.split_first() else {
+        return Ok(());
+    };
+    let Some((term, others)) = terms.split_first() else {
+        return Ok(());
+    };
+    check_marked(marks, term, item)?;
+    check_each_marked(marks, others, further)
+}
+
+// Whether the term, which stands at `at`, is no meta-variable without a mark.
+fn check_mark(marks: &[bool], term: &Term, at: u32) -> Result<(), SystemFault>
+    ensures { IsFirstFault (test (is_unmarked marks.now (tm term.now)) (NewMeta at) ∷ []) result }
+{
+    if is_unmarked(marks, term) {
+        return Err(SystemFault::NewMeta { at });
     }
     Ok(())
 }
 
-// The same of a plain name.
-fn check_name(
-    scope: &Scope,
-    marks: &[bool],
-    binders: &[&RawBinder],
-    name: &Name,
-    at: u32,
-) -> Result<(), SystemFault>
-    ensures { IsFirstFault (missing_tests (in_scope scope.now) (is_marked (in_scope scope.now) marks.now) (bare binders.now)
-        (named name.now at)) result }
+// Whether the term is a meta-variable without a mark.
+fn is_unmarked(marks: &[bool], term: &Term) -> bool
+    ensures { result ≡ is_unmarked marks.now (tm term.now) }
 {
-    if bare_named(binders, name.bytes()).is_some() || scope.metas.number(name.bytes()).is_none() {
-        return Ok(());
-    }
-    if is_in(scope, marks, name) {
-        Ok(())
-    } else {
-        Err(SystemFault::NewMeta { at })
+    match term {
+        Term::Meta(number, _) => !marks.get(*number as usize).copied().unwrap_or(false),
+        Term::Bound(_) | Term::Free(_, _) | Term::Fun(_) | Term::Lam(_, _) | Term::App(_, _) => {
+            false
+        }
     }
 }

@@ -10,7 +10,7 @@ ghost use Rattle.wh_text.specs.Erase.{rtm, rty, rtms, rbinder};
 ghost use Rattle.wh_text.specs.RawTree.{named, numbered, free_variable, lam as raw_lam};
 ghost use Rattle.wh_resolve.specs.Answers.{Resolves};
 ghost use Rattle.wh_parts.specs.Faults.{IsFirstFault, first_fault};
-ghost use Rattle.wh_resolve.specs.InScope.{scope as in_scope, typed};
+ghost use Rattle.wh_resolve.specs.InScope.{scope as in_scope, type_of, typed};
 ghost use Rattle.wh_parts.specs.Kinds.{kind_of, takes, gives};
 ghost use Rattle.wh_parts.specs.Naming.{meant};
 ghost use Rattle.wh_resolve.specs.Resolving.{ResolvesTerm, ResolvesSpine, ResolvesEach, ResolvesMeta, fitting_tests};
@@ -18,13 +18,14 @@ ghost use Rattle.wh_parts.specs.Tests.{naming_tests, test};
 ghost use Rattle.wh_parts.specs.declared.fault.SystemFault.TheVariants.{IllTyped};
 
 use crate::around::{Around, Resolved, ResolvedList};
+use crate::kind::Kind;
 use crate::resolve_parts::{abstracted, applied, applied_meta, resolve_name, resolve_numbered};
 use crate::scope::Scope;
 use std::alloc::Global;
 use wh_parts::{SystemFault, offset, resolve_type};
-use wh_terms::{Term, Terms, Types};
+use wh_terms::{Term, Terms};
 use wh_text::{RawBinder, RawTerm, RawTerms};
-use wh_types::{Or, SimpleType};
+use wh_types::{List, Or, SimpleType};
 
 /// The term that a side stands for, and its type. The fault is that of the first test of names and types that fails,
 /// inner terms before outer ones and left before right.
@@ -40,17 +41,17 @@ pub fn resolve_side(
 {
     let mut passed = Vec::new(alloc);
     let Resolved { term, kind } = resolve_under(alloc, scope, &mut passed, side)?;
-    Ok((term, kind))
+    Ok((term, kind.into_type(alloc)?))
 }
 
 // The same below the binders passed, the innermost last.
 #[cycle(resolve)]
-fn resolve_under<'a>(
+fn resolve_under<'a, 'b>(
     alloc: Global,
-    scope: &Scope,
+    scope: &Scope<'b>,
     passed: &mut Vec<Around<'a>>,
     term: &'a RawTerm,
-) -> Result<Resolved, Or<SystemFault>>
+) -> Result<Resolved<'b>, Or<SystemFault>>
     ensures told { ResolvesTerm (in_scope scope.now) (typed passed.old.items) (rtm term.now) result }
     ensures kept { OnOk result (passed.new.items ≡ passed.old.items) }
 {
@@ -59,7 +60,7 @@ fn resolve_under<'a>(
         RawTerm::Numbered(number, at) => resolve_numbered(alloc, scope, passed, *number, *at),
         RawTerm::Free(number, kind, _) => Ok(Resolved {
             term: Term::Free(*number, resolve_type(alloc, scope.sorts, kind)?),
-            kind: resolve_type(alloc, scope.sorts, kind)?,
+            kind: Kind::Own(resolve_type(alloc, scope.sorts, kind)?),
         }),
         RawTerm::Meta(name, items, at) => {
             let list = resolve_each(alloc, scope, passed, items)?;
@@ -79,14 +80,14 @@ fn resolve_under<'a>(
 
 // The same below one binder more, whose variable has the type `kind`.
 #[cycle(resolve)]
-fn resolve_below<'a>(
+fn resolve_below<'a, 'b>(
     alloc: Global,
-    scope: &Scope,
+    scope: &Scope<'b>,
     passed: &mut Vec<Around<'a>>,
     binder: &'a RawBinder,
     kind: SimpleType,
     body: &'a RawTerm,
-) -> Result<Resolved, Or<SystemFault>>
+) -> Result<Resolved<'b>, Or<SystemFault>>
     ensures told { ResolvesTerm (in_scope scope.now) (record { binder = rbinder binder.now; kind = Some (ty kind) }
         ∷ typed passed.old.items) (rtm body.now) result }
     ensures kept { OnOk result (passed.new.items ≡ passed.old.items) }
@@ -99,17 +100,17 @@ fn resolve_below<'a>(
 
 // The same of terms one after another.
 #[cycle(resolve)]
-fn resolve_each<'a>(
+fn resolve_each<'a, 'b>(
     alloc: Global,
-    scope: &Scope,
+    scope: &Scope<'b>,
     passed: &mut Vec<Around<'a>>,
     items: &'a RawTerms,
-) -> Result<ResolvedList, Or<SystemFault>>
+) -> Result<ResolvedList<'b>, Or<SystemFault>>
     ensures told { ResolvesEach (in_scope scope.now) (typed passed.old.items) (rtms items.now) result }
     ensures kept { OnOk result (passed.new.items ≡ passed.old.items) }
 {
     let mut trees = Terms::new(alloc)?;
-    let mut kinds = Types::new(alloc)?;
+    let mut kinds = List::new(alloc)?;
     for item in items.as_slice() {
         let Resolved { term, kind } = resolve_under(alloc, scope, passed, item)?;
         trees.push(term)?;
@@ -120,14 +121,14 @@ fn resolve_each<'a>(
 
 // The head, applied to the arguments from the left.
 #[cycle(resolve)]
-fn resolve_applied<'a>(
+fn resolve_applied<'a, 'b>(
     alloc: Global,
-    scope: &Scope,
+    scope: &Scope<'b>,
     passed: &mut Vec<Around<'a>>,
-    head: Resolved,
+    head: Resolved<'b>,
     items: &'a RawTerms,
-) -> Result<Resolved, Or<SystemFault>>
-    ensures told { ResolvesSpine (in_scope scope.now) (typed passed.old.items) (Some (tm head.term)) (Some (ty head.kind))
+) -> Result<Resolved<'b>, Or<SystemFault>>
+    ensures told { ResolvesSpine (in_scope scope.now) (typed passed.old.items) (Some (tm head.entry.term)) (Some (type_of head.entry.kind))
         (rtms items.now) result }
     ensures kept { OnOk result (passed.new.items ≡ passed.old.items) }
 {

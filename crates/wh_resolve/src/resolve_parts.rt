@@ -9,13 +9,14 @@ ghost use Rattle.wh_text.specs.Erase.{rtms};
 ghost use Rattle.wh_text.specs.RawTree.{named, numbered};
 ghost use Rattle.wh_resolve.specs.Answers.{Resolves};
 ghost use Rattle.wh_parts.specs.Faults.{IsFirstFault};
-ghost use Rattle.wh_resolve.specs.InScope.{scope as in_scope, typed};
+ghost use Rattle.wh_resolve.specs.InScope.{scope as in_scope, type_of, typed, types_of};
 ghost use Rattle.wh_parts.specs.Kinds.{takes, gives};
 ghost use Rattle.wh_resolve.specs.Resolving.{ResolvesTerm, ResolvesMeta, fitting_tests};
 ghost use Rattle.wh_parts.specs.Tests.{test};
 ghost use Rattle.wh_parts.specs.declared.fault.SystemFault.TheVariants.{IllTyped};
 
 use crate::around::{Around, Resolved, ResolvedList};
+use crate::kind::Kind;
 use crate::lookup::{nearest_named, nearest_numbered, variable_of};
 use crate::scope::Scope;
 use std::alloc::{AllocError, Global};
@@ -25,13 +26,13 @@ use wh_text::{Name, RawTerms};
 use wh_types::{Or, SimpleType, same_type};
 
 /// A plain name: the innermost binder of that name, else the meta-variable, else the symbol.
-pub fn resolve_name(
+pub fn resolve_name<'a>(
     alloc: Global,
-    scope: &Scope,
+    scope: &Scope<'a>,
     passed: &[Around],
     name: &Name,
     at: u32,
-) -> Result<Resolved, Or<SystemFault>>
+) -> Result<Resolved<'a>, Or<SystemFault>>
     ensures { ResolvesTerm (in_scope scope.now) (typed passed.now) (named name.now at) result }
 {
     match nearest_named(passed, name.bytes()) {
@@ -41,41 +42,41 @@ pub fn resolve_name(
 }
 
 /// A plain name that no binder has.
-pub fn resolve_declared(
+pub fn resolve_declared<'a>(
     alloc: Global,
-    scope: &Scope,
+    scope: &Scope<'a>,
     name: &Name,
     at: u32,
-) -> Result<Resolved, Or<SystemFault>>
+) -> Result<Resolved<'a>, Or<SystemFault>>
     ensures { ResolvesTerm (in_scope scope.now) [] (named name.now at) result }
 {
-    if let Some(meta) = scope.metas.number(name.bytes()) {
+    if let Some(meta) = scope.metas.number(name) {
         let declared = &scope.declared.as_slice()[meta as usize];
         if !declared.args.as_slice().is_empty() {
             return Err(Or::Because(SystemFault::IllTyped { at }));
         }
         return Ok(Resolved {
             term: Term::Meta(meta, Terms::new(alloc)?),
-            kind: declared.result.copy(alloc)?,
+            kind: Kind::Known(&declared.result),
         });
     }
-    match scope.funs.number(name.bytes()) {
+    match scope.funs.number(name) {
         Some(fun) => Ok(Resolved {
             term: Term::Fun(fun),
-            kind: scope.kinds.as_slice()[fun as usize].copy(alloc)?,
+            kind: Kind::Known(&scope.kinds.as_slice()[fun as usize]),
         }),
         None => Err(Or::Because(SystemFault::UnknownName { at })),
     }
 }
 
 /// `$` with a number.
-pub fn resolve_numbered(
+pub fn resolve_numbered<'a>(
     alloc: Global,
-    scope: &Scope,
+    scope: &Scope<'a>,
     passed: &[Around],
     number: u32,
     at: u32,
-) -> Result<Resolved, Or<SystemFault>>
+) -> Result<Resolved<'a>, Or<SystemFault>>
     ensures { ResolvesTerm (in_scope scope.now) (typed passed.now) (numbered number at) result }
 {
     let _ = scope;
@@ -86,18 +87,18 @@ pub fn resolve_numbered(
 }
 
 /// A meta-variable with its resolved arguments.
-pub fn applied_meta(
+pub fn applied_meta<'a>(
     alloc: Global,
-    scope: &Scope,
+    scope: &Scope<'a>,
     name: &Name,
-    list: ResolvedList,
+    list: ResolvedList<'a>,
     items: &RawTerms,
     at: u32,
-) -> Result<Resolved, Or<SystemFault>>
+) -> Result<Resolved<'a>, Or<SystemFault>>
     requires { length list.kinds ≡ length items.now }
-    ensures { ResolvesMeta (in_scope scope.now) name.now list (rtms items.now) at result }
+    ensures { ResolvesMeta (in_scope scope.now) name.now list.entry (rtms items.now) at result }
 {
-    let Some(meta) = scope.metas.number(name.bytes()) else {
+    let Some(meta) = scope.metas.number(name) else {
         return Err(Or::Because(SystemFault::UnknownName { at }));
     };
     let declared = &scope.declared.as_slice()[meta as usize];
@@ -108,24 +109,20 @@ pub fn applied_meta(
     check_fitting(list.kinds.as_slice(), items, wanted)?;
     Ok(Resolved {
         term: Term::Meta(meta, list.trees),
-        kind: declared.result.copy(alloc)?,
+        kind: Kind::Known(&declared.result),
     })
 }
 
 // Whether the arguments, whose types are given, have the types that are wanted.
 #[tactic(auto, using(crate::proofs::FittingLemmas::fitting_next, crate::proofs::FittingLemmas::fitting_end))]
-fn check_fitting(
-    given: &[SimpleType],
-    items: &RawTerms,
-    wanted: &[SimpleType],
-) -> Result<(), SystemFault>
+fn check_fitting(given: &[Kind], items: &RawTerms, wanted: &[SimpleType]) -> Result<(), SystemFault>
     requires given { length given.now ≡ length items.now }
     requires wanted { length wanted.now ≡ length items.now }
-    ensures { IsFirstFault (fitting_tests (tys given.now) (rtms items.now) (tys wanted.now)) result }
+    ensures { IsFirstFault (fitting_tests (types_of given.now) (rtms items.now) (tys wanted.now)) result }
 {
     let items = items.as_slice();
     for i in 0..items.len() {
-        if !same_type(&given[i], &wanted[i]) {
+        if !same_type(given[i].as_type(), &wanted[i]) {
             return Err(SystemFault::IllTyped {
                 at: offset(&items[i]),
             });
@@ -135,38 +132,38 @@ fn check_fitting(
 }
 
 /// The function applied to the argument, which stands at `at`.
-pub fn applied(
+pub fn applied<'a>(
     alloc: Global,
-    function: Resolved,
-    argument: Resolved,
+    function: Resolved<'a>,
+    argument: Resolved<'a>,
     at: u32,
-) -> Result<Resolved, Or<SystemFault>>
-    ensures { Resolves (test (not (takes (Some (ty function.kind)) (Some (ty argument.kind)))) (IllTyped at) ∷ [])
-        (Some (app (tm function.term) (tm argument.term))) (gives (Some (ty function.kind))) result }
+) -> Result<Resolved<'a>, Or<SystemFault>>
+    ensures { Resolves (test (not (takes (Some (type_of function.entry.kind)) (Some (type_of argument.entry.kind)))) (IllTyped at) ∷ [])
+        (Some (app (tm function.entry.term) (tm argument.entry.term))) (gives (Some (type_of function.entry.kind))) result }
 {
     let Resolved { term, kind } = function;
-    match kind {
-        SimpleType::Arrow(domain, rest) => {
-            if !same_type(&domain, &argument.kind) {
-                return Err(Or::Because(SystemFault::IllTyped { at }));
-            }
-            Ok(Resolved {
-                term: Term::App(Box::new(alloc, term)?, Box::new(alloc, argument.term)?),
-                kind: Box::into_inner(rest),
-            })
-        }
-        SimpleType::Sort(_) => Err(Or::Because(SystemFault::IllTyped { at })),
-    }
+    let Some(kind) = kind.applied_to(argument.kind.as_type()) else {
+        return Err(Or::Because(SystemFault::IllTyped { at }));
+    };
+    Ok(Resolved {
+        term: Term::App(Box::new(alloc, term)?, Box::new(alloc, argument.term)?),
+        kind,
+    })
 }
 
 /// The abstraction of a body over a variable of the type.
-pub fn abstracted(alloc: Global, kind: SimpleType, body: Resolved) -> Result<Resolved, AllocError>
-    ensures term { IfOk result (λ whole. tm whole.term ≡ lam (ty kind) (tm body.term)) }
-    ensures kind { IfOk result (λ whole. ty whole.kind ≡ ty kind ⇒ ty body.kind) }
+pub fn abstracted<'a>(
+    alloc: Global,
+    kind: SimpleType,
+    body: Resolved<'a>,
+) -> Result<Resolved<'a>, AllocError>
+    ensures term { IfOk result (λ whole. tm whole.term ≡ lam (ty kind) (tm body.entry.term)) }
+    ensures kind { IfOk result (λ whole. type_of whole.kind ≡ ty kind ⇒ type_of body.entry.kind) }
 {
     let own = kind.copy(alloc)?;
+    let rest = body.kind.into_type(alloc)?;
     Ok(Resolved {
         term: Term::Lam(own, Box::new(alloc, body.term)?),
-        kind: SimpleType::Arrow(Box::new(alloc, kind)?, Box::new(alloc, body.kind)?),
+        kind: Kind::Own(SimpleType::Arrow(Box::new(alloc, kind)?, Box::new(alloc, rest)?)),
     })
 }

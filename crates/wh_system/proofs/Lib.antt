@@ -23,7 +23,6 @@ pub mod MeantLaws
 pub mod CanonicalWalk
 pub mod CanonicalNames
 pub mod CanonicalBack
-pub mod SideTold
 pub mod CanonicalPassed
 pub mod CanonicalPatterns
 pub mod CanonicalLists

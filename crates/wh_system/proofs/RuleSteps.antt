@@ -146,7 +146,7 @@ head_inside p raws i rules names needs r done so_far is =
 pub one_more : (p : RParts) (raws : List RawRule) (i : ℕ) (rules after : List Rule) (names later : List (List (List ℕ))) (needs : List (Option ℕ)) (raw : RawRule) (done : ResolvedRule)
     → i < length raws → raw ≡ get_or raws i raw → SoFar p raws i rules names needs → first_fault (own_tests (scope_of p (rrule raw)) (rrule raw)) ≡ None
     → IsResolvedRule (scope_of p (rrule raw)) (rrule raw) done → differs done.count (get_or needs done.head None) ≡ false
-    → after ≡ rules ++ done.rule ∷ [] → later ≡ names ++ done.meta_names.items ∷ [] → SoFar p raws (i + 1) after later (slice_set needs done.head (Some done.count))
+    → after ≡ rules ++ done.rule ∷ [] → later ≡ names ++ done.meta_names ∷ [] → SoFar p raws (i + 1) after later (slice_set needs done.head (Some done.count))
 one_more p raws i rules after names later needs raw done within at so_far own is meets joined shown = record {
   earlier = (Some done.head, done.count) ∷ so_far.earlier;
   tests = so_far.tests ∙ ap (λ rs. first_fault (rules_tests p so_far.earlier rs)) (map_next rrule raws i raw within at)

@@ -1,21 +1,20 @@
 -- What names stand for in a rule, as the pass over rules has it.
 use Rattle.std.proofs.Common.{◌≡◌, ℕ, ◌≤◌, List, [], ◌∷◌, ◌++◌, map, None, ap, sym, ltb-false}
-use Rattle.std.specs.Prelude.{nat_lt, not}
+use Rattle.std.specs.Prelude.{nat_lt}
 use Rattle.wh_types.specs.Ty.{Ty}
 use Rattle.wh_terms.specs.Typing.{Declared}
 use Rattle.wh_text.specs.RawTree.{RTm}
-use Rattle.wh_parts.specs.declared.fault.SystemFault.TheVariants.{IllTyped, TooMany}
+use Rattle.wh_parts.specs.declared.fault.SystemFault.TheVariants.{TooMany}
 use Rattle.wh_parts.specs.declared.parts.RawMeta.{RawMeta}
 use Rattle.wh_parts.specs.Parts.{RRule}
 use Rattle.wh_parts.specs.Erase.{rmeta}
 use Rattle.wh_parts.specs.Faults.{first_fault}
 use Rattle.wh_parts.specs.Declarations.{meta_count}
 use Rattle.wh_parts.specs.Naming.{Scope}
-use Rattle.wh_parts.specs.Kinds.{kind_of}
-use Rattle.wh_parts.specs.Tests.{test, term_offset, width_of_term, raw_height, raw_size, meta_tests, side_tests, naming_tests}
-use Rattle.wh_parts.specs.RuleTests.{declared_by, same_kind}
-use Rattle.wh_parts.proofs.FaultLemmas.{no_fault_in_first, no_fault_in_second, no_fault_at_test}
-use Rattle.wh_system.specs.RulePasses.{scope_over, sides_tests}
+use Rattle.wh_parts.specs.Tests.{test, term_offset, width_of_term, raw_height, raw_size, meta_tests, side_tests}
+use Rattle.wh_parts.specs.RuleTests.{declared_by}
+use Rattle.wh_parts.proofs.FaultLemmas.{no_fault_in_second, no_fault_at_test}
+use Rattle.wh_system.specs.RulePasses.{scope_over}
 
 -- a scope from its parts
 abbrev pub scope_with : List (List ℕ) → List (List ℕ) → List Ty → List (List ℕ) → List Declared → Scope
@@ -38,10 +37,3 @@ small_side t p =
     let both = no_fault_in_second (width_of_term t) (low ∷ small ∷ []) p in
     let last = (no_fault_at_test (nat_lt 200 (raw_height t)) (TooMany (term_offset t)) (small ∷ []) both).1 in
     ltb-false 65536 (raw_size t) (no_fault_at_test (nat_lt 65536 (raw_size t)) (TooMany (term_offset t)) [] last).0
-
--- where the sides pass, the names of the right one do
-pub right_named : (s : Scope) (r : RRule) → first_fault (sides_tests s r) ≡ None → first_fault (naming_tests s [] r.right) ≡ None
-right_named s r p =
-    let l = naming_tests s [] r.left in
-    let n = naming_tests s [] r.right in
-    no_fault_in_second l n (no_fault_in_first (l ++ n) (test (not (same_kind (kind_of s [] r.left) (kind_of s [] r.right))) (IllTyped (term_offset r.right)) ∷ []) p)

@@ -53,4 +53,4 @@ pub record IsResolvedRule (s : Scope) (r : RRule) (done : ResolvedRule) : Type 0
   pub right : meant s [] r.right ≡ Some (tm done.rule.right)
   pub head : head_symbol s r.left ≡ Some done.head
   pub count : done.count ≡ arguments_of r.left
-  pub names : done.meta_names.items ≡ map (λ m. m.name.name) r.metas
+  pub names : done.meta_names ≡ map (λ m. m.name.name) r.metas

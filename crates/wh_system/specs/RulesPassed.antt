@@ -13,7 +13,7 @@ use Rattle.wh_system.specs.Systems.{SayRules}
 -- the rules that the parts say, the names of their meta-variables, and what each symbol needs
 pub record AreResolvedRules (p : RParts) (done : ResolvedRules) : Type 0 where
   pub rules : SayRules p p.rules (rewrite_rules done.rules.items)
-  pub names : map (λ names. names.items) done.meta_names.items ≡ map (λ r. map (λ m. m.name.name) r.metas) p.rules
+  pub names : done.meta_names.items ≡ map (λ r. map (λ m. m.name.name) r.metas) p.rules
   pub each_need : length done.needs.items ≡ length p.funs
   pub needs : (f : ℕ) (n : Option ℕ) → slice_get done.needs.items f ≡ Some n → n ≡ need_of (rewrite_rules done.rules.items) f
 

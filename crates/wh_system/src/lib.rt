@@ -2,7 +2,6 @@
 #![tactic(auto)]
 
 mod laws;
-mod names;
 mod raw_term;
 mod resolution;
 mod resolving;
@@ -14,7 +13,7 @@ pub use laws::{
     canonical_terms_stand_for_themselves, parts_say_one_system, places_do_not_matter,
     systems_are_well_made,
 };
-pub use raw_term::{TermNames, raw_type, raw_with};
+pub use raw_term::raw_type;
 pub use system::System;
 pub use wh_parts::{
     Parts, RawFun, RawFuns, RawMeta, RawMetas, RawName, RawNames, RawRule, RawRules, SystemFault,

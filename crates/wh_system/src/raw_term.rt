@@ -1,23 +1,22 @@
 //! Canonical raw types and terms: the trees that the canonical texts say. One walk, which counts the binders that it
 //! has passed.
 
-ghost use Rattle.std.specs.Prelude.{◌≡◌, ◌<◌, ◌+◌, ℕ, IfOk, OnOk, Some, length, get_or, slice_get};
-ghost use Rattle.wh_terms.specs.Rules.{RewriteRule};
+ghost use Rattle.std.specs.Prelude.{◌≡◌, ◌+◌, IfOk, OnOk, length};
 ghost use Rattle.wh_terms.specs.Typing.{WellTyped};
 ghost use Rattle.wh_types.specs.Ty.{SortsBelow};
 ghost use Rattle.wh_types.specs.Erase.{ty};
-ghost use Rattle.wh_terms.specs.Erase.{tm, tms, rewrite_rule};
+ghost use Rattle.wh_terms.specs.Erase.{tm, tms};
 ghost use Rattle.wh_text.specs.Erase.{rty, rtys, rtm, rtms};
 ghost use Rattle.wh_system.specs.Canonical.{IsNamedBelow, AreNamedBelow, join_types, raw_type_of, raw_arguments_of, raw_below, each_raw_below, raw_of, with_argument};
-ghost use Rattle.wh_system.specs.CanonicalView.{term_names, names_of_system, names_of_rule, side_of};
+ghost use Rattle.wh_system.specs.CanonicalView.{term_names, names_of_system};
 ghost use Rattle.wh_system.specs.Resolve.{Means};
 ghost use Rattle.wh_system.specs.SystemView.{system_data};
 
 use crate::system::System;
 use std::alloc::{AllocError, Global};
-use wh_terms::{Rule, Term, Terms};
+use wh_terms::{Term, Terms};
 use wh_text::{Name, RawBinder, RawTerm, RawTerms, RawType, RawTypes};
-use wh_types::SimpleType;
+use wh_types::{SimpleType, sum};
 
 /// The names of what may stand in a term, by number.
 #[derive(Drop)]
@@ -44,33 +43,11 @@ impl System {
         };
         raw_with(alloc, &names, term)
     }
-
-    /// The canonical raw tree of the right side of a rule, or of its left side, with the names of the rule's
-    /// meta-variables.
-    pub fn raw_side(&self, alloc: Global, rule: u32, right: bool) -> Result<RawTerm, AllocError>
-        requires { rule < length (system_data self.now).rules }
-        ensures { (r : RewriteRule) → slice_get (system_data self.now).rules rule ≡ Some r
-            → IfOk result (λ raw. rtm raw ≡ raw_of (names_of_rule (system_data self.now) rule) (side_of right r)) }
-    {
-        let names = TermNames {
-            sorts: self.sort_names(),
-            funs: self.fun_names(),
-            metas: self.meta_names(rule),
-        };
-        raw_with(alloc, &names, side(&self.rules()[rule as usize], right))
-    }
 }
 
-// The right or the left side.
-fn side(rule: &Rule, right: bool) -> &Term
-    ensures { tm result.now ≡ side_of right (rewrite_rule rule.now) }
-{
-    if right { &rule.right } else { &rule.left }
-}
-
-/// The canonical raw tree of a term or of a rule's side: symbols and meta-variables by their names, a bound variable by
-/// the number of binders above its own one, a spine with all its arguments in one list.
-pub fn raw_with(alloc: Global, names: &TermNames, term: &Term) -> Result<RawTerm, AllocError>
+// The canonical raw tree of a term: symbols and meta-variables by their names, a bound variable by the number of binders
+// above its own one, a spine with all its arguments in one list.
+fn raw_with(alloc: Global, names: &TermNames, term: &Term) -> Result<RawTerm, AllocError>
     requires { IsNamedBelow (term_names names.now) 0 (tm term.now) }
     ensures { IfOk result (λ raw. rtm raw ≡ raw_of (term_names names.now) (tm term.now)) }
 {
@@ -105,7 +82,7 @@ fn raw_under(
         }
         Term::Lam(kind, body) => {
             let kind = raw_type(alloc, names.sorts, kind)?;
-            let body = raw_under(alloc, names, body, one_more(depth)?)?;
+            let body = raw_under(alloc, names, body, sum(depth, 1)?)?;
             Ok(RawTerm::Lam(RawBinder::Numbered(depth), kind, Box::new(alloc, body)?, 0))
         }
         Term::App(function, argument) => {
@@ -132,13 +109,6 @@ fn raw_each(
         raw.push(raw_under(alloc, names, item, depth)?)?;
     }
     Ok(raw)
-}
-
-// One binder more. A number beyond 32 bits counts more binders than memory holds, and is told as want of memory.
-fn one_more(depth: u32) -> Result<u32, AllocError>
-    ensures { IfOk result (λ deeper. deeper ≡ depth + 1) }
-{
-    depth.checked_add(1).ok_or(AllocError)
 }
 
 // The term with one argument more.

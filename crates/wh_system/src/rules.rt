@@ -4,24 +4,22 @@ ghost use Rattle.std.specs.Prelude.{ℕ, ◌≡◌, ◌<◌, List, [], ◌∷◌
 ghost use Rattle.wh_types.specs.Erase.{tys};
 ghost use Rattle.wh_terms.specs.Erase.{rewrite_rules, tm};
 ghost use Rattle.wh_parts.specs.Erase.{rparts, rrule};
-ghost use Rattle.wh_parts.specs.Faults.{Passes, first_fault};
+ghost use Rattle.wh_parts.specs.Faults.{Passes};
 ghost use Rattle.wh_parts.specs.Naming.{meant};
 ghost use Rattle.wh_parts.specs.RuleTests.{head_symbol, rules_tests, type_of_raw};
-ghost use Rattle.wh_parts.specs.Tests.{fun_names, naming_tests, sort_names};
+ghost use Rattle.wh_parts.specs.Tests.{fun_names, sort_names};
 ghost use Rattle.wh_parts.specs.declared.fault.SystemFault.TheVariants.{UnevenRules};
 ghost use Rattle.wh_resolve.specs.InScope.{scope as in_scope};
 ghost use Rattle.wh_system.specs.Needs.{need_of};
 ghost use Rattle.wh_system.specs.RulePasses.{IsResolvedRule, differs, form_tests, own_tests, scope_over, sides_tests};
 ghost use Rattle.wh_system.specs.RulesPassed.{AreResolvedRules};
 
-use crate::names::names_of_metas;
 use std::alloc::Global;
 use wh_parts::{Funs, NameTable, Parts, RawRule, SystemFault, check_side, declare_metas, offset};
 use wh_resolve::{
     Scope, arguments_of, check_new_metas, check_open, check_pattern, head_of, resolve_side,
 };
 use wh_terms::{Rule, Term};
-use wh_text::Name;
 use wh_types::{Or, same_type};
 
 /// A rule with its names looked up.
@@ -30,7 +28,7 @@ pub struct ResolvedRule {
     /// The rule.
     pub rule: Rule,
     /// The names of its meta-variables.
-    pub meta_names: Vec<Name>,
+    pub meta_names: NameTable,
     /// The symbol that heads the left side.
     pub head: u32,
     /// How many arguments the left side has.
@@ -43,7 +41,7 @@ pub struct ResolvedRules {
     /// The rules.
     pub rules: Vec<Rule>,
     /// The names of the meta-variables of each.
-    pub meta_names: Vec<Vec<Name>>,
+    pub meta_names: Vec<NameTable>,
     /// How many arguments the rules of each symbol have on the left, where it has rules.
     pub needs: Vec<Option<u32>>,
 }
@@ -114,9 +112,8 @@ fn resolve_rule(
         declared: &metas.declared,
     };
     let (left, right) = resolve_sides(alloc, &scope, raw)?;
-    let head = check_form(alloc, &scope, raw)?;
+    let head = check_form(alloc, &scope, raw, &left, &right)?;
     let count = arguments_of(&raw.left);
-    let meta_names = names_of_metas(alloc, raw.metas.as_slice())?;
     let rule = Rule {
         metas: metas.declared,
         left,
@@ -124,7 +121,7 @@ fn resolve_rule(
     };
     Ok(ResolvedRule {
         rule,
-        meta_names,
+        meta_names: metas.names,
         head,
         count,
     })
@@ -150,16 +147,24 @@ fn resolve_sides(
     Ok((left, right))
 }
 
-// The symbol that heads the left side of a rule, whose sides have the form that a rule's have.
-fn check_form(alloc: Global, scope: &Scope, raw: &RawRule) -> Result<u32, Or<SystemFault>>
-    requires { first_fault (naming_tests (in_scope scope.now) [] (rrule raw.now).right) ≡ None }
+// The symbol that heads the left side of a rule, whose sides stand for the terms and have the form that a rule's have.
+fn check_form(
+    alloc: Global,
+    scope: &Scope,
+    raw: &RawRule,
+    left: &Term,
+    right: &Term,
+) -> Result<u32, Or<SystemFault>>
+    requires left { meant (in_scope scope.now) [] (rrule raw.now).left ≡ Some (tm left.now) }
+    requires right { meant (in_scope scope.now) [] (rrule raw.now).right ≡ Some (tm right.now) }
     ensures { Passes (form_tests (in_scope scope.now) (rrule raw.now)) result
         (λ fun. head_symbol (in_scope scope.now) (rrule raw.now).left ≡ Some fun) }
 {
     check_open(&raw.left)?;
     check_open(&raw.right)?;
-    let head = head_of(scope, &raw.left)?;
-    check_pattern(alloc, scope, &raw.left)?;
-    check_new_metas(alloc, scope, &raw.left, &raw.right)?;
+    let head = head_of(left, &raw.left)?;
+    check_pattern(alloc, left, &raw.left)?;
+    let metas = scope.declared.as_slice().len();
+    check_new_metas(alloc, metas, left, right, &raw.right)?;
     Ok(head)
 }

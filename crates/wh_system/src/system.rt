@@ -1,11 +1,10 @@
 //! Systems.
 
-ghost use Rattle.std.specs.Prelude.{◌≡◌, ℕ, Option, Some, length, map, slice_get};
+ghost use Rattle.std.specs.Prelude.{◌≡◌, ℕ, Option, Some, length, slice_get};
 ghost use Rattle.wh_terms.specs.Erase.{rewrite_rules, symbols};
 ghost use Rattle.wh_system.specs.Needs.{need_of};
 ghost use Rattle.wh_system.specs.WellMade.{IsWellMadeSystem};
 
-use crate::names::{names_of_funs, names_of_sorts};
 use crate::resolution::{Resolution, resolve_parts};
 use std::alloc::Global;
 use wh_parts::{NameTable, Parts, SystemFault};
@@ -18,17 +17,13 @@ use wh_types::Or;
 pub struct System {
     sorts: NameTable,
     funs: NameTable,
-    sort_names: Vec<Name>,
-    fun_names: Vec<Name>,
     signature: Signature,
     rules: Vec<Rule>,
-    meta_names: Vec<Vec<Name>>,
+    meta_names: Vec<NameTable>,
     needs: Vec<Option<u32>>,
-    ghost sorts_named: { sort_names.items ≡ sorts },
-    ghost funs_named: { fun_names.items ≡ funs },
-    ghost each_need: { length needs.items ≡ length fun_names.items },
+    ghost each_need: { length needs.items ≡ length funs },
     ghost needs_known: { (f : ℕ) (n : Option ℕ) → slice_get needs.items f ≡ Some n → n ≡ need_of (rewrite_rules rules.items) f },
-    ghost made: { ∥ IsWellMadeSystem (record { sort_names = sort_names.items; fun_names = fun_names.items; symbols = symbols signature; rules = rewrite_rules rules.items; meta_names = map (λ names. names.items) meta_names.items }) ∥₁ },
+    ghost made: { ∥ IsWellMadeSystem (record { sort_names = sorts; fun_names = funs; symbols = symbols signature; rules = rewrite_rules rules.items; meta_names = meta_names.items }) ∥₁ },
 }
 
 impl System {
@@ -52,8 +47,6 @@ impl System {
         ensures refused { IfBecause result (λ fault. refusal (rparts parts.now) ≡ Some fault) }
     {
         let resolved = resolve_parts(alloc, parts)?;
-        let sort_names = names_of_sorts(alloc, parts.sorts.as_slice())?;
-        let fun_names = names_of_funs(alloc, parts.funs.as_slice())?;
         let Resolution { sorts, funs, rules } = resolved;
         let signature = Signature {
             sorts: parts.sorts.as_slice().len() as u32,
@@ -62,8 +55,6 @@ impl System {
         Ok(System {
             sorts,
             funs: funs.names,
-            sort_names,
-            fun_names,
             signature,
             rules: rules.rules,
             meta_names: rules.meta_names,
@@ -90,7 +81,7 @@ impl System {
         requires { k < length (system_data self.now).sort_names }
         ensures { slice_get (system_data self.now).sort_names k ≡ Some result.now }
     {
-        &self.sort_names[k as usize]
+        &self.sorts.as_slice()[k as usize]
     }
 
     /// The name of the symbol with that number.
@@ -98,7 +89,7 @@ impl System {
         requires { k < length (system_data self.now).fun_names }
         ensures { slice_get (system_data self.now).fun_names k ≡ Some result.now }
     {
-        &self.fun_names[k as usize]
+        &self.funs.as_slice()[k as usize]
     }
 
     /// The name of the meta-variable number `k` of a rule.
@@ -107,7 +98,7 @@ impl System {
         requires meta { k < length (get_or (system_data self.now).meta_names rule []) }
         ensures { option_and_then (λ names. slice_get names k) (slice_get (system_data self.now).meta_names rule) ≡ Some result.now }
     {
-        &self.meta_names[rule as usize][k as usize]
+        &self.meta_names[rule as usize].as_slice()[k as usize]
     }
 
     /// How many arguments the left sides of the rules of that symbol have; `None` exactly where it has no rules. A number
@@ -127,14 +118,14 @@ impl System {
     pub fn sort_names(&self) -> &[Name]
         ensures { result.now ≡ (system_data self.now).sort_names }
     {
-        self.sort_names.as_slice()
+        self.sorts.as_slice()
     }
 
     /// The names of the symbols, by number.
     pub fn fun_names(&self) -> &[Name]
         ensures { result.now ≡ (system_data self.now).fun_names }
     {
-        self.fun_names.as_slice()
+        self.funs.as_slice()
     }
 
     /// The names of a rule's meta-variables, by number.

@@ -4,7 +4,7 @@ use Rattle.wh_types.specs.declared.simple_type.SimpleType.{SimpleType}
 use Rattle.wh_types.specs.Erase.{ty, tys}
 use Rattle.wh_text.specs.declared.raw.RawType.{out-RawType}
 use Rattle.wh_parts.specs.Faults.{first_fault}
-use Rattle.wh_parts.specs.Naming.{number_of, type_meant}
+use Rattle.wh_parts.specs.Naming.{type_meant}
 use Rattle.wh_parts.specs.Tests.{sorts_of_type, sorts_of_types}
 use Rattle.wh_parts.specs.RuleTests.{types_of_raw}
 use Rattle.wh_parts.proofs.RawTypes.{types_end}
@@ -22,12 +22,12 @@ resolve_type-returns-in_err-domains t c =
 
 pub resolve_type-returns-in_default : goal.resolve_type-returns-in_default
 resolve_type-returns-in_default t c =
-    type_unknown c.args.sorts.now c.args.kind.now c.in_ok-domains.ensures.0 (ap (number_of c.args.sorts.now) (sym c.bytes.ensures.value) ∙ sym c.number.ensures ∙ c.in_default.is)
+    type_unknown c.args.sorts.now c.args.kind.now c.in_ok-domains.ensures.0 (sym c.number.ensures ∙ c.in_default.is)
 
 pub resolve_type-returns : goal.resolve_type-returns
 resolve_type-returns t c =
     type_resolved c.args.sorts.now c.args.kind.now c.in_ok-domains.domains.items c.in-Some.sort c.in_ok-arrows.field-0 c.in_ok-domains.ensures.0 c.in_ok-domains.ensures.1
-    (ap (number_of c.args.sorts.now) (sym c.bytes.ensures.value) ∙ sym c.number.ensures ∙ c.in-Some.is) c.in_ok-arrows.ensures
+    (sym c.number.ensures ∙ c.in-Some.is) c.in_ok-arrows.ensures
 
 pub resolve_types-returns-in_err-resolve_type : goal.resolve_types-returns-in_err-resolve_type
 resolve_types-returns-in_err-resolve_type t c =

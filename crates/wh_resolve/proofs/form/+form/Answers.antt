@@ -1,69 +1,96 @@
-use Rattle.std.proofs.Common.{Bor, ◌≡◌, ◌+◌, List, [], ◌++◌, drop, None, true, not, ap, subst, sym, ◌∙◌}
-use Rattle.wh_text.specs.Erase.{rtm, rtms}
-use Rattle.wh_text.specs.declared.raw.RawBinder.{RawBinder}
+use Rattle.std.proofs.Common.{◌≡◌, List, true, false, Ok, Err, ap, ap₂, sym, ◌∙◌, subst, arith}
+use Rattle.std.proofs.lemmas.List.{nil_from_length}
+use Rattle.wh_types.specs.Erase.{ty}
+use Rattle.wh_types.specs.declared.want.Or.TheVariants.{Because}
+use Rattle.wh_terms.specs.Tree.{lam, app}
+use Rattle.wh_terms.specs.Erase.{tm}
+use Rattle.wh_text.specs.Erase.{rtm, rty, rtms, rbinder}
+use Rattle.wh_text.specs.RawTree.{RTm, RTms, lam as raw_lam, spine}
 use Rattle.wh_text.specs.declared.raw.RawTerm.{RawTerm}
-use Rattle.wh_resolve.specs.Answers.{Reports}
-use Rattle.wh_parts.specs.Faults.{first_of, first_fault}
-use Rattle.wh_resolve.specs.InScope.{scope as in_scope, bare}
-use Rattle.wh_parts.specs.RuleTests.{are_distinct, is_pattern_head, pattern_tests, patterns_tests}
-use Rattle.wh_parts.specs.declared.fault.SystemFault.TheVariants.{NotPattern}
-use Rattle.wh_resolve.proofs.AnswerLemmas.{Fails, reports_along, reported_fails, matched_err, fails_along, fails_first}
-use Rattle.wh_parts.proofs.FaultLemmas.{fault_after}
 use Rattle.wh_text.proofs.RawLemmas.{rtm_of_meta, rtm_of_spine}
-use Rattle.wh_parts.proofs.RawTerms.{left_next}
+use Rattle.wh_parts.specs.declared.fault.SystemFault.TheVariants.{NotPattern}
+use Rattle.wh_parts.proofs.RawTerms.{weight, weights, weight_in_spine}
+use Rattle.wh_resolve.specs.Form.{TellsForm}
+use Rattle.wh_resolve.proofs.MeantParts.{rtms_last, weights_last}
+use Rattle.wh_resolve.proofs.FormLemmas.{meta_form, lam_form, no_lam_form, head_form, last_form, last_form_fails, no_app_form}
 use Rattle.wh_resolve.proofs.form.+form.Goals as goal
 
-pub check_form-returns-then-branch-clause-told : goal.check_form-returns-then-branch-clause-told
-check_form-returns-then-branch-clause-told t c =
-    let s = in_scope c.args.scope.now in
-    let ts = rtms c.in-Meta.items in
-    ap (λ u. first_fault (pattern_tests s (bare c.args.binders.now.items) u)) (rtm_of_meta c.args.part.now c.in-Meta.field-0 c.in-Meta.items c.in-Meta.at c.in-Meta.is)
-    ∙ ap (λ bs. first_of (not (are_distinct (bare bs) [] ts)) (NotPattern c.in-Meta.at) None) (sym c.deref.ensures.value)
-    ∙ ap (λ b. first_of (not b) (NotPattern c.in-Meta.at) None) (sym c.in_ok-have_distinct-in-Meta.ensures ∙ c.if-branch.true)
+pub check_form-check_applied-requires : goal.check_form-check_applied-requires
+check_form-check_applied-requires t c = (
+  omega (arith, weight_in_spine c.args.raw.now c.in-Spine.head c.in-Spine.items c.in-Spine.at c.in-Spine.is, ap (λ h. weight (rtm h)) c.deref-in-Spine.ensures, ap (λ xs. weights (rtms xs)) c.as_slice.ensures),
+  tt,
+)
 
-pub check_form-returns-else-branch-clause-told : goal.check_form-returns-else-branch-clause-told
-check_form-returns-else-branch-clause-told t c =
-    let s = in_scope c.args.scope.now in
-    let ts = rtms c.in-Meta.items in
-    ap (λ u. first_fault (pattern_tests s (bare c.args.binders.now.items) u)) (rtm_of_meta c.args.part.now c.in-Meta.field-0 c.in-Meta.items c.in-Meta.at c.in-Meta.is)
-    ∙ ap (λ bs. first_of (not (are_distinct (bare bs) [] ts)) (NotPattern c.in-Meta.at) None) (sym c.deref.ensures.value)
-    ∙ ap (λ b. first_of (not b) (NotPattern c.in-Meta.at) None) (sym c.in_ok-have_distinct-in-Meta.ensures ∙ c.if-branch.false)
+pub check_applied-check_applied-requires : goal.check_applied-check_applied-requires
+check_applied-check_applied-requires t c = (omega (arith, weights_last c.args.items.now c.in-Some.front.now c.in-Some.last.now c.in-Some.ensures.cases.0), tt)
 
-pub check_form-returns-else-not-may_head-clause-told : goal.check_form-returns-else-not-may_head-clause-told
-check_form-returns-else-not-may_head-clause-told t c =
-    let s = in_scope c.args.scope.now in
-    let bs = bare c.args.binders.now.items in
-    let ts = rtms c.in-Spine.items in
-    let head : is_pattern_head s bs (rtm c.in-Spine.head.value) ≡ true =
-    ap (λ h. is_pattern_head s bs (rtm h)) (sym c.deref-in-Spine-2.ensures)
-    ∙ ap (λ ps. is_pattern_head s (bare ps) (rtm c.deref-in-Spine-2.result.now)) (sym c.deref-in-Spine.ensures.value) ∙ sym c.may_head.ensures ∙ c.if-not-may_head.false in
-    reports_along c.check_forms.result (patterns_tests s bs ts) (pattern_tests s bs (rtm c.args.part.now))
-    (ap (λ u. first_fault (pattern_tests s bs u)) (rtm_of_spine c.args.part.now c.in-Spine.head c.in-Spine.items c.in-Spine.at c.in-Spine.is)
-    ∙ ap (λ b. first_of (not b) (NotPattern c.in-Spine.at) (first_fault (patterns_tests s bs ts))) head) c.check_forms.ensures.told
+pub check_applied-check_form-requires : goal.check_applied-check_form-requires
+check_applied-check_form-requires t c = (omega (arith, weights_last c.args.items.now c.in-Some.front.now c.in-Some.last.now c.in-Some.ensures.cases.0), tt)
 
-pub check_forms-returns-in_err-check_form-clause-told : goal.check_forms-returns-in_err-check_form-clause-told
-check_forms-returns-in_err-check_form-clause-told t c =
-    let s = in_scope c.args.scope.now in
-    let bs = bare c.args.binders.now.items in
-    let xs = c.as_slice-item-items.result.now in
-    let u = rtm c.item-item.result in
-    let e = c.in_err-check_form.field-0.0 in
-    let rest = rtms (drop (c.loop-item.item-index + 1) xs) in
-    let here = subst (λ (ps : List (Bor RawBinder)). Fails (first_fault (pattern_tests s (bare ps) u)) e) c.loop-item.invariant.0 (reported_fails (pattern_tests s (bare c.loop-item.binders.items) u) e c.in_err-check_form.ensures.told) in
-    subst (λ (ys : List RawTerm). Reports (patterns_tests s bs (rtms ys)) c.from_residual.result) c.as_slice-item-items.ensures
-    (matched_err (λ _. first_fault (patterns_tests s bs (rtms xs)) ≡ None) (patterns_tests s bs (rtms xs)) c.from_residual.result e c.from_residual.ensures.1
-    (fails_along e (first_fault (pattern_tests s bs u ++ patterns_tests s bs rest)) (first_fault (patterns_tests s bs (rtms xs)))
-    (c.loop-item.invariant.1 ∙ ap (λ us. first_fault (patterns_tests s bs us)) (left_next xs c.loop-item.item-index c.item-item.result c.loop-item-test.true c.item-item.is))
-    (fails_first e (pattern_tests s bs u) (patterns_tests s bs rest) here)))
+pub check_form-returns-then-branch : goal.check_form-returns-then-branch
+check_form-returns-then-branch t c =
+    subst (λ (r : RTm). TellsForm (tm c.args.term.now) r (Ok tt)) (sym (rtm_of_meta c.args.raw.now c.in-Meta.field-0 c.in-Meta.items c.in-Meta.at c.in-Meta.is))
+    (meta_form (tm c.args.term.now) c.in-Meta.field-0 (rtms c.in-Meta.items) c.in-Meta.at true (sym c.in_ok-has_distinct-in-Meta.ensures ∙ c.if-branch.true))
 
-pub check_forms-loop-item-preserved : goal.check_forms-loop-item-preserved
-check_forms-loop-item-preserved t c =
-    let s = in_scope c.args.scope.now in
-    let bs = bare c.args.binders.now.items in
-    let xs = c.as_slice-item-items.result.now in
-    let u = rtm c.item-item.result in
-    let here = subst (λ (ps : List (Bor RawBinder)). first_fault (pattern_tests s (bare ps) u) ≡ None) c.loop-item.invariant.0 c.in_ok-check_form.ensures.told in (
-      ◌∙◌ {A = List (Bor RawBinder)} c.in_ok-check_form.ensures.kept c.loop-item.invariant.0,
-      c.loop-item.invariant.1 ∙ ap (λ us. first_fault (patterns_tests s bs us)) (left_next xs c.loop-item.item-index c.item-item.result c.loop-item-test.true c.item-item.is)
-          ∙ fault_after (pattern_tests s bs u) (patterns_tests s bs (rtms (drop (c.loop-item.item-index + 1) xs))) here,
-    )
+pub check_form-returns-else-branch : goal.check_form-returns-else-branch
+check_form-returns-else-branch t c =
+    subst (λ (r : RTm). TellsForm (tm c.args.term.now) r (Err (Because (NotPattern c.in-Meta.at)))) (sym (rtm_of_meta c.args.raw.now c.in-Meta.field-0 c.in-Meta.items c.in-Meta.at c.in-Meta.is))
+    (meta_form (tm c.args.term.now) c.in-Meta.field-0 (rtms c.in-Meta.items) c.in-Meta.at false (sym c.in_ok-has_distinct-in-Meta.ensures ∙ c.if-branch.false))
+
+pub check_form-returns-in_default : goal.check_form-returns-in_default
+check_form-returns-in_default t c =
+    subst (λ (r : RTm). TellsForm (tm c.args.term.now) r (Ok tt)) (sym (ap rtm c.in-Lam.is))
+    (no_lam_form c.args.term.now (rbinder c.in-Lam.field-0) (rty c.in-Lam.field-1) (rtm c.in-Lam.inner.value) c.in-Lam.field-3 (Ok tt) c.in_default.not-Lam)
+
+pub check_form-returns-in-Lam-term : goal.check_form-returns-in-Lam-term
+check_form-returns-in-Lam-term t c =
+    let x = rbinder c.in-Lam.field-0 in
+    let a = rty c.in-Lam.field-1 in
+    let inner = c.deref-in-Lam.result.now in
+    let body = c.deref.result.now in
+    let raw : rtm c.args.raw.now ≡ raw_lam x a (rtm inner) c.in-Lam.field-3 = ap rtm c.in-Lam.is ∙ ap (λ r. raw_lam x a (rtm r) c.in-Lam.field-3) (sym c.deref-in-Lam.ensures) in
+    let is : tm c.args.term.now ≡ lam (ty c.in-Lam-term.field-0) (tm body) = ap tm c.in-Lam-term.is ∙ ap (λ u. lam (ty c.in-Lam-term.field-0) (tm u)) (sym c.deref.ensures) in
+    subst (λ (r : RTm). TellsForm (tm c.args.term.now) r c.check_form.result) (sym raw)
+    (lam_form (tm c.args.term.now) (tm body) (ty c.in-Lam-term.field-0) x a (rtm inner) c.in-Lam.field-3 c.check_form.result is c.check_form.ensures)
+
+pub check_form-returns-in-Spine : goal.check_form-returns-in-Spine
+check_form-returns-in-Spine t c =
+    let raw : rtm c.args.raw.now ≡ spine (rtm c.deref-in-Spine.result.now) (rtms c.as_slice.result.now) c.in-Spine.at =
+    rtm_of_spine c.args.raw.now c.in-Spine.head c.in-Spine.items c.in-Spine.at c.in-Spine.is
+    ∙ ap₂ (λ h xs. spine (rtm h) (rtms xs) c.in-Spine.at) (sym c.deref-in-Spine.ensures) (sym c.as_slice.ensures) in
+    subst (λ (r : RTm). TellsForm (tm c.args.term.now) r c.check_applied.result) (sym raw) c.check_applied.ensures
+
+pub check_applied-returns-then-may_head : goal.check_applied-returns-then-may_head
+check_applied-returns-then-may_head t c =
+    subst (λ (xs : List RawTerm). TellsForm (tm c.args.term.now) (spine (rtm c.args.head.now) (rtms xs) c.args.at) (Ok tt)) (sym (nil_from_length c.args.items.now c.in_default.ensures.cases))
+    (head_form (tm c.args.term.now) (rtm c.args.head.now) c.args.at true (sym c.may_head.ensures ∙ c.if-may_head.true))
+
+pub check_applied-returns-in_default : goal.check_applied-returns-in_default
+check_applied-returns-in_default t c =
+    subst (λ (xs : List RawTerm). TellsForm (tm c.args.term.now) (spine (rtm c.args.head.now) (rtms xs) c.args.at) (Err (Because (NotPattern c.args.at))))
+    (sym (nil_from_length c.args.items.now c.in_default.ensures.cases))
+    (head_form (tm c.args.term.now) (rtm c.args.head.now) c.args.at false (sym c.may_head.ensures ∙ c.if-may_head.false))
+
+pub check_applied-returns-in_default-term : goal.check_applied-returns-in_default-term
+check_applied-returns-in_default-term t c =
+    subst (λ (rs : RTms). TellsForm (tm c.args.term.now) (spine (rtm c.args.head.now) rs c.args.at) (Ok tt)) (sym (rtms_last c.args.items.now c.in-Some.front.now c.in-Some.last.now c.in-Some.ensures.cases.0))
+    (no_app_form c.args.term.now (rtm c.args.head.now) (rtms c.in-Some.front.now) (rtm c.in-Some.last.now) c.args.at (Ok tt) c.in_default-term.not-App)
+
+pub check_applied-returns-in_err-check_applied : goal.check_applied-returns-in_err-check_applied
+check_applied-returns-in_err-check_applied t c =
+    let f = tm c.deref.result.now in
+    let a = tm c.in-App.argument.value in
+    let is : tm c.args.term.now ≡ app f a = ap tm c.in-App.is ∙ ap (λ u. app (tm u) a) (sym c.deref.ensures) in
+    let e = c.in_err-check_applied.field-0.0 in
+    subst (λ u. TellsForm u (spine (rtm c.args.head.now) (rtms c.args.items.now) c.args.at) c.from_residual.result) (sym is)
+    (subst (λ (rs : RTms). TellsForm (app f a) (spine (rtm c.args.head.now) rs c.args.at) c.from_residual.result) (sym (rtms_last c.args.items.now c.in-Some.front.now c.in-Some.last.now c.in-Some.ensures.cases.0))
+    (last_form_fails f a (rtm c.args.head.now) (rtms c.in-Some.front.now) (rtm c.in-Some.last.now) c.args.at e c.from_residual.result c.from_residual.ensures.1 c.in_err-check_applied.ensures))
+
+pub check_applied-returns : goal.check_applied-returns
+check_applied-returns t c =
+    let f = tm c.deref.result.now in
+    let a = tm c.deref-2.result.now in
+    let is : tm c.args.term.now ≡ app f a = ap tm c.in-App.is ∙ ap₂ (λ u v. app (tm u) (tm v)) (sym c.deref.ensures) (sym c.deref-2.ensures) in
+    subst (λ u. TellsForm u (spine (rtm c.args.head.now) (rtms c.args.items.now) c.args.at) c.check_form.result) (sym is)
+    (subst (λ (rs : RTms). TellsForm (app f a) (spine (rtm c.args.head.now) rs c.args.at) c.check_form.result) (sym (rtms_last c.args.items.now c.in-Some.front.now c.in-Some.last.now c.in-Some.ensures.cases.0))
+    (last_form f a (rtm c.args.head.now) (rtms c.in-Some.front.now) (rtm c.in-Some.last.now) c.args.at c.check_form.result c.in_ok-check_applied.ensures c.check_form.ensures))

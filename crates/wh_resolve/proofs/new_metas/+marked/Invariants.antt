@@ -1,11 +1,13 @@
-use Rattle.std.proofs.Common.{◌≡◌, drop}
-use Rattle.wh_text.specs.Erase.{rtms}
-use Rattle.wh_parts.specs.Faults.{first_fault}
-use Rattle.wh_resolve.specs.InScope.{scope as in_scope, bare}
-use Rattle.wh_resolve.specs.Marks.{is_marked, missing_each}
+use Rattle.std.proofs.Common.{◌+◌, ◌*◌}
+use Rattle.wh_text.specs.Erase.{rtm, rtms}
+use Rattle.wh_parts.proofs.RawTerms.{weight, weights}
 use Rattle.wh_resolve.proofs.new_metas.+marked.Given as goal
 
-abbrev pub invariant-check_each_marked-loop-item : goal.invariant-check_each_marked-loop-item
-invariant-check_each_marked-loop-item l =
-    (l.binders.items ≡ l.initial.binders.items)
-    × (first_fault (missing_each (in_scope l.scope) (is_marked (in_scope l.scope) l.marks) (bare l.initial.binders.items) (rtms l.item-items)) ≡ first_fault (missing_each (in_scope l.scope) (is_marked (in_scope l.scope) l.marks) (bare l.initial.binders.items) (rtms (drop l.item-index l.item-items))))
+abbrev pub decreases-check_marked : goal.decreases-check_marked
+decreases-check_marked l = 2 * weight (rtm l.raw.now)
+
+abbrev pub decreases-check_applied_marked : goal.decreases-check_applied_marked
+decreases-check_applied_marked l = 2 * (weight (rtm l.head.now) + weights (rtms l.items.now)) + 1
+
+abbrev pub decreases-check_each_marked : goal.decreases-check_each_marked
+decreases-check_each_marked l = 2 * weights (rtms l.items.now) + 1

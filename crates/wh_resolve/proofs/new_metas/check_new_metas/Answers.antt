@@ -1,22 +1,27 @@
-use Rattle.std.proofs.Common.{[], ap, sym, ◌∙◌}
+use Rattle.std.proofs.Common.{◌≡◌, List, [], Bool, None, sym, subst}
+use Rattle.wh_types.specs.declared.want.Or.TheVariants.{NoMemory, Because}
+use Rattle.wh_terms.specs.Erase.{tm}
 use Rattle.wh_text.specs.Erase.{rtm}
 use Rattle.wh_parts.specs.Faults.{first_fault}
 use Rattle.wh_parts.specs.RuleTests.{new_meta_tests}
-use Rattle.wh_resolve.specs.InScope.{scope as in_scope, bare}
-use Rattle.wh_resolve.specs.Marks.{is_marked, missing_tests}
-use Rattle.wh_resolve.proofs.AnswerLemmas.{reports_along}
-use Rattle.wh_resolve.proofs.MarkLemmas.{known_tests, marked_known}
+use Rattle.wh_resolve.specs.Marks.{AreMarked}
+use Rattle.wh_resolve.proofs.AnswerLemmas.{matched_err}
+use Rattle.wh_resolve.proofs.MarkLemmas.{are_marked}
 use Rattle.wh_resolve.proofs.new_metas.check_new_metas.Goals as goal
 
+pub returns-in_err-marks : goal.returns-in_err-marks
+returns-in_err-marks c = λ s l known m fits.
+    let tests = new_meta_tests s l [] (rtm c.args.raw.now) in
+    matched_err (λ _. first_fault tests ≡ None) tests c.from_residual.result NoMemory c.from_residual.ensures.1 tt
+
+pub returns-in_err-check_marked : goal.returns-in_err-check_marked
+returns-in_err-check_marked c = λ s l known m fits.
+    let tests = new_meta_tests s l [] (rtm c.args.raw.now) in
+    let marked = are_marked s l (tm c.args.left.now) c.in_ok-marks.marks.items c.args.metas c.in_ok-marks.ensures known fits in
+    matched_err (λ _. first_fault tests ≡ None) tests c.from_residual-in_err-check_marked.result (Because c.in_err-check_marked.field-0.0) c.from_residual-in_err-check_marked.ensures.1
+    (c.in_err-check_marked.ensures s l [] (subst (λ (flags : List Bool). AreMarked s l flags) (sym c.deref.ensures.value) marked) m)
+
 pub returns : goal.returns
-returns c =
-    let s = in_scope c.args.scope.now in
-    let left = rtm c.args.left.now in
-    let right = rtm c.args.right.now in
-    let marks = c.in_ok-marks.marks.items in
-    let known = is_marked s marks in
-    reports_along c.check_marked.result (missing_tests s (is_marked s c.deref.result.now) (bare c.new-binders.result.items) right) (new_meta_tests s left [] right)
-    (ap first_fault (sym (known_tests s left known (marked_known s left marks c.in_ok-marks.ensures) [] right c.requires)
-    ∙ ap (λ m. missing_tests s (is_marked s m) [] right) (sym c.deref.ensures.value)
-    ∙ ap (λ bs. missing_tests s (is_marked s c.deref.result.now) (bare bs) right) (sym c.new-binders.ensures.items)))
-    c.check_marked.ensures.told
+returns c = λ s l known m fits.
+    let marked = are_marked s l (tm c.args.left.now) c.in_ok-marks.marks.items c.args.metas c.in_ok-marks.ensures known fits in
+    c.in_ok-check_marked.ensures s l [] (subst (λ (flags : List Bool). AreMarked s l flags) (sym c.deref.ensures.value) marked) m

@@ -1,6 +1,6 @@
 use Rattle.std.proofs.Common.{◌≡◌, ◌+◌, List, [], ◌∷◌, drop, Some, ap, subst, sym, ◌∙◌, arith}
 use Rattle.std.proofs.lemmas.List.{map-append}
-use Rattle.wh_types.specs.Erase.{ty, tys}
+use Rattle.wh_types.specs.Erase.{ty}
 use Rattle.wh_types.specs.Ty.{◌⇒◌}
 use Rattle.wh_terms.specs.Tree.{app, lam as lam_tree}
 use Rattle.wh_terms.specs.Erase.{tm, tms}
@@ -13,7 +13,7 @@ use Rattle.wh_resolve.specs.declared.around.ResolvedList.{ResolvedList}
 use Rattle.wh_parts.specs.declared.fault.SystemFault.TheVariants.{IllTyped}
 use Rattle.wh_resolve.specs.Answers.{IsResolved}
 use Rattle.wh_parts.specs.Faults.{first_fault}
-use Rattle.wh_resolve.specs.InScope.{scope as in_scope, typed}
+use Rattle.wh_resolve.specs.InScope.{scope as in_scope, type_of, typed, types_of}
 use Rattle.wh_parts.specs.Kinds.{binders_of, kind_of, spine_kind, takes, gives}
 use Rattle.wh_parts.specs.Naming.{meant, applied_meant}
 use Rattle.wh_resolve.specs.Resolving.{AreResolved, ResolvesEach, ResolvesSpine}
@@ -108,7 +108,7 @@ resolve_under-returns-in_ok-abstracted-in-Lam-clause-told t c =
     lam_whole (in_scope c.args.scope.now) (typed c.args.passed.now.items) u body x a c.in-Lam.field-3 k c.in_ok-body-in-Lam.body c.in_ok-abstracted-in-Lam.field-0 is
     c.in_ok-kind-in-Lam.ensures.0 (c.in_ok-kind-in-Lam.ensures.1 ∙ ap Some (sym c.in_ok-copy-in-Lam.ensures)) c.in_ok-body-in-Lam.ensures.told
     (c.in_ok-abstracted-in-Lam.ensures.term ∙ ap (λ j. lam_tree j (tm c.in_ok-body-in-Lam.body.term)) (sym c.in_ok-copy-in-Lam.ensures))
-    (c.in_ok-abstracted-in-Lam.ensures.kind ∙ ap (λ j. j ⇒ ty c.in_ok-body-in-Lam.body.kind) (sym c.in_ok-copy-in-Lam.ensures))
+    (c.in_ok-abstracted-in-Lam.ensures.kind ∙ ap (λ j. j ⇒ type_of c.in_ok-body-in-Lam.body.kind) (sym c.in_ok-copy-in-Lam.ensures))
 
 pub resolve_under-returns-in_ok-head-in-Spine-clause-told : goal.resolve_under-returns-in_ok-head-in-Spine-clause-told
 resolve_under-returns-in_ok-head-in-Spine-clause-told t c =
@@ -118,7 +118,7 @@ resolve_under-returns-in_ok-head-in-Spine-clause-told t c =
     let is : rtm c.args.term.now ≡ spine h ts c.in-Spine.field-2 =
     rtm_of_spine c.args.term.now c.in-Spine.head c.in-Spine.items c.in-Spine.field-2 c.in-Spine.is ∙ ap (λ b. spine (rtm b) ts c.in-Spine.field-2) (sym c.deref-in-Spine.ensures) in
     spine_whole s (typed c.args.passed.now.items) (rtm c.args.term.now) h ts c.in-Spine.field-2 c.in_ok-head-in-Spine.head c.resolve_applied.result is c.in_ok-head-in-Spine.ensures.told
-    (subst (λ (ps : List Around). ResolvesSpine s (typed ps) (Some (tm c.in_ok-head-in-Spine.head.term)) (Some (ty c.in_ok-head-in-Spine.head.kind)) ts c.resolve_applied.result)
+    (subst (λ (ps : List Around). ResolvesSpine s (typed ps) (Some (tm c.in_ok-head-in-Spine.head.term)) (Some (type_of c.in_ok-head-in-Spine.head.kind)) ts c.resolve_applied.result)
     c.in_ok-head-in-Spine.ensures.kept c.resolve_applied.ensures.told)
 
 pub resolve_each-returns-in_err-term-clause-told : goal.resolve_each-returns-in_err-term-clause-told
@@ -131,7 +131,7 @@ resolve_each-returns-in_err-term-clause-told t c =
     let here = subst (λ (ps : List Around). Fails (first_fault (naming_tests s (typed ps) u)) e) c.loop-item.invariant.0 (term_fails s (typed c.loop-item.passed.items) u e c.in_err-term.ensures.told) in
     subst (λ (ys : List RawTerm). ResolvesEach s bs (rtms ys) c.from_residual-in_err-term.result) c.as_slice-item-items.ensures
     (matched_err (AreResolved s bs (rtms xs)) (namings_tests s bs (rtms xs)) c.from_residual-in_err-term.result e c.from_residual-in_err-term.ensures.1
-    (part_fails s bs (rtms xs) (rtms (drop c.loop-item.item-index xs)) (rtms (drop (c.loop-item.item-index + 1) xs)) (tms c.loop-item.trees) (tys c.loop-item.kinds) u e c.loop-item.invariant.1
+    (part_fails s bs (rtms xs) (rtms (drop c.loop-item.item-index xs)) (rtms (drop (c.loop-item.item-index + 1) xs)) (tms c.loop-item.trees) (types_of c.loop-item.kinds) u e c.loop-item.invariant.1
     (left_next xs c.loop-item.item-index c.item-item.result c.loop-item-test.true c.item-item.is) here))
 
 pub resolve_each-loop-item-preserved : goal.resolve_each-loop-item-preserved
@@ -143,10 +143,10 @@ resolve_each-loop-item-preserved t c =
     let r = c.in_ok-term.field-0 in
     let here = subst (λ (ps : List Around). IsResolved (naming_tests s (typed ps) u) (meant s (binders_of (typed ps)) u) (kind_of s (typed ps) u) r) c.loop-item.invariant.0 c.in_ok-term.ensures.told in (
       ◌∙◌ {A = List Around} c.in_ok-term.ensures.kept c.loop-item.invariant.0,
-      part_next s bs (rtms xs) (rtms (drop c.loop-item.item-index xs)) (rtms (drop (c.loop-item.item-index + 1) xs)) (tms c.loop-item.trees) (tms c.push.new.self) (tys c.loop-item.kinds) (tys c.push-in-loop-item.new.self)
-          u (tm r.term) (ty r.kind) c.loop-item.invariant.1 (left_next xs c.loop-item.item-index c.item-item.result c.loop-item-test.true c.item-item.is) here.passed here.term here.kind
+      part_next s bs (rtms xs) (rtms (drop c.loop-item.item-index xs)) (rtms (drop (c.loop-item.item-index + 1) xs)) (tms c.loop-item.trees) (tms c.push.new.self) (types_of c.loop-item.kinds) (types_of c.push-in-loop-item.new.self)
+          u (tm r.term) (type_of r.kind) c.loop-item.invariant.1 (left_next xs c.loop-item.item-index c.item-item.result c.loop-item-test.true c.item-item.is) here.passed here.term here.kind
           (ap tms c.in_ok-push.ensures.ok ∙ tms_append c.loop-item.trees (r.term ∷ []))
-          (ap tys c.in_ok-push-2.ensures.ok ∙ map-append ty c.loop-item.kinds (r.kind ∷ [])),
+          (ap types_of c.in_ok-push-2.ensures.ok ∙ map-append type_of c.loop-item.kinds (r.kind ∷ [])),
     )
 
 pub resolve_each-returns-clause-told : goal.resolve_each-returns-clause-told
@@ -164,13 +164,13 @@ resolve_applied-returns-in_err-argument-clause-told t c =
     let bs = typed c.args.passed.now.items in
     let xs = c.as_slice-item-items.result.now in
     let u = Some (tm c.args.head.term) in
-    let a = Some (ty c.args.head.kind) in
+    let a = Some (type_of c.args.head.kind) in
     let x = rtm c.item-item.result in
     let e = c.in_err-argument.field-0.0 in
     let here = subst (λ (ps : List Around). Fails (first_fault (naming_tests s (typed ps) x)) e) c.loop-item.invariant.0 (term_fails s (typed c.loop-item.passed.items) x e c.in_err-argument.ensures.told) in
     subst (λ (ys : List RawTerm). ResolvesSpine s bs u a (rtms ys) c.from_residual.result) c.as_slice-item-items.ensures
     (matched_err (IsResolved (applying_tests s bs a (rtms xs)) (applied_meant s (binders_of bs) u (rtms xs)) (spine_kind s bs a (rtms xs))) (applying_tests s bs a (rtms xs)) c.from_residual.result e c.from_residual.ensures.1
-    (spine_fails_in s bs u (Some (tm c.loop-item.whole.term)) a (Some (ty c.loop-item.whole.kind)) (rtms xs) (rtms (drop c.loop-item.item-index xs)) (rtms (drop (c.loop-item.item-index + 1) xs)) x e c.loop-item.invariant.1
+    (spine_fails_in s bs u (Some (tm c.loop-item.whole.term)) a (Some (type_of c.loop-item.whole.kind)) (rtms xs) (rtms (drop c.loop-item.item-index xs)) (rtms (drop (c.loop-item.item-index + 1) xs)) x e c.loop-item.invariant.1
     (left_next xs c.loop-item.item-index c.item-item.result c.loop-item-test.true c.item-item.is) here))
 
 pub resolve_applied-returns-in_err-whole-clause-told : goal.resolve_applied-returns-in_err-whole-clause-told
@@ -179,7 +179,7 @@ resolve_applied-returns-in_err-whole-clause-told t c =
     let bs = typed c.args.passed.now.items in
     let xs = c.as_slice-item-items.result.now in
     let u = Some (tm c.args.head.term) in
-    let a = Some (ty c.args.head.kind) in
+    let a = Some (type_of c.args.head.kind) in
     let x = rtm c.item-item.result in
     let f = c.loop-item.whole in
     let r = c.in_ok-argument.argument in
@@ -189,7 +189,7 @@ resolve_applied-returns-in_err-whole-clause-told t c =
     (matched_err (IsResolved (applying_tests s bs a (rtms xs)) (applied_meant s (binders_of bs) u (rtms xs)) (spine_kind s bs a (rtms xs))) (applying_tests s bs a (rtms xs)) c.from_residual-in_err-whole.result e c.from_residual-in_err-whole.ensures.1
     (spine_fails_at s bs u a (rtms xs) f r x (rtms (drop c.loop-item.item-index xs)) (rtms (drop (c.loop-item.item-index + 1) xs)) c.offset.result e c.loop-item.invariant.1
     (left_next xs c.loop-item.item-index c.item-item.result c.loop-item-test.true c.item-item.is) c.offset.ensures here
-    (told_fails (test (not (takes (Some (ty f.kind)) (Some (ty r.kind)))) (IllTyped c.offset.result) ∷ []) (Some (app (tm f.term) (tm r.term))) (gives (Some (ty f.kind))) e c.in_err-whole.ensures)))
+    (told_fails (test (not (takes (Some (type_of f.kind)) (Some (type_of r.kind)))) (IllTyped c.offset.result) ∷ []) (Some (app (tm f.term) (tm r.term))) (gives (Some (type_of f.kind))) e c.in_err-whole.ensures)))
 
 pub resolve_applied-loop-item-preserved : goal.resolve_applied-loop-item-preserved
 resolve_applied-loop-item-preserved t c =
@@ -200,6 +200,6 @@ resolve_applied-loop-item-preserved t c =
     let r = c.in_ok-argument.argument in
     let here = subst (λ (ps : List Around). IsResolved (naming_tests s (typed ps) x) (meant s (binders_of (typed ps)) x) (kind_of s (typed ps) x) r) c.loop-item.invariant.0 c.in_ok-argument.ensures.told in (
       ◌∙◌ {A = List Around} c.in_ok-argument.ensures.kept c.loop-item.invariant.0,
-      spine_next s bs (Some (tm c.args.head.term)) (Some (ty c.args.head.kind)) (rtms xs) c.loop-item.whole r c.in_ok-whole.whole x (rtms (drop c.loop-item.item-index xs)) (rtms (drop (c.loop-item.item-index + 1) xs)) c.offset.result
+      spine_next s bs (Some (tm c.args.head.term)) (Some (type_of c.args.head.kind)) (rtms xs) c.loop-item.whole r c.in_ok-whole.whole x (rtms (drop c.loop-item.item-index xs)) (rtms (drop (c.loop-item.item-index + 1) xs)) c.offset.result
           c.loop-item.invariant.1 (left_next xs c.loop-item.item-index c.item-item.result c.loop-item-test.true c.item-item.is) c.offset.ensures here c.in_ok-whole.ensures,
     )

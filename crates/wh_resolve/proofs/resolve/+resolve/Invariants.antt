@@ -1,20 +1,19 @@
 use Rattle.std.proofs.Common.{◌≡◌, ◌+◌, ◌*◌, Some, drop}
-use Rattle.wh_types.specs.Erase.{ty, tys}
 use Rattle.wh_terms.specs.Erase.{tm, tms}
 use Rattle.wh_text.specs.Erase.{rtm, rtms}
-use Rattle.wh_resolve.specs.InScope.{scope as in_scope, typed}
+use Rattle.wh_resolve.specs.InScope.{scope as in_scope, type_of, typed, types_of}
 use Rattle.wh_parts.proofs.RawTerms.{weight, weights}
 use Rattle.wh_resolve.proofs.ResolveLemmas.{SameSpine, Part}
 use Rattle.wh_resolve.proofs.resolve.+resolve.Given as goal
 
 abbrev pub invariant-resolve_each-loop-item : goal.invariant-resolve_each-loop-item
 invariant-resolve_each-loop-item l =
-    (l.passed.items ≡ l.initial.passed.items) × Part (in_scope l.scope) (typed l.initial.passed.items) (rtms l.item-items) (tms l.trees) (tys l.kinds) (rtms (drop l.item-index l.item-items))
+    (l.passed.items ≡ l.initial.passed.items) × Part (in_scope l.scope) (typed l.initial.passed.items) (rtms l.item-items) (tms l.trees) (types_of l.kinds) (rtms (drop l.item-index l.item-items))
 
 abbrev pub invariant-resolve_applied-loop-item : goal.invariant-resolve_applied-loop-item
 invariant-resolve_applied-loop-item l =
     (l.passed.items ≡ l.initial.passed.items)
-    × SameSpine (in_scope l.scope) (typed l.initial.passed.items) (Some (tm l.initial.whole.term)) (Some (ty l.initial.whole.kind)) (rtms l.item-items) (Some (tm l.whole.term)) (Some (ty l.whole.kind)) (rtms (drop l.item-index l.item-items))
+    × SameSpine (in_scope l.scope) (typed l.initial.passed.items) (Some (tm l.initial.whole.term)) (Some (type_of l.initial.whole.kind)) (rtms l.item-items) (Some (tm l.whole.term)) (Some (type_of l.whole.kind)) (rtms (drop l.item-index l.item-items))
 
 abbrev pub decreases-resolve_under : goal.decreases-resolve_under
 decreases-resolve_under l = 2 * weight (rtm l.term.now)

@@ -18,7 +18,7 @@ returns-in-Some c =
     let n = c.args.name.now in
     let z = c.in-Some.meta in
     let dm = c.index-as_slice-meta.result in
-    let num : number_of s.metas n ≡ Some c.in-Some.meta = ap (number_of s.metas) (sym c.bytes.ensures.value) ∙ sym c.number.ensures ∙ c.in-Some.is in
+    let num : number_of s.metas n ≡ Some c.in-Some.meta = sym c.number.ensures ∙ c.in-Some.is in
     let below : c.in-Some.meta < length c.as_slice.result.now = omega (arith, number_below s.metas n c.in-Some.meta num, c.args.scope.now.each_meta, ap length c.as_slice.ensures) in
     let found : slice_get s.declared c.in-Some.meta ≡ Some (declared_meta dm) =
     ap (λ xs. slice_get (map declared_meta xs) c.in-Some.meta) (sym c.as_slice.ensures) ∙ slice_get_mapped declared_meta c.as_slice.result.now c.in-Some.meta dm below c.index-as_slice-meta.is in
@@ -27,16 +27,16 @@ returns-in-Some c =
     record {
       passed = plain_tests s n c.args.at z (declared_meta dm) num found ∙ ap (λ b. first_of b (IllTyped c.args.at) None) bare;
       term = plain_meta s n z num ∙ ap (λ ts. Some (meta z (tms ts))) (sym c.in_ok-new.ensures) ∙ ap Some (sym (tm_meta z c.in_ok-new.field-0));
-      kind = plain_kind s n z (declared_meta dm) num found bare ∙ ap Some (sym c.in_ok-copy.ensures);
+      kind = plain_kind s n z (declared_meta dm) num found bare;
     }
 
-pub returns-in_ok-copy-in-Some-number : goal.returns-in_ok-copy-in-Some-number
-returns-in_ok-copy-in-Some-number c =
+pub returns-in-Some-number : goal.returns-in-Some-number
+returns-in-Some-number c =
     let s = in_scope c.args.scope.now in
     let n = c.args.name.now in
     let f = c.in-Some-number.fun in
-    let other : number_of s.metas n ≡ None = ap (number_of s.metas) (sym c.bytes.ensures.value) ∙ sym c.number.ensures ∙ c.in_default.is in
-    let num : number_of s.funs n ≡ Some c.in-Some-number.fun = ap (number_of s.funs) (sym c.bytes-2.ensures.value) ∙ sym c.number-2.ensures ∙ c.in-Some-number.is in
+    let other : number_of s.metas n ≡ None = sym c.number.ensures ∙ c.in_default.is in
+    let num : number_of s.funs n ≡ Some c.in-Some-number.fun = sym c.number-2.ensures ∙ c.in-Some-number.is in
     let below : c.in-Some-number.fun < length c.as_slice-in-Some-number.result.now =
     omega (arith, number_below s.funs n c.in-Some-number.fun num, c.args.scope.now.each_fun, ap length c.as_slice-in-Some-number.ensures) in
     let found : slice_get s.kinds c.in-Some-number.fun ≡ Some (ty c.index-as_slice-fun.result) =
@@ -44,5 +44,5 @@ returns-in_ok-copy-in-Some-number c =
     record {
       passed = plain_fun_tests s n c.args.at f other num;
       term = plain_fun s n f other num;
-      kind = plain_fun_kind s n f (ty c.index-as_slice-fun.result) other num found ∙ ap Some (sym c.in_ok-copy-in-Some-number.ensures);
+      kind = plain_fun_kind s n f (ty c.index-as_slice-fun.result) other num found;
     }

@@ -14,7 +14,7 @@ use Rattle.wh_parts.proofs.FaultLemmas.{fault_after, fault_in_first, no_fault_in
 use Rattle.wh_parts.proofs.PassLemmas.{fault_up}
 use Rattle.wh_system.specs.RulePasses.{IsResolvedRule, form_tests, own_tests, scope_over, sides_tests}
 use Rattle.wh_system.proofs.PassOrder.{handed, declared_first, left_next, right_next, after_limits}
-use Rattle.wh_system.proofs.ScopeLemmas.{scope_with, scope_is, declared_along, small_side, right_named}
+use Rattle.wh_system.proofs.ScopeLemmas.{scope_with, scope_is, declared_along, small_side}
 use Rattle.wh_system.proofs.rules.resolve_rule.Goals as goal
 
 pub returns-in_err-metas : goal.returns-in_err-metas
@@ -72,7 +72,7 @@ returns-in_err-left c =
     c.in_err-left.ensures
 
 pub check_form-requires : goal.check_form-requires
-check_form-requires c = right_named _ (rrule c.args.raw.now) c.in_ok-left.ensures.0
+check_form-requires c = record { left = c.in_ok-left.ensures.1.0; right = c.in_ok-left.ensures.1.1 }
 
 pub returns-in_err-head : goal.returns-in_err-head
 returns-in_err-head c =
@@ -119,6 +119,6 @@ returns c =
         right = ap (λ (t : Scope). meant t [] r.right) (sym same) ∙ c.in_ok-left.ensures.1.1;
         head = ap (λ (t : Scope). head_symbol t r.left) (sym same) ∙ c.in_ok-head.ensures.1;
         count = c.arguments_of-count.ensures;
-        names = c.in_ok-meta_names.ensures ∙ ap (λ (ms : List RawMeta). map (λ (m : RMeta). m.name.name) (map rmeta ms)) c.as_slice-2.ensures;
+        names = c.in_ok-metas.ensures.1.0 ∙ ap (λ (ms : List RawMeta). map (λ (m : RMeta). m.name.name) (map rmeta ms)) c.as_slice.ensures;
       },
     )

@@ -1,5 +1,5 @@
-use Rattle.std.proofs.Common.{rules, map, true, ◌<◌, ◌+◌, ap₂, length, List, Option, Some, None, ℕ, ◌≡◌, [], ◌∷◌, ap, sym, ◌∙◌, subst}
-use Rattle.std.proofs.lemmas.List.{length-map, map-append}
+use Rattle.std.proofs.Common.{rules, map, true, ◌<◌, ◌+◌, ap₂, length, List, Option, Some, None, ℕ, ◌≡◌, [], ap, sym, ◌∙◌, subst}
+use Rattle.std.proofs.lemmas.List.{length-map}
 use Rattle.std.specs.Prelude.{slice_set, slice_index_or}
 use Rattle.wh_types.specs.Erase.{ty, tys}
 use Rattle.wh_parts.specs.declared.parts.RawRule.{RawRule}
@@ -23,7 +23,7 @@ loop-raw-init c =
     let p = rparts c.args.parts.now in
     let kinds : length c.args.funs.now.kinds ≡ length p.funs = sym (length-map c.args.funs.now.kinds ty) ∙ ap length c.requires.kinds ∙ length-map p.funs (λ (f : RFun). type_of_raw (sort_names p) f.kind) in
     none_so_far p c.as_slice-raw-items.result.now (length c.as_slice.result.now) c.new-rules.result.items _ c.in_ok-needs.needs.items c.new-rules.ensures.items
-    (ap (map _) c.new-meta_names.ensures.items) (c.in_ok-needs.ensures.items_if_clones_equal (λ y e. search rules)) (ap length c.as_slice.ensures ∙ kinds)
+    c.new-meta_names.ensures.items (c.in_ok-needs.ensures.items_if_clones_equal (λ y e. search rules)) (ap length c.as_slice.ensures ∙ kinds)
 
 pub resolve_rule-requires : goal.resolve_rule-requires
 resolve_rule-requires c =
@@ -88,9 +88,9 @@ loop-raw-preserved c =
     let back = written_back old new c.loop-raw.needs.len (ap length (sym value) ∙ c.deref_mut.ensures.len) (c.meet_need.auto.needs ∙ ap length value) in
     let meets = ap (λ (ns : List (Option ℕ)). differs done.count (slice_index_or ns done.head None)) (sym value) ∙ c.in_ok-meet_need.ensures.0 in
     let set : new ≡ slice_set old done.head (Some done.count) = c.in_ok-meet_need.ensures.1 ∙ ap (λ (ns : List (Option ℕ)). slice_set ns done.head (Some done.count)) value in
-    subst (λ (ns : List (Option ℕ)). SoFar p xs (c.loop-raw.raw-index + 1) c.push.new.self.items (map (λ names. names.items) c.push-in-loop-raw.new.self.items) ns) (sym (back ∙ set))
+    subst (λ (ns : List (Option ℕ)). SoFar p xs (c.loop-raw.raw-index + 1) c.push.new.self.items c.push-in-loop-raw.new.self.items ns) (sym (back ∙ set))
     (one_more p xs c.loop-raw.raw-index c.loop-raw.rules.items c.push.new.self.items _ _ old c.raw-item.result done c.loop-raw-test.true c.raw-item.is c.loop-raw.invariant own is meets
-    c.in_ok-push.ensures.items (ap (map (λ names. names.items)) c.in_ok-push-2.ensures.items ∙ map-append (λ names. names.items) c.loop-raw.meta_names.items (done.meta_names ∷ [])))
+    c.in_ok-push.ensures.items c.in_ok-push-2.ensures.items)
 
 pub returns : goal.returns
 returns c =

@@ -1,7 +1,6 @@
-use Rattle.std.proofs.Common.{map}
 use Rattle.wh_parts.specs.Erase.{rparts}
 use Rattle.wh_system.proofs.RuleSteps.{SoFar}
 use Rattle.wh_system.proofs.rules.resolve_rules.Given as goal
 
 abbrev pub invariant-loop-raw : goal.invariant-loop-raw
-invariant-loop-raw l = SoFar (rparts l.parts) l.raw-items l.raw-index l.rules.items (map (λ names. names.items) l.meta_names.items) l.needs.items
+invariant-loop-raw l = SoFar (rparts l.parts) l.raw-items l.raw-index l.rules.items l.meta_names.items l.needs.items

@@ -3,7 +3,6 @@ use Rattle.std.proofs.lemmas.Grind.{merely}
 use Rattle.std.proofs.lemmas.List.{length-map}
 use Rattle.wh_parts.specs.Parts.{RFun}
 use Rattle.wh_parts.specs.Erase.{rparts, rname}
-use Rattle.wh_system.proofs.PartsAlong.{sort_names_along, fun_names_along}
 use Rattle.wh_system.proofs.SaidLemmas.{says_it}
 use Rattle.wh_system.proofs.SystemMade.{system_made}
 use Rattle.wh_system.proofs.system.System.new.Goals as goal
@@ -13,14 +12,10 @@ invariant_of-result c =
     let p = rparts c.args.parts.now in
     let done = c.in_ok-resolved.resolved in
     let is = c.in_ok-resolved.ensures.1 in
-    let sorts = sort_names_along c.as_slice.result.now c.args.parts.now.sorts c.in_ok-sort_names.sort_names.items c.as_slice.ensures c.in_ok-sort_names.ensures in
-    let funs = fun_names_along c.as_slice-2.result.now c.args.parts.now.funs c.in_ok-fun_names.fun_names.items c.as_slice-2.ensures c.in_ok-fun_names.ensures in
-    let many = ap length c.as_slice-3.ensures ∙ sym (length-map c.args.parts.now.sorts rname) in
-    let says = says_it p done c.in_ok-sort_names.sort_names.items c.in_ok-fun_names.fun_names.items (length c.as_slice-3.result.now) is sorts funs many in
+    let many = ap length c.as_slice.ensures ∙ sym (length-map c.args.parts.now.sorts rname) in
+    let says = says_it p done (length c.as_slice.result.now) is many in
     record {
-      sorts_named = sorts ∙ sym is.sorts;
-      funs_named = funs ∙ sym is.funs;
-      each_need = is.rules.each_need ∙ sym (ap length funs ∙ length-map p.funs (λ (f : RFun). f.name.name));
+      each_need = is.rules.each_need ∙ sym (ap length is.funs ∙ length-map p.funs (λ (f : RFun). f.name.name));
       needs_known = is.rules.needs;
       made = merely (system_made p _ c.requires c.in_ok-resolved.ensures.0 says);
     }
@@ -29,9 +24,5 @@ pub returns-clause-said : goal.returns-clause-said
 returns-clause-said c =
     let p = rparts c.args.parts.now in
     let done = c.in_ok-resolved.resolved in
-    let sorts = sort_names_along c.as_slice.result.now c.args.parts.now.sorts c.in_ok-sort_names.sort_names.items c.as_slice.ensures c.in_ok-sort_names.ensures in
-    let funs = fun_names_along c.as_slice-2.result.now c.args.parts.now.funs c.in_ok-fun_names.fun_names.items c.as_slice-2.ensures c.in_ok-fun_names.ensures in
-    let many = ap length c.as_slice-3.ensures ∙ sym (length-map c.args.parts.now.sorts rname) in (
-      c.in_ok-resolved.ensures.0,
-      says_it p done c.in_ok-sort_names.sort_names.items c.in_ok-fun_names.fun_names.items (length c.as_slice-3.result.now) c.in_ok-resolved.ensures.1 sorts funs many,
-    )
+    let many = ap length c.as_slice.ensures ∙ sym (length-map c.args.parts.now.sorts rname) in
+    (c.in_ok-resolved.ensures.0, says_it p done (length c.as_slice.result.now) c.in_ok-resolved.ensures.1 many)
