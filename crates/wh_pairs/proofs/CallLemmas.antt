@@ -13,7 +13,7 @@ use Rattle.wh_pairs.specs.PairData.{Within}
 use Rattle.wh_pairs.specs.Spines.{spine_arguments}
 use Rattle.wh_pairs.specs.Conditions.{with_condition}
 use Rattle.wh_pairs.specs.Calls.{Call, calls, calls_within}
-use Rattle.wh_pairs.specs.Parts.{calls_each}
+use Rattle.wh_pairs.specs.CallsEach.{calls_each}
 use Rattle.wh_pairs.specs.Known.{SymbolsBelow, AllSymbolsBelow}
 use Rattle.wh_pairs.specs.Views.{trees}
 

@@ -7,5 +7,5 @@ pub mod Subsumption
 pub mod Views
 pub mod Known
 pub mod Survivors
-pub mod Parts
+pub mod CallsEach
 pub mod SystemPairs

@@ -10,18 +10,17 @@ ghost use Rattle.wh_terms.specs.Scope.{scope};
 ghost use Rattle.wh_pairs.specs.PairData.{within};
 ghost use Rattle.wh_system.specs.SystemView.{system_data};
 ghost use Rattle.wh_pairs.specs.Calls.{calls, calls_within, calls_of};
-ghost use Rattle.wh_pairs.specs.Parts.{calls_each};
+ghost use Rattle.wh_pairs.specs.CallsEach.{calls_each};
 ghost use Rattle.wh_pairs.specs.Known.{SymbolsBelow, AllSymbolsBelow};
 ghost use Rattle.wh_pairs.specs.Views.{call_data, trees};
 
 use crate::conditions::with_condition;
-use crate::numbers::{counted, sum};
 use crate::pair::Condition;
 use crate::spine::{Spine, spine_of};
 use std::alloc::{AllocError, Global};
 use wh_system::System;
 use wh_terms::{Rule, Term, Terms};
-use wh_types::SimpleType;
+use wh_types::{SimpleType, counted, sum};
 
 /// A defined symbol as the head of a spine, and where it stands.
 #[derive(Drop)]

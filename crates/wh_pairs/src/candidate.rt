@@ -1,8 +1,11 @@
 //! The candidate that a call in a right side makes.
+//!
+//! The candidates of a rule have one left side, which may be large. So `candidate` leaves it out, and `with_left` copies it for a
+//! candidate that is kept.
 
-ghost use Rattle.std.specs.Prelude.{◌≡◌, ◌+◌, ◌-◌, ◌++◌, ◌<◌, ◌≤◌, ℕ, length, map, reverse, take, IfOk};
+ghost use Rattle.std.specs.Prelude.{◌≡◌, ◌+◌, ◌-◌, ◌++◌, ◌<◌, ◌≤◌, [], ℕ, length, map, reverse, take, IfOk};
 ghost use Rattle.wh_types.specs.Erase.{ty};
-ghost use Rattle.wh_terms.specs.Tree.{free, fun, head};
+ghost use Rattle.wh_terms.specs.Tree.{free};
 ghost use Rattle.wh_terms.specs.Erase.{tm, symbols, declared_metas, declared_meta, rewrite_rule};
 ghost use Rattle.wh_terms.specs.Scope.{scope};
 ghost use Rattle.wh_terms.specs.Kinds.{kinds_of};
@@ -10,18 +13,18 @@ ghost use Rattle.wh_terms.specs.Substitution.{act};
 ghost use Rattle.wh_pairs.specs.PairData.{within, pair_data};
 ghost use Rattle.wh_pairs.specs.Candidates.{candidate, freed, missing_types, nullary, numbered_from};
 ghost use Rattle.wh_pairs.specs.Known.{TakesArguments};
-ghost use Rattle.wh_pairs.specs.Spines.{spine_arguments, symbol_of};
+ghost use Rattle.wh_pairs.specs.Spines.{symbol_of};
+ghost use Rattle.wh_pairs.specs.Survivors.{with_left};
 ghost use Rattle.wh_pairs.specs.Views.{call_data, trees};
 
 use crate::calling::Call;
 use crate::conditions::conditions_of;
 use crate::freed::{Freeing, freed_arguments, nullary};
-use crate::numbers::{counted, sum};
 use crate::pair::Pair;
-use crate::spine::spine_of;
+use crate::spine::Spine;
 use std::alloc::{AllocError, Global};
 use wh_terms::{MetaDecl, Metas, Rule, Signature, Term, Terms, Types, copy_term};
-use wh_types::SimpleType;
+use wh_types::{SimpleType, counted, sum};
 
 // The declaration of a meta-variable of arity 0.
 fn constant(alloc: Global, kind: &SimpleType) -> Result<MetaDecl, AllocError>
@@ -141,7 +144,8 @@ fn symbol_of(head: &Term) -> u32
     }
 }
 
-/// The candidate of a call in the right side of a rule, which has the number.
+/// The candidate of a call in the right side of a rule, which has the number, but for its left side: in place of that stands
+/// the symbol 0 with no arguments.
 pub fn candidate(
     alloc: Global,
     signature: &Signature,
@@ -150,18 +154,28 @@ pub fn candidate(
     call: &Call<'_>,
 ) -> Result<Pair, AllocError>
     requires { TakesArguments (symbols signature.now) call.now.symbol call.now.need }
-    ensures { IfOk result (λ pair. pair_data pair ≡ candidate (symbols signature.now) number (rewrite_rule rule.now) (call_data call.now)) }
+    ensures { IfOk result (λ pair. pair_data pair
+        ≡ with_left 0 [] (candidate (symbols signature.now) number (rewrite_rule rule.now) (call_data call.now))) }
 {
-    let left = spine_of(alloc, &rule.left)?;
     let kinds = fresh_kinds(alloc, signature, call)?;
     let first = counted(rule.metas.as_slice().len())?;
     Ok(Pair {
         rule: number,
         metas: candidate_metas(alloc, &rule.metas, kinds.as_slice())?,
-        left_fun: symbol_of(left.head),
-        left: left_arguments(alloc, left.arguments.as_slice())?,
+        left_fun: 0,
+        left: Terms::new(alloc)?,
         right_fun: call.symbol,
         right: right_arguments(alloc, first, call)?,
         conditions: conditions_of(alloc, call.conditions.as_slice())?,
     })
+}
+
+/// The candidate with a copy of the left side of its rule, which is this spine.
+pub fn with_left(alloc: Global, mut candidate: Pair, left: &Spine<'_>) -> Result<Pair, AllocError>
+    ensures { IfOk result (λ pair. pair_data pair
+        ≡ with_left (symbol_of (tm left.now.head.now)) (trees left.now.arguments.items) (pair_data candidate)) }
+{
+    candidate.left_fun = symbol_of(left.head);
+    candidate.left = left_arguments(alloc, left.arguments.as_slice())?;
+    Ok(candidate)
 }

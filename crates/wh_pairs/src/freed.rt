@@ -12,10 +12,9 @@ ghost use Rattle.wh_terms.specs.Under.{ups, ups_free};
 ghost use Rattle.wh_pairs.specs.Candidates.{freed};
 ghost use Rattle.wh_pairs.specs.Views.{trees};
 
-use crate::numbers::{counted, sum};
 use std::alloc::{AllocError, Global};
 use wh_terms::{Term, Terms};
-use wh_types::SimpleType;
+use wh_types::{SimpleType, counted, sum};
 
 /// Binders whose variables become meta-variables of arity 0: that of the outermost one has the number `first`, and each
 /// further one counts on.

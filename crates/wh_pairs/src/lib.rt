@@ -1,7 +1,7 @@
 //! Dependency pairs: the calls that the rules of a system lead to, without those that others make needless.
 //!
-//! `calls_of` finds the calls in the right side of a rule, `candidate` makes a pair of each, and `pairs` keeps those that no
-//! other candidate of the rule subsumes.
+//! `calls_of` finds the calls in the right side of a rule, `candidate` makes a pair of each but for its left side, and `pairs`
+//! keeps those that no other candidate of the rule subsumes.
 #![tactic(auto)]
 
 mod calling;
@@ -9,7 +9,6 @@ mod candidate;
 mod conditions;
 mod freed;
 mod laws;
-mod numbers;
 mod pair;
 mod spine;
 mod subsumption;

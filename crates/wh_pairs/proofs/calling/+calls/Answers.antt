@@ -11,7 +11,7 @@ use Rattle.wh_pairs.specs.PairData.{Within, within}
 use Rattle.wh_system.specs.SystemView.{system_data}
 use Rattle.wh_pairs.specs.Spines.{spine_arguments}
 use Rattle.wh_pairs.specs.Calls.{Call, calls}
-use Rattle.wh_pairs.specs.Parts.{calls_each}
+use Rattle.wh_pairs.specs.CallsEach.{calls_each}
 use Rattle.wh_pairs.specs.Known.{SymbolsBelow, AllSymbolsBelow}
 use Rattle.wh_pairs.specs.Views.{call_data, trees}
 use Rattle.wh_pairs.proofs.SpineLemmas.{weight_of_spine, head_head, no_head}

@@ -6,7 +6,7 @@ use Rattle.wh_terms.proofs.TermLemmas.{weight, weights}
 use Rattle.wh_pairs.specs.PairData.{within}
 use Rattle.wh_system.specs.SystemView.{system_data}
 use Rattle.wh_pairs.specs.Calls.{calls_within}
-use Rattle.wh_pairs.specs.Parts.{calls_each}
+use Rattle.wh_pairs.specs.CallsEach.{calls_each}
 use Rattle.wh_pairs.specs.Views.{call_data, trees}
 use Rattle.wh_pairs.proofs.calling.+calls.Given as goal
 
