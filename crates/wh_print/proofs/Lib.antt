@@ -3,6 +3,7 @@ pub mod RulePrinting
 pub mod FreshNames
 pub mod NamedParts
 pub mod NamedPairs
+pub mod TypePrinting
 pub mod TreePrinting
 pub mod PairPrinting
 pub mod Pieces

@@ -3,7 +3,7 @@ use Rattle.std.proofs.Common.{◌≡◌, ℕ, suc, ◌+◌, ◌-◌, ◌<◌, �
 use Rattle.std.specs.Prelude.{Contains, slice_get, true, false}
 use Rattle.std.proofs.lemmas.List.{length-append, length-map, length-reverse, length-take, length-drop}
 use Rattle.std.proofs.lemmas.List.Elements.{All-append, All-map, All-take, All-weaker, Contains-get_or, Contains-append_cases}
-use Rattle.std.proofs.lemmas.Option.{slice_get-get_or, slice_get_within}
+use Rattle.std.proofs.lemmas.Option.{slice_get-get_or}
 use Rattle.wh_types.specs.Ty.{sort, arguments}
 use Rattle.wh_terms.specs.Tree.{Tm, free}
 use Rattle.wh_terms.specs.Substitution.{act}
@@ -35,7 +35,7 @@ module _ (d : SystemData) (w : IsWellMadeSystem d) (k : ℕ) (r : RewriteRule) (
   p = candidate d.symbols k r c
 
   rule-within : k < length d.meta_names
-  rule-within = metas_within d w k (slice_get_within d.rules k r there)
+  rule-within = metas_within d w k r there
 
   own-names : slice_get d.meta_names k ≡ Some own
   own-names = slice_get-get_or d.meta_names k [] rule-within

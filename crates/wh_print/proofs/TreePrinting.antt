@@ -1,4 +1,4 @@
--- Printing the terms of pairs.
+-- Printing terms.
 use Rattle.std.proofs.Common.{◌≡◌, ℕ, ◌==◌, false, List, [], ◌∷◌, ◌++◌, length, refl, sym, ap, subst}
 use Rattle.std.proofs.lemmas.Bool.{true≢false}
 use Rattle.wh_terms.specs.Tree.{Tm, meta, app, Tms, none, more}

@@ -1,7 +1,7 @@
 pub mod SystemText
 pub mod Sorted
 pub mod PairText
-pub mod PairViews
+pub mod NameViews
 pub mod Fronts
 pub mod Named
 pub mod Sound

@@ -9,7 +9,7 @@ use Rattle.wh_pairs.specs.PairData.{PairData, Within}
 
 -- the name of a fresh meta-variable: `?` and its number
 abbrev pub fresh_name : ℕ → List ℕ
-fresh_name k = 63 ∷ decimal k
+fresh_name k = codes "?" ++ decimal k
 
 -- so many of them, from number k on
 abbrev pub fresh_names : ℕ → ℕ → List (List ℕ)
@@ -24,22 +24,22 @@ names_of_pair d p =
 
 -- a marked symbol: its name and `#`
 abbrev pub put_marked : Names → ℕ → List ℕ → List ℕ
-put_marked n f r = name_at n.funs f ++ (35 ∷ r)
+put_marked n f r = name_at n.funs f ++ (codes "#" ++ r)
 
 -- arguments, each behind a space
 abbrev pub put_each : Names → List Tm → List ℕ → List ℕ
 put_each n [] r = r
-put_each n (t ∷ ts) r = 32 ∷ put_term (raw_of n t) (put_each n ts r)
+put_each n (t ∷ ts) r = codes " " ++ put_term (raw_of n t) (put_each n ts r)
 
 -- a side: `(f# a1 a2)`, or `f#` without arguments
 abbrev pub put_side : Names → ℕ → List Tm → List ℕ → List ℕ
 put_side n f [] r = put_marked n f r
-put_side n f (t ∷ ts) r = 40 ∷ put_marked n f (put_each n (t ∷ ts) (41 ∷ r))
+put_side n f (t ∷ ts) r = codes "(" ++ put_marked n f (put_each n (t ∷ ts) (codes ")" ++ r))
 
 -- conditions, each behind a space: the name of the meta-variable, `:` and the place
 abbrev pub put_conditions : Names → List Within → List ℕ → List ℕ
 put_conditions n [] r = r
-put_conditions n (c ∷ cs) r = 32 ∷ (name_at n.metas c.meta ++ (58 ∷ (decimal c.place ++ put_conditions n cs r)))
+put_conditions n (c ∷ cs) r = codes " " ++ (name_at n.metas c.meta ++ (codes ":" ++ (decimal c.place ++ put_conditions n cs r)))
 
 -- ` if` and the conditions, where there are any
 abbrev pub put_if : Names → List Within → List ℕ → List ℕ
@@ -50,8 +50,8 @@ put_if n (c ∷ cs) r = codes " if" ++ put_conditions n (c ∷ cs) r
 abbrev pub put_pair : SystemData → ℕ → PairData → List ℕ → List ℕ
 put_pair d k p r =
     let n = names_of_pair d p in
-    codes "pair " ++ (decimal k ++ (codes " rule " ++ (decimal
-    p.rule ++ (32 ∷ put_side n p.left_fun p.left (codes " => " ++ put_side n p.right_fun p.right (put_if n p.conditions (10 ∷ r)))))))
+    codes "pair " ++ (decimal k ++ (codes " rule " ++ (decimal p.rule ++ (codes " " ++
+    put_side n p.left_fun p.left (codes " => " ++ put_side n p.right_fun p.right (put_if n p.conditions (10 ∷ r)))))))
 
 -- the lines of the pairs from number k on
 abbrev pub put_pairs : SystemData → ℕ → List PairData → List ℕ → List ℕ

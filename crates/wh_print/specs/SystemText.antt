@@ -10,7 +10,7 @@ use Rattle.wh_system.specs.CanonicalView.{names_of_rule}
 
 -- a line `sort NAME;`
 abbrev pub put_sort : List ℕ → List ℕ → List ℕ
-put_sort name r = codes "sort " ++ (name ++ (59 ∷ 10 ∷ r))
+put_sort name r = codes "sort " ++ (name ++ (codes ";" ++ 10 ∷ r))
 
 abbrev pub put_sorts : List (List ℕ) → List ℕ → List ℕ
 put_sorts [] r = r
@@ -18,7 +18,7 @@ put_sorts (name ∷ names) r = put_sort name (put_sorts names r)
 
 -- a line `fun NAME:TYPE;`
 abbrev pub put_fun : List (List ℕ) → List ℕ → Ty → List ℕ → List ℕ
-put_fun sorts name a r = codes "fun " ++ (name ++ (58 ∷ put_type (raw_type_of sorts a) (59 ∷ 10 ∷ r)))
+put_fun sorts name a r = codes "fun " ++ (name ++ (codes ":" ++ put_type (raw_type_of sorts a) (codes ";" ++ 10 ∷ r)))
 
 -- the symbols, each name with its type
 abbrev pub put_funs : List (List ℕ) → List (List ℕ) → List Ty → List ℕ → List ℕ
@@ -28,20 +28,20 @@ put_funs sorts _ _ r = r
 -- further types in the brackets of a meta-variable
 abbrev pub put_further : List (List ℕ) → List Ty → List ℕ → List ℕ
 put_further sorts [] r = r
-put_further sorts (a ∷ as_well) r = 44 ∷ put_type (raw_type_of sorts a) (put_further sorts as_well r)
+put_further sorts (a ∷ as_well) r = codes "," ++ put_type (raw_type_of sorts a) (put_further sorts as_well r)
 
 -- the types of the arguments of a meta-variable, in brackets, if there are any
 abbrev pub put_brackets : List (List ℕ) → List Ty → List ℕ → List ℕ
 put_brackets sorts [] r = r
-put_brackets sorts (a ∷ as_well) r = 91 ∷ put_type (raw_type_of sorts a) (put_further sorts as_well (93 ∷ r))
+put_brackets sorts (a ∷ as_well) r = codes "[" ++ put_type (raw_type_of sorts a) (put_further sorts as_well (codes "]" ++ r))
 
 -- a meta-variable: `F:[A,B]C`, or `F:C` without arguments
 abbrev pub put_meta : List (List ℕ) → List ℕ → Declared → List ℕ → List ℕ
-put_meta sorts name d r = name ++ (58 ∷ put_brackets sorts d.args (put_type (raw_type_of sorts d.out) r))
+put_meta sorts name d r = name ++ (codes ":" ++ put_brackets sorts d.args (put_type (raw_type_of sorts d.out) r))
 
 -- further meta-variables, each behind a comma
 abbrev pub put_further_metas : List (List ℕ) → List (List ℕ) → List Declared → List ℕ → List ℕ
-put_further_metas sorts (name ∷ names) (d ∷ metas) r = 44 ∷ put_meta sorts name d (put_further_metas sorts names metas r)
+put_further_metas sorts (name ∷ names) (d ∷ metas) r = codes "," ++ put_meta sorts name d (put_further_metas sorts names metas r)
 put_further_metas sorts _ _ r = r
 
 abbrev pub put_metas : List (List ℕ) → List (List ℕ) → List Declared → List ℕ → List ℕ
@@ -53,7 +53,7 @@ abbrev pub put_rule : SystemData → ℕ → RewriteRule → List ℕ → List �
 put_rule d k rule r =
     codes "rule {" ++ put_metas d.sort_names (get_or d.meta_names k []) rule.metas
     (codes "} " ++ put_term (raw_of (names_of_rule d k) rule.left)
-    (codes " => " ++ put_term (raw_of (names_of_rule d k) rule.right) (59 ∷ 10 ∷ r)))
+    (codes " => " ++ put_term (raw_of (names_of_rule d k) rule.right) (codes ";" ++ 10 ∷ r)))
 
 -- the rules from number k on
 abbrev pub put_rules : SystemData → ℕ → List RewriteRule → List ℕ → List ℕ

@@ -5,15 +5,13 @@ ghost use Rattle.wh_types.specs.Ty.{SortsBelow};
 ghost use Rattle.wh_types.specs.Erase.{ty, tys};
 ghost use Rattle.wh_terms.specs.Erase.{declared_meta, declared_metas};
 ghost use Rattle.wh_text.specs.Pushes.{Pushes};
-ghost use Rattle.wh_text.specs.Spelling.{put_type};
-ghost use Rattle.wh_system.specs.Canonical.{raw_type_of};
 ghost use Rattle.wh_print.specs.SystemText.{put_brackets, put_fun, put_funs, put_further, put_further_metas, put_meta, put_metas, put_sort, put_sorts};
 ghost use Rattle.wh_print.specs.Sorted.{IsSorted};
 
-use std::alloc::{AllocError, Global};
-use wh_system::raw_type;
+use crate::types::print_type;
+use std::alloc::AllocError;
 use wh_terms::MetaDecl;
-use wh_text::{Name, print_type};
+use wh_text::Name;
 use wh_types::{Bytes, SimpleType};
 
 /// The lines of the sorts.
@@ -37,7 +35,6 @@ fn print_sort(out: &mut Bytes, name: &Name) -> Result<(), AllocError>
 
 /// The lines of the symbols.
 pub fn print_funs(
-    alloc: Global,
     out: &mut Bytes,
     sorts: &[Name],
     names: &[Name],
@@ -48,14 +45,13 @@ pub fn print_funs(
     ensures { OnOk result (Pushes out.old out.new (put_funs sorts.now names.now (tys kinds.now))) }
 {
     for k in 0..names.len() {
-        print_fun(alloc, out, sorts, &names[k], &kinds[k])?;
+        print_fun(out, sorts, &names[k], &kinds[k])?;
     }
     Ok(())
 }
 
 // `fun NAME:TYPE;`
 fn print_fun(
-    alloc: Global,
     out: &mut Bytes,
     sorts: &[Name],
     name: &Name,
@@ -67,27 +63,12 @@ fn print_fun(
     out.append(b"fun ")?;
     out.append(name.bytes())?;
     out.append(b":")?;
-    print_kind(alloc, out, sorts, kind)?;
+    print_type(out, sorts, kind)?;
     out.append(b";\n")
-}
-
-// A type.
-fn print_kind(
-    alloc: Global,
-    out: &mut Bytes,
-    sorts: &[Name],
-    kind: &SimpleType,
-) -> Result<(), AllocError>
-    requires { SortsBelow (length sorts.now) (ty kind.now) }
-    ensures { OnOk result (Pushes out.old out.new (put_type (raw_type_of sorts.now (ty kind.now)))) }
-{
-    let raw = raw_type(alloc, sorts, kind)?;
-    print_type(out, &raw)
 }
 
 /// The meta-variables of a rule, parted by commas.
 pub fn print_metas(
-    alloc: Global,
     out: &mut Bytes,
     sorts: &[Name],
     names: &[Name],
@@ -100,13 +81,12 @@ pub fn print_metas(
     if names.is_empty() {
         return Ok(());
     }
-    print_meta(alloc, out, sorts, &names[0], &metas[0])?;
-    print_further_metas(alloc, out, sorts, names, metas)
+    print_meta(out, sorts, &names[0], &metas[0])?;
+    print_further_metas(out, sorts, names, metas)
 }
 
 // The meta-variables but the first, each behind a comma.
 fn print_further_metas(
-    alloc: Global,
     out: &mut Bytes,
     sorts: &[Name],
     names: &[Name],
@@ -118,14 +98,13 @@ fn print_further_metas(
 {
     for k in 1..names.len() {
         out.append(b",")?;
-        print_meta(alloc, out, sorts, &names[k], &metas[k])?;
+        print_meta(out, sorts, &names[k], &metas[k])?;
     }
     Ok(())
 }
 
 // `F:[A,B]C`, or `F:C` without arguments.
 fn print_meta(
-    alloc: Global,
     out: &mut Bytes,
     sorts: &[Name],
     name: &Name,
@@ -136,17 +115,12 @@ fn print_meta(
 {
     out.append(name.bytes())?;
     out.append(b":")?;
-    print_brackets(alloc, out, sorts, meta.args.as_slice())?;
-    print_kind(alloc, out, sorts, &meta.result)
+    print_brackets(out, sorts, meta.args.as_slice())?;
+    print_type(out, sorts, &meta.result)
 }
 
 // The types of the arguments of a meta-variable in brackets, if there are any.
-fn print_brackets(
-    alloc: Global,
-    out: &mut Bytes,
-    sorts: &[Name],
-    args: &[SimpleType],
-) -> Result<(), AllocError>
+fn print_brackets(out: &mut Bytes, sorts: &[Name], args: &[SimpleType]) -> Result<(), AllocError>
     requires { All (SortsBelow (length sorts.now)) (tys args.now) }
     ensures { OnOk result (Pushes out.old out.new (put_brackets sorts.now (tys args.now))) }
 {
@@ -154,24 +128,19 @@ fn print_brackets(
         return Ok(());
     };
     out.append(b"[")?;
-    print_kind(alloc, out, sorts, first)?;
-    print_further(alloc, out, sorts, further)?;
+    print_type(out, sorts, first)?;
+    print_further(out, sorts, further)?;
     out.append(b"]")
 }
 
 // Further types, each behind a comma.
-fn print_further(
-    alloc: Global,
-    out: &mut Bytes,
-    sorts: &[Name],
-    kinds: &[SimpleType],
-) -> Result<(), AllocError>
+fn print_further(out: &mut Bytes, sorts: &[Name], kinds: &[SimpleType]) -> Result<(), AllocError>
     requires { All (SortsBelow (length sorts.now)) (tys kinds.now) }
     ensures { OnOk result (Pushes out.old out.new (put_further sorts.now (tys kinds.now))) }
 {
     for kind in kinds {
         out.append(b",")?;
-        print_kind(alloc, out, sorts, kind)?;
+        print_type(out, sorts, kind)?;
     }
     Ok(())
 }

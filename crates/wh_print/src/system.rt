@@ -17,12 +17,11 @@ pub fn print_system(alloc: Global, system: &System) -> Result<Bytes, AllocError>
     let mut out = Bytes::new(alloc)?;
     print_sorts(&mut out, system.sort_names())?;
     print_funs(
-        alloc,
         &mut out,
         system.sort_names(),
         system.fun_names(),
         system.signature().funs.as_slice(),
     )?;
-    print_rules(alloc, &mut out, system)?;
+    print_rules(&mut out, system)?;
     Ok(out)
 }

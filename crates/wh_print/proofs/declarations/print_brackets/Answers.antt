@@ -4,8 +4,8 @@ use Rattle.wh_types.specs.Ty.{SortsBelow}
 use Rattle.wh_types.specs.Erase.{ty, tys}
 use Rattle.wh_print.proofs.declarations.print_brackets.Goals as goal
 
-pub print_kind-requires : goal.print_kind-requires
-print_kind-requires c =
+pub print_type-requires : goal.print_type-requires
+print_type-requires c =
     let n = length c.args.sorts.now in
     All-head (SortsBelow n) (ty c.in-Some.first.now) (tys c.in-Some.further.now) (subst (λ xs. All (SortsBelow n) (tys xs)) c.in-Some.ensures.cases.0 c.requires)
 

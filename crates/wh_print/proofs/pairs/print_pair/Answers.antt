@@ -4,13 +4,13 @@ use Rattle.wh_text.proofs.PrintLemmas.{on_ok}
 use Rattle.wh_pairs.specs.PairData.{within, pair_data}
 use Rattle.wh_system.specs.SystemView.{system_data}
 use Rattle.wh_print.specs.PairText.{put_if}
-use Rattle.wh_print.specs.PairViews.{pair_names}
+use Rattle.wh_print.specs.NameViews.{printed_names}
 use Rattle.wh_print.proofs.PairPrinting.{pair_pushes}
 use Rattle.wh_print.proofs.pairs.print_pair.Goals as goal
 
 pub returns : goal.returns
 returns c =
-    let n = pair_names c.in_ok-names.names in
+    let n = printed_names c.in_ok-names.names in
     let conditions = subst (λ ws. Pushes c.print_side-2.new.out c.print_if.new.out (put_if n (map within ws))) c.as_slice.ensures c.in_ok-print_if.ensures in
     on_ok c.push-2.result _ _
     (pair_pushes (system_data c.args.system.now) c.args.k (pair_data c.args.pair.now) n c.args.out.now c.append.new.self c.print_number.new.out c.append-2.new.self c.print_number-2.new.out c.push.new.self

@@ -1,7 +1,7 @@
 use Rattle.std.proofs.Common.{refl, ◌-◌, length}
 use Rattle.wh_text.proofs.PrintLemmas.{on_ok}
 use Rattle.wh_print.proofs.FreshNames.{fresh_pushed}
-use Rattle.wh_print.proofs.pair_names.print_meta.Goals as goal
+use Rattle.wh_print.proofs.names.print_meta.Goals as goal
 
 pub returns : goal.returns
 returns c =
