@@ -15,7 +15,7 @@ use Rattle.wh_terms.proofs.ValueForm.{value, FitsBodies}
 use Rattle.wh_step.proofs.RawStep.{RawStep}
 use Rattle.wh_laws.specs.Ends.{StepsIn, step_here, step_there}
 use Rattle.wh_laws.specs.Ranks.{rank_of}
-use Rattle.wh_laws.specs.Roots.{IsRoot}
+use Rattle.wh_laws.specs.RootRelations.{IsRoot}
 use Rattle.wh_laws.specs.Computable.{Computable, ComputableList}
 use Rattle.wh_laws.proofs.Fundamental.{PutsComputable}
 use Rattle.wh_laws.proofs.Symbols.{list_ends, list_step}

@@ -3,7 +3,7 @@ use Rattle.std.proofs.Common.{◌≡◌, ℕ, Bool, true, false, List, [], ◌�
 use Rattle.std.specs.Prelude.{Contains}
 use Rattle.wh_terms.specs.Tree.{Tm, bound, free, fun, meta, lam, app, head, argument_count}
 use Rattle.wh_terms.specs.Rules.{RewriteRule, IsEven}
-use Rattle.wh_laws.specs.Roots.{HeadsNoRule}
+use Rattle.wh_laws.specs.RootRelations.{HeadsNoRule}
 use Rattle.wh_system.specs.Needs.{is_symbol, first_need, need_of}
 use Rattle.wh_pairs.proofs.MemberLemmas.{none_there, at_head, behind, head_or_behind}
 

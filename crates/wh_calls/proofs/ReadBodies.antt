@@ -22,7 +22,7 @@ use Rattle.wh_terms.proofs.ValueTyping.{spine_bodies, typed_count, typed-value, 
 use Rattle.wh_step.specs.Step.{Step}
 use Rattle.wh_step.proofs.Instances.{Instance, spine_left}
 use Rattle.wh_laws.specs.Ranks.{rank_of, PlaceHas, IsAccessible}
-use Rattle.wh_laws.specs.Roots.{IsRoot, KnowsSorts}
+use Rattle.wh_laws.specs.RootRelations.{IsRoot, KnowsSorts}
 use Rattle.wh_laws.specs.Computable.{Computable, ComputableList}
 use Rattle.wh_laws.proofs.Candidates.{head-spine, candidate_free}
 use Rattle.wh_laws.proofs.Fundamental.{candidate, computable-takes, KnownTypes, known_more, PutsComputable}

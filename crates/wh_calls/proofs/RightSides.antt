@@ -17,7 +17,7 @@ use Rattle.wh_terms.proofs.ValueLaws.{value_is, has_value}
 use Rattle.wh_terms.proofs.ValueTyping.{typed-value, typed_count}
 use Rattle.wh_step.specs.Step.{Step}
 use Rattle.wh_step.proofs.Instances.{Instance}
-use Rattle.wh_laws.specs.Roots.{IsRoot, KnowsSorts}
+use Rattle.wh_laws.specs.RootRelations.{IsRoot, KnowsSorts}
 use Rattle.wh_laws.specs.Computable.{Computable, ComputableList}
 use Rattle.wh_laws.proofs.Fundamental.{candidate, abstraction_computable, KnownTypes, known_more, PutsComputable, puts_more}
 use Rattle.wh_laws.proofs.Candidates.{candidate_free}

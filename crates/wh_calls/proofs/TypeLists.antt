@@ -4,7 +4,7 @@ use Rattle.wh_types.specs.Ty.{Ty, sort, ◌⇒◌, arguments, result_sort, Sorts
 use Rattle.wh_terms.specs.Tree.{Tm, app, tms_of, spine}
 use Rattle.wh_terms.specs.Typing.{Symbols, Declared, Typed, typed_app, AllTyped, typed_none, typed_more}
 use Rattle.wh_terms.specs.StepOver.{StepOver}
-use Rattle.wh_laws.specs.Roots.{IsRoot}
+use Rattle.wh_laws.specs.RootRelations.{IsRoot}
 use Rattle.wh_laws.specs.Computable.{Computable, ComputableList}
 use Rattle.wh_laws.proofs.Fundamental.{candidate, computable-takes, takes-computable}
 use Rattle.wh_laws.proofs.SystemComputable.{computable-typed}

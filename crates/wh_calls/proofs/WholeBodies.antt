@@ -11,7 +11,8 @@ use Rattle.wh_terms.proofs.RenamingLaws.{rename-id}
 use Rattle.wh_terms.proofs.ActLaws.{act_same, act-id, opened-act}
 use Rattle.wh_terms.proofs.SightLaws.{act_loose, rename_loose}
 use Rattle.wh_terms.proofs.TypingLaws.{typed-rename, typed_loose}
-use Rattle.wh_terms.proofs.ValueForm.{up_times, ups, ups_free, shifted, value, values, value_agree, FitsBodies, AllFitBodies, count-values, act-body}
+use Rattle.wh_terms.proofs.ValueForm.{up_times, up_many, up_free_many, shifted, value, values, value_agree, FitsBodies, AllFitBodies, count-values, act-body}
+use Rattle.wh_terms.proofs.ValueLaws.{up_free_many-free}
 use Rattle.wh_terms.proofs.ValueTyping.{TypedBodiesIn, typed_count}
 use Rattle.wh_calls.proofs.Puts.{inst}
 
@@ -34,19 +35,14 @@ up_times_low (suc n) k ρ h i b = up_times_low n (k + 1) (up_renaming ρ) low i 
     low zero c = refl
     low (suc j) c = ap suc (h j (omega arith))
 
-ups_low : (n k : ℕ) (σ : ℕ → Tm) → ((i : ℕ) → i < k → σ i ≡ bound i) → (i : ℕ) → i < n + k → ups n σ i ≡ bound i
-unfolding ups up rename
+ups_low : (n k : ℕ) (σ : ℕ → Tm) → ((i : ℕ) → i < k → σ i ≡ bound i) → (i : ℕ) → i < n + k → up_many n σ i ≡ bound i
+unfolding up_many up rename
 ups_low zero k σ h i b = h i (omega arith)
 ups_low (suc n) k σ h i b = ups_low n (k + 1) (up σ) low i (omega arith)
   where
     low : (j : ℕ) → j < k + 1 → up σ j ≡ bound j
     low zero c = refl
     low (suc j) c = ap (rename suc) (h j (omega arith))
-
-ups_free-free : (n : ℕ) (x : ℕ) (a : Ty) → ups_free n free x a ≡ free x a
-unfolding ups_free up_free rename
-ups_free-free zero x a = refl
-ups_free-free (suc n) x a = ups_free-free n x a
 
 pub shifted_shut : (g : ℕ → Body) (z : ℕ) → IsShut g z → shifted g z ≡ g z
 shifted_shut g z l =
@@ -55,11 +51,11 @@ shifted_shut g z l =
     (λ i b. up_times_low (g z).arity 0 suc (λ j c. absurd (omega arith)) i (omega arith)))
 
 -- a substitution that leaves the parameters alone does not change a body without further loose variables
-pub act_shut_body : (σ : ℕ → Tm) (b : Body) → LooseBelow b.arity b.tree → act (ups b.arity σ) (ups_free b.arity free) b.tree ≡ b.tree
+pub act_shut_body : (σ : ℕ → Tm) (b : Body) → LooseBelow b.arity b.tree → act (up_many b.arity σ) (up_free_many b.arity free) b.tree ≡ b.tree
 act_shut_body σ b l =
-    act_loose b.arity (ups b.arity σ) bound (ups_free b.arity free) b.tree l
+    act_loose b.arity (up_many b.arity σ) bound (up_free_many b.arity free) b.tree l
     (λ i low. ups_low b.arity 0 σ (λ j c. absurd (omega arith)) i (omega arith))
-    ∙ act_same (λ i. refl) (ups_free-free b.arity) b.tree ∙ act-id b.tree
+    ∙ act_same (λ i. refl) (up_free_many-free b.arity) b.tree ∙ act-id b.tree
 
 -- below a binder the bodies give the same values
 pub value-shifted : (g : ℕ → Body) (t : Tm) → ShutBodies g t → value (shifted g) t ≡ value g t

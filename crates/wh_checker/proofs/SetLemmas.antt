@@ -3,17 +3,19 @@ use Rattle.std.proofs.Common.{◌≡◌, ◌↔◌, ℕ, suc, ◌+◌, ◌-◌, 
 use Rattle.std.proofs.lemmas.Bool.{cases_eq, cases_lt}
 use Rattle.std.proofs.lemmas.Option.{slice_get_within, get_or_from_slice_get}
 use Rattle.std.proofs.lemmas.List.Sorted.{Contains-permutation, IsPermutation-sym}
-use Rattle.std.proofs.lemmas.List.Elements.{All-from_get_or, All-contains, Contains-append_left, Contains-push, Contains-push_cases, Contains-get_or}
+use Rattle.std.proofs.lemmas.List.Elements.{All-contains, Contains-append_left, Contains-push, Contains-push_cases, Contains-get_or}
 use Rattle.std.specs.List.Sorted.{IsNonDecreasing, IsPermutation}
 use Rattle.wh_pairs.specs.PairData.{IsIncreasing}
 use Rattle.wh_pairs.proofs.PairLemmas.{increasing_push}
 use Rattle.wh_pairs.proofs.Increasing.{increasing_at}
-use Rattle.wh_pairs.proofs.ByPlace.{contains_at, place_of, same_or_below, some_one}
+use Rattle.wh_pairs.proofs.ByPlace.{contains_at, place_of, some_one}
 use Rattle.wh_pairs.proofs.MemberLemmas.{none_there, at_head, behind, head_or_behind}
+use Rattle.wh_graph.proofs.GraphLemmas.{StandsBefore, before_more, before_all}
+use Rattle.wh_graph.proofs.TimesLemmas.{contains_or_not}
 use Rattle.wh_nodes.specs.Nodes.{IsSetOf, IsKept}
 
-pub all_from_members : (P : ℕ → Type 0) (xs : List ℕ) → ((n : ℕ) → Contains xs n → P n) → All P xs
-all_from_members P xs each = All-from_get_or P xs 0 (λ i within. each (get_or xs i 0) (Contains-get_or xs i 0 within))
+pub all_from_members : {A : Type 0} (P : A → Type 0) (xs : List A) → ((x : A) → Contains xs x → P x) → All P xs
+all_from_members P xs each i d within = each (get_or xs i d) (Contains-get_or xs i d within)
 
 pub set_none : (P : ℕ → Type 0) → ((n : ℕ) → P n → ⊥) → IsSetOf P []
 set_none P none = record { increasing = tt; each = λ n. (λ found. absurd (none_there n found), λ p. absurd (none n p)) }
@@ -37,43 +39,6 @@ set_push P Q set n is above more = record {
   );
 }
 
--- one number is there, or it is not
-contains_or_not : (ns : List ℕ) (n : ℕ) → Contains ns n ⊎ (Contains ns n → ⊥)
-contains_or_not [] n = inr (none_there n)
-contains_or_not (m ∷ ns) n = elim (cases_eq m n) [
-  | inl same ↦ inl (subst (Contains (m ∷ ns)) same (at_head ns m))
-  | inr other ↦ elim (contains_or_not ns n) [
-    | inl found ↦ inl (behind ns m n found)
-    | inr missing ↦ inr (λ found. elim (head_or_behind ns m n found) [ inl same ↦ other same | inr later ↦ missing later ])
-  ]
-]
-
--- the numbers of a list before a place, one more at a time
-
-abbrev pub StandsBefore : List ℕ → ℕ → ℕ → Type 0
-StandsBefore xs i n = (k : ℕ) × (k < i) × (slice_get xs k ≡ Some n)
-
-pub before_zero : (xs : List ℕ) (n : ℕ) → StandsBefore xs 0 n → ⊥
-before_zero xs n (k, below, at) = omega arith
-
-pub before_next : (xs : List ℕ) (i n : ℕ) → slice_get xs i ≡ Some n → (m : ℕ) → StandsBefore xs (i + 1) m ↔ (StandsBefore xs i m ⊎ (m ≡ n))
-before_next xs i n at m = (
-  λ (k, below, there). elim (same_or_below k i below) [
-    | inl same ↦ inr (some_one (sym (ap (slice_get xs) same) ∙ there) at)
-    | inr less ↦ inl (k, less, there)
-  ],
-  λ either. elim either [
-    | inl (k, less, there) ↦ (k, omega arith, there)
-    | inr same ↦ (i, omega arith, at ∙ ap Some (sym same))
-  ],
-)
-
-pub before_end : (xs : List ℕ) (i : ℕ) → length xs ≤ i → (m : ℕ) → StandsBefore xs i m ↔ Contains xs m
-before_end xs i past m = (
-  λ (k, below, at). contains_at xs k m at,
-  λ found. let at = place_of xs m found in let within = slice_get_within xs at.0 m at.1 in (at.0, omega arith, at.1),
-)
-
 -- what stands before a place of a list in which numbers do not fall is not greater
 pub not_greater : (xs : List ℕ) (i n m : ℕ) → IsNonDecreasing xs → slice_get xs i ≡ Some n → StandsBefore xs i m → m ≤ n
 not_greater xs i n m up at (k, below, there) =
@@ -88,7 +53,7 @@ pub distinct_push : (xs set : List ℕ) (i n : ℕ) → slice_get xs i ≡ Some 
     → IsSetOf (StandsBefore xs (i + 1)) (set ++ n ∷ [])
 distinct_push xs set i n at is below =
     set_push (StandsBefore xs i) (StandsBefore xs (i + 1)) set n is
-    (λ m stands. All-contains (λ k. k < n) set m below ((is.each m).1 stands)) (before_next xs i n at)
+    (λ m stands. All-contains (λ k. k < n) set m below ((is.each m).1 stands)) (before_more xs i n at)
 
 pub distinct_skip : (xs set : List ℕ) (i n : ℕ) → IsNonDecreasing xs → slice_get xs i ≡ Some n → IsSetOf (StandsBefore xs i) set
     → (All (λ m. m < n) set → ⊥) → IsSetOf (StandsBefore xs (i + 1)) set
@@ -101,8 +66,8 @@ distinct_skip xs set i n up at is not_below =
       ])))
     ] in
     set_same (StandsBefore xs i) (StandsBefore xs (i + 1)) set is (λ m. (
-      λ stands. (before_next xs i n at m).1 (inl stands),
-      λ stands. elim ((before_next xs i n at m).0 stands) [
+      λ stands. (before_more xs i n at m).1 (inl stands),
+      λ stands. elim ((before_more xs i n at m).0 stands) [
         | inl old ↦ old
         | inr same ↦ (is.each m).0
             (subst (Contains set) (sym same) there)
@@ -128,10 +93,10 @@ kept_push xs drop rest i n up at free is =
     set_push (KeptBefore xs drop i) (KeptBefore xs drop (i + 1)) rest n is
     (kept_less xs drop i n up at)
     (λ m. (
-      λ (stands, undropped). elim ((before_next xs i n at m).0 stands) [ inl old ↦ inl (old, undropped) | inr same ↦ inr same ],
+      λ (stands, undropped). elim ((before_more xs i n at m).0 stands) [ inl old ↦ inl (old, undropped) | inr same ↦ inr same ],
       λ either. elim either [
-        | inl (old, undropped) ↦ ((before_next xs i n at m).1 (inl old), undropped)
-        | inr same ↦ ((before_next xs i n at m).1 (inr same), subst (λ j. Contains drop j → ⊥) (sym same) free)
+        | inl (old, undropped) ↦ ((before_more xs i n at m).1 (inl old), undropped)
+        | inr same ↦ ((before_more xs i n at m).1 (inr same), subst (λ j. Contains drop j → ⊥) (sym same) free)
       ],
     ))
 
@@ -139,8 +104,8 @@ pub kept_skip : (xs drop rest : List ℕ) (i n : ℕ) → slice_get xs i ≡ Som
     → IsSetOf (KeptBefore xs drop (i + 1)) rest
 kept_skip xs drop rest i n at dropped is =
     set_same (KeptBefore xs drop i) (KeptBefore xs drop (i + 1)) rest is (λ m. (
-      λ (stands, undropped). ((before_next xs i n at m).1 (inl stands), undropped),
-      λ (stands, undropped). elim ((before_next xs i n at m).0 stands) [
+      λ (stands, undropped). ((before_more xs i n at m).1 (inl stands), undropped),
+      λ (stands, undropped). elim ((before_more xs i n at m).0 stands) [
         | inl old ↦ (old, undropped)
         | inr same ↦ absurd (undropped (subst (Contains drop) (sym same) dropped))
       ],
@@ -150,9 +115,9 @@ pub kept_end : (xs drop rest : List ℕ) (i : ℕ) → length xs ≤ i → IsSet
 kept_end xs drop rest i past is =
     set_same (KeptBefore xs drop i) (IsKept xs drop) rest is
     (λ m. (
-      λ (stands, undropped). ((before_end xs i past m).0 stands, undropped),
+      λ (stands, undropped). ((before_all xs i past m).0 stands, undropped),
       λ (found, undropped).
-          ((before_end xs i past m).1 found, undropped),
+          ((before_all xs i past m).1 found, undropped),
     ))
 
 -- the set of a list in another order

@@ -8,11 +8,10 @@ ghost use Rattle.wh_graph.specs.Graphs.{AreLists, AreWithin, Edge, Turned};
 ghost use Rattle.wh_graph.specs.May.{Follows};
 
 use crate::follow::may_follow;
-use crate::places::is_in;
 use std::alloc::{AllocError, Global};
 use wh_pairs::{Pair, PairList};
 use wh_system::System;
-use wh_types::Numbers;
+use wh_types::{Numbers, is_in};
 
 /// Which pair of a list may follow which.
 #[derive(Drop)]

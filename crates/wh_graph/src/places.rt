@@ -1,6 +1,6 @@
 //! Where numbers stand in blocks: the numbers that keep blocks from being a partition.
 
-ghost use Rattle.std.specs.Prelude.{◌≡◌, ◌↔◌, ◌<◌, ◌≤◌, ℕ, Contains, IsTrue, length};
+ghost use Rattle.std.specs.Prelude.{◌≡◌, ◌<◌, ◌≤◌, ℕ, length};
 ghost use Rattle.wh_pairs.specs.PairData.{IsIncreasing};
 ghost use Rattle.wh_graph.specs.Components.{IsIn};
 ghost use Rattle.wh_graph.specs.Blocks.{IsMisplaced};
@@ -8,7 +8,7 @@ ghost use Rattle.wh_graph.specs.Least.{LeastOf};
 ghost use Rattle.wh_graph.specs.Times.{AreAdded, AreCounted, IsStray, IsStrayIn, IsUneven, plus};
 
 use crate::least::smaller;
-use wh_types::Numbers;
+use wh_types::{Numbers, is_in};
 
 // How many numbers of a set are counted at once: their counts stand on the stack.
 const PIECE: usize = 4096;
@@ -138,16 +138,4 @@ pub fn block_of(blocks: &[Numbers], number: u32) -> usize
         }
     }
     blocks.len()
-}
-
-/// Whether the list has the number.
-pub fn is_in(list: &[u32], number: u32) -> bool
-    ensures { IsTrue result ↔ Contains list.now number }
-{
-    for item in list {
-        if *item == number {
-            return true;
-        }
-    }
-    false
 }

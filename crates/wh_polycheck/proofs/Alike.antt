@@ -5,7 +5,7 @@ use Rattle.wh_hopoly.specs.Polynomials.{Polynomial}
 use Rattle.wh_hopoly.specs.Arithmetic.{renumber}
 use Rattle.wh_hopoly.specs.Evaluation.{Run, one, next, Expression, var, symbol, lambda, apply, Interpretation, interpretation_at, type_of, codomain, apply_one, evaluate, TypedExpression}
 use Rattle.wh_hopoly.specs.Outcomes.{ComesTo, IsFaultOf}
-use Rattle.wh_hopoly.specs.Parts.{parts, ValueOfPart}
+use Rattle.wh_hopoly.specs.NumberedParts.{parts, ValueOfPart}
 use Rattle.wh_hopoly.specs.declared.fault.PolyFault.{PolyFault}
 use Rattle.wh_hopoly.specs.declared.fault.PolyFault.TheVariants.{Overflow, TooLarge}
 use Rattle.wh_polycheck.proofs.MoreInterpretations.{interpretation_more}

@@ -9,6 +9,7 @@ ghost use Rattle.wh_polycheck.specs.Sides.{side, side_applied};
 use std::alloc::{AllocError, Global};
 use wh_hopoly::Expr;
 use wh_terms::{Term, Terms};
+use wh_types::sum;
 
 /// The term as an expression in a scope of so many variables.
 #[cycle(expressions)]
@@ -22,7 +23,7 @@ pub fn expression_of(alloc: Global, term: &Term, scope: u32) -> Result<Expr, All
         Term::Meta(meta, items) => meta_applied(alloc, *meta, items, scope),
         Term::Lam(kind, body) => {
             let kind = kind.copy(alloc)?;
-            let body = expression_of(alloc, body, one_more(scope)?)?;
+            let body = expression_of(alloc, body, sum(scope, 1)?)?;
             Ok(Expr::Lam(kind, Box::new(alloc, body)?))
         }
         Term::App(function, argument) => {
@@ -62,18 +63,4 @@ pub fn expressions_of(alloc: Global, items: &Terms, scope: u32) -> Result<Vec<Ex
         expressions.push(expression_of(alloc, item, scope)?)?;
     }
     Ok(expressions)
-}
-
-/// A length as a number of 32 bits; one beyond them would count more than memory holds, and is told as want of memory.
-pub fn counted(length: usize) -> Result<u32, AllocError>
-    ensures { IfOk result (λ number. number ≡ length) }
-{
-    u32::try_from(length).or(Err(AllocError))
-}
-
-// One binder more, for which the same holds.
-fn one_more(scope: u32) -> Result<u32, AllocError>
-    ensures { IfOk result (λ longer. longer ≡ scope + 1) }
-{
-    scope.checked_add(1).ok_or(AllocError)
 }

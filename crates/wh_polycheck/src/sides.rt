@@ -18,7 +18,7 @@ ghost use Rattle.wh_polycheck.specs.Marks.{AreNormalMarks, HasMark, HasMarkedSid
 ghost use Rattle.wh_polycheck.specs.SideResults.{IsFaultOfPairSide, IsFaultOfSide, PairSideComesTo, SideComesTo, marks_of};
 ghost use Rattle.wh_polycheck.specs.Sides.{Interprets, marked_expression, side_expression, types_of_metas};
 
-use crate::expressions::{counted, expression_of, expressions_of};
+use crate::expressions::{expression_of, expressions_of};
 use crate::marks::{MarkedSymbol, kind_of_mark, mark_of};
 use crate::scopes::scope_of;
 use std::alloc::Global;
@@ -26,7 +26,7 @@ use wh_hopoly::{Poly, PolyFault, Symbol, normal, normal_call};
 use wh_pairs::Pair;
 use wh_system::System;
 use wh_terms::{Metas, Term, Terms};
-use wh_types::Or;
+use wh_types::{Or, counted};
 
 /// The normal form of the right side of a rule, or of its left side, in the scope of the rule's meta-variables and of the
 /// arguments of its type, where symbols are read as `symbols` say (Fuhs and Kop 2012).

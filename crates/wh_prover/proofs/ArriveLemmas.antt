@@ -10,8 +10,9 @@ use Rattle.wh_graph.specs.May.{Follows}
 use Rattle.wh_graph.specs.Blocks.{AreBlocks}
 use Rattle.wh_graph.specs.Components.{IsIn, AreComponents}
 use Rattle.wh_nodes.specs.Nodes.{AreSetsOf, no_sets, more_sets}
+use Rattle.wh_checker.proofs.SetLemmas.{all_from_members}
 use Rattle.wh_prover.specs.Arriving.{IsOneComponent, IsAlone, Arrives, at_all, at_component, behind_projection, behind_interpretation, Ended}
-use Rattle.wh_prover.proofs.SetLemmas.{all_numbers, all_from_members, set_itself}
+use Rattle.wh_prover.proofs.SetLemmas.{set_itself}
 
 -- each number is that of a pair
 pub arrives_below : (d : SystemData) (ps : List PairData) (set : List ℕ) → Arrives d ps set → (n : ℕ) → Contains set n → n < length ps
@@ -26,7 +27,7 @@ arrives_below d ps set (behind_interpretation {set = from} arrives knot none is 
     arrives_below d ps from arrives n ((rest.each n).0 found).0
 
 pub arrives_within : (d : SystemData) (ps : List PairData) (set : List ℕ) → Arrives d ps set → All (λ n. n < length ps) set
-arrives_within d ps set arrives = all_numbers (λ n. n < length ps) set (arrives_below d ps set arrives)
+arrives_within d ps set arrives = all_from_members (λ n. n < length ps) set (arrives_below d ps set arrives)
 
 -- increasing blocks are their own sets
 pub sets_themselves : (parts : List (List ℕ)) → All IsIncreasing parts → AreSetsOf parts parts
@@ -38,7 +39,7 @@ sets_themselves (part ∷ parts) up =
 pub arrives_apart : (d : SystemData) (ps : List PairData) (set : List ℕ) (parts : List (List ℕ)) → Arrives d ps set
     → AreComponents (Follows d.rules ps) set parts → All IsIncreasing parts → 2 ≤ length parts → All (Arrives d ps) parts
 arrives_apart d ps set parts arrives are up enough =
-    all_from_members [] (Arrives d ps) parts (λ part found.
+    all_from_members (Arrives d ps) parts (λ part found.
     at_component arrives are enough found (set_itself part (All-contains IsIncreasing parts part up found)))
 
 -- components are blocks of a proof, where there are two or more

@@ -17,7 +17,7 @@ use Rattle.wh_cert_parts.specs.TermLimits.{IsSmall}
 use Rattle.wh_cert.specs.Written as w
 use Rattle.wh_cert.specs.Limits.{ArgFits, NodeFits, NodeWithin}
 use Rattle.wh_checker.specs.Looked.{SayChoices}
-use Rattle.wh_prover.proofs.SetLemmas.{all_numbers, all_from_members}
+use Rattle.wh_checker.proofs.SetLemmas.{all_from_members}
 use Rattle.wh_prover.proofs.CountLemmas.{Apart, apart_increasing, few_below, few_components}
 
 -- blocks
@@ -26,7 +26,7 @@ pub blocks_fit : (E : ℕ → ℕ → Type 0) (k : ℕ) (set : List ℕ) (parts 
     → All IsIncreasing parts → AreComponents E set parts → NodeFits (w.blocks parts)
 blocks_fit E k set parts few up below parts_up are = (
   omega (arith, few, few_components E set parts parts_up are, few_below set k (apart_increasing set up) below),
-  all_from_members [] (All IsSmall) parts (λ part found. all_numbers IsSmall part (λ n has.
+  all_from_members (All IsSmall) parts (λ part found. all_from_members IsSmall part (λ n has.
       let at = place_of parts part found in
       let stands = place_of part n has in
       let less = below n (are.partition.within at.0 n (stands.0, (part, at.1, stands.1))) in
@@ -36,7 +36,7 @@ blocks_fit E k set parts few up below parts_up are = (
 pub blocks_within : (E : ℕ → ℕ → Type 0) (k : ℕ) (set : List ℕ) (parts : List (List ℕ)) → k ≤ 4096 → ((n : ℕ) → Contains set n → n < k)
     → All IsIncreasing parts → AreComponents E set parts → NodeWithin (2 ^ 32) (w.blocks parts)
 blocks_within E k set parts few below parts_up are =
-    all_from_members [] (λ (block : List ℕ). length block ≤ 2 ^ 32) parts (λ part found.
+    all_from_members (λ (block : List ℕ). length block ≤ 2 ^ 32) parts (λ part found.
     let at = place_of parts part found in
     let long = few_below part k (apart_increasing part (All-contains IsIncreasing parts part parts_up found)) (λ n has.
     let stands = place_of part n has in
@@ -87,7 +87,7 @@ pub subterm_fits : (k : ℕ) (set : List ℕ) (lines : List w.Arg) (drop : List 
     → All (Contains set) drop → All ArgFits lines → NodeFits (w.subterm lines drop)
 subterm_fits k set lines drop few below within fit = (
   fit,
-  all_numbers IsSmall drop (λ n has. let less = below n (All-contains (Contains set) drop n within has) in omega (arith, few, less)),
+  all_from_members IsSmall drop (λ n has. let less = below n (All-contains (Contains set) drop n within has) in omega (arith, few, less)),
 )
 
 pub subterm_within : (d : SystemData) (ps : List PairData) (k : ℕ) (set : List ℕ) (lines : List w.Arg) (args : List Chosen) (drop : List ℕ)
@@ -105,7 +105,7 @@ no_choice = record { symbol = 0; argument = 0 }
 
 all_chosen : (P : Chosen → Type 0) (args : List Choice) → All P (map chosen args) → All (λ c. P (chosen c)) args
 all_chosen P args all =
-    all_from_members no_choice (λ c. P (chosen c)) args (λ c found.
+    all_from_members (λ c. P (chosen c)) args (λ c found.
     let at = place_of args c found in
     All-contains P (map chosen args) (chosen c) all (contains_at (map chosen args) at.0 (chosen c) (remap chosen args at.0 c at.1)))
 

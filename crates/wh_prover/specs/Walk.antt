@@ -1,10 +1,16 @@
 -- What the walk over the sets of pairs keeps true.
-use Rattle.std.specs.Prelude.{ℕ, ◌≡◌, ◌+◌, ◌*◌, ◌^◌, ◌<◌, ◌≤◌, List, [], ◌∷◌, ◌++◌, length, All}
+use Rattle.std.specs.Prelude.{ℕ, ◌≡◌, ◌+◌, ◌*◌, ◌^◌, ◌<◌, ◌≤◌, List, [], ◌∷◌, ◌++◌, length, map, reverse, All}
 use Rattle.wh_system.specs.Systems.{SystemData}
+use Rattle.wh_system.specs.SystemView.{system_data}
+use Rattle.wh_system.specs.declared.system.System.{System}
 use Rattle.wh_pairs.specs.PairData.{PairData}
+use Rattle.wh_pairs.specs.Views.{pairs_data}
+use Rattle.wh_pairs.specs.declared.pair.Pair.{Pair}
 use Rattle.wh_cert.specs.Written as w
 use Rattle.wh_cert.specs.Written.{Preorder}
 use Rattle.wh_cert.specs.Limits.{ArgFits, NodeFits, NodeWithin}
+use Rattle.wh_cert.specs.Said.{said_node}
+use Rattle.wh_cert.specs.declared.certificate.Node.{Node}
 use Rattle.wh_find_subterm.specs.Found.{IsSpent}
 use Rattle.wh_guesses.specs.Conditions.{HasNoInterpretation}
 use Rattle.wh_find_poly.specs.Answers as tried
@@ -57,6 +63,11 @@ pub record Adds (d : SystemData) (ps : List PairData) (set : List ℕ) (sets aft
   pub searched : IsSearched d line
   pub arrives : All (Arrives d ps) goes.left
   pub lighter : weight goes.left < weigh set
+
+-- so it is of the program's nodes and of its stack, whose last set is the next one
+abbrev pub AddsNode : System → List Pair → List ℕ → List (List ℕ) → List (List ℕ) → List Node → List Node → Type 0
+AddsNode system pairs set stack after nodes longer =
+    Adds (system_data system) (pairs_data pairs) set (reverse stack) (reverse after) (map said_node nodes) (map said_node longer)
 
 -- a walk that began with one set has come to these sets, with these lines for those before them (ours)
 pub record HasWalked (d : SystemData) (ps : List PairData) (set : List ℕ) (sets : List (List ℕ)) (lines : List w.Node) : Type 0 where

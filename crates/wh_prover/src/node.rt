@@ -1,19 +1,20 @@
 //! One node of a proof: how the chains of a set end, or why the search ends on it.
 
-ghost use Rattle.std.specs.Prelude.{◌≡◌, ◌↔◌, ◌<◌, ◌≤◌, All, IfOk, IsTrue, MatchOption, length, map, reverse};
+ghost use Rattle.std.specs.Prelude.{◌≡◌, ◌↔◌, ◌<◌, ◌≤◌, All, IfOk, IsTrue, MatchOption, length};
 ghost use Rattle.wh_pairs.specs.SystemPairs.{HasPairs};
 ghost use Rattle.wh_pairs.specs.Views.{pairs_data};
 ghost use Rattle.wh_system.specs.SystemView.{system_data};
 ghost use Rattle.wh_cert.specs.Said.{said_node};
 ghost use Rattle.wh_graph.specs.Graphs.{IsGraphOf, edge_of, size_of};
 ghost use Rattle.wh_prover.specs.Arriving.{Arrives, Ended, HasNoProjection, IsAloneUnder};
-ghost use Rattle.wh_prover.specs.Walk.{Adds, IsEnd, dropped_by};
+ghost use Rattle.wh_prover.specs.Walk.{AddsNode, IsEnd, dropped_by};
 
 use crate::answer::{Cause, Finder};
 use crate::lines::node_of;
-use crate::sets::{kept, open_blocks};
+use crate::sets::open_blocks;
 use std::alloc::{AllocError, Global};
 use wh_cert::{Node, Nodes};
+use wh_checker::kept;
 use wh_find_poly::find_interpretation;
 use wh_find_subterm::find_projection;
 use wh_graph::Graph;
@@ -38,7 +39,7 @@ pub fn settle(
     requires pairs { HasPairs (system_data system.now) (pairs_data pairs.now) }
     requires graph { IsGraphOf (system_data system.now).rules (pairs_data pairs.now) graph.now }
     requires arrives { Arrives (system_data system.now) (pairs_data pairs.now) set }
-    ensures { IfOk result (λ end. MatchOption end (Adds (system_data system.now) (pairs_data pairs.now) set (reverse stack.old.items) (reverse stack.new.items) (map said_node nodes.old) (map said_node nodes.new))
+    ensures { IfOk result (λ end. MatchOption end (AddsNode system.now pairs.now set stack.old.items stack.new.items nodes.old nodes.new)
         (IsEnd (system_data system.now) (pairs_data pairs.now) tries)) }
 {
     if set.as_slice().is_empty() {
@@ -83,13 +84,13 @@ fn lower(
     requires few { length pairs.now ≤ 4096 }
     requires pairs { HasPairs (system_data system.now) (pairs_data pairs.now) }
     requires ended { Ended (system_data system.now) (pairs_data pairs.now) set }
-    ensures { IfOk result (λ end. MatchOption end (Adds (system_data system.now) (pairs_data pairs.now) set (reverse stack.old.items) (reverse stack.new.items) (map said_node nodes.old) (map said_node nodes.new))
+    ensures { IfOk result (λ end. MatchOption end (AddsNode system.now pairs.now set stack.old.items stack.new.items nodes.old nodes.new)
         (IsEnd (system_data system.now) (pairs_data pairs.now) tries)) }
 {
     system.is_well_made();
     match find_projection(alloc, system, pairs, &set, tries)? {
         Search::Found(found) => {
-            stack.push(kept(alloc, set.as_slice(), found.drop.as_slice())?)?;
+            stack.push(kept(alloc, &set, found.drop.as_slice())?)?;
             nodes.push(node_of(alloc, system, &found)?)?;
             Ok(None)
         }
@@ -116,12 +117,12 @@ fn interpret(
     requires pairs { HasPairs (system_data system.now) (pairs_data pairs.now) }
     requires ended { Ended (system_data system.now) (pairs_data pairs.now) set }
     requires none { HasNoProjection (system_data system.now).rules (pairs_data pairs.now) set }
-    ensures { IfOk result (λ end. MatchOption end (Adds (system_data system.now) (pairs_data pairs.now) set (reverse stack.old.items) (reverse stack.new.items) (map said_node nodes.old) (map said_node nodes.new))
+    ensures { IfOk result (λ end. MatchOption end (AddsNode system.now pairs.now set stack.old.items stack.new.items nodes.old nodes.new)
         (IsEnd (system_data system.now) (pairs_data pairs.now) tries)) }
 {
     match find_interpretation(alloc, system, pairs, &set, tries)? {
         Search::Found(node) => {
-            stack.push(kept(alloc, set.as_slice(), dropped_by(&node))?)?;
+            stack.push(kept(alloc, &set, dropped_by(&node))?)?;
             nodes.push(node)?;
             Ok(None)
         }

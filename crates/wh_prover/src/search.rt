@@ -9,11 +9,12 @@ ghost use Rattle.wh_cert.specs.Said.{said};
 ghost use Rattle.wh_prover.specs.Answers.{HasNoProof, IsAnswer, IsProof};
 
 use crate::answer::{Answer, Cause, Options};
-use crate::sets::{numbers_below, numbers_of_ranks};
+use crate::sets::numbers_of_ranks;
 use crate::walk::walk;
 use std::alloc::{AllocError, Global};
 use wh_access::find_ranks;
 use wh_cert::{Certificate, Nodes, YesCertificate};
+use wh_checker::numbers_below;
 use wh_find_loop::{LoopSearch, find_loop};
 use wh_graph::Graph;
 use wh_pairs::PairList;

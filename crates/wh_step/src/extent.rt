@@ -2,15 +2,6 @@
 
 ghost use Rattle.std.specs.Prelude.{◌≤◌};
 
-/// The greatest size of a term that fits.
-pub const MOST_SIZE: u32 = 65536;
-
-/// The greatest height of a term that fits.
-pub const MOST_HEIGHT: u32 = 200;
-
-/// The greatest number of arguments of a spine in a term that fits.
-pub const MOST_ARGUMENTS: u32 = 32;
-
 /// The measures of a term that fits.
 #[derive(Clone, Copy)]
 pub struct Extent {

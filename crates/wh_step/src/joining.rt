@@ -16,12 +16,12 @@ ghost use Rattle.wh_step.specs.Contracta.{IsReady, result_of};
 ghost use Rattle.wh_step.specs.Extents.{IsExtent};
 ghost use Rattle.wh_step.specs.Context.{IsJoint, IsMeasured, Joins, LimitsJoint, NewSize};
 
-use crate::extent::{Extent, MOST_ARGUMENTS, MOST_HEIGHT, MOST_SIZE};
+use crate::extent::Extent;
 use crate::joint::Joint;
 use crate::measuring::{contractum_extent, known};
 use crate::redex::Contractum;
 use std::alloc::{AllocError, Global};
-use wh_terms::{Term, size};
+use wh_terms::{MOST_ARGUMENTS, MOST_HEIGHT, MOST_SIZE, Term, size};
 
 // These measures, if they keep the limits.
 fn limited(height: u32, arguments: u32, is_front: bool, is_applied: bool) -> Option<Joint>

@@ -6,7 +6,8 @@ ghost use Rattle.wh_terms.specs.Tree.{Tm, bound, free, fun, lam, app};
 ghost use Rattle.wh_terms.specs.Measures.{height, risen};
 ghost use Rattle.wh_step.specs.Extents.{IsExtent, Limits, Measures};
 
-use crate::extent::{Extent, MOST_ARGUMENTS, MOST_HEIGHT, MOST_SIZE, PastLimit};
+use crate::extent::{Extent, PastLimit};
+use wh_terms::{MOST_ARGUMENTS, MOST_HEIGHT, MOST_SIZE};
 use wh_types::Or;
 
 // The extent with these measures, if they keep the limits.

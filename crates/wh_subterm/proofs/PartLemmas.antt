@@ -1,7 +1,7 @@
 -- Parts, case by case.
 use Rattle.std.proofs.Common.{◌≡◌, ◌⊎◌, inl, inr, refl, subst}
 use Rattle.wh_terms.specs.Tree.{Tm, app}
-use Rattle.wh_subterm.specs.Parts.{last, front, IsHeadedBySymbol, Part, argument, deeper, SomeArgumentHas}
+use Rattle.wh_subterm.specs.ProperParts.{last, front, IsHeadedBySymbol, Part, argument, deeper, SomeArgumentHas}
 
 pub part_from_argument : (u t : Tm) → IsHeadedBySymbol t → SomeArgumentHas u t → Part u t
 part_from_argument u t headed (v, at, inl same) = subst (λ w. Part w t) same (argument headed at)

@@ -3,7 +3,7 @@ use Rattle.std.proofs.Common.{◌≡◌, ◌↔◌, IsTrue, ℕ, ◌+◌, ◌<�
 use Rattle.std.proofs.lemmas.Option.{slice_get_within}
 use Rattle.wh_terms.specs.Tree.{Tm}
 use Rattle.wh_pairs.specs.PairData.{PairData, IsIncreasing}
-use Rattle.wh_subterm.specs.Parts.{Part}
+use Rattle.wh_subterm.specs.ProperParts.{Part}
 use Rattle.wh_subterm.specs.Projections.{Chosen, IsProjected, Equal, Below, Decreasing}
 use Rattle.wh_subterm.specs.SubtermRows.{chosen_symbols, IsDecreasing, IsNotDecreasing}
 use Rattle.wh_pairs.proofs.ByPlace.{some_one}

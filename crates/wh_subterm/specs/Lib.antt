@@ -1,5 +1,5 @@
 pub mod Marked
-pub mod Parts
+pub mod ProperParts
 pub mod Projections
 pub mod SubtermRows
 pub mod Relations

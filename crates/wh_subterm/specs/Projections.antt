@@ -2,7 +2,7 @@
 use Rattle.std.specs.Prelude.{ℕ, ◌+◌, ◌≡◌, ◌⊎◌, Bool, true, false, List, Some, Contains, slice_get}
 use Rattle.wh_terms.specs.Tree.{Tm}
 use Rattle.wh_pairs.specs.PairData.{PairData}
-use Rattle.wh_subterm.specs.Parts.{Part}
+use Rattle.wh_subterm.specs.ProperParts.{Part}
 
 -- a choice: for a marked symbol the number of one of its arguments, counted from 1
 pub record Chosen : Type 0 where

@@ -2,7 +2,7 @@
 use Rattle.std.specs.Prelude.{ℕ, ◌≡◌, ◌⊎◌, Some, slice_get}
 use Rattle.wh_terms.specs.Tree.{Tm}
 use Rattle.wh_pairs.specs.PairData.{PairData}
-use Rattle.wh_subterm.specs.Parts.{Part}
+use Rattle.wh_subterm.specs.ProperParts.{Part}
 use Rattle.wh_subterm.specs.declared.relation.Relation.{Relation}
 use Rattle.wh_subterm.specs.declared.relation.Relation.TheVariants as is
 

@@ -12,6 +12,7 @@ use crate::parts::has_part;
 use crate::projection::Choice;
 use wh_pairs::Pair;
 use wh_terms::{Term, Terms, same};
+use wh_types::is_in;
 
 /// The least pair of the set that is neither equal nor below, or that is dropped and not below.
 pub fn first_not_decreasing(
@@ -33,18 +34,6 @@ pub fn first_not_decreasing(
         }
     }
     None
-}
-
-// Whether the list has the number.
-fn is_in(list: &[u32], number: u32) -> bool
-    ensures { IsTrue result ↔ Contains list.now number }
-{
-    for item in list {
-        if *item == number {
-            return true;
-        }
-    }
-    false
 }
 
 /// Whether the pair is below.

@@ -2,7 +2,7 @@
 
 ghost use Rattle.std.specs.Prelude.{◌↔◌, IsTrue};
 ghost use Rattle.wh_terms.specs.Erase.{tm};
-ghost use Rattle.wh_subterm.specs.Parts.{IsHeadedBySymbol, Part, SomeArgumentHas};
+ghost use Rattle.wh_subterm.specs.ProperParts.{IsHeadedBySymbol, Part, SomeArgumentHas};
 
 use wh_terms::{Term, same};
 

@@ -13,9 +13,9 @@ use Rattle.wh_terms.proofs.ValueForm.{up_times, shifted, value, FitsBodies, valu
 use Rattle.wh_terms.proofs.ValueLaws.{value_is}
 use Rattle.wh_terms.proofs.ValueSight.{bound_occurs, bound_values}
 
--- the bodies, moved below k binders: their parameters stay
-abbrev pub moved : ℕ → (ℕ → Body) → ℕ → Body
-moved k g z = record { arity = (g z).arity; tree = rename (up_times (g z).arity (λ i. k + i)) (g z).tree }
+-- the bodies, bodies_below below k binders: their parameters stay
+abbrev pub bodies_below : ℕ → (ℕ → Body) → ℕ → Body
+bodies_below k g z = record { arity = (g z).arity; tree = rename (up_times (g z).arity (λ i. k + i)) (g z).tree }
 
 up_renaming-suc : (ρ τ π : ℕ → ℕ) → ((i : ℕ) → τ (ρ i) ≡ π i) → (i : ℕ) → up_renaming τ (up_renaming ρ i) ≡ up_renaming π i
 unfolding up_renaming
@@ -40,16 +40,16 @@ up_times-still (suc n) ρ h i = up_times-still n (up_renaming ρ) (up_renaming-s
 with_tree : Body → Tm → Body
 with_tree b t = record { arity = b.arity; tree = t }
 
-shifted-moved : (k : ℕ) (g : ℕ → Body) (z : ℕ) → shifted (moved k g) z ≡ moved (k + 1) g z
+shifted-bodies_below : (k : ℕ) (g : ℕ → Body) (z : ℕ) → shifted (bodies_below k g) z ≡ bodies_below (k + 1) g z
 unfolding with_tree
-shifted-moved k g z =
+shifted-bodies_below k g z =
     let n : ℕ = (g z).arity in
     ap (with_tree (g z)) (rename-rename (up_times n (λ i. k + i)) (up_times n suc) (g z).tree
     ∙ rename_same (up_times-twice n (λ i. k + i) suc (λ i. k + 1 + i) (λ i. omega arith)) (g z).tree)
 
-pub moved-none : (g : ℕ → Body) (z : ℕ) → moved 0 g z ≡ g z
+pub bodies_below-none : (g : ℕ → Body) (z : ℕ) → bodies_below 0 g z ≡ g z
 unfolding with_tree
-moved-none g z =
+bodies_below-none g z =
     let n : ℕ = (g z).arity in
     ap (with_tree (g z)) (rename_same (up_times-still n (λ i. 0 + i) (λ i. omega arith)) (g z).tree ∙ rename-id (g z).tree)
 
@@ -117,7 +117,7 @@ far_missed k i (more (app t u) ts) b = absurd b
 
 -- a body with distinct variables of k binders for its parameters, seen from below these binders
 moved_body : (k : ℕ) (g : ℕ → Body) (z : ℕ) (ts : Tms) → (g z).arity ≡ count ts
-    → act (parameters ts bound) free (moved k g z).tree ≡ act (parameters ts (λ j. bound (k + j))) free (g z).tree
+    → act (parameters ts bound) free (bodies_below k g z).tree ≡ act (parameters ts (λ j. bound (k + j))) free (g z).tree
 moved_body k g z ts e =
     ap (λ n. act (parameters ts bound) free (rename (up_times n (λ i. k + i)) (g z).tree)) e
     ∙ act-rename (up_times (count ts) (λ i. k + i)) (parameters ts bound) free (g z).tree
@@ -127,7 +127,7 @@ moved_body k g z ts e =
 abbrev pub read_body : ℕ → Tms → Tm → Tm
 read_body k ts t = act (λ j. bound (way ts (λ i. i - k) j)) free t
 
-pub body_back : (k : ℕ) (g : ℕ → Body) (z : ℕ) (ts : Tms) → AllBoundBelow k ts → Distinct ts → (g z).arity ≡ count ts → read_body k ts (act (parameters ts bound) free (moved k g z).tree) ≡ (g z).tree
+pub body_back : (k : ℕ) (g : ℕ → Body) (z : ℕ) (ts : Tms) → AllBoundBelow k ts → Distinct ts → (g z).arity ≡ count ts → read_body k ts (act (parameters ts bound) free (bodies_below k g z).tree) ≡ (g z).tree
 unfolding act
 body_back k g z ts b d e =
     let τ : ℕ → Tm = λ j. bound (way ts (λ i. i - k) j) in
@@ -138,7 +138,7 @@ pub body_one : (b c : Body) → b.arity ≡ c.arity → b.tree ≡ c.tree → b 
 body_one b c e d = ap₂ (λ n t. let body : Body = record { arity = n; tree = t } in body) e d
 
 meta_one : (k : ℕ) (g h : ℕ → Body) (z : ℕ) (ts : Tms) → AllBoundBelow k ts → Distinct ts → (g z).arity ≡ count ts → (h z).arity ≡ count ts
-    → act (parameters ts bound) free (moved k g z).tree ≡ act (parameters ts bound) free (moved k h z).tree → g z ≡ h z
+    → act (parameters ts bound) free (bodies_below k g z).tree ≡ act (parameters ts bound) free (bodies_below k h z).tree → g z ≡ h z
 meta_one k g h z ts b d e f v = body_one (g z) (h z) (e ∙ sym f) (sym (body_back k g z ts b d e) ∙ ap (read_body k ts) v ∙ body_back k h z ts b d f)
 
 lam_bodies : {a b : Ty} {t u : Tm} → lam a t ≡ lam b u → t ≡ u
@@ -150,28 +150,28 @@ app_functions e = cc
 app_arguments : {t u v w : Tm} → app t u ≡ app v w → u ≡ w
 app_arguments e = cc
 
-pub value-moved : (k : ℕ) (g : ℕ → Body) (t : Tm) → value (shifted (moved k g)) t ≡ value (moved (k + 1) g) t
-value-moved k g t = value_same (shifted (moved k g)) (moved (k + 1) g) t (shifted-moved k g)
+pub value-bodies_below : (k : ℕ) (g : ℕ → Body) (t : Tm) → value (shifted (bodies_below k g)) t ≡ value (bodies_below (k + 1) g) t
+value-bodies_below k g t = value_same (shifted (bodies_below k g)) (bodies_below (k + 1) g) t (shifted-bodies_below k g)
 
 mutual
   unfolding value
 
-  pattern_one_under : (k : ℕ) (g h : ℕ → Body) (p : Tm) → IsPatternUnder k p → FitsBodies g p → FitsBodies h p → value (moved k g) p ≡ value (moved k h) p → (z : ℕ) → Occurs z p → g z ≡ h z
+  pattern_one_under : (k : ℕ) (g h : ℕ → Body) (p : Tm) → IsPatternUnder k p → FitsBodies g p → FitsBodies h p → value (bodies_below k g) p ≡ value (bodies_below k h) p → (z : ℕ) → Occurs z p → g z ≡ h z
   pattern_one_under k g h (bound i) p f e v z o = absurd o
   pattern_one_under k g h (free x a) p f e v z o = absurd o
   pattern_one_under k g h (fun c) p f e v z o = absurd o
   pattern_one_under k g h (meta y ts) p f e v z (inl o) =
       let one : g y ≡ h y = meta_one k g h y ts p.0 p.1 f.0 e.0
-      (ap (λ us. act (parameters us bound) free (moved k g y).tree) (sym (bound_values k (moved k g) ts p.0)) ∙ v
-      ∙ ap (λ us. act (parameters us bound) free (moved k h y).tree) (bound_values k (moved k h) ts p.0)) in
+      (ap (λ us. act (parameters us bound) free (bodies_below k g y).tree) (sym (bound_values k (bodies_below k g) ts p.0)) ∙ v
+      ∙ ap (λ us. act (parameters us bound) free (bodies_below k h y).tree) (bound_values k (bodies_below k h) ts p.0)) in
       subst (λ y. g y ≡ h y) o one
   pattern_one_under k g h (meta y ts) p f e v z (inr o) = absurd (bound_occurs k z ts p.0 o)
   pattern_one_under k g h (lam a t) p f e v z o =
-      pattern_one_under (k + 1) g h t p f e (sym (value-moved k g t) ∙ lam_bodies v ∙ value-moved k h t) z o
+      pattern_one_under (k + 1) g h t p f e (sym (value-bodies_below k g t) ∙ lam_bodies v ∙ value-bodies_below k h t) z o
   pattern_one_under k g h (app t u) p f e v z (inl o) = spine_one k g h t p.0 f.0 e.0 (app_functions v) z o
   pattern_one_under k g h (app t u) p f e v z (inr o) = pattern_one_under k g h u p.1 f.1 e.1 (app_arguments v) z o
 
-  spine_one : (k : ℕ) (g h : ℕ → Body) (p : Tm) → IsPatternSpine k p → FitsBodies g p → FitsBodies h p → value (moved k g) p ≡ value (moved k h) p → (z : ℕ) → Occurs z p → g z ≡ h z
+  spine_one : (k : ℕ) (g h : ℕ → Body) (p : Tm) → IsPatternSpine k p → FitsBodies g p → FitsBodies h p → value (bodies_below k g) p ≡ value (bodies_below k h) p → (z : ℕ) → Occurs z p → g z ≡ h z
   spine_one k g h (bound i) p f e v z o = absurd o
   spine_one k g h (free x a) p f e v z o = absurd o
   spine_one k g h (fun c) p f e v z o = absurd o
@@ -183,7 +183,7 @@ mutual
 -- two meta-substitutions that give a pattern one value agree on its meta-variables
 pub value_pattern : (g h : ℕ → Body) (p : Tm) → IsPattern p → FitsBodies g p → FitsBodies h p → value g p ≡ value h p → (z : ℕ) → Occurs z p → g z ≡ h z
 value_pattern g h p i f e v z o =
-    pattern_one_under 0 g h p i f e (value_same (moved 0 g) g p (moved-none g) ∙ v ∙ sym (value_same (moved 0 h) h p (moved-none h))) z o
+    pattern_one_under 0 g h p i f e (value_same (bodies_below 0 g) g p (bodies_below-none g) ∙ v ∙ sym (value_same (bodies_below 0 h) h p (bodies_below-none h))) z o
 
 pub pattern_one : {g h : ℕ → Body} {p t : Tm} → IsPattern p → Value g p t → Value h p t → (z : ℕ) → Occurs z p → g z ≡ h z
 pattern_one {g = g} {h = h} {p = p} i v w z o =

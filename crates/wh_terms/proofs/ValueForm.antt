@@ -16,13 +16,13 @@ unfoldable pub up_times : ℕ → (ℕ → ℕ) → ℕ → ℕ
 up_times zero ρ = ρ
 up_times (suc n) ρ = up_times n (up_renaming ρ)
 
-unfoldable pub ups : ℕ → (ℕ → Tm) → ℕ → Tm
-ups zero σ = σ
-ups (suc n) σ = ups n (up σ)
+unfoldable pub up_many : ℕ → (ℕ → Tm) → ℕ → Tm
+up_many zero σ = σ
+up_many (suc n) σ = up_many n (up σ)
 
-unfoldable pub ups_free : ℕ → (ℕ → Ty → Tm) → ℕ → Ty → Tm
-ups_free zero φ = φ
-ups_free (suc n) φ = ups_free n (up_free φ)
+unfoldable pub up_free_many : ℕ → (ℕ → Ty → Tm) → ℕ → Ty → Tm
+up_free_many zero φ = φ
+up_free_many (suc n) φ = up_free_many n (up_free φ)
 
 -- the bodies, moved below one binder: their parameters stay
 abbrev pub shifted : (ℕ → Body) → ℕ → Body
@@ -30,7 +30,7 @@ shifted g z = record { arity = (g z).arity; tree = rename (up_times (g z).arity 
 
 -- the bodies after a substitution that does not touch their parameters
 abbrev pub acted : (ℕ → Tm) → (ℕ → Ty → Tm) → (ℕ → Body) → ℕ → Body
-acted σ φ g z = record { arity = (g z).arity; tree = act (ups (g z).arity σ) (ups_free (g z).arity φ) (g z).tree }
+acted σ φ g z = record { arity = (g z).arity; tree = act (up_many (g z).arity σ) (up_free_many (g z).arity φ) (g z).tree }
 
 unfoldable mutual
   pub value : (ℕ → Body) → Tm → Tm
@@ -127,22 +127,22 @@ act_cons-up t τ σ zero = refl
 act_cons-up t τ σ (suc i) = act-rename suc (cons t τ) free (σ i)
 
 -- parameters put into a substitution that left them alone
-pub parameters-ups : (ts : Tms) (τ σ : ℕ → Tm) (i : ℕ) → act (parameters ts τ) free (ups (count ts) σ i) ≡ parameters ts (λ j. act τ free (σ j)) i
-unfolding parameters ups
-parameters-ups none τ σ i = refl
-parameters-ups (more t ts) τ σ i =
-    ap (λ n. act (parameters ts (cons t τ)) free (ups n σ i)) (one-add (count ts)) ∙ parameters-ups ts (cons t τ) (up σ) i
+pub parameters-up_many : (ts : Tms) (τ σ : ℕ → Tm) (i : ℕ) → act (parameters ts τ) free (up_many (count ts) σ i) ≡ parameters ts (λ j. act τ free (σ j)) i
+unfolding parameters up_many
+parameters-up_many none τ σ i = refl
+parameters-up_many (more t ts) τ σ i =
+    ap (λ n. act (parameters ts (cons t τ)) free (up_many n σ i)) (one-add (count ts)) ∙ parameters-up_many ts (cons t τ) (up σ) i
     ∙ parameters_same ts (λ j. act (cons t τ) free (up σ j)) (cons t (λ j. act τ free (σ j))) (act_cons-up t τ σ) i
 
 act_cons-suc : (t : Tm) (τ : ℕ → Tm) (u : Tm) → act (cons t τ) free (rename suc u) ≡ act τ free u
 unfolding cons
 act_cons-suc t τ u = act-rename suc (cons t τ) free u
 
-pub parameters-ups_free : (ts : Tms) (τ : ℕ → Tm) (φ : ℕ → Ty → Tm) (x : ℕ) (a : Ty) → act (parameters ts τ) free (ups_free (count ts) φ x a) ≡ act τ free (φ x a)
-unfolding parameters ups_free up_free
-parameters-ups_free none τ φ x a = refl
-parameters-ups_free (more t ts) τ φ x a =
-    ap (λ n. act (parameters ts (cons t τ)) free (ups_free n φ x a)) (one-add (count ts)) ∙ parameters-ups_free ts (cons t τ) (up_free φ) x a
+pub parameters-up_many_free : (ts : Tms) (τ : ℕ → Tm) (φ : ℕ → Ty → Tm) (x : ℕ) (a : Ty) → act (parameters ts τ) free (up_free_many (count ts) φ x a) ≡ act τ free (φ x a)
+unfolding parameters up_free_many up_free
+parameters-up_many_free none τ φ x a = refl
+parameters-up_many_free (more t ts) τ φ x a =
+    ap (λ n. act (parameters ts (cons t τ)) free (up_free_many n φ x a)) (one-add (count ts)) ∙ parameters-up_many_free ts (cons t τ) (up_free φ) x a
     ∙ act_cons-suc t τ (φ x a)
 
 up-follows : (ρ : ℕ → ℕ) (σ τ : ℕ → Tm) → ((i : ℕ) → τ (ρ i) ≡ rename ρ (σ i)) → (i : ℕ) → up τ (up_renaming ρ i) ≡ rename (up_renaming ρ) (up σ i)
@@ -150,23 +150,23 @@ unfolding up up_renaming rename
 up-follows ρ σ τ h zero = refl
 up-follows ρ σ τ h (suc i) = ap (rename suc) (h i) ∙ sym (rename-up-suc ρ (σ i))
 
-ups-follow : (n : ℕ) (ρ : ℕ → ℕ) (σ τ : ℕ → Tm) → ((i : ℕ) → τ (ρ i) ≡ rename ρ (σ i)) → (i : ℕ) → ups n τ (up_times n ρ i) ≡ rename (up_times n ρ) (ups n σ i)
-unfolding ups up_times
-ups-follow zero ρ σ τ h i = h i
-ups-follow (suc n) ρ σ τ h i = ups-follow n (up_renaming ρ) (up σ) (up τ) (up-follows ρ σ τ h) i
+up_many-follow : (n : ℕ) (ρ : ℕ → ℕ) (σ τ : ℕ → Tm) → ((i : ℕ) → τ (ρ i) ≡ rename ρ (σ i)) → (i : ℕ) → up_many n τ (up_times n ρ i) ≡ rename (up_times n ρ) (up_many n σ i)
+unfolding up_many up_times
+up_many-follow zero ρ σ τ h i = h i
+up_many-follow (suc n) ρ σ τ h i = up_many-follow n (up_renaming ρ) (up σ) (up τ) (up-follows ρ σ τ h) i
 
-ups_free-follow : (n : ℕ) (ρ : ℕ → ℕ) (φ ψ : ℕ → Ty → Tm) → ((x : ℕ) (a : Ty) → ψ x a ≡ rename ρ (φ x a))
-    → (x : ℕ) (a : Ty) → ups_free n ψ x a ≡ rename (up_times n ρ) (ups_free n φ x a)
-unfolding ups_free up_times up_free
-ups_free-follow zero ρ φ ψ h x a = h x a
-ups_free-follow (suc n) ρ φ ψ h x a = ups_free-follow n (up_renaming ρ) (up_free φ) (up_free ψ) (λ y b. ap (rename suc) (h y b) ∙ sym (rename-up-suc ρ (φ y b))) x a
+up_free_many-follow : (n : ℕ) (ρ : ℕ → ℕ) (φ ψ : ℕ → Ty → Tm) → ((x : ℕ) (a : Ty) → ψ x a ≡ rename ρ (φ x a))
+    → (x : ℕ) (a : Ty) → up_free_many n ψ x a ≡ rename (up_times n ρ) (up_free_many n φ x a)
+unfolding up_free_many up_times up_free
+up_free_many-follow zero ρ φ ψ h x a = h x a
+up_free_many-follow (suc n) ρ φ ψ h x a = up_free_many-follow n (up_renaming ρ) (up_free φ) (up_free ψ) (λ y b. ap (rename suc) (h y b) ∙ sym (rename-up-suc ρ (φ y b))) x a
 
 act_ups-shift : (n : ℕ) (σ : ℕ → Tm) (φ : ℕ → Ty → Tm) (b : Tm)
-    → act (ups n (up σ)) (ups_free n (up_free φ)) (rename (up_times n suc) b) ≡ rename (up_times n suc) (act (ups n σ) (ups_free n φ) b)
+    → act (up_many n (up σ)) (up_free_many n (up_free φ)) (rename (up_times n suc) b) ≡ rename (up_times n suc) (act (up_many n σ) (up_free_many n φ) b)
 unfolding up up_free
 act_ups-shift n σ φ b =
-    act-rename (up_times n suc) (ups n (up σ)) (ups_free n (up_free φ)) b
-    ∙ act_same (ups-follow n suc σ (up σ) (λ i. refl)) (ups_free-follow n suc φ (up_free φ) (λ x a. refl)) b ∙ sym (rename-act (ups n σ) (ups_free n φ) (up_times n suc) b)
+    act-rename (up_times n suc) (up_many n (up σ)) (up_free_many n (up_free φ)) b
+    ∙ act_same (up_many-follow n suc σ (up σ) (λ i. refl)) (up_free_many-follow n suc φ (up_free φ) (λ x a. refl)) b ∙ sym (rename-act (up_many n σ) (up_free_many n φ) (up_times n suc) b)
 
 -- bodies with a substitution moved below a binder, or moved and substituted
 pub acted-shifted : (σ : ℕ → Tm) (φ : ℕ → Ty → Tm) (g : ℕ → Body) (z : ℕ) → acted (up σ) (up_free φ) (shifted g) z ≡ shifted (acted σ φ g) z
@@ -176,23 +176,23 @@ acted-shifted σ φ g z =
 
 -- a substitution in a body with its arguments
 pub act-body : (σ : ℕ → Tm) (φ : ℕ → Ty → Tm) (b : Body) (us : Tms) → b.arity ≡ count us
-    → act σ φ (act (parameters us bound) free b.tree) ≡ act (parameters (acts σ φ us) bound) free (act (ups b.arity σ) (ups_free b.arity φ) b.tree)
+    → act σ φ (act (parameters us bound) free b.tree) ≡ act (parameters (acts σ φ us) bound) free (act (up_many b.arity σ) (up_free_many b.arity φ) b.tree)
 unfolding act
 act-body σ φ b us e =
-    act-act (parameters us bound) free σ φ b.tree ∙ act_same loose loosely b.tree ∙ sym (act-act (ups b.arity σ) (ups_free b.arity φ) (parameters (acts σ φ us) bound) free b.tree)
+    act-act (parameters us bound) free σ φ b.tree ∙ act_same loose loosely b.tree ∙ sym (act-act (up_many b.arity σ) (up_free_many b.arity φ) (parameters (acts σ φ us) bound) free b.tree)
   where
     counted : b.arity ≡ count (acts σ φ us)
     counted = e ∙ sym (count-acts σ φ us)
 
-    loose : (i : ℕ) → act σ φ (parameters us bound i) ≡ act (parameters (acts σ φ us) bound) free (ups b.arity σ i)
+    loose : (i : ℕ) → act σ φ (parameters us bound i) ≡ act (parameters (acts σ φ us) bound) free (up_many b.arity σ i)
     loose i =
         act-parameters σ φ us bound i ∙ sym (parameters_same (acts σ φ us) (λ j. act bound free (σ j)) σ (λ j. act-id (σ j)) i)
-        ∙ sym (parameters-ups (acts σ φ us) bound σ i) ∙ ap (λ n. act (parameters (acts σ φ us) bound) free (ups n σ i)) (sym counted)
+        ∙ sym (parameters-up_many (acts σ φ us) bound σ i) ∙ ap (λ n. act (parameters (acts σ φ us) bound) free (up_many n σ i)) (sym counted)
 
-    loosely : (x : ℕ) (a : Ty) → φ x a ≡ act (parameters (acts σ φ us) bound) free (ups_free b.arity φ x a)
+    loosely : (x : ℕ) (a : Ty) → φ x a ≡ act (parameters (acts σ φ us) bound) free (up_free_many b.arity φ x a)
     loosely x a =
-        sym (act-id (φ x a)) ∙ sym (parameters-ups_free (acts σ φ us) bound φ x a)
-        ∙ ap (λ n. act (parameters (acts σ φ us) bound) free (ups_free n φ x a)) (sym counted)
+        sym (act-id (φ x a)) ∙ sym (parameters-up_many_free (acts σ φ us) bound φ x a)
+        ∙ ap (λ n. act (parameters (acts σ φ us) bound) free (up_free_many n φ x a)) (sym counted)
 
 mutual
   unfolding act acts value values up_free

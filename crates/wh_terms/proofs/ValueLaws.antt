@@ -8,7 +8,7 @@ use Rattle.wh_terms.specs.Value.{Body, parameters, FreshForBodies, Value, of_bou
 use Rattle.wh_terms.proofs.ActLaws.{act_same, act-rename, act-id, opened-act, count-acts}
 use Rattle.wh_terms.proofs.TermLaws.{term-rename, term-up}
 use Rattle.wh_terms.proofs.FreshLaws.{Above, above, fresh-rename, fresh-act, opened_one}
-use Rattle.wh_terms.proofs.ValueForm.{up_times, ups, ups_free, shifted, acted, value, values, FitsArities, AllFitArities, FitsBodies, AllFitBodies, value_same, act-value}
+use Rattle.wh_terms.proofs.ValueForm.{up_times, up_many, up_free_many, shifted, acted, value, values, FitsArities, AllFitArities, FitsBodies, AllFitBodies, value_same, act-value}
 
 mutual
   unfolding act acts
@@ -49,15 +49,15 @@ unfolding up up_renaming rename
 up-undoes ρ σ h zero = refl
 up-undoes ρ σ h (suc i) = ap (rename suc) (h i)
 
-ups-undo : (n : ℕ) (ρ : ℕ → ℕ) (σ : ℕ → Tm) → ((i : ℕ) → σ (ρ i) ≡ bound i) → (i : ℕ) → ups n σ (up_times n ρ i) ≡ bound i
-unfolding ups up_times
-ups-undo zero ρ σ h i = h i
-ups-undo (suc n) ρ σ h i = ups-undo n (up_renaming ρ) (up σ) (up-undoes ρ σ h) i
+up_many-undo : (n : ℕ) (ρ : ℕ → ℕ) (σ : ℕ → Tm) → ((i : ℕ) → σ (ρ i) ≡ bound i) → (i : ℕ) → up_many n σ (up_times n ρ i) ≡ bound i
+unfolding up_many up_times
+up_many-undo zero ρ σ h i = h i
+up_many-undo (suc n) ρ σ h i = up_many-undo n (up_renaming ρ) (up σ) (up-undoes ρ σ h) i
 
-ups_free-free : (n : ℕ) (x : ℕ) (a : Ty) → ups_free n free x a ≡ free x a
-unfolding ups_free up_free rename
-ups_free-free zero x a = refl
-ups_free-free (suc n) x a = ups_free-free n x a
+pub up_free_many-free : (n : ℕ) (x : ℕ) (a : Ty) → up_free_many n free x a ≡ free x a
+unfolding up_free_many up_free rename
+up_free_many-free zero x a = refl
+up_free_many-free (suc n) x a = up_free_many-free n x a
 
 -- the bodies below a binder, opened: the bodies themselves
 pub acted-opened : (u : Tm) (g : ℕ → Body) (z : ℕ) → acted (cons u bound) free (shifted g) z ≡ g z
@@ -65,8 +65,8 @@ unfolding cons
 acted-opened u g z =
     let put : Tm → Body = λ b. record { arity = (g z).arity; tree = b } in
     let n = (g z).arity in
-    ap put (act-rename (up_times n suc) (ups n (cons u bound)) (ups_free n free) (g z).tree
-    ∙ act_same (ups-undo n suc (cons u bound) (λ i. refl)) (ups_free-free n) (g z).tree ∙ act-id (g z).tree)
+    ap put (act-rename (up_times n suc) (up_many n (cons u bound)) (up_free_many n free) (g z).tree
+    ∙ act_same (up_many-undo n suc (cons u bound) (λ i. refl)) (up_free_many-free n) (g z).tree ∙ act-id (g z).tree)
 
 term-cons : (u : Tm) → IsTerm u → (i : ℕ) → IsTerm (cons u bound i)
 unfolding cons

@@ -11,8 +11,8 @@ ghost use Rattle.wh_terms.specs.Valued.{valued, all_valued};
 use crate::bodies::{body_for, insert};
 use crate::subst::MetaSubst;
 use crate::term::{Term, Terms};
-use crate::walk::binders;
 use std::alloc::{AllocError, Global};
+use wh_types::sum;
 
 /// The value of a meta-term: each meta-application is replaced by the body of its meta-variable, and the parameters of
 /// the body by the values of the arguments. Each meta-variable of the term is listed, with the number of its arguments.
@@ -44,7 +44,7 @@ fn value_under(alloc: Global, by: &MetaSubst, term: &Term, depth: u32) -> Result
         }
         Term::Lam(kind, body) => {
             let kind = kind.copy(alloc)?;
-            let body = value_under(alloc, by, body, binders(depth, 1)?)?;
+            let body = value_under(alloc, by, body, sum(depth, 1)?)?;
             Ok(Term::Lam(kind, Box::new(alloc, body)?))
         }
         Term::App(function, argument) => {

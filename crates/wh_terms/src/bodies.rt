@@ -12,9 +12,9 @@ ghost use Rattle.wh_terms.specs.Under.{ups, ups_free, moved};
 use crate::raise::raise;
 use crate::subst::{MetaBody, MetaSubst};
 use crate::term::Term;
-use crate::walk::{Replace, act_under, binders};
+use crate::walk::{Replace, act_under};
 use std::alloc::{AllocError, Global};
-use wh_types::SimpleType;
+use wh_types::{SimpleType, sum};
 
 /// The body that the meta-substitution lists for a meta-variable.
 #[tactic(auto, using(crate::proofs::BodyLemmas::bodies_found, crate::proofs::BodyLemmas::bodies_passed, crate::proofs::BodyLemmas::listed_here, crate::proofs::BodyLemmas::others_more, crate::proofs::BodyLemmas::not_listed))]
@@ -55,7 +55,7 @@ impl Replace for Inserting<'_> {
         if inward < count {
             raise(alloc, &self.values[count - 1 - inward], depth)
         } else {
-            Ok(Term::Bound(binders(number - count as u32, self.depth)?))
+            Ok(Term::Bound(sum(number - count as u32, self.depth)?))
         }
     }
 

@@ -10,9 +10,9 @@ ghost use Rattle.wh_terms.specs.Substitution.{act, opened};
 ghost use Rattle.wh_terms.specs.Under.{ups, ups_free, moved, closing};
 
 use crate::term::Term;
-use crate::walk::{Replace, act_under, binders};
+use crate::walk::{Replace, act_under};
 use std::alloc::{AllocError, Global};
-use wh_types::{SimpleType, same_type};
+use wh_types::{SimpleType, same_type, sum};
 
 // The variable of a new binder for one free variable; loose variables come one binder farther.
 #[derive(Clone, Copy)]
@@ -33,7 +33,7 @@ impl Replace for Closing<'_> {
         if number < depth {
             Ok(Term::Bound(number))
         } else {
-            Ok(Term::Bound(binders(number, 1)?))
+            Ok(Term::Bound(sum(number, 1)?))
         }
     }
 

@@ -1,6 +1,6 @@
 //! Laws of the definitions, each the contract of a function that does nothing.
 
-ghost use Rattle.std.specs.Prelude.{◌≡◌, ℕ, List, []};
+ghost use Rattle.std.specs.Prelude.{◌≡◌, ℕ, List};
 ghost use Rattle.wh_types.specs.Ty.{Ty, SortsBelow};
 ghost use Rattle.wh_terms.specs.Tree.{Tm, bound, free};
 ghost use Rattle.wh_terms.specs.Substitution.{act, opened};
@@ -25,10 +25,11 @@ pub fn substitution_keeps_types()
         → ((x : ℕ) (b : Ty) → SortsBelow S.sorts b → Typed S M Γ (φ x b) b) → Typed S M Γ (act bound φ t) a }
 {}
 
-/// The value of a meta-term has its type, where each body has the type that its meta-variable is declared with.
+/// The value of a meta-term has its type, where each body has the type that its meta-variable is declared with. Bodies may have
+/// meta-variables themselves, which are then those of the value.
 pub fn values_keep_types()
-    ensures { (S : Symbols) (M : List Declared) (Γ : List Ty) (g : ℕ → Body) (m v : Tm) (a : Ty) → Typed S M Γ m a
-        → TypedBodies S M [] Γ g m → Value g m v → Typed S [] Γ v a }
+    ensures { (S : Symbols) (M N : List Declared) (Γ : List Ty) (g : ℕ → Body) (m v : Tm) (a : Ty) → Typed S M Γ m a
+        → TypedBodies S M N Γ g m → Value g m v → Typed S N Γ v a }
 {}
 
 /// Opening with a fresh variable can be undone: one body at most, for which the variable is fresh, opens to a tree.

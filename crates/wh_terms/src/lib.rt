@@ -33,7 +33,7 @@ pub use equality::same;
 pub use laws::{
     one_type, one_value, opening_can_be_undone, substitution_keeps_types, values_keep_types,
 };
-pub use limits::fits;
+pub use limits::{MOST_ARGUMENTS, MOST_HEIGHT, MOST_SIZE, fits};
 pub use lists::Types;
 pub use matching::match_pattern;
 pub use measures::{height, size};

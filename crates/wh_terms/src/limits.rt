@@ -10,11 +10,14 @@ ghost use Rattle.wh_terms.specs.Measures.{Fits, size, sizes};
 
 use crate::term::{Term, Terms};
 
-const MOST_HEIGHT: u32 = 200;
+/// The greatest height of a term that fits.
+pub const MOST_HEIGHT: u32 = 200;
 
-const MOST_ARGUMENTS: u32 = 32;
+/// The greatest number of arguments of a spine in a term that fits.
+pub const MOST_ARGUMENTS: u32 = 32;
 
-const MOST_SIZE: u32 = 65536;
+/// The greatest size of a term that fits.
+pub const MOST_SIZE: u32 = 65536;
 
 /// Whether the height of the term is at most 200, each spine in it has at most 32 arguments, and its size is at most
 /// 65,536.

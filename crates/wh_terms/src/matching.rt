@@ -15,12 +15,11 @@ ghost use Rattle.wh_terms.specs.Pattern.{AllBoundBelow, Distinct, IsPattern, IsP
 
 use crate::bodies::body_for;
 use crate::rule::Metas;
-use crate::seat::{Seat, body_of, counted, is_placed};
+use crate::seat::{Seat, body_of, is_placed};
 use crate::subst::{MetaBody, MetaSubst};
 use crate::term::Term;
-use crate::walk::binders;
 use std::alloc::{AllocError, Global};
-use wh_types::same_type;
+use wh_types::{counted, same_type, sum};
 
 /// The meta-substitution that makes the pattern the term, or None if there is none. It lists the meta-variables of the
 /// pattern, each once; `_metas` are those of the pattern's rule. A meta-variable that occurs more than once stands for
@@ -71,7 +70,7 @@ fn match_under(
             if !same_type(kind, other_kind) {
                 return Ok(false);
             }
-            match_under(alloc, part, below, binders(depth, 1)?, found)
+            match_under(alloc, part, below, sum(depth, 1)?, found)
         }
         (Term::App(function, argument), Term::App(first, second)) => {
             if !match_under(alloc, function, first, depth, found)? {

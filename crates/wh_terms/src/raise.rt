@@ -9,9 +9,9 @@ ghost use Rattle.wh_terms.specs.Under.{ups, ups_free, moved, raised};
 
 use crate::copy::copy_term;
 use crate::term::Term;
-use crate::walk::{Replace, act_under, binders};
+use crate::walk::{Replace, act_under};
 use std::alloc::{AllocError, Global};
-use wh_types::SimpleType;
+use wh_types::{SimpleType, sum};
 
 // Loose variables count `by` binders more.
 #[derive(Clone, Copy)]
@@ -31,7 +31,7 @@ impl Replace for Raising {
         if number < depth {
             Ok(Term::Bound(number))
         } else {
-            Ok(Term::Bound(binders(number, self.by)?))
+            Ok(Term::Bound(sum(number, self.by)?))
         }
     }
 

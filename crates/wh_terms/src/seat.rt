@@ -15,22 +15,14 @@ ghost use Rattle.wh_terms.specs.MatchSearch.{placed, all_placed};
 
 use crate::equality::same;
 use crate::term::{Term, Terms};
-use crate::walk::binders;
 use std::alloc::{AllocError, Global};
-use wh_types::same_type;
+use wh_types::{counted, same_type, sum};
 
 /// The arguments of a meta-variable in a pattern, and below how many binders they stand.
 #[derive(Clone, Copy)]
 pub struct Seat<'a> {
     pub args: &'a [Term],
     pub depth: u32,
-}
-
-/// A count of arguments. What 32 bits do not count takes more memory than there is.
-pub fn counted(count: usize) -> Result<u32, AllocError>
-    ensures { IfOk result (λ number. number ≡ count) }
-{
-    u32::try_from(count).or(Err(AllocError))
 }
 
 // The number that a bound variable of the body has at the seat, below `inner` binders of the body.
@@ -46,11 +38,11 @@ fn placed_number(seat: &Seat<'_>, number: u32, inner: u32) -> Result<u32, AllocE
     let count = seat.args.len();
     if inward < count {
         match &seat.args[count - 1 - inward] {
-            Term::Bound(outer) => binders(*outer, inner),
+            Term::Bound(outer) => sum(*outer, inner),
             _ => unreachable!(),
         }
     } else {
-        binders(number - count as u32, seat.depth)
+        sum(number - count as u32, seat.depth)
     }
 }
 
@@ -72,10 +64,7 @@ pub fn is_placed(seat: &Seat<'_>, body: &Term, term: &Term, inner: u32) -> Resul
             Ok(*meta == *other && are_placed(seat, items, others, inner)?)
         }
         (Term::Lam(kind, part), Term::Lam(other_kind, other_part)) => {
-            Ok(
-                same_type(kind, other_kind)
-                    && is_placed(seat, part, other_part, binders(inner, 1)?)?,
-            )
+            Ok(same_type(kind, other_kind) && is_placed(seat, part, other_part, sum(inner, 1)?)?)
         }
         (Term::App(function, argument), Term::App(first, second)) => {
             Ok(
@@ -122,7 +111,7 @@ fn origin(seat: &Seat<'_>, number: u32) -> Result<Option<u32>, AllocError>
 {
     let count = seat.args.len();
     if number >= seat.depth {
-        return Ok(Some(binders(number - seat.depth, counted(count)?)?));
+        return Ok(Some(sum(number - seat.depth, counted(count)?)?));
     }
     for (i, arg) in seat.args.iter().enumerate() {
         if let Term::Bound(outer) = arg {
@@ -146,7 +135,7 @@ fn source(seat: &Seat<'_>, number: u32, inner: u32) -> Result<Option<u32>, Alloc
         return Ok(Some(number));
     }
     match origin(seat, number - inner)? {
-        Some(outer) => Ok(Some(binders(outer, inner)?)),
+        Some(outer) => Ok(Some(sum(outer, inner)?)),
         None => Ok(None),
     }
 }
@@ -175,7 +164,7 @@ pub fn body_of(
             Some(bodies) => Ok(Some(Term::Meta(*meta, bodies))),
             None => Ok(None),
         },
-        Term::Lam(kind, part) => match body_of(alloc, seat, part, binders(inner, 1)?)? {
+        Term::Lam(kind, part) => match body_of(alloc, seat, part, sum(inner, 1)?)? {
             Some(body) => {
                 let kind = kind.copy(alloc)?;
                 Ok(Some(Term::Lam(kind, Box::new(alloc, body)?)))

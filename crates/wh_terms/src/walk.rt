@@ -11,7 +11,7 @@ ghost use Rattle.wh_types.specs.Erase.{ty};
 
 use crate::term::{Term, Terms};
 use std::alloc::{AllocError, Global};
-use wh_types::SimpleType;
+use wh_types::{SimpleType, sum};
 
 /// What takes the place of variables.
 pub trait Replace {
@@ -43,14 +43,6 @@ pub trait Replace {
         ensures { IfOk result (λ r. tm r ≡ ups_free depth (for_free self.now) number (ty kind.now)) };
 }
 
-/// The sum of two numbers of binders, or of a variable's number and binders. The calls of this crate ask for numbers and
-/// nesting below 2^30: a sum beyond 32 bits counts more binders than memory holds, and is told as want of memory.
-pub fn binders(a: u32, b: u32) -> Result<u32, AllocError>
-    ensures { IfOk result (λ sum. sum ≡ a + b) }
-{
-    a.checked_add(b).ok_or(AllocError)
-}
-
 /// The term, `depth` binders below the place where `by` speaks, with the trees of `by` for its variables.
 #[cycle(act)]
 #[tactic(auto, using(crate::proofs::WalkLemmas::act_at_bound, crate::proofs::WalkLemmas::act_at_free, crate::proofs::WalkLemmas::act_at_fun, crate::proofs::WalkLemmas::act_at_app, crate::proofs::WalkLemmas::act_at_meta, crate::proofs::WalkLemmas::act_at_lam))]
@@ -70,7 +62,7 @@ pub fn act_under<R: Replace>(
         Term::Meta(meta, items) => Ok(Term::Meta(*meta, act_each(alloc, by, items, depth)?)),
         Term::Lam(kind, body) => {
             let kind = kind.copy(alloc)?;
-            let body = act_under(alloc, by, body, binders(depth, 1)?)?;
+            let body = act_under(alloc, by, body, sum(depth, 1)?)?;
             Ok(Term::Lam(kind, Box::new(alloc, body)?))
         }
         Term::App(function, argument) => {

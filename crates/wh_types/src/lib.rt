@@ -3,11 +3,13 @@
 #![tactic(auto)]
 
 mod list;
+mod numbers;
 mod ranks;
 mod simple_type;
 mod want;
 
 pub use list::List;
+pub use numbers::{counted, is_in, sum};
 pub use ranks::Ranks;
 pub use simple_type::{SimpleType, same_type};
 pub use want::Or;

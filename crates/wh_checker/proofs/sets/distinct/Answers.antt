@@ -1,7 +1,8 @@
 use Rattle.std.proofs.Common.{◌+◌, ℕ, List, get_or, sym, subst, ◌∙◌}
 use Rattle.wh_nodes.specs.Nodes.{IsSetOf}
 use Rattle.wh_pairs.proofs.ByPlace.{number_at}
-use Rattle.wh_checker.proofs.SetLemmas.{StandsBefore, distinct_push, distinct_skip, set_same, before_end}
+use Rattle.wh_graph.proofs.GraphLemmas.{StandsBefore, before_all}
+use Rattle.wh_checker.proofs.SetLemmas.{distinct_push, distinct_skip, set_same}
 use Rattle.std.proofs.Common.{Contains}
 use Rattle.wh_checker.proofs.sets.distinct.Goals as goal
 use Rattle.wh_checker.proofs.sets.distinct.Goals.{then-is_above+in_ok-push, else-is_above}
@@ -22,4 +23,4 @@ loop-number-preserved c =
 pub returns : goal.returns
 returns c =
     set_same (StandsBefore c.args.sorted.now c.loop-number.number-index) (Contains c.args.sorted.now) c.loop-number.set c.loop-number.invariant
-    (before_end c.args.sorted.now c.loop-number.number-index c.loop-number-test.false)
+    (before_all c.args.sorted.now c.loop-number.number-index c.loop-number-test.false)

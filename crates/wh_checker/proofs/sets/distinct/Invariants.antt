@@ -1,5 +1,5 @@
 use Rattle.wh_nodes.specs.Nodes.{IsSetOf}
-use Rattle.wh_checker.proofs.SetLemmas.{StandsBefore}
+use Rattle.wh_graph.proofs.GraphLemmas.{StandsBefore}
 use Rattle.wh_checker.proofs.sets.distinct.Given as goal
 
 abbrev pub invariant-loop-number : goal.invariant-loop-number

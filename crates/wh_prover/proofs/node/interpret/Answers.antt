@@ -1,7 +1,7 @@
-use Rattle.std.proofs.Common.{◌≡◌, ◌<◌, ℕ, List, map, reverse, All, sym, ap, subst, ◌∙◌}
+use Rattle.std.proofs.Common.{◌≡◌, ◌<◌, ℕ, List, map, reverse, All, ap, subst, ◌∙◌}
 use Rattle.std.proofs.lemmas.List.{length-map}
 use Rattle.wh_system.specs.SystemView.{system_data}
-use Rattle.wh_pairs.specs.PairData.{IsIncreasing, pair_data}
+use Rattle.wh_pairs.specs.PairData.{pair_data}
 use Rattle.wh_pairs.specs.Views.{pairs_data}
 use Rattle.wh_cert.specs.Said.{said_node}
 use Rattle.wh_nodes.specs.Nodes.{IsKept, IsSetOf}
@@ -18,14 +18,6 @@ find_interpretation-requires-clause-set c =
     let set = c.args.set in
     subst (λ n. All (λ m. m < n) set) (length-map pairs pair_data) (arrives_within (system_data c.args.system.now) (pairs_data pairs) set c.requires.ended.arrives)
 
-pub kept-requires-clause-drop : goal.kept-requires-clause-drop
-kept-requires-clause-drop c =
-    let d = system_data c.args.system.now in
-    let ps = pairs_data c.args.pairs.now in
-    let node = c.in-Found.node in
-    let is : IsInterpretation d ps c.args.set (said_node node) = subst (IsAnswer d ps c.args.set c.args.tries) c.in-Found.is c.in_ok-node.ensures in
-    subst IsIncreasing (sym (c.dropped_by.ensures ∙ dropped_by_interpretation d ps c.args.set (said_node node) is)) is.increasing
-
 pub returns-in_ok-push-in-Found-2 : goal.returns-in_ok-push-in-Found-2
 returns-in_ok-push-in-Found-2 c =
     let d = system_data c.args.system.now in
@@ -37,8 +29,7 @@ returns-in_ok-push-in-Found-2 c =
     let rest = c.in_ok-kept-in-Found.field-0 in
     let is : IsInterpretation d ps set line = subst (IsAnswer d ps set c.args.tries) c.in-Found.is c.in_ok-node.ensures in
     let drops : c.dropped_by.result.now ≡ is.drop = c.dropped_by.ensures ∙ dropped_by_interpretation d ps set line is in
-    let kept = subst (λ (s : List ℕ). IsSetOf (IsKept s is.drop) rest) c.as_slice.ensures.numbers
-    (subst (λ (s : List ℕ). IsSetOf (IsKept c.as_slice.result.now s) rest) drops c.in_ok-kept-in-Found.ensures) in
+    let kept = subst (λ (s : List ℕ). IsSetOf (IsKept set s) rest) drops c.in_ok-kept-in-Found.ensures in
     adds_interpretation d ps set rest line (reverse stack) (reverse c.push.new.self.items) (map said_node c.args.nodes.now) (map said_node c.push-in-Found.new.self)
     c.requires.ended c.requires.none is kept
     (ap reverse c.in_ok-push-in-Found.ensures.items ∙ reverse_push stack rest)

@@ -43,7 +43,7 @@ returns-in_ok-push-in-Found-2 c =
     let stack = c.args.stack.now.items in
     let found = subst (IsAnswer d.rules ps set c.args.tries) c.in-Found.is c.in_ok-found.ensures in
     let few = subst (λ n. n ≤ 4096) (sym (length-map pairs pair_data)) c.requires.few in
-    let kept = subst (λ (s : List ℕ). IsSetOf (IsKept s drop) rest) c.as_slice.ensures.numbers (subst (λ (s : List ℕ). IsSetOf (IsKept c.as_slice.result.now s) rest) c.as_slice-in-Found.ensures.numbers c.in_ok-kept-in-Found.ensures) in
+    let kept = subst (λ (s : List ℕ). IsSetOf (IsKept set s) rest) c.as_slice.ensures.numbers c.in_ok-kept-in-Found.ensures in
     adds_subterm d ps set drop rest (map chosen c.in-Found.found.args) (said_node node) (reverse stack) (reverse c.push.new.self.items) (map said_node c.args.nodes.now) (map said_node c.push-in-Found.new.self)
     c.is_well_made.ensures few c.requires.ended found.0 found.1 kept c.in_ok-node_of-in-Found.ensures
     (ap reverse c.in_ok-push-in-Found.ensures.items ∙ reverse_push stack rest)

@@ -1,7 +1,7 @@
 use Rattle.std.proofs.Common.{ap, sym, subst, ◌∙◌, inl, inr}
 use Rattle.wh_terms.specs.Erase.{tm}
 use Rattle.wh_terms.specs.declared.term.Term.{Term}
-use Rattle.wh_subterm.specs.Parts.{Part, SomeArgumentHas}
+use Rattle.wh_subterm.specs.ProperParts.{Part, SomeArgumentHas}
 use Rattle.wh_subterm.proofs.PartLemmas.{part_from_argument, argument_from_part, last_has, front_has, has_cases}
 use Rattle.wh_subterm.proofs.parts.+parts.Goals as goal
 use Rattle.wh_subterm.proofs.parts.+parts.Goals.{some_argument_has-then-same, some_argument_has-else-same}

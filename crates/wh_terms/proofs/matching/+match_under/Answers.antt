@@ -51,16 +51,16 @@ returns-in-Fun-Fun t c =
     (sym (ap tm c.in-Fun-Fun.is-0)) (sym (ap tm c.in-Fun-Fun.is-1))
     (fun_answer c.args.depth c.in-Fun-Fun.symbol c.in-Fun-Fun.other c.args.found.now)
 
-pub returns-in_ok-binders-in-Lam-Lam : goal.returns-in_ok-binders-in-Lam-Lam
-returns-in_ok-binders-in-Lam-Lam t c =
+pub returns-in_ok-sum-in-Lam-Lam : goal.returns-in_ok-sum-in-Lam-Lam
+returns-in_ok-sum-in-Lam-Lam t c =
     let kinds : ty c.in-Lam-Lam.kind ≡ ty c.in-Lam-Lam.other_kind = search rules in
     let pattern : tm c.args.pattern.now ≡ lam (ty c.in-Lam-Lam.kind) (tm c.deref.result.now) = search rules in
     let term : tm c.args.term.now ≡ lam (ty c.in-Lam-Lam.other_kind) (tm c.deref-in-Lam-Lam.result.now) = search rules in
-    IfOk-map (Answers c.in_ok-binders-in-Lam-Lam.field-0 (tm c.deref.result.now) (tm c.deref-in-Lam-Lam.result.now) c.args.found.now c.match_under.new.found)
+    IfOk-map (Answers c.in_ok-sum-in-Lam-Lam.field-0 (tm c.deref.result.now) (tm c.deref-in-Lam-Lam.result.now) c.args.found.now c.match_under.new.found)
     (Answers c.args.depth (tm c.args.pattern.now) (tm c.args.term.now) c.args.found.now c.match_under.new.found)
     c.match_under.result
     (λ r found. subst₂ (λ p u. Answers c.args.depth p u c.args.found.now c.match_under.new.found r) (sym pattern)
     (sym (term ∙ ap (λ a. lam a (tm c.deref-in-Lam-Lam.result.now)) (sym kinds)))
-    (lam_answer c.args.depth c.in_ok-binders-in-Lam-Lam.field-0 (ty c.in-Lam-Lam.kind) (tm c.deref.result.now) (tm c.deref-in-Lam-Lam.result.now) c.args.found.now
-    c.match_under.new.found r c.in_ok-binders-in-Lam-Lam.ensures found))
+    (lam_answer c.args.depth c.in_ok-sum-in-Lam-Lam.field-0 (ty c.in-Lam-Lam.kind) (tm c.deref.result.now) (tm c.deref-in-Lam-Lam.result.now) c.args.found.now
+    c.match_under.new.found r c.in_ok-sum-in-Lam-Lam.ensures found))
     c.match_under.ensures

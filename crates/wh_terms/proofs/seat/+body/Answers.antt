@@ -37,7 +37,7 @@ body_of-returns-in_default-2 t c =
 pub body_of-returns-in-None-3 : goal.body_of-returns-in-None-3
 body_of-returns-in-None-3 t c =
     let parts : tm c.args.term.now ≡ lam (ty c.in-Lam.kind) (tm c.deref.result.now) = search rules in
-    λ b e. no_lam c.args.seat.now.depth c.args.inner c.in_ok-binders-in-Lam.field-0 (tms c.args.seat.now.args.now) _ _ c.requires c.in_ok-binders-in-Lam.ensures
+    λ b e. no_lam c.args.seat.now.depth c.args.inner c.in_ok-sum-in-Lam.field-0 (tms c.args.seat.now.args.now) _ _ c.requires c.in_ok-sum-in-Lam.ensures
     (rw c.in-None-3.is at c.in_ok-body-in-Lam.ensures) b (e ∙ parts)
 
 pub body_of-returns-in-Some-2 : goal.body_of-returns-in-Some-2

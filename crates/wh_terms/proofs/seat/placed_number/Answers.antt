@@ -16,7 +16,7 @@ pub returns-in-Bound : goal.returns-in-Bound
 returns-in-Bound c =
     let seat = c.args.seat.now in
     IfOk-map (λ sum. sum ≡ c.in-Bound.outer + c.args.inner) (λ place. ups c.args.inner (parameters (tms seat.args.now) (moved seat.depth)) c.args.number ≡ bound place)
-    c.binders.result
+    c.sum.result
     (λ sum is. argument_here seat.depth c.args.inner c.args.number _ c.in-Bound.outer seat.args.now c.index-seat-count.result (omega arith) (omega arith)
     c.index-seat-count.is (ap tm (c.index-seat-count.is ∙ c.in-Bound.is)) ∙ ap bound (sym is))
-    c.binders.ensures
+    c.sum.ensures

@@ -4,10 +4,10 @@ use Rattle.wh_terms.specs.Under.{moved}
 use Rattle.wh_terms.proofs.SeatLemmas.{from_there, no_bound}
 use Rattle.wh_terms.proofs.seat.source.Goals as goal
 
-pub returns-in_ok-binders-in-Some : goal.returns-in_ok-binders-in-Some
-returns-in_ok-binders-in-Some c =
-    from_there (parameters (tms c.args.seat.now.args.now) (moved c.args.seat.now.depth)) c.args.inner c.args.number c.in-Some.outer c.in_ok-binders-in-Some.field-0
-    c.if-number-inner.false (rw c.in-Some.is at c.in_ok-outer.ensures) c.in_ok-binders-in-Some.ensures
+pub returns-in_ok-sum-in-Some : goal.returns-in_ok-sum-in-Some
+returns-in_ok-sum-in-Some c =
+    from_there (parameters (tms c.args.seat.now.args.now) (moved c.args.seat.now.depth)) c.args.inner c.args.number c.in-Some.outer c.in_ok-sum-in-Some.field-0
+    c.if-number-inner.false (rw c.in-Some.is at c.in_ok-outer.ensures) c.in_ok-sum-in-Some.ensures
 
 pub returns-in-None : goal.returns-in-None
 returns-in-None c =
