@@ -9,7 +9,7 @@ use Rattle.wh_terms.specs.Sight.{Occurs}
 use Rattle.wh_access.specs.Readings.{Place, Reading, symbol_of, within_argument, readings, readings_of_left, way_to}
 use Rattle.wh_access.specs.Passing.{IsRead}
 use Rattle.wh_access.specs.Demands.{Demand, Asks, IsAskedAt, IsAskedOn, IsAskedFor}
-use Rattle.wh_access.specs.Tables.{Told, Grows, TellsAsked}
+use Rattle.wh_access.specs.Tables.{InTables, Grows, TellsAsked}
 use Rattle.wh_access.specs.declared.demands.Demands.{Demands}
 use Rattle.wh_access.proofs.ReadingLemmas.{way_in_front, way_after, way_behind}
 
@@ -31,8 +31,8 @@ grows_then old mid new A B C first second parts d from to = (
 
 pub grows_by_none : (old new : Demands) (A : Demand → Type 0) → new ≡ old → ((d : Demand) → A d → ⊥) → Grows old new A
 grows_by_none old new A e none d from to = (
-  λ told. inl (subst (λ t. Told t d) e told),
-  λ here. elim here [ inl o ↦ subst (λ t. Told t d) (sym e) o | inr a ↦ absurd (none d a) ],
+  λ told. inl (subst (λ t. InTables t d) e told),
+  λ here. elim here [ inl o ↦ subst (λ t. InTables t d) (sym e) o | inr a ↦ absurd (none d a) ],
 )
 
 pub grows_as : (old new : Demands) (A B : Demand → Type 0) → ((d : Demand) → A d ↔ B d) → Grows old new A → Grows old new B

@@ -8,7 +8,7 @@ use Rattle.wh_terms.specs.Typing.{Symbols}
 use Rattle.wh_terms.specs.Rules.{RewriteRule}
 use Rattle.wh_access.specs.Readings.{readings_of_left}
 use Rattle.wh_access.specs.Passing.{AllAccessible, Passes, EachUsed, IsFirstWithout}
-use Rattle.wh_access.specs.Told.{TellsOpen, IsFirstIn}
+use Rattle.wh_access.specs.Answered.{TellsOpen, IsFirstIn}
 
 -- a left side passes where the answer is `Some(true)`
 pub passes_told : (S : Symbols) (rank : ℕ → ℕ) (l : Tm) (z : ℕ) (o : Option Bool) (same : Bool) → TellsOpen S rank z (readings_of_left l) o → same ≡ option_eq beq o (Some true) → IsTrue same ↔ Passes S rank l z

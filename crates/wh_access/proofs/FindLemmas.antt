@@ -14,7 +14,7 @@ use Rattle.wh_access.specs.Readings.{Place, Reading, symbol_of, behind, within_a
 use Rattle.wh_access.specs.Passing.{AllRead, Passing}
 use Rattle.wh_access.specs.Demands.{Demand, HasSort, Asks, IsAskedFor, IsDemand, Leads, LeadsStrictly}
 use Rattle.wh_access.specs.Found.{IsCause, IsCycleIn, HasDemands, MeetTold}
-use Rattle.wh_access.specs.Tables.{Told, Grows, SortsWithin, LeadsBelow, LeadsStrictlyBelow}
+use Rattle.wh_access.specs.Tables.{InTables, Grows, SortsWithin, LeadsBelow, LeadsStrictlyBelow}
 use Rattle.wh_access.specs.declared.find.NoRanks.{NoRanks}
 use Rattle.wh_access.specs.declared.find.NoRanks.TheVariants.{Unread, Cycle}
 use Rattle.wh_access.specs.declared.demands.Demands.{Demands}
@@ -30,7 +30,7 @@ cases : (j i : ℕ) → j < i + 1 → (j < i) ⊎ (j ≡ i)
 cases j i h = grind arith
 
 pub asked_rule : (S : Symbols) (rules : List RewriteRule) (i : ℕ) (r : RewriteRule) (old new : Demands) (d : Demand) → d.from < 256 → d.to < 256 → slice_get rules i ≡ Some r
-    → (Told old d ↔ AskedBefore S rules i d) → Grows old new (λ d. (z : ℕ) × IsAskedFor S r z d) → Told new d ↔ AskedBefore S rules (i + 1) d
+    → (InTables old d ↔ AskedBefore S rules i d) → Grows old new (λ d. (z : ℕ) × IsAskedFor S r z d) → InTables new d ↔ AskedBefore S rules (i + 1) d
 asked_rule S rules i r old new d from to here before grows = (
   λ told. elim ((grows d from to).0 told) [
     | inl o ↦ let asked = before.0 o in (asked.0, omega (arith, asked.1), asked.2)
@@ -173,7 +173,7 @@ pub told_met : (d : SystemData) (demands : Demands) (ranks : List ℕ) → d.sym
     → (e : Demand) → e.from < d.symbols.sorts → e.to < d.symbols.sorts → IsDemand d.symbols d.rules e → Meets (rank_of ranks) e
 told_met d demands ranks few all met e from to demanded =
     let told = (all e (omega arith) (omega arith)).1 demanded in
-    (met.weak e.from e.to from to (e.strict, told), λ yes. met.strict e.from e.to from to (subst (λ b. Told demands (record { from = e.from; to = e.to; strict = b })) yes told))
+    (met.weak e.from e.to from to (e.strict, told), λ yes. met.strict e.from e.to from to (subst (λ b. InTables demands (record { from = e.from; to = e.to; strict = b })) yes told))
 
 pub cause_of : (d : SystemData) (demands : Demands) (e : NoRanks) → d.symbols.sorts ≤ 256 → HasDemands d demands → AllRead d.rules → IsCycleIn demands d.symbols.sorts e → IsCause d e
 cause_of d demands (Unread i z) few all read cycle = absurd cycle

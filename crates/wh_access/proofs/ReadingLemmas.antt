@@ -5,7 +5,7 @@ use Rattle.wh_terms.specs.Tree.{Tm, app, head, argument_count}
 use Rattle.wh_terms.specs.Typing.{Symbols}
 use Rattle.wh_laws.specs.Ranks.{IsAccessible}
 use Rattle.wh_access.specs.Readings.{Place, Reading, behind, symbol_of, within_argument, readings, readings_of_left, first_way, way_to}
-use Rattle.wh_access.specs.Told.{TellsOpen}
+use Rattle.wh_access.specs.Answered.{TellsOpen}
 
 first-or : (b : Bool) (w : List Place) (o : Option (List Place)) (v : List Place) → first_way b w o ≡ Some v → (p : Option (List Place)) → (o ≡ Some v → p ≡ Some v) → first_way b w p ≡ Some v
 first-or true w o v e p h = e

@@ -5,7 +5,7 @@ use Rattle.wh_system.specs.Systems.{SystemData}
 use Rattle.wh_laws.specs.Ranks.{rank_of}
 use Rattle.wh_access.specs.Passing.{AllRead, IsFirstUnread}
 use Rattle.wh_access.specs.Demands.{Demand, IsDemand, IsCycle, IsStrictCycle}
-use Rattle.wh_access.specs.Tables.{Told, LeadsIn, LeadsStrictlyIn, LeadsBelow, LeadsStrictlyBelow}
+use Rattle.wh_access.specs.Tables.{InTables, LeadsIn, LeadsStrictlyIn, LeadsBelow, LeadsStrictlyBelow}
 use Rattle.wh_access.specs.declared.find.NoRanks.{NoRanks}
 use Rattle.wh_access.specs.declared.find.NoRanks.TheVariants.{Unread, Cycle}
 use Rattle.wh_access.specs.declared.demands.Demands.{Demands}
@@ -28,7 +28,7 @@ IsCycleIn demands n (Cycle sorts) = IsCycle (LeadsBelow demands n) (LeadsStrictl
 
 -- the tables have what the rules of the system demand, among the sorts below 256
 abbrev pub HasDemands : SystemData → Demands → Type 0
-HasDemands d demands = (e : Demand) → e.from < 256 → e.to < 256 → Told demands e ↔ IsDemand d.symbols d.rules e
+HasDemands d demands = (e : Demand) → e.from < 256 → e.to < 256 → InTables demands e ↔ IsDemand d.symbols d.rules e
 
 -- so many ranks that meet the demands in the tables, none above 255
 pub record MeetTold (demands : Demands) (sorts : ℕ) (ranks : List ℕ) : Type 0 where

@@ -1,7 +1,7 @@
 pub mod Readings
 pub mod Passing
 pub mod Demands
-pub mod Told
+pub mod Answered
 pub mod Tables
 pub mod Sources
 pub mod Found

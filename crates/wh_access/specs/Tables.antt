@@ -18,15 +18,15 @@ table_of demands true = demands.strict
 table_of demands false = demands.weak
 
 -- the demand is in the tables
-abbrev pub Told : Demands → Demand → Type 0
-Told demands d = IsTrue (relates (table_of demands d.strict) d.from d.to)
+abbrev pub InTables : Demands → Demand → Type 0
+InTables demands d = IsTrue (relates (table_of demands d.strict) d.from d.to)
 
 -- a demand in the tables leads from s to t, and a strict one does
 abbrev pub LeadsIn : Demands → ℕ → ℕ → Type 0
-LeadsIn demands s t = (b : Bool) × Told demands (record { from = s; to = t; strict = b })
+LeadsIn demands s t = (b : Bool) × InTables demands (record { from = s; to = t; strict = b })
 
 abbrev pub LeadsStrictlyIn : Demands → ℕ → ℕ → Type 0
-LeadsStrictlyIn demands s t = Told demands (record { from = s; to = t; strict = true })
+LeadsStrictlyIn demands s t = InTables demands (record { from = s; to = t; strict = true })
 
 -- the same among the sorts below n
 abbrev pub LeadsBelow : Demands → ℕ → ℕ → ℕ → Type 0
@@ -37,7 +37,7 @@ LeadsStrictlyBelow demands n s t = (s < n) × (t < n) × LeadsStrictlyIn demands
 
 -- the new tables have the demands of the old ones and those in A
 abbrev pub Grows : Demands → Demands → (Demand → Type 0) → Type 0
-Grows old new A = (d : Demand) → d.from < 256 → d.to < 256 → Told new d ↔ (Told old d ⊎ A d)
+Grows old new A = (d : Demand) → d.from < 256 → d.to < 256 → InTables new d ↔ (InTables old d ⊎ A d)
 
 -- each sort in the type of a symbol has a number below n
 abbrev pub SortsWithin : ℕ → Symbols → Type 0

@@ -4,8 +4,8 @@ ghost use Rattle.std.specs.Prelude.{◌≡◌, ◌↔◌, ◌<◌, ◌^◌, IfOk
 ghost use Rattle.wh_access.specs.Demands.{HasSort, IsAskedAt};
 ghost use Rattle.wh_access.specs.Passing.{IsRead};
 ghost use Rattle.wh_access.specs.Readings.{readings, readings_of_left};
-ghost use Rattle.wh_access.specs.Tables.{Grows, LeadsIn, LeadsStrictlyIn, SortsWithin, TellsAsked, TellsAskedByRule, Told};
-ghost use Rattle.wh_access.specs.Told.{IsFirstIn};
+ghost use Rattle.wh_access.specs.Tables.{Grows, LeadsIn, LeadsStrictlyIn, SortsWithin, TellsAsked, TellsAskedByRule, InTables};
+ghost use Rattle.wh_access.specs.Answered.{IsFirstIn};
 ghost use Rattle.wh_terms.specs.Erase.{rewrite_rule, symbols, tm};
 ghost use Rattle.wh_terms.specs.Measures.{nesting};
 ghost use Rattle.wh_terms.specs.Sight.{Occurs};
@@ -29,7 +29,7 @@ pub struct Demands {
 impl Demands {
     /// No demands.
     pub fn new(alloc: Global) -> Result<Self, AllocError>
-        ensures { IfOk result (λ demands. (d : _) → d.from < 256 → d.to < 256 → Told demands d → ⊥) }
+        ensures { IfOk result (λ demands. (d : _) → d.from < 256 → d.to < 256 → InTables demands d → ⊥) }
     {
         Ok(Demands {
             weak: Relation::new(alloc)?,

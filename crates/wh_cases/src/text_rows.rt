@@ -1,14 +1,13 @@
 //! Rows of tokens and of printed texts.
 
 use crate::asking::expect_text;
-use crate::reading::{certificate_of, system_of};
+use crate::reading::certificate_of;
 use std::alloc::{AllocError, Global};
 use std::test::Fail;
 use wh_cert::Put;
-use wh_system::System;
 use wh_text::{
     Name, RawBinder, RawTerm, RawTerms, RawType, RawTypes, Token, TokenKind, print_number,
-    print_part, print_raw, print_type, tokens,
+    print_part, print_raw, tokens,
 };
 use wh_types::{Bytes, Or};
 
@@ -121,10 +120,6 @@ fn abstraction(alloc: Global) -> Result<RawTerm, AllocError> {
     Ok(RawTerm::Lam(RawBinder::Named(Name::new(alloc, b"x")?), kind, body, 0))
 }
 
-/// A rule with a spine, an abstraction and a meta-variable with an argument.
-const MAP: &[u8] =
-    b"sort nat;sort list;fun cons:nat->list->list;fun map:(nat->nat)->list->list;rule {F:[nat]nat,X:nat,Y:list} map (\\x:nat.F[x]) (cons X Y) => Y;";
-
 /// The text of a raw term, on a line.
 fn add_raw(alloc: Global, out: &mut Bytes, raw: &RawTerm) -> Result<(), AllocError> {
     let text = print_raw(alloc, raw)?;
@@ -132,25 +127,8 @@ fn add_raw(alloc: Global, out: &mut Bytes, raw: &RawTerm) -> Result<(), AllocErr
     out.push(b'\n')
 }
 
-/// The left side of the first rule of a system.
-fn add_left(alloc: Global, out: &mut Bytes, system: &System) -> Result<(), AllocError> {
-    if system.rules().is_empty() {
-        return Err(AllocError);
-    }
-    let raw = system.raw_side(alloc, 0, false)?;
-    add_raw(alloc, out, &raw)
-}
-
-/// The same of a text.
-fn add_left_of(alloc: Global, out: &mut Bytes, text: &[u8]) -> Result<(), AllocError> {
-    let system = system_of(alloc, text)?;
-    add_left(alloc, out, &system)
-}
-
-/// What a line puts: the type as it is and as a part of a type, and the term.
+/// What a line puts: the type as a part of something else, and the term.
 fn add_put(alloc: Global, out: &mut Bytes, put: &Put) -> Result<(), AllocError> {
-    print_type(out, &put.kind)?;
-    out.push(b' ')?;
     print_part(out, &put.kind)?;
     out.push(b' ')?;
     add_raw(alloc, out, &put.term)
@@ -181,15 +159,13 @@ const FUNCTIONAL: &[u8] = b"NO 1\nterm a\nat /\nput %0:((nat->o)->list) %65535:(
 
 /// All these, and the greatest number.
 fn add_texts(alloc: Global, out: &mut Bytes) -> Result<(), AllocError> {
-    add_left_of(alloc, out, MAP)?;
     add_puts(alloc, out, FUNCTIONAL)?;
     add_abstraction(alloc, out)?;
     print_number(out, 4_294_967_295)
 }
 
 /// What is expected of them.
-const PRINTED: &[u8] =
-    b"(map (\\$0:nat.F[$0]) (cons X Y))\n(nat->o)->list ((nat->o)->list) %65535:(nat->o)\n(\\x:(nat->o).Z[a,x])\n4294967295";
+const PRINTED: &[u8] = b"((nat->o)->list) %65535:(nat->o)\n(\\x:(nat->o).Z[a,x])\n4294967295";
 
 #[test]
 fn prints_texts(rt: HostRuntime) -> Result<(), Fail> {

@@ -30,7 +30,7 @@ one_end s (yes v ranks pairs nodes) (yes w others count more) e f =
     cc
 
 -- some bytes lead from here to the end of a certificate, whose lists have n as limit
-pub record Ends (n : ℕ) (s : Standing) : Type 0 where
+pub record ReachesEnd (n : ℕ) (s : Standing) : Type 0 where
   pub tail : List ℕ
   pub c : Cert
   pub ends : IsEnd (run s tail) c
@@ -40,6 +40,6 @@ end_same : (s u : Standing) (c : Cert) → s ≡ u → IsEnd u c → IsEnd s c
 end_same s u (no t steps at puts) e h = e ∙ h
 end_same s u (yes version ranks pairs nodes) e h = (h.0, e ∙ h.1)
 
-pub ends_after : (n : ℕ) (s u : Standing) (w : List ℕ → List ℕ) → ((r : List ℕ) → run s (w r) ≡ run u r) → Ends n u → Ends n s
+pub ends_after : (n : ℕ) (s u : Standing) (w : List ℕ → List ℕ) → ((r : List ℕ) → run s (w r) ≡ run u r) → ReachesEnd n u → ReachesEnd n s
 ends_after n s u w leads e =
     record { tail = w e.tail; c = e.c; ends = end_same (run s (w e.tail)) (run u e.tail) e.c (leads e.tail) e.ends; within = e.within }

@@ -18,7 +18,7 @@ use Rattle.wh_cert_parts.proofs.TermComplete.{Scan, still, read, stuck, scan, te
 use Rattle.wh_cert.specs.Written.{Put, Cert, yes, no}
 use Rattle.wh_cert.specs.Text.{put_path, put_rule, put_step, put_steps, put_put, put_puts, text}
 use Rattle.wh_cert.specs.Limits.{RuleFits, StepFits, PutFits, PartsFit}
-use Rattle.wh_cert.specs.LineMachine.{head_item, step_item, at_item, put_item, LinePlace, in_term, line, rule_wanted, rule_number, step_path, at_path, later_line, put_percent, put_number, put_type, put_term as placing, LineStep, on, term_line, put_line, type_line, Past, nothing, begun, placed, gather, Standing, stands, wrong, moved, run, start}
+use Rattle.wh_cert.specs.LineMachine.{head_item, step_item, at_item, put_item, LinePlace, in_term, line, rule_wanted, rule_number, step_path, at_path, later_line, put_percent, put_number, put_type, put_term as placing, LineStep, on, term_line, put_line, type_line, Past, nothing, begun, placed, gather, Standing, stands, wrong, standing_after, run, start}
 use Rattle.wh_cert.specs.ReadEnd.{IsEnd}
 use Rattle.wh_cert.proofs.Ended.{run_wrong}
 use Rattle.wh_cert.proofs.YesReached.{text_one}
@@ -31,7 +31,7 @@ head_scan h (still fs k) = stands h (in_term fs k)
 head_scan h (read t r) = run (stands (gather h (head_item t)) line) r
 head_scan h stuck = wrong
 
-pub lift_head : (h : Past) (s : m.State) (p : List ℕ) → run (moved h (term_line s)) p ≡ head_scan h (scan s p)
+pub lift_head : (h : Past) (s : m.State) (p : List ℕ) → run (standing_after h (term_line s)) p ≡ head_scan h (scan s p)
 lift_head h (m.whole t) p = refl
 lift_head h m.failed p = run_wrong p
 lift_head h (m.at fs k) [] = refl
@@ -42,7 +42,7 @@ put_scan h n a (still fs k) = stands h (placing n a fs k)
 put_scan h n a (read t r) = run (stands (gather h (put_item (record { number = n; kind = a; term = t }))) later_line) r
 put_scan h n a stuck = wrong
 
-pub lift_put : (h : Past) (n : ℕ) (a : RTy) (s : m.State) (p : List ℕ) → run (moved h (put_line n a s)) p ≡ put_scan h n a (scan s p)
+pub lift_put : (h : Past) (n : ℕ) (a : RTy) (s : m.State) (p : List ℕ) → run (standing_after h (put_line n a s)) p ≡ put_scan h n a (scan s p)
 lift_put h n a (m.whole t) p = refl
 lift_put h n a m.failed p = run_wrong p
 lift_put h n a (m.at fs k) [] = refl
@@ -51,10 +51,10 @@ lift_put h n a (m.at fs k) (b ∷ p) = lift_put h n a (m.step fs k b) p
 abbrev pub kind_scan : Past → ℕ → TypeScan → Standing
 kind_scan h n (in_type fs k) = stands h (put_type n fs k)
 kind_scan h n (type_read a []) = wrong
-kind_scan h n (type_read a (b ∷ r)) = run (moved h (type_line n (type_ended a b))) r
+kind_scan h n (type_read a (b ∷ r)) = run (standing_after h (type_line n (type_ended a b))) r
 kind_scan h n no_scan = wrong
 
-pub lift_kind : (h : Past) (n : ℕ) (s : TypeStep) (p : List ℕ) → run (moved h (type_line n s)) p ≡ kind_scan h n (type_scan s p)
+pub lift_kind : (h : Past) (n : ℕ) (s : TypeStep) (p : List ℕ) → run (standing_after h (type_line n s)) p ≡ kind_scan h n (type_scan s p)
 lift_kind h n (type_ended a b) p = refl
 lift_kind h n no_type p = run_wrong p
 lift_kind h n (goes fs k) [] = refl
@@ -62,10 +62,10 @@ lift_kind h n (goes fs k) (b ∷ p) = lift_kind h n (type_step fs k b) p
 
 -- numbers
 
-reads_numbers : (h : Past) (first : LinePlace) (k : ℕ → LinePlace) (other : ℕ → LineStep) (rest : ℕ → ℕ → LineStep) → ((d : ℕ) (r : List ℕ) → run (stands h first) (d ∷ r) ≡ run (moved h (cond (is_digit d) (on (k (d - 48))) (other d))) r) → ((n b : ℕ) (r : List ℕ) → run (stands h (k n)) (b ∷ r) ≡ run (moved h (cond (goes_on n b) (on (k (10 * n + (b - 48)))) (rest n b))) r) → ReadsNumbers (λ (r : List ℕ). run (stands h first) r) (λ (n : ℕ) (r : List ℕ). run (stands h (k n)) r)
+reads_numbers : (h : Past) (first : LinePlace) (k : ℕ → LinePlace) (other : ℕ → LineStep) (rest : ℕ → ℕ → LineStep) → ((d : ℕ) (r : List ℕ) → run (stands h first) (d ∷ r) ≡ run (standing_after h (cond (is_digit d) (on (k (d - 48))) (other d))) r) → ((n b : ℕ) (r : List ℕ) → run (stands h (k n)) (b ∷ r) ≡ run (standing_after h (cond (goes_on n b) (on (k (10 * n + (b - 48)))) (rest n b))) r) → ReadsNumbers (λ (r : List ℕ). run (stands h first) r) (λ (n : ℕ) (r : List ℕ). run (stands h (k n)) r)
 reads_numbers h first k other rest starts more = record {
-  starts = λ d r low. starts (48 + d) r ∙ ap (λ (s : LineStep). run (moved h s) r) (cond-true (is_digit (48 + d)) (on (k (48 + d - 48))) (other (48 + d)) (is_digit_48 d low)) ∙ ap (λ (n : ℕ). run (stands h (k n)) r) (omega arith);
-  goes = λ n d r some below fits. more n (48 + d) r ∙ ap (λ (s : LineStep). run (moved h s) r) (cond-true (goes_on n (48 + d)) (on (k (10 * n + (48 + d - 48)))) (rest n (48 + d)) (goes_on_48 n d some below fits)) ∙ ap (λ (i : ℕ). run (stands h (k i)) r) (omega arith);
+  starts = λ d r low. starts (48 + d) r ∙ ap (λ (s : LineStep). run (standing_after h s) r) (cond-true (is_digit (48 + d)) (on (k (48 + d - 48))) (other (48 + d)) (is_digit_48 d low)) ∙ ap (λ (n : ℕ). run (stands h (k n)) r) (omega arith);
+  goes = λ n d r some below fits. more n (48 + d) r ∙ ap (λ (s : LineStep). run (standing_after h s) r) (cond-true (goes_on n (48 + d)) (on (k (10 * n + (48 + d - 48)))) (rest n (48 + d)) (goes_on_48 n d some below fits)) ∙ ap (λ (i : ℕ). run (stands h (k i)) r) (omega arith);
 }
 
 reads_rules : (h : Past) → ReadsNumbers (λ (r : List ℕ). run (stands h rule_wanted) r) (λ (n : ℕ) (r : List ℕ). run (stands h (rule_number n)) r)

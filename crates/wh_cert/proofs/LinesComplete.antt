@@ -19,43 +19,43 @@ use Rattle.wh_cert.specs.Limits.{InterpFits, MoveFits}
 use Rattle.wh_cert.specs.PolyLines as l
 use Rattle.wh_cert.specs.PolyLines.{Lines, in_funs, in_marks, in_rules, in_pairs, lines_front, name_wanted, name, in_poly, moves, from_wanted, from, to_wanted, to, amount_wanted, amount, LinesStep, line_first, line_rest, line_begun, add_interp, add_cover, poly_led, moves_step, add_move, lines_step}
 use Rattle.wh_cert.specs.YesMachine.{poly_lines, lines_led, Past}
-use Rattle.wh_cert.specs.LineMachine.{stands_yes, moved_yes, run}
+use Rattle.wh_cert.specs.LineMachine.{stands_yes, standing_after_yes, run}
 
 -- names and numbers
 
 line_names : (h : Past) (x : Lines) → ReadsNames (λ (r : List ℕ). run (stands_yes h (poly_lines x name_wanted)) r) (λ (xs r : List ℕ). run (stands_yes h (poly_lines x (name xs))) r)
 line_names h x = record {
-  starts = λ b r is. ap (λ (s : LinesStep). run (moved_yes h (lines_led s)) r) (cond-true (is_start b) (l.on x (name (b ∷ []))) l.refused is);
-  goes = λ xs b r is short. ap (λ (s : LinesStep). run (moved_yes h (lines_led s)) r) (cond-true (is_part b && nat_lt (length xs) 64) (l.on x (name (xs ++ b ∷ []))) (cond (b == 32) (l.on x (in_poly xs outside poly_wanted)) l.refused) (and_from (is_part b) (nat_lt (length xs) 64) is (lt-ltb (length xs) 64 short)));
+  starts = λ b r is. ap (λ (s : LinesStep). run (standing_after_yes h (lines_led s)) r) (cond-true (is_start b) (l.on x (name (b ∷ []))) l.refused is);
+  goes = λ xs b r is short. ap (λ (s : LinesStep). run (standing_after_yes h (lines_led s)) r) (cond-true (is_part b && nat_lt (length xs) 64) (l.on x (name (xs ++ b ∷ []))) (cond (b == 32) (l.on x (in_poly xs outside poly_wanted)) l.refused) (and_from (is_part b) (nat_lt (length xs) 64) is (lt-ltb (length xs) 64 short)));
 }
 
 from_numbers : (h : Past) (x : Lines) (ms : List moved.Move) → ReadsNumbers (λ (r : List ℕ). run (stands_yes h (poly_lines x (from_wanted ms))) r) (λ (n : ℕ) (r : List ℕ). run (stands_yes h (poly_lines x (from ms n))) r)
 from_numbers h x ms = record {
-  starts = λ d r low. ap (λ (s : LinesStep). run (moved_yes h (lines_led s)) r) (cond-true (is_digit (48 + d)) (l.on x (from ms (48 + d - 48))) l.refused (is_digit_48 d low)) ∙ ap (λ (n : ℕ). run (stands_yes h (poly_lines x (from ms n))) r) (omega arith);
-  goes = λ n d r some below fits. ap (λ (s : LinesStep). run (moved_yes h (lines_led s)) r) (cond-true (goes_on n (48 + d)) (l.on x (from ms (10 * n + (48 + d - 48)))) _ (goes_on_48 n d some below fits)) ∙ ap (λ (i : ℕ). run (stands_yes h (poly_lines x (from ms i))) r) (omega arith);
+  starts = λ d r low. ap (λ (s : LinesStep). run (standing_after_yes h (lines_led s)) r) (cond-true (is_digit (48 + d)) (l.on x (from ms (48 + d - 48))) l.refused (is_digit_48 d low)) ∙ ap (λ (n : ℕ). run (stands_yes h (poly_lines x (from ms n))) r) (omega arith);
+  goes = λ n d r some below fits. ap (λ (s : LinesStep). run (standing_after_yes h (lines_led s)) r) (cond-true (goes_on n (48 + d)) (l.on x (from ms (10 * n + (48 + d - 48)))) _ (goes_on_48 n d some below fits)) ∙ ap (λ (i : ℕ). run (stands_yes h (poly_lines x (from ms i))) r) (omega arith);
 }
 
 to_numbers : (h : Past) (x : Lines) (ms : List moved.Move) (i : ℕ) → ReadsNumbers (λ (r : List ℕ). run (stands_yes h (poly_lines x (to_wanted ms i))) r) (λ (n : ℕ) (r : List ℕ). run (stands_yes h (poly_lines x (to ms i n))) r)
 to_numbers h x ms i = record {
-  starts = λ d r low. ap (λ (s : LinesStep). run (moved_yes h (lines_led s)) r) (cond-true (is_digit (48 + d)) (l.on x (to ms i (48 + d - 48))) l.refused (is_digit_48 d low)) ∙ ap (λ (n : ℕ). run (stands_yes h (poly_lines x (to ms i n))) r) (omega arith);
-  goes = λ n d r some below fits. ap (λ (s : LinesStep). run (moved_yes h (lines_led s)) r) (cond-true (goes_on n (48 + d)) (l.on x (to ms i (10 * n + (48 + d - 48)))) _ (goes_on_48 n d some below fits)) ∙ ap (λ (j : ℕ). run (stands_yes h (poly_lines x (to ms i j))) r) (omega arith);
+  starts = λ d r low. ap (λ (s : LinesStep). run (standing_after_yes h (lines_led s)) r) (cond-true (is_digit (48 + d)) (l.on x (to ms i (48 + d - 48))) l.refused (is_digit_48 d low)) ∙ ap (λ (n : ℕ). run (stands_yes h (poly_lines x (to ms i n))) r) (omega arith);
+  goes = λ n d r some below fits. ap (λ (s : LinesStep). run (standing_after_yes h (lines_led s)) r) (cond-true (goes_on n (48 + d)) (l.on x (to ms i (10 * n + (48 + d - 48)))) _ (goes_on_48 n d some below fits)) ∙ ap (λ (j : ℕ). run (stands_yes h (poly_lines x (to ms i j))) r) (omega arith);
 }
 
 amounts : (h : Past) (x : Lines) (ms : List moved.Move) (i j : ℕ) → ReadsBigs (λ (r : List ℕ). run (stands_yes h (poly_lines x (amount_wanted ms i j))) r) (λ (n : ℕ) (r : List ℕ). run (stands_yes h (poly_lines x (amount ms i j n))) r)
 amounts h x ms i j = record {
-  starts = λ d r some low. ap (λ (s : LinesStep). run (moved_yes h (lines_led s)) r) (cond-true (begins_big (48 + d)) (l.on x (amount ms i j (48 + d - 48))) l.refused (begins_big_48 d some low)) ∙ ap (λ (n : ℕ). run (stands_yes h (poly_lines x (amount ms i j n))) r) (omega arith);
-  goes = λ n d r below fits. ap (λ (s : LinesStep). run (moved_yes h (lines_led s)) r) (cond-true (goes_on_big n (48 + d)) (l.on x (amount ms i j (10 * n + (48 + d - 48)))) (moves_step x (add_move ms i j n) (48 + d)) (goes_on_big_48 n d below fits)) ∙ ap (λ (k : ℕ). run (stands_yes h (poly_lines x (amount ms i j k))) r) (omega arith);
+  starts = λ d r some low. ap (λ (s : LinesStep). run (standing_after_yes h (lines_led s)) r) (cond-true (begins_big (48 + d)) (l.on x (amount ms i j (48 + d - 48))) l.refused (begins_big_48 d some low)) ∙ ap (λ (n : ℕ). run (stands_yes h (poly_lines x (amount ms i j n))) r) (omega arith);
+  goes = λ n d r below fits. ap (λ (s : LinesStep). run (standing_after_yes h (lines_led s)) r) (cond-true (goes_on_big n (48 + d)) (l.on x (amount ms i j (10 * n + (48 + d - 48)))) (moves_step x (add_move ms i j n) (48 + d)) (goes_on_big_48 n d below fits)) ∙ ap (λ (k : ℕ). run (stands_yes h (poly_lines x (amount ms i j k))) r) (omega arith);
 }
 
 -- lines of interpretations
 
-pub poly_lift : (h : Past) (x : Lines) (xs : List ℕ) (s : PolyStep) (w : List ℕ) (p : Polynomial) (r : List ℕ) → poly_scan s w ≡ poly_read p (10 ∷ r) → run (moved_yes h (lines_led (poly_led x xs s))) w ≡ run (stands_yes h (poly_lines (add_interp x (record { name = xs; poly = p })) lines_front)) r
+pub poly_lift : (h : Past) (x : Lines) (xs : List ℕ) (s : PolyStep) (w : List ℕ) (p : Polynomial) (r : List ℕ) → poly_scan s w ≡ poly_read p (10 ∷ r) → run (standing_after_yes h (lines_led (poly_led x xs s))) w ≡ run (stands_yes h (poly_lines (add_interp x (record { name = xs; poly = p })) lines_front)) r
 poly_lift h x xs (poly_ended q b) w p r e =
     let same : q ≡ p = cc in
     let ends : b ≡ 10 = cc in
     let rest : w ≡ r = cc in
-    ap (λ (o : Polynomial). run (moved_yes h (lines_led (poly_led x xs (poly_ended o b)))) w) same
-    ∙ ap (λ (c : ℕ). run (moved_yes h (lines_led (poly_led x xs (poly_ended p c)))) w) ends
+    ap (λ (o : Polynomial). run (standing_after_yes h (lines_led (poly_led x xs (poly_ended o b)))) w) same
+    ∙ ap (λ (c : ℕ). run (standing_after_yes h (lines_led (poly_led x xs (poly_ended p c)))) w) ends
     ∙ ap (λ (v : List ℕ). run (stands_yes h (poly_lines (add_interp x (record { name = xs; poly = p })) lines_front)) v) rest
 poly_lift h x xs no_poly w p r e = absurd cc
 poly_lift h x xs (goes fs k) [] p r e = absurd cc
@@ -125,10 +125,10 @@ Other c (b ∷ r) = (b == c) ≡ false
 skip_funs : (h : Past) (funs : List Interp) (w : List ℕ) → Other 102 w → run (stands_yes h (poly_lines (in_funs funs) lines_front)) w ≡ run (stands_yes h (poly_lines (in_marks funs []) lines_front)) w
 skip_funs h funs [] o = absurd o
 skip_funs h funs (b ∷ w) o =
-    ap (λ (s : LinesStep). run (moved_yes h (lines_led s)) w) (cond-false (b == 102) (l.begins (in_funs funs)) (l.mark_step (in_funs funs) b) o)
+    ap (λ (s : LinesStep). run (standing_after_yes h (lines_led s)) w) (cond-false (b == 102) (l.begins (in_funs funs)) (l.mark_step (in_funs funs) b) o)
     ∙ same_marks (b == 109) (b == 114) (b == 112) (b == 100)
   where
-    same_marks : (m u p d : Bool) → run (moved_yes h (lines_led (cond m (l.begins (in_marks funs [])) (cond u (l.begins (in_rules funs [] [])) (cond p (l.begins (in_pairs funs [] [] [])) (cond d (l.drops (in_pairs funs [] [] [])) l.refused)))))) w ≡ run (moved_yes h (lines_led (cond m (l.begins (in_marks funs [])) (cond u (l.begins (in_rules funs [] [])) (cond p (l.begins (in_pairs funs [] [] [])) (cond d (l.drops (in_pairs funs [] [] [])) l.refused)))))) w
+    same_marks : (m u p d : Bool) → run (standing_after_yes h (lines_led (cond m (l.begins (in_marks funs [])) (cond u (l.begins (in_rules funs [] [])) (cond p (l.begins (in_pairs funs [] [] [])) (cond d (l.drops (in_pairs funs [] [] [])) l.refused)))))) w ≡ run (standing_after_yes h (lines_led (cond m (l.begins (in_marks funs [])) (cond u (l.begins (in_rules funs [] [])) (cond p (l.begins (in_pairs funs [] [] [])) (cond d (l.drops (in_pairs funs [] [] [])) l.refused)))))) w
     same_marks true u p d = refl
     same_marks false true p d = refl
     same_marks false false true d = refl
@@ -138,10 +138,10 @@ skip_funs h funs (b ∷ w) o =
 skip_marks : (h : Past) (funs marks : List Interp) (w : List ℕ) → Other 109 w → run (stands_yes h (poly_lines (in_marks funs marks) lines_front)) w ≡ run (stands_yes h (poly_lines (in_rules funs marks []) lines_front)) w
 skip_marks h funs marks [] o = absurd o
 skip_marks h funs marks (b ∷ w) o =
-    ap (λ (s : LinesStep). run (moved_yes h (lines_led s)) w) (cond-false (b == 109) (l.begins (in_marks funs marks)) (l.rule_step (in_marks funs marks) b) o)
+    ap (λ (s : LinesStep). run (standing_after_yes h (lines_led s)) w) (cond-false (b == 109) (l.begins (in_marks funs marks)) (l.rule_step (in_marks funs marks) b) o)
     ∙ same_rules (b == 114) (b == 112) (b == 100)
   where
-    same_rules : (u p d : Bool) → run (moved_yes h (lines_led (cond u (l.begins (in_rules funs marks [])) (cond p (l.begins (in_pairs funs marks [] [])) (cond d (l.drops (in_pairs funs marks [] [])) l.refused))))) w ≡ run (moved_yes h (lines_led (cond u (l.begins (in_rules funs marks [])) (cond p (l.begins (in_pairs funs marks [] [])) (cond d (l.drops (in_pairs funs marks [] [])) l.refused))))) w
+    same_rules : (u p d : Bool) → run (standing_after_yes h (lines_led (cond u (l.begins (in_rules funs marks [])) (cond p (l.begins (in_pairs funs marks [] [])) (cond d (l.drops (in_pairs funs marks [] [])) l.refused))))) w ≡ run (standing_after_yes h (lines_led (cond u (l.begins (in_rules funs marks [])) (cond p (l.begins (in_pairs funs marks [] [])) (cond d (l.drops (in_pairs funs marks [] [])) l.refused))))) w
     same_rules true p d = refl
     same_rules false true d = refl
     same_rules false false true = refl
@@ -150,10 +150,10 @@ skip_marks h funs marks (b ∷ w) o =
 skip_rules : (h : Past) (funs marks : List Interp) (rules : List (List moved.Move)) (w : List ℕ) → Other 114 w → run (stands_yes h (poly_lines (in_rules funs marks rules) lines_front)) w ≡ run (stands_yes h (poly_lines (in_pairs funs marks rules []) lines_front)) w
 skip_rules h funs marks rules [] o = absurd o
 skip_rules h funs marks rules (b ∷ w) o =
-    ap (λ (s : LinesStep). run (moved_yes h (lines_led s)) w) (cond-false (b == 114) (l.begins (in_rules funs marks rules)) (l.pair_step (in_rules funs marks rules) b) o)
+    ap (λ (s : LinesStep). run (standing_after_yes h (lines_led s)) w) (cond-false (b == 114) (l.begins (in_rules funs marks rules)) (l.pair_step (in_rules funs marks rules) b) o)
     ∙ same_pairs (b == 112) (b == 100)
   where
-    same_pairs : (p d : Bool) → run (moved_yes h (lines_led (cond p (l.begins (in_pairs funs marks rules [])) (cond d (l.drops (in_pairs funs marks rules [])) l.refused)))) w ≡ run (moved_yes h (lines_led (cond p (l.begins (in_pairs funs marks rules [])) (cond d (l.drops (in_pairs funs marks rules [])) l.refused)))) w
+    same_pairs : (p d : Bool) → run (standing_after_yes h (lines_led (cond p (l.begins (in_pairs funs marks rules [])) (cond d (l.drops (in_pairs funs marks rules [])) l.refused)))) w ≡ run (standing_after_yes h (lines_led (cond p (l.begins (in_pairs funs marks rules [])) (cond d (l.drops (in_pairs funs marks rules [])) l.refused)))) w
     same_pairs true d = refl
     same_pairs false true = refl
     same_pairs false false = refl

@@ -7,7 +7,7 @@ use Rattle.wh_text.specs.Spelling.{put_term}
 use Rattle.wh_cert.specs.Written.{Put, Cert, yes, no}
 use Rattle.wh_cert.specs.Text.{put_step, put_steps, put_put, put_puts, text}
 use Rattle.wh_cert.specs.Limits.{StepFits, PutFits, PartsFit, PathsWithin, CountsWithin}
-use Rattle.wh_cert.specs.LineMachine.{Item, head_item, step_item, at_item, put_item, end_item, to_term, LinePlace, word, finished, LineStep, on, gives, refused, line_step, Past, nothing, begun, placed, gather, Standing, unread, stands, stands_yes, wrong, moved, moved_yes, first_byte, take_byte, run, start}
+use Rattle.wh_cert.specs.LineMachine.{Item, head_item, step_item, at_item, put_item, end_item, to_term, LinePlace, word, finished, LineStep, on, gives, refused, line_step, Past, nothing, begun, placed, gather, Standing, unread, stands, stands_yes, wrong, standing_after, standing_after_yes, first_byte, take_byte, run, start}
 use Rattle.wh_cert.specs.YesMachine as y
 use Rattle.wh_cert.specs.ReadEnd.{IsEnd}
 use Rattle.wh_cert.proofs.YesReached as yes_past
@@ -128,7 +128,7 @@ StandsGood n (stands h p) f = Good n h p f
 StandsGood n (stands_yes h p) f = yes_past.Good n h p f
 StandsGood n wrong f = Unit {0}
 
-moved_kept : (n : ℕ) (h : Past) (p : LinePlace) (s : LineStep) (b : ℕ) (f : List ℕ → List ℕ) → (g : Good n h p f) → LineNext (suc n) s (stage p) (λ r. g.line (b ∷ r)) → StandsGood (suc n) (moved h s) (λ r. f (b ∷ r))
+moved_kept : (n : ℕ) (h : Past) (p : LinePlace) (s : LineStep) (b : ℕ) (f : List ℕ → List ℕ) → (g : Good n h p f) → LineNext (suc n) s (stage p) (λ r. g.line (b ∷ r)) → StandsGood (suc n) (standing_after h s) (λ r. f (b ∷ r))
 moved_kept n h p (on q) b f g next = record {
   fits = g.fits;
   within = past_wider n h g.within;
@@ -149,7 +149,7 @@ moved_kept n h p (gives i q) b f g next = record {
 }
 moved_kept n h p refused b f g next = tt
 
-moved_yes_kept : (n : ℕ) (h : y.Past) (s : y.LineStep) (f : List ℕ → List ℕ) → StepGood n h s f → StandsGood n (moved_yes h s) f
+moved_yes_kept : (n : ℕ) (h : y.Past) (s : y.LineStep) (f : List ℕ → List ℕ) → StepGood n h s f → StandsGood n (standing_after_yes h s) f
 moved_yes_kept n h (y.on q) f g = g
 moved_yes_kept n h (y.gives i q) f g = g
 moved_yes_kept n h y.refused f g = tt

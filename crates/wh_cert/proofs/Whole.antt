@@ -12,7 +12,7 @@ use Rattle.wh_cert.specs.LineMachine.{finished, placed, Standing, unread, stands
 use Rattle.wh_cert.specs.ReadEnd.{IsEnd}
 use Rattle.wh_cert.proofs.YesReached.{nodes_wider}
 use Rattle.wh_cert.proofs.YesEnds.{yes_ends}
-use Rattle.wh_cert.proofs.Ended.{run_wrong, run_append, one_end, Ends}
+use Rattle.wh_cert.proofs.Ended.{run_wrong, run_append, one_end, ReachesEnd}
 use Rattle.wh_cert.proofs.Reached.{reached_at, reached_yes, found, counts_wider}
 use Rattle.wh_cert.proofs.LineComplete.{cert_run}
 use Rattle.wh_cert.proofs.LineEnds.{line_place_ends}
@@ -54,13 +54,13 @@ text_found p c short e =
 pub text_run : (p : List ℕ) (c : Cert) → CertText p c → IsEnd (run start p) c
 text_run p c t = subst (λ (q : List ℕ). IsEnd (run start q) c) (sym t.spelled) (cert_run c t.fits.parts)
 
-pub ends_begins : (p : List ℕ) → Ends (2 ^ 32) (run start p) → Begins p
+pub ends_begins : (p : List ℕ) → ReachesEnd (2 ^ 32) (run start p) → Begins p
 ends_begins p w =
     let f = found (p ++ w.tail) w.c (subst (λ (s : Standing). IsEnd s w.c) (sym (run_append start p w.tail)) w.ends) in
     (w.c, w.tail, record { fits = record { parts = f.0; counts = w.within }; spelled = f.1 })
 
 -- every certificate is before us
-unread_ends : Ends (2 ^ 32) unread
+unread_ends : ReachesEnd (2 ^ 32) unread
 unread_ends = record {
   tail = codes "YES 1" ++ (10 ∷ (codes "ranks" ++ (10 ∷ (codes "pairs 0" ++ (10 ∷ (codes "done" ++ (10 ∷ (codes "end" ++ (10 ∷ [])))))))));
   c = yes 1 [] 0 (done ∷ []);
@@ -68,7 +68,7 @@ unread_ends = record {
   within = (omega arith, omega arith, All-push (NodeWithin (2 ^ 32)) [] done (All-nil (NodeWithin (2 ^ 32))) tt);
 }
 
-place_ends : (p : List ℕ) (s : Standing) → length p < 2 ^ 32 → run start p ≡ s → (Stops s → ⊥) → Ends (2 ^ 32) s
+place_ends : (p : List ℕ) (s : Standing) → length p < 2 ^ 32 → run start p ≡ s → (Stops s → ⊥) → ReachesEnd (2 ^ 32) s
 place_ends p unread short e h = unread_ends
 place_ends p (stands k q) short e h =
     let g = reached_at p k q e in

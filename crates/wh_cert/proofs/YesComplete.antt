@@ -12,15 +12,15 @@ use Rattle.wh_cert.specs.Written.{Arg, Node, done, alone, blocks, subterm, inter
 use Rattle.wh_cert.specs.Text.{put_numbers, put_blocks, put_arg, put_args, put_node, put_nodes, put_interps, put_covers}
 use Rattle.wh_cert.specs.Limits.{ArgFits, NodeFits}
 use Rattle.wh_cert.specs.YesMachine.{Listed, of_ranks, of_block, of_drop, of_poly, Counted, of_pairs, of_blocks, of_place, of_list, to_list, node_item, word, listed, number_wanted, number, front, arg_front, name_wanted, letters, LineStep, on, refused, list_ended, number_ended, front_step, Past, so_far, nothing, gather, wants}
-use Rattle.wh_cert.specs.LineMachine.{stands_yes, moved_yes, run, start}
+use Rattle.wh_cert.specs.LineMachine.{stands_yes, standing_after_yes, run, start}
 use Rattle.wh_cert.proofs.LinesComplete.{lines_run}
 
 -- names and numbers
 
 reads_numbers : (h : Past) (of : Counted) → ReadsNumbers (λ (r : List ℕ). run (stands_yes h (number_wanted of)) r) (λ (n : ℕ) (r : List ℕ). run (stands_yes h (number of n)) r)
 reads_numbers h of = record {
-  starts = λ d r low. ap (λ (s : LineStep). run (moved_yes h s) r) (cond-true (is_digit (48 + d)) (on (number of (48 + d - 48))) refused (is_digit_48 d low)) ∙ ap (λ (n : ℕ). run (stands_yes h (number of n)) r) (omega arith);
-  goes = λ n d r some below fits. ap (λ (s : LineStep). run (moved_yes h s) r) (cond-true (goes_on n (48 + d)) (on (number of (10 * n + (48 + d - 48)))) (number_ended of n (48 + d)) (goes_on_48 n d some below fits)) ∙ ap (λ (i : ℕ). run (stands_yes h (number of i)) r) (omega arith);
+  starts = λ d r low. ap (λ (s : LineStep). run (standing_after_yes h s) r) (cond-true (is_digit (48 + d)) (on (number of (48 + d - 48))) refused (is_digit_48 d low)) ∙ ap (λ (n : ℕ). run (stands_yes h (number of n)) r) (omega arith);
+  goes = λ n d r some below fits. ap (λ (s : LineStep). run (standing_after_yes h s) r) (cond-true (goes_on n (48 + d)) (on (number of (10 * n + (48 + d - 48)))) (number_ended of n (48 + d)) (goes_on_48 n d some below fits)) ∙ ap (λ (i : ℕ). run (stands_yes h (number of i)) r) (omega arith);
 }
 
 pub counted_run : (h : Past) (of : Counted) (n : ℕ) (r : List ℕ) → IsSmall n → run (stands_yes h (number_wanted of)) (decimal n ++ r) ≡ run (stands_yes h (number of n)) r
@@ -28,8 +28,8 @@ counted_run h of n r small = number_run _ _ (reads_numbers h of) n r small
 
 reads_names : (h : Past) (args : List Arg) → ReadsNames (λ (r : List ℕ). run (stands_yes h (name_wanted args)) r) (λ (xs r : List ℕ). run (stands_yes h (letters args xs)) r)
 reads_names h args = record {
-  starts = λ b r is. ap (λ (s : LineStep). run (moved_yes h s) r) (cond-true (is_start b) (on (letters args (b ∷ []))) refused is);
-  goes = λ xs b r is short. ap (λ (s : LineStep). run (moved_yes h s) r) (cond-true (is_part b && nat_lt (length xs) 64) (on (letters args (xs ++ b ∷ []))) (cond (b == 32) (on (number_wanted (of_place args xs))) refused) (and_from (is_part b) (nat_lt (length xs) 64) is (lt-ltb (length xs) 64 short)));
+  starts = λ b r is. ap (λ (s : LineStep). run (standing_after_yes h s) r) (cond-true (is_start b) (on (letters args (b ∷ []))) refused is);
+  goes = λ xs b r is short. ap (λ (s : LineStep). run (standing_after_yes h s) r) (cond-true (is_part b && nat_lt (length xs) 64) (on (letters args (xs ++ b ∷ []))) (cond (b == 32) (on (number_wanted (of_place args xs))) refused) (and_from (is_part b) (nat_lt (length xs) 64) is (lt-ltb (length xs) 64 short)));
 }
 
 -- lists of numbers
@@ -39,13 +39,13 @@ next_number : (h : Past) (of : Listed) (xs : List ℕ) (n : ℕ) (ys r : List �
 next_number h of xs n [] r = refl
 next_number h of xs n (m ∷ ys) r = refl
 
-pub numbers_run : (h : Past) (of : Listed) (xs ys r : List ℕ) → All IsSmall ys → run (stands_yes h (listed of xs)) (put_numbers ys (10 ∷ r)) ≡ run (moved_yes h (list_ended of (xs ++ ys))) r
-numbers_run h of xs [] r small = ap (λ (zs : List ℕ). run (moved_yes h (list_ended of zs)) r) (sym (append-nil xs))
+pub numbers_run : (h : Past) (of : Listed) (xs ys r : List ℕ) → All IsSmall ys → run (stands_yes h (listed of xs)) (put_numbers ys (10 ∷ r)) ≡ run (standing_after_yes h (list_ended of (xs ++ ys))) r
+numbers_run h of xs [] r small = ap (λ (zs : List ℕ). run (standing_after_yes h (list_ended of zs)) r) (sym (append-nil xs))
 numbers_run h of xs (n ∷ ys) r small =
     counted_run h (of_list of xs) n (put_numbers ys (10 ∷ r)) (All-head IsSmall n ys small)
     ∙ next_number h of xs n ys r
     ∙ numbers_run h of (xs ++ n ∷ []) ys r (All-tail IsSmall n ys small)
-    ∙ ap (λ (zs : List ℕ). run (moved_yes h (list_ended of zs)) r) (append_assoc xs (n ∷ []) ys)
+    ∙ ap (λ (zs : List ℕ). run (standing_after_yes h (list_ended of zs)) r) (append_assoc xs (n ∷ []) ys)
 
 pub blocks_run : (h : Past) (parts : List (List ℕ)) (b : List ℕ) (bs : List (List ℕ)) (r : List ℕ) → All (All IsSmall) (b ∷ bs) → run (stands_yes h (word (codes "block") (to_list (of_block (length bs) parts)))) (put_blocks (b ∷ bs) r) ≡ run (stands_yes (gather h (node_item (blocks (parts ++ b ∷ bs)))) front) r
 blocks_run h parts b [] r small = numbers_run h (of_block 0 parts) [] b r (All-head (All IsSmall) b [] small)
@@ -68,8 +68,8 @@ args_run h read (a ∷ args) r fits =
 
 -- nodes
 
-front_run : (h : Past) (b : ℕ) (r : List ℕ) → wants h ≡ true → run (stands_yes h front) (b ∷ r) ≡ run (moved_yes h (front_step true b)) r
-front_run h b r e = ap (λ (w : Bool). run (moved_yes h (front_step w b)) r) e
+front_run : (h : Past) (b : ℕ) (r : List ℕ) → wants h ≡ true → run (stands_yes h front) (b ∷ r) ≡ run (standing_after_yes h (front_step true b)) r
+front_run h b r e = ap (λ (w : Bool). run (standing_after_yes h (front_step w b)) r) e
 
 pub node_run : (h : Past) (x : Node) (r : List ℕ) → NodeFits x → wants h ≡ true → run (stands_yes h front) (put_node x r) ≡ run (stands_yes (gather h (node_item x)) front) r
 node_run h done r fits e = front_run h 100 (codes "one" ++ (10 ∷ r)) e

@@ -138,15 +138,15 @@ pub data Standing : Type 0 where
   stands_yes : (h : y.Past) (p : y.Place) → Standing
   wrong : Standing
 
-abbrev pub moved : Past → LineStep → Standing
-moved h (on p) = stands h p
-moved h (gives i p) = stands (gather h i) p
-moved h refused = wrong
+abbrev pub standing_after : Past → LineStep → Standing
+standing_after h (on p) = stands h p
+standing_after h (gives i p) = stands (gather h i) p
+standing_after h refused = wrong
 
-abbrev pub moved_yes : y.Past → y.LineStep → Standing
-moved_yes h (y.on p) = stands_yes h p
-moved_yes h (y.gives i p) = stands_yes (y.gather h i) p
-moved_yes h y.refused = wrong
+abbrev pub standing_after_yes : y.Past → y.LineStep → Standing
+standing_after_yes h (y.on p) = stands_yes h p
+standing_after_yes h (y.gives i p) = stands_yes (y.gather h i) p
+standing_after_yes h y.refused = wrong
 
 -- the first byte tells YES from NO
 abbrev pub first_byte : ℕ → Standing
@@ -156,8 +156,8 @@ first_byte b =
 
 abbrev pub take_byte : Standing → ℕ → Standing
 take_byte unread b = first_byte b
-take_byte (stands h p) b = moved h (line_step p b)
-take_byte (stands_yes h p) b = moved_yes h (y.step (y.wants h) p b)
+take_byte (stands h p) b = standing_after h (line_step p b)
+take_byte (stands_yes h p) b = standing_after_yes h (y.step (y.wants h) p b)
 take_byte wrong b = wrong
 
 -- where the bytes lead

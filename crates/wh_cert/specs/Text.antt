@@ -20,7 +20,7 @@ put_rule None r = codes "beta" ++ r
 
 -- the line of a step
 abbrev pub put_step : taken.Step → List ℕ → List ℕ
-put_step s r = codes "step " ++ put_rule s.rule (32 ∷ 47 ∷ put_path s.path (10 ∷ r))
+put_step s r = codes "step " ++ put_rule s.rule (codes " /" ++ put_path s.path (10 ∷ r))
 
 abbrev pub put_steps : List taken.Step → List ℕ → List ℕ
 put_steps [] r = r
@@ -28,7 +28,7 @@ put_steps (s ∷ ss) r = put_step s (put_steps ss r)
 
 -- the line of what is put for a variable
 abbrev pub put_put : Put → List ℕ → List ℕ
-put_put p r = codes "put %" ++ (decimal p.number ++ (58 ∷ put_part p.kind (32 ∷ put_term p.term (10 ∷ r))))
+put_put p r = codes "put %" ++ (decimal p.number ++ (codes ":" ++ put_part p.kind (codes " " ++ put_term p.term (10 ∷ r))))
 
 abbrev pub put_puts : List Put → List ℕ → List ℕ
 put_puts [] r = r
@@ -36,7 +36,7 @@ put_puts (p ∷ ps) r = put_put p (put_puts ps r)
 
 -- numbers, a space before each
 abbrev pub put_entry : ℕ → List ℕ → List ℕ
-put_entry n r = 32 ∷ (decimal n ++ r)
+put_entry n r = codes " " ++ (decimal n ++ r)
 
 abbrev pub put_numbers : List ℕ → List ℕ → List ℕ
 put_numbers [] r = r
@@ -56,7 +56,7 @@ put_blocks (b ∷ bs) r = put_block b (put_blocks bs r)
 
 -- the line of an argument that is looked at
 abbrev pub put_arg : Arg → List ℕ → List ℕ
-put_arg a r = codes "arg " ++ (a.name ++ (32 ∷ (decimal a.place ++ (10 ∷ r))))
+put_arg a r = codes "arg " ++ (a.name ++ (codes " " ++ (decimal a.place ++ (10 ∷ r))))
 
 abbrev pub put_args : List Arg → List ℕ → List ℕ
 put_args [] r = r
@@ -64,7 +64,7 @@ put_args (a ∷ rest) r = put_arg a (put_args rest r)
 
 -- the line of an interpretation, behind its word
 abbrev pub put_interp : List ℕ → Interp → List ℕ → List ℕ
-put_interp word i r = word ++ (i.name ++ (32 ∷ put_poly i.poly (10 ∷ r)))
+put_interp word i r = word ++ (i.name ++ (codes " " ++ put_poly i.poly (10 ∷ r)))
 
 abbrev pub put_interps : List ℕ → List Interp → List ℕ → List ℕ
 put_interps word [] r = r
@@ -72,7 +72,7 @@ put_interps word (i ∷ is) r = put_interp word i (put_interps word is r)
 
 -- a move: the monomial that gives, the one that gets, and the amount
 abbrev pub put_move : moved.Move → List ℕ → List ℕ
-put_move m r = 32 ∷ (decimal m.from ++ (62 ∷ (decimal m.to ++ (58 ∷ (decimal m.amount ++ r)))))
+put_move m r = codes " " ++ (decimal m.from ++ (codes ">" ++ (decimal m.to ++ (codes ":" ++ (decimal m.amount ++ r)))))
 
 abbrev pub put_moves : List moved.Move → List ℕ → List ℕ
 put_moves [] r = r

@@ -40,3 +40,11 @@ abbrev pub poly_went : PolyText → ℕ → PolyStep → m.PolyStep
 poly_went t b On = m.goes (poly_stack t.stack.items) (poly_place t)
 poly_went t b (Ended p) = m.poly_ended (poly p) b
 poly_went t b Wrong = m.no_poly
+
+-- where the byte leads behind a coefficient or a factor of the text, which it ends
+abbrev pub behind_part_of : PolyText → ℕ → m.PolyStep
+behind_part_of t b = m.behind_part (poly_stack t.stack.items) (poly t.part.sum) t.part.coefficient (atoms t.part.atoms) b
+
+-- where the byte leads behind the number of a variable of the text, which it ends
+abbrev pub behind_head_of : PolyText → ℕ → ℕ → m.PolyStep
+behind_head_of t x b = m.head_ended (poly_stack t.stack.items) (poly t.part.sum) t.part.coefficient (atoms t.part.atoms) x b

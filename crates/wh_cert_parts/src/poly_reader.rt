@@ -3,8 +3,9 @@
 ghost use Rattle.std.specs.Prelude.{◌≡◌, ◌==◌, ◌&&◌, ℕ, nat_lt, IfOk, OnOk, MatchOption};
 ghost use Rattle.wh_hopoly.specs.Erase.{poly, atoms, polys};
 ghost use Rattle.wh_hopoly.specs.Polynomials.{zero_poly, no_factors, no_arguments};
-ghost use Rattle.wh_cert_parts.specs.PolyMachine.{outside, poly_wanted, coefficient, factor_wanted, head_wanted, head, closed_poly, goes, poly_level, add_monomial, add_factor, add_argument, behind_poly, behind_part, first_coefficient, head_ended, poly_step};
-ghost use Rattle.wh_cert_parts.specs.PolyViews.{opened, poly_stack, poly_place, poly_went};
+ghost use Rattle.wh_cert_parts.specs.PolyMachine.{outside, poly_wanted, coefficient, closed_poly, goes, poly_level, add_monomial, add_factor, add_argument, behind_poly, first_coefficient, poly_step};
+ghost use Rattle.wh_cert_parts.specs.PolyViews.{behind_head_of, behind_part_of, opened, place_of, poly_stack, poly_place, poly_went};
+ghost use Rattle.wh_cert_parts.specs.declared.poly_reader.PolyPlace.TheVariants.{Factor, Head, Variable};
 
 use crate::letters::{first_big, first_number, next_big, next_number};
 use std::alloc::{AllocError, Global};
@@ -260,8 +261,7 @@ impl PolyText {
 
     /// The `y` of a factor.
     fn begin_factor(&mut self, byte: u8) -> PolyStep
-        ensures { poly_went self.new byte result
-            ≡ poly_step (poly_stack self.old.stack.items) (factor_wanted (poly self.old.part.sum) self.old.part.coefficient (atoms self.old.part.atoms)) byte }
+        ensures { poly_went self.new byte result ≡ poly_step (poly_stack self.old.stack.items) (place_of Factor self.old.part) byte }
     {
         if byte != b'y' {
             return PolyStep::Wrong;
@@ -272,8 +272,7 @@ impl PolyText {
 
     /// The first digit of a variable's number.
     fn begin_head(&mut self, byte: u8) -> PolyStep
-        ensures { poly_went self.new byte result
-            ≡ poly_step (poly_stack self.old.stack.items) (head_wanted (poly self.old.part.sum) self.old.part.coefficient (atoms self.old.part.atoms)) byte }
+        ensures { poly_went self.new byte result ≡ poly_step (poly_stack self.old.stack.items) (place_of Variable self.old.part) byte }
     {
         match first_number(byte) {
             Some(number) => {
@@ -287,7 +286,7 @@ impl PolyText {
     /// A variable's number goes on with the byte, or has ended before it.
     fn step_head(&mut self, alloc: Global, number: u32, byte: u8) -> Result<PolyStep, AllocError>
         ensures { IfOk result (λ went. poly_went self.new byte went
-            ≡ poly_step (poly_stack self.old.stack.items) (head (poly self.old.part.sum) self.old.part.coefficient (atoms self.old.part.atoms) number) byte) }
+            ≡ poly_step (poly_stack self.old.stack.items) (place_of (Head number) self.old.part) byte) }
     {
         match next_number(number, byte) {
             Some(next) => {
@@ -300,8 +299,7 @@ impl PolyText {
 
     /// A variable's number has ended before the byte.
     fn end_head(&mut self, alloc: Global, number: u32, byte: u8) -> Result<PolyStep, AllocError>
-        ensures { IfOk result (λ went. poly_went self.new byte went
-            ≡ head_ended (poly_stack self.old.stack.items) (poly self.old.part.sum) self.old.part.coefficient (atoms self.old.part.atoms) number byte) }
+        ensures { IfOk result (λ went. poly_went self.new byte went ≡ behind_head_of self.old number byte) }
     {
         let args = no_polys(alloc)?;
         if opens(&self.stack, byte) {
@@ -321,8 +319,7 @@ impl PolyText {
 
     /// A coefficient or a factor has ended before the byte.
     fn end_part(&mut self, alloc: Global, byte: u8) -> Result<PolyStep, AllocError>
-        ensures { IfOk result (λ went. poly_went self.new byte went
-            ≡ behind_part (poly_stack self.old.stack.items) (poly self.old.part.sum) self.old.part.coefficient (atoms self.old.part.atoms) byte) }
+        ensures { IfOk result (λ went. poly_went self.new byte went ≡ behind_part_of self.old byte) }
     {
         if byte == b'*' {
             self.place = PolyPlace::Factor;

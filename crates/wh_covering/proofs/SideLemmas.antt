@@ -8,7 +8,7 @@ use Rattle.wh_pairs.specs.PairData.{PairData}
 use Rattle.wh_system.specs.CanonicalView.{side_of}
 use Rattle.wh_hopoly.specs.Polynomials.{Polynomial, zero_poly, plus, Arguments}
 use Rattle.wh_hopoly.specs.Arithmetic.{sum_poly, constant}
-use Rattle.wh_hopoly.specs.Evaluation.{Run, one, next, replace, replace_factors, moved, applied, Expression, var, symbol, lambda, apply, Interpretation, type_of, codomain, apply_one, evaluate, NormalInterpretations, Norm, Values}
+use Rattle.wh_hopoly.specs.Evaluation.{Run, one, next, replace, replace_factors, widened, applied, Expression, var, symbol, lambda, apply, Interpretation, type_of, codomain, apply_one, evaluate, NormalInterpretations, Norm, Values}
 use Rattle.wh_hopoly.specs.Limits.{Exceeds, weight}
 use Rattle.wh_hopoly.specs.Erase.{poly, monomials, sum_of}
 use Rattle.wh_hopoly.specs.declared.polynomial.Poly.{Poly}
@@ -51,7 +51,7 @@ evaluation_ends symbols Γ (lambda A e) = evaluation_ends symbols (Γ ++ A ∷ [
 evaluation_ends symbols Γ (apply e d) =
     next_ends (evaluate symbols Γ e) (λ g. next (evaluate symbols Γ d) (λ p. apply_one (type_of symbols Γ d) (codomain (type_of symbols Γ e)) Γ g p))
     (next_ends (evaluate symbols Γ d) (λ p. apply_one (type_of symbols Γ d) (codomain (type_of symbols Γ e)) Γ (evaluate symbols Γ e).result p)
-    (replace_ends (λ Δ qs. applied (type_of symbols Γ d) Δ (moved (length Γ) Δ (evaluate symbols Γ d).result) qs) (length Γ)
+    (replace_ends (λ Δ qs. applied (type_of symbols Γ d) Δ (widened (length Γ) Δ (evaluate symbols Γ d).result) qs) (length Γ)
     (Γ ++ type_of symbols Γ d ∷ arguments (codomain (type_of symbols Γ e))) zero_poly (evaluate symbols Γ e).result))
 
 -- a polynomial has no more monomials than its weight

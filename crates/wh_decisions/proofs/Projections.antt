@@ -10,7 +10,7 @@ use Rattle.wh_system.proofs.TypedDecided.{Decided, below_decided, decided_by, bo
 use Rattle.wh_pairs.proofs.ByPlace.{some_one, contains_at}
 use Rattle.wh_graph.proofs.TimesLemmas.{contains_or_not}
 use Rattle.wh_subterm.specs.Marked.{HeadsASide, Heads, IsMarked, AreMarked}
-use Rattle.wh_subterm.specs.Parts.{Part}
+use Rattle.wh_subterm.specs.ProperParts.{Part}
 use Rattle.wh_subterm.specs.Projections.{Chosen, IsProjected, Equal, Below, Decreasing}
 use Rattle.wh_subterm.specs.SubtermRows.{chosen_symbols, AreForMarked, HasNone, IsPlace, StandsTwice, HasStray, IsBadDrop, IsNotDecreasing, NoneIs, IsProjection, IsFirstSubtermFault}
 use Rattle.wh_subterm.specs.declared.projection.SubtermFault.{SubtermFault}

@@ -21,7 +21,7 @@ use Rattle.wh_step.proofs.RedexLemmas.{rules_counted}
 use Rattle.wh_step.proofs.RootLaws.{rule_made, same_rule, StepsDown, down_root, down_function, down_argument, down_body, down_of_at, at_of_down}
 use Rattle.wh_step.proofs.EnumerationLaws.{IsLeaf as IsLeafTerm}
 use Rattle.wh_find_loop.specs.Tables.{HasNumber, KeepsNumbers}
-use Rattle.wh_find_loop.specs.Candidates.{IsRuleTable, Lists, KeepsSteps, ListsRuleStep, ListsRuleSteps, ListsRootSteps, ListsStepsBelow}
+use Rattle.wh_find_loop.specs.StepLists.{IsRuleTable, Lists, KeepsSteps, ListsRuleStep, ListsRuleSteps, ListsRootSteps, ListsStepsBelow}
 
 -- one rule more
 

@@ -18,7 +18,7 @@ use Rattle.wh_loops.specs.Starts.{IsStart}
 use Rattle.wh_loops.specs.Space.{InSpace, Path, at_start, further, HasNoLoop}
 use Rattle.wh_loops.specs.Found.{IsLoopCertificate}
 use Rattle.wh_find_loop.specs.Answers.{arrival, IsReached, ReachesFewer, AreVisited, HoldsNoInstance}
-use Rattle.wh_find_loop.specs.Candidates.{ListsAllSteps}
+use Rattle.wh_find_loop.specs.StepLists.{ListsAllSteps}
 use Rattle.wh_find_loop.specs.Listing.{tree, arrival_of, arrivals, IsEntry, IsListed, IsListing, IsTried, IsDone, AreDone, AreBelow, Extends, TriesOn, GoesOn, IsComplete, GoesThrough, HasNoInstance, IsLinked, AreStarts, Takes, TakesStart}
 use Rattle.wh_find_loop.specs.declared.answer.Visit.{Visit}
 use Rattle.wh_find_loop.specs.declared.listing.Entry.{Entry}

@@ -1,6 +1,6 @@
 pub mod Answers
 pub mod Tables
 pub mod Marks
-pub mod Candidates
+pub mod StepLists
 pub mod Reducts
 pub mod Listing

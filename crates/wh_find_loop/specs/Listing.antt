@@ -20,7 +20,7 @@ use Rattle.wh_loops.specs.Found.{IsInstanceIn, IsLoopCertificate}
 use Rattle.wh_find_loop.specs.Answers.{Arrival, arrival, HoldsNoInstance}
 use Rattle.wh_find_loop.specs.Tables.{HasNumber}
 use Rattle.wh_find_loop.specs.Marks.{key_of}
-use Rattle.wh_find_loop.specs.Candidates.{IsRuleTable}
+use Rattle.wh_find_loop.specs.StepLists.{IsRuleTable}
 use Rattle.wh_find_loop.specs.declared.listing.Entry.{Entry}
 use Rattle.wh_find_loop.specs.declared.listing.Origin.{Origin}
 use Rattle.wh_find_loop.specs.declared.listing.Listing.{Listing}

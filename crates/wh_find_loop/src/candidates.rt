@@ -11,7 +11,7 @@ ghost use Rattle.wh_terms.specs.Rules.{IsWellMade, AreWellMade};
 ghost use Rattle.wh_step.specs.Roots.{BetaStep, RuleStep};
 ghost use Rattle.wh_step.specs.Contracta.{IsPlain};
 ghost use Rattle.wh_find_loop.specs.Tables.{HasNumber};
-ghost use Rattle.wh_find_loop.specs.Candidates.{IsRuleTable, KeepsSteps, Lists, ListsAllSteps, ListsRootSteps, ListsRuleStep, ListsRuleSteps, ListsStepsBelow};
+ghost use Rattle.wh_find_loop.specs.StepLists.{IsRuleTable, KeepsSteps, Lists, ListsAllSteps, ListsRootSteps, ListsRuleStep, ListsRuleSteps, ListsStepsBelow};
 
 use crate::table::Table;
 use std::alloc::{AllocError, Global};

@@ -6,7 +6,7 @@ ghost use Rattle.wh_terms.specs.Typing.{Symbols};
 ghost use Rattle.wh_terms.specs.Erase.{tm, rewrite_rule, rewrite_rules};
 ghost use Rattle.wh_terms.specs.Rules.{IsWellMade, AreWellMade};
 ghost use Rattle.wh_find_loop.specs.Tables.{HasNumber, KeepsNumbers};
-ghost use Rattle.wh_find_loop.specs.Candidates.{IsRuleTable};
+ghost use Rattle.wh_find_loop.specs.StepLists.{IsRuleTable};
 
 use crate::candidates::head_symbol;
 use crate::table::Table;

@@ -57,7 +57,8 @@ pub record AreKeptBut (lessened : ℕ → Type 0) (old new : List Transfer) : Ty
   pub to : (e : ℕ) → e < length old → (move_at new e).to ≡ (move_at old e).to
   pub amount : (e : ℕ) → e < length old → (lessened e → ⊥) → (move_at old e).amount ≤ (move_at new e).amount
 
--- so many units have gone from one monomial to the other, and the flow is still one between any two sides where the one can give to the other (ours)
+-- so many units have gone from one monomial to the other, and the flow is still one between any two sides where the one can
+-- give to the other (ours)
 pub record HasGiven (old : Flow) (giver taker amount : ℕ) (new : Flow) : Type 0 where
   pub free : new.free.items ≡ slice_set old.free.items giver (slice_index old.free.items giver - amount)
   pub want : new.want.items ≡ slice_set old.want.items taker (slice_index old.want.items taker - amount)
@@ -73,7 +74,8 @@ pub record HasTakenBack (old : Flow) (place amount : ℕ) (new : Flow) : Type 0 
   pub kept : AreKeptBut (λ e. e ≡ place) (transfers old.moves.items) (transfers new.moves.items)
   pub flow : (left right : List Monomial) → IsFlow left right old → IsFlow left right new
 
--- units of a move come from another giver instead: what is wanted is as before, and the first giver has something free if both had something (ours)
+-- units of a move come from another giver instead: what is wanted is as before, and the first giver has something free
+-- if both had something (ours)
 pub record IsRerouted (old : Flow) (place giver first : ℕ) (new : Flow) : Type 0 where
   pub first_is : first ≡ (move_at (transfers old.moves.items) place).from
   pub free_long : length new.free.items ≡ length old.free.items

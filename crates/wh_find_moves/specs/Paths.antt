@@ -105,7 +105,8 @@ pub record HasStepped (old new : Search) : Type 0 where
   pub long : length old.steps.items ≤ length new.steps.items
   pub kept : (p : ℕ) → p < length old.steps.items → target new.steps.items p ≡ target old.steps.items p
 
--- the search has got to the right monomial of the move at a place, by that move, if its left one is marked and the search was not there (ours)
+-- the search has got to the right monomial of the move at a place, by that move, if its left one is marked and the search was
+-- not there (ours)
 pub record ReachesBy (through : ℕ) (m : Transfer) (old new : Search) : Type 0 where
   pub givers : new.givers.items ≡ old.givers.items
   pub done : IsSome (mark old.givers.items m.from) → IsReached new.reached.items m.to

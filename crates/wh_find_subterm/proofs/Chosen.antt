@@ -4,7 +4,7 @@ use Rattle.std.proofs.lemmas.Option.{slice_get-get_or, get_or_from_slice_get}
 use Rattle.wh_terms.specs.Tree.{Tm, app}
 use Rattle.wh_pairs.specs.PairData.{PairData, IsIncreasing}
 use Rattle.wh_pairs.proofs.ByPlace.{some_one}
-use Rattle.wh_subterm.specs.Parts.{Argument, Part, last, front, argument, deeper}
+use Rattle.wh_subterm.specs.ProperParts.{Argument, Part, last, front, argument, deeper}
 use Rattle.wh_subterm.specs.Projections.{Below, Chosen, Equal}
 use Rattle.wh_subterm.specs.Relations.{BelowAt, EqualAt}
 use Rattle.wh_subterm.specs.SubtermRows.{chosen_symbols}

@@ -12,9 +12,9 @@ ghost use Rattle.wh_polycheck.specs.Marks.{marked_types};
 ghost use Rattle.wh_polycheck.specs.SideResults.{marks_of};
 ghost use Rattle.wh_guesses.specs.Coefficients.{HaveCoefficients, scopes_of};
 ghost use Rattle.wh_guesses.specs.Guesses.{IsReadMark, IsReadSymbol};
-ghost use Rattle.wh_guesses.specs.Reads.{AreMarksBy, AreReadBy, IsChanged, IsMarkBy, IsReadBy, list_of};
+ghost use Rattle.wh_guesses.specs.Reads.{AreMarksBy, AreReadBy, IsMarkBy, IsReadBy, list_of};
 ghost use Rattle.wh_guesses.specs.Space.{space_of};
-ghost use Rattle.wh_guesses.specs.Tasks.{IsGuessOf};
+ghost use Rattle.wh_guesses.specs.Tasks.{IsChangedGuess, IsGuessOf};
 ghost use Rattle.wh_hopoly.specs.declared.expression.Symbol.{Symbol};
 ghost use Rattle.wh_polycheck.specs.declared.marks.MarkedSymbol.{MarkedSymbol};
 
@@ -167,8 +167,7 @@ pub fn change_at<'a>(
     requires { IsGuessOf task.now guess.old }
     ensures guess { IsGuessOf task.now guess.new }
     ensures marks { map (λ m. m.symbol) guess.new.marks.items ≡ map (λ m. m.symbol) guess.old.marks.items }
-    ensures lists { OnOk result (IsChanged (system_data task.now.system.now).symbols (system_data task.now.system.now).rules number coefficients.now
-        guess.old.symbols.items guess.old.marks.items guess.new.symbols.items guess.new.marks.items) }
+    ensures lists { OnOk result (IsChangedGuess task.now number coefficients.now guess.old guess.new) }
 {
     let count = guess.symbols.len();
     if number < count {

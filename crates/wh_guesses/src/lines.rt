@@ -1,6 +1,6 @@
 //! Moves for the rules, and for the pairs of a set.
 
-ghost use Rattle.std.specs.Prelude.{◌≡◌, ◌↔◌, ◌<◌, ◌≤◌, ◌^◌, IfOk, IsTrue, MatchOption, Some, false, true, length, map, slice_get};
+ghost use Rattle.std.specs.Prelude.{◌≡◌, ◌↔◌, ◌<◌, ◌≤◌, ◌^◌, IfOk, IsTrue, MatchOption, Some, length, map, slice_get};
 ghost use Rattle.wh_terms.specs.Rules.{RewriteRule};
 ghost use Rattle.wh_pairs.specs.PairData.{pair_data};
 ghost use Rattle.wh_system.specs.SystemView.{system_data};
@@ -11,11 +11,10 @@ ghost use Rattle.wh_hopoly.specs.Evaluation.{NormalInterpretations, Run};
 ghost use Rattle.wh_polycheck.specs.Marks.{AreNormalMarks, HasMarkedSides};
 ghost use Rattle.wh_polycheck.specs.SideResults.{marks_of};
 ghost use Rattle.wh_polycheck.specs.Sides.{Interprets};
-ghost use Rattle.wh_meaning.specs.Covering.{pair_run, rule_run};
 ghost use Rattle.wh_covering.specs.Lines.{IsSide, IsSomeSide};
 ghost use Rattle.wh_guesses.specs.Guesses.{IsGuess, IsTask};
 ghost use Rattle.wh_types.specs.Outcome.{MatchOr};
-ghost use Rattle.wh_guesses.specs.Lines.{ArePairLines, AreRuleLines, IsFailingPair, IsFailingRule, IsLine, IsNotMet, IsPairLine};
+ghost use Rattle.wh_guesses.specs.Lines.{AreLinesOfPairs, AreRuleLines, IsFailingRule, IsLine, IsLineOfPair, IsLineOfRule, IsNotMet, IsPairLine, IsUncoveredPair, IsUncoveredPlace, IsUncoveredRule};
 
 use crate::sides::{pair_side, rule_side};
 use std::alloc::{AllocError, Global};
@@ -68,8 +67,8 @@ pub fn rule_line(
     requires interpreted { Interprets (system_data system.now).symbols (interpretations symbols.now) }
     requires normal { NormalInterpretations (interpretations symbols.now) }
     requires rule { rule < length (system_data system.now).rules }
-    ensures { (r : RewriteRule) → slice_get (system_data system.now).rules rule ≡ Some r → IfOk result (λ found. MatchOption found (IsNotMet (rule_run (interpretations symbols.now) r false) (rule_run (interpretations symbols.now) r true))
-        (λ ms. IsLine (rule_run (interpretations symbols.now) r false) (rule_run (interpretations symbols.now) r true) (transfers ms))) }
+    ensures { (r : RewriteRule) → slice_get (system_data system.now).rules rule ≡ Some r
+        → IfOk result (λ found. MatchOption found (IsUncoveredRule symbols.now r) (IsLineOfRule symbols.now r)) }
 {
     let Some(left) = rule_side(alloc, system, symbols, rule, false)? else {
         return Ok(None);
@@ -102,8 +101,8 @@ pub fn pair_lines(
     requires task { IsTask (system_data system.now).symbols (system_data system.now).rules (map pair_data pairs.now) set.now }
     requires guess { IsGuess (system_data system.now).symbols (system_data system.now).rules (map pair_data pairs.now)
         set.now symbols.now marks.now }
-    ensures { MatchOr result (λ made. ArePairLines (system_data system.now).symbols (system_data system.now).rules (map pair_data pairs.now) (interpretations symbols.now) (marks_of marks.now) set.now (map transfers made.lines) made.drop)
-        (IsFailingPair (system_data system.now).symbols (system_data system.now).rules (map pair_data pairs.now) (interpretations symbols.now) (marks_of marks.now) set.now) }
+    ensures { MatchOr result (AreLinesOfPairs system.now pairs.now set.now symbols.now marks.now)
+        (IsUncoveredPlace system.now pairs.now set.now symbols.now marks.now) }
 {
     let mut lines = Covers::new(alloc)?;
     let mut drop = Numbers::new(alloc)?;
@@ -133,8 +132,8 @@ pub fn pair_line(
     requires marks { AreNormalMarks (system_data system.now).symbols (system_data system.now).rules (marks_of marks.now) }
     requires sides { HasMarkedSides (system_data system.now).symbols (system_data system.now).rules (marks_of marks.now)
         (pair_data pair.now) }
-    ensures { IfOk result (λ found. MatchOption found (IsNotMet (pair_run (system_data system.now).symbols (system_data system.now).rules (interpretations symbols.now) (marks_of marks.now) (pair_data pair.now) false) (pair_run (system_data system.now).symbols (system_data system.now).rules (interpretations symbols.now) (marks_of marks.now) (pair_data pair.now) true))
-        (IsPairLine (pair_run (system_data system.now).symbols (system_data system.now).rules (interpretations symbols.now) (marks_of marks.now) (pair_data pair.now) false) (pair_run (system_data system.now).symbols (system_data system.now).rules (interpretations symbols.now) (marks_of marks.now) (pair_data pair.now) true))) }
+    ensures { IfOk result (λ found. MatchOption found (IsUncoveredPair system.now symbols.now marks.now pair.now)
+        (IsLineOfPair system.now symbols.now marks.now pair.now)) }
 {
     let Some(left) = pair_side(alloc, system, symbols, marks, pair, false)? else {
         return Ok(None);

@@ -6,7 +6,7 @@ ghost use Rattle.wh_system.specs.SystemView.{system_data};
 ghost use Rattle.wh_hopoly.specs.Erase.{interpretations, poly, transfers};
 ghost use Rattle.wh_polycheck.specs.SideResults.{marks_of};
 ghost use Rattle.wh_guesses.specs.Guesses.{IsGuess, IsTask};
-ghost use Rattle.wh_guesses.specs.Lines.{ArePairLines, AreRuleLines};
+ghost use Rattle.wh_guesses.specs.Lines.{AreLinesOfPairs, AreRuleLines};
 ghost use Rattle.wh_guesses.specs.Tasks.{IsGuessOf, IsTaskOf};
 ghost use Rattle.wh_guesses.specs.Weighing.{Weighs, WeighsBy};
 
@@ -110,8 +110,7 @@ fn node_with(
     requires guess { IsGuess (system_data system.now).symbols (system_data system.now).rules (map pair_data pairs.now)
         set.now symbols.now marks.now }
     requires rules { AreRuleLines (system_data system.now).rules (interpretations symbols.now) (map transfers rules) }
-    requires pairs { ArePairLines (system_data system.now).symbols (system_data system.now).rules (map pair_data pairs.now)
-        (interpretations symbols.now) (marks_of marks.now) set.now (map transfers found.lines) found.drop }
+    requires pairs { AreLinesOfPairs system.now pairs.now set.now symbols.now marks.now found }
     requires some { found.drop ≢ [] }
     ensures { IfOk result (WeighsBy (system_data system.now) (map pair_data pairs.now) set.now (interpretations symbols.now)
         (marks_of marks.now)) }

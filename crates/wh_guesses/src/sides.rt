@@ -9,9 +9,8 @@ ghost use Rattle.wh_hopoly.specs.Evaluation.{NormalInterpretations};
 ghost use Rattle.wh_polycheck.specs.Marks.{AreNormalMarks, HasMarkedSides};
 ghost use Rattle.wh_polycheck.specs.SideResults.{marks_of};
 ghost use Rattle.wh_polycheck.specs.Sides.{Interprets};
-ghost use Rattle.wh_meaning.specs.Covering.{pair_run, rule_run};
 ghost use Rattle.wh_covering.specs.Lines.{IsSide};
-ghost use Rattle.wh_guesses.specs.Lines.{HasNoSide};
+ghost use Rattle.wh_guesses.specs.Lines.{HasNoSide, run_of_pair, run_of_rule};
 
 use std::alloc::{AllocError, Global};
 use wh_hopoly::{Poly, PolyFault, Symbol};
@@ -32,8 +31,8 @@ pub fn rule_side(
     requires normal { NormalInterpretations (interpretations symbols.now) }
     requires rule { rule < length (system_data system.now).rules }
     ensures { (r : RewriteRule) → slice_get (system_data system.now).rules rule ≡ Some r
-        → IfOk result (λ found. MatchOption found (HasNoSide (rule_run (interpretations symbols.now) r right))
-        (λ p. IsSide (rule_run (interpretations symbols.now) r right) (poly p))) }
+        → IfOk result (λ found. MatchOption found (HasNoSide (run_of_rule symbols.now r right))
+        (λ p. IsSide (run_of_rule symbols.now r right) (poly p))) }
 {
     match side_of_rule(alloc, system, symbols, rule, right) {
         Ok(side) => Ok(Some(side)),
@@ -56,8 +55,8 @@ pub fn pair_side(
     requires marks { AreNormalMarks (system_data system.now).symbols (system_data system.now).rules (marks_of marks.now) }
     requires sides { HasMarkedSides (system_data system.now).symbols (system_data system.now).rules (marks_of marks.now)
         (pair_data pair.now) }
-    ensures { IfOk result (λ found. MatchOption found (HasNoSide (pair_run (system_data system.now).symbols (system_data system.now).rules (interpretations symbols.now) (marks_of marks.now) (pair_data pair.now) right))
-        (λ p. IsSide (pair_run (system_data system.now).symbols (system_data system.now).rules (interpretations symbols.now) (marks_of marks.now) (pair_data pair.now) right) (poly p))) }
+    ensures { IfOk result (λ found. MatchOption found (HasNoSide (run_of_pair system.now symbols.now marks.now pair.now right))
+        (λ p. IsSide (run_of_pair system.now symbols.now marks.now pair.now right) (poly p))) }
 {
     match side_of_pair(alloc, system, symbols, marks, pair, right) {
         Ok(side) => Ok(Some(side)),

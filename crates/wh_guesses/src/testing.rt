@@ -1,7 +1,7 @@
 //! What a condition is under a guess.
 
 ghost use Rattle.std.specs.Bool.{OnTrue};
-ghost use Rattle.std.specs.Prelude.{◌≡◌, ◌↔◌, ◌<◌, IfOk, IsTrue, Some, false, true, length, map, slice_get};
+ghost use Rattle.std.specs.Prelude.{◌≡◌, ◌↔◌, ◌<◌, IfOk, IsTrue, Some, length, map, slice_get};
 ghost use Rattle.wh_terms.specs.Rules.{RewriteRule};
 ghost use Rattle.wh_pairs.specs.PairData.{pair_data};
 ghost use Rattle.wh_system.specs.SystemView.{system_data};
@@ -10,11 +10,9 @@ ghost use Rattle.wh_hopoly.specs.Evaluation.{NormalInterpretations};
 ghost use Rattle.wh_polycheck.specs.Marks.{AreNormalMarks, HasMarkedSides};
 ghost use Rattle.wh_polycheck.specs.SideResults.{marks_of};
 ghost use Rattle.wh_polycheck.specs.Sides.{Interprets};
-ghost use Rattle.wh_meaning.specs.Covering.{pair_run, rule_run};
 ghost use Rattle.wh_covering.specs.Lines.{IsSomeSide};
-ghost use Rattle.wh_guesses.specs.Conditions.{IsMet, Meets, some_strictly};
 ghost use Rattle.wh_guesses.specs.Guesses.{IsGuess, IsTask};
-ghost use Rattle.wh_guesses.specs.Lines.{IsNotMet};
+ghost use Rattle.wh_guesses.specs.Lines.{HasNoStrictPair, IsStrictPair, IsUncoveredPair, IsUncoveredRule};
 ghost use Rattle.wh_guesses.specs.Weighing.{Fails};
 ghost use Rattle.wh_guesses.specs.Tasks.{IsGuessOf, IsTaskOf};
 
@@ -185,8 +183,8 @@ fn rule_fails(
     requires interpreted { Interprets (system_data system.now).symbols (interpretations symbols.now) }
     requires normal { NormalInterpretations (interpretations symbols.now) }
     requires rule { rule < length (system_data system.now).rules }
-    ensures { (r : RewriteRule) → slice_get (system_data system.now).rules rule ≡ Some r → IfOk result (λ told. OnTrue told
-        (IsNotMet (rule_run (interpretations symbols.now) r false) (rule_run (interpretations symbols.now) r true))) }
+    ensures { (r : RewriteRule) → slice_get (system_data system.now).rules rule ≡ Some r
+        → IfOk result (λ told. OnTrue told (IsUncoveredRule symbols.now r)) }
 {
     Ok(rule_line(alloc, system, symbols, rule)?.is_none())
 }
@@ -204,8 +202,7 @@ fn pair_fails(
     requires marks { AreNormalMarks (system_data system.now).symbols (system_data system.now).rules (marks_of marks.now) }
     requires sides { HasMarkedSides (system_data system.now).symbols (system_data system.now).rules (marks_of marks.now)
         (pair_data pair.now) }
-    ensures { IfOk result (λ told. OnTrue told (IsNotMet (pair_run (system_data system.now).symbols (system_data system.now).rules (interpretations symbols.now) (marks_of marks.now) (pair_data pair.now) false)
-        (pair_run (system_data system.now).symbols (system_data system.now).rules (interpretations symbols.now) (marks_of marks.now) (pair_data pair.now) true))) }
+    ensures { IfOk result (λ told. OnTrue told (IsUncoveredPair system.now symbols.now marks.now pair.now)) }
 {
     Ok(pair_line(alloc, system, symbols, marks, pair)?.is_none())
 }
@@ -222,8 +219,7 @@ fn set_fails(
     requires task { IsTask (system_data system.now).symbols (system_data system.now).rules (map pair_data pairs.now) set.now }
     requires guess { IsGuess (system_data system.now).symbols (system_data system.now).rules (map pair_data pairs.now)
         set.now symbols.now marks.now }
-    ensures { IfOk result (λ told. OnTrue told (Meets (system_data system.now).symbols (system_data system.now).rules (map pair_data pairs.now) set.now
-        (interpretations symbols.now) (marks_of marks.now) some_strictly → ⊥)) }
+    ensures { IfOk result (λ told. OnTrue told (HasNoStrictPair system.now pairs.now set.now symbols.now marks.now)) }
 {
     for number in set {
         let pair = &pairs[*number as usize];
@@ -247,8 +243,7 @@ fn is_strict_pair(
     requires marks { AreNormalMarks (system_data system.now).symbols (system_data system.now).rules (marks_of marks.now) }
     requires sides { HasMarkedSides (system_data system.now).symbols (system_data system.now).rules (marks_of marks.now)
         (pair_data pair.now) }
-    ensures { IfOk result (λ told. IsTrue told ↔ IsMet (pair_run (system_data system.now).symbols (system_data system.now).rules (interpretations symbols.now) (marks_of marks.now) (pair_data pair.now) false)
-        (pair_run (system_data system.now).symbols (system_data system.now).rules (interpretations symbols.now) (marks_of marks.now) (pair_data pair.now) true) true) }
+    ensures { IfOk result (λ told. IsTrue told ↔ IsStrictPair system.now symbols.now marks.now pair.now) }
 {
     match pair_line(alloc, system, symbols, marks, pair)? {
         Some(line) => Ok(line.strict),

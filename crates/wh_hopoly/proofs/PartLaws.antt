@@ -4,7 +4,7 @@ use Rattle.std.specs.Prelude.{Contains}
 use Rattle.wh_types.specs.Ty.{Ty}
 use Rattle.wh_hopoly.specs.Polynomials.{Polynomial}
 use Rattle.wh_hopoly.specs.Evaluation.{Expression, var, symbol, lambda, apply, Interpretation, evaluate}
-use Rattle.wh_hopoly.specs.Parts.{parts, ValueOfPart}
+use Rattle.wh_hopoly.specs.NumberedParts.{parts, ValueOfPart}
 
 contains_left : (xs ys : List Polynomial) (x : Polynomial) → Contains xs x → Contains (xs ++ ys) x
 contains_left [] ys x (k, h, e) = absurd (omega (arith, h))

@@ -3,7 +3,7 @@ use Rattle.std.proofs.Common.{◌≡◌, ℕ, ◌+◌, ◌-◌, ◌<◌, List, �
 use Rattle.wh_types.specs.Ty.{Ty}
 use Rattle.wh_hopoly.specs.Polynomials.{Polynomial, zero_poly, plus, Factors, no_factors, times, Arguments, no_arguments, argument}
 use Rattle.wh_hopoly.specs.Arithmetic.{followed_by, raised, renumber, renumber_factors, renumber_arguments}
-use Rattle.wh_hopoly.specs.Evaluation.{moved}
+use Rattle.wh_hopoly.specs.Evaluation.{widened}
 use Rattle.wh_hopoly.specs.declared.polynomial.Poly.{Poly}
 use Rattle.wh_hopoly.specs.declared.polynomial.Monomial.{Monomial, out-Monomial}
 use Rattle.wh_hopoly.specs.declared.polynomial.Atom.{Atom, out-Atom}
@@ -60,7 +60,7 @@ raised_from_start : (n i : ℕ) → raised 0 n i ≡ n + i
 raised_from_start n i = grind arith
 
 -- a value in a longer scope, and an interpretation in one
-pub moved_by : (n by : ℕ) (scope : List Ty) (p : Polynomial) → by + n ≡ length scope → renumber (raised n by) p ≡ moved n scope p
+pub moved_by : (n by : ℕ) (scope : List Ty) (p : Polynomial) → by + n ≡ length scope → renumber (raised n by) p ≡ widened n scope p
 moved_by n by scope p e = renumber_alike (raised n by) _ (λ i. raised_far n (length scope) by i e) p
 
 pub moved_from_start : (n : ℕ) (p : Polynomial) → renumber (raised 0 n) p ≡ renumber (λ i. n + i) p

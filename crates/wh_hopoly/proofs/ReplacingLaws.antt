@@ -6,7 +6,7 @@ use mathlib.Core.Path.{subst₂}
 use Rattle.wh_types.specs.Ty.{Ty, sort, ◌⇒◌, arguments}
 use Rattle.wh_hopoly.specs.Polynomials.{HasType, Polynomial, zero_poly, plus, Factors, no_factors, times, Arguments, no_arguments, argument, Normal, NormalFactors, NormalArguments, HasNormalArguments}
 use Rattle.wh_hopoly.specs.Arithmetic.{sum_poly, multiply, constant, atom}
-use Rattle.wh_hopoly.specs.Evaluation.{Run, one, next, without, down, type_at, moved, replace, replace_factors, replace_arguments, applied, pure}
+use Rattle.wh_hopoly.specs.Evaluation.{Run, one, next, without, down, type_at, widened, replace, replace_factors, replace_arguments, applied, pure}
 use Rattle.wh_hopoly.specs.Limits.{Exceeds}
 use Rattle.wh_hopoly.specs.Excesses.{ExceedsAs}
 use Rattle.wh_hopoly.specs.Replacements.{head_by, replace_factor, apply_at, NormalFor, Replaces}
@@ -50,7 +50,7 @@ place_counts A n c g Γ Δ r e =
     (omega (arith, e, b, a, k, l, m), omega (arith, e, b, a, k, l, m))
 
 head_is_fine : (A : Ty) (Γ : List Ty) (g : Polynomial) → Normal (Γ ++ arguments A) g → HeadOk Γ A (head_by A (length Γ) g)
-head_is_fine A Γ g n X qs k = normal_applied A (Γ ++ X) (moved (length Γ) (Γ ++ X) g) qs (normal_moved Γ X (arguments A) g n) k
+head_is_fine A Γ g n X qs k = normal_applied A (Γ ++ X) (widened (length Γ) (Γ ++ X) g) qs (normal_moved Γ X (arguments A) g n) k
 
 module _ (A : Ty) (n : ℕ) (g : Polynomial) (Γ Δ : List Ty) (r : Replaces A n g Γ Δ) where
   pub same_places : (F : ℕ → List Ty → List Ty → Type 0) → F (length r.around) (r.around ++ A ∷ r.behind) (r.around ++ r.behind) → F n Γ Δ
@@ -114,7 +114,7 @@ applied_notes (sort s) Γ g ps = omega arith
 applied_notes (A ⇒ B) Γ g no_arguments = omega arith
 applied_notes (A ⇒ B) Γ g (argument p ps) =
     let one = apply_at (A ⇒ B) Γ g p in
-    let k = replace_notes (λ Δ qs. applied A Δ (moved (length Γ) Δ p) qs) (length Γ) (Γ ++ A ∷ arguments B) zero_poly g in
+    let k = replace_notes (λ Δ qs. applied A Δ (widened (length Γ) Δ p) qs) (length Γ) (Γ ++ A ∷ arguments B) zero_poly g in
     let l = length-append one.values (applied B Γ one.result ps).values in omega (arith, k, l)
 
 -- sums
@@ -422,10 +422,10 @@ module _ (A : Ty) (n : ℕ) (g : Polynomial) (Γ Δ : List Ty) (r : Replaces A n
   factor_is : replace_factor (head_by A n g) n Γ x ps ≡ next passed (λ qs. if x == n then head_by A n g (without n Γ) qs else one (atom (down n x) qs))
   factor_is = ap (λ C. next (replace_arguments (head_by A n g) n Γ C ps) (λ qs. if x == n then head_by A n g (without n Γ) qs else one (atom (down n x) qs))) (type_is Γ x B a)
 
-  factor_is_applied : x ≡ n → replace_factor (head_by A n g) n Γ x ps ≡ next passed (λ qs. applied A Δ (moved n Δ g) qs)
+  factor_is_applied : x ≡ n → replace_factor (head_by A n g) n Γ x ps ≡ next passed (λ qs. applied A Δ (widened n Δ g) qs)
   factor_is_applied e = factor_is
       ∙ (let b : (x == n) ≡ true = grind (arith, e) in ap (λ b. next passed (λ qs. if b then head_by A n g (without n Γ) qs else one (atom (down n x) qs))) b)
-      ∙ ap (λ Θ. next passed (λ qs. applied A Θ (moved n Θ g) qs)) (without_it A n g Γ Δ r)
+      ∙ ap (λ Θ. next passed (λ qs. applied A Θ (widened n Θ g) qs)) (without_it A n g Γ Δ r)
 
   factor_is_atom : (x ≡ n → ⊥) → replace_factor (head_by A n g) n Γ x ps ≡ next passed (λ qs. one (atom (down n x) qs))
   factor_is_atom d = factor_is
@@ -446,12 +446,12 @@ module _ (A : Ty) (n : ℕ) (g : Polynomial) (Γ Δ : List Ty) (r : Replaces A n
   pub passed_normal : x ≡ n → NormalArguments Γ B ps → (qs : Arguments) → qs ≡ passed.result → NormalArguments Δ A qs
   passed_normal e m qs k = subst₂ (λ C qs. NormalArguments Δ C qs) (sym (variable_type e)) (sym k) (arguments_normal A n g Γ Δ r B ps m)
 
-  pub moved_normal : (value : Polynomial) → value ≡ moved n Δ g → Normal (Δ ++ arguments A) value
+  pub moved_normal : (value : Polynomial) → value ≡ widened n Δ g → Normal (Δ ++ arguments A) value
   moved_normal value e = subst (Normal (Δ ++ arguments A)) (sym e)
-      (same_places A n g Γ Δ r (λ n Γ Δ. Normal (Δ ++ arguments A) (moved n Δ g)) (normal_moved r.around r.behind (arguments A) g r.normal))
+      (same_places A n g Γ Δ r (λ n Γ Δ. Normal (Δ ++ arguments A) (widened n Δ g)) (normal_moved r.around r.behind (arguments A) g r.normal))
 
-  module _ (e : x ≡ n) (qs : Arguments) (value : Polynomial) (k : qs ≡ passed.result) (m : value ≡ moved n Δ g) where
-    applied_now : applied A Δ (moved n Δ g) passed.result ≡ applied A Δ value qs
+  module _ (e : x ≡ n) (qs : Arguments) (value : Polynomial) (k : qs ≡ passed.result) (m : value ≡ widened n Δ g) where
+    applied_now : applied A Δ (widened n Δ g) passed.result ≡ applied A Δ value qs
     applied_now = ap₂ (applied A Δ) (sym m) (sym k)
 
     values_split : (replace_factor (head_by A n g) n Γ x ps).values ≡ passed.values ++ (applied A Δ value qs).values

@@ -2,7 +2,7 @@
 use Rattle.std.proofs.Common.{append_assoc, append-nil, length-append, ◌≡◌, ℕ, zero, suc, ◌+◌, ◌-◌, nat_lt, List, [], ◌∷◌, ◌++◌, length, refl, sym, subst, ◌<◌, ◌≤◌, arith, nat_cmp, if◌then◌else◌, Some, slice_get}
 use Rattle.wh_types.specs.Ty.{Ty, sort, ◌⇒◌, arguments}
 use Rattle.wh_hopoly.specs.Polynomials.{HasType, Polynomial, zero_poly, Arguments, no_arguments, argument, Normal, NormalArguments}
-use Rattle.wh_hopoly.specs.Evaluation.{Run, replace, moved, applied, apply_one, Expression, var, symbol, lambda, apply, Interpretation, added, variable, codomain, interpretation_at, type_of, evaluate, TypedExpression, NormalInterpretations}
+use Rattle.wh_hopoly.specs.Evaluation.{Run, replace, widened, applied, apply_one, Expression, var, symbol, lambda, apply, Interpretation, added, variable, codomain, interpretation_at, type_of, evaluate, TypedExpression, NormalInterpretations}
 use Rattle.wh_hopoly.specs.Arithmetic.{renumber}
 use Rattle.std.proofs.lemmas.Option.{none-some, same_Some}
 use Rattle.wh_hopoly.proofs.ReplaceLaws.{at_left, at_right, type_is, normal_replace, Moves, moves_on, normal_renumber}
@@ -31,7 +31,7 @@ moves_moved Γ X = record {
   order = λ i j. shift_order (length Γ) (length (Γ ++ X)) i j (let e = length-append Γ X in omega (arith, e));
 }
 
-pub normal_moved : (Γ X Y : List Ty) (p : Polynomial) → Normal (Γ ++ Y) p → Normal ((Γ ++ X) ++ Y) (moved (length Γ) (Γ ++ X) p)
+pub normal_moved : (Γ X Y : List Ty) (p : Polynomial) → Normal (Γ ++ Y) p → Normal ((Γ ++ X) ++ Y) (widened (length Γ) (Γ ++ X) p)
 normal_moved Γ X Y p n = normal_renumber (Γ ++ Y) ((Γ ++ X) ++ Y) _ (moves_on Γ (Γ ++ X) _ Y (moves_moved Γ X)) p n
 
 pub normal_applied : (A : Ty) (Γ : List Ty) (g : Polynomial) (ps : Arguments) → Normal (Γ ++ arguments A) g → NormalArguments Γ A ps → Normal Γ (applied A Γ g ps).result
@@ -39,14 +39,14 @@ normal_applied (sort s) Γ g no_arguments n k = subst (λ Δ. Normal Δ g) (appe
 normal_applied (sort s) Γ g (argument p ps) n k = absurd k
 normal_applied (A ⇒ B) Γ g no_arguments n k = absurd k
 normal_applied (A ⇒ B) Γ g (argument p ps) n k =
-    let head : List Ty → Arguments → Run Polynomial = λ Δ qs. applied A Δ (moved (length Γ) Δ p) qs in
+    let head : List Ty → Arguments → Run Polynomial = λ Δ qs. applied A Δ (widened (length Γ) Δ p) qs in
     normal_applied B Γ (replace head (length Γ) (Γ ++ A ∷ arguments B) zero_poly g).result ps
-    (normal_replace head Γ A (λ X qs m. normal_applied A (Γ ++ X) (moved (length Γ) (Γ ++ X) p) qs (normal_moved Γ X (arguments A) p k.0) m) (arguments B) zero_poly g tt n)
+    (normal_replace head Γ A (λ X qs m. normal_applied A (Γ ++ X) (widened (length Γ) (Γ ++ X) p) qs (normal_moved Γ X (arguments A) p k.0) m) (arguments B) zero_poly g tt n)
     k.1
 
 pub normal_apply_one : (A B : Ty) (Γ : List Ty) (g p : Polynomial) → Normal (Γ ++ A ∷ arguments B) g → Normal (Γ ++ arguments A) p → Normal (Γ ++ arguments B) (apply_one A B Γ g p).result
-normal_apply_one A B Γ g p n m = normal_replace (λ Δ qs. applied A Δ (moved (length Γ) Δ p) qs) Γ A
-    (λ X qs k. normal_applied A (Γ ++ X) (moved (length Γ) (Γ ++ X) p) qs (normal_moved Γ X (arguments A) p m) k) (arguments B) zero_poly g tt n
+normal_apply_one A B Γ g p n m = normal_replace (λ Δ qs. applied A Δ (widened (length Γ) Δ p) qs) Γ A
+    (λ X qs k. normal_applied A (Γ ++ X) (widened (length Γ) (Γ ++ X) p) qs (normal_moved Γ X (arguments A) p m) k) (arguments B) zero_poly g tt n
 
 -- variables as arguments
 normal_added : (B : Ty) (Γ : List Ty) (n : ℕ) → n ≡ length Γ → (i : ℕ) → ((j : ℕ) (C : Ty) → HasType (arguments B) j C → HasType Γ (i + j) C) → NormalArguments Γ B (added B n i)

@@ -13,7 +13,7 @@ use Rattle.wh_hopoly.specs.Arithmetic.{renumber, renumber_factors, renumber_argu
 use Rattle.wh_hopoly.specs.Evaluation.{one, Expression, var, symbol, lambda, apply, Interpretation, interpretation_at, evaluate, type_of, codomain, apply_one, TypedExpression, NormalInterpretations}
 use Rattle.wh_hopoly.specs.Limits.{weight, weight_of_factors, weight_of_arguments, nesting, nesting_of_factors, nesting_of_arguments, Overflows, TooLarge, Exceeds}
 use Rattle.wh_hopoly.specs.Excesses.{ExceedsAs}
-use Rattle.wh_hopoly.specs.Parts.{parts, own_values, ValueOfPart}
+use Rattle.wh_hopoly.specs.NumberedParts.{parts, own_values, ValueOfPart}
 use Rattle.wh_hopoly.specs.Outcomes.{ComesTo, PassesLimit, IsFaultOf, applied_to}
 use Rattle.wh_hopoly.specs.Replacements.{apply_at, NormalFor}
 use Rattle.wh_hopoly.specs.Valued.{IsKnown, Yields, IsValueOf, located_at, IsFaultFrom}

@@ -62,19 +62,19 @@ abbrev mutual
       next (replace head v (Γ ++ arguments A) zero_poly p) (λ q. next (replace_arguments head v Γ B ps) (λ qs. pure (argument q qs)))
 
 -- a value of a scope of length n, whose added variables go on from n, in the longer scope Δ, where they go on from its length (ours)
-abbrev pub moved : ℕ → List Ty → Polynomial → Polynomial
-moved n Δ g = renumber (λ i. if nat_lt i n then i else length Δ + (i - n)) g
+abbrev pub widened : ℕ → List Ty → Polynomial → Polynomial
+widened n Δ g = renumber (λ i. if nat_lt i n then i else length Δ + (i - n)) g
 
 -- the added variables of the value g of this type replaced by arguments, one after another (Fuhs and Kop 2012)
 abbrev pub applied : Ty → List Ty → Polynomial → Arguments → Run Polynomial
 applied (sort s) Γ g ps = one g
 applied (A ⇒ B) Γ g no_arguments = one g
 applied (A ⇒ B) Γ g (argument p ps) =
-    next (replace (λ Δ qs. applied A Δ (moved (length Γ) Δ p) qs) (length Γ) (Γ ++ A ∷ arguments B) zero_poly g) (λ g. applied B Γ g ps)
+    next (replace (λ Δ qs. applied A Δ (widened (length Γ) Δ p) qs) (length Γ) (Γ ++ A ∷ arguments B) zero_poly g) (λ g. applied B Γ g ps)
 
 -- the first added variable of a value of type A ⇒ B replaced by a value of type A (Fuhs and Kop 2012)
 abbrev pub apply_one : Ty → Ty → List Ty → Polynomial → Polynomial → Run Polynomial
-apply_one A B Γ g p = replace (λ Δ qs. applied A Δ (moved (length Γ) Δ p) qs) (length Γ) (Γ ++ A ∷ arguments B) zero_poly g
+apply_one A B Γ g p = replace (λ Δ qs. applied A Δ (widened (length Γ) Δ p) qs) (length Γ) (Γ ++ A ∷ arguments B) zero_poly g
 
 -- an expression; its variables are numbers of a scope, and a binder's is the length of the scope that it stands in (ours)
 pub data Expression : Type 0 where

@@ -4,7 +4,7 @@ pub mod Evaluation
 pub mod Limits
 pub mod Covers
 pub mod Moves
-pub mod Parts
+pub mod NumberedParts
 pub mod Erase
 pub mod Excesses
 pub mod Outcomes

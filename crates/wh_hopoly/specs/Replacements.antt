@@ -4,15 +4,16 @@ use Rattle.wh_types.specs.Ty.{Ty, sort, ◌⇒◌, arguments}
 use Rattle.wh_types.specs.Erase.{ty}
 use Rattle.wh_hopoly.specs.Polynomials.{Polynomial, Arguments, Normal}
 use Rattle.wh_hopoly.specs.Arithmetic.{atom}
-use Rattle.wh_hopoly.specs.Evaluation.{Run, one, next, type_at, down, without, moved, applied, apply_one, replace_arguments}
+use Rattle.wh_hopoly.specs.Evaluation.{Run, one, next, type_at, down, without, widened, applied, apply_one, replace_arguments}
 use Rattle.wh_hopoly.specs.Scopes.{scope_of}
 use Rattle.wh_hopoly.specs.Erase.{poly}
 use Rattle.wh_hopoly.specs.declared.replacing.Replacement.{Replacement}
 use Rattle.wh_hopoly.specs.declared.replacing.Place.{Place}
 
--- what a factor headed by the variable becomes: the value, of this type and of a scope of length n, applied to its arguments (Fuhs and Kop 2012)
+-- what a factor headed by the variable becomes: the value, of this type and of a scope of length n, applied to its arguments
+-- (Fuhs and Kop 2012)
 abbrev pub head_by : Ty → ℕ → Polynomial → List Ty → Arguments → Run Polynomial
-head_by A n g Δ ps = applied A Δ (moved n Δ g) ps
+head_by A n g Δ ps = applied A Δ (widened n Δ g) ps
 
 -- the same, by what stands for the variable in the program (ours)
 abbrev pub head_of : Replacement → List Ty → Arguments → Run Polynomial

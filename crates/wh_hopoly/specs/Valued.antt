@@ -7,7 +7,7 @@ use Rattle.wh_types.specs.declared.want.Or.TheVariants.{NoMemory, Because}
 use Rattle.wh_hopoly.specs.Polynomials.{Polynomial}
 use Rattle.wh_hopoly.specs.Evaluation.{Run, Expression, Interpretation, evaluate, type_of}
 use Rattle.wh_hopoly.specs.Limits.{Overflows, TooLarge}
-use Rattle.wh_hopoly.specs.Parts.{ValueOfPart}
+use Rattle.wh_hopoly.specs.NumberedParts.{ValueOfPart}
 use Rattle.wh_hopoly.specs.Outcomes.{ComesTo}
 use Rattle.wh_hopoly.specs.Erase.{poly, interpretations}
 use Rattle.wh_hopoly.specs.declared.excess.Excess.{Excess}

@@ -5,7 +5,7 @@ ghost use Rattle.wh_types.specs.Erase.{ty};
 ghost use Rattle.wh_types.specs.Outcome.{IfBecause};
 ghost use Rattle.wh_hopoly.specs.Erase.{expression};
 ghost use Rattle.wh_hopoly.specs.Evaluation.{lambda, apply, TypedExpression, NormalInterpretations};
-ghost use Rattle.wh_hopoly.specs.Parts.{parts};
+ghost use Rattle.wh_hopoly.specs.NumberedParts.{parts};
 ghost use Rattle.wh_hopoly.specs.Scopes.{scope_of};
 ghost use Rattle.wh_hopoly.specs.Valued.{readings, IsValueOf, IsFaultFrom};
 

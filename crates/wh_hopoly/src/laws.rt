@@ -8,7 +8,7 @@ ghost use Rattle.wh_hopoly.specs.Polynomials.{Polynomial, plus, Factors, compare
 ghost use Rattle.wh_hopoly.specs.Arithmetic.{sum_poly, scale, multiply};
 ghost use Rattle.wh_hopoly.specs.Limits.{Overflows, TooLarge};
 ghost use Rattle.wh_hopoly.specs.Evaluation.{Expression, Interpretation, TypedExpression, NormalInterpretations, type_of, evaluate, Values};
-ghost use Rattle.wh_hopoly.specs.Parts.{parts, ValueOfPart};
+ghost use Rattle.wh_hopoly.specs.NumberedParts.{parts, ValueOfPart};
 ghost use Rattle.wh_hopoly.specs.Outcomes.{IsFaultOf};
 ghost use Rattle.wh_hopoly.specs.declared.fault.PolyFault.TheVariants.{Overflow, TooLarge as too_large};
 

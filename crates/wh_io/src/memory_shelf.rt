@@ -42,7 +42,12 @@ impl Model for MemoryShelf {
 
     ghost Value = { ShelfState };
 
-    ghost view = { λ shelf. record { files = shelf.files.items; failing = shelf.failing.items; calls = shelf.calls; faults = shelf.faults } };
+    ghost view = { λ shelf. record {
+      files = shelf.files.items;
+      failing = shelf.failing.items;
+      calls = shelf.calls;
+      faults = shelf.faults;
+    } };
 }
 
 impl MemoryShelf {

@@ -31,7 +31,14 @@ impl Model for MemorySink {
 
     ghost Value = { SinkState };
 
-    ghost view = { λ sink. record { written = sink.written.items; most = sink.most; room = sink.room; failing = sink.failing.items; calls = sink.calls; faults = sink.faults } };
+    ghost view = { λ sink. record {
+      written = sink.written.items;
+      most = sink.most;
+      room = sink.room;
+      failing = sink.failing.items;
+      calls = sink.calls;
+      faults = sink.faults;
+    } };
 
     ghost invariant = { λ sink. (1 ≤ sink.most) × (vec_len sink.written + sink.room ≤ vec_capacity sink.written) };
 }

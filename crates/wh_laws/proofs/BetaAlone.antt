@@ -9,7 +9,7 @@ use Rattle.wh_terms.proofs.TypingLaws.{typed_loose, typed_term}
 use Rattle.wh_step.specs.Reduction.{Bounded}
 use Rattle.wh_step.proofs.Instances.{Instance, instance_of}
 use Rattle.wh_laws.specs.Ends.{Ends}
-use Rattle.wh_laws.specs.Roots.{KnowsSorts}
+use Rattle.wh_laws.specs.RootRelations.{KnowsSorts}
 use Rattle.wh_laws.proofs.Fundamental.{ComputableSymbols, typed-computable, candidate, typed-known}
 use Rattle.wh_laws.proofs.Symbols.{HasNoRoot, still_computable}
 use Rattle.wh_laws.proofs.SystemSteps.{instances_root, raw_ends-bounded}

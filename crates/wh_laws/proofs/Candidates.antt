@@ -8,7 +8,7 @@ use Rattle.wh_terms.specs.StepOver.{StepOver, over_root, over_beta, over_functio
 use Rattle.wh_terms.proofs.TypingLaws.{typed_term}
 use Rattle.wh_terms.proofs.StepOver.{over-typed, over-opened}
 use Rattle.wh_laws.specs.Ends.{Ends, ends}
-use Rattle.wh_laws.specs.Roots.{IsRoot}
+use Rattle.wh_laws.specs.RootRelations.{IsRoot}
 use Rattle.wh_laws.specs.Neutral.{HasNeutralHead, IsNeutral}
 use Rattle.wh_laws.specs.Computable.{ComputableAt, computable_at}
 use Rattle.wh_laws.proofs.EndsLaws.{ends-simulated}

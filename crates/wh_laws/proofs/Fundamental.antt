@@ -7,7 +7,7 @@ use Rattle.wh_terms.specs.Typing.{Symbols, Typed, typed_bound, typed_free, typed
 use Rattle.wh_terms.specs.StepOver.{StepOver}
 use Rattle.wh_terms.proofs.ActLaws.{act-id, opened-act}
 use Rattle.wh_terms.proofs.TypingLaws.{some_one, typed-act, fits-free}
-use Rattle.wh_laws.specs.Roots.{IsRoot, KnowsSorts}
+use Rattle.wh_laws.specs.RootRelations.{IsRoot, KnowsSorts}
 use Rattle.wh_laws.specs.Computable.{Computable, ComputableBelow}
 use Rattle.wh_laws.proofs.RankLaws.{Takes, computable-arrow, computable-sort}
 use Rattle.wh_laws.proofs.Candidates.{Candidate, at_candidate, arrow_candidate, takes_abstraction, candidate_free}

@@ -2,7 +2,7 @@
 use Rattle.std.proofs.Common.{inl, inr}
 use Rattle.wh_terms.specs.Tree.{Tm, bound, free, fun, meta, lam, app}
 use Rattle.wh_laws.specs.Ends.{Ends, ends}
-use Rattle.wh_laws.specs.Parts.{HasPart, function_part, argument_part, StepOrPart}
+use Rattle.wh_laws.specs.DirectSubterms.{HasPart, function_part, argument_part, StepOrPart}
 
 -- a relation that passes to the function and to the argument of an application
 pub record PassesToParts (R : Tm → Tm → Type 0) : Type 0 where

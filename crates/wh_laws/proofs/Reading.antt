@@ -11,7 +11,7 @@ use Rattle.wh_terms.specs.Value.{Body, parameters}
 use Rattle.wh_terms.proofs.ValueForm.{value, FitsArities, AllFitArities, FitsBodies, value_same}
 use Rattle.wh_terms.proofs.ValueSight.{bound_occurs, bound_values}
 use Rattle.wh_terms.proofs.ValueTyping.{typed_count}
-use Rattle.wh_terms.proofs.MatchLaws.{moved, moved-none, value-moved, read_body, body_back, body_one}
+use Rattle.wh_terms.proofs.MatchLaws.{bodies_below, bodies_below-none, value-bodies_below, read_body, body_back, body_one}
 use Rattle.wh_laws.proofs.SameTree.{occurs, occurs-false, occurs-true}
 
 -- the body of z, read off the tree t at the place where the pattern p, below k binders, has z; anything where it has none
@@ -40,30 +40,30 @@ mutual
   unfolding value
 
   -- off a value of the pattern the bodies themselves are read
-  reading_under : (k : ℕ) (g : ℕ → Body) (p : Tm) → IsPatternUnder k p → FitsBodies g p → (z : ℕ) → Occurs z p → reading k p (value (moved k g) p) z ≡ (g z).tree
+  reading_under : (k : ℕ) (g : ℕ → Body) (p : Tm) → IsPatternUnder k p → FitsBodies g p → (z : ℕ) → Occurs z p → reading k p (value (bodies_below k g) p) z ≡ (g z).tree
   reading_under k g (bound i) p f z o = absurd o
   reading_under k g (free x a) p f z o = absurd o
   reading_under k g (fun c) p f z o = absurd o
   reading_under k g (meta y ts) p f z (inl o) =
-      ap (λ us. read_body k ts (act (parameters us bound) free (moved k g y).tree)) (bound_values k (moved k g) ts p.0)
+      ap (λ us. read_body k ts (act (parameters us bound) free (bodies_below k g y).tree)) (bound_values k (bodies_below k g) ts p.0)
       ∙ body_back k g y ts p.0 p.1 f.0 ∙ ap (λ y. (g y).tree) o
   reading_under k g (meta y ts) p f z (inr o) = absurd (bound_occurs k z ts p.0 o)
-  reading_under k g (lam a t) p f z o = ap (λ v. reading (k + 1) t v z) (value-moved k g t) ∙ reading_under (k + 1) g t p f z o
+  reading_under k g (lam a t) p f z o = ap (λ v. reading (k + 1) t v z) (value-bodies_below k g t) ∙ reading_under (k + 1) g t p f z o
   reading_under k g (app t u) p f z (inl o) =
-      occurs_here z t (reading k t (value (moved k g) t) z) (reading k u (value (moved k g) u) z) (g z).tree o (reading_spine k g t p.0 f.0 z o)
+      occurs_here z t (reading k t (value (bodies_below k g) t) z) (reading k u (value (bodies_below k g) u) z) (g z).tree o (reading_spine k g t p.0 f.0 z o)
   reading_under k g (app t u) p f z (inr o) =
-      occurs_there z t (reading k t (value (moved k g) t) z) (reading k u (value (moved k g) u) z) (g z).tree (λ q. reading_spine k g t p.0 f.0 z q) (reading_under k g u p.1 f.1 z o)
+      occurs_there z t (reading k t (value (bodies_below k g) t) z) (reading k u (value (bodies_below k g) u) z) (g z).tree (λ q. reading_spine k g t p.0 f.0 z q) (reading_under k g u p.1 f.1 z o)
 
-  reading_spine : (k : ℕ) (g : ℕ → Body) (p : Tm) → IsPatternSpine k p → FitsBodies g p → (z : ℕ) → Occurs z p → reading k p (value (moved k g) p) z ≡ (g z).tree
+  reading_spine : (k : ℕ) (g : ℕ → Body) (p : Tm) → IsPatternSpine k p → FitsBodies g p → (z : ℕ) → Occurs z p → reading k p (value (bodies_below k g) p) z ≡ (g z).tree
   reading_spine k g (bound i) p f z o = absurd o
   reading_spine k g (free x a) p f z o = absurd o
   reading_spine k g (fun c) p f z o = absurd o
   reading_spine k g (meta y ts) p f z o = absurd p
   reading_spine k g (lam a t) p f z o = absurd p
   reading_spine k g (app t u) p f z (inl o) =
-      occurs_here z t (reading k t (value (moved k g) t) z) (reading k u (value (moved k g) u) z) (g z).tree o (reading_spine k g t p.0 f.0 z o)
+      occurs_here z t (reading k t (value (bodies_below k g) t) z) (reading k u (value (bodies_below k g) u) z) (g z).tree o (reading_spine k g t p.0 f.0 z o)
   reading_spine k g (app t u) p f z (inr o) =
-      occurs_there z t (reading k t (value (moved k g) t) z) (reading k u (value (moved k g) u) z) (g z).tree (λ q. reading_spine k g t p.0 f.0 z q) (reading_under k g u p.1 f.1 z o)
+      occurs_there z t (reading k t (value (bodies_below k g) t) z) (reading k u (value (bodies_below k g) u) z) (g z).tree (λ q. reading_spine k g t p.0 f.0 z q) (reading_under k g u p.1 f.1 z o)
 
 -- the number of arguments that a meta-variable is declared with
 abbrev pub declared_arity : Option Declared → ℕ
@@ -109,4 +109,4 @@ mutual
 pub candidate_is : (M : List Declared) (g : ℕ → Body) (p t : Tm) → IsPattern p → FitsArities (λ z. declared_arity (slice_get M z)) p → FitsBodies g p → t ≡ value g p → (z : ℕ) → Occurs z p → candidate_for M p t z ≡ g z
 candidate_is M g p t i f h e z o =
     body_one (candidate_for M p t z) (g z) (arities_agree (λ z. declared_arity (slice_get M z)) (λ z. (g z).arity) p f h z o)
-    (ap (λ v. reading 0 p v z) (e ∙ sym (value_same (moved 0 g) g p (moved-none g))) ∙ reading_under 0 g p i h z o)
+    (ap (λ v. reading 0 p v z) (e ∙ sym (value_same (bodies_below 0 g) g p (bodies_below-none g))) ∙ reading_under 0 g p i h z o)

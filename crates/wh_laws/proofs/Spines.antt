@@ -5,7 +5,7 @@ use Rattle.wh_terms.specs.Tree.{Tm, free, fun, lam, app, spine, head}
 use Rattle.wh_terms.specs.Substitution.{opened}
 use Rattle.wh_terms.specs.Typing.{Symbols, Typed, typed_app}
 use Rattle.wh_terms.specs.StepOver.{StepOver, over_root, over_beta, over_function, over_argument}
-use Rattle.wh_laws.specs.Roots.{IsRoot}
+use Rattle.wh_laws.specs.RootRelations.{IsRoot}
 use Rattle.wh_laws.specs.Ends.{StepsIn, step_here, step_there}
 use Rattle.wh_laws.specs.Spines.{HeadStep, ArgumentStep, FrontStep, OpeningStep}
 use Rattle.wh_laws.proofs.Candidates.{head-spine, still_free}

@@ -9,7 +9,7 @@ use Rattle.wh_terms.proofs.TypingLaws.{some_one}
 use Rattle.wh_terms.proofs.StepOver.{over-typed}
 use Rattle.wh_laws.specs.Ends.{Ends, ends, StepsIn, step_here, step_there}
 use Rattle.wh_laws.specs.Ranks.{RanksBelow, PlaceHas, IsAccessibleIn}
-use Rattle.wh_laws.specs.Roots.{IsRoot, KnowsSorts}
+use Rattle.wh_laws.specs.RootRelations.{IsRoot, KnowsSorts}
 use Rattle.wh_laws.specs.Computable.{ComputableAt, computable_at, ComputableBelow, Computable, ComputableList}
 use Rattle.wh_laws.specs.Spines.{ArgumentStep, FrontStep}
 use Rattle.wh_laws.proofs.EndsLaws.{ends-list}

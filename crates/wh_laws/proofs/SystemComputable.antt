@@ -11,7 +11,7 @@ use Rattle.wh_step.specs.Reduction.{Bounded}
 use Rattle.wh_step.proofs.Instances.{Instance}
 use Rattle.wh_step.proofs.RawStep.{RawStep, step_raw, raw_step}
 use Rattle.wh_laws.specs.Ranks.{PlaceHas, IsAccessible, IsAccessibleIn}
-use Rattle.wh_laws.specs.Roots.{KnowsSorts, HeadsNoRule}
+use Rattle.wh_laws.specs.RootRelations.{KnowsSorts, HeadsNoRule}
 use Rattle.wh_laws.specs.Neutral.{IsNeutral}
 use Rattle.wh_laws.specs.Computable.{Computable, IsComputableAtSort, IsComputableAtArrow, ComputableAt, computable_at, ComputableBelow}
 use Rattle.wh_laws.proofs.RankLaws.{computable-sort}

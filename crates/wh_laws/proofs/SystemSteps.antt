@@ -18,8 +18,8 @@ use Rattle.std.specs.List.{AllByRecursion}
 use Rattle.wh_laws.specs.Spines.{HeadStep, ArgumentStep, FrontStep, OpeningStep}
 use Rattle.wh_laws.proofs.Spines.{symbol_step, variable_step, abstraction_spine_step}
 use Rattle.wh_laws.specs.Ends.{Ends, ends, Longest, StepsIn, step_here, step_there}
-use Rattle.wh_laws.specs.Parts.{HasPart, function_part, argument_part, StepOrPart}
-use Rattle.wh_laws.specs.Roots.{IsRoot, RuleRoot, rule_root}
+use Rattle.wh_laws.specs.DirectSubterms.{HasPart, function_part, argument_part, StepOrPart}
+use Rattle.wh_laws.specs.RootRelations.{IsRoot, RuleRoot, rule_root}
 use Rattle.wh_laws.proofs.EndsLaws.{ends-next, ends-simulated, ends-cons, ends-list}
 use Rattle.wh_laws.proofs.Listed.{Listed, listed_none, listed_same, listed_or, ends-longest, within-ends}
 use Rattle.wh_laws.proofs.PartLaws.{ends-parts}

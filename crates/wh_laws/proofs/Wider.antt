@@ -5,7 +5,7 @@ use Rattle.wh_terms.specs.Tree.{Tm, Tms}
 use Rattle.wh_terms.specs.Typing.{Symbols, Declared, Typed, typed_bound, typed_free, typed_fun, typed_meta, typed_lam, typed_app, AllTyped, typed_none, typed_more}
 use Rattle.wh_terms.specs.Rules.{RewriteRule, IsWellMade, AreWellMade}
 use Rattle.wh_terms.proofs.TypingLaws.{some_one}
-use Rattle.wh_laws.specs.Roots.{KnowsSorts}
+use Rattle.wh_laws.specs.RootRelations.{KnowsSorts}
 
 pub sorts-more : (m n : ℕ) (a : Ty) → m ≤ n → SortsBelow m a → SortsBelow n a
 sorts-more m n (sort s) h b = omega arith

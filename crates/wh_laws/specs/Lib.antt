@@ -1,7 +1,7 @@
 pub mod Ends
-pub mod Parts
+pub mod DirectSubterms
 pub mod Ranks
-pub mod Roots
+pub mod RootRelations
 pub mod Spines
 pub mod Neutral
 pub mod Computable

@@ -8,7 +8,7 @@ ghost use Rattle.wh_terms.specs.Rules.{RewriteRule, AreWellMade};
 ghost use Rattle.wh_step.specs.Step.{Step};
 ghost use Rattle.wh_step.specs.Reduction.{Bounded};
 ghost use Rattle.wh_laws.specs.Ends.{Ends, Longest, StepsIn};
-ghost use Rattle.wh_laws.specs.Parts.{HasPart, StepOrPart};
+ghost use Rattle.wh_laws.specs.DirectSubterms.{HasPart, StepOrPart};
 
 /// A term is accessible by steps exactly where it is bounded.
 pub fn accessible_where_bounded()

@@ -9,7 +9,7 @@ ghost use Rattle.wh_terms.specs.Rules.{RewriteRule, AreWellMade};
 ghost use Rattle.wh_step.specs.Step.{Step};
 ghost use Rattle.wh_step.specs.Reduction.{Bounded};
 ghost use Rattle.wh_laws.specs.Ranks.{PlaceHas, IsAccessible};
-ghost use Rattle.wh_laws.specs.Roots.{HeadsNoRule, KnowsSorts};
+ghost use Rattle.wh_laws.specs.RootRelations.{HeadsNoRule, KnowsSorts};
 ghost use Rattle.wh_laws.specs.Neutral.{IsNeutral};
 ghost use Rattle.wh_laws.specs.Computable.{Computable, IsComputableAtSort, IsComputableAtArrow};
 

@@ -8,7 +8,7 @@ ghost use Rattle.wh_terms.specs.Typing.{Symbols};
 ghost use Rattle.wh_terms.specs.Rules.{RewriteRule, AreWellMade};
 ghost use Rattle.wh_terms.specs.StepOver.{StepOver};
 ghost use Rattle.wh_step.specs.Step.{Step};
-ghost use Rattle.wh_laws.specs.Roots.{IsRoot, RuleRoot};
+ghost use Rattle.wh_laws.specs.RootRelations.{IsRoot, RuleRoot};
 ghost use Rattle.wh_laws.specs.Spines.{HeadStep, ArgumentStep, FrontStep, OpeningStep};
 
 /// The rules of a system are a relation at the root: they keep types, substitution keeps them, and each symbol has its

@@ -6,7 +6,7 @@ use Rattle.std.specs.Ordering.{ordering_then}
 use Rattle.wh_types.specs.Ty.{Ty, Ty-discrete, sort, ◌⇒◌, arguments}
 use Rattle.wh_hopoly.specs.Polynomials.{HasType, Polynomial, zero_poly, plus, Factors, no_factors, times, Arguments, no_arguments, argument, Normal, NormalFactors, NormalArguments, compare_factors, compare_arguments}
 use Rattle.wh_hopoly.specs.Arithmetic.{by_order, add_monomial, sum_poly, join_factor, join_factors, scale, multiply, constant, atom, renumber, renumber_factors, renumber_arguments}
-use Rattle.wh_hopoly.specs.Evaluation.{Run, one, without, down, type_at, replace, replace_factors, replace_arguments, moved, applied, apply_one}
+use Rattle.wh_hopoly.specs.Evaluation.{Run, one, without, down, type_at, replace, replace_factors, replace_arguments, widened, applied, apply_one}
 use Rattle.wh_hopoly.proofs.OrderLaws.{factors_equal}
 use Rattle.wh_hopoly.proofs.ReplaceLaws.{without_is, at_itself, at_down, type_is, HeadOk, normal_replace, normal_replace_arguments, Moves, moves_on}
 use Rattle.wh_hopoly.proofs.ValueLaws.{normal_applied, normal_moved, moves_moved, moved_low}
@@ -298,13 +298,13 @@ apply_sound A B Γ g ψ a head h s n =
     (fun_same B (Γ ++ A ∷ []) (Γ ++ A ∷ []) (λ i. i) (moves_same (Γ ++ A ∷ [])) (put (length Γ) A a ψ) (insert (length Γ) A a ψ) G G (put_insert Γ A a ψ)
     (λ ψ χ t. den_agree (Γ ++ A ∷ arguments B) g n ψ χ (λ i C c. t i C (subst (λ Δ. HasType Δ i C) (sym (append_assoc Γ (A ∷ []) (arguments B))) c))))
 
--- a moved value means the same
+-- a widened value means the same
 moved_sound : (A : Ty) (Γ X : List Ty) (p : Polynomial) (ψ χ : Valuation) → Normal (Γ ++ arguments A) p
     → ((i : ℕ) (C : Ty) → HasType Γ i C → χ i C ≡ ψ i C)
-    → reading A (Γ ++ X) χ (moved (length Γ) (Γ ++ X) p) ≡ reading A Γ ψ p
+    → reading A (Γ ++ X) χ (widened (length Γ) (Γ ++ X) p) ≡ reading A Γ ψ p
 moved_sound A Γ X p ψ χ n g =
     let r : ℕ → ℕ = λ i. if nat_lt i (length Γ) then i else length (Γ ++ X) + (i - length Γ) in
-    fun_same A Γ (Γ ++ X) r (moves_moved Γ X) ψ χ (λ χ. den (Γ ++ arguments A) χ p) (λ χ. den ((Γ ++ X) ++ arguments A) χ (moved (length Γ) (Γ ++ X) p))
+    fun_same A Γ (Γ ++ X) r (moves_moved Γ X) ψ χ (λ χ. den (Γ ++ arguments A) χ p) (λ χ. den ((Γ ++ X) ++ arguments A) χ (widened (length Γ) (Γ ++ X) p))
     (λ i C c. ap (λ j. χ j C) (moved_low (length Γ) (length (Γ ++ X)) i (at_below Γ i C c)) ∙ g i C c)
     (λ ψ χ t. den_renumber (Γ ++ arguments A) ((Γ ++ X) ++ arguments A) r (moves_on Γ (Γ ++ X) r (arguments A) (moves_moved Γ X)) p n ψ χ t)
 
@@ -316,12 +316,12 @@ den_applied (sort t) Γ g no_arguments ψ n k = ap (λ Δ. den Δ ψ g) (sym (ap
 den_applied (sort t) Γ g (argument p ps) ψ n k = absurd k
 den_applied (A ⇒ B) Γ g no_arguments ψ n k = absurd k
 den_applied (A ⇒ B) Γ g (argument p ps) ψ n k =
-    let head : List Ty → Arguments → Run Polynomial = λ Δ qs. applied A Δ (moved (length Γ) Δ p) qs in
-    let h : HeadOk Γ A head = λ X qs m. normal_applied A (Γ ++ X) (moved (length Γ) (Γ ++ X) p) qs (normal_moved Γ X (arguments A) p k.0) m in
+    let head : List Ty → Arguments → Run Polynomial = λ Δ qs. applied A Δ (widened (length Γ) Δ p) qs in
+    let h : HeadOk Γ A head = λ X qs m. normal_applied A (Γ ++ X) (widened (length Γ) (Γ ++ X) p) qs (normal_moved Γ X (arguments A) p k.0) m in
     let g' = (replace head (length Γ) (Γ ++ A ∷ arguments B) zero_poly g).result in
     den_applied B Γ g' ps ψ (normal_replace head Γ A h (arguments B) zero_poly g tt n) k.1
     ∙ ap (λ f. den_arguments Γ ψ B f ps) (apply_sound A B Γ g ψ (reading A Γ ψ p) head h
-    (λ X qs χ a m. den_applied A (Γ ++ X) (moved (length Γ) (Γ ++ X) p) qs χ (normal_moved Γ X (arguments A) p k.0) m
+    (λ X qs χ a m. den_applied A (Γ ++ X) (widened (length Γ) (Γ ++ X) p) qs χ (normal_moved Γ X (arguments A) p k.0) m
     ∙ ap (λ f. den_arguments (Γ ++ X) χ A f qs) (moved_sound A Γ X p ψ χ k.0 a)) n)
 
 -- an application's value means the application
@@ -329,6 +329,6 @@ pub den_apply_one : (A B : Ty) (Γ : List Ty) (g p : Polynomial) (ψ : Valuation
     → Normal (Γ ++ arguments A) p
     → reading B Γ ψ (apply_one A B Γ g p).result ≡ reading (A ⇒ B) Γ ψ g (reading A Γ ψ p)
 den_apply_one A B Γ g p ψ n m =
-    let head : List Ty → Arguments → Run Polynomial = λ Δ qs. applied A Δ (moved (length Γ) Δ p) qs in
-    apply_sound A B Γ g ψ (reading A Γ ψ p) head (λ X qs k. normal_applied A (Γ ++ X) (moved (length Γ) (Γ ++ X) p) qs (normal_moved Γ X (arguments A) p m) k)
-    (λ X qs χ a k. den_applied A (Γ ++ X) (moved (length Γ) (Γ ++ X) p) qs χ (normal_moved Γ X (arguments A) p m) k ∙ ap (λ f. den_arguments (Γ ++ X) χ A f qs) (moved_sound A Γ X p ψ χ m a)) n
+    let head : List Ty → Arguments → Run Polynomial = λ Δ qs. applied A Δ (widened (length Γ) Δ p) qs in
+    apply_sound A B Γ g ψ (reading A Γ ψ p) head (λ X qs k. normal_applied A (Γ ++ X) (widened (length Γ) (Γ ++ X) p) qs (normal_moved Γ X (arguments A) p m) k)
+    (λ X qs χ a k. den_applied A (Γ ++ X) (widened (length Γ) (Γ ++ X) p) qs χ (normal_moved Γ X (arguments A) p m) k ∙ ap (λ f. den_arguments (Γ ++ X) χ A f qs) (moved_sound A Γ X p ψ χ m a)) n

@@ -16,7 +16,7 @@ use Rattle.wh_terms.proofs.ValueForm.{value}
 use Rattle.wh_terms.proofs.ValueTyping.{spine_bodies}
 use Rattle.wh_terms.proofs.StepOver.{over-typed}
 use Rattle.wh_step.proofs.Instances.{Instance, instance_of, spine_left}
-use Rattle.wh_laws.specs.Roots.{RuleRoot}
+use Rattle.wh_laws.specs.RootRelations.{RuleRoot}
 use Rattle.wh_laws.proofs.SystemSteps.{rules_root, rule_root-instance}
 use Rattle.wh_hopoly.specs.Polynomials.{Polynomial, Normal}
 use Rattle.wh_hopoly.specs.Evaluation.{Interpretation, interpretation_at, type_of, evaluate, NormalInterpretations}

@@ -8,7 +8,7 @@ ghost use Rattle.wh_terms.specs.Sight.{NoFree};
 ghost use Rattle.wh_terms.specs.Typing.{Symbols, Declared, Typed};
 ghost use Rattle.wh_terms.specs.Rules.{RewriteRule, AreWellMade};
 ghost use Rattle.wh_terms.specs.StepOver.{StepOver};
-ghost use Rattle.wh_laws.specs.Roots.{RuleRoot};
+ghost use Rattle.wh_laws.specs.RootRelations.{RuleRoot};
 ghost use Rattle.wh_hopoly.specs.Evaluation.{Interpretation, NormalInterpretations};
 ghost use Rattle.wh_meaning.specs.Functionals.{Mono, Le};
 ghost use Rattle.wh_meaning.specs.Valuations.{Valuation, MonoValuation, LeValuation};

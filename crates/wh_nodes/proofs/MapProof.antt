@@ -13,7 +13,7 @@ use Rattle.wh_pairs.specs.Candidates.{candidates, freed}
 use Rattle.wh_pairs.specs.Subsumption.{IsDropped, ArePairs, none_left, one_kept, for_earlier, for_later}
 use Rattle.wh_pairs.proofs.MemberLemmas.{none_there, at_head}
 use Rattle.wh_subterm.specs.Marked.{IsMarked, AreMarked}
-use Rattle.wh_subterm.specs.Parts.{argument, last}
+use Rattle.wh_subterm.specs.ProperParts.{argument, last}
 use Rattle.wh_subterm.specs.Projections.{Below}
 use Rattle.wh_subterm.specs.SubtermRows.{IsPlace, IsProjection}
 use Rattle.wh_nodes.specs.Nodes.{IsSetOf, IsKept, by_done, by_subterm}

@@ -8,11 +8,11 @@ use Rattle.wh_terms.specs.Rules.{RewriteRule}
 use Rattle.wh_terms.proofs.ValueForm.{value}
 use Rattle.wh_terms.proofs.ValueLaws.{value_is}
 use Rattle.wh_laws.specs.Ends.{Ends, ends}
-use Rattle.wh_laws.specs.Parts.{function_part, argument_part, StepOrPart}
+use Rattle.wh_laws.specs.DirectSubterms.{function_part, argument_part, StepOrPart}
 use Rattle.wh_laws.proofs.EndsLaws.{ends-next}
 use Rattle.wh_laws.proofs.PartLaws.{PassesToParts, ends-parts}
 use Rattle.wh_pairs.specs.PairData.{PairData, IsIncreasing}
-use Rattle.wh_subterm.specs.Parts.{Argument, last, front, Part, argument, deeper}
+use Rattle.wh_subterm.specs.ProperParts.{Argument, last, front, Part, argument, deeper}
 use Rattle.wh_subterm.specs.Projections.{Chosen, IsProjected, Equal, Below}
 use Rattle.wh_subterm.specs.SubtermRows.{chosen_symbols, IsProjection}
 use Rattle.wh_subterm.proofs.DropLemmas.{contains_or_not}

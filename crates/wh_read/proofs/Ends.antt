@@ -10,10 +10,10 @@ use Rattle.wh_read.proofs.LexemeLaws.{kind_of}
 use Rattle.wh_read.proofs.Complete.{goes, EndsType, EndsTerm, type_ends, spine_ends, plain_ends, plain_run}
 
 -- the tokens lead from the state to the end of a text
-abbrev pub Ends : Bool → State → List Placed → Type 0
-Ends b s r = (w : WSystem) × (run b s r ≡ between w)
+abbrev pub ReachesText : Bool → State → List Placed → Type 0
+ReachesText b s r = (w : WSystem) × (run b s r ≡ between w)
 
-ends_same : (b : Bool) (s t : State) (q r : List Placed) → run b s q ≡ run b t r → Ends b t r → Ends b s q
+ends_same : (b : Bool) (s t : State) (q r : List Placed) → run b s q ≡ run b t r → ReachesText b t r → ReachesText b s q
 ends_same b s t q r e h = (h.0, e ∙ h.1)
 
 -- a name, and the tokens that end what began before
@@ -52,9 +52,9 @@ closing_ends (in_bracket x at open_at before us w) = tt
 
 -- what holds of every term that stands there
 abbrev TermEnds : Bool → Where → Type 0
-TermEnds b w = (t : WTerm) → Ends b (term_ended w t (closing_letter w) 0) (closing_rest w)
+TermEnds b w = (t : WTerm) → ReachesText b (term_ended w t (closing_letter w) 0) (closing_rest w)
 
-spine_closes : (b : Bool) (us : SomeAtoms) (u : WAtom) (w : Where) → TermEnds b w → Ends b (inside (want_atom (next_atoms us u) w)) (closing w)
+spine_closes : (b : Bool) (us : SomeAtoms) (u : WAtom) (w : Where) → TermEnds b w → ReachesText b (inside (want_atom (next_atoms us u) w)) (closing w)
 spine_closes b no_atoms_yet u w h =
     ends_same b (inside (want_atom (atoms_so_far u no_atoms) w)) (term_ended w (atoms u no_atoms) (closing_letter w) 0) (closing w) (closing_rest w)
     (goes b (want_atom (atoms_so_far u no_atoms) w) (closing_letter w) 0 (closing_rest w) ∙ ap (λ (s : State). run b s (closing_rest w)) (spine_ends b u no_atoms w (closing_letter w) 0 (closing_ends w))) (h (atoms u no_atoms))
@@ -71,10 +71,10 @@ term_ends b (in_paren open_at us w) t = spine_closes b us (term_in open_at t 0) 
 term_ends b (in_bracket x at open_at before us w) t = spine_closes b us (all_terms x at open_at before t 0) w (term_ends b w)
 
 -- a spine that goes on, a name that stands there, and a term that begins there
-spine_ends_here : (b : Bool) (us : SomeAtoms) (u : WAtom) (w : Where) → Ends b (inside (want_atom (next_atoms us u) w)) (closing w)
+spine_ends_here : (b : Bool) (us : SomeAtoms) (u : WAtom) (w : Where) → ReachesText b (inside (want_atom (next_atoms us u) w)) (closing w)
 spine_ends_here b us u w = spine_closes b us u w (term_ends b w)
 
-name_ends : (b : Bool) (x : List ℕ) (at : ℕ) (us : SomeAtoms) (w : Where) → Ends b (inside (behind_name x at us w)) (closing w)
+name_ends : (b : Bool) (x : List ℕ) (at : ℕ) (us : SomeAtoms) (w : Where) → ReachesText b (inside (behind_name x at us w)) (closing w)
 name_ends b x at us w =
     ends_same b (inside (behind_name x at us w)) (inside (want_atom (next_atoms us (plain_name x at)) w)) (closing w) (closing w)
     (plain_run b x at us w (closing w) (plain_ends (closing_letter w) 0 (closing_rest w) (closing_ends w))) (spine_ends_here b us (plain_name x at) w)
@@ -107,7 +107,7 @@ type_letter_ends (behind_arrow a arrow_at c) = type_letter_ends c
 type_letter_ends (in_type_paren open_at c) = tt
 
 mutual
-  type_ends_here : (b : Bool) (c : TypeWhere) (t : WType) → Ends b (type_ended c t (type_letter c) 0) (type_rest c)
+  type_ends_here : (b : Bool) (c : TypeWhere) (t : WType) → ReachesText b (type_ended c t (type_letter c) 0) (type_rest c)
   type_ends_here b (of_fun f) t = (with_fun f t 0, refl)
   type_ends_here b (in_brackets m colon_at open_at before) t =
       (with_rule (record { start = m.start; metas = all_metas m.before (the_meta m colon_at (all_types open_at before t 0) (only (sort_name (codes "x") 0))); close_at = 0 }) (atoms (plain_name (codes "x") 0) no_atoms) 0 (atoms (plain_name (codes "x") 0) no_atoms) 0, refl)
@@ -116,7 +116,7 @@ mutual
   type_ends_here b (behind_arrow a arrow_at c) t = type_ends_here b c (arrow a arrow_at t)
   type_ends_here b (in_type_paren open_at c) t = atype_ends_here b c (type_in open_at t 0)
 
-  atype_ends_here : (b : Bool) (c : AtypeWhere) (a : WAtype) → Ends b (inside (had_atype c a)) (atype_rest c)
+  atype_ends_here : (b : Bool) (c : AtypeWhere) (a : WAtype) → ReachesText b (inside (had_atype c a)) (atype_rest c)
   atype_ends_here b (in_type c) a =
       ends_same b (inside (behind_atype c a)) (type_ended c (only a) (type_letter c) 0) (atype_rest (in_type c)) (type_rest c)
       (goes b (behind_atype c a) (type_letter c) 0 (type_rest c) ∙ ap (λ (s : State). run b s (type_rest c)) (type_ends b c a (type_letter c) 0 (type_letter_ends c))) (type_ends_here b c (only a))
@@ -148,13 +148,13 @@ some_type = sort_name (codes "x") 0
 abbrev some_term : WTerm
 some_term = atoms (plain_name (codes "x") 0) no_atoms
 
-rule_of : (b : Bool) (u : RuleStart) (metas : WDeclared) → Ends b (left_of u metas 0) sides
+rule_of : (b : Bool) (u : RuleStart) (metas : WDeclared) → ReachesText b (left_of u metas 0) sides
 rule_of b u metas = (with_rule (record { start = u; metas = metas; close_at = 0 }) some_term 0 some_term 0, refl)
 
-meta_of : (b : Bool) (m : MetaStart) (colon_at : ℕ) → Ends b (inside (meta_colon m colon_at)) (some_name ∷ mark (codes "}") 0 ∷ sides)
+meta_of : (b : Bool) (m : MetaStart) (colon_at : ℕ) → ReachesText b (inside (meta_colon m colon_at)) (some_name ∷ mark (codes "}") 0 ∷ sides)
 meta_of b m colon_at = rule_of b m.start (all_metas m.before (the_meta m colon_at no_brackets (only some_type)))
 
-pub place_ends : (b : Bool) (p : Place) → Ends b (inside p) (finish p)
+pub place_ends : (b : Bool) (p : Place) → ReachesText b (inside p) (finish p)
 place_ends b (behind_sort ss at) = (record { sorts = ss ++ record { at = at; name = codes "x"; name_at = 0; end_at = 0 } ∷ []; funs = []; rules = [] }, refl)
 place_ends b (sort_named ss at x x_at) = (record { sorts = ss ++ record { at = at; name = x; name_at = x_at; end_at = 0 } ∷ []; funs = []; rules = [] }, refl)
 place_ends b (behind_fun ss fs at) = (with_fun (record { sorts = ss; funs = fs; at = at; name = codes "x"; name_at = 0; colon_at = 0 }) (only some_type) 0, refl)

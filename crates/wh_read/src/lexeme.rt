@@ -72,34 +72,21 @@ fn keyword(bytes: &[u8]) -> Option<Lexeme>
 fn sign(bytes: &[u8]) -> Option<Lexeme>
     ensures { option_map letter result ≡ sign_lexeme bytes.now }
 {
-    if bytes == b"\\".as_slice() {
-        Some(Lexeme::Backslash)
-    } else if bytes == b":".as_slice() {
-        Some(Lexeme::Colon)
-    } else if bytes == b".".as_slice() {
-        Some(Lexeme::Dot)
-    } else if bytes == b";".as_slice() {
-        Some(Lexeme::Semicolon)
-    } else if bytes == b",".as_slice() {
-        Some(Lexeme::Comma)
-    } else if bytes == b"(".as_slice() {
-        Some(Lexeme::OpenParen)
-    } else if bytes == b")".as_slice() {
-        Some(Lexeme::CloseParen)
-    } else if bytes == b"[".as_slice() {
-        Some(Lexeme::OpenBracket)
-    } else if bytes == b"]".as_slice() {
-        Some(Lexeme::CloseBracket)
-    } else if bytes == b"{".as_slice() {
-        Some(Lexeme::OpenBrace)
-    } else if bytes == b"}".as_slice() {
-        Some(Lexeme::CloseBrace)
-    } else if bytes == b"->".as_slice() {
-        Some(Lexeme::ThinArrow)
-    } else if bytes == b"=>".as_slice() {
-        Some(Lexeme::ThickArrow)
-    } else {
-        None
+    match bytes {
+        [b'\\'] => Some(Lexeme::Backslash),
+        [b':'] => Some(Lexeme::Colon),
+        [b'.'] => Some(Lexeme::Dot),
+        [b';'] => Some(Lexeme::Semicolon),
+        [b','] => Some(Lexeme::Comma),
+        [b'('] => Some(Lexeme::OpenParen),
+        [b')'] => Some(Lexeme::CloseParen),
+        [b'['] => Some(Lexeme::OpenBracket),
+        [b']'] => Some(Lexeme::CloseBracket),
+        [b'{'] => Some(Lexeme::OpenBrace),
+        [b'}'] => Some(Lexeme::CloseBrace),
+        [b'-', b'>'] => Some(Lexeme::ThinArrow),
+        [b'=', b'>'] => Some(Lexeme::ThickArrow),
+        _ => None,
     }
 }
 

@@ -90,15 +90,15 @@ pub count_push : (k y : ℕ) (xs : List ℕ) → count_of k (xs ++ y ∷ []) ≡
 count_push k y xs = sum_by_push (λ x. cond (eqb x k) 1 0) xs y
 
 -- the lists, when clause k moves from the list `old` to the list `new`
-abbrev pub moved : List (List ℕ) → ℕ → ℕ → ℕ → ℕ → List (List ℕ)
-moved lists new old at k = let more = set lists new (get_or lists new [] ++ k ∷ []) in set more old (swap_remove (get_or more old []) at k)
+abbrev pub rewatched : List (List ℕ) → ℕ → ℕ → ℕ → ℕ → List (List ℕ)
+rewatched lists new old at k = let more = set lists new (get_or lists new [] ++ k ∷ []) in set more old (swap_remove (get_or more old []) at k)
 
-pub listed_new : (lists : List (List ℕ)) (new old at k : ℕ) → new < length lists → new ≢ old → 0 < count_of k (get_or (moved lists new old at k) new [])
+pub listed_new : (lists : List (List ℕ)) (new old at k : ℕ) → new < length lists → new ≢ old → 0 < count_of k (get_or (rewatched lists new old at k) new [])
 listed_new lists new old at k w u =
     let more = set lists new (get_or lists new [] ++ k ∷ []) in
     rw (get_or-set_other more old new (swap_remove (get_or more old []) at k) [] u, get_or-set_same lists new (get_or lists new [] ++ k ∷ []) [] w, count_push k k (get_or lists new []), is_one k k refl) (omega arith)
 
-pub listed_other : (lists : List (List ℕ)) (new old at k c : ℕ) → new < length lists → c ≢ old → (j : ℕ) → 0 < count_of j (get_or lists c []) → 0 < count_of j (get_or (moved lists new old at k) c [])
+pub listed_other : (lists : List (List ℕ)) (new old at k c : ℕ) → new < length lists → c ≢ old → (j : ℕ) → 0 < count_of j (get_or lists c []) → 0 < count_of j (get_or (rewatched lists new old at k) c [])
 listed_other lists new old at k c w u j h =
     let more = set lists new (get_or lists new [] ++ k ∷ []) in
     rw (get_or-set_other more old c (swap_remove (get_or more old []) at k) [] u)
@@ -107,7 +107,7 @@ listed_other lists new old at k c w u j h =
       | inr other ↦ rw (get_or-set_other lists new c (get_or lists new [] ++ k ∷ []) [] other) h
     ])
 
-pub listed_old : (lists : List (List ℕ)) (new old at k : ℕ) → old < length lists → new ≢ old → at < length (get_or lists old []) → get_or (get_or lists old []) at 0 ≡ k → (j : ℕ) → j ≢ k → 0 < count_of j (get_or lists old []) → 0 < count_of j (get_or (moved lists new old at k) old [])
+pub listed_old : (lists : List (List ℕ)) (new old at k : ℕ) → old < length lists → new ≢ old → at < length (get_or lists old []) → get_or (get_or lists old []) at 0 ≡ k → (j : ℕ) → j ≢ k → 0 < count_of j (get_or lists old []) → 0 < count_of j (get_or (rewatched lists new old at k) old [])
 listed_old lists new old at k w u wa is j jk h =
     let more = set lists new (get_or lists new [] ++ k ∷ []) in
     let e : get_or more old [] ≡ get_or lists old [] = get_or-set_other lists new old (get_or lists new [] ++ k ∷ []) [] (λ q. u (sym q)) in
@@ -126,9 +126,9 @@ code_inj a b e =
     let r = code_same a.variable b.variable a.positive b.positive e in
     ap (λ n. let r : Literal = record { variable = n; positive = a.positive } in r) r.0 ∙ ap (λ q. let r : Literal = record { variable = b.variable; positive = q } in r) r.1
 
-listed_rest : (lists : List (List ℕ)) (new old at k j : ℕ) (a : Literal) → new < length lists → old < length lists → new ≢ old → at < length (get_or lists old []) → get_or (get_or lists old []) at 0 ≡ k → j ≢ k → Listed lists a j → Listed (moved lists new old at k) a j
+listed_rest : (lists : List (List ℕ)) (new old at k j : ℕ) (a : Literal) → new < length lists → old < length lists → new ≢ old → at < length (get_or lists old []) → get_or (get_or lists old []) at 0 ≡ k → j ≢ k → Listed lists a j → Listed (rewatched lists new old at k) a j
 listed_rest lists new old at k j a wn wo u wa is jk h = elim (cases_eq (code_of a) old) [
-  | inl same ↦ subst (λ q. 0 < count_of j (get_or (moved lists new old at k) q [])) (sym same) (listed_old lists new old at k wo u wa is j jk (subst (λ q. 0 < count_of j (get_or lists q [])) same h))
+  | inl same ↦ subst (λ q. 0 < count_of j (get_or (rewatched lists new old at k) q [])) (sym same) (listed_old lists new old at k wo u wa is j jk (subst (λ q. 0 < count_of j (get_or lists q [])) same h))
   | inr other ↦ listed_other lists new old at k (code_of a) wn other j h
 ]
 
@@ -137,13 +137,13 @@ pub guarded_move : (clauses : List (List Literal)) (t : List Literal) (stops : L
     → k < length pairs → code_of new < length lists → code_of a < length lists → k < length clauses → get_or pairs k no_pair ≡ pair a b
     → Fails t a → member new (get_or clauses k []) ≡ true → new ≢ b → (Fails t new → ⊥)
     → at < length (get_or lists (code_of a) []) → get_or (get_or lists (code_of a) []) at 0 ≡ k
-    → Guarded clauses t stops head lists pairs short → Guarded clauses t stops head (moved lists (code_of new) (code_of a) at k) (set pairs k (pair new b)) short
+    → Guarded clauses t stops head lists pairs short → Guarded clauses t stops head (rewatched lists (code_of new) (code_of a) at k) (set pairs k (pair new b)) short
 guarded_move clauses t stops head lists pairs short k at a b new wp wn wo wk is_pair fails has other free wa is g =
     let old = code_of a in
     let u : code_of new ≢ old = λ e. free (subst (Fails t) (sym (code_inj new a e)) fails) in
     let gk : Guard t stops head lists (get_or clauses k []) k (pair a b) = subst (Guard t stops head lists (get_or clauses k []) k) is_pair (g.watched k wk (ap (λ p. p.watched) is_pair)) in
     let bu : code_of b ≢ old = λ e. gk.distinct (sym (code_inj b a e)) in
-    let mine : Guard t stops head (moved lists (code_of new) old at k) (get_or clauses k []) k (pair new b) = record {
+    let mine : Guard t stops head (rewatched lists (code_of new) old at k) (get_or clauses k []) k (pair new b) = record {
       first_in = has;
       second_in = gk.second_in;
       distinct = other;
@@ -155,12 +155,12 @@ guarded_move clauses t stops head lists pairs short k at a b new wp wn wo wk is_
     record {
       watched = λ j w e. elim (cases_eq j k) [
         | inl same ↦
-            let m1 = subst (Guard t stops head (moved lists (code_of new) old at k) (get_or clauses k []) k) (sym (get_or-set_same pairs k (pair new b) no_pair wp)) mine in
-            subst (λ q. Guard t stops head (moved lists (code_of new) old at k) (get_or clauses q []) q (get_or (set pairs k (pair new b)) q no_pair)) (sym same) m1
+            let m1 = subst (Guard t stops head (rewatched lists (code_of new) old at k) (get_or clauses k []) k) (sym (get_or-set_same pairs k (pair new b) no_pair wp)) mine in
+            subst (λ q. Guard t stops head (rewatched lists (code_of new) old at k) (get_or clauses q []) q (get_or (set pairs k (pair new b)) q no_pair)) (sym same) m1
         | inr u2 ↦
             let kept = get_or-set_other pairs k j (pair new b) no_pair u2 in
             let gj = g.watched j w (ap (λ p. p.watched) (sym kept) ∙ e) in
-            let r : Guard t stops head (moved lists (code_of new) old at k) (get_or clauses j []) j (get_or pairs j no_pair) = record {
+            let r : Guard t stops head (rewatched lists (code_of new) old at k) (get_or clauses j []) j (get_or pairs j no_pair) = record {
               first_in = gj.first_in;
               second_in = gj.second_in;
               distinct = gj.distinct;
@@ -169,7 +169,7 @@ guarded_move clauses t stops head lists pairs short k at a b new wp wn wo wk is_
               here = gj.here;
               past = gj.past;
             } in
-            subst (Guard t stops head (moved lists (code_of new) old at k) (get_or clauses j []) j) (sym kept) r
+            subst (Guard t stops head (rewatched lists (code_of new) old at k) (get_or clauses j []) j) (sym kept) r
       ];
       others = λ j w e. elim (cases_eq j k) [
         | inl same ↦ absurd (grind (arith, tests, ap (λ p. p.watched) (sym (get_or-set_same pairs k (pair new b) no_pair wp)), subst (λ q. (get_or (set pairs k (pair new b)) q no_pair).watched ≡ false) same e))

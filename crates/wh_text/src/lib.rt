@@ -11,6 +11,6 @@ mod token;
 pub use cut::tokens;
 pub use laws::one_cut;
 pub use name::Name;
-pub use print::{print_number, print_part, print_raw, print_term, print_type};
+pub use print::{print_number, print_part, print_raw, print_term};
 pub use raw::{RawBinder, RawTerm, RawTerms, RawType, RawTypes};
 pub use token::{TextFault, Token, TokenKind, Tokens};

@@ -4,7 +4,7 @@
 ghost use Rattle.std.specs.Prelude.{◌≡◌, [], ◌∷◌, ◌++◌, IfOk, OnOk};
 ghost use Rattle.std.specs.Fmt.{decimal};
 ghost use Rattle.wh_text.specs.Pushes.{Pushes};
-ghost use Rattle.wh_text.specs.Spelling.{put_type, put_part, put_arguments, put_binder, put_term, put_each, put_bracketed, spelled};
+ghost use Rattle.wh_text.specs.Spelling.{put_part, put_arguments, put_binder, put_term, put_each, put_bracketed, spelled};
 ghost use Rattle.wh_text.specs.Erase.{rty, rtys, rbinder, rtm, rtms};
 
 use crate::raw::{RawBinder, RawTerm, RawTerms, RawType, RawTypes};
@@ -19,14 +19,6 @@ pub fn print_number(out: &mut Bytes, n: u32) -> Result<(), AllocError>
         print_number(out, n / 10)?;
     }
     out.push(b'0' + (n % 10) as u8)
-}
-
-/// Appends the spelling of a type.
-pub fn print_type(out: &mut Bytes, raw: &RawType) -> Result<(), AllocError>
-    ensures { OnOk result (Pushes out.old out.new (put_type (rty raw.now))) }
-{
-    print_types(out, &raw.args)?;
-    out.append(raw.sort.bytes())
 }
 
 /// Appends the spelling of a type as a part of something else, with a functional type in parentheses.

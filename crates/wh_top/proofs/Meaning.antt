@@ -29,7 +29,7 @@ use Rattle.wh_prover.proofs.LoopLemmas.{loop_is_valid}
 use Rattle.wh_top.specs.Proving.{IsFoundText, ShowsFound, StandsForSearch}
 use Rattle.wh_top.specs.Generating.{StandsForGenerated}
 use Rattle.wh_top.specs.Texts.{Tells}
-use Rattle.wh_top.specs.Run.{Answers, Ends, MeansYes, MeansNo, Replies, SaysNo}
+use Rattle.wh_top.specs.Run.{Answers, EndsWith, MeansYes, MeansNo, Replies, SaysNo}
 
 -- a system that is read and has a valid YES certificate
 pub yes_means : (system : List ℕ) (d : SystemData) (ps : List PairData) (c : Cert) → Reads system d → HasPairs d ps → IsYes c
@@ -99,7 +99,7 @@ some_same a b e = cc
 
 -- what was written is a front part of the text
 output_front : (old new : Option (List ℕ)) (f g : ℕ) (status result : Status) (before text output : List ℕ)
-    → Ends old new f g status text result → old ≡ Some before → new ≡ Some (before ++ output) → (back : List ℕ) × (text ≡ output ++ back)
+    → EndsWith old new f g status text result → old ≡ Some before → new ≡ Some (before ++ output) → (back : List ℕ) × (text ≡ output ++ back)
 output_front old new f g status result before text output (inl (same, wrote, faults)) e h =
     let both = some_same (before ++ text) (before ++ output) (sym (wrote before e) ∙ h) in
     ([], append_cancel_left before text output both ∙ sym (append-nil output))
@@ -163,7 +163,7 @@ same_no (no term steps at puts) is = tt
 
 -- an output that begins with YES means what it says
 pub termination : (s : Shelves) (words : List (List ℕ)) (status : Status) (text : List ℕ) (old new : Option (List ℕ)) (f g : ℕ)
-    (result : Status) → Answers s words status text → Ends old new f g status text result
+    (result : Status) → Answers s words status text → EndsWith old new f g status text result
     → (before output : List ℕ) → old ≡ Some before → new ≡ Some (before ++ output) → BeginsWith (codes "YES") output
     → (file : List ℕ) × AsksWhether words file × Told (s.held file) MeansYes
 termination s words status text old new f g result answers ends before output e h (rest, begins) =
@@ -186,7 +186,7 @@ termination s words status text old new f g result answers ends before output e 
 
 -- an output that begins with NO means what it says
 pub non_termination : (s : Shelves) (words : List (List ℕ)) (status : Status) (text : List ℕ) (old new : Option (List ℕ)) (f g : ℕ)
-    (result : Status) → Answers s words status text → Ends old new f g status text result
+    (result : Status) → Answers s words status text → EndsWith old new f g status text result
     → (before output : List ℕ) → old ≡ Some before → new ≡ Some (before ++ output) → BeginsWith (codes "NO") output
     → SaysNo s words output
 non_termination s words status text old new f g result answers ends before output e h (rest, begins) =

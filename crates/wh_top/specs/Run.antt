@@ -64,8 +64,8 @@ Answers s words status text = Served s words status text ⊎ Misspoken words sta
 
 -- all of the text was written, and the run ends with the status; or the sink's faults rose, a front part of the text was
 -- written, and the run ends with a write fault. Nothing else is written.
-abbrev pub Ends : Option (List ℕ) → Option (List ℕ) → ℕ → ℕ → Status → List ℕ → Status → Type 0
-Ends old new before now status text result =
+abbrev pub EndsWith : Option (List ℕ) → Option (List ℕ) → ℕ → ℕ → Status → List ℕ → Status → Type 0
+EndsWith old new before now status text result =
     ((result ≡ status) × Wrote old new text × (now ≡ before)) ⊎ ((result ≡ WriteFault) × WroteFront old new text × Rose before now)
 
 -- what YES means of the bytes of the system file: they are a text of one system, and each well-typed term of it has a number

@@ -21,7 +21,7 @@ use wh_pairs::PairList;
 use wh_prover::{Answer, Options, prove};
 use wh_system::System;
 use wh_text::print_number;
-use wh_types::{Bytes, Or};
+use wh_types::{Bytes, Or, counted};
 
 /// The bounds of the search.
 const USUAL: Options = Options {
@@ -44,18 +44,28 @@ pub fn generated(alloc: Global, n: u32) -> Result<Bytes, Or<Report>>
     ensures { MatchOr result (ShowsGenerated n Answered) (StandsForGenerated n) }
 {
     let system = made(alloc, n)?;
-    let pairs = pairs_of(alloc, &system)?;
-    let outcome = searched(alloc, &system, &pairs)?;
-    let rules = counted(system.rules().len())?;
-    let count = counted(pairs.as_slice().len())?;
-    Ok(lines(alloc, n, rules, count, &outcome)?)
+    answered(alloc, n, &system)
 }
 
-// A length as a number of 32 bits; one beyond them would count more than memory holds, and is told as want of memory.
-fn counted(length: usize) -> Result<u32, AllocError>
-    ensures { IfOk result (λ number. number ≡ length) }
+// The same of the system.
+fn answered(alloc: Global, n: u32, system: &System) -> Result<Bytes, Or<Report>>
+    requires { system_data system.now ≡ gen_data n }
+    ensures { MatchOr result (ShowsGenerated n Answered) (StandsForGenerated n) }
 {
-    u32::try_from(length).or(Err(AllocError))
+    let pairs = pairs_of(alloc, system)?;
+    Ok(shown(alloc, n, system, &pairs)?)
+}
+
+// The same of the system and its pairs.
+fn shown(alloc: Global, n: u32, system: &System, pairs: &PairList) -> Result<Bytes, AllocError>
+    requires system { system_data system.now ≡ gen_data n }
+    requires pairs { HasPairs (system_data system.now) (pairs_data pairs.now) }
+    ensures { IfOk result (ShowsGenerated n Answered) }
+{
+    let rules = counted(system.rules().len())?;
+    let count = counted(pairs.as_slice().len())?;
+    let outcome = searched(alloc, system, pairs)?;
+    lines(alloc, n, rules, count, &outcome)
 }
 
 // The generated system.

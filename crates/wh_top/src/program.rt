@@ -6,7 +6,7 @@ ghost use Rattle.wh_words.specs.Words.{Asks};
 ghost use Rattle.wh_answer.specs.Texts.{report_text};
 ghost use Rattle.wh_answer.specs.declared.report.Report.TheVariants.{OutOfMemory};
 ghost use Rattle.wh_top.specs.Outcomes.{BeginsWith, Told, outside};
-ghost use Rattle.wh_top.specs.Run.{Answers, Ends, MeansYes, Replies, SaysNo};
+ghost use Rattle.wh_top.specs.Run.{Answers, EndsWith, MeansYes, Replies, SaysNo};
 ghost use Rattle.wh_top.specs.Texts.{status_of};
 ghost use Rattle.wh_top.specs.Words.{AsksWhether, options_of};
 ghost use Rattle.wh_top.specs.declared.status.Status.TheVariants.{Answered};
@@ -30,7 +30,7 @@ use wh_words::{Command, Limits, read_words};
 pub fn run<S: Shelf, K: Sink>(alloc: Global, words: &[String], shelf: &mut S, out: &mut K) -> Status
     ensures answer { (status : Status) × (text : List ℕ)
         × Answers (outside (S.held shelf.old) (S.faults shelf.old) (S.faults shelf.new)) (map string_bytes words.now) status text
-        × Ends (K.written out.old) (K.written out.new) (K.faults out.old) (K.faults out.new) status text result }
+        × EndsWith (K.written out.old) (K.written out.new) (K.faults out.old) (K.faults out.new) status text result }
     ensures termination { (before output : List ℕ) → K.written out.old ≡ Some before → K.written out.new ≡ Some (before ++ output)
         → BeginsWith (codes "YES") output
         → (file : List ℕ) × AsksWhether (map string_bytes words.now) file × Told (S.held shelf.old file) MeansYes }
@@ -50,7 +50,7 @@ pub fn run<S: Shelf, K: Sink>(alloc: Global, words: &[String], shelf: &mut S, ou
 
 /// Ends a run for want of memory: writes `OUT OF MEMORY`, without taking any.
 pub fn report_no_memory<K: Sink>(out: &mut K) -> Status
-    ensures { Ends (K.written out.old) (K.written out.new) (K.faults out.old) (K.faults out.new) Status.NoMemory
+    ensures { EndsWith (K.written out.old) (K.written out.new) (K.faults out.old) (K.faults out.new) Status.NoMemory
         (report_text OutOfMemory) result }
 {
     tell(out, Status::NoMemory, out_of_memory_line())
@@ -72,25 +72,25 @@ fn reply_to<S: Shelf>(alloc: Global, shelf: &mut S, command: &Command) -> Result
 {
     match command {
         Command::Check { file, cert } => match check_files(alloc, shelf, file, cert) {
-            Ok(report) | Err(Or::Because(report)) => told(alloc, &report),
+            Ok(report) | Err(Or::Because(report)) => told(alloc, report),
             Err(Or::NoMemory) => Err(AllocError),
         },
         Command::Prove { file, limits } => {
             let options = options_of(limits);
             match prove_file(alloc, shelf, file, &options) {
                 Ok(text) => Ok(answered(text)),
-                Err(Or::Because(report)) => told(alloc, &report),
+                Err(Or::Because(report)) => told(alloc, report),
                 Err(Or::NoMemory) => Err(AllocError),
             }
         }
         Command::Show { file } => match show_file(alloc, shelf, file) {
             Ok(text) => Ok(answered(text)),
-            Err(Or::Because(report)) => told(alloc, &report),
+            Err(Or::Because(report)) => told(alloc, report),
             Err(Or::NoMemory) => Err(AllocError),
         },
         Command::Gen { n } => match generated(alloc, *n) {
             Ok(text) => Ok(answered(text)),
-            Err(Or::Because(report)) => told(alloc, &report),
+            Err(Or::Because(report)) => told(alloc, report),
             Err(Or::NoMemory) => Err(AllocError),
         },
     }
@@ -118,8 +118,16 @@ fn answered(text: Bytes) -> Reply
     }
 }
 
-// The reply that tells an answer.
-fn told(alloc: Global, report: &Report) -> Result<Reply, AllocError>
+// The reply that tells an answer. That is dropped in here alone, since its many kinds make that long.
+fn told(alloc: Global, report: Report) -> Result<Reply, AllocError>
+    ensures status { IfOk result (λ reply. reply.status ≡ status_of report) }
+    ensures text { IfOk result (λ reply. reply.text ≡ report_text report) }
+{
+    reply_of(alloc, &report)
+}
+
+// The same of an answer that stays.
+fn reply_of(alloc: Global, report: &Report) -> Result<Reply, AllocError>
     ensures status { IfOk result (λ reply. reply.status ≡ status_of report.now) }
     ensures text { IfOk result (λ reply. reply.text ≡ report_text report.now) }
 {
@@ -131,7 +139,7 @@ fn told(alloc: Global, report: &Report) -> Result<Reply, AllocError>
 
 // Writes the text, and gives the status or that of a write fault.
 fn tell<K: Sink>(out: &mut K, status: Status, text: &[u8]) -> Status
-    ensures { Ends (K.written out.old) (K.written out.new) (K.faults out.old) (K.faults out.new) status text.now result }
+    ensures { EndsWith (K.written out.old) (K.written out.new) (K.faults out.old) (K.faults out.new) status text.now result }
 {
     match write_all_of(out, text) {
         Ok(()) => status,

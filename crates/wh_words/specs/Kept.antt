@@ -75,6 +75,14 @@ pub record Follows (words : List (List ℕ)) (items : List Item) (rest : List (L
 abbrev pub Knows : List (List ℕ) → List (List ℕ) → Kept → Type 0
 Knows words rest kept = (items : List Item) × Sums kept items × Follows words items rest
 
+-- whatever words were read up to this rest, they say nothing that can be kept (ours)
+abbrev pub LeadsNowhere : List (List ℕ) → Kept → Type 0
+LeadsNowhere rest kept = (words : List (List ℕ)) → Knows words rest kept → SayNone words
+
+-- whatever words were read up to the first rest, they are read up to the second one then (ours)
+abbrev pub LeadsTo : List (List ℕ) → Kept → List (List ℕ) → Kept → Type 0
+LeadsTo first old second new = (words : List (List ℕ)) → Knows words first old → Knows words second new
+
 -- the bounds are what is kept, or usual where nothing is (ours)
 pub record SetsAll (kept : Kept) (b : Bounds) : Type 0 where
   pub tries : b.tries ≡ unwrap_or kept.tries (usual tries)

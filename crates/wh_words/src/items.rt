@@ -1,7 +1,7 @@
 //! What the words behind the command say.
 
-ghost use Rattle.std.specs.Prelude.{ℕ, List, ◌≡◌, ◌≢◌, ◌≤◌, [], ◌∷◌, MatchOption, codes, length, map, string_bytes};
-ghost use Rattle.wh_words.specs.Kept.{Knows, SayNone};
+ghost use Rattle.std.specs.Prelude.{◌≡◌, ◌≢◌, ◌≤◌, [], ◌∷◌, MatchOption, codes, length, map, string_bytes};
+ghost use Rattle.wh_words.specs.Kept.{Knows, LeadsNowhere, LeadsTo, SayNone};
 
 use crate::kept::Kept;
 use crate::options::{is_plain, read_option};
@@ -25,9 +25,8 @@ pub fn read_items(words: &[String]) -> Option<Kept<'_>>
 // Keeps what the word says, which is an option's name where the next is its number; what stands behind is left.
 fn read_item<'a>(kept: &mut Kept<'a>, word: &'a str, behind: &'a [String]) -> Option<&'a [String]>
     requires { word.now ≢ codes "--" }
-    ensures read { MatchOption result
-        ((all : List (List ℕ)) → Knows all (word.now ∷ map string_bytes behind.now) kept.old → SayNone all)
-        (λ rest. (all : List (List ℕ)) → Knows all (word.now ∷ map string_bytes behind.now) kept.old → Knows all (map string_bytes rest.now) kept.new) }
+    ensures read { MatchOption result (LeadsNowhere (word.now ∷ map string_bytes behind.now) kept.old)
+        (λ rest. LeadsTo (word.now ∷ map string_bytes behind.now) kept.old (map string_bytes rest.now) kept.new) }
     ensures shorter { MatchOption result Unit (λ rest. length rest.now ≤ length behind.now) }
 {
     if is_plain(word) {

@@ -4,7 +4,7 @@ use Rattle.wh_terms.specs.Erase.{rewrite_rule}
 use Rattle.wh_laws.specs.Ranks.{rank_of}
 use Rattle.wh_system.specs.SystemView.{system_data}
 use Rattle.wh_access.specs.Passing.{EachUsed, Passes}
-use Rattle.wh_access.specs.Told.{IsFirstIn}
+use Rattle.wh_access.specs.Answered.{IsFirstIn}
 use Rattle.wh_access.proofs.CheckLemmas.{hold_next, hold_all, first_without}
 use Rattle.wh_access.proofs.MadeLemmas.{rule_here, few_metas, used_declared, left_nested}
 use Rattle.wh_access.proofs.check.check_ranks.Goals as goal

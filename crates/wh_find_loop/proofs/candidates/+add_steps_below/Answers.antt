@@ -2,7 +2,7 @@ use Rattle.std.proofs.Common.{◌≡◌, ◌++◌, ◌∷◌, [], ◌∙◌, ap,
 use Rattle.wh_types.specs.Erase.{ty}
 use Rattle.wh_terms.specs.Tree.{lam, app}
 use Rattle.wh_terms.specs.Erase.{tm, rewrite_rules}
-use Rattle.wh_find_loop.specs.Candidates.{ListsRootSteps}
+use Rattle.wh_find_loop.specs.StepLists.{ListsRootSteps}
 use Rattle.wh_find_loop.proofs.CandidateLemmas.{steps_of_app, steps_of_lam, steps_of_leaf, leaf_of, taken_off}
 use Rattle.wh_find_loop.proofs.candidates.+add_steps_below.Goals as goal
 

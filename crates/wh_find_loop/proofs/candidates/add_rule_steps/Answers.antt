@@ -1,7 +1,7 @@
 use Rattle.std.proofs.Common.{◌<◌, length, subst, arith}
 use Rattle.std.proofs.lemmas.List.{take_all, get_or_default}
 use Rattle.wh_terms.specs.Erase.{tm, rewrite_rules}
-use Rattle.wh_find_loop.specs.Candidates.{ListsRuleSteps}
+use Rattle.wh_find_loop.specs.StepLists.{ListsRuleSteps}
 use Rattle.wh_find_loop.proofs.CandidateLemmas.{rule_steps_next}
 use Rattle.wh_find_loop.proofs.candidates.add_rule_steps.Goals as goal
 

@@ -1,6 +1,6 @@
 use Rattle.std.proofs.Common.{take}
 use Rattle.wh_terms.specs.Erase.{tm, rewrite_rules}
-use Rattle.wh_find_loop.specs.Candidates.{KeepsSteps, ListsRuleSteps}
+use Rattle.wh_find_loop.specs.StepLists.{KeepsSteps, ListsRuleSteps}
 use Rattle.wh_find_loop.proofs.candidates.add_rule_steps.Given as goal
 
 abbrev pub invariant-loop-number : goal.invariant-loop-number

@@ -4,7 +4,7 @@ use Rattle.wh_terms.specs.Tree.{Tm}
 use Rattle.wh_terms.specs.Erase.{tm, rewrite_rules}
 use Rattle.wh_terms.specs.declared.path.Step as taken
 use Rattle.wh_step.specs.Roots.{BetaStep}
-use Rattle.wh_find_loop.specs.Candidates.{Lists, KeepsSteps, ListsRuleSteps, ListsRootSteps}
+use Rattle.wh_find_loop.specs.StepLists.{Lists, KeepsSteps, ListsRuleSteps, ListsRootSteps}
 use Rattle.wh_find_loop.proofs.CandidateLemmas.{root_steps, on_both}
 use Rattle.wh_find_loop.proofs.candidates.add_steps_here.Goals as goal
 use Rattle.wh_find_loop.proofs.candidates.add_steps_here.Goals.{then-is_beta_redex+in_ok-path+in_ok-push, else-is_beta_redex}

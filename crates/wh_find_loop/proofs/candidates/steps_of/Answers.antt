@@ -2,7 +2,7 @@ use Rattle.std.proofs.Common.{◌++◌, subst}
 use Rattle.wh_terms.specs.Erase.{tm}
 use Rattle.wh_step.proofs.PlaceLemmas.{plain_whole}
 use Rattle.wh_step.proofs.RootLaws.{at_of_step}
-use Rattle.wh_find_loop.specs.Candidates.{Lists}
+use Rattle.wh_find_loop.specs.StepLists.{Lists}
 use Rattle.wh_find_loop.proofs.candidates.steps_of.Goals as goal
 
 pub add_steps_below-requires-clause-plain : goal.add_steps_below-requires-clause-plain

@@ -3,7 +3,7 @@ use Rattle.std.proofs.lemmas.List.{map-id}
 use Rattle.std.proofs.lemmas.Iterator.Adapters.{YieldsList-from_vec}
 use Rattle.std.proofs.lemmas.Iterator.Consumers.{YieldsList-end}
 use Rattle.wh_system.specs.SystemView.{system_data}
-use Rattle.wh_find_loop.specs.Candidates.{ListsAllSteps}
+use Rattle.wh_find_loop.specs.StepLists.{ListsAllSteps}
 use Rattle.wh_find_loop.specs.Listing.{tree, IsEntry, Tries, TriesOn}
 use Rattle.wh_find_loop.proofs.ListingLemmas.{here_at, all_here}
 use Rattle.wh_find_loop.proofs.SpaceLemmas.{shut_typed, plain_typed}

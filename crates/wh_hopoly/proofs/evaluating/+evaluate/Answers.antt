@@ -5,12 +5,12 @@ use Rattle.wh_types.specs.Erase.{ty}
 use Rattle.wh_types.specs.Outcome.{IfBecause}
 use Rattle.wh_hopoly.specs.Evaluation.{lambda, apply, codomain}
 use Rattle.wh_hopoly.specs.Outcomes.{PassesLimit}
-use Rattle.wh_hopoly.specs.Parts.{parts}
+use Rattle.wh_hopoly.specs.NumberedParts.{parts}
 use Rattle.wh_hopoly.specs.Replacements.{apply_at}
 use Rattle.wh_hopoly.specs.Scopes.{scope_of}
 use Rattle.wh_hopoly.specs.Valued.{readings, Yields, IsValueOf, IsFaultFrom}
 use Rattle.wh_hopoly.specs.Erase.{poly, expression}
-use Rattle.wh_hopoly.specs.Parts.{own_values}
+use Rattle.wh_hopoly.specs.NumberedParts.{own_values}
 use Rattle.wh_hopoly.specs.Excesses.{ExceedsAs}
 use Rattle.wh_hopoly.specs.Polynomials.{Polynomial}
 use Rattle.wh_hopoly.specs.declared.valued.Valued.{Valued}

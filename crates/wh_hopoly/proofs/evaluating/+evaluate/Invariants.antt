@@ -1,6 +1,6 @@
 -- A part is evaluated after the whole that it is a part of.
 use Rattle.std.proofs.Common.{◌+◌, ◌*◌}
-use Rattle.wh_hopoly.specs.Parts.{parts}
+use Rattle.wh_hopoly.specs.NumberedParts.{parts}
 use Rattle.wh_hopoly.specs.Erase.{expression}
 use Rattle.wh_hopoly.proofs.evaluating.+evaluate.Given as goal
 

@@ -9,7 +9,7 @@ use Rattle.wh_hopoly.specs.Arithmetic.{renumber}
 use Rattle.wh_hopoly.specs.Excesses.{ExceedsAs}
 use Rattle.wh_hopoly.specs.Evaluation.{one, symbol, apply, codomain}
 use Rattle.wh_hopoly.specs.Outcomes.{PassesLimit, IsFaultOf, applied_to}
-use Rattle.wh_hopoly.specs.Parts.{own_values}
+use Rattle.wh_hopoly.specs.NumberedParts.{own_values}
 use Rattle.wh_hopoly.specs.Replacements.{apply_at}
 use Rattle.wh_hopoly.specs.Valued.{Yields, IsValueOf, IsFaultFrom}
 use Rattle.wh_hopoly.specs.Erase.{poly, expression, interpretations}

@@ -2,7 +2,7 @@ use Rattle.std.proofs.Common.{rules, arith, sym, ap, refl, ◌∙◌, ◌≡◌,
 use Rattle.std.proofs.lemmas.Grind.{common_steps}
 use Rattle.std.proofs.lemmas.List.{get_or_read, length-set}
 use Rattle.wh_sat_trail.specs.Code.{code_of}
-use Rattle.wh_sat_trail.proofs.Guarding.{guarded_move, moved, code_below, swap_default}
+use Rattle.wh_sat_trail.proofs.Guarding.{guarded_move, rewatched, code_below, swap_default}
 use Rattle.wh_sat_trail.proofs.Rooms.{length-items}
 use Rattle.std.specs.List.{swap_remove}
 use Rattle.wh_sat_trail.proofs.trail.Trail.rewatch.Goals as goal
@@ -25,7 +25,7 @@ invariant_of-self-2 c =
     let ins : c.behind-self-2.inside.items.items ≡ get_or more old [] = c.behind-self-2.view_is ∙ get_or_read _ _ _ w c.index_mut-3.ensures.value [] ∙ ap (λ x. get_or x c.code-2.result []) e2 ∙ ap (λ x. get_or more x []) c.code-2.ensures in
     let full : 0 < length c.behind-self-2.inside.items.items = search rules in
     let e3 : c.swap_remove.new.self.items ≡ swap_remove (get_or more old []) a.at a.number = c.swap_remove.ensures.items ∙ swap_default c.behind-self-2.inside.items.items a.at _ a.number full ∙ ap (λ xs. swap_remove xs a.at a.number) ins in
-    let e4 : set (set s.lists.items c.code.result c.push.new.self.items) c.code-2.result c.swap_remove.new.self.items ≡ moved s.lists.items (code_of a.new) old a.at a.number = rw (e2, e3, c.code-2.ensures) refl in
+    let e4 : set (set s.lists.items c.code.result c.push.new.self.items) c.code-2.result c.swap_remove.new.self.items ≡ rewatched s.lists.items (code_of a.new) old a.at a.number = rw (e2, e3, c.code-2.ensures) refl in
     record {
       width = search rules;
       within = s.within;
