@@ -116,7 +116,7 @@ fn meta(alloc: Global) -> Result<RawTerm, AllocError> {
 /// An abstraction whose binder has a name, which no canonical tree has.
 fn abstraction(alloc: Global) -> Result<RawTerm, AllocError> {
     let body = Box::new(alloc, meta(alloc)?)?;
-    let kind = function(alloc)?;
+    let kind = Box::new(alloc, function(alloc)?)?;
     Ok(RawTerm::Lam(RawBinder::Named(Name::new(alloc, b"x")?), kind, body, 0))
 }
 

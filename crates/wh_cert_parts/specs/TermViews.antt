@@ -16,7 +16,7 @@ use Rattle.wh_cert_parts.specs.declared.term_reader.TermStep.TheVariants.{Goes, 
 abbrev pub framed : Frame → m.Stack → m.Stack
 framed Head fs = m.in_head fs
 framed (Spine head args) fs = m.in_spine (rtm head.value) (rtms args) fs
-framed (Body n a) fs = m.in_body n (rty a) fs
+framed (Body n a) fs = m.in_body n (rty a.value) fs
 
 -- the open parentheses of the list, from the outermost on, inside those given
 abbrev pub framed_in : m.Stack → List Frame → m.Stack

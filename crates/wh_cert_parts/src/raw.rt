@@ -25,10 +25,10 @@ pub fn sort(alloc: Global, name: Name) -> Result<RawType, AllocError>
 pub fn abstraction(
     alloc: Global,
     number: u32,
-    kind: RawType,
+    kind: Box<RawType>,
     body: RawTerm,
 ) -> Result<RawTerm, AllocError>
-    ensures { IfOk result (λ term. rtm term ≡ lam (numbered_binder number) (rty kind) (rtm body) 0) }
+    ensures { IfOk result (λ term. rtm term ≡ lam (numbered_binder number) (rty kind.value) (rtm body) 0) }
 {
     Ok(RawTerm::Lam(RawBinder::Numbered(number), kind, Box::new(alloc, body)?, 0))
 }

@@ -31,7 +31,7 @@ pub enum Frame {
     /// Of a spine, with its head and the arguments that have ended.
     Spine(Box<RawTerm>, RawTerms),
     /// Of an abstraction, with its binder.
-    Body(u32, RawType),
+    Body(u32, Box<RawType>),
 }
 
 /// What a type is read for: a free variable or a binder with this number.
@@ -335,12 +335,15 @@ fn end_type(
         (type_ended (rty kind) byte)) }
 {
     match of {
-        Typed::Variable(number) => end_term(alloc, stack, RawTerm::Free(number, kind, 0), byte),
+        Typed::Variable(number) => {
+            let variable = RawTerm::Free(number, Box::new(alloc, kind)?, 0);
+            end_term(alloc, stack, variable, byte)
+        }
         Typed::Binder(number) => {
             if byte != b'.' {
                 return Ok(TermStep::Wrong);
             }
-            open_term(stack, Frame::Body(number, kind))?;
+            open_term(stack, Frame::Body(number, Box::new(alloc, kind)?))?;
             Ok(TermStep::Goes(TermPlace::Wanted))
         }
     }
@@ -415,11 +418,11 @@ fn end_argument(
 fn end_body(
     alloc: Global,
     number: u32,
-    kind: RawType,
+    kind: Box<RawType>,
     term: RawTerm,
     byte: u8,
 ) -> Result<TermStep, AllocError>
-    ensures { IfOk result (λ next. (fs : List Frame) → term_went fs next ≡ after (in_body number (rty kind) (term_stack fs)) (rtm term)
+    ensures { IfOk result (λ next. (fs : List Frame) → term_went fs next ≡ after (in_body number (rty kind.value) (term_stack fs)) (rtm term)
         byte) }
 {
     if byte != b')' {

@@ -17,4 +17,4 @@ pub use laws::{
     valid_certificates_have_no_fault, valid_or_at_fault,
 };
 pub use rejected::{CheckFault, NodeFault, Rejected};
-pub use sets::{kept, numbers_below, set_of};
+pub use sets::{kept, numbers_below, open_blocks};

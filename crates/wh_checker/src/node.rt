@@ -1,6 +1,6 @@
 //! One node of a YES certificate: its conditions, and the sets that it leaves.
 
-ghost use Rattle.std.specs.Prelude.{◌≡◌, ◌≢◌, [], ◌∷◌, ◌++◌, ◌<◌, All, List, MatchResult, OnOk, ℕ, length, map, reverse};
+ghost use Rattle.std.specs.Prelude.{◌≡◌, ◌≢◌, [], ◌∷◌, ◌++◌, ◌<◌, All, List, MatchResult, OnOk, length, map, reverse};
 ghost use Rattle.wh_types.specs.Outcome.{IfBecause, MatchOr};
 ghost use Rattle.wh_pairs.specs.Views.{pairs_data};
 ghost use Rattle.wh_system.specs.SystemView.{system_data};
@@ -10,7 +10,6 @@ ghost use Rattle.wh_hopoly.specs.Erase.{interpretations};
 ghost use Rattle.wh_polycheck.specs.SideResults.{marks_of};
 ghost use Rattle.wh_meaning.specs.Covering.{HaveTypedSides};
 ghost use Rattle.wh_covering.specs.CoveringFaults.{with_limits};
-ghost use Rattle.wh_nodes.specs.Nodes.{AreSetsOf};
 ghost use Rattle.wh_checker.specs.Faults.{IsNodeFault, IsSubtermFault, SayCovering};
 ghost use Rattle.wh_checker.specs.Walk.{GoesOn, IsReduced, IsSingle};
 ghost use Rattle.wh_checker.specs.declared.rejected.NodeFault.TheVariants.{NotEmpty};
@@ -18,7 +17,7 @@ ghost use Rattle.wh_checker.specs.declared.rejected.NodeFault.TheVariants.{NotEm
 use crate::choices::choices_of;
 use crate::interpretations::{marks_of_set, symbols_of};
 use crate::rejected::NodeFault;
-use crate::sets::{kept, set_of};
+use crate::sets::{kept, open_blocks};
 use std::alloc::{AllocError, Global};
 use wh_cert::{Arg, Node, PolyNode};
 use wh_covering::check_covering;
@@ -28,7 +27,7 @@ use wh_pairs::{Pair, PairList, PairSet};
 use wh_polycheck::MarkedSymbol;
 use wh_subterm::{SubtermFault, check_projection};
 use wh_system::System;
-use wh_types::{Numbers, Or};
+use wh_types::Or;
 
 /// Whether the conditions of the node hold of the set, and no value exceeds a limit. Then what it leaves to be proved comes on top of the stack, the
 /// first of it on top.
@@ -95,21 +94,6 @@ fn check_alone(system: &System, pairs: &[Pair], set: &[u32]) -> Result<(), Or<No
     let pair = &pairs[set[0] as usize];
     if may_follow(system, pair, pair) {
         return Err(Or::Because(NodeFault::Loops { pair: set[0] }));
-    }
-    Ok(())
-}
-
-// Puts the sets of the blocks on the stack, the first on top.
-fn open_blocks(
-    alloc: Global,
-    blocks: &[Numbers],
-    stack: &mut Vec<PairSet>,
-) -> Result<(), AllocError>
-    ensures { OnOk result ((sets : List (List ℕ)) × AreSetsOf blocks.now sets
-        × (reverse stack.new.items ≡ sets ++ reverse stack.old.items)) }
-{
-    for i in (0..blocks.len()).rev() {
-        stack.push(set_of(alloc, blocks[i].as_slice())?)?;
     }
     Ok(())
 }

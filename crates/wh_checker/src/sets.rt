@@ -1,11 +1,12 @@
 //! Sets of pairs, made from lists of their numbers.
 
-ghost use Rattle.std.specs.Prelude.{◌≡◌, ◌↔◌, ◌<◌, ℕ, All, Contains, IfOk, IsTrue};
+ghost use Rattle.std.specs.Prelude.{◌≡◌, ◌↔◌, ◌<◌, ◌++◌, ℕ, All, Contains, IfOk, IsTrue, List, OnOk, reverse};
 ghost use Rattle.std.specs.List.Sorted.{IsNonDecreasing};
-ghost use Rattle.wh_nodes.specs.Nodes.{IsKept, IsSetOf};
+ghost use Rattle.wh_nodes.specs.Nodes.{AreSetsOf, IsKept, IsSetOf};
 
 use std::alloc::{AllocError, Global};
 use wh_pairs::PairSet;
+use wh_types::Numbers;
 
 /// The set of the numbers below `count`.
 pub fn numbers_below(alloc: Global, count: u32) -> Result<PairSet, AllocError>
@@ -63,4 +64,19 @@ pub fn kept(alloc: Global, set: &PairSet, drop: &[u32]) -> Result<PairSet, Alloc
         }
     }
     Ok(rest)
+}
+
+/// Puts the sets of the blocks' numbers on the stack, that of the first block on top.
+pub fn open_blocks(
+    alloc: Global,
+    blocks: &[Numbers],
+    stack: &mut Vec<PairSet>,
+) -> Result<(), AllocError>
+    ensures { OnOk result ((sets : List (List ℕ)) × AreSetsOf blocks.now sets
+        × (reverse stack.new.items ≡ sets ++ reverse stack.old.items)) }
+{
+    for i in (0..blocks.len()).rev() {
+        stack.push(set_of(alloc, blocks[i].as_slice())?)?;
+    }
+    Ok(())
 }

@@ -17,7 +17,7 @@ use Rattle.wh_guesses.specs.Coefficients.{HaveCoefficients}
 use Rattle.wh_guesses.specs.Conditions.{Condition, IsCondition}
 use Rattle.wh_guesses.specs.Weighing.{Fails}
 use Rattle.wh_guesses.proofs.GuessLemmas.{guess_kinds}
-use Rattle.wh_guesses.proofs.PushLemmas.{all_members}
+use Rattle.wh_checker.proofs.SetLemmas.{all_from_members}
 use Rattle.wh_guesses.specs.Conditions.{HasNoInterpretation}
 use Rattle.wh_find_poly.specs.Answers.{IsSpent}
 use Rattle.wh_find_poly.specs.Bits.{bit_count}
@@ -53,7 +53,7 @@ among e enc k c ns is at x = (
 -- the numbers have first bits
 pub numbers_within : (e : Encoding) → IsEncoding e → (k : ℕ) (c : Condition) (ns : Vec ℕ) → IsCondition (system_of e).rules (pairs_of e) (set_of e) k c
     → slice_get e.numbers.items k ≡ Some ns → All (λ n. n + 1 < length e.first_bits.items) ns.items
-numbers_within e enc k c ns is at = all_members (λ n. n + 1 < length e.first_bits.items) ns.items (λ n found.
+numbers_within e enc k c ns is at = all_from_members (λ n. n + 1 < length e.first_bits.items) ns.items (λ n found.
     let within = reads_within (system_of e).symbols (system_of e).rules (pairs_of e) (set_of e) e.marked.now c n ((enc.numbers k c ns is at n).0 found) in
     omega (arith, within, enc.count))
 

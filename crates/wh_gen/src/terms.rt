@@ -59,8 +59,9 @@ pub fn image(alloc: Global, term: RawTerm) -> Result<RawTerm, AllocError>
 fn mapped(alloc: Global) -> Result<RawTerm, AllocError>
     ensures { IfOk result (λ raw. rtm raw ≡ raw_mapped) }
 {
+    let kind = Box::new(alloc, nat(alloc)?)?;
     let body = Box::new(alloc, image(alloc, RawTerm::Numbered(0, 0))?)?;
-    Ok(RawTerm::Lam(RawBinder::Numbered(0), nat(alloc)?, body, 0))
+    Ok(RawTerm::Lam(RawBinder::Numbered(0), kind, body, 0))
 }
 
 // The symbol of that name with its arguments.

@@ -23,7 +23,7 @@ use Rattle.wh_covering.proofs.Walks.{kinds_are, marks_are}
 use Rattle.wh_covering.proofs.CoverWalk.{set_sides}
 use Rattle.wh_guesses.specs.Space.{IsOfSpace}
 use Rattle.wh_guesses.specs.Guesses.{IsTask, IsReadSymbol, IsReadMark, IsGuess}
-use Rattle.wh_guesses.proofs.PushLemmas.{all_members}
+use Rattle.wh_checker.proofs.SetLemmas.{all_from_members}
 
 in_order : (symbols : List Interpretation) (f : ℕ) (a : Ty) → slice_get (map (λ (s : Interpretation). s.kind) symbols) f ≡ Some a
     → IsInterpretedAs symbols f a
@@ -34,13 +34,13 @@ in_order (s ∷ symbols) (suc f) a e = in_order symbols f a e
 module _ (S : Symbols) (rules : List RewriteRule) (pairs : List PairData) (set : List ℕ) (symbols : List Symbol) (marks : List MarkedSymbol)
     (guess : IsGuess S rules pairs set symbols marks) where
   pub guess_symbols : All (λ s. IsOfSpace (arguments s.kind) s.polynomial) (interpretations symbols)
-  guess_symbols = all_members (λ s. IsOfSpace (arguments s.kind) s.polynomial) (interpretations symbols) (λ s found.
+  guess_symbols = all_from_members (λ s. IsOfSpace (arguments s.kind) s.polynomial) (interpretations symbols) (λ s found.
       let at = place_of (interpretations symbols) s found in
       let u = unmap interpretation symbols at.0 s at.1 in
       subst (λ (s : Interpretation). IsOfSpace (arguments s.kind) s.polynomial) u.2 (All-contains IsReadSymbol symbols u.0 guess.symbols_read (contains_at symbols at.0 u.0 u.1)))
 
   pub guess_marks : All (λ m. IsOfSpace (marked_types S rules m.symbol) m.polynomial) (marks_of marks)
-  guess_marks = all_members (λ m. IsOfSpace (marked_types S rules m.symbol) m.polynomial) (marks_of marks) (λ m found.
+  guess_marks = all_from_members (λ m. IsOfSpace (marked_types S rules m.symbol) m.polynomial) (marks_of marks) (λ m found.
       let at = place_of (marks_of marks) m found in
       let u = unmap mark marks at.0 m at.1 in
       subst (λ (m : Mark). IsOfSpace (marked_types S rules m.symbol) m.polynomial) u.2 (All-contains (IsReadMark S rules) marks u.0 guess.marks_read (contains_at marks at.0 u.0 u.1)))
@@ -88,7 +88,7 @@ pub task_of : (S : Symbols) (rules : List RewriteRule) (pairs : List Pair) (set 
     → All (λ n. n < length pairs) set → IsIncreasing set → IsTask S rules (map pair_data pairs) set
 task_of S rules pairs set typed within up = record {
   typed = typed;
-  within = all_members (λ n. n < length (map pair_data pairs)) set (λ n found.
+  within = all_from_members (λ n. n < length (map pair_data pairs)) set (λ n found.
       let h = All-contains (λ n. n < length pairs) set n within found in omega (arith, h, length-map pairs pair_data));
   increasing = up;
 }

@@ -15,6 +15,7 @@ pub mod ChangeLemmas
 pub mod ReadingLemmas
 pub mod ListedLemmas
 pub mod GuessLemmas
+pub mod GuessTold
 pub mod LineLemmas
 pub mod ToldLemmas
 pub mod LimitLemmas

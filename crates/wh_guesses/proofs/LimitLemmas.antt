@@ -24,7 +24,7 @@ use Rattle.wh_cert.specs.Limits.{InterpFits, MoveFits}
 use Rattle.wh_checker.specs.Looked.{SayInterpretations, SayMarks}
 use Rattle.wh_guesses.specs.Space.{is_sort, variables_where, sort_variables, functional_variables, sum_of_variables, filled, variable_before, alone, both, products, space_of, IsOfSpace}
 use Rattle.wh_guesses.specs.Lines.{IsLine}
-use Rattle.wh_guesses.proofs.PushLemmas.{all_members}
+use Rattle.wh_checker.proofs.SetLemmas.{all_from_members}
 
 -- polynomials that are tried
 
@@ -125,7 +125,7 @@ abbrev IsNarrow : Ty → Type 0
 IsNarrow a = length (arguments a) ≤ 65536
 
 pub all_narrow : (sorts : ℕ) (kinds : List Ty) → All (IsTypeOver sorts) kinds → All IsNarrow kinds
-all_narrow sorts kinds over = all_members IsNarrow kinds (λ a found. let h = wide a (All-contains (IsTypeOver sorts) kinds a over found).narrow in omega (arith, h))
+all_narrow sorts kinds over = all_from_members IsNarrow kinds (λ a found. let h = wide a (All-contains (IsTypeOver sorts) kinds a over found).narrow in omega (arith, h))
 
 type_narrow : (kinds : List Ty) → All IsNarrow kinds → (f : ℕ) → IsNarrow (type_at kinds f)
 type_narrow [] narrow f = omega arith
@@ -220,7 +220,7 @@ light : (p : Polynomial) → (Exceeds p → ⊥) → weight p ≤ 65536
 light p fits = let h : 65536 < weight p → ⊥ = λ more. fits (inr (inl more)) in omega (arith, h)
 
 pub moves_fit : (a b : Run Polynomial) (ms : List Move) → IsLine a b (transfers ms) → All MoveFits ms
-moves_fit a b ms line = all_members MoveFits ms (λ m found.
+moves_fit a b ms line = all_from_members MoveFits ms (λ m found.
     let at = place_of ms m found in
     let there = contains_at (transfers ms) at.0 (transfer m) (remap transfer ms at.0 m at.1) in
     let good = line.moves.cover.good (transfer m) there in

@@ -36,7 +36,8 @@ use Rattle.wh_covering.specs.Lines.{IsSide, IsSomeSide}
 use Rattle.wh_find_moves.specs.Found.{AreCovering, NoneCovers}
 use Rattle.wh_guesses.specs.Lines.{IsLine, HasNoSide, IsNotMet, AreRuleLines, IsStrictLine, IsPairLine, IsDroppedLine, ArePairLines}
 use Rattle.wh_guesses.specs.declared.lines.PairLine.{PairLine}
-use Rattle.wh_guesses.proofs.PushLemmas.{all_members, EachAt, each_push, map_push}
+use Rattle.wh_checker.proofs.SetLemmas.{all_from_members}
+use Rattle.wh_guesses.proofs.PushLemmas.{EachAt, each_push, map_push}
 
 pub line_of : (a b : Run Polynomial) (p q : Polynomial) (ms : List Transfer) → IsSide a p → IsSide b q → AreCovering p q ms → IsLine a b ms
 line_of a b p q ms l r h = record {
@@ -217,7 +218,7 @@ module _ (S : Symbols) (rules : List RewriteRule) (pairs : List PairData) (symbo
     )
 
     below_all : All (λ m. m < n) drop
-    below_all = all_members (λ m. m < n) drop (λ m there.
+    below_all = all_from_members (λ m. m < n) drop (λ m there.
         let (k, less, at) = has.earlier m there in
         let next = increasing_at set k i up less (slice_get_within set i n place) in
         omega (arith, next, get_or_from_slice_get set k m 0 at, get_or_from_slice_get set i n 0 place))
@@ -246,5 +247,5 @@ module _ (S : Symbols) (rules : List RewriteRule) (pairs : List PairData) (symbo
     count = length-map lines transfers ∙ has.count ∙ all;
     each = λ k n ms at there. has.each k ms there n at;
     increasing = has.increasing;
-    within = all_members (Contains set) drop (λ m there. let (k, less, at) = has.earlier m there in contains_at set k m at);
+    within = all_from_members (Contains set) drop (λ m there. let (k, less, at) = has.earlier m there in contains_at set k m at);
   }

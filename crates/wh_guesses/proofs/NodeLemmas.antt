@@ -41,7 +41,8 @@ use Rattle.wh_guesses.specs.declared.node.Weighing.TheVariants.{Found, Failing}
 use Rattle.wh_guesses.specs.declared.task.Task.{Task}
 use Rattle.wh_guesses.specs.declared.task.Guess.{Guess}
 use Rattle.wh_guesses.specs.Found.{IsInterpretation}
-use Rattle.wh_guesses.proofs.PushLemmas.{all_members, few_increasing}
+use Rattle.wh_checker.proofs.SetLemmas.{all_from_members}
+use Rattle.wh_guesses.proofs.PushLemmas.{few_increasing}
 use Rattle.wh_guesses.proofs.GuessLemmas.{guess_symbols, guess_marks, guess_normal, guess_normal_marks, guess_kinds, guess_marked}
 use Rattle.wh_guesses.proofs.LimitLemmas.{all_narrow, symbols_fit, marks_fit, as_many_symbols, as_many_marks, said_named, moves_fit}
 use Rattle.wh_guesses.proofs.LineLemmas.{few_moves}
@@ -55,17 +56,17 @@ abbrev AreSomeLines : List (List Transfer) → Type 0
 AreSomeLines lines = (ms : List Transfer) → Contains lines ms → IsSomeLine ms
 
 all_apart : (lines : List (List Transfer)) → AreSomeLines lines → All AreApart lines
-all_apart lines each = all_members AreApart lines (λ ms found. let (a, b, line) = each ms found in line.moves.apart)
+all_apart lines each = all_from_members AreApart lines (λ ms found. let (a, b, line) = each ms found in line.moves.apart)
 
 of_code : (lines : List (List Move)) → AreSomeLines (map transfers lines) → (ms : List Move) → Contains lines ms → IsSomeLine (transfers ms)
 of_code lines each ms found =
     let at = place_of lines ms found in each (transfers ms) (contains_at (map transfers lines) at.0 (transfers ms) (remap transfers lines at.0 ms at.1))
 
 all_fit : (lines : List (List Move)) → AreSomeLines (map transfers lines) → All (All MoveFits) lines
-all_fit lines each = all_members (All MoveFits) lines (λ ms found. let (a, b, line) = of_code lines each ms found in moves_fit a b ms line)
+all_fit lines each = all_from_members (All MoveFits) lines (λ ms found. let (a, b, line) = of_code lines each ms found in moves_fit a b ms line)
 
 all_few : (lines : List (List Move)) → AreSomeLines (map transfers lines) → All (λ moves. length moves ≤ 2 ^ 32) lines
-all_few lines each = all_members (λ (moves : List Move). length moves ≤ 2 ^ 32) lines (λ ms found. let (a, b, line) = of_code lines each ms found in few_moves a b ms line)
+all_few lines each = all_from_members (λ (moves : List Move). length moves ≤ 2 ^ 32) lines (λ ms found. let (a, b, line) = of_code lines each ms found in few_moves a b ms line)
 
 good_drop : (set drop : List ℕ) → drop ≢ [] → IsIncreasing drop → All (Contains set) drop → IsBadDrop set drop → ⊥
 good_drop set drop some up within (inl empty) = some empty
@@ -132,7 +133,7 @@ module _ (d : SystemData) (ps : List PairData) (set : List ℕ) (symbols : List 
         marks_fit d mark_lines (marks_of marks) says_marks made.fun_names_spelled narrow (guess_marks d.symbols d.rules ps set symbols marks guess),
         all_fit rules some_rules,
         all_fit pairs some_pairs,
-        all_members IsSmall drop (λ n found. let below = drop_below n found in omega (arith, below, few)),
+        all_from_members IsSmall drop (λ n found. let below = drop_below n found in omega (arith, below, few)),
       )
 
   within : NodeWithin (2 ^ 32) (w.interpretations funs mark_lines rules pairs drop)

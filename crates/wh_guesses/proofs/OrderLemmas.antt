@@ -5,7 +5,7 @@ use Rattle.wh_types.specs.Ty.{Ty}
 use Rattle.wh_guesses.specs.Spots.{IsSpot, first_of, second_of, IsBefore, Ascends, AreSpotsTo, AreAllSpots}
 use Rattle.wh_guesses.specs.declared.space.Spot.{Spot}
 use Rattle.wh_guesses.specs.declared.space.Spot.TheVariants.{Constant, One, Two}
-use Rattle.wh_guesses.proofs.PushLemmas.{all_members}
+use Rattle.wh_checker.proofs.SetLemmas.{all_from_members}
 
 less_or_same : (n b : ℕ) → n < suc b → (n < b) ⊎ (n ≡ b)
 less_or_same zero zero less = inr refl
@@ -56,11 +56,11 @@ pub spots_push : (Γ : List Ty) (a b : ℕ) (xs new : List Spot) (s : Spot) → 
     → AreSpotsTo Γ a (suc b) new
 spots_push Γ a b xs new s to pushed is first second = record {
   are = All-same (IsSpot Γ) new (xs ++ s ∷ []) pushed (All-push (IsSpot Γ) xs s to.are is);
-  ascends = subst Ascends (sym pushed) (ascends_push xs s to.ascends (all_members (λ t. IsBefore t (first_of s) (second_of s)) xs (λ t found.
+  ascends = subst Ascends (sym pushed) (ascends_push xs s to.ascends (all_from_members (λ t. IsBefore t (first_of s) (second_of s)) xs (λ t found.
       let below = All-contains (λ t. IsBefore t a b) xs t to.below found in
       subst (λ (a : ℕ). IsBefore t a (second_of s)) (sym first) (subst (λ (b : ℕ). IsBefore t a b) (sym second) below))));
   below = All-same (λ t. IsBefore t a (suc b)) new (xs ++ s ∷ []) pushed (All-push (λ t. IsBefore t a (suc b)) xs s
-      (all_members (λ t. IsBefore t a (suc b)) xs (λ t found. before_more t a b (All-contains (λ t. IsBefore t a b) xs t to.below found)))
+      (all_from_members (λ t. IsBefore t a (suc b)) xs (λ t found. before_more t a b (All-contains (λ t. IsBefore t a b) xs t to.below found)))
       (inr (first, omega (arith, second))));
   all = λ t is_t before. subst (λ (l : List Spot). Contains l t) (sym pushed) (there t is_t before);
 }
@@ -79,7 +79,7 @@ pub spots_skip : (Γ : List Ty) (a b d : ℕ) (xs : List Spot) → AreSpotsTo Γ
 spots_skip Γ a b d xs to further none = record {
   are = to.are;
   ascends = to.ascends;
-  below = all_members (λ t. IsBefore t a d) xs (λ t found. later t (All-contains (λ t. IsBefore t a b) xs t to.below found));
+  below = all_from_members (λ t. IsBefore t a d) xs (λ t found. later t (All-contains (λ t. IsBefore t a b) xs t to.below found));
   all = λ t is before. to.all t is (sooner t is before);
 }
   where
@@ -97,7 +97,7 @@ pub spots_row : (Γ : List Ty) (a b : ℕ) (xs : List Spot) → AreSpotsTo Γ a 
 spots_row Γ a b xs to all = record {
   are = to.are;
   ascends = to.ascends;
-  below = all_members (λ t. IsBefore t (suc a) 0) xs (λ t found. later t (All-contains (λ t. IsBefore t a b) xs t to.below found));
+  below = all_from_members (λ t. IsBefore t (suc a) 0) xs (λ t found. later t (All-contains (λ t. IsBefore t a b) xs t to.below found));
   all = λ t is before. to.all t is (sooner t is before);
 }
   where

@@ -1,16 +1,11 @@
 -- Lists that grow by one element at the end, and what holds of each element by its place.
-use Rattle.std.proofs.Common.{◌≡◌, ℕ, zero, suc, ◌<◌, ◌≤◌, ◌⊎◌, inl, inr, List, [], ◌∷◌, ◌++◌, length, map, get_or, Some, slice_get, All, Contains, refl, ap, sym, subst, ◌∙◌, arith}
+use Rattle.std.proofs.Common.{◌≡◌, ℕ, zero, suc, ◌<◌, ◌≤◌, ◌⊎◌, inl, inr, List, [], ◌∷◌, ◌++◌, length, map, get_or, Some, slice_get, Contains, refl, ap, sym, subst, ◌∙◌, arith}
 use Rattle.std.proofs.lemmas.Option.{none-some}
 use Rattle.std.proofs.lemmas.List.{map-append}
-use Rattle.std.proofs.lemmas.List.Elements.{Contains-get_or}
 use Rattle.wh_pairs.specs.PairData.{IsIncreasing}
 use Rattle.wh_pairs.proofs.Increasing.{increasing_at}
 use Rattle.std.proofs.lemmas.Option.{slice_get-get_or}
 use Rattle.wh_pairs.proofs.ByPlace.{contains_at}
-
--- what holds of each member holds of all
-pub all_members : {A : Type 0} (P : A → Type 0) (xs : List A) → ((x : A) → Contains xs x → P x) → All P xs
-all_members P xs each i d within = each (get_or xs i d) (Contains-get_or xs i d within)
 
 -- an element of a longer list is of the shorter one, or the last
 pub slice_get_push : {A : Type 0} (xs : List A) (x : A) (i : ℕ) (y : A) → slice_get (xs ++ x ∷ []) i ≡ Some y → (slice_get xs i ≡ Some y) ⊎ ((i ≡ length xs) × (x ≡ y))

@@ -19,7 +19,7 @@ use Rattle.wh_polycheck.specs.declared.marks.MarkedSymbol.{MarkedSymbol}
 use Rattle.wh_guesses.specs.Coefficients.{HasCoefficients, HaveCoefficients}
 use Rattle.wh_guesses.specs.Guesses.{IsReadSymbol, IsReadMark}
 use Rattle.wh_guesses.specs.Reads.{IsReadBy, IsMarkBy, AreReadBy, AreMarksBy, list_of, IsChanged}
-use Rattle.wh_guesses.proofs.PushLemmas.{all_members}
+use Rattle.wh_checker.proofs.SetLemmas.{all_from_members}
 
 pub read_as : (Γ Δ : List Ty) (cs ds : List ℕ) (p : Polynomial) → HasCoefficients Γ cs p → Γ ≡ Δ → cs ≡ ds → HasCoefficients Δ ds p
 read_as Γ Δ cs ds p has same also = subst (λ (Γ : List Ty). HasCoefficients Γ ds p) same (subst (λ (l : List ℕ). HasCoefficients Γ l p) also has)
@@ -49,10 +49,10 @@ set_others (y ∷ xs) (suc i) new (suc j) apart = set_others xs i new j (λ same
 -- what has coefficients is of the space
 
 pub all_read : (at : ℕ → List ℕ) (symbols : List Symbol) → AreReadBy at symbols → All IsReadSymbol symbols
-all_read at symbols read = all_members IsReadSymbol symbols (λ s found. let (f, there) = place_of symbols s found in let has = read f s there in has.of_space)
+all_read at symbols read = all_from_members IsReadSymbol symbols (λ s found. let (f, there) = place_of symbols s found in let has = read f s there in has.of_space)
 
 pub all_marks : (S : Symbols) (rules : List RewriteRule) (at : ℕ → List ℕ) (first : ℕ) (marks : List MarkedSymbol) → AreMarksBy S rules at first marks → All (IsReadMark S rules) marks
-all_marks S rules at first marks read = all_members (IsReadMark S rules) marks (λ m found. let (i, there) = place_of marks m found in let has = read i m there in has.of_space)
+all_marks S rules at first marks read = all_from_members (IsReadMark S rules) marks (λ m found. let (i, there) = place_of marks m found in let has = read i m there in has.of_space)
 
 -- the coefficients of the program's symbols, and of what these stand for
 

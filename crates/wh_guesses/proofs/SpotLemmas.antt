@@ -12,7 +12,7 @@ use Rattle.wh_guesses.specs.Space.{is_sort, variables_where, sort_variables, fun
 use Rattle.wh_guesses.specs.Spots.{IsSpot, factors_at, spot_of_two, rows_of, spots_by, weight_before, sorts_before, functional_before, products_before, alone_place, row_place, place}
 use Rattle.wh_guesses.specs.declared.space.Spot.{Spot}
 use Rattle.wh_guesses.specs.declared.space.Spot.TheVariants.{Constant, One, Two}
-use Rattle.wh_guesses.proofs.PushLemmas.{all_members}
+use Rattle.wh_checker.proofs.SetLemmas.{all_from_members}
 
 abbrev pub functional : Ty → Bool
 functional A = not (is_sort A)
@@ -226,7 +226,7 @@ space_of_spots Γ =
         ∙ ap₂ (λ l m. l ++ m) (of_row x ys ∙ ap (map (both Γ x)) is) (of_rows xs ys is)
 
 pub spots_are : (Γ : List Ty) → All (IsSpot Γ) (spots_by (sort_variables Γ) (functional_variables Γ))
-spots_are Γ = all_members (IsSpot Γ) (spots_by (sort_variables Γ) (functional_variables Γ)) each
+spots_are Γ = all_from_members (IsSpot Γ) (spots_by (sort_variables Γ) (functional_variables Γ)) each
   where
     sort_there : (y : ℕ) → Contains (sort_variables Γ) y → (y < length Γ) × (is_sort (type_at Γ y) ≡ true)
     sort_there y found =

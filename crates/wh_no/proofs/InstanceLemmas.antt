@@ -1,5 +1,5 @@
 -- Values without loose variables, put for free variables: the same below a binder.
-use Rattle.std.proofs.Common.{◌≡◌, ℕ, suc, List, [], ◌∷◌, Bool, true, false, Box, Global, All, refl, ap}
+use Rattle.std.proofs.Common.{◌≡◌, ℕ, suc, List, [], ◌∷◌, Bool, true, false, All, refl, ap}
 use Rattle.std.specs.Prelude.{if◌then◌else◌, ◌==◌, ◌&&◌}
 use Rattle.std.proofs.lemmas.List.Elements.{All-head, All-tail}
 use Rattle.wh_types.specs.Ty.{Ty, same_ty}
@@ -8,9 +8,6 @@ use Rattle.wh_terms.specs.Tree.{Tm, bound, free, fun, lam, app}
 use Rattle.wh_terms.specs.Erase.{tm}
 use Rattle.wh_terms.specs.Sight.{LooseBelow}
 use Rattle.wh_terms.specs.Substitution.{act, up_free}
-use Rattle.wh_types.specs.declared.simple_type.SimpleType.{SimpleType}
-use Rattle.wh_terms.specs.declared.term.Term.{Term, Lam, App}
-use Rattle.wh_terms.specs.declared.term.Term.TheVariants.{Bound, Free, Fun, Meta', Lam', App'}
 use Rattle.wh_terms.specs.declared.subst.SubstEntry.{SubstEntry}
 use Rattle.wh_terms.proofs.ActLaws.{act_same, up-bound}
 use Rattle.wh_terms.proofs.SightLaws.{rename_shut}
@@ -50,21 +47,3 @@ shut_for (e ∷ es) h x a =
 pub filled_lam : (es : List SubstEntry) (a : Ty) (t : Tm) → AreShut es → act bound (put_for (entry_puts es)) (lam a t) ≡ lam a (act bound (put_for (entry_puts es)) t)
 unfolding act up_free
 filled_lam es a t h = ap (lam a) (act_same up-bound (λ x b. rename_shut suc (put_for (entry_puts es) x b) (shut_for es h x b)) t)
-
--- what a term is not, its tree is not
-
-pub no_lam : (u : Term) → ((k : SimpleType) (b : Box Term Global) → u ≡ Lam k b → ⊥) → (a : Ty) (t : Tm) → tm u ≡ lam a t → ⊥
-no_lam (Bound i) h a t e = absurd (cc)
-no_lam (Free x k) h a t e = absurd (cc)
-no_lam (Fun f) h a t e = absurd (cc)
-no_lam (Meta' z shape all) h a t e = absurd (cc)
-no_lam (Lam' k p v) h a t e = h k (record { ptr = p.ptr; alloc = p.alloc; value = v }) refl
-no_lam (App' p v q w) h a t e = absurd (cc)
-
-pub no_app : (u : Term) → ((b c : Box Term Global) → u ≡ App b c → ⊥) → (t v : Tm) → tm u ≡ app t v → ⊥
-no_app (Bound i) h t v e = absurd (cc)
-no_app (Free x k) h t v e = absurd (cc)
-no_app (Fun f) h t v e = absurd (cc)
-no_app (Meta' z shape all) h t v e = absurd (cc)
-no_app (Lam' k p w) h t v e = absurd (cc)
-no_app (App' p w q x) h t v e = h (record { ptr = p.ptr; alloc = p.alloc; value = w }) (record { ptr = q.ptr; alloc = q.alloc; value = x }) refl

@@ -2,6 +2,7 @@ pub mod DeclarationLemmas
 pub mod FaultLemmas
 pub mod MetaLemmas
 pub mod NameLemmas
+pub mod OptionParts
 pub mod PassLemmas
 pub mod RawTerms
 pub mod RawTypes

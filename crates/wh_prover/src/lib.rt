@@ -6,8 +6,8 @@ mod answer;
 mod laws;
 mod lines;
 mod node;
+mod numbers;
 mod search;
-mod sets;
 mod walk;
 
 pub use answer::{Answer, Cause, Finder, Options};

@@ -8,7 +8,7 @@ ghost use Rattle.wh_cert.specs.Said.{said_arg, said_node};
 ghost use Rattle.wh_checker.specs.Looked.{SayChoices};
 ghost use Rattle.wh_prover.specs.Walk.{SaysProjection};
 
-use crate::sets::numbers_of;
+use crate::numbers::numbers_of;
 use std::alloc::{AllocError, Global};
 use wh_cert::{Arg, Args, Node};
 use wh_find_subterm::ProjectionFound;

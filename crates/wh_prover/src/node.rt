@@ -11,10 +11,9 @@ ghost use Rattle.wh_prover.specs.Walk.{AddsNode, IsEnd, dropped_by};
 
 use crate::answer::{Cause, Finder};
 use crate::lines::node_of;
-use crate::sets::open_blocks;
 use std::alloc::{AllocError, Global};
 use wh_cert::{Node, Nodes};
-use wh_checker::kept;
+use wh_checker::{kept, open_blocks};
 use wh_find_poly::find_interpretation;
 use wh_find_subterm::find_projection;
 use wh_graph::Graph;

@@ -9,7 +9,7 @@ ghost use Rattle.wh_cert.specs.Said.{said};
 ghost use Rattle.wh_prover.specs.Answers.{HasNoProof, IsAnswer, IsProof};
 
 use crate::answer::{Answer, Cause, Options};
-use crate::sets::numbers_of_ranks;
+use crate::numbers::numbers_of_ranks;
 use crate::walk::walk;
 use std::alloc::{AllocError, Global};
 use wh_access::find_ranks;

@@ -1,7 +1,7 @@
 -- What refuted sides say of ranges.
 use Rattle.std.specs.Bool.{OnTrue}
 use Rattle.std.specs.declared.alloc.AllocError.{AllocError}
-use Rattle.std.proofs.Common.{◌≡◌, ◌<◌, ◌≤◌, ℕ, zero, suc, List, [], ◌∷◌, ◌++◌, length, map, get_or, Bool, true, false, Some, slice_get, Result, Ok, Err, IfOk, refl, ap, sym, subst, ◌∙◌, arith, length-append}
+use Rattle.std.proofs.Common.{◌≡◌, ◌≤◌, ℕ, zero, suc, List, [], ◌∷◌, ◌++◌, length, map, get_or, Bool, true, false, Some, slice_get, Result, Ok, Err, IfOk, refl, ap, sym, subst, ◌∙◌, arith, length-append}
 use Rattle.std.proofs.lemmas.Option.{none-some, same_Some, slice_get_within}
 use Rattle.std.proofs.lemmas.List.{length-map}
 use Rattle.wh_types.specs.Ty.{Ty, arguments}
@@ -12,19 +12,16 @@ use Rattle.wh_terms.specs.Sight.{NoFree}
 use Rattle.wh_terms.specs.Typing.{Symbols, Declared, Typed}
 use Rattle.wh_terms.specs.Rules.{RewriteRule, AreWellMade}
 use Rattle.wh_pairs.specs.PairData.{PairData, pair_data}
-use Rattle.wh_pairs.specs.declared.pair.Pair.{Pair}
 use Rattle.wh_system.specs.SystemView.{system_data}
 use Rattle.wh_system.specs.WellMade.{IsWellMadeSystem}
-use Rattle.wh_pairs.proofs.ByPlace.{contains_at, contains_number, map_at, place_of, some_one}
+use Rattle.wh_pairs.proofs.ByPlace.{contains_at, map_at, place_of, some_one}
 use Rattle.wh_subterm.specs.Marked.{AreMarked}
 use Rattle.wh_hopoly.specs.Polynomials.{Polynomial, Normal}
 use Rattle.wh_hopoly.specs.Evaluation.{Interpretation, NormalInterpretations, Run}
 use Rattle.wh_hopoly.specs.Moves.{Transfer}
 use Rattle.wh_hopoly.specs.Erase.{interpretations}
-use Rattle.wh_hopoly.specs.declared.expression.Symbol.{Symbol}
 use Rattle.wh_polycheck.specs.Marks.{Mark, AreNormalMarks, HasMarkedSides}
 use Rattle.wh_polycheck.specs.SideResults.{marks_of}
-use Rattle.wh_polycheck.specs.declared.marks.MarkedSymbol.{MarkedSymbol}
 use Rattle.wh_polycheck.specs.Sides.{IsInterpretedAs, Interprets, types_of_metas, side_polynomial}
 use Rattle.wh_meaning.specs.Covering.{rule_run, pair_run, CoversSides}
 use Rattle.wh_meaning.specs.Meaning.{den}
@@ -39,11 +36,11 @@ use Rattle.wh_growth.proofs.WeightLaws.{IsCoverBy, refuted_uncovered}
 use Rattle.wh_growth.proofs.Growth.{side_grows, pair_side_grows, pair_side_normal}
 use Rattle.wh_guesses.specs.Coefficients.{HaveCoefficients}
 use Rattle.wh_guesses.specs.Conditions.{IsMetBy}
-use Rattle.wh_guesses.specs.Guesses.{IsTask, IsGuess}
-use Rattle.wh_guesses.specs.Tasks.{IsTaskOf, IsGuessOf}
+use Rattle.wh_guesses.specs.Guesses.{IsTask}
+use Rattle.wh_guesses.specs.Tasks.{IsTaskOf}
 use Rattle.wh_guesses.specs.declared.task.Guess.{Guess}
 use Rattle.wh_guesses.specs.declared.task.Task.{Task}
-use Rattle.wh_guesses.proofs.GuessLemmas.{guess_kinds, guess_marked, guess_same, guess_interprets, guess_normal, guess_normal_marks, guess_sides}
+use Rattle.wh_guesses.proofs.GuessLemmas.{guess_kinds, guess_marked}
 use Rattle.wh_ranges.specs.Excluded.{AreAtMost, Fit, IsExcluded}
 use Rattle.wh_ranges.specs.Bounds.{IsBound, AreRanges, lists_of}
 use Rattle.wh_ranges.specs.Out.{IsOut, IsRuleOut, IsPairOut}
@@ -193,12 +190,6 @@ metas_of_rule made rules k d r is at =
     let same = some_one (map_at rewrite_rule made k d (omega (arith, within, length-map made rewrite_rule))) there in
     sym (length-map (get_or made k d).metas declared_meta) ∙ ap (λ (r : RewriteRule). length r.metas) same
 
--- the pair with a place in the set
-pub pair_at : (t : Task) → IsTaskOf t → (i : ℕ) → i < length t.set.now → (p : Pair)
-    → slice_get (map pair_data t.pairs.now) (get_or t.set.now i 0) ≡ Some (pair_data (get_or t.pairs.now (get_or t.set.now i 0) p))
-pair_at t task i below p =
-    map_at pair_data t.pairs.now (get_or t.set.now i 0) p (omega (arith, task.within i 0 below, length-map t.pairs.now pair_data))
-
 -- what a side of a pair comes to under a guess
 abbrev side_under : Task → Guess → PairData → Bool → Polynomial
 side_under t g p right =
@@ -250,44 +241,3 @@ module _ (t : Task) where
         pair_excluded d.symbols d.rules (map pair_data t.pairs.now) t.set.now (lists_of r.low) (lists_of r.high)
         (interpretations low.symbols.items) (interpretations high.symbols.items) (marks_of low.marks.items) (marks_of high.marks.items)
         (have_bound r.low ranges.low) (have_bound r.high ranges.high) task i n p place at here strict same refuted)
-
--- what the evaluation of sides asks of a guess, whose lists are told by equal ones
-
-module _ (t : Task) (g : Guess) (guess : IsGuessOf t g) where
-  module _ (xs : List Symbol) (same : xs ≡ g.symbols.items) where
-    here : IsGuess (system_data t.system.now).symbols (system_data t.system.now).rules (map pair_data t.pairs.now) t.set.now
-        xs g.marks.items
-    here =
-        let d = system_data t.system.now in
-        guess_same d.symbols d.rules (map pair_data t.pairs.now) t.set.now xs g.symbols.items g.marks.items g.marks.items same refl guess
-
-    pub symbols_interpret : Interprets (system_data t.system.now).symbols (interpretations xs)
-    symbols_interpret =
-        let d = system_data t.system.now in
-        guess_interprets d.symbols d.rules (map pair_data t.pairs.now) t.set.now xs g.marks.items here
-
-    pub symbols_normal : NormalInterpretations (interpretations xs)
-    symbols_normal =
-        let d = system_data t.system.now in
-        guess_normal d.symbols d.rules (map pair_data t.pairs.now) t.set.now xs g.marks.items here
-
-  module _ (ms : List MarkedSymbol) (same : ms ≡ g.marks.items) where
-    here_marked : IsGuess (system_data t.system.now).symbols (system_data t.system.now).rules (map pair_data t.pairs.now) t.set.now
-        g.symbols.items ms
-    here_marked =
-        let d = system_data t.system.now in
-        guess_same d.symbols d.rules (map pair_data t.pairs.now) t.set.now g.symbols.items g.symbols.items ms g.marks.items refl same guess
-
-    pub marks_normal : AreNormalMarks (system_data t.system.now).symbols (system_data t.system.now).rules (marks_of ms)
-    marks_normal =
-        let d = system_data t.system.now in
-        guess_normal_marks d.symbols d.rules (map pair_data t.pairs.now) t.set.now g.symbols.items ms here_marked
-
-    pub sides_marked : IsTaskOf t → (i : ℕ) → i < length t.set.now → (p : Pair)
-        → HasMarkedSides (system_data t.system.now).symbols (system_data t.system.now).rules (marks_of ms)
-        (pair_data (get_or t.pairs.now (get_or t.set.now i 0) p))
-    sides_marked task i below p =
-        let d = system_data t.system.now in
-        let n = get_or t.set.now i 0 in
-        guess_sides d.symbols d.rules (map pair_data t.pairs.now) t.set.now g.symbols.items ms here_marked task n
-        (pair_data (get_or t.pairs.now n p)) (contains_number t.set.now i below) (pair_at t task i below p)

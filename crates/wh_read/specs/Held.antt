@@ -47,7 +47,7 @@ letter ThinArrow = s.thin_arrow
 letter ThickArrow = s.thick_arrow
 
 abbrev pub frame : Frame → r.Frames → r.Frames
-frame (Body x a at) w = r.body (rbinder x) (rty a) at w
+frame (Body x a at) w = r.body (rbinder x) (rty a.value) at w
 frame (Paren before) w = r.paren (option_map rtm before) w
 frame (Bracket x args before) w = r.bracket x.name x.at (rtms args) (option_map rtm before) w
 
@@ -101,10 +101,10 @@ place (WantMeta u) = r.want_meta (metas u)
 place (MetaNamed m) = r.meta_named (meta m)
 place (MetaColon m) = r.meta_colon (meta m)
 place (WantAtype p t) = r.want_atype (purpose p) (open_type t)
-place (BehindAtype p t a) = r.behind_atype (purpose p) (open_type t) (rty a)
+place (BehindAtype p t a) = r.behind_atype (purpose p) (open_type t) (rty a.value)
 place (BehindLambda u at) = r.behind_lambda (rule u) at
 place (BinderNamed u x at) = r.binder_named (rule u) (rbinder x) at
-place (BinderTyped u x a at) = r.binder_typed (rule u) (rbinder x) (rty a) at
+place (BinderTyped u x a at) = r.binder_typed (rule u) (rbinder x) (rty a.value) at
 place (WantAtom u) = r.want_atom (rule u) (spine_of u)
 place (BehindName u x) = r.behind_name (rule u) (spine_of u) x.name x.at
 place (BehindPercent u n at) = r.behind_percent (rule u) (spine_of u) n at

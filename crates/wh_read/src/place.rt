@@ -7,7 +7,7 @@ use wh_text::{RawBinder, RawTerm, RawTerms, RawType, RawTypes};
 #[derive(Drop)]
 pub enum Frame {
     /// The body of an abstraction: its binder, the type of that, and the place of the abstraction.
-    Body(RawBinder, RawType, u32),
+    Body(RawBinder, Box<RawType>, u32),
     /// A parenthesis, with the spine so far before it.
     Paren(Option<RawTerm>),
     /// A bracket: the name before it, the arguments so far, and the spine so far before the name.
@@ -95,13 +95,13 @@ pub enum Place {
     /// Where a sort's name or a parenthesis of a type begins.
     WantAtype(Box<Purpose>, OpenType),
     /// Behind such a part of a type.
-    BehindAtype(Box<Purpose>, OpenType, RawType),
+    BehindAtype(Box<Purpose>, OpenType, Box<RawType>),
     /// Behind `\`, which stands there.
     BehindLambda(Box<OpenRule>, u32),
     /// Behind a binder.
     BinderNamed(Box<OpenRule>, RawBinder, u32),
     /// Behind the type of a binder.
-    BinderTyped(Box<OpenRule>, RawBinder, RawType, u32),
+    BinderTyped(Box<OpenRule>, RawBinder, Box<RawType>, u32),
     /// Where an atom may begin.
     WantAtom(Box<OpenRule>),
     /// Behind a name, before which a spine stands.

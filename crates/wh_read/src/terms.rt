@@ -390,12 +390,12 @@ pub fn binder_colon(
 pub fn binder_dot(
     rule: Box<OpenRule>,
     x: RawBinder,
-    a: RawType,
+    a: Box<RawType>,
     lambda_at: u32,
     letter: Lexeme,
 ) -> Result<Step, AllocError>
     ensures { IfOk result (λ step. (parts : RParts) → held.state parts step
-        ≡ r.expect_dot parts (r.want_atom (r.with_frames (held.rule rule) (r.body (rbinder x) (rty a) lambda_at (held.rule rule).frames))
+        ≡ r.expect_dot parts (r.want_atom (r.with_frames (held.rule rule) (r.body (rbinder x) (rty a.value) lambda_at (held.rule rule).frames))
         None) (held.letter letter)) }
 {
     match letter {

@@ -63,12 +63,20 @@ fn had_outer(
         ≡ r.had_outer parts (held.purpose purpose) (held.open_type started) (rty part)) }
 {
     match Box::into_inner(purpose) {
-        Purpose::OfBinder(rule, x, at) => Ok(Step::To(Place::BinderTyped(rule, x, part, at))),
+        Purpose::OfBinder(rule, x, at) => {
+            let kind = Box::new(alloc, part)?;
+            Ok(Step::To(Place::BinderTyped(rule, x, kind, at)))
+        }
         Purpose::OfVariable(rule, n, at) => {
-            let behind = behind_atom(alloc, rule, RawTerm::Free(n, part, at))?;
+            let kind = Box::new(alloc, part)?;
+            let behind = behind_atom(alloc, rule, RawTerm::Free(n, kind, at))?;
             Ok(Step::To(Place::WantAtom(behind)))
         }
-        other => Ok(Step::To(Place::BehindAtype(Box::new(alloc, other)?, started, part))),
+        other => {
+            let purpose = Box::new(alloc, other)?;
+            let part = Box::new(alloc, part)?;
+            Ok(Step::To(Place::BehindAtype(purpose, started, part)))
+        }
     }
 }
 
@@ -85,6 +93,7 @@ fn had_atype(
     if started.outer.is_empty() {
         had_outer(alloc, purpose, started, part)
     } else {
+        let part = Box::new(alloc, part)?;
         Ok(Step::To(Place::BehindAtype(purpose, started, part)))
     }
 }
@@ -270,13 +279,14 @@ pub fn behind_type(
     parts: &mut Parts,
     purpose: Box<Purpose>,
     started: OpenType,
-    part: RawType,
+    part: Box<RawType>,
     letter: Lexeme,
 ) -> Result<Step, AllocError>
     ensures { IfOk result (λ step. held.state (rparts parts.new) step
-        ≡ r.behind_type (rparts parts.old) (held.purpose purpose) (held.open_type started) (rty part) (held.letter letter)) }
+        ≡ r.behind_type (rparts parts.old) (held.purpose purpose) (held.open_type started) (rty part.value) (held.letter letter)) }
 {
     let OpenType { mut args, outer } = started;
+    let part = Box::into_inner(part);
     match letter {
         Lexeme::ThinArrow => {
             args.push(part)?;

@@ -18,9 +18,10 @@ use Rattle.wh_parts.specs.Naming.{Scope, number_of, is_declared, binder_number, 
 use Rattle.wh_parts.specs.RuleTests.{are_distinct, bound_number, is_new, is_pattern_head, pattern_tests, patterns_tests}
 use Rattle.wh_parts.specs.Tests.{test}
 use Rattle.wh_parts.proofs.FaultLemmas.{fault_after}
+use Rattle.wh_parts.proofs.OptionParts.{some_same, none_some, both_parts, map_part}
 use Rattle.wh_resolve.specs.Form.{bound_in, is_front, arguments_in, are_distinct_bound, have_distinct, is_name, are_names, TellsForm}
 use Rattle.wh_resolve.proofs.AnswerLemmas.{fails_along, fails_first, matched_err, reported_fails, reports_along}
-use Rattle.wh_resolve.proofs.MeantParts.{some_same, none_some, both_parts, map_part, name_by, tms_next, body_meant, put_last, last_meant, no_lam_meant, no_app_meant}
+use Rattle.wh_resolve.proofs.MeantParts.{name_by, tms_next, body_meant, put_last, last_meant, no_lam_meant, no_app_meant}
 
 -- the head of a pattern
 

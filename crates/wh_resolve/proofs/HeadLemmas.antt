@@ -8,8 +8,9 @@ use Rattle.wh_parts.specs.Naming.{number_of, type_meant, Scope, both, meant, all
 use Rattle.wh_parts.specs.RuleTests.{head_symbol}
 use Rattle.wh_parts.specs.Tests.{arguments_of, count_of, raw_size, raw_spine_size}
 use Rattle.wh_text.proofs.RawLemmas.{rtm_of_spine}
+use Rattle.wh_parts.proofs.OptionParts.{some_same, none_some, both_parts, map_part}
 use Rattle.wh_resolve.specs.Form.{symbol_of}
-use Rattle.wh_resolve.proofs.MeantParts.{name_by, some_same, none_some, both_parts, map_part}
+use Rattle.wh_resolve.proofs.MeantParts.{name_by}
 
 count-size : (ts : RTms) → count_of ts ≤ raw_spine_size ts
 count-size none = omega arith

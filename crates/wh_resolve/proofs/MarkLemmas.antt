@@ -21,10 +21,11 @@ use Rattle.wh_parts.specs.Tests.{test}
 use Rattle.wh_parts.specs.RuleTests.{is_plain_meta, occurs, any_occurs, new_meta_tests, new_metas_tests}
 use Rattle.wh_parts.proofs.FaultLemmas.{fault_after, fault_in_first}
 use Rattle.wh_parts.proofs.PassLemmas.{fault_on}
+use Rattle.wh_parts.proofs.OptionParts.{some_same, none_some, both_parts, map_part}
 use Rattle.wh_resolve.specs.Form.{arguments_in}
 use Rattle.wh_resolve.specs.Marks.{occurs_in, occurs_in_any, Marks, is_unmarked, AreMarked, TellsNew, TellsNewEach}
 use Rattle.wh_resolve.proofs.AnswerLemmas.{first_along}
-use Rattle.wh_resolve.proofs.MeantParts.{some_same, none_some, both_parts, map_part, name_by, tms_next, body_meant, put_last, last_meant, no_lam_meant, no_app_meant}
+use Rattle.wh_resolve.proofs.MeantParts.{name_by, tms_next, body_meant, put_last, last_meant, no_lam_meant, no_app_meant}
 use Rattle.wh_resolve.proofs.PlainNames.{number_below}
 
 -- truth values

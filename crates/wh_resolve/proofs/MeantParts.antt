@@ -1,33 +1,18 @@
 -- What a raw term stands for tells what its parts stand for.
-use Rattle.std.proofs.Common.{◌≡◌, ℕ, ◌+◌, ◌<◌, List, [], ◌∷◌, ◌++◌, Option, Some, None, option_map, length, drop, get_or, Box, Global, refl, ap, sym, ◌∙◌, arith}
+use Rattle.std.proofs.Common.{◌≡◌, ℕ, ◌+◌, ◌<◌, List, [], ◌∷◌, ◌++◌, Option, Some, option_map, length, drop, get_or, Box, Global, refl, ap, sym, ◌∙◌, arith}
 use Rattle.std.proofs.lemmas.List.{drop_more}
 use Rattle.wh_types.specs.Ty.{Ty}
 use Rattle.wh_types.specs.declared.simple_type.SimpleType.{SimpleType}
 use Rattle.wh_terms.specs.Tree.{Tm, bound, fun, meta, lam, app, none as no_tms, more as more_tms}
 use Rattle.wh_terms.specs.Erase.{tm, tms}
 use Rattle.wh_terms.specs.declared.term.Term.{Term, Lam, App}
-use Rattle.wh_terms.specs.declared.term.Term.TheVariants.{Bound, Free, Fun, Meta', Lam', App'}
+use Rattle.wh_terms.proofs.OtherTrees.{no_lam, no_app}
 use Rattle.wh_text.specs.RawTree.{RTy, Binder, RTm, lam as raw_lam, spine, RTms, none, more}
 use Rattle.wh_text.specs.Erase.{rtm, rtms}
 use Rattle.wh_text.specs.declared.raw.RawTerm.{RawTerm}
 use Rattle.wh_parts.specs.Naming.{type_meant, Scope, or_else, both, meant, applied_meant}
 use Rattle.wh_parts.proofs.RawTerms.{weight, weights}
-
-pub some_same : {A : Type 0} {a b : A} → Some a ≡ Some b → a ≡ b
-some_same e = cc
-
-pub none_some : {A : Type 0} {a : A} → ◌≡◌ {A = Option A} None (Some a) → ⊥
-none_some e = cc
-
-pub both_parts : {A B C : Type 0} (f : A → B → C) (o : Option A) (q : Option B) (c : C) → both f o q ≡ Some c → (a : A) × (b : B) × (o ≡ Some a) × (q ≡ Some b) × (f a b ≡ c)
-both_parts f (Some a) (Some b) c e = (a, b, refl, refl, some_same e)
-both_parts f (Some a) None c e = absurd (none_some e)
-both_parts f None (Some b) c e = absurd (none_some e)
-both_parts f None None c e = absurd (none_some e)
-
-pub map_part : {A B : Type 0} (f : A → B) (o : Option A) (b : B) → option_map f o ≡ Some b → (a : A) × (o ≡ Some a) × (f a ≡ b)
-map_part f (Some a) b e = (a, refl, some_same e)
-map_part f None b e = absurd (none_some e)
+use Rattle.wh_parts.proofs.OptionParts.{both_parts}
 
 -- what a plain name stands for, by what it is among binders, meta-variables and symbols
 abbrev pub name_by : Option ℕ → Option ℕ → Option ℕ → Option Tm
@@ -90,34 +75,16 @@ last_meant s bs h ts t at f a e =
     let parts = last_parts s bs h ts t at (app f a) e in
     (parts.2 ∙ ap Some (function-same parts.0 f parts.1 a parts.4), parts.3 ∙ ap Some (argument-same parts.0 f parts.1 a parts.4))
 
--- what a term is not, its tree is not
-
-no_lam : (u : Term) → ((k : SimpleType) (b : Box Term Global) → u ≡ Lam k b → ⊥) → (a : Ty) (t : Tm) → lam a t ≡ tm u → ⊥
-no_lam (Bound i) h a t e = absurd (cc)
-no_lam (Free x k) h a t e = absurd (cc)
-no_lam (Fun f) h a t e = absurd (cc)
-no_lam (Meta' z shape all) h a t e = absurd (cc)
-no_lam (Lam' k p v) h a t e = h k (record { ptr = p.ptr; alloc = p.alloc; value = v }) refl
-no_lam (App' p v q w) h a t e = absurd (cc)
-
-no_app : (u : Term) → ((b c : Box Term Global) → u ≡ App b c → ⊥) → (t v : Tm) → app t v ≡ tm u → ⊥
-no_app (Bound i) h t v e = absurd (cc)
-no_app (Free x k) h t v e = absurd (cc)
-no_app (Fun f) h t v e = absurd (cc)
-no_app (Meta' z shape all) h t v e = absurd (cc)
-no_app (Lam' k p w) h t v e = absurd (cc)
-no_app (App' p w q x) h t v e = h (record { ptr = p.ptr; alloc = p.alloc; value = w }) (record { ptr = q.ptr; alloc = q.alloc; value = x }) refl
-
--- so the raw term does not stand for the term
+-- what is no abstraction or application, none of these stands for
 
 pub no_lam_meant : (s : Scope) (bs : List Binder) (u : Term) → ((k : SimpleType) (b : Box Term Global) → u ≡ Lam k b → ⊥) → (x : Binder) (a : RTy) (r : RTm) (at : ℕ)
     → meant s bs (raw_lam x a r at) ≡ Some (tm u) → ⊥
 no_lam_meant s bs u other x a r at m =
     let parts = both_parts lam (type_meant s.sorts a) (meant s (x ∷ bs) r) (tm u) m in
-    no_lam u other parts.0 parts.1 parts.4
+    no_lam u other parts.0 parts.1 (sym parts.4)
 
 pub no_app_meant : (s : Scope) (bs : List Binder) (u : Term) → ((b c : Box Term Global) → u ≡ App b c → ⊥) → (h : RTm) (ts : RTms) (t : RTm) (at : ℕ)
     → meant s bs (spine h (put_last ts t) at) ≡ Some (tm u) → ⊥
 no_app_meant s bs u other h ts t at m =
     let parts = last_parts s bs h ts t at (tm u) m in
-    no_app u other parts.0 parts.1 parts.4
+    no_app u other parts.0 parts.1 (sym parts.4)

@@ -13,7 +13,7 @@ use Rattle.wh_system.specs.Resolve.{term_scope, Means}
 use Rattle.wh_system.specs.Canonical.{Names, name_at, and_last, with_argument, raw_below, each_raw_below, raw_of, IsNamedBelow, AreNamedBelow}
 use Rattle.wh_system.specs.CanonicalView.{names_of_system, side_of}
 use Rattle.wh_terms.specs.Rules.{RewriteRule, IsWellMade}
-use Rattle.wh_system.proofs.PassedLaws.{some_same}
+use Rattle.wh_parts.proofs.OptionParts.{some_same}
 use Rattle.wh_system.proofs.CanonicalNames.{number_at, apart_number, type_back, numbers_below, numbers_next, binder_back, no_binder_back}
 
 -- the names of a scope

@@ -83,7 +83,7 @@ made_type sorts a args empty k there copy none_first args_are k_is within same =
     (same ∙ ap (λ k. get_or sorts k there) k_is ∙ get_or_default sorts (result_sort a) there [] within) ∙ sym (type_whole sorts a)
 
 -- a tree that is no spine, with one argument more
-pub begun : (r : RawTerm) (u : RTm) → ((x : List ℕ) × (at : ℕ) × (r ≡ Named x at)) ⊎ (((k : ℕ) × (at : ℕ) × (r ≡ Numbered k at)) ⊎ (((k : ℕ) × (a : RawType) × (at : ℕ) × (r ≡ Free k a at)) ⊎ (((x : List ℕ) × (ts : List RawTerm) × (at : ℕ) × (r ≡ RawMeta x ts at)) ⊎ ((x : RawBinder) × (a : RawType) × (t : Box RawTerm Global) × (at : ℕ) × (r ≡ Lam x a t at)))))
+pub begun : (r : RawTerm) (u : RTm) → ((x : List ℕ) × (at : ℕ) × (r ≡ Named x at)) ⊎ (((k : ℕ) × (at : ℕ) × (r ≡ Numbered k at)) ⊎ (((k : ℕ) × (a : Box RawType Global) × (at : ℕ) × (r ≡ Free k a at)) ⊎ (((x : List ℕ) × (ts : List RawTerm) × (at : ℕ) × (r ≡ RawMeta x ts at)) ⊎ ((x : RawBinder) × (a : Box RawType Global) × (t : Box RawTerm Global) × (at : ℕ) × (r ≡ Lam x a t at)))))
     → with_argument (rtm r) u ≡ spine (rtm r) (more u none) 0
 begun r u (inl (x, at, is)) = subst (λ q. with_argument (rtm q) u ≡ spine (rtm q) (more u none) 0) (sym is) refl
 begun r u (inr (inl (k, at, is))) = subst (λ q. with_argument (rtm q) u ≡ spine (rtm q) (more u none) 0) (sym is) refl

@@ -8,10 +8,10 @@ use Rattle.wh_parts.specs.declared.fault.SystemFault.{SystemFault}
 use Rattle.wh_parts.specs.Faults.{first_fault}
 use Rattle.wh_parts.specs.Naming.{Scope, meant, type_meant}
 use Rattle.wh_parts.specs.Tests.{naming_tests, sorts_of_type}
+use Rattle.wh_parts.proofs.OptionParts.{some_same, none_some}
 use Rattle.wh_system.specs.Systems.{SystemData}
 use Rattle.wh_system.specs.WellMade.{IsWellMadeSystem}
 use Rattle.wh_system.specs.Resolve.{term_scope, Means}
-use Rattle.wh_system.proofs.PassedLaws.{some_same, none_some}
 use Rattle.wh_system.proofs.KindMade.{IsScope, symbols_of, made}
 use Rattle.wh_system.proofs.TypedPassed.{typed_passes, sorts_passed}
 

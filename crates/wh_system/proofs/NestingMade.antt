@@ -5,9 +5,8 @@ use Rattle.wh_types.specs.Ty.{Ty, sort, ◌⇒◌}
 use Rattle.wh_terms.specs.Tree.{Tm, bound, free, fun, meta, lam, app, Tms, none as no_tms, more as more_tms}
 use Rattle.wh_text.specs.RawTree.{RTy, raw_type, RTys, no_types, more_types, Binder, named_binder, numbered_binder, RTm, named, numbered, free_variable, meta as raw_meta, lam as raw_lam, spine, RTms, none, more}
 use Rattle.wh_parts.specs.Naming.{number_of, type_meant, arrows_meant, Scope, binder_number, or_else, both, meant, all_meant, applied_meant}
+use Rattle.wh_parts.proofs.OptionParts.{some_same, none_some, both_parts, and_then_parts, map_part}
 use Rattle.wh_system.specs.Nesting.{type_nesting, part_nesting, raw_part_nesting, raw_parts_nesting, raw_nesting, TypesNestWithin, AllTypesNestWithin, RawTypesNestWithin, AllRawTypesNestWithin}
-use Rattle.wh_system.proofs.PassedLaws.{some_same, none_some, joined}
-use Rattle.wh_system.proofs.StandsLaws.{both_parts, map_part}
 
 -- types
 
@@ -22,14 +21,14 @@ mutual
   arrows_nesting-meant : (sorts : List (List ℕ)) (args : RTys) (o : Option ℕ) (b : Ty) → arrows_meant sorts args (option_map sort o) ≡ Some b → type_nesting b ≡ raw_parts_nesting args
   arrows_nesting-meant sorts no_types o b e = (sort_nesting o b e).0
   arrows_nesting-meant sorts (more_types a rest) o b e =
-      let both = joined (λ b c. b ⇒ c) (type_meant sorts a) (arrows_meant sorts rest (option_map sort o)) b e in
+      let both = and_then_parts (λ b c. b ⇒ c) (type_meant sorts a) (arrows_meant sorts rest (option_map sort o)) b e in
       subst (λ b. type_nesting b ≡ max (raw_part_nesting a) (raw_parts_nesting rest)) both.4
       (ap₂ max (part_nesting-meant sorts a both.0 both.2) (arrows_nesting-meant sorts rest o both.1 both.3))
 
   pub part_nesting-meant : (sorts : List (List ℕ)) (a : RTy) (b : Ty) → type_meant sorts a ≡ Some b → part_nesting b ≡ raw_part_nesting a
   part_nesting-meant sorts (raw_type no_types s at) b e = (sort_nesting (number_of sorts s) b e).1
   part_nesting-meant sorts (raw_type (more_types a rest) s at) b e =
-      let both = joined (λ b c. b ⇒ c) (type_meant sorts a) (arrows_meant sorts rest (option_map sort (number_of sorts s))) b e in
+      let both = and_then_parts (λ b c. b ⇒ c) (type_meant sorts a) (arrows_meant sorts rest (option_map sort (number_of sorts s))) b e in
       subst (λ b. part_nesting b ≡ 1 + max (raw_part_nesting a) (raw_parts_nesting rest)) both.4
       (ap₂ (λ m n. 1 + max m n) (part_nesting-meant sorts a both.0 both.2) (arrows_nesting-meant sorts rest (number_of sorts s) both.1 both.3))
 

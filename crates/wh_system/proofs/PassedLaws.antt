@@ -1,6 +1,5 @@
 -- What it means that no test of a list fails.
-use Rattle.std.proofs.Common.{◌≡◌, Bool, true, false, not, ◌&&◌, ◌||◌, List, ◌∷◌, ◌++◌, Option, Some, None, is_some, option_map, refl}
-use Rattle.std.specs.Prelude.{option_and_then}
+use Rattle.std.proofs.Common.{◌≡◌, Bool, true, false, not, ◌&&◌, ◌||◌, List, ◌∷◌, ◌++◌, Option, Some, None, is_some, refl}
 use Rattle.wh_parts.specs.Faults.{Test, first_fault}
 use Rattle.wh_parts.proofs.FaultLemmas.{no_fault_in_parts, no_fault_at_test}
 
@@ -55,16 +54,3 @@ some_is None e = absurd (cc)
 pub none_is : {A : Type 0} (o : Option A) → is_some o ≡ false → o ≡ None
 none_is (Some a) e = absurd (cc)
 none_is None e = refl
-
-pub some_same : {A : Type 0} {a b : A} → Some a ≡ Some b → a ≡ b
-some_same e = cc
-
-pub none_some : {A : Type 0} {a : A} → ◌≡◌ {A = Option A} None (Some a) → ⊥
-none_some e = cc
-
--- the parts of what is there where both parts are
-pub joined : {A B C : Type 0} (f : A → B → C) (o : Option A) (q : Option B) (c : C) → option_and_then (λ a. option_map (f a) q) o ≡ Some c
-    → (a : A) × (b : B) × (o ≡ Some a) × (q ≡ Some b) × (f a b ≡ c)
-joined f (Some a) (Some b) c e = (a, b, refl, refl, some_same e)
-joined f (Some a) None c e = absurd (none_some e)
-joined f None q c e = absurd (none_some e)

@@ -13,8 +13,9 @@ use Rattle.wh_parts.specs.Naming.{Scope, meant}
 use Rattle.wh_parts.specs.Kinds.{kind_of}
 use Rattle.wh_parts.specs.Tests.{count_test, sort_names, fun_names, meta_tests, width_of_term, raw_height, raw_size, side_tests, naming_tests, arguments_of}
 use Rattle.wh_parts.specs.RuleTests.{scope_of, same_kind, open_tests, head_symbol, pattern_tests, new_meta_tests, is_uneven, rule_tests}
+use Rattle.wh_parts.proofs.OptionParts.{some_same}
 use Rattle.wh_system.specs.Systems.{SaysRule}
-use Rattle.wh_system.proofs.PassedLaws.{Passed, passed_first, passed_rest, passed_parts, not_false, some_is, some_same}
+use Rattle.wh_system.proofs.PassedLaws.{Passed, passed_first, passed_rest, passed_parts, not_false, some_is}
 use Rattle.wh_system.proofs.KindMade.{IsScope, symbols_of, made}
 use Rattle.wh_system.proofs.StandsLaws.{Stands, stands}
 use Rattle.wh_system.proofs.SizeMade.{size_made, height_made, width_made}

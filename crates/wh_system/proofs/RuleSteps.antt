@@ -20,7 +20,6 @@ use Rattle.wh_system.specs.RulePasses.{own_tests}
 use Rattle.wh_system.specs.Needs.{need_of}
 use Rattle.wh_system.specs.Systems.{SaysRule, SayRules}
 use Rattle.wh_system.proofs.NameLaws.{number_within}
-use Rattle.wh_system.proofs.PassedLaws.{none_some}
 use Rattle.wh_system.specs.RulePasses.{IsResolvedRule, differs, scope_over}
 use Rattle.wh_system.specs.declared.rules.ResolvedRule.{ResolvedRule}
 use Rattle.wh_terms.specs.declared.rule.Rule.{Rule}
@@ -35,6 +34,7 @@ use Rattle.std.proofs.Math.Seq.{take-append_seam}
 use Rattle.std.proofs.Math.ListN.{length-set}
 use Rattle.std.proofs.lemmas.List.{get_or-replicate, length-replicate}
 use Rattle.wh_parts.proofs.DeclarationLemmas.{map_next, list_next, list_done, map_fused, map_end}
+use Rattle.wh_parts.proofs.OptionParts.{none_some}
 
 -- the tests of a rule are its own ones, and then that of evenness
 regroup : (C M L R NL NR OL OR P N : List Test) (t h u : Test)

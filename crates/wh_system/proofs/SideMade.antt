@@ -8,7 +8,8 @@ use Rattle.wh_terms.specs.Pattern.{AllBoundBelow, Misses, Distinct, IsPatternUnd
 use Rattle.wh_text.specs.RawTree.{Binder, named_binder, RTm, RTms}
 use Rattle.wh_parts.specs.Naming.{Scope, number_of, is_declared, binder_number}
 use Rattle.wh_parts.specs.RuleTests.{open_tests, opens_tests, head_symbol, bound_number, is_new, are_distinct, is_pattern_head, pattern_tests, patterns_tests, is_plain_meta, occurs, any_occurs, new_meta_tests, new_metas_tests}
-use Rattle.wh_system.proofs.PassedLaws.{Passed, passed_first, passed_rest, passed_parts, and_true, and_false, or_true, not_false, not_true, none_some, some_same}
+use Rattle.wh_parts.proofs.OptionParts.{some_same, none_some}
+use Rattle.wh_system.proofs.PassedLaws.{Passed, passed_first, passed_rest, passed_parts, and_true, and_false, or_true, not_false, not_true}
 use Rattle.wh_system.proofs.NameLaws.{position_within, alone}
 use Rattle.wh_system.proofs.StandsLaws.{Stands, by_binder, by_meta, by_fun, by_number, by_variable, by_application, by_lam, by_spine, AllStand, no_more, and_more, SpineStands, at_end, applied}
 

@@ -4,7 +4,7 @@ use Rattle.wh_types.specs.Ty.{Ty}
 use Rattle.wh_terms.specs.Tree.{Tm, bound, free, fun, meta, lam, app, Tms, none as no_tms, more as more_tms}
 use Rattle.wh_text.specs.RawTree.{RTy, Binder, named_binder, numbered_binder, RTm, named, numbered, free_variable, meta as raw_meta, lam as raw_lam, spine, RTms, none, more}
 use Rattle.wh_parts.specs.Naming.{number_of, type_meant, Scope, binder_number, or_else, both, meant, all_meant, applied_meant}
-use Rattle.wh_system.proofs.PassedLaws.{some_same, none_some}
+use Rattle.wh_parts.proofs.OptionParts.{some_same, none_some, both_parts, map_part}
 
 mutual
   pub data Stands (s : Scope) : List Binder → RTm → Tm → Type 0 where
@@ -25,16 +25,6 @@ mutual
   pub data SpineStands (s : Scope) : List Binder → Tm → RTms → Tm → Type 0 where
     at_end : {bs : List Binder} {u v : Tm} → u ≡ v → SpineStands s bs u none v
     applied : {bs : List Binder} {u v w : Tm} {t : RTm} {ts : RTms} → Stands s bs t w → SpineStands s bs (app u w) ts v → SpineStands s bs u (more t ts) v
-
-pub both_parts : {A B C : Type 0} (f : A → B → C) (o : Option A) (q : Option B) (c : C) → both f o q ≡ Some c → (a : A) × (b : B) × (o ≡ Some a) × (q ≡ Some b) × (f a b ≡ c)
-both_parts f (Some a) (Some b) c e = (a, b, refl, refl, some_same e)
-both_parts f (Some a) None c e = absurd (none_some e)
-both_parts f None (Some b) c e = absurd (none_some e)
-both_parts f None None c e = absurd (none_some e)
-
-pub map_part : {A B : Type 0} (f : A → B) (o : Option A) (b : B) → option_map f o ≡ Some b → (a : A) × (o ≡ Some a) × (f a ≡ b)
-map_part f (Some a) b e = (a, refl, some_same e)
-map_part f None b e = absurd (none_some e)
 
 named_stands : (s : Scope) (bs : List Binder) (n : List ℕ) (at : ℕ) (u : Tm) (x y z : Option ℕ) → binder_number bs (named_binder n) ≡ x → number_of s.metas n ≡ y → number_of s.funs n ≡ z
     → or_else (option_map bound x) (or_else (option_map (λ z. meta z no_tms) y) (option_map fun z)) ≡ Some u → Stands s bs (named n at) u

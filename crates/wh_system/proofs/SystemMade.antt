@@ -12,11 +12,12 @@ use Rattle.wh_text.specs.Words.{IsName}
 use Rattle.wh_parts.specs.Parts.{RRule, RParts}
 use Rattle.wh_parts.specs.Tests.{count_test, sort_names, fun_names, names_tests, sorts_tests, fun_tests, funs_tests, width_of_term, arguments_of}
 use Rattle.wh_parts.specs.RuleTests.{type_of_raw, declared_by, scope_of, head_symbol, is_uneven, rule_tests, rules_tests, tests, refusal}
+use Rattle.wh_parts.proofs.OptionParts.{some_same}
 use Rattle.wh_system.specs.Systems.{SystemData, SaysRule, SayRules, Says}
 use Rattle.wh_system.specs.Nesting.{TypesNestWithin, RawTypesNestWithin}
 use Rattle.wh_system.specs.Proper.{AreProper}
 use Rattle.wh_system.specs.WellMade.{TypesWithin, IsTypeOver, IsDeclarationOver, AreDistinct, AreApart, IsWellMadeSystem}
-use Rattle.wh_system.proofs.PassedLaws.{Passed, passed_first, passed_parts, and_false, or_false, not_false, some_is, some_same}
+use Rattle.wh_system.proofs.PassedLaws.{Passed, passed_first, passed_parts, and_false, or_false, not_false, some_is}
 use Rattle.wh_system.proofs.NameLaws.{names_distinct}
 use Rattle.wh_system.proofs.StandsLaws.{stands}
 use Rattle.wh_system.proofs.SizeMade.{count_made}

@@ -9,9 +9,10 @@ use Rattle.wh_parts.specs.Parts.{RFun, RMeta}
 use Rattle.wh_parts.specs.Naming.{number_of, is_declared, type_meant, arrows_meant}
 use Rattle.wh_parts.specs.Tests.{sorts_of_type, width_of_type, width_of_types, count_of_types, type_tests, types_tests, fun_tests, meta_tests}
 use Rattle.wh_parts.specs.RuleTests.{type_of_raw, types_of_raw, declared_by}
+use Rattle.wh_parts.proofs.OptionParts.{some_same, none_some, and_then_parts}
 use Rattle.wh_system.specs.Nesting.{raw_nesting, RawTypesNestEach}
 use Rattle.wh_system.specs.WellMade.{ArgumentsWithin, IsTypeOver, IsDeclarationOver, AreDistinct, AreApart}
-use Rattle.wh_system.proofs.PassedLaws.{Passed, passed_first, passed_rest, passed_parts, or_false, some_same, none_some, joined}
+use Rattle.wh_system.proofs.PassedLaws.{Passed, passed_first, passed_rest, passed_parts, or_false}
 use Rattle.wh_system.proofs.NameLaws.{undeclared}
 use Rattle.wh_system.proofs.KindMade.{type_made}
 use Rattle.wh_system.proofs.NestingMade.{type_nesting-meant}
@@ -29,7 +30,7 @@ mutual
   widths_of_meant sorts no_types (Some s) k b room e p = subst (λ b. ArgumentsWithin 32 b × (length (arguments b) + k ≤ 32)) (some_same e) (tt, omega arith)
   widths_of_meant sorts (more_types a rest) o k b room e p =
       let parts = passed_parts (width_of_type a) (width_of_types (k + 1) rest) (passed_rest p) in
-      let both = joined (λ b c. b ⇒ c) (type_meant sorts a) (arrows_meant sorts rest (option_map sort o)) b e in
+      let both = and_then_parts (λ b c. b ⇒ c) (type_meant sorts a) (arrows_meant sorts rest (option_map sort o)) b e in
       let other : k ≡ 32 → ⊥ = eqb-false k 32 (passed_first p) in
       let there = widths_of_meant sorts rest o (k + 1) both.1 (next k room other) both.3 parts.1 in
       let long : length (arguments both.1) + (k + 1) ≤ 32 = there.1 in

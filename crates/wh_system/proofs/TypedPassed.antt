@@ -13,8 +13,8 @@ use Rattle.wh_parts.specs.Faults.{Test, first_of, first_fault}
 use Rattle.wh_parts.specs.Naming.{number_of, is_declared, type_meant, arrows_meant, Scope, binder_number, or_else, both, meant, all_meant, applied_meant}
 use Rattle.wh_parts.specs.Kinds.{TypedBinder, binders_of, declaration, takes, gives, where_true, are_wanted, meta_kind, outer_kind, kind_of, kinds_of, spine_kind}
 use Rattle.wh_parts.specs.Tests.{test, sorts_of_type, sorts_of_types, arity_of, count_of, wanted_tests, args_of, naming_tests, namings_tests, applying_tests}
-use Rattle.wh_system.proofs.PassedLaws.{Passed, passed_first, passed_rest, some_same, none_some}
-use Rattle.wh_system.proofs.StandsLaws.{both_parts, map_part}
+use Rattle.wh_parts.proofs.OptionParts.{some_same, none_some, both_parts, and_then_parts, map_part}
+use Rattle.wh_system.proofs.PassedLaws.{Passed, passed_first, passed_rest}
 use Rattle.wh_system.proofs.KindMade.{Kinds, symbols_of, binder_kind, no_binder, wanted_self}
 
 -- tests that pass
@@ -41,12 +41,6 @@ first_and_rest : {S : Symbols} {M : List Declared} {Γ : List Ty} {t : Tm} {ts :
     → (a : Ty) × (as_well : List Ty) × Typed S M Γ t a × AllTyped S M Γ ts as_well × ((a ∷ as_well) ≡ kinds)
 first_and_rest (typed_more {a = a} {bs = as_well} p ps) = (a, as_well, p, ps, refl)
 
-joined : {A B C : Type 0} (f : A → B → C) (o : Option A) (q : Option B) (c : C) → option_and_then (λ a. option_map (f a) q) o ≡ Some c
-    → (a : A) × (b : B) × (o ≡ Some a) × (q ≡ Some b) × (f a b ≡ c)
-joined f (Some a) (Some b) c e = (a, b, refl, refl, some_same e)
-joined f (Some a) None c e = absurd (none_some e)
-joined f None q c e = absurd (none_some e)
-
 -- types
 
 mutual
@@ -58,7 +52,7 @@ mutual
   arrows_passed sorts no_types (Some k) at s b is e = and_test _ [] (ap (λ o. not (is_some o)) is) no_test
   arrows_passed sorts no_types None at s b is e = absurd (none_some e)
   arrows_passed sorts (more_types a rest) o at s b is e =
-      let parts = joined (λ b c. b ⇒ c) (type_meant sorts a) (arrows_meant sorts rest (option_map sort o)) b e in
+      let parts = and_then_parts (λ b c. b ⇒ c) (type_meant sorts a) (arrows_meant sorts rest (option_map sort o)) b e in
       subst Passed (sym (append_assoc (sorts_of_type sorts a) (sorts_of_types sorts rest) _))
       (and_tests (sorts_of_type sorts a) (sorts_of_types sorts rest ++ test (not (is_declared sorts s)) (UnknownName at) ∷ []) (sorts_passed sorts a parts.0 parts.2) (arrows_passed sorts rest o at s parts.1 is parts.3))
 

@@ -4,9 +4,9 @@ use Rattle.wh_terms.specs.Tree.{Tm, bound, free, fun, meta, lam, app, Tms, none 
 use Rattle.wh_text.specs.RawTree.{Binder, named_binder, numbered_binder, RTm, named, numbered, free_variable, meta as raw_meta, lam as raw_lam, spine, RTms, none, more}
 use Rattle.wh_parts.specs.Naming.{number_of, type_meant, Scope, binder_number, or_else, both, meant, all_meant, applied_meant}
 use Rattle.wh_parts.specs.Tests.{width_of_type, width_of_term, widths_of_terms, width_of_arguments, arguments_of}
+use Rattle.wh_parts.proofs.OptionParts.{some_same, none_some, both_parts, map_part}
 use Rattle.wh_system.specs.WellMade.{TypesWithin, AllTypesWithin}
-use Rattle.wh_system.proofs.PassedLaws.{Passed, passed_rest, passed_parts, some_same, none_some}
-use Rattle.wh_system.proofs.StandsLaws.{both_parts, map_part}
+use Rattle.wh_system.proofs.PassedLaws.{Passed, passed_rest, passed_parts}
 use Rattle.wh_system.proofs.TypeMade.{width_of_meant}
 
 name_types : (n : Option ℕ) (z : Option ℕ) (f : Option ℕ) (u : Tm) → or_else (option_map bound n) (or_else (option_map (λ z. meta z no_tms) z) (option_map fun f)) ≡ Some u → TypesWithin 32 u

@@ -67,11 +67,10 @@ fn raw_under(
 {
     match term {
         Term::Bound(outward) => Ok(RawTerm::Numbered(depth - (*outward + 1), 0)),
-        Term::Free(number, kind) => Ok(RawTerm::Free(
-            *number,
-            raw_type(alloc, names.sorts, kind)?,
-            0,
-        )),
+        Term::Free(number, kind) => {
+            let kind = Box::new(alloc, raw_type(alloc, names.sorts, kind)?)?;
+            Ok(RawTerm::Free(*number, kind, 0))
+        }
         Term::Fun(symbol) => Ok(RawTerm::Named(copy_of(alloc, &names.funs[*symbol as usize])?, 0)),
         Term::Meta(meta, items) => {
             let name = copy_of(alloc, &names.metas[*meta as usize])?;
@@ -81,7 +80,7 @@ fn raw_under(
             Ok(RawTerm::Meta(name, raw_each(alloc, names, items, depth)?, 0))
         }
         Term::Lam(kind, body) => {
-            let kind = raw_type(alloc, names.sorts, kind)?;
+            let kind = Box::new(alloc, raw_type(alloc, names.sorts, kind)?)?;
             let body = raw_under(alloc, names, body, sum(depth, 1)?)?;
             Ok(RawTerm::Lam(RawBinder::Numbered(depth), kind, Box::new(alloc, body)?, 0))
         }

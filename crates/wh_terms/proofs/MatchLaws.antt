@@ -13,7 +13,7 @@ use Rattle.wh_terms.proofs.ValueForm.{up_times, shifted, value, FitsBodies, valu
 use Rattle.wh_terms.proofs.ValueLaws.{value_is}
 use Rattle.wh_terms.proofs.ValueSight.{bound_occurs, bound_values}
 
--- the bodies, bodies_below below k binders: their parameters stay
+-- the bodies, moved below k binders: their parameters stay
 abbrev pub bodies_below : ℕ → (ℕ → Body) → ℕ → Body
 bodies_below k g z = record { arity = (g z).arity; tree = rename (up_times (g z).arity (λ i. k + i)) (g z).tree }
 

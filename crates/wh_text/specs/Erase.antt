@@ -61,9 +61,9 @@ abbrev mutual
   pub rtm : RawTerm → RTm
   rtm (Named x at) = named x at
   rtm (Numbered n at) = numbered n at
-  rtm (Free n a at) = free_variable n (rty a) at
+  rtm (Free n a at) = free_variable n (rty a.value) at
   rtm (Meta' z shape all at) = meta z (term_row all) at
-  rtm (Lam' x a p t at) = lam (rbinder x) (rty a) (rtm t) at
+  rtm (Lam' x a p t at) = lam (rbinder x) (rty a.value) (rtm t) at
   rtm (Spine' p h shape all at) = spine (rtm h) (term_row all) at
 
   pub term_row : {m : _} → Row_of-RawTerm m → RTms

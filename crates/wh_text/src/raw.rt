@@ -34,11 +34,11 @@ pub enum RawTerm {
     /// `$` with a number.
     Numbered(u32, u32),
     /// `%` with a number, and its type.
-    Free(u32, RawType, u32),
+    Free(u32, Box<RawType>, u32),
     /// A name with arguments in brackets.
     Meta(Name, RawTerms, u32),
     /// An abstraction: its binder, the type of that, and the body.
-    Lam(RawBinder, RawType, Box<RawTerm>, u32),
+    Lam(RawBinder, Box<RawType>, Box<RawTerm>, u32),
     /// A head with one or more arguments; the head is no spine.
     Spine(Box<RawTerm>, RawTerms, u32),
 }

@@ -1,11 +1,18 @@
 -- Replies that are texts of their own.
-use Rattle.std.proofs.Common.{◌≡◌, ℕ, ◌≤◌, ◌⊎◌, inl, List, length, codes, subst, sym}
-use Rattle.wh_words.specs.Words.{Bounds, prove}
+use Rattle.std.proofs.Common.{◌≡◌, ℕ, ◌≤◌, ◌⊎◌, inl, inr, List, length, codes, Result, Ok, Err, IfOk, subst, subst₂, sym}
+use Rattle.wh_types.specs.Outcome.{MatchOr}
+use Rattle.wh_types.specs.declared.want.Or.{Or}
+use Rattle.wh_types.specs.declared.want.Or.TheVariants.{NoMemory, Because}
+use Rattle.wh_words.specs.Words.{Bounds, prove, show, gen}
+use Rattle.wh_answer.specs.declared.report.Report.{Report}
+use Rattle.wh_answer.specs.Texts.{line}
 use Rattle.wh_prover.specs.declared.answer.Options.{Options}
 use Rattle.wh_top.specs.declared.status.Status.{Status}
 use Rattle.wh_top.specs.declared.status.Status.TheVariants.{Answered}
-use Rattle.wh_top.specs.Outcomes.{Shelves, BeginsWith, ToldSystem, certificate_limit}
-use Rattle.wh_top.specs.Proving.{IsFoundText}
+use Rattle.wh_top.specs.Outcomes.{Shelves, BeginsWith, ToldSystem, StandsBySystem, certificate_limit}
+use Rattle.wh_top.specs.Texts.{IsShown, TellsMade}
+use Rattle.wh_top.specs.Generating.{ShowsGenerated, StandsForGenerated}
+use Rattle.wh_top.specs.Proving.{IsFoundText, StandsForSearch}
 use Rattle.wh_top.specs.Run.{Replies}
 use Rattle.wh_top.specs.Words.{options_of}
 
@@ -20,3 +27,39 @@ found_replies s file b o status found text same answered is told begins within =
       within = within;
       status_is = answered;
     }))
+
+-- what a search made, a text or the answer why there is none
+pub search_replies : (s : Shelves) (file : List ℕ) (b : Bounds) (o : Options) (made : Result (List ℕ) (Or Report)) (status : Status) (text : List ℕ)
+    → o ≡ options_of b → MatchOr made (λ t. ToldSystem (s.held file) (λ d ps. IsFoundText d ps o t)) (StandsForSearch s file o)
+    → IfOk made (λ t. BeginsWith (codes "YES 1") t ⊎ BeginsWith (codes "NO 1") t) → IfOk made (λ t. length t ≤ certificate_limit)
+    → TellsMade made status text → Replies s (prove file b) status text
+search_replies s file b o (Ok found) status text same told begins within (answered, is) =
+    found_replies s file b o status found text same answered is told begins within
+search_replies s file b o (Err (Because report)) status text same stands begins within (status_is, text_is) = inr (record {
+  report = report;
+  stands = subst (λ p. StandsForSearch s file p report) same stands;
+  status_is = status_is;
+  text_is = text_is;
+})
+search_replies s file b o (Err NoMemory) status text same stands begins within none = absurd none
+
+-- the same of a system that is shown
+pub show_replies : (s : Shelves) (file : List ℕ) (made : Result (List ℕ) (Or Report)) (status : Status) (text : List ℕ)
+    → MatchOr made (λ t. ToldSystem (s.held file) (IsShown t)) (StandsBySystem s file) → IfOk made (BeginsWith (line (codes "SYSTEM")))
+    → TellsMade made status text → Replies s (show file) status text
+show_replies s file (Ok shown) status text told begins (answered, is) = inl (record {
+  system = subst (λ t. ToldSystem (s.held file) (IsShown t)) (sym is) told;
+  begins = subst (BeginsWith (line (codes "SYSTEM"))) (sym is) begins;
+  status_is = answered;
+})
+show_replies s file (Err (Because report)) status text stands begins (status_is, text_is) =
+    inr (record { report = report; stands = stands; status_is = status_is; text_is = text_is })
+show_replies s file (Err NoMemory) status text stands begins none = absurd none
+
+-- and of a generated one
+pub generated_replies : (s : Shelves) (n : ℕ) (made : Result (List ℕ) (Or Report)) (status : Status) (text : List ℕ)
+    → MatchOr made (ShowsGenerated n Answered) (StandsForGenerated n) → TellsMade made status text → Replies s (gen n) status text
+generated_replies s n (Ok shown) status text shows (answered, is) = inl (subst₂ (ShowsGenerated n) (sym answered) (sym is) shows)
+generated_replies s n (Err (Because report)) status text stands (status_is, text_is) =
+    inr (record { report = report; stands = stands; status_is = status_is; text_is = text_is })
+generated_replies s n (Err NoMemory) status text stands none = absurd none

@@ -1,5 +1,7 @@
 -- The status of each answer, and the text that shows a system.
-use Rattle.std.specs.Prelude.{ℕ, ◌≡◌, List, ◌++◌, codes}
+use Rattle.std.specs.Prelude.{ℕ, ◌≡◌, List, ◌++◌, codes, Result, Ok, Err}
+use Rattle.wh_types.specs.declared.want.Or.{Or}
+use Rattle.wh_types.specs.declared.want.Or.TheVariants.{NoMemory, Because}
 use Rattle.wh_system.specs.Systems.{SystemData}
 use Rattle.wh_pairs.specs.PairData.{PairData}
 use Rattle.wh_print.specs.SystemText.{system_text}
@@ -38,3 +40,9 @@ pub record Tells (P : Report → Type 0) (status : status.Status) (text : List �
   pub stands : P report
   pub status_is : status ≡ status_of report
   pub text_is : text ≡ report_text report
+
+-- status and text are of what was made: its own text, or the answer why there is none; nothing is told of a want of memory
+abbrev pub TellsMade : Result (List ℕ) (Or Report) → status.Status → List ℕ → Type 0
+TellsMade (Ok made) status text = (status ≡ statuses.Answered) × (text ≡ made)
+TellsMade (Err (Because report)) status text = (status ≡ status_of report) × (text ≡ report_text report)
+TellsMade (Err NoMemory) status text = ⊥

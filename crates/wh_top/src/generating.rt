@@ -1,15 +1,21 @@
 //! The search for a proof of a generated system.
 
-ghost use Rattle.std.specs.Prelude.{◌≡◌, ◌≤◌, ◌++◌, IfOk, OnOk, length};
+ghost use Rattle.std.specs.Prelude.{◌≡◌, ◌≤◌, ◌++◌, IfOk, List, OnOk, length};
 ghost use Rattle.wh_types.specs.Outcome.{MatchOr};
 ghost use Rattle.wh_system.specs.SystemView.{system_data};
+ghost use Rattle.wh_pairs.specs.PairData.{PairData};
 ghost use Rattle.wh_pairs.specs.SystemPairs.{HasPairs};
 ghost use Rattle.wh_pairs.specs.Views.{pairs_data};
 ghost use Rattle.wh_gen.specs.Family.{gen_data};
 ghost use Rattle.wh_cert.specs.Limits.{IsCert};
 ghost use Rattle.wh_cert.specs.Said.{said};
+ghost use Rattle.wh_prover.specs.Answers.{IsAnswer};
+ghost use Rattle.wh_answer.specs.Texts.{report_text};
+ghost use Rattle.wh_answer.specs.declared.report.Report.TheVariants.{Maybe};
+ghost use Rattle.wh_top.specs.Proving.{CauseIsThere};
+ghost use Rattle.wh_top.specs.Rows.{named_cause};
 ghost use Rattle.wh_top.specs.declared.status.Status.TheVariants.{Answered};
-ghost use Rattle.wh_top.specs.Generating.{Comes, ShowsGenerated, StandsForGenerated, counted_line, generated_text, nodes_of};
+ghost use Rattle.wh_top.specs.Generating.{Comes, ShowsGenerated, StandsForGenerated, counted_line, generated_text, nodes_of, usual_options};
 
 use crate::files::pairs_of;
 use crate::proving::name_cause;
@@ -18,7 +24,7 @@ use wh_answer::{Report, print_answer};
 use wh_cert::Certificate;
 use wh_gen::generate;
 use wh_pairs::PairList;
-use wh_prover::{Answer, Options, prove};
+use wh_prover::{Answer, Cause, Options, prove};
 use wh_system::System;
 use wh_text::print_number;
 use wh_types::{Bytes, Or, counted};
@@ -85,24 +91,40 @@ fn searched(alloc: Global, system: &System, pairs: &PairList) -> Result<Outcome,
     requires { HasPairs (system_data system.now) (pairs_data pairs.now) }
     ensures { IfOk result (λ outcome. Comes (system_data system.now) (pairs_data pairs.now) outcome.nodes outcome.answer) }
 {
+    let answer = prove(alloc, system, pairs, &USUAL)?;
+    outcome_of(alloc, system, &answer)
+}
+
+// What the answer of the search comes to.
+fn outcome_of(alloc: Global, system: &System, answer: &Answer) -> Result<Outcome, AllocError>
+    requires { (ps : List PairData) × IsAnswer (system_data system.now) ps usual_options answer.now }
+    ensures { (ps : List PairData) → IsAnswer (system_data system.now) ps usual_options answer.now
+        → IfOk result (λ outcome. Comes (system_data system.now) ps outcome.nodes outcome.answer) }
+{
     system.is_well_made();
-    match prove(alloc, system, pairs, &USUAL)? {
+    match answer {
         Answer::Yes(certificate) => Ok(Outcome {
-            nodes: nodes_of(&certificate),
+            nodes: nodes_of(certificate),
             answer: text_of(alloc, b"answer YES\n")?,
         }),
         Answer::No(_) => Ok(Outcome {
             nodes: 0,
             answer: text_of(alloc, b"answer NO\n")?,
         }),
-        Answer::Maybe(cause) => {
-            let named = name_cause(alloc, system, &cause)?;
-            Ok(Outcome {
-                nodes: 0,
-                answer: print_answer(alloc, &Report::Maybe(named))?,
-            })
-        }
+        Answer::Maybe(cause) => Ok(Outcome {
+            nodes: 0,
+            answer: reason_text(alloc, system, cause)?,
+        }),
     }
+}
+
+// The line that says why nothing was found.
+fn reason_text(alloc: Global, system: &System, cause: &Cause) -> Result<Bytes, AllocError>
+    requires { CauseIsThere (system_data system.now) cause.now }
+    ensures { IfOk result (λ text. text ≡ report_text (Maybe (named_cause (system_data system.now) cause.now))) }
+{
+    let named = name_cause(alloc, system, cause)?;
+    print_answer(alloc, &Report::Maybe(named))
 }
 
 // How many nodes a certificate has.

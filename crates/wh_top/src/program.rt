@@ -7,7 +7,7 @@ ghost use Rattle.wh_answer.specs.Texts.{report_text};
 ghost use Rattle.wh_answer.specs.declared.report.Report.TheVariants.{OutOfMemory};
 ghost use Rattle.wh_top.specs.Outcomes.{BeginsWith, Told, outside};
 ghost use Rattle.wh_top.specs.Run.{Answers, EndsWith, MeansYes, Replies, SaysNo};
-ghost use Rattle.wh_top.specs.Texts.{status_of};
+ghost use Rattle.wh_top.specs.Texts.{TellsMade, status_of};
 ghost use Rattle.wh_top.specs.Words.{AsksWhether, options_of};
 ghost use Rattle.wh_top.specs.declared.status.Status.TheVariants.{Answered};
 
@@ -77,22 +77,21 @@ fn reply_to<S: Shelf>(alloc: Global, shelf: &mut S, command: &Command) -> Result
         },
         Command::Prove { file, limits } => {
             let options = options_of(limits);
-            match prove_file(alloc, shelf, file, &options) {
-                Ok(text) => Ok(answered(text)),
-                Err(Or::Because(report)) => told(alloc, report),
-                Err(Or::NoMemory) => Err(AllocError),
-            }
+            reply_with(alloc, prove_file(alloc, shelf, file, &options))
         }
-        Command::Show { file } => match show_file(alloc, shelf, file) {
-            Ok(text) => Ok(answered(text)),
-            Err(Or::Because(report)) => told(alloc, report),
-            Err(Or::NoMemory) => Err(AllocError),
-        },
-        Command::Gen { n } => match generated(alloc, *n) {
-            Ok(text) => Ok(answered(text)),
-            Err(Or::Because(report)) => told(alloc, report),
-            Err(Or::NoMemory) => Err(AllocError),
-        },
+        Command::Show { file } => reply_with(alloc, show_file(alloc, shelf, file)),
+        Command::Gen { n } => reply_with(alloc, generated(alloc, *n)),
+    }
+}
+
+// The reply with the text that was made, or with the answer why there is none.
+fn reply_with(alloc: Global, made: Result<Bytes, Or<Report>>) -> Result<Reply, AllocError>
+    ensures { IfOk result (λ reply. TellsMade made reply.status reply.text) }
+{
+    match made {
+        Ok(text) => Ok(answered(text)),
+        Err(Or::Because(report)) => told(alloc, report),
+        Err(Or::NoMemory) => Err(AllocError),
     }
 }
 

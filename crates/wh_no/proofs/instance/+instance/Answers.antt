@@ -6,7 +6,8 @@ use Rattle.wh_terms.specs.Erase.{tm}
 use Rattle.wh_terms.specs.Substitution.{act}
 use Rattle.wh_no.specs.Claim.{put_for}
 use Rattle.wh_no.specs.Entry.{entry_puts}
-use Rattle.wh_no.proofs.InstanceLemmas.{filled_lam, filled_app, no_lam, no_app}
+use Rattle.wh_terms.proofs.OtherTrees.{no_lam, no_app}
+use Rattle.wh_no.proofs.InstanceLemmas.{filled_lam, filled_app}
 use Rattle.wh_no.proofs.instance.+instance.Goals as goal
 
 pub returns-in_default : goal.returns-in_default

@@ -17,14 +17,16 @@ pub spare-returns-in_err-check_width-in-Lam : goal.spare-returns-in_err-check_wi
 spare-returns-in_err-check_width-in-Lam t c =
     spare_fault (rtm c.args.side.now) _ c.in_err-check_width-in-Lam.field-0.0 c.from_residual-in_err-check_width-in-Lam.ensures.1
     (ap (λ u. first_fault (width_of_term (rtm u))) c.in-Lam.is
-    ∙ fault_in_first (width_of_type (rty c.in-Lam.kind)) (width_of_term (rtm c.in-Lam.body.value)) c.in_err-check_width-in-Lam.field-0.0 c.in_err-check_width-in-Lam.ensures)
+    ∙ fault_in_first (width_of_type (rty c.in-Lam.kind.value)) (width_of_term (rtm c.in-Lam.body.value)) c.in_err-check_width-in-Lam.field-0.0
+    (sym (ap (λ k. first_fault (width_of_type (rty k))) c.deref-in-Lam.ensures) ∙ c.in_err-check_width-in-Lam.ensures))
 
 pub spare-returns-in_err-_left-in-Lam : goal.spare-returns-in_err-_left-in-Lam
 spare-returns-in_err-_left-in-Lam t c =
-    let inner = sym (ap (λ h. first_fault (width_of_term (rtm h))) c.deref.ensures) ∙ c.in_err-_left-in-Lam.ensures in
+    let kind = sym (ap (λ k. first_fault (width_of_type (rty k))) c.deref-in-Lam.ensures) ∙ c.in_ok-check_width-in-Lam.ensures in
+    let inner = sym (ap (λ h. first_fault (width_of_term (rtm h))) c.deref-in-Lam-2.ensures) ∙ c.in_err-_left-in-Lam.ensures in
     spare_fault (rtm c.args.side.now) _ c.in_err-_left-in-Lam.field-0.0 c.from_residual-in_err-_left-in-Lam.ensures.1
     (ap (λ u. first_fault (width_of_term (rtm u))) c.in-Lam.is
-    ∙ fault_after (width_of_type (rty c.in-Lam.kind)) (width_of_term (rtm c.in-Lam.body.value)) c.in_ok-check_width-in-Lam.ensures ∙ inner)
+    ∙ fault_after (width_of_type (rty c.in-Lam.kind.value)) (width_of_term (rtm c.in-Lam.body.value)) kind ∙ inner)
 
 pub spare-returns-in_err-room-in-Spine : goal.spare-returns-in_err-room-in-Spine
 spare-returns-in_err-room-in-Spine t c =
@@ -40,10 +42,11 @@ spare-returns-in_ok-check_each_width-in-Meta t c =
 
 pub spare-returns-in_ok-_left-in-Lam : goal.spare-returns-in_ok-_left-in-Lam
 spare-returns-in_ok-_left-in-Lam t c =
-    let inner = sym (ap (λ h. first_fault (width_of_term (rtm h))) c.deref.ensures) ∙ c.in_ok-_left-in-Lam.ensures.0 in
+    let kind = sym (ap (λ k. first_fault (width_of_type (rty k))) c.deref-in-Lam.ensures) ∙ c.in_ok-check_width-in-Lam.ensures in
+    let inner = sym (ap (λ h. first_fault (width_of_term (rtm h))) c.deref-in-Lam-2.ensures) ∙ c.in_ok-_left-in-Lam.ensures.0 in
     spare_whole (rtm c.args.side.now)
     (ap (λ u. first_fault (width_of_term (rtm u))) c.in-Lam.is
-    ∙ fault_after (width_of_type (rty c.in-Lam.kind)) (width_of_term (rtm c.in-Lam.body.value)) c.in_ok-check_width-in-Lam.ensures ∙ inner)
+    ∙ fault_after (width_of_type (rty c.in-Lam.kind.value)) (width_of_term (rtm c.in-Lam.body.value)) kind ∙ inner)
     (ap (λ u. arguments_of (rtm u)) c.in-Lam.is)
 
 pub spare-returns-in_ok-room-in-Spine : goal.spare-returns-in_ok-room-in-Spine

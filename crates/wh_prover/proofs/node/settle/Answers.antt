@@ -1,7 +1,7 @@
-use Rattle.std.proofs.Common.{◌≢◌, ◌<◌, ◌≤◌, ◌++◌, ℕ, List, [], length, map, reverse, All, sym, ap, subst, ◌∙◌, arith}
+use Rattle.std.proofs.Common.{◌≡◌, ◌≢◌, ◌<◌, ◌≤◌, ◌++◌, ℕ, List, [], length, map, reverse, All, sym, ap, subst, ◌∙◌, arith}
 use Rattle.std.proofs.lemmas.List.{length-map}
 use Rattle.wh_system.specs.SystemView.{system_data}
-use Rattle.wh_pairs.specs.PairData.{pair_data}
+use Rattle.wh_pairs.specs.PairData.{pair_data, IsIncreasing}
 use Rattle.wh_pairs.specs.Views.{pairs_data}
 use Rattle.wh_cert.specs.Said.{said_node}
 use Rattle.wh_cert.specs.declared.certificate.Node.TheVariants as code
@@ -11,6 +11,7 @@ use Rattle.wh_graph.proofs.GraphLemmas.{components_of_pairs}
 use Rattle.wh_prover.specs.Arriving.{IsAlone, IsAloneUnder}
 use Rattle.wh_prover.proofs.ArriveLemmas.{arrives_within, ended}
 use Rattle.wh_prover.proofs.NodeLemmas.{adds_done, adds_alone, adds_blocks, alone_same, tested_none, tested_some, not_so}
+use Rattle.wh_prover.proofs.SetLemmas.{sets_of_increasing}
 use Rattle.wh_prover.proofs.WalkLemmas.{said_push}
 use Rattle.wh_prover.proofs.node.settle.Goals as goal
 
@@ -41,10 +42,14 @@ returns-then-as_slice-gt1 c =
     let sets = reverse c.args.stack.now.items in
     let few = subst (λ n. n ≤ 4096) (sym (length-map pairs pair_data)) c.requires.few in
     let enough : 2 ≤ length parts = omega (arith, c.if-as_slice-gt1.true, ap (λ (l : List (List ℕ)). length l) c.as_slice-2.ensures) in
+    let blocks = c.as_slice-then-as_slice-gt1.result.now in
+    let blocks_are : blocks ≡ parts = c.as_slice-then-as_slice-gt1.ensures in
+    let (opened, are, put) = c.in_ok-open_blocks.ensures in
+    let same = sets_of_increasing blocks opened (subst (All IsIncreasing) (sym blocks_are) c.in_ok-blocks.ensures.increasing) are ∙ blocks_are in
     adds_blocks (system_data c.args.system.now) ps set parts sets (reverse c.open_blocks.new.stack.items) (map said_node nodes) (map said_node longer) few c.as_slice.ensures.increasing c.requires.arrives
     (components_of_pairs (system_data c.args.system.now).rules ps c.args.graph.now set parts c.requires.graph c.in_ok-blocks.ensures.components)
     c.in_ok-blocks.ensures.increasing enough
-    (c.in_ok-open_blocks.ensures ∙ ap (λ (l : List (List ℕ)). l ++ sets) c.as_slice-then-as_slice-gt1.ensures)
+    (put ∙ ap (λ (l : List (List ℕ)). l ++ sets) same)
     (said_push nodes longer (code.Blocks parts) c.in_ok-push-2.ensures.ok)
 
 pub is_alone-requires : goal.is_alone-requires

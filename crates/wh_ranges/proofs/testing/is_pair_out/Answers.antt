@@ -13,7 +13,8 @@ use Rattle.wh_meaning.specs.Covering.{pair_run}
 use Rattle.wh_covering.specs.Lines.{IsSide}
 use Rattle.wh_guesses.specs.Lines.{HasNoSide}
 use Rattle.wh_guesses.proofs.LineLemmas.{matched_some}
-use Rattle.wh_ranges.proofs.OutLemmas.{symbols_interpret, symbols_normal, marks_normal, sides_marked, pair_at, refuted_same, told_of_pair}
+use Rattle.wh_guesses.proofs.GuessTold.{symbols_interpret, symbols_normal, marks_normal, sides_marked, pair_at}
+use Rattle.wh_ranges.proofs.OutLemmas.{refuted_same, told_of_pair}
 use Rattle.wh_ranges.proofs.testing.is_pair_out.Goals as goal
 
 pub pair_side-requires-clause-interpreted : goal.pair_side-requires-clause-interpreted

@@ -5,7 +5,8 @@ use Rattle.wh_meaning.specs.Covering.{rule_run}
 use Rattle.wh_covering.specs.Lines.{IsSide}
 use Rattle.wh_guesses.specs.Lines.{HasNoSide}
 use Rattle.wh_guesses.proofs.LineLemmas.{matched_some}
-use Rattle.wh_ranges.proofs.OutLemmas.{symbols_interpret, symbols_normal, refuted_same, metas_of_rule}
+use Rattle.wh_guesses.proofs.GuessTold.{symbols_interpret, symbols_normal}
+use Rattle.wh_ranges.proofs.OutLemmas.{refuted_same, metas_of_rule}
 use Rattle.wh_ranges.proofs.testing.is_rule_out.Goals as goal
 
 pub rule_side-requires-clause-interpreted : goal.rule_side-requires-clause-interpreted

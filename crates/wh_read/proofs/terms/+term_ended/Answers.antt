@@ -21,7 +21,7 @@ returns-in_ok-new-in-Some-Body t c =
     let u = held.open_rule there in
     let w = held.frames_in r.no_frames c.pop.new.self.items in
     let x = rbinder c.in-Some-Body.x in
-    let a = rty c.in-Some-Body.a in
+    let a = rty c.in-Some-Body.a.value in
     state_along c.term_ended.result _ _ _
     (ap (λ b. r.term_ended parts (r.with_frames u w) w (lam x a (rtm b) c.in-Some-Body.at) (held.letter c.args.letter)) c.in_ok-new-in-Some-Body.ensures.ok
     ∙ term_under parts u there.frames.items c.pop.new.self.items c.in-Some-Body.field-0 _ (rtm c.args.term) (held.letter c.args.letter) c.in-Some-Body.ensures.items c.in-Some-Body.field-0-is

@@ -40,12 +40,12 @@ check_form-returns-else-branch t c =
 pub check_form-returns-in_default : goal.check_form-returns-in_default
 check_form-returns-in_default t c =
     subst (λ (r : RTm). TellsForm (tm c.args.term.now) r (Ok tt)) (sym (ap rtm c.in-Lam.is))
-    (no_lam_form c.args.term.now (rbinder c.in-Lam.field-0) (rty c.in-Lam.field-1) (rtm c.in-Lam.inner.value) c.in-Lam.field-3 (Ok tt) c.in_default.not-Lam)
+    (no_lam_form c.args.term.now (rbinder c.in-Lam.field-0) (rty c.in-Lam.field-1.value) (rtm c.in-Lam.inner.value) c.in-Lam.field-3 (Ok tt) c.in_default.not-Lam)
 
 pub check_form-returns-in-Lam-term : goal.check_form-returns-in-Lam-term
 check_form-returns-in-Lam-term t c =
     let x = rbinder c.in-Lam.field-0 in
-    let a = rty c.in-Lam.field-1 in
+    let a = rty c.in-Lam.field-1.value in
     let inner = c.deref-in-Lam.result.now in
     let body = c.deref.result.now in
     let raw : rtm c.args.raw.now ≡ raw_lam x a (rtm inner) c.in-Lam.field-3 = ap rtm c.in-Lam.is ∙ ap (λ r. raw_lam x a (rtm r) c.in-Lam.field-3) (sym c.deref-in-Lam.ensures) in

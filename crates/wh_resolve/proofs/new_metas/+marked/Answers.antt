@@ -66,12 +66,12 @@ check_marked-returns-in-Some t c =
 pub check_marked-returns-in_default-term : goal.check_marked-returns-in_default-term
 check_marked-returns-in_default-term t c =
     subst (λ (r : RTm). TellsNew c.args.marks.now (tm c.args.term.now) r (Ok tt)) (sym (ap rtm c.in-Lam.is))
-    (no_lam_new c.args.marks.now c.args.term.now (rbinder c.in-Lam.field-0) (rty c.in-Lam.field-1) (rtm c.in-Lam.inner.value) c.in-Lam.field-3 (Ok tt) c.in_default-term.not-Lam)
+    (no_lam_new c.args.marks.now c.args.term.now (rbinder c.in-Lam.field-0) (rty c.in-Lam.field-1.value) (rtm c.in-Lam.inner.value) c.in-Lam.field-3 (Ok tt) c.in_default-term.not-Lam)
 
 pub check_marked-returns-in-Lam-term : goal.check_marked-returns-in-Lam-term
 check_marked-returns-in-Lam-term t c =
     let x = rbinder c.in-Lam.field-0 in
-    let a = rty c.in-Lam.field-1 in
+    let a = rty c.in-Lam.field-1.value in
     let inner = c.deref-in-Lam.result.now in
     let body = c.deref.result.now in
     let raw : rtm c.args.raw.now ≡ raw_lam x a (rtm inner) c.in-Lam.field-3 = ap rtm c.in-Lam.is ∙ ap (λ r. raw_lam x a (rtm r) c.in-Lam.field-3) (sym c.deref-in-Lam.ensures) in

@@ -1,3 +1,4 @@
+use mathlib.Core.Path.{ap₂}
 use Rattle.std.proofs.Common.{◌≡◌, ◌+◌, List, [], ◌∷◌, drop, Some, ap, subst, sym, ◌∙◌, arith}
 use Rattle.std.proofs.lemmas.List.{map-append}
 use Rattle.wh_types.specs.Erase.{ty}
@@ -61,8 +62,9 @@ resolve_under-returns-in_err-kind-in-Lam-clause-told t c =
     let u = rtm c.args.term.now in
     let e = c.in_err-kind-in-Lam.field-0.0 in
     matched_err (IsResolved (naming_tests s bs u) (meant s (binders_of bs) u) (kind_of s bs u)) (naming_tests s bs u) c.from_residual-in_err-kind-in-Lam.result e c.from_residual-in_err-kind-in-Lam.ensures.1
-    (lam_fails_at s bs u (rtm c.in-Lam.body.value) (rbinder c.in-Lam.binder) (rty c.in-Lam.kind) c.in-Lam.field-3 e (ap rtm c.in-Lam.is)
-    (type_fails s.sorts (rty c.in-Lam.kind) e c.in_err-kind-in-Lam.ensures))
+    (lam_fails_at s bs u (rtm c.in-Lam.body.value) (rbinder c.in-Lam.binder) (rty c.deref-in-Lam.result.now) c.in-Lam.field-3 e
+    (ap rtm c.in-Lam.is ∙ ap (λ k. lam (rbinder c.in-Lam.binder) (rty k) (rtm c.in-Lam.body.value) c.in-Lam.field-3) (sym c.deref-in-Lam.ensures))
+    (type_fails s.sorts (rty c.deref-in-Lam.result.now) e c.in_err-kind-in-Lam.ensures))
 
 pub resolve_under-returns-in_err-body-in-Lam-clause-told : goal.resolve_under-returns-in_err-body-in-Lam-clause-told
 resolve_under-returns-in_err-body-in-Lam-clause-told t c =
@@ -70,11 +72,12 @@ resolve_under-returns-in_err-body-in-Lam-clause-told t c =
     let bs = typed c.args.passed.now.items in
     let u = rtm c.args.term.now in
     let x = rbinder c.in-Lam.binder in
-    let a = rty c.in-Lam.kind in
+    let a = rty c.deref-in-Lam.result.now in
     let k = ty c.in_ok-copy-in-Lam.field-0 in
-    let body = rtm c.deref-in-Lam.result.now in
+    let body = rtm c.deref-in-Lam-2.result.now in
     let e = c.in_err-body-in-Lam.field-0.0 in
-    let is : u ≡ lam x a body c.in-Lam.field-3 = ap rtm c.in-Lam.is ∙ ap (λ b. lam x a (rtm b) c.in-Lam.field-3) (sym c.deref-in-Lam.ensures) in
+    let is : u ≡ lam x a body c.in-Lam.field-3 =
+    ap rtm c.in-Lam.is ∙ ap₂ (λ k b. lam x (rty k) (rtm b) c.in-Lam.field-3) (sym c.deref-in-Lam.ensures) (sym c.deref-in-Lam-2.ensures) in
     matched_err (IsResolved (naming_tests s bs u) (meant s (binders_of bs) u) (kind_of s bs u)) (naming_tests s bs u) c.from_residual-in_err-body-in-Lam.result e c.from_residual-in_err-body-in-Lam.ensures.1
     (lam_fails_in s bs u body x a c.in-Lam.field-3 k e is c.in_ok-kind-in-Lam.ensures.0 (c.in_ok-kind-in-Lam.ensures.1 ∙ ap Some (sym c.in_ok-copy-in-Lam.ensures))
     (term_fails s (record { binder = x; kind = Some k } ∷ bs) body e c.in_err-body-in-Lam.ensures.told))
@@ -101,10 +104,11 @@ pub resolve_under-returns-in_ok-abstracted-in-Lam-clause-told : goal.resolve_und
 resolve_under-returns-in_ok-abstracted-in-Lam-clause-told t c =
     let u = rtm c.args.term.now in
     let x = rbinder c.in-Lam.binder in
-    let a = rty c.in-Lam.kind in
+    let a = rty c.deref-in-Lam.result.now in
     let k = ty c.in_ok-copy-in-Lam.field-0 in
-    let body = rtm c.deref-in-Lam.result.now in
-    let is : u ≡ lam x a body c.in-Lam.field-3 = ap rtm c.in-Lam.is ∙ ap (λ b. lam x a (rtm b) c.in-Lam.field-3) (sym c.deref-in-Lam.ensures) in
+    let body = rtm c.deref-in-Lam-2.result.now in
+    let is : u ≡ lam x a body c.in-Lam.field-3 =
+    ap rtm c.in-Lam.is ∙ ap₂ (λ k b. lam x (rty k) (rtm b) c.in-Lam.field-3) (sym c.deref-in-Lam.ensures) (sym c.deref-in-Lam-2.ensures) in
     lam_whole (in_scope c.args.scope.now) (typed c.args.passed.now.items) u body x a c.in-Lam.field-3 k c.in_ok-body-in-Lam.body c.in_ok-abstracted-in-Lam.field-0 is
     c.in_ok-kind-in-Lam.ensures.0 (c.in_ok-kind-in-Lam.ensures.1 ∙ ap Some (sym c.in_ok-copy-in-Lam.ensures)) c.in_ok-body-in-Lam.ensures.told
     (c.in_ok-abstracted-in-Lam.ensures.term ∙ ap (λ j. lam_tree j (tm c.in_ok-body-in-Lam.body.term)) (sym c.in_ok-copy-in-Lam.ensures))

@@ -1,3 +1,4 @@
+use mathlib.Core.Path.{ap₂}
 use Rattle.std.proofs.Common.{◌≡◌, ◌∙◌, sym, ap, subst}
 use Rattle.wh_text.specs.RawTree.{lam, spine}
 use Rattle.wh_text.specs.declared.raw.RawTerm.{RawTerm}
@@ -18,10 +19,10 @@ print_term-returns-in_ok-append-in-Meta t c =
 pub print_term-returns-in_ok-print_term-in-Lam : goal.print_term-returns-in_ok-print_term-in-Lam
 print_term-returns-in_ok-print_term-in-Lam t c =
     let binder = rbinder c.in-Lam.binder in
-    let type = rty c.in-Lam.a in
-    let Is : RawTerm → Type 0 = λ body. rtm c.args.term.now ≡ lam binder type (rtm body) c.in-Lam.field-3 in
-    let is : Is c.deref.result.now = subst Is (sym c.deref.ensures) (ap rtm c.in-Lam.is) in
-    on_ok c.push-in-Lam-3.result _ _ (lam_pushes (rtm c.args.term.now) binder type (rtm c.deref.result.now) c.in-Lam.field-3 c.args.out.now c.append-in-Lam.new.self c.print_binder.new.out c.push-in-Lam.new.self c.print_part-in-Lam.new.out c.push-in-Lam-2.new.self c.print_term.new.out c.push-in-Lam-3.new.self is c.in_ok-append-in-Lam.ensures.ok c.in_ok-print_binder-in-Lam.ensures c.in_ok-push-in-Lam.ensures.ok c.in_ok-print_part-in-Lam.ensures c.in_ok-push-in-Lam-2.ensures.ok c.in_ok-print_term-in-Lam.ensures) c.push-in-Lam-3.ensures.ok
+    let type = rty c.deref-in-Lam.result.now in
+    let is : rtm c.args.term.now ≡ lam binder type (rtm c.deref-in-Lam-2.result.now) c.in-Lam.field-3 =
+    ap rtm c.in-Lam.is ∙ ap₂ (λ a b. lam binder (rty a) (rtm b) c.in-Lam.field-3) (sym c.deref-in-Lam.ensures) (sym c.deref-in-Lam-2.ensures) in
+    on_ok c.push-in-Lam-3.result _ _ (lam_pushes (rtm c.args.term.now) binder type (rtm c.deref-in-Lam-2.result.now) c.in-Lam.field-3 c.args.out.now c.append-in-Lam.new.self c.print_binder.new.out c.push-in-Lam.new.self c.print_part-in-Lam.new.out c.push-in-Lam-2.new.self c.print_term.new.out c.push-in-Lam-3.new.self is c.in_ok-append-in-Lam.ensures.ok c.in_ok-print_binder-in-Lam.ensures c.in_ok-push-in-Lam.ensures.ok c.in_ok-print_part-in-Lam.ensures c.in_ok-push-in-Lam-2.ensures.ok c.in_ok-print_term-in-Lam.ensures) c.push-in-Lam-3.ensures.ok
 
 pub print_term-returns-in_ok-print_each-in-Spine :
     goal.print_term-returns-in_ok-print_each-in-Spine

@@ -1,15 +1,37 @@
-use Rattle.std.proofs.Common.{sym, subst}
+use Rattle.std.proofs.Common.{subst, sym}
+use Rattle.wh_terms.proofs.Results.{IfOk-map}
 use Rattle.wh_words.specs.Asked.{bounds_of, request}
 use Rattle.wh_top.specs.Outcomes.{Shelves, outside}
 use Rattle.wh_top.specs.Run.{Replies}
-use Rattle.wh_top.proofs.Replying.{found_replies}
+use Rattle.wh_top.specs.Texts.{TellsMade}
+use Rattle.wh_top.proofs.Replying.{search_replies, show_replies, generated_replies}
 use Rattle.wh_top.proofs.program.reply_to.Goals as goal
 
-pub returns-in-Ok-prove_file-clause-served : goal.returns-in-Ok-prove_file-clause-served
-returns-in-Ok-prove_file-clause-served g c =
+pub returns-in-Prove-clause-served : goal.returns-in-Prove-clause-served
+returns-in-Prove-clause-served g c =
     let s : Shelves = outside (g.S.Shelf.held c.args.shelf.now) (g.S.Shelf.faults c.args.shelf.now) (g.S.Shelf.faults c.prove_file.new.shelf) in
-    let found = c.in-Ok-prove_file.ensures in
-    let reply = c.answered.result in
-    subst (λ command. Replies s (request command) reply.status reply.text) (sym c.in-Prove.is)
-    (found_replies s c.in-Prove.file.now (bounds_of c.in-Prove.limits) c.options_of-options.result reply.status c.in-Ok-prove_file.text reply.text c.options_of-options.ensures c.answered.ensures.status c.answered.ensures.text
-    found.found found.begins found.within)
+    let found = c.prove_file.ensures in
+    let made = c.prove_file.result in
+    IfOk-map (λ reply. TellsMade made reply.status reply.text) (λ reply. Replies s (request c.args.command.now) reply.status reply.text)
+    c.reply_with.result
+    (λ reply tells. subst (λ command. Replies s (request command) reply.status reply.text) (sym c.in-Prove.is)
+    (search_replies s c.in-Prove.file.now (bounds_of c.in-Prove.limits) c.options_of-options.result made reply.status reply.text c.options_of-options.ensures
+    found.found found.begins found.within tells)) c.reply_with.ensures
+
+pub returns-in-Show-clause-served : goal.returns-in-Show-clause-served
+returns-in-Show-clause-served g c =
+    let s : Shelves = outside (g.S.Shelf.held c.args.shelf.now) (g.S.Shelf.faults c.args.shelf.now) (g.S.Shelf.faults c.show_file.new.shelf) in
+    let made = c.show_file.result in
+    IfOk-map (λ reply. TellsMade made reply.status reply.text) (λ reply. Replies s (request c.args.command.now) reply.status reply.text)
+    c.reply_with-in-Show.result
+    (λ reply tells. subst (λ command. Replies s (request command) reply.status reply.text) (sym c.in-Show.is)
+    (show_replies s c.in-Show.file.now made reply.status reply.text c.show_file.ensures.shows c.show_file.ensures.begins tells)) c.reply_with-in-Show.ensures
+
+pub returns-in-Gen-clause-served : goal.returns-in-Gen-clause-served
+returns-in-Gen-clause-served g c =
+    let s : Shelves = outside (g.S.Shelf.held c.args.shelf.now) (g.S.Shelf.faults c.args.shelf.now) (g.S.Shelf.faults c.args.shelf.now) in
+    let made = c.generated.result in
+    IfOk-map (λ reply. TellsMade made reply.status reply.text) (λ reply. Replies s (request c.args.command.now) reply.status reply.text)
+    c.reply_with-in-Gen.result
+    (λ reply tells. subst (λ command. Replies s (request command) reply.status reply.text) (sym c.in-Gen.is)
+    (generated_replies s c.in-Gen.n made reply.status reply.text c.generated.ensures tells)) c.reply_with-in-Gen.ensures

@@ -1,27 +1,9 @@
-//! Sets of pairs from blocks, and lists of numbers.
+//! Lists of numbers.
 
-ghost use Rattle.std.specs.Prelude.{◌≡◌, ◌++◌, All, IfOk, OnOk, reverse};
-ghost use Rattle.wh_pairs.specs.PairData.{IsIncreasing};
+ghost use Rattle.std.specs.Prelude.{◌≡◌, IfOk};
 
 use std::alloc::{AllocError, Global};
-use wh_checker::set_of;
-use wh_pairs::PairSet;
 use wh_types::{Numbers, Ranks};
-
-/// Puts the blocks on the stack as sets, the first on top.
-pub fn open_blocks(
-    alloc: Global,
-    blocks: &[Numbers],
-    stack: &mut Vec<PairSet>,
-) -> Result<(), AllocError>
-    requires { All IsIncreasing blocks.now }
-    ensures { OnOk result (reverse stack.new.items ≡ blocks.now ++ reverse stack.old.items) }
-{
-    for i in (0..blocks.len()).rev() {
-        stack.push(set_of(alloc, blocks[i].as_slice())?)?;
-    }
-    Ok(())
-}
 
 /// The same numbers as a list of its own.
 pub fn numbers_of(alloc: Global, list: &[u32]) -> Result<Numbers, AllocError>

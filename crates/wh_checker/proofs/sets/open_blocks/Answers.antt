@@ -2,7 +2,7 @@ use Rattle.std.proofs.Common.{ℕ, List, [], ◌∷◌, Contains, length, revers
 use Rattle.std.proofs.lemmas.List.{drop_all}
 use Rattle.wh_nodes.specs.Nodes.{IsSetOf, AreSetsOf, no_sets}
 use Rattle.wh_checker.proofs.GoLemmas.{reverse_push, sets_before}
-use Rattle.wh_checker.proofs.node.open_blocks.Goals as goal
+use Rattle.wh_checker.proofs.sets.open_blocks.Goals as goal
 
 pub loop-i-init : goal.loop-i-init
 loop-i-init c =

@@ -1,6 +1,6 @@
 use Rattle.std.proofs.Common.{◌≡◌, ℕ, List, ◌++◌, drop, reverse}
 use Rattle.wh_nodes.specs.Nodes.{AreSetsOf}
-use Rattle.wh_checker.proofs.node.open_blocks.Given as goal
+use Rattle.wh_checker.proofs.sets.open_blocks.Given as goal
 
 abbrev pub invariant-loop-i : goal.invariant-loop-i
 invariant-loop-i l =
