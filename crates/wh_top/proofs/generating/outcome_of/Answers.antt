@@ -10,16 +10,16 @@ nodes_of-requires c =
     let is = rw c.in-Yes.is at c.requires.1 in
     is.fits
 
-pub returns-in-Yes : goal.returns-in-Yes
-returns-in-Yes c = λ ps found.
+pub returns-in_ok-text_of-in-Yes : goal.returns-in_ok-text_of-in-Yes
+returns-in_ok-text_of-in-Yes c = λ ps found.
     let d = system_data c.args.system.now in
     let cert = said c.in-Yes.certificate in
     let is = rw c.in-Yes.is at found in
     subst (λ n. Comes d ps n c.in_ok-text_of-in-Yes.field-0) (sym c.nodes_of.ensures)
     (subst (Comes d ps (length (nodes_of cert))) (sym c.in_ok-text_of-in-Yes.ensures) (comes_yes cert is))
 
-pub returns-in-No : goal.returns-in-No
-returns-in-No c = λ ps found.
+pub returns-in_ok-text_of-in-No : goal.returns-in_ok-text_of-in-No
+returns-in_ok-text_of-in-No c = λ ps found.
     let is = rw c.in-No.is at found in
     subst (Comes (system_data c.args.system.now) ps 0) (sym c.in_ok-text_of-in-No.ensures) (comes_no _ is)
 
@@ -29,7 +29,7 @@ reason_text-requires c =
     let is = rw c.in-Maybe.is at found in
     reason_there (system_data c.args.system.now) ps usual_options c.in-Maybe.cause c.is_well_made.ensures is
 
-pub returns-in-Maybe : goal.returns-in-Maybe
-returns-in-Maybe c = λ ps found.
+pub returns-in_ok-reason_text-in-Maybe : goal.returns-in_ok-reason_text-in-Maybe
+returns-in_ok-reason_text-in-Maybe c = λ ps found.
     let is = rw c.in-Maybe.is at found in
-    subst (Comes (system_data c.args.system.now) ps 0) (sym c.in_ok-reason_text.ensures) (comes_maybe c.in-Maybe.cause is)
+    subst (Comes (system_data c.args.system.now) ps 0) (sym c.in_ok-reason_text-in-Maybe.ensures) (comes_maybe c.in-Maybe.cause is)
