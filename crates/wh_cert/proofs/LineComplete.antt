@@ -8,11 +8,11 @@ use Rattle.wh_terms.specs.declared.path.Step as taken
 use Rattle.wh_text.specs.Chars.{is_digit}
 use Rattle.wh_text.specs.RawTree.{RTy, RTm}
 use Rattle.wh_text.specs.Spelling.{put_part, put_term}
+use Rattle.wh_letters.specs.Digits.{goes_on}
+use Rattle.wh_letters.proofs.NamesAndNumbers.{ReadsNumbers, number_run, is_digit_48, goes_on_48}
 use Rattle.wh_cert_parts.specs.TermLimits.{TermFits}
 use Rattle.wh_cert_parts.specs.TypeMachine.{outside, type_wanted, TypeStep, goes, type_ended, no_type, type_step}
 use Rattle.wh_cert_parts.specs.TermMachine as m
-use Rattle.wh_cert_parts.specs.TermMachine.{goes_on}
-use Rattle.wh_cert_parts.proofs.NamesAndNumbers.{ReadsNumbers, number_run, is_digit_48, goes_on_48}
 use Rattle.wh_cert_parts.proofs.TypeLaws.{TypeScan, in_type, type_read, no_scan, type_scan, type_run}
 use Rattle.wh_cert_parts.proofs.TermComplete.{Scan, still, read, stuck, scan, term_run}
 use Rattle.wh_cert.specs.Written.{Put, Cert, yes, no}

@@ -8,12 +8,13 @@ use Rattle.std.specs.Fmt.{decimal}
 use Rattle.wh_hopoly.specs.declared.expression.Move as moved
 use Rattle.wh_text.specs.Chars.{is_digit, is_start, is_part}
 use Rattle.wh_text.specs.Words.{IsWord}
+use Rattle.wh_letters.specs.Digits.{goes_on, begins_big, goes_on_big}
+use Rattle.wh_letters.proofs.NamesAndNumbers.{first_letter, next_letter, first_digit_spelled, first_digit_small, goes_on_true, next_digit_spelled}
 use Rattle.wh_cert_parts.specs.PolyText.{put_poly}
 use Rattle.wh_cert_parts.specs.TermLimits.{IsSmall}
 use Rattle.wh_cert_parts.specs.PolyLimits.{IsBig}
-use Rattle.wh_cert_parts.specs.TermMachine.{goes_on}
-use Rattle.wh_cert_parts.specs.PolyMachine.{outside, poly_wanted, PolyStep, goes, poly_ended, no_poly, begins_big, goes_on_big, poly_step}
-use Rattle.wh_cert_parts.proofs.NamesAndNumbers.{first_letter, next_letter, first_digit_spelled, first_digit_small, goes_on_true, next_digit_spelled, begins_big_spelled, first_big, next_big, next_big_spelled}
+use Rattle.wh_cert_parts.specs.PolyMachine.{outside, poly_wanted, PolyStep, goes, poly_ended, no_poly, poly_step}
+use Rattle.wh_cert_parts.proofs.BigNumbers.{begins_big_spelled, first_big, next_big, next_big_spelled}
 use Rattle.wh_cert_parts.proofs.PolyLaws.{poly_seen, GoodPolys, GoodPolyPlace, PolyNext, poly_kept}
 use Rattle.wh_cert.specs.Interps.{Interp}
 use Rattle.wh_cert.specs.Text.{put_interp, put_interps, put_move, put_moves, put_cover, put_covers}

@@ -5,9 +5,9 @@ use Rattle.std.proofs.lemmas.Bool.{cond-true, lt-ltb, and_from}
 use Rattle.std.proofs.lemmas.List.Elements.{All-head, All-tail}
 use Rattle.std.specs.Fmt.{decimal}
 use Rattle.wh_text.specs.Chars.{is_digit, is_start, is_part}
+use Rattle.wh_letters.specs.Digits.{goes_on}
+use Rattle.wh_letters.proofs.NamesAndNumbers.{ReadsNames, name_run, ReadsNumbers, number_run, is_digit_48, goes_on_48}
 use Rattle.wh_cert_parts.specs.TermLimits.{IsSmall}
-use Rattle.wh_cert_parts.specs.TermMachine.{goes_on}
-use Rattle.wh_cert_parts.proofs.NamesAndNumbers.{ReadsNames, name_run, ReadsNumbers, number_run, is_digit_48, goes_on_48}
 use Rattle.wh_cert.specs.Written.{Arg, Node, done, alone, blocks, subterm, interpretations, children, Preorder}
 use Rattle.wh_cert.specs.Text.{put_numbers, put_blocks, put_arg, put_args, put_node, put_nodes, put_interps, put_covers}
 use Rattle.wh_cert.specs.Limits.{ArgFits, NodeFits}

@@ -7,9 +7,9 @@ use Rattle.std.proofs.lemmas.List.Elements.{All-nil, All-push, All-weaker}
 use Rattle.std.specs.Fmt.{decimal}
 use Rattle.wh_text.specs.Chars.{is_digit, is_start, is_part}
 use Rattle.wh_text.specs.Words.{IsWord}
+use Rattle.wh_letters.specs.Digits.{goes_on}
+use Rattle.wh_letters.proofs.NamesAndNumbers.{first_letter, next_letter, first_digit_spelled, first_digit_small, goes_on_true, next_digit_spelled}
 use Rattle.wh_cert_parts.specs.TermLimits.{IsSmall}
-use Rattle.wh_cert_parts.specs.TermMachine.{goes_on}
-use Rattle.wh_cert_parts.proofs.NamesAndNumbers.{first_letter, next_letter, first_digit_spelled, first_digit_small, goes_on_true, next_digit_spelled}
 use Rattle.wh_cert.specs.Written.{Arg, Node, blocks, children}
 use Rattle.wh_cert.specs.Text.{put_numbers, put_block, put_blocks, put_arg, put_args, put_node, put_nodes}
 use Rattle.wh_cert.specs.Limits.{ArgFits, NodeFits, NodeWithin}

@@ -3,8 +3,8 @@
 use Rattle.std.specs.Prelude.{ℕ, ◌+◌, ◌-◌, ◌*◌, ◌==◌, ◌&&◌, nat_lt, cond, List, [], ◌∷◌, ◌++◌, length, codes}
 use Rattle.wh_hopoly.specs.declared.expression.Move as moved
 use Rattle.wh_text.specs.Chars.{is_digit, is_start, is_part}
-use Rattle.wh_cert_parts.specs.TermMachine.{goes_on}
-use Rattle.wh_cert_parts.specs.PolyMachine.{PolyStack, outside, PolyPlace, poly_wanted, PolyStep, goes, poly_ended, no_poly, begins_big, goes_on_big, poly_step}
+use Rattle.wh_letters.specs.Digits.{goes_on, begins_big, goes_on_big}
+use Rattle.wh_cert_parts.specs.PolyMachine.{PolyStack, outside, PolyPlace, poly_wanted, PolyStep, goes, poly_ended, no_poly, poly_step}
 use Rattle.wh_cert.specs.Interps.{Interp}
 
 -- the lines so far: of symbols; of marked symbols too; of rules too; of pairs too

@@ -3,7 +3,7 @@
 use Rattle.std.specs.Prelude.{ℕ, zero, suc, ◌+◌, ◌-◌, ◌*◌, ◌==◌, ◌&&◌, nat_lt, Bool, cond, List, [], ◌∷◌, ◌++◌, length, codes}
 use Rattle.wh_text.specs.Chars.{is_digit, is_start, is_part}
 use Rattle.wh_hopoly.specs.declared.expression.Move as moved
-use Rattle.wh_cert_parts.specs.TermMachine.{goes_on}
+use Rattle.wh_letters.specs.Digits.{goes_on}
 use Rattle.wh_cert.specs.Interps.{Interp}
 use Rattle.wh_cert.specs.Written.{Arg, Node, done, alone, blocks, subterm, interpretations, children}
 use Rattle.wh_cert.specs.PolyLines as l

@@ -11,10 +11,8 @@ ghost use Rattle.wh_cert.specs.declared.line_reader.LinePlace.TheVariants.{Word,
 use crate::certificate::Put;
 use std::alloc::{AllocError, Global};
 use std::mem;
-use wh_cert_parts::{
-    Frame, TermPlace, TermStep, TypePlace, TypeStep, first_number, next_number, term_step,
-    type_step,
-};
+use wh_cert_parts::{Frame, TermPlace, TermStep, TypePlace, TypeStep, term_step, type_step};
+use wh_letters::{first_number, next_number};
 use wh_terms::{Path, Step};
 use wh_text::{RawTerm, RawType, RawTypes};
 

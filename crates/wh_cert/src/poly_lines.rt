@@ -13,10 +13,9 @@ ghost use Rattle.wh_cert.specs.declared.poly_lines.LinesPlace.TheVariants as pla
 use crate::poly_node::{Interp, Interps, PolyNode};
 use std::alloc::{AllocError, Global};
 use std::mem;
-use wh_cert_parts::{
-    Letters, PolyStep, PolyText, begins_name, first_big, first_number, next_big, next_number,
-};
+use wh_cert_parts::{PolyStep, PolyText};
 use wh_hopoly::{Covers, Move, Moves, Poly};
+use wh_letters::{Letters, begins_name, first_big, first_number, next_big, next_number};
 use wh_types::Numbers;
 
 /// Of which kind the last line is.

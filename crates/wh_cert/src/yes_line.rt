@@ -16,7 +16,7 @@ use crate::certificate::{Arg, Args, Node};
 use crate::poly_lines::{LinesStep, PolyLines, Section};
 use std::alloc::{AllocError, Global};
 use std::mem;
-use wh_cert_parts::{Letters, begins_name, first_number, next_number};
+use wh_letters::{Letters, begins_name, first_number, next_number};
 use wh_types::{Blocks, Numbers};
 
 /// A list of numbers.

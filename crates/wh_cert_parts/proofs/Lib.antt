@@ -1,4 +1,4 @@
-pub mod NamesAndNumbers
+pub mod BigNumbers
 pub mod TypeLaws
 pub mod PolyLaws
 pub mod PolyRuns

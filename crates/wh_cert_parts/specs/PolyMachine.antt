@@ -1,9 +1,9 @@
 -- A reader of polynomials, byte by byte, as a function: where it stands, and where the next byte leads. It mirrors the code; the
 -- laws in proofs/ tie it to the text.
-use Rattle.std.specs.Prelude.{ℕ, suc, ◌+◌, ◌-◌, ◌*◌, ◌^◌, ◌==◌, ◌&&◌, nat_lt, Bool, cond}
+use Rattle.std.specs.Prelude.{ℕ, suc, ◌+◌, ◌-◌, ◌*◌, ◌==◌, ◌&&◌, nat_lt, cond}
 use Rattle.wh_text.specs.Chars.{is_digit}
 use Rattle.wh_hopoly.specs.Polynomials.{Polynomial, zero_poly, plus, Factors, no_factors, times, Arguments, no_arguments, argument}
-use Rattle.wh_cert_parts.specs.TermMachine.{goes_on}
+use Rattle.wh_letters.specs.Digits.{goes_on, begins_big, goes_on_big}
 
 -- the open parentheses, the innermost first, each with the finished monomials, coefficient and finished factors of the monomial
 -- that it stands in, the number of its variable, and the arguments that have ended
@@ -43,13 +43,6 @@ add_factor (times y qs us) x ps = times y qs (add_factor us x ps)
 abbrev pub add_argument : Arguments → Polynomial → Arguments
 add_argument no_arguments p = argument p no_arguments
 add_argument (argument q ps) p = argument q (add_argument ps p)
-
--- the digit begins a number of at least 1, or goes on the number n below 2^128
-abbrev pub begins_big : ℕ → Bool
-begins_big b = is_digit b && nat_lt 48 b
-
-abbrev pub goes_on_big : ℕ → ℕ → Bool
-goes_on_big n b = is_digit b && nat_lt (10 * n + (b - 48)) (2 ^ 128)
 
 -- a polynomial has ended before the byte
 abbrev pub behind_poly : PolyStack → Polynomial → ℕ → PolyStep

@@ -1,8 +1,9 @@
 -- A reader of terms up to a line feed, byte by byte, as a function. It mirrors the code; the laws in proofs/ tie it to the
 -- text.
-use Rattle.std.specs.Prelude.{ℕ, suc, ◌+◌, ◌-◌, ◌*◌, ◌==◌, ◌&&◌, nat_lt, nat_le, Bool, cond, List, [], ◌∷◌, ◌++◌, length}
+use Rattle.std.specs.Prelude.{ℕ, suc, ◌+◌, ◌-◌, ◌*◌, ◌==◌, ◌&&◌, nat_lt, cond, List, [], ◌∷◌, ◌++◌, length}
 use Rattle.wh_text.specs.Chars.{is_digit, is_start, is_part}
 use Rattle.wh_text.specs.RawTree.{RTy, numbered_binder, RTm, named, numbered, free_variable, lam, spine, RTms, none, more}
+use Rattle.wh_letters.specs.Digits.{goes_on}
 use Rattle.wh_cert_parts.specs.TermLimits.{term_count}
 use Rattle.wh_cert_parts.specs.TypeMachine.{TypeStack, outside, TypePlace, type_wanted, TypeStep, goes, type_ended, no_type, type_step}
 
@@ -46,10 +47,6 @@ level (in_body n a fs) = suc (level fs)
 abbrev pub add_term : RTms → RTm → RTms
 add_term none u = more u none
 add_term (more t ts) u = more t (add_term ts u)
-
--- the digit goes on the number n
-abbrev pub goes_on : ℕ → ℕ → Bool
-goes_on n b = is_digit b && (nat_lt 0 n && nat_le (10 * n + (b - 48)) 65535)
 
 -- a term has ended before the byte
 abbrev pub after : Stack → RTm → ℕ → State

@@ -1,14 +1,12 @@
-//! Names, numbers, types, terms and polynomials of a certificate's lines, read byte by byte.
+//! Types, terms and polynomials of a certificate's lines, read byte by byte.
 #![tactic(auto)]
 
-mod letters;
 mod poly_printer;
 mod poly_reader;
 mod raw;
 mod term_reader;
 mod type_reader;
 
-pub use letters::{Letters, begins_name, first_big, first_number, next_big, next_number};
 pub use poly_printer::{print_big, print_poly};
 pub use poly_reader::{Part, PolyFrame, PolyPlace, PolyStep, PolyText};
 pub use term_reader::{Frame, TermPlace, TermStep, TypeText, Typed, term_step};

@@ -7,10 +7,10 @@ ghost use Rattle.wh_cert_parts.specs.PolyMachine.{outside, poly_wanted, coeffici
 ghost use Rattle.wh_cert_parts.specs.PolyViews.{behind_head_of, behind_part_of, opened, place_of, poly_stack, poly_place, poly_went};
 ghost use Rattle.wh_cert_parts.specs.declared.poly_reader.PolyPlace.TheVariants.{Factor, Head, Variable};
 
-use crate::letters::{first_big, first_number, next_big, next_number};
 use std::alloc::{AllocError, Global};
 use std::mem;
 use wh_hopoly::{Atom, Atoms, Monomial, Poly, Polys};
+use wh_letters::{first_big, first_number, next_big, next_number};
 
 /// The parentheses of a polynomial nest that deep.
 const DEEPEST_POLYNOMIAL: usize = 64;

@@ -10,11 +10,11 @@ ghost use Rattle.wh_cert_parts.specs.TermViews.{framed, term_stack, typed_of, te
 ghost use Rattle.wh_cert_parts.specs.declared.term_reader.Frame.{Frame};
 ghost use Rattle.wh_cert_parts.specs.declared.term_reader.TermStep.TheVariants.{Goes, Wrong};
 
-use crate::letters::{Letters, begins_name, first_number, next_number};
 use crate::raw::{abstraction, applied};
 use crate::type_reader::{TypePlace, TypeStep, type_step};
 use std::alloc::{AllocError, Global};
 use std::mem;
+use wh_letters::{Letters, begins_name, first_number, next_number};
 use wh_text::{RawTerm, RawTerms, RawType, RawTypes};
 
 /// The arguments of a spine are that many at most.

@@ -6,9 +6,9 @@ ghost use Rattle.wh_cert_parts.specs.TermLimits.{type_count};
 ghost use Rattle.wh_cert_parts.specs.TypeMachine.{outside, inside, type_wanted, dash, closed_type, sort_name, type_level, has_room, has_types, name_ended, type_step};
 ghost use Rattle.wh_cert_parts.specs.TypeViews.{type_stack, type_place, type_went};
 
-use crate::letters::{Letters, begins_name};
 use crate::raw::{functional, sort};
 use std::alloc::{AllocError, Global};
+use wh_letters::{Letters, begins_name};
 use wh_text::{RawType, RawTypes};
 
 /// The arguments of a type are that many at most.

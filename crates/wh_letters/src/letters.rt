@@ -2,8 +2,7 @@
 
 ghost use Rattle.std.specs.Prelude.{◌≡◌, ◌+◌, ◌-◌, ◌*◌, ◌<◌, ◌&&◌, nat_lt, [], ◌∷◌, ◌++◌, true, false, length, IfOk, OnOk, MatchOption};
 ghost use Rattle.wh_text.specs.Chars.{is_digit, is_start, is_part};
-ghost use Rattle.wh_cert_parts.specs.TermMachine.{goes_on};
-ghost use Rattle.wh_cert_parts.specs.PolyMachine.{begins_big, goes_on_big};
+ghost use Rattle.wh_letters.specs.Digits.{goes_on, begins_big, goes_on_big};
 
 use std::alloc::{AllocError, Global};
 use std::marker::Model;

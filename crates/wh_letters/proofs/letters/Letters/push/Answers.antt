@@ -1,5 +1,5 @@
-use Rattle.wh_cert_parts.proofs.NamesAndNumbers.{word_grows}
-use Rattle.wh_cert_parts.proofs.letters.Letters.push.Goals as goal
+use Rattle.wh_letters.proofs.NamesAndNumbers.{word_grows}
+use Rattle.wh_letters.proofs.letters.Letters.push.Goals as goal
 
 pub invariant_of-self-2 : goal.invariant_of-self-2
 invariant_of-self-2 c =
