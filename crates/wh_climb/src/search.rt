@@ -14,10 +14,9 @@ use crate::state::{State, copy_lists};
 use std::alloc::{AllocError, Global};
 use std::collections::VecDeque;
 use wh_cert::Node;
-use wh_guesses::{
-    Outcome, Spot, Task, Weighing, arguments_of, guess_by, node_of_guess, readings_of, spots_of,
-};
+use wh_guesses::{Outcome, Task, Weighing, arguments_of, guess_by, node_of_guess, readings_of};
 use wh_polycheck::kind_of_mark;
+use wh_space::{Spot, spots_of};
 use wh_system::System;
 use wh_types::SimpleType;
 

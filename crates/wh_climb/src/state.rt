@@ -7,7 +7,8 @@ ghost use Rattle.std.specs.Prelude.{◌<◌};
 use crate::random::Random;
 use std::alloc::{AllocError, Global};
 use std::collections::VecDeque;
-use wh_guesses::{MAX_COEFFICIENT, Outcome, Reading};
+use wh_guesses::{Outcome, Reading};
+use wh_space::MAX_COEFFICIENT;
 
 /// A coefficient, told by the number of what is read and by its place, and a value for it.
 #[derive(Clone, Copy)]

@@ -15,7 +15,7 @@ use Rattle.wh_polycheck.specs.Marks.{marked_types}
 use Rattle.wh_covering.proofs.Walks.{some_at}
 use Rattle.wh_guesses.specs.Coefficients.{scopes_of}
 use Rattle.wh_guesses.specs.Conditions.{Condition, covers_pair, some_strictly, IsPairOf, IsCondition, of_rule, of_pair, of_set, ReadsNumber}
-use Rattle.wh_guesses.specs.Space.{space_of}
+use Rattle.wh_space.specs.Space.{space_of}
 use Rattle.wh_guesses.specs.Tasks.{IsTaskOf}
 use Rattle.wh_guesses.specs.Weighing.{AreReadings, IsReading}
 use Rattle.wh_guesses.specs.declared.readings.Reading.{Reading}

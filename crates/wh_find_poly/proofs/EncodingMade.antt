@@ -1,7 +1,7 @@
 -- The tables of a task are right.
 use Rattle.std.proofs.Common.{◌≡◌, ℕ, ◌+◌, ◌<◌, ◌≤◌, List, length, map, get_or, ap, subst, ◌∙◌, arith}
 use Rattle.wh_subterm.specs.Marked.{AreMarked}
-use Rattle.wh_guesses.specs.Space.{space_of}
+use Rattle.wh_space.specs.Space.{space_of}
 use Rattle.wh_guesses.specs.Tasks.{IsTaskOf}
 use Rattle.wh_guesses.specs.Weighing.{AreReadings}
 use Rattle.wh_guesses.specs.declared.readings.Reading.{Reading}

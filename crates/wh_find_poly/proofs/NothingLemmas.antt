@@ -18,8 +18,9 @@ use Rattle.wh_sat_trail.specs.declared.literal.Literal.{Literal}
 use Rattle.wh_sat.specs.Learning.{Has}
 use Rattle.wh_sat.specs.Solving.{SolvesGiven, clause_true, literal_true}
 use Rattle.wh_sat.proofs.Assuring.{cases_bool, all_false}
-use Rattle.wh_guesses.specs.Space.{space_of}
-use Rattle.wh_guesses.specs.Coefficients.{capped, scopes_of, HasCoefficients, AreOfSpace}
+use Rattle.wh_space.specs.Space.{space_of}
+use Rattle.wh_space.specs.Coefficients.{capped, HasCoefficients}
+use Rattle.wh_guesses.specs.Coefficients.{scopes_of, AreOfSpace}
 use Rattle.wh_guesses.specs.Conditions.{Condition, ReadsSymbol, ReadsMark, ReadsNumber, LetsGo}
 use Rattle.wh_find_poly.specs.Bits.{bits_of, first_bit, digits, lists_from, lists_by}
 use Rattle.wh_find_poly.specs.Tried.{IsBitOf, AreWritten, IsBlocked}

@@ -5,7 +5,7 @@ use Rattle.std.proofs.lemmas.Option.{slice_get_within, slice_get_past, none-some
 use Rattle.std.proofs.lemmas.List.Elements.{Contains-append_left, Contains-append_right, Contains-append_cases}
 use Rattle.std.proofs.lemmas.List.{length_push}
 use Rattle.wh_guesses.specs.declared.readings.Reading.{Reading}
-use Rattle.wh_guesses.proofs.PushLemmas.{EachAt, each_push, slice_get_push}
+use Rattle.wh_space.proofs.PushLemmas.{EachAt, each_push, slice_get_push}
 use Rattle.wh_find_poly.specs.Numbers.{AreNumbers, HaveSame, on_sides}
 use Rattle.std.specs.List.{flat_map}
 

@@ -1,7 +1,7 @@
 -- Coefficients written by bits: two for each, of which the lower one comes first.
 use Rattle.std.specs.Prelude.{ℕ, zero, suc, ◌+◌, ◌*◌, Bool, if◌then◌else◌, List, [], ◌∷◌, length}
 use Rattle.wh_types.specs.Ty.{Ty}
-use Rattle.wh_guesses.specs.Space.{space_of}
+use Rattle.wh_space.specs.Space.{space_of}
 
 -- how many bits the polynomials of a scope have
 abbrev pub bits_of : List Ty → ℕ

@@ -12,7 +12,7 @@ use Rattle.wh_sat.specs.State.{Sound, clauses_of, variables_of}
 use Rattle.wh_sat.specs.declared.learner.Learner.{Learner}
 use Rattle.wh_guesses.specs.Coefficients.{scopes_of, HaveCoefficients}
 use Rattle.wh_guesses.specs.Conditions.{Condition, IsCondition, ReadsNumber}
-use Rattle.wh_guesses.specs.Space.{space_of}
+use Rattle.wh_space.specs.Space.{space_of}
 use Rattle.wh_guesses.specs.Tasks.{IsGuessOf, IsTaskOf}
 use Rattle.wh_find_poly.specs.Bits.{bit_count, first_bit, lists_by}
 use Rattle.wh_find_poly.specs.Sizes.{value_of}

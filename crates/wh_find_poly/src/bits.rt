@@ -5,7 +5,7 @@ ghost use Rattle.wh_find_poly.specs.Bits as written;
 ghost use Rattle.wh_find_poly.specs.Sizes.{bits_in, first_of, lists_of, value_of};
 
 use std::alloc::{AllocError, Global};
-use wh_guesses::MAX_COEFFICIENT;
+use wh_space::MAX_COEFFICIENT;
 
 /// The numbers of the first bits of scopes with so many monomials each, and behind them how many bits there are.
 ///

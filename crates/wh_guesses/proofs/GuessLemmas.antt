@@ -21,7 +21,7 @@ use Rattle.wh_polycheck.specs.Sides.{IsInterpretedAs, Interprets}
 use Rattle.wh_polycheck.specs.declared.marks.MarkedSymbol.{MarkedSymbol}
 use Rattle.wh_covering.proofs.Walks.{kinds_are, marks_are}
 use Rattle.wh_covering.proofs.CoverWalk.{set_sides}
-use Rattle.wh_guesses.specs.Space.{IsOfSpace}
+use Rattle.wh_space.specs.Space.{IsOfSpace}
 use Rattle.wh_guesses.specs.Guesses.{IsTask, IsReadSymbol, IsReadMark, IsGuess}
 use Rattle.wh_checker.proofs.SetLemmas.{all_from_members}
 

@@ -1,12 +1,4 @@
-pub mod PushLemmas
-pub mod CountLemmas
-pub mod SpaceLemmas
-pub mod BuildLemmas
-pub mod OrderLemmas
-pub mod SpotLemmas
-pub mod VariableLemmas
-pub mod PlaceLemmas
-pub mod PickLemmas
+pub mod IncreasingLemmas
 pub mod OkLemmas
 pub mod EmptyLemmas
 pub mod BackLemmas

@@ -22,7 +22,7 @@ use Rattle.wh_cert_parts.specs.PolyLimits.{IsBig, PolyFits, FactorsFit, PolysFit
 use Rattle.wh_cert.specs.Interps.{Interp}
 use Rattle.wh_cert.specs.Limits.{InterpFits, MoveFits}
 use Rattle.wh_checker.specs.Looked.{SayInterpretations, SayMarks}
-use Rattle.wh_guesses.specs.Space.{is_sort, variables_where, sort_variables, functional_variables, sum_of_variables, filled, variable_before, alone, both, products, space_of, IsOfSpace}
+use Rattle.wh_space.specs.Space.{is_sort, variables_where, sort_variables, functional_variables, sum_of_variables, filled, variable_before, alone, both, products, space_of, IsOfSpace}
 use Rattle.wh_guesses.specs.Lines.{IsLine}
 use Rattle.wh_checker.proofs.SetLemmas.{all_from_members}
 

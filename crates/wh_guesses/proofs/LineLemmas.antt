@@ -37,7 +37,7 @@ use Rattle.wh_find_moves.specs.Found.{AreCovering, NoneCovers}
 use Rattle.wh_guesses.specs.Lines.{IsLine, HasNoSide, IsNotMet, AreRuleLines, IsStrictLine, IsPairLine, IsDroppedLine, ArePairLines}
 use Rattle.wh_guesses.specs.declared.lines.PairLine.{PairLine}
 use Rattle.wh_checker.proofs.SetLemmas.{all_from_members}
-use Rattle.wh_guesses.proofs.PushLemmas.{EachAt, each_push, map_push}
+use Rattle.wh_space.proofs.PushLemmas.{EachAt, each_push, map_push}
 
 pub line_of : (a b : Run Polynomial) (p q : Polynomial) (ms : List Transfer) → IsSide a p → IsSide b q → AreCovering p q ms → IsLine a b ms
 line_of a b p q ms l r h = record {

@@ -42,7 +42,7 @@ use Rattle.wh_guesses.specs.declared.task.Task.{Task}
 use Rattle.wh_guesses.specs.declared.task.Guess.{Guess}
 use Rattle.wh_guesses.specs.Found.{IsInterpretation}
 use Rattle.wh_checker.proofs.SetLemmas.{all_from_members}
-use Rattle.wh_guesses.proofs.PushLemmas.{few_increasing}
+use Rattle.wh_guesses.proofs.IncreasingLemmas.{few_increasing}
 use Rattle.wh_guesses.proofs.GuessLemmas.{guess_symbols, guess_marks, guess_normal, guess_normal_marks, guess_kinds, guess_marked}
 use Rattle.wh_guesses.proofs.LimitLemmas.{all_narrow, symbols_fit, marks_fit, as_many_symbols, as_many_marks, said_named, moves_fit}
 use Rattle.wh_guesses.proofs.LineLemmas.{few_moves}

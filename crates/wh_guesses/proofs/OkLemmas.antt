@@ -8,7 +8,7 @@ use Rattle.wh_terms.specs.Typing.{Symbols}
 use Rattle.wh_terms.specs.Rules.{RewriteRule}
 use Rattle.wh_polycheck.specs.Marks.{marked_types}
 use Rattle.wh_guesses.specs.Coefficients.{scopes_of}
-use Rattle.wh_guesses.specs.Space.{space_of}
+use Rattle.wh_space.specs.Space.{space_of}
 
 pub ok_as : {T E : Type 0} (r : Result T E) (P Q : T → Type 0) → ((x : T) → P x → Q x) → IfOk r P → IfOk r Q
 ok_as (Ok x) P Q f h = f x h

@@ -16,7 +16,8 @@ use Rattle.wh_hopoly.specs.declared.expression.Symbol.{Symbol}
 use Rattle.wh_polycheck.specs.Marks.{Mark, marked_types}
 use Rattle.wh_polycheck.specs.SideResults.{mark, marks_of}
 use Rattle.wh_polycheck.specs.declared.marks.MarkedSymbol.{MarkedSymbol}
-use Rattle.wh_guesses.specs.Coefficients.{HasCoefficients, HaveCoefficients}
+use Rattle.wh_space.specs.Coefficients.{HasCoefficients}
+use Rattle.wh_guesses.specs.Coefficients.{HaveCoefficients}
 use Rattle.wh_guesses.specs.Guesses.{IsReadSymbol, IsReadMark}
 use Rattle.wh_guesses.specs.Reads.{IsReadBy, IsMarkBy, AreReadBy, AreMarksBy, list_of, IsChanged}
 use Rattle.wh_checker.proofs.SetLemmas.{all_from_members}

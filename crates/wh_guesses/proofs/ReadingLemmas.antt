@@ -22,7 +22,7 @@ use Rattle.wh_guesses.specs.Tasks.{IsTaskOf}
 use Rattle.wh_guesses.specs.Weighing.{IsReading, AreReadings}
 use Rattle.wh_guesses.specs.declared.readings.Reading.{Reading}
 use Rattle.wh_guesses.specs.declared.task.Task.{Task}
-use Rattle.wh_guesses.proofs.SpotLemmas.{at_append}
+use Rattle.wh_space.proofs.SpotLemmas.{at_append}
 
 -- numbers that join a list
 

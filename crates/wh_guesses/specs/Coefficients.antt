@@ -1,24 +1,14 @@
--- The coefficients of polynomials that are tried, in the order of the monomials of their spaces.
-use Rattle.std.specs.Prelude.{ℕ, ◌+◌, ◌≤◌, ◌≡◌, ◌↔◌, nat_lt, if◌then◌else◌, List, [], ◌++◌, Some, All, length, map, get_or, slice_get}
+-- The coefficients of the polynomials of all symbols and of listed marked symbols, and whether these polynomials are of their spaces.
+use Rattle.std.specs.Prelude.{ℕ, ◌+◌, ◌≡◌, List, [], ◌++◌, Some, All, length, map, get_or, slice_get}
 use Rattle.wh_types.specs.Ty.{Ty, arguments}
 use Rattle.wh_terms.specs.Typing.{Symbols}
 use Rattle.wh_terms.specs.Rules.{RewriteRule}
 use Rattle.wh_pairs.specs.PairData.{PairData}
 use Rattle.wh_subterm.specs.Marked.{AreMarked}
-use Rattle.wh_hopoly.specs.Polynomials.{Polynomial, Factors}
 use Rattle.wh_hopoly.specs.Evaluation.{Interpretation}
 use Rattle.wh_polycheck.specs.Marks.{Mark, marked_types}
-use Rattle.wh_guesses.specs.Space.{IsOfSpace, HasMonomial, space_of}
-
--- a number, and 3 in place of a greater one
-abbrev pub capped : ℕ → ℕ
-capped c = if nat_lt 3 c then 3 else c
-
--- the polynomial is one of those that are tried, and has these coefficients, one for each monomial of the space in order; those that
--- are missing are 0, and greater ones than 3 are 3 (ours)
-pub record HasCoefficients (Γ : List Ty) (cs : List ℕ) (p : Polynomial) : Type 0 where
-  pub of_space : IsOfSpace Γ p
-  pub each : (j c : ℕ) (us : Factors) → slice_get (space_of Γ) j ≡ Some us → HasMonomial p c us ↔ ((c ≡ capped (get_or cs j 0)) × (1 ≤ c))
+use Rattle.wh_space.specs.Space.{IsOfSpace}
+use Rattle.wh_space.specs.Coefficients.{HasCoefficients}
 
 -- the scopes of the polynomials that a guess has: of all symbols in order of declaration, and then of the listed marked symbols (ours)
 abbrev pub scopes_of : Symbols → List RewriteRule → List ℕ → List (List Ty)

@@ -13,7 +13,7 @@ use Rattle.wh_cert.specs.Limits.{NodeFits, NodeWithin}
 use Rattle.wh_nodes.specs.Nodes.{poly}
 use Rattle.wh_checker.specs.Looked.{SaysNode}
 use Rattle.wh_find_moves.specs.Found.{AreApart}
-use Rattle.wh_guesses.specs.Space.{IsOfSpace}
+use Rattle.wh_space.specs.Space.{IsOfSpace}
 
 -- the node is one of interpretations, whose conditions hold of the set (ours)
 pub record IsInterpretation (d : SystemData) (ps : List PairData) (set : List ℕ) (line : w.Node) : Type 0 where

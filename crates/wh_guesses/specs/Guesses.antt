@@ -11,7 +11,7 @@ use Rattle.wh_hopoly.specs.declared.expression.Symbol.{Symbol}
 use Rattle.wh_polycheck.specs.Marks.{marked_types}
 use Rattle.wh_polycheck.specs.declared.marks.MarkedSymbol.{MarkedSymbol}
 use Rattle.wh_meaning.specs.Covering.{HaveTypedSides}
-use Rattle.wh_guesses.specs.Space.{IsOfSpace}
+use Rattle.wh_space.specs.Space.{IsOfSpace}
 
 -- a set of pairs of a list whose sides are typed
 pub record IsTask (S : Symbols) (rules : List RewriteRule) (pairs : List PairData) (set : List ℕ) : Type 0 where

@@ -1,5 +1,3 @@
-pub mod Space
-pub mod Spots
 pub mod Coefficients
 pub mod Reads
 pub mod Guesses

@@ -8,7 +8,7 @@ use Rattle.wh_hopoly.specs.Erase.{poly}
 use Rattle.wh_hopoly.specs.declared.expression.Symbol.{Symbol}
 use Rattle.wh_polycheck.specs.Marks.{marked_types}
 use Rattle.wh_polycheck.specs.declared.marks.MarkedSymbol.{MarkedSymbol}
-use Rattle.wh_guesses.specs.Coefficients.{HasCoefficients}
+use Rattle.wh_space.specs.Coefficients.{HasCoefficients}
 
 -- the symbol has these coefficients, and so has the marked symbol
 abbrev pub IsReadBy : List ℕ → Symbol → Type 0

@@ -10,20 +10,19 @@ ghost use Rattle.wh_subterm.specs.Marked.{AreMarked};
 ghost use Rattle.wh_hopoly.specs.Erase.{interpretations};
 ghost use Rattle.wh_polycheck.specs.Marks.{marked_types};
 ghost use Rattle.wh_polycheck.specs.SideResults.{marks_of};
+ghost use Rattle.wh_space.specs.Space.{space_of};
 ghost use Rattle.wh_guesses.specs.Coefficients.{HaveCoefficients, scopes_of};
 ghost use Rattle.wh_guesses.specs.Guesses.{IsReadMark, IsReadSymbol};
 ghost use Rattle.wh_guesses.specs.Reads.{AreMarksBy, AreReadBy, IsMarkBy, IsReadBy, list_of};
-ghost use Rattle.wh_guesses.specs.Space.{space_of};
 ghost use Rattle.wh_guesses.specs.Tasks.{IsChangedGuess, IsGuessOf};
 ghost use Rattle.wh_hopoly.specs.declared.expression.Symbol.{Symbol};
 ghost use Rattle.wh_polycheck.specs.declared.marks.MarkedSymbol.{MarkedSymbol};
 
-use crate::space::reading_of;
-use crate::spots::spots_of;
 use crate::task::{Guess, Task};
 use std::alloc::{AllocError, Global};
 use wh_hopoly::Symbol;
 use wh_polycheck::{MarkedSymbol, kind_of_mark};
+use wh_space::{reading_of, spots_of};
 use wh_system::System;
 use wh_types::SimpleType;
 

@@ -4,11 +4,8 @@
 mod guess;
 mod lines;
 mod node;
-mod places;
 mod readings;
 mod sides;
-mod space;
-mod spots;
 mod task;
 mod terms;
 mod testing;
@@ -19,7 +16,5 @@ pub use guess::{
 pub use node::{Weighing, node_of_guess};
 pub use readings::{Reading, readings_of};
 pub use sides::{pair_side, rule_side};
-pub use space::{MAX_COEFFICIENT, Spot};
-pub use spots::spots_of;
 pub use task::{Guess, Task};
 pub use testing::{Outcome, fails, outcome_of};

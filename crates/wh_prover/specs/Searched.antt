@@ -10,7 +10,7 @@ use Rattle.wh_hopoly.specs.Evaluation.{Interpretation}
 use Rattle.wh_polycheck.specs.Marks.{Mark, marked_types}
 use Rattle.wh_checker.specs.Looked.{SayInterpretations, SayMarks}
 use Rattle.wh_find_moves.specs.Found.{AreApart}
-use Rattle.wh_guesses.specs.Space.{IsOfSpace}
+use Rattle.wh_space.specs.Space.{IsOfSpace}
 
 -- the lines say interpretations of the space, and in no line of moves are two between the same monomials (ours)
 pub record AreSearched (d : SystemData) (funs marks : List Interp) (rules pairs : List (List moved.Move)) : Type 0 where

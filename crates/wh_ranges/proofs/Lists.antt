@@ -25,8 +25,9 @@ use Rattle.wh_polycheck.specs.declared.marks.MarkedSymbol.{MarkedSymbol}
 use Rattle.wh_polycheck.proofs.MoreInterpretations.{slice_get_front, slice_get_behind}
 use Rattle.wh_meaning.proofs.AtLeast.{at_least_den}
 use Rattle.wh_growth.specs.Below.{IsBelow, AreBelow, AreMarksBelow}
-use Rattle.wh_guesses.specs.Space.{HasMonomial, IsOfSpace, space_of}
-use Rattle.wh_guesses.specs.Coefficients.{capped, scopes_of, HasCoefficients, HaveCoefficients, AreOfSpace}
+use Rattle.wh_space.specs.Space.{HasMonomial, IsOfSpace, space_of}
+use Rattle.wh_space.specs.Coefficients.{capped, HasCoefficients}
+use Rattle.wh_guesses.specs.Coefficients.{scopes_of, HaveCoefficients, AreOfSpace}
 use Rattle.wh_guesses.specs.Reads.{IsChanged, list_of}
 use Rattle.wh_guesses.proofs.ReadLemmas.{have_coefficients as have_read, symbols_have, marks_have}
 use Rattle.wh_ranges.specs.Excluded.{coefficient_in, AreAtMost, LieIn}

@@ -10,8 +10,8 @@ use Rattle.wh_hopoly.specs.Moves.{MonomialAt}
 use Rattle.wh_hopoly.proofs.OrderLaws.{factors_equal, factors_same, factors_reverse}
 use Rattle.wh_hopoly.proofs.SumLaws.{before_then, normal_sorted}
 use Rattle.wh_hopoly.proofs.CoefficientLaws.{coefficient, Positive, same_coefficients}
-use Rattle.wh_guesses.specs.Space.{HasMonomial, space_of}
-use Rattle.wh_guesses.specs.Coefficients.{capped, HasCoefficients}
+use Rattle.wh_space.specs.Space.{HasMonomial, space_of}
+use Rattle.wh_space.specs.Coefficients.{capped, HasCoefficients}
 
 normal_positive : (Γ : List Ty) (p : Polynomial) → Normal Γ p → Positive p
 normal_positive Γ zero_poly n = tt

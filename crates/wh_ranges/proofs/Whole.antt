@@ -10,7 +10,7 @@ use Rattle.wh_subterm.specs.Marked.{AreMarked}
 use Rattle.wh_hopoly.specs.Evaluation.{Interpretation}
 use Rattle.wh_polycheck.specs.Marks.{Mark}
 use Rattle.wh_checker.proofs.InterpretationLemmas.{marked_one}
-use Rattle.wh_guesses.specs.Space.{space_of}
+use Rattle.wh_space.specs.Space.{space_of}
 use Rattle.wh_guesses.specs.Coefficients.{scopes_of, HaveCoefficients, AreOfSpace}
 use Rattle.wh_guesses.specs.Conditions.{IsPairOf, Meets, IsMetBy, LetsGo, HasNoInterpretation, covers_rule, covers_pair, some_strictly, of_rule, of_pair, of_set}
 use Rattle.wh_ranges.specs.Excluded.{LieIn, Fit, IsExcluded, AreKept}

@@ -11,7 +11,8 @@ use crate::bounds::{Coefficient, End, Ranges};
 use crate::plan::{Plan, Work};
 use crate::testing::{fails_at, is_out};
 use std::alloc::{AllocError, Global};
-use wh_guesses::{MAX_COEFFICIENT, Task};
+use wh_guesses::Task;
+use wh_space::MAX_COEFFICIENT;
 
 /// A condition: its number, and the place in the set of the pair that is to be covered strictly.
 #[derive(Clone, Copy)]

@@ -16,7 +16,8 @@ use crate::choosing::place_to_split;
 use crate::narrowing::narrow_all;
 use crate::plan::{Plan, Work};
 use std::alloc::{AllocError, Global};
-use wh_guesses::{MAX_COEFFICIENT, Task, sizes_of};
+use wh_guesses::{Task, sizes_of};
+use wh_space::MAX_COEFFICIENT;
 
 /// Whether ranges of coefficients show that no interpretation of the space lets a pair of the set go. The search ends after so much
 /// work, a look at a condition or more where its sides are large, and then shows nothing.

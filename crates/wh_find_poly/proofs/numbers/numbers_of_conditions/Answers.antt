@@ -3,7 +3,7 @@ use Rattle.std.specs.List.{flat_map}
 use Rattle.std.proofs.lemmas.List.{length_push, take_rest}
 use Rattle.std.proofs.lemmas.Option.{same_Some, slice_get_read}
 use Rattle.wh_guesses.specs.declared.readings.Reading.{Reading}
-use Rattle.wh_guesses.proofs.PushLemmas.{each_push}
+use Rattle.wh_space.proofs.PushLemmas.{each_push}
 use Rattle.wh_find_poly.specs.Numbers.{HaveSame, on_sides}
 use Rattle.wh_find_poly.proofs.NumberLemmas.{OfReading, numbers_end}
 use Rattle.wh_find_poly.proofs.numbers.numbers_of_conditions.Goals as goal

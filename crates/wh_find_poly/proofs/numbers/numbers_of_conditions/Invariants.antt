@@ -1,5 +1,5 @@
 use Rattle.std.proofs.Common.{◌≡◌, length}
-use Rattle.wh_guesses.proofs.PushLemmas.{EachAt}
+use Rattle.wh_space.proofs.PushLemmas.{EachAt}
 use Rattle.wh_find_poly.proofs.NumberLemmas.{OfReading}
 use Rattle.wh_find_poly.proofs.numbers.numbers_of_conditions.Given as goal
 

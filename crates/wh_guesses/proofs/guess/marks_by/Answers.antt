@@ -3,8 +3,8 @@ use Rattle.std.proofs.lemmas.List.{take_more}
 use Rattle.wh_types.specs.Erase.{tys}
 use Rattle.wh_system.specs.SystemView.{system_data}
 use Rattle.wh_guesses.specs.Reads.{IsMarkBy, list_of}
-use Rattle.wh_guesses.proofs.PushLemmas.{map_push, each_push}
-use Rattle.wh_guesses.proofs.CountLemmas.{pushed_one}
+use Rattle.wh_space.proofs.PushLemmas.{map_push, each_push}
+use Rattle.wh_space.proofs.CountLemmas.{pushed_one}
 use Rattle.wh_guesses.proofs.ReadLemmas.{read_as}
 use Rattle.wh_guesses.proofs.guess.marks_by.Goals as goal
 

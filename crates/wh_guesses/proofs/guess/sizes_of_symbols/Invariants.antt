@@ -1,7 +1,7 @@
 use Rattle.std.proofs.Common.{◌≡◌, length, map, take}
 use Rattle.wh_types.specs.Ty.{arguments}
 use Rattle.wh_types.specs.Erase.{ty}
-use Rattle.wh_guesses.specs.Space.{space_of}
+use Rattle.wh_space.specs.Space.{space_of}
 use Rattle.wh_guesses.proofs.guess.sizes_of_symbols.Given as goal
 
 abbrev pub invariant-loop-kind : goal.invariant-loop-kind

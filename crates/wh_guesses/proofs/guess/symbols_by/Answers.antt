@@ -2,8 +2,8 @@ use Rattle.std.proofs.Common.{◌++◌, ◌∷◌, [], map, ap, ap₂, sym, ◌�
 use Rattle.wh_types.specs.Erase.{ty, tys}
 use Rattle.wh_types.specs.Ty.{arguments}
 use Rattle.wh_guesses.specs.Reads.{IsReadBy, list_of}
-use Rattle.wh_guesses.proofs.PushLemmas.{map_push, each_push}
-use Rattle.wh_guesses.proofs.CountLemmas.{pushed_one}
+use Rattle.wh_space.proofs.PushLemmas.{map_push, each_push}
+use Rattle.wh_space.proofs.CountLemmas.{pushed_one}
 use Rattle.wh_guesses.proofs.ReadLemmas.{read_as, taken_map}
 use Rattle.wh_guesses.proofs.guess.symbols_by.Goals as goal
 

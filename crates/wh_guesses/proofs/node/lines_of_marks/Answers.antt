@@ -1,7 +1,7 @@
 use Rattle.std.proofs.Common.{◌≡◌, ◌<◌, ◌++◌, ◌∷◌, [], length, Some, slice_get, ap₂, sym, ◌∙◌, arith}
 use Rattle.std.proofs.lemmas.Option.{slice_get-get_or}
 use Rattle.wh_hopoly.specs.Erase.{poly}
-use Rattle.wh_guesses.proofs.PushLemmas.{map_push}
+use Rattle.wh_space.proofs.PushLemmas.{map_push}
 use Rattle.wh_guesses.proofs.ReadLemmas.{taken_map}
 use Rattle.wh_guesses.proofs.node.lines_of_marks.Goals as goal
 

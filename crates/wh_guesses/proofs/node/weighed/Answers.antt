@@ -12,7 +12,7 @@ use Rattle.wh_polycheck.specs.SideResults.{marks_of}
 use Rattle.wh_guesses.specs.Guesses.{IsTask}
 use Rattle.wh_guesses.specs.Lines.{AreRuleLines, IsFailingPair, IsFailingRule}
 use Rattle.wh_guesses.proofs.NodeLemmas.{rule_fails, pair_fails, set_fails}
-use Rattle.wh_guesses.proofs.PushLemmas.{few_increasing}
+use Rattle.wh_guesses.proofs.IncreasingLemmas.{few_increasing}
 use Rattle.wh_guesses.proofs.EmptyLemmas.{empty_list}
 use Rattle.wh_guesses.proofs.ToldLemmas.{matched_because}
 use Rattle.wh_system.specs.SystemView.{system_data}

@@ -3,8 +3,8 @@ use Rattle.wh_pairs.specs.PairData.{PairData, pair_data}
 use Rattle.wh_pairs.proofs.ByPlace.{read_map, number_at, contains_number, some_one}
 use Rattle.wh_guesses.specs.Conditions.{StandsInPair}
 use Rattle.wh_guesses.specs.Readings.{ReadsAll, IsMarkOf}
-use Rattle.wh_guesses.proofs.CountLemmas.{pushed_one}
-use Rattle.wh_guesses.proofs.PushLemmas.{each_push}
+use Rattle.wh_space.proofs.CountLemmas.{pushed_one}
+use Rattle.wh_space.proofs.PushLemmas.{each_push}
 use Rattle.wh_guesses.proofs.readings.readings_of_pairs.Goals as goal
 
 pub reading_of_pair-requires-clause-left : goal.reading_of_pair-requires-clause-left

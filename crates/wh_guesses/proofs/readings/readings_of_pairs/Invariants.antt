@@ -2,7 +2,7 @@ use Rattle.std.proofs.Common.{◌≡◌, ◌⊎◌, ℕ, length, map, Some, slic
 use Rattle.wh_pairs.specs.PairData.{PairData, pair_data}
 use Rattle.wh_guesses.specs.Conditions.{StandsInPair}
 use Rattle.wh_guesses.specs.Readings.{ReadsAll, IsMarkOf}
-use Rattle.wh_guesses.proofs.PushLemmas.{EachAt}
+use Rattle.wh_space.proofs.PushLemmas.{EachAt}
 use Rattle.wh_guesses.proofs.readings.readings_of_pairs.Given as goal
 
 abbrev pub invariant-loop-number : goal.invariant-loop-number

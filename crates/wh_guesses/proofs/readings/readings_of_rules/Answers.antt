@@ -4,8 +4,8 @@ use Rattle.wh_terms.specs.Rules.{RewriteRule}
 use Rattle.wh_terms.specs.Erase.{rewrite_rule, rewrite_rules}
 use Rattle.wh_pairs.proofs.ByPlace.{read_map, some_one}
 use Rattle.wh_guesses.specs.Readings.{ReadsAll, StandsInRule}
-use Rattle.wh_guesses.proofs.CountLemmas.{pushed_one}
-use Rattle.wh_guesses.proofs.PushLemmas.{each_push}
+use Rattle.wh_space.proofs.CountLemmas.{pushed_one}
+use Rattle.wh_space.proofs.PushLemmas.{each_push}
 use Rattle.std.proofs.Common.{Some}
 use Rattle.wh_guesses.proofs.readings.readings_of_rules.Goals as goal
 

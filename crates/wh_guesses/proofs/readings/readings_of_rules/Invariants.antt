@@ -2,7 +2,7 @@ use Rattle.std.proofs.Common.{◌≡◌, length, Some, slice_get}
 use Rattle.wh_terms.specs.Rules.{RewriteRule}
 use Rattle.wh_terms.specs.Erase.{rewrite_rules}
 use Rattle.wh_guesses.specs.Readings.{ReadsAll, StandsInRule}
-use Rattle.wh_guesses.proofs.PushLemmas.{EachAt}
+use Rattle.wh_space.proofs.PushLemmas.{EachAt}
 use Rattle.wh_guesses.proofs.readings.readings_of_rules.Given as goal
 
 abbrev pub invariant-loop-rule : goal.invariant-loop-rule

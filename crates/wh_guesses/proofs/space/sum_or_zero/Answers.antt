@@ -1,6 +1,0 @@
-use Rattle.wh_hopoly.specs.Erase.{poly}
-use Rattle.wh_guesses.proofs.BuildLemmas.{empty_is_zero}
-use Rattle.wh_guesses.proofs.space.sum_or_zero.Goals as goal
-
-pub returns-else-asked : goal.returns-else-asked
-returns-else-asked c = empty_is_zero c.new.result c.args.asked (poly c.args.sum.now) c.if-asked.false c.new.ensures

@@ -1,0 +1,9 @@
+pub mod PushLemmas
+pub mod CountLemmas
+pub mod SpaceLemmas
+pub mod BuildLemmas
+pub mod OrderLemmas
+pub mod SpotLemmas
+pub mod VariableLemmas
+pub mod PlaceLemmas
+pub mod PickLemmas
