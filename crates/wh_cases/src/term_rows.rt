@@ -12,10 +12,11 @@ use crate::spelling::{spell, spell_option, spell_type};
 use crate::stack::{balanced, repeated, term_of};
 use std::alloc::{AllocError, Global};
 use std::test::Fail;
+use wh_match::is_pattern;
 use wh_system::System;
 use wh_terms::{
-    Metas, Path, Signature, Subst, SubstEntry, Term, Terms, close, fits, height, is_pattern,
-    open_with, opened_at, size, substitute, subterm_at, type_of,
+    Metas, Path, Signature, Subst, SubstEntry, Term, Terms, close, fits, height, open_with,
+    opened_at, size, substitute, subterm_at, type_of,
 };
 use wh_types::{Bytes, SimpleType};
 

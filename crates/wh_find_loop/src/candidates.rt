@@ -15,7 +15,8 @@ ghost use Rattle.wh_find_loop.specs.StepLists.{IsRuleTable, KeepsSteps, Lists, L
 
 use crate::table::Table;
 use std::alloc::{AllocError, Global};
-use wh_terms::{Path, Rule, Step, Term, match_pattern};
+use wh_match::match_pattern;
+use wh_terms::{Path, Rule, Step, Term};
 
 /// The symbol at the head of the spine that the term is.
 pub fn head_symbol(term: &Term) -> Option<u32>

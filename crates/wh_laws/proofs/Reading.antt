@@ -11,7 +11,7 @@ use Rattle.wh_terms.specs.Value.{Body, parameters}
 use Rattle.wh_terms.proofs.ValueForm.{value, FitsArities, AllFitArities, FitsBodies, value_same}
 use Rattle.wh_terms.proofs.ValueSight.{bound_occurs, bound_values}
 use Rattle.wh_terms.proofs.ValueTyping.{typed_count}
-use Rattle.wh_terms.proofs.MatchLaws.{bodies_below, bodies_below-none, value-bodies_below, read_body, body_back, body_one}
+use Rattle.wh_match.proofs.MatchLaws.{bodies_below, bodies_below-none, value-bodies_below, read_body, body_back, body_one}
 use Rattle.wh_laws.proofs.SameTree.{occurs, occurs-false, occurs-true}
 
 -- the body of z, read off the tree t at the place where the pattern p, below k binders, has z; anything where it has none

@@ -11,7 +11,7 @@ use Rattle.wh_terms.specs.Typing.{Symbols, Declared, Typed, AllTyped, typed_boun
 use Rattle.wh_terms.specs.Rules.{RewriteRule, IsWellMade}
 use Rattle.wh_terms.specs.Value.{Body}
 use Rattle.wh_terms.specs.Entries.{bodies, Lists, Covers, CoversAll}
-use Rattle.wh_terms.specs.Matching.{IsMatch}
+use Rattle.wh_match.specs.Matching.{IsMatch}
 use Rattle.wh_terms.specs.Valued.{valued}
 use Rattle.wh_terms.specs.Erase.{rewrite_rule, rewrite_rules}
 use Rattle.wh_terms.specs.declared.rule.Rule.{Rule}

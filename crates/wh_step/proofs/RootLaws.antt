@@ -15,7 +15,7 @@ use Rattle.wh_terms.proofs.TermLaws.{term-opened, term-up, term-rename}
 use Rattle.wh_terms.proofs.FreshLaws.{fresh_for_two, put, closed, closed-opened}
 use Rattle.wh_terms.proofs.ValueForm.{acted, value, act-value, value_agree}
 use Rattle.wh_terms.proofs.ValueLaws.{value_is, has_value}
-use Rattle.wh_terms.proofs.MatchLaws.{pattern_one}
+use Rattle.wh_match.proofs.MatchLaws.{pattern_one}
 use Rattle.wh_step.specs.Replay.{StepAt, beta_here, rule_here, at_function, at_argument, at_body}
 use Rattle.wh_step.specs.Roots.{BetaStep, RuleStep, RootStep, put_at, StepsAt}
 use Rattle.wh_step.proofs.Instances.{act_left, act_right, whole_bodies}

@@ -6,7 +6,7 @@ use Rattle.wh_terms.specs.Sight.{IsTerm, Occurs, OccursIn}
 use Rattle.wh_terms.specs.Substitution.{opened}
 use Rattle.wh_terms.specs.Entries.{bodies, Covers}
 use Rattle.wh_terms.specs.Measures.{Manageable}
-use Rattle.wh_terms.specs.Matching.{IsInRange}
+use Rattle.wh_match.specs.Matching.{IsInRange}
 use Rattle.wh_terms.specs.Valued.{valued}
 use Rattle.wh_terms.specs.declared.subst.MetaBody.{MetaBody}
 use Rattle.wh_step.specs.declared.redex.Contractum.{Contractum}

@@ -13,7 +13,8 @@ ghost use Rattle.wh_step.specs.Roots.{BetaStep, RuleStep, RootStep, SameHead};
 ghost use Rattle.wh_step.specs.Contracta.{IsPlain, IsReady, result_of};
 
 use std::alloc::{AllocError, Global};
-use wh_terms::{MetaSubst, Rule, Term, apply_meta, match_pattern, open_with};
+use wh_match::match_pattern;
+use wh_terms::{MetaSubst, Rule, Term, apply_meta, open_with};
 
 /// The result of a step at the root, in the parts that it is built from.
 #[derive(Drop)]

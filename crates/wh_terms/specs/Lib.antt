@@ -15,6 +15,4 @@ pub mod Kinds
 pub mod Valued
 pub mod Scope
 pub mod Budget
-pub mod Matching
-pub mod MatchSearch
 pub mod TypedBodies

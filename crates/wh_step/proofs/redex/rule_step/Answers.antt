@@ -1,7 +1,7 @@
 use Rattle.std.proofs.Common.{◌≡◌, subst, true, false}
 use Rattle.std.specs.Prelude.{MatchOption}
 use Rattle.wh_terms.specs.Erase.{tm, rewrite_rule}
-use Rattle.wh_terms.specs.Matching.{IsMatch, HasNoMatch}
+use Rattle.wh_match.specs.Matching.{IsMatch, HasNoMatch}
 use Rattle.wh_step.proofs.RedexLemmas.{no_step_of_other_head, manageable_left, match_instance, match_step}
 use Rattle.wh_step.proofs.redex.rule_step.Goals as goal
 
