@@ -1,13 +1,13 @@
 //! Runs in which one read or one write fails, for each one in turn. A file that is shorter than a piece takes two reads: the second one
 //! finds its end. The last row of each run is that of a call that it does not make.
 
-use crate::telling::{CHECK, Given, SHOW, told};
 use std::alloc::{AllocError, Global};
 use std::test::Fail;
 use wh_samples::{
     IDENTITY, IDENTITY_CERTIFICATE, INNER_CALL, INNER_CALL_SHOWN, LOOP, LOOP_CERTIFICATE, MAP,
     MAP_CERTIFICATE,
 };
+use wh_telling::{CHECK, Faults, Given, SHOW, checked, told, writes, writes_before};
 
 const LOOP_CHECK: Given<'static> = Given {
     words: CHECK,
@@ -67,29 +67,41 @@ const READS: &[(Given<'static>, u64, u8, &[u8])] = &[
     (IDENTITY_CHECK, 4, 0, b"YES\n"),
 ];
 
+/// Faults of these reads and writes, where a write takes three bytes.
+fn faults<'a>(reads: &'a [u64], writes: &'a [u64]) -> Faults<'a> {
+    Faults {
+        reads,
+        writes,
+        piece: 3,
+    }
+}
+
 #[test]
 fn tells_which_file_was_not_read(rt: HostRuntime) -> Result<(), Fail> {
     for (given, read, status, text) in READS {
-        let (ended, out) = told(rt.alloc(), *given, &[*read], &[])?;
-        assert_eq!(rt; ended, *status, "read {read}");
-        assert_eq!(rt; out.bytes(), *text, "read {read}");
+        let reads = [*read];
+        assert!(rt;
+            writes_before(rt.alloc(), *given, faults(&reads, &[]), *status, *text)?,
+            "read {read}"
+        );
     }
     Ok(())
 }
 
+/// Whether the search ends well though its third read fails, and writes a certificate that a check accepts.
+fn searches_by_two_reads(alloc: Global) -> Result<bool, AllocError> {
+    let found = told(alloc, MAP_SEARCH)?;
+    let text = found.bytes();
+    Ok(
+        text.starts_with(b"YES 1\n")
+            && writes_before(alloc, MAP_SEARCH, faults(&[2], &[]), 0, text)?
+            && writes(alloc, checked(MAP, text), 0, b"YES\n")?,
+    )
+}
+
 #[test]
 fn a_search_needs_two_reads(rt: HostRuntime) -> Result<(), Fail> {
-    let alloc = rt.alloc();
-    let (status, found) = told(alloc, MAP_SEARCH, &[2], &[])?;
-    assert_eq!(rt; status, 0);
-    assert!(rt; found.bytes().starts_with(b"YES 1\n".as_slice()));
-    let check = Given {
-        words: CHECK,
-        system: MAP,
-        certificate: found.bytes(),
-    };
-    let (_, out) = told(alloc, check, &[], &[])?;
-    assert_eq!(rt; out.bytes(), b"YES\n".as_slice());
+    assert!(rt; searches_by_two_reads(rt.alloc())?);
     Ok(())
 }
 
@@ -106,8 +118,8 @@ fn leaves_fronts(alloc: Global, given: Given<'_>, text: &[u8]) -> Result<bool, A
     for write in 0..=text.len().div_ceil(3) {
         let end = write.saturating_mul(3).min(text.len());
         let status = if end < text.len() { 5 } else { 0 };
-        let (ended, out) = told(alloc, given, &[], &[write as u64])?;
-        all = all && ended == status && out.bytes() == &text[..end];
+        let failing = [write as u64];
+        all = all && writes_before(alloc, given, faults(&[], &failing), status, &text[..end])?;
     }
     Ok(all)
 }

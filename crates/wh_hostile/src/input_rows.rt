@@ -1,12 +1,12 @@
 //! Certificates that are cut at each byte, and single texts that are not quite right, or only just.
 
-use crate::telling::{CHECK, Given, SHOW, told};
 use std::alloc::{AllocError, Global};
 use std::test::Fail;
 use wh_samples::{
     EVEN_ODD, IDENTITY, IDENTITY_CERTIFICATE, LOOP, LOOP_CERTIFICATE, MAP, MAP_CERTIFICATE,
     MAP_VALUES_CERTIFICATE,
 };
+use wh_telling::{CHECK, Given, SHOW, checked, shown, writes};
 
 /// Systems with certificates for them.
 const CERTIFICATES: &[(&[u8], &[u8])] = &[
@@ -16,18 +16,18 @@ const CERTIFICATES: &[(&[u8], &[u8])] = &[
     (MAP, MAP_VALUES_CERTIFICATE),
 ];
 
+/// Whether a check rejects the certificate at its end.
+fn rejects_front(alloc: Global, system: &[u8], certificate: &[u8]) -> Result<bool, AllocError> {
+    let length = certificate.len();
+    let line = format!(in alloc; "REJECTED syntax {length}\n")?;
+    writes(alloc, checked(system, certificate), 1, line.as_bytes())
+}
+
 /// Whether each proper front part of the certificate is rejected at its end.
 fn rejects_fronts(alloc: Global, system: &[u8], certificate: &[u8]) -> Result<bool, AllocError> {
     let mut all = true;
     for length in 0..certificate.len() {
-        let cut = Given {
-            words: CHECK,
-            system,
-            certificate: &certificate[..length],
-        };
-        let line = format!(in alloc; "REJECTED syntax {length}\n")?;
-        let (ended, out) = told(alloc, cut, &[], &[])?;
-        all = all && ended == 1 && out.bytes() == line.as_bytes();
+        all = all && rejects_front(alloc, system, &certificate[..length])?;
     }
     Ok(all)
 }
@@ -111,9 +111,7 @@ fn answers_single_inputs(rt: HostRuntime) -> Result<(), Fail> {
             system: *system,
             certificate: *certificate,
         };
-        let (ended, out) = told(rt.alloc(), given, &[], &[])?;
-        assert_eq!(rt; ended, *status);
-        assert_eq!(rt; out.bytes(), *text);
+        assert!(rt; writes(rt.alloc(), given, *status, *text)?);
     }
     Ok(())
 }
@@ -127,45 +125,27 @@ fn opened(alloc: Global, count: u32) -> Result<Vec<u8>, AllocError> {
     Ok(text)
 }
 
+/// Whether a system with so many open parentheses is refused with the text.
+fn refuses_opened(alloc: Global, count: u32, text: &[u8]) -> Result<bool, AllocError> {
+    let system = opened(alloc, count)?;
+    writes(alloc, shown(system.as_slice()), 3, text)
+}
+
 #[test]
 fn stops_at_the_deepest_term(rt: HostRuntime) -> Result<(), Fail> {
     // The last parenthesis that may be opened is byte 422.
-    for (count, text) in [
-        (400, b"REFUSED syntax 423\n".as_slice()),
-        (401, b"REFUSED too-many 423\n".as_slice()),
-    ] {
-        let system = opened(rt.alloc(), count)?;
-        let given = Given {
-            words: SHOW,
-            system: system.as_slice(),
-            certificate: b"",
-        };
-        let (ended, out) = told(rt.alloc(), given, &[], &[])?;
-        assert_eq!(rt; ended, 3);
-        assert_eq!(rt; out.bytes(), text);
-    }
+    assert!(rt; refuses_opened(rt.alloc(), 400, b"REFUSED syntax 423\n")?);
+    assert!(rt; refuses_opened(rt.alloc(), 401, b"REFUSED too-many 423\n")?);
     Ok(())
 }
 
 #[test]
 fn stops_at_the_longest_certificate(rt: HostRuntime) -> Result<(), Fail> {
-    let certificate = vec![in rt.alloc(); b' '; 8_388_609]?;
-    let given = Given {
-        words: CHECK,
-        system: LOOP,
-        certificate: certificate.as_slice(),
-    };
-    let (ended, out) = told(rt.alloc(), given, &[], &[])?;
-    assert_eq!(rt; ended, 7);
-    assert_eq!(rt; out.bytes(), b"TOO LONG certificate\n".as_slice());
+    let spaces = vec![in rt.alloc(); b' '; 8_388_609]?;
+    let long = checked(LOOP, spaces.as_slice());
+    assert!(rt; writes(rt.alloc(), long, 7, b"TOO LONG certificate\n")?);
     // One byte less is read, and its first byte begins no certificate.
-    let given = Given {
-        words: CHECK,
-        system: LOOP,
-        certificate: &certificate.as_slice()[1..],
-    };
-    let (ended, out) = told(rt.alloc(), given, &[], &[])?;
-    assert_eq!(rt; ended, 1);
-    assert_eq!(rt; out.bytes(), b"REJECTED syntax 0\n".as_slice());
+    let longest = checked(LOOP, &spaces.as_slice()[1..]);
+    assert!(rt; writes(rt.alloc(), longest, 1, b"REJECTED syntax 0\n")?);
     Ok(())
 }

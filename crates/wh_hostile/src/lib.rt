@@ -9,5 +9,3 @@
 mod fault_rows;
 #[cfg(test)]
 mod input_rows;
-#[cfg(test)]
-mod telling;

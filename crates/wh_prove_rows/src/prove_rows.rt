@@ -6,9 +6,9 @@ use std::test::Fail;
 use wh_samples::{
     APART, BETA, CALLS, DOUBLE, ETA, EVEN_ODD, FOLD, FUNCTION_LIST, IDENTITY, INNER_CALL,
     ITERATION, LOOP, MAP, NEIGHBOURS, NO_RULES, ORDINALS, PAIRS, PARTIAL, PRENEX, PROCESSES, READ,
-    RECURSOR, SORT, TWICE, TWO_CALLS, UNDER_BINDER, UNTYPED, told,
+    RECURSOR, SORT, TWICE, TWO_CALLS, UNDER_BINDER, UNTYPED,
 };
-use wh_top::Status;
+use wh_telling::{Given, checked, told, writes};
 
 /// A search within the usual bounds.
 const SEARCH: &[&str] = &["prove", "system"];
@@ -36,45 +36,51 @@ const PROVED: &[&[u8]] = &[
 /// Systems of which it finds a loop.
 const LOOPS: &[&[u8]] = &[LOOP, PARTIAL, UNDER_BINDER, BETA];
 
-/// Searches that give up, and what is written.
-const GIVEN_UP: &[(&[&str], &[u8], &[u8])] = &[
+/// Searches that give up, the exit status, and what is written.
+const GIVEN_UP: &[(&[&str], &[u8], u8, &[u8])] = &[
     (
         &["prove", "system", "--tries", "0"],
         ITERATION,
+        0,
         b"MAYBE spent subterm 0\n",
     ),
     (
         &["prove", "--tries=0", "system"],
         ITERATION,
+        0,
         b"MAYBE spent subterm 0\n",
     ),
     (
         &["prove", "system", "--depth", "0", "--tries", "1000000"],
         PARTIAL,
+        0,
         b"MAYBE stuck 1\n",
     ),
     (
         &["prove", "system", "--visited", "1"],
         PARTIAL,
+        0,
         b"MAYBE spent loop 1\n",
     ),
     (
         &["prove", "system", "--depth=0"],
         LOOP,
+        0,
         b"MAYBE stuck 0 1\n",
     ),
     // ranges of coefficients come to that without a guess; one guess alone would leave it open
     (
         &["prove", "system", "--depth=0", "--tries", "1"],
         LOOP,
+        0,
         b"MAYBE stuck 0 1\n",
     ),
-    (SEARCH, ORDINALS, b"MAYBE no-ranks sorts ord\n"),
-    (SEARCH, UNTYPED, b"MAYBE no-ranks sorts o\n"),
-    (SEARCH, PRENEX, b"MAYBE no-ranks sorts form\n"),
-    (SEARCH, PROCESSES, b"MAYBE no-ranks sorts proc\n"),
-    (SEARCH, ETA, b"MAYBE stuck 0\n"),
-    (SEARCH, b"sort nat;sort nat;", b"REFUSED twice 14\n"),
+    (SEARCH, ORDINALS, 0, b"MAYBE no-ranks sorts ord\n"),
+    (SEARCH, UNTYPED, 0, b"MAYBE no-ranks sorts o\n"),
+    (SEARCH, PRENEX, 0, b"MAYBE no-ranks sorts form\n"),
+    (SEARCH, PROCESSES, 0, b"MAYBE no-ranks sorts proc\n"),
+    (SEARCH, ETA, 0, b"MAYBE stuck 0\n"),
+    (SEARCH, b"sort nat;sort nat;", 3, b"REFUSED twice 14\n"),
 ];
 
 /// Words that are none of the program's.
@@ -125,18 +131,25 @@ enum Found {
     Other,
 }
 
-/// Searches with these words. What is written is given to a check as the certificate.
-fn searched(alloc: Global, given: &[&str], system: &[u8]) -> Result<Found, AllocError> {
-    let (_, out) = told(alloc, given, system, b"")?;
-    let text = out.bytes();
-    if text.starts_with(b"MAYBE ".as_slice()) {
-        return Ok(Found::None);
+/// A run with these words over the one file.
+fn over<'a>(words: &'a [&'a str], system: &'a [u8]) -> Given<'a> {
+    Given {
+        words,
+        system,
+        certificate: b"",
     }
-    let (_, checked) = told(alloc, &["check", "system", "certificate"], system, text)?;
-    let answer = checked.bytes();
-    if text.starts_with(b"YES 1\n".as_slice()) && answer == b"YES\n".as_slice() {
+}
+
+/// Searches with these words. What is written is given to a check as the certificate.
+fn searched(alloc: Global, words: &[&str], system: &[u8]) -> Result<Found, AllocError> {
+    let out = told(alloc, over(words, system))?;
+    let text = out.bytes();
+    let given = checked(system, text);
+    if text.starts_with(b"MAYBE ") {
+        Ok(Found::None)
+    } else if text.starts_with(b"YES 1\n") && writes(alloc, given, 0, b"YES\n")? {
         Ok(Found::Proof)
-    } else if text.starts_with(b"NO 1\n".as_slice()) && answer == b"NO\n".as_slice() {
+    } else if text.starts_with(b"NO 1\n") && writes(alloc, given, 0, b"NO\n")? {
         Ok(Found::Loop)
     } else {
         Ok(Found::Other)
@@ -148,8 +161,8 @@ fn finds_proofs(rt: HostRuntime) -> Result<(), Fail> {
     for system in PROVED {
         assert!(rt; searched(rt.alloc(), SEARCH, *system)? == Found::Proof);
     }
-    for given in SAME_WORDS {
-        assert!(rt; searched(rt.alloc(), *given, MAP)? == Found::Proof);
+    for words in SAME_WORDS {
+        assert!(rt; searched(rt.alloc(), *words, MAP)? == Found::Proof);
     }
     Ok(())
 }
@@ -164,9 +177,8 @@ fn finds_loops(rt: HostRuntime) -> Result<(), Fail> {
 
 #[test]
 fn says_why_there_is_none(rt: HostRuntime) -> Result<(), Fail> {
-    for (given, system, text) in GIVEN_UP {
-        let (_, out) = told(rt.alloc(), *given, *system, b"")?;
-        assert_eq!(rt; out.bytes(), *text);
+    for (words, system, status, text) in GIVEN_UP {
+        assert!(rt; writes(rt.alloc(), over(*words, *system), *status, *text)?);
     }
     Ok(())
 }
@@ -185,34 +197,29 @@ fn answers_all_systems(rt: HostRuntime) -> Result<(), Fail> {
     Ok(())
 }
 
+/// Numbers of generated systems, and what is written of them.
+const GENERATED: &[(&str, &[u8])] = &[
+    ("1", b"GEN 1\nrules 2\npairs 1\nnodes 2\nanswer YES\n"),
+    ("3", b"GEN 3\nrules 6\npairs 5\nnodes 9\nanswer YES\n"),
+    (
+        "200",
+        b"GEN 200\nrules 400\npairs 399\nnodes 600\nanswer YES\n",
+    ),
+];
+
 #[test]
 fn proves_generated_systems(rt: HostRuntime) -> Result<(), Fail> {
-    for (number, text) in [
-        (
-            "1",
-            b"GEN 1\nrules 2\npairs 1\nnodes 2\nanswer YES\n".as_slice(),
-        ),
-        (
-            "3",
-            b"GEN 3\nrules 6\npairs 5\nnodes 9\nanswer YES\n".as_slice(),
-        ),
-        (
-            "200",
-            b"GEN 200\nrules 400\npairs 399\nnodes 600\nanswer YES\n".as_slice(),
-        ),
-    ] {
-        let (_, out) = told(rt.alloc(), &["gen", number], b"", b"")?;
-        assert_eq!(rt; out.bytes(), text);
+    for (number, text) in GENERATED {
+        let words = ["gen", *number];
+        assert!(rt; writes(rt.alloc(), over(&words, b""), 0, *text)?);
     }
     Ok(())
 }
 
 #[test]
 fn knows_its_words(rt: HostRuntime) -> Result<(), Fail> {
-    for given in OTHER_WORDS {
-        let (status, out) = told(rt.alloc(), *given, MAP, b"")?;
-        assert_eq!(rt; status.number(), Status::BadWords.number());
-        assert_eq!(rt; out.bytes(), b"BAD WORDS\n".as_slice());
+    for words in OTHER_WORDS {
+        assert!(rt; writes(rt.alloc(), over(*words, MAP), 2, b"BAD WORDS\n")?);
     }
     Ok(())
 }

@@ -2,12 +2,11 @@
 
 use std::alloc::{AllocError, Global};
 use std::test::Fail;
-use wh_io::{MemoryShelf, MemorySink};
 use wh_samples::{
     LOOP, LOOP_CERTIFICATE, PARTIAL, PARTIAL_CERTIFICATE, UNDER_BINDER, UNDER_BINDER_CERTIFICATE,
-    UNTYPED, UNTYPED_CERTIFICATE, told, words_of,
+    UNTYPED, UNTYPED_CERTIFICATE,
 };
-use wh_top::{Status, run};
+use wh_telling::{Faults, Given, checked, shown, writes, writes_before, writes_first};
 
 const OTHER_WORDS: &[&[&str]] = &[
     &[],
@@ -20,112 +19,88 @@ const OTHER_WORDS: &[&[&str]] = &[
     &["show"],
 ];
 
+/// Systems with certificates, the exit status of a check, and what it writes.
+const JUDGED: &[(&[u8], &[u8], u8, &[u8])] = &[
+    (LOOP, LOOP_CERTIFICATE, 0, b"NO\n"),
+    (PARTIAL, PARTIAL_CERTIFICATE, 0, b"NO\n"),
+    (UNTYPED, UNTYPED_CERTIFICATE, 0, b"NO\n"),
+    (UNDER_BINDER, UNDER_BINDER_CERTIFICATE, 0, b"NO\n"),
+    (
+        UNDER_BINDER,
+        b"NO 1\nterm (g %0:o)\nstep 0 /\nat /10\nend\n",
+        1,
+        b"REJECTED no-instance\n",
+    ),
+    (
+        LOOP,
+        b"NO 1\nterm a\nstep 0 /\nstep 1 /0\nat /\nend\n",
+        1,
+        b"REJECTED step 1\n",
+    ),
+    (
+        LOOP,
+        b"NO 1\nterm a\nstep 0 /\nstep 1 /\nat /\n",
+        1,
+        b"REJECTED syntax 35\n",
+    ),
+    (
+        LOOP,
+        b"NO 1\nterm a\nstep 0 /\nstep 1 /\nat /\nend\nx",
+        1,
+        b"REJECTED syntax 39\n",
+    ),
+    (LOOP, b"", 1, b"REJECTED syntax 0\n"),
+    (LOOP, b"NO 1\nterm a\nat /\nend\n", 1, b"REJECTED no-step\n"),
+    (
+        PARTIAL,
+        b"NO 1\nterm (f h)\nstep 0 /\nstep 1 /\nat /\nend\n",
+        1,
+        b"REJECTED term\n",
+    ),
+    (
+        UNDER_BINDER,
+        b"NO 1\nterm (g %0:o)\nstep 0 /\nat /10\nput %0:o %1:(o->o)\nend\n",
+        1,
+        b"REJECTED put 0\n",
+    ),
+    (
+        UNDER_BINDER,
+        b"NO 1\nterm (g %0:o)\nstep 0 /\nat /10\nput %0:o %1:o\nput %0:(o->o) %1:(o->o)\nend\n",
+        1,
+        b"REJECTED put 1\n",
+    ),
+    (
+        UNDER_BINDER,
+        b"NO 1\nterm (g %0:o)\nstep 0 /\nat /10\nput %0:p %1:o\nend\n",
+        1,
+        b"REJECTED put 0\n",
+    ),
+    (
+        UNDER_BINDER,
+        b"NO 1\nterm (g %0:o)\nstep 0 /\nat /0\nend\n",
+        1,
+        b"REJECTED no-instance\n",
+    ),
+    // A loop below two binders, whose instance takes the outer variable for the inner one.
+    (
+        b"sort o;fun l:(o->o->o)->o;fun g:o->o->o;rule {X:o,Y:o} g X Y => l (\\x:o.\\y:o.g y x);",
+        b"NO 1\nterm (g %3:o %5:o)\nstep 0 /\nat /100\nput %3:o %7:o\nput %5:o %6:o\nend\n",
+        0,
+        b"NO\n",
+    ),
+    (
+        b"sort nat;sort nat;",
+        LOOP_CERTIFICATE,
+        3,
+        b"REFUSED twice 14\n",
+    ),
+];
+
 #[test]
 fn judges_certificates(rt: HostRuntime) -> Result<(), Fail> {
-    let given = ["check", "system", "certificate"];
-    for (system, certificate, status, text) in [
-        (LOOP, LOOP_CERTIFICATE, Status::Answered, b"NO\n".as_slice()),
-        (
-            PARTIAL,
-            PARTIAL_CERTIFICATE,
-            Status::Answered,
-            b"NO\n".as_slice(),
-        ),
-        (
-            UNTYPED,
-            UNTYPED_CERTIFICATE,
-            Status::Answered,
-            b"NO\n".as_slice(),
-        ),
-        (
-            UNDER_BINDER,
-            UNDER_BINDER_CERTIFICATE,
-            Status::Answered,
-            b"NO\n".as_slice(),
-        ),
-        (
-            UNDER_BINDER,
-            b"NO 1\nterm (g %0:o)\nstep 0 /\nat /10\nend\n".as_slice(),
-            Status::Rejected,
-            b"REJECTED no-instance\n".as_slice(),
-        ),
-        (
-            LOOP,
-            b"NO 1\nterm a\nstep 0 /\nstep 1 /0\nat /\nend\n".as_slice(),
-            Status::Rejected,
-            b"REJECTED step 1\n".as_slice(),
-        ),
-        (
-            LOOP,
-            &LOOP_CERTIFICATE[..35],
-            Status::Rejected,
-            b"REJECTED syntax 35\n".as_slice(),
-        ),
-        (
-            LOOP,
-            b"NO 1\nterm a\nstep 0 /\nstep 1 /\nat /\nend\nx".as_slice(),
-            Status::Rejected,
-            b"REJECTED syntax 39\n".as_slice(),
-        ),
-        (
-            LOOP,
-            b"".as_slice(),
-            Status::Rejected,
-            b"REJECTED syntax 0\n".as_slice(),
-        ),
-        (
-            LOOP,
-            b"NO 1\nterm a\nat /\nend\n".as_slice(),
-            Status::Rejected,
-            b"REJECTED no-step\n".as_slice(),
-        ),
-        (
-            PARTIAL,
-            b"NO 1\nterm (f h)\nstep 0 /\nstep 1 /\nat /\nend\n".as_slice(),
-            Status::Rejected,
-            b"REJECTED term\n".as_slice(),
-        ),
-        (
-            UNDER_BINDER,
-            b"NO 1\nterm (g %0:o)\nstep 0 /\nat /10\nput %0:o %1:(o->o)\nend\n".as_slice(),
-            Status::Rejected,
-            b"REJECTED put 0\n".as_slice(),
-        ),
-        (
-            UNDER_BINDER,
-            b"NO 1\nterm (g %0:o)\nstep 0 /\nat /10\nput %0:o %1:o\nput %0:(o->o) %1:(o->o)\nend\n".as_slice(),
-            Status::Rejected,
-            b"REJECTED put 1\n".as_slice(),
-        ),
-        (
-            UNDER_BINDER,
-            b"NO 1\nterm (g %0:o)\nstep 0 /\nat /10\nput %0:p %1:o\nend\n".as_slice(),
-            Status::Rejected,
-            b"REJECTED put 0\n".as_slice(),
-        ),
-        (
-            UNDER_BINDER,
-            b"NO 1\nterm (g %0:o)\nstep 0 /\nat /0\nend\n".as_slice(),
-            Status::Rejected,
-            b"REJECTED no-instance\n".as_slice(),
-        ),
-        // A loop below two binders, whose instance takes the outer variable for the inner one.
-        (
-            b"sort o;fun l:(o->o->o)->o;fun g:o->o->o;rule {X:o,Y:o} g X Y => l (\\x:o.\\y:o.g y x);".as_slice(),
-            b"NO 1\nterm (g %3:o %5:o)\nstep 0 /\nat /100\nput %3:o %7:o\nput %5:o %6:o\nend\n".as_slice(),
-            Status::Answered,
-            b"NO\n".as_slice(),
-        ),
-        (
-            b"sort nat;sort nat;".as_slice(),
-            LOOP_CERTIFICATE,
-            Status::Refused,
-            b"REFUSED twice 14\n".as_slice(),
-        ),
-    ] {
-        let (ended, out) = told(rt.alloc(), &given, system, certificate)?;
-        assert_eq!(rt; ended.number(), status.number());
-        assert_eq!(rt; out.bytes(), text);
+    for (system, certificate, status, text) in JUDGED {
+        let given = checked(*system, *certificate);
+        assert!(rt; writes(rt.alloc(), given, *status, *text)?);
     }
     Ok(())
 }
@@ -160,96 +135,89 @@ fn grown(alloc: Global, steps: usize) -> Result<Vec<u8>, AllocError> {
     Ok(text)
 }
 
-#[test]
-fn keeps_the_limits_of_terms(rt: HostRuntime) -> Result<(), Fail> {
-    let alloc = rt.alloc();
-    let given = ["check", "system", "certificate"];
-    // Terms of the sizes 65,536 and 65,537; reductions to 65,535 and to 131,071.
-    for (certificate, text) in [
-        (
-            around_large(alloc, b"NO 1\nterm (k (\\$0:o.", b"))\nat /\nend\n")?,
-            b"REJECTED no-step\n".as_slice(),
-        ),
-        (
-            around_large(alloc, b"NO 1\nterm (f (f ", b"))\nat /\nend\n")?,
-            b"REJECTED term\n".as_slice(),
-        ),
-        (grown(alloc, 14)?, b"REJECTED no-instance\n".as_slice()),
-        (grown(alloc, 15)?, b"REJECTED too-big 14\n".as_slice()),
-    ] {
-        let (_, out) = told(alloc, &given, GROWING, certificate.as_slice())?;
-        assert_eq!(rt; out.bytes(), text);
-    }
-    Ok(())
+/// Whether a check of the certificate for `GROWING` rejects it with the text.
+fn rejects(alloc: Global, certificate: Vec<u8>, text: &[u8]) -> Result<bool, AllocError> {
+    writes(alloc, checked(GROWING, certificate.as_slice()), 1, text)
 }
 
 #[test]
-fn keeps_the_size_of_sides(rt: HostRuntime) -> Result<(), Fail> {
+fn keeps_the_limits_of_terms(rt: HostRuntime) -> Result<(), Fail> {
     let alloc = rt.alloc();
-    let given = ["show", "system"];
-    // Right sides of the sizes 65,536 and 65,537.
-    for (before, status, text) in [
-        (
-            b"sort o;fun a:o;fun d:o->o->o;fun f:o->o;fun k:(o->o)->o;rule {} a => k (\\x:o.".as_slice(),
-            Status::Answered,
-            b"SYSTEM\n".as_slice(),
-        ),
-        (
-            b"sort o;fun a:o;fun d:o->o->o;fun f:o->o;fun k:(o->o)->o;rule {} a => f (f ".as_slice(),
-            Status::Refused,
-            b"REFUSED too-many 69\n".as_slice(),
-        ),
-    ] {
-        let system = around_large(alloc, before, b");")?;
-        let (ended, out) = told(alloc, &given, system.as_slice(), b"")?;
-        assert_eq!(rt; ended.number(), status.number());
-        assert!(rt; out.bytes().starts_with(text));
+    // Terms of the sizes 65,536 and 65,537; reductions to 65,535 and to 131,071.
+    let most = around_large(alloc, b"NO 1\nterm (k (\\$0:o.", b"))\nat /\nend\n")?;
+    assert!(rt; rejects(alloc, most, b"REJECTED no-step\n")?);
+    let more = around_large(alloc, b"NO 1\nterm (f (f ", b"))\nat /\nend\n")?;
+    assert!(rt; rejects(alloc, more, b"REJECTED term\n")?);
+    assert!(rt; rejects(alloc, grown(alloc, 14)?, b"REJECTED no-instance\n")?);
+    assert!(rt; rejects(alloc, grown(alloc, 15)?, b"REJECTED too-big 14\n")?);
+    Ok(())
+}
+
+/// Fronts of systems whose right sides get the sizes 65,536 and 65,537, the exit status, and the beginning of what is written.
+const LARGE_SIDES: &[(&[u8], u8, &[u8])] = &[
+    (
+        b"sort o;fun a:o;fun d:o->o->o;fun f:o->o;fun k:(o->o)->o;rule {} a => k (\\x:o.",
+        0,
+        b"SYSTEM\n",
+    ),
+    (
+        b"sort o;fun a:o;fun d:o->o->o;fun f:o->o;fun k:(o->o)->o;rule {} a => f (f ",
+        3,
+        b"REFUSED too-many 69\n",
+    ),
+];
+
+#[test]
+fn keeps_the_size_of_sides(rt: HostRuntime) -> Result<(), Fail> {
+    for (before, status, text) in LARGE_SIDES {
+        let system = around_large(rt.alloc(), *before, b");")?;
+        assert!(rt; writes_first(rt.alloc(), shown(system.as_slice()), *status, *text)?);
     }
     Ok(())
 }
 
 #[test]
 fn refuses_other_words(rt: HostRuntime) -> Result<(), Fail> {
-    for refused in OTHER_WORDS {
-        let (status, out) = told(rt.alloc(), *refused, LOOP, LOOP_CERTIFICATE)?;
-        assert_eq!(rt; status.number(), Status::BadWords.number());
-        assert_eq!(rt; out.bytes(), b"BAD WORDS\n".as_slice());
+    for words in OTHER_WORDS {
+        let given = Given {
+            words: *words,
+            system: LOOP,
+            certificate: LOOP_CERTIFICATE,
+        };
+        assert!(rt; writes(rt.alloc(), given, 2, b"BAD WORDS\n")?);
     }
     Ok(())
 }
 
 #[test]
 fn misses_a_file(rt: HostRuntime) -> Result<(), Fail> {
-    let given = ["check", "system", "missing"];
-    let (status, out) = told(rt.alloc(), &given, LOOP, b"")?;
-    assert_eq!(rt; status.number(), Status::ReadFault.number());
-    assert_eq!(rt; out.bytes(), b"READ FAULT certificate\n".as_slice());
+    let given = Given {
+        words: &["check", "system", "missing"],
+        system: LOOP,
+        certificate: b"",
+    };
+    assert!(rt; writes(rt.alloc(), given, 4, b"READ FAULT certificate\n")?);
     Ok(())
 }
 
 #[test]
 fn refuses_long_systems(rt: HostRuntime) -> Result<(), Fail> {
-    let alloc = rt.alloc();
-    let spaces = vec![in alloc; b' '; 1_048_577]?;
-    let (status, out) = told(alloc, &["show", "system"], spaces.as_slice(), b"")?;
-    assert_eq!(rt; status.number(), Status::TooLong.number());
-    assert_eq!(rt; out.bytes(), b"TOO LONG system\n".as_slice());
-    let (_, out) = told(alloc, &["show", "system"], &spaces.as_slice()[1..], b"")?;
-    assert_eq!(rt; out.bytes(), b"SYSTEM\nPAIRS 0\n".as_slice());
+    let spaces = vec![in rt.alloc(); b' '; 1_048_577]?;
+    let long = shown(spaces.as_slice());
+    assert!(rt; writes(rt.alloc(), long, 7, b"TOO LONG system\n")?);
+    let longest = shown(&spaces.as_slice()[1..]);
+    assert!(rt; writes(rt.alloc(), longest, 0, b"SYSTEM\nPAIRS 0\n")?);
     Ok(())
 }
 
 #[test]
 fn leaves_what_it_wrote_before_a_fault(rt: HostRuntime) -> Result<(), Fail> {
-    let alloc = rt.alloc();
-    let mut shelf = MemoryShelf::new(alloc, &[])?;
-    shelf.add_file("system", LOOP)?;
-    shelf.add_file("certificate", LOOP_CERTIFICATE)?;
-    let mut out = MemorySink::new(alloc, 1, 100, &[1])?;
-    let asked = words_of(alloc, &["check", "system", "certificate"])?;
-    let status = run(alloc, asked.as_slice(), &mut shelf, &mut out);
-    assert_eq!(rt; status.number(), Status::WriteFault.number());
-    assert_eq!(rt; status.number(), 5);
-    assert_eq!(rt; out.bytes(), b"N".as_slice());
+    let given = checked(LOOP, LOOP_CERTIFICATE);
+    let faults = Faults {
+        reads: &[],
+        writes: &[1],
+        piece: 1,
+    };
+    assert!(rt; writes_before(rt.alloc(), given, faults, 5, b"N")?);
     Ok(())
 }

@@ -1,11 +1,9 @@
-//! Systems and certificates for the crates of tests, and one run over them.
+//! Systems and certificates for the crates of tests.
 #![tactic(auto)]
 
 mod tables;
-mod telling;
 
 pub use tables::{NEIGHBOURS, PAIRS, READ};
-pub use telling::{told, words_of};
 
 /// Two constants that lead to each other.
 pub const LOOP: &[u8] = b"sort o;\nfun a : o;\nfun b : o;\nrule {} a => b;\nrule {} b => a;\n";

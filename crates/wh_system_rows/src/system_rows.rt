@@ -5,63 +5,64 @@ use std::test::Fail;
 use wh_samples::{
     ETA, EVEN_ODD, FOLD, FUNCTION_LIST, IDENTITY, INNER_CALL, INNER_CALL_SHOWN, ITERATION, LOOP,
     LOOP_CERTIFICATE, MAP, NEIGHBOURS, NO_RULES, ORDINALS, PAIRS, PARTIAL, PRENEX, PROCESSES, READ,
-    RECURSOR, REPEATED, SORT, TWO_CALLS, UNDER_BINDER, UNEVEN, UNTYPED, told,
+    RECURSOR, REPEATED, SORT, TWO_CALLS, UNDER_BINDER, UNEVEN, UNTYPED,
 };
-use wh_top::Status;
+use wh_telling::{checked, ends_with, shown, told, writes, writes_last};
+
+/// Systems that are shown.
+const SHOWN: &[&[u8]] = &[
+    LOOP,
+    NO_RULES,
+    MAP,
+    FUNCTION_LIST,
+    PARTIAL,
+    UNTYPED,
+    ETA,
+    INNER_CALL,
+    TWO_CALLS,
+    EVEN_ODD,
+    IDENTITY,
+    ITERATION,
+    ORDINALS,
+    UNDER_BINDER,
+    FOLD,
+    SORT,
+    RECURSOR,
+    PRENEX,
+    PROCESSES,
+];
 
 /// What is written of a system that is shown, without the first line and without its pairs.
-fn system_part(shown: &[u8]) -> Option<&[u8]> {
-    let end = shown
+fn system_part(text: &[u8]) -> Option<&[u8]> {
+    let end = text
         .windows(6)
         .position(|bytes| bytes == b"PAIRS ".as_slice())?;
-    shown.get(7..end)
+    text.get(7..end)
+}
+
+/// Whether what is shown of the system is a system, of which the same is shown.
+fn reads_back(alloc: Global, system: &[u8]) -> Result<bool, AllocError> {
+    let out = told(alloc, shown(system))?;
+    match system_part(out.bytes()) {
+        Some(text) => writes(alloc, shown(text), 0, out.bytes()),
+        None => Ok(false),
+    }
 }
 
 #[test]
 fn shows_what_reads_back(rt: HostRuntime) -> Result<(), Fail> {
-    let alloc = rt.alloc();
-    for system in [
-        LOOP,
-        NO_RULES,
-        MAP,
-        FUNCTION_LIST,
-        PARTIAL,
-        UNTYPED,
-        ETA,
-        INNER_CALL,
-        TWO_CALLS,
-        EVEN_ODD,
-        IDENTITY,
-        ITERATION,
-        ORDINALS,
-        UNDER_BINDER,
-        FOLD,
-        SORT,
-        RECURSOR,
-        PRENEX,
-        PROCESSES,
-    ] {
-        let (status, out) = told(alloc, &["show", "system"], system, b"")?;
-        assert_eq!(rt; status.number(), Status::Answered.number());
-        let Some(text) = system_part(out.bytes()) else {
-            panic!(rt; "no pairs");
-        };
-        let (_, again) = told(alloc, &["show", "system"], text, b"")?;
-        assert_eq!(rt; again.bytes(), out.bytes());
+    for system in SHOWN {
+        assert!(rt; reads_back(rt.alloc(), *system)?);
     }
-    let (_, out) = told(alloc, &["show", "system"], INNER_CALL, b"")?;
-    assert_eq!(rt; out.bytes(), INNER_CALL_SHOWN);
-    let (_, out) = told(alloc, &["show", "system"], b"", b"")?;
-    assert_eq!(rt; out.bytes(), b"SYSTEM\nPAIRS 0\n".as_slice());
+    assert!(rt; writes(rt.alloc(), shown(INNER_CALL), 0, INNER_CALL_SHOWN)?);
+    assert!(rt; writes(rt.alloc(), shown(b""), 0, b"SYSTEM\nPAIRS 0\n")?);
     Ok(())
 }
 
 #[test]
 fn shows_pairs(rt: HostRuntime) -> Result<(), Fail> {
     for (system, pairs) in PAIRS {
-        let (status, out) = told(rt.alloc(), &["show", "system"], *system, b"")?;
-        assert_eq!(rt; status.number(), Status::Answered.number());
-        assert!(rt; out.bytes().ends_with(*pairs));
+        assert!(rt; writes_last(rt.alloc(), shown(*system), 0, *pairs)?);
     }
     Ok(())
 }
@@ -85,23 +86,14 @@ fn calling(alloc: Global, last: &[u8]) -> Result<Vec<u8>, AllocError> {
 
 #[test]
 fn keeps_the_limit_of_pairs(rt: HostRuntime) -> Result<(), Fail> {
-    let alloc = rt.alloc();
-    let most = calling(alloc, b"a")?;
-    let (status, out) = told(alloc, &["show", "system"], most.as_slice(), b"")?;
-    assert_eq!(rt; status.number(), Status::Answered.number());
-    assert!(rt;
-        out.bytes()
-            .ends_with(b"pair 4095 rule 1023 (g# X) => (g# a)\n")
-    );
-    let more = calling(alloc, b"(g (s a))")?;
-    for given in [
-        ["show", "system"].as_slice(),
-        ["check", "system", "certificate"].as_slice(),
-    ] {
-        let (status, out) = told(alloc, given, more.as_slice(), LOOP_CERTIFICATE)?;
-        assert_eq!(rt; status.number(), Status::Refused.number());
-        assert_eq!(rt; out.bytes(), b"REFUSED too-many-pairs 0\n".as_slice());
-    }
+    let most = calling(rt.alloc(), b"a")?;
+    let last = b"pair 4095 rule 1023 (g# X) => (g# a)\n";
+    assert!(rt; writes_last(rt.alloc(), shown(most.as_slice()), 0, last)?);
+    let more = calling(rt.alloc(), b"(g (s a))")?;
+    let text = b"REFUSED too-many-pairs 0\n";
+    assert!(rt; writes(rt.alloc(), shown(more.as_slice()), 3, text)?);
+    let check = checked(more.as_slice(), LOOP_CERTIFICATE);
+    assert!(rt; writes(rt.alloc(), check, 3, text)?);
     Ok(())
 }
 
@@ -164,9 +156,7 @@ const REFUSED: &[(&[u8], &[u8])] = &[
 #[test]
 fn tells_why_a_system_is_refused(rt: HostRuntime) -> Result<(), Fail> {
     for (system, text) in REFUSED {
-        let (ended, out) = told(rt.alloc(), &["show", "system"], *system, b"")?;
-        assert_eq!(rt; ended.number(), Status::Refused.number());
-        assert_eq!(rt; out.bytes(), *text);
+        assert!(rt; writes(rt.alloc(), shown(*system), 3, *text)?);
     }
     Ok(())
 }
@@ -174,8 +164,7 @@ fn tells_why_a_system_is_refused(rt: HostRuntime) -> Result<(), Fail> {
 #[test]
 fn reads_systems(rt: HostRuntime) -> Result<(), Fail> {
     for system in READ {
-        let (status, _) = told(rt.alloc(), &["show", "system"], *system, b"")?;
-        assert_eq!(rt; status.number(), Status::Answered.number());
+        assert!(rt; ends_with(rt.alloc(), shown(*system), 0)?);
     }
     Ok(())
 }
@@ -326,31 +315,29 @@ fn repeated(alloc: Global, limit: &Limit, count: u32) -> Result<String, AllocErr
     Ok(text)
 }
 
+/// Whether the limit is kept: so many items are read, and one more is refused.
+fn keeps(alloc: Global, limit: &Limit) -> Result<bool, AllocError> {
+    let most = repeated(alloc, limit, limit.most)?;
+    if !ends_with(alloc, shown(most.as_bytes()), 0)? {
+        return Ok(false);
+    }
+    let more = repeated(alloc, limit, limit.most.saturating_add(1))?;
+    writes(alloc, shown(more.as_bytes()), 3, limit.told)
+}
+
 #[test]
 fn keeps_the_limits_of_systems(rt: HostRuntime) -> Result<(), Fail> {
-    let alloc = rt.alloc();
-    let given = ["show", "system"];
     for limit in LIMITS {
-        let text = repeated(alloc, limit, limit.most)?;
-        let (status, _) = told(alloc, &given, text.as_bytes(), b"")?;
-        assert_eq!(rt; status.number(), Status::Answered.number());
-        let text = repeated(alloc, limit, limit.most.saturating_add(1))?;
-        let (status, out) = told(alloc, &given, text.as_bytes(), b"")?;
-        assert_eq!(rt; status.number(), Status::Refused.number());
-        assert_eq!(rt; out.bytes(), limit.told);
+        assert!(rt; keeps(rt.alloc(), limit)?);
     }
     Ok(())
 }
 
 #[test]
 fn refuses_neighbours(rt: HostRuntime) -> Result<(), Fail> {
-    let given = ["show", "system"];
     for (read, refused, text) in NEIGHBOURS {
-        let (status, _) = told(rt.alloc(), &given, *read, b"")?;
-        assert_eq!(rt; status.number(), Status::Answered.number());
-        let (status, out) = told(rt.alloc(), &given, *refused, b"")?;
-        assert_eq!(rt; status.number(), Status::Refused.number());
-        assert_eq!(rt; out.bytes(), *text);
+        assert!(rt; ends_with(rt.alloc(), shown(*read), 0)?);
+        assert!(rt; writes(rt.alloc(), shown(*refused), 3, *text)?);
     }
     Ok(())
 }

@@ -2,8 +2,8 @@
 
 use std::alloc::{AllocError, Global};
 use std::test::Fail;
-use wh_samples::{IDENTITY, IDENTITY_CERTIFICATE, MAP, MAP_VALUES_CERTIFICATE, TWICE, told};
-use wh_top::Status;
+use wh_samples::{IDENTITY, IDENTITY_CERTIFICATE, MAP, MAP_VALUES_CERTIFICATE, TWICE};
+use wh_telling::{checked, ends_with, told};
 use wh_types::Bytes;
 
 /// Lines of `IDENTITY_CERTIFICATE`, what stands in their place, and what a check writes.
@@ -188,7 +188,7 @@ const TWICE_ROWS: &[(&str, &str, &str, &[u8])] = &[
     ),
 ];
 
-/// Checks the certificate with the one text in the place of the other, and gives how the run ends and what is written.
+/// Whether a check of the certificate with the one text in the place of the other writes this.
 fn checks_changed(
     alloc: Global,
     system: &[u8],
@@ -202,55 +202,51 @@ fn checks_changed(
     };
     let to = change.1;
     let changed = format!(in alloc; "{front}{to}{back}")?;
-    writes(alloc, system, changed.as_bytes(), text)
+    check_writes(alloc, system, changed.as_bytes(), text)
 }
 
 /// Whether a check of the certificate writes the text.
-fn writes(
+fn check_writes(
     alloc: Global,
     system: &[u8],
     certificate: &[u8],
     text: &[u8],
 ) -> Result<bool, AllocError> {
-    let (_, out) = told(
-        alloc,
-        &["check", "system", "certificate"],
-        system,
-        certificate,
-    )?;
-    Ok(out.bytes() == text)
+    Ok(told(alloc, checked(system, certificate))?.bytes() == text)
 }
+
+/// Systems with certificates and their changes.
+const CHANGED: &[(&[u8], &[u8], &[(&str, &str, &[u8])])] = &[
+    (IDENTITY, IDENTITY_CERTIFICATE, IDENTITY_CHANGES),
+    (MAP, MAP_VALUES_CERTIFICATE, MAP_CHANGES),
+];
 
 #[test]
 fn judges_interpretations(rt: HostRuntime) -> Result<(), Fail> {
-    for (system, certificate, changes) in [
-        (IDENTITY, IDENTITY_CERTIFICATE, IDENTITY_CHANGES),
-        (MAP, MAP_VALUES_CERTIFICATE, MAP_CHANGES),
-    ] {
-        for (from, to, text) in changes {
-            assert!(rt; checks_changed(rt.alloc(), system, certificate, (*from, *to), *text)?);
+    for (system, certificate, changes) in CHANGED {
+        for (from, to, text) in *changes {
+            assert!(rt; checks_changed(rt.alloc(), *system, *certificate, (*from, *to), *text)?);
         }
     }
     Ok(())
 }
 
+/// A certificate for `TWICE` with these polynomials.
+fn twice_certificate(alloc: Global, s: &str, h: &str, p: &str) -> Result<String, AllocError> {
+    format!(in alloc;
+        "YES 1\nranks 0\npairs 1\npoly\nfun s {s}\nfun h {h}\nfun p {p}\nfun g 0\nmark g 1*y0\nrule\npair\ndrop 0\ndone\nend\n"
+    )
+}
+
 #[test]
 fn ends_by_its_limits(rt: HostRuntime) -> Result<(), Fail> {
-    let alloc = rt.alloc();
     for (s, h, p, text) in TWICE_ROWS {
-        let (s, h, p) = (*s, *h, *p);
-        let certificate = format!(in alloc;
-            "YES 1\nranks 0\npairs 1\npoly\nfun s {s}\nfun h {h}\nfun p {p}\nfun g 0\nmark g 1*y0\nrule\npair\ndrop 0\ndone\nend\n"
-        )?;
-        assert!(rt; writes(alloc, TWICE, certificate.as_bytes(), *text)?);
+        let certificate = twice_certificate(rt.alloc(), *s, *h, *p)?;
+        assert!(rt; check_writes(rt.alloc(), TWICE, certificate.as_bytes(), *text)?);
     }
-    let (ended, _) = told(
-        alloc,
-        &["check", "system", "certificate"],
-        IDENTITY,
-        b"YES 1\nranks 0\npairs 2\nblocks 2\nblock 0\nblock 1\npoly\nfun s 170141183460469231731687303715884105728*y0\nfun i 1*y0\nfun t 0\nmark t 1*y0*y0\nrule 0>0:1\nrule\npair 1>0:1\ndrop 0\ndone\nalone\nend\n",
-    )?;
-    assert!(rt; ended == Status::TooBig);
+    let heavy =
+        b"YES 1\nranks 0\npairs 2\nblocks 2\nblock 0\nblock 1\npoly\nfun s 170141183460469231731687303715884105728*y0\nfun i 1*y0\nfun t 0\nmark t 1*y0*y0\nrule 0>0:1\nrule\npair 1>0:1\ndrop 0\ndone\nalone\nend\n";
+    assert!(rt; ends_with(rt.alloc(), checked(IDENTITY, heavy), 8)?);
     Ok(())
 }
 
@@ -291,13 +287,13 @@ fn stops_at_heavy_values(rt: HostRuntime) -> Result<(), Fail> {
     let end = b"\nrule 0>0:1\nrule\npair 1>0:1\ndrop 0\ndone\nalone\nend\n".as_slice();
     let mark = repeated(alloc, b"", b"*y0", 300, end)?;
     let heavy = followed(alloc, &s, &mark)?;
-    assert!(rt; writes(alloc, IDENTITY, heavy.as_slice(), b"TOO LARGE 1\n")?);
+    assert!(rt; check_writes(alloc, IDENTITY, heavy.as_slice(), b"TOO LARGE 1\n")?);
     // A weight of 65,536, and one of 65,537.
     let end =
         b"\nfun i 1*y0\nfun t 0\nmark t 1*y0\nrule 0>0:1\nrule\npair 1>0:1\ndrop 0\ndone\nalone\nend\n".as_slice();
     let most = repeated(alloc, front, b"*y0", 65_535, end)?;
     assert!(rt;
-        writes(
+        check_writes(
             alloc,
             IDENTITY,
             most.as_slice(),
@@ -305,13 +301,13 @@ fn stops_at_heavy_values(rt: HostRuntime) -> Result<(), Fail> {
         )?
     );
     let more = repeated(alloc, front, b"*y0", 65_536, end)?;
-    assert!(rt; writes(alloc, IDENTITY, more.as_slice(), b"TOO LARGE 1\n")?);
+    assert!(rt; check_writes(alloc, IDENTITY, more.as_slice(), b"TOO LARGE 1\n")?);
     // A heavy polynomial of a symbol that stands in no side.
     let front = b"YES 1\nranks 0 0\npairs 1\npoly\nfun zero 0\nfun s 1".as_slice();
     let end =
         b"\nfun nil 0\nfun cons 1+1*y0+1*y1\nfun map 1*y0(1*y1)*y1+1*y1\nmark map 1*y1\nrule\nrule 0>0:1 1>1:1 3>2:1 5>3:1\npair 2>0:1\ndrop 0\ndone\nend\n".as_slice();
     let unused = repeated(alloc, front, b"*y0", 70_000, end)?;
-    assert!(rt; writes(alloc, MAP, unused.as_slice(), b"YES\n")?);
+    assert!(rt; check_writes(alloc, MAP, unused.as_slice(), b"YES\n")?);
     Ok(())
 }
 
@@ -332,7 +328,7 @@ fn stops_at_deep_values(rt: HostRuntime) -> Result<(), Fail> {
         b"YES 1\nranks 0\npairs 1\npoly\nfun s 1*y0\nfun h 1*y0(1*y0(1*y0(1*y0(1*y1))))\nfun q 1*y1\nmark q 0\nrule\npair\ndrop 0\ndone\nend\n".as_slice();
     let most = nested_system(alloc, 0)?;
     assert!(rt;
-        writes(
+        check_writes(
             alloc,
             most.as_slice(),
             certificate,
@@ -340,6 +336,6 @@ fn stops_at_deep_values(rt: HostRuntime) -> Result<(), Fail> {
         )?
     );
     let more = nested_system(alloc, 1)?;
-    assert!(rt; writes(alloc, more.as_slice(), certificate, b"TOO LARGE 0\n")?);
+    assert!(rt; check_writes(alloc, more.as_slice(), certificate, b"TOO LARGE 0\n")?);
     Ok(())
 }

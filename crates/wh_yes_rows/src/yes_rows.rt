@@ -2,12 +2,11 @@
 
 use std::alloc::{AllocError, Global};
 use std::test::Fail;
-use wh_io::{MemoryShelf, MemorySink};
 use wh_samples::{
     DOUBLE, ETA, EVEN_ODD, FUNCTION_LIST, IDENTITY, ITERATION, LOOP, MAP, MAP_CERTIFICATE,
-    NO_RULES, UNTYPED, told, words_of,
+    NO_RULES, UNTYPED,
 };
-use wh_top::{Status, run};
+use wh_telling::{Faults, checked, ends_with, told, writes_before};
 
 /// Certificates for the empty system, and what a check writes.
 const EMPTY_ROWS: &[(&[u8], &[u8])] = &[(b"YES 1\nranks\npairs 0\ndone\nend\n", b"YES\n")];
@@ -240,74 +239,55 @@ const IDENTITY_ROWS: &[(&[u8], &[u8])] = &[
     ),
 ];
 
-/// Checks each certificate for the system, and compares what is written.
+/// Whether a check of each certificate for the system writes the text.
 fn checks(alloc: Global, system: &[u8], rows: &[(&[u8], &[u8])]) -> Result<bool, AllocError> {
     let mut all = true;
     for (certificate, text) in rows {
-        let (_, out) = told(
-            alloc,
-            &["check", "system", "certificate"],
-            system,
-            *certificate,
-        )?;
-        all = all && out.bytes() == *text;
+        all = all && told(alloc, checked(system, *certificate))?.bytes() == *text;
     }
     Ok(all)
 }
 
+/// Systems with their rows.
+const JUDGED: &[(&[u8], &[(&[u8], &[u8])])] = &[
+    (b"", EMPTY_ROWS),
+    (NO_RULES, NO_RULES_ROWS),
+    (MAP, MAP_ROWS),
+    (FUNCTION_LIST, FUNCTION_LIST_ROWS),
+    (EVEN_ODD, EVEN_ODD_ROWS),
+    (ITERATION, ITERATION_ROWS),
+    (DOUBLE, DOUBLE_ROWS),
+    (UNTYPED, UNTYPED_ROWS),
+    (LOOP, LOOP_ROWS),
+    (ETA, ETA_ROWS),
+    (IDENTITY, IDENTITY_ROWS),
+];
+
 #[test]
 fn judges_termination(rt: HostRuntime) -> Result<(), Fail> {
-    for (system, rows) in [
-        (b"".as_slice(), EMPTY_ROWS),
-        (NO_RULES, NO_RULES_ROWS),
-        (MAP, MAP_ROWS),
-        (FUNCTION_LIST, FUNCTION_LIST_ROWS),
-        (EVEN_ODD, EVEN_ODD_ROWS),
-        (ITERATION, ITERATION_ROWS),
-        (DOUBLE, DOUBLE_ROWS),
-        (UNTYPED, UNTYPED_ROWS),
-        (LOOP, LOOP_ROWS),
-        (ETA, ETA_ROWS),
-        (IDENTITY, IDENTITY_ROWS),
-    ] {
-        assert!(rt; checks(rt.alloc(), system, rows)?);
+    for (system, rows) in JUDGED {
+        assert!(rt; checks(rt.alloc(), *system, *rows)?);
     }
     Ok(())
 }
 
 #[test]
 fn ends_by_its_answer(rt: HostRuntime) -> Result<(), Fail> {
-    for (certificate, status) in [
-        (MAP_CERTIFICATE, Status::Answered),
-        (
-            b"YES 1\nranks 0 0\npairs 1\ndone\nend\n".as_slice(),
-            Status::Rejected,
-        ),
-    ] {
-        let (ended, _) = told(
-            rt.alloc(),
-            &["check", "system", "certificate"],
-            MAP,
-            certificate,
-        )?;
-        assert!(rt; ended == status);
-    }
+    let accepted = checked(MAP, MAP_CERTIFICATE);
+    assert!(rt; ends_with(rt.alloc(), accepted, 0)?);
+    let rejected = checked(MAP, b"YES 1\nranks 0 0\npairs 1\ndone\nend\n");
+    assert!(rt; ends_with(rt.alloc(), rejected, 1)?);
     Ok(())
 }
 
 #[test]
 fn leaves_a_front_of_a_yes(rt: HostRuntime) -> Result<(), Fail> {
-    let alloc = rt.alloc();
-    let mut shelf = MemoryShelf::new(alloc, &[])?;
-    shelf.add_file("system", b"".as_slice())?;
-    shelf.add_file(
-        "certificate",
-        b"YES 1\nranks\npairs 0\ndone\nend\n".as_slice(),
-    )?;
-    let mut out = MemorySink::new(alloc, 2, 100, &[1])?;
-    let asked = words_of(alloc, &["check", "system", "certificate"])?;
-    let status = run(alloc, asked.as_slice(), &mut shelf, &mut out);
-    assert!(rt; status == Status::WriteFault);
-    assert_eq!(rt; out.bytes(), b"YE".as_slice());
+    let given = checked(b"", b"YES 1\nranks\npairs 0\ndone\nend\n");
+    let faults = Faults {
+        reads: &[],
+        writes: &[1],
+        piece: 2,
+    };
+    assert!(rt; writes_before(rt.alloc(), given, faults, 5, b"YE")?);
     Ok(())
 }
