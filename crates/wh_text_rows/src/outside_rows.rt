@@ -77,15 +77,26 @@ const LIMITS: &[(&str, u64, (usize, &str))] = &[
     ("c", 5, (0, "failed")),
 ];
 
+/// A shelf with these files.
+fn full_shelf(alloc: Global) -> Result<MemoryShelf, AllocError> {
+    let mut shelf = MemoryShelf::new(alloc, &[])?;
+    add_files(&mut shelf)?;
+    Ok(shelf)
+}
+
+/// Compares what is told of each reading.
+fn expect_limits(rt: &impl Abort, alloc: Global, shelf: &mut MemoryShelf) {
+    assert!(rt; reads(alloc, shelf, "a", 5, b"later"));
+    for (name, limit, want) in LIMITS {
+        let found = told_of(alloc, shelf, *name, *limit);
+        expect_told(rt, *name, *limit, found, *want);
+    }
+}
+
 #[test]
 fn reads_up_to_the_limit(rt: HostRuntime) -> Result<(), Fail> {
-    let mut shelf = MemoryShelf::new(rt.alloc(), &[])?;
-    add_files(&mut shelf)?;
-    assert!(rt; reads(rt.alloc(), &mut shelf, "a", 5, b"later"));
-    for (name, limit, want) in LIMITS {
-        let found = told_of(rt.alloc(), &mut shelf, *name, *limit);
-        expect_told(&rt, *name, *limit, found, *want);
-    }
+    let mut shelf = full_shelf(rt.alloc())?;
+    expect_limits(&rt, rt.alloc(), &mut shelf);
     Ok(())
 }
 
