@@ -3,7 +3,7 @@
 
     bench/bench.py [--program PATH] [--only WORD]
 
-Components are counted by the program of crates/wh_bench: `rt run -- map.afs` in its folder builds it.
+Components are counted by the program of crates/wh_examples: `rt run -- components map.afs` in its folder builds it.
 
 Makes its inputs in a temporary folder, runs the program on each three times, and prints the least time, how many times that
 of `sha256sum` on the same bytes it is, and the greatest memory. Sizes double from line to line, so a call that is linear takes about twice the time of the line above.
@@ -17,7 +17,7 @@ import time
 
 HERE = pathlib.Path(__file__).resolve().parent
 PROGRAM = HERE.parent / "crates" / "wanda" / "out" / "wanda"
-COMPONENTS = HERE.parent / "crates" / "wh_bench" / "out" / "wh_bench"
+COMPONENTS = HERE.parent / "crates" / "wh_examples" / "out" / "wh_examples"
 
 
 def many_rules(symbols):
@@ -405,7 +405,7 @@ def main():
             if what == "prove many terms":
                 words += ["--depth", "100", "--visited", str(count)]
             if what.startswith("components"):
-                program, words = str(COMPONENTS), [str(folder / "system")]
+                program, words = str(COMPONENTS), ["components", str(folder / "system")]
             if written.name == "certificate":
                 words = ["check", str(folder / "system"), str(written)]
             seconds, megabytes, first = run(program, words, folder)

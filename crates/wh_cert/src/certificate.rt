@@ -1,7 +1,6 @@
 //! What a certificate says.
 
 use crate::poly_node::PolyNode;
-use thiserror::Error;
 use wh_terms::{Path, Step};
 use wh_text::{Name, RawTerm, RawType};
 use wh_types::{Blocks, List, Numbers};
@@ -94,8 +93,7 @@ pub struct Put {
 pub type Puts = List<Put>;
 
 /// The bytes are no certificate text.
-#[derive(Clone, Copy, Debug, Error)]
-#[error("no certificate, at {at}")]
+#[derive(Clone, Copy)]
 pub struct CertSyntax {
     /// How many bytes from the front on can begin a certificate text.
     pub at: u64,

@@ -10,14 +10,12 @@ ghost use Rattle.wh_gen.specs.RawFamily.{raw_family};
 use crate::declarations::{funs, sorts};
 use crate::rules::rules;
 use std::alloc::{AllocError, Global};
-use thiserror::Error;
 use wh_parts::Parts;
 use wh_system::System;
 use wh_types::Or;
 
 /// There is no generated system of so many functions.
-#[derive(Clone, Copy, Debug, Error)]
-#[error("not from 1 to 200 functions")]
+#[derive(Clone, Copy)]
 pub struct GenTooMany;
 
 /// The system of `n` functions like `map` on lists of numbers: the first goes down the list, and each further one goes

@@ -103,7 +103,7 @@ fn answer_of_found(
 }
 
 /// All pairs of a list.
-fn all_of(alloc: Global, list: &PairList) -> Result<PairSet, AllocError>
+pub fn all_of(alloc: Global, list: &PairList) -> Result<PairSet, AllocError>
     ensures { IfOk result (λ set. All (λ n. n < length list.now) set) }
 {
     let count = u32::try_from(list.as_slice().len()).or(Err(AllocError))?;

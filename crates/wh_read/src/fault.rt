@@ -1,19 +1,16 @@
 //! Why tokens are no system text.
 
-use thiserror::Error;
 use wh_types::Or;
 
 /// Why tokens are no system text: the first token at fault.
-#[derive(Clone, Copy, Debug, Error)]
+#[derive(Clone, Copy)]
 pub enum SyntaxFault {
     /// No system text has this token behind those before it, or the text ends too early.
-    #[error("no system text goes on like this, at {at}")]
     Syntax {
         /// The place of the token; the length of the text where that ends too early.
         at: u32,
     },
     /// The token opens one level too many: terms nest 400 deep, the parentheses of types 16.
-    #[error("one level too many, at {at}")]
     TooMany {
         /// The place of the token.
         at: u32,

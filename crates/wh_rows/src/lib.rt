@@ -1,9 +1,22 @@
-//! The worked rows of NO certificates, words, files and limits, and of system texts, run over files and a sink in memory.
+//! The worked rows of the program, run over files and a sink in memory: of words, files and limits, of system texts, of certificates, and of
+//! the search for a proof or a loop; and the table of hostile inputs: files and an output that fail at each call in turn, certificates that are
+//! cut at each byte, and texts that pass a limit or miss a rule by little. What is expected was worked out by hand.
 //!
-//! This crate has tests alone. They stand apart, so that no crate that the program is made of is proved once more with them.
+//! This crate has tests alone: a library with tests of its own would be proved a second time with them. It is one crate, since a crate of
+//! tests over the program reads all that the program stands on before its first test.
 #![tactic(auto)]
 
+#[cfg(test)]
+mod fault_rows;
+#[cfg(test)]
+mod input_rows;
+#[cfg(test)]
+mod poly_rows;
+#[cfg(test)]
+mod prove_rows;
 #[cfg(test)]
 mod run_rows;
 #[cfg(test)]
 mod system_rows;
+#[cfg(test)]
+mod yes_rows;
