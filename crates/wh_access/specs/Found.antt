@@ -1,5 +1,6 @@
 -- What finding ranks tells.
 use Rattle.std.specs.Prelude.{ℕ, ◌≡◌, ◌<◌, ◌≤◌, ◌↔◌, List, length, All}
+use Rattle.wh_types.specs.Limits.{most_sorts}
 use Rattle.wh_terms.specs.Rules.{RewriteRule}
 use Rattle.wh_system.specs.Systems.{SystemData}
 use Rattle.wh_laws.specs.Ranks.{rank_of}
@@ -28,7 +29,7 @@ IsCycleIn demands n (Cycle sorts) = IsCycle (LeadsBelow demands n) (LeadsStrictl
 
 -- the tables have what the rules of the system demand, among the sorts below 256
 abbrev pub HasDemands : SystemData → Demands → Type 0
-HasDemands d demands = (e : Demand) → e.from < 256 → e.to < 256 → InTables demands e ↔ IsDemand d.symbols d.rules e
+HasDemands d demands = (e : Demand) → e.from < most_sorts → e.to < most_sorts → InTables demands e ↔ IsDemand d.symbols d.rules e
 
 -- so many ranks that meet the demands in the tables, none above 255
 pub record MeetTold (demands : Demands) (sorts : ℕ) (ranks : List ℕ) : Type 0 where

@@ -1,5 +1,6 @@
 -- Demands in tables, and what the walks that fill them tell.
 use Rattle.std.specs.Prelude.{ℕ, ◌≡◌, ◌+◌, ◌*◌, ◌<◌, ◌↔◌, ◌⊎◌, Bool, true, false, IsTrue, List, Option, Some, None, slice_get, slice_index_or}
+use Rattle.wh_types.specs.Limits.{most_sorts}
 use Rattle.wh_types.specs.Ty.{Ty, SortsBelow}
 use Rattle.wh_terms.specs.Typing.{Symbols}
 use Rattle.wh_terms.specs.Rules.{RewriteRule}
@@ -10,7 +11,7 @@ use Rattle.wh_access.specs.declared.demands.Demands.{Demands}
 
 -- whether the table has the sort s related to the sort t
 abbrev pub relates : Relation → ℕ → ℕ → Bool
-relates r s t = slice_index_or r.held.items (s * 256 + t) false
+relates r s t = slice_index_or r.held.items (s * most_sorts + t) false
 
 -- the table of the strict demands, or of the weak ones
 abbrev pub table_of : Demands → Bool → Relation
@@ -37,7 +38,7 @@ LeadsStrictlyBelow demands n s t = (s < n) × (t < n) × LeadsStrictlyIn demands
 
 -- the new tables have the demands of the old ones and those in A
 abbrev pub Grows : Demands → Demands → (Demand → Type 0) → Type 0
-Grows old new A = (d : Demand) → d.from < 256 → d.to < 256 → InTables new d ↔ (InTables old d ⊎ A d)
+Grows old new A = (d : Demand) → d.from < most_sorts → d.to < most_sorts → InTables new d ↔ (InTables old d ⊎ A d)
 
 -- each sort in the type of a symbol has a number below n
 abbrev pub SortsWithin : ℕ → Symbols → Type 0

@@ -1,6 +1,7 @@
 //! What the places that are passed demand of the ranks.
 
 ghost use Rattle.std.specs.Prelude.{◌≡◌, ◌↔◌, ◌<◌, ◌^◌, IfOk, IsTrue, length, true};
+ghost use Rattle.wh_types.specs.Limits.{most_sorts};
 ghost use Rattle.wh_access.specs.Demands.{HasSort, IsAskedAt};
 ghost use Rattle.wh_access.specs.Passing.{IsRead};
 ghost use Rattle.wh_access.specs.Readings.{readings, readings_of_left};
@@ -29,7 +30,7 @@ pub struct Demands {
 impl Demands {
     /// No demands.
     pub fn new(alloc: Global) -> Result<Self, AllocError>
-        ensures { IfOk result (λ demands. (d : _) → d.from < 256 → d.to < 256 → InTables demands d → ⊥) }
+        ensures { IfOk result (λ demands. (d : _) → d.from < most_sorts → d.to < most_sorts → InTables demands d → ⊥) }
     {
         Ok(Demands {
             weak: Relation::new(alloc)?,
@@ -39,8 +40,8 @@ impl Demands {
 
     /// One more demand.
     pub fn add(&mut self, from: u32, to: u32, strict: bool)
-        requires from { from < 256 }
-        requires to { to < 256 }
+        requires from { from < most_sorts }
+        requires to { to < most_sorts }
         ensures { Grows self.old self.new (λ d. (d.from ≡ from) × (d.to ≡ to) × (d.strict ≡ strict)) }
     {
         if strict {
@@ -52,8 +53,8 @@ impl Demands {
 
     /// Whether a demand leads from the one sort to the other.
     pub fn leads(&self, from: u32, to: u32) -> bool
-        requires from { from < 256 }
-        requires to { to < 256 }
+        requires from { from < most_sorts }
+        requires to { to < most_sorts }
         ensures { IsTrue result ↔ LeadsIn self.now from to }
     {
         self.weak.holds(from, to) || self.strict.holds(from, to)
@@ -61,8 +62,8 @@ impl Demands {
 
     /// Whether a strict demand leads from the one sort to the other.
     pub fn leads_strictly(&self, from: u32, to: u32) -> bool
-        requires from { from < 256 }
-        requires to { to < 256 }
+        requires from { from < most_sorts }
+        requires to { to < most_sorts }
         ensures { IsTrue result ↔ LeadsStrictlyIn self.now from to }
     {
         self.strict.holds(from, to)
@@ -72,7 +73,7 @@ impl Demands {
 /// Adds what the rule demands: what is asked on the way to each meta-variable of its right side. If one of these is not
 /// read in the left side, the answer is the least.
 pub fn ask_rule(signature: &Signature, demands: &mut Demands, rule: &Rule) -> Option<u32>
-    requires sorts { SortsWithin 256 (symbols signature.now) }
+    requires sorts { SortsWithin most_sorts (symbols signature.now) }
     requires few { length rule.now.metas < 2 ^ 32 }
     requires declared { (z : _) → Occurs z (tm rule.now.right) → z < length rule.now.metas }
     requires nested { nesting (tm rule.now.left) < 2 ^ 30 }
@@ -89,7 +90,7 @@ pub fn ask_rule(signature: &Signature, demands: &mut Demands, rule: &Rule) -> Op
 
 // Adds what is asked on the way to the meta-variable in a left side; false where it is not read there.
 fn ask_left(signature: &Signature, demands: &mut Demands, left: &Term, meta: u32) -> bool
-    requires sorts { SortsWithin 256 (symbols signature.now) }
+    requires sorts { SortsWithin most_sorts (symbols signature.now) }
     requires nested { nesting (tm left.now) < 2 ^ 30 }
     ensures { TellsAsked (symbols signature.now) meta (readings_of_left (tm left.now)) demands.old demands.new result }
 {
@@ -104,7 +105,7 @@ fn ask_left(signature: &Signature, demands: &mut Demands, left: &Term, meta: u32
 
 // The same in a pattern.
 fn ask_in(signature: &Signature, demands: &mut Demands, pattern: &Term, meta: u32) -> bool
-    requires sorts { SortsWithin 256 (symbols signature.now) }
+    requires sorts { SortsWithin most_sorts (symbols signature.now) }
     requires nested { nesting (tm pattern.now) < 2 ^ 30 }
     ensures { TellsAsked (symbols signature.now) meta (readings (tm pattern.now)) demands.old demands.new result }
 {
@@ -130,7 +131,7 @@ fn ask_in(signature: &Signature, demands: &mut Demands, pattern: &Term, meta: u3
 
 // Adds what the place demands.
 fn ask_at(signature: &Signature, demands: &mut Demands, place: Place)
-    requires { SortsWithin 256 (symbols signature.now) }
+    requires { SortsWithin most_sorts (symbols signature.now) }
     ensures { Grows demands.old demands.new (IsAskedAt (symbols signature.now) (record { symbol = place.symbol; index = place.index })) }
 {
     let Some(kind) = signature.funs.as_slice().get(place.symbol as usize) else {
@@ -147,8 +148,8 @@ fn ask_at(signature: &Signature, demands: &mut Demands, place: Place)
 
 // Adds that each sort in the type is to be below the other one.
 fn ask_below(demands: &mut Demands, kind: &SimpleType, to: u32)
-    requires sorts { SortsBelow 256 (ty kind.now) }
-    requires to { to < 256 }
+    requires sorts { SortsBelow most_sorts (ty kind.now) }
+    requires to { to < most_sorts }
     ensures { Grows demands.old demands.new (λ d. HasSort d.from (ty kind.now) × (d.to ≡ to) × (d.strict ≡ true)) }
 {
     match kind {

@@ -1,6 +1,7 @@
 //! Ranks under which a system is passing.
 
 ghost use Rattle.std.specs.Prelude.{◌≡◌, ◌≤◌, All, IfOk, length};
+ghost use Rattle.wh_types.specs.Limits.{greatest_number, most_sorts};
 ghost use Rattle.wh_access.specs.Found.{HasDemands, IsCause, IsCycleIn, IsUnread, MeetTold};
 ghost use Rattle.wh_access.specs.Passing.{AllRead, IsPassing};
 ghost use Rattle.wh_system.specs.SystemView.{system_data};
@@ -37,7 +38,7 @@ pub enum NoRanks {
 pub fn find_ranks(alloc: Global, system: &System) -> Result<Ranks, Or<NoRanks>>
     ensures passing { IfOk result (IsPassing (system_data system.now)) }
     ensures each { IfOk result (λ ranks. length ranks ≡ (system_data system.now).symbols.sorts) }
-    ensures low { IfOk result (λ ranks. All (λ r. r ≤ 65535) ranks) }
+    ensures low { IfOk result (λ ranks. All (λ r. r ≤ greatest_number) ranks) }
     ensures cause { IfBecause result (IsCause (system_data system.now)) }
 {
     system.is_well_made();
@@ -66,7 +67,7 @@ fn demands_of(alloc: Global, system: &System) -> Result<Demands, Or<NoRanks>>
 // Ranks that meet the demands, or a cycle of demands with a strict one: the rank of a sort is the number of the other
 // sorts from which demands lead to it.
 fn ranks_for(alloc: Global, demands: &Demands, sorts: u32) -> Result<Ranks, Or<NoRanks>>
-    requires { sorts ≤ 256 }
+    requires { sorts ≤ most_sorts }
     ensures { MatchOr result (MeetTold demands.now sorts) (IsCycleIn demands.now sorts) }
 {
     let mut numbers = Vec::new(alloc);

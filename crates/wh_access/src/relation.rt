@@ -1,6 +1,7 @@
 //! Relations between sorts, as tables.
 
 ghost use Rattle.std.specs.Prelude.{◌≡◌, length};
+ghost use Rattle.wh_types.specs.Limits.{most_sorts};
 
 use std::alloc::{AllocError, Global};
 
@@ -11,7 +12,7 @@ const SORTS: usize = 256;
 #[derive(Drop)]
 pub struct Relation {
     held: Vec<bool>,
-    ghost full: { length held.items ≡ 65536 },
+    ghost full: { length held.items ≡ most_sorts * most_sorts },
 }
 
 impl Relation {
@@ -20,7 +21,7 @@ impl Relation {
 
     /// The relation that relates nothing.
     pub fn new(alloc: Global) -> Result<Self, AllocError>
-        ensures { IfOk result (λ relation. (s t : ℕ) → s < 256 → t < 256 → IsTrue (relates relation s t) → ⊥) }
+        ensures { IfOk result (λ relation. (s t : ℕ) → s < most_sorts → t < most_sorts → IsTrue (relates relation s t) → ⊥) }
     {
         Ok(Relation {
             held: vec![in alloc; false; SORTS * SORTS]?,
@@ -29,9 +30,9 @@ impl Relation {
 
     /// The one sort becomes related to the other.
     pub fn insert(&mut self, from: u32, to: u32)
-        requires from { from < 256 }
-        requires to { to < 256 }
-        ensures { (s t : ℕ) → s < 256 → t < 256 → IsTrue (relates self.new s t) ↔
+        requires from { from < most_sorts }
+        requires to { to < most_sorts }
+        ensures { (s t : ℕ) → s < most_sorts → t < most_sorts → IsTrue (relates self.new s t) ↔
             (IsTrue (relates self.old s t) ⊎ ((s ≡ from) × (t ≡ to))) }
     {
         self.held[from as usize * SORTS + to as usize] = true;
@@ -39,8 +40,8 @@ impl Relation {
 
     /// Whether the one sort is related to the other.
     pub fn holds(&self, from: u32, to: u32) -> bool
-        requires from { from < 256 }
-        requires to { to < 256 }
+        requires from { from < most_sorts }
+        requires to { to < most_sorts }
         ensures { result ≡ relates self.now from to }
     {
         self.held[from as usize * SORTS + to as usize]

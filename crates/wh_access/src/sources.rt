@@ -1,6 +1,7 @@
 //! The sorts from which demands lead to a sort.
 
 ghost use Rattle.std.specs.Prelude.{◌≢◌, ◌+◌, ◌<◌, ◌≤◌, IfOk, OnOk, MatchOption, length};
+ghost use Rattle.wh_types.specs.Limits.{most_sorts};
 ghost use Rattle.wh_access.specs.Sources.{AreSources, Begun, IsWay, LeadsBy, Marks, next_at, sort_at};
 ghost use Rattle.wh_access.specs.Tables.{LeadsIn, LeadsStrictlyIn};
 
@@ -24,7 +25,7 @@ pub fn sources(
     sorts: u32,
     goal: u32,
 ) -> Result<Vec<Source>, AllocError>
-    requires sorts { sorts ≤ 256 }
+    requires sorts { sorts ≤ most_sorts }
     requires goal { goal < sorts }
     ensures { IfOk result (λ found. AreSources (LeadsIn demands.now) sorts goal found.items) }
 {
@@ -52,7 +53,7 @@ fn add_sources(
     seen: &mut Vec<bool>,
     found: &mut Vec<Source>,
 ) -> Result<(), AllocError>
-    requires sorts { sorts ≤ 256 }
+    requires sorts { sorts ≤ most_sorts }
     requires at { at < length found.old.items }
     requires begun { Begun (LeadsIn demands.now) sorts goal found.old.items at }
     requires marks { Marks sorts found.old.items seen.old.items }
@@ -89,8 +90,8 @@ pub fn way_from(alloc: Global, found: &[Source], start: usize) -> Result<Numbers
 
 /// The index of an entry to which a strict demand leads from the goal, if there is one.
 pub fn strict_return(demands: &Demands, goal: u32, found: &[Source]) -> Option<usize>
-    requires goal { goal < 256 }
-    requires within { (k : _) → k < length found.now → sort_at found.now k < 256 }
+    requires goal { goal < most_sorts }
+    requires within { (k : _) → k < length found.now → sort_at found.now k < most_sorts }
     ensures { MatchOption result ((k : _) → k < length found.now → LeadsStrictlyIn demands.now goal (sort_at found.now k) → ⊥)
         (λ k. (k < length found.now) × LeadsStrictlyIn demands.now goal (sort_at found.now k)) }
 {

@@ -1,6 +1,7 @@
 -- The one line of each answer (ours).
 use Rattle.std.specs.Prelude.{ℕ, List, [], ◌∷◌, ◌++◌, codes, true, false}
 use Rattle.std.specs.Fmt.{decimal}
+use Rattle.wh_text.specs.Chars.{line_feed, space}
 use Rattle.wh_answer.specs.declared.report.Report.{Report}
 use Rattle.wh_answer.specs.declared.report.Report.TheVariants as answer
 use Rattle.wh_answer.specs.declared.report.NamedRejection.{NamedRejection}
@@ -16,11 +17,11 @@ use Rattle.wh_answer.specs.declared.report.Role.TheVariants as role
 
 -- a line feed ends it
 abbrev pub line : List ℕ → List ℕ
-line text = text ++ (10 ∷ [])
+line text = text ++ (line_feed ∷ [])
 
 -- a text, and behind a space a name, or a number
 abbrev pub named : List ℕ → List ℕ → List ℕ
-named text name = text ++ (32 ∷ name)
+named text name = text ++ (space ∷ name)
 
 abbrev pub numbered : List ℕ → ℕ → List ℕ
 numbered text n = named text (decimal n)

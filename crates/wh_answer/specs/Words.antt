@@ -3,6 +3,7 @@ use Rattle.std.specs.Prelude.{ℕ, ◌≢◌, ◌==◌, ◌++◌, List, [], ◌�
 use Rattle.std.specs.Borrow.{Bor}
 use Rattle.std.specs.Fmt.{decimal}
 use Rattle.std.specs.List.{slice_split}
+use Rattle.wh_text.specs.Chars.{space}
 use Rattle.wh_answer.specs.Texts.{finder_word, reason_word, role_word}
 use Rattle.wh_answer.specs.declared.report.Report.{Report}
 use Rattle.wh_answer.specs.declared.report.Report.TheVariants as answer
@@ -13,7 +14,7 @@ use Rattle.wh_answer.specs.declared.report.NamedCause.TheVariants as cause
 
 -- the parts of a text between spaces (ours)
 abbrev pub words_of : List ℕ → List (List ℕ)
-words_of = slice_split (λ b. b == 32)
+words_of = slice_split (λ b. b == space)
 
 -- the texts behind references (ours)
 abbrev pub seen : List (Bor (List ℕ)) → List (List ℕ)

@@ -1,5 +1,6 @@
 -- The limits of the format (ours). In all trees the places are 0.
 use Rattle.std.specs.Prelude.{ℕ, ◌≡◌, ◌^◌, ◌<◌, ◌≤◌, List, Option, Some, None, length, All}
+use Rattle.wh_types.specs.Limits.{greatest_number}
 use Rattle.wh_terms.specs.Places.{IsPath}
 use Rattle.wh_terms.specs.declared.path.Step as taken
 use Rattle.wh_text.specs.Words.{IsWord}
@@ -11,7 +12,7 @@ use Rattle.wh_cert.specs.Written.{Put, Arg, Node, blocks, subterm, interpretatio
 
 -- the number of a rule is at most 65,535
 abbrev pub RuleFits : Option ℕ → Type 0
-RuleFits (Some k) = k ≤ 65535
+RuleFits (Some k) = k ≤ greatest_number
 RuleFits None = Unit {0}
 
 pub record StepFits (s : taken.Step) : Type 0 where
@@ -19,7 +20,7 @@ pub record StepFits (s : taken.Step) : Type 0 where
   pub path : IsPath s.path
 
 pub record PutFits (p : Put) : Type 0 where
-  pub number : p.number ≤ 65535
+  pub number : p.number ≤ greatest_number
   pub kind : TypeFits 0 p.kind
   pub term : TermFits 0 p.term
 
@@ -32,8 +33,8 @@ pub record InterpFits (i : Interp) : Type 0 where
   pub poly : PolyFits 0 i.poly
 
 pub record MoveFits (m : moved.Move) : Type 0 where
-  pub from : m.from ≤ 65535
-  pub to : m.to ≤ 65535
+  pub from : m.from ≤ greatest_number
+  pub to : m.to ≤ greatest_number
   pub amount : IsBig m.amount
 
 abbrev pub NodeFits : Node → Type 0

@@ -3,7 +3,7 @@
 -- the laws in proofs/ tie it to the text.
 use Rattle.std.specs.Prelude.{ℕ, ◌+◌, ◌-◌, ◌*◌, ◌==◌, cond, List, [], ◌∷◌, ◌++◌, Option, Some, None, codes}
 use Rattle.wh_terms.specs.declared.path.Step as taken
-use Rattle.wh_text.specs.Chars.{is_digit}
+use Rattle.wh_text.specs.Chars.{line_feed, space, is_digit}
 use Rattle.wh_text.specs.RawTree.{RTy, RTm}
 use Rattle.wh_letters.specs.Digits.{goes_on}
 use Rattle.wh_cert_parts.specs.TypeMachine.{TypeStack, outside, TypePlace, type_wanted, TypeStep, goes, type_ended, no_type, type_step}
@@ -49,13 +49,13 @@ pub data LineStep : Type 0 where
 
 -- the fixed word whose end leads there
 abbrev pub spelling : Behind → List ℕ
-spelling to_term = codes "NO 1" ++ (10 ∷ codes "term ")
+spelling to_term = codes "NO 1" ++ (line_feed ∷ codes "term ")
 spelling to_rule = codes "step "
 spelling (to_path None) = codes "beta /"
 spelling (to_path (Some n)) = codes " /"
 spelling to_at = codes "at /"
 spelling to_put = codes "put %"
-spelling to_finish = codes "end" ++ (10 ∷ [])
+spelling to_finish = codes "end" ++ (line_feed ∷ [])
 
 abbrev pub behind : Behind → LineStep
 behind to_term = on (in_term m.base m.wanted)
@@ -73,7 +73,7 @@ word_on (x ∷ w) o = on (word (x ∷ w) o)
 -- where a byte leads in a path: the path goes on, or ends and does what is said
 abbrev pub path_step : (List ℕ → LinePlace) → (List ℕ → LineStep) → List ℕ → ℕ → LineStep
 path_step more ended path b =
-    cond (b == 48) (on (more (path ++ 0 ∷ []))) (cond (b == 49) (on (more (path ++ 1 ∷ []))) (cond (b == 10) (ended path) refused))
+    cond (b == 48) (on (more (path ++ 0 ∷ []))) (cond (b == 49) (on (more (path ++ 1 ∷ []))) (cond (b == line_feed) (ended path) refused))
 
 abbrev pub term_line : m.State → LineStep
 term_line (m.at fs k) = on (in_term fs k)
@@ -87,7 +87,7 @@ put_line n a m.failed = refused
 
 abbrev pub type_line : ℕ → TypeStep → LineStep
 type_line n (goes fs k) = on (put_type n fs k)
-type_line n (type_ended a b) = cond (b == 32) (on (put_term n a m.base m.wanted)) refused
+type_line n (type_ended a b) = cond (b == space) (on (put_term n a m.base m.wanted)) refused
 type_line n no_type = refused
 
 abbrev pub step_ended : Option ℕ → List ℕ → LineStep
@@ -105,11 +105,11 @@ line_step line b =
 line_step rule_wanted b =
     cond (is_digit b) (on (rule_number (b - 48))) (cond (b == 98) (on (word (codes "eta /") (to_path None))) refused)
 line_step (rule_number n) b =
-    cond (goes_on n b) (on (rule_number (10 * n + (b - 48)))) (cond (b == 32) (on (word (codes "/") (to_path (Some n)))) refused)
+    cond (goes_on n b) (on (rule_number (10 * n + (b - 48)))) (cond (b == space) (on (word (codes "/") (to_path (Some n)))) refused)
 line_step (step_path rule path) b = path_step (step_path rule) (step_ended rule) path b
 line_step (at_path path) b = path_step at_path at_ended path b
 line_step later_line b =
-    cond (b == 112) (on (word (codes "ut %") to_put)) (cond (b == 101) (on (word (codes "nd" ++ (10 ∷ [])) to_finish)) refused)
+    cond (b == 112) (on (word (codes "ut %") to_put)) (cond (b == 101) (on (word (codes "nd" ++ (line_feed ∷ [])) to_finish)) refused)
 line_step put_percent b = cond (is_digit b) (on (put_number (b - 48))) refused
 line_step (put_number n) b =
     cond (goes_on n b) (on (put_number (10 * n + (b - 48)))) (cond (b == 58) (on (put_type n outside type_wanted)) refused)
@@ -151,8 +151,8 @@ standing_after_yes h y.refused = wrong
 -- the first byte tells YES from NO
 abbrev pub first_byte : ℕ → Standing
 first_byte b =
-    cond (b == 89) (stands_yes y.nothing (y.word (codes "ES 1" ++ (10 ∷ codes "ranks")) (y.to_list y.of_ranks)))
-    (cond (b == 78) (stands nothing (word (codes "O 1" ++ (10 ∷ codes "term ")) to_term)) wrong)
+    cond (b == 89) (stands_yes y.nothing (y.word (codes "ES 1" ++ (line_feed ∷ codes "ranks")) (y.to_list y.of_ranks)))
+    (cond (b == 78) (stands nothing (word (codes "O 1" ++ (line_feed ∷ codes "term ")) to_term)) wrong)
 
 abbrev pub take_byte : Standing → ℕ → Standing
 take_byte unread b = first_byte b

@@ -1,8 +1,9 @@
 -- A reader of the lines of a node of interpretations up to that of `drop`, byte by byte, as a function: where it stands, and where
 -- the next byte leads. It mirrors the code; the laws in proofs/ tie it to the text.
 use Rattle.std.specs.Prelude.{ℕ, ◌+◌, ◌-◌, ◌*◌, ◌==◌, ◌&&◌, nat_lt, cond, List, [], ◌∷◌, ◌++◌, length, codes}
+use Rattle.wh_types.specs.Limits.{longest_name}
 use Rattle.wh_hopoly.specs.declared.expression.Move as moved
-use Rattle.wh_text.specs.Chars.{is_digit, is_start, is_part}
+use Rattle.wh_text.specs.Chars.{line_feed, space, is_digit, is_start, is_part}
 use Rattle.wh_letters.specs.Digits.{goes_on, begins_big, goes_on_big}
 use Rattle.wh_cert_parts.specs.PolyMachine.{PolyStack, outside, PolyPlace, poly_wanted, PolyStep, goes, poly_ended, no_poly, poly_step}
 use Rattle.wh_cert.specs.Interps.{Interp}
@@ -97,12 +98,12 @@ first_step (in_pairs funs marks rules pairs) b = pair_step (in_pairs funs marks 
 -- where a byte leads that was given to the reader of polynomials
 abbrev pub poly_led : Lines → List ℕ → PolyStep → LinesStep
 poly_led x xs (goes fs k) = on x (in_poly xs fs k)
-poly_led x xs (poly_ended p b) = cond (b == 10) (on (add_interp x (record { name = xs; poly = p })) lines_front) refused
+poly_led x xs (poly_ended p b) = cond (b == line_feed) (on (add_interp x (record { name = xs; poly = p })) lines_front) refused
 poly_led x xs no_poly = refused
 
 -- behind moves another one comes, or the line ends
 abbrev pub moves_step : Lines → List moved.Move → ℕ → LinesStep
-moves_step x ms b = cond (b == 32) (on x (from_wanted ms)) (cond (b == 10) (on (add_cover x ms) lines_front) refused)
+moves_step x ms b = cond (b == space) (on x (from_wanted ms)) (cond (b == line_feed) (on (add_cover x ms) lines_front) refused)
 
 -- one more move
 abbrev pub add_move : List moved.Move → ℕ → ℕ → ℕ → List moved.Move
@@ -112,7 +113,7 @@ abbrev pub lines_step : Lines → LinesPlace → ℕ → LinesStep
 lines_step x lines_front b = first_step x b
 lines_step x name_wanted b = cond (is_start b) (on x (name (b ∷ []))) refused
 lines_step x (name xs) b =
-    cond (is_part b && nat_lt (length xs) 64) (on x (name (xs ++ b ∷ []))) (cond (b == 32) (on x (in_poly xs outside poly_wanted)) refused)
+    cond (is_part b && nat_lt (length xs) longest_name) (on x (name (xs ++ b ∷ []))) (cond (b == space) (on x (in_poly xs outside poly_wanted)) refused)
 lines_step x (in_poly xs fs k) b = poly_led x xs (poly_step fs k b)
 lines_step x (moves ms) b = moves_step x ms b
 lines_step x (from_wanted ms) b = cond (is_digit b) (on x (from ms (b - 48))) refused

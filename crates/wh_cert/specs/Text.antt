@@ -1,6 +1,7 @@
 -- The text of a certificate (ours). `put_.. r` is the spelling with r behind it.
 use Rattle.std.specs.Prelude.{ℕ, ◌+◌, List, [], ◌∷◌, ◌++◌, length, Option, Some, None, codes}
 use Rattle.std.specs.Fmt.{decimal}
+use Rattle.wh_text.specs.Chars.{line_feed}
 use Rattle.wh_terms.specs.declared.path.Step as taken
 use Rattle.wh_text.specs.Spelling.{put_part, put_term}
 use Rattle.wh_hopoly.specs.declared.expression.Move as moved
@@ -20,7 +21,7 @@ put_rule None r = codes "beta" ++ r
 
 -- the line of a step
 abbrev pub put_step : taken.Step → List ℕ → List ℕ
-put_step s r = codes "step " ++ put_rule s.rule (codes " /" ++ put_path s.path (10 ∷ r))
+put_step s r = codes "step " ++ put_rule s.rule (codes " /" ++ put_path s.path (line_feed ∷ r))
 
 abbrev pub put_steps : List taken.Step → List ℕ → List ℕ
 put_steps [] r = r
@@ -28,7 +29,7 @@ put_steps (s ∷ ss) r = put_step s (put_steps ss r)
 
 -- the line of what is put for a variable
 abbrev pub put_put : Put → List ℕ → List ℕ
-put_put p r = codes "put %" ++ (decimal p.number ++ (codes ":" ++ put_part p.kind (codes " " ++ put_term p.term (10 ∷ r))))
+put_put p r = codes "put %" ++ (decimal p.number ++ (codes ":" ++ put_part p.kind (codes " " ++ put_term p.term (line_feed ∷ r))))
 
 abbrev pub put_puts : List Put → List ℕ → List ℕ
 put_puts [] r = r
@@ -44,7 +45,7 @@ put_numbers (n ∷ ns) r = put_entry n (put_numbers ns r)
 
 -- these up to the end of their line
 abbrev pub put_line : List ℕ → List ℕ → List ℕ
-put_line ns r = put_numbers ns (10 ∷ r)
+put_line ns r = put_numbers ns (line_feed ∷ r)
 
 -- the line of a block
 abbrev pub put_block : List ℕ → List ℕ → List ℕ
@@ -56,7 +57,7 @@ put_blocks (b ∷ bs) r = put_block b (put_blocks bs r)
 
 -- the line of an argument that is looked at
 abbrev pub put_arg : Arg → List ℕ → List ℕ
-put_arg a r = codes "arg " ++ (a.name ++ (codes " " ++ (decimal a.place ++ (10 ∷ r))))
+put_arg a r = codes "arg " ++ (a.name ++ (codes " " ++ (decimal a.place ++ (line_feed ∷ r))))
 
 abbrev pub put_args : List Arg → List ℕ → List ℕ
 put_args [] r = r
@@ -64,7 +65,7 @@ put_args (a ∷ rest) r = put_arg a (put_args rest r)
 
 -- the line of an interpretation, behind its word
 abbrev pub put_interp : List ℕ → Interp → List ℕ → List ℕ
-put_interp word i r = word ++ (i.name ++ (codes " " ++ put_poly i.poly (10 ∷ r)))
+put_interp word i r = word ++ (i.name ++ (codes " " ++ put_poly i.poly (line_feed ∷ r)))
 
 abbrev pub put_interps : List ℕ → List Interp → List ℕ → List ℕ
 put_interps word [] r = r
@@ -80,7 +81,7 @@ put_moves (m ∷ ms) r = put_move m (put_moves ms r)
 
 -- the line of moves, behind its word
 abbrev pub put_cover : List ℕ → List moved.Move → List ℕ → List ℕ
-put_cover word ms r = word ++ put_moves ms (10 ∷ r)
+put_cover word ms r = word ++ put_moves ms (line_feed ∷ r)
 
 abbrev pub put_covers : List ℕ → List (List moved.Move) → List ℕ → List ℕ
 put_covers word [] r = r
@@ -88,12 +89,12 @@ put_covers word (ms ∷ rest) r = put_cover word ms (put_covers word rest r)
 
 -- the lines of a node, without its children's
 abbrev pub put_node : Node → List ℕ → List ℕ
-put_node done r = codes "done" ++ (10 ∷ r)
-put_node alone r = codes "alone" ++ (10 ∷ r)
-put_node (blocks parts) r = codes "blocks " ++ (decimal (length parts) ++ (10 ∷ put_blocks parts r))
-put_node (subterm args drop) r = codes "subterm" ++ (10 ∷ put_args args (codes "drop" ++ put_line drop r))
+put_node done r = codes "done" ++ (line_feed ∷ r)
+put_node alone r = codes "alone" ++ (line_feed ∷ r)
+put_node (blocks parts) r = codes "blocks " ++ (decimal (length parts) ++ (line_feed ∷ put_blocks parts r))
+put_node (subterm args drop) r = codes "subterm" ++ (line_feed ∷ put_args args (codes "drop" ++ put_line drop r))
 put_node (interpretations funs marks rules pairs drop) r =
-    codes "poly" ++ (10 ∷ put_interps (codes "fun ") funs
+    codes "poly" ++ (line_feed ∷ put_interps (codes "fun ") funs
     (put_interps (codes "mark ") marks (put_covers (codes "rule") rules
     (put_covers (codes "pair") pairs (codes "drop" ++ put_line drop r)))))
 
@@ -104,8 +105,8 @@ put_nodes (x ∷ xs) r = put_node x (put_nodes xs r)
 -- the text of a certificate, line by line
 abbrev pub text : Cert → List ℕ
 text (yes version ranks pairs nodes) =
-    codes "YES " ++ (decimal version ++ (10 ∷ (codes "ranks" ++ put_line ranks
-    (codes "pairs " ++ (decimal pairs ++ (10 ∷ put_nodes nodes (codes "end" ++ (10 ∷ []))))))))
+    codes "YES " ++ (decimal version ++ (line_feed ∷ (codes "ranks" ++ put_line ranks
+    (codes "pairs " ++ (decimal pairs ++ (line_feed ∷ put_nodes nodes (codes "end" ++ (line_feed ∷ []))))))))
 text (no t steps at puts) =
-    codes "NO 1" ++ (10 ∷ (codes "term " ++ put_term t
-    (10 ∷ put_steps steps (codes "at /" ++ put_path at (10 ∷ put_puts puts (codes "end" ++ (10 ∷ [])))))))
+    codes "NO 1" ++ (line_feed ∷ (codes "term " ++ put_term t
+    (line_feed ∷ put_steps steps (codes "at /" ++ put_path at (line_feed ∷ put_puts puts (codes "end" ++ (line_feed ∷ [])))))))

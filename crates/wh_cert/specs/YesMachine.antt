@@ -1,7 +1,8 @@
 -- A reader of YES certificates, byte by byte, as a function: what it stands before in the present line or node, and the items
 -- that the lines give. It mirrors the code; the laws in proofs/ tie it to the text.
 use Rattle.std.specs.Prelude.{ℕ, zero, suc, ◌+◌, ◌-◌, ◌*◌, ◌==◌, ◌&&◌, nat_lt, Bool, cond, List, [], ◌∷◌, ◌++◌, length, codes}
-use Rattle.wh_text.specs.Chars.{is_digit, is_start, is_part}
+use Rattle.wh_types.specs.Limits.{longest_name}
+use Rattle.wh_text.specs.Chars.{line_feed, space, is_digit, is_start, is_part}
 use Rattle.wh_hopoly.specs.declared.expression.Move as moved
 use Rattle.wh_letters.specs.Digits.{goes_on}
 use Rattle.wh_cert.specs.Interps.{Interp}
@@ -61,19 +62,19 @@ pub data LineStep : Type 0 where
 
 -- the fixed word whose end leads there; that of `done` without its first byte, behind which no other word goes on
 abbrev pub spelling : Behind → List ℕ
-spelling (to_list of_ranks) = codes "YES 1" ++ (10 ∷ codes "ranks")
+spelling (to_list of_ranks) = codes "YES 1" ++ (line_feed ∷ codes "ranks")
 spelling (to_list (of_block left parts)) = codes "block"
 spelling (to_list (of_drop args)) = codes "drop"
 spelling (to_list (of_poly funs marks rules pairs)) = codes "drop"
 spelling to_pairs = codes "pairs "
-spelling to_done = codes "one" ++ (10 ∷ [])
-spelling to_alone = codes "alone" ++ (10 ∷ [])
+spelling to_done = codes "one" ++ (line_feed ∷ [])
+spelling to_alone = codes "alone" ++ (line_feed ∷ [])
 spelling to_blocks = codes "blocks "
-spelling to_subterm = codes "subterm" ++ (10 ∷ [])
+spelling to_subterm = codes "subterm" ++ (line_feed ∷ [])
 spelling (to_name args) = codes "arg "
-spelling to_poly = codes "poly" ++ (10 ∷ [])
+spelling to_poly = codes "poly" ++ (line_feed ∷ [])
 spelling (to_line x) = line_first x ∷ line_rest x
-spelling to_finish = codes "end" ++ (10 ∷ [])
+spelling to_finish = codes "end" ++ (line_feed ∷ [])
 
 abbrev pub behind : Behind → LineStep
 behind (to_list of) = on (listed of [])
@@ -111,26 +112,26 @@ count_ended (suc left) = block_wanted left []
 
 -- behind a number of a list
 abbrev pub list_step : Listed → List ℕ → ℕ → LineStep
-list_step of xs b = cond (b == 32) (on (number_wanted (of_list of xs))) (cond (b == 10) (list_ended of xs) refused)
+list_step of xs b = cond (b == space) (on (number_wanted (of_list of xs))) (cond (b == line_feed) (list_ended of xs) refused)
 
 -- a number has ended before the byte
 abbrev pub number_ended : Counted → ℕ → ℕ → LineStep
-number_ended of_pairs n b = cond (b == 10) (gives (pairs_item n) front) refused
-number_ended of_blocks n b = cond (b == 10) (count_ended n) refused
+number_ended of_pairs n b = cond (b == line_feed) (gives (pairs_item n) front) refused
+number_ended of_blocks n b = cond (b == line_feed) (count_ended n) refused
 number_ended (of_place args name) n b =
-    cond (b == 10) (on (arg_front (args ++ record { name = name; place = n } ∷ []))) refused
+    cond (b == line_feed) (on (arg_front (args ++ record { name = name; place = n } ∷ []))) refused
 number_ended (of_list of xs) n b = list_step of (xs ++ n ∷ []) b
 
 -- the front of a node, or of the end where no node is wanted
 abbrev pub front_step : Bool → ℕ → LineStep
 front_step wants b =
     cond wants
-    (cond (b == 100) (on (word (codes "one" ++ (10 ∷ [])) to_done))
-    (cond (b == 97) (on (word (codes "lone" ++ (10 ∷ [])) to_alone))
+    (cond (b == 100) (on (word (codes "one" ++ (line_feed ∷ [])) to_done))
+    (cond (b == 97) (on (word (codes "lone" ++ (line_feed ∷ [])) to_alone))
     (cond (b == 98) (on (word (codes "locks ") to_blocks))
-    (cond (b == 115) (on (word (codes "ubterm" ++ (10 ∷ [])) to_subterm))
-    (cond (b == 112) (on (word (codes "oly" ++ (10 ∷ [])) to_poly)) refused)))))
-    (cond (b == 101) (on (word (codes "nd" ++ (10 ∷ [])) to_finish)) refused)
+    (cond (b == 115) (on (word (codes "ubterm" ++ (line_feed ∷ [])) to_subterm))
+    (cond (b == 112) (on (word (codes "oly" ++ (line_feed ∷ [])) to_poly)) refused)))))
+    (cond (b == 101) (on (word (codes "nd" ++ (line_feed ∷ [])) to_finish)) refused)
 
 -- the next byte of a fixed word
 abbrev pub word_step : List ℕ → Behind → ℕ → LineStep
@@ -157,8 +158,8 @@ letter_step args b = cond (is_start b) (on (letters args (b ∷ []))) refused
 -- in a name
 abbrev pub letters_step : List Arg → List ℕ → ℕ → LineStep
 letters_step args xs b =
-    cond (is_part b && nat_lt (length xs) 64) (on (letters args (xs ++ b ∷ [])))
-    (cond (b == 32) (on (number_wanted (of_place args xs))) refused)
+    cond (is_part b && nat_lt (length xs) longest_name) (on (letters args (xs ++ b ∷ [])))
+    (cond (b == space) (on (number_wanted (of_place args xs))) refused)
 
 -- behind all lines of a node of interpretations but that of `drop`
 abbrev pub dropped : Lines → Listed

@@ -1,6 +1,7 @@
 -- A reader of polynomials, byte by byte, as a function: where it stands, and where the next byte leads. It mirrors the code; the
 -- laws in proofs/ tie it to the text.
 use Rattle.std.specs.Prelude.{ℕ, suc, ◌+◌, ◌-◌, ◌*◌, ◌==◌, ◌&&◌, nat_lt, cond}
+use Rattle.wh_types.specs.Limits.{deepest_certificate_polynomial}
 use Rattle.wh_text.specs.Chars.{is_digit}
 use Rattle.wh_hopoly.specs.Polynomials.{Polynomial, zero_poly, plus, Factors, no_factors, times, Arguments, no_arguments, argument}
 use Rattle.wh_letters.specs.Digits.{goes_on, begins_big, goes_on_big}
@@ -64,7 +65,7 @@ first_coefficient fs p b = cond (begins_big b) (goes fs (coefficient p (b - 48))
 -- a variable's number has ended before the byte
 abbrev pub head_ended : PolyStack → Polynomial → ℕ → Factors → ℕ → ℕ → PolyStep
 head_ended fs p c us x b =
-    cond ((b == 40) && nat_lt (poly_level fs) 64) (goes (inside p c us x no_arguments fs) poly_wanted)
+    cond ((b == 40) && nat_lt (poly_level fs) deepest_certificate_polynomial) (goes (inside p c us x no_arguments fs) poly_wanted)
     (behind_part fs p c (add_factor us x no_arguments) b)
 
 abbrev pub poly_step : PolyStack → PolyPlace → ℕ → PolyStep

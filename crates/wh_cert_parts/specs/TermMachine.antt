@@ -1,7 +1,8 @@
 -- A reader of terms up to a line feed, byte by byte, as a function. It mirrors the code; the laws in proofs/ tie it to the
 -- text.
 use Rattle.std.specs.Prelude.{ℕ, suc, ◌+◌, ◌-◌, ◌*◌, ◌==◌, ◌&&◌, nat_lt, cond, List, [], ◌∷◌, ◌++◌, length}
-use Rattle.wh_text.specs.Chars.{is_digit, is_start, is_part}
+use Rattle.wh_types.specs.Limits.{longest_name, most_arguments, deepest_certificate_term}
+use Rattle.wh_text.specs.Chars.{line_feed, space, is_digit, is_start, is_part}
 use Rattle.wh_text.specs.RawTree.{RTy, numbered_binder, RTm, named, numbered, free_variable, lam, spine, RTms, none, more}
 use Rattle.wh_letters.specs.Digits.{goes_on}
 use Rattle.wh_cert_parts.specs.TermLimits.{term_count}
@@ -50,11 +51,11 @@ add_term (more t ts) u = more t (add_term ts u)
 
 -- a term has ended before the byte
 abbrev pub after : Stack → RTm → ℕ → State
-after base t b = cond (b == 10) (whole t) failed
-after (in_head fs) t b = cond (b == 32) (at (in_spine t none fs) wanted) failed
+after base t b = cond (b == line_feed) (whole t) failed
+after (in_head fs) t b = cond (b == space) (at (in_spine t none fs) wanted) failed
 after (in_spine h ts fs) t b =
     cond (b == 41) (at fs (closed (spine h (add_term ts t) 0)))
-    (cond ((b == 32) && nat_lt (suc (term_count ts)) 32) (at (in_spine h (add_term ts t) fs) wanted) failed)
+    (cond ((b == space) && nat_lt (suc (term_count ts)) most_arguments) (at (in_spine h (add_term ts t) fs) wanted) failed)
 after (in_body n a fs) t b = cond (b == 41) (at fs (closed (lam (numbered_binder n) a t 0))) failed
 
 -- the byte begins a name, a bound or a free variable, or does what is said
@@ -74,13 +75,13 @@ typed fs (of_binder n) (type_ended a b) = cond (b == 46) (at (in_body n a fs) wa
 typed fs of no_type = failed
 
 abbrev pub step : Stack → Place → ℕ → State
-step fs wanted b = begin fs b (cond ((b == 40) && nat_lt (level fs) 200) (at fs opened) failed)
+step fs wanted b = begin fs b (cond ((b == 40) && nat_lt (level fs) deepest_certificate_term) (at fs opened) failed)
 step fs opened b =
     begin (in_head fs) b (cond (b == 92) (at fs slash)
-    (cond ((b == 40) && nat_lt (suc (level fs)) 200) (at (in_head fs) head_opened) failed))
+    (cond ((b == 40) && nat_lt (suc (level fs)) deepest_certificate_term) (at (in_head fs) head_opened) failed))
 step fs head_opened b = cond (b == 92) (at fs slash) failed
 step fs (letters xs) b =
-    cond (is_part b && nat_lt (length xs) 64) (at fs (letters (xs ++ b ∷ []))) (after fs (named xs 0) b)
+    cond (is_part b && nat_lt (length xs) longest_name) (at fs (letters (xs ++ b ∷ []))) (after fs (named xs 0) b)
 step fs dollar b = first_digit fs bound_number b
 step fs percent b = first_digit fs free_number b
 step fs binder b = first_digit fs binder_number b

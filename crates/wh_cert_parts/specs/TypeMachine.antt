@@ -1,6 +1,7 @@
 -- A reader of types, byte by byte, as a function: where it stands, and where the next byte leads. It mirrors the code; the
 -- laws in proofs/ tie it to the text.
 use Rattle.std.specs.Prelude.{ℕ, suc, ◌==◌, ◌&&◌, nat_lt, Bool, true, false, cond, List, [], ◌∷◌, ◌++◌, length}
+use Rattle.wh_types.specs.Limits.{longest_name, deepest_certificate_type, most_certificate_arguments}
 use Rattle.wh_text.specs.Chars.{is_start, is_part}
 use Rattle.wh_text.specs.RawTree.{RTy, raw_type, RTys, no_types, more_types}
 use Rattle.wh_cert_parts.specs.TermLimits.{type_count}
@@ -30,7 +31,7 @@ type_level (inside args fs) = suc (type_level fs)
 -- the innermost parenthesis has room for one more argument
 abbrev pub has_room : TypeStack → Bool
 has_room outside = true
-has_room (inside args fs) = nat_lt (type_count args) 64
+has_room (inside args fs) = nat_lt (type_count args) most_certificate_arguments
 
 abbrev pub has_types : RTys → Bool
 has_types no_types = false
@@ -45,15 +46,15 @@ add_type (more_types a rest) b = more_types a (add_type rest b)
 abbrev pub name_ended : TypeStack → List ℕ → ℕ → TypeStep
 name_ended outside xs b = type_ended (raw_type no_types xs 0) b
 name_ended (inside args fs) xs b =
-    cond ((b == 45) && nat_lt (type_count args) 64) (goes (inside args fs) (dash (raw_type no_types xs 0)))
+    cond ((b == 45) && nat_lt (type_count args) most_certificate_arguments) (goes (inside args fs) (dash (raw_type no_types xs 0)))
     (cond ((b == 41) && has_types args) (goes fs (closed_type (raw_type args xs 0))) no_type)
 
 abbrev pub type_step : TypeStack → TypePlace → ℕ → TypeStep
 type_step fs type_wanted b =
-    cond (is_start b) (goes fs (sort_name (b ∷ []))) (cond ((b == 40) && (nat_lt (type_level fs) 18 && has_room fs))
+    cond (is_start b) (goes fs (sort_name (b ∷ []))) (cond ((b == 40) && (nat_lt (type_level fs) deepest_certificate_type && has_room fs))
     (goes (inside no_types fs) type_wanted) no_type)
 type_step fs (sort_name xs) b =
-    cond (is_part b && nat_lt (length xs) 64) (goes fs (sort_name (xs ++ b ∷ []))) (name_ended fs xs b)
+    cond (is_part b && nat_lt (length xs) longest_name) (goes fs (sort_name (xs ++ b ∷ []))) (name_ended fs xs b)
 type_step (inside args fs) (dash a) b = cond (b == 62) (goes (inside (add_type args a) fs) type_wanted) no_type
 type_step outside (dash a) b = no_type
 type_step outside (closed_type a) b = type_ended a b

@@ -1,6 +1,7 @@
 //! Polynomials, byte by byte.
 
 ghost use Rattle.std.specs.Prelude.{◌≡◌, ◌==◌, ◌&&◌, ℕ, nat_lt, IfOk, OnOk, MatchOption};
+ghost use Rattle.wh_types.specs.Limits.{deepest_certificate_polynomial};
 ghost use Rattle.wh_hopoly.specs.Erase.{poly, atoms, polys};
 ghost use Rattle.wh_hopoly.specs.Polynomials.{zero_poly, no_factors, no_arguments};
 ghost use Rattle.wh_cert_parts.specs.PolyMachine.{outside, poly_wanted, coefficient, closed_poly, goes, poly_level, add_monomial, add_factor, add_argument, behind_poly, first_coefficient, poly_step};
@@ -176,7 +177,7 @@ fn close_poly(stack: &mut Vec<PolyFrame>) -> Option<PolyFrame>
 /// The byte opens a parenthesis, and one more may be open.
 #[tactic(auto, using(crate::proofs::PolyCode::level_is))]
 fn opens(stack: &[PolyFrame], byte: u8) -> bool
-    ensures { result ≡ ((byte == 40) && nat_lt (poly_level (poly_stack stack.now)) 64) }
+    ensures { result ≡ ((byte == 40) && nat_lt (poly_level (poly_stack stack.now)) deepest_certificate_polynomial) }
 {
     byte == b'(' && stack.len() < DEEPEST_POLYNOMIAL
 }

@@ -1,6 +1,7 @@
 //! Terms up to a line feed, byte by byte.
 
 ghost use Rattle.std.specs.Prelude.{◌≡◌, ◌==◌, ◌&&◌, List, suc, cond, nat_lt, IfOk, OnOk, MatchOption};
+ghost use Rattle.wh_types.specs.Limits.{most_arguments, deepest_certificate_term};
 ghost use Rattle.wh_text.specs.Erase.{rty, rtm, rtms};
 ghost use Rattle.wh_cert_parts.specs.TermLimits.{term_count};
 ghost use Rattle.wh_cert_parts.specs.TypeMachine.{outside, type_wanted, type_ended};
@@ -160,7 +161,7 @@ fn close_term(stack: &mut Vec<Frame>) -> Option<Frame>
 /// The byte opens a parenthesis, and one more may be open.
 #[tactic(auto, using(crate::proofs::TermCode::level_is))]
 fn opens(stack: &[Frame], byte: u8) -> bool
-    ensures { result ≡ ((byte == 40) && nat_lt (level (term_stack stack.now)) 200) }
+    ensures { result ≡ ((byte == 40) && nat_lt (level (term_stack stack.now)) deepest_certificate_term) }
 {
     byte == b'(' && stack.len() < DEEPEST_TERM
 }
@@ -168,7 +169,7 @@ fn opens(stack: &[Frame], byte: u8) -> bool
 /// The byte opens a second parenthesis, where one that is not on the stack is open.
 #[tactic(auto, using(crate::proofs::TermCode::next_level))]
 fn opens_second(stack: &[Frame], byte: u8) -> bool
-    ensures { result ≡ ((byte == 40) && nat_lt (suc (level (term_stack stack.now))) 200) }
+    ensures { result ≡ ((byte == 40) && nat_lt (suc (level (term_stack stack.now))) deepest_certificate_term) }
 {
     byte == b'(' && stack.len() < DEEPEST_TERM - 1
 }
@@ -176,7 +177,7 @@ fn opens_second(stack: &[Frame], byte: u8) -> bool
 /// The byte begins one more argument behind these and another one, and may.
 #[tactic(auto, using(crate::proofs::TermCode::next_argument))]
 fn begins_argument(args: &RawTerms, byte: u8) -> bool
-    ensures { result ≡ ((byte == 32) && nat_lt (suc (term_count (rtms args.now))) 32) }
+    ensures { result ≡ ((byte == 32) && nat_lt (suc (term_count (rtms args.now))) most_arguments) }
 {
     byte == b' ' && args.as_slice().len() < MOST_ARGUMENTS - 1
 }

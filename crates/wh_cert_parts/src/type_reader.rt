@@ -1,6 +1,7 @@
 //! Types, byte by byte.
 
 ghost use Rattle.std.specs.Prelude.{◌≡◌, ◌==◌, ◌&&◌, nat_lt, IfOk, OnOk, MatchOption};
+ghost use Rattle.wh_types.specs.Limits.{deepest_certificate_type, most_certificate_arguments};
 ghost use Rattle.wh_text.specs.Erase.{rty, rtys};
 ghost use Rattle.wh_cert_parts.specs.TermLimits.{type_count};
 ghost use Rattle.wh_cert_parts.specs.TypeMachine.{outside, inside, type_wanted, dash, closed_type, sort_name, type_level, has_room, has_types, name_ended, type_step};
@@ -89,14 +90,14 @@ fn has_room(stack: &[RawTypes]) -> bool
 /// One more parenthesis may open.
 #[tactic(auto, using(crate::proofs::TypeCode::level_is))]
 fn may_open(stack: &[RawTypes]) -> bool
-    ensures { result ≡ (nat_lt (type_level (type_stack stack.now)) 18 && has_room (type_stack stack.now)) }
+    ensures { result ≡ (nat_lt (type_level (type_stack stack.now)) deepest_certificate_type && has_room (type_stack stack.now)) }
 {
     stack.len() < DEEPEST_TYPE && has_room(stack)
 }
 
 /// The byte opens a parenthesis, and may.
 fn opens(stack: &[RawTypes], byte: u8) -> bool
-    ensures { result ≡ ((byte == 40) && (nat_lt (type_level (type_stack stack.now)) 18 && has_room (type_stack stack.now))) }
+    ensures { result ≡ ((byte == 40) && (nat_lt (type_level (type_stack stack.now)) deepest_certificate_type && has_room (type_stack stack.now))) }
 {
     byte == b'(' && may_open(stack)
 }
@@ -104,7 +105,7 @@ fn opens(stack: &[RawTypes], byte: u8) -> bool
 /// The byte begins an arrow behind one more argument, and may.
 #[tactic(auto, using(crate::proofs::RawLaws::rtys_count))]
 fn begins_arrow(args: &RawTypes, byte: u8) -> bool
-    ensures { result ≡ ((byte == 45) && nat_lt (type_count (rtys args.now)) 64) }
+    ensures { result ≡ ((byte == 45) && nat_lt (type_count (rtys args.now)) most_certificate_arguments) }
 {
     byte == b'-' && args.as_slice().len() < MOST_ARGUMENTS
 }

@@ -1,6 +1,7 @@
 //! The search for interpretations of a set, by climbing.
 
 ghost use Rattle.std.specs.Prelude.{◌<◌, ◌≤◌, IfOk, length, map};
+ghost use Rattle.wh_types.specs.Limits.{most_pairs};
 ghost use Rattle.wh_pairs.specs.PairData.{pair_data};
 ghost use Rattle.wh_system.specs.SystemView.{system_data};
 ghost use Rattle.wh_subterm.specs.Marked.{AreMarked};
@@ -41,7 +42,7 @@ pub fn climb<'a>(
     marked: &[u32],
     limit: u64,
 ) -> Result<Climbed, AllocError>
-    requires few { length task.now.pairs.now ≤ 4096 }
+    requires few { length task.now.pairs.now ≤ most_pairs }
     requires task { IsTaskOf task.now }
     requires marked { AreMarked (map pair_data task.now.pairs.now) task.now.set.now marked.now }
     ensures { IfOk result (IsClimb task.now) }

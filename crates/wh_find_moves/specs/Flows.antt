@@ -1,6 +1,7 @@
 -- Flows of units between the monomials of two polynomials, and how they change.
 use Rattle.std.specs.Prelude.{ℕ, ◌≡◌, ◌≢◌, ◌≤◌, ◌<◌, ◌+◌, ◌-◌, ◌^◌, List, [], ◌∷◌, length, map, slice_index, slice_index_or, slice_set, All, nat_lt}
 use Rattle.std.specs.List.{filter}
+use Rattle.wh_types.specs.Limits.{coefficient_end}
 use Rattle.wh_hopoly.specs.Polynomials.{Polynomial}
 use Rattle.wh_hopoly.specs.Moves.{Transfer, Good, IsCover, given_by, taken_by}
 use Rattle.wh_hopoly.specs.declared.polynomial.Monomial.{Monomial, out-Monomial}
@@ -43,8 +44,8 @@ pub record IsFlow (left right : List Monomial) (flow : Flow) : Type 0 where
   pub distinct : AreDistinct (transfers flow.moves.items)
   pub given : (i : ℕ) → given_by i (transfers flow.moves.items) + slice_index flow.free.items i ≡ units left i
   pub taken : (j : ℕ) → taken_by j (transfers flow.moves.items) + slice_index flow.want.items j ≡ units right j
-  pub left_fits : (i : ℕ) → units left i < 2 ^ 128
-  pub right_fits : (j : ℕ) → units right j < 2 ^ 128
+  pub left_fits : (i : ℕ) → units left i < coefficient_end
+  pub right_fits : (j : ℕ) → units right j < coefficient_end
 
 -- there are two sides between which this is a flow (ours)
 abbrev pub IsSomeFlow : Flow → Type 0

@@ -1,6 +1,7 @@
 //! Moves that cover one polynomial by another, and how much of it cannot be covered.
 
 ghost use Rattle.std.specs.Prelude.{◌≡◌, ◌≤◌, ◌↔◌, IfOk, MatchOption, length};
+ghost use Rattle.wh_types.specs.Limits.{greatest_weight};
 ghost use Rattle.wh_hopoly.specs.Erase.{monomials, poly, transfers};
 ghost use Rattle.wh_polycheck.specs.CoverFaults.{IsNormal};
 ghost use Rattle.wh_find_moves.specs.Found.{AreCovering, NoneCovers};
@@ -15,8 +16,8 @@ use wh_hopoly::{Monomial, Move, Moves, Poly};
 pub fn find_moves(alloc: Global, left: &Poly, right: &Poly) -> Result<Option<Moves>, AllocError>
     requires left { IsNormal (poly left.now) }
     requires right { IsNormal (poly right.now) }
-    requires few_left { length (monomials left.now) ≤ 65536 }
-    requires few_right { length (monomials right.now) ≤ 65536 }
+    requires few_left { length (monomials left.now) ≤ greatest_weight }
+    requires few_right { length (monomials right.now) ≤ greatest_weight }
     ensures { IfOk result (λ found. MatchOption found (NoneCovers (poly left.now) (poly right.now))
         (λ ms. AreCovering (poly left.now) (poly right.now) (transfers ms))) }
 {
@@ -35,8 +36,8 @@ pub fn find_moves(alloc: Global, left: &Poly, right: &Poly) -> Result<Option<Mov
 pub fn deficit(alloc: Global, left: &Poly, right: &Poly) -> Result<u128, AllocError>
     requires left { IsNormal (poly left.now) }
     requires right { IsNormal (poly right.now) }
-    requires few_left { length (monomials left.now) ≤ 65536 }
-    requires few_right { length (monomials right.now) ≤ 65536 }
+    requires few_left { length (monomials left.now) ≤ greatest_weight }
+    requires few_right { length (monomials right.now) ≤ greatest_weight }
     ensures { IfOk result (λ short. short ≡ 0 ↔ IsSomeCover (poly left.now) (poly right.now)) }
 {
     let (givers, takers) = (left.as_slice(), right.as_slice());
@@ -52,8 +53,8 @@ pub fn deficit(alloc: Global, left: &Poly, right: &Poly) -> Result<u128, AllocEr
 
 // A flow between monomials with equal factors.
 fn matched(alloc: Global, left: &[Monomial], right: &[Monomial]) -> Result<Flow, AllocError>
-    requires few_left { length left.now ≤ 65536 }
-    requires few_right { length right.now ≤ 65536 }
+    requires few_left { length left.now ≤ greatest_weight }
+    requires few_right { length right.now ≤ greatest_weight }
     ensures { IfOk result (IsFlow left.now right.now) }
 {
     let mut flow = Flow::start(alloc, left, right)?;

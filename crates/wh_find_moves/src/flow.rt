@@ -3,6 +3,7 @@
 //! move go back.
 
 ghost use Rattle.std.specs.Prelude.{All, ◌≡◌, ◌≤◌, ◌<◌, ◌+◌, ◌-◌, ◌^◌, ◌++◌, ◌∷◌, [], IfOk, OnOk, MatchOption, length, map, slice_index, slice_set};
+ghost use Rattle.wh_types.specs.Limits.{coefficient_end};
 ghost use Rattle.wh_hopoly.specs.declared.polynomial.Monomial.{out-Monomial};
 ghost use Rattle.wh_hopoly.specs.Erase.{transfers};
 ghost use Rattle.wh_find_moves.specs.Flows.{HasGiven, HasTakenBack, IsBetween, IsFlow, IsRerouted, IsSomeFlow, NoneBetween, move_at};
@@ -128,7 +129,7 @@ impl Flow {
 // The coefficients of the monomials.
 fn coefficients(alloc: Global, items: &[Monomial]) -> Result<Vec<u128>, AllocError>
     ensures same { IfOk result (λ list. list.items ≡ map (λ x. (out-Monomial x).coefficient) items.now) }
-    ensures fit { IfOk result (λ list. All (λ c. c < 2 ^ 128) list.items) }
+    ensures fit { IfOk result (λ list. All (λ c. c < coefficient_end) list.items) }
 {
     let mut list = Vec::new(alloc);
     for item in items {

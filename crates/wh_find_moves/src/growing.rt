@@ -2,6 +2,7 @@
 
 ghost use Rattle.std.specs.Prelude.{◌≡◌, ◌≤◌, ◌<◌, [], IfOk, OnOk, length, slice_index};
 ghost use Rattle.std.specs.Bool.{MatchBool};
+ghost use Rattle.wh_types.specs.Limits.{greatest_weight};
 ghost use Rattle.wh_hopoly.specs.Erase.{sum_of};
 ghost use Rattle.wh_polycheck.specs.CoverFaults.{IsNormal};
 ghost use Rattle.wh_find_moves.specs.Found.{NoneCovers};
@@ -19,8 +20,8 @@ impl Flow {
     pub fn match_equal(&mut self, left: &[Monomial], right: &[Monomial]) -> Result<(), AllocError>
         requires flow { IsFlow left.now right.now self.old }
         requires none { self.old.moves.items ≡ [] }
-        requires few_left { length left.now ≤ 65536 }
-        requires few_right { length right.now ≤ 65536 }
+        requires few_left { length left.now ≤ greatest_weight }
+        requires few_right { length right.now ≤ greatest_weight }
         ensures { OnOk result (IsFlow left.now right.now self.new) }
     {
         let (mut i, mut j) = (0, 0);
@@ -50,8 +51,8 @@ impl Flow {
     ) -> Result<bool, AllocError>
         requires left { IsNormal (sum_of left.now) }
         requires right { IsNormal (sum_of right.now) }
-        requires few_left { length left.now ≤ 65536 }
-        requires few_right { length right.now ≤ 65536 }
+        requires few_left { length left.now ≤ greatest_weight }
+        requires few_right { length right.now ≤ greatest_weight }
         requires flow { IsFlow left.now right.now self.old }
         requires here { root < length right.now }
         ensures flow { OnOk result (IsFlow left.now right.now self.new) }
@@ -77,8 +78,8 @@ impl Flow {
     ) -> Result<bool, AllocError>
         requires left { IsNormal (sum_of left.now) }
         requires right { IsNormal (sum_of right.now) }
-        requires few_left { length left.now ≤ 65536 }
-        requires few_right { length right.now ≤ 65536 }
+        requires few_left { length left.now ≤ greatest_weight }
+        requires few_right { length right.now ≤ greatest_weight }
         requires flow { IsFlow left.now right.now self.old }
         requires here { root < length right.now }
         requires wants { 0 < slice_index self.old.want.items root }

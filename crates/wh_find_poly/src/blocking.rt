@@ -1,6 +1,7 @@
 //! The search by guesses: each guess under which a condition fails is shut out by a clause, and a solver tells the next one.
 
 ghost use Rattle.std.specs.Prelude.{◌≡◌, ◌+◌, ◌<◌, ◌≤◌, IfOk, OnOk, length};
+ghost use Rattle.wh_types.specs.Limits.{most_pairs};
 ghost use Rattle.wh_find_poly.specs.Answers.{IsAnswer};
 ghost use Rattle.wh_find_poly.specs.Encodings.{IsBlocking, IsEncoding, IsWritten, pairs_of, set_of, system_of};
 ghost use Rattle.wh_find_poly.specs.Sizes.{value_of};
@@ -25,7 +26,7 @@ pub fn search_from<'a>(
     first: Vec<bool>,
     budget: u64,
 ) -> Result<Search<Node>, AllocError>
-    requires few { length encoding.now.task.pairs.now ≤ 4096 }
+    requires few { length encoding.now.task.pairs.now ≤ most_pairs }
     requires encoding { IsEncoding encoding.now }
     requires room { 0 < budget }
     ensures { IfOk result (IsAnswer (system_of encoding.now) (pairs_of encoding.now) (set_of encoding.now) budget) }
@@ -62,7 +63,7 @@ fn search<'a>(
     written: &mut WrittenGuess,
     learner: &mut Learner,
 ) -> Result<Search<Node>, AllocError>
-    requires few { length encoding.now.task.pairs.now ≤ 4096 }
+    requires few { length encoding.now.task.pairs.now ≤ most_pairs }
     requires encoding { IsEncoding encoding.now }
     requires written { IsWritten encoding.now written.old }
     requires blocking { IsBlocking encoding.now learner.old }

@@ -1,6 +1,7 @@
 //! The search for interpretations of a set.
 
 ghost use Rattle.std.specs.Prelude.{◌<◌, ◌≤◌, All, IfOk, length, map};
+ghost use Rattle.wh_types.specs.Limits.{most_pairs};
 ghost use Rattle.wh_pairs.specs.SystemPairs.{HasPairs};
 ghost use Rattle.wh_pairs.specs.Views.{pairs_data};
 ghost use Rattle.wh_pairs.specs.PairData.{pair_data};
@@ -48,7 +49,7 @@ pub fn find_interpretation(
     set: &PairSet,
     budget: u64,
 ) -> Result<Search<Node>, AllocError>
-    requires few { length pairs.now ≤ 4096 }
+    requires few { length pairs.now ≤ most_pairs }
     requires whole { HasPairs (system_data system.now) (pairs_data pairs.now) }
     requires set { All (λ n. n < length pairs.now) set.now }
     ensures { IfOk result (IsAnswer (system_data system.now) (pairs_data pairs.now) set.now budget) }
@@ -71,7 +72,7 @@ fn find_for<'a>(
     marked: &'a [u32],
     budget: u64,
 ) -> Result<Search<Node>, AllocError>
-    requires few { length task.now.pairs.now ≤ 4096 }
+    requires few { length task.now.pairs.now ≤ most_pairs }
     requires task { IsTaskOf task.now }
     requires marked { AreMarked (map pair_data task.now.pairs.now) task.now.set.now marked.now }
     ensures { IfOk result (IsAnswer (system_data task.now.system.now) (map pair_data task.now.pairs.now) task.now.set.now budget) }
@@ -113,7 +114,7 @@ fn find_by_guesses<'a>(
     lists: &[Vec<u8>],
     budget: u64,
 ) -> Result<Search<Node>, AllocError>
-    requires few { length task.now.pairs.now ≤ 4096 }
+    requires few { length task.now.pairs.now ≤ most_pairs }
     requires task { IsTaskOf task.now }
     requires marked { AreMarked (map pair_data task.now.pairs.now) task.now.set.now marked.now }
     ensures { IfOk result (IsAnswer (system_data task.now.system.now) (map pair_data task.now.pairs.now) task.now.set.now budget) }

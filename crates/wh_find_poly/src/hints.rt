@@ -2,6 +2,7 @@
 //! is told to fail does fail.
 
 ghost use Rattle.std.specs.Prelude.{◌≡◌, ◌≤◌, IfOk, IfSome, length};
+ghost use Rattle.wh_types.specs.Limits.{most_pairs};
 ghost use Rattle.wh_guesses.specs.Tasks.{IsGuessOf, IsTaskOf};
 ghost use Rattle.wh_guesses.specs.Weighing.{Fails, Weighs};
 
@@ -41,7 +42,7 @@ impl Hints {
         task: &Task<'a>,
         guess: &Guess,
     ) -> Result<Weighing, AllocError>
-        requires few { length task.now.pairs.now ≤ 4096 }
+        requires few { length task.now.pairs.now ≤ most_pairs }
         requires task { IsTaskOf task.now }
         requires guess { IsGuessOf task.now guess.now }
         ensures { IfOk result (Weighs task.now guess.now) }

@@ -3,6 +3,7 @@
 use Rattle.std.specs.Prelude.{ℕ, zero, suc, ◌≡◌, ◌+◌, ◌<◌, ◌⊎◌, List, [], ◌∷◌, map, codes}
 use Rattle.std.specs.List.{flat_map, range_with_len}
 use Rattle.std.specs.Fmt.{decimal}
+use Rattle.wh_types.specs.Limits.{most_generated}
 use Rattle.wh_types.specs.Ty.{Ty, sort, ◌⇒◌}
 use Rattle.wh_terms.specs.Tree.{Tm, bound, fun, meta, lam, none, more, spine}
 use Rattle.wh_terms.specs.Typing.{Symbols, Declared}
@@ -11,7 +12,7 @@ use Rattle.wh_system.specs.Systems.{SystemData}
 
 -- there is no generated system of so many functions (ours)
 abbrev pub IsOutOfRange : ℕ → Type 0
-IsOutOfRange n = (n ≡ 0) ⊎ (200 < n)
+IsOutOfRange n = (n ≡ 0) ⊎ (most_generated < n)
 
 -- the names of the sorts
 abbrev pub sort_names : List (List ℕ)

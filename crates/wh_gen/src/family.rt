@@ -1,6 +1,7 @@
 //! The generated system: its parts as a text says them, and the system that these say.
 
 ghost use Rattle.std.specs.Prelude.{◌≡◌, ◌≤◌, IfOk};
+ghost use Rattle.wh_types.specs.Limits.{most_generated};
 ghost use Rattle.wh_types.specs.Outcome.{MatchOr};
 ghost use Rattle.wh_parts.specs.Erase.{rparts};
 ghost use Rattle.wh_system.specs.SystemView.{system_data};
@@ -21,7 +22,7 @@ pub struct GenTooMany;
 /// The system of `n` functions like `map` on lists of numbers: the first goes down the list, and each further one goes
 /// down the list and calls the one before it. The cause of a failure is that `n` is 0 or above 200.
 pub fn generate(alloc: Global, n: u32) -> Result<System, Or<GenTooMany>>
-    ensures { MatchOr result (λ s. (1 ≤ n) × (n ≤ 200) × (system_data s ≡ gen_data n)) (λ _. IsOutOfRange n) }
+    ensures { MatchOr result (λ s. (1 ≤ n) × (n ≤ most_generated) × (system_data s ≡ gen_data n)) (λ _. IsOutOfRange n) }
 {
     if n == 0 || 200 < n {
         return Err(Or::Because(GenTooMany));

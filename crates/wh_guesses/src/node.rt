@@ -1,6 +1,7 @@
 //! The node of interpretations that a guess gives.
 
 ghost use Rattle.std.specs.Prelude.{◌+◌, ◌≡◌, ◌≢◌, ◌≤◌, [], IfOk, Some, length, map, slice_get};
+ghost use Rattle.wh_types.specs.Limits.{most_pairs};
 ghost use Rattle.wh_pairs.specs.PairData.{pair_data};
 ghost use Rattle.wh_system.specs.SystemView.{system_data};
 ghost use Rattle.wh_hopoly.specs.Erase.{interpretations, poly, transfers};
@@ -37,7 +38,7 @@ pub fn node_of_guess<'a>(
     task: &Task<'a>,
     guess: &Guess,
 ) -> Result<Weighing, AllocError>
-    requires few { length task.now.pairs.now ≤ 4096 }
+    requires few { length task.now.pairs.now ≤ most_pairs }
     requires task { IsTaskOf task.now }
     requires guess { IsGuessOf task.now guess.now }
     ensures { IfOk result (Weighs task.now guess.now) }
@@ -61,7 +62,7 @@ fn weighed(
     symbols: &[Symbol],
     marks: &[MarkedSymbol],
 ) -> Result<Weighing, AllocError>
-    requires few { length pairs.now ≤ 4096 }
+    requires few { length pairs.now ≤ most_pairs }
     requires task { IsTask (system_data system.now).symbols (system_data system.now).rules (map pair_data pairs.now) set.now }
     requires guess { IsGuess (system_data system.now).symbols (system_data system.now).rules (map pair_data pairs.now)
         set.now symbols.now marks.now }
@@ -86,7 +87,7 @@ fn weighed(
 
 // The number of the condition of the pair with this place in the set, and behind these of the last condition.
 fn number_of_pair(system: &System, set: &[u32], place: usize) -> usize
-    requires few { length set.now ≤ 4096 }
+    requires few { length set.now ≤ most_pairs }
     requires place { place ≤ length set.now }
     ensures { result ≡ length (system_data system.now).rules + place }
 {
@@ -105,7 +106,7 @@ fn node_with(
     rules: Covers,
     found: PairLines,
 ) -> Result<Weighing, AllocError>
-    requires few { length pairs.now ≤ 4096 }
+    requires few { length pairs.now ≤ most_pairs }
     requires task { IsTask (system_data system.now).symbols (system_data system.now).rules (map pair_data pairs.now) set.now }
     requires guess { IsGuess (system_data system.now).symbols (system_data system.now).rules (map pair_data pairs.now)
         set.now symbols.now marks.now }

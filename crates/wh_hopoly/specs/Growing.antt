@@ -1,5 +1,6 @@
 -- What a product that grows has come to.
 use Rattle.std.specs.Prelude.{ℕ, ◌≡◌, ◌+◌, ◌*◌, ◌≤◌, ◌<◌, ◌^◌, Option, None, Some}
+use Rattle.wh_types.specs.Limits.{coefficient_end, greatest_weight, deepest_value}
 use Rattle.wh_hopoly.specs.Polynomials.{Polynomial, Factors, plus, zero_poly, Ordered}
 use Rattle.wh_hopoly.specs.Arithmetic.{constant, multiply}
 use Rattle.wh_hopoly.specs.Limits.{weight, weight_of_factors, nesting, nesting_of_factors}
@@ -34,10 +35,10 @@ pub record LeavesRoom (p : Polynomial) (greatest coefficient : ℕ) (us : Factor
   pub ordered : Ordered p
   pub positive : 1 ≤ coefficient
   pub up_to : HasCoefficientsUpTo greatest p
-  pub fitting : greatest * coefficient < 2 ^ 128
-  pub light : weight p + monomial_count p * (weight_of_factors us + left) ≤ 65536
-  pub first_shallow : nesting p ≤ 400
-  pub shallow : nesting_of_factors us ≤ 400
+  pub fitting : greatest * coefficient < coefficient_end
+  pub light : weight p + monomial_count p * (weight_of_factors us + left) ≤ greatest_weight
+  pub first_shallow : nesting p ≤ deepest_value
+  pub shallow : nesting_of_factors us ≤ deepest_value
 
 -- the product is within the limits, and what is left of the weight is told (ours)
 abbrev pub HasRoom : Growing → Type 0
@@ -46,6 +47,6 @@ HasRoom g = LeavesRoom (first_value g.first) g.greatest g.coefficient (joined (f
 -- with one more monomial the coefficient is multiplied and fits, and its factors are taken from what is left (ours)
 pub record TakesIn (g : Growing) (m : Monomial) (room : Room) : Type 0 where
   pub multiplied : room.coefficient ≡ g.coefficient * (out-Monomial m).coefficient
-  pub fitting : g.greatest * room.coefficient < 2 ^ 128
+  pub fitting : g.greatest * room.coefficient < coefficient_end
   pub weighed : weight_of_factors (atoms (out-Monomial m).atoms) + room.left ≡ g.left
-  pub shallow : nesting_of_factors (atoms (out-Monomial m).atoms) ≤ 400
+  pub shallow : nesting_of_factors (atoms (out-Monomial m).atoms) ≤ deepest_value

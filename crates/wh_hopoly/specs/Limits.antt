@@ -1,5 +1,6 @@
 -- The limits on values: coefficients of 128 bits, a weight of 65,536, and arguments nested 400 deep.
 use Rattle.std.specs.Prelude.{ℕ, ◌+◌, ◌≤◌, ◌<◌, ◌^◌, ◌⊎◌, max}
+use Rattle.wh_types.specs.Limits.{coefficient_end, greatest_weight, deepest_value}
 use Rattle.wh_hopoly.specs.Polynomials.{Polynomial, zero_poly, plus, Factors, no_factors, times, Arguments, no_arguments, argument}
 
 abbrev mutual
@@ -33,11 +34,11 @@ abbrev mutual
 -- a coefficient is above 2^128 - 1 (ours)
 abbrev pub Overflows : Polynomial → Type 0
 Overflows zero_poly = ⊥
-Overflows (plus c us p) = (2 ^ 128 ≤ c) ⊎ Overflows p
+Overflows (plus c us p) = (coefficient_end ≤ c) ⊎ Overflows p
 
 -- the weight is above 65,536, or the arguments nest more than 400 deep (ours)
 abbrev pub TooLarge : Polynomial → Type 0
-TooLarge p = (65536 < weight p) ⊎ (400 < nesting p)
+TooLarge p = (greatest_weight < weight p) ⊎ (deepest_value < nesting p)
 
 -- the value exceeds a limit (ours)
 abbrev pub Exceeds : Polynomial → Type 0

@@ -3,6 +3,7 @@
 //! what stands before a long row of factors is not copied, compared or weighed anew for each of them.
 
 ghost use Rattle.std.specs.Prelude.{◌≡◌, ◌++◌, ◌+◌, ◌*◌, ◌≤◌, ◌<◌, IfOk, OnOk, IfSome, MatchResult};
+ghost use Rattle.wh_types.specs.Limits.{greatest_weight};
 ghost use Rattle.wh_types.specs.Outcome.{IfBecause};
 ghost use Rattle.wh_hopoly.specs.Erase.{poly, atoms, factors, factors as factors_of};
 ghost use Rattle.wh_hopoly.specs.Polynomials.{Ordered, plus, zero_poly};
@@ -224,7 +225,7 @@ fn greatest_coefficient(p: &Poly) -> u128
 // How much the factors of a monomial may weigh, which each monomial of the value takes in.
 fn left_behind(p: &Poly) -> u32
     requires { Exceeds (poly p.now) → ⊥ }
-    ensures { weight (poly p.now) + monomial_count (poly p.now) * result ≤ 65536 }
+    ensures { weight (poly p.now) + monomial_count (poly p.now) * result ≤ greatest_weight }
 {
     let count = p.as_slice().len();
     let Some(left) = weigh(p, MAX_WEIGHT, MAX_NESTING) else {

@@ -1,6 +1,7 @@
 //! The test of a value against the limits.
 
 ghost use Rattle.std.specs.Prelude.{◌≡◌, ◌<◌, ◌^◌, IfOk, MatchResult};
+ghost use Rattle.wh_types.specs.Limits.{coefficient_end};
 ghost use Rattle.wh_types.specs.Outcome.{IfBecause};
 ghost use Rattle.wh_hopoly.specs.Erase.{poly};
 ghost use Rattle.wh_hopoly.specs.Limits.{Overflows, Exceeds};
@@ -49,7 +50,7 @@ fn coefficients_fit(p: &Poly)
 
 /// A number of 128 bits is below 2^128.
 pub fn fits(coefficient: u128)
-    ensures { coefficient < 2 ^ 128 }
+    ensures { coefficient < coefficient_end }
 {
     let _ = coefficient;
 }

@@ -1,6 +1,7 @@
 //! Names and numbers, byte by byte.
 
 ghost use Rattle.std.specs.Prelude.{◌≡◌, ◌+◌, ◌-◌, ◌*◌, ◌<◌, ◌&&◌, nat_lt, [], ◌∷◌, ◌++◌, true, false, length, IfOk, OnOk, MatchOption};
+ghost use Rattle.wh_types.specs.Limits.{longest_name};
 ghost use Rattle.wh_text.specs.Chars.{is_digit, is_start, is_part};
 ghost use Rattle.wh_letters.specs.Digits.{goes_on, begins_big, goes_on_big};
 
@@ -45,7 +46,7 @@ impl Letters {
 
     /// The byte is one more letter, and the name stays within its limit.
     pub fn goes_on(&self, byte: u8) -> bool
-        ensures { result ≡ (is_part byte && nat_lt (length self.now) 64) }
+        ensures { result ≡ (is_part byte && nat_lt (length self.now) longest_name) }
     {
         goes_on_name(byte) && self.bytes.as_slice().len() < LONGEST_NAME
     }
@@ -53,7 +54,7 @@ impl Letters {
     /// One more letter.
     #[tactic(auto, using(crate::proofs::NamesAndNumbers::word_grows))]
     pub fn push(&mut self, byte: u8) -> Result<(), AllocError>
-        requires { (is_part byte && nat_lt (length self.old) 64) ≡ true }
+        requires { (is_part byte && nat_lt (length self.old) longest_name) ≡ true }
         ensures { OnOk result (self.new ≡ self.old ++ byte ∷ []) }
     {
         self.bytes.push(byte)?;

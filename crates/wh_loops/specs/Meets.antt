@@ -1,5 +1,6 @@
 -- A start beside a part of a term: what is met in the places of the start's variables.
 use Rattle.std.specs.Prelude.{ℕ, ◌≡◌, ◌≤◌, ◌⊎◌, List, [], ◌∷◌, ◌++◌, Option, Some, None, All, AllPairs, slice_get}
+use Rattle.wh_types.specs.Limits.{most_metas}
 use Rattle.wh_types.specs.Ty.{Ty}
 use Rattle.wh_types.specs.Erase.{ty}
 use Rattle.wh_terms.specs.Tree.{Tm, bound, free, fun, meta, lam, app}
@@ -47,7 +48,7 @@ pub record IsReady (S : Symbols) (t : Tm) : Type 0 where
   pub headed : IsHeaded t
   pub kinds : ℕ → Ty
   pub has_kinds : HasKinds kinds t
-  pub low : first_unused t ≤ 32
+  pub low : first_unused t ≤ most_metas
 
 -- the tree with these trees for its free variables, by their numbers; below a binder nothing is moved (ours)
 abbrev pub filled : (ℕ → Tm) → Tm → Tm

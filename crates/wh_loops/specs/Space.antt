@@ -1,5 +1,6 @@
 -- The paths that the search for loops goes, and the loops among them.
 use Rattle.std.specs.Prelude.{ℕ, suc, ◌≤◌, List, All, AllPairs}
+use Rattle.wh_types.specs.Limits.{greatest_searched}
 use Rattle.wh_terms.specs.Tree.{Tm}
 use Rattle.wh_terms.specs.Typing.{Symbols}
 use Rattle.wh_terms.specs.Measures.{Fits, size}
@@ -13,7 +14,7 @@ use Rattle.wh_loops.specs.Starts.{IsStart}
 -- a term on a path fits, and its size is at most 2,048 (ours)
 pub record InSpace (t : Tm) : Type 0 where
   pub fits : Fits t
-  pub small : size t ≤ 2048
+  pub small : size t ≤ greatest_searched
 
 -- so many steps through such terms lead from the start of the rule number n to the term
 pub data Path (rules : List RewriteRule) (n : ℕ) : ℕ → Tm → Type 0 where

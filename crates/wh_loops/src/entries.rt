@@ -1,6 +1,7 @@
 //! What is put for the variables of a start.
 
 ghost use Rattle.std.specs.Prelude.{◌≡◌, ◌≤◌, [], IfOk, MatchBool, MatchOption, length};
+ghost use Rattle.wh_types.specs.Limits.{most_metas};
 ghost use Rattle.wh_types.specs.Erase.{ty};
 ghost use Rattle.wh_terms.specs.Erase.{tm, symbols};
 ghost use Rattle.wh_terms.specs.Typing.{Typed};
@@ -81,7 +82,7 @@ fn typed_entries(
     signature: &Signature,
     table: &[Option<Met>],
 ) -> Result<Option<Vec<SubstEntry>>, AllocError>
-    requires { length table.now ≤ 32 }
+    requires { length table.now ≤ most_metas }
     ensures { IfOk result (λ entries. MatchOption entries
         (HasUntyped (symbols signature.now) table.now)
         (λ es. ArePutsOf (symbols signature.now) table.now (entry_puts es.items))) }

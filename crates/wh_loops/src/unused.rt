@@ -1,6 +1,7 @@
 //! Numbers above those of a term's free variables.
 
 ghost use Rattle.std.specs.Prelude.{◌≡◌, ◌≤◌};
+ghost use Rattle.wh_types.specs.Limits.{most_metas};
 ghost use Rattle.wh_terms.specs.Erase.{tm};
 ghost use Rattle.wh_terms.specs.Sight.{IsTerm};
 ghost use Rattle.wh_no.specs.Unused.{first_unused};
@@ -11,7 +12,7 @@ use wh_terms::Term;
 #[cycle(unused)]
 pub fn first_unused(term: &Term) -> u32
     requires plain { IsTerm (tm term.now) }
-    requires low { first_unused (tm term.now) ≤ 32 }
+    requires low { first_unused (tm term.now) ≤ most_metas }
     ensures { result ≡ first_unused (tm term.now) }
 {
     match term {

@@ -1,6 +1,7 @@
 //! Whether the last term holds an instance of the first one.
 
 ghost use Rattle.std.specs.Prelude.{◌≡◌, ◌↔◌, ◌≤◌, IsTrue, All, AllPairs};
+ghost use Rattle.wh_types.specs.Limits.{greatest_number};
 ghost use Rattle.wh_types.specs.Outcome.{MatchOr};
 ghost use Rattle.wh_terms.specs.Tree.{bound};
 ghost use Rattle.wh_terms.specs.Erase.{tm};
@@ -63,7 +64,7 @@ pub fn check_instance(
     last: &Term,
 ) -> Result<(), Or<NoFault>>
     requires plain { IsTerm (tm term.now) }
-    requires low { first_unused (tm term.now) ≤ 65536 }
+    requires low { first_unused (tm term.now) ≤ greatest_number + 1 }
     requires shut { All (λ e. LooseBelow 0 (tm e.value)) entries.now }
     requires increasing { AllPairs IsBelow (entry_puts entries.now) }
     requires fits { Fits (tm last.now) }

@@ -1,5 +1,6 @@
 -- The tests of declarations one by one (ours).
 use Rattle.std.specs.Prelude.{ℕ, ◌||◌, List, ◌∷◌, ◌++◌, map}
+use Rattle.wh_types.specs.Limits.{most_sorts, most_symbols, most_rules, most_metas}
 use Rattle.wh_parts.specs.Parts.{RName, RFun, RMeta, RRule}
 use Rattle.wh_parts.specs.declared.fault.SystemFault.TheVariants.{Twice}
 use Rattle.wh_parts.specs.Faults.{Test}
@@ -18,13 +19,13 @@ tests_of_meta sorts funs before m =
 
 -- the number of sorts, of symbols, of a rule's meta-variables and of rules
 abbrev pub sort_count : List RName → List Test
-sort_count sorts = count_test 256 (map (λ s. s.at) sorts)
+sort_count sorts = count_test most_sorts (map (λ s. s.at) sorts)
 
 abbrev pub fun_count : List RFun → List Test
-fun_count funs = count_test 1024 (map (λ f. f.name.at) funs)
+fun_count funs = count_test most_symbols (map (λ f. f.name.at) funs)
 
 abbrev pub meta_count : List RMeta → List Test
-meta_count metas = count_test 32 (map (λ m. m.name.at) metas)
+meta_count metas = count_test most_metas (map (λ m. m.name.at) metas)
 
 abbrev pub rule_count : List RRule → List Test
-rule_count rules = count_test 1024 (map (λ r. r.at) rules)
+rule_count rules = count_test most_rules (map (λ r. r.at) rules)

@@ -1,5 +1,6 @@
 -- The tests of a rule, and of all parts, in their order (ours).
 use Rattle.std.specs.Prelude.{ℕ, ◌==◌, ◌&&◌, ◌||◌, not, Bool, true, false, List, [], ◌∷◌, ◌++◌, Option, Some, None, is_some, map, unwrap_or}
+use Rattle.wh_types.specs.Limits.{most_rules, most_metas}
 use Rattle.wh_types.specs.Ty.{Ty, sort, same_ty}
 use Rattle.wh_terms.specs.Typing.{Declared}
 use Rattle.wh_text.specs.RawTree.{RTy, RTys, no_types, more_types, Binder, named_binder, numbered_binder, RTm, named, numbered, free_variable, meta, lam, spine, RTms, none, more}
@@ -138,7 +139,7 @@ is_uneven head n (e ∷ earlier) = (same_head head e.0 && not (n == e.1)) || is_
 abbrev pub rule_tests : RParts → List (Option ℕ × ℕ) → RRule → List Test
 rule_tests p earlier r =
     let s = scope_of p r in
-    count_test 32 (map (λ m. m.name.at) r.metas) ++ meta_tests (sort_names p) (fun_names p)
+    count_test most_metas (map (λ m. m.name.at) r.metas) ++ meta_tests (sort_names p) (fun_names p)
     [] r.metas ++ side_tests r.left ++ side_tests r.right ++ naming_tests s [] r.left ++ naming_tests s [] r.right ++ test
     (not (same_kind (kind_of s [] r.left) (kind_of s [] r.right))) (IllTyped (term_offset r.right))
     ∷ (open_tests r.left ++ open_tests r.right ++ test (not (is_some (head_symbol s r.left))) (HeadNotFun (term_offset r.left))
@@ -152,7 +153,7 @@ rules_tests p earlier (r ∷ rs) =
 
 -- all tests: the sorts, the symbols, then the rules: their number and each
 abbrev pub tests : RParts → List Test
-tests p = sorts_tests p ++ funs_tests p ++ count_test 1024 (map (λ r. r.at) p.rules) ++ rules_tests p [] p.rules
+tests p = sorts_tests p ++ funs_tests p ++ count_test most_rules (map (λ r. r.at) p.rules) ++ rules_tests p [] p.rules
 
 -- why the parts are no system: the first test that fails
 abbrev pub refusal : RParts → Option SystemFault

@@ -1,5 +1,6 @@
 -- The tests that parts must pass to be a system, in their order (ours).
 use Rattle.std.specs.Prelude.{ℕ, ◌+◌, ◌==◌, ◌&&◌, ◌||◌, not, nat_lt, Bool, false, List, [], ◌∷◌, ◌++◌, Option, Some, None, is_some, map, length, max, slice_index}
+use Rattle.wh_types.specs.Limits.{most_sorts, most_symbols, most_arguments, greatest_height, greatest_size}
 use Rattle.wh_types.specs.Ty.{Ty, same_ty}
 use Rattle.wh_terms.specs.Typing.{Declared}
 use Rattle.wh_text.specs.RawTree.{RTy, raw_type, RTys, no_types, more_types, named_binder, numbered_binder, RTm, named, numbered, free_variable, meta, lam, spine, RTms, none, more}
@@ -42,12 +43,12 @@ abbrev mutual
 
   pub width_of_types : ℕ → RTys → List Test
   width_of_types k no_types = []
-  width_of_types k (more_types a rest) = test (k == 32) (TooMany (type_offset a)) ∷ (width_of_type a ++ width_of_types (k + 1) rest)
+  width_of_types k (more_types a rest) = test (k == most_arguments) (TooMany (type_offset a)) ∷ (width_of_type a ++ width_of_types (k + 1) rest)
 
 -- the same for types in brackets: their number, and then each
 abbrev pub count_of_types : ℕ → RTys → List Test
 count_of_types k no_types = []
-count_of_types k (more_types a rest) = test (k == 32) (TooMany (type_offset a)) ∷ count_of_types (k + 1) rest
+count_of_types k (more_types a rest) = test (k == most_arguments) (TooMany (type_offset a)) ∷ count_of_types (k + 1) rest
 
 abbrev pub type_tests : List (List ℕ) → RTy → List Test
 type_tests sorts a = sorts_of_type sorts a ++ width_of_type a
@@ -74,7 +75,7 @@ fun_names p = map (λ f. f.name.name) p.funs
 
 -- 1. the sorts: their number, then each name
 abbrev pub sorts_tests : RParts → List Test
-sorts_tests p = count_test 256 (map (λ s. s.at) p.sorts) ++ names_tests [] [] p.sorts
+sorts_tests p = count_test most_sorts (map (λ s. s.at) p.sorts) ++ names_tests [] [] p.sorts
 
 -- 2. the symbols: their number, then for each its name, its type's sorts, its type's arguments
 abbrev pub fun_tests : List (List ℕ) → List (List ℕ) → List RFun → List Test
@@ -83,7 +84,7 @@ fun_tests sorts before (f ∷ fs) =
     test (is_declared before f.name.name) (Twice f.name.at) ∷ (type_tests sorts f.kind ++ fun_tests sorts (before ++ f.name.name ∷ []) fs)
 
 abbrev pub funs_tests : RParts → List Test
-funs_tests p = count_test 1024 (map (λ f. f.name.at) p.funs) ++ fun_tests (sort_names p) [] p.funs
+funs_tests p = count_test most_symbols (map (λ f. f.name.at) p.funs) ++ fun_tests (sort_names p) [] p.funs
 
 -- 3. of a rule's meta-variables for each its name, the number of its arguments, and each of its types
 abbrev pub meta_tests : List (List ℕ) → List (List ℕ) → List (List ℕ) → List RMeta → List Test
@@ -117,7 +118,7 @@ abbrev mutual
 
   pub width_of_arguments : ℕ → RTms → List Test
   width_of_arguments k none = []
-  width_of_arguments k (more t ts) = test (k == 32) (TooMany (term_offset t)) ∷ (width_of_term t ++ width_of_arguments (k + 1) ts)
+  width_of_arguments k (more t ts) = test (k == most_arguments) (TooMany (term_offset t)) ∷ (width_of_term t ++ width_of_arguments (k + 1) ts)
 
 -- height and size of a side as it is read, in the sense of those of terms
 abbrev mutual
@@ -150,8 +151,8 @@ abbrev mutual
 
 abbrev pub side_tests : RTm → List Test
 side_tests t =
-    width_of_term t ++ test (nat_lt 200 (raw_height t)) (TooMany (term_offset t))
-    ∷ test (nat_lt 65536 (raw_size t)) (TooMany (term_offset t)) ∷ []
+    width_of_term t ++ test (nat_lt greatest_height (raw_height t)) (TooMany (term_offset t))
+    ∷ test (nat_lt greatest_size (raw_size t)) (TooMany (term_offset t)) ∷ []
 
 -- names and types of a side, inner terms before outer ones and left before right
 abbrev pub is_meta : Scope → List TypedBinder → List ℕ → Bool

@@ -1,6 +1,7 @@
 //! How wide a side is: no spine, and no type in it, has more than 32 arguments.
 
 ghost use Rattle.std.specs.Prelude.{◌≡◌, ◌+◌, ◌≤◌, MatchResult};
+ghost use Rattle.wh_types.specs.Limits.{most_arguments};
 ghost use Rattle.wh_text.specs.Erase.{rtm, rtms};
 ghost use Rattle.wh_parts.specs.Widths.{HasSpare, LeavesRoom};
 ghost use Rattle.wh_parts.specs.declared.fault.SystemFault.TheVariants.{TooMany};
@@ -63,7 +64,7 @@ fn check_each_width(items: &RawTerms) -> Result<(), SystemFault>
 // What is left of the room of a spine behind these arguments; the fault is at the first argument past it.
 #[cycle(widths)]
 fn check_arguments(items: &RawTerms, room: u32) -> Result<u32, SystemFault>
-    ensures { room ≤ 32 → LeavesRoom room (rtms items.now) result }
+    ensures { room ≤ most_arguments → LeavesRoom room (rtms items.now) result }
 {
     let mut left = room;
     for item in items.as_slice() {

@@ -1,6 +1,7 @@
 -- The text of dependency pairs (ours). `put_.. r` is the spelling with r behind it.
 use Rattle.std.specs.Prelude.{ℕ, zero, suc, ◌+◌, ◌-◌, List, [], ◌∷◌, ◌++◌, codes, get_or, length}
 use Rattle.std.specs.Fmt.{decimal}
+use Rattle.wh_text.specs.Chars.{line_feed}
 use Rattle.wh_terms.specs.Tree.{Tm}
 use Rattle.wh_text.specs.Spelling.{put_term}
 use Rattle.wh_system.specs.Systems.{SystemData}
@@ -51,7 +52,7 @@ abbrev pub put_pair : SystemData → ℕ → PairData → List ℕ → List ℕ
 put_pair d k p r =
     let n = names_of_pair d p in
     codes "pair " ++ (decimal k ++ (codes " rule " ++ (decimal p.rule ++ (codes " " ++
-    put_side n p.left_fun p.left (codes " => " ++ put_side n p.right_fun p.right (put_if n p.conditions (10 ∷ r)))))))
+    put_side n p.left_fun p.left (codes " => " ++ put_side n p.right_fun p.right (put_if n p.conditions (line_feed ∷ r)))))))
 
 -- the lines of the pairs from number k on
 abbrev pub put_pairs : SystemData → ℕ → List PairData → List ℕ → List ℕ
@@ -60,4 +61,4 @@ put_pairs d k (p ∷ ps) r = put_pair d k p (put_pairs d (k + 1) ps r)
 
 -- the text: their number, and a line for each
 abbrev pub pairs_text : SystemData → List PairData → List ℕ
-pairs_text d ps = codes "PAIRS " ++ (decimal (length ps) ++ (10 ∷ put_pairs d 0 ps []))
+pairs_text d ps = codes "PAIRS " ++ (decimal (length ps) ++ (line_feed ∷ put_pairs d 0 ps []))

@@ -1,6 +1,7 @@
 -- Raw trees as a canonical text may have them (ours): names are names, numbers are at most 65,535, and what nests stays
 -- within the limits.
 use Rattle.std.specs.Prelude.{ℕ, ◌+◌, ◌<◌, ◌≤◌}
+use Rattle.wh_types.specs.Limits.{greatest_number, deepest_term, deepest_type}
 use Rattle.wh_text.specs.Words.{IsName}
 use Rattle.wh_text.specs.RawTree.{RTy, raw_type, RTys, no_types, more_types, named_binder, numbered_binder, RTm, named, numbered, free_variable, meta, lam, spine, RTms, none, more}
 
@@ -12,7 +13,7 @@ abbrev mutual
 
   pub IsSpelledPart : ℕ → RTy → Type 0
   IsSpelledPart j (raw_type no_types sort at) = IsName sort
-  IsSpelledPart j (raw_type (more_types a rest) sort at) = (j < 16) × IsSpelledPart (j + 1) a × AreSpelledParts (j + 1) rest × IsName sort
+  IsSpelledPart j (raw_type (more_types a rest) sort at) = (j < deepest_type) × IsSpelledPart (j + 1) a × AreSpelledParts (j + 1) rest × IsName sort
 
   -- each of them
   pub AreSpelledParts : ℕ → RTys → Type 0
@@ -29,14 +30,14 @@ IsNoSpine t = Unit {0}
 abbrev mutual
   pub IsSpelledTerm : ℕ → RTm → Type 0
   IsSpelledTerm k (named n at) = IsName n
-  IsSpelledTerm k (numbered n at) = n ≤ 65535
-  IsSpelledTerm k (free_variable n a at) = (n ≤ 65535) × IsSpelledPart 0 a
+  IsSpelledTerm k (numbered n at) = n ≤ greatest_number
+  IsSpelledTerm k (free_variable n a at) = (n ≤ greatest_number) × IsSpelledPart 0 a
   IsSpelledTerm k (meta n none at) = ⊥
-  IsSpelledTerm k (meta n (more t ts) at) = (k < 400) × IsName n × IsSpelledTerm (k + 1) t × AreSpelledTerms (k + 1) ts
+  IsSpelledTerm k (meta n (more t ts) at) = (k < deepest_term) × IsName n × IsSpelledTerm (k + 1) t × AreSpelledTerms (k + 1) ts
   IsSpelledTerm k (lam (named_binder n) a t at) = ⊥
-  IsSpelledTerm k (lam (numbered_binder n) a t at) = (k + 1 < 400) × (n ≤ 65535) × IsSpelledPart 0 a × IsSpelledTerm (k + 2) t
+  IsSpelledTerm k (lam (numbered_binder n) a t at) = (k + 1 < deepest_term) × (n ≤ greatest_number) × IsSpelledPart 0 a × IsSpelledTerm (k + 2) t
   IsSpelledTerm k (spine h none at) = ⊥
-  IsSpelledTerm k (spine h (more t ts) at) = (k < 400) × IsNoSpine h × IsSpelledTerm (k + 1) h × IsSpelledTerm (k + 1) t
+  IsSpelledTerm k (spine h (more t ts) at) = (k < deepest_term) × IsNoSpine h × IsSpelledTerm (k + 1) h × IsSpelledTerm (k + 1) t
       × AreSpelledTerms (k + 1) ts
 
   -- each of them

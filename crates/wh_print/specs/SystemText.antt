@@ -1,6 +1,7 @@
 -- The canonical text of a system (ours). `put_.. r` is the spelling with r behind it.
 use Rattle.std.specs.Prelude.{ℕ, ◌+◌, List, [], ◌∷◌, ◌++◌, codes, get_or}
 use Rattle.wh_types.specs.Ty.{Ty}
+use Rattle.wh_text.specs.Chars.{line_feed}
 use Rattle.wh_terms.specs.Typing.{Declared}
 use Rattle.wh_terms.specs.Rules.{RewriteRule}
 use Rattle.wh_text.specs.Spelling.{put_type, put_term}
@@ -10,7 +11,7 @@ use Rattle.wh_system.specs.CanonicalView.{names_of_rule}
 
 -- a line `sort NAME;`
 abbrev pub put_sort : List ℕ → List ℕ → List ℕ
-put_sort name r = codes "sort " ++ (name ++ (codes ";" ++ 10 ∷ r))
+put_sort name r = codes "sort " ++ (name ++ (codes ";" ++ line_feed ∷ r))
 
 abbrev pub put_sorts : List (List ℕ) → List ℕ → List ℕ
 put_sorts [] r = r
@@ -18,7 +19,7 @@ put_sorts (name ∷ names) r = put_sort name (put_sorts names r)
 
 -- a line `fun NAME:TYPE;`
 abbrev pub put_fun : List (List ℕ) → List ℕ → Ty → List ℕ → List ℕ
-put_fun sorts name a r = codes "fun " ++ (name ++ (codes ":" ++ put_type (raw_type_of sorts a) (codes ";" ++ 10 ∷ r)))
+put_fun sorts name a r = codes "fun " ++ (name ++ (codes ":" ++ put_type (raw_type_of sorts a) (codes ";" ++ line_feed ∷ r)))
 
 -- the symbols, each name with its type
 abbrev pub put_funs : List (List ℕ) → List (List ℕ) → List Ty → List ℕ → List ℕ
@@ -53,7 +54,7 @@ abbrev pub put_rule : SystemData → ℕ → RewriteRule → List ℕ → List �
 put_rule d k rule r =
     codes "rule {" ++ put_metas d.sort_names (get_or d.meta_names k []) rule.metas
     (codes "} " ++ put_term (raw_of (names_of_rule d k) rule.left)
-    (codes " => " ++ put_term (raw_of (names_of_rule d k) rule.right) (codes ";" ++ 10 ∷ r)))
+    (codes " => " ++ put_term (raw_of (names_of_rule d k) rule.right) (codes ";" ++ line_feed ∷ r)))
 
 -- the rules from number k on
 abbrev pub put_rules : SystemData → ℕ → List RewriteRule → List ℕ → List ℕ

@@ -1,6 +1,7 @@
 //! The lines of a node that a projection gives.
 
 ghost use Rattle.std.specs.Prelude.{◌<◌, ◌≤◌, All, IfOk, length, map};
+ghost use Rattle.wh_types.specs.Limits.{greatest_number};
 ghost use Rattle.wh_system.specs.SystemView.{system_data};
 ghost use Rattle.wh_subterm.specs.SubtermRows.{chosen};
 ghost use Rattle.wh_cert.specs.Limits.{ArgFits};
@@ -19,7 +20,7 @@ use wh_text::Name;
 /// The node of a projection and the pairs that it drops.
 pub fn node_of(alloc: Global, system: &System, found: &ProjectionFound) -> Result<Node, AllocError>
     requires symbols { All (λ c. c.symbol < length (system_data system.now).fun_names) found.now.args }
-    requires arguments { All (λ c. c.argument ≤ 65535) found.now.args }
+    requires arguments { All (λ c. c.argument ≤ greatest_number) found.now.args }
     ensures { IfOk result (λ node. SaysProjection (system_data system.now) (said_node node) (map chosen found.now.args) found.now.drop) }
 {
     let args = args_of(alloc, system, found.args.as_slice())?;
@@ -30,7 +31,7 @@ pub fn node_of(alloc: Global, system: &System, found: &ProjectionFound) -> Resul
 // The lines `arg` of some choices.
 fn args_of(alloc: Global, system: &System, choices: &[Choice]) -> Result<Args, AllocError>
     requires symbols { All (λ c. c.symbol < length (system_data system.now).fun_names) choices.now }
-    requires arguments { All (λ c. c.argument ≤ 65535) choices.now }
+    requires arguments { All (λ c. c.argument ≤ greatest_number) choices.now }
     ensures said { IfOk result (λ args. SayChoices (system_data system.now) (map said_arg args) (map chosen choices.now)) }
     ensures fit { IfOk result (λ args. All ArgFits (map said_arg args)) }
 {

@@ -1,6 +1,7 @@
 //! One node of a proof: how the chains of a set end, or why the search ends on it.
 
 ghost use Rattle.std.specs.Prelude.{◌≡◌, ◌↔◌, ◌<◌, ◌≤◌, All, IfOk, IsTrue, MatchOption, length};
+ghost use Rattle.wh_types.specs.Limits.{most_pairs};
 ghost use Rattle.wh_pairs.specs.SystemPairs.{HasPairs};
 ghost use Rattle.wh_pairs.specs.Views.{pairs_data};
 ghost use Rattle.wh_system.specs.SystemView.{system_data};
@@ -34,7 +35,7 @@ pub fn settle(
     stack: &mut Vec<PairSet>,
     nodes: &mut Nodes,
 ) -> Result<Option<Cause>, AllocError>
-    requires few { length pairs.now ≤ 4096 }
+    requires few { length pairs.now ≤ most_pairs }
     requires pairs { HasPairs (system_data system.now) (pairs_data pairs.now) }
     requires graph { IsGraphOf (system_data system.now).rules (pairs_data pairs.now) graph.now }
     requires arrives { Arrives (system_data system.now) (pairs_data pairs.now) set }
@@ -80,7 +81,7 @@ fn lower(
     stack: &mut Vec<PairSet>,
     nodes: &mut Nodes,
 ) -> Result<Option<Cause>, AllocError>
-    requires few { length pairs.now ≤ 4096 }
+    requires few { length pairs.now ≤ most_pairs }
     requires pairs { HasPairs (system_data system.now) (pairs_data pairs.now) }
     requires ended { Ended (system_data system.now) (pairs_data pairs.now) set }
     ensures { IfOk result (λ end. MatchOption end (AddsNode system.now pairs.now set stack.old.items stack.new.items nodes.old nodes.new)
@@ -112,7 +113,7 @@ fn interpret(
     stack: &mut Vec<PairSet>,
     nodes: &mut Nodes,
 ) -> Result<Option<Cause>, AllocError>
-    requires few { length pairs.now ≤ 4096 }
+    requires few { length pairs.now ≤ most_pairs }
     requires pairs { HasPairs (system_data system.now) (pairs_data pairs.now) }
     requires ended { Ended (system_data system.now) (pairs_data pairs.now) set }
     requires none { HasNoProjection (system_data system.now).rules (pairs_data pairs.now) set }

@@ -1,6 +1,7 @@
 //! The search for a proof, and then for a loop.
 
 ghost use Rattle.std.specs.Prelude.{◌≡◌, ◌≤◌, All, IfOk, MatchResult, length};
+ghost use Rattle.wh_types.specs.Limits.{greatest_number};
 ghost use Rattle.wh_access.specs.Passing.{IsPassing};
 ghost use Rattle.wh_pairs.specs.SystemPairs.{HasPairs};
 ghost use Rattle.wh_pairs.specs.Views.{pairs_data};
@@ -58,7 +59,7 @@ fn prove_under(
     requires pairs { HasPairs (system_data system.now) (pairs_data pairs.now) }
     requires passing { IsPassing (system_data system.now) ranks.now }
     requires each { length ranks.now ≡ (system_data system.now).symbols.sorts }
-    requires low { All (λ r. r ≤ 65535) ranks.now }
+    requires low { All (λ r. r ≤ greatest_number) ranks.now }
     ensures { IfOk result (λ found. MatchResult found (λ certificate. IsProof (system_data system.now) (pairs_data pairs.now)
         (said certificate)) (HasNoProof (system_data system.now) (pairs_data pairs.now) tries)) }
 {

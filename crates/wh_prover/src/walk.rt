@@ -1,6 +1,7 @@
 //! The walk over the sets of pairs, from the set of all pairs on.
 
 ghost use Rattle.std.specs.Prelude.{◌≡◌, ◌≤◌, [], IfOk, MatchOption, length, map};
+ghost use Rattle.wh_types.specs.Limits.{most_pairs};
 ghost use Rattle.wh_pairs.specs.SystemPairs.{HasPairs};
 ghost use Rattle.wh_pairs.specs.Views.{pairs_data};
 ghost use Rattle.wh_system.specs.SystemView.{system_data};
@@ -28,7 +29,7 @@ pub fn walk(
     whole: PairSet,
     nodes: &mut Nodes,
 ) -> Result<Option<Cause>, AllocError>
-    requires few { length pairs.now ≤ 4096 }
+    requires few { length pairs.now ≤ most_pairs }
     requires pairs { HasPairs (system_data system.now) (pairs_data pairs.now) }
     requires graph { IsGraphOf (system_data system.now).rules (pairs_data pairs.now) graph.now }
     requires whole { IsWhole (pairs_data pairs.now) whole }

@@ -1,6 +1,7 @@
 -- How deep parts may nest: terms 400 levels, the parentheses of types 16 (ours). The level of a token counts the open
 -- parentheses and brackets of terms and the abstractions around it.
 use Rattle.std.specs.Prelude.{ℕ, ◌+◌, ◌<◌, List, [], ◌∷◌}
+use Rattle.wh_types.specs.Limits.{deepest_term, deepest_type}
 use Rattle.wh_read.specs.Written.{WType, only, arrow, WAtype, sort_name, type_in, WTerm, lambda, atoms, WAtom, plain_name, number, typed_variable, applied, term_in, WAtoms, no_atoms, more_atoms, WTerms, no_terms, more_terms, WTypes, no_types, more_types, WBrackets, no_brackets, brackets, WMeta, WMetas, no_metas, more_metas, WDeclared, nothing, declares, WRule, WSystem}
 
 -- within j open parentheses of types
@@ -11,20 +12,20 @@ abbrev mutual
 
   pub AtypeFits : ℕ → WAtype → Type 0
   AtypeFits j (sort_name n at) = Unit {0}
-  AtypeFits j (type_in open_at t close_at) = (j < 16) × TypeFits (j + 1) t
+  AtypeFits j (type_in open_at t close_at) = (j < deepest_type) × TypeFits (j + 1) t
 
 -- within k levels of terms
 abbrev mutual
   pub TermFits : ℕ → WTerm → Type 0
-  TermFits k (lambda at x x_at colon_at a dot_at t) = (k < 400) × AtypeFits 0 a × TermFits (k + 1) t
+  TermFits k (lambda at x x_at colon_at a dot_at t) = (k < deepest_term) × AtypeFits 0 a × TermFits (k + 1) t
   TermFits k (atoms head rest) = AtomFits k head × AtomsFit k rest
 
   pub AtomFits : ℕ → WAtom → Type 0
   AtomFits k (plain_name n at) = Unit {0}
   AtomFits k (number n at) = Unit {0}
   AtomFits k (typed_variable n at colon_at a) = AtypeFits 0 a
-  AtomFits k (applied n at open_at t rest close_at) = (k < 400) × TermFits (k + 1) t × TermsFit (k + 1) rest
-  AtomFits k (term_in open_at t close_at) = (k < 400) × TermFits (k + 1) t
+  AtomFits k (applied n at open_at t rest close_at) = (k < deepest_term) × TermFits (k + 1) t × TermsFit (k + 1) rest
+  AtomFits k (term_in open_at t close_at) = (k < deepest_term) × TermFits (k + 1) t
 
   pub AtomsFit : ℕ → WAtoms → Type 0
   AtomsFit k no_atoms = Unit {0}

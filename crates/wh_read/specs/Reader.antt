@@ -1,6 +1,7 @@
 -- The reader, token by token: what it holds behind some tokens of a system text, and how one more token changes that. It
 -- is a machine with a stack for the terms that are open and one for the types (ours).
 use Rattle.std.specs.Prelude.{ℕ, ◌+◌, nat_lt, length, List, [], ◌∷◌, ◌++◌, Option, None, Some, if◌then◌else◌}
+use Rattle.wh_types.specs.Limits.{deepest_term, deepest_type}
 use Rattle.wh_text.specs.RawTree.{RTy, raw_type, RTys, no_types, more_types, Binder, named_binder, numbered_binder, RTm, named, numbered, free_variable, meta, lam, spine, RTms, none, more}
 use Rattle.wh_parts.specs.Parts.{RName, RFun, RMeta, RRule, RParts}
 use Rattle.wh_read.specs.Raw.{join, place_of}
@@ -139,7 +140,7 @@ abbrev pub opened : RParts → ℕ → ℕ → Place → State
 opened parts k n p = if nat_lt k n then inside parts p else too_many
 
 abbrev pub open_term : RParts → OpenRule → Place → State
-open_term parts u p = opened parts (level u.frames) 400 p
+open_term parts u p = opened parts (level u.frames) deepest_term p
 
 -- a sort's name or a type in parentheses was read, with no parenthesis around it
 abbrev pub had_outer : RParts → Use → OpenType → RTy → State
@@ -211,7 +212,7 @@ behind_plain parts u before n n_at l at = at_atom parts u (next before (named n 
 
 abbrev pub at_atype : RParts → Use → OpenType → Lexeme → ℕ → State
 at_atype parts use_for t (a_name n) at = had_atype parts use_for t.args t.outer (raw_type no_types n at)
-at_atype parts use_for t open_paren at = opened parts (length t.outer) 16 (want_atype use_for (inner_type t))
+at_atype parts use_for t open_paren at = opened parts (length t.outer) deepest_type (want_atype use_for (inner_type t))
 at_atype parts use_for t l at = failed
 
 abbrev pub behind_type : RParts → Use → OpenType → RTy → Lexeme → State

@@ -1,6 +1,7 @@
 //! Reading a system text: token by token, each from the place that those before it led to.
 
 ghost use Rattle.std.specs.Prelude.{◌≡◌, ◌≤◌, ◌↔◌, length, Some, None, IfOk, IsTrue};
+ghost use Rattle.wh_types.specs.Limits.{most_bytes};
 ghost use Rattle.wh_types.specs.Outcome.{IfBecause, MatchOr};
 ghost use Rattle.wh_text.specs.Erase.{kind_of, part, token as cut_token};
 ghost use Rattle.wh_text.specs.Pieces.{IsCutInto};
@@ -134,7 +135,7 @@ fn ended(place: Place) -> bool
 /// first token that no system text has there, or that opens a level too many: terms nest 400 deep, the parentheses of
 /// types 16.
 pub fn parse(alloc: Global, text: &[u8], tokens: &[Token]) -> Result<Parts, Or<SyntaxFault>>
-    requires size { length text.now ≤ 8388609 }
+    requires size { length text.now ≤ most_bytes + 1 }
     requires cut { IsCutInto text.now tokens.now }
     ensures { MatchOr result (λ parts. Parses (letters text.now tokens.now) (rparts parts))
         (HasSyntaxFault (letters text.now tokens.now) (length text.now)) }

@@ -1,6 +1,7 @@
 //! Reading a system from its text: its bytes are cut into tokens, these are parsed, and what they say is tested.
 
 ghost use Rattle.std.specs.Prelude.{◌≡◌, ◌≤◌, length, IfOk};
+ghost use Rattle.wh_types.specs.Limits.{most_bytes};
 ghost use Rattle.wh_types.specs.Outcome.{IfBecause};
 ghost use Rattle.wh_system.specs.SystemView.{system_data};
 ghost use Rattle.wh_read.specs.Reading.{Reads, Refuses, text_refused, syntax_refused, system_refused};
@@ -61,7 +62,7 @@ fn by_system(fault: SystemFault) -> Refused
 /// The system that the bytes are a text of; else the first reason why they are none: a fault of tokens, then one of the
 /// grammar or a level too many, whichever comes first, then the first test of systems that fails.
 pub fn read_system(alloc: Global, bytes: &[u8]) -> Result<System, Or<Refused>>
-    requires { length bytes.now ≤ 8388608 }
+    requires { length bytes.now ≤ most_bytes }
     ensures read { IfOk result (λ system. Reads bytes.now (system_data system)) }
     ensures refused { IfBecause result (λ why. Refuses bytes.now why) }
 {

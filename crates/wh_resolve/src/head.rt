@@ -1,6 +1,7 @@
 //! The head of a left side, and how many arguments it has.
 
 ghost use Rattle.std.specs.Prelude.{◌≡◌, ◌≤◌, [], Some, None, MatchResult};
+ghost use Rattle.wh_types.specs.Limits.{greatest_size};
 ghost use Rattle.wh_terms.specs.Erase.{tm};
 ghost use Rattle.wh_text.specs.Erase.{rtm};
 ghost use Rattle.wh_resolve.specs.Form.{symbol_of};
@@ -38,7 +39,7 @@ fn symbol_of(term: &Term) -> Option<u32>
 
 /// How many arguments a left side has, which has at most the size that a side may have.
 pub fn arguments_of(left: &RawTerm) -> u32
-    requires { raw_size (rtm left.now) ≤ 65536 }
+    requires { raw_size (rtm left.now) ≤ greatest_size }
     ensures { result ≡ arguments_of (rtm left.now) }
 {
     let mut count = 0;

@@ -1,6 +1,7 @@
 -- What a part that is put at a place brings to the tree around it: to its height, and to the spine that it joins.
 -- Working forms: none of it is told to a caller.
 use Rattle.std.specs.Prelude.{ℕ, zero, suc, ◌≡◌, ◌+◌, ◌≤◌, Bool, true, false, List, [], ◌∷◌, Option, Some, None}
+use Rattle.wh_types.specs.Limits.{most_arguments, greatest_height, greatest_size}
 use Rattle.wh_terms.specs.Tree.{Tm, lam, app, argument_count}
 use Rattle.wh_terms.specs.Measures.{size, height, risen, Fits}
 use Rattle.wh_terms.specs.Places.{part_at}
@@ -38,9 +39,9 @@ joined_arguments (d ∷ path) v t = 0
 -- v fits in t in place of its part r at the path: only v, the sizes, and what stands right above the place count
 pub record FitsThere (path : List ℕ) (v t r : Tm) : Type 0 where
   pub part : Fits v
-  pub small : size t + size v ≤ 65536 + size r
-  pub low : reach path v t ≤ 200
-  pub narrow : joined_arguments path v t ≤ 32
+  pub small : size t + size v ≤ greatest_size + size r
+  pub low : reach path v t ≤ greatest_height
+  pub narrow : joined_arguments path v t ≤ most_arguments
 
 -- the height that a tree gives to the spine that it begins, beyond its own
 abbrev pub rise_of : Bool → ℕ
@@ -57,7 +58,7 @@ pub record IsJoint (path : List ℕ) (v t : Tm) (j : Joint) : Type 0 where
 -- a measuring at the place answers with that, or that it is past a limit
 abbrev pub Joins : List ℕ → Tm → Tm → Option Joint → Type 0
 Joins path v t (Some j) = IsJoint path v t j
-Joins path v t None = reach path v t ≤ 200 → joined_arguments path v t ≤ 32 → ⊥
+Joins path v t None = reach path v t ≤ greatest_height → joined_arguments path v t ≤ most_arguments → ⊥
 
 -- what is measured before the result: t, which fits, has the size n, its part r the size m, and v is to be put in place of r
 pub record IsMeasured (path : List ℕ) (v t r : Tm) (n m : ℕ) (e : Extent) (o : Option Joint) : Type 0 where
@@ -76,4 +77,4 @@ NewSize w None = Fits w → ⊥
 -- these measures, or they do not keep the limits
 abbrev pub LimitsJoint : ℕ → ℕ → Bool → Bool → Option Joint → Type 0
 LimitsJoint h n f a (Some j) = (j.height ≡ h) × (j.arguments ≡ n) × (j.is_front ≡ f) × (j.is_applied ≡ a)
-LimitsJoint h n f a None = h ≤ 200 → n ≤ 32 → ⊥
+LimitsJoint h n f a None = h ≤ greatest_height → n ≤ most_arguments → ⊥

@@ -1,5 +1,6 @@
 -- The extents of trees, and what a measuring answers.
 use Rattle.std.specs.Prelude.{ℕ, ◌≡◌, ◌≤◌, List, [], ◌∷◌, Option, Some, None, Result, Ok, Err}
+use Rattle.wh_types.specs.Limits.{most_arguments, greatest_height, greatest_size}
 use Rattle.wh_types.specs.declared.want.Or.{Or}
 use Rattle.wh_types.specs.declared.want.Or.TheVariants.{NoMemory, Because}
 use Rattle.wh_terms.specs.Tree.{Tm, Tms, none, more, argument_count}
@@ -35,4 +36,4 @@ AllKnown _ _ = ⊥
 abbrev pub Limits : ℕ → ℕ → ℕ → Result Extent (Or PastLimit) → Type 0
 Limits s h n (Ok e) = (e.size ≡ s) × (e.height ≡ h) × (e.arguments ≡ n)
 Limits s h n (Err NoMemory) = ⊥
-Limits s h n (Err (Because _)) = s ≤ 65536 → h ≤ 200 → n ≤ 32 → ⊥
+Limits s h n (Err (Because _)) = s ≤ greatest_size → h ≤ greatest_height → n ≤ most_arguments → ⊥

@@ -1,6 +1,7 @@
 //! The extent of a term that fits: what is to be known of the parts of a term to know it of the term.
 
 ghost use Rattle.std.specs.Prelude.{◌≤◌};
+ghost use Rattle.wh_types.specs.Limits.{most_arguments, greatest_height, greatest_size};
 
 /// The measures of a term that fits.
 #[derive(Clone, Copy)]
@@ -11,9 +12,9 @@ pub struct Extent {
     pub height: u32,
     /// The number of arguments of the spine that it is.
     pub arguments: u32,
-    ghost small: { size ≤ 65536 },
-    ghost low: { height ≤ 200 },
-    ghost narrow: { arguments ≤ 32 },
+    ghost small: { size ≤ greatest_size },
+    ghost low: { height ≤ greatest_height },
+    ghost narrow: { arguments ≤ most_arguments },
 }
 
 /// The term does not fit.

@@ -6,6 +6,7 @@
 //! where it is an application itself, and 1 elsewhere.
 
 ghost use Rattle.std.specs.Prelude.{◌≡◌, ◌≤◌, ℕ, [], ◌∷◌, List, Some, IfOk};
+ghost use Rattle.wh_types.specs.Limits.{greatest_size};
 ghost use Rattle.wh_types.specs.Ty.{Ty};
 ghost use Rattle.wh_terms.specs.Tree.{Tm, lam, app};
 ghost use Rattle.wh_terms.specs.Erase.{tm};
@@ -104,7 +105,7 @@ fn join(term: &Term, path: &[u8], part: Extent) -> Option<Joint>
 
 // The size of a term of the size `total` with the part in place of one of the size `old`, if it fits.
 fn resized(total: u64, old: u64, part: Extent, joint: Option<Joint>) -> Option<u64>
-    requires small { total ≤ 65536 }
+    requires small { total ≤ greatest_size }
     requires inside { old ≤ total }
     ensures { (path : List ℕ) (v t r : Tm) → IsMeasured path v t r total old part joint → NewSize (put_at path v t) result }
 {

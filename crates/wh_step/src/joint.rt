@@ -1,6 +1,7 @@
 //! What a part of a term that fits brings to the term: what is to be known of the part and its place to know the rest.
 
 ghost use Rattle.std.specs.Prelude.{◌≤◌};
+ghost use Rattle.wh_types.specs.Limits.{most_arguments, greatest_height};
 
 /// What the part brings to the term.
 #[derive(Clone, Copy)]
@@ -13,6 +14,6 @@ pub struct Joint {
     pub is_front: bool,
     /// Whether the term with the part is an application.
     pub is_applied: bool,
-    ghost low: { height ≤ 200 },
-    ghost narrow: { arguments ≤ 32 },
+    ghost low: { height ≤ greatest_height },
+    ghost narrow: { arguments ≤ most_arguments },
 }

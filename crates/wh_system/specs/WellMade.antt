@@ -1,5 +1,6 @@
 -- What makes a system well made.
 use Rattle.std.specs.Prelude.{ℕ, ◌+◌, ◌≤◌, ◌≡◌, ◌≢◌, List, length, map, All, AllPairs}
+use Rattle.wh_types.specs.Limits.{deepest_type, most_sorts, most_symbols, most_rules, most_arguments}
 use Rattle.wh_types.specs.Ty.{Ty, sort, ◌⇒◌, arguments, SortsBelow}
 use Rattle.wh_terms.specs.Tree.{Tm, free, meta, lam, app, Tms, none, more}
 use Rattle.wh_terms.specs.Typing.{Declared}
@@ -30,8 +31,8 @@ abbrev mutual
 -- parentheses nest at most 16 deep (ours)
 pub record IsTypeOver (sorts : ℕ) (a : Ty) : Type 0 where
   pub sorts_are_there : SortsBelow sorts a
-  pub narrow : ArgumentsWithin 32 a
-  pub shallow : type_nesting a ≤ 16
+  pub narrow : ArgumentsWithin most_arguments a
+  pub shallow : type_nesting a ≤ deepest_type
 
 -- a declaration: at most 32 arguments, and all its types are types of the system (ours)
 pub record IsDeclarationOver (sorts : ℕ) (d : Declared) : Type 0 where
@@ -52,11 +53,11 @@ pub record IsWellMadeSystem (s : SystemData) : Type 0 where
   -- the rules are well made over the symbols
   pub rules : AreWellMade s.symbols s.rules
   -- there are at most 256 sorts
-  pub sorts_within : s.symbols.sorts ≤ 256
+  pub sorts_within : s.symbols.sorts ≤ most_sorts
   -- there are at most 1,024 symbols
-  pub symbols_within : length s.symbols.funs ≤ 1024
+  pub symbols_within : length s.symbols.funs ≤ most_symbols
   -- there are at most 1,024 rules
-  pub rules_within : length s.rules ≤ 1024
+  pub rules_within : length s.rules ≤ most_rules
   -- each rule has at most 32 meta-variables
   pub metas_within : All (λ r. length r.metas ≤ 32) s.rules
   -- the type of each symbol is a type over the sorts
@@ -66,7 +67,7 @@ pub record IsWellMadeSystem (s : SystemData) : Type 0 where
   -- no type in a side has more than 32 arguments
   pub side_types : All (λ r. TypesWithin 32 r.left × TypesWithin 32 r.right) s.rules
   -- the parentheses of no type in a side nest more than 16 deep
-  pub side_types_shallow : All (λ r. TypesNestWithin 16 r.left × TypesNestWithin 16 r.right) s.rules
+  pub side_types_shallow : All (λ r. TypesNestWithin deepest_type r.left × TypesNestWithin deepest_type r.right) s.rules
   -- each sort has a name
   pub sorts_named : length s.sort_names ≡ s.symbols.sorts
   -- each symbol has a name

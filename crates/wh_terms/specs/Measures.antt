@@ -1,5 +1,6 @@
 -- The measures of a tree: size, height, nesting, and what fits.
 use Rattle.std.specs.Prelude.{ℕ, ◌+◌, ◌≤◌, ◌<◌, ◌^◌, max}
+use Rattle.wh_types.specs.Limits.{most_arguments, greatest_height, greatest_size}
 use Rattle.wh_terms.specs.Tree.{Tm, bound, meta, lam, app, Tms, none, more, argument_count}
 
 -- the size counts symbols, variables, meta-applications, abstractions and binary applications (ours)
@@ -60,9 +61,9 @@ abbrev mutual
 
 -- a tree fits if its height is at most 200, each spine has at most 32 arguments and its size is at most 65,536 (ours)
 pub record Fits (t : Tm) : Type 0 where
-  pub low : height t ≤ 200
-  pub narrow : SpinesWithin 32 t
-  pub small : size t ≤ 65536
+  pub low : height t ≤ greatest_height
+  pub narrow : SpinesWithin most_arguments t
+  pub small : size t ≤ greatest_size
 
 -- each number of a bound variable is below n
 abbrev mutual

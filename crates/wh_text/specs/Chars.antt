@@ -1,9 +1,16 @@
 -- Classes of bytes, and runs of them.
 use Rattle.std.specs.Prelude.{ℕ, ◌≡◌, ◌==◌, ◌&&◌, ◌||◌, not, nat_le, Bool, true, false, List, [], ◌∷◌}
 
+-- the byte that ends a line, and the one that parts fields
+abbrev pub line_feed : ℕ
+line_feed = 10
+
+abbrev pub space : ℕ
+space = 32
+
 -- space, tab, carriage return, line feed
 abbrev pub is_space : ℕ → Bool
-is_space b = (b == 32) || ((b == 9) || ((b == 13) || (b == 10)))
+is_space b = (b == space) || ((b == 9) || ((b == 13) || (b == line_feed)))
 
 -- an ASCII digit
 abbrev pub is_digit : ℕ → Bool
@@ -19,7 +26,7 @@ is_part b = is_start b || (is_digit b || (b == 39))
 
 -- what a comment goes on with: all but a line feed
 abbrev pub is_comment : ℕ → Bool
-is_comment b = not (b == 10)
+is_comment b = not (b == line_feed)
 
 -- the signs of one byte: \ : . ; , ( ) [ ] { }
 abbrev pub is_sign : ℕ → Bool

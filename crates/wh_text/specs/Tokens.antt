@@ -1,5 +1,6 @@
 -- How bytes are cut into tokens, and the first byte that can't be (ours).
 use Rattle.std.specs.Prelude.{ℕ, ◌≡◌, ◌+◌, ◌<◌, ◌≤◌, ◌⊎◌, true, false, List, [], ◌∷◌, ◌++◌, length}
+use Rattle.wh_types.specs.Limits.{longest_name, greatest_number}
 use Rattle.wh_text.specs.Chars.{is_space, is_digit, is_start, is_part, is_comment, is_sign, AllPass, Stops}
 use Rattle.wh_text.specs.Words.{Starts, IsKeyword, IsNumeral, NoLeadingZero, number_from}
 
@@ -49,7 +50,7 @@ pub record BeginsNothing (b : ℕ) : Type 0 where
 
 -- the digits of a number token are too many or too great: they begin with 0 and are more than one, or spell more than 65,535
 abbrev pub BadDigits : List ℕ → Type 0
-BadDigits ds = ((NoLeadingZero ds → ⊥) ⊎ (65535 < number_from 0 ds))
+BadDigits ds = ((NoLeadingZero ds → ⊥) ⊎ (greatest_number < number_from 0 ds))
 
 -- `Cuts at bytes tokens ending`: from the offset `at` on, the bytes are cut into these tokens, from the left, words and
 -- digits as long as they go on, up to that ending; the tokens are those before it
@@ -59,7 +60,7 @@ pub data Cuts : ℕ → List ℕ → List Token → Ending → Type 0 where
   comment : {at : ℕ} {bytes : List ℕ} (r : List ℕ) {ts : List Token} {e : Ending} (c : List ℕ) → AllPass is_comment c
       → Stops is_comment r → bytes ≡ 35 ∷ (c ++ r) → Cuts (at + 1 + length c) r ts e → Cuts at bytes ts e
   word : {at : ℕ} {bytes : List ℕ} (r : List ℕ) {ts : List Token} {e : Ending} (w : List ℕ) (kind : Kind) → Starts w → AllPass is_part w
-      → Stops is_part r → bytes ≡ w ++ r → length w ≤ 64 → (IsKeyword w × (kind ≡ keyword w)) ⊎ ((IsKeyword w → ⊥) × (kind ≡ name w))
+      → Stops is_part r → bytes ≡ w ++ r → length w ≤ longest_name → (IsKeyword w × (kind ≡ keyword w)) ⊎ ((IsKeyword w → ⊥) × (kind ≡ name w))
       → Cuts (at + length w) r ts e → Cuts at bytes (record { kind = kind; from = at; to = at + length w } ∷ ts) e
   number : {at b n : ℕ} {bytes : List ℕ} (r : List ℕ) {ts : List Token} {e : Ending} (ds : List ℕ) (kind : ℕ → Kind) → Marks b kind
       → IsNumeral ds n → NoDigit r → bytes ≡ b ∷ (ds ++ r) → Cuts (at + 1 + length ds) r ts e
@@ -77,4 +78,4 @@ pub data Cuts : ℕ → List ℕ → List Token → Ending → Type 0 where
       → 0 < length ds → BadDigits ds → NoDigit r → bytes ≡ b ∷ (ds ++ r) → Cuts at bytes [] (bad_number (at + 1))
   -- a word of more than 64 bytes; the offset is its first byte
   long_word : {at : ℕ} {bytes : List ℕ} (r : List ℕ) (w : List ℕ) → Starts w → AllPass is_part w → Stops is_part r → bytes ≡ w ++ r
-      → 64 < length w → Cuts at bytes [] (name_too_long at)
+      → longest_name < length w → Cuts at bytes [] (name_too_long at)

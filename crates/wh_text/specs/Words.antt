@@ -1,5 +1,6 @@
 -- Words, names and numbers, as bytes.
 use Rattle.std.specs.Prelude.{ℕ, ◌≡◌, ◌≢◌, ◌+◌, ◌-◌, ◌*◌, ◌≤◌, ◌⊎◌, true, List, [], ◌∷◌, length, codes}
+use Rattle.wh_types.specs.Limits.{longest_name, greatest_number}
 use Rattle.wh_text.specs.Chars.{is_digit, is_start, is_part, AllPass}
 
 -- the bytes begin with a letter or an underscore
@@ -11,7 +12,7 @@ Starts (b ∷ bs) = is_start b ≡ true
 pub record IsWord (bs : List ℕ) : Type 0 where
   pub starts : Starts bs
   pub parts : AllPass is_part bs
-  pub short : length bs ≤ 64
+  pub short : length bs ≤ longest_name
 
 -- the keywords
 abbrev pub IsKeyword : List ℕ → Type 0
@@ -38,4 +39,4 @@ pub record IsNumeral (bs : List ℕ) (n : ℕ) : Type 0 where
   pub digits : AllPass is_digit bs
   pub proper : NoLeadingZero bs
   pub value : number_from 0 bs ≡ n
-  pub small : n ≤ 65535
+  pub small : n ≤ greatest_number

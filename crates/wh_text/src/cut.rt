@@ -8,6 +8,7 @@ ghost use Rattle.wh_text.specs.Words.{IsKeyword, IsNumeral};
 ghost use Rattle.wh_text.specs.Tokens.{BadDigits, BeginsArrow};
 ghost use Rattle.wh_text.specs.Pieces.{IsGap, StandsAt, FaultAt, IsPiece, IsCutInto, HasFault};
 ghost use Rattle.std.specs.List.{prefix_len};
+ghost use Rattle.wh_types.specs.Limits.{most_bytes};
 
 use crate::token::{TextFault, Token, TokenKind, Tokens};
 use std::alloc::Global;
@@ -126,7 +127,7 @@ fn token_of(kind: TokenKind, from: usize, to: usize) -> Token
 /// The word that begins at the offset, as a keyword or a name.
 fn word_at(bytes: &[u8], at: usize) -> Result<Token, TextFault>
     requires room { at < length bytes.now }
-    requires size { length bytes.now ≤ 8388609 }
+    requires size { length bytes.now ≤ most_bytes + 1 }
     requires start { is_start (slice_index bytes.now at) ≡ true }
     ensures { MatchResult result (StandsAt bytes.now at) (FaultAt bytes.now at) }
 {
@@ -147,7 +148,7 @@ fn word_at(bytes: &[u8], at: usize) -> Result<Token, TextFault>
 /// The number that is marked at the offset by `$` or `%`.
 fn number_at(bytes: &[u8], at: usize) -> Result<Token, TextFault>
     requires room { at < length bytes.now }
-    requires size { length bytes.now ≤ 8388609 }
+    requires size { length bytes.now ≤ most_bytes + 1 }
     requires mark { (slice_index bytes.now at ≡ 36) ⊎ (slice_index bytes.now at ≡ 37) }
     ensures { MatchResult result (StandsAt bytes.now at) (FaultAt bytes.now at) }
 {
@@ -171,7 +172,7 @@ fn number_at(bytes: &[u8], at: usize) -> Result<Token, TextFault>
 /// The arrow that begins at the offset with `-` or `=`.
 fn arrow_at(bytes: &[u8], at: usize) -> Result<Token, TextFault>
     requires room { at < length bytes.now }
-    requires size { length bytes.now ≤ 8388609 }
+    requires size { length bytes.now ≤ most_bytes + 1 }
     requires first { BeginsArrow (slice_index bytes.now at) }
     ensures { MatchResult result (StandsAt bytes.now at) (FaultAt bytes.now at) }
 {
@@ -194,7 +195,7 @@ fn comment_end(bytes: &[u8], at: usize) -> usize
 /// What stands at the offset.
 fn piece_at(bytes: &[u8], at: usize) -> Result<Piece, TextFault>
     requires room { at < length bytes.now }
-    requires size { length bytes.now ≤ 8388609 }
+    requires size { length bytes.now ≤ most_bytes + 1 }
     ensures { MatchResult result (IsPiece bytes.now at) (FaultAt bytes.now at) }
 {
     let first = bytes[at];
@@ -222,7 +223,7 @@ fn piece_at(bytes: &[u8], at: usize) -> Result<Piece, TextFault>
 /// The tokens of a text, in order. A fault is the first byte that can't be cut, with its offset; the tokens before it
 /// are not handed out.
 pub fn tokens(alloc: Global, bytes: &[u8]) -> Result<Tokens, Or<TextFault>>
-    requires { length bytes.now ≤ 8388609 }
+    requires { length bytes.now ≤ most_bytes + 1 }
     ensures { MatchOr result (IsCutInto bytes.now) (HasFault bytes.now) }
 {
     let mut found = Tokens::new(alloc)?;

@@ -1,5 +1,6 @@
 -- Where all files are read and the system is one with few enough pairs, a reply answers what is asked.
 use Rattle.std.proofs.Common.{ℕ, ◌≡◌, ◌≤◌, ◌⊎◌, inl, inr, List, length, Option, Some, subst, arith}
+use Rattle.wh_types.specs.Limits.{system_limit, certificate_limit}
 use Rattle.wh_system.specs.Systems.{SystemData}
 use Rattle.wh_pairs.specs.PairData.{PairData}
 use Rattle.wh_pairs.specs.Candidates.{candidates}
@@ -21,7 +22,7 @@ use Rattle.wh_words.specs.Words.{Request, check, prove, show, gen, Asks}
 use Rattle.wh_top.specs.declared.status.Status.{Status}
 use Rattle.wh_top.specs.Words.{options_of}
 use Rattle.wh_top.specs.Texts.{IsShown}
-use Rattle.wh_top.specs.Outcomes.{Shelves, ToldSystem, Judged, Checked, IsRefusedFor, StandsBySystem, Stands, certificate_limit, system_limit}
+use Rattle.wh_top.specs.Outcomes.{Shelves, ToldSystem, Judged, Checked, IsRefusedFor, StandsBySystem, Stands}
 use Rattle.wh_top.specs.Proving.{IsFoundText, IsNotFound, StandsForSearch}
 use Rattle.wh_top.specs.Generating.{StandsForGenerated}
 use Rattle.wh_top.specs.Complete.{HoldsSystem, IsComplete, IsRead}

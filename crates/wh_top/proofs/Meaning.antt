@@ -2,6 +2,7 @@
 use Rattle.std.proofs.Common.{◌≡◌, ℕ, ◌≤◌, ◌⊎◌, inl, inr, List, length, [], ◌∷◌, ◌++◌, Option, Some, refl, sym, ap, ◌∙◌, subst, arith, append-nil}
 use Rattle.std.specs.Prelude.{codes}
 use Rattle.std.proofs.lemmas.List.{append_cancel_left}
+use Rattle.wh_types.specs.Limits.{system_limit}
 use Rattle.wh_terms.specs.Tree.{Tm}
 use Rattle.wh_terms.specs.Typing.{WellTyped}
 use Rattle.wh_step.specs.Reduction.{Bounded}
@@ -23,7 +24,7 @@ use Rattle.wh_answer.specs.declared.report.Report.{Report}
 use Rattle.wh_answer.specs.declared.report.Report.TheVariants.{Yes, No, Rejected, Maybe, Refused, BadWords, ReadFault, OutOfMemory, TooLong, Overflow, TooLarge}
 use Rattle.wh_words.specs.Words.{Bounds, Request, check, prove, show, gen, Asks}
 use Rattle.wh_top.specs.Words.{AsksWhether, options_of}
-use Rattle.wh_top.specs.Outcomes.{Shelves, Told, IsYes, IsNo, BeginsWith, Checked, Stands, StandsBySystem, system_limit}
+use Rattle.wh_top.specs.Outcomes.{Shelves, Told, IsYes, IsNo, BeginsWith, Checked, Stands, StandsBySystem}
 use Rattle.wh_prover.specs.declared.answer.Options.{Options}
 use Rattle.wh_prover.proofs.LoopLemmas.{loop_is_valid}
 use Rattle.wh_top.specs.Proving.{IsFoundText, ShowsFound, StandsForSearch}

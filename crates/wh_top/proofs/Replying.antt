@@ -1,5 +1,6 @@
 -- Replies that are texts of their own.
 use Rattle.std.proofs.Common.{◌≡◌, ℕ, ◌≤◌, ◌⊎◌, inl, inr, List, length, codes, Result, Ok, Err, IfOk, subst, subst₂, sym}
+use Rattle.wh_types.specs.Limits.{certificate_limit}
 use Rattle.wh_types.specs.Outcome.{MatchOr}
 use Rattle.wh_types.specs.declared.want.Or.{Or}
 use Rattle.wh_types.specs.declared.want.Or.TheVariants.{NoMemory, Because}
@@ -9,7 +10,7 @@ use Rattle.wh_answer.specs.Texts.{line}
 use Rattle.wh_prover.specs.declared.answer.Options.{Options}
 use Rattle.wh_top.specs.declared.status.Status.{Status}
 use Rattle.wh_top.specs.declared.status.Status.TheVariants.{Answered}
-use Rattle.wh_top.specs.Outcomes.{Shelves, BeginsWith, ToldSystem, StandsBySystem, certificate_limit}
+use Rattle.wh_top.specs.Outcomes.{Shelves, BeginsWith, ToldSystem, StandsBySystem}
 use Rattle.wh_top.specs.Texts.{IsShown, TellsMade}
 use Rattle.wh_top.specs.Generating.{ShowsGenerated, StandsForGenerated}
 use Rattle.wh_top.specs.Proving.{IsFoundText, StandsForSearch}

@@ -1,5 +1,6 @@
 -- What comes of the two files, for all that is told of them.
 use Rattle.std.proofs.Common.{◌≡◌, ℕ, ◌≤◌, List, length, Option, Result, Ok, Err, IfOk, IsErrAnd, MatchResult, refl, sym, ap, subst, ◌∙◌, arith}
+use Rattle.wh_types.specs.Limits.{system_limit, certificate_limit}
 use Rattle.wh_types.specs.Outcome.{IfBecause, MatchOr}
 use Rattle.wh_types.specs.declared.want.Or.{Or}
 use Rattle.wh_types.specs.declared.want.Or.TheVariants.{NoMemory, Because}
@@ -18,7 +19,7 @@ use Rattle.wh_answer.specs.declared.report.ReasonWord.TheVariants.{TooManyPairs}
 use Rattle.wh_answer.specs.declared.report.NamedRejection.TheVariants.{Syntax}
 use Rattle.wh_answer.specs.declared.report.Report.{Report}
 use Rattle.wh_answer.specs.declared.report.Report.TheVariants.{Yes, No, Rejected, Refused, ReadFault, TooLong, Overflow, TooLarge}
-use Rattle.wh_top.specs.Outcomes.{Shelves, Told, AreWithin, IsSystemIn, IsProblemIn, ToldSystem, ToldCert, Certified, Weighed, Judged, Checked, IsRefusedFor, StandsBySystem, Stands, system_limit, certificate_limit}
+use Rattle.wh_top.specs.Outcomes.{Shelves, Told, AreWithin, IsSystemIn, IsProblemIn, ToldSystem, ToldCert, Certified, Weighed, Judged, Checked, IsRefusedFor, StandsBySystem, Stands}
 use Rattle.wh_top.specs.Rows.{reason_of}
 use Rattle.wh_top.specs.Unread.{CertificateFault, RefusedBy}
 

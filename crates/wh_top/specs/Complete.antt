@@ -1,5 +1,6 @@
 -- What is answered where nothing goes wrong outside: all files are read, and the system is one with few enough pairs.
 use Rattle.std.specs.Prelude.{ℕ, ◌≡◌, ◌≤◌, ◌⊎◌, List, length, Some}
+use Rattle.wh_types.specs.Limits.{system_limit, certificate_limit}
 use Rattle.wh_io.specs.Outside.{Rose}
 use Rattle.wh_system.specs.Systems.{SystemData}
 use Rattle.wh_pairs.specs.PairData.{PairData}
@@ -12,7 +13,7 @@ use Rattle.wh_top.specs.declared.status.Status.{Status}
 use Rattle.wh_top.specs.declared.status.Status.TheVariants.{Answered}
 use Rattle.wh_top.specs.Words.{options_of}
 use Rattle.wh_top.specs.Texts.{status_of, shown_text, Tells}
-use Rattle.wh_top.specs.Outcomes.{Shelves, Judged, system_limit, certificate_limit}
+use Rattle.wh_top.specs.Outcomes.{Shelves, Judged}
 use Rattle.wh_top.specs.Proving.{IsNotFound}
 
 -- the file was read without a fault, and these are its bytes, within the limit

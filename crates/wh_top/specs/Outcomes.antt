@@ -1,5 +1,6 @@
 -- When each answer of a run comes.
 use Rattle.std.specs.Prelude.{ℕ, ◌≡◌, ◌<◌, ◌≤◌, List, ◌++◌, length, Option, Some}
+use Rattle.wh_types.specs.Limits.{system_limit, certificate_limit}
 use Rattle.wh_io.specs.Outside.{Rose}
 use Rattle.wh_types.specs.declared.want.Or.{Or}
 use Rattle.wh_types.specs.declared.want.Or.TheVariants.{NoMemory, Because}
@@ -37,13 +38,6 @@ pub record Shelves : Type 0 where
 -- P of the bytes of the file, where they are told
 abbrev pub Told : Option (List ℕ) → (List ℕ → Type 0) → Type 0
 Told held P = (bytes : List ℕ) → held ≡ Some bytes → P bytes
-
--- the limits on the two files, in bytes
-abbrev pub system_limit : ℕ
-system_limit = 1048576
-
-abbrev pub certificate_limit : ℕ
-certificate_limit = 8388608
 
 -- these are the bytes of the file, within the limit
 abbrev pub AreWithin : ℕ → List ℕ → List ℕ → Type 0

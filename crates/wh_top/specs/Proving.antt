@@ -1,5 +1,6 @@
 -- What a search for a proof of termination or for a loop answers.
 use Rattle.std.specs.Prelude.{ℕ, ◌≡◌, ◌≤◌, ◌<◌, ◌⊎◌, List, All, length, codes, Result, Ok, Err}
+use Rattle.wh_types.specs.Limits.{certificate_limit}
 use Rattle.wh_types.specs.declared.want.Or.{Or}
 use Rattle.wh_types.specs.declared.want.Or.TheVariants.{NoMemory, Because}
 use Rattle.wh_system.specs.Systems.{SystemData}
@@ -18,7 +19,7 @@ use Rattle.wh_answer.specs.declared.report.Report.TheVariants.{Maybe, TooLong}
 use Rattle.wh_top.specs.declared.status.Status.{Status}
 use Rattle.wh_top.specs.declared.status.Status.TheVariants.{Answered}
 use Rattle.wh_top.specs.Rows.{named_cause}
-use Rattle.wh_top.specs.Outcomes.{Shelves, BeginsWith, ToldSystem, StandsBySystem, certificate_limit}
+use Rattle.wh_top.specs.Outcomes.{Shelves, BeginsWith, ToldSystem, StandsBySystem}
 
 -- the text is that of a certificate that proves termination
 abbrev pub IsProofText : SystemData → List PairData → List ℕ → Type 0

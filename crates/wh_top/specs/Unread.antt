@@ -1,5 +1,6 @@
 -- What a file that was not read, or not understood, comes to.
 use Rattle.std.specs.Prelude.{ℕ, ◌≡◌, ◌<◌, List, length, Option}
+use Rattle.wh_types.specs.Limits.{certificate_limit}
 use Rattle.wh_types.specs.declared.want.Or.{Or}
 use Rattle.wh_types.specs.declared.want.Or.TheVariants.{NoMemory, Because}
 use Rattle.wh_io.specs.Outside.{Rose}
@@ -8,7 +9,7 @@ use Rattle.wh_answer.specs.declared.report.Role.TheVariants.{Certificate}
 use Rattle.wh_answer.specs.declared.report.Report.{Report}
 use Rattle.wh_answer.specs.declared.report.Report.TheVariants.{Refused, ReadFault, TooLong}
 use Rattle.wh_top.specs.Rows.{reason_of}
-use Rattle.wh_top.specs.Outcomes.{Told, certificate_limit}
+use Rattle.wh_top.specs.Outcomes.{Told}
 
 -- the outcome that a refusal of a system gives
 abbrev pub RefusedBy : Or refusal.Refused → Or Report → Type 0

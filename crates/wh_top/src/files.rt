@@ -1,13 +1,14 @@
 //! Reading the two files: the system with its dependency pairs, and the bytes of the certificate.
 
 ghost use Rattle.std.specs.Prelude.{◌≡◌, ◌≤◌, ℕ, List, IfOk, length};
+ghost use Rattle.wh_types.specs.Limits.{certificate_limit};
 ghost use Rattle.wh_types.specs.Outcome.{MatchOr};
 ghost use Rattle.wh_io.specs.Outside.{Rose};
 ghost use Rattle.wh_system.specs.SystemView.{system_data};
 ghost use Rattle.wh_pairs.specs.SystemPairs.{HasPairs, HasTooManyPairs};
 ghost use Rattle.wh_answer.specs.declared.report.ReasonWord.TheVariants as reason;
 ghost use Rattle.wh_answer.specs.declared.report.Report.TheVariants.{Refused as refused_answer};
-ghost use Rattle.wh_top.specs.Outcomes.{AreWithin, IsProblemIn, IsSystemIn, StandsBySystem, Told, UnreadBy, certificate_limit, outside};
+ghost use Rattle.wh_top.specs.Outcomes.{AreWithin, IsProblemIn, IsSystemIn, StandsBySystem, Told, UnreadBy, outside};
 ghost use Rattle.wh_top.specs.Rows.{reason_of};
 ghost use Rattle.wh_top.specs.Unread.{CertificateFault, RefusedBy};
 ghost use Rattle.wh_pairs.specs.Views.{pairs_data};

@@ -1,6 +1,7 @@
 //! The search for a proof of a generated system.
 
 ghost use Rattle.std.specs.Prelude.{◌≡◌, ◌≤◌, ◌++◌, IfOk, List, OnOk, length};
+ghost use Rattle.wh_types.specs.Limits.{most_generated};
 ghost use Rattle.wh_types.specs.Outcome.{MatchOr};
 ghost use Rattle.wh_system.specs.SystemView.{system_data};
 ghost use Rattle.wh_pairs.specs.PairData.{PairData};
@@ -46,7 +47,7 @@ struct Outcome {
 /// How many rules and pairs the generated system with the number has, and what the search for a proof of it comes to.
 pub fn generated(alloc: Global, n: u32) -> Result<Bytes, Or<Report>>
     requires some { 1 ≤ n }
-    requires few { n ≤ 200 }
+    requires few { n ≤ most_generated }
     ensures { MatchOr result (ShowsGenerated n Answered) (StandsForGenerated n) }
 {
     let system = made(alloc, n)?;
@@ -77,7 +78,7 @@ fn shown(alloc: Global, n: u32, system: &System, pairs: &PairList) -> Result<Byt
 // The generated system.
 fn made(alloc: Global, n: u32) -> Result<System, AllocError>
     requires some { 1 ≤ n }
-    requires few { n ≤ 200 }
+    requires few { n ≤ most_generated }
     ensures { IfOk result (λ system. system_data system ≡ gen_data n) }
 {
     match generate(alloc, n) {

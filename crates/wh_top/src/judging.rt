@@ -1,6 +1,7 @@
 //! Judging a certificate for a system, and showing a system with its dependency pairs.
 
 ghost use Rattle.std.specs.Prelude.{◌≡◌, ◌≤◌, ℕ, List, IfOk, length, codes};
+ghost use Rattle.wh_types.specs.Limits.{certificate_limit};
 ghost use Rattle.wh_types.specs.Outcome.{MatchOr};
 ghost use Rattle.wh_system.specs.SystemView.{system_data};
 ghost use Rattle.wh_pairs.specs.Views.{pairs_data};
@@ -65,7 +66,7 @@ fn shown(alloc: Global, problem: &Problem) -> Result<Bytes, AllocError>
 
 // What the bytes of the certificate come to.
 fn judge(alloc: Global, problem: &Problem, bytes: &[u8]) -> Result<Report, AllocError>
-    requires length { length bytes.now ≤ 8388608 }
+    requires length { length bytes.now ≤ certificate_limit }
     requires pairs { HasPairs (system_data problem.now.system) (pairs_data problem.now.pairs) }
     ensures { IfOk result (Judged (system_data problem.now.system) (pairs_data problem.now.pairs) bytes.now) }
 {

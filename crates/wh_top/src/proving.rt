@@ -1,13 +1,14 @@
 //! Searching for a proof of termination of the system in a file, or for a loop.
 
 ghost use Rattle.std.specs.Prelude.{◌≡◌, ◌≤◌, ◌<◌, ◌⊎◌, ℕ, All, List, IfOk, length, map, codes};
+ghost use Rattle.wh_types.specs.Limits.{certificate_limit};
 ghost use Rattle.wh_cert.specs.Limits.{IsCert};
 ghost use Rattle.wh_cert.specs.Said.{said};
 ghost use Rattle.wh_types.specs.Outcome.{MatchOr};
 ghost use Rattle.wh_system.specs.SystemView.{system_data};
 ghost use Rattle.wh_pairs.specs.SystemPairs.{HasPairs};
 ghost use Rattle.wh_pairs.specs.Views.{pairs_data};
-ghost use Rattle.wh_top.specs.Outcomes.{BeginsWith, ToldSystem, certificate_limit, outside};
+ghost use Rattle.wh_top.specs.Outcomes.{BeginsWith, ToldSystem, outside};
 ghost use Rattle.wh_top.specs.Proving.{CauseIsThere, IsFoundText, IsNotFound, IsTextOf, StandsForSearch};
 ghost use Rattle.wh_top.specs.Rows.{finder_named, named_cause, sort_name};
 

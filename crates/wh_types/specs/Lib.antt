@@ -1,4 +1,5 @@
 pub mod Ty
 pub mod Erase
+pub mod Limits
 pub mod Outcome
 pub mod formers

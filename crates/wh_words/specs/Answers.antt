@@ -1,6 +1,7 @@
 -- What a command asks for with what is kept of the words behind it. Only contracts of private functions cite this.
 use Rattle.std.specs.Prelude.{ℕ, ◌≡◌, ◌≤◌, List, [], ◌∷◌, Option, MatchOption, codes}
 use Rattle.std.specs.Fmt.{decimal}
+use Rattle.wh_types.specs.Limits.{most_generated}
 use Rattle.wh_words.specs.Words.{Item, alone, words_in, SetBounds, Request, check, prove, show, gen}
 use Rattle.wh_words.specs.Asked.{request}
 use Rattle.wh_words.specs.Kept.{Sums}
@@ -12,7 +13,7 @@ abbrev pub Wants : List ℕ → List Item → Request → Type 0
 Wants command items (check file cert) = (command ≡ codes "check") × (items ≡ alone file ∷ alone cert ∷ [])
 Wants command items (prove file b) = (command ≡ codes "prove") × (words_in items ≡ file ∷ []) × SetBounds items b
 Wants command items (show file) = (command ≡ codes "show") × (items ≡ alone file ∷ [])
-Wants command items (gen n) = (command ≡ codes "gen") × (items ≡ alone (decimal n) ∷ []) × (1 ≤ n) × (n ≤ 200)
+Wants command items (gen n) = (command ≡ codes "gen") × (items ≡ alone (decimal n) ∷ []) × (1 ≤ n) × (n ≤ most_generated)
 
 -- the answer is what the command asks for with items that are kept so, or none where it asks for nothing (ours)
 abbrev pub Answers : List ℕ → Kept → Option Command → Type 0

@@ -1,6 +1,7 @@
 -- The words that the program is run with, and what they ask for.
 use Rattle.std.specs.Prelude.{ℕ, ◌≡◌, ◌≢◌, ◌≤◌, ◌⊎◌, ◌++◌, List, [], ◌∷◌, All, codes, map}
 use Rattle.std.specs.Fmt.{decimal}
+use Rattle.wh_types.specs.Limits.{most_generated}
 
 -- what bounds a search for a proof (ours)
 pub data Setting : Type 0 where
@@ -99,4 +100,4 @@ Asks words (prove file b) =
     (more : List (List ℕ)) × (items : List Item) × (words ≡ codes "prove" ∷ more) × Say more items × (words_in items ≡ file ∷ [])
     × SetBounds items b
 Asks words (show file) = (more : List (List ℕ)) × (words ≡ codes "show" ∷ more) × Say more (alone file ∷ [])
-Asks words (gen n) = (more : List (List ℕ)) × (words ≡ codes "gen" ∷ more) × Say more (alone (decimal n) ∷ []) × (1 ≤ n) × (n ≤ 200)
+Asks words (gen n) = (more : List (List ℕ)) × (words ≡ codes "gen" ∷ more) × Say more (alone (decimal n) ∷ []) × (1 ≤ n) × (n ≤ most_generated)

@@ -2,6 +2,7 @@
 
 ghost use Rattle.std.specs.Prelude.{ℕ, ◌≡◌, ◌≤◌, MatchOption, codes, map, string_bytes};
 ghost use Rattle.std.specs.Fmt.{decimal};
+ghost use Rattle.wh_types.specs.Limits.{most_generated};
 ghost use Rattle.wh_words.specs.Answers.{Answers};
 ghost use Rattle.wh_words.specs.Asked.{bounds_of, request};
 ghost use Rattle.wh_words.specs.Kept.{AllWithin, SetsAll};
@@ -128,8 +129,8 @@ fn generate<'a>(kept: &Kept<'a>) -> Option<Command<'a>>
 
 // The generated system with the number that the word spells.
 fn generated(word: &str) -> Option<Command<'static>>
-    ensures { MatchOption result ((n : ℕ) → decimal n ≡ word.now → 1 ≤ n → n ≤ 200 → ⊥)
-        (λ command. (n : ℕ) × (request command ≡ gen n) × (decimal n ≡ word.now) × (1 ≤ n) × (n ≤ 200)) }
+    ensures { MatchOption result ((n : ℕ) → decimal n ≡ word.now → 1 ≤ n → n ≤ most_generated → ⊥)
+        (λ command. (n : ℕ) × (request command ≡ gen n) × (decimal n ≡ word.now) × (1 ≤ n) × (n ≤ most_generated)) }
 {
     let n = long_number(word)?;
     if 1 <= n && n <= 200 {

@@ -1,6 +1,7 @@
 use Rattle.std.proofs.Common.{sym, subst}
+use Rattle.wh_types.specs.Limits.{system_limit}
 use Rattle.wh_system.specs.SystemView.{system_data}
-use Rattle.wh_top.specs.Outcomes.{Shelves, Told, AreWithin, outside, system_limit}
+use Rattle.wh_top.specs.Outcomes.{Shelves, Told, AreWithin, outside}
 use Rattle.wh_top.proofs.Standing.{read_stands}
 use Rattle.wh_top.proofs.files.system_in.Goals as goal
 

@@ -1,0 +1,89 @@
+-- The limits, each in one place (ours).
+use Rattle.std.specs.Prelude.{ℕ, ◌^◌}
+
+-- a system file has at most so many bytes, and a certificate file
+abbrev pub system_limit : ℕ
+system_limit = 1048576
+
+abbrev pub certificate_limit : ℕ
+certificate_limit = 8388608
+
+-- what is read in one call has at most so many bytes
+abbrev pub most_bytes : ℕ
+most_bytes = 8388608
+
+-- a name has at most so many bytes
+abbrev pub longest_name : ℕ
+longest_name = 64
+
+-- numbers of variables, ranks and indices are at most this
+abbrev pub greatest_number : ℕ
+greatest_number = 65535
+
+-- in the text of a system terms and types nest at most so deep
+abbrev pub deepest_term : ℕ
+deepest_term = 400
+
+abbrev pub deepest_type : ℕ
+deepest_type = 16
+
+-- a system has at most so many sorts, symbols, rules and pairs
+abbrev pub most_sorts : ℕ
+most_sorts = 256
+
+abbrev pub most_symbols : ℕ
+most_symbols = 1024
+
+abbrev pub most_rules : ℕ
+most_rules = 1024
+
+abbrev pub most_pairs : ℕ
+most_pairs = 4096
+
+-- a rule has at most so many meta-variables
+abbrev pub most_metas : ℕ
+most_metas = 32
+
+-- a type in a system, a meta-variable and a spine have at most so many arguments
+abbrev pub most_arguments : ℕ
+most_arguments = 32
+
+-- a term that fits has at most this height and this size
+abbrev pub greatest_height : ℕ
+greatest_height = 200
+
+abbrev pub greatest_size : ℕ
+greatest_size = 65536
+
+-- in a certificate terms, types and polynomials nest at most so deep
+abbrev pub deepest_certificate_term : ℕ
+deepest_certificate_term = 200
+
+abbrev pub deepest_certificate_type : ℕ
+deepest_certificate_type = 18
+
+abbrev pub deepest_certificate_polynomial : ℕ
+deepest_certificate_polynomial = 64
+
+-- a type in a certificate has at most so many arguments
+abbrev pub most_certificate_arguments : ℕ
+most_certificate_arguments = 64
+
+-- coefficients and amounts are below this
+abbrev pub coefficient_end : ℕ
+coefficient_end = 2 ^ 128
+
+-- a normal polynomial that a check evaluates has at most this weight and nests at most so deep
+abbrev pub greatest_weight : ℕ
+greatest_weight = 65536
+
+abbrev pub deepest_value : ℕ
+deepest_value = 400
+
+-- the search for loops goes through terms of at most this size
+abbrev pub greatest_searched : ℕ
+greatest_searched = 2048
+
+-- a generated system has at most so many functions
+abbrev pub most_generated : ℕ
+most_generated = 200
