@@ -1,6 +1,6 @@
 //! Relations between sorts, as tables.
 
-ghost use Rattle.std.specs.Prelude.{◌≡◌, length};
+ghost use Rattle.std.specs.Prelude.{◌≡◌, ◌*◌, length};
 ghost use Rattle.wh_types.specs.Limits.{most_sorts};
 
 use std::alloc::{AllocError, Global};

@@ -1,5 +1,5 @@
 -- The limits of the format on polynomials (ours).
-use Rattle.std.specs.Prelude.{ℕ, suc, ◌^◌, ◌<◌, ◌≤◌}
+use Rattle.std.specs.Prelude.{ℕ, suc, ◌<◌, ◌≤◌}
 use Rattle.wh_types.specs.Limits.{greatest_number, deepest_certificate_polynomial, coefficient_end}
 use Rattle.wh_hopoly.specs.Polynomials.{Polynomial, zero_poly, plus, Factors, no_factors, times, Arguments, no_arguments, argument}
 

@@ -1,5 +1,5 @@
 -- Flows of units between the monomials of two polynomials, and how they change.
-use Rattle.std.specs.Prelude.{ℕ, ◌≡◌, ◌≢◌, ◌≤◌, ◌<◌, ◌+◌, ◌-◌, ◌^◌, List, [], ◌∷◌, length, map, slice_index, slice_index_or, slice_set, All, nat_lt}
+use Rattle.std.specs.Prelude.{ℕ, ◌≡◌, ◌≢◌, ◌≤◌, ◌<◌, ◌+◌, ◌-◌, List, [], ◌∷◌, length, map, slice_index, slice_index_or, slice_set, All, nat_lt}
 use Rattle.std.specs.List.{filter}
 use Rattle.wh_types.specs.Limits.{coefficient_end}
 use Rattle.wh_hopoly.specs.Polynomials.{Polynomial}

@@ -1,5 +1,5 @@
 -- Which digits begin a number or go on one, byte by byte.
-use Rattle.std.specs.Prelude.{ℕ, ◌+◌, ◌-◌, ◌*◌, ◌^◌, ◌&&◌, nat_lt, nat_le, Bool}
+use Rattle.std.specs.Prelude.{ℕ, ◌+◌, ◌-◌, ◌*◌, ◌&&◌, nat_lt, nat_le, Bool}
 use Rattle.wh_types.specs.Limits.{greatest_number, coefficient_end}
 use Rattle.wh_text.specs.Chars.{is_digit}
 

@@ -1,6 +1,6 @@
 //! Whether the last term holds an instance of the first one.
 
-ghost use Rattle.std.specs.Prelude.{◌≡◌, ◌↔◌, ◌≤◌, IsTrue, All, AllPairs};
+ghost use Rattle.std.specs.Prelude.{◌≡◌, ◌↔◌, ◌≤◌, ◌+◌, IsTrue, All, AllPairs};
 ghost use Rattle.wh_types.specs.Limits.{greatest_number};
 ghost use Rattle.wh_types.specs.Outcome.{MatchOr};
 ghost use Rattle.wh_terms.specs.Tree.{bound};

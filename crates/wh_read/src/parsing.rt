@@ -1,6 +1,6 @@
 //! Reading a system text: token by token, each from the place that those before it led to.
 
-ghost use Rattle.std.specs.Prelude.{◌≡◌, ◌≤◌, ◌↔◌, length, Some, None, IfOk, IsTrue};
+ghost use Rattle.std.specs.Prelude.{◌≡◌, ◌≤◌, ◌+◌, ◌↔◌, length, Some, None, IfOk, IsTrue};
 ghost use Rattle.wh_types.specs.Limits.{most_bytes};
 ghost use Rattle.wh_types.specs.Outcome.{IfBecause, MatchOr};
 ghost use Rattle.wh_text.specs.Erase.{kind_of, part, token as cut_token};

@@ -1,7 +1,7 @@
 //! Cutting a text into tokens, from the left: white space and comments are passed over, words and digits go on as long
 //! as they can, and the first byte that fits nothing ends the cutting.
 
-ghost use Rattle.std.specs.Prelude.{◌≡◌, ◌⊎◌, ◌<◌, ◌≤◌, ◌↔◌, ◌^◌, ℕ, List, IsTrue, length, slice_index, MatchOption, MatchResult, true};
+ghost use Rattle.std.specs.Prelude.{◌≡◌, ◌⊎◌, ◌<◌, ◌≤◌, ◌↔◌, ◌^◌, ◌+◌, ℕ, List, IsTrue, length, slice_index, MatchOption, MatchResult, true};
 ghost use Rattle.wh_types.specs.Outcome.{MatchOr};
 ghost use Rattle.wh_text.specs.Chars.{is_space, is_digit, is_start, is_part, is_comment, is_sign, AllPass};
 ghost use Rattle.wh_text.specs.Words.{IsKeyword, IsNumeral};
