@@ -1,19 +1,25 @@
 //! Laws of valid certificates, each the contract of a function that does nothing.
 
-ghost use Rattle.std.specs.Prelude.{◌≡◌, ◌⊎◌, List};
+ghost use Rattle.std.specs.Prelude.{◌≡◌, ◌⊎◌, ℕ, List};
 ghost use Rattle.wh_pairs.specs.PairData.{PairData};
 ghost use Rattle.wh_system.specs.Systems.{SystemData};
 ghost use Rattle.wh_system.specs.WellMade.{IsWellMadeSystem};
+ghost use Rattle.wh_pairs.specs.SystemPairs.{HasPairs};
 ghost use Rattle.wh_cert.specs.Limits.{IsCert};
-ghost use Rattle.wh_cert.specs.Written.{Cert};
+ghost use Rattle.wh_cert.specs.Written.{Cert, Node};
 ghost use Rattle.wh_covering.specs.CoveringFaults.{Limits, with_limits, without_limits};
+ghost use Rattle.wh_no.specs.Faults.{IsValidNo};
+ghost use Rattle.wh_checker.specs.Accepted.{AreBounded};
 ghost use Rattle.wh_checker.specs.Faults.{AreAlike, IsFirstFault};
 ghost use Rattle.wh_checker.specs.Named.{NamesAreThere};
 ghost use Rattle.wh_checker.specs.Small.{IsSmallCert};
-ghost use Rattle.wh_checker.specs.Valid.{IsValidCert};
+ghost use Rattle.wh_checker.specs.Valid.{IsValidCert, IsValidYes};
 ghost use Rattle.wh_checker.specs.declared.rejected.CheckFault.TheVariants.{Rejected as refusal};
 ghost use Rattle.wh_checker.specs.declared.rejected.CheckFault.{CheckFault};
 ghost use Rattle.wh_checker.specs.declared.rejected.Rejected.{Rejected};
+
+use wh_no::valid_claims_are_unbounded;
+use wh_step::bounded_or_unbounded;
 
 /// One fault at most is the first of a certificate, but that values may exceed both limits in one node.
 pub fn one_first_fault()
@@ -47,3 +53,19 @@ pub fn valid_or_at_fault()
     ensures { (d : SystemData) (ps : List PairData) (c : Cert) → IsWellMadeSystem d → IsCert c → IsValidCert d ps c
         ⊎ ((f : CheckFault) × IsFirstFault without_limits d ps c f) }
 {}
+
+/// Where a certificate of termination is valid, each well-typed term of the system has a longest reduction; also where values exceed
+/// limits, so that the check doesn't accept it (Kop 2012; Fuhs and Kop 2019).
+pub fn valid_certificates_mean_bounded()
+    ensures { (d : SystemData) (ps : List PairData) (ranks : List ℕ) (pairs : ℕ) (lines : List Node) → IsWellMadeSystem d
+        → HasPairs d ps → IsValidYes d ps ranks pairs lines → AreBounded d }
+{}
+
+/// No system has both a valid certificate of termination and a valid one of a loop.
+pub fn no_system_has_both()
+    ensures { (d : SystemData) (ps : List PairData) (ranks : List ℕ) (pairs : ℕ) (lines : List Node) (loop : Cert) → IsWellMadeSystem d
+        → HasPairs d ps → IsValidYes d ps ranks pairs lines → IsValidNo d loop → ⊥ }
+{
+    valid_claims_are_unbounded();
+    bounded_or_unbounded();
+}

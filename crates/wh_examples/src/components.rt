@@ -3,6 +3,7 @@
 
 ghost use Rattle.std.specs.Prelude.{◌<◌, All, IfOk, length};
 
+use crate::SYSTEM_LIMIT;
 use std::alloc::{AllocError, Global};
 use wh_graph::components;
 use wh_pairs::{PairList, PairSet, pairs};
@@ -18,7 +19,7 @@ pub fn add_count(alloc: Global, system: &Bytes, text: &mut Bytes) -> Result<(), 
 
 /// How many components the pairs of the system of a text have.
 fn count_components(alloc: Global, bytes: &[u8]) -> Result<usize, AllocError> {
-    if bytes.len() > 1_048_576 {
+    if bytes.len() as u64 > SYSTEM_LIMIT {
         return Err(AllocError);
     }
     let system = read_system(alloc, bytes).or(Err(AllocError))?;

@@ -16,7 +16,7 @@ use wh_io::{FileShelf, StdSink, read_whole, write_all_of};
 use wh_types::Bytes;
 
 /// How many bytes a system file may have.
-const SYSTEM_LIMIT: u64 = 1_048_576;
+pub const SYSTEM_LIMIT: u64 = 1_048_576;
 
 fn main(rt: HostRuntime) -> ExitCode {
     let Ok(text) = lines(&rt) else {

@@ -33,7 +33,7 @@ pub record AreReached (rules : List RewriteRule) (depth : ℕ) (list : List Arri
 abbrev pub HoldsNoInstance : SystemData → Arrival → Type 0
 HoldsNoInstance d a = (s : Tm) → IsStart d.rules a.start s → a.term ≢ s → HoldsInstanceOf d.symbols s a.term → ⊥
 
--- so many arrivals are listed, and none of them ends a loop (ours)
+-- so many arrivals are listed; each is a start itself, or holds no instance of its start (ours)
 pub record AreVisited (d : SystemData) (depth visited : ℕ) (list : List Arrival) : Type 0 where
   pub count : length list ≡ visited
   pub reached : AreReached d.rules depth list

@@ -24,6 +24,6 @@ pub enum LoopSearch {
     /// There is no loop of at most the given number of steps through terms that fit and are small, and all of these terms were
     /// looked at.
     Nothing,
-    /// As many terms were reached as may be, and none of them ends a loop.
+    /// As many terms were reached as may be; each is a start itself, or holds no instance of its start.
     Full(Visits),
 }

@@ -261,7 +261,7 @@ fn search(
 /// instance of its start (Kop 2012). At most `visited` terms are kept.
 ///
 /// `Found` is a certificate that the check accepts. `Nothing` comes only where there is no loop in this space, and fewer than `visited`
-/// terms are reached. `Full` shows `visited` terms that are reached, none of which ends a loop.
+/// terms are reached. `Full` shows `visited` terms that are reached; each is a start itself, or holds no instance of its start.
 pub fn find_loop(
     alloc: Global,
     system: &System,

@@ -19,7 +19,9 @@ use wh_system::System;
 /// A projection and the pairs that it lets go.
 #[derive(Drop)]
 pub struct ProjectionFound {
+    /// For each marked symbol of the set one of its arguments.
     pub args: Projection,
+    /// The pairs of the set that it lets go.
     pub drop: PairSet,
 }
 

@@ -35,7 +35,7 @@ IsFixed rules (variable i n) = Unit {0}
 IsFixed rules (symbol f n) = TooFew (need_of rules f) n
 
 -- a meta-term is rigid if it is an abstraction without arguments, or a spine headed by a bound variable, by a symbol
--- without rules or by a symbol with fewer arguments than its rules need (Fuhs and Kop 2019; the profile is ours)
+-- without rules or by a symbol with fewer arguments than its rules need (Fuhs and Kop 2019; the form is ours)
 abbrev pub Rigid : List RewriteRule → Tm → Type 0
 Rigid rules q = (r : Root) × (root q ≡ Some r) × IsFixed rules r
 

@@ -9,7 +9,9 @@ use wh_hopoly::{Atoms, Poly, Polys};
 /// A variable's value: the constant, and so many times the sum of its arguments, each taken where its own arguments are 0.
 #[derive(Clone, Copy)]
 pub struct Weight {
+    /// The constant.
     pub constant: u64,
+    /// How many times the sum of the arguments is taken.
     pub factor: u64,
 }
 

@@ -31,7 +31,7 @@ pub enum Weighing {
     Failing(usize),
 }
 
-/// The node of the guess, if under it moves cover every rule and every pair of the set, and some pair strictly; else the first
+/// The node of the guess, if under it moves cover every rule and every pair of the set, and some pair strictly; else a
 /// condition that fails. All pairs that are covered strictly are dropped.
 pub fn node_of_guess<'a>(
     alloc: Global,

@@ -19,7 +19,9 @@ use wh_terms::{Rule, Term, Terms};
 /// What is read on the two sides of a rule or a pair, each once and in order.
 #[derive(Drop)]
 pub struct Reading {
+    /// What is read on the left.
     pub left: Vec<usize>,
+    /// What is read on the right.
     pub right: Vec<usize>,
 }
 

@@ -29,7 +29,9 @@ use wh_system::System;
 /// How far a condition is from being met, and whether a pair is covered strictly.
 #[derive(Clone, Copy)]
 pub struct Outcome {
+    /// How many units stay without a cover; only a guide.
     pub wanting: u64,
+    /// Whether it is a pair that is covered strictly.
     pub strict: bool,
 }
 
@@ -138,8 +140,8 @@ fn is_greater(alloc: Global, left: &Poly, right: &Poly) -> Result<bool, AllocErr
     }
 }
 
-/// Whether the condition with that number fails under the guess: that of a rule, behind these that of a pair of the set, or last
-/// that some pair of the set is covered strictly. Of any other number nothing is said.
+/// Says `true` only where the condition with that number fails under the guess: that of a rule, behind these that of a pair of the set,
+/// or last that some pair of the set is covered strictly. Of any other number nothing is said.
 pub fn fails<'a>(
     alloc: Global,
     task: &Task<'a>,

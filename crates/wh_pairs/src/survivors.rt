@@ -5,6 +5,7 @@
 //! do not look at left sides, and these may be large.
 
 ghost use Rattle.std.specs.Prelude.{◌≡◌, ◌<◌, ◌≤◌, ◌++◌, ◌∷◌, [], ℕ, List, Contains, length, map, IfOk, OnOk, IsTrue, ◌↔◌};
+ghost use Rattle.wh_types.specs.Limits.{most_pairs};
 ghost use Rattle.wh_types.specs.Outcome.{MatchOr};
 ghost use Rattle.wh_types.specs.declared.want.Or.TheVariants.{Because};
 ghost use Rattle.wh_terms.specs.Erase.{tm, rewrite_rule};
@@ -111,9 +112,9 @@ fn add_pairs(list: &mut PairList, pairs: Vec<Pair>) -> Result<(), AllocError>
 pub fn pairs(alloc: Global, system: &System) -> Result<PairList, Or<TooManyPairs>>
     ensures { MatchOr result
         (λ list. ArePairs (candidates (system_data system.now).symbols (system_data system.now).rules) (pairs_data list)
-        × (length list ≤ 4096))
+        × (length list ≤ most_pairs))
         (λ _. (list : List PairData) × ArePairs (candidates (system_data system.now).symbols (system_data system.now).rules) list
-        × (4096 < length list)) }
+        × (most_pairs < length list)) }
 {
     let mut list = PairList::new(alloc)?;
     for (i, rule) in system.rules().iter().enumerate() {

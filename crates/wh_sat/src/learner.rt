@@ -18,10 +18,12 @@ pub struct Learner {
     guide: Guide,
 }
 
-/// What a search ends with: a truth value for each variable under which all clauses are true, that
-/// there is none, or as many clauses as there may be.
+/// What a search ends with.
 pub enum Next {
+    /// A truth value for each variable, under which all clauses are true.
     Model(Vec<bool>),
+    /// No values make all clauses true.
     Exhausted,
+    /// There are as many clauses as there may be.
     Spent,
 }

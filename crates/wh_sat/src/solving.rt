@@ -9,22 +9,27 @@ use crate::learner::{Learner, Next};
 use std::alloc::{AllocError, Global};
 use wh_sat_trail::{Clauses, Formula};
 
-/// A truth value for each variable under which all clauses are true, that there is none, or the clauses that
-/// were learnt, which are as many as may be.
+/// What a formula comes to.
 pub enum Outcome {
+    /// A truth value for each variable, under which all clauses are true.
     Sat(Vec<bool>),
+    /// No values make all clauses true.
     Unsat,
+    /// The clauses that were learnt, as many as may be.
     Spent(Clauses),
 }
 
-/// What a finder ends with: what it looked for, that there is none, or the clauses that were tried.
+/// What a finder ends with.
 pub enum Search<T> {
+    /// What it looked for.
     Found(T),
+    /// There is none.
     Nothing,
+    /// The clauses that it learnt or made, as many as may be.
     Spent(Clauses),
 }
 
-/// Solves a formula.
+/// Solves a formula. At most `budget` clauses are learnt; where none may be, the answer is `Spent`. The error is want of memory.
 pub fn solve(alloc: Global, formula: &Formula, budget: u64) -> Result<Outcome, AllocError>
     requires { Within formula.now.variables formula.now.clauses }
     ensures { IfOk result (IsOutcome formula.now.variables formula.now.clauses budget) }
@@ -40,7 +45,7 @@ pub fn solve(alloc: Global, formula: &Formula, budget: u64) -> Result<Outcome, A
     )
 }
 
-/// Solves a formula that is not needed any more.
+/// The same of a formula that is not needed any more.
 pub fn solve_owned(alloc: Global, formula: Formula, budget: u64) -> Result<Outcome, AllocError>
     requires { Within formula.variables formula.clauses }
     ensures { IfOk result (IsOutcome formula.variables formula.clauses budget) }

@@ -12,8 +12,11 @@ use crate::literal::Literal;
 
 /// What a clause says: nothing, that it is false, or that a literal has to be true.
 pub enum Look {
+    /// Nothing: a literal is true, or two have no value.
     Quiet,
+    /// All its literals are false.
     Refuted,
+    /// All but this one are false, which has no value.
     Forces(Literal),
 }
 

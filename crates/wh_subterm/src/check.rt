@@ -12,7 +12,7 @@ use crate::projection::{Choice, Projection, SubtermFault};
 use wh_pairs::{Pair, PairList, PairSet};
 use wh_system::System;
 
-/// Whether a projection lets the pairs in `drop` go from the set (the subterm criterion of Kop 2012, in the profile of this
+/// Whether a projection lets the pairs in `drop` go from the set (the subterm criterion of Kop 2012, in the form of this
 /// project).
 ///
 /// The choices must be for the marked symbols of the set: the symbols that head a side of one of its pairs, each once and in

@@ -9,16 +9,22 @@ pub const SHOW: &[&str] = &["show", "system"];
 /// What a run is given: its words, and the bytes of the files `system` and `certificate`.
 #[derive(Clone, Copy)]
 pub struct Given<'a> {
+    /// The words of the program.
     pub words: &'a [&'a str],
+    /// The bytes of the file `system`.
     pub system: &'a [u8],
+    /// The bytes of the file `certificate`.
     pub certificate: &'a [u8],
 }
 
 /// Which reads and which writes of a run fail, counted from 0, and how many bytes a write takes at most; none is as one.
 #[derive(Clone, Copy)]
 pub struct Faults<'a> {
+    /// The reads that fail.
     pub reads: &'a [u64],
+    /// The writes that fail.
     pub writes: &'a [u64],
+    /// How many bytes a write takes.
     pub piece: u64,
 }
 

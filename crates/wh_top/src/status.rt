@@ -23,7 +23,7 @@ pub enum Status {
     WriteFault,
     /// 6: there was no memory.
     NoMemory,
-    /// 7: a file is longer than its limit.
+    /// 7: a file, or the certificate that was found, is longer than its limit.
     TooLong,
     /// 8: a value passed a limit in the evaluation of a side.
     TooBig,
