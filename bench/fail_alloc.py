@@ -1,5 +1,5 @@
 #!/usr/bin/env python3
-"""Runs the program with one refused allocation a run, for each allocation in turn, and looks how each run ends.
+"""Runs the program with one refused allocation a run, for each in turn or for many of them, and looks how each run ends.
 
     bench/fail_alloc.py              # the program that ./wanda builds
     bench/fail_alloc.py PROGRAM      # another build of it

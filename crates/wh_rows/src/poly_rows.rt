@@ -3,7 +3,7 @@
 use std::alloc::{AllocError, Global};
 use std::test::Fail;
 use wh_samples::{IDENTITY, IDENTITY_CERTIFICATE, MAP, MAP_VALUES_CERTIFICATE, TWICE};
-use wh_telling::{checked, ends_with, told};
+use wh_telling::{answers, checked, ends_with};
 use wh_types::Bytes;
 
 /// Lines of `IDENTITY_CERTIFICATE`, what stands in their place, and what a check writes.
@@ -205,14 +205,14 @@ fn checks_changed(
     check_writes(alloc, system, changed.as_bytes(), text)
 }
 
-/// Whether a check of the certificate writes the text.
+/// Whether a check of the certificate writes the text, and ends with its status.
 fn check_writes(
     alloc: Global,
     system: &[u8],
     certificate: &[u8],
     text: &[u8],
 ) -> Result<bool, AllocError> {
-    Ok(told(alloc, checked(system, certificate))?.bytes() == text)
+    answers(alloc, checked(system, certificate), text)
 }
 
 /// Systems with certificates and their changes.

@@ -19,6 +19,10 @@ const OTHER_WORDS: &[&[&str]] = &[
     &["show"],
 ];
 
+/// Two functions that lead to each other.
+const FUNCTIONS: &[u8] =
+    b"sort o;fun a:o;fun f:o->o;fun g:o->o;rule {X:o} f X => g X;rule {X:o} g X => f X;";
+
 /// Systems with certificates, the exit status of a check, and what it writes.
 const JUDGED: &[(&[u8], &[u8], u8, &[u8])] = &[
     (LOOP, LOOP_CERTIFICATE, 0, b"NO\n"),
@@ -78,6 +82,18 @@ const JUDGED: &[(&[u8], &[u8], u8, &[u8])] = &[
     (
         UNDER_BINDER,
         b"NO 1\nterm (g %0:o)\nstep 0 /\nat /0\nend\n",
+        1,
+        b"REJECTED no-instance\n",
+    ),
+    (
+        FUNCTIONS,
+        b"NO 1\nterm (f a)\nstep 0 /\nstep 1 /\nat /\nend\n",
+        0,
+        b"NO\n",
+    ),
+    (
+        FUNCTIONS,
+        b"NO 1\nterm (f a)\nstep 0 /\nat /\nend\n",
         1,
         b"REJECTED no-instance\n",
     ),
@@ -186,6 +202,17 @@ fn refuses_other_words(rt: HostRuntime) -> Result<(), Fail> {
         };
         assert!(rt; writes(rt.alloc(), given, 2, b"BAD WORDS\n")?);
     }
+    Ok(())
+}
+
+#[test]
+fn checks_behind_the_end_of_options(rt: HostRuntime) -> Result<(), Fail> {
+    let given = Given {
+        words: &["check", "--", "system", "certificate"],
+        system: LOOP,
+        certificate: LOOP_CERTIFICATE,
+    };
+    assert!(rt; writes(rt.alloc(), given, 0, b"NO\n")?);
     Ok(())
 }
 

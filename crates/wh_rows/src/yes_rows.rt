@@ -6,7 +6,7 @@ use wh_samples::{
     DOUBLE, ETA, EVEN_ODD, FUNCTION_LIST, IDENTITY, ITERATION, LOOP, MAP, MAP_CERTIFICATE,
     NO_RULES, UNTYPED,
 };
-use wh_telling::{Faults, checked, ends_with, told, writes_before};
+use wh_telling::{Faults, answers, checked, ends_with, writes_before};
 
 /// Certificates for the empty system, and what a check writes.
 const EMPTY_ROWS: &[(&[u8], &[u8])] = &[(b"YES 1\nranks\npairs 0\ndone\nend\n", b"YES\n")];
@@ -239,11 +239,11 @@ const IDENTITY_ROWS: &[(&[u8], &[u8])] = &[
     ),
 ];
 
-/// Whether a check of each certificate for the system writes the text.
+/// Whether a check of each certificate for the system writes the text, and ends with its status.
 fn checks(alloc: Global, system: &[u8], rows: &[(&[u8], &[u8])]) -> Result<bool, AllocError> {
     let mut all = true;
     for (certificate, text) in rows {
-        all = all && told(alloc, checked(system, *certificate))?.bytes() == *text;
+        all = all && answers(alloc, checked(system, *certificate), *text)?;
     }
     Ok(all)
 }

@@ -68,6 +68,22 @@ pub fn writes(
     Ok(end.status == status && end.out.bytes() == text)
 }
 
+/// The status of a check that writes this line.
+fn status_of(line: &[u8]) -> u8 {
+    if line.starts_with(b"REJECTED ") {
+        1
+    } else if line.starts_with(b"OVERFLOW ") || line.starts_with(b"TOO LARGE ") {
+        8
+    } else {
+        0
+    }
+}
+
+/// Whether a check writes the line, and ends with the status that goes with it.
+pub fn answers(alloc: Global, given: Given<'_>, line: &[u8]) -> Result<bool, AllocError> {
+    writes(alloc, given, status_of(line), line)
+}
+
 /// Whether a run ends with the status, and what it writes begins with the text.
 pub fn writes_first(
     alloc: Global,
