@@ -5,17 +5,10 @@ use Rattle.wh_types.specs.Ty.{Ty}
 use Rattle.wh_hopoly.specs.Polynomials.{Polynomial, zero_poly, plus, Factors, compare_factors, MonomialBefore, Sorted, Normal}
 use Rattle.wh_hopoly.specs.Arithmetic.{by_order, add_monomial, sum_poly, scale, multiply}
 use Rattle.wh_hopoly.specs.Limits.{Overflows, TooLarge}
+use Rattle.wh_hopoly.specs.Rearranged.{only_if_equal, coefficient, Positive}
 use Rattle.wh_hopoly.proofs.OrderLaws.{factors_equal, factors_same, factors_reverse}
 use Rattle.wh_hopoly.proofs.SumLaws.{before_then, normal_sorted, normal_sum, normal_scale, normal_multiply}
 use Rattle.wh_hopoly.proofs.LimitLaws.{left_overflows, right_overflows, right_large}
-
--- c if the lists of factors compare as equal, and 0 otherwise
-abbrev only_if_equal : Ordering → ℕ → ℕ
-only_if_equal o c = by_order o 0 c 0
-
-abbrev pub coefficient : Factors → Polynomial → ℕ
-coefficient ws zero_poly = 0
-coefficient ws (plus c us p) = only_if_equal (compare_factors ws us) c + coefficient ws p
 
 pub two_parts : (o : Ordering) (c d n : ℕ) → only_if_equal o (c + d) + n ≡ only_if_equal o c + (only_if_equal o d + n)
 two_parts Less c d n = omega arith
@@ -39,11 +32,6 @@ coefficient_add ws c us (plus d vs q) = go (coefficient_add ws c us q) (compare_
 pub coefficient_sum : (ws : Factors) (p q : Polynomial) → coefficient ws (sum_poly p q) ≡ coefficient ws p + coefficient ws q
 coefficient_sum ws zero_poly q = omega arith
 coefficient_sum ws (plus c us p) q = let a = coefficient_add ws c us (sum_poly p q) in let b = coefficient_sum ws p q in omega (arith, a, b)
-
--- each coefficient is at least 1
-abbrev pub Positive : Polynomial → Type 0
-Positive zero_poly = Unit {0}
-Positive (plus c us p) = 1 ≤ c × Positive p
 
 normal_positive : (Γ : List Ty) (p : Polynomial) → Normal Γ p → Positive p
 normal_positive Γ zero_poly n = tt

@@ -18,8 +18,11 @@ pub mod PartLaws
 pub mod WeightLaws
 pub mod OrderedLaws
 pub mod JoinLaws
+pub mod JoinWalk
 pub mod TotalLaws
 pub mod ProductWalk
+pub mod RowLaws
+pub mod CommuteLaws
 pub mod RenumberLaws
 pub mod FaultLaws
 pub mod AddedLaws

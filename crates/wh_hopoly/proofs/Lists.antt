@@ -1,6 +1,6 @@
 -- What a value stands for, by its list of items.
-use Rattle.std.proofs.Common.{◌≡◌, List, refl, ap, ap₂, sym, ◌∙◌}
-use Rattle.wh_hopoly.specs.Polynomials.{plus, times, argument, compare_polynomials, compare_factors, compare_arguments}
+use Rattle.std.proofs.Common.{◌≡◌, ◌≤◌, List, [], ◌∷◌, length, arith, refl, ap, ap₂, sym, ◌∙◌}
+use Rattle.wh_hopoly.specs.Polynomials.{plus, times, no_arguments, argument, compare_polynomials, compare_factors, compare_arguments}
 use Rattle.wh_hopoly.specs.declared.polynomial.Poly.{Poly, is-Poly', out-Poly, Row_of-Monomial, end_of-Monomial, more_of-Monomial, items-the_row-Monomial, items_hidden-the_row-Monomial-1}
 use Rattle.wh_hopoly.specs.declared.polynomial.Monomial.{Monomial, Monomial', out-Monomial}
 use Rattle.wh_hopoly.specs.declared.polynomial.Atoms.{Atoms, is-Atoms', out-Atoms, Row_of-Atom, end_of-Atom, more_of-Atom, items-the_row-Atom, items_hidden-the_row-Atom-0}
@@ -41,3 +41,8 @@ atoms_by_lists us vs xs ys e k = ap₂ compare_factors (atoms_is us ∙ ap produ
 
 pub arguments_by_lists : (ps qs : Polys) (xs ys : List Poly) → xs ≡ list ps → ys ≡ list qs → compare_arguments (polys ps) (polys qs) ≡ compare_arguments (arguments_of xs) (arguments_of ys)
 arguments_by_lists ps qs xs ys e k = ap₂ compare_arguments (polys_is ps ∙ ap arguments_of (sym e)) (polys_is qs ∙ ap arguments_of (sym k))
+
+-- a list of arguments that is empty
+pub no_arguments_left : (ps : Polys) (xs : List Poly) → xs ≡ list ps → length xs ≤ 0 → polys ps ≡ no_arguments
+no_arguments_left ps [] e l = polys_is ps ∙ ap arguments_of (sym e)
+no_arguments_left ps (x ∷ xs) e l = absurd (omega (arith, l))

@@ -8,9 +8,10 @@ use Rattle.wh_hopoly.specs.Limits.{TooLarge}
 use Rattle.wh_hopoly.specs.Excesses.{ExceedsAs}
 use Rattle.wh_hopoly.specs.declared.excess.Excess.{Excess}
 use Rattle.wh_hopoly.specs.declared.excess.Excess.TheVariants as excess
+use Rattle.wh_hopoly.specs.Rearranged.{coefficient, Positive}
 use Rattle.wh_hopoly.proofs.SumLaws.{before_more, later, less_not, equal_not, one_product}
 use Rattle.wh_hopoly.proofs.LimitLaws.{left_overflows, right_overflows, right_large}
-use Rattle.wh_hopoly.proofs.CoefficientLaws.{coefficient, coefficient_sum, Positive, same_coefficients}
+use Rattle.wh_hopoly.proofs.CoefficientLaws.{coefficient_sum, same_coefficients}
 
 -- normal polynomials are in order
 normal_ordered_factors : (Γ : List Ty) (us : Factors) → NormalFactors Γ us → OrderedFactors us
@@ -25,7 +26,7 @@ pub ordered_sorted : (p : Polynomial) → Ordered p → Sorted p
 ordered_sorted zero_poly n = tt
 ordered_sorted (plus c us p) n = (n.2, ordered_sorted p n.3)
 
-ordered_positive : (p : Polynomial) → Ordered p → Positive p
+pub ordered_positive : (p : Polynomial) → Ordered p → Positive p
 ordered_positive zero_poly n = tt
 ordered_positive (plus c us p) n = (n.0, ordered_positive p n.3)
 

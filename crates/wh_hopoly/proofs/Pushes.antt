@@ -1,5 +1,5 @@
 -- A list that is built item by item keeps pace with the one that it follows.
-use Rattle.std.proofs.Common.{◌≡◌, ℕ, ◌+◌, ◌<◌, List, [], ◌∷◌, ◌++◌, refl, ap, ap₂, sym, ◌∙◌, length, take, get_or, add-one}
+use Rattle.std.proofs.Common.{◌≡◌, ℕ, ◌+◌, ◌<◌, List, [], ◌∷◌, ◌++◌, refl, ap, ap₂, sym, ◌∙◌, length, take, get_or, add-one, append_assoc}
 use Rattle.std.proofs.Math.Seq.{take-suc}
 use Rattle.wh_hopoly.specs.Polynomials.{zero_poly, plus, Factors, no_factors, times, Arguments, no_arguments, argument}
 use Rattle.wh_hopoly.specs.Arithmetic.{followed_by}
@@ -71,3 +71,15 @@ pub arguments_push : (out new xs : List Poly) (i : ℕ) (r p : Poly) → argumen
     → i < length xs → p ≡ get_or xs i p → arguments_of new ≡ arguments_of (take (i + 1) xs)
 arguments_push out new xs i r p same pushed ep h e = ap arguments_of pushed ∙ arguments_of_append out (r ∷ []) ∙ ap₂ arguments_followed_by same (ap (λ p. argument p no_arguments) ep)
     ∙ sym (arguments_one_more xs i p h e)
+
+-- copies at the end of a list
+pub product_copy : (old new : List Atom) (r u : Atom) → new ≡ old ++ r ∷ [] → (out-Atom r).head ≡ (out-Atom u).head → polys (out-Atom r).args ≡ polys (out-Atom u).args
+    → product_of new ≡ product_of (old ++ u ∷ [])
+product_copy old new r u pushed ex ep = ap product_of pushed ∙ product_of_append old (r ∷ []) ∙ ap (factors_followed_by (product_of old)) (ap₂ (λ x ps. times x ps no_factors) ex ep)
+    ∙ sym (product_of_append old (u ∷ []))
+
+pub product_copies : (start out new xs : List Atom) (i : ℕ) (u : Atom) → product_of out ≡ product_of (start ++ take i xs) → product_of new ≡ product_of (out ++ u ∷ [])
+    → i < length xs → u ≡ get_or xs i u → product_of new ≡ product_of (start ++ take (i + 1) xs)
+product_copies start out new xs i u same pushed h e =
+    pushed ∙ product_of_append out (u ∷ []) ∙ ap (λ us. factors_followed_by us (product_of (u ∷ []))) same ∙ sym (product_of_append (start ++ take i xs) (u ∷ []))
+    ∙ ap product_of (append_assoc start (take i xs) (u ∷ []) ∙ ap (λ ys. start ++ ys) (sym (one_more xs i u h e)))

@@ -1,7 +1,7 @@
 -- The steps of a replacement: sums, products, arguments and applications, one after another.
 use Rattle.std.proofs.Common.{append_assoc, append-nil, length-append, ◌≡◌, ℕ, zero, suc, ◌+◌, ◌^◌, ◌<◌, ◌≤◌, ◌==◌, inl, inr, List, [], ◌∷◌, ◌++◌, length, drop, get_or, refl, ap, ap₂, sym, subst, ◌∙◌, arith, true, false, if◌then◌else◌}
 use Rattle.std.specs.Prelude.{Contains}
-use Rattle.std.proofs.lemmas.List.Elements.{Contains-append_right, Contains-append_cases}
+use Rattle.std.proofs.lemmas.List.Elements.{Contains-append_left, Contains-append_right, Contains-append_cases}
 use mathlib.Core.Path.{subst₂}
 use Rattle.wh_types.specs.Ty.{Ty, sort, ◌⇒◌, arguments}
 use Rattle.wh_hopoly.specs.Polynomials.{HasType, Polynomial, zero_poly, plus, Factors, no_factors, times, Arguments, no_arguments, argument, Normal, NormalFactors, NormalArguments, HasNormalArguments}
@@ -9,7 +9,7 @@ use Rattle.wh_hopoly.specs.Arithmetic.{sum_poly, multiply, constant, atom}
 use Rattle.wh_hopoly.specs.Evaluation.{Run, one, next, without, down, type_at, widened, replace, replace_factors, replace_arguments, applied, pure}
 use Rattle.wh_hopoly.specs.Limits.{Exceeds}
 use Rattle.wh_hopoly.specs.Excesses.{ExceedsAs}
-use Rattle.wh_hopoly.specs.Replacements.{head_by, replace_factor, apply_at, NormalFor, Replaces}
+use Rattle.wh_hopoly.specs.Replacements.{head_by, replace_factor, product_with, apply_at, NormalFor, Replaces}
 use Rattle.wh_hopoly.specs.Totals.{total, HasOrderedParts}
 use Rattle.wh_hopoly.specs.Erase.{poly, atoms, polys, sum_of, product_of, arguments_of}
 use Rattle.wh_hopoly.specs.declared.excess.Excess.{Excess}
@@ -268,6 +268,19 @@ module _ (head : List Ty → Arguments → Run Polynomial) (v : ℕ) (Γ Δ : Li
       (fault_right ((factor_of u).values ++ p ∷ []) _ x
       (multiply p (factor_of u).result, product_is_there head v Γ (multiply p (factor_of u).result) (product_of (drop (i + 1) us)), subst (λ q. ExceedsAs x (multiply p q)) k h)))
 
+  -- both of them as one step
+  pub multiplying_goes_on : (us : List Atom) (p r : Polynomial) (i : ℕ) (u : Atom) → Multiplying head v Γ Δ c us p i → i < length us → u ≡ get_or us i u
+      → Normal Δ (factor_of u).result → ComesTo (product_with p (factor_of u)) r → (Exceeds r → ⊥) → Multiplying head v Γ Δ c us r (i + 1)
+  multiplying_goes_on us p r i u g l e n (s, within) f =
+      multiplying_steps us p (factor_of u).result r i u g l e (refl, λ w c h. within w (Contains-append_left (factor_of u).values (multiply p (factor_of u).result ∷ []) w c) h) n (s, f)
+
+  pub factor_or_product_fault : (us : List Atom) (p : Polynomial) (i : ℕ) (u : Atom) (x : Excess) → Multiplying head v Γ Δ c us p i → i < length us → u ≡ get_or us i u
+      → PassesLimit (product_with p (factor_of u)) x → PassesLimit (replace_factors head v Γ (constant c) (product_of us)) x
+  factor_or_product_fault us p i u x g l e (w, d, h) = elim (Contains-append_cases (factor_of u).values (multiply p (factor_of u).result ∷ []) w d) [
+    | inl d ↦ factor_fault us p i u x g l e (w, d, h)
+    | inr d ↦ product_fault us p (factor_of u).result i u x g l e refl (subst (ExceedsAs x) (sym (contains_one (multiply p (factor_of u).result) w d)) h)
+  ]
+
   pub multiplying_ends : (us : List Atom) (p : Polynomial) (i : ℕ) → Multiplying head v Γ Δ c us p i → length us ≤ i
       → (p ≡ (replace_factors head v Γ (constant c) (product_of us)).result) × Within (replace_factors head v Γ (constant c) (product_of us)).values
   multiplying_ends us p i g l =
@@ -484,3 +497,49 @@ module _ (A : Ty) (n : ℕ) (g : Polynomial) (Γ Δ : List Ty) (r : Replaces A n
 
     pub atom_fault : (y : Excess) → ExceedsAs y p → PassesLimit (replace_factor (head_by A n g) n Γ x ps) y
     atom_fault y h = subst (λ ws. (w : Polynomial) × Contains ws w × ExceedsAs y w) (sym atom_values) (fault_right passed.values (p ∷ []) y (p, first_is_there p [], h))
+
+-- a factor without arguments
+pub alone_is : (ps : Arguments) (us : List Poly) → ps ≡ arguments_of us → length us ≤ 0 → ps ≡ no_arguments
+alone_is ps [] e l = e
+alone_is ps (u ∷ us) e l = absurd (omega (arith, l))
+
+applied_to_none : (A : Ty) (Γ : List Ty) (g : Polynomial) → applied A Γ g no_arguments ≡ one g
+applied_to_none (sort s) Γ g = refl
+applied_to_none (A ⇒ B) Γ g = refl
+
+pub variable_alone : (head : List Ty → Arguments → Run Polynomial) (n : ℕ) (Γ : List Ty) (x : ℕ) (ps : Arguments) → ps ≡ no_arguments → (x ≡ n → ⊥)
+    → replace_factor head n Γ x ps ≡ one (atom (down n x) no_arguments)
+variable_alone head n Γ x ps e d =
+    ap (replace_factor head n Γ x) e
+    ∙ (let b : (x == n) ≡ false = grind (arith, d) in ap (λ b. if b then head (without n Γ) no_arguments else one (atom (down n x) no_arguments)) b)
+
+pub value_alone : (A : Ty) (n : ℕ) (g : Polynomial) (Γ Δ : List Ty) (x : ℕ) (ps : Arguments) → Replaces A n g Γ Δ → ps ≡ no_arguments → x ≡ n
+    → replace_factor (head_by A n g) n Γ x ps ≡ one (widened n Δ g)
+value_alone A n g Γ Δ x ps r e d =
+    ap (replace_factor (head_by A n g) n Γ x) e
+    ∙ (let b : (x == n) ≡ true = grind (arith, d) in ap (λ b. if b then head_by A n g (without n Γ) no_arguments else one (atom (down n x) no_arguments)) b)
+    ∙ applied_to_none A (without n Γ) (widened n (without n Γ) g) ∙ ap (λ Θ. one (widened n Θ g)) (without_it A n g Γ Δ r)
+
+-- and a product with it
+pub product_comes : (run : Run Polynomial) (p q r : Polynomial) → ComesTo run q → (r ≡ multiply p q) → (Exceeds r → ⊥) → ComesTo (product_with p run) r
+product_comes run p q r (e, w) k f =
+    let s : r ≡ multiply p run.result = k ∙ ap (multiply p) e in
+    (s, within_both run.values (multiply p run.result ∷ []) w (within_one (multiply p run.result) (subst (λ r. Exceeds r → ⊥) s f)))
+
+pub product_passes : (run : Run Polynomial) (p q : Polynomial) (x : Excess) → q ≡ run.result → ExceedsAs x (multiply p q) → PassesLimit (product_with p run) x
+product_passes run p q x e h = fault_right run.values (multiply p run.result ∷ []) x (multiply p run.result, first_is_there (multiply p run.result) [], subst (λ q. ExceedsAs x (multiply p q)) e h)
+
+pub factor_passes : (run : Run Polynomial) (p : Polynomial) (x : Excess) → PassesLimit run x → PassesLimit (product_with p run) x
+factor_passes run p x f = fault_left run.values (multiply p run.result ∷ []) x f
+
+pub one_comes : (q : Polynomial) → (Exceeds q → ⊥) → ComesTo (one q) q
+one_comes q f = (refl, within_one q f)
+
+pub one_passes : (q : Polynomial) (x : Excess) → ExceedsAs x q → PassesLimit (one q) x
+one_passes q x h = (q, first_is_there q [], h)
+
+pub variable_within : (x : ℕ) → Exceeds (atom x no_arguments) → ⊥
+variable_within x (inl (inl h)) = omega (arith, h)
+variable_within x (inl (inr h)) = h
+variable_within x (inr (inl h)) = omega (arith, h)
+variable_within x (inr (inr h)) = omega (arith, h)

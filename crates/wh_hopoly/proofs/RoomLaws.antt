@@ -1,5 +1,5 @@
 -- What a product that grows may still take in.
-use Rattle.std.proofs.Common.{◌≡◌, ℕ, ◌+◌, ◌*◌, ◌<◌, ◌≤◌, ◌^◌, inl, inr, List, [], ◌∷◌, ◌++◌, length, take, get_or, refl, ap, ap₂, sym, subst, ◌∙◌, arith, one-mul, mul-one, mul-le-mul, mul_comm, div-mul-le_self, le_refl, ◌/◌}
+use Rattle.std.proofs.Common.{◌≡◌, ℕ, ◌+◌, ◌-◌, ◌*◌, ◌<◌, ◌≤◌, ◌^◌, inl, inr, List, [], ◌∷◌, ◌++◌, length, take, get_or, refl, ap, ap₂, sym, subst, ◌∙◌, arith, one-mul, mul-one, mul-le-mul, mul_comm, div-mul-le_self, le_refl, ◌/◌}
 use Rattle.std.specs.Prelude.{Some, Result, Err}
 use Rattle.wh_types.specs.Outcome.{IfBecause}
 use Rattle.wh_types.specs.declared.want.Or.{Or}
@@ -7,20 +7,21 @@ use Rattle.wh_types.specs.declared.want.Or.TheVariants.{Because}
 use Rattle.wh_hopoly.specs.Excesses.{ExceedsAs}
 use Rattle.wh_hopoly.specs.declared.excess.Excess.{Excess}
 use Rattle.wh_hopoly.specs.declared.excess.Excess.TheVariants as excess
-use Rattle.wh_hopoly.specs.Polynomials.{Polynomial, zero_poly, plus, Factors, no_factors, OrderedFactors, Ordered}
-use Rattle.wh_hopoly.specs.Arithmetic.{join_factors, multiply, constant, followed_by}
+use Rattle.wh_hopoly.specs.Polynomials.{Polynomial, zero_poly, plus, Factors, no_factors, times, no_arguments, OrderedFactors, Ordered}
+use Rattle.wh_hopoly.specs.Arithmetic.{join_factors, multiply, constant, atom, followed_by}
 use Rattle.wh_hopoly.specs.Limits.{weight, weight_of_factors, nesting, nesting_of_factors, Exceeds}
 use Rattle.wh_hopoly.specs.Merges.{joined}
 use Rattle.wh_hopoly.specs.Growing.{grown, first_value, HasRoom, LeavesRoom, HasCoefficientsUpTo, monomial_count}
-use Rattle.wh_hopoly.specs.Erase.{poly, atoms, factors, monomials, sum_of}
+use Rattle.wh_hopoly.specs.Erase.{poly, atoms, polys, factors, monomials, sum_of, product_of}
 use Rattle.wh_hopoly.specs.declared.growing.Growing.{Growing}
 use Rattle.wh_hopoly.specs.declared.polynomial.Atoms.{Atoms}
 use Rattle.wh_hopoly.specs.declared.polynomial.Poly.{Poly}
 use Rattle.wh_hopoly.specs.declared.polynomial.Monomial.{Monomial, out-Monomial}
+use Rattle.wh_hopoly.specs.declared.polynomial.Atom.{Atom, out-Atom}
 use Rattle.wh_hopoly.proofs.Lists.{poly_is, atoms_is}
 use Rattle.wh_hopoly.proofs.Pushes.{sum_one_more}
 use Rattle.wh_hopoly.proofs.SumLaws.{one_product}
-use Rattle.wh_hopoly.proofs.GrowingLaws.{joined_append, joined_same, joined_ordered, weight_joins, nesting_joins}
+use Rattle.wh_hopoly.proofs.GrowingLaws.{joined_append, joined_by, joined_same, joined_ordered, weight_joins, nesting_joins}
 use Rattle.wh_hopoly.proofs.ScaleLaws.{one, multiply_twice, multiply_by_one, one_multiplied, up_to_multiply, up_to_fits, light_multiply, shallow_multiply}
 
 room_within : (p : Polynomial) (g c : ℕ) (us : Factors) (left : ℕ) → OrderedFactors us → LeavesRoom p g c us left → Exceeds (multiply p (one c us)) → ⊥
@@ -35,12 +36,12 @@ room_within p g c us left n h (inr (inr o)) = let l = shallow_multiply p c us in
 pub room_is_within : (g : Growing) → HasRoom g → Exceeds (grown g) → ⊥
 room_is_within g h e = room_within (first_value g.first) g.greatest g.coefficient (joined (factors g.factors)) g.left (joined_ordered (factors g.factors)) h e
 
--- one more monomial
-pub taken_in : (p : Polynomial) (greatest c d e left rest : ℕ) (us vs new : Atoms) → LeavesRoom p greatest c (joined (factors us)) left → 1 ≤ d → OrderedFactors (atoms vs) → factors new ≡ factors us ++ factors vs
-    → e ≡ c * d → greatest * e < 2 ^ 128 → weight_of_factors (atoms vs) + rest ≡ left → nesting_of_factors (atoms vs) ≤ 400
-    → (multiply p (one e (joined (factors new))) ≡ multiply (multiply p (one c (joined (factors us)))) (one d (atoms vs))) × LeavesRoom p greatest e (joined (factors new)) rest
-taken_in p greatest c d e left rest us vs new h l o f k b w n = (
-  ap₂ (λ c us. multiply p (one c us)) k all ∙ sym (multiply_twice p c d (joined (factors us)) (atoms vs) h.ordered h.positive l (joined_ordered (factors us)) o),
+-- one more monomial, with the factors vs
+taken_in_as : (p : Polynomial) (greatest c d e left rest : ℕ) (us new : List Atom) (vs : Factors) → LeavesRoom p greatest c (joined us) left → 1 ≤ d → OrderedFactors vs → joined new ≡ join_factors (joined us) vs
+    → e ≡ c * d → greatest * e < 2 ^ 128 → weight_of_factors vs + rest ≡ left → nesting_of_factors vs ≤ 400
+    → (multiply p (one e (joined new)) ≡ multiply (multiply p (one c (joined us))) (one d vs)) × LeavesRoom p greatest e (joined new) rest
+taken_in_as p greatest c d e left rest us new vs h l o all k b w n = (
+  ap₂ (λ c us. multiply p (one c us)) k all ∙ sym (multiply_twice p c d (joined us) vs h.ordered h.positive l (joined_ordered us) o),
   record {
     ordered = h.ordered;
     positive = subst (λ n. 1 ≤ n) (sym k) (one_product c d h.positive l);
@@ -48,16 +49,27 @@ taken_in p greatest c d e left rest us vs new h l o f k b w n = (
     fitting = b;
     light = subst (λ n. weight p + monomial_count p * n ≤ 65536) (sym heavier) h.light;
     first_shallow = h.first_shallow;
-    shallow = (let z = ap nesting_of_factors all in let y = nesting_joins (joined (factors us)) (atoms vs) in let m = h.shallow in omega (arith, z, y, n, m));
+    shallow = (let z = ap nesting_of_factors all in let y = nesting_joins (joined us) vs in let m = h.shallow in omega (arith, z, y, n, m));
   },
 )
   where
-    all : joined (factors new) ≡ join_factors (joined (factors us)) (atoms vs)
-    all = ap joined f ∙ joined_append (factors us) (factors vs)
-        ∙ ap (join_factors (joined (factors us))) (joined_same (factors vs) (subst OrderedFactors (atoms_is vs) o) ∙ sym (atoms_is vs))
+    heavier : weight_of_factors (joined new) + rest ≡ weight_of_factors (joined us) + left
+    heavier = let z = ap weight_of_factors all in let y = weight_joins (joined us) vs in omega (arith, z, y, w)
 
-    heavier : weight_of_factors (joined (factors new)) + rest ≡ weight_of_factors (joined (factors us)) + left
-    heavier = let z = ap weight_of_factors all in let y = weight_joins (joined (factors us)) (atoms vs) in omega (arith, z, y, w)
+pub taken_in : (p : Polynomial) (greatest c d e left rest : ℕ) (us vs new : Atoms) → LeavesRoom p greatest c (joined (factors us)) left → 1 ≤ d → OrderedFactors (atoms vs)
+    → product_of (factors new) ≡ product_of (factors us ++ factors vs)
+    → e ≡ c * d → greatest * e < 2 ^ 128 → weight_of_factors (atoms vs) + rest ≡ left → nesting_of_factors (atoms vs) ≤ 400
+    → (multiply p (one e (joined (factors new))) ≡ multiply (multiply p (one c (joined (factors us)))) (one d (atoms vs))) × LeavesRoom p greatest e (joined (factors new)) rest
+taken_in p greatest c d e left rest us vs new h l o f k b w n = taken_in_as p greatest c d e left rest (factors us) (factors new) (atoms vs) h l o
+    (joined_by (factors new) (factors us ++ factors vs) f ∙ joined_append (factors us) (factors vs)
+    ∙ ap (join_factors (joined (factors us))) (joined_same (factors vs) (subst OrderedFactors (atoms_is vs) o) ∙ sym (atoms_is vs))) k b w n
+
+-- one more variable without arguments
+pub variable_taken_in : (p : Polynomial) (greatest c left x : ℕ) (us new : List Atom) (u : Atom) → LeavesRoom p greatest c (joined us) left → 1 ≤ left → new ≡ us ++ u ∷ []
+    → (out-Atom u).head ≡ x → polys (out-Atom u).args ≡ no_arguments
+    → (multiply p (one c (joined new)) ≡ multiply (multiply p (one c (joined us))) (atom x no_arguments)) × LeavesRoom p greatest c (joined new) (left - 1)
+variable_taken_in p greatest c left x us new u h l f ex ep = taken_in_as p greatest c 1 c left (left - 1) us new (times x no_arguments no_factors) h (omega arith) (tt, tt)
+    (ap joined f ∙ joined_append us (u ∷ []) ∙ ap (join_factors (joined us)) (ap₂ (λ x ps. times x ps no_factors) ex ep)) (sym (mul-one c)) h.fitting (omega (arith, l)) (omega arith)
 
 -- no monomial yet
 pub begins : (p : Polynomial) (greatest left : ℕ) (us : List _) → Ordered p → (Exceeds p → ⊥) → HasCoefficientsUpTo greatest p → greatest < 2 ^ 128 → weight p + monomial_count p * left ≤ 65536 → us ≡ []

@@ -5,10 +5,11 @@ use Rattle.wh_hopoly.specs.Polynomials.{Polynomial, zero_poly, plus, Factors, no
 use Rattle.wh_hopoly.specs.Arithmetic.{by_order, add_monomial, join_factor, join_factors, multiply, constant}
 use Rattle.wh_hopoly.specs.Limits.{weight, weight_of_factors, nesting, nesting_of_factors, Overflows}
 use Rattle.wh_hopoly.specs.Growing.{HasCoefficientsUpTo, monomial_count}
+use Rattle.wh_hopoly.specs.Rearranged.{coefficient}
 use Rattle.wh_hopoly.proofs.OrderLaws.{then_equal, factors_equal, factors_same}
 use Rattle.wh_hopoly.proofs.SumLaws.{add_front, before_then, one_product}
 use Rattle.wh_hopoly.proofs.JoinLaws.{join_front}
-use Rattle.wh_hopoly.proofs.CoefficientLaws.{coefficient, coefficient_add, two_parts}
+use Rattle.wh_hopoly.proofs.CoefficientLaws.{coefficient_add, two_parts}
 use Rattle.wh_hopoly.proofs.OrderedLaws.{ordered_add, ordered_joins, ordered_multiply, ordered_sorted, equal_ordered}
 use Rattle.wh_hopoly.proofs.GrowingLaws.{join_commutes, join_out, weight_joins, nesting_joins}
 
@@ -28,7 +29,7 @@ join_in : (x : ℕ) (ps : Arguments) (us vs : Factors) → join_factors us (join
 join_in x ps no_factors vs = refl
 join_in x ps (times y qs us) vs = ap (join_factor y qs) (join_in x ps us vs) ∙ join_commutes y qs x ps (join_factors us vs)
 
-joins_commute : (ws us : Factors) → OrderedFactors ws → OrderedFactors us → join_factors ws us ≡ join_factors us ws
+pub joins_commute : (ws us : Factors) → OrderedFactors ws → OrderedFactors us → join_factors ws us ≡ join_factors us ws
 joins_commute no_factors us n m = sym (joins_none us m)
 joins_commute (times x ps ws) us n m = ap (join_factor x ps) (joins_commute ws us n.1 m) ∙ sym (join_in x ps us ws) ∙ ap (join_factors us) (join_front x ps ws n.0)
 

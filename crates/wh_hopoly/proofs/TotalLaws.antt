@@ -76,7 +76,7 @@ pub carried_is_whole : (whole p : Polynomial) (parts : List Poly) → Carrying w
 carried_is_whole whole p [] g l = sym (g.same ∙ sum_zero p g.value_ordered)
 carried_is_whole whole p (q ∷ parts) g l = absurd (omega (arith, l))
 
-pub zero_is_within : (p : Poly) → monomials p ≡ [] → Exceeds (poly p) → ⊥
+zero_is_within : (p : Poly) → monomials p ≡ [] → Exceeds (poly p) → ⊥
 zero_is_within p e h = no_excess (subst Exceeds (poly_is p ∙ ap sum_of e) h)
   where
     no_excess : Exceeds zero_poly → ⊥
@@ -84,9 +84,25 @@ zero_is_within p e h = no_excess (subst Exceeds (poly_is p ∙ ap sum_of e) h)
     no_excess (inr (inl l)) = omega (arith, l)
     no_excess (inr (inr l)) = omega (arith, l)
 
-pub finishing_starts : (p : Poly) (parts : List Poly) → monomials p ≡ [] → AllOrdered parts → Carrying (sum_of_parts zero_poly parts) (poly p) parts
-finishing_starts p parts e m =
-    subst (λ q. Carrying (sum_of_parts zero_poly parts) q parts) (sym (poly_is p ∙ ap sum_of e)) (record { same = refl; value_ordered = tt; parts_ordered = m })
+pub nothing_added : (p : Poly) (parts : List Poly) → monomials p ≡ [] → length parts ≤ 0 → (poly p ≡ sum_of_parts zero_poly parts) × (Exceeds (poly p) → ⊥)
+nothing_added p [] e l = (poly_is p ∙ ap sum_of e, zero_is_within p e)
+nothing_added p (q ∷ parts) e l = absurd (omega (arith, l))
+
+-- the last part is where the sum begins
+pub finishing_starts : (parts rest : List Poly) (last value : Poly) → parts ≡ rest ++ last ∷ [] → AllOrdered parts → poly value ≡ poly last → Carrying (sum_of_parts zero_poly parts) (poly value) rest
+finishing_starts parts rest last value e m k =
+    let n = all_but_last rest last (subst AllOrdered e m) in
+    record {
+      same = ap (sum_of_parts zero_poly) e ∙ parts_append zero_poly rest last ∙ ap (λ p. sum_poly p (sum_of_parts zero_poly rest)) (sym k);
+      value_ordered = subst Ordered (sym k) n.1;
+      parts_ordered = n.0;
+    }
+
+pub last_alone_exceeds : (x : Excess) (parts rest : List Poly) (last : Poly) → parts ≡ rest ++ last ∷ [] → AllOrdered parts → ExceedsAs x (poly last) → ExceedsAs x (sum_of_parts zero_poly parts)
+last_alone_exceeds x parts rest last e m h =
+    let n = all_but_last rest last (subst AllOrdered e m) in
+    subst (ExceedsAs x) (sym (ap (sum_of_parts zero_poly) e ∙ parts_append zero_poly rest last))
+    (exceeds_left x (poly last) (sum_of_parts zero_poly rest) n.1 (total_ordered rest n.0) h)
 
 pub last_taken : (p : Polynomial) (old new : List Poly) (part r : Poly) → old ≡ new ++ part ∷ [] → Ordered p → AllOrdered old → poly r ≡ sum_poly p (poly part) → (Exceeds (poly r) → ⊥)
     → (sum_poly p (sum_of_parts zero_poly old) ≡ sum_poly (poly r) (sum_of_parts zero_poly new)) × Ordered (poly r) × AllOrdered new × ((Exceeds p → ⊥) → Exceeds (poly r) → ⊥) × (length new ≡ length old - 1)

@@ -1,5 +1,5 @@
 -- One step of a walk over the items of a polynomial, of its factors or of its arguments, and a walk over two of them.
-use Rattle.std.proofs.Common.{◌≡◌, ℕ, zero, suc, ◌+◌, ◌<◌, ◌≤◌, List, [], ◌∷◌, length, drop, get_or, refl, ap, ap₂, sym, ◌∙◌, arith, true, Ordering, Less, Equal, Greater, nat_cmp}
+use Rattle.std.proofs.Common.{◌≡◌, ℕ, zero, suc, ◌+◌, ◌<◌, ◌≤◌, List, [], ◌∷◌, length, drop, get_or, refl, ap, ap₂, sym, ◌∙◌, arith, true, false, Ordering, Less, Equal, Greater, nat_cmp}
 use Rattle.std.specs.Ordering.{ordering_then, is_ne}
 use Rattle.std.proofs.Math.Seq.{drop-cons}
 use Rattle.std.proofs.Math.ListN.{drop_of_length-le}
@@ -40,6 +40,11 @@ pub decided : (o u v : Ordering) → o ≡ u → is_ne o ≡ true → ordering_t
 decided Less u v e n = ap (λ w. ordering_then w v) (sym e)
 decided Equal u v e n = grind arith
 decided Greater u v e n = ap (λ w. ordering_then w v) (sym e)
+
+pub undecided : (o u v : Ordering) → o ≡ u → is_ne o ≡ false → ordering_then u v ≡ v
+undecided Less u v e n = grind arith
+undecided Equal u v e n = ap (λ w. ordering_then w v) (sym e)
+undecided Greater u v e n = grind arith
 
 then_assoc : (o u v : Ordering) → ordering_then o (ordering_then u v) ≡ ordering_then (ordering_then o u) v
 then_assoc Less u v = refl

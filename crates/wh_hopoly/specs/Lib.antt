@@ -9,6 +9,7 @@ pub mod Erase
 pub mod Excesses
 pub mod Outcomes
 pub mod Merges
+pub mod Rearranged
 pub mod Totals
 pub mod Growing
 pub mod Added

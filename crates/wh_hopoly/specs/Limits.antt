@@ -1,5 +1,5 @@
 -- The limits on values: coefficients of 128 bits, a weight of 65,536, and arguments nested 400 deep.
-use Rattle.std.specs.Prelude.{ℕ, ◌+◌, ◌≤◌, ◌<◌, ◌^◌, ◌⊎◌, max}
+use Rattle.std.specs.Prelude.{ℕ, ◌+◌, ◌≤◌, ◌<◌, ◌⊎◌, max}
 use Rattle.wh_types.specs.Limits.{coefficient_end, greatest_weight, deepest_value}
 use Rattle.wh_hopoly.specs.Polynomials.{Polynomial, zero_poly, plus, Factors, no_factors, times, Arguments, no_arguments, argument}
 

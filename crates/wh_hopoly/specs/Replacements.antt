@@ -1,9 +1,11 @@
 -- What stands for a variable that is replaced, and the scopes before and after.
-use Rattle.std.specs.Prelude.{ℕ, ◌==◌, ◌≡◌, List, ◌∷◌, ◌++◌, length, if◌then◌else◌}
+use Rattle.std.specs.Prelude.{ℕ, ◌==◌, ◌≡◌, List, ◌∷◌, ◌++◌, length, if◌then◌else◌, Option, None, Some}
 use Rattle.wh_types.specs.Ty.{Ty, sort, ◌⇒◌, arguments}
 use Rattle.wh_types.specs.Erase.{ty}
 use Rattle.wh_hopoly.specs.Polynomials.{Polynomial, Arguments, Normal}
-use Rattle.wh_hopoly.specs.Arithmetic.{atom}
+use Rattle.wh_hopoly.specs.Arithmetic.{atom, multiply}
+use Rattle.wh_hopoly.specs.Limits.{Exceeds}
+use Rattle.wh_hopoly.specs.declared.polynomial.Poly.{Poly}
 use Rattle.wh_hopoly.specs.Evaluation.{Run, one, next, type_at, down, without, widened, applied, apply_one, replace_arguments}
 use Rattle.wh_hopoly.specs.Scopes.{scope_of}
 use Rattle.wh_hopoly.specs.Erase.{poly}
@@ -49,3 +51,16 @@ apply_at (A ⇒ B) Γ g p = apply_one A B Γ g p
 abbrev pub NormalFor : List Ty → Ty → Polynomial → Type 0
 NormalFor Γ (sort s) p = ⊥
 NormalFor Γ (A ⇒ B) p = Normal (Γ ++ arguments A) p
+
+-- the product p times the value of a run (ours)
+abbrev pub product_with : Polynomial → Run Polynomial → Run Polynomial
+product_with p run = next run (λ a. one (multiply p a))
+
+-- the value that stands for the variable, in the scope without it (ours)
+abbrev pub value_at : Replacement → Place → Polynomial
+value_at r place = widened r.variable (scope_of place.outer) (poly r.value.now)
+
+-- what is kept, if anything, is that value, and it is within the limits (ours)
+abbrev pub Keeps : Option Poly → Replacement → Place → Type 0
+Keeps None r place = Unit {0}
+Keeps (Some p) r place = (poly p ≡ value_at r place) × (Exceeds (poly p) → ⊥)

@@ -2,9 +2,10 @@
 
 ghost use Rattle.std.specs.Prelude.{◌≡◌};
 ghost use Rattle.wh_hopoly.specs.Erase.{poly, atoms, polys};
-ghost use Rattle.wh_hopoly.specs.Polynomials.{compare_polynomials, compare_factors, compare_arguments};
+ghost use Rattle.wh_hopoly.specs.Polynomials.{compare_polynomials, compare_factors, compare_factor, compare_arguments};
+ghost use Rattle.wh_hopoly.specs.declared.polynomial.Atom.{out-Atom};
 
-use crate::polynomial::{Atoms, Poly, Polys};
+use crate::polynomial::{Atom, Atoms, Poly, Polys};
 use std::cmp::Ordering;
 
 /// The order of two polynomials: by their monomials, one by its factors, then by its coefficient.
@@ -41,11 +42,9 @@ pub fn order_factors(a: &Atoms, b: &Atoms) -> Ordering
         if i == others.len() {
             return Ordering::Greater;
         }
-        let other = &others[i];
-        let first = order_arguments(&item.args, &other.args);
-        let both = item.head.cmp(&other.head).then(first);
-        if both.is_ne() {
-            return both;
+        let first = order_factor(item, &others[i]);
+        if first.is_ne() {
+            return first;
         }
     }
     if items.len() < others.len() {
@@ -53,6 +52,21 @@ pub fn order_factors(a: &Atoms, b: &Atoms) -> Ordering
     } else {
         Ordering::Equal
     }
+}
+
+/// The order of two factors alone. The arguments are looked at only where the numbers agree.
+#[cycle(order)]
+pub fn order_factor(a: &Atom, b: &Atom) -> Ordering
+    ensures { result ≡ compare_factor (out-Atom a.now).head (polys (out-Atom a.now).args) (out-Atom b.now).head (polys (out-Atom b.now).args) }
+{
+    let heads = a.head.cmp(&b.head);
+    if heads.is_ne() {
+        return heads;
+    }
+    if a.args.as_slice().is_empty() && b.args.as_slice().is_empty() {
+        return Ordering::Equal;
+    }
+    order_arguments(&a.args, &b.args)
 }
 
 /// The order of two lists of arguments, from left to right.

@@ -2,23 +2,25 @@
 //! monomials before it in any order, and what they may still weigh is counted; they are put in order once, and multiplied in once. So
 //! what stands before a long row of factors is not copied, compared or weighed anew for each of them.
 
-ghost use Rattle.std.specs.Prelude.{◌≡◌, ◌++◌, ◌+◌, ◌*◌, ◌≤◌, ◌<◌, IfOk, OnOk, IfSome, MatchResult};
+ghost use Rattle.std.specs.Prelude.{◌≡◌, ◌+◌, ◌*◌, ◌≤◌, ◌<◌, IfOk, IfSome};
 ghost use Rattle.wh_types.specs.Limits.{greatest_weight};
 ghost use Rattle.wh_types.specs.Outcome.{IfBecause};
-ghost use Rattle.wh_hopoly.specs.Erase.{poly, atoms, factors, factors as factors_of};
-ghost use Rattle.wh_hopoly.specs.Polynomials.{Ordered, plus, zero_poly};
-ghost use Rattle.wh_hopoly.specs.Arithmetic.{constant, multiply};
+ghost use Rattle.wh_hopoly.specs.Erase.{poly, atoms, polys, factors as factors_of};
+ghost use Rattle.wh_hopoly.specs.Polynomials.{Ordered, plus, zero_poly, no_arguments};
+ghost use Rattle.wh_hopoly.specs.Arithmetic.{constant, multiply, atom};
 ghost use Rattle.wh_hopoly.specs.Limits.{weight, Exceeds};
 ghost use Rattle.wh_hopoly.specs.Excesses.{ExceedsAs};
 ghost use Rattle.wh_hopoly.specs.Merges.{joined};
 ghost use Rattle.wh_hopoly.specs.Growing.{grown, HasRoom, TakesIn, HasCoefficientsUpTo, monomial_count};
 ghost use Rattle.wh_hopoly.specs.declared.polynomial.Monomial.{out-Monomial};
 
+use crate::copying::push_copies;
 use crate::excess::Excess;
-use crate::joining::sorted;
+use crate::joining::in_order;
 use crate::limits::{MAX_NESTING, MAX_WEIGHT, fits};
-use crate::polynomial::{Atoms, Monomial, Poly};
+use crate::polynomial::{Atom, Atoms, Monomial, Poly, Polys};
 use crate::products::product;
+use crate::variables::one_factor;
 use crate::weighing::{weigh, weigh_factors};
 use std::alloc::{AllocError, Global};
 use wh_types::Or;
@@ -61,17 +63,36 @@ pub fn start(alloc: Global, coefficient: u128) -> Result<Growing, AllocError>
 }
 
 /// The product with one more value; a fault only where it exceeds a limit.
-pub fn multiplied(alloc: Global, so_far: Growing, value: Poly) -> Result<Growing, Or<Excess>>
+pub fn multiplied(alloc: Global, so_far: Growing, value: &Poly) -> Result<Growing, Or<Excess>>
     requires room { HasRoom so_far }
     requires left { Ordered (grown so_far) }
-    requires right { Ordered (poly value) }
-    ensures ok { IfOk result (λ r. (grown r ≡ multiply (grown so_far) (poly value)) × HasRoom r) }
-    ensures fault { IfBecause result (λ e. ExceedsAs e (multiply (grown so_far) (poly value))) }
+    requires right { Ordered (poly value.now) }
+    ensures ok { IfOk result (λ r. (grown r ≡ multiply (grown so_far) (poly value.now)) × HasRoom r) }
+    ensures fault { IfBecause result (λ e. ExceedsAs e (multiply (grown so_far) (poly value.now))) }
 {
-    match only_monomial(value) {
-        Ok(item) => with_monomial(alloc, so_far, item),
-        Err(value) => with_value(alloc, so_far, &value),
+    let items = value.as_slice();
+    if items.len() == 1 {
+        let item = &items[0];
+        if let Some(room) = room_for(&so_far, item) {
+            return Ok(extended(alloc, so_far, item, room)?);
+        }
     }
+    with_value(alloc, so_far, value)
+}
+
+/// The product with one more variable, which has no arguments; a fault only where it exceeds a limit.
+pub fn with_variable(alloc: Global, so_far: Growing, head: u32) -> Result<Growing, Or<Excess>>
+    requires room { HasRoom so_far }
+    requires left { Ordered (grown so_far) }
+    ensures ok { IfOk result (λ r. (grown r ≡ multiply (grown so_far) (atom head no_arguments)) × HasRoom r) }
+    ensures fault { IfBecause result (λ e. ExceedsAs e (multiply (grown so_far) (atom head no_arguments))) }
+{
+    let args = Polys::new(alloc)?;
+    if so_far.left == 0 {
+        let value = one_factor(alloc, head, args)?;
+        return with_value(alloc, so_far, &value);
+    }
+    Ok(lengthened(so_far, head, args)?)
 }
 
 /// The product.
@@ -99,39 +120,6 @@ pub fn finish(alloc: Global, so_far: Growing) -> Result<Poly, AllocError>
     }
 }
 
-// The monomial, if there is one and no other, and else the value again.
-fn only_monomial(value: Poly) -> Result<Monomial, Poly>
-    ensures { MatchResult result (λ m. poly value ≡ plus (out-Monomial m).coefficient (atoms (out-Monomial m).atoms) zero_poly)
-        (λ p. poly p ≡ poly value) }
-{
-    if value.as_slice().len() != 1 {
-        return Err(value);
-    }
-    match value.into_queue().pop_front() {
-        Some(item) => Ok(item),
-        None => unreachable!(),
-    }
-}
-
-// The product with one more monomial.
-fn with_monomial(alloc: Global, so_far: Growing, item: Monomial) -> Result<Growing, Or<Excess>>
-    requires room { HasRoom so_far }
-    requires left { Ordered (grown so_far) }
-    requires right { Ordered (plus (out-Monomial item).coefficient (atoms (out-Monomial item).atoms) zero_poly) }
-    ensures ok { IfOk result (λ r. (grown r ≡ multiply (grown so_far)
-        (plus (out-Monomial item).coefficient (atoms (out-Monomial item).atoms) zero_poly)) × HasRoom r) }
-    ensures fault { IfBecause result (λ e. ExceedsAs e
-        (multiply (grown so_far) (plus (out-Monomial item).coefficient (atoms (out-Monomial item).atoms) zero_poly))) }
-{
-    match room_for(&so_far, &item) {
-        Some(room) => Ok(extended(so_far, item, room)?),
-        None => {
-            let value = alone(alloc, item)?;
-            with_value(alloc, so_far, &value)
-        }
-    }
-}
-
 // What becomes of the monomial with one more, if the product then surely stays within the limits.
 fn room_for(so_far: &Growing, item: &Monomial) -> Option<Room>
     ensures { IfSome result (TakesIn so_far.now item.now) }
@@ -143,12 +131,17 @@ fn room_for(so_far: &Growing, item: &Monomial) -> Option<Room>
 }
 
 // The monomial takes in one more.
-fn extended(so_far: Growing, item: Monomial, room: Room) -> Result<Growing, AllocError>
+fn extended(
+    alloc: Global,
+    so_far: Growing,
+    item: &Monomial,
+    room: Room,
+) -> Result<Growing, AllocError>
     requires room { HasRoom so_far }
-    requires right { Ordered (plus (out-Monomial item).coefficient (atoms (out-Monomial item).atoms) zero_poly) }
-    requires takes { TakesIn so_far item room }
+    requires right { Ordered (plus (out-Monomial item.now).coefficient (atoms (out-Monomial item.now).atoms) zero_poly) }
+    requires takes { TakesIn so_far item.now room }
     ensures { IfOk result (λ r. (grown r ≡ multiply (grown so_far)
-        (plus (out-Monomial item).coefficient (atoms (out-Monomial item).atoms) zero_poly)) × HasRoom r) }
+        (plus (out-Monomial item.now).coefficient (atoms (out-Monomial item.now).atoms) zero_poly)) × HasRoom r) }
 {
     let Growing {
         first,
@@ -156,9 +149,8 @@ fn extended(so_far: Growing, item: Monomial, room: Room) -> Result<Growing, Allo
         factors,
         ..
     } = so_far;
-    let Monomial { atoms, .. } = item;
     let mut all = factors;
-    append(&mut all, atoms)?;
+    push_copies(alloc, &mut all, item.atoms.as_slice())?;
     Ok(Growing {
         first,
         greatest,
@@ -168,15 +160,29 @@ fn extended(so_far: Growing, item: Monomial, room: Room) -> Result<Growing, Allo
     })
 }
 
-// The factors join at the end.
-fn append(us: &mut Atoms, vs: Atoms) -> Result<(), AllocError>
-    ensures { OnOk result (factors us.new ≡ factors us.old ++ factors vs) }
+// The monomial takes in one more factor, a variable without arguments.
+fn lengthened(so_far: Growing, head: u32, args: Polys) -> Result<Growing, AllocError>
+    requires room { HasRoom so_far }
+    requires some { 1 ≤ so_far.left }
+    requires alone { polys args ≡ no_arguments }
+    ensures { IfOk result (λ r. (grown r ≡ multiply (grown so_far) (atom head no_arguments)) × HasRoom r) }
 {
-    let mut rest = vs.into_queue();
-    while let Some(item) = rest.pop_front() {
-        us.push(item)?;
-    }
-    Ok(())
+    let Growing {
+        first,
+        greatest,
+        coefficient,
+        factors,
+        left,
+    } = so_far;
+    let mut all = factors;
+    all.push(Atom { head, args })?;
+    Ok(Growing {
+        first,
+        greatest,
+        coefficient,
+        factors: all,
+        left: left - 1,
+    })
 }
 
 // The product with one more value, multiplied out.
@@ -241,19 +247,8 @@ fn left_behind(p: &Poly) -> u32
 fn single(alloc: Global, coefficient: u128, factors: Atoms) -> Result<Poly, AllocError>
     ensures { IfOk result (λ r. poly r ≡ plus coefficient (joined (factors_of factors)) zero_poly) }
 {
-    let count = factors.as_slice().len();
-    let mut items = factors.into_queue();
-    let atoms = sorted(alloc, &mut items, count)?;
+    let atoms = in_order(alloc, factors)?;
     let mut value = Poly::new(alloc)?;
     value.push(Monomial { coefficient, atoms })?;
-    Ok(value)
-}
-
-// A monomial as a polynomial.
-fn alone(alloc: Global, item: Monomial) -> Result<Poly, AllocError>
-    ensures { IfOk result (λ r. poly r ≡ plus (out-Monomial item).coefficient (atoms (out-Monomial item).atoms) zero_poly) }
-{
-    let mut value = Poly::new(alloc)?;
-    value.push(item)?;
     Ok(value)
 }

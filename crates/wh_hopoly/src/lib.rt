@@ -19,6 +19,7 @@ mod polynomial;
 mod products;
 mod renumbering;
 mod replacing;
+mod scaling;
 mod scope;
 mod sums;
 mod table;

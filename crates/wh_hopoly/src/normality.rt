@@ -7,7 +7,7 @@ ghost use Rattle.wh_hopoly.specs.Scopes.{scope_of};
 ghost use Rattle.wh_hopoly.specs.Polynomials.{MonomialBefore, FactorBefore, Normal, NormalFactors, NormalArguments, HasNormalArguments};
 ghost use Rattle.wh_hopoly.specs.declared.polynomial.Atom.{out-Atom};
 
-use crate::comparing::{order_arguments, order_factors};
+use crate::comparing::{order_factor, order_factors};
 use crate::polynomial::{Atom, Atoms, Monomial, Poly, Polys};
 use crate::scope::{Scope, find};
 use wh_types::SimpleType;
@@ -80,8 +80,8 @@ fn are_normal_arguments<'a>(args: &Polys, kind: &'a SimpleType, scope: &'a Scope
     matches!(here, SimpleType::Sort(_))
 }
 
-// Whether the factors stand before those of the first monomial, if there is one.
-fn stands_before(us: &Atoms, rest: &[Monomial]) -> bool
+/// Whether the factors stand before those of the first monomial, if there is one.
+pub fn stands_before(us: &Atoms, rest: &[Monomial]) -> bool
     ensures { IsTrue result ↔ MonomialBefore (atoms us.now) (sum_of rest.now) }
 {
     match rest.first() {
@@ -90,16 +90,12 @@ fn stands_before(us: &Atoms, rest: &[Monomial]) -> bool
     }
 }
 
-// Whether the factor does not stand after the first one of the rest.
-fn stands_not_after(atom: &Atom, rest: &[Atom]) -> bool
+/// Whether the factor does not stand after the first one of the rest.
+pub fn stands_not_after(atom: &Atom, rest: &[Atom]) -> bool
     ensures { IsTrue result ↔ FactorBefore (out-Atom atom.now).head (polys (out-Atom atom.now).args) (product_of rest.now) }
 {
     match rest.first() {
-        Some(next) => atom
-            .head
-            .cmp(&next.head)
-            .then(order_arguments(&atom.args, &next.args))
-            .is_le(),
+        Some(next) => order_factor(atom, next).is_le(),
         None => true,
     }
 }

@@ -58,6 +58,15 @@ impl Poly {
         })
     }
 
+    /// The same, with room for so many monomials.
+    pub fn with_capacity(alloc: Global, count: usize) -> Result<Poly, AllocError>
+        ensures { IfOk result (λ made. monomials made ≡ []) }
+    {
+        Ok(Poly {
+            items: Vec::with_capacity(alloc, count)?,
+        })
+    }
+
     /// The monomial joins at the end; without memory the polynomial stays as it was.
     pub fn push(&mut self, item: Monomial) -> Result<(), AllocError>
         ensures ok { OnOk result (monomials self.new ≡ monomials self.old ++ item ∷ []) }
@@ -92,6 +101,15 @@ impl Atoms {
     {
         Ok(Atoms {
             items: Vec::new(alloc),
+        })
+    }
+
+    /// The same, with room for so many factors.
+    pub fn with_capacity(alloc: Global, count: usize) -> Result<Atoms, AllocError>
+        ensures { IfOk result (λ made. factors made ≡ []) }
+    {
+        Ok(Atoms {
+            items: Vec::with_capacity(alloc, count)?,
         })
     }
 

@@ -12,7 +12,7 @@ use std::alloc::{AllocError, Global};
 pub fn raise(alloc: Global, p: &Poly, from: u32, by: u32) -> Result<Poly, AllocError>
     ensures { IfOk result (λ r. poly r ≡ renumber (raised from by) (poly p.now)) }
 {
-    let mut copies = Poly::new(alloc)?;
+    let mut copies = Poly::with_capacity(alloc, p.as_slice().len())?;
     for item in p.as_slice() {
         let atoms = raise_factors(alloc, &item.atoms, from, by)?;
         copies.push(Monomial {
@@ -28,7 +28,7 @@ pub fn raise(alloc: Global, p: &Poly, from: u32, by: u32) -> Result<Poly, AllocE
 pub fn raise_factors(alloc: Global, us: &Atoms, from: u32, by: u32) -> Result<Atoms, AllocError>
     ensures { IfOk result (λ r. atoms r ≡ renumber_factors (raised from by) (atoms us.now)) }
 {
-    let mut copies = Atoms::new(alloc)?;
+    let mut copies = Atoms::with_capacity(alloc, us.as_slice().len())?;
     for item in us.as_slice() {
         let head = raise_number(item.head, from, by)?;
         let args = raise_arguments(alloc, &item.args, from, by)?;

@@ -4,21 +4,24 @@
 //! The main function is `apply_one`, of one value applied to another. The variables that it replaces are the first ones that a type
 //! adds to a scope, so the scope without the variable is a chain of frames too.
 
-ghost use Rattle.std.specs.Prelude.{◌≡◌, ◌≢◌, ◌≤◌, ◌++◌, length, IfOk};
+ghost use Rattle.std.specs.Prelude.{◌≡◌, ◌≢◌, ◌≤◌, ◌++◌, length, IfOk, OnOk};
 ghost use Rattle.wh_types.specs.Erase.{ty};
 ghost use Rattle.wh_types.specs.Ty.{arguments};
 ghost use Rattle.wh_types.specs.Outcome.{IfBecause};
 ghost use Rattle.wh_hopoly.specs.Erase.{poly, atoms, polys};
 ghost use Rattle.wh_hopoly.specs.Scopes.{scope_of};
-ghost use Rattle.wh_hopoly.specs.Polynomials.{zero_poly, Normal, NormalFactors, NormalArguments, HasNormalArguments};
+ghost use Rattle.wh_hopoly.specs.Polynomials.{zero_poly, Ordered, Normal, NormalFactors, NormalArguments, HasNormalArguments};
 ghost use Rattle.wh_hopoly.specs.Arithmetic.{constant};
 ghost use Rattle.wh_hopoly.specs.Evaluation.{down, applied as applied_run, replace as replace_run, replace_factors as factors_run, replace_arguments as arguments_run};
-ghost use Rattle.wh_hopoly.specs.Replacements.{head_of, replace_factor as factor_run, apply_at, NormalFor, Fits};
+ghost use Rattle.wh_hopoly.specs.Replacements.{head_of, replace_factor as factor_run, product_with, apply_at, NormalFor, Fits, value_at, Keeps};
+ghost use Rattle.wh_hopoly.specs.Growing.{grown, HasRoom};
+ghost use Rattle.wh_hopoly.specs.Limits.{Exceeds};
+ghost use Rattle.wh_hopoly.specs.Excesses.{ExceedsAs};
 ghost use Rattle.wh_hopoly.specs.Outcomes.{ComesTo, ComesToArguments, PassesLimit};
 ghost use Rattle.wh_hopoly.specs.declared.polynomial.Atom.{out-Atom};
 
 use crate::excess::Excess;
-use crate::growing::{finish, multiplied, start};
+use crate::growing::{Growing, finish, multiplied, start, with_variable};
 use crate::limits::tested;
 use crate::polynomial::{Atom, Atoms, Poly, Polys};
 use crate::renumbering::raise;
@@ -100,23 +103,33 @@ fn replace<'a>(
         (replace_run (head_of replacement.now) replacement.now.variable (scope_of place.now.inner) zero_poly (poly p.now)) e) }
 {
     let mut total = Total::new(alloc);
+    let mut raised = None;
     for item in p.as_slice() {
-        let value = replace_factors(alloc, replacement, place, item.coefficient, &item.atoms)?;
+        let value = replace_factors(
+            alloc,
+            replacement,
+            place,
+            &mut raised,
+            item.coefficient,
+            &item.atoms,
+        )?;
         total.add(alloc, value)?;
     }
     total.finish(alloc)
 }
 
-// The product of the coefficient and the factors, each replaced.
+// The product of the coefficient and the factors, each replaced. The value of a variable of a sort is raised once, and kept.
 #[cycle(replace)]
 fn replace_factors<'a>(
     alloc: Global,
     replacement: &'a Replacement<'a>,
     place: &'a Place<'a>,
+    raised: &mut Option<Poly>,
     coefficient: u128,
     us: &Atoms,
 ) -> Result<Poly, Or<Excess>>
     requires fits { Fits replacement.now place.now }
+    requires kept { Keeps raised.old replacement.now place.now }
     requires positive { 1 ≤ coefficient }
     requires normal { NormalFactors (scope_of place.now.inner) (atoms us.now) }
     ensures ok { IfOk result (λ r. ComesTo (factors_run (head_of replacement.now) replacement.now.variable (scope_of place.now.inner)
@@ -124,13 +137,73 @@ fn replace_factors<'a>(
     ensures fault { IfBecause result (λ e. PassesLimit
         (factors_run (head_of replacement.now) replacement.now.variable (scope_of place.now.inner) (constant coefficient) (atoms us.now))
         e) }
+    ensures kept { OnOk result (Keeps raised.new replacement.now place.now) }
 {
     let mut so_far = start(alloc, coefficient)?;
     for item in us.as_slice() {
-        let factor = replace_factor(alloc, replacement, place, item)?;
-        so_far = multiplied(alloc, so_far, factor)?;
+        so_far = with_factor(alloc, replacement, place, raised, so_far, item)?;
     }
     Ok(finish(alloc, so_far)?)
+}
+
+// The product with one more factor, which is replaced.
+#[cycle(replace)]
+fn with_factor<'a>(
+    alloc: Global,
+    replacement: &'a Replacement<'a>,
+    place: &'a Place<'a>,
+    raised: &mut Option<Poly>,
+    so_far: Growing,
+    item: &Atom,
+) -> Result<Growing, Or<Excess>>
+    requires fits { Fits replacement.now place.now }
+    requires kept { Keeps raised.old replacement.now place.now }
+    requires room { HasRoom so_far }
+    requires left { Ordered (grown so_far) }
+    requires normal { HasNormalArguments (scope_of place.now.inner) (out-Atom item.now).head (polys (out-Atom item.now).args) }
+    ensures ok { IfOk result (λ r. ComesTo (product_with (grown so_far) (factor_run (head_of replacement.now) replacement.now.variable
+        (scope_of place.now.inner) (out-Atom item.now).head (polys (out-Atom item.now).args))) (grown r) × HasRoom r) }
+    ensures kept { OnOk result (Keeps raised.new replacement.now place.now) }
+    ensures fault { IfBecause result (λ e. PassesLimit (product_with (grown so_far) (factor_run (head_of replacement.now)
+        replacement.now.variable (scope_of place.now.inner) (out-Atom item.now).head (polys (out-Atom item.now).args))) e) }
+{
+    if !item.args.as_slice().is_empty() {
+        let factor = replace_factor(alloc, replacement, place, item)?;
+        return multiplied(alloc, so_far, &factor);
+    }
+    if item.head != replacement.variable {
+        return with_variable(alloc, so_far, lowered(item.head, replacement.variable));
+    }
+    // Without arguments nothing is replaced in the value.
+    let value = raised_value(alloc, replacement, place, raised.take())?;
+    let product = multiplied(alloc, so_far, &value)?;
+    *raised = Some(value);
+    Ok(product)
+}
+
+// The value in the scope without the variable: the one that is kept, if there is one.
+fn raised_value<'a>(
+    alloc: Global,
+    replacement: &'a Replacement<'a>,
+    place: &'a Place<'a>,
+    kept: Option<Poly>,
+) -> Result<Poly, Or<Excess>>
+    requires fits { Fits replacement.now place.now }
+    requires kept { Keeps kept replacement.now place.now }
+    ensures ok { IfOk result (λ r. (poly r ≡ value_at replacement.now place.now) × (Exceeds (poly r) → ⊥)) }
+    ensures fault { IfBecause result (λ e. ExceedsAs e (value_at replacement.now place.now)) }
+{
+    if let Some(value) = kept {
+        return Ok(value);
+    }
+    // The scope without the variable has one less.
+    let count = place.count - 1;
+    tested(raise(
+        alloc,
+        replacement.value,
+        replacement.variable,
+        count - replacement.variable,
+    )?)
 }
 
 // A factor with its arguments replaced, which is applied to them if it is the variable.

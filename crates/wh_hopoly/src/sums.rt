@@ -33,7 +33,8 @@ fn merge(alloc: Global, a: Poly, b: Poly) -> Result<Poly, Or<Excess>>
     ensures ok { IfOk result (λ r. poly r ≡ sum_poly (poly a) (poly b)) }
     ensures fault { IfBecause result (λ e. ExceedsAs e (sum_poly (poly a) (poly b))) }
 {
-    let mut out = Poly::new(alloc)?;
+    let count = a.as_slice().len().saturating_add(b.as_slice().len());
+    let mut out = Poly::with_capacity(alloc, count)?;
     let mut xs = a.into_queue();
     let mut ys = b.into_queue();
     while let Some(item) = next_of_sum(&mut xs, &mut ys)? {

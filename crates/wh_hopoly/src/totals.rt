@@ -9,6 +9,7 @@ ghost use Rattle.wh_hopoly.specs.Limits.{Exceeds};
 ghost use Rattle.wh_hopoly.specs.Excesses.{ExceedsAs};
 
 use crate::excess::Excess;
+use crate::limits::tested;
 use crate::polynomial::Poly;
 use crate::sums::sum;
 use std::alloc::Global;
@@ -61,7 +62,10 @@ impl Total {
         ensures fault { IfBecause result (λ e. ExceedsAs e (total self)) }
     {
         let mut rest = self;
-        let mut value = Poly::new(alloc)?;
+        let Some(last) = rest.parts.pop() else {
+            return Ok(Poly::new(alloc)?);
+        };
+        let mut value = tested(last)?;
         while !rest.parts.is_empty() {
             value = rest.add_last(alloc, value)?;
         }

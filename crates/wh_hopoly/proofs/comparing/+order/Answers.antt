@@ -1,9 +1,11 @@
 -- Each return is what is left to compare at its place.
 use Rattle.std.proofs.Common.{rules, ◌<◌, ◌≤◌, ap₂, sym, ◌∙◌, arith, length}
 use Rattle.std.specs.Ordering.{ordering_then}
-use Rattle.wh_hopoly.proofs.Lists.{polys_by_lists, atoms_by_lists, arguments_by_lists}
+use Rattle.wh_hopoly.specs.Polynomials.{compare_arguments}
+use Rattle.wh_hopoly.specs.declared.polynomial.Atom.{out-Atom}
+use Rattle.wh_hopoly.proofs.Lists.{no_arguments_left, polys_by_lists, atoms_by_lists, arguments_by_lists}
 use Rattle.wh_hopoly.proofs.Sizes.{smaller_factors, smaller_arguments, smaller_poly}
-use Rattle.wh_hopoly.proofs.Walks.{decided, sums_at, products_at, arguments_at, sums_end_right, products_end_right, arguments_end_right, sums_end_left, products_end_left, arguments_end_left, sums_end, products_end, arguments_end}
+use Rattle.wh_hopoly.proofs.Walks.{decided, undecided, sums_at, products_at, arguments_at, sums_end_right, products_end_right, arguments_end_right, sums_end_left, products_end_left, arguments_end_left, sums_end, products_end, arguments_end}
 use Rattle.wh_hopoly.proofs.comparing.+order.Goals as goal
 
 pub order-returns-then-i-others : goal.order-returns-then-i-others
@@ -34,15 +36,15 @@ order_factors-returns-then-i-others t c = let past : length c.as_slice-others.re
     sym (atoms_by_lists c.args.a.now c.args.b.now c.as_slice-items.result.now c.as_slice-others.result.now c.as_slice-items.ensures c.as_slice-others.ensures ∙ c.loop-i.invariant.same
     ∙ products_end_right c.as_slice-items.result.now c.as_slice-others.result.now c.loop-i.i c.index-items-i.result c.loop-i-test.true past c.index-items-i.is)
 
-pub order_factors-order_arguments-first-requires : goal.order_factors-order_arguments-first-requires
-order_factors-order_arguments-first-requires t c =
+pub order_factors-order_factor-first-requires : goal.order_factors-order_factor-first-requires
+order_factors-order_factor-first-requires t c =
     (omega (arith, smaller_arguments c.args.a.now c.as_slice-items.result.now c.loop-i.i c.index-items-i.result c.as_slice-items.ensures c.loop-i-test.true c.index-items-i.is), tt)
 
 pub order_factors-returns-then-is_ne : goal.order_factors-returns-then-is_ne
 order_factors-returns-then-is_ne t c = let within : c.loop-i.i < length c.as_slice-others.result.now = search rules in
     sym (atoms_by_lists c.args.a.now c.args.b.now c.as_slice-items.result.now c.as_slice-others.result.now c.as_slice-items.ensures c.as_slice-others.ensures ∙ c.loop-i.invariant.same
     ∙ products_at c.as_slice-items.result.now c.as_slice-others.result.now c.loop-i.i c.index-items-i.result c.index-others-i.result c.loop-i-test.true within c.index-items-i.is c.index-others-i.is
-    ∙ decided c.then-both.result _ _ (c.then-both.ensures ∙ ap₂ ordering_then c.cmp.ensures c.order_arguments-first.ensures) (sym c.is_ne.ensures ∙ c.if-is_ne.true))
+    ∙ decided c.order_factor-first.result _ _ c.order_factor-first.ensures (sym c.is_ne.ensures ∙ c.if-is_ne.true))
 
 pub order_factors-returns-then-items-others : goal.order_factors-returns-then-items-others
 order_factors-returns-then-items-others t c = let more : c.loop-i.i < length c.as_slice-others.result.now = omega (arith, c.loop-i.auto.i-end, c.if-items-others.true) in
@@ -51,6 +53,20 @@ order_factors-returns-then-items-others t c = let more : c.loop-i.i < length c.a
 pub order_factors-returns-else-items-others : goal.order_factors-returns-else-items-others
 order_factors-returns-else-items-others t c = let past : length c.as_slice-others.result.now ≤ c.loop-i.i = omega (arith, c.loop-i-test.false, c.if-items-others.false) in
     sym (atoms_by_lists c.args.a.now c.args.b.now c.as_slice-items.result.now c.as_slice-others.result.now c.as_slice-items.ensures c.as_slice-others.ensures ∙ c.loop-i.invariant.same ∙ products_end c.as_slice-items.result.now c.as_slice-others.result.now c.loop-i.i c.loop-i-test.false past)
+
+pub order_factor-returns-then-is_ne : goal.order_factor-returns-then-is_ne
+order_factor-returns-then-is_ne t c = sym (decided c.cmp-heads.result _ _ c.cmp-heads.ensures (sym c.is_ne.ensures ∙ c.if-is_ne.true))
+
+pub order_factor-returns-then-is_empty-2 : goal.order_factor-returns-then-is_empty-2
+order_factor-returns-then-is_empty-2 t c =
+    let first : length c.as_slice.result.now ≤ 0 = search rules in
+    let second : length c.as_slice-then-is_empty.result.now ≤ 0 = search rules in
+    sym (undecided c.cmp-heads.result _ _ c.cmp-heads.ensures (sym c.is_ne.ensures ∙ c.if-is_ne.false)
+    ∙ ap₂ compare_arguments (no_arguments_left (out-Atom c.args.a.now).args c.as_slice.result.now c.as_slice.ensures first) (no_arguments_left (out-Atom c.args.b.now).args c.as_slice-then-is_empty.result.now c.as_slice-then-is_empty.ensures second))
+
+pub order_factor-returns : goal.order_factor-returns
+order_factor-returns t c =
+    c.order_arguments.ensures ∙ sym (undecided c.cmp-heads.result _ _ c.cmp-heads.ensures (sym c.is_ne.ensures ∙ c.if-is_ne.false))
 
 pub order_arguments-returns-then-i-others : goal.order_arguments-returns-then-i-others
 order_arguments-returns-then-i-others t c = let past : length c.as_slice-others.result.now ≤ c.loop-i.i = search rules in

@@ -1,17 +1,21 @@
-use Rattle.std.proofs.Common.{◌≡◌, ◌≤◌, length, drop}
+use Rattle.std.proofs.Common.{◌≡◌, ◌+◌, ◌*◌, ◌≤◌, length, drop}
 use Rattle.wh_hopoly.specs.Polynomials.{compare_polynomials, compare_factors, compare_arguments}
+use Rattle.wh_hopoly.specs.declared.polynomial.Atom.{out-Atom}
 use Rattle.wh_hopoly.specs.Erase.{poly, atoms, polys, sum_of, product_of, arguments_of}
 use Rattle.wh_hopoly.proofs.Sizes.{size, size_of_factors, size_of_arguments}
 use Rattle.wh_hopoly.proofs.comparing.+order.Given as goal
 
 abbrev pub decreases-order : goal.decreases-order
-decreases-order l = size (poly l.a.now)
+decreases-order l = 2 * size (poly l.a.now)
 
 abbrev pub decreases-order_factors : goal.decreases-order_factors
-decreases-order_factors l = size_of_factors (atoms l.a.now)
+decreases-order_factors l = 2 * size_of_factors (atoms l.a.now)
+
+abbrev pub decreases-order_factor : goal.decreases-order_factor
+decreases-order_factor l = 2 * size_of_arguments (polys (out-Atom l.a.now).args) + 1
 
 abbrev pub decreases-order_arguments : goal.decreases-order_arguments
-decreases-order_arguments l = size_of_arguments (polys l.a.now)
+decreases-order_arguments l = 2 * size_of_arguments (polys l.a.now)
 
 abbrev pub invariant-order-loop-i : goal.invariant-order-loop-i
 invariant-order-loop-i l = record {

@@ -1,4 +1,6 @@
 -- Two monomials, one behind the other, are one.
+use Rattle.std.proofs.Common.{◌++◌, ap, ◌∙◌}
+use Rattle.wh_hopoly.specs.Erase.{factors, product_of}
 use Rattle.wh_hopoly.specs.Growing.{first_value}
 use Rattle.wh_hopoly.specs.declared.polynomial.Monomial.{out-Monomial}
 use Rattle.wh_hopoly.proofs.RoomLaws.{taken_in}
@@ -7,7 +9,7 @@ use Rattle.wh_hopoly.proofs.growing.extended.Goals as goal
 pub returns : goal.returns
 returns c =
     let g = c.args.so_far in
-    let m = out-Monomial c.args.item in
+    let m = out-Monomial c.args.item.now in
     let takes = c.requires.takes in
-    taken_in (first_value g.first) g.greatest g.coefficient m.coefficient c.args.room.coefficient g.left c.args.room.left g.factors m.atoms c.append.new.us
-    c.requires.room c.requires.right.0 c.requires.right.1 c.in_ok-append.ensures takes.multiplied takes.fitting takes.weighed takes.shallow
+    taken_in (first_value g.first) g.greatest g.coefficient m.coefficient c.args.room.coefficient g.left c.args.room.left g.factors m.atoms c.push_copies.new.us
+    c.requires.room c.requires.right.0 c.requires.right.1 (c.in_ok-push_copies.ensures ∙ ap (λ xs. product_of (factors g.factors ++ xs)) c.as_slice.ensures) takes.multiplied takes.fitting takes.weighed takes.shallow

@@ -1,19 +1,19 @@
 -- Each call's run is a part of the run that it is in, and a loop's invariant says what is left of that.
-use Rattle.std.proofs.Common.{◌≡◌, ◌-◌, ◌<◌, ◌++◌, ap, sym, subst, ◌∙◌, arith, ℕ, List, get_or, length, length-append}
+use Rattle.std.proofs.Common.{rules, ◌≤◌, ◌≡◌, ◌-◌, ◌++◌, ap, sym, subst, ◌∙◌, arith, length, length-append}
 use Rattle.wh_types.specs.Erase.{ty}
-use Rattle.wh_types.specs.Ty.{Ty, ◌⇒◌, arguments}
-use Rattle.wh_hopoly.specs.Polynomials.{Polynomial, zero_poly, Normal, NormalFactors, NormalArguments}
+use Rattle.wh_types.specs.Ty.{◌⇒◌, arguments}
+use Rattle.wh_hopoly.specs.Polynomials.{zero_poly, no_arguments, Normal, NormalFactors, NormalArguments}
 use Rattle.wh_hopoly.specs.Arithmetic.{constant, sum_poly, multiply, atom}
 use Rattle.wh_hopoly.specs.Limits.{Exceeds}
 use Rattle.wh_hopoly.specs.Excesses.{ExceedsAs}
-use Rattle.wh_hopoly.specs.Evaluation.{down, replace, replace_factors, replace_arguments, applied}
+use Rattle.wh_hopoly.specs.Evaluation.{one, down, replace, replace_factors, replace_arguments, applied}
 use Rattle.wh_hopoly.specs.Outcomes.{ComesTo, ComesToArguments, PassesLimit}
 use Rattle.wh_hopoly.specs.Scopes.{scope_of}
-use Rattle.wh_hopoly.specs.Growing.{grown}
+use Rattle.wh_hopoly.specs.Growing.{grown, HasRoom}
 use Rattle.wh_hopoly.specs.Totals.{total}
-use Rattle.wh_hopoly.specs.Replacements.{head_of, head_by, replace_factor, apply_at, Replaces}
+use Rattle.wh_hopoly.specs.Replacements.{head_of, head_by, replace_factor, product_with, apply_at, value_at, Replaces}
 use Rattle.wh_hopoly.specs.declared.polynomial.Monomial.{out-Monomial}
-use Rattle.wh_hopoly.specs.declared.polynomial.Atom.{Atom, out-Atom}
+use Rattle.wh_hopoly.specs.declared.polynomial.Atom.{out-Atom}
 use Rattle.wh_hopoly.specs.Erase.{poly, atoms, polys, list, sum_of, product_of, arguments_of}
 use Rattle.wh_hopoly.proofs.Lists.{poly_is, atoms_is, polys_is}
 use Rattle.wh_hopoly.proofs.FaultLaws.{ok_so, because_so, passed_on}
@@ -108,9 +108,9 @@ replace-replace_factors-requires t c =
     let xs = c.as_slice-item-items.result.now in
     let same : poly c.args.p.now ≡ sum_of xs = poly_is c.args.p.now ∙ ap sum_of (sym c.as_slice-item-items.ensures) in
     let m = laws.monomial_normal Γ xs c.loop-item.item-index c.item-item.result (subst (Normal Γ) same c.requires.normal) c.loop-item-test.true c.item-item.is in
-    let shorter = laws.monomial_shorter H v Γ xs c.loop-item.total c.loop-item.item-index c.item-item.result c.loop-item.invariant c.loop-item-test.true c.item-item.is in
+    let shorter = laws.monomial_shorter H v Γ xs c.loop-item.total c.loop-item.item-index c.item-item.result c.loop-item.invariant.summing c.loop-item-test.true c.item-item.is in
     let whole = ap (λ p. length (replace H v Γ zero_poly p).values) same in
-    (omega (arith, shorter, whole), (c.requires.fits, m))
+    (omega (arith, shorter, whole), (c.requires.fits, (c.loop-item.invariant.kept, m)))
 
 pub replace-returns-in_err-value-clause-fault : goal.replace-returns-in_err-value-clause-fault
 replace-returns-in_err-value-clause-fault t c =
@@ -123,7 +123,7 @@ replace-returns-in_err-value-clause-fault t c =
     (PassesLimit (replace_factors H v Γ (constant (out-Monomial c.item-item.result).coefficient) (atoms (out-Monomial c.item-item.result).atoms)))
     (PassesLimit (replace H v Γ zero_poly (poly c.args.p.now))) c.from_residual.ensures.1 c.in_err-value.ensures.fault
     (λ e f. subst (λ p. PassesLimit (replace H v Γ zero_poly p) e) (sym same)
-    (laws.monomial_fault H v Γ xs c.loop-item.total c.loop-item.item-index c.item-item.result e c.loop-item.invariant c.loop-item-test.true c.item-item.is f))
+    (laws.monomial_fault H v Γ xs c.loop-item.total c.loop-item.item-index c.item-item.result e c.loop-item.invariant.summing c.loop-item-test.true c.item-item.is f))
 
 pub replace-add-requires-clause-value : goal.replace-add-requires-clause-value
 replace-add-requires-clause-value t c =
@@ -150,12 +150,14 @@ replace-returns-in_err-add-clause-fault t c =
     passed_on c.add.result c.from_residual-in_err-add.result c.in_err-add.field-0.0 (λ e. ExceedsAs e (sum_poly (poly c.in_ok-value.value) (total c.loop-item.total)))
     (PassesLimit (replace H v Γ zero_poly (poly c.args.p.now))) c.from_residual-in_err-add.ensures.1 c.in_err-add.ensures.fault
     (λ e f. subst (λ p. PassesLimit (replace H v Γ zero_poly p) e) (sym same)
-    (laws.sum_fault H v Γ xs c.loop-item.total c.loop-item.item-index c.item-item.result (poly c.in_ok-value.value) e c.loop-item.invariant c.loop-item-test.true c.item-item.is c.in_ok-value.ensures.ok.0 f))
+    (laws.sum_fault H v Γ xs c.loop-item.total c.loop-item.item-index c.item-item.result (poly c.in_ok-value.value) e c.loop-item.invariant.summing c.loop-item-test.true c.item-item.is c.in_ok-value.ensures.ok.0 f))
 
 pub replace-loop-item-preserved : goal.replace-loop-item-preserved
-replace-loop-item-preserved t c =
-    laws.summing_steps (head_of c.args.replacement.now) c.args.replacement.now.variable (scope_of c.args.place.now.inner) c.as_slice-item-items.result.now c.loop-item.total c.add.new.self
-    c.loop-item.item-index c.item-item.result (poly c.in_ok-value.value) c.loop-item.invariant c.loop-item-test.true c.item-item.is c.in_ok-value.ensures.ok c.in_ok-add.ensures.ok.0 c.in_ok-add.ensures.ok.1
+replace-loop-item-preserved t c = record {
+  summing = laws.summing_steps (head_of c.args.replacement.now) c.args.replacement.now.variable (scope_of c.args.place.now.inner) c.as_slice-item-items.result.now c.loop-item.total c.add.new.self
+      c.loop-item.item-index c.item-item.result (poly c.in_ok-value.value) c.loop-item.invariant.summing c.loop-item-test.true c.item-item.is c.in_ok-value.ensures.ok c.in_ok-add.ensures.ok.0 c.in_ok-add.ensures.ok.1;
+  kept = c.in_ok-value.ensures.kept;
+}
 
 pub replace-returns-clause-ok : goal.replace-returns-clause-ok
 replace-returns-clause-ok t c =
@@ -166,7 +168,7 @@ replace-returns-clause-ok t c =
     let same : poly c.args.p.now ≡ sum_of xs = poly_is c.args.p.now ∙ ap sum_of (sym c.as_slice-item-items.ensures) in
     ok_so c.finish.result (λ r. (poly r ≡ total c.loop-item.total) × (Exceeds (poly r) → ⊥)) (λ r. ComesTo (replace H v Γ zero_poly (poly c.args.p.now)) (poly r))
     (λ r h. subst (λ p. ComesTo (replace H v Γ zero_poly p) (poly r)) (sym same)
-    (laws.summing_ends H v Γ xs c.loop-item.total c.loop-item.item-index (poly r) c.loop-item.invariant c.loop-item-test.false h.0 h.1)) c.finish.ensures.ok
+    (laws.summing_ends H v Γ xs c.loop-item.total c.loop-item.item-index (poly r) c.loop-item.invariant.summing c.loop-item-test.false h.0 h.1)) c.finish.ensures.ok
 
 pub replace-returns-clause-fault : goal.replace-returns-clause-fault
 replace-returns-clause-fault t c =
@@ -177,10 +179,10 @@ replace-returns-clause-fault t c =
     let same : poly c.args.p.now ≡ sum_of xs = poly_is c.args.p.now ∙ ap sum_of (sym c.as_slice-item-items.ensures) in
     because_so c.finish.result (λ e. ExceedsAs e (total c.loop-item.total)) (PassesLimit (replace H v Γ zero_poly (poly c.args.p.now)))
     (λ e h. subst (λ p. PassesLimit (replace H v Γ zero_poly p) e) (sym same)
-    (laws.last_sum_fault H v Γ xs c.loop-item.total c.loop-item.item-index e c.loop-item.invariant c.loop-item-test.false h)) c.finish.ensures.fault
+    (laws.last_sum_fault H v Γ xs c.loop-item.total c.loop-item.item-index e c.loop-item.invariant.summing c.loop-item-test.false h)) c.finish.ensures.fault
 
-pub replace_factors-replace_factor-requires : goal.replace_factors-replace_factor-requires
-replace_factors-replace_factor-requires t c =
+pub replace_factors-with_factor-requires : goal.replace_factors-with_factor-requires
+replace_factors-with_factor-requires t c =
     let H = head_of c.args.replacement.now in
     let v = c.args.replacement.now.variable in
     let Γ = scope_of c.args.place.now.inner in
@@ -190,40 +192,20 @@ replace_factors-replace_factor-requires t c =
     let shorter = laws.factor_shorter H v Γ Δ c.args.coefficient us (grown c.loop-item.so_far) c.loop-item.item-index c.item-item.result c.loop-item.invariant.multiplying c.loop-item-test.true c.item-item.is in
     let whole = ap (λ us. length (replace_factors H v Γ (constant c.args.coefficient) us).values) same in (
       omega (arith, shorter, whole),
-      (c.requires.fits, laws.atom_normal Γ us c.loop-item.item-index c.item-item.result (subst (NormalFactors Γ) same c.requires.normal) c.loop-item-test.true c.item-item.is),
+      (
+        c.requires.fits,
+        (
+          c.loop-item.invariant.kept,
+          (
+            c.loop-item.invariant.room,
+            (
+              normal_ordered Δ (grown c.loop-item.so_far) c.loop-item.invariant.multiplying.normal,
+              laws.atom_normal Γ us c.loop-item.item-index c.item-item.result (subst (NormalFactors Γ) same c.requires.normal) c.loop-item-test.true c.item-item.is,
+            ),
+          ),
+        ),
+      ),
     )
-
-pub replace_factors-returns-in_err-factor-clause-fault : goal.replace_factors-returns-in_err-factor-clause-fault
-replace_factors-returns-in_err-factor-clause-fault t c =
-    let H = head_of c.args.replacement.now in
-    let v = c.args.replacement.now.variable in
-    let Γ = scope_of c.args.place.now.inner in
-    let Δ = scope_of c.args.place.now.outer in
-    let us = c.as_slice-item-items.result.now in
-    let same : atoms c.args.us.now ≡ product_of us = atoms_is c.args.us.now ∙ ap product_of (sym c.as_slice-item-items.ensures) in
-    passed_on c.replace_factor.result c.from_residual-in_err-factor.result c.in_err-factor.field-0.0
-    (PassesLimit (replace_factor H v Γ (out-Atom c.item-item.result).head (polys (out-Atom c.item-item.result).args)))
-    (PassesLimit (replace_factors H v Γ (constant c.args.coefficient) (atoms c.args.us.now))) c.from_residual-in_err-factor.ensures.1 c.in_err-factor.ensures.fault
-    (λ e f. subst (λ us. PassesLimit (replace_factors H v Γ (constant c.args.coefficient) us) e) (sym same)
-    (laws.factor_fault H v Γ Δ c.args.coefficient us (grown c.loop-item.so_far) c.loop-item.item-index c.item-item.result e c.loop-item.invariant.multiplying c.loop-item-test.true c.item-item.is f))
-
-pub replace_factors-multiplied-requires-clause-left : goal.replace_factors-multiplied-requires-clause-left
-replace_factors-multiplied-requires-clause-left t c = normal_ordered (scope_of c.args.place.now.outer) (grown c.loop-item.so_far) c.loop-item.invariant.multiplying.normal
-
-factor_is_normal : (A : Ty) (n : ℕ) (g : Polynomial) (Γ Δ : List Ty) (us : List Atom) (i : ℕ) (u : Atom) (p : Polynomial) → Replaces A n g Γ Δ → NormalFactors Γ (product_of us) → i < length us → u ≡ get_or us i u
-    → p ≡ (replace_factor (head_by A n g) n Γ (out-Atom u).head (polys (out-Atom u).args)).result → Normal Δ p
-factor_is_normal A n g Γ Δ us i u p r m l e k =
-    subst (Normal Δ) (sym k) (laws.factor_normal A n g Γ Δ r (out-Atom u).head (polys (out-Atom u).args) (laws.atom_normal Γ us i u m l e))
-
-pub replace_factors-multiplied-requires-clause-right : goal.replace_factors-multiplied-requires-clause-right
-replace_factors-multiplied-requires-clause-right t c =
-    let Γ = scope_of c.args.place.now.inner in
-    let Δ = scope_of c.args.place.now.outer in
-    let us = c.as_slice-item-items.result.now in
-    let same : atoms c.args.us.now ≡ product_of us = atoms_is c.args.us.now ∙ ap product_of (sym c.as_slice-item-items.ensures) in
-    normal_ordered Δ (poly c.in_ok-factor.factor)
-    (factor_is_normal (ty c.args.replacement.now.kind.now) c.args.replacement.now.variable (poly c.args.replacement.now.value.now) Γ Δ us c.loop-item.item-index c.item-item.result (poly c.in_ok-factor.factor)
-    c.requires.fits.0 (subst (NormalFactors Γ) same c.requires.normal) c.loop-item-test.true c.item-item.is c.in_ok-factor.ensures.ok.0)
 
 pub replace_factors-returns-in_err-so_far-2-clause-fault : goal.replace_factors-returns-in_err-so_far-2-clause-fault
 replace_factors-returns-in_err-so_far-2-clause-fault t c =
@@ -233,28 +215,31 @@ replace_factors-returns-in_err-so_far-2-clause-fault t c =
     let Δ = scope_of c.args.place.now.outer in
     let us = c.as_slice-item-items.result.now in
     let same : atoms c.args.us.now ≡ product_of us = atoms_is c.args.us.now ∙ ap product_of (sym c.as_slice-item-items.ensures) in
-    passed_on c.multiplied.result c.from_residual-in_err-so_far-2.result c.in_err-so_far-2.field-0.0 (λ e. ExceedsAs e (multiply (grown c.loop-item.so_far) (poly c.in_ok-factor.factor)))
+    passed_on c.with_factor.result c.from_residual-in_err-so_far-2.result c.in_err-so_far-2.field-0.0
+    (PassesLimit (product_with (grown c.loop-item.so_far) (replace_factor H v Γ (out-Atom c.item-item.result).head (polys (out-Atom c.item-item.result).args))))
     (PassesLimit (replace_factors H v Γ (constant c.args.coefficient) (atoms c.args.us.now))) c.from_residual-in_err-so_far-2.ensures.1 c.in_err-so_far-2.ensures.fault
-    (λ e h. subst (λ us. PassesLimit (replace_factors H v Γ (constant c.args.coefficient) us) e) (sym same)
-    (laws.product_fault H v Γ Δ c.args.coefficient us (grown c.loop-item.so_far) (poly c.in_ok-factor.factor) c.loop-item.item-index c.item-item.result e c.loop-item.invariant.multiplying c.loop-item-test.true c.item-item.is
-    c.in_ok-factor.ensures.ok.0 h))
+    (λ e f. subst (λ us. PassesLimit (replace_factors H v Γ (constant c.args.coefficient) us) e) (sym same)
+    (laws.factor_or_product_fault H v Γ Δ c.args.coefficient us (grown c.loop-item.so_far) c.loop-item.item-index c.item-item.result e c.loop-item.invariant.multiplying c.loop-item-test.true c.item-item.is f))
 
 pub replace_factors-loop-item-preserved : goal.replace_factors-loop-item-preserved
 replace_factors-loop-item-preserved t c =
-    let H = head_of c.args.replacement.now in
-    let v = c.args.replacement.now.variable in
+    let r = c.args.replacement.now in
+    let H = head_of r in
+    let v = r.variable in
     let Γ = scope_of c.args.place.now.inner in
     let Δ = scope_of c.args.place.now.outer in
     let us = c.as_slice-item-items.result.now in
+    let u = c.item-item.result in
     let same : atoms c.args.us.now ≡ product_of us = atoms_is c.args.us.now ∙ ap product_of (sym c.as_slice-item-items.ensures) in
     let made = c.in_ok-so_far-2.ensures.ok in
+    let normal = laws.atom_normal Γ us c.loop-item.item-index u (subst (NormalFactors Γ) same c.requires.normal) c.loop-item-test.true c.item-item.is in
     record {
-      multiplying = laws.multiplying_steps H v Γ Δ c.args.coefficient us (grown c.loop-item.so_far) (poly c.in_ok-factor.factor) (grown c.in_ok-so_far-2.so_far) c.loop-item.item-index c.item-item.result
-          c.loop-item.invariant.multiplying c.loop-item-test.true c.item-item.is c.in_ok-factor.ensures.ok
-          (factor_is_normal (ty c.args.replacement.now.kind.now) v (poly c.args.replacement.now.value.now) Γ Δ us c.loop-item.item-index c.item-item.result (poly c.in_ok-factor.factor)
-          c.requires.fits.0 (subst (NormalFactors Γ) same c.requires.normal) c.loop-item-test.true c.item-item.is c.in_ok-factor.ensures.ok.0)
-          (made.0, room_is_within c.in_ok-so_far-2.so_far made.1);
+      multiplying = laws.multiplying_goes_on H v Γ Δ c.args.coefficient us (grown c.loop-item.so_far) (grown c.in_ok-so_far-2.so_far) c.loop-item.item-index u
+          c.loop-item.invariant.multiplying c.loop-item-test.true c.item-item.is
+          (laws.factor_normal (ty r.kind.now) v (poly r.value.now) Γ Δ c.requires.fits.0 (out-Atom u).head (polys (out-Atom u).args) normal)
+          made.0 (room_is_within c.in_ok-so_far-2.so_far made.1);
       room = made.1;
+      kept = c.in_ok-so_far-2.ensures.kept;
     }
 
 pub replace_factors-returns-clause-ok : goal.replace_factors-returns-clause-ok
@@ -267,6 +252,154 @@ replace_factors-returns-clause-ok t c =
     let same : atoms c.args.us.now ≡ product_of us = atoms_is c.args.us.now ∙ ap product_of (sym c.as_slice-item-items.ensures) in
     let end = laws.multiplying_ends H v Γ Δ c.args.coefficient us (grown c.loop-item.so_far) c.loop-item.item-index c.loop-item.invariant.multiplying c.loop-item-test.false in
     subst (λ us. ComesTo (replace_factors H v Γ (constant c.args.coefficient) us) (poly c.in_ok-finish.field-0)) (sym same) (c.in_ok-finish.ensures ∙ end.0, end.1)
+
+pub with_factor-multiplied-requires-clause-right : goal.with_factor-multiplied-requires-clause-right
+with_factor-multiplied-requires-clause-right t c =
+    let r = c.args.replacement.now in
+    let H = head_of r in
+    let Γ = scope_of c.args.place.now.inner in
+    let Δ = scope_of c.args.place.now.outer in
+    let x = (out-Atom c.args.item.now).head in
+    let ps = polys (out-Atom c.args.item.now).args in
+    let run = replace_factor H r.variable Γ x ps in
+    let p = grown c.args.so_far in
+    normal_ordered Δ (poly c.in_ok-factor.factor) (subst (Normal Δ) (sym {b = run.result} c.in_ok-factor.ensures.ok.0)
+    (laws.factor_normal (ty r.kind.now) r.variable (poly r.value.now) Γ Δ c.requires.fits.0 x ps c.requires.normal))
+
+pub with_factor-returns-then-not-is_empty-clause-ok : goal.with_factor-returns-then-not-is_empty-clause-ok
+with_factor-returns-then-not-is_empty-clause-ok t c =
+    let r = c.args.replacement.now in
+    let H = head_of r in
+    let Γ = scope_of c.args.place.now.inner in
+    let Δ = scope_of c.args.place.now.outer in
+    let x = (out-Atom c.args.item.now).head in
+    let ps = polys (out-Atom c.args.item.now).args in
+    let run = replace_factor H r.variable Γ x ps in
+    let p = grown c.args.so_far in
+    ok_so c.multiplied.result (λ a. (grown a ≡ multiply p (poly c.in_ok-factor.factor)) × HasRoom a) (λ a. ComesTo (product_with p run) (grown a) × HasRoom a)
+    (λ a h. (laws.product_comes run p (poly c.in_ok-factor.factor) (grown a) c.in_ok-factor.ensures.ok h.0 (room_is_within a h.1), h.1)) c.multiplied.ensures.ok
+
+pub with_factor-returns-then-not-is_empty-clause-fault : goal.with_factor-returns-then-not-is_empty-clause-fault
+with_factor-returns-then-not-is_empty-clause-fault t c =
+    let r = c.args.replacement.now in
+    let H = head_of r in
+    let Γ = scope_of c.args.place.now.inner in
+    let Δ = scope_of c.args.place.now.outer in
+    let x = (out-Atom c.args.item.now).head in
+    let ps = polys (out-Atom c.args.item.now).args in
+    let run = replace_factor H r.variable Γ x ps in
+    let p = grown c.args.so_far in
+    because_so c.multiplied.result (λ e. ExceedsAs e (multiply p (poly c.in_ok-factor.factor))) (PassesLimit (product_with p run))
+    (λ e h. laws.product_passes run p (poly c.in_ok-factor.factor) e c.in_ok-factor.ensures.ok.0 h) c.multiplied.ensures.fault
+
+pub with_factor-returns-then-item-replacement-clause-ok : goal.with_factor-returns-then-item-replacement-clause-ok
+with_factor-returns-then-item-replacement-clause-ok t c =
+    let r = c.args.replacement.now in
+    let H = head_of r in
+    let Γ = scope_of c.args.place.now.inner in
+    let Δ = scope_of c.args.place.now.outer in
+    let x = (out-Atom c.args.item.now).head in
+    let ps = polys (out-Atom c.args.item.now).args in
+    let run = replace_factor H r.variable Γ x ps in
+    let p = grown c.args.so_far in
+    let none : length c.as_slice.result.now ≤ 0 = search rules in
+    let alone = laws.alone_is ps c.as_slice.result.now (polys_is (out-Atom c.args.item.now).args ∙ ap arguments_of (sym c.as_slice.ensures)) none in
+    let q = atom (down r.variable x) no_arguments in
+    let same : run ≡ one q = laws.variable_alone H r.variable Γ x ps alone c.if-item-replacement.true in
+    ok_so c.with_variable.result (λ a. (grown a ≡ multiply p (atom c.lowered.result no_arguments)) × HasRoom a) (λ a. ComesTo (product_with p run) (grown a) × HasRoom a)
+    (λ a h. (
+      laws.product_comes run p q (grown a) (subst (λ run. ComesTo run q) (sym same) (laws.one_comes q (laws.variable_within (down r.variable x))))
+          (h.0 ∙ ap (λ y. multiply p (atom y no_arguments)) c.lowered.ensures) (room_is_within a h.1),
+      h.1,
+    )) c.with_variable.ensures.ok
+
+pub with_factor-returns-then-item-replacement-clause-fault : goal.with_factor-returns-then-item-replacement-clause-fault
+with_factor-returns-then-item-replacement-clause-fault t c =
+    let r = c.args.replacement.now in
+    let H = head_of r in
+    let Γ = scope_of c.args.place.now.inner in
+    let Δ = scope_of c.args.place.now.outer in
+    let x = (out-Atom c.args.item.now).head in
+    let ps = polys (out-Atom c.args.item.now).args in
+    let run = replace_factor H r.variable Γ x ps in
+    let p = grown c.args.so_far in
+    let none : length c.as_slice.result.now ≤ 0 = search rules in
+    let alone = laws.alone_is ps c.as_slice.result.now (polys_is (out-Atom c.args.item.now).args ∙ ap arguments_of (sym c.as_slice.ensures)) none in
+    let q = atom (down r.variable x) no_arguments in
+    let same : run ≡ one q = laws.variable_alone H r.variable Γ x ps alone c.if-item-replacement.true in
+    because_so c.with_variable.result (λ e. ExceedsAs e (multiply p (atom c.lowered.result no_arguments))) (PassesLimit (product_with p run))
+    (λ e h. laws.product_passes run p q e (sym (ap (λ run. run.result) same)) (subst (λ y. ExceedsAs e (multiply p (atom y no_arguments))) c.lowered.ensures h)) c.with_variable.ensures.fault
+
+pub with_factor-returns-in_err-value-clause-fault : goal.with_factor-returns-in_err-value-clause-fault
+with_factor-returns-in_err-value-clause-fault t c =
+    let r = c.args.replacement.now in
+    let H = head_of r in
+    let Γ = scope_of c.args.place.now.inner in
+    let Δ = scope_of c.args.place.now.outer in
+    let x = (out-Atom c.args.item.now).head in
+    let ps = polys (out-Atom c.args.item.now).args in
+    let run = replace_factor H r.variable Γ x ps in
+    let p = grown c.args.so_far in
+    let none : length c.as_slice.result.now ≤ 0 = search rules in
+    let alone = laws.alone_is ps c.as_slice.result.now (polys_is (out-Atom c.args.item.now).args ∙ ap arguments_of (sym c.as_slice.ensures)) none in
+    let q = value_at r c.args.place.now in
+    let same : run ≡ one q = laws.value_alone (ty r.kind.now) r.variable (poly r.value.now) Γ Δ x ps c.requires.fits.0 alone c.if-item-replacement.false in
+    passed_on c.raised_value.result c.from_residual-in_err-value.result c.in_err-value.field-0.0 (λ e. ExceedsAs e q) (PassesLimit (product_with p run))
+    c.from_residual-in_err-value.ensures.1 c.in_err-value.ensures.fault
+    (λ e h. laws.factor_passes run p e (subst (λ run. PassesLimit run e) (sym same) (laws.one_passes q e h)))
+
+pub with_factor-multiplied-requires-2-clause-right : goal.with_factor-multiplied-requires-2-clause-right
+with_factor-multiplied-requires-2-clause-right t c =
+    let r = c.args.replacement.now in
+    let H = head_of r in
+    let Γ = scope_of c.args.place.now.inner in
+    let Δ = scope_of c.args.place.now.outer in
+    let x = (out-Atom c.args.item.now).head in
+    let ps = polys (out-Atom c.args.item.now).args in
+    let run = replace_factor H r.variable Γ x ps in
+    let p = grown c.args.so_far in
+    let none : length c.as_slice.result.now ≤ 0 = search rules in
+    let alone = laws.alone_is ps c.as_slice.result.now (polys_is (out-Atom c.args.item.now).args ∙ ap arguments_of (sym c.as_slice.ensures)) none in
+    let q = value_at r c.args.place.now in
+    let same : run ≡ one q = laws.value_alone (ty r.kind.now) r.variable (poly r.value.now) Γ Δ x ps c.requires.fits.0 alone c.if-item-replacement.false in
+    normal_ordered Δ (poly c.in_ok-value.value) (subst (Normal Δ) (ap (λ run. run.result) same ∙ sym c.in_ok-value.ensures.ok.0)
+    (laws.factor_normal (ty r.kind.now) r.variable (poly r.value.now) Γ Δ c.requires.fits.0 x ps c.requires.normal))
+
+pub with_factor-returns-in_err-product-clause-fault : goal.with_factor-returns-in_err-product-clause-fault
+with_factor-returns-in_err-product-clause-fault t c =
+    let r = c.args.replacement.now in
+    let H = head_of r in
+    let Γ = scope_of c.args.place.now.inner in
+    let Δ = scope_of c.args.place.now.outer in
+    let x = (out-Atom c.args.item.now).head in
+    let ps = polys (out-Atom c.args.item.now).args in
+    let run = replace_factor H r.variable Γ x ps in
+    let p = grown c.args.so_far in
+    let none : length c.as_slice.result.now ≤ 0 = search rules in
+    let alone = laws.alone_is ps c.as_slice.result.now (polys_is (out-Atom c.args.item.now).args ∙ ap arguments_of (sym c.as_slice.ensures)) none in
+    let q = value_at r c.args.place.now in
+    let same : run ≡ one q = laws.value_alone (ty r.kind.now) r.variable (poly r.value.now) Γ Δ x ps c.requires.fits.0 alone c.if-item-replacement.false in
+    passed_on c.multiplied-2.result c.from_residual-in_err-product.result c.in_err-product.field-0.0 (λ e. ExceedsAs e (multiply p (poly c.in_ok-value.value))) (PassesLimit (product_with p run))
+    c.from_residual-in_err-product.ensures.1 c.in_err-product.ensures.fault
+    (λ e h. laws.product_passes run p (poly c.in_ok-value.value) e (c.in_ok-value.ensures.ok.0 ∙ sym (ap (λ run. run.result) same)) h)
+
+pub with_factor-returns-clause-ok : goal.with_factor-returns-clause-ok
+with_factor-returns-clause-ok t c =
+    let r = c.args.replacement.now in
+    let H = head_of r in
+    let Γ = scope_of c.args.place.now.inner in
+    let Δ = scope_of c.args.place.now.outer in
+    let x = (out-Atom c.args.item.now).head in
+    let ps = polys (out-Atom c.args.item.now).args in
+    let run = replace_factor H r.variable Γ x ps in
+    let p = grown c.args.so_far in
+    let none : length c.as_slice.result.now ≤ 0 = search rules in
+    let alone = laws.alone_is ps c.as_slice.result.now (polys_is (out-Atom c.args.item.now).args ∙ ap arguments_of (sym c.as_slice.ensures)) none in
+    let q = value_at r c.args.place.now in
+    let same : run ≡ one q = laws.value_alone (ty r.kind.now) r.variable (poly r.value.now) Γ Δ x ps c.requires.fits.0 alone c.if-item-replacement.false in
+    let value = poly c.in_ok-value.value in
+    let comes : ComesTo run value = subst (λ run. ComesTo run value) (sym same) (subst (λ q. ComesTo (one q) value) c.in_ok-value.ensures.ok.0 (laws.one_comes value c.in_ok-value.ensures.ok.1)) in
+    (laws.product_comes run p value (grown c.in_ok-product.product) comes c.in_ok-product.ensures.ok.0 (room_is_within c.in_ok-product.product c.in_ok-product.ensures.ok.1), c.in_ok-product.ensures.ok.1)
 
 pub replace_factor-unreachable-requires : goal.replace_factor-unreachable-requires
 replace_factor-unreachable-requires t c =

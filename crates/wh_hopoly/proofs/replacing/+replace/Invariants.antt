@@ -5,7 +5,7 @@ use Rattle.wh_hopoly.specs.Polynomials.{zero_poly}
 use Rattle.wh_hopoly.specs.Arithmetic.{constant}
 use Rattle.wh_hopoly.specs.Evaluation.{replace, replace_factors, replace_arguments, applied}
 use Rattle.wh_hopoly.specs.Scopes.{scope_of}
-use Rattle.wh_hopoly.specs.Replacements.{head_of, replace_factor, apply_at}
+use Rattle.wh_hopoly.specs.Replacements.{head_of, replace_factor, apply_at, Keeps}
 use Rattle.wh_hopoly.specs.declared.polynomial.Atom.{out-Atom}
 use Rattle.wh_hopoly.specs.Erase.{poly, atoms, polys, list}
 use Rattle.wh_hopoly.specs.Growing.{grown, HasRoom}
@@ -22,6 +22,10 @@ abbrev pub decreases-replace_factors : goal.decreases-replace_factors
 decreases-replace_factors l =
     2 * length (replace_factors (head_of l.replacement.now) l.replacement.now.variable (scope_of l.place.now.inner) (constant l.coefficient) (atoms l.us.now)).values
 
+abbrev pub decreases-with_factor : goal.decreases-with_factor
+decreases-with_factor l =
+    2 * length (replace_factor (head_of l.replacement.now) l.replacement.now.variable (scope_of l.place.now.inner) (out-Atom l.item.now).head (polys (out-Atom l.item.now).args)).values + 3
+
 abbrev pub decreases-replace_factor : goal.decreases-replace_factor
 decreases-replace_factor l =
     2 * length (replace_factor (head_of l.replacement.now) l.replacement.now.variable (scope_of l.place.now.inner) (out-Atom l.item.now).head (polys (out-Atom l.item.now).args)).values + 2
@@ -34,12 +38,16 @@ abbrev pub decreases-applied : goal.decreases-applied
 decreases-applied l = 2 * length (applied (ty l.kind.now) (scope_of l.scope.now) (poly l.value) (polys l.args.now)).values
 
 abbrev pub invariant-replace-loop-item : goal.invariant-replace-loop-item
-invariant-replace-loop-item l = Summing (head_of l.replacement) l.replacement.variable (scope_of l.place.inner) l.item-items l.total l.item-index
+invariant-replace-loop-item l = record {
+  summing : Summing (head_of l.replacement) l.replacement.variable (scope_of l.place.inner) l.item-items l.total l.item-index;
+  kept : Keeps l.raised l.replacement l.place;
+}
 
 abbrev pub invariant-replace_factors-loop-item : goal.invariant-replace_factors-loop-item
 invariant-replace_factors-loop-item l = record {
   multiplying : Multiplying (head_of l.replacement) l.replacement.variable (scope_of l.place.inner) (scope_of l.place.outer) l.coefficient l.item-items (grown l.so_far) l.item-index;
   room : HasRoom l.so_far;
+  kept : Keeps l.raised l.replacement l.place;
 }
 
 abbrev pub invariant-replace_arguments-loop-item : goal.invariant-replace_arguments-loop-item

@@ -1,7 +1,7 @@
 use Rattle.wh_hopoly.specs.Arithmetic.{multiply}
 use Rattle.wh_hopoly.specs.Erase.{poly}
 use Rattle.wh_hopoly.proofs.ProductWalk.{Rows}
-use Rattle.wh_hopoly.proofs.products.product.Given as goal
+use Rattle.wh_hopoly.proofs.products.product_by_rows.Given as goal
 
 abbrev pub invariant-loop-i : goal.invariant-loop-i
 invariant-loop-i l = Rows (λ p. multiply p (poly l.b)) l.items l.total l.i
