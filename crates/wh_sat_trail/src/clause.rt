@@ -1,6 +1,6 @@
 //! Clauses and lists of clauses.
 
-ghost use Rattle.std.specs.Prelude.{◌≡◌, IfOk, OnOk, OnErr, [], ◌∷◌, ◌++◌};
+ghost use Rattle.std.specs.Prelude.{◌≡◌, IfOk, OnOk, OnErr, [], ◌∷◌, ◌++◌, take};
 
 use crate::literal::Literal;
 use std::alloc::{AllocError, Global};
@@ -88,6 +88,22 @@ impl Clauses {
     {
         self.items.push(item)?;
         Ok(())
+    }
+
+    /// Puts the clauses of another list at the end, in their order; without memory the list stays as it was.
+    pub fn append(&mut self, mut others: Clauses) -> Result<(), AllocError>
+        ensures ok { OnOk result (self.new ≡ self.old ++ others) }
+        ensures err { OnErr result (self.new ≡ self.old) }
+    {
+        self.items.append(&mut others.items)?;
+        Ok(())
+    }
+
+    /// Keeps the first clauses alone.
+    pub fn truncate(&mut self, keep: usize)
+        ensures { self.new ≡ take keep self.old }
+    {
+        self.items.truncate(keep);
     }
 
     /// The clauses in order.

@@ -1,0 +1,7 @@
+pub mod Solving
+pub mod Gating
+pub mod Carrying
+pub mod Folding
+pub mod Growing
+pub mod Counting
+pub mod Adding
