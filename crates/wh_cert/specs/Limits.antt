@@ -5,8 +5,8 @@ use Rattle.wh_terms.specs.Places.{IsPath}
 use Rattle.wh_terms.specs.declared.path.Step as taken
 use Rattle.wh_text.specs.Words.{IsWord}
 use Rattle.wh_hopoly.specs.declared.expression.Move as moved
-use Rattle.wh_cert_parts.specs.TermLimits.{TypeFits, TermFits, IsSmall}
-use Rattle.wh_cert_parts.specs.PolyLimits.{IsBig, PolyFits}
+use Rattle.wh_cert.specs.TermLimits.{TypeFits, TermFits, IsSmall}
+use Rattle.wh_cert.specs.PolyLimits.{IsBig, PolyFits}
 use Rattle.wh_cert.specs.Interps.{Interp}
 use Rattle.wh_cert.specs.Written.{Put, Arg, Node, blocks, subterm, interpretations, Preorder, Cert, yes, no}
 

@@ -1,11 +1,39 @@
--- The text of a certificate (ours). `put_.. r` is the spelling with r behind it.
+-- The text of a certificate (ours), of version 1. In EBNF, LF being a line feed and no other blank standing anywhere:
+--
+--     certificate = yes | no
+--     yes         = "YES 1" LF "ranks" numbers LF "pairs " number LF node "end" LF
+--     node        = "done" LF
+--                 | "alone" LF
+--                 | "blocks " number LF { "block" numbers LF } { node }
+--                 | "subterm" LF { "arg " name " " number LF } "drop" numbers LF node
+--                 | "poly" LF { "fun " name " " poly LF } { "mark " name " " poly LF }
+--                   { "rule" moves LF } { "pair" moves LF } "drop" numbers LF node
+--     numbers     = { " " number }
+--     moves       = { " " number ">" number ":" amount }
+--     poly        = "0" | monomial { "+" monomial }
+--     monomial    = amount { "*" factor }
+--     factor      = "y" number [ "(" poly { "," poly } ")" ]
+--     no          = "NO 1" LF "term " term LF { "step " ( number | "beta" ) " " path LF }
+--                   "at " path LF { "put " variable " " term LF } "end" LF
+--     path        = "/" { "0" | "1" }
+--     term        = head | "(" head " " term { " " term } ")"
+--     head        = name | "$" number | variable | "(\$" number ":" type "." term ")"
+--     variable    = "%" number ":" type
+--     type        = name | "(" type "->" { type "->" } name ")"
+--     name        = ( letter | "_" ) { letter | "_" | digit | "'" }
+--     number      = "0" | amount
+--     amount      = nonzero { digit }
+--
+-- Letters and digits are those of ASCII, `nonzero` is a digit but 0. Behind `blocks` come as many blocks, and as many nodes, as
+-- its number says. How great, how long, how many and how deep all this may be stands in Limits, TermLimits and PolyLimits. Below,
+-- `put_.. r` is the spelling with r behind it.
 use Rattle.std.specs.Prelude.{ℕ, ◌+◌, List, [], ◌∷◌, ◌++◌, length, Option, Some, None, codes}
 use Rattle.std.specs.Fmt.{decimal}
 use Rattle.wh_text.specs.Chars.{line_feed}
 use Rattle.wh_terms.specs.declared.path.Step as taken
 use Rattle.wh_text.specs.Spelling.{put_part, put_term}
 use Rattle.wh_hopoly.specs.declared.expression.Move as moved
-use Rattle.wh_cert_parts.specs.PolyText.{put_poly}
+use Rattle.wh_cert.specs.PolyText.{put_poly}
 use Rattle.wh_cert.specs.Interps.{Interp}
 use Rattle.wh_cert.specs.Written.{Put, Arg, Node, done, alone, blocks, subterm, interpretations, Cert, yes, no}
 

@@ -8,7 +8,7 @@ use wh_types::{Blocks, List, Numbers};
 /// A certificate. All places in its raw trees are 0.
 #[derive(Drop)]
 pub enum Certificate {
-    /// Every reduction from a term ends, within a bound.
+    /// For each well-typed term there is a number that no reduction from it exceeds in length.
     Yes(YesCertificate),
     /// There are reductions of every length.
     No(NoCertificate),

@@ -7,7 +7,7 @@ use Rattle.std.proofs.lemmas.Fmt.{decimal_step_wide, decimal_by_steps_wide}
 use Rattle.wh_text.specs.Chars.{is_digit}
 use Rattle.wh_letters.specs.Digits.{begins_big, goes_on_big}
 use Rattle.wh_letters.proofs.NamesAndNumbers.{digit_bounds, is_digit_48, first_digit_spelled}
-use Rattle.wh_cert_parts.specs.PolyLimits.{IsBig}
+use Rattle.wh_cert.specs.PolyLimits.{IsBig}
 
 pub record ReadsBigs {R : Type 0} (first : List ℕ → R) (behind : ℕ → List ℕ → R) : Type 0 where
   pub starts : (d : ℕ) (r : List ℕ) → 0 < d → d < 10 → first ((48 + d) ∷ r) ≡ behind d r

@@ -9,5 +9,3 @@ pub mod RawLaws
 pub mod TypeCode
 pub mod PolyCode
 pub mod TermCode
-pub mod PrintedLists
-pub mod PrintPolyCode

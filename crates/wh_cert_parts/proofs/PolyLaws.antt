@@ -7,9 +7,9 @@ use Rattle.wh_text.specs.Chars.{is_digit}
 use Rattle.wh_hopoly.specs.Polynomials.{Polynomial, zero_poly, plus, Factors, no_factors, times, Arguments, no_arguments, argument}
 use Rattle.wh_letters.specs.Digits.{goes_on, begins_big, goes_on_big}
 use Rattle.wh_letters.proofs.NamesAndNumbers.{goes_on_true, first_digit_spelled, first_digit_small, next_digit_spelled}
-use Rattle.wh_cert_parts.specs.PolyText.{put_poly, put_sum, put_factors, put_polys, put_more}
-use Rattle.wh_cert_parts.specs.TermLimits.{IsSmall}
-use Rattle.wh_cert_parts.specs.PolyLimits.{IsBig, PolyFits, FactorsFit, PolysFit}
+use Rattle.wh_cert.specs.PolyText.{put_poly, put_sum, put_factors, put_polys, put_more}
+use Rattle.wh_cert.specs.TermLimits.{IsSmall}
+use Rattle.wh_cert.specs.PolyLimits.{IsBig, PolyFits, FactorsFit, PolysFit}
 use Rattle.wh_cert_parts.specs.PolyMachine.{PolyStack, outside, inside, PolyPlace, poly_wanted, nought, added, coefficient, factor_wanted, head_wanted, head, closed_poly, PolyStep, goes, poly_ended, no_poly, poly_level, add_monomial, add_factor, add_argument, behind_poly, behind_part, first_coefficient, head_ended, poly_step}
 use Rattle.wh_cert_parts.proofs.BigNumbers.{begins_big_spelled, first_big, next_big, next_big_spelled}
 

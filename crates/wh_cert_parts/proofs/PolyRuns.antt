@@ -6,9 +6,9 @@ use Rattle.wh_text.specs.Chars.{is_digit}
 use Rattle.wh_hopoly.specs.Polynomials.{Polynomial, zero_poly, plus, Factors, no_factors, times, Arguments, no_arguments, argument}
 use Rattle.wh_letters.specs.Digits.{goes_on, begins_big, goes_on_big}
 use Rattle.wh_letters.proofs.NamesAndNumbers.{ReadsNumbers, number_run, is_digit_48, goes_on_48}
-use Rattle.wh_cert_parts.specs.PolyText.{put_poly, put_sum, put_factors, put_polys, put_more}
-use Rattle.wh_cert_parts.specs.TermLimits.{IsSmall}
-use Rattle.wh_cert_parts.specs.PolyLimits.{PolyFits, FactorsFit, PolysFit}
+use Rattle.wh_cert.specs.PolyText.{put_poly, put_sum, put_factors, put_polys, put_more}
+use Rattle.wh_cert.specs.TermLimits.{IsSmall}
+use Rattle.wh_cert.specs.PolyLimits.{PolyFits, FactorsFit, PolysFit}
 use Rattle.wh_cert_parts.specs.PolyMachine.{PolyStack, outside, inside, PolyPlace, poly_wanted, nought, added, coefficient, factor_wanted, head_wanted, head, closed_poly, PolyStep, goes, no_poly, poly_level, add_monomial, add_factor, add_argument, behind_poly, behind_part, first_coefficient, head_ended}
 use Rattle.wh_cert_parts.proofs.BigNumbers.{ReadsBigs, big_run, begins_big_48, goes_on_big_48}
 use Rattle.wh_cert_parts.proofs.PolyLaws.{poly_read, poly_scan}

@@ -5,7 +5,7 @@ use Rattle.wh_text.specs.Erase.{rty, rtys, rtm, rtms}
 use Rattle.wh_text.specs.declared.raw.RawType.{RawType, roll-RawType, out-roll-RawType}
 use Rattle.wh_text.specs.declared.raw.RawTerm.{RawTerm}
 use Rattle.wh_text.proofs.RawLemmas.{rty_parts}
-use Rattle.wh_cert_parts.specs.TermLimits.{type_count, term_count}
+use Rattle.wh_cert.specs.TermLimits.{type_count, term_count}
 use Rattle.wh_cert_parts.specs.TypeMachine.{add_type}
 use Rattle.wh_cert_parts.specs.TermMachine.{add_term}
 

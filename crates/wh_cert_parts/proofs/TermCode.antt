@@ -6,7 +6,7 @@ use Rattle.std.proofs.Common.{⊎_elim}
 use Rattle.wh_text.specs.Erase.{rtms}
 use Rattle.wh_text.specs.RawTree.{RTm, spine, RTms}
 use Rattle.wh_text.specs.declared.raw.RawTerm.{RawTerm}
-use Rattle.wh_cert_parts.specs.TermLimits.{term_count}
+use Rattle.wh_cert.specs.TermLimits.{term_count}
 use Rattle.wh_cert_parts.specs.TermMachine.{Stack, base, in_spine, wanted, closed, at, failed, level, add_term, after}
 use Rattle.wh_cert_parts.specs.TermViews.{framed, framed_in, term_stack}
 use Rattle.wh_cert_parts.specs.declared.term_reader.Frame.{Frame}

@@ -1,7 +1,3 @@
-pub mod TermLimits
-pub mod PolyText
-pub mod PolyLimits
-pub mod PolyCounts
 pub mod TypeMachine
 pub mod TermMachine
 pub mod PolyMachine

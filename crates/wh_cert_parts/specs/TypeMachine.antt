@@ -4,7 +4,7 @@ use Rattle.std.specs.Prelude.{ℕ, suc, ◌==◌, ◌&&◌, nat_lt, Bool, true, 
 use Rattle.wh_types.specs.Limits.{longest_name, deepest_certificate_type, most_certificate_arguments}
 use Rattle.wh_text.specs.Chars.{is_start, is_part}
 use Rattle.wh_text.specs.RawTree.{RTy, raw_type, RTys, no_types, more_types}
-use Rattle.wh_cert_parts.specs.TermLimits.{type_count}
+use Rattle.wh_cert.specs.TermLimits.{type_count}
 
 -- the open parentheses, the innermost first, each with the arguments that were read in it
 pub data TypeStack : Type 0 where

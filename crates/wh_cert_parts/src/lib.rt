@@ -1,13 +1,11 @@
 //! Types, terms and polynomials of a certificate's lines, read byte by byte.
 #![tactic(auto)]
 
-mod poly_printer;
 mod poly_reader;
 mod raw;
 mod term_reader;
 mod type_reader;
 
-pub use poly_printer::{print_big, print_poly};
 pub use poly_reader::{Part, PolyFrame, PolyPlace, PolyStep, PolyText};
 pub use term_reader::{Frame, TermPlace, TermStep, TypeText, Typed, term_step};
 pub use type_reader::{TypePlace, TypeStep, type_step};

@@ -2,8 +2,9 @@
 
 ghost use Rattle.std.specs.Prelude.{◌≡◌, ◌==◌, ◌&&◌, List, suc, cond, nat_lt, IfOk, OnOk, MatchOption};
 ghost use Rattle.wh_types.specs.Limits.{most_arguments, deepest_certificate_term};
+ghost use Rattle.wh_text.specs.Chars.{space};
 ghost use Rattle.wh_text.specs.Erase.{rty, rtm, rtms};
-ghost use Rattle.wh_cert_parts.specs.TermLimits.{term_count};
+ghost use Rattle.wh_cert.specs.TermLimits.{term_count};
 ghost use Rattle.wh_cert_parts.specs.TypeMachine.{outside, type_wanted, type_ended};
 ghost use Rattle.wh_cert_parts.specs.TermMachine.{Stack, base, State, at, failed, in_head, in_spine, in_body, wanted, opened, letters as name_letters, bound_number, free_number, binder_number, typing, level, after, begin, typed, step};
 ghost use Rattle.wh_cert_parts.specs.TypeViews.{type_stack, type_place};
@@ -177,7 +178,7 @@ fn opens_second(stack: &[Frame], byte: u8) -> bool
 /// The byte begins one more argument behind these and another one, and may.
 #[tactic(auto, using(crate::proofs::TermCode::next_argument))]
 fn begins_argument(args: &RawTerms, byte: u8) -> bool
-    ensures { result ≡ ((byte == 32) && nat_lt (suc (term_count (rtms args.now))) most_arguments) }
+    ensures { result ≡ ((byte == space) && nat_lt (suc (term_count (rtms args.now))) most_arguments) }
 {
     byte == b' ' && args.as_slice().len() < MOST_ARGUMENTS - 1
 }
@@ -423,8 +424,8 @@ fn end_body(
     term: RawTerm,
     byte: u8,
 ) -> Result<TermStep, AllocError>
-    ensures { IfOk result (λ next. (fs : List Frame) → term_went fs next ≡ after (in_body number (rty kind.value) (term_stack fs)) (rtm term)
-        byte) }
+    ensures { IfOk result (λ next. (fs : List Frame) → term_went fs next
+        ≡ after (in_body number (rty kind.value) (term_stack fs)) (rtm term) byte) }
 {
     if byte != b')' {
         return Ok(TermStep::Wrong);

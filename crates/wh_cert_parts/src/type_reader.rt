@@ -3,7 +3,7 @@
 ghost use Rattle.std.specs.Prelude.{◌≡◌, ◌==◌, ◌&&◌, nat_lt, IfOk, OnOk, MatchOption};
 ghost use Rattle.wh_types.specs.Limits.{deepest_certificate_type, most_certificate_arguments};
 ghost use Rattle.wh_text.specs.Erase.{rty, rtys};
-ghost use Rattle.wh_cert_parts.specs.TermLimits.{type_count};
+ghost use Rattle.wh_cert.specs.TermLimits.{type_count};
 ghost use Rattle.wh_cert_parts.specs.TypeMachine.{outside, inside, type_wanted, dash, closed_type, sort_name, type_level, has_room, has_types, name_ended, type_step};
 ghost use Rattle.wh_cert_parts.specs.TypeViews.{type_stack, type_place, type_went};
 
@@ -97,7 +97,8 @@ fn may_open(stack: &[RawTypes]) -> bool
 
 /// The byte opens a parenthesis, and may.
 fn opens(stack: &[RawTypes], byte: u8) -> bool
-    ensures { result ≡ ((byte == 40) && (nat_lt (type_level (type_stack stack.now)) deepest_certificate_type && has_room (type_stack stack.now))) }
+    ensures { result ≡ ((byte == 40)
+        && (nat_lt (type_level (type_stack stack.now)) deepest_certificate_type && has_room (type_stack stack.now))) }
 {
     byte == b'(' && may_open(stack)
 }

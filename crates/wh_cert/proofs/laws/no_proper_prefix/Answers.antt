@@ -1,5 +1,0 @@
-use Rattle.wh_cert.proofs.Whole.{no_proper_prefix}
-use Rattle.wh_cert.proofs.laws.no_proper_prefix.Goals as goal
-
-pub returns : goal.returns
-returns c = no_proper_prefix

@@ -1,5 +1,0 @@
-use Rattle.wh_cert.proofs.Whole.{one_certificate}
-use Rattle.wh_cert.proofs.laws.one_certificate.Goals as goal
-
-pub returns : goal.returns
-returns c = one_certificate

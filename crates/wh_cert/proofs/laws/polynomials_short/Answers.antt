@@ -1,5 +1,0 @@
-use Rattle.wh_cert.proofs.TextLengths.{polys_short}
-use Rattle.wh_cert.proofs.laws.polynomials_short.Goals as goal
-
-pub returns : goal.returns
-returns c = polys_short

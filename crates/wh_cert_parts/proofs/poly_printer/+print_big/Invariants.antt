@@ -1,4 +1,0 @@
-use Rattle.wh_cert_parts.proofs.poly_printer.+print_big.Given as goal
-
-abbrev pub decreases-print_big : goal.decreases-print_big
-decreases-print_big l = l.number

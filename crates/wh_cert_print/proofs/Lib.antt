@@ -1,0 +1,4 @@
+pub mod PrintedLists
+pub mod PrintPolyCode
+pub mod PrintCode
+pub mod PrintLinesCode

@@ -1,0 +1,17 @@
+pub mod PolyLinesSound
+pub mod YesSound
+pub mod LinesComplete
+pub mod YesComplete
+pub mod YesReached
+pub mod Ended
+pub mod YesEnds
+pub mod LineSound
+pub mod Reached
+pub mod LineComplete
+pub mod LineEnds
+pub mod Whole
+pub mod TextOrFault
+pub mod TextLengths
+pub mod PolyLinesCode
+pub mod YesCode
+pub mod ReadCode

@@ -1,0 +1,453 @@
+-- What the reader of YES certificates has read is spelled: each step keeps what a place has read, and that it is within the
+-- limits.
+use Rattle.std.proofs.Common.{◌≡◌, ℕ, zero, suc, ◌+◌, ◌-◌, ◌*◌, ◌<◌, ◌≤◌, Bool, true, false, cond, ◌==◌, ◌&&◌, nat_lt, List, [], ◌∷◌, ◌++◌, length, codes, refl, sym, ap, ◌∙◌, subst, arith, append_assoc, length-append}
+use Rattle.std.specs.List.{All}
+use Rattle.std.proofs.lemmas.Bool.{eqb-true, cond_both}
+use Rattle.std.proofs.lemmas.List.Elements.{All-nil, All-push, All-weaker}
+use Rattle.std.specs.Fmt.{decimal}
+use Rattle.wh_text.specs.Chars.{is_digit, is_start, is_part}
+use Rattle.wh_text.specs.Words.{IsWord}
+use Rattle.wh_letters.specs.Digits.{goes_on}
+use Rattle.wh_letters.proofs.NamesAndNumbers.{first_letter, next_letter, first_digit_spelled, first_digit_small, goes_on_true, next_digit_spelled}
+use Rattle.wh_cert.specs.TermLimits.{IsSmall}
+use Rattle.wh_cert.specs.Written.{Arg, Node, blocks, children}
+use Rattle.wh_cert.specs.Text.{put_numbers, put_block, put_blocks, put_arg, put_args, put_node, put_nodes}
+use Rattle.wh_cert.specs.Limits.{ArgFits, NodeFits, NodeWithin}
+use Rattle.wh_cert_text.specs.YesMachine.{Item, ranks_item, pairs_item, node_item, end_item, Listed, of_ranks, of_block, of_drop, of_poly, Counted, of_pairs, of_blocks, of_place, of_list, Behind, to_list, to_pairs, to_done, to_alone, to_blocks, to_subterm, to_name, to_poly, to_line, to_finish, Place, word, listed, number_wanted, number, front, arg_front, name_wanted, letters, poly_lines, finished, LineStep, on, gives, refused, spelling, behind, word_on, list_ended, count_ended, list_step, number_ended, front_step, lines_led, step}
+use Rattle.wh_cert_text.specs.PolyLines as l
+use Rattle.wh_cert_text.specs.PolyLines.{Lines, in_funs, in_marks, in_rules, in_pairs, lines_front, LinesStep, begins, drops, line_first, line_begun, lines_step}
+use Rattle.wh_cert_text.proofs.PolyLinesSound.{put_lines, lines_seen, GoodLines, GoodLinesPlace, LinesNext, no_interps, no_covers, lines_wider, begun_good, begun_text, lines_kept}
+
+-- one more at the end of a list
+
+pub put_numbers_add : (xs : List ℕ) (n : ℕ) (r : List ℕ) → put_numbers (xs ++ n ∷ []) r ≡ put_numbers xs (32 ∷ (decimal n ++ r))
+put_numbers_add [] n r = refl
+put_numbers_add (x ∷ xs) n r = ap (λ (s : List ℕ). 32 ∷ (decimal x ++ s)) (put_numbers_add xs n r)
+
+pub put_blocks_add : (parts : List (List ℕ)) (xs r : List ℕ) → put_blocks (parts ++ xs ∷ []) r ≡ put_blocks parts (put_block xs r)
+put_blocks_add [] xs r = refl
+put_blocks_add (ys ∷ parts) xs r = ap (put_block ys) (put_blocks_add parts xs r)
+
+pub put_args_add : (args : List Arg) (a : Arg) (r : List ℕ) → put_args (args ++ a ∷ []) r ≡ put_args args (put_arg a r)
+put_args_add [] a r = refl
+put_args_add (b ∷ args) a r = ap (put_arg b) (put_args_add args a r)
+
+pub put_nodes_add : (nodes : List Node) (x : Node) (r : List ℕ) → put_nodes (nodes ++ x ∷ []) r ≡ put_nodes nodes (put_node x r)
+put_nodes_add [] x r = refl
+put_nodes_add (y ∷ nodes) x r = ap (put_node y) (put_nodes_add nodes x r)
+
+-- the parts of a certificate come in three stages: the ranks, the number of pairs, the nodes
+
+pub data Stage : Type 0 where
+  first second third : Stage
+
+abbrev pub listed_stage : Listed → Stage
+listed_stage of_ranks = first
+listed_stage _ = third
+
+abbrev pub counted_stage : Counted → Stage
+counted_stage of_pairs = second
+counted_stage (of_list of xs) = listed_stage of
+counted_stage _ = third
+
+abbrev pub word_stage : Behind → Stage
+word_stage (to_list of) = listed_stage of
+word_stage to_pairs = second
+word_stage _ = third
+
+abbrev pub stage : Place → Stage
+stage (word w o) = word_stage o
+stage (listed of xs) = listed_stage of
+stage (number_wanted of) = counted_stage of
+stage (number of n) = counted_stage of
+stage _ = third
+
+abbrev pub item_from : Item → Stage
+item_from (ranks_item xs) = first
+item_from (pairs_item n) = second
+item_from _ = third
+
+abbrev pub item_to : Item → Stage
+item_to (ranks_item xs) = second
+item_to _ = third
+
+-- what was read since the last item, with r behind it
+
+abbrev pub before_list : Listed → List ℕ → List ℕ
+before_list of_ranks r = r
+before_list (of_block left parts) r = codes "blocks " ++ (decimal (length parts + suc left) ++ (10 ∷ put_blocks parts r))
+before_list (of_drop args) r = codes "subterm" ++ (10 ∷ put_args args r)
+before_list (of_poly funs marks rules pairs) r = codes "poly" ++ (10 ∷ put_lines (in_pairs funs marks rules pairs) r)
+
+abbrev pub before_word : Behind → List ℕ → List ℕ
+before_word (to_list of) r = before_list of r
+before_word (to_name args) r = codes "subterm" ++ (10 ∷ put_args args r)
+before_word (to_line x) r = codes "poly" ++ (10 ∷ put_lines x r)
+before_word to_done r = 100 ∷ r
+before_word _ r = r
+
+abbrev pub list_lead : Listed → List ℕ → List ℕ → List ℕ
+list_lead of xs r = before_list of (spelling (to_list of) ++ put_numbers xs r)
+
+abbrev pub counted_lead : Counted → List ℕ → List ℕ
+counted_lead of_pairs r = codes "pairs " ++ r
+counted_lead of_blocks r = codes "blocks " ++ r
+counted_lead (of_place args name) r = codes "subterm" ++ (10 ∷ put_args args (codes "arg " ++ (name ++ (32 ∷ r))))
+counted_lead (of_list of xs) r = list_lead of xs (32 ∷ r)
+
+abbrev pub lead : Place → List ℕ → List ℕ
+lead (listed of xs) r = list_lead of xs r
+lead (number_wanted of) r = counted_lead of r
+lead (number of n) r = counted_lead of (decimal n ++ r)
+lead (arg_front args) r = codes "subterm" ++ (10 ∷ put_args args r)
+lead (name_wanted args) r = codes "subterm" ++ (10 ∷ put_args args (codes "arg " ++ r))
+lead (letters args xs) r = codes "subterm" ++ (10 ∷ put_args args (codes "arg " ++ (xs ++ r)))
+lead (poly_lines x k) r = codes "poly" ++ (10 ∷ lines_seen x k r)
+lead finished r = codes "end" ++ (10 ∷ r)
+lead _ r = r
+
+-- the place has read f since the last item
+abbrev pub PlaceReads : Place → (List ℕ → List ℕ) → Type 0
+PlaceReads (word w o) f = (v : List ℕ) × (v ++ w ≡ spelling o) × ((r : List ℕ) → before_word o (v ++ r) ≡ f r)
+PlaceReads p f = (r : List ℕ) → lead p r ≡ f r
+
+abbrev pub item_text : Item → List ℕ → List ℕ
+item_text (ranks_item xs) r = codes "YES 1" ++ (10 ∷ (codes "ranks" ++ put_numbers xs (10 ∷ r)))
+item_text (pairs_item n) r = codes "pairs " ++ (decimal n ++ (10 ∷ r))
+item_text (node_item x) r = put_node x r
+item_text end_item r = r
+
+-- the limits, where n bytes were read since the last item
+
+-- d: the word of the list's line was read
+abbrev pub GoodListed : ℕ → ℕ → Listed → Type 0
+GoodListed d n of_ranks = Unit {0}
+GoodListed d n (of_block left parts) =
+    IsSmall (length parts + suc left) × All (All IsSmall) parts × All (λ block. length block ≤ n) parts × (2 * length parts + d ≤ n)
+GoodListed d n (of_drop args) = All ArgFits args × (length args ≤ n) × (1 + d ≤ n)
+GoodListed d n (of_poly funs marks rules pairs) = GoodLines n (in_pairs funs marks rules pairs) × (1 + d ≤ n)
+
+abbrev pub GoodArgs : ℕ → List Arg → Type 0
+GoodArgs n args = All ArgFits args × (length args ≤ n)
+
+abbrev pub GoodNumbers : ℕ → List ℕ → Type 0
+GoodNumbers n xs = All IsSmall xs × (length xs ≤ n)
+
+abbrev pub GoodCounted : ℕ → Counted → Type 0
+GoodCounted n (of_place args name) = GoodArgs n args × IsWord name
+GoodCounted n (of_list of xs) = GoodListed 1 n of × All IsSmall xs × (length xs < n)
+GoodCounted n _ = Unit {0}
+
+abbrev pub GoodBehind : ℕ → Behind → Type 0
+GoodBehind n (to_list of) = GoodListed 0 n of
+GoodBehind n (to_name args) = GoodArgs n args
+GoodBehind n (to_line x) = GoodLines n x
+GoodBehind n _ = Unit {0}
+
+abbrev pub GoodPlace : ℕ → Place → Type 0
+GoodPlace n (word [] o) = ⊥
+GoodPlace n (word (x ∷ w) o) = GoodBehind n o
+GoodPlace n (listed of xs) = GoodListed 1 n of × GoodNumbers n xs
+GoodPlace n (number_wanted of) = GoodCounted n of
+GoodPlace n (number of k) = IsSmall k × GoodCounted n of
+GoodPlace n (arg_front args) = GoodArgs n args
+GoodPlace n (name_wanted args) = GoodArgs n args
+GoodPlace n (letters args xs) = GoodArgs n args × IsWord xs
+GoodPlace n (poly_lines x k) = GoodLines n x × GoodLinesPlace n x k
+GoodPlace n _ = Unit {0}
+
+-- the place is right where a node is wanted, or where none is
+
+abbrev pub ListedFor : Bool → Listed → Type 0
+ListedFor wants of_ranks = Unit {0}
+ListedFor wants _ = wants ≡ true
+
+abbrev pub CountedFor : Bool → Counted → Type 0
+CountedFor wants of_pairs = Unit {0}
+CountedFor wants (of_list of xs) = ListedFor wants of
+CountedFor wants _ = wants ≡ true
+
+abbrev pub BehindFor : Bool → Behind → Type 0
+BehindFor wants (to_list of) = ListedFor wants of
+BehindFor wants to_pairs = Unit {0}
+BehindFor wants to_finish = wants ≡ false
+BehindFor wants _ = wants ≡ true
+
+abbrev pub PlaceFor : Bool → Place → Type 0
+PlaceFor wants (word w o) = BehindFor wants o
+PlaceFor wants (listed of xs) = ListedFor wants of
+PlaceFor wants (number_wanted of) = CountedFor wants of
+PlaceFor wants (number of n) = CountedFor wants of
+PlaceFor wants front = Unit {0}
+PlaceFor wants finished = wants ≡ false
+PlaceFor wants _ = wants ≡ true
+
+-- an item after n bytes: within its limits, and given where a node is wanted, or none
+abbrev pub ItemGood : Bool → ℕ → Item → Type 0
+ItemGood wants n (ranks_item xs) = GoodNumbers n xs
+ItemGood wants n (pairs_item k) = IsSmall k
+ItemGood wants n (node_item x) = (wants ≡ true) × NodeFits x × NodeWithin n x × (2 * children x ≤ n)
+ItemGood wants n end_item = wants ≡ false
+
+-- where the next item is begun
+abbrev pub PlaceAfter : Bool → Item → Place → Type 0
+PlaceAfter wants end_item p = PlaceFor wants p
+PlaceAfter wants i p = (any : Bool) → PlaceFor any p
+
+-- after n bytes the step leads on in this stage, or gives an item of it, and has read f since the last item
+abbrev pub LineNext : Bool → ℕ → LineStep → Stage → (List ℕ → List ℕ) → Type 0
+LineNext wants n (on p) s f = (stage p ≡ s) × GoodPlace n p × PlaceFor wants p × PlaceReads p f
+LineNext wants n (gives i p) s f = (item_from i ≡ s) × (stage p ≡ item_to i) × ItemGood wants n i × GoodPlace 0 p × PlaceAfter wants i p × ((g : List ℕ → List ℕ) × PlaceReads p g × ((r : List ℕ) → item_text i (g r) ≡ f r))
+LineNext wants n refused s f = Unit {0}
+
+if_byte : (wants : Bool) (n b c : ℕ) (s o : LineStep) (st : Stage) (f : List ℕ → List ℕ) → LineNext wants n s st (λ r. f (c ∷ r)) → LineNext wants n o st (λ r. f (b ∷ r)) → LineNext wants n (cond (b == c) s o) st (λ r. f (b ∷ r))
+if_byte wants n b c s o st f so other =
+    cond_both (b == c) s o (λ t. LineNext wants n t st (λ r. f (b ∷ r)))
+    (λ e. subst (λ (x : ℕ). LineNext wants n s st (λ r. f (x ∷ r))) (sym (eqb-true b c e)) so)
+    (λ e. other)
+
+if_so : (wants : Bool) (n : ℕ) (t : Bool) (s o : LineStep) (st : Stage) (f : List ℕ → List ℕ) → (t ≡ true → LineNext wants n s st f) → (t ≡ false → LineNext wants n o st f) → LineNext wants n (cond t s o) st f
+if_so wants n t s o st f so other = cond_both t s o (λ u. LineNext wants n u st f) so other
+
+reads_same : (p : Place) (f g : List ℕ → List ℕ) → ((r : List ℕ) → f r ≡ g r) → PlaceReads p f → PlaceReads p g
+reads_same (word w o) f g same (v, is, reads) = (v, is, λ r. reads r ∙ same r)
+reads_same p f g same reads = λ r. reads r ∙ same r
+
+next_same : (wants : Bool) (n : ℕ) (s : LineStep) (st : Stage) (f g : List ℕ → List ℕ) → ((r : List ℕ) → f r ≡ g r) → LineNext wants n s st f → LineNext wants n s st g
+next_same wants n (on p) st f g same h = (h.0, h.1, h.2, reads_same p f g same h.3)
+next_same wants n (gives i p) st f g same h =
+    (h.0, h.1, h.2, h.3, h.4, (h.5.0, h.5.1, λ r. h.5.2 r ∙ same r))
+next_same wants n refused st f g same h = tt
+
+-- one more byte leaves the limits good
+
+within_wider : (n m : ℕ) (parts : List (List ℕ)) → n ≤ m → All (λ (block : List ℕ). length block ≤ n) parts → All (λ (block : List ℕ). length block ≤ m) parts
+within_wider n m parts le h =
+    All-weaker (λ (block : List ℕ). length block ≤ n) (λ (block : List ℕ). length block ≤ m) (λ block p. omega arith) parts h
+
+listed_wider : (d n : ℕ) (of : Listed) → GoodListed d n of → GoodListed d (suc n) of
+listed_wider d n of_ranks g = tt
+listed_wider d n (of_block left parts) g = (g.0, g.1, within_wider n (suc n) parts (omega arith) g.2, omega (arith, g.3))
+listed_wider d n (of_drop args) g = (g.0, omega (arith, g.1), omega (arith, g.2))
+listed_wider d n (of_poly funs marks rules pairs) g =
+    (lines_wider n (suc n) (in_pairs funs marks rules pairs) (omega arith) g.0, omega (arith, g.1))
+
+-- the word of the list's line ends
+listed_begun : (n : ℕ) (of : Listed) → GoodListed 0 n of → GoodListed 1 (suc n) of
+listed_begun n of_ranks g = tt
+listed_begun n (of_block left parts) g = (g.0, g.1, within_wider n (suc n) parts (omega arith) g.2, omega (arith, g.3))
+listed_begun n (of_drop args) g = (g.0, omega (arith, g.1), omega (arith, g.2))
+listed_begun n (of_poly funs marks rules pairs) g =
+    (lines_wider n (suc n) (in_pairs funs marks rules pairs) (omega arith) g.0, omega (arith, g.1))
+
+args_wider : (n : ℕ) (args : List Arg) → GoodArgs n args → GoodArgs (suc n) args
+args_wider n args g = (g.0, omega (arith, g.1))
+
+numbers_wider : (n : ℕ) (xs : List ℕ) → GoodNumbers n xs → GoodNumbers (suc n) xs
+numbers_wider n xs g = (g.0, omega (arith, g.1))
+
+counted_wider : (n : ℕ) (of : Counted) → GoodCounted n of → GoodCounted (suc n) of
+counted_wider n of_pairs g = tt
+counted_wider n of_blocks g = tt
+counted_wider n (of_place args name) g = (args_wider n args g.0, g.1)
+counted_wider n (of_list of xs) g = (listed_wider 1 n of g.0, g.1, omega (arith, g.2))
+
+behind_wider : (n : ℕ) (o : Behind) → GoodBehind n o → GoodBehind (suc n) o
+behind_wider n (to_list of) g = listed_wider 0 n of g
+behind_wider n (to_name args) g = args_wider n args g
+behind_wider n to_poly g = tt
+behind_wider n (to_line x) g = lines_wider n (suc n) x (omega arith) g
+behind_wider n to_pairs g = tt
+behind_wider n to_done g = tt
+behind_wider n to_alone g = tt
+behind_wider n to_blocks g = tt
+behind_wider n to_subterm g = tt
+behind_wider n to_finish g = tt
+
+-- fixed words
+
+no_args : All ArgFits []
+no_args = All-nil ArgFits
+
+no_numbers : All IsSmall []
+no_numbers = All-nil IsSmall
+
+behind_kept : (wants : Bool) (n : ℕ) (o : Behind) → GoodBehind n o → BehindFor wants o → LineNext wants (suc n) (behind o) (word_stage o) (λ r. before_word o (spelling o ++ r))
+behind_kept wants n (to_list of) g a = (refl, (listed_begun n of g, (no_numbers, omega arith)), a, λ r. refl)
+behind_kept wants n to_pairs g a = (refl, tt, tt, λ r. refl)
+behind_kept wants n to_done g a = (refl, refl, (a, tt, tt, omega arith), tt, (λ any. tt), ((λ (r : List ℕ). r), (λ r. refl), (λ r. refl)))
+behind_kept wants n to_alone g a = (refl, refl, (a, tt, tt, omega arith), tt, (λ any. tt), ((λ (r : List ℕ). r), (λ r. refl), (λ r. refl)))
+behind_kept wants n to_blocks g a = (refl, tt, a, λ r. refl)
+behind_kept wants n to_subterm g a = (refl, (no_args, omega arith), a, λ r. refl)
+behind_kept wants n (to_name args) g a = (refl, args_wider n args g, a, λ r. refl)
+behind_kept wants n to_poly g a = (refl, (no_interps (suc n), tt), a, λ r. refl)
+behind_kept wants n (to_line x) g a =
+    (refl, (lines_wider n (suc n) x (omega arith) g, begun_good (suc n) x), a, λ r. ap (λ (s : List ℕ). codes "poly" ++ (10 ∷ s)) (begun_text x r))
+behind_kept wants n to_finish g a = (refl, refl, a, tt, a, ((λ (r : List ℕ). codes "end" ++ (10 ∷ r)), (λ r. refl), (λ r. refl)))
+
+word_kept : (wants : Bool) (n x : ℕ) (w : List ℕ) (o : Behind) (v : List ℕ) (f : List ℕ → List ℕ) → GoodBehind n o → BehindFor wants o → v ++ x ∷ w ≡ spelling o → ((r : List ℕ) → before_word o (v ++ r) ≡ f r) → LineNext wants (suc n) (word_on w o) (word_stage o) (λ r. f (x ∷ r))
+word_kept wants n x [] o v f g a is reads =
+    next_same wants (suc n) (behind o) (word_stage o) (λ r. before_word o (spelling o ++ r)) (λ r. f (x ∷ r))
+    (λ r. ap (λ (s : List ℕ). before_word o (s ++ r)) (sym is) ∙ ap (before_word o) (append_assoc v (x ∷ []) r) ∙ reads (x ∷ r))
+    (behind_kept wants n o g a)
+word_kept wants n x (y ∷ w) o v f g a is reads =
+    (refl, behind_wider n o g, a, (v ++ x ∷ [], append_assoc v (x ∷ []) (y ∷ w) ∙ is, λ r. ap (before_word o) (append_assoc v (x ∷ []) r) ∙ reads (x ∷ r)))
+
+-- lists
+
+block_small : (left : ℕ) (parts : List (List ℕ)) (xs : List ℕ) → length (parts ++ xs ∷ []) + left ≡ length parts + suc left
+block_small left parts xs = omega (arith, length-append parts (xs ∷ []))
+
+list_ended_kept : (wants : Bool) (n : ℕ) (of : Listed) (xs : List ℕ) → GoodListed 1 n of → GoodNumbers n xs → ListedFor wants of → LineNext wants (suc n) (list_ended of xs) (listed_stage of) (λ r. list_lead of xs (10 ∷ r))
+list_ended_kept wants n of_ranks xs g few a =
+    (refl, refl, numbers_wider n xs few, tt, (λ any. tt), ((λ (r : List ℕ). r), ([], refl, λ r. refl), (λ r. refl)))
+list_ended_kept wants n (of_block zero parts) xs g few a =
+    let one : length (parts ++ xs ∷ []) ≡ length parts + 1 = length-append parts (xs ∷ []) in
+    let fits : NodeFits (blocks (parts ++ xs ∷ [])) = (subst IsSmall (sym one) g.0, All-push (All IsSmall) parts xs g.1 few.0) in
+    let lists : NodeWithin (suc n) (blocks (parts ++ xs ∷ [])) = All-push (λ (block : List ℕ). length block ≤ suc n) parts xs (within_wider n (suc n) parts (omega arith) g.2) (omega (arith, few.1)) in
+    (refl, refl, (a, fits, lists, omega (arith, one, g.3)), tt, (λ any. tt), ((λ (r : List ℕ). r), (λ r. refl), (λ r. ap (λ (k : ℕ). codes "blocks " ++ (decimal k ++ (10 ∷ put_blocks (parts ++ xs ∷ []) r))) one ∙ ap (λ (s : List ℕ). codes "blocks " ++ (decimal (length parts + 1) ++ (10 ∷ s))) (put_blocks_add parts xs r))))
+list_ended_kept wants n (of_block (suc left) parts) xs g few a =
+    let one : length (parts ++ xs ∷ []) ≡ length parts + 1 = length-append parts (xs ∷ []) in
+    let same : length (parts ++ xs ∷ []) + suc left ≡ length parts + suc (suc left) = block_small (suc left) parts xs in
+    let lists : All (λ (block : List ℕ). length block ≤ suc n) (parts ++ xs ∷ []) = All-push (λ (block : List ℕ). length block ≤ suc n) parts xs (within_wider n (suc n) parts (omega arith) g.2) (omega (arith, few.1)) in (
+      refl,
+      (subst IsSmall (sym same) g.0, All-push (All IsSmall) parts xs g.1 few.0, lists, omega (arith, one, g.3)),
+      a,
+      ([], refl, λ r. ap (λ (k : ℕ). codes "blocks " ++ (decimal k ++ (10 ∷ put_blocks (parts ++ xs ∷ []) r))) same ∙ ap (λ (s : List ℕ). codes "blocks " ++ (decimal (length parts + suc (suc left)) ++ (10 ∷ s))) (put_blocks_add parts xs r)),
+    )
+list_ended_kept wants n (of_drop args) xs g few a =
+    (refl, refl, (a, (g.0, few.0), (omega (arith, g.1), omega (arith, few.1)), omega (arith, g.2)), tt, (λ any. tt), ((λ (r : List ℕ). r), (λ r. refl), (λ r. refl)))
+list_ended_kept wants n (of_poly funs marks rules pairs) xs g few a =
+    let wide = lines_wider n (suc n) (in_pairs funs marks rules pairs) (omega arith) g.0 in
+    (refl, refl, (a, (wide.0.0, wide.1.0, wide.2.0, wide.3.0, few.0), (wide.0.1, wide.1.1, wide.2.1, wide.2.2, wide.3.1, wide.3.2, omega (arith, few.1)), omega (arith, g.1)), tt, (λ any. tt), ((λ (r : List ℕ). r), (λ r. refl), (λ r. refl)))
+
+list_kept : (wants : Bool) (n : ℕ) (of : Listed) (xs : List ℕ) (b : ℕ) → GoodListed 1 n of → GoodNumbers n xs → ListedFor wants of → LineNext wants (suc n) (list_step of xs b) (listed_stage of) (λ r. list_lead of xs (b ∷ r))
+list_kept wants n of xs b g few a =
+    if_byte wants (suc n) b 32 (on (number_wanted (of_list of xs))) (cond (b == 10) (list_ended of xs) refused) (listed_stage of) (list_lead of xs)
+    (refl, (listed_wider 1 n of g, few.0, omega (arith, few.1)), a, λ r. refl)
+    (if_byte wants (suc n) b 10 (list_ended of xs) refused (listed_stage of) (list_lead of xs) (list_ended_kept wants n of xs g few a) tt)
+
+-- numbers
+
+-- the count of blocks has been read
+count_ended_kept : (wants : Bool) (n k : ℕ) → IsSmall k → wants ≡ true → LineNext wants (suc n) (count_ended k) third (λ r. codes "blocks " ++ (decimal k ++ (10 ∷ r)))
+count_ended_kept wants n zero small a =
+    (refl, refl, (a, (omega arith, All-nil (All IsSmall)), All-nil (λ (block : List ℕ). length block ≤ suc n), omega arith), tt, (λ any. tt), ((λ (r : List ℕ). r), (λ r. refl), (λ r. refl)))
+count_ended_kept wants n (suc left) small a =
+    (refl, (omega (arith, small), All-nil (All IsSmall), All-nil (λ (block : List ℕ). length block ≤ suc n), omega arith), a, ([], refl, λ r. ap (λ (k : ℕ). codes "blocks " ++ (decimal k ++ (10 ∷ r))) (omega arith)))
+
+small_more : (xs : List ℕ) (k : ℕ) → All IsSmall xs → IsSmall k → All IsSmall (xs ++ k ∷ [])
+small_more xs k all small = All-push IsSmall xs k all small
+
+number_ended_kept : (wants : Bool) (n : ℕ) (of : Counted) (k b : ℕ) → IsSmall k → GoodCounted n of → CountedFor wants of → LineNext wants (suc n) (number_ended of k b) (counted_stage of) (λ r. counted_lead of (decimal k ++ b ∷ r))
+number_ended_kept wants n of_pairs k b small g a =
+    if_byte wants (suc n) b 10 (gives (pairs_item k) front) refused second (λ r. codes "pairs " ++ (decimal k ++ r))
+    (refl, refl, small, tt, (λ any. tt), ((λ (r : List ℕ). r), (λ r. refl), (λ r. refl))) tt
+number_ended_kept wants n of_blocks k b small g a =
+    if_byte wants (suc n) b 10 (count_ended k) refused third (λ r. codes "blocks " ++ (decimal k ++ r)) (count_ended_kept wants n k small a) tt
+number_ended_kept wants n (of_place args name) k b small g a =
+    let arg : Arg = record { name = name; place = k } in
+    if_byte wants (suc n) b 10 (on (arg_front (args ++ arg ∷ []))) refused third (λ r. counted_lead (of_place args name) (decimal k ++ r))
+    (refl, (All-push ArgFits args arg g.0.0 (record { name = g.1; place = small }), omega (arith, length-append args (arg ∷ []), g.0.1)), a, λ r. ap (λ (s : List ℕ). codes "subterm" ++ (10 ∷ s)) (put_args_add args arg r))
+    tt
+number_ended_kept wants n (of_list of xs) k b small g a =
+    next_same wants (suc n) (list_step of (xs ++ k ∷ []) b) (listed_stage of) (λ r. list_lead of (xs ++ k ∷ []) (b ∷ r)) (λ r. counted_lead (of_list of xs) (decimal k ++ b ∷ r))
+    (λ r. ap (λ (s : List ℕ). before_list of (spelling (to_list of) ++ s)) (put_numbers_add xs k (b ∷ r)))
+    (list_kept wants n of (xs ++ k ∷ []) b g.0 (small_more xs k g.1 small, omega (arith, length-append xs (k ∷ []), g.2)) a)
+
+first_digit_kept : (wants : Bool) (n : ℕ) (of : Counted) (b : ℕ) → GoodCounted n of → CountedFor wants of → LineNext wants (suc n) (cond (is_digit b) (on (number of (b - 48))) refused) (counted_stage of) (λ r. counted_lead of (b ∷ r))
+first_digit_kept wants n of b g a =
+    if_so wants (suc n) (is_digit b) (on (number of (b - 48))) refused (counted_stage of) (λ r. counted_lead of (b ∷ r))
+    (λ e. (refl, (first_digit_small b e, counted_wider n of g), a, λ r. ap (counted_lead of) (first_digit_spelled b r e)))
+    (λ e. tt)
+
+digits_kept : (wants : Bool) (n : ℕ) (of : Counted) (k b : ℕ) → IsSmall k → GoodCounted n of → CountedFor wants of → LineNext wants (suc n) (step wants (number of k) b) (counted_stage of) (λ r. counted_lead of (decimal k ++ b ∷ r))
+digits_kept wants n of k b small g a =
+    if_so wants (suc n) (goes_on k b) (on (number of (10 * k + (b - 48)))) (number_ended of k b) (counted_stage of) (λ r. counted_lead of (decimal k ++ b ∷ r))
+    (λ e. let is = goes_on_true k b e in (refl, (is.fits, counted_wider n of g), a, λ r. ap (counted_lead of) (next_digit_spelled k b r e)))
+    (λ e. number_ended_kept wants n of k b small g a)
+
+-- names
+
+letters_kept : (wants : Bool) (n : ℕ) (args : List Arg) (xs : List ℕ) (b : ℕ) → GoodArgs n args → IsWord xs → wants ≡ true → LineNext wants (suc n) (step wants (letters args xs) b) third (λ r. lead (letters args xs) (b ∷ r))
+letters_kept wants n args xs b g name a =
+    if_so wants (suc n) (is_part b && nat_lt (length xs) 64) (on (letters args (xs ++ b ∷ []))) (cond (b == 32) (on (number_wanted (of_place args xs))) refused) third (λ r. lead (letters args xs) (b ∷ r))
+    (λ e. (refl, (args_wider n args g, next_letter xs b name e), a, λ r. ap (λ (s : List ℕ). codes "subterm" ++ (10 ∷ put_args args (codes "arg " ++ s))) (append_assoc xs (b ∷ []) r)))
+    (λ e. if_byte wants (suc n) b 32 (on (number_wanted (of_place args xs))) refused third (lead (letters args xs)) (refl, (args_wider n args g, name), a, λ r. refl) tt)
+
+-- fronts
+
+node_kept : (wants : Bool) (n b : ℕ) → wants ≡ true → LineNext wants (suc n) (front_step true b) third (λ r. b ∷ r)
+node_kept wants n b a =
+    if_byte wants (suc n) b 100 (on (word (codes "one" ++ (10 ∷ [])) to_done)) _ third (λ r. r) (refl, tt, a, ([], refl, λ r. refl))
+    (if_byte wants (suc n) b 97 (on (word (codes "lone" ++ (10 ∷ [])) to_alone)) _ third (λ r. r) (refl, tt, a, (97 ∷ [], refl, λ r. refl))
+    (if_byte wants (suc n) b 98 (on (word (codes "locks ") to_blocks)) _ third (λ r. r) (refl, tt, a, (98 ∷ [], refl, λ r. refl))
+    (if_byte wants (suc n) b 115 (on (word (codes "ubterm" ++ (10 ∷ [])) to_subterm)) _ third (λ r. r) (refl, tt, a, (115 ∷ [], refl, λ r. refl))
+    (if_byte wants (suc n) b 112 (on (word (codes "oly" ++ (10 ∷ [])) to_poly)) refused third (λ r. r) (refl, tt, a, (112 ∷ [], refl, λ r. refl)) tt))))
+
+end_kept : (wants : Bool) (n b : ℕ) → wants ≡ false → LineNext wants (suc n) (front_step false b) third (λ r. b ∷ r)
+end_kept wants n b a =
+    if_byte wants (suc n) b 101 (on (word (codes "nd" ++ (10 ∷ [])) to_finish)) refused third (λ r. r) (refl, tt, a, (101 ∷ [], refl, λ r. refl)) tt
+
+front_kept : (wants : Bool) (n b : ℕ) → LineNext wants (suc n) (front_step wants b) third (λ r. b ∷ r)
+front_kept true n b = node_kept true n b refl
+front_kept false n b = end_kept false n b refl
+
+-- lines of interpretations
+
+in_node : (f g : List ℕ → List ℕ) → ((r : List ℕ) → f r ≡ g r) → (r : List ℕ) → codes "poly" ++ (10 ∷ f r) ≡ codes "poly" ++ (10 ∷ g r)
+in_node f g same r = ap (λ (s : List ℕ). codes "poly" ++ (10 ∷ s)) (same r)
+
+-- a line whose first byte was read
+line_kept : (wants : Bool) (n : ℕ) (x : Lines) (f : List ℕ → List ℕ) → wants ≡ true → GoodLines (suc n) x → ((r : List ℕ) → put_lines x (line_first x ∷ r) ≡ f r) → LineNext wants (suc n) (lines_led (begins x)) third (λ r. codes "poly" ++ (10 ∷ f r))
+line_kept wants n (in_funs funs) f a g same = (refl, g, a, (102 ∷ [], refl, in_node (λ r. put_lines (in_funs funs) (102 ∷ r)) f same))
+line_kept wants n (in_marks funs marks) f a g same =
+    (refl, g, a, (109 ∷ [], refl, in_node (λ r. put_lines (in_marks funs marks) (109 ∷ r)) f same))
+line_kept wants n (in_rules funs marks rules) f a g same =
+    (refl, g, a, (114 ∷ [], refl, in_node (λ r. put_lines (in_rules funs marks rules) (114 ∷ r)) f same))
+line_kept wants n (in_pairs funs marks rules pairs) f a g same =
+    (refl, g, a, (112 ∷ [], refl, in_node (λ r. put_lines (in_pairs funs marks rules pairs) (112 ∷ r)) f same))
+
+-- the line of `drop`
+drop_kept : (wants : Bool) (n : ℕ) (x : Lines) (f : List ℕ → List ℕ) → wants ≡ true → GoodLines (suc n) x → ((r : List ℕ) → put_lines x (100 ∷ r) ≡ f r) → LineNext wants (suc n) (lines_led (drops x)) third (λ r. codes "poly" ++ (10 ∷ f r))
+drop_kept wants n (in_funs funs) f a g same =
+    (refl, ((g, no_interps (suc n), no_covers (suc n), no_covers (suc n)), omega arith), a, (100 ∷ [], refl, in_node (λ r. put_lines (in_funs funs) (100 ∷ r)) f same))
+drop_kept wants n (in_marks funs marks) f a g same =
+    (refl, ((g.0, g.1, no_covers (suc n), no_covers (suc n)), omega arith), a, (100 ∷ [], refl, in_node (λ r. put_lines (in_marks funs marks) (100 ∷ r)) f same))
+drop_kept wants n (in_rules funs marks rules) f a g same =
+    (refl, ((g.0, g.1, g.2, no_covers (suc n)), omega arith), a, (100 ∷ [], refl, in_node (λ r. put_lines (in_rules funs marks rules) (100 ∷ r)) f same))
+drop_kept wants n (in_pairs funs marks rules pairs) f a g same =
+    (refl, (g, omega arith), a, (100 ∷ [], refl, in_node (λ r. put_lines (in_pairs funs marks rules pairs) (100 ∷ r)) f same))
+
+led_kept : (wants : Bool) (n : ℕ) (s : LinesStep) (f : List ℕ → List ℕ) → wants ≡ true → LinesNext (suc n) s f → LineNext wants (suc n) (lines_led s) third (λ r. codes "poly" ++ (10 ∷ f r))
+led_kept wants n (l.on x k) f a h = (refl, (h.0, h.1), a, in_node (lines_seen x k) f h.2)
+led_kept wants n (begins x) f a h = line_kept wants n x f a h.0 h.1
+led_kept wants n (drops x) f a h = drop_kept wants n x f a h.0 h.1
+led_kept wants n l.refused f a h = tt
+
+-- each step
+
+pub lead_kept : (wants : Bool) (n : ℕ) (p : Place) (b : ℕ) → GoodPlace n p → PlaceFor wants p → (f : List ℕ → List ℕ) → PlaceReads p f → LineNext wants (suc n) (step wants p b) (stage p) (λ r. f (b ∷ r))
+lead_kept wants n (word [] o) b g a f reads = absurd g
+lead_kept wants n (word (x ∷ w) o) b g a f (v, is, reads) =
+    if_byte wants (suc n) b x (word_on w o) refused (word_stage o) f (word_kept wants n x w o v f g a is reads) tt
+lead_kept wants n (listed of xs) b g a f reads =
+    next_same wants (suc n) (list_step of xs b) (listed_stage of) (λ r. list_lead of xs (b ∷ r)) (λ r. f (b ∷ r)) (λ r. reads (b ∷ r)) (list_kept wants n of xs b g.0 g.1 a)
+lead_kept wants n (number_wanted of) b g a f reads =
+    next_same wants (suc n) (step wants (number_wanted of) b) (counted_stage of) (λ r. counted_lead of (b ∷ r)) (λ r. f (b ∷ r)) (λ r. reads (b ∷ r)) (first_digit_kept wants n of b g a)
+lead_kept wants n (number of k) b g a f reads =
+    next_same wants (suc n) (step wants (number of k) b) (counted_stage of) (λ r. counted_lead of (decimal k ++ b ∷ r)) (λ r. f (b ∷ r)) (λ r. reads (b ∷ r)) (digits_kept wants n of k b g.0 g.1 a)
+lead_kept wants n front b g a f reads =
+    next_same wants (suc n) (front_step wants b) third (λ r. b ∷ r) (λ r. f (b ∷ r)) (λ r. reads (b ∷ r)) (front_kept wants n b)
+lead_kept wants n (arg_front args) b g a f reads =
+    next_same wants (suc n) (step wants (arg_front args) b) third (λ r. lead (arg_front args) (b ∷ r)) (λ r. f (b ∷ r)) (λ r. reads (b ∷ r))
+    (if_byte wants (suc n) b 97 (on (word (codes "rg ") (to_name args))) _ third (lead (arg_front args)) (refl, args_wider n args g, a, (97 ∷ [], refl, λ r. refl))
+    (if_byte wants (suc n) b 100 (on (word (codes "rop") (to_list (of_drop args)))) refused third (lead (arg_front args)) (refl, (g.0, omega (arith, g.1), omega arith), a, (100 ∷ [], refl, λ r. refl)) tt))
+lead_kept wants n (name_wanted args) b g a f reads =
+    next_same wants (suc n) (step wants (name_wanted args) b) third (λ r. lead (name_wanted args) (b ∷ r)) (λ r. f (b ∷ r)) (λ r. reads (b ∷ r))
+    (if_so wants (suc n) (is_start b) (on (letters args (b ∷ []))) refused third (λ r. lead (name_wanted args) (b ∷ r)) (λ e. (refl, (args_wider n args g, first_letter b e), a, λ r. refl)) (λ e. tt))
+lead_kept wants n (letters args xs) b g a f reads =
+    next_same wants (suc n) (step wants (letters args xs) b) third (λ r. lead (letters args xs) (b ∷ r)) (λ r. f (b ∷ r)) (λ r. reads (b ∷ r)) (letters_kept wants n args xs b g.0 g.1 a)
+lead_kept wants n (poly_lines x k) b g a f reads =
+    next_same wants (suc n) (lines_led (lines_step x k b)) third (λ r. lead (poly_lines x k) (b ∷ r)) (λ r. f (b ∷ r)) (λ r. reads (b ∷ r)) (led_kept wants n (lines_step x k b) (λ r. lines_seen x k (b ∷ r)) a (lines_kept n x k b g.0 g.1))
+lead_kept wants n finished b g a f reads = tt

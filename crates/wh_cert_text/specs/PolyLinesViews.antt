@@ -1,0 +1,45 @@
+-- What the values of the reader of the lines of a node of interpretations stand for.
+use Rattle.std.specs.Prelude.{map}
+use Rattle.wh_cert_parts.specs.PolyViews.{poly_stack, poly_place}
+use Rattle.wh_cert.specs.Said.{said_interp}
+use Rattle.wh_cert_text.specs.PolyLines as m
+use Rattle.wh_cert_text.specs.declared.poly_lines.Section.{Section}
+use Rattle.wh_cert_text.specs.declared.poly_lines.Section.TheVariants.{Funs, Marks, Rules, Pairs}
+use Rattle.wh_cert_text.specs.declared.poly_lines.LinesPlace.{LinesPlace}
+use Rattle.wh_cert_text.specs.declared.poly_lines.LinesPlace.TheVariants as place
+use Rattle.wh_cert_text.specs.declared.poly_lines.PolyLines.{PolyLines}
+use Rattle.wh_cert_text.specs.declared.poly_lines.LinesStep.{LinesStep}
+use Rattle.wh_cert_text.specs.declared.poly_lines.LinesStep.TheVariants as step
+
+-- the lines up to those of a kind
+abbrev pub section_of : Section → PolyLines → m.Lines
+section_of Funs l = m.in_funs (map said_interp l.funs)
+section_of Marks l = m.in_marks (map said_interp l.funs) (map said_interp l.marks)
+section_of Rules l = m.in_rules (map said_interp l.funs) (map said_interp l.marks) l.rules
+section_of Pairs l = m.in_pairs (map said_interp l.funs) (map said_interp l.marks) l.rules l.pairs
+
+abbrev pub lines_of : PolyLines → m.Lines
+lines_of l = section_of l.section l
+
+abbrev pub place_of : LinesPlace → PolyLines → m.LinesPlace
+place_of place.Front l = m.lines_front
+place_of place.NameWanted l = m.name_wanted
+place_of place.Name l = m.name l.name
+place_of place.Poly l = m.in_poly l.name (poly_stack l.poly.stack.items) (poly_place l.poly)
+place_of place.Moves l = m.moves l.moves
+place_of place.FromWanted l = m.from_wanted l.moves
+place_of (place.From n) l = m.from l.moves n
+place_of place.ToWanted l = m.to_wanted l.moves l.from
+place_of (place.To n) l = m.to l.moves l.from n
+place_of place.AmountWanted l = m.amount_wanted l.moves l.from l.to
+place_of (place.Amount n) l = m.amount l.moves l.from l.to n
+
+abbrev pub lines_place : PolyLines → m.LinesPlace
+lines_place l = place_of l.place l
+
+-- a step that left the lines so
+abbrev pub lines_went : LinesStep → PolyLines → m.LinesStep
+lines_went step.On l = m.on (lines_of l) (lines_place l)
+lines_went step.Begins l = m.begins (lines_of l)
+lines_went step.Drops l = m.drops (lines_of l)
+lines_went step.Wrong l = m.refused

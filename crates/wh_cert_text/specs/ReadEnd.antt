@@ -1,0 +1,10 @@
+-- Where the reader of certificates stands behind a whole certificate.
+use Rattle.std.specs.Prelude.{◌≡◌}
+use Rattle.wh_cert.specs.Written.{Cert, yes, no}
+use Rattle.wh_cert_text.specs.LineMachine.{finished, placed, Standing, stands, stands_yes}
+use Rattle.wh_cert_text.specs.YesMachine as y
+
+-- all of the certificate was read
+abbrev pub IsEnd : Standing → Cert → Type 0
+IsEnd s (no t steps at puts) = s ≡ stands (placed t steps at puts) finished
+IsEnd s (yes version ranks pairs nodes) = (version ≡ 1) × (s ≡ stands_yes (y.so_far ranks pairs nodes 0) y.finished)

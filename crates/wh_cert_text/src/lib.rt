@@ -1,0 +1,13 @@
+//! The texts of certificates, read byte by byte.
+#![tactic(auto)]
+
+mod laws;
+mod line_reader;
+mod poly_lines;
+mod read;
+mod yes_line;
+
+pub use laws::{
+    no_proper_prefix, one_certificate, one_place, one_text, polynomials_short, text_or_fault,
+};
+pub use read::read_certificate;

@@ -1,0 +1,482 @@
+//! The lines of a node of interpretations up to that of `drop`, byte by byte.
+
+ghost use Rattle.std.specs.Prelude.{◌≡◌, [], IfOk, OnOk};
+ghost use Rattle.wh_hopoly.specs.Erase.{poly};
+ghost use Rattle.wh_cert_parts.specs.PolyMachine.{poly_ended};
+ghost use Rattle.wh_cert_text.specs.PolyLines.{in_funs, lines_front, name_wanted, from_wanted, from, to_wanted, to, amount_wanted, amount, name as in_name, line_begun, to_marks, to_rules, to_pairs, first_step, mark_step, rule_step, pair_step, poly_led, moves_step, lines_step};
+ghost use Rattle.wh_cert_text.specs.YesMachine.{gives, node_item, front, list_ended, dropped};
+ghost use Rattle.wh_cert_text.specs.PolyLinesViews.{section_of, lines_of, lines_place, lines_went};
+ghost use Rattle.wh_cert.specs.Said.{said_poly};
+ghost use Rattle.wh_cert_text.specs.declared.poly_lines.Section.TheVariants as section;
+ghost use Rattle.wh_cert_text.specs.declared.poly_lines.LinesPlace.TheVariants as place;
+
+use std::alloc::{AllocError, Global};
+use std::mem;
+use wh_cert::{Interp, Interps, PolyNode};
+use wh_cert_parts::{PolyStep, PolyText};
+use wh_hopoly::{Covers, Move, Moves, Poly};
+use wh_letters::{Letters, begins_name, first_big, first_number, next_big, next_number};
+use wh_types::Numbers;
+
+/// Of which kind the last line is.
+#[derive(Clone, Copy)]
+pub enum Section {
+    /// Of a symbol.
+    Funs,
+    /// Of a marked symbol.
+    Marks,
+    /// Of a rule.
+    Rules,
+    /// Of a pair.
+    Pairs,
+}
+
+/// How far the present line was read; what is longer than a number stands in the lines themselves.
+#[derive(Clone, Copy)]
+pub enum LinesPlace {
+    /// Nothing of it.
+    Front,
+    /// `fun ` or `mark `.
+    NameWanted,
+    /// That and letters.
+    Name,
+    /// A part of a polynomial.
+    Poly,
+    /// Moves.
+    Moves,
+    /// These and a space.
+    FromWanted,
+    /// That and digits.
+    From(u32),
+    /// These and a `>`.
+    ToWanted,
+    /// That and digits.
+    To(u32),
+    /// These and a `:`.
+    AmountWanted,
+    /// That and digits.
+    Amount(u128),
+}
+
+/// The lines of a node of interpretations so far.
+#[derive(Drop)]
+pub struct PolyLines {
+    /// Of which kind the last line is.
+    pub section: Section,
+    /// How far it was read.
+    pub place: LinesPlace,
+    /// The interpretations of symbols.
+    pub funs: Interps,
+    /// Those of marked symbols.
+    pub marks: Interps,
+    /// The moves for rules.
+    pub rules: Covers,
+    /// The moves for pairs.
+    pub pairs: Covers,
+    /// The name in a line of an interpretation.
+    pub name: Letters,
+    /// Its polynomial.
+    pub poly: PolyText,
+    /// The moves in a line.
+    pub moves: Moves,
+    /// From where the present one goes.
+    pub from: u32,
+    /// And to where.
+    pub to: u32,
+}
+
+/// Where a byte leads.
+#[derive(Clone, Copy)]
+pub enum LinesStep {
+    /// On.
+    On,
+    /// To a line of the last kind, whose first byte it is.
+    Begins,
+    /// To the line of `drop`, whose first byte it is.
+    Drops,
+    /// Nowhere.
+    Wrong,
+}
+
+impl PolyLines {
+    /// Before all lines.
+    pub fn new(alloc: Global) -> Result<PolyLines, AllocError>
+        ensures lines { IfOk result (λ lines. lines_of lines ≡ in_funs []) }
+        ensures place { IfOk result (λ lines. lines_place lines ≡ lines_front) }
+    {
+        Ok(PolyLines {
+            section: Section::Funs,
+            place: LinesPlace::Front,
+            funs: Interps::new(alloc)?,
+            marks: Interps::new(alloc)?,
+            rules: Covers::new(alloc)?,
+            pairs: Covers::new(alloc)?,
+            name: Letters::new(alloc, b'a')?,
+            poly: PolyText::new(alloc)?,
+            moves: Moves::new(alloc)?,
+            from: 0,
+            to: 0,
+        })
+    }
+
+    /// Before all lines again.
+    pub fn restart(&mut self, alloc: Global) -> Result<(), AllocError>
+        ensures lines { OnOk result (lines_of self.new ≡ in_funs []) }
+        ensures place { OnOk result (lines_place self.new ≡ lines_front) }
+    {
+        self.funs = Interps::new(alloc)?;
+        self.section = Section::Funs;
+        self.place = LinesPlace::Front;
+        Ok(())
+    }
+
+    /// The place behind the word of a line of that kind.
+    pub fn begin_line(&mut self, alloc: Global, section: Section) -> Result<(), AllocError>
+        ensures lines { OnOk result (lines_of self.new ≡ section_of section self.old) }
+        ensures place { OnOk result (lines_place self.new ≡ line_begun (section_of section self.old)) }
+    {
+        match section {
+            Section::Funs | Section::Marks => self.place = LinesPlace::NameWanted,
+            Section::Rules | Section::Pairs => {
+                self.moves = Moves::new(alloc)?;
+                self.place = LinesPlace::Moves;
+            }
+        }
+        self.section = section;
+        Ok(())
+    }
+
+    /// The node of which all lines were read.
+    pub fn node(&mut self, alloc: Global, drop: Numbers) -> Result<PolyNode, AllocError>
+        ensures { IfOk result (λ node. gives (node_item (said_poly node)) front ≡ list_ended (dropped (lines_of self.old)) drop) }
+    {
+        self.enter_pairs(alloc)?;
+        let funs = mem::replace(&mut self.funs, Interps::new(alloc)?);
+        let marks = mem::replace(&mut self.marks, Interps::new(alloc)?);
+        let rules = mem::replace(&mut self.rules, Covers::new(alloc)?);
+        let pairs = mem::replace(&mut self.pairs, Covers::new(alloc)?);
+        Ok(PolyNode {
+            funs,
+            marks,
+            rules,
+            pairs,
+            drop,
+        })
+    }
+
+    /// Lines of marked symbols come.
+    fn enter_marks(&mut self, alloc: Global) -> Result<(), AllocError>
+        ensures { OnOk result (lines_of self.new ≡ to_marks (lines_of self.old)) }
+    {
+        match self.section {
+            Section::Funs => {
+                self.marks = Interps::new(alloc)?;
+                self.section = Section::Marks;
+            }
+            _ => {}
+        }
+        Ok(())
+    }
+
+    /// Lines of rules come.
+    fn enter_rules(&mut self, alloc: Global) -> Result<(), AllocError>
+        ensures { OnOk result (lines_of self.new ≡ to_rules (lines_of self.old)) }
+    {
+        match self.section {
+            Section::Funs => {
+                self.marks = Interps::new(alloc)?;
+                self.rules = Covers::new(alloc)?;
+                self.section = Section::Rules;
+            }
+            Section::Marks => {
+                self.rules = Covers::new(alloc)?;
+                self.section = Section::Rules;
+            }
+            _ => {}
+        }
+        Ok(())
+    }
+
+    /// Lines of pairs come.
+    fn enter_pairs(&mut self, alloc: Global) -> Result<(), AllocError>
+        ensures lines { OnOk result (lines_of self.new ≡ to_pairs (lines_of self.old)) }
+        ensures last { OnOk result (self.new.section ≡ section.Pairs) }
+    {
+        match self.section {
+            Section::Funs => {
+                self.marks = Interps::new(alloc)?;
+                self.rules = Covers::new(alloc)?;
+                self.pairs = Covers::new(alloc)?;
+            }
+            Section::Marks => {
+                self.rules = Covers::new(alloc)?;
+                self.pairs = Covers::new(alloc)?;
+            }
+            Section::Rules => self.pairs = Covers::new(alloc)?,
+            Section::Pairs => {}
+        }
+        self.section = Section::Pairs;
+        Ok(())
+    }
+
+    /// The step from a place in the lines.
+    pub fn step(&mut self, alloc: Global, byte: u8) -> Result<LinesStep, AllocError>
+        ensures { IfOk result (λ went. lines_went went self.new ≡ lines_step (lines_of self.old) (lines_place self.old) byte) }
+    {
+        match self.place {
+            LinesPlace::Front => self.step_front(alloc, byte),
+            LinesPlace::NameWanted => self.begin_name(alloc, byte),
+            LinesPlace::Name => self.step_name(alloc, byte),
+            LinesPlace::Poly => self.step_poly(alloc, byte),
+            LinesPlace::Moves => self.step_moves(alloc, byte),
+            LinesPlace::FromWanted => Ok(self.begin_from(byte)),
+            LinesPlace::From(number) => Ok(self.step_from(number, byte)),
+            LinesPlace::ToWanted => Ok(self.begin_to(byte)),
+            LinesPlace::To(number) => Ok(self.step_to(number, byte)),
+            LinesPlace::AmountWanted => Ok(self.begin_amount(byte)),
+            LinesPlace::Amount(number) => self.step_amount(alloc, number, byte),
+        }
+    }
+
+    /// The first byte of a line.
+    fn step_front(&mut self, alloc: Global, byte: u8) -> Result<LinesStep, AllocError>
+        ensures { IfOk result (λ went. lines_went went self.new ≡ first_step (lines_of self.old) byte) }
+    {
+        match self.section {
+            Section::Funs => {
+                if byte == b'f' {
+                    return Ok(LinesStep::Begins);
+                }
+                self.front_of_mark(alloc, byte)
+            }
+            Section::Marks => self.front_of_mark(alloc, byte),
+            Section::Rules => self.front_of_rule(alloc, byte),
+            Section::Pairs => self.front_of_pair(alloc, byte),
+        }
+    }
+
+    /// The first byte of a line that is none of a symbol.
+    fn front_of_mark(&mut self, alloc: Global, byte: u8) -> Result<LinesStep, AllocError>
+        ensures { IfOk result (λ went. lines_went went self.new ≡ mark_step (lines_of self.old) byte) }
+    {
+        if byte == b'm' {
+            self.enter_marks(alloc)?;
+            return Ok(LinesStep::Begins);
+        }
+        self.front_of_rule(alloc, byte)
+    }
+
+    /// The first byte of a line of a rule or a pair, or of that of `drop`.
+    fn front_of_rule(&mut self, alloc: Global, byte: u8) -> Result<LinesStep, AllocError>
+        ensures { IfOk result (λ went. lines_went went self.new ≡ rule_step (lines_of self.old) byte) }
+    {
+        if byte == b'r' {
+            self.enter_rules(alloc)?;
+            return Ok(LinesStep::Begins);
+        }
+        self.front_of_pair(alloc, byte)
+    }
+
+    /// The first byte of a line of a pair, or of that of `drop`.
+    fn front_of_pair(&mut self, alloc: Global, byte: u8) -> Result<LinesStep, AllocError>
+        ensures { IfOk result (λ went. lines_went went self.new ≡ pair_step (lines_of self.old) byte) }
+    {
+        if byte == b'p' {
+            self.enter_pairs(alloc)?;
+            return Ok(LinesStep::Begins);
+        }
+        if byte == b'd' {
+            self.enter_pairs(alloc)?;
+            return Ok(LinesStep::Drops);
+        }
+        Ok(LinesStep::Wrong)
+    }
+
+    /// The first letter of a symbol's name.
+    fn begin_name(&mut self, alloc: Global, byte: u8) -> Result<LinesStep, AllocError>
+        ensures { IfOk result (λ went. lines_went went self.new ≡ lines_step (lines_of self.old) name_wanted byte) }
+    {
+        if !begins_name(byte) {
+            return Ok(LinesStep::Wrong);
+        }
+        self.name = Letters::new(alloc, byte)?;
+        self.place = LinesPlace::Name;
+        Ok(LinesStep::On)
+    }
+
+    /// A symbol's name goes on with the byte, or has ended before it.
+    fn step_name(&mut self, alloc: Global, byte: u8) -> Result<LinesStep, AllocError>
+        ensures { IfOk result (λ went. lines_went went self.new ≡ lines_step (lines_of self.old) (in_name self.old.name) byte) }
+    {
+        if self.name.goes_on(byte) {
+            self.name.push(byte)?;
+            self.place = LinesPlace::Name;
+            return Ok(LinesStep::On);
+        }
+        if byte != b' ' {
+            return Ok(LinesStep::Wrong);
+        }
+        self.poly = PolyText::new(alloc)?;
+        self.place = LinesPlace::Poly;
+        Ok(LinesStep::On)
+    }
+
+    /// A polynomial goes on with the byte, or has ended before it.
+    fn step_poly(&mut self, alloc: Global, byte: u8) -> Result<LinesStep, AllocError>
+        requires { self.old.place ≡ place.Poly }
+        ensures { IfOk result (λ went. lines_went went self.new ≡ lines_step (lines_of self.old) (lines_place self.old) byte) }
+    {
+        match self.poly.step(alloc, byte)? {
+            PolyStep::On => Ok(LinesStep::On),
+            PolyStep::Ended(part) => self.end_interp(alloc, part, byte),
+            PolyStep::Wrong => Ok(LinesStep::Wrong),
+        }
+    }
+
+    /// A polynomial has ended before the byte, which ends its line.
+    #[tactic(auto, using(crate::proofs::PolyLinesCode::interps_grow))]
+    fn end_interp(&mut self, alloc: Global, part: Poly, byte: u8) -> Result<LinesStep, AllocError>
+        ensures { IfOk result (λ went. lines_went went self.new ≡ poly_led (lines_of self.old) self.old.name
+            (poly_ended (poly part) byte)) }
+    {
+        if byte != b'\n' {
+            return Ok(LinesStep::Wrong);
+        }
+        let name = self.name.name(alloc)?;
+        let item = Interp { name, poly: part };
+        match self.section {
+            Section::Funs => self.funs.push(item)?,
+            Section::Marks => self.marks.push(item)?,
+            _ => {}
+        }
+        self.place = LinesPlace::Front;
+        Ok(LinesStep::On)
+    }
+
+    /// Behind moves another one comes, or the line ends.
+    fn step_moves(&mut self, alloc: Global, byte: u8) -> Result<LinesStep, AllocError>
+        ensures { IfOk result (λ went. lines_went went self.new ≡ moves_step (lines_of self.old) self.old.moves byte) }
+    {
+        if byte == b' ' {
+            self.place = LinesPlace::FromWanted;
+            return Ok(LinesStep::On);
+        }
+        if byte != b'\n' {
+            return Ok(LinesStep::Wrong);
+        }
+        let moves = mem::replace(&mut self.moves, Moves::new(alloc)?);
+        match self.section {
+            Section::Rules => self.rules.push(moves)?,
+            Section::Pairs => self.pairs.push(moves)?,
+            _ => {}
+        }
+        self.place = LinesPlace::Front;
+        Ok(LinesStep::On)
+    }
+
+    /// The first digit of where a move goes from.
+    fn begin_from(&mut self, byte: u8) -> LinesStep
+        ensures { lines_went result self.new ≡ lines_step (lines_of self.old) (from_wanted self.old.moves) byte }
+    {
+        match first_number(byte) {
+            Some(number) => {
+                self.place = LinesPlace::From(number);
+                LinesStep::On
+            }
+            None => LinesStep::Wrong,
+        }
+    }
+
+    /// The number of where a move goes from goes on with the byte, or has ended before it.
+    fn step_from(&mut self, number: u32, byte: u8) -> LinesStep
+        ensures { lines_went result self.new ≡ lines_step (lines_of self.old) (from self.old.moves number) byte }
+    {
+        match next_number(number, byte) {
+            Some(next) => {
+                self.place = LinesPlace::From(next);
+                LinesStep::On
+            }
+            None => {
+                if byte != b'>' {
+                    return LinesStep::Wrong;
+                }
+                self.from = number;
+                self.place = LinesPlace::ToWanted;
+                LinesStep::On
+            }
+        }
+    }
+
+    /// The first digit of where a move goes to.
+    fn begin_to(&mut self, byte: u8) -> LinesStep
+        ensures { lines_went result self.new ≡ lines_step (lines_of self.old) (to_wanted self.old.moves self.old.from) byte }
+    {
+        match first_number(byte) {
+            Some(number) => {
+                self.place = LinesPlace::To(number);
+                LinesStep::On
+            }
+            None => LinesStep::Wrong,
+        }
+    }
+
+    /// The number of where a move goes to goes on with the byte, or has ended before it.
+    fn step_to(&mut self, number: u32, byte: u8) -> LinesStep
+        ensures { lines_went result self.new ≡ lines_step (lines_of self.old) (to self.old.moves self.old.from number) byte }
+    {
+        match next_number(number, byte) {
+            Some(next) => {
+                self.place = LinesPlace::To(next);
+                LinesStep::On
+            }
+            None => {
+                if byte != b':' {
+                    return LinesStep::Wrong;
+                }
+                self.to = number;
+                self.place = LinesPlace::AmountWanted;
+                LinesStep::On
+            }
+        }
+    }
+
+    /// The first digit of an amount.
+    fn begin_amount(&mut self, byte: u8) -> LinesStep
+        ensures { lines_went result self.new ≡ lines_step (lines_of self.old) (amount_wanted self.old.moves self.old.from self.old.to)
+            byte }
+    {
+        match first_big(byte) {
+            Some(number) => {
+                self.place = LinesPlace::Amount(number);
+                LinesStep::On
+            }
+            None => LinesStep::Wrong,
+        }
+    }
+
+    /// An amount goes on with the byte, or has ended before it.
+    fn step_amount(
+        &mut self,
+        alloc: Global,
+        number: u128,
+        byte: u8,
+    ) -> Result<LinesStep, AllocError>
+        ensures { IfOk result (λ went. lines_went went self.new
+            ≡ lines_step (lines_of self.old) (amount self.old.moves self.old.from self.old.to number) byte) }
+    {
+        match next_big(number, byte) {
+            Some(next) => {
+                self.place = LinesPlace::Amount(next);
+                Ok(LinesStep::On)
+            }
+            None => {
+                self.moves.push(Move {
+                    from: self.from,
+                    to: self.to,
+                    amount: number,
+                })?;
+                self.step_moves(alloc, byte)
+            }
+        }
+    }
+}

@@ -1,0 +1,512 @@
+//! YES certificates line by line: the step takes one byte, and gives an item where its last line is whole. It keeps nothing of
+//! the items before.
+
+ghost use Rattle.std.specs.Prelude.{◌≡◌, true, drop, map, IfOk};
+ghost use Rattle.wh_cert.specs.Said.{said_arg};
+ghost use Rattle.wh_cert_text.specs.YesMachine.{of_pairs, of_blocks, spelling, behind as stands_behind, list_ended, list_step, number_ended, front_step, word_step, digit_step, number_step, arg_step, letter_step, lines_led, step as machine_step};
+ghost use Rattle.wh_cert_text.specs.PolyLines.{lines_step};
+ghost use Rattle.wh_cert_text.specs.PolyLinesViews.{lines_of, lines_place};
+ghost use Rattle.wh_cert_text.specs.YesViews.{listed_of, behind_of, counted_of, yes_place, yes_went, next_block};
+ghost use Rattle.wh_cert_text.specs.declared.yes_line.YesLine.{YesLine};
+ghost use Rattle.wh_cert_text.specs.declared.yes_line.Listed.TheVariants as listed;
+ghost use Rattle.wh_cert_text.specs.declared.yes_line.YesBehind.TheVariants as behind;
+ghost use Rattle.wh_cert_text.specs.declared.yes_line.YesPlace.TheVariants as place;
+
+use crate::poly_lines::{LinesStep, PolyLines, Section};
+use std::alloc::{AllocError, Global};
+use std::mem;
+use wh_cert::{Arg, Args, Node};
+use wh_letters::{Letters, begins_name, first_number, next_number};
+use wh_types::{Blocks, Numbers};
+
+/// A list of numbers.
+#[derive(Clone, Copy)]
+pub enum Listed {
+    /// The ranks.
+    Ranks,
+    /// A block, behind which so many come.
+    Block(u32),
+    /// The pairs that are dropped, behind lines of arguments.
+    Drop,
+    /// The pairs that are dropped, behind lines of interpretations and moves.
+    Poly,
+}
+
+/// What a number is read for.
+#[derive(Clone, Copy)]
+pub enum Counted {
+    /// The number of pairs.
+    Pairs,
+    /// The number of blocks.
+    Blocks,
+    /// One more of a list.
+    List(Listed),
+}
+
+/// What stands behind a fixed word.
+#[derive(Clone, Copy)]
+pub enum YesBehind {
+    /// Numbers of a list.
+    List(Listed),
+    /// The number of pairs.
+    Pairs,
+    /// Nothing: a node `done`.
+    Done,
+    /// Nothing: a node `alone`.
+    Alone,
+    /// The number of blocks.
+    Blocks,
+    /// Lines of `arg` and `drop`.
+    Subterm,
+    /// The name of a symbol.
+    Name,
+    /// Lines of a node of interpretations.
+    Poly,
+    /// What such a line of this kind has behind its word.
+    Line(Section),
+    /// Nothing.
+    Finish,
+}
+
+/// How far the present lines were read; what is longer than a number stands in the line itself.
+#[derive(Clone, Copy)]
+pub enum YesPlace {
+    /// That many bytes of a fixed word.
+    Word(YesBehind, usize),
+    /// A list's line up to its last number.
+    Listed(Listed),
+    /// What stands before a number.
+    NumberWanted(Counted),
+    /// That and digits.
+    Number(Counted, u32),
+    /// Nothing of a node, or of the end.
+    Front,
+    /// Nothing of a line of `arg` or `drop`.
+    ArgFront,
+    /// `arg `.
+    NameWanted,
+    /// That and letters.
+    Name,
+    /// A symbol's name and a space.
+    ArgPlaceWanted,
+    /// That and digits.
+    ArgPlace(u32),
+    /// A part of the lines of a node of interpretations.
+    Lines,
+    /// All of the certificate.
+    Finished,
+}
+
+/// The lines of a YES certificate since its last item.
+#[derive(Drop)]
+pub struct YesLine {
+    /// How far they were read.
+    pub place: YesPlace,
+    /// The numbers of a list.
+    pub numbers: Numbers,
+    /// The blocks of a node.
+    pub parts: Blocks,
+    /// The arguments that a node looks at.
+    pub args: Args,
+    /// The name of a symbol, once it was begun.
+    pub name: Option<Letters>,
+    /// The lines of a node of interpretations.
+    pub lines: Box<PolyLines>,
+}
+
+/// What lines give.
+#[derive(Drop)]
+pub enum YesItem {
+    /// The ranks.
+    Ranks(Numbers),
+    /// The number of pairs.
+    Pairs(u32),
+    /// A node.
+    Node(Node),
+    /// The end.
+    End,
+}
+
+/// Where a byte leads.
+#[derive(Drop)]
+pub enum YesStep {
+    /// On.
+    On,
+    /// On, with an item whose last line is whole.
+    Gives(YesItem),
+    /// Nowhere.
+    Wrong,
+}
+
+impl YesLine {
+    /// Before the certificate's second byte.
+    pub fn new(alloc: Global) -> Result<YesLine, AllocError>
+        ensures { IfOk result (λ line. line.place ≡ place.Word (behind.List listed.Ranks) 1) }
+    {
+        Ok(YesLine {
+            place: YesPlace::Word(YesBehind::List(Listed::Ranks), 1),
+            numbers: Numbers::new(alloc)?,
+            parts: Blocks::new(alloc)?,
+            args: Args::new(alloc)?,
+            name: None,
+            lines: Box::new(alloc, PolyLines::new(alloc)?)?,
+        })
+    }
+
+    /// The step from a place in the lines; at the front of a node with whether one is wanted.
+    pub fn step(&mut self, alloc: Global, wants: bool, byte: u8) -> Result<YesStep, AllocError>
+        ensures { IfOk result (λ went. yes_went went self.new ≡ machine_step wants (yes_place self.old) byte) }
+    {
+        match self.place {
+            YesPlace::Word(behind, at) => self.step_word(alloc, behind, at, byte),
+            YesPlace::Listed(of) => self.step_list(alloc, of, byte),
+            YesPlace::NumberWanted(of) => Ok(self.first_digit(of, byte)),
+            YesPlace::Number(of, number) => self.step_number(alloc, of, number, byte),
+            YesPlace::Front => Ok(self.step_front(wants, byte)),
+            YesPlace::ArgFront => Ok(self.step_arg_front(byte)),
+            YesPlace::NameWanted => self.first_letter(alloc, byte),
+            YesPlace::Name => self.step_name(byte),
+            YesPlace::ArgPlaceWanted => Ok(self.first_arg_digit(byte)),
+            YesPlace::ArgPlace(number) => self.step_arg_place(alloc, number, byte),
+            YesPlace::Lines => self.step_lines(alloc, byte),
+            YesPlace::Finished => Ok(YesStep::Wrong),
+        }
+    }
+
+    /// The next byte of a fixed word.
+    fn step_word(
+        &mut self,
+        alloc: Global,
+        behind: YesBehind,
+        at: usize,
+        byte: u8,
+    ) -> Result<YesStep, AllocError>
+        ensures { IfOk result (λ went. yes_went went self.new
+            ≡ word_step (drop at (spelling (behind_of behind self.old))) (behind_of behind self.old) byte) }
+    {
+        let word = spelling(behind);
+        if at >= word.len() {
+            return Ok(YesStep::Wrong);
+        }
+        if byte != word[at] {
+            return Ok(YesStep::Wrong);
+        }
+        if at + 1 < word.len() {
+            self.place = YesPlace::Word(behind, at + 1);
+            return Ok(YesStep::On);
+        }
+        self.begin_behind(alloc, behind)
+    }
+
+    /// The place behind a fixed word.
+    fn begin_behind(&mut self, alloc: Global, behind: YesBehind) -> Result<YesStep, AllocError>
+        ensures { IfOk result (λ went. yes_went went self.new ≡ stands_behind (behind_of behind self.old)) }
+    {
+        match behind {
+            YesBehind::List(of) => {
+                self.numbers = Numbers::new(alloc)?;
+                self.place = YesPlace::Listed(of);
+            }
+            YesBehind::Pairs => self.place = YesPlace::NumberWanted(Counted::Pairs),
+            YesBehind::Done => {
+                self.place = YesPlace::Front;
+                return Ok(YesStep::Gives(YesItem::Node(Node::Done)));
+            }
+            YesBehind::Alone => {
+                self.place = YesPlace::Front;
+                return Ok(YesStep::Gives(YesItem::Node(Node::Alone)));
+            }
+            YesBehind::Blocks => self.place = YesPlace::NumberWanted(Counted::Blocks),
+            YesBehind::Subterm => {
+                self.args = Args::new(alloc)?;
+                self.place = YesPlace::ArgFront;
+            }
+            YesBehind::Name => self.place = YesPlace::NameWanted,
+            YesBehind::Poly => {
+                self.lines.restart(alloc)?;
+                self.place = YesPlace::Lines;
+            }
+            YesBehind::Line(section) => {
+                self.lines.begin_line(alloc, section)?;
+                self.place = YesPlace::Lines;
+            }
+            YesBehind::Finish => {
+                self.place = YesPlace::Finished;
+                return Ok(YesStep::Gives(YesItem::End));
+            }
+        }
+        Ok(YesStep::On)
+    }
+
+    /// Behind a number of a list another one comes, or the line ends.
+    fn step_list(&mut self, alloc: Global, of: Listed, byte: u8) -> Result<YesStep, AllocError>
+        ensures { IfOk result (λ went. yes_went went self.new ≡ list_step (listed_of of self.old) self.old.numbers byte) }
+    {
+        match byte {
+            b' ' => {
+                self.place = YesPlace::NumberWanted(Counted::List(of));
+                Ok(YesStep::On)
+            }
+            b'\n' => self.end_list(alloc, of),
+            _ => Ok(YesStep::Wrong),
+        }
+    }
+
+    /// The line of a list has ended.
+    #[tactic(auto, using(crate::proofs::YesCode::block_ended))]
+    fn end_list(&mut self, alloc: Global, of: Listed) -> Result<YesStep, AllocError>
+        ensures { IfOk result (λ went. yes_went went self.new ≡ list_ended (listed_of of self.old) self.old.numbers) }
+    {
+        let numbers = mem::replace(&mut self.numbers, Numbers::new(alloc)?);
+        match of {
+            Listed::Ranks => {
+                self.place = YesPlace::Word(YesBehind::Pairs, 0);
+                Ok(YesStep::Gives(YesItem::Ranks(numbers)))
+            }
+            Listed::Block(left) => {
+                self.parts.push(numbers)?;
+                self.end_block(alloc, left)
+            }
+            Listed::Drop => {
+                let args = mem::replace(&mut self.args, Args::new(alloc)?);
+                self.place = YesPlace::Front;
+                let node = Node::Subterm {
+                    args,
+                    drop: numbers,
+                };
+                Ok(YesStep::Gives(YesItem::Node(node)))
+            }
+            Listed::Poly => {
+                let node = Box::new(alloc, self.lines.node(alloc, numbers)?)?;
+                self.place = YesPlace::Front;
+                Ok(YesStep::Gives(YesItem::Node(Node::Poly(node))))
+            }
+        }
+    }
+
+    /// The lines of a node of interpretations go on with the byte.
+    fn step_lines(&mut self, alloc: Global, byte: u8) -> Result<YesStep, AllocError>
+        ensures { IfOk result (λ went. yes_went went self.new ≡ lines_led
+            (lines_step (lines_of self.old.lines.value) (lines_place self.old.lines.value) byte)) }
+    {
+        match self.lines.step(alloc, byte)? {
+            LinesStep::On => self.place = YesPlace::Lines,
+            LinesStep::Begins => {
+                self.place = YesPlace::Word(YesBehind::Line(self.lines.section), 1);
+            }
+            LinesStep::Drops => {
+                self.place = YesPlace::Word(YesBehind::List(Listed::Poly), 1);
+            }
+            LinesStep::Wrong => return Ok(YesStep::Wrong),
+        }
+        Ok(YesStep::On)
+    }
+
+    /// Behind the line of a block, or of their number: so many are left.
+    fn end_block(&mut self, alloc: Global, left: u32) -> Result<YesStep, AllocError>
+        ensures { IfOk result (λ went. yes_went went self.new ≡ next_block left self.old.parts) }
+    {
+        if left > 0 {
+            self.place = YesPlace::Word(YesBehind::List(Listed::Block(left - 1)), 0);
+            return Ok(YesStep::On);
+        }
+        let parts = mem::replace(&mut self.parts, Blocks::new(alloc)?);
+        self.place = YesPlace::Front;
+        Ok(YesStep::Gives(YesItem::Node(Node::Blocks(parts))))
+    }
+
+    /// The first digit of a number.
+    fn first_digit(&mut self, of: Counted, byte: u8) -> YesStep
+        ensures { yes_went result self.new ≡ digit_step (counted_of of self.old) byte }
+    {
+        match first_number(byte) {
+            Some(number) => {
+                self.place = YesPlace::Number(of, number);
+                YesStep::On
+            }
+            None => YesStep::Wrong,
+        }
+    }
+
+    /// A number goes on with the byte, or has ended before it.
+    fn step_number(
+        &mut self,
+        alloc: Global,
+        of: Counted,
+        number: u32,
+        byte: u8,
+    ) -> Result<YesStep, AllocError>
+        ensures { IfOk result (λ went. yes_went went self.new ≡ number_step (counted_of of self.old) number byte) }
+    {
+        match next_number(number, byte) {
+            Some(next) => {
+                self.place = YesPlace::Number(of, next);
+                Ok(YesStep::On)
+            }
+            None => match of {
+                Counted::Pairs => Ok(self.end_pairs(number, byte)),
+                Counted::Blocks => self.end_count(alloc, number, byte),
+                Counted::List(of) => {
+                    self.numbers.push(number)?;
+                    self.step_list(alloc, of, byte)
+                }
+            },
+        }
+    }
+
+    /// The number of pairs has ended before the byte.
+    fn end_pairs(&mut self, number: u32, byte: u8) -> YesStep
+        ensures { yes_went result self.new ≡ number_ended of_pairs number byte }
+    {
+        if byte != b'\n' {
+            return YesStep::Wrong;
+        }
+        self.place = YesPlace::Front;
+        YesStep::Gives(YesItem::Pairs(number))
+    }
+
+    /// The number of blocks has ended before the byte.
+    fn end_count(&mut self, alloc: Global, number: u32, byte: u8) -> Result<YesStep, AllocError>
+        ensures { IfOk result (λ went. yes_went went self.new ≡ number_ended of_blocks number byte) }
+    {
+        if byte != b'\n' {
+            return Ok(YesStep::Wrong);
+        }
+        self.parts = Blocks::new(alloc)?;
+        self.end_block(alloc, number)
+    }
+
+    /// The first digit of a symbol's argument.
+    fn first_arg_digit(&mut self, byte: u8) -> YesStep
+        requires { self.old.place ≡ place.ArgPlaceWanted }
+        ensures { yes_went result self.new ≡ machine_step true (yes_place self.old) byte }
+    {
+        if self.name.is_none() {
+            return YesStep::Wrong;
+        }
+        match first_number(byte) {
+            Some(number) => {
+                self.place = YesPlace::ArgPlace(number);
+                YesStep::On
+            }
+            None => YesStep::Wrong,
+        }
+    }
+
+    /// The number of a symbol's argument goes on with the byte, or has ended before it.
+    #[tactic(auto, using(crate::proofs::YesCode::args_grow))]
+    fn step_arg_place(
+        &mut self,
+        alloc: Global,
+        number: u32,
+        byte: u8,
+    ) -> Result<YesStep, AllocError>
+        requires { self.old.place ≡ place.ArgPlace number }
+        ensures { IfOk result (λ went. yes_went went self.new ≡ machine_step true (yes_place self.old) byte) }
+    {
+        match &self.name {
+            None => Ok(YesStep::Wrong),
+            Some(letters) => {
+                if let Some(next) = next_number(number, byte) {
+                    self.place = YesPlace::ArgPlace(next);
+                    return Ok(YesStep::On);
+                }
+                if byte != b'\n' {
+                    return Ok(YesStep::Wrong);
+                }
+                let name = letters.name(alloc)?;
+                self.args.push(Arg {
+                    name,
+                    place: number,
+                })?;
+                self.place = YesPlace::ArgFront;
+                Ok(YesStep::On)
+            }
+        }
+    }
+
+    /// The first byte of a node, or of the end.
+    fn step_front(&mut self, wants: bool, byte: u8) -> YesStep
+        ensures { yes_went result self.new ≡ front_step wants byte }
+    {
+        let behind = match (wants, byte) {
+            (true, b'd') => YesPlace::Word(YesBehind::Done, 0),
+            (true, b'a') => YesPlace::Word(YesBehind::Alone, 1),
+            (true, b'b') => YesPlace::Word(YesBehind::Blocks, 1),
+            (true, b's') => YesPlace::Word(YesBehind::Subterm, 1),
+            (true, b'p') => YesPlace::Word(YesBehind::Poly, 1),
+            (false, b'e') => YesPlace::Word(YesBehind::Finish, 1),
+            _ => return YesStep::Wrong,
+        };
+        self.place = behind;
+        YesStep::On
+    }
+
+    /// The first byte of a line of `arg` or `drop`.
+    fn step_arg_front(&mut self, byte: u8) -> YesStep
+        ensures { yes_went result self.new ≡ arg_step (map said_arg self.old.args) byte }
+    {
+        match byte {
+            b'a' => self.place = YesPlace::Word(YesBehind::Name, 1),
+            b'd' => self.place = YesPlace::Word(YesBehind::List(Listed::Drop), 1),
+            _ => return YesStep::Wrong,
+        }
+        YesStep::On
+    }
+
+    /// The first letter of a symbol's name.
+    fn first_letter(&mut self, alloc: Global, byte: u8) -> Result<YesStep, AllocError>
+        ensures { IfOk result (λ went. yes_went went self.new ≡ letter_step (map said_arg self.old.args) byte) }
+    {
+        if !begins_name(byte) {
+            return Ok(YesStep::Wrong);
+        }
+        self.name = Some(Letters::new(alloc, byte)?);
+        self.place = YesPlace::Name;
+        Ok(YesStep::On)
+    }
+
+    /// A symbol's name goes on with the byte, or has ended before it.
+    fn step_name(&mut self, byte: u8) -> Result<YesStep, AllocError>
+        requires { self.old.place ≡ place.Name }
+        ensures { IfOk result (λ went. yes_went went self.new ≡ machine_step true (yes_place self.old) byte) }
+    {
+        match &mut self.name {
+            None => Ok(YesStep::Wrong),
+            Some(letters) => {
+                if letters.goes_on(byte) {
+                    letters.push(byte)?;
+                    return Ok(YesStep::On);
+                }
+                if byte != b' ' {
+                    return Ok(YesStep::Wrong);
+                }
+                self.place = YesPlace::ArgPlaceWanted;
+                Ok(YesStep::On)
+            }
+        }
+    }
+}
+
+/// The fixed word whose end leads there.
+fn spelling(behind: YesBehind) -> &'static [u8]
+    ensures { (l : YesLine) → result.now ≡ spelling (behind_of behind l) }
+{
+    match behind {
+        YesBehind::List(Listed::Ranks) => b"YES 1\nranks".as_slice(),
+        YesBehind::List(Listed::Block(_)) => b"block".as_slice(),
+        YesBehind::List(Listed::Drop | Listed::Poly) => b"drop".as_slice(),
+        YesBehind::Pairs => b"pairs ".as_slice(),
+        YesBehind::Done => b"one\n".as_slice(),
+        YesBehind::Alone => b"alone\n".as_slice(),
+        YesBehind::Blocks => b"blocks ".as_slice(),
+        YesBehind::Subterm => b"subterm\n".as_slice(),
+        YesBehind::Name => b"arg ".as_slice(),
+        YesBehind::Poly => b"poly\n".as_slice(),
+        YesBehind::Line(Section::Funs) => b"fun ".as_slice(),
+        YesBehind::Line(Section::Marks) => b"mark ".as_slice(),
+        YesBehind::Line(Section::Rules) => b"rule".as_slice(),
+        YesBehind::Line(Section::Pairs) => b"pair".as_slice(),
+        YesBehind::Finish => b"end\n".as_slice(),
+    }
+}
