@@ -21,8 +21,8 @@ pub type Visits = List<Visit>;
 pub enum LoopSearch {
     /// A loop: its term has reductions of every length.
     Found(NoCertificate),
-    /// There is no loop of at most the given number of steps through terms that fit and are small, and all of these terms were
-    /// looked at.
+    /// There is no loop of at most the given number of steps through terms that fit and are small, and fewer such
+    /// terms are reached than may be kept.
     Nothing,
     /// As many terms were reached as may be; each is a start itself, or holds no instance of its start.
     Full(Visits),

@@ -260,7 +260,7 @@ fn search(
 /// `depth` steps through terms that fit and have at most 2,048 nodes. A loop is a path of at least one step to a term that holds an
 /// instance of its start (Kop 2012). At most `visited` terms are kept.
 ///
-/// `Found` is a certificate that the check accepts. `Nothing` comes only where there is no loop in this space, and fewer than `visited`
+/// `Found` is a valid certificate. `Nothing` comes only where there is no loop in this space, and fewer than `visited`
 /// terms are reached. `Full` shows `visited` terms that are reached; each is a start itself, or holds no instance of its start.
 pub fn find_loop(
     alloc: Global,

@@ -6,7 +6,7 @@ ghost use Rattle.wh_text.specs.Erase.{rty, rtys};
 ghost use Rattle.wh_text.specs.RawTree.{no_types};
 ghost use Rattle.wh_text.specs.Words.{IsWord};
 ghost use Rattle.wh_parts.specs.Erase.{rname, rfun, rmeta};
-ghost use Rattle.wh_system.specs.CanonicalParts.{raw_name};
+ghost use Rattle.wh_making.specs.CanonicalParts.{raw_name};
 ghost use Rattle.wh_gen.specs.Family.{sort_names};
 ghost use Rattle.wh_gen.specs.RawFamily.{raw_fun, raw_meta, raw_f, raw_base, raw_map_fun};
 

@@ -11,6 +11,7 @@ ghost use Rattle.wh_gen.specs.RawFamily.{raw_family};
 use crate::declarations::{funs, sorts};
 use crate::rules::rules;
 use std::alloc::{AllocError, Global};
+use wh_making::system_of;
 use wh_parts::Parts;
 use wh_system::System;
 use wh_types::Or;
@@ -28,7 +29,7 @@ pub fn generate(alloc: Global, n: u32) -> Result<System, Or<GenTooMany>>
         return Err(Or::Because(GenTooMany));
     }
     let parts = family(alloc, n)?;
-    match System::new(alloc, &parts) {
+    match system_of(alloc, &parts) {
         Ok(system) => Ok(system),
         Err(Or::NoMemory) => Err(Or::NoMemory),
         Err(Or::Because(_)) => unreachable!(),

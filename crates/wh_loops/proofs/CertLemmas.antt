@@ -22,9 +22,9 @@ use Rattle.wh_system.specs.Systems.{SystemData}
 use Rattle.wh_system.specs.WellMade.{IsWellMadeSystem}
 use Rattle.wh_system.specs.Canonical.{raw_of}
 use Rattle.wh_system.specs.CanonicalView.{names_of_system}
-use Rattle.wh_system.proofs.CanonicalBack.{typed_named, system_names, canonical_means}
-use Rattle.wh_system.proofs.CanonicalNames.{type_back}
-use Rattle.wh_cert_parts.specs.TermLimits.{TermFits}
+use Rattle.wh_making.proofs.CanonicalBack.{typed_named, system_names, canonical_means}
+use Rattle.wh_making.proofs.CanonicalNames.{type_back}
+use Rattle.wh_cert.specs.TermLimits.{TermFits}
 use Rattle.wh_cert.specs.Written.{no}
 use Rattle.wh_cert.specs.Limits.{RuleFits, StepFits, PutFits, PathsWithin}
 use Rattle.wh_no.specs.Claim.{Put, Claim, put_for}

@@ -9,7 +9,7 @@ use Rattle.wh_text.specs.Words.{IsWord, IsName}
 use Rattle.wh_text.specs.RawTree.{RTm, named, numbered, free_variable, meta as raw_meta, lam as raw_lam, spine, RTms, none, more}
 use Rattle.wh_system.specs.WellMade.{ArgumentsWithin}
 use Rattle.wh_system.specs.Canonical.{Names, name_at, raw_type_of, raw_arguments_of, and_last, with_argument, raw_below, IsNamedBelow}
-use Rattle.wh_cert_parts.specs.TermLimits.{type_count, term_count, TypeFits, ArgumentsFit, IsHead, TermFits, TermsFit}
+use Rattle.wh_cert.specs.TermLimits.{type_count, term_count, TypeFits, ArgumentsFit, IsHead, TermFits, TermsFit}
 use Rattle.wh_loops.proofs.SmallTypes.{depth, IsSmallType}
 use Rattle.wh_loops.proofs.PartLimits.{IsWithin}
 

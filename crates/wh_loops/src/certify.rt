@@ -16,7 +16,8 @@ ghost use Rattle.wh_loops.specs.Lines.{line_of};
 use crate::instance::Instance;
 use std::alloc::{AllocError, Global};
 use wh_cert::{NoCertificate, Put, Puts, Steps};
-use wh_system::{System, raw_type};
+use wh_making::{raw_term, raw_type};
+use wh_system::System;
 use wh_terms::{SubstEntry, Term};
 
 // The line that says what the entry puts.
@@ -26,7 +27,7 @@ fn line_of(alloc: Global, system: &System, entry: &SubstEntry) -> Result<Put, Al
 {
     system.is_well_made();
     let kind = raw_type(alloc, system.sort_names(), &entry.kind)?;
-    let term = system.raw_term(alloc, &entry.value)?;
+    let term = raw_term(alloc, system, &entry.value)?;
     Ok(Put {
         number: entry.number,
         kind,
@@ -65,7 +66,7 @@ pub fn certificate_of(
     system.is_well_made();
     let Instance { at, puts } = instance;
     let lines = lines_of(alloc, system, &puts)?;
-    let term = system.raw_term(alloc, start)?;
+    let term = raw_term(alloc, system, start)?;
     Ok(NoCertificate {
         term,
         steps,

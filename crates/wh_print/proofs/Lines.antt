@@ -7,9 +7,9 @@ use Rattle.wh_text.specs.Tokens.{Token, whole, Cuts, ended}
 use Rattle.wh_parts.specs.Parts.{RMeta, RRule}
 use Rattle.wh_system.specs.Systems.{SystemData}
 use Rattle.wh_system.specs.Canonical.{raw_of}
-use Rattle.wh_system.specs.CanonicalParts.{raw_rule_of, raw_rules_of, canonical}
+use Rattle.wh_making.specs.CanonicalParts.{raw_rule_of, raw_rules_of, canonical}
 use Rattle.wh_system.specs.CanonicalView.{names_of_rule}
-use Rattle.wh_system.specs.Unplaced.{unplaced_rule, unplaced}
+use Rattle.wh_making.specs.Unplaced.{unplaced_rule, unplaced}
 use Rattle.wh_print.specs.SystemText as T
 use Rattle.wh_read.specs.Written.{WRule, WSystem}
 use Rattle.wh_read.specs.Spelled as W

@@ -13,7 +13,7 @@ use Rattle.wh_system.specs.WellMade.{IsWellMadeSystem}
 use Rattle.wh_system.specs.Canonical.{Names, IsNamedBelow}
 use Rattle.wh_system.specs.CanonicalView.{names_of_rule}
 use Rattle.wh_pairs.specs.PairData.{PairData}
-use Rattle.wh_system.proofs.CanonicalBack.{rule_there, metas_there, side_named}
+use Rattle.wh_making.proofs.CanonicalBack.{rule_there, metas_there, side_named}
 use Rattle.wh_pairs.specs.Spines.{symbol_of}
 use Rattle.wh_pairs.specs.Calls.{Call, calls_of}
 use Rattle.wh_pairs.specs.Candidates.{nullary, freed, numbered_from, missing_types, candidate, candidates_from, candidates}

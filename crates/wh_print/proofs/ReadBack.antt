@@ -2,9 +2,9 @@
 use Rattle.std.proofs.Common.{refl, sym}
 use Rattle.wh_system.specs.Systems.{SystemData}
 use Rattle.wh_system.specs.WellMade.{IsWellMadeSystem}
-use Rattle.wh_system.specs.CanonicalParts.{canonical}
-use Rattle.wh_system.proofs.UnplacedParts.{places_pass, places_say}
-use Rattle.wh_system.proofs.CanonicalLaw.{canonical_passes, canonical_says}
+use Rattle.wh_making.specs.CanonicalParts.{canonical}
+use Rattle.wh_making.proofs.UnplacedParts.{places_pass, places_say}
+use Rattle.wh_making.proofs.CanonicalLaw.{canonical_passes, canonical_says}
 use Rattle.wh_print.specs.SystemText.{system_text}
 use Rattle.wh_read.specs.Raw.{said}
 use Rattle.wh_read.specs.Reading.{Reads}

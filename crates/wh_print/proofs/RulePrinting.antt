@@ -13,7 +13,7 @@ use Rattle.wh_system.specs.Systems.{SystemData}
 use Rattle.wh_system.specs.WellMade.{IsWellMadeSystem, IsDeclarationOver}
 use Rattle.wh_system.specs.Canonical.{Names, IsNamedBelow, raw_of}
 use Rattle.wh_system.specs.CanonicalView.{names_of_rule, side_of}
-use Rattle.wh_system.proofs.CanonicalBack.{side_named}
+use Rattle.wh_making.proofs.CanonicalBack.{side_named}
 use Rattle.wh_print.specs.SystemText.{put_metas, put_rule, put_rules}
 use Rattle.wh_print.specs.Sorted.{IsSorted}
 

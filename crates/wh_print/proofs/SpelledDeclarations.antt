@@ -7,8 +7,8 @@ use Rattle.wh_text.specs.Words.{IsName}
 use Rattle.wh_text.specs.RawTree.{RTy, RTys, more_types as more_rtys}
 use Rattle.wh_parts.specs.Parts.{RFun, RMeta}
 use Rattle.wh_system.specs.Canonical.{raw_type_of}
-use Rattle.wh_system.specs.CanonicalParts.{raw_name, raw_types_of, raw_funs_of, raw_metas_of}
-use Rattle.wh_system.specs.Unplaced.{unplaced_types, unplaced_name, unplaced_fun, unplaced_meta}
+use Rattle.wh_making.specs.CanonicalParts.{raw_name, raw_types_of, raw_funs_of, raw_metas_of}
+use Rattle.wh_making.specs.Unplaced.{unplaced_types, unplaced_name, unplaced_fun, unplaced_meta}
 use Rattle.wh_print.specs.SystemText as T
 use Rattle.wh_read.specs.Written.{WType, WTypes, no_types, more_types, WBrackets, no_brackets, brackets, WMeta, WMetas, no_metas, more_metas, WDeclared, nothing, declares, WSort, WFun}
 use Rattle.wh_read.specs.Spelled as W

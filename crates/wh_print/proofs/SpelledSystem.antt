@@ -8,7 +8,7 @@ use Rattle.wh_text.specs.Words.{IsName}
 use Rattle.wh_system.specs.Systems.{SystemData}
 use Rattle.wh_system.specs.WellMade.{IsTypeOver, IsWellMadeSystem}
 use Rattle.wh_system.specs.CanonicalView.{names_of_rule}
-use Rattle.wh_system.proofs.CanonicalBack.{HasNames, typed_named}
+use Rattle.wh_making.proofs.CanonicalBack.{HasNames, typed_named}
 use Rattle.wh_print.proofs.CanonicalTypes.{type_spelled}
 use Rattle.wh_print.proofs.CanonicalTerms.{AreNames, term_spelled}
 use Rattle.wh_print.proofs.SpelledDeclarations.{IsSpelledOver}

@@ -8,7 +8,7 @@ use Rattle.wh_read.specs.Written.{WTerm, lambda, atoms, WAtom, plain_name, numbe
 use Rattle.wh_read.specs.Spelled as W
 use Rattle.wh_read.specs.Nesting.{TermFits, AtomFits, AtomsFit, TermsFit}
 use Rattle.wh_read.specs.Raw.{said_term, said_atom, said_atoms, said_terms, spined}
-use Rattle.wh_system.specs.Unplaced.{unplaced_type, unplaced_term, unplaced_terms}
+use Rattle.wh_making.specs.Unplaced.{unplaced_type, unplaced_term, unplaced_terms}
 use Rattle.wh_print.specs.Sound.{IsSpelledPart, IsNoSpine, IsSpelledTerm, AreSpelledTerms}
 use Rattle.wh_print.specs.Cutting.{Cutting, NoPart}
 use Rattle.wh_print.proofs.Pieces.{cutting_then, any_then, cutting_any, nothing_cut, sign_cut, space_cut, name_cut, dollar_cut, percent_cut}

@@ -7,7 +7,7 @@ use Rattle.wh_read.specs.Written.{WType, only, arrow, WAtype, sort_name, type_in
 use Rattle.wh_read.specs.Spelled as W
 use Rattle.wh_read.specs.Nesting.{TypeFits, AtypeFits}
 use Rattle.wh_read.specs.Raw.{with_argument, said_type, said_atype}
-use Rattle.wh_system.specs.Unplaced.{unplaced_type}
+use Rattle.wh_making.specs.Unplaced.{unplaced_type}
 use Rattle.wh_print.specs.Sound.{IsSpelledType, IsSpelledPart, AreSpelledParts}
 use Rattle.wh_print.specs.Cutting.{Cutting, NoPart}
 use Rattle.wh_print.proofs.Pieces.{cutting_then, any_then, cutting_any, sign_cut, thin_arrow_cut, name_cut}

@@ -8,7 +8,8 @@ use Rattle.wh_parts.specs.Parts.{RParts}
 use Rattle.wh_parts.specs.RuleTests.{refusal}
 use Rattle.wh_parts.specs.declared.fault.SystemFault.{SystemFault}
 use Rattle.wh_parts.specs.declared.fault.SystemFault.TheVariants as system_fault
-use Rattle.wh_system.specs.Systems.{SystemData, Says}
+use Rattle.wh_system.specs.Systems.{SystemData}
+use Rattle.wh_making.specs.Says.{Says}
 use Rattle.wh_read.specs.Spelled.{placed}
 use Rattle.wh_read.specs.Parsing.{Parses}
 use Rattle.wh_read.specs.SyntaxFaults.{HasSyntaxFault}

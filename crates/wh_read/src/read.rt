@@ -10,7 +10,9 @@ use crate::fault::SyntaxFault;
 use crate::parsing::parse;
 use crate::reasons::{Reason, Refused};
 use std::alloc::Global;
-use wh_system::{System, SystemFault};
+use wh_making::system_of;
+use wh_parts::SystemFault;
+use wh_system::System;
 use wh_text::{TextFault, tokens};
 use wh_types::Or;
 
@@ -76,7 +78,7 @@ pub fn read_system(alloc: Global, bytes: &[u8]) -> Result<System, Or<Refused>>
         Err(Or::NoMemory) => return Err(Or::NoMemory),
         Err(Or::Because(fault)) => return Err(Or::Because(by_syntax(fault))),
     };
-    match System::new(alloc, &parts) {
+    match system_of(alloc, &parts) {
         Ok(system) => Ok(system),
         Err(Or::NoMemory) => Err(Or::NoMemory),
         Err(Or::Because(fault)) => Err(Or::Because(by_system(fault))),

@@ -2,13 +2,8 @@
 use Rattle.std.specs.Prelude.{ℕ, Bool, true, false, [], get_or}
 use Rattle.wh_terms.specs.Tree.{Tm}
 use Rattle.wh_terms.specs.Rules.{RewriteRule}
-use Rattle.wh_system.specs.declared.raw_term.TermNames.{TermNames}
 use Rattle.wh_system.specs.Systems.{SystemData}
 use Rattle.wh_system.specs.Canonical.{Names}
-
--- what a `TermNames` stands for
-abbrev pub term_names : TermNames → Names
-term_names n = record { sorts = n.sorts.now; funs = n.funs.now; metas = n.metas.now }
 
 -- the names of a system, without meta-variables
 abbrev pub names_of_system : SystemData → Names

@@ -5,8 +5,8 @@ use Rattle.wh_system.specs.SystemView.{system_data}
 use Rattle.wh_gen.proofs.FamilySystem.{are_proper, are_passed, say_family}
 use Rattle.wh_gen.proofs.family.generate.Goals as goal
 
-pub new-requires : goal.new-requires
-new-requires c = are_proper c.args.n (rparts c.in_ok-parts.parts) (omega arith) c.in_ok-parts.ensures
+pub system_of-requires : goal.system_of-requires
+system_of-requires c = are_proper c.args.n (rparts c.in_ok-parts.parts) (omega arith) c.in_ok-parts.ensures
 
 pub returns-in-Ok : goal.returns-in-Ok
 returns-in-Ok c =

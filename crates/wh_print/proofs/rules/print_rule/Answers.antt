@@ -6,7 +6,7 @@ use Rattle.wh_text.specs.Pushes.{Pushes}
 use Rattle.wh_text.proofs.PrintLemmas.{on_ok}
 use Rattle.wh_system.specs.SystemView.{system_data}
 use Rattle.wh_system.proofs.MadeDecided.{system_is_well_made}
-use Rattle.wh_system.proofs.CanonicalBack.{metas_there}
+use Rattle.wh_making.proofs.CanonicalBack.{metas_there}
 use Rattle.wh_print.specs.Sorted.{IsSorted}
 use Rattle.wh_print.specs.SystemText.{put_metas}
 use Rattle.wh_print.specs.NameViews.{printed_names}

@@ -3,7 +3,7 @@ use Rattle.wh_terms.specs.Tree.{app}
 use Rattle.wh_terms.specs.Erase.{tm, tms}
 use Rattle.wh_terms.proofs.TermLemmas.{tm_of_meta, weight_in_meta, weight_in_item}
 use Rattle.wh_text.proofs.PrintLemmas.{on_ok}
-use Rattle.wh_system.proofs.CanonicalWalk.{named_item, named_meta}
+use Rattle.wh_making.proofs.CanonicalWalk.{named_item, named_meta}
 use Rattle.wh_print.specs.NameViews.{printed_names}
 use Rattle.wh_print.proofs.TreePrinting.{front_pushes, spine_pushes, meta_pushes, bracketed_pushes}
 use Rattle.wh_print.proofs.terms.+print_tree.Goals as goal

@@ -7,8 +7,8 @@ use Rattle.wh_read.specs.SyntaxFaults.{letters}
 use Rattle.wh_read.proofs.ProperParts.{parsed_parts_are_proper}
 use Rattle.wh_read.proofs.read.read_system.Goals as goal
 
-pub new-requires : goal.new-requires
-new-requires c =
+pub system_of-requires : goal.system_of-requires
+system_of-requires c =
     let bytes = c.args.bytes.now in
     let found = c.as_slice.result.now in
     let parts = rparts c.in-Ok-parse.parts in

@@ -1,0 +1,9 @@
+pub mod Says
+pub mod RulePasses
+pub mod RulesPassed
+pub mod Proper
+pub mod Resolve
+pub mod TablesOf
+pub mod TermNamesView
+pub mod CanonicalParts
+pub mod Unplaced

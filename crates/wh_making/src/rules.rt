@@ -1,0 +1,173 @@
+//! The rules of a system: each with its names looked up, in the order of the tests.
+
+ghost use Rattle.std.specs.Prelude.{ℕ, ◌≡◌, ◌<◌, List, [], ◌∷◌, Option, Some, None, true, false, MatchResult, OnErr, length, map, slice_get, slice_index_or, slice_set};
+ghost use Rattle.wh_types.specs.Erase.{tys};
+ghost use Rattle.wh_terms.specs.Erase.{rewrite_rules, tm};
+ghost use Rattle.wh_parts.specs.Erase.{rparts, rrule};
+ghost use Rattle.wh_parts.specs.Faults.{Passes};
+ghost use Rattle.wh_parts.specs.Naming.{meant};
+ghost use Rattle.wh_parts.specs.RuleTests.{head_symbol, rules_tests, type_of_raw};
+ghost use Rattle.wh_parts.specs.Tests.{fun_names, sort_names};
+ghost use Rattle.wh_parts.specs.declared.fault.SystemFault.TheVariants.{UnevenRules};
+ghost use Rattle.wh_resolve.specs.InScope.{scope as in_scope};
+ghost use Rattle.wh_system.specs.Needs.{need_of};
+ghost use Rattle.wh_making.specs.RulePasses.{IsResolvedRule, differs, form_tests, own_tests, scope_over, sides_tests};
+ghost use Rattle.wh_making.specs.RulesPassed.{AreResolvedRules};
+
+use crate::tables::list_of;
+use std::alloc::Global;
+use wh_parts::{Funs, NameTable, Parts, RawRule, SystemFault, check_side, declare_metas, offset};
+use wh_resolve::{
+    Scope, arguments_of, check_new_metas, check_open, check_pattern, head_of, resolve_side,
+};
+use wh_terms::{Rule, Term};
+use wh_text::Name;
+use wh_types::{List, Or, same_type};
+
+/// A rule with its names looked up.
+#[derive(Drop)]
+pub struct ResolvedRule {
+    /// The rule.
+    pub rule: Rule,
+    /// The names of its meta-variables.
+    pub meta_names: List<Name>,
+    /// The symbol that heads the left side.
+    pub head: u32,
+    /// How many arguments the left side has.
+    pub count: u32,
+}
+
+/// Rules with their names looked up.
+#[derive(Drop)]
+pub struct ResolvedRules {
+    /// The rules.
+    pub rules: Vec<Rule>,
+    /// The names of the meta-variables of each.
+    pub meta_names: Vec<List<Name>>,
+    /// How many arguments the rules of each symbol have on the left, where it has rules.
+    pub needs: Vec<Option<u32>>,
+}
+
+/// The rules of a system with these sorts and symbols. The fault is that of the first rule that has one.
+pub fn resolve_rules(
+    alloc: Global,
+    sorts: &NameTable,
+    funs: &Funs,
+    parts: &Parts,
+) -> Result<ResolvedRules, Or<SystemFault>>
+    requires sorts { sorts.now ≡ sort_names (rparts parts.now) }
+    requires funs { funs.now.names ≡ fun_names (rparts parts.now) }
+    requires kinds { tys funs.now.kinds ≡ map (λ f. type_of_raw (sort_names (rparts parts.now)) f.kind) (rparts parts.now).funs }
+    ensures { Passes (rules_tests (rparts parts.now) [] (rparts parts.now).rules) result (AreResolvedRules (rparts parts.now)) }
+{
+    let mut rules = Vec::new(alloc);
+    let mut meta_names = Vec::new(alloc);
+    let mut needs = vec![in alloc; None; funs.kinds.as_slice().len()]?;
+    for raw in parts.rules.as_slice() {
+        let resolved = resolve_rule(alloc, sorts, funs, raw)?;
+        meet_need(&mut needs, resolved.head, resolved.count, offset(&raw.left))?;
+        rules.push(resolved.rule)?;
+        meta_names.push(resolved.meta_names)?;
+    }
+    Ok(ResolvedRules {
+        rules,
+        meta_names,
+        needs,
+    })
+}
+
+// The symbol needs this number of arguments from now on; the fault, at the left side, is that it needs another one.
+fn meet_need(needs: &mut [Option<u32>], fun: u32, count: u32, at: u32) -> Result<(), SystemFault>
+    requires { fun < length needs.old }
+    ensures { MatchResult result (λ _. (differs count (slice_index_or needs.old fun None) ≡ false)
+        × (needs.new ≡ slice_set needs.old fun (Some count)))
+        (λ fault. (differs count (slice_index_or needs.old fun None) ≡ true) × (fault ≡ UnevenRules at)) }
+{
+    if let Some(need) = needs[fun as usize] {
+        if count != need {
+            return Err(SystemFault::UnevenRules { at });
+        }
+    }
+    needs[fun as usize] = Some(count);
+    Ok(())
+}
+
+// One rule. The fault is that of the first of its own tests that fails.
+fn resolve_rule(
+    alloc: Global,
+    sorts: &NameTable,
+    funs: &Funs,
+    raw: &RawRule,
+) -> Result<ResolvedRule, Or<SystemFault>>
+    requires { length funs.now.names ≡ length funs.now.kinds }
+    ensures { Passes (own_tests (scope_over sorts.now funs.now.names (tys funs.now.kinds) (rrule raw.now)) (rrule raw.now)) result
+        (IsResolvedRule (scope_over sorts.now funs.now.names (tys funs.now.kinds) (rrule raw.now)) (rrule raw.now)) }
+{
+    let metas = declare_metas(alloc, sorts, &funs.names, raw.metas.as_slice())?;
+    check_side(&raw.left)?;
+    check_side(&raw.right)?;
+    let scope = Scope {
+        sorts,
+        funs: &funs.names,
+        kinds: &funs.kinds,
+        metas: &metas.names,
+        declared: &metas.declared,
+    };
+    let (left, right) = resolve_sides(alloc, &scope, raw)?;
+    let head = check_form(alloc, &scope, raw, &left, &right)?;
+    let count = arguments_of(&raw.left);
+    let meta_names = list_of(alloc, &metas.names)?;
+    let rule = Rule {
+        metas: metas.declared,
+        left,
+        right,
+    };
+    Ok(ResolvedRule {
+        rule,
+        meta_names,
+        head,
+        count,
+    })
+}
+
+// The sides with their names looked up, which have one type.
+fn resolve_sides(
+    alloc: Global,
+    scope: &Scope,
+    raw: &RawRule,
+) -> Result<(Term, Term), Or<SystemFault>>
+    ensures { Passes (sides_tests (in_scope scope.now) (rrule raw.now)) result
+        (λ sides. (meant (in_scope scope.now) [] (rrule raw.now).left ≡ Some (tm sides.0))
+        × (meant (in_scope scope.now) [] (rrule raw.now).right ≡ Some (tm sides.1))) }
+{
+    let (left, left_kind) = resolve_side(alloc, scope, &raw.left)?;
+    let (right, right_kind) = resolve_side(alloc, scope, &raw.right)?;
+    if !same_type(&left_kind, &right_kind) {
+        return Err(Or::Because(SystemFault::IllTyped {
+            at: offset(&raw.right),
+        }));
+    }
+    Ok((left, right))
+}
+
+// The symbol that heads the left side of a rule, whose sides stand for the terms and have the form that a rule's have.
+fn check_form(
+    alloc: Global,
+    scope: &Scope,
+    raw: &RawRule,
+    left: &Term,
+    right: &Term,
+) -> Result<u32, Or<SystemFault>>
+    requires left { meant (in_scope scope.now) [] (rrule raw.now).left ≡ Some (tm left.now) }
+    requires right { meant (in_scope scope.now) [] (rrule raw.now).right ≡ Some (tm right.now) }
+    ensures { Passes (form_tests (in_scope scope.now) (rrule raw.now)) result
+        (λ fun. head_symbol (in_scope scope.now) (rrule raw.now).left ≡ Some fun) }
+{
+    check_open(&raw.left)?;
+    check_open(&raw.right)?;
+    let head = head_of(left, &raw.left)?;
+    check_pattern(alloc, left, &raw.left)?;
+    let metas = scope.declared.as_slice().len();
+    check_new_metas(alloc, metas, left, right, &raw.right)?;
+    Ok(head)
+}
