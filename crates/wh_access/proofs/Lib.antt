@@ -11,3 +11,4 @@ pub mod FindLemmas
 pub mod RankLemmas
 pub mod CauseLemmas
 pub mod Rows
+pub mod Breaks

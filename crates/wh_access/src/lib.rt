@@ -12,4 +12,4 @@ mod sources;
 
 pub use check::{Inaccessible, check_ranks};
 pub use find::{NoRanks, find_ranks};
-pub use laws::strict_cycles_forbid_ranks;
+pub use laws::{rules_pass_or_have_a_first_break, strict_cycles_forbid_ranks};

@@ -24,7 +24,7 @@ pub fn symbols_are_computable_where_calls_end()
         → (f : ℕ) (a : Ty) → slice_get d.symbols.funs f ≡ Some a → Computable d.symbols (rank_of ranks) (Step d.rules) a (fun f) }
 {}
 
-/// And so each well-typed term is bounded: there is a longest reduction from it.
+/// And so each well-typed term is bounded: there is a number that no reduction from it exceeds in length.
 pub fn terms_are_bounded_where_calls_end()
     ensures { (d : SystemData) (ranks : List ℕ) (ps : List PairData) → IsWellMadeSystem d → IsPassing d ranks
         → ArePairs (candidates d.symbols d.rules) ps → CallsEnd d.symbols d.rules (Step d.rules) (Contains ps)

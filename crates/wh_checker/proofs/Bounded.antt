@@ -7,7 +7,7 @@ use Rattle.wh_pairs.specs.SystemPairs.{HasPairs}
 use Rattle.wh_cert.specs.Written as w
 use Rattle.wh_nodes.proofs.SystemLaws.{proved_systems_end}
 use Rattle.wh_checker.specs.Accepted.{AreBounded}
-use Rattle.wh_checker.specs.Valid.{IsValidYes}
+use Rattle.wh_proof.specs.Valid.{IsValidYes}
 
 -- each well-typed term of the system is bounded
 pub valid_yes-bounded : (d : SystemData) (ps : List PairData) (ranks : List ℕ) (pairs : ℕ) (nodes : List w.Node) → IsWellMadeSystem d → HasPairs d ps → IsValidYes d ps ranks pairs nodes → AreBounded d

@@ -10,8 +10,9 @@ use Rattle.wh_hopoly.specs.declared.excess.Excess.TheVariants as excess
 use Rattle.wh_polycheck.specs.CoverFaults.{AreGood, IsFirstBad, IsOverSpent, IsFirstOverSpent, IsNotCovered, IsFirstNotCovered, LeavesConstant, IsFirstCoverFault, IsFirstStrictCoverFault}
 use Rattle.wh_polycheck.specs.declared.fault.CoverFault.{CoverFault}
 use Rattle.wh_polycheck.specs.declared.fault.CoverFault.TheVariants.{BadMove, OverSpent, NotCovered, NotStrict}
-use Rattle.wh_meaning.specs.Covering.{CoversSides}
-use Rattle.wh_covering.specs.CoveringFaults.{Limits, without_limits, with_limits, StaysWithin, RunExceeds, IsFirstFaultOfMoves, IsFirstLineFault, IsRightLine}
+use Rattle.wh_polycheck.specs.Covering.{CoversSides}
+use Rattle.wh_covering.specs.CoveringFaults.{RunExceeds, IsFirstFaultOfMoves, IsFirstLineFault, IsRightLine}
+use Rattle.wh_polycheck.specs.Small.{Limits, without_limits, with_limits, StaysWithin}
 use Rattle.wh_covering.specs.declared.fault.LineFault.{LineFault}
 use Rattle.wh_covering.specs.declared.fault.LineFault.TheVariants as line
 use Rattle.wh_checker.proofs.RowLaws.{neither_below}

@@ -6,15 +6,16 @@ use Rattle.wh_terms.specs.Typing.{Symbols}
 use Rattle.wh_terms.specs.Rules.{RewriteRule}
 use Rattle.wh_pairs.specs.PairData.{PairData}
 use Rattle.wh_pairs.proofs.ByPlace.{contains_at, some_one}
-use Rattle.wh_subterm.specs.SubtermRows.{IsBadDrop}
+use Rattle.wh_pairs.specs.Drops.{IsBadDrop, IsDropped}
 use Rattle.wh_hopoly.specs.Evaluation.{Interpretation, NormalInterpretations}
 use Rattle.wh_hopoly.specs.Polynomials.{Normal}
 use Rattle.wh_hopoly.specs.Moves.{Transfer}
 use Rattle.wh_hopoly.specs.declared.excess.Excess.{Excess}
 use Rattle.wh_hopoly.specs.declared.excess.Excess.TheVariants as excess
 use Rattle.wh_polycheck.specs.Marks.{Mark, marked_types, AreNormalMarks}
-use Rattle.wh_meaning.specs.Covering.{rule_run, pair_run, CoversSides, IsCovering}
-use Rattle.wh_covering.specs.CoveringFaults.{Limits, without_limits, with_limits, StaysWithin, IsFirstLineFault, IsRightRule, IsRuleFault, IsDropped, IsRightPair, IsPairFault, IsFirstNotNormal, IsFirstNotNormalMark, AreBadLines, IsReady, IsFirstCoveringFault, IsSmall}
+use Rattle.wh_polycheck.specs.Covering.{rule_run, pair_run, CoversSides, IsCovering}
+use Rattle.wh_covering.specs.CoveringFaults.{IsFirstLineFault, IsRightRule, IsRuleFault, IsRightPair, IsPairFault, IsFirstNotNormal, IsFirstNotNormalMark, AreBadLines, IsReady, IsFirstCoveringFault}
+use Rattle.wh_polycheck.specs.Small.{Limits, without_limits, with_limits, StaysWithin, IsSmall}
 use Rattle.wh_covering.specs.declared.fault.CoveringFault.{CoveringFault}
 use Rattle.wh_covering.specs.declared.fault.CoveringFault.TheVariants.{BadPolynomial, BadLines, BadDrop, Rule, Pair}
 use Rattle.wh_covering.specs.declared.fault.LineFault.{LineFault}

@@ -13,18 +13,18 @@ use Rattle.wh_hopoly.specs.declared.excess.Excess.TheVariants as excess
 use Rattle.wh_cert.specs.Written as w
 use Rattle.wh_cert.specs.Written.{Cert, yes, no}
 use Rattle.wh_no.proofs.Verdicts.{fault_one, accepted_or_fault}
-use Rattle.wh_covering.specs.CoveringFaults.{Limits, without_limits, with_limits}
-use Rattle.wh_nodes.specs.Nodes.{Node, Leaves}
-use Rattle.wh_nodes.specs.Proves.{Proves, one_proved}
-use Rattle.wh_checker.specs.Looked.{SaysNode, SayNodes}
-use Rattle.wh_checker.specs.Valid.{IsValidYes, IsValidCert}
-use Rattle.wh_checker.specs.Small.{IsSmallNode, AreSmall, one_small, IsSmallYes, IsSmallCert}
+use Rattle.wh_polycheck.specs.Small.{Limits, without_limits, with_limits}
+use Rattle.wh_proof.specs.Nodes.{Node, Leaves}
+use Rattle.wh_proof.specs.Proves.{Proves, one_proved}
+use Rattle.wh_proof.specs.Looked.{SaysNode, SayNodes}
+use Rattle.wh_proof.specs.Valid.{IsValidCert, IsSmallCert, IsValidYes}
+use Rattle.wh_proof.specs.Small.{IsSmallNode, AreSmall, one_small, IsSmallYes}
 use Rattle.wh_checker.specs.Faults.{IsNodeFault, IsFirstNodeFault, at_first, behind_first, in_excess, at_node, of_claim, IsFirstYesFault, rank_count, inaccessible, pair_count, in_node, IsFirstFault, AreAlike}
 use Rattle.wh_checker.specs.declared.rejected.NodeFault.{NodeFault}
 use Rattle.wh_checker.specs.declared.rejected.CheckFault.{CheckFault}
 use Rattle.wh_checker.specs.declared.rejected.CheckFault.TheVariants as check
 use Rattle.wh_checker.specs.declared.rejected.Rejected.{Rejected}
-use Rattle.wh_checker.proofs.SetLemmas.{set_one}
+use Rattle.wh_pairs.proofs.SetLemmas.{set_one}
 use Rattle.wh_checker.proofs.RowLaws.{break_one, break_or_passing}
 use Rattle.wh_checker.proofs.CoveringLaws.{IsRejection}
 use Rattle.wh_checker.proofs.NodeLaws.{leaves_one, node_said_one, NodesAlike, one_fault, both_exceed, node_fault_one, leaves_or_fault, node_unlimited}
@@ -107,7 +107,7 @@ walk_one limits d ps k m n (set ∷ sets) (line ∷ lines) f g apart first other
     (here_or_behind limits d ps k set sets line lines m f first) (here_or_behind limits d ps k set sets line lines n g other)
 
 -- with limits, each node is small on its set
-abbrev AreSmallFor : Limits → Symbols → List RewriteRule → List PairData → List (List ℕ) → List Node → Type 0
+abbrev pub AreSmallFor : Limits → Symbols → List RewriteRule → List PairData → List (List ℕ) → List Node → Type 0
 AreSmallFor with_limits S rules ps sets nodes = AreSmall S rules ps sets nodes
 AreSmallFor without_limits S rules ps sets nodes = Unit {0}
 
@@ -172,7 +172,7 @@ yes_fault_one limits d ps ranks pairs lines r s apart (in_node {k = k} {set = se
     subst (λ n. AreAlike (at_node k f) (at_node n g)) one.0 (nodes_alike k f g one.1)
 
 -- with limits, the nodes of a valid certificate are small
-abbrev IsSmallFor : Limits → SystemData → List PairData → List w.Node → Type 0
+abbrev pub IsSmallFor : Limits → SystemData → List PairData → List w.Node → Type 0
 IsSmallFor with_limits d ps lines = IsSmallYes d ps lines
 IsSmallFor without_limits d ps lines = Unit {0}
 

@@ -22,13 +22,15 @@ use Rattle.wh_hopoly.specs.Erase.{transfers}
 use Rattle.wh_hopoly.specs.Evaluation.{Interpretation}
 use Rattle.wh_hopoly.specs.declared.expression.Move.{Move}
 use Rattle.wh_polycheck.specs.Marks.{Mark}
-use Rattle.wh_meaning.specs.Covering.{IsCovering}
-use Rattle.wh_covering.specs.CoveringFaults.{IsSmall}
-use Rattle.wh_nodes.specs.Nodes.{done, alone, blocks, subterm, poly, IsSetOf, IsKept, AreSetsOf, more_sets, Leaves, by_done, by_alone, by_blocks, by_subterm, by_poly}
-use Rattle.wh_checker.specs.Looked.{SayChoices}
+use Rattle.wh_polycheck.specs.Covering.{IsCovering}
+use Rattle.wh_polycheck.specs.Small.{IsSmall}
+use Rattle.wh_proof.specs.Nodes.{done, alone, blocks, subterm, poly, AreSetsOf, more_sets, Leaves, by_done, by_alone, by_blocks, by_subterm, by_poly}
+use Rattle.wh_pairs.specs.Sets.{IsSetOf, IsKept}
+use Rattle.wh_proof.specs.Looked.{SayChoices}
 use Rattle.wh_checker.specs.Faults.{IsSubtermFault, SayCovering}
-use Rattle.wh_checker.specs.Walk.{IsSingle, IsReduced, GoesOn}
-use Rattle.wh_checker.proofs.ChoiceLemmas.{one_list_said}
+use Rattle.wh_checker.specs.Walk.{IsSingle, IsReduced}
+use Rattle.wh_proof.specs.GoesOn.{GoesOn}
+use Rattle.wh_proof.proofs.ChoiceLemmas.{one_list_said}
 
 because_one : {E : Type 0} {x y : E} → ◌≡◌ {A = Or E} (Because x) (Because y) → x ≡ y
 because_one e = cc
@@ -111,8 +113,6 @@ goes_before d ps set line rest sets after goes after_is =
     }
 
 -- a stack from its top, with one more on it
-pub reverse_push : {A : Type 0} (xs : List A) (x : A) → reverse (xs ++ x ∷ []) ≡ x ∷ reverse xs
-reverse_push xs x = reverse-append xs (x ∷ [])
 
 -- the one number of a set of which the pair may not follow itself
 one_number : (set : List ℕ) → length set ≡ 1 → set ≡ get_or set 0 0 ∷ []
@@ -148,14 +148,3 @@ subterm_fault d ps set lines args drop (NoProjection f) apart says first = (args
 subterm_fault d ps set lines args drop (BadArgument f) apart says first = (args, says, first)
 subterm_fault d ps set lines args drop BadDrop apart says first = (args, says, first)
 subterm_fault d ps set lines args drop (NotDecreasing n) apart says first = (args, says, first)
-
--- the sets of the blocks from a place on, with one more before them
-pub sets_before : (parts sets : List (List ℕ)) (i : ℕ) (block set : List ℕ) → 0 < i → i ≤ length parts
-    → block ≡ get_or parts (i - 1) block → IsSetOf (Contains block) set → AreSetsOf (drop i parts) sets
-    → AreSetsOf (drop (i - 1) parts) (set ∷ sets)
-sets_before parts sets i block set above within is set_is rest =
-    let next : i - 1 + 1 ≡ i = omega arith in
-    let split = drop_more parts (i - 1) block (omega arith) in
-    let whole : drop (i - 1) parts ≡ block ∷ drop i parts = split ∙ ap (λ b. b ∷ drop (i - 1 + 1) parts) (sym is)
-    ∙ ap (λ j. block ∷ drop j parts) next in
-    subst (λ (l : List (List ℕ)). AreSetsOf l (set ∷ sets)) (sym whole) (more_sets set_is rest)

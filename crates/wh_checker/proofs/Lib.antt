@@ -1,6 +1,3 @@
-pub mod SetLemmas
-pub mod ChoiceLemmas
-pub mod InterpretationLemmas
 pub mod NodeLemmas
 pub mod WalkLemmas
 pub mod GoLemmas
@@ -11,6 +8,6 @@ pub mod CoveringLaws
 pub mod NodeLaws
 pub mod FaultLaws
 pub mod Bounded
-pub mod SomeSets
+pub mod LimitedCoverings
 pub mod ValidOrFault
 pub mod Named

@@ -26,10 +26,10 @@ use Rattle.wh_hopoly.specs.declared.excess.Excess.{Excess}
 use Rattle.wh_hopoly.specs.declared.excess.Excess.TheVariants.{Overflow, TooLarge}
 use Rattle.wh_polycheck.specs.Marks.{Mark}
 use Rattle.wh_polycheck.specs.declared.fault.CoverFault.TheVariants as moves
-use Rattle.wh_covering.specs.CoveringFaults.{Limits}
+use Rattle.wh_polycheck.specs.Small.{Limits}
 use Rattle.wh_covering.specs.declared.fault.CoveringFault.TheVariants as covered
 use Rattle.wh_covering.specs.declared.fault.LineFault.TheVariants as line
-use Rattle.wh_checker.specs.Looked.{SayChoices, SayInterpretations, SayMarks}
+use Rattle.wh_proof.specs.Looked.{SayChoices, SayInterpretations, SayMarks}
 use Rattle.wh_checker.specs.Faults.{IsNodeFault, IsFirstNodeFault, at_first, behind_first, at_node, in_excess, of_claim, IsFirstYesFault, rank_count, inaccessible, pair_count, in_node, IsFirstFault}
 use Rattle.wh_checker.specs.Named.{HasSymbol, HasMeta, NamesAreThere}
 use Rattle.wh_checker.specs.declared.rejected.NodeFault.{NodeFault}

@@ -21,18 +21,19 @@ use Rattle.wh_hopoly.specs.Moves.{Transfer}
 use Rattle.wh_hopoly.specs.declared.excess.Excess.{Excess}
 use Rattle.wh_hopoly.specs.declared.expression.Move.{Move}
 use Rattle.wh_polycheck.specs.Marks.{Mark}
-use Rattle.wh_meaning.specs.Covering.{IsCovering}
-use Rattle.wh_covering.specs.CoveringFaults.{Limits, without_limits, with_limits, IsFirstCoveringFault}
+use Rattle.wh_polycheck.specs.Covering.{IsCovering}
+use Rattle.wh_covering.specs.CoveringFaults.{IsFirstCoveringFault}
+use Rattle.wh_polycheck.specs.Small.{Limits, without_limits, with_limits}
 use Rattle.wh_covering.specs.declared.fault.CoveringFault.{CoveringFault}
-use Rattle.wh_nodes.specs.Nodes.{Node, done, alone, blocks, subterm, poly, AreSetsOf, no_sets, more_sets, Leaves, by_done, by_alone, by_blocks, by_subterm, by_poly}
-use Rattle.wh_checker.specs.Looked.{SayChoices, SaysNode}
-use Rattle.wh_checker.specs.Small.{IsSmallNode}
+use Rattle.wh_proof.specs.Nodes.{Node, done, alone, blocks, subterm, poly, AreSetsOf, no_sets, more_sets, Leaves, by_done, by_alone, by_blocks, by_subterm, by_poly}
+use Rattle.wh_proof.specs.Looked.{SayChoices, SaysNode}
+use Rattle.wh_proof.specs.Small.{IsSmallNode}
 use Rattle.wh_checker.specs.Faults.{IsSubtermFault, SayCovering, IsNodeFault, at_node, in_excess}
 use Rattle.wh_checker.specs.declared.rejected.NodeFault.{NodeFault}
 use Rattle.wh_checker.specs.declared.rejected.NodeFault.TheVariants.{NotEmpty, NotOne, Loops, Blocks, Subterm, BadSymbols, Poly}
-use Rattle.wh_checker.proofs.SetLemmas.{set_one}
-use Rattle.wh_checker.proofs.ChoiceLemmas.{one_list_said}
-use Rattle.wh_checker.proofs.InterpretationLemmas.{one_interpretations_said, one_marks_said}
+use Rattle.wh_pairs.proofs.SetLemmas.{set_one}
+use Rattle.wh_proof.proofs.ChoiceLemmas.{one_list_said}
+use Rattle.wh_proof.proofs.InterpretationLemmas.{one_interpretations_said, one_marks_said}
 use Rattle.wh_checker.proofs.RowLaws.{block_fault_one, blocks_or_fault, subterm_fault_one, projection_or_fault}
 use Rattle.wh_checker.proofs.CoveringLaws.{CoveringsAlike, SmallFor, IsRejection, covering_fault_one, covering_or_fault, fault_unlimited}
 

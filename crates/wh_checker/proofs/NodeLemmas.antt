@@ -9,9 +9,9 @@ use Rattle.wh_pairs.proofs.ByPlace.{place_of}
 use Rattle.wh_graph.specs.Components.{IsIn}
 use Rattle.wh_cert.specs.Written as w
 use Rattle.wh_cert.specs.Written.{children}
-use Rattle.wh_nodes.specs.Nodes.{Node, done, alone, blocks, subterm, poly, AreSetsOf, no_sets, more_sets, Leaves, by_done, by_alone, by_blocks, by_subterm, by_poly}
-use Rattle.wh_checker.specs.Looked.{SaysNode}
-use Rattle.wh_checker.proofs.SetLemmas.{all_from_members}
+use Rattle.wh_proof.specs.Nodes.{Node, done, alone, blocks, subterm, poly, AreSetsOf, no_sets, more_sets, Leaves, by_done, by_alone, by_blocks, by_subterm, by_poly}
+use Rattle.wh_proof.specs.Looked.{SaysNode}
+use Rattle.wh_pairs.proofs.SetLemmas.{all_from_members}
 
 pub sets_count : (parts sets : List (List ℕ)) → AreSetsOf parts sets → length sets ≡ length parts
 sets_count [] [] no_sets = refl

@@ -12,7 +12,8 @@ use Rattle.wh_graph.specs.Blocks.{IsMisplaced, IsBackEdge, AreBlocks, IsFirstBlo
 use Rattle.wh_graph.specs.declared.blocks.BlockFault.{BlockFault}
 use Rattle.wh_graph.specs.declared.blocks.BlockFault.TheVariants.{FewBlocks, NotPartition, BackEdge}
 use Rattle.wh_subterm.specs.Projections.{Chosen}
-use Rattle.wh_subterm.specs.SubtermRows.{HasNone, IsPlace, IsBadDrop, IsFirstOf, NoneIs, IsProjection, IsFirstSubtermFault}
+use Rattle.wh_subterm.specs.SubtermRows.{HasNone, IsPlace, IsFirstOf, NoneIs, IsProjection, IsFirstSubtermFault}
+use Rattle.wh_pairs.specs.Drops.{IsBadDrop}
 use Rattle.wh_subterm.specs.declared.projection.SubtermFault.{SubtermFault}
 use Rattle.wh_subterm.specs.declared.projection.SubtermFault.TheVariants.{BadArgs, NoProjection, BadArgument, BadDrop, NotDecreasing}
 

@@ -1,4 +1,4 @@
--- A certificate is valid, or it has a first fault.
+-- A certificate is valid, or it has a first fault; with limits, it is valid and small, or it has a first fault with them.
 use Rattle.std.proofs.Common.{◌≡◌, ℕ, suc, ◌+◌, ◌⊎◌, inl, inr, List, [], ◌∷◌, ◌++◌, length, map, Some, refl, sym, ap, subst, ◌∙◌}
 use Rattle.std.proofs.lemmas.List.{length-append}
 use Rattle.wh_terms.specs.declared.path.Step as taken
@@ -20,33 +20,42 @@ use Rattle.wh_cert.specs.Written.{Cert, yes, no, Preorder}
 use Rattle.wh_cert.specs.Limits.{IsCert}
 use Rattle.wh_cert.specs.Interps.{Interp}
 use Rattle.wh_types.specs.Ty.{Ty}
-use Rattle.wh_subterm.specs.Marked.{AreMarked}
+use Rattle.wh_pairs.specs.Marked.{AreMarked}
+use Rattle.wh_pairs.specs.Sets.{IsWhole}
 use Rattle.wh_hopoly.specs.Erase.{transfers}
 use Rattle.wh_hopoly.specs.Evaluation.{Interpretation}
 use Rattle.wh_hopoly.specs.declared.expression.Move.{Move}
 use Rattle.wh_polycheck.specs.Marks.{Mark}
-use Rattle.wh_nodes.specs.Nodes.{Node, done, alone, blocks, subterm, poly, Leaves, by_done, by_alone, by_blocks, by_subterm, by_poly}
-use Rattle.wh_nodes.specs.Proves.{Proves, all_proved, one_proved}
-use Rattle.wh_decisions.proofs.Searches.{SomeOrNone, equal_decided, list_decided, HasFirst, HasNoneOf, first_place}
-use Rattle.wh_decisions.proofs.Clashes.{follows_decided}
-use Rattle.wh_decisions.proofs.BlockFaults.{BlocksOrFault, blocks_or_fault}
-use Rattle.wh_decisions.proofs.Projections.{ProjectionOrFault, projection_or_fault, are_marked_decided}
-use Rattle.wh_decisions.proofs.Coverings.{CoveringOrFault, covering_or_fault}
-use Rattle.wh_decisions.proofs.Breaks.{passing_or_break}
-use Rattle.wh_decisions.proofs.Claims.{ClaimOrFault, claim_or_fault}
-use Rattle.wh_covering.specs.CoveringFaults.{without_limits}
-use Rattle.wh_checker.specs.Looked.{SayChoices, SayInterpretations, SayMarks, SaysNode, SayNodes}
-use Rattle.wh_checker.specs.Valid.{IsValidYes, IsValidCert}
+use Rattle.wh_polycheck.specs.Covering.{IsCovering}
+use Rattle.wh_hopoly.specs.Moves.{Transfer}
+use Rattle.wh_proof.specs.Nodes.{Node, done, alone, blocks, subterm, poly, Leaves, by_done, by_alone, by_blocks, by_subterm, by_poly}
+use Rattle.wh_proof.specs.Proves.{Proves, all_proved, one_proved}
+use Rattle.wh_pairs.proofs.Searches.{SomeOrNone, equal_decided, list_decided, HasFirst, HasNoneOf, first_place}
+use Rattle.wh_graph.proofs.ClashesDecided.{follows_decided}
+use Rattle.wh_graph.proofs.BlockFaults.{BlocksOrFault, blocks_or_fault}
+use Rattle.wh_subterm.proofs.Projections.{ProjectionOrFault, projection_or_fault, are_marked_decided}
+use Rattle.wh_covering.specs.CoveringFaults.{IsFirstCoveringFault}
+use Rattle.wh_covering.specs.declared.fault.CoveringFault.{CoveringFault}
+use Rattle.wh_covering.proofs.Coverings.{covering_or_fault}
+use Rattle.wh_access.proofs.Breaks.{passing_or_break}
+use Rattle.wh_no.proofs.Claims.{ClaimOrFault, claim_or_fault}
+use Rattle.wh_polycheck.specs.Small.{Limits, without_limits, with_limits}
+use Rattle.wh_proof.specs.Looked.{SayChoices, SayInterpretations, SayMarks, SaysNode, SayNodes}
+use Rattle.wh_proof.specs.Small.{IsSmallNode, all_small, one_small}
+use Rattle.wh_proof.specs.Valid.{IsSmallCert, IsValidCert, IsValidYes}
 use Rattle.wh_checker.specs.Faults.{IsSubtermFault, SayCovering, IsNodeFault, IsFirstNodeFault, at_first, behind_first, at_node, of_claim, IsFirstYesFault, rank_count, inaccessible, pair_count, in_node, IsFirstFault}
 use Rattle.wh_checker.specs.declared.rejected.NodeFault.{NodeFault}
 use Rattle.wh_checker.specs.declared.rejected.NodeFault.TheVariants.{NotEmpty, NotOne, Loops, Blocks, Subterm, BadSymbols, Poly}
 use Rattle.wh_checker.specs.declared.rejected.CheckFault.{CheckFault}
 use Rattle.wh_checker.specs.declared.rejected.CheckFault.TheVariants as check
 use Rattle.wh_checker.specs.declared.rejected.Rejected.TheVariants as row
-use Rattle.wh_checker.proofs.ChoiceLemmas.{one_list_said}
-use Rattle.wh_checker.proofs.InterpretationLemmas.{said_lists, marked_numbers, one_marks_said}
+use Rattle.wh_proof.proofs.ChoiceLemmas.{one_list_said}
+use Rattle.wh_proof.proofs.InterpretationLemmas.{said_lists, marked_numbers, one_marks_said}
 use Rattle.wh_checker.proofs.NodeLemmas.{leaves_count}
-use Rattle.wh_checker.proofs.SomeSets.{sets_of_lists, whole_set, kept_set}
+use Rattle.wh_checker.proofs.CoveringLaws.{SmallFor}
+use Rattle.wh_checker.proofs.FaultLaws.{AreSmallFor, IsSmallFor}
+use Rattle.wh_checker.proofs.LimitedCoverings.{small_or_fault}
+use Rattle.wh_proof.proofs.SomeSets.{sets_of_lists, whole_set, kept_set}
 
 -- lines that say choices
 
@@ -186,136 +195,228 @@ covering_said d ps set funs lines apart = go (interpretations_or_none d.fun_name
     go (inl symbols) (inr none) = inr (λ others marks said. none marks said.1)
     go (inl (symbols, says)) (inl (marks, also)) = at_marks symbols marks says also (are_marked_decided ps set (marked_numbers marks))
 
+-- interpretations with their moves, for a choice of limits
+
+abbrev CoversOrFault : Limits → SystemData → List PairData → List ℕ → List Interpretation → List Mark → List (List Transfer)
+    → List (List Transfer) → List ℕ → Type 0
+CoversOrFault limits d ps set symbols marks rules pairs drop =
+    (IsCovering d.symbols d.rules ps set symbols marks rules pairs drop × SmallFor limits d.symbols d.rules ps set symbols marks)
+    ⊎ ((f : CoveringFault) × IsFirstCoveringFault limits d.symbols d.rules ps set symbols marks rules pairs drop f)
+
+covers_or_fault : (limits : Limits) (d : SystemData) (ps : List PairData) (set : List ℕ) (symbols : List Interpretation) (marks : List Mark)
+    (rules pairs : List (List Transfer)) (drop : List ℕ) → map (λ (s : Interpretation). s.kind) symbols ≡ d.symbols.funs
+    → AreMarked ps set (marked_numbers marks) → CoversOrFault limits d ps set symbols marks rules pairs drop
+covers_or_fault with_limits d ps set symbols marks rules pairs drop kinds marked =
+    small_or_fault d.symbols d.rules ps set symbols marks rules pairs drop kinds marked
+covers_or_fault without_limits d ps set symbols marks rules pairs drop kinds marked =
+    elim (covering_or_fault d.symbols d.rules ps set symbols marks rules pairs drop kinds marked) [
+      | inl is ↦ inl (is, tt)
+      | inr fault ↦ inr fault
+    ]
+
 -- a node
 
--- the line says a node whose conditions hold of the set
-abbrev SaysRight : SystemData → List PairData → List ℕ → w.Node → Type 0
-SaysRight d ps set line = (node : Node) × (left : List (List ℕ)) × SaysNode d line node × Leaves d.symbols d.rules ps set node left
+-- a node without interpretations
+abbrev IsPlain : Node → Type 0
+IsPlain (poly symbols marks rule_lines pair_lines drop) = ⊥
+IsPlain _ = Unit {0}
 
-abbrev NodeOrFault : SystemData → List PairData → List ℕ → w.Node → Type 0
-NodeOrFault d ps set line = SaysRight d ps set line ⊎ ((f : NodeFault) × IsNodeFault without_limits d ps set line f)
+plain_small : (limits : Limits) (d : SystemData) (ps : List PairData) (set : List ℕ) (node : Node) → IsPlain node
+    → IsSmallNode limits d.symbols d.rules ps set node
+plain_small without_limits d ps set node plain = tt
+plain_small with_limits d ps set done plain = tt
+plain_small with_limits d ps set alone plain = tt
+plain_small with_limits d ps set (blocks parts) plain = tt
+plain_small with_limits d ps set (subterm args drop) plain = tt
+plain_small with_limits d ps set (poly symbols marks rule_lines pair_lines drop) plain = absurd plain
 
-done_or_fault : (d : SystemData) (ps : List PairData) (set : List ℕ) → NodeOrFault d ps set w.done
-done_or_fault d ps [] = inl (done, [], tt, by_done)
-done_or_fault d ps (a ∷ set) = inr (NotEmpty, λ e. cc)
+poly_small : (limits : Limits) (d : SystemData) (ps : List PairData) (set : List ℕ) (symbols : List Interpretation) (marks : List Mark)
+    (rules pairs : List (List Transfer)) (drop : List ℕ) → SmallFor limits d.symbols d.rules ps set symbols marks
+    → IsSmallNode limits d.symbols d.rules ps set (poly symbols marks rules pairs drop)
+poly_small with_limits d ps set symbols marks rules pairs drop small = small
+poly_small without_limits d ps set symbols marks rules pairs drop small = tt
 
-alone_or_fault : (d : SystemData) (ps : List PairData) (set : List ℕ) → NodeOrFault d ps set w.alone
-alone_or_fault d ps [] = inr (NotOne, λ a e. cc)
-alone_or_fault d ps (a ∷ b ∷ set) = inr (NotOne, λ c e. cc)
-alone_or_fault d ps (a ∷ []) = go (follows_decided d.rules ps a a)
-  where
-    go : Decided (Follows d.rules ps a a) → NodeOrFault d ps (a ∷ []) w.alone
-    go (inl follows) = inr (Loops a, (refl, follows))
-    go (inr free) = inl (alone, [], tt, by_alone free)
+module _ (limits : Limits) (d : SystemData) (ps : List PairData) where
+  -- the line says a node whose conditions hold of the set, and which is small where there are limits
+  abbrev SaysRight : List ℕ → w.Node → Type 0
+  SaysRight set line =
+      (node : Node) × (left : List (List ℕ)) × SaysNode d line node × Leaves d.symbols d.rules ps set node left
+      × IsSmallNode limits d.symbols d.rules ps set node
 
-blocks_said : (d : SystemData) (ps : List PairData) (set : List ℕ) (parts : List (List ℕ)) → BlocksOrFault (Follows d.rules ps) set parts
-    → NodeOrFault d ps set (w.blocks parts)
-blocks_said d ps set parts (inl are) = let (sets, is) = sets_of_lists parts in inl (blocks parts, sets, refl, by_blocks are is)
-blocks_said d ps set parts (inr (f, first)) = inr (Blocks f, first)
+  abbrev NodeOrFault : List ℕ → w.Node → Type 0
+  NodeOrFault set line = SaysRight set line ⊎ ((f : NodeFault) × IsNodeFault limits d ps set line f)
 
-subterm_said : (d : SystemData) (ps : List PairData) (set : List ℕ) (lines : List w.Arg) (drop : List ℕ)
-    → SaysProjection d ps set lines drop ⊎ HasSubtermFault d ps set lines drop → NodeOrFault d ps set (w.subterm lines drop)
-subterm_said d ps set lines drop (inl (args, says, is)) =
-    let (rest, kept) = kept_set set drop in inl (subterm args drop, rest ∷ [], (says, refl), by_subterm is kept)
-subterm_said d ps set lines drop (inr (f, fault)) = inr (Subterm f, fault)
+  done_or_fault : (set : List ℕ) → NodeOrFault set w.done
+  done_or_fault [] = inl (done, [], tt, by_done, plain_small limits d ps [] done tt)
+  done_or_fault (a ∷ set) = inr (NotEmpty, λ e. cc)
 
-poly_said : (d : SystemData) (ps : List PairData) (set : List ℕ) (funs lines : List Interp) (rules pairs : List (List Move)) (drop : List ℕ)
-    → SaysSome d ps set funs lines ⊎ SaysNothing d ps set funs lines → NodeOrFault d ps set (w.interpretations funs lines rules pairs drop)
-poly_said d ps set funs lines rules pairs drop (inr nothing) = inr (BadSymbols, nothing)
-poly_said d ps set funs lines rules pairs drop (inl (symbols, marks, said)) =
-    go (covering_or_fault d.symbols d.rules ps set symbols marks (map transfers rules) (map transfers pairs) drop
-    (said_lists d.fun_names d.symbols.funs funs symbols said.0).1 said.2)
-  where
-    go : CoveringOrFault d.symbols d.rules ps set symbols marks (map transfers rules) (map transfers pairs) drop
-        → NodeOrFault d ps set (w.interpretations funs lines rules pairs drop)
-    go (inr (f, first)) = inr (Poly f, (symbols, marks, said, first))
-    go (inl is) =
-        let (rest, kept) = kept_set set drop in
-        inl (
-          poly symbols marks (map transfers rules) (map transfers pairs) drop,
-          rest ∷ [],
-          (said.0, said.1, refl, refl, refl),
-          by_poly is kept,
-        )
+  alone_or_fault : (set : List ℕ) → NodeOrFault set w.alone
+  alone_or_fault [] = inr (NotOne, λ a e. cc)
+  alone_or_fault (a ∷ b ∷ set) = inr (NotOne, λ c e. cc)
+  alone_or_fault (a ∷ []) = go (follows_decided d.rules ps a a)
+    where
+      go : Decided (Follows d.rules ps a a) → NodeOrFault (a ∷ []) w.alone
+      go (inl follows) = inr (Loops a, (refl, follows))
+      go (inr free) = inl (alone, [], tt, by_alone free, plain_small limits d ps (a ∷ []) alone tt)
 
-node_or_fault : (d : SystemData) (ps : List PairData) (set : List ℕ) (line : w.Node) → AreDistinct d.fun_names → NodeOrFault d ps set line
-node_or_fault d ps set w.done apart = done_or_fault d ps set
-node_or_fault d ps set w.alone apart = alone_or_fault d ps set
-node_or_fault d ps set (w.blocks parts) apart =
-    blocks_said d ps set parts (blocks_or_fault (Follows d.rules ps) (follows_decided d.rules ps) set parts)
-node_or_fault d ps set (w.subterm lines drop) apart = subterm_said d ps set lines drop (projection_said d ps set lines drop apart)
-node_or_fault d ps set (w.interpretations funs lines rules pairs drop) apart =
-    poly_said d ps set funs lines rules pairs drop (covering_said d ps set funs lines apart)
+  blocks_said : (set : List ℕ) (parts : List (List ℕ)) → BlocksOrFault (Follows d.rules ps) set parts → NodeOrFault set (w.blocks parts)
+  blocks_said set parts (inl are) =
+      let (sets, is) = sets_of_lists parts in
+      inl (blocks parts, sets, refl, by_blocks are is, plain_small limits d ps set (blocks parts) tt)
+  blocks_said set parts (inr (f, first)) = inr (Blocks f, first)
+
+  subterm_said : (set : List ℕ) (lines : List w.Arg) (drop : List ℕ)
+      → SaysProjection d ps set lines drop ⊎ HasSubtermFault d ps set lines drop → NodeOrFault set (w.subterm lines drop)
+  subterm_said set lines drop (inl (args, says, is)) =
+      let (rest, kept) = kept_set set drop in
+      inl (subterm args drop, rest ∷ [], (says, refl), by_subterm is kept, plain_small limits d ps set (subterm args drop) tt)
+  subterm_said set lines drop (inr (f, fault)) = inr (Subterm f, fault)
+
+  poly_said : (set : List ℕ) (funs lines : List Interp) (rules pairs : List (List Move)) (drop : List ℕ)
+      → SaysSome d ps set funs lines ⊎ SaysNothing d ps set funs lines → NodeOrFault set (w.interpretations funs lines rules pairs drop)
+  poly_said set funs lines rules pairs drop (inr nothing) = inr (BadSymbols, nothing)
+  poly_said set funs lines rules pairs drop (inl (symbols, marks, said)) =
+      go (covers_or_fault limits d ps set symbols marks (map transfers rules) (map transfers pairs) drop
+      (said_lists d.fun_names d.symbols.funs funs symbols said.0).1 said.2)
+    where
+      go : CoversOrFault limits d ps set symbols marks (map transfers rules) (map transfers pairs) drop
+          → NodeOrFault set (w.interpretations funs lines rules pairs drop)
+      go (inr (f, first)) = inr (Poly f, (symbols, marks, said, first))
+      go (inl (is, small)) =
+          let (rest, kept) = kept_set set drop in
+          inl (
+            poly symbols marks (map transfers rules) (map transfers pairs) drop,
+            rest ∷ [],
+            (said.0, said.1, refl, refl, refl),
+            by_poly is kept,
+            poly_small limits d ps set symbols marks (map transfers rules) (map transfers pairs) drop small,
+          )
+
+  node_or_fault : (set : List ℕ) (line : w.Node) → AreDistinct d.fun_names → NodeOrFault set line
+  node_or_fault set w.done apart = done_or_fault set
+  node_or_fault set w.alone apart = alone_or_fault set
+  node_or_fault set (w.blocks parts) apart =
+      blocks_said set parts (blocks_or_fault (Follows d.rules ps) (follows_decided d.rules ps) set parts)
+  node_or_fault set (w.subterm lines drop) apart = subterm_said set lines drop (projection_said d ps set lines drop apart)
+  node_or_fault set (w.interpretations funs lines rules pairs drop) apart =
+      poly_said set funs lines rules pairs drop (covering_said d ps set funs lines apart)
 
 -- the nodes in preorder
 
--- the lines say nodes that prove the sets
-abbrev AreProvedBy : SystemData → List PairData → List (List ℕ) → List w.Node → Type 0
-AreProvedBy d ps sets lines = (nodes : List Node) × SayNodes d lines nodes × Proves d.symbols d.rules ps sets nodes
+no_more_small : (limits : Limits) (d : SystemData) (ps : List PairData) → AreSmallFor limits d.symbols d.rules ps [] []
+no_more_small with_limits d ps = all_small
+no_more_small without_limits d ps = tt
 
-abbrev HasNodeFault : SystemData → List PairData → ℕ → List (List ℕ) → List w.Node → Type 0
-HasNodeFault d ps k sets lines = (m : ℕ) × (f : NodeFault) × IsFirstNodeFault without_limits d ps k sets lines m f
+one_more_small : (limits : Limits) (d : SystemData) (ps : List PairData) (set : List ℕ) (left sets : List (List ℕ)) (node : Node)
+    (nodes : List Node) → Leaves d.symbols d.rules ps set node left → IsSmallNode limits d.symbols d.rules ps set node
+    → AreSmallFor limits d.symbols d.rules ps (left ++ sets) nodes
+    → AreSmallFor limits d.symbols d.rules ps (set ∷ sets) (node ∷ nodes)
+one_more_small with_limits d ps set left sets node nodes leaves small rest = one_small leaves small rest
+one_more_small without_limits d ps set left sets node nodes leaves small rest = tt
 
-proved_or_fault : (d : SystemData) (ps : List PairData) (k : ℕ) (sets : List (List ℕ)) (lines : List w.Node) → AreDistinct d.fun_names
-    → Preorder (length sets) lines
-    → AreProvedBy d ps sets lines ⊎ HasNodeFault d ps k sets lines
-proved_or_fault d ps k [] [] apart counted = inl ([], tt, all_proved)
-proved_or_fault d ps k [] (line ∷ lines) apart counted = absurd counted
-proved_or_fault d ps k (set ∷ sets) [] apart counted = absurd counted
-proved_or_fault d ps k (set ∷ sets) (line ∷ lines) apart counted = elim (node_or_fault d ps set line apart) [
+-- the lines say nodes that prove the sets, and which are small where there are limits
+abbrev AreProvedBy : Limits → SystemData → List PairData → List (List ℕ) → List w.Node → Type 0
+AreProvedBy limits d ps sets lines =
+    (nodes : List Node) × SayNodes d lines nodes × Proves d.symbols d.rules ps sets nodes
+    × AreSmallFor limits d.symbols d.rules ps sets nodes
+
+abbrev HasNodeFault : Limits → SystemData → List PairData → ℕ → List (List ℕ) → List w.Node → Type 0
+HasNodeFault limits d ps k sets lines = (m : ℕ) × (f : NodeFault) × IsFirstNodeFault limits d ps k sets lines m f
+
+proved_or_fault : (limits : Limits) (d : SystemData) (ps : List PairData) (k : ℕ) (sets : List (List ℕ)) (lines : List w.Node)
+    → AreDistinct d.fun_names → Preorder (length sets) lines
+    → AreProvedBy limits d ps sets lines ⊎ HasNodeFault limits d ps k sets lines
+proved_or_fault limits d ps k [] [] apart counted = inl ([], tt, all_proved, no_more_small limits d ps)
+proved_or_fault limits d ps k [] (line ∷ lines) apart counted = absurd counted
+proved_or_fault limits d ps k (set ∷ sets) [] apart counted = absurd counted
+proved_or_fault limits d ps k (set ∷ sets) (line ∷ lines) apart counted = elim (node_or_fault limits d ps set line apart) [
   | inr (f, fault) ↦ inr (k, f, at_first fault)
-  | inl (node, left, says, leaves) ↦
+  | inl (node, left, says, leaves, small) ↦
       let count : length (left ++ sets) ≡ w.children line + length sets =
       length-append left sets ∙ ap (λ n. n + length sets) (leaves_count d ps set line node left says leaves) in
-      elim (proved_or_fault d ps (suc k) (left ++ sets) lines apart (subst (λ n. Preorder n lines) (sym count) counted)) [
-        | inl (nodes, say, proves) ↦ inl (node ∷ nodes, (says, say), one_proved leaves proves)
-        | inr (m, f, first) ↦ inr (m, f, behind_first says leaves tt first)
+      elim (proved_or_fault limits d ps (suc k) (left ++ sets) lines apart (subst (λ n. Preorder n lines) (sym count) counted)) [
+        | inl (nodes, say, proves, few) ↦
+            inl (
+              node ∷ nodes,
+              (says, say),
+              one_proved leaves proves,
+              one_more_small limits d ps set left sets node nodes leaves small few,
+            )
+        | inr (m, f, first) ↦ inr (m, f, behind_first says leaves small first)
       ]
 ]
 
 -- a certificate of termination
 
-abbrev YesOrFault : SystemData → List PairData → List ℕ → ℕ → List w.Node → Type 0
-YesOrFault d ps ranks pairs lines =
-    IsValidYes d ps ranks pairs lines ⊎ ((r : CheckFault) × IsFirstYesFault without_limits d ps ranks pairs lines r)
+abbrev YesOrFault : Limits → SystemData → List PairData → List ℕ → ℕ → List w.Node → Type 0
+YesOrFault limits d ps ranks pairs lines =
+    (IsValidYes d ps ranks pairs lines × IsSmallFor limits d ps lines)
+    ⊎ ((r : CheckFault) × IsFirstYesFault limits d ps ranks pairs lines r)
 
-valid_or_yes_fault : (d : SystemData) (ps : List PairData) (ranks : List ℕ) (pairs : ℕ) (lines : List w.Node) → AreDistinct d.fun_names
-    → Preorder 1 lines → YesOrFault d ps ranks pairs lines
-valid_or_yes_fault d ps ranks pairs lines apart counted =
+small_yes_for : (limits : Limits) (d : SystemData) (ps : List PairData) (lines : List w.Node) (set : List ℕ) → IsWhole ps set
+    → AreProvedBy limits d ps (set ∷ []) lines → IsSmallFor limits d ps lines
+small_yes_for with_limits d ps lines set whole (nodes, say, proves, small) =
+    record { set = set; whole = whole; nodes = nodes; says = say; small = small }
+small_yes_for without_limits d ps lines set whole proved = tt
+
+valid_or_yes_fault : (limits : Limits) (d : SystemData) (ps : List PairData) (ranks : List ℕ) (pairs : ℕ) (lines : List w.Node)
+    → AreDistinct d.fun_names → Preorder 1 lines → YesOrFault limits d ps ranks pairs lines
+valid_or_yes_fault limits d ps ranks pairs lines apart counted =
     go (equal_decided (length ranks) d.symbols.sorts) (passing_or_break d.symbols (rank_of ranks) d.rules) (equal_decided pairs (length ps))
   where
     go : Decided (length ranks ≡ d.symbols.sorts) → Passing d.symbols (rank_of ranks) d.rules
-        ⊎ ((i z : ℕ) × IsFirstBreak d.symbols (rank_of ranks) d.rules i z) → Decided (pairs ≡ length ps) → YesOrFault d ps ranks pairs lines
+        ⊎ ((i z : ℕ) × IsFirstBreak d.symbols (rank_of ranks) d.rules i z) → Decided (pairs ≡ length ps)
+        → YesOrFault limits d ps ranks pairs lines
     go (inr other) passing count = inr (check.Rejected row.RankCount, rank_count other)
     go (inl ranked) (inr (i, z, first)) count = inr (check.Rejected (row.Inaccessible i z), inaccessible ranked first)
     go (inl ranked) (inl passing) (inr other) = inr (check.Rejected (row.PairCount (length ps)), pair_count ranked passing other)
     go (inl ranked) (inl passing) (inl right) =
         let (set, whole) = whole_set ps in
-        elim (proved_or_fault d ps 0 (set ∷ []) lines apart counted) [
-          | inl (nodes, say, proves) ↦ inl (record {
-            rank_count = ranked;
-            passing = passing;
-            pair_count = right;
-            set = set;
-            whole = whole;
-            nodes = nodes;
-            says = say;
-            proves = proves;
-          })
+        elim (proved_or_fault limits d ps 0 (set ∷ []) lines apart counted) [
+          | inl (nodes, say, proves, small) ↦
+              inl (
+                record {
+                  rank_count = ranked;
+                  passing = passing;
+                  pair_count = right;
+                  set = set;
+                  whole = whole;
+                  nodes = nodes;
+                  says = say;
+                  proves = proves;
+                },
+                small_yes_for limits d ps lines set whole (nodes, say, proves, small),
+              )
           | inr (k, f, first) ↦ inr (at_node k f, in_node ranked passing right whole first)
         ]
 
 -- a certificate of either kind
 
-abbrev pub ValidOrFault : SystemData → List PairData → Cert → Type 0
-ValidOrFault d ps c = IsValidCert d ps c ⊎ ((r : CheckFault) × IsFirstFault without_limits d ps c r)
+abbrev HasFault : Limits → SystemData → List PairData → Cert → Type 0
+HasFault limits d ps c = (r : CheckFault) × IsFirstFault limits d ps c r
 
-of_claim_too : (d : SystemData) (ps : List PairData) (t : RTm) (steps : List taken.Step) (at : List ℕ) (puts : List w.Put)
-    → ClaimOrFault d t steps at puts → ValidOrFault d ps (no t steps at puts)
-of_claim_too d ps t steps at puts (inl valid) = inl valid
-of_claim_too d ps t steps at puts (inr (f, first)) = inr (check.Rejected (of_claim f), (f, refl, first))
+valid_or_claim_fault : (limits : Limits) (d : SystemData) (ps : List PairData) (t : RTm) (steps : List taken.Step) (at : List ℕ)
+    (puts : List w.Put) → ClaimOrFault d t steps at puts
+    → IsValidCert d ps (no t steps at puts) ⊎ HasFault limits d ps (no t steps at puts)
+valid_or_claim_fault limits d ps t steps at puts (inl valid) = inl valid
+valid_or_claim_fault limits d ps t steps at puts (inr (f, first)) = inr (check.Rejected (of_claim f), (f, refl, first))
 
-pub valid_or_faulty : (d : SystemData) (ps : List PairData) (c : Cert) → IsWellMadeSystem d → IsCert c → ValidOrFault d ps c
+pub valid_or_faulty : (d : SystemData) (ps : List PairData) (c : Cert) → IsWellMadeSystem d → IsCert c
+    → IsValidCert d ps c ⊎ HasFault without_limits d ps c
 valid_or_faulty d ps (yes version ranks pairs lines) made cert =
-    valid_or_yes_fault d ps ranks pairs lines made.fun_names_distinct cert.parts.4
-valid_or_faulty d ps (no t steps at puts) made cert = of_claim_too d ps t steps at puts (claim_or_fault d t steps at puts made.rules)
+    elim (valid_or_yes_fault without_limits d ps ranks pairs lines made.fun_names_distinct cert.parts.4) [
+      | inl (valid, small) ↦ inl valid
+      | inr fault ↦ inr fault
+    ]
+valid_or_faulty d ps (no t steps at puts) made cert =
+    valid_or_claim_fault without_limits d ps t steps at puts (claim_or_fault d t steps at puts made.rules)
+
+pub accepted_or_faulty : (d : SystemData) (ps : List PairData) (c : Cert) → IsWellMadeSystem d → IsCert c
+    → (IsValidCert d ps c × IsSmallCert d ps c) ⊎ HasFault with_limits d ps c
+accepted_or_faulty d ps (yes version ranks pairs lines) made cert =
+    valid_or_yes_fault with_limits d ps ranks pairs lines made.fun_names_distinct cert.parts.4
+accepted_or_faulty d ps (no t steps at puts) made cert =
+    elim (valid_or_claim_fault with_limits d ps t steps at puts (claim_or_fault d t steps at puts made.rules)) [
+      | inl valid ↦ inl (valid, tt)
+      | inr fault ↦ inr fault
+    ]

@@ -8,14 +8,15 @@ use Rattle.wh_cert.specs.Written as w
 use Rattle.wh_cert.specs.Written.{children, Preorder}
 use Rattle.wh_cert.specs.Said.{said_node}
 use Rattle.wh_cert.specs.declared.certificate.Node as code
-use Rattle.wh_nodes.specs.Proves.{all_proved, one_proved}
-use Rattle.wh_covering.specs.CoveringFaults.{with_limits}
-use Rattle.wh_checker.specs.Small.{all_small, one_small}
+use Rattle.wh_proof.specs.Proves.{all_proved, one_proved}
+use Rattle.wh_polycheck.specs.Small.{with_limits}
+use Rattle.wh_proof.specs.Small.{all_small, one_small}
 use Rattle.wh_checker.specs.Faults.{IsNodeFault, IsFirstNodeFault, at_first, behind_first}
-use Rattle.wh_checker.specs.Walk.{GoesOn, AreProvedBy, HasCome}
+use Rattle.wh_checker.specs.Walk.{HasCome}
+use Rattle.wh_proof.specs.GoesOn.{GoesOn, AreProvedBy}
 use Rattle.wh_checker.specs.declared.rejected.NodeFault.{NodeFault}
 use Rattle.wh_checker.proofs.NodeLemmas.{leaves_count, left_within}
-use Rattle.wh_checker.proofs.GoLemmas.{reverse_push}
+use Rattle.wh_proof.proofs.BlockLemmas.{reverse_push}
 
 abbrev Below : List PairData → List ℕ → Type 0
 Below ps = All (λ n. n < length ps)

@@ -6,11 +6,13 @@ use Rattle.wh_types.specs.declared.want.Or.TheVariants.{NoMemory, Because}
 use Rattle.wh_system.specs.Systems.{SystemData}
 use Rattle.wh_pairs.specs.PairData.{PairData}
 use Rattle.wh_cert.specs.Written as w
-use Rattle.wh_covering.specs.CoveringFaults.{with_limits}
-use Rattle.wh_checker.specs.Valid.{IsWhole, IsValidYes}
+use Rattle.wh_polycheck.specs.Small.{with_limits}
+use Rattle.wh_proof.specs.Valid.{IsValidYes}
+use Rattle.wh_pairs.specs.Sets.{IsWhole}
 use Rattle.wh_checker.specs.Faults.{IsFirstNodeFault, at_node, IsFirstYesFault, rank_count, inaccessible, in_node}
-use Rattle.wh_checker.specs.Small.{IsSmallYes}
-use Rattle.wh_checker.specs.Walk.{IsPassingUnder, IsRankFault, AreProvedBy}
+use Rattle.wh_proof.specs.Small.{IsSmallYes}
+use Rattle.wh_checker.specs.Walk.{IsPassingUnder, IsRankFault}
+use Rattle.wh_proof.specs.GoesOn.{AreProvedBy}
 use Rattle.wh_checker.specs.declared.rejected.NodeFault.{NodeFault}
 use Rattle.wh_checker.specs.declared.rejected.CheckFault.{CheckFault}
 use Rattle.wh_checker.specs.declared.rejected.CheckFault.TheVariants as check

@@ -23,15 +23,16 @@ use Rattle.wh_hopoly.specs.declared.excess.Excess.TheVariants as excess
 use Rattle.wh_polycheck.specs.Marks.{Mark}
 use Rattle.wh_polycheck.specs.declared.fault.CoverFault.{CoverFault}
 use Rattle.wh_polycheck.specs.declared.fault.CoverFault.TheVariants as moves
-use Rattle.wh_subterm.specs.Marked.{AreMarked}
-use Rattle.wh_covering.specs.CoveringFaults.{Limits, IsFirstCoveringFault}
+use Rattle.wh_pairs.specs.Marked.{AreMarked}
+use Rattle.wh_covering.specs.CoveringFaults.{IsFirstCoveringFault}
+use Rattle.wh_polycheck.specs.Small.{Limits}
 use Rattle.wh_covering.specs.declared.fault.CoveringFault.{CoveringFault}
 use Rattle.wh_covering.specs.declared.fault.CoveringFault.TheVariants as covered
 use Rattle.wh_covering.specs.declared.fault.LineFault.TheVariants as line
-use Rattle.wh_nodes.specs.Nodes.{Node, Leaves}
-use Rattle.wh_checker.specs.Looked.{SayChoices, SayInterpretations, SayMarks, SaysNode}
-use Rattle.wh_checker.specs.Small.{IsSmallNode}
-use Rattle.wh_checker.specs.Valid.{IsWhole}
+use Rattle.wh_proof.specs.Nodes.{Node, Leaves}
+use Rattle.wh_proof.specs.Looked.{SayChoices, SayInterpretations, SayMarks, SaysNode}
+use Rattle.wh_proof.specs.Small.{IsSmallNode}
+use Rattle.wh_pairs.specs.Sets.{IsWhole}
 use Rattle.wh_checker.specs.declared.rejected.NodeFault.{NodeFault}
 use Rattle.wh_checker.specs.declared.rejected.NodeFault.TheVariants as fault
 use Rattle.wh_checker.specs.declared.rejected.Rejected.{Rejected}

@@ -9,11 +9,13 @@ use Rattle.wh_subterm.specs.Projections.{Chosen}
 use Rattle.wh_subterm.specs.SubtermRows.{IsProjection}
 use Rattle.wh_cert.specs.Written as w
 use Rattle.wh_cert.specs.Written.{Preorder}
-use Rattle.wh_nodes.specs.Nodes.{Node, Leaves, IsSetOf, IsKept}
-use Rattle.wh_nodes.specs.Proves.{Proves}
-use Rattle.wh_checker.specs.Looked.{SayChoices, SaysNode, SayNodes}
-use Rattle.wh_covering.specs.CoveringFaults.{with_limits}
-use Rattle.wh_checker.specs.Small.{IsSmallNode, AreSmall}
+use Rattle.wh_proof.specs.Nodes.{Node, Leaves}
+use Rattle.wh_pairs.specs.Sets.{IsSetOf, IsKept}
+use Rattle.wh_proof.specs.Proves.{Proves}
+use Rattle.wh_proof.specs.GoesOn.{AreProvedBy}
+use Rattle.wh_proof.specs.Looked.{SayChoices, SaysNode, SayNodes}
+use Rattle.wh_polycheck.specs.Small.{with_limits}
+use Rattle.wh_proof.specs.Small.{IsSmallNode, AreSmall}
 use Rattle.wh_checker.specs.Faults.{IsFirstNodeFault}
 use Rattle.wh_checker.specs.declared.rejected.NodeFault.{NodeFault}
 use Rattle.wh_checker.specs.declared.rejected.Rejected.{Rejected}
@@ -37,20 +39,6 @@ IsSingle rules ps set = (a : ℕ) × (set ≡ a ∷ []) × (Follows rules ps a a
 abbrev pub IsReduced : SystemData → List PairData → List ℕ → List w.Arg → List ℕ → List ℕ → Type 0
 IsReduced d ps set lines drop rest =
     (args : List Chosen) × SayChoices d lines args × IsProjection d.rules ps set args drop × IsSetOf (IsKept set drop) rest
-
--- the lines of a node say one whose conditions hold of the set and which is small, and what it leaves comes before the other sets
-pub record GoesOn (d : SystemData) (ps : List PairData) (set : List ℕ) (line : w.Node) (sets after : List (List ℕ)) : Type 0 where
-  pub node : Node
-  pub left : List (List ℕ)
-  pub says : SaysNode d line node
-  pub leaves : Leaves d.symbols d.rules ps set node left
-  pub small : IsSmallNode with_limits d.symbols d.rules ps set node
-  pub after_is : after ≡ left ++ sets
-
--- the lines say nodes that prove the sets, and each is small
-abbrev pub AreProvedBy : SystemData → List PairData → List (List ℕ) → List w.Node → Type 0
-AreProvedBy d ps sets lines = (nodes : List Node) × SayNodes d lines nodes × Proves d.symbols d.rules ps sets nodes
-    × AreSmall d.symbols d.rules ps sets nodes
 
 -- a walk over all the lines, which began with one set, has come to the line number k: these sets are open and these lines are
 -- left

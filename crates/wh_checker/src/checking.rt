@@ -8,32 +8,31 @@ ghost use Rattle.wh_pairs.specs.SystemPairs.{HasPairs};
 ghost use Rattle.wh_pairs.specs.Views.{pairs_data};
 ghost use Rattle.wh_cert.specs.Limits.{IsCert};
 ghost use Rattle.wh_cert.specs.Said.{said, said_node, said_no, said_yes};
-ghost use Rattle.wh_checker.specs.Accepted.{AreBounded, IsAccepted, IsBoundedAtYes};
-ghost use Rattle.wh_covering.specs.CoveringFaults.{with_limits};
+ghost use Rattle.wh_checker.specs.Accepted.{AreBounded, IsAccepted, IsMeant};
+ghost use Rattle.wh_polycheck.specs.Small.{with_limits};
 ghost use Rattle.wh_checker.specs.Faults.{IsFirstFault, IsFirstYesFault};
-ghost use Rattle.wh_checker.specs.Small.{IsSmallCert, IsSmallYes};
-ghost use Rattle.wh_checker.specs.Valid.{IsValidYes};
+ghost use Rattle.wh_proof.specs.Small.{IsSmallYes};
+ghost use Rattle.wh_proof.specs.Valid.{IsSmallCert, IsValidYes};
 ghost use Rattle.wh_checker.specs.Walk.{IsPassingUnder, IsRankFault};
 ghost use Rattle.wh_checker.specs.declared.rejected.CheckFault.TheVariants.{Rejected as refusal};
 ghost use Rattle.wh_checker.specs.declared.rejected.Rejected as row;
 
 use crate::rejected::{CheckFault, Rejected, of_claim};
-use crate::sets::numbers_below;
 use crate::walk::check_nodes;
 use std::alloc::Global;
 use wh_access::{Inaccessible, check_ranks};
 use wh_cert::{Certificate, NoCertificate, YesCertificate};
 use wh_meaning::pairs_have_marked_sides;
-use wh_no::{AcceptedNo, check_no};
+use wh_no::{AcceptedNo, check_no, valid_claims_are_unbounded};
 use wh_nodes::proved_systems_are_bounded;
-use wh_pairs::PairList;
+use wh_pairs::{PairList, numbers_below};
 use wh_system::System;
 use wh_types::{Or, Ranks};
 
 /// An accepted certificate.
 #[derive(Clone, Copy)]
 pub enum Accepted {
-    /// Every reduction ends.
+    /// Every well-typed term is bounded: it has a number that no reduction from it exceeds in length.
     Yes(AcceptedYes),
     /// There are reductions of every length.
     No(AcceptedNo),
@@ -49,7 +48,8 @@ pub struct AcceptedYes {
 /// Checks a certificate over a system and its dependency pairs. It is accepted exactly where it is valid and no value exceeds a
 /// limit in a side that a node of interpretations evaluates; else the first condition that is false is named, or the first node
 /// in which a value exceeds a limit before that. The certificate is one that `read_certificate` gives. Where the answer is YES,
-/// each well-typed term over the system has a longest reduction (Kop 2012; Fuhs and Kop 2019).
+/// each well-typed term over the system is bounded: it has a number that no reduction from it exceeds in length; where it is NO, the
+/// term of the certificate has reductions of every length (Kop 2012; Fuhs and Kop 2019).
 pub fn check(
     alloc: Global,
     system: &System,
@@ -61,8 +61,10 @@ pub fn check(
     ensures accepted { IfOk result (IsAccepted (system_data system.now) (pairs_data pairs.now) (said certificate.now)) }
     ensures small { OnOk result (IsSmallCert (system_data system.now) (pairs_data pairs.now) (said certificate.now)) }
     ensures rejected { IfBecause result (IsFirstFault with_limits (system_data system.now) (pairs_data pairs.now) (said certificate.now)) }
-    ensures bounded { IfOk result (IsBoundedAtYes (system_data system.now)) }
+    ensures meaning { IfOk result (IsMeant (system_data system.now) (said certificate.now)) }
 {
+    system.is_well_made();
+    valid_claims_are_unbounded();
     match certificate {
         Certificate::Yes(certificate) => {
             check_yes(alloc, system, pairs, certificate)?;

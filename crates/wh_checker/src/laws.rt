@@ -7,13 +7,12 @@ ghost use Rattle.wh_system.specs.WellMade.{IsWellMadeSystem};
 ghost use Rattle.wh_pairs.specs.SystemPairs.{HasPairs};
 ghost use Rattle.wh_cert.specs.Limits.{IsCert};
 ghost use Rattle.wh_cert.specs.Written.{Cert, Node};
-ghost use Rattle.wh_covering.specs.CoveringFaults.{Limits, with_limits, without_limits};
+ghost use Rattle.wh_polycheck.specs.Small.{Limits, with_limits, without_limits};
 ghost use Rattle.wh_no.specs.Faults.{IsValidNo};
 ghost use Rattle.wh_checker.specs.Accepted.{AreBounded};
 ghost use Rattle.wh_checker.specs.Faults.{AreAlike, IsFirstFault};
 ghost use Rattle.wh_checker.specs.Named.{NamesAreThere};
-ghost use Rattle.wh_checker.specs.Small.{IsSmallCert};
-ghost use Rattle.wh_checker.specs.Valid.{IsValidCert, IsValidYes};
+ghost use Rattle.wh_proof.specs.Valid.{IsSmallCert, IsValidCert, IsValidYes};
 ghost use Rattle.wh_checker.specs.declared.rejected.CheckFault.TheVariants.{Rejected as refusal};
 ghost use Rattle.wh_checker.specs.declared.rejected.CheckFault.{CheckFault};
 ghost use Rattle.wh_checker.specs.declared.rejected.Rejected.{Rejected};
@@ -54,7 +53,14 @@ pub fn valid_or_at_fault()
         ⊎ ((f : CheckFault) × IsFirstFault without_limits d ps c f) }
 {}
 
-/// Where a certificate of termination is valid, each well-typed term of the system has a longest reduction; also where values exceed
+/// So with limits: a certificate is valid, and no value exceeds one, or it has a first fault. So the check has an answer for each
+/// certificate.
+pub fn accepted_or_at_fault()
+    ensures { (d : SystemData) (ps : List PairData) (c : Cert) → IsWellMadeSystem d → IsCert c
+        → (IsValidCert d ps c × IsSmallCert d ps c) ⊎ ((f : CheckFault) × IsFirstFault with_limits d ps c f) }
+{}
+
+/// Where a certificate of termination is valid, each well-typed term of the system is bounded; also where values exceed
 /// limits, so that the check doesn't accept it (Kop 2012; Fuhs and Kop 2019).
 pub fn valid_certificates_mean_bounded()
     ensures { (d : SystemData) (ps : List PairData) (ranks : List ℕ) (pairs : ℕ) (lines : List Node) → IsWellMadeSystem d

@@ -3,18 +3,15 @@
 #![tactic(auto)]
 
 mod checking;
-mod choices;
-mod interpretations;
 mod laws;
 mod node;
 mod rejected;
-mod sets;
 mod walk;
 
 pub use checking::{Accepted, AcceptedYes, check};
 pub use laws::{
-    no_system_has_both, one_first_fault, rejections_are_first_rows, rejections_name_what_is_there,
-    valid_certificates_have_no_fault, valid_certificates_mean_bounded, valid_or_at_fault,
+    accepted_or_at_fault, no_system_has_both, one_first_fault, rejections_are_first_rows,
+    rejections_name_what_is_there, valid_certificates_have_no_fault,
+    valid_certificates_mean_bounded, valid_or_at_fault,
 };
 pub use rejected::{CheckFault, NodeFault, Rejected};
-pub use sets::{kept, numbers_below, open_blocks};

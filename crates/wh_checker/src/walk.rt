@@ -6,10 +6,10 @@ ghost use Rattle.wh_pairs.specs.Views.{pairs_data};
 ghost use Rattle.wh_system.specs.SystemView.{system_data};
 ghost use Rattle.wh_cert.specs.Said.{said_node};
 ghost use Rattle.wh_cert.specs.Written.{Preorder};
-ghost use Rattle.wh_covering.specs.CoveringFaults.{with_limits};
-ghost use Rattle.wh_meaning.specs.Covering.{HaveTypedSides};
+ghost use Rattle.wh_polycheck.specs.Small.{with_limits};
+ghost use Rattle.wh_polycheck.specs.Covering.{HaveTypedSides};
 ghost use Rattle.wh_checker.specs.Faults.{IsFirstNodeFault, at_node};
-ghost use Rattle.wh_checker.specs.Walk.{AreProvedBy};
+ghost use Rattle.wh_proof.specs.GoesOn.{AreProvedBy};
 ghost use Rattle.wh_checker.specs.declared.rejected.NodeFault.{NodeFault};
 
 use crate::node::check_node;

@@ -8,13 +8,15 @@ use Rattle.wh_terms.specs.Typing.{Symbols}
 use Rattle.wh_terms.specs.Rules.{RewriteRule}
 use Rattle.wh_pairs.specs.PairData.{PairData}
 use Rattle.wh_pairs.proofs.ByPlace.{some_one, contains_at, place_of, unmap}
-use Rattle.wh_subterm.specs.Marked.{AreMarked}
-use Rattle.wh_subterm.proofs.DropLemmas.{contains_or_not, drops_some, drops_once, drops_within}
+use Rattle.wh_pairs.specs.Marked.{AreMarked}
+use Rattle.wh_pairs.proofs.DropLemmas.{contains_or_not, drops_some, drops_once, drops_within}
 use Rattle.wh_hopoly.specs.Evaluation.{Interpretation}
 use Rattle.wh_hopoly.specs.Moves.{Transfer}
 use Rattle.wh_polycheck.specs.Marks.{Mark, HasMark, HasMarkedSides}
-use Rattle.wh_meaning.specs.Covering.{rule_run, pair_run, IsCovering, HaveTypedSides}
-use Rattle.wh_covering.specs.CoveringFaults.{with_limits, StaysWithin, IsRightLine, IsFirstLineFault, IsRightRule, IsDropped, IsRightPair, IsReady, IsSmall, IsFirstCoveringFault}
+use Rattle.wh_polycheck.specs.Covering.{rule_run, pair_run, IsCovering, HaveTypedSides}
+use Rattle.wh_covering.specs.CoveringFaults.{IsRightLine, IsFirstLineFault, IsRightRule, IsRightPair, IsReady, IsFirstCoveringFault}
+use Rattle.wh_polycheck.specs.Small.{with_limits, StaysWithin, IsSmall}
+use Rattle.wh_pairs.specs.Drops.{IsDropped}
 use Rattle.wh_covering.specs.Lines.{IsFirstRuleFault, IsFirstPairFault}
 use Rattle.wh_covering.specs.declared.fault.CoveringFault.{CoveringFault}
 use Rattle.wh_covering.specs.declared.fault.CoveringFault.TheVariants.{BadPolynomial, BadLines, BadDrop, Rule, Pair}

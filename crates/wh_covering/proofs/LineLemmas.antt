@@ -9,7 +9,8 @@ use Rattle.wh_hopoly.specs.Evaluation.{Run}
 use Rattle.wh_hopoly.specs.Moves.{Transfer}
 use Rattle.wh_hopoly.specs.declared.polynomial.Poly.{Poly}
 use Rattle.wh_polycheck.specs.declared.fault.CoverFault.{CoverFault}
-use Rattle.wh_covering.specs.CoveringFaults.{IsFirstFaultOfMoves, IsFirstLineFault, with_limits}
+use Rattle.wh_covering.specs.CoveringFaults.{IsFirstFaultOfMoves, IsFirstLineFault}
+use Rattle.wh_polycheck.specs.Small.{with_limits}
 use Rattle.wh_covering.specs.declared.fault.LineFault.{LineFault}
 use Rattle.wh_covering.specs.declared.fault.LineFault.TheVariants.{Exceeds, Cover}
 use Rattle.wh_covering.specs.Lines.{IsSide, IsExcessOf, IsAnswerOf}

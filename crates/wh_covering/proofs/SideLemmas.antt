@@ -23,7 +23,7 @@ use Rattle.wh_polycheck.specs.Sides.{types_of_metas, side_expression, marked_exp
 use Rattle.wh_polycheck.specs.Marks.{Mark, with_marks, mark_number, head_of_side, arguments_of_side, AreNormalMarks}
 use Rattle.wh_polycheck.specs.SideResults.{SideComesTo, IsFaultOfSide, PairSideComesTo, IsFaultOfPairSide}
 use Rattle.wh_polycheck.proofs.MoreInterpretations.{normal_with_marks}
-use Rattle.wh_meaning.specs.Covering.{rule_run, pair_run}
+use Rattle.wh_polycheck.specs.Covering.{rule_run, pair_run}
 use Rattle.wh_covering.specs.CoveringFaults.{RunExceeds}
 use Rattle.wh_covering.specs.Lines.{IsSide, IsSomeSide, limit_of}
 

@@ -4,7 +4,7 @@ use Rattle.wh_types.specs.Ty.{arguments}
 use Rattle.wh_terms.specs.Typing.{Symbols}
 use Rattle.wh_terms.specs.Rules.{RewriteRule}
 use Rattle.wh_pairs.specs.PairData.{PairData}
-use Rattle.wh_subterm.specs.SubtermRows.{IsBadDrop}
+use Rattle.wh_pairs.specs.Drops.{IsDropped, IsBadDrop}
 use Rattle.wh_hopoly.specs.Polynomials.{Polynomial, Normal}
 use Rattle.wh_hopoly.specs.Evaluation.{Run, Interpretation, NormalInterpretations}
 use Rattle.wh_hopoly.specs.Limits.{Exceeds}
@@ -14,20 +14,12 @@ use Rattle.wh_hopoly.specs.declared.excess.Excess.{Excess}
 use Rattle.wh_polycheck.specs.Marks.{Mark, marked_types, AreNormalMarks}
 use Rattle.wh_polycheck.specs.CoverFaults.{IsFirstCoverFault, IsFirstStrictCoverFault}
 use Rattle.wh_polycheck.specs.declared.fault.CoverFault.{CoverFault}
-use Rattle.wh_meaning.specs.Covering.{rule_run, pair_run, CoversSides}
+use Rattle.wh_polycheck.specs.Covering.{rule_run, pair_run, CoversSides}
+use Rattle.wh_polycheck.specs.Small.{Limits, without_limits, with_limits, StaysWithin}
 use Rattle.wh_covering.specs.declared.fault.CoveringFault.{CoveringFault}
 use Rattle.wh_covering.specs.declared.fault.CoveringFault.TheVariants.{BadPolynomial, BadLines, BadDrop, Rule, Pair}
 use Rattle.wh_covering.specs.declared.fault.LineFault.{LineFault}
 use Rattle.wh_covering.specs.declared.fault.LineFault.TheVariants as line
-
--- whether numbers may be as large as they like, or values that exceed the limits of a program are a fault of their own (ours)
-pub data Limits : Type 0 where
-  without_limits with_limits : Limits
-
--- with limits, no value on the way exceeds one; without, nothing is asked
-abbrev pub StaysWithin : Limits → Run Polynomial → Type 0
-StaysWithin without_limits run = Unit {0}
-StaysWithin with_limits run = (w : Polynomial) → Contains run.values w → Exceeds w → ⊥
 
 -- some value on the way exceeds this limit
 abbrev pub RunExceeds : Run Polynomial → Excess → Type 0
@@ -60,11 +52,6 @@ abbrev pub IsRuleFault : Limits → List RewriteRule → List Interpretation →
 IsRuleFault limits rules symbols lines i f =
     (r : RewriteRule) × (ms : List Transfer) × (slice_get rules i ≡ Some r) × (slice_get lines i ≡ Some ms)
     × IsFirstLineFault limits (rule_run symbols r false) (rule_run symbols r true) false ms f
-
--- whether the pair is dropped, and so has to shrink
-abbrev pub IsDropped : List ℕ → ℕ → Bool → Type 0
-IsDropped drop n true = Contains drop n
-IsDropped drop n false = Contains drop n → ⊥
 
 -- nothing is wrong with the line of the pair at this place of the set
 abbrev pub IsRightPair : Limits → Symbols → List RewriteRule → List PairData → List ℕ → List Interpretation → List Mark
@@ -129,10 +116,3 @@ IsFirstCoveringFault limits S rules pairs set symbols marks rule_lines pair_line
     × ((k : ℕ) → IsRightRule limits rules symbols rule_lines k)
     × ((i : ℕ) × ((k : ℕ) → k < i → IsRightPair limits S rules pairs set symbols marks pair_lines drop k)
     × IsPairFault limits S rules pairs set symbols marks pair_lines drop i n f)
-
--- the sides of the rules and of the pairs of the set are evaluated without a value that exceeds a limit
-pub record IsSmall (S : Symbols) (rules : List RewriteRule) (pairs : List PairData) (set : List ℕ) (symbols : List Interpretation)
-    (marks : List Mark) : Type 0 where
-  pub of_rules : (r : RewriteRule) (right : Bool) → Contains rules r → StaysWithin with_limits (rule_run symbols r right)
-  pub of_pairs : (n : ℕ) (p : PairData) (right : Bool) → Contains set n → slice_get pairs n ≡ Some p
-      → StaysWithin with_limits (pair_run S rules symbols marks p right)

@@ -15,7 +15,8 @@ use Rattle.wh_hopoly.specs.declared.fault.PolyFault.{PolyFault}
 use Rattle.wh_hopoly.specs.declared.fault.PolyFault.TheVariants as poly
 use Rattle.wh_polycheck.specs.CoverFaults.{IsNormal}
 use Rattle.wh_polycheck.specs.Marks.{Mark}
-use Rattle.wh_covering.specs.CoveringFaults.{with_limits, StaysWithin, RunExceeds, IsFirstLineFault, IsRightLine, IsRightRule, IsRuleFault, IsRightPair, IsPairFault}
+use Rattle.wh_covering.specs.CoveringFaults.{RunExceeds, IsFirstLineFault, IsRightLine, IsRightRule, IsRuleFault, IsRightPair, IsPairFault}
+use Rattle.wh_polycheck.specs.Small.{with_limits, StaysWithin}
 use Rattle.wh_covering.specs.declared.fault.CoveringFault.{CoveringFault}
 use Rattle.wh_covering.specs.declared.fault.CoveringFault.TheVariants.{Rule, Pair}
 use Rattle.wh_covering.specs.declared.fault.LineFault.{LineFault}

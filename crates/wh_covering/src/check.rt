@@ -4,14 +4,15 @@ ghost use Rattle.std.specs.Prelude.{ℕ, ◌≡◌, ◌<◌, ◌≤◌, ◌^◌,
 ghost use Rattle.wh_types.specs.Erase.{ty};
 ghost use Rattle.wh_types.specs.Outcome.{IfBecause, MatchOr};
 ghost use Rattle.wh_system.specs.SystemView.{system_data};
-ghost use Rattle.wh_subterm.specs.Marked.{AreMarked};
+ghost use Rattle.wh_pairs.specs.Marked.{AreMarked};
 ghost use Rattle.wh_pairs.specs.PairData.{IsIncreasing, PairData, pair_data};
 ghost use Rattle.wh_hopoly.specs.Erase.{interpretations, transfers};
 ghost use Rattle.wh_polycheck.specs.Marks.{HasMarkedSides};
 ghost use Rattle.wh_polycheck.specs.SideResults.{marks_of};
 ghost use Rattle.wh_polycheck.specs.Sides.{Interprets};
-ghost use Rattle.wh_meaning.specs.Covering.{HaveTypedSides, IsCovering};
-ghost use Rattle.wh_covering.specs.CoveringFaults.{IsFirstCoveringFault, IsReady, IsRightPair, IsRightRule, IsSmall, with_limits};
+ghost use Rattle.wh_polycheck.specs.Covering.{HaveTypedSides, IsCovering};
+ghost use Rattle.wh_covering.specs.CoveringFaults.{IsFirstCoveringFault, IsReady, IsRightPair, IsRightRule};
+ghost use Rattle.wh_polycheck.specs.Small.{IsSmall, with_limits};
 
 use crate::dropping::sorted;
 use crate::fault::CoveringFault;
@@ -20,9 +21,8 @@ use crate::pairs::check_pairs;
 use crate::rules::check_rules;
 use std::alloc::Global;
 use wh_hopoly::{Covers, Moves, Symbol};
-use wh_pairs::{Pair, PairList, PairSet};
+use wh_pairs::{Pair, PairList, PairSet, is_bad_drop};
 use wh_polycheck::{MarkedSymbol, interpretations_in_order_interpret};
-use wh_subterm::is_bad_drop;
 use wh_system::System;
 use wh_types::Or;
 

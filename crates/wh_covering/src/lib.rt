@@ -5,6 +5,7 @@
 mod check;
 mod dropping;
 mod fault;
+mod laws;
 mod lines;
 mod normality;
 mod pairs;
@@ -12,3 +13,4 @@ mod rules;
 
 pub use check::check_covering;
 pub use fault::{CoveringFault, LineFault};
+pub use laws::interpretations_cover_or_have_a_first_fault;

@@ -12,7 +12,7 @@ ghost use Rattle.wh_hopoly.specs.Evaluation.{NormalInterpretations, Run};
 ghost use Rattle.wh_polycheck.specs.Marks.{AreNormalMarks, HasMarkedSides};
 ghost use Rattle.wh_polycheck.specs.SideResults.{marks_of};
 ghost use Rattle.wh_polycheck.specs.Sides.{Interprets};
-ghost use Rattle.wh_meaning.specs.Covering.{pair_run, rule_run};
+ghost use Rattle.wh_polycheck.specs.Covering.{pair_run, rule_run};
 ghost use Rattle.wh_covering.specs.Lines.{IsAnswerOf, IsExcessOf, IsSide, IsSomeSide, limit_of};
 
 use crate::fault::LineFault;

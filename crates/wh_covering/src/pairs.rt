@@ -10,7 +10,8 @@ ghost use Rattle.wh_hopoly.specs.Evaluation.{NormalInterpretations};
 ghost use Rattle.wh_polycheck.specs.Marks.{AreNormalMarks, HasMarkedSides};
 ghost use Rattle.wh_polycheck.specs.SideResults.{marks_of};
 ghost use Rattle.wh_polycheck.specs.Sides.{Interprets};
-ghost use Rattle.wh_covering.specs.CoveringFaults.{IsRightPair, with_limits};
+ghost use Rattle.wh_covering.specs.CoveringFaults.{IsRightPair};
+ghost use Rattle.wh_polycheck.specs.Small.{with_limits};
 ghost use Rattle.wh_covering.specs.Lines.{IsFirstPairFault};
 
 use crate::dropping::is_dropped;

@@ -6,7 +6,8 @@ ghost use Rattle.wh_system.specs.SystemView.{system_data};
 ghost use Rattle.wh_hopoly.specs.Erase.{interpretations, transfers};
 ghost use Rattle.wh_hopoly.specs.Evaluation.{NormalInterpretations};
 ghost use Rattle.wh_polycheck.specs.Sides.{Interprets};
-ghost use Rattle.wh_covering.specs.CoveringFaults.{IsRightRule, with_limits};
+ghost use Rattle.wh_covering.specs.CoveringFaults.{IsRightRule};
+ghost use Rattle.wh_polycheck.specs.Small.{with_limits};
 ghost use Rattle.wh_covering.specs.Lines.{IsFirstRuleFault};
 
 use crate::fault::CoveringFault;

@@ -6,22 +6,18 @@ ghost use Rattle.wh_pairs.specs.SystemPairs.{HasPairs};
 ghost use Rattle.wh_pairs.specs.Views.{pairs_data};
 ghost use Rattle.wh_pairs.specs.PairData.{pair_data};
 ghost use Rattle.wh_system.specs.SystemView.{system_data};
-ghost use Rattle.wh_subterm.specs.Marked.{AreMarked};
+ghost use Rattle.wh_pairs.specs.Marked.{AreMarked};
 ghost use Rattle.wh_guesses.specs.Tasks.{IsTaskOf};
-ghost use Rattle.wh_find_poly.specs.Answers.{IsAnswer};
+ghost use Rattle.wh_blocking.specs.Answers.{IsAnswer};
 
-use crate::bits::bits_by;
-use crate::blocking::search_from;
-use crate::encoding::encoding_of;
 use std::alloc::{AllocError, Global};
+use wh_blocking::find_by_guesses;
 use wh_cert::Node;
 use wh_climb::{Climbed, climb};
 use wh_guesses::Task;
-use wh_pairs::{PairList, PairSet};
+use wh_pairs::{PairList, PairSet, marked_symbols};
 use wh_ranges::has_none;
 use wh_sat::Search;
-use wh_sat_trail::Clauses;
-use wh_subterm::marked_symbols;
 use wh_system::System;
 
 // How many times the sides of a rule or pair are evaluated in the climb: so often, and so often more for each of them.
@@ -104,27 +100,4 @@ fn work<'a>(task: &Task<'a>) -> u64 {
 // How many rules and pairs there are.
 fn conditions<'a>(task: &Task<'a>) -> u64 {
     task.system.rules().len() as u64 + task.set.len() as u64
-}
-
-// Guess by guess, beginning with these coefficients.
-fn find_by_guesses<'a>(
-    alloc: Global,
-    task: &Task<'a>,
-    marked: &'a [u32],
-    lists: &[Vec<u8>],
-    budget: u64,
-) -> Result<Search<Node>, AllocError>
-    requires few { length task.now.pairs.now ≤ most_pairs }
-    requires task { IsTaskOf task.now }
-    requires marked { AreMarked (map pair_data task.now.pairs.now) task.now.set.now marked.now }
-    ensures { IfOk result (IsAnswer (system_data task.now.system.now) (map pair_data task.now.pairs.now) task.now.set.now budget) }
-{
-    if budget == 0 {
-        let none = Clauses::new(alloc)?;
-        return Ok(Search::Spent(none));
-    }
-    let encoding = encoding_of(alloc, task, marked)?;
-    let first = bits_by(alloc, lists, &encoding.sizes)?;
-    let found = search_from(alloc, &encoding, first, budget)?;
-    Ok(found)
 }

@@ -8,7 +8,7 @@ use Rattle.wh_sat.specs.Learning.{Learnt}
 use Rattle.wh_sat.specs.Solving.{Solves}
 use Rattle.wh_subterm.specs.Projections.{Chosen}
 use Rattle.wh_subterm.specs.SubtermRows.{IsProjection}
-use Rattle.wh_subterm.specs.Marked.{AreMarked}
+use Rattle.wh_pairs.specs.Marked.{AreMarked}
 use Rattle.wh_find_subterm.specs.declared.rows.Row.{Row}
 use Rattle.wh_find_subterm.specs.Rows.{rows_from}
 use Rattle.wh_find_subterm.specs.Formula.{IsFormula, IsProjections}

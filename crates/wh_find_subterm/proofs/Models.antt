@@ -8,7 +8,7 @@ use Rattle.wh_pairs.specs.PairData.{PairData, IsIncreasing}
 use Rattle.wh_pairs.proofs.ByPlace.{contains_at, number_at, place_of}
 use Rattle.wh_sat_trail.specs.declared.literal.Literal.{Literal}
 use Rattle.wh_sat.specs.Solving.{Solves, clause_true}
-use Rattle.wh_subterm.specs.Marked.{AreMarked}
+use Rattle.wh_pairs.specs.Marked.{AreMarked}
 use Rattle.wh_subterm.specs.Projections.{Below, Equal}
 use Rattle.wh_subterm.specs.Relations.{BelowAt, EqualAt, Relates}
 use Rattle.wh_subterm.specs.SubtermRows.{IsPlace, IsProjection, chosen_symbols}

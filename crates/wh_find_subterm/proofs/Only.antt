@@ -1,7 +1,7 @@
 -- A set of pairs has one formula.
 use Rattle.std.proofs.Common.{◌≡◌, ℕ, ◌<◌, inl, inr, List, [], ◌∷◌, length, refl, sym, ap, subst, ◌∙◌, arith}
 use Rattle.wh_pairs.specs.PairData.{PairData, IsIncreasing}
-use Rattle.wh_subterm.specs.Marked.{AreMarked}
+use Rattle.wh_pairs.specs.Marked.{AreMarked}
 use Rattle.wh_subterm.specs.Relations.{Relates}
 use Rattle.wh_subterm.specs.declared.relation.Relation.{Relation}
 use Rattle.wh_subterm.specs.declared.relation.Relation.TheVariants as kind

@@ -1,5 +1,5 @@
 -- What the search for a projection ends with.
-use Rattle.std.specs.Prelude.{ℕ, ◌≡◌, List, length, map, Contains, Some, slice_get}
+use Rattle.std.specs.Prelude.{ℕ, ◌≡◌, ◌<◌, List, length, map, Contains, Some, slice_get}
 use Rattle.wh_terms.specs.Rules.{RewriteRule}
 use Rattle.wh_pairs.specs.PairData.{PairData}
 use Rattle.wh_sat_trail.specs.declared.literal.Literal.{Literal}
@@ -24,9 +24,10 @@ pub record IsSpent (rules : List RewriteRule) (pairs : List PairData) (set : Lis
   pub formula : IsProjections rules pairs set variables clauses
   pub learnt_from : Learnt variables clauses learnt
 
--- a projection that drops all that is below; that none drops a pair; or the learnt clauses
+-- a projection that drops all that is below, or that none drops a pair, where clauses may be learnt at all; or the learnt clauses
 abbrev pub IsAnswer : List RewriteRule → List PairData → List ℕ → ℕ → Search ProjectionFound → Type 0
-IsAnswer rules pairs set budget (search.Found f) = IsProjection rules pairs set (map chosen f.args) f.drop
+IsAnswer rules pairs set budget (search.Found f) = (0 < budget) × IsProjection rules pairs set (map chosen f.args) f.drop
     × DropsAllBelow pairs set (map chosen f.args) f.drop
-IsAnswer rules pairs set budget search.Nothing = (args : List Chosen) (drop : List ℕ) → IsProjection rules pairs set args drop → ⊥
+IsAnswer rules pairs set budget search.Nothing = (0 < budget)
+    × ((args : List Chosen) (drop : List ℕ) → IsProjection rules pairs set args drop → ⊥)
 IsAnswer rules pairs set budget (search.Spent learnt) = IsSpent rules pairs set budget learnt

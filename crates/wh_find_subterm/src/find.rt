@@ -11,9 +11,9 @@ use crate::formula::formula_of;
 use crate::reading::{below_under, choices_by};
 use crate::rows::{Row, rows_of};
 use std::alloc::{AllocError, Global};
-use wh_pairs::{Pair, PairList, PairSet};
+use wh_pairs::{Pair, PairList, PairSet, marked_symbols};
 use wh_sat::{Outcome, Search, solve_owned};
-use wh_subterm::{Projection, marked_symbols};
+use wh_subterm::Projection;
 use wh_system::System;
 
 /// A projection and the pairs that it lets go.
@@ -28,7 +28,7 @@ pub struct ProjectionFound {
 /// A projection of the set that lets pairs go (the subterm criterion of Kop 2012), found as a model of a formula.
 ///
 /// `Found` drops every pair that is below. `Nothing` comes only where no projection of the marked symbols drops a pair of
-/// the set, and `Spent` only with as many learnt clauses as the budget allows.
+/// the set, and `Spent` only with as many learnt clauses as the budget allows; with a budget of 0 it comes always.
 pub fn find_projection(
     alloc: Global,
     system: &System,

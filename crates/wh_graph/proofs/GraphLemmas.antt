@@ -8,6 +8,7 @@ use Rattle.std.proofs.lemmas.Option.{slice_get_within, slice_get-get_or}
 use Rattle.wh_terms.specs.Rules.{RewriteRule}
 use Rattle.wh_pairs.specs.PairData.{PairData, IsIncreasing}
 use Rattle.wh_pairs.proofs.ByPlace.{some_one, contains_at, place_of, same_or_below}
+use Rattle.wh_pairs.proofs.PlacesBefore.{StandsBefore, before_none, before_more, before_all}
 use Rattle.wh_pairs.proofs.Increasing.{increasing_at, one_place}
 use Rattle.wh_graph.specs.Components.{Reaches, here, step, AreComponents}
 use Rattle.wh_graph.specs.Graphs.{Edge, AreWithin, Turned, AtPlaces, AreLists, edge_of, IsGraph, IsGraphOf, HavePassed}
@@ -27,32 +28,6 @@ edge_in rows a b row at (other, there, found) = subst (λ (r : List ℕ). Contai
 -- the list of a vertex, as a program reads it
 pub row_at : (rows : List (List ℕ)) (a : ℕ) (row : List ℕ) → a < length rows → row ≡ get_or rows a row → slice_get rows a ≡ Some row
 row_at rows a row within is = slice_get-get_or rows a row within ∙ ap Some (sym is)
-
--- what stands in a list before a place, one more at a time
-
-abbrev pub StandsBefore : List ℕ → ℕ → ℕ → Type 0
-StandsBefore xs i n = (k : ℕ) × (k < i) × (slice_get xs k ≡ Some n)
-
-pub before_none : (xs : List ℕ) (n : ℕ) → StandsBefore xs 0 n → ⊥
-before_none xs n (k, below, at) = omega arith
-
-pub before_more : (xs : List ℕ) (i n : ℕ) → slice_get xs i ≡ Some n → (m : ℕ) → StandsBefore xs (i + 1) m ↔ (StandsBefore xs i m ⊎ (m ≡ n))
-before_more xs i n at m = (
-  λ (k, below, there). elim (same_or_below k i below) [
-    | inl same ↦ inr (some_one (sym (ap (slice_get xs) same) ∙ there) at)
-    | inr less ↦ inl (k, less, there)
-  ],
-  λ either. elim either [
-    | inl (k, less, there) ↦ (k, omega arith, there)
-    | inr same ↦ (i, omega arith, at ∙ ap Some (sym same))
-  ],
-)
-
-pub before_all : (xs : List ℕ) (i : ℕ) → length xs ≤ i → (m : ℕ) → StandsBefore xs i m ↔ Contains xs m
-before_all xs i past m = (
-  λ (k, below, at). contains_at xs k m at,
-  λ found. let at = place_of xs m found in let within = slice_get_within xs at.0 m at.1 in (at.0, omega arith, at.1),
-)
 
 -- the numbers below one of which P holds, one more at a time
 

@@ -10,3 +10,5 @@ pub mod WalkLemmas
 pub mod ClassLemmas
 pub mod GraphLemmas
 pub mod ComponentLemmas
+pub mod ClashesDecided
+pub mod BlockFaults

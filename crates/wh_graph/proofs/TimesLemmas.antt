@@ -7,6 +7,7 @@ use Rattle.wh_graph.specs.Blocks.{IsListed, IsMisplaced}
 use Rattle.wh_graph.specs.Times.{plus, TimesIn, TimesListed, IsStray, IsUneven}
 use Rattle.wh_graph.specs.declared.places.Times.{Times}
 use Rattle.wh_graph.specs.declared.places.Times.TheVariants.{Never, Once, Often}
+use Rattle.wh_pairs.proofs.DropLemmas.{contains_or_not}
 use Rattle.wh_pairs.proofs.ByPlace.{some_one, contains_at, place_of, same_or_below}
 
 pub times_skip : (list : List ℕ) (n i m : ℕ) (t : Times) → TimesIn list n i t → slice_get list i ≡ Some m → (m ≡ n → ⊥) → TimesIn list n (i + 1) t
@@ -128,16 +129,6 @@ later m n ns found = let at = place_of ns n found in contains_at (m ∷ ns) (suc
 only_later : (m n k : ℕ) (ns : List ℕ) → (m ≡ n → ⊥) → slice_get (m ∷ ns) k ≡ Some n → Contains ns n
 only_later m n zero ns other at = let same : m ≡ n = cc in absurd (other same)
 only_later m n (suc k) ns other at = contains_at ns k n at
-
-pub contains_or_not : (ns : List ℕ) (n : ℕ) → Contains ns n ⊎ (Contains ns n → ⊥)
-contains_or_not [] n = inr (λ (k, within, e). omega arith)
-contains_or_not (m ∷ ns) n = elim (cases_eq m n) [
-  | inl same ↦ inl (contains_at (m ∷ ns) 0 n (ap Some same))
-  | inr other ↦ elim (contains_or_not ns n) [
-    | inl found ↦ inl (later m n ns found)
-    | inr missing ↦ inr (λ found. let at = place_of (m ∷ ns) n found in missing (only_later m n at.0 ns other at.1))
-  ]
-]
 
 stands_later : (block : List ℕ) (blocks : List (List ℕ)) (i k n : ℕ) → StandsAt blocks i k n → StandsAt (block ∷ blocks) (suc i) k n
 stands_later block blocks i k n stands = stands

@@ -21,7 +21,7 @@ use Rattle.wh_meaning.specs.Valuations.{Valuation, MonoValuation}
 use Rattle.wh_meaning.specs.Meaning.{den, reading}
 use Rattle.wh_meaning.specs.TermValues.{Meanings, MonoMeanings, fed, of_interpretations}
 use Rattle.wh_meaning.specs.Calls.{all_nothing, IsMarkedSide}
-use Rattle.wh_meaning.specs.Covering.{pair_run}
+use Rattle.wh_polycheck.specs.Covering.{pair_run}
 use Rattle.wh_meaning.proofs.Order.{le_valuation_same, fun_le, mono_nothing, reading_mono}
 use Rattle.wh_meaning.proofs.Mean.{den_value}
 use Rattle.wh_meaning.proofs.SideMeans.{symbol_means, mean_applied}

@@ -9,9 +9,9 @@ use Rattle.wh_terms.specs.Rules.{RewriteRule}
 use Rattle.std.proofs.lemmas.List.{length-map}
 use Rattle.wh_pairs.specs.PairData.{PairData, IsIncreasing, pair_data}
 use Rattle.wh_pairs.specs.declared.pair.Pair.{Pair}
-use Rattle.wh_meaning.specs.Covering.{HaveTypedSides}
+use Rattle.wh_polycheck.specs.Covering.{HaveTypedSides}
 use Rattle.wh_pairs.proofs.ByPlace.{contains_at, place_of, unmap}
-use Rattle.wh_subterm.specs.Marked.{AreMarked}
+use Rattle.wh_pairs.specs.Marked.{AreMarked}
 use Rattle.wh_hopoly.specs.Evaluation.{Interpretation, NormalInterpretations}
 use Rattle.wh_hopoly.specs.Erase.{interpretation, interpretations}
 use Rattle.wh_hopoly.specs.declared.expression.Symbol.{Symbol}
@@ -23,7 +23,7 @@ use Rattle.wh_covering.proofs.Walks.{kinds_are, marks_are}
 use Rattle.wh_covering.proofs.CoverWalk.{set_sides}
 use Rattle.wh_space.specs.Space.{IsOfSpace}
 use Rattle.wh_guesses.specs.Guesses.{IsTask, IsReadSymbol, IsReadMark, IsGuess}
-use Rattle.wh_checker.proofs.SetLemmas.{all_from_members}
+use Rattle.wh_pairs.proofs.SetLemmas.{all_from_members}
 
 in_order : (symbols : List Interpretation) (f : ℕ) (a : Ty) → slice_get (map (λ (s : Interpretation). s.kind) symbols) f ≡ Some a
     → IsInterpretedAs symbols f a

@@ -13,3 +13,5 @@ pub mod ToldLemmas
 pub mod LimitLemmas
 pub mod NodeLemmas
 pub mod SetLemmas
+pub mod Uniqueness
+pub mod OfSpace

@@ -18,13 +18,13 @@ use Rattle.wh_hopoly.specs.Moves.{Transfer, MonomialAt, given_by}
 use Rattle.wh_hopoly.specs.Erase.{transfer, transfers}
 use Rattle.wh_hopoly.specs.declared.expression.Move.{Move}
 use Rattle.wh_polycheck.specs.Marks.{Mark, marked_types}
-use Rattle.wh_cert_parts.specs.PolyLimits.{IsBig, PolyFits, FactorsFit, PolysFit}
+use Rattle.wh_cert.specs.PolyLimits.{IsBig, PolyFits, FactorsFit, PolysFit}
 use Rattle.wh_cert.specs.Interps.{Interp}
 use Rattle.wh_cert.specs.Limits.{InterpFits, MoveFits}
-use Rattle.wh_checker.specs.Looked.{SayInterpretations, SayMarks}
+use Rattle.wh_proof.specs.Looked.{SayInterpretations, SayMarks}
 use Rattle.wh_space.specs.Space.{is_sort, variables_where, sort_variables, functional_variables, sum_of_variables, filled, variable_before, alone, both, products, space_of, IsOfSpace}
 use Rattle.wh_guesses.specs.Lines.{IsLine}
-use Rattle.wh_checker.proofs.SetLemmas.{all_from_members}
+use Rattle.wh_pairs.proofs.SetLemmas.{all_from_members}
 
 -- polynomials that are tried
 

@@ -27,7 +27,7 @@ use Rattle.wh_polycheck.specs.Marks.{Mark}
 use Rattle.wh_polycheck.specs.CoverFaults.{IsFirstStrictCoverFault}
 use Rattle.wh_polycheck.specs.declared.fault.CoverFault.{CoverFault}
 use Rattle.wh_polycheck.specs.declared.fault.CoverFault.TheVariants.{BadMove, OverSpent, NotCovered, NotStrict}
-use Rattle.wh_meaning.specs.Covering.{rule_run, pair_run}
+use Rattle.wh_polycheck.specs.Covering.{rule_run, pair_run}
 use Rattle.wh_system.specs.CanonicalView.{side_of}
 use Rattle.wh_hopoly.specs.declared.fault.PolyFault.{PolyFault}
 use Rattle.wh_hopoly.specs.declared.fault.PolyFault.TheVariants.{Overflow, TooLarge}
@@ -36,7 +36,7 @@ use Rattle.wh_covering.specs.Lines.{IsSide, IsSomeSide}
 use Rattle.wh_find_moves.specs.Found.{AreCovering, NoneCovers}
 use Rattle.wh_guesses.specs.Lines.{IsLine, HasNoSide, IsNotMet, AreRuleLines, IsStrictLine, IsPairLine, IsDroppedLine, ArePairLines}
 use Rattle.wh_guesses.specs.declared.lines.PairLine.{PairLine}
-use Rattle.wh_checker.proofs.SetLemmas.{all_from_members}
+use Rattle.wh_pairs.proofs.SetLemmas.{all_from_members}
 use Rattle.wh_space.proofs.PushLemmas.{EachAt, each_push, map_push}
 
 pub line_of : (a b : Run Polynomial) (p q : Polynomial) (ms : List Transfer) → IsSide a p → IsSide b q → AreCovering p q ms → IsLine a b ms

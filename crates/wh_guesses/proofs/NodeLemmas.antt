@@ -5,12 +5,12 @@ use Rattle.std.proofs.lemmas.List.Elements.{All-contains}
 use Rattle.std.proofs.lemmas.Option.{slice_get_within}
 use Rattle.wh_system.specs.Systems.{SystemData}
 use Rattle.wh_system.specs.WellMade.{IsWellMadeSystem}
-use Rattle.wh_pairs.specs.PairData.{PairData, IsIncreasing}
+use Rattle.wh_pairs.specs.PairData.{PairData, IsIncreasing, pair_data}
 use Rattle.wh_pairs.proofs.Increasing.{one_place}
 use Rattle.wh_pairs.proofs.ByPlace.{contains_at, place_of, unmap, remap}
-use Rattle.wh_subterm.specs.SubtermRows.{IsBadDrop}
+use Rattle.wh_pairs.specs.Drops.{IsBadDrop}
 use Rattle.wh_hopoly.specs.Polynomials.{Polynomial}
-use Rattle.wh_hopoly.specs.Evaluation.{Run}
+use Rattle.wh_hopoly.specs.Evaluation.{Run, Interpretation}
 use Rattle.wh_hopoly.specs.Erase.{interpretations, transfers}
 use Rattle.wh_hopoly.specs.Moves.{Transfer}
 use Rattle.wh_hopoly.specs.declared.expression.Move.{Move}
@@ -18,22 +18,21 @@ use Rattle.wh_hopoly.specs.declared.expression.Symbol.{Symbol}
 use Rattle.wh_polycheck.specs.Marks.{Mark}
 use Rattle.wh_polycheck.specs.SideResults.{marks_of}
 use Rattle.wh_polycheck.specs.declared.marks.MarkedSymbol.{MarkedSymbol}
-use Rattle.wh_meaning.specs.Covering.{rule_run, pair_run}
-use Rattle.wh_covering.specs.CoveringFaults.{with_limits, IsReady, IsRightRule, IsRightPair}
+use Rattle.wh_polycheck.specs.Covering.{rule_run, pair_run}
+use Rattle.wh_covering.specs.CoveringFaults.{IsReady, IsRightRule, IsRightPair}
+use Rattle.wh_polycheck.specs.Small.{with_limits}
 use Rattle.wh_covering.proofs.Walks.{some_at}
 use Rattle.wh_covering.proofs.CoverWalk.{covering_holds, small_holds}
-use Rattle.wh_cert_parts.specs.TermLimits.{IsSmall}
+use Rattle.wh_cert.specs.TermLimits.{IsSmall}
 use Rattle.wh_cert.specs.Written as w
 use Rattle.wh_cert.specs.Interps.{Interp}
 use Rattle.wh_cert.specs.Limits.{NodeFits, NodeWithin, MoveFits}
-use Rattle.wh_checker.specs.Looked.{SayInterpretations, SayMarks}
+use Rattle.wh_proof.specs.Looked.{SayInterpretations, SayMarks}
 use Rattle.wh_find_moves.specs.Found.{AreApart}
 use Rattle.wh_guesses.specs.Guesses.{IsTask, IsGuess}
 use Rattle.wh_guesses.specs.Lines.{IsLine, IsStrictLine, IsFailingRule, IsFailingPair, AreRuleLines, ArePairLines}
 use Rattle.std.specs.declared.alloc.AllocError.{AllocError}
 use Rattle.wh_system.specs.SystemView.{system_data}
-use Rattle.wh_pairs.specs.PairData.{pair_data}
-use Rattle.wh_hopoly.specs.Evaluation.{Interpretation}
 use Rattle.wh_guesses.specs.Conditions.{covers_rule, covers_pair, some_strictly, of_rule, of_pair, of_set, IsMet}
 use Rattle.wh_guesses.specs.Weighing.{Weighs, WeighsBy}
 use Rattle.wh_guesses.specs.declared.node.Weighing.{Weighing}
@@ -41,7 +40,7 @@ use Rattle.wh_guesses.specs.declared.node.Weighing.TheVariants.{Found, Failing}
 use Rattle.wh_guesses.specs.declared.task.Task.{Task}
 use Rattle.wh_guesses.specs.declared.task.Guess.{Guess}
 use Rattle.wh_guesses.specs.Found.{IsInterpretation}
-use Rattle.wh_checker.proofs.SetLemmas.{all_from_members}
+use Rattle.wh_pairs.proofs.SetLemmas.{all_from_members}
 use Rattle.wh_guesses.proofs.IncreasingLemmas.{few_increasing}
 use Rattle.wh_guesses.proofs.GuessLemmas.{guess_symbols, guess_marks, guess_normal, guess_normal_marks, guess_kinds, guess_marked}
 use Rattle.wh_guesses.proofs.LimitLemmas.{all_narrow, symbols_fit, marks_fit, as_many_symbols, as_many_marks, said_named, moves_fit}

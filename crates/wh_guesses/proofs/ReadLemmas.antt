@@ -20,7 +20,7 @@ use Rattle.wh_space.specs.Coefficients.{HasCoefficients}
 use Rattle.wh_guesses.specs.Coefficients.{HaveCoefficients}
 use Rattle.wh_guesses.specs.Guesses.{IsReadSymbol, IsReadMark}
 use Rattle.wh_guesses.specs.Reads.{IsReadBy, IsMarkBy, AreReadBy, AreMarksBy, list_of, IsChanged}
-use Rattle.wh_checker.proofs.SetLemmas.{all_from_members}
+use Rattle.wh_pairs.proofs.SetLemmas.{all_from_members}
 
 pub read_as : (Γ Δ : List Ty) (cs ds : List ℕ) (p : Polynomial) → HasCoefficients Γ cs p → Γ ≡ Δ → cs ≡ ds → HasCoefficients Δ ds p
 read_as Γ Δ cs ds p has same also = subst (λ (Γ : List Ty). HasCoefficients Γ ds p) same (subst (λ (l : List ℕ). HasCoefficients Γ l p) also has)

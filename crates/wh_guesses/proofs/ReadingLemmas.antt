@@ -15,7 +15,7 @@ use Rattle.wh_pairs.proofs.ByPlace.{contains_at}
 use Rattle.wh_pairs.proofs.Increasing.{one_place}
 use Rattle.wh_hopoly.specs.Polynomials.{zero_poly}
 use Rattle.wh_polycheck.specs.Marks.{Mark}
-use Rattle.wh_meaning.specs.Covering.{HaveTypedSides}
+use Rattle.wh_polycheck.specs.Covering.{HaveTypedSides}
 use Rattle.wh_guesses.specs.Conditions.{Condition, IsCondition, of_rule, of_pair, of_set, HasSymbol, SomeHasSymbol, StandsInPair}
 use Rattle.wh_guesses.specs.Readings.{Joins, ListsAll, ReadsAll, StandsInRule, IsMarkOf, AreRuleReadings, ArePairReadings}
 use Rattle.wh_guesses.specs.Tasks.{IsTaskOf}

@@ -12,7 +12,7 @@ use Rattle.wh_hopoly.specs.Erase.{interpretations}
 use Rattle.wh_hopoly.specs.declared.expression.Symbol.{Symbol}
 use Rattle.wh_polycheck.specs.SideResults.{marks_of}
 use Rattle.wh_polycheck.specs.declared.marks.MarkedSymbol.{MarkedSymbol}
-use Rattle.wh_meaning.specs.Covering.{rule_run, pair_run}
+use Rattle.wh_polycheck.specs.Covering.{rule_run, pair_run}
 use Rattle.wh_guesses.specs.Conditions.{covers_rule, covers_pair, of_rule, of_pair}
 use Rattle.wh_guesses.specs.Lines.{IsNotMet}
 use Rattle.wh_guesses.specs.Weighing.{Fails}

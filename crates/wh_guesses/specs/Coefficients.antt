@@ -4,7 +4,7 @@ use Rattle.wh_types.specs.Ty.{Ty, arguments}
 use Rattle.wh_terms.specs.Typing.{Symbols}
 use Rattle.wh_terms.specs.Rules.{RewriteRule}
 use Rattle.wh_pairs.specs.PairData.{PairData}
-use Rattle.wh_subterm.specs.Marked.{AreMarked}
+use Rattle.wh_pairs.specs.Marked.{AreMarked}
 use Rattle.wh_hopoly.specs.Evaluation.{Interpretation}
 use Rattle.wh_polycheck.specs.Marks.{Mark, marked_types}
 use Rattle.wh_space.specs.Space.{IsOfSpace}

@@ -5,12 +5,13 @@ use Rattle.wh_terms.specs.Typing.{Symbols}
 use Rattle.wh_terms.specs.Rules.{RewriteRule}
 use Rattle.wh_system.specs.Systems.{SystemData}
 use Rattle.wh_pairs.specs.PairData.{PairData}
-use Rattle.wh_subterm.specs.Marked.{HeadsASide}
+use Rattle.wh_pairs.specs.Sets.{InSet}
+use Rattle.wh_pairs.specs.Marked.{HeadsASide}
 use Rattle.wh_hopoly.specs.Polynomials.{Polynomial}
 use Rattle.wh_hopoly.specs.Evaluation.{Run, Interpretation}
 use Rattle.wh_hopoly.specs.Moves.{Transfer}
 use Rattle.wh_polycheck.specs.Marks.{Mark}
-use Rattle.wh_meaning.specs.Covering.{rule_run, pair_run, CoversSides}
+use Rattle.wh_polycheck.specs.Covering.{rule_run, pair_run, CoversSides}
 use Rattle.wh_covering.specs.Lines.{IsSide}
 use Rattle.wh_guesses.specs.Coefficients.{AreOfSpace}
 
@@ -19,10 +20,6 @@ pub data Condition : Type 0 where
   covers_rule : (r : RewriteRule) → Condition
   covers_pair : (p : PairData) → Condition
   some_strictly : Condition
-
--- the pair is of the set
-abbrev pub IsPairOf : List PairData → List ℕ → PairData → Type 0
-IsPairOf pairs set p = (n : ℕ) × Contains set n × (slice_get pairs n ≡ Some p)
 
 -- the condition with a number: those of the rules come first, then those of the pairs of the set in order, and then that some pair is
 -- covered strictly (ours)
@@ -53,13 +50,13 @@ StandsInPair f p = SomeHasSymbol f (tms_of p.left) ⊎ SomeHasSymbol f (tms_of p
 abbrev pub ReadsSymbol : List PairData → List ℕ → Condition → ℕ → Type 0
 ReadsSymbol pairs set (covers_rule r) f = HasSymbol f r.left ⊎ HasSymbol f r.right
 ReadsSymbol pairs set (covers_pair p) f = StandsInPair f p
-ReadsSymbol pairs set some_strictly f = (p : PairData) × IsPairOf pairs set p × StandsInPair f p
+ReadsSymbol pairs set some_strictly f = (p : PairData) × InSet pairs set p × StandsInPair f p
 
 -- the marked symbol of f is read in the condition
 abbrev pub ReadsMark : List PairData → List ℕ → Condition → ℕ → Type 0
 ReadsMark pairs set (covers_rule r) f = ⊥
 ReadsMark pairs set (covers_pair p) f = HeadsASide f p
-ReadsMark pairs set some_strictly f = (p : PairData) × IsPairOf pairs set p × HeadsASide f p
+ReadsMark pairs set some_strictly f = (p : PairData) × InSet pairs set p × HeadsASide f p
 
 -- what has this number is read in the condition: a symbol has its own number, and the marked symbols of the set, which are listed, go on
 -- behind all `count` symbols (ours)
@@ -86,7 +83,7 @@ module _ (S : Symbols) (rules : List RewriteRule) (pairs : List PairData) (set :
   abbrev pub Meets : Condition → Type 0
   Meets (covers_rule r) = IsMet (rule_run symbols r false) (rule_run symbols r true) false
   Meets (covers_pair p) = IsMetBy p false
-  Meets some_strictly = (p : PairData) × IsPairOf pairs set p × IsMetBy p true
+  Meets some_strictly = (p : PairData) × InSet pairs set p × IsMetBy p true
 
   -- the interpretations let a pair of the set go: all conditions hold (ours)
   abbrev pub LetsGo : Type 0

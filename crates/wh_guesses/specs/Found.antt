@@ -6,12 +6,12 @@ use Rattle.wh_pairs.specs.PairData.{PairData, IsIncreasing}
 use Rattle.wh_hopoly.specs.Evaluation.{Interpretation}
 use Rattle.wh_hopoly.specs.Moves.{Transfer, IsStrictCover}
 use Rattle.wh_polycheck.specs.Marks.{Mark, marked_types}
-use Rattle.wh_meaning.specs.Covering.{pair_run, IsCovering}
-use Rattle.wh_covering.specs.CoveringFaults.{IsSmall}
+use Rattle.wh_polycheck.specs.Covering.{pair_run, IsCovering}
+use Rattle.wh_polycheck.specs.Small.{IsSmall}
 use Rattle.wh_cert.specs.Written as w
 use Rattle.wh_cert.specs.Limits.{NodeFits, NodeWithin}
-use Rattle.wh_nodes.specs.Nodes.{poly}
-use Rattle.wh_checker.specs.Looked.{SaysNode}
+use Rattle.wh_proof.specs.Nodes.{poly}
+use Rattle.wh_proof.specs.Looked.{SaysNode}
 use Rattle.wh_find_moves.specs.Found.{AreApart}
 use Rattle.wh_space.specs.Space.{IsOfSpace}
 

@@ -5,12 +5,12 @@ use Rattle.wh_types.specs.Erase.{ty}
 use Rattle.wh_terms.specs.Typing.{Symbols}
 use Rattle.wh_terms.specs.Rules.{RewriteRule}
 use Rattle.wh_pairs.specs.PairData.{PairData, IsIncreasing}
-use Rattle.wh_subterm.specs.Marked.{AreMarked}
+use Rattle.wh_pairs.specs.Marked.{AreMarked}
 use Rattle.wh_hopoly.specs.Erase.{poly}
 use Rattle.wh_hopoly.specs.declared.expression.Symbol.{Symbol}
 use Rattle.wh_polycheck.specs.Marks.{marked_types}
 use Rattle.wh_polycheck.specs.declared.marks.MarkedSymbol.{MarkedSymbol}
-use Rattle.wh_meaning.specs.Covering.{HaveTypedSides}
+use Rattle.wh_polycheck.specs.Covering.{HaveTypedSides}
 use Rattle.wh_space.specs.Space.{IsOfSpace}
 
 -- a set of pairs of a list whose sides are typed

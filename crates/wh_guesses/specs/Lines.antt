@@ -15,7 +15,7 @@ use Rattle.wh_hopoly.specs.declared.expression.Symbol.{Symbol}
 use Rattle.wh_polycheck.specs.Marks.{Mark}
 use Rattle.wh_polycheck.specs.SideResults.{marks_of}
 use Rattle.wh_polycheck.specs.declared.marks.MarkedSymbol.{MarkedSymbol}
-use Rattle.wh_meaning.specs.Covering.{rule_run, pair_run}
+use Rattle.wh_polycheck.specs.Covering.{rule_run, pair_run}
 use Rattle.wh_covering.specs.Lines.{IsSide}
 use Rattle.wh_find_moves.specs.Found.{AreCovering}
 use Rattle.wh_guesses.specs.Conditions.{IsMet, Meets, some_strictly}

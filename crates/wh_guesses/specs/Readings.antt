@@ -2,7 +2,7 @@
 use Rattle.std.specs.Prelude.{ℕ, ◌+◌, ◌≡◌, ◌⊎◌, ◌↔◌, List, Some, length, Contains, slice_get}
 use Rattle.wh_terms.specs.Rules.{RewriteRule}
 use Rattle.wh_pairs.specs.PairData.{PairData}
-use Rattle.wh_subterm.specs.Marked.{HeadsASide}
+use Rattle.wh_pairs.specs.Marked.{HeadsASide}
 use Rattle.wh_guesses.specs.Conditions.{HasSymbol, StandsInPair}
 use Rattle.wh_guesses.specs.declared.readings.Reading.{Reading}
 

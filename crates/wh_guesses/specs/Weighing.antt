@@ -1,9 +1,8 @@
 -- What a guess comes to: a node, or a condition that fails.
 use Rattle.std.specs.Prelude.{ℕ, ◌+◌, ◌≡◌, ◌⊎◌, ◌↔◌, List, Some, length, map, Contains, slice_get}
 use Rattle.wh_system.specs.Systems.{SystemData}
-use Rattle.wh_pairs.specs.PairData.{PairData}
+use Rattle.wh_pairs.specs.PairData.{PairData, pair_data}
 use Rattle.wh_system.specs.SystemView.{system_data}
-use Rattle.wh_pairs.specs.PairData.{pair_data}
 use Rattle.wh_hopoly.specs.Evaluation.{Interpretation}
 use Rattle.wh_hopoly.specs.Erase.{interpretations}
 use Rattle.wh_polycheck.specs.Marks.{Mark}

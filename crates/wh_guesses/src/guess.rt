@@ -6,7 +6,7 @@ ghost use Rattle.wh_types.specs.Erase.{ty, tys};
 ghost use Rattle.wh_types.specs.Ty.{arguments};
 ghost use Rattle.wh_pairs.specs.PairData.{pair_data};
 ghost use Rattle.wh_system.specs.SystemView.{system_data};
-ghost use Rattle.wh_subterm.specs.Marked.{AreMarked};
+ghost use Rattle.wh_pairs.specs.Marked.{AreMarked};
 ghost use Rattle.wh_hopoly.specs.Erase.{interpretations};
 ghost use Rattle.wh_polycheck.specs.Marks.{marked_types};
 ghost use Rattle.wh_polycheck.specs.SideResults.{marks_of};

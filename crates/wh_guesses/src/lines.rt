@@ -79,8 +79,8 @@ pub fn rule_line(
     line(alloc, &left, &right)
 }
 
-// Moves between two sides.
-fn line(alloc: Global, left: &Poly, right: &Poly) -> Result<Option<Moves>, AllocError>
+/// Moves between two sides.
+pub fn line(alloc: Global, left: &Poly, right: &Poly) -> Result<Option<Moves>, AllocError>
     requires left { IsSomeSide (poly left.now) }
     requires right { IsSomeSide (poly right.now) }
     ensures { (a b : Run Polynomial) → IsSide a (poly left.now) → IsSide b (poly right.now)
@@ -144,8 +144,8 @@ pub fn pair_line(
     strict_line(alloc, &left, &right)
 }
 
-/// Moves between two sides, with whether they show that the left one is greater.
-pub fn strict_line(alloc: Global, left: &Poly, right: &Poly) -> Result<Option<PairLine>, AllocError>
+// Moves between two sides, with whether they show that the left one is greater.
+fn strict_line(alloc: Global, left: &Poly, right: &Poly) -> Result<Option<PairLine>, AllocError>
     requires left { IsSomeSide (poly left.now) }
     requires right { IsSomeSide (poly right.now) }
     ensures { (a b : Run Polynomial) → IsSide a (poly left.now) → IsSide b (poly right.now)

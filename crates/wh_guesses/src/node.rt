@@ -14,12 +14,12 @@ ghost use Rattle.wh_guesses.specs.Weighing.{Weighs, WeighsBy};
 use crate::lines::{PairLines, pair_lines, rule_lines};
 use crate::task::{Guess, Task};
 use std::alloc::{AllocError, Global};
-use wh_cert::{Interp, Interps, Node, PolyNode};
-use wh_hopoly::{Covers, Symbol, copy};
+use wh_cert::{Node, PolyNode};
+use wh_hopoly::{Covers, Symbol};
 use wh_pairs::Pair;
 use wh_polycheck::MarkedSymbol;
+use wh_proof::{lines_of_marks, lines_of_symbols};
 use wh_system::System;
-use wh_text::Name;
 use wh_types::Or;
 
 /// What a guess comes to.
@@ -129,44 +129,4 @@ fn node_with(
         drop,
     };
     Ok(Weighing::Found(Node::Poly(Box::new(alloc, node)?)))
-}
-
-// The lines `fun` of the symbols.
-fn lines_of_symbols(
-    alloc: Global,
-    names: &[Name],
-    symbols: &[Symbol],
-) -> Result<Interps, AllocError>
-    requires { length names.now ≡ length symbols.now }
-    ensures names { IfOk result (λ lines. map (λ l. l.name) lines ≡ names.now) }
-    ensures polynomials { IfOk result (λ lines. map (λ s. poly s.poly) symbols.now ≡ map (λ l. poly l.poly) lines) }
-{
-    let mut lines = Interps::new(alloc)?;
-    for i in 0..symbols.len() {
-        let name = Name::new(alloc, names[i].bytes())?;
-        let poly = copy(alloc, &symbols[i].poly)?;
-        lines.push(Interp { name, poly })?;
-    }
-    Ok(lines)
-}
-
-// The lines `mark` of the marked symbols. Each is a symbol of the system, so want of a name does not come.
-fn lines_of_marks(
-    alloc: Global,
-    names: &[Name],
-    marks: &[MarkedSymbol],
-) -> Result<Interps, AllocError>
-    ensures names { IfOk result (λ lines. map (λ m. slice_get names.now m.symbol) marks.now ≡ map (λ l. Some l.name) lines) }
-    ensures polynomials { IfOk result (λ lines. map (λ m. poly m.poly) marks.now ≡ map (λ l. poly l.poly) lines) }
-{
-    let mut lines = Interps::new(alloc)?;
-    for mark in marks {
-        if mark.symbol as usize >= names.len() {
-            return Err(AllocError);
-        }
-        let name = Name::new(alloc, names[mark.symbol as usize].bytes())?;
-        let poly = copy(alloc, &mark.poly)?;
-        lines.push(Interp { name, poly })?;
-    }
-    Ok(lines)
 }

@@ -4,7 +4,7 @@
 ghost use Rattle.std.specs.Prelude.{ℕ, ◌+◌, ◌≡◌, ◌⊎◌, ◌<◌, ◌≤◌, All, Contains, IfOk, Some, length, map, slice_get};
 ghost use Rattle.wh_terms.specs.Erase.{rewrite_rule, rewrite_rules, tms as trees, tm};
 ghost use Rattle.wh_pairs.specs.PairData.{IsIncreasing, pair_data};
-ghost use Rattle.wh_subterm.specs.Marked.{AreMarked};
+ghost use Rattle.wh_pairs.specs.Marked.{AreMarked};
 ghost use Rattle.wh_guesses.specs.Conditions.{HasSymbol, SomeHasSymbol, StandsInPair};
 ghost use Rattle.wh_guesses.specs.Readings.{ArePairReadings, AreRuleReadings, IsMarkOf, ListsAll, ReadsAll, StandsInRule};
 ghost use Rattle.wh_guesses.specs.Tasks.{IsTaskOf};

@@ -16,12 +16,12 @@ ghost use Rattle.wh_guesses.specs.Lines.{HasNoStrictPair, IsStrictPair, IsUncove
 ghost use Rattle.wh_guesses.specs.Weighing.{Fails};
 ghost use Rattle.wh_guesses.specs.Tasks.{IsGuessOf, IsTaskOf};
 
-use crate::lines::{pair_line, rule_line, strict_line};
+use crate::lines::{line, pair_line, rule_line};
 use crate::sides::{pair_side, rule_side};
 use crate::task::{Guess, Task};
 use std::alloc::{AllocError, Global};
 use wh_find_moves::deficit;
-use wh_hopoly::{Poly, Symbol};
+use wh_hopoly::{Move, Poly, Symbol};
 use wh_pairs::Pair;
 use wh_polycheck::MarkedSymbol;
 use wh_system::System;
@@ -129,15 +129,29 @@ fn wanting(alloc: Global, left: &Poly, right: &Poly) -> Result<u64, AllocError>
     Ok(u64::try_from(units).unwrap_or(EXCEEDING))
 }
 
-// Whether moves show that the left side is greater.
+// Whether moves show that the left side is greater. Those that are found cover, so what counts is the left constant.
 fn is_greater(alloc: Global, left: &Poly, right: &Poly) -> Result<bool, AllocError>
     requires left { IsSomeSide (poly left.now) }
     requires right { IsSomeSide (poly right.now) }
 {
-    match strict_line(alloc, left, right)? {
-        Some(line) => Ok(line.strict),
+    match line(alloc, left, right)? {
+        Some(moves) => Ok(leaves_constant(left, moves.as_slice())),
         None => Ok(false),
     }
+}
+
+// Whether the moves leave some of the left constant, which stands first.
+fn leaves_constant(left: &Poly, moves: &[Move]) -> bool {
+    let Some(first) = left.as_slice().first() else {
+        return false;
+    };
+    let mut rest = first.coefficient;
+    for item in moves {
+        if item.from == 0 {
+            rest = rest.saturating_sub(item.amount);
+        }
+    }
+    first.atoms.as_slice().is_empty() && rest > 0
 }
 
 /// Says `true` only where the condition with that number fails under the guess: that of a rule, behind these that of a pair of the set,

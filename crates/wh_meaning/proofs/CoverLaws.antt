@@ -7,15 +7,16 @@ use Rattle.wh_terms.specs.Rules.{RewriteRule, AreWellMade}
 use Rattle.wh_step.specs.Step.{Step}
 use Rattle.wh_pairs.specs.PairData.{PairData}
 use Rattle.wh_pairs.proofs.ByPlace.{contains_at, place_of, unmap}
-use Rattle.wh_subterm.specs.Marked.{HeadsASide}
-use Rattle.wh_subterm.proofs.DropLemmas.{contains_or_not}
+use Rattle.wh_pairs.specs.Marked.{HeadsASide}
+use Rattle.wh_pairs.proofs.DropLemmas.{contains_or_not}
 use Rattle.wh_calls.specs.MarkedCalls.{CallsEnd}
 use Rattle.wh_hopoly.specs.Evaluation.{Interpretation}
 use Rattle.wh_hopoly.specs.Moves.{Transfer}
 use Rattle.wh_polycheck.specs.Sides.{IsInterpretedAs, Interprets, RulesAreCovered}
 use Rattle.wh_polycheck.specs.Marks.{Mark, with_marks, mark_number, HasMark}
-use Rattle.wh_meaning.specs.PairCovers.{PairIsStrictlyCovered, MarkedPairIsCovered, IsOneOf}
-use Rattle.wh_meaning.specs.Covering.{IsCovering, HaveTypedSides}
+use Rattle.wh_meaning.specs.PairCovers.{PairIsStrictlyCovered, MarkedPairIsCovered}
+use Rattle.wh_pairs.specs.Sets.{InSet}
+use Rattle.wh_polycheck.specs.Covering.{IsCovering, HaveTypedSides}
 use Rattle.wh_meaning.proofs.MarkedPairs.{sets_end_by_marks}
 
 -- interpretations with the types of the symbols, in order, interpret each of them
@@ -77,8 +78,8 @@ module _ (S : Symbols) (rules : List RewriteRule) (pairs : List PairData) (set :
 
   -- where the rest has all pairs of the set that are not dropped, and their calls end, the calls of the set do
   pub covering_ends : AreWellMade S rules → HaveTypedSides S rules pairs → (rest : List ℕ)
-      → ((n : ℕ) → Contains set n → (Contains drop n → ⊥) → Contains rest n) → CallsEnd S rules (Step rules) (IsOneOf pairs rest)
-      → CallsEnd S rules (Step rules) (IsOneOf pairs set)
+      → ((n : ℕ) → Contains set n → (Contains drop n → ⊥) → Contains rest n) → CallsEnd S rules (Step rules) (InSet pairs rest)
+      → CallsEnd S rules (Step rules) (InSet pairs set)
   covering_ends made typed rest kept smaller =
       sets_end_by_marks S rules symbols marks pairs set rest made interprets is.normal is.normal_marks rules_are_covered
       (pairs_are_covered typed) kept_or_strict smaller

@@ -11,7 +11,8 @@ use Rattle.wh_calls.specs.MarkedCalls.{CallsEnd}
 use Rattle.wh_hopoly.specs.Evaluation.{Interpretation, NormalInterpretations}
 use Rattle.wh_polycheck.specs.Sides.{types_of_metas, side_polynomial, Interprets, RulesAreCovered, IsNormOfSide}
 use Rattle.wh_polycheck.specs.Marks.{Mark, marked_interpretation, with_marks, mark_number, AreNormalMarks, HasMarkedSides, IsNormOfPairSide}
-use Rattle.wh_meaning.specs.PairCovers.{PairIsCovered, PairIsStrictlyCovered, MarkedPairIsCovered, IsOneOf, left_polynomial, right_polynomial}
+use Rattle.wh_meaning.specs.PairCovers.{PairIsCovered, PairIsStrictlyCovered, MarkedPairIsCovered, left_polynomial, right_polynomial}
+use Rattle.wh_pairs.specs.Sets.{InSet}
 use Rattle.wh_polycheck.proofs.MoreInterpretations.{interprets_more, rules_covered_more, mark_interpreted, normal_with_marks}
 use Rattle.wh_polycheck.proofs.MarkedSides.{marked_typed}
 use Rattle.wh_polycheck.proofs.SideTypes.{side_typed}
@@ -41,7 +42,7 @@ pub sets_end_by_marks : (S : Symbols) (rules : List RewriteRule) (symbols : List
     → ((n : ℕ) (p : PairData) → Contains set n → slice_get pairs n ≡ Some p → MarkedPairIsCovered S rules symbols marks p)
     → ((n : ℕ) (p : PairData) → Contains set n → slice_get pairs n ≡ Some p
     → Contains kept n ⊎ PairIsStrictlyCovered (with_marks S rules symbols marks) (mark_number symbols marks) p)
-    → CallsEnd S rules (Step rules) (IsOneOf pairs kept) → CallsEnd S rules (Step rules) (IsOneOf pairs set)
+    → CallsEnd S rules (Step rules) (InSet pairs kept) → CallsEnd S rules (Step rules) (InSet pairs set)
 sets_end_by_marks S rules symbols marks pairs set kept w i n k c h g =
     sets_end_by_worth S rules (with_marks S rules symbols marks) (mark_number symbols marks) (λ f. 0) pairs set kept w
     (interprets_more symbols (map (marked_interpretation S rules) marks) S i) (normal_with_marks S rules symbols marks n k)

@@ -16,7 +16,8 @@ use Rattle.wh_calls.specs.MarkedCalls.{MarkedCall, IsTypedCall, AreTypedBodies, 
 use Rattle.wh_hopoly.specs.Evaluation.{Interpretation, NormalInterpretations}
 use Rattle.wh_polycheck.specs.Sides.{Interprets, RulesAreCovered}
 use Rattle.wh_meaning.specs.Calls.{call_value, HasTypedBodies}
-use Rattle.wh_meaning.specs.PairCovers.{worth_of, PairIsCovered, PairIsStrictlyCovered, IsOneOf}
+use Rattle.wh_meaning.specs.PairCovers.{worth_of, PairIsCovered, PairIsStrictlyCovered}
+use Rattle.wh_pairs.specs.Sets.{InSet}
 use Rattle.wh_polycheck.specs.Marks.{marked_types}
 use Rattle.wh_meaning.proofs.TermValues.{at_is}
 use Rattle.wh_meaning.proofs.CallValues.{call_reduct_le, covered_call_le, strictly_covered_call_lt}
@@ -113,11 +114,11 @@ pub sets_end_by_worth : (S : Symbols) (rules : List RewriteRule) (symbols : List
     → NormalInterpretations symbols → RulesAreCovered symbols rules
     → ((n : ℕ) (p : PairData) → Contains set n → slice_get pairs n ≡ Some p → PairIsCovered S rules symbols marked target p)
     → ((n : ℕ) (p : PairData) → Contains set n → slice_get pairs n ≡ Some p → Contains kept n ⊎ PairIsStrictlyCovered symbols marked p)
-    → CallsEnd S rules (Step rules) (IsOneOf pairs kept) → CallsEnd S rules (Step rules) (IsOneOf pairs set)
+    → CallsEnd S rules (Step rules) (InSet pairs kept) → CallsEnd S rules (Step rules) (InSet pairs set)
 sets_end_by_worth S rules symbols marked target pairs set kept w i n c h k e =
-    calls_end_by_worth S rules w symbols i n c marked target {P = IsOneOf pairs set} {Q = IsOneOf pairs kept} (λ p (n, m, s). h n p m s) (λ p (n, m, s). one_of n p m s (k n p m s)) e
+    calls_end_by_worth S rules w symbols i n c marked target {P = InSet pairs set} {Q = InSet pairs kept} (λ p (n, m, s). h n p m s) (λ p (n, m, s). one_of n p m s (k n p m s)) e
   where
     one_of : (n : ℕ) (p : PairData) → Contains set n → slice_get pairs n ≡ Some p
-        → Contains kept n ⊎ PairIsStrictlyCovered symbols marked p → IsOneOf pairs kept p ⊎ PairIsStrictlyCovered symbols marked p
+        → Contains kept n ⊎ PairIsStrictlyCovered symbols marked p → InSet pairs kept p ⊎ PairIsStrictlyCovered symbols marked p
     one_of n p m s (inl q) = inl (n, q, s)
     one_of n p m s (inr q) = inr q

@@ -4,4 +4,3 @@ pub mod Meaning
 pub mod TermValues
 pub mod Calls
 pub mod PairCovers
-pub mod Covering

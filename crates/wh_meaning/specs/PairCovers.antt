@@ -45,7 +45,3 @@ pub record MarkedPairIsCovered (S : Symbols) (rules : List RewriteRule) (symbols
   pub moves : List Transfer
   pub cover : IsCover (left_polynomial (with_marks S rules symbols marks) (mark_number symbols marks) p)
       (right_polynomial (with_marks S rules symbols marks) (mark_number symbols marks) p) moves
-
--- the pair is one of those with the numbers of the set
-abbrev pub IsOneOf : List PairData → List ℕ → PairData → Type 0
-IsOneOf pairs set p = (n : ℕ) × Contains set n × (slice_get pairs n ≡ Some p)

@@ -13,7 +13,8 @@ ghost use Rattle.wh_calls.specs.MarkedCalls.{CallsEnd};
 ghost use Rattle.wh_hopoly.specs.Evaluation.{Interpretation, NormalInterpretations};
 ghost use Rattle.wh_polycheck.specs.Sides.{Interprets, RulesAreCovered};
 ghost use Rattle.wh_polycheck.specs.Marks.{Mark, with_marks, mark_number, AreNormalMarks, HasMark, HasMarkedSides, IsNormOfPairSide};
-ghost use Rattle.wh_meaning.specs.PairCovers.{PairIsCovered, PairIsStrictlyCovered, MarkedPairIsCovered, IsOneOf, left_polynomial, right_polynomial};
+ghost use Rattle.wh_meaning.specs.PairCovers.{PairIsCovered, PairIsStrictlyCovered, MarkedPairIsCovered, left_polynomial, right_polynomial};
+ghost use Rattle.wh_pairs.specs.Sets.{InSet};
 
 /// Where all rules and all pairs of a set are covered, and each of these pairs is kept or strictly covered, calls by the set
 /// end if calls by the kept pairs do (Fuhs and Kop 2012, the reduction pair processor).
@@ -22,8 +23,8 @@ pub fn covers_keep_that_calls_end()
         (set kept : List ℕ) → AreWellMade S rules → Interprets S symbols → NormalInterpretations symbols → RulesAreCovered symbols rules
         → ((n : ℕ) (p : PairData) → Contains set n → slice_get pairs n ≡ Some p → PairIsCovered S rules symbols marked target p)
         → ((n : ℕ) (p : PairData) → Contains set n → slice_get pairs n ≡ Some p
-        → (Contains kept n ⊎ PairIsStrictlyCovered symbols marked p)) → CallsEnd S rules (Step rules) (IsOneOf pairs kept)
-        → CallsEnd S rules (Step rules) (IsOneOf pairs set) }
+        → (Contains kept n ⊎ PairIsStrictlyCovered symbols marked p)) → CallsEnd S rules (Step rules) (InSet pairs kept)
+        → CallsEnd S rules (Step rules) (InSet pairs set) }
 {}
 
 /// The same where the marked symbols have interpretations of their own, which stand behind those of the symbols: the rules are
@@ -34,7 +35,7 @@ pub fn covers_by_marks_keep_that_calls_end()
         → RulesAreCovered symbols rules → ((n : ℕ) (p : PairData) → Contains set n → slice_get pairs n ≡ Some p
         → MarkedPairIsCovered S rules symbols marks p) → ((n : ℕ) (p : PairData) → Contains set n → slice_get pairs n ≡ Some p
         → (Contains kept n ⊎ PairIsStrictlyCovered (with_marks S rules symbols marks) (mark_number symbols marks) p))
-        → CallsEnd S rules (Step rules) (IsOneOf pairs kept) → CallsEnd S rules (Step rules) (IsOneOf pairs set) }
+        → CallsEnd S rules (Step rules) (InSet pairs kept) → CallsEnd S rules (Step rules) (InSet pairs set) }
 {}
 
 /// The sides of a pair have their polynomials as normal forms.

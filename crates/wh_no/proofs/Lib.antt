@@ -9,3 +9,7 @@ pub mod InstanceLemmas
 pub mod CheckLemmas
 pub mod NumberLemmas
 pub mod Verdicts
+pub mod Meant
+pub mod Stops
+pub mod Lines
+pub mod Claims

@@ -5,7 +5,7 @@ use Rattle.wh_terms.specs.Tree.{Tm, bound, free, fun, meta, app, lam, none as no
 use Rattle.wh_terms.proofs.TypingLaws.{some_one}
 use Rattle.wh_text.specs.RawTree.{Binder, named_binder, numbered_binder, RTm, named, numbered, free_variable, meta as raw_meta, lam as raw_lam, spine, RTms, none, more}
 use Rattle.wh_parts.specs.Naming.{Scope, number_of, binder_number, type_meant, or_else, both, meant, applied_meant}
-use Rattle.wh_cert_parts.specs.TermLimits.{TermFits, TermsFit}
+use Rattle.wh_cert.specs.TermLimits.{TermFits, TermsFit}
 use Rattle.wh_no.specs.Unused.{first_unused}
 
 -- the number above those of the free variables of what may be there is at most 65,536

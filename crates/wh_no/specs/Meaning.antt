@@ -4,7 +4,7 @@ use Rattle.wh_terms.specs.declared.path.Step as taken
 use Rattle.wh_text.specs.RawTree.{RTm}
 use Rattle.wh_parts.specs.Naming.{type_meant}
 use Rattle.wh_system.specs.Systems.{SystemData}
-use Rattle.wh_system.specs.Resolve.{Means}
+use Rattle.wh_making.specs.Resolve.{Means}
 use Rattle.wh_cert.specs.Written as written
 use Rattle.wh_cert.specs.Written.{Cert, yes, no}
 use Rattle.wh_no.specs.Claim.{Put, Claim}

@@ -12,4 +12,7 @@ mod unused;
 
 pub use check::{AcceptedNo, check_no};
 pub use fault::NoFault;
-pub use laws::{accepted_or_refused, one_first_fault, valid_claims_are_unbounded};
+pub use laws::{
+    accepted_or_refused, claims_are_valid_or_have_a_first_fault, one_first_fault,
+    valid_claims_are_unbounded,
+};

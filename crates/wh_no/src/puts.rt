@@ -8,12 +8,14 @@ ghost use Rattle.wh_terms.specs.Typing.{Typed};
 ghost use Rattle.wh_terms.specs.declared.subst.SubstEntry as entry;
 ghost use Rattle.wh_cert.specs.Said.{said_put};
 ghost use Rattle.wh_system.specs.SystemView.{system_data};
+ghost use Rattle.wh_making.specs.TablesOf.{AreTablesOf};
 ghost use Rattle.wh_no.specs.Entry.{entry_puts, SaysTyped};
 ghost use Rattle.wh_no.specs.Faults.{AreRight, IsPutFault};
 
 use crate::fault::NoFault;
 use std::alloc::{AllocError, Global};
 use wh_cert::Put;
+use wh_making::NameTables;
 use wh_system::System;
 use wh_terms::{Metas, SubstEntry, Term, type_of};
 use wh_types::{Or, SimpleType, same_type};
@@ -36,13 +38,19 @@ fn has_type(
 }
 
 // What a line says, if its names stand for a type and a well-typed term of that type.
-fn typed_put(alloc: Global, system: &System, put: &Put) -> Result<Option<SubstEntry>, AllocError>
+fn typed_put(
+    alloc: Global,
+    system: &System,
+    names: &NameTables,
+    put: &Put,
+) -> Result<Option<SubstEntry>, AllocError>
+    requires { AreTablesOf (system_data system.now) names.now }
     ensures { IfOk result (SaysTyped (system_data system.now) (said_put put.now)) }
 {
-    let Some(kind) = system.resolve_type(alloc, &put.kind)? else {
+    let Some(kind) = names.resolve_type(alloc, system, &put.kind)? else {
         return Ok(None);
     };
-    let Some(value) = system.resolve(alloc, &put.term)? else {
+    let Some(value) = names.resolve(alloc, system, &put.term)? else {
         return Ok(None);
     };
     if !has_type(alloc, system, &value, &kind)? {
@@ -72,9 +80,11 @@ fn is_above(entries: &[SubstEntry], number: u32) -> bool
 pub fn check_puts(
     alloc: Global,
     system: &System,
+    names: &NameTables,
     puts: &[Put],
 ) -> Result<Vec<SubstEntry>, Or<NoFault>>
-    requires { length puts.now ≤ 2 ^ 32 }
+    requires names { AreTablesOf (system_data system.now) names.now }
+    requires many { length puts.now ≤ 2 ^ 32 }
     ensures { MatchOr result (λ entries. AreRight (system_data system.now) (map said_put puts.now) (entry_puts entries.items))
         (IsPutFault (system_data system.now) (map said_put puts.now)) }
 {
@@ -84,7 +94,7 @@ pub fn check_puts(
         if !is_above(&entries, put.number) {
             return Err(Or::Because(bad));
         }
-        match typed_put(alloc, system, put)? {
+        match typed_put(alloc, system, names, put)? {
             Some(entry) => entries.push(entry)?,
             None => return Err(Or::Because(bad)),
         }

@@ -8,7 +8,7 @@ use Rattle.wh_pairs.specs.PairData.{PairData}
 use Rattle.wh_graph.specs.May.{Follows}
 use Rattle.wh_pairs.proofs.MemberLemmas.{none_there, head_or_behind}
 use Rattle.wh_calls.specs.MarkedCalls.{MarkedCall, SomePairStep, CallStep, CallsEnd}
-use Rattle.wh_nodes.specs.Proves.{InSet}
+use Rattle.wh_pairs.specs.Sets.{InSet}
 use Rattle.wh_nodes.proofs.MayLaws.{MayIsSound}
 use Rattle.wh_nodes.proofs.CallLaws.{ends_while, calls_end, ComesFrom, comes_step, comes_kept, comes_may}
 

@@ -10,7 +10,7 @@ use Rattle.wh_graph.specs.May.{Follows}
 use Rattle.wh_graph.specs.Components.{IsIn}
 use Rattle.wh_graph.specs.Blocks.{AreBlocks}
 use Rattle.wh_calls.specs.MarkedCalls.{MarkedCall, CallStep, CallsEnd}
-use Rattle.wh_nodes.specs.Proves.{InSet}
+use Rattle.wh_pairs.specs.Sets.{InSet}
 use Rattle.wh_pairs.proofs.ByPlace.{some_one, contains_at}
 use Rattle.wh_nodes.proofs.ManyLaws.{ends_induct}
 use Rattle.wh_nodes.proofs.MayLaws.{MayIsSound}

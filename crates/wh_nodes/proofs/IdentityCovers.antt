@@ -6,15 +6,15 @@ use Rattle.wh_types.specs.Ty.{arguments}
 use Rattle.wh_terms.specs.Rules.{RewriteRule}
 use Rattle.wh_pairs.specs.PairData.{PairData}
 use Rattle.wh_pairs.proofs.MemberLemmas.{none_there, at_head}
-use Rattle.wh_subterm.specs.Marked.{IsMarked, AreMarked}
+use Rattle.wh_pairs.specs.Marked.{IsMarked, AreMarked}
 use Rattle.wh_hopoly.specs.Polynomials.{zero_poly, no_factors, times, no_arguments, Normal}
 use Rattle.wh_hopoly.specs.Evaluation.{Interpretation, NormalInterpretations}
 use Rattle.wh_hopoly.specs.Moves.{Transfer, Good, NotOverSpent, Covered, IsCover, IsStrictCover}
 use Rattle.wh_polycheck.specs.Marks.{Mark, AreNormalMarks, marked_types}
-use Rattle.wh_meaning.specs.Covering.{rule_run, pair_run, CoversRule, CoversPair, CoversSides, IsCovering}
+use Rattle.wh_polycheck.specs.Covering.{rule_run, pair_run, CoversRule, CoversPair, CoversSides, IsCovering}
 use Rattle.wh_nodes.specs.MapSystem.{nat}
 use Rattle.wh_nodes.specs.IdentitySystem.{unary, identity_symbols, identity_rule, count_rule, identity_system, count_pair, identity_pairs, itself, one_more, readings, marked_reading, unit_from, rule_moves, pair_moves}
-use Rattle.wh_nodes.proofs.FewLemmas.{in_one, from_one, get_one, get_two}
+use Rattle.wh_pairs.proofs.FewLemmas.{in_one, from_one, get_one, get_two}
 
 -- the polynomials are normal
 

@@ -9,7 +9,7 @@ use Rattle.wh_system.specs.Nesting.{TypesNestWithin}
 use Rattle.wh_system.specs.WellMade.{TypesWithin, IsTypeOver, IsDeclarationOver, AreDistinct, IsWellMadeSystem}
 use Rattle.wh_nodes.specs.MapSystem.{nat}
 use Rattle.wh_nodes.specs.IdentitySystem.{unary, identity_symbols, identity_metas, number, next_number, same_number, identity_rule, count_rule, identity_system}
-use Rattle.wh_nodes.proofs.FewLemmas.{each_of_two, all_of_two}
+use Rattle.wh_pairs.proofs.FewLemmas.{each_of_two, all_of_two}
 use Rattle.wh_nodes.proofs.NameTests.{is_name, names_by, all_differ, distinct_by, every, all_by, metas_apart}
 
 -- types

@@ -12,11 +12,12 @@ use Rattle.wh_pairs.proofs.MemberLemmas.{none_there, at_head, behind}
 use Rattle.wh_graph.specs.May.{Follows}
 use Rattle.wh_graph.specs.Components.{StandsAt, IsIn, Partition}
 use Rattle.wh_graph.specs.Blocks.{AreBlocks}
-use Rattle.wh_nodes.specs.Nodes.{IsSetOf, IsKept, no_sets, more_sets, by_done, by_alone, by_blocks, by_poly}
-use Rattle.wh_nodes.specs.Proves.{Proves, all_proved, one_proved}
+use Rattle.wh_proof.specs.Nodes.{no_sets, more_sets, by_done, by_alone, by_blocks, by_poly}
+use Rattle.wh_pairs.specs.Sets.{IsSetOf, IsKept}
+use Rattle.wh_proof.specs.Proves.{Proves, all_proved, one_proved}
 use Rattle.wh_nodes.specs.MapSystem.{nat}
 use Rattle.wh_nodes.specs.IdentitySystem.{unary, identity_symbols, identity_rule, count_rule, identity_system, count_pair, call_pair, identity_pairs, identity_nodes}
-use Rattle.wh_nodes.proofs.FewLemmas.{in_one, get_one, each_of_two, get_two}
+use Rattle.wh_pairs.proofs.FewLemmas.{in_one, get_one, each_of_two, get_two}
 use Rattle.wh_nodes.proofs.IdentityCovers.{count_covering}
 
 -- passing

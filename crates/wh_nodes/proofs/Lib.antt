@@ -8,7 +8,6 @@ pub mod SubtermLaws
 pub mod NodeLaws
 pub mod SystemLaws
 pub mod NameTests
-pub mod FewLemmas
 pub mod MapMade
 pub mod MapProof
 pub mod MapLaws

@@ -10,7 +10,7 @@ use Rattle.wh_text.specs.Words.{IsName}
 use Rattle.wh_system.specs.Nesting.{type_nesting, TypesNestWithin}
 use Rattle.wh_system.specs.WellMade.{TypesWithin, IsTypeOver, IsDeclarationOver, AreDistinct, IsWellMadeSystem}
 use Rattle.wh_nodes.specs.MapSystem.{nat, list, map_symbols, function_meta, plain_meta, map_metas, mapped, cons_term, map_over, map_nil, map_cons, map_system}
-use Rattle.wh_nodes.proofs.FewLemmas.{each_of_two, all_of_two}
+use Rattle.wh_pairs.proofs.FewLemmas.{each_of_two, all_of_two}
 use Rattle.wh_nodes.proofs.NameTests.{is_name, names_by, all_differ, distinct_by, every, all_by, metas_apart}
 
 -- types

@@ -12,14 +12,15 @@ use Rattle.wh_access.specs.Passing.{AllAccessible, EachUsed, Passes, IsPassing}
 use Rattle.wh_pairs.specs.Candidates.{candidates, freed}
 use Rattle.wh_pairs.specs.Subsumption.{IsDropped, ArePairs, none_left, one_kept, for_earlier, for_later}
 use Rattle.wh_pairs.proofs.MemberLemmas.{none_there, at_head}
-use Rattle.wh_subterm.specs.Marked.{IsMarked, AreMarked}
+use Rattle.wh_pairs.specs.Marked.{IsMarked, AreMarked}
 use Rattle.wh_subterm.specs.ProperParts.{argument, last}
 use Rattle.wh_subterm.specs.Projections.{Below}
 use Rattle.wh_subterm.specs.SubtermRows.{IsPlace, IsProjection}
-use Rattle.wh_nodes.specs.Nodes.{IsSetOf, IsKept, by_done, by_subterm}
-use Rattle.wh_nodes.specs.Proves.{Proves, all_proved, one_proved}
+use Rattle.wh_proof.specs.Nodes.{by_done, by_subterm}
+use Rattle.wh_pairs.specs.Sets.{IsSetOf, IsKept}
+use Rattle.wh_proof.specs.Proves.{Proves, all_proved, one_proved}
 use Rattle.wh_nodes.specs.MapSystem.{nat, list, map_symbols, cons_term, map_nil, map_cons, map_system, map_pair, map_choice, map_nodes}
-use Rattle.wh_nodes.proofs.FewLemmas.{in_one, from_one, get_one, each_of_two}
+use Rattle.wh_pairs.proofs.FewLemmas.{in_one, from_one, get_one, each_of_two}
 
 -- passing: the arguments of cons are of sorts, so that equal ranks do
 

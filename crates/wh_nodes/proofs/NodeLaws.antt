@@ -8,10 +8,11 @@ use Rattle.wh_laws.proofs.PartLaws.{PassesToParts}
 use Rattle.wh_pairs.specs.PairData.{PairData}
 use Rattle.wh_pairs.proofs.MemberLemmas.{none_there, at_head, behind, head_or_behind}
 use Rattle.wh_calls.specs.MarkedCalls.{CallsEnd}
-use Rattle.wh_meaning.specs.Covering.{HaveTypedSides}
+use Rattle.wh_polycheck.specs.Covering.{HaveTypedSides}
 use Rattle.wh_meaning.proofs.CoverLaws.{covering_ends}
-use Rattle.wh_nodes.specs.Nodes.{Node, AreSetsOf, more_sets, Leaves, by_done, by_alone, by_blocks, by_subterm, by_poly}
-use Rattle.wh_nodes.specs.Proves.{Proves, all_proved, one_proved, InSet}
+use Rattle.wh_proof.specs.Nodes.{Node, AreSetsOf, more_sets, Leaves, by_done, by_alone, by_blocks, by_subterm, by_poly}
+use Rattle.wh_proof.specs.Proves.{Proves, all_proved, one_proved}
+use Rattle.wh_pairs.specs.Sets.{InSet}
 use Rattle.wh_nodes.proofs.MayLaws.{may_sound-step}
 use Rattle.wh_nodes.proofs.CallLaws.{calls_fewer, no_pair_calls}
 use Rattle.wh_nodes.proofs.AloneLaws.{alone_ends}

@@ -15,12 +15,11 @@ use Rattle.wh_pairs.specs.PairData.{PairData, IsIncreasing}
 use Rattle.wh_subterm.specs.ProperParts.{Argument, last, front, Part, argument, deeper}
 use Rattle.wh_subterm.specs.Projections.{Chosen, IsProjected, Equal, Below}
 use Rattle.wh_subterm.specs.SubtermRows.{chosen_symbols, IsProjection}
-use Rattle.wh_subterm.proofs.DropLemmas.{contains_or_not}
+use Rattle.wh_pairs.proofs.DropLemmas.{contains_or_not}
 use Rattle.wh_subterm.proofs.ProjectionLemmas.{project_one}
 use Rattle.wh_calls.specs.MarkedCalls.{MarkedCall, PairStep, ArgumentsStep, CallStep, CallsEnd}
 use Rattle.wh_nodes.specs.Many.{stay, go}
-use Rattle.wh_nodes.specs.Nodes.{IsSetOf, IsKept}
-use Rattle.wh_nodes.specs.Proves.{InSet}
+use Rattle.wh_pairs.specs.Sets.{IsSetOf, IsKept, InSet}
 use Rattle.wh_nodes.proofs.ManyLaws.{Plus, plus-join, ends-plus, ends_induct, step_at}
 use Rattle.wh_nodes.proofs.MayLaws.{values_at}
 use Rattle.wh_nodes.proofs.CallLaws.{calls_end, other_pairs, other_arguments}

@@ -15,10 +15,11 @@ use Rattle.wh_pairs.specs.Subsumption.{ArePairs}
 use Rattle.wh_pairs.proofs.MemberLemmas.{at_head}
 use Rattle.wh_calls.specs.MarkedCalls.{CallsEnd}
 use Rattle.wh_calls.proofs.EndOfCalls.{calls-bounded}
-use Rattle.wh_meaning.specs.Covering.{HaveTypedSides}
+use Rattle.wh_polycheck.specs.Covering.{HaveTypedSides}
 use Rattle.wh_meaning.proofs.PairSides.{pair_sides}
-use Rattle.wh_nodes.specs.Nodes.{Node}
-use Rattle.wh_nodes.specs.Proves.{Proves, InSet}
+use Rattle.wh_proof.specs.Nodes.{Node}
+use Rattle.wh_proof.specs.Proves.{Proves}
+use Rattle.wh_pairs.specs.Sets.{InSet}
 use Rattle.wh_nodes.proofs.CallLaws.{calls_fewer}
 use Rattle.wh_nodes.proofs.NodeLaws.{proofs_keep}
 

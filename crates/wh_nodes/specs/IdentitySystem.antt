@@ -11,7 +11,7 @@ use Rattle.wh_hopoly.specs.Polynomials.{Polynomial, zero_poly, plus, no_factors,
 use Rattle.wh_hopoly.specs.Evaluation.{Interpretation}
 use Rattle.wh_hopoly.specs.Moves.{Transfer}
 use Rattle.wh_polycheck.specs.Marks.{Mark}
-use Rattle.wh_nodes.specs.Nodes.{Node, done, alone, blocks, poly}
+use Rattle.wh_proof.specs.Nodes.{Node, done, alone, blocks, poly}
 use Rattle.wh_nodes.specs.MapSystem.{nat, plain_meta}
 
 -- each symbol is a function of a number

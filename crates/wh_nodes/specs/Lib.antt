@@ -1,5 +1,3 @@
 pub mod Many
-pub mod Nodes
-pub mod Proves
 pub mod MapSystem
 pub mod IdentitySystem

@@ -8,7 +8,7 @@ use Rattle.wh_terms.specs.Rules.{RewriteRule}
 use Rattle.wh_pairs.specs.PairData.{PairData}
 use Rattle.wh_system.specs.Systems.{SystemData}
 use Rattle.wh_subterm.specs.Projections.{Chosen}
-use Rattle.wh_nodes.specs.Nodes.{Node, done, subterm}
+use Rattle.wh_proof.specs.Nodes.{Node, done, subterm}
 
 -- the sorts: 0 nat and 1 list
 abbrev pub nat : Ty

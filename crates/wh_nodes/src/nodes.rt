@@ -16,10 +16,11 @@ ghost use Rattle.wh_pairs.specs.Candidates.{candidates};
 ghost use Rattle.wh_pairs.specs.Subsumption.{ArePairs};
 ghost use Rattle.wh_graph.specs.May.{May};
 ghost use Rattle.wh_calls.specs.MarkedCalls.{CallsEnd};
-ghost use Rattle.wh_meaning.specs.Covering.{HaveTypedSides};
+ghost use Rattle.wh_polycheck.specs.Covering.{HaveTypedSides};
 ghost use Rattle.wh_nodes.specs.Many.{Many};
-ghost use Rattle.wh_nodes.specs.Nodes.{Node};
-ghost use Rattle.wh_nodes.specs.Proves.{InSet, Proves};
+ghost use Rattle.wh_proof.specs.Nodes.{Node};
+ghost use Rattle.wh_proof.specs.Proves.{Proves};
+ghost use Rattle.wh_pairs.specs.Sets.{InSet};
 
 /// A pair may follow another wherever it does: where the arguments of a value of the one's right side step, one at
 /// a time and however often, to those of a value of the other's left side, which has the same symbol (Kop 2012;
@@ -40,7 +41,7 @@ pub fn nodes_keep_that_calls_end()
 {}
 
 /// Where a system is passing under ranks, and the nodes prove the set of all its pairs, each well-typed term is
-/// bounded: there is a longest reduction from it (Kop 2012; Fuhs and Kop 2019).
+/// bounded: there is a number that no reduction from it exceeds in length (Kop 2012; Fuhs and Kop 2019).
 pub fn proved_systems_are_bounded()
     ensures { (d : SystemData) (ranks : List ℕ) (ps : List PairData) (all : List ℕ) (nodes : List Node) → IsWellMadeSystem d
         → IsPassing d ranks → ArePairs (candidates d.symbols d.rules) ps → ((n : ℕ) → n < length ps → Contains all n)

@@ -30,6 +30,10 @@ same_at f (x' ∷ xs) [] i x y e inside ex ey = absurd (omega (arith, same_lengt
 same_at f (x' ∷ xs) (y' ∷ ys) zero x y e inside ex ey = let here : f x' ≡ f y' = cc in ap f ex ∙ here ∙ sym (ap f ey)
 same_at f (x' ∷ xs) (y' ∷ ys) (suc i) x y e inside ex ey = let rest : map f xs ≡ map f ys = cc in same_at f xs ys i x y rest (omega arith) ex ey
 
+-- one more element of a mapped list
+pub map_push : {A B : Type 0} (f : A → B) (xs new : List A) (x : A) → new ≡ xs ++ x ∷ [] → map f new ≡ map f xs ++ f x ∷ []
+map_push f xs new x is = ap (map f) is ∙ map-append f xs (x ∷ [])
+
 pub map_take : {A C : Type 0} (f : A → C) (xs : List A) (i : ℕ) (x : A) → i < length xs → x ≡ get_or xs i x → map f (take (i + 1) xs) ≡ map f (take i xs) ++ f x ∷ []
 map_take f xs i x inside is = ap (map f) (take_more xs i x inside) ∙ map-append f (take i xs) (get_or xs i x ∷ []) ∙ ap (λ y. map f (take i xs) ++ f y ∷ []) (sym is)
 

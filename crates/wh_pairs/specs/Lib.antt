@@ -7,5 +7,7 @@ pub mod Subsumption
 pub mod Views
 pub mod Known
 pub mod Survivors
-pub mod CallsEach
 pub mod SystemPairs
+pub mod Sets
+pub mod Marked
+pub mod Drops

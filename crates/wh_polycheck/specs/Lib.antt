@@ -2,3 +2,5 @@ pub mod CoverFaults
 pub mod Sides
 pub mod Marks
 pub mod SideResults
+pub mod Covering
+pub mod Small

@@ -1,4 +1,3 @@
-pub mod Uniqueness
 pub mod Lists
 pub mod OutLemmas
 pub mod Kept

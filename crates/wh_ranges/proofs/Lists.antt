@@ -17,7 +17,7 @@ use Rattle.wh_hopoly.specs.Erase.{interpretations}
 use Rattle.wh_hopoly.specs.declared.expression.Symbol.{Symbol}
 use Rattle.wh_hopoly.specs.Moves.{MonomialAt}
 use Rattle.wh_hopoly.specs.Covers.{Has, AtLeast}
-use Rattle.wh_hopoly.proofs.CoefficientLaws.{coefficient}
+use Rattle.wh_hopoly.specs.Rearranged.{coefficient}
 use Rattle.wh_hopoly.proofs.SumLaws.{normal_sorted}
 use Rattle.wh_polycheck.specs.Marks.{Mark, marked_types}
 use Rattle.wh_polycheck.specs.SideResults.{marks_of}
@@ -30,9 +30,10 @@ use Rattle.wh_space.specs.Coefficients.{capped, HasCoefficients}
 use Rattle.wh_guesses.specs.Coefficients.{scopes_of, HaveCoefficients, AreOfSpace}
 use Rattle.wh_guesses.specs.Reads.{IsChanged, list_of}
 use Rattle.wh_guesses.proofs.ReadLemmas.{have_coefficients as have_read, symbols_have, marks_have}
+use Rattle.wh_guesses.proofs.OfSpace.{AreSmall, AreListsFor, IsSymbolOfSpace, IsMarkOfSpace, all_lists, all_for, have_coefficients, each_symbol, each_mark}
 use Rattle.wh_ranges.specs.Excluded.{coefficient_in, AreAtMost, LieIn}
 use Rattle.wh_ranges.specs.Bounds.{IsSetTo}
-use Rattle.wh_ranges.proofs.Uniqueness.{coefficient_is, monomial_of, monomial_at_least}
+use Rattle.wh_guesses.proofs.Uniqueness.{coefficient_is, monomial_of, monomial_at_least}
 
 -- what has at most the coefficients of another is below it
 
@@ -104,134 +105,6 @@ lists_below S rules ls hs xs ys ms ns kinds symbols low high most = (
         m.polynomial n.polynomial (low.of_marks i m at) has (most (length xs + i));
   },
 )
-
--- the coefficients of a polynomial, one for each monomial of the space
-
-abbrev pub coefficients : List Ty → Polynomial → List ℕ
-coefficients Γ p = map (λ us. coefficient us p) (space_of Γ)
-
-pub capped_small : (c : ℕ) → c ≤ 3 → capped c ≡ c
-capped_small c small = grind arith
-
-pub small_coefficient : (Γ : List Ty) (p : Polynomial) → IsOfSpace Γ p → (us : Factors) → coefficient us p ≤ 3
-small_coefficient Γ p of us = go (coefficient us p) refl
-  where
-    go : (c : ℕ) → coefficient us p ≡ c → c ≤ 3
-    go zero e = omega arith
-    go (suc c) e = (of.monomials (suc c) us (subst (λ c. HasMonomial p c us) e (monomial_of Γ p us of.normal (omega (arith, e))))).0
-
-pub has_coefficients : (Γ : List Ty) (p : Polynomial) → IsOfSpace Γ p → HasCoefficients Γ (coefficients Γ p) p
-has_coefficients Γ p of = record {
-  of_space = of;
-  each = λ j c us at. (
-    λ found. (
-      sym (coefficient_is Γ p c us of.normal found) ∙ sym (read j us at),
-      monomial_at_least Γ p c us of.normal found,
-    ),
-    λ is. let e : c ≡ coefficient us p = is.0 ∙ read j us at in
-        subst (λ c. HasMonomial p c us) (sym e) (monomial_of Γ p us of.normal (omega (arith, e, is.1))),
-  );
-}
-  where
-    read : (j : ℕ) (us : Factors) → slice_get (space_of Γ) j ≡ Some us → capped (get_or (coefficients Γ p) j 0) ≡ coefficient us p
-    read j us at =
-        ap capped (get_or_from_slice_get (coefficients Γ p) j (coefficient us p) 0 (remap (λ us. coefficient us p) (space_of Γ) j us at))
-        ∙ capped_small (coefficient us p) (small_coefficient Γ p of us)
-
--- lists of numbers to 3, one for each scope, with a number for each monomial of its space
-
-abbrev pub AreSmall : List ℕ → Type 0
-AreSmall [] = Unit {0}
-AreSmall (c ∷ cs) = (c ≤ 3) × AreSmall cs
-
-are_small : (p : Polynomial) (l : List Factors) → ((us : Factors) → coefficient us p ≤ 3) → AreSmall (map (λ us. coefficient us p) l)
-are_small p [] small = tt
-are_small p (us ∷ l) small = (small us, are_small p l small)
-
-abbrev pub AreListsFor : List (List Ty) → List (List ℕ) → Type 0
-AreListsFor [] [] = Unit {0}
-AreListsFor (Γ ∷ scopes) (cs ∷ lists) = (length cs ≡ length (space_of Γ)) × AreSmall cs × AreListsFor scopes lists
-AreListsFor _ _ = ⊥
-
-lists_append : (G H : List (List Ty)) (L M : List (List ℕ)) → AreListsFor G L → AreListsFor H M → AreListsFor (G ++ H) (L ++ M)
-lists_append [] H [] M f g = g
-lists_append [] H (cs ∷ L) M f g = absurd f
-lists_append (Γ ∷ G) H [] M f g = absurd f
-lists_append (Γ ∷ G) H (cs ∷ L) M f g = (f.0, f.1, lists_append G H L M f.2 g)
-
-coefficients_for : (Γ : List Ty) (p : Polynomial) → IsOfSpace Γ p
-    → (length (coefficients Γ p) ≡ length (space_of Γ)) × AreSmall (coefficients Γ p)
-coefficients_for Γ p of = (length-map (space_of Γ) (λ us. coefficient us p), are_small p (space_of Γ) (small_coefficient Γ p of))
-
--- what is asked of an interpretation and of a mark
-
-abbrev pub IsSymbolOfSpace : Interpretation → Type 0
-IsSymbolOfSpace s = IsOfSpace (arguments s.kind) s.polynomial
-
-abbrev pub IsMarkOfSpace : Symbols → List RewriteRule → Mark → Type 0
-IsMarkOfSpace S rules m = IsOfSpace (marked_types S rules m.symbol) m.polynomial
-
-abbrev pub symbol_coefficients : Interpretation → List ℕ
-symbol_coefficients s = coefficients (arguments s.kind) s.polynomial
-
-symbols_for : (symbols : List Interpretation) → ((f : ℕ) (s : Interpretation) → slice_get symbols f ≡ Some s → IsSymbolOfSpace s)
-    → AreListsFor (map arguments (map (λ s. s.kind) symbols)) (map symbol_coefficients symbols)
-symbols_for [] of = tt
-symbols_for (s ∷ symbols) of =
-    let here = coefficients_for (arguments s.kind) s.polynomial (of 0 s refl) in
-    (here.0, here.1, symbols_for symbols (λ f t at. of (suc f) t at))
-
-module _ (S : Symbols) (rules : List RewriteRule) where
-  abbrev pub mark_coefficients : Mark → List ℕ
-  mark_coefficients m = coefficients (marked_types S rules m.symbol) m.polynomial
-
-  marks_for : (marks : List Mark) → ((i : ℕ) (m : Mark) → slice_get marks i ≡ Some m → IsMarkOfSpace S rules m)
-      → AreListsFor (map (marked_types S rules) (map (λ m. m.symbol) marks)) (map mark_coefficients marks)
-  marks_for [] of = tt
-  marks_for (m ∷ marks) of =
-      let here = coefficients_for (marked_types S rules m.symbol) m.polynomial (of 0 m refl) in
-      (here.0, here.1, marks_for marks (λ i n at. of (suc i) n at))
-
-  abbrev pub all_lists : List Interpretation → List Mark → List (List ℕ)
-  all_lists symbols marks = map symbol_coefficients symbols ++ map mark_coefficients marks
-
-  module _ (symbols : List Interpretation) (marks : List Mark)
-      (symbols_in : (f : ℕ) (s : Interpretation) → slice_get symbols f ≡ Some s → IsSymbolOfSpace s)
-      (marks_in : (i : ℕ) (m : Mark) → slice_get marks i ≡ Some m → IsMarkOfSpace S rules m) where
-    pub all_for : map (λ s. s.kind) symbols ≡ S.funs → AreListsFor (scopes_of S rules (map (λ m. m.symbol) marks)) (all_lists symbols marks)
-    all_for kinds =
-        subst (λ funs. AreListsFor (map arguments funs ++ map (marked_types S rules) (map (λ m. m.symbol) marks)) (all_lists symbols marks)) kinds
-        (lists_append (map arguments (map (λ s. s.kind) symbols)) (map (marked_types S rules) (map (λ m. m.symbol) marks))
-        (map symbol_coefficients symbols) (map mark_coefficients marks) (symbols_for symbols symbols_in) (marks_for marks marks_in))
-
-    pub have_coefficients : HaveCoefficients S rules (all_lists symbols marks) symbols marks
-    have_coefficients = record {
-      of_symbols = λ f s at.
-          let there = slice_get_front (map symbol_coefficients symbols) (map mark_coefficients marks) f (symbol_coefficients s)
-          (remap symbol_coefficients symbols f s at) in
-          let is = get_or_from_slice_get (all_lists symbols marks) f (symbol_coefficients s) [] there in
-          subst (λ cs. HasCoefficients (arguments s.kind) cs s.polynomial) (sym is)
-          (has_coefficients (arguments s.kind) s.polynomial (symbols_in f s at));
-      of_marks = λ i m at.
-          let count : length symbols + i ≡ length (map symbol_coefficients symbols) + i =
-          ap (λ n. n + i) (sym (length-map symbols symbol_coefficients)) in
-          let there : slice_get (all_lists symbols marks) (length symbols + i) ≡ Some (mark_coefficients m) =
-          ap (slice_get (all_lists symbols marks)) count ∙ slice_get_behind (map symbol_coefficients symbols) (map mark_coefficients marks) i
-          ∙ remap mark_coefficients marks i m at in
-          let is = get_or_from_slice_get (all_lists symbols marks) (length symbols + i) (mark_coefficients m) [] there in
-          subst (λ cs. HasCoefficients (marked_types S rules m.symbol) cs m.polynomial) (sym is)
-          (has_coefficients (marked_types S rules m.symbol) m.polynomial (marks_in i m at));
-    }
-
--- what is of the space, by places
-
-module _ (S : Symbols) (rules : List RewriteRule) (pairs : List PairData) (set : List ℕ) (symbols : List Interpretation) (marks : List Mark)
-    (are : AreOfSpace S rules pairs set symbols marks) where
-  pub each_symbol : (f : ℕ) (s : Interpretation) → slice_get symbols f ≡ Some s → IsSymbolOfSpace s
-  each_symbol f s at = All-contains IsSymbolOfSpace symbols s are.symbols_of_space (contains_at symbols f s at)
-
-  pub each_mark : (i : ℕ) (m : Mark) → slice_get marks i ≡ Some m → IsMarkOfSpace S rules m
-  each_mark i m at = All-contains (IsMarkOfSpace S rules) marks m are.marks_of_space (contains_at marks i m at)
 
 -- all coefficients of the space are 0 to 3
 

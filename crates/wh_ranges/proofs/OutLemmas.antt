@@ -15,7 +15,7 @@ use Rattle.wh_pairs.specs.PairData.{PairData, pair_data}
 use Rattle.wh_system.specs.SystemView.{system_data}
 use Rattle.wh_system.specs.WellMade.{IsWellMadeSystem}
 use Rattle.wh_pairs.proofs.ByPlace.{contains_at, map_at, place_of, some_one}
-use Rattle.wh_subterm.specs.Marked.{AreMarked}
+use Rattle.wh_pairs.specs.Marked.{AreMarked}
 use Rattle.wh_hopoly.specs.Polynomials.{Polynomial, Normal}
 use Rattle.wh_hopoly.specs.Evaluation.{Interpretation, NormalInterpretations, Run}
 use Rattle.wh_hopoly.specs.Moves.{Transfer}
@@ -23,13 +23,13 @@ use Rattle.wh_hopoly.specs.Erase.{interpretations}
 use Rattle.wh_polycheck.specs.Marks.{Mark, AreNormalMarks, HasMarkedSides}
 use Rattle.wh_polycheck.specs.SideResults.{marks_of}
 use Rattle.wh_polycheck.specs.Sides.{IsInterpretedAs, Interprets, types_of_metas, side_polynomial}
-use Rattle.wh_meaning.specs.Covering.{rule_run, pair_run, CoversSides}
+use Rattle.wh_polycheck.specs.Covering.{rule_run, pair_run, CoversSides}
 use Rattle.wh_meaning.specs.Meaning.{den}
 use Rattle.wh_meaning.specs.Valuations.{Valuation, MonoValuation}
 use Rattle.wh_meaning.proofs.Steps.{side_normal}
 use Rattle.wh_covering.proofs.Walks.{of_equals}
 use Rattle.wh_covering.proofs.CoverWalk.{set_sides}
-use Rattle.wh_checker.proofs.InterpretationLemmas.{marked_one}
+use Rattle.wh_proof.proofs.InterpretationLemmas.{marked_one}
 use Rattle.wh_growth.specs.Below.{AreBelow, AreMarksBelow}
 use Rattle.wh_growth.specs.Refuted.{IsRefuted}
 use Rattle.wh_growth.proofs.WeightLaws.{IsCoverBy, refuted_uncovered}

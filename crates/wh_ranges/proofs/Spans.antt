@@ -3,7 +3,7 @@ use Rattle.std.proofs.Common.{◌≡◌, ◌⊎◌, ◌+◌, ◌<◌, ℕ, zero,
 use Rattle.std.proofs.lemmas.List.Elements.{Contains-push, Contains-append_left, Contains-append_cases}
 use Rattle.wh_pairs.specs.PairData.{pair_data}
 use Rattle.wh_system.specs.SystemView.{system_data}
-use Rattle.wh_nodes.proofs.FewLemmas.{in_one}
+use Rattle.wh_pairs.proofs.FewLemmas.{in_one}
 use Rattle.wh_guesses.specs.declared.task.Task.{Task}
 use Rattle.wh_ranges.specs.Excluded.{coefficient_in, IsExcluded}
 use Rattle.wh_ranges.specs.Bounds.{IsSetTo, lists_in, lists_of}

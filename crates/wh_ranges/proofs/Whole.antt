@@ -6,13 +6,14 @@ use Rattle.wh_terms.specs.Rules.{RewriteRule}
 use Rattle.wh_system.specs.Systems.{SystemData}
 use Rattle.wh_pairs.specs.PairData.{PairData}
 use Rattle.wh_pairs.proofs.ByPlace.{place_of}
-use Rattle.wh_subterm.specs.Marked.{AreMarked}
+use Rattle.wh_pairs.specs.Marked.{AreMarked}
 use Rattle.wh_hopoly.specs.Evaluation.{Interpretation}
 use Rattle.wh_polycheck.specs.Marks.{Mark}
-use Rattle.wh_checker.proofs.InterpretationLemmas.{marked_one}
+use Rattle.wh_proof.proofs.InterpretationLemmas.{marked_one}
 use Rattle.wh_space.specs.Space.{space_of}
 use Rattle.wh_guesses.specs.Coefficients.{scopes_of, HaveCoefficients, AreOfSpace}
-use Rattle.wh_guesses.specs.Conditions.{IsPairOf, Meets, IsMetBy, LetsGo, HasNoInterpretation, covers_rule, covers_pair, some_strictly, of_rule, of_pair, of_set}
+use Rattle.wh_guesses.specs.Conditions.{Meets, IsMetBy, LetsGo, HasNoInterpretation, covers_rule, covers_pair, some_strictly, of_rule, of_pair, of_set}
+use Rattle.wh_pairs.specs.Sets.{InSet}
 use Rattle.wh_ranges.specs.Excluded.{LieIn, Fit, IsExcluded, AreKept}
 use Rattle.wh_ranges.proofs.Lists.{all_lie}
 
@@ -22,7 +23,7 @@ module _ (S : Symbols) (rules : List RewriteRule) (pairs : List PairData) (set :
   rules_met : (r : RewriteRule) → Contains rules r → Meets S rules pairs set symbols marks (covers_rule r)
   rules_met r found = let (k, at) = place_of rules r found in lets k (covers_rule r) (of_rule k r at)
 
-  pairs_met : (p : PairData) → IsPairOf pairs set p → IsMetBy S rules pairs set symbols marks p false
+  pairs_met : (p : PairData) → InSet pairs set p → IsMetBy S rules pairs set symbols marks p false
   pairs_met p (n, inside, at) = let (i, here) = place_of set n inside in lets (length rules + i) (covers_pair p) (of_pair i n p here at)
 
   -- no pair is asked to be covered strictly

@@ -3,11 +3,12 @@ use Rattle.std.specs.Prelude.{ℕ, ◌≤◌, ◌≡◌, List, [], Some, map, ge
 use Rattle.wh_terms.specs.Typing.{Symbols}
 use Rattle.wh_terms.specs.Rules.{RewriteRule}
 use Rattle.wh_pairs.specs.PairData.{PairData}
-use Rattle.wh_subterm.specs.Marked.{AreMarked}
+use Rattle.wh_pairs.specs.Marked.{AreMarked}
 use Rattle.wh_hopoly.specs.Evaluation.{Interpretation}
 use Rattle.wh_polycheck.specs.Marks.{Mark}
 use Rattle.wh_guesses.specs.Coefficients.{HaveCoefficients}
-use Rattle.wh_guesses.specs.Conditions.{IsPairOf, Meets, IsMetBy, covers_rule}
+use Rattle.wh_guesses.specs.Conditions.{Meets, IsMetBy, covers_rule}
+use Rattle.wh_pairs.specs.Sets.{InSet}
 
 -- the coefficient in lists with the number of a list and a place in it; one that is missing is 0
 abbrev pub coefficient_in : List (List ℕ) → ℕ → ℕ → ℕ
@@ -30,7 +31,7 @@ module _ (S : Symbols) (rules : List RewriteRule) (pairs : List PairData) (set :
     pub marked : AreMarked pairs set (map (λ m. m.symbol) marks)
     pub coefficients : HaveCoefficients S rules lists symbols marks
     pub rules_met : (r : RewriteRule) → Contains rules r → Meets S rules pairs set symbols marks (covers_rule r)
-    pub pairs_met : (p : PairData) → IsPairOf pairs set p → IsMetBy S rules pairs set symbols marks p false
+    pub pairs_met : (p : PairData) → InSet pairs set p → IsMetBy S rules pairs set symbols marks p false
     pub strictly : (n : ℕ) (p : PairData) → slice_get set strict ≡ Some n → slice_get pairs n ≡ Some p
         → IsMetBy S rules pairs set symbols marks p true
 

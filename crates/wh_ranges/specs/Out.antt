@@ -5,7 +5,7 @@ use Rattle.wh_pairs.specs.PairData.{PairData, pair_data}
 use Rattle.wh_system.specs.SystemView.{system_data}
 use Rattle.wh_hopoly.specs.Erase.{interpretations}
 use Rattle.wh_polycheck.specs.SideResults.{marks_of}
-use Rattle.wh_meaning.specs.Covering.{rule_run, pair_run}
+use Rattle.wh_polycheck.specs.Covering.{rule_run, pair_run}
 use Rattle.wh_growth.specs.Refuted.{IsRefuted}
 use Rattle.wh_guesses.specs.declared.task.Task.{Task}
 use Rattle.wh_guesses.specs.declared.task.Guess.{Guess}

@@ -2,7 +2,7 @@
 
 ghost use Rattle.std.specs.Prelude.{◌≡◌, IfOk, OnOk, [], get_or, map, replicate, set};
 ghost use Rattle.wh_pairs.specs.PairData.{pair_data};
-ghost use Rattle.wh_subterm.specs.Marked.{AreMarked};
+ghost use Rattle.wh_pairs.specs.Marked.{AreMarked};
 ghost use Rattle.wh_ranges.specs.Bounds.{AreRanges, IsBound, IsSetTo, lists_in, lists_of};
 ghost use Rattle.wh_ranges.specs.Excluded.{coefficient_in};
 

@@ -2,7 +2,7 @@
 
 ghost use Rattle.std.specs.Prelude.{map};
 ghost use Rattle.wh_pairs.specs.PairData.{pair_data};
-ghost use Rattle.wh_subterm.specs.Marked.{AreMarked};
+ghost use Rattle.wh_pairs.specs.Marked.{AreMarked};
 ghost use Rattle.wh_guesses.specs.Tasks.{IsTaskOf};
 
 use crate::bounds::{Cut, End};

@@ -4,7 +4,7 @@ ghost use Rattle.std.specs.Bool.{OnTrue};
 ghost use Rattle.std.specs.Prelude.{ℕ, ◌≡◌, ◌<◌, IfOk, length, map, replicate};
 ghost use Rattle.wh_pairs.specs.PairData.{pair_data};
 ghost use Rattle.wh_system.specs.SystemView.{system_data};
-ghost use Rattle.wh_subterm.specs.Marked.{AreMarked};
+ghost use Rattle.wh_pairs.specs.Marked.{AreMarked};
 ghost use Rattle.wh_guesses.specs.Conditions.{HasNoInterpretation};
 ghost use Rattle.wh_guesses.specs.Tasks.{IsTaskOf};
 ghost use Rattle.wh_ranges.specs.Bounds.{AreRanges, lists_in};

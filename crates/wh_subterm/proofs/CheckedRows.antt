@@ -6,8 +6,9 @@ use Rattle.wh_pairs.specs.declared.pair.Pair as pair
 use Rattle.wh_subterm.specs.Projections.{Chosen}
 use Rattle.wh_subterm.specs.declared.projection.Choice as code
 use Rattle.wh_subterm.specs.declared.projection.SubtermFault.{SubtermFault}
-use Rattle.wh_subterm.specs.SubtermRows.{AreForMarked, IsPlace, IsBadDrop, IsDecreasing, IsFirstSubtermFault, IsProjection, chosen}
-use Rattle.wh_subterm.proofs.DropLemmas.{drops_some, drops_once, drops_within}
+use Rattle.wh_subterm.specs.SubtermRows.{AreForMarked, IsPlace, IsDecreasing, IsFirstSubtermFault, IsProjection, chosen}
+use Rattle.wh_pairs.specs.Drops.{IsBadDrop}
+use Rattle.wh_pairs.proofs.DropLemmas.{drops_some, drops_once, drops_within}
 
 abbrev pub Checked : List RewriteRule → List pair.Pair → List ℕ → List code.Choice → List ℕ → Result (Unit {0}) SubtermFault → Type 0
 Checked rules pairs set args drop r = MatchResult r (λ _. IsProjection rules (map pair_data pairs) set (map chosen args) drop) (IsFirstSubtermFault rules (map pair_data pairs) set (map chosen args) drop)

@@ -1,7 +1,6 @@
 pub mod PartLemmas
-pub mod SeenLemmas
 pub mod ChoiceLemmas
 pub mod ProjectionLemmas
-pub mod DropLemmas
 pub mod CheckedRows
-pub mod SymbolLemmas
+pub mod PartsDecided
+pub mod Projections

@@ -1,4 +1,3 @@
-pub mod Marked
 pub mod ProperParts
 pub mod Projections
 pub mod SubtermRows

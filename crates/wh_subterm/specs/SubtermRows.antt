@@ -3,7 +3,8 @@ use Rattle.std.specs.Prelude.{ℕ, ◌<◌, ◌≤◌, ◌≡◌, ◌≢◌, ◌
 use Rattle.wh_terms.specs.Rules.{RewriteRule}
 use Rattle.wh_system.specs.Needs.{need_of}
 use Rattle.wh_pairs.specs.PairData.{PairData}
-use Rattle.wh_subterm.specs.Marked.{AreMarked}
+use Rattle.wh_pairs.specs.Drops.{IsBadDrop}
+use Rattle.wh_pairs.specs.Marked.{AreMarked}
 use Rattle.wh_subterm.specs.Projections.{Chosen, Equal, Below}
 use Rattle.wh_subterm.specs.declared.projection.Choice as code
 use Rattle.wh_subterm.specs.declared.projection.SubtermFault.{SubtermFault}
@@ -27,18 +28,6 @@ HasNone rules c = need_of rules c.symbol ≡ Some 0
 -- the number is that of an argument which the rules of the symbol need
 abbrev pub IsPlace : List RewriteRule → Chosen → Type 0
 IsPlace rules c = (need : ℕ) × (need_of rules c.symbol ≡ Some need) × (0 < c.argument) × (c.argument ≤ need)
-
--- the number stands at two places of the list
-abbrev pub StandsTwice : List ℕ → ℕ → Type 0
-StandsTwice list n = (i j : ℕ) × (i < j) × (slice_get list i ≡ Some n) × (slice_get list j ≡ Some n)
-
--- some number of the list is not in the set
-abbrev pub HasStray : List ℕ → List ℕ → Type 0
-HasStray set drop = (n : ℕ) × Contains drop n × (Contains set n → ⊥)
-
--- the list is empty, has a number twice, or has one that is not in the set
-abbrev pub IsBadDrop : List ℕ → List ℕ → Type 0
-IsBadDrop set drop = (drop ≡ []) ⊎ ((n : ℕ) × StandsTwice drop n) ⊎ HasStray set drop
 
 -- the pair with the number is neither equal nor below, or it is dropped and not below
 abbrev pub IsNotDecreasing : List PairData → List Chosen → List ℕ → ℕ → Type 0

@@ -6,10 +6,9 @@ ghost use Rattle.wh_system.specs.SystemView.{system_data};
 ghost use Rattle.wh_subterm.specs.SubtermRows.{IsFirstSubtermFault, IsProjection, chosen};
 
 use crate::decrease::first_not_decreasing;
-use crate::dropped::is_bad_drop;
 use crate::marked::{are_for_marked, first_out_of_place, first_without_argument};
 use crate::projection::{Choice, Projection, SubtermFault};
-use wh_pairs::{Pair, PairList, PairSet};
+use wh_pairs::{Pair, PairList, PairSet, is_bad_drop};
 use wh_system::System;
 
 /// Whether a projection lets the pairs in `drop` go from the set (the subterm criterion of Kop 2012, in the form of this

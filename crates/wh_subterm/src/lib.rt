@@ -3,16 +3,14 @@
 
 mod check;
 mod decrease;
-mod dropped;
+mod laws;
 mod marked;
 mod parts;
 mod projection;
 mod relation;
-mod symbols;
 
 pub use check::check_projection;
 pub use decrease::is_below;
-pub use dropped::is_bad_drop;
+pub use laws::choices_are_a_projection_or_have_a_first_fault;
 pub use projection::{Choice, Projection, SubtermFault};
 pub use relation::{Relation, relation_at};
-pub use symbols::marked_symbols;

@@ -3,7 +3,7 @@
 ghost use Rattle.std.specs.Prelude.{◌≡◌, ◌≢◌, ◌↔◌, ◌<◌, ◌⊎◌, ℕ, All, Contains, IsTrue, MatchOption, length, map};
 ghost use Rattle.wh_pairs.specs.PairData.{IsIncreasing, pair_data};
 ghost use Rattle.wh_system.specs.SystemView.{system_data};
-ghost use Rattle.wh_subterm.specs.Marked.{HeadsASide, IsMarked};
+ghost use Rattle.wh_pairs.specs.Marked.{HeadsASide, IsMarked};
 ghost use Rattle.wh_subterm.specs.Projections.{Chosen};
 ghost use Rattle.wh_subterm.specs.SubtermRows.{AreForMarked, HasNone, IsFirstOf, IsPlace, NoneIs, chosen, chosen_symbols};
 

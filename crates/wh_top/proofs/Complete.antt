@@ -19,10 +19,10 @@ use Rattle.wh_answer.specs.declared.report.Role.TheVariants.{System, Certificate
 use Rattle.wh_answer.specs.declared.report.Report.{Report}
 use Rattle.wh_answer.specs.declared.report.Report.TheVariants.{Yes, No, Rejected, Maybe, Refused, ReadFault, TooLong, Overflow, TooLarge}
 use Rattle.wh_words.specs.Words.{Request, check, prove, show, gen, Asks}
-use Rattle.wh_top.specs.declared.status.Status.{Status}
+use Rattle.wh_judging.specs.declared.status.Status.{Status}
 use Rattle.wh_top.specs.Words.{options_of}
-use Rattle.wh_top.specs.Texts.{IsShown}
-use Rattle.wh_top.specs.Outcomes.{Shelves, ToldSystem, Judged, Checked, IsRefusedFor, StandsBySystem, Stands}
+use Rattle.wh_judging.specs.Texts.{IsShown}
+use Rattle.wh_judging.specs.Outcomes.{Shelves, ToldSystem, Judged, Checked, IsRefusedFor, StandsBySystem, Stands}
 use Rattle.wh_top.specs.Proving.{IsFoundText, IsNotFound, StandsForSearch}
 use Rattle.wh_top.specs.Generating.{StandsForGenerated}
 use Rattle.wh_top.specs.Complete.{HoldsSystem, IsComplete, IsRead}

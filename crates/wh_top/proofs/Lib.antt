@@ -2,8 +2,8 @@ pub mod Causes
 pub mod Meaning
 pub mod ProofText
 pub mod Searching
-pub mod Standing
 pub mod Asking
 pub mod Replying
 pub mod OneAnswer
+pub mod SomeAnswer
 pub mod Complete

@@ -15,21 +15,21 @@ use Rattle.wh_read.proofs.ProperParts.{system_read}
 use Rattle.wh_cert.specs.Written.{Cert, yes, no}
 use Rattle.wh_cert.specs.CertText.{CertText}
 use Rattle.wh_no.proofs.Valid.{valid-unbounded}
-use Rattle.wh_checker.specs.Valid.{IsValidCert}
+use Rattle.wh_proof.specs.Valid.{IsValidCert}
 use Rattle.wh_checker.proofs.Bounded.{valid_yes-bounded}
 use Rattle.wh_prover.specs.Answers as proofs
-use Rattle.wh_top.specs.declared.status.Status.{Status}
+use Rattle.wh_judging.specs.declared.status.Status.{Status}
 use Rattle.wh_answer.specs.Texts.{report_text}
 use Rattle.wh_answer.specs.declared.report.Report.{Report}
 use Rattle.wh_answer.specs.declared.report.Report.TheVariants.{Yes, No, Rejected, Maybe, Refused, BadWords, ReadFault, OutOfMemory, TooLong, Overflow, TooLarge}
 use Rattle.wh_words.specs.Words.{Bounds, Request, check, prove, show, gen, Asks}
 use Rattle.wh_top.specs.Words.{AsksWhether, options_of}
-use Rattle.wh_top.specs.Outcomes.{Shelves, Told, IsYes, IsNo, BeginsWith, Checked, Stands, StandsBySystem}
+use Rattle.wh_judging.specs.Outcomes.{Shelves, Told, IsYes, IsNo, BeginsWith, Checked, Stands, StandsBySystem}
 use Rattle.wh_prover.specs.declared.answer.Options.{Options}
 use Rattle.wh_prover.proofs.LoopLemmas.{loop_is_valid}
 use Rattle.wh_top.specs.Proving.{IsFoundText, ShowsFound, StandsForSearch}
 use Rattle.wh_top.specs.Generating.{StandsForGenerated}
-use Rattle.wh_top.specs.Texts.{Tells}
+use Rattle.wh_judging.specs.Texts.{Tells}
 use Rattle.wh_top.specs.Run.{Answers, EndsWith, MeansYes, MeansNo, Replies, SaysNo}
 
 -- a system that is read and has a valid YES certificate
@@ -211,4 +211,4 @@ non_termination s words status text old new f g result answers ends before outpu
     by more begun back cut (inl (file, cert, asks, stands)) =
         inl (file, cert, asks, λ system held certificate certified. by_system cert system certificate certified (stands system held))
     by more begun back cut (inr (file, b, asks, shows)) =
-        inr (file, b, text, asks, (back, cut), λ system held. by_found (options_of b) system more begun (shows.found system held))
+        inr (file, b, text, asks, subst (λ k. ShowsFound s file (options_of b) k text) shows.status_is shows, (back, cut), λ system held. by_found (options_of b) system more begun (shows.found system held))

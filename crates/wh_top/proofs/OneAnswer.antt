@@ -5,10 +5,9 @@ use Rattle.wh_pairs.specs.PairData.{PairData}
 use Rattle.wh_system.specs.WellMade.{IsWellMadeSystem}
 use Rattle.wh_cert.specs.Written.{Cert, yes, no}
 use Rattle.wh_cert.specs.CertText.{CertText, FaultAt}
-use Rattle.wh_cert.proofs.Whole.{one_certificate, one_place}
-use Rattle.wh_covering.specs.CoveringFaults.{with_limits}
-use Rattle.wh_checker.specs.Valid.{IsValidCert}
-use Rattle.wh_checker.specs.Small.{IsSmallCert}
+use Rattle.wh_cert_text.proofs.Whole.{one_certificate, one_place}
+use Rattle.wh_polycheck.specs.Small.{with_limits}
+use Rattle.wh_proof.specs.Valid.{IsValidCert, IsSmallCert}
 use Rattle.wh_checker.specs.Faults.{AreAlike, IsFirstFault}
 use Rattle.wh_checker.specs.declared.rejected.CheckFault.{CheckFault}
 use Rattle.wh_checker.specs.declared.rejected.CheckFault.TheVariants as check
@@ -16,8 +15,8 @@ use Rattle.wh_checker.proofs.FaultLaws.{first_fault_one, small_or_fault}
 use Rattle.wh_answer.specs.declared.report.NamedRejection.TheVariants.{Syntax}
 use Rattle.wh_answer.specs.declared.report.Report.{Report}
 use Rattle.wh_answer.specs.declared.report.Report.TheVariants.{Yes, No, Rejected, Overflow, TooLarge}
-use Rattle.wh_top.specs.Outcomes.{Weighed, Judged}
-use Rattle.wh_top.specs.Rows.{named_row}
+use Rattle.wh_judging.specs.Outcomes.{Weighed, Judged}
+use Rattle.wh_judging.specs.Rows.{named_row}
 use Rattle.wh_top.specs.Complete.{AreOneAnswer}
 
 -- the answer to a certificate that is valid and small, and the answer to a fault

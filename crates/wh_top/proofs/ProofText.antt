@@ -19,7 +19,7 @@ use Rattle.wh_prover.specs.declared.answer.Options.{Options}
 use Rattle.wh_answer.specs.declared.report.Role.TheVariants.{Output}
 use Rattle.wh_answer.specs.declared.report.Report.{Report}
 use Rattle.wh_answer.specs.declared.report.Report.TheVariants.{TooLong}
-use Rattle.wh_top.specs.Outcomes.{BeginsWith}
+use Rattle.wh_judging.specs.Outcomes.{BeginsWith}
 use Rattle.wh_top.specs.Proving.{IsFoundText, IsNotFound, IsTextOf}
 
 -- it begins with the word, and with the number of the version

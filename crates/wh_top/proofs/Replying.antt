@@ -8,10 +8,10 @@ use Rattle.wh_words.specs.Words.{Bounds, prove, show, gen}
 use Rattle.wh_answer.specs.declared.report.Report.{Report}
 use Rattle.wh_answer.specs.Texts.{line}
 use Rattle.wh_prover.specs.declared.answer.Options.{Options}
-use Rattle.wh_top.specs.declared.status.Status.{Status}
-use Rattle.wh_top.specs.declared.status.Status.TheVariants.{Answered}
-use Rattle.wh_top.specs.Outcomes.{Shelves, BeginsWith, ToldSystem, StandsBySystem}
-use Rattle.wh_top.specs.Texts.{IsShown, TellsMade}
+use Rattle.wh_judging.specs.declared.status.Status.{Status}
+use Rattle.wh_judging.specs.declared.status.Status.TheVariants.{Answered}
+use Rattle.wh_judging.specs.Outcomes.{Shelves, BeginsWith, ToldSystem, StandsBySystem}
+use Rattle.wh_judging.specs.Texts.{IsShown, TellsMade}
 use Rattle.wh_top.specs.Generating.{ShowsGenerated, StandsForGenerated}
 use Rattle.wh_top.specs.Proving.{IsFoundText, StandsForSearch}
 use Rattle.wh_top.specs.Run.{Replies}

@@ -9,9 +9,9 @@ use Rattle.wh_answer.specs.declared.report.Role.TheVariants.{Output}
 use Rattle.wh_answer.specs.declared.report.Report.{Report}
 use Rattle.wh_answer.specs.declared.report.Report.TheVariants.{Maybe, TooLong}
 use Rattle.wh_prover.specs.declared.answer.Options.{Options}
-use Rattle.wh_top.specs.Outcomes.{Shelves, IsProblemIn, ToldSystem}
+use Rattle.wh_judging.specs.Outcomes.{Shelves, IsProblemIn, ToldSystem}
 use Rattle.wh_top.specs.Proving.{IsFoundText, IsNotFound, StandsForSearch}
-use Rattle.wh_top.proofs.Standing.{told_with}
+use Rattle.wh_judging.proofs.Standing.{told_with}
 
 -- why nothing was found for the system in the file
 not_found_stands : (s : Shelves) (file : List ℕ) (o : Options) (d : SystemData) (ps : List PairData) (r : Report)

@@ -9,11 +9,11 @@ use Rattle.wh_read.specs.Reading.{Reads}
 use Rattle.wh_answer.specs.declared.report.Report.{Report}
 use Rattle.wh_answer.specs.declared.report.Report.TheVariants.{Yes, No, Overflow, TooLarge}
 use Rattle.wh_words.specs.Words.{Bounds, Request, check, prove, show, gen}
-use Rattle.wh_top.specs.declared.status.Status.{Status}
-use Rattle.wh_top.specs.declared.status.Status.TheVariants.{Answered}
+use Rattle.wh_judging.specs.declared.status.Status.{Status}
+use Rattle.wh_judging.specs.declared.status.Status.TheVariants.{Answered}
 use Rattle.wh_top.specs.Words.{options_of}
-use Rattle.wh_top.specs.Texts.{status_of, shown_text, Tells}
-use Rattle.wh_top.specs.Outcomes.{Shelves, Judged}
+use Rattle.wh_judging.specs.Texts.{status_of, shown_text, Tells}
+use Rattle.wh_judging.specs.Outcomes.{Shelves, Judged}
 use Rattle.wh_top.specs.Proving.{IsNotFound}
 
 -- the file was read without a fault, and these are its bytes, within the limit

@@ -1,10 +1,7 @@
-pub mod Status
 pub mod Words
-pub mod Outcomes
-pub mod Unread
-pub mod Rows
-pub mod Texts
+pub mod Causes
 pub mod Proving
 pub mod Generating
 pub mod Complete
 pub mod Run
+pub mod Laws

@@ -16,10 +16,10 @@ use Rattle.wh_checker.specs.Named.{HasMeta}
 use Rattle.wh_answer.specs.declared.report.Role.TheVariants.{Output}
 use Rattle.wh_answer.specs.declared.report.Report.{Report}
 use Rattle.wh_answer.specs.declared.report.Report.TheVariants.{Maybe, TooLong}
-use Rattle.wh_top.specs.declared.status.Status.{Status}
-use Rattle.wh_top.specs.declared.status.Status.TheVariants.{Answered}
-use Rattle.wh_top.specs.Rows.{named_cause}
-use Rattle.wh_top.specs.Outcomes.{Shelves, BeginsWith, ToldSystem, StandsBySystem}
+use Rattle.wh_judging.specs.declared.status.Status.{Status}
+use Rattle.wh_judging.specs.declared.status.Status.TheVariants.{Answered}
+use Rattle.wh_top.specs.Causes.{named_cause}
+use Rattle.wh_judging.specs.Outcomes.{Shelves, BeginsWith, ToldSystem, StandsBySystem}
 
 -- the text is that of a certificate that proves termination
 abbrev pub IsProofText : SystemData → List PairData → List ℕ → Type 0

@@ -11,15 +11,15 @@ use Rattle.wh_cert.specs.Written.{Cert}
 use Rattle.wh_cert.specs.CertText.{CertText}
 use Rattle.wh_no.specs.Claim.{Claim}
 use Rattle.wh_no.specs.Meaning.{Says}
-use Rattle.wh_top.specs.declared.status.Status.{Status}
-use Rattle.wh_top.specs.declared.status.Status.TheVariants.{Answered, BadWords, NoMemory, WriteFault}
+use Rattle.wh_judging.specs.declared.status.Status.{Status}
+use Rattle.wh_judging.specs.declared.status.Status.TheVariants.{Answered, BadWords, NoMemory, WriteFault}
 use Rattle.wh_answer.specs.declared.report.Report.{Report}
 use Rattle.wh_answer.specs.declared.report.Report.TheVariants as answer
 use Rattle.wh_answer.specs.Texts.{line, report_text}
 use Rattle.wh_words.specs.Words.{Bounds, Request, check, prove, show, gen, Asks}
 use Rattle.wh_top.specs.Words.{options_of}
-use Rattle.wh_top.specs.Texts.{IsShown, Tells}
-use Rattle.wh_top.specs.Outcomes.{Shelves, BeginsWith, Told, ToldSystem, StandsBySystem, Stands}
+use Rattle.wh_judging.specs.Texts.{IsShown, Tells}
+use Rattle.wh_judging.specs.Outcomes.{Shelves, BeginsWith, Told, ToldSystem, StandsBySystem, Stands}
 use Rattle.wh_top.specs.Proving.{ShowsFound, StandsForSearch}
 use Rattle.wh_top.specs.Generating.{ShowsGenerated, StandsForGenerated}
 use Rattle.wh_top.specs.Complete.{IsComplete}
@@ -89,10 +89,10 @@ pub record MeansNo (system cert : List ℕ) : Type 0 where
   pub unbounded : Unbounded data_read.rules claim.term
 
 -- what an output that begins with NO says, of these words: it answers a check, and means what NO means of the two files; or it is the
--- front part of a certificate that answers a search, and means that of the file and of the certificate
+-- front part of the text that answers a search, and means that of the file and of this text
 abbrev pub SaysNo : Shelves → List (List ℕ) → List ℕ → Type 0
 SaysNo s words output =
     ((file cert : List ℕ) × Asks words (check file cert)
     × Told (s.held file) (λ system. Told (s.held cert) (λ certificate. MeansNo system certificate)))
-    ⊎ ((file : List ℕ) × (b : Bounds) × (text : List ℕ) × Asks words (prove file b) × BeginsWith output text
-    × Told (s.held file) (λ system. MeansNo system text))
+    ⊎ ((file : List ℕ) × (b : Bounds) × (text : List ℕ) × Asks words (prove file b)
+    × ShowsFound s file (options_of b) Answered text × BeginsWith output text × Told (s.held file) (λ system. MeansNo system text))

@@ -1,12 +1,14 @@
-//! The law of answers, the contract of a function that does nothing.
+//! The laws of answers, each the contract of a function that does nothing.
 
-ghost use Rattle.std.specs.Prelude.{ℕ, List};
+ghost use Rattle.wh_top.specs.Laws.{LoopsAreAccepted, ProofsAreAccepted};
+ghost use Rattle.std.specs.Prelude.{◌≤◌, ℕ, List, length};
+ghost use Rattle.wh_types.specs.Limits.{certificate_limit};
 ghost use Rattle.wh_answer.specs.declared.report.Report.{Report};
 ghost use Rattle.wh_pairs.specs.PairData.{PairData};
 ghost use Rattle.wh_system.specs.Systems.{SystemData};
 ghost use Rattle.wh_system.specs.WellMade.{IsWellMadeSystem};
 ghost use Rattle.wh_top.specs.Complete.{AreOneAnswer};
-ghost use Rattle.wh_top.specs.Outcomes.{Judged};
+ghost use Rattle.wh_judging.specs.Outcomes.{Judged};
 
 /// The bytes of a certificate come to one answer, but that values may exceed both limits in one node. So a check answers `YES`
 /// exactly where the bytes are the text of a valid certificate of termination in which no value exceeds a limit, and `NO` exactly where
@@ -14,4 +16,22 @@ ghost use Rattle.wh_top.specs.Outcomes.{Judged};
 pub fn checks_have_one_answer()
     ensures { (d : SystemData) (ps : List PairData) (bytes : List ℕ) (a b : Report) → IsWellMadeSystem d
         → Judged d ps bytes a → Judged d ps bytes b → AreOneAnswer a b }
+{}
+
+/// The bytes of a certificate within the limit come to an answer. So the answer to a check is this one, but that values may exceed both
+/// limits in one node.
+pub fn each_check_has_an_answer()
+    ensures { (d : SystemData) (ps : List PairData) (bytes : List ℕ) → IsWellMadeSystem d → length bytes ≤ certificate_limit
+        → (o : Report) × Judged d ps bytes o }
+{}
+
+/// The text of a proof is that of no other certificate, and the certificate has no fault: so the check, given the text, accepts.
+pub fn proofs_are_accepted()
+    ensures { ProofsAreAccepted }
+{}
+
+/// The text of a loop's certificate is that of no other certificate, and the certificate has no fault: so the check, given the text,
+/// accepts.
+pub fn loops_are_accepted()
+    ensures { LoopsAreAccepted }
 {}

@@ -1,16 +1,14 @@
 //! The program's one call: words in, one text and a status out.
 #![tactic(auto)]
 
-mod files;
 mod generating;
-mod judging;
 mod laws;
 mod program;
 mod proving;
-mod rejection;
-mod status;
 
-pub use laws::checks_have_one_answer;
+pub use laws::{
+    checks_have_one_answer, each_check_has_an_answer, loops_are_accepted, proofs_are_accepted,
+};
 pub use program::{report_no_memory, run};
-pub use status::Status;
+pub use wh_judging::Status;
 pub use wh_words::{Command, read_words};

@@ -4,15 +4,16 @@ use Rattle.wh_system.specs.SystemView.{system_data}
 use Rattle.wh_pairs.specs.PairData.{pair_data}
 use Rattle.wh_pairs.specs.declared.pair.Pair.{Pair}
 use Rattle.wh_pairs.specs.Views.{pairs_data}
-use Rattle.wh_nodes.specs.Nodes.{IsSetOf}
+use Rattle.wh_pairs.specs.Sets.{IsSetOf}
 use Rattle.wh_cert.specs.Said.{said_node}
 use Rattle.wh_cert.specs.declared.certificate.Node.{Node}
-use Rattle.wh_covering.specs.CoveringFaults.{with_limits}
+use Rattle.wh_polycheck.specs.Small.{with_limits}
 use Rattle.wh_checker.specs.Faults.{IsFirstYesFault, pair_count}
-use Rattle.wh_checker.specs.Walk.{IsPassingUnder, AreProvedBy}
+use Rattle.wh_checker.specs.Walk.{IsPassingUnder}
+use Rattle.wh_proof.specs.GoesOn.{AreProvedBy}
 use Rattle.wh_checker.specs.declared.rejected.CheckFault.TheVariants as check
 use Rattle.wh_checker.specs.declared.rejected.Rejected.TheVariants.{PairCount}
-use Rattle.wh_checker.proofs.SetLemmas.{all_from_members}
+use Rattle.wh_pairs.proofs.SetLemmas.{all_from_members}
 use Rattle.wh_checker.proofs.YesLemmas.{passed_on, HasRankFault, rank_fault, valid_yes, small_yes, FaultInNodes, node_fault, ok_weaker, cause_weaker}
 use Rattle.wh_checker.proofs.checking.check_yes.Goals as goal
 

@@ -4,12 +4,14 @@ use Rattle.wh_pairs.specs.declared.pair.Pair.{Pair}
 use Rattle.wh_pairs.specs.Views.{pairs_data}
 use Rattle.wh_graph.specs.Blocks.{AreBlocks}
 use Rattle.wh_graph.specs.May.{Follows}
-use Rattle.wh_nodes.specs.Nodes.{AreSetsOf}
+use Rattle.wh_proof.specs.Nodes.{AreSetsOf}
 use Rattle.wh_cert.specs.Said.{said_arg, said_node}
 use Rattle.wh_cert.specs.declared.certificate.Node.{Node}
 use Rattle.wh_cert.specs.declared.certificate.Arg.{Arg}
-use Rattle.wh_checker.specs.Walk.{GoesOn, IsSingle, IsReduced}
-use Rattle.wh_checker.proofs.GoLemmas.{ok_then, goes_done, goes_alone, goes_blocks, goes_subterm, reverse_push}
+use Rattle.wh_checker.specs.Walk.{IsSingle, IsReduced}
+use Rattle.wh_proof.specs.GoesOn.{GoesOn}
+use Rattle.wh_checker.proofs.GoLemmas.{ok_then, goes_done, goes_alone, goes_blocks, goes_subterm}
+use Rattle.wh_proof.proofs.BlockLemmas.{reverse_push}
 use Rattle.wh_checker.proofs.node.check_node.Goals as goal
 
 pub returns-in-Done-clause-proved : goal.returns-in-Done-clause-proved

@@ -1,16 +1,17 @@
 use Rattle.std.proofs.Common.{[], ◌∷◌, ℕ, List, map, sym, subst}
 use Rattle.wh_system.specs.SystemView.{system_data}
 use Rattle.wh_pairs.specs.Views.{pairs_data}
-use Rattle.wh_subterm.specs.Marked.{AreMarked}
+use Rattle.wh_pairs.specs.Marked.{AreMarked}
 use Rattle.wh_cert.specs.Said.{said_interp}
 use Rattle.wh_cert.specs.Written as w
 use Rattle.wh_hopoly.specs.Erase.{interpretations, transfers}
 use Rattle.wh_polycheck.specs.SideResults.{marks_of}
-use Rattle.wh_covering.specs.CoveringFaults.{with_limits, IsFirstCoveringFault}
+use Rattle.wh_covering.specs.CoveringFaults.{IsFirstCoveringFault}
+use Rattle.wh_polycheck.specs.Small.{with_limits}
 use Rattle.wh_covering.specs.declared.fault.CoveringFault.{CoveringFault}
-use Rattle.wh_checker.specs.Walk.{GoesOn}
+use Rattle.wh_proof.specs.GoesOn.{GoesOn}
 use Rattle.wh_checker.proofs.GoLemmas.{because_says, goes_poly}
-use Rattle.wh_checker.proofs.InterpretationLemmas.{kinds_said, numbers_of}
+use Rattle.wh_proof.proofs.InterpretationLemmas.{kinds_said, numbers_of}
 use Rattle.wh_checker.proofs.node.covered_by.Goals as goal
 
 pub check_covering-requires-clause-kinds : goal.check_covering-requires-clause-kinds

@@ -3,11 +3,12 @@ use Rattle.wh_types.specs.Outcome.{IfBecause, MatchOr}
 use Rattle.wh_system.specs.SystemView.{system_data}
 use Rattle.wh_pairs.specs.PairData.{pair_data}
 use Rattle.wh_pairs.specs.declared.pair.Pair.{Pair}
-use Rattle.wh_subterm.specs.Marked.{AreMarked}
+use Rattle.wh_pairs.specs.Marked.{AreMarked}
 use Rattle.wh_hopoly.specs.Erase.{interpretations, transfers}
 use Rattle.wh_polycheck.specs.SideResults.{marks_of}
-use Rattle.wh_meaning.specs.Covering.{IsCovering}
-use Rattle.wh_covering.specs.CoveringFaults.{IsFirstCoveringFault, IsReady, IsSmall, with_limits}
+use Rattle.wh_polycheck.specs.Covering.{IsCovering}
+use Rattle.wh_covering.specs.CoveringFaults.{IsFirstCoveringFault, IsReady}
+use Rattle.wh_polycheck.specs.Small.{IsSmall, with_limits}
 use Rattle.wh_covering.proofs.LineLemmas.{handed_on}
 use Rattle.wh_covering.proofs.Walks.{of_equals, kinds_are, marks_are}
 use Rattle.wh_covering.proofs.CoverWalk.{ok_both, covering_holds, small_holds, set_sides}

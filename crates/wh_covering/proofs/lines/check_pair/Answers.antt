@@ -3,7 +3,7 @@ use Rattle.wh_system.specs.SystemView.{system_data}
 use Rattle.wh_pairs.specs.PairData.{pair_data}
 use Rattle.wh_hopoly.specs.Erase.{interpretations, poly, transfers}
 use Rattle.wh_polycheck.specs.SideResults.{marks_of}
-use Rattle.wh_meaning.specs.Covering.{pair_run}
+use Rattle.wh_polycheck.specs.Covering.{pair_run}
 use Rattle.wh_covering.proofs.LineLemmas.{left_exceeds, right_exceeds}
 use Rattle.wh_covering.proofs.lines.check_pair.Goals as goal
 

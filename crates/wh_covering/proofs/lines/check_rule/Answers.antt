@@ -2,7 +2,7 @@ use Rattle.std.proofs.Common.{true, false}
 use Rattle.wh_system.specs.SystemView.{system_data}
 use Rattle.wh_covering.proofs.Walks.{some_at}
 use Rattle.wh_hopoly.specs.Erase.{interpretations, poly, transfers}
-use Rattle.wh_meaning.specs.Covering.{rule_run}
+use Rattle.wh_polycheck.specs.Covering.{rule_run}
 use Rattle.wh_covering.proofs.LineLemmas.{left_exceeds, right_exceeds}
 use Rattle.wh_covering.proofs.lines.check_rule.Goals as goal
 

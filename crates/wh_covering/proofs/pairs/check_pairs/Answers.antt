@@ -4,8 +4,9 @@ use Rattle.wh_pairs.specs.PairData.{pair_data}
 use Rattle.wh_pairs.proofs.ByPlace.{read_map, map_length, number_at, contains_number}
 use Rattle.wh_hopoly.specs.Erase.{interpretations, transfers}
 use Rattle.wh_polycheck.specs.SideResults.{marks_of}
-use Rattle.wh_meaning.specs.Covering.{pair_run}
-use Rattle.wh_covering.specs.CoveringFaults.{IsFirstLineFault, IsRightLine, IsRightPair, with_limits}
+use Rattle.wh_polycheck.specs.Covering.{pair_run}
+use Rattle.wh_covering.specs.CoveringFaults.{IsFirstLineFault, IsRightLine, IsRightPair}
+use Rattle.wh_polycheck.specs.Small.{with_limits}
 use Rattle.wh_covering.specs.Lines.{IsFirstPairFault}
 use Rattle.wh_covering.specs.declared.fault.CoveringFault.TheVariants.{Pair}
 use Rattle.wh_covering.proofs.LineLemmas.{told_of}

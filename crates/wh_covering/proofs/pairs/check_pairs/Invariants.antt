@@ -3,7 +3,8 @@ use Rattle.wh_pairs.specs.PairData.{pair_data}
 use Rattle.wh_system.specs.SystemView.{system_data}
 use Rattle.wh_hopoly.specs.Erase.{interpretations, transfers}
 use Rattle.wh_polycheck.specs.SideResults.{marks_of}
-use Rattle.wh_covering.specs.CoveringFaults.{IsRightPair, with_limits}
+use Rattle.wh_covering.specs.CoveringFaults.{IsRightPair}
+use Rattle.wh_polycheck.specs.Small.{with_limits}
 use Rattle.wh_covering.proofs.pairs.check_pairs.Given as goal
 
 abbrev pub invariant-loop-i : goal.invariant-loop-i

@@ -2,8 +2,9 @@ use Rattle.std.proofs.Common.{true, false, map, sym, subst, arith}
 use Rattle.wh_system.specs.SystemView.{system_data}
 use Rattle.wh_pairs.proofs.ByPlace.{read_map, map_length}
 use Rattle.wh_hopoly.specs.Erase.{interpretations, transfers}
-use Rattle.wh_meaning.specs.Covering.{rule_run}
-use Rattle.wh_covering.specs.CoveringFaults.{IsFirstLineFault, IsRightLine, IsRightRule, with_limits}
+use Rattle.wh_polycheck.specs.Covering.{rule_run}
+use Rattle.wh_covering.specs.CoveringFaults.{IsFirstLineFault, IsRightLine, IsRightRule}
+use Rattle.wh_polycheck.specs.Small.{with_limits}
 use Rattle.wh_covering.specs.Lines.{IsFirstRuleFault}
 use Rattle.wh_covering.specs.declared.fault.CoveringFault.TheVariants.{Rule}
 use Rattle.wh_covering.proofs.LineLemmas.{told_of}

@@ -2,7 +2,7 @@ use Rattle.std.proofs.Common.{ℕ, List, map, sym, subst}
 use Rattle.wh_pairs.specs.PairData.{pair_data}
 use Rattle.wh_system.specs.SystemView.{system_data}
 use Rattle.wh_pairs.specs.declared.pair.Pair.{Pair}
-use Rattle.wh_meaning.specs.Covering.{HaveTypedSides}
+use Rattle.wh_polycheck.specs.Covering.{HaveTypedSides}
 use Rattle.wh_meaning.proofs.PairSides.{pair_sides}
 use Rattle.wh_guesses.specs.Guesses.{IsTask}
 use Rattle.wh_guesses.proofs.GuessLemmas.{task_of}

@@ -5,7 +5,7 @@ use Rattle.wh_system.specs.SystemView.{system_data}
 use Rattle.wh_pairs.specs.declared.pair.Pair as code
 use Rattle.wh_sat.specs.Outcomes.{IsOutcome}
 use Rattle.wh_sat.specs.Solving.{Solves}
-use Rattle.wh_subterm.specs.Marked.{AreMarked}
+use Rattle.wh_pairs.specs.Marked.{AreMarked}
 use Rattle.wh_subterm.specs.SubtermRows.{chosen}
 use Rattle.wh_find_subterm.specs.declared.rows.Row.{Row}
 use Rattle.wh_find_subterm.specs.Formula.{IsFormula}
@@ -100,7 +100,8 @@ returns-in-Sat c =
     subst (λ (qs : List code.Pair). IsBelowSet (map pair_data qs) set args (length set) drop) c.as_slice-in-Sat.ensures
     (subst (λ (ns : List ℕ). IsBelowSet (map pair_data c.as_slice-in-Sat.result.now) ns args (length ns) drop) c.as_slice-in-Sat-2.ensures.numbers c.in_ok-found-in-Sat.ensures.drop) in
     let v = λ (x : ℕ). get_or c.deref-in-Sat.result.now x false in
-    found_answer ps set n clauses v args drop within rows marked formula solves (c.in_ok-found-in-Sat.ensures.args ∙ ap (chosen_by v) c.deref-in-Sat-2.ensures.value) gathered
+    let answer = found_answer ps set n clauses v args drop within rows marked formula solves (c.in_ok-found-in-Sat.ensures.args ∙ ap (chosen_by v) c.deref-in-Sat-2.ensures.value) gathered in
+    (outcome.0, answer.0, answer.1)
 
 pub returns-in-Unsat : goal.returns-in-Unsat
 returns-in-Unsat c =
@@ -118,4 +119,4 @@ returns-in-Unsat c =
     (subst (λ (ns : List ℕ). IsFormula items end (map pair_data c.as_slice.result.now) ns n clauses) c.as_slice-2.ensures.numbers c.in_ok-formula.ensures.formula) in
     let outcome = subst (IsOutcome n clauses c.args.budget) c.in-Unsat.is c.in_ok-values.ensures in
     let within = subst (λ (m : ℕ). All (λ (k : ℕ). k < m) set) (sym (length-map c.args.pairs.now pair_data)) c.requires.set in
-    nothing_answer rules ps set n clauses within (projections_made ps set n clauses rows marked formula) outcome.1
+    (outcome.0, nothing_answer rules ps set n clauses within (projections_made ps set n clauses rows marked formula) outcome.1)

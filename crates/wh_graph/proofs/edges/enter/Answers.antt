@@ -1,6 +1,7 @@
 use Rattle.std.proofs.Common.{◌≡◌, inl, inr, ◌<◌, ℕ, List, [], ◌∷◌, ◌++◌, length, get_or, Some, slice_get, sym, ap, ◌∙◌, arith}
 use Rattle.wh_pairs.proofs.ByPlace.{number_at, contains_number}
-use Rattle.wh_graph.proofs.GraphLemmas.{entered_none, entered_more, before_all, row_at}
+use Rattle.wh_graph.proofs.GraphLemmas.{entered_none, entered_more, row_at}
+use Rattle.wh_pairs.proofs.PlacesBefore.{before_all}
 use Rattle.wh_graph.proofs.edges.enter.Goals as goal
 
 pub loop-target-init : goal.loop-target-init

@@ -3,7 +3,7 @@ use Rattle.wh_pairs.specs.PairData.{pair_data}
 use Rattle.wh_system.specs.SystemView.{system_data}
 use Rattle.wh_hopoly.specs.Erase.{interpretations, poly}
 use Rattle.wh_polycheck.specs.SideResults.{marks_of}
-use Rattle.wh_meaning.specs.Covering.{pair_run}
+use Rattle.wh_polycheck.specs.Covering.{pair_run}
 use Rattle.wh_covering.specs.Lines.{IsSide}
 use Rattle.wh_guesses.specs.Lines.{HasNoSide}
 use Rattle.wh_guesses.proofs.LineLemmas.{matched_some}

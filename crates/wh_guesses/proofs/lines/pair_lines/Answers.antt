@@ -2,7 +2,7 @@ use Rattle.std.proofs.Common.{◌≡◌, ◌+◌, ℕ, List, true, false, map, l
 use Rattle.std.proofs.lemmas.List.{length-map}
 use Rattle.wh_hopoly.specs.Erase.{interpretations}
 use Rattle.wh_polycheck.specs.SideResults.{marks_of}
-use Rattle.wh_meaning.specs.Covering.{pair_run}
+use Rattle.wh_polycheck.specs.Covering.{pair_run}
 use Rattle.wh_pairs.proofs.ByPlace.{read_map, number_at, contains_number}
 use Rattle.wh_guesses.specs.Lines.{IsNotMet, IsPairLine}
 use Rattle.wh_guesses.proofs.LineLemmas.{matched_some, matched_none, HasPairLines, pair_kept, pair_dropped, pair_lines_all}

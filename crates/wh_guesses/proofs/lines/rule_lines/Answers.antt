@@ -3,7 +3,7 @@ use Rattle.std.proofs.lemmas.List.{length-map}
 use Rattle.wh_terms.specs.Erase.{rewrite_rule}
 use Rattle.wh_system.specs.SystemView.{system_data}
 use Rattle.wh_hopoly.specs.Erase.{interpretations, transfers}
-use Rattle.wh_meaning.specs.Covering.{rule_run}
+use Rattle.wh_polycheck.specs.Covering.{rule_run}
 use Rattle.wh_covering.proofs.Walks.{some_at}
 use Rattle.wh_guesses.specs.Lines.{IsLine, IsNotMet}
 use Rattle.wh_guesses.proofs.LineLemmas.{matched_some, matched_none, rule_lines_more, rule_lines_all}

@@ -7,7 +7,7 @@ use Rattle.wh_polycheck.specs.declared.marks.MarkedSymbol.{MarkedSymbol}
 use Rattle.wh_cert.specs.Said.{said_interp, said_poly}
 use Rattle.wh_cert.specs.declared.poly_node.Interp.{Interp}
 use Rattle.wh_cert.specs.declared.poly_node.PolyNode.{PolyNode}
-use Rattle.wh_checker.proofs.InterpretationLemmas.{symbols_read, marks_read}
+use Rattle.wh_proof.proofs.InterpretationLemmas.{symbols_read, marks_read}
 use Rattle.wh_guesses.specs.Found.{IsInterpretation}
 use Rattle.wh_guesses.proofs.NodeLemmas.{interpretation_found}
 use Rattle.wh_guesses.proofs.node.node_with.Goals as goal

@@ -1,6 +1,6 @@
 use Rattle.std.proofs.Common.{true, false, rules}
 use Rattle.wh_hopoly.specs.Erase.{interpretations, transfers}
-use Rattle.wh_meaning.specs.Covering.{rule_run}
+use Rattle.wh_polycheck.specs.Covering.{rule_run}
 use Rattle.wh_guesses.specs.Lines.{IsLine, IsNotMet}
 use Rattle.wh_guesses.proofs.LineLemmas.{told_missing}
 use Rattle.wh_guesses.proofs.testing.rule_fails.Goals as goal

@@ -9,7 +9,7 @@ use Rattle.wh_hopoly.specs.Erase.{interpretations, poly}
 use Rattle.wh_hopoly.specs.declared.expression.Symbol.{Symbol}
 use Rattle.wh_polycheck.specs.SideResults.{marks_of}
 use Rattle.wh_polycheck.specs.declared.marks.MarkedSymbol.{MarkedSymbol}
-use Rattle.wh_meaning.specs.Covering.{pair_run}
+use Rattle.wh_polycheck.specs.Covering.{pair_run}
 use Rattle.wh_covering.specs.Lines.{IsSide}
 use Rattle.wh_guesses.specs.Lines.{HasNoSide}
 use Rattle.wh_guesses.proofs.LineLemmas.{matched_some}

@@ -1,7 +1,7 @@
 use Rattle.std.proofs.Common.{◌∙◌, true, false, length, ap}
 use Rattle.wh_system.specs.SystemView.{system_data}
 use Rattle.wh_hopoly.specs.Erase.{interpretations, poly}
-use Rattle.wh_meaning.specs.Covering.{rule_run}
+use Rattle.wh_polycheck.specs.Covering.{rule_run}
 use Rattle.wh_covering.specs.Lines.{IsSide}
 use Rattle.wh_guesses.specs.Lines.{HasNoSide}
 use Rattle.wh_guesses.proofs.LineLemmas.{matched_some}

@@ -1,6 +1,6 @@
 use Rattle.std.proofs.Common.{ℕ, map, get_or, Contains, refl, subst}
 use Rattle.wh_pairs.specs.PairData.{pair_data}
-use Rattle.wh_subterm.specs.Marked.{Heads, HeadsASide}
+use Rattle.wh_pairs.specs.Marked.{Heads, HeadsASide}
 use Rattle.wh_subterm.specs.SubtermRows.{chosen, chosen_symbols}
 use Rattle.wh_pairs.proofs.ByPlace.{some_one, read_map, number_at, contains_number, before_more, before_all}
 use Rattle.wh_subterm.proofs.marked.all_chosen.Goals as goal

@@ -1,6 +1,6 @@
 use Rattle.std.proofs.Common.{map, ℕ, Contains}
 use Rattle.wh_pairs.specs.PairData.{pair_data}
-use Rattle.wh_subterm.specs.Marked.{Heads}
+use Rattle.wh_pairs.specs.Marked.{Heads}
 use Rattle.wh_subterm.specs.SubtermRows.{chosen, chosen_symbols}
 use Rattle.wh_pairs.proofs.ByPlace.{Before}
 use Rattle.wh_subterm.proofs.marked.all_chosen.Given as goal

@@ -1,6 +1,6 @@
 use Rattle.std.proofs.Common.{map, refl}
 use Rattle.wh_pairs.specs.PairData.{pair_data}
-use Rattle.wh_subterm.specs.Marked.{IsMarked}
+use Rattle.wh_pairs.specs.Marked.{IsMarked}
 use Rattle.wh_subterm.specs.SubtermRows.{chosen, chosen_symbols}
 use Rattle.wh_pairs.proofs.ByPlace.{contains_at, before_more, before_all}
 use Rattle.wh_subterm.proofs.ChoiceLemmas.{choice, symbol_at, symbols_past}

@@ -1,6 +1,6 @@
 use Rattle.std.proofs.Common.{map}
 use Rattle.wh_pairs.specs.PairData.{pair_data}
-use Rattle.wh_subterm.specs.Marked.{IsMarked}
+use Rattle.wh_pairs.specs.Marked.{IsMarked}
 use Rattle.wh_subterm.specs.SubtermRows.{chosen, chosen_symbols}
 use Rattle.wh_pairs.proofs.ByPlace.{Before}
 use Rattle.wh_subterm.proofs.marked.all_marked.Given as goal

@@ -1,9 +1,9 @@
 use Rattle.std.proofs.Common.{subst, sym}
 use Rattle.wh_terms.proofs.Results.{IfOk-map}
 use Rattle.wh_words.specs.Asked.{bounds_of, request}
-use Rattle.wh_top.specs.Outcomes.{Shelves, outside}
+use Rattle.wh_judging.specs.Outcomes.{Shelves, outside}
 use Rattle.wh_top.specs.Run.{Replies}
-use Rattle.wh_top.specs.Texts.{TellsMade}
+use Rattle.wh_judging.specs.Texts.{TellsMade}
 use Rattle.wh_top.proofs.Replying.{search_replies, show_replies, generated_replies}
 use Rattle.wh_top.proofs.program.reply_to.Goals as goal
 

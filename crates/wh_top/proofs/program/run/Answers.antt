@@ -1,7 +1,7 @@
 -- What an output means follows from what is answered and what is written.
 use Rattle.std.proofs.Common.{inl, inr, refl, sym, subst}
 use Rattle.wh_words.specs.Asked.{request}
-use Rattle.wh_top.specs.Outcomes.{Shelves, outside}
+use Rattle.wh_judging.specs.Outcomes.{Shelves, outside}
 use Rattle.wh_top.specs.Run.{Replies}
 use Rattle.wh_top.proofs.Complete.{served}
 use Rattle.wh_top.proofs.Meaning.{termination, non_termination}
@@ -31,7 +31,7 @@ returns-in-Err-clause-termination g c =
 
 pub returns-in_default-clause-non_termination : goal.returns-in_default-clause-non_termination
 returns-in_default-clause-non_termination g c =
-    let s : Shelves = outside (g.S.Shelf.held c.args.shelf.now) (λ _. 0) (λ _. 0) in
+    let s : Shelves = outside (g.S.Shelf.held c.args.shelf.now) (g.S.Shelf.faults c.args.shelf.now) (g.S.Shelf.faults c.args.shelf.now) in
     non_termination s _ _ _ _ _ _ _ _ (inr (inl (record { none = c.in_default.ensures; status_is = refl; text_is = c.bad_words_line.ensures }))) c.tell.ensures
 
 pub returns-in-Ok-clause-non_termination : goal.returns-in-Ok-clause-non_termination
@@ -42,5 +42,5 @@ returns-in-Ok-clause-non_termination g c =
 
 pub returns-in-Err-clause-non_termination : goal.returns-in-Err-clause-non_termination
 returns-in-Err-clause-non_termination g c =
-    let s : Shelves = outside (g.S.Shelf.held c.args.shelf.now) (λ _. 0) (λ _. 0) in
+    let s : Shelves = outside (g.S.Shelf.held c.args.shelf.now) (g.S.Shelf.faults c.args.shelf.now) (g.S.Shelf.faults c.reply_to.new.shelf) in
     non_termination s _ _ _ _ _ _ _ _ (inr (inr (record { asks = (request c.in-Some.command, c.in-Some.ensures); status_is = refl; text_is = refl }))) c.report_no_memory.ensures

@@ -1,6 +1,6 @@
 use Rattle.wh_system.specs.SystemView.{system_data}
 use Rattle.wh_pairs.specs.Views.{pairs_data}
-use Rattle.wh_top.specs.Outcomes.{Shelves, outside}
+use Rattle.wh_judging.specs.Outcomes.{Shelves, outside}
 use Rattle.wh_top.proofs.Searching.{search_stands}
 use Rattle.wh_top.proofs.proving.prove_file.Goals as goal
 

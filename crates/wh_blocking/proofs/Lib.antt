@@ -1,0 +1,11 @@
+pub mod Locality
+pub mod Written
+pub mod NothingLemmas
+pub mod BitLemmas
+pub mod NumberLemmas
+pub mod LiteralLemmas
+pub mod EncodingLemmas
+pub mod EncodingMade
+pub mod WrittenLemmas
+pub mod BlockingLemmas
+pub mod SearchLemmas

@@ -1,0 +1,47 @@
+//! How the interpretations for a task are written by bits, and what is read in each condition.
+
+ghost use Rattle.std.specs.Prelude.{◌≡◌, IfOk, map};
+ghost use Rattle.wh_blocking.specs.Encodings.{IsEncoding};
+ghost use Rattle.wh_guesses.specs.Tasks.{IsTaskOf};
+ghost use Rattle.wh_pairs.specs.Marked.{AreMarked};
+ghost use Rattle.wh_pairs.specs.PairData.{pair_data};
+
+use crate::bits::first_bits;
+use crate::numbers::numbers_of_conditions;
+use std::alloc::{AllocError, Global};
+use wh_guesses::{Task, readings_of, sizes_of};
+
+/// A task with the marked symbols of its set, and what is looked up in the search: of each symbol, and then of each marked one, how
+/// many monomials it has and which bit comes first; and of each condition the numbers of what is read in it.
+#[derive(Drop)]
+pub struct Encoding<'a> {
+    pub task: Task<'a>,
+    pub marked: &'a [u32],
+    pub sizes: Vec<usize>,
+    pub first_bits: Vec<u32>,
+    pub numbers: Vec<Vec<usize>>,
+}
+
+/// That of a task. Fails also where there are more bits than a solver has variables.
+pub fn encoding_of<'a>(
+    alloc: Global,
+    task: &Task<'a>,
+    marked: &'a [u32],
+) -> Result<Encoding<'a>, AllocError>
+    requires task { IsTaskOf task.now }
+    requires marked { AreMarked (map pair_data task.now.pairs.now) task.now.set.now marked.now }
+    ensures encoding { IfOk result IsEncoding }
+    ensures task { IfOk result (λ made. made.task ≡ task.now) }
+{
+    let sizes = sizes_of(alloc, task, marked)?;
+    let first_bits = first_bits(alloc, &sizes)?;
+    let readings = readings_of(alloc, task, marked)?;
+    let numbers = numbers_of_conditions(alloc, &readings, task.system.rules().len())?;
+    Ok(Encoding {
+        task: *task,
+        marked,
+        sizes,
+        first_bits,
+        numbers,
+    })
+}

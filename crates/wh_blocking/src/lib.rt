@@ -1,0 +1,14 @@
+//! Interpretations by guesses: a solver proposes two bits for each coefficient, and a condition that fails under the guess shuts out
+//! all guesses that agree with it on what is read in the condition.
+#![tactic(auto)]
+
+mod bits;
+mod blocking;
+mod clauses;
+mod encoding;
+mod guessing;
+mod hints;
+mod numbers;
+mod search;
+
+pub use search::find_by_guesses;

@@ -1,6 +1,0 @@
-use Rattle.wh_nodes.specs.Nodes.{IsSetOf}
-use Rattle.wh_checker.proofs.SetLemmas.{KeptBefore}
-use Rattle.wh_checker.proofs.sets.kept.Given as goal
-
-abbrev pub invariant-loop-number : goal.invariant-loop-number
-invariant-loop-number l = IsSetOf (KeptBefore l.set l.drop l.number-index) l.rest

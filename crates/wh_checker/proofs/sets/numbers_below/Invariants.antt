@@ -1,6 +1,0 @@
-use Rattle.std.proofs.Common.{◌<◌}
-use Rattle.wh_nodes.specs.Nodes.{IsSetOf}
-use Rattle.wh_checker.proofs.sets.numbers_below.Given as goal
-
-abbrev pub invariant-loop-number : goal.invariant-loop-number
-invariant-loop-number l = IsSetOf (λ n. n < l.number) l.set

@@ -1,5 +1,0 @@
-use Rattle.wh_decisions.proofs.Claims.{claim_or_fault}
-use Rattle.wh_decisions.proofs.no.claims_are_valid_or_have_a_first_fault.Goals as goal
-
-pub returns : goal.returns
-returns c d raw steps at lines made = claim_or_fault d raw steps at lines made.rules

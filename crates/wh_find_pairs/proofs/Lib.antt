@@ -1,0 +1,5 @@
+pub mod SpineLemmas
+pub mod CallLemmas
+pub mod CandidateLemmas
+pub mod RetainLemmas
+pub mod RuleLemmas

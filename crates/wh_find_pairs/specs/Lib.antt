@@ -1,0 +1,2 @@
+pub mod CallsEach
+pub mod Views

@@ -1,7 +1,0 @@
-use Rattle.std.proofs.Common.{◌≡◌, take}
-use Rattle.std.specs.List.{flat_map}
-use Rattle.wh_find_poly.specs.Numbers.{on_sides}
-use Rattle.wh_find_poly.proofs.numbers.numbers_of_all.Given as goal
-
-abbrev pub invariant-loop-reading : goal.invariant-loop-reading
-invariant-loop-reading l = l.numbers.items ≡ flat_map on_sides (take l.reading-index l.readings)

@@ -1,9 +1,0 @@
-use Rattle.std.proofs.Common.{◌≡◌, map, take}
-use Rattle.wh_hopoly.specs.Erase.{poly}
-use Rattle.wh_guesses.proofs.node.lines_of_symbols.Given as goal
-
-abbrev pub invariant-loop-i : goal.invariant-loop-i
-invariant-loop-i l = record {
-  names : map (λ l. l.name) l.lines ≡ take l.i l.names;
-  polynomials : map (λ s. poly s.poly) (take l.i l.symbols) ≡ map (λ l. poly l.poly) l.lines;
-}

@@ -1,0 +1,5 @@
+pub mod Rows
+pub mod Outcomes
+pub mod Unread
+pub mod Texts
+pub mod Status

@@ -1,0 +1,99 @@
+//! Judging a certificate for a system, and showing a system with its dependency pairs.
+
+ghost use Rattle.std.specs.Prelude.{◌≡◌, ◌≤◌, ℕ, List, IfOk, length, codes};
+ghost use Rattle.wh_types.specs.Limits.{certificate_limit};
+ghost use Rattle.wh_types.specs.Outcome.{MatchOr};
+ghost use Rattle.wh_system.specs.SystemView.{system_data};
+ghost use Rattle.wh_pairs.specs.Views.{pairs_data};
+ghost use Rattle.wh_pairs.specs.SystemPairs.{HasPairs};
+ghost use Rattle.wh_judging.specs.Outcomes.{BeginsWith, Judged, Stands, StandsBySystem, ToldSystem, Weighed, outside};
+ghost use Rattle.wh_answer.specs.Texts.{line};
+ghost use Rattle.wh_judging.specs.Texts.{IsShown, shown_text};
+ghost use Rattle.wh_cert.specs.Limits.{IsCert};
+ghost use Rattle.wh_cert.specs.Said.{said};
+
+use crate::files::{Problem, certificate_in, problem_in};
+use crate::rejection::named_rejection;
+use std::alloc::{AllocError, Global};
+use wh_answer::{NamedRejection, Report};
+use wh_cert::Certificate;
+use wh_cert_text::read_certificate;
+use wh_checker::{Accepted, CheckFault, check, rejections_name_what_is_there};
+use wh_io::Shelf;
+use wh_print::{print_pairs, print_system, printed_systems_are_read_back};
+use wh_types::{Bytes, Or};
+
+/// Checks the certificate in the second file against the system in the first one. Both files are read.
+pub fn check_files<S: Shelf>(
+    alloc: Global,
+    shelf: &mut S,
+    file: &str,
+    cert: &str,
+) -> Result<Report, Or<Report>>
+    ensures stands { MatchOr result (Stands (outside (S.held shelf.old) (S.faults shelf.old) (S.faults shelf.new)) file.now cert.now)
+        (Stands (outside (S.held shelf.old) (S.faults shelf.old) (S.faults shelf.new)) file.now cert.now) }
+    ensures kept { (other : List ℕ) → S.held shelf.new other ≡ S.held shelf.old other }
+{
+    let problem = problem_in(alloc, shelf, file)?;
+    let certificate = certificate_in(alloc, shelf, cert)?;
+    Ok(judge(alloc, &problem, certificate.as_slice())?)
+}
+
+/// The text that shows the system in the file with its dependency pairs, or why there is none.
+pub fn show_file<S: Shelf>(alloc: Global, shelf: &mut S, file: &str) -> Result<Bytes, Or<Report>>
+    ensures shows { MatchOr result (λ text. ToldSystem (S.held shelf.old file.now) (IsShown text))
+        (StandsBySystem (outside (S.held shelf.old) (S.faults shelf.old) (S.faults shelf.new)) file.now) }
+    ensures begins { IfOk result (BeginsWith (line (codes "SYSTEM"))) }
+    ensures kept { (other : List ℕ) → S.held shelf.new other ≡ S.held shelf.old other }
+{
+    let problem = problem_in(alloc, shelf, file)?;
+    printed_systems_are_read_back(&problem.system);
+    Ok(shown(alloc, &problem)?)
+}
+
+// The text that shows the system and its dependency pairs.
+fn shown(alloc: Global, problem: &Problem) -> Result<Bytes, AllocError>
+    requires { HasPairs (system_data problem.now.system) (pairs_data problem.now.pairs) }
+    ensures { IfOk result (λ text. text ≡ shown_text (system_data problem.now.system) (pairs_data problem.now.pairs)) }
+{
+    let mut text = Bytes::new(alloc)?;
+    text.append(b"SYSTEM\n")?;
+    let system = print_system(alloc, &problem.system)?;
+    text.append(system.as_slice())?;
+    let pairs = print_pairs(alloc, &problem.system, &problem.pairs)?;
+    text.append(pairs.as_slice())?;
+    Ok(text)
+}
+
+// What the bytes of the certificate come to.
+fn judge(alloc: Global, problem: &Problem, bytes: &[u8]) -> Result<Report, AllocError>
+    requires length { length bytes.now ≤ certificate_limit }
+    requires pairs { HasPairs (system_data problem.now.system) (pairs_data problem.now.pairs) }
+    ensures { IfOk result (Judged (system_data problem.now.system) (pairs_data problem.now.pairs) bytes.now) }
+{
+    match read_certificate(alloc, bytes) {
+        Ok(certificate) => weigh(alloc, problem, &certificate),
+        Err(Or::NoMemory) => Err(AllocError),
+        Err(Or::Because(fault)) => { Ok(Report::Rejected(NamedRejection::Syntax { at: fault.at })) }
+    }
+}
+
+// What a certificate that was read comes to.
+fn weigh(alloc: Global, problem: &Problem, certificate: &Certificate) -> Result<Report, AllocError>
+    requires certificate { IsCert (said certificate.now) }
+    requires pairs { HasPairs (system_data problem.now.system) (pairs_data problem.now.pairs) }
+    ensures { IfOk result (Weighed (system_data problem.now.system) (pairs_data problem.now.pairs) (said certificate.now)) }
+{
+    problem.system.is_well_made();
+    rejections_name_what_is_there();
+    match check(alloc, &problem.system, &problem.pairs, certificate) {
+        Ok(Accepted::Yes(_)) => Ok(Report::Yes),
+        Ok(Accepted::No(_)) => Ok(Report::No),
+        Err(Or::NoMemory) => Err(AllocError),
+        Err(Or::Because(CheckFault::Rejected(row))) => {
+            Ok(Report::Rejected(named_rejection(alloc, &problem.system, &row)?))
+        }
+        Err(Or::Because(CheckFault::Overflow { node })) => Ok(Report::Overflow(node)),
+        Err(Or::Because(CheckFault::TooLarge { node })) => Ok(Report::TooLarge(node)),
+    }
+}

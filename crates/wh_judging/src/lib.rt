@@ -1,0 +1,13 @@
+//! Files read whole and what they come to: a system with its pairs, or a report; a certificate judged; a system shown. With each report
+//! stands the status that a run ends with.
+#![tactic(auto)]
+
+mod files;
+mod judging;
+mod rejection;
+mod status;
+
+pub use files::{CERTIFICATE_LIMIT, Problem, pairs_of, problem_in};
+pub use judging::{check_files, show_file};
+pub use rejection::meta_name;
+pub use status::{Status, status_of};

@@ -1,0 +1,6 @@
+pub mod ChoiceLemmas
+pub mod InterpretationLemmas
+pub mod SomeSets
+pub mod WrittenLemmas
+pub mod BlockLemmas
+pub mod OneNode

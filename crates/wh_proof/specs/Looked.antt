@@ -1,0 +1,57 @@
+-- What the lines of a YES certificate say over a system, once the names in them are looked up.
+use Rattle.std.specs.Prelude.{ℕ, ◌≡◌, List, [], ◌∷◌, Some, map, slice_get}
+use Rattle.wh_types.specs.Ty.{Ty}
+use Rattle.wh_system.specs.Systems.{SystemData}
+use Rattle.wh_cert.specs.Written as w
+use Rattle.wh_cert.specs.Interps.{Interp}
+use Rattle.wh_hopoly.specs.Evaluation.{Interpretation}
+use Rattle.wh_hopoly.specs.Erase.{transfers}
+use Rattle.wh_polycheck.specs.Marks.{Mark}
+use Rattle.wh_subterm.specs.Projections.{Chosen}
+use Rattle.wh_proof.specs.Nodes.{Node, done, alone, blocks, subterm, poly}
+
+-- a line `arg` says this choice: its name is the name of the symbol (ours)
+pub record SaysChoice (d : SystemData) (line : w.Arg) (c : Chosen) : Type 0 where
+  pub named : slice_get d.fun_names c.symbol ≡ Some line.name
+  pub place : c.argument ≡ line.place
+
+-- the lines say these, one after another
+abbrev pub SayChoices : SystemData → List w.Arg → List Chosen → Type 0
+SayChoices d [] [] = Unit {0}
+SayChoices d (line ∷ lines) (c ∷ args) = SaysChoice d line c × SayChoices d lines args
+SayChoices d _ _ = ⊥
+
+-- the lines `fun` say interpretations of all symbols: they name these in order, and each is of its symbol's type (ours)
+abbrev pub SayInterpretations : List (List ℕ) → List Ty → List Interp → List Interpretation → Type 0
+SayInterpretations [] [] [] [] = Unit {0}
+SayInterpretations (name ∷ names) (a ∷ kinds) (line ∷ lines) (s ∷ symbols) =
+    (line.name ≡ name) × (s.kind ≡ a) × (s.polynomial ≡ line.poly) × SayInterpretations names kinds lines symbols
+SayInterpretations _ _ _ _ = ⊥
+
+-- a line `mark` says this interpretation of a marked symbol: its name is the name of the symbol (ours)
+pub record SaysMark (d : SystemData) (line : Interp) (m : Mark) : Type 0 where
+  pub named : slice_get d.fun_names m.symbol ≡ Some line.name
+  pub polynomial : m.polynomial ≡ line.poly
+
+-- the lines say these, one after another
+abbrev pub SayMarks : SystemData → List Interp → List Mark → Type 0
+SayMarks d [] [] = Unit {0}
+SayMarks d (line ∷ lines) (m ∷ marks) = SaysMark d line m × SayMarks d lines marks
+SayMarks d _ _ = ⊥
+
+-- the lines of a node say this node
+abbrev pub SaysNode : SystemData → w.Node → Node → Type 0
+SaysNode d w.done done = Unit {0}
+SaysNode d w.alone alone = Unit {0}
+SaysNode d (w.blocks listed) (blocks parts) = listed ≡ parts
+SaysNode d (w.subterm lines listed) (subterm args drop) = SayChoices d lines args × (listed ≡ drop)
+SaysNode d (w.interpretations funs lines rules pairs listed) (poly symbols marks rule_lines pair_lines drop) =
+    SayInterpretations d.fun_names d.symbols.funs funs symbols × SayMarks d lines marks
+    × (map transfers rules ≡ rule_lines) × (map transfers pairs ≡ pair_lines) × (listed ≡ drop)
+SaysNode d _ _ = ⊥
+
+-- the lines say these nodes, one after another
+abbrev pub SayNodes : SystemData → List w.Node → List Node → Type 0
+SayNodes d [] [] = Unit {0}
+SayNodes d (line ∷ lines) (node ∷ nodes) = SaysNode d line node × SayNodes d lines nodes
+SayNodes d _ _ = ⊥

@@ -1,0 +1,158 @@
+//! What the lines `fun` and `mark` of a node say: interpretations of all symbols, and of the marked symbols of a set. The names in
+//! them are compared in order, and the polynomials copied.
+
+ghost use Rattle.std.specs.Prelude.{◌≡◌, ◌↔◌, ◌<◌, All, IfOk, IsTrue, List, MatchOption, Some, length, map, slice_get};
+ghost use Rattle.wh_types.specs.Erase.{ty, tys};
+ghost use Rattle.wh_pairs.specs.Views.{pairs_data};
+ghost use Rattle.wh_system.specs.SystemView.{system_data};
+ghost use Rattle.wh_pairs.specs.Marked.{AreMarked};
+ghost use Rattle.wh_cert.specs.Said.{said_interp};
+ghost use Rattle.wh_hopoly.specs.Erase.{interpretations, poly};
+ghost use Rattle.wh_hopoly.specs.Evaluation.{Interpretation};
+ghost use Rattle.wh_polycheck.specs.Marks.{Mark};
+ghost use Rattle.wh_polycheck.specs.SideResults.{marks_of};
+ghost use Rattle.wh_proof.specs.Looked.{SayInterpretations, SayMarks};
+
+use std::alloc::{AllocError, Global};
+use wh_cert::Interp;
+use wh_hopoly::{Symbol, copy};
+use wh_pairs::{PairList, PairSet, marked_symbols};
+use wh_polycheck::MarkedSymbol;
+use wh_system::System;
+use wh_text::Name;
+use wh_types::SimpleType;
+
+/// The interpretations of all symbols that the lines say, each of its symbol's type; `None` where they say none.
+pub fn symbols_of(
+    alloc: Global,
+    system: &System,
+    lines: &[Interp],
+) -> Result<Option<Vec<Symbol>>, AllocError>
+    ensures { IfOk result (λ found. MatchOption found
+        ((symbols : List Interpretation) → SayInterpretations (system_data system.now).fun_names (system_data system.now).symbols.funs
+        (map said_interp lines.now) symbols → ⊥)
+        (λ made. SayInterpretations (system_data system.now).fun_names (system_data system.now).symbols.funs (map said_interp lines.now)
+        (interpretations made.items))) }
+{
+    system.is_well_made();
+    if !name_all(system.fun_names(), lines) {
+        return Ok(None);
+    }
+    let kinds = system.signature().funs.as_slice();
+    Ok(Some(read_symbols(alloc, kinds, lines)?))
+}
+
+/// The interpretations of the marked symbols of the set that the lines say; `None` where they say none.
+pub fn marks_of_set(
+    alloc: Global,
+    system: &System,
+    pairs: &PairList,
+    set: &PairSet,
+    lines: &[Interp],
+) -> Result<Option<Vec<MarkedSymbol>>, AllocError>
+    requires { All (λ n. n < length pairs.now) set.now }
+    ensures { IfOk result (λ found. MatchOption found
+        ((marks : List Mark) → SayMarks (system_data system.now) (map said_interp lines.now) marks
+        → AreMarked (pairs_data pairs.now) set.now (map (λ m. m.symbol) marks) → ⊥)
+        (λ made. SayMarks (system_data system.now) (map said_interp lines.now) (marks_of made.items)
+        × AreMarked (pairs_data pairs.now) set.now (map (λ m. m.symbol) (marks_of made.items)))) }
+{
+    let numbers = marked_symbols(alloc, pairs, set)?;
+    if !name_these(system.fun_names(), &numbers, lines) {
+        return Ok(None);
+    }
+    Ok(Some(read_marks(alloc, &numbers, lines)?))
+}
+
+// Whether the lines have these names, in order.
+fn name_all(names: &[Name], lines: &[Interp]) -> bool
+    ensures { IsTrue result ↔ (map (λ line. line.name) lines.now ≡ names.now) }
+{
+    if lines.len() != names.len() {
+        return false;
+    }
+    for i in 0..lines.len() {
+        if !same_name(&lines[i].name, &names[i]) {
+            return false;
+        }
+    }
+    true
+}
+
+// Whether the lines have the names of the symbols with these numbers, in order.
+fn name_these(names: &[Name], numbers: &[u32], lines: &[Interp]) -> bool
+    ensures { IsTrue result ↔ (map (λ n. slice_get names.now n) numbers.now ≡ map (λ line. Some line.name) lines.now) }
+{
+    if lines.len() != numbers.len() {
+        return false;
+    }
+    for i in 0..lines.len() {
+        if !is_name_of(names, numbers[i], &lines[i].name) {
+            return false;
+        }
+    }
+    true
+}
+
+// Whether the symbol with the number has the name.
+fn is_name_of(names: &[Name], number: u32, name: &Name) -> bool
+    ensures { IsTrue result ↔ (slice_get names.now number ≡ Some name.now) }
+{
+    (number as usize) < names.len() && same_name(&names[number as usize], name)
+}
+
+// Whether two names are equal.
+fn same_name(a: &Name, b: &Name) -> bool
+    ensures { IsTrue result ↔ (a.now ≡ b.now) }
+{
+    a.bytes() == b.bytes()
+}
+
+// Symbols of these types, read as the lines say.
+fn read_symbols(
+    alloc: Global,
+    kinds: &[SimpleType],
+    lines: &[Interp],
+) -> Result<Vec<Symbol>, AllocError>
+    requires { length lines.now ≡ length kinds.now }
+    ensures kinds { IfOk result (λ made. map (λ s. ty s.kind) made.items ≡ tys kinds.now) }
+    ensures polynomials { IfOk result (λ made. map (λ s. poly s.poly) made.items ≡ map (λ line. poly line.poly) lines.now) }
+{
+    let mut symbols = Vec::new(alloc);
+    for i in 0..lines.len() {
+        symbols.push(read_symbol(alloc, &kinds[i], &lines[i])?)?;
+    }
+    Ok(symbols)
+}
+
+// A symbol of the type, read as the line says.
+fn read_symbol(alloc: Global, kind: &SimpleType, line: &Interp) -> Result<Symbol, AllocError>
+    ensures kind { IfOk result (λ s. ty s.kind ≡ ty kind.now) }
+    ensures polynomial { IfOk result (λ s. poly s.poly ≡ poly line.now.poly) }
+{
+    let kind = kind.copy(alloc)?;
+    Ok(Symbol {
+        kind,
+        poly: copy(alloc, &line.poly)?,
+    })
+}
+
+// Marked symbols with these numbers, read as the lines say.
+fn read_marks(
+    alloc: Global,
+    numbers: &[u32],
+    lines: &[Interp],
+) -> Result<Vec<MarkedSymbol>, AllocError>
+    requires { length lines.now ≡ length numbers.now }
+    ensures symbols { IfOk result (λ made. map (λ m. m.symbol) made.items ≡ numbers.now) }
+    ensures polynomials { IfOk result (λ made. map (λ m. poly m.poly) made.items ≡ map (λ line. poly line.poly) lines.now) }
+{
+    let mut marks = Vec::new(alloc);
+    for i in 0..lines.len() {
+        marks.push(MarkedSymbol {
+            symbol: numbers[i],
+            poly: copy(alloc, &lines[i].poly)?,
+        })?;
+    }
+    Ok(marks)
+}

@@ -1,0 +1,25 @@
+-- What the text of a proof comes to.
+use Rattle.std.specs.Prelude.{ℕ, ◌≡◌, List}
+use Rattle.wh_system.specs.Systems.{SystemData}
+use Rattle.wh_pairs.specs.PairData.{PairData}
+use Rattle.wh_system.specs.WellMade.{IsWellMadeSystem}
+use Rattle.wh_pairs.specs.SystemPairs.{HasPairs}
+use Rattle.wh_cert.specs.Written.{Cert}
+use Rattle.wh_cert.specs.CertText.{CertText}
+use Rattle.wh_polycheck.specs.Small.{with_limits}
+use Rattle.wh_checker.specs.Faults.{IsFirstFault}
+use Rattle.wh_checker.specs.declared.rejected.CheckFault.{CheckFault}
+use Rattle.wh_loops.specs.Found.{IsLoopCertificate}
+use Rattle.wh_prover.specs.Answers.{IsProof}
+
+-- the text of a proof is that of no other certificate, and no fault is the first of it, also where values have limits
+abbrev pub ProofsAreAccepted : Type 0
+ProofsAreAccepted = (d : SystemData) (ps : List PairData) (c : Cert) (bytes : List ℕ) → IsWellMadeSystem d → HasPairs d ps
+    → IsProof d ps c → CertText bytes c
+    → ((e : Cert) → CertText bytes e → e ≡ c) × ((f : CheckFault) → IsFirstFault with_limits d ps c f → ⊥)
+
+-- so it is with the text of a loop's certificate
+abbrev pub LoopsAreAccepted : Type 0
+LoopsAreAccepted = (d : SystemData) (ps : List PairData) (depth : ℕ) (c : Cert) (bytes : List ℕ) → IsWellMadeSystem d
+    → IsLoopCertificate d depth c → CertText bytes c
+    → ((e : Cert) → CertText bytes e → e ≡ c) × ((f : CheckFault) → IsFirstFault with_limits d ps c f → ⊥)
