@@ -8,7 +8,7 @@ ghost use Rattle.wh_guesses.specs.Tasks.{IsGuessOf, IsTaskOf};
 
 use crate::state::{Aim, Change, State, changes_for};
 use std::alloc::{AllocError, Global};
-use wh_guesses::{Guess, Task, change_mark, change_symbol, outcome_of};
+use wh_guesses::{Guess, Outcome, Task, change_at, outcome_of};
 
 /// What came of a change that was tried.
 #[derive(Clone, Copy)]
@@ -28,7 +28,7 @@ struct Least {
     score: u64,
 }
 
-/// Climbs from the guess on until an interpretation is found or the evaluations are spent; whether the guess is one.
+/// Climbs from the guess on until an interpretation is found or the looks are spent; whether the guess is one.
 pub fn climb_from<'a>(
     alloc: Global,
     task: &Task<'a>,
@@ -44,6 +44,7 @@ pub fn climb_from<'a>(
     state.keep_best(alloc)?;
     'rounds: for _ in 0..limit {
         if round(alloc, task, guess, state)? {
+            read_all(alloc, task, guess, state)?;
             return Ok(true);
         }
         state.keep_best(alloc)?;
@@ -51,7 +52,6 @@ pub fn climb_from<'a>(
             return Ok(false);
         }
         state.stir();
-        read_all(alloc, task, guess, state)?;
         renew_all(alloc, task, guess, state)?;
     }
     Ok(false)
@@ -153,9 +153,9 @@ fn try_change<'a>(
     ensures { IsGuessOf task.now guess.new }
 {
     let old = state.reverse(change);
-    apply(alloc, task, guess, state, change)?;
+    state.set(change);
     if !helps(alloc, task, guess, state, aim)? {
-        apply(alloc, task, guess, state, old)?;
+        state.set(old);
         return Ok(Trial::Useless);
     }
     let score = state.score();
@@ -169,7 +169,7 @@ fn try_change<'a>(
         return Ok(Trial::Taken);
     }
     state.restore(&held, &before);
-    apply(alloc, task, guess, state, old)?;
+    state.set(old);
     Ok(if waits {
         Trial::Useless
     } else {
@@ -191,7 +191,7 @@ fn take<'a>(
     ensures { IsGuessOf task.now guess.new }
 {
     let old = state.reverse(change);
-    apply(alloc, task, guess, state, change)?;
+    state.set(change);
     let held = state.holders_of(alloc, change.number)?;
     renew(alloc, task, guess, state, &held)?;
     state.delay(old, number)
@@ -201,16 +201,16 @@ fn take<'a>(
 fn helps<'a>(
     alloc: Global,
     task: &Task<'a>,
-    guess: &Guess,
+    guess: &mut Guess,
     state: &mut State,
     aim: &Aim,
 ) -> Result<bool, AllocError>
     requires task { IsTaskOf task.now }
-    requires guess { IsGuessOf task.now guess.now }
+    requires guess { IsGuessOf task.now guess.old }
+    ensures { IsGuessOf task.now guess.new }
 {
     for goal in &aim.goals {
-        let outcome = outcome_of(alloc, task, guess, *goal)?;
-        state.spend();
+        let outcome = look(alloc, task, guess, state, *goal)?;
         let before = state.outcome(*goal);
         if (aim.met && outcome.strict) || (!aim.met && outcome.wanting < before.wanting) {
             return Ok(true);
@@ -219,57 +219,99 @@ fn helps<'a>(
     Ok(false)
 }
 
-// Evaluates the conditions anew.
+// Looks at the conditions anew.
 fn renew<'a>(
-    alloc: Global,
-    task: &Task<'a>,
-    guess: &Guess,
-    state: &mut State,
-    conditions: &[usize],
-) -> Result<(), AllocError>
-    requires task { IsTaskOf task.now }
-    requires guess { IsGuessOf task.now guess.now }
-{
-    for condition in conditions {
-        let outcome = outcome_of(alloc, task, guess, *condition)?;
-        state.put(*condition, outcome);
-        state.spend();
-    }
-    Ok(())
-}
-
-// Evaluates all conditions.
-fn renew_all<'a>(
-    alloc: Global,
-    task: &Task<'a>,
-    guess: &Guess,
-    state: &mut State,
-) -> Result<(), AllocError>
-    requires task { IsTaskOf task.now }
-    requires guess { IsGuessOf task.now guess.now }
-{
-    for condition in 0..state.outcomes.len() {
-        let outcome = outcome_of(alloc, task, guess, condition)?;
-        state.put(condition, outcome);
-        state.spend();
-    }
-    Ok(())
-}
-
-// The coefficient gets the value of the change, and what it is of is read anew.
-fn apply<'a>(
     alloc: Global,
     task: &Task<'a>,
     guess: &mut Guess,
     state: &mut State,
-    change: Change,
+    conditions: &[usize],
+) -> Result<(), AllocError>
+    requires task { IsTaskOf task.now }
+    requires guess { IsGuessOf task.now guess.old }
+    ensures { IsGuessOf task.now guess.new }
+{
+    for condition in conditions {
+        let outcome = look(alloc, task, guess, state, *condition)?;
+        state.put(*condition, outcome);
+    }
+    Ok(())
+}
+
+// Looks at all conditions.
+fn renew_all<'a>(
+    alloc: Global,
+    task: &Task<'a>,
+    guess: &mut Guess,
+    state: &mut State,
+) -> Result<(), AllocError>
+    requires task { IsTaskOf task.now }
+    requires guess { IsGuessOf task.now guess.old }
+    ensures { IsGuessOf task.now guess.new }
+{
+    for condition in 0..state.outcomes.len() {
+        let outcome = look(alloc, task, guess, state, condition)?;
+        state.put(condition, outcome);
+    }
+    Ok(())
+}
+
+// What the condition is under the coefficients. It is evaluated only where no earlier look was under the same ones; each look counts,
+// so that a climb ends also where it sees nothing new.
+fn look<'a>(
+    alloc: Global,
+    task: &Task<'a>,
+    guess: &mut Guess,
+    state: &mut State,
+    condition: usize,
+) -> Result<Outcome, AllocError>
+    requires task { IsTaskOf task.now }
+    requires guess { IsGuessOf task.now guess.old }
+    ensures { IsGuessOf task.now guess.new }
+{
+    state.spend();
+    let case = state.case_of(alloc, condition)?;
+    if let Some(outcome) = state.known.get(&case) {
+        return Ok(outcome);
+    }
+    read_sides(alloc, task, guess, state, condition)?;
+    let outcome = outcome_of(alloc, task, guess, condition)?;
+    state.known.learn(case, outcome)?;
+    Ok(outcome)
+}
+
+// What stands on the sides of the condition is read by its coefficients.
+fn read_sides<'a>(
+    alloc: Global,
+    task: &Task<'a>,
+    guess: &mut Guess,
+    state: &mut State,
+    condition: usize,
 ) -> Result<(), AllocError>
     requires { IsGuessOf task.now guess.old }
     ensures { IsGuessOf task.now guess.new }
 {
-    state.set(change);
-    match state.coefficients.get(change.number) {
-        Some(list) => read_again(alloc, task, guess, change.number, list),
+    for number in &state.numbers_in(alloc, condition)? {
+        if state.is_due(*number) {
+            read_at(alloc, task, guess, state, *number)?;
+        }
+    }
+    Ok(())
+}
+
+// What has the number is read by its coefficients.
+fn read_at<'a>(
+    alloc: Global,
+    task: &Task<'a>,
+    guess: &mut Guess,
+    state: &State,
+    number: usize,
+) -> Result<(), AllocError>
+    requires { IsGuessOf task.now guess.old }
+    ensures { IsGuessOf task.now guess.new }
+{
+    match state.coefficients.get(number) {
+        Some(list) => change_at(alloc, task, guess, number, list),
         None => Ok(()),
     }
 }
@@ -285,32 +327,7 @@ fn read_all<'a>(
     ensures { IsGuessOf task.now guess.new }
 {
     for (number, list) in state.coefficients.iter().enumerate() {
-        read_again(alloc, task, guess, number, list)?;
+        change_at(alloc, task, guess, number, list)?;
     }
     Ok(())
-}
-
-// What has the number is read by these coefficients.
-fn read_again<'a>(
-    alloc: Global,
-    task: &Task<'a>,
-    guess: &mut Guess,
-    number: usize,
-    coefficients: &[u8],
-) -> Result<(), AllocError>
-    requires { IsGuessOf task.now guess.old }
-    ensures { IsGuessOf task.now guess.new }
-{
-    let count = guess.symbols.len();
-    if number < count {
-        change_symbol(alloc, &mut guess.symbols, number, coefficients)
-    } else {
-        change_mark(
-            alloc,
-            task.system,
-            &mut guess.marks,
-            number - count,
-            coefficients,
-        )
-    }
 }

@@ -3,6 +3,7 @@
 
 mod climbing;
 mod holders;
+mod known;
 mod random;
 mod search;
 mod state;

@@ -4,12 +4,13 @@ ghost use Rattle.std.specs.Prelude.{◌<◌, ◌≤◌, IfOk, length, map};
 ghost use Rattle.wh_types.specs.Limits.{most_pairs};
 ghost use Rattle.wh_pairs.specs.PairData.{pair_data};
 ghost use Rattle.wh_system.specs.SystemView.{system_data};
-ghost use Rattle.wh_subterm.specs.Marked.{AreMarked};
+ghost use Rattle.wh_pairs.specs.Marked.{AreMarked};
 ghost use Rattle.wh_guesses.specs.Tasks.{IsTaskOf};
 ghost use Rattle.wh_climb.specs.Climbs.{IsClimb};
 
 use crate::climbing::climb_from;
 use crate::holders::holders_of;
+use crate::known::Known;
 use crate::random::Random;
 use crate::state::{State, copy_lists};
 use std::alloc::{AllocError, Global};
@@ -35,7 +36,7 @@ pub enum Climbed {
 /// guess (the reduction pair processor of Kop 2012 with the polynomials of Fuhs and Kop 2012; the search is ours).
 ///
 /// All pairs that are covered strictly are dropped. `marked` are the marked symbols of the set. `limit` bounds how often a condition is
-/// evaluated.
+/// looked at.
 pub fn climb<'a>(
     alloc: Global,
     task: &Task<'a>,
@@ -73,12 +74,15 @@ fn first_state<'a>(
     let coefficients = first_coefficients(alloc, task.system, marked, &holders)?;
     let outcomes = unmet(alloc, readings.len())?;
     let best = copy_lists(alloc, &coefficients)?;
+    let changed = vec![in alloc; false; coefficients.len()]?;
     Ok(State {
         rules: task.system.rules().len(),
         readings,
         holders,
         coefficients,
+        changed,
         outcomes,
+        known: Known::new(alloc),
         waiting: VecDeque::new(alloc),
         random: Random::new(),
         left: limit,

@@ -4,6 +4,7 @@
 
 ghost use Rattle.std.specs.Prelude.{◌<◌};
 
+use crate::known::{Case, Known};
 use crate::random::Random;
 use std::alloc::{AllocError, Global};
 use std::collections::VecDeque;
@@ -48,13 +49,17 @@ pub struct State {
     pub holders: Vec<Vec<usize>>,
     /// The coefficients of what is read, by number.
     pub coefficients: Vec<Vec<u8>>,
+    /// For each number whether its coefficients may have changed since it was read.
+    pub changed: Vec<bool>,
     /// What the conditions are under the guess.
     pub outcomes: Vec<Outcome>,
+    /// What they were before.
+    pub known: Known,
     /// The changes that wait, the oldest first.
     pub waiting: VecDeque<Waiting>,
     /// What chooses.
     pub random: Random,
-    /// How many evaluations of a condition are left.
+    /// How many looks at a condition are left.
     pub left: u64,
     /// The coefficients of the best guess so far.
     pub best: Vec<Vec<u8>>,
@@ -158,6 +163,31 @@ impl State {
                 list[change.place] = change.value;
             }
         }
+        self.note(change.number, true);
+    }
+
+    // The coefficients of what has the number may have changed since it was read, or not.
+    fn note(&mut self, number: usize, changed: bool) {
+        if let Some(noted) = self.changed.get_mut(number) {
+            *noted = changed;
+        }
+    }
+
+    /// Whether what has the number is to be read anew; from then on it counts as read.
+    pub fn is_due(&mut self, number: usize) -> bool {
+        let due = self.changed.get(number) == Some(&true);
+        self.note(number, false);
+        due
+    }
+
+    /// What is read on the sides of the condition.
+    pub fn numbers_in(&self, alloc: Global, condition: usize) -> Result<Vec<usize>, AllocError> {
+        let mut numbers = Vec::new(alloc);
+        if let Some(reading) = self.readings.get(condition) {
+            numbers.extend_from_slice(&reading.left)?;
+            numbers.extend_from_slice(&reading.right)?;
+        }
+        Ok(numbers)
     }
 
     /// The conditions that have the number on a side.
@@ -213,6 +243,7 @@ impl State {
             stir(&mut self.coefficients[number], &mut random);
         }
         self.random = random;
+        self.changed.fill(true);
         self.waiting.clear();
     }
 
@@ -251,7 +282,21 @@ impl State {
         self.best
     }
 
-    /// One evaluation more is done.
+    /// The condition with the coefficients that its sides are read by.
+    pub fn case_of(&self, alloc: Global, condition: usize) -> Result<Case, AllocError> {
+        let mut coefficients = Vec::new(alloc);
+        for number in &self.numbers_in(alloc, condition)? {
+            if let Some(list) = self.coefficients.get(*number) {
+                coefficients.extend_from_slice(list)?;
+            }
+        }
+        Ok(Case {
+            condition,
+            coefficients,
+        })
+    }
+
+    /// One look more is done.
     pub fn spend(&mut self) {
         self.left = self.left.saturating_sub(1);
     }

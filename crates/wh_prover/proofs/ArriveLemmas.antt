@@ -9,8 +9,8 @@ use Rattle.wh_pairs.proofs.ByPlace.{place_of}
 use Rattle.wh_graph.specs.May.{Follows}
 use Rattle.wh_graph.specs.Blocks.{AreBlocks}
 use Rattle.wh_graph.specs.Components.{IsIn, AreComponents}
-use Rattle.wh_nodes.specs.Nodes.{AreSetsOf, no_sets, more_sets}
-use Rattle.wh_checker.proofs.SetLemmas.{all_from_members}
+use Rattle.wh_proof.specs.Nodes.{AreSetsOf, no_sets, more_sets}
+use Rattle.wh_pairs.proofs.SetLemmas.{all_from_members}
 use Rattle.wh_prover.specs.Arriving.{IsOneComponent, IsAlone, Arrives, at_all, at_component, behind_projection, behind_interpretation, Ended}
 use Rattle.wh_prover.proofs.SetLemmas.{set_itself}
 

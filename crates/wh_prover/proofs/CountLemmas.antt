@@ -13,7 +13,7 @@ use Rattle.wh_pairs.proofs.Increasing.{increasing_at}
 use Rattle.wh_pairs.proofs.ByPlace.{place_of}
 use Rattle.wh_pairs.proofs.MemberLemmas.{none_there, at_head, behind, head_or_behind}
 use Rattle.wh_graph.specs.Components.{IsIn, AreComponents}
-use Rattle.wh_nodes.specs.Nodes.{IsSetOf, IsKept}
+use Rattle.wh_pairs.specs.Sets.{IsSetOf, IsKept}
 use Rattle.wh_prover.specs.Walk.{weigh, weight}
 
 -- no number stands twice

@@ -4,6 +4,5 @@ pub mod ArriveLemmas
 pub mod LimitLemmas
 pub mod WalkLemmas
 pub mod NodeLemmas
-pub mod LineLemmas
 pub mod ProofLemmas
 pub mod LoopLemmas

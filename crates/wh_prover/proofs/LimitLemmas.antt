@@ -13,11 +13,11 @@ use Rattle.wh_graph.specs.Components.{AreComponents}
 use Rattle.wh_subterm.specs.Projections.{Chosen}
 use Rattle.wh_subterm.specs.SubtermRows.{IsPlace, IsProjection, chosen, chosen_symbols}
 use Rattle.wh_subterm.specs.declared.projection.Choice.{Choice}
-use Rattle.wh_cert_parts.specs.TermLimits.{IsSmall}
+use Rattle.wh_cert.specs.TermLimits.{IsSmall}
 use Rattle.wh_cert.specs.Written as w
 use Rattle.wh_cert.specs.Limits.{ArgFits, NodeFits, NodeWithin}
-use Rattle.wh_checker.specs.Looked.{SayChoices}
-use Rattle.wh_checker.proofs.SetLemmas.{all_from_members}
+use Rattle.wh_proof.specs.Looked.{SayChoices}
+use Rattle.wh_pairs.proofs.SetLemmas.{all_from_members}
 use Rattle.wh_prover.proofs.CountLemmas.{Apart, apart_increasing, few_below, few_components}
 
 -- blocks
@@ -99,9 +99,6 @@ subterm_within d ps k set lines args drop made few below says is = (
 )
 
 -- the same of the choices of the program
-
-abbrev pub no_choice : Choice
-no_choice = record { symbol = 0; argument = 0 }
 
 all_chosen : (P : Chosen → Type 0) (args : List Choice) → All P (map chosen args) → All (λ c. P (chosen c)) args
 all_chosen P args all =

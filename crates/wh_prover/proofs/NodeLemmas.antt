@@ -14,8 +14,9 @@ use Rattle.wh_find_moves.specs.Found.{AreApart}
 use Rattle.wh_guesses.specs.Found.{IsInterpretation}
 use Rattle.wh_prover.specs.Searched.{IsSearched}
 use Rattle.wh_cert.specs.Limits.{NodeFits, NodeWithin}
-use Rattle.wh_nodes.specs.Nodes.{done, alone, blocks, subterm, poly, IsSetOf, IsKept, Leaves, by_done, by_alone, by_blocks, by_subterm, by_poly}
-use Rattle.wh_checker.specs.Walk.{GoesOn}
+use Rattle.wh_proof.specs.Nodes.{done, alone, blocks, subterm, poly, Leaves, by_done, by_alone, by_blocks, by_subterm, by_poly}
+use Rattle.wh_pairs.specs.Sets.{IsSetOf, IsKept}
+use Rattle.wh_proof.specs.GoesOn.{GoesOn}
 use Rattle.wh_prover.specs.Arriving.{IsAlone, IsAloneUnder, Arrives, behind_projection, behind_interpretation, Ended, HasNoProjection}
 use Rattle.wh_prover.specs.Walk.{weight, SaysProjection, Adds, dropped_by}
 use Rattle.wh_prover.proofs.CountLemmas.{components_lighter, rest_lighter, weighs_something}

@@ -7,7 +7,7 @@ use Rattle.wh_access.specs.Passing.{IsPassing}
 use Rattle.wh_pairs.specs.SystemPairs.{HasPairs}
 use Rattle.wh_cert.specs.Written as w
 use Rattle.wh_cert.specs.Limits.{IsCert}
-use Rattle.wh_checker.specs.Valid.{IsWhole}
+use Rattle.wh_pairs.specs.Sets.{IsWhole}
 use Rattle.wh_prover.specs.Answers.{IsProof, IsReason, IsFull, HasNoLoops, HasNoProof, HasRanks}
 use Rattle.wh_prover.specs.Walk.{weigh, IsTree, IsEnd}
 use Rattle.wh_find_loop.specs.Answers.{Arrival}
@@ -48,9 +48,9 @@ proof_of_tree d ps ranks count set lines made pairs passing each low right whole
 -- what ended the walk is why there is no proof
 pub no_proof_of_end : (d : SystemData) (ps : List PairData) (tries : ℕ) (cause : Cause) → HasRanks d → IsEnd d ps tries cause → HasNoProof d ps tries cause
 no_proof_of_end d ps tries (NoRanks cause) ranks end = absurd end
-no_proof_of_end d ps tries (Stuck set) ranks end = record { ranks = ranks; ended = end.0; no_projection = end.1; no_interpretation = end.2 }
+no_proof_of_end d ps tries (Stuck set) ranks end = record { ranks = ranks; searched = end.0; ended = end.1; no_projection = end.2; no_interpretation = end.3 }
 no_proof_of_end d ps tries (Spent Subterm set list) ranks end = record { ranks = ranks; ended = end.0; spent = end.1 }
-no_proof_of_end d ps tries (Spent Poly set list) ranks end = record { ranks = ranks; ended = end.0; no_projection = end.1; spent = end.2 }
+no_proof_of_end d ps tries (Spent Poly set list) ranks end = record { ranks = ranks; searched = end.0; ended = end.1; no_projection = end.2; spent = end.3 }
 no_proof_of_end d ps tries (Full visits) ranks end = absurd end
 
 -- where there are no loops, that is the reason

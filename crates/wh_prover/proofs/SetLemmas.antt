@@ -3,8 +3,9 @@ use mathlib.Core.Path.{ap₂}
 use Rattle.std.proofs.Common.{◌≡◌, ℕ, List, [], ◌∷◌, All, Contains, refl}
 use Rattle.std.proofs.lemmas.List.Elements.{All-head, All-tail}
 use Rattle.wh_pairs.specs.PairData.{IsIncreasing}
-use Rattle.wh_nodes.specs.Nodes.{IsSetOf, AreSetsOf, no_sets, more_sets}
-use Rattle.wh_checker.proofs.SetLemmas.{set_one}
+use Rattle.wh_proof.specs.Nodes.{AreSetsOf, no_sets, more_sets}
+use Rattle.wh_pairs.specs.Sets.{IsSetOf}
+use Rattle.wh_pairs.proofs.SetLemmas.{set_one}
 
 -- a list that increases is the set of its numbers
 pub set_itself : (set : List ℕ) → IsIncreasing set → IsSetOf (Contains set) set

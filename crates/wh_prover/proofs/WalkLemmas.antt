@@ -9,12 +9,12 @@ use Rattle.wh_cert.specs.Written.{children, Preorder}
 use Rattle.wh_cert.specs.Limits.{NodeFits, NodeWithin}
 use Rattle.wh_cert.specs.Said.{said_node}
 use Rattle.wh_cert.specs.declared.certificate.Node as code
-use Rattle.wh_nodes.specs.Nodes.{Node, done, alone, blocks, subterm, poly, AreSetsOf, no_sets, more_sets, Leaves, by_done, by_alone, by_blocks, by_subterm, by_poly}
-use Rattle.wh_nodes.specs.Proves.{Proves, all_proved, one_proved}
-use Rattle.wh_checker.specs.Looked.{SaysNode}
-use Rattle.wh_checker.specs.Small.{AreSmall, all_small, one_small}
-use Rattle.wh_checker.specs.Valid.{IsWhole}
-use Rattle.wh_checker.specs.Walk.{AreProvedBy}
+use Rattle.wh_proof.specs.Nodes.{Node, done, alone, blocks, subterm, poly, AreSetsOf, no_sets, more_sets, Leaves, by_done, by_alone, by_blocks, by_subterm, by_poly}
+use Rattle.wh_proof.specs.Proves.{Proves, all_proved, one_proved}
+use Rattle.wh_proof.specs.Looked.{SaysNode}
+use Rattle.wh_proof.specs.Small.{AreSmall, all_small, one_small}
+use Rattle.wh_pairs.specs.Sets.{IsWhole}
+use Rattle.wh_proof.specs.GoesOn.{AreProvedBy}
 use Rattle.wh_prover.specs.Arriving.{Arrives, at_all}
 use Rattle.wh_prover.specs.Searched.{IsSearched}
 use Rattle.wh_prover.specs.Walk.{weigh, weight, Adds, HasWalked, IsTree}

@@ -1,5 +1,5 @@
 -- What the prover answers: a certificate of termination or of a loop that is valid, or why it gives up.
-use Rattle.std.specs.Prelude.{ℕ, ◌≡◌, ◌⊎◌, List, length, map, All}
+use Rattle.std.specs.Prelude.{ℕ, ◌≡◌, ◌<◌, ◌⊎◌, List, length, map, All}
 use Rattle.wh_system.specs.Systems.{SystemData}
 use Rattle.wh_pairs.specs.PairData.{PairData}
 use Rattle.wh_access.specs.Passing.{IsPassing}
@@ -10,12 +10,11 @@ use Rattle.wh_cert.specs.Written.{Cert, yes, no}
 use Rattle.wh_sat_trail.specs.declared.literal.Literal.{Literal}
 use Rattle.wh_find_subterm.specs.Found.{IsSpent}
 use Rattle.wh_guesses.specs.Conditions.{HasNoInterpretation}
-use Rattle.wh_find_poly.specs.Answers as tried
+use Rattle.wh_blocking.specs.Answers as tried
 use Rattle.wh_loops.specs.Space.{HasNoLoop}
 use Rattle.wh_loops.specs.Found.{IsLoopCertificate}
 use Rattle.wh_find_loop.specs.Answers.{Arrival, arrival, AreVisited, ReachesFewer}
-use Rattle.wh_checker.specs.Valid.{IsValidCert}
-use Rattle.wh_checker.specs.Small.{IsSmallCert}
+use Rattle.wh_proof.specs.Valid.{IsValidCert, IsSmallCert}
 use Rattle.wh_prover.specs.Searched.{IsSearched}
 use Rattle.wh_prover.specs.Arriving.{Ended, HasNoProjection}
 use Rattle.wh_prover.specs.declared.answer.Answer.{Answer}
@@ -47,9 +46,11 @@ pub record IsProof (d : SystemData) (ps : List PairData) (c : Cert) : Type 0 whe
 abbrev pub HasRanks : SystemData → Type 0
 HasRanks d = (ranks : List ℕ) × (length ranks ≡ d.symbols.sorts) × IsPassing d ranks
 
--- no projection and no interpretation lets a pair go of a knot that the search comes to, under some ranks (ours)
-pub record IsStuck (d : SystemData) (ps : List PairData) (set : List ℕ) : Type 0 where
+-- no projection and no interpretation lets a pair go of a knot that the search comes to, under some ranks; so clauses may be learnt at
+-- all (ours)
+pub record IsStuck (d : SystemData) (ps : List PairData) (tries : ℕ) (set : List ℕ) : Type 0 where
   pub ranks : HasRanks d
+  pub searched : 0 < tries
   pub ended : Ended d ps set
   pub no_projection : HasNoProjection d.rules ps set
   pub no_interpretation : HasNoInterpretation d ps set
@@ -64,6 +65,7 @@ pub record IsSpentOn (d : SystemData) (ps : List PairData) (tries : ℕ) (set : 
 -- which are shown (ours)
 pub record IsTriedOn (d : SystemData) (ps : List PairData) (tries : ℕ) (set : List ℕ) (list : List (List Literal)) : Type 0 where
   pub ranks : HasRanks d
+  pub searched : 0 < tries
   pub ended : Ended d ps set
   pub no_projection : HasNoProjection d.rules ps set
   pub spent : tried.IsSpent d ps set tries list
@@ -72,12 +74,12 @@ pub record IsTriedOn (d : SystemData) (ps : List PairData) (tries : ℕ) (set : 
 -- (ours)
 abbrev pub HasNoProof : SystemData → List PairData → ℕ → Cause → Type 0
 HasNoProof d ps tries (NoRanks cause) = IsCause d cause
-HasNoProof d ps tries (Stuck set) = IsStuck d ps set
+HasNoProof d ps tries (Stuck set) = IsStuck d ps tries set
 HasNoProof d ps tries (Spent Subterm set list) = IsSpentOn d ps tries set list
 HasNoProof d ps tries (Spent Poly set list) = IsTriedOn d ps tries set list
 HasNoProof d ps tries (Full visits) = ⊥
 
--- no loop was found: there is none of at most so many steps, and all terms on the way to one were looked at (ours)
+-- no loop was found: there is none of at most so many steps, and fewer terms are reached than may be kept (ours)
 pub record HasNoLoops (d : SystemData) (o : Options) : Type 0 where
   pub none : HasNoLoop d o.depth
   pub all : ReachesFewer d.rules o.depth o.visited
@@ -93,10 +95,10 @@ FoundNoLoop d o = HasNoLoops d o ⊎ ((list : List Arrival) × IsFull d o list)
 -- for what lets one go was given up; or it ended on such a set, and the search for loops is full, which outweighs only that (ours)
 abbrev pub IsReason : SystemData → List PairData → Options → Cause → Type 0
 IsReason d ps o (NoRanks cause) = IsCause d cause × FoundNoLoop d o
-IsReason d ps o (Stuck set) = IsStuck d ps set × HasNoLoops d o
+IsReason d ps o (Stuck set) = IsStuck d ps o.tries set × HasNoLoops d o
 IsReason d ps o (Spent Subterm set list) = IsSpentOn d ps o.tries set list × FoundNoLoop d o
 IsReason d ps o (Spent Poly set list) = IsTriedOn d ps o.tries set list × FoundNoLoop d o
-IsReason d ps o (Full visits) = ((set : List ℕ) × IsStuck d ps set) × IsFull d o (map arrival visits)
+IsReason d ps o (Full visits) = ((set : List ℕ) × IsStuck d ps o.tries set) × IsFull d o (map arrival visits)
 
 -- a certificate of a loop
 abbrev pub IsNo : Cert → Type 0

@@ -8,12 +8,11 @@ use Rattle.wh_graph.specs.Components.{Reaches, AreComponents}
 use Rattle.wh_subterm.specs.Projections.{Chosen}
 use Rattle.wh_subterm.specs.SubtermRows.{IsProjection}
 use Rattle.wh_find_subterm.specs.Found.{DropsAllBelow}
-use Rattle.wh_nodes.specs.Nodes.{IsSetOf, IsKept}
+use Rattle.wh_pairs.specs.Sets.{IsSetOf, IsKept, IsWhole}
 use Rattle.wh_hopoly.specs.Evaluation.{Interpretation}
 use Rattle.wh_hopoly.specs.Moves.{Transfer}
 use Rattle.wh_polycheck.specs.Marks.{Mark}
-use Rattle.wh_meaning.specs.Covering.{IsCovering}
-use Rattle.wh_checker.specs.Valid.{IsWhole}
+use Rattle.wh_polycheck.specs.Covering.{IsCovering}
 
 -- the set is one component: each pair of it leads to each other one within it
 abbrev pub IsOneComponent : List RewriteRule → List PairData → List ℕ → Type 0

@@ -2,4 +2,3 @@ pub mod Arriving
 pub mod Searched
 pub mod Answers
 pub mod Walk
-pub mod Laws

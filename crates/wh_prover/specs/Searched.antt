@@ -8,7 +8,7 @@ use Rattle.wh_hopoly.specs.declared.expression.Move as moved
 use Rattle.wh_hopoly.specs.Erase.{transfers}
 use Rattle.wh_hopoly.specs.Evaluation.{Interpretation}
 use Rattle.wh_polycheck.specs.Marks.{Mark, marked_types}
-use Rattle.wh_checker.specs.Looked.{SayInterpretations, SayMarks}
+use Rattle.wh_proof.specs.Looked.{SayInterpretations, SayMarks}
 use Rattle.wh_find_moves.specs.Found.{AreApart}
 use Rattle.wh_space.specs.Space.{IsOfSpace}
 

@@ -13,10 +13,10 @@ use Rattle.wh_cert.specs.Said.{said_node}
 use Rattle.wh_cert.specs.declared.certificate.Node.{Node}
 use Rattle.wh_find_subterm.specs.Found.{IsSpent}
 use Rattle.wh_guesses.specs.Conditions.{HasNoInterpretation}
-use Rattle.wh_find_poly.specs.Answers as tried
+use Rattle.wh_blocking.specs.Answers as tried
 use Rattle.wh_subterm.specs.Projections.{Chosen}
-use Rattle.wh_checker.specs.Looked.{SayChoices}
-use Rattle.wh_checker.specs.Walk.{GoesOn, AreProvedBy}
+use Rattle.wh_proof.specs.Looked.{SayChoices}
+use Rattle.wh_proof.specs.GoesOn.{GoesOn, AreProvedBy}
 use Rattle.wh_prover.specs.Arriving.{Arrives, Ended, HasNoProjection}
 use Rattle.wh_prover.specs.Searched.{IsSearched}
 use Rattle.wh_prover.specs.declared.answer.Cause.{Cause}
@@ -36,9 +36,9 @@ weight (set ∷ sets) = weigh set + weight sets
 -- why the walk ended on a set (ours)
 abbrev pub IsEnd : SystemData → List PairData → ℕ → Cause → Type 0
 IsEnd d ps tries (NoRanks cause) = ⊥
-IsEnd d ps tries (Stuck set) = Ended d ps set × HasNoProjection d.rules ps set × HasNoInterpretation d ps set
+IsEnd d ps tries (Stuck set) = (0 < tries) × Ended d ps set × HasNoProjection d.rules ps set × HasNoInterpretation d ps set
 IsEnd d ps tries (Spent Subterm set list) = Ended d ps set × IsSpent d.rules ps set tries list
-IsEnd d ps tries (Spent Poly set list) = Ended d ps set × HasNoProjection d.rules ps set × tried.IsSpent d ps set tries list
+IsEnd d ps tries (Spent Poly set list) = (0 < tries) × Ended d ps set × HasNoProjection d.rules ps set × tried.IsSpent d ps set tries list
 IsEnd d ps tries (Full visits) = ⊥
 
 -- the lines of a node are for these choices and this drop list, and fit (ours)

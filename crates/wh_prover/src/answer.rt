@@ -20,7 +20,7 @@ pub struct Options {
 /// The answer of the search.
 #[derive(Drop)]
 pub enum Answer {
-    /// Every reduction ends: a certificate of it, which the check accepts.
+    /// Every well-typed term is bounded: a valid certificate of it, which the check accepts.
     Yes(Certificate),
     /// Some term has reductions of every length: a certificate of it, which the check accepts.
     No(Certificate),
@@ -28,13 +28,13 @@ pub enum Answer {
     Maybe(Cause),
 }
 
-/// Why the search gave up. It says nothing of whether every reduction ends.
+/// Why the search gave up. It says nothing of whether every well-typed term is bounded.
 #[derive(Drop)]
 pub enum Cause {
     /// The system is passing under no ranks.
     NoRanks(NoRanks),
     /// The search came to this set, of which the graph settles nothing, and no projection and no interpretation lets a pair go. There
-    /// is no loop in the space that was searched.
+    /// is no loop of at most `depth` steps in the space, and fewer terms are reached than may be kept.
     Stuck(PairSet),
     /// A finder ended on a set without an answer.
     Spent {

@@ -3,7 +3,6 @@
 #![tactic(auto)]
 
 mod answer;
-mod laws;
 mod lines;
 mod node;
 mod numbers;
@@ -11,5 +10,4 @@ mod search;
 mod walk;
 
 pub use answer::{Answer, Cause, Finder, Options};
-pub use laws::{loops_are_accepted, proofs_are_accepted};
 pub use search::prove;

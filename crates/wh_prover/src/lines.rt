@@ -6,16 +6,15 @@ ghost use Rattle.wh_system.specs.SystemView.{system_data};
 ghost use Rattle.wh_subterm.specs.SubtermRows.{chosen};
 ghost use Rattle.wh_cert.specs.Limits.{ArgFits};
 ghost use Rattle.wh_cert.specs.Said.{said_arg, said_node};
-ghost use Rattle.wh_checker.specs.Looked.{SayChoices};
+ghost use Rattle.wh_proof.specs.Looked.{SayChoices};
 ghost use Rattle.wh_prover.specs.Walk.{SaysProjection};
 
 use crate::numbers::numbers_of;
 use std::alloc::{AllocError, Global};
-use wh_cert::{Arg, Args, Node};
+use wh_cert::Node;
 use wh_find_subterm::ProjectionFound;
-use wh_subterm::Choice;
+use wh_proof::lines_of_choices;
 use wh_system::System;
-use wh_text::Name;
 
 /// The node of a projection and the pairs that it drops.
 pub fn node_of(alloc: Global, system: &System, found: &ProjectionFound) -> Result<Node, AllocError>
@@ -23,25 +22,7 @@ pub fn node_of(alloc: Global, system: &System, found: &ProjectionFound) -> Resul
     requires arguments { All (λ c. c.argument ≤ greatest_number) found.now.args }
     ensures { IfOk result (λ node. SaysProjection (system_data system.now) (said_node node) (map chosen found.now.args) found.now.drop) }
 {
-    let args = args_of(alloc, system, found.args.as_slice())?;
+    let args = lines_of_choices(alloc, system, found.args.as_slice())?;
     let drop = numbers_of(alloc, found.drop.as_slice())?;
     Ok(Node::Subterm { args, drop })
-}
-
-// The lines `arg` of some choices.
-fn args_of(alloc: Global, system: &System, choices: &[Choice]) -> Result<Args, AllocError>
-    requires symbols { All (λ c. c.symbol < length (system_data system.now).fun_names) choices.now }
-    requires arguments { All (λ c. c.argument ≤ greatest_number) choices.now }
-    ensures said { IfOk result (λ args. SayChoices (system_data system.now) (map said_arg args) (map chosen choices.now)) }
-    ensures fit { IfOk result (λ args. All ArgFits (map said_arg args)) }
-{
-    let mut args = Args::new(alloc)?;
-    for choice in choices {
-        let name = Name::new(alloc, system.fun_name(choice.symbol).bytes())?;
-        args.push(Arg {
-            name,
-            place: choice.argument,
-        })?;
-    }
-    Ok(args)
 }

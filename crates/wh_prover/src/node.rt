@@ -14,11 +14,11 @@ use crate::answer::{Cause, Finder};
 use crate::lines::node_of;
 use std::alloc::{AllocError, Global};
 use wh_cert::{Node, Nodes};
-use wh_checker::{kept, open_blocks};
 use wh_find_poly::find_interpretation;
 use wh_find_subterm::find_projection;
 use wh_graph::Graph;
-use wh_pairs::{PairList, PairSet};
+use wh_pairs::{PairList, PairSet, kept};
+use wh_proof::open_blocks;
 use wh_sat::Search;
 use wh_system::System;
 
@@ -117,6 +117,7 @@ fn interpret(
     requires pairs { HasPairs (system_data system.now) (pairs_data pairs.now) }
     requires ended { Ended (system_data system.now) (pairs_data pairs.now) set }
     requires none { HasNoProjection (system_data system.now).rules (pairs_data pairs.now) set }
+    requires some { 0 < tries }
     ensures { IfOk result (λ end. MatchOption end (AddsNode system.now pairs.now set stack.old.items stack.new.items nodes.old nodes.new)
         (IsEnd (system_data system.now) (pairs_data pairs.now) tries)) }
 {

@@ -1,4 +1,4 @@
-//! The search for a proof, and then for a loop.
+//! The search for a short loop, for a proof, and then for any loop.
 
 ghost use Rattle.std.specs.Prelude.{◌≡◌, ◌≤◌, All, IfOk, MatchResult, length};
 ghost use Rattle.wh_types.specs.Limits.{greatest_number};
@@ -15,19 +15,41 @@ use crate::walk::walk;
 use std::alloc::{AllocError, Global};
 use wh_access::find_ranks;
 use wh_cert::{Certificate, Nodes, YesCertificate};
-use wh_checker::numbers_below;
 use wh_find_loop::{LoopSearch, find_loop};
 use wh_graph::Graph;
-use wh_pairs::PairList;
+use wh_pairs::{PairList, numbers_below};
 use wh_system::System;
 use wh_types::{Or, Ranks};
 
-/// A proof that every reduction of the system ends, or a loop, or why the search gave up.
+// How many terms a first, short search for loops keeps at most. It comes before the search for a proof, which may take long where
+// there is a loop.
+const FIRST_VISITED: u32 = 50;
+
+/// A proof that every well-typed term of the system is bounded, or a loop, or why the search gave up.
 ///
 /// `Yes` is a certificate that is valid and within the limits of its format, and no value exceeds a limit where it is checked. `No` is a
-/// certificate of a loop of at most `depth` steps from the left side of a rule. `Maybe` names the first set on which the search
-/// ended, or why there are no ranks; it comes only where no loop was found.
+/// certificate of a loop of at most `depth` steps from the left side of a rule. `Maybe` names a set on which the search
+/// ended, or why there are no ranks; it comes only where no loop was found: there is none of at most `depth` steps in the space and
+/// fewer terms are reached than `visited`, or the list of visited terms is full.
 pub fn prove(
+    alloc: Global,
+    system: &System,
+    pairs: &PairList,
+    options: &Options,
+) -> Result<Answer, AllocError>
+    requires pairs { HasPairs (system_data system.now) (pairs_data pairs.now) }
+    requires depth { options.now.depth ≤ 100 }
+    ensures { IfOk result (IsAnswer (system_data system.now) (pairs_data pairs.now) options.now) }
+{
+    let first = options.visited.min(FIRST_VISITED);
+    match find_loop(alloc, system, options.depth, first)? {
+        LoopSearch::Found(found) => Ok(Answer::No(Certificate::No(found))),
+        LoopSearch::Nothing | LoopSearch::Full(_) => search(alloc, system, pairs, options),
+    }
+}
+
+// The same where the short search found no loop.
+fn search(
     alloc: Global,
     system: &System,
     pairs: &PairList,

@@ -7,7 +7,7 @@ ghost use Rattle.wh_pairs.specs.Views.{pairs_data};
 ghost use Rattle.wh_system.specs.SystemView.{system_data};
 ghost use Rattle.wh_cert.specs.Said.{said_node};
 ghost use Rattle.wh_graph.specs.Graphs.{IsGraphOf};
-ghost use Rattle.wh_checker.specs.Valid.{IsWhole};
+ghost use Rattle.wh_pairs.specs.Sets.{IsWhole};
 ghost use Rattle.wh_prover.specs.Walk.{IsEnd, IsTree};
 
 use crate::answer::Cause;

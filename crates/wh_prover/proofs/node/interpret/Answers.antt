@@ -4,9 +4,9 @@ use Rattle.wh_system.specs.SystemView.{system_data}
 use Rattle.wh_pairs.specs.PairData.{pair_data}
 use Rattle.wh_pairs.specs.Views.{pairs_data}
 use Rattle.wh_cert.specs.Said.{said_node}
-use Rattle.wh_nodes.specs.Nodes.{IsKept, IsSetOf}
+use Rattle.wh_pairs.specs.Sets.{IsKept, IsSetOf}
 use Rattle.wh_guesses.specs.Found.{IsInterpretation}
-use Rattle.wh_find_poly.specs.Answers.{IsAnswer}
+use Rattle.wh_blocking.specs.Answers.{IsAnswer}
 use Rattle.wh_prover.proofs.ArriveLemmas.{arrives_within}
 use Rattle.wh_prover.proofs.NodeLemmas.{adds_interpretation, dropped_by_interpretation}
 use Rattle.wh_prover.proofs.WalkLemmas.{reverse_push, said_push}

@@ -5,7 +5,7 @@ use Rattle.wh_pairs.specs.PairData.{pair_data}
 use Rattle.wh_pairs.specs.Views.{pairs_data}
 use Rattle.wh_subterm.specs.SubtermRows.{chosen}
 use Rattle.wh_cert.specs.Said.{said_node}
-use Rattle.wh_nodes.specs.Nodes.{IsKept, IsSetOf}
+use Rattle.wh_pairs.specs.Sets.{IsKept, IsSetOf}
 use Rattle.wh_find_subterm.specs.Found.{IsAnswer}
 use Rattle.wh_prover.proofs.ArriveLemmas.{arrives_within}
 use Rattle.wh_prover.proofs.LimitLemmas.{choices_named, choices_low}
@@ -23,13 +23,13 @@ pub node_of-requires-clause-symbols : goal.node_of-requires-clause-symbols
 node_of-requires-clause-symbols c =
     let d = system_data c.args.system.now in
     let found = subst (IsAnswer d.rules (pairs_data c.args.pairs.now) c.args.set c.args.tries) c.in-Found.is c.in_ok-found.ensures in
-    choices_named d c.in-Found.found.args c.is_well_made.ensures found.0.places
+    choices_named d c.in-Found.found.args c.is_well_made.ensures found.1.places
 
 pub node_of-requires-clause-arguments : goal.node_of-requires-clause-arguments
 node_of-requires-clause-arguments c =
     let d = system_data c.args.system.now in
     let found = subst (IsAnswer d.rules (pairs_data c.args.pairs.now) c.args.set c.args.tries) c.in-Found.is c.in_ok-found.ensures in
-    choices_low d c.in-Found.found.args c.is_well_made.ensures found.0.places
+    choices_low d c.in-Found.found.args c.is_well_made.ensures found.1.places
 
 pub returns-in_ok-push-in-Found-2 : goal.returns-in_ok-push-in-Found-2
 returns-in_ok-push-in-Found-2 c =
@@ -45,6 +45,6 @@ returns-in_ok-push-in-Found-2 c =
     let few = subst (λ n. n ≤ 4096) (sym (length-map pairs pair_data)) c.requires.few in
     let kept = subst (λ (s : List ℕ). IsSetOf (IsKept set s) rest) c.as_slice.ensures.numbers c.in_ok-kept-in-Found.ensures in
     adds_subterm d ps set drop rest (map chosen c.in-Found.found.args) (said_node node) (reverse stack) (reverse c.push.new.self.items) (map said_node c.args.nodes.now) (map said_node c.push-in-Found.new.self)
-    c.is_well_made.ensures few c.requires.ended found.0 found.1 kept c.in_ok-node_of-in-Found.ensures
+    c.is_well_made.ensures few c.requires.ended found.1 found.2 kept c.in_ok-node_of-in-Found.ensures
     (ap reverse c.in_ok-push-in-Found.ensures.items ∙ reverse_push stack rest)
     (said_push c.args.nodes.now c.push-in-Found.new.self node c.in_ok-push-in-Found-2.ensures.ok)

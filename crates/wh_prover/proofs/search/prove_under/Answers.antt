@@ -5,7 +5,7 @@ use Rattle.wh_system.specs.SystemView.{system_data}
 use Rattle.wh_pairs.specs.PairData.{pair_data}
 use Rattle.wh_pairs.specs.declared.pair.Pair.{Pair}
 use Rattle.wh_pairs.specs.Views.{pairs_data}
-use Rattle.wh_nodes.specs.Nodes.{IsSetOf}
+use Rattle.wh_pairs.specs.Sets.{IsSetOf}
 use Rattle.wh_cert.specs.Written as w
 use Rattle.wh_cert.specs.Said.{said_node}
 use Rattle.wh_prover.specs.Answers.{IsProof}
