@@ -5,8 +5,9 @@ ghost use Rattle.std.specs.Prelude.{◌<◌, All, IfOk, length};
 
 use crate::SYSTEM_LIMIT;
 use std::alloc::{AllocError, Global};
+use wh_find_pairs::pairs;
 use wh_graph::components;
-use wh_pairs::{PairList, PairSet, pairs};
+use wh_pairs::{PairList, PairSet};
 use wh_read::read_system;
 use wh_types::Bytes;
 

@@ -1,5 +1,0 @@
-use Rattle.wh_access.proofs.Rows.{lists_pass}
-use Rattle.wh_term_rows.proofs.rank_rows.functions_pass_below_their_lists.Goals as goal
-
-pub returns : goal.returns
-returns c = lists_pass

@@ -1,5 +1,0 @@
-use Rattle.wh_access.proofs.Rows.{maps_pass}
-use Rattle.wh_term_rows.proofs.rank_rows.maps_pass_under_equal_ranks.Goals as goal
-
-pub returns : goal.returns
-returns c = maps_pass

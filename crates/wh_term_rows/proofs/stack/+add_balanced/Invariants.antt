@@ -1,4 +1,0 @@
-use Rattle.wh_term_rows.proofs.stack.+add_balanced.Given as goal
-
-abbrev pub decreases-add_balanced : goal.decreases-add_balanced
-decreases-add_balanced l = l.levels

@@ -1,4 +1,0 @@
-use Rattle.wh_term_rows.proofs.step_rows.+add_doubled.Given as goal
-
-abbrev pub decreases-add_doubled : goal.decreases-add_doubled
-decreases-add_doubled l = l.levels

@@ -1,0 +1,18 @@
+//! Rows of lists and types, of tokens and printed texts, of certificates, and of files and sinks, with answers from outside,
+//! and each public call at least once with ample memory.
+//!
+//! Like wh_test_program, this crate has tests alone: a library with tests of its own would be proved a second time with them. The
+//! rows stand in tables, and where it is shorter as texts that the libraries read. What the calls answer is proved; that
+//! they answer at all, and that the definitions say what is meant, is what these runs show.
+#![tactic(auto)]
+
+#[cfg(test)]
+mod certificate_rows;
+#[cfg(test)]
+mod comparing;
+#[cfg(test)]
+mod list_rows;
+#[cfg(test)]
+mod outside_rows;
+#[cfg(test)]
+mod text_rows;
