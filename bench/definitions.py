@@ -178,7 +178,7 @@ def lines_of(files):
     crates = collections.defaultdict(set)
     for path in files:
         crates[path.parts[-3]].add(path.stem)
-    order = [line.split(":")[0] for line in (TOP / "crates.txt").read_text().splitlines() if ":" in line]
+    order = re.findall(r"(?m)^(\w+)(?: \w+)*:", (TOP / "crates.txt").read_text())
     return [f"{crate}: {', '.join(sorted(crates[crate]))}" for crate in sorted(crates, key=order.index)]
 
 

@@ -113,7 +113,7 @@ def listed():
 
 def show(found, total, elapsed):
     crates = [crate for crate in listed() if crate in found]
-    print(f"\n{'crate':14}{'lines':>8}{'proof':>9}{'tests':>9}{'edits':>9}{'all':>9}{'min per 1,000':>15}")
+    print(f"\n{'crate':16}{'lines':>8}{'proof':>9}{'tests':>9}{'edits':>9}{'all':>9}{'min per 1,000':>15}")
     sums, lines = dict.fromkeys(KINDS, 0.0), 0
     for crate in crates:
         row, length = found[crate], lines_of(crate)
@@ -121,12 +121,12 @@ def show(found, total, elapsed):
         for kind in KINDS:
             sums[kind] += row[kind]
         cells = "".join(f"{row[kind]:9.0f}" for kind in KINDS)
-        print(f"{crate:14}{length:8,}{cells}{whole:9.0f}{whole / 60 / max(length, 1) * 1000:15.2f}")
+        print(f"{crate:16}{length:8,}{cells}{whole:9.0f}{whole / 60 / max(length, 1) * 1000:15.2f}")
     known = sum(sums.values())
-    print(f"{'rest':14}{'':35}{total - known:9.0f}")
+    print(f"{'rest':16}{'':35}{total - known:9.0f}")
     cells = "".join(f"{sums[kind]:9.0f}" for kind in KINDS)
     rate = total / 60 / max(lines, 1) * 1000
-    print(f"{'all':14}{lines:8,}{cells}{total:9.0f}{rate:15.2f}")
+    print(f"{'all':16}{lines:8,}{cells}{total:9.0f}{rate:15.2f}")
     print(f"{total / 60:.0f} processor minutes in {elapsed / 60:.0f} minutes; the budget is {BUDGET} a 1,000 lines, here {lines * BUDGET / 1000:.0f}")
 
 
