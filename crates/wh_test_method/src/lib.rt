@@ -1,5 +1,5 @@
-//! Rows of the calls of the method over systems that are read from texts, of the solver, of circuits, and of the search for projections,
-//! which goes through the solver.
+//! Rows of the calls of the method over systems that are read from texts, of generated systems, of the solver, of circuits, and of the
+//! search for projections, which goes through the solver.
 //!
 //! This crate has tests alone: a library with tests of its own would be proved a second time with them.
 #![tactic(auto)]
@@ -10,6 +10,8 @@ mod chance;
 mod chance_rows;
 #[cfg(test)]
 mod circuit_rows;
+#[cfg(test)]
+mod family_rows;
 #[cfg(test)]
 mod formulas;
 #[cfg(test)]

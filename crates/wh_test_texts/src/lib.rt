@@ -1,4 +1,4 @@
-//! Rows of lists and types, of tokens and printed texts, of certificates, and of files and sinks, with answers from outside,
+//! Rows of lists and types, of tokens and printed texts, of answers and certificates, and of files and sinks, with answers from outside,
 //! and each public call at least once with ample memory.
 //!
 //! Like wh_test_program, this crate has tests alone: a library with tests of its own would be proved a second time with them. The
@@ -6,6 +6,8 @@
 //! they answer at all, and that the definitions say what is meant, is what these runs show.
 #![tactic(auto)]
 
+#[cfg(test)]
+mod answer_rows;
 #[cfg(test)]
 mod certificate_rows;
 #[cfg(test)]
