@@ -28,8 +28,8 @@ use wh_subterm::{SubtermFault, check_projection};
 use wh_system::System;
 use wh_types::Or;
 
-/// Whether the conditions of the node hold of the set, and no value exceeds a limit. Then what it leaves to be proved comes on top of the stack, the
-/// first of it on top.
+/// Whether the conditions of the node hold of the set, and no value exceeds a limit. Then what it leaves to be proved comes on
+/// top of the stack, the first of it on top.
 pub fn check_node(
     alloc: Global,
     system: &System,

@@ -49,10 +49,10 @@ fn check_term(
     }
 }
 
-/// Checks a NO certificate over the system. It is accepted exactly where it is valid: its steps, one at least, lead from its term to one
-/// that holds, at the place that it names, the instance that it names. Then its term has reductions of every length (loops: Kop 2012). The fault is the first
-/// condition of a valid certificate that is false: of the term, then of the steps, of what is put for variables, and of the
-/// place. The certificate is one that `read_certificate` gives.
+/// Checks a NO certificate over the system. It is accepted exactly where it is valid: its steps, one at least, lead from its
+/// term to one that holds, at the place that it names, the instance that it names. Then its term has reductions of every
+/// length (loops: Kop 2012). The fault is the first condition of a valid certificate that is false: of the term, then of the
+/// steps, of what is put for variables, and of the place. The certificate is one that `read_certificate` gives.
 pub fn check_no(
     alloc: Global,
     system: &System,
