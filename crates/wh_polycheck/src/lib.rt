@@ -16,5 +16,5 @@ pub use check::{check_strict, check_weak};
 pub use fault::CoverFault;
 pub use good::are_factors_at_least;
 pub use laws::{interpretations_in_order_interpret, symbols_of_marks_have_marks};
-pub use marks::{MarkedSymbol, kind_of_mark};
+pub use marks::{MarkedSymbol, Readings, kind_of_mark};
 pub use sides::{side_of_pair, side_of_rule};

@@ -10,7 +10,7 @@ ghost use Rattle.wh_polycheck.specs.Sides.{arrows};
 
 use crate::scopes::arrow;
 use std::alloc::{AllocError, Global};
-use wh_hopoly::Poly;
+use wh_hopoly::{Poly, Symbol};
 use wh_system::System;
 use wh_types::SimpleType;
 
@@ -21,6 +21,15 @@ pub struct MarkedSymbol {
     pub symbol: u32,
     /// The polynomial, in the scope of the arguments that the rules of the symbol need.
     pub poly: Poly,
+}
+
+/// What the symbols of a system, and the marked symbols of a set of its pairs, are read as (Fuhs and Kop 2012).
+#[derive(Clone, Copy)]
+pub struct Readings<'a> {
+    /// What each symbol is read as, by its number.
+    pub symbols: &'a [Symbol],
+    /// What each marked symbol of the set is read as, in order.
+    pub marks: &'a [MarkedSymbol],
 }
 
 /// The first mark of the symbol.

@@ -14,12 +14,14 @@ ghost use Rattle.wh_system.specs.SystemView.{system_data};
 ghost use Rattle.wh_hopoly.specs.Erase.{interpretations, poly};
 ghost use Rattle.wh_hopoly.specs.Evaluation.{NormalInterpretations, TypedExpression, evaluate};
 ghost use Rattle.wh_hopoly.specs.Outcomes.{ComesTo, IsFaultOf};
-ghost use Rattle.wh_polycheck.specs.Marks.{AreNormalMarks, HasMark, HasMarkedSides, mark_number, marked_types, with_marks};
-ghost use Rattle.wh_polycheck.specs.SideResults.{IsFaultOfPairSide, IsFaultOfSide, PairSideComesTo, SideComesTo, marks_of};
-ghost use Rattle.wh_polycheck.specs.Sides.{Interprets, marked_expression, side_expression, types_of_metas};
+ghost use Rattle.wh_polycheck.specs.Marks.{HasMark, HasMarkedSides, mark_number, marked_types, with_marks};
+ghost use Rattle.wh_polycheck.specs.Readings.{AreProper};
+ghost use Rattle.wh_polycheck.specs.ReadingsView.{readings_data};
+ghost use Rattle.wh_polycheck.specs.SideResults.{IsFaultOfPairSide, IsFaultOfSide, PairSideComesTo, SideComesTo};
+ghost use Rattle.wh_polycheck.specs.Sides.{marked_expression, side_expression, types_of_metas};
 
 use crate::expressions::{expression_of, expressions_of};
-use crate::marks::{MarkedSymbol, kind_of_mark, mark_of};
+use crate::marks::{Readings, kind_of_mark, mark_of};
 use crate::scopes::scope_of;
 use std::alloc::Global;
 use wh_hopoly::{Poly, PolyFault, Symbol, normal, normal_call};
@@ -29,30 +31,29 @@ use wh_terms::{Metas, Term, Terms};
 use wh_types::{Or, counted};
 
 /// The normal form of the right side of a rule, or of its left side, in the scope of the rule's meta-variables and of the
-/// arguments of its type, where symbols are read as `symbols` say (Fuhs and Kop 2012).
+/// arguments of its type, where symbols are read as `readings` say (Fuhs and Kop 2012).
 ///
 /// `Err` comes only where some value in the evaluation exceeds the limit that it names, and `Ok` only where none exceeds one. The
 /// part that it names is one of the side as an expression, counted in preorder from 0.
-pub fn side_of_rule(
+pub fn side_of_rule<'a>(
     alloc: Global,
     system: &System,
-    symbols: &[Symbol],
+    readings: &Readings<'a>,
     rule: u32,
     right: bool,
 ) -> Result<Poly, Or<PolyFault>>
-    requires interpreted { Interprets (system_data system.now).symbols (interpretations symbols.now) }
-    requires normal { NormalInterpretations (interpretations symbols.now) }
+    requires proper { AreProper (system_data system.now).symbols (system_data system.now).rules (readings_data readings.now) }
     requires rule { rule < length (system_data system.now).rules }
     ensures ok { (r : RewriteRule) → slice_get (system_data system.now).rules rule ≡ Some r
-        → IfOk result (λ p. SideComesTo (interpretations symbols.now) r.metas (side_of right r) (poly p)) }
+        → IfOk result (λ p. SideComesTo (readings_data readings.now).symbols r.metas (side_of right r) (poly p)) }
     ensures fault { (r : RewriteRule) → slice_get (system_data system.now).rules rule ≡ Some r
-        → IfBecause result (λ e. IsFaultOfSide (interpretations symbols.now) r.metas (side_of right r) e) }
+        → IfBecause result (λ e. IsFaultOfSide (readings_data readings.now).symbols r.metas (side_of right r) e) }
 {
     let item = &system.rules()[rule as usize];
     if right {
-        normal_of_side(alloc, &item.metas, &item.right, symbols)
+        normal_of_side(alloc, &item.metas, &item.right, readings.symbols)
     } else {
-        normal_of_side(alloc, &item.metas, &item.left, symbols)
+        normal_of_side(alloc, &item.metas, &item.left, readings.symbols)
     }
 }
 
@@ -76,32 +77,28 @@ fn normal_of_side(
     normal(alloc, &expression, scope.as_slice(), symbols)
 }
 
-/// The normal form of the right side of a pair, or of its left side, in the scope of the pair's meta-variables, where marked
-/// symbols are read as `marks` say, which stand behind `symbols` (Fuhs and Kop 2012). `Ok` and `Err` as for a rule.
-pub fn side_of_pair(
+/// The normal form of the right side of a pair, or of its left side, in the scope of the pair's meta-variables, where symbols and
+/// marked symbols are read as `readings` say (Fuhs and Kop 2012). `Ok` and `Err` as for a rule.
+pub fn side_of_pair<'a>(
     alloc: Global,
     system: &System,
-    symbols: &[Symbol],
-    marks: &[MarkedSymbol],
+    readings: &Readings<'a>,
     pair: &Pair,
     right: bool,
 ) -> Result<Poly, Or<PolyFault>>
-    requires interpreted { Interprets (system_data system.now).symbols (interpretations symbols.now) }
-    requires normal { NormalInterpretations (interpretations symbols.now) }
-    requires marks { AreNormalMarks (system_data system.now).symbols (system_data system.now).rules (marks_of marks.now) }
-    requires sides { HasMarkedSides (system_data system.now).symbols (system_data system.now).rules (marks_of marks.now)
+    requires proper { AreProper (system_data system.now).symbols (system_data system.now).rules (readings_data readings.now) }
+    requires sides { HasMarkedSides (system_data system.now).symbols (system_data system.now).rules (readings_data readings.now).marks
         (pair_data pair.now) }
     ensures ok { IfOk result (λ p. PairSideComesTo (system_data system.now).symbols (system_data system.now).rules
-        (interpretations symbols.now) (marks_of marks.now) (pair_data pair.now) right (poly p)) }
+        (readings_data readings.now).symbols (readings_data readings.now).marks (pair_data pair.now) right (poly p)) }
     ensures fault { IfBecause result (λ e. IsFaultOfPairSide (system_data system.now).symbols (system_data system.now).rules
-        (interpretations symbols.now) (marks_of marks.now) (pair_data pair.now) right e) }
+        (readings_data readings.now).symbols (readings_data readings.now).marks (pair_data pair.now) right e) }
 {
     if right {
         normal_of_marked(
             alloc,
             system,
-            symbols,
-            marks,
+            readings,
             &pair.metas,
             pair.right_fun,
             &pair.right,
@@ -110,8 +107,7 @@ pub fn side_of_pair(
         normal_of_marked(
             alloc,
             system,
-            symbols,
-            marks,
+            readings,
             &pair.metas,
             pair.left_fun,
             &pair.left,
@@ -121,33 +117,29 @@ pub fn side_of_pair(
 
 // The normal form of a marked symbol with arguments over the meta-variables. Its polynomial is not copied: it stands alone behind
 // the symbols.
-fn normal_of_marked(
+fn normal_of_marked<'a>(
     alloc: Global,
     system: &System,
-    symbols: &[Symbol],
-    marks: &[MarkedSymbol],
+    readings: &Readings<'a>,
     metas: &Metas,
     fun: u32,
     terms: &Terms,
 ) -> Result<Poly, Or<PolyFault>>
-    requires interpreted { Interprets (system_data system.now).symbols (interpretations symbols.now) }
-    requires normal { NormalInterpretations (interpretations symbols.now) }
-    requires marks { AreNormalMarks (system_data system.now).symbols (system_data system.now).rules (marks_of marks.now) }
-    requires marked { HasMark (marks_of marks.now) fun }
+    requires proper { AreProper (system_data system.now).symbols (system_data system.now).rules (readings_data readings.now) }
+    requires marked { HasMark (readings_data readings.now).marks fun }
     requires typed { AllTyped (system_data system.now).symbols (declared_metas metas.now) [] (tms_of (map tm terms.now))
         (marked_types (system_data system.now).symbols (system_data system.now).rules fun) }
     requires closed { AllNoFree (tms_of (map tm terms.now)) }
-    ensures ok { IfOk result (λ p. let all = with_marks (system_data system.now).symbols (system_data system.now).rules
-        (interpretations symbols.now) (marks_of marks.now) in ComesTo
+    ensures ok { IfOk result (λ p. let R = readings_data readings.now in
+        let all = with_marks (system_data system.now).symbols (system_data system.now).rules R.symbols R.marks in ComesTo
         (evaluate all (types_of_metas (declared_metas metas.now))
-        (marked_expression (declared_metas metas.now) (mark_number (interpretations symbols.now) (marks_of marks.now) fun)
-        (tms_of (map tm terms.now)))) (poly p)) }
-    ensures fault { IfBecause result (λ e. let all = with_marks (system_data system.now).symbols (system_data system.now).rules
-        (interpretations symbols.now) (marks_of marks.now) in IsFaultOf all (types_of_metas (declared_metas metas.now))
-        (marked_expression (declared_metas metas.now) (mark_number (interpretations symbols.now) (marks_of marks.now) fun)
-        (tms_of (map tm terms.now))) e) }
+        (marked_expression (declared_metas metas.now) (mark_number R.symbols R.marks fun) (tms_of (map tm terms.now)))) (poly p)) }
+    ensures fault { IfBecause result (λ e. let R = readings_data readings.now in
+        let all = with_marks (system_data system.now).symbols (system_data system.now).rules R.symbols R.marks in IsFaultOf all
+        (types_of_metas (declared_metas metas.now))
+        (marked_expression (declared_metas metas.now) (mark_number R.symbols R.marks fun) (tms_of (map tm terms.now))) e) }
 {
-    let mark = mark_of(marks, fun);
+    let mark = mark_of(readings.marks, fun);
     let kind = kind_of_mark(alloc, system, mark.symbol)?;
     let scope = scope_of(alloc, metas)?;
     let args = expressions_of(alloc, terms, counted(scope.len())?)?;
@@ -157,6 +149,6 @@ fn normal_of_marked(
         &mark.poly,
         args.as_slice(),
         scope.as_slice(),
-        symbols,
+        readings.symbols,
     )
 }

@@ -23,7 +23,7 @@ use Rattle.wh_polycheck.proofs.sides.normal_of_marked.Goals as goal
 pub normal_call-requires-clause-typed : goal.normal_call-requires-clause-typed
 normal_call-requires-clause-typed c =
     let d = system_data c.args.system.now in
-    let symbols = interpretations c.args.symbols.now in
+    let symbols = interpretations c.args.readings.now.symbols.now in
     let M = declared_metas c.args.metas.now in
     let a : Interpretation = record { kind = ty c.in_ok-kind.kind; polynomial = poly c.mark_of-mark.result.now.poly } in
     let is : a ≡ marked_interpretation d.symbols d.rules (mark c.mark_of-mark.result.now) =
@@ -31,28 +31,28 @@ normal_call-requires-clause-typed c =
     let scope : map ty c.as_slice-2.result.now ≡ types_of_metas M = ap (map ty) c.as_slice-2.ensures.value ∙ c.in_ok-scope.ensures in
     let count : c.in_ok-counted.field-0 ≡ length c.as_slice-2.result.now = search rules in
     let long = scope_counted c.as_slice-2.result.now (types_of_metas M) c.in_ok-counted.field-0 scope count in
-    let whole = call_told M c.in_ok-counted.field-0 (length c.args.symbols.now) (length symbols) c.args.terms.now
+    let whole = call_told M c.in_ok-counted.field-0 (length c.args.readings.now.symbols.now) (length symbols) c.args.terms.now
     (map expression c.as_slice.result.now) long (ap (map expression) c.as_slice.ensures.value ∙ c.in_ok-args.ensures)
-    (sym (length-map c.args.symbols.now interpretation)) in
+    (sym (length-map c.args.readings.now.symbols.now interpretation)) in
     subst₂ (TypedExpression (symbols ++ a ∷ [])) (sym scope) (sym whole)
-    (alone_typed d.symbols d.rules symbols c.requires.interpreted (marks_of c.args.marks.now) c.args.fun (mark c.mark_of-mark.result.now)
+    (alone_typed d.symbols d.rules symbols c.requires.proper.interpreted (marks_of c.args.readings.now.marks.now) c.args.fun (mark c.mark_of-mark.result.now)
     c.mark_of-mark.ensures c.requires.marked a is M (tms_of (map tm c.args.terms.now)) c.requires.typed c.requires.closed)
 
 pub normal_call-requires-clause-normal : goal.normal_call-requires-clause-normal
 normal_call-requires-clause-normal c =
     let d = system_data c.args.system.now in
-    let symbols = interpretations c.args.symbols.now in
+    let symbols = interpretations c.args.readings.now.symbols.now in
     let a : Interpretation = record { kind = ty c.in_ok-kind.kind; polynomial = poly c.mark_of-mark.result.now.poly } in
     let is : a ≡ marked_interpretation d.symbols d.rules (mark c.mark_of-mark.result.now) =
     ap (λ (k : Ty). record { kind = k; polynomial = poly c.mark_of-mark.result.now.poly }) c.in_ok-kind.ensures in
-    alone_normal d.symbols d.rules symbols c.requires.interpreted (marks_of c.args.marks.now) c.args.fun (mark c.mark_of-mark.result.now)
-    c.mark_of-mark.ensures c.requires.marked a is c.requires.normal c.requires.marks
+    alone_normal d.symbols d.rules symbols c.requires.proper.interpreted (marks_of c.args.readings.now.marks.now) c.args.fun (mark c.mark_of-mark.result.now)
+    c.mark_of-mark.ensures c.requires.marked a is c.requires.proper.normal.symbols c.requires.proper.normal.marks
 
 pub returns-clause-ok : goal.returns-clause-ok
 returns-clause-ok c =
     let d = system_data c.args.system.now in
-    let symbols = interpretations c.args.symbols.now in
-    let marks = marks_of c.args.marks.now in
+    let symbols = interpretations c.args.readings.now.symbols.now in
+    let marks = marks_of c.args.readings.now.marks.now in
     let M = declared_metas c.args.metas.now in
     let ts = tms_of (map tm c.args.terms.now) in
     let a : Interpretation = record { kind = ty c.in_ok-kind.kind; polynomial = poly c.mark_of-mark.result.now.poly } in
@@ -61,10 +61,10 @@ returns-clause-ok c =
     let scope : map ty c.as_slice-2.result.now ≡ types_of_metas M = ap (map ty) c.as_slice-2.ensures.value ∙ c.in_ok-scope.ensures in
     let count : c.in_ok-counted.field-0 ≡ length c.as_slice-2.result.now = search rules in
     let long = scope_counted c.as_slice-2.result.now (types_of_metas M) c.in_ok-counted.field-0 scope count in
-    let whole = call_told M c.in_ok-counted.field-0 (length c.args.symbols.now) (length symbols) c.args.terms.now
+    let whole = call_told M c.in_ok-counted.field-0 (length c.args.readings.now.symbols.now) (length symbols) c.args.terms.now
     (map expression c.as_slice.result.now) long (ap (map expression) c.as_slice.ensures.value ∙ c.in_ok-args.ensures)
-    (sym (length-map c.args.symbols.now interpretation)) in
-    let alike = alone_alike d.symbols d.rules symbols c.requires.interpreted marks c.args.fun (mark c.mark_of-mark.result.now)
+    (sym (length-map c.args.readings.now.symbols.now interpretation)) in
+    let alike = alone_alike d.symbols d.rules symbols c.requires.proper.interpreted marks c.args.fun (mark c.mark_of-mark.result.now)
     c.mark_of-mark.ensures c.requires.marked a is M ts c.requires.typed c.requires.closed in
     let all = with_marks d.symbols d.rules symbols marks in
     let e = marked_expression M (length symbols) ts in
@@ -78,8 +78,8 @@ returns-clause-ok c =
 pub returns-clause-fault : goal.returns-clause-fault
 returns-clause-fault c =
     let d = system_data c.args.system.now in
-    let symbols = interpretations c.args.symbols.now in
-    let marks = marks_of c.args.marks.now in
+    let symbols = interpretations c.args.readings.now.symbols.now in
+    let marks = marks_of c.args.readings.now.marks.now in
     let M = declared_metas c.args.metas.now in
     let ts = tms_of (map tm c.args.terms.now) in
     let a : Interpretation = record { kind = ty c.in_ok-kind.kind; polynomial = poly c.mark_of-mark.result.now.poly } in
@@ -88,10 +88,10 @@ returns-clause-fault c =
     let scope : map ty c.as_slice-2.result.now ≡ types_of_metas M = ap (map ty) c.as_slice-2.ensures.value ∙ c.in_ok-scope.ensures in
     let count : c.in_ok-counted.field-0 ≡ length c.as_slice-2.result.now = search rules in
     let long = scope_counted c.as_slice-2.result.now (types_of_metas M) c.in_ok-counted.field-0 scope count in
-    let whole = call_told M c.in_ok-counted.field-0 (length c.args.symbols.now) (length symbols) c.args.terms.now
+    let whole = call_told M c.in_ok-counted.field-0 (length c.args.readings.now.symbols.now) (length symbols) c.args.terms.now
     (map expression c.as_slice.result.now) long (ap (map expression) c.as_slice.ensures.value ∙ c.in_ok-args.ensures)
-    (sym (length-map c.args.symbols.now interpretation)) in
-    let alike = alone_alike d.symbols d.rules symbols c.requires.interpreted marks c.args.fun (mark c.mark_of-mark.result.now)
+    (sym (length-map c.args.readings.now.symbols.now interpretation)) in
+    let alike = alone_alike d.symbols d.rules symbols c.requires.proper.interpreted marks c.args.fun (mark c.mark_of-mark.result.now)
     c.mark_of-mark.ensures c.requires.marked a is M ts c.requires.typed c.requires.closed in
     let all = with_marks d.symbols d.rules symbols marks in
     let e = marked_expression M (length symbols) ts in

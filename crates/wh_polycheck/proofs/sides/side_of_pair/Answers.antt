@@ -10,23 +10,23 @@ use Rattle.wh_polycheck.proofs.sides.side_of_pair.Goals as goal
 pub returns-then-right-clause-ok : goal.returns-then-right-clause-ok
 returns-then-right-clause-ok c =
     let d = system_data c.args.system.now in
-    pair_side_normal d.symbols d.rules (interpretations c.args.symbols.now) (marks_of c.args.marks.now) (pair_data c.args.pair.now) c.args.right
-    true c.if-right.true c.normal_of_marked.result c.requires.interpreted c.requires.sides c.normal_of_marked.ensures.ok
+    pair_side_normal d.symbols d.rules (interpretations c.args.readings.now.symbols.now) (marks_of c.args.readings.now.marks.now) (pair_data c.args.pair.now) c.args.right
+    true c.if-right.true c.normal_of_marked.result c.requires.proper.interpreted c.requires.sides c.normal_of_marked.ensures.ok
 
 pub returns-then-right-clause-fault : goal.returns-then-right-clause-fault
 returns-then-right-clause-fault c =
     let d = system_data c.args.system.now in
-    pair_side_fault d.symbols d.rules (interpretations c.args.symbols.now) (marks_of c.args.marks.now) (pair_data c.args.pair.now) c.args.right
+    pair_side_fault d.symbols d.rules (interpretations c.args.readings.now.symbols.now) (marks_of c.args.readings.now.marks.now) (pair_data c.args.pair.now) c.args.right
     true c.if-right.true c.normal_of_marked.result c.normal_of_marked.ensures.fault
 
 pub returns-else-right-clause-ok : goal.returns-else-right-clause-ok
 returns-else-right-clause-ok c =
     let d = system_data c.args.system.now in
-    pair_side_normal d.symbols d.rules (interpretations c.args.symbols.now) (marks_of c.args.marks.now) (pair_data c.args.pair.now) c.args.right
-    false c.if-right.false c.normal_of_marked-else-right.result c.requires.interpreted c.requires.sides c.normal_of_marked-else-right.ensures.ok
+    pair_side_normal d.symbols d.rules (interpretations c.args.readings.now.symbols.now) (marks_of c.args.readings.now.marks.now) (pair_data c.args.pair.now) c.args.right
+    false c.if-right.false c.normal_of_marked-else-right.result c.requires.proper.interpreted c.requires.sides c.normal_of_marked-else-right.ensures.ok
 
 pub returns-else-right-clause-fault : goal.returns-else-right-clause-fault
 returns-else-right-clause-fault c =
     let d = system_data c.args.system.now in
-    pair_side_fault d.symbols d.rules (interpretations c.args.symbols.now) (marks_of c.args.marks.now) (pair_data c.args.pair.now) c.args.right
+    pair_side_fault d.symbols d.rules (interpretations c.args.readings.now.symbols.now) (marks_of c.args.readings.now.marks.now) (pair_data c.args.pair.now) c.args.right
     false c.if-right.false c.normal_of_marked-else-right.result c.normal_of_marked-else-right.ensures.fault

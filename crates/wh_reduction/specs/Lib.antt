@@ -1,0 +1,4 @@
+pub mod TaskData
+pub mod TaskView
+pub mod ReductionPair
+pub mod FirstFault
