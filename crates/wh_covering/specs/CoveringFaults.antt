@@ -1,17 +1,19 @@
 -- What can be wrong with a node of interpretations, and what comes first.
-use Rattle.std.specs.Prelude.{ℕ, ◌<◌, ◌≡◌, ◌≢◌, ◌⊎◌, List, Some, length, Bool, true, false, Contains, slice_get}
+use Rattle.std.specs.Prelude.{ℕ, ◌<◌, ◌≡◌, ◌⊎◌, List, Some, Bool, true, false, Contains, slice_get}
 use Rattle.wh_types.specs.Ty.{arguments}
 use Rattle.wh_terms.specs.Typing.{Symbols}
 use Rattle.wh_terms.specs.Rules.{RewriteRule}
-use Rattle.wh_pairs.specs.PairData.{PairData}
-use Rattle.wh_pairs.specs.Drops.{IsDropped, IsBadDrop}
+use Rattle.wh_pairs.specs.Drops.{IsBadDrop}
+use Rattle.wh_reduction.specs.TaskData.{TaskData}
+use Rattle.wh_reduction.specs.ReductionPair.{Evidence, Showing, IsRightRule}
+use Rattle.wh_reduction.specs.FirstFault.{Blaming, AreBadLines, AreCounted, IsFirstRuleFault, IsFirstPairFault}
 use Rattle.wh_hopoly.specs.Polynomials.{Polynomial, Normal}
 use Rattle.wh_hopoly.specs.Evaluation.{Run, Interpretation, NormalInterpretations}
-use Rattle.wh_hopoly.specs.Limits.{Exceeds}
 use Rattle.wh_hopoly.specs.Excesses.{ExceedsAs}
 use Rattle.wh_hopoly.specs.Moves.{Transfer}
 use Rattle.wh_hopoly.specs.declared.excess.Excess.{Excess}
-use Rattle.wh_polycheck.specs.Marks.{Mark, marked_types, AreNormalMarks}
+use Rattle.wh_polycheck.specs.Marks.{Mark, marked_types}
+use Rattle.wh_polycheck.specs.Readings.{ReadingsData, AreNormal}
 use Rattle.wh_polycheck.specs.CoverFaults.{IsFirstCoverFault, IsFirstStrictCoverFault}
 use Rattle.wh_polycheck.specs.declared.fault.CoverFault.{CoverFault}
 use Rattle.wh_polycheck.specs.Covering.{rule_run, pair_run, CoversSides}
@@ -41,35 +43,19 @@ IsFirstLineFault without_limits left right strict ms (line.Exceeds e) = ⊥
 abbrev pub IsRightLine : Limits → Run Polynomial → Run Polynomial → Bool → List Transfer → Type 0
 IsRightLine limits left right strict ms = StaysWithin limits left × StaysWithin limits right × CoversSides left right strict ms
 
--- nothing is wrong with the line of the rule with this number
-abbrev pub IsRightRule : Limits → List RewriteRule → List Interpretation → List (List Transfer) → ℕ → Type 0
-IsRightRule limits rules symbols lines i =
-    (r : RewriteRule) (ms : List Transfer) → slice_get rules i ≡ Some r → slice_get lines i ≡ Some ms
-    → IsRightLine limits (rule_run symbols r false) (rule_run symbols r true) false ms
+-- what a line of moves shows within the limits
+abbrev pub right_lines : Limits → Symbols → List RewriteRule → ReadingsData → Showing (List Transfer)
+right_lines limits S rules R = record {
+  rule = λ r ms. IsRightLine limits (rule_run R r false) (rule_run R r true) false ms;
+  pair = λ p strict ms. IsRightLine limits (pair_run S rules R p false) (pair_run S rules R p true) strict ms;
+}
 
--- this is wrong first with it
-abbrev pub IsRuleFault : Limits → List RewriteRule → List Interpretation → List (List Transfer) → ℕ → LineFault → Type 0
-IsRuleFault limits rules symbols lines i f =
-    (r : RewriteRule) × (ms : List Transfer) × (slice_get rules i ≡ Some r) × (slice_get lines i ≡ Some ms)
-    × IsFirstLineFault limits (rule_run symbols r false) (rule_run symbols r true) false ms f
-
--- nothing is wrong with the line of the pair at this place of the set
-abbrev pub IsRightPair : Limits → Symbols → List RewriteRule → List PairData → List ℕ → List Interpretation → List Mark
-    → List (List Transfer) → List ℕ → ℕ → Type 0
-IsRightPair limits S rules pairs set symbols marks lines drop i =
-    (n : ℕ) (p : PairData) (ms : List Transfer) (strict : Bool) → slice_get set i ≡ Some n → slice_get pairs n ≡ Some p
-    → slice_get lines i ≡ Some ms
-    → IsDropped drop n strict
-    → IsRightLine limits (pair_run S rules symbols marks p false) (pair_run S rules symbols marks p true) strict ms
-
--- this is wrong first with the line of the pair number n, which stands at this place of the set
-abbrev pub IsPairFault : Limits → Symbols → List RewriteRule → List PairData → List ℕ → List Interpretation → List Mark
-    → List (List Transfer) → List ℕ → ℕ → ℕ → LineFault → Type 0
-IsPairFault limits S rules pairs set symbols marks lines drop i n f =
-    (p : PairData) × (ms : List Transfer) × (strict : Bool) × (slice_get set i ≡ Some n) × (slice_get pairs n ≡ Some p)
-    × (slice_get lines i ≡ Some ms)
-    × IsDropped drop n strict
-    × IsFirstLineFault limits (pair_run S rules symbols marks p false) (pair_run S rules symbols marks p true) strict ms f
+-- and what is wrong with it first
+abbrev pub wrong_lines : Limits → Symbols → List RewriteRule → ReadingsData → Blaming (List Transfer) LineFault
+wrong_lines limits S rules R = record {
+  rule = λ r ms f. IsFirstLineFault limits (rule_run R r false) (rule_run R r true) false ms f;
+  pair = λ p strict ms f. IsFirstLineFault limits (pair_run S rules R p false) (pair_run S rules R p true) strict ms f;
+}
 
 -- the interpretation of the symbol f is the first that is not normal in the scope of its type's arguments
 abbrev pub IsFirstNotNormal : List Interpretation → ℕ → Type 0
@@ -83,36 +69,28 @@ IsFirstNotNormalMark S rules marks f =
     (i : ℕ) × (m : Mark) × (slice_get marks i ≡ Some m) × (m.symbol ≡ f) × (Normal (marked_types S rules f) m.polynomial → ⊥)
     × ((j : ℕ) (u : Mark) → j < i → slice_get marks j ≡ Some u → Normal (marked_types S rules u.symbol) u.polynomial)
 
--- there are not as many lines as rules, or not as many as pairs of the set
-abbrev pub AreBadLines : List RewriteRule → List ℕ → List (List Transfer) → List (List Transfer) → Type 0
-AreBadLines rules set rule_lines pair_lines = (length rule_lines ≢ length rules) ⊎ (length pair_lines ≢ length set)
-
 -- all that is asked before the first line of moves is looked at
-pub record IsReady (S : Symbols) (rules : List RewriteRule) (set : List ℕ) (symbols : List Interpretation) (marks : List Mark)
-    (rule_lines pair_lines : List (List Transfer)) (drop : List ℕ) : Type 0 where
-  pub normal : NormalInterpretations symbols
-  pub normal_marks : AreNormalMarks S rules marks
-  pub rule_count : length rule_lines ≡ length rules
-  pub pair_count : length pair_lines ≡ length set
-  pub good_drop : IsBadDrop set drop → ⊥
+pub record IsReady (T : TaskData) (R : ReadingsData) (E : Evidence (List Transfer)) : Type 0 where
+  pub normal : AreNormal T.symbols T.rules R
+  pub counted : AreCounted T E
 
--- the first thing wrong: an interpretation, the numbers of lines, the list of dropped pairs, the rules in order, the pairs of the set
--- in order, each line with all its tests before the next (ours)
-abbrev pub IsFirstCoveringFault : Limits → Symbols → List RewriteRule → List PairData → List ℕ → List Interpretation → List Mark
-    → List (List Transfer) → List (List Transfer) → List ℕ → CoveringFault → Type 0
-IsFirstCoveringFault limits S rules pairs set symbols marks rule_lines pair_lines drop (BadPolynomial f false) = IsFirstNotNormal symbols f
-IsFirstCoveringFault limits S rules pairs set symbols marks rule_lines pair_lines drop (BadPolynomial f true) =
-    NormalInterpretations symbols × IsFirstNotNormalMark S rules marks f
-IsFirstCoveringFault limits S rules pairs set symbols marks rule_lines pair_lines drop BadLines =
-    NormalInterpretations symbols × AreNormalMarks S rules marks × AreBadLines rules set rule_lines pair_lines
-IsFirstCoveringFault limits S rules pairs set symbols marks rule_lines pair_lines drop BadDrop =
-    NormalInterpretations symbols × AreNormalMarks S rules marks × (AreBadLines rules set rule_lines pair_lines → ⊥) × IsBadDrop set drop
-IsFirstCoveringFault limits S rules pairs set symbols marks rule_lines pair_lines drop (Rule r f) =
-    IsReady S rules set symbols marks rule_lines pair_lines drop
-    × ((k : ℕ) → k < r → IsRightRule limits rules symbols rule_lines k)
-    × IsRuleFault limits rules symbols rule_lines r f
-IsFirstCoveringFault limits S rules pairs set symbols marks rule_lines pair_lines drop (Pair n f) =
-    IsReady S rules set symbols marks rule_lines pair_lines drop
-    × ((k : ℕ) → IsRightRule limits rules symbols rule_lines k)
-    × ((i : ℕ) × ((k : ℕ) → k < i → IsRightPair limits S rules pairs set symbols marks pair_lines drop k)
-    × IsPairFault limits S rules pairs set symbols marks pair_lines drop i n f)
+module _ (limits : Limits) (T : TaskData) (R : ReadingsData) where
+  -- the first thing wrong with the lines of the rules
+  abbrev pub IsFirstWrongRule : List (List Transfer) → ℕ → LineFault → Type 0
+  IsFirstWrongRule = IsFirstRuleFault (right_lines limits T.symbols T.rules R) (wrong_lines limits T.symbols T.rules R) T
+
+  -- and with those of the pairs
+  abbrev pub IsFirstWrongPair : List (List Transfer) → List ℕ → ℕ → LineFault → Type 0
+  IsFirstWrongPair = IsFirstPairFault (right_lines limits T.symbols T.rules R) (wrong_lines limits T.symbols T.rules R) T
+
+  -- the first thing wrong: an interpretation, the numbers of lines, the list of dropped pairs, the rules in order, the pairs of the
+  -- set in order, each line with all its tests before the next (ours)
+  abbrev pub IsFirstCoveringFault : Evidence (List Transfer) → CoveringFault → Type 0
+  IsFirstCoveringFault E (BadPolynomial f false) = IsFirstNotNormal R.symbols f
+  IsFirstCoveringFault E (BadPolynomial f true) = NormalInterpretations R.symbols × IsFirstNotNormalMark T.symbols T.rules R.marks f
+  IsFirstCoveringFault E BadLines = AreNormal T.symbols T.rules R × AreBadLines T E
+  IsFirstCoveringFault E BadDrop = AreNormal T.symbols T.rules R × (AreBadLines T E → ⊥) × IsBadDrop T.set E.drop
+  IsFirstCoveringFault E (Rule r f) = IsReady T R E × IsFirstWrongRule E.of_rules r f
+  IsFirstCoveringFault E (Pair n f) = IsReady T R E
+      × ((k : ℕ) → IsRightRule (right_lines limits T.symbols T.rules R) T E.of_rules k)
+      × IsFirstWrongPair E.of_pairs E.drop n f

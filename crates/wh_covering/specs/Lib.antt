@@ -1,2 +1,3 @@
 pub mod CoveringFaults
 pub mod Lines
+pub mod EvidenceView

@@ -1,12 +1,10 @@
 -- What the calls that test single lines answer.
-use Rattle.std.specs.Prelude.{ℕ, ◌<◌, ◌≡◌, List, Bool, Result}
+use Rattle.std.specs.Prelude.{ℕ, ◌≡◌, List, Bool, Result}
 use Rattle.wh_types.specs.Outcome.{MatchOr}
 use Rattle.wh_types.specs.declared.want.Or.{Or}
-use Rattle.wh_terms.specs.Typing.{Symbols}
-use Rattle.wh_terms.specs.Rules.{RewriteRule}
-use Rattle.wh_pairs.specs.PairData.{PairData}
+use Rattle.wh_reduction.specs.TaskData.{TaskData}
 use Rattle.wh_hopoly.specs.Polynomials.{Polynomial}
-use Rattle.wh_hopoly.specs.Evaluation.{Run, Interpretation}
+use Rattle.wh_hopoly.specs.Evaluation.{Run}
 use Rattle.wh_hopoly.specs.Limits.{Exceeds}
 use Rattle.wh_hopoly.specs.Moves.{Transfer}
 use Rattle.wh_hopoly.specs.declared.excess.Excess.{Excess}
@@ -14,8 +12,8 @@ use Rattle.wh_hopoly.specs.declared.excess.Excess.TheVariants as excess
 use Rattle.wh_hopoly.specs.declared.fault.PolyFault.{PolyFault}
 use Rattle.wh_hopoly.specs.declared.fault.PolyFault.TheVariants as poly
 use Rattle.wh_polycheck.specs.CoverFaults.{IsNormal}
-use Rattle.wh_polycheck.specs.Marks.{Mark}
-use Rattle.wh_covering.specs.CoveringFaults.{RunExceeds, IsFirstLineFault, IsRightLine, IsRightRule, IsRuleFault, IsRightPair, IsPairFault}
+use Rattle.wh_polycheck.specs.Readings.{ReadingsData}
+use Rattle.wh_covering.specs.CoveringFaults.{RunExceeds, IsFirstLineFault, IsRightLine, IsFirstWrongRule, IsFirstWrongPair}
 use Rattle.wh_polycheck.specs.Small.{with_limits, StaysWithin}
 use Rattle.wh_covering.specs.declared.fault.CoveringFault.{CoveringFault}
 use Rattle.wh_covering.specs.declared.fault.CoveringFault.TheVariants.{Rule, Pair}
@@ -49,15 +47,11 @@ IsAnswerOf left right strict ms result =
     MatchOr result (λ _. IsRightLine with_limits left right strict ms) (IsFirstLineFault with_limits left right strict ms)
 
 -- the fault is the first one of the rules in order (ours)
-abbrev pub IsFirstRuleFault : List RewriteRule → List Interpretation → List (List Transfer) → CoveringFault → Type 0
-IsFirstRuleFault rules symbols lines (Rule r f) =
-    ((k : ℕ) → k < r → IsRightRule with_limits rules symbols lines k) × IsRuleFault with_limits rules symbols lines r f
-IsFirstRuleFault rules symbols lines _ = ⊥
+abbrev pub IsFirstOfRules : TaskData → ReadingsData → List (List Transfer) → CoveringFault → Type 0
+IsFirstOfRules T R lines (Rule r f) = IsFirstWrongRule with_limits T R lines r f
+IsFirstOfRules T R lines _ = ⊥
 
 -- the fault is the first one of the pairs of the set in order (ours)
-abbrev pub IsFirstPairFault : Symbols → List RewriteRule → List PairData → List ℕ → List Interpretation → List Mark
-    → List (List Transfer) → List ℕ → CoveringFault → Type 0
-IsFirstPairFault S rules pairs set symbols marks lines drop (Pair n f) =
-    (i : ℕ) × ((k : ℕ) → k < i → IsRightPair with_limits S rules pairs set symbols marks lines drop k)
-    × IsPairFault with_limits S rules pairs set symbols marks lines drop i n f
-IsFirstPairFault S rules pairs set symbols marks lines drop _ = ⊥
+abbrev pub IsFirstOfPairs : TaskData → ReadingsData → List (List Transfer) → List ℕ → CoveringFault → Type 0
+IsFirstOfPairs T R lines drop (Pair n f) = IsFirstWrongPair with_limits T R lines drop n f
+IsFirstOfPairs T R lines drop _ = ⊥

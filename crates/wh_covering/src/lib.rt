@@ -4,6 +4,7 @@
 
 mod check;
 mod dropping;
+mod evidence;
 mod fault;
 mod laws;
 mod lines;
@@ -12,5 +13,6 @@ mod pairs;
 mod rules;
 
 pub use check::check_covering;
+pub use evidence::Evidence;
 pub use fault::{CoveringFault, LineFault};
 pub use laws::interpretations_cover_or_have_a_first_fault;

@@ -1,12 +1,17 @@
 -- What the lines of a YES certificate say over a system, once the names in them are looked up.
-use Rattle.std.specs.Prelude.{ℕ, ◌≡◌, List, [], ◌∷◌, Some, map, slice_get}
+use Rattle.std.specs.Prelude.{ℕ, ◌≡◌, List, [], ◌∷◌, Some, length, map, slice_get}
 use Rattle.wh_types.specs.Ty.{Ty}
 use Rattle.wh_system.specs.Systems.{SystemData}
 use Rattle.wh_cert.specs.Written as w
 use Rattle.wh_cert.specs.Interps.{Interp}
 use Rattle.wh_hopoly.specs.Evaluation.{Interpretation}
 use Rattle.wh_hopoly.specs.Erase.{transfers}
+use Rattle.wh_hopoly.specs.Moves.{Transfer}
+use Rattle.wh_hopoly.specs.declared.expression.Move.{Move}
+use Rattle.wh_reduction.specs.TaskData.{numbers_from}
+use Rattle.wh_reduction.specs.ReductionPair.{Evidence}
 use Rattle.wh_polycheck.specs.Marks.{Mark}
+use Rattle.wh_polycheck.specs.Readings.{ReadingsData}
 use Rattle.wh_subterm.specs.Projections.{Chosen}
 use Rattle.wh_proof.specs.Nodes.{Node, done, alone, blocks, subterm, poly}
 
@@ -39,15 +44,22 @@ SayMarks d [] [] = Unit {0}
 SayMarks d (line ∷ lines) (m ∷ marks) = SaysMark d line m × SayMarks d lines marks
 SayMarks d _ _ = ⊥
 
--- the lines of a node say this node
+-- the lines `fun` and `mark` say these readings
+abbrev pub SayReadings : SystemData → List Interp → List Interp → ReadingsData → Type 0
+SayReadings d funs lines R = SayInterpretations d.fun_names d.symbols.funs funs R.symbols × SayMarks d lines R.marks
+
+-- the moves of the lines `rule` and `pair`, with the dropped pairs
+abbrev pub moves_of : List (List Move) → List (List Move) → List ℕ → Evidence (List Transfer)
+moves_of rules pairs drop = record { of_rules = map transfers rules; of_pairs = map transfers pairs; drop = drop }
+
+-- the lines of a node say this node; one of interpretations is to cover all rules
 abbrev pub SaysNode : SystemData → w.Node → Node → Type 0
 SaysNode d w.done done = Unit {0}
 SaysNode d w.alone alone = Unit {0}
 SaysNode d (w.blocks listed) (blocks parts) = listed ≡ parts
 SaysNode d (w.subterm lines listed) (subterm args drop) = SayChoices d lines args × (listed ≡ drop)
-SaysNode d (w.interpretations funs lines rules pairs listed) (poly symbols marks rule_lines pair_lines drop) =
-    SayInterpretations d.fun_names d.symbols.funs funs symbols × SayMarks d lines marks
-    × (map transfers rules ≡ rule_lines) × (map transfers pairs ≡ pair_lines) × (listed ≡ drop)
+SaysNode d (w.interpretations funs lines rules pairs listed) (poly covered R E) =
+    (covered ≡ numbers_from 0 (length d.rules)) × SayReadings d funs lines R × (E ≡ moves_of rules pairs listed)
 SaysNode d _ _ = ⊥
 
 -- the lines say these nodes, one after another

@@ -8,18 +8,19 @@ use Rattle.wh_graph.specs.May.{Follows}
 use Rattle.wh_graph.specs.Blocks.{AreBlocks}
 use Rattle.wh_subterm.specs.Projections.{Chosen}
 use Rattle.wh_subterm.specs.SubtermRows.{IsProjection}
-use Rattle.wh_hopoly.specs.Evaluation.{Interpretation}
+use Rattle.wh_reduction.specs.TaskData.{CoversAll, task_over}
+use Rattle.wh_reduction.specs.ReductionPair.{Evidence}
 use Rattle.wh_hopoly.specs.Moves.{Transfer}
-use Rattle.wh_polycheck.specs.Marks.{Mark}
+use Rattle.wh_polycheck.specs.Readings.{ReadingsData}
 use Rattle.wh_polycheck.specs.Covering.{IsCovering}
 
 -- a node of a proof: there is no pair; the one pair may not follow itself; the pairs fall into blocks; arguments get smaller;
--- no rule and no pair grows under interpretations, and some pairs shrink (Kop 2012; Fuhs and Kop 2012 and 2019)
+-- none of the covered rules and no pair grows under interpretations, and some pairs shrink (Kop 2012; Fuhs and Kop 2012 and 2019)
 pub data Node : Type 0 where
   done alone : Node
   blocks : (parts : List (List ℕ)) → Node
   subterm : (args : List Chosen) (drop : List ℕ) → Node
-  poly : (symbols : List Interpretation) (marks : List Mark) (rule_lines pair_lines : List (List Transfer)) (drop : List ℕ) → Node
+  poly : (covered : List ℕ) (R : ReadingsData) (E : Evidence (List Transfer)) → Node
 
 -- the sets are those of the blocks, in order
 pub data AreSetsOf : List (List ℕ) → List (List ℕ) → Type 0 where
@@ -36,6 +37,7 @@ pub data Leaves (S : Symbols) (rules : List RewriteRule) (pairs : List PairData)
       → Leaves S rules pairs set (blocks parts) sets
   by_subterm : {set drop rest : List ℕ} {args : List Chosen} → IsProjection rules pairs set args drop → IsSetOf (IsKept set drop) rest
       → Leaves S rules pairs set (subterm args drop) (rest ∷ [])
-  by_poly : {set drop rest : List ℕ} {symbols : List Interpretation} {marks : List Mark} {rule_lines pair_lines : List (List Transfer)}
-      → IsCovering S rules pairs set symbols marks rule_lines pair_lines drop → IsSetOf (IsKept set drop) rest
-      → Leaves S rules pairs set (poly symbols marks rule_lines pair_lines drop) (rest ∷ [])
+  by_poly : {set covered rest : List ℕ} {R : ReadingsData} {E : Evidence (List Transfer)}
+      → IsCovering (task_over S rules pairs set covered) R E → CoversAll (task_over S rules pairs set covered)
+      → IsSetOf (IsKept set E.drop) rest
+      → Leaves S rules pairs set (poly covered R E) (rest ∷ [])

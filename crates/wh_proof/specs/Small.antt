@@ -7,13 +7,14 @@ use Rattle.wh_pairs.specs.PairData.{PairData}
 use Rattle.wh_cert.specs.Written as w
 use Rattle.wh_cert.specs.Written.{Cert, yes, no}
 use Rattle.wh_proof.specs.Nodes.{Node, poly, Leaves}
+use Rattle.wh_reduction.specs.TaskData.{task_over}
 use Rattle.wh_polycheck.specs.Small.{Limits, with_limits, IsSmall}
 use Rattle.wh_proof.specs.Looked.{SayNodes}
 use Rattle.wh_pairs.specs.Sets.{IsWhole}
 
 -- with limits, no value exceeds one in the evaluation of the sides that a node of interpretations asks for on the set
 abbrev pub IsSmallNode : Limits → Symbols → List RewriteRule → List PairData → List ℕ → Node → Type 0
-IsSmallNode with_limits S rules pairs set (poly symbols marks rule_lines pair_lines drop) = IsSmall S rules pairs set symbols marks
+IsSmallNode with_limits S rules pairs set (poly covered R E) = IsSmall (task_over S rules pairs set covered) R
 IsSmallNode _ S rules pairs set _ = Unit {0}
 
 -- the nodes, in preorder, prove the sets, and each is small on its set (ours)
