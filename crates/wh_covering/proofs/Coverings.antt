@@ -1,138 +1,101 @@
--- The conditions of a node of interpretations on a set of pairs hold, or there is a first thing wrong with them; numbers may be as
--- large as they like.
-use Rattle.std.proofs.Common.{◌≡◌, ◌⊎◌, ℕ, inl, inr, Bool, true, false, List, length, map, Option, Some, None, slice_get, refl, subst}
-use Rattle.std.proofs.lemmas.Option.{slice_get_within}
+-- The conditions of a node of interpretations on a set of pairs hold, or there is a first thing wrong with them: where numbers may be as
+-- large as they like, and where values that exceed a limit are wrong.
+use Rattle.std.proofs.Common.{◌≡◌, ◌⊎◌, ℕ, inl, inr, Bool, true, false, List, slice_get, refl}
+use Rattle.wh_types.specs.Limits.{coefficient_end, greatest_weight, deepest_value}
 use Rattle.wh_types.specs.Ty.{arguments}
-use Rattle.wh_terms.specs.Typing.{Symbols}
 use Rattle.wh_terms.specs.Rules.{RewriteRule}
+use Rattle.wh_system.proofs.TypedDecided.{Decided, below_decided}
 use Rattle.wh_pairs.specs.PairData.{PairData}
-use Rattle.wh_system.proofs.TypedDecided.{Decided}
-use Rattle.wh_pairs.proofs.ByPlace.{contains_at, some_one}
-use Rattle.wh_pairs.proofs.DropLemmas.{contains_or_not, drops_some, drops_once, drops_within}
-use Rattle.wh_pairs.specs.Marked.{AreMarked}
-use Rattle.wh_pairs.specs.Drops.{IsBadDrop, IsDropped}
-use Rattle.wh_hopoly.specs.Polynomials.{Polynomial, Normal}
+use Rattle.wh_pairs.specs.Drops.{IsBadDrop}
+use Rattle.wh_pairs.proofs.ByPlace.{contains_at}
+use Rattle.wh_pairs.proofs.Searches.{not_decided, either_decided, not_refuted, at_most_decided, first_place}
+use Rattle.wh_reduction.specs.TaskData.{TaskData}
+use Rattle.wh_reduction.specs.ReductionPair.{Evidence}
+use Rattle.wh_reduction.specs.FirstFault.{AreBadLines, AreCounted}
+use Rattle.wh_reduction.proofs.Lines.{rules_or_first, pairs_or_first, counted_or_not}
+use Rattle.wh_hopoly.specs.Polynomials.{Polynomial, zero_poly, plus, Normal}
 use Rattle.wh_hopoly.specs.Evaluation.{Run, Interpretation, NormalInterpretations}
+use Rattle.wh_hopoly.specs.Limits.{weight, nesting, Overflows, Exceeds}
+use Rattle.wh_hopoly.specs.Excesses.{ExceedsAs}
 use Rattle.wh_hopoly.specs.Moves.{Transfer}
+use Rattle.wh_hopoly.specs.declared.excess.Excess.{Excess}
+use Rattle.wh_hopoly.specs.declared.excess.Excess.TheVariants as excess
 use Rattle.wh_polycheck.specs.Marks.{Mark, marked_types, AreNormalMarks}
+use Rattle.wh_polycheck.specs.Readings.{ReadingsData, AreNormal, AreReadingsFor}
 use Rattle.wh_polycheck.specs.Covering.{rule_run, pair_run, CoversSides, IsCovering}
-use Rattle.wh_covering.specs.CoveringFaults.{IsFirstLineFault, IsRightLine, IsRightRule, IsRuleFault, IsRightPair, IsPairFault, IsFirstNotNormal, IsFirstNotNormalMark, AreBadLines, IsReady, IsFirstCoveringFault}
-use Rattle.wh_polycheck.specs.Small.{without_limits}
+use Rattle.wh_polycheck.specs.Small.{Limits, without_limits, with_limits, StaysWithin, IsSmall}
+use Rattle.wh_polycheck.specs.declared.fault.CoverFault.{CoverFault}
+use Rattle.wh_covering.specs.CoveringFaults.{RunExceeds, IsFirstFaultOfMoves, IsFirstLineFault, IsRightLine, IsFirstNotNormal, IsFirstNotNormalMark, IsReady, IsFirstCoveringFault, right_lines, wrong_lines}
 use Rattle.wh_covering.specs.declared.fault.CoveringFault.{CoveringFault}
 use Rattle.wh_covering.specs.declared.fault.CoveringFault.TheVariants.{BadPolynomial, BadLines, BadDrop, Rule, Pair}
 use Rattle.wh_covering.specs.declared.fault.LineFault.{LineFault}
 use Rattle.wh_covering.specs.declared.fault.LineFault.TheVariants as line
-use Rattle.wh_pairs.proofs.Searches.{not_decided, either_decided, not_refuted, equal_decided, first_place}
-use Rattle.wh_covering.proofs.Polynomials.{normal_decided, all_or_first, cover_or_fault, strict_cover_or_fault}
-use Rattle.wh_pairs.proofs.DropsDecided.{bad_drop_decided}
+use Rattle.wh_covering.proofs.CoverWalk.{RightRules, RightPairs, covering_holds, small_holds}
+use Rattle.wh_covering.proofs.Polynomials.{normal_decided, cover_or_fault, strict_cover_or_fault}
+
+-- whether a value exceeds a limit
+
+overflow_decided : (p : Polynomial) → Decided (Overflows p)
+overflow_decided zero_poly = inr (λ over. over)
+overflow_decided (plus c us p) = either_decided (at_most_decided coefficient_end c) (overflow_decided p)
+
+exceeds_decided : (p : Polynomial) → Decided (Exceeds p)
+exceeds_decided p =
+    either_decided (overflow_decided p) (either_decided (below_decided greatest_weight (weight p)) (below_decided deepest_value (nesting p)))
+
+excess_of : (p : Polynomial) → Exceeds p → (e : Excess) × ExceedsAs e p
+excess_of p (inl over) = (excess.Overflow, over)
+excess_of p (inr large) = (excess.TooLarge, large)
+
+run_within_or_not : (run : Run Polynomial) → StaysWithin with_limits run ⊎ ((e : Excess) × RunExceeds run e)
+run_within_or_not run = elim (first_place Exceeds exceeds_decided run.values) [
+  | inl (i, p, at, exceeds, before) ↦ let (e, over) = excess_of p exceeds in inr (e, (p, contains_at run.values i p at, over))
+  | inr none ↦ inl none
+]
 
 -- lines
 
-abbrev LineOrFault : Run Polynomial → Run Polynomial → Bool → List Transfer → Type 0
-LineOrFault left right strict ms =
-    IsRightLine without_limits left right strict ms ⊎ ((f : LineFault) × IsFirstLineFault without_limits left right strict ms f)
+abbrev LineOrFault : Limits → Run Polynomial → Run Polynomial → Bool → List Transfer → Type 0
+LineOrFault limits left right strict ms =
+    IsRightLine limits left right strict ms ⊎ ((f : LineFault) × IsFirstLineFault limits left right strict ms f)
 
-line_or_fault : (left right : Run Polynomial) (strict : Bool) (ms : List Transfer) → LineOrFault left right strict ms
-line_or_fault left right false ms = elim (cover_or_fault left.result right.result ms) [
+moves_or_fault : (left right : Run Polynomial) (strict : Bool) (ms : List Transfer) → CoversSides left right strict ms
+    ⊎ ((f : CoverFault) × IsFirstFaultOfMoves strict left.result right.result ms f)
+moves_or_fault left right false ms = cover_or_fault left.result right.result ms
+moves_or_fault left right true ms = strict_cover_or_fault left.result right.result ms
+
+line_or_fault : (limits : Limits) (left right : Run Polynomial) (strict : Bool) (ms : List Transfer) → LineOrFault limits left right strict ms
+line_or_fault without_limits left right strict ms = elim (moves_or_fault left right strict ms) [
   | inl is ↦ inl (tt, tt, is)
   | inr (f, first) ↦ inr (line.Cover f, (tt, tt, first))
 ]
-line_or_fault left right true ms = elim (strict_cover_or_fault left.result right.result ms) [
-  | inl is ↦ inl (tt, tt, is)
-  | inr (f, first) ↦ inr (line.Cover f, (tt, tt, first))
-]
-
-dropped_or_not : (drop : List ℕ) (n : ℕ) → (strict : Bool) × IsDropped drop n strict
-dropped_or_not drop n = elim (contains_or_not drop n) [
-  | inl dropped ↦ (true, dropped)
-  | inr kept ↦ (false, kept)
-]
-
-dropped_one : (drop : List ℕ) (n : ℕ) (a b : Bool) → IsDropped drop n a → IsDropped drop n b → a ≡ b
-dropped_one drop n true true is also = refl
-dropped_one drop n true false is not = absurd (not is)
-dropped_one drop n false true not is = absurd (not is)
-dropped_one drop n false false not also = refl
-
-module _ (S : Symbols) (rules : List RewriteRule) (pairs : List PairData) (set : List ℕ) (symbols : List Interpretation) (marks : List Mark)
-    (rule_lines pair_lines : List (List Transfer)) (drop : List ℕ) where
-  abbrev RuleOrFault : ℕ → Type 0
-  RuleOrFault i =
-      IsRightRule without_limits rules symbols rule_lines i ⊎ ((f : LineFault) × IsRuleFault without_limits rules symbols rule_lines i f)
-
-  rule_at : (i : ℕ) (r : RewriteRule) (ms : List Transfer) → slice_get rules i ≡ Some r → slice_get rule_lines i ≡ Some ms → RuleOrFault i
-  rule_at i r ms at here = elim (line_or_fault (rule_run symbols r false) (rule_run symbols r true) false ms) [
-    | inr (f, first) ↦ inr (f, (r, ms, at, here, first))
-    | inl right ↦ inl (λ u ns also there.
-        let rule_same : r ≡ u = some_one at also in
-        let line_same : ms ≡ ns = some_one here there in
-        subst (λ (l : List Transfer). IsRightLine without_limits (rule_run symbols u false) (rule_run symbols u true) false l) line_same
-        (subst (λ (x : RewriteRule). IsRightLine without_limits (rule_run symbols x false)
-        (rule_run symbols x true) false ms) rule_same right))
+line_or_fault with_limits left right strict ms = elim (run_within_or_not left) [
+  | inr (e, exceeds) ↦ inr (line.Exceeds e, inl exceeds)
+  | inl within ↦ elim (run_within_or_not right) [
+    | inr (e, exceeds) ↦ inr (line.Exceeds e, inr (within, exceeds))
+    | inl also ↦ elim (moves_or_fault left right strict ms) [
+      | inl covers ↦ inl (within, also, covers)
+      | inr (f, first) ↦ inr (line.Cover f, (within, also, first))
+    ]
   ]
+]
 
-  rule_or_fault : (i : ℕ) → RuleOrFault i
-  rule_or_fault i = go (slice_get rules i) refl (slice_get rule_lines i) refl
-    where
-      go : (o : Option RewriteRule) → slice_get rules i ≡ o → (u : Option (List Transfer)) → slice_get rule_lines i ≡ u → RuleOrFault i
-      go None d u e = inl (λ r ms at here. absurd (cc (d, at)))
-      go (Some r) d None e = inl (λ u ms at here. absurd (cc (e, here)))
-      go (Some r) d (Some ms) e = rule_at i r ms d e
-
-  abbrev RightPair : ℕ → Type 0
-  RightPair = IsRightPair without_limits S rules pairs set symbols marks pair_lines drop
-
-  abbrev WrongPair : ℕ → Type 0
-  WrongPair i = (n : ℕ) × (f : LineFault) × IsPairFault without_limits S rules pairs set symbols marks pair_lines drop i n f
-
-  pair_at : (i n : ℕ) (p : PairData) (ms : List Transfer) (strict : Bool) → slice_get set i ≡ Some n → slice_get pairs n ≡ Some p
-      → slice_get pair_lines i ≡ Some ms → IsDropped drop n strict → RightPair i ⊎ WrongPair i
-  pair_at i n p ms strict at here moves dropped =
-      elim (line_or_fault (pair_run S rules symbols marks p false) (pair_run S rules symbols marks p true) strict ms) [
-        | inr (f, first) ↦ inr (n, f, (p, ms, strict, at, here, moves, dropped, first))
-        | inl right ↦ inl (λ m q ns asked also there others also_dropped.
-            let number_same : n ≡ m = some_one at also in
-            let pair_same : p ≡ q = some_one (subst (λ k. slice_get pairs k ≡ Some p) number_same here) there in
-            let line_same : ms ≡ ns = some_one moves others in
-            let strict_same : strict ≡ asked = dropped_one drop m strict asked
-            (subst (λ k. IsDropped drop k strict) number_same dropped) also_dropped in
-            subst (λ (b : Bool). IsRightLine without_limits (pair_run S rules symbols marks q false)
-            (pair_run S rules symbols marks q true) b ns) strict_same
-            (subst (λ (l : List Transfer). IsRightLine without_limits (pair_run S rules symbols marks q false)
-            (pair_run S rules symbols marks q true) strict l) line_same
-            (subst (λ (x : PairData). IsRightLine without_limits (pair_run S rules symbols marks x false)
-            (pair_run S rules symbols marks x true) strict ms) pair_same right)))
-      ]
-
-  pair_or_fault : (i : ℕ) → RightPair i ⊎ WrongPair i
-  pair_or_fault i = go (slice_get set i) refl (slice_get pair_lines i) refl
-    where
-      at_pair : (n : ℕ) (ms : List Transfer) → slice_get set i ≡ Some n → slice_get pair_lines i ≡ Some ms → (o : Option PairData)
-          → slice_get pairs n ≡ o → RightPair i ⊎ WrongPair i
-      at_pair n ms at moves None d = inl (λ m q ns asked also there others dropped.
-          let here : slice_get pairs n ≡ Some q = subst (λ k. slice_get pairs k ≡ Some q) (some_one also at) there in absurd (cc (d, here)))
-      at_pair n ms at moves (Some p) d = let (strict, dropped) = dropped_or_not drop n in pair_at i n p ms strict at d moves dropped
-
-      go : (o : Option ℕ) → slice_get set i ≡ o → (u : Option (List Transfer)) → slice_get pair_lines i ≡ u → RightPair i ⊎ WrongPair i
-      go None d u e = inl (λ n p ms strict at here moves dropped. absurd (cc (d, at)))
-      go (Some n) d None e = inl (λ m p ms strict at here moves dropped. absurd (cc (e, moves)))
-      go (Some n) d (Some ms) e = at_pair n ms d e (slice_get pairs n) refl
-
+module _ (limits : Limits) (T : TaskData) (R : ReadingsData) (E : Evidence (List Transfer)) where
   -- polynomials
 
-  first_not_normal : NormalInterpretations symbols ⊎ ((f : ℕ) × IsFirstNotNormal symbols f)
+  first_not_normal : NormalInterpretations R.symbols ⊎ ((f : ℕ) × IsFirstNotNormal R.symbols f)
   first_not_normal =
       elim (first_place (λ (s : Interpretation). Normal (arguments s.kind) s.polynomial → ⊥)
-      (λ (s : Interpretation). not_decided (normal_decided (arguments s.kind) s.polynomial)) symbols) [
+      (λ (s : Interpretation). not_decided (normal_decided (arguments s.kind) s.polynomial)) R.symbols) [
         | inl (f, s, at, not, before) ↦
             inr (f, (s, at, not, λ g u less also. not_refuted (normal_decided (arguments u.kind) u.polynomial) (before g u less also)))
-        | inr none ↦ inl (λ f s at. not_refuted (normal_decided (arguments s.kind) s.polynomial) (none s (contains_at symbols f s at)))
+        | inr none ↦ inl (λ f s at. not_refuted (normal_decided (arguments s.kind) s.polynomial) (none s (contains_at R.symbols f s at)))
       ]
 
-  first_not_normal_mark : AreNormalMarks S rules marks ⊎ ((f : ℕ) × IsFirstNotNormalMark S rules marks f)
+  first_not_normal_mark : AreNormalMarks T.symbols T.rules R.marks ⊎ ((f : ℕ) × IsFirstNotNormalMark T.symbols T.rules R.marks f)
   first_not_normal_mark =
-      elim (first_place (λ (m : Mark). Normal (marked_types S rules m.symbol) m.polynomial → ⊥)
-      (λ (m : Mark). not_decided (normal_decided (marked_types S rules m.symbol) m.polynomial)) marks) [
+      elim (first_place (λ (m : Mark). Normal (marked_types T.symbols T.rules m.symbol) m.polynomial → ⊥)
+      (λ (m : Mark). not_decided (normal_decided (marked_types T.symbols T.rules m.symbol) m.polynomial)) R.marks) [
         | inl (i, m, at, not, before) ↦
             inr (
               m.symbol,
@@ -142,92 +105,67 @@ module _ (S : Symbols) (rules : List RewriteRule) (pairs : List PairData) (set :
                 at,
                 refl,
                 not,
-                λ j u less also. not_refuted (normal_decided (marked_types S rules u.symbol) u.polynomial)
+                λ j u less also. not_refuted (normal_decided (marked_types T.symbols T.rules u.symbol) u.polynomial)
                     (before j u less also),
               ),
             )
-        | inr none ↦ inl (λ m found. not_refuted (normal_decided (marked_types S rules m.symbol) m.polynomial) (none m found))
+        | inr none ↦ inl (λ m found. not_refuted (normal_decided (marked_types T.symbols T.rules m.symbol) m.polynomial) (none m found))
       ]
 
   -- all together, from the last condition to the first
 
-  abbrev pub CoveringOrFault : Type 0
-  CoveringOrFault =
-      IsCovering S rules pairs set symbols marks rule_lines pair_lines drop
-      ⊎ ((f : CoveringFault) × IsFirstCoveringFault without_limits S rules pairs set symbols marks rule_lines pair_lines drop f)
+  abbrev pub RightOrFault : Type 0
+  RightOrFault =
+      (IsReady T R E × RightRules T R E limits × RightPairs T R E limits) ⊎ ((f : CoveringFault) × IsFirstCoveringFault limits T R E f)
 
-  covers_weakly : (p : PairData) (ms : List Transfer) (strict : Bool)
-      → CoversSides (pair_run S rules symbols marks p false) (pair_run S rules symbols marks p true) strict ms
-      → CoversSides (pair_run S rules symbols marks p false) (pair_run S rules symbols marks p true) false ms
-  covers_weakly p ms false is = is
-  covers_weakly p ms true is = is.cover
+  rule_decided : (r : RewriteRule) (ms : List Transfer) → LineOrFault limits (rule_run R r false) (rule_run R r true) false ms
+  rule_decided r ms = line_or_fault limits (rule_run R r false) (rule_run R r true) false ms
 
-  abbrev Ready : Type 0
-  Ready = IsReady S rules set symbols marks rule_lines pair_lines drop
+  pair_decided : (p : PairData) (strict : Bool) (ms : List Transfer)
+      → LineOrFault limits (pair_run T.symbols T.rules R p false) (pair_run T.symbols T.rules R p true) strict ms
+  pair_decided p strict ms = line_or_fault limits (pair_run T.symbols T.rules R p false) (pair_run T.symbols T.rules R p true) strict ms
 
-  module _ (kinds : map (λ (s : Interpretation). s.kind) symbols ≡ S.funs)
-      (marked : AreMarked pairs set (map (λ (m : Mark). m.symbol) marks)) where
-    no_fault : Ready → ((i : ℕ) → IsRightRule without_limits rules symbols rule_lines i) → ((i : ℕ) → RightPair i)
-        → IsCovering S rules pairs set symbols marks rule_lines pair_lines drop
-    no_fault ready right_rules right_pairs = record {
-      kinds = kinds;
-      marked = marked;
-      normal = ready.normal;
-      normal_marks = ready.normal_marks;
-      rule_count = ready.rule_count;
-      pair_count = ready.pair_count;
-      some_dropped = drops_some set drop ready.good_drop;
-      once = drops_once set drop ready.good_drop;
-      within = drops_within set drop ready.good_drop;
-      rules_covered = λ i r ms at here. (right_rules i r ms at here).2;
-      pairs_covered = λ i n p ms at here moves.
-          let (strict, dropped) = dropped_or_not drop n in (
-            covers_weakly p ms strict (right_pairs i n p ms strict at here moves dropped).2,
-            λ found. (right_pairs i n p ms true at here moves found).2,
-          );
-    }
+  lines_or_fault : IsReady T R E → RightOrFault
+  lines_or_fault ready =
+      elim (rules_or_first (right_lines limits T.symbols T.rules R) (wrong_lines limits T.symbols T.rules R) T rule_decided pair_decided
+      E.of_rules) [
+        | inr (n, f, first) ↦ inr (Rule n f, (ready, first))
+        | inl rules ↦
+            elim (pairs_or_first (right_lines limits T.symbols T.rules R) (wrong_lines limits T.symbols T.rules R) T rule_decided
+            pair_decided E.of_pairs E.drop) [
+              | inr (n, f, first) ↦ inr (Pair n f, (ready, rules, first))
+              | inl pairs ↦ inl (ready, rules, pairs)
+            ]
+      ]
 
-    pairs_or_fault : Ready → ((i : ℕ) → IsRightRule without_limits rules symbols rule_lines i) → CoveringOrFault
-    pairs_or_fault ready right_rules = elim (all_or_first RightPair WrongPair pair_or_fault (length set)) [
-      | inl all ↦ inl (no_fault ready right_rules (λ i n p ms strict at. all i (slice_get_within set i n at) n p ms strict at))
-      | inr (i, less, (n, f, wrong), before) ↦ inr (Pair n f, (ready, right_rules, (i, before, wrong)))
-    ]
+  counted_or_fault : AreNormal T.symbols T.rules R → AreCounted T E ⊎ (AreBadLines T E ⊎ ((AreBadLines T E → ⊥) × IsBadDrop T.set E.drop))
+      → RightOrFault
+  counted_or_fault normal (inl counted) = lines_or_fault (record { normal = normal; counted = counted })
+  counted_or_fault normal (inr (inl bad)) = inr (BadLines, (normal, bad))
+  counted_or_fault normal (inr (inr (lines, bad))) = inr (BadDrop, (normal, lines, bad))
 
-    rules_or_fault : Ready → CoveringOrFault
-    rules_or_fault ready =
-        elim (all_or_first (IsRightRule without_limits rules symbols rule_lines)
-        (λ i. (f : LineFault) × IsRuleFault without_limits rules symbols rule_lines i f) rule_or_fault (length rules)) [
-          | inl all ↦ pairs_or_fault ready (λ i r ms at. all i (slice_get_within rules i r at) r ms at)
-          | inr (i, less, (f, wrong), before) ↦ inr (Rule i f, (ready, before, wrong))
-        ]
+  marks_or_fault : NormalInterpretations R.symbols
+      → AreNormalMarks T.symbols T.rules R.marks ⊎ ((f : ℕ) × IsFirstNotNormalMark T.symbols T.rules R.marks f) → RightOrFault
+  marks_or_fault normal (inr (f, first)) = inr (BadPolynomial f true, (normal, first))
+  marks_or_fault normal (inl marks) = counted_or_fault (record { symbols = normal; marks = marks }) (counted_or_not T E)
 
-    drop_or_fault : NormalInterpretations symbols → AreNormalMarks S rules marks → (AreBadLines rules set rule_lines pair_lines → ⊥)
-        → Decided (IsBadDrop set drop) → CoveringOrFault
-    drop_or_fault normal normal_marks lines (inl bad) = inr (BadDrop, (normal, normal_marks, lines, bad))
-    drop_or_fault normal normal_marks lines (inr good) = rules_or_fault (record {
-      normal = normal;
-      normal_marks = normal_marks;
-      rule_count = not_refuted (equal_decided (length rule_lines) (length rules)) (λ other. lines (inl other));
-      pair_count = not_refuted (equal_decided (length pair_lines) (length set)) (λ other. lines (inr other));
-      good_drop = good;
-    })
+  symbols_or_fault : NormalInterpretations R.symbols ⊎ ((f : ℕ) × IsFirstNotNormal R.symbols f) → RightOrFault
+  symbols_or_fault (inr (f, first)) = inr (BadPolynomial f false, first)
+  symbols_or_fault (inl normal) = marks_or_fault normal first_not_normal_mark
 
-    lines_or_fault : NormalInterpretations symbols → AreNormalMarks S rules marks → Decided (AreBadLines rules set rule_lines pair_lines)
-        → CoveringOrFault
-    lines_or_fault normal normal_marks (inl bad) = inr (BadLines, (normal, normal_marks, bad))
-    lines_or_fault normal normal_marks (inr good) = drop_or_fault normal normal_marks good (bad_drop_decided set drop)
+  pub right_or_fault : RightOrFault
+  right_or_fault = symbols_or_fault first_not_normal
 
-    marks_or_fault : NormalInterpretations symbols → AreNormalMarks S rules marks ⊎ ((f : ℕ) × IsFirstNotNormalMark S rules marks f)
-        → CoveringOrFault
-    marks_or_fault normal (inr (f, first)) = inr (BadPolynomial f true, (normal, first))
-    marks_or_fault normal (inl normal_marks) =
-        lines_or_fault normal normal_marks
-        (either_decided (not_decided (equal_decided (length rule_lines) (length rules)))
-        (not_decided (equal_decided (length pair_lines) (length set))))
+pub covering_or_fault : (T : TaskData) (R : ReadingsData) (E : Evidence (List Transfer)) → AreReadingsFor T R
+    → IsCovering T R E ⊎ ((f : CoveringFault) × IsFirstCoveringFault without_limits T R E f)
+covering_or_fault T R E readings = elim (right_or_fault without_limits T R E) [
+  | inl (ready, rules, pairs) ↦ inl (covering_holds T R E without_limits ready rules pairs readings)
+  | inr fault ↦ inr fault
+]
 
-    symbols_or_fault : NormalInterpretations symbols ⊎ ((f : ℕ) × IsFirstNotNormal symbols f) → CoveringOrFault
-    symbols_or_fault (inr (f, first)) = inr (BadPolynomial f false, first)
-    symbols_or_fault (inl normal) = marks_or_fault normal first_not_normal_mark
-
-    pub covering_or_fault : CoveringOrFault
-    covering_or_fault = symbols_or_fault first_not_normal
+pub small_or_fault : (T : TaskData) (R : ReadingsData) (E : Evidence (List Transfer)) → AreReadingsFor T R
+    → (IsCovering T R E × IsSmall T R) ⊎ ((f : CoveringFault) × IsFirstCoveringFault with_limits T R E f)
+small_or_fault T R E readings = elim (right_or_fault with_limits T R E) [
+  | inl (ready, rules, pairs) ↦ inl (covering_holds T R E with_limits ready rules pairs readings, small_holds T R E ready rules pairs)
+  | inr fault ↦ inr fault
+]

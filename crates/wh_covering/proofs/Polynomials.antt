@@ -16,6 +16,7 @@ use Rattle.wh_polycheck.specs.declared.fault.CoverFault.{CoverFault}
 use Rattle.wh_polycheck.specs.declared.fault.CoverFault.TheVariants.{BadMove, OverSpent, NotCovered, NotStrict}
 use Rattle.wh_polycheck.proofs.GoodWalk.{one_monomial}
 use Rattle.wh_pairs.proofs.Searches.{not_decided, not_refuted, equal_decided, at_most_decided, first_place}
+use Rattle.wh_reduction.proofs.Lines.{all_or_first}
 
 -- orders
 
@@ -176,22 +177,6 @@ covered_or_not right ms j = go (monomial_or_none right j)
     go : MonomialOrNone right j → Covered right ms j ⊎ IsNotCovered right ms j
     go (inr none) = inl (λ c us at. absurd (none c us at))
     go (inl (c, us, at)) = at_monomial c us at (below_decided (taken_by j ms) c)
-
--- P holds of the numbers below k, or Q of one of them and P of those before it
-abbrev pub AllOrFirst : (ℕ → Type 0) → (ℕ → Type 0) → ℕ → Type 0
-AllOrFirst P Q k = ((i : ℕ) → i < k → P i) ⊎ ((i : ℕ) × (i < k) × Q i × ((j : ℕ) → j < i → P j))
-
-pub all_or_first : (P Q : ℕ → Type 0) → ((i : ℕ) → P i ⊎ Q i) → (k : ℕ) → AllOrFirst P Q k
-all_or_first P Q each zero = inl (λ i less. absurd (omega arith))
-all_or_first P Q each (suc k) = go (all_or_first P Q each k) (each k)
-  where
-    go : AllOrFirst P Q k → P k ⊎ Q k → AllOrFirst P Q (suc k)
-    go (inr (i, less, q, before)) here = inr (i, omega (arith, less), q, before)
-    go (inl all) (inr q) = inr (k, omega arith, q, all)
-    go (inl all) (inl p) = inl (λ i less. elim (cases_lt i k) [
-      | inl below ↦ all i below
-      | inr le ↦ let same : i ≡ k = omega (arith, less, le) in subst P (sym same) p
-    ])
 
 abbrev pub CoverOrFault : Polynomial → Polynomial → List Transfer → Type 0
 CoverOrFault left right ms = IsCover left right ms ⊎ ((f : CoverFault) × IsFirstCoverFault left right ms f)

@@ -20,7 +20,8 @@ use Rattle.wh_hopoly.proofs.Lists.{poly_is}
 use Rattle.wh_hopoly.proofs.ValueLaws.{normal_value}
 use Rattle.wh_polycheck.specs.CoverFaults.{IsNormal}
 use Rattle.wh_polycheck.specs.Sides.{types_of_metas, side_expression, marked_expression}
-use Rattle.wh_polycheck.specs.Marks.{Mark, with_marks, mark_number, head_of_side, arguments_of_side, AreNormalMarks}
+use Rattle.wh_polycheck.specs.Marks.{with_marks, mark_number, head_of_side, arguments_of_side}
+use Rattle.wh_polycheck.specs.Readings.{ReadingsData, AreNormal}
 use Rattle.wh_polycheck.specs.SideResults.{SideComesTo, IsFaultOfSide, PairSideComesTo, IsFaultOfPairSide}
 use Rattle.wh_polycheck.proofs.MoreInterpretations.{normal_with_marks}
 use Rattle.wh_polycheck.specs.Covering.{rule_run, pair_run}
@@ -79,33 +80,32 @@ side_is symbols Γ e p normal (typed, is) within = record {
   within = within;
 }
 
-pub rule_side_is : (symbols : List Interpretation) (r : RewriteRule) (right : Bool) (p : Polynomial) → NormalInterpretations symbols
-    → SideComesTo symbols r.metas (side_of right r) p → IsSide (rule_run symbols r right) p
-rule_side_is symbols r right p normal (norm, within) =
-    side_is symbols (types_of_metas r.metas) (side_expression r.metas (side_of right r)) p normal norm within
+pub rule_side_is : (R : ReadingsData) (r : RewriteRule) (right : Bool) (p : Polynomial) → NormalInterpretations R.symbols
+    → SideComesTo R.symbols r.metas (side_of right r) p → IsSide (rule_run R r right) p
+rule_side_is R r right p normal (norm, within) =
+    side_is R.symbols (types_of_metas r.metas) (side_expression r.metas (side_of right r)) p normal norm within
 
-pub pair_side_is : (S : Symbols) (rules : List RewriteRule) (symbols : List Interpretation) (marks : List Mark) (a : PairData) (right : Bool) (p : Polynomial)
-    → NormalInterpretations symbols → AreNormalMarks S rules marks → PairSideComesTo S rules symbols marks a right p
-    → IsSide (pair_run S rules symbols marks a right) p
-pair_side_is S rules symbols marks a right p normal normal_marks (norm, within) =
-    side_is (with_marks S rules symbols marks) (types_of_metas a.metas)
-    (marked_expression a.metas (mark_number symbols marks (head_of_side a right)) (arguments_of_side a right)) p
-    (normal_with_marks S rules symbols marks normal normal_marks) norm within
+pub pair_side_is : (S : Symbols) (rules : List RewriteRule) (R : ReadingsData) (a : PairData) (right : Bool) (p : Polynomial)
+    → AreNormal S rules R → PairSideComesTo S rules R.symbols R.marks a right p → IsSide (pair_run S rules R a right) p
+pair_side_is S rules R a right p normal (norm, within) =
+    side_is (with_marks S rules R.symbols R.marks) (types_of_metas a.metas)
+    (marked_expression a.metas (mark_number R.symbols R.marks (head_of_side a right)) (arguments_of_side a right)) p
+    (normal_with_marks S rules R.symbols R.marks normal.symbols normal.marks) norm within
 
 -- a fault names the limit that a value exceeds
 
-pub rule_exceeds : (symbols : List Interpretation) (r : RewriteRule) (right : Bool) (e : PolyFault) (x : Excess) → x ≡ limit_of e
-    → IsFaultOfSide symbols r.metas (side_of right r) e → RunExceeds (rule_run symbols r right) x
-rule_exceeds symbols r right e x same h = subst (RunExceeds (rule_run symbols r right)) (sym same) (by e h)
+pub rule_exceeds : (R : ReadingsData) (r : RewriteRule) (right : Bool) (e : PolyFault) (x : Excess) → x ≡ limit_of e
+    → IsFaultOfSide R.symbols r.metas (side_of right r) e → RunExceeds (rule_run R r right) x
+rule_exceeds R r right e x same h = subst (RunExceeds (rule_run R r right)) (sym same) (by e h)
   where
-    by : (e : PolyFault) → IsFaultOfSide symbols r.metas (side_of right r) e → RunExceeds (rule_run symbols r right) (limit_of e)
+    by : (e : PolyFault) → IsFaultOfSide R.symbols r.metas (side_of right r) e → RunExceeds (rule_run R r right) (limit_of e)
     by (Overflow k) h = h.0
     by (TooLarge k) h = h.0
 
-pub pair_exceeds : (S : Symbols) (rules : List RewriteRule) (symbols : List Interpretation) (marks : List Mark) (a : PairData) (right : Bool) (e : PolyFault) (x : Excess)
-    → x ≡ limit_of e → IsFaultOfPairSide S rules symbols marks a right e → RunExceeds (pair_run S rules symbols marks a right) x
-pair_exceeds S rules symbols marks a right e x same h = subst (RunExceeds (pair_run S rules symbols marks a right)) (sym same) (by e h)
+pub pair_exceeds : (S : Symbols) (rules : List RewriteRule) (R : ReadingsData) (a : PairData) (right : Bool) (e : PolyFault) (x : Excess)
+    → x ≡ limit_of e → IsFaultOfPairSide S rules R.symbols R.marks a right e → RunExceeds (pair_run S rules R a right) x
+pair_exceeds S rules R a right e x same h = subst (RunExceeds (pair_run S rules R a right)) (sym same) (by e h)
   where
-    by : (e : PolyFault) → IsFaultOfPairSide S rules symbols marks a right e → RunExceeds (pair_run S rules symbols marks a right) (limit_of e)
+    by : (e : PolyFault) → IsFaultOfPairSide S rules R.symbols R.marks a right e → RunExceeds (pair_run S rules R a right) (limit_of e)
     by (Overflow k) h = h.0
     by (TooLarge k) h = h.0

@@ -1,5 +1,5 @@
 -- Lines are right, or one of them is the first that is not: whatever a line shows, and whatever can be wrong with it.
-use Rattle.std.proofs.Common.{◌≡◌, ◌⊎◌, inl, inr, ℕ, zero, suc, ◌<◌, ◌≤◌, Bool, true, false, List, length, Option, Some, None, slice_get, Contains, refl, sym, ap, subst, ◌∙◌, arith}
+use Rattle.std.proofs.Common.{◌≡◌, ◌↔◌, ◌⊎◌, inl, inr, ℕ, zero, suc, ◌<◌, ◌≤◌, Bool, true, false, List, length, Option, Some, None, slice_get, Contains, refl, sym, ap, subst, ◌∙◌, arith}
 use Rattle.std.proofs.lemmas.Bool.{cases_lt}
 use Rattle.std.proofs.lemmas.List.Elements.{All-contains}
 use Rattle.std.proofs.lemmas.Option.{slice_get_within}
@@ -27,6 +27,10 @@ dropped_one drop n true true is also = refl
 dropped_one drop n true false is not = absurd (not is)
 dropped_one drop n false true not is = absurd (not is)
 dropped_one drop n false false not also = refl
+
+pub dropped_same : (ns ms : List ℕ) → ((n : ℕ) → Contains ns n ↔ Contains ms n) → (n : ℕ) (b : Bool) → IsDropped ns n b → IsDropped ms n b
+dropped_same ns ms same n true d = (same n).0 d
+dropped_same ns ms same n false d = λ found. d ((same n).1 found)
 
 -- P holds of all numbers below k, or Q of one, and P of those before it
 abbrev pub AllOrFirst : (ℕ → Type 0) → (ℕ → Type 0) → ℕ → Type 0
@@ -65,6 +69,33 @@ module _ {Line Fault : Type 0} (shows : Showing Line) (blames : Blaming Line Fau
       let alike : strict ≡ asked = dropped_one drop n strict asked dropped (subst (λ x. IsDropped drop x asked) (sym number) also_dropped) in
       subst (λ (x : Bool). shows.pair q x k) alike
       (subst (λ (x : Line). shows.pair q strict x) same (subst (λ (x : PairData). shows.pair x strict l) pair right))
+
+  -- what holds before the end of the lines holds of all of them
+
+  pub rules_past : (lines : List Line) (i : ℕ) → ((k : ℕ) → k < i → IsRightRule shows T lines k) → length lines ≤ i
+      → (k : ℕ) → IsRightRule shows T lines k
+  rules_past lines i before past k n r l at here line =
+      let within = slice_get_within lines k l line in before k (omega (arith, within, past)) n r l at here line
+
+  pub pairs_past : (lines : List Line) (drop : List ℕ) (i : ℕ) → ((k : ℕ) → k < i → IsRightPair shows T lines drop k) → length lines ≤ i
+      → (k : ℕ) → IsRightPair shows T lines drop k
+  pairs_past lines drop i before past k n p l strict at here line dropped =
+      let within = slice_get_within lines k l line in before k (omega (arith, within, past)) n p l strict at here line dropped
+
+  -- another list of the same dropped pairs
+
+  pub right_pair_same : (lines : List Line) (ns ms : List ℕ) → ((n : ℕ) → Contains ns n ↔ Contains ms n) → (k : ℕ)
+      → IsRightPair shows T lines ns k → IsRightPair shows T lines ms k
+  right_pair_same lines ns ms same k right n p l strict at here line dropped =
+      right n p l strict at here line (dropped_same ms ns (λ n. ((same n).1, (same n).0)) n strict dropped)
+
+  pub first_pair_same : (lines : List Line) (ns ms : List ℕ) → ((n : ℕ) → Contains ns n ↔ Contains ms n) → (n : ℕ) (f : Fault)
+      → IsFirstPairFault shows blames T lines ns n f → IsFirstPairFault shows blames T lines ms n f
+  first_pair_same lines ns ms same n f (i, before, (p, l, strict, at, here, line, dropped, wrong)) = (
+    i,
+    (λ k less. right_pair_same lines ns ms same k (before k less)),
+    (p, l, strict, at, here, line, dropped_same ns ms same n strict dropped, wrong),
+  )
 
   -- each line is right or not
 
@@ -239,3 +270,18 @@ counted_of shows T E is = record {
     good (inl empty) = is.some_dropped empty
     good (inr (inl (n, (i, j, less, at, also)))) = let same : i ≡ j = is.once i j n at also in omega (arith, same, less)
     good (inr (inr (n, found, stray))) = stray (All-contains (Contains T.set) E.drop n is.within found)
+
+-- lines that show more are right where they show less
+pub shows_less : {Line : Type 0} (shows less : Showing Line) (T : TaskData) (E : Evidence Line)
+    → ((r : RewriteRule) (l : Line) → shows.rule r l → less.rule r l)
+    → ((p : PairData) (strict : Bool) (l : Line) → shows.pair p strict l → less.pair p strict l) → IsReductionPair shows T E
+    → IsReductionPair less T E
+shows_less shows less T E rule pair is = record {
+  rule_count = is.rule_count;
+  pair_count = is.pair_count;
+  some_dropped = is.some_dropped;
+  once = is.once;
+  within = is.within;
+  rules = λ i n r l at here line. rule r l (is.rules i n r l at here line);
+  pairs = λ i n p l strict at here line dropped. pair p strict l (is.pairs i n p l strict at here line dropped);
+}
