@@ -1,3 +1,4 @@
 pub mod MarkedCalls
+pub mod Measures
 pub mod Bodies
 pub mod Sides
