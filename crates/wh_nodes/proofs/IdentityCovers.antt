@@ -112,12 +112,16 @@ one_more_covers = record {
 abbrev shows : Showing (List Transfer)
 shows = by_moves identity_symbols identity_system.rules readings
 
+-- what is shown of one rule by its line
+right_line : (u r : RewriteRule) (k ms : List Transfer) → u ≡ r → k ≡ ms → shows.rule u k → shows.rule r ms
+right_line u r k ms rule line right = subst₂ (λ (r : RewriteRule) (ms : List Transfer). shows.rule r ms) rule line right
+
 rules_covered : (i : ℕ) → IsRightRule shows count_task count_moves.of_rules i
 rules_covered i n r ms at here line =
-    let by_rule = get_two (λ i n. (r : RewriteRule) (ms : List Transfer) → slice_get identity_system.rules n ≡ Some r
-    → slice_get count_moves.of_rules i ≡ Some ms → shows.rule r ms) 0 1
-    (λ r ms here line. subst₂ shows.rule (cc) (cc) itself_covers) (λ r ms here line. subst₂ shows.rule (cc) (cc) nothing_covers) in
-    by_rule i n at r ms here line
+    get_two (λ i n. slice_get identity_system.rules n ≡ Some r → slice_get count_moves.of_rules i ≡ Some ms → shows.rule r ms) 0 1
+    (λ here line. right_line identity_rule r (unit_from 0 ∷ []) ms (cc) (cc) itself_covers)
+    (λ here line. right_line count_rule r [] ms (cc) (cc) nothing_covers)
+    i n at here line
 
 count_shrinks : shows.pair count_pair true (unit_from 1 ∷ [])
 count_shrinks = one_more_covers
