@@ -10,7 +10,7 @@ use Rattle.wh_terms.specs.Rules.{RewriteRule, AreWellMade}
 use Rattle.wh_step.specs.Step.{Step}
 use Rattle.wh_pairs.specs.PairData.{PairData}
 use Rattle.wh_pairs.specs.Sets.{InSet}
-use Rattle.wh_calls.specs.MarkedCalls.{IsTypedCall, MarkedCall, AreTypedBodies, PairStep, ArgumentsStep, CallsEnd}
+use Rattle.wh_calls.specs.MarkedCalls.{IsTypedCall, MarkedCall, AreTypedBodies, PairLeads, ArgumentsStep, CallsEnd}
 use Rattle.wh_hopoly.specs.Evaluation.{Interpretation, NormalInterpretations}
 use Rattle.wh_polycheck.specs.Sides.{Interprets, RulesAreCovered}
 use Rattle.wh_polycheck.specs.Marks.{marked_interpretation, with_marks, mark_number, marked_types, HasMarkedSides}
@@ -86,7 +86,7 @@ module _ (S : Symbols) (rules : List RewriteRule) (R : ReadingsData) (proper : A
     }
 
   -- a covered pair
-  pub pair_worth : (p : PairData) (c d : MarkedCall) → PairIsCovered S rules R p → PairStep S (Step rules) p c d
+  pub pair_worth : (p : PairData) (c d : MarkedCall) → PairIsCovered S rules R p → PairLeads S p c d
       → worth_of S rules R d ≤ worth_of S rules R c
   pair_worth p c d k s =
       subst (λ f. worth_of S rules R d ≤ at_symbol f c.arguments) (sym s.left_symbol)
@@ -98,7 +98,7 @@ module _ (S : Symbols) (rules : List RewriteRule) (R : ReadingsData) (proper : A
 
   -- a strictly covered pair
   pub strict_pair_worth : (p : PairData) (c d : MarkedCall) → HasMarkedSides S rules R.marks p → PairIsStrictlyCovered S rules R p
-      → PairStep S (Step rules) p c d → worth_of S rules R d < worth_of S rules R c
+      → PairLeads S p c d → worth_of S rules R d < worth_of S rules R c
   strict_pair_worth p c d sides (ms, h) s =
       subst (λ f. worth_of S rules R d < at_symbol f c.arguments) (sym s.left_symbol)
       (subst (λ f. at_symbol f d.arguments < at_symbol p.left_fun c.arguments) (sym s.right_symbol)
@@ -115,10 +115,10 @@ pub sets_end_by_worth : (S : Symbols) (rules : List RewriteRule) (R : ReadingsDa
     → CallsEnd S rules (Step rules) (InSet pairs kept) → CallsEnd S rules (Step rules) (InSet pairs set)
 sets_end_by_worth S rules R pairs set kept well proper covered each decided =
     ends_numbered (worth_of S rules R) (arguments_worth S rules R proper well covered) (λ p c d (n, inside, at) s.
-    by_pair n p c d at (each n p inside at) s (decided n p inside at))
+    by_pair n p c d at (each n p inside at) s.leads (decided n p inside at))
   where
     by_pair : (n : ℕ) (p : PairData) (c d : MarkedCall) → slice_get pairs n ≡ Some p → PairIsCovered S rules R p
-        → PairStep S (Step rules) p c d → Contains kept n ⊎ PairIsStrictlyCovered S rules R p
+        → PairLeads S p c d → Contains kept n ⊎ PairIsStrictlyCovered S rules R p
         → ((InSet pairs kept p × worth_of S rules R d ≤ worth_of S rules R c) ⊎ worth_of S rules R d < worth_of S rules R c)
     by_pair n p c d at k s (inl stays) = inl ((n, stays, at), pair_worth S rules R proper p c d k s)
     by_pair n p c d at k s (inr strict) = inr (strict_pair_worth S rules R proper p c d k.sides strict s)

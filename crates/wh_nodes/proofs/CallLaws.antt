@@ -34,10 +34,10 @@ pub record ComesFrom (R : Tm → Tm → Type 0) (p : PairData) (c : MarkedCall) 
 
 pub comes_step : {S : Symbols} {R : Tm → Tm → Type 0} (p : PairData) (c d : MarkedCall) → PairStep S R p c d → ComesFrom R p d
 comes_step p c d s = record {
-  bodies = s.bodies;
+  bodies = s.leads.bodies;
   first = d.arguments;
-  symbol = s.right_symbol;
-  values = s.right;
+  symbol = s.leads.right_symbol;
+  values = s.leads.right;
   leads = stay;
 }
 
@@ -54,4 +54,4 @@ comes_kept p c d from a = record {
 pub comes_may : {S : Symbols} {R : Tm → Tm → Type 0} (rules : List RewriteRule) (p q : PairData) (c d : MarkedCall) → MayIsSound rules R
     → ComesFrom R p c → PairStep S R q c d → May rules p q
 comes_may rules p q c d sound from s =
-    sound p q from.bodies s.bodies from.first c.arguments (sym from.symbol ∙ s.left_symbol) from.values s.left from.leads
+    sound p q from.bodies s.leads.bodies from.first c.arguments (sym from.symbol ∙ s.leads.left_symbol) from.values s.leads.left from.leads

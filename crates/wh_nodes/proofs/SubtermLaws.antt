@@ -16,7 +16,7 @@ use Rattle.wh_subterm.specs.Projections.{Chosen, IsProjected, Equal, Below}
 use Rattle.wh_subterm.specs.SubtermRows.{chosen_symbols, IsProjection}
 use Rattle.wh_pairs.proofs.DropLemmas.{contains_or_not}
 use Rattle.wh_subterm.proofs.ProjectionLemmas.{project_one}
-use Rattle.wh_calls.specs.MarkedCalls.{MarkedCall, IsTypedCall, PairStep, ArgumentsStep, SomePairStep, CallsEnd}
+use Rattle.wh_calls.specs.MarkedCalls.{MarkedCall, IsTypedCall, PairLeads, ArgumentsStep, SomePairStep, CallsEnd}
 use Rattle.wh_calls.specs.Measures.{Orders, HasNoMore, HasLess, AreMeasured}
 use Rattle.wh_calls.proofs.Measured.{ends_measured}
 use Rattle.wh_nodes.specs.Many.{Many, stay, go}
@@ -58,12 +58,12 @@ projected_value args f h ps vs p e are (i, found, at) =
     let (v, there, is) = values_at ps vs i p are at in
     (i, other_symbol args f h i e found, subst (λ w. slice_get vs i ≡ Some w) (value_is is).1 there)
 
-left_projects : {S : Symbols} {R : Tm → Tm → Type 0} (args : List Chosen) (p : PairData) (c d : MarkedCall) (t : Tm)
-    (s : PairStep S R p c d) → IsProjected args p.left_fun p.left t → ProjectsTo args c (value s.bodies t)
+left_projects : {S : Symbols} (args : List Chosen) (p : PairData) (c d : MarkedCall) (t : Tm)
+    (s : PairLeads S p c d) → IsProjected args p.left_fun p.left t → ProjectsTo args c (value s.bodies t)
 left_projects args p c d t s left = projected_value args p.left_fun c.symbol p.left c.arguments t s.left_symbol s.left left
 
-right_projects : {S : Symbols} {R : Tm → Tm → Type 0} (args : List Chosen) (p : PairData) (c d : MarkedCall) (t : Tm)
-    (s : PairStep S R p c d) → IsProjected args p.right_fun p.right t → ProjectsTo args d (value s.bodies t)
+right_projects : {S : Symbols} (args : List Chosen) (p : PairData) (c d : MarkedCall) (t : Tm)
+    (s : PairLeads S p c d) → IsProjected args p.right_fun p.right t → ProjectsTo args d (value s.bodies t)
 right_projects args p c d t s right = projected_value args p.right_fun d.symbol p.right d.arguments t s.right_symbol s.right right
 
 -- projected arguments are ordered by steps and direct subterms
@@ -81,7 +81,7 @@ arguments_project {R = R} args c d v here a = let (w, there, h) = projected_step
 -- a pair leads from a call with the projected argument v to one with a smaller argument, or with the same
 
 below_projects : {S : Symbols} {R : Tm → Tm → Type 0} (args : List Chosen) (p : PairData) (c d : MarkedCall) (v : Tm)
-    → IsIncreasing (chosen_symbols args) → PairStep S R p c d → ProjectsTo args c v → Below args p
+    → IsIncreasing (chosen_symbols args) → PairLeads S p c d → ProjectsTo args c v → Below args p
     → HasLess (by_parts R) (ProjectsTo args) v d
 below_projects {R = R} args p c d v up s here (t, u, left, right, part) =
     let is = project_one args c.symbol c.arguments (value s.bodies t) v up (left_projects args p c d t s left) here in
@@ -89,14 +89,14 @@ below_projects {R = R} args p c d v up s here (t, u, left, right, part) =
     subst (λ w. Plus (StepOrPart R) w (value s.bodies u)) is (part_path s.bodies part))
 
 equal_projects : {S : Symbols} {R : Tm → Tm → Type 0} (args : List Chosen) (p : PairData) (c d : MarkedCall) (v : Tm)
-    → IsIncreasing (chosen_symbols args) → PairStep S R p c d → ProjectsTo args c v → Equal args p
+    → IsIncreasing (chosen_symbols args) → PairLeads S p c d → ProjectsTo args c v → Equal args p
     → HasNoMore (by_parts R) (ProjectsTo args) v d
 equal_projects args p c d v up s here (t, left, right) =
     let is = project_one args c.symbol c.arguments (value s.bodies t) v up (left_projects args p c d t s left) here in
     (v, subst (ProjectsTo args d) is (right_projects args p c d t s right), stay)
 
 -- the call that a pair of the set leads to has a projected argument
-pair_projects : {S : Symbols} {R : Tm → Tm → Type 0} (args : List Chosen) (p : PairData) (c d : MarkedCall) → PairStep S R p c d
+pair_projects : {S : Symbols} (args : List Chosen) (p : PairData) (c d : MarkedCall) → PairLeads S p c d
     → Equal args p ⊎ Below args p → (w : Tm) × ProjectsTo args d w
 pair_projects args p c d s (inl (t, left, right)) = (value s.bodies t, right_projects args p c d t s right)
 pair_projects args p c d s (inr (t, u, left, right, part)) = (value s.bodies u, right_projects args p c d u s right)
@@ -114,18 +114,18 @@ projections_measure S rules pairs set drop rest args {R = R} passes is kept = re
   together = λ a b c m p. many-plus m p;
   measured = measured;
   arguments = λ c d v typed here a. arguments_project args c d v here a;
-  pairs = λ p c d v (n, inside, at) typed here s. pair_lowers n p c d v inside at here s;
+  pairs = λ p c d v (n, inside, at) typed here by. pair_lowers n p c d v inside at here by.leads;
 }
   where
     measured : (c d : MarkedCall) → IsTypedCall S rules d → SomePairStep S R (InSet pairs set) c d
         → (v : Tm) × ProjectsTo args d v × Ends (Plus (StepOrPart R)) v
     measured c d typed (p, (n, inside, at), by) =
-        let (w, there) = pair_projects args p c d by (is.decreasing n p inside at) in
+        let (w, there) = pair_projects args p c d by.leads (is.decreasing n p inside at) in
         let (i, found, here) = there in
         (w, there, ends-plus (ends-parts w passes (all_at (Ends R) d.arguments i w by.minimal here)))
 
     pair_lowers : (n : ℕ) (p : PairData) (c d : MarkedCall) (v : Tm) → Contains set n → slice_get pairs n ≡ Some p → ProjectsTo args c v
-        → PairStep S R p c d
+        → PairLeads S p c d
         → ((InSet pairs rest p × HasNoMore (by_parts R) (ProjectsTo args) v d) ⊎ HasLess (by_parts R) (ProjectsTo args) v d)
     pair_lowers n p c d v inside at here s = elim (contains_or_not drop n) [
       | inl found ↦ inr (below_projects args p c d v is.marked.in_order s here (is.below n p found at))
