@@ -8,7 +8,7 @@ use Rattle.wh_terms.specs.Rules.{RewriteRule}
 use Rattle.wh_laws.specs.Ends.{Ends, ends}
 use Rattle.wh_pairs.specs.PairData.{PairData}
 use Rattle.wh_calls.specs.MarkedCalls.{MarkedCall, IsTypedCall, PairStep, ArgumentsStep, SomePairStep, CallStep, CallsEnd}
-use Rattle.wh_calls.specs.Measures.{Orders, by_function, HasNoMore, HasLess, AreMeasured}
+use Rattle.wh_calls.specs.CallOrders.{Orders, by_function, HasNoMore, HasLess, AreMeasured}
 use Rattle.wh_calls.proofs.Leading.{step_all_ends, calls_end, other_pairs, other_arguments}
 
 module _ {S : Symbols} {rules : List RewriteRule} {R : Tm → Tm → Type 0} {A : Type 0} {order : Orders A}

@@ -1,4 +1,4 @@
 pub mod MarkedCalls
-pub mod Measures
+pub mod CallOrders
 pub mod Bodies
 pub mod Sides

@@ -17,7 +17,7 @@ ghost use Rattle.wh_pairs.specs.Candidates.{candidates};
 ghost use Rattle.wh_pairs.specs.Subsumption.{ArePairs};
 ghost use Rattle.wh_pairs.specs.Sets.{InSet};
 ghost use Rattle.wh_calls.specs.MarkedCalls.{MarkedCall, CallsEnd};
-ghost use Rattle.wh_calls.specs.Measures.{numbers, by_function, AreMeasured};
+ghost use Rattle.wh_calls.specs.CallOrders.{by_numbers, by_function, AreMeasured};
 
 /// Where a system is passing under ranks and the calls of its pairs lead to no endless sequence, each
 /// symbol is computable (Tait 1967 for computability; Fuhs and Kop 2019 for pairs under passing).
@@ -39,6 +39,6 @@ pub fn terms_are_bounded_where_calls_end()
 /// (Kop 2012, the reduction pair processor).
 pub fn measured_calls_end()
     ensures { (S : Symbols) (rules : List RewriteRule) (pairs : List PairData) (set kept : List ℕ) (measure : MarkedCall → ℕ)
-        → AreMeasured S rules (Step rules) numbers (by_function measure) (InSet pairs set) (InSet pairs kept)
+        → AreMeasured S rules (Step rules) by_numbers (by_function measure) (InSet pairs set) (InSet pairs kept)
         → CallsEnd S rules (Step rules) (InSet pairs kept) → CallsEnd S rules (Step rules) (InSet pairs set) }
 {}

@@ -12,7 +12,7 @@ use Rattle.wh_pairs.proofs.ByPlace.{contains_at, place_of, unmap}
 use Rattle.wh_calls.specs.MarkedCalls.{CallsEnd}
 use Rattle.wh_reduction.specs.TaskData.{TaskData, CoversAll}
 use Rattle.wh_reduction.specs.ReductionPair.{Evidence}
-use Rattle.wh_reduction.proofs.Shown.{rule_shown, pair_shown}
+use Rattle.wh_reduction.proofs.LinesShow.{rule_shown, pair_shown}
 use Rattle.wh_hopoly.specs.Evaluation.{Interpretation}
 use Rattle.wh_hopoly.specs.Moves.{Transfer}
 use Rattle.wh_polycheck.specs.Sides.{IsInterpretedAs, Interprets, RulesAreCovered}

@@ -8,7 +8,7 @@ use Rattle.wh_terms.specs.Rules.{RewriteRule}
 use Rattle.wh_laws.specs.Ends.{Ends, ends}
 use Rattle.wh_pairs.specs.PairData.{PairData}
 use Rattle.wh_calls.specs.MarkedCalls.{MarkedCall, IsTypedCall, PairStep, ArgumentsStep, CallsEnd}
-use Rattle.wh_calls.specs.Measures.{numbers}
+use Rattle.wh_calls.specs.CallOrders.{by_numbers}
 use Rattle.wh_calls.proofs.Measured.{ends_measured, function_measures}
 
 -- no endless descent goes out from a number
@@ -17,8 +17,8 @@ end_below : (n m : ℕ) → m < n → Ends (λ a b. b < a) m
 end_below zero m less = absurd (omega (arith, less))
 end_below (suc n) m less = ends (λ k under. end_below n k (omega (arith, less, under)))
 
-pub number_ends : (n : ℕ) → Ends (λ a b. b < a) n
-number_ends n = end_below (suc n) n (omega arith)
+pub numbers_end : (n : ℕ) → Ends (λ a b. b < a) n
+numbers_end n = end_below (suc n) n (omega arith)
 
 -- where a number never rises, and falls where a pair is not one of the kept ones, calls end if those by these do
 pub ends_numbered : {S : Symbols} {rules : List RewriteRule} {R : Tm → Tm → Type 0} (measure : MarkedCall → ℕ) {P Q : PairData → Type 0}
@@ -26,5 +26,5 @@ pub ends_numbered : {S : Symbols} {rules : List RewriteRule} {R : Tm → Tm → 
     → ((p : PairData) (c d : MarkedCall) → P p → PairStep S R p c d → ((Q p × measure d ≤ measure c) ⊎ measure d < measure c))
     → CallsEnd S rules R Q → CallsEnd S rules R P
 ends_numbered measure arguments pairs kept =
-    ends_measured (function_measures numbers measure (λ a b c no_more less. lt_of_lt_of_le less no_more)
-    (λ d typed all. number_ends (measure d)) arguments (λ p c d has typed by. pairs p c d has by)) kept
+    ends_measured (function_measures by_numbers measure (λ a b c no_more less. lt_of_lt_of_le less no_more)
+    (λ d typed all. numbers_end (measure d)) arguments (λ p c d has typed by. pairs p c d has by)) kept

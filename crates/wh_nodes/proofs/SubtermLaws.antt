@@ -17,7 +17,7 @@ use Rattle.wh_subterm.specs.SubtermRows.{chosen_symbols, IsProjection}
 use Rattle.wh_pairs.proofs.DropLemmas.{contains_or_not}
 use Rattle.wh_subterm.proofs.ProjectionLemmas.{project_one}
 use Rattle.wh_calls.specs.MarkedCalls.{MarkedCall, IsTypedCall, PairLeads, ArgumentsStep, SomePairStep, CallsEnd}
-use Rattle.wh_calls.specs.Measures.{Orders, HasNoMore, HasLess, AreMeasured}
+use Rattle.wh_calls.specs.CallOrders.{Orders, HasNoMore, HasLess, AreMeasured}
 use Rattle.wh_calls.proofs.Measured.{ends_measured}
 use Rattle.wh_nodes.specs.Many.{Many, stay, go}
 use Rattle.wh_pairs.specs.Sets.{IsSetOf, IsKept, InSet}

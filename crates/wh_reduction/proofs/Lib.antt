@@ -1,4 +1,4 @@
 pub mod Numbers
 pub mod Lines
 pub mod TaskLemmas
-pub mod Shown
+pub mod LinesShow

@@ -14,8 +14,8 @@ pub record Orders (A : Type 0) : Type 1 where
   pub not_more : A → A → Type 0
 
 -- those of the numbers
-abbrev pub numbers : Orders ℕ
-numbers = record { less = λ a b. b < a; not_more = λ a b. b ≤ a }
+abbrev pub by_numbers : Orders ℕ
+by_numbers = record { less = λ a b. b < a; not_more = λ a b. b ≤ a }
 
 -- each call has one measure, that of the function
 abbrev pub by_function : {A : Type 0} → (MarkedCall → A) → MarkedCall → A → Type 0
