@@ -1,5 +1,5 @@
 -- The law of reduction pairs: calls that are measured end where those by the kept pairs do, whatever the orders.
-use Rattle.std.proofs.Common.{◌≡◌, ◌⊎◌, inl, inr, refl, subst}
+use Rattle.std.proofs.Common.{◌⊎◌, inl, inr, refl, subst}
 use Rattle.std.specs.Prelude.{List}
 use Rattle.std.specs.List.{AllByRecursion}
 use Rattle.wh_terms.specs.Tree.{Tm}
@@ -7,7 +7,7 @@ use Rattle.wh_terms.specs.Typing.{Symbols}
 use Rattle.wh_terms.specs.Rules.{RewriteRule}
 use Rattle.wh_laws.specs.Ends.{Ends, ends}
 use Rattle.wh_pairs.specs.PairData.{PairData}
-use Rattle.wh_calls.specs.MarkedCalls.{MarkedCall, IsTypedCall, PairStep, ArgumentsStep, SomePairStep, CallStep, CallsEnd}
+use Rattle.wh_calls.specs.MarkedCalls.{MarkedCall, IsTypedCall, PairStep, ArgumentsStep, CallStep, CallsEnd}
 use Rattle.wh_calls.specs.CallOrders.{Orders, by_function, HasNoMore, HasLess, AreMeasured}
 use Rattle.wh_calls.proofs.Leading.{step_all_ends, calls_end, other_pairs, other_arguments}
 
@@ -30,10 +30,13 @@ module _ {S : Symbols} {rules : List RewriteRule} {R : Tm → Tm → Type 0} {A 
   outcome : (a : A) (c d : MarkedCall) → ArgumentsEnd c → measures c a → Big c d → Outcome a c d
   outcome a c d all at s = elim (s.leads) [
     | inl step ↦ (step_all_ends step.arguments all, inl (other_arguments c d s step, are.arguments c d a s.from_typed at step))
-    | inr (p, has, by) ↦ (by.minimal, elim (are.pairs p c d a has s.from_typed at by) [
-      | inl (stays, no_more) ↦ inl (other_pairs c d s (λ _. (p, stays, by)), no_more)
-      | inr less ↦ inr less
-    ])
+    | inr (p, has, by) ↦ (
+      by.minimal,
+      elim (are.pairs p c d a has s.from_typed at by) [
+        | inl (stays, no_more) ↦ inl (other_pairs c d s (λ _. (p, stays, by)), no_more)
+        | inr less ↦ inr less
+      ],
+    )
   ]
 
   -- calls with a measure that is less than a end

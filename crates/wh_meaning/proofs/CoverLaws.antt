@@ -1,8 +1,8 @@
 -- What the conditions of a node of interpretations say of a set of pairs: its calls end where those by the pairs that are kept do.
-use Rattle.std.proofs.Common.{◌≡◌, ◌⊎◌, ℕ, zero, suc, inl, inr, List, [], ◌∷◌, length, map, Bool, true, false, Some, slice_get, Contains, refl, ap, ◌∙◌}
+use Rattle.std.proofs.Common.{◌≡◌, ◌⊎◌, ℕ, zero, suc, inl, inr, List, [], ◌∷◌, map, Bool, true, false, Some, slice_get, Contains, refl, ap, ◌∙◌}
 use Rattle.std.proofs.lemmas.Option.{none-some, same_Some}
 use Rattle.wh_types.specs.Ty.{Ty}
-use Rattle.wh_terms.specs.Rules.{RewriteRule, AreWellMade}
+use Rattle.wh_terms.specs.Rules.{AreWellMade}
 use Rattle.wh_step.specs.Step.{Step}
 use Rattle.wh_pairs.specs.PairData.{PairData}
 use Rattle.wh_pairs.specs.Drops.{IsDropped}
@@ -15,9 +15,9 @@ use Rattle.wh_reduction.specs.ReductionPair.{Evidence}
 use Rattle.wh_reduction.proofs.LinesShow.{rule_shown, pair_shown}
 use Rattle.wh_hopoly.specs.Evaluation.{Interpretation}
 use Rattle.wh_hopoly.specs.Moves.{Transfer}
-use Rattle.wh_polycheck.specs.Sides.{IsInterpretedAs, Interprets, RulesAreCovered}
+use Rattle.wh_polycheck.specs.Sides.{IsInterpretedAs, Interprets}
 use Rattle.wh_polycheck.specs.Marks.{Mark, HasMark, HasMarkedSides}
-use Rattle.wh_polycheck.specs.Readings.{ReadingsData, AreProper, AreReadingsFor}
+use Rattle.wh_polycheck.specs.Readings.{ReadingsData, AreProper}
 use Rattle.wh_polycheck.specs.Covering.{by_moves, IsCovering, HaveTypedSides}
 use Rattle.wh_meaning.specs.PairCovers.{PairIsCovered, PairIsStrictlyCovered}
 use Rattle.wh_meaning.proofs.PairsEnd.{sets_end_by_worth}

@@ -1,6 +1,5 @@
 -- The law of reduction pairs where calls are measured by numbers.
-use Rattle.std.proofs.Common.{◌≡◌, ℕ, zero, suc, ◌≤◌, ◌<◌, ◌⊎◌, inl, inr, arith, lt_of_lt_of_le}
-use Rattle.std.proofs.lemmas.Bool.{cases_lt}
+use Rattle.std.proofs.Common.{ℕ, zero, suc, ◌≤◌, ◌<◌, ◌⊎◌, arith, lt_of_lt_of_le}
 use Rattle.std.specs.Prelude.{List}
 use Rattle.wh_terms.specs.Tree.{Tm}
 use Rattle.wh_terms.specs.Typing.{Symbols}

@@ -1,5 +1,5 @@
 -- Where all rules and pairs are covered, and each pair is kept or strictly covered, calls end if those by the kept pairs do.
-use Rattle.std.proofs.Common.{◌≡◌, ℕ, List, [], ◌∷◌, ◌++◌, ◌⊎◌, inl, inr, map, Some, slice_get, Contains, true, false, ◌≤◌, ◌<◌, ap₂, sym, subst}
+use Rattle.std.proofs.Common.{◌≡◌, ℕ, List, [], ◌∷◌, ◌++◌, ◌⊎◌, inl, inr, map, Some, slice_get, Contains, ◌≤◌, ◌<◌, ap₂, sym, subst}
 use Rattle.std.specs.Prelude.{take, unwrap_or}
 use Rattle.wh_types.specs.Ty.{arguments}
 use Rattle.wh_terms.specs.Tree.{Tm, tms_of}
@@ -15,7 +15,6 @@ use Rattle.wh_hopoly.specs.Evaluation.{Interpretation, NormalInterpretations}
 use Rattle.wh_polycheck.specs.Sides.{Interprets, RulesAreCovered}
 use Rattle.wh_polycheck.specs.Marks.{marked_interpretation, with_marks, mark_number, marked_types, HasMarkedSides}
 use Rattle.wh_polycheck.specs.Readings.{ReadingsData, AreProper}
-use Rattle.wh_polycheck.specs.Covering.{by_moves}
 use Rattle.wh_polycheck.proofs.MoreInterpretations.{interprets_more, rules_covered_more, mark_interpreted, normal_with_marks}
 use Rattle.wh_meaning.specs.Calls.{call_value, IsMarkedSide, HasTypedBodies}
 use Rattle.wh_meaning.specs.PairCovers.{worth_of, PairIsCovered, PairIsStrictlyCovered}

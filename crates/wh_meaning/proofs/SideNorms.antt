@@ -1,5 +1,5 @@
 -- The sides of rules and of pairs have their polynomials as normal forms.
-use Rattle.std.proofs.Common.{◌≡◌, ℕ, List, [], length, refl, Bool, true, false}
+use Rattle.std.proofs.Common.{List, [], length, refl, Bool, true, false}
 use Rattle.wh_types.specs.Ty.{Ty}
 use Rattle.wh_terms.specs.Tree.{Tm, tms_of}
 use Rattle.wh_terms.specs.Sight.{NoFree}

@@ -84,9 +84,11 @@ below_projects : {S : Symbols} {R : Tm → Tm → Type 0} (args : List Chosen) (
     → IsIncreasing (chosen_symbols args) → PairLeads S p c d → ProjectsTo args c v → Below args p
     → HasLess (by_parts R) (ProjectsTo args) v d
 below_projects {R = R} args p c d v up s here (t, u, left, right, part) =
-    let is = project_one args c.symbol c.arguments (value s.bodies t) v up (left_projects args p c d t s left) here in
-    (value s.bodies u, right_projects args p c d u s right,
-    subst (λ w. Plus (StepOrPart R) w (value s.bodies u)) is (part_path s.bodies part))
+    let is = project_one args c.symbol c.arguments (value s.bodies t) v up (left_projects args p c d t s left) here in (
+      value s.bodies u,
+      right_projects args p c d u s right,
+      subst (λ w. Plus (StepOrPart R) w (value s.bodies u)) is (part_path s.bodies part),
+    )
 
 equal_projects : {S : Symbols} {R : Tm → Tm → Type 0} (args : List Chosen) (p : PairData) (c d : MarkedCall) (v : Tm)
     → IsIncreasing (chosen_symbols args) → PairLeads S p c d → ProjectsTo args c v → Equal args p
