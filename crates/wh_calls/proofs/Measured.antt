@@ -43,7 +43,8 @@ module _ {S : Symbols} {rules : List RewriteRule} {R : Tm → Tm → Type 0} {A 
   abbrev LessEnd : A → Type 0
   LessEnd a = (b : A) → order.less a b → (c : MarkedCall) → ArgumentsEnd c → measures c b → Ends Big c
 
-  -- where these are done, an induction on the calls by the kept pairs, whose measures have nothing below them that a has not
+  -- where these are done, an induction on the calls by the kept pairs, whose measures have nothing below them that a
+  -- has not
   rest_ends : (a : A) → LessEnd a → (c : MarkedCall) (b : A) → ArgumentsEnd c → measures c b
       → ((x : A) → order.less b x → order.less a x) → Ends Small c → Ends Big c
   rest_ends a done c b all at within (ends k) = ends (λ d s. let (also, how) = outcome b c d all at s in elim how [

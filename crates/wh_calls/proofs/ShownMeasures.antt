@@ -1,5 +1,5 @@
--- The law of reduction pairs for lines: where they show what they are to, and that holds of the measures of calls, calls of the set end
--- where those by the pairs that are not dropped do.
+-- The law of reduction pairs for lines: where they show what they are to, and that holds of the measures of calls,
+-- calls of the set end where those by the pairs that are not dropped do.
 use Rattle.std.proofs.Common.{◌≡◌, ◌⊎◌, ℕ, inl, inr, List, Bool, true, false, Some, slice_get, Contains}
 use Rattle.wh_terms.specs.Tree.{Tm}
 use Rattle.wh_laws.specs.Ends.{Ends}

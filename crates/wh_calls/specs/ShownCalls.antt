@@ -9,9 +9,9 @@ use Rattle.wh_reduction.specs.ReductionPair.{Showing}
 use Rattle.wh_calls.specs.MarkedCalls.{MarkedCall, IsTypedCall, PairStep, ArgumentsStep}
 use Rattle.wh_calls.specs.CallOrders.{Orders, HasNoMore, HasLess}
 
--- where lines show of all rules that they do not grow, steps in arguments make no measure more; where one shows it of a pair, the pair
--- makes none more, and where it shows that the pair shrinks, it makes each less (Kop 2012, the reduction pair processor; the form is
--- ours)
+-- where lines show of all rules that they do not grow, steps in arguments make no measure more; where one shows it of a
+-- pair, the pair makes none more, and where it shows that the pair shrinks, it makes each less (Kop 2012, the reduction
+-- pair processor; the form is ours)
 pub record IsShownOfCalls {Line A : Type 0} (shows : Showing Line) (T : TaskData) (R : Tm → Tm → Type 0) (order : Orders A)
     (measures : MarkedCall → A → Type 0) : Type 0 where
   pub rules : ((r : RewriteRule) → Contains T.rules r → (l : Line) × shows.rule r l) → (c d : MarkedCall) (a : A)

@@ -1,4 +1,5 @@
--- What the conditions of a node of interpretations say of a set of pairs: its calls end where those by the pairs that are kept do.
+-- What the conditions of a node of interpretations say of a set of pairs: its calls end where those by the pairs that
+-- are kept do.
 use Rattle.std.proofs.Common.{◌≡◌, ℕ, zero, suc, inl, inr, List, [], ◌∷◌, map, Some, slice_get, Contains, refl, ap, ◌∙◌}
 use Rattle.std.proofs.lemmas.Option.{none-some, same_Some}
 use Rattle.wh_types.specs.Ty.{Ty}

@@ -124,7 +124,8 @@ projections_measure S rules pairs set drop rest args {R = R} passes is kept = re
 
     pair_lowers : (n : ℕ) (p : PairData) (c d : MarkedCall) (v : Tm) → Contains set n → slice_get pairs n ≡ Some p → ProjectsTo args c v
         → PairLeads S p c d
-        → ((InSet pairs rest p × HasNoMore (by_steps (StepOrPart R)) (ProjectsTo args) v d) ⊎ HasLess (by_steps (StepOrPart R)) (ProjectsTo args) v d)
+        → ((InSet pairs rest p × HasNoMore (by_steps (StepOrPart R)) (ProjectsTo args) v d)
+        ⊎ HasLess (by_steps (StepOrPart R)) (ProjectsTo args) v d)
     pair_lowers n p c d v inside at here s = elim (contains_or_not drop n) [
       | inl found ↦ inr (below_projects args p c d v is.marked.in_order s here (is.below n p found at))
       | inr stays ↦ elim (is.decreasing n p inside at) [
