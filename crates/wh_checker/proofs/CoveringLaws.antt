@@ -1,13 +1,11 @@
 -- Of the things that can be wrong with a node of interpretations one at most is the first, but that values may exceed both limits; and
 -- none is where its conditions hold. What is found wrong before a value exceeds a limit is wrong first without limits too.
-use Rattle.std.proofs.Common.{◌≡◌, ℕ, ◌<◌, ◌⊎◌, inl, inr, Bool, true, false, List, Some, slice_get, Contains, refl, sym, ap, subst, ◌∙◌}
+use Rattle.std.proofs.Common.{◌≡◌, ℕ, ◌⊎◌, inl, inr, Bool, true, false, List, Some, slice_get, Contains, refl, sym, ap, subst, ◌∙◌}
 use Rattle.wh_terms.specs.Rules.{RewriteRule}
 use Rattle.wh_pairs.specs.PairData.{PairData}
 use Rattle.wh_pairs.proofs.ByPlace.{contains_at, some_one}
-use Rattle.wh_pairs.specs.Drops.{IsBadDrop}
 use Rattle.wh_reduction.specs.TaskData.{TaskData}
 use Rattle.wh_reduction.specs.ReductionPair.{Evidence, IsRightRule, IsRightPair}
-use Rattle.wh_reduction.specs.FirstFault.{AreBadLines}
 use Rattle.wh_reduction.proofs.Lines.{rule_or_not, pair_or_not, first_rule_one, first_pair_one, counted_of, counted_not_bad}
 use Rattle.wh_hopoly.specs.Evaluation.{NormalInterpretations}
 use Rattle.wh_hopoly.specs.Polynomials.{Normal}
@@ -18,7 +16,7 @@ use Rattle.wh_polycheck.specs.Marks.{Mark, marked_types, AreNormalMarks}
 use Rattle.wh_polycheck.specs.Readings.{ReadingsData}
 use Rattle.wh_polycheck.specs.Covering.{rule_run, pair_run, by_moves, IsCovering}
 use Rattle.wh_polycheck.specs.Small.{Limits, without_limits, with_limits, StaysWithin, IsSmall}
-use Rattle.wh_covering.specs.CoveringFaults.{IsFirstLineFault, IsRightLine, IsFirstNotNormal, IsFirstNotNormalMark, IsFirstWrongRule, IsFirstWrongPair, IsReady, IsFirstCoveringFault, right_lines, wrong_lines}
+use Rattle.wh_covering.specs.CoveringFaults.{IsFirstLineFault, IsRightLine, IsFirstNotNormal, IsFirstNotNormalMark, IsFirstWrongRule, IsFirstWrongPair, IsFirstCoveringFault, right_lines, wrong_lines}
 use Rattle.wh_covering.specs.declared.fault.CoveringFault.{CoveringFault}
 use Rattle.wh_covering.specs.declared.fault.CoveringFault.TheVariants.{BadPolynomial, BadLines, BadDrop, Rule, Pair}
 use Rattle.wh_covering.specs.declared.fault.LineFault.{LineFault}

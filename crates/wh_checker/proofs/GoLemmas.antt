@@ -1,6 +1,6 @@
 -- The answers of the parts of a node's check, as what they say of the node.
-use Rattle.std.proofs.Common.{Contains, ◌≡◌, ◌-◌, ℕ, ◌+◌, ◌<◌, ◌≤◌, List, [], ◌∷◌, ◌++◌, length, map, reverse, drop, get_or, Some, All, Result, Ok, Err, OnOk, slice_get, refl, sym, ap, ap₂, subst, ◌∙◌, arith}
-use Rattle.std.proofs.lemmas.List.{drop_more, length-map, reverse-append, append-nil}
+use Rattle.std.proofs.Common.{◌≡◌, ℕ, ◌<◌, List, [], ◌∷◌, ◌++◌, length, map, drop, get_or, Some, All, Result, Ok, Err, OnOk, slice_get, refl, sym, ap, ap₂, subst, ◌∙◌, arith}
+use Rattle.std.proofs.lemmas.List.{length-map, append-nil}
 use Rattle.wh_types.specs.Outcome.{IfBecause, MatchOr}
 use Rattle.wh_types.specs.declared.want.Or.{Or}
 use Rattle.wh_types.specs.declared.want.Or.TheVariants.{NoMemory, Because}
@@ -26,7 +26,7 @@ use Rattle.wh_polycheck.specs.Readings.{ReadingsData}
 use Rattle.wh_reduction.proofs.Numbers.{numbers_within}
 use Rattle.wh_polycheck.specs.Covering.{IsCovering, HaveTypedSides, IsTypedTask}
 use Rattle.wh_polycheck.specs.Small.{IsSmall}
-use Rattle.wh_proof.specs.Nodes.{done, alone, blocks, subterm, poly, AreSetsOf, more_sets, Leaves, by_done, by_alone, by_blocks, by_subterm, by_poly}
+use Rattle.wh_proof.specs.Nodes.{done, alone, blocks, subterm, poly, AreSetsOf, Leaves, by_done, by_alone, by_blocks, by_subterm, by_poly}
 use Rattle.wh_pairs.specs.Sets.{IsSetOf, IsKept}
 use Rattle.wh_proof.specs.Looked.{SayChoices, moves_of}
 use Rattle.wh_checker.specs.Faults.{IsSubtermFault, SayCovering}

@@ -1,5 +1,5 @@
 -- What the walk through the nodes of a YES certificate keeps true.
-use Rattle.std.specs.Prelude.{ℕ, ◌≡◌, ◌≢◌, ◌<◌, List, [], ◌∷◌, ◌++◌, length, All}
+use Rattle.std.specs.Prelude.{ℕ, ◌≡◌, ◌≢◌, ◌<◌, List, [], ◌∷◌, length, All}
 use Rattle.wh_terms.specs.Rules.{RewriteRule}
 use Rattle.wh_system.specs.Systems.{SystemData}
 use Rattle.wh_pairs.specs.PairData.{PairData}
@@ -9,13 +9,10 @@ use Rattle.wh_subterm.specs.Projections.{Chosen}
 use Rattle.wh_subterm.specs.SubtermRows.{IsProjection}
 use Rattle.wh_cert.specs.Written as w
 use Rattle.wh_cert.specs.Written.{Preorder}
-use Rattle.wh_proof.specs.Nodes.{Node, Leaves}
 use Rattle.wh_pairs.specs.Sets.{IsSetOf, IsKept}
-use Rattle.wh_proof.specs.Proves.{Proves}
 use Rattle.wh_proof.specs.GoesOn.{AreProvedBy}
-use Rattle.wh_proof.specs.Looked.{SayChoices, SaysNode, SayNodes}
+use Rattle.wh_proof.specs.Looked.{SayChoices}
 use Rattle.wh_polycheck.specs.Small.{with_limits}
-use Rattle.wh_proof.specs.Small.{IsSmallNode, AreSmall}
 use Rattle.wh_checker.specs.Faults.{IsFirstNodeFault}
 use Rattle.wh_checker.specs.declared.rejected.NodeFault.{NodeFault}
 use Rattle.wh_checker.specs.declared.rejected.Rejected.{Rejected}

@@ -1,21 +1,18 @@
 -- Walks over the lines of the rules and of the pairs of the set, and what all of them say together.
-use Rattle.std.proofs.Common.{◌≡◌, ◌<◌, ◌≤◌, ◌↔◌, inl, inr, ℕ, List, Bool, true, false, length, map, Some, slice_get, Contains, Result, Ok, Err, OnOk, refl, arith}
+use Rattle.std.proofs.Common.{◌↔◌, ℕ, List, Bool, true, false, Contains, Result, Ok, Err, OnOk, arith}
 use Rattle.std.proofs.lemmas.Option.{slice_get_within}
 use Rattle.wh_types.specs.Outcome.{IfBecause}
 use Rattle.wh_types.specs.declared.want.Or.{Or}
 use Rattle.wh_types.specs.declared.want.Or.TheVariants.{NoMemory, Because}
-use Rattle.wh_terms.specs.Typing.{Symbols}
 use Rattle.wh_terms.specs.Rules.{RewriteRule}
 use Rattle.wh_pairs.specs.PairData.{PairData}
-use Rattle.wh_pairs.proofs.ByPlace.{contains_at, place_of, unmap}
-use Rattle.wh_pairs.specs.Marked.{AreMarked}
+use Rattle.wh_pairs.proofs.ByPlace.{place_of}
 use Rattle.wh_reduction.specs.TaskData.{TaskData}
-use Rattle.wh_reduction.specs.ReductionPair.{Evidence, Showing, IsRightRule, IsRightPair}
+use Rattle.wh_reduction.specs.ReductionPair.{Evidence, IsRightRule, IsRightPair}
 use Rattle.wh_reduction.proofs.Lines.{dropped_or_not, all_right, shows_less, first_pair_same}
 use Rattle.wh_hopoly.specs.Moves.{Transfer}
-use Rattle.wh_polycheck.specs.Marks.{Mark, HasMark, HasMarkedSides}
 use Rattle.wh_polycheck.specs.Readings.{ReadingsData, AreReadingsFor}
-use Rattle.wh_polycheck.specs.Covering.{rule_run, pair_run, by_moves, IsCovering, HaveTypedSides}
+use Rattle.wh_polycheck.specs.Covering.{rule_run, pair_run, by_moves, IsCovering}
 use Rattle.wh_polycheck.specs.Small.{Limits, with_limits, StaysWithin, IsSmall}
 use Rattle.wh_covering.specs.CoveringFaults.{IsRightLine, IsReady, IsFirstCoveringFault, right_lines, wrong_lines}
 use Rattle.wh_covering.specs.Lines.{IsFirstOfRules, IsFirstOfPairs}

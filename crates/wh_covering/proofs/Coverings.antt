@@ -1,6 +1,6 @@
 -- The conditions of a node of interpretations on a set of pairs hold, or there is a first thing wrong with them: where numbers may be as
 -- large as they like, and where values that exceed a limit are wrong.
-use Rattle.std.proofs.Common.{◌≡◌, ◌⊎◌, ℕ, inl, inr, Bool, true, false, List, slice_get, refl}
+use Rattle.std.proofs.Common.{◌⊎◌, ℕ, inl, inr, Bool, true, false, List, refl}
 use Rattle.wh_types.specs.Limits.{coefficient_end, greatest_weight, deepest_value}
 use Rattle.wh_types.specs.Ty.{arguments}
 use Rattle.wh_terms.specs.Rules.{RewriteRule}

@@ -4,7 +4,6 @@ use Rattle.std.proofs.lemmas.List.{take_more, map-append}
 use Rattle.std.proofs.lemmas.List.Elements.{All-push}
 use Rattle.wh_text.specs.Words.{IsWord}
 use Rattle.wh_system.specs.Systems.{SystemData}
-use Rattle.wh_subterm.specs.Projections.{Chosen}
 use Rattle.wh_subterm.specs.SubtermRows.{chosen}
 use Rattle.wh_subterm.specs.declared.projection.Choice.{Choice}
 use Rattle.wh_cert.specs.Written as w

@@ -1,4 +1,3 @@
-use Rattle.std.proofs.Common.{map, ◌∙◌}
 use Rattle.wh_reduction.specs.TaskView.{task_data}
 use Rattle.wh_polycheck.specs.ReadingsView.{readings_data}
 use Rattle.wh_polycheck.specs.Small.{with_limits}

@@ -1,6 +1,6 @@
 use Rattle.std.proofs.Common.{ℕ, ◌↔◌, List, Contains, sym, subst}
 use Rattle.wh_reduction.specs.TaskView.{task_data}
-use Rattle.wh_reduction.proofs.Lines.{right_pair_same, first_pair_same}
+use Rattle.wh_reduction.proofs.Lines.{right_pair_same}
 use Rattle.wh_polycheck.specs.ReadingsView.{readings_data}
 use Rattle.wh_polycheck.specs.Small.{with_limits}
 use Rattle.wh_covering.specs.CoveringFaults.{right_lines, wrong_lines}
