@@ -1,6 +1,6 @@
 -- The answers of the parts of a node's check, as what they say of the node.
-use Rattle.std.proofs.Common.{Contains, ◌≡◌, ◌-◌, ℕ, ◌+◌, ◌<◌, ◌≤◌, List, [], ◌∷◌, ◌++◌, length, map, reverse, drop, get_or, Some, Result, Ok, Err, OnOk, slice_get, refl, sym, ap, ap₂, subst, ◌∙◌, arith}
-use Rattle.std.proofs.lemmas.List.{drop_more, reverse-append, append-nil}
+use Rattle.std.proofs.Common.{Contains, ◌≡◌, ◌-◌, ℕ, ◌+◌, ◌<◌, ◌≤◌, List, [], ◌∷◌, ◌++◌, length, map, reverse, drop, get_or, Some, All, Result, Ok, Err, OnOk, slice_get, refl, sym, ap, ap₂, subst, ◌∙◌, arith}
+use Rattle.std.proofs.lemmas.List.{drop_more, length-map, reverse-append, append-nil}
 use Rattle.wh_types.specs.Outcome.{IfBecause, MatchOr}
 use Rattle.wh_types.specs.declared.want.Or.{Or}
 use Rattle.wh_types.specs.declared.want.Or.TheVariants.{NoMemory, Because}
@@ -8,7 +8,8 @@ use Rattle.wh_terms.specs.Rules.{RewriteRule}
 use Rattle.wh_terms.specs.Typing.{Symbols}
 use Rattle.wh_system.specs.Systems.{SystemData}
 use Rattle.wh_system.specs.WellMade.{AreDistinct}
-use Rattle.wh_pairs.specs.PairData.{PairData, pair_data}
+use Rattle.wh_pairs.specs.PairData.{PairData, IsIncreasing, pair_data}
+use Rattle.wh_pairs.specs.Views.{pairs_data}
 use Rattle.wh_pairs.specs.declared.pair.Pair.{Pair}
 use Rattle.wh_pairs.proofs.ByPlace.{some_one, read_map}
 use Rattle.wh_graph.specs.May.{May, Follows}
@@ -22,7 +23,8 @@ use Rattle.wh_cert.specs.Interps.{Interp}
 use Rattle.wh_reduction.specs.TaskData.{numbers_from, task_over, whole_task}
 use Rattle.wh_hopoly.specs.declared.expression.Move.{Move}
 use Rattle.wh_polycheck.specs.Readings.{ReadingsData}
-use Rattle.wh_polycheck.specs.Covering.{IsCovering}
+use Rattle.wh_reduction.proofs.Numbers.{numbers_within}
+use Rattle.wh_polycheck.specs.Covering.{IsCovering, HaveTypedSides, IsTypedTask}
 use Rattle.wh_polycheck.specs.Small.{IsSmall}
 use Rattle.wh_proof.specs.Nodes.{done, alone, blocks, subterm, poly, AreSetsOf, more_sets, Leaves, by_done, by_alone, by_blocks, by_subterm, by_poly}
 use Rattle.wh_pairs.specs.Sets.{IsSetOf, IsKept}
@@ -101,6 +103,22 @@ goes_poly d ps set funs lines rules pairs drop rest R (says, marked) is small ke
 pub whole_is : (S : Symbols) (rules : List RewriteRule) (ps : List PairData) (set other covered : List ℕ) → other ≡ set
     → covered ≡ numbers_from 0 (length rules) → task_over S rules ps other covered ≡ whole_task S rules ps set
 whole_is S rules ps set other covered same all = ap₂ (λ s c. task_over S rules ps s c) same all
+
+-- the task of a set of pairs with typed sides, where all rules are to be covered
+pub typed_task : (d : SystemData) (ps qs : List Pair) (set other covered : List ℕ) → qs ≡ ps → other ≡ set
+    → covered ≡ numbers_from 0 (length d.rules) → All (λ n. n < length ps) set → IsIncreasing set
+    → HaveTypedSides d.symbols d.rules (pairs_data ps) → IsTypedTask (task_over d.symbols d.rules (pairs_data qs) other covered)
+typed_task d ps qs set other covered pairs_same set_same all within increasing typed =
+    subst (λ (l : List Pair). IsTypedTask (task_over d.symbols d.rules (pairs_data l) other covered)) (sym pairs_same)
+    (subst (λ (s : List ℕ). IsTypedTask (task_over d.symbols d.rules (pairs_data ps) s covered)) (sym set_same)
+    (subst (λ (c : List ℕ). IsTypedTask (task_over d.symbols d.rules (pairs_data ps) set c)) (sym all) (record {
+      task = record {
+        within = subst (λ n. All (λ m. m < n) set) (sym (length-map ps pair_data)) within;
+        increasing = increasing;
+        are_rules = numbers_within (length d.rules);
+      };
+      typed = typed;
+    })))
 
 -- the moves of equal lines are equal
 pub moves_are : (rs rules ps pairs : List (List Move)) (ns drop : List ℕ) → rs ≡ rules → ps ≡ pairs → ns ≡ drop

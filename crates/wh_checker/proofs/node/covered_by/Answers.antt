@@ -61,6 +61,9 @@ returns-in-Err-Because c =
     let first = because_says c.in-Err-Because.field-0 f _ c.in-Err-Because.field-0-is c.in-Err-Because.ensures.fault in
     let here = subst (λ (E : Evidence (List Transfer)). IsFirstCoveringFault with_limits (whole_task d.symbols d.rules ps set) R E f) moves
     (subst (λ (T : TaskData). IsFirstCoveringFault with_limits T R
-    (moves_of c.as_slice.result.now c.as_slice-2.result.now c.as_slice-3.result.now) f) whole first) in
-    (R, c.requires.says, subst (λ (g : CoveringFault). IsFirstCoveringFault with_limits (whole_task d.symbols d.rules ps set) R
-    (moves_of node.rules node.pairs node.drop) g) (sym c.in-Err-Because.fault-is) here)
+    (moves_of c.as_slice.result.now c.as_slice-2.result.now c.as_slice-3.result.now) f) whole first) in (
+      R,
+      c.requires.says,
+      subst (λ (g : CoveringFault). IsFirstCoveringFault with_limits (whole_task d.symbols d.rules ps set) R
+          (moves_of node.rules node.pairs node.drop) g) (sym c.in-Err-Because.fault-is) here,
+    )
