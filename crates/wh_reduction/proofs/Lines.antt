@@ -1,5 +1,5 @@
 -- Lines are right, or one of them is the first that is not: whatever a line shows, and whatever can be wrong with it.
-use Rattle.std.proofs.Common.{◌≡◌, ◌↔◌, ◌⊎◌, inl, inr, ℕ, zero, suc, ◌<◌, ◌≤◌, Bool, true, false, List, length, Option, Some, None, slice_get, Contains, refl, sym, ap, subst, ◌∙◌, arith}
+use Rattle.std.proofs.Common.{◌≡◌, ◌↔◌, ◌⊎◌, inl, inr, ℕ, zero, suc, ◌<◌, ◌≤◌, Bool, true, false, List, length, Option, Some, None, slice_get, Contains, refl, sym, subst, arith}
 use Rattle.std.proofs.lemmas.Bool.{cases_lt}
 use Rattle.std.proofs.lemmas.List.Elements.{All-contains}
 use Rattle.std.proofs.lemmas.Option.{slice_get_within}
@@ -184,40 +184,44 @@ module _ {Line Fault : Type 0} (shows : Showing Line) (blames : Blaming Line Fau
 
     module _ (rule_one : (r : RewriteRule) (l : Line) (f g : Fault) → blames.rule r l f → blames.rule r l g → Alike f g)
         (pair_one : (p : PairData) (strict : Bool) (l : Line) (f g : Fault) → blames.pair p strict l f → blames.pair p strict l g → Alike f g)
-        where
-      rule_alike : (lines : List Line) (i n m : ℕ) (f g : Fault) → IsRuleFault blames T lines i n f → IsRuleFault blames T lines i m g
-          → (n ≡ m) × Alike f g
-      rule_alike lines i n m f g (r, l, at, here, line, wrong) (u, k, also, there, other, wrong_too) =
-          let number : n ≡ m = some_one at also in
-          let rule : u ≡ r = some_one there (subst (λ x. slice_get T.rules x ≡ Some r) number here) in
-          let same : k ≡ l = some_one other line in
-          (number, rule_one r l f g wrong
-          (subst (λ (x : Line). blames.rule r x g) same (subst (λ (x : RewriteRule). blames.rule x k g) rule wrong_too)))
+      where
+        rule_alike : (lines : List Line) (i n m : ℕ) (f g : Fault) → IsRuleFault blames T lines i n f → IsRuleFault blames T lines i m g
+            → (n ≡ m) × Alike f g
+        rule_alike lines i n m f g (r, l, at, here, line, wrong) (u, k, also, there, other, wrong_too) =
+            let number : n ≡ m = some_one at also in
+            let rule : u ≡ r = some_one there (subst (λ x. slice_get T.rules x ≡ Some r) number here) in
+            let same : k ≡ l = some_one other line in (
+              number,
+              rule_one r l f g wrong
+                  (subst (λ (x : Line). blames.rule r x g) same (subst (λ (x : RewriteRule). blames.rule x k g) rule wrong_too)),
+            )
 
-      pub first_rule_one : (lines : List Line) (n m : ℕ) (f g : Fault) → IsFirstRuleFault shows blames T lines n f
-          → IsFirstRuleFault shows blames T lines m g → (n ≡ m) × Alike f g
-      first_rule_one lines n m f g (i, before, wrong) (j, earlier, also) =
-          let place : j ≡ i = neither_below j i (λ less. rule_or_not lines j m g also (before j less))
-          (λ less. rule_or_not lines i n f wrong (earlier i less)) in
-          rule_alike lines i n m f g wrong (subst (λ x. IsRuleFault blames T lines x m g) place also)
+        pub first_rule_one : (lines : List Line) (n m : ℕ) (f g : Fault) → IsFirstRuleFault shows blames T lines n f
+            → IsFirstRuleFault shows blames T lines m g → (n ≡ m) × Alike f g
+        first_rule_one lines n m f g (i, before, wrong) (j, earlier, also) =
+            let place : j ≡ i = neither_below j i (λ less. rule_or_not lines j m g also (before j less))
+            (λ less. rule_or_not lines i n f wrong (earlier i less)) in
+            rule_alike lines i n m f g wrong (subst (λ x. IsRuleFault blames T lines x m g) place also)
 
-      pair_alike : (lines : List Line) (drop : List ℕ) (i n m : ℕ) (f g : Fault) → IsPairFault blames T lines drop i n f
-          → IsPairFault blames T lines drop i m g → (n ≡ m) × Alike f g
-      pair_alike lines drop i n m f g (p, l, strict, at, here, line, dropped, wrong) (q, k, asked, also, there, other, also_dropped, wrong_too) =
-          let number : n ≡ m = some_one at also in
-          let pair : q ≡ p = some_one there (subst (λ x. slice_get T.pairs x ≡ Some p) number here) in
-          let same : k ≡ l = some_one other line in
-          let alike : asked ≡ strict = dropped_one drop m asked strict also_dropped (subst (λ x. IsDropped drop x strict) number dropped) in
-          (number, pair_one p strict l f g wrong
-          (subst (λ (x : Bool). blames.pair p x l g) alike (subst (λ (x : Line). blames.pair p asked x g) same
-          (subst (λ (x : PairData). blames.pair x asked k g) pair wrong_too))))
+        pair_alike : (lines : List Line) (drop : List ℕ) (i n m : ℕ) (f g : Fault) → IsPairFault blames T lines drop i n f
+            → IsPairFault blames T lines drop i m g → (n ≡ m) × Alike f g
+        pair_alike lines drop i n m f g (p, l, strict, at, here, line, dropped, wrong) (q, k, asked, also, there, other, also_dropped, wrong_too) =
+            let number : n ≡ m = some_one at also in
+            let pair : q ≡ p = some_one there (subst (λ x. slice_get T.pairs x ≡ Some p) number here) in
+            let same : k ≡ l = some_one other line in
+            let alike : asked ≡ strict = dropped_one drop m asked strict also_dropped (subst (λ x. IsDropped drop x strict) number dropped) in (
+              number,
+              pair_one p strict l f g wrong
+                  (subst (λ (x : Bool). blames.pair p x l g) alike (subst (λ (x : Line). blames.pair p asked x g) same
+                  (subst (λ (x : PairData). blames.pair x asked k g) pair wrong_too))),
+            )
 
-      pub first_pair_one : (lines : List Line) (drop : List ℕ) (n m : ℕ) (f g : Fault) → IsFirstPairFault shows blames T lines drop n f
-          → IsFirstPairFault shows blames T lines drop m g → (n ≡ m) × Alike f g
-      first_pair_one lines drop n m f g (i, before, wrong) (j, earlier, also) =
-          let place : j ≡ i = neither_below j i (λ less. pair_or_not lines drop j m g also (before j less))
-          (λ less. pair_or_not lines drop i n f wrong (earlier i less)) in
-          pair_alike lines drop i n m f g wrong (subst (λ x. IsPairFault blames T lines drop x m g) place also)
+        pub first_pair_one : (lines : List Line) (drop : List ℕ) (n m : ℕ) (f g : Fault) → IsFirstPairFault shows blames T lines drop n f
+            → IsFirstPairFault shows blames T lines drop m g → (n ≡ m) × Alike f g
+        first_pair_one lines drop n m f g (i, before, wrong) (j, earlier, also) =
+            let place : j ≡ i = neither_below j i (λ less. pair_or_not lines drop j m g also (before j less))
+            (λ less. pair_or_not lines drop i n f wrong (earlier i less)) in
+            pair_alike lines drop i n m f g wrong (subst (λ x. IsPairFault blames T lines drop x m g) place also)
 
 -- what is asked before the first line
 
@@ -237,7 +241,7 @@ counted_or_not T E = elim (bad_lines_decided T E) [
   | inl bad ↦ inr (inl bad)
   | inr (same, also) ↦ elim (bad_drop_decided T.set E.drop) [
     | inl bad ↦ inr (inr ((λ lines. elim lines [ inl other ↦ other same | inr other ↦ other also ]), bad))
-    | inr good ↦ inl (record { rule_count = same; pair_count = also; good_drop = good; })
+    | inr good ↦ inl (record { rule_count = same; pair_count = also; good_drop = good })
   ]
 ]
 
