@@ -4,6 +4,7 @@ pub mod PolyCounts
 pub mod PolyText
 pub mod Interps
 pub mod Written
+pub mod Items
 pub mod Said
 pub mod Limits
 pub mod Text

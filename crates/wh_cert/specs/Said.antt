@@ -3,6 +3,7 @@ use Rattle.std.specs.Prelude.{map}
 use Rattle.wh_text.specs.Erase.{rty, rtm}
 use Rattle.wh_hopoly.specs.Erase.{poly}
 use Rattle.wh_cert.specs.Interps as w_interps
+use Rattle.wh_cert.specs.Items as w_items
 use Rattle.wh_cert.specs.Written as w
 use Rattle.wh_cert.specs.declared.certificate.Certificate.{Certificate}
 use Rattle.wh_cert.specs.declared.certificate.Certificate.TheVariants.{Yes, No}
@@ -12,6 +13,8 @@ use Rattle.wh_cert.specs.declared.certificate.Node.{Node}
 use Rattle.wh_cert.specs.declared.certificate.Node.TheVariants.{Done, Alone, Blocks, Subterm, Poly}
 use Rattle.wh_cert.specs.declared.certificate.Arg.{Arg}
 use Rattle.wh_cert.specs.declared.certificate.Put.{Put}
+use Rattle.wh_cert.specs.declared.item.Item.{Item}
+use Rattle.wh_cert.specs.declared.item.Item.TheVariants as item
 use Rattle.wh_cert.specs.declared.poly_node.Interp.{Interp}
 use Rattle.wh_cert.specs.declared.poly_node.PolyNode.{PolyNode}
 
@@ -43,3 +46,12 @@ said_yes c = w.yes c.version c.ranks c.pairs (map said_node c.nodes)
 abbrev pub said : Certificate → w.Cert
 said (Yes c) = said_yes c
 said (No c) = said_no c
+
+abbrev pub said_item : Item → w_items.Item
+said_item (item.YesHead version ranks pairs) = w_items.yes_head version ranks pairs
+said_item (item.Node x) = w_items.node (said_node x.value)
+said_item (item.NoHead t) = w_items.no_head (rtm t.value)
+said_item (item.Step s) = w_items.step s
+said_item (item.At path) = w_items.at path
+said_item (item.Put p) = w_items.put (said_put p.value)
+said_item item.End = w_items.end

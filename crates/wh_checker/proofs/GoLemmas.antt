@@ -18,15 +18,14 @@ use Rattle.wh_subterm.specs.declared.projection.SubtermFault.{SubtermFault}
 use Rattle.wh_subterm.specs.declared.projection.SubtermFault.TheVariants.{BadArgs, NoProjection, BadArgument, BadDrop, NotDecreasing}
 use Rattle.wh_cert.specs.Written as w
 use Rattle.wh_cert.specs.Interps.{Interp}
-use Rattle.wh_hopoly.specs.Erase.{transfers}
-use Rattle.wh_hopoly.specs.Evaluation.{Interpretation}
+use Rattle.wh_reduction.specs.TaskData.{numbers_from, whole_task}
 use Rattle.wh_hopoly.specs.declared.expression.Move.{Move}
-use Rattle.wh_polycheck.specs.Marks.{Mark}
+use Rattle.wh_polycheck.specs.Readings.{ReadingsData}
 use Rattle.wh_polycheck.specs.Covering.{IsCovering}
 use Rattle.wh_polycheck.specs.Small.{IsSmall}
 use Rattle.wh_proof.specs.Nodes.{done, alone, blocks, subterm, poly, AreSetsOf, more_sets, Leaves, by_done, by_alone, by_blocks, by_subterm, by_poly}
 use Rattle.wh_pairs.specs.Sets.{IsSetOf, IsKept}
-use Rattle.wh_proof.specs.Looked.{SayChoices}
+use Rattle.wh_proof.specs.Looked.{SayChoices, moves_of}
 use Rattle.wh_checker.specs.Faults.{IsSubtermFault, SayCovering}
 use Rattle.wh_checker.specs.Walk.{IsSingle, IsReduced}
 use Rattle.wh_proof.specs.GoesOn.{GoesOn}
@@ -85,15 +84,14 @@ goes_subterm d ps set lines drop rest sets after (args, says, is, kept) after_is
 
 -- the conditions of a node of interpretations, under what its lines say
 pub goes_poly : (d : SystemData) (ps : List PairData) (set : List ℕ) (funs lines : List Interp) (rules pairs : List (List Move))
-    (drop rest : List ℕ) (symbols : List Interpretation) (marks : List Mark) → SayCovering d ps set funs lines symbols marks
-    → IsCovering d.symbols d.rules ps set symbols marks (map transfers rules) (map transfers pairs) drop
-    → IsSmall d.symbols d.rules ps set symbols marks → IsSetOf (IsKept set drop) rest
-    → GoesOn d ps set (w.interpretations funs lines rules pairs drop) [] (rest ∷ [])
-goes_poly d ps set funs lines rules pairs drop rest symbols marks (says, says_marks, marked) is small kept = record {
-  node = poly symbols marks (map transfers rules) (map transfers pairs) drop;
+    (drop rest : List ℕ) (R : ReadingsData) → SayCovering d ps set funs lines R
+    → IsCovering (whole_task d.symbols d.rules ps set) R (moves_of rules pairs drop) → IsSmall (whole_task d.symbols d.rules ps set) R
+    → IsSetOf (IsKept set drop) rest → GoesOn d ps set (w.interpretations funs lines rules pairs drop) [] (rest ∷ [])
+goes_poly d ps set funs lines rules pairs drop rest R (says, marked) is small kept = record {
+  node = poly (numbers_from 0 (length d.rules)) R (moves_of rules pairs drop);
   left = rest ∷ [];
-  says = (says, says_marks, refl, refl, refl);
-  leaves = by_poly is kept;
+  says = (refl, says, refl);
+  leaves = by_poly is refl kept;
   small = small;
   after_is = refl;
 }

@@ -8,6 +8,5 @@ pub mod CoveringLaws
 pub mod NodeLaws
 pub mod FaultLaws
 pub mod Bounded
-pub mod LimitedCoverings
 pub mod ValidOrFault
 pub mod Named

@@ -132,12 +132,12 @@ node_there m d ps set k (w.subterm lines drop) (fault.Subterm (projected.BadArgu
 node_there m d ps set k l (fault.Subterm projected.BadDrop) is = tt
 node_there m d ps set k l (fault.Subterm (projected.NotDecreasing a)) is = tt
 node_there m d ps set k l fault.BadSymbols is = tt
-node_there m d ps set k (w.interpretations funs lines rules pairs drop) (fault.Poly (covered.BadPolynomial f false)) (symbols, marks, say, first) =
+node_there m d ps set k (w.interpretations funs lines rules pairs drop) (fault.Poly (covered.BadPolynomial f false)) (R, say, first) =
     let (s, at, not, least) = first in
-    subst (λ n. f < n) (as_many d.fun_names d.symbols.funs funs symbols say.0) (slice_get_within symbols f s at)
-node_there m d ps set k (w.interpretations funs lines rules pairs drop) (fault.Poly (covered.BadPolynomial f true)) (symbols, marks, say, ready) =
+    subst (λ n. f < n) (as_many d.fun_names d.symbols.funs funs R.symbols say.0.0) (slice_get_within R.symbols f s at)
+node_there m d ps set k (w.interpretations funs lines rules pairs drop) (fault.Poly (covered.BadPolynomial f true)) (R, say, ready) =
     let (i, a, at, is, not, least) = ready.1 in
-    subst (HasSymbol d) is (mark_there d lines marks i a say.1 at)
+    subst (HasSymbol d) is (mark_there d lines R.marks i a say.0.1 at)
 node_there m d ps set k l (fault.Poly covered.BadLines) is = tt
 node_there m d ps set k l (fault.Poly covered.BadDrop) is = tt
 node_there m d ps set k l (fault.Poly (covered.Rule r (line.Exceeds e))) is = excess_there d k e

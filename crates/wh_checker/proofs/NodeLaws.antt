@@ -1,6 +1,6 @@
 -- A node leaves one list of sets, one thing at most is wrong first with it, but that values may exceed both limits, and none where its
 -- conditions hold.
-use Rattle.std.proofs.Common.{◌≡◌, ◌≢◌, ℕ, inl, inr, List, [], ◌∷◌, map, Contains, refl, sym, ap, subst, ◌∙◌}
+use Rattle.std.proofs.Common.{◌≡◌, ◌≢◌, ℕ, inl, inr, List, [], ◌∷◌, Contains, refl, sym, ap, subst, ◌∙◌}
 use Rattle.wh_terms.specs.Typing.{Symbols}
 use Rattle.wh_terms.specs.Rules.{RewriteRule}
 use Rattle.wh_system.specs.Systems.{SystemData}
@@ -15,25 +15,25 @@ use Rattle.wh_subterm.specs.declared.projection.SubtermFault.{SubtermFault}
 use Rattle.wh_subterm.specs.declared.projection.SubtermFault.TheVariants as projected
 use Rattle.wh_cert.specs.Written as w
 use Rattle.wh_cert.specs.Interps.{Interp}
-use Rattle.wh_hopoly.specs.Erase.{transfers}
-use Rattle.wh_hopoly.specs.Evaluation.{Interpretation}
+use Rattle.wh_reduction.specs.TaskData.{task_over, whole_task}
+use Rattle.wh_reduction.specs.ReductionPair.{Evidence}
 use Rattle.wh_hopoly.specs.Moves.{Transfer}
 use Rattle.wh_hopoly.specs.declared.excess.Excess.{Excess}
 use Rattle.wh_hopoly.specs.declared.expression.Move.{Move}
-use Rattle.wh_polycheck.specs.Marks.{Mark}
+use Rattle.wh_polycheck.specs.Readings.{ReadingsData}
 use Rattle.wh_polycheck.specs.Covering.{IsCovering}
 use Rattle.wh_covering.specs.CoveringFaults.{IsFirstCoveringFault}
 use Rattle.wh_polycheck.specs.Small.{Limits, without_limits, with_limits}
 use Rattle.wh_covering.specs.declared.fault.CoveringFault.{CoveringFault}
 use Rattle.wh_proof.specs.Nodes.{Node, done, alone, blocks, subterm, poly, AreSetsOf, no_sets, more_sets, Leaves, by_done, by_alone, by_blocks, by_subterm, by_poly}
-use Rattle.wh_proof.specs.Looked.{SayChoices, SaysNode}
+use Rattle.wh_proof.specs.Looked.{SayChoices, SaysNode, moves_of}
 use Rattle.wh_proof.specs.Small.{IsSmallNode}
 use Rattle.wh_checker.specs.Faults.{IsSubtermFault, SayCovering, IsNodeFault, at_node, in_excess}
 use Rattle.wh_checker.specs.declared.rejected.NodeFault.{NodeFault}
 use Rattle.wh_checker.specs.declared.rejected.NodeFault.TheVariants.{NotEmpty, NotOne, Loops, Blocks, Subterm, BadSymbols, Poly}
 use Rattle.wh_pairs.proofs.SetLemmas.{set_one}
 use Rattle.wh_proof.proofs.ChoiceLemmas.{one_list_said}
-use Rattle.wh_proof.proofs.InterpretationLemmas.{one_interpretations_said, one_marks_said}
+use Rattle.wh_proof.proofs.OneNode.{one_readings_said}
 use Rattle.wh_checker.proofs.RowLaws.{block_fault_one, blocks_or_fault, subterm_fault_one, projection_or_fault}
 use Rattle.wh_checker.proofs.CoveringLaws.{CoveringsAlike, SmallFor, IsRejection, covering_fault_one, covering_or_fault, fault_unlimited}
 
@@ -53,77 +53,12 @@ leaves_one S rules ps set alone [] [] (by_alone free) (by_alone also) = refl
 leaves_one S rules ps set (blocks parts) left other (by_blocks are sets) (by_blocks also others) = sets_one parts left other sets others
 leaves_one S rules ps set (subterm args drop) left other (by_subterm {rest = rest} is kept) (by_subterm {rest = others} also same) =
     ap (λ l. l ∷ []) (set_one _ rest others kept same)
-leaves_one S rules ps set (poly symbols marks rule_lines pair_lines drop) left other (by_poly {rest = rest} is kept)
-    (by_poly {rest = others} also same) =
+leaves_one S rules ps set (poly covered R E) left other (by_poly {rest = rest} is all kept) (by_poly {rest = others} also whole same) =
     ap (λ l. l ∷ []) (set_one _ rest others kept same)
 leaves_one S rules ps set done (_ ∷ _) other leaves also = elim leaves [ ]
 leaves_one S rules ps set done [] (_ ∷ _) leaves also = elim also [ ]
 leaves_one S rules ps set alone (_ ∷ _) other leaves also = elim leaves [ ]
 leaves_one S rules ps set alone [] (_ ∷ _) leaves also = elim also [ ]
-
-poly_one : (ss us : List Interpretation) (ms ns : List Mark) (rs ts ps qs : List (List Transfer)) (drop left : List ℕ) → ss ≡ us → ms ≡ ns
-    → rs ≡ ts → ps ≡ qs → drop ≡ left → poly ss ms rs ps drop ≡ poly us ns ts qs left
-poly_one ss us ms ns rs ts ps qs drop left symbols marks rules pairs dropped = cc
-
--- a line says one node
-pub node_said_one : (d : SystemData) (line : w.Node) (node other : Node) → AreDistinct d.fun_names → SaysNode d line node
-    → SaysNode d line other → node ≡ other
-node_said_one d w.done done done apart says also = refl
-node_said_one d w.alone alone alone apart says also = refl
-node_said_one d (w.blocks listed) (blocks parts) (blocks others) apart says also = ap blocks (sym says ∙ also)
-node_said_one d (w.subterm lines listed) (subterm args drop) (subterm others left) apart says also =
-    let args_one : args ≡ others = one_list_said d lines args others apart says.0 also.0 in
-    let drop_one : drop ≡ left = sym says.1 ∙ also.1 in
-    cc (args_one, drop_one)
-node_said_one d (w.interpretations funs lines rules pairs listed) (poly ss ms rs ps drop) (poly us ns ts qs left) apart
-    (funs_say, marks_say, rules_say, pairs_say, drop_says) (funs_also, marks_also, rules_also, pairs_also, drop_also) =
-    poly_one ss us ms ns rs ts ps qs drop left (one_interpretations_said d.fun_names d.symbols.funs funs ss us funs_say funs_also)
-    (one_marks_said d lines ms ns apart marks_say marks_also) (sym rules_say ∙ rules_also) (sym pairs_say ∙ pairs_also)
-    (sym drop_says ∙ drop_also)
-node_said_one d w.done alone other apart says also = absurd says
-node_said_one d w.done (blocks parts) other apart says also = absurd says
-node_said_one d w.done (subterm args drop) other apart says also = absurd says
-node_said_one d w.done (poly symbols marks rule_lines pair_lines drop) other apart says also = absurd says
-node_said_one d w.done done alone apart says also = absurd also
-node_said_one d w.done done (blocks parts) apart says also = absurd also
-node_said_one d w.done done (subterm args left) apart says also = absurd also
-node_said_one d w.done done (poly symbols marks rule_lines pair_lines left) apart says also = absurd also
-node_said_one d w.alone done other apart says also = absurd says
-node_said_one d w.alone (blocks parts) other apart says also = absurd says
-node_said_one d w.alone (subterm args drop) other apart says also = absurd says
-node_said_one d w.alone (poly symbols marks rule_lines pair_lines drop) other apart says also = absurd says
-node_said_one d w.alone alone done apart says also = absurd also
-node_said_one d w.alone alone (blocks parts) apart says also = absurd also
-node_said_one d w.alone alone (subterm args left) apart says also = absurd also
-node_said_one d w.alone alone (poly symbols marks rule_lines pair_lines left) apart says also = absurd also
-node_said_one d (w.blocks listed) done other apart says also = absurd says
-node_said_one d (w.blocks listed) alone other apart says also = absurd says
-node_said_one d (w.blocks listed) (subterm args drop) other apart says also = absurd says
-node_said_one d (w.blocks listed) (poly symbols marks rule_lines pair_lines drop) other apart says also = absurd says
-node_said_one d (w.blocks listed) (blocks parts) done apart says also = absurd also
-node_said_one d (w.blocks listed) (blocks parts) alone apart says also = absurd also
-node_said_one d (w.blocks listed) (blocks parts) (subterm args left) apart says also = absurd also
-node_said_one d (w.blocks listed) (blocks parts) (poly symbols marks rule_lines pair_lines left) apart says also = absurd also
-node_said_one d (w.subterm lines listed) done other apart says also = absurd says
-node_said_one d (w.subterm lines listed) alone other apart says also = absurd says
-node_said_one d (w.subterm lines listed) (blocks parts) other apart says also = absurd says
-node_said_one d (w.subterm lines listed) (poly symbols marks rule_lines pair_lines drop) other apart says also = absurd says
-node_said_one d (w.subterm lines listed) (subterm args drop) done apart says also = absurd also
-node_said_one d (w.subterm lines listed) (subterm args drop) alone apart says also = absurd also
-node_said_one d (w.subterm lines listed) (subterm args drop) (blocks parts) apart says also = absurd also
-node_said_one d (w.subterm lines listed) (subterm args drop) (poly symbols marks rule_lines pair_lines left) apart says also = absurd also
-node_said_one d (w.interpretations funs lines rules pairs listed) done other apart says also = absurd says
-node_said_one d (w.interpretations funs lines rules pairs listed) alone other apart says also = absurd says
-node_said_one d (w.interpretations funs lines rules pairs listed) (blocks parts) other apart says also = absurd says
-node_said_one d (w.interpretations funs lines rules pairs listed) (subterm args drop) other apart says also = absurd says
-node_said_one d (w.interpretations funs lines rules pairs listed) (poly symbols marks rule_lines pair_lines drop) done apart says also =
-    absurd also
-node_said_one d (w.interpretations funs lines rules pairs listed) (poly symbols marks rule_lines pair_lines drop) alone apart says also =
-    absurd also
-node_said_one d (w.interpretations funs lines rules pairs listed) (poly symbols marks rule_lines pair_lines drop)
-    (blocks parts) apart says also = absurd also
-node_said_one d (w.interpretations funs lines rules pairs listed) (poly symbols marks rule_lines pair_lines drop)
-    (subterm args left) apart says also = absurd also
 
 -- the faults of nodes, by their kinds
 
@@ -171,10 +106,9 @@ from_choice d ps set lines drop (projected.NotDecreasing n) (with_args args says
 -- the same for nodes of interpretations
 data PolyFault (limits : Limits) (d : SystemData) (ps : List PairData) (set : List ℕ) (funs lines : List Interp)
     (rules pairs : List (List Move)) (drop : List ℕ) : NodeFault → Type 0 where
-  no_symbols : ((symbols : List Interpretation) (marks : List Mark) → SayCovering d ps set funs lines symbols marks → ⊥)
-      → PolyFault limits d ps set funs lines rules pairs drop BadSymbols
-  with_symbols : {f : CoveringFault} (symbols : List Interpretation) (marks : List Mark) → SayCovering d ps set funs lines symbols marks
-      → IsFirstCoveringFault limits d.symbols d.rules ps set symbols marks (map transfers rules) (map transfers pairs) drop f
+  no_symbols : ((R : ReadingsData) → SayCovering d ps set funs lines R → ⊥) → PolyFault limits d ps set funs lines rules pairs drop BadSymbols
+  with_symbols : {f : CoveringFault} (R : ReadingsData) → SayCovering d ps set funs lines R
+      → IsFirstCoveringFault limits (whole_task d.symbols d.rules ps set) R (moves_of rules pairs drop) f
       → PolyFault limits d ps set funs lines rules pairs drop (Poly f)
 
 -- it is that a value exceeds a limit
@@ -196,48 +130,35 @@ poly_fault_one : (limits : Limits) (d : SystemData) (ps : List PairData) (set : 
     (drop : List ℕ) (f g : NodeFault) → AreDistinct d.fun_names → PolyFault limits d ps set funs lines rules pairs drop f
     → PolyFault limits d ps set funs lines rules pairs drop g → NodesAlike f g
 poly_fault_one limits d ps set funs lines rules pairs drop f g apart (no_symbols none) (no_symbols also) = one_fault refl
-poly_fault_one limits d ps set funs lines rules pairs drop f g apart (no_symbols none) (with_symbols symbols marks says first) =
-    absurd (none symbols marks says)
-poly_fault_one limits d ps set funs lines rules pairs drop f g apart (with_symbols symbols marks says first) (no_symbols none) =
-    absurd (none symbols marks says)
-poly_fault_one limits d ps set funs lines rules pairs drop f g apart (with_symbols {f = a} ss ms says first)
-    (with_symbols {f = b} us ns also other) =
-    let symbols_one : us ≡ ss = one_interpretations_said d.fun_names d.symbols.funs funs us ss also.0 says.0 in
-    let marks_one : ns ≡ ms = one_marks_said d lines ns ms apart also.1 says.1 in
-    polys_alike a b (covering_fault_one limits d.symbols d.rules ps set ss ms (map transfers rules) (map transfers pairs) drop a b first
-    (subst (λ (l : List Mark). IsFirstCoveringFault limits d.symbols d.rules ps set ss l (map transfers rules)
-    (map transfers pairs) drop b) marks_one
-    (subst (λ (l : List Interpretation). IsFirstCoveringFault limits d.symbols d.rules ps set l ns (map transfers rules)
-    (map transfers pairs) drop b) symbols_one other)))
+poly_fault_one limits d ps set funs lines rules pairs drop f g apart (no_symbols none) (with_symbols R says first) = absurd (none R says)
+poly_fault_one limits d ps set funs lines rules pairs drop f g apart (with_symbols R says first) (no_symbols none) = absurd (none R says)
+poly_fault_one limits d ps set funs lines rules pairs drop f g apart (with_symbols {f = a} R says first)
+    (with_symbols {f = b} Q also other) =
+    let one : Q ≡ R = one_readings_said d funs lines Q R apart also.0 says.0 in
+    polys_alike a b (covering_fault_one limits (whole_task d.symbols d.rules ps set) R (moves_of rules pairs drop) a b first
+    (subst (λ (x : ReadingsData). IsFirstCoveringFault limits (whole_task d.symbols d.rules ps set) x
+    (moves_of rules pairs drop) b) one other))
 
-small_for : (limits : Limits) (S : Symbols) (rules : List RewriteRule) (ps : List PairData) (set : List ℕ) (symbols : List Interpretation)
-    (marks : List Mark) (rule_lines pair_lines : List (List Transfer)) (drop : List ℕ)
-    → IsSmallNode limits S rules ps set (poly symbols marks rule_lines pair_lines drop) → SmallFor limits S rules ps set symbols marks
-small_for with_limits S rules ps set symbols marks rule_lines pair_lines drop small = small
-small_for without_limits S rules ps set symbols marks rule_lines pair_lines drop small = tt
+small_for : (limits : Limits) (S : Symbols) (rules : List RewriteRule) (ps : List PairData) (set covered : List ℕ) (R : ReadingsData)
+    (E : Evidence (List Transfer)) → IsSmallNode limits S rules ps set (poly covered R E)
+    → SmallFor limits (task_over S rules ps set covered) R
+small_for with_limits S rules ps set covered R E small = small
+small_for without_limits S rules ps set covered R E small = tt
 
 covering_or_poly : (limits : Limits) (d : SystemData) (ps : List PairData) (set : List ℕ) (funs lines : List Interp)
-    (rules pairs : List (List Move))
-    (listed : List ℕ) (ss : List Interpretation) (ms : List Mark) (rule_lines pair_lines : List (List Transfer)) (drop : List ℕ)
-    (f : NodeFault)
-    → AreDistinct d.fun_names → SaysNode d (w.interpretations funs lines rules pairs listed) (poly ss ms rule_lines pair_lines drop)
-    → IsCovering d.symbols d.rules ps set ss ms rule_lines pair_lines drop → SmallFor limits d.symbols d.rules ps set ss ms
+    (rules pairs : List (List Move)) (listed covered : List ℕ) (R : ReadingsData) (E : Evidence (List Transfer)) (f : NodeFault)
+    → AreDistinct d.fun_names → SaysNode d (w.interpretations funs lines rules pairs listed) (poly covered R E)
+    → IsCovering (task_over d.symbols d.rules ps set covered) R E → SmallFor limits (task_over d.symbols d.rules ps set covered) R
     → PolyFault limits d ps set funs lines rules pairs listed f → ⊥
-covering_or_poly limits d ps set funs lines rules pairs listed ss ms rule_lines pair_lines drop f apart says is small (no_symbols none) =
-    none ss ms (says.0, says.1, is.marked)
-covering_or_poly limits d ps set funs lines rules pairs listed ss ms rule_lines pair_lines drop f apart says is small
-    (with_symbols {f = g} us ns also first) =
-    let symbols_one : us ≡ ss = one_interpretations_said d.fun_names d.symbols.funs funs us ss also.0 says.0 in
-    let marks_one : ns ≡ ms = one_marks_said d lines ns ms apart also.1 says.1 in
-    covering_or_fault limits d.symbols d.rules ps set ss ms rule_lines pair_lines drop is small g
-    (subst (λ (l : List ℕ). IsFirstCoveringFault limits d.symbols d.rules ps set ss ms rule_lines pair_lines l g) says.4
-    (subst (λ (l : List (List Transfer)). IsFirstCoveringFault limits d.symbols d.rules ps set ss ms rule_lines l listed g) says.3
-    (subst (λ (l : List (List Transfer)). IsFirstCoveringFault limits d.symbols d.rules ps set ss ms l
-    (map transfers pairs) listed g) says.2
-    (subst (λ (l : List Mark). IsFirstCoveringFault limits d.symbols d.rules ps set ss l (map transfers rules)
-    (map transfers pairs) listed g) marks_one
-    (subst (λ (l : List Interpretation). IsFirstCoveringFault limits d.symbols d.rules ps set l ns (map transfers rules)
-    (map transfers pairs) listed g) symbols_one first)))))
+covering_or_poly limits d ps set funs lines rules pairs listed covered R E f apart says is small (no_symbols none) =
+    none R (says.1, is.readings.marked)
+covering_or_poly limits d ps set funs lines rules pairs listed covered R E f apart says is small (with_symbols {f = g} Q also first) =
+    let one : Q ≡ R = one_readings_said d funs lines Q R apart also.0 says.1 in
+    covering_or_fault limits (task_over d.symbols d.rules ps set covered) R E is small g
+    (subst (λ (l : List ℕ). IsFirstCoveringFault limits (task_over d.symbols d.rules ps set l) R E g) (sym says.0)
+    (subst (λ (x : Evidence (List Transfer)). IsFirstCoveringFault limits (whole_task d.symbols d.rules ps set) R x g) (sym says.2)
+    (subst (λ (x : ReadingsData). IsFirstCoveringFault limits (whole_task d.symbols d.rules ps set) x
+    (moves_of rules pairs listed) g) one first)))
 
 data KindFault (limits : Limits) (d : SystemData) (ps : List PairData) (set : List ℕ) : w.Node → NodeFault → Type 0 where
   of_done : set ≢ [] → KindFault limits d ps set w.done NotEmpty
@@ -287,8 +208,8 @@ kind_fault limits d ps set (w.interpretations funs lines rules pairs drop) (Loop
 kind_fault limits d ps set (w.interpretations funs lines rules pairs drop) (Blocks f) fault = absurd fault
 kind_fault limits d ps set (w.interpretations funs lines rules pairs drop) (Subterm f) fault = absurd fault
 kind_fault limits d ps set (w.interpretations funs lines rules pairs drop) BadSymbols none = of_poly (no_symbols none)
-kind_fault limits d ps set (w.interpretations funs lines rules pairs drop) (Poly f) (symbols, marks, says, first) =
-    of_poly (with_symbols symbols marks says first)
+kind_fault limits d ps set (w.interpretations funs lines rules pairs drop) (Poly f) (R, says, first) =
+    of_poly (with_symbols R says first)
 
 kind_fault_one : (limits : Limits) (d : SystemData) (ps : List PairData) (set : List ℕ) (line : w.Node) (f g : NodeFault)
     → AreDistinct d.fun_names → KindFault limits d ps set line f → KindFault limits d ps set line g → NodesAlike f g
@@ -325,25 +246,25 @@ leaves_or_kind limits d ps set (w.subterm lines listed) node left f apart says (
     (of_subterm {f = g} first) =
     choices_or_fault d ps set lines args drop g apart says.0 is (subst (λ (l : List ℕ). ChoiceFault d ps set lines l g) says.1 first)
 leaves_or_kind limits d ps set (w.interpretations funs lines rules pairs listed) node left f apart says
-    (by_poly {drop = drop} {symbols = ss} {marks = ms} {rule_lines = rule_lines} {pair_lines = pair_lines} is kept) small (of_poly first) =
-    covering_or_poly limits d ps set funs lines rules pairs listed ss ms rule_lines pair_lines drop f apart says is
-    (small_for limits d.symbols d.rules ps set ss ms rule_lines pair_lines drop small) first
+    (by_poly {covered = covered} {R = R} {E = E} is all kept) small (of_poly first) =
+    covering_or_poly limits d ps set funs lines rules pairs listed covered R E f apart says is
+    (small_for limits d.symbols d.rules ps set covered R E small) first
 leaves_or_kind limits d ps set w.done node left f apart says (by_alone free) small fault = elim says [ ]
 leaves_or_kind limits d ps set w.done node left f apart says (by_blocks are sets) small fault = elim says [ ]
 leaves_or_kind limits d ps set w.done node left f apart says (by_subterm is kept) small fault = elim says [ ]
-leaves_or_kind limits d ps set w.done node left f apart says (by_poly is kept) small fault = elim says [ ]
+leaves_or_kind limits d ps set w.done node left f apart says (by_poly is all kept) small fault = elim says [ ]
 leaves_or_kind limits d ps set w.alone node left f apart says by_done small fault = elim says [ ]
 leaves_or_kind limits d ps set w.alone node left f apart says (by_blocks are sets) small fault = elim says [ ]
 leaves_or_kind limits d ps set w.alone node left f apart says (by_subterm is kept) small fault = elim says [ ]
-leaves_or_kind limits d ps set w.alone node left f apart says (by_poly is kept) small fault = elim says [ ]
+leaves_or_kind limits d ps set w.alone node left f apart says (by_poly is all kept) small fault = elim says [ ]
 leaves_or_kind limits d ps set (w.blocks listed) node left f apart says by_done small fault = elim says [ ]
 leaves_or_kind limits d ps set (w.blocks listed) node left f apart says (by_alone free) small fault = elim says [ ]
 leaves_or_kind limits d ps set (w.blocks listed) node left f apart says (by_subterm is kept) small fault = elim says [ ]
-leaves_or_kind limits d ps set (w.blocks listed) node left f apart says (by_poly is kept) small fault = elim says [ ]
+leaves_or_kind limits d ps set (w.blocks listed) node left f apart says (by_poly is all kept) small fault = elim says [ ]
 leaves_or_kind limits d ps set (w.subterm lines listed) node left f apart says by_done small fault = elim says [ ]
 leaves_or_kind limits d ps set (w.subterm lines listed) node left f apart says (by_alone free) small fault = elim says [ ]
 leaves_or_kind limits d ps set (w.subterm lines listed) node left f apart says (by_blocks are sets) small fault = elim says [ ]
-leaves_or_kind limits d ps set (w.subterm lines listed) node left f apart says (by_poly is kept) small fault = elim says [ ]
+leaves_or_kind limits d ps set (w.subterm lines listed) node left f apart says (by_poly is all kept) small fault = elim says [ ]
 leaves_or_kind limits d ps set (w.interpretations funs lines rules pairs listed) node left f apart says by_done small fault = elim says [ ]
 leaves_or_kind limits d ps set (w.interpretations funs lines rules pairs listed) node left f apart says (by_alone free) small fault =
     elim says [ ]
@@ -368,13 +289,8 @@ kind_unlimited d ps set w.alone k f is (of_loop one follows) = (one, follows)
 kind_unlimited d ps set (w.blocks parts) k f is (of_blocks first) = first
 kind_unlimited d ps set (w.subterm lines drop) k f is (of_subterm {f = g} first) = from_choice d ps set lines drop g first
 kind_unlimited d ps set (w.interpretations funs lines rules pairs drop) k f is (of_poly (no_symbols none)) = none
-kind_unlimited d ps set (w.interpretations funs lines rules pairs drop) k f is (of_poly (with_symbols {f = g} symbols marks says first)) = (
-  symbols,
-  marks,
-  says,
-  fault_unlimited d.symbols d.rules ps set symbols marks (map transfers rules)
-      (map transfers pairs) drop k g is first,
-)
+kind_unlimited d ps set (w.interpretations funs lines rules pairs drop) k f is (of_poly (with_symbols {f = g} R says first)) =
+    (R, says, fault_unlimited (whole_task d.symbols d.rules ps set) R (moves_of rules pairs drop) k g is first)
 
 pub node_unlimited : (d : SystemData) (ps : List PairData) (set : List ℕ) (line : w.Node) (k : ℕ) (f : NodeFault)
     → IsRejection (at_node k f) → IsNodeFault with_limits d ps set line f → IsNodeFault without_limits d ps set line f

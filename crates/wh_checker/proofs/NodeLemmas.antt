@@ -26,26 +26,26 @@ leaves_count d ps set w.done done [] says by_done = refl
 leaves_count d ps set w.alone alone [] says (by_alone free) = refl
 leaves_count d ps set (w.blocks listed) (blocks parts) left says (by_blocks are sets) = sets_count parts left sets ∙ ap length (sym says)
 leaves_count d ps set (w.subterm lines listed) (subterm args drop) left says (by_subterm is rest) = refl
-leaves_count d ps set (w.interpretations funs lines rules pairs listed) (poly symbols marks rule_lines pair_lines drop) left says
-    (by_poly is rest) = refl
+leaves_count d ps set (w.interpretations funs lines rules pairs listed) (poly covered R E) left says
+    (by_poly is all rest) = refl
 leaves_count d ps set w.done done (_ ∷ _) says leaves = elim leaves [ ]
 leaves_count d ps set w.alone alone (_ ∷ _) says leaves = elim leaves [ ]
 leaves_count d ps set w.done alone left says leaves = absurd says
 leaves_count d ps set w.done (blocks parts) left says leaves = absurd says
 leaves_count d ps set w.done (subterm args drop) left says leaves = absurd says
-leaves_count d ps set w.done (poly symbols marks rule_lines pair_lines drop) left says leaves = absurd says
+leaves_count d ps set w.done (poly covered R E) left says leaves = absurd says
 leaves_count d ps set w.alone done left says leaves = absurd says
 leaves_count d ps set w.alone (blocks parts) left says leaves = absurd says
 leaves_count d ps set w.alone (subterm args drop) left says leaves = absurd says
-leaves_count d ps set w.alone (poly symbols marks rule_lines pair_lines drop) left says leaves = absurd says
+leaves_count d ps set w.alone (poly covered R E) left says leaves = absurd says
 leaves_count d ps set (w.blocks listed) done left says leaves = absurd says
 leaves_count d ps set (w.blocks listed) alone left says leaves = absurd says
 leaves_count d ps set (w.blocks listed) (subterm args drop) left says leaves = absurd says
-leaves_count d ps set (w.blocks listed) (poly symbols marks rule_lines pair_lines drop) left says leaves = absurd says
+leaves_count d ps set (w.blocks listed) (poly covered R E) left says leaves = absurd says
 leaves_count d ps set (w.subterm lines listed) done left says leaves = absurd says
 leaves_count d ps set (w.subterm lines listed) alone left says leaves = absurd says
 leaves_count d ps set (w.subterm lines listed) (blocks parts) left says leaves = absurd says
-leaves_count d ps set (w.subterm lines listed) (poly symbols marks rule_lines pair_lines drop) left says leaves = absurd says
+leaves_count d ps set (w.subterm lines listed) (poly covered R E) left says leaves = absurd says
 leaves_count d ps set (w.interpretations funs lines rules pairs listed) done left says leaves = absurd says
 leaves_count d ps set (w.interpretations funs lines rules pairs listed) alone left says leaves = absurd says
 leaves_count d ps set (w.interpretations funs lines rules pairs listed) (blocks parts) left says leaves = absurd says
@@ -69,7 +69,7 @@ left_within S rules ps P set (blocks parts) left (by_blocks are sets) all =
     sets_within P parts left sets (λ i n found. All-contains P set n all (are.partition.within i n found))
 left_within S rules ps P set (subterm args drop) left (by_subterm {rest = rest} is rest_is) all =
     All-cons (All P) rest [] (all_from_members P rest (λ n found. All-contains P set n all ((rest_is.each n).0 found).0)) (All-nil (All P))
-left_within S rules ps P set (poly symbols marks rule_lines pair_lines drop) left (by_poly {rest = rest} is rest_is) all =
+left_within S rules ps P set (poly covered R E) left (by_poly {rest = rest} is whole rest_is) all =
     All-cons (All P) rest [] (all_from_members P rest (λ n found. All-contains P set n all ((rest_is.each n).0 found).0)) (All-nil (All P))
 left_within S rules ps P set done (_ ∷ _) leaves all = elim leaves [ ]
 left_within S rules ps P set alone (_ ∷ _) leaves all = elim leaves [ ]

@@ -22,10 +22,12 @@ use Rattle.wh_cert.specs.Interps.{Interp}
 use Rattle.wh_types.specs.Ty.{Ty}
 use Rattle.wh_pairs.specs.Marked.{AreMarked}
 use Rattle.wh_pairs.specs.Sets.{IsWhole}
-use Rattle.wh_hopoly.specs.Erase.{transfers}
+use Rattle.wh_reduction.specs.TaskData.{TaskData, numbers_from, whole_task}
+use Rattle.wh_reduction.specs.ReductionPair.{Evidence}
 use Rattle.wh_hopoly.specs.Evaluation.{Interpretation}
 use Rattle.wh_hopoly.specs.declared.expression.Move.{Move}
 use Rattle.wh_polycheck.specs.Marks.{Mark}
+use Rattle.wh_polycheck.specs.Readings.{ReadingsData, AreReadingsFor}
 use Rattle.wh_polycheck.specs.Covering.{IsCovering}
 use Rattle.wh_hopoly.specs.Moves.{Transfer}
 use Rattle.wh_proof.specs.Nodes.{Node, done, alone, blocks, subterm, poly, Leaves, by_done, by_alone, by_blocks, by_subterm, by_poly}
@@ -36,11 +38,11 @@ use Rattle.wh_graph.proofs.BlockFaults.{BlocksOrFault, blocks_or_fault}
 use Rattle.wh_subterm.proofs.Projections.{ProjectionOrFault, projection_or_fault, are_marked_decided}
 use Rattle.wh_covering.specs.CoveringFaults.{IsFirstCoveringFault}
 use Rattle.wh_covering.specs.declared.fault.CoveringFault.{CoveringFault}
-use Rattle.wh_covering.proofs.Coverings.{covering_or_fault}
+use Rattle.wh_covering.proofs.Coverings.{covering_or_fault, small_or_fault}
 use Rattle.wh_access.proofs.Breaks.{passing_or_break}
 use Rattle.wh_no.proofs.Claims.{ClaimOrFault, claim_or_fault}
 use Rattle.wh_polycheck.specs.Small.{Limits, without_limits, with_limits}
-use Rattle.wh_proof.specs.Looked.{SayChoices, SayInterpretations, SayMarks, SaysNode, SayNodes}
+use Rattle.wh_proof.specs.Looked.{SayChoices, SayInterpretations, SayMarks, SaysNode, SayNodes, moves_of}
 use Rattle.wh_proof.specs.Small.{IsSmallNode, all_small, one_small}
 use Rattle.wh_proof.specs.Valid.{IsSmallCert, IsValidCert, IsValidYes}
 use Rattle.wh_checker.specs.Faults.{IsSubtermFault, SayCovering, IsNodeFault, IsFirstNodeFault, at_first, behind_first, at_node, of_claim, IsFirstYesFault, rank_count, inaccessible, pair_count, in_node, IsFirstFault}
@@ -54,7 +56,6 @@ use Rattle.wh_proof.proofs.InterpretationLemmas.{said_lists, marked_numbers, one
 use Rattle.wh_checker.proofs.NodeLemmas.{leaves_count}
 use Rattle.wh_checker.proofs.CoveringLaws.{SmallFor}
 use Rattle.wh_checker.proofs.FaultLaws.{AreSmallFor, IsSmallFor}
-use Rattle.wh_checker.proofs.LimitedCoverings.{small_or_fault}
 use Rattle.wh_proof.proofs.SomeSets.{sets_of_lists, whole_set, kept_set}
 
 -- lines that say choices
@@ -172,10 +173,10 @@ marks_or_none d (line ∷ lines) =
 -- the lines of a node of interpretations say some of all symbols and of the marked symbols of the set, or not
 
 abbrev SaysSome : SystemData → List PairData → List ℕ → List Interp → List Interp → Type 0
-SaysSome d ps set funs lines = (symbols : List Interpretation) × (marks : List Mark) × SayCovering d ps set funs lines symbols marks
+SaysSome d ps set funs lines = (R : ReadingsData) × SayCovering d ps set funs lines R
 
 abbrev SaysNothing : SystemData → List PairData → List ℕ → List Interp → List Interp → Type 0
-SaysNothing d ps set funs lines = (symbols : List Interpretation) (marks : List Mark) → SayCovering d ps set funs lines symbols marks → ⊥
+SaysNothing d ps set funs lines = (R : ReadingsData) → SayCovering d ps set funs lines R → ⊥
 
 covering_said : (d : SystemData) (ps : List PairData) (set : List ℕ) (funs lines : List Interp) → AreDistinct d.fun_names
     → SaysSome d ps set funs lines ⊎ SaysNothing d ps set funs lines
@@ -184,41 +185,35 @@ covering_said d ps set funs lines apart = go (interpretations_or_none d.fun_name
     at_marks : (symbols : List Interpretation) (marks : List Mark) → SayInterpretations d.fun_names d.symbols.funs funs symbols
         → SayMarks d lines marks
         → Decided (AreMarked ps set (marked_numbers marks)) → SaysSome d ps set funs lines ⊎ SaysNothing d ps set funs lines
-    at_marks symbols marks says also (inl marked) = inl (symbols, marks, (says, also, marked))
+    at_marks symbols marks says also (inl marked) = inl (record { symbols = symbols; marks = marks; }, ((says, also), marked))
     at_marks symbols marks says also (inr not) =
-        inr (λ others more said. not (subst (λ (l : List Mark). AreMarked ps set (marked_numbers l))
-        (one_marks_said d lines more marks apart said.1 also) said.2))
+        inr (λ other said. not (subst (λ (l : List Mark). AreMarked ps set (marked_numbers l))
+        (one_marks_said d lines other.marks marks apart said.0.1 also) said.1))
 
     go : SomeOrNone (SayInterpretations d.fun_names d.symbols.funs funs) → SomeOrNone (SayMarks d lines)
         → SaysSome d ps set funs lines ⊎ SaysNothing d ps set funs lines
-    go (inr none) marks = inr (λ symbols others said. none symbols said.0)
-    go (inl symbols) (inr none) = inr (λ others marks said. none marks said.1)
+    go (inr none) marks = inr (λ other said. none other.symbols said.0.0)
+    go (inl symbols) (inr none) = inr (λ other said. none other.marks said.0.1)
     go (inl (symbols, says)) (inl (marks, also)) = at_marks symbols marks says also (are_marked_decided ps set (marked_numbers marks))
 
--- interpretations with their moves, for a choice of limits
+-- readings with their moves, for a choice of limits
 
-abbrev CoversOrFault : Limits → SystemData → List PairData → List ℕ → List Interpretation → List Mark → List (List Transfer)
-    → List (List Transfer) → List ℕ → Type 0
-CoversOrFault limits d ps set symbols marks rules pairs drop =
-    (IsCovering d.symbols d.rules ps set symbols marks rules pairs drop × SmallFor limits d.symbols d.rules ps set symbols marks)
-    ⊎ ((f : CoveringFault) × IsFirstCoveringFault limits d.symbols d.rules ps set symbols marks rules pairs drop f)
+abbrev CoversOrFault : Limits → TaskData → ReadingsData → Evidence (List Transfer) → Type 0
+CoversOrFault limits T R E = (IsCovering T R E × SmallFor limits T R) ⊎ ((f : CoveringFault) × IsFirstCoveringFault limits T R E f)
 
-covers_or_fault : (limits : Limits) (d : SystemData) (ps : List PairData) (set : List ℕ) (symbols : List Interpretation) (marks : List Mark)
-    (rules pairs : List (List Transfer)) (drop : List ℕ) → map (λ (s : Interpretation). s.kind) symbols ≡ d.symbols.funs
-    → AreMarked ps set (marked_numbers marks) → CoversOrFault limits d ps set symbols marks rules pairs drop
-covers_or_fault with_limits d ps set symbols marks rules pairs drop kinds marked =
-    small_or_fault d.symbols d.rules ps set symbols marks rules pairs drop kinds marked
-covers_or_fault without_limits d ps set symbols marks rules pairs drop kinds marked =
-    elim (covering_or_fault d.symbols d.rules ps set symbols marks rules pairs drop kinds marked) [
-      | inl is ↦ inl (is, tt)
-      | inr fault ↦ inr fault
-    ]
+covers_or_fault : (limits : Limits) (T : TaskData) (R : ReadingsData) (E : Evidence (List Transfer)) → AreReadingsFor T R
+    → CoversOrFault limits T R E
+covers_or_fault with_limits T R E readings = small_or_fault T R E readings
+covers_or_fault without_limits T R E readings = elim (covering_or_fault T R E readings) [
+  | inl is ↦ inl (is, tt)
+  | inr fault ↦ inr fault
+]
 
 -- a node
 
 -- a node without interpretations
 abbrev IsPlain : Node → Type 0
-IsPlain (poly symbols marks rule_lines pair_lines drop) = ⊥
+IsPlain (poly covered R E) = ⊥
 IsPlain _ = Unit {0}
 
 plain_small : (limits : Limits) (d : SystemData) (ps : List PairData) (set : List ℕ) (node : Node) → IsPlain node
@@ -228,13 +223,13 @@ plain_small with_limits d ps set done plain = tt
 plain_small with_limits d ps set alone plain = tt
 plain_small with_limits d ps set (blocks parts) plain = tt
 plain_small with_limits d ps set (subterm args drop) plain = tt
-plain_small with_limits d ps set (poly symbols marks rule_lines pair_lines drop) plain = absurd plain
+plain_small with_limits d ps set (poly covered R E) plain = absurd plain
 
-poly_small : (limits : Limits) (d : SystemData) (ps : List PairData) (set : List ℕ) (symbols : List Interpretation) (marks : List Mark)
-    (rules pairs : List (List Transfer)) (drop : List ℕ) → SmallFor limits d.symbols d.rules ps set symbols marks
-    → IsSmallNode limits d.symbols d.rules ps set (poly symbols marks rules pairs drop)
-poly_small with_limits d ps set symbols marks rules pairs drop small = small
-poly_small without_limits d ps set symbols marks rules pairs drop small = tt
+poly_small : (limits : Limits) (d : SystemData) (ps : List PairData) (set : List ℕ) (R : ReadingsData) (E : Evidence (List Transfer))
+    → SmallFor limits (whole_task d.symbols d.rules ps set) R
+    → IsSmallNode limits d.symbols d.rules ps set (poly (numbers_from 0 (length d.rules)) R E)
+poly_small with_limits d ps set R E small = small
+poly_small without_limits d ps set R E small = tt
 
 module _ (limits : Limits) (d : SystemData) (ps : List PairData) where
   -- the line says a node whose conditions hold of the set, and which is small where there are limits
@@ -275,21 +270,23 @@ module _ (limits : Limits) (d : SystemData) (ps : List PairData) where
   poly_said : (set : List ℕ) (funs lines : List Interp) (rules pairs : List (List Move)) (drop : List ℕ)
       → SaysSome d ps set funs lines ⊎ SaysNothing d ps set funs lines → NodeOrFault set (w.interpretations funs lines rules pairs drop)
   poly_said set funs lines rules pairs drop (inr nothing) = inr (BadSymbols, nothing)
-  poly_said set funs lines rules pairs drop (inl (symbols, marks, said)) =
-      go (covers_or_fault limits d ps set symbols marks (map transfers rules) (map transfers pairs) drop
-      (said_lists d.fun_names d.symbols.funs funs symbols said.0).1 said.2)
+  poly_said set funs lines rules pairs drop (inl (R, said)) =
+      go (covers_or_fault limits (whole_task d.symbols d.rules ps set) R (moves_of rules pairs drop) (record {
+        kinds = (said_lists d.fun_names d.symbols.funs funs R.symbols said.0.0).1;
+        marked = said.1;
+      }))
     where
-      go : CoversOrFault limits d ps set symbols marks (map transfers rules) (map transfers pairs) drop
+      go : CoversOrFault limits (whole_task d.symbols d.rules ps set) R (moves_of rules pairs drop)
           → NodeOrFault set (w.interpretations funs lines rules pairs drop)
-      go (inr (f, first)) = inr (Poly f, (symbols, marks, said, first))
+      go (inr (f, first)) = inr (Poly f, (R, said, first))
       go (inl (is, small)) =
           let (rest, kept) = kept_set set drop in
           inl (
-            poly symbols marks (map transfers rules) (map transfers pairs) drop,
+            poly (numbers_from 0 (length d.rules)) R (moves_of rules pairs drop),
             rest ∷ [],
-            (said.0, said.1, refl, refl, refl),
-            by_poly is kept,
-            poly_small limits d ps set symbols marks (map transfers rules) (map transfers pairs) drop small,
+            (refl, said.0, refl),
+            by_poly is refl kept,
+            poly_small limits d ps set R (moves_of rules pairs drop) small,
           )
 
   node_or_fault : (set : List ℕ) (line : w.Node) → AreDistinct d.fun_names → NodeOrFault set line

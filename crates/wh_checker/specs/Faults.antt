@@ -16,11 +16,10 @@ use Rattle.wh_cert.specs.Interps.{Interp}
 use Rattle.wh_no.specs.Faults as claims
 use Rattle.wh_no.specs.declared.fault.NoFault.{NoFault}
 use Rattle.wh_no.specs.declared.fault.NoFault.TheVariants as refuted
-use Rattle.wh_hopoly.specs.Erase.{transfers}
-use Rattle.wh_hopoly.specs.Evaluation.{Interpretation}
+use Rattle.wh_reduction.specs.TaskData.{whole_task}
 use Rattle.wh_hopoly.specs.declared.excess.Excess.{Excess}
 use Rattle.wh_hopoly.specs.declared.excess.Excess.TheVariants as excess
-use Rattle.wh_polycheck.specs.Marks.{Mark}
+use Rattle.wh_polycheck.specs.Readings.{ReadingsData}
 use Rattle.wh_polycheck.specs.declared.fault.CoverFault.{CoverFault}
 use Rattle.wh_polycheck.specs.declared.fault.CoverFault.TheVariants as moves
 use Rattle.wh_pairs.specs.Marked.{AreMarked}
@@ -30,7 +29,7 @@ use Rattle.wh_covering.specs.declared.fault.CoveringFault.{CoveringFault}
 use Rattle.wh_covering.specs.declared.fault.CoveringFault.TheVariants as covered
 use Rattle.wh_covering.specs.declared.fault.LineFault.TheVariants as line
 use Rattle.wh_proof.specs.Nodes.{Node, Leaves}
-use Rattle.wh_proof.specs.Looked.{SayChoices, SayInterpretations, SayMarks, SaysNode}
+use Rattle.wh_proof.specs.Looked.{SayChoices, SayReadings, SaysNode, moves_of}
 use Rattle.wh_proof.specs.Small.{IsSmallNode}
 use Rattle.wh_pairs.specs.Sets.{IsWhole}
 use Rattle.wh_checker.specs.declared.rejected.NodeFault.{NodeFault}
@@ -46,10 +45,9 @@ abbrev pub IsSubtermFault : SystemData → List PairData → List ℕ → List w
 IsSubtermFault d ps set lines drop projected.BadArgs = (args : List Chosen) → SayChoices d lines args → AreForMarked ps set args → ⊥
 IsSubtermFault d ps set lines drop f = (args : List Chosen) × SayChoices d lines args × IsFirstSubtermFault d.rules ps set args drop f
 
--- the lines of a node of interpretations say these, of all symbols and of the marked symbols of the set
-abbrev pub SayCovering : SystemData → List PairData → List ℕ → List Interp → List Interp → List Interpretation → List Mark → Type 0
-SayCovering d ps set funs lines symbols marks =
-    SayInterpretations d.fun_names d.symbols.funs funs symbols × SayMarks d lines marks × AreMarked ps set (map (λ m. m.symbol) marks)
+-- the lines of a node of interpretations say these readings, of all symbols and of the marked symbols of the set
+abbrev pub SayCovering : SystemData → List PairData → List ℕ → List Interp → List Interp → ReadingsData → Type 0
+SayCovering d ps set funs lines R = SayReadings d funs lines R × AreMarked ps set (map (λ m. m.symbol) R.marks)
 
 -- the first thing wrong with a node on a set of pairs, by the kinds of nodes; with limits it is also one that a value exceeds them in
 -- the evaluation of a side (ours)
@@ -60,10 +58,10 @@ IsNodeFault limits d ps set w.alone (fault.Loops a) = (set ≡ a ∷ []) × Foll
 IsNodeFault limits d ps set (w.blocks parts) (fault.Blocks f) = IsFirstBlockFault (Follows d.rules ps) set parts f
 IsNodeFault limits d ps set (w.subterm lines drop) (fault.Subterm f) = IsSubtermFault d ps set lines drop f
 IsNodeFault limits d ps set (w.interpretations funs lines rules pairs drop) fault.BadSymbols =
-    (symbols : List Interpretation) (marks : List Mark) → SayCovering d ps set funs lines symbols marks → ⊥
+    (R : ReadingsData) → SayCovering d ps set funs lines R → ⊥
 IsNodeFault limits d ps set (w.interpretations funs lines rules pairs drop) (fault.Poly f) =
-    (symbols : List Interpretation) × (marks : List Mark) × SayCovering d ps set funs lines symbols marks
-    × IsFirstCoveringFault limits d.symbols d.rules ps set symbols marks (map transfers rules) (map transfers pairs) drop f
+    (R : ReadingsData) × SayCovering d ps set funs lines R
+    × IsFirstCoveringFault limits (whole_task d.symbols d.rules ps set) R (moves_of rules pairs drop) f
 IsNodeFault limits d ps set _ _ = ⊥
 
 -- of the nodes that these lines say, in preorder, the one with that number, counted from the number of the first, is the first

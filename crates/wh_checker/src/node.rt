@@ -6,8 +6,7 @@ ghost use Rattle.wh_pairs.specs.Views.{pairs_data};
 ghost use Rattle.wh_system.specs.SystemView.{system_data};
 ghost use Rattle.wh_cert.specs.Said.{said_arg, said_interp, said_node, said_poly};
 ghost use Rattle.wh_cert.specs.Written as w;
-ghost use Rattle.wh_hopoly.specs.Erase.{interpretations};
-ghost use Rattle.wh_polycheck.specs.SideResults.{marks_of};
+ghost use Rattle.wh_polycheck.specs.ReadingsView.{readings_data};
 ghost use Rattle.wh_polycheck.specs.Covering.{HaveTypedSides};
 ghost use Rattle.wh_polycheck.specs.Small.{with_limits};
 ghost use Rattle.wh_checker.specs.Faults.{IsNodeFault, IsSubtermFault, SayCovering};
@@ -18,12 +17,12 @@ ghost use Rattle.wh_checker.specs.declared.rejected.NodeFault.TheVariants.{NotEm
 use crate::rejected::NodeFault;
 use std::alloc::{AllocError, Global};
 use wh_cert::{Arg, Node, PolyNode};
-use wh_covering::check_covering;
+use wh_covering::{Evidence, check_covering};
 use wh_graph::{check_blocks, may_follow};
-use wh_hopoly::Symbol;
 use wh_pairs::{Pair, PairList, PairSet, kept};
-use wh_polycheck::MarkedSymbol;
+use wh_polycheck::Readings;
 use wh_proof::{choices_of, marks_of_set, open_blocks, symbols_of};
+use wh_reduction::{Task, all_rules};
 use wh_subterm::{SubtermFault, check_projection};
 use wh_system::System;
 use wh_types::Or;
@@ -139,39 +138,43 @@ fn covered(
     let Some(marks) = marks_of_set(alloc, system, pairs, set, node.marks.as_slice())? else {
         return Err(Or::Because(NodeFault::BadSymbols));
     };
-    covered_by(alloc, system, pairs, set, node, &symbols, &marks)
+    let readings = Readings {
+        symbols: &symbols,
+        marks: &marks,
+    };
+    covered_by(alloc, system, pairs, set, node, &readings)
 }
 
-// The same under the interpretations that its lines say.
-fn covered_by(
+// The same under the readings that its lines say. In this version of certificates a node covers all rules.
+fn covered_by<'a>(
     alloc: Global,
     system: &System,
     pairs: &PairList,
     set: &PairSet,
     node: &PolyNode,
-    symbols: &[Symbol],
-    marks: &[MarkedSymbol],
+    readings: &Readings<'a>,
 ) -> Result<PairSet, Or<NodeFault>>
     requires typed { HaveTypedSides (system_data system.now).symbols (system_data system.now).rules (pairs_data pairs.now) }
     requires set { All (λ n. n < length pairs.now) set.now }
     requires says { SayCovering (system_data system.now) (pairs_data pairs.now) set.now (map said_interp node.now.funs)
-        (map said_interp node.now.marks) (interpretations symbols.now) (marks_of marks.now) }
+        (map said_interp node.now.marks) (readings_data readings.now) }
     ensures { MatchOr result (λ rest. GoesOn (system_data system.now) (pairs_data pairs.now) set.now (said_poly node.now) [] (rest ∷ []))
         (IsNodeFault with_limits (system_data system.now) (pairs_data pairs.now) set.now (said_poly node.now)) }
 {
-    let drop = node.drop.as_slice();
-    match check_covering(
-        alloc,
+    let rules = all_rules(alloc, system)?;
+    let task = Task {
         system,
-        pairs,
-        set,
-        symbols,
-        marks,
-        &node.rules,
-        &node.pairs,
-        drop,
-    ) {
-        Ok(()) => Ok(kept(alloc, set, drop)?),
+        pairs: pairs.as_slice(),
+        set: set.as_slice(),
+        covered: &rules,
+    };
+    let evidence = Evidence {
+        rules: node.rules.as_slice(),
+        pairs: node.pairs.as_slice(),
+        drop: node.drop.as_slice(),
+    };
+    match check_covering(alloc, &task, readings, &evidence) {
+        Ok(()) => Ok(kept(alloc, set, evidence.drop)?),
         Err(Or::Because(fault)) => Err(Or::Because(NodeFault::Poly(fault))),
         Err(Or::NoMemory) => Err(Or::NoMemory),
     }

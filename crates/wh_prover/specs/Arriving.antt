@@ -9,9 +9,10 @@ use Rattle.wh_subterm.specs.Projections.{Chosen}
 use Rattle.wh_subterm.specs.SubtermRows.{IsProjection}
 use Rattle.wh_find_subterm.specs.Found.{DropsAllBelow}
 use Rattle.wh_pairs.specs.Sets.{IsSetOf, IsKept, IsWhole}
-use Rattle.wh_hopoly.specs.Evaluation.{Interpretation}
+use Rattle.wh_reduction.specs.TaskData.{whole_task}
+use Rattle.wh_reduction.specs.ReductionPair.{Evidence}
 use Rattle.wh_hopoly.specs.Moves.{Transfer}
-use Rattle.wh_polycheck.specs.Marks.{Mark}
+use Rattle.wh_polycheck.specs.Readings.{ReadingsData}
 use Rattle.wh_polycheck.specs.Covering.{IsCovering}
 
 -- the set is one component: each pair of it leads to each other one within it
@@ -46,10 +47,10 @@ pub data Arrives (d : SystemData) (pairs : List PairData) : List ℕ → Type 0 
       → 2 ≤ length parts → Contains parts part → IsSetOf (Contains part) component → Arrives d pairs component
   behind_projection : {set drop rest : List ℕ} {args : List Chosen} → Arrives d pairs set → IsKnot d.rules pairs set
       → IsProjection d.rules pairs set args drop → DropsAllBelow pairs set args drop → IsSetOf (IsKept set drop) rest → Arrives d pairs rest
-  behind_interpretation : {set drop rest : List ℕ} {symbols : List Interpretation} {marks : List Mark}
-      {rule_lines pair_lines : List (List Transfer)}
-      → Arrives d pairs set → IsKnot d.rules pairs set → HasNoProjection d.rules pairs set
-      → IsCovering d.symbols d.rules pairs set symbols marks rule_lines pair_lines drop → IsSetOf (IsKept set drop) rest
+  behind_interpretation : {set rest : List ℕ} {R : ReadingsData} {E : Evidence (List Transfer)} → Arrives d pairs set
+      → IsKnot d.rules pairs set
+      → HasNoProjection d.rules pairs set
+      → IsCovering (whole_task d.symbols d.rules pairs set) R E → IsSetOf (IsKept set E.drop) rest
       → Arrives d pairs rest
 
 -- the search can end on a knot that it comes to (ours)

@@ -1,5 +1,6 @@
 -- Numbers that follow each other.
-use Rattle.std.proofs.Common.{◌≡◌, ℕ, zero, suc, ◌+◌, ◌<◌, List, [], ◌∷◌, ◌++◌, length, Some, slice_get, refl, ap, sym, subst, ◌∙◌, arith}
+use Rattle.std.proofs.Common.{◌≡◌, ℕ, zero, suc, ◌+◌, ◌<◌, List, [], ◌∷◌, ◌++◌, length, Some, slice_get, get_or, All, refl, ap, subst, ◌∙◌, arith}
+use Rattle.std.proofs.lemmas.Option.{slice_get-get_or}
 use Rattle.wh_reduction.specs.TaskData.{numbers_from}
 
 -- one number more
@@ -29,3 +30,11 @@ pub numbers_are : (n k i m : ℕ) → slice_get (numbers_from n k) i ≡ Some m 
 numbers_are n zero i m at = absurd (cc)
 numbers_are n (suc k) zero m at = (let same : n ≡ m = cc in omega (arith, same), omega arith)
 numbers_are n (suc k) (suc i) m at = let (is, less) = numbers_are (suc n) k i m at in (omega (arith, is), omega (arith, less))
+
+-- all are below the end
+pub numbers_within : (k : ℕ) → All (λ n. n < k) (numbers_from 0 k)
+numbers_within k i d within =
+    let less : i < k = subst (λ n. i < n) (numbers_length 0 k) within in
+    let there = slice_get-get_or (numbers_from 0 k) i d within in
+    let (is, below) = numbers_are 0 k i (get_or (numbers_from 0 k) i d) there in
+    omega (arith, is, below)
