@@ -74,7 +74,7 @@ fn weighed<'a, 'b>(
 
 // The number of the condition of the pair with this place in the set, and behind these of the last condition.
 fn number_of_pair<'a>(task: &Task<'a>, place: usize) -> usize
-    requires place { place ≤ length task.now.set.now }
+    requires { place ≤ length task.now.set.now }
     ensures { result ≡ length (task_data task.now).covered + place }
 {
     task.covered.len() + place
