@@ -209,12 +209,14 @@ module _ (d : SystemData) (made : IsWellMadeSystem d) (ranks : List ℕ)
             p,
             there,
             record {
-              bodies = f;
-              typed_bodies = p_typed;
-              left_symbol = symbol ∙ sym left_fun;
-              left = subst (λ l. Values f (tms_of p.left) (tms_of l)) (sym list) left;
-              right_symbol = sym right_fun;
-              right = right;
+              leads = record {
+                bodies = f;
+                typed_bodies = p_typed;
+                left_symbol = symbol ∙ sym left_fun;
+                left = subst (λ l. Values f (tms_of p.left) (tms_of l)) (sym list) left;
+                right_symbol = sym right_fun;
+                right = right;
+              };
               minimal = list_ends (instances_root S d.rules made.rules) rank kinds (completed_call ws).arguments (all_arguments ws k);
             },
           );

@@ -61,12 +61,7 @@ raw_leads {S = S} {rules = rules} w P c d s = record { from_typed = s.from_typed
       p,
       holds,
       record {
-        bodies = m.bodies;
-        typed_bodies = m.typed_bodies;
-        left_symbol = m.left_symbol;
-        left = m.left;
-        right_symbol = m.right_symbol;
-        right = m.right;
+        leads = m.leads;
         minimal = ends-fewer (λ t u r. step_raw S w r) d.arguments m.minimal;
       },
     )
@@ -103,12 +98,7 @@ leads_raw {S = S} {rules = rules} w P c d s = record { from_typed = s.from_typed
       p,
       holds,
       record {
-        bodies = m.bodies;
-        typed_bodies = m.typed_bodies;
-        left_symbol = m.left_symbol;
-        left = m.left;
-        right_symbol = m.right_symbol;
-        right = m.right;
+        leads = m.leads;
         minimal = raw_list_ends w d.arguments s.to_typed.typed m.minimal;
       },
     )

@@ -12,3 +12,5 @@ pub mod Served
 pub mod CallLaws
 pub mod SymbolLaws
 pub mod EndOfCalls
+pub mod Leading
+pub mod Measured

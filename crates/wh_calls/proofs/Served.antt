@@ -384,15 +384,16 @@ call_led d pairs r c from to made kept listed called led =
     let same : map (act τ free) led.given ≡ map (inst g τ) c.arguments =
     ap (map (act τ free)) (values_of_list g c.arguments led.given led.right) ∙ instances g τ c.arguments in
     let to_is : take c.need (map (inst g τ) c.arguments) ++ led.further ≡ to.arguments =
-    ap (λ l. take c.need l ++ led.further) (sym same) ∙ sym led.arguments in
-    record {
-      pair = p;
-      listed = at;
-      bodies = h;
-      typed_bodies = typed_bodies;
-      left_symbol = led.left_symbol ∙ sym left_symbol;
-      left =
-          subst (λ l. Values h (tms_of p.left) (tms_of l)) (sym (values_of_list g (spine_arguments r.left) from.arguments led.left)) left;
-      right_symbol = led.right_symbol ∙ sym right_symbol;
-      right = subst (λ l. Values h (tms_of p.right) (tms_of l)) to_is right;
-    }
+    ap (λ l. take c.need l ++ led.further) (sym same) ∙ sym led.arguments in (
+      p,
+      at,
+      record {
+        bodies = h;
+        typed_bodies = typed_bodies;
+        left_symbol = led.left_symbol ∙ sym left_symbol;
+        left =
+            subst (λ l. Values h (tms_of p.left) (tms_of l)) (sym (values_of_list g (spine_arguments r.left) from.arguments led.left)) left;
+        right_symbol = led.right_symbol ∙ sym right_symbol;
+        right = subst (λ l. Values h (tms_of p.right) (tms_of l)) to_is right;
+      },
+    )

@@ -1,3 +1,4 @@
 pub mod MarkedCalls
+pub mod CallOrders
 pub mod Bodies
 pub mod Sides

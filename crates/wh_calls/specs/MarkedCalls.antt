@@ -30,15 +30,19 @@ abbrev pub AreTypedBodies : Symbols → PairData → (ℕ → Body) → Type 0
 AreTypedBodies S p g = (z : ℕ) (d : Declared) → OccursIn z (tms_of (p.left ++ p.right)) → slice_get p.metas z ≡ Some d
     → FitsDeclared S [] [] d (g z)
 
--- the pair leads from c to d: these are the values of its sides under one meta-substitution, and the arguments of d end
--- by the steps R (Fuhs and Kop 2019, the minimal chains)
-pub record PairStep (S : Symbols) (R : Tm → Tm → Type 0) (p : PairData) (c d : MarkedCall) : Type 0 where
+-- the pair leads from c to d: these are the values of its sides under one meta-substitution, with bodies of the declared types
+-- (Kop 2012; Fuhs and Kop 2019)
+pub record PairLeads (S : Symbols) (p : PairData) (c d : MarkedCall) : Type 0 where
   pub bodies : ℕ → Body
   pub typed_bodies : AreTypedBodies S p bodies
   pub left_symbol : c.symbol ≡ p.left_fun
   pub left : Values bodies (tms_of p.left) (tms_of c.arguments)
   pub right_symbol : d.symbol ≡ p.right_fun
   pub right : Values bodies (tms_of p.right) (tms_of d.arguments)
+
+-- besides, the arguments of d end by the steps R (Fuhs and Kop 2019, the minimal chains)
+pub record PairStep (S : Symbols) (R : Tm → Tm → Type 0) (p : PairData) (c d : MarkedCall) : Type 0 where
+  pub leads : PairLeads S p c d
   pub minimal : AllByRecursion (Ends R) d.arguments
 
 -- one argument of c steps by R, and d is the result

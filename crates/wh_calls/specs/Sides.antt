@@ -13,7 +13,7 @@ use Rattle.wh_laws.specs.Computable.{Computable, ComputableList}
 use Rattle.wh_pairs.specs.Spines.{spine_arguments, symbol_of}
 use Rattle.wh_pairs.specs.Calls.{Call}
 use Rattle.wh_pairs.specs.Candidates.{missing_types}
-use Rattle.wh_calls.specs.MarkedCalls.{MarkedCall, AreTypedBodies}
+use Rattle.wh_calls.specs.MarkedCalls.{MarkedCall, PairLeads}
 use Rattle.wh_calls.specs.Bodies.{IsComputableBody}
 
 -- the meta-variables of the right side have computable bodies (Fuhs and Kop 2019)
@@ -50,14 +50,6 @@ pub record IsLedByCall (S : Symbols) (r : RewriteRule) (c : Call) (from to : Mar
   pub enough : length further ≡ c.need - length c.arguments
   pub arguments : to.arguments ≡ take c.need (map (act for_binders free) given) ++ further
 
--- one of the pairs leads from the marked call `from` to `to`: under bodies of the declared types these are the values of its sides
--- (Kop 2012; Fuhs and Kop 2019)
-pub record IsLedByPair (S : Symbols) (pairs : List PairData) (from to : MarkedCall) : Type 0 where
-  pub pair : PairData
-  pub listed : Contains pairs pair
-  pub bodies : ℕ → Body
-  pub typed_bodies : AreTypedBodies S pair bodies
-  pub left_symbol : from.symbol ≡ pair.left_fun
-  pub left : Values bodies (tms_of pair.left) (tms_of from.arguments)
-  pub right_symbol : to.symbol ≡ pair.right_fun
-  pub right : Values bodies (tms_of pair.right) (tms_of to.arguments)
+-- one of the pairs leads from the marked call `from` to `to`
+abbrev pub IsLedByPair : Symbols → List PairData → MarkedCall → MarkedCall → Type 0
+IsLedByPair S pairs from to = (p : PairData) × Contains pairs p × PairLeads S p from to

@@ -1,23 +1,26 @@
 -- What the conditions of a node of interpretations say of a set of pairs: its calls end where those by the pairs that are kept do.
-use Rattle.std.proofs.Common.{◌≡◌, ◌⊎◌, ℕ, zero, suc, inl, inr, List, [], ◌∷◌, length, map, Some, slice_get, Contains, refl, ap, ◌∙◌}
+use Rattle.std.proofs.Common.{◌≡◌, ◌⊎◌, ℕ, zero, suc, inl, inr, List, [], ◌∷◌, map, Bool, true, false, Some, slice_get, Contains, refl, ap, ◌∙◌}
 use Rattle.std.proofs.lemmas.Option.{none-some, same_Some}
 use Rattle.wh_types.specs.Ty.{Ty}
-use Rattle.wh_terms.specs.Typing.{Symbols}
-use Rattle.wh_terms.specs.Rules.{RewriteRule, AreWellMade}
+use Rattle.wh_terms.specs.Rules.{AreWellMade}
 use Rattle.wh_step.specs.Step.{Step}
 use Rattle.wh_pairs.specs.PairData.{PairData}
-use Rattle.wh_pairs.proofs.ByPlace.{contains_at, place_of, unmap}
+use Rattle.wh_pairs.specs.Drops.{IsDropped}
 use Rattle.wh_pairs.specs.Marked.{HeadsASide}
-use Rattle.wh_pairs.proofs.DropLemmas.{contains_or_not}
+use Rattle.wh_pairs.specs.Sets.{IsSetOf, IsKept, InSet}
+use Rattle.wh_pairs.proofs.ByPlace.{contains_at, place_of, unmap}
 use Rattle.wh_calls.specs.MarkedCalls.{CallsEnd}
+use Rattle.wh_reduction.specs.TaskData.{TaskData, CoversAll}
+use Rattle.wh_reduction.specs.ReductionPair.{Evidence}
+use Rattle.wh_reduction.proofs.LinesShow.{rule_shown, pair_shown}
 use Rattle.wh_hopoly.specs.Evaluation.{Interpretation}
 use Rattle.wh_hopoly.specs.Moves.{Transfer}
-use Rattle.wh_polycheck.specs.Sides.{IsInterpretedAs, Interprets, RulesAreCovered}
-use Rattle.wh_polycheck.specs.Marks.{Mark, with_marks, mark_number, HasMark}
-use Rattle.wh_meaning.specs.PairCovers.{PairIsStrictlyCovered, MarkedPairIsCovered}
-use Rattle.wh_pairs.specs.Sets.{InSet}
-use Rattle.wh_polycheck.specs.Covering.{IsCovering, HaveTypedSides}
-use Rattle.wh_meaning.proofs.MarkedPairs.{sets_end_by_marks}
+use Rattle.wh_polycheck.specs.Sides.{IsInterpretedAs, Interprets}
+use Rattle.wh_polycheck.specs.Marks.{Mark, HasMark, HasMarkedSides}
+use Rattle.wh_polycheck.specs.Readings.{ReadingsData, AreProper}
+use Rattle.wh_polycheck.specs.Covering.{by_moves, IsCovering, HaveTypedSides}
+use Rattle.wh_meaning.specs.PairCovers.{PairIsCovered, PairIsStrictlyCovered}
+use Rattle.wh_meaning.proofs.PairsEnd.{sets_end_by_worth}
 
 -- interpretations with the types of the symbols, in order, interpret each of them
 in_order : (symbols : List Interpretation) (f : ℕ) (a : Ty) → slice_get (map (λ (s : Interpretation). s.kind) symbols) f ≡ Some a
@@ -26,14 +29,6 @@ in_order [] f a e = absurd (none-some a e)
 in_order (s ∷ symbols) zero a e = (s, refl, same_Some s.kind a e)
 in_order (s ∷ symbols) (suc f) a e = in_order symbols f a e
 
--- lists of one length have elements at the same places
-line_at : {A B : Type 0} (xs : List A) (ys : List B) (i : ℕ) (x : A) → length ys ≡ length xs → slice_get xs i ≡ Some x
-    → (y : B) × (slice_get ys i ≡ Some y)
-line_at [] ys i x same e = absurd (none-some x e)
-line_at (x' ∷ xs) [] i x same e = absurd (cc)
-line_at (x' ∷ xs) (y ∷ ys) zero x same e = (y, refl)
-line_at (x' ∷ xs) (y ∷ ys) (suc i) x same e = line_at xs ys i x (cc) e
-
 -- a symbol among those of the marks has a mark
 has_mark : (marks : List Mark) (f : ℕ) → Contains (map (λ (m : Mark). m.symbol) marks) f → HasMark marks f
 has_mark marks f there =
@@ -41,52 +36,43 @@ has_mark marks f there =
     let (m, found, is) = unmap (λ (m : Mark). m.symbol) marks i f at in
     (m, contains_at marks i m found, is)
 
-module _ (S : Symbols) (rules : List RewriteRule) (pairs : List PairData) (set : List ℕ) (symbols : List Interpretation)
-    (marks : List Mark) (rule_lines pair_lines : List (List Transfer)) (drop : List ℕ)
-    (is : IsCovering S rules pairs set symbols marks rule_lines pair_lines drop) where
-  interprets : Interprets S symbols
-  interprets f a known = in_order symbols f a (ap (λ l. slice_get l f) is.kinds ∙ known)
+module _ (T : TaskData) (R : ReadingsData) (E : Evidence (List Transfer)) (is : IsCovering T R E) where
+  interprets : Interprets T.symbols R.symbols
+  interprets f a known = in_order R.symbols f a (ap (λ l. slice_get l f) is.readings.kinds ∙ known)
 
-  rules_are_covered : RulesAreCovered symbols rules
-  rules_are_covered r there =
-      let (i, at) = place_of rules r there in
-      let (ms, line) = line_at rules rule_lines i r is.rule_count at in
-      (ms, is.rules_covered i r ms at line)
+  proper : AreProper T.symbols T.rules R
+  proper = record { interpreted = interprets; normal = is.normal }
 
-  -- the symbols of a pair of the set have marks
-  heads_have_marks : (n : ℕ) (p : PairData) (f : ℕ) → Contains set n → slice_get pairs n ≡ Some p → HeadsASide f p → HasMark marks f
-  heads_have_marks n p f inside at heads = has_mark marks f ((is.marked.each f).1 (n, inside, (p, at, heads)))
-
-  pairs_are_covered : HaveTypedSides S rules pairs → (n : ℕ) (p : PairData) → Contains set n → slice_get pairs n ≡ Some p
-      → MarkedPairIsCovered S rules symbols marks p
-  pairs_are_covered typed n p inside at =
-      let (i, here) = place_of set n inside in
-      let (ms, line) = line_at set pair_lines i n is.pair_count here in
-      record {
-        sides = typed marks p (contains_at pairs n p at) (heads_have_marks n p p.left_fun inside at (inl refl))
-            (heads_have_marks n p p.right_fun inside at (inr refl));
-        moves = ms;
-        cover = (is.pairs_covered i n p ms here at line).0;
-      }
-
-  dropped_pairs_shrink : (n : ℕ) (p : PairData) → Contains set n → slice_get pairs n ≡ Some p → Contains drop n
-      → PairIsStrictlyCovered (with_marks S rules symbols marks) (mark_number symbols marks) p
-  dropped_pairs_shrink n p inside at dropped =
-      let (i, here) = place_of set n inside in
-      let (ms, line) = line_at set pair_lines i n is.pair_count here in
-      (ms, (is.pairs_covered i n p ms here at line).1 dropped)
-
-  -- where the rest has all pairs of the set that are not dropped, and their calls end, the calls of the set do
-  pub covering_ends : AreWellMade S rules → HaveTypedSides S rules pairs → (rest : List ℕ)
-      → ((n : ℕ) → Contains set n → (Contains drop n → ⊥) → Contains rest n) → CallsEnd S rules (Step rules) (InSet pairs rest)
-      → CallsEnd S rules (Step rules) (InSet pairs set)
-  covering_ends made typed rest kept smaller =
-      sets_end_by_marks S rules symbols marks pairs set rest made interprets is.normal is.normal_marks rules_are_covered
-      (pairs_are_covered typed) kept_or_strict smaller
+  -- the sides of a pair of the set are typed, and its symbols have marks
+  pair_sides_marked : HaveTypedSides T.symbols T.rules T.pairs → (n : ℕ) (p : PairData) → Contains T.set n → slice_get T.pairs n ≡ Some p
+      → HasMarkedSides T.symbols T.rules R.marks p
+  pair_sides_marked typed n p inside at =
+      typed R.marks p (contains_at T.pairs n p at) (heads p.left_fun (inl refl)) (heads p.right_fun (inr refl))
     where
-      kept_or_strict : (n : ℕ) (p : PairData) → Contains set n → slice_get pairs n ≡ Some p
-          → Contains rest n ⊎ PairIsStrictlyCovered (with_marks S rules symbols marks) (mark_number symbols marks) p
-      kept_or_strict n p inside at = elim (contains_or_not drop n) [
-        | inl dropped ↦ inr (dropped_pairs_shrink n p inside at dropped)
-        | inr stays ↦ inl (kept n inside stays)
-      ]
+      heads : (f : ℕ) → HeadsASide f p → HasMark R.marks f
+      heads f side = has_mark R.marks f ((is.readings.marked.each f).1 (n, inside, (p, at, side)))
+
+  -- each pair of the set is covered; it is dropped and shrinks, or it is kept
+  pair_covered : (p : PairData) → HasMarkedSides T.symbols T.rules R.marks p → (ms : List Transfer) (strict : Bool)
+      → (by_moves T.symbols T.rules R).pair p strict ms → PairIsCovered T.symbols T.rules R p
+  pair_covered p sides ms false shown = record { sides = sides; moves = ms; cover = shown }
+  pair_covered p sides ms true shown = record { sides = sides; moves = ms; cover = shown.cover }
+
+  kept_or_strict : (rest : List ℕ) → IsSetOf (IsKept T.set E.drop) rest → (n : ℕ) (p : PairData) → Contains T.set n
+      → (ms : List Transfer) (strict : Bool) → IsDropped E.drop n strict → (by_moves T.symbols T.rules R).pair p strict ms
+      → Contains rest n ⊎ PairIsStrictlyCovered T.symbols T.rules R p
+  kept_or_strict rest kept n p inside ms false stays shown = inl ((kept.each n).1 (inside, stays))
+  kept_or_strict rest kept n p inside ms true dropped shown = inr (ms, shown)
+
+  -- where the calls by the pairs that are not dropped end, the calls of the set do
+  pub covering_ends : AreWellMade T.symbols T.rules → HaveTypedSides T.symbols T.rules T.pairs → CoversAll T → (rest : List ℕ)
+      → IsSetOf (IsKept T.set E.drop) rest → CallsEnd T.symbols T.rules (Step T.rules) (InSet T.pairs rest)
+      → CallsEnd T.symbols T.rules (Step T.rules) (InSet T.pairs T.set)
+  covering_ends made typed whole rest kept smaller =
+      let shows = by_moves T.symbols T.rules R in
+      sets_end_by_worth T.symbols T.rules R T.pairs T.set rest made proper (λ r there. rule_shown shows T E is.lines whole r there)
+      (λ n p inside at. let (ms, strict, dropped, shown) = pair_shown shows T E is.lines n p inside at in
+      pair_covered p (pair_sides_marked typed n p inside at) ms strict shown)
+      (λ n p inside at. let (ms, strict, dropped, shown) = pair_shown shows T E is.lines n p inside at in
+      kept_or_strict rest kept n p inside ms strict dropped shown)
+      smaller

@@ -12,7 +12,7 @@ pub mod Steps
 pub mod CallValues
 pub mod Measures
 pub mod PairsEnd
-pub mod MarkedPairs
+pub mod SideNorms
 pub mod Rows
 pub mod PairSides
 pub mod CoverLaws

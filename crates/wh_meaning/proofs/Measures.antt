@@ -1,19 +1,29 @@
--- Where a number never rises, and falls wherever a step is not one of the rest, all ends if the rest does.
-use Rattle.std.proofs.Common.{ℕ, zero, suc, ◌≤◌, ◌<◌, ◌⊎◌, inl, inr, arith, le_trans, lt_of_lt_of_le}
+-- The law of reduction pairs where calls are measured by numbers.
+use Rattle.std.proofs.Common.{ℕ, zero, suc, ◌≤◌, ◌<◌, ◌⊎◌, arith, lt_of_lt_of_le}
+use Rattle.std.specs.Prelude.{List}
+use Rattle.wh_terms.specs.Tree.{Tm}
+use Rattle.wh_terms.specs.Typing.{Symbols}
+use Rattle.wh_terms.specs.Rules.{RewriteRule}
 use Rattle.wh_laws.specs.Ends.{Ends, ends}
+use Rattle.wh_pairs.specs.PairData.{PairData}
+use Rattle.wh_calls.specs.MarkedCalls.{MarkedCall, IsTypedCall, PairStep, ArgumentsStep, CallsEnd}
+use Rattle.wh_calls.specs.CallOrders.{by_numbers}
+use Rattle.wh_calls.proofs.Measured.{ends_measured, function_measures}
 
-module _ {A : Type 0} {R Rest : A → A → Type 0} (m : A → ℕ) (P : A → Type 0)
-    (next : (a b : A) → P a → R a b → P b × ((Rest a b × m b ≤ m a) ⊎ (m b < m a))) where
-  -- an induction on the rest, where smaller numbers are done
-  rest_ends : (n : ℕ) → ((b : A) → P b → m b < n → Ends R b) → (a : A) → P a → m a ≤ n → Ends Rest a → Ends R a
-  rest_ends n h a p l (ends k) = ends (λ b r. let (q, i) = next a b p r in elim i [
-    | inl (s, j) ↦ rest_ends n h b q (le_trans j l) (k b s)
-    | inr j ↦ h b q (lt_of_lt_of_le j l)
-  ])
+-- no endless descent goes out from a number
 
-  below_ends : ((a : A) → P a → Ends Rest a) → (n : ℕ) (a : A) → P a → m a < n → Ends R a
-  below_ends e zero a p l = absurd (let z : ⊥ = omega (arith, l) in z)
-  below_ends e (suc n) a p l = rest_ends n (below_ends e n) a p (omega (arith, l)) (e a p)
+end_below : (n m : ℕ) → m < n → Ends (λ a b. b < a) m
+end_below zero m less = absurd (omega (arith, less))
+end_below (suc n) m less = ends (λ k under. end_below n k (omega (arith, less, under)))
 
-  pub ends_measured : ((a : A) → P a → Ends Rest a) → (a : A) → P a → Ends R a
-  ends_measured e a p = below_ends e (suc (m a)) a p (omega arith)
+pub numbers_end : (n : ℕ) → Ends (λ a b. b < a) n
+numbers_end n = end_below (suc n) n (omega arith)
+
+-- where a number never rises, and falls where a pair is not one of the kept ones, calls end if those by these do
+pub ends_numbered : {S : Symbols} {rules : List RewriteRule} {R : Tm → Tm → Type 0} (measure : MarkedCall → ℕ) {P Q : PairData → Type 0}
+    → ((c d : MarkedCall) → IsTypedCall S rules c → ArgumentsStep R c d → measure d ≤ measure c)
+    → ((p : PairData) (c d : MarkedCall) → P p → PairStep S R p c d → ((Q p × measure d ≤ measure c) ⊎ measure d < measure c))
+    → CallsEnd S rules R Q → CallsEnd S rules R P
+ends_numbered measure arguments pairs kept =
+    ends_measured (function_measures by_numbers measure (λ a b c no_more less. lt_of_lt_of_le less no_more)
+    (λ d typed all. numbers_end (measure d)) arguments (λ p c d has typed by. pairs p c d has by)) kept

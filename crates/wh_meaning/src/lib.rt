@@ -13,8 +13,8 @@ pub use calls::{
 };
 pub use covering::{covers_mean_at_least, strict_covers_mean_greater};
 pub use pairs::{
-    covers_by_marks_keep_that_calls_end, covers_keep_that_calls_end,
-    marked_sides_have_normal_forms, pairs_have_marked_sides,
+    coverings_keep_that_calls_end, covers_keep_that_calls_end, marked_sides_have_normal_forms,
+    pairs_have_marked_sides,
 };
 pub use terms::{
     beta_keeps_values, covered_steps_do_not_raise_values, sides_have_normal_forms,

@@ -12,9 +12,9 @@ use Rattle.wh_graph.specs.Blocks.{AreBlocks}
 use Rattle.wh_calls.specs.MarkedCalls.{MarkedCall, CallStep, CallsEnd}
 use Rattle.wh_pairs.specs.Sets.{InSet}
 use Rattle.wh_pairs.proofs.ByPlace.{some_one, contains_at}
-use Rattle.wh_nodes.proofs.ManyLaws.{ends_induct}
 use Rattle.wh_nodes.proofs.MayLaws.{MayIsSound}
-use Rattle.wh_nodes.proofs.CallLaws.{calls_fewer, no_pair_calls, other_pairs, other_arguments, ComesFrom, comes_step, comes_kept, comes_may}
+use Rattle.wh_calls.proofs.Leading.{ends_induct, other_pairs, other_arguments}
+use Rattle.wh_nodes.proofs.CallLaws.{calls_fewer, no_pair_calls, ComesFrom, comes_step, comes_kept, comes_may}
 
 -- the pair stands in a block from number i on
 abbrev pub FromBlock : List PairData → List (List ℕ) → ℕ → PairData → Type 0

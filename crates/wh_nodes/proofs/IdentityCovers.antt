@@ -1,6 +1,6 @@
 -- The polynomials of the worked system that needs interpretations: no rule grows, and its first pair shrinks.
 use Rattle.std.proofs.Common.{◌≡◌, ℕ, zero, suc, List, [], ◌∷◌, Some, slice_get, Contains, inl, inr, refl, sym, ap, ◌∙◌, subst, subst₂, arith}
-use Rattle.std.specs.Prelude.{◌⊎◌, true, false}
+use Rattle.std.specs.Prelude.{◌⊎◌, Bool, true, false}
 use Rattle.std.proofs.lemmas.List.Elements.{All-nil, All-cons}
 use Rattle.wh_types.specs.Ty.{arguments}
 use Rattle.wh_terms.specs.Rules.{RewriteRule}
@@ -10,10 +10,12 @@ use Rattle.wh_pairs.specs.Marked.{IsMarked, AreMarked}
 use Rattle.wh_hopoly.specs.Polynomials.{zero_poly, no_factors, times, no_arguments, Normal}
 use Rattle.wh_hopoly.specs.Evaluation.{Interpretation, NormalInterpretations}
 use Rattle.wh_hopoly.specs.Moves.{Transfer, Good, NotOverSpent, Covered, IsCover, IsStrictCover}
+use Rattle.wh_pairs.specs.Drops.{IsDropped}
+use Rattle.wh_reduction.specs.ReductionPair.{Showing, IsRightRule, IsRightPair}
 use Rattle.wh_polycheck.specs.Marks.{Mark, AreNormalMarks, marked_types}
-use Rattle.wh_polycheck.specs.Covering.{rule_run, pair_run, CoversRule, CoversPair, CoversSides, IsCovering}
+use Rattle.wh_polycheck.specs.Covering.{by_moves, IsCovering}
 use Rattle.wh_nodes.specs.MapSystem.{nat}
-use Rattle.wh_nodes.specs.IdentitySystem.{unary, identity_symbols, identity_rule, count_rule, identity_system, count_pair, identity_pairs, itself, one_more, readings, marked_reading, unit_from, rule_moves, pair_moves}
+use Rattle.wh_nodes.specs.IdentitySystem.{unary, identity_symbols, identity_rule, count_rule, identity_system, count_pair, identity_pairs, itself, one_more, readings, unit_from, count_moves, count_task}
 use Rattle.wh_pairs.proofs.FewLemmas.{in_one, from_one, get_one, get_two}
 
 -- the polynomials are normal
@@ -21,22 +23,22 @@ use Rattle.wh_pairs.proofs.FewLemmas.{in_one, from_one, get_one, get_two}
 itself_normal : Normal (nat ∷ []) itself
 itself_normal = (omega arith, (nat, refl, tt, tt, tt), tt, tt)
 
-readings_normal : NormalInterpretations readings
-readings_normal zero s e =
+symbols_normal : NormalInterpretations readings.symbols
+symbols_normal zero s e =
     let same : record { kind = unary; polynomial = one_more } ≡ s = cc in
     subst (λ (s : Interpretation). Normal (arguments s.kind) s.polynomial) same (omega arith, tt, refl, itself_normal)
-readings_normal (suc zero) s e =
+symbols_normal (suc zero) s e =
     let same : record { kind = unary; polynomial = itself } ≡ s = cc in
     subst (λ (s : Interpretation). Normal (arguments s.kind) s.polynomial) same itself_normal
-readings_normal (suc (suc zero)) s e =
+symbols_normal (suc (suc zero)) s e =
     let same : record { kind = unary; polynomial = zero_poly } ≡ s = cc in
     subst (λ (s : Interpretation). Normal (arguments s.kind) s.polynomial) same tt
-readings_normal (suc (suc (suc f))) s e = absurd (cc)
+symbols_normal (suc (suc (suc f))) s e = absurd (cc)
 
-marks_normal : AreNormalMarks identity_symbols identity_system.rules (marked_reading ∷ [])
+marks_normal : AreNormalMarks identity_symbols identity_system.rules readings.marks
 marks_normal m there =
     subst (λ (m : Mark). Normal (marked_types identity_symbols identity_system.rules m.symbol) m.polynomial)
-    (in_one marked_reading m there) itself_normal
+    (in_one (record { symbol = 2; polynomial = itself }) m there) itself_normal
 
 -- the moves of the first rule: X covers X
 
@@ -105,25 +107,23 @@ one_more_covers = record {
   left_over = omega arith;
 }
 
--- the rules
+-- what the moves show
 
-abbrev RuleCovered : RewriteRule → List Transfer → Type 0
-RuleCovered r ms = CoversSides (rule_run readings r false) (rule_run readings r true) false ms
+abbrev shows : Showing (List Transfer)
+shows = by_moves identity_symbols identity_system.rules readings
 
-rules_covered : (i : ℕ) → CoversRule readings identity_system.rules rule_moves i
-rules_covered i r ms at line =
-    let by_rule = get_two (λ i r. (ms : List Transfer) → slice_get rule_moves i ≡ Some ms → RuleCovered r ms) identity_rule count_rule
-    (λ ms line. subst (RuleCovered identity_rule) (cc) itself_covers) (λ ms line. subst (RuleCovered count_rule) (cc) nothing_covers) in
-    by_rule i r at ms line
+-- what is shown of one rule by its line
+right_line : (u r : RewriteRule) (k ms : List Transfer) → u ≡ r → k ≡ ms → shows.rule u k → shows.rule r ms
+right_line u r k ms rule line right = subst₂ (λ (r : RewriteRule) (ms : List Transfer). shows.rule r ms) rule line right
 
--- the pair
+rules_covered : (i : ℕ) → IsRightRule shows count_task count_moves.of_rules i
+rules_covered i n r ms at here line =
+    get_two (λ i n. slice_get identity_system.rules n ≡ Some r → slice_get count_moves.of_rules i ≡ Some ms → shows.rule r ms) 0 1
+    (λ here line. right_line identity_rule r (unit_from 0 ∷ []) ms (cc) (cc) itself_covers)
+    (λ here line. right_line count_rule r [] ms (cc) (cc) nothing_covers)
+    i n at here line
 
-abbrev PairShrinks : PairData → List Transfer → Type 0
-PairShrinks p ms =
-    IsStrictCover (pair_run identity_symbols identity_system.rules readings (marked_reading ∷ []) p false).result
-    (pair_run identity_symbols identity_system.rules readings (marked_reading ∷ []) p true).result ms
-
-count_shrinks : PairShrinks count_pair (unit_from 1 ∷ [])
+count_shrinks : shows.pair count_pair true (unit_from 1 ∷ [])
 count_shrinks = one_more_covers
 
 -- the pair with the one number of the set
@@ -131,11 +131,16 @@ pub the_pair : (n : ℕ) (p : PairData) → 0 ≡ n → slice_get identity_pairs
 the_pair zero p e at = cc
 the_pair (suc n) p e at = absurd (omega arith)
 
-pairs_covered : (i : ℕ)
-    → CoversPair identity_symbols identity_system.rules identity_pairs (0 ∷ []) readings (marked_reading ∷ []) pair_moves (0 ∷ []) i
-pairs_covered i n p ms here at line =
-    let shrinks = subst₂ PairShrinks (the_pair n p (get_one 0 n i here).1 at) (get_one (unit_from 1 ∷ []) ms i line).1 count_shrinks in
-    (shrinks.cover, λ dropped. shrinks)
+pairs_covered : (i : ℕ) → IsRightPair shows count_task count_moves.of_pairs count_moves.drop i
+pairs_covered i n p ms strict here at line dropped =
+    let number = (get_one 0 n i here).1 in
+    let moves = (get_one (unit_from 1 ∷ []) ms i line).1 in
+    subst₂ (λ (p : PairData) (ms : List Transfer). shows.pair p strict ms) (the_pair n p number at) moves
+    (by_need n strict number dropped)
+  where
+    by_need : (n : ℕ) (strict : Bool) → 0 ≡ n → IsDropped count_moves.drop n strict → shows.pair count_pair strict (unit_from 1 ∷ [])
+    by_need n true number dropped = count_shrinks
+    by_need n false number stays = absurd (stays (subst (Contains (0 ∷ [])) number (at_head [] 0)))
 
 -- the one symbol with a mark
 
@@ -153,18 +158,17 @@ count_is_marked = record { in_order = tt; each = λ f. (marked f, only f) }
     only f (n, there, (p, found, heading)) = from_one 2 f (sym (heads f p (the_pair n p (in_one 0 n there) found) heading))
 
 -- the conditions of the node
-pub count_covering : IsCovering identity_symbols identity_system.rules identity_pairs (0 ∷ []) readings (marked_reading ∷ []) rule_moves
-    pair_moves (0 ∷ [])
+pub count_covering : IsCovering count_task readings count_moves
 count_covering = record {
-  kinds = refl;
-  marked = count_is_marked;
-  normal = readings_normal;
-  normal_marks = marks_normal;
-  rule_count = refl;
-  pair_count = refl;
-  some_dropped = λ e. absurd (cc);
-  once = λ i j n e f. (get_one 0 n i e).0 ∙ sym (get_one 0 n j f).0;
-  within = All-cons (Contains (0 ∷ [])) 0 [] (at_head [] 0) (All-nil (Contains (0 ∷ [])));
-  rules_covered = rules_covered;
-  pairs_covered = pairs_covered;
+  readings = record { kinds = refl; marked = count_is_marked };
+  normal = record { symbols = symbols_normal; marks = marks_normal };
+  lines = record {
+    rule_count = refl;
+    pair_count = refl;
+    some_dropped = λ e. absurd (cc);
+    once = λ i j n e f. (get_one 0 n i e).0 ∙ sym (get_one 0 n j f).0;
+    within = All-cons (Contains (0 ∷ [])) 0 [] (at_head [] 0) (All-nil (Contains (0 ∷ [])));
+    rules = rules_covered;
+    pairs = pairs_covered;
+  };
 }

@@ -144,7 +144,7 @@ none_kept = record {
 pub identity_proved : Proves identity_symbols identity_system.rules identity_pairs ((0 ∷ 1 ∷ []) ∷ []) identity_nodes
 identity_proved =
     one_proved (by_blocks blocks_are (more_sets (one_set 0) (more_sets (one_set 1) no_sets)))
-    (one_proved (by_poly count_covering none_kept) (one_proved by_done (one_proved (by_alone (none_follows 1)) all_proved)))
+    (one_proved (by_poly count_covering refl none_kept) (one_proved by_done (one_proved (by_alone (none_follows 1)) all_proved)))
 
 -- the set has all pairs
 pub both_pairs : (n : ℕ) → n < length identity_pairs → Contains (0 ∷ 1 ∷ []) n

@@ -27,9 +27,9 @@ Plus {A} R a b = (c : A) × R a c × Many R c b
 pub plus-join : {A : Type 0} {R : A → A → Type 0} {a b c : A} → Plus R a b → Plus R b c → Plus R a c
 plus-join (x, r, m) (y, s, l) = (x, r, many-join m (go s l))
 
--- induction: what passes from all that R leads to holds of what ends
-pub ends_induct : {A : Type 0} {R : A → A → Type 0} (P : A → Type 0) → ((a : A) → ((b : A) → R a b → P b) → P a) → (a : A) → Ends R a → P a
-ends_induct P h a (ends k) = h a (λ b r. ends_induct P h b (k b r))
+pub many-plus : {A : Type 0} {R : A → A → Type 0} {a b c : A} → Many R a b → Plus R b c → Plus R a c
+many-plus stay p = p
+many-plus (go {b = b} r m) (x, s, l) = (b, r, many-join m (go s l))
 
 many_ends : {A : Type 0} {R : A → A → Type 0} {a b : A} → Many R a b → Ends (Plus R) a → Ends (Plus R) b
 many_ends stay e = e

@@ -8,6 +8,7 @@ use Rattle.wh_laws.proofs.PartLaws.{PassesToParts}
 use Rattle.wh_pairs.specs.PairData.{PairData}
 use Rattle.wh_pairs.proofs.MemberLemmas.{none_there, at_head, behind, head_or_behind}
 use Rattle.wh_calls.specs.MarkedCalls.{CallsEnd}
+use Rattle.wh_reduction.specs.TaskData.{task_over}
 use Rattle.wh_polycheck.specs.Covering.{HaveTypedSides}
 use Rattle.wh_meaning.proofs.CoverLaws.{covering_ends}
 use Rattle.wh_proof.specs.Nodes.{Node, AreSetsOf, more_sets, Leaves, by_done, by_alone, by_blocks, by_subterm, by_poly}
@@ -52,10 +53,8 @@ node_keeps S rules pairs made typed (by_blocks {set = set} {parts = parts} {sets
     blocks_end S rules pairs set parts (may_sound-step S rules made) are (block_sets_end S rules pairs parts sets sets_are all)
 node_keeps S rules pairs made typed (by_subterm {set = set} {drop = drop} {rest = rest} {args = args} is kept) all =
     subterm_ends S rules pairs set drop rest args (steps_pass rules) is kept (all rest (at_head [] rest))
-node_keeps S rules pairs made typed (by_poly {set = set} {drop = drop} {rest = rest} {symbols = symbols} {marks = marks}
-    {rule_lines = rule_lines} {pair_lines = pair_lines} is kept) all =
-    covering_ends S rules pairs set symbols marks rule_lines pair_lines drop is made typed rest
-    (λ n inside stays. (kept.each n).1 (inside, stays)) (all rest (at_head [] rest))
+node_keeps S rules pairs made typed (by_poly {set = set} {covered = covered} {rest = rest} {R = R} {E = E} is whole kept) all =
+    covering_ends (task_over S rules pairs set covered) R E is made typed whole rest kept (all rest (at_head [] rest))
 
 -- a list of nodes
 pub proofs_keep : (S : Symbols) (rules : List RewriteRule) (pairs : List PairData) {sets : List (List ℕ)}

@@ -8,9 +8,10 @@ use Rattle.wh_terms.specs.Rules.{RewriteRule}
 use Rattle.wh_pairs.specs.PairData.{PairData}
 use Rattle.wh_system.specs.Systems.{SystemData}
 use Rattle.wh_hopoly.specs.Polynomials.{Polynomial, zero_poly, plus, no_factors, times, no_arguments}
-use Rattle.wh_hopoly.specs.Evaluation.{Interpretation}
+use Rattle.wh_reduction.specs.TaskData.{TaskData, task_over}
+use Rattle.wh_reduction.specs.ReductionPair.{Evidence}
 use Rattle.wh_hopoly.specs.Moves.{Transfer}
-use Rattle.wh_polycheck.specs.Marks.{Mark}
+use Rattle.wh_polycheck.specs.Readings.{ReadingsData}
 use Rattle.wh_proof.specs.Nodes.{Node, done, alone, blocks, poly}
 use Rattle.wh_nodes.specs.MapSystem.{nat, plain_meta}
 
@@ -88,28 +89,32 @@ itself = plus 1 (times 0 no_arguments no_factors) zero_poly
 abbrev pub one_more : Polynomial
 one_more = plus 1 no_factors itself
 
--- s is read as 1 + 1*y0, i as 1*y0 and t as 0
-abbrev pub readings : List Interpretation
-readings =
-    record { kind = unary; polynomial = one_more } ∷ record { kind = unary; polynomial = itself }
-    ∷ record { kind = unary; polynomial = zero_poly } ∷ []
-
--- and the marked t as 1*y0
-abbrev pub marked_reading : Mark
-marked_reading = record { symbol = 2; polynomial = itself }
+-- s is read as 1 + 1*y0, i as 1*y0 and t as 0, and the marked t as 1*y0
+abbrev pub readings : ReadingsData
+readings = record {
+  symbols = record { kind = unary; polynomial = one_more } ∷ record { kind = unary; polynomial = itself }
+      ∷ record { kind = unary; polynomial = zero_poly } ∷ [];
+  marks = record { symbol = 2; polynomial = itself } ∷ [];
+}
 
 -- a unit of the given monomial goes to the first one of the right side
 abbrev pub unit_from : ℕ → Transfer
 unit_from i = record { from = i; to = 0; amount = 1 }
 
--- the first rule keeps X, and the sides of the second one are 0; of the pair's left side 1 + 1*X the constant is left over
-abbrev pub rule_moves : List (List Transfer)
-rule_moves = (unit_from 0 ∷ []) ∷ [] ∷ []
+-- the first rule keeps X, and the sides of the second one are 0; of the pair's left side 1 + 1*X the constant is left over, so that
+-- it is dropped
+abbrev pub count_moves : Evidence (List Transfer)
+count_moves = record {
+  of_rules = (unit_from 0 ∷ []) ∷ [] ∷ [];
+  of_pairs = (unit_from 1 ∷ []) ∷ [];
+  drop = 0 ∷ [];
+}
 
-abbrev pub pair_moves : List (List Transfer)
-pair_moves = (unit_from 1 ∷ []) ∷ []
+-- the set of the first pair alone, and both rules
+abbrev pub count_task : TaskData
+count_task = task_over identity_symbols identity_system.rules identity_pairs (0 ∷ []) (0 ∷ 1 ∷ [])
 
 -- each pair is a block; the first one shrinks, so that no pair is left of its block, and the second one may not follow itself
 abbrev pub identity_nodes : List Node
 identity_nodes =
-    blocks ((0 ∷ []) ∷ (1 ∷ []) ∷ []) ∷ poly readings (marked_reading ∷ []) rule_moves pair_moves (0 ∷ []) ∷ done ∷ alone ∷ []
+    blocks ((0 ∷ []) ∷ (1 ∷ []) ∷ []) ∷ poly count_task.covered readings count_moves ∷ done ∷ alone ∷ []

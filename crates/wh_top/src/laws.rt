@@ -1,6 +1,6 @@
 //! The laws of answers, each the contract of a function that does nothing.
 
-ghost use Rattle.wh_top.specs.Laws.{LoopsAreAccepted, ProofsAreAccepted};
+ghost use Rattle.wh_top.specs.Laws.{LoopsAreAccepted, LoopsMeanUnbounded, ProofsAreAccepted, ProofsMeanBounded};
 ghost use Rattle.std.specs.Prelude.{◌≤◌, ℕ, List, length};
 ghost use Rattle.wh_types.specs.Limits.{certificate_limit};
 ghost use Rattle.wh_answer.specs.declared.report.Report.{Report};
@@ -9,6 +9,9 @@ ghost use Rattle.wh_system.specs.Systems.{SystemData};
 ghost use Rattle.wh_system.specs.WellMade.{IsWellMadeSystem};
 ghost use Rattle.wh_top.specs.Complete.{AreOneAnswer};
 ghost use Rattle.wh_judging.specs.Outcomes.{Judged};
+
+use wh_checker::valid_certificates_mean_bounded;
+use wh_no::valid_claims_are_unbounded;
 
 /// The bytes of a certificate come to one answer, but that values may exceed both limits in one node. So a check answers `YES`
 /// exactly where the bytes are the text of a valid certificate of termination in which no value exceeds a limit, and `NO` exactly where
@@ -35,3 +38,17 @@ pub fn proofs_are_accepted()
 pub fn loops_are_accepted()
     ensures { LoopsAreAccepted }
 {}
+
+/// A proof that the search finds means that every well-typed term is bounded (Kop 2012; Fuhs and Kop 2019).
+pub fn proofs_mean_bounded()
+    ensures { ProofsMeanBounded }
+{
+    valid_certificates_mean_bounded();
+}
+
+/// A loop that the search finds means that the term of its certificate has reductions of every length.
+pub fn loops_mean_unbounded()
+    ensures { LoopsMeanUnbounded }
+{
+    valid_claims_are_unbounded();
+}

@@ -7,7 +7,8 @@ mod program;
 mod proving;
 
 pub use laws::{
-    checks_have_one_answer, each_check_has_an_answer, loops_are_accepted, proofs_are_accepted,
+    checks_have_one_answer, each_check_has_an_answer, loops_are_accepted, loops_mean_unbounded,
+    proofs_are_accepted, proofs_mean_bounded,
 };
 pub use program::{report_no_memory, run};
 pub use wh_judging::Status;

@@ -1,5 +1,5 @@
 -- The side as an expression is typed.
-use Rattle.wh_meaning.proofs.MarkedPairs.{side_has_norm}
+use Rattle.wh_meaning.proofs.SideNorms.{side_has_norm}
 use Rattle.wh_meaning.proofs.terms.sides_have_normal_forms.Goals as goal
 
 pub returns : goal.returns
