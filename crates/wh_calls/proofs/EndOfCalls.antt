@@ -1,5 +1,5 @@
--- Where calls lead to no endless sequence of calls, well-typed terms are bounded; and calls by the steps of a system end
--- where those by its steps on raw bodies do.
+-- Where calls lead to no endless sequence of calls, well-typed terms are bounded; and calls by the steps of a system
+-- end where those by its steps on raw bodies do.
 use Rattle.std.proofs.Common.{◌≡◌, ℕ, List, [], ◌∷◌, ◌⊎◌, inl, inr, Contains, Some, slice_get, refl}
 use Rattle.std.specs.List.{AllByRecursion}
 use Rattle.wh_types.specs.Ty.{Ty}

@@ -14,3 +14,4 @@ pub mod SymbolLaws
 pub mod EndOfCalls
 pub mod Leading
 pub mod Measured
+pub mod ShownMeasures

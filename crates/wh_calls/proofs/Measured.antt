@@ -43,7 +43,8 @@ module _ {S : Symbols} {rules : List RewriteRule} {R : Tm → Tm → Type 0} {A 
   abbrev LessEnd : A → Type 0
   LessEnd a = (b : A) → order.less a b → (c : MarkedCall) → ArgumentsEnd c → measures c b → Ends Big c
 
-  -- where these are done, an induction on the calls by the kept pairs, whose measures have nothing below them that a has not
+  -- where these are done, an induction on the calls by the kept pairs, whose measures have nothing below them that a
+  -- has not
   rest_ends : (a : A) → LessEnd a → (c : MarkedCall) (b : A) → ArgumentsEnd c → measures c b
       → ((x : A) → order.less b x → order.less a x) → Ends Small c → Ends Big c
   rest_ends a done c b all at within (ends k) = ends (λ d s. let (also, how) = outcome b c d all at s in elim how [
@@ -60,7 +61,16 @@ module _ {S : Symbols} {rules : List RewriteRule} {R : Tm → Tm → Type 0} {A 
   ends_measured = calls_end (λ c d typed (p, has, by). let (a, at, down) = are.measured c d typed (p, has, by) in
       measured_call_ends a down d by.minimal at)
 
--- the same where a function measures each call
+-- where a function measures each call, its values are compared
+
+pub function_no_more : {A : Type 0} (order : Orders A) (measure : MarkedCall → A) (a : A) (c d : MarkedCall) → by_function measure c a
+    → order.not_more (measure c) (measure d) → HasNoMore order (by_function measure) a d
+function_no_more order measure a c d at no_more = (measure d, refl, subst (λ x. order.not_more x (measure d)) at no_more)
+
+pub function_less : {A : Type 0} (order : Orders A) (measure : MarkedCall → A) (a : A) (c d : MarkedCall) → by_function measure c a
+    → order.less (measure c) (measure d) → HasLess order (by_function measure) a d
+function_less order measure a c d at less = (measure d, refl, subst (λ x. order.less x (measure d)) at less)
+
 pub function_measures : {S : Symbols} {rules : List RewriteRule} {R : Tm → Tm → Type 0} {A : Type 0} (order : Orders A)
     (measure : MarkedCall → A) {P Q : PairData → Type 0}
     → ((a b c : A) → order.not_more a b → order.less b c → order.less a c)
@@ -72,10 +82,9 @@ pub function_measures : {S : Symbols} {rules : List RewriteRule} {R : Tm → Tm 
 function_measures order measure {P = P} {Q = Q} together down arguments pairs = record {
   together = together;
   measured = λ c d typed (p, has, by). (measure d, refl, down d typed by.minimal);
-  arguments = λ c d a typed at step.
-      (measure d, refl, subst (λ x. order.not_more x (measure d)) at (arguments c d typed step));
+  arguments = λ c d a typed at step. function_no_more order measure a c d at (arguments c d typed step);
   pairs = λ p c d a has typed at by. elim (pairs p c d has typed by) [
-    | inl (stays, no_more) ↦ inl (stays, (measure d, refl, subst (λ x. order.not_more x (measure d)) at no_more))
-    | inr less ↦ inr (measure d, refl, subst (λ x. order.less x (measure d)) at less)
+    | inl (stays, no_more) ↦ inl (stays, function_no_more order measure a c d at no_more)
+    | inr less ↦ inr (function_less order measure a c d at less)
   ];
 }

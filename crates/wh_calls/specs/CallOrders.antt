@@ -1,4 +1,5 @@
--- What the law of reduction pairs asks, whatever orders the calls: two orders that go together, and calls that are measured in them.
+-- What the law of reduction pairs asks, whatever orders the calls: two orders that go together, and calls that are
+-- measured in them.
 use Rattle.std.specs.Prelude.{ℕ, ◌≡◌, ◌<◌, ◌≤◌, ◌⊎◌, List}
 use Rattle.wh_terms.specs.Tree.{Tm}
 use Rattle.wh_terms.specs.Typing.{Symbols}
@@ -7,8 +8,8 @@ use Rattle.wh_pairs.specs.PairData.{PairData}
 use Rattle.wh_laws.specs.Ends.{Ends}
 use Rattle.wh_calls.specs.MarkedCalls.{MarkedCall, IsTypedCall, PairStep, ArgumentsStep, SomePairStep}
 
--- two orders: `less a b` says that b is less than a, and `not_more a b` that b is not more than a (Kop 2012, the two orders of a
--- reduction pair)
+-- two orders: `less a b` says that b is less than a, and `not_more a b` that b is not more than a (Kop 2012, the two
+-- orders of a reduction pair)
 pub record Orders (A : Type 0) : Type 1 where
   pub less : A → A → Type 0
   pub not_more : A → A → Type 0
@@ -29,8 +30,9 @@ HasNoMore {A = A} order measures a c = (b : A) × measures c b × order.not_more
 abbrev pub HasLess : {A : Type 0} → Orders A → (MarkedCall → A → Type 0) → A → MarkedCall → Type 0
 HasLess {A = A} order measures a c = (b : A) × measures c b × order.less a b
 
--- calls are measured in the orders, so that no step makes a measure more, and pairs of which P holds make it less unless Q holds of
--- them (Kop 2012, the reduction pair processor; that the measure is a relation, which calls need not have, is ours)
+-- calls are measured in the orders, so that no step makes a measure more, and pairs of which P holds make it less
+-- unless Q holds of them (Kop 2012, the reduction pair processor; that the measure is a relation, which calls need not
+-- have, is ours)
 pub record AreMeasured (S : Symbols) (rules : List RewriteRule) (R : Tm → Tm → Type 0) {A : Type 0} (order : Orders A)
     (measures : MarkedCall → A → Type 0) (P Q : PairData → Type 0) : Type 0 where
   -- what is less than something that is not more is less

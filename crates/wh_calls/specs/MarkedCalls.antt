@@ -30,8 +30,8 @@ abbrev pub AreTypedBodies : Symbols → PairData → (ℕ → Body) → Type 0
 AreTypedBodies S p g = (z : ℕ) (d : Declared) → OccursIn z (tms_of (p.left ++ p.right)) → slice_get p.metas z ≡ Some d
     → FitsDeclared S [] [] d (g z)
 
--- the pair leads from c to d: these are the values of its sides under one meta-substitution, with bodies of the declared types
--- (Kop 2012; Fuhs and Kop 2019)
+-- the pair leads from c to d: these are the values of its sides under one meta-substitution, with bodies of the
+-- declared types (Kop 2012; Fuhs and Kop 2019)
 pub record PairLeads (S : Symbols) (p : PairData) (c d : MarkedCall) : Type 0 where
   pub bodies : ℕ → Body
   pub typed_bodies : AreTypedBodies S p bodies

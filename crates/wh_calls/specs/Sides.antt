@@ -1,4 +1,5 @@
--- Right sides of rules: when their calls are computable, and what leads from one marked call to another by a call and by a pair.
+-- Right sides of rules: when their calls are computable, and what leads from one marked call to another by a call and
+-- by a pair.
 use Rattle.std.specs.Prelude.{ℕ, ◌≡◌, ◌-◌, List, [], ◌++◌, length, map, take, Contains, Some, slice_get}
 use Rattle.wh_types.specs.Ty.{Ty}
 use Rattle.wh_terms.specs.Tree.{Tm, free, fun, head, spine, tms_of}
@@ -22,16 +23,17 @@ HasComputableBodies S rank R r g =
     (z : ℕ) (q : Declared) → Occurs z r.right → slice_get r.metas z ≡ Some q → IsComputableBody S rank R q (g z)
 
 -- a call is computable under g if its symbol with its arguments is computable where these are and it is well typed: the
--- arguments take their values under g, and any computable terms stand for the binders around the call (Fuhs and Kop 2019)
+-- arguments take their values under g, and any computable terms stand for the binders around the call (Fuhs and Kop
+-- 2019)
 abbrev pub IsComputableUnder : Symbols → (ℕ → ℕ) → (Tm → Tm → Type 0) → (ℕ → Body) → Call → Type 0
 IsComputableUnder S rank R g c = (τ : ℕ → Tm) (vs : List Tm) (cs : List Ty) (b : Ty)
     → ((i : ℕ) (a : Ty) → slice_get c.binders i ≡ Some a → Computable S rank R a (τ i))
     → Values g (tms_of c.arguments) (tms_of vs) → ComputableList S rank R cs (map (act τ free) vs)
     → Typed S [] [] (spine (fun c.symbol) (map (act τ free) vs)) b → Computable S rank R b (spine (fun c.symbol) (map (act τ free) vs))
 
--- the rule leads from the marked call `from` to `to` by a call of its right side: from the value of the left side to that of the
--- call, with well-typed terms for the binders around the call, with as many arguments as the rules of its symbol have, and with
--- any well-typed terms for those that it lacks (Kop 2012; Fuhs and Kop 2019)
+-- the rule leads from the marked call `from` to `to` by a call of its right side: from the value of the left side to
+-- that of the call, with well-typed terms for the binders around the call, with as many arguments as the rules of its
+-- symbol have, and with any well-typed terms for those that it lacks (Kop 2012; Fuhs and Kop 2019)
 pub record IsLedByCall (S : Symbols) (r : RewriteRule) (c : Call) (from to : MarkedCall) : Type 0 where
   pub bodies : ℕ → Body
   pub typed_bodies : TypedBodies S r.metas [] [] bodies r.left

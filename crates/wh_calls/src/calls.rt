@@ -34,9 +34,9 @@ pub fn terms_are_bounded_where_calls_end()
         → (t : Tm) → WellTyped d.symbols t → Bounded d.rules t }
 {}
 
-/// The law of reduction pairs: where no step makes the measure of a call more, and each pair of a set is kept or makes it less,
-/// calls by the set end if calls by the kept pairs do. The lemma behind it takes any orders in place of those of the numbers
-/// (Kop 2012, the reduction pair processor).
+/// The law of reduction pairs: where no step makes the measure of a call more, and each pair of a set is kept or makes
+/// it less, calls by the set end if calls by the kept pairs do. The lemma behind it takes any orders in place of those
+/// of the numbers (Kop 2012, the reduction pair processor).
 pub fn measured_calls_end()
     ensures { (S : Symbols) (rules : List RewriteRule) (pairs : List PairData) (set kept : List ℕ) (measure : MarkedCall → ℕ)
         → AreMeasured S rules (Step rules) by_numbers (by_function measure) (InSet pairs set) (InSet pairs kept)

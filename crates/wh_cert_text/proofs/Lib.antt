@@ -15,3 +15,6 @@ pub mod TextLengths
 pub mod PolyLinesCode
 pub mod YesCode
 pub mod ReadCode
+pub mod ItemsHanded
+pub mod ItemsWhole
+pub mod CertReaderCode

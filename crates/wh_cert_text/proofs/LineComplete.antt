@@ -89,7 +89,7 @@ step_path_run h rule done (suc (suc d) ∷ path) r is =
     let low : suc (suc d) < 2 = All-head (λ (e : ℕ). e < 2) (suc (suc d)) path is in
     absurd (omega arith)
 
-at_path_run : (h : Past) (done path r : List ℕ) → IsPath path → run (stands h (at_path done)) (put_path path (10 ∷ r)) ≡ run (stands (gather h (at_item (done ++ path))) later_line) r
+pub at_path_run : (h : Past) (done path r : List ℕ) → IsPath path → run (stands h (at_path done)) (put_path path (10 ∷ r)) ≡ run (stands (gather h (at_item (done ++ path))) later_line) r
 at_path_run h done [] r is =
     ap (λ (w : List ℕ). run (stands (gather h (at_item w)) later_line) r) (sym (append-nil done))
 at_path_run h done (zero ∷ path) r is =
@@ -104,7 +104,7 @@ at_path_run h done (suc (suc d) ∷ path) r is =
 
 -- lines
 
-head_run : (t : RTm) (r : List ℕ) → TermFits 0 t → run start (codes "NO 1" ++ (10 ∷ (codes "term " ++ put_term t (10 ∷ r)))) ≡ run (stands (begun t []) line) r
+pub head_run : (t : RTm) (r : List ℕ) → TermFits 0 t → run start (codes "NO 1" ++ (10 ∷ (codes "term " ++ put_term t (10 ∷ r)))) ≡ run (stands (begun t []) line) r
 head_run t r f =
     lift_head nothing (m.at m.base m.wanted) (put_term t (10 ∷ r)) ∙ ap (head_scan nothing) (term_run m.base t (10 ∷ r) f refl)
 
@@ -112,7 +112,7 @@ rule_run : (h : Past) (rule : Option ℕ) (r : List ℕ) → RuleFits rule → r
 rule_run h None r f = refl
 rule_run h (Some k) r f = number_run _ _ (reads_rules h) k (32 ∷ 47 ∷ r) f
 
-step_run : (h : Past) (s : taken.Step) (r : List ℕ) → StepFits s → run (stands h line) (put_step s r) ≡ run (stands (gather h (step_item s)) line) r
+pub step_run : (h : Past) (s : taken.Step) (r : List ℕ) → StepFits s → run (stands h line) (put_step s r) ≡ run (stands (gather h (step_item s)) line) r
 step_run h s r f =
     rule_run h s.rule (put_path s.path (10 ∷ r)) f.rule ∙ step_path_run h s.rule [] s.path r f.path
 
@@ -123,7 +123,7 @@ steps_run t done (s ∷ steps) r f =
     ∙ steps_run t (done ++ s ∷ []) steps r (All-tail StepFits s steps f)
     ∙ ap (λ (w : List taken.Step). run (stands (begun t w) line) r) (append_assoc done (s ∷ []) steps)
 
-put_run : (h : Past) (p : Put) (r : List ℕ) → PutFits p → run (stands h later_line) (put_put p r) ≡ run (stands (gather h (put_item p)) later_line) r
+pub put_run : (h : Past) (p : Put) (r : List ℕ) → PutFits p → run (stands h later_line) (put_put p r) ≡ run (stands (gather h (put_item p)) later_line) r
 put_run h p r f =
     number_run _ _ (reads_puts h) p.number (58 ∷ put_part p.kind (32 ∷ put_term p.term (10 ∷ r))) f.number
     ∙ lift_kind h p.number (goes outside type_wanted) (put_part p.kind (32 ∷ put_term p.term (10 ∷ r)))

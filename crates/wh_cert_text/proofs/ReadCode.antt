@@ -76,7 +76,7 @@ nowhere_near : (o : Option RawType) (n : ℕ) (l : NoLine) → putting n o l ≡
 nowhere_near None n l e = absurd cc
 nowhere_near (Some a) n l e = absurd cc
 
-place_finished : (p : LinePlace) (l : NoLine) → (p ≡ Finished → ⊥) → place_of p l ≡ m.finished → ⊥
+pub place_finished : (p : LinePlace) (l : NoLine) → (p ≡ Finished → ⊥) → place_of p l ≡ m.finished → ⊥
 place_finished (Word o i) l h e = absurd cc
 place_finished Term l h e = absurd cc
 place_finished Line l h e = absurd cc

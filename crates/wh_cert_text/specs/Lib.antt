@@ -6,3 +6,6 @@ pub mod LineViews
 pub mod PolyLinesViews
 pub mod YesViews
 pub mod ReadViews
+pub mod ItemsRead
+pub mod Handing
+pub mod Feeding

@@ -1,12 +1,15 @@
 //! The texts of certificates, read byte by byte.
 #![tactic(auto)]
 
+mod cert_reader;
+mod items_out;
 mod laws;
 mod line_reader;
 mod poly_lines;
 mod read;
 mod yes_line;
 
+pub use cert_reader::CertReader;
 pub use laws::{
     no_proper_prefix, one_certificate, one_place, one_text, polynomials_short, text_or_fault,
 };

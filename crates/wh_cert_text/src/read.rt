@@ -230,7 +230,7 @@ impl YesReader {
 }
 
 /// For how many sets a node leaves the same to be shown.
-fn children(node: &Node) -> u64
+pub fn children(node: &Node) -> u64
     ensures { result ≡ children (said_node node.now) }
 {
     match node {

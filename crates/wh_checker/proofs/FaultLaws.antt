@@ -27,7 +27,8 @@ use Rattle.wh_checker.specs.declared.rejected.Rejected.{Rejected}
 use Rattle.wh_pairs.proofs.SetLemmas.{set_one}
 use Rattle.wh_checker.proofs.RowLaws.{break_one, break_or_passing}
 use Rattle.wh_checker.proofs.CoveringLaws.{IsRejection}
-use Rattle.wh_checker.proofs.NodeLaws.{leaves_one, node_said_one, NodesAlike, one_fault, both_exceed, node_fault_one, leaves_or_fault, node_unlimited}
+use Rattle.wh_proof.proofs.OneNode.{one_node_said}
+use Rattle.wh_checker.proofs.NodeLaws.{leaves_one, NodesAlike, one_fault, both_exceed, node_fault_one, leaves_or_fault, node_unlimited}
 
 -- faults that are alike
 
@@ -54,7 +55,7 @@ left_one : (d : SystemData) (ps : List PairData) (set : List ℕ) (line : w.Node
     → SaysNode d line node → Leaves d.symbols d.rules ps set node left → SaysNode d line other → Leaves d.symbols d.rules ps set other rest
     → left ≡ rest
 left_one d ps set line node other left rest apart says leaves also others =
-    let same : node ≡ other = node_said_one d line node other apart says also in
+    let same : node ≡ other = one_node_said d line node other apart says also in
     leaves_one d.symbols d.rules ps set other left rest (subst (λ (n : Node). Leaves d.symbols d.rules ps set n left) same leaves) others
 
 -- a fault behind the first node
@@ -180,7 +181,7 @@ nodes_said_one : (d : SystemData) (lines : List w.Node) (nodes others : List Nod
     → SayNodes d lines others → nodes ≡ others
 nodes_said_one d [] [] [] apart say also = refl
 nodes_said_one d (line ∷ lines) (node ∷ nodes) (other ∷ others) apart (here, rest) (also, more) =
-    cc (node_said_one d line node other apart here also, nodes_said_one d lines nodes others apart rest more)
+    cc (one_node_said d line node other apart here also, nodes_said_one d lines nodes others apart rest more)
 nodes_said_one d [] (node ∷ nodes) others apart say also = absurd say
 nodes_said_one d [] [] (other ∷ others) apart say also = absurd also
 nodes_said_one d (line ∷ lines) [] others apart say also = absurd say

@@ -1,13 +1,15 @@
 -- The answers of the parts of a node's check, as what they say of the node.
-use Rattle.std.proofs.Common.{Contains, ◌≡◌, ◌-◌, ℕ, ◌+◌, ◌<◌, ◌≤◌, List, [], ◌∷◌, ◌++◌, length, map, reverse, drop, get_or, Some, Result, Ok, Err, OnOk, slice_get, refl, sym, ap, subst, ◌∙◌, arith}
-use Rattle.std.proofs.lemmas.List.{drop_more, reverse-append, append-nil}
+use Rattle.std.proofs.Common.{Contains, ◌≡◌, ◌-◌, ℕ, ◌+◌, ◌<◌, ◌≤◌, List, [], ◌∷◌, ◌++◌, length, map, reverse, drop, get_or, Some, All, Result, Ok, Err, OnOk, slice_get, refl, sym, ap, ap₂, subst, ◌∙◌, arith}
+use Rattle.std.proofs.lemmas.List.{drop_more, length-map, reverse-append, append-nil}
 use Rattle.wh_types.specs.Outcome.{IfBecause, MatchOr}
 use Rattle.wh_types.specs.declared.want.Or.{Or}
 use Rattle.wh_types.specs.declared.want.Or.TheVariants.{NoMemory, Because}
 use Rattle.wh_terms.specs.Rules.{RewriteRule}
+use Rattle.wh_terms.specs.Typing.{Symbols}
 use Rattle.wh_system.specs.Systems.{SystemData}
 use Rattle.wh_system.specs.WellMade.{AreDistinct}
-use Rattle.wh_pairs.specs.PairData.{PairData, pair_data}
+use Rattle.wh_pairs.specs.PairData.{PairData, IsIncreasing, pair_data}
+use Rattle.wh_pairs.specs.Views.{pairs_data}
 use Rattle.wh_pairs.specs.declared.pair.Pair.{Pair}
 use Rattle.wh_pairs.proofs.ByPlace.{some_one, read_map}
 use Rattle.wh_graph.specs.May.{May, Follows}
@@ -18,10 +20,11 @@ use Rattle.wh_subterm.specs.declared.projection.SubtermFault.{SubtermFault}
 use Rattle.wh_subterm.specs.declared.projection.SubtermFault.TheVariants.{BadArgs, NoProjection, BadArgument, BadDrop, NotDecreasing}
 use Rattle.wh_cert.specs.Written as w
 use Rattle.wh_cert.specs.Interps.{Interp}
-use Rattle.wh_reduction.specs.TaskData.{numbers_from, whole_task}
+use Rattle.wh_reduction.specs.TaskData.{numbers_from, task_over, whole_task}
 use Rattle.wh_hopoly.specs.declared.expression.Move.{Move}
 use Rattle.wh_polycheck.specs.Readings.{ReadingsData}
-use Rattle.wh_polycheck.specs.Covering.{IsCovering}
+use Rattle.wh_reduction.proofs.Numbers.{numbers_within}
+use Rattle.wh_polycheck.specs.Covering.{IsCovering, HaveTypedSides, IsTypedTask}
 use Rattle.wh_polycheck.specs.Small.{IsSmall}
 use Rattle.wh_proof.specs.Nodes.{done, alone, blocks, subterm, poly, AreSetsOf, more_sets, Leaves, by_done, by_alone, by_blocks, by_subterm, by_poly}
 use Rattle.wh_pairs.specs.Sets.{IsSetOf, IsKept}
@@ -95,6 +98,34 @@ goes_poly d ps set funs lines rules pairs drop rest R (says, marked) is small ke
   small = small;
   after_is = refl;
 }
+
+-- a task of the set in which all rules are to be covered
+pub whole_is : (S : Symbols) (rules : List RewriteRule) (ps : List PairData) (set other covered : List ℕ) → other ≡ set
+    → covered ≡ numbers_from 0 (length rules) → task_over S rules ps other covered ≡ whole_task S rules ps set
+whole_is S rules ps set other covered same all = ap₂ (λ s c. task_over S rules ps s c) same all
+
+-- the task of a set of pairs with typed sides, where all rules are to be covered
+pub typed_task : (d : SystemData) (ps qs : List Pair) (set other covered : List ℕ) → qs ≡ ps → other ≡ set
+    → covered ≡ numbers_from 0 (length d.rules) → All (λ n. n < length ps) set → IsIncreasing set
+    → HaveTypedSides d.symbols d.rules (pairs_data ps) → IsTypedTask (task_over d.symbols d.rules (pairs_data qs) other covered)
+typed_task d ps qs set other covered pairs_same set_same all within increasing typed =
+    subst (λ (l : List Pair). IsTypedTask (task_over d.symbols d.rules (pairs_data l) other covered)) (sym pairs_same)
+    (subst (λ (s : List ℕ). IsTypedTask (task_over d.symbols d.rules (pairs_data ps) s covered)) (sym set_same)
+    (subst (λ (c : List ℕ). IsTypedTask (task_over d.symbols d.rules (pairs_data ps) set c)) (sym all) (record {
+      task = record {
+        within = subst (λ n. All (λ m. m < n) set) (sym (length-map ps pair_data)) within;
+        increasing = increasing;
+        are_rules = numbers_within (length d.rules);
+      };
+      typed = typed;
+    })))
+
+-- the moves of equal lines are equal
+pub moves_are : (rs rules ps pairs : List (List Move)) (ns drop : List ℕ) → rs ≡ rules → ps ≡ pairs → ns ≡ drop
+    → moves_of rs ps ns ≡ moves_of rules pairs drop
+moves_are rs rules ps pairs ns drop r p n =
+    subst (λ x. moves_of rs ps ns ≡ moves_of rules pairs x) n
+    (subst (λ x. moves_of rs ps ns ≡ moves_of rules x ns) p (subst (λ x. moves_of rs ps ns ≡ moves_of x ps ns) r refl))
 
 -- what is left of it comes before other sets
 pub goes_before : (d : SystemData) (ps : List PairData) (set : List ℕ) (line : w.Node) (rest : List ℕ) (sets after : List (List ℕ))

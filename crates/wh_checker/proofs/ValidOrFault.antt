@@ -185,7 +185,7 @@ covering_said d ps set funs lines apart = go (interpretations_or_none d.fun_name
     at_marks : (symbols : List Interpretation) (marks : List Mark) → SayInterpretations d.fun_names d.symbols.funs funs symbols
         → SayMarks d lines marks
         → Decided (AreMarked ps set (marked_numbers marks)) → SaysSome d ps set funs lines ⊎ SaysNothing d ps set funs lines
-    at_marks symbols marks says also (inl marked) = inl (record { symbols = symbols; marks = marks; }, ((says, also), marked))
+    at_marks symbols marks says also (inl marked) = inl (record { symbols = symbols; marks = marks }, ((says, also), marked))
     at_marks symbols marks says also (inr not) =
         inr (λ other said. not (subst (λ (l : List Mark). AreMarked ps set (marked_numbers l))
         (one_marks_said d lines other.marks marks apart said.0.1 also) said.1))

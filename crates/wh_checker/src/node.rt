@@ -7,7 +7,9 @@ ghost use Rattle.wh_system.specs.SystemView.{system_data};
 ghost use Rattle.wh_cert.specs.Said.{said_arg, said_interp, said_node, said_poly};
 ghost use Rattle.wh_cert.specs.Written as w;
 ghost use Rattle.wh_polycheck.specs.ReadingsView.{readings_data};
-ghost use Rattle.wh_polycheck.specs.Covering.{HaveTypedSides};
+ghost use Rattle.wh_reduction.specs.TaskData.{CoversAll};
+ghost use Rattle.wh_reduction.specs.TaskView.{task_data};
+ghost use Rattle.wh_polycheck.specs.Covering.{HaveTypedSides, IsTypedTask};
 ghost use Rattle.wh_polycheck.specs.Small.{with_limits};
 ghost use Rattle.wh_checker.specs.Faults.{IsNodeFault, IsSubtermFault, SayCovering};
 ghost use Rattle.wh_checker.specs.Walk.{IsReduced, IsSingle};
@@ -138,29 +140,6 @@ fn covered(
     let Some(marks) = marks_of_set(alloc, system, pairs, set, node.marks.as_slice())? else {
         return Err(Or::Because(NodeFault::BadSymbols));
     };
-    let readings = Readings {
-        symbols: &symbols,
-        marks: &marks,
-    };
-    covered_by(alloc, system, pairs, set, node, &readings)
-}
-
-// The same under the readings that its lines say. In this version of certificates a node covers all rules.
-fn covered_by<'a>(
-    alloc: Global,
-    system: &System,
-    pairs: &PairList,
-    set: &PairSet,
-    node: &PolyNode,
-    readings: &Readings<'a>,
-) -> Result<PairSet, Or<NodeFault>>
-    requires typed { HaveTypedSides (system_data system.now).symbols (system_data system.now).rules (pairs_data pairs.now) }
-    requires set { All (λ n. n < length pairs.now) set.now }
-    requires says { SayCovering (system_data system.now) (pairs_data pairs.now) set.now (map said_interp node.now.funs)
-        (map said_interp node.now.marks) (readings_data readings.now) }
-    ensures { MatchOr result (λ rest. GoesOn (system_data system.now) (pairs_data pairs.now) set.now (said_poly node.now) [] (rest ∷ []))
-        (IsNodeFault with_limits (system_data system.now) (pairs_data pairs.now) set.now (said_poly node.now)) }
-{
     let rules = all_rules(alloc, system)?;
     let task = Task {
         system,
@@ -168,13 +147,38 @@ fn covered_by<'a>(
         set: set.as_slice(),
         covered: &rules,
     };
+    let readings = Readings {
+        symbols: &symbols,
+        marks: &marks,
+    };
+    covered_by(alloc, &task, set, node, &readings)
+}
+
+// The same under the readings that its lines say, for a task of the set in which all rules are to be covered: so it is in this
+// version of certificates.
+fn covered_by<'a, 'b>(
+    alloc: Global,
+    task: &Task<'a>,
+    set: &PairSet,
+    node: &PolyNode,
+    readings: &Readings<'b>,
+) -> Result<PairSet, Or<NodeFault>>
+    requires typed { IsTypedTask (task_data task.now) }
+    requires set { task.now.set.now ≡ set.now }
+    requires whole { CoversAll (task_data task.now) }
+    requires says { SayCovering (system_data task.now.system.now) (pairs_data task.now.pairs.now) set.now (map said_interp node.now.funs)
+        (map said_interp node.now.marks) (readings_data readings.now) }
+    ensures { MatchOr result (λ rest. GoesOn (system_data task.now.system.now) (pairs_data task.now.pairs.now) set.now (said_poly node.now)
+        [] (rest ∷ [])) (IsNodeFault with_limits (system_data task.now.system.now) (pairs_data task.now.pairs.now) set.now
+        (said_poly node.now)) }
+{
     let evidence = Evidence {
         rules: node.rules.as_slice(),
         pairs: node.pairs.as_slice(),
         drop: node.drop.as_slice(),
     };
-    match check_covering(alloc, &task, readings, &evidence) {
-        Ok(()) => Ok(kept(alloc, set, evidence.drop)?),
+    match check_covering(alloc, task, readings, &evidence) {
+        Ok(()) => Ok(kept(alloc, set, node.drop.as_slice())?),
         Err(Or::Because(fault)) => Err(Or::Because(NodeFault::Poly(fault))),
         Err(Or::NoMemory) => Err(Or::NoMemory),
     }

@@ -105,17 +105,3 @@ ok_so (Err e) P Q f h = tt
 pub ok_both : {T E : Type 0} (r : Result T E) (P Q R : Type 0) → (P → Q → R) → OnOk r P → OnOk r Q → OnOk r R
 ok_both (Ok x) P Q R f h k = f h k
 ok_both (Err e) P Q R f h k = tt
-
--- the pairs of the set have marked sides
-pub set_sides : (S : Symbols) (rules : List RewriteRule) (pairs : List PairData) (set : List ℕ) (marks : List Mark) → HaveTypedSides S rules pairs
-    → AreMarked pairs set (map (λ m. m.symbol) marks) → (n : ℕ) (p : PairData) → Contains set n → slice_get pairs n ≡ Some p → HasMarkedSides S rules marks p
-set_sides S rules pairs set marks typed marked n p found there =
-    typed marks p (contains_at pairs n p there)
-    (has_mark marks p.left_fun ((marked.each p.left_fun).1 (n, found, (p, there, inl refl))))
-    (has_mark marks p.right_fun ((marked.each p.right_fun).1 (n, found, (p, there, inr refl))))
-  where
-    has_mark : (marks : List Mark) (f : ℕ) → Contains (map (λ m. m.symbol) marks) f → HasMark marks f
-    has_mark marks f found =
-        let at = place_of (map (λ m. m.symbol) marks) f found in
-        let of = unmap (λ m. m.symbol) marks at.0 f at.1 in
-        (of.0, contains_at marks at.0 of.0 of.1, of.2)

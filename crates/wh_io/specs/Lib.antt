@@ -1,4 +1,5 @@
 pub mod Outside
+pub mod Pieces
 pub mod Reading
 pub mod Writing
 pub mod Memory

@@ -6,47 +6,14 @@
 ghost use Rattle.std.specs.Prelude.{◌≡◌, ◌≤◌, ℕ, List, length, Some, IfOk, vec_len};
 ghost use Rattle.wh_io.specs.Reading.{ReadsWhole, FaultsTell};
 
-use crate::shelf::{Failed, Shelf};
+use crate::next::{Next, ReadFault};
+use crate::pieces::Pieces;
+use crate::shelf::Shelf;
 use std::alloc::{AllocError, Global};
-use thiserror::Error;
 use wh_types::{Bytes, Or};
 
 /// How many bytes are asked for at once.
-const PIECE: u64 = 65536;
-
-/// Why a file was not read.
-#[derive(Debug, Drop, Error)]
-pub enum ReadFault {
-    /// The shelf failed.
-    #[error("the file could not be read")]
-    Failed,
-    /// The file has more bytes than the limit.
-    #[error("the file is too long")]
-    TooLong,
-}
-
-impl From<ReadFault> for Or<ReadFault> {
-    ghost use Rattle.std.specs.Prelude.{◌≡◌};
-    ghost use Rattle.wh_types.specs.declared.want.Or.TheVariants.{Because};
-
-    ghost from_gives = { λ fault e. e ≡ Because fault };
-
-    fn from(fault: ReadFault) -> Self {
-        Or::Because(fault)
-    }
-}
-
-impl From<Failed> for Or<ReadFault> {
-    ghost use Rattle.std.specs.Prelude.{◌≡◌};
-    ghost use Rattle.wh_types.specs.declared.want.Or.TheVariants.{Because};
-    ghost use Rattle.wh_io.specs.declared.read.ReadFault.TheVariants.{Failed};
-
-    ghost from_gives = { λ _ e. e ≡ Because Failed };
-
-    fn from(_: Failed) -> Self {
-        Or::Because(ReadFault::Failed)
-    }
-}
+const PIECE: usize = 65536;
 
 /// The bytes of the file of that name. It is read to its end, or to one byte past `limit`, which
 /// is enough to know that it is too long.
@@ -67,19 +34,15 @@ pub fn read_whole<S: Shelf>(
     ensures kept { (other : List ℕ) → S.held shelf.new other ≡ S.held shelf.old other }
 {
     let mut bytes = Bytes::new(alloc)?;
-    let mut buffer = zeros(alloc, PIECE as usize)?;
-    let mut have = 0;
-    while have <= limit {
-        let ask = (limit - have).min(PIECE - 1) + 1;
-        let piece = &mut buffer[..ask as usize];
-        let count = shelf.read_at(name, have, piece)?;
-        if count == 0 {
-            return Ok(bytes);
+    let mut buffer = zeros(alloc, PIECE)?;
+    let mut pieces = Pieces::new(limit);
+    loop {
+        let piece = &mut buffer[..];
+        match pieces.next(shelf, name, piece)? {
+            Next::Bytes(count) => bytes.append(&piece[..count])?,
+            Next::End => return Ok(bytes),
         }
-        bytes.append(&piece[..count])?;
-        have += count as u64;
     }
-    Err(Or::Because(ReadFault::TooLong))
 }
 
 /// A buffer of that size, on the heap.

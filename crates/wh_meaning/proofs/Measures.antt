@@ -19,11 +19,14 @@ end_below (suc n) m less = ends (λ k under. end_below n k (omega (arith, less, 
 pub numbers_end : (n : ℕ) → Ends (λ a b. b < a) n
 numbers_end n = end_below (suc n) n (omega arith)
 
+pub numbers_together : (a b c : ℕ) → b ≤ a → c < b → c < a
+numbers_together a b c no_more less = lt_of_lt_of_le less no_more
+
 -- where a number never rises, and falls where a pair is not one of the kept ones, calls end if those by these do
 pub ends_numbered : {S : Symbols} {rules : List RewriteRule} {R : Tm → Tm → Type 0} (measure : MarkedCall → ℕ) {P Q : PairData → Type 0}
     → ((c d : MarkedCall) → IsTypedCall S rules c → ArgumentsStep R c d → measure d ≤ measure c)
     → ((p : PairData) (c d : MarkedCall) → P p → PairStep S R p c d → ((Q p × measure d ≤ measure c) ⊎ measure d < measure c))
     → CallsEnd S rules R Q → CallsEnd S rules R P
 ends_numbered measure arguments pairs kept =
-    ends_measured (function_measures by_numbers measure (λ a b c no_more less. lt_of_lt_of_le less no_more)
+    ends_measured (function_measures by_numbers measure numbers_together
     (λ d typed all. numbers_end (measure d)) arguments (λ p c d has typed by. pairs p c d has by)) kept

@@ -1,4 +1,5 @@
--- Where all rules and pairs are covered, and each pair is kept or strictly covered, calls end if those by the kept pairs do.
+-- Where all rules and pairs are covered, and each pair is kept or strictly covered, calls end if those by the kept
+-- pairs do.
 use Rattle.std.proofs.Common.{◌≡◌, ℕ, List, [], ◌∷◌, ◌++◌, ◌⊎◌, inl, inr, map, Some, slice_get, Contains, ◌≤◌, ◌<◌, ap₂, sym, subst}
 use Rattle.std.specs.Prelude.{take, unwrap_or}
 use Rattle.wh_types.specs.Ty.{arguments}
@@ -62,7 +63,8 @@ module _ (S : Symbols) (rules : List RewriteRule) (R : ReadingsData) (proper : A
   pub arguments_worth : AreWellMade S rules → RulesAreCovered R.symbols rules → (c d : MarkedCall) → IsTypedCall S rules c
       → ArgumentsStep (Step rules) c d → worth_of S rules R d ≤ worth_of S rules R c
   arguments_worth well covered c d t a =
-      let rules_covered = rules_covered_more R.symbols (map (marked_interpretation S rules) R.marks) S rules well proper.interpreted covered in
+      let marked = map (marked_interpretation S rules) R.marks in
+      let rules_covered = rules_covered_more R.symbols marked S rules well proper.interpreted covered in
       subst (λ f. at_symbol f d.arguments ≤ worth_of S rules R c) (sym a.symbol)
       (call_reduct_le S all interprets normal rules well rules_covered (mark_number R.symbols R.marks c.symbol)
       (marked_types S rules c.symbol) 0 c.arguments d.arguments (typed_at_marked S rules c t) a.arguments)

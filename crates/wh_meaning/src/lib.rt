@@ -1,5 +1,5 @@
-//! What interpretations mean: polynomials as weakly monotone functionals, and the laws of their values, each the contract
-//! of a function that does nothing.
+//! What interpretations mean: polynomials as weakly monotone functionals, and the laws of their values, each the
+//! contract of a function that does nothing.
 #![tactic(auto)]
 
 mod calls;

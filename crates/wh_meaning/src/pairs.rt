@@ -20,8 +20,8 @@ ghost use Rattle.wh_polycheck.specs.Readings.{ReadingsData, AreProper};
 ghost use Rattle.wh_polycheck.specs.Covering.{pair_run, IsCovering, HaveTypedSides};
 ghost use Rattle.wh_meaning.specs.PairCovers.{PairIsCovered, PairIsStrictlyCovered};
 
-/// Where readings and moves cover a task, and all rules are to be covered, calls by its set end if calls by the pairs that are not
-/// dropped do (Fuhs and Kop 2012, the reduction pair processor).
+/// Where readings and moves cover a task, and all rules are to be covered, calls by its set end if calls by the pairs
+/// that are not dropped do (Fuhs and Kop 2012, the reduction pair processor).
 pub fn coverings_keep_that_calls_end()
     ensures { (T : TaskData) (R : ReadingsData) (E : Evidence (List Transfer)) (rest : List ℕ) → AreWellMade T.symbols T.rules
         → HaveTypedSides T.symbols T.rules T.pairs → CoversAll T → IsCovering T R E → IsSetOf (IsKept T.set E.drop) rest
@@ -29,9 +29,9 @@ pub fn coverings_keep_that_calls_end()
         → CallsEnd T.symbols T.rules (Step T.rules) (InSet T.pairs T.set) }
 {}
 
-/// Where all rules and all pairs of a set are covered under some readings, and each of these pairs is kept or strictly covered,
-/// calls by the set end if calls by the kept pairs do. The marked symbols have interpretations of their own; the rules are covered
-/// by the symbols' alone (Fuhs and Kop 2012).
+/// Where all rules and all pairs of a set are covered under some readings, and each of these pairs is kept or strictly
+/// covered, calls by the set end if calls by the kept pairs do. The marked symbols have interpretations of their own;
+/// the rules are covered by the symbols' alone (Fuhs and Kop 2012).
 pub fn covers_keep_that_calls_end()
     ensures { (S : Symbols) (rules : List RewriteRule) (R : ReadingsData) (pairs : List PairData) (set kept : List ℕ)
         → AreWellMade S rules → AreProper S rules R → RulesAreCovered R.symbols rules
@@ -48,8 +48,8 @@ pub fn marked_sides_have_normal_forms()
         → IsNormOfPairSide S rules R.symbols R.marks p right (pair_run S rules R p right).result }
 {}
 
-/// Every pair of a well-made system has typed and closed sides: with marks for its two symbols it has all that the evaluation of
-/// its sides asks.
+/// Every pair of a well-made system has typed and closed sides: with marks for its two symbols it has all that the
+/// evaluation of its sides asks.
 pub fn pairs_have_marked_sides()
     ensures { (d : SystemData) (pairs : List PairData) (marks : List Mark) (p : PairData) → IsWellMadeSystem d
         → ArePairs (candidates d.symbols d.rules) pairs → Contains pairs p → HasMark marks p.left_fun → HasMark marks p.right_fun

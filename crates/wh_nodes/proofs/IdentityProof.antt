@@ -1,4 +1,5 @@
--- The worked system that needs interpretations is passing under its one rank, it has two pairs, and its nodes are a proof.
+-- The worked system that needs interpretations is passing under its one rank, it has two pairs, and its nodes are a
+-- proof.
 use Rattle.std.proofs.Common.{◌≡◌, ◌<◌, ℕ, zero, suc, inl, inr, List, [], ◌∷◌, Some, length, slice_get, Contains, refl, sym, ap, ◌∙◌, subst, arith}
 use Rattle.std.proofs.lemmas.List.Elements.{All-from_recursion, All-nil}
 use Rattle.wh_terms.specs.Substitution.{act, acts, cons, up, up_free}

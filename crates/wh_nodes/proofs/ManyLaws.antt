@@ -1,6 +1,7 @@
 -- Sequences of steps: joined, lifted, and of the members of lists.
 use Rattle.std.proofs.Common.{◌≡◌, ℕ, zero, suc, List, ◌⊎◌, inl, inr, Some, slice_get, refl, sym, subst}
 use Rattle.wh_laws.specs.Ends.{Ends, ends, StepsIn, step_here, step_there}
+use Rattle.wh_calls.specs.CallOrders.{Orders}
 use Rattle.wh_nodes.specs.Many.{Many, stay, go}
 use Rattle.wh_pairs.proofs.ByPlace.{some_one}
 
@@ -26,6 +27,10 @@ Plus {A} R a b = (c : A) × R a c × Many R c b
 
 pub plus-join : {A : Type 0} {R : A → A → Type 0} {a b c : A} → Plus R a b → Plus R b c → Plus R a c
 plus-join (x, r, m) (y, s, l) = (x, r, many-join m (go s l))
+
+-- the orders of what one or more steps lead to, and zero or more
+abbrev pub by_steps : {A : Type 0} → (A → A → Type 0) → Orders A
+by_steps R = record { less = Plus R; not_more = Many R }
 
 pub many-plus : {A : Type 0} {R : A → A → Type 0} {a b c : A} → Many R a b → Plus R b c → Plus R a c
 many-plus stay p = p

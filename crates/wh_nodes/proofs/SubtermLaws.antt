@@ -17,11 +17,11 @@ use Rattle.wh_subterm.specs.SubtermRows.{chosen_symbols, IsProjection}
 use Rattle.wh_pairs.proofs.DropLemmas.{contains_or_not}
 use Rattle.wh_subterm.proofs.ProjectionLemmas.{project_one}
 use Rattle.wh_calls.specs.MarkedCalls.{MarkedCall, IsTypedCall, PairLeads, ArgumentsStep, SomePairStep, CallsEnd}
-use Rattle.wh_calls.specs.CallOrders.{Orders, HasNoMore, HasLess, AreMeasured}
+use Rattle.wh_calls.specs.CallOrders.{HasNoMore, HasLess, AreMeasured}
 use Rattle.wh_calls.proofs.Measured.{ends_measured}
 use Rattle.wh_nodes.specs.Many.{Many, stay, go}
 use Rattle.wh_pairs.specs.Sets.{IsSetOf, IsKept, InSet}
-use Rattle.wh_nodes.proofs.ManyLaws.{Plus, many-plus, plus-join, ends-plus, step_at}
+use Rattle.wh_nodes.proofs.ManyLaws.{Plus, by_steps, many-plus, plus-join, ends-plus, step_at}
 use Rattle.wh_nodes.proofs.MayLaws.{values_at}
 
 -- from the value of a meta-term direct subterms lead to the values of its parts
@@ -35,7 +35,7 @@ part_path : {R : Tm → Tm → Type 0} {u t : Tm} (g : ℕ → Body) → Part u 
 part_path g (argument headed at) = argument_path g at
 part_path g (deeper headed at part) = plus-join (argument_path g at) (part_path g part)
 
--- projected arguments of calls
+-- projected arguments of calls, which steps and direct subterms order
 
 abbrev pub ProjectsTo : List Chosen → MarkedCall → Tm → Type 0
 ProjectsTo args c v = IsProjected args c.symbol c.arguments v
@@ -66,13 +66,9 @@ right_projects : {S : Symbols} (args : List Chosen) (p : PairData) (c d : Marked
     (s : PairLeads S p c d) → IsProjected args p.right_fun p.right t → ProjectsTo args d (value s.bodies t)
 right_projects args p c d t s right = projected_value args p.right_fun d.symbol p.right d.arguments t s.right_symbol s.right right
 
--- projected arguments are ordered by steps and direct subterms
-abbrev by_parts : (Tm → Tm → Type 0) → Orders Tm
-by_parts R = record { less = Plus (StepOrPart R); not_more = Many (StepOrPart R) }
-
 -- where an argument steps, the projected one does not get larger
 arguments_project : {R : Tm → Tm → Type 0} (args : List Chosen) (c d : MarkedCall) (v : Tm) → ProjectsTo args c v → ArgumentsStep R c d
-    → HasNoMore (by_parts R) (ProjectsTo args) v d
+    → HasNoMore (by_steps (StepOrPart R)) (ProjectsTo args) v d
 arguments_project {R = R} args c d v here a = let (w, there, h) = projected_step args c d v a here in elim h [
   | inl same ↦ (w, there, subst (Many (StepOrPart R) v) same stay)
   | inr r ↦ (w, there, go (inl r) stay)
@@ -82,7 +78,7 @@ arguments_project {R = R} args c d v here a = let (w, there, h) = projected_step
 
 below_projects : {S : Symbols} {R : Tm → Tm → Type 0} (args : List Chosen) (p : PairData) (c d : MarkedCall) (v : Tm)
     → IsIncreasing (chosen_symbols args) → PairLeads S p c d → ProjectsTo args c v → Below args p
-    → HasLess (by_parts R) (ProjectsTo args) v d
+    → HasLess (by_steps (StepOrPart R)) (ProjectsTo args) v d
 below_projects {R = R} args p c d v up s here (t, u, left, right, part) =
     let is = project_one args c.symbol c.arguments (value s.bodies t) v up (left_projects args p c d t s left) here in (
       value s.bodies u,
@@ -92,7 +88,7 @@ below_projects {R = R} args p c d v up s here (t, u, left, right, part) =
 
 equal_projects : {S : Symbols} {R : Tm → Tm → Type 0} (args : List Chosen) (p : PairData) (c d : MarkedCall) (v : Tm)
     → IsIncreasing (chosen_symbols args) → PairLeads S p c d → ProjectsTo args c v → Equal args p
-    → HasNoMore (by_parts R) (ProjectsTo args) v d
+    → HasNoMore (by_steps (StepOrPart R)) (ProjectsTo args) v d
 equal_projects args p c d v up s here (t, left, right) =
     let is = project_one args c.symbol c.arguments (value s.bodies t) v up (left_projects args p c d t s left) here in
     (v, subst (ProjectsTo args d) is (right_projects args p c d t s right), stay)
@@ -111,7 +107,7 @@ all_at P (u ∷ ts) (suc i) t all e = all_at P ts i t all.1 e
 -- the projected arguments measure the calls
 projections_measure : (S : Symbols) (rules : List RewriteRule) (pairs : List PairData) (set drop rest : List ℕ) (args : List Chosen)
     {R : Tm → Tm → Type 0} → PassesToParts R → IsProjection rules pairs set args drop → IsSetOf (IsKept set drop) rest
-    → AreMeasured S rules R (by_parts R) (ProjectsTo args) (InSet pairs set) (InSet pairs rest)
+    → AreMeasured S rules R (by_steps (StepOrPart R)) (ProjectsTo args) (InSet pairs set) (InSet pairs rest)
 projections_measure S rules pairs set drop rest args {R = R} passes is kept = record {
   together = λ a b c m p. many-plus m p;
   measured = measured;
@@ -128,7 +124,8 @@ projections_measure S rules pairs set drop rest args {R = R} passes is kept = re
 
     pair_lowers : (n : ℕ) (p : PairData) (c d : MarkedCall) (v : Tm) → Contains set n → slice_get pairs n ≡ Some p → ProjectsTo args c v
         → PairLeads S p c d
-        → ((InSet pairs rest p × HasNoMore (by_parts R) (ProjectsTo args) v d) ⊎ HasLess (by_parts R) (ProjectsTo args) v d)
+        → ((InSet pairs rest p × HasNoMore (by_steps (StepOrPart R)) (ProjectsTo args) v d)
+        ⊎ HasLess (by_steps (StepOrPart R)) (ProjectsTo args) v d)
     pair_lowers n p c d v inside at here s = elim (contains_or_not drop n) [
       | inl found ↦ inr (below_projects args p c d v is.marked.in_order s here (is.below n p found at))
       | inr stays ↦ elim (is.decreasing n p inside at) [

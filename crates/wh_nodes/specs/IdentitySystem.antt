@@ -1,5 +1,5 @@
--- A worked system that needs interpretations: the second rule counts a number down, but puts the identity around what is left of it. With
--- it stand its two dependency pairs and the proof of them, as a certificate says it.
+-- A worked system that needs interpretations: the second rule counts a number down, but puts the identity around what
+-- is left of it. With it stand its two dependency pairs and the proof of them, as a certificate says it.
 use Rattle.std.specs.Prelude.{ℕ, List, [], ◌∷◌, codes}
 use Rattle.wh_types.specs.Ty.{Ty, ◌⇒◌}
 use Rattle.wh_terms.specs.Tree.{Tm, fun, meta, app, none}
@@ -101,8 +101,8 @@ readings = record {
 abbrev pub unit_from : ℕ → Transfer
 unit_from i = record { from = i; to = 0; amount = 1 }
 
--- the first rule keeps X, and the sides of the second one are 0; of the pair's left side 1 + 1*X the constant is left over, so that
--- it is dropped
+-- the first rule keeps X, and the sides of the second one are 0; of the pair's left side 1 + 1*X the constant is left
+-- over, so that it is dropped
 abbrev pub count_moves : Evidence (List Transfer)
 count_moves = record {
   of_rules = (unit_from 0 ∷ []) ∷ [] ∷ [];
@@ -114,7 +114,8 @@ count_moves = record {
 abbrev pub count_task : TaskData
 count_task = task_over identity_symbols identity_system.rules identity_pairs (0 ∷ []) (0 ∷ 1 ∷ [])
 
--- each pair is a block; the first one shrinks, so that no pair is left of its block, and the second one may not follow itself
+-- each pair is a block; the first one shrinks, so that no pair is left of its block, and the second one may not follow
+-- itself
 abbrev pub identity_nodes : List Node
 identity_nodes =
     blocks ((0 ∷ []) ∷ (1 ∷ []) ∷ []) ∷ poly count_task.covered readings count_moves ∷ done ∷ alone ∷ []

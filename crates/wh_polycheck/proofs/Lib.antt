@@ -9,3 +9,4 @@ pub mod MarkedSides
 pub mod MarkWalk
 pub mod Pushes
 pub mod SideFacts
+pub mod ProperReadings

@@ -10,6 +10,9 @@ use Rattle.wh_subterm.specs.Projections.{Chosen}
 use Rattle.wh_subterm.specs.SubtermRows.{IsProjection}
 use Rattle.wh_find_subterm.specs.Found.{DropsAllBelow}
 use Rattle.wh_cert.specs.Written as w
+use Rattle.wh_reduction.specs.TaskData.{numbers_from}
+use Rattle.wh_reduction.specs.ReductionPair.{Evidence}
+use Rattle.wh_hopoly.specs.Moves.{Transfer}
 use Rattle.wh_find_moves.specs.Found.{AreApart}
 use Rattle.wh_guesses.specs.Found.{IsInterpretation}
 use Rattle.wh_prover.specs.Searched.{IsSearched}
@@ -154,14 +157,12 @@ adds_subterm d ps set drop rest args line sets after lines longer made few end i
 -- it is of the space that is searched
 interpretation_searched : (d : SystemData) (ps : List PairData) (set : List ℕ) (line : w.Node) → IsInterpretation d ps set line → IsSearched d line
 interpretation_searched d ps set (w.interpretations funs marks rules pairs drop) is = record {
-  symbols = is.symbols;
-  marked = is.marks;
-  says = is.says.0;
-  says_marks = is.says.1;
-  of_space = is.symbols_of_space;
-  marks_of_space = is.marks_of_space;
-  rules_apart = subst (All AreApart) (sym is.says.2) is.rules_apart;
-  pairs_apart = subst (All AreApart) (sym is.says.3) is.pairs_apart;
+  readings = is.readings;
+  says = is.says.1;
+  of_space = is.of_space.symbols_of_space;
+  marks_of_space = is.of_space.marks_of_space;
+  rules_apart = subst (λ (E : Evidence (List Transfer)). All AreApart E.of_rules) is.says.2 is.rules_apart;
+  pairs_apart = subst (λ (E : Evidence (List Transfer)). All AreApart E.of_pairs) is.says.2 is.pairs_apart;
 }
 interpretation_searched d ps set w.done is = tt
 interpretation_searched d ps set w.alone is = tt
@@ -169,7 +170,7 @@ interpretation_searched d ps set (w.blocks parts) is = tt
 interpretation_searched d ps set (w.subterm lines drop) is = tt
 
 pub adds_interpretation : (d : SystemData) (ps : List PairData) (set rest : List ℕ) (line : w.Node) (sets after : List (List ℕ)) (lines longer : List w.Node)
-    → Ended d ps set → HasNoProjection d.rules ps set → (is : IsInterpretation d ps set line) → IsSetOf (IsKept set is.drop) rest → after ≡ rest ∷ sets
+    → Ended d ps set → HasNoProjection d.rules ps set → (is : IsInterpretation d ps set line) → IsSetOf (IsKept set is.evidence.drop) rest → after ≡ rest ∷ sets
     → longer ≡ lines ++ line ∷ [] → Adds d ps set sets after lines longer
 adds_interpretation d ps set rest line sets after lines longer end none is kept after_is joined =
     let covering = is.covering in
@@ -177,10 +178,10 @@ adds_interpretation d ps set rest line sets after lines longer end none is kept 
       line = line;
       joined = joined;
       goes = record {
-        node = poly is.symbols is.marks is.rule_lines is.pair_lines is.drop;
+        node = poly (numbers_from 0 (length d.rules)) is.readings is.evidence;
         left = rest ∷ [];
         says = is.says;
-        leaves = by_poly covering kept;
+        leaves = by_poly covering refl kept;
         small = is.small;
         after_is = after_is;
       };
@@ -188,12 +189,13 @@ adds_interpretation d ps set rest line sets after lines longer end none is kept 
       within = is.within;
       searched = interpretation_searched d ps set line is;
       arrives = All-cons (Arrives d ps) rest [] (behind_interpretation end.arrives end.knot none covering kept) (All-nil (Arrives d ps));
-      lighter = omega (arith, rest_lighter set is.drop rest kept covering.some_dropped covering.within);
+      lighter = omega (arith, rest_lighter set is.evidence.drop rest kept covering.lines.some_dropped covering.lines.within);
     }
 
 -- the pairs that its line drops are those that it drops
-pub dropped_by_interpretation : (d : SystemData) (ps : List PairData) (set : List ℕ) (line : w.Node) → (is : IsInterpretation d ps set line) → dropped_by line ≡ is.drop
-dropped_by_interpretation d ps set (w.interpretations funs marks rules pairs drop) is = is.says.4
+pub dropped_by_interpretation : (d : SystemData) (ps : List PairData) (set : List ℕ) (line : w.Node) → (is : IsInterpretation d ps set line) → dropped_by line ≡ is.evidence.drop
+dropped_by_interpretation d ps set (w.interpretations funs marks rules pairs drop) is =
+    ap (λ (E : Evidence (List Transfer)). E.drop) (sym is.says.2)
 dropped_by_interpretation d ps set w.done is = absurd is.says
 dropped_by_interpretation d ps set w.alone is = absurd is.says
 dropped_by_interpretation d ps set (w.blocks parts) is = absurd is.says

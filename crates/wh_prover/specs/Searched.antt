@@ -6,20 +6,18 @@ use Rattle.wh_cert.specs.Written as w
 use Rattle.wh_cert.specs.Interps.{Interp}
 use Rattle.wh_hopoly.specs.declared.expression.Move as moved
 use Rattle.wh_hopoly.specs.Erase.{transfers}
-use Rattle.wh_hopoly.specs.Evaluation.{Interpretation}
-use Rattle.wh_polycheck.specs.Marks.{Mark, marked_types}
-use Rattle.wh_proof.specs.Looked.{SayInterpretations, SayMarks}
+use Rattle.wh_polycheck.specs.Marks.{marked_types}
+use Rattle.wh_polycheck.specs.Readings.{ReadingsData}
+use Rattle.wh_proof.specs.Looked.{SayReadings}
 use Rattle.wh_find_moves.specs.Found.{AreApart}
 use Rattle.wh_space.specs.Space.{IsOfSpace}
 
--- the lines say interpretations of the space, and in no line of moves are two between the same monomials (ours)
+-- the lines say readings of the space, and in no line of moves are two between the same monomials (ours)
 pub record AreSearched (d : SystemData) (funs marks : List Interp) (rules pairs : List (List moved.Move)) : Type 0 where
-  pub symbols : List Interpretation
-  pub marked : List Mark
-  pub says : SayInterpretations d.fun_names d.symbols.funs funs symbols
-  pub says_marks : SayMarks d marks marked
-  pub of_space : All (λ s. IsOfSpace (arguments s.kind) s.polynomial) symbols
-  pub marks_of_space : All (λ m. IsOfSpace (marked_types d.symbols d.rules m.symbol) m.polynomial) marked
+  pub readings : ReadingsData
+  pub says : SayReadings d funs marks readings
+  pub of_space : All (λ s. IsOfSpace (arguments s.kind) s.polynomial) readings.symbols
+  pub marks_of_space : All (λ m. IsOfSpace (marked_types d.symbols d.rules m.symbol) m.polynomial) readings.marks
   pub rules_apart : All AreApart (map transfers rules)
   pub pairs_apart : All AreApart (map transfers pairs)
 

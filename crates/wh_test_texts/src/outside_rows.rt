@@ -9,8 +9,8 @@ use std::fs;
 use std::process::Abort;
 use std::test::Fail;
 use wh_io::{
-    Failed, FileShelf, MemoryShelf, MemorySink, ReadFault, Shelf, Sink, StdSink, read_whole,
-    write_all_of,
+    Failed, FileShelf, MemoryShelf, MemorySink, Next, Pieces, ReadFault, Shelf, Sink, StdSink,
+    read_whole, write_all_of,
 };
 use wh_types::{Bytes, Or};
 
@@ -135,6 +135,53 @@ fn fails_at_the_stated_reads(rt: HostRuntime) -> Result<(), Fail> {
     Ok(())
 }
 
+/// What is told of a piece: its length, and what it is.
+fn told_of_piece(piece: &Result<Next, ReadFault>) -> (usize, &'static str) {
+    match piece {
+        Ok(Next::Bytes(count)) => (*count, "bytes"),
+        Ok(Next::End) => (0, "end"),
+        Err(ReadFault::Failed) => (0, "failed"),
+        Err(ReadFault::TooLong) => (0, "too long"),
+    }
+}
+
+/// Compares what is told of piece after piece of the file `a`, each with room for two bytes.
+fn expect_pieces<S: Shelf>(rt: &impl Abort, shelf: &mut S, limit: u64, wanted: &[(usize, &str)]) {
+    let mut pieces = Pieces::new(limit);
+    let mut buffer = [0; 2];
+    for (number, want) in wanted.iter().enumerate() {
+        let piece = pieces.next(shelf, "a", &mut buffer);
+        expect_told(rt, "piece", number as u64, told_of_piece(&piece), *want);
+    }
+}
+
+/// Limits and failing reads, with what is told of a text of four bytes, piece after piece. The last answer comes again, also
+/// where the next read would not fail.
+const PIECES: &[(u64, u64, &[(usize, &str)])] = &[
+    (
+        3,
+        9,
+        &[(2, "bytes"), (1, "bytes"), (0, "too long"), (0, "too long")],
+    ),
+    (4, 9, &[(2, "bytes"), (2, "bytes"), (0, "end"), (0, "end")]),
+    (0, 9, &[(0, "too long"), (0, "too long")]),
+    (4, 1, &[(2, "bytes"), (0, "failed"), (0, "failed")]),
+    (
+        4,
+        2,
+        &[(2, "bytes"), (2, "bytes"), (0, "failed"), (0, "failed")],
+    ),
+];
+
+#[test]
+fn gives_pieces_up_to_the_limit(rt: HostRuntime) -> Result<(), Fail> {
+    for (limit, failing, wanted) in PIECES {
+        let mut shelf = failing_shelf(rt.alloc(), b"text", *failing)?;
+        expect_pieces(&rt, &mut shelf, *limit, *wanted);
+    }
+    Ok(())
+}
+
 /// A file with no end, and the end of what was asked for.
 #[derive(Drop)]
 struct Endless {
@@ -243,6 +290,6 @@ fn writes_to_standard_output(rt: HostRuntime) {
 fn causes(rt: HostRuntime) {
     let late: Or<ReadFault> = ReadFault::TooLong.into();
     assert!(rt; matches!(late, Or::Because(ReadFault::TooLong)));
-    let failed: Or<ReadFault> = Failed.into();
+    let failed: Or<ReadFault> = ReadFault::Failed.into();
     assert!(rt; matches!(failed, Or::Because(ReadFault::Failed)));
 }

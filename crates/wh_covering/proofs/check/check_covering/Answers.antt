@@ -4,7 +4,8 @@ use Rattle.wh_polycheck.specs.ReadingsView.{readings_data}
 use Rattle.wh_polycheck.specs.Small.{with_limits}
 use Rattle.wh_covering.specs.EvidenceView.{evidence_data}
 use Rattle.wh_covering.proofs.LineLemmas.{handed_on}
-use Rattle.wh_covering.proofs.CoverWalk.{ok_both, covering_holds, small_holds, set_sides}
+use Rattle.wh_covering.proofs.CoverWalk.{ok_both, covering_holds, small_holds}
+use Rattle.wh_polycheck.proofs.ProperReadings.{sides_of_set}
 use Rattle.wh_covering.proofs.check.check_covering.Goals as goal
 
 pub returns-in_err-check_ready-clause-fault : goal.returns-in_err-check_ready-clause-fault
@@ -24,7 +25,7 @@ pub check_lines-requires-clause-sides : goal.check_lines-requires-clause-sides
 check_lines-requires-clause-sides c n p found there =
     let T = task_data c.args.task.now in
     let R = readings_data c.args.readings.now in
-    set_sides T.symbols T.rules T.pairs T.set R.marks c.requires.task.typed c.requires.readings.marked n p found there
+    sides_of_set T.pairs T.set R.marks c.requires.readings.marked T.symbols T.rules c.requires.task.typed p (n, found, there)
 
 pub returns-clause-covering : goal.returns-clause-covering
 returns-clause-covering c =

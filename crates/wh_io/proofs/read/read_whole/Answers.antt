@@ -1,31 +1,36 @@
-use Rattle.std.proofs.Common.{◌∙◌, ◌<◌, ℕ, length, ap, length-append, arith}
-use Rattle.std.proofs.lemmas.List.{length-take, length-take-le}
-use Rattle.wh_io.proofs.Fronts.{whole_at_end, longer_front}
+use Rattle.std.proofs.Common.{◌∙◌, ◌≡◌, ◌+◌, ◌≤◌, ℕ, length, take, Ok, sym, ap, subst, length-append, arith}
+use Rattle.std.proofs.lemmas.List.{length-take-le, take_all}
+use Rattle.wh_io.specs.Pieces.{Advances, GivesPiece}
+use Rattle.wh_io.specs.declared.next.Next.{Next}
+use Rattle.wh_io.proofs.Fronts.{longer_front}
 use Rattle.wh_io.proofs.read.read_whole.Goals as goal
 
-pub returns-then-count-eq0-clause-whole : goal.returns-then-count-eq0-clause-whole
-returns-then-count-eq0-clause-whole g c = λ file told.
-    let front = c.loop-have.invariant.front file told in
-    let gives = c.in_ok-count.ensures.bytes.1 file (c.loop-have.invariant.kept c.args.name.now ∙ told) in
-    let room : 0 < length c.read_at.new.into = omega (arith, length-take {A = ℕ}) in
-    whole_at_end file c.loop-have.bytes c.read_at.new.into c.loop-have.have c.in_ok-count.count c.args.limit front gives c.if-count-eq0.true room (omega arith)
-
-pub loop-have-preserved : goal.loop-have-preserved
-loop-have-preserved g c =
-    let joined = c.in_ok-append.ensures.ok in
-    let count = c.in_ok-count.count in
-    let into = c.read_at.new.into in
+pub loop-buffer-preserved : goal.loop-buffer-preserved
+loop-buffer-preserved g c =
+    let inv = c.loop-buffer.invariant in
+    let count = c.in-Bytes.count in
+    let into = c.next.new.into in
+    let given = c.loop-buffer.pieces.given in
+    let moved = subst (λ (next : Next). Advances c.loop-buffer.pieces c.next.new.self (length c.deref_mut.result.now) (Ok next)) c.in-Bytes.is (c.in_ok-count.ensures.moves inv.running) in
+    let now : c.next.new.self.given ≡ given + count = ap (λ pieces. pieces.given) moved.3 in
+    let joined = c.in_ok-append-in-Bytes.ensures.ok in
     record {
-      counted =
-          omega (arith, simp length-append at (ap length joined), length-take-le count into c.in_ok-count.ensures.bytes.0);
+      limit = ap (λ pieces. pieces.limit) moved.3 ∙ inv.limit;
+      counted = omega (arith, now, inv.counted, simp length-append at (ap length joined), length-take-le count into (omega (arith, moved.1)));
+      short = omega (arith, now, moved.2, inv.limit);
+      running = ap (λ pieces. pieces.ended) moved.3 ∙ inv.running;
       front = λ file told.
-          joined ∙ longer_front file c.loop-have.bytes into c.loop-have.have count (c.loop-have.invariant.front file told) (c.in_ok-count.ensures.bytes.1 file (c.loop-have.invariant.kept c.args.name.now ∙ told));
-      kept = λ other. c.read_at.ensures.kept other ∙ c.loop-have.invariant.kept other;
-      same = c.in_ok-count.ensures.cause.same ∙ c.loop-have.invariant.same;
-      later = λ other. omega (arith, c.loop-have.invariant.later other, c.read_at.ensures.later other);
+          let piece = subst (λ (next : Next). GivesPiece file c.loop-buffer.pieces.limit given into (Ok next)) c.in-Bytes.is (c.in_ok-count.ensures.piece inv.running file (inv.kept c.args.name.now ∙ told)) in
+          joined ∙ longer_front file c.loop-buffer.bytes into given count (inv.front file told) piece.0 ∙ ap (λ k. take k file) (sym now);
+      kept = λ other. c.next.ensures.kept other ∙ inv.kept other;
+      same = c.in_ok-count.ensures.cause inv.running ∙ inv.same;
+      later = λ other. omega (arith, inv.later other, c.next.ensures.later other);
       piece = omega arith;
     }
 
-pub returns-clause-whole : goal.returns-clause-whole
-returns-clause-whole g c = λ file told.
-    omega (arith, ap length (c.loop-have.invariant.front file told), length-take {A = ℕ})
+pub returns-in-End-clause-whole : goal.returns-in-End-clause-whole
+returns-in-End-clause-whole g c = λ file told.
+    let inv = c.loop-buffer.invariant in
+    let given = c.loop-buffer.pieces.given in
+    let ended : length file ≤ given = subst (λ (next : Next). GivesPiece file c.loop-buffer.pieces.limit given c.next.new.into (Ok next)) c.in-End.is (c.in_ok-count.ensures.piece inv.running file (inv.kept c.args.name.now ∙ told)) in
+    (inv.front file told ∙ take_all given file ended, omega (arith, ended, inv.short))

@@ -28,7 +28,7 @@ returns-in_ok-push-in-Found-2 c =
     let stack = c.args.stack.now.items in
     let rest = c.in_ok-kept-in-Found.field-0 in
     let is : IsInterpretation d ps set line = subst (IsAnswer d ps set c.args.tries) c.in-Found.is c.in_ok-node.ensures in
-    let drops : c.dropped_by.result.now ≡ is.drop = c.dropped_by.ensures ∙ dropped_by_interpretation d ps set line is in
+    let drops : c.dropped_by.result.now ≡ is.evidence.drop = c.dropped_by.ensures ∙ dropped_by_interpretation d ps set line is in
     let kept = subst (λ (s : List ℕ). IsSetOf (IsKept set s) rest) drops c.in_ok-kept-in-Found.ensures in
     adds_interpretation d ps set rest line (reverse stack) (reverse c.push.new.self.items) (map said_node c.args.nodes.now) (map said_node c.push-in-Found.new.self)
     c.requires.ended c.requires.none is kept

@@ -1,0 +1,193 @@
+//! Certificates byte by byte: each item is handed out where its last line is whole, and nothing is kept of those before.
+
+ghost use Rattle.std.specs.Prelude.{◌≡◌, ◌∷◌, ◌++◌, [], ◌<◌, ◌-◌, ◌^◌, ◌+◌, List, ℕ, OnOk, IfOk, IfErr, length};
+ghost use Rattle.std.specs.Option.{option_map, option_to_list};
+ghost use Rattle.wh_types.specs.Outcome.{IfBecause};
+ghost use Rattle.wh_cert.specs.Written.{Cert};
+ghost use Rattle.wh_cert.specs.Items.{Item as said, items};
+ghost use Rattle.wh_cert.specs.Said.{said_item};
+ghost use Rattle.wh_cert.specs.CertText.{Begins, CertText, FaultAt};
+ghost use Rattle.wh_cert_text.specs.LineMachine as m;
+ghost use Rattle.wh_cert_text.specs.LineMachine.{stands, stands_yes, unread};
+ghost use Rattle.wh_cert_text.specs.YesMachine as y;
+ghost use Rattle.wh_cert_text.specs.LineViews.{line_place};
+ghost use Rattle.wh_cert_text.specs.YesViews.{yes_place};
+ghost use Rattle.wh_cert_text.specs.ReadViews.{wanted as wanted_of};
+ghost use Rattle.wh_cert_text.specs.ItemsRead.{ItemsIn};
+ghost use Rattle.wh_cert_text.specs.Feeding.{HeadKnown, Led, OnWant, Refuses, StandsFor, has_ended};
+ghost use Rattle.wh_cert_text.specs.declared.cert_reader.Progress.TheVariants.{Lost};
+
+use crate::items_out::{Taken, YesItems, take_no};
+use crate::line_reader::{LinePlace, NoLine};
+use crate::yes_line::YesPlace;
+use std::alloc::Global;
+use std::mem;
+use wh_cert::{CertSyntax, Item};
+use wh_types::Or;
+
+/// Where the bytes led.
+#[derive(Drop)]
+pub enum Progress {
+    /// Before the first byte.
+    Unread,
+    /// In a YES certificate.
+    Yes(Box<YesItems>),
+    /// In a NO certificate.
+    No(Box<NoLine>),
+    /// Nowhere: the byte behind those that were taken is wrong.
+    Refused,
+    /// On, but no memory was left to say where.
+    Lost,
+}
+
+/// A reader of a certificate, which is given its bytes one by one. It keeps the present lines alone.
+#[derive(Drop)]
+pub struct CertReader {
+    taken: u32,
+    at: Progress,
+    alloc: Global,
+}
+
+impl CertReader {
+    /// Before the first byte.
+    pub fn new(alloc: Global) -> CertReader
+        ensures stands { StandsFor result [] }
+        ensures items { ItemsIn [] [] }
+    {
+        CertReader {
+            taken: 0,
+            at: Progress::Unread,
+            alloc,
+        }
+    }
+
+    /// Takes one more byte, and hands out the item whose last line it ends. Without memory it is not taken, nor is any later
+    /// one.
+    ///
+    /// # Errors
+    /// The bytes begin no certificate text, with the number of those that do. Once this has come it comes at each call.
+    pub fn feed(&mut self, byte: u8) -> Result<Option<Item>, Or<CertSyntax>>
+        requires { (p : List ℕ) × StandsFor self.old p × (length p < 2 ^ 32 - 1) }
+        ensures on { OnOk result ((p : List ℕ) → StandsFor self.old p → length p < 2 ^ 32 - 1
+            → StandsFor self.new (p ++ byte ∷ []) × Begins (p ++ byte ∷ [])) }
+        ensures item { IfOk result (λ item. (p : List ℕ) (is : List said) → StandsFor self.old p → length p < 2 ^ 32 - 1
+            → ItemsIn p is → ItemsIn (p ++ byte ∷ []) (is ++ option_to_list (option_map said_item item))) }
+        ensures stops { IfBecause result (λ e. (p : List ℕ) → StandsFor self.old p → length p < 2 ^ 32 - 1
+            → StandsFor self.new (p ++ byte ∷ []) × FaultAt (p ++ byte ∷ []) e.at × (Begins (p ++ byte ∷ []) → ⊥)) }
+        ensures lost { OnWant result ((p : List ℕ) → StandsFor self.old p → length p < 2 ^ 32 - 1
+            → StandsFor self.new p × Begins p) }
+    {
+        match mem::replace(&mut self.at, Progress::Lost) {
+            Progress::Unread => self.begin(byte),
+            Progress::Yes(lines) => self.feed_yes(lines, byte),
+            Progress::No(line) => self.feed_no(line, byte),
+            Progress::Refused => self.refuse(),
+            Progress::Lost => Err(Or::NoMemory),
+        }
+    }
+
+    /// The bytes are all.
+    ///
+    /// # Errors
+    /// They are no certificate text.
+    pub fn finish(self) -> Result<(), CertSyntax>
+        ensures whole { OnOk result ((p : List ℕ) → StandsFor self p → length p < 2 ^ 32
+            → (c : Cert) × CertText p c × ((is : List said) → ItemsIn p is → is ≡ items c)) }
+        ensures fault { IfErr result (λ e. (p : List ℕ) → StandsFor self p → length p < 2 ^ 32 → FaultAt p e.at) }
+    {
+        if self.has_ended() {
+            return Ok(());
+        }
+        Err(CertSyntax {
+            at: u64::from(self.taken),
+        })
+    }
+
+    /// Whether all of a certificate was read.
+    fn has_ended(&self) -> bool
+        ensures { result ≡ has_ended self.now.at }
+    {
+        match &self.at {
+            Progress::Yes(lines) => matches!(lines.line.place, YesPlace::Finished),
+            Progress::No(line) => matches!(line.place, LinePlace::Finished),
+            Progress::Unread | Progress::Refused | Progress::Lost => false,
+        }
+    }
+
+    /// The byte is wrong.
+    fn refuse(&mut self) -> Result<Option<Item>, Or<CertSyntax>>
+        ensures { Refuses self.old self.new result }
+    {
+        self.at = Progress::Refused;
+        Err(Or::Because(CertSyntax {
+            at: u64::from(self.taken),
+        }))
+    }
+
+    /// On to there.
+    fn go(&mut self, at: Progress)
+        requires { self.old.taken < 2 ^ 32 - 1 }
+        ensures at { self.new.at ≡ at }
+        ensures taken { self.new.taken ≡ self.old.taken + 1 }
+    {
+        self.at = at;
+        self.taken += 1;
+    }
+
+    /// The first byte tells YES from NO.
+    fn begin(&mut self, byte: u8) -> Result<Option<Item>, Or<CertSyntax>>
+        requires room { self.old.taken < 2 ^ 32 - 1 }
+        requires away { self.old.at ≡ Lost }
+        ensures { Led unread self.old self.new byte result }
+    {
+        match byte {
+            b'Y' => {
+                let lines = YesItems::new(self.alloc)?;
+                let lines = Box::new(self.alloc, lines)?;
+                self.go(Progress::Yes(lines));
+            }
+            b'N' => {
+                let line = NoLine::new(self.alloc)?;
+                let line = Box::new(self.alloc, line)?;
+                self.go(Progress::No(line));
+            }
+            _ => return self.refuse(),
+        }
+        Ok(None)
+    }
+
+    /// A byte of a NO certificate.
+    fn feed_no(&mut self, mut line: Box<NoLine>, byte: u8) -> Result<Option<Item>, Or<CertSyntax>>
+        requires room { self.old.taken < 2 ^ 32 - 1 }
+        requires away { self.old.at ≡ Lost }
+        ensures { (h : m.Past) → Led (stands h (line_place line.value)) self.old self.new byte result }
+    {
+        match take_no(&mut line, self.alloc, byte)? {
+            Taken::On(item) => {
+                self.go(Progress::No(line));
+                Ok(item)
+            }
+            Taken::Wrong => self.refuse(),
+        }
+    }
+
+    /// A byte of a YES certificate.
+    fn feed_yes(
+        &mut self,
+        mut lines: Box<YesItems>,
+        byte: u8,
+    ) -> Result<Option<Item>, Or<CertSyntax>>
+        requires room { self.old.taken < 2 ^ 32 - 1 }
+        requires away { self.old.at ≡ Lost }
+        ensures { (h : y.Past) → wanted_of h ≡ lines.value.wanted → HeadKnown h lines.value byte
+            → Led (stands_yes h (yes_place lines.value.line)) self.old self.new byte result }
+    {
+        match lines.take(self.alloc, byte)? {
+            Taken::On(item) => {
+                self.go(Progress::Yes(lines));
+                Ok(item)
+            }
+            Taken::Wrong => self.refuse(),
+        }
+    }
+}

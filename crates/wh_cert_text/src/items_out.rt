@@ -1,0 +1,134 @@
+//! The items that lines of either kind hand out.
+
+ghost use Rattle.std.specs.Prelude.{◌≡◌, ◌<◌, ◌^◌, IfOk, OnErr, MatchOption};
+ghost use Rattle.wh_cert.specs.Said.{said_node};
+ghost use Rattle.wh_cert_text.specs.LineMachine.{line_step};
+ghost use Rattle.wh_cert_text.specs.YesMachine as y;
+ghost use Rattle.wh_cert_text.specs.LineViews.{line_place};
+ghost use Rattle.wh_cert_text.specs.YesViews.{item_of as yes_item, yes_place};
+ghost use Rattle.wh_cert_text.specs.ReadViews.{wanted as wanted_of};
+ghost use Rattle.wh_cert_text.specs.Handing.{Begun, GivesNo, GivesYes, TakesNo, TakesYes};
+ghost use Rattle.wh_cert_text.specs.declared.line_reader.LinePlace.TheVariants as no_place;
+ghost use Rattle.wh_cert_text.specs.declared.yes_line.YesPlace.TheVariants as place;
+
+use crate::line_reader::{Item as NoItem, LinePlace, LineStep, NoLine};
+use crate::read::children;
+use crate::yes_line::{YesItem, YesLine, YesPlace, YesStep};
+use std::alloc::{AllocError, Global};
+use std::mem;
+use wh_cert::{Item, Node};
+use wh_types::Numbers;
+
+/// Where a byte led.
+#[derive(Drop)]
+pub enum Taken {
+    /// On, with the item whose last line it ends.
+    On(Option<Item>),
+    /// Nowhere.
+    Wrong,
+}
+
+/// The lines of a YES certificate since the last item, and what is known of those before.
+#[derive(Drop)]
+pub struct YesItems {
+    /// The lines.
+    pub line: YesLine,
+    /// The ranks, until they are handed out.
+    pub ranks: Numbers,
+    /// How many nodes are still wanted.
+    pub wanted: u64,
+}
+
+impl YesItems {
+    /// Behind the first byte.
+    pub fn new(alloc: Global) -> Result<YesItems, AllocError>
+        ensures { IfOk result Begun }
+    {
+        Ok(YesItems {
+            line: YesLine::new(alloc)?,
+            ranks: Numbers::new(alloc)?,
+            wanted: 0,
+        })
+    }
+
+    /// Where the next byte leads. No memory is needed where all was read.
+    pub fn take(&mut self, alloc: Global, byte: u8) -> Result<Taken, AllocError>
+        ensures takes { IfOk result (λ taken. (h : y.Past) → wanted_of h ≡ self.old.wanted
+            → TakesYes h self.old self.new (y.step (y.wants h) (yes_place self.old.line) byte) taken) }
+        ensures wants { OnErr result (self.old.line.place ≡ place.Finished → ⊥) }
+    {
+        if matches!(self.line.place, YesPlace::Finished) {
+            return Ok(Taken::Wrong);
+        }
+        let wants = self.wanted > 0;
+        match self.line.step(alloc, wants, byte)? {
+            YesStep::On => Ok(Taken::On(None)),
+            YesStep::Gives(item) => Ok(Taken::On(self.hand_out(alloc, item)?)),
+            YesStep::Wrong => Ok(Taken::Wrong),
+        }
+    }
+
+    /// What an item of the lines hands out: the ranks wait for the number of pairs.
+    fn hand_out(&mut self, alloc: Global, item: YesItem) -> Result<Option<Item>, AllocError>
+        ensures line { IfOk result (λ out. self.new.line ≡ self.old.line) }
+        ensures gives { IfOk result (λ out. (h : y.Past) → wanted_of h ≡ self.old.wanted
+            → GivesYes h self.old self.new (yes_item item) out) }
+    {
+        match item {
+            YesItem::Ranks(ranks) => {
+                self.ranks = ranks;
+                Ok(None)
+            }
+            YesItem::Pairs(pairs) => {
+                self.wanted = 1;
+                let ranks = mem::replace(&mut self.ranks, Numbers::new(alloc)?);
+                Ok(Some(Item::YesHead {
+                    version: 1,
+                    ranks,
+                    pairs,
+                }))
+            }
+            YesItem::Node(node) => {
+                self.wanted = wanted_behind(&node, self.wanted).ok_or(AllocError)?;
+                Ok(Some(Item::Node(Box::new(alloc, node)?)))
+            }
+            YesItem::End => Ok(Some(Item::End)),
+        }
+    }
+}
+
+/// How many nodes are wanted behind this one, its children in its place.
+fn wanted_behind(node: &Node, wanted: u64) -> Option<u64>
+    ensures { MatchOption result (Unit {0}) (λ n. (h : y.Past) → wanted_of h ≡ wanted
+        → wanted_of (y.gather h (y.node_item (said_node node.now))) ≡ n) }
+{
+    children(node).checked_add(wanted.saturating_sub(1))
+}
+
+/// Where the next byte of a NO certificate leads. No memory is needed where all was read.
+pub fn take_no(line: &mut NoLine, alloc: Global, byte: u8) -> Result<Taken, AllocError>
+    ensures takes { IfOk result (λ taken. TakesNo line.new (line_step (line_place line.old) byte) taken) }
+    ensures wants { OnErr result (line.old.place ≡ no_place.Finished → ⊥) }
+{
+    if matches!(line.place, LinePlace::Finished) {
+        return Ok(Taken::Wrong);
+    }
+    match line.step(alloc, byte)? {
+        LineStep::On => Ok(Taken::On(None)),
+        LineStep::Gives(item) => Ok(Taken::On(Some(no_item(item)))),
+        LineStep::Wrong => Ok(Taken::Wrong),
+    }
+}
+
+/// The item of a line of a NO certificate.
+fn no_item(item: NoItem) -> Item
+    ensures { GivesNo item result }
+{
+    match item {
+        NoItem::Term(term) => Item::NoHead { term },
+        NoItem::Step(step) => Item::Step(step),
+        NoItem::At(path) => Item::At(path),
+        NoItem::Put(put) => Item::Put(put),
+        NoItem::End => Item::End,
+    }
+}
