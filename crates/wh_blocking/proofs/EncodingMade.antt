@@ -3,24 +3,24 @@ use Rattle.std.proofs.Common.{◌≡◌, ℕ, ◌+◌, ◌<◌, ◌≤◌, List,
 use Rattle.wh_pairs.specs.Marked.{AreMarked}
 use Rattle.wh_space.specs.Space.{space_of}
 use Rattle.wh_guesses.specs.Tasks.{IsTaskOf}
-use Rattle.wh_guesses.specs.Weighing.{AreReadings}
-use Rattle.wh_guesses.specs.declared.readings.Reading.{Reading}
-use Rattle.wh_blocking.specs.Encodings.{system_of, pairs_of, set_of, scopes_for, IsEncoding}
+use Rattle.wh_guesses.specs.Uses.{AreAllUses}
+use Rattle.wh_guesses.specs.declared.uses.Uses.{Uses}
+use Rattle.wh_blocking.specs.Encodings.{task_in, scopes_for, IsEncoding}
 use Rattle.wh_blocking.specs.Numbers.{AreNumbers}
 use Rattle.wh_blocking.specs.Sizes.{first_of}
 use Rattle.wh_blocking.specs.declared.encoding.Encoding.{Encoding}
-use Rattle.wh_blocking.proofs.EncodingLemmas.{first_same, first_total, numbers_long, numbers_read, sizes_long}
+use Rattle.wh_blocking.proofs.EncodingLemmas.{first_same, first_total, numbers_long, numbers_used, sizes_long}
 
-pub encoding_is : (e : Encoding) (readings : List Reading) (rules : ℕ) → IsTaskOf e.task → AreMarked (pairs_of e) (set_of e) e.marked.now
+pub encoding_is : (e : Encoding) (uses : List Uses) (rules : ℕ) → IsTaskOf e.task → AreMarked (task_in e).pairs (task_in e).set e.marked.now
     → e.sizes.items ≡ map (λ Γ. length (space_of Γ)) (scopes_for e)
     → length e.first_bits.items ≡ length e.sizes.items + 1
     → ((n : ℕ) → n ≤ length e.sizes.items → get_or e.first_bits.items n 0 ≡ first_of e.sizes.items n)
     → first_of e.sizes.items (length e.sizes.items) < 4294967296
-    → AreReadings e.task e.marked.now readings → AreNumbers rules readings e.numbers.items → rules ≡ length (system_of e).rules → IsEncoding e
-encoding_is e readings rules task marked sizes count each few are tables rules_are =
+    → AreAllUses (task_in e) e.marked.now uses → AreNumbers rules uses e.numbers.items → rules ≡ length (task_in e).covered → IsEncoding e
+encoding_is e uses rules task marked sizes count each few are tables rules_are =
     let scopes = scopes_for e in
     let long = sizes_long scopes e.sizes.items sizes in
-    let tables' : AreNumbers (length (system_of e).rules) readings e.numbers.items = subst (λ n. AreNumbers n readings e.numbers.items) rules_are tables in
+    let tables' : AreNumbers (length (task_in e).covered) uses e.numbers.items = subst (λ n. AreNumbers n uses e.numbers.items) rules_are tables in
     record {
       task = task;
       marked = marked;
@@ -28,6 +28,6 @@ encoding_is e readings rules task marked sizes count each few are tables rules_a
       few = omega (arith, few, first_total scopes e.sizes.items sizes);
       count = omega (arith, count, long);
       firsts = λ n within. each n (omega (arith, within, long)) ∙ ap (λ l. first_of l n) sizes ∙ first_same scopes n;
-      conditions = numbers_long e.task e.marked.now readings e.numbers.items task are tables';
-      numbers = numbers_read e.task e.marked.now readings e.numbers.items task are tables';
+      conditions = numbers_long (task_in e) e.marked.now uses e.numbers.items task.typed are tables';
+      numbers = numbers_used (task_in e) e.marked.now uses e.numbers.items task.typed are tables';
     }

@@ -1,4 +1,4 @@
--- What a condition comes to depends only on the interpretations that are read in it.
+-- What a condition comes to depends only on the readings of what is used in it.
 use Rattle.std.proofs.Common.{◌≡◌, ◌⊎◌, inl, inr, ℕ, zero, suc, ◌+◌, ◌<◌, ◌≤◌, ◌==◌, Bool, true, false, if◌then◌else◌, List, [], ◌∷◌, ◌++◌, map, length, Some, slice_get, refl, ap, ap₂, sym, subst, subst₂, ◌∙◌, arith}
 use Rattle.std.proofs.lemmas.List.{length-map}
 use Rattle.std.proofs.lemmas.Option.{slice_get_within}
@@ -10,14 +10,16 @@ use Rattle.wh_system.specs.CanonicalView.{side_of}
 use Rattle.wh_pairs.specs.PairData.{PairData}
 use Rattle.wh_pairs.proofs.ByPlace.{contains_at, place_of as place_in_list, unmap, remap}
 use Rattle.wh_pairs.specs.Marked.{AreMarked, HeadsASide}
+use Rattle.wh_reduction.specs.TaskData.{TaskData}
+use Rattle.wh_polycheck.specs.Readings.{ReadingsData}
 use Rattle.wh_hopoly.specs.Arithmetic.{renumber}
 use Rattle.wh_hopoly.specs.Evaluation.{one, next, Expression, var, symbol, lambda, apply, Interpretation, interpretation_at, type_of, codomain, apply_one, evaluate}
 use Rattle.wh_hopoly.proofs.ValueLaws.{interpretation_is}
 use Rattle.wh_polycheck.specs.Sides.{types_of_metas, side, side_applied, side_expression, marked_expression}
 use Rattle.wh_polycheck.specs.Marks.{Mark, marked_types, marked_interpretation, with_marks, place_of, mark_number, HasMark, HasMarkedSides, head_of_side, arguments_of_side}
 use Rattle.wh_polycheck.proofs.MoreInterpretations.{mark_at, mapped}
-use Rattle.wh_polycheck.specs.Covering.{rule_run, pair_run, HaveTypedSides}
-use Rattle.wh_guesses.specs.Conditions.{Condition, covers_rule, covers_pair, some_strictly, IsCondition, of_pair, HasSymbol, SomeHasSymbol, StandsInPair, ReadsSymbol, ReadsMark, IsMet, Meets}
+use Rattle.wh_polycheck.specs.Covering.{rule_run, pair_run, IsTypedTask}
+use Rattle.wh_guesses.specs.Conditions.{Condition, covers_rule, covers_pair, some_strictly, IsCondition, of_pair, HasSymbol, SomeHasSymbol, StandsInPair, UsesSymbol, UsesMark, IsMet, Meets}
 use Rattle.wh_pairs.specs.Sets.{InSet}
 
 -- the interpretations of a list by number
@@ -124,18 +126,30 @@ lt_or_ge (suc i) (suc j) = elim (lt_or_ge i j) [
 pub count_of : (S : Symbols) (xs : List Interpretation) → map (λ s. s.kind) xs ≡ S.funs → length xs ≡ length S.funs
 count_of S xs kinds = sym (length-map xs (λ (s : Interpretation). s.kind)) ∙ ap length kinds
 
-module _ (S : Symbols) (xs ys : List Interpretation) (xs_kinds : map (λ s. s.kind) xs ≡ S.funs)
-    (ys_kinds : map (λ s. s.kind) ys ≡ S.funs) where
+module _ (S : Symbols) (R Q : ReadingsData) (xs_kinds : map (λ s. s.kind) R.symbols ≡ S.funs)
+    (ys_kinds : map (λ s. s.kind) Q.symbols ≡ S.funs) where
+  abbrev xs : List Interpretation
+  xs = R.symbols
+
+  abbrev ys : List Interpretation
+  ys = Q.symbols
+
+  abbrev ms : List Mark
+  ms = R.marks
+
+  abbrev ns : List Mark
+  ns = Q.marks
+
   -- past the end all are alike
-  all_alike : (Reads : ℕ → Type 0) → ((f : ℕ) → f < length S.funs → Reads f → IsAlike xs ys f)
-      → (f : ℕ) → Reads f → IsAlike xs ys f
-  all_alike Reads alike f reads = elim (lt_or_ge f (length S.funs)) [
-    | inl less ↦ alike f less reads
+  all_alike : (Uses : ℕ → Type 0) → ((f : ℕ) → f < length S.funs → Uses f → IsAlike xs ys f)
+      → (f : ℕ) → Uses f → IsAlike xs ys f
+  all_alike Uses alike f uses = elim (lt_or_ge f (length S.funs)) [
+    | inl less ↦ alike f less uses
     | inr not_less ↦ past xs ys f (omega (arith, count_of S xs xs_kinds)) (omega (arith, count_of S ys ys_kinds))
   ]
 
   rule_run_alike : (r : RewriteRule) → ((f : ℕ) → f < length S.funs → HasSymbol f r.left ⊎ HasSymbol f r.right → IsAlike xs ys f)
-      → (right : Bool) → rule_run xs r right ≡ rule_run ys r right
+      → (right : Bool) → rule_run R r right ≡ rule_run Q r right
   rule_run_alike r alike right = evaluate_alike xs ys (types_of_metas r.metas) (side_expression r.metas (side_of right r)) (agrees right)
     where
       all : (f : ℕ) → HasSymbol f r.left ⊎ HasSymbol f r.right → IsAlike xs ys f
@@ -145,7 +159,7 @@ module _ (S : Symbols) (xs ys : List Interpretation) (xs_kinds : map (λ s. s.ki
       agrees false = side_agrees xs ys (length (types_of_metas r.metas)) r.left (λ f s. all f (inl s))
       agrees true = side_agrees xs ys (length (types_of_metas r.metas)) r.right (λ f s. all f (inr s))
 
-  module _ (rules : List RewriteRule) (ms ns : List Mark) where
+  module _ (rules : List RewriteRule) where
     -- a symbol of the system before the marked ones
     symbol_alike : (f : ℕ) → f < length S.funs → IsAlike xs ys f
         → interpretation_at (with_marks S rules xs ms) f ≡ interpretation_at (with_marks S rules ys ns) f
@@ -212,46 +226,44 @@ pair_symbols S rules ms p sides f (inl s) =
 pair_symbols S rules ms p sides f (inr s) =
     all_symbols_below S p.metas [] (tms_of p.right) (marked_types S rules p.right_fun) sides.right_typed f s
 
-pair_of : (rules : List RewriteRule) (pairs : List PairData) (set : List ℕ) (k : ℕ) (p : PairData)
-    → IsCondition rules pairs set k (covers_pair p) → InSet pairs set p
-pair_of rules pairs set k p (of_pair i n q at there) = (n, contains_at set i n at, there)
+pair_of : (T : TaskData) (k : ℕ) (p : PairData) → IsCondition T k (covers_pair p) → InSet T.pairs T.set p
+pair_of T k p (of_pair i n q at there) = (n, contains_at T.set i n at, there)
 
-module _ (S : Symbols) (rules : List RewriteRule) (pairs : List PairData) (set marked : List ℕ)
-    (typed : HaveTypedSides S rules pairs) (are : AreMarked pairs set marked)
-    (xs ys : List Interpretation) (ms ns : List Mark)
-    (xs_kinds : map (λ s. s.kind) xs ≡ S.funs) (ys_kinds : map (λ s. s.kind) ys ≡ S.funs)
-    (ms_are : map (λ m. m.symbol) ms ≡ marked) (ns_are : map (λ m. m.symbol) ns ≡ marked) where
-  marks_are : AreMarked pairs set (map (λ m. m.symbol) ms)
-  marks_are = subst (AreMarked pairs set) (sym ms_are) are
+module _ (T : TaskData) (marked : List ℕ) (task : IsTypedTask T) (are : AreMarked T.pairs T.set marked) (R Q : ReadingsData)
+    (R_kinds : map (λ s. s.kind) R.symbols ≡ T.symbols.funs) (Q_kinds : map (λ s. s.kind) Q.symbols ≡ T.symbols.funs)
+    (R_marks : map (λ m. m.symbol) R.marks ≡ marked) (Q_marks : map (λ m. m.symbol) Q.marks ≡ marked) where
+  marks_are : AreMarked T.pairs T.set (map (λ m. m.symbol) R.marks)
+  marks_are = subst (AreMarked T.pairs T.set) (sym R_marks) are
 
-  pair_run_alike : (p : PairData) → InSet pairs set p
-      → ((f : ℕ) → f < length S.funs → StandsInPair f p → IsAlike xs ys f)
-      → ((i f : ℕ) → slice_get marked i ≡ Some f → HeadsASide f p → slice_get ms i ≡ slice_get ns i)
-      → (right : Bool) → pair_run S rules xs ms p right ≡ pair_run S rules ys ns p right
+  pair_run_alike : (p : PairData) → InSet T.pairs T.set p
+      → ((f : ℕ) → f < length T.symbols.funs → StandsInPair f p → IsAlike R.symbols Q.symbols f)
+      → ((i f : ℕ) → slice_get marked i ≡ Some f → HeadsASide f p → slice_get R.marks i ≡ slice_get Q.marks i)
+      → (right : Bool) → pair_run T.symbols T.rules R p right ≡ pair_run T.symbols T.rules Q p right
   pair_run_alike p of alike marks right =
-      let has = has_mark pairs set ms p marks_are of in
+      let ms = R.marks in
+      let has = has_mark T.pairs T.set ms p marks_are of in
       let h = head_of_side p right in
       let (m, at, is) = mark_at ms h (has h (heads_side p right)) in
       let here : slice_get marked (place_of ms h) ≡ Some h =
-      ap (λ l. slice_get l (place_of ms h)) (sym ms_are) ∙ remap (λ (m : Mark). m.symbol) ms (place_of ms h) m at ∙ ap Some is in
-      let sides = typed ms p (contains_at pairs of.0 p of.2) (has p.left_fun (inl refl)) (has p.right_fun (inr refl)) in
-      call_alike S xs ys xs_kinds ys_kinds rules ms ns (ms_are ∙ sym ns_are) p.metas h (arguments_of_side p right)
+      ap (λ l. slice_get l (place_of ms h)) (sym R_marks) ∙ remap (λ (m : Mark). m.symbol) ms (place_of ms h) m at ∙ ap Some is in
+      let sides = task.typed ms p (contains_at T.pairs of.0 p of.2) (has p.left_fun (inl refl)) (has p.right_fun (inr refl)) in
+      call_alike T.symbols R Q R_kinds Q_kinds T.rules (R_marks ∙ sym Q_marks) p.metas h (arguments_of_side p right)
       (has h (heads_side p right)) (marks (place_of ms h) h here (heads_side p right))
       (λ g stands.
       let s = stands_side p right g stands in
-      let less = pair_symbols S rules ms p sides g s in
+      let less = pair_symbols T.symbols T.rules ms p sides g s in
       (less, alike g less s))
 
-  -- a condition that holds under some interpretations holds under others that agree on what is read in it
-  pub meets_alike : (k : ℕ) (c : Condition) → IsCondition rules pairs set k c
-      → ((f : ℕ) → f < length S.funs → ReadsSymbol pairs set c f → IsAlike xs ys f)
-      → ((i f : ℕ) → slice_get marked i ≡ Some f → ReadsMark pairs set c f → slice_get ms i ≡ slice_get ns i)
-      → Meets S rules pairs set xs ms c → Meets S rules pairs set ys ns c
+  -- a condition that holds under some readings holds under others that agree on what is used in it
+  pub meets_alike : (k : ℕ) (c : Condition) → IsCondition T k c
+      → ((f : ℕ) → f < length T.symbols.funs → UsesSymbol T c f → IsAlike R.symbols Q.symbols f)
+      → ((i f : ℕ) → slice_get marked i ≡ Some f → UsesMark T c f → slice_get R.marks i ≡ slice_get Q.marks i)
+      → Meets T R c → Meets T Q c
   meets_alike k (covers_rule r) is alike marks met =
-      let same = rule_run_alike S xs ys xs_kinds ys_kinds r alike in
+      let same = rule_run_alike T.symbols R Q R_kinds Q_kinds r alike in
       subst₂ (λ left right. IsMet left right false) (same false) (same true) met
   meets_alike k (covers_pair p) is alike marks met =
-      let same = pair_run_alike p (pair_of rules pairs set k p is) alike marks in
+      let same = pair_run_alike p (pair_of T k p is) alike marks in
       subst₂ (λ left right. IsMet left right false) (same false) (same true) met
   meets_alike k some_strictly is alike marks (p, of, met) =
       let same = pair_run_alike p of (λ f less stands. alike f less (p, of, stands)) (λ i f at heads. marks i f at (p, of, heads)) in

@@ -1,18 +1,17 @@
--- Where no bits make all blocked clauses true, no interpretation of the space lets a pair go: interpretations that do make each of
--- them true.
+-- Where no bits make all blocked clauses true, no readings of the space let a pair go: readings that do make each of them
+-- true.
 use Rattle.std.proofs.Common.{◌≡◌, inl, inr, ℕ, zero, suc, ◌+◌, ◌*◌, ◌<◌, ◌≤◌, Bool, true, false, not, cond, if◌then◌else◌, List, [], ◌∷◌, map, length, get_or, take, Some, slice_get, refl, ap, ap₂, sym, subst, ◌∙◌, arith}
 use Rattle.std.proofs.lemmas.Option.{slice_get-get_or}
 use Rattle.wh_types.specs.Ty.{Ty, sort, arguments}
-use Rattle.wh_terms.specs.Typing.{Symbols}
-use Rattle.wh_terms.specs.Rules.{RewriteRule}
-use Rattle.wh_pairs.specs.PairData.{PairData}
+use Rattle.wh_reduction.specs.TaskData.{TaskData}
+use Rattle.wh_polycheck.specs.Readings.{ReadingsData}
 use Rattle.wh_pairs.proofs.ByPlace.{unmap}
 use Rattle.wh_pairs.specs.Marked.{AreMarked}
 use Rattle.wh_hopoly.specs.Polynomials.{Polynomial}
 use Rattle.wh_hopoly.specs.Evaluation.{Interpretation}
 use Rattle.wh_hopoly.proofs.ValueLaws.{interpretation_is}
 use Rattle.wh_polycheck.specs.Marks.{Mark, marked_types}
-use Rattle.wh_polycheck.specs.Covering.{HaveTypedSides}
+use Rattle.wh_polycheck.specs.Covering.{IsTypedTask}
 use Rattle.wh_proof.proofs.InterpretationLemmas.{marked_one}
 use Rattle.wh_sat_trail.specs.declared.literal.Literal.{Literal}
 use Rattle.wh_sat.specs.Learning.{Has}
@@ -20,8 +19,8 @@ use Rattle.wh_sat.specs.Solving.{SolvesGiven, clause_true, literal_true}
 use Rattle.wh_sat.proofs.Assuring.{cases_bool, all_false}
 use Rattle.wh_space.specs.Space.{space_of}
 use Rattle.wh_space.specs.Coefficients.{capped, HasCoefficients}
-use Rattle.wh_guesses.specs.Coefficients.{scopes_of, AreOfSpace}
-use Rattle.wh_guesses.specs.Conditions.{Condition, ReadsSymbol, ReadsMark, ReadsNumber, LetsGo}
+use Rattle.wh_guesses.specs.Coefficients.{scopes_of}
+use Rattle.wh_guesses.specs.Conditions.{Condition, UsesSymbol, UsesMark, UsesNumber, LetsGo, HasNoInterpretation}
 use Rattle.wh_blocking.specs.Bits.{bits_of, first_bit, digits, lists_from, lists_by}
 use Rattle.wh_blocking.specs.Tried.{IsBitOf, AreWritten, IsBlocked}
 use Rattle.wh_blocking.proofs.Locality.{IsAlike, count_of, meets_alike}
@@ -68,15 +67,15 @@ opposed : (b : Bool) → cond (not b) b (not b) ≡ false
 opposed true = refl
 opposed false = refl
 
-module _ (S : Symbols) (rules : List RewriteRule) (pairs : List PairData) (set marked : List ℕ) where
-  -- the coefficients that bits write for the interpretation with this number
+module _ (T : TaskData) (marked : List ℕ) where
+  -- the coefficients that bits write for the reading with this number
   abbrev list_at : (ℕ → Bool) → ℕ → List ℕ
-  list_at v n = get_or (lists_by v (scopes_of S rules marked)) n []
+  list_at v n = get_or (lists_by v (scopes_of T marked)) n []
 
-  module _ (earlier : List (List Literal)) (clause : List Literal) (blocked : IsBlocked S rules pairs set marked earlier clause)
+  module _ (earlier : List (List Literal)) (clause : List Literal) (blocked : IsBlocked T marked earlier clause)
       (v : ℕ → Bool) (wrong : clause_true v clause ≡ false) where
-    -- bits that make a blocked clause false agree with its guess on all that is read in its condition
-    bits_alike : (x : ℕ) → IsBitOf S rules pairs set marked blocked.condition x → v x ≡ blocked.guess x
+    -- bits that make a blocked clause false agree with its guess on all that is used in its condition
+    bits_alike : (x : ℕ) → IsBitOf T marked blocked.condition x → v x ≡ blocked.guess x
     bits_alike x of =
         let l : Literal = record { variable = x; positive = not (blocked.guess x) } in
         let false_there : literal_true blocked.guess l ≡ false = opposed (blocked.guess x) in
@@ -85,11 +84,10 @@ module _ (S : Symbols) (rules : List RewriteRule) (pairs : List PairData) (set m
         subst (λ l. literal_true v l ≡ false) (has.is l) (all_false v clause has.place l wrong has.within) in
         told l.positive (v x) (blocked.guess x) false_here false_there
 
-    coefficients_alike : (n : ℕ) → ReadsNumber (length S.funs) marked pairs set blocked.condition n
-        → list_at v n ≡ list_at blocked.guess n
-    coefficients_alike n reads = lists_alike v blocked.guess (scopes_of S rules marked) n 0 (λ y from below.
+    coefficients_alike : (n : ℕ) → UsesNumber T marked blocked.condition n → list_at v n ≡ list_at blocked.guess n
+    coefficients_alike n uses = lists_alike v blocked.guess (scopes_of T marked) n 0 (λ y from below.
         let e : y ≡ 0 + y = omega arith in
-        subst (λ x. v x ≡ blocked.guess x) e (bits_alike y (n, reads, from, below)))
+        subst (λ x. v x ≡ blocked.guess x) e (bits_alike y (n, uses, from, below)))
 
   same_coefficients : (Γ Δ : List Ty) (cs ds : List ℕ) (p q : Polynomial) → Γ ≡ Δ → cs ≡ ds
       → HasCoefficients Γ cs p → HasCoefficients Δ ds q → p ≡ q
@@ -97,72 +95,68 @@ module _ (S : Symbols) (rules : List RewriteRule) (pairs : List PairData) (set m
       same_polynomial Γ cs ds p q has (subst (λ Γ. HasCoefficients Γ ds q) (sym scopes) also)
       (λ j within. ap (λ cs. capped (get_or cs j 0)) lists)
 
-  -- so the interpretations that the bits write are read alike
-  module _ (v g : ℕ → Bool) (xs ys : List Interpretation) (ms ns : List Mark) (c : Condition)
-      (here : AreWritten S rules pairs set marked v xs ms) (there : AreWritten S rules pairs set marked g ys ns)
-      (alike : (n : ℕ) → ReadsNumber (length S.funs) marked pairs set c n
-      → list_at v n ≡ list_at g n) where
-    symbols_alike : (f : ℕ) → f < length S.funs → ReadsSymbol pairs set c f → IsAlike xs ys f
-    symbols_alike f less reads =
-        let A = get_or S.funs f (sort 0) in
-        let at : slice_get S.funs f ≡ Some A = slice_get-get_or S.funs f (sort 0) less in
-        let (s, s_at, s_kind) = unmap (λ (s : Interpretation). s.kind) xs f A (ap (λ l. slice_get l f) here.kinds ∙ at) in
-        let (t, t_at, t_kind) = unmap (λ (s : Interpretation). s.kind) ys f A (ap (λ l. slice_get l f) there.kinds ∙ at) in
+  -- so the readings that the bits write are alike there
+  module _ (v g : ℕ → Bool) (R Q : ReadingsData) (c : Condition)
+      (here : AreWritten T marked v R) (there : AreWritten T marked g Q)
+      (alike : (n : ℕ) → UsesNumber T marked c n → list_at v n ≡ list_at g n) where
+    symbols_alike : (f : ℕ) → f < length T.symbols.funs → UsesSymbol T c f → IsAlike R.symbols Q.symbols f
+    symbols_alike f less uses =
+        let funs = T.symbols.funs in
+        let A = get_or funs f (sort 0) in
+        let at : slice_get funs f ≡ Some A = slice_get-get_or funs f (sort 0) less in
+        let (s, s_at, s_kind) = unmap (λ (s : Interpretation). s.kind) R.symbols f A (ap (λ l. slice_get l f) here.kinds ∙ at) in
+        let (t, t_at, t_kind) = unmap (λ (s : Interpretation). s.kind) Q.symbols f A (ap (λ l. slice_get l f) there.kinds ∙ at) in
         let kinds : s.kind ≡ t.kind = s_kind ∙ sym t_kind in
         let polynomials : s.polynomial ≡ t.polynomial =
         same_coefficients (arguments s.kind) (arguments t.kind) (list_at v f) (list_at g f) s.polynomial t.polynomial (ap arguments kinds)
-        (alike f (inl (less, reads))) (here.coefficients.of_symbols f s s_at) (there.coefficients.of_symbols f t t_at) in
+        (alike f (inl (less, uses))) (here.coefficients.of_symbols f s s_at) (there.coefficients.of_symbols f t t_at) in
         let same : s ≡ t = ap₂ (λ a p. record { kind = a; polynomial = p }) kinds polynomials in
-        interpretation_is xs f s s_at ∙ same ∙ sym (interpretation_is ys f t t_at)
+        interpretation_is R.symbols f s s_at ∙ same ∙ sym (interpretation_is Q.symbols f t t_at)
 
-    marks_alike : (i f : ℕ) → slice_get marked i ≡ Some f → ReadsMark pairs set c f → slice_get ms i ≡ slice_get ns i
-    marks_alike i f at reads =
-        let (m, m_at, m_is) = unmap (λ (m : Mark). m.symbol) ms i f (ap (λ l. slice_get l i) here.marked_are ∙ at) in
-        let (n, n_at, n_is) = unmap (λ (m : Mark). m.symbol) ns i f (ap (λ l. slice_get l i) there.marked_are ∙ at) in
+    marks_alike : (i f : ℕ) → slice_get marked i ≡ Some f → UsesMark T c f → slice_get R.marks i ≡ slice_get Q.marks i
+    marks_alike i f at uses =
+        let (m, m_at, m_is) = unmap (λ (m : Mark). m.symbol) R.marks i f (ap (λ l. slice_get l i) here.marked_are ∙ at) in
+        let (n, n_at, n_is) = unmap (λ (m : Mark). m.symbol) Q.marks i f (ap (λ l. slice_get l i) there.marked_are ∙ at) in
         let symbols : m.symbol ≡ n.symbol = m_is ∙ sym n_is in
-        let lists : list_at v (length xs + i) ≡ list_at g (length ys + i) =
-        ap (λ k. list_at v (k + i)) (count_of S xs here.kinds)
-        ∙ alike (length S.funs + i) (inr (i, f, refl, at, reads))
-        ∙ ap (λ k. list_at g (k + i)) (sym (count_of S ys there.kinds)) in
+        let lists : list_at v (length R.symbols + i) ≡ list_at g (length Q.symbols + i) =
+        ap (λ k. list_at v (k + i)) (count_of T.symbols R.symbols here.kinds)
+        ∙ alike (length T.symbols.funs + i) (inr (i, f, refl, at, uses))
+        ∙ ap (λ k. list_at g (k + i)) (sym (count_of T.symbols Q.symbols there.kinds)) in
         let polynomials : m.polynomial ≡ n.polynomial =
-        same_coefficients (marked_types S rules m.symbol) (marked_types S rules n.symbol)
-        (list_at v (length xs + i)) (list_at g (length ys + i)) m.polynomial n.polynomial (ap (marked_types S rules) symbols) lists
+        same_coefficients (marked_types T.symbols T.rules m.symbol) (marked_types T.symbols T.rules n.symbol)
+        (list_at v (length R.symbols + i)) (list_at g (length Q.symbols + i)) m.polynomial n.polynomial (ap (marked_types T.symbols T.rules) symbols) lists
         (here.coefficients.of_marks i m m_at) (there.coefficients.of_marks i n n_at) in
         let same : m ≡ n = ap₂ (λ f p. record { symbol = f; polynomial = p }) symbols polynomials in
         m_at ∙ ap Some same ∙ sym n_at
 
-  -- bits of interpretations that let a pair go make every blocked clause true
-  blocked_true : HaveTypedSides S rules pairs → AreMarked pairs set marked
-      → (v : ℕ → Bool) (symbols : List Interpretation) (marks : List Mark)
-      → AreWritten S rules pairs set marked v symbols marks → LetsGo S rules pairs set symbols marks
-      → (earlier : List (List Literal)) (clause : List Literal) → IsBlocked S rules pairs set marked earlier clause
+  -- bits of readings that let a pair go make every blocked clause true
+  blocked_true : IsTypedTask T → AreMarked T.pairs T.set marked
+      → (v : ℕ → Bool) (R : ReadingsData) → AreWritten T marked v R → LetsGo T R
+      → (earlier : List (List Literal)) (clause : List Literal) → IsBlocked T marked earlier clause
       → clause_true v clause ≡ true
-  blocked_true typed are v symbols marks here lets earlier clause blocked = elim (cases_bool (clause_true v clause)) [
+  blocked_true typed are v R here lets earlier clause blocked = elim (cases_bool (clause_true v clause)) [
     | inl right ↦ right
     | inr wrong ↦
         let alike = coefficients_alike earlier clause blocked v wrong in
         let c = blocked.condition in
+        let Q = blocked.readings in
         let there = blocked.written in
-        absurd (blocked.fails (meets_alike S rules pairs set marked typed are symbols blocked.symbols marks blocked.marks
+        absurd (blocked.fails (meets_alike T marked typed are R Q
         here.kinds there.kinds here.marked_are there.marked_are blocked.number c blocked.is
-        (symbols_alike v blocked.guess symbols blocked.symbols marks blocked.marks c here there alike)
-        (marks_alike v blocked.guess symbols blocked.symbols marks blocked.marks c here there alike)
+        (symbols_alike v blocked.guess R Q c here there alike)
+        (marks_alike v blocked.guess R Q c here there alike)
         (lets blocked.number c blocked.is)))
   ]
 
 -- clauses of which those that were given are blocked, and which no bits solve
-pub nothing : (S : Symbols) (rules : List RewriteRule) (pairs : List PairData) (set marked : List ℕ)
-    (clauses : List (List Literal)) (learnt : List Bool)
-    → HaveTypedSides S rules pairs → AreMarked pairs set marked
-    → ((k : ℕ) → k < length clauses → get_or learnt k false ≡ false
-    → IsBlocked S rules pairs set marked (take k clauses) (get_or clauses k []))
+pub nothing : (T : TaskData) (marked : List ℕ) (clauses : List (List Literal)) (learnt : List Bool)
+    → IsTypedTask T → AreMarked T.pairs T.set marked
+    → ((k : ℕ) → k < length clauses → get_or learnt k false ≡ false → IsBlocked T marked (take k clauses) (get_or clauses k []))
     → ((v : ℕ → Bool) → SolvesGiven v clauses learnt → ⊥)
-    → (symbols : List Interpretation) (marks : List Mark) → AreOfSpace S rules pairs set symbols marks
-    → LetsGo S rules pairs set symbols marks → ⊥
-nothing S rules pairs set marked clauses learnt typed are blocked unsolved symbols marks of lets =
-    let same : map (λ m. m.symbol) marks ≡ marked = marked_one pairs set (map (λ m. m.symbol) marks) marked of.marked are in
-    let (v, by) = written S rules pairs set symbols marks of in
-    let here = subst (λ l. AreWritten S rules pairs set l v symbols marks) same by in
+    → HasNoInterpretation T
+nothing T marked clauses learnt typed are blocked unsolved R of lets =
+    let same : map (λ m. m.symbol) R.marks ≡ marked = marked_one T.pairs T.set (map (λ m. m.symbol) R.marks) marked of.readings.marked are in
+    let (v, by) = written T R of in
+    let here = subst (λ l. AreWritten T l v R) same by in
     unsolved v (λ k below given.
-    blocked_true S rules pairs set marked typed are v symbols marks here lets (take k clauses) (get_or clauses k [])
-    (blocked k below given))
+    blocked_true T marked typed are v R here lets (take k clauses) (get_or clauses k []) (blocked k below given))

@@ -1,28 +1,28 @@
--- The numbers of what is read.
+-- The numbers of what is used.
 use Rattle.std.proofs.Common.{◌≡◌, ℕ, zero, suc, ◌+◌, inl, inr, List, [], ◌∷◌, ◌++◌, length, drop, Some, slice_get, Contains, refl, ap, sym, subst, ◌∙◌, arith}
 use Rattle.std.specs.Global.{Vec}
 use Rattle.std.proofs.lemmas.Option.{slice_get_within, slice_get_past, none-some, same_Some}
 use Rattle.std.proofs.lemmas.List.Elements.{Contains-append_left, Contains-append_right, Contains-append_cases}
 use Rattle.std.proofs.lemmas.List.{length_push}
-use Rattle.wh_guesses.specs.declared.readings.Reading.{Reading}
+use Rattle.wh_guesses.specs.declared.uses.Uses.{Uses}
 use Rattle.wh_space.proofs.PushLemmas.{EachAt, each_push, slice_get_push}
 use Rattle.wh_blocking.specs.Numbers.{AreNumbers, HaveSame, on_sides}
 use Rattle.std.specs.List.{flat_map}
 
--- the list has the numbers of the reading at that place
-abbrev pub OfReading : List Reading → ℕ → Vec ℕ → Type 0
-OfReading readings k ns = (r : Reading) → slice_get readings k ≡ Some r → HaveSame ns.items (on_sides r)
+-- the list has the numbers of what is used at that place
+abbrev pub OfUses : List Uses → ℕ → Vec ℕ → Type 0
+OfUses uses k ns = (r : Uses) → slice_get uses k ≡ Some r → HaveSame ns.items (on_sides r)
 
--- the last list joins those of the readings
-pub numbers_end : (rules : ℕ) (readings : List Reading) (made new : List (Vec ℕ)) (last : Vec ℕ) → new ≡ made ++ last ∷ [] → length made ≡ length readings
-    → EachAt (OfReading readings) made → HaveSame last.items (flat_map on_sides (drop rules readings)) → AreNumbers rules readings new
-numbers_end rules readings made new last is count each all = record {
+-- the last list joins those of all
+pub numbers_end : (rules : ℕ) (uses : List Uses) (made new : List (Vec ℕ)) (last : Vec ℕ) → new ≡ made ++ last ∷ [] → length made ≡ length uses
+    → EachAt (OfUses uses) made → HaveSame last.items (flat_map on_sides (drop rules uses)) → AreNumbers rules uses new
+numbers_end rules uses made new last is count each all = record {
   count = ap length is ∙ length_push made last ∙ ap (λ n. n + 1) count;
-  each = λ k r ns read at. each_push (OfReading readings) made new last is each
-      (λ r' past. absurd (none-some r' (sym (slice_get_past readings (length made) (omega (arith, count))) ∙ past))) k ns at r read;
-  last = λ ns at. elim (slice_get_push made last (length readings) ns (sym (ap (λ (l : List (Vec ℕ)). slice_get l (length readings)) is) ∙ at)) [
-    | inl before ↦ absurd (omega (arith, slice_get_within made (length readings) ns before, count))
-    | inr (place, same) ↦ subst (λ (v : Vec ℕ). HaveSame v.items (flat_map on_sides (drop rules readings))) same all
+  each = λ k r ns read at. each_push (OfUses uses) made new last is each
+      (λ r' past. absurd (none-some r' (sym (slice_get_past uses (length made) (omega (arith, count))) ∙ past))) k ns at r read;
+  last = λ ns at. elim (slice_get_push made last (length uses) ns (sym (ap (λ (l : List (Vec ℕ)). slice_get l (length uses)) is) ∙ at)) [
+    | inl before ↦ absurd (omega (arith, slice_get_within made (length uses) ns before, count))
+    | inr (place, same) ↦ subst (λ (v : Vec ℕ). HaveSame v.items (flat_map on_sides (drop rules uses))) same all
   ];
 }
 

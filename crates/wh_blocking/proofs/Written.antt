@@ -1,16 +1,13 @@
--- All interpretations of the space are written by some bits.
+-- All readings of the space are written by some bits.
 use Rattle.std.proofs.Common.{◌≡◌, ℕ, zero, suc, ◌+◌, ◌*◌, ◌<◌, ◌≤◌, Bool, true, false, if◌then◌else◌, nat_lt, List, [], ◌∷◌, ◌++◌, map, length, refl, ap, ap₂, sym, subst, ◌∙◌, arith}
 use Rattle.wh_types.specs.Ty.{Ty}
-use Rattle.wh_terms.specs.Typing.{Symbols}
-use Rattle.wh_terms.specs.Rules.{RewriteRule}
-use Rattle.wh_pairs.specs.PairData.{PairData}
-use Rattle.wh_hopoly.specs.Evaluation.{Interpretation}
-use Rattle.wh_polycheck.specs.Marks.{Mark}
+use Rattle.wh_reduction.specs.TaskData.{TaskData}
+use Rattle.wh_polycheck.specs.Readings.{ReadingsData}
 use Rattle.wh_space.specs.Space.{space_of}
 use Rattle.wh_guesses.specs.Coefficients.{scopes_of, HaveCoefficients, AreOfSpace}
 use Rattle.wh_blocking.specs.Bits.{bits_of, digit, digits, lists_from, lists_by}
 use Rattle.wh_blocking.specs.Tried.{AreWritten}
-use Rattle.wh_guesses.proofs.OfSpace.{AreSmall, AreListsFor, all_lists, all_for, have_coefficients, each_symbol, each_mark}
+use Rattle.wh_guesses.proofs.OfSpace.{AreSmall, AreListsFor, all_lists, all_for, have_coefficients}
 
 -- numbers to 3 by two bits each
 
@@ -81,30 +78,24 @@ lists_are v x (Γ ∷ scopes) (cs ∷ lists) fit written =
     ap v e ∙ written (2 * length cs + y) ∙ bit_behind cs (joined lists) y) in
     ap₂ (λ cs lists. cs ∷ lists) here rest
 
-module _ (S : Symbols) (rules : List RewriteRule) (symbols : List Interpretation) (marks : List Mark) where
+module _ (T : TaskData) (R : ReadingsData) where
   -- the bits that write the coefficients
   abbrev all_bits : ℕ → Bool
-  all_bits = bit (joined (all_lists S rules symbols marks))
+  all_bits = bit (joined (all_lists T R))
 
-  lists_by_bits : AreListsFor (scopes_of S rules (map (λ m. m.symbol) marks)) (all_lists S rules symbols marks)
-      → lists_by all_bits (scopes_of S rules (map (λ m. m.symbol) marks)) ≡ all_lists S rules symbols marks
+  lists_by_bits : AreListsFor (scopes_of T (map (λ m. m.symbol) R.marks)) (all_lists T R)
+      → lists_by all_bits (scopes_of T (map (λ m. m.symbol) R.marks)) ≡ all_lists T R
   lists_by_bits fit =
-      lists_are all_bits 0 (scopes_of S rules (map (λ m. m.symbol) marks)) (all_lists S rules symbols marks) fit
+      lists_are all_bits 0 (scopes_of T (map (λ m. m.symbol) R.marks)) (all_lists T R) fit
       (λ y. let e : 0 + y ≡ y = omega arith in ap all_bits e)
 
-pub written : (S : Symbols) (rules : List RewriteRule) (pairs : List PairData) (set : List ℕ)
-    (symbols : List Interpretation) (marks : List Mark)
-    → AreOfSpace S rules pairs set symbols marks
-    → (v : ℕ → Bool) × AreWritten S rules pairs set (map (λ m. m.symbol) marks) v symbols marks
-written S rules pairs set symbols marks are =
-    let of_symbols = each_symbol S rules pairs set symbols marks are in
-    let of_marks = each_mark S rules pairs set symbols marks are in
-    let is = lists_by_bits S rules symbols marks (all_for S rules symbols marks of_symbols of_marks are.kinds) in (
-      all_bits S rules symbols marks,
+pub written : (T : TaskData) (R : ReadingsData) → AreOfSpace T R → (v : ℕ → Bool) × AreWritten T (map (λ m. m.symbol) R.marks) v R
+written T R are =
+    let is = lists_by_bits T R (all_for T R are) in (
+      all_bits T R,
       record {
-        kinds = are.kinds;
+        kinds = are.readings.kinds;
         marked_are = refl;
-        coefficients = subst (λ lists. HaveCoefficients S rules lists symbols marks) (sym is)
-            (have_coefficients S rules symbols marks of_symbols of_marks);
+        coefficients = subst (λ lists. HaveCoefficients T lists R) (sym is) (have_coefficients T R are);
       },
     )

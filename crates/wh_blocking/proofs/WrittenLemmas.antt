@@ -2,11 +2,9 @@
 use Rattle.std.proofs.Common.{◌≡◌, ℕ, ◌<◌, Bool, List, length, map, ap, sym, subst, ◌∙◌, arith}
 use Rattle.std.specs.Global.{Vec}
 use Rattle.std.proofs.lemmas.List.{length-map}
-use Rattle.wh_hopoly.specs.Erase.{interpretations}
-use Rattle.wh_polycheck.specs.SideResults.{marks_of}
 use Rattle.wh_guesses.specs.Coefficients.{HaveCoefficients}
-use Rattle.wh_guesses.specs.Tasks.{IsGuessOf}
-use Rattle.wh_blocking.specs.Encodings.{system_of, scopes_for, IsEncoding, IsWritten}
+use Rattle.wh_guesses.specs.Tasks.{IsGuessOf, guess_data}
+use Rattle.wh_blocking.specs.Encodings.{task_in, scopes_for, IsEncoding, IsWritten}
 use Rattle.wh_blocking.specs.Sizes.{bits_in, lists_of, value_of}
 use Rattle.wh_blocking.specs.declared.encoding.Encoding.{Encoding}
 use Rattle.wh_blocking.specs.declared.guessing.WrittenGuess.{WrittenGuess}
@@ -20,15 +18,14 @@ pub written_is : (e : Encoding) (w : WrittenGuess) (values : List Bool) (sizes :
     → values ≡ w.values.items → sizes ≡ e.sizes.items → lists ≡ w.lists.items
     → map (λ l. l.items) w.lists.items ≡ lists_of (value_of values) 0 sizes
     → IsGuessOf e.task w.guess → map (λ m. m.symbol) w.guess.marks.items ≡ e.marked.now
-    → HaveCoefficients (system_of e).symbols (system_of e).rules (map (λ l. l.items) lists) (interpretations w.guess.symbols.items) (marks_of w.guess.marks.items)
+    → HaveCoefficients (task_in e) (map (λ l. l.items) lists) (guess_data w.guess)
     → IsWritten e w
 written_is e w values sizes lists enc values_are sizes_are lists_is by guess marks coefficients = record {
   guess = guess;
   marks = marks;
   lists = lists_are (scopes_for e) sizes (value_of w.values.items) (map (λ l. l.items) w.lists.items) (sizes_are ∙ enc.sizes)
       (by ∙ ap (λ (l : List Bool). lists_of (value_of l) 0 sizes) values_are);
-  coefficients = subst (λ (l : List (Vec ℕ)). HaveCoefficients (system_of e).symbols (system_of e).rules (map (λ l. l.items) l)
-      (interpretations w.guess.symbols.items) (marks_of w.guess.marks.items)) lists_is coefficients;
+  coefficients = subst (λ (l : List (Vec ℕ)). HaveCoefficients (task_in e) (map (λ l. l.items) l) (guess_data w.guess)) lists_is coefficients;
 }
 
 -- the lists of two guesses are equally many

@@ -1,46 +1,41 @@
 -- Lists of clauses on the bits of coefficients that a search by guesses makes: each shuts out a guess under which a condition fails, or
 -- follows from those before it.
 use Rattle.std.specs.Prelude.{ℕ, suc, ◌<◌, ◌≤◌, ◌≡◌, ◌⊎◌, ◌↔◌, Bool, false, List, [], length, map, take, get_or}
-use Rattle.wh_terms.specs.Typing.{Symbols}
-use Rattle.wh_terms.specs.Rules.{RewriteRule}
-use Rattle.wh_pairs.specs.PairData.{PairData}
-use Rattle.wh_hopoly.specs.Evaluation.{Interpretation}
-use Rattle.wh_polycheck.specs.Marks.{Mark}
+use Rattle.wh_reduction.specs.TaskData.{TaskData}
+use Rattle.wh_polycheck.specs.Readings.{ReadingsData}
 use Rattle.wh_sat_trail.specs.declared.literal.Literal.{Literal}
 use Rattle.wh_sat.specs.Learning.{Has, IsLearnt}
 use Rattle.wh_sat.specs.Solving.{Solves, literal_true}
 use Rattle.wh_guesses.specs.Coefficients.{scopes_of, HaveCoefficients}
-use Rattle.wh_guesses.specs.Conditions.{Condition, IsCondition, ReadsNumber, Meets}
+use Rattle.wh_guesses.specs.Conditions.{Condition, IsCondition, UsesNumber, Meets}
 use Rattle.wh_blocking.specs.Bits.{first_bit, bit_count, lists_by}
 
-module _ (S : Symbols) (rules : List RewriteRule) (pairs : List PairData) (set marked : List ℕ) where
-  -- the bit is one of a coefficient of what is read in the condition
+module _ (T : TaskData) (marked : List ℕ) where
+  -- the bit is one of a coefficient of what is used in the condition
   abbrev pub IsBitOf : Condition → ℕ → Type 0
   IsBitOf c x =
-      (n : ℕ) × ReadsNumber (length S.funs) marked pairs set c n × (first_bit (scopes_of S rules marked) n ≤ x)
-      × (x < first_bit (scopes_of S rules marked) (suc n))
+      (n : ℕ) × UsesNumber T marked c n × (first_bit (scopes_of T marked) n ≤ x) × (x < first_bit (scopes_of T marked) (suc n))
 
-  -- the interpretations of all symbols and of the marked ones are those that the bits write (ours)
-  pub record AreWritten (v : ℕ → Bool) (symbols : List Interpretation) (marks : List Mark) : Type 0 where
-    pub kinds : map (λ s. s.kind) symbols ≡ S.funs
-    pub marked_are : map (λ m. m.symbol) marks ≡ marked
-    pub coefficients : HaveCoefficients S rules (lists_by v (scopes_of S rules marked)) symbols marks
+  -- the readings of all symbols and of the marked ones are those that the bits write (ours)
+  pub record AreWritten (v : ℕ → Bool) (R : ReadingsData) : Type 0 where
+    pub kinds : map (λ s. s.kind) R.symbols ≡ T.symbols.funs
+    pub marked_are : map (λ m. m.symbol) R.marks ≡ marked
+    pub coefficients : HaveCoefficients T (lists_by v (scopes_of T marked)) R
 
   -- a blocked clause: there is a guess under which all earlier clauses are true and a condition fails, and the clause has just the
-  -- literals that are false under it, over the bits of what is read in the condition (ours)
+  -- literals that are false under it, over the bits of what is used in the condition (ours)
   pub record IsBlocked (earlier : List (List Literal)) (clause : List Literal) : Type 0 where
     pub guess : ℕ → Bool
     pub allowed : Solves guess earlier
-    pub symbols : List Interpretation
-    pub marks : List Mark
-    pub written : AreWritten guess symbols marks
+    pub readings : ReadingsData
+    pub written : AreWritten guess readings
     pub number : ℕ
     pub condition : Condition
-    pub is : IsCondition rules pairs set number condition
-    pub fails : Meets S rules pairs set symbols marks condition → ⊥
+    pub is : IsCondition T number condition
+    pub fails : Meets T readings condition → ⊥
     pub literals : (l : Literal) → Has clause l ↔ (IsBitOf condition l.variable × (literal_true guess l ≡ false))
 
   -- each clause of the list is blocked, or can be learnt from those before it
   abbrev pub Tried : List (List Literal) → Type 0
   Tried list = (k : ℕ) → k < length list
-      → IsBlocked (take k list) (get_or list k []) ⊎ IsLearnt (bit_count (scopes_of S rules marked)) (take k list) (get_or list k [])
+      → IsBlocked (take k list) (get_or list k []) ⊎ IsLearnt (bit_count (scopes_of T marked)) (take k list) (get_or list k [])

@@ -3,9 +3,10 @@
 ghost use Rattle.std.specs.Prelude.{◌≡◌, ◌+◌, ◌<◌, ◌≤◌, IfOk, OnOk, length};
 ghost use Rattle.wh_types.specs.Limits.{most_pairs};
 ghost use Rattle.wh_blocking.specs.Answers.{IsAnswer};
-ghost use Rattle.wh_blocking.specs.Encodings.{IsBlocking, IsEncoding, IsWritten, pairs_of, set_of, system_of};
+ghost use Rattle.wh_blocking.specs.Encodings.{IsBlocking, IsEncoding, IsWritten, system_in, task_in};
 ghost use Rattle.wh_blocking.specs.Sizes.{value_of};
-ghost use Rattle.wh_guesses.specs.Weighing.{Fails};
+ghost use Rattle.wh_guesses.specs.Conditions.{Fails};
+ghost use Rattle.wh_guesses.specs.Tasks.{guess_data};
 ghost use Rattle.wh_sat.specs.Solving.{Solves};
 ghost use Rattle.wh_sat.specs.State.{clauses_of};
 
@@ -29,7 +30,7 @@ pub fn search_from<'a>(
     requires few { length encoding.now.task.pairs.now ≤ most_pairs }
     requires encoding { IsEncoding encoding.now }
     requires room { 0 < budget }
-    ensures { IfOk result (IsAnswer (system_of encoding.now) (pairs_of encoding.now) (set_of encoding.now) budget) }
+    ensures { IfOk result (IsAnswer (system_in encoding.now) (task_in encoding.now).pairs (task_in encoding.now).set budget) }
 {
     let mut hints = Hints::new(alloc, &encoding.numbers, &encoding.sizes)?;
     let mut written = write(alloc, encoding, first)?;
@@ -69,7 +70,7 @@ fn search<'a>(
     requires blocking { IsBlocking encoding.now learner.old }
     requires solves { Solves (value_of written.old.values.items) (clauses_of learner.old) }
     requires room { 0 < learner.old.left }
-    ensures { IfOk result (IsAnswer (system_of encoding.now) (pairs_of encoding.now) (set_of encoding.now)
+    ensures { IfOk result (IsAnswer (system_in encoding.now) (task_in encoding.now).pairs (task_in encoding.now).set
         (length (clauses_of learner.old) + learner.old.left)) }
 {
     'guesses: loop {
@@ -102,7 +103,7 @@ fn block<'a>(
     requires blocking { IsBlocking encoding.now learner.old }
     requires solves { Solves (value_of written.now.values.items) (clauses_of learner.old) }
     requires room { 0 < learner.old.left }
-    requires fails { Fails encoding.now.task written.now.guess number }
+    requires fails { Fails (task_in encoding.now) (guess_data written.now.guess) number }
     ensures blocking { OnOk result (IsBlocking encoding.now learner.new) }
     ensures count { OnOk result (length (clauses_of learner.new) ≡ length (clauses_of learner.old) + 1) }
     ensures left { OnOk result (learner.new.left + 1 ≡ learner.old.left) }

@@ -3,13 +3,16 @@
 
 ghost use Rattle.std.specs.Prelude.{◌≡◌, ◌≤◌, IfOk, IfSome, length};
 ghost use Rattle.wh_types.specs.Limits.{most_pairs};
-ghost use Rattle.wh_guesses.specs.Tasks.{IsGuessOf, IsTaskOf};
-ghost use Rattle.wh_guesses.specs.Weighing.{Fails, Weighs};
+ghost use Rattle.wh_reduction.specs.TaskView.{task_data};
+ghost use Rattle.wh_guesses.specs.Conditions.{Fails};
+ghost use Rattle.wh_guesses.specs.Tasks.{IsGuessOf, IsTaskOf, guess_data};
+ghost use Rattle.wh_guesses.specs.Weighing.{Weighs};
 
 use std::alloc::{AllocError, Global};
-use wh_guesses::{Guess, Task, Weighing, fails, node_of_guess};
+use wh_guesses::{Guess, Weighing, fails, node_of_guess};
+use wh_reduction::Task;
 
-/// For each number the conditions in which it is read; the conditions, those with the fewest bits first; and for each condition whether
+/// For each number the conditions in which it is used; the conditions, those with the fewest bits first; and for each condition whether
 /// it is known to hold under the guess, or not told to fail.
 #[derive(Drop)]
 pub struct Hints {
@@ -19,7 +22,7 @@ pub struct Hints {
 }
 
 impl Hints {
-    /// Those of conditions in which what has these numbers is read, where each number has so many monomials.
+    /// Those of conditions in which what has these numbers is used, where each number has so many monomials.
     pub fn new(
         alloc: Global,
         numbers: &[Vec<usize>],
@@ -45,7 +48,7 @@ impl Hints {
         requires few { length task.now.pairs.now ≤ most_pairs }
         requires task { IsTaskOf task.now }
         requires guess { IsGuessOf task.now guess.now }
-        ensures { IfOk result (Weighs task.now guess.now) }
+        ensures { IfOk result (Weighs task.now (guess_data guess.now)) }
     {
         match self.first_failing(alloc, task, guess)? {
             Some(number) => Ok(Weighing::Failing(number)),
@@ -62,7 +65,7 @@ impl Hints {
     ) -> Result<Option<usize>, AllocError>
         requires task { IsTaskOf task.now }
         requires guess { IsGuessOf task.now guess.now }
-        ensures { IfOk result (λ found. IfSome found (Fails task.now guess.now)) }
+        ensures { IfOk result (λ found. IfSome found (Fails (task_data task.now) (guess_data guess.now))) }
     {
         for place in 0..self.order.len() {
             let number = self.order[place];
@@ -94,7 +97,7 @@ impl Hints {
         }
     }
 
-    /// Of a condition in which something is read that has changed it is not known any more that it holds.
+    /// Of a condition in which something is used that has changed it is not known any more that it holds.
     pub fn forget(&mut self, old: &[Vec<u8>], new: &[Vec<u8>]) {
         for (conditions, (before, after)) in self.holders.iter().zip(old.iter().zip(new)) {
             if before != after {
@@ -113,7 +116,7 @@ fn forget_all(conditions: &[usize], holding: &mut [bool]) {
     }
 }
 
-// For each of so many numbers the conditions in which it is read.
+// For each of so many numbers the conditions in which it is used.
 fn holders_of(
     alloc: Global,
     numbers: &[Vec<usize>],
@@ -123,8 +126,8 @@ fn holders_of(
     for _ in 0..count {
         holders.push(Vec::new(alloc))?;
     }
-    for (condition, read) in numbers.iter().enumerate() {
-        add_holder(&mut holders, read, condition)?;
+    for (condition, used) in numbers.iter().enumerate() {
+        add_holder(&mut holders, used, condition)?;
     }
     Ok(holders)
 }
@@ -150,8 +153,8 @@ fn order_of(
     sizes: &[usize],
 ) -> Result<Vec<usize>, AllocError> {
     let mut weighed = Vec::new(alloc);
-    for (condition, read) in numbers.iter().enumerate() {
-        weighed.push((monomials_of(read, sizes), condition))?;
+    for (condition, used) in numbers.iter().enumerate() {
+        weighed.push((monomials_of(used, sizes), condition))?;
     }
     weighed.sort_unstable();
     let mut order = Vec::new(alloc);

@@ -1,58 +1,58 @@
-//! The numbers of what is read in the conditions.
+//! The numbers of what is used in the conditions.
 
 ghost use Rattle.std.specs.List.{flat_map};
 ghost use Rattle.std.specs.Prelude.{◌≡◌, ◌+◌, ◌≤◌, ◌++◌, IfOk, OnOk, length};
 ghost use Rattle.wh_blocking.specs.Numbers.{AreNumbers, HaveSame, on_sides};
 
 use std::alloc::{AllocError, Global};
-use wh_guesses::Reading;
+use wh_guesses::Uses;
 
-/// The numbers of what is read in each condition, each once and in order: those of each reading, and at the end those of all readings
-/// behind the rules.
+/// The numbers of what is used in each condition, each once and in order, and at the end those of all that is used behind so many
+/// rules.
 pub fn numbers_of_conditions(
     alloc: Global,
-    readings: &[Reading],
+    all: &[Uses],
     rules: usize,
 ) -> Result<Vec<Vec<usize>>, AllocError>
-    requires { rules ≤ length readings.now }
-    ensures { IfOk result (λ made. AreNumbers rules readings.now made.items) }
+    requires { rules ≤ length all.now }
+    ensures { IfOk result (λ made. AreNumbers rules all.now made.items) }
 {
     let mut made = Vec::new(alloc);
-    for reading in readings {
-        made.push(numbers_of(alloc, reading)?)?;
+    for uses in all {
+        made.push(numbers_of(alloc, uses)?)?;
     }
-    made.push(numbers_of_all(alloc, &readings[rules..])?)?;
+    made.push(numbers_of_all(alloc, &all[rules..])?)?;
     Ok(made)
 }
 
-// The numbers of what is read on the two sides.
-fn numbers_of(alloc: Global, reading: &Reading) -> Result<Vec<usize>, AllocError>
-    ensures { IfOk result (λ made. HaveSame made.items (on_sides reading.now)) }
+// The numbers of what is used on the two sides.
+fn numbers_of(alloc: Global, uses: &Uses) -> Result<Vec<usize>, AllocError>
+    ensures { IfOk result (λ made. HaveSame made.items (on_sides uses.now)) }
 {
     let mut numbers = Vec::new(alloc);
-    add_numbers(&mut numbers, reading)?;
+    add_numbers(&mut numbers, uses)?;
     each_once(&mut numbers);
     Ok(numbers)
 }
 
-// The numbers of what is read in some of the readings.
-fn numbers_of_all(alloc: Global, readings: &[Reading]) -> Result<Vec<usize>, AllocError>
-    ensures { IfOk result (λ made. HaveSame made.items (flat_map on_sides readings.now)) }
+// The numbers of what is used in some of the conditions.
+fn numbers_of_all(alloc: Global, all: &[Uses]) -> Result<Vec<usize>, AllocError>
+    ensures { IfOk result (λ made. HaveSame made.items (flat_map on_sides all.now)) }
 {
     let mut numbers = Vec::new(alloc);
-    for reading in readings {
-        add_numbers(&mut numbers, reading)?;
+    for uses in all {
+        add_numbers(&mut numbers, uses)?;
     }
     each_once(&mut numbers);
     Ok(numbers)
 }
 
-// The numbers of the reading join.
-fn add_numbers(numbers: &mut Vec<usize>, reading: &Reading) -> Result<(), AllocError>
-    ensures { OnOk result (numbers.new.items ≡ numbers.old.items ++ on_sides reading.now) }
+// The numbers of what is used on the two sides join.
+fn add_numbers(numbers: &mut Vec<usize>, uses: &Uses) -> Result<(), AllocError>
+    ensures { OnOk result (numbers.new.items ≡ numbers.old.items ++ on_sides uses.now) }
 {
-    numbers.extend_from_slice(&reading.left)?;
-    numbers.extend_from_slice(&reading.right)?;
+    numbers.extend_from_slice(&uses.left)?;
+    numbers.extend_from_slice(&uses.right)?;
     Ok(())
 }
 

@@ -1,10 +1,10 @@
 //! The search for interpretations by guesses.
 
-ghost use Rattle.std.specs.Prelude.{◌≤◌, IfOk, length, map};
+ghost use Rattle.std.specs.Prelude.{◌≤◌, IfOk, length};
 ghost use Rattle.wh_types.specs.Limits.{most_pairs};
-ghost use Rattle.wh_pairs.specs.PairData.{pair_data};
 ghost use Rattle.wh_pairs.specs.Marked.{AreMarked};
 ghost use Rattle.wh_system.specs.SystemView.{system_data};
+ghost use Rattle.wh_reduction.specs.TaskView.{task_data};
 ghost use Rattle.wh_guesses.specs.Tasks.{IsTaskOf};
 ghost use Rattle.wh_blocking.specs.Answers.{IsAnswer};
 
@@ -13,12 +13,12 @@ use crate::blocking::search_from;
 use crate::encoding::encoding_of;
 use std::alloc::{AllocError, Global};
 use wh_cert::Node;
-use wh_guesses::Task;
+use wh_reduction::Task;
 use wh_sat::Search;
 use wh_sat_trail::Clauses;
 
 /// Guess by guess, beginning with these coefficients: each guess under which a condition fails is shut out by a clause over the
-/// bits of what is read in that condition.
+/// bits of what is used in that condition.
 pub fn find_by_guesses<'a>(
     alloc: Global,
     task: &Task<'a>,
@@ -28,8 +28,8 @@ pub fn find_by_guesses<'a>(
 ) -> Result<Search<Node>, AllocError>
     requires few { length task.now.pairs.now ≤ most_pairs }
     requires task { IsTaskOf task.now }
-    requires marked { AreMarked (map pair_data task.now.pairs.now) task.now.set.now marked.now }
-    ensures { IfOk result (IsAnswer (system_data task.now.system.now) (map pair_data task.now.pairs.now) task.now.set.now budget) }
+    requires marked { AreMarked (task_data task.now).pairs (task_data task.now).set marked.now }
+    ensures { IfOk result (IsAnswer (system_data task.now.system.now) (task_data task.now).pairs (task_data task.now).set budget) }
 {
     if budget == 0 {
         let none = Clauses::new(alloc)?;

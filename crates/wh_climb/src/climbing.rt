@@ -8,7 +8,8 @@ ghost use Rattle.wh_guesses.specs.Tasks.{IsGuessOf, IsTaskOf};
 
 use crate::state::{Aim, Change, State, changes_for};
 use std::alloc::{AllocError, Global};
-use wh_guesses::{Guess, Outcome, Task, change_at, outcome_of};
+use wh_guesses::{Guess, Outcome, change_at, outcome_of};
+use wh_reduction::Task;
 
 /// What came of a change that was tried.
 #[derive(Clone, Copy)]

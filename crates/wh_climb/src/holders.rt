@@ -1,21 +1,21 @@
-//! For each symbol and each marked symbol the conditions in which it is read.
+//! For each symbol and each marked symbol the conditions in which it is used.
 
 use std::alloc::{AllocError, Global};
-use wh_guesses::Reading;
+use wh_guesses::Uses;
 
 /// For each of so many numbers the conditions that have it on a side.
 pub fn holders_of(
     alloc: Global,
-    readings: &[Reading],
+    all: &[Uses],
     count: usize,
 ) -> Result<Vec<Vec<usize>>, AllocError> {
     let mut holders = Vec::new(alloc);
     for _ in 0..count {
         holders.push(Vec::new(alloc))?;
     }
-    for (k, reading) in readings.iter().enumerate() {
-        add_holder(&mut holders, &reading.left, k)?;
-        add_holder(&mut holders, &reading.right, k)?;
+    for (k, uses) in all.iter().enumerate() {
+        add_holder(&mut holders, &uses.left, k)?;
+        add_holder(&mut holders, &uses.right, k)?;
     }
     Ok(holders)
 }

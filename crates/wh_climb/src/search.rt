@@ -1,10 +1,9 @@
 //! The search for interpretations of a set, by climbing.
 
-ghost use Rattle.std.specs.Prelude.{◌<◌, ◌≤◌, IfOk, length, map};
+ghost use Rattle.std.specs.Prelude.{◌≤◌, IfOk, length};
 ghost use Rattle.wh_types.specs.Limits.{most_pairs};
-ghost use Rattle.wh_pairs.specs.PairData.{pair_data};
-ghost use Rattle.wh_system.specs.SystemView.{system_data};
 ghost use Rattle.wh_pairs.specs.Marked.{AreMarked};
+ghost use Rattle.wh_reduction.specs.TaskView.{task_data};
 ghost use Rattle.wh_guesses.specs.Tasks.{IsTaskOf};
 ghost use Rattle.wh_climb.specs.Climbs.{IsClimb};
 
@@ -16,8 +15,9 @@ use crate::state::{State, copy_lists};
 use std::alloc::{AllocError, Global};
 use std::collections::VecDeque;
 use wh_cert::Node;
-use wh_guesses::{Outcome, Task, Weighing, arguments_of, guess_by, node_of_guess, readings_of};
+use wh_guesses::{Outcome, Weighing, arguments_of, guess_by, node_of_guess, uses_of};
 use wh_polycheck::kind_of_mark;
+use wh_reduction::Task;
 use wh_space::{Spot, spots_of};
 use wh_system::System;
 use wh_types::SimpleType;
@@ -45,7 +45,7 @@ pub fn climb<'a>(
 ) -> Result<Climbed, AllocError>
     requires few { length task.now.pairs.now ≤ most_pairs }
     requires task { IsTaskOf task.now }
-    requires marked { AreMarked (map pair_data task.now.pairs.now) task.now.set.now marked.now }
+    requires marked { AreMarked (task_data task.now).pairs (task_data task.now).set marked.now }
     ensures { IfOk result (IsClimb task.now) }
 {
     let mut state = first_state(alloc, task, marked, limit)?;
@@ -66,18 +66,18 @@ fn first_state<'a>(
     limit: u64,
 ) -> Result<State, AllocError>
     requires task { IsTaskOf task.now }
-    requires marked { AreMarked (map pair_data task.now.pairs.now) task.now.set.now marked.now }
+    requires marked { AreMarked (task_data task.now).pairs (task_data task.now).set marked.now }
 {
-    let readings = readings_of(alloc, task, marked)?;
+    let uses = uses_of(alloc, task, marked)?;
     let count = task.system.fun_names().len().saturating_add(marked.len());
-    let holders = holders_of(alloc, &readings, count)?;
+    let holders = holders_of(alloc, &uses, count)?;
     let coefficients = first_coefficients(alloc, task.system, marked, &holders)?;
-    let outcomes = unmet(alloc, readings.len())?;
+    let outcomes = unmet(alloc, uses.len())?;
     let best = copy_lists(alloc, &coefficients)?;
     let changed = vec![in alloc; false; coefficients.len()]?;
     Ok(State {
-        rules: task.system.rules().len(),
-        readings,
+        rules: task.covered.len(),
+        uses,
         holders,
         coefficients,
         changed,

@@ -8,10 +8,10 @@ use crate::known::{Case, Known};
 use crate::random::Random;
 use std::alloc::{AllocError, Global};
 use std::collections::VecDeque;
-use wh_guesses::{Outcome, Reading};
+use wh_guesses::{Outcome, Uses};
 use wh_space::MAX_COEFFICIENT;
 
-/// A coefficient, told by the number of what is read and by its place, and a value for it.
+/// A coefficient, told by the number of what is used and by its place, and a value for it.
 #[derive(Clone, Copy)]
 pub struct Change {
     pub number: usize,
@@ -41,13 +41,13 @@ const WAITING: usize = 8;
 /// Where a climb stands.
 #[derive(Drop)]
 pub struct State {
-    /// What is read in the conditions, those of the rules first.
-    pub readings: Vec<Reading>,
+    /// What is used in the conditions, those of the rules first.
+    pub uses: Vec<Uses>,
     /// How many of them are of rules.
     pub rules: usize,
     /// For each number the conditions that have it on a side.
     pub holders: Vec<Vec<usize>>,
-    /// The coefficients of what is read, by number.
+    /// The coefficients of what is used, by number.
     pub coefficients: Vec<Vec<u8>>,
     /// For each number whether its coefficients may have changed since it was read.
     pub changed: Vec<bool>,
@@ -122,7 +122,7 @@ impl State {
         let mut goals = Vec::new(alloc);
         let met = failing.is_empty();
         if met {
-            let pairs = self.readings.len().saturating_sub(self.rules);
+            let pairs = self.uses.len().saturating_sub(self.rules);
             for _ in 0..3 {
                 let chosen = self.choose(pairs);
                 goals.push(self.rules.saturating_add(chosen))?;
@@ -180,12 +180,12 @@ impl State {
         due
     }
 
-    /// What is read on the sides of the condition.
+    /// What is used on the sides of the condition.
     pub fn numbers_in(&self, alloc: Global, condition: usize) -> Result<Vec<usize>, AllocError> {
         let mut numbers = Vec::new(alloc);
-        if let Some(reading) = self.readings.get(condition) {
-            numbers.extend_from_slice(&reading.left)?;
-            numbers.extend_from_slice(&reading.right)?;
+        if let Some(uses) = self.uses.get(condition) {
+            numbers.extend_from_slice(&uses.left)?;
+            numbers.extend_from_slice(&uses.right)?;
         }
         Ok(numbers)
     }
@@ -316,13 +316,13 @@ fn same_change(a: Change, b: Change) -> bool {
     a.number == b.number && a.place == b.place && a.value == b.value
 }
 
-/// The changes by one of the coefficients in the conditions, in an order of chance. Where the conditions are not met, what is read
-/// on the left side alone only grows, and what is read on the right side alone only falls.
+/// The changes by one of the coefficients in the conditions, in an order of chance. Where the conditions are not met, what is used
+/// on the left side alone only grows, and what is used on the right side alone only falls.
 pub fn changes_for(alloc: Global, state: &mut State, aim: &Aim) -> Result<Vec<Change>, AllocError> {
     let mut changes = Vec::new(alloc);
     for goal in &aim.goals {
-        if let Some(reading) = state.readings.get(*goal) {
-            add_changes(state, reading, aim.met, &mut changes)?;
+        if let Some(uses) = state.uses.get(*goal) {
+            add_changes(state, uses, aim.met, &mut changes)?;
         }
     }
     let mut random = state.random;
@@ -334,16 +334,16 @@ pub fn changes_for(alloc: Global, state: &mut State, aim: &Aim) -> Result<Vec<Ch
 // The changes for the condition join.
 fn add_changes(
     state: &State,
-    reading: &Reading,
+    uses: &Uses,
     met: bool,
     changes: &mut Vec<Change>,
 ) -> Result<(), AllocError> {
-    for number in &reading.left {
-        let falls = met || reading.right.contains(number);
+    for number in &uses.left {
+        let falls = met || uses.right.contains(number);
         add_changes_of(state, *number, true, falls, changes)?;
     }
-    for number in &reading.right {
-        if !reading.left.contains(number) {
+    for number in &uses.right {
+        if !uses.left.contains(number) {
             add_changes_of(state, *number, met, true, changes)?;
         }
     }

@@ -1,12 +1,12 @@
 //! The search for interpretations of a set.
 
-ghost use Rattle.std.specs.Prelude.{◌<◌, ◌≤◌, All, IfOk, length, map};
+ghost use Rattle.std.specs.Prelude.{◌<◌, ◌≤◌, All, IfOk, length};
 ghost use Rattle.wh_types.specs.Limits.{most_pairs};
 ghost use Rattle.wh_pairs.specs.SystemPairs.{HasPairs};
 ghost use Rattle.wh_pairs.specs.Views.{pairs_data};
-ghost use Rattle.wh_pairs.specs.PairData.{pair_data};
 ghost use Rattle.wh_system.specs.SystemView.{system_data};
 ghost use Rattle.wh_pairs.specs.Marked.{AreMarked};
+ghost use Rattle.wh_reduction.specs.TaskView.{task_data};
 ghost use Rattle.wh_guesses.specs.Tasks.{IsTaskOf};
 ghost use Rattle.wh_blocking.specs.Answers.{IsAnswer};
 
@@ -14,9 +14,9 @@ use std::alloc::{AllocError, Global};
 use wh_blocking::find_by_guesses;
 use wh_cert::Node;
 use wh_climb::{Climbed, climb};
-use wh_guesses::Task;
 use wh_pairs::{PairList, PairSet, marked_symbols};
 use wh_ranges::has_none;
+use wh_reduction::{Task, all_rules};
 use wh_sat::Search;
 use wh_system::System;
 
@@ -50,10 +50,12 @@ pub fn find_interpretation(
     requires set { All (λ n. n < length pairs.now) set.now }
     ensures { IfOk result (IsAnswer (system_data system.now) (pairs_data pairs.now) set.now budget) }
 {
+    let covered = all_rules(alloc, system)?;
     let task = Task {
         system,
         pairs: pairs.as_slice(),
         set: set.as_slice(),
+        covered: &covered,
     };
     system.is_well_made();
     let marked = marked_symbols(alloc, pairs, set)?;
@@ -70,8 +72,8 @@ fn find_for<'a>(
 ) -> Result<Search<Node>, AllocError>
     requires few { length task.now.pairs.now ≤ most_pairs }
     requires task { IsTaskOf task.now }
-    requires marked { AreMarked (map pair_data task.now.pairs.now) task.now.set.now marked.now }
-    ensures { IfOk result (IsAnswer (system_data task.now.system.now) (map pair_data task.now.pairs.now) task.now.set.now budget) }
+    requires marked { AreMarked (task_data task.now).pairs (task_data task.now).set marked.now }
+    ensures { IfOk result (IsAnswer (system_data task.now.system.now) (task_data task.now).pairs (task_data task.now).set budget) }
 {
     match climb(alloc, task, marked, evaluations(task))? {
         Climbed::Found(node) => Ok(Search::Found(node)),
@@ -97,7 +99,7 @@ fn work<'a>(task: &Task<'a>) -> u64 {
     WORK.saturating_add(more).min(MOST_WORK)
 }
 
-// How many rules and pairs there are.
+// How many rules are to be covered, and how many pairs there are.
 fn conditions<'a>(task: &Task<'a>) -> u64 {
-    task.system.rules().len() as u64 + task.set.len() as u64
+    task.covered.len() as u64 + task.set.len() as u64
 }

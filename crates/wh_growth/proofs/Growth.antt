@@ -11,8 +11,9 @@ use Rattle.wh_pairs.specs.PairData.{PairData}
 use Rattle.wh_hopoly.specs.Polynomials.{Normal}
 use Rattle.wh_hopoly.specs.Evaluation.{symbol, Interpretation, interpretation_at, type_of, evaluate, NormalInterpretations}
 use Rattle.wh_hopoly.proofs.ValueLaws.{interpretation_is}
-use Rattle.wh_polycheck.specs.Sides.{arrows, types_of_metas, side_applied, side_polynomial, call_polynomial, IsInterpretedAs, Interprets}
+use Rattle.wh_polycheck.specs.Sides.{arrows, types_of_metas, side_applied, side_polynomial, call_polynomial, Interprets}
 use Rattle.wh_polycheck.specs.Marks.{Mark, marked_types, marked_kind, marked_interpretation, with_marks, place_of, mark_number, AreNormalMarks, HasMark, HasMarkedSides, head_of_side, arguments_of_side}
+use Rattle.wh_polycheck.specs.Readings.{ReadingsData, AreProper}
 use Rattle.wh_polycheck.proofs.SideTypes.{side_applied_typed, HasSideType}
 use Rattle.wh_polycheck.proofs.MoreInterpretations.{slice_get_front, slice_get_behind, interprets_more, mark_at, arguments_of_arrows, mapped, mark_interpreted, normal_with_marks}
 use Rattle.wh_polycheck.proofs.MarkedSides.{marked_side}
@@ -27,18 +28,8 @@ use Rattle.wh_meaning.proofs.Mean.{den_value}
 use Rattle.wh_meaning.proofs.SideMeans.{symbol_means, mean_applied}
 use Rattle.wh_meaning.proofs.Steps.{reading_at, side_value}
 use Rattle.wh_meaning.proofs.CallValues.{call_normal}
-use Rattle.wh_growth.specs.Below.{IsBelow, AreBelow, AreMarksBelow}
+use Rattle.wh_growth.specs.Below.{IsBelow, AreSymbolsBelow, AreMarksBelow, AreBelow}
 use Rattle.wh_growth.proofs.GrowthValues.{value_grows, fed_grows, den_by_reading}
-
--- interpretations with the types of the symbols, in order, interpret each of them
-in_order : (symbols : List Interpretation) (f : ℕ) (a : Ty) → slice_get (map (λ (s : Interpretation). s.kind) symbols) f ≡ Some a
-    → IsInterpretedAs symbols f a
-in_order [] f a e = absurd (none-some a e)
-in_order (s ∷ symbols) zero a e = (s, refl, same_Some s.kind a e)
-in_order (s ∷ symbols) (suc f) a e = in_order symbols f a e
-
-interprets : (S : Symbols) (symbols : List Interpretation) → map (λ (s : Interpretation). s.kind) symbols ≡ S.funs → Interprets S symbols
-interprets S symbols kinds f a known = in_order symbols f a (ap (λ l. slice_get l f) kinds ∙ known)
 
 -- symbols mean their interpretations, variables the values of ψ
 abbrev with_values : List Interpretation → Valuation → Meanings
@@ -71,29 +62,31 @@ meaning_grows low high f g s t i j A k below =
 abbrev Extends : List Interpretation → List Interpretation → Type 0
 Extends symbols xs = (f : ℕ) (s : Interpretation) → slice_get symbols f ≡ Some s → slice_get xs f ≡ Some s
 
-module _ (S : Symbols) (low high : List Interpretation) (low_kinds : map (λ s. s.kind) low ≡ S.funs)
-    (high_kinds : map (λ s. s.kind) high ≡ S.funs) (below : AreBelow low high) where
+module _ (S : Symbols) (low high : List Interpretation) (in_low : Interprets S low) (in_high : Interprets S high)
+    (below : AreSymbolsBelow low high) where
   -- so it is of the symbols, also in longer lists
   symbols_grow : (xs ys : List Interpretation) → Extends low xs → Extends high ys
       → (f : ℕ) (A : Ty) → slice_get S.funs f ≡ Some A → Le A (of_interpretations xs f A) (of_interpretations ys f A)
   symbols_grow xs ys in_xs in_ys f A known =
-      let (s, i, k) = interprets S low low_kinds f A known in
-      let (t, j, l) = interprets S high high_kinds f A known in
+      let (s, i, k) = in_low f A known in
+      let (t, j, l) = in_high f A known in
       meaning_grows xs ys f f s t (in_xs f s i) (in_ys f t j) A k (below.each f s t i j)
 
 -- a side of a rule means more where the symbols do
-pub side_grows : (S : Symbols) (low high : List Interpretation) → map (λ s. s.kind) low ≡ S.funs → map (λ s. s.kind) high ≡ S.funs
-    → NormalInterpretations low → NormalInterpretations high → AreBelow low high
+pub side_grows : (S : Symbols) (rules : List RewriteRule) (low high : ReadingsData) → AreProper S rules low → AreProper S rules high
+    → AreBelow S rules low high
     → (M : List Declared) (t : Tm) (a : Ty) → Typed S M [] t a → NoFree t → (ψ : Valuation) → MonoValuation ψ
-    → den (types_of_metas M ++ arguments a) ψ (side_polynomial low M t)
-    ≤ den (types_of_metas M ++ arguments a) ψ (side_polynomial high M t)
-side_grows S low high low_kinds high_kinds low_normal high_normal below M t a p f ψ h =
-    den_by_reading a (types_of_metas M) ψ h (side_polynomial low M t) (side_polynomial high M t)
+    → den (types_of_metas M ++ arguments a) ψ (side_polynomial low.symbols M t)
+    ≤ den (types_of_metas M ++ arguments a) ψ (side_polynomial high.symbols M t)
+side_grows S rules low high low_proper high_proper below M t a p f ψ h =
+    let xs = low.symbols in
+    let ys = high.symbols in
+    den_by_reading a (types_of_metas M) ψ h (side_polynomial xs M t) (side_polynomial ys M t)
     (subst₂ (Le a)
-    (side_value S low (interprets S low low_kinds) low_normal (with_values low ψ) (λ g A. refl) M t a p f all_nothing)
-    (side_value S high (interprets S high high_kinds) high_normal (with_values high ψ) (λ g A. refl) M t a p f all_nothing)
-    (value_grows S M (with_values low ψ) (with_values high ψ) (mono_values low ψ h) (mono_values high ψ h)
-    (symbols_grow S low high low_kinds high_kinds below low high (λ g s e. e) (λ g s e. e))
+    (side_value S xs low_proper.interpreted low_proper.normal.symbols (with_values xs ψ) (λ g A. refl) M t a p f all_nothing)
+    (side_value S ys high_proper.interpreted high_proper.normal.symbols (with_values ys ψ) (λ g A. refl) M t a p f all_nothing)
+    (value_grows S M (with_values xs ψ) (with_values ys ψ) (mono_values xs ψ h) (mono_values ys ψ h)
+    (symbols_grow S xs ys low_proper.interpreted high_proper.interpreted below.of_symbols xs ys (λ g s e. e) (λ g s e. e))
     (le_valuation_same ψ) (le_valuation_same all_nothing)
     all_nothing all_nothing mono_nothings mono_nothings (le_valuation_same all_nothing) p))
 
@@ -133,102 +126,100 @@ place_is [] f = refl
 place_is (m ∷ ms) f = ap (λ n. if m.symbol == f then 0 else suc n) (place_is ms f)
 
 module _ (S : Symbols) (rules : List RewriteRule) where
-  all_interpret : (symbols : List Interpretation) (marks : List Mark) → map (λ s. s.kind) symbols ≡ S.funs
-      → Interprets S (with_marks S rules symbols marks)
-  all_interpret symbols marks kinds =
-      interprets_more symbols (map (marked_interpretation S rules) marks) S (interprets S symbols kinds)
+  -- the interpretations of the symbols, and behind them those of the marked symbols
+  abbrev all_of : ReadingsData → List Interpretation
+  all_of R = with_marks S rules R.symbols R.marks
 
-  is_marked_side : (symbols : List Interpretation) (marks : List Mark) (p : PairData) → HasMarkedSides S rules marks p → (right : Bool)
-      → IsMarkedSide S (with_marks S rules symbols marks) p.metas (mark_number symbols marks (head_of_side p right))
-      (marked_types S rules (head_of_side p right)) 0 (arguments_of_side p right)
-  is_marked_side symbols marks p h right =
-      let side = marked_side S rules marks p right h in
+  abbrev number_in : ReadingsData → ℕ → ℕ
+  number_in R f = mark_number R.symbols R.marks f
+
+  all_interpret : (R : ReadingsData) → AreProper S rules R → Interprets S (all_of R)
+  all_interpret R proper = interprets_more R.symbols (map (marked_interpretation S rules) R.marks) S proper.interpreted
+
+  all_normal : (R : ReadingsData) → AreProper S rules R → NormalInterpretations (all_of R)
+  all_normal R proper = normal_with_marks S rules R.symbols R.marks proper.normal.symbols proper.normal.marks
+
+  is_marked_side : (R : ReadingsData) (p : PairData) → HasMarkedSides S rules R.marks p → (right : Bool)
+      → IsMarkedSide S (all_of R) p.metas (number_in R (head_of_side p right)) (marked_types S rules (head_of_side p right)) 0 (arguments_of_side p right)
+  is_marked_side R p h right =
+      let side = marked_side S rules R.marks p right h in
       record {
-        interpreted = mark_interpreted S rules symbols marks (head_of_side p right) side.marked;
+        interpreted = mark_interpreted S rules R.symbols R.marks (head_of_side p right) side.marked;
         typed = side.typed;
         closed = side.closed;
       }
 
   -- what the polynomial of a side of a pair means, as the value of its marked symbol at the values of the arguments
-  pair_worth : (symbols : List Interpretation) (marks : List Mark) → map (λ s. s.kind) symbols ≡ S.funs
-      → NormalInterpretations symbols → AreNormalMarks S rules marks → (p : PairData) → HasMarkedSides S rules marks p
+  pair_worth : (R : ReadingsData) → AreProper S rules R → (p : PairData) → HasMarkedSides S rules R.marks p
       → (right : Bool) (ψ : Valuation)
-      → fed S p.metas (with_values (with_marks S rules symbols marks) ψ) [] all_nothing
+      → fed S p.metas (with_values (all_of R) ψ) [] all_nothing
       (marked_types S rules (head_of_side p right)) (sort 0)
-      (of_interpretations (with_marks S rules symbols marks) (mark_number symbols marks (head_of_side p right))
-      (marked_kind S rules (head_of_side p right))) (arguments_of_side p right)
-      ≡ den (types_of_metas p.metas ++ []) ψ (pair_run S rules symbols marks p right).result
-  pair_worth symbols marks kinds normal marks_normal p h right ψ =
+      (of_interpretations (all_of R) (number_in R (head_of_side p right)) (marked_kind S rules (head_of_side p right))) (arguments_of_side p right)
+      ≡ den (types_of_metas p.metas ++ []) ψ (pair_run S rules R p right).result
+  pair_worth R proper p h right ψ =
       let f = head_of_side p right in
-      let all = with_marks S rules symbols marks in
-      side_worth S all (all_interpret symbols marks kinds) (normal_with_marks S rules symbols marks normal marks_normal)
-      (with_values all ψ) (λ g A. refl) p.metas (mark_number symbols marks f) (marked_types S rules f) 0 (arguments_of_side p right)
-      (is_marked_side symbols marks p h right) all_nothing
+      side_worth S (all_of R) (all_interpret R proper) (all_normal R proper)
+      (with_values (all_of R) ψ) (λ g A. refl) p.metas (number_in R f) (marked_types S rules f) 0 (arguments_of_side p right)
+      (is_marked_side R p h right) all_nothing
 
   -- the interpretation of a marked symbol, by the place of its mark
-  marked_at : (symbols : List Interpretation) (marks : List Mark) (f : ℕ) (m : Mark) → slice_get marks (place_of marks f) ≡ Some m
-      → slice_get (with_marks S rules symbols marks) (mark_number symbols marks f) ≡ Some (marked_interpretation S rules m)
-  marked_at symbols marks f m there =
-      slice_get_behind symbols (map (marked_interpretation S rules) marks) (place_of marks f)
-      ∙ mapped S rules marks (place_of marks f) m there
+  marked_at : (R : ReadingsData) (f : ℕ) (m : Mark) → slice_get R.marks (place_of R.marks f) ≡ Some m
+      → slice_get (all_of R) (number_in R f) ≡ Some (marked_interpretation S rules m)
+  marked_at R f m there =
+      slice_get_behind R.symbols (map (marked_interpretation S rules) R.marks) (place_of R.marks f)
+      ∙ mapped S rules R.marks (place_of R.marks f) m there
 
-  module _ (low high : List Interpretation) (low_marks high_marks : List Mark)
-      (marks_below : AreMarksBelow S rules low_marks high_marks) where
-    place_same : (f : ℕ) → place_of high_marks f ≡ place_of low_marks f
-    place_same f = place_is high_marks f ∙ ap (λ l. place_among l f) (sym marks_below.symbols) ∙ sym (place_is low_marks f)
+  module _ (low high : ReadingsData) (below : AreMarksBelow S rules low.marks high.marks) where
+    place_same : (f : ℕ) → place_of high.marks f ≡ place_of low.marks f
+    place_same f = place_is high.marks f ∙ ap (λ l. place_among l f) (sym below.symbols) ∙ sym (place_is low.marks f)
 
     -- a marked symbol means more
-    mark_grows : (f : ℕ) → HasMark low_marks f → HasMark high_marks f
+    mark_grows : (f : ℕ) → HasMark low.marks f → HasMark high.marks f
         → Le (marked_kind S rules f)
-        (of_interpretations (with_marks S rules low low_marks) (mark_number low low_marks f) (marked_kind S rules f))
-        (of_interpretations (with_marks S rules high high_marks) (mark_number high high_marks f) (marked_kind S rules f))
+        (of_interpretations (all_of low) (number_in low f) (marked_kind S rules f))
+        (of_interpretations (all_of high) (number_in high f) (marked_kind S rules f))
     mark_grows f in_low in_high =
-        let (m, i, k) = mark_at low_marks f in_low in
-        let (n, j, l) = mark_at high_marks f in_high in
-        let low_all = with_marks S rules low low_marks in
-        let high_all = with_marks S rules high high_marks in
-        meaning_grows low_all high_all (mark_number low low_marks f) (mark_number high high_marks f)
+        let (m, i, k) = mark_at low.marks f in_low in
+        let (n, j, l) = mark_at high.marks f in_high in
+        meaning_grows (all_of low) (all_of high) (number_in low f) (number_in high f)
         (marked_interpretation S rules m) (marked_interpretation S rules n)
-        (marked_at low low_marks f m i) (marked_at high high_marks f n j)
+        (marked_at low f m i) (marked_at high f n j)
         (marked_kind S rules f) (ap (marked_kind S rules) k)
         (subst (λ Γ. IsBelow Γ m.polynomial n.polynomial) (sym (arguments_of_arrows (marked_types S rules m.symbol) 0))
-        (marks_below.each (place_of low_marks f) m n i (ap (slice_get high_marks) (sym (place_same f)) ∙ j)))
+        (below.each (place_of low.marks f) m n i (ap (slice_get high.marks) (sym (place_same f)) ∙ j)))
 
 -- a side of a pair means more where the symbols and the marks do
-pub pair_side_grows : (S : Symbols) (rules : List RewriteRule) (low high : List Interpretation) (low_marks high_marks : List Mark)
-    → map (λ s. s.kind) low ≡ S.funs → map (λ s. s.kind) high ≡ S.funs → NormalInterpretations low → NormalInterpretations high
-    → AreNormalMarks S rules low_marks → AreNormalMarks S rules high_marks → AreBelow low high
-    → AreMarksBelow S rules low_marks high_marks → (p : PairData) → HasMarkedSides S rules low_marks p
-    → HasMarkedSides S rules high_marks p → (right : Bool) (ψ : Valuation) → MonoValuation ψ
-    → den (types_of_metas p.metas ++ []) ψ (pair_run S rules low low_marks p right).result
-    ≤ den (types_of_metas p.metas ++ []) ψ (pair_run S rules high high_marks p right).result
-pair_side_grows S rules low high low_marks high_marks low_kinds high_kinds low_normal high_normal low_marks_normal high_marks_normal
-    below marks_below p in_low in_high right ψ h =
-    let xs = with_marks S rules low low_marks in
-    let ys = with_marks S rules high high_marks in
+pub pair_side_grows : (S : Symbols) (rules : List RewriteRule) (low high : ReadingsData) → AreProper S rules low → AreProper S rules high
+    → AreBelow S rules low high → (p : PairData) → HasMarkedSides S rules low.marks p → HasMarkedSides S rules high.marks p
+    → (right : Bool) (ψ : Valuation) → MonoValuation ψ
+    → den (types_of_metas p.metas ++ []) ψ (pair_run S rules low p right).result
+    ≤ den (types_of_metas p.metas ++ []) ψ (pair_run S rules high p right).result
+pair_side_grows S rules low high low_proper high_proper below p in_low in_high right ψ h =
+    let xs = all_of S rules low in
+    let ys = all_of S rules high in
     let f = head_of_side p right in
     let A = marked_kind S rules f in
-    let i = mark_number low low_marks f in
-    let j = mark_number high high_marks f in
-    let here = marked_side S rules low_marks p right in_low in
-    let there = marked_side S rules high_marks p right in_high in
+    let i = number_in S rules low f in
+    let j = number_in S rules high f in
+    let here = marked_side S rules low.marks p right in_low in
+    let there = marked_side S rules high.marks p right in_high in
     subst₂ (λ a b. a ≤ b)
-    (pair_worth S rules low low_marks low_kinds low_normal low_marks_normal p in_low right ψ)
-    (pair_worth S rules high high_marks high_kinds high_normal high_marks_normal p in_high right ψ)
+    (pair_worth S rules low low_proper p in_low right ψ)
+    (pair_worth S rules high high_proper p in_high right ψ)
     (fed_grows S p.metas (with_values xs ψ) (with_values ys ψ) (mono_values xs ψ h) (mono_values ys ψ h)
-    (symbols_grow S low high low_kinds high_kinds below xs ys (slice_get_front low (map (marked_interpretation S rules) low_marks))
-    (slice_get_front high (map (marked_interpretation S rules) high_marks)))
+    (symbols_grow S low.symbols high.symbols low_proper.interpreted high_proper.interpreted below.of_symbols xs ys
+    (slice_get_front low.symbols (map (marked_interpretation S rules) low.marks))
+    (slice_get_front high.symbols (map (marked_interpretation S rules) high.marks)))
     (le_valuation_same ψ) (le_valuation_same all_nothing)
     all_nothing all_nothing mono_nothings mono_nothings (le_valuation_same all_nothing) (sort 0)
     (of_interpretations xs i A) (of_interpretations ys j A) (interpretations_mono xs i A) (interpretations_mono ys j A)
-    (mark_grows S rules low high low_marks high_marks marks_below f here.marked there.marked) here.typed)
+    (mark_grows S rules low high below.of_marks f here.marked there.marked) here.typed)
 
 -- the polynomial of a side of a pair is normal
-pub pair_side_normal : (S : Symbols) (rules : List RewriteRule) (symbols : List Interpretation) (marks : List Mark)
-    → map (λ s. s.kind) symbols ≡ S.funs → NormalInterpretations symbols → AreNormalMarks S rules marks
-    → (p : PairData) → HasMarkedSides S rules marks p → (right : Bool)
-    → Normal (types_of_metas p.metas ++ []) (pair_run S rules symbols marks p right).result
-pair_side_normal S rules symbols marks kinds normal marks_normal p h right =
-    call_normal S (with_marks S rules symbols marks) (all_interpret S rules symbols marks kinds)
-    (normal_with_marks S rules symbols marks normal marks_normal) p.metas (mark_number symbols marks (head_of_side p right))
-    (marked_types S rules (head_of_side p right)) 0 (arguments_of_side p right) (is_marked_side S rules symbols marks p h right)
+pub pair_side_normal : (S : Symbols) (rules : List RewriteRule) (R : ReadingsData) → AreProper S rules R
+    → (p : PairData) → HasMarkedSides S rules R.marks p → (right : Bool)
+    → Normal (types_of_metas p.metas ++ []) (pair_run S rules R p right).result
+pair_side_normal S rules R proper p h right =
+    call_normal S (all_of S rules R) (all_interpret S rules R proper) (all_normal S rules R proper) p.metas
+    (number_in S rules R (head_of_side p right)) (marked_types S rules (head_of_side p right)) 0 (arguments_of_side p right)
+    (is_marked_side S rules R p h right)

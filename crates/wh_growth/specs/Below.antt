@@ -1,4 +1,4 @@
--- Interpretations of which one is at most the other.
+-- Readings of which one is at most the other.
 use Rattle.std.specs.Prelude.{ℕ, ◌≤◌, ◌≡◌, List, Some, map, slice_get}
 use Rattle.wh_types.specs.Ty.{Ty, arguments}
 use Rattle.wh_terms.specs.Typing.{Symbols}
@@ -6,6 +6,7 @@ use Rattle.wh_terms.specs.Rules.{RewriteRule}
 use Rattle.wh_hopoly.specs.Polynomials.{Polynomial}
 use Rattle.wh_hopoly.specs.Evaluation.{Interpretation}
 use Rattle.wh_polycheck.specs.Marks.{Mark, marked_types}
+use Rattle.wh_polycheck.specs.Readings.{ReadingsData}
 use Rattle.wh_meaning.specs.Valuations.{Valuation}
 use Rattle.wh_meaning.specs.Meaning.{den}
 
@@ -14,7 +15,7 @@ abbrev pub IsBelow : List Ty → Polynomial → Polynomial → Type 0
 IsBelow Γ p q = (ψ : Valuation) → den Γ ψ p ≤ den Γ ψ q
 
 -- the interpretations are of the same types, each at most the other of its symbol (ours)
-pub record AreBelow (low high : List Interpretation) : Type 0 where
+pub record AreSymbolsBelow (low high : List Interpretation) : Type 0 where
   pub kinds : map (λ s. s.kind) low ≡ map (λ s. s.kind) high
   pub each : (f : ℕ) (s t : Interpretation) → slice_get low f ≡ Some s → slice_get high f ≡ Some t
       → IsBelow (arguments s.kind) s.polynomial t.polynomial
@@ -24,3 +25,8 @@ pub record AreMarksBelow (S : Symbols) (rules : List RewriteRule) (low high : Li
   pub symbols : map (λ m. m.symbol) low ≡ map (λ m. m.symbol) high
   pub each : (i : ℕ) (m n : Mark) → slice_get low i ≡ Some m → slice_get high i ≡ Some n
       → IsBelow (marked_types S rules m.symbol) m.polynomial n.polynomial
+
+-- each reading of the first is at most the one of the second (ours)
+pub record AreBelow (S : Symbols) (rules : List RewriteRule) (low high : ReadingsData) : Type 0 where
+  pub of_symbols : AreSymbolsBelow low.symbols high.symbols
+  pub of_marks : AreMarksBelow S rules low.marks high.marks

@@ -1,12 +1,12 @@
 -- A guess whose first symbols are read by new lists.
 use Rattle.std.specs.Bool.{OnTrue}
 use Rattle.std.proofs.Common.{◌≡◌, ◌<◌, ℕ, zero, suc, List, [], ◌∷◌, Bool, true, false, Vec, Global, length, map, get_or, ap, arith}
-use Rattle.wh_system.specs.SystemView.{system_data}
+use Rattle.wh_reduction.specs.TaskView.{task_data}
 use Rattle.wh_polycheck.specs.declared.marks.MarkedSymbol.{MarkedSymbol}
 use Rattle.wh_guesses.specs.Reads.{AreReadBy, AreMarksBy}
 use Rattle.wh_guesses.specs.Tasks.{IsGuessOf}
-use Rattle.wh_guesses.specs.declared.task.Task.{Task}
-use Rattle.wh_guesses.specs.declared.task.Guess.{Guess}
+use Rattle.wh_reduction.specs.declared.task.Task.{Task}
+use Rattle.wh_guesses.specs.declared.guess.Guess.{Guess}
 use Rattle.wh_guesses.proofs.ReadLemmas.{mixed}
 
 abbrev pub IsMixed : Task → List MarkedSymbol → ℕ → List (List ℕ) → List (List ℕ) → Guess → Type 0
@@ -14,7 +14,7 @@ IsMixed t ms n new old g = record {
   guess : IsGuessOf t g;
   marks : map (λ (m : MarkedSymbol). m.symbol) g.marks.items ≡ map (λ (m : MarkedSymbol). m.symbol) ms;
   read : AreReadBy (mixed n new old) g.symbols.items;
-  read_marks : AreMarksBy (system_data t.system.now).symbols (system_data t.system.now).rules (mixed n new old) (length g.symbols.items) g.marks.items;
+  read_marks : AreMarksBy (task_data t).symbols (task_data t).rules (mixed n new old) (length g.symbols.items) g.marks.items;
 }
 
 pub item_at : (lists : List (Vec ℕ Global)) (n : ℕ) (x : Vec ℕ Global) → n < length lists → x ≡ get_or lists n x → x.items ≡ get_or (map (λ (l : Vec ℕ Global). l.items) lists) n []

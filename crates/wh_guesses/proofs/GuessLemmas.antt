@@ -1,29 +1,41 @@
--- What a guess gives to the evaluation of sides.
-use Rattle.std.proofs.Common.{◌≡◌, ◌<◌, ℕ, zero, suc, List, [], ◌∷◌, map, length, arith, Some, slice_get, All, Contains, refl, ap, sym, subst, ◌∙◌}
+-- What readings of the space give to the evaluation of sides, and guesses that are changed.
+use Rattle.std.proofs.Common.{◌≡◌, ◌<◌, ℕ, zero, suc, List, [], ◌∷◌, map, length, Some, slice_get, get_or, All, Contains, refl, ap, sym, subst, ◌∙◌, arith}
+use mathlib.Core.Path.{subst₂}
 use Rattle.std.proofs.lemmas.Option.{none-some, same_Some}
+use Rattle.std.proofs.lemmas.List.{length-map}
 use Rattle.std.proofs.lemmas.List.Elements.{All-contains}
 use Rattle.wh_types.specs.Ty.{Ty, arguments}
 use Rattle.wh_types.specs.Erase.{ty}
 use Rattle.wh_terms.specs.Typing.{Symbols}
 use Rattle.wh_terms.specs.Rules.{RewriteRule}
-use Rattle.std.proofs.lemmas.List.{length-map}
 use Rattle.wh_pairs.specs.PairData.{PairData, IsIncreasing, pair_data}
 use Rattle.wh_pairs.specs.declared.pair.Pair.{Pair}
-use Rattle.wh_polycheck.specs.Covering.{HaveTypedSides}
-use Rattle.wh_pairs.proofs.ByPlace.{contains_at, place_of, unmap}
 use Rattle.wh_pairs.specs.Marked.{AreMarked}
+use Rattle.wh_pairs.proofs.ByPlace.{contains_at, contains_number, place_of, unmap}
+use Rattle.wh_pairs.proofs.SetLemmas.{all_from_members}
+use Rattle.wh_reduction.specs.TaskData.{TaskData, IsTask, numbers_from, whole_task}
+use Rattle.wh_reduction.specs.TaskView.{task_data}
+use Rattle.wh_reduction.specs.declared.task.Task.{Task}
+use Rattle.wh_reduction.proofs.Numbers.{numbers_are}
+use Rattle.wh_reduction.proofs.TaskLemmas.{pair_at}
 use Rattle.wh_hopoly.specs.Evaluation.{Interpretation, NormalInterpretations}
 use Rattle.wh_hopoly.specs.Erase.{interpretation, interpretations}
 use Rattle.wh_hopoly.specs.declared.expression.Symbol.{Symbol}
 use Rattle.wh_polycheck.specs.Marks.{Mark, marked_types, AreNormalMarks, HasMarkedSides}
+use Rattle.wh_polycheck.specs.Readings.{ReadingsData, AreNormal, AreProper}
+use Rattle.wh_polycheck.specs.ReadingsView.{readings_data}
 use Rattle.wh_polycheck.specs.SideResults.{mark, marks_of}
 use Rattle.wh_polycheck.specs.Sides.{IsInterpretedAs, Interprets}
+use Rattle.wh_polycheck.specs.Covering.{HaveTypedSides, IsTypedTask}
 use Rattle.wh_polycheck.specs.declared.marks.MarkedSymbol.{MarkedSymbol}
+use Rattle.wh_polycheck.specs.declared.marks.Readings.{Readings}
 use Rattle.wh_covering.proofs.Walks.{kinds_are, marks_are}
 use Rattle.wh_covering.proofs.CoverWalk.{set_sides}
 use Rattle.wh_space.specs.Space.{IsOfSpace}
-use Rattle.wh_guesses.specs.Guesses.{IsTask, IsReadSymbol, IsReadMark, IsGuess}
-use Rattle.wh_pairs.proofs.SetLemmas.{all_from_members}
+use Rattle.wh_guesses.specs.Coefficients.{AreOfSpace}
+use Rattle.wh_guesses.specs.Guesses.{IsSearchTask, IsReadSymbol, IsReadMark, IsGuess}
+use Rattle.wh_guesses.specs.Tasks.{IsGuessOf, guess_data}
+use Rattle.wh_guesses.specs.declared.guess.Guess.{Guess}
 
 in_order : (symbols : List Interpretation) (f : ℕ) (a : Ty) → slice_get (map (λ (s : Interpretation). s.kind) symbols) f ≡ Some a
     → IsInterpretedAs symbols f a
@@ -31,64 +43,104 @@ in_order [] f a e = absurd (none-some a e)
 in_order (s ∷ symbols) zero a e = (s, refl, same_Some s.kind a e)
 in_order (s ∷ symbols) (suc f) a e = in_order symbols f a e
 
-module _ (S : Symbols) (rules : List RewriteRule) (pairs : List PairData) (set : List ℕ) (symbols : List Symbol) (marks : List MarkedSymbol)
-    (guess : IsGuess S rules pairs set symbols marks) where
-  pub guess_symbols : All (λ s. IsOfSpace (arguments s.kind) s.polynomial) (interpretations symbols)
-  guess_symbols = all_from_members (λ s. IsOfSpace (arguments s.kind) s.polynomial) (interpretations symbols) (λ s found.
+-- readings of the space
+
+module _ (T : TaskData) (R : ReadingsData) (are : AreOfSpace T R) where
+  normal_symbols : NormalInterpretations R.symbols
+  normal_symbols f s at =
+      let of = All-contains (λ s. IsOfSpace (arguments s.kind) s.polynomial) R.symbols s are.symbols_of_space (contains_at R.symbols f s at) in
+      of.normal
+
+  normal_marks : AreNormalMarks T.symbols T.rules R.marks
+  normal_marks m found =
+      let of = All-contains (λ m. IsOfSpace (marked_types T.symbols T.rules m.symbol) m.polynomial) R.marks m are.marks_of_space found in
+      of.normal
+
+  pub space_normal : AreNormal T.symbols T.rules R
+  space_normal = record { symbols = normal_symbols; marks = normal_marks }
+
+  interprets : Interprets T.symbols R.symbols
+  interprets f a known = in_order R.symbols f a (ap (λ l. slice_get l f) are.readings.kinds ∙ known)
+
+  pub space_proper : AreProper T.symbols T.rules R
+  space_proper = record { interpreted = interprets; normal = space_normal }
+
+  pub space_sides : IsTypedTask T → (n : ℕ) (p : PairData) → Contains T.set n → slice_get T.pairs n ≡ Some p → HasMarkedSides T.symbols T.rules R.marks p
+  space_sides typed n p found at = set_sides T.symbols T.rules T.pairs T.set R.marks typed.typed are.readings.marked n p found at
+
+-- so it is of the pair with a place in the program's set
+pub sides_at : (t : Task) (R : ReadingsData) → AreOfSpace (task_data t) R → IsTypedTask (task_data t) → (i : ℕ) (d : Pair) → i < length t.set.now
+    → HasMarkedSides (task_data t).symbols (task_data t).rules R.marks (pair_data (get_or t.pairs.now (get_or t.set.now i 0) d))
+sides_at t R are typed i d within =
+    space_sides (task_data t) R are typed (get_or t.set.now i 0) (pair_data (get_or t.pairs.now (get_or t.set.now i 0) d))
+    (contains_number t.set.now i within) (pair_at t typed.task i d within)
+
+-- the readings of a guess are of the space
+
+module _ (T : TaskData) (symbols : List Symbol) (marks : List MarkedSymbol) (guess : IsGuess T symbols marks) where
+  symbols_in : All (λ s. IsOfSpace (arguments s.kind) s.polynomial) (interpretations symbols)
+  symbols_in = all_from_members (λ s. IsOfSpace (arguments s.kind) s.polynomial) (interpretations symbols) (λ s found.
       let at = place_of (interpretations symbols) s found in
       let u = unmap interpretation symbols at.0 s at.1 in
       subst (λ (s : Interpretation). IsOfSpace (arguments s.kind) s.polynomial) u.2 (All-contains IsReadSymbol symbols u.0 guess.symbols_read (contains_at symbols at.0 u.0 u.1)))
 
-  pub guess_marks : All (λ m. IsOfSpace (marked_types S rules m.symbol) m.polynomial) (marks_of marks)
-  guess_marks = all_from_members (λ m. IsOfSpace (marked_types S rules m.symbol) m.polynomial) (marks_of marks) (λ m found.
+  marks_in : All (λ m. IsOfSpace (marked_types T.symbols T.rules m.symbol) m.polynomial) (marks_of marks)
+  marks_in = all_from_members (λ m. IsOfSpace (marked_types T.symbols T.rules m.symbol) m.polynomial) (marks_of marks) (λ m found.
       let at = place_of (marks_of marks) m found in
       let u = unmap mark marks at.0 m at.1 in
-      subst (λ (m : Mark). IsOfSpace (marked_types S rules m.symbol) m.polynomial) u.2 (All-contains (IsReadMark S rules) marks u.0 guess.marks_read (contains_at marks at.0 u.0 u.1)))
+      subst (λ (m : Mark). IsOfSpace (marked_types T.symbols T.rules m.symbol) m.polynomial) u.2
+      (All-contains (IsReadMark T.symbols T.rules) marks u.0 guess.marks_read (contains_at marks at.0 u.0 u.1)))
 
-  pub guess_normal : NormalInterpretations (interpretations symbols)
-  guess_normal f s at =
-      let of = All-contains (λ s. IsOfSpace (arguments s.kind) s.polynomial) (interpretations symbols) s guess_symbols (contains_at (interpretations symbols) f s at) in of.normal
+  guess_in : AreOfSpace T (record { symbols = interpretations symbols; marks = marks_of marks })
+  guess_in = record {
+    readings = record {
+      kinds = kinds_are symbols ∙ guess.kinds;
+      marked = subst (AreMarked T.pairs T.set) (sym (marks_are marks)) guess.marked;
+    };
+    symbols_of_space = symbols_in;
+    marks_of_space = marks_in;
+  }
 
-  pub guess_normal_marks : AreNormalMarks S rules (marks_of marks)
-  guess_normal_marks m found =
-      let of = All-contains (λ m. IsOfSpace (marked_types S rules m.symbol) m.polynomial) (marks_of marks) m guess_marks found in of.normal
+pub guess_of_space : (t : Task) (g : Guess) → IsGuessOf t g → AreOfSpace (task_data t) (guess_data g)
+guess_of_space t g guess = guess_in (task_data t) g.symbols.items g.marks.items guess
 
-  pub guess_kinds : map (λ s. s.kind) (interpretations symbols) ≡ S.funs
-  guess_kinds = kinds_are symbols ∙ guess.kinds
+-- the readings that a guess gives out are those that it stands for
+pub readings_are : (r : Readings) (g : Guess) → r.symbols.now ≡ g.symbols.items → r.marks.now ≡ g.marks.items → readings_data r ≡ guess_data g
+readings_are r g symbols marks =
+    let Is = λ (xs : List Symbol) (ms : List MarkedSymbol). readings_data r ≡ record { symbols = interpretations xs; marks = marks_of ms } in
+    subst₂ Is symbols marks refl
 
-  pub guess_interprets : Interprets S (interpretations symbols)
-  guess_interprets f a known = in_order (interpretations symbols) f a (ap (λ l. slice_get l f) guess_kinds ∙ known)
-
-  pub guess_marked : AreMarked pairs set (map (λ m. m.symbol) (marks_of marks))
-  guess_marked = subst (AreMarked pairs set) (sym (marks_are marks)) guess.marked
-
-  pub guess_sides : IsTask S rules pairs set → (n : ℕ) (p : PairData) → Contains set n → slice_get pairs n ≡ Some p → HasMarkedSides S rules (marks_of marks) p
-  guess_sides task n p found at = set_sides S rules pairs set (marks_of marks) task.typed guess_marked n p found at
-
--- so of equal lists
-pub guess_same : (S : Symbols) (rules : List RewriteRule) (pairs : List PairData) (set : List ℕ) (xs ys : List Symbol) (ms ns : List MarkedSymbol)
-    → xs ≡ ys → ms ≡ ns → IsGuess S rules pairs set ys ns → IsGuess S rules pairs set xs ms
-guess_same S rules pairs set xs ys ms ns symbols marks guess =
-    subst (λ (l : List Symbol). IsGuess S rules pairs set l ms) (sym symbols) (subst (λ (l : List MarkedSymbol). IsGuess S rules pairs set ys l) (sym marks) guess)
+pub readings_in : (t : Task) (r : Readings) (g : Guess) → IsGuessOf t g → r.symbols.now ≡ g.symbols.items → r.marks.now ≡ g.marks.items
+    → AreOfSpace (task_data t) (readings_data r)
+readings_in t r g guess symbols marks = subst (AreOfSpace (task_data t)) (sym (readings_are r g symbols marks)) (guess_of_space t g guess)
 
 -- a guess with one symbol or marked symbol read anew
 
-pub guess_symbols_new : (S : Symbols) (rules : List RewriteRule) (pairs : List PairData) (set : List ℕ) (xs ys : List Symbol) (ms : List MarkedSymbol)
-    → map (λ s. ty s.kind) ys ≡ map (λ s. ty s.kind) xs → All IsReadSymbol ys → IsGuess S rules pairs set xs ms → IsGuess S rules pairs set ys ms
-guess_symbols_new S rules pairs set xs ys ms kinds read guess =
+pub guess_symbols_new : (T : TaskData) (xs ys : List Symbol) (ms : List MarkedSymbol) → map (λ s. ty s.kind) ys ≡ map (λ s. ty s.kind) xs
+    → All IsReadSymbol ys → IsGuess T xs ms → IsGuess T ys ms
+guess_symbols_new T xs ys ms kinds read guess =
     record { kinds = kinds ∙ guess.kinds; marked = guess.marked; symbols_read = read; marks_read = guess.marks_read }
 
-pub guess_marks_new : (S : Symbols) (rules : List RewriteRule) (pairs : List PairData) (set : List ℕ) (xs : List Symbol) (ms ns : List MarkedSymbol)
-    → map (λ m. m.symbol) ns ≡ map (λ m. m.symbol) ms → All (IsReadMark S rules) ns → IsGuess S rules pairs set xs ms → IsGuess S rules pairs set xs ns
-guess_marks_new S rules pairs set xs ms ns symbols read guess =
-    record { kinds = guess.kinds; marked = subst (AreMarked pairs set) (sym symbols) guess.marked; symbols_read = guess.symbols_read; marks_read = read }
+pub guess_marks_new : (T : TaskData) (xs : List Symbol) (ms ns : List MarkedSymbol) → map (λ m. m.symbol) ns ≡ map (λ m. m.symbol) ms
+    → All (IsReadMark T.symbols T.rules) ns → IsGuess T xs ms → IsGuess T xs ns
+guess_marks_new T xs ms ns symbols read guess =
+    record { kinds = guess.kinds; marked = subst (AreMarked T.pairs T.set) (sym symbols) guess.marked; symbols_read = guess.symbols_read; marks_read = read }
 
--- a task, by the program's list of pairs
-pub task_of : (S : Symbols) (rules : List RewriteRule) (pairs : List Pair) (set : List ℕ) → HaveTypedSides S rules (map pair_data pairs)
-    → All (λ n. n < length pairs) set → IsIncreasing set → IsTask S rules (map pair_data pairs) set
-task_of S rules pairs set typed within up = record {
-  typed = typed;
-  within = all_from_members (λ n. n < length (map pair_data pairs)) set (λ n found.
-      let h = All-contains (λ n. n < length pairs) set n within found in omega (arith, h, length-map pairs pair_data));
-  increasing = up;
+-- a task of the search, by the program's list of pairs
+pub search_task : (S : Symbols) (rules : List RewriteRule) (pairs : List Pair) (set covered : List ℕ) → HaveTypedSides S rules (map pair_data pairs)
+    → All (λ n. n < length pairs) set → IsIncreasing set → covered ≡ numbers_from 0 (length rules)
+    → IsSearchTask (record { symbols = S; rules = rules; pairs = map pair_data pairs; set = set; covered = covered })
+search_task S rules pairs set covered typed within up whole = record {
+  typed = record {
+    task = record {
+      within = all_from_members (λ n. n < length (map pair_data pairs)) set (λ n found.
+          let h = All-contains (λ n. n < length pairs) set n within found in omega (arith, h, length-map pairs pair_data));
+      increasing = up;
+      are_rules = all_from_members (λ n. n < length rules) covered (λ n found.
+          let at = place_of covered n found in
+          let (is, less) = numbers_are 0 (length rules) at.0 n (subst (λ (l : List ℕ). slice_get l at.0 ≡ Some n) whole at.1) in omega (arith, is, less));
+    };
+    typed = typed;
+  };
+  whole = whole;
 }

@@ -4,10 +4,9 @@ pub mod EmptyLemmas
 pub mod BackLemmas
 pub mod ReadLemmas
 pub mod ChangeLemmas
-pub mod ReadingLemmas
+pub mod UseLemmas
 pub mod ListedLemmas
 pub mod GuessLemmas
-pub mod GuessTold
 pub mod LineLemmas
 pub mod ToldLemmas
 pub mod LimitLemmas

@@ -15,7 +15,7 @@ use Rattle.wh_pairs.proofs.Increasing.{one_place, increasing_at}
 use Rattle.wh_pairs.proofs.PairLemmas.{increasing_push}
 use Rattle.wh_pairs.proofs.ByPlace.{some_one, contains_at}
 use Rattle.wh_hopoly.specs.Polynomials.{Polynomial}
-use Rattle.wh_hopoly.specs.Evaluation.{Run, Interpretation}
+use Rattle.wh_hopoly.specs.Evaluation.{Run}
 use Rattle.wh_hopoly.specs.Moves.{Transfer, IsCover, IsStrictCover}
 use Rattle.wh_hopoly.specs.Erase.{poly, monomials, sum_of, transfer, transfers}
 use Rattle.wh_hopoly.specs.Limits.{weight}
@@ -23,7 +23,8 @@ use Rattle.wh_hopoly.specs.declared.polynomial.Poly.{Poly}
 use Rattle.wh_hopoly.specs.declared.polynomial.Monomial.{Monomial}
 use Rattle.wh_hopoly.proofs.Lists.{poly_is}
 use Rattle.wh_hopoly.specs.declared.expression.Move.{Move}
-use Rattle.wh_polycheck.specs.Marks.{Mark}
+use Rattle.wh_reduction.specs.TaskData.{TaskData}
+use Rattle.wh_polycheck.specs.Readings.{ReadingsData}
 use Rattle.wh_polycheck.specs.CoverFaults.{IsFirstStrictCoverFault}
 use Rattle.wh_polycheck.specs.declared.fault.CoverFault.{CoverFault}
 use Rattle.wh_polycheck.specs.declared.fault.CoverFault.TheVariants.{BadMove, OverSpent, NotCovered, NotStrict}
@@ -34,7 +35,8 @@ use Rattle.wh_hopoly.specs.declared.fault.PolyFault.TheVariants.{Overflow, TooLa
 use Rattle.wh_polycheck.specs.SideResults.{HasExcess, IsFaultOfSide, IsFaultOfPairSide}
 use Rattle.wh_covering.specs.Lines.{IsSide, IsSomeSide}
 use Rattle.wh_find_moves.specs.Found.{AreCovering, NoneCovers}
-use Rattle.wh_guesses.specs.Lines.{IsLine, HasNoSide, IsNotMet, AreRuleLines, IsStrictLine, IsPairLine, IsDroppedLine, ArePairLines}
+use Rattle.wh_guesses.specs.Conditions.{IsMet}
+use Rattle.wh_guesses.specs.Lines.{IsLine, HasNoSide, IsNotMet, IsRuleLine, AreRuleLines, IsStrictLine, IsPairLine, IsDroppedLine, ArePairLines}
 use Rattle.wh_guesses.specs.declared.lines.PairLine.{PairLine}
 use Rattle.wh_pairs.proofs.SetLemmas.{all_from_members}
 use Rattle.wh_space.proofs.PushLemmas.{EachAt, each_push, map_push}
@@ -52,12 +54,12 @@ excess : (run : Run Polynomial) (e : PolyFault) → HasExcess (Contains run.valu
 excess run (Overflow k) (w, value, over) p side = side.within w value (inl over)
 excess run (TooLarge k) (w, value, over) p side = side.within w value (inr over)
 
-pub no_rule_side : (symbols : List Interpretation) (r : RewriteRule) (right : Bool) (e : PolyFault) → IsFaultOfSide symbols r.metas (side_of right r) e → HasNoSide (rule_run symbols r right)
-no_rule_side symbols r right e fault = excess (rule_run symbols r right) e fault.0
+pub no_rule_side : (R : ReadingsData) (r : RewriteRule) (right : Bool) (e : PolyFault) → IsFaultOfSide R.symbols r.metas (side_of right r) e → HasNoSide (rule_run R r right)
+no_rule_side R r right e fault = excess (rule_run R r right) e fault.0
 
-pub no_pair_side : (S : Symbols) (rules : List RewriteRule) (symbols : List Interpretation) (marks : List Mark) (p : PairData) (right : Bool) (e : PolyFault)
-    → IsFaultOfPairSide S rules symbols marks p right e → HasNoSide (pair_run S rules symbols marks p right)
-no_pair_side S rules symbols marks p right e fault = excess (pair_run S rules symbols marks p right) e fault.0
+pub no_pair_side : (S : Symbols) (rules : List RewriteRule) (R : ReadingsData) (p : PairData) (right : Bool) (e : PolyFault)
+    → IsFaultOfPairSide S rules R.symbols R.marks p right e → HasNoSide (pair_run S rules R p right)
+no_pair_side S rules R p right e fault = excess (pair_run S rules R p right) e fault.0
 
 pub no_left : (a b : Run Polynomial) → HasNoSide a → IsNotMet a b
 no_left a b none met = none a.result met.left_side
@@ -113,6 +115,18 @@ pair_line_of a b p q line l r is strict = record {
   strict_is = subst₂ (λ p q. IsTrue line.strict ↔ IsStrictCover p q (transfers line.moves)) l.is r.is strict;
 }
 
+-- a line is strict where some moves show that the left side is greater
+pub strict_is_met : (a b : Run Polynomial) (line : PairLine) → IsPairLine a b line → IsTrue line.strict ↔ IsMet a b true
+strict_is_met a b line is = (
+  λ strict. record {
+    left_side = is.line_is.left_side;
+    right_side = is.line_is.right_side;
+    moves = transfers line.moves;
+    covers = is.strict_is.0 strict;
+  },
+  λ met. is.strict_is.1 (is.line_is.moves.strict met.moves met.covers),
+)
+
 -- a fault of a strict cover is that there is none
 no_strict_cover : (left right : Polynomial) (ms : List Transfer) (f : CoverFault) → IsFirstStrictCoverFault left right ms f → IsStrictCover left right ms → ⊥
 no_strict_cover left right ms (BadMove e) (m, at, bad, before) strict = bad (strict.cover.good m (contains_at ms e m at))
@@ -127,41 +141,42 @@ strict_decided left right ms (Err f) h = (λ t. absurd (cc), λ strict. absurd (
 
 -- rules
 
-pub record HasRuleLines (rules : List RewriteRule) (symbols : List Interpretation) (i : ℕ) (lines : List (List Move)) : Type 0 where
+pub record HasRuleLines (T : TaskData) (R : ReadingsData) (i : ℕ) (lines : List (List Move)) : Type 0 where
   pub count : length lines ≡ i
-  pub each : EachAt (λ k ms. (r : RewriteRule) → slice_get rules k ≡ Some r → IsLine (rule_run symbols r false) (rule_run symbols r true) ms) (map transfers lines)
+  pub each : EachAt (λ k ms. (n : ℕ) → slice_get T.covered k ≡ Some n → IsRuleLine T R n ms) (map transfers lines)
 
-module _ (rules : List RewriteRule) (symbols : List Interpretation) where
-  pub rule_lines_none : (lines : List (List Move)) → lines ≡ [] → HasRuleLines rules symbols 0 lines
+module _ (T : TaskData) (R : ReadingsData) where
+  pub rule_lines_none : (lines : List (List Move)) → lines ≡ [] → HasRuleLines T R 0 lines
   rule_lines_none lines none = record {
     count = ap length none;
     each = λ k ms at. absurd (let within = slice_get_within (map transfers lines) k ms at in omega (arith, within, length-map lines transfers, ap length none));
   }
 
-  pub rule_lines_more : (i : ℕ) (lines new : List (List Move)) (ms : List Move) → HasRuleLines rules symbols i lines → new ≡ lines ++ ms ∷ []
-      → ((r : RewriteRule) → slice_get rules i ≡ Some r → IsLine (rule_run symbols r false) (rule_run symbols r true) (transfers ms))
-      → HasRuleLines rules symbols (i + 1) new
-  rule_lines_more i lines new ms has is here = record {
+  pub rule_lines_more : (i n : ℕ) (lines new : List (List Move)) (ms : List Move) → HasRuleLines T R i lines → new ≡ lines ++ ms ∷ []
+      → slice_get T.covered i ≡ Some n → IsRuleLine T R n (transfers ms) → HasRuleLines T R (i + 1) new
+  rule_lines_more i n lines new ms has is place here = record {
     count = omega (arith, ap length is, length-append lines (ms ∷ []), has.count);
-    each = each_push (λ k ms. (r : RewriteRule) → slice_get rules k ≡ Some r → IsLine (rule_run symbols r false) (rule_run symbols r true) ms)
+    each = each_push (λ k ms. (n : ℕ) → slice_get T.covered k ≡ Some n → IsRuleLine T R n ms)
         (map transfers lines) (map transfers new) (transfers ms) (map_push transfers lines new ms is) has.each
-        (λ r at. here r (ap (slice_get rules) (sym (length-map lines transfers ∙ has.count)) ∙ at));
+        (λ m at.
+        let same : n ≡ m = some_one place (ap (slice_get T.covered) (sym (length-map lines transfers ∙ has.count)) ∙ at) in
+        subst (λ (m : ℕ). IsRuleLine T R m (transfers ms)) same here);
   }
 
-  pub rule_lines_all : (i : ℕ) (lines : List (List Move)) → HasRuleLines rules symbols i lines → i ≡ length rules → AreRuleLines rules symbols (map transfers lines)
+  pub rule_lines_all : (i : ℕ) (lines : List (List Move)) → HasRuleLines T R i lines → i ≡ length T.covered → AreRuleLines T R (map transfers lines)
   rule_lines_all i lines has all = record {
     count = length-map lines transfers ∙ has.count ∙ all;
-    each = λ k r ms at there. has.each k ms there r at;
+    each = λ k n ms at there. has.each k ms there n at;
   }
 
 -- pairs
 
-module _ (S : Symbols) (rules : List RewriteRule) (pairs : List PairData) (symbols : List Interpretation) (marks : List Mark) (set : List ℕ) where
+module _ (T : TaskData) (R : ReadingsData) where
   pub record HasPairLines (i : ℕ) (lines : List (List Move)) (drop : List ℕ) : Type 0 where
     pub count : length lines ≡ i
-    pub each : EachAt (λ k ms. (n : ℕ) → slice_get set k ≡ Some n → IsDroppedLine S rules pairs symbols marks drop n ms) (map transfers lines)
+    pub each : EachAt (λ k ms. (n : ℕ) → slice_get T.set k ≡ Some n → IsDroppedLine T R drop n ms) (map transfers lines)
     pub increasing : IsIncreasing drop
-    pub earlier : (m : ℕ) → Contains drop m → (k : ℕ) × (k < i) × (slice_get set k ≡ Some m)
+    pub earlier : (m : ℕ) → Contains drop m → (k : ℕ) × (k < i) × (slice_get T.set k ≡ Some m)
 
   pub pair_lines_none : (lines : List (List Move)) (drop : List ℕ) → lines ≡ [] → drop ≡ [] → HasPairLines 0 lines drop
   pair_lines_none lines drop none empty = record {
@@ -171,48 +186,48 @@ module _ (S : Symbols) (rules : List RewriteRule) (pairs : List PairData) (symbo
     earlier = λ m found. absurd (let (k, within, e) = subst (λ (l : List ℕ). Contains l m) empty found in omega arith);
   }
 
-  module _ (up : IsIncreasing set) (i n : ℕ) (p : PairData) (lines new : List (List Move)) (drop : List ℕ) (line : PairLine) (has : HasPairLines i lines drop)
-      (place : slice_get set i ≡ Some n) (pair : slice_get pairs n ≡ Some p) (is : new ≡ lines ++ line.moves ∷ [])
-      (found : IsPairLine (pair_run S rules symbols marks p false) (pair_run S rules symbols marks p true) line) where
+  module _ (up : IsIncreasing T.set) (i n : ℕ) (p : PairData) (lines new : List (List Move)) (drop : List ℕ) (line : PairLine) (has : HasPairLines i lines drop)
+      (place : slice_get T.set i ≡ Some n) (pair : slice_get T.pairs n ≡ Some p) (is : new ≡ lines ++ line.moves ∷ [])
+      (found : IsPairLine (pair_run T.symbols T.rules R p false) (pair_run T.symbols T.rules R p true) line) where
     -- what was dropped before is not this pair
     not_yet : Contains drop n → ⊥
-    not_yet there = let (k, less, at) = has.earlier n there in let same = one_place set k i n up at place in omega (arith, same, less)
+    not_yet there = let (k, less, at) = has.earlier n there in let same = one_place T.set k i n up at place in omega (arith, same, less)
 
-    here : (more : List ℕ) → (Contains more n ↔ IsTrue line.strict) → (q : PairData) → slice_get pairs n ≡ Some q
-        → IsLine (pair_run S rules symbols marks q false) (pair_run S rules symbols marks q true) (transfers line.moves)
-        × (Contains more n ↔ IsStrictLine (pair_run S rules symbols marks q false) (pair_run S rules symbols marks q true) (transfers line.moves))
+    here : (more : List ℕ) → (Contains more n ↔ IsTrue line.strict) → (q : PairData) → slice_get T.pairs n ≡ Some q
+        → IsLine (pair_run T.symbols T.rules R q false) (pair_run T.symbols T.rules R q true) (transfers line.moves)
+        × (Contains more n ↔ IsStrictLine (pair_run T.symbols T.rules R q false) (pair_run T.symbols T.rules R q true) (transfers line.moves))
     here more dropped q at =
-        subst (λ (q : PairData). IsLine (pair_run S rules symbols marks q false) (pair_run S rules symbols marks q true) (transfers line.moves)
-        × (Contains more n ↔ IsStrictLine (pair_run S rules symbols marks q false) (pair_run S rules symbols marks q true) (transfers line.moves)))
+        subst (λ (q : PairData). IsLine (pair_run T.symbols T.rules R q false) (pair_run T.symbols T.rules R q true) (transfers line.moves)
+        × (Contains more n ↔ IsStrictLine (pair_run T.symbols T.rules R q false) (pair_run T.symbols T.rules R q true) (transfers line.moves)))
         (some_one pair at) (found.line_is, (λ c. found.strict_is.0 (dropped.0 c), λ s. dropped.1 (found.strict_is.1 s)))
 
-    at_last : (more : List ℕ) → (Contains more n ↔ IsTrue line.strict) → (m : ℕ) → slice_get set (length (map transfers lines)) ≡ Some m
-        → IsDroppedLine S rules pairs symbols marks more m (transfers line.moves)
+    at_last : (more : List ℕ) → (Contains more n ↔ IsTrue line.strict) → (m : ℕ) → slice_get T.set (length (map transfers lines)) ≡ Some m
+        → IsDroppedLine T R more m (transfers line.moves)
     at_last more dropped m at =
-        let same : n ≡ m = some_one place (ap (slice_get set) (sym (length-map lines transfers ∙ has.count)) ∙ at) in
-        subst (λ (m : ℕ). IsDroppedLine S rules pairs symbols marks more m (transfers line.moves)) same (here more dropped)
+        let same : n ≡ m = some_one place (ap (slice_get T.set) (sym (length-map lines transfers ∙ has.count)) ∙ at) in
+        subst (λ (m : ℕ). IsDroppedLine T R more m (transfers line.moves)) same (here more dropped)
 
     count_more : length new ≡ i + 1
     count_more = omega (arith, ap length is, length-append lines (line.moves ∷ []), has.count)
 
-    earlier_more : (m : ℕ) → Contains drop m → (k : ℕ) × (k < i + 1) × (slice_get set k ≡ Some m)
+    earlier_more : (m : ℕ) → Contains drop m → (k : ℕ) × (k < i + 1) × (slice_get T.set k ≡ Some m)
     earlier_more m there = let (k, less, at) = has.earlier m there in (k, omega arith, at)
 
     pub pair_kept : line.strict ≡ false → HasPairLines (i + 1) new drop
     pair_kept kept = record {
       count = count_more;
-      each = each_push (λ k ms. (m : ℕ) → slice_get set k ≡ Some m → IsDroppedLine S rules pairs symbols marks drop m ms) (map transfers lines) (map transfers new) (transfers line.moves)
+      each = each_push (λ k ms. (m : ℕ) → slice_get T.set k ≡ Some m → IsDroppedLine T R drop m ms) (map transfers lines) (map transfers new) (transfers line.moves)
           (map_push transfers lines new line.moves is) has.each (at_last drop (λ there. absurd (not_yet there), λ strict. cc));
       increasing = has.increasing;
       earlier = earlier_more;
     }
 
     -- an earlier pair is dropped as before
-    as_before : (longer : List ℕ) → longer ≡ drop ++ n ∷ [] → (k m : ℕ) → k < i → slice_get set k ≡ Some m → Contains longer m ↔ Contains drop m
+    as_before : (longer : List ℕ) → longer ≡ drop ++ n ∷ [] → (k m : ℕ) → k < i → slice_get T.set k ≡ Some m → Contains longer m ↔ Contains drop m
     as_before longer more k m less at = (
       λ there. elim (Contains-push_cases drop n m (subst (λ (l : List ℕ). Contains l m) more there)) [
         | inl before ↦ before
-        | inr same ↦ absurd (let one = one_place set k i n up (at ∙ ap Some (sym same)) place in omega (arith, one, less))
+        | inr same ↦ absurd (let one = one_place T.set k i n up (at ∙ ap Some (sym same)) place in omega (arith, one, less))
       ],
       λ there. subst (λ (l : List ℕ). Contains l m) (sym more) (Contains-append_left drop (n ∷ []) m there),
     )
@@ -220,13 +235,13 @@ module _ (S : Symbols) (rules : List RewriteRule) (pairs : List PairData) (symbo
     below_all : All (λ m. m < n) drop
     below_all = all_from_members (λ m. m < n) drop (λ m there.
         let (k, less, at) = has.earlier m there in
-        let next = increasing_at set k i up less (slice_get_within set i n place) in
-        omega (arith, next, get_or_from_slice_get set k m 0 at, get_or_from_slice_get set i n 0 place))
+        let next = increasing_at T.set k i up less (slice_get_within T.set i n place) in
+        omega (arith, next, get_or_from_slice_get T.set k m 0 at, get_or_from_slice_get T.set i n 0 place))
 
     pub pair_dropped : (longer : List ℕ) → longer ≡ drop ++ n ∷ [] → line.strict ≡ true → HasPairLines (i + 1) new longer
     pair_dropped longer more strict = record {
       count = count_more;
-      each = each_push (λ k ms. (m : ℕ) → slice_get set k ≡ Some m → IsDroppedLine S rules pairs symbols marks longer m ms) (map transfers lines) (map transfers new) (transfers line.moves)
+      each = each_push (λ k ms. (m : ℕ) → slice_get T.set k ≡ Some m → IsDroppedLine T R longer m ms) (map transfers lines) (map transfers new) (transfers line.moves)
           (map_push transfers lines new line.moves is)
           (λ k ms there m at q known.
           let within = slice_get_within (map transfers lines) k ms there in
@@ -241,11 +256,11 @@ module _ (S : Symbols) (rules : List RewriteRule) (pairs : List PairData) (symbo
       ];
     }
 
-  pub pair_lines_all : (i : ℕ) (lines : List (List Move)) (drop : List ℕ) → HasPairLines i lines drop → i ≡ length set
-      → ArePairLines S rules pairs symbols marks set (map transfers lines) drop
+  pub pair_lines_all : (i : ℕ) (lines : List (List Move)) (drop : List ℕ) → HasPairLines i lines drop → i ≡ length T.set
+      → ArePairLines T R (map transfers lines) drop
   pair_lines_all i lines drop has all = record {
     count = length-map lines transfers ∙ has.count ∙ all;
     each = λ k n ms at there. has.each k ms there n at;
     increasing = has.increasing;
-    within = all_from_members (Contains set) drop (λ m there. let (k, less, at) = has.earlier m there in contains_at set k m at);
+    within = all_from_members (Contains T.set) drop (λ m there. let (k, less, at) = has.earlier m there in contains_at T.set k m at);
   }

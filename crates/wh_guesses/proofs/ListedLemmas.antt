@@ -1,7 +1,7 @@
 -- Numbers that are listed after the symbols of terms have joined.
 use Rattle.std.proofs.Common.{◌≡◌, ℕ, ◌⊎◌, inl, inr, List, [], ◌∷◌, ◌++◌, Contains, sym, subst, arith}
 use Rattle.std.proofs.lemmas.List.Elements.{Contains-push_cases, Contains-append_left, Contains-push}
-use Rattle.wh_guesses.specs.Readings.{Joins, ListsAll}
+use Rattle.wh_guesses.specs.Uses.{Joins, ListsAll}
 
 pub listed : (P : ℕ → Type 0) (old items seen numbers : List ℕ) → old ≡ [] → seen ≡ items → Joins P old items → ListsAll (Contains seen) numbers → ListsAll P numbers
 listed P old items seen numbers none same joins lists n = (

@@ -9,7 +9,8 @@ use Rattle.std.proofs.lemmas.Option.{get_or_from_slice_get}
 use Rattle.wh_types.specs.Ty.{Ty, arguments}
 use Rattle.wh_terms.specs.Typing.{Symbols}
 use Rattle.wh_terms.specs.Rules.{RewriteRule}
-use Rattle.wh_pairs.specs.PairData.{PairData}
+use Rattle.wh_reduction.specs.TaskData.{TaskData}
+use Rattle.wh_polycheck.specs.Readings.{ReadingsData}
 use Rattle.wh_pairs.proofs.ByPlace.{contains_at, place_of, remap, some_one}
 use Rattle.wh_hopoly.specs.Polynomials.{Polynomial, zero_poly, plus, Factors}
 use Rattle.wh_hopoly.specs.Evaluation.{Interpretation}
@@ -26,8 +27,6 @@ use Rattle.wh_polycheck.proofs.MoreInterpretations.{slice_get_front, slice_get_b
 use Rattle.wh_space.specs.Space.{HasMonomial, IsOfSpace, space_of}
 use Rattle.wh_space.specs.Coefficients.{capped, HasCoefficients}
 use Rattle.wh_guesses.specs.Coefficients.{scopes_of, HaveCoefficients, AreOfSpace}
-use Rattle.wh_guesses.specs.Reads.{IsChanged, list_of}
-use Rattle.wh_guesses.proofs.ReadLemmas.{have_coefficients as have_read, symbols_have, marks_have}
 use Rattle.wh_guesses.proofs.Uniqueness.{coefficient_is, monomial_of, monomial_at_least}
 
 -- the coefficients of a polynomial, one for each monomial of the space
@@ -106,54 +105,49 @@ symbols_for (s ∷ symbols) of =
     let here = coefficients_for (arguments s.kind) s.polynomial (of 0 s refl) in
     (here.0, here.1, symbols_for symbols (λ f t at. of (suc f) t at))
 
-module _ (S : Symbols) (rules : List RewriteRule) where
+module _ (T : TaskData) where
   abbrev pub mark_coefficients : Mark → List ℕ
-  mark_coefficients m = coefficients (marked_types S rules m.symbol) m.polynomial
+  mark_coefficients m = coefficients (marked_types T.symbols T.rules m.symbol) m.polynomial
 
-  marks_for : (marks : List Mark) → ((i : ℕ) (m : Mark) → slice_get marks i ≡ Some m → IsMarkOfSpace S rules m)
-      → AreListsFor (map (marked_types S rules) (map (λ m. m.symbol) marks)) (map mark_coefficients marks)
+  marks_for : (marks : List Mark) → ((i : ℕ) (m : Mark) → slice_get marks i ≡ Some m → IsMarkOfSpace T.symbols T.rules m)
+      → AreListsFor (map (marked_types T.symbols T.rules) (map (λ m. m.symbol) marks)) (map mark_coefficients marks)
   marks_for [] of = tt
   marks_for (m ∷ marks) of =
-      let here = coefficients_for (marked_types S rules m.symbol) m.polynomial (of 0 m refl) in
+      let here = coefficients_for (marked_types T.symbols T.rules m.symbol) m.polynomial (of 0 m refl) in
       (here.0, here.1, marks_for marks (λ i n at. of (suc i) n at))
 
-  abbrev pub all_lists : List Interpretation → List Mark → List (List ℕ)
-  all_lists symbols marks = map symbol_coefficients symbols ++ map mark_coefficients marks
+  abbrev pub all_lists : ReadingsData → List (List ℕ)
+  all_lists R = map symbol_coefficients R.symbols ++ map mark_coefficients R.marks
 
-  module _ (symbols : List Interpretation) (marks : List Mark)
-      (symbols_in : (f : ℕ) (s : Interpretation) → slice_get symbols f ≡ Some s → IsSymbolOfSpace s)
-      (marks_in : (i : ℕ) (m : Mark) → slice_get marks i ≡ Some m → IsMarkOfSpace S rules m) where
-    pub all_for : map (λ s. s.kind) symbols ≡ S.funs → AreListsFor (scopes_of S rules (map (λ m. m.symbol) marks)) (all_lists symbols marks)
-    all_for kinds =
-        subst (λ funs. AreListsFor (map arguments funs ++ map (marked_types S rules) (map (λ m. m.symbol) marks)) (all_lists symbols marks)) kinds
-        (lists_append (map arguments (map (λ s. s.kind) symbols)) (map (marked_types S rules) (map (λ m. m.symbol) marks))
-        (map symbol_coefficients symbols) (map mark_coefficients marks) (symbols_for symbols symbols_in) (marks_for marks marks_in))
+  module _ (R : ReadingsData) (are : AreOfSpace T R) where
+    -- what is of the space, by places
+    pub each_symbol : (f : ℕ) (s : Interpretation) → slice_get R.symbols f ≡ Some s → IsSymbolOfSpace s
+    each_symbol f s at = All-contains IsSymbolOfSpace R.symbols s are.symbols_of_space (contains_at R.symbols f s at)
 
-    pub have_coefficients : HaveCoefficients S rules (all_lists symbols marks) symbols marks
+    pub each_mark : (i : ℕ) (m : Mark) → slice_get R.marks i ≡ Some m → IsMarkOfSpace T.symbols T.rules m
+    each_mark i m at = All-contains (IsMarkOfSpace T.symbols T.rules) R.marks m are.marks_of_space (contains_at R.marks i m at)
+
+    pub all_for : AreListsFor (scopes_of T (map (λ m. m.symbol) R.marks)) (all_lists R)
+    all_for =
+        subst (λ funs. AreListsFor (map arguments funs ++ map (marked_types T.symbols T.rules) (map (λ m. m.symbol) R.marks)) (all_lists R)) are.readings.kinds
+        (lists_append (map arguments (map (λ s. s.kind) R.symbols)) (map (marked_types T.symbols T.rules) (map (λ m. m.symbol) R.marks))
+        (map symbol_coefficients R.symbols) (map mark_coefficients R.marks) (symbols_for R.symbols each_symbol) (marks_for R.marks each_mark))
+
+    pub have_coefficients : HaveCoefficients T (all_lists R) R
     have_coefficients = record {
       of_symbols = λ f s at.
-          let there = slice_get_front (map symbol_coefficients symbols) (map mark_coefficients marks) f (symbol_coefficients s)
-          (remap symbol_coefficients symbols f s at) in
-          let is = get_or_from_slice_get (all_lists symbols marks) f (symbol_coefficients s) [] there in
+          let there = slice_get_front (map symbol_coefficients R.symbols) (map mark_coefficients R.marks) f (symbol_coefficients s)
+          (remap symbol_coefficients R.symbols f s at) in
+          let is = get_or_from_slice_get (all_lists R) f (symbol_coefficients s) [] there in
           subst (λ cs. HasCoefficients (arguments s.kind) cs s.polynomial) (sym is)
-          (has_coefficients (arguments s.kind) s.polynomial (symbols_in f s at));
+          (has_coefficients (arguments s.kind) s.polynomial (each_symbol f s at));
       of_marks = λ i m at.
-          let count : length symbols + i ≡ length (map symbol_coefficients symbols) + i =
-          ap (λ n. n + i) (sym (length-map symbols symbol_coefficients)) in
-          let there : slice_get (all_lists symbols marks) (length symbols + i) ≡ Some (mark_coefficients m) =
-          ap (slice_get (all_lists symbols marks)) count ∙ slice_get_behind (map symbol_coefficients symbols) (map mark_coefficients marks) i
-          ∙ remap mark_coefficients marks i m at in
-          let is = get_or_from_slice_get (all_lists symbols marks) (length symbols + i) (mark_coefficients m) [] there in
-          subst (λ cs. HasCoefficients (marked_types S rules m.symbol) cs m.polynomial) (sym is)
-          (has_coefficients (marked_types S rules m.symbol) m.polynomial (marks_in i m at));
+          let count : length R.symbols + i ≡ length (map symbol_coefficients R.symbols) + i =
+          ap (λ n. n + i) (sym (length-map R.symbols symbol_coefficients)) in
+          let there : slice_get (all_lists R) (length R.symbols + i) ≡ Some (mark_coefficients m) =
+          ap (slice_get (all_lists R)) count ∙ slice_get_behind (map symbol_coefficients R.symbols) (map mark_coefficients R.marks) i
+          ∙ remap mark_coefficients R.marks i m at in
+          let is = get_or_from_slice_get (all_lists R) (length R.symbols + i) (mark_coefficients m) [] there in
+          subst (λ cs. HasCoefficients (marked_types T.symbols T.rules m.symbol) cs m.polynomial) (sym is)
+          (has_coefficients (marked_types T.symbols T.rules m.symbol) m.polynomial (each_mark i m at));
     }
-
--- what is of the space, by places
-
-module _ (S : Symbols) (rules : List RewriteRule) (pairs : List PairData) (set : List ℕ) (symbols : List Interpretation) (marks : List Mark)
-    (are : AreOfSpace S rules pairs set symbols marks) where
-  pub each_symbol : (f : ℕ) (s : Interpretation) → slice_get symbols f ≡ Some s → IsSymbolOfSpace s
-  each_symbol f s at = All-contains IsSymbolOfSpace symbols s are.symbols_of_space (contains_at symbols f s at)
-
-  pub each_mark : (i : ℕ) (m : Mark) → slice_get marks i ≡ Some m → IsMarkOfSpace S rules m
-  each_mark i m at = All-contains (IsMarkOfSpace S rules) marks m are.marks_of_space (contains_at marks i m at)

@@ -4,8 +4,7 @@ use Rattle.std.proofs.lemmas.List.{map-append}
 use Rattle.wh_types.specs.Ty.{Ty, arguments}
 use Rattle.wh_types.specs.Erase.{ty, tys}
 use Rattle.wh_types.specs.declared.simple_type.SimpleType.{SimpleType}
-use Rattle.wh_terms.specs.Typing.{Symbols}
-use Rattle.wh_terms.specs.Rules.{RewriteRule}
+use Rattle.wh_reduction.specs.TaskData.{TaskData}
 use Rattle.wh_polycheck.specs.Marks.{marked_types}
 use Rattle.wh_guesses.specs.Coefficients.{scopes_of}
 use Rattle.wh_space.specs.Space.{space_of}
@@ -14,17 +13,17 @@ pub ok_as : {T E : Type 0} (r : Result T E) (P Q : T → Type 0) → ((x : T) �
 ok_as (Ok x) P Q f h = f x h
 ok_as (Err e) P Q f h = tt
 
-pub sizes_are : (S : Symbols) (rules : List RewriteRule) (marked : List ℕ) (kinds : List SimpleType) (a b : List ℕ) → tys kinds ≡ S.funs
-    → a ≡ map (λ k. length (space_of (arguments (ty k)))) kinds → b ≡ a ++ map (λ f. length (space_of (marked_types S rules f))) marked
-    → b ≡ map (λ Γ. length (space_of Γ)) (scopes_of S rules marked)
-sizes_are S rules marked kinds a b funs first second =
+pub sizes_are : (T : TaskData) (marked : List ℕ) (kinds : List SimpleType) (a b : List ℕ) → tys kinds ≡ T.symbols.funs
+    → a ≡ map (λ k. length (space_of (arguments (ty k)))) kinds → b ≡ a ++ map (λ f. length (space_of (marked_types T.symbols T.rules f))) marked
+    → b ≡ map (λ Γ. length (space_of Γ)) (scopes_of T marked)
+sizes_are T marked kinds a b funs first second =
     second ∙ ap₂ (λ (l m : List ℕ). l ++ m) (first ∙ front kinds ∙ ap (λ (l : List Ty). map (λ (Γ : List Ty). length (space_of Γ)) (map arguments l)) funs) (back marked)
-    ∙ sym (map-append (λ (Γ : List Ty). length (space_of Γ)) (map arguments S.funs) (map (marked_types S rules) marked))
+    ∙ sym (map-append (λ (Γ : List Ty). length (space_of Γ)) (map arguments T.symbols.funs) (map (marked_types T.symbols T.rules) marked))
   where
     front : (ks : List SimpleType) → map (λ k. length (space_of (arguments (ty k)))) ks ≡ map (λ (Γ : List Ty). length (space_of Γ)) (map arguments (tys ks))
     front [] = refl
     front (k ∷ ks) = ap (λ (l : List ℕ). length (space_of (arguments (ty k))) ∷ l) (front ks)
 
-    back : (fs : List ℕ) → map (λ f. length (space_of (marked_types S rules f))) fs ≡ map (λ (Γ : List Ty). length (space_of Γ)) (map (marked_types S rules) fs)
+    back : (fs : List ℕ) → map (λ f. length (space_of (marked_types T.symbols T.rules f))) fs ≡ map (λ (Γ : List Ty). length (space_of Γ)) (map (marked_types T.symbols T.rules) fs)
     back [] = refl
-    back (f ∷ fs) = ap (λ (l : List ℕ). length (space_of (marked_types S rules f)) ∷ l) (back fs)
+    back (f ∷ fs) = ap (λ (l : List ℕ). length (space_of (marked_types T.symbols T.rules f)) ∷ l) (back fs)

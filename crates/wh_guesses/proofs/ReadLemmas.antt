@@ -10,10 +10,12 @@ use Rattle.wh_terms.specs.Typing.{Symbols}
 use Rattle.wh_terms.specs.Rules.{RewriteRule}
 use Rattle.wh_pairs.proofs.ByPlace.{place_of, unmap, remap}
 use Rattle.wh_hopoly.specs.Polynomials.{Polynomial}
+use Rattle.wh_reduction.specs.TaskData.{TaskData}
 use Rattle.wh_hopoly.specs.Evaluation.{Interpretation}
 use Rattle.wh_hopoly.specs.Erase.{interpretation, interpretations}
 use Rattle.wh_hopoly.specs.declared.expression.Symbol.{Symbol}
 use Rattle.wh_polycheck.specs.Marks.{Mark, marked_types}
+use Rattle.wh_polycheck.specs.Readings.{ReadingsData}
 use Rattle.wh_polycheck.specs.SideResults.{mark, marks_of}
 use Rattle.wh_polycheck.specs.declared.marks.MarkedSymbol.{MarkedSymbol}
 use Rattle.wh_space.specs.Coefficients.{HasCoefficients}
@@ -57,29 +59,30 @@ all_marks S rules at first marks read = all_from_members (IsReadMark S rules) ma
 
 -- the coefficients of the program's symbols, and of what these stand for
 
-pub have_coefficients : (S : Symbols) (rules : List RewriteRule) (lists : List (List ℕ)) (symbols : List Symbol) (marks : List MarkedSymbol) (first : ℕ)
-    → AreReadBy (list_of lists) symbols → AreMarksBy S rules (list_of lists) first marks → first ≡ length symbols
-    → HaveCoefficients S rules lists (interpretations symbols) (marks_of marks)
-have_coefficients S rules lists symbols marks first read read_marks is = record {
-  of_symbols = λ f s at.
-      let (u, there, same) = unmap interpretation symbols f s at in
-      subst (λ (s : Interpretation). HasCoefficients (arguments s.kind) (get_or lists f []) s.polynomial) same (read f u there);
-  of_marks = λ i m at.
-      let (u, there, same) = unmap mark marks i m at in
-      let e : first + i ≡ length (interpretations symbols) + i = omega (arith, is, length-map symbols interpretation) in
-      subst (λ (m : Mark). HasCoefficients (marked_types S rules m.symbol) (get_or lists (length (interpretations symbols) + i) []) m.polynomial) same
-      (subst (λ (k : ℕ). IsMarkBy S rules (get_or lists k []) u) e (read_marks i u there));
-}
+module _ (T : TaskData) (lists : List (List ℕ)) (symbols : List Symbol) (marks : List MarkedSymbol) where
+  abbrev Both : ReadingsData
+  Both = record { symbols = interpretations symbols; marks = marks_of marks }
 
-module _ (S : Symbols) (rules : List RewriteRule) (lists : List (List ℕ)) (symbols : List Symbol) (marks : List MarkedSymbol)
-    (have : HaveCoefficients S rules lists (interpretations symbols) (marks_of marks)) where
-  pub symbols_have : AreReadBy (list_of lists) symbols
-  symbols_have f s at = have.of_symbols f (interpretation s) (remap interpretation symbols f s at)
+  pub have_coefficients : (first : ℕ) → AreReadBy (list_of lists) symbols → AreMarksBy T.symbols T.rules (list_of lists) first marks
+      → first ≡ length symbols → HaveCoefficients T lists Both
+  have_coefficients first read read_marks is = record {
+    of_symbols = λ f s at.
+        let (u, there, same) = unmap interpretation symbols f s at in
+        subst (λ (s : Interpretation). HasCoefficients (arguments s.kind) (get_or lists f []) s.polynomial) same (read f u there);
+    of_marks = λ i m at.
+        let (u, there, same) = unmap mark marks i m at in
+        let e : first + i ≡ length (interpretations symbols) + i = omega (arith, is, length-map symbols interpretation) in
+        subst (λ (m : Mark). HasCoefficients (marked_types T.symbols T.rules m.symbol) (get_or lists (length (interpretations symbols) + i) []) m.polynomial) same
+        (subst (λ (k : ℕ). IsMarkBy T.symbols T.rules (get_or lists k []) u) e (read_marks i u there));
+  }
 
-  pub marks_have : AreMarksBy S rules (list_of lists) (length symbols) marks
-  marks_have i m at =
+  pub symbols_have : HaveCoefficients T lists Both → AreReadBy (list_of lists) symbols
+  symbols_have have f s at = have.of_symbols f (interpretation s) (remap interpretation symbols f s at)
+
+  pub marks_have : HaveCoefficients T lists Both → AreMarksBy T.symbols T.rules (list_of lists) (length symbols) marks
+  marks_have have i m at =
       let e : length (interpretations symbols) + i ≡ length symbols + i = omega (arith, length-map symbols interpretation) in
-      subst (λ (k : ℕ). IsMarkBy S rules (get_or lists k []) m) e (have.of_marks i (mark m) (remap mark marks i m at))
+      subst (λ (k : ℕ). IsMarkBy T.symbols T.rules (get_or lists k []) m) e (have.of_marks i (mark m) (remap mark marks i m at))
 
 -- the first lists are new ones, the others old ones
 

@@ -4,6 +4,6 @@ pub mod Guesses
 pub mod Tasks
 pub mod Conditions
 pub mod Lines
-pub mod Readings
+pub mod Uses
 pub mod Found
 pub mod Weighing

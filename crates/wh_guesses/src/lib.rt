@@ -3,18 +3,18 @@
 
 mod guess;
 mod lines;
+mod making;
 mod node;
-mod readings;
 mod sides;
-mod task;
 mod terms;
 mod testing;
+mod uses;
 
-pub use guess::{
+pub use guess::Guess;
+pub use making::{
     arguments_of, change_at, change_guess, change_mark, change_symbol, guess_by, sizes_of,
 };
 pub use node::{Weighing, node_of_guess};
-pub use readings::{Reading, readings_of};
 pub use sides::{pair_side, rule_side};
-pub use task::{Guess, Task};
 pub use testing::{Outcome, fails, outcome_of};
+pub use uses::{Uses, uses_of};

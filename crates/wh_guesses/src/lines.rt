@@ -1,27 +1,30 @@
 //! Moves for the rules, and for the pairs of a set.
 
 ghost use Rattle.std.specs.Prelude.{◌≡◌, ◌↔◌, ◌<◌, ◌≤◌, ◌^◌, IfOk, IsTrue, MatchOption, Some, length, map, slice_get};
+ghost use Rattle.wh_types.specs.Outcome.{MatchOr};
 ghost use Rattle.wh_terms.specs.Rules.{RewriteRule};
 ghost use Rattle.wh_pairs.specs.PairData.{pair_data};
 ghost use Rattle.wh_system.specs.SystemView.{system_data};
-ghost use Rattle.wh_hopoly.specs.Erase.{interpretations, poly, transfers};
+ghost use Rattle.wh_reduction.specs.TaskView.{task_data};
+ghost use Rattle.wh_hopoly.specs.Erase.{poly, transfers};
 ghost use Rattle.wh_hopoly.specs.Polynomials.{Polynomial};
 ghost use Rattle.wh_hopoly.specs.Moves.{IsStrictCover};
-ghost use Rattle.wh_hopoly.specs.Evaluation.{NormalInterpretations, Run};
-ghost use Rattle.wh_polycheck.specs.Marks.{AreNormalMarks, HasMarkedSides};
-ghost use Rattle.wh_polycheck.specs.SideResults.{marks_of};
-ghost use Rattle.wh_polycheck.specs.Sides.{Interprets};
+ghost use Rattle.wh_hopoly.specs.Evaluation.{Run};
+ghost use Rattle.wh_polycheck.specs.Covering.{IsTypedTask};
+ghost use Rattle.wh_polycheck.specs.Marks.{HasMarkedSides};
+ghost use Rattle.wh_polycheck.specs.Readings.{AreProper};
+ghost use Rattle.wh_polycheck.specs.ReadingsView.{readings_data};
 ghost use Rattle.wh_covering.specs.Lines.{IsSide, IsSomeSide};
-ghost use Rattle.wh_guesses.specs.Guesses.{IsGuess, IsTask};
-ghost use Rattle.wh_types.specs.Outcome.{MatchOr};
-ghost use Rattle.wh_guesses.specs.Lines.{AreLinesOfPairs, AreRuleLines, IsFailingRule, IsLine, IsLineOfPair, IsLineOfRule, IsNotMet, IsPairLine, IsUncoveredPair, IsUncoveredPlace, IsUncoveredRule};
+ghost use Rattle.wh_guesses.specs.Coefficients.{AreOfSpace};
+ghost use Rattle.wh_guesses.specs.Lines.{AreLinesOfPairs, AreRuleLines, IsFailingPair, IsFailingRule, IsLine, IsLineOfPair, IsLineOfRule, IsNotMet, IsPairLine, IsUncoveredPair, IsUncoveredRule};
 
 use crate::sides::{pair_side, rule_side};
 use std::alloc::{AllocError, Global};
 use wh_find_moves::find_moves;
-use wh_hopoly::{Covers, Moves, Poly, Symbol};
+use wh_hopoly::{Covers, Moves, Poly};
 use wh_pairs::Pair;
-use wh_polycheck::{MarkedSymbol, check_strict};
+use wh_polycheck::{Readings, check_strict};
+use wh_reduction::Task;
 use wh_system::System;
 use wh_types::{Numbers, Or};
 
@@ -39,18 +42,21 @@ pub struct PairLines {
     pub drop: Numbers,
 }
 
-/// Moves for each rule; the cause is the number of the first rule that has none.
-pub fn rule_lines(alloc: Global, system: &System, symbols: &[Symbol]) -> Result<Covers, Or<usize>>
-    requires interpreted { Interprets (system_data system.now).symbols (interpretations symbols.now) }
-    requires normal { NormalInterpretations (interpretations symbols.now) }
-    ensures { MatchOr result (λ lines. AreRuleLines (system_data system.now).rules (interpretations symbols.now) (map transfers lines))
-        (IsFailingRule (system_data system.now).rules (interpretations symbols.now)) }
+/// Moves for each rule that is to be covered; the cause is the place of the first one that has none.
+pub fn rule_lines<'a, 'b>(
+    alloc: Global,
+    task: &Task<'a>,
+    readings: &Readings<'b>,
+) -> Result<Covers, Or<usize>>
+    requires task { IsTypedTask (task_data task.now) }
+    requires readings { AreOfSpace (task_data task.now) (readings_data readings.now) }
+    ensures { MatchOr result (λ lines. AreRuleLines (task_data task.now) (readings_data readings.now) (map transfers lines))
+        (IsFailingRule (task_data task.now) (readings_data readings.now)) }
 {
-    system.is_well_made();
     let mut lines = Covers::new(alloc)?;
-    for rule in 0..system.rules().len() {
-        let Some(moves) = rule_line(alloc, system, symbols, rule as u32)? else {
-            return Err(Or::Because(rule));
+    for (i, rule) in task.covered.iter().enumerate() {
+        let Some(moves) = rule_line(alloc, task.system, readings, *rule)? else {
+            return Err(Or::Because(i));
         };
         lines.push(moves)?;
     }
@@ -58,22 +64,22 @@ pub fn rule_lines(alloc: Global, system: &System, symbols: &[Symbol]) -> Result<
 }
 
 /// Moves for the rule, if there are any.
-pub fn rule_line(
+pub fn rule_line<'a>(
     alloc: Global,
     system: &System,
-    symbols: &[Symbol],
+    readings: &Readings<'a>,
     rule: u32,
 ) -> Result<Option<Moves>, AllocError>
-    requires interpreted { Interprets (system_data system.now).symbols (interpretations symbols.now) }
-    requires normal { NormalInterpretations (interpretations symbols.now) }
+    requires proper { AreProper (system_data system.now).symbols (system_data system.now).rules (readings_data readings.now) }
     requires rule { rule < length (system_data system.now).rules }
     ensures { (r : RewriteRule) → slice_get (system_data system.now).rules rule ≡ Some r
-        → IfOk result (λ found. MatchOption found (IsUncoveredRule symbols.now r) (IsLineOfRule symbols.now r)) }
+        → IfOk result (λ found. MatchOption found (IsUncoveredRule (readings_data readings.now) r)
+        (IsLineOfRule (readings_data readings.now) r)) }
 {
-    let Some(left) = rule_side(alloc, system, symbols, rule, false)? else {
+    let Some(left) = rule_side(alloc, system, readings, rule, false)? else {
         return Ok(None);
     };
-    let Some(right) = rule_side(alloc, system, symbols, rule, true)? else {
+    let Some(right) = rule_side(alloc, system, readings, rule, true)? else {
         return Ok(None);
     };
     line(alloc, &left, &right)
@@ -90,25 +96,21 @@ pub fn line(alloc: Global, left: &Poly, right: &Poly) -> Result<Option<Moves>, A
 }
 
 /// Moves for each pair of the set; the cause is the place in the set of the first pair that has none.
-pub fn pair_lines(
+pub fn pair_lines<'a, 'b>(
     alloc: Global,
-    system: &System,
-    pairs: &[Pair],
-    set: &[u32],
-    symbols: &[Symbol],
-    marks: &[MarkedSymbol],
+    task: &Task<'a>,
+    readings: &Readings<'b>,
 ) -> Result<PairLines, Or<usize>>
-    requires task { IsTask (system_data system.now).symbols (system_data system.now).rules (map pair_data pairs.now) set.now }
-    requires guess { IsGuess (system_data system.now).symbols (system_data system.now).rules (map pair_data pairs.now)
-        set.now symbols.now marks.now }
-    ensures { MatchOr result (AreLinesOfPairs system.now pairs.now set.now symbols.now marks.now)
-        (IsUncoveredPlace system.now pairs.now set.now symbols.now marks.now) }
+    requires task { IsTypedTask (task_data task.now) }
+    requires readings { AreOfSpace (task_data task.now) (readings_data readings.now) }
+    ensures { MatchOr result (AreLinesOfPairs (task_data task.now) (readings_data readings.now))
+        (IsFailingPair (task_data task.now) (readings_data readings.now)) }
 {
     let mut lines = Covers::new(alloc)?;
     let mut drop = Numbers::new(alloc)?;
-    for (i, number) in set.iter().enumerate() {
-        let pair = &pairs[*number as usize];
-        let Some(line) = pair_line(alloc, system, symbols, marks, pair)? else {
+    for (i, number) in task.set.iter().enumerate() {
+        let pair = &task.pairs[*number as usize];
+        let Some(line) = pair_line(alloc, task.system, readings, pair)? else {
             return Err(Or::Because(i));
         };
         lines.push(line.moves)?;
@@ -120,25 +122,22 @@ pub fn pair_lines(
 }
 
 /// Moves for the pair, if there are any.
-pub fn pair_line(
+pub fn pair_line<'a>(
     alloc: Global,
     system: &System,
-    symbols: &[Symbol],
-    marks: &[MarkedSymbol],
+    readings: &Readings<'a>,
     pair: &Pair,
 ) -> Result<Option<PairLine>, AllocError>
-    requires interpreted { Interprets (system_data system.now).symbols (interpretations symbols.now) }
-    requires normal { NormalInterpretations (interpretations symbols.now) }
-    requires marks { AreNormalMarks (system_data system.now).symbols (system_data system.now).rules (marks_of marks.now) }
-    requires sides { HasMarkedSides (system_data system.now).symbols (system_data system.now).rules (marks_of marks.now)
+    requires proper { AreProper (system_data system.now).symbols (system_data system.now).rules (readings_data readings.now) }
+    requires sides { HasMarkedSides (system_data system.now).symbols (system_data system.now).rules (readings_data readings.now).marks
         (pair_data pair.now) }
-    ensures { IfOk result (λ found. MatchOption found (IsUncoveredPair system.now symbols.now marks.now pair.now)
-        (IsLineOfPair system.now symbols.now marks.now pair.now)) }
+    ensures { IfOk result (λ found. MatchOption found (IsUncoveredPair system.now readings.now pair.now)
+        (IsLineOfPair system.now readings.now pair.now)) }
 {
-    let Some(left) = pair_side(alloc, system, symbols, marks, pair, false)? else {
+    let Some(left) = pair_side(alloc, system, readings, pair, false)? else {
         return Ok(None);
     };
-    let Some(right) = pair_side(alloc, system, symbols, marks, pair, true)? else {
+    let Some(right) = pair_side(alloc, system, readings, pair, true)? else {
         return Ok(None);
     };
     strict_line(alloc, &left, &right)

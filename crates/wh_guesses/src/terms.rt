@@ -3,7 +3,7 @@
 ghost use Rattle.std.specs.Prelude.{OnOk};
 ghost use Rattle.wh_terms.specs.Erase.{tms as trees, tm};
 ghost use Rattle.wh_guesses.specs.Conditions.{HasSymbol, SomeHasSymbol};
-ghost use Rattle.wh_guesses.specs.Readings.{Joins};
+ghost use Rattle.wh_guesses.specs.Uses.{Joins};
 
 use std::alloc::AllocError;
 use wh_terms::{Term, Terms};

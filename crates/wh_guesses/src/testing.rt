@@ -1,29 +1,31 @@
 //! What a condition is under a guess.
 
 ghost use Rattle.std.specs.Bool.{OnTrue};
-ghost use Rattle.std.specs.Prelude.{◌≡◌, ◌↔◌, ◌<◌, IfOk, IsTrue, Some, length, map, slice_get};
+ghost use Rattle.std.specs.Prelude.{◌≡◌, ◌↔◌, ◌<◌, IfOk, IsTrue, Some, length, slice_get};
 ghost use Rattle.wh_terms.specs.Rules.{RewriteRule};
 ghost use Rattle.wh_pairs.specs.PairData.{pair_data};
 ghost use Rattle.wh_system.specs.SystemView.{system_data};
-ghost use Rattle.wh_hopoly.specs.Erase.{interpretations, poly};
-ghost use Rattle.wh_hopoly.specs.Evaluation.{NormalInterpretations};
-ghost use Rattle.wh_polycheck.specs.Marks.{AreNormalMarks, HasMarkedSides};
-ghost use Rattle.wh_polycheck.specs.SideResults.{marks_of};
-ghost use Rattle.wh_polycheck.specs.Sides.{Interprets};
+ghost use Rattle.wh_reduction.specs.TaskView.{task_data};
+ghost use Rattle.wh_hopoly.specs.Erase.{poly};
+ghost use Rattle.wh_polycheck.specs.Covering.{IsTypedTask};
+ghost use Rattle.wh_polycheck.specs.Marks.{HasMarkedSides};
+ghost use Rattle.wh_polycheck.specs.Readings.{AreProper};
+ghost use Rattle.wh_polycheck.specs.ReadingsView.{readings_data};
 ghost use Rattle.wh_covering.specs.Lines.{IsSomeSide};
-ghost use Rattle.wh_guesses.specs.Guesses.{IsGuess, IsTask};
-ghost use Rattle.wh_guesses.specs.Lines.{HasNoStrictPair, IsStrictPair, IsUncoveredPair, IsUncoveredRule};
-ghost use Rattle.wh_guesses.specs.Weighing.{Fails};
-ghost use Rattle.wh_guesses.specs.Tasks.{IsGuessOf, IsTaskOf};
+ghost use Rattle.wh_guesses.specs.Coefficients.{AreOfSpace};
+ghost use Rattle.wh_guesses.specs.Conditions.{Fails, Meets, some_strictly};
+ghost use Rattle.wh_guesses.specs.Lines.{IsStrictPair, IsUncoveredPair, IsUncoveredRule};
+ghost use Rattle.wh_guesses.specs.Tasks.{IsGuessOf, IsTaskOf, guess_data};
 
+use crate::guess::Guess;
 use crate::lines::{line, pair_line, rule_line};
 use crate::sides::{pair_side, rule_side};
-use crate::task::{Guess, Task};
 use std::alloc::{AllocError, Global};
 use wh_find_moves::deficit;
-use wh_hopoly::{Move, Poly, Symbol};
+use wh_hopoly::{Move, Poly};
 use wh_pairs::Pair;
-use wh_polycheck::MarkedSymbol;
+use wh_polycheck::Readings;
+use wh_reduction::Task;
 use wh_system::System;
 
 /// How far a condition is from being met, and whether a pair is covered strictly.
@@ -38,7 +40,8 @@ pub struct Outcome {
 /// How much is wanting where a value exceeds a limit.
 const EXCEEDING: u64 = 1000;
 
-/// What the condition with the number is under the guess: that of a rule, or behind these that of a pair of the set.
+/// What the condition with the number is under the guess: that of a rule that is to be covered, or behind these that of a pair of the
+/// set.
 pub fn outcome_of<'a>(
     alloc: Global,
     task: &Task<'a>,
@@ -48,15 +51,15 @@ pub fn outcome_of<'a>(
     requires task { IsTaskOf task.now }
     requires guess { IsGuessOf task.now guess.now }
 {
-    task.system.is_well_made();
-    let rules = task.system.rules().len();
+    let readings = guess.readings();
+    let rules = task.covered.len();
     if number < rules {
-        return rule_outcome(alloc, task.system, &guess.symbols, number as u32);
+        return rule_outcome(alloc, task.system, &readings, task.covered[number]);
     }
     let place = number - rules;
     if place < task.set.len() {
         let pair = &task.pairs[task.set[place] as usize];
-        return pair_outcome(alloc, task.system, &guess.symbols, &guess.marks, pair);
+        return pair_outcome(alloc, task.system, &readings, pair);
     }
     Ok(Outcome {
         wanting: 0,
@@ -65,20 +68,19 @@ pub fn outcome_of<'a>(
 }
 
 // What the condition of the rule is.
-fn rule_outcome(
+fn rule_outcome<'a>(
     alloc: Global,
     system: &System,
-    symbols: &[Symbol],
+    readings: &Readings<'a>,
     rule: u32,
 ) -> Result<Outcome, AllocError>
-    requires interpreted { Interprets (system_data system.now).symbols (interpretations symbols.now) }
-    requires normal { NormalInterpretations (interpretations symbols.now) }
+    requires proper { AreProper (system_data system.now).symbols (system_data system.now).rules (readings_data readings.now) }
     requires rule { rule < length (system_data system.now).rules }
 {
-    let Some(left) = rule_side(alloc, system, symbols, rule, false)? else {
+    let Some(left) = rule_side(alloc, system, readings, rule, false)? else {
         return Ok(exceeding());
     };
-    let Some(right) = rule_side(alloc, system, symbols, rule, true)? else {
+    let Some(right) = rule_side(alloc, system, readings, rule, true)? else {
         return Ok(exceeding());
     };
     Ok(Outcome {
@@ -88,23 +90,20 @@ fn rule_outcome(
 }
 
 // What the condition of the pair is.
-fn pair_outcome(
+fn pair_outcome<'a>(
     alloc: Global,
     system: &System,
-    symbols: &[Symbol],
-    marks: &[MarkedSymbol],
+    readings: &Readings<'a>,
     pair: &Pair,
 ) -> Result<Outcome, AllocError>
-    requires interpreted { Interprets (system_data system.now).symbols (interpretations symbols.now) }
-    requires normal { NormalInterpretations (interpretations symbols.now) }
-    requires marks { AreNormalMarks (system_data system.now).symbols (system_data system.now).rules (marks_of marks.now) }
-    requires sides { HasMarkedSides (system_data system.now).symbols (system_data system.now).rules (marks_of marks.now)
+    requires proper { AreProper (system_data system.now).symbols (system_data system.now).rules (readings_data readings.now) }
+    requires sides { HasMarkedSides (system_data system.now).symbols (system_data system.now).rules (readings_data readings.now).marks
         (pair_data pair.now) }
 {
-    let Some(left) = pair_side(alloc, system, symbols, marks, pair, false)? else {
+    let Some(left) = pair_side(alloc, system, readings, pair, false)? else {
         return Ok(exceeding());
     };
-    let Some(right) = pair_side(alloc, system, symbols, marks, pair, true)? else {
+    let Some(right) = pair_side(alloc, system, readings, pair, true)? else {
         return Ok(exceeding());
     };
     let wanting = wanting(alloc, &left, &right)?;
@@ -154,8 +153,8 @@ fn leaves_constant(left: &Poly, moves: &[Move]) -> bool {
     first.atoms.as_slice().is_empty() && rest > 0
 }
 
-/// Says `true` only where the condition with that number fails under the guess: that of a rule, behind these that of a pair of the set,
-/// or last that some pair of the set is covered strictly. Of any other number nothing is said.
+/// Says `true` only where the condition with that number fails under the guess: that of a rule that is to be covered, behind these that
+/// of a pair of the set, or last that some pair of the set is covered strictly. Of any other number nothing is said.
 pub fn fails<'a>(
     alloc: Global,
     task: &Task<'a>,
@@ -164,82 +163,67 @@ pub fn fails<'a>(
 ) -> Result<bool, AllocError>
     requires task { IsTaskOf task.now }
     requires guess { IsGuessOf task.now guess.now }
-    ensures { IfOk result (λ told. OnTrue told (Fails task.now guess.now number)) }
+    ensures { IfOk result (λ told. OnTrue told (Fails (task_data task.now) (guess_data guess.now) number)) }
 {
-    task.system.is_well_made();
-    let rules = task.system.rules().len();
+    let readings = guess.readings();
+    let rules = task.covered.len();
     if number < rules {
-        return rule_fails(alloc, task.system, &guess.symbols, number as u32);
+        return rule_fails(alloc, task.system, &readings, task.covered[number]);
     }
     let place = number - rules;
     if place < task.set.len() {
         let pair = &task.pairs[task.set[place] as usize];
-        return pair_fails(alloc, task.system, &guess.symbols, &guess.marks, pair);
+        return pair_fails(alloc, task.system, &readings, pair);
     }
     if place == task.set.len() {
-        return set_fails(
-            alloc,
-            task.system,
-            task.pairs,
-            task.set,
-            &guess.symbols,
-            &guess.marks,
-        );
+        return set_fails(alloc, task, &readings);
     }
     Ok(false)
 }
 
 // Whether no moves cover the rule.
-fn rule_fails(
+fn rule_fails<'a>(
     alloc: Global,
     system: &System,
-    symbols: &[Symbol],
+    readings: &Readings<'a>,
     rule: u32,
 ) -> Result<bool, AllocError>
-    requires interpreted { Interprets (system_data system.now).symbols (interpretations symbols.now) }
-    requires normal { NormalInterpretations (interpretations symbols.now) }
+    requires proper { AreProper (system_data system.now).symbols (system_data system.now).rules (readings_data readings.now) }
     requires rule { rule < length (system_data system.now).rules }
     ensures { (r : RewriteRule) → slice_get (system_data system.now).rules rule ≡ Some r
-        → IfOk result (λ told. OnTrue told (IsUncoveredRule symbols.now r)) }
+        → IfOk result (λ told. OnTrue told (IsUncoveredRule (readings_data readings.now) r)) }
 {
-    Ok(rule_line(alloc, system, symbols, rule)?.is_none())
+    Ok(rule_line(alloc, system, readings, rule)?.is_none())
 }
 
 // Whether no moves cover the pair.
-fn pair_fails(
+fn pair_fails<'a>(
     alloc: Global,
     system: &System,
-    symbols: &[Symbol],
-    marks: &[MarkedSymbol],
+    readings: &Readings<'a>,
     pair: &Pair,
 ) -> Result<bool, AllocError>
-    requires interpreted { Interprets (system_data system.now).symbols (interpretations symbols.now) }
-    requires normal { NormalInterpretations (interpretations symbols.now) }
-    requires marks { AreNormalMarks (system_data system.now).symbols (system_data system.now).rules (marks_of marks.now) }
-    requires sides { HasMarkedSides (system_data system.now).symbols (system_data system.now).rules (marks_of marks.now)
+    requires proper { AreProper (system_data system.now).symbols (system_data system.now).rules (readings_data readings.now) }
+    requires sides { HasMarkedSides (system_data system.now).symbols (system_data system.now).rules (readings_data readings.now).marks
         (pair_data pair.now) }
-    ensures { IfOk result (λ told. OnTrue told (IsUncoveredPair system.now symbols.now marks.now pair.now)) }
+    ensures { IfOk result (λ told. OnTrue told (IsUncoveredPair system.now readings.now pair.now)) }
 {
-    Ok(pair_line(alloc, system, symbols, marks, pair)?.is_none())
+    Ok(pair_line(alloc, system, readings, pair)?.is_none())
 }
 
 // Whether no pair of the set is covered strictly.
-fn set_fails(
+fn set_fails<'a, 'b>(
     alloc: Global,
-    system: &System,
-    pairs: &[Pair],
-    set: &[u32],
-    symbols: &[Symbol],
-    marks: &[MarkedSymbol],
+    task: &Task<'a>,
+    readings: &Readings<'b>,
 ) -> Result<bool, AllocError>
-    requires task { IsTask (system_data system.now).symbols (system_data system.now).rules (map pair_data pairs.now) set.now }
-    requires guess { IsGuess (system_data system.now).symbols (system_data system.now).rules (map pair_data pairs.now)
-        set.now symbols.now marks.now }
-    ensures { IfOk result (λ told. OnTrue told (HasNoStrictPair system.now pairs.now set.now symbols.now marks.now)) }
+    requires task { IsTypedTask (task_data task.now) }
+    requires readings { AreOfSpace (task_data task.now) (readings_data readings.now) }
+    ensures { IfOk result (λ told. OnTrue told (Meets (task_data task.now) (readings_data readings.now) some_strictly → ⊥)) }
 {
-    for number in set {
-        let pair = &pairs[*number as usize];
-        if is_strict_pair(alloc, system, symbols, marks, pair)? {
+    for number in task.set {
+        let pair = &task.pairs[*number as usize];
+        if is_strict_pair(alloc, task.system, readings, pair)? {
             return Ok(false);
         }
     }
@@ -247,21 +231,18 @@ fn set_fails(
 }
 
 // Whether moves cover the pair strictly.
-fn is_strict_pair(
+fn is_strict_pair<'a>(
     alloc: Global,
     system: &System,
-    symbols: &[Symbol],
-    marks: &[MarkedSymbol],
+    readings: &Readings<'a>,
     pair: &Pair,
 ) -> Result<bool, AllocError>
-    requires interpreted { Interprets (system_data system.now).symbols (interpretations symbols.now) }
-    requires normal { NormalInterpretations (interpretations symbols.now) }
-    requires marks { AreNormalMarks (system_data system.now).symbols (system_data system.now).rules (marks_of marks.now) }
-    requires sides { HasMarkedSides (system_data system.now).symbols (system_data system.now).rules (marks_of marks.now)
+    requires proper { AreProper (system_data system.now).symbols (system_data system.now).rules (readings_data readings.now) }
+    requires sides { HasMarkedSides (system_data system.now).symbols (system_data system.now).rules (readings_data readings.now).marks
         (pair_data pair.now) }
-    ensures { IfOk result (λ told. IsTrue told ↔ IsStrictPair system.now symbols.now marks.now pair.now) }
+    ensures { IfOk result (λ told. IsTrue told ↔ IsStrictPair system.now readings.now pair.now) }
 {
-    match pair_line(alloc, system, symbols, marks, pair)? {
+    match pair_line(alloc, system, readings, pair)? {
         Some(line) => Ok(line.strict),
         None => Ok(false),
     }

@@ -2,9 +2,7 @@
 use Rattle.std.proofs.Common.{◌≡◌, ◌≢◌, ◌⊎◌, inl, inr, ℕ, zero, suc, ◌<◌, ◌≤◌, List, [], ◌∷◌, length, get_or, Bool, true, false, Result, Ok, Err, IfOk, refl, sym, subst, ◌∙◌, arith}
 use Rattle.std.specs.Bool.{OnTrue}
 use Rattle.std.specs.declared.alloc.AllocError.{AllocError}
-use Rattle.wh_terms.specs.Typing.{Symbols}
-use Rattle.wh_terms.specs.Rules.{RewriteRule}
-use Rattle.wh_pairs.specs.PairData.{PairData}
+use Rattle.wh_reduction.specs.TaskData.{TaskData}
 use Rattle.wh_ranges.specs.Excluded.{coefficient_in, LieIn, IsExcluded, AreKept}
 use Rattle.wh_ranges.specs.Bounds.{Has, IsSetTo}
 
@@ -99,31 +97,31 @@ told_as (Ok true) P Q f h = f h
 told_as (Ok false) P Q f h = tt
 told_as (Err e) P Q f h = tt
 
-module _ (S : Symbols) (rules : List RewriteRule) (pairs : List PairData) (set : List ℕ) (strict : ℕ) where
+module _ (T : TaskData) (strict : ℕ) where
   abbrev Out : List (List ℕ) → List (List ℕ) → Type 0
-  Out low high = IsExcluded S rules pairs set strict low high
+  Out low high = IsExcluded T strict low high
 
   abbrev Kept : List (List ℕ) → List (List ℕ) → List (List ℕ) → List (List ℕ) → Type 0
-  Kept low high low' high' = AreKept S rules pairs set strict low high low' high'
+  Kept low high low' high' = AreKept T strict low high low' high'
 
   pub kept_same : (low high : List (List ℕ)) → Kept low high low high
-  kept_same low high lists symbols marks fit lie = lie
+  kept_same low high lists R fit lie = lie
 
   pub kept_then : (a b c d e f : List (List ℕ)) → Kept a b c d → Kept c d e f → Kept a b e f
-  kept_then a b c d e f first second lists symbols marks fit lie = second lists symbols marks fit (first lists symbols marks fit lie)
+  kept_then a b c d e f first second lists R fit lie = second lists R fit (first lists R fit lie)
 
   pub kept_out : (a b c d : List (List ℕ)) → Kept a b c d → Out c d → Out a b
-  kept_out a b c d kept out lists symbols marks fit lie = out lists symbols marks fit (kept lists symbols marks fit lie)
+  kept_out a b c d kept out lists R fit lie = out lists R fit (kept lists R fit lie)
 
   -- the upper end was put down to the lower one, and up again: nothing has changed
   pub high_back : (n j least most : ℕ) (low high mid back : List (List ℕ)) → IsSetTo n j least high mid → IsSetTo n j most mid back
       → most ≡ coefficient_in high n j → Has high n j → Kept low high low back
-  high_back n j least most low high mid back first second was there lists symbols marks fit lie =
+  high_back n j least most low high mid back first second was there lists R fit lie =
       lie_same low high low back lists (λ m i. refl) (set_back n j least most high mid back first second was there) lie
 
   pub low_back : (n j most least : ℕ) (low high mid back : List (List ℕ)) → IsSetTo n j most low mid → IsSetTo n j least mid back
       → least ≡ coefficient_in low n j → Kept low high back high
-  low_back n j most least low high mid back first second was lists symbols marks fit lie =
+  low_back n j most least low high mid back first second was lists R fit lie =
       lie_same low high back high lists back_is (λ m i. refl) lie
     where
       back_is : (m i : ℕ) → coefficient_in back m i ≡ coefficient_in low m i
@@ -139,25 +137,25 @@ module _ (S : Symbols) (rules : List RewriteRule) (pairs : List PairData) (set :
   pub raised : (n j least next : ℕ) (low high mid up : List (List ℕ)) → IsSetTo n j least high mid → IsSetTo n j next low up
       → least ≡ coefficient_in low n j → next ≡ suc least → coefficient_in low n j < coefficient_in high n j → Out low mid
       → Kept low high up high
-  raised n j least next low high mid up down set is more opened out lists symbols marks fit lie =
+  raised n j least next low high mid up down set is more opened out lists R fit lie =
       elim (lt_or_le least (coefficient_in lists n j)) [
         | inl above ↦ lies_above n j next low high up lists set lie (omega (arith, above, more)) (omega (arith, is, more))
-        | inr below ↦ absurd (out lists symbols marks fit (lies_below n j least low high mid lists down (has_more high n j (coefficient_in low n j) opened) lie below))
+        | inr below ↦ absurd (out lists R fit (lies_below n j least low high mid lists down (has_more high n j (coefficient_in low n j) opened) lie below))
       ]
 
   -- and so at its upper end
   pub lowered : (n j most less : ℕ) (low high mid down : List (List ℕ)) → IsSetTo n j most low mid → IsSetTo n j less high down
       → most ≡ coefficient_in high n j → suc less ≡ most → coefficient_in low n j < coefficient_in high n j → Out mid high
       → Kept low high low down
-  lowered n j most less low high mid down up set is next opened out lists symbols marks fit lie =
+  lowered n j most less low high mid down up set is next opened out lists R fit lie =
       elim (lt_or_le (coefficient_in lists n j) most) [
         | inl below ↦ lies_below n j less low high down lists set (has_more high n j (coefficient_in low n j) opened) lie (omega (arith, below, next))
-        | inr above ↦ absurd (out lists symbols marks fit (lies_above n j most low high mid lists up lie above (omega (arith, is, opened))))
+        | inr above ↦ absurd (out lists R fit (lies_above n j most low high mid lists up lie above (omega (arith, is, opened))))
       ]
 
   -- nothing fits below the coefficient and nothing above it
   pub halves_out : (n j least next : ℕ) (low high down up : List (List ℕ)) → IsSetTo n j least high down → IsSetTo n j next low up
       → least ≡ coefficient_in low n j → next ≡ suc least → coefficient_in low n j < coefficient_in high n j → Out low down → Out up high
       → Out low high
-  halves_out n j least next low high down up below above is more opened first second lists symbols marks fit lie =
-      second lists symbols marks fit (raised n j least next low high down up below above is more opened first lists symbols marks fit lie)
+  halves_out n j least next low high down up below above is more opened first second lists R fit lie =
+      second lists R fit (raised n j least next low high down up below above is more opened first lists R fit lie)

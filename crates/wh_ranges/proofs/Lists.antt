@@ -9,7 +9,8 @@ use Rattle.std.proofs.lemmas.Option.{get_or_from_slice_get}
 use Rattle.wh_types.specs.Ty.{Ty, arguments}
 use Rattle.wh_terms.specs.Typing.{Symbols}
 use Rattle.wh_terms.specs.Rules.{RewriteRule}
-use Rattle.wh_pairs.specs.PairData.{PairData}
+use Rattle.wh_reduction.specs.TaskData.{TaskData}
+use Rattle.wh_polycheck.specs.Readings.{ReadingsData}
 use Rattle.wh_pairs.proofs.ByPlace.{contains_at, place_of, remap, some_one}
 use Rattle.wh_hopoly.specs.Polynomials.{Polynomial, zero_poly, plus, Factors}
 use Rattle.wh_hopoly.specs.Evaluation.{Interpretation}
@@ -24,13 +25,13 @@ use Rattle.wh_polycheck.specs.SideResults.{marks_of}
 use Rattle.wh_polycheck.specs.declared.marks.MarkedSymbol.{MarkedSymbol}
 use Rattle.wh_polycheck.proofs.MoreInterpretations.{slice_get_front, slice_get_behind}
 use Rattle.wh_meaning.proofs.AtLeast.{at_least_den}
-use Rattle.wh_growth.specs.Below.{IsBelow, AreBelow, AreMarksBelow}
+use Rattle.wh_growth.specs.Below.{IsBelow, AreBelow}
 use Rattle.wh_space.specs.Space.{HasMonomial, IsOfSpace, space_of}
 use Rattle.wh_space.specs.Coefficients.{capped, HasCoefficients}
 use Rattle.wh_guesses.specs.Coefficients.{scopes_of, HaveCoefficients, AreOfSpace}
 use Rattle.wh_guesses.specs.Reads.{IsChanged, list_of}
 use Rattle.wh_guesses.proofs.ReadLemmas.{have_coefficients as have_read, symbols_have, marks_have}
-use Rattle.wh_guesses.proofs.OfSpace.{AreSmall, AreListsFor, IsSymbolOfSpace, IsMarkOfSpace, all_lists, all_for, have_coefficients, each_symbol, each_mark}
+use Rattle.wh_guesses.proofs.OfSpace.{AreSmall, AreListsFor, all_lists, all_for, have_coefficients}
 use Rattle.wh_ranges.specs.Excluded.{coefficient_in, AreAtMost, LieIn}
 use Rattle.wh_ranges.specs.Bounds.{IsSetTo}
 use Rattle.wh_guesses.proofs.Uniqueness.{coefficient_is, monomial_of, monomial_at_least}
@@ -81,30 +82,30 @@ same_kind f xs ys i x y same at there = some_one (remap f xs i x at) (ap (λ l. 
 same_length : {A B : Type 0} (f : A → B) (xs ys : List A) → map f xs ≡ map f ys → length xs ≡ length ys
 same_length f xs ys same = sym (length-map xs f) ∙ ap length same ∙ length-map ys f
 
-pub lists_below : (S : Symbols) (rules : List RewriteRule) (ls hs : List (List ℕ)) (xs ys : List Interpretation) (ms ns : List Mark)
-    → map (λ s. s.kind) xs ≡ map (λ s. s.kind) ys → map (λ m. m.symbol) ms ≡ map (λ m. m.symbol) ns
-    → HaveCoefficients S rules ls xs ms → HaveCoefficients S rules hs ys ns → AreAtMost ls hs
-    → AreBelow xs ys × AreMarksBelow S rules ms ns
-lists_below S rules ls hs xs ys ms ns kinds symbols low high most = (
-  record {
+pub lists_below : (T : TaskData) (ls hs : List (List ℕ)) (low high : ReadingsData)
+    → map (λ s. s.kind) low.symbols ≡ map (λ s. s.kind) high.symbols → map (λ m. m.symbol) low.marks ≡ map (λ m. m.symbol) high.marks
+    → HaveCoefficients T ls low → HaveCoefficients T hs high → AreAtMost ls hs → AreBelow T.symbols T.rules low high
+lists_below T ls hs low high kinds symbols has_low has_high most = record {
+  of_symbols = record {
     kinds = kinds;
     each = λ f s t at there.
-        let same = same_kind (λ (s : Interpretation). s.kind) xs ys f s t kinds at there in
-        let has = subst (λ A. HasCoefficients (arguments A) (get_or hs f []) t.polynomial) (sym same) (high.of_symbols f t there) in
+        let same = same_kind (λ (s : Interpretation). s.kind) low.symbols high.symbols f s t kinds at there in
+        let has = subst (λ A. HasCoefficients (arguments A) (get_or hs f []) t.polynomial) (sym same) (has_high.of_symbols f t there) in
         below_by_coefficients (arguments s.kind) (get_or ls f []) (get_or hs f []) s.polynomial t.polynomial
-        (low.of_symbols f s at) has (most f);
-  },
-  record {
+        (has_low.of_symbols f s at) has (most f);
+  };
+  of_marks = record {
     symbols = symbols;
     each = λ i m n at there.
-        let same = same_kind (λ (m : Mark). m.symbol) ms ns i m n symbols at there in
-        let place : length ys + i ≡ length xs + i = omega (arith, same_length (λ (s : Interpretation). s.kind) xs ys kinds) in
-        let has = subst (λ g. HasCoefficients (marked_types S rules g) (get_or hs (length xs + i) []) n.polynomial) (sym same)
-        (subst (λ k. HasCoefficients (marked_types S rules n.symbol) (get_or hs k []) n.polynomial) place (high.of_marks i n there)) in
-        below_by_coefficients (marked_types S rules m.symbol) (get_or ls (length xs + i) []) (get_or hs (length xs + i) [])
-        m.polynomial n.polynomial (low.of_marks i m at) has (most (length xs + i));
-  },
-)
+        let count = length low.symbols in
+        let same = same_kind (λ (m : Mark). m.symbol) low.marks high.marks i m n symbols at there in
+        let place : length high.symbols + i ≡ count + i = omega (arith, same_length (λ (s : Interpretation). s.kind) low.symbols high.symbols kinds) in
+        let has = subst (λ g. HasCoefficients (marked_types T.symbols T.rules g) (get_or hs (count + i) []) n.polynomial) (sym same)
+        (subst (λ k. HasCoefficients (marked_types T.symbols T.rules n.symbol) (get_or hs k []) n.polynomial) place (has_high.of_marks i n there)) in
+        below_by_coefficients (marked_types T.symbols T.rules m.symbol) (get_or ls (count + i) []) (get_or hs (count + i) [])
+        m.polynomial n.polynomial (has_low.of_marks i m at) has (most (count + i));
+  };
+}
 
 -- all coefficients of the space are 0 to 3
 
@@ -134,21 +135,17 @@ all_at_most (Γ ∷ scopes) [] fit n j = absurd fit
 all_at_most (Γ ∷ scopes) (cs ∷ lists) fit zero j = at_most_three cs (length (space_of Γ)) j fit.0 fit.1
 all_at_most (Γ ∷ scopes) (cs ∷ lists) fit (suc n) j = all_at_most scopes lists fit.2 n j
 
-pub all_lie : (S : Symbols) (rules : List RewriteRule) (pairs : List PairData) (set : List ℕ)
-    (symbols : List Interpretation) (marks : List Mark) → AreOfSpace S rules pairs set symbols marks
-    → (lists : List (List ℕ)) × HaveCoefficients S rules lists symbols marks
-    × LieIn (map (λ size. replicate size 0) (map (λ Γ. length (space_of Γ)) (scopes_of S rules (map (λ m. m.symbol) marks))))
-    (map (λ size. replicate size 3) (map (λ Γ. length (space_of Γ)) (scopes_of S rules (map (λ m. m.symbol) marks)))) lists
-all_lie S rules pairs set symbols marks are =
-    let of_symbols = each_symbol S rules pairs set symbols marks are in
-    let of_marks = each_mark S rules pairs set symbols marks are in
-    let scopes = scopes_of S rules (map (λ m. m.symbol) marks) in
-    let lists = all_lists S rules symbols marks in (
-      lists,
-      have_coefficients S rules symbols marks of_symbols of_marks,
+pub all_lie : (T : TaskData) (R : ReadingsData) → AreOfSpace T R
+    → (lists : List (List ℕ)) × HaveCoefficients T lists R
+    × LieIn (map (λ size. replicate size 0) (map (λ Γ. length (space_of Γ)) (scopes_of T (map (λ m. m.symbol) R.marks))))
+    (map (λ size. replicate size 3) (map (λ Γ. length (space_of Γ)) (scopes_of T (map (λ m. m.symbol) R.marks)))) lists
+all_lie T R are =
+    let scopes = scopes_of T (map (λ m. m.symbol) R.marks) in (
+      all_lists T R,
+      have_coefficients T R are,
       record {
         above = λ n j. let none = nothing_in scopes n j in omega (arith, none);
-        below = all_at_most scopes lists (all_for S rules symbols marks of_symbols of_marks are.kinds);
+        below = all_at_most scopes (all_lists T R) (all_for T R are);
       },
     )
 
@@ -201,15 +198,16 @@ vectors_set (l ∷ lists) (suc n) j value old new within is changed =
     ap (λ ls. l.items ∷ ls) (vectors_set lists n j value old new (omega (arith, within)) is changed)
 
 -- what was read by the lists is read by those with the new value
-pub read_anew : (S : Symbols) (rules : List RewriteRule) (lists new : List (List ℕ)) (n j value : ℕ) (cs : List ℕ)
-    (xs ys : List Symbol) (ms ns : List MarkedSymbol) → HaveCoefficients S rules lists (interpretations xs) (marks_of ms)
-    → new ≡ set_in lists n j value → cs ≡ get_or new n [] → IsChanged S rules n cs xs ms ys ns
-    → HaveCoefficients S rules new (interpretations ys) (marks_of ns)
-read_anew S rules lists new n j value cs xs ys ms ns have is here changed =
+pub read_anew : (T : TaskData) (lists new : List (List ℕ)) (n j value : ℕ) (cs : List ℕ)
+    (xs ys : List Symbol) (ms ns : List MarkedSymbol)
+    → HaveCoefficients T lists (record { symbols = interpretations xs; marks = marks_of ms })
+    → new ≡ set_in lists n j value → cs ≡ get_or new n [] → IsChanged T.symbols T.rules n cs xs ms ys ns
+    → HaveCoefficients T new (record { symbols = interpretations ys; marks = marks_of ns })
+read_anew T lists new n j value cs xs ys ms ns have is here changed =
     let step = changed (list_of lists) (list_of new) (sym here)
     (λ k apart. ap (λ l. get_or l k []) is ∙ other_lists lists n j value k apart)
-    (symbols_have S rules lists xs ms have) (marks_have S rules lists xs ms have) in
-    have_read S rules new ys ns (length ys) step.0 step.1 refl
+    (symbols_have T lists xs ms have) (marks_have T lists xs ms have) in
+    have_read T new ys ns (length ys) step.0 step.1 refl
 
 -- where there is no such list, nothing changes
 pub set_nowhere : (lists new : List (List ℕ)) (n j value : ℕ) → new ≡ set_in lists n j value → length new ≤ n → new ≡ lists

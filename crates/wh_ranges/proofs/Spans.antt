@@ -1,10 +1,9 @@
 -- Ranges that wait to be looked at: which were looked at, and which join.
 use Rattle.std.proofs.Common.{◌≡◌, ◌⊎◌, ◌+◌, ◌<◌, ℕ, zero, suc, inl, inr, List, [], ◌∷◌, ◌++◌, map, length, refl, ap, subst, ◌∙◌, arith}
 use Rattle.std.proofs.lemmas.List.Elements.{Contains-push, Contains-append_left, Contains-append_cases}
-use Rattle.wh_pairs.specs.PairData.{pair_data}
-use Rattle.wh_system.specs.SystemView.{system_data}
 use Rattle.wh_pairs.proofs.FewLemmas.{in_one}
-use Rattle.wh_guesses.specs.declared.task.Task.{Task}
+use Rattle.wh_reduction.specs.TaskView.{task_data}
+use Rattle.wh_reduction.specs.declared.task.Task.{Task}
 use Rattle.wh_ranges.specs.Excluded.{coefficient_in, IsExcluded}
 use Rattle.wh_ranges.specs.Bounds.{IsSetTo, lists_in, lists_of}
 use Rattle.wh_ranges.specs.Out.{IsOut, IsSpanOut, AllOut, KeepsAll}
@@ -14,7 +13,7 @@ use Rattle.wh_ranges.proofs.Kept.{kept_out, halves_out}
 
 module _ (t : Task) (strict : ℕ) where
   abbrev Out : List (List ℕ) → List (List ℕ) → Type 0
-  Out low high = IsExcluded (system_data t.system.now).symbols (system_data t.system.now).rules (map pair_data t.pairs.now) t.set.now strict low high
+  Out low high = IsExcluded (task_data t) strict low high
 
   -- all that wait are out where none waits
   pub none_waits : (spans : List Span) → (0 < length spans → ⊥) → AllOut t strict spans
@@ -35,13 +34,12 @@ module _ (t : Task) (strict : ℕ) where
       → coefficient_in (lists_of ranges.low) n j < coefficient_in (lists_of ranges.high) n j
       → AllOut t strict new → IsOut t strict ranges × AllOut t strict old
   halves n j least next ranges old mid new above below first second above_high below_low down up is more opened all =
-      let d = system_data t.system.now in
       let low = lists_of ranges.low in
       let high = lists_of ranges.high in
       let all_of = subst (AllOut t strict) (second ∙ ap (λ l. l ++ below ∷ []) first) all in
       let lower : IsSpanOut t strict below = all_of below (Contains-push (old ++ above ∷ []) below) in
       let upper : IsSpanOut t strict above = all_of above (Contains-append_left (old ++ above ∷ []) (below ∷ []) above (Contains-push old above)) in (
-        halves_out d.symbols d.rules (map pair_data t.pairs.now) t.set.now strict n j least next low high (lists_in below.high.items) (lists_in above.low.items)
+        halves_out (task_data t) strict n j least next low high (lists_in below.high.items) (lists_in above.low.items)
             down up is more opened
             (subst (λ l. Out l (lists_in below.high.items)) below_low lower)
             (subst (λ h. Out (lists_in above.low.items) h) above_high upper),
@@ -52,9 +50,8 @@ module _ (t : Task) (strict : ℕ) where
   pub span_out : (s : Span) (made narrowed : Ranges) → lists_of made.low ≡ lists_in s.low.items → lists_of made.high ≡ lists_in s.high.items
       → KeepsAll t strict made narrowed → IsOut t strict narrowed → IsSpanOut t strict s
   span_out s made narrowed low high kept out =
-      let d = system_data t.system.now in
       subst (λ l. Out l (lists_in s.high.items)) low (subst (λ h. Out (lists_of made.low) h) high
-      (kept_out d.symbols d.rules (map pair_data t.pairs.now) t.set.now strict (lists_of made.low) (lists_of made.high) (lists_of narrowed.low) (lists_of narrowed.high) kept out))
+      (kept_out (task_data t) strict (lists_of made.low) (lists_of made.high) (lists_of narrowed.low) (lists_of narrowed.high) kept out))
 
   pub ranges_out : (s : Span) (made : Ranges) → lists_of made.low ≡ lists_in s.low.items → lists_of made.high ≡ lists_in s.high.items
       → IsOut t strict made → IsSpanOut t strict s

@@ -1,12 +1,10 @@
 -- Ranges as the program keeps them: two lists of coefficients, with the guesses that have them.
 use Rattle.std.specs.Prelude.{ℕ, ◌<◌, ◌≡◌, ◌≢◌, ◌⊎◌, List, [], map, length, get_or}
 use Rattle.std.specs.Global.{Vec}
-use Rattle.wh_system.specs.SystemView.{system_data}
-use Rattle.wh_hopoly.specs.Erase.{interpretations}
-use Rattle.wh_polycheck.specs.SideResults.{marks_of}
+use Rattle.wh_reduction.specs.TaskView.{task_data}
+use Rattle.wh_reduction.specs.declared.task.Task.{Task}
 use Rattle.wh_guesses.specs.Coefficients.{HaveCoefficients}
-use Rattle.wh_guesses.specs.Tasks.{IsGuessOf}
-use Rattle.wh_guesses.specs.declared.task.Task.{Task}
+use Rattle.wh_guesses.specs.Tasks.{IsGuessOf, guess_data}
 use Rattle.wh_ranges.specs.Excluded.{coefficient_in}
 use Rattle.wh_ranges.specs.declared.bounds.Bound.{Bound}
 use Rattle.wh_ranges.specs.declared.bounds.Ranges.{Ranges}
@@ -21,8 +19,7 @@ lists_of b = lists_in b.lists.items
 -- the guess is one for the task, and has the coefficients
 pub record IsBound (t : Task) (b : Bound) : Type 0 where
   pub guess : IsGuessOf t b.guess
-  pub coefficients : HaveCoefficients (system_data t.system.now).symbols (system_data t.system.now).rules (lists_of b)
-      (interpretations b.guess.symbols.items) (marks_of b.guess.marks.items)
+  pub coefficients : HaveCoefficients (task_data t) (lists_of b) (guess_data b.guess)
 
 pub record AreRanges (t : Task) (r : Ranges) : Type 0 where
   pub low : IsBound t r.low

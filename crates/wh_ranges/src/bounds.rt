@@ -1,13 +1,14 @@
 //! Ranges of coefficients, told by their ends.
 
 ghost use Rattle.std.specs.Prelude.{◌≡◌, IfOk, OnOk, [], get_or, map, replicate, set};
-ghost use Rattle.wh_pairs.specs.PairData.{pair_data};
 ghost use Rattle.wh_pairs.specs.Marked.{AreMarked};
+ghost use Rattle.wh_reduction.specs.TaskView.{task_data};
 ghost use Rattle.wh_ranges.specs.Bounds.{AreRanges, IsBound, IsSetTo, lists_in, lists_of};
 ghost use Rattle.wh_ranges.specs.Excluded.{coefficient_in};
 
 use std::alloc::{AllocError, Global};
-use wh_guesses::{Guess, Task, change_at, guess_by};
+use wh_guesses::{Guess, change_at, guess_by};
+use wh_reduction::Task;
 
 /// A coefficient: the number of the symbol, or behind all symbols of the marked symbol, that it belongs to, and the place of its
 /// monomial in the space.
@@ -75,7 +76,7 @@ impl Ranges {
         marked: &[u32],
         span: Span,
     ) -> Result<Ranges, AllocError>
-        requires marked { AreMarked (map pair_data task.now.pairs.now) task.now.set.now marked.now }
+        requires marked { AreMarked (task_data task.now).pairs (task_data task.now).set marked.now }
         ensures ranges { IfOk result (AreRanges task.now) }
         ensures low { IfOk result (λ made. lists_of made.low ≡ lists_in span.low.items) }
         ensures high { IfOk result (λ made. lists_of made.high ≡ lists_in span.high.items) }
@@ -96,7 +97,7 @@ impl Bound {
         marked: &[u32],
         lists: Vec<Vec<u8>>,
     ) -> Result<Bound, AllocError>
-        requires marked { AreMarked (map pair_data task.now.pairs.now) task.now.set.now marked.now }
+        requires marked { AreMarked (task_data task.now).pairs (task_data task.now).set marked.now }
         ensures bound { IfOk result (IsBound task.now) }
         ensures lists { IfOk result (λ b. lists_of b ≡ lists_in lists.items) }
     {

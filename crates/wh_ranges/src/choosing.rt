@@ -1,20 +1,19 @@
 //! Where ranges are split. Answers rest on none of this.
 
-ghost use Rattle.std.specs.Prelude.{OnOk, map};
-ghost use Rattle.wh_pairs.specs.PairData.{pair_data};
+ghost use Rattle.std.specs.Prelude.{OnOk};
 ghost use Rattle.wh_pairs.specs.Marked.{AreMarked};
+ghost use Rattle.wh_reduction.specs.TaskView.{task_data};
 ghost use Rattle.wh_guesses.specs.Tasks.{IsTaskOf};
 ghost use Rattle.wh_ranges.specs.Bounds.{AreRanges, IsBound};
 
 use crate::bounds::{Bound, Coefficient, End, Ranges, copy_lists};
-use crate::narrowing::Goal;
 use crate::plan::{Plan, Work};
-use crate::testing::fails_at;
+use crate::testing::{Goal, fails_at};
 use std::alloc::{AllocError, Global};
-use wh_guesses::Task;
+use wh_reduction::Task;
 
 /// A coefficient at which ranges may be split: whether the condition is mended where it alone is at its upper end, and in how many
-/// conditions its list is read.
+/// conditions its list is used.
 #[derive(Clone, Copy)]
 pub struct Candidate {
     at: Coefficient,
@@ -34,15 +33,15 @@ pub fn place_to_split<'a>(
     strict: usize,
 ) -> Result<Option<Coefficient>, AllocError>
     requires task { IsTaskOf task.now }
-    requires marked { AreMarked (map pair_data task.now.pairs.now) task.now.set.now marked.now }
+    requires marked { AreMarked (task_data task.now).pairs (task_data task.now).set marked.now }
     requires ranges { AreRanges task.now ranges.now }
 {
-    for number in 0..plan.readings.len() {
+    for number in 0..plan.uses.len() {
         if work.is_spent() {
             return Ok(None);
         }
-        if fails_at(alloc, task, work, &ranges.low.guess, number, strict)? {
-            let goal = Goal { number, strict };
+        let goal = Goal { number, strict };
+        if fails_at(alloc, task, work, &ranges.low.guess, goal)? {
             let lists = copy_lists(alloc, &ranges.low.lists)?;
             let mut probe = Bound::by(alloc, task, marked, lists)?;
             return place_for(alloc, task, plan, work, ranges, goal, &mut probe);
@@ -117,12 +116,12 @@ fn is_mended<'a>(
     ensures probe { OnOk result (IsBound task.now probe.new) }
 {
     probe.set(alloc, task, at, ranges.high.at(at))?;
-    let fails = fails_at(alloc, task, work, &probe.guess, goal.number, goal.strict)?;
+    let fails = fails_at(alloc, task, work, &probe.guess, goal)?;
     probe.set(alloc, task, at, ranges.low.at(at))?;
     Ok(!fails)
 }
 
-// The better one of two: one that mends, then one that is read in more conditions, then the first.
+// The better one of two: one that mends, then one that is used in more conditions, then the first.
 fn better(best: Option<Candidate>, other: Candidate) -> Candidate {
     match best {
         Some(best) if is_better(best, other) => best,

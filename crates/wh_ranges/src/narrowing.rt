@@ -9,16 +9,16 @@ ghost use Rattle.wh_ranges.specs.Out.{IsOut, KeepsAll};
 
 use crate::bounds::{Coefficient, End, Ranges};
 use crate::plan::{Plan, Work};
-use crate::testing::{fails_at, is_out};
+use crate::testing::{Goal, fails_at, is_out};
 use std::alloc::{AllocError, Global};
-use wh_guesses::Task;
+use wh_reduction::Task;
 use wh_space::MAX_COEFFICIENT;
 
-/// A condition: its number, and the place in the set of the pair that is to be covered strictly.
+/// That ends of one kind are cut off for a condition.
 #[derive(Clone, Copy)]
-pub struct Goal {
-    pub number: usize,
-    pub strict: usize,
+pub struct Cutting {
+    pub goal: Goal,
+    pub end: End,
 }
 
 /// Narrows the ranges condition by condition, as long as work waits. Answers whether no interpretation is in them.
@@ -41,7 +41,7 @@ pub fn narrow_all<'a>(
             return Ok(false);
         };
         let goal = Goal { number, strict };
-        if is_out(alloc, task, work, ranges, number, strict)? {
+        if is_out(alloc, task, work, ranges, goal)? {
             return Ok(true);
         }
         narrow(alloc, task, plan, work, ranges, goal)?;
@@ -63,34 +63,34 @@ fn narrow<'a>(
     ensures ranges { OnOk result (AreRanges task.now ranges.new) }
     ensures kept { OnOk result (KeepsAll task.now goal.strict ranges.old ranges.new) }
 {
-    let (number, strict) = (goal.number, goal.strict);
-    if fails_at(alloc, task, work, &ranges.low.guess, number, strict)? {
-        cut_side(alloc, task, plan, work, ranges, goal, End::Low)?;
+    if fails_at(alloc, task, work, &ranges.low.guess, goal)? {
+        let end = End::Low;
+        cut_side(alloc, task, plan, work, ranges, Cutting { goal, end })?;
     }
-    if fails_at(alloc, task, work, &ranges.high.guess, number, strict)? {
-        cut_side(alloc, task, plan, work, ranges, goal, End::High)?;
+    if fails_at(alloc, task, work, &ranges.high.guess, goal)? {
+        let end = End::High;
+        cut_side(alloc, task, plan, work, ranges, Cutting { goal, end })?;
     }
     Ok(())
 }
 
-// Cuts off lower ends of what is read on the left side, or upper ends of what is read on the right side.
+// Cuts off lower ends of what is used on the left side, or upper ends of what is used on the right side.
 fn cut_side<'a>(
     alloc: Global,
     task: &Task<'a>,
     plan: &Plan,
     work: &mut Work,
     ranges: &mut Ranges,
-    goal: Goal,
-    end: End,
+    cutting: Cutting,
 ) -> Result<(), AllocError>
     requires task { IsTaskOf task.now }
     requires ranges { AreRanges task.now ranges.old }
     ensures ranges { OnOk result (AreRanges task.now ranges.new) }
-    ensures kept { OnOk result (KeepsAll task.now goal.strict ranges.old ranges.new) }
+    ensures kept { OnOk result (KeepsAll task.now cutting.goal.strict ranges.old ranges.new) }
 {
-    for number in plan.read_at(goal.number, end) {
-        if cut_list(alloc, task, work, ranges, goal, *number, end)? {
-            work.wake(plan.touched_by(*number, end))?;
+    for number in plan.read_at(cutting.goal.number, cutting.end) {
+        if cut_list(alloc, task, work, ranges, cutting, *number)? {
+            work.wake(plan.touched_by(*number, cutting.end))?;
         }
     }
     Ok(())
@@ -102,19 +102,18 @@ fn cut_list<'a>(
     task: &Task<'a>,
     work: &mut Work,
     ranges: &mut Ranges,
-    goal: Goal,
+    cutting: Cutting,
     number: usize,
-    end: End,
 ) -> Result<bool, AllocError>
     requires task { IsTaskOf task.now }
     requires ranges { AreRanges task.now ranges.old }
     ensures ranges { OnOk result (AreRanges task.now ranges.new) }
-    ensures kept { OnOk result (KeepsAll task.now goal.strict ranges.old ranges.new) }
+    ensures kept { OnOk result (KeepsAll task.now cutting.goal.strict ranges.old ranges.new) }
 {
     let mut any = false;
     for place in 0..ranges.high.count(number) {
         let at = Coefficient { number, place };
-        any |= cut_range(alloc, task, work, ranges, goal, at, end)?;
+        any |= cut_range(alloc, task, work, ranges, cutting, at)?;
     }
     Ok(any)
 }
@@ -125,18 +124,17 @@ fn cut_range<'a>(
     task: &Task<'a>,
     work: &mut Work,
     ranges: &mut Ranges,
-    goal: Goal,
+    cutting: Cutting,
     at: Coefficient,
-    end: End,
 ) -> Result<bool, AllocError>
     requires task { IsTaskOf task.now }
     requires ranges { AreRanges task.now ranges.old }
     ensures ranges { OnOk result (AreRanges task.now ranges.new) }
-    ensures kept { OnOk result (KeepsAll task.now goal.strict ranges.old ranges.new) }
+    ensures kept { OnOk result (KeepsAll task.now cutting.goal.strict ranges.old ranges.new) }
 {
     let mut any = false;
     'ends: for _ in 0..MAX_COEFFICIENT {
-        if work.is_spent() || !cut(alloc, task, work, ranges, goal, at, end)? {
+        if work.is_spent() || !cut(alloc, task, work, ranges, cutting, at)? {
             break 'ends;
         }
         any = true;
@@ -150,21 +148,20 @@ fn cut<'a>(
     task: &Task<'a>,
     work: &mut Work,
     ranges: &mut Ranges,
-    goal: Goal,
+    cutting: Cutting,
     at: Coefficient,
-    end: End,
 ) -> Result<bool, AllocError>
     requires task { IsTaskOf task.now }
     requires ranges { AreRanges task.now ranges.old }
     ensures ranges { OnOk result (AreRanges task.now ranges.new) }
-    ensures kept { OnOk result (KeepsAll task.now goal.strict ranges.old ranges.new) }
+    ensures kept { OnOk result (KeepsAll task.now cutting.goal.strict ranges.old ranges.new) }
 {
     if ranges.low.at(at) >= ranges.high.at(at) {
         return Ok(false);
     }
-    match end {
-        End::Low => raise(alloc, task, work, ranges, goal, at),
-        End::High => lower(alloc, task, work, ranges, goal, at),
+    match cutting.end {
+        End::Low => raise(alloc, task, work, ranges, cutting.goal, at),
+        End::High => lower(alloc, task, work, ranges, cutting.goal, at),
     }
 }
 
@@ -186,7 +183,7 @@ fn raise<'a>(
 {
     let (least, most) = (ranges.low.at(at), ranges.high.at(at));
     ranges.high.set(alloc, task, at, least)?;
-    let out = is_out(alloc, task, work, ranges, goal.number, goal.strict)?;
+    let out = is_out(alloc, task, work, ranges, goal)?;
     ranges.high.set(alloc, task, at, most)?;
     if out {
         ranges.low.set(alloc, task, at, least + 1)?;
@@ -212,7 +209,7 @@ fn lower<'a>(
 {
     let (least, most) = (ranges.low.at(at), ranges.high.at(at));
     ranges.low.set(alloc, task, at, most)?;
-    let out = is_out(alloc, task, work, ranges, goal.number, goal.strict)?;
+    let out = is_out(alloc, task, work, ranges, goal)?;
     ranges.low.set(alloc, task, at, least)?;
     if out {
         ranges.high.set(alloc, task, at, most - 1)?;

@@ -1,20 +1,21 @@
-//! What guides the search in ranges: which conditions read what, and which of them wait to be looked at. Answers rest on none of this.
+//! What guides the search in ranges: which conditions use what, and which of them wait to be looked at. Answers rest on none of this.
 
-ghost use Rattle.std.specs.Prelude.{map};
-ghost use Rattle.wh_pairs.specs.PairData.{pair_data};
+
 ghost use Rattle.wh_pairs.specs.Marked.{AreMarked};
+ghost use Rattle.wh_reduction.specs.TaskView.{task_data};
 ghost use Rattle.wh_guesses.specs.Tasks.{IsTaskOf};
 
 use crate::bounds::{Cut, End};
 use std::alloc::{AllocError, Global};
 use std::collections::VecDeque;
-use wh_guesses::{Reading, Task, readings_of};
+use wh_guesses::{Uses, uses_of};
+use wh_reduction::Task;
 
-/// What is read on the two sides of each condition, the conditions on whose left and on whose right side each number is read, and how
+/// What is used on the two sides of each condition, the conditions on whose left and on whose right side each number is used, and how
 /// often a condition is looked at at most.
 #[derive(Drop)]
 pub struct Plan {
-    pub readings: Vec<Reading>,
+    pub uses: Vec<Uses>,
     on_left: Vec<Vec<usize>>,
     on_right: Vec<Vec<usize>>,
     pub limit: u64,
@@ -38,23 +39,23 @@ impl Plan {
         limit: u64,
     ) -> Result<Plan, AllocError>
         requires task { IsTaskOf task.now }
-        requires marked { AreMarked (map pair_data task.now.pairs.now) task.now.set.now marked.now }
+        requires marked { AreMarked (task_data task.now).pairs (task_data task.now).set marked.now }
     {
-        let readings = readings_of(alloc, task, marked)?;
-        let on_left = holders_of(alloc, &readings, count, End::Low)?;
-        let on_right = holders_of(alloc, &readings, count, End::High)?;
+        let uses = uses_of(alloc, task, marked)?;
+        let on_left = holders_of(alloc, &uses, count, End::Low)?;
+        let on_right = holders_of(alloc, &uses, count, End::High)?;
         Ok(Plan {
-            readings,
+            uses,
             on_left,
             on_right,
             limit,
         })
     }
 
-    /// What is read on the side of the condition at which that end is cut off: the left one for lower ends.
+    /// What is used on the side of the condition at which that end is cut off: the left one for lower ends.
     pub fn read_at(&self, condition: usize, end: End) -> &[usize] {
-        match self.readings.get(condition) {
-            Some(reading) => side_of(reading, end),
+        match self.uses.get(condition) {
+            Some(uses) => side_of(uses, end),
             None => &[],
         }
     }
@@ -72,18 +73,18 @@ impl Plan {
         }
     }
 
-    /// In how many conditions what has the number is read.
+    /// In how many conditions what has the number is used.
     pub fn weight_of(&self, number: usize) -> usize {
         let left = self.touched_by(number, End::High).len();
         left.saturating_add(self.touched_by(number, End::Low).len())
     }
 }
 
-// What is read on the side at which that end is cut off.
-fn side_of(reading: &Reading, end: End) -> &[usize] {
+// What is used on the side at which that end is cut off.
+fn side_of(uses: &Uses, end: End) -> &[usize] {
     match end {
-        End::Low => &reading.left,
-        End::High => &reading.right,
+        End::Low => &uses.left,
+        End::High => &uses.right,
     }
 }
 
@@ -170,10 +171,10 @@ impl Work {
     }
 }
 
-// For each of so many numbers the conditions in which it is read on the side at which that end is cut off.
+// For each of so many numbers the conditions in which it is used on the side at which that end is cut off.
 fn holders_of(
     alloc: Global,
-    readings: &[Reading],
+    all: &[Uses],
     count: usize,
     end: End,
 ) -> Result<Vec<Vec<usize>>, AllocError> {
@@ -181,8 +182,8 @@ fn holders_of(
     for _ in 0..count {
         holders.push(Vec::new(alloc))?;
     }
-    for (condition, reading) in readings.iter().enumerate() {
-        add_holder(&mut holders, side_of(reading, end), condition)?;
+    for (condition, uses) in all.iter().enumerate() {
+        add_holder(&mut holders, side_of(uses, end), condition)?;
     }
     Ok(holders)
 }

@@ -2,13 +2,12 @@
 
 ghost use Rattle.std.specs.Bool.{OnTrue};
 ghost use Rattle.std.specs.Prelude.{ℕ, ◌≡◌, ◌<◌, IfOk, length, map, replicate};
-ghost use Rattle.wh_pairs.specs.PairData.{pair_data};
-ghost use Rattle.wh_system.specs.SystemView.{system_data};
 ghost use Rattle.wh_pairs.specs.Marked.{AreMarked};
+ghost use Rattle.wh_reduction.specs.TaskView.{task_data};
 ghost use Rattle.wh_guesses.specs.Conditions.{HasNoInterpretation};
 ghost use Rattle.wh_guesses.specs.Tasks.{IsTaskOf};
 ghost use Rattle.wh_ranges.specs.Bounds.{AreRanges, lists_in};
-ghost use Rattle.wh_guesses.specs.declared.task.Task.{Task};
+ghost use Rattle.wh_reduction.specs.declared.task.Task.{Task};
 ghost use Rattle.wh_ranges.specs.Out.{AllOut, IsOut, IsSpanOut};
 
 use crate::bounds::{Coefficient, Cut, End, Ranges, Span, all_equal, write};
@@ -16,7 +15,8 @@ use crate::choosing::place_to_split;
 use crate::narrowing::narrow_all;
 use crate::plan::{Plan, Work};
 use std::alloc::{AllocError, Global};
-use wh_guesses::{Task, sizes_of};
+use wh_guesses::sizes_of;
+use wh_reduction::Task;
 use wh_space::MAX_COEFFICIENT;
 
 /// Whether ranges of coefficients show that no interpretation of the space lets a pair of the set go. The search ends after so much
@@ -30,13 +30,12 @@ pub fn has_none<'a>(
     limit: u64,
 ) -> Result<bool, AllocError>
     requires task { IsTaskOf task.now }
-    requires marked { AreMarked (map pair_data task.now.pairs.now) task.now.set.now marked.now }
-    ensures { IfOk result (λ told. OnTrue told (HasNoInterpretation (system_data task.now.system.now) (map pair_data task.now.pairs.now)
-        task.now.set.now)) }
+    requires marked { AreMarked (task_data task.now).pairs (task_data task.now).set marked.now }
+    ensures { IfOk result (λ told. OnTrue told (HasNoInterpretation (task_data task.now))) }
 {
     let sizes = sizes_of(alloc, task, marked)?;
     let plan = Plan::new(alloc, task, marked, sizes.len(), limit)?;
-    let mut work = Work::new(alloc, plan.readings.len(), limit)?;
+    let mut work = Work::new(alloc, plan.uses.len(), limit)?;
     let span = whole(alloc, &sizes)?;
     let mut ranges = Ranges::by(alloc, task, marked, span)?;
     if narrow_all(alloc, task, &plan, &mut work, &mut ranges, task.set.len())? {
@@ -69,10 +68,10 @@ fn none_is_strict<'a>(
     ranges: &Ranges,
 ) -> Result<bool, AllocError>
     requires task { IsTaskOf task.now }
-    requires marked { AreMarked (map pair_data task.now.pairs.now) task.now.set.now marked.now }
+    requires marked { AreMarked (task_data task.now).pairs (task_data task.now).set marked.now }
     ensures { IfOk result (λ told. OnTrue told ((strict : ℕ) → strict < length task.now.set.now → IsOut task.now strict ranges.now)) }
 {
-    let rules = task.system.rules().len();
+    let rules = task.covered.len();
     for strict in 0..task.set.len() {
         work.start(rules.saturating_add(strict))?;
         let span = Span::of(alloc, ranges)?;
@@ -94,7 +93,7 @@ fn is_excluded<'a>(
     strict: usize,
 ) -> Result<bool, AllocError>
     requires task { IsTaskOf task.now }
-    requires marked { AreMarked (map pair_data task.now.pairs.now) task.now.set.now marked.now }
+    requires marked { AreMarked (task_data task.now).pairs (task_data task.now).set marked.now }
     ensures { IfOk result (λ told. OnTrue told (IsSpanOut task.now strict first)) }
 {
     let mut spans = Vec::new(alloc);

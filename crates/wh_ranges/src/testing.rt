@@ -1,10 +1,11 @@
 //! Ranges in which a condition can't be met, as numbers show.
 
 ghost use Rattle.std.specs.Bool.{OnTrue};
-ghost use Rattle.std.specs.Prelude.{◌≡◌, ◌<◌, IfOk, Some, false, length, map, slice_get, true};
+ghost use Rattle.std.specs.Prelude.{◌≡◌, ◌<◌, IfOk, Some, length, slice_get};
 ghost use Rattle.wh_terms.specs.Rules.{RewriteRule};
-ghost use Rattle.wh_pairs.specs.PairData.{pair_data};
-ghost use Rattle.wh_system.specs.SystemView.{system_data};
+ghost use Rattle.wh_reduction.specs.TaskView.{task_data};
+ghost use Rattle.wh_polycheck.specs.ReadingsView.{readings_data};
+ghost use Rattle.wh_guesses.specs.Coefficients.{AreOfSpace};
 ghost use Rattle.wh_guesses.specs.Tasks.{IsGuessOf, IsTaskOf};
 ghost use Rattle.wh_ranges.specs.Bounds.{AreRanges};
 ghost use Rattle.wh_ranges.specs.Out.{IsOut, IsPairOut, IsRuleOut};
@@ -13,8 +14,24 @@ use crate::bounds::Ranges;
 use crate::plan::Work;
 use std::alloc::{AllocError, Global};
 use wh_growth::is_refuted;
-use wh_guesses::{Guess, Task, pair_side, rule_side};
+use wh_guesses::{Guess, pair_side, rule_side};
 use wh_hopoly::Poly;
+use wh_polycheck::Readings;
+use wh_reduction::Task;
+
+/// A condition: its number, and the place in the set of the pair that is to be covered strictly.
+#[derive(Clone, Copy)]
+pub struct Goal {
+    pub number: usize,
+    pub strict: usize,
+}
+
+/// The readings at the two ends of ranges.
+#[derive(Clone, Copy)]
+pub struct Ends<'a> {
+    pub low: Readings<'a>,
+    pub high: Readings<'a>,
+}
 
 // How much work it is where a value exceeds a limit.
 const EXCEEDING: u64 = 2_000;
@@ -22,31 +39,33 @@ const EXCEEDING: u64 = 2_000;
 // How many monomials of both sides are as much work as looking at a condition.
 const MONOMIALS: usize = 2;
 
-/// Whether numbers show that the condition with the number is not met under the guess.
+/// Whether numbers show that the condition is not met under the guess.
 pub fn fails_at<'a>(
     alloc: Global,
     task: &Task<'a>,
     work: &mut Work,
     guess: &Guess,
-    number: usize,
-    strict: usize,
+    goal: Goal,
 ) -> Result<bool, AllocError>
     requires task { IsTaskOf task.now }
     requires guess { IsGuessOf task.now guess.now }
 {
-    task.system.is_well_made();
-    let rules = task.system.rules().len();
-    if number < rules {
-        return is_rule_out(alloc, task, work, guess, guess, number as u32);
+    let ends = Ends {
+        low: guess.readings(),
+        high: guess.readings(),
+    };
+    let rules = task.covered.len();
+    if goal.number < rules {
+        return is_rule_out(alloc, task, work, &ends, task.covered[goal.number]);
     }
-    let place = number - rules;
+    let place = goal.number - rules;
     if place < task.set.len() {
-        return is_pair_out(alloc, task, work, guess, guess, place, place == strict);
+        return is_pair_out(alloc, task, work, &ends, place, place == goal.strict);
     }
     Ok(false)
 }
 
-/// Whether numbers show that no interpretations with coefficients in the ranges meet the condition with the number: that of a rule, or
+/// Whether numbers show that no readings with coefficients in the ranges meet the condition: that of a rule that is to be covered, or
 /// behind these that of a pair of the set, which is to be covered strictly if `strict` is its place in the set. Of any other number
 /// nothing is told.
 ///
@@ -56,48 +75,48 @@ pub fn is_out<'a>(
     task: &Task<'a>,
     work: &mut Work,
     ranges: &Ranges,
-    number: usize,
-    strict: usize,
+    goal: Goal,
 ) -> Result<bool, AllocError>
     requires task { IsTaskOf task.now }
     requires ranges { AreRanges task.now ranges.now }
-    ensures { IfOk result (λ told. OnTrue told (IsOut task.now strict ranges.now)) }
+    ensures { IfOk result (λ told. OnTrue told (IsOut task.now goal.strict ranges.now)) }
 {
     task.system.is_well_made();
-    let rules = task.system.rules().len();
-    let (low, high) = (&ranges.low.guess, &ranges.high.guess);
-    if number < rules {
-        return is_rule_out(alloc, task, work, low, high, number as u32);
+    let ends = Ends {
+        low: ranges.low.guess.readings(),
+        high: ranges.high.guess.readings(),
+    };
+    let rules = task.covered.len();
+    if goal.number < rules {
+        return is_rule_out(alloc, task, work, &ends, task.covered[goal.number]);
     }
-    let place = number - rules;
+    let place = goal.number - rules;
     if place < task.set.len() {
-        return is_pair_out(alloc, task, work, low, high, place, place == strict);
+        return is_pair_out(alloc, task, work, &ends, place, place == goal.strict);
     }
     Ok(false)
 }
 
-// Whether the left side of the rule is worth too little under the upper guess for its right side under the lower one.
-fn is_rule_out<'a>(
+// Whether the left side of the rule is worth too little under the upper readings for its right side under the lower ones.
+fn is_rule_out<'a, 'b>(
     alloc: Global,
     task: &Task<'a>,
     work: &mut Work,
-    low: &Guess,
-    high: &Guess,
+    ends: &Ends<'b>,
     rule: u32,
 ) -> Result<bool, AllocError>
-    requires task { IsTaskOf task.now }
-    requires low { IsGuessOf task.now low.now }
-    requires high { IsGuessOf task.now high.now }
-    requires rule { rule < length (system_data task.now.system.now).rules }
-    ensures { (r : RewriteRule) → slice_get (system_data task.now.system.now).rules rule ≡ Some r
-        → IfOk result (λ told. OnTrue told (IsRuleOut low.now high.now r)) }
+    requires low { AreOfSpace (task_data task.now) (readings_data ends.now.low) }
+    requires high { AreOfSpace (task_data task.now) (readings_data ends.now.high) }
+    requires rule { rule < length (task_data task.now).rules }
+    ensures { (r : RewriteRule) → slice_get (task_data task.now).rules rule ≡ Some r
+        → IfOk result (λ told. OnTrue told (IsRuleOut (readings_data ends.now.low) (readings_data ends.now.high) r)) }
 {
     task.system.is_well_made();
-    let Some(left) = rule_side(alloc, task.system, &high.symbols, rule, false)? else {
+    let Some(left) = rule_side(alloc, task.system, &ends.high, rule, false)? else {
         work.spend(EXCEEDING);
         return Ok(false);
     };
-    let Some(right) = rule_side(alloc, task.system, &low.symbols, rule, true)? else {
+    let Some(right) = rule_side(alloc, task.system, &ends.low, rule, true)? else {
         work.spend(EXCEEDING);
         return Ok(false);
     };
@@ -107,27 +126,27 @@ fn is_rule_out<'a>(
 }
 
 // The same of the pair with the place in the set.
-fn is_pair_out<'a>(
+fn is_pair_out<'a, 'b>(
     alloc: Global,
     task: &Task<'a>,
     work: &mut Work,
-    low: &Guess,
-    high: &Guess,
+    ends: &Ends<'b>,
     place: usize,
     strict: bool,
 ) -> Result<bool, AllocError>
     requires task { IsTaskOf task.now }
-    requires low { IsGuessOf task.now low.now }
-    requires high { IsGuessOf task.now high.now }
+    requires low { AreOfSpace (task_data task.now) (readings_data ends.now.low) }
+    requires high { AreOfSpace (task_data task.now) (readings_data ends.now.high) }
     requires place { place < length task.now.set.now }
-    ensures { IfOk result (λ told. OnTrue told (IsPairOut task.now low.now high.now place strict)) }
+    ensures { IfOk result (λ told. OnTrue told (IsPairOut (task_data task.now) (readings_data ends.now.low) (readings_data ends.now.high)
+        place strict)) }
 {
     let pair = &task.pairs[task.set[place] as usize];
-    let Some(left) = pair_side(alloc, task.system, &high.symbols, &high.marks, pair, false)? else {
+    let Some(left) = pair_side(alloc, task.system, &ends.high, pair, false)? else {
         work.spend(EXCEEDING);
         return Ok(false);
     };
-    let Some(right) = pair_side(alloc, task.system, &low.symbols, &low.marks, pair, true)? else {
+    let Some(right) = pair_side(alloc, task.system, &ends.low, pair, true)? else {
         work.spend(EXCEEDING);
         return Ok(false);
     };

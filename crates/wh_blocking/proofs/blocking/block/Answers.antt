@@ -3,7 +3,7 @@ use Rattle.std.proofs.lemmas.Option.{slice_get_read}
 use Rattle.wh_sat_trail.specs.Assignment.{AllBelow}
 use Rattle.wh_sat.specs.State.{clauses_of}
 use Rattle.wh_blocking.specs.Bits.{bit_count}
-use Rattle.wh_blocking.specs.Encodings.{system_of, pairs_of, set_of, scopes_for}
+use Rattle.wh_blocking.specs.Encodings.{task_in, scopes_for}
 use Rattle.wh_blocking.specs.Sizes.{value_of}
 use Rattle.wh_blocking.specs.Tried.{IsBlocked}
 use Rattle.wh_blocking.proofs.EncodingLemmas.{condition_within}
@@ -14,7 +14,7 @@ use Rattle.wh_blocking.proofs.blocking.block.Goals as goal
 pub index-numbers-requires : goal.index-numbers-requires
 index-numbers-requires c =
     let e = c.args.encoding.now in
-    omega (arith, condition_within (system_of e).rules (pairs_of e) (set_of e) c.args.number c.requires.fails.0 c.requires.fails.1, c.requires.encoding.conditions, e.numbers.ok.0)
+    omega (arith, condition_within (task_in e) c.args.number c.requires.fails.0 c.requires.fails.1, c.requires.encoding.conditions, e.numbers.ok.0)
 
 pub clause_of-requires : goal.clause_of-requires
 clause_of-requires c =
@@ -22,7 +22,7 @@ clause_of-requires c =
     let ns = c.index-numbers.result.now in
     let k = c.args.number in
     let within : k < length e.numbers.items =
-    omega (arith, condition_within (system_of e).rules (pairs_of e) (set_of e) k c.requires.fails.0 c.requires.fails.1, c.requires.encoding.conditions) in
+    omega (arith, condition_within (task_in e) k c.requires.fails.0 c.requires.fails.1, c.requires.encoding.conditions) in
     let at : slice_get e.numbers.items k ≡ Some ns = slice_get_read e.numbers.items (length e.numbers.items) k ns refl within c.index-numbers.ensures in
     subst (λ (l : List ℕ). All (λ n. n + 1 < length l) c.deref-3.result.now) (sym c.deref-2.ensures.value)
     (subst (All (λ n. n + 1 < length e.first_bits.items)) (sym c.deref-3.ensures.value) (numbers_within e c.requires.encoding k c.requires.fails.0 ns c.requires.fails.1 at))
@@ -33,7 +33,7 @@ give-requires-clause-below c =
     let ns = c.index-numbers.result.now in
     let k = c.args.number in
     let within : k < length e.numbers.items =
-    omega (arith, condition_within (system_of e).rules (pairs_of e) (set_of e) k c.requires.fails.0 c.requires.fails.1, c.requires.encoding.conditions) in
+    omega (arith, condition_within (task_in e) k c.requires.fails.0 c.requires.fails.1, c.requires.encoding.conditions) in
     let at : slice_get e.numbers.items k ≡ Some ns = slice_get_read e.numbers.items (length e.numbers.items) k ns refl within c.index-numbers.ensures in
     let values = c.args.written.now.values.items in
     let same = c.in_ok-clause.ensures
@@ -47,7 +47,7 @@ returns-clause-blocking c =
     let ns = c.index-numbers.result.now in
     let k = c.args.number in
     let within : k < length e.numbers.items =
-    omega (arith, condition_within (system_of e).rules (pairs_of e) (set_of e) k c.requires.fails.0 c.requires.fails.1, c.requires.encoding.conditions) in
+    omega (arith, condition_within (task_in e) k c.requires.fails.0 c.requires.fails.1, c.requires.encoding.conditions) in
     let at : slice_get e.numbers.items k ≡ Some ns = slice_get_read e.numbers.items (length e.numbers.items) k ns refl within c.index-numbers.ensures in
     let values = c.args.written.now.values.items in
     let same = c.in_ok-clause.ensures
@@ -55,5 +55,5 @@ returns-clause-blocking c =
     let before = c.args.learner.now in
     let g = c.in_ok-give.ensures in
     blocking_given e before c.give.new.self c.in_ok-clause.clause c.requires.blocking g.sound g.variables g.clauses g.given
-    (subst (IsBlocked (system_of e).symbols (system_of e).rules (pairs_of e) (set_of e) e.marked.now (clauses_of before)) (sym same)
+    (subst (IsBlocked (task_in e) e.marked.now (clauses_of before)) (sym same)
     (clause_blocked e c.args.written.now (clauses_of before) ns k c.requires.encoding c.requires.written c.requires.solves c.requires.fails at))

@@ -4,5 +4,5 @@ use Rattle.wh_blocking.proofs.numbers.numbers_of.Goals as goal
 
 pub returns : goal.returns
 returns c =
-    let is = c.in_ok-add_numbers.ensures ∙ ap (λ l. l ++ on_sides c.args.reading.now) c.new-numbers.ensures.items in
+    let is = c.in_ok-add_numbers.ensures ∙ ap (λ l. l ++ on_sides c.args.uses.now) c.new-numbers.ensures.items in
     subst (HaveSame c.each_once.new.numbers.items) is c.each_once.ensures

@@ -6,5 +6,5 @@ use Rattle.wh_blocking.proofs.numbers.numbers_of_all.Goals as goal
 
 pub returns : goal.returns
 returns c =
-    let is = c.loop-reading.invariant ∙ ap (flat_map on_sides) (take_all c.loop-reading.reading-index c.args.readings.now c.loop-reading-test.false) in
+    let is = c.loop-uses.invariant ∙ ap (flat_map on_sides) (take_all c.loop-uses.uses-index c.args.all.now c.loop-uses-test.false) in
     subst (HaveSame c.each_once.new.numbers.items) is c.each_once.ensures

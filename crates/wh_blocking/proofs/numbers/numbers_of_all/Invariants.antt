@@ -3,5 +3,5 @@ use Rattle.std.specs.List.{flat_map}
 use Rattle.wh_blocking.specs.Numbers.{on_sides}
 use Rattle.wh_blocking.proofs.numbers.numbers_of_all.Given as goal
 
-abbrev pub invariant-loop-reading : goal.invariant-loop-reading
-invariant-loop-reading l = l.numbers.items ≡ flat_map on_sides (take l.reading-index l.readings)
+abbrev pub invariant-loop-uses : goal.invariant-loop-uses
+invariant-loop-uses l = l.numbers.items ≡ flat_map on_sides (take l.uses-index l.all)

@@ -1,17 +1,15 @@
-use Rattle.std.proofs.Common.{map}
-use Rattle.wh_system.specs.SystemView.{system_data}
-use Rattle.wh_pairs.specs.PairData.{pair_data}
-use Rattle.wh_guesses.proofs.GuessLemmas.{guess_same}
+use Rattle.wh_polycheck.specs.ReadingsView.{readings_data}
+use Rattle.wh_guesses.specs.Tasks.{guess_data}
+use Rattle.wh_guesses.proofs.GuessLemmas.{readings_are, readings_in}
 use Rattle.wh_guesses.proofs.NodeLemmas.{weighs}
 use Rattle.wh_guesses.proofs.node.node_of_guess.Goals as goal
 
-pub weighed-requires-clause-guess : goal.weighed-requires-clause-guess
-weighed-requires-clause-guess c =
-    let t = c.args.task.now in
-    let g = c.args.guess.now in
-    let d = system_data t.system.now in
-    guess_same d.symbols d.rules (map pair_data t.pairs.now) t.set.now c.deref.result.now g.symbols.items c.deref-2.result.now g.marks.items c.deref.ensures.value c.deref-2.ensures.value c.requires.guess
+pub weighed-requires-clause-readings : goal.weighed-requires-clause-readings
+weighed-requires-clause-readings c =
+    readings_in c.args.task.now c.readings-readings.result c.args.guess.now c.requires.guess c.readings-readings.ensures.symbols c.readings-readings.ensures.marks
 
 pub returns : goal.returns
 returns c =
-    weighs c.args.task.now c.args.guess.now c.weighed.result c.deref.result.now c.deref-2.result.now c.deref.ensures.value c.deref-2.ensures.value c.weighed.ensures
+    let r = c.readings-readings.result in
+    weighs c.args.task.now (readings_data r) (guess_data c.args.guess.now) c.weighed.result
+    (readings_are r c.args.guess.now c.readings-readings.ensures.symbols c.readings-readings.ensures.marks) c.weighed.ensures

@@ -1,28 +1,29 @@
 use Rattle.std.proofs.Common.{◌-◌, length}
-use Rattle.wh_guesses.proofs.GuessTold.{symbols_interpret, symbols_normal, marks_normal, sides_marked}
+use Rattle.wh_reduction.specs.TaskView.{task_data}
+use Rattle.wh_polycheck.specs.ReadingsView.{readings_data}
+use Rattle.wh_guesses.proofs.GuessLemmas.{readings_in, space_proper, sides_at}
 use Rattle.wh_guesses.proofs.testing.outcome_of.Goals as goal
 
-pub rule_outcome-requires-clause-interpreted : goal.rule_outcome-requires-clause-interpreted
-rule_outcome-requires-clause-interpreted c =
-    symbols_interpret c.args.task.now c.args.guess.now c.requires.guess c.deref.result.now c.deref.ensures.value
+pub rule_outcome-requires-clause-proper : goal.rule_outcome-requires-clause-proper
+rule_outcome-requires-clause-proper c =
+    let t = c.args.task.now in
+    let r = c.readings-readings.result in
+    space_proper (task_data t) (readings_data r)
+    (readings_in t r c.args.guess.now c.requires.guess c.readings-readings.ensures.symbols c.readings-readings.ensures.marks)
 
-pub rule_outcome-requires-clause-normal : goal.rule_outcome-requires-clause-normal
-rule_outcome-requires-clause-normal c =
-    symbols_normal c.args.task.now c.args.guess.now c.requires.guess c.deref.result.now c.deref.ensures.value
+pub rule_outcome-requires-clause-rule : goal.rule_outcome-requires-clause-rule
+rule_outcome-requires-clause-rule c = c.requires.task.typed.task.are_rules c.args.number 0 c.if-number-rules.true
 
-pub pair_outcome-requires-clause-interpreted : goal.pair_outcome-requires-clause-interpreted
-pair_outcome-requires-clause-interpreted c =
-    symbols_interpret c.args.task.now c.args.guess.now c.requires.guess c.deref-then-place-task.result.now c.deref-then-place-task.ensures.value
-
-pub pair_outcome-requires-clause-normal : goal.pair_outcome-requires-clause-normal
-pair_outcome-requires-clause-normal c =
-    symbols_normal c.args.task.now c.args.guess.now c.requires.guess c.deref-then-place-task.result.now c.deref-then-place-task.ensures.value
-
-pub pair_outcome-requires-clause-marks : goal.pair_outcome-requires-clause-marks
-pair_outcome-requires-clause-marks c =
-    marks_normal c.args.task.now c.args.guess.now c.requires.guess c.deref-then-place-task-2.result.now c.deref-then-place-task-2.ensures.value
+pub pair_outcome-requires-clause-proper : goal.pair_outcome-requires-clause-proper
+pair_outcome-requires-clause-proper c =
+    let t = c.args.task.now in
+    let r = c.readings-readings.result in
+    space_proper (task_data t) (readings_data r)
+    (readings_in t r c.args.guess.now c.requires.guess c.readings-readings.ensures.symbols c.readings-readings.ensures.marks)
 
 pub pair_outcome-requires-clause-sides : goal.pair_outcome-requires-clause-sides
 pair_outcome-requires-clause-sides c =
-    sides_marked c.args.task.now c.args.guess.now c.requires.guess c.deref-then-place-task-2.result.now c.deref-then-place-task-2.ensures.value
-    c.requires.task (c.args.number - length c.rules-rules.result.now) c.if-place-task.true c.index-task-task.result
+    let t = c.args.task.now in
+    let r = c.readings-readings.result in
+    sides_at t (readings_data r) (readings_in t r c.args.guess.now c.requires.guess c.readings-readings.ensures.symbols c.readings-readings.ensures.marks)
+    c.requires.task.typed (c.args.number - length t.covered.now) c.index-task-task.result c.if-place-task.true

@@ -1,5 +1,6 @@
 use Rattle.std.proofs.Common.{true, false, rules}
-use Rattle.wh_hopoly.specs.Erase.{interpretations, transfers}
+use Rattle.wh_hopoly.specs.Erase.{transfers}
+use Rattle.wh_polycheck.specs.ReadingsView.{readings_data}
 use Rattle.wh_polycheck.specs.Covering.{rule_run}
 use Rattle.wh_guesses.specs.Lines.{IsLine, IsNotMet}
 use Rattle.wh_guesses.proofs.LineLemmas.{told_missing}
@@ -7,6 +8,6 @@ use Rattle.wh_guesses.proofs.testing.rule_fails.Goals as goal
 
 pub returns : goal.returns
 returns c r at =
-    let left = rule_run (interpretations c.args.symbols.now) r false in
-    let right = rule_run (interpretations c.args.symbols.now) r true in
+    let left = rule_run (readings_data c.args.readings.now) r false in
+    let right = rule_run (readings_data c.args.readings.now) r true in
     told_missing c.in_ok-rule_line.field-0 (IsNotMet left right) (λ ms. IsLine left right (transfers ms)) c.is_none.result (search rules) (c.in_ok-rule_line.ensures r at)

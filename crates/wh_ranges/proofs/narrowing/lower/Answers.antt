@@ -1,6 +1,5 @@
-use Rattle.std.proofs.Common.{◌≡◌, ◌-◌, suc, map, arith}
-use Rattle.wh_pairs.specs.PairData.{pair_data}
-use Rattle.wh_system.specs.SystemView.{system_data}
+use Rattle.std.proofs.Common.{◌≡◌, ◌-◌, suc, arith}
+use Rattle.wh_reduction.specs.TaskView.{task_data}
 use Rattle.wh_ranges.specs.Bounds.{lists_of}
 use Rattle.wh_ranges.proofs.Kept.{told, kept_then, low_back, lowered}
 use Rattle.wh_ranges.proofs.narrowing.lower.Goals as goal
@@ -8,8 +7,6 @@ use Rattle.wh_ranges.proofs.narrowing.lower.Goals as goal
 pub returns-in_ok-set-3-clause-kept : goal.returns-in_ok-set-3-clause-kept
 returns-in_ok-set-3-clause-kept c =
     let t = c.args.task.now in
-    let d = system_data t.system.now in
-    let ps = map pair_data t.pairs.now in
     let n = c.args.at.number in
     let j = c.args.at.place in
     let low = lists_of c.args.ranges.now.low in
@@ -19,16 +16,15 @@ returns-in_ok-set-3-clause-kept c =
     let down = lists_of c.set-then-out.new.self in
     let most = c.at-most.result in
     let next : suc (most - 1) ≡ most = omega (arith, c.at-most.ensures, c.requires.open) in
-    kept_then d.symbols d.rules ps t.set.now c.args.goal.strict low high low down back down
-    (lowered d.symbols d.rules ps t.set.now c.args.goal.strict n j most (most - 1) low high mid down
+    kept_then (task_data t) c.args.goal.strict low high low down back down
+    (lowered (task_data t) c.args.goal.strict n j most (most - 1) low high mid down
     c.in_ok-set.ensures.value c.in_ok-set-3.ensures.value c.at-most.ensures next c.requires.open (told c.in_ok-out.out _ c.if-out.true c.in_ok-out.ensures))
-    (low_back d.symbols d.rules ps t.set.now c.args.goal.strict n j most c.at-least.result low down mid back c.in_ok-set.ensures.value c.in_ok-set-2.ensures.value
+    (low_back (task_data t) c.args.goal.strict n j most c.at-least.result low down mid back c.in_ok-set.ensures.value c.in_ok-set-2.ensures.value
     c.at-least.ensures)
 
 pub returns-else-out-clause-kept : goal.returns-else-out-clause-kept
 returns-else-out-clause-kept c =
     let t = c.args.task.now in
-    let d = system_data t.system.now in
-    low_back d.symbols d.rules (map pair_data t.pairs.now) t.set.now c.args.goal.strict c.args.at.number c.args.at.place c.at-most.result c.at-least.result
+    low_back (task_data t) c.args.goal.strict c.args.at.number c.args.at.place c.at-most.result c.at-least.result
     (lists_of c.args.ranges.now.low) (lists_of c.args.ranges.now.high) (lists_of c.set.new.self) (lists_of c.set-2.new.self)
     c.in_ok-set.ensures.value c.in_ok-set-2.ensures.value c.at-least.ensures

@@ -1,11 +1,10 @@
 use Rattle.std.proofs.Common.{◌<◌, ◌≤◌, [], length, get_or, ap, sym, subst, ◌∙◌, arith}
 use Rattle.std.proofs.lemmas.List.{length-map}
 use Rattle.std.proofs.lemmas.Bool.Decides.{nat_tests}
-use Rattle.wh_system.specs.SystemView.{system_data}
+use Rattle.wh_reduction.specs.TaskView.{task_data}
 use Rattle.wh_covering.proofs.CoverWalk.{ok_so}
-use Rattle.wh_hopoly.specs.Erase.{interpretations}
-use Rattle.wh_polycheck.specs.SideResults.{marks_of}
 use Rattle.wh_guesses.specs.Coefficients.{HaveCoefficients}
+use Rattle.wh_guesses.specs.Tasks.{guess_data}
 use Rattle.wh_guesses.proofs.ChangeLemmas.{item_at}
 use Rattle.wh_ranges.specs.Bounds.{IsSetTo, lists_in, lists_of}
 use Rattle.wh_ranges.proofs.Lists.{read_anew, set_nowhere, is_set}
@@ -13,7 +12,6 @@ use Rattle.wh_ranges.proofs.bounds.Bound.set.Goals as goal
 
 pub returns-in-Some-clause-bound : goal.returns-in-Some-clause-bound
 returns-in-Some-clause-bound c =
-    let d = system_data c.args.task.now.system.now in
     let old = c.args.self.now in
     let new = c.write.new.lists.items in
     let vectors = c.deref.result.now in
@@ -23,7 +21,7 @@ returns-in-Some-clause-bound c =
     let here = c.deref-in-Some.ensures.value ∙ item ∙ ap (λ l. get_or (lists_in l) n []) c.deref.ensures.value in
     ok_so c.change_at.result _ _ (λ changed. record {
       guess = c.change_at.ensures.guess;
-      coefficients = read_anew d.symbols d.rules (lists_of old) (lists_in new) n c.args.at.place c.args.value c.deref-in-Some.result.now
+      coefficients = read_anew (task_data c.args.task.now) (lists_of old) (lists_in new) n c.args.at.place c.args.value c.deref-in-Some.result.now
           old.guess.symbols.items c.change_at.new.guess.symbols.items old.guess.marks.items c.change_at.new.guess.marks.items
           c.requires.bound.coefficients c.write.ensures here changed;
     }) c.change_at.ensures.lists
@@ -37,7 +35,6 @@ returns-in-Some-clause-value c =
 
 pub returns-in-None-clause-bound : goal.returns-in-None-clause-bound
 returns-in-None-clause-bound c =
-    let d = system_data c.args.task.now.system.now in
     let old = c.args.self.now in
     let guess = old.guess in
     let new = c.write.new.lists.items in
@@ -47,6 +44,6 @@ returns-in-None-clause-bound c =
     let same = set_nowhere (lists_of old) (lists_in new) n c.args.at.place c.args.value c.write.ensures past in
     record {
       guess = c.requires.bound.guess;
-      coefficients = subst (λ lists. HaveCoefficients d.symbols d.rules lists (interpretations guess.symbols.items) (marks_of guess.marks.items))
+      coefficients = subst (λ lists. HaveCoefficients (task_data c.args.task.now) lists (guess_data guess))
           (sym same) c.requires.bound.coefficients;
     }
