@@ -44,8 +44,12 @@ bit_within (Γ ∷ scopes) (suc n) = omega (arith, bit_within scopes n)
 -- there are as many scopes as symbols and marked ones
 pub scopes_long : (T : TaskData) (marked : List ℕ) → length (scopes_of T marked) ≡ length T.symbols.funs + length marked
 scopes_long T marked =
-    omega (arith, length-append (map arguments T.symbols.funs) (map (marked_types T.symbols T.rules) marked), length-map T.symbols.funs arguments,
-    length-map marked (marked_types T.symbols T.rules))
+    omega (
+      arith,
+      length-append (map arguments T.symbols.funs) (map (marked_types T.symbols T.rules) marked),
+      length-map T.symbols.funs arguments,
+      length-map marked (marked_types T.symbols T.rules),
+    )
 
 -- what is used has a scope
 pub uses_within : (T : TaskData) (marked : List ℕ) (c : Condition) (n : ℕ) → UsesNumber T marked c n → n < length (scopes_of T marked)

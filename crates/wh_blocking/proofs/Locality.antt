@@ -8,7 +8,7 @@ use Rattle.wh_terms.specs.Typing.{Symbols, Declared, Typed, typed_fun, typed_met
 use Rattle.wh_terms.specs.Rules.{RewriteRule}
 use Rattle.wh_system.specs.CanonicalView.{side_of}
 use Rattle.wh_pairs.specs.PairData.{PairData}
-use Rattle.wh_pairs.proofs.ByPlace.{contains_at, place_of as place_in_list, unmap, remap}
+use Rattle.wh_pairs.proofs.ByPlace.{contains_at, remap}
 use Rattle.wh_pairs.specs.Marked.{AreMarked, HeadsASide}
 use Rattle.wh_reduction.specs.TaskData.{TaskData}
 use Rattle.wh_polycheck.specs.Readings.{ReadingsData}
@@ -17,6 +17,7 @@ use Rattle.wh_hopoly.specs.Evaluation.{one, next, Expression, var, symbol, lambd
 use Rattle.wh_hopoly.proofs.ValueLaws.{interpretation_is}
 use Rattle.wh_polycheck.specs.Sides.{types_of_metas, side, side_applied, side_expression, marked_expression}
 use Rattle.wh_polycheck.specs.Marks.{Mark, marked_types, marked_interpretation, with_marks, place_of, mark_number, HasMark, HasMarkedSides, head_of_side, arguments_of_side}
+use Rattle.wh_polycheck.proofs.ProperReadings.{marked_head}
 use Rattle.wh_polycheck.proofs.MoreInterpretations.{mark_at, mapped}
 use Rattle.wh_polycheck.specs.Covering.{rule_run, pair_run, IsTypedTask}
 use Rattle.wh_guesses.specs.Conditions.{Condition, covers_rule, covers_pair, some_strictly, IsCondition, of_pair, HasSymbol, SomeHasSymbol, StandsInPair, UsesSymbol, UsesMark, IsMet, Meets}
@@ -202,14 +203,6 @@ module _ (S : Symbols) (R Q : ReadingsData) (xs_kinds : map (λ s. s.kind) R.sym
           (ap (interpretation_at X) (sym (number_alike f)) ∙ mark_alike f has alike)
           (λ g stands. let known = all g stands in symbol_alike g known.0 known.1))
 
--- the marked symbols of a pair of the set have marks
-has_mark : (pairs : List PairData) (set : List ℕ) (ms : List Mark) (p : PairData) → AreMarked pairs set (map (λ m. m.symbol) ms)
-    → InSet pairs set p → (f : ℕ) → HeadsASide f p → HasMark ms f
-has_mark pairs set ms p are (n, there, at) f heads =
-    let (i, here) = place_in_list (map (λ m. m.symbol) ms) f ((are.each f).1 (n, there, (p, at, heads))) in
-    let (m, found, is) = unmap (λ (m : Mark). m.symbol) ms i f here in
-    (m, contains_at ms i m found, is)
-
 heads_side : (p : PairData) (right : Bool) → HeadsASide (head_of_side p right) p
 heads_side p false = inl refl
 heads_side p true = inr refl
@@ -241,7 +234,7 @@ module _ (T : TaskData) (marked : List ℕ) (task : IsTypedTask T) (are : AreMar
       → (right : Bool) → pair_run T.symbols T.rules R p right ≡ pair_run T.symbols T.rules Q p right
   pair_run_alike p of alike marks right =
       let ms = R.marks in
-      let has = has_mark T.pairs T.set ms p marks_are of in
+      let has : (f : ℕ) → HeadsASide f p → HasMark ms f = λ f heads. marked_head T.pairs T.set ms marks_are p f of heads in
       let h = head_of_side p right in
       let (m, at, is) = mark_at ms h (has h (heads_side p right)) in
       let here : slice_get marked (place_of ms h) ≡ Some h =

@@ -1,10 +1,9 @@
 -- What readings of the space give to the evaluation of sides, and guesses that are changed.
 use Rattle.std.proofs.Common.{◌≡◌, ◌<◌, ℕ, zero, suc, List, [], ◌∷◌, map, length, Some, slice_get, get_or, All, Contains, refl, ap, sym, subst, ◌∙◌, arith}
 use mathlib.Core.Path.{subst₂}
-use Rattle.std.proofs.lemmas.Option.{none-some, same_Some}
 use Rattle.std.proofs.lemmas.List.{length-map}
 use Rattle.std.proofs.lemmas.List.Elements.{All-contains}
-use Rattle.wh_types.specs.Ty.{Ty, arguments}
+use Rattle.wh_types.specs.Ty.{arguments}
 use Rattle.wh_types.specs.Erase.{ty}
 use Rattle.wh_terms.specs.Typing.{Symbols}
 use Rattle.wh_terms.specs.Rules.{RewriteRule}
@@ -13,7 +12,7 @@ use Rattle.wh_pairs.specs.declared.pair.Pair.{Pair}
 use Rattle.wh_pairs.specs.Marked.{AreMarked}
 use Rattle.wh_pairs.proofs.ByPlace.{contains_at, contains_number, place_of, unmap}
 use Rattle.wh_pairs.proofs.SetLemmas.{all_from_members}
-use Rattle.wh_reduction.specs.TaskData.{TaskData, IsTask, numbers_from, whole_task}
+use Rattle.wh_reduction.specs.TaskData.{TaskData, numbers_from}
 use Rattle.wh_reduction.specs.TaskView.{task_data}
 use Rattle.wh_reduction.specs.declared.task.Task.{Task}
 use Rattle.wh_reduction.proofs.Numbers.{numbers_are}
@@ -25,23 +24,16 @@ use Rattle.wh_polycheck.specs.Marks.{Mark, marked_types, AreNormalMarks, HasMark
 use Rattle.wh_polycheck.specs.Readings.{ReadingsData, AreNormal, AreProper}
 use Rattle.wh_polycheck.specs.ReadingsView.{readings_data}
 use Rattle.wh_polycheck.specs.SideResults.{mark, marks_of}
-use Rattle.wh_polycheck.specs.Sides.{IsInterpretedAs, Interprets}
 use Rattle.wh_polycheck.specs.Covering.{HaveTypedSides, IsTypedTask}
 use Rattle.wh_polycheck.specs.declared.marks.MarkedSymbol.{MarkedSymbol}
 use Rattle.wh_polycheck.specs.declared.marks.Readings.{Readings}
 use Rattle.wh_covering.proofs.Walks.{kinds_are, marks_are}
-use Rattle.wh_covering.proofs.CoverWalk.{set_sides}
+use Rattle.wh_polycheck.proofs.ProperReadings.{proper_readings, sides_of_set}
 use Rattle.wh_space.specs.Space.{IsOfSpace}
 use Rattle.wh_guesses.specs.Coefficients.{AreOfSpace}
 use Rattle.wh_guesses.specs.Guesses.{IsSearchTask, IsReadSymbol, IsReadMark, IsGuess}
 use Rattle.wh_guesses.specs.Tasks.{IsGuessOf, guess_data}
 use Rattle.wh_guesses.specs.declared.guess.Guess.{Guess}
-
-in_order : (symbols : List Interpretation) (f : ℕ) (a : Ty) → slice_get (map (λ (s : Interpretation). s.kind) symbols) f ≡ Some a
-    → IsInterpretedAs symbols f a
-in_order [] f a e = absurd (none-some a e)
-in_order (s ∷ symbols) zero a e = (s, refl, same_Some s.kind a e)
-in_order (s ∷ symbols) (suc f) a e = in_order symbols f a e
 
 -- readings of the space
 
@@ -59,14 +51,11 @@ module _ (T : TaskData) (R : ReadingsData) (are : AreOfSpace T R) where
   pub space_normal : AreNormal T.symbols T.rules R
   space_normal = record { symbols = normal_symbols; marks = normal_marks }
 
-  interprets : Interprets T.symbols R.symbols
-  interprets f a known = in_order R.symbols f a (ap (λ l. slice_get l f) are.readings.kinds ∙ known)
-
   pub space_proper : AreProper T.symbols T.rules R
-  space_proper = record { interpreted = interprets; normal = space_normal }
+  space_proper = proper_readings T R are.readings space_normal
 
   pub space_sides : IsTypedTask T → (n : ℕ) (p : PairData) → Contains T.set n → slice_get T.pairs n ≡ Some p → HasMarkedSides T.symbols T.rules R.marks p
-  space_sides typed n p found at = set_sides T.symbols T.rules T.pairs T.set R.marks typed.typed are.readings.marked n p found at
+  space_sides typed n p found at = sides_of_set T.pairs T.set R.marks are.readings.marked T.symbols T.rules typed.typed p (n, found, at)
 
 -- so it is of the pair with a place in the program's set
 pub sides_at : (t : Task) (R : ReadingsData) → AreOfSpace (task_data t) R → IsTypedTask (task_data t) → (i : ℕ) (d : Pair) → i < length t.set.now

@@ -26,11 +26,7 @@ pub struct Uses {
 }
 
 /// What is used in the rules that are to be covered, and then in the pairs of the set, whose marked symbols are given.
-pub fn uses_of<'a>(
-    alloc: Global,
-    task: &Task<'a>,
-    marked: &[u32],
-) -> Result<Vec<Uses>, AllocError>
+pub fn uses_of<'a>(alloc: Global, task: &Task<'a>, marked: &[u32]) -> Result<Vec<Uses>, AllocError>
     requires task { IsTaskOf task.now }
     requires marked { AreMarked (task_data task.now).pairs (task_data task.now).set marked.now }
     ensures { IfOk result (λ uses. AreAllUses (task_data task.now) marked.now uses.items) }

@@ -1,6 +1,5 @@
 //! What guides the search in ranges: which conditions use what, and which of them wait to be looked at. Answers rest on none of this.
 
-
 ghost use Rattle.wh_pairs.specs.Marked.{AreMarked};
 ghost use Rattle.wh_reduction.specs.TaskView.{task_data};
 ghost use Rattle.wh_guesses.specs.Tasks.{IsTaskOf};
