@@ -1,5 +1,5 @@
 -- What readings of the space give to the evaluation of sides, and guesses that are changed.
-use Rattle.std.proofs.Common.{◌≡◌, ◌<◌, ℕ, zero, suc, List, [], ◌∷◌, map, length, Some, slice_get, get_or, All, Contains, refl, ap, sym, subst, ◌∙◌, arith}
+use Rattle.std.proofs.Common.{◌≡◌, ◌<◌, ℕ, List, map, length, Some, slice_get, get_or, All, Contains, refl, sym, subst, ◌∙◌, arith}
 use mathlib.Core.Path.{subst₂}
 use Rattle.std.proofs.lemmas.List.{length-map}
 use Rattle.std.proofs.lemmas.List.Elements.{All-contains}

@@ -1,5 +1,5 @@
 -- The node of readings under which all lines are found.
-use Rattle.std.proofs.Common.{◌≡◌, ◌≢◌, ℕ, ◌+◌, Result, Ok, Err, IfOk, ap, sym, subst, ◌<◌, ◌≤◌, ◌^◌, inl, inr, true, false, List, [], length, map, get_or, All, Contains, refl, arith}
+use Rattle.std.proofs.Common.{◌≡◌, ◌≢◌, ℕ, ◌+◌, Result, IfOk, ap, sym, subst, ◌<◌, ◌≤◌, ◌^◌, inl, inr, true, false, List, [], length, map, All, Contains, refl, arith}
 use Rattle.std.specs.declared.alloc.AllocError.{AllocError}
 use Rattle.std.proofs.lemmas.List.{length-map}
 use Rattle.std.proofs.lemmas.List.Elements.{All-contains}
@@ -12,7 +12,7 @@ use Rattle.wh_pairs.specs.Drops.{IsBadDrop}
 use Rattle.wh_pairs.proofs.Increasing.{one_place}
 use Rattle.wh_pairs.proofs.ByPlace.{contains_at, place_of, unmap, remap}
 use Rattle.wh_pairs.proofs.SetLemmas.{all_from_members}
-use Rattle.wh_reduction.specs.TaskData.{TaskData, IsTask, CoversAll, numbers_from, task_over}
+use Rattle.wh_reduction.specs.TaskData.{TaskData, IsTask, CoversAll, task_over}
 use Rattle.wh_reduction.specs.TaskView.{task_data}
 use Rattle.wh_reduction.specs.ReductionPair.{Evidence, IsRightRule, IsRightPair}
 use Rattle.wh_reduction.specs.declared.task.Task.{Task}
@@ -40,7 +40,6 @@ use Rattle.wh_guesses.specs.Conditions.{covers_rule, covers_pair, some_strictly,
 use Rattle.wh_guesses.specs.Lines.{IsLine, IsStrictLine, IsFailingRule, IsFailingPair, AreRuleLines, ArePairLines}
 use Rattle.wh_guesses.specs.Weighing.{Weighs}
 use Rattle.wh_guesses.specs.declared.node.Weighing.{Weighing}
-use Rattle.wh_guesses.specs.declared.node.Weighing.TheVariants.{Found, Failing}
 use Rattle.wh_guesses.specs.Found.{task_of, IsInterpretation}
 use Rattle.wh_guesses.proofs.IncreasingLemmas.{few_increasing}
 use Rattle.wh_guesses.proofs.GuessLemmas.{space_normal}

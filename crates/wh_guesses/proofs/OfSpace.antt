@@ -1,28 +1,18 @@
 -- Interpretations of the space by the lists of their coefficients.
-use Rattle.std.proofs.Common.{◌≡◌, ◌≢◌, inl, inr, ℕ, zero, suc, ◌+◌, ◌<◌, ◌≤◌, nat_lt, Bool, true, false, if◌then◌else◌, List, [], ◌∷◌, ◌++◌, map, length, replicate, set, get_or, Vec, Global, Some, slice_get, refl, ap, sym, subst, ◌∙◌, arith}
-use mathlib.Core.Path.{subst₂}
-use Rattle.std.proofs.lemmas.List.{length-map, length-set, get_or-set_same, get_or-set_other, set_past}
+use Rattle.std.proofs.Common.{◌≡◌, ℕ, zero, suc, ◌+◌, ◌≤◌, List, [], ◌∷◌, ◌++◌, map, length, get_or, Some, slice_get, refl, ap, sym, subst, ◌∙◌, arith}
+use Rattle.std.proofs.lemmas.List.{length-map}
 use Rattle.std.proofs.lemmas.List.Elements.{All-contains}
-use Rattle.std.proofs.lemmas.Bool.{cases_eq}
-use Rattle.std.proofs.lemmas.Bool.Decides.{nat_tests}
 use Rattle.std.proofs.lemmas.Option.{get_or_from_slice_get}
 use Rattle.wh_types.specs.Ty.{Ty, arguments}
 use Rattle.wh_terms.specs.Typing.{Symbols}
 use Rattle.wh_terms.specs.Rules.{RewriteRule}
 use Rattle.wh_reduction.specs.TaskData.{TaskData}
 use Rattle.wh_polycheck.specs.Readings.{ReadingsData}
-use Rattle.wh_pairs.proofs.ByPlace.{contains_at, place_of, remap, some_one}
-use Rattle.wh_hopoly.specs.Polynomials.{Polynomial, zero_poly, plus, Factors}
+use Rattle.wh_pairs.proofs.ByPlace.{contains_at, remap}
+use Rattle.wh_hopoly.specs.Polynomials.{Polynomial, Factors}
 use Rattle.wh_hopoly.specs.Evaluation.{Interpretation}
-use Rattle.wh_hopoly.specs.Erase.{interpretations}
-use Rattle.wh_hopoly.specs.declared.expression.Symbol.{Symbol}
-use Rattle.wh_hopoly.specs.Moves.{MonomialAt}
-use Rattle.wh_hopoly.specs.Covers.{Has, AtLeast}
 use Rattle.wh_hopoly.specs.Rearranged.{coefficient}
-use Rattle.wh_hopoly.proofs.SumLaws.{normal_sorted}
 use Rattle.wh_polycheck.specs.Marks.{Mark, marked_types}
-use Rattle.wh_polycheck.specs.SideResults.{marks_of}
-use Rattle.wh_polycheck.specs.declared.marks.MarkedSymbol.{MarkedSymbol}
 use Rattle.wh_polycheck.proofs.MoreInterpretations.{slice_get_front, slice_get_behind}
 use Rattle.wh_space.specs.Space.{HasMonomial, IsOfSpace, space_of}
 use Rattle.wh_space.specs.Coefficients.{capped, HasCoefficients}

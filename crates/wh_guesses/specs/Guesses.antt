@@ -1,5 +1,5 @@
 -- Readings as the search keeps them, and the task that they are for.
-use Rattle.std.specs.Prelude.{ℕ, ◌≡◌, List, map, All}
+use Rattle.std.specs.Prelude.{◌≡◌, List, map, All}
 use Rattle.wh_types.specs.Ty.{arguments}
 use Rattle.wh_types.specs.Erase.{ty}
 use Rattle.wh_terms.specs.Typing.{Symbols}

@@ -1,11 +1,9 @@
-use Rattle.std.proofs.Common.{◌≡◌, false, true, length, get_or, arith}
+use Rattle.std.proofs.Common.{◌≡◌, length, get_or, arith}
 use Rattle.wh_pairs.proofs.ByPlace.{number_at}
 use Rattle.wh_reduction.specs.TaskView.{task_data}
-use Rattle.wh_hopoly.specs.Erase.{transfers}
 use Rattle.wh_polycheck.specs.ReadingsView.{readings_data}
-use Rattle.wh_polycheck.specs.Covering.{rule_run}
 use Rattle.wh_covering.proofs.Walks.{some_at}
-use Rattle.wh_guesses.specs.Lines.{IsLine, IsLineOfRule, IsNotMet, IsUncoveredRule}
+use Rattle.wh_guesses.specs.Lines.{IsLineOfRule, IsUncoveredRule}
 use Rattle.wh_guesses.proofs.GuessLemmas.{space_proper}
 use Rattle.wh_guesses.proofs.LineLemmas.{matched_some, matched_none, rule_lines_more, rule_lines_all}
 use Rattle.wh_guesses.proofs.lines.rule_lines.Goals as goal

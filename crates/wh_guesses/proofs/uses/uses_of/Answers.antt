@@ -1,11 +1,7 @@
-use Rattle.std.proofs.Common.{◌<◌, List, length, map, All, ap, sym, subst, ◌∙◌, arith}
+use Rattle.std.proofs.Common.{List, length, ap, subst, ◌∙◌, arith}
 use Rattle.std.proofs.lemmas.List.{length-map}
-use Rattle.std.proofs.lemmas.List.Elements.{All-contains}
-use Rattle.wh_pairs.proofs.SetLemmas.{all_from_members}
-use Rattle.wh_pairs.specs.PairData.{pair_data}
 use Rattle.wh_terms.specs.Erase.{rewrite_rule}
 use Rattle.wh_terms.specs.Rules.{RewriteRule}
-use Rattle.wh_reduction.specs.TaskView.{task_data}
 use Rattle.wh_guesses.specs.Uses.{AreRuleUses}
 use Rattle.wh_guesses.proofs.UseLemmas.{all_uses}
 use Rattle.wh_guesses.proofs.uses.uses_of.Goals as goal
