@@ -10,6 +10,7 @@ use Rattle.wh_cert.specs.Written.{Cert, yes, no}
 use Rattle.wh_sat_trail.specs.declared.literal.Literal.{Literal}
 use Rattle.wh_find_subterm.specs.Found.{IsSpent}
 use Rattle.wh_guesses.specs.Conditions.{HasNoInterpretation}
+use Rattle.wh_guesses.specs.Found.{task_of}
 use Rattle.wh_blocking.specs.Answers as tried
 use Rattle.wh_loops.specs.Space.{HasNoLoop}
 use Rattle.wh_loops.specs.Found.{IsLoopCertificate}
@@ -53,7 +54,7 @@ pub record IsStuck (d : SystemData) (ps : List PairData) (tries : ℕ) (set : Li
   pub searched : 0 < tries
   pub ended : Ended d ps set
   pub no_projection : HasNoProjection d.rules ps set
-  pub no_interpretation : HasNoInterpretation d ps set
+  pub no_interpretation : HasNoInterpretation (task_of d ps set)
 
 -- the search for a projection of a knot that the search comes to learnt as many clauses as it may, which are shown (ours)
 pub record IsSpentOn (d : SystemData) (ps : List PairData) (tries : ℕ) (set : List ℕ) (list : List (List Literal)) : Type 0 where

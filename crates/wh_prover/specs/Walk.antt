@@ -13,6 +13,7 @@ use Rattle.wh_cert.specs.Said.{said_node}
 use Rattle.wh_cert.specs.declared.certificate.Node.{Node}
 use Rattle.wh_find_subterm.specs.Found.{IsSpent}
 use Rattle.wh_guesses.specs.Conditions.{HasNoInterpretation}
+use Rattle.wh_guesses.specs.Found.{task_of}
 use Rattle.wh_blocking.specs.Answers as tried
 use Rattle.wh_subterm.specs.Projections.{Chosen}
 use Rattle.wh_proof.specs.Looked.{SayChoices}
@@ -36,7 +37,7 @@ weight (set ∷ sets) = weigh set + weight sets
 -- why the walk ended on a set (ours)
 abbrev pub IsEnd : SystemData → List PairData → ℕ → Cause → Type 0
 IsEnd d ps tries (NoRanks cause) = ⊥
-IsEnd d ps tries (Stuck set) = (0 < tries) × Ended d ps set × HasNoProjection d.rules ps set × HasNoInterpretation d ps set
+IsEnd d ps tries (Stuck set) = (0 < tries) × Ended d ps set × HasNoProjection d.rules ps set × HasNoInterpretation (task_of d ps set)
 IsEnd d ps tries (Spent Subterm set list) = Ended d ps set × IsSpent d.rules ps set tries list
 IsEnd d ps tries (Spent Poly set list) = (0 < tries) × Ended d ps set × HasNoProjection d.rules ps set × tried.IsSpent d ps set tries list
 IsEnd d ps tries (Full visits) = ⊥
