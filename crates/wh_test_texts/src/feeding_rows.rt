@@ -11,8 +11,8 @@ use wh_cert_text::CertReader;
 use wh_text::print_number;
 use wh_types::{Bytes, Or};
 
-/// Texts with what comes while they are read: of each item a letter, and how many lines are whole then; `!` for a byte that is
-/// refused; and behind all bytes the place of the fault, if they are no certificate text.
+/// Texts with what comes while they are read: of each item a letter, and how many lines are whole then; `!` for a byte
+/// that is refused; and behind all bytes the place of the fault, if they are no certificate text.
 const FED: &[(&[u8], &[u8])] = &[
     (LOOP, b"h2s3s4a5e6"),
     (PUT, b"h2s3a4p5e6"),
