@@ -2,8 +2,8 @@
 use Rattle.std.specs.Prelude.{◌≡◌, ℕ, ◌+◌, ◌<◌, ◌≤◌, List, length, take, drop, Option, Some, Result, Ok, Err}
 use Rattle.wh_io.specs.declared.next.Next.{Next}
 use Rattle.wh_io.specs.declared.next.Next.TheVariants.{Bytes, End}
-use Rattle.wh_io.specs.declared.next.ReadFault.{ReadFault}
-use Rattle.wh_io.specs.declared.next.ReadFault.TheVariants as fault
+use Rattle.wh_io.specs.declared.read.ReadFault.{ReadFault}
+use Rattle.wh_io.specs.declared.read.ReadFault.TheVariants as fault
 use Rattle.wh_io.specs.declared.next.Ended.{Ended}
 use Rattle.wh_io.specs.declared.next.Ended.TheVariants.{Whole, TooLong, Failed}
 use Rattle.wh_io.specs.Outside.{Rose}

@@ -4,7 +4,8 @@ ghost use Rattle.std.specs.Prelude.{◌≡◌, ◌≤◌, ◌<◌, ℕ, List, le
 ghost use Rattle.wh_io.specs.Pieces.{PiecesState, GivesPiece, Advances, PieceFaults, answer_of};
 ghost use Rattle.wh_io.specs.declared.next.Ended.{Ended};
 
-use crate::next::{Ended, Next, ReadFault};
+use crate::next::{Ended, Next};
+use crate::read::ReadFault;
 use crate::shelf::Shelf;
 use std::marker::Model;
 
