@@ -1,3 +1,4 @@
+pub mod SectionsLaws
 pub mod PolyLinesSound
 pub mod YesSound
 pub mod LinesComplete

@@ -1,7 +1,7 @@
 -- The reader of certificates reads each spelling of the lines of a node of interpretations.
-use Rattle.std.proofs.Common.{◌≡◌, ℕ, ◌+◌, ◌-◌, ◌*◌, Bool, true, false, cond, ◌&&◌, ◌==◌, nat_lt, List, [], ◌∷◌, ◌++◌, length, codes, refl, sym, ap, ◌∙◌, arith, append_assoc, append-nil}
+use Rattle.std.proofs.Common.{◌≡◌, ℕ, ◌+◌, ◌-◌, ◌*◌, false, cond, ◌&&◌, ◌==◌, nat_lt, List, [], ◌∷◌, ◌++◌, length, codes, refl, sym, ap, ◌∙◌, arith, append_assoc, append-nil}
 use Rattle.std.specs.List.{All}
-use Rattle.std.proofs.lemmas.Bool.{cond-true, cond-false, lt-ltb, and_from}
+use Rattle.std.proofs.lemmas.Bool.{cond-true, lt-ltb, and_from}
 use Rattle.std.proofs.lemmas.List.Elements.{All-head, All-tail}
 use Rattle.std.specs.Fmt.{decimal}
 use Rattle.wh_hopoly.specs.Polynomials.{Polynomial}
@@ -17,8 +17,9 @@ use Rattle.wh_cert_parts.proofs.PolyRuns.{poly_run}
 use Rattle.wh_cert.specs.Interps.{Interp}
 use Rattle.wh_cert.specs.Text.{put_interps, put_move, put_moves, put_covers}
 use Rattle.wh_cert.specs.Limits.{InterpFits, MoveFits}
+use Rattle.wh_cert_text.proofs.SectionsLaws.{skip_funs, skip_marks, skip_rules}
 use Rattle.wh_cert_text.specs.PolyLines as l
-use Rattle.wh_cert_text.specs.PolyLines.{Lines, in_funs, in_marks, in_rules, in_pairs, lines_front, name_wanted, name, in_poly, moves, from_wanted, from, to_wanted, to, amount_wanted, amount, LinesStep, line_first, line_rest, line_begun, add_interp, add_cover, poly_led, moves_step, add_move, lines_step}
+use Rattle.wh_cert_text.specs.PolyLines.{Lines, in_funs, in_marks, in_rules, in_pairs, lines_front, name_wanted, name, in_poly, moves, from_wanted, from, to_wanted, to, amount_wanted, amount, LinesStep, line_first, line_rest, line_begun, add_named, add_shown, poly_led, moves_step, add_move, lines_step}
 use Rattle.wh_cert_text.specs.YesMachine.{poly_lines, lines_led, Past}
 use Rattle.wh_cert_text.specs.LineMachine.{stands_yes, standing_after_yes, run}
 
@@ -50,20 +51,20 @@ amounts h x ms i j = record {
 
 -- lines of interpretations
 
-pub poly_lift : (h : Past) (x : Lines) (xs : List ℕ) (s : PolyStep) (w : List ℕ) (p : Polynomial) (r : List ℕ) → poly_scan s w ≡ poly_read p (10 ∷ r) → run (standing_after_yes h (lines_led (poly_led x xs s))) w ≡ run (stands_yes h (poly_lines (add_interp x (record { name = xs; poly = p })) lines_front)) r
+pub poly_lift : (h : Past) (x : Lines) (xs : List ℕ) (s : PolyStep) (w : List ℕ) (p : Polynomial) (r : List ℕ) → poly_scan s w ≡ poly_read p (10 ∷ r) → run (standing_after_yes h (lines_led (poly_led x xs s))) w ≡ run (stands_yes h (poly_lines (add_named x (record { name = xs; poly = p })) lines_front)) r
 poly_lift h x xs (poly_ended q b) w p r e =
     let same : q ≡ p = cc in
     let ends : b ≡ 10 = cc in
     let rest : w ≡ r = cc in
     ap (λ (o : Polynomial). run (standing_after_yes h (lines_led (poly_led x xs (poly_ended o b)))) w) same
     ∙ ap (λ (c : ℕ). run (standing_after_yes h (lines_led (poly_led x xs (poly_ended p c)))) w) ends
-    ∙ ap (λ (v : List ℕ). run (stands_yes h (poly_lines (add_interp x (record { name = xs; poly = p })) lines_front)) v) rest
+    ∙ ap (λ (v : List ℕ). run (stands_yes h (poly_lines (add_named x (record { name = xs; poly = p })) lines_front)) v) rest
 poly_lift h x xs no_poly w p r e = absurd cc
 poly_lift h x xs (goes fs k) [] p r e = absurd cc
 poly_lift h x xs (goes fs k) (b ∷ w) p r e = poly_lift h x xs (poly_step fs k b) w p r e
 
 -- behind the word of such a line
-interp_run : (h : Past) (x : Lines) (i : Interp) (r : List ℕ) → InterpFits i → run (stands_yes h (poly_lines x name_wanted)) (i.name ++ (32 ∷ put_poly i.poly (10 ∷ r))) ≡ run (stands_yes h (poly_lines (add_interp x i) lines_front)) r
+interp_run : (h : Past) (x : Lines) (i : Interp) (r : List ℕ) → InterpFits i → run (stands_yes h (poly_lines x name_wanted)) (i.name ++ (32 ∷ put_poly i.poly (10 ∷ r))) ≡ run (stands_yes h (poly_lines (add_named x i) lines_front)) r
 interp_run h x i r fits =
     name_run _ _ (line_names h x) i.name (32 ∷ put_poly i.poly (10 ∷ r)) fits.name
     ∙ poly_lift h x i.name (goes outside poly_wanted) (put_poly i.poly (10 ∷ r)) i.poly r (poly_run outside i.poly 10 r fits.poly (refl, refl, refl, refl))
@@ -95,13 +96,13 @@ move_run h x ms m r fits =
     ∙ number_run _ _ (to_numbers h x ms m.from) m.to (58 ∷ (decimal m.amount ++ r)) fits.to
     ∙ big_run _ _ (amounts h x ms m.from m.to) m.amount r fits.amount
 
-moves_run : (h : Past) (x : Lines) (ms more : List moved.Move) (r : List ℕ) → All MoveFits more → run (stands_yes h (poly_lines x (moves ms))) (put_moves more (10 ∷ r)) ≡ run (stands_yes h (poly_lines (add_cover x (ms ++ more)) lines_front)) r
-moves_run h x ms [] r fits = ap (λ (zs : List moved.Move). run (stands_yes h (poly_lines (add_cover x zs) lines_front)) r) (sym (append-nil ms))
+moves_run : (h : Past) (x : Lines) (ms more : List moved.Move) (r : List ℕ) → All MoveFits more → run (stands_yes h (poly_lines x (moves ms))) (put_moves more (10 ∷ r)) ≡ run (stands_yes h (poly_lines (add_shown x (ms ++ more)) lines_front)) r
+moves_run h x ms [] r fits = ap (λ (zs : List moved.Move). run (stands_yes h (poly_lines (add_shown x zs) lines_front)) r) (sym (append-nil ms))
 moves_run h x ms (m ∷ more) r fits =
     move_run h x ms m (put_moves more (10 ∷ r)) (All-head MoveFits m more fits)
     ∙ next_move h x ms m.from m.to m.amount more r
     ∙ moves_run h x (ms ++ m ∷ []) more r (All-tail MoveFits m more fits)
-    ∙ ap (λ (zs : List moved.Move). run (stands_yes h (poly_lines (add_cover x zs) lines_front)) r) (append_assoc ms (m ∷ []) more)
+    ∙ ap (λ (zs : List moved.Move). run (stands_yes h (poly_lines (add_shown x zs) lines_front)) r) (append_assoc ms (m ∷ []) more)
 
 pub rules_run : (h : Past) (funs marks : List Interp) (rules more : List (List moved.Move)) (r : List ℕ) → All (All MoveFits) more → run (stands_yes h (poly_lines (in_rules funs marks rules) lines_front)) (put_covers (codes "rule") more r) ≡ run (stands_yes h (poly_lines (in_rules funs marks (rules ++ more)) lines_front)) r
 rules_run h funs marks rules [] r fits = ap (λ (zs : List (List moved.Move)). run (stands_yes h (poly_lines (in_rules funs marks zs) lines_front)) r) (sym (append-nil rules))
@@ -123,41 +124,11 @@ abbrev Other : ℕ → List ℕ → Type 0
 Other c [] = ⊥
 Other c (b ∷ r) = (b == c) ≡ false
 
-skip_funs : (h : Past) (funs : List Interp) (w : List ℕ) → Other 102 w → run (stands_yes h (poly_lines (in_funs funs) lines_front)) w ≡ run (stands_yes h (poly_lines (in_marks funs []) lines_front)) w
-skip_funs h funs [] o = absurd o
-skip_funs h funs (b ∷ w) o =
-    ap (λ (s : LinesStep). run (standing_after_yes h (lines_led s)) w) (cond-false (b == 102) (l.begins (in_funs funs)) (l.mark_step (in_funs funs) b) o)
-    ∙ same_marks (b == 109) (b == 114) (b == 112) (b == 100)
-  where
-    same_marks : (m u p d : Bool) → run (standing_after_yes h (lines_led (cond m (l.begins (in_marks funs [])) (cond u (l.begins (in_rules funs [] [])) (cond p (l.begins (in_pairs funs [] [] [])) (cond d (l.drops (in_pairs funs [] [] [])) l.refused)))))) w ≡ run (standing_after_yes h (lines_led (cond m (l.begins (in_marks funs [])) (cond u (l.begins (in_rules funs [] [])) (cond p (l.begins (in_pairs funs [] [] [])) (cond d (l.drops (in_pairs funs [] [] [])) l.refused)))))) w
-    same_marks true u p d = refl
-    same_marks false true p d = refl
-    same_marks false false true d = refl
-    same_marks false false false true = refl
-    same_marks false false false false = refl
-
-skip_marks : (h : Past) (funs marks : List Interp) (w : List ℕ) → Other 109 w → run (stands_yes h (poly_lines (in_marks funs marks) lines_front)) w ≡ run (stands_yes h (poly_lines (in_rules funs marks []) lines_front)) w
-skip_marks h funs marks [] o = absurd o
-skip_marks h funs marks (b ∷ w) o =
-    ap (λ (s : LinesStep). run (standing_after_yes h (lines_led s)) w) (cond-false (b == 109) (l.begins (in_marks funs marks)) (l.rule_step (in_marks funs marks) b) o)
-    ∙ same_rules (b == 114) (b == 112) (b == 100)
-  where
-    same_rules : (u p d : Bool) → run (standing_after_yes h (lines_led (cond u (l.begins (in_rules funs marks [])) (cond p (l.begins (in_pairs funs marks [] [])) (cond d (l.drops (in_pairs funs marks [] [])) l.refused))))) w ≡ run (standing_after_yes h (lines_led (cond u (l.begins (in_rules funs marks [])) (cond p (l.begins (in_pairs funs marks [] [])) (cond d (l.drops (in_pairs funs marks [] [])) l.refused))))) w
-    same_rules true p d = refl
-    same_rules false true d = refl
-    same_rules false false true = refl
-    same_rules false false false = refl
-
-skip_rules : (h : Past) (funs marks : List Interp) (rules : List (List moved.Move)) (w : List ℕ) → Other 114 w → run (stands_yes h (poly_lines (in_rules funs marks rules) lines_front)) w ≡ run (stands_yes h (poly_lines (in_pairs funs marks rules []) lines_front)) w
-skip_rules h funs marks rules [] o = absurd o
-skip_rules h funs marks rules (b ∷ w) o =
-    ap (λ (s : LinesStep). run (standing_after_yes h (lines_led s)) w) (cond-false (b == 114) (l.begins (in_rules funs marks rules)) (l.pair_step (in_rules funs marks rules) b) o)
-    ∙ same_pairs (b == 112) (b == 100)
-  where
-    same_pairs : (p d : Bool) → run (standing_after_yes h (lines_led (cond p (l.begins (in_pairs funs marks rules [])) (cond d (l.drops (in_pairs funs marks rules [])) l.refused)))) w ≡ run (standing_after_yes h (lines_led (cond p (l.begins (in_pairs funs marks rules [])) (cond d (l.drops (in_pairs funs marks rules [])) l.refused)))) w
-    same_pairs true d = refl
-    same_pairs false true = refl
-    same_pairs false false = refl
+-- one byte more, where the first one leads to the same
+other_front : (h : Past) (x z : Lines) (c : ℕ) (w : List ℕ) → ((b : ℕ) → (b == c) ≡ false → l.first_step {K = l.LinesPlace} x b ≡ l.first_step z b) → Other c w
+    → run (stands_yes h (poly_lines x lines_front)) w ≡ run (stands_yes h (poly_lines z lines_front)) w
+other_front h x z c [] skip o = absurd o
+other_front h x z c (b ∷ w) skip o = ap (λ (s : LinesStep). run (standing_after_yes h (lines_led s)) w) (skip b o)
 
 -- all lines up to the word of that of `drop`
 
@@ -185,9 +156,9 @@ lines_run h funs marks rules pairs r f m u p =
     let third : List ℕ = put_covers (codes "rule") rules fourth in
     let second : List ℕ = put_interps (codes "mark ") marks third in
     funs_run h [] funs second f
-    ∙ skip_funs h funs second (marks_other marks rules pairs r)
+    ∙ other_front h (in_funs funs) (in_marks funs []) 102 second (skip_funs funs) (marks_other marks rules pairs r)
     ∙ marks_run h funs [] marks third m
-    ∙ skip_marks h funs marks third (rules_other rules pairs r)
+    ∙ other_front h (in_marks funs marks) (in_rules funs marks []) 109 third (skip_marks funs marks) (rules_other rules pairs r)
     ∙ rules_run h funs marks [] rules fourth u
-    ∙ skip_rules h funs marks rules fourth (pairs_other pairs r)
+    ∙ other_front h (in_rules funs marks rules) (in_pairs funs marks rules []) 114 fourth (skip_rules funs marks rules) (pairs_other pairs r)
     ∙ pairs_run h funs marks rules [] pairs last p

@@ -19,21 +19,22 @@ use Rattle.wh_cert_parts.proofs.PolyLaws.{poly_seen, GoodPolys, GoodPolyPlace, P
 use Rattle.wh_cert.specs.Interps.{Interp}
 use Rattle.wh_cert.specs.Text.{put_interp, put_interps, put_move, put_moves, put_cover, put_covers}
 use Rattle.wh_cert.specs.Limits.{InterpFits, MoveFits}
-use Rattle.wh_cert_text.specs.PolyLines.{Lines, in_funs, in_marks, in_rules, in_pairs, LinesPlace, lines_front, name_wanted, name, in_poly, moves, from_wanted, from, to_wanted, to, amount_wanted, amount, LinesStep, on, begins, drops, refused, line_first, line_rest, line_begun, to_marks, to_rules, to_pairs, add_interp, add_cover, pair_step, rule_step, mark_step, first_step, poly_led, moves_step, add_move, lines_step}
+use Rattle.wh_cert_text.proofs.SectionsLaws as sections
+use Rattle.wh_cert_text.proofs.SectionsLaws.{TakesNamed, TakesShown}
+use Rattle.wh_cert_text.specs.PolyLines.{Lines, in_funs, in_marks, in_rules, in_pairs, LinesPlace, lines_front, name_wanted, name, in_poly, moves, from_wanted, from, to_wanted, to, amount_wanted, amount, LinesStep, on, begins, drops, refused, line_first, line_begun, add_named, add_shown, first_step, poly_led, moves_step, add_move, lines_step}
+
+-- how lists of lines are spelled
+abbrev pub spelling : sections.Spelling Interp (List moved.Move)
+spelling = record { named = put_interps; shown = put_covers; no_named = λ w r. refl; no_shown = λ w r. refl }
 
 -- what was read, with r behind it
 
 abbrev pub put_lines : Lines → List ℕ → List ℕ
-put_lines (in_funs funs) r = put_interps (codes "fun ") funs r
-put_lines (in_marks funs marks) r = put_interps (codes "fun ") funs (put_interps (codes "mark ") marks r)
-put_lines (in_rules funs marks rules) r =
-    put_interps (codes "fun ") funs (put_interps (codes "mark ") marks (put_covers (codes "rule") rules r))
-put_lines (in_pairs funs marks rules pairs) r =
-    put_interps (codes "fun ") funs (put_interps (codes "mark ") marks (put_covers (codes "rule") rules (put_covers (codes "pair") pairs r)))
+put_lines x r = sections.put_lines spelling x r
 
 -- the lines so far and the word of the present one
 abbrev pub put_begun : Lines → List ℕ → List ℕ
-put_begun x r = put_lines x (line_first x ∷ (line_rest x ++ r))
+put_begun x r = sections.put_begun spelling x r
 
 abbrev pub lines_seen : Lines → LinesPlace → List ℕ → List ℕ
 lines_seen x lines_front r = put_lines x r
@@ -63,25 +64,13 @@ moves_add : (ms : List moved.Move) (m : moved.Move) (r : List ℕ) → put_moves
 moves_add [] m r = refl
 moves_add (l ∷ ms) m r = ap (put_move l) (moves_add ms m r)
 
--- which lines the last kind has
-
-abbrev pub TakesInterp : Lines → Type 0
-TakesInterp (in_funs funs) = Unit {0}
-TakesInterp (in_marks funs marks) = Unit {0}
-TakesInterp _ = ⊥
-
-abbrev pub TakesMoves : Lines → Type 0
-TakesMoves (in_rules funs marks rules) = Unit {0}
-TakesMoves (in_pairs funs marks rules pairs) = Unit {0}
-TakesMoves _ = ⊥
-
-interp_text : (x : Lines) (i : Interp) (r : List ℕ) → TakesInterp x → put_lines (add_interp x i) r ≡ put_begun x (i.name ++ (32 ∷ put_poly i.poly (10 ∷ r)))
+interp_text : (x : Lines) (i : Interp) (r : List ℕ) → TakesNamed x → put_lines (add_named x i) r ≡ put_begun x (i.name ++ (32 ∷ put_poly i.poly (10 ∷ r)))
 interp_text (in_funs funs) i r t = interps_add (codes "fun ") funs i r
 interp_text (in_marks funs marks) i r t = ap (put_interps (codes "fun ") funs) (interps_add (codes "mark ") marks i r)
 interp_text (in_rules funs marks rules) i r t = absurd t
 interp_text (in_pairs funs marks rules pairs) i r t = absurd t
 
-cover_text : (x : Lines) (ms : List moved.Move) (r : List ℕ) → TakesMoves x → put_lines (add_cover x ms) r ≡ put_begun x (put_moves ms (10 ∷ r))
+cover_text : (x : Lines) (ms : List moved.Move) (r : List ℕ) → TakesShown x → put_lines (add_shown x ms) r ≡ put_begun x (put_moves ms (10 ∷ r))
 cover_text (in_funs funs) ms r t = absurd t
 cover_text (in_marks funs marks) ms r t = absurd t
 cover_text (in_rules funs marks rules) ms r t =
@@ -100,24 +89,30 @@ GoodMoves n ms = All MoveFits ms × (length ms ≤ n)
 abbrev pub GoodCovers : ℕ → List (List moved.Move) → Type 0
 GoodCovers n rs = All (All MoveFits) rs × All (λ ms. length ms ≤ n) rs × (length rs ≤ n)
 
+pub no_interps : (n : ℕ) → GoodInterps n []
+no_interps n = (All-nil InterpFits, omega arith)
+
+pub no_covers : (n : ℕ) → GoodCovers n []
+no_covers n = (All-nil (All MoveFits), All-nil (λ (ms : List moved.Move). length ms ≤ n), omega arith)
+
+abbrev pub limits : sections.Limits Interp (List moved.Move)
+limits = record { named = GoodInterps; shown = GoodCovers; no_named = no_interps; no_shown = no_covers }
+
 abbrev pub GoodLines : ℕ → Lines → Type 0
-GoodLines n (in_funs funs) = GoodInterps n funs
-GoodLines n (in_marks funs marks) = GoodInterps n funs × GoodInterps n marks
-GoodLines n (in_rules funs marks rules) = GoodInterps n funs × GoodInterps n marks × GoodCovers n rules
-GoodLines n (in_pairs funs marks rules pairs) = GoodInterps n funs × GoodInterps n marks × GoodCovers n rules × GoodCovers n pairs
+GoodLines n x = sections.GoodLines limits n x
 
 abbrev pub GoodLinesPlace : ℕ → Lines → LinesPlace → Type 0
 GoodLinesPlace n x lines_front = Unit {0}
-GoodLinesPlace n x name_wanted = TakesInterp x
-GoodLinesPlace n x (name xs) = TakesInterp x × IsWord xs
-GoodLinesPlace n x (in_poly xs fs k) = TakesInterp x × IsWord xs × GoodPolys fs × GoodPolyPlace fs k
-GoodLinesPlace n x (moves ms) = TakesMoves x × GoodMoves n ms
-GoodLinesPlace n x (from_wanted ms) = TakesMoves x × All MoveFits ms × (length ms < n)
-GoodLinesPlace n x (from ms i) = TakesMoves x × All MoveFits ms × (length ms < n) × IsSmall i
-GoodLinesPlace n x (to_wanted ms i) = TakesMoves x × All MoveFits ms × (length ms < n) × IsSmall i
-GoodLinesPlace n x (to ms i j) = TakesMoves x × All MoveFits ms × (length ms < n) × IsSmall i × IsSmall j
-GoodLinesPlace n x (amount_wanted ms i j) = TakesMoves x × All MoveFits ms × (length ms < n) × IsSmall i × IsSmall j
-GoodLinesPlace n x (amount ms i j k) = TakesMoves x × All MoveFits ms × (length ms < n) × IsSmall i × IsSmall j × IsBig k
+GoodLinesPlace n x name_wanted = TakesNamed x
+GoodLinesPlace n x (name xs) = TakesNamed x × IsWord xs
+GoodLinesPlace n x (in_poly xs fs k) = TakesNamed x × IsWord xs × GoodPolys fs × GoodPolyPlace fs k
+GoodLinesPlace n x (moves ms) = TakesShown x × GoodMoves n ms
+GoodLinesPlace n x (from_wanted ms) = TakesShown x × All MoveFits ms × (length ms < n)
+GoodLinesPlace n x (from ms i) = TakesShown x × All MoveFits ms × (length ms < n) × IsSmall i
+GoodLinesPlace n x (to_wanted ms i) = TakesShown x × All MoveFits ms × (length ms < n) × IsSmall i
+GoodLinesPlace n x (to ms i j) = TakesShown x × All MoveFits ms × (length ms < n) × IsSmall i × IsSmall j
+GoodLinesPlace n x (amount_wanted ms i j) = TakesShown x × All MoveFits ms × (length ms < n) × IsSmall i × IsSmall j
+GoodLinesPlace n x (amount ms i j k) = TakesShown x × All MoveFits ms × (length ms < n) × IsSmall i × IsSmall j × IsBig k
 
 -- more bytes leave the limits good
 
@@ -136,50 +131,6 @@ lines_wider n m (in_rules funs marks rules) le g =
 lines_wider n m (in_pairs funs marks rules pairs) le g =
     (interps_wider n m funs le g.0, interps_wider n m marks le g.1, covers_wider n m rules le g.2, covers_wider n m pairs le g.3)
 
--- nothing of a kind
-
-pub no_interps : (n : ℕ) → GoodInterps n []
-no_interps n = (All-nil InterpFits, omega arith)
-
-pub no_covers : (n : ℕ) → GoodCovers n []
-no_covers n = (All-nil (All MoveFits), All-nil (λ (ms : List moved.Move). length ms ≤ n), omega arith)
-
-marks_good : (n : ℕ) (x : Lines) → GoodLines n x → GoodLines n (to_marks x)
-marks_good n (in_funs funs) g = (g, no_interps n)
-marks_good n (in_marks funs marks) g = g
-marks_good n (in_rules funs marks rules) g = g
-marks_good n (in_pairs funs marks rules pairs) g = g
-
-rules_good : (n : ℕ) (x : Lines) → GoodLines n x → GoodLines n (to_rules x)
-rules_good n (in_funs funs) g = (g, no_interps n, no_covers n)
-rules_good n (in_marks funs marks) g = (g.0, g.1, no_covers n)
-rules_good n (in_rules funs marks rules) g = g
-rules_good n (in_pairs funs marks rules pairs) g = g
-
-pub pairs_good : (n : ℕ) (x : Lines) → GoodLines n x → GoodLines n (to_pairs x)
-pairs_good n (in_funs funs) g = (g, no_interps n, no_covers n, no_covers n)
-pairs_good n (in_marks funs marks) g = (g.0, g.1, no_covers n, no_covers n)
-pairs_good n (in_rules funs marks rules) g = (g.0, g.1, g.2, no_covers n)
-pairs_good n (in_pairs funs marks rules pairs) g = g
-
-marks_text : (x : Lines) (r : List ℕ) → put_lines (to_marks x) r ≡ put_lines x r
-marks_text (in_funs funs) r = refl
-marks_text (in_marks funs marks) r = refl
-marks_text (in_rules funs marks rules) r = refl
-marks_text (in_pairs funs marks rules pairs) r = refl
-
-rules_text : (x : Lines) (r : List ℕ) → put_lines (to_rules x) r ≡ put_lines x r
-rules_text (in_funs funs) r = refl
-rules_text (in_marks funs marks) r = refl
-rules_text (in_rules funs marks rules) r = refl
-rules_text (in_pairs funs marks rules pairs) r = refl
-
-pub pairs_text : (x : Lines) (r : List ℕ) → put_lines (to_pairs x) r ≡ put_lines x r
-pairs_text (in_funs funs) r = refl
-pairs_text (in_marks funs marks) r = refl
-pairs_text (in_rules funs marks rules) r = refl
-pairs_text (in_pairs funs marks rules pairs) r = refl
-
 -- one more of a kind
 
 interp_pushed : (n : ℕ) (is : List Interp) (i : Interp) → GoodInterps n is → InterpFits i → GoodInterps (suc n) (is ++ i ∷ [])
@@ -190,13 +141,13 @@ cover_pushed n rs ms g few =
     let wide = covers_wider n (suc n) rs (omega arith) g in
     (All-push (All MoveFits) rs ms g.0 few.0, All-push (λ (qs : List moved.Move). length qs ≤ suc n) rs ms wide.1 (omega (arith, few.1)), omega (arith, length-append rs (ms ∷ []), g.2))
 
-pub interp_good : (n : ℕ) (x : Lines) (i : Interp) → TakesInterp x → GoodLines n x → InterpFits i → GoodLines (suc n) (add_interp x i)
+pub interp_good : (n : ℕ) (x : Lines) (i : Interp) → TakesNamed x → GoodLines n x → InterpFits i → GoodLines (suc n) (add_named x i)
 interp_good n (in_funs funs) i t g fits = interp_pushed n funs i g fits
 interp_good n (in_marks funs marks) i t g fits = (interps_wider n (suc n) funs (omega arith) g.0, interp_pushed n marks i g.1 fits)
 interp_good n (in_rules funs marks rules) i t g fits = absurd t
 interp_good n (in_pairs funs marks rules pairs) i t g fits = absurd t
 
-pub cover_good : (n : ℕ) (x : Lines) (ms : List moved.Move) → TakesMoves x → GoodLines n x → GoodMoves n ms → GoodLines (suc n) (add_cover x ms)
+pub cover_good : (n : ℕ) (x : Lines) (ms : List moved.Move) → TakesShown x → GoodLines n x → GoodMoves n ms → GoodLines (suc n) (add_shown x ms)
 cover_good n (in_funs funs) ms t g few = absurd t
 cover_good n (in_marks funs marks) ms t g few = absurd t
 cover_good n (in_rules funs marks rules) ms t g few =
@@ -228,89 +179,43 @@ next_same n refused f g same h = tt
 
 -- the first byte of a line
 
-pairs_first : (x : Lines) → line_first (to_pairs x) ≡ 112
-pairs_first (in_funs funs) = refl
-pairs_first (in_marks funs marks) = refl
-pairs_first (in_rules funs marks rules) = refl
-pairs_first (in_pairs funs marks rules pairs) = refl
-
-pair_kept : (n : ℕ) (x : Lines) (b : ℕ) → GoodLines n x → LinesNext n (pair_step x b) (λ r. put_lines x (b ∷ r))
-pair_kept n x b g =
-    if_byte n b 112 (begins (to_pairs x)) _ (put_lines x)
-    (pairs_good n x g, λ r. ap (λ (c : ℕ). put_lines (to_pairs x) (c ∷ r)) (pairs_first x) ∙ pairs_text x (112 ∷ r))
-    (if_byte n b 100 (drops (to_pairs x)) refused (put_lines x) (pairs_good n x g, λ r. pairs_text x (100 ∷ r)) tt)
-
--- only where rules may still come
-abbrev Rules : Lines → Type 0
-Rules (in_pairs funs marks rules pairs) = ⊥
-Rules _ = Unit {0}
-
-rules_first : (x : Lines) → Rules x → line_first (to_rules x) ≡ 114
-rules_first (in_funs funs) h = refl
-rules_first (in_marks funs marks) h = refl
-rules_first (in_rules funs marks rules) h = refl
-rules_first (in_pairs funs marks rules pairs) h = absurd h
-
-rule_kept : (n : ℕ) (x : Lines) (b : ℕ) → Rules x → GoodLines n x → LinesNext n (rule_step x b) (λ r. put_lines x (b ∷ r))
-rule_kept n x b h g =
-    if_byte n b 114 (begins (to_rules x)) (pair_step x b) (put_lines x)
-    (rules_good n x g, λ r. ap (λ (c : ℕ). put_lines (to_rules x) (c ∷ r)) (rules_first x h) ∙ rules_text x (114 ∷ r))
-    (pair_kept n x b g)
-
--- only where marked symbols may still come
-marks_first : (x : Lines) → TakesInterp x → line_first (to_marks x) ≡ 109
-marks_first (in_funs funs) h = refl
-marks_first (in_marks funs marks) h = refl
-marks_first (in_rules funs marks rules) h = absurd h
-marks_first (in_pairs funs marks rules pairs) h = absurd h
-
-interps_before_rules : (x : Lines) → TakesInterp x → Rules x
-interps_before_rules (in_funs funs) h = tt
-interps_before_rules (in_marks funs marks) h = tt
-interps_before_rules (in_rules funs marks rules) h = tt
-interps_before_rules (in_pairs funs marks rules pairs) h = absurd h
-
-mark_kept : (n : ℕ) (x : Lines) (b : ℕ) → TakesInterp x → GoodLines n x → LinesNext n (mark_step x b) (λ r. put_lines x (b ∷ r))
-mark_kept n x b h g =
-    if_byte n b 109 (begins (to_marks x)) (rule_step x b) (put_lines x)
-    (marks_good n x g, λ r. ap (λ (c : ℕ). put_lines (to_marks x) (c ∷ r)) (marks_first x h) ∙ marks_text x (109 ∷ r))
-    (rule_kept n x b (interps_before_rules x h) g)
+first_next : (n : ℕ) (s : LinesStep) (f : List ℕ → List ℕ) → sections.FirstNext spelling limits n s f → LinesNext n s f
+first_next n (on x k) f h = absurd h
+first_next n (begins x) f h = h
+first_next n (drops x) f h = h
+first_next n refused f h = tt
 
 first_kept : (n : ℕ) (x : Lines) (b : ℕ) → GoodLines n x → LinesNext n (first_step x b) (λ r. put_lines x (b ∷ r))
-first_kept n (in_funs funs) b g =
-    if_byte n b 102 (begins (in_funs funs)) (mark_step (in_funs funs) b) (put_lines (in_funs funs)) (g, λ r. refl) (mark_kept n (in_funs funs) b tt g)
-first_kept n (in_marks funs marks) b g = mark_kept n (in_marks funs marks) b tt g
-first_kept n (in_rules funs marks rules) b g = rule_kept n (in_rules funs marks rules) b tt g
-first_kept n (in_pairs funs marks rules pairs) b g = pair_kept n (in_pairs funs marks rules pairs) b g
+first_kept n x b g = first_next n (first_step x b) (λ r. put_lines x (b ∷ r)) (sections.first_kept LinesPlace spelling limits n x b g)
 
 -- names and polynomials
 
-name_kept : (n : ℕ) (x : Lines) (xs : List ℕ) (b : ℕ) → GoodLines n x → TakesInterp x → IsWord xs → LinesNext (suc n) (lines_step x (name xs) b) (λ r. lines_seen x (name xs) (b ∷ r))
+name_kept : (n : ℕ) (x : Lines) (xs : List ℕ) (b : ℕ) → GoodLines n x → TakesNamed x → IsWord xs → LinesNext (suc n) (lines_step x (name xs) b) (λ r. lines_seen x (name xs) (b ∷ r))
 name_kept n x xs b g t word =
     let wide = lines_wider n (suc n) x (omega arith) g in
     if_so (suc n) (is_part b && nat_lt (length xs) 64) (on x (name (xs ++ b ∷ []))) _ (λ r. lines_seen x (name xs) (b ∷ r))
     (λ e. (wide, (t, next_letter xs b word e), λ r. ap (put_begun x) (append_assoc xs (b ∷ []) r)))
     (if_byte (suc n) b 32 (on x (in_poly xs outside poly_wanted)) refused (lines_seen x (name xs)) (wide, (t, word, tt, tt), λ r. refl) tt)
 
-poly_led_kept : (n : ℕ) (x : Lines) (xs : List ℕ) (s : PolyStep) (f : List ℕ → List ℕ) → GoodLines n x → TakesInterp x → IsWord xs → PolyNext s f → LinesNext (suc n) (poly_led x xs s) (λ r. put_begun x (xs ++ (32 ∷ f r)))
+poly_led_kept : (n : ℕ) (x : Lines) (xs : List ℕ) (s : PolyStep) (f : List ℕ → List ℕ) → GoodLines n x → TakesNamed x → IsWord xs → PolyNext s f → LinesNext (suc n) (poly_led x xs s) (λ r. put_begun x (xs ++ (32 ∷ f r)))
 poly_led_kept n x xs (goes fs k) f g t word next =
     (lines_wider n (suc n) x (omega arith) g, (t, word, next.0, next.1), λ r. ap (λ (s : List ℕ). put_begun x (xs ++ (32 ∷ s))) (next.2 r))
 poly_led_kept n x xs (poly_ended p b) f g t word next =
     let i : Interp = record { name = xs; poly = p } in
-    next_same (suc n) (cond (b == 10) (on (add_interp x i) lines_front) refused) (λ r. put_begun x (xs ++ (32 ∷ put_poly p (b ∷ r)))) (λ r. put_begun x (xs ++ (32 ∷ f r)))
+    next_same (suc n) (cond (b == 10) (on (add_named x i) lines_front) refused) (λ r. put_begun x (xs ++ (32 ∷ put_poly p (b ∷ r)))) (λ r. put_begun x (xs ++ (32 ∷ f r)))
     (λ r. ap (λ (s : List ℕ). put_begun x (xs ++ (32 ∷ s))) (next.1 r))
-    (if_byte (suc n) b 10 (on (add_interp x i) lines_front) refused (λ r. put_begun x (xs ++ (32 ∷ put_poly p r)))
+    (if_byte (suc n) b 10 (on (add_named x i) lines_front) refused (λ r. put_begun x (xs ++ (32 ∷ put_poly p r)))
     (interp_good n x i t g (record { name = word; poly = next.0 }), tt, λ r. interp_text x i r t)
     tt)
 poly_led_kept n x xs no_poly f g t word next = tt
 
 -- moves
 
-moves_kept : (n : ℕ) (x : Lines) (ms : List moved.Move) (b : ℕ) → GoodLines n x → TakesMoves x → GoodMoves n ms → LinesNext (suc n) (moves_step x ms b) (λ r. put_begun x (put_moves ms (b ∷ r)))
+moves_kept : (n : ℕ) (x : Lines) (ms : List moved.Move) (b : ℕ) → GoodLines n x → TakesShown x → GoodMoves n ms → LinesNext (suc n) (moves_step x ms b) (λ r. put_begun x (put_moves ms (b ∷ r)))
 moves_kept n x ms b g t few =
     if_byte (suc n) b 32 (on x (from_wanted ms)) _ (λ r. put_begun x (put_moves ms r))
     (lines_wider n (suc n) x (omega arith) g, (t, few.0, omega (arith, few.1)), λ r. refl)
-    (if_byte (suc n) b 10 (on (add_cover x ms) lines_front) refused (λ r. put_begun x (put_moves ms r))
+    (if_byte (suc n) b 10 (on (add_shown x ms) lines_front) refused (λ r. put_begun x (put_moves ms r))
     (cover_good n x ms t g few, tt, λ r. cover_text x ms r t)
     tt)
 

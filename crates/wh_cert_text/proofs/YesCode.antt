@@ -8,7 +8,7 @@ use Rattle.wh_cert_text.specs.YesViews.{behind_of, next_block, yes_place}
 use Rattle.wh_cert_text.specs.declared.yes_line.Listed.TheVariants as listed
 use Rattle.wh_cert_text.specs.declared.yes_line.YesBehind.{YesBehind}
 use Rattle.wh_cert_text.specs.declared.yes_line.YesBehind.TheVariants as behind
-use Rattle.wh_cert_text.specs.declared.poly_lines.Section.TheVariants as section
+use Rattle.wh_cert_text.specs.declared.sections.Section.TheVariants as section
 use Rattle.wh_cert_text.specs.declared.yes_line.YesPlace.{YesPlace}
 use Rattle.wh_cert_text.specs.declared.yes_line.YesPlace.TheVariants as place
 use Rattle.wh_cert_text.specs.declared.yes_line.YesLine.{YesLine}

@@ -13,8 +13,9 @@ use Rattle.wh_cert_parts.proofs.PolyLaws.{poly_seen, poly_sound}
 use Rattle.wh_cert_parts.proofs.PolyRuns.{poly_ends}
 use Rattle.wh_cert.specs.Interps.{Interp}
 use Rattle.wh_cert.specs.Limits.{InterpFits, MoveFits, NodeWithin}
-use Rattle.wh_cert_text.specs.PolyLines.{Lines, in_funs, in_marks, in_rules, in_pairs, LinesPlace, lines_front, name_wanted, name as line_name, in_poly, moves, from_wanted, from, to_wanted, to, amount_wanted, amount, line_begun, add_interp, add_cover, add_move}
-use Rattle.wh_cert_text.proofs.PolyLinesSound.{TakesInterp, TakesMoves, GoodMoves, GoodLines, GoodLinesPlace, no_interps, lines_wider, pairs_good, interp_good, cover_good, begun_good}
+use Rattle.wh_cert_text.specs.PolyLines.{Lines, in_funs, in_marks, in_rules, in_pairs, LinesPlace, lines_front, name_wanted, name as line_name, in_poly, moves, from_wanted, from, to_wanted, to, amount_wanted, amount, line_begun, add_named, add_shown, add_move}
+use Rattle.wh_cert_text.proofs.PolyLinesSound.{limits, GoodMoves, GoodLines, GoodLinesPlace, no_interps, lines_wider, interp_good, cover_good, begun_good}
+use Rattle.wh_cert_text.proofs.SectionsLaws.{TakesNamed, TakesShown, pairs_good}
 use Rattle.wh_cert_text.proofs.LinesComplete.{poly_lift}
 use Rattle.wh_cert.specs.Written.{Arg, Node, done, alone, blocks, subterm, interpretations, children, yes}
 use Rattle.wh_cert_text.specs.YesMachine.{node_item, end_item, Listed, of_ranks, of_block, of_drop, of_poly, Counted, of_pairs, of_blocks, of_place, of_list, Behind, to_list, to_pairs, to_done, to_alone, to_blocks, to_subterm, to_name, to_poly, to_line, to_finish, Place, word, listed, number_wanted, number, front, arg_front, name_wanted as arg_name_wanted, letters, poly_lines, finished, LineStep, on, refused, behind, list_ended, Past, so_far, gather, wants}
@@ -164,30 +165,30 @@ drop_ends before n h funs marks rules pairs short past g a =
 lines_end : (before n : ℕ) (h : Past) (x : Lines) → before + n ≤ 2 ^ 32 → GoodPast before third h → GoodLines n x → wants h ≡ true → ReachesEnd (2 ^ 32) (stands_yes h (poly_lines x lines_front))
 lines_end before n h (in_funs funs) short past g a =
     ends_after (2 ^ 32) (stands_yes h (poly_lines (in_funs funs) lines_front)) (stands_yes (gather h (node_item (interpretations funs [] [] [] []))) front) (λ r. codes "drop" ++ (10 ∷ r)) (λ r. refl)
-    (drop_ends before n h funs [] [] [] short past (pairs_good n (in_funs funs) g) a)
+    (drop_ends before n h funs [] [] [] short past (pairs_good limits n (in_funs funs) g) a)
 lines_end before n h (in_marks funs marks) short past g a =
     ends_after (2 ^ 32) (stands_yes h (poly_lines (in_marks funs marks) lines_front)) (stands_yes (gather h (node_item (interpretations funs marks [] [] []))) front) (λ r. codes "drop" ++ (10 ∷ r)) (λ r. refl)
-    (drop_ends before n h funs marks [] [] short past (pairs_good n (in_marks funs marks) g) a)
+    (drop_ends before n h funs marks [] [] short past (pairs_good limits n (in_marks funs marks) g) a)
 lines_end before n h (in_rules funs marks rules) short past g a =
     ends_after (2 ^ 32) (stands_yes h (poly_lines (in_rules funs marks rules) lines_front)) (stands_yes (gather h (node_item (interpretations funs marks rules [] []))) front) (λ r. codes "drop" ++ (10 ∷ r)) (λ r. refl)
-    (drop_ends before n h funs marks rules [] short past (pairs_good n (in_rules funs marks rules) g) a)
+    (drop_ends before n h funs marks rules [] short past (pairs_good limits n (in_rules funs marks rules) g) a)
 lines_end before n h (in_pairs funs marks rules pairs) short past g a =
     ends_after (2 ^ 32) (stands_yes h (poly_lines (in_pairs funs marks rules pairs) lines_front)) (stands_yes (gather h (node_item (interpretations funs marks rules pairs []))) front) (λ r. codes "drop" ++ (10 ∷ r)) (λ r. refl)
     (drop_ends before n h funs marks rules pairs short past g a)
 
 -- behind one more line
-interp_ends : (before n : ℕ) (h : Past) (x : Lines) (i : Interp) → before + n < 2 ^ 32 → GoodPast before third h → GoodLines n x → TakesInterp x → InterpFits i → wants h ≡ true → ReachesEnd (2 ^ 32) (stands_yes h (poly_lines (add_interp x i) lines_front))
+interp_ends : (before n : ℕ) (h : Past) (x : Lines) (i : Interp) → before + n < 2 ^ 32 → GoodPast before third h → GoodLines n x → TakesNamed x → InterpFits i → wants h ≡ true → ReachesEnd (2 ^ 32) (stands_yes h (poly_lines (add_named x i) lines_front))
 interp_ends before n h x i short past g t fits a =
-    lines_end before (suc n) h (add_interp x i) (omega (arith, short)) past (interp_good n x i t g fits) a
+    lines_end before (suc n) h (add_named x i) (omega (arith, short)) past (interp_good n x i t g fits) a
 
-cover_ends : (before n : ℕ) (h : Past) (x : Lines) (ms : List moved.Move) → before + n < 2 ^ 32 → GoodPast before third h → GoodLines n x → TakesMoves x → GoodMoves n ms → wants h ≡ true → ReachesEnd (2 ^ 32) (stands_yes h (poly_lines (add_cover x ms) lines_front))
+cover_ends : (before n : ℕ) (h : Past) (x : Lines) (ms : List moved.Move) → before + n < 2 ^ 32 → GoodPast before third h → GoodLines n x → TakesShown x → GoodMoves n ms → wants h ≡ true → ReachesEnd (2 ^ 32) (stands_yes h (poly_lines (add_shown x ms) lines_front))
 cover_ends before n h x ms short past g t few a =
-    lines_end before (suc n) h (add_cover x ms) (omega (arith, short)) past (cover_good n x ms t g few) a
+    lines_end before (suc n) h (add_shown x ms) (omega (arith, short)) past (cover_good n x ms t g few) a
 
-poly_name_ends : (before n : ℕ) (h : Past) (x : Lines) (xs : List ℕ) → before + n < 2 ^ 32 → GoodPast before third h → GoodLines n x → TakesInterp x → IsWord xs → wants h ≡ true → ReachesEnd (2 ^ 32) (stands_yes h (poly_lines x (line_name xs)))
+poly_name_ends : (before n : ℕ) (h : Past) (x : Lines) (xs : List ℕ) → before + n < 2 ^ 32 → GoodPast before third h → GoodLines n x → TakesNamed x → IsWord xs → wants h ≡ true → ReachesEnd (2 ^ 32) (stands_yes h (poly_lines x (line_name xs)))
 poly_name_ends before n h x xs short past g t is a =
     let i : Interp = record { name = xs; poly = zero_poly } in
-    ends_after (2 ^ 32) (stands_yes h (poly_lines x (line_name xs))) (stands_yes h (poly_lines (add_interp x i) lines_front)) (λ r. 32 ∷ 48 ∷ 10 ∷ r) (λ r. refl)
+    ends_after (2 ^ 32) (stands_yes h (poly_lines x (line_name xs))) (stands_yes h (poly_lines (add_named x i) lines_front)) (λ r. 32 ∷ 48 ∷ 10 ∷ r) (λ r. refl)
     (interp_ends before n h x i short past g t (record { name = is; poly = tt }) a)
 
 in_poly_ends : (before n : ℕ) (h : Past) (x : Lines) (xs : List ℕ) (fs : _) (k : _) → before + n < 2 ^ 32 → GoodPast before third h → GoodLines n x → GoodLinesPlace n x (in_poly xs fs k) → wants h ≡ true → ReachesEnd (2 ^ 32) (stands_yes h (poly_lines x (in_poly xs fs k)))
@@ -195,11 +196,11 @@ in_poly_ends before n h x xs fs k short past g p a =
     let e = poly_ends fs k in
     let i : Interp = record { name = xs; poly = e.p } in
     let fits = poly_sound (goes fs k) (e.tail (10 ∷ [])) (poly_seen fs k) e.p (10 ∷ []) (p.2, p.3, λ r. refl) (e.ends 10 [] (refl, refl, refl, refl)) in
-    ends_after (2 ^ 32) (stands_yes h (poly_lines x (in_poly xs fs k))) (stands_yes h (poly_lines (add_interp x i) lines_front)) (λ r. e.tail (10 ∷ r))
+    ends_after (2 ^ 32) (stands_yes h (poly_lines x (in_poly xs fs k))) (stands_yes h (poly_lines (add_named x i) lines_front)) (λ r. e.tail (10 ∷ r))
     (λ r. poly_lift h x xs (goes fs k) (e.tail (10 ∷ r)) e.p r (e.ends 10 r (refl, refl, refl, refl)))
     (interp_ends before n h x i short past g p.0 (record { name = p.1; poly = fits.0 }) a)
 
-move_ends : (before n : ℕ) (h : Past) (x : Lines) (ms : List moved.Move) (i j k : ℕ) → before + n < 2 ^ 32 → GoodPast before third h → GoodLines n x → GoodLinesPlace n x (amount ms i j k) → wants h ≡ true → ReachesEnd (2 ^ 32) (stands_yes h (poly_lines (add_cover x (add_move ms i j k)) lines_front))
+move_ends : (before n : ℕ) (h : Past) (x : Lines) (ms : List moved.Move) (i j k : ℕ) → before + n < 2 ^ 32 → GoodPast before third h → GoodLines n x → GoodLinesPlace n x (amount ms i j k) → wants h ≡ true → ReachesEnd (2 ^ 32) (stands_yes h (poly_lines (add_shown x (add_move ms i j k)) lines_front))
 move_ends before n h x ms i j k short past g p a =
     let m : moved.Move = record { from = i; to = j; amount = k } in
     cover_ends before n h x (ms ++ m ∷ []) short past g p.0 (All-push MoveFits ms m p.1 (record { from = p.3; to = p.4; amount = p.5 }), omega (arith, length-append ms (m ∷ []), p.2)) a
@@ -212,25 +213,25 @@ lines_place_ends before n h x name_wanted short past g p a =
 lines_place_ends before n h x (line_name xs) short past g p a = poly_name_ends before n h x xs short past g p.0 p.1 a
 lines_place_ends before n h x (in_poly xs fs k) short past g p a = in_poly_ends before n h x xs fs k short past g p a
 lines_place_ends before n h x (moves ms) short past g p a =
-    ends_after (2 ^ 32) (stands_yes h (poly_lines x (moves ms))) (stands_yes h (poly_lines (add_cover x ms) lines_front)) (λ r. 10 ∷ r) (λ r. refl)
+    ends_after (2 ^ 32) (stands_yes h (poly_lines x (moves ms))) (stands_yes h (poly_lines (add_shown x ms) lines_front)) (λ r. 10 ∷ r) (λ r. refl)
     (cover_ends before n h x ms short past g p.0 p.1 a)
 lines_place_ends before n h x (from_wanted ms) short past g p a =
-    ends_after (2 ^ 32) (stands_yes h (poly_lines x (from_wanted ms))) (stands_yes h (poly_lines (add_cover x (add_move ms 0 0 1)) lines_front)) (λ r. 48 ∷ 62 ∷ 48 ∷ 58 ∷ 49 ∷ 10 ∷ r) (λ r. refl)
+    ends_after (2 ^ 32) (stands_yes h (poly_lines x (from_wanted ms))) (stands_yes h (poly_lines (add_shown x (add_move ms 0 0 1)) lines_front)) (λ r. 48 ∷ 62 ∷ 48 ∷ 58 ∷ 49 ∷ 10 ∷ r) (λ r. refl)
     (move_ends before n h x ms 0 0 1 short past g (p.0, p.1, p.2, omega arith, omega arith, (omega arith, omega arith)) a)
 lines_place_ends before n h x (from ms i) short past g p a =
-    ends_after (2 ^ 32) (stands_yes h (poly_lines x (from ms i))) (stands_yes h (poly_lines (add_cover x (add_move ms i 0 1)) lines_front)) (λ r. 62 ∷ 48 ∷ 58 ∷ 49 ∷ 10 ∷ r) (λ r. refl)
+    ends_after (2 ^ 32) (stands_yes h (poly_lines x (from ms i))) (stands_yes h (poly_lines (add_shown x (add_move ms i 0 1)) lines_front)) (λ r. 62 ∷ 48 ∷ 58 ∷ 49 ∷ 10 ∷ r) (λ r. refl)
     (move_ends before n h x ms i 0 1 short past g (p.0, p.1, p.2, p.3, omega arith, (omega arith, omega arith)) a)
 lines_place_ends before n h x (to_wanted ms i) short past g p a =
-    ends_after (2 ^ 32) (stands_yes h (poly_lines x (to_wanted ms i))) (stands_yes h (poly_lines (add_cover x (add_move ms i 0 1)) lines_front)) (λ r. 48 ∷ 58 ∷ 49 ∷ 10 ∷ r) (λ r. refl)
+    ends_after (2 ^ 32) (stands_yes h (poly_lines x (to_wanted ms i))) (stands_yes h (poly_lines (add_shown x (add_move ms i 0 1)) lines_front)) (λ r. 48 ∷ 58 ∷ 49 ∷ 10 ∷ r) (λ r. refl)
     (move_ends before n h x ms i 0 1 short past g (p.0, p.1, p.2, p.3, omega arith, (omega arith, omega arith)) a)
 lines_place_ends before n h x (to ms i j) short past g p a =
-    ends_after (2 ^ 32) (stands_yes h (poly_lines x (to ms i j))) (stands_yes h (poly_lines (add_cover x (add_move ms i j 1)) lines_front)) (λ r. 58 ∷ 49 ∷ 10 ∷ r) (λ r. refl)
+    ends_after (2 ^ 32) (stands_yes h (poly_lines x (to ms i j))) (stands_yes h (poly_lines (add_shown x (add_move ms i j 1)) lines_front)) (λ r. 58 ∷ 49 ∷ 10 ∷ r) (λ r. refl)
     (move_ends before n h x ms i j 1 short past g (p.0, p.1, p.2, p.3, p.4, (omega arith, omega arith)) a)
 lines_place_ends before n h x (amount_wanted ms i j) short past g p a =
-    ends_after (2 ^ 32) (stands_yes h (poly_lines x (amount_wanted ms i j))) (stands_yes h (poly_lines (add_cover x (add_move ms i j 1)) lines_front)) (λ r. 49 ∷ 10 ∷ r) (λ r. refl)
+    ends_after (2 ^ 32) (stands_yes h (poly_lines x (amount_wanted ms i j))) (stands_yes h (poly_lines (add_shown x (add_move ms i j 1)) lines_front)) (λ r. 49 ∷ 10 ∷ r) (λ r. refl)
     (move_ends before n h x ms i j 1 short past g (p.0, p.1, p.2, p.3, p.4, (omega arith, omega arith)) a)
 lines_place_ends before n h x (amount ms i j k) short past g p a =
-    ends_after (2 ^ 32) (stands_yes h (poly_lines x (amount ms i j k))) (stands_yes h (poly_lines (add_cover x (add_move ms i j k)) lines_front)) (λ r. 10 ∷ r) (λ r. refl)
+    ends_after (2 ^ 32) (stands_yes h (poly_lines x (amount ms i j k))) (stands_yes h (poly_lines (add_shown x (add_move ms i j k)) lines_front)) (λ r. 10 ∷ r) (λ r. refl)
     (move_ends before n h x ms i j k short past g p a)
 
 -- fixed words

@@ -40,8 +40,8 @@ IsPairsLine (y.number_wanted y.of_pairs) = Unit {0}
 IsPairsLine (y.number y.of_pairs n) = Unit {0}
 IsPairsLine _ = ⊥
 
--- the bytes led there; nothing is known of the items before but how many nodes are wanted, and the ranks until they are handed
--- out
+-- the bytes led there; nothing is known of the items before but how many nodes are wanted, and the ranks until they are
+-- handed out
 abbrev pub Tracks : Progress → Standing → Type 0
 Tracks Unread s = s ≡ unread
 Tracks (Yes l) s =

@@ -11,7 +11,8 @@ use Rattle.wh_cert.specs.CertText.{CertText}
 -- the lines of an item, with r behind them
 abbrev pub put_item : Item → List ℕ → List ℕ
 put_item (yes_head version ranks pairs) r =
-    codes "YES " ++ (decimal version ++ (line_feed ∷ (codes "ranks" ++ put_line ranks (codes "pairs " ++ (decimal pairs ++ (line_feed ∷ r))))))
+    codes "YES " ++ (decimal version ++ (line_feed ∷ (codes "ranks" ++ put_line ranks
+    (codes "pairs " ++ (decimal pairs ++ (line_feed ∷ r))))))
 put_item (node x) r = put_node x r
 put_item (no_head t) r = codes "NO 1" ++ (line_feed ∷ (codes "term " ++ put_term t (line_feed ∷ r)))
 put_item (step s) r = put_step s r
@@ -23,8 +24,8 @@ abbrev pub put_items : List Item → List ℕ → List ℕ
 put_items [] r = r
 put_items (i ∷ is) r = put_item i (put_items is r)
 
--- these are the first items of the certificate, and they are those whose last line feed stands in the bytes: the bytes begin
--- with the lines of these items, and not with those of one item more
+-- these are the first items of the certificate, and those whose last line feed stands in the bytes: the bytes begin with
+-- the lines of these items, and not with those of one item more
 pub record WholeItems (bytes : List ℕ) (c : Cert) (is : List Item) : Type 0 where
   pub rest : List Item
   pub front : items c ≡ is ++ rest

@@ -1,3 +1,5 @@
+pub mod Sections
+pub mod SectionsViews
 pub mod PolyLines
 pub mod YesMachine
 pub mod LineMachine

@@ -1,19 +1,14 @@
 -- A reader of the lines of a node of interpretations up to that of `drop`, byte by byte, as a function: where it stands, and where
 -- the next byte leads. It mirrors the code; the laws in proofs/ tie it to the text.
-use Rattle.std.specs.Prelude.{ℕ, ◌+◌, ◌-◌, ◌*◌, ◌==◌, ◌&&◌, nat_lt, cond, List, [], ◌∷◌, ◌++◌, length, codes}
+use Rattle.std.specs.Prelude.{ℕ, ◌+◌, ◌-◌, ◌*◌, ◌==◌, ◌&&◌, nat_lt, cond, List, [], ◌∷◌, ◌++◌, length}
 use Rattle.wh_types.specs.Limits.{longest_name}
 use Rattle.wh_hopoly.specs.declared.expression.Move as moved
 use Rattle.wh_text.specs.Chars.{line_feed, space, is_digit, is_start, is_part}
 use Rattle.wh_letters.specs.Digits.{goes_on, begins_big, goes_on_big}
 use Rattle.wh_cert_parts.specs.PolyMachine.{PolyStack, outside, PolyPlace, poly_wanted, PolyStep, goes, poly_ended, no_poly, poly_step}
 use Rattle.wh_cert.specs.Interps.{Interp}
-
--- the lines so far: of symbols; of marked symbols too; of rules too; of pairs too
-pub data Lines : Type 0 where
-  in_funs : (funs : List Interp) → Lines
-  in_marks : (funs marks : List Interp) → Lines
-  in_rules : (funs marks : List Interp) (rules : List (List moved.Move)) → Lines
-  in_pairs : (funs marks : List Interp) (rules pairs : List (List moved.Move)) → Lines
+use Rattle.wh_cert_text.specs.Sections as s
+pub use Rattle.wh_cert_text.specs.Sections.{in_funs, in_marks, in_rules, in_pairs, on, begins, drops, refused, line_first, line_rest, to_marks, to_rules, to_pairs, add_named, add_shown, pair_step, rule_step, mark_step, first_step}
 
 -- the place in the present line, which is of the last kind: its front; behind `fun ` or `mark `; letters of a name; a part of a
 -- polynomial; behind moves; these and a space; this and digits; this and a `>`; this and digits; this and a `:`; this and digits
@@ -26,84 +21,29 @@ pub data LinesPlace : Type 0 where
   to amount_wanted : (ms : List moved.Move) (i j : ℕ) → LinesPlace
   amount : (ms : List moved.Move) (i j n : ℕ) → LinesPlace
 
--- where a byte leads: on; to a line of the last kind, or to that of `drop`, whose first byte it is; nowhere
-pub data LinesStep : Type 0 where
-  on : (x : Lines) (k : LinesPlace) → LinesStep
-  begins drops : (x : Lines) → LinesStep
-  refused : LinesStep
+-- the lines so far, and where a byte leads
+abbrev pub Lines : Type 0
+Lines = s.Lines Interp (List moved.Move)
 
--- the first byte of the word of a line of the last kind, and the others
-abbrev pub line_first : Lines → ℕ
-line_first (in_funs funs) = 102
-line_first (in_marks funs marks) = 109
-line_first (in_rules funs marks rules) = 114
-line_first (in_pairs funs marks rules pairs) = 112
+abbrev pub LinesStep : Type 0
+LinesStep = s.LinesStep Interp (List moved.Move) LinesPlace
 
-abbrev pub line_rest : Lines → List ℕ
-line_rest (in_funs funs) = codes "un "
-line_rest (in_marks funs marks) = codes "ark "
-line_rest (in_rules funs marks rules) = codes "ule"
-line_rest (in_pairs funs marks rules pairs) = codes "air"
-
--- the place behind that word
+-- the place behind the word of a line of the last kind
 abbrev pub line_begun : Lines → LinesPlace
 line_begun (in_funs funs) = name_wanted
 line_begun (in_marks funs marks) = name_wanted
 line_begun (in_rules funs marks rules) = moves []
 line_begun (in_pairs funs marks rules pairs) = moves []
 
--- the kinds of lines come one behind the other
-abbrev pub to_marks : Lines → Lines
-to_marks (in_funs funs) = in_marks funs []
-to_marks x = x
-
-abbrev pub to_rules : Lines → Lines
-to_rules (in_funs funs) = in_rules funs [] []
-to_rules (in_marks funs marks) = in_rules funs marks []
-to_rules x = x
-
-abbrev pub to_pairs : Lines → Lines
-to_pairs (in_funs funs) = in_pairs funs [] [] []
-to_pairs (in_marks funs marks) = in_pairs funs marks [] []
-to_pairs (in_rules funs marks rules) = in_pairs funs marks rules []
-to_pairs x = x
-
--- a line of the last kind joins
-abbrev pub add_interp : Lines → Interp → Lines
-add_interp (in_funs funs) i = in_funs (funs ++ i ∷ [])
-add_interp (in_marks funs marks) i = in_marks funs (marks ++ i ∷ [])
-add_interp x i = x
-
-abbrev pub add_cover : Lines → List moved.Move → Lines
-add_cover (in_rules funs marks rules) ms = in_rules funs marks (rules ++ ms ∷ [])
-add_cover (in_pairs funs marks rules pairs) ms = in_pairs funs marks rules (pairs ++ ms ∷ [])
-add_cover x ms = x
-
--- the first byte of a line: of pairs or of `drop`; of rules too; of marked symbols too; of symbols too
-abbrev pub pair_step : Lines → ℕ → LinesStep
-pair_step x b = cond (b == 112) (begins (to_pairs x)) (cond (b == 100) (drops (to_pairs x)) refused)
-
-abbrev pub rule_step : Lines → ℕ → LinesStep
-rule_step x b = cond (b == 114) (begins (to_rules x)) (pair_step x b)
-
-abbrev pub mark_step : Lines → ℕ → LinesStep
-mark_step x b = cond (b == 109) (begins (to_marks x)) (rule_step x b)
-
-abbrev pub first_step : Lines → ℕ → LinesStep
-first_step (in_funs funs) b = cond (b == 102) (begins (in_funs funs)) (mark_step (in_funs funs) b)
-first_step (in_marks funs marks) b = mark_step (in_marks funs marks) b
-first_step (in_rules funs marks rules) b = rule_step (in_rules funs marks rules) b
-first_step (in_pairs funs marks rules pairs) b = pair_step (in_pairs funs marks rules pairs) b
-
 -- where a byte leads that was given to the reader of polynomials
 abbrev pub poly_led : Lines → List ℕ → PolyStep → LinesStep
 poly_led x xs (goes fs k) = on x (in_poly xs fs k)
-poly_led x xs (poly_ended p b) = cond (b == line_feed) (on (add_interp x (record { name = xs; poly = p })) lines_front) refused
+poly_led x xs (poly_ended p b) = cond (b == line_feed) (on (add_named x (record { name = xs; poly = p })) lines_front) refused
 poly_led x xs no_poly = refused
 
 -- behind moves another one comes, or the line ends
 abbrev pub moves_step : Lines → List moved.Move → ℕ → LinesStep
-moves_step x ms b = cond (b == space) (on x (from_wanted ms)) (cond (b == line_feed) (on (add_cover x ms) lines_front) refused)
+moves_step x ms b = cond (b == space) (on x (from_wanted ms)) (cond (b == line_feed) (on (add_shown x ms) lines_front) refused)
 
 -- one more move
 abbrev pub add_move : List moved.Move → ℕ → ℕ → ℕ → List moved.Move

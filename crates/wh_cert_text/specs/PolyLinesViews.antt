@@ -1,25 +1,29 @@
 -- What the values of the reader of the lines of a node of interpretations stand for.
-use Rattle.std.specs.Prelude.{map}
+use Rattle.std.specs.Prelude.{List, map}
+use Rattle.wh_hopoly.specs.declared.expression.Move as moved
 use Rattle.wh_cert_parts.specs.PolyViews.{poly_stack, poly_place}
 use Rattle.wh_cert.specs.Said.{said_interp}
+use Rattle.wh_cert.specs.declared.poly_node.Interp.{Interp}
+use Rattle.wh_cert_text.specs.Sections as s
+use Rattle.wh_cert_text.specs.SectionsViews.{lines_up_to}
 use Rattle.wh_cert_text.specs.PolyLines as m
-use Rattle.wh_cert_text.specs.declared.poly_lines.Section.{Section}
-use Rattle.wh_cert_text.specs.declared.poly_lines.Section.TheVariants.{Funs, Marks, Rules, Pairs}
+use Rattle.wh_cert_text.specs.declared.sections.Section.{Section}
 use Rattle.wh_cert_text.specs.declared.poly_lines.LinesPlace.{LinesPlace}
 use Rattle.wh_cert_text.specs.declared.poly_lines.LinesPlace.TheVariants as place
 use Rattle.wh_cert_text.specs.declared.poly_lines.PolyLines.{PolyLines}
 use Rattle.wh_cert_text.specs.declared.poly_lines.LinesStep.{LinesStep}
 use Rattle.wh_cert_text.specs.declared.poly_lines.LinesStep.TheVariants as step
 
+-- the lines with names and polynomials without pointers
+abbrev pub said_lines : s.Lines Interp (List moved.Move) → m.Lines
+said_lines x = s.map_lines (map said_interp) (λ (rs : List (List moved.Move)). rs) x
+
 -- the lines up to those of a kind
 abbrev pub section_of : Section → PolyLines → m.Lines
-section_of Funs l = m.in_funs (map said_interp l.funs)
-section_of Marks l = m.in_marks (map said_interp l.funs) (map said_interp l.marks)
-section_of Rules l = m.in_rules (map said_interp l.funs) (map said_interp l.marks) l.rules
-section_of Pairs l = m.in_pairs (map said_interp l.funs) (map said_interp l.marks) l.rules l.pairs
+section_of section l = said_lines (lines_up_to section l.lists)
 
 abbrev pub lines_of : PolyLines → m.Lines
-lines_of l = section_of l.section l
+lines_of l = section_of l.lists.section l
 
 abbrev pub place_of : LinesPlace → PolyLines → m.LinesPlace
 place_of place.Front l = m.lines_front

@@ -1,4 +1,4 @@
-//! Certificates byte by byte: each item is handed out where its last line is whole, and nothing is kept of those before.
+//! Certificates byte by byte: each item is handed out where its last line is whole, and none is kept.
 
 ghost use Rattle.std.specs.Prelude.{◌≡◌, ◌∷◌, ◌++◌, [], ◌<◌, ◌-◌, ◌^◌, ◌+◌, List, ℕ, OnOk, IfOk, IfErr, length};
 ghost use Rattle.std.specs.Option.{option_map, option_to_list};
@@ -61,8 +61,8 @@ impl CertReader {
         }
     }
 
-    /// Takes one more byte, and hands out the item whose last line it ends. Without memory it is not taken, nor is any later
-    /// one.
+    /// Takes one more byte, and hands out the item whose last line it ends. Without memory it is not taken, nor is any
+    /// later one.
     ///
     /// # Errors
     /// The bytes begin no certificate text, with the number of those that do. Once this has come it comes at each call.

@@ -7,6 +7,7 @@ mod laws;
 mod line_reader;
 mod poly_lines;
 mod read;
+mod sections;
 mod yes_line;
 
 pub use cert_reader::CertReader;

@@ -3,13 +3,14 @@
 ghost use Rattle.std.specs.Prelude.{◌≡◌, [], IfOk, OnOk};
 ghost use Rattle.wh_hopoly.specs.Erase.{poly};
 ghost use Rattle.wh_cert_parts.specs.PolyMachine.{poly_ended};
-ghost use Rattle.wh_cert_text.specs.PolyLines.{in_funs, lines_front, name_wanted, from_wanted, from, to_wanted, to, amount_wanted, amount, name as in_name, line_begun, to_marks, to_rules, to_pairs, first_step, mark_step, rule_step, pair_step, poly_led, moves_step, lines_step};
+ghost use Rattle.wh_cert_text.specs.Sections.{in_funs, first_step};
+ghost use Rattle.wh_cert_text.specs.PolyLines.{lines_front, name_wanted, from_wanted, from, to_wanted, to, amount_wanted, amount, name as in_name, line_begun, poly_led, moves_step, lines_step};
 ghost use Rattle.wh_cert_text.specs.YesMachine.{gives, node_item, front, list_ended, dropped};
 ghost use Rattle.wh_cert_text.specs.PolyLinesViews.{section_of, lines_of, lines_place, lines_went};
 ghost use Rattle.wh_cert.specs.Said.{said_poly};
-ghost use Rattle.wh_cert_text.specs.declared.poly_lines.Section.TheVariants as section;
 ghost use Rattle.wh_cert_text.specs.declared.poly_lines.LinesPlace.TheVariants as place;
 
+use crate::sections::{LineBegun, Section, Sections};
 use std::alloc::{AllocError, Global};
 use std::mem;
 use wh_cert::{Interp, Interps, PolyNode};
@@ -17,19 +18,6 @@ use wh_cert_parts::{PolyStep, PolyText};
 use wh_hopoly::{Covers, Move, Moves, Poly};
 use wh_letters::{Letters, begins_name, first_big, first_number, next_big, next_number};
 use wh_types::Numbers;
-
-/// Of which kind the last line is.
-#[derive(Clone, Copy)]
-pub enum Section {
-    /// Of a symbol.
-    Funs,
-    /// Of a marked symbol.
-    Marks,
-    /// Of a rule.
-    Rules,
-    /// Of a pair.
-    Pairs,
-}
 
 /// How far the present line was read; what is longer than a number stands in the lines themselves.
 #[derive(Clone, Copy)]
@@ -61,18 +49,10 @@ pub enum LinesPlace {
 /// The lines of a node of interpretations so far.
 #[derive(Drop)]
 pub struct PolyLines {
-    /// Of which kind the last line is.
-    pub section: Section,
-    /// How far it was read.
+    /// What they hold: interpretations of symbols, and moves for rules and pairs.
+    pub lists: Sections<Interp, Moves>,
+    /// How far the last one was read.
     pub place: LinesPlace,
-    /// The interpretations of symbols.
-    pub funs: Interps,
-    /// Those of marked symbols.
-    pub marks: Interps,
-    /// The moves for rules.
-    pub rules: Covers,
-    /// The moves for pairs.
-    pub pairs: Covers,
     /// The name in a line of an interpretation.
     pub name: Letters,
     /// Its polynomial.
@@ -105,12 +85,8 @@ impl PolyLines {
         ensures place { IfOk result (λ lines. lines_place lines ≡ lines_front) }
     {
         Ok(PolyLines {
-            section: Section::Funs,
+            lists: Sections::new(alloc)?,
             place: LinesPlace::Front,
-            funs: Interps::new(alloc)?,
-            marks: Interps::new(alloc)?,
-            rules: Covers::new(alloc)?,
-            pairs: Covers::new(alloc)?,
             name: Letters::new(alloc, b'a')?,
             poly: PolyText::new(alloc)?,
             moves: Moves::new(alloc)?,
@@ -124,8 +100,7 @@ impl PolyLines {
         ensures lines { OnOk result (lines_of self.new ≡ in_funs []) }
         ensures place { OnOk result (lines_place self.new ≡ lines_front) }
     {
-        self.funs = Interps::new(alloc)?;
-        self.section = Section::Funs;
+        self.lists.restart(alloc)?;
         self.place = LinesPlace::Front;
         Ok(())
     }
@@ -142,7 +117,7 @@ impl PolyLines {
                 self.place = LinesPlace::Moves;
             }
         }
-        self.section = section;
+        self.lists.section = section;
         Ok(())
     }
 
@@ -150,11 +125,11 @@ impl PolyLines {
     pub fn node(&mut self, alloc: Global, drop: Numbers) -> Result<PolyNode, AllocError>
         ensures { IfOk result (λ node. gives (node_item (said_poly node)) front ≡ list_ended (dropped (lines_of self.old)) drop) }
     {
-        self.enter_pairs(alloc)?;
-        let funs = mem::replace(&mut self.funs, Interps::new(alloc)?);
-        let marks = mem::replace(&mut self.marks, Interps::new(alloc)?);
-        let rules = mem::replace(&mut self.rules, Covers::new(alloc)?);
-        let pairs = mem::replace(&mut self.pairs, Covers::new(alloc)?);
+        self.lists.enter_pairs(alloc)?;
+        let funs = mem::replace(&mut self.lists.funs, Interps::new(alloc)?);
+        let marks = mem::replace(&mut self.lists.marks, Interps::new(alloc)?);
+        let rules = mem::replace(&mut self.lists.rules, Covers::new(alloc)?);
+        let pairs = mem::replace(&mut self.lists.pairs, Covers::new(alloc)?);
         Ok(PolyNode {
             funs,
             marks,
@@ -162,61 +137,6 @@ impl PolyLines {
             pairs,
             drop,
         })
-    }
-
-    /// Lines of marked symbols come.
-    fn enter_marks(&mut self, alloc: Global) -> Result<(), AllocError>
-        ensures { OnOk result (lines_of self.new ≡ to_marks (lines_of self.old)) }
-    {
-        match self.section {
-            Section::Funs => {
-                self.marks = Interps::new(alloc)?;
-                self.section = Section::Marks;
-            }
-            _ => {}
-        }
-        Ok(())
-    }
-
-    /// Lines of rules come.
-    fn enter_rules(&mut self, alloc: Global) -> Result<(), AllocError>
-        ensures { OnOk result (lines_of self.new ≡ to_rules (lines_of self.old)) }
-    {
-        match self.section {
-            Section::Funs => {
-                self.marks = Interps::new(alloc)?;
-                self.rules = Covers::new(alloc)?;
-                self.section = Section::Rules;
-            }
-            Section::Marks => {
-                self.rules = Covers::new(alloc)?;
-                self.section = Section::Rules;
-            }
-            _ => {}
-        }
-        Ok(())
-    }
-
-    /// Lines of pairs come.
-    fn enter_pairs(&mut self, alloc: Global) -> Result<(), AllocError>
-        ensures lines { OnOk result (lines_of self.new ≡ to_pairs (lines_of self.old)) }
-        ensures last { OnOk result (self.new.section ≡ section.Pairs) }
-    {
-        match self.section {
-            Section::Funs => {
-                self.marks = Interps::new(alloc)?;
-                self.rules = Covers::new(alloc)?;
-                self.pairs = Covers::new(alloc)?;
-            }
-            Section::Marks => {
-                self.rules = Covers::new(alloc)?;
-                self.pairs = Covers::new(alloc)?;
-            }
-            Section::Rules => self.pairs = Covers::new(alloc)?,
-            Section::Pairs => {}
-        }
-        self.section = Section::Pairs;
-        Ok(())
     }
 
     /// The step from a place in the lines.
@@ -242,54 +162,11 @@ impl PolyLines {
     fn step_front(&mut self, alloc: Global, byte: u8) -> Result<LinesStep, AllocError>
         ensures { IfOk result (λ went. lines_went went self.new ≡ first_step (lines_of self.old) byte) }
     {
-        match self.section {
-            Section::Funs => {
-                if byte == b'f' {
-                    return Ok(LinesStep::Begins);
-                }
-                self.front_of_mark(alloc, byte)
-            }
-            Section::Marks => self.front_of_mark(alloc, byte),
-            Section::Rules => self.front_of_rule(alloc, byte),
-            Section::Pairs => self.front_of_pair(alloc, byte),
+        match self.lists.begin(alloc, byte)? {
+            LineBegun::Begins => Ok(LinesStep::Begins),
+            LineBegun::Drops => Ok(LinesStep::Drops),
+            LineBegun::Wrong => Ok(LinesStep::Wrong),
         }
-    }
-
-    /// The first byte of a line that is none of a symbol.
-    fn front_of_mark(&mut self, alloc: Global, byte: u8) -> Result<LinesStep, AllocError>
-        ensures { IfOk result (λ went. lines_went went self.new ≡ mark_step (lines_of self.old) byte) }
-    {
-        if byte == b'm' {
-            self.enter_marks(alloc)?;
-            return Ok(LinesStep::Begins);
-        }
-        self.front_of_rule(alloc, byte)
-    }
-
-    /// The first byte of a line of a rule or a pair, or of that of `drop`.
-    fn front_of_rule(&mut self, alloc: Global, byte: u8) -> Result<LinesStep, AllocError>
-        ensures { IfOk result (λ went. lines_went went self.new ≡ rule_step (lines_of self.old) byte) }
-    {
-        if byte == b'r' {
-            self.enter_rules(alloc)?;
-            return Ok(LinesStep::Begins);
-        }
-        self.front_of_pair(alloc, byte)
-    }
-
-    /// The first byte of a line of a pair, or of that of `drop`.
-    fn front_of_pair(&mut self, alloc: Global, byte: u8) -> Result<LinesStep, AllocError>
-        ensures { IfOk result (λ went. lines_went went self.new ≡ pair_step (lines_of self.old) byte) }
-    {
-        if byte == b'p' {
-            self.enter_pairs(alloc)?;
-            return Ok(LinesStep::Begins);
-        }
-        if byte == b'd' {
-            self.enter_pairs(alloc)?;
-            return Ok(LinesStep::Drops);
-        }
-        Ok(LinesStep::Wrong)
     }
 
     /// The first letter of a symbol's name.
@@ -334,7 +211,7 @@ impl PolyLines {
     }
 
     /// A polynomial has ended before the byte, which ends its line.
-    #[tactic(auto, using(crate::proofs::PolyLinesCode::interps_grow))]
+    #[tactic(auto, using(crate::proofs::PolyLinesCode::interp_said))]
     fn end_interp(&mut self, alloc: Global, part: Poly, byte: u8) -> Result<LinesStep, AllocError>
         ensures { IfOk result (λ went. lines_went went self.new ≡ poly_led (lines_of self.old) self.old.name
             (poly_ended (poly part) byte)) }
@@ -344,11 +221,7 @@ impl PolyLines {
         }
         let name = self.name.name(alloc)?;
         let item = Interp { name, poly: part };
-        match self.section {
-            Section::Funs => self.funs.push(item)?,
-            Section::Marks => self.marks.push(item)?,
-            _ => {}
-        }
+        self.lists.push_named(item)?;
         self.place = LinesPlace::Front;
         Ok(LinesStep::On)
     }
@@ -365,11 +238,7 @@ impl PolyLines {
             return Ok(LinesStep::Wrong);
         }
         let moves = mem::replace(&mut self.moves, Moves::new(alloc)?);
-        match self.section {
-            Section::Rules => self.rules.push(moves)?,
-            Section::Pairs => self.pairs.push(moves)?,
-            _ => {}
-        }
+        self.lists.push_shown(moves)?;
         self.place = LinesPlace::Front;
         Ok(LinesStep::On)
     }

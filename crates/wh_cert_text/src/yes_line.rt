@@ -12,7 +12,8 @@ ghost use Rattle.wh_cert_text.specs.declared.yes_line.Listed.TheVariants as list
 ghost use Rattle.wh_cert_text.specs.declared.yes_line.YesBehind.TheVariants as behind;
 ghost use Rattle.wh_cert_text.specs.declared.yes_line.YesPlace.TheVariants as place;
 
-use crate::poly_lines::{LinesStep, PolyLines, Section};
+use crate::poly_lines::{LinesStep, PolyLines};
+use crate::sections::Section;
 use std::alloc::{AllocError, Global};
 use std::mem;
 use wh_cert::{Arg, Args, Node};
@@ -292,7 +293,7 @@ impl YesLine {
         match self.lines.step(alloc, byte)? {
             LinesStep::On => self.place = YesPlace::Lines,
             LinesStep::Begins => {
-                self.place = YesPlace::Word(YesBehind::Line(self.lines.section), 1);
+                self.place = YesPlace::Word(YesBehind::Line(self.lines.lists.section), 1);
             }
             LinesStep::Drops => {
                 self.place = YesPlace::Word(YesBehind::List(Listed::Poly), 1);

@@ -2,8 +2,8 @@
 use Rattle.std.specs.Prelude.{◌≡◌, ℕ, ◌<◌, ◌≤◌, List, length, Result, Ok, Err}
 use Rattle.wh_types.specs.declared.want.Or.{Or}
 use Rattle.wh_types.specs.declared.want.Or.TheVariants.{NoMemory, Because}
-use Rattle.wh_io.specs.declared.next.ReadFault.{ReadFault}
-use Rattle.wh_io.specs.declared.next.ReadFault.TheVariants.{Failed, TooLong}
+use Rattle.wh_io.specs.declared.read.ReadFault.{ReadFault}
+use Rattle.wh_io.specs.declared.read.ReadFault.TheVariants.{Failed, TooLong}
 use Rattle.wh_io.specs.Outside.{Rose}
 
 -- of a file whose bytes are told: all of them, or that they are more than the limit

@@ -3,8 +3,7 @@
 ghost use Rattle.std.specs.Prelude.{◌≡◌};
 ghost use Rattle.wh_io.specs.Pieces.{answer_of};
 
-use thiserror::Error;
-use wh_types::Or;
+use crate::read::ReadFault;
 
 /// What a piece has.
 #[derive(Clone, Copy)]
@@ -13,28 +12,6 @@ pub enum Next {
     Bytes(usize),
     /// None: the file ends here.
     End,
-}
-
-/// Why a file was not read.
-#[derive(Debug, Drop, Error)]
-pub enum ReadFault {
-    /// The shelf failed.
-    #[error("the file could not be read")]
-    Failed,
-    /// The file has more bytes than the limit.
-    #[error("the file is too long")]
-    TooLong,
-}
-
-impl From<ReadFault> for Or<ReadFault> {
-    ghost use Rattle.std.specs.Prelude.{◌≡◌};
-    ghost use Rattle.wh_types.specs.declared.want.Or.TheVariants.{Because};
-
-    ghost from_gives = { λ fault e. e ≡ Because fault };
-
-    fn from(fault: ReadFault) -> Self {
-        Or::Because(fault)
-    }
 }
 
 /// How reading a file has ended.

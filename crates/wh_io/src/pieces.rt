@@ -4,7 +4,8 @@ ghost use Rattle.std.specs.Prelude.{◌≡◌, ◌≤◌, ◌<◌, ℕ, List, le
 ghost use Rattle.wh_io.specs.Pieces.{PiecesState, GivesPiece, Advances, PieceFaults, answer_of};
 ghost use Rattle.wh_io.specs.declared.next.Ended.{Ended};
 
-use crate::next::{Ended, Next, ReadFault};
+use crate::next::{Ended, Next};
+use crate::read::ReadFault;
 use crate::shelf::Shelf;
 use std::marker::Model;
 
@@ -39,8 +40,8 @@ impl Pieces {
         }
     }
 
-    /// The next bytes of the file, behind those that were given, at the front of `into`. It takes no memory. Once `End` or a
-    /// fault has come it comes at each call, without a read.
+    /// The next bytes of the file, behind those that were given, at the front of `into`. It takes no memory. Once `End` or
+    /// a fault has come it comes at each call, without a read.
     ///
     /// # Errors
     /// `Failed` where the read failed, and `TooLong` where the file gave more than `limit` bytes.

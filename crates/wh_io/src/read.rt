@@ -6,14 +6,37 @@
 ghost use Rattle.std.specs.Prelude.{◌≡◌, ◌≤◌, ℕ, List, length, Some, IfOk, vec_len};
 ghost use Rattle.wh_io.specs.Reading.{ReadsWhole, FaultsTell};
 
-use crate::next::{Next, ReadFault};
+use crate::next::Next;
 use crate::pieces::Pieces;
 use crate::shelf::Shelf;
 use std::alloc::{AllocError, Global};
+use thiserror::Error;
 use wh_types::{Bytes, Or};
 
 /// How many bytes are asked for at once.
 const PIECE: usize = 65536;
+
+/// Why a file was not read.
+#[derive(Debug, Drop, Error)]
+pub enum ReadFault {
+    /// The shelf failed.
+    #[error("the file could not be read")]
+    Failed,
+    /// The file has more bytes than the limit.
+    #[error("the file is too long")]
+    TooLong,
+}
+
+impl From<ReadFault> for Or<ReadFault> {
+    ghost use Rattle.std.specs.Prelude.{◌≡◌};
+    ghost use Rattle.wh_types.specs.declared.want.Or.TheVariants.{Because};
+
+    ghost from_gives = { λ fault e. e ≡ Because fault };
+
+    fn from(fault: ReadFault) -> Self {
+        Or::Because(fault)
+    }
+}
 
 /// The bytes of the file of that name. It is read to its end, or to one byte past `limit`, which
 /// is enough to know that it is too long.

@@ -11,19 +11,20 @@ use wh_text::print_number;
 use wh_types::{Bytes, Or};
 
 /// A loop of two rules.
-const LOOP: &[u8] = b"NO 1\nterm a\nstep 0 /\nstep 1 /\nat /\nend\n";
+pub const LOOP: &[u8] = b"NO 1\nterm a\nstep 0 /\nstep 1 /\nat /\nend\n";
 
 /// A free variable, a path, and a term that is put for the variable.
-const PUT: &[u8] = b"NO 1\nterm (g %0:o)\nstep 0 /\nat /10\nput %0:o %1:o\nend\n";
+pub const PUT: &[u8] = b"NO 1\nterm (g %0:o)\nstep 0 /\nat /10\nput %0:o %1:o\nend\n";
 
 /// Ranks, an argument that is looked at, and a pair that is dropped.
-const SUBTERM: &[u8] = b"YES 1\nranks 0 0\npairs 1\nsubterm\narg map 2\ndrop 0\ndone\nend\n";
+pub const SUBTERM: &[u8] = b"YES 1\nranks 0 0\npairs 1\nsubterm\narg map 2\ndrop 0\ndone\nend\n";
 
 /// Blocks, with a node for each.
-const BLOCKS: &[u8] = b"YES 1\nranks 0\npairs 2\nblocks 2\nblock 0\nblock 1\nalone\nalone\nend\n";
+pub const BLOCKS: &[u8] =
+    b"YES 1\nranks 0\npairs 2\nblocks 2\nblock 0\nblock 1\nalone\nalone\nend\n";
 
 /// Interpretations, with moves for a rule and for a pair.
-const POLY: &[u8] =
+pub const POLY: &[u8] =
     b"YES 1\nranks\npairs 1\npoly\nfun sort 0\nfun g 1+2*y0*y1(1*y0+1*y0*y2,0)+340282366920938463463374607431768211455*y65535\nmark g 3\nrule\nrule 0>65535:1 1>2:340282366920938463463374607431768211455\npair\ndrop 0 5\ndone\nend\n";
 
 /// Texts that are read and printed: with an argument, with abstractions and bound variables, with an abstraction as a head,
@@ -82,7 +83,7 @@ fn add_certificate(
 }
 
 /// The digits of a number.
-fn add_place(out: &mut Bytes, number: u64) -> Result<(), AllocError> {
+pub fn add_place(out: &mut Bytes, number: u64) -> Result<(), AllocError> {
     match u32::try_from(number) {
         Ok(number) => print_number(out, number),
         Err(_) => Err(AllocError),

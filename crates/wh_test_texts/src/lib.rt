@@ -13,6 +13,8 @@ mod certificate_rows;
 #[cfg(test)]
 mod comparing;
 #[cfg(test)]
+mod feeding_rows;
+#[cfg(test)]
 mod list_rows;
 #[cfg(test)]
 mod outside_rows;

@@ -155,8 +155,8 @@ fn expect_pieces<S: Shelf>(rt: &impl Abort, shelf: &mut S, limit: u64, wanted: &
     }
 }
 
-/// Limits and failing reads, with what is told of a text of four bytes, piece after piece. The last answer comes again, also
-/// where the next read would not fail.
+/// Limits and failing reads, with what is told of a text of four bytes, piece after piece. The last answer comes again,
+/// also where the next read would not fail.
 const PIECES: &[(u64, u64, &[(usize, &str)])] = &[
     (
         3,

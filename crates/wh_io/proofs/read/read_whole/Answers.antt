@@ -1,4 +1,4 @@
-use Rattle.std.proofs.Common.{◌∙◌, ◌≡◌, ◌+◌, ◌≤◌, ℕ, length, take, Ok, sym, ap, subst, length-append, arith}
+use Rattle.std.proofs.Common.{◌∙◌, ◌≡◌, ◌+◌, ◌≤◌, length, take, Ok, sym, ap, subst, length-append, arith}
 use Rattle.std.proofs.lemmas.List.{length-take-le, take_all}
 use Rattle.wh_io.specs.Pieces.{Advances, GivesPiece}
 use Rattle.wh_io.specs.declared.next.Next.{Next}
