@@ -5,3 +5,5 @@ pub mod Tails
 pub mod Valued
 pub mod Covered
 pub mod ReadLemmas
+pub mod Sides
+pub mod Law

@@ -148,7 +148,7 @@ module _ (I : List Interpretation) (Γ : List Ty) (lists : List (List ℕ)) wher
         ≤ width_of first at t + sum_to (length (arguments A)) (λ i. at (length Γ + i))
 
   -- values of trees that are not large are small
-  line_small : (t : Tm) (A : Ty) (p : Polynomial) → IsRead t → IsLine t A p → occurrences t ≤ 60 → total 1 each_one p < 2 ^ 128
+  pub line_small : (t : Tm) (A : Ty) (p : Polynomial) → IsRead t → IsLine t A p → occurrences t ≤ 60 → total 1 each_one p < 2 ^ 128
   line_small t A p r l h =
       let w = worth_small t r in
       let m : 2 ^ (2 * occurrences t) ≤ 2 ^ 120 = pow-le-pow_right {n = 2} (omega arith) {i = 2 * occurrences t} {j = 120} (omega (arith, h)) in
@@ -158,7 +158,7 @@ module _ (I : List Interpretation) (Γ : List Ty) (lists : List (List ℕ)) wher
       let big : 2 ^ 120 + 96 < 2 ^ 128 = omega arith in
       omega (arith, w, m, e, b, f, big)
 
-  line_few : (t : Tm) (A : Ty) (p : Polynomial) → IsRead t → IsLine t A p → occurrences t ≤ 60 → spread 1 each_two p ≤ 65536
+  pub line_few : (t : Tm) (A : Ty) (p : Polynomial) → IsRead t → IsLine t A p → occurrences t ≤ 60 → spread 1 each_two p ≤ 65536
   line_few t A p r l h =
       let w = width_small t r in
       let e = l.spread 1 each_two in
@@ -250,10 +250,10 @@ module _ (I : List Interpretation) (Γ : List Ty) (lists : List (List ℕ)) wher
   applied_by : (t u : Tm) → IsRead t → (A B C : Ty) (g q : Polynomial) → C ≡ (A ⇒ B) → IsApplied t u A C g q
   applied_by t u rt A B C g q e = subst (λ C. IsApplied t u A C g q) (sym e) (applied_at t u rt A B g q)
 
-  abbrev run_of : Tm → Run Polynomial
+  abbrev pub run_of : Tm → Run Polynomial
   run_of t = evaluate I Γ (side (length Γ) t)
 
-  abbrev kind_of : Tm → Ty
+  abbrev pub kind_of : Tm → Ty
   kind_of t = type_of I Γ (side (length Γ) t)
 
   meta_line : (z s : ℕ) (A : Ty) → A ≡ sort s → z < length Γ → IsLine (meta z none) A (variable A (length Γ) z)

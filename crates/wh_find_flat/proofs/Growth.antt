@@ -1,0 +1,45 @@
+-- Circuits that grow.
+use Rattle.std.proofs.Common.{◌≡◌, ℕ, ◌+◌, ◌<◌, ◌≤◌, Bool, List, length, refl, sym, ◌∙◌, ap, subst, arith}
+use Rattle.wh_sat_trail.specs.declared.literal.Literal.{Literal}
+use Rattle.wh_circuit.specs.declared.circuit.Circuit.{Circuit}
+use Rattle.wh_circuit.specs.declared.circuit.Gate.{Gate}
+use Rattle.wh_circuit.specs.Gates.{Agrees, AreWires, Extends, Means, MeansNumber}
+use Rattle.wh_circuit.specs.State.{Grows, gates_of, required_of}
+use Rattle.wh_circuit.proofs.Gating.{below_more}
+use Rattle.wh_circuit.proofs.Growing.{agrees_before, extends_then, means_later}
+use Rattle.wh_find_flat.specs.Numbers.{Later, Builds}
+
+pub later_then : (xs ys zs : List Gate) → Later xs ys → Later ys zs → Later xs zs
+later_then xs ys zs (n, e) (m, f) = (n + m, extends_then n m (n + m) xs ys zs e f (omega arith))
+
+pub later_more : (xs ys : List Gate) → Later xs ys → length xs ≤ length ys
+later_more xs ys (n, e) = e.more
+
+pub agrees_early : (xs ys : List Gate) (v : ℕ → Bool) → Later xs ys → Agrees ys v → Agrees xs v
+agrees_early xs ys v (n, e) a = agrees_before n xs ys v e a
+
+pub wires_later : (xs ys : List Gate) (ls : List Literal) → Later xs ys → AreWires xs ls → AreWires ys ls
+wires_later xs ys ls l a = below_more (length xs) (length ys) ls (later_more xs ys l) a
+
+pub number_later : (xs ys : List Gate) (ls : List Literal) (f : (ℕ → Bool) → ℕ) → Later xs ys → MeansNumber xs ls f → MeansNumber ys ls f
+number_later xs ys ls f l m = record {
+  own = wires_later xs ys ls l m.own;
+  is = λ v a. m.is v (agrees_early xs ys v l a);
+}
+
+pub wire_later : (xs ys : List Gate) (l : Literal) (f : (ℕ → Bool) → Bool) → Later xs ys → Means xs l f → Means ys l f
+wire_later xs ys l f (n, e) m = means_later n xs ys l f e m
+
+pub builds_grown : (n m : ℕ) (a b : Circuit) → Grows n a b → n ≤ m → Builds m a b
+builds_grown n m a b g h = record {
+  gates = (n, g.gates);
+  few = (let f = g.gates.few in omega (arith, f, h));
+  required = g.required;
+}
+
+pub builds_then : (n m k : ℕ) (a b c : Circuit) → Builds n a b → Builds m b c → n + m ≤ k → Builds k a c
+builds_then n m k a b c g h w = record {
+  gates = later_then (gates_of a) (gates_of b) (gates_of c) g.gates h.gates;
+  few = (let f = g.few in let e = h.few in omega (arith, f, e, w));
+  required = h.required ∙ g.required;
+}

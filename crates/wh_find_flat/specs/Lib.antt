@@ -1,0 +1,4 @@
+pub mod Plain
+pub mod Parts
+pub mod Lists
+pub mod Numbers
