@@ -29,8 +29,8 @@ AreInputs count gates = (k : ℕ) → k < count → (g : Gate) × (slice_get gat
 
 -- the value tells the number of the tree, with what heads the tree
 pub record IsValue (sizes : List ℕ) (part : Part) (gates : List Gate) (t : Tm) (value : Value) : Type 0 where
-  pub means : MeansNumber gates value.wires (λ v. number_at part (lists_for sizes v) t)
-  pub width : length value.wires ≤ 2 * value.occurrences
+  pub means : MeansNumber gates value.wires.items (λ v. number_at part (lists_for sizes v) t)
+  pub width : length value.wires.items ≤ 2 * value.occurrences
   pub occurrences_are : value.occurrences ≡ occurrences t
   pub symbol_is : value.symbol ≡ symbol_in t
   pub places_are : value.places ≡ places_in t

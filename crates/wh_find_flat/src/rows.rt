@@ -59,17 +59,16 @@ pub fn doubled(
     alloc: Global,
     circuit: &mut Circuit,
     number: &[Wire],
-) -> Result<Wires, AllocError>
+) -> Result<Vec<Wire>, AllocError>
     requires room { length (gates_of circuit.old) + 1 < 2 ^ 31 }
     requires own_number { AreWires (gates_of circuit.old) number.now }
     ensures builds { OnOk result (Builds 1 circuit.old circuit.new) }
-    ensures means { IfOk result (λ made. MeansNumber (gates_of circuit.new) made (λ v. 2 * number_of v number.now)) }
-    ensures width { IfOk result (λ made. length made ≡ length number.now + 1) }
+    ensures means { IfOk result (λ made. MeansNumber (gates_of circuit.new) made.items (λ v. 2 * number_of v number.now)) }
+    ensures width { IfOk result (λ made. length made.items ≡ length number.now + 1) }
 {
-    let mut made = Wires::new(alloc)?;
-    made.push(circuit.or(&[])?)?;
-    for digit in number {
-        made.push(*digit)?;
-    }
+    let zero = circuit.or(&[])?;
+    let mut made = Vec::new(alloc);
+    made.push(zero)?;
+    made.extend_from_slice(number)?;
     Ok(made)
 }

@@ -1,0 +1,23 @@
+-- Numbers of wires.
+use Rattle.std.proofs.Common.{◌≡◌, ℕ, zero, suc, ◌+◌, ◌*◌, ◌^◌, ◌<◌, ◌≤◌, ◌&&◌, Bool, true, false, List, [], ◌∷◌, ◌++◌, length, take, refl, ap, sym, subst, ◌∙◌, arith}
+use Rattle.std.proofs.Math.Nat.{pow-suc}
+use Rattle.wh_sat_trail.specs.declared.literal.Literal.{Literal}
+use Rattle.wh_sat.specs.Solving.{literal_true}
+use Rattle.wh_circuit.specs.Values.{all_true, bit, number_of}
+
+pub two_true : (v : ℕ → Bool) (a b : Literal) → all_true v (a ∷ b ∷ []) ≡ (literal_true v a && literal_true v b)
+two_true v a b = go (literal_true v a) (literal_true v b)
+  where
+    go : (x y : Bool) → (x && (y && true)) ≡ (x && y)
+    go true true = refl
+    go true false = refl
+    go false true = refl
+    go false false = refl
+
+-- of a number that fits so many bits the lowest ones are all
+pub number_take : (v : ℕ → Bool) (m : ℕ) (ls : List Literal) → number_of v ls < 2 ^ m → number_of v (take m ls) ≡ number_of v ls
+number_take v zero ls h = let e : number_of v ls ≡ 0 = omega (arith, h) in sym e
+number_take v (suc m) [] h = refl
+number_take v (suc m) (l ∷ ls) h =
+    let p = pow-suc 2 m in
+    ap (λ n. bit (literal_true v l) + 2 * n) (number_take v m ls (omega (arith, h, p)))
