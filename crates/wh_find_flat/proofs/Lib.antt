@@ -1,3 +1,7 @@
 pub mod Growth
 pub mod BitsLemmas
 pub mod RowLemmas
+pub mod Small
+pub mod AskLemmas
+pub mod ProductLemmas
+pub mod Applied

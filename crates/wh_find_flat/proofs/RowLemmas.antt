@@ -1,5 +1,5 @@
 -- Numbers of wires.
-use Rattle.std.proofs.Common.{◌≡◌, ℕ, zero, suc, ◌+◌, ◌*◌, ◌^◌, ◌<◌, ◌≤◌, ◌&&◌, Bool, true, false, List, [], ◌∷◌, ◌++◌, length, take, refl, ap, sym, subst, ◌∙◌, arith}
+use Rattle.std.proofs.Common.{◌≡◌, ℕ, zero, suc, ◌+◌, ◌*◌, ◌^◌, ◌<◌, ◌≤◌, ◌&&◌, nat_lt, not, tests, Bool, true, false, List, [], ◌∷◌, ◌++◌, length, take, refl, ap, sym, subst, ◌∙◌, arith}
 use Rattle.std.proofs.Math.Nat.{pow-suc}
 use Rattle.wh_sat_trail.specs.declared.literal.Literal.{Literal}
 use Rattle.wh_sat.specs.Solving.{literal_true}
@@ -21,3 +21,15 @@ number_take v (suc m) [] h = refl
 number_take v (suc m) (l ∷ ls) h =
     let p = pow-suc 2 m in
     ap (λ n. bit (literal_true v l) + 2 * n) (number_take v m ls (omega (arith, h, p)))
+
+-- a higher bit that is false adds nothing
+pub number_longer : (v : ℕ → Bool) (ls : List Literal) (l : Literal) → literal_true v l ≡ false → number_of v (ls ++ l ∷ []) ≡ number_of v ls
+number_longer v [] l f = let e = ap bit f in omega (arith, e)
+number_longer v (k ∷ ls) l f = ap (λ n. bit (literal_true v k) + 2 * n) (number_longer v ls l f)
+
+-- comparing
+pub at_least_so : (b : Bool) (m n : ℕ) → b ≡ not (nat_lt m n) → b ≡ true → n ≤ m
+at_least_so b m n e h = grind (arith, tests, e, h)
+
+pub so_at_least : (b : Bool) (m n : ℕ) → b ≡ not (nat_lt m n) → n ≤ m → b ≡ true
+so_at_least b m n e h = grind (arith, tests, e, h)

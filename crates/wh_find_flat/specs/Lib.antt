@@ -1,4 +1,5 @@
 pub mod Plain
 pub mod Parts
 pub mod Lists
+pub mod Products
 pub mod Numbers

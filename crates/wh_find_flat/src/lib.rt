@@ -2,7 +2,11 @@
 #![tactic(auto)]
 
 mod bits;
+mod compared;
+mod numbers;
 mod part;
+mod products;
 mod rows;
+mod sides;
 mod stands;
 mod value;

@@ -37,7 +37,7 @@ put_low n here at x less =
 two_parts : (x y : ℕ) → (4 + x) + 3 * (4 + y) ≤ (4 + x) * (4 + y) + 3
 two_parts x y = omega arith
 
-product_bound : (X Y a b c : ℕ) → 4 ≤ X → 4 ≤ Y → a + 1 ≤ X → b + 1 ≤ Y → c ≤ 3 → a + c * b + 1 ≤ X * Y
+pub product_bound : (X Y a b c : ℕ) → 4 ≤ X → 4 ≤ Y → a + 1 ≤ X → b + 1 ≤ Y → c ≤ 3 → a + c * b + 1 ≤ X * Y
 product_bound X Y a b c hx hy ha hb hc = go (X - 4) (Y - 4) (omega (arith, hx)) (omega (arith, hy))
   where
     times_three : (c b : ℕ) → c ≤ 3 → c * b ≤ 3 * b
