@@ -1,5 +1,5 @@
 -- What is required, one thing after another.
-use Rattle.std.proofs.Common.{◌≡◌, ℕ, ◌+◌, ◌*◌, ◌<◌, ◌≤◌, ◌&&◌, nat_lt, not, Bool, true, false, List, [], ◌∷◌, ◌++◌, length, refl, ap, sym, subst, ◌∙◌, arith, tests}
+use Rattle.std.proofs.Common.{◌≡◌, ℕ, ◌+◌, ◌*◌, ◌<◌, ◌≤◌, ◌&&◌, nat_lt, not, Bool, true, false, List, [], ◌∷◌, ◌++◌, length, refl, ap, sym, subst, ◌∙◌, arith, tests, below_more}
 use Rattle.wh_sat_trail.specs.declared.literal.Literal.{Literal}
 use Rattle.wh_sat.specs.Solving.{literal_true}
 use Rattle.wh_circuit.specs.declared.circuit.Circuit.{Circuit}
@@ -64,3 +64,21 @@ asks_after n a b c P Q g h there back = record {
   met = λ v k t. (let e = h.met v k t in (subst (λ (ls : List Literal). all_true v ls ≡ true) g.required e.0, there v k e.1));
   asks = λ v k t q. h.asks v k (subst (λ (ls : List Literal). all_true v ls ≡ true) (sym g.required) t) (back v k q);
 }
+
+pub asks_same : (a b : Circuit) (P Q : (ℕ → Bool) → Type 0) → Asks a b P → ((v : ℕ → Bool) → P v → Q v) → ((v : ℕ → Bool) → Q v → P v) → Asks a b Q
+asks_same a b P Q g there back = record {
+  gates = g.gates;
+  met = λ v k t. (let e = g.met v k t in (e.0, there v e.1));
+  asks = λ v k t q. g.asks v k t (back v q);
+}
+
+-- of each number below n, and then of n too
+pub asks_more : (a b c : Circuit) (F : (ℕ → Bool) → ℕ → Type 0) (n : ℕ) → Asks a b (λ v. (z : ℕ) → z < n → F v z) → Asks b c (λ v. F v n)
+    → Asks a c (λ v. (z : ℕ) → z < n + 1 → F v z)
+asks_more a b c F n g h = asks_then a b c (λ v. (z : ℕ) → z < n → F v z) (λ v. F v n) (λ v. (z : ℕ) → z < n + 1 → F v z) g h
+    (λ v k p q. below_more (F v) n p q) (λ v k r z l. r z (omega (arith, l))) (λ v k r. r n (omega arith))
+
+pub asks_for_nothing : (a b : Circuit) (F : (ℕ → Bool) → ℕ → Type 0) (n : ℕ) → Asks a b (λ v. (z : ℕ) → z < n → F v z) → ((v : ℕ → Bool) → F v n)
+    → Asks a b (λ v. (z : ℕ) → z < n + 1 → F v z)
+asks_for_nothing a b F n g here = asks_same a b (λ v. (z : ℕ) → z < n → F v z) (λ v. (z : ℕ) → z < n + 1 → F v z) g
+    (λ v p. below_more (F v) n p (here v)) (λ v r z l. r z (omega (arith, l)))

@@ -33,3 +33,10 @@ at_least_so b m n e h = grind (arith, tests, e, h)
 
 pub so_at_least : (b : Bool) (m n : ℕ) → b ≡ not (nat_lt m n) → n ≤ m → b ≡ true
 so_at_least b m n e h = grind (arith, tests, e, h)
+
+pub not_at_least : (m n : ℕ) → not (not (nat_lt m n)) ≡ nat_lt m n
+not_at_least m n = go (nat_lt m n)
+  where
+    go : (b : Bool) → not (not b) ≡ b
+    go true = refl
+    go false = refl

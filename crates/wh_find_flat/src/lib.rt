@@ -3,6 +3,7 @@
 
 mod bits;
 mod compared;
+mod formula;
 mod numbers;
 mod part;
 mod products;
