@@ -4,5 +4,6 @@ pub mod RowLemmas
 pub mod Small
 pub mod Standing
 pub mod AskLemmas
+pub mod Loops
 pub mod ProductLemmas
 pub mod Applied

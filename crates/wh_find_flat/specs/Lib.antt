@@ -3,3 +3,4 @@ pub mod Parts
 pub mod Lists
 pub mod Products
 pub mod Numbers
+pub mod Ready

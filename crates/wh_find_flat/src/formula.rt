@@ -1,19 +1,21 @@
 //! The circuit of a flat set.
 
-ghost use Rattle.std.specs.Prelude.{◌≡◌, ℕ, ◌+◌, ◌*◌, ◌<◌, ◌≤◌, ◌^◌, [], All, Contains, IfOk, OnOk, Some, length, map, nat_lt, slice_get, sum_by};
-ghost use Rattle.wh_terms.specs.Erase.{rewrite_rule, rewrite_rules, tm};
+ghost use Rattle.std.specs.Prelude.{◌≡◌, ℕ, ◌+◌, ◌*◌, ◌<◌, ◌≤◌, ◌^◌, [], All, Contains, IfOk, OnOk, length, map, nat_lt, sum_by};
+ghost use Rattle.wh_terms.specs.Erase.{rewrite_rules, tm};
+ghost use Rattle.wh_terms.specs.Rules.{RewriteRule};
 ghost use Rattle.wh_terms.specs.Tree.{fun, spine};
-ghost use Rattle.wh_pairs.specs.PairData.{pair_data};
+ghost use Rattle.wh_pairs.specs.PairData.{PairData, pair_data};
 ghost use Rattle.wh_pairs.specs.Sets.{InSet};
 ghost use Rattle.wh_system.specs.SystemView.{system_data};
 ghost use Rattle.wh_blocking.specs.Sizes.{bits_in};
-ghost use Rattle.wh_circuit.specs.Gates.{AreWires, Means};
 ghost use Rattle.wh_circuit.specs.State.{gates_of, required_of};
-ghost use Rattle.wh_flat.specs.Flat.{all_occurrences, occurrences_at, rule_occurrences};
-ghost use Rattle.wh_flat.specs.Worth.{IsAtLeast, constant_of};
-ghost use Rattle.wh_flat.specs.Dominance.{left_call, place_among, right_call};
-ghost use Rattle.wh_find_flat.specs.Lists.{lists_for};
+ghost use Rattle.wh_flat.specs.Flat.{occurrences_at, pair_occurrences, rule_occurrences};
+ghost use Rattle.wh_flat.specs.Dominance.{place_among};
 ghost use Rattle.wh_find_flat.specs.Numbers.{AreInputs, Asks};
+ghost use Rattle.wh_find_flat.specs.Ready.{AreGreater, IsReadyPair, IsReadyRule, PairHolds, RuleHolds, left_of, right_of};
+ghost use Rattle.wh_find_flat.specs.Lists.{lists_for};
+ghost use Rattle.wh_circuit.specs.Gates.{Means};
+ghost use Rattle.wh_flat.specs.Worth.{IsAtLeast, constant_of};
 
 use crate::bits::Bits;
 use crate::sides::{require_pair, require_rule};
@@ -50,13 +52,111 @@ fn place(marked: &[u32], symbol: u32) -> usize
 }
 
 // A symbol applied to arguments.
-fn call(alloc: Global, symbol: u32, arguments: &Terms) -> Result<Term, AllocError>
-    ensures { IfOk result (λ made. tm made ≡ spine (fun symbol) (map tm arguments.now)) }
+fn call(alloc: Global, symbol: u32, arguments: &Terms) -> Result<Box<Term>, AllocError>
+    ensures { IfOk result (λ made. tm made.value ≡ spine (fun symbol) (map tm arguments.now)) }
 {
-    let mut made = Term::Fun(symbol);
+    let mut made = Box::new(alloc, Term::Fun(symbol))?;
     for argument in arguments.as_slice() {
-        let last = copy_term(alloc, argument)?;
-        made = Term::App(Box::new(alloc, made)?, Box::new(alloc, last)?);
+        let last = Box::new(alloc, copy_term(alloc, argument)?)?;
+        made = Box::new(alloc, Term::App(made, last))?;
     }
     Ok(made)
+}
+
+// The left side of each rule has to be at least the right one.
+fn require_rules(
+    alloc: Global,
+    circuit: &mut Circuit,
+    bits: &Bits,
+    rules: &[Rule],
+) -> Result<(), AllocError>
+    requires ready { (r : RewriteRule) → Contains (rewrite_rules rules.now) r → IsReadyRule r }
+    requires inputs { bits_in bits.now.sizes.items ≤ length (gates_of circuit.old) }
+    requires room { length (gates_of circuit.old) + 147254 * sum_by rule_occurrences (rewrite_rules rules.now) < 2 ^ 31 }
+    ensures asks { OnOk result (Asks circuit.old circuit.new
+        (λ v. (k : ℕ) → k < length rules.now → RuleHolds bits.now.sizes.items (rewrite_rules rules.now) v k)) }
+    ensures few { OnOk result (length (gates_of circuit.new) + 261862 * length rules.now
+        ≤ length (gates_of circuit.old) + 147254 * sum_by rule_occurrences (rewrite_rules rules.now)) }
+{
+    for rule in rules {
+        let metas = rule.metas.as_slice().len();
+        require_rule(alloc, circuit, bits, metas, &rule.left, &rule.right)?;
+    }
+    Ok(())
+}
+
+/// A set of pairs whose marked symbols are numbered.
+#[derive(Clone, Copy)]
+struct Calls<'a> {
+    pairs: &'a [Pair],
+    set: &'a [u32],
+    marked: &'a [u32],
+    first: u32,
+}
+
+// So it is of each pair of the set; the wires are true exactly where the constant on the left is greater.
+fn require_pairs<'a>(
+    alloc: Global,
+    circuit: &mut Circuit,
+    bits: &Bits,
+    calls: &Calls<'a>,
+) -> Result<Vec<Wire>, AllocError>
+    requires within { All (λ n. n < length calls.now.pairs.now) calls.now.set.now }
+    requires ready { (p : PairData) → InSet (map pair_data calls.now.pairs.now) calls.now.set.now p
+        → IsReadyPair calls.now.first calls.now.marked.now p }
+    requires numbers { calls.now.first + length calls.now.marked.now < 2 ^ 32 }
+    requires inputs { bits_in bits.now.sizes.items ≤ length (gates_of circuit.old) }
+    requires room { length (gates_of circuit.old)
+        + 147254 * sum_by (occurrences_at (map pair_data calls.now.pairs.now)) calls.now.set.now < 2 ^ 31 }
+    ensures asks { OnOk result (Asks circuit.old circuit.new (λ v. (k : ℕ) → k < length calls.now.set.now
+        → PairHolds bits.now.sizes.items calls.now.first calls.now.marked.now (map pair_data calls.now.pairs.now) calls.now.set.now v k)) }
+    ensures few { OnOk result (length (gates_of circuit.new) + 261862 * length calls.now.set.now
+        ≤ length (gates_of circuit.old) + 147254 * sum_by (occurrences_at (map pair_data calls.now.pairs.now)) calls.now.set.now) }
+    ensures greater { IfOk result (λ made. AreGreater bits.now.sizes.items calls.now.first calls.now.marked.now
+        (map pair_data calls.now.pairs.now) calls.now.set.now (gates_of circuit.new) made.items) }
+{
+    let mut greater = Vec::new(alloc);
+    for number in calls.set {
+        let pair = &calls.pairs[*number as usize];
+        let wire = require_call(alloc, circuit, bits, calls, pair)?;
+        greater.push(wire)?;
+    }
+    Ok(greater)
+}
+
+// The same of a pair.
+fn require_call<'a>(
+    alloc: Global,
+    circuit: &mut Circuit,
+    bits: &Bits,
+    calls: &Calls<'a>,
+    pair: &Pair,
+) -> Result<Wire, AllocError>
+    requires ready { IsReadyPair calls.now.first calls.now.marked.now (pair_data pair.now) }
+    requires numbers { calls.now.first + length calls.now.marked.now < 2 ^ 32 }
+    requires inputs { bits_in bits.now.sizes.items ≤ length (gates_of circuit.old) }
+    requires room { length (gates_of circuit.old) + 147254 * pair_occurrences (pair_data pair.now) < 2 ^ 31 }
+    ensures asks { OnOk result (Asks circuit.old circuit.new (λ v. IsAtLeast (lists_for bits.now.sizes.items v)
+        (left_of calls.now.first calls.now.marked.now (pair_data pair.now))
+        (right_of calls.now.first calls.now.marked.now (pair_data pair.now)))) }
+    ensures few { OnOk result (length (gates_of circuit.new) + 261862
+        ≤ length (gates_of circuit.old) + 147254 * pair_occurrences (pair_data pair.now)) }
+    ensures means { IfOk result (λ made. Means (gates_of circuit.new) made (λ v. nat_lt
+        (constant_of (lists_for bits.now.sizes.items v) (right_of calls.now.first calls.now.marked.now (pair_data pair.now)))
+        (constant_of (lists_for bits.now.sizes.items v) (left_of calls.now.first calls.now.marked.now (pair_data pair.now))))) }
+{
+    let left = call(alloc, calls.number(pair.left_fun), &pair.left)?;
+    let right = call(alloc, calls.number(pair.right_fun), &pair.right)?;
+    let metas = pair.metas.as_slice().len();
+    require_pair(alloc, circuit, bits, metas, &left, &right)
+}
+
+impl<'a> Calls<'a> {
+    // The number of the marked symbol of a symbol.
+    fn number(&self, symbol: u32) -> u32
+        requires { self.now.first + length self.now.marked.now < 2 ^ 32 }
+        ensures { result ≡ self.now.first + place_among self.now.marked.now symbol }
+    {
+        self.first + place(self.marked, symbol) as u32
+    }
 }

@@ -104,7 +104,7 @@ fn meta_value(
     ensures value { (sizes : List ℕ) → IfOk result (IsValue sizes part (gates_of circuit.new) (meta number none)) }
 {
     let mut wires = Vec::new(alloc);
-    if matches!(part, Part::Factor(asked) if asked == number) {
+    if matches!(part, Part::Factor(asked) if asked == number as usize) {
         wires.push(circuit.and(&[])?)?;
     }
     Ok(Value {

@@ -6,5 +6,5 @@ pub enum Part {
     /// Its constant.
     Constant,
     /// The factor of the meta-variable with this number.
-    Factor(u32),
+    Factor(usize),
 }

@@ -27,7 +27,7 @@ pub fn require_rule(
     alloc: Global,
     circuit: &mut Circuit,
     bits: &Bits,
-    metas: u32,
+    metas: usize,
     left: &Term,
     right: &Term,
 ) -> Result<(), AllocError>
@@ -49,7 +49,7 @@ pub fn require_pair(
     alloc: Global,
     circuit: &mut Circuit,
     bits: &Bits,
-    metas: u32,
+    metas: usize,
     left: &Term,
     right: &Term,
 ) -> Result<Wire, AllocError>
@@ -123,7 +123,7 @@ fn require_factors(
     alloc: Global,
     circuit: &mut Circuit,
     bits: &Bits,
-    metas: u32,
+    metas: usize,
     left: &Term,
     right: &Term,
 ) -> Result<(), AllocError>
