@@ -11,4 +11,5 @@ mod hints;
 mod numbers;
 mod search;
 
+pub use bits::{first_bits, lists_by};
 pub use search::find_by_guesses;

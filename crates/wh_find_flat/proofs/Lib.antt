@@ -7,3 +7,4 @@ pub mod AskLemmas
 pub mod Loops
 pub mod ProductLemmas
 pub mod Applied
+pub mod Whole

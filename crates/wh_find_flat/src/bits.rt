@@ -16,8 +16,16 @@ pub struct Bits {
 }
 
 impl Bits {
-    ghost use Rattle.std.specs.Prelude.{MatchOption};
+    ghost use Rattle.std.specs.Prelude.{◌≡◌, MatchOption};
+    ghost use Rattle.wh_blocking.specs.Sizes.{bits_in};
     ghost use Rattle.wh_find_flat.specs.Lists.{IsAbsent, IsWrittenAt};
+
+    /// How many bits there are.
+    pub fn count(&self) -> usize
+        ensures { result ≡ bits_in self.now.sizes.items }
+    {
+        self.firsts[self.sizes.len()] as usize
+    }
 
     /// The first of the two bits of a coefficient, if there is such a one.
     pub fn of_coefficient(&self, number: usize, place: usize) -> Option<u32>

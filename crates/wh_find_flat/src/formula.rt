@@ -9,10 +9,10 @@ ghost use Rattle.wh_pairs.specs.Sets.{InSet};
 ghost use Rattle.wh_system.specs.SystemView.{system_data};
 ghost use Rattle.wh_blocking.specs.Sizes.{bits_in};
 ghost use Rattle.wh_circuit.specs.State.{gates_of, required_of};
-ghost use Rattle.wh_flat.specs.Flat.{occurrences_at, pair_occurrences, rule_occurrences};
+ghost use Rattle.wh_flat.specs.Flat.{all_occurrences, most_in_all, occurrences_at, pair_occurrences, rule_occurrences};
 ghost use Rattle.wh_flat.specs.Dominance.{place_among};
 ghost use Rattle.wh_find_flat.specs.Numbers.{AreInputs, Asks};
-ghost use Rattle.wh_find_flat.specs.Ready.{AreGreater, IsReadyPair, IsReadyRule, PairHolds, RuleHolds, left_of, right_of};
+ghost use Rattle.wh_find_flat.specs.Ready.{AreGreater, IsFlatCircuit, IsReadyPair, IsReadyRule, PairHolds, RuleHolds, left_of, right_of};
 ghost use Rattle.wh_find_flat.specs.Lists.{lists_for};
 ghost use Rattle.wh_circuit.specs.Gates.{Means};
 ghost use Rattle.wh_flat.specs.Worth.{IsAtLeast, constant_of};
@@ -159,4 +159,41 @@ impl<'a> Calls<'a> {
     {
         self.first + place(self.marked, symbol) as u32
     }
+}
+
+/// The circuit of a flat set: its first variables are the bits of all coefficients, and what is required of it is that these let a pair of
+/// the set go.
+pub fn circuit_of<'a>(
+    alloc: Global,
+    task: &Task<'a>,
+    marked: &[u32],
+    bits: &Bits,
+) -> Result<Circuit, AllocError>
+    requires within { All (λ n. n < length task.now.pairs.now) task.now.set.now }
+    requires rules { (r : RewriteRule) → Contains (system_data task.now.system.now).rules r → IsReadyRule r }
+    requires pairs { (p : PairData) → InSet (map pair_data task.now.pairs.now) task.now.set.now p
+        → IsReadyPair (length (system_data task.now.system.now).symbols.funs) marked.now p }
+    requires some { (1 ≤ length (system_data task.now.system.now).rules) × (1 ≤ length task.now.set.now) }
+    requires numbers { length marked.now ≤ 1024 }
+    requires bits { bits_in bits.now.sizes.items ≤ 659456 }
+    requires few { all_occurrences (system_data task.now.system.now).rules (map pair_data task.now.pairs.now) task.now.set.now ≤ most_in_all }
+    ensures circuit { IfOk result (IsFlatCircuit bits.now.sizes.items (system_data task.now.system.now).symbols
+        (system_data task.now.system.now).rules (map pair_data task.now.pairs.now) task.now.set.now marked.now
+        (bits_in bits.now.sizes.items)) }
+    ensures few { IfOk result (λ made. length (gates_of made)
+        ≤ 200000 * all_occurrences (system_data task.now.system.now).rules (map pair_data task.now.pairs.now) task.now.set.now) }
+{
+    task.system.is_well_made();
+    let mut circuit = inputs(alloc, bits.count())?;
+    require_rules(alloc, &mut circuit, bits, task.system.rules())?;
+    let calls = Calls {
+        pairs: task.pairs,
+        set: task.set,
+        marked,
+        first: task.system.fun_names().len() as u32,
+    };
+    let greater = require_pairs(alloc, &mut circuit, bits, &calls)?;
+    let some = circuit.or(&greater)?;
+    circuit.require(some)?;
+    Ok(circuit)
 }
