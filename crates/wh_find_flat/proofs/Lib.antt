@@ -8,3 +8,5 @@ pub mod Loops
 pub mod ProductLemmas
 pub mod Applied
 pub mod Whole
+pub mod Flattened
+pub mod Formulas

@@ -4,3 +4,4 @@ pub mod Lists
 pub mod Products
 pub mod Numbers
 pub mod Ready
+pub mod Answers
