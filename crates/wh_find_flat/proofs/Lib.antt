@@ -10,3 +10,4 @@ pub mod Applied
 pub mod Whole
 pub mod Flattened
 pub mod Formulas
+pub mod Ended

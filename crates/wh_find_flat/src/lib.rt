@@ -3,6 +3,7 @@
 
 mod bits;
 mod compared;
+mod find;
 mod formula;
 mod numbers;
 mod part;
@@ -11,3 +12,5 @@ mod rows;
 mod sides;
 mod stands;
 mod value;
+
+pub use find::find_by_circuit;
