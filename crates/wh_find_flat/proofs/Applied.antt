@@ -1,10 +1,8 @@
 -- What gates tell of trees stays, and the value of a tree that is applied to one more argument.
-use Rattle.std.proofs.Common.{◌≡◌, ℕ, zero, suc, ◌+◌, ◌-◌, ◌*◌, ◌^◌, ◌<◌, ◌≤◌, Bool, List, Option, Some, None, MatchOption, length, refl, ap, ap₂, sym, subst, ◌∙◌, arith}
-use Rattle.wh_terms.specs.Tree.{Tm, fun, meta, app, none, more, Tms}
-use Rattle.wh_terms.specs.Erase.{tm}
+use Rattle.std.proofs.Common.{◌≡◌, ℕ, suc, ◌+◌, ◌-◌, ◌*◌, ◌^◌, ◌<◌, Bool, List, Option, Some, None, MatchOption, refl, ap, ap₂, sym, subst, ◌∙◌, arith}
+use Rattle.wh_terms.specs.Tree.{Tm, meta, app, none, more, Tms}
 use Rattle.wh_circuit.specs.declared.circuit.Circuit.{Circuit}
 use Rattle.wh_circuit.specs.declared.circuit.Gate.{Gate}
-use Rattle.wh_circuit.specs.Gates.{Agrees}
 use Rattle.wh_circuit.specs.Values.{number_of}
 use Rattle.wh_flat.specs.Flat.{occurrences}
 use Rattle.wh_flat.specs.Worth.{coefficient, symbol_in, places_in}
@@ -43,20 +41,20 @@ applied_value sizes part before after t u front last made o l pt pu it iu found 
   means = record {
     own = product.own;
     is = λ v a. (
-      let early = agrees_early before after v l a in
-      let x = it.means.is v early in
-      let y = iu.means.is v early in
-      let j : front.places + 1 ≡ suc (places_in t) = (let e = it.places_are in omega (arith, e)) in
-      let c : digit_by o v ≡ coefficient (lists_for sizes v) (symbol_in t) (suc (places_in t)) =
-      told sizes front.symbol (front.places + 1) o found v ∙ ap₂ (λ n j. coefficient (lists_for sizes v) n j) it.symbol_is j in
-      let sum : number_of v front.wires.items + digit_by o v * number_of v last.wires.items ≡ number_at part (lists_for sizes v) (app t u) =
-      ap₂ (λ a b. a + digit_by o v * b) x y
-      ∙ ap (λ d. number_at part (lists_for sizes v) t + d * number_at part (lists_for sizes v) u) c in
-      let room : 2 * (front.occurrences + last.occurrences) ≡ 2 * occurrences (app t u) =
-      (let e = it.occurrences_are in let f = iu.occurrences_are in omega (arith, e, f)) in
-      let small : number_at part (lists_for sizes v) (app t u) < 2 ^ (2 * (front.occurrences + last.occurrences)) =
-      subst (λ k. number_at part (lists_for sizes v) (app t u) < 2 ^ k) (sym room) (number_small part (lists_for sizes v) (app t u) (pt, pu)) in
-      product.is v a (subst (λ n. n < 2 ^ (2 * (front.occurrences + last.occurrences))) (sym sum) small) ∙ sum);
+        let early = agrees_early before after v l a in
+        let x = it.means.is v early in
+        let y = iu.means.is v early in
+        let j : front.places + 1 ≡ suc (places_in t) = (let e = it.places_are in omega (arith, e)) in
+        let c : digit_by o v ≡ coefficient (lists_for sizes v) (symbol_in t) (suc (places_in t)) =
+        told sizes front.symbol (front.places + 1) o found v ∙ ap₂ (λ n j. coefficient (lists_for sizes v) n j) it.symbol_is j in
+        let sum : number_of v front.wires.items + digit_by o v * number_of v last.wires.items ≡ number_at part (lists_for sizes v) (app t u) =
+        ap₂ (λ a b. a + digit_by o v * b) x y
+        ∙ ap (λ d. number_at part (lists_for sizes v) t + d * number_at part (lists_for sizes v) u) c in
+        let room : 2 * (front.occurrences + last.occurrences) ≡ 2 * occurrences (app t u) =
+        (let e = it.occurrences_are in let f = iu.occurrences_are in omega (arith, e, f)) in
+        let small : number_at part (lists_for sizes v) (app t u) < 2 ^ (2 * (front.occurrences + last.occurrences)) =
+        subst (λ k. number_at part (lists_for sizes v) (app t u) < 2 ^ k) (sym room) (number_small part (lists_for sizes v) (app t u) (pt, pu)) in
+        product.is v a (subst (λ n. n < 2 ^ (2 * (front.occurrences + last.occurrences))) (sym sum) small) ∙ sum);
   };
   width = (let w = product.narrow in omega (arith, w, many));
   occurrences_are = (let e = it.occurrences_are in let f = iu.occurrences_are in omega (arith, e, f, many));

@@ -1,9 +1,8 @@
 -- What is required, one thing after another.
-use Rattle.std.proofs.Common.{◌≡◌, ℕ, ◌+◌, ◌*◌, ◌<◌, ◌≤◌, ◌&&◌, nat_lt, not, Bool, true, false, List, [], ◌∷◌, ◌++◌, length, refl, ap, sym, subst, ◌∙◌, arith, tests, below_more}
+use Rattle.std.proofs.Common.{◌≡◌, ℕ, ◌+◌, ◌<◌, ◌&&◌, Bool, true, List, [], ◌∷◌, ◌++◌, ap, sym, subst, ◌∙◌, arith, tests, below_more}
 use Rattle.wh_sat_trail.specs.declared.literal.Literal.{Literal}
 use Rattle.wh_sat.specs.Solving.{literal_true}
 use Rattle.wh_circuit.specs.declared.circuit.Circuit.{Circuit}
-use Rattle.wh_circuit.specs.declared.circuit.Gate.{Gate}
 use Rattle.wh_circuit.specs.Gates.{Agrees, Means}
 use Rattle.wh_circuit.specs.State.{gates_of, required_of}
 use Rattle.wh_circuit.specs.Values.{all_true}
@@ -37,12 +36,12 @@ asks_wire a b c w stated P l same gates more means there back =
     record {
       gates = subst (Later (gates_of a)) (sym gates) l;
       met = λ v h t. (
-        let k = subst (λ gs. Agrees gs v) gates h in
-        let e = sym (all_true_push v (required_of a) w) ∙ sym (ap (all_true v) is) ∙ t in
-        (left_of (all_true v (required_of a)) (literal_true v w) e, there v k (sym (means.is v k) ∙ right_of (all_true v (required_of a)) (literal_true v w) e)));
+          let k = subst (λ gs. Agrees gs v) gates h in
+          let e = sym (all_true_push v (required_of a) w) ∙ sym (ap (all_true v) is) ∙ t in
+          (left_of (all_true v (required_of a)) (literal_true v w) e, there v k (sym (means.is v k) ∙ right_of (all_true v (required_of a)) (literal_true v w) e)));
       asks = λ v h t p. (
-        let k = subst (λ gs. Agrees gs v) gates h in
-        ap (all_true v) is ∙ all_true_push v (required_of a) w ∙ both t (means.is v k ∙ back v k p));
+          let k = subst (λ gs. Agrees gs v) gates h in
+          ap (all_true v) is ∙ all_true_push v (required_of a) w ∙ both t (means.is v k ∙ back v k p));
     }
 
 pub asks_then : (a b c : Circuit) (P Q R : (ℕ → Bool) → Type 0) → Asks a b P → Asks b c Q → ((v : ℕ → Bool) → Agrees (gates_of c) v → P v → Q v → R v)
@@ -50,9 +49,9 @@ pub asks_then : (a b c : Circuit) (P Q R : (ℕ → Bool) → Type 0) → Asks a
 asks_then a b c P Q R g h into first second = record {
   gates = later_then (gates_of a) (gates_of b) (gates_of c) g.gates h.gates;
   met = λ v k t. (
-    let e = h.met v k t in
-    let d = g.met v (agrees_early (gates_of b) (gates_of c) v h.gates k) e.0 in
-    (d.0, into v k d.1 e.1));
+      let e = h.met v k t in
+      let d = g.met v (agrees_early (gates_of b) (gates_of c) v h.gates k) e.0 in
+      (d.0, into v k d.1 e.1));
   asks = λ v k t r. h.asks v k (g.asks v (agrees_early (gates_of b) (gates_of c) v h.gates k) t (first v k r)) (second v k r);
 }
 

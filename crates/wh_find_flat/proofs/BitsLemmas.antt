@@ -1,11 +1,10 @@
 -- Coefficients that bits write, one by one.
-use Rattle.std.proofs.Common.{◌≡◌, ℕ, zero, suc, ◌+◌, ◌*◌, ◌^◌, ◌<◌, ◌≤◌, Bool, true, false, if◌then◌else◌, List, [], ◌∷◌, length, get_or, refl, ap, sym, subst, ◌∙◌, arith}
+use Rattle.std.proofs.Common.{◌≡◌, ℕ, zero, suc, ◌+◌, ◌*◌, ◌^◌, ◌<◌, ◌≤◌, Bool, true, false, if◌then◌else◌, List, [], ◌∷◌, length, get_or, refl, ap, ◌∙◌, arith}
 use Rattle.wh_space.specs.Coefficients.{capped}
 use Rattle.wh_blocking.specs.Bits.{digit, digits}
 use Rattle.wh_blocking.specs.Sizes.{bits_in, first_of, lists_of}
 use Rattle.wh_blocking.proofs.BitLemmas.{first_next, first_within}
-use Rattle.wh_flat.specs.Worth.{coefficient}
-use Rattle.wh_find_flat.specs.Lists.{lists_for, IsAbsent, IsWrittenAt}
+use Rattle.wh_find_flat.specs.Lists.{IsAbsent, IsWrittenAt}
 
 list_at : (v : ℕ → Bool) (x : ℕ) (sizes : List ℕ) (n : ℕ) → n < length sizes
     → get_or (lists_of v x sizes) n [] ≡ digits v (x + first_of sizes n) (get_or sizes n 0)

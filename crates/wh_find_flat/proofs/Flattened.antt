@@ -1,16 +1,16 @@
 -- The sides of a flat set are plain.
-use Rattle.std.proofs.Common.{◌≡◌, ◌⊎◌, inl, inr, ℕ, zero, suc, ◌+◌, ◌<◌, ◌≤◌, ◌==◌, ◌||◌, Bool, true, false, List, [], ◌∷◌, length, Some, slice_get, Contains, refl, ap, sym, subst, ◌∙◌, arith, tests}
+use Rattle.std.proofs.Common.{◌≡◌, ◌⊎◌, inl, inr, ℕ, ◌+◌, ◌<◌, ◌||◌, Bool, true, false, List, [], ◌∷◌, length, refl, arith, tests}
 use Rattle.std.proofs.lemmas.Option.{slice_get_within}
 use Rattle.wh_types.specs.Ty.{sort}
-use Rattle.wh_terms.specs.Tree.{Tm, bound, free, fun, meta, lam, app, Tms, none, more, tms_of, spine}
+use Rattle.wh_terms.specs.Tree.{Tm, bound, free, fun, meta, lam, app, none, more, spine}
 use Rattle.wh_terms.specs.Typing.{Symbols, Declared}
 use Rattle.wh_terms.specs.Rules.{RewriteRule}
 use Rattle.wh_pairs.specs.PairData.{PairData}
-use Rattle.wh_flat.specs.Flat.{IsFlatTree, AreFlatTrees, IsFlatRule, IsFlatPair, occurrences}
+use Rattle.wh_flat.specs.Flat.{IsFlatTree, AreFlatTrees, IsFlatRule, IsFlatPair}
 use Rattle.wh_flat.proofs.Sides.{spine_occurrences}
 use Rattle.wh_flat.specs.Dominance.{place_among}
-use Rattle.wh_find_flat.specs.Plain.{IsPlain, ArePlainSides, stands_in}
-use Rattle.wh_find_flat.specs.Ready.{AreReady, IsReadyRule, IsReadyPair, call_of}
+use Rattle.wh_find_flat.specs.Plain.{IsPlain, stands_in}
+use Rattle.wh_find_flat.specs.Ready.{IsReadyRule, IsReadyPair}
 
 one_of : (a b : Bool) → a || b ≡ true → (a ≡ true) ⊎ (b ≡ true)
 one_of true b e = inl refl
@@ -48,7 +48,7 @@ module _ (S : Symbols) (M : List Declared) where
       → stands_in z (spine h ts) ≡ true → z < length M
   spine_bounded z h [] p f e = p e
   spine_bounded z h (t ∷ ts) p f e = spine_bounded z (app h t) ts
-      (λ q. elim (one_of (stands_in z h) (stands_in z t) q) [ | inl l ↦ p l | inr r ↦ tree_bounded z t f.0 r ]) f.1 e
+      (λ q. elim (one_of (stands_in z h) (stands_in z t) q) [ inl l ↦ p l | inr r ↦ tree_bounded z t f.0 r ]) f.1 e
 
 pub ready_rule : (S : Symbols) (r : RewriteRule) → IsFlatRule S r → IsReadyRule r
 ready_rule S r f = record {

@@ -19,7 +19,7 @@ use Rattle.wh_circuit.proofs.Carrying.{values_exist_law}
 use Rattle.wh_space.specs.Space.{space_of}
 use Rattle.wh_guesses.specs.Coefficients.{scopes_of, AreOfSpace, HaveCoefficients}
 use Rattle.wh_guesses.specs.Conditions.{LetsGo}
-use Rattle.wh_blocking.specs.Bits.{digit, digits, lists_by}
+use Rattle.wh_blocking.specs.Bits.{digits, lists_by}
 use Rattle.wh_blocking.specs.Sizes.{bits_in, lists_of}
 use Rattle.wh_blocking.specs.Tried.{AreWritten}
 use Rattle.wh_blocking.proofs.EncodingLemmas.{lists_same}

@@ -1,12 +1,12 @@
 -- Circuits that grow.
-use Rattle.std.proofs.Common.{◌≡◌, ℕ, ◌+◌, ◌<◌, ◌≤◌, Bool, List, [], ◌∷◌, length, take, slice_get, Result, Ok, Err, IfOk, OnOk, refl, sym, ◌∙◌, ap, subst, arith}
+use Rattle.std.proofs.Common.{◌≡◌, ℕ, ◌+◌, ◌≤◌, Bool, List, [], ◌∷◌, length, take, Result, Ok, Err, IfOk, OnOk, refl, ◌∙◌, ap, arith}
 use Rattle.std.proofs.lemmas.Option.{slice_get_within}
 use Rattle.std.specs.declared.alloc.AllocError.{AllocError}
 use Rattle.wh_sat_trail.specs.declared.literal.Literal.{Literal}
 use Rattle.wh_circuit.specs.declared.circuit.Circuit.{Circuit}
 use Rattle.wh_circuit.specs.declared.circuit.Gate.{Gate}
-use Rattle.wh_circuit.specs.Gates.{Agrees, AreWires, Extends, Means, MeansNumber}
-use Rattle.wh_circuit.specs.State.{Grows, gates_of, required_of}
+use Rattle.wh_circuit.specs.Gates.{Agrees, AreWires, Means, MeansNumber}
+use Rattle.wh_circuit.specs.State.{Grows, gates_of}
 use Rattle.wh_circuit.proofs.Gating.{below_more}
 use Rattle.wh_circuit.proofs.Growing.{agrees_before, extends_then, means_later}
 use Rattle.wh_find_flat.specs.Numbers.{Later, Builds}

@@ -1,5 +1,5 @@
 -- Rules and pairs one after another.
-use Rattle.std.proofs.Common.{◌≡◌, ℕ, zero, suc, ◌+◌, ◌*◌, ◌<◌, ◌≤◌, ◌==◌, if◌then◌else◌, nat_lt, ◌⊎◌, inl, inr, Bool, true, false, List, [], ◌∷◌, ◌++◌, length, take, drop, get_or, map, sum_by, Some, slice_get, refl, ap, ap₂, sym, subst, ◌∙◌, arith, tests}
+use Rattle.std.proofs.Common.{◌≡◌, ℕ, zero, suc, ◌+◌, ◌<◌, ◌≤◌, ◌==◌, if◌then◌else◌, nat_lt, ◌⊎◌, inl, inr, Bool, true, false, List, [], ◌∷◌, ◌++◌, length, take, get_or, map, sum_by, Some, slice_get, refl, ap, sym, subst, ◌∙◌, arith, tests}
 use Rattle.std.proofs.lemmas.Option.{none-some, same_Some}
 use Rattle.std.proofs.lemmas.Bool.{cases_eq}
 use Rattle.std.proofs.lemmas.List.Sums.{sum_by-cons}
@@ -11,7 +11,6 @@ use Rattle.wh_pairs.proofs.ByPlace.{some_one}
 use Rattle.wh_circuit.specs.declared.circuit.Circuit.{Circuit}
 use Rattle.wh_circuit.specs.declared.circuit.Gate.{Gate}
 use Rattle.wh_circuit.specs.Gates.{Means}
-use Rattle.wh_circuit.specs.State.{gates_of}
 use Rattle.wh_circuit.proofs.Gating.{at_left, at_last}
 use Rattle.wh_flat.specs.Worth.{IsAtLeast, constant_of}
 use Rattle.wh_flat.specs.Dominance.{place_among}

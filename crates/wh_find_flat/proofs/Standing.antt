@@ -1,9 +1,9 @@
 -- Meta-variables that stand in plain trees.
-use Rattle.std.proofs.Common.{◌≡◌, ℕ, zero, suc, ◌+◌, ◌*◌, ◌-◌, ◌<◌, ◌≤◌, ◌==◌, ◌||◌, if◌then◌else◌, inl, inr, Bool, true, false, List, add-one, refl, ap, ap₂, sym, subst, ◌∙◌, arith, tests}
-use Rattle.std.proofs.Math.Nat.{mul-le-mul_left, mul-le-mul}
+use Rattle.std.proofs.Common.{◌≡◌, ℕ, zero, suc, ◌+◌, ◌*◌, ◌<◌, ◌≤◌, ◌==◌, ◌||◌, if◌then◌else◌, inl, inr, Bool, true, false, List, add-one, refl, ap, ap₂, ◌∙◌, arith, tests}
+use Rattle.std.proofs.Math.Nat.{mul-le-mul}
 use Rattle.wh_terms.specs.Tree.{Tm, Tms, bound, free, fun, meta, lam, app, none, more}
 use Rattle.wh_flat.specs.Flat.{occurrences}
-use Rattle.wh_flat.specs.Worth.{IsAtLeast, constant_of, worth, only, factor_of, coefficient, symbol_in, places_in}
+use Rattle.wh_flat.specs.Worth.{IsAtLeast, constant_of, factor_of, coefficient, symbol_in, places_in}
 use Rattle.wh_circuit.proofs.Solving.{cases_bool}
 use Rattle.wh_find_flat.specs.Plain.{IsPlain, stands_in, standing}
 

@@ -1,8 +1,7 @@
 -- The whole circuit: its requirements come to what is asked of coefficients.
-use Rattle.std.proofs.Common.{◌≡◌, ℕ, zero, suc, ◌+◌, ◌*◌, ◌<◌, ◌≤◌, ◌&&◌, ◌||◌, ◌⊎◌, nat_lt, inl, inr, Bool, true, false, List, [], ◌∷◌, ◌++◌, length, get_or, Some, slice_get, Contains, Option, sum_by, refl, ap, sym, subst, ◌∙◌, arith, tests}
+use Rattle.std.proofs.Common.{◌≡◌, ℕ, zero, suc, ◌+◌, ◌*◌, ◌<◌, ◌≤◌, nat_lt, inl, inr, Bool, true, false, List, [], ◌∷◌, ◌++◌, length, get_or, Some, slice_get, Contains, Option, sum_by, refl, ap, sym, subst, ◌∙◌, arith, tests}
 use Rattle.std.proofs.lemmas.Option.{none-some, same_Some, slice_get_within, slice_get-get_or}
 use Rattle.wh_sat_trail.specs.declared.literal.Literal.{Literal}
-use Rattle.wh_sat_trail.specs.Assignment.{AllBelow}
 use Rattle.wh_sat.specs.Solving.{clause_true, literal_true}
 use Rattle.wh_terms.specs.Typing.{Symbols}
 use Rattle.wh_terms.specs.Rules.{RewriteRule}
@@ -14,18 +13,18 @@ use Rattle.wh_flat.specs.Flat.{all_occurrences, occurrences_at, pair_occurrences
 use Rattle.wh_pairs.proofs.ByPlace.{contains_at, place_of, some_one}
 use Rattle.wh_circuit.specs.declared.circuit.Circuit.{Circuit}
 use Rattle.wh_circuit.specs.declared.circuit.Gate.{Gate}
-use Rattle.wh_circuit.specs.Gates.{Agrees, AreWires, Extends, Means}
+use Rattle.wh_circuit.specs.Gates.{Agrees, AreWires, Means}
 use Rattle.wh_circuit.specs.State.{gates_of, required_of}
 use Rattle.wh_circuit.specs.Values.{all_true}
-use Rattle.wh_circuit.proofs.Gating.{slice_get_take, slice_get_front}
+use Rattle.wh_circuit.proofs.Gating.{slice_get_front}
 use Rattle.wh_circuit.proofs.Solving.{cases_bool}
-use Rattle.wh_flat.specs.Worth.{IsAtLeast, IsGreater, constant_of}
+use Rattle.wh_flat.specs.Worth.{IsGreater, constant_of}
 use Rattle.wh_flat.specs.Dominance.{LetsGoBy}
 use Rattle.wh_find_flat.specs.Lists.{lists_for}
 use Rattle.wh_find_flat.specs.Numbers.{Later, AreInputs, Asks, Builds}
-use Rattle.wh_find_flat.specs.Ready.{AreGreater, IsFlatCircuit, IsReadyRule, PairHolds, RuleHolds, TellsGreater, left_of, right_of}
+use Rattle.wh_find_flat.specs.Ready.{AreGreater, IsFlatCircuit, IsReadyRule, PairHolds, RuleHolds, left_of, right_of}
 use Rattle.wh_find_flat.proofs.AskLemmas.{asks_then, asks_wire}
-use Rattle.wh_find_flat.proofs.Growth.{agrees_early, later_more}
+use Rattle.wh_find_flat.proofs.Growth.{agrees_early}
 use Rattle.wh_find_flat.proofs.Small.{occurs_some}
 
 inputs_stay : (count : ℕ) (xs ys : List Gate) → Later xs ys → AreInputs count xs → AreInputs count ys
@@ -80,7 +79,6 @@ IsSomeGreater sizes first marked pairs set v =
 
 module _ (sizes : List ℕ) (S : Symbols) (rules : List RewriteRule) (pairs : List PairData) (set marked : List ℕ)
     (within : (k : ℕ) → k < length set → get_or set k 0 < length pairs) where
-
   module _ (gates : List Gate) (wires : List Literal) (are : AreGreater sizes (length S.funs) marked pairs set gates wires) where
     some_of : (v : ℕ → Bool) → Agrees gates v → clause_true v wires ≡ true → IsSomeGreater sizes (length S.funs) marked pairs set v
     some_of v a h =
@@ -89,9 +87,12 @@ module _ (sizes : List ℕ) (S : Symbols) (rules : List RewriteRule) (pairs : Li
         let n = get_or set k 0 in
         let si = slice_get-get_or set k 0 less in
         let (p, there) = pair_there pairs n (within k less) in
-        let m = are.each k w at n p si there in
-        (p, (n, contains_at set k n si, there), less_of (constant_of (lists_for sizes v) (right_of (length S.funs) marked p))
-        (constant_of (lists_for sizes v) (left_of (length S.funs) marked p)) (sym (m.is v a) ∙ is))
+        let m = are.each k w at n p si there in (
+          p,
+          (n, contains_at set k n si, there),
+          less_of (constant_of (lists_for sizes v) (right_of (length S.funs) marked p))
+              (constant_of (lists_for sizes v) (left_of (length S.funs) marked p)) (sym (m.is v a) ∙ is),
+        )
 
     of_some : (v : ℕ → Bool) → Agrees gates v → IsSomeGreater sizes (length S.funs) marked pairs set v → clause_true v wires ≡ true
     of_some v a (p, (n, c, there), g) =
@@ -149,11 +150,11 @@ pub many_occurrences : (rules : List RewriteRule) (pairs : List PairData) (set :
     → 2 * (length rules + length set) ≤ all_occurrences rules pairs set
 many_occurrences rules pairs set ready within =
     let a = least_sum rule_occurrences rules (λ r c. (let p = (ready r c).plain in
-        let x = occurs_some r.left p.left_plain in let y = occurs_some r.right p.right_plain in omega (arith, x, y))) in
+    let x = occurs_some r.left p.left_plain in let y = occurs_some r.right p.right_plain in omega (arith, x, y))) in
     let b = least_sum (occurrences_at pairs) set (λ n c. (let (k, at) = place_of set n c in
-        let less = slice_get_within set k n at in
-        let same : get_or set k 0 ≡ n = some_one (slice_get-get_or set k 0 less) at in
-        let (p, there) = pair_there pairs n (subst (λ n. n < length pairs) same (within k less)) in
-        let e : occurrences_at pairs n ≡ pair_occurrences p = ap (λ (o : Option PairData). option_map_or pair_occurrences o 0) there in
-        omega (arith, e))) in
+    let less = slice_get_within set k n at in
+    let same : get_or set k 0 ≡ n = some_one (slice_get-get_or set k 0 less) at in
+    let (p, there) = pair_there pairs n (subst (λ n. n < length pairs) same (within k less)) in
+    let e : occurrences_at pairs n ≡ pair_occurrences p = ap (λ (o : Option PairData). option_map_or pair_occurrences o 0) there in
+    omega (arith, e))) in
     omega (arith, a, b)

@@ -1,5 +1,5 @@
 -- The coefficients that bits write, by how many each symbol has.
-use Rattle.std.specs.Prelude.{ℕ, suc, ◌+◌, ◌*◌, ◌<◌, ◌≡◌, Bool, List}
+use Rattle.std.specs.Prelude.{ℕ, suc, ◌<◌, ◌≡◌, Bool, List}
 use Rattle.wh_blocking.specs.Bits.{digit}
 use Rattle.wh_blocking.specs.Sizes.{lists_of, bits_in}
 use Rattle.wh_flat.specs.Worth.{coefficient}

@@ -1,5 +1,5 @@
 -- Circuits that come to numbers of flat sides, and how they grow.
-use Rattle.std.specs.Prelude.{ℕ, ◌+◌, ◌*◌, ◌<◌, ◌≤◌, ◌≡◌, Bool, true, false, List, Some, length, slice_get}
+use Rattle.std.specs.Prelude.{ℕ, ◌+◌, ◌*◌, ◌<◌, ◌≤◌, ◌≡◌, Bool, true, List, Some, length, slice_get}
 use Rattle.wh_terms.specs.Tree.{Tm}
 use Rattle.wh_circuit.specs.declared.circuit.Circuit.{Circuit}
 use Rattle.wh_circuit.specs.declared.circuit.Gate.{Gate}

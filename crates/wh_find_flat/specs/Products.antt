@@ -1,5 +1,5 @@
 -- Sums of products with coefficients, of which the lowest bits are kept.
-use Rattle.std.specs.Prelude.{ℕ, suc, ◌+◌, ◌*◌, ◌<◌, ◌≤◌, ◌^◌, ◌≡◌, Bool, List, Option, Some, None, length}
+use Rattle.std.specs.Prelude.{ℕ, ◌+◌, ◌*◌, ◌<◌, ◌≤◌, ◌^◌, ◌≡◌, Bool, List, Option, Some, None, length}
 use Rattle.wh_sat_trail.specs.declared.literal.Literal.{Literal}
 use Rattle.wh_circuit.specs.declared.circuit.Gate.{Gate}
 use Rattle.wh_circuit.specs.Gates.{Agrees, AreWires}

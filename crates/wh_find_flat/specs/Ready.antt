@@ -1,5 +1,5 @@
 -- Rules and pairs whose sides gates are made for, and what is required of them.
-use Rattle.std.specs.Prelude.{ℕ, ◌+◌, ◌<◌, ◌≤◌, ◌≡◌, nat_lt, true, Bool, List, Some, length, slice_get}
+use Rattle.std.specs.Prelude.{ℕ, ◌+◌, ◌<◌, ◌≡◌, nat_lt, true, Bool, List, Some, length, slice_get}
 use Rattle.wh_sat_trail.specs.declared.literal.Literal.{Literal}
 use Rattle.wh_terms.specs.Tree.{Tm, fun, spine}
 use Rattle.wh_terms.specs.Typing.{Symbols}

@@ -33,12 +33,7 @@ pub fn at_least(
 }
 
 // The number with a wire that is false for higher bits, up to so many.
-fn padded(
-    alloc: Global,
-    number: &[Wire],
-    zero: Wire,
-    width: usize,
-) -> Result<Vec<Wire>, AllocError>
+fn padded(alloc: Global, number: &[Wire], zero: Wire, width: usize) -> Result<Vec<Wire>, AllocError>
     requires { length number.now ≤ width }
     ensures width { IfOk result (λ made. length made.items ≡ width) }
     ensures own { IfOk result (λ made. (n : ℕ) → AllBelow n number.now → zero.variable < n → AllBelow n made.items) }

@@ -37,13 +37,7 @@ pub fn with_product(
     }
     let once = with_row(alloc, circuit, sum, positive(first), number)?;
     let twice = doubled(alloc, circuit, number)?;
-    let all = with_row(
-        alloc,
-        circuit,
-        once.as_slice(),
-        positive(first + 1),
-        &twice,
-    )?;
+    let all = with_row(alloc, circuit, once.as_slice(), positive(first + 1), &twice)?;
     lowest(alloc, all.as_slice(), width)
 }
 

@@ -1,23 +1,22 @@
 -- Linear polynomials cover each other just where their coefficients are at least as great.
-use Rattle.std.proofs.Common.{◌≡◌, ◌≢◌, ℕ, zero, suc, ◌+◌, ◌*◌, ◌-◌, ◌<◌, ◌≤◌, ◌==◌, if◌then◌else◌, nat_cmp, Bool, true, false, List, [], ◌∷◌, ◌++◌, length, Contains, refl, ap, ap₂, ◌∙◌, sym, subst, arith, Ordering, Less, Equal, Greater}
+use Rattle.std.proofs.Common.{◌≡◌, ℕ, zero, suc, ◌+◌, ◌*◌, ◌<◌, ◌≤◌, ◌==◌, if◌then◌else◌, nat_cmp, Bool, true, false, List, [], ◌∷◌, Contains, refl, ap, ap₂, ◌∙◌, sym, subst, arith, Ordering, Less, Equal, Greater}
 use Rattle.std.specs.Ordering.{ordering_then}
-use Rattle.wh_types.specs.Ty.{Ty, sort, ◌⇒◌, arguments}
-use Rattle.wh_hopoly.specs.Polynomials.{Polynomial, zero_poly, plus, Factors, no_factors, times, Arguments, no_arguments, argument, HasType, compare_factors, Normal, NormalArguments, Sorted, MonomialBefore}
+use Rattle.wh_types.specs.Ty.{Ty, sort, ◌⇒◌}
+use Rattle.wh_hopoly.specs.Polynomials.{Polynomial, zero_poly, plus, Factors, no_factors, times, Arguments, no_arguments, argument, compare_factors, Normal, NormalArguments, Sorted, MonomialBefore}
 use Rattle.wh_hopoly.specs.Evaluation.{type_at}
-use Rattle.wh_hopoly.specs.Moves.{Transfer, FactorsAtLeast, MonomialAt, Good, units_at, given_by, taken_by, IsCover, IsStrictCover}
+use Rattle.wh_hopoly.specs.Moves.{Transfer, FactorsAtLeast, MonomialAt, given_by, taken_by, IsCover, IsStrictCover}
 use Rattle.wh_hopoly.specs.Rearranged.{only_if_equal, coefficient}
 use Rattle.wh_hopoly.proofs.OrderLaws.{factors_same}
 use Rattle.wh_hopoly.proofs.SumLaws.{normal_sorted}
 use Rattle.wh_hopoly.proofs.ReplaceLaws.{type_is}
-use Rattle.wh_meaning.specs.Functionals.{Sem, Mono, nothing as none_of}
+use Rattle.wh_meaning.specs.Functionals.{nothing as none_of}
 use Rattle.wh_meaning.specs.Valuations.{Valuation, MonoValuation}
 use Rattle.wh_meaning.specs.Meaning.{den, den_arguments}
 use Rattle.wh_meaning.proofs.Order.{mono_nothing}
 use Rattle.wh_meaning.proofs.Covers.{cover_den, strict_cover_den}
-use Rattle.wh_space.specs.Space.{HasMonomial}
 use Rattle.wh_guesses.proofs.Uniqueness.{coefficient_is, monomial_of, monomial_at_least}
 use Rattle.wh_flat.specs.Worth.{nothing, only}
-use Rattle.wh_flat.proofs.Totals.{IsUnit, IsLinear, weighed, total}
+use Rattle.wh_flat.proofs.Totals.{IsUnit, IsLinear, total}
 
 -- coefficients are totals
 
@@ -159,8 +158,15 @@ module _ (Γ : List Ty) (n : ℕ) (p q : Polynomial) (np : Normal Γ p) (nq : No
   covers = record {
     good = λ m c. (let (k, t, e, vs, at, g, from) = moves_good p q places 0 m c in
         let h : k ≡ m.to = omega (arith, t) in
-        record { given = g; taken = e; giver = vs; taker = vs; source = from;
-          target = subst (λ k. MonomialAt q k e vs) h at; fits = unit_fits n vs (unit_at n q k e vs lq at) });
+        record {
+          given = g;
+          taken = e;
+          giver = vs;
+          taker = vs;
+          source = from;
+          target = subst (λ k. MonomialAt q k e vs) h at;
+          fits = unit_fits n vs (unit_at n q k e vs lq at);
+        });
     not_over_spent = λ i c us at. (let a = moves_take p q places 0 i c us at in
         let b = coefficient_is Γ p c us np (i, at) in
         let e = dominated n n p q lp lq d us (unit_at n p i c us lp at) in omega (arith, a, b, e));

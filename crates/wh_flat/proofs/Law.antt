@@ -1,39 +1,38 @@
 -- The law of flat sets: interpretations of the space let a pair go just where their coefficients do by what the sides are worth.
 use mathlib.Core.Path.{subst₂}
-use Rattle.std.proofs.Common.{◌≡◌, inl, inr, ℕ, zero, suc, ◌+◌, ◌*◌, ◌<◌, ◌≤◌, ◌==◌, if◌then◌else◌, Bool, true, false, List, [], ◌∷◌, ◌++◌, length, map, take, get_or, unwrap_or, Some, slice_get, Contains, refl, ap, ap₂, ◌∙◌, sym, subst, arith}
+use Rattle.std.proofs.Common.{◌≡◌, inl, inr, ℕ, zero, suc, ◌+◌, ◌≤◌, ◌==◌, if◌then◌else◌, true, false, List, [], ◌∷◌, ◌++◌, length, map, take, get_or, unwrap_or, Some, slice_get, Contains, refl, ap, ap₂, ◌∙◌, sym, subst, arith}
 use Rattle.std.proofs.lemmas.List.{length-map}
 use Rattle.std.proofs.lemmas.List.Elements.{All-contains}
-use Rattle.std.proofs.lemmas.Option.{slice_get_within, none-some, same_Some}
+use Rattle.std.proofs.lemmas.Option.{none-some, same_Some}
 use Rattle.wh_types.specs.Ty.{Ty, sort, ◌⇒◌, arguments}
-use Rattle.wh_terms.specs.Tree.{Tm, bound, free, fun, meta, lam, app, Tms, none, more, tms_of, spine}
+use Rattle.wh_terms.specs.Tree.{Tm, fun, meta, app, Tms, none, more, tms_of, spine}
 use Rattle.wh_terms.specs.Sight.{NoFree, AllNoFree}
-use Rattle.wh_terms.specs.Typing.{Symbols, Declared, Typed, typed_bound, typed_free, typed_fun, typed_meta, typed_lam, typed_app, AllTyped, typed_none, typed_more}
+use Rattle.wh_terms.specs.Typing.{Symbols, Declared, Typed, typed_bound, typed_free, typed_fun, typed_meta, typed_lam, typed_app, AllTyped, typed_more}
 use Rattle.wh_terms.specs.Rules.{RewriteRule}
 use Rattle.wh_system.specs.Systems.{SystemData}
 use Rattle.wh_system.specs.WellMade.{IsWellMadeSystem, IsTypeOver, ArgumentsWithin}
 use Rattle.wh_system.specs.Needs.{need_of}
-use Rattle.wh_system.specs.CanonicalView.{side_of}
 use Rattle.wh_pairs.specs.PairData.{PairData}
 use Rattle.wh_pairs.specs.Sets.{InSet}
 use Rattle.wh_pairs.specs.Marked.{AreMarked, HeadsASide}
-use Rattle.wh_pairs.proofs.ByPlace.{contains_at, place_of as placed, unmap, remap}
-use Rattle.wh_hopoly.specs.Polynomials.{Polynomial, Normal}
-use Rattle.wh_hopoly.specs.Evaluation.{Run, Interpretation, interpretation_at, type_at, NormalInterpretations, TypedExpression, evaluate, type_of, symbol}
+use Rattle.wh_pairs.proofs.ByPlace.{contains_at, place_of as placed, unmap}
+use Rattle.wh_hopoly.specs.Polynomials.{Polynomial}
+use Rattle.wh_hopoly.specs.Evaluation.{Run, Interpretation, type_at, NormalInterpretations, TypedExpression, evaluate, type_of, symbol}
 use Rattle.wh_hopoly.proofs.ValueLaws.{interpretation_is}
 use Rattle.wh_hopoly.proofs.ReplaceLaws.{type_is}
 use Rattle.wh_hopoly.proofs.NormalWalk.{has_type_within}
-use Rattle.wh_polycheck.specs.Sides.{arrows, types_of_metas, side, side_applied, side_expression, marked_expression, Interprets}
-use Rattle.wh_polycheck.specs.Marks.{Mark, marked_types, marked_kind, marked_interpretation, with_marks, place_of, mark_number, HasMark, AreNormalMarks, HasMarkedSides, head_of_side, arguments_of_side}
+use Rattle.wh_polycheck.specs.Sides.{types_of_metas, Interprets}
+use Rattle.wh_polycheck.specs.Marks.{Mark, marked_types, marked_kind, marked_interpretation, with_marks, place_of, mark_number, HasMark, AreNormalMarks, HasMarkedSides}
 use Rattle.wh_polycheck.specs.Covering.{rule_run, pair_run, HaveTypedSides}
 use Rattle.wh_polycheck.proofs.SideTypes.{meta_in_scope, side_typed, side_applied_typed}
 use Rattle.wh_polycheck.proofs.MoreInterpretations.{slice_get_front, slice_get_behind, interprets_more, mark_at, mapped, mark_interpreted, normal_with_marks, arguments_of_arrows}
 use Rattle.wh_space.specs.Coefficients.{HasCoefficients}
 use Rattle.wh_guesses.specs.Coefficients.{HaveCoefficients}
-use Rattle.wh_guesses.specs.Conditions.{Condition, covers_rule, covers_pair, some_strictly, IsCondition, of_rule, of_pair, of_set, IsMet, Meets, LetsGo}
+use Rattle.wh_guesses.specs.Conditions.{covers_rule, covers_pair, some_strictly, of_rule, of_pair, of_set, IsMet, LetsGo}
 use Rattle.wh_flat.specs.Flat.{AreSorts, IsFirstOrder, IsFlatTree, AreFlatTrees, IsFlatRule, IsFlatPair, IsFlat, occurrences, call_occurrences}
 use Rattle.wh_flat.specs.Worth.{IsAtLeast, IsGreater}
 use Rattle.wh_flat.specs.Dominance.{place_among, marked_number, left_call, right_call, LetsGoBy}
-use Rattle.wh_flat.proofs.Valued.{IsLinearSymbol, IsRead, run_of, kind_of}
+use Rattle.wh_flat.proofs.Valued.{IsLinearSymbol, IsRead, run_of}
 use Rattle.wh_flat.proofs.ReadLemmas.{linear_symbol}
 use Rattle.wh_flat.proofs.Sides.{spine_side, spine_occurrences, IsSideTree, met_if, met_strictly_if, at_least_where, greater_where}
 
@@ -212,7 +211,7 @@ module _ (d : SystemData) (pairs : List PairData) (set : List ℕ) (lists : List
         let k = mark_number symbols marks f in
         let (s, e, j) = mark_interpreted S d.rules symbols marks f h in
         let t = side_applied_typed S p.metas all (interprets_more symbols (map (marked_interpretation S d.rules) marks) S interprets) (length Γ) refl
-            (symbol k) (sort 0) ((s, e), ap (λ s. s.kind) (interpretation_is all k s e) ∙ j) q c in
+        (symbol k) (sort 0) ((s, e), ap (λ s. s.kind) (interpretation_is all k s e) ∙ j) q c in
         let same = sym (spine_side (length Γ) (fun k) ts) in
         record {
           read = spine_read S p.metas all lists (known_in (map (marked_interpretation S d.rules) marks) Γ) (fun k) ts (mark_known Γ f first h) q ff;

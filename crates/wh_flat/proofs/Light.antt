@@ -1,9 +1,8 @@
 -- Linear polynomials that are within the limits.
-use Rattle.std.proofs.Common.{◌≡◌, ℕ, zero, suc, ◌+◌, ◌*◌, ◌<◌, ◌≤◌, ◌^◌, max, inl, inr, List, [], ◌∷◌, ◌++◌, refl, ap, ap₂, ◌∙◌, sym, subst, arith}
-use Rattle.wh_types.specs.Limits.{coefficient_end, greatest_weight, deepest_value}
-use Rattle.wh_hopoly.specs.Polynomials.{Polynomial, zero_poly, plus, Factors, no_factors, times, Arguments, no_arguments, argument}
-use Rattle.wh_hopoly.specs.Limits.{weight, nesting, Overflows, TooLarge, Exceeds}
-use Rattle.wh_flat.proofs.Totals.{IsUnit, IsLinear, total, spread}
+use Rattle.std.proofs.Common.{◌≡◌, ℕ, ◌<◌, ◌≤◌, ◌^◌, inl, inr, refl, arith}
+use Rattle.wh_hopoly.specs.Polynomials.{Polynomial, zero_poly, plus, no_factors, times, no_arguments, argument}
+use Rattle.wh_hopoly.specs.Limits.{weight, nesting, Overflows, Exceeds}
+use Rattle.wh_flat.proofs.Totals.{IsLinear, total, spread}
 
 abbrev pub each_one : ℕ → ℕ
 each_one x = 1

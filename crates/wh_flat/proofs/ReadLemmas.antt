@@ -1,26 +1,24 @@
 -- Polynomials of the space over arguments of sorts are linear, and come to their coefficients.
-use Rattle.std.proofs.Common.{◌≡◌, ◌≢◌, ℕ, zero, suc, ◌+◌, ◌*◌, ◌-◌, ◌<◌, ◌≤◌, ◌==◌, nat_lt, if◌then◌else◌, Bool, true, false, List, [], ◌∷◌, ◌++◌, length, Contains, get_or, Some, slice_get, refl, ap, ap₂, ◌∙◌, sym, subst, arith, Ordering, Less, Equal, Greater}
-use Rattle.std.specs.Ordering.{ordering_reverse}
+use Rattle.std.proofs.Common.{◌≡◌, ℕ, zero, suc, ◌+◌, ◌*◌, ◌<◌, ◌≤◌, ◌==◌, nat_lt, if◌then◌else◌, Bool, true, false, List, [], ◌∷◌, length, Contains, get_or, Some, slice_get, refl, ap, ap₂, ◌∙◌, sym, subst, arith}
 use Rattle.wh_types.specs.Ty.{Ty, sort, ◌⇒◌, arguments}
-use Rattle.wh_hopoly.specs.Polynomials.{Polynomial, zero_poly, plus, Factors, no_factors, times, Arguments, no_arguments, argument, compare_factors, Normal, Sorted, MonomialBefore}
+use Rattle.wh_hopoly.specs.Polynomials.{Polynomial, zero_poly, plus, Factors, no_factors, times, no_arguments, argument, Normal, Sorted, MonomialBefore}
 use Rattle.wh_hopoly.specs.Evaluation.{type_at, Interpretation, interpretation_at}
 use Rattle.wh_hopoly.specs.Moves.{MonomialAt}
 use Rattle.wh_hopoly.specs.Rearranged.{only_if_equal, coefficient as factor_coefficient, Positive}
-use Rattle.wh_hopoly.proofs.OrderLaws.{factors_same}
 use Rattle.wh_hopoly.proofs.SumLaws.{before_then, normal_sorted}
 use Rattle.wh_hopoly.proofs.ValueLaws.{interpretation_is}
 use Rattle.wh_pairs.proofs.ByPlace.{place_of}
 use Rattle.wh_space.specs.Space.{is_sort, sort_variables, sum_of_variables, filled, space_of, alone, HasMonomial, IsOfSpace}
-use Rattle.wh_space.specs.Coefficients.{capped, HasCoefficients}
+use Rattle.wh_space.specs.Coefficients.{HasCoefficients}
 use Rattle.wh_space.specs.Spots.{IsSpot, factors_at, sorts_before, functional_before, place}
 use Rattle.wh_space.specs.declared.space.Spot.{Spot}
 use Rattle.wh_space.specs.declared.space.Spot.TheVariants.{Constant, One, Two}
 use Rattle.wh_space.proofs.SpaceLemmas.{spot_there}
 use Rattle.wh_space.proofs.SpotLemmas.{spot_at}
-use Rattle.wh_guesses.proofs.Uniqueness.{coefficient_is, monomial_of, monomial_at_least}
+use Rattle.wh_guesses.proofs.Uniqueness.{coefficient_is, monomial_of}
 use Rattle.wh_flat.specs.Flat.{AreSorts}
 use Rattle.wh_flat.specs.Worth.{coefficient, nothing, only}
-use Rattle.wh_flat.proofs.Totals.{IsUnit, IsLinear, weighed, total, spread, total_alike, spread_alike}
+use Rattle.wh_flat.proofs.Totals.{IsUnit, IsLinear, total, spread, total_alike, spread_alike}
 use Rattle.wh_flat.proofs.Tails.{sum_to, tail}
 use Rattle.wh_flat.proofs.Covered.{coefficient_constant, coefficient_variable}
 use Rattle.wh_flat.proofs.Valued.{IsLinearSymbol}
@@ -241,7 +239,7 @@ module _ (lists : List (List ℕ)) (f : ℕ) (Γ : List Ty) (p : Polynomial) (so
       let a = total_up_to first k at (omega (arith, h)) in
       let b = total_added (length Γ) first (at k) (up_to k at) (up_to (suc k) at) (only k) p p_linear (up_to_more k at) in
       let c = sym (coefficient_variable (length Γ) k p p_linear)
-          ∙ coefficient_there (suc k) (times k no_arguments no_factors) (space_variable Γ sorts k h) in
+      ∙ coefficient_there (suc k) (times k no_arguments no_factors) (space_variable Γ sorts k h) in
       let d = tail_more lists f 0 k at in
       let e : 0 + k ≡ k = omega arith in
       let g : coefficient lists f (suc (0 + k)) ≡ coefficient lists f (suc k) = ap (λ i. coefficient lists f (suc i)) e in
@@ -279,7 +277,7 @@ pub linear_symbol : (I : List Interpretation) (lists : List (List ℕ)) (Γ : Li
 linear_symbol I lists Γ f s at sorts few has =
     let e : interpretation_at I f ≡ s = interpretation_is I f s at in
     let P : Interpretation → Type 0 = λ s. AreSorts (arguments s.kind) × (length (arguments s.kind) ≤ 32)
-        × HasCoefficients (arguments s.kind) (get_or lists f []) s.polynomial in
+    × HasCoefficients (arguments s.kind) (get_or lists f []) s.polynomial in
     let h : P (interpretation_at I f) = subst P (sym e) (sorts, few, has) in
     let A = arguments (interpretation_at I f).kind in
     let p = (interpretation_at I f).polynomial in

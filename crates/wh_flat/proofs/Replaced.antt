@@ -1,12 +1,12 @@
 -- A variable of a linear polynomial that is replaced by a linear polynomial.
-use Rattle.std.proofs.Common.{◌≡◌, ℕ, zero, suc, ◌+◌, ◌*◌, ◌-◌, ◌<◌, ◌≤◌, ◌^◌, ◌==◌, nat_lt, if◌then◌else◌, Bool, true, false, List, [], ◌∷◌, ◌++◌, length, refl, ap, ap₂, ◌∙◌, sym, subst, arith}
-use Rattle.wh_types.specs.Ty.{Ty, sort, ◌⇒◌, arguments}
+use Rattle.std.proofs.Common.{◌≡◌, ℕ, suc, ◌+◌, ◌*◌, ◌-◌, ◌<◌, ◌≤◌, ◌^◌, ◌==◌, nat_lt, if◌then◌else◌, Bool, true, false, List, [], ◌∷◌, length, refl, ap, ◌∙◌, sym, subst, arith}
+use Rattle.wh_types.specs.Ty.{Ty}
 use Rattle.wh_hopoly.specs.Polynomials.{Polynomial, zero_poly, plus, Factors, no_factors, times, Arguments, no_arguments, argument}
-use Rattle.wh_hopoly.specs.Arithmetic.{sum_poly, multiply, constant, atom, renumber}
-use Rattle.wh_hopoly.specs.Evaluation.{Run, one, next, type_at, without, down, replace, replace_factors, replace_arguments, widened}
+use Rattle.wh_hopoly.specs.Arithmetic.{sum_poly, multiply, constant, atom}
+use Rattle.wh_hopoly.specs.Evaluation.{Run, one, next, without, down, replace, replace_factors, widened}
 use Rattle.wh_hopoly.proofs.RunLaws.{Within, within_one, within_both}
 use Rattle.wh_flat.proofs.Totals.{IsUnit, IsLinear, weighed, total, spread, total_sum, total_multiply, total_renumber, total_alike, spread_sum, spread_multiply, spread_renumber, spread_alike, linear_sum, linear_multiply, linear_renumber}
-use Rattle.wh_flat.proofs.Light.{each_one, each_two, IsLight, light_fits}
+use Rattle.wh_flat.proofs.Light.{each_one, each_two, light_fits}
 
 -- the weights where the variable n is gone and what stands for it has a weight of its own
 abbrev pub put_at : ℕ → ℕ → (ℕ → ℕ) → ℕ → ℕ
@@ -56,11 +56,17 @@ module _ (n m : ℕ) (le : n ≤ m) (q : Polynomial) (lq : IsLinear n q) where
   factor_within : (Δ : List Ty) (x : ℕ) (b : Bool) → total 1 each_one q < 2 ^ 128 → spread 1 each_two q ≤ 65536
       → Within (factor b Δ x).values
   factor_within Δ x true h k = within_one _ (light_fits _ (record {
-    scope = m; linear = value_linear Δ;
+    scope = m;
+    linear = value_linear Δ;
     small = subst (λ t. t < 2 ^ 128) (sym (value_total 1 each_one Δ)) h;
-    few = subst (λ t. t ≤ 65536) (sym (value_spread 1 each_two Δ)) k }))
+    few = subst (λ t. t ≤ 65536) (sym (value_spread 1 each_two Δ)) k;
+  }))
   factor_within Δ x false h k = within_one (atom (down n x) no_arguments) (light_fits (atom (down n x) no_arguments) (record {
-    scope = suc (down n x); linear = (omega arith, tt); small = omega arith; few = omega arith }))
+    scope = suc (down n x);
+    linear = (omega arith, tt);
+    small = omega arith;
+    few = omega arith;
+  }))
 
   -- the run that begins with a coefficient and multiplies in the one factor
   abbrev step : Bool → ℕ → List Ty → ℕ → Run Polynomial
@@ -159,9 +165,11 @@ module _ (n m : ℕ) (le : n ≤ m) (q : Polynomial) (lq : IsLinear n q) where
     pub replaced_within : (sum p : Polynomial) → IsLinear m sum → IsLinear (suc m) p → AreSmall sum p
         → Within (replace head n Γ sum p).values
     replaced_within sum zero_poly k l small = within_one _ (light_fits _ (record {
-      scope = m; linear = k;
+      scope = m;
+      linear = k;
       small = (let h = small.all_small in omega (arith, h));
-      few = (let h = small.all_few in omega (arith, h)) }))
+      few = (let h = small.all_few in omega (arith, h));
+    }))
     replaced_within sum (plus c us p) k l small =
         let mono = (monomial c us).result in
         let next_sum = sum_poly mono sum in
@@ -175,7 +183,8 @@ module _ (n m : ℕ) (le : n ≤ m) (q : Polynomial) (lq : IsLinear n q) where
         let one_each = weighed_one us l.0 in
         let lk = linear_sum m mono sum (monomial_linear c us l.0) k in
         let rest : AreSmall next_sum p = record {
-          value_small = small.value_small; value_few = small.value_few;
+          value_small = small.value_small;
+          value_few = small.value_few;
           own_small = omega (arith, own);
           all_small = omega (arith, all, t, mt);
           all_few = omega (arith, wide, s, ms);
@@ -183,7 +192,11 @@ module _ (n m : ℕ) (le : n ≤ m) (q : Polynomial) (lq : IsLinear n q) where
         within_both (monomial c us).values _
         (monomial_within c us l.0 small.value_small small.value_few (own_fits c us (total 1 each_one p) l.0 own) (omega (arith, all)))
         (within_both (next_sum ∷ []) _ (within_one _ (light_fits _ (record {
-          scope = m; linear = lk; small = omega (arith, all, t, mt); few = omega (arith, wide, s, ms) })))
+          scope = m;
+          linear = lk;
+          small = omega (arith, all, t, mt);
+          few = omega (arith, wide, s, ms);
+        })))
         (replaced_within next_sum p lk l.1 rest))
       where
         weighed_one : (us : Factors) → IsUnit (suc m) us → weighed 1 each_one us ≡ 1

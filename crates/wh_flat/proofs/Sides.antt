@@ -1,16 +1,15 @@
 -- Flat sides are met just where what they are worth says so.
-use Rattle.std.proofs.Common.{◌≡◌, ℕ, zero, suc, ◌+◌, ◌*◌, ◌<◌, ◌≤◌, ◌^◌, Bool, true, false, List, [], ◌∷◌, ◌++◌, length, append-nil, refl, ap, ap₂, ◌∙◌, sym, subst, arith}
-use Rattle.wh_types.specs.Ty.{Ty, sort, ◌⇒◌, arguments}
-use Rattle.wh_terms.specs.Tree.{Tm, fun, app, Tms, none, more, tms_of, spine}
+use Rattle.std.proofs.Common.{◌≡◌, ℕ, ◌+◌, ◌≤◌, true, false, List, [], ◌∷◌, ◌++◌, length, append-nil, refl, ◌∙◌, subst, arith}
+use Rattle.wh_types.specs.Ty.{Ty, sort, arguments}
+use Rattle.wh_terms.specs.Tree.{Tm, app, tms_of, spine}
 use Rattle.wh_hopoly.specs.Polynomials.{Polynomial, Normal}
-use Rattle.wh_hopoly.specs.Evaluation.{Run, Interpretation, NormalInterpretations, TypedExpression, evaluate, type_of, apply}
-use Rattle.wh_hopoly.specs.Limits.{Exceeds}
+use Rattle.wh_hopoly.specs.Evaluation.{Interpretation, NormalInterpretations, TypedExpression}
 use Rattle.wh_hopoly.proofs.ValueLaws.{normal_value}
 use Rattle.wh_polycheck.specs.Sides.{side, side_applied}
 use Rattle.wh_covering.specs.Lines.{IsSide}
 use Rattle.wh_guesses.specs.Conditions.{IsMet}
 use Rattle.wh_flat.specs.Flat.{occurrences, occurrences_in}
-use Rattle.wh_flat.specs.Worth.{worth, nothing, only, constant_of, factor_of, IsAtLeast, IsGreater}
+use Rattle.wh_flat.specs.Worth.{worth, nothing, only, IsAtLeast, IsGreater}
 use Rattle.wh_flat.proofs.Totals.{IsLinear, total}
 use Rattle.wh_flat.proofs.Light.{light_fits}
 use Rattle.wh_flat.proofs.Valued.{IsRead, IsLine, run_of, kind_of, tree_line, tree_within, line_small, line_few}
@@ -58,7 +57,8 @@ module _ (I : List Interpretation) (Γ : List Ty) (lists : List (List ℕ)) (nor
       is = refl;
       normal = (Γ, value_normal);
       fits = light_fits (value t) (record {
-        scope = length Γ; linear = value_linear;
+        scope = length Γ;
+        linear = value_linear;
         small = line_small I Γ lists t (sort s.of) (value t) s.read line s.few;
         few = line_few I Γ lists t (sort s.of) (value t) s.read line s.few;
       });
@@ -102,5 +102,5 @@ module _ (I : List Interpretation) (Γ : List Ty) (lists : List (List ℕ)) (nor
     pub greater_where : IsMet (run_of I Γ lists t) (run_of I Γ lists u) true → IsGreater lists t u
     greater_where m =
         let g = strictly_covered_greater Γ (length Γ) (value t) (value u) (value_normal t st) (value_normal u su)
-            (value_linear t st) (value_linear u su) m.moves m.covers in
+        (value_linear t st) (value_linear u su) m.moves m.covers in
         let a = value_total t st 1 nothing in let b = value_total u su 1 nothing in omega (arith, a, b, g)

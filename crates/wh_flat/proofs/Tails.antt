@@ -1,5 +1,5 @@
 -- What the arguments that are still to come add.
-use Rattle.std.proofs.Common.{◌≡◌, ℕ, zero, suc, ◌+◌, ◌*◌, ◌<◌, ◌≤◌, ◌^◌, nat_lt, if◌then◌else◌, Bool, true, false, List, [], get_or, refl, ap, ap₂, ◌∙◌, sym, subst, arith}
+use Rattle.std.proofs.Common.{◌≡◌, ℕ, zero, suc, ◌+◌, ◌*◌, ◌≤◌, nat_lt, if◌then◌else◌, Bool, true, false, List, [], get_or, refl, ap₂, arith}
 use Rattle.wh_space.specs.Coefficients.{capped}
 use Rattle.wh_flat.specs.Worth.{coefficient}
 

@@ -1,7 +1,7 @@
 -- Linear polynomials, and what they come to where the constant and the variables have weights.
-use Rattle.std.proofs.Common.{◌≡◌, ℕ, zero, suc, ◌+◌, ◌*◌, ◌-◌, ◌<◌, ◌≤◌, nat_lt, if◌then◌else◌, refl, ap, ap₂, ◌∙◌, sym, subst, arith, Ordering, Less, Equal, Greater}
-use Rattle.wh_hopoly.specs.Polynomials.{Polynomial, zero_poly, plus, Factors, no_factors, times, Arguments, no_arguments, argument, compare_factors}
-use Rattle.wh_hopoly.specs.Arithmetic.{by_order, add_monomial, sum_poly, scale, multiply, constant, atom, renumber}
+use Rattle.std.proofs.Common.{◌≡◌, ℕ, ◌+◌, ◌*◌, ◌<◌, ◌≤◌, refl, ap, ap₂, ◌∙◌, sym, subst, arith, Ordering, Less, Equal, Greater}
+use Rattle.wh_hopoly.specs.Polynomials.{Polynomial, zero_poly, plus, Factors, no_factors, times, no_arguments, argument, compare_factors}
+use Rattle.wh_hopoly.specs.Arithmetic.{by_order, add_monomial, sum_poly, scale, multiply, constant, renumber}
 use Rattle.wh_hopoly.proofs.OrderLaws.{factors_equal}
 
 -- a constant, or a variable without arguments whose number is below n

@@ -1,18 +1,18 @@
 -- What flat sides evaluate to: linear polynomials, whose totals are what the sides are worth, and no value on the way exceeds a limit.
-use Rattle.std.proofs.Common.{◌≡◌, ◌≢◌, ℕ, zero, suc, ◌+◌, ◌*◌, ◌-◌, ◌<◌, ◌≤◌, ◌^◌, ◌==◌, nat_lt, if◌then◌else◌, Bool, true, false, List, [], ◌∷◌, ◌++◌, length, refl, ap, ap₂, ◌∙◌, sym, subst, arith}
-use Rattle.std.proofs.Math.Nat.{pow-le-pow_right, one-le-pow}
+use Rattle.std.proofs.Common.{◌≡◌, ℕ, zero, suc, ◌+◌, ◌*◌, ◌-◌, ◌<◌, ◌≤◌, ◌^◌, ◌==◌, if◌then◌else◌, true, false, List, ◌∷◌, ◌++◌, length, refl, ap, ap₂, ◌∙◌, sym, subst, arith}
+use Rattle.std.proofs.Math.Nat.{pow-le-pow_right}
 use Rattle.std.proofs.lemmas.Nat.{pow-add}
 use Rattle.wh_types.specs.Ty.{Ty, sort, ◌⇒◌, arguments}
-use Rattle.wh_terms.specs.Tree.{Tm, bound, free, fun, meta, lam, app, Tms, none, more}
-use Rattle.wh_hopoly.specs.Polynomials.{Polynomial, zero_poly, plus, no_factors, times, no_arguments}
-use Rattle.wh_hopoly.specs.Evaluation.{Run, one, next, type_at, Interpretation, interpretation_at, type_of, codomain, evaluate, variable, apply_one, down, TypedExpression, symbol, var, apply}
+use Rattle.wh_terms.specs.Tree.{Tm, bound, free, fun, meta, lam, app, none, more}
+use Rattle.wh_hopoly.specs.Polynomials.{Polynomial, zero_poly}
+use Rattle.wh_hopoly.specs.Evaluation.{Run, type_at, Interpretation, interpretation_at, type_of, codomain, evaluate, variable, apply_one, down, TypedExpression}
 use Rattle.wh_hopoly.proofs.RunLaws.{Within, within_one, within_both}
 use Rattle.wh_polycheck.specs.Sides.{side}
 use Rattle.wh_flat.specs.Flat.{AreSorts, occurrences}
 use Rattle.wh_flat.specs.Worth.{coefficient, worth, symbol_in, places_in}
 use Rattle.wh_flat.proofs.Totals.{IsLinear, total, spread, total_renumber, spread_renumber, linear_renumber}
 use Rattle.wh_flat.proofs.Light.{each_one, each_two, light_fits}
-use Rattle.wh_flat.proofs.Replaced.{put_at, AreSmall, replaced_total, replaced_spread, replaced_linear, replaced_within}
+use Rattle.wh_flat.proofs.Replaced.{put_at, replaced_total, replaced_spread, replaced_linear, replaced_within}
 use Rattle.wh_flat.proofs.Tails.{sum_to, tail, sum_alike, tail_alike, coefficient_small, tail_small, sum_two}
 
 -- the same weights but for one

@@ -1,6 +1,6 @@
 -- What flat sides are worth: linear in the weights of their meta-variables.
-use Rattle.std.specs.Prelude.{ℕ, zero, suc, ◌+◌, ◌*◌, ◌≤◌, ◌<◌, ◌==◌, if◌then◌else◌, List, [], get_or}
-use Rattle.wh_terms.specs.Tree.{Tm, bound, free, fun, meta, lam, app}
+use Rattle.std.specs.Prelude.{ℕ, suc, ◌+◌, ◌*◌, ◌≤◌, ◌<◌, ◌==◌, if◌then◌else◌, List, [], get_or}
+use Rattle.wh_terms.specs.Tree.{Tm, fun, meta, app}
 use Rattle.wh_space.specs.Coefficients.{capped}
 
 -- the symbol that heads the spine, or 0 where none does

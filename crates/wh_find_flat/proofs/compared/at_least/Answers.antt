@@ -1,10 +1,9 @@
-use Rattle.std.proofs.Common.{rules, ◌≡◌, ℕ, ◌+◌, ◌*◌, ◌<◌, ◌≤◌, List, Bool, false, not, nat_lt, length, max, arith, ap, ap₂, sym, ◌∙◌}
+use Rattle.std.proofs.Common.{◌+◌, ◌*◌, ◌≤◌, List, not, nat_lt, length, arith, ap, ap₂, ◌∙◌}
 use Rattle.wh_sat_trail.specs.declared.literal.Literal.{Literal}
 use Rattle.wh_circuit.specs.State.{gates_of}
 use Rattle.wh_circuit.specs.Values.{number_of}
-use Rattle.wh_circuit.specs.Gates.{Means}
 use Rattle.wh_circuit.proofs.Growing.{agrees_before, means_same}
-use Rattle.wh_find_flat.proofs.Growth.{builds_grown, builds_then, if_both, ok_so, on_ok_so}
+use Rattle.wh_find_flat.proofs.Growth.{builds_grown, builds_then, if_both, on_ok_so}
 use Rattle.wh_find_flat.proofs.compared.at_least.Goals as goal
 
 width_told : (c : goal.After-drop-left-2) → length c.deref.result.now ≤ 120

@@ -1,4 +1,4 @@
-use Rattle.std.proofs.Common.{rules, ◌≡◌, ℕ, ◌+◌, ◌<◌, ◌≤◌, ◌++◌, [], ◌∷◌, List, Bool, false, length, arith, sym, ◌∙◌, ap, subst, length-append}
+use Rattle.std.proofs.Common.{rules, ◌≡◌, ◌++◌, [], ◌∷◌, List, length, arith, sym, ◌∙◌, ap, subst, length-append}
 use Rattle.wh_sat_trail.specs.declared.literal.Literal.{Literal}
 use Rattle.wh_sat_trail.specs.Assignment.{AllBelow}
 use Rattle.wh_circuit.specs.Values.{number_of}

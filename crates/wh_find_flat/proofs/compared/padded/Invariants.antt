@@ -1,4 +1,4 @@
-use Rattle.std.proofs.Common.{◌≡◌, ℕ, ◌+◌, ◌<◌, ◌≤◌, Bool, false, length}
+use Rattle.std.proofs.Common.{◌≡◌, ℕ, ◌<◌, Bool, false, length}
 use Rattle.wh_sat_trail.specs.Assignment.{AllBelow}
 use Rattle.wh_sat.specs.Solving.{literal_true}
 use Rattle.wh_circuit.specs.Values.{number_of}

@@ -1,4 +1,4 @@
-use Rattle.std.proofs.Common.{rules, ◌≡◌, ℕ, ◌+◌, ◌<◌, ◌≤◌, List, Bool, false, not, nat_lt, length, arith, refl}
+use Rattle.std.proofs.Common.{ℕ, ◌≤◌, Bool, not, nat_lt, refl}
 use Rattle.wh_circuit.specs.Values.{number_of}
 use Rattle.wh_find_flat.proofs.AskLemmas.{asks_wire}
 use Rattle.wh_find_flat.proofs.Growth.{on_ok_so}

@@ -1,4 +1,4 @@
-use Rattle.std.proofs.Common.{ℕ, Bool, List, length, sym, subst, arith}
+use Rattle.std.proofs.Common.{Bool, List, length, sym, subst}
 use Rattle.wh_system.specs.SystemView.{system_data}
 use Rattle.wh_sat.specs.Outcomes.{IsOutcome}
 use Rattle.wh_sat.specs.Solving.{Solves}

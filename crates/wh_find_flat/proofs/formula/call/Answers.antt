@@ -1,4 +1,4 @@
-use Rattle.std.proofs.Common.{rules, Box, Global, ◌≡◌, ℕ, ◌+◌, ◌++◌, [], ◌∷◌, List, map, take, get_or, length, arith, refl, ap, ap₂, sym, ◌∙◌}
+use Rattle.std.proofs.Common.{Box, Global, ◌≡◌, ◌+◌, List, map, take, refl, ap, ap₂, sym, ◌∙◌}
 use Rattle.wh_terms.specs.Erase.{tm}
 use Rattle.wh_terms.specs.Tree.{Tm, app, fun, spine}
 use Rattle.wh_terms.specs.declared.term.Term.{Term}

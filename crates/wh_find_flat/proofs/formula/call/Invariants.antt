@@ -1,7 +1,6 @@
-use Rattle.std.proofs.Common.{◌≡◌, ℕ, List, map, take}
+use Rattle.std.proofs.Common.{◌≡◌, map, take}
 use Rattle.wh_terms.specs.Erase.{tm}
 use Rattle.wh_terms.specs.Tree.{fun, spine}
-use Rattle.wh_terms.specs.declared.term.Term.{Term}
 use Rattle.wh_find_flat.proofs.formula.call.Given as goal
 
 abbrev pub invariant-loop-argument : goal.invariant-loop-argument

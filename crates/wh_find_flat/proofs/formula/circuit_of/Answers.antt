@@ -1,4 +1,4 @@
-use Rattle.std.proofs.Common.{rules, ◌≡◌, ℕ, ◌+◌, ◌*◌, ◌<◌, ◌≤◌, List, [], All, sum_by, length, map, get_or, arith, ap, sym, subst, ◌∙◌}
+use Rattle.std.proofs.Common.{rules, ◌≡◌, ℕ, ◌<◌, List, All, sum_by, length, map, get_or, arith, ap, sym, subst, ◌∙◌}
 use Rattle.std.proofs.lemmas.List.{length-map}
 use Rattle.wh_sat_trail.specs.declared.literal.Literal.{Literal}
 use Rattle.wh_sat.specs.Solving.{clause_true}
@@ -6,7 +6,7 @@ use Rattle.wh_terms.specs.Rules.{RewriteRule}
 use Rattle.wh_terms.specs.Erase.{rewrite_rules, rewrite_rule}
 use Rattle.wh_terms.specs.declared.rule.Rule.{Rule}
 use Rattle.wh_system.specs.SystemView.{system_data}
-use Rattle.wh_pairs.specs.PairData.{PairData, pair_data}
+use Rattle.wh_pairs.specs.PairData.{pair_data}
 use Rattle.wh_pairs.specs.declared.pair.Pair.{Pair}
 use Rattle.wh_blocking.specs.Sizes.{bits_in}
 use Rattle.wh_circuit.specs.State.{gates_of}
@@ -15,7 +15,7 @@ use Rattle.wh_sat_trail.specs.Assignment.{AllBelow}
 use Rattle.wh_circuit.specs.declared.circuit.Circuit.{Circuit}
 use Rattle.wh_flat.specs.Flat.{rule_occurrences}
 use Rattle.wh_find_flat.specs.Numbers.{AreInputs, Asks}
-use Rattle.wh_find_flat.specs.Ready.{AreGreater, IsFlatCircuit, PairHolds, RuleHolds}
+use Rattle.wh_find_flat.specs.Ready.{AreGreater, PairHolds, RuleHolds}
 use Rattle.wh_find_flat.proofs.Growth.{builds_grown}
 use Rattle.wh_find_flat.proofs.Whole.{greater_own, many_occurrences, whole}
 use Rattle.wh_find_flat.proofs.formula.circuit_of.Goals as goal
@@ -26,8 +26,8 @@ within_set pairs set w k less = let a = w k 0 less in let b = length-map pairs p
 pub or-requires-clause-own : goal.or-requires-clause-own
 or-requires-clause-own c =
     let own = greater_own c.args.bits.now.sizes.items (length c.fun_names.result.now) c.args.marked.now (map pair_data c.args.task.now.pairs.now) c.args.task.now.set.now
-        (gates_of c.require_pairs.new.circuit) c.in_ok-greater.greater.items (within_set c.args.task.now.pairs.now c.args.task.now.set.now c.requires.within)
-        c.in_ok-greater.ensures.greater in
+    (gates_of c.require_pairs.new.circuit) c.in_ok-greater.greater.items (within_set c.args.task.now.pairs.now c.args.task.now.set.now c.requires.within)
+    c.in_ok-greater.ensures.greater in
     subst (λ (ls : List Literal). AllBelow (length (gates_of c.require_pairs.new.circuit)) ls) (sym c.deref.ensures.value) own
 
 -- the rules as the system has them

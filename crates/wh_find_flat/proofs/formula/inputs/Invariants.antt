@@ -1,4 +1,4 @@
-use Rattle.std.proofs.Common.{◌≡◌, ℕ, [], length}
+use Rattle.std.proofs.Common.{◌≡◌, [], length}
 use Rattle.wh_circuit.specs.State.{gates_of, required_of}
 use Rattle.wh_find_flat.specs.Numbers.{AreInputs}
 use Rattle.wh_find_flat.proofs.formula.inputs.Given as goal

@@ -1,4 +1,4 @@
-use Rattle.std.proofs.Common.{◌≡◌, ℕ, suc, ◌+◌, ◌≤◌, List, ◌∷◌, drop, get_or, length, arith, ap, sym, ◌∙◌}
+use Rattle.std.proofs.Common.{◌≡◌, ℕ, ◌+◌, ◌≤◌, List, drop, get_or, length, arith, ap}
 use Rattle.std.proofs.lemmas.List.{drop_more, drop_all}
 use Rattle.wh_flat.specs.Dominance.{place_among}
 use Rattle.wh_find_flat.proofs.Loops.{place_here, place_past}

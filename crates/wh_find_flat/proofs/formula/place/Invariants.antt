@@ -1,4 +1,4 @@
-use Rattle.std.proofs.Common.{◌≡◌, ℕ, ◌+◌, drop, length}
+use Rattle.std.proofs.Common.{◌≡◌, ◌+◌, drop}
 use Rattle.wh_flat.specs.Dominance.{place_among}
 use Rattle.wh_find_flat.proofs.formula.place.Given as goal
 

@@ -1,17 +1,17 @@
-use Rattle.std.proofs.Common.{rules, ◌≡◌, ℕ, ◌+◌, ◌*◌, ◌<◌, ◌≤◌, ◌++◌, ◌∷◌, List, [], Option, Some, All, length, length-append, map, take, get_or, slice_get, sum_by, arith, refl, ap, sym, subst, ◌∙◌}
+use Rattle.std.proofs.Common.{rules, ◌≡◌, ℕ, ◌+◌, ◌<◌, ◌++◌, ◌∷◌, List, [], Option, Some, All, length, length-append, map, get_or, slice_get, arith, ap, sym, subst, ◌∙◌}
 use Rattle.std.specs.Option.{option_map_or}
 use Rattle.std.proofs.lemmas.List.Sums.{sum_by-take-le}
 use Rattle.std.proofs.lemmas.Option.{none-some, slice_get-get_or}
 use Rattle.wh_sat_trail.specs.declared.literal.Literal.{Literal}
 use Rattle.wh_pairs.specs.PairData.{PairData, pair_data}
 use Rattle.wh_circuit.specs.State.{gates_of}
-use Rattle.wh_find_flat.specs.Ready.{PairHolds, TellsGreater}
+use Rattle.wh_find_flat.specs.Ready.{PairHolds}
 use Rattle.wh_pairs.specs.declared.pair.Pair.{Pair}
 use Rattle.wh_pairs.proofs.ByPlace.{contains_at, remap}
 use Rattle.wh_flat.specs.Flat.{occurrences_at, pair_occurrences}
 use Rattle.wh_find_flat.specs.Numbers.{Asks}
 use Rattle.wh_find_flat.proofs.Growth.{later_more}
-use Rattle.wh_find_flat.proofs.Loops.{asks_nothing, element, greater_here, greater_more, pair_asks, sum_all, sum_next}
+use Rattle.wh_find_flat.proofs.Loops.{asks_nothing, greater_here, greater_more, pair_asks, sum_all, sum_next}
 use Rattle.wh_find_flat.proofs.formula.require_pairs.Goals as goal
 
 pub loop-number-init : goal.loop-number-init

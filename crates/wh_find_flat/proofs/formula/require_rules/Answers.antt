@@ -1,8 +1,7 @@
-use Rattle.std.proofs.Common.{rules, ◌≡◌, ℕ, ◌+◌, ◌*◌, ◌<◌, ◌≤◌, List, Some, length, map, take, slice_get, sum_by, arith, ap, sym, subst, ◌∙◌}
+use Rattle.std.proofs.Common.{◌≡◌, ℕ, ◌+◌, ◌<◌, List, Some, length, slice_get, arith, ap, subst}
 use Rattle.std.proofs.lemmas.List.{length-map}
 use Rattle.std.proofs.lemmas.List.Sums.{sum_by-take-le}
 use Rattle.wh_terms.specs.Erase.{rewrite_rule, rewrite_rules, declared_meta}
-use Rattle.wh_terms.specs.Rules.{RewriteRule}
 use Rattle.wh_terms.specs.declared.rule.Rule.{Rule}
 use Rattle.wh_pairs.proofs.ByPlace.{contains_at, remap}
 use Rattle.wh_circuit.specs.State.{gates_of}
@@ -25,7 +24,7 @@ require_rule-requires c =
     let i = c.loop-rule.rule-index in
     let r = c.rule-item.result in
     let at : slice_get (rewrite_rules rules) i ≡ Some (rewrite_rule r) =
-        remap rewrite_rule rules i r (element rules i r c.rule-item.is c.loop-rule-test.true) in
+    remap rewrite_rule rules i r (element rules i r c.rule-item.is c.loop-rule-test.true) in
     let ready : IsReadyRule (rewrite_rule r) = c.requires.ready (rewrite_rule r) (contains_at (rewrite_rules rules) i (rewrite_rule r) at) in
     let long = length-map r.metas declared_meta in
     let len = ap length c.as_slice-metas.ensures in
@@ -48,7 +47,7 @@ loop-rule-preserved c =
     let i = c.loop-rule.rule-index in
     let r = c.rule-item.result in
     let at : slice_get (rewrite_rules rules) i ≡ Some (rewrite_rule r) =
-        remap rewrite_rule rules i r (element rules i r c.rule-item.is c.loop-rule-test.true) in
+    remap rewrite_rule rules i r (element rules i r c.rule-item.is c.loop-rule-test.true) in
     let next = sum_next rule_occurrences (rewrite_rules rules) i (rewrite_rule r) at in
     let few = c.loop-rule.invariant.few in
     let f = c.in_ok-require_rule.ensures.few in

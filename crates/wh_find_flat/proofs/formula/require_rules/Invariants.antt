@@ -1,4 +1,4 @@
-use Rattle.std.proofs.Common.{◌≡◌, ℕ, ◌+◌, ◌*◌, ◌<◌, ◌≤◌, Bool, length, take, sum_by}
+use Rattle.std.proofs.Common.{ℕ, ◌+◌, ◌*◌, ◌<◌, ◌≤◌, length, take, sum_by}
 use Rattle.wh_terms.specs.Erase.{rewrite_rules}
 use Rattle.wh_circuit.specs.State.{gates_of}
 use Rattle.wh_flat.specs.Flat.{rule_occurrences}

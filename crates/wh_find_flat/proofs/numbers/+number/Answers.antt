@@ -1,14 +1,14 @@
-use Rattle.std.proofs.Common.{rules, ◌≡◌, ℕ, ◌+◌, ◌*◌, ◌-◌, ◌<◌, ◌≤◌, ◌^◌, IfOk, List, OnOk, length, arith, refl, ap, sym, subst, ◌∙◌}
-use Rattle.wh_terms.specs.Tree.{Tm, Tms, app, fun, meta, none}
+use Rattle.std.proofs.Common.{rules, ◌≡◌, ℕ, ◌+◌, ◌*◌, ◌-◌, List, arith, refl, ap, sym, subst, ◌∙◌}
+use Rattle.wh_terms.specs.Tree.{Tm, Tms, app, meta, none}
 use Rattle.wh_terms.specs.declared.term.Term.{Term}
 use Rattle.wh_terms.specs.declared.term.Term.TheVariants.{Meta}
 use Rattle.wh_terms.specs.Erase.{tm}
 use Rattle.wh_circuit.specs.State.{gates_of}
 use Rattle.wh_flat.specs.Flat.{occurrences}
 use Rattle.wh_find_flat.specs.Plain.{IsPlain}
-use Rattle.wh_find_flat.specs.Numbers.{Builds, IsValue}
+use Rattle.wh_find_flat.specs.Numbers.{IsValue}
 use Rattle.wh_find_flat.proofs.Applied.{applied_builds, plain_meta, value_later}
-use Rattle.wh_find_flat.proofs.Growth.{builds_none, builds_then, on_ok, ok_so, on_ok_so}
+use Rattle.wh_find_flat.proofs.Growth.{builds_none, on_ok, ok_so, on_ok_so}
 use Rattle.wh_find_flat.proofs.Small.{occurs_some, places_few}
 use Rattle.wh_find_flat.proofs.numbers.+number.Goals as goal
 
@@ -81,6 +81,6 @@ returns-in_ok-last-in-App-clause-value t c =
     let plain = subst IsPlain is c.requires.plain in
     let sizes = c.args.bits.now.sizes.items in
     let front = value_later sizes c.args.part (gates_of c.number.new.circuit) (gates_of c.number-in-App.new.circuit) a c.in_ok-front-in-App.front
-        c.in_ok-last-in-App.ensures.builds.gates c.in_ok-front-in-App.ensures.value in
+    c.in_ok-last-in-App.ensures.builds.gates c.in_ok-front-in-App.ensures.value in
     ok_so c.applied.result _ _ (λ value i. subst (λ (u : Tm). IsValue sizes c.args.part (gates_of c.applied.new.circuit) u value) (sym is) i)
     (c.applied.ensures.value c.args.part a b plain.0 plain.1 front c.in_ok-last-in-App.ensures.value)

@@ -1,4 +1,4 @@
-use Rattle.std.proofs.Common.{◌≡◌, ◌*◌, ◌+◌, List, refl, sym, subst}
+use Rattle.std.proofs.Common.{◌≡◌, ◌*◌, ◌+◌, List, refl, subst}
 use Rattle.wh_sat_trail.specs.declared.literal.Literal.{Literal}
 use Rattle.wh_circuit.specs.State.{gates_of}
 use Rattle.wh_find_flat.specs.Products.{IsProduct}

@@ -1,11 +1,9 @@
-use Rattle.std.proofs.Common.{rules, ◌≡◌, ℕ, ◌+◌, ◌*◌, ◌<◌, ◌≤◌, ◌^◌, IfOk, OnOk, Some, None, length, take, List, arith, refl, ap, subst, ◌∙◌}
+use Rattle.std.proofs.Common.{rules, ◌≡◌, ◌+◌, ◌*◌, None, length, take, List, arith, ap, subst, ◌∙◌}
 use Rattle.wh_sat.specs.Solving.{literal_true}
 use Rattle.wh_circuit.specs.Gates.{MeansNumber}
 use Rattle.wh_circuit.specs.Values.{bit, number_of}
 use Rattle.wh_sat_trail.specs.declared.literal.Literal.{Literal}
 use Rattle.wh_circuit.specs.State.{gates_of}
-use Rattle.wh_find_flat.specs.Numbers.{Builds}
-use Rattle.wh_find_flat.specs.Products.{IsProduct}
 use Rattle.wh_find_flat.proofs.Growth.{builds_none, builds_then, ok_so, on_ok}
 use Rattle.wh_find_flat.proofs.ProductLemmas.{product_empty, product_none, product_some}
 use Rattle.wh_find_flat.proofs.products.with_product.Goals as goal

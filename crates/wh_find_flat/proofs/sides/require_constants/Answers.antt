@@ -1,4 +1,4 @@
-use Rattle.std.proofs.Common.{rules, ◌≡◌, ℕ, ◌+◌, ◌-◌, ◌*◌, ◌<◌, ◌≤◌, List, Bool, false, not, nat_lt, length, arith, ap, ap₂, sym, subst, ◌∙◌}
+use Rattle.std.proofs.Common.{◌≡◌, ℕ, ◌+◌, ◌-◌, ◌*◌, ◌≤◌, List, Bool, not, nat_lt, length, arith, ap, ap₂, sym, subst, ◌∙◌}
 use Rattle.wh_sat_trail.specs.declared.literal.Literal.{Literal}
 use Rattle.wh_sat_trail.specs.Assignment.{AllBelow}
 use Rattle.wh_terms.specs.Erase.{tm}
@@ -93,11 +93,11 @@ returns-clause-means c =
     record {
       own = (let o = means.own in let s = ap (λ (l : Literal). l.variable) c.not.ensures.same in omega (arith, o, more, s));
       is = λ v k. (
-        let early = agrees_early (gates_of three) (gates_of new) v last k in
-        let second = agrees_early (gates_of two) (gates_of three) v c.in_ok-other.ensures.builds.gates early in
-        let first = agrees_early (gates_of mid) (gates_of two) v c.in_ok-second.ensures.builds.gates second in
-        let x = ap (number_of v) c.deref-2.ensures.value ∙ c.in_ok-first.ensures.value.means.is v first in
-        let y = ap (number_of v) c.deref.ensures.value ∙ c.in_ok-second.ensures.value.means.is v second in
-        c.not.ensures.means v ∙ ap not (means.is v early) ∙ not_at_least (number_of v c.deref.result.now) (number_of v c.deref-2.result.now)
-        ∙ ap₂ nat_lt y x);
+          let early = agrees_early (gates_of three) (gates_of new) v last k in
+          let second = agrees_early (gates_of two) (gates_of three) v c.in_ok-other.ensures.builds.gates early in
+          let first = agrees_early (gates_of mid) (gates_of two) v c.in_ok-second.ensures.builds.gates second in
+          let x = ap (number_of v) c.deref-2.ensures.value ∙ c.in_ok-first.ensures.value.means.is v first in
+          let y = ap (number_of v) c.deref.ensures.value ∙ c.in_ok-second.ensures.value.means.is v second in
+          c.not.ensures.means v ∙ ap not (means.is v early) ∙ not_at_least (number_of v c.deref.result.now) (number_of v c.deref-2.result.now)
+          ∙ ap₂ nat_lt y x);
     }

@@ -1,4 +1,4 @@
-use Rattle.std.proofs.Common.{rules, ◌≡◌, ℕ, ◌+◌, ◌-◌, ◌*◌, ◌<◌, ◌≤◌, List, Bool, true, false, if◌then◌else◌, length, arith, ap, sym, subst, ◌∙◌}
+use Rattle.std.proofs.Common.{◌≡◌, ℕ, ◌+◌, ◌-◌, ◌*◌, ◌<◌, ◌≤◌, Bool, true, false, if◌then◌else◌, length, arith, ap, sym, subst, ◌∙◌}
 use Rattle.wh_terms.specs.Erase.{tm}
 use Rattle.wh_circuit.specs.State.{gates_of}
 use Rattle.wh_circuit.specs.declared.circuit.Circuit.{Circuit}

@@ -1,4 +1,4 @@
-use Rattle.std.proofs.Common.{◌≡◌, ℕ, ◌+◌, ◌-◌, ◌*◌, ◌<◌, ◌≤◌, Bool, false, length}
+use Rattle.std.proofs.Common.{ℕ, ◌+◌, ◌-◌, ◌*◌, ◌<◌, ◌≤◌, length}
 use Rattle.wh_terms.specs.Erase.{tm}
 use Rattle.wh_circuit.specs.State.{gates_of}
 use Rattle.wh_flat.specs.Flat.{occurrences}

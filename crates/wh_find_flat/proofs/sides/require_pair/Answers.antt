@@ -1,7 +1,6 @@
-use Rattle.std.proofs.Common.{rules, ◌≡◌, ℕ, ◌+◌, ◌-◌, ◌*◌, ◌<◌, ◌≤◌, nat_lt, List, Bool, length, arith}
+use Rattle.std.proofs.Common.{ℕ, ◌<◌, ◌≤◌, nat_lt}
 use Rattle.wh_terms.specs.Erase.{tm}
 use Rattle.wh_circuit.specs.State.{gates_of}
-use Rattle.wh_flat.specs.Flat.{occurrences}
 use Rattle.wh_flat.specs.Worth.{IsAtLeast, constant_of, factor_of}
 use Rattle.wh_find_flat.specs.Lists.{lists_for}
 use Rattle.wh_find_flat.proofs.AskLemmas.{asks_then}

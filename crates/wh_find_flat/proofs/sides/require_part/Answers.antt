@@ -1,5 +1,4 @@
-use Rattle.std.proofs.Common.{rules, ◌≡◌, ℕ, ◌+◌, ◌-◌, ◌*◌, ◌<◌, ◌≤◌, List, Bool, false, length, arith, ap, sym, subst, ◌∙◌}
-use Rattle.wh_sat_trail.specs.declared.literal.Literal.{Literal}
+use Rattle.std.proofs.Common.{◌≡◌, ℕ, ◌+◌, ◌-◌, ◌*◌, ◌≤◌, Bool, arith, ap, ◌∙◌}
 use Rattle.wh_terms.specs.Erase.{tm}
 use Rattle.wh_circuit.specs.Gates.{Agrees}
 use Rattle.wh_circuit.specs.State.{gates_of}
