@@ -1,7 +1,7 @@
 -- What the search by a circuit ends with.
-use Rattle.std.proofs.Common.{◌≡◌, ℕ, ◌*◌, ◌<◌, ◌≤◌, Bool, true, List, [], ◌∷◌, map, length, All, refl, ap, subst, ◌∙◌, arith}
+use Rattle.std.proofs.Common.{◌≡◌, ℕ, ◌*◌, ◌<◌, ◌≤◌, Bool, true, List, [], ◌∷◌, map, length, All, refl, sym, subst, ◌∙◌, arith}
 use Rattle.std.specs.Global.{Vec}
-use Rattle.wh_pairs.specs.PairData.{PairData, pair_data}
+use Rattle.wh_pairs.specs.PairData.{PairData}
 use Rattle.wh_pairs.specs.Marked.{AreMarked}
 use Rattle.wh_pairs.specs.Candidates.{candidates}
 use Rattle.wh_pairs.specs.Subsumption.{ArePairs}
@@ -10,12 +10,13 @@ use Rattle.wh_pairs.proofs.MemberLemmas.{none_there}
 use Rattle.wh_terms.specs.Typing.{Symbols}
 use Rattle.wh_terms.specs.Rules.{RewriteRule}
 use Rattle.wh_system.specs.SystemView.{system_data}
+use Rattle.wh_system.specs.Systems.{SystemData}
 use Rattle.wh_system.specs.WellMade.{IsWellMadeSystem}
-use Rattle.wh_hopoly.specs.Erase.{interpretations}
-use Rattle.wh_hopoly.specs.Evaluation.{Interpretation}
-use Rattle.wh_polycheck.specs.Marks.{Mark}
-use Rattle.wh_polycheck.specs.SideResults.{marks_of}
-use Rattle.wh_polycheck.specs.declared.marks.MarkedSymbol.{MarkedSymbol}
+use Rattle.wh_reduction.specs.TaskData.{TaskData}
+use Rattle.wh_reduction.specs.TaskView.{task_data}
+use Rattle.wh_reduction.specs.declared.task.Task.{Task}
+use Rattle.wh_polycheck.specs.Readings.{ReadingsData}
+use Rattle.wh_covering.proofs.Walks.{marks_are}
 use Rattle.wh_sat_trail.specs.declared.literal.Literal.{Literal}
 use Rattle.wh_sat_trail.specs.Propagation.{Within}
 use Rattle.wh_sat.specs.Solving.{Solves}
@@ -25,12 +26,12 @@ use Rattle.wh_circuit.specs.State.{gates_of, required_of}
 use Rattle.wh_circuit.specs.declared.circuit.Circuit.{Circuit}
 use Rattle.wh_space.specs.Space.{space_of}
 use Rattle.wh_guesses.specs.Coefficients.{scopes_of, HaveCoefficients}
-use Rattle.wh_guesses.specs.Conditions.{LetsGo}
-use Rattle.wh_guesses.specs.Tasks.{IsTaskOf, IsGuessOf}
-use Rattle.wh_guesses.specs.Weighing.{Fails}
-use Rattle.wh_guesses.specs.declared.task.Task.{Task}
-use Rattle.wh_guesses.specs.declared.task.Guess.{Guess}
-use Rattle.wh_guesses.proofs.GuessLemmas.{guess_kinds}
+use Rattle.wh_guesses.specs.Conditions.{Fails, LetsGo}
+use Rattle.wh_guesses.specs.Found.{task_of}
+use Rattle.wh_guesses.specs.Tasks.{IsTaskOf, IsGuessOf, guess_data}
+use Rattle.wh_guesses.specs.declared.guess.Guess.{Guess}
+use Rattle.wh_guesses.proofs.GuessLemmas.{guess_of_space}
+use Rattle.wh_guesses.proofs.NodeLemmas.{whole_is}
 use Rattle.wh_blocking.specs.Sizes.{bits_in, lists_of, value_of}
 use Rattle.wh_blocking.specs.Tried.{AreWritten}
 use Rattle.wh_blocking.proofs.EncodingLemmas.{lists_are}
@@ -39,45 +40,49 @@ use Rattle.wh_find_flat.specs.Ready.{IsFlatCircuit}
 use Rattle.wh_find_flat.specs.Answers.{IsFlatFormula}
 use Rattle.wh_find_flat.proofs.Formulas.{flat_formula}
 
-marks_are : (xs : List MarkedSymbol) → map (λ m. m.symbol) (marks_of xs) ≡ map (λ m. m.symbol) xs
-marks_are [] = refl
-marks_are (x ∷ xs) = ap (λ l. x.symbol ∷ l) (marks_are xs)
-
-module _ (t : Task) (marked sizes : List ℕ)
-    (sized : sizes ≡ map (λ Γ. length (space_of Γ)) (scopes_of (system_data t.system.now).symbols (system_data t.system.now).rules marked)) where
-  abbrev S : Symbols
-  S = (system_data t.system.now).symbols
-
-  abbrev R : List RewriteRule
-  R = (system_data t.system.now).rules
+module _ (t : Task) (marked sizes : List ℕ) (sized : sizes ≡ map (λ Γ. length (space_of Γ)) (scopes_of (task_data t) marked)) where
+  abbrev d : SystemData
+  d = system_data t.system.now
 
   abbrev ps : List PairData
-  ps = map pair_data t.pairs.now
+  ps = (task_data t).pairs
+
+  -- the set with all rules
+  abbrev T : TaskData
+  T = task_of d ps t.set.now
 
   -- the formula of the circuit
-  pub formula_is : (circuit : Circuit) (variables : ℕ) (clauses : List (List Literal)) → IsWellMadeSystem (system_data t.system.now)
-      → IsTaskOf t → IsFlat (system_data t.system.now) ps t.set.now → AreMarked ps t.set.now marked
-      → IsFlatCircuit sizes S R ps t.set.now marked (bits_in sizes) circuit → length (gates_of circuit) ≤ 200000 * all_occurrences R ps t.set.now
-      → variables ≡ length (gates_of circuit) → Within variables clauses → Ordered (gates_of circuit)
+  pub formula_is : (circuit : Circuit) (variables : ℕ) (clauses : List (List Literal)) → IsWellMadeSystem d → IsTaskOf t → IsFlat (task_data t)
+      → AreMarked ps t.set.now marked → IsFlatCircuit sizes (task_data t) marked (bits_in sizes) circuit
+      → length (gates_of circuit) ≤ 200000 * all_occurrences (task_data t) → variables ≡ length (gates_of circuit) → Within variables clauses
+      → Ordered (gates_of circuit)
       → ((v : ℕ → Bool) → Solves v clauses → Agrees (gates_of circuit) v × (all_true v (required_of circuit) ≡ true))
       → ((v : ℕ → Bool) → Agrees (gates_of circuit) v → all_true v (required_of circuit) ≡ true → Solves v clauses)
-      → IsFlatFormula (system_data t.system.now) ps t.set.now marked variables clauses
+      → IsFlatFormula T marked variables clauses
   formula_is circuit variables clauses made task flat are is few count within ordered sound complete =
-      flat_formula (system_data t.system.now) ps t.set.now marked made task.typed flat are sizes sized circuit is variables clauses ordered sound complete
+      let same : task_data t ≡ T = whole_is t task.whole in
+      flat_formula d ps t.set.now marked made task.typed.typed (subst IsFlat same flat) are sizes sized circuit
+      (subst (λ U. IsFlatCircuit sizes U marked (bits_in sizes) circuit) same is) variables clauses ordered sound complete
       (omega (arith, few, count)) within
+
+  -- what its models write lets a pair of the task's set go
+  pub models_let_go : (variables : ℕ) (clauses : List (List Literal)) → IsTaskOf t → IsFlatFormula T marked variables clauses
+      → (v : ℕ → Bool) → Solves v clauses → (R : ReadingsData) → AreWritten (task_data t) marked v R → LetsGo (task_data t) R
+  models_let_go variables clauses task formula =
+      let same : task_data t ≡ T = whole_is t task.whole in
+      (subst (λ U. IsFlatFormula U marked variables clauses) (sym same) formula).models
 
   -- no condition fails under what the bits write, where that lets a pair go
   pub never_fails : (values : List Bool) (lists : List (Vec ℕ)) (g : Guess) (k : ℕ)
-      → ((symbols : List Interpretation) (marks : List Mark) → AreWritten S R ps t.set.now marked (value_of values) symbols marks
-      → LetsGo S R ps t.set.now symbols marks)
+      → ((R : ReadingsData) → AreWritten (task_data t) marked (value_of values) R → LetsGo (task_data t) R)
       → map (λ l. l.items) lists ≡ lists_of (value_of values) 0 sizes → IsGuessOf t g → map (λ m. m.symbol) g.marks.items ≡ marked
-      → HaveCoefficients S R (map (λ l. l.items) lists) (interpretations g.symbols.items) (marks_of g.marks.items) → Fails t g k → ⊥
+      → HaveCoefficients (task_data t) (map (λ l. l.items) lists) (guess_data g) → Fails (task_data t) (guess_data g) k → ⊥
   never_fails values lists g k go by guess marks has (c, is, fails) =
-      fails (go (interpretations g.symbols.items) (marks_of g.marks.items) record {
-        kinds = guess_kinds S R ps t.set.now g.symbols.items g.marks.items guess;
+      fails (go (guess_data g) record {
+        kinds = (guess_of_space t g guess).readings.kinds;
         marked_are = marks_are g.marks.items ∙ marks;
-        coefficients = subst (λ l. HaveCoefficients S R l (interpretations g.symbols.items) (marks_of g.marks.items))
-            (lists_are (scopes_of S R marked) sizes (value_of values) (map (λ l. l.items) lists) sized by) has;
+        coefficients = subst (λ l. HaveCoefficients (task_data t) l (guess_data g))
+            (lists_are (scopes_of (task_data t) marked) sizes (value_of values) (map (λ l. l.items) lists) sized by) has;
       } k c is)
 
 -- where there is a pair there is a rule

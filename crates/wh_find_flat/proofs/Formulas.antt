@@ -4,7 +4,8 @@ use Rattle.wh_system.specs.Systems.{SystemData}
 use Rattle.wh_system.specs.WellMade.{IsWellMadeSystem}
 use Rattle.wh_pairs.specs.PairData.{PairData}
 use Rattle.wh_pairs.specs.Marked.{AreMarked}
-use Rattle.wh_hopoly.specs.Evaluation.{Interpretation}
+use Rattle.wh_reduction.specs.TaskData.{TaskData}
+use Rattle.wh_polycheck.specs.Readings.{ReadingsData, AreReadingsFor}
 use Rattle.wh_polycheck.specs.Covering.{HaveTypedSides}
 use Rattle.wh_polycheck.specs.Marks.{Mark}
 use Rattle.wh_proof.proofs.InterpretationLemmas.{marked_one}
@@ -19,6 +20,7 @@ use Rattle.wh_circuit.proofs.Carrying.{values_exist_law}
 use Rattle.wh_space.specs.Space.{space_of}
 use Rattle.wh_guesses.specs.Coefficients.{scopes_of, AreOfSpace, HaveCoefficients}
 use Rattle.wh_guesses.specs.Conditions.{LetsGo}
+use Rattle.wh_guesses.specs.Found.{task_of}
 use Rattle.wh_blocking.specs.Bits.{digits, lists_by}
 use Rattle.wh_blocking.specs.Sizes.{bits_in, lists_of}
 use Rattle.wh_blocking.specs.Tried.{AreWritten}
@@ -53,63 +55,61 @@ lists_alike v w x (k ∷ sizes) same = ap₂ (λ c cs. c ∷ cs) (digits_alike v
     subst (λ z. v z ≡ w z) e (same (2 * k + y) (omega (arith, below)))))
 
 module _ (d : SystemData) (pairs : List PairData) (set marked : List ℕ) (made : IsWellMadeSystem d)
-    (typed : HaveTypedSides d.symbols d.rules pairs) (flat : IsFlat d pairs set) (are : AreMarked pairs set marked) (sizes : List ℕ)
-    (sized : sizes ≡ map (λ Γ. length (space_of Γ)) (scopes_of d.symbols d.rules marked)) where
+    (typed : HaveTypedSides d.symbols d.rules pairs) (flat : IsFlat (task_of d pairs set)) (are : AreMarked pairs set marked) (sizes : List ℕ)
+    (sized : sizes ≡ map (λ Γ. length (space_of Γ)) (scopes_of (task_of d pairs set) marked)) where
+  abbrev T : TaskData
+  T = task_of d pairs set
+
   -- the coefficients that bits write
-  lists_are : (v : ℕ → Bool) → lists_for sizes v ≡ lists_by v (scopes_of d.symbols d.rules marked)
-  lists_are v = ap (lists_of v 0) sized ∙ lists_same v 0 (scopes_of d.symbols d.rules marked)
+  lists_are : (v : ℕ → Bool) → lists_for sizes v ≡ lists_by v (scopes_of T marked)
+  lists_are v = ap (lists_of v 0) sized ∙ lists_same v 0 (scopes_of T marked)
 
-  module _ (v : ℕ → Bool) (symbols : List Interpretation) (marks : List Mark)
-      (by : AreWritten d.symbols d.rules pairs set marked v symbols marks) where
-    coefficients : HaveCoefficients d.symbols d.rules (lists_for sizes v) symbols marks
-    coefficients = subst (λ l. HaveCoefficients d.symbols d.rules l symbols marks) (sym (lists_are v)) by.coefficients
+  module _ (v : ℕ → Bool) (R : ReadingsData) (by : AreWritten T marked v R) where
+    coefficients : HaveCoefficients T (lists_for sizes v) R
+    coefficients = subst (λ l. HaveCoefficients T l R) (sym (lists_are v)) by.coefficients
 
-    of_set : AreMarked pairs set (map (λ m. m.symbol) marks)
-    of_set = subst (AreMarked pairs set) (sym by.marked_are) are
+    readings : AreReadingsFor T R
+    readings = record { kinds = by.kinds; marked = subst (AreMarked pairs set) (sym by.marked_are) are }
 
-    go_if : LetsGoBy d.symbols d.rules pairs set marked (lists_for sizes v) → LetsGo d.symbols d.rules pairs set symbols marks
-    go_if h = lets_go_if d pairs set (lists_for sizes v) symbols marks made typed flat by.kinds of_set coefficients
-        (subst (λ ns. LetsGoBy d.symbols d.rules pairs set ns (lists_for sizes v)) (sym by.marked_are) h)
+    go_if : LetsGoBy T marked (lists_for sizes v) → LetsGo T R
+    go_if h = lets_go_if d pairs set (lists_for sizes v) R made typed flat readings coefficients
+        (subst (λ ns. LetsGoBy T ns (lists_for sizes v)) (sym by.marked_are) h)
 
-    go_by : LetsGo d.symbols d.rules pairs set symbols marks → LetsGoBy d.symbols d.rules pairs set marked (lists_for sizes v)
-    go_by h = subst (λ ns. LetsGoBy d.symbols d.rules pairs set ns (lists_for sizes v)) by.marked_are
-        (lets_go_by d pairs set (lists_for sizes v) symbols marks made typed flat by.kinds of_set coefficients h)
+    go_by : LetsGo T R → LetsGoBy T marked (lists_for sizes v)
+    go_by h = subst (λ ns. LetsGoBy T ns (lists_for sizes v)) by.marked_are
+        (lets_go_by d pairs set (lists_for sizes v) R made typed flat readings coefficients h)
 
-  module _ (circuit : Circuit) (is : IsFlatCircuit sizes d.symbols d.rules pairs set marked (bits_in sizes) circuit) (variables : ℕ)
-      (clauses : List (List Literal)) (ordered : Ordered (gates_of circuit))
+  module _ (circuit : Circuit) (is : IsFlatCircuit sizes T marked (bits_in sizes) circuit) (variables : ℕ) (clauses : List (List Literal))
+      (ordered : Ordered (gates_of circuit))
       (sound : (v : ℕ → Bool) → Solves v clauses → Agrees (gates_of circuit) v × (all_true v (required_of circuit) ≡ true))
       (complete : (v : ℕ → Bool) → Agrees (gates_of circuit) v → all_true v (required_of circuit) ≡ true → Solves v clauses) where
-    all_written : (symbols : List Interpretation) (marks : List Mark) → AreOfSpace d.symbols d.rules pairs set symbols marks
-        → LetsGo d.symbols d.rules pairs set symbols marks
-        → (v : ℕ → Bool) × Solves v clauses × AreWritten d.symbols d.rules pairs set marked v symbols marks
-    all_written symbols marks space go =
-        let one : map (λ m. m.symbol) marks ≡ marked = marked_one pairs set (map (λ (m : Mark). m.symbol) marks) marked space.marked are in
-        let (w, first) = written d.symbols d.rules pairs set symbols marks space in
-        let by : AreWritten d.symbols d.rules pairs set marked w symbols marks =
-        subst (λ ns. AreWritten d.symbols d.rules pairs set ns w symbols marks) one first in
+    all_written : (R : ReadingsData) → AreOfSpace T R → LetsGo T R → (v : ℕ → Bool) × Solves v clauses × AreWritten T marked v R
+    all_written R space go =
+        let one : map (λ m. m.symbol) R.marks ≡ marked =
+        marked_one pairs set (map (λ (m : Mark). m.symbol) R.marks) marked space.readings.marked are in
+        let (w, first) = written T R space in
+        let by : AreWritten T marked w R = subst (λ ns. AreWritten T ns w R) one first in
         let (v, carries) = values_exist_law (gates_of circuit) w ordered in
         let alike : lists_for sizes v ≡ lists_for sizes w = lists_alike v w 0 sizes (λ y below.
         let (g, at, input) = is.inputs y below in
         let e : y ≡ 0 + y = omega arith in
         subst (λ x. v x ≡ w x) e (carries.inputs y g at input)) in
-        let told = go_by w symbols marks by go in
-        let true_there = is.asks v carries.agrees (subst (LetsGoBy d.symbols d.rules pairs set marked) (sym alike) told) in
-        let lists : lists_by w (scopes_of d.symbols d.rules marked) ≡ lists_by v (scopes_of d.symbols d.rules marked) =
-        sym (lists_are w) ∙ sym alike ∙ lists_are v in (
+        let told = go_by w R by go in
+        let true_there = is.asks v carries.agrees (subst (LetsGoBy T marked) (sym alike) told) in
+        let lists : lists_by w (scopes_of T marked) ≡ lists_by v (scopes_of T marked) = sym (lists_are w) ∙ sym alike ∙ lists_are v in (
           v,
           complete v carries.agrees true_there,
           record {
             kinds = by.kinds;
             marked_are = by.marked_are;
-            coefficients = subst (λ l. HaveCoefficients d.symbols d.rules l symbols marks) lists by.coefficients;
+            coefficients = subst (λ l. HaveCoefficients T l R) lists by.coefficients;
           },
         )
 
-    pub flat_formula : variables ≤ 200000 * all_occurrences d.rules pairs set → Within variables clauses
-        → IsFlatFormula d pairs set marked variables clauses
+    pub flat_formula : variables ≤ 200000 * all_occurrences T → Within variables clauses → IsFlatFormula T marked variables clauses
     flat_formula few within = record {
       few = few;
       within = within;
-      models = λ v solves symbols marks by. (let (agrees, met) = sound v solves in go_if v symbols marks by (is.met v agrees met));
+      models = λ v solves R by. (let (agrees, met) = sound v solves in go_if v R by (is.met v agrees met));
       all = all_written;
     }

@@ -7,6 +7,7 @@ use Rattle.wh_terms.specs.Typing.{Symbols}
 use Rattle.wh_terms.specs.Rules.{RewriteRule}
 use Rattle.wh_pairs.specs.PairData.{PairData}
 use Rattle.wh_pairs.specs.Sets.{InSet}
+use Rattle.wh_reduction.specs.TaskData.{TaskData}
 use Rattle.std.specs.Option.{option_map_or}
 use Rattle.std.proofs.lemmas.List.Sums.{sum_by-cons}
 use Rattle.wh_flat.specs.Flat.{all_occurrences, occurrences_at, pair_occurrences, rule_occurrences}
@@ -77,8 +78,19 @@ abbrev IsSomeGreater : List ℕ → ℕ → List ℕ → List PairData → List 
 IsSomeGreater sizes first marked pairs set v =
     (p : PairData) × InSet pairs set p × IsGreater (lists_for sizes v) (left_of first marked p) (right_of first marked p)
 
-module _ (sizes : List ℕ) (S : Symbols) (rules : List RewriteRule) (pairs : List PairData) (set marked : List ℕ)
-    (within : (k : ℕ) → k < length set → get_or set k 0 < length pairs) where
+module _ (sizes : List ℕ) (T : TaskData) (marked : List ℕ) (within : (k : ℕ) → k < length T.set → get_or T.set k 0 < length T.pairs) where
+  abbrev S : Symbols
+  S = T.symbols
+
+  abbrev rules : List RewriteRule
+  rules = T.rules
+
+  abbrev pairs : List PairData
+  pairs = T.pairs
+
+  abbrev set : List ℕ
+  set = T.set
+
   module _ (gates : List Gate) (wires : List Literal) (are : AreGreater sizes (length S.funs) marked pairs set gates wires) where
     some_of : (v : ℕ → Bool) → Agrees gates v → clause_true v wires ≡ true → IsSomeGreater sizes (length S.funs) marked pairs set v
     some_of v a h =
@@ -111,7 +123,7 @@ module _ (sizes : List ℕ) (S : Symbols) (rules : List RewriteRule) (pairs : Li
       → AreGreater sizes (length S.funs) marked pairs set (gates_of c2) wires
       → Builds 1 c2 c3 → Means (gates_of c3) some (λ v. clause_true v wires)
       → gates_of c4 ≡ gates_of c3 → required_of c4 ≡ required_of c3 ++ some ∷ []
-      → IsFlatCircuit sizes S rules pairs set marked count c4
+      → IsFlatCircuit sizes T marked count c4
   whole count c0 c1 c2 c3 c4 wires some inputs none g h are built means gates more =
       let k : Asks c2 c4 (IsSomeGreater sizes (length S.funs) marked pairs set) =
       asks_wire c2 c3 c4 some (λ v. clause_true v wires) (IsSomeGreater sizes (length S.funs) marked pairs set) built.gates built.required gates more means
@@ -120,8 +132,8 @@ module _ (sizes : List ℕ) (S : Symbols) (rules : List RewriteRule) (pairs : Li
       let P : (ℕ → Bool) → Type 0 = λ v. (k : ℕ) → k < length rules → RuleHolds sizes rules v k in
       let Q : (ℕ → Bool) → Type 0 = λ v. (k : ℕ) → k < length set → PairHolds sizes (length S.funs) marked pairs set v k in
       let both : Asks c0 c2 (λ v. P v × Q v) = asks_then c0 c1 c2 P Q (λ v. P v × Q v) g h (λ v a p q. (p, q)) (λ v a r. r.0) (λ v a r. r.1) in
-      let all : Asks c0 c4 (λ v. LetsGoBy S rules pairs set marked (lists_for sizes v)) =
-      asks_then c0 c2 c4 (λ v. P v × Q v) (IsSomeGreater sizes (length S.funs) marked pairs set) (λ v. LetsGoBy S rules pairs set marked (lists_for sizes v)) both k
+      let all : Asks c0 c4 (λ v. LetsGoBy T marked (lists_for sizes v)) =
+      asks_then c0 c2 c4 (λ v. P v × Q v) (IsSomeGreater sizes (length S.funs) marked pairs set) (λ v. LetsGoBy T marked (lists_for sizes v)) both k
       (λ v a pq s. record {
         rules_at_least = λ r c. (let (i, at) = place_of rules r c in pq.0 i (slice_get_within rules i r at) r at);
         pairs_at_least = λ p in_set. (let (n, c, at) = in_set in let (i, si) = place_of set n c in pq.1 i (slice_get_within set i n si) n p si at);
@@ -145,16 +157,15 @@ least_sum f (x ∷ xs) h =
     omega (arith, a, b, e)
 
 -- in all at least two in each rule, and in each pair of the set
-pub many_occurrences : (rules : List RewriteRule) (pairs : List PairData) (set : List ℕ)
-    → ((r : RewriteRule) → Contains rules r → IsReadyRule r) → ((k : ℕ) → k < length set → get_or set k 0 < length pairs)
-    → 2 * (length rules + length set) ≤ all_occurrences rules pairs set
-many_occurrences rules pairs set ready within =
-    let a = least_sum rule_occurrences rules (λ r c. (let p = (ready r c).plain in
+pub many_occurrences : (T : TaskData) → ((r : RewriteRule) → Contains T.rules r → IsReadyRule r)
+    → ((k : ℕ) → k < length T.set → get_or T.set k 0 < length T.pairs) → 2 * (length T.rules + length T.set) ≤ all_occurrences T
+many_occurrences T ready within =
+    let a = least_sum rule_occurrences T.rules (λ r c. (let p = (ready r c).plain in
     let x = occurs_some r.left p.left_plain in let y = occurs_some r.right p.right_plain in omega (arith, x, y))) in
-    let b = least_sum (occurrences_at pairs) set (λ n c. (let (k, at) = place_of set n c in
-    let less = slice_get_within set k n at in
-    let same : get_or set k 0 ≡ n = some_one (slice_get-get_or set k 0 less) at in
-    let (p, there) = pair_there pairs n (subst (λ n. n < length pairs) same (within k less)) in
-    let e : occurrences_at pairs n ≡ pair_occurrences p = ap (λ (o : Option PairData). option_map_or pair_occurrences o 0) there in
+    let b = least_sum (occurrences_at T.pairs) T.set (λ n c. (let (k, at) = place_of T.set n c in
+    let less = slice_get_within T.set k n at in
+    let same : get_or T.set k 0 ≡ n = some_one (slice_get-get_or T.set k 0 less) at in
+    let (p, there) = pair_there T.pairs n (subst (λ n. n < length T.pairs) same (within k less)) in
+    let e : occurrences_at T.pairs n ≡ pair_occurrences p = ap (λ (o : Option PairData). option_map_or pair_occurrences o 0) there in
     omega (arith, e))) in
     omega (arith, a, b)

@@ -2,9 +2,9 @@
 use Rattle.std.specs.Prelude.{ℕ, ◌+◌, ◌<◌, ◌≡◌, nat_lt, true, Bool, List, Some, length, slice_get}
 use Rattle.wh_sat_trail.specs.declared.literal.Literal.{Literal}
 use Rattle.wh_terms.specs.Tree.{Tm, fun, spine}
-use Rattle.wh_terms.specs.Typing.{Symbols}
 use Rattle.wh_terms.specs.Rules.{RewriteRule}
 use Rattle.wh_pairs.specs.PairData.{PairData}
+use Rattle.wh_reduction.specs.TaskData.{TaskData}
 use Rattle.wh_circuit.specs.declared.circuit.Circuit.{Circuit}
 use Rattle.wh_circuit.specs.declared.circuit.Gate.{Gate}
 use Rattle.wh_circuit.specs.Gates.{Agrees, Means}
@@ -62,10 +62,7 @@ pub record AreGreater (sizes : List ℕ) (first : ℕ) (marked : List ℕ) (pair
   pub each : (k : ℕ) (w : Literal) → slice_get wires k ≡ Some w → TellsGreater sizes first marked pairs set gates k w
 
 -- the inputs are the bits of coefficients, and what is required is that these let a pair of the set go
-pub record IsFlatCircuit (sizes : List ℕ) (S : Symbols) (rules : List RewriteRule) (pairs : List PairData) (set marked : List ℕ) (bits : ℕ)
-    (circuit : Circuit) : Type 0 where
+pub record IsFlatCircuit (sizes : List ℕ) (T : TaskData) (marked : List ℕ) (bits : ℕ) (circuit : Circuit) : Type 0 where
   pub inputs : AreInputs bits (gates_of circuit)
-  pub met : (v : ℕ → Bool) → Agrees (gates_of circuit) v → all_true v (required_of circuit) ≡ true
-      → LetsGoBy S rules pairs set marked (lists_for sizes v)
-  pub asks : (v : ℕ → Bool) → Agrees (gates_of circuit) v → LetsGoBy S rules pairs set marked (lists_for sizes v)
-      → all_true v (required_of circuit) ≡ true
+  pub met : (v : ℕ → Bool) → Agrees (gates_of circuit) v → all_true v (required_of circuit) ≡ true → LetsGoBy T marked (lists_for sizes v)
+  pub asks : (v : ℕ → Bool) → Agrees (gates_of circuit) v → LetsGoBy T marked (lists_for sizes v) → all_true v (required_of circuit) ≡ true

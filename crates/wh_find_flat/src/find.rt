@@ -1,19 +1,18 @@
 //! The search for interpretations of a flat set.
 
-ghost use Rattle.std.specs.Prelude.{◌≡◌, ◌≤◌, ◌<◌, ℕ, Bool, List, All, IfOk, IsTrue, ◌↔◌, length, map};
+ghost use Rattle.std.specs.Prelude.{◌≡◌, ◌≤◌, ◌<◌, All, IfOk, length, map};
 ghost use Rattle.wh_types.specs.Limits.{most_pairs};
 ghost use Rattle.wh_system.specs.SystemView.{system_data};
 ghost use Rattle.wh_pairs.specs.Marked.{AreMarked};
-ghost use Rattle.wh_pairs.specs.PairData.{pair_data};
 ghost use Rattle.wh_pairs.specs.SystemPairs.{HasPairs};
 ghost use Rattle.wh_pairs.specs.Views.{pairs_data};
-ghost use Rattle.wh_hopoly.specs.Evaluation.{Interpretation};
-ghost use Rattle.wh_polycheck.specs.Marks.{Mark};
+ghost use Rattle.wh_reduction.specs.TaskView.{task_data};
+ghost use Rattle.wh_polycheck.specs.Readings.{ReadingsData};
 ghost use Rattle.wh_cert.specs.Said.{said_node};
 ghost use Rattle.wh_space.specs.Space.{space_of};
 ghost use Rattle.wh_guesses.specs.Coefficients.{scopes_of};
 ghost use Rattle.wh_guesses.specs.Conditions.{LetsGo};
-ghost use Rattle.wh_guesses.specs.Found.{IsInterpretation};
+ghost use Rattle.wh_guesses.specs.Found.{IsInterpretation, task_of};
 ghost use Rattle.wh_guesses.specs.Tasks.{IsTaskOf};
 ghost use Rattle.wh_blocking.specs.Sizes.{bits_in, value_of};
 ghost use Rattle.wh_blocking.specs.Tried.{AreWritten};
@@ -25,8 +24,9 @@ use crate::formula::circuit_of;
 use std::alloc::{AllocError, Global};
 use wh_blocking::{first_bits, lists_by};
 use wh_cert::Node;
-use wh_guesses::{Task, Weighing, guess_by, node_of_guess, sizes_of};
+use wh_guesses::{Weighing, guess_by, node_of_guess, sizes_of};
 use wh_pairs::{PairList, PairSet, marked_symbols};
+use wh_reduction::{Task, all_rules};
 use wh_sat::{Outcome, Search, solve};
 use wh_system::System;
 
@@ -46,13 +46,15 @@ pub fn find_by_circuit(
     requires whole { HasPairs (system_data system.now) (pairs_data pairs.now) }
     requires set { All (λ n. n < length pairs.now) set.now }
     requires some { 1 ≤ length set.now }
-    requires flat { IsFlat (system_data system.now) (pairs_data pairs.now) set.now }
+    requires flat { IsFlat (task_of (system_data system.now) (pairs_data pairs.now) set.now) }
     ensures { IfOk result (IsFlatAnswer (system_data system.now) (pairs_data pairs.now) set.now budget) }
 {
+    let covered = all_rules(alloc, system)?;
     let task = Task {
         system,
         pairs: pairs.as_slice(),
         set: set.as_slice(),
+        covered: &covered,
     };
     system.is_well_made();
     let marked = marked_symbols(alloc, pairs, set)?;
@@ -73,10 +75,10 @@ fn find_for<'a>(
 ) -> Result<Search<Node>, AllocError>
     requires few { length task.now.pairs.now ≤ most_pairs }
     requires task { IsTaskOf task.now }
-    requires marked { AreMarked (map pair_data task.now.pairs.now) task.now.set.now marked.now }
-    requires some { (1 ≤ length (system_data task.now.system.now).rules) × (1 ≤ length task.now.set.now) }
-    requires flat { IsFlat (system_data task.now.system.now) (map pair_data task.now.pairs.now) task.now.set.now }
-    ensures { IfOk result (IsFlatAnswer (system_data task.now.system.now) (map pair_data task.now.pairs.now) task.now.set.now budget) }
+    requires marked { AreMarked (task_data task.now).pairs (task_data task.now).set marked.now }
+    requires some { (1 ≤ length (task_data task.now).rules) × (1 ≤ length (task_data task.now).set) }
+    requires flat { IsFlat (task_data task.now) }
+    ensures { IfOk result (IsFlatAnswer (system_data task.now.system.now) (task_data task.now).pairs (task_data task.now).set budget) }
 {
     let bits = bits_of(alloc, task, marked)?;
     if marked.len() > MOST_MARKED || bits.count() > MOST_BITS {
@@ -98,7 +100,7 @@ fn find_for<'a>(
 // The bits of all coefficients.
 fn bits_of<'a>(alloc: Global, task: &Task<'a>, marked: &[u32]) -> Result<Bits, AllocError>
     ensures { IfOk result (λ bits. bits.sizes.items ≡ map (λ Γ. length (space_of Γ))
-        (scopes_of (system_data task.now.system.now).symbols (system_data task.now.system.now).rules marked.now)) }
+        (scopes_of (task_data task.now) marked.now)) }
 {
     let sizes = sizes_of(alloc, task, marked)?;
     let firsts = first_bits(alloc, &sizes)?;
@@ -115,16 +117,12 @@ fn node_by<'a>(
 ) -> Result<Node, AllocError>
     requires few { length task.now.pairs.now ≤ most_pairs }
     requires task { IsTaskOf task.now }
-    requires marked { AreMarked (map pair_data task.now.pairs.now) task.now.set.now marked.now }
+    requires marked { AreMarked (task_data task.now).pairs (task_data task.now).set marked.now }
     requires sizes { bits.now.sizes.items ≡ map (λ Γ. length (space_of Γ))
-        (scopes_of (system_data task.now.system.now).symbols (system_data task.now.system.now).rules marked.now) }
-    requires lets_go { (symbols : List Interpretation) (marks : List Mark)
-        → AreWritten (system_data task.now.system.now).symbols (system_data task.now.system.now).rules (map pair_data task.now.pairs.now)
-        task.now.set.now marked.now (value_of values.now) symbols marks
-        → LetsGo (system_data task.now.system.now).symbols (system_data task.now.system.now).rules (map pair_data task.now.pairs.now)
-        task.now.set.now symbols marks }
-    ensures { IfOk result (λ node. IsInterpretation (system_data task.now.system.now) (map pair_data task.now.pairs.now)
-        task.now.set.now (said_node node)) }
+        (scopes_of (task_data task.now) marked.now) }
+    requires lets_go { (R : ReadingsData) → AreWritten (task_data task.now) marked.now (value_of values.now) R → LetsGo (task_data task.now) R }
+    ensures { IfOk result (λ node. IsInterpretation (system_data task.now.system.now) (task_data task.now).pairs
+        (task_data task.now).set (said_node node)) }
 {
     let lists = lists_by(alloc, values, &bits.sizes)?;
     let guess = guess_by(alloc, task, marked, &lists)?;

@@ -6,7 +6,7 @@ ghost use Rattle.wh_terms.specs.Rules.{RewriteRule};
 ghost use Rattle.wh_terms.specs.Tree.{fun, spine};
 ghost use Rattle.wh_pairs.specs.PairData.{PairData, pair_data};
 ghost use Rattle.wh_pairs.specs.Sets.{InSet};
-ghost use Rattle.wh_system.specs.SystemView.{system_data};
+ghost use Rattle.wh_reduction.specs.TaskView.{task_data};
 ghost use Rattle.wh_blocking.specs.Sizes.{bits_in};
 ghost use Rattle.wh_circuit.specs.State.{gates_of, required_of};
 ghost use Rattle.wh_flat.specs.Flat.{all_occurrences, most_in_all, occurrences_at, pair_occurrences, rule_occurrences};
@@ -21,8 +21,8 @@ use crate::bits::Bits;
 use crate::sides::{require_pair, require_rule};
 use std::alloc::{AllocError, Global};
 use wh_circuit::{Circuit, Wire};
-use wh_guesses::Task;
 use wh_pairs::Pair;
+use wh_reduction::Task;
 use wh_terms::{Rule, Term, Terms, copy_term};
 
 // So many inputs.
@@ -170,18 +170,15 @@ pub fn circuit_of<'a>(
     bits: &Bits,
 ) -> Result<Circuit, AllocError>
     requires within { All (λ n. n < length task.now.pairs.now) task.now.set.now }
-    requires rules { (r : RewriteRule) → Contains (system_data task.now.system.now).rules r → IsReadyRule r }
-    requires pairs { (p : PairData) → InSet (map pair_data task.now.pairs.now) task.now.set.now p
-        → IsReadyPair (length (system_data task.now.system.now).symbols.funs) marked.now p }
-    requires some { (1 ≤ length (system_data task.now.system.now).rules) × (1 ≤ length task.now.set.now) }
+    requires rules { (r : RewriteRule) → Contains (task_data task.now).rules r → IsReadyRule r }
+    requires pairs { (p : PairData) → InSet (task_data task.now).pairs (task_data task.now).set p
+        → IsReadyPair (length (task_data task.now).symbols.funs) marked.now p }
+    requires some { (1 ≤ length (task_data task.now).rules) × (1 ≤ length (task_data task.now).set) }
     requires numbers { length marked.now ≤ 1024 }
     requires bits { bits_in bits.now.sizes.items ≤ 659456 }
-    requires few { all_occurrences (system_data task.now.system.now).rules (map pair_data task.now.pairs.now) task.now.set.now ≤ most_in_all }
-    ensures circuit { IfOk result (IsFlatCircuit bits.now.sizes.items (system_data task.now.system.now).symbols
-        (system_data task.now.system.now).rules (map pair_data task.now.pairs.now) task.now.set.now marked.now
-        (bits_in bits.now.sizes.items)) }
-    ensures few { IfOk result (λ made. length (gates_of made)
-        ≤ 200000 * all_occurrences (system_data task.now.system.now).rules (map pair_data task.now.pairs.now) task.now.set.now) }
+    requires few { all_occurrences (task_data task.now) ≤ most_in_all }
+    ensures circuit { IfOk result (IsFlatCircuit bits.now.sizes.items (task_data task.now) marked.now (bits_in bits.now.sizes.items)) }
+    ensures few { IfOk result (λ made. length (gates_of made) ≤ 200000 * all_occurrences (task_data task.now)) }
 {
     task.system.is_well_made();
     let mut circuit = inputs(alloc, bits.count())?;

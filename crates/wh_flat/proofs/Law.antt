@@ -3,7 +3,7 @@ use mathlib.Core.Path.{subst₂}
 use Rattle.std.proofs.Common.{◌≡◌, inl, inr, ℕ, zero, suc, ◌+◌, ◌≤◌, ◌==◌, if◌then◌else◌, true, false, List, [], ◌∷◌, ◌++◌, length, map, take, get_or, unwrap_or, Some, slice_get, Contains, refl, ap, ap₂, ◌∙◌, sym, subst, arith}
 use Rattle.std.proofs.lemmas.List.{length-map}
 use Rattle.std.proofs.lemmas.List.Elements.{All-contains}
-use Rattle.std.proofs.lemmas.Option.{none-some, same_Some}
+use Rattle.std.proofs.lemmas.Option.{none-some, same_Some, slice_get_within}
 use Rattle.wh_types.specs.Ty.{Ty, sort, ◌⇒◌, arguments}
 use Rattle.wh_terms.specs.Tree.{Tm, fun, meta, app, Tms, none, more, tms_of, spine}
 use Rattle.wh_terms.specs.Sight.{NoFree, AllNoFree}
@@ -15,6 +15,8 @@ use Rattle.wh_system.specs.Needs.{need_of}
 use Rattle.wh_pairs.specs.PairData.{PairData}
 use Rattle.wh_pairs.specs.Sets.{InSet}
 use Rattle.wh_pairs.specs.Marked.{AreMarked, HeadsASide}
+use Rattle.wh_reduction.specs.TaskData.{TaskData}
+use Rattle.wh_reduction.proofs.Numbers.{numbers_at}
 use Rattle.wh_pairs.proofs.ByPlace.{contains_at, place_of as placed, unmap}
 use Rattle.wh_hopoly.specs.Polynomials.{Polynomial}
 use Rattle.wh_hopoly.specs.Evaluation.{Run, Interpretation, type_at, NormalInterpretations, TypedExpression, evaluate, type_of, symbol}
@@ -23,12 +25,14 @@ use Rattle.wh_hopoly.proofs.ReplaceLaws.{type_is}
 use Rattle.wh_hopoly.proofs.NormalWalk.{has_type_within}
 use Rattle.wh_polycheck.specs.Sides.{types_of_metas, Interprets}
 use Rattle.wh_polycheck.specs.Marks.{Mark, marked_types, marked_kind, marked_interpretation, with_marks, place_of, mark_number, HasMark, AreNormalMarks, HasMarkedSides}
+use Rattle.wh_polycheck.specs.Readings.{ReadingsData, AreReadingsFor}
 use Rattle.wh_polycheck.specs.Covering.{rule_run, pair_run, HaveTypedSides}
 use Rattle.wh_polycheck.proofs.SideTypes.{meta_in_scope, side_typed, side_applied_typed}
 use Rattle.wh_polycheck.proofs.MoreInterpretations.{slice_get_front, slice_get_behind, interprets_more, mark_at, mapped, mark_interpreted, normal_with_marks, arguments_of_arrows}
 use Rattle.wh_space.specs.Coefficients.{HasCoefficients}
 use Rattle.wh_guesses.specs.Coefficients.{HaveCoefficients}
 use Rattle.wh_guesses.specs.Conditions.{covers_rule, covers_pair, some_strictly, of_rule, of_pair, of_set, IsMet, LetsGo}
+use Rattle.wh_guesses.specs.Found.{task_of}
 use Rattle.wh_flat.specs.Flat.{AreSorts, IsFirstOrder, IsFlatTree, AreFlatTrees, IsFlatRule, IsFlatPair, IsFlat, occurrences, call_occurrences}
 use Rattle.wh_flat.specs.Worth.{IsAtLeast, IsGreater}
 use Rattle.wh_flat.specs.Dominance.{place_among, marked_number, left_call, right_call, LetsGoBy}
@@ -88,10 +92,24 @@ pub place_same : (marks : List Mark) (f : ℕ) → place_of marks f ≡ place_am
 place_same [] f = refl
 place_same (m ∷ marks) f = ap (λ k. if m.symbol == f then 0 else suc k) (place_same marks f)
 
-module _ (d : SystemData) (pairs : List PairData) (set : List ℕ) (lists : List (List ℕ)) (symbols : List Interpretation) (marks : List Mark)
-    (made : IsWellMadeSystem d) (typed : HaveTypedSides d.symbols d.rules pairs) (flat : IsFlat d pairs set)
-    (kinds : map (λ s. s.kind) symbols ≡ d.symbols.funs) (marked : AreMarked pairs set (map (λ m. m.symbol) marks))
-    (has : HaveCoefficients d.symbols d.rules lists symbols marks) where
+module _ (d : SystemData) (pairs : List PairData) (set : List ℕ) (lists : List (List ℕ)) (R : ReadingsData) (made : IsWellMadeSystem d)
+    (typed : HaveTypedSides d.symbols d.rules pairs) (flat : IsFlat (task_of d pairs set)) (readings : AreReadingsFor (task_of d pairs set) R)
+    (has : HaveCoefficients (task_of d pairs set) lists R) where
+  abbrev T : TaskData
+  T = task_of d pairs set
+
+  abbrev symbols : List Interpretation
+  symbols = R.symbols
+
+  abbrev marks : List Mark
+  marks = R.marks
+
+  kinds : map (λ s. s.kind) symbols ≡ d.symbols.funs
+  kinds = readings.kinds
+
+  marked : AreMarked pairs set (map (λ m. m.symbol) marks)
+  marked = readings.marked
+
   abbrev S : Symbols
   S = d.symbols
 
@@ -151,10 +169,10 @@ module _ (d : SystemData) (pairs : List PairData) (set : List ℕ) (lists : List
     right_tree : IsSideTree symbols (types_of_metas r.metas) lists normal r.right
     right_tree = rule_tree r.right rule_flat.right rule_flat.of_a_sort.0 rule_flat.of_a_sort.2 (made.rules.each r within).right_closed rule_flat.right_few
 
-    rule_if : IsAtLeast lists r.left r.right → IsMet (rule_run symbols r false) (rule_run symbols r true) false
+    rule_if : IsAtLeast lists r.left r.right → IsMet (rule_run R r false) (rule_run R r true) false
     rule_if = met_if symbols (types_of_metas r.metas) lists normal r.left r.right left_tree right_tree
 
-    rule_where : IsMet (rule_run symbols r false) (rule_run symbols r true) false → IsAtLeast lists r.left r.right
+    rule_where : IsMet (rule_run R r false) (rule_run R r true) false → IsAtLeast lists r.left r.right
     rule_where = at_least_where symbols (types_of_metas r.metas) lists normal r.left r.right left_tree right_tree
 
   -- sides of pairs
@@ -236,10 +254,10 @@ module _ (d : SystemData) (pairs : List PairData) (set : List ℕ) (lists : List
     abbrev of_right : Tm
     of_right = spine (fun (mark_number symbols marks p.right_fun)) p.right
 
-    left_run : run_in of_left ≡ pair_run S d.rules symbols marks p false
+    left_run : run_in of_left ≡ pair_run S d.rules R p false
     left_run = ap (evaluate all (types_of_metas p.metas)) (spine_side (length (types_of_metas p.metas)) (fun (mark_number symbols marks p.left_fun)) p.left)
 
-    right_run : run_in of_right ≡ pair_run S d.rules symbols marks p true
+    right_run : run_in of_right ≡ pair_run S d.rules R p true
     right_run = ap (evaluate all (types_of_metas p.metas)) (spine_side (length (types_of_metas p.metas)) (fun (mark_number symbols marks p.right_fun)) p.right)
 
     left_same : of_left ≡ left_call S of_marks p
@@ -249,12 +267,12 @@ module _ (d : SystemData) (pairs : List PairData) (set : List ℕ) (lists : List
     right_same = ap (λ k. spine (fun k) p.right) (same_number p.right_fun)
 
     pair_if : IsAtLeast lists (left_call S of_marks p) (right_call S of_marks p)
-        → IsMet (pair_run S d.rules symbols marks p false) (pair_run S d.rules symbols marks p true) false
+        → IsMet (pair_run S d.rules R p false) (pair_run S d.rules R p true) false
     pair_if h = subst₂ (λ a b. IsMet a b false) left_run right_run
         (met_if all (types_of_metas p.metas) lists normal_all of_left of_right left_side_tree right_side_tree
         (subst₂ (IsAtLeast lists) (sym left_same) (sym right_same) h))
 
-    pair_where : IsMet (pair_run S d.rules symbols marks p false) (pair_run S d.rules symbols marks p true) false
+    pair_where : IsMet (pair_run S d.rules R p false) (pair_run S d.rules R p true) false
         → IsAtLeast lists (left_call S of_marks p) (right_call S of_marks p)
     pair_where m = subst₂ (IsAtLeast lists) left_same right_same
         (at_least_where all (types_of_metas p.metas) lists normal_all of_left of_right left_side_tree right_side_tree
@@ -262,26 +280,28 @@ module _ (d : SystemData) (pairs : List PairData) (set : List ℕ) (lists : List
 
     pair_strictly_if : IsAtLeast lists (left_call S of_marks p) (right_call S of_marks p)
         → IsGreater lists (left_call S of_marks p) (right_call S of_marks p)
-        → IsMet (pair_run S d.rules symbols marks p false) (pair_run S d.rules symbols marks p true) true
+        → IsMet (pair_run S d.rules R p false) (pair_run S d.rules R p true) true
     pair_strictly_if h g = subst₂ (λ a b. IsMet a b true) left_run right_run
         (met_strictly_if all (types_of_metas p.metas) lists normal_all of_left of_right left_side_tree right_side_tree
         (subst₂ (IsAtLeast lists) (sym left_same) (sym right_same) h) (subst₂ (IsGreater lists) (sym left_same) (sym right_same) g))
 
-    pair_greater : IsMet (pair_run S d.rules symbols marks p false) (pair_run S d.rules symbols marks p true) true
+    pair_greater : IsMet (pair_run S d.rules R p false) (pair_run S d.rules R p true) true
         → IsGreater lists (left_call S of_marks p) (right_call S of_marks p)
     pair_greater m = subst₂ (IsGreater lists) left_same right_same
         (greater_where all (types_of_metas p.metas) lists normal_all of_left of_right left_side_tree right_side_tree
         (subst₂ (λ a b. IsMet a b true) (sym left_run) (sym right_run) m))
 
-  pub lets_go_if : LetsGoBy S d.rules pairs set of_marks lists → LetsGo S d.rules pairs set symbols marks
-  lets_go_if by k c (of_rule i r at) = rule_if r (contains_at d.rules i r at) (by.rules_at_least r (contains_at d.rules i r at))
+  pub lets_go_if : LetsGoBy T of_marks lists → LetsGo T R
+  lets_go_if by k c (of_rule i n r si at) = rule_if r (contains_at d.rules n r at) (by.rules_at_least r (contains_at d.rules n r at))
   lets_go_if by k c (of_pair i n p si at) = let within : InSet pairs set p = (n, contains_at set i n si, at) in pair_if p within (by.pairs_at_least p within)
   lets_go_if by k c of_set = let (p, within, g) = by.some_greater in (p, within, pair_strictly_if p within (by.pairs_at_least p within) g)
 
-  pub lets_go_by : LetsGo S d.rules pairs set symbols marks → LetsGoBy S d.rules pairs set of_marks lists
+  pub lets_go_by : LetsGo T R → LetsGoBy T of_marks lists
   lets_go_by go = record {
-    rules_at_least = λ r c. (let (k, at) = placed d.rules r c in rule_where r c (go k (covers_rule r) (of_rule k r at)));
+    rules_at_least = λ r c. (let (k, at) = placed d.rules r c in
+        let there = numbers_at 0 (length d.rules) k (slice_get_within d.rules k r at) ∙ ap (λ n. Some n) (omega arith) in
+        rule_where r c (go k (covers_rule r) (of_rule k k r there at)));
     pairs_at_least = λ p within. (let (n, c, at) = within in let (i, si) = placed set n c in
-        pair_where p within (go (length d.rules + i) (covers_pair p) (of_pair i n p si at)));
-    some_greater = (let (p, within, m) = go (length d.rules + length set) some_strictly of_set in (p, within, pair_greater p within m));
+        pair_where p within (go (length T.covered + i) (covers_pair p) (of_pair i n p si at)));
+    some_greater = (let (p, within, m) = go (length T.covered + length set) some_strictly of_set in (p, within, pair_greater p within m));
   }

@@ -5,6 +5,7 @@ use Rattle.wh_terms.specs.Typing.{Symbols}
 use Rattle.wh_terms.specs.Rules.{RewriteRule}
 use Rattle.wh_pairs.specs.PairData.{PairData}
 use Rattle.wh_pairs.specs.Sets.{InSet}
+use Rattle.wh_reduction.specs.TaskData.{TaskData}
 use Rattle.wh_flat.specs.Worth.{IsAtLeast, IsGreater}
 
 -- the place of a symbol among the marked ones, or their number where it is none of them
@@ -25,7 +26,8 @@ right_call S marked p = spine (fun (marked_number S marked p.right_fun)) p.right
 
 -- by these coefficients the left side of each rule and of each pair of the set is at least the right one, and of some pair of the set it
 -- is greater (ours)
-pub record LetsGoBy (S : Symbols) (rules : List RewriteRule) (pairs : List PairData) (set marked : List ℕ) (lists : List (List ℕ)) : Type 0 where
-  pub rules_at_least : (r : RewriteRule) → Contains rules r → IsAtLeast lists r.left r.right
-  pub pairs_at_least : (p : PairData) → InSet pairs set p → IsAtLeast lists (left_call S marked p) (right_call S marked p)
-  pub some_greater : (p : PairData) × InSet pairs set p × IsGreater lists (left_call S marked p) (right_call S marked p)
+pub record LetsGoBy (T : TaskData) (marked : List ℕ) (lists : List (List ℕ)) : Type 0 where
+  pub rules_at_least : (r : RewriteRule) → Contains T.rules r → IsAtLeast lists r.left r.right
+  pub pairs_at_least : (p : PairData) → InSet T.pairs T.set p → IsAtLeast lists (left_call T.symbols marked p) (right_call T.symbols marked p)
+  pub some_greater :
+    (p : PairData) × InSet T.pairs T.set p × IsGreater lists (left_call T.symbols marked p) (right_call T.symbols marked p)

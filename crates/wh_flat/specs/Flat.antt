@@ -5,9 +5,9 @@ use Rattle.wh_types.specs.Ty.{Ty, sort, ◌⇒◌, arguments}
 use Rattle.wh_terms.specs.Tree.{Tm, fun, meta, lam, app, Tms, none, more, tms_of}
 use Rattle.wh_terms.specs.Typing.{Symbols, Declared, Typed}
 use Rattle.wh_terms.specs.Rules.{RewriteRule}
-use Rattle.wh_system.specs.Systems.{SystemData}
 use Rattle.wh_pairs.specs.PairData.{PairData}
 use Rattle.wh_pairs.specs.Sets.{InSet}
+use Rattle.wh_reduction.specs.TaskData.{TaskData}
 use Rattle.wh_hopoly.specs.Evaluation.{type_at}
 
 -- all types of the list are sorts
@@ -89,11 +89,11 @@ abbrev pub occurrences_at : List PairData → ℕ → ℕ
 occurrences_at pairs n = option_map_or pair_occurrences (slice_get pairs n) 0
 
 -- those of the sides of all rules and of the set's pairs
-abbrev pub all_occurrences : List RewriteRule → List PairData → List ℕ → ℕ
-all_occurrences rules pairs set = sum_by rule_occurrences rules + sum_by (occurrences_at pairs) set
+abbrev pub all_occurrences : TaskData → ℕ
+all_occurrences T = sum_by rule_occurrences T.rules + sum_by (occurrences_at T.pairs) T.set
 
 -- the set is flat: the sides of all rules and of its pairs are, and these are together not large (ours)
-pub record IsFlat (d : SystemData) (pairs : List PairData) (set : List ℕ) : Type 0 where
-  pub rules : (r : RewriteRule) → Contains d.rules r → IsFlatRule d.symbols r
-  pub pairs_of_set : (p : PairData) → InSet pairs set p → IsFlatPair d.symbols p
-  pub few : all_occurrences d.rules pairs set ≤ most_in_all
+pub record IsFlat (T : TaskData) : Type 0 where
+  pub rules : (r : RewriteRule) → Contains T.rules r → IsFlatRule T.symbols r
+  pub pairs_of_set : (p : PairData) → InSet T.pairs T.set p → IsFlatPair T.symbols p
+  pub few : all_occurrences T ≤ most_in_all

@@ -5,7 +5,7 @@ use Rattle.wh_sat.specs.Solving.{clause_true}
 use Rattle.wh_terms.specs.Rules.{RewriteRule}
 use Rattle.wh_terms.specs.Erase.{rewrite_rules, rewrite_rule}
 use Rattle.wh_terms.specs.declared.rule.Rule.{Rule}
-use Rattle.wh_system.specs.SystemView.{system_data}
+use Rattle.wh_reduction.specs.TaskView.{task_data}
 use Rattle.wh_pairs.specs.PairData.{pair_data}
 use Rattle.wh_pairs.specs.declared.pair.Pair.{Pair}
 use Rattle.wh_blocking.specs.Sizes.{bits_in}
@@ -39,7 +39,7 @@ same_rules a b sizes xs rules e h =
 
 pub returns : goal.returns
 returns c =
-    let d = system_data c.args.task.now.system.now in
+    let T = task_data c.args.task.now in
     let pairs : List Pair = c.args.task.now.pairs.now in
     let ps = map pair_data pairs in
     let set : List ℕ = c.args.task.now.set.now in
@@ -50,15 +50,15 @@ returns c =
     let c2 = c.require_pairs.new.circuit in
     let c3 = c.or.new.self in
     let c4 = c.require.new.self in
-    let n : length c.fun_names.result.now ≡ length d.symbols.funs = ap length c.fun_names.ensures ∙ c.is_well_made.ensures.symbols_named in
+    let n : length c.fun_names.result.now ≡ length T.symbols.funs = ap length c.fun_names.ensures ∙ c.is_well_made.ensures.symbols_named in
     let within = within_set pairs set c.requires.within in
-    let a = same_rules c0 c1 sizes c.rules.result.now d.rules c.rules.ensures c.in_ok-require_rules.ensures.asks in
+    let a = same_rules c0 c1 sizes c.rules.result.now T.rules c.rules.ensures c.in_ok-require_rules.ensures.asks in
     let b = subst (λ n. Asks c1 c2 (λ v. (k : ℕ) → k < length set → PairHolds sizes n marked ps set v k)) n c.in_ok-greater.ensures.asks in
     let g = subst (λ n. AreGreater sizes n marked ps set (gates_of c2) c.in_ok-greater.greater.items) n c.in_ok-greater.ensures.greater in
     let built = builds_grown 1 1 c2 c3 c.in_ok-some.ensures.grows (omega arith) in
     let means = subst (λ (ls : List Literal). Means (gates_of c3) c.in_ok-some.some (λ v. clause_true v ls)) c.deref.ensures.value c.in_ok-some.ensures.means in
     let inputs = subst (λ k. AreInputs k (gates_of c0)) c.count.ensures c.in_ok-circuit.ensures.inputs in
-    let many = many_occurrences d.rules ps set c.requires.rules within in
+    let many = many_occurrences T c.requires.rules within in
     let count = c.in_ok-circuit.ensures.count in
     let bits = c.count.ensures in
     let room = c.requires.bits in
@@ -72,7 +72,7 @@ returns c =
     let one = c.requires.some.0 in
     let two = c.requires.some.1 in
     record {
-      circuit = whole sizes d.symbols d.rules ps set marked within (bits_in sizes) c0 c1 c2 c3 c4 c.in_ok-greater.greater.items c.in_ok-some.some inputs
+      circuit = whole sizes T marked within (bits_in sizes) c0 c1 c2 c3 c4 c.in_ok-greater.greater.items c.in_ok-some.some inputs
           c.in_ok-circuit.ensures.required a b g built means c.in_ok-require.ensures.gates c.in_ok-require.ensures.required;
       few = omega (arith, many, count, bits, room, f1, f2, f3, f4, rules_long, rules_same, rules_sum, one, two);
     }
