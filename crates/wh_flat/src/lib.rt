@@ -1,5 +1,4 @@
-//! Flat sets of pairs, whose sides are first-order: a test for them, and the law of what their sides are worth under interpretations of
-//! the space.
+//! Flat sets of pairs, whose sides are first-order: the law of what their sides are worth under interpretations of the space.
 #![tactic(auto)]
 
 mod laws;
