@@ -30,4 +30,4 @@ pub record LetsGoBy (T : TaskData) (marked : List ℕ) (lists : List (List ℕ))
   pub rules_at_least : (r : RewriteRule) → Contains T.rules r → IsAtLeast lists r.left r.right
   pub pairs_at_least : (p : PairData) → InSet T.pairs T.set p → IsAtLeast lists (left_call T.symbols marked p) (right_call T.symbols marked p)
   pub some_greater :
-    (p : PairData) × InSet T.pairs T.set p × IsGreater lists (left_call T.symbols marked p) (right_call T.symbols marked p)
+      (p : PairData) × InSet T.pairs T.set p × IsGreater lists (left_call T.symbols marked p) (right_call T.symbols marked p)
