@@ -72,8 +72,8 @@ at_most_sixty k c h = mul-le-mul h (le_self c)
     le_self : (c : ℕ) → c ≤ c
     le_self c = omega arith
 
--- where the constant is at least the other, and the factors of the first meta-variables are, the side is, if no others stand in the
--- right one
+-- where the constant is at least the other, and the factors of the first meta-variables are, the side is, if no others
+-- stand in the right one
 pub at_least_of : (lists : List (List ℕ)) (n : ℕ) (t u : Tm) → IsPlain u → ((z : ℕ) → stands_in z u ≡ true → z < n)
     → constant_of lists u ≤ constant_of lists t → ((z : ℕ) → z < n → factor_of lists z u ≤ factor_of lists z t) → IsAtLeast lists t u
 at_least_of lists n t u p bounded h k = record {

@@ -19,8 +19,8 @@ use Rattle.wh_guesses.specs.Found.{task_of, IsInterpretation}
 use Rattle.wh_blocking.specs.Tried.{AreWritten}
 use Rattle.wh_flat.specs.Flat.{all_occurrences}
 
--- the models of the clauses are, on the bits of coefficients, just the interpretations of the space that let a pair of the set go; there
--- are at most 200,000 variables for each occurrence (ours)
+-- the models of the clauses are, on the bits of coefficients, just the interpretations of the space that let a pair of
+-- the set go; there are at most 200,000 variables for each occurrence (ours)
 pub record IsFlatFormula (T : TaskData) (marked : List ℕ) (variables : ℕ) (clauses : List (List Literal)) : Type 0 where
   pub few : variables ≤ 200000 * all_occurrences T
   pub within : Within variables clauses

@@ -53,11 +53,12 @@ PairHolds sizes first marked pairs set v k =
 abbrev pub TellsGreater : List ℕ → ℕ → List ℕ → List PairData → List ℕ → List Gate → ℕ → Literal → Type 0
 TellsGreater sizes first marked pairs set gates k w =
     (n : ℕ) (p : PairData) → slice_get set k ≡ Some n → slice_get pairs n ≡ Some p
-    → Means gates w (λ v. nat_lt (constant_of (lists_for sizes v) (right_of first marked p)) (constant_of (lists_for sizes v) (left_of first marked p)))
+    → Means gates w (λ v. nat_lt (constant_of (lists_for sizes v) (right_of first marked p))
+    (constant_of (lists_for sizes v) (left_of first marked p)))
 
 -- there is such a wire for each pair of the set
-pub record AreGreater (sizes : List ℕ) (first : ℕ) (marked : List ℕ) (pairs : List PairData) (set : List ℕ) (gates : List Gate) (wires : List Literal)
-    : Type 0 where
+pub record AreGreater (sizes : List ℕ) (first : ℕ) (marked : List ℕ) (pairs : List PairData) (set : List ℕ) (gates : List Gate)
+    (wires : List Literal) : Type 0 where
   pub count : length wires ≡ length set
   pub each : (k : ℕ) (w : Literal) → slice_get wires k ≡ Some w → TellsGreater sizes first marked pairs set gates k w
 

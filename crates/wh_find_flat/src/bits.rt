@@ -3,7 +3,8 @@
 ghost use Rattle.std.specs.Prelude.{◌≡◌, ◌+◌, ◌≤◌, ◌<◌, ◌^◌, ℕ, get_or, length};
 ghost use Rattle.wh_blocking.specs.Sizes.{bits_in, first_of};
 
-/// How many coefficients each symbol has, and then each of the marked symbols of a set, and which bit of all of them comes first.
+/// How many coefficients each symbol has, and then each of the marked symbols of a set, and which bit of all of them
+/// comes first.
 #[derive(Drop)]
 pub struct Bits {
     /// How many there are of each.

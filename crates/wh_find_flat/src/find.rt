@@ -14,7 +14,7 @@ ghost use Rattle.wh_guesses.specs.Coefficients.{scopes_of};
 ghost use Rattle.wh_guesses.specs.Conditions.{LetsGo};
 ghost use Rattle.wh_guesses.specs.Found.{IsInterpretation, task_of};
 ghost use Rattle.wh_guesses.specs.Tasks.{IsTaskOf};
-ghost use Rattle.wh_blocking.specs.Sizes.{bits_in, value_of};
+ghost use Rattle.wh_blocking.specs.Sizes.{value_of};
 ghost use Rattle.wh_blocking.specs.Tried.{AreWritten};
 ghost use Rattle.wh_flat.specs.Flat.{IsFlat};
 ghost use Rattle.wh_find_flat.specs.Answers.{IsFlatAnswer};
@@ -30,11 +30,12 @@ use wh_reduction::{Task, all_rules};
 use wh_sat::{Outcome, Search, solve};
 use wh_system::System;
 
-/// Interpretations under which no rule and no pair of a flat set grows and some pair shrinks, by one formula on the bits of their
-/// coefficients (Fuhs, Giesl, Middeldorp, Schneider-Kamp, Thiemann and Zankl 2007; that flat sides need no more is ours).
+/// Interpretations under which no rule and no pair of a flat set grows and some pair shrinks, by one formula on the
+/// bits of their coefficients (Fuhs, Giesl, Middeldorp, Schneider-Kamp, Thiemann and Zankl 2007; that flat sides need
+/// no more is ours).
 ///
-/// `Found` drops every pair that is covered strictly. `Nothing` comes only where no interpretation of the space lets a pair go, and
-/// `Spent` only with `budget` clauses that are learnt from the formula.
+/// `Found` drops every pair that is covered strictly. `Nothing` comes only where no interpretation of the space lets a
+/// pair go, and `Spent` only with `budget` clauses that are learnt from the formula.
 pub fn find_by_circuit(
     alloc: Global,
     system: &System,
@@ -120,7 +121,8 @@ fn node_by<'a>(
     requires marked { AreMarked (task_data task.now).pairs (task_data task.now).set marked.now }
     requires sizes { bits.now.sizes.items ≡ map (λ Γ. length (space_of Γ))
         (scopes_of (task_data task.now) marked.now) }
-    requires lets_go { (R : ReadingsData) → AreWritten (task_data task.now) marked.now (value_of values.now) R → LetsGo (task_data task.now) R }
+    requires lets_go { (R : ReadingsData) → AreWritten (task_data task.now) marked.now (value_of values.now) R
+        → LetsGo (task_data task.now) R }
     ensures { IfOk result (λ node. IsInterpretation (system_data task.now.system.now) (task_data task.now).pairs
         (task_data task.now).set (said_node node)) }
 {

@@ -161,8 +161,8 @@ impl<'a> Calls<'a> {
     }
 }
 
-/// The circuit of a flat set: its first variables are the bits of all coefficients, and what is required of it is that these let a pair of
-/// the set go.
+/// The circuit of a flat set: its first variables are the bits of all coefficients, and what is required of it is that
+/// these let a pair of the set go.
 pub fn circuit_of<'a>(
     alloc: Global,
     task: &Task<'a>,

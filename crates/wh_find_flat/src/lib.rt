@@ -1,4 +1,5 @@
-//! Interpretations of flat sets by one formula: what the sides are worth is made of gates over two bits for each coefficient.
+//! Interpretations of flat sets by one formula: what the sides are worth is made of gates over two bits for each
+//! coefficient.
 #![tactic(auto)]
 
 mod bits;

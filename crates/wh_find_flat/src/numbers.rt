@@ -1,6 +1,6 @@
 //! The numbers of terms, made of gates.
 
-ghost use Rattle.std.specs.Prelude.{◌≡◌, ℕ, ◌+◌, ◌*◌, ◌-◌, ◌<◌, ◌≤◌, ◌^◌, IfOk, List, OnOk, length};
+ghost use Rattle.std.specs.Prelude.{ℕ, ◌+◌, ◌*◌, ◌-◌, ◌<◌, ◌≤◌, ◌^◌, IfOk, List, OnOk, length};
 ghost use Rattle.wh_terms.specs.Erase.{tm};
 ghost use Rattle.wh_terms.specs.Tree.{Tm, app, fun, meta, none};
 ghost use Rattle.wh_blocking.specs.Sizes.{bits_in};
@@ -21,8 +21,8 @@ use std::alloc::{AllocError, Global};
 use wh_circuit::{Circuit, Wire};
 use wh_terms::Term;
 
-/// A number of the term: its constant, or the factor of a meta-variable. At most 2,414 variables join for each symbol and meta-variable
-/// in it.
+/// A number of the term: its constant, or the factor of a meta-variable. At most 2,414 variables join for each symbol
+/// and meta-variable in it.
 pub fn number(
     alloc: Global,
     circuit: &mut Circuit,

@@ -1,6 +1,6 @@
 //! Sums of products with a single bit.
 
-ghost use Rattle.std.specs.Prelude.{◌≡◌, ℕ, ◌+◌, ◌*◌, ◌<◌, ◌≤◌, ◌^◌, Bool, IfOk, OnOk, length, max};
+ghost use Rattle.std.specs.Prelude.{◌≡◌, ◌+◌, ◌*◌, ◌<◌, ◌≤◌, ◌^◌, IfOk, OnOk, length, max};
 ghost use Rattle.wh_circuit.specs.Gates.{AreWires, IsWire, MeansNumber};
 ghost use Rattle.wh_circuit.specs.State.{gates_of};
 ghost use Rattle.wh_circuit.specs.Values.{bit, number_of};
@@ -21,7 +21,8 @@ pub fn row(
     requires own { IsWire (gates_of circuit.old) wire }
     requires own_number { AreWires (gates_of circuit.old) number.now }
     ensures builds { OnOk result (Builds (length number.now) circuit.old circuit.new) }
-    ensures means { IfOk result (λ made. MeansNumber (gates_of circuit.new) made (λ v. bit (literal_true v wire) * number_of v number.now)) }
+    ensures means { IfOk result (λ made. MeansNumber (gates_of circuit.new) made
+        (λ v. bit (literal_true v wire) * number_of v number.now)) }
     ensures width { IfOk result (λ made. length made ≡ length number.now) }
 {
     let mut made = Wires::new(alloc)?;

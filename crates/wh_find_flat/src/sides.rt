@@ -21,8 +21,8 @@ use std::alloc::{AllocError, Global};
 use wh_circuit::{Circuit, Wire};
 use wh_terms::Term;
 
-/// The left side of a rule has to be at least the right one; all meta-variables have numbers below the one that is given. At most 147,254
-/// variables join for each symbol and meta-variable in the sides.
+/// The left side of a rule has to be at least the right one; all meta-variables have numbers below the one that is
+/// given. At most 147,254 variables join for each symbol and meta-variable in the sides.
 pub fn require_rule(
     alloc: Global,
     circuit: &mut Circuit,
@@ -118,7 +118,8 @@ fn require_constants(
     Ok(circuit.not(other))
 }
 
-// The factor of each meta-variable on the left has to be at least that on the right. Those that do not stand on the right need nothing.
+// The factor of each meta-variable on the left has to be at least that on the right. Those that do not stand on the
+// right need nothing.
 fn require_factors(
     alloc: Global,
     circuit: &mut Circuit,
@@ -129,7 +130,8 @@ fn require_factors(
 ) -> Result<(), AllocError>
     requires plain { ArePlainSides (tm left.now) (tm right.now) }
     requires inputs { bits_in bits.now.sizes.items ≤ length (gates_of circuit.old) }
-    requires room { length (gates_of circuit.old) + 60 * (2414 * (occurrences (tm left.now) + occurrences (tm right.now)) - 4300) + 4300 < 2 ^ 31 }
+    requires room { length (gates_of circuit.old)
+        + 60 * (2414 * (occurrences (tm left.now) + occurrences (tm right.now)) - 4300) + 4300 < 2 ^ 31 }
     ensures asks { OnOk result (Asks circuit.old circuit.new (λ v. (z : ℕ) → z < metas
         → factor_of (lists_for bits.now.sizes.items v) z (tm right.now) ≤ factor_of (lists_for bits.now.sizes.items v) z (tm left.now))) }
     ensures few { OnOk result (length (gates_of circuit.new)

@@ -1,4 +1,5 @@
--- The law of flat sets: interpretations of the space let a pair go just where their coefficients do by what the sides are worth.
+-- The law of flat sets: interpretations of the space let a pair go just where their coefficients do by what the sides
+-- are worth.
 use mathlib.Core.Path.{subst₂}
 use Rattle.std.proofs.Common.{◌≡◌, inl, inr, ℕ, zero, suc, ◌+◌, ◌≤◌, ◌==◌, if◌then◌else◌, true, false, List, [], ◌∷◌, ◌++◌, length, map, take, get_or, unwrap_or, Some, slice_get, Contains, refl, ap, ap₂, ◌∙◌, sym, subst, arith}
 use Rattle.std.proofs.lemmas.List.{length-map}

@@ -1,4 +1,5 @@
--- What flat sides evaluate to: linear polynomials, whose totals are what the sides are worth, and no value on the way exceeds a limit.
+-- What flat sides evaluate to: linear polynomials, whose totals are what the sides are worth, and no value on the way
+-- exceeds a limit.
 use Rattle.std.proofs.Common.{◌≡◌, ℕ, zero, suc, ◌+◌, ◌*◌, ◌-◌, ◌<◌, ◌≤◌, ◌^◌, ◌==◌, if◌then◌else◌, true, false, List, ◌∷◌, ◌++◌, length, refl, ap, ap₂, ◌∙◌, sym, subst, arith}
 use Rattle.std.proofs.Math.Nat.{pow-le-pow_right}
 use Rattle.std.proofs.lemmas.Nat.{pow-add}

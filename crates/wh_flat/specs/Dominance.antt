@@ -24,10 +24,11 @@ left_call S marked p = spine (fun (marked_number S marked p.left_fun)) p.left
 abbrev pub right_call : Symbols → List ℕ → PairData → Tm
 right_call S marked p = spine (fun (marked_number S marked p.right_fun)) p.right
 
--- by these coefficients the left side of each rule and of each pair of the set is at least the right one, and of some pair of the set it
--- is greater (ours)
+-- by these coefficients the left side of each rule and of each pair of the set is at least the right one, and of some
+-- pair of the set it is greater (ours)
 pub record LetsGoBy (T : TaskData) (marked : List ℕ) (lists : List (List ℕ)) : Type 0 where
   pub rules_at_least : (r : RewriteRule) → Contains T.rules r → IsAtLeast lists r.left r.right
-  pub pairs_at_least : (p : PairData) → InSet T.pairs T.set p → IsAtLeast lists (left_call T.symbols marked p) (right_call T.symbols marked p)
+  pub pairs_at_least : (p : PairData) → InSet T.pairs T.set p
+      → IsAtLeast lists (left_call T.symbols marked p) (right_call T.symbols marked p)
   pub some_greater :
       (p : PairData) × InSet T.pairs T.set p × IsGreater lists (left_call T.symbols marked p) (right_call T.symbols marked p)

@@ -25,7 +25,8 @@ abbrev pub IsNullary : List Declared → ℕ → Type 0
 IsNullary M z = (s : ℕ) × (slice_get M z ≡ Some (record { args = []; out = sort s }))
 
 abbrev mutual
-  -- the tree is made of symbols whose arguments are all of a sort, and of meta-variables without arguments; nothing is abstracted
+  -- the tree is made of symbols whose arguments are all of a sort, and of meta-variables without arguments; nothing is
+  -- abstracted
   pub IsFlatTree : Symbols → List Declared → Tm → Type 0
   IsFlatTree S M (fun f) = IsFirstOrder S f
   IsFlatTree S M (meta z none) = IsNullary M z

@@ -18,9 +18,9 @@ places_in _ = 0
 abbrev pub coefficient : List (List ℕ) → ℕ → ℕ → ℕ
 coefficient lists n j = capped (get_or (get_or lists n []) j 0)
 
--- what the tree is worth where each symbol is linear with these coefficients: `one` stands for the number 1, and `at` gives what the
--- meta-variables are worth. So the constant of a side is its worth for 1 and meta-variables that are worth 0, and the coefficient of a
--- meta-variable is its worth for 0 where this one alone is worth 1 (ours)
+-- what the tree is worth where each symbol is linear with these coefficients: `one` stands for the number 1, and `at`
+-- gives what the meta-variables are worth. So the constant of a side is its worth for 1 and meta-variables that are
+-- worth 0, and the coefficient of a meta-variable is its worth for 0 where this one alone is worth 1 (ours)
 abbrev pub worth : List (List ℕ) → ℕ → (ℕ → ℕ) → Tm → ℕ
 worth lists one at (fun f) = coefficient lists f 0 * one
 worth lists one at (meta z ts) = at z

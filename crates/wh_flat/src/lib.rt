@@ -1,4 +1,5 @@
-//! Flat sets of pairs, whose sides are first-order: the law of what their sides are worth under interpretations of the space.
+//! Flat sets of pairs, whose sides are first-order: the law of what their sides are worth under interpretations of the
+//! space.
 #![tactic(auto)]
 
 mod laws;
