@@ -54,8 +54,9 @@ pub fn order_factors(a: &Atoms, b: &Atoms) -> Ordering
     }
 }
 
-/// The order of two factors alone. The arguments are looked at only where the numbers agree.
+/// The order of two factors alone. The arguments are looked at only where the numbers agree, and called for only where there are some.
 #[cycle(order)]
+#[inline(always)]
 pub fn order_factor(a: &Atom, b: &Atom) -> Ordering
     ensures { result ≡ compare_factor (out-Atom a.now).head (polys (out-Atom a.now).args) (out-Atom b.now).head (polys (out-Atom b.now).args) }
 {
@@ -71,6 +72,7 @@ pub fn order_factor(a: &Atom, b: &Atom) -> Ordering
 
 /// The order of two lists of arguments, from left to right.
 #[cycle(order)]
+#[inline(never)]
 pub fn order_arguments(a: &Polys, b: &Polys) -> Ordering
     ensures { result ≡ compare_arguments (polys a.now) (polys b.now) }
 {
