@@ -1,0 +1,13 @@
+pub mod Growth
+pub mod BitsLemmas
+pub mod RowLemmas
+pub mod Small
+pub mod Standing
+pub mod AskLemmas
+pub mod Loops
+pub mod ProductLemmas
+pub mod Applied
+pub mod Whole
+pub mod Flattened
+pub mod Formulas
+pub mod Ended

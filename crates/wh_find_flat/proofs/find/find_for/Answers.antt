@@ -1,0 +1,57 @@
+use Rattle.std.proofs.Common.{Bool, List, length, sym, subst}
+use Rattle.wh_reduction.specs.TaskView.{task_data}
+use Rattle.wh_sat.specs.Outcomes.{IsOutcome}
+use Rattle.wh_sat.specs.Solving.{Solves}
+use Rattle.wh_blocking.specs.Sizes.{value_of}
+use Rattle.wh_find_flat.proofs.Flattened.{ready_rule, ready_pair}
+use Rattle.wh_find_flat.proofs.Ended.{formula_is, models_let_go}
+use Rattle.wh_find_flat.proofs.find.find_for.Goals as goal
+
+pub circuit_of-requires-clause-rules : goal.circuit_of-requires-clause-rules
+circuit_of-requires-clause-rules c r there = ready_rule (task_data c.args.task.now).symbols r (c.requires.flat.rules r there)
+
+pub circuit_of-requires-clause-pairs : goal.circuit_of-requires-clause-pairs
+circuit_of-requires-clause-pairs c p there =
+    let T = task_data c.args.task.now in
+    ready_pair T.symbols (length T.symbols.funs) c.args.marked.now p (c.requires.flat.pairs_of_set p there)
+
+pub node_by-requires-clause-lets_go : goal.node_by-requires-clause-lets_go
+node_by-requires-clause-lets_go c =
+    let f = c.formula.result.now in
+    let e = c.formula.ensures in
+    let formula = formula_is c.args.task.now c.args.marked.now c.in_ok-bits.bits.sizes.items c.in_ok-bits.ensures c.in_ok-circuit.circuit f.variables f.clauses
+    c.is_well_made.ensures c.requires.task c.requires.flat c.requires.marked c.in_ok-circuit.ensures.circuit c.in_ok-circuit.ensures.few
+    e.count e.within e.ordered e.sound e.complete in
+    let solved = subst (IsOutcome f.variables f.clauses c.args.budget) c.in-Sat.is c.in_ok-outcome.ensures in
+    models_let_go c.args.task.now c.args.marked.now c.in_ok-bits.bits.sizes.items c.in_ok-bits.ensures f.variables f.clauses c.requires.task formula
+    (value_of c.deref.result.now)
+    (subst (λ (l : List Bool). Solves (value_of l) f.clauses) (sym c.deref.ensures.value) solved.2)
+
+pub returns-in-Unsat : goal.returns-in-Unsat
+returns-in-Unsat c R space go =
+    let f = c.formula.result.now in
+    let e = c.formula.ensures in
+    let formula = formula_is c.args.task.now c.args.marked.now c.in_ok-bits.bits.sizes.items c.in_ok-bits.ensures c.in_ok-circuit.circuit f.variables f.clauses
+    c.is_well_made.ensures c.requires.task c.requires.flat c.requires.marked c.in_ok-circuit.ensures.circuit c.in_ok-circuit.ensures.few
+    e.count e.within e.ordered e.sound e.complete in
+    let unsolved = subst (IsOutcome f.variables f.clauses c.args.budget) c.in-Unsat.is c.in_ok-outcome.ensures in
+    let (v, solves, by) = formula.all R space go in
+    unsolved.1 v solves
+
+pub returns : goal.returns
+returns c =
+    let f = c.formula.result.now in
+    let e = c.formula.ensures in
+    let formula = formula_is c.args.task.now c.args.marked.now c.in_ok-bits.bits.sizes.items c.in_ok-bits.ensures c.in_ok-circuit.circuit f.variables f.clauses
+    c.is_well_made.ensures c.requires.task c.requires.flat c.requires.marked c.in_ok-circuit.ensures.circuit c.in_ok-circuit.ensures.few
+    e.count e.within e.ordered e.sound e.complete in
+    let spent = subst (IsOutcome f.variables f.clauses c.args.budget) c.in-Spent.is c.in_ok-outcome.ensures in
+    record {
+      count = spent.0;
+      marked = c.args.marked.now;
+      are_marked = c.requires.marked;
+      variables = f.variables;
+      clauses = f.clauses;
+      formula = formula;
+      learnt = spent.1;
+    }

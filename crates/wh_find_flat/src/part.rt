@@ -1,0 +1,10 @@
+//! The numbers of a side.
+
+/// One of the numbers that a flat side comes to.
+#[derive(Clone, Copy)]
+pub enum Part {
+    /// Its constant.
+    Constant,
+    /// The factor of the meta-variable with this number.
+    Factor(usize),
+}
