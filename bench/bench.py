@@ -204,6 +204,15 @@ def behind_a_sum(count):
                               "rule", "rule 1>0:1", "pair 1>0:1", "drop 0", "done", "end"]) + "\n"
 
 
+def powers(count):
+    """That many rules whose left side is a sum of three monomials to the power 40: a product of a sum of 861 monomials."""
+    lines = ["sort nat;", "fun s : nat -> nat;", "fun p : nat -> nat -> nat;", "fun m : nat -> nat;", "fun t : nat -> nat;", "rule {X:nat} t (s X) => t X;"]
+    lines += ["rule {X:nat,Y:nat} m (p X (p Y Y)) => X;"] * count
+    certificate = ["YES 1", "ranks 0", "pairs 1", "poly", "fun s 1+1*y0", "fun p 1+1*y0+1*y1", "fun m 1" + "*y0" * 40, "fun t 1*y0", "mark t 1*y0",
+                   *["rule 1>0:1"] * (count + 1), "pair 1>0:1", "drop 0", "done", "end"]
+    return "\n".join(lines) + "\n", "\n".join(certificate) + "\n"
+
+
 def heavy_product(count):
     """A product of factors of many factors each, which stops at the limit."""
     return IDENTITY, identity_node("1" + "*y0" * count, "1*y0", "0", "1" + "*y0" * count, ["rule 0>0:1", "rule"], "pair 1>0:1")
@@ -365,6 +374,8 @@ def main():
         cases.append(("poly monomials", f"weight {count}", many_monomials, count))
     for count in (2000, 8000, 30000):
         cases.append(("poly behind a sum", f"{count} factors", behind_a_sum, count))
+    for count in (10, 20, 40):
+        cases.append(("poly powers", f"{count} rules", powers, count))
     cases.append(("poly product", "300 x 300", heavy_product, 300))
     for count in (250000, 500000, 1000000):
         cases.append(("poly moves", f"{count} moves", many_moves, count))

@@ -1,6 +1,6 @@
 -- What a value stands for, by its list of items.
 use Rattle.std.proofs.Common.{◌≡◌, ◌≤◌, List, [], ◌∷◌, length, arith, refl, ap, ap₂, sym, ◌∙◌}
-use Rattle.wh_hopoly.specs.Polynomials.{plus, times, no_arguments, argument, compare_polynomials, compare_factors, compare_arguments}
+use Rattle.wh_hopoly.specs.Polynomials.{plus, no_factors, times, no_arguments, argument, compare_polynomials, compare_factors, compare_arguments}
 use Rattle.wh_hopoly.specs.declared.polynomial.Poly.{Poly, is-Poly', out-Poly, Row_of-Monomial, end_of-Monomial, more_of-Monomial, items-the_row-Monomial, items_hidden-the_row-Monomial-1}
 use Rattle.wh_hopoly.specs.declared.polynomial.Monomial.{Monomial, Monomial', out-Monomial}
 use Rattle.wh_hopoly.specs.declared.polynomial.Atoms.{Atoms, is-Atoms', out-Atoms, Row_of-Atom, end_of-Atom, more_of-Atom, items-the_row-Atom, items_hidden-the_row-Atom-0}
@@ -46,3 +46,8 @@ arguments_by_lists ps qs xs ys e k = ap₂ compare_arguments (polys_is ps ∙ ap
 pub no_arguments_left : (ps : Polys) (xs : List Poly) → xs ≡ list ps → length xs ≤ 0 → polys ps ≡ no_arguments
 no_arguments_left ps [] e l = polys_is ps ∙ ap arguments_of (sym e)
 no_arguments_left ps (x ∷ xs) e l = absurd (omega (arith, l))
+
+-- and a list of factors
+pub no_factors_left : (us : Atoms) (xs : List Atom) → xs ≡ factors us → length xs ≤ 0 → atoms us ≡ no_factors
+no_factors_left us [] e l = atoms_is us ∙ ap product_of (sym e)
+no_factors_left us (x ∷ xs) e l = absurd (omega (arith, l))

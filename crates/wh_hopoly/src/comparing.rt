@@ -1,4 +1,7 @@
 //! The order of polynomials. A walk goes over both lists with one index, and the first difference decides.
+//!
+//! Most factors have no arguments. So what is done for each factor stands in the walks themselves (`inline`), and what
+//! is done for arguments does not; the same holds of copies and of weights.
 
 ghost use Rattle.std.specs.Prelude.{◌≡◌};
 ghost use Rattle.wh_hopoly.specs.Erase.{poly, atoms, polys};
@@ -56,6 +59,7 @@ pub fn order_factors(a: &Atoms, b: &Atoms) -> Ordering
 
 /// The order of two factors alone. The arguments are looked at only where the numbers agree.
 #[cycle(order)]
+#[inline(always)]
 pub fn order_factor(a: &Atom, b: &Atom) -> Ordering
     ensures { result ≡ compare_factor (out-Atom a.now).head (polys (out-Atom a.now).args) (out-Atom b.now).head (polys (out-Atom b.now).args) }
 {
@@ -71,6 +75,7 @@ pub fn order_factor(a: &Atom, b: &Atom) -> Ordering
 
 /// The order of two lists of arguments, from left to right.
 #[cycle(order)]
+#[inline(never)]
 pub fn order_arguments(a: &Polys, b: &Polys) -> Ordering
     ensures { result ≡ compare_arguments (polys a.now) (polys b.now) }
 {

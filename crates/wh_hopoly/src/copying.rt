@@ -40,6 +40,7 @@ pub fn copy_factors(alloc: Global, us: &Atoms) -> Result<Atoms, AllocError>
 
 /// Equal arguments in the same order.
 #[cycle(copy)]
+#[inline(never)]
 pub fn copy_arguments(alloc: Global, ps: &Polys) -> Result<Polys, AllocError>
     ensures { IfOk result (λ r. polys r ≡ polys ps.now) }
 {
@@ -51,9 +52,19 @@ pub fn copy_arguments(alloc: Global, ps: &Polys) -> Result<Polys, AllocError>
 }
 
 /// A copy of the factor joins at the end.
+#[inline(always)]
 pub fn push_copy(alloc: Global, us: &mut Atoms, item: &Atom) -> Result<(), AllocError>
     ensures { OnOk result (product_of (factors us.new) ≡ product_of (factors us.old ++ item.now ∷ [])) }
 {
+    // Most factors have no arguments, and then nothing is called.
+    if item.args.as_slice().is_empty() {
+        let args = Polys::new(alloc)?;
+        us.push(Atom {
+            head: item.head,
+            args,
+        })?;
+        return Ok(());
+    }
     let args = copy_arguments(alloc, &item.args)?;
     us.push(Atom {
         head: item.head,

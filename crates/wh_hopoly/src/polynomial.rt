@@ -114,6 +114,7 @@ impl Atoms {
     }
 
     /// The factor joins at the end; without memory the list stays as it was.
+    #[inline(always)]
     pub fn push(&mut self, item: Atom) -> Result<(), AllocError>
         ensures ok { OnOk result (factors self.new ≡ factors self.old ++ item ∷ []) }
         ensures err { OnErr result (factors self.new ≡ factors self.old) }

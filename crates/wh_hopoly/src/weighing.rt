@@ -33,13 +33,18 @@ pub fn weigh_factors(us: &Atoms, budget: u32, depth: u32) -> Option<u32>
         if left == 0 {
             return None;
         }
-        left = weigh_arguments(&item.args, left - 1, depth)?;
+        left -= 1;
+        if item.args.as_slice().is_empty() {
+            continue;
+        }
+        left = weigh_arguments(&item.args, left, depth)?;
     }
     Some(left)
 }
 
 /// The same of arguments, which nest one level deeper than what is in them.
 #[cycle(weigh)]
+#[inline(never)]
 pub fn weigh_arguments(ps: &Polys, budget: u32, depth: u32) -> Option<u32>
     ensures { MatchOption result ((budget < weight_of_arguments (polys ps.now)) ⊎ (depth < nesting_of_arguments (polys ps.now)))
         (λ left. (weight_of_arguments (polys ps.now) + left ≡ budget) × (nesting_of_arguments (polys ps.now) ≤ depth)) }

@@ -1,10 +1,11 @@
 -- At the start nothing is weighed, and a part is smaller than the whole.
-use Rattle.std.proofs.Common.{ap, sym, ◌∙◌, arith}
+use Rattle.std.proofs.Common.{rules, ◌≤◌, length, ap, sym, ◌∙◌, arith}
 use Rattle.wh_hopoly.specs.Erase.{sum_of, product_of, arguments_of}
 use Rattle.wh_hopoly.specs.Limits.{weight, weight_of_factors, weight_of_arguments, nesting, nesting_of_factors, nesting_of_arguments}
-use Rattle.wh_hopoly.proofs.Lists.{poly_is, atoms_is, polys_is}
+use Rattle.wh_hopoly.specs.declared.polynomial.Atom.{out-Atom}
+use Rattle.wh_hopoly.proofs.Lists.{poly_is, atoms_is, polys_is, no_arguments_left}
 use Rattle.wh_hopoly.proofs.Sizes.{smaller_factors, smaller_arguments, smaller_poly}
-use Rattle.wh_hopoly.proofs.WeightLaws.{weighing_starts}
+use Rattle.wh_hopoly.proofs.WeightLaws.{weighing_starts, weighing_bare}
 use Rattle.wh_hopoly.proofs.weighing.+weigh.Goals as goal
 
 pub weigh-loop-item-init : goal.weigh-loop-item-init
@@ -18,6 +19,12 @@ weigh-weigh_factors-requires t c =
 pub weigh_factors-loop-item-init : goal.weigh_factors-loop-item-init
 weigh_factors-loop-item-init t c = let e = atoms_is c.args.us.now ∙ ap product_of (sym c.as_slice-item-items.ensures) in
     weighing_starts _ _ _ _ c.args.budget c.args.depth (ap weight_of_factors e) (ap nesting_of_factors e)
+
+pub weigh_factors-loop-item-preserved-then-is_empty : goal.weigh_factors-loop-item-preserved-then-is_empty
+weigh_factors-loop-item-preserved-then-is_empty t c =
+    let none : length c.as_slice.result.now ≤ 0 = search rules in
+    weighing_bare _ _ c.as_slice-item-items.result.now c.loop-item.item-index c.item-item.result c.args.budget c.loop-item.left c.args.depth c.loop-item.invariant c.loop-item-test.true c.item-item.is
+    (no_arguments_left (out-Atom c.item-item.result).args c.as_slice.result.now c.as_slice.ensures none) (omega (arith, c.if-left-eq0.false))
 
 pub weigh_factors-weigh_arguments-requires : goal.weigh_factors-weigh_arguments-requires
 weigh_factors-weigh_arguments-requires t c =
