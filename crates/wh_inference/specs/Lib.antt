@@ -1,0 +1,2 @@
+pub mod Inferences
+pub mod Filters
