@@ -1,2 +1,6 @@
 pub mod Inferences
 pub mod Filters
+pub mod InferenceText
+pub mod InferenceLimits
+pub mod FilterText
+pub mod Said
