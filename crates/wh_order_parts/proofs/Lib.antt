@@ -1,0 +1,4 @@
+pub mod InferenceSound
+pub mod InferenceRuns
+pub mod InferenceWhole
+pub mod InferenceCode

@@ -1,0 +1,6 @@
+pub mod InferenceMachine
+pub mod InferencesRead
+pub mod InferenceViews
+pub mod FilterMachine
+pub mod FiltersRead
+pub mod FilterViews
