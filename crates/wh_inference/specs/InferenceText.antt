@@ -61,6 +61,10 @@ abbrev mutual
   put_more no_parts r = codes ")" ++ r
   put_more (more_parts i is) r = codes "," ++ put_inference i (put_more is r)
 
+-- the parts of an inference of this form, where they are written
+abbrev pub put_list : Form → Inferences → List ℕ → List ℕ
+put_list f is r = put_listed f (put_parts is r) r
+
 -- the text of an inference
 abbrev pub of_inference : Inference → List ℕ
 of_inference i = put_inference i []

@@ -13,7 +13,7 @@ use Rattle.wh_order_parts.specs.declared.inference_reader.OpenInference.{OpenInf
 
 -- inferences
 
-parts_row-items : (n : _) (r : Row_of-Inference n) → parts_row r ≡ inferences (items-the_row-Inference n r)
+pub parts_row-items : (n : _) (r : Row_of-Inference n) → parts_row r ≡ inferences (items-the_row-Inference n r)
 parts_row-items n end_of-Inference = refl
 parts_row-items n (more_of-Inference i rest) = ap (λ (is : Inferences). more_parts (inference i) is) (parts_row-items _ rest)
 

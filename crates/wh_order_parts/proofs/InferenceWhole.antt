@@ -96,7 +96,7 @@ pub no_prefix : (i j : Inference) (more : List ℕ) → InferenceFits 0 i → In
 no_prefix i j [] fits also e = refl
 no_prefix i j (b ∷ more) fits also e =
     let behind : put_inference i (b ∷ (more ++ 10 ∷ [])) ≡ put_inference j (10 ∷ []) =
-        put_behind i [] (b ∷ (more ++ 10 ∷ [])) ∙ sym (append_assoc (of_inference i) (b ∷ more) (10 ∷ [])) ∙ ap (λ (x : List ℕ). x ++ 10 ∷ []) e ∙ sym (put_behind j [] (10 ∷ [])) in
+    put_behind i [] (b ∷ (more ++ 10 ∷ [])) ∙ sym (append_assoc (of_inference i) (b ∷ more) (10 ∷ [])) ∙ ap (λ (x : List ℕ). x ++ 10 ∷ []) e ∙ sym (put_behind j [] (10 ∷ [])) in
     let same = same_reading i j b 10 (more ++ 10 ∷ []) [] fits also behind in
     let rest : more ++ 10 ∷ [] ≡ [] = cc in
     absurd (omega (arith, length-append more (10 ∷ []), ap (λ (x : List ℕ). length x) rest))

@@ -4,3 +4,4 @@ pub mod InferenceViews
 pub mod FilterMachine
 pub mod FiltersRead
 pub mod FilterViews
+pub mod SignedParts

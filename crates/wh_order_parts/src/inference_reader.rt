@@ -190,11 +190,7 @@ impl InferenceText {
             Letter::Sub | Letter::Lex | Letter::Meta => {
                 self.place = InferencePlace::PlaceWanted(letter);
             }
-            Letter::Lam
-            | Letter::Mono
-            | Letter::Prec
-            | Letter::App
-            | Letter::Bind => {
+            Letter::Lam | Letter::Mono | Letter::Prec | Letter::App | Letter::Bind => {
                 self.place = InferencePlace::PartsWanted(letter);
             }
         }
@@ -251,12 +247,23 @@ impl InferenceText {
     {
         let parts = Inferences::new(alloc)?;
         if byte == b')' {
-            return Ok(self.close(OpenInference { letter, place, parts }));
+            return Ok(self.close(OpenInference {
+                letter,
+                place,
+                parts,
+            }));
         }
         if !has_room(&self.stack) {
             return Ok(InferenceStep::Wrong);
         }
-        push_open(&mut self.stack, OpenInference { letter, place, parts })?;
+        push_open(
+            &mut self.stack,
+            OpenInference {
+                letter,
+                place,
+                parts,
+            },
+        )?;
         self.begin(alloc, byte)
     }
 

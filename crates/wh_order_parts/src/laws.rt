@@ -1,9 +1,13 @@
 //! Inferences, filters and their texts determine one another, and the readers go along the fronts of texts.
 
 ghost use Rattle.std.specs.Prelude.{◌≡◌, ◌≤◌, ℕ, List, [], ◌∷◌, ◌++◌, length};
+ghost use Rattle.wh_text.specs.Chars.{line_feed};
 ghost use Rattle.wh_inference.specs.Inferences.{Inference, entries};
 ghost use Rattle.wh_inference.specs.InferenceText.{put_inference, of_inference};
 ghost use Rattle.wh_inference.specs.InferenceLimits.{InferenceFits, depth, deepest_inference};
+ghost use Rattle.wh_inference.specs.FilterText.{WrittenFilter, put_filter, FilterFits};
+ghost use Rattle.wh_order_parts.specs.FilterMachine as f;
+ghost use Rattle.wh_order_parts.specs.FiltersRead as r;
 ghost use Rattle.wh_order_parts.specs.InferenceMachine.{scan, start, read};
 ghost use Rattle.wh_order_parts.specs.InferencesRead.{Led};
 
@@ -38,4 +42,22 @@ pub fn entries_short()
 /// What is within the limits nests at most 64 deep.
 pub fn depth_within()
     ensures { (i : Inference) → InferenceFits 0 i → depth i ≤ deepest_inference }
+{}
+
+/// Bytes that the reader goes along begin a line that is a filter, bytes behind which it has read a filter are the text of
+/// that, and bytes that it refuses begin no such line.
+pub fn filter_led()
+    ensures { (bytes : List ℕ) → r.Led (f.scan f.start bytes) bytes }
+{}
+
+/// The text of a filter within the limits is read at the end of its line. So reading what was printed gives it back.
+pub fn filter_read()
+    ensures { (filter : WrittenFilter) (rest : List ℕ) → FilterFits filter
+        → f.scan f.start (put_filter filter (line_feed ∷ rest)) ≡ f.read filter (line_feed ∷ rest) }
+{}
+
+/// A line is that of one filter, and no filter's line is the front of a longer one.
+pub fn one_filter()
+    ensures { (f g : WrittenFilter) (r s : List ℕ) → FilterFits f → FilterFits g
+        → put_filter f (line_feed ∷ r) ≡ put_filter g (line_feed ∷ s) → (f ≡ g) × (r ≡ s) }
 {}
