@@ -1,0 +1,4 @@
+pub mod SameTrees
+pub mod Heads
+pub mod Order
+pub mod Verdict
