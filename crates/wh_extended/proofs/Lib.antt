@@ -1,0 +1,14 @@
+pub mod ManyLaws
+pub mod TypeLists
+pub mod Acted
+pub mod Expand
+pub mod LongLaws
+pub mod StepLong
+pub mod Sides
+pub mod Patterns
+pub mod LongPatterns
+pub mod Sifting
+pub mod SiftSteps
+pub mod Fullness
+pub mod SiftValues
+pub mod ExtendedRules

@@ -1,7 +1,7 @@
 -- Filtered trees: symbols keep some of their arguments, or give way to one of them; all sorts are read as one. A
 -- function from numbers gives the filter of each symbol, that of a marked symbol at its number behind all symbols.
 use Rattle.std.specs.Prelude.{ℕ, suc, ◌≡◌, ◌<◌, List, [], ◌∷◌, length, map, get_or, Some, slice_get}
-use Rattle.wh_types.specs.Ty.{Ty, sort, ◌⇒◌}
+use Rattle.wh_types.specs.Ty.{Ty, sort, ◌⇒◌, arguments}
 use Rattle.wh_terms.specs.Tree.{Tm, bound, free, fun, meta, lam, app, Tms, none, more, spine}
 use Rattle.wh_terms.specs.Typing.{Symbols, Declared}
 use Rattle.wh_inference.specs.Filters.{Filter, keep, pick}
@@ -50,6 +50,14 @@ abbrev mutual
   pub AllFull : (ℕ → ℕ) → Tms → Type 0
   AllFull arity none = Unit {0}
   AllFull arity (more t ts) = FullWith arity 0 t × AllFull arity ts
+
+-- how many arguments the symbol takes (ours)
+abbrev pub symbol_arity : Symbols → ℕ → ℕ
+symbol_arity S f = length (arguments (type_at S.funs f))
+
+-- each symbol of S in the tree has all its arguments, where n more stand behind the tree (ours)
+abbrev pub Full : Symbols → ℕ → Tm → Type 0
+Full S n t = FullWith (symbol_arity S) n t
 
 -- the places are below n and strictly increasing, the first one at least `from`
 abbrev pub IncreasingFrom : (from n : ℕ) → List ℕ → Type 0
