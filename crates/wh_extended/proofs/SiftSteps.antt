@@ -6,7 +6,7 @@ use Rattle.std.proofs.lemmas.Option.{none-some}
 use Rattle.wh_types.specs.Ty.{Ty, sort, ◌⇒◌, arguments}
 use Rattle.wh_terms.specs.Tree.{Tm, bound, free, fun, meta, lam, app, spine}
 use Rattle.wh_terms.specs.Substitution.{act, cons, opened}
-use Rattle.wh_terms.specs.Typing.{Symbols, Typed, typed_bound, typed_free, typed_fun, typed_meta, typed_lam, typed_app}
+use Rattle.wh_terms.specs.Typing.{Symbols, Declared, Typed, typed_bound, typed_free, typed_fun, typed_meta, typed_lam, typed_app}
 use Rattle.wh_terms.specs.StepOver.{StepOver, over_beta}
 use Rattle.wh_terms.proofs.TypingLaws.{some_one, typed-opened}
 use Rattle.wh_inference.specs.Filters.{Filter, keep, pick}
@@ -19,11 +19,11 @@ use Rattle.wh_extended.proofs.Sifting.{IsFlexible, IsArrow, Behind, Flexibles, p
 
 module _ (S : Symbols) where
   -- a full tree is headed by no symbol, or has as many arguments to come as stand behind it
-  flexible_or_left : {Γ : List Ty} {t : Tm} {a : Ty} (n : ℕ) → Typed S [] Γ t a → Full S n t → IsFlexible t ⊎ (length (arguments a) ≡ n)
+  pub flexible_or_left : {M : List Declared} {Γ : List Ty} {t : Tm} {a : Ty} (n : ℕ) → Typed S M Γ t a → Full S n t → IsFlexible t ⊎ (length (arguments a) ≡ n)
   flexible_or_left n (typed_bound e) f = inl tt
   flexible_or_left n (typed_free p) f = inl tt
   flexible_or_left n (typed_fun {f = g} {a = a} e) f = inr (ap (λ b. length (arguments b)) (sym (at_is S.funs g a e)) ∙ sym f)
-  flexible_or_left n (typed_meta {d = d} e us o) f = absurd (none-some d e)
+  flexible_or_left n (typed_meta e us o) f = inl tt
   flexible_or_left n (typed_lam p q) f = inl tt
   flexible_or_left n (typed_app {a = a} {b = b} {t = h} p q) f = on (flexible_or_left (suc n) p f.0)
     where
@@ -31,7 +31,7 @@ module _ (S : Symbols) where
       on (inl g) = inl g
       on (inr e) = inr (omega (arith, e))
 
-  pub full_flexible : {Γ : List Ty} {t : Tm} (a : Ty) → Typed S [] Γ t a → Full S 0 t → IsArrow a → IsFlexible t
+  pub full_flexible : {M : List Declared} {Γ : List Ty} {t : Tm} (a : Ty) → Typed S M Γ t a → Full S 0 t → IsArrow a → IsFlexible t
   full_flexible (sort s) p f w = absurd w
   full_flexible {t = t} (a ⇒ b) p f w = on (flexible_or_left 0 p f)
     where

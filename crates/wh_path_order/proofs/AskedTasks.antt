@@ -1,16 +1,18 @@
 -- What a good inference asks for: the conditions of its letter, and that its parts are good for their tasks.
 use Rattle.std.proofs.Common.{◌≡◌, ℕ, zero, suc, Bool, true, false, ◌&&◌, cond, List, [], ◌∷◌, length, take, refl, ap, ◌∙◌, sym, Some, None, Option, slice_get, eqb-true}
 use Rattle.std.specs.Prelude.{◌==◌, nat_lt}
-use Rattle.wh_types.specs.Ty.{Ty}
+use Rattle.wh_types.specs.Ty.{Ty, same_ty}
 use Rattle.wh_terms.specs.Tree.{Tm, bound, free, fun, meta, lam, app, Tms, spine, head}
 use Rattle.wh_terms.specs.Substitution.{opened}
 use Rattle.wh_terms.specs.Typing.{Symbols, Declared}
+use Rattle.wh_terms.proofs.TypeTests.{same_ty-equal}
 use Rattle.wh_laws.proofs.Spines.{spine-append}
+use Rattle.wh_extended.specs.Kinds.{kind}
 use Rattle.wh_inference.specs.Inferences.{Letter, same_trees, bodies, arguments, part, lower, first_less, spine_parts, body, variable, meta_part, Inference, infer, Inferences, more_parts, entries, count_parts}
 use Rattle.wh_path_order.specs.Heads.{arguments_of, list_of}
-use Rattle.wh_path_order.specs.Verdict.{at_least, greater, above, Task, each, when, is_other_head, is_abstracted, symbol_tasks, above_tasks, tasks, or_later, verdict, verdicts}
-use Rattle.wh_path_order.specs.SameTrees.{same_list}
-use Rattle.wh_path_order.proofs.SameTreeLaws.{some_none, none_some, both, list_equal}
+use Rattle.wh_path_order.specs.Verdict.{at_least, greater, above, Task, each, pairwise, some_strict, when, is_other_head, is_abstracted, symbol_tasks, above_tasks, one_kind, greater_tasks, typed_tasks, at_least_tasks, tasks, or_later, verdict, verdicts}
+use Rattle.wh_path_order.specs.SameTrees.{same, same_list}
+use Rattle.wh_path_order.proofs.SameTreeLaws.{some_none, none_some, both, tree_equal, list_equal}
 
 when_true : (b : Bool) (l ks : List Task) → when b l ≡ Some ks → (b ≡ true) × (ks ≡ l)
 when_true true l ks e = (refl, cc)
@@ -176,3 +178,41 @@ module _ (F : Symbols) (prec : ℕ → ℕ) (M : List Declared) where
       on (meta z ts) d e = absurd (none_some e)
       on (lam a u) d e = absurd (none_some e)
       on (app u v) d e = absurd (none_some e)
+
+  -- what a letter asks for, where a tree is to be greater
+  pub data GreaterAsks (next : ℕ) : Tm → Tm → Letter → ℕ → Inferences → List Task → Type 0 where
+    asks_bodies : {s t : Tm} {a b : Ty} {is : Inferences} {ks : List Task} → a ≡ b → ks ≡ record { claim = greater; next = suc next; left = opened (free next a) s; right = opened (free next b) t } ∷ []
+        → GreaterAsks next (lam a s) (lam b t) bodies 0 is ks
+    asks_arguments : {s u t v : Tm} {is : Inferences} {ks : List Task} → is_other_head (head s) ≡ true → head s ≡ head t → length (arguments_of (app s u)) ≡ length (arguments_of (app t v)) → some_strict is ≡ true
+        → ks ≡ pairwise next (arguments_of (app s u)) (arguments_of (app t v)) → GreaterAsks next (app s u) (app t v) arguments 0 is ks
+    asks_above : {s t : Tm} {l : Letter} {n : ℕ} {is : Inferences} {ks : List Task} → above_tasks F prec M next next s t l n ≡ Some ks → GreaterAsks next s t l n is ks
+
+  pub greater_asks : (next : ℕ) (s t : Tm) (l : Letter) (n : ℕ) (is : Inferences) (ks : List Task) → greater_tasks F prec M next s t l n is ≡ Some ks → GreaterAsks next s t l n is ks
+  greater_asks next (lam a s) (lam b t) bodies zero is ks e =
+      let (d, k) = when_true (same_ty a b) (record { claim = greater; next = suc next; left = opened (free next a) s; right = opened (free next b) t } ∷ []) ks e in
+      asks_bodies (same_ty-equal a b d) k
+  greater_asks next (app s u) (app t v) arguments zero is ks e =
+      let (d, k) = when_true (is_other_head (head s) && same (head s) (head t) && (length (arguments_of (app s u)) == length (arguments_of (app t v))) && some_strict is) (pairwise next (arguments_of (app s u)) (arguments_of (app t v))) ks e in
+      let (d1, strict) = both (is_other_head (head s) && same (head s) (head t) && (length (arguments_of (app s u)) == length (arguments_of (app t v)))) (some_strict is) d in
+      let (d2, len) = both (is_other_head (head s) && same (head s) (head t)) (length (arguments_of (app s u)) == length (arguments_of (app t v))) d1 in
+      let (other, heads) = both (is_other_head (head s)) (same (head s) (head t)) d2 in
+      asks_arguments other (tree_equal (head s) (head t) heads) (eqb-true (length (arguments_of (app s u))) (length (arguments_of (app t v))) len) strict k
+  greater_asks next s t l n is ks e = asks_above e
+
+  -- so the two trees have one type
+  pub typed_asks : (next : ℕ) (s t : Tm) (l : Letter) (n : ℕ) (is : Inferences) (ks : List Task) → typed_tasks F prec M next s t l n is ≡ Some ks
+      → (kind F M [] s ≡ kind F M [] t) × GreaterAsks next s t l n is ks
+  typed_asks next s t l n is ks e = on (one_kind F prec M s t) refl e
+    where
+      on : (b : Bool) → one_kind F prec M s t ≡ b → cond b (greater_tasks F prec M next s t l n is) None ≡ Some ks → (kind F M [] s ≡ kind F M [] t) × GreaterAsks next s t l n is ks
+      on true d e = (same_ty-equal (kind F M [] s) (kind F M [] t) d, greater_asks next s t l n is ks e)
+      on false d e = absurd (none_some e)
+
+  -- where a tree is to be at least another one
+  pub data AtLeastAsks (next : ℕ) (s t : Tm) : Letter → ℕ → Inferences → List Task → Type 0 where
+    asks_same : {is : Inferences} {ks : List Task} → s ≡ t → ks ≡ [] → AtLeastAsks next s t same_trees 0 is ks
+    asks_greater : {l : Letter} {n : ℕ} {is : Inferences} {ks : List Task} → typed_tasks F prec M next s t l n is ≡ Some ks → AtLeastAsks next s t l n is ks
+
+  pub at_least_asks : (next : ℕ) (s t : Tm) (l : Letter) (n : ℕ) (is : Inferences) (ks : List Task) → at_least_tasks F prec M next s t l n is ≡ Some ks → AtLeastAsks next s t l n is ks
+  at_least_asks next s t same_trees zero is ks e = let (d, k) = when_true (same s t) [] ks e in asks_same (tree_equal s t d) k
+  at_least_asks next s t l n is ks e = asks_greater e

@@ -1,23 +1,24 @@
 -- Inferences are steps at the root, or below it, of instances.
-use Rattle.std.proofs.Common.{◌≡◌, ◌≢◌, ℕ, zero, suc, ◌<◌, inl, inr, List, [], ◌∷◌, length, map, refl, ap, ◌∙◌, sym, Some, slice_get, eqb, eq-eqb, ne_eqb, true, false, Bool, arith, if◌then◌else◌}
+use Rattle.std.proofs.Common.{◌≡◌, ◌≢◌, ℕ, zero, suc, ◌<◌, inl, inr, List, [], ◌∷◌, map, refl, ap, ◌∙◌, sym, eqb, eq-eqb, ne_eqb, true, false, Bool, arith, if◌then◌else◌}
 use mathlib.Core.Path.{subst₂}
-use Rattle.wh_types.specs.Ty.{Ty, sort}
-use Rattle.wh_terms.specs.Tree.{Tm, bound, free, fun, lam, app, Tms, spine}
+use Rattle.wh_types.specs.Ty.{Ty}
+use Rattle.wh_terms.specs.Tree.{Tm, bound, free, lam, app, Tms, spine}
 use Rattle.wh_terms.specs.Substitution.{up, up_free, act, cons, opened}
 use Rattle.wh_terms.specs.Sight.{LooseBelow, Fresh, IsTerm}
 use Rattle.wh_terms.specs.Typing.{Symbols, Declared, Typed, typed_bound, typed_free, typed_fun, typed_meta, typed_lam, typed_app, AllTyped, typed_none, typed_more}
-use Rattle.wh_terms.specs.Value.{Body}
+use Rattle.wh_terms.specs.Value.{Body, Value}
 use Rattle.wh_terms.specs.StepOver.{StepOver, over_root, over_function, over_argument, over_body, AreFreeTerms}
 use Rattle.wh_terms.proofs.ActLaws.{act-opened-cons, opened-act}
 use Rattle.wh_terms.proofs.SightLaws.{act_loose, act_fresh}
 use Rattle.wh_terms.proofs.TermLaws.{term-rename}
 use Rattle.wh_terms.proofs.TypingLaws.{typed_loose}
 use Rattle.wh_terms.proofs.ValueForm.{shifted, value, FitsBodies, AllFitBodies}
-use Rattle.wh_terms.proofs.ValueLaws.{opened-value}
+use Rattle.wh_path_order.specs.OrderRoot.{AreCounted, OrderRoot}
+use Rattle.wh_terms.proofs.ValueLaws.{value_is, has_value, fits-act, opened-value}
 use Rattle.wh_terms.proofs.ValueTyping.{typed_count}
 use Rattle.wh_inference.specs.Inferences.{same_trees, Inference, Inferences, letter_of}
 use Rattle.wh_path_order.specs.Heads.{SomeStrict}
-use Rattle.wh_path_order.specs.Order.{AtLeast, at_least_same, at_least_greater, AllAtLeast, none_at_least, more_at_least, Greater, by_bodies, by_arguments, by_above, Above}
+use Rattle.wh_path_order.specs.Order.{AtLeast, at_least_same, at_least_greater, AllAtLeast, none_at_least, more_at_least, Greater, by_bodies, by_arguments, by_above}
 use Rattle.wh_extended.specs.Many.{Many, stay, Plus}
 use Rattle.wh_extended.proofs.ManyLaws.{many_both, many_equal, many_map, plus_many, plus_after, plus_before, plus_map}
 
@@ -54,10 +55,6 @@ unfolding value act
 inst-spine g φ h [] = refl
 inst-spine g φ h (t ∷ ts) = inst-spine g φ (app h t) ts
 
--- the bodies have as many parameters as their meta-variables have arguments
-abbrev pub AreCounted : List Declared → (ℕ → Body) → Type 0
-AreCounted M g = (z : ℕ) (d : Declared) → slice_get M z ≡ Some d → (g z).arity ≡ length d.args
-
 mutual
   pub typed_fits : {F : Symbols} {M : List Declared} {Γ : List Ty} {t : Tm} {a : Ty} (g : ℕ → Body) → AreCounted M g → Typed F M Γ t a → FitsBodies g t
   typed_fits g c (typed_bound e) = tt
@@ -70,6 +67,10 @@ mutual
   pub all_typed_fit : {F : Symbols} {M : List Declared} {Γ : List Ty} {ts : Tms} {cs : List Ty} (g : ℕ → Body) → AreCounted M g → AllTyped F M Γ ts cs → AllFitBodies g ts
   all_typed_fit g c typed_none = tt
   all_typed_fit g c (typed_more t ts) = (typed_fits g c t, all_typed_fit g c ts)
+
+-- the instance is the value of what the substitution makes
+pub inst_is : {F : Symbols} {M : List Declared} {Γ : List Ty} {t : Tm} {a : Ty} (g : ℕ → Body) (φ : ℕ → Ty → Tm) → AreCounted M g → AreFreeTerms φ → Typed F M Γ t a → Value g (act bound φ t) (inst g φ t)
+inst_is {t = t} g φ c h p = has_value g (act bound φ t) (fits-act (λ z. (g z).arity) bound φ t (λ i. tt) h (typed_fits g c p))
 
 module _ (g : ℕ → Body) (φ : ℕ → Ty → Tm) (x : ℕ) (a : Ty) (t : Tm) (fresh : Fresh x t) where
   -- a variable that opens a body, for the variable of the binder
@@ -108,30 +109,21 @@ over_spine [] s = s
 over_spine (v ∷ ts) s = over_spine ts (over_function s)
 
 module _ (F : Symbols) (prec : ℕ → ℕ) where
-  -- an instance of an inference at a symbol
-  pub record Root (U V : Tm) : Type 0 where
-    pub metas : List Declared
-    pub bodies : ℕ → Body
-    pub frees : ℕ → Ty → Tm
-    pub left : Tm
-    pub right : Tm
-    pub inference : Inference
-    pub symbol : ℕ
-    pub given : List Tm
-    pub headed : left ≡ spine (fun symbol) given
-    pub counted : AreCounted metas bodies
-    pub terms : AreFreeTerms frees
-    pub typed_left : Typed F metas [] left (sort 0)
-    pub typed_right : Typed F metas [] right (sort 0)
-    pub above : Above F prec metas left [] right inference
-    pub is_left : U ≡ inst bodies frees left
-    pub is_right : V ≡ inst bodies frees right
+  abbrev pub Root : Tm → Tm → Type 0
+  Root = OrderRoot F prec
+
+  pub left_is : {U V : Tm} (r : Root U V) → U ≡ inst r.bodies r.frees r.left
+  left_is r = (value_is r.is_left).1
+
+  pub right_is : {U V : Tm} (r : Root U V) → V ≡ inst r.bodies r.frees r.right
+  right_is r = (value_is r.is_right).1
 
   lam_loose : {M : List Declared} {a c : Ty} {t : Tm} → Typed F M [] (lam a t) c → LooseBelow 1 t
   lam_loose (typed_lam s p) = typed_loose p
 
   mutual
     unfolding value act
+
     pub greater_steps : {M : List Declared} {s t : Tm} {i : Inference} → Greater F prec M s t i → (g : ℕ → Body) (φ : ℕ → Ty → Tm) → AreCounted M g → AreFreeTerms φ
         → Plus (StepOver Root) (inst g φ s) (inst g φ t)
     greater_steps (by_bodies {a = a} {s = s} {t = t} x p q o r) g φ c h =
@@ -142,7 +134,7 @@ module _ (F : Symbols) (prec : ℕ → ℕ) where
         subst₂ (Plus (StepOver Root)) (sym (ap (inst g φ) e ∙ inst-spine g φ h ss)) (sym (ap (inst g φ) d ∙ inst-spine g φ h ts)) (some_steps r k (inst g φ h) g φ c w)
     greater_steps {M = M} {s = s} {t = t} {i = i} (by_above f ss e p q r) g φ c h = record {
       next = inst g φ t;
-      first = over_root (record { metas = M; bodies = g; frees = φ; left = s; right = t; inference = i; symbol = f; given = ss; headed = e; counted = c; terms = h; typed_left = p; typed_right = q; above = r; is_left = refl; is_right = refl });
+      first = over_root (record { metas = M; bodies = g; frees = φ; left = s; right = t; inference = i; symbol = f; given = ss; headed = e; counted = c; terms = h; typed_left = p; typed_right = q; above = r; is_left = inst_is g φ c h p; is_right = inst_is g φ c h q });
       others = stay;
     }
 

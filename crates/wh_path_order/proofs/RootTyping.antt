@@ -22,7 +22,8 @@ use Rattle.wh_inference.specs.Inferences.{Inference, Inferences}
 use Rattle.wh_path_order.specs.Order.{Variable, NoneNumbered, AtLeast, at_least_same, at_least_greater, AllAtLeast, none_at_least, more_at_least, Greater, by_bodies, by_arguments, by_above, Above, by_part, by_lower, by_first_less, by_spine, by_body, by_variable, by_meta, AllAbove, none_above, more_above}
 use Rattle.wh_path_order.specs.Heads.{nearest, abstracted}
 use Rattle.wh_extended.specs.Many.{Many, stay, go}
-use Rattle.wh_path_order.proofs.OrderSteps.{instead, instead_same, instead_other, instead_terms, free_up, inst, inst-spine, AreCounted, typed_fits, body_inst, Root}
+use Rattle.wh_path_order.proofs.OrderSteps.{instead, instead_same, instead_other, instead_terms, free_up, inst, inst-spine, typed_fits, body_inst, Root, left_is, right_is}
+use Rattle.wh_path_order.specs.OrderRoot.{AreCounted}
 use Rattle.wh_extended.specs.Kinds.{arrows}
 use Rattle.wh_extended.proofs.TypeLists.{arrows_one, typed_spine-arguments, typed_spine, typed_length}
 use Rattle.wh_path_order.proofs.Symbols.{fresh_spine, inst_instead}
@@ -138,6 +139,7 @@ module _ (F : Symbols) (prec : ℕ → ℕ) where
 
   mutual
     unfolding value act
+
     at_least_typed : {M : List Declared} {s t : Tm} {i : Inference} → AtLeast F prec M s t i → (Γ : List Ty) (g : ℕ → Body) (φ : ℕ → Ty → Tm) → AreCounted M g → AreFreeTerms φ → (a : Ty) → Typed F [] Γ (inst g φ s) a → Typed F [] Γ (inst g φ t) a
     at_least_typed (at_least_same e) Γ g φ c h a p = subst (λ t. Typed F [] Γ (inst g φ t) a) e p
     at_least_typed (at_least_greater q) Γ g φ c h a p = greater_typed q Γ g φ c h a p
@@ -145,8 +147,8 @@ module _ (F : Symbols) (prec : ℕ → ℕ) where
     greater_typed : {M : List Declared} {s t : Tm} {i : Inference} → Greater F prec M s t i → (Γ : List Ty) (g : ℕ → Body) (φ : ℕ → Ty → Tm) → AreCounted M g → AreFreeTerms φ → (a : Ty) → Typed F [] Γ (inst g φ s) a → Typed F [] Γ (inst g φ t) a
     greater_typed (by_bodies {a = b} {s = s} {t = t} x fs ft o r) Γ g φ c h a p =
         body_typed (λ d q. subst (λ v. Typed F [] (b ∷ Γ) v d) (sym (body_inst g φ x b t ft (lam_loose o.right)))
-          (greater_typed r (b ∷ Γ) (shifted g) (instead x (bound 0) (up_free φ)) c (instead_terms x (bound 0) (up_free φ) tt (free_up φ h)) d
-          (subst (λ v. Typed F [] (b ∷ Γ) v d) (body_inst g φ x b s fs (lam_loose o.left)) q))) p
+        (greater_typed r (b ∷ Γ) (shifted g) (instead x (bound 0) (up_free φ)) c (instead_terms x (bound 0) (up_free φ) tt (free_up φ h)) d
+        (subst (λ v. Typed F [] (b ∷ Γ) v d) (body_inst g φ x b s fs (lam_loose o.left)) q))) p
     greater_typed (by_arguments k ss ts other e d o r w) Γ g φ c h a p =
         subst (λ v. Typed F [] Γ v a) (sym (ap (inst g φ) d ∙ inst-spine g φ k ts))
         (all_typed_after r Γ g φ c h a (inst g φ k) (subst (λ v. Typed F [] Γ v a) (ap (inst g φ) e ∙ inst-spine g φ k ss) p))
@@ -192,7 +194,7 @@ module _ (F : Symbols) (prec : ℕ → ℕ) where
         let qs = all_above_typed is f Ls d Γ g φ o dd.args rs in
         many_typed Γ b (meta_steps g φ cs z k us o.counted len (terms_in (map (inst g φ) us) dd.args qs) (subst (λ u. Typed F M [] u k) form r))
         (typed_spine (inst g φ (abstracted cs (meta z (nearest (length cs))))) (map (inst g φ) us) dd.args
-          (subst₂ (λ u k. Typed F [] Γ (inst g φ u) k) form (shape ∙ ap₂ arrows (sym args ∙ ap (λ d. d.args) one) (ap (λ d. d.out) one ∙ sym out)) p) qs)
+        (subst₂ (λ u k. Typed F [] Γ (inst g φ u) k) form (shape ∙ ap₂ arrows (sym args ∙ ap (λ d. d.args) one) (ap (λ d. d.out) one ∙ sym out)) p) qs)
 
     all_above_typed : {M : List Declared} {s : Tm} {us : List Tm} {X : List Variable} {is : Inferences} → AllAbove F prec M s X us is → (f : ℕ) (Ls : List Tm) → s ≡ spine (fun f) Ls → (Γ : List Ty) (g : ℕ → Body) (φ : ℕ → Ty → Tm) → Below M Ls Γ g φ X
         → (cs : List Ty) → AllTyped F M [] (tms_of us) cs → AllTyped F [] Γ (tms_of (map (inst g φ) us)) cs
@@ -203,8 +205,8 @@ module _ (F : Symbols) (prec : ℕ → ℕ) where
 
   root_typed : KeepsTypes F (Root F prec)
   root_typed Γ t u a r p =
-      subst (λ v. Typed F [] Γ v a) (sym r.is_right)
-      (greater_typed (by_above r.symbol r.given r.headed r.typed_left r.typed_right r.above) Γ r.bodies r.frees r.counted r.terms a (subst (λ v. Typed F [] Γ v a) r.is_left p))
+      subst (λ v. Typed F [] Γ v a) (sym (right_is F prec r))
+      (greater_typed (by_above r.symbol r.given r.headed r.typed_left r.typed_right r.above) Γ r.bodies r.frees r.counted r.terms a (subst (λ v. Typed F [] Γ v a) (left_is F prec r) p))
 
   -- the order is a relation that may stand at the root
   pub root_is : IsRoot F (Root F prec)

@@ -6,7 +6,7 @@ use Rattle.wh_terms.specs.Tree.{Tm, bound, free, fun, meta, lam, app, Tms, none,
 use Rattle.wh_terms.specs.Substitution.{rename, up, up_free, act, acts, cons, opened}
 use Rattle.wh_terms.specs.Sight.{LooseBelow, IsTerm, NoFree, AllNoFree}
 use Rattle.wh_terms.specs.Typing.{Symbols, Declared, Typed, typed_bound, typed_fun, typed_meta, typed_lam, AllTyped, typed_none, typed_more}
-use Rattle.wh_terms.specs.Value.{Body, parameters}
+use Rattle.wh_terms.specs.Value.{Body, Value, parameters}
 use Rattle.wh_terms.specs.TypedBodies.{parameter_types}
 use Rattle.wh_terms.specs.StepOver.{StepOver, over_beta, over_function, IsKept, AreTerms, AreFreeTerms}
 use Rattle.wh_terms.proofs.ActLaws.{act-act, act_same, act-id}
@@ -19,7 +19,8 @@ use Rattle.wh_laws.proofs.Candidates.{head-spine}
 use Rattle.wh_path_order.specs.Heads.{nearest, abstracted}
 use Rattle.wh_extended.specs.Many.{Many, go}
 use Rattle.wh_extended.proofs.ManyLaws.{many_both, many_equal, many_map}
-use Rattle.wh_path_order.proofs.OrderSteps.{inst, inst-spine, AreCounted, typed_fits, Root}
+use Rattle.wh_path_order.proofs.OrderSteps.{inst, inst-spine, typed_fits, Root, inst_is, left_is, right_is}
+use Rattle.wh_path_order.specs.OrderRoot.{AreCounted}
 use Rattle.wh_extended.specs.Kinds.{arrows}
 use Rattle.wh_extended.proofs.TypeLists.{typed_spine-arguments, typed_length, arguments-arrows}
 
@@ -45,19 +46,35 @@ inst-act σ ψ g φ t p q r l f =
     ∙ ap (value (acted σ ψ g)) (act-act bound φ σ ψ t ∙ act_shut σ bound (λ x a. act σ ψ (φ x a)) t l)
 
 module _ (F : Symbols) (prec : ℕ → ℕ) where
+  kept_value : {M : List Declared} {b : Ty} {t : Tm} (σ : ℕ → Tm) (ψ : ℕ → Ty → Tm) (g : ℕ → Body) (φ : ℕ → Ty → Tm) → AreTerms σ → AreFreeTerms ψ → AreCounted M g → AreFreeTerms φ → Typed F M [] t b
+      → (v : Tm) → v ≡ inst g φ t → Value (acted σ ψ g) (act bound (λ x a. act σ ψ (φ x a)) t) (act σ ψ v)
+  kept_value {t = t} σ ψ g φ p q c h w v e =
+      subst (Value (acted σ ψ g) (act bound (λ x a. act σ ψ (φ x a)) t)) (sym (ap (act σ ψ) e ∙ inst-act σ ψ g φ t p q h (typed_loose w) (typed_fits g c w)))
+      (inst_is (acted σ ψ g) (λ x a. act σ ψ (φ x a)) c (λ x a. act_term σ ψ (φ x a) p q (h x a)) w)
+
   pub root_kept : IsKept (Root F prec)
   root_kept σ ψ t u p q r = record {
-    metas = r.metas; bodies = acted σ ψ r.bodies; frees = λ x a. act σ ψ (r.frees x a); left = r.left; right = r.right; inference = r.inference;
-    symbol = r.symbol; given = r.given; headed = r.headed; counted = r.counted;
+    metas = r.metas;
+    bodies = acted σ ψ r.bodies;
+    frees = λ x a. act σ ψ (r.frees x a);
+    left = r.left;
+    right = r.right;
+    inference = r.inference;
+    symbol = r.symbol;
+    given = r.given;
+    headed = r.headed;
+    counted = r.counted;
     terms = λ x a. act_term σ ψ (r.frees x a) p q (r.terms x a);
-    typed_left = r.typed_left; typed_right = r.typed_right; above = r.above;
-    is_left = ap (act σ ψ) r.is_left ∙ inst-act σ ψ r.bodies r.frees r.left p q r.terms (typed_loose r.typed_left) (typed_fits r.bodies r.counted r.typed_left);
-    is_right = ap (act σ ψ) r.is_right ∙ inst-act σ ψ r.bodies r.frees r.right p q r.terms (typed_loose r.typed_right) (typed_fits r.bodies r.counted r.typed_right);
+    typed_left = r.typed_left;
+    typed_right = r.typed_right;
+    above = r.above;
+    is_left = kept_value σ ψ r.bodies r.frees p q r.counted r.terms r.typed_left t (left_is F prec r);
+    is_right = kept_value σ ψ r.bodies r.frees p q r.counted r.terms r.typed_right u (right_is F prec r);
   }
 
   root_spine : (t u : Tm) (r : Root F prec t u) → t ≡ spine (fun r.symbol) (map (inst r.bodies r.frees) r.given)
   unfolding value act
-  root_spine t u r = r.is_left ∙ ap (inst r.bodies r.frees) r.headed ∙ inst-spine r.bodies r.frees (fun r.symbol) r.given
+  root_spine t u r = left_is F prec r ∙ ap (inst r.bodies r.frees) r.headed ∙ inst-spine r.bodies r.frees (fun r.symbol) r.given
 
   pub root_headed : (t u : Tm) → Root F prec t u → (f : ℕ) × (head t ≡ fun f)
   root_headed t u r = (r.symbol, ap head (root_spine t u r) ∙ head-spine (fun r.symbol) (map (inst r.bodies r.frees) r.given))
@@ -110,9 +127,9 @@ spine_abstracted g [] (w ∷ ws) m n h f = absurd (omega arith)
 spine_abstracted g (c ∷ cs) [] m n h f = absurd (omega arith)
 spine_abstracted {R = R} g (c ∷ cs) (w ∷ ws) m n h f =
     let one : opened w (value (shifted g) (abstracted cs m)) ≡ value g (abstracted cs (act (up_many (length cs) (cons w bound)) free m))
-          = opened-value w g (abstracted cs m) (h 0 w refl) f ∙ ap (value g) (abstracted-act (cons w bound) cs m) in
+    = opened-value w g (abstracted cs m) (h 0 w refl) f ∙ ap (value g) (abstracted-act (cons w bound) cs m) in
     let fit : FitsBodies g (abstracted cs (act (up_many (length cs) (cons w bound)) free m))
-          = subst (FitsBodies g) (abstracted-act (cons w bound) cs m) (fits-act (λ z. (g z).arity) (cons w bound) free (abstracted cs m) (cons_terms w (h 0 w refl)) (λ x a. tt) f) in
+    = subst (FitsBodies g) (abstracted-act (cons w bound) cs m) (fits-act (λ z. (g z).arity) (cons w bound) free (abstracted cs m) (cons_terms w (h 0 w refl)) (λ x a. tt) f) in
     many_both (many_spine ws (go (over_beta refl) (many_equal one)))
     (many_both (spine_abstracted g cs ws (act (up_many (length cs) (cons w bound)) free m) (omega arith) (λ k v e. h (suc k) v e) fit)
     (many_equal (ap (value g) (act-act (up_many (length cs) (cons w bound)) free (parameters (tms_of ws) bound) free m ∙ act_same params (λ x a. refl) m))))
@@ -199,7 +216,8 @@ length_of_tms : (ts : List Tm) → count (tms_of ts) ≡ length ts
 length_of_tms [] = refl
 length_of_tms (t ∷ ts) = omega (arith, length_of_tms ts)
 
--- the instance of such an abstraction, with the instances of arguments, comes to that of the meta-variable with the arguments
+-- the instance of such an abstraction, with the instances of arguments, comes to that of the meta-variable with the
+-- arguments
 pub meta_steps : {F : Symbols} {M : List Declared} {R : Tm → Tm → Type 0} (g : ℕ → Body) (φ : ℕ → Ty → Tm) (cs : List Ty) (z : ℕ) (k : Ty) (us : List Tm) → AreCounted M g → length cs ≡ length us
     → ((n : ℕ) (w : Tm) → slice_get (map (inst g φ) us) n ≡ Some w → IsTerm w) → Typed F M [] (abstracted cs (meta z (nearest (length cs)))) k
     → Many (StepOver R) (spine (inst g φ (abstracted cs (meta z (nearest (length cs))))) (map (inst g φ) us)) (inst g φ (meta z (tms_of us)))
@@ -211,8 +229,8 @@ meta_steps g φ cs z k us c n h p =
     many_both (many_equal (ap (λ t. spine (value g t) ws) (act_closed bound φ (abstracted cs m) (no_free_abstracted cs m (no_free_nearest (length cs))) (typed_loose p))))
     (many_both (spine_abstracted g cs ws m count h (typed_fits g c p))
     (many_equal (ap (λ vs. act (parameters vs bound) free (g z).tree) (
-      ap (values g) (ap (λ n. acts (parameters (tms_of ws) bound) free (nearest n)) (count ∙ sym (length_of_tms ws)) ∙ parameters_nearest (tms_of ws) bound)
-      ∙ values_terms g ws h ∙ sym (values_map g φ us)))))
+    ap (values g) (ap (λ n. acts (parameters (tms_of ws) bound) free (nearest n)) (count ∙ sym (length_of_tms ws)) ∙ parameters_nearest (tms_of ws) bound)
+    ∙ values_terms g ws h ∙ sym (values_map g φ us)))))
   where
     length_mapped : {A B : Type 0} (h : A → B) (l : List A) → length (map h l) ≡ length l
     length_mapped h [] = refl

@@ -26,7 +26,7 @@ mutual
   tree_equal (app t u) (app v w) e = let (f, g) = both (same t v) (same u w) e in ap₂ app (tree_equal t v f) (tree_equal u w g)
   tree_equal _ _ e = absurd (cc)
 
-  trees_equal : (ts us : Tms) → all_same ts us ≡ true → ts ≡ us
+  pub trees_equal : (ts us : Tms) → all_same ts us ≡ true → ts ≡ us
   trees_equal none none e = refl
   trees_equal (more t ts) (more u us) e = let (f, g) = both (same t u) (all_same ts us) e in ap₂ more (tree_equal t u f) (trees_equal ts us g)
   trees_equal _ _ e = absurd (cc)

@@ -67,5 +67,6 @@ smaller_at {A = A} {R = R} (suc n) (x ∷ l) (y ∷ m) a b e d c p =
   where
     heads : x ∷ take n l ≡ y ∷ take n m → x ≡ y
     heads e = cc
+
     tails : x ∷ take n l ≡ y ∷ take n m → take n l ≡ take n m
     tails e = cc

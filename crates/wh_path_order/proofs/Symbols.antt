@@ -29,7 +29,8 @@ use Rattle.wh_inference.specs.Inferences.{Inference, Inferences}
 use Rattle.wh_path_order.specs.Order.{Variable, NoneNumbered, Above, by_part, by_lower, by_first_less, by_spine, by_body, by_variable, by_meta, AllAbove, none_above, more_above}
 use Rattle.wh_path_order.specs.Heads.{nearest, abstracted}
 use Rattle.wh_extended.specs.Many.{Many, stay, go}
-use Rattle.wh_path_order.proofs.OrderSteps.{instead, instead_same, instead_other, instead_terms, inst, inst-spine, AreCounted, typed_fits, free_up, opened_inst, Root, greater_steps, at_least_steps}
+use Rattle.wh_path_order.proofs.OrderSteps.{instead, instead_same, instead_other, instead_terms, inst, inst-spine, typed_fits, free_up, opened_inst, Root, greater_steps, at_least_steps, left_is, right_is}
+use Rattle.wh_path_order.specs.OrderRoot.{AreCounted}
 use Rattle.wh_extended.specs.Kinds.{arrows}
 use Rattle.wh_extended.proofs.TypeLists.{arrows-arguments, arguments-arrows, typed_length, typed_spine, typed_spine-arguments, computable-spine, list-typed, list-length, spine-computable}
 use Rattle.wh_path_order.proofs.SmallerLists.{Smaller, SmallerIn, smaller_at, steps_smaller, ends-smaller}
@@ -45,7 +46,6 @@ inst_instead g φ x w t f = ap (value g) (act_fresh x bound (instead x w φ) φ 
 insts_instead : (g : ℕ → Body) (φ : ℕ → Ty → Tm) (x : ℕ) (w : Tm) (ts : List Tm) → AllByRecursion (Fresh x) ts → map (inst g (instead x w φ)) ts ≡ map (inst g φ) ts
 insts_instead g φ x w [] f = refl
 insts_instead g φ x w (t ∷ ts) f = ap₂ (λ t ts. t ∷ ts) (inst_instead g φ x w t f.0) (insts_instead g φ x w ts f.1)
-
 
 take_map : {A B : Type 0} (h : A → B) (n : ℕ) (l m : List A) → take n l ≡ take n m → take n (map h l) ≡ take n (map h m)
 take_map h n l m e = sym (map_take h n l) ∙ ap (map h) e ∙ map_take h n m
@@ -128,8 +128,8 @@ module _ (F : Symbols) (prec : ℕ → ℕ) (root : IsRoot F (Root F prec)) (kno
       (lower_good : (h : ℕ) (b : Ty) → slice_get F.funs h ≡ Some b → prec h < prec f → Good b (fun h))
       (smaller_good : (h : ℕ) (cs : List Ty) (us : List Tm) → slice_get F.funs h ≡ Some (arrows cs (sort 0)) → prec h ≡ prec f → GoodList cs us → Smaller Order ts us → Good (sort 0) (spine (fun h) us))
       (metas_good : (g : ℕ → Body) (φ : ℕ → Ty → Tm) (z : ℕ) (cs ds : List Ty) (b : Ty) (us : List Tm) → length cs ≡ length us → AreCounted M g → Typed F M [] (meta z (tms_of us)) b
-          → AllTyped F M [] (tms_of us) ds → GoodList ds (map (inst g φ) us) → (k : Ty) → Typed F M [] (abstracted cs (meta z (nearest (length cs)))) k
-          → Good k (inst g φ (abstracted cs (meta z (nearest (length cs))))) → Good b (inst g φ (meta z (tms_of us)))) where
+      → AllTyped F M [] (tms_of us) ds → GoodList ds (map (inst g φ) us) → (k : Ty) → Typed F M [] (abstracted cs (meta z (nearest (length cs)))) k
+      → Good k (inst g φ (abstracted cs (meta z (nearest (length cs))))) → Good b (inst g φ (meta z (tms_of us)))) where
     symbol_type : {h : ℕ} {a : Ty} → Typed F M [] (fun h) a → slice_get F.funs h ≡ Some a
     symbol_type (typed_fun e) = e
 
@@ -148,14 +148,15 @@ module _ (F : Symbols) (prec : ℕ → ℕ) (root : IsRoot F (Root F prec)) (kno
         let body : Tm = value (shifted g) (act (up bound) (up_free φ) t) in
         let fit : FitsBodies g (act (up bound) (up_free φ) t) = fits-act (λ z. (g z).arity) (up bound) (up_free φ) t (term-up bound (λ i. tt)) (free_up φ o.terms) (typed_fits g o.counted q) in
         let each : (w : Tm) → Good a w → Good c (opened w body) = λ w k.
-              subst (Good c) (sym (opened_inst g φ x a t ft w (typed_term w (computable-typed F (λ s. 0) Order a w k)) fit))
-              (h w (next M Ls ts g φ X o x a w k fresh new) c (typed-opened_free x s q)) in
+        subst (Good c) (sym (opened_inst g φ x a t ft w (typed_term w (computable-typed F (λ s. 0) Order a w k)) fit))
+        (h w (next M Ls ts g φ X o x a w k fresh new) c (typed-opened_free x s q)) in
         let at_free = each (free 0 a) (candidate_free root (candidate root (λ s. 0) a s) s 0) in
         let typed = typed-opened-back 0 a body (computable-typed F (λ s. 0) Order c (opened (free 0 a) body) at_free) in
         abstraction_computable root (λ s. 0) a c s (good_known c (opened (free 0 a) body) at_free) body (typed_lam s typed) each
 
     mutual
       unfolding value act
+
       above_good : {s t : Tm} {X : List Variable} {i : Inference} → Above F prec M s X t i → s ≡ spine (fun f) Ls → (g : ℕ → Body) (φ : ℕ → Ty → Tm) → Around M Ls ts g φ X
           → (b : Ty) → Typed F M [] t b → Good b (inst g φ t)
       above_good {t = t} (by_part h n ss u e at one p) d g φ o b q =
@@ -172,7 +173,7 @@ module _ (F : Symbols) (prec : ℕ → ℕ) (root : IsRoot F (Root F prec)) (kno
           let (same, list) = spine_one h f ss Ls (sym e ∙ d) in
           let (cs, r, rs) = typed_spine-arguments (fun j) us (subst (λ t. Typed F M [] t (sort 0)) w at_sort) in
           let less : Smaller Order ts (map (inst g φ) us) = subst (λ l. Smaller Order l (map (inst g φ) us)) (ap (map (inst g φ)) list ∙ o.values)
-                (smaller_at n (map (inst g φ) ss) (map (inst g φ) us) (inst g φ u) (inst g φ v) (take_map (inst g φ) n ss us front) (get_map (inst g φ) n ss u at) (get_map (inst g φ) n us v at') (greater_steps F prec p g φ o.counted o.terms)) in
+          (smaller_at n (map (inst g φ) ss) (map (inst g φ) us) (inst g φ u) (inst g φ v) (take_map (inst g φ) n ss us front) (get_map (inst g φ) n ss u at) (get_map (inst g φ) n us v at') (greater_steps F prec p g φ o.counted o.terms)) in
           subst (λ a. Good a (inst g φ t)) (typed_one at_sort q)
           (subst (Good (sort 0)) (sym (ap (inst g φ) w ∙ inst-spine g φ (fun j) us))
           (smaller_good j cs (map (inst g φ) us) (symbol_type r) (same_prec ∙ ap prec same) (all_above_good is d g φ o cs rs) less))
@@ -218,6 +219,7 @@ module _ (F : Symbols) (prec : ℕ → ℕ) (root : IsRoot F (Root F prec)) (kno
     where
       heads : t ∷ ts ≡ u ∷ (us ++ ws) → t ≡ u
       heads e = cc
+
       tails : t ∷ ts ≡ u ∷ (us ++ ws) → ts ≡ us ++ ws
       tails e = cc
 
@@ -235,7 +237,7 @@ module _ (F : Symbols) (prec : ℕ → ℕ) (root : IsRoot F (Root F prec)) (kno
     root_good f cs ts us ws w at good split r lower smaller =
         let g = r.bodies in
         let φ = r.frees in
-        let (same, list) = spine_one f r.symbol us (map (inst g φ) r.given) (r.is_left ∙ ap (inst g φ) r.headed ∙ inst-spine g φ (fun r.symbol) r.given) in
+        let (same, list) = spine_one f r.symbol us (map (inst g φ) r.given) (left_is F prec r ∙ ap (inst g φ) r.headed ∙ inst-spine g φ (fun r.symbol) r.given) in
         let headed : r.left ≡ spine (fun f) r.given = r.headed ∙ ap (λ f. spine (fun f) r.given) (sym same) in
         let (ds, p, ps) = typed_spine-arguments (fun f) r.given (subst (λ t. Typed F r.metas [] t (sort 0)) headed r.typed_left) in
         let one : cs ≡ ds = same_arguments cs ds (some_one (sym at ∙ known_fun p)) in
@@ -243,14 +245,18 @@ module _ (F : Symbols) (prec : ℕ → ℕ) (root : IsRoot F (Root F prec)) (kno
         let (whole, nothing) = front_all ts us ws split count in
         let given_good : GoodList ds (map (inst g φ) r.given) = subst₂ GoodList one (whole ∙ list) good in
         let around : Around r.metas r.given ts g φ [] = record {
-              counted = r.counted; terms = r.terms; values = sym list ∙ sym whole;
-              arguments_good = good_at r.metas g φ r.given ds ps given_good;
-              variables_good = λ x a c. absurd (no_member c); } in
-        subst (λ ws. Good (sort 0) (spine w ws)) (sym nothing) (subst (Good (sort 0)) (sym r.is_right)
+          counted = r.counted;
+          terms = r.terms;
+          values = sym list ∙ sym whole;
+          arguments_good = good_at r.metas g φ r.given ds ps given_good;
+          variables_good = λ x a c. absurd (no_member c);
+        } in
+        subst (λ ws. Good (sort 0) (spine w ws)) (sym nothing) (subst (Good (sort 0)) (sym (right_is F prec r))
         (above_good r.metas f r.given ts lower smaller (metas r.metas) r.above headed g φ around (sort 0) r.typed_right))
       where
         known_fun : {M : List Declared} {a : Ty} → Typed F M [] (fun f) a → slice_get F.funs f ≡ Some a
         known_fun (typed_fun e) = e
+
         no_member : {v : Variable} → Contains [] v → ⊥
         no_member (k, h, e) = omega arith
 
@@ -286,8 +292,8 @@ module _ (F : Symbols) (prec : ℕ → ℕ) (root : IsRoot F (Root F prec)) (kno
           let shape : b ≡ arrows (arguments b) (sort 0) = arrows-arguments b ∙ ap (λ s. arrows (arguments b) (sort s)) (one_sort f b at) in
           let at' : slice_get F.funs f ≡ Some (arrows (arguments b) (sort 0)) = at ∙ ap Some shape in
           let all : (ts : List Tm) → GoodList (arguments b) ts → Good (sort 0) (spine (fun f) ts) = λ ts h.
-                at_sort p lower ts (ends-smaller most ts (subst (λ n. n ≤ most) (sym (list-length F (λ s. 0) Order (arguments b) ts h)) (few f b at)) (list_ends root (λ s. 0) (arguments b) ts h))
-                f (arguments b) e at' h in
+          at_sort p lower ts (ends-smaller most ts (subst (λ n. n ≤ most) (sym (list-length F (λ s. 0) Order (arguments b) ts h)) (few f b at)) (list_ends root (λ s. 0) (arguments b) ts h))
+          f (arguments b) e at' h in
           subst (λ b. Good b (fun f)) (sym shape) (spine-computable root (λ s. 0) (arguments b) (sort 0) (fun f) (subst (SortsBelow F.sorts) shape (known f b at)) (typed_fun at') all)
 
       below : (p : ℕ) (f : ℕ) (b : Ty) → slice_get F.funs f ≡ Some b → prec f < p → Good b (fun f)

@@ -2,3 +2,4 @@ pub mod SameTrees
 pub mod Heads
 pub mod Order
 pub mod Verdict
+pub mod OrderRoot
