@@ -1,9 +1,14 @@
--- Bodies with a renaming put into them.
-use Rattle.std.proofs.Common.{◌≡◌, ℕ, zero, suc, ap, ap₂, refl, ◌∙◌, sym}
+-- Bodies with a renaming put into them, and bodies that fit typed trees.
+use Rattle.std.proofs.Common.{◌≡◌, List, ℕ, zero, suc, ap, ap₂, refl, ◌∙◌, sym}
 use Rattle.std.proofs.Math.Path.{fun_ext}
-use Rattle.wh_terms.specs.Tree.{Tm, bound, free}
+use Rattle.wh_types.specs.Ty.{Ty}
+use Rattle.wh_terms.specs.Tree.{Tm, Tms, bound, free}
 use Rattle.wh_terms.specs.Substitution.{rename, up_renaming, up, act}
 use Rattle.wh_terms.specs.Value.{Body}
+use Rattle.wh_terms.specs.Typing.{Symbols, Declared, Typed, typed_bound, typed_free, typed_fun, typed_meta, typed_lam, typed_app, AllTyped, typed_none, typed_more}
+use Rattle.wh_terms.proofs.ValueForm.{FitsBodies, AllFitBodies}
+use Rattle.wh_terms.proofs.ValueTyping.{typed_count}
+use Rattle.wh_extended.specs.Kinds.{AreCounted}
 use Rattle.wh_terms.proofs.ActLaws.{rename-is-act}
 use Rattle.wh_terms.proofs.ValueForm.{shifted, acted, up_many, up_times}
 use Rattle.wh_terms.proofs.ValueLaws.{up_free_many-free}
@@ -24,3 +29,15 @@ acted_suc g z =
     ap put (ap₂ (λ σ φ. act σ φ (g z).tree) (fun_ext (λ i. up_many-renaming (g z).arity suc i)) (fun_ext (λ x. fun_ext (λ a. up_free_many-free (g z).arity x a)))
     ∙ sym (rename-is-act (up_times (g z).arity suc) (g z).tree))
 
+mutual
+  pub typed_fits : {F : Symbols} {M : List Declared} {Γ : List Ty} {t : Tm} {a : Ty} (g : ℕ → Body) → AreCounted M g → Typed F M Γ t a → FitsBodies g t
+  typed_fits g c (typed_bound e) = tt
+  typed_fits g c (typed_free p) = tt
+  typed_fits g c (typed_fun e) = tt
+  typed_fits g c (typed_meta {z = z} {d = d} e ts o) = (c z d e ∙ sym (typed_count ts), all_typed_fit g c ts)
+  typed_fits g c (typed_lam p t) = typed_fits g c t
+  typed_fits g c (typed_app t u) = (typed_fits g c t, typed_fits g c u)
+
+  pub all_typed_fit : {F : Symbols} {M : List Declared} {Γ : List Ty} {ts : Tms} {cs : List Ty} (g : ℕ → Body) → AreCounted M g → AllTyped F M Γ ts cs → AllFitBodies g ts
+  all_typed_fit g c typed_none = tt
+  all_typed_fit g c (typed_more t ts) = (typed_fits g c t, all_typed_fit g c ts)

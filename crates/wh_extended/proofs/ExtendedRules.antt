@@ -22,11 +22,12 @@ use Rattle.wh_extended.specs.Filtered.{symbol_arity, Full, sift}
 use Rattle.wh_extended.specs.Many.{Many}
 use Rattle.wh_extended.proofs.Expand.{IsRenamed}
 use Rattle.wh_extended.proofs.ManyLaws.{many_both, many_equal}
-use Rattle.wh_extended.proofs.Acted.{up_many-renaming}
+use Rattle.wh_extended.proofs.Acted.{typed_fits, up_many-renaming}
 use Rattle.wh_extended.proofs.Fullness.{full_rename, full_value}
 use Rattle.wh_extended.proofs.SiftValues.{sifted, sift-value}
+use Rattle.wh_extended.specs.Kinds.{AreCounted}
 
-module _ (S : Symbols) (Φ : ℕ → Filter) where
+module _ (S : Symbols) where
   -- a rule whose sides are extended
   pub record Wide : Type 0 where
     pub metas : List Declared
@@ -42,17 +43,23 @@ module _ (S : Symbols) (Φ : ℕ → Filter) where
     pub left_full : Full S 0 left
     pub right_full : Full S 0 right
 
+  -- T and U are the values of its sides under full bodies
   pub record Extended (P : Wide → Type 0) (T U : Tm) : Type 0 where
     pub rule : Wide
     pub listed : P rule
     pub bodies : ℕ → Body
-    pub left_fits : FitsBodies bodies rule.left
-    pub right_fits : FitsBodies bodies rule.right
-    pub full : (z : ℕ) → Full S 0 (bodies z).tree
+    pub counted : AreCounted rule.metas bodies
+    pub full : (z : ℕ) → Occurs z rule.left → Full S 0 (bodies z).tree
     pub is_left : T ≡ value bodies rule.left
     pub is_right : U ≡ value bodies rule.right
 
   module _ (P : Wide → Type 0) where
+    left_fits : {T U : Tm} (e : Extended P T U) → FitsBodies e.bodies e.rule.left
+    left_fits e = typed_fits e.bodies e.counted e.rule.left_typed
+
+    right_fits : {T U : Tm} (e : Extended P T U) → FitsBodies e.bodies e.rule.right
+    right_fits e = typed_fits e.bodies e.counted e.rule.right_typed
+
     value_renamed : (r : ℕ → ℕ) (g : ℕ → Body) (t : Tm) → FitsBodies g t → NoFree t → LooseBelow 0 t → rename r (value g t) ≡ value (acted (λ i. bound (r i)) free g) t
     value_renamed r g t f n l =
         rename-is-act r (value g t) ∙ act-value (λ i. bound (r i)) free g t (λ i. tt) (λ x a. tt) f
@@ -60,17 +67,17 @@ module _ (S : Symbols) (Φ : ℕ → Filter) where
 
     pub extended_renamed : IsRenamed (Extended P)
     extended_renamed r T U e = record {
-      rule = e.rule; listed = e.listed; bodies = acted (λ i. bound (r i)) free e.bodies; left_fits = e.left_fits; right_fits = e.right_fits;
-      full = λ z. subst (Full S 0) (rename-is-act (up_times (e.bodies z).arity r) (e.bodies z).tree
+      rule = e.rule; listed = e.listed; bodies = acted (λ i. bound (r i)) free e.bodies; counted = e.counted;
+      full = λ z o. subst (Full S 0) (rename-is-act (up_times (e.bodies z).arity r) (e.bodies z).tree
             ∙ ap₂ (λ σ φ. act σ φ (e.bodies z).tree) (fun_ext (λ i. sym (up_many-renaming (e.bodies z).arity r i))) (fun_ext (λ x. fun_ext (λ a. sym (up_free_many-free (e.bodies z).arity x a)))))
-          (full_rename (symbol_arity S) 0 (up_times (e.bodies z).arity r) (e.bodies z).tree (e.full z));
-      is_left = ap (rename r) e.is_left ∙ value_renamed r e.bodies e.rule.left e.left_fits e.rule.left_closed (typed_loose e.rule.left_typed);
-      is_right = ap (rename r) e.is_right ∙ value_renamed r e.bodies e.rule.right e.right_fits e.rule.right_closed (typed_loose e.rule.right_typed);
+          (full_rename (symbol_arity S) 0 (up_times (e.bodies z).arity r) (e.bodies z).tree (e.full z o));
+      is_left = ap (rename r) e.is_left ∙ value_renamed r e.bodies e.rule.left (left_fits e) e.rule.left_closed (typed_loose e.rule.left_typed);
+      is_right = ap (rename r) e.is_right ∙ value_renamed r e.bodies e.rule.right (right_fits e) e.rule.right_closed (typed_loose e.rule.right_typed);
     }
 
     -- the bodies of a typed instance are typed, and its type is that of the rule
     extended_bodies : (Γ : List Ty) (T U : Tm) (a : Ty) (e : Extended P T U) → Typed S [] Γ T a → (sort e.rule.result ≡ a) × TypedBodies S e.rule.metas [] Γ e.bodies e.rule.left
-    extended_bodies Γ T U a e p = spine_bodies 0 e.bodies e.rule.left e.rule.left_pattern e.left_fits (typed_anywhere Γ e.rule.left_typed) (subst (λ v. Typed S [] Γ v a) e.is_left p)
+    extended_bodies Γ T U a e p = spine_bodies 0 e.bodies e.rule.left e.rule.left_pattern (left_fits e) (typed_anywhere Γ e.rule.left_typed) (subst (λ v. Typed S [] Γ v a) e.is_left p)
 
     right_bodies : (Γ : List Ty) (T U : Tm) (a : Ty) (e : Extended P T U) → Typed S [] Γ T a → TypedBodies S e.rule.metas [] Γ e.bodies e.rule.right
     right_bodies Γ T U a e p z d o q = (extended_bodies Γ T U a e p).1 z d (e.rule.known z o) q
@@ -81,15 +88,16 @@ module _ (S : Symbols) (Φ : ℕ → Filter) where
 
     pub extended_full : (Γ : List Ty) (T U : Tm) (a : Ty) → Extended P T U → Typed S [] Γ T a → Full S 0 U
     extended_full Γ T U a e p = subst (Full S 0) (sym e.is_right)
-        (full_value S e.bodies e.full (right_bodies Γ T U a e p) (typed_anywhere Γ e.rule.right_typed) 0 (inl refl) e.rule.right_full)
+        (full_value S e.bodies (λ z o. e.full z (e.rule.known z o)) (right_bodies Γ T U a e p) (typed_anywhere Γ e.rule.right_typed) 0 (inl refl) e.rule.right_full)
 
     pub extended_sort : (Γ : List Ty) (T U : Tm) (a : Ty) → Extended P T U → Typed S [] Γ T a → (s : ℕ) × (a ≡ sort s)
     extended_sort Γ T U a e p = (e.rule.result, sym (extended_bodies Γ T U a e p).0)
 
     -- behind filters it is an instance of the filtered sides
-    pub extended_sifted : {Q : Tm → Tm → Type 0} → ((e : Wide) → P e → (g : ℕ → Body) → Many Q (value g (sift Φ e.left [])) (value g (sift Φ e.right [])))
+    pub extended_sifted : (Φ : ℕ → Filter) {Q : Tm → Tm → Type 0} → ((e : Wide) → P e → (g : ℕ → Body) → AreCounted e.metas g → Many Q (value g (sift Φ e.left [])) (value g (sift Φ e.right [])))
         → (Γ : List Ty) (T U : Tm) (a : Ty) → Extended P T U → Typed S [] Γ T a → Many Q (sift Φ T []) (sift Φ U [])
-    extended_sifted lines Γ T U a e p =
+    unfolding sifted
+    extended_sifted Φ lines Γ T U a e p =
         many_both (many_equal (ap (λ v. sift Φ v []) e.is_left ∙ sym (sift-value S Φ e.bodies e.full (extended_bodies Γ T U a e p).1 (typed_anywhere Γ e.rule.left_typed) 0 e.rule.left_full [] (inl refl))))
-        (many_both (lines e.rule e.listed (sifted Φ e.bodies))
-        (many_equal (sift-value S Φ e.bodies e.full (right_bodies Γ T U a e p) (typed_anywhere Γ e.rule.right_typed) 0 e.rule.right_full [] (inl refl) ∙ ap (λ v. sift Φ v []) (sym e.is_right))))
+        (many_both (lines e.rule e.listed (sifted Φ e.bodies) e.counted)
+        (many_equal (sift-value S Φ e.bodies (λ z o. e.full z (e.rule.known z o)) (right_bodies Γ T U a e p) (typed_anywhere Γ e.rule.right_typed) 0 e.rule.right_full [] (inl refl) ∙ ap (λ v. sift Φ v []) (sym e.is_right))))

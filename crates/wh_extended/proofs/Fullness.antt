@@ -4,7 +4,7 @@ use Rattle.std.proofs.lemmas.Option.{none-some}
 use Rattle.wh_types.specs.Ty.{Ty, sort, ◌⇒◌, arguments}
 use Rattle.wh_terms.specs.Tree.{Tm, bound, free, fun, meta, lam, app, Tms, none, more}
 use Rattle.wh_terms.specs.Substitution.{up_renaming, rename, renames, up, up_free, act, cons}
-use Rattle.wh_terms.specs.Sight.{OccursIn}
+use Rattle.wh_terms.specs.Sight.{Occurs, OccursIn}
 use Rattle.wh_terms.specs.Typing.{Symbols, Declared, Typed, typed_bound, typed_free, typed_fun, typed_meta, typed_lam, typed_app, AllTyped, typed_none, typed_more}
 use Rattle.wh_terms.specs.Value.{Body, parameters}
 use Rattle.wh_terms.specs.TypedBodies.{parameter_types, FitsDeclared, TypedBodies}
@@ -107,11 +107,11 @@ module _ (S : Symbols) where
   full_act Δ σ h (typed_app p q) n w f = (full_act Δ σ h p (suc n) (inr tt) f.0, full_act Δ σ h q 0 (inl refl) f.1)
 
   -- typed and full bodies for the meta-variables of a tree
-  abbrev pub FullBodies : (ℕ → Body) → Type 0
-  FullBodies g = (z : ℕ) → Full S 0 (g z).tree
+  abbrev pub FullBodies : (ℕ → Body) → Tm → Type 0
+  FullBodies g t = (z : ℕ) → Occurs z t → Full S 0 (g z).tree
 
-  pub full_shifted : (g : ℕ → Body) → FullBodies g → FullBodies (shifted g)
-  full_shifted g h z = full_rename (symbol_arity S) 0 (up_times (g z).arity suc) (g z).tree (h z)
+  pub full_shifted : (t : Tm) (g : ℕ → Body) → FullBodies g t → FullBodies (shifted g) t
+  full_shifted t g h z o = full_rename (symbol_arity S) 0 (up_times (g z).arity suc) (g z).tree (h z o)
 
   pub puts_params : {Γ : List Ty} {ts : Tms} {cs : List Ty} → AllTyped S [] Γ ts cs → AllFull (symbol_arity S) ts → (Δ : List Ty) (σ : ℕ → Tm) → FullPuts Δ Γ σ → FullPuts (parameter_types cs Δ) Γ (parameters ts σ)
   unfolding parameters cons
@@ -125,24 +125,24 @@ module _ (S : Symbols) where
   mutual
     unfolding value values
     -- and values of full trees under full bodies
-    pub full_value : {M : List Declared} {Γ : List Ty} {t : Tm} {a : Ty} (g : ℕ → Body) → FullBodies g → TypedBodies S M [] Γ g t → Typed S M Γ t a → (n : ℕ) → Pending a n → Full S n t → Full S n (value g t)
+    pub full_value : {M : List Declared} {Γ : List Ty} {t : Tm} {a : Ty} (g : ℕ → Body) → FullBodies g t → TypedBodies S M [] Γ g t → Typed S M Γ t a → (n : ℕ) → Pending a n → Full S n t → Full S n (value g t)
     full_value g h b (typed_bound e) n w f = tt
     full_value g h b (typed_free p) n w f = tt
     full_value g h b (typed_fun e) n w f = f
     full_value {Γ = Γ} g h b (typed_meta {z = z} {ts = ts} {d = d} e ps o) n w f =
         let fit = b z d (inl refl) e in
         let qs = typed_values g (λ y c k q. b y c (inr k) q) ps in
-        let puts = puts_params qs (full_values g h (λ y c k q. b y c (inr k) q) ps f) Γ bound (λ i c q. (typed_bound q, tt)) in
+        let puts = puts_params qs (full_values g (λ y k. h y (inr k)) (λ y c k q. b y c (inr k) q) ps f) Γ bound (λ i c q. (typed_bound q, tt)) in
         full_behind (act (parameters (values g ts) bound) free (g z).tree) d.out n
         (typed-act Γ (parameters (values g ts) bound) free (λ i c q. (puts i c q).0) (fits-free Γ) fit.typed)
-        (full_act Γ (parameters (values g ts) bound) puts fit.typed 0 (inl refl) (h z)) (subst (λ a. Pending a n) o w)
-    full_value {Γ = Γ} g h b (typed_lam {a = a} {t = t} p q) n w f = full_value (shifted g) (full_shifted g h) (bodies_shift S _ t a g b) q 0 (inl refl) f
-    full_value g h b (typed_app p q) n w f = (full_value g h (λ z d o e. b z d (inl o) e) p (suc n) (inr tt) f.0, full_value g h (λ z d o e. b z d (inr o) e) q 0 (inl refl) f.1)
+        (full_act Γ (parameters (values g ts) bound) puts fit.typed 0 (inl refl) (h z (inl refl))) (subst (λ a. Pending a n) o w)
+    full_value {Γ = Γ} g h b (typed_lam {a = a} {t = t} p q) n w f = full_value (shifted g) (full_shifted t g h) (bodies_shift S _ t a g b) q 0 (inl refl) f
+    full_value g h b (typed_app p q) n w f = (full_value g (λ z o. h z (inl o)) (λ z d o e. b z d (inl o) e) p (suc n) (inr tt) f.0, full_value g (λ z o. h z (inr o)) (λ z d o e. b z d (inr o) e) q 0 (inl refl) f.1)
 
-    pub full_values : {M : List Declared} {Γ : List Ty} {ts : Tms} {cs : List Ty} (g : ℕ → Body) → FullBodies g → ((z : ℕ) (d : Declared) → OccursIn z ts → slice_get M z ≡ Some d → FitsDeclared S [] Γ d (g z)) → AllTyped S M Γ ts cs
+    pub full_values : {M : List Declared} {Γ : List Ty} {ts : Tms} {cs : List Ty} (g : ℕ → Body) → ((z : ℕ) → OccursIn z ts → Full S 0 (g z).tree) → ((z : ℕ) (d : Declared) → OccursIn z ts → slice_get M z ≡ Some d → FitsDeclared S [] Γ d (g z)) → AllTyped S M Γ ts cs
         → AllFull (symbol_arity S) ts → AllFull (symbol_arity S) (values g ts)
     full_values g h b typed_none f = tt
-    full_values g h b (typed_more p ps) f = (full_value g h (λ z d o e. b z d (inl o) e) p 0 (inl refl) f.0, full_values g h (λ z d o e. b z d (inr o) e) ps f.1)
+    full_values g h b (typed_more p ps) f = (full_value g (λ z o. h z (inl o)) (λ z d o e. b z d (inl o) e) p 0 (inl refl) f.0, full_values g (λ z o. h z (inr o)) (λ z d o e. b z d (inr o) e) ps f.1)
 
     pub typed_values : {M : List Declared} {Γ : List Ty} {ts : Tms} {cs : List Ty} (g : ℕ → Body) → ((z : ℕ) (d : Declared) → OccursIn z ts → slice_get M z ≡ Some d → FitsDeclared S [] Γ d (g z)) → AllTyped S M Γ ts cs → AllTyped S [] Γ (values g ts) cs
     typed_values g b typed_none = typed_none

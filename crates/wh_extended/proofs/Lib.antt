@@ -12,3 +12,8 @@ pub mod SiftSteps
 pub mod Fullness
 pub mod SiftValues
 pub mod ExtendedRules
+pub mod LongTyped
+pub mod LongFree
+pub mod SiftTyped
+pub mod MoreMetas
+pub mod WideRules

@@ -80,7 +80,7 @@ mutual
 moves_suc : (k : ℕ) → Moves k (k + 1) suc
 moves_suc k = record { apart = λ i j e. omega (arith, e); below = λ i l. omega arith }
 
-spine_pattern : (k : ℕ) (t : Tm) → IsPatternSpine k t → IsPatternUnder k t
+pub spine_pattern : (k : ℕ) (t : Tm) → IsPatternSpine k t → IsPatternUnder k t
 spine_pattern k (bound i) p = p
 spine_pattern k (free x a) p = absurd p
 spine_pattern k (fun f) p = tt

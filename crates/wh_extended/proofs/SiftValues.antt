@@ -20,7 +20,7 @@ use Rattle.wh_extended.proofs.Sifting.{IsArrow, Behind, Flexibles, put_sifted, s
 use Rattle.wh_extended.proofs.SiftSteps.{full_flexible, more_lists, same_lists, many_spines, many_sift, beta_sift}
 use Rattle.wh_extended.proofs.Fullness.{FullPuts, FullBodies, Pending, full_values, full_act, full_behind, full_shifted, puts_params, typed_values}
 
-value-spine : (g : ℕ → Body) (h : Tm) (ts : List Tm) → value g (spine h ts) ≡ spine (value g h) (map (value g) ts)
+pub value-spine : (g : ℕ → Body) (h : Tm) (ts : List Tm) → value g (spine h ts) ≡ spine (value g h) (map (value g) ts)
 unfolding value
 value-spine g h [] = refl
 value-spine g h (t ∷ ts) = value-spine g (app h t) ts
@@ -63,35 +63,35 @@ module _ (Φ : ℕ → Filter) where
 module _ (S : Symbols) (Φ : ℕ → Filter) where
   mutual
     unfolding value values sift sifts sifted
-    pub sift-value : {M : List Declared} {Γ : List Ty} {t : Tm} {a : Ty} (g : ℕ → Body) → FullBodies S g → TypedBodies S M [] Γ g t → Typed S M Γ t a → (n : ℕ) → Full S n t → (qs : List Tm) → Behind a qs
+    pub sift-value : {M : List Declared} {Γ : List Ty} {t : Tm} {a : Ty} (g : ℕ → Body) → FullBodies S g t → TypedBodies S M [] Γ g t → Typed S M Γ t a → (n : ℕ) → Full S n t → (qs : List Tm) → Behind a qs
         → value (sifted Φ g) (sift Φ t qs) ≡ sift Φ (value g t) (map (value (sifted Φ g)) qs)
     sift-value g h b (typed_bound {i = i} e) n f qs w = value-spine (sifted Φ g) (bound i) qs
     sift-value g h b (typed_free {x = x} {a = a} p) n f qs w = value-spine (sifted Φ g) (free x (collapse a)) qs
     sift-value g h b (typed_fun {f = c} e) n f qs w = filtered-value (sifted Φ g) (Φ c) c qs
     sift-value {Γ = Γ} g h b (typed_meta {z = z} {ts = ts} {d = d} {a = a} e ps o) n f qs w =
         let fit = b z d (inl refl) e in
-        let puts = puts_params S (typed_values S g (λ y c k q. b y c (inr k) q) ps) (full_values S g h (λ y c k q. b y c (inr k) q) ps f) Γ bound (λ i c q. (typed_bound q, tt)) in
+        let puts = puts_params S (typed_values S g (λ y c k q. b y c (inr k) q) ps) (full_values S g (λ y k. h y (inr k)) (λ y c k q. b y c (inr k) q) ps f) Γ bound (λ i c q. (typed_bound q, tt)) in
         let σ = parameters (values g ts) bound in
         let flexible : Flexibles S Φ (parameter_types d.args Γ) σ = λ i c q w. full_flexible S c (puts i c q).0 (puts i c q).1 w in
         value-spine (sifted Φ g) (meta z (sifts Φ ts)) qs
         ∙ ap (λ v. spine v (map (value (sifted Φ g)) qs)) (
-          ap (λ us. act (parameters us bound) free (sifted Φ g z).tree) (sifts-values g h (λ y c k q. b y c (inr k) q) ps f)
+          ap (λ us. act (parameters us bound) free (sifted Φ g z).tree) (sifts-values g (λ y k. h y (inr k)) (λ y c k q. b y c (inr k) q) ps f)
           ∙ ap (λ τ. act τ free (sift Φ (g z).tree [])) (fun_ext (λ i. sym (params_bound Φ (values g ts) i)))
           ∙ sift-act S Φ σ flexible fit.typed [] (inl refl))
         ∙ put_sifted S Φ (act σ free (g z).tree) (map (value (sifted Φ g)) qs) a (map_behind Φ (value (sifted Φ g)) a qs w)
-          (full_flexible S a (subst (Typed S [] Γ (act σ free (g z).tree)) (sym o) (typed-act Γ σ free (λ i c q. (puts i c q).0) (fits-free Γ) fit.typed)) (full_act S Γ σ puts fit.typed 0 (inl refl) (h z)))
+          (full_flexible S a (subst (Typed S [] Γ (act σ free (g z).tree)) (sym o) (typed-act Γ σ free (λ i c q. (puts i c q).0) (fits-free Γ) fit.typed)) (full_act S Γ σ puts fit.typed 0 (inl refl) (h z (inl refl))))
     sift-value {Γ = Γ} g h b (typed_lam {a = a} {t = t} p q) n f qs w =
         value-spine (sifted Φ g) (lam (collapse a) (sift Φ t [])) qs
         ∙ ap (λ u. spine (lam (collapse a) u) (map (value (sifted Φ g)) qs)) (value_same (shifted (sifted Φ g)) (sifted Φ (shifted g)) (sift Φ t []) (λ z. sym (sifted_shifted Φ g z))
-          ∙ sift-value (shifted g) (full_shifted S g h) (bodies_shift S _ t a g b) q 0 f [] (inl refl))
+          ∙ sift-value (shifted g) (full_shifted S t g h) (bodies_shift S _ t a g b) q 0 f [] (inl refl))
     sift-value g h b (typed_app {t = t} {u = u} p q) n f qs w =
-        sift-value g h (λ z d o e. b z d (inl o) e) p (suc n) f.0 (sift Φ u [] ∷ qs) (inr tt)
-        ∙ ap (λ v. sift Φ (value g t) (v ∷ map (value (sifted Φ g)) qs)) (sift-value g h (λ z d o e. b z d (inr o) e) q 0 f.1 [] (inl refl))
+        sift-value g (λ z o. h z (inl o)) (λ z d o e. b z d (inl o) e) p (suc n) f.0 (sift Φ u [] ∷ qs) (inr tt)
+        ∙ ap (λ v. sift Φ (value g t) (v ∷ map (value (sifted Φ g)) qs)) (sift-value g (λ z o. h z (inr o)) (λ z d o e. b z d (inr o) e) q 0 f.1 [] (inl refl))
 
-    sifts-values : {M : List Declared} {Γ : List Ty} {ts : Tms} {cs : List Ty} (g : ℕ → Body) → FullBodies S g → ((z : ℕ) (d : Declared) → OccursIn z ts → slice_get M z ≡ Some d → FitsDeclared S [] Γ d (g z)) → AllTyped S M Γ ts cs
+    sifts-values : {M : List Declared} {Γ : List Ty} {ts : Tms} {cs : List Ty} (g : ℕ → Body) → ((z : ℕ) → OccursIn z ts → Full S 0 (g z).tree) → ((z : ℕ) (d : Declared) → OccursIn z ts → slice_get M z ≡ Some d → FitsDeclared S [] Γ d (g z)) → AllTyped S M Γ ts cs
         → AllFull (symbol_arity S) ts → values (sifted Φ g) (sifts Φ ts) ≡ sifts Φ (values g ts)
     sifts-values g h b typed_none f = refl
-    sifts-values g h b (typed_more p ps) f = ap₂ more (sift-value g h (λ z d o e. b z d (inl o) e) p 0 f.0 [] (inl refl)) (sifts-values g h (λ z d o e. b z d (inr o) e) ps f.1)
+    sifts-values g h b (typed_more p ps) f = ap₂ more (sift-value g (λ z o. h z (inl o)) (λ z d o e. b z d (inl o) e) p 0 f.0 [] (inl refl)) (sifts-values g (λ z o. h z (inr o)) (λ z d o e. b z d (inr o) e) ps f.1)
 
   module _ (Q P : Tm → Tm → Type 0) (P_kept : IsRenamed P) (Q_typed : KeepsTypes S Q)
       (Q_full : (Γ : List Ty) (t u : Tm) (a : Ty) → Q t u → Typed S [] Γ t a → Full S 0 u) (Q_sort : (Γ : List Ty) (t u : Tm) (a : Ty) → Q t u → Typed S [] Γ t a → (s : ℕ) × (a ≡ sort s))

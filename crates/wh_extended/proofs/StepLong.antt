@@ -118,7 +118,7 @@ core_long S R kept Γ (meta z ts) b (typed_meta {d = d} e us o) = absurd (none-s
 core_long S R kept Γ (lam c t) b p = eta S R kept b Γ (lam c t) p
 core_long S R kept Γ (app t u) b p = many_equal (ap (λ k. expand k (core S [] Γ (app t u))) (sym (kind_is p)))
 
-finish-headed : (f : ℕ) (t : Tm) (a : Ty) (c : Tm) → head t ≡ fun f → finish t a c ≡ expand a c
+pub finish-headed : (f : ℕ) (t : Tm) (a : Ty) (c : Tm) → head t ≡ fun f → finish t a c ≡ expand a c
 finish-headed f (bound i) a c e = refl
 finish-headed f (free x b) a c e = refl
 finish-headed f (fun g) a c e = refl

@@ -85,6 +85,13 @@ kept_types Φ n (cs ∷ css) = kept_type cs (Φ n) ∷ kept_types Φ (suc n) css
 abbrev pub filtered_symbols : (ℕ → Filter) → List (List Ty) → Symbols
 filtered_symbols Φ css = record { sorts = 1; funs = kept_types Φ 0 css }
 
+-- F is a signature for the filtered trees over S: the filter of each symbol is proper, F has the symbol with the type that the
+-- filter keeps, and it has the sort 0 (ours)
+pub record Filters (S F : Symbols) (Φ : ℕ → Filter) : Type 0 where
+  pub some_sort : 0 < F.sorts
+  pub proper : (f : ℕ) (a : Ty) → slice_get S.funs f ≡ Some a → IsProper (arguments a) (Φ f)
+  pub kept : (f : ℕ) (a : Ty) → slice_get S.funs f ≡ Some a → slice_get F.funs f ≡ Some (kept_type (arguments a) (Φ f))
+
 -- the meta-variables of filtered trees (ours)
 abbrev pub collapsed : List Declared → List Declared
 collapsed M = map (λ d. record { args = map collapse d.args; out = collapse d.out }) M

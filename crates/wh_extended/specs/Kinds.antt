@@ -1,8 +1,9 @@
 -- The type of a tree, as a function: what a well-typed tree has, and some type for any other one.
-use Rattle.std.specs.Prelude.{ℕ, zero, suc, List, [], ◌∷◌}
-use Rattle.wh_types.specs.Ty.{Ty, sort, ◌⇒◌}
+use Rattle.std.specs.Prelude.{ℕ, zero, suc, ◌≡◌, List, [], ◌∷◌, length, Some, slice_get}
+use Rattle.wh_types.specs.Ty.{Ty, sort, ◌⇒◌, SortsBelow}
 use Rattle.wh_terms.specs.Tree.{Tm, bound, free, fun, meta, lam, app}
 use Rattle.wh_terms.specs.Typing.{Symbols, Declared}
+use Rattle.wh_terms.specs.Value.{Body}
 
 -- a type by its number, and a sort past the end of the list (ours)
 abbrev pub type_at : List Ty → ℕ → Ty
@@ -30,7 +31,15 @@ kind S M Γ (meta z ts) = out_at M z
 kind S M Γ (lam a t) = a ⇒ kind S M (a ∷ Γ) t
 kind S M Γ (app t u) = codomain (kind S M Γ t)
 
+-- the sorts in the types of applications of declared meta-variables are sorts of S
+abbrev pub KnowsMetas : Symbols → List Declared → Type 0
+KnowsMetas S M = (z : ℕ) (d : Declared) → slice_get M z ≡ Some d → SortsBelow S.sorts d.out
+
 -- the type that takes arguments of these types and leads to b (ours)
 abbrev pub arrows : List Ty → Ty → Ty
 arrows [] b = b
 arrows (c ∷ cs) b = c ⇒ arrows cs b
+
+-- the bodies have as many parameters as their meta-variables have arguments (ours)
+abbrev pub AreCounted : List Declared → (ℕ → Body) → Type 0
+AreCounted M g = (z : ℕ) (d : Declared) → slice_get M z ≡ Some d → (g z).arity ≡ length d.args

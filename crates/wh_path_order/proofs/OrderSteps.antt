@@ -13,12 +13,14 @@ use Rattle.wh_terms.proofs.SightLaws.{act_loose, act_fresh}
 use Rattle.wh_terms.proofs.TermLaws.{term-rename}
 use Rattle.wh_terms.proofs.TypingLaws.{typed_loose}
 use Rattle.wh_terms.proofs.ValueForm.{shifted, value, FitsBodies, AllFitBodies}
-use Rattle.wh_path_order.specs.OrderRoot.{AreCounted, OrderRoot}
+use Rattle.wh_extended.proofs.Acted.{typed_fits}
+use Rattle.wh_path_order.specs.OrderRoot.{OrderRoot}
 use Rattle.wh_terms.proofs.ValueLaws.{value_is, has_value, fits-act, opened-value}
 use Rattle.wh_terms.proofs.ValueTyping.{typed_count}
 use Rattle.wh_inference.specs.Inferences.{same_trees, Inference, Inferences, letter_of}
 use Rattle.wh_path_order.specs.Heads.{SomeStrict}
 use Rattle.wh_path_order.specs.Order.{AtLeast, at_least_same, at_least_greater, AllAtLeast, none_at_least, more_at_least, Greater, by_bodies, by_arguments, by_above}
+use Rattle.wh_extended.specs.Kinds.{AreCounted}
 use Rattle.wh_extended.specs.Many.{Many, stay, Plus}
 use Rattle.wh_extended.proofs.ManyLaws.{many_both, many_equal, many_map, plus_many, plus_after, plus_before, plus_map}
 
@@ -54,19 +56,6 @@ pub inst-spine : (g : ℕ → Body) (φ : ℕ → Ty → Tm) (h : Tm) (ts : List
 unfolding value act
 inst-spine g φ h [] = refl
 inst-spine g φ h (t ∷ ts) = inst-spine g φ (app h t) ts
-
-mutual
-  pub typed_fits : {F : Symbols} {M : List Declared} {Γ : List Ty} {t : Tm} {a : Ty} (g : ℕ → Body) → AreCounted M g → Typed F M Γ t a → FitsBodies g t
-  typed_fits g c (typed_bound e) = tt
-  typed_fits g c (typed_free p) = tt
-  typed_fits g c (typed_fun e) = tt
-  typed_fits g c (typed_meta {z = z} {d = d} e ts o) = (c z d e ∙ sym (typed_count ts), all_typed_fit g c ts)
-  typed_fits g c (typed_lam p t) = typed_fits g c t
-  typed_fits g c (typed_app t u) = (typed_fits g c t, typed_fits g c u)
-
-  pub all_typed_fit : {F : Symbols} {M : List Declared} {Γ : List Ty} {ts : Tms} {cs : List Ty} (g : ℕ → Body) → AreCounted M g → AllTyped F M Γ ts cs → AllFitBodies g ts
-  all_typed_fit g c typed_none = tt
-  all_typed_fit g c (typed_more t ts) = (typed_fits g c t, all_typed_fit g c ts)
 
 -- the instance is the value of what the substitution makes
 pub inst_is : {F : Symbols} {M : List Declared} {Γ : List Ty} {t : Tm} {a : Ty} (g : ℕ → Body) (φ : ℕ → Ty → Tm) → AreCounted M g → AreFreeTerms φ → Typed F M Γ t a → Value g (act bound φ t) (inst g φ t)

@@ -21,9 +21,10 @@ use Rattle.wh_laws.proofs.Listed.{In, in_contains, contains_in}
 use Rattle.wh_inference.specs.Inferences.{Inference, Inferences}
 use Rattle.wh_path_order.specs.Order.{Variable, NoneNumbered, AtLeast, at_least_same, at_least_greater, AllAtLeast, none_at_least, more_at_least, Greater, by_bodies, by_arguments, by_above, Above, by_part, by_lower, by_first_less, by_spine, by_body, by_variable, by_meta, AllAbove, none_above, more_above}
 use Rattle.wh_path_order.specs.Heads.{nearest, abstracted}
+use Rattle.wh_extended.specs.Kinds.{AreCounted}
 use Rattle.wh_extended.specs.Many.{Many, stay, go}
-use Rattle.wh_path_order.proofs.OrderSteps.{instead, instead_same, instead_other, instead_terms, free_up, inst, inst-spine, typed_fits, body_inst, Root, left_is, right_is}
-use Rattle.wh_path_order.specs.OrderRoot.{AreCounted}
+use Rattle.wh_extended.proofs.Acted.{typed_fits}
+use Rattle.wh_path_order.proofs.OrderSteps.{instead, instead_same, instead_other, instead_terms, free_up, inst, inst-spine, body_inst, Root, left_is, right_is}
 use Rattle.wh_extended.specs.Kinds.{arrows}
 use Rattle.wh_extended.proofs.TypeLists.{arrows_one, typed_spine-arguments, typed_spine, typed_length}
 use Rattle.wh_path_order.proofs.Symbols.{fresh_spine, inst_instead}

@@ -17,10 +17,11 @@ use Rattle.wh_terms.proofs.ValueForm.{shifted, acted, value, values, value_term,
 use Rattle.wh_terms.proofs.ValueLaws.{opened-value, fits-act}
 use Rattle.wh_laws.proofs.Candidates.{head-spine}
 use Rattle.wh_path_order.specs.Heads.{nearest, abstracted}
+use Rattle.wh_extended.specs.Kinds.{AreCounted}
 use Rattle.wh_extended.specs.Many.{Many, go}
 use Rattle.wh_extended.proofs.ManyLaws.{many_both, many_equal, many_map}
-use Rattle.wh_path_order.proofs.OrderSteps.{inst, inst-spine, typed_fits, Root, inst_is, left_is, right_is}
-use Rattle.wh_path_order.specs.OrderRoot.{AreCounted}
+use Rattle.wh_extended.proofs.Acted.{typed_fits}
+use Rattle.wh_path_order.proofs.OrderSteps.{inst, inst-spine, Root, inst_is, left_is, right_is}
 use Rattle.wh_extended.specs.Kinds.{arrows}
 use Rattle.wh_extended.proofs.TypeLists.{typed_spine-arguments, typed_length, arguments-arrows}
 

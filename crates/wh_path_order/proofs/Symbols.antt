@@ -28,9 +28,10 @@ use Rattle.wh_laws.proofs.SystemComputable.{computable-typed, known_type}
 use Rattle.wh_inference.specs.Inferences.{Inference, Inferences}
 use Rattle.wh_path_order.specs.Order.{Variable, NoneNumbered, Above, by_part, by_lower, by_first_less, by_spine, by_body, by_variable, by_meta, AllAbove, none_above, more_above}
 use Rattle.wh_path_order.specs.Heads.{nearest, abstracted}
+use Rattle.wh_extended.specs.Kinds.{AreCounted}
 use Rattle.wh_extended.specs.Many.{Many, stay, go}
-use Rattle.wh_path_order.proofs.OrderSteps.{instead, instead_same, instead_other, instead_terms, inst, inst-spine, typed_fits, free_up, opened_inst, Root, greater_steps, at_least_steps, left_is, right_is}
-use Rattle.wh_path_order.specs.OrderRoot.{AreCounted}
+use Rattle.wh_extended.proofs.Acted.{typed_fits}
+use Rattle.wh_path_order.proofs.OrderSteps.{instead, instead_same, instead_other, instead_terms, inst, inst-spine, free_up, opened_inst, Root, greater_steps, at_least_steps, left_is, right_is}
 use Rattle.wh_extended.specs.Kinds.{arrows}
 use Rattle.wh_extended.proofs.TypeLists.{arrows-arguments, arguments-arrows, typed_length, typed_spine, typed_spine-arguments, computable-spine, list-typed, list-length, spine-computable}
 use Rattle.wh_path_order.proofs.SmallerLists.{Smaller, SmallerIn, smaller_at, steps_smaller, ends-smaller}

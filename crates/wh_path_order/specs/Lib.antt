@@ -3,3 +3,4 @@ pub mod Heads
 pub mod Order
 pub mod Verdict
 pub mod OrderRoot
+pub mod Lines

@@ -6,12 +6,9 @@ use Rattle.wh_terms.specs.Substitution.{act}
 use Rattle.wh_terms.specs.Typing.{Symbols, Declared, Typed}
 use Rattle.wh_terms.specs.Value.{Body, Value}
 use Rattle.wh_terms.specs.StepOver.{AreFreeTerms}
+use Rattle.wh_extended.specs.Kinds.{AreCounted}
 use Rattle.wh_inference.specs.Inferences.{Inference}
 use Rattle.wh_path_order.specs.Order.{Above}
-
--- the bodies have as many parameters as their meta-variables have arguments
-abbrev pub AreCounted : List Declared → (ℕ → Body) → Type 0
-AreCounted M g = (z : ℕ) (d : Declared) → slice_get M z ≡ Some d → (g z).arity ≡ length d.args
 
 -- U and V are instances of two trees `left` and `right` of the one sort, `left` is above `right`, and no binder was
 -- passed: terms stand for the free variables, and the bodies for the meta-variables. That `left` is above `right` is
