@@ -71,7 +71,7 @@ module _ {R : Tm → Tm → Type 0} (kept : IsRenamed R) where
   expand-twice (a ⇒ b) c =
       let e : Tm = expand (a ⇒ b) c in
       let inner : Many (StepOver R) (app (rename suc e) (expand a (bound 0))) (expand b (app (rename suc c) (expand a (bound 0))))
-            = many_both (many_equal (ap (λ t. app t (expand a (bound 0))) (expand-rename suc (a ⇒ b) c)))
-              (go (expand-applied a b (rename suc c) (expand a (bound 0)))
-              (many-expand b (many-argument (rename suc c) (expand-twice a (bound 0))))) in
+      = many_both (many_equal (ap (λ t. app t (expand a (bound 0))) (expand-rename suc (a ⇒ b) c)))
+      (go (expand-applied a b (rename suc c) (expand a (bound 0)))
+      (many-expand b (many-argument (rename suc c) (expand-twice a (bound 0))))) in
       many-body a (many_both (many-expand b inner) (expand-twice b (app (rename suc c) (expand a (bound 0)))))

@@ -67,9 +67,12 @@ module _ (S : Symbols) where
 
     pub extended_renamed : IsRenamed (Extended P)
     extended_renamed r T U e = record {
-      rule = e.rule; listed = e.listed; bodies = acted (λ i. bound (r i)) free e.bodies; counted = e.counted;
+      rule = e.rule;
+      listed = e.listed;
+      bodies = acted (λ i. bound (r i)) free e.bodies;
+      counted = e.counted;
       full = λ z o. subst (Full S 0) (rename-is-act (up_times (e.bodies z).arity r) (e.bodies z).tree
-            ∙ ap₂ (λ σ φ. act σ φ (e.bodies z).tree) (fun_ext (λ i. sym (up_many-renaming (e.bodies z).arity r i))) (fun_ext (λ x. fun_ext (λ a. sym (up_free_many-free (e.bodies z).arity x a)))))
+          ∙ ap₂ (λ σ φ. act σ φ (e.bodies z).tree) (fun_ext (λ i. sym (up_many-renaming (e.bodies z).arity r i))) (fun_ext (λ x. fun_ext (λ a. sym (up_free_many-free (e.bodies z).arity x a)))))
           (full_rename (symbol_arity S) 0 (up_times (e.bodies z).arity r) (e.bodies z).tree (e.full z o));
       is_left = ap (rename r) e.is_left ∙ value_renamed r e.bodies e.rule.left (left_fits e) e.rule.left_closed (typed_loose e.rule.left_typed);
       is_right = ap (rename r) e.is_right ∙ value_renamed r e.bodies e.rule.right (right_fits e) e.rule.right_closed (typed_loose e.rule.right_typed);

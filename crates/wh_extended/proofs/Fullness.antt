@@ -21,6 +21,7 @@ use Rattle.wh_extended.proofs.SiftSteps.{full_flexible, full_any}
 
 mutual
   unfolding rename renames
+
   pub full_rename : (n : ℕ → ℕ) (k : ℕ) (r : ℕ → ℕ) (t : Tm) → FullWith n k t → FullWith n k (rename r t)
   full_rename n k r (bound i) f = tt
   full_rename n k r (free x a) f = tt
@@ -67,6 +68,7 @@ module _ (S : Symbols) where
 
   mutual
     unfolding core cores
+
     -- a core lacks as many arguments as its type takes
     full_core : {M : List Declared} {Γ : List Ty} {t : Tm} {a : Ty} → Typed S M Γ t a → Full S (length (arguments a)) (core S M Γ t)
     full_core (typed_bound e) = tt
@@ -124,6 +126,7 @@ module _ (S : Symbols) where
 
   mutual
     unfolding value values
+
     -- and values of full trees under full bodies
     pub full_value : {M : List Declared} {Γ : List Ty} {t : Tm} {a : Ty} (g : ℕ → Body) → FullBodies g t → TypedBodies S M [] Γ g t → Typed S M Γ t a → (n : ℕ) → Pending a n → Full S n t → Full S n (value g t)
     full_value g h b (typed_bound e) n w f = tt

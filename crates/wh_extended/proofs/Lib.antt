@@ -17,3 +17,5 @@ pub mod LongFree
 pub mod SiftTyped
 pub mod MoreMetas
 pub mod WideRules
+pub mod FilteredSymbols
+pub mod CallSides

@@ -1,5 +1,5 @@
 -- Extended trees have no free variable where the trees have none, and extended closed trees are the same in any scope.
-use Rattle.std.proofs.Common.{◌≡◌, ℕ, zero, suc, ◌+◌, List, [], ◌∷◌, length, refl, ap, ◌∙◌, sym, Some, slice_get, arith}
+use Rattle.std.proofs.Common.{◌≡◌, ℕ, suc, ◌+◌, List, [], ◌∷◌, length, refl, ap, ◌∙◌, sym, Some, slice_get, arith}
 use Rattle.wh_types.specs.Ty.{Ty, sort, ◌⇒◌, SortsBelow}
 use Rattle.wh_terms.specs.Tree.{Tm, bound, free, fun, meta, lam, app, Tms, none, more}
 use Rattle.wh_terms.specs.Substitution.{up_renaming, rename, renames}
@@ -11,11 +11,12 @@ use Rattle.wh_terms.proofs.TypingLaws.{typed_loose}
 use Rattle.wh_laws.specs.RootRelations.{KnowsSorts}
 use Rattle.wh_extended.specs.Kinds.{type_at, kind, KnowsMetas}
 use Rattle.wh_extended.specs.Long.{expand, finish, finish_argument, core, cores, long}
-use Rattle.wh_extended.proofs.LongLaws.{KeepsAll, long-rename}
+use Rattle.wh_extended.proofs.LongLaws.{long-rename}
 use Rattle.wh_extended.proofs.LongTyped.{long_typed}
 
 mutual
   unfolding rename renames
+
   no_free_rename : (r : ℕ → ℕ) (t : Tm) → NoFree t → NoFree (rename r t)
   no_free_rename r (bound i) n = tt
   no_free_rename r (free x a) n = n
@@ -52,6 +53,7 @@ no_free_argument (app t u) a c n = no_free_expand a c n
 module _ (S : Symbols) (M : List Declared) where
   mutual
     unfolding core cores
+
     no_free_core : (Γ : List Ty) (t : Tm) → NoFree t → NoFree (core S M Γ t)
     no_free_core Γ (bound i) n = tt
     no_free_core Γ (free x a) n = n

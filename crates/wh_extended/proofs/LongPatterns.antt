@@ -25,6 +25,7 @@ moves_up k m r h = record { apart = apart; below = below }
       where
         pred : {a b : ℕ} → suc a ≡ suc b → a ≡ b
         pred e = omega (arith, e)
+
     below : (i : ℕ) → i < k + 1 → up_renaming r i < m + 1
     below zero l = omega arith
     below (suc i) l = let q : r i < m = h.below i (omega arith) in omega arith
@@ -61,6 +62,7 @@ distinct_renames k m r h (more (app t u) ts) b d = absurd b
 
 mutual
   unfolding rename
+
   pattern_rename : (k m : ℕ) (r : ℕ → ℕ) → Moves k m r → (t : Tm) → IsPatternUnder k t → IsPatternUnder m (rename r t)
   pattern_rename k m r h (bound i) p = h.below i p
   pattern_rename k m r h (free x a) p = absurd p
@@ -106,6 +108,7 @@ module _ (S : Symbols) (M : List Declared) where
 
   mutual
     unfolding core cores
+
     -- an extended pattern is a pattern
     pub long_pattern : (k : ℕ) (Γ : List Ty) (t : Tm) → IsPatternUnder k t → IsPatternUnder k (long S M Γ t)
     long_pattern k Γ (bound i) p = expand_pattern k (type_at Γ i) (bound i) p

@@ -1,9 +1,9 @@
 -- Extended trees have the types of the trees, and what stands in them.
-use Rattle.std.proofs.Common.{◌≡◌, ℕ, zero, suc, ◌⊎◌, inl, inr, List, [], ◌∷◌, refl, ap, ◌∙◌, sym, subst, Some, slice_get}
+use Rattle.std.proofs.Common.{◌≡◌, ℕ, suc, inl, inr, List, ◌∷◌, refl, sym, subst}
 use Rattle.wh_types.specs.Ty.{Ty, sort, ◌⇒◌, SortsBelow}
 use Rattle.wh_terms.specs.Tree.{Tm, bound, free, fun, meta, lam, app, Tms, none, more}
 use Rattle.wh_terms.specs.Substitution.{up_renaming, rename, renames}
-use Rattle.wh_terms.specs.Sight.{Occurs, OccursIn, NoFree, AllNoFree}
+use Rattle.wh_terms.specs.Sight.{Occurs, OccursIn}
 use Rattle.wh_terms.specs.Typing.{Symbols, Declared, Typed, typed_bound, typed_free, typed_fun, typed_meta, typed_lam, typed_app, AllTyped, typed_none, typed_more}
 use Rattle.wh_terms.proofs.TypingLaws.{typed-shift}
 use Rattle.wh_laws.specs.RootRelations.{KnowsSorts}
@@ -14,6 +14,7 @@ use Rattle.wh_extended.proofs.LongLaws.{kind_is}
 
 mutual
   unfolding rename renames
+
   occurs_back : (z : ℕ) (r : ℕ → ℕ) (t : Tm) → Occurs z (rename r t) → Occurs z t
   occurs_back z r (bound i) o = o
   occurs_back z r (free x a) o = o
@@ -31,6 +32,7 @@ mutual
 
 mutual
   unfolding rename renames
+
   occurs_on : (z : ℕ) (r : ℕ → ℕ) (t : Tm) → Occurs z t → Occurs z (rename r t)
   occurs_on z r (bound i) o = o
   occurs_on z r (free x a) o = o
@@ -95,6 +97,7 @@ occurs_argument z (app t u) a c o = occurs_expand z a c o
 module _ (S : Symbols) (M : List Declared) where
   mutual
     unfolding core cores
+
     core_occurs : (z : ℕ) (Γ : List Ty) (t : Tm) → Occurs z (core S M Γ t) → Occurs z t
     core_occurs z Γ (bound i) o = o
     core_occurs z Γ (free x a) o = o
@@ -112,6 +115,7 @@ module _ (S : Symbols) (M : List Declared) where
 
   mutual
     unfolding core cores
+
     occurs_core : (z : ℕ) (Γ : List Ty) (t : Tm) → Occurs z t → Occurs z (core S M Γ t)
     occurs_core z Γ (bound i) o = o
     occurs_core z Γ (free x a) o = o
@@ -169,6 +173,7 @@ module _ (S : Symbols) (M : List Declared) where
 
     mutual
       unfolding core cores
+
       core_typed : {Γ : List Ty} {t : Tm} {a : Ty} → KnownTypes S Γ → Typed S M Γ t a → Typed S M Γ (core S M Γ t) a
       core_typed k (typed_bound e) = typed_bound e
       core_typed k (typed_free p) = typed_free p

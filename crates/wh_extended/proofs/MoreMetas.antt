@@ -1,7 +1,7 @@
 -- More meta-variables: those that are added for missing arguments, and what is known where they are there.
-use Rattle.std.proofs.Common.{◌≡◌, ℕ, zero, suc, ◌+◌, ◌⊎◌, inl, inr, List, [], ◌∷◌, ◌++◌, length, map, refl, ap, ap₂, ◌∙◌, sym, subst, Some, slice_get, arith}
-use Rattle.wh_types.specs.Ty.{Ty, sort, ◌⇒◌, SortsBelow}
-use Rattle.wh_terms.specs.Tree.{Tm, bound, free, fun, meta, lam, app, Tms, none, more, tms_of, spine}
+use Rattle.std.proofs.Common.{◌≡◌, ℕ, zero, suc, ◌+◌, ◌⊎◌, inl, inr, List, [], ◌∷◌, ◌++◌, length, refl, ap, ◌∙◌, subst, Some, slice_get, arith}
+use Rattle.wh_types.specs.Ty.{Ty, SortsBelow}
+use Rattle.wh_terms.specs.Tree.{Tm, meta, app, Tms, none, tms_of, spine}
 use Rattle.wh_terms.specs.Sight.{Occurs, OccursIn, NoFree}
 use Rattle.wh_terms.specs.Pattern.{IsPatternSpine}
 use Rattle.wh_terms.specs.Typing.{Symbols, Declared, Typed, typed_bound, typed_free, typed_fun, typed_meta, typed_lam, typed_app, AllTyped, typed_none, typed_more}

@@ -87,6 +87,7 @@ module _ (S : Symbols) (M : List Declared) where
 
   mutual
     unfolding core value values
+
     pub pattern_long : {Γ : List Ty} {a : Ty} (k : ℕ) (g : ℕ → Body) (p : Tm) → IsPatternUnder k p → Typed S M Γ p a → TypedBodies S M [] Γ g p → FitsBodies g p
         → value (longed S M Γ g) (long S M Γ p) ≡ long S [] Γ (value g p)
     pattern_long {Γ = Γ} {a = a} k g (bound i) p q h f = spine_finish Γ g (bound i) a q (typed-value g q h) f refl

@@ -113,6 +113,7 @@ fits_declared-shift {S = S} {N = N} {Γ = Γ} {d = d} a g z h = record {
 module _ (S : Symbols) (M : List Declared) where
   mutual
     unfolding core cores
+
     pub fits_core : (n : ℕ → ℕ) (Γ : List Ty) (t : Tm) → FitsArities n t → FitsArities n (core S M Γ t)
     fits_core n Γ (bound i) f = tt
     fits_core n Γ (free x a) f = tt
@@ -234,12 +235,16 @@ module _ (S : Symbols) (M : List Declared) where
 
     bound_meta : {A : Type 0} {i z : ℕ} {ts : Tms} → bound i ≡ meta z ts → A
     bound_meta e = absurd (cc)
+
     free_meta : {A : Type 0} {x z : ℕ} {b : Ty} {ts : Tms} → free x b ≡ meta z ts → A
     free_meta e = absurd (cc)
+
     fun_meta : {A : Type 0} {f z : ℕ} {ts : Tms} → fun f ≡ meta z ts → A
     fun_meta e = absurd (cc)
+
     lam_meta : {A : Type 0} {z : ℕ} {b : Ty} {t : Tm} {ts : Tms} → lam b t ≡ meta z ts → A
     lam_meta e = absurd (cc)
+
     app_meta : {A : Type 0} {z : ℕ} {t u : Tm} {ts : Tms} → app t u ≡ meta z ts → A
     app_meta e = absurd (cc)
 
@@ -258,6 +263,7 @@ module _ (S : Symbols) (M : List Declared) where
 
     mutual
       unfolding core cores value values longed
+
       -- the value of a side's core
       pub value_core : {Γ : List Ty} {t : Tm} {a : Ty} (g : ℕ → Body) → Typed S M Γ t a → TypedBodies S M [] Γ g t → FitsBodies g t → Outcome Γ g t a
       value_core g (typed_bound e) h f = record { comes = as_core stay; metas = λ z ts e. bound_meta e }
@@ -269,7 +275,7 @@ module _ (S : Symbols) (M : List Declared) where
           record { comes = as_long m (eta_all S R kept a); metas = λ y vs e. m }
       value_core {Γ = Γ} g (typed_lam {a = a} {b = b} {t = t} s p) h f =
           let shift : value (shifted (longed Γ g)) (long S M (a ∷ Γ) t) ≡ value (longed (a ∷ Γ) (shifted g)) (long S M (a ∷ Γ) t)
-                = value_same (shifted (longed Γ g)) (longed (a ∷ Γ) (shifted g)) (long S M (a ∷ Γ) t) (λ z. sym (longed_shifted Γ a g z)) in
+          = value_same (shifted (longed Γ g)) (longed (a ∷ Γ) (shifted g)) (long S M (a ∷ Γ) t) (λ z. sym (longed_shifted Γ a g z)) in
           let below = bodies_shift t a g h in
           record { comes = as_core (many-body kept a (many_both (many_equal shift) (whole_value (shifted g) f p below (value_core (shifted g) p below f)))); metas = λ z ts e. lam_meta e }
       value_core {Γ = Γ} g (typed_app {a = a} {b = b} {t = t} {u = u} p q) h f =
@@ -278,7 +284,8 @@ module _ (S : Symbols) (M : List Declared) where
           record {
             comes = in_app S R kept Γ (value g t) (value g u) a b (value (longed Γ g) (core S M Γ t)) (value (longed Γ g) (long S M Γ u))
                 (typed-value g p left) (typed-value g q right) (value_core g p left f.0).comes (whole_value g f.1 q right (value_core g q right f.1));
-            metas = λ z ts e. app_meta e; }
+            metas = λ z ts e. app_meta e;
+          }
 
       value_cores : {Γ : List Ty} {ts : Tms} {cs : List Ty} (g : ℕ → Body) → AllTyped S M Γ ts cs → ((z : ℕ) (d : Declared) → OccursIn z ts → slice_get M z ≡ Some d → FitsDeclared S [] Γ d (g z)) → AllFitBodies g ts
           → (us : Tms) × AllMany (values (longed Γ g) (cores S M Γ ts)) us × AllPut Γ cs (values g ts) us

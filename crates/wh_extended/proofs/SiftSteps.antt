@@ -2,7 +2,6 @@
 use Rattle.std.proofs.Common.{◌≡◌, ℕ, zero, suc, ◌⊎◌, inl, inr, List, [], ◌∷◌, length, refl, ap, ◌∙◌, sym, subst, arith}
 use Rattle.std.specs.Prelude.{get_or}
 use Rattle.std.proofs.Math.Path.{fun_ext}
-use Rattle.std.proofs.lemmas.Option.{none-some}
 use Rattle.wh_types.specs.Ty.{Ty, sort, ◌⇒◌, arguments}
 use Rattle.wh_terms.specs.Tree.{Tm, bound, free, fun, meta, lam, app, spine}
 use Rattle.wh_terms.specs.Substitution.{act, cons, opened}
@@ -70,7 +69,7 @@ module _ (Φ : ℕ → Filter) (R : Tm → Tm → Type 0) (kept : IsRenamed R) w
   many_chosen r [] = no_lists
   many_chosen r (i ∷ is) = more_lists (many_get r i) (many_chosen r is)
 
-  many_filtered : {ts us : List Tm} → Lists ts us → (F : Filter) (f : ℕ) → Many (StepOver R) (filtered F f ts) (filtered F f us)
+  pub many_filtered : {ts us : List Tm} → Lists ts us → (F : Filter) (f : ℕ) → Many (StepOver R) (filtered F f ts) (filtered F f us)
   many_filtered r (keep p is) f = many_spines (fun f) (fun f) stay (many_chosen r is)
   many_filtered r (pick i) f = many_get r i
 
@@ -101,5 +100,5 @@ module _ (S : Symbols) (Φ : ℕ → Filter) (R : Tm → Tm → Type 0) (kept : 
   beta_sift Γ a b t u qs p q f g w =
       many_both (many_spines Φ R kept (app (lam (collapse a) (sift Φ t [])) (sift Φ u [])) (opened (sift Φ u []) (sift Φ t [])) (go (over_beta refl) stay) (same_lists Φ R kept qs))
       (many_equal (ap (λ v. spine v qs) (ap (λ σ. act σ free (sift Φ t [])) (fun_ext (λ i. sym (cons_sifted u i)))
-        ∙ sift-act S Φ (cons u bound) (opened_flexibles Γ a u q f) p [] (inl refl))
+      ∙ sift-act S Φ (cons u bound) (opened_flexibles Γ a u q f) p [] (inl refl))
       ∙ put_sifted S Φ (opened u t) qs b w (full_flexible S b (typed-opened q p) g)))

@@ -1,5 +1,6 @@
--- Filtered trees are typed and full over the signature of filtered trees, and have no free variable where the trees have none.
-use Rattle.std.proofs.Common.{◌≡◌, ℕ, zero, suc, ◌+◌, ◌<◌, List, [], ◌∷◌, length, map, refl, ap, ap₂, ◌∙◌, sym, subst, Some, slice_get, arith}
+-- Filtered trees are typed and full over the signature of filtered trees, and have no free variable where the trees
+-- have none.
+use Rattle.std.proofs.Common.{◌≡◌, ℕ, zero, suc, ◌+◌, ◌<◌, List, [], ◌∷◌, length, map, refl, ap, ◌∙◌, sym, subst, Some, slice_get, arith}
 use Rattle.std.specs.Prelude.{get_or}
 use Rattle.std.specs.List.{AllByRecursion}
 use Rattle.wh_types.specs.Ty.{Ty, sort, ◌⇒◌, arguments, result_sort, SortsBelow}
@@ -17,7 +18,7 @@ collapse-arrows : (cs : List Ty) (b : Ty) → collapse (arrows cs b) ≡ arrows 
 collapse-arrows [] b = refl
 collapse-arrows (c ∷ cs) b = ap (λ d. collapse c ⇒ d) (collapse-arrows cs b)
 
-collapse-known : (n : ℕ) → 0 < n → (a : Ty) → SortsBelow n (collapse a)
+pub collapse-known : (n : ℕ) → 0 < n → (a : Ty) → SortsBelow n (collapse a)
 collapse-known n l (sort s) = l
 collapse-known n l (a ⇒ b) = (collapse-known n l a, collapse-known n l b)
 
@@ -63,6 +64,7 @@ no_free_filtered (pick i) f qs m = get_all NoFree tt qs i m
 
 mutual
   unfolding sift sifts
+
   -- filtered trees have no free variable where the trees have none
   pub no_free_sift : (Φ : ℕ → Filter) (t : Tm) (qs : List Tm) → NoFree t → AllByRecursion NoFree qs → NoFree (sift Φ t qs)
   no_free_sift Φ (bound i) qs n m = no_free_spine (bound i) qs tt m
@@ -140,7 +142,7 @@ module _ (S F : Symbols) (Φ : ℕ → Filter) (into : Filters S F Φ) where
   kept_arity cs (i ∷ is) = ap suc (kept_arity cs is)
 
   -- a symbol with all its arguments, by its filter
-  filtered_sifted : (M : List Declared) (Γ : List Ty) (f : ℕ) (qs : List Tm) (cs : List Ty) (P : Filter) → IsProper cs P → slice_get F.funs f ≡ Some (kept_type cs P) → AllSifted M Γ qs cs
+  pub filtered_sifted : (M : List Declared) (Γ : List Ty) (f : ℕ) (qs : List Tm) (cs : List Ty) (P : Filter) → IsProper cs P → slice_get F.funs f ≡ Some (kept_type cs P) → AllSifted M Γ qs cs
       → Sifted M Γ (filtered P f qs) (sort 0)
   filtered_sifted M Γ f qs cs (keep p is) l e h = record {
     typed = typed_spine (fun f) (chosen is qs) (map (λ i. collapse (type_at cs i)) is) (typed_fun e) (chosen_typed M Γ qs cs h 0 is l);
@@ -165,6 +167,7 @@ module _ (S F : Symbols) (Φ : ℕ → Filter) (into : Filters S F Φ) where
 
   mutual
     unfolding sift sifts
+
     -- a filtered tree is typed and full, with as many arguments behind it as it takes
     pub sift_sifted : {M : List Declared} {Γ : List Ty} {t : Tm} {a : Ty} → Typed S M Γ t a → (n : ℕ) → Full S n t → (qs : List Tm) → length qs ≡ n → (cs : List Ty) (b : Ty) → a ≡ arrows cs b
         → AllSifted (collapsed M) (map collapse Γ) qs cs → Sifted (collapsed M) (map collapse Γ) (sift Φ t qs) (collapse b)

@@ -25,7 +25,7 @@ unfolding value
 value-spine g h [] = refl
 value-spine g h (t ∷ ts) = value-spine g (app h t) ts
 
-filtered-value : (g : ℕ → Body) (F : Filter) (f : ℕ) (qs : List Tm) → value g (filtered F f qs) ≡ filtered F f (map (value g) qs)
+pub filtered-value : (g : ℕ → Body) (F : Filter) (f : ℕ) (qs : List Tm) → value g (filtered F f qs) ≡ filtered F f (map (value g) qs)
 unfolding value
 filtered-value g (keep p is) f qs = value-spine g (fun f) (chosen is qs) ∙ ap (spine (fun f)) (chosen_map (value g) is qs refl)
 filtered-value g (pick i) f qs = get_map (value g) qs i refl
@@ -63,6 +63,7 @@ module _ (Φ : ℕ → Filter) where
 module _ (S : Symbols) (Φ : ℕ → Filter) where
   mutual
     unfolding value values sift sifts sifted
+
     pub sift-value : {M : List Declared} {Γ : List Ty} {t : Tm} {a : Ty} (g : ℕ → Body) → FullBodies S g t → TypedBodies S M [] Γ g t → Typed S M Γ t a → (n : ℕ) → Full S n t → (qs : List Tm) → Behind a qs
         → value (sifted Φ g) (sift Φ t qs) ≡ sift Φ (value g t) (map (value (sifted Φ g)) qs)
     sift-value g h b (typed_bound {i = i} e) n f qs w = value-spine (sifted Φ g) (bound i) qs
@@ -75,15 +76,15 @@ module _ (S : Symbols) (Φ : ℕ → Filter) where
         let flexible : Flexibles S Φ (parameter_types d.args Γ) σ = λ i c q w. full_flexible S c (puts i c q).0 (puts i c q).1 w in
         value-spine (sifted Φ g) (meta z (sifts Φ ts)) qs
         ∙ ap (λ v. spine v (map (value (sifted Φ g)) qs)) (
-          ap (λ us. act (parameters us bound) free (sifted Φ g z).tree) (sifts-values g (λ y k. h y (inr k)) (λ y c k q. b y c (inr k) q) ps f)
-          ∙ ap (λ τ. act τ free (sift Φ (g z).tree [])) (fun_ext (λ i. sym (params_bound Φ (values g ts) i)))
-          ∙ sift-act S Φ σ flexible fit.typed [] (inl refl))
+        ap (λ us. act (parameters us bound) free (sifted Φ g z).tree) (sifts-values g (λ y k. h y (inr k)) (λ y c k q. b y c (inr k) q) ps f)
+        ∙ ap (λ τ. act τ free (sift Φ (g z).tree [])) (fun_ext (λ i. sym (params_bound Φ (values g ts) i)))
+        ∙ sift-act S Φ σ flexible fit.typed [] (inl refl))
         ∙ put_sifted S Φ (act σ free (g z).tree) (map (value (sifted Φ g)) qs) a (map_behind Φ (value (sifted Φ g)) a qs w)
-          (full_flexible S a (subst (Typed S [] Γ (act σ free (g z).tree)) (sym o) (typed-act Γ σ free (λ i c q. (puts i c q).0) (fits-free Γ) fit.typed)) (full_act S Γ σ puts fit.typed 0 (inl refl) (h z (inl refl))))
+        (full_flexible S a (subst (Typed S [] Γ (act σ free (g z).tree)) (sym o) (typed-act Γ σ free (λ i c q. (puts i c q).0) (fits-free Γ) fit.typed)) (full_act S Γ σ puts fit.typed 0 (inl refl) (h z (inl refl))))
     sift-value {Γ = Γ} g h b (typed_lam {a = a} {t = t} p q) n f qs w =
         value-spine (sifted Φ g) (lam (collapse a) (sift Φ t [])) qs
         ∙ ap (λ u. spine (lam (collapse a) u) (map (value (sifted Φ g)) qs)) (value_same (shifted (sifted Φ g)) (sifted Φ (shifted g)) (sift Φ t []) (λ z. sym (sifted_shifted Φ g z))
-          ∙ sift-value (shifted g) (full_shifted S t g h) (bodies_shift S _ t a g b) q 0 f [] (inl refl))
+        ∙ sift-value (shifted g) (full_shifted S t g h) (bodies_shift S _ t a g b) q 0 f [] (inl refl))
     sift-value g h b (typed_app {t = t} {u = u} p q) n f qs w =
         sift-value g (λ z o. h z (inl o)) (λ z d o e. b z d (inl o) e) p (suc n) f.0 (sift Φ u [] ∷ qs) (inr tt)
         ∙ ap (λ v. sift Φ (value g t) (v ∷ map (value (sifted Φ g)) qs)) (sift-value g (λ z o. h z (inr o)) (λ z d o e. b z d (inr o) e) q 0 f.1 [] (inl refl))

@@ -42,6 +42,7 @@ filtered-rename r (pick i) f qs = get_map (rename r) qs i refl
 
 mutual
   unfolding sift sifts rename renames
+
   pub sift-rename : (Φ : ℕ → Filter) (r : ℕ → ℕ) (t : Tm) (qs : List Tm) → rename r (sift Φ t qs) ≡ sift Φ (rename r t) (map (rename r) qs)
   sift-rename Φ r (bound i) qs = rename-spine r (bound i) qs
   sift-rename Φ r (free x a) qs = rename-spine r (free x (collapse a)) qs

@@ -35,11 +35,11 @@ module _ (S : Symbols) (R : Tm → Tm → Type 0) (kept : IsRenamed R) where
   eta_lam a b h k Γ t p =
       let e : Tm = long S [] (a ∷ Γ) t in
       many-body kept a (many_both (many-expand kept b (
-        go (over_beta refl) (many_both
-          (many_equal (act-rename (up_renaming suc) (cons (expand a (bound 0)) bound) free e))
-          (many_both (long_act S R kept (a ∷ Γ) bound (λ i. cons (expand a (bound 0)) bound (up_renaming suc i)) (eta_put a h Γ) p)
-          (many_equal (ap (long S [] (a ∷ Γ)) (act-id t)))))))
-        (eta_at S R kept b k (a ∷ Γ) t p))
+      go (over_beta refl) (many_both
+      (many_equal (act-rename (up_renaming suc) (cons (expand a (bound 0)) bound) free e))
+      (many_both (long_act S R kept (a ∷ Γ) bound (λ i. cons (expand a (bound 0)) bound (up_renaming suc i)) (eta_put a h Γ) p)
+      (many_equal (ap (long S [] (a ∷ Γ)) (act-id t)))))))
+      (eta_at S R kept b k (a ∷ Γ) t p))
 
   eta_arrow : (a b : Ty) → EtaAll S R kept a → EtaAll S R kept b → Eta S R kept (a ⇒ b)
   unfolding core
@@ -159,7 +159,7 @@ module _ (S : Symbols) (R : Tm → Tm → Type 0) (kept : IsRenamed R) (Q : Tm �
   root_long (a ⇒ b) Γ t u ws q p =
       let p' = spine_typed (λ c. q_typed Γ t u c q) ws p in
       let m = root_long b (a ∷ Γ) (rename suc t) (rename suc u) (map (rename suc) ws ++ bound 0 ∷ []) (renamed suc t u q)
-            (subst (λ v. Typed S [] (a ∷ Γ) v b) (sym (one_more ws t)) (typed_app (typed-shift a p) (typed_bound {i = 0} refl))) in
+      (subst (λ v. Typed S [] (a ∷ Γ) v b) (sym (one_more ws t)) (typed_app (typed-shift a p) (typed_bound {i = 0} refl))) in
       let (f, e) = q_headed t u q in
       many_both (many_equal (finish-headed f (spine t ws) (kind S [] Γ (spine t ws)) (core S [] Γ (spine t ws)) (head-spine t ws ∙ e) ∙ ap (λ k. expand k (core S [] Γ (spine t ws))) (kind_is p) ∙ sym (applied-core S Γ (spine t ws) a b p)))
       (many_both (many-body kept a (subst₂ (λ v w. Many (StepOver R) (long S [] (a ∷ Γ) v) (long S [] (a ∷ Γ) w)) (one_more ws t) (one_more ws u) m))

@@ -1,18 +1,16 @@
 -- The extended sides of a well-made rule, and instances of the rule with arguments behind them.
-use Rattle.std.proofs.Common.{◌≡◌, ℕ, zero, suc, ◌+◌, ◌-◌, ◌<◌, ◌≤◌, ◌⊎◌, inl, inr, Bool, true, false, cond, List, [], ◌∷◌, ◌++◌, length, map, refl, ap, ap₂, ◌∙◌, sym, subst, Some, slice_get, arith}
+use Rattle.std.proofs.Common.{◌≡◌, ℕ, suc, ◌+◌, ◌-◌, ◌<◌, ◌⊎◌, inl, inr, cond, List, [], ◌∷◌, length, map, refl, ap, ap₂, ◌∙◌, sym, subst, Some, slice_get, arith}
 use Rattle.std.specs.Prelude.{get_or, nat_lt}
 use Rattle.std.proofs.lemmas.Option.{slice_get_within}
 use Rattle.std.proofs.lemmas.Bool.{lt-ltb, le-ltb}
-use mathlib.Core.Path.{subst₂}
-use Rattle.wh_types.specs.Ty.{Ty, sort, ◌⇒◌, arguments, result_sort, SortsBelow}
-use Rattle.wh_terms.specs.Tree.{Tm, bound, free, fun, meta, none, tms_of, spine, head}
-use Rattle.wh_terms.specs.Substitution.{act}
-use Rattle.wh_terms.specs.Sight.{Occurs, OccursIn, NoFree}
-use Rattle.wh_terms.specs.Pattern.{IsPatternUnder, IsPatternSpine}
+use Rattle.wh_types.specs.Ty.{Ty, sort, arguments, result_sort, SortsBelow}
+use Rattle.wh_terms.specs.Tree.{Tm, bound, tms_of, spine}
+use Rattle.wh_terms.specs.Sight.{Occurs, OccursIn}
+use Rattle.wh_terms.specs.Pattern.{IsPatternSpine}
 use Rattle.wh_terms.specs.Typing.{Symbols, Declared, Typed}
 use Rattle.wh_terms.specs.Rules.{RewriteRule, IsWellMade}
 use Rattle.wh_terms.specs.Value.{Body, parameters}
-use Rattle.wh_terms.specs.TypedBodies.{parameter_types, FitsDeclared, TypedBodies}
+use Rattle.wh_terms.specs.TypedBodies.{parameter_types, TypedBodies}
 use Rattle.wh_terms.specs.StepOver.{StepOver, over_root}
 use Rattle.wh_terms.proofs.ActLaws.{act-id}
 use Rattle.wh_terms.proofs.TypingLaws.{typed_anywhere}
@@ -20,13 +18,13 @@ use Rattle.wh_terms.proofs.ValueForm.{value, value_agree, FitsBodies}
 use Rattle.wh_terms.proofs.ValueTyping.{spine_bodies, headed_spine}
 use Rattle.wh_laws.specs.RootRelations.{KnowsSorts}
 use Rattle.wh_laws.proofs.Candidates.{head-spine}
-use Rattle.wh_extended.specs.Many.{Many, stay, go}
+use Rattle.wh_extended.specs.Many.{Many, go}
 use Rattle.wh_extended.specs.Kinds.{kind, arrows, KnowsMetas, AreCounted}
 use Rattle.wh_extended.specs.Long.{expand, core, long}
 use Rattle.wh_extended.specs.ExtendedSides.{missing, added, added_from, extended_metas, extended_side}
 use Rattle.wh_extended.specs.Filtered.{Full}
 use Rattle.wh_extended.proofs.ManyLaws.{many_both, many_equal}
-use Rattle.wh_extended.proofs.TypeLists.{arrows-arguments, arguments-arrows, typed_spine, typed_spine-arguments, typed_length}
+use Rattle.wh_extended.proofs.TypeLists.{arrows-arguments, typed_spine, typed_spine-arguments, typed_length}
 use Rattle.wh_extended.proofs.Acted.{typed_fits}
 use Rattle.wh_extended.proofs.LongLaws.{kind_is}
 use Rattle.wh_extended.proofs.LongTyped.{type_known, long_typed, long_occurs, occurs_long}
@@ -38,7 +36,7 @@ use Rattle.wh_extended.proofs.Patterns.{pattern_long}
 use Rattle.wh_extended.proofs.Fullness.{full_long}
 use Rattle.wh_extended.proofs.SiftValues.{value-spine}
 use Rattle.wh_extended.proofs.ExtendedRules.{Wide, Extended, extended_renamed}
-use Rattle.wh_extended.proofs.MoreMetas.{get_front, typed_wider, added_typed, knows_more, pattern_added, closed_added, occurs_spine, spine_occurs, Fitted, fitted}
+use Rattle.wh_extended.proofs.MoreMetas.{get_front, typed_wider, added_typed, knows_more, pattern_added, closed_added, occurs_spine, spine_occurs, fitted}
 
 -- bodies for the meta-variables of a rule, and behind them the arguments
 with_arguments : List Declared → ℕ → (ℕ → Body) → List Tm → ℕ → Body
@@ -95,23 +93,23 @@ module _ (S : Symbols) (known : KnowsSorts S) (r : RewriteRule) (w : IsWellMade 
   metas_known = knows_more S r.metas cs (sort result) metas (subst (SortsBelow S.sorts) whole_type (type_known S r.metas known metas no_types w.typed.1))
 
   -- a side with all its arguments
-  side_typed : (t : Tm) → Typed S r.metas [] t w.typed.0 → Typed S L [] (spine t zs) (sort result)
+  pub side_typed : (t : Tm) → Typed S r.metas [] t w.typed.0 → Typed S L [] (spine t zs) (sort result)
   side_typed t p = typed_spine t zs cs (subst (Typed S L [] t) whole_type (typed_wider (added cs) p)) (added_typed S r.metas cs)
 
-  extended_typed : (t : Tm) → Typed S r.metas [] t w.typed.0 → Typed S L [] (extended_side S r t) (sort result)
+  pub extended_typed : (t : Tm) → Typed S r.metas [] t w.typed.0 → Typed S L [] (extended_side S r t) (sort result)
   extended_typed t p = long_typed S L known metas_known no_types (side_typed t p)
 
-  left_spine : IsPatternSpine 0 (spine r.left zs)
+  pub left_spine : IsPatternSpine 0 (spine r.left zs)
   left_spine = pattern_added r.left (length r.metas) cs (headed_spine 0 w.headed.0 r.left w.pattern_left w.headed.1)
 
-  left_core : extended_side S r r.left ≡ core S L [] (spine r.left zs)
+  pub left_core : extended_side S r r.left ≡ core S L [] (spine r.left zs)
   unfolding expand
   left_core =
       finish-headed w.headed.0 (spine r.left zs) (kind S L [] (spine r.left zs)) (core S L [] (spine r.left zs)) (head-spine r.left zs ∙ w.headed.1)
       ∙ ap (λ k. expand k (core S L [] (spine r.left zs))) (kind_is (side_typed r.left w.typed.1))
 
   -- what occurs on the right with its arguments occurs on the left with these
-  known_spine : (z : ℕ) → Occurs z (spine r.right zs) → Occurs z (spine r.left zs)
+  pub known_spine : (z : ℕ) → Occurs z (spine r.right zs) → Occurs z (spine r.left zs)
   known_spine z o = on (occurs_spine z r.right zs o)
     where
       on : Occurs z r.right ⊎ OccursIn z (tms_of zs) → Occurs z (spine r.left zs)
@@ -119,10 +117,14 @@ module _ (S : Symbols) (known : KnowsSorts S) (r : RewriteRule) (w : IsWellMade 
       on (inr p) = spine_occurs z r.left zs (inr p)
 
   -- the rule with extended sides
-  pub wide : Wide S
+  unfoldable pub wide : Wide S
   wide = record {
-    metas = L; left = extended_side S r r.left; right = extended_side S r r.right; result = result;
-    left_typed = extended_typed r.left w.typed.1; right_typed = extended_typed r.right w.typed.2;
+    metas = L;
+    left = extended_side S r r.left;
+    right = extended_side S r r.right;
+    result = result;
+    left_typed = extended_typed r.left w.typed.1;
+    right_typed = extended_typed r.right w.typed.2;
     left_pattern = subst (IsPatternSpine 0) (sym left_core) (core_pattern S L 0 [] (spine r.left zs) left_spine);
     left_closed = no_free_long S L [] (spine r.left zs) (closed_added r.left (length r.metas) cs w.left_closed);
     right_closed = no_free_long S L [] (spine r.right zs) (closed_added r.right (length r.metas) cs w.right_closed);
@@ -209,8 +211,14 @@ module _ (S : Symbols) (known : KnowsSorts S) (r : RewriteRule) (w : IsWellMade 
         unfolding wide
         instance_steps =
             go (over_root (record {
-              rule = wide; listed = listed; bodies = longed S L Γ h; counted = longed_counted; full = longed_full;
-              is_left = instance_left; is_right = refl }))
+              rule = wide;
+              listed = listed;
+              bodies = longed S L Γ h;
+              counted = longed_counted;
+              full = longed_full;
+              is_left = instance_left;
+              is_right = refl;
+            }))
             (many_both (many_equal (ap (value (longed S L Γ h)) (sym (long_anywhere S L known metas_known Γ (spine r.right zs) (sort result) (side_typed r.right w.typed.2)))))
             (many_both (value_long S L (Extended S P) (extended_renamed S P) h right_typed (λ z d o e. left_bodies z d (known_spine z o) e) right_fits)
             (many_equal (ap (long S [] Γ) right_is))))

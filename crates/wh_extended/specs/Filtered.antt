@@ -1,11 +1,12 @@
 -- Filtered trees: symbols keep some of their arguments, or give way to one of them; all sorts are read as one. A
 -- function from numbers gives the filter of each symbol, that of a marked symbol at its number behind all symbols.
 use Rattle.std.specs.Prelude.{ℕ, suc, ◌≡◌, ◌<◌, List, [], ◌∷◌, length, map, get_or, Some, slice_get}
-use Rattle.wh_types.specs.Ty.{Ty, sort, ◌⇒◌, arguments}
+use Rattle.wh_types.specs.Ty.{Ty, sort, ◌⇒◌, arguments, result_sort}
 use Rattle.wh_terms.specs.Tree.{Tm, bound, free, fun, meta, lam, app, Tms, none, more, spine}
 use Rattle.wh_terms.specs.Typing.{Symbols, Declared}
 use Rattle.wh_inference.specs.Filters.{Filter, keep, pick}
 use Rattle.wh_extended.specs.Kinds.{type_at, arrows}
+use Rattle.wh_extended.specs.ExtendedSides.{marked_number}
 
 -- the type with each sort read as one and the same (ours)
 abbrev pub collapse : Ty → Ty
@@ -85,12 +86,21 @@ kept_types Φ n (cs ∷ css) = kept_type cs (Φ n) ∷ kept_types Φ (suc n) css
 abbrev pub filtered_symbols : (ℕ → Filter) → List (List Ty) → Symbols
 filtered_symbols Φ css = record { sorts = 1; funs = kept_types Φ 0 css }
 
--- F is a signature for the filtered trees over S: the filter of each symbol is proper, F has the symbol with the type that the
--- filter keeps, and it has the sort 0 (ours)
+-- the result of each symbol's type is the sort 0 (ours)
+abbrev pub HasOneSort : Symbols → Type 0
+HasOneSort F = (f : ℕ) (a : Ty) → slice_get F.funs f ≡ Some a → result_sort a ≡ 0
+
+-- F is a signature for the filtered trees over S: the filter of each symbol is proper, F has the symbol with the type
+-- that the filter keeps, and it has the sort 0 (ours)
 pub record Filters (S F : Symbols) (Φ : ℕ → Filter) : Type 0 where
   pub some_sort : 0 < F.sorts
   pub proper : (f : ℕ) (a : Ty) → slice_get S.funs f ≡ Some a → IsProper (arguments a) (Φ f)
   pub kept : (f : ℕ) (a : Ty) → slice_get S.funs f ≡ Some a → slice_get F.funs f ≡ Some (kept_type (arguments a) (Φ f))
+
+-- the same for the marked symbol of f, whose arguments have these types (ours)
+pub record FitsMark (S F : Symbols) (Φ : ℕ → Filter) (f : ℕ) (cs : List Ty) : Type 0 where
+  pub proper : IsProper cs (Φ (marked_number S f))
+  pub kept : slice_get F.funs (marked_number S f) ≡ Some (kept_type cs (Φ (marked_number S f)))
 
 -- the meta-variables of filtered trees (ours)
 abbrev pub collapsed : List Declared → List Declared

@@ -35,6 +35,10 @@ kind S M Γ (app t u) = codomain (kind S M Γ t)
 abbrev pub KnowsMetas : Symbols → List Declared → Type 0
 KnowsMetas S M = (z : ℕ) (d : Declared) → slice_get M z ≡ Some d → SortsBelow S.sorts d.out
 
+-- the sorts in the types of their arguments are sorts of S
+abbrev pub KnowsArguments : Symbols → List Declared → Type 0
+KnowsArguments S M = (z : ℕ) (d : Declared) → slice_get M z ≡ Some d → (i : ℕ) (c : Ty) → slice_get d.args i ≡ Some c → SortsBelow S.sorts c
+
 -- the type that takes arguments of these types and leads to b (ours)
 abbrev pub arrows : List Ty → Ty → Ty
 arrows [] b = b
