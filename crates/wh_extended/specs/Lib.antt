@@ -1,0 +1,5 @@
+pub mod Kinds
+pub mod Long
+pub mod ExtendedSides
+pub mod Filtered
+pub mod Many
