@@ -11,6 +11,8 @@ mod asking;
 #[cfg(test)]
 mod calls;
 #[cfg(test)]
+mod numbering_rows;
+#[cfg(test)]
 mod pair_rows;
 #[cfg(test)]
 mod rank_rows;
