@@ -37,7 +37,7 @@ sift-spine Φ h [] qs = refl
 sift-spine Φ h (t ∷ ts) qs = sift-spine Φ (app h t) ts qs
 
 -- the filtered arguments of a call
-pub filtered_arguments : Symbols → (ℕ → Filter) → List Declared → List Tm → List Tm
+unfoldable pub filtered_arguments : Symbols → (ℕ → Filter) → List Declared → List Tm → List Tm
 filtered_arguments S Φ M ts = map (λ t. sift Φ (long S M [] t) []) ts
 
 pub call_is : (S : Symbols) (Φ : ℕ → Filter) (M : List Declared) (f : ℕ) (ts : List Tm)
