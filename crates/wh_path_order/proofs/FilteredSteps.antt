@@ -1,10 +1,10 @@
 -- A step of a system is steps of the path order and of beta between extended and filtered terms.
-use Rattle.std.proofs.Common.{◌≡◌, ◌≢◌, ℕ, zero, suc, inl, List, [], ◌∷◌, length, map, refl, ap, ◌∙◌, sym, subst, Some, slice_get, Contains}
+use Rattle.std.proofs.Common.{◌≡◌, ◌≢◌, ℕ, zero, suc, inl, inr, List, [], ◌∷◌, length, map, refl, ap, ◌∙◌, sym, subst, Some, slice_get, Contains, ◌++◌}
 use Rattle.std.specs.List.{AllByRecursion}
 use mathlib.Core.Path.{subst₂}
 use Rattle.wh_types.specs.Ty.{Ty, sort}
 use Rattle.wh_terms.specs.Tree.{Tm, bound, free, spine, tms_of}
-use Rattle.wh_terms.specs.Sight.{NoFree, AllNoFree}
+use Rattle.wh_terms.specs.Sight.{OccursIn, NoFree, AllNoFree}
 use Rattle.wh_terms.specs.Typing.{Symbols, Declared, Typed, AllTyped, typed_more}
 use Rattle.wh_terms.specs.Rules.{RewriteRule, AreWellMade}
 use Rattle.wh_terms.specs.Value.{Body}
@@ -149,15 +149,21 @@ module _ (S F : Symbols) (Φ : ℕ → Filter) (prec : ℕ → ℕ) (rules : Lis
       path_order_ends F prec sorts one (filtered_call S Φ [] f ts) (sort 0)
       (call_sifted S known [] (λ z d e. absurd (cc)) F Φ into f ts cs m p).typed
 
+  occurs_left : (z : ℕ) (ts us : List Tm) → OccursIn z (tms_of ts) → OccursIn z (tms_of (ts ++ us))
+  occurs_left z [] us o = absurd o
+  occurs_left z (t ∷ ts) us (inl o) = inl o
+  occurs_left z (t ∷ ts) us (inr o) = inr (occurs_left z ts us o)
+
+  occurs_right : (z : ℕ) (ts us : List Tm) → OccursIn z (tms_of us) → OccursIn z (tms_of (ts ++ us))
+  occurs_right z [] us o = o
+  occurs_right z (t ∷ ts) us o = inr (occurs_right z ts us o)
+
   all_closed : (ts : List Tm) → AllNoFree (tms_of ts) → AllByRecursion NoFree ts
   all_closed [] n = tt
   all_closed (t ∷ ts) n = (n.0, all_closed ts n.1)
 
   module _ (M : List Declared) (f g : ℕ) (cs ds : List Ty) (left_mark : FitsMark S F Φ f cs) (right_mark : FitsMark S F Φ g ds) (ls rs : List Tm) (sides : PairSides S M cs ds ls rs)
-      (i : Inference) (good : IsGoodPairLine S F Φ prec M f ls g rs i) (b : ℕ → Body) (bodies : HasTypedBodies S M b) where
-    counted : AreCounted M b
-    counted z d e = (bodies z d e).counted
-
+      (i : Inference) (good : IsGoodPairLine S F Φ prec M f ls g rs i) (b : ℕ → Body) (counted : AreCounted M b) (bodies : HasTypedBodies S M b (tms_of (ls ++ rs))) where
     -- the bodies of the instance of the filtered sides
     abbrev k : ℕ → Body
     k = sifted Φ (longed S M [] b)
@@ -175,25 +181,25 @@ module _ (S F : Symbols) (Φ : ℕ → Filter) (prec : ℕ → ℕ) (rules : Lis
 
     left_value : value k (filtered_call S Φ M f ls) ≡ filtered_call S Φ [] f (map (value b) ls)
     left_value =
-        call_value S known M sides.metas_known sides.arguments_known Φ b counted bodies f ls cs sides.left_typed
-        ∙ ap (filtered (Φ (marked_number S f)) (marked_number S f)) (patterns_value S known M sides.metas_known sides.arguments_known Φ b counted bodies ls cs sides.left_patterns sides.left_typed)
+        call_value S known M sides.metas_known sides.arguments_known Φ b counted (λ z. OccursIn z (tms_of (ls ++ rs))) (λ z d o e. bodies z d o e) f ls cs sides.left_typed (λ z o. occurs_left z ls rs o)
+        ∙ ap (filtered (Φ (marked_number S f)) (marked_number S f)) (patterns_value S known M sides.metas_known sides.arguments_known Φ b counted (λ z. OccursIn z (tms_of (ls ++ rs))) (λ z d o e. bodies z d o e) ls cs sides.left_patterns sides.left_typed (λ z o. occurs_left z ls rs o))
         ∙ sym (call_is S Φ [] f (map (value b) ls))
 
-    rights_come : (ts : List Tm) (es : List Ty) → AllTyped S M [] (tms_of ts) es
+    rights_come : (ts : List Tm) (es : List Ty) → AllTyped S M [] (tms_of ts) es → ((z : ℕ) → OccursIn z (tms_of ts) → OccursIn z (tms_of (ls ++ rs)))
         → Lists Φ (OrderRoot F prec) order_renamed (map (λ t. sift Φ (value (longed S M [] b) (long S M [] t)) []) ts) (filtered_arguments S Φ [] (map (value b) ts))
     unfolding filtered_arguments
-    rights_come [] es p = no_lists
-    rights_come (t ∷ ts) [] p = elim p [ ]
-    rights_come (t ∷ ts) (c ∷ es) (typed_more p ps) =
+    rights_come [] es p seen = no_lists
+    rights_come (t ∷ ts) [] p seen = elim p [ ]
+    rights_come (t ∷ ts) (c ∷ es) (typed_more p ps) seen =
         more_lists
-        (sifted_steps (value_comes S known M sides.metas_known sides.arguments_known Φ b counted bodies (Extended S OfRules) (extended_renamed S OfRules) t c p) c
-        (value_typed S known M sides.metas_known sides.arguments_known Φ b counted bodies t c p) (value_full S known M sides.metas_known sides.arguments_known Φ b counted bodies t c p))
-        (rights_come ts es ps)
+        (sifted_steps (value_comes S known M sides.metas_known sides.arguments_known Φ b counted (λ z. OccursIn z (tms_of (ls ++ rs))) (λ z d o e. bodies z d o e) (Extended S OfRules) (extended_renamed S OfRules) t c p (λ z o. seen z (inl o))) c
+        (value_typed S known M sides.metas_known sides.arguments_known Φ b counted (λ z. OccursIn z (tms_of (ls ++ rs))) (λ z d o e. bodies z d o e) t c p (λ z o. seen z (inl o))) (value_full S known M sides.metas_known sides.arguments_known Φ b counted (λ z. OccursIn z (tms_of (ls ++ rs))) (λ z d o e. bodies z d o e) t c p (λ z o. seen z (inl o))))
+        (rights_come ts es ps (λ z o. seen z (inr o)))
 
     right_comes : Many Order (value k (filtered_call S Φ M g rs)) (filtered_call S Φ [] g (map (value b) rs))
     right_comes =
-        subst₂ (Many Order) (sym (call_value S known M sides.metas_known sides.arguments_known Φ b counted bodies g rs ds sides.right_typed)) (sym (call_is S Φ [] g (map (value b) rs)))
-        (many_filtered Φ (OrderRoot F prec) order_renamed (rights_come rs ds sides.right_typed) (Φ (marked_number S g)) (marked_number S g))
+        subst₂ (Many Order) (sym (call_value S known M sides.metas_known sides.arguments_known Φ b counted (λ z. OccursIn z (tms_of (ls ++ rs))) (λ z d o e. bodies z d o e) g rs ds sides.right_typed (λ z o. occurs_right z ls rs o))) (sym (call_is S Φ [] g (map (value b) rs)))
+        (many_filtered Φ (OrderRoot F prec) order_renamed (rights_come rs ds sides.right_typed (λ z o. occurs_right z ls rs o)) (Φ (marked_number S g)) (marked_number S g))
 
     -- the filtered left call comes to the filtered right call
     pub pair_steps : Many Order (filtered_call S Φ [] f (map (value b) ls)) (filtered_call S Φ [] g (map (value b) rs))

@@ -2,8 +2,8 @@
 use Rattle.std.specs.Prelude.{ℕ, ◌≡◌, List, [], Contains, None, Some, slice_get}
 use Rattle.std.specs.List.{AllByRecursion}
 use Rattle.wh_types.specs.Ty.{Ty}
-use Rattle.wh_terms.specs.Tree.{Tm, tms_of}
-use Rattle.wh_terms.specs.Sight.{AllNoFree}
+use Rattle.wh_terms.specs.Tree.{Tm, Tms, tms_of}
+use Rattle.wh_terms.specs.Sight.{AllNoFree, OccursIn}
 use Rattle.wh_terms.specs.Pattern.{IsPatternUnder}
 use Rattle.wh_terms.specs.Typing.{Symbols, Declared, AllTyped}
 use Rattle.wh_terms.specs.Rules.{RewriteRule, AreWellMade}
@@ -64,6 +64,6 @@ pub record PairSides (S : Symbols) (M : List Declared) (cs ds : List Ty) (ls rs 
 abbrev pub IsGoodPairLine : Symbols → Symbols → (ℕ → Filter) → (ℕ → ℕ) → List Declared → ℕ → List Tm → ℕ → List Tm → Inference → Type 0
 IsGoodPairLine S F Φ prec M f ls g rs i = line_verdict F prec (collapsed M) (filtered_call S Φ M f ls) (filtered_call S Φ M g rs) i ≡ None
 
--- bodies for all meta-variables, typed as these are declared (ours)
-abbrev pub HasTypedBodies : Symbols → List Declared → (ℕ → Body) → Type 0
-HasTypedBodies S M b = (z : ℕ) (d : Declared) → slice_get M z ≡ Some d → FitsDeclared S [] [] d (b z)
+-- the bodies of the meta-variables that occur in the trees are typed as these are declared (ours)
+abbrev pub HasTypedBodies : Symbols → List Declared → (ℕ → Body) → Tms → Type 0
+HasTypedBodies S M b ts = (z : ℕ) (d : Declared) → OccursIn z ts → slice_get M z ≡ Some d → FitsDeclared S [] [] d (b z)

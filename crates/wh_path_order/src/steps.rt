@@ -1,6 +1,6 @@
 //! Steps of a system whose rules are oriented by filters and inferences, and its pairs.
 
-ghost use Rattle.std.specs.Prelude.{ℕ, ◌≢◌, List, []};
+ghost use Rattle.std.specs.Prelude.{ℕ, ◌≢◌, List, [], ◌++◌};
 ghost use Rattle.wh_types.specs.Ty.{Ty};
 ghost use Rattle.wh_terms.specs.Tree.{Tm, tms_of};
 ghost use Rattle.wh_terms.specs.Typing.{Symbols, Declared, Typed, AllTyped};
@@ -42,7 +42,7 @@ pub fn filtered_calls_end()
 pub fn good_pairs_are_filtered_steps()
     ensures { (S F : Symbols) (Φ : ℕ → Filter) (prec : ℕ → ℕ) (rules : List RewriteRule) (M : List Declared) (f g : ℕ) (cs ds : List Ty)
         (ls rs ts us : List Tm) (i : Inference) (b : ℕ → Body) → AreOriented S F Φ prec rules → FitsMark S F Φ f cs → FitsMark S F Φ g ds
-        → PairSides S M cs ds ls rs → IsGoodPairLine S F Φ prec M f ls g rs i → HasTypedBodies S M b → Values b (tms_of ls) (tms_of ts)
+        → PairSides S M cs ds ls rs → IsGoodPairLine S F Φ prec M f ls g rs i → HasTypedBodies S M b (tms_of (ls ++ rs)) → Values b (tms_of ls) (tms_of ts)
         → Values b (tms_of rs) (tms_of us)
         → Many (StepOver (OrderRoot F prec)) (filtered_call S Φ [] f ts) (filtered_call S Φ [] g us)
         × (letter_of i ≢ same_trees → Plus (StepOver (OrderRoot F prec)) (filtered_call S Φ [] f ts) (filtered_call S Φ [] g us)) }
