@@ -37,13 +37,14 @@ pub fn filtered_calls_end()
         → Ends (StepOver (OrderRoot F prec)) (filtered_call S Φ [] f ts) }
 {}
 
-/// Where the inference of a pair is good, an instance of its left side comes to that of its right side, behind filters; in
-/// one step or more where the inference is not that of equal trees.
+/// Where the inference of a pair is good, an instance of its left side comes to that of its right side, behind filters;
+/// in one step or more where the inference is not that of equal trees.
 pub fn good_pairs_are_filtered_steps()
     ensures { (S F : Symbols) (Φ : ℕ → Filter) (prec : ℕ → ℕ) (rules : List RewriteRule) (M : List Declared) (f g : ℕ) (cs ds : List Ty)
-        (ls rs ts us : List Tm) (i : Inference) (b : ℕ → Body) → AreOriented S F Φ prec rules → FitsMark S F Φ f cs → FitsMark S F Φ g ds
-        → PairSides S M cs ds ls rs → IsGoodPairLine S F Φ prec M f ls g rs i → HasTypedBodies S M b (tms_of (ls ++ rs)) → Values b (tms_of ls) (tms_of ts)
-        → Values b (tms_of rs) (tms_of us)
+        (ls rs ts us : List Tm) (i : Inference) (b : ℕ → Body) → AreOriented S F Φ prec rules → FitsMark S F Φ f cs
+        → FitsMark S F Φ g ds → PairSides S M cs ds ls rs → IsGoodPairLine S F Φ prec M f ls g rs i
+        → HasTypedBodies S M b (tms_of (ls ++ rs)) → Values b (tms_of ls) (tms_of ts) → Values b (tms_of rs) (tms_of us)
         → Many (StepOver (OrderRoot F prec)) (filtered_call S Φ [] f ts) (filtered_call S Φ [] g us)
-        × (letter_of i ≢ same_trees → Plus (StepOver (OrderRoot F prec)) (filtered_call S Φ [] f ts) (filtered_call S Φ [] g us)) }
+        × (letter_of i ≢ same_trees
+        → Plus (StepOver (OrderRoot F prec)) (filtered_call S Φ [] f ts) (filtered_call S Φ [] g us)) }
 {}
