@@ -1,15 +1,15 @@
 -- Sides of pairs and calls: marked symbols with arguments, extended and filtered.
-use Rattle.std.proofs.Common.{◌≡◌, ℕ, zero, suc, ◌⊎◌, inl, inr, List, [], ◌∷◌, ◌++◌, length, map, refl, ap, ap₂, ◌∙◌, sym, subst, Some, slice_get, append-nil}
+use Rattle.std.proofs.Common.{◌≡◌, ℕ, suc, inl, inr, List, [], ◌∷◌, ◌++◌, map, refl, ap, ap₂, ◌∙◌, sym, subst, Some, slice_get, append-nil}
 use Rattle.std.specs.List.{AllByRecursion}
 use Rattle.wh_types.specs.Ty.{Ty, sort, SortsBelow}
 use Rattle.wh_terms.specs.Tree.{Tm, fun, app, tms_of, spine}
 use Rattle.wh_terms.specs.Sight.{Occurs, OccursIn, NoFree}
 use Rattle.wh_terms.specs.Pattern.{IsPatternUnder}
-use Rattle.wh_terms.specs.Typing.{Symbols, Declared, Typed, AllTyped, typed_none, typed_more}
+use Rattle.wh_terms.specs.Typing.{Symbols, Declared, Typed, AllTyped, typed_more}
 use Rattle.wh_terms.specs.Value.{Body}
 use Rattle.wh_terms.specs.TypedBodies.{parameter_types, FitsDeclared, TypedBodies}
 use Rattle.wh_terms.specs.StepOver.{StepOver}
-use Rattle.wh_terms.proofs.ValueForm.{value, FitsBodies}
+use Rattle.wh_terms.proofs.ValueForm.{value}
 use Rattle.wh_terms.proofs.ValueTyping.{typed-value}
 use Rattle.wh_laws.specs.RootRelations.{KnowsSorts}
 use Rattle.wh_laws.proofs.Fundamental.{KnownTypes, known_more}
@@ -18,10 +18,10 @@ use Rattle.wh_extended.specs.Many.{Many}
 use Rattle.wh_extended.specs.Kinds.{KnowsMetas, KnowsArguments, AreCounted}
 use Rattle.wh_extended.specs.Long.{long}
 use Rattle.wh_extended.specs.ExtendedSides.{marked_number, extended_call}
-use Rattle.wh_extended.specs.Filtered.{filtered, sift, Full, Filters, FitsMark, collapse, collapsed}
+use Rattle.wh_extended.specs.Filtered.{filtered, sift, Full, Filters, FitsMark, collapsed}
 use Rattle.wh_extended.proofs.Expand.{IsRenamed}
 use Rattle.wh_extended.proofs.Acted.{typed_fits}
-use Rattle.wh_extended.proofs.LongTyped.{long_typed}
+use Rattle.wh_extended.proofs.LongTyped.{long_typed, long_occurs}
 use Rattle.wh_extended.proofs.LongFree.{no_free_long}
 use Rattle.wh_extended.proofs.Sides.{args_at, args_is, params, params_is, longed, value_long}
 use Rattle.wh_extended.proofs.Patterns.{pattern_long}
@@ -37,7 +37,7 @@ sift-spine Φ h [] qs = refl
 sift-spine Φ h (t ∷ ts) qs = sift-spine Φ (app h t) ts qs
 
 -- the filtered arguments of a call
-pub filtered_arguments : Symbols → (ℕ → Filter) → List Declared → List Tm → List Tm
+unfoldable pub filtered_arguments : Symbols → (ℕ → Filter) → List Declared → List Tm → List Tm
 filtered_arguments S Φ M ts = map (λ t. sift Φ (long S M [] t) []) ts
 
 pub call_is : (S : Symbols) (Φ : ℕ → Filter) (M : List Declared) (f : ℕ) (ts : List Tm)
@@ -116,50 +116,56 @@ module _ (S : Symbols) (known : KnowsSorts S) (M : List Declared) (metas : Knows
     unfolding longed
     longed_counted z d e = counted z d e
 
-    module _ (typed_bodies : (z : ℕ) (d : Declared) → slice_get M z ≡ Some d → FitsDeclared S [] [] d (b z)) where
-      bodies_of : (t : Tm) → TypedBodies S M [] [] h t
-      bodies_of t z d o e = longed_fits z d e (typed_bodies z d e)
+    -- the bodies are typed for the meta-variables that are known
+    module _ (Known : ℕ → Type 0) (typed_bodies : (z : ℕ) (d : Declared) → Known z → slice_get M z ≡ Some d → FitsDeclared S [] [] d (b z)) where
+      bodies_of : (t : Tm) → ((z : ℕ) → Occurs z t → Known z) → TypedBodies S M [] [] h (long S M [] t)
+      bodies_of t k z d o e = longed_fits z d e (typed_bodies z d (k z (long_occurs S M z [] t o)) e)
 
-      full_of : {t : Tm} {c : Ty} → Typed S M [] t c → (z : ℕ) → Occurs z t → Full S 0 (h z).tree
-      full_of p z o = let f = fitted h z p (typed_fits h longed_counted p) o in longed_is_full z f.declared f.at (typed_bodies z f.declared f.at)
+      full_of : (t : Tm) (c : Ty) → Typed S M [] t c → ((z : ℕ) → Occurs z t → Known z) → (z : ℕ) → Occurs z (long S M [] t) → Full S 0 (h z).tree
+      full_of t c p k z o =
+          let q = extended_argument t c p in
+          let f = fitted h z q (typed_fits h longed_counted q) o in
+          longed_is_full z f.declared f.at (typed_bodies z f.declared (k z (long_occurs S M z [] t o)) f.at)
 
       -- the filtered argument's value is the filtered tree of the extended argument's value
-      argument_value : (t : Tm) (c : Ty) → Typed S M [] t c → value (sifted Φ h) (sift Φ (long S M [] t) []) ≡ sift Φ (value h (long S M [] t)) []
-      argument_value t c p =
-          sift-value S Φ h (full_of (extended_argument t c p)) (bodies_of (long S M [] t)) (extended_argument t c p) 0 (full_long S p) [] (inl refl)
+      argument_value : (t : Tm) (c : Ty) → Typed S M [] t c → ((z : ℕ) → Occurs z t → Known z) → value (sifted Φ h) (sift Φ (long S M [] t) []) ≡ sift Φ (value h (long S M [] t)) []
+      argument_value t c p k =
+          sift-value S Φ h (full_of t c p k) (bodies_of t k) (extended_argument t c p) 0 (full_long S p) [] (inl refl)
 
       -- for patterns it is the filtered tree of the extended value
-      pattern_value : (t : Tm) (c : Ty) → IsPatternUnder 0 t → Typed S M [] t c → value h (long S M [] t) ≡ long S [] [] (value b t)
-      pattern_value t c k p = pattern_long S M 0 b t k p (λ z d o e. typed_bodies z d e) (typed_fits b counted p)
+      pattern_value : (t : Tm) (c : Ty) → IsPatternUnder 0 t → Typed S M [] t c → ((z : ℕ) → Occurs z t → Known z) → value h (long S M [] t) ≡ long S [] [] (value b t)
+      pattern_value t c q p k = pattern_long S M 0 b t q p (λ z d o e. typed_bodies z d (k z o) e) (typed_fits b counted p)
 
       -- the extended argument's value is typed and full, and comes to the extended value
-      pub value_typed : (t : Tm) (c : Ty) → Typed S M [] t c → Typed S [] [] (value h (long S M [] t)) c
-      value_typed t c p = typed-value h (extended_argument t c p) (bodies_of (long S M [] t))
+      pub value_typed : (t : Tm) (c : Ty) → Typed S M [] t c → ((z : ℕ) → Occurs z t → Known z) → Typed S [] [] (value h (long S M [] t)) c
+      value_typed t c p k = typed-value h (extended_argument t c p) (bodies_of t k)
 
-      pub value_full : (t : Tm) (c : Ty) → Typed S M [] t c → Full S 0 (value h (long S M [] t))
-      value_full t c p = full_value S h (full_of (extended_argument t c p)) (bodies_of (long S M [] t)) (extended_argument t c p) 0 (inl refl) (full_long S p)
+      pub value_full : (t : Tm) (c : Ty) → Typed S M [] t c → ((z : ℕ) → Occurs z t → Known z) → Full S 0 (value h (long S M [] t))
+      value_full t c p k = full_value S h (full_of t c p k) (bodies_of t k) (extended_argument t c p) 0 (inl refl) (full_long S p)
 
-      pub value_comes : (R : Tm → Tm → Type 0) → IsRenamed R → (t : Tm) (c : Ty) → Typed S M [] t c → Many (StepOver R) (value h (long S M [] t)) (long S [] [] (value b t))
-      value_comes R kept t c p = value_long S M R kept b p (λ z d o e. typed_bodies z d e) (typed_fits b counted p)
+      pub value_comes : (R : Tm → Tm → Type 0) → IsRenamed R → (t : Tm) (c : Ty) → Typed S M [] t c → ((z : ℕ) → Occurs z t → Known z) → Many (StepOver R) (value h (long S M [] t)) (long S [] [] (value b t))
+      value_comes R kept t c p k = value_long S M R kept b p (λ z d o e. typed_bodies z d (k z o) e) (typed_fits b counted p)
 
       -- the values of filtered arguments
-      pub arguments_value : (ts : List Tm) (cs : List Ty) → AllTyped S M [] (tms_of ts) cs → map (value (sifted Φ h)) (filtered_arguments S Φ M ts) ≡ map (λ t. sift Φ (value h (long S M [] t)) []) ts
+      pub arguments_value : (ts : List Tm) (cs : List Ty) → AllTyped S M [] (tms_of ts) cs → ((z : ℕ) → OccursIn z (tms_of ts) → Known z)
+          → map (value (sifted Φ h)) (filtered_arguments S Φ M ts) ≡ map (λ t. sift Φ (value h (long S M [] t)) []) ts
       unfolding filtered_arguments
-      arguments_value [] cs p = refl
-      arguments_value (t ∷ ts) [] p = elim p [ ]
-      arguments_value (t ∷ ts) (c ∷ cs) (typed_more p ps) = ap₂ (λ q qs. q ∷ qs) (argument_value t c p) (arguments_value ts cs ps)
+      arguments_value [] cs p k = refl
+      arguments_value (t ∷ ts) [] p k = elim p [ ]
+      arguments_value (t ∷ ts) (c ∷ cs) (typed_more p ps) k = ap₂ (λ q qs. q ∷ qs) (argument_value t c p (λ z o. k z (inl o))) (arguments_value ts cs ps (λ z o. k z (inr o)))
 
-      pub patterns_value : (ts : List Tm) (cs : List Ty) → AllByRecursion (IsPatternUnder 0) ts → AllTyped S M [] (tms_of ts) cs
+      pub patterns_value : (ts : List Tm) (cs : List Ty) → AllByRecursion (IsPatternUnder 0) ts → AllTyped S M [] (tms_of ts) cs → ((z : ℕ) → OccursIn z (tms_of ts) → Known z)
           → map (λ t. sift Φ (value h (long S M [] t)) []) ts ≡ filtered_arguments S Φ [] (map (value b) ts)
       unfolding filtered_arguments
-      patterns_value [] cs k p = refl
-      patterns_value (t ∷ ts) [] k p = elim p [ ]
-      patterns_value (t ∷ ts) (c ∷ cs) k (typed_more p ps) = ap₂ (λ q qs. q ∷ qs) (ap (λ v. sift Φ v []) (pattern_value t c k.0 p)) (patterns_value ts cs k.1 ps)
+      patterns_value [] cs q p k = refl
+      patterns_value (t ∷ ts) [] q p k = elim p [ ]
+      patterns_value (t ∷ ts) (c ∷ cs) q (typed_more p ps) k =
+          ap₂ (λ q qs. q ∷ qs) (ap (λ v. sift Φ v []) (pattern_value t c q.0 p (λ z o. k z (inl o)))) (patterns_value ts cs q.1 ps (λ z o. k z (inr o)))
 
       -- a filtered call's value, by those of its arguments
-      pub call_value : (f : ℕ) (ts : List Tm) (cs : List Ty) → AllTyped S M [] (tms_of ts) cs
+      pub call_value : (f : ℕ) (ts : List Tm) (cs : List Ty) → AllTyped S M [] (tms_of ts) cs → ((z : ℕ) → OccursIn z (tms_of ts) → Known z)
           → value (sifted Φ h) (sift Φ (extended_call S M f ts) []) ≡ filtered (Φ (marked_number S f)) (marked_number S f) (map (λ t. sift Φ (value h (long S M [] t)) []) ts)
-      call_value f ts cs p =
+      call_value f ts cs p k =
           ap (value (sifted Φ h)) (call_is S Φ M f ts)
           ∙ filtered-value (sifted Φ h) (Φ (marked_number S f)) (marked_number S f) (filtered_arguments S Φ M ts)
-          ∙ ap (filtered (Φ (marked_number S f)) (marked_number S f)) (arguments_value ts cs p)
+          ∙ ap (filtered (Φ (marked_number S f)) (marked_number S f)) (arguments_value ts cs p k)

@@ -105,7 +105,7 @@ mutual
   fitted g z (typed_app p q) f (inl o) = fitted g z p f.0 o
   fitted g z (typed_app p q) f (inr o) = fitted g z q f.1 o
 
-  all_fitted : {S : Symbols} {M : List Declared} {Γ : List Ty} {ts : Tms} {cs : List Ty} (g : ℕ → Body) (z : ℕ) → AllTyped S M Γ ts cs → AllFitBodies g ts → OccursIn z ts → Fitted M g z
+  pub all_fitted : {S : Symbols} {M : List Declared} {Γ : List Ty} {ts : Tms} {cs : List Ty} (g : ℕ → Body) (z : ℕ) → AllTyped S M Γ ts cs → AllFitBodies g ts → OccursIn z ts → Fitted M g z
   all_fitted g z typed_none f o = absurd o
   all_fitted g z (typed_more p ps) f (inl o) = fitted g z p f.0 o
   all_fitted g z (typed_more p ps) f (inr o) = all_fitted g z ps f.1 o

@@ -9,7 +9,7 @@ use Rattle.wh_laws.specs.Ends.{Ends}
 use Rattle.wh_laws.specs.RootRelations.{KnowsSorts}
 use Rattle.wh_laws.specs.Computable.{Computable, ComputableList}
 use Rattle.wh_laws.proofs.SystemComputable.{computable-typed, known_type}
-use Rattle.wh_path_order.specs.OrderRoot.{HasOneSort}
+use Rattle.wh_extended.specs.Filtered.{HasOneSort}
 use Rattle.wh_path_order.specs.Heads.{nearest, abstracted}
 use Rattle.wh_path_order.proofs.OrderSteps.{inst, Root}
 use Rattle.wh_extended.specs.Kinds.{arrows}

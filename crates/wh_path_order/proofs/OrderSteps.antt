@@ -2,21 +2,20 @@
 use Rattle.std.proofs.Common.{◌≡◌, ◌≢◌, ℕ, zero, suc, ◌<◌, inl, inr, List, [], ◌∷◌, map, refl, ap, ◌∙◌, sym, eqb, eq-eqb, ne_eqb, true, false, Bool, arith, if◌then◌else◌}
 use mathlib.Core.Path.{subst₂}
 use Rattle.wh_types.specs.Ty.{Ty}
-use Rattle.wh_terms.specs.Tree.{Tm, bound, free, lam, app, Tms, spine}
+use Rattle.wh_terms.specs.Tree.{Tm, bound, free, lam, app, spine}
 use Rattle.wh_terms.specs.Substitution.{up, up_free, act, cons, opened}
 use Rattle.wh_terms.specs.Sight.{LooseBelow, Fresh, IsTerm}
-use Rattle.wh_terms.specs.Typing.{Symbols, Declared, Typed, typed_bound, typed_free, typed_fun, typed_meta, typed_lam, typed_app, AllTyped, typed_none, typed_more}
+use Rattle.wh_terms.specs.Typing.{Symbols, Declared, Typed, typed_lam}
 use Rattle.wh_terms.specs.Value.{Body, Value}
 use Rattle.wh_terms.specs.StepOver.{StepOver, over_root, over_function, over_argument, over_body, AreFreeTerms}
 use Rattle.wh_terms.proofs.ActLaws.{act-opened-cons, opened-act}
 use Rattle.wh_terms.proofs.SightLaws.{act_loose, act_fresh}
 use Rattle.wh_terms.proofs.TermLaws.{term-rename}
 use Rattle.wh_terms.proofs.TypingLaws.{typed_loose}
-use Rattle.wh_terms.proofs.ValueForm.{shifted, value, FitsBodies, AllFitBodies}
+use Rattle.wh_terms.proofs.ValueForm.{shifted, value, FitsBodies}
 use Rattle.wh_extended.proofs.Acted.{typed_fits}
 use Rattle.wh_path_order.specs.OrderRoot.{OrderRoot}
 use Rattle.wh_terms.proofs.ValueLaws.{value_is, has_value, fits-act, opened-value}
-use Rattle.wh_terms.proofs.ValueTyping.{typed_count}
 use Rattle.wh_inference.specs.Inferences.{same_trees, Inference, Inferences, letter_of}
 use Rattle.wh_path_order.specs.Heads.{SomeStrict}
 use Rattle.wh_path_order.specs.Order.{AtLeast, at_least_same, at_least_greater, AllAtLeast, none_at_least, more_at_least, Greater, by_bodies, by_arguments, by_above}
@@ -149,7 +148,7 @@ module _ (F : Symbols) (prec : ℕ → ℕ) where
         plus_before (plus_map (λ u. spine (app h u) (map (inst g φ) ss)) (λ t u s. over_spine (map (inst g φ) ss) (over_argument s)) (strict_steps p n g φ c w))
         (all_steps r (app h (inst g φ t)) g φ c w)
 
-    strict_steps : {M : List Declared} {s t : Tm} {i : Inference} → AtLeast F prec M s t i → letter_of i ≢ same_trees → (g : ℕ → Body) (φ : ℕ → Ty → Tm) → AreCounted M g → AreFreeTerms φ
+    pub strict_steps : {M : List Declared} {s t : Tm} {i : Inference} → AtLeast F prec M s t i → letter_of i ≢ same_trees → (g : ℕ → Body) (φ : ℕ → Ty → Tm) → AreCounted M g → AreFreeTerms φ
         → Plus (StepOver Root) (inst g φ s) (inst g φ t)
     strict_steps (at_least_same e) n g φ c w = absurd (n refl)
     strict_steps (at_least_greater p) n g φ c w = greater_steps p g φ c w

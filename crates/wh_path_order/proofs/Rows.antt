@@ -63,6 +63,18 @@ row_map_rule : line_verdict (filtered_symbols (map_filters 2) map_arguments) (pr
 unfolding sift sifts core cores expand
 row_map_rule = refl
 
+-- map F nil => nil, by s2(=)
+abbrev nil_rule : RewriteRule
+nil_rule = record {
+  metas = record { args = sort 0 ∷ []; out = sort 0 } ∷ [];
+  left = app (app (fun 4) (lam (sort 0) (meta 0 (more (bound 0) none)))) (fun 2);
+  right = fun 2;
+}
+
+row_nil_rule : line_verdict (filtered_symbols (map_filters 2) map_arguments) (precedences (map_filters 2)) (collapsed (extended_metas map_symbols nil_rule)) (sift (map_filters 2) (extended_side map_symbols nil_rule nil_rule.left) []) (sift (map_filters 2) (extended_side map_symbols nil_rule nil_rule.right) []) (part_of 2 eq) ≡ None
+unfolding sift sifts core cores expand
+row_nil_rule = refl
+
 -- with the precedence of cons the line is bad from its first letter on
 row_map_low : line_verdict (filtered_symbols (map_filters 1) map_arguments) (precedences (map_filters 1)) (collapsed (extended_metas map_symbols map_rule)) (map_left 1) (map_right 1) map_line ≡ Some 0
 unfolding sift sifts core cores expand

@@ -5,13 +5,12 @@ use Rattle.wh_terms.specs.Tree.{Tm, bound, free, fun, meta, lam, app, Tms, none,
 use Rattle.wh_terms.specs.Substitution.{rename, up, up_free, act, acts, cons, opened}
 use Rattle.wh_terms.specs.Typing.{Symbols, Declared, Typed, typed_bound, typed_free, typed_fun, typed_meta, typed_lam, typed_app, AllTyped, typed_more}
 use Rattle.wh_terms.proofs.TypingLaws.{typed-opened_free}
-use Rattle.wh_extended.specs.Filtered.{FullWith, AllFull, symbol_arity, Full}
+use Rattle.wh_extended.specs.Filtered.{FullWith, AllFull, symbol_arity, Full, HasOneSort}
 use Rattle.wh_extended.proofs.Sifting.{IsFlexible}
 use Rattle.wh_extended.proofs.SiftSteps.{flexible_or_left, full_any}
 use Rattle.wh_extended.proofs.Fullness.{full_rename}
 use Rattle.wh_path_order.specs.Heads.{arguments_of, list_of}
 use Rattle.wh_path_order.specs.Verdict.{is_other_head}
-use Rattle.wh_path_order.specs.OrderRoot.{HasOneSort}
 use Rattle.wh_path_order.proofs.FreeNumbers.{EachFree, AllEachFree, each_opened, each_more}
 
 full_up : (arity : ℕ → ℕ) (σ : ℕ → Tm) → ((n i : ℕ) → FullWith arity n (σ i)) → (n i : ℕ) → FullWith arity n (up σ i)

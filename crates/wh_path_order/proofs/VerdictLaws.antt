@@ -10,13 +10,12 @@ use Rattle.wh_terms.specs.Sight.{NoFree}
 use Rattle.wh_terms.specs.Typing.{Symbols, Declared, Typed}
 use Rattle.wh_laws.proofs.Listed.{In, in_contains, contains_in}
 use Rattle.wh_inference.specs.Inferences.{Letter, same_trees, bodies, arguments, part, lower, first_less, spine_parts, body, variable, meta_part, Inference, infer, Inferences, no_parts, more_parts, letter_of}
-use Rattle.wh_extended.specs.Filtered.{Full}
+use Rattle.wh_extended.specs.Filtered.{Full, HasOneSort}
 use Rattle.wh_extended.proofs.LongLaws.{kind_is}
 use Rattle.wh_path_order.specs.Heads.{IsOtherHead, arguments_of, list_of, nearest, abstracted, SomeStrict}
 use Rattle.wh_path_order.specs.SameTrees.{all_same}
 use Rattle.wh_path_order.specs.Order.{Variable, NoneNumbered, OneType, AtLeast, at_least_same, at_least_greater, AllAtLeast, none_at_least, more_at_least, Greater, by_bodies, by_arguments, by_above, Above, by_part, by_lower, by_first_less, by_spine, by_body, by_variable, by_meta, AllAbove, none_above, more_above}
 use Rattle.wh_path_order.specs.Verdict.{at_least, greater, above, Task, some_strict, each, pairwise, is_other_head, is_abstracted, typed_tasks, verdict, verdicts, line_verdict}
-use Rattle.wh_path_order.specs.OrderRoot.{HasOneSort}
 use Rattle.wh_path_order.proofs.SameTreeLaws.{some_none, both, trees_equal}
 use Rattle.wh_path_order.proofs.FreeNumbers.{EachFree, each_fresh, no_free_each}
 use Rattle.wh_path_order.proofs.SideLaws.{Side, Sides, side_at, side_arguments, side_head, side_metas, side_opened, side_more, symbol_sort}

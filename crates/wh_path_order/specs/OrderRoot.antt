@@ -1,6 +1,6 @@
 -- The path order as a relation at the root of steps: instances of an inference at a symbol.
-use Rattle.std.specs.Prelude.{ℕ, ◌≡◌, List, [], length, Some, slice_get}
-use Rattle.wh_types.specs.Ty.{Ty, sort, result_sort}
+use Rattle.std.specs.Prelude.{ℕ, ◌≡◌, List, []}
+use Rattle.wh_types.specs.Ty.{Ty, sort}
 use Rattle.wh_terms.specs.Tree.{Tm, bound, fun, spine}
 use Rattle.wh_terms.specs.Substitution.{act}
 use Rattle.wh_terms.specs.Typing.{Symbols, Declared, Typed}
@@ -30,7 +30,3 @@ pub record OrderRoot (F : Symbols) (prec : ℕ → ℕ) (U V : Tm) : Type 0 wher
   pub above : Above F prec metas left [] right inference
   pub is_left : Value bodies (act bound frees left) U
   pub is_right : Value bodies (act bound frees right) V
-
--- the result of each symbol's type is the sort 0
-abbrev pub HasOneSort : Symbols → Type 0
-HasOneSort F = (f : ℕ) (a : Ty) → slice_get F.funs f ≡ Some a → result_sort a ≡ 0

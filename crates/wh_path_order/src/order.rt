@@ -13,7 +13,8 @@ ghost use Rattle.wh_inference.specs.Inferences.{Inference};
 ghost use Rattle.wh_extended.specs.Kinds.{AreCounted};
 ghost use Rattle.wh_extended.specs.Many.{Many, Plus};
 ghost use Rattle.wh_path_order.specs.Order.{AtLeast, Greater};
-ghost use Rattle.wh_path_order.specs.OrderRoot.{OrderRoot, HasOneSort};
+ghost use Rattle.wh_extended.specs.Filtered.{HasOneSort};
+ghost use Rattle.wh_path_order.specs.OrderRoot.{OrderRoot};
 
 /// Each well-typed term over one sort ends by steps of the path order and of beta.
 pub fn path_order_ends()

@@ -6,10 +6,9 @@ ghost use Rattle.wh_terms.specs.Tree.{Tm};
 ghost use Rattle.wh_terms.specs.Sight.{NoFree};
 ghost use Rattle.wh_terms.specs.Typing.{Symbols, Declared, Typed};
 ghost use Rattle.wh_inference.specs.Inferences.{Inference};
-ghost use Rattle.wh_extended.specs.Filtered.{Full};
+ghost use Rattle.wh_extended.specs.Filtered.{Full, HasOneSort};
 ghost use Rattle.wh_path_order.specs.Order.{AtLeast};
 ghost use Rattle.wh_path_order.specs.Verdict.{line_verdict};
-ghost use Rattle.wh_path_order.specs.OrderRoot.{HasOneSort};
 
 /// Where no inference of a line is bad, the left side is at least the right one. Both sides are well typed and without
 /// free variables, and each symbol in them has all its arguments.
