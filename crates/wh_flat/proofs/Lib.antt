@@ -7,3 +7,6 @@ pub mod Covered
 pub mod ReadLemmas
 pub mod Sides
 pub mod Law
+pub mod TypeReads
+pub mod RoomLemmas
+pub mod Decided
