@@ -3,6 +3,7 @@
 
 mod assignment;
 mod clause;
+mod entry;
 mod formula;
 mod literal;
 mod look;
@@ -10,6 +11,7 @@ mod trail;
 mod watch;
 
 pub use clause::{Clause, Clauses};
+pub use entry::{Entry, Refutation};
 pub use formula::Formula;
 pub use literal::Literal;
 pub use trail::Trail;

@@ -1,0 +1,5 @@
+pub mod Members
+pub mod Marking
+pub mod Scanning
+pub mod Following
+pub mod RefuteLaws

@@ -1,0 +1,4 @@
+pub mod Refuting
+pub mod RefuteFaults
+pub mod Laws
+pub mod Told

@@ -1,0 +1,13 @@
+//! The laws of lists that refute a formula.
+
+ghost use Rattle.wh_refute.specs.Laws.{RefutationsHaveNoFault, RefutationsRefute};
+
+/// A formula with a list that refutes it has no model.
+pub fn refutations_refute()
+    ensures { RefutationsRefute }
+{}
+
+/// Such a list has no fault.
+pub fn refutations_have_no_fault()
+    ensures { RefutationsHaveNoFault }
+{}

@@ -1,0 +1,61 @@
+//! What a clause gives where some literals are true.
+
+ghost use Rattle.std.specs.Prelude.{◌≡◌, ◌<◌, ℕ, List, not};
+ghost use Rattle.wh_sat_trail.specs.Assignment.{AllBelow, negated};
+ghost use Rattle.wh_sat_trail.specs.declared.literal.Literal.{Literal};
+ghost use Rattle.wh_refute.specs.Told.{IsLook, Tells};
+
+use crate::truth::Truth;
+use wh_sat_trail::Literal;
+
+/// What a clause gives.
+pub enum Look {
+    /// All its literals are false.
+    False,
+    /// All but this one, which is not true yet.
+    Leaves(Literal),
+    /// Two are not false, or one alone, which is true already.
+    Stuck,
+}
+
+/// The negation.
+pub fn negation(literal: Literal) -> Literal
+    ensures { result ≡ negated literal }
+{
+    Literal {
+        variable: literal.variable,
+        positive: !literal.positive,
+    }
+}
+
+/// What the clause gives.
+pub fn look_at(truth: &Truth, clause: &[Literal], variables: u32) -> Look
+    requires below { AllBelow variables clause.now }
+    requires tells { (t : List Literal) × Tells variables truth.now t }
+    ensures { (t : List Literal) → Tells variables truth.now t → IsLook t clause.now result }
+{
+    let mut left = None;
+    for literal in clause {
+        if truth.holds(negation(*literal)) {
+            continue;
+        }
+        match left {
+            None => left = Some(*literal),
+            Some(other) => {
+                if other != *literal {
+                    return Look::Stuck;
+                }
+            }
+        }
+    }
+    match left {
+        None => Look::False,
+        Some(literal) => {
+            if truth.holds(literal) {
+                Look::Stuck
+            } else {
+                Look::Leaves(literal)
+            }
+        }
+    }
+}
