@@ -6,7 +6,8 @@
 --     parts     = "(" [ inference { "," inference } ] ")"
 --     number    = "0" | nonzero { digit }
 --
--- How deep inferences nest, and how great a number is, stands in InferenceLimits. `put_.. r` is the spelling with r behind it.
+-- How deep inferences nest, and how great a number is, stands in InferenceLimits. `put_.. r` is the spelling with r
+-- behind it.
 use Rattle.std.specs.Prelude.{ℕ, List, [], ◌∷◌, ◌++◌, codes}
 use Rattle.std.specs.Fmt.{decimal}
 use Rattle.wh_inference.specs.Inferences.{Letter, same_trees, bodies, arguments, part, lower, first_less, spine_parts, body, variable, meta_part, Inference, infer, Inferences, no_parts, more_parts}

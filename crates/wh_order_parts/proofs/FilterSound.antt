@@ -1,13 +1,13 @@
 -- What the reader of filters has read is spelled, and is within the limits.
-use Rattle.std.proofs.Common.{◌≡◌, ℕ, ◌+◌, ◌-◌, ◌*◌, ◌<◌, ◌≤◌, Bool, true, cond, ◌==◌, All, List, [], ◌∷◌, ◌++◌, codes, refl, sym, ap, ◌∙◌, subst}
+use Rattle.std.proofs.Common.{◌≡◌, ℕ, ◌+◌, ◌-◌, ◌*◌, ◌≤◌, Bool, true, cond, ◌==◌, All, List, [], ◌∷◌, ◌++◌, codes, refl, sym, ap, ◌∙◌, subst}
 use Rattle.std.proofs.lemmas.Bool.{eqb-true, cond_both}
 use Rattle.std.proofs.lemmas.List.Elements.{All-append, All-cons, All-nil}
 use Rattle.std.specs.Fmt.{decimal}
 use Rattle.wh_text.specs.Chars.{is_digit}
 use Rattle.wh_letters.specs.Digits.{goes_on}
 use Rattle.wh_letters.proofs.NamesAndNumbers.{goes_on_true, first_digit_spelled, first_digit_small, next_digit_spelled}
-use Rattle.wh_inference.specs.FilterText.{WrittenFilter, keeps, picks, put_places, put_filter, FilterFits}
-use Rattle.wh_order_parts.specs.FilterMachine.{Word, keep_word, pick_word, Place, wanted, word, prec_wanted, prec, place_wanted, place, pick_wanted, picked, Step, goes, ended, nowhere, spelling, behind_word, word_on, behind_number, step, Scan, reading, read, failed, scan, start}
+use Rattle.wh_inference.specs.FilterText.{keeps, put_places, put_filter, FilterFits}
+use Rattle.wh_order_parts.specs.FilterMachine.{Word, keep_word, pick_word, Place, wanted, word, prec_wanted, prec, place_wanted, place, pick_wanted, picked, Step, goes, ended, nowhere, spelling, word_on, behind_number, step, Scan, reading, read, failed, scan}
 
 abbrev Small : ℕ → Type 0
 Small n = n ≤ 65535

@@ -1,15 +1,14 @@
 -- A text of a filter is read; where bytes lead the reader of filters; and what follows of the texts of filters.
-use Rattle.std.proofs.Common.{◌≡◌, ℕ, ◌+◌, ◌-◌, ◌*◌, ◌<◌, ◌≤◌, true, cond, ◌==◌, All, List, [], ◌∷◌, ◌++◌, codes, refl, sym, ap, ◌∙◌, subst, arith, append_assoc, append-nil}
+use Rattle.std.proofs.Common.{◌≡◌, ℕ, ◌+◌, ◌-◌, ◌*◌, ◌<◌, ◌≤◌, cond, ◌==◌, All, List, [], ◌∷◌, ◌++◌, codes, refl, sym, ap, ◌∙◌, subst, arith, append_assoc, append-nil}
 use Rattle.std.proofs.lemmas.Bool.{eq-eqb, cond-true}
 use Rattle.std.proofs.lemmas.List.Elements.{All-head, All-tail}
-use Rattle.std.specs.Fmt.{decimal}
 use Rattle.wh_text.specs.Chars.{is_digit}
 use Rattle.wh_letters.specs.Digits.{goes_on}
 use Rattle.wh_letters.proofs.NamesAndNumbers.{ReadsNumbers, number_run, is_digit_48, goes_on_48}
 use Rattle.wh_inference.specs.FilterText.{WrittenFilter, keeps, picks, put_places, put_filter, FilterFits}
-use Rattle.wh_order_parts.specs.FilterMachine.{Word, keep_word, pick_word, Place, wanted, word, prec_wanted, prec, place_wanted, place, pick_wanted, picked, Step, goes, ended, nowhere, behind_word, word_on, behind_number, step, Scan, reading, read, failed, scan, start}
-use Rattle.wh_order_parts.specs.FiltersRead.{BeginsFilter, Led}
-use Rattle.wh_order_parts.proofs.FilterSound.{Good, Next, Reached, reached}
+use Rattle.wh_order_parts.specs.FilterMachine.{Word, keep_word, pick_word, Place, wanted, word, prec_wanted, prec, place_wanted, place, pick_wanted, picked, Step, goes, ended, nowhere, behind_word, behind_number, step, Scan, reading, read, failed, scan, start}
+use Rattle.wh_order_parts.specs.FiltersRead.{Led}
+use Rattle.wh_order_parts.proofs.FilterSound.{Good, Reached, reached}
 
 -- numbers
 

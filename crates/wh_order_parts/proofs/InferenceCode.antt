@@ -1,7 +1,7 @@
 -- What inferences that are put together stand for, and the stack of their reader, as its code keeps it.
-use Rattle.std.proofs.Common.{◌≡◌, ℕ, suc, ◌+◌, ◌<◌, false, ◌==◌, List, [], ◌∷◌, ◌++◌, length, Option, Some, None, MatchOption, IsSome, ◌↔◌, refl, sym, ap, ap₂, ◌∙◌, arith}
+use Rattle.std.proofs.Common.{◌≡◌, ℕ, ◌+◌, ◌<◌, false, List, [], ◌∷◌, ◌++◌, length, Option, Some, None, MatchOption, IsSome, ◌↔◌, refl, ap, ◌∙◌, arith}
 use Rattle.std.specs.Option.{option_to_list}
-use Rattle.std.proofs.lemmas.Bool.{false≢true, cond-false}
+use Rattle.std.proofs.lemmas.Bool.{false≢true}
 use mathlib.Core.Former.{Count}
 use Rattle.wh_inference.specs.Inferences.{infer, Inferences, more_parts}
 use Rattle.wh_inference.specs.Said.{letter, inference, inferences, parts_row}

@@ -1,15 +1,15 @@
 -- Where bytes lead the reader of inferences, and what follows of the texts of inferences.
-use Rattle.std.proofs.Common.{◌≡◌, ℕ, suc, ◌+◌, ◌-◌, ◌<◌, ◌≤◌, List, [], ◌∷◌, ◌++◌, length, refl, sym, ap, ◌∙◌, arith, append_assoc}
+use Rattle.std.proofs.Common.{◌≡◌, ℕ, suc, ◌+◌, ◌-◌, ◌≤◌, List, [], ◌∷◌, ◌++◌, length, refl, sym, ap, ◌∙◌, arith, append_assoc}
 use Rattle.std.proofs.lemmas.List.{length-append}
 use Rattle.std.proofs.Math.Nat.{max-le}
 use Rattle.std.specs.Fmt.{decimal}
 use Rattle.wh_inference.specs.Inferences.{Inference, infer, Inferences, no_parts, more_parts, entries, all_entries}
 use Rattle.wh_inference.specs.InferenceText.{Form, alone, with_parts, with_place, form, sign, put_place, put_listed, put_inference, put_parts, put_more, of_inference}
 use Rattle.wh_inference.specs.InferenceLimits.{FormFits, InferenceFits, PartsFit, depth, deepest}
-use Rattle.wh_order_parts.specs.InferenceMachine.{Stack, outside, Place, wanted, Step, goes, ended, nowhere, step, Scan, reading, read, failed, scan, start}
-use Rattle.wh_order_parts.specs.InferencesRead.{BeginsInference, Led}
+use Rattle.wh_order_parts.specs.InferenceMachine.{Stack, outside, Place, Step, goes, ended, nowhere, step, Scan, reading, read, failed, scan, start}
+use Rattle.wh_order_parts.specs.InferencesRead.{Led}
 use Rattle.wh_order_parts.proofs.InferenceSound.{Next, sound}
-use Rattle.wh_order_parts.proofs.InferenceRuns.{inference_run, Ends, place_ends}
+use Rattle.wh_order_parts.proofs.InferenceRuns.{inference_run, place_ends}
 
 -- bytes lead on from where those before led
 

@@ -1,13 +1,13 @@
 -- What the printers of inferences and filters append, one after another.
-use Rattle.std.proofs.Common.{◌≡◌, ℕ, ◌+◌, ◌<◌, ◌≤◌, List, [], ◌∷◌, ◌++◌, length, get_or, drop, Bool, true, false, IsTrue, ◌↔◌, ◌==◌, codes, subst, refl, sym, ap, ◌∙◌, arith, append_assoc}
+use Rattle.std.proofs.Common.{◌≡◌, ℕ, ◌+◌, ◌<◌, ◌≤◌, List, [], ◌∷◌, ◌++◌, length, get_or, drop, Bool, true, false, IsTrue, ◌↔◌, ◌==◌, codes, subst, refl, sym, ap, ◌∙◌, arith}
 use Rattle.std.proofs.lemmas.Bool.{true≢false, eqb-true}
 use Rattle.std.proofs.lemmas.List.{drop_more, drop_all}
 use Rattle.std.specs.Fmt.{decimal}
 use Rattle.wh_text.specs.Pushes.{Pushes}
 use Rattle.wh_text.proofs.PrintLemmas.{push_bytes, push_byte, push_then, push_same, Leaves}
 use Rattle.wh_inference.specs.Inferences as m
-use Rattle.wh_inference.specs.InferenceText.{Form, alone, with_parts, with_place, form, sign, put_place, put_listed, put_list, put_inference, put_parts, put_more}
-use Rattle.wh_inference.specs.FilterText.{WrittenFilter, keeps, picks, put_filter, put_places}
+use Rattle.wh_inference.specs.InferenceText.{Form, alone, with_parts, with_place, form, sign, put_place, put_list, put_inference, put_parts, put_more}
+use Rattle.wh_inference.specs.FilterText.{keeps, picks, put_filter, put_places}
 use Rattle.wh_inference.specs.Said.{letter, inference, inferences}
 use Rattle.wh_inference.specs.declared.inference.Inference.{Inference, Inference', out-Inference, outs-Inference', items_shown-the_row-Inference-0}
 use Rattle.wh_order_parts.specs.SignedParts.{put_each}

@@ -1,5 +1,5 @@
--- A reader of argument filters, byte by byte, as a function: where it stands, and where the next byte leads. It mirrors the code;
--- the laws tie it to the text.
+-- A reader of argument filters, byte by byte, as a function: where it stands, and where the next byte leads. It mirrors
+-- the code; the laws tie it to the text.
 use Rattle.std.specs.Prelude.{ℕ, ◌+◌, ◌-◌, ◌*◌, ◌==◌, cond, List, [], ◌∷◌, ◌++◌, codes}
 use Rattle.wh_text.specs.Chars.{space, is_digit}
 use Rattle.wh_letters.specs.Digits.{goes_on}
@@ -9,8 +9,8 @@ use Rattle.wh_inference.specs.FilterText.{WrittenFilter, keeps, picks}
 pub data Word : Type 0 where
   keep_word pick_word : Word
 
--- what was read: nothing; a word but for its last bytes; `keep `; this and digits; this, the places that have ended, and a space;
--- this and digits; `pick `; this and digits
+-- what was read: nothing; a word but for its last bytes; `keep `; this and digits; this, the places that have ended,
+-- and a space; this and digits; `pick `; this and digits
 pub data Place : Type 0 where
   wanted : Place
   word : (left : List ℕ) (w : Word) → Place

@@ -1,5 +1,5 @@
--- A reader of inferences, byte by byte, as a function: where it stands, and where the next byte leads. It mirrors the code; the
--- laws tie it to the text.
+-- A reader of inferences, byte by byte, as a function: where it stands, and where the next byte leads. It mirrors the
+-- code; the laws tie it to the text.
 use Rattle.std.specs.Prelude.{ℕ, suc, ◌+◌, ◌-◌, ◌*◌, ◌==◌, nat_lt, cond, List, [], ◌∷◌, Option, Some, None}
 use Rattle.wh_text.specs.Chars.{is_digit}
 use Rattle.wh_letters.specs.Digits.{goes_on}
@@ -7,13 +7,14 @@ use Rattle.wh_inference.specs.Inferences.{Letter, same_trees, bodies, arguments,
 use Rattle.wh_inference.specs.InferenceText.{Form, alone, with_parts, with_place, form}
 use Rattle.wh_inference.specs.InferenceLimits.{deepest_inference}
 
--- the inferences whose parentheses are open, the innermost first, each with its letter, its place and the parts that have ended
+-- the inferences whose parentheses are open, the innermost first, each with its letter, its place and the parts that
+-- have ended
 pub data Stack : Type 0 where
   outside : Stack
   inside : (l : Letter) (n : ℕ) (is : Inferences) (around : Stack) → Stack
 
--- what was read since: nothing; a letter that a place follows; this and digits; a letter that parts follow; a letter, what its
--- place is, and `(`; an inference that has ended
+-- what was read since: nothing; a letter that a place follows; this and digits; a letter that parts follow; a letter,
+-- what its place is, and `(`; an inference that has ended
 pub data Place : Type 0 where
   wanted : Place
   place_wanted : (l : Letter) → Place

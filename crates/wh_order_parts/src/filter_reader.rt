@@ -2,7 +2,6 @@
 
 ghost use Rattle.std.specs.Prelude.{◌≡◌, IfOk};
 ghost use Rattle.wh_inference.specs.FilterText.{keeps};
-ghost use Rattle.wh_inference.specs.Said.{written_filter};
 ghost use Rattle.wh_order_parts.specs.FilterMachine.{wanted, prec_wanted, prec, place_wanted, place, pick_wanted, picked, spelling, behind_word, behind_number, step as leads, goes};
 ghost use Rattle.wh_order_parts.specs.FilterViews.{word_of, place_of, filter_place, went};
 ghost use Rattle.wh_order_parts.specs.declared.filter_reader.FilterPlace.TheVariants.{Word};

@@ -11,13 +11,14 @@ ghost use Rattle.wh_order_parts.specs.FiltersRead as r;
 ghost use Rattle.wh_order_parts.specs.InferenceMachine.{scan, start, read};
 ghost use Rattle.wh_order_parts.specs.InferencesRead.{Led};
 
-/// Bytes that the reader goes along begin a line that is an inference, bytes behind which it has read an inference are the
-/// text of that, and bytes that it refuses begin no such line.
+/// Bytes that the reader goes along begin a line that is an inference, bytes behind which it has read an inference are
+/// the text of that, and bytes that it refuses begin no such line.
 pub fn inference_led()
     ensures { (bytes : List ℕ) → Led (scan start bytes) bytes }
 {}
 
-/// The text of an inference within the limits is read, whatever comes behind it. So reading what was printed gives it back.
+/// The text of an inference within the limits is read, whatever comes behind it. So reading what was printed gives it
+/// back.
 pub fn inference_read()
     ensures { (i : Inference) (byte : ℕ) (rest : List ℕ) → InferenceFits 0 i
         → scan start (put_inference i (byte ∷ rest)) ≡ read i (byte ∷ rest) }
@@ -44,8 +45,8 @@ pub fn depth_within()
     ensures { (i : Inference) → InferenceFits 0 i → depth i ≤ deepest_inference }
 {}
 
-/// Bytes that the reader goes along begin a line that is a filter, bytes behind which it has read a filter are the text of
-/// that, and bytes that it refuses begin no such line.
+/// Bytes that the reader goes along begin a line that is a filter, bytes behind which it has read a filter are the text
+/// of that, and bytes that it refuses begin no such line.
 pub fn filter_led()
     ensures { (bytes : List ℕ) → r.Led (f.scan f.start bytes) bytes }
 {}

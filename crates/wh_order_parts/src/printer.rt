@@ -1,5 +1,5 @@
-//! The texts of inferences and filters. Each printer appends to a list of bytes; without memory the list may have got a front
-//! of the text.
+//! The texts of inferences and filters. Each printer appends to a list of bytes; without memory the list may have got a
+//! front of the text.
 
 ghost use Rattle.std.specs.Prelude.{◌≡◌, ◌↔◌, IsTrue, OnOk};
 ghost use Rattle.wh_text.specs.Pushes.{Pushes};

@@ -1,4 +1,4 @@
-//! Rows of lists and types, of tokens and printed texts, of answers and certificates, and of files and sinks, with answers from outside,
+//! Rows of lists and types, of tokens and printed texts, of answers and certificates, of inferences and filters, and of files and sinks, with answers from outside,
 //! and each public call at least once with ample memory.
 //!
 //! Like wh_test_program, this crate has tests alone: a library with tests of its own would be proved a second time with them. The
@@ -16,6 +16,8 @@ mod comparing;
 mod feeding_rows;
 #[cfg(test)]
 mod list_rows;
+#[cfg(test)]
+mod order_rows;
 #[cfg(test)]
 mod outside_rows;
 #[cfg(test)]
