@@ -8,19 +8,24 @@ use Rattle.wh_graph.specs.May.{Follows}
 use Rattle.wh_graph.specs.Blocks.{AreBlocks}
 use Rattle.wh_subterm.specs.Projections.{Chosen}
 use Rattle.wh_subterm.specs.SubtermRows.{IsProjection}
-use Rattle.wh_reduction.specs.TaskData.{CoversAll, task_over}
+use Rattle.wh_reduction.specs.TaskData.{CoversAll, task_over, whole_task}
 use Rattle.wh_reduction.specs.ReductionPair.{Evidence}
 use Rattle.wh_hopoly.specs.Moves.{Transfer}
 use Rattle.wh_polycheck.specs.Readings.{ReadingsData}
 use Rattle.wh_polycheck.specs.Covering.{IsCovering}
+use Rattle.wh_inference.specs.Inferences.{Inference}
+use Rattle.wh_ordering.specs.Filterings.{FilteringData}
+use Rattle.wh_ordering.specs.Ordering.{IsOrdering}
 
 -- a node of a proof: there is no pair; the one pair may not follow itself; the pairs fall into blocks; arguments get smaller;
--- none of the covered rules and no pair grows under interpretations, and some pairs shrink (Kop 2012; Fuhs and Kop 2012 and 2019)
+-- none of the covered rules and no pair grows under interpretations, and some pairs shrink; no rule and no pair grows in a path order
+-- behind argument filters, and some pairs shrink (Kop 2012; Fuhs and Kop 2012 and 2019)
 pub data Node : Type 0 where
   done alone : Node
   blocks : (parts : List (List ℕ)) → Node
   subterm : (args : List Chosen) (drop : List ℕ) → Node
   poly : (covered : List ℕ) (R : ReadingsData) (E : Evidence (List Transfer)) → Node
+  order : (D : FilteringData) (E : Evidence Inference) → Node
 
 -- the sets are those of the blocks, in order
 pub data AreSetsOf : List (List ℕ) → List (List ℕ) → Type 0 where
@@ -41,3 +46,6 @@ pub data Leaves (S : Symbols) (rules : List RewriteRule) (pairs : List PairData)
       → IsCovering (task_over S rules pairs set covered) R E → CoversAll (task_over S rules pairs set covered)
       → IsSetOf (IsKept set E.drop) rest
       → Leaves S rules pairs set (poly covered R E) (rest ∷ [])
+  by_order : {set rest : List ℕ} {D : FilteringData} {E : Evidence Inference} → IsOrdering (whole_task S rules pairs set) D E
+      → IsSetOf (IsKept set E.drop) rest
+      → Leaves S rules pairs set (order D E) (rest ∷ [])
