@@ -2,6 +2,7 @@
 use Rattle.std.specs.Prelude.{map}
 use Rattle.wh_text.specs.Erase.{rty, rtm}
 use Rattle.wh_hopoly.specs.Erase.{poly}
+use Rattle.wh_inference.specs.Said.{inference, written_filter}
 use Rattle.wh_cert.specs.Interps as w_interps
 use Rattle.wh_cert.specs.Items as w_items
 use Rattle.wh_cert.specs.Written as w
@@ -10,11 +11,13 @@ use Rattle.wh_cert.specs.declared.certificate.Certificate.TheVariants.{Yes, No}
 use Rattle.wh_cert.specs.declared.certificate.YesCertificate.{YesCertificate}
 use Rattle.wh_cert.specs.declared.certificate.NoCertificate.{NoCertificate}
 use Rattle.wh_cert.specs.declared.certificate.Node.{Node}
-use Rattle.wh_cert.specs.declared.certificate.Node.TheVariants.{Done, Alone, Blocks, Subterm, Poly}
+use Rattle.wh_cert.specs.declared.certificate.Node.TheVariants.{Done, Alone, Blocks, Subterm, Poly, Order}
 use Rattle.wh_cert.specs.declared.certificate.Arg.{Arg}
 use Rattle.wh_cert.specs.declared.certificate.Put.{Put}
 use Rattle.wh_cert.specs.declared.item.Item.{Item}
 use Rattle.wh_cert.specs.declared.item.Item.TheVariants as item
+use Rattle.wh_cert.specs.declared.order_node.NamedFilter.{NamedFilter}
+use Rattle.wh_cert.specs.declared.order_node.OrderNode.{OrderNode}
 use Rattle.wh_cert.specs.declared.poly_node.Interp.{Interp}
 use Rattle.wh_cert.specs.declared.poly_node.PolyNode.{PolyNode}
 
@@ -33,12 +36,19 @@ said_interp i = record { name = i.name; poly = poly i.poly }
 abbrev pub said_poly : PolyNode → w.Node
 said_poly x = w.interpretations (map said_interp x.funs) (map said_interp x.marks) x.rules x.pairs x.drop
 
+abbrev pub said_filter : NamedFilter → w.Filtering
+said_filter f = record { name = f.name; filter = written_filter f.filter }
+
+abbrev pub said_order : OrderNode → w.Node
+said_order x = w.order (map said_filter x.funs) (map said_filter x.marks) (map inference x.rules) (map inference x.pairs) x.drop
+
 abbrev pub said_node : Node → w.Node
 said_node Done = w.done
 said_node Alone = w.alone
 said_node (Blocks parts) = w.blocks parts
 said_node (Subterm args drop) = w.subterm (map said_arg args) drop
 said_node (Poly x) = said_poly x.value
+said_node (Order x) = said_order x.value
 
 abbrev pub said_yes : YesCertificate → w.Cert
 said_yes c = w.yes c.version c.ranks c.pairs (map said_node c.nodes)

@@ -1,13 +1,20 @@
--- The text of a certificate (ours), of version 1. In EBNF, LF being a line feed and no other blank standing anywhere:
+-- The text of a certificate (ours), of version 1 or 2. In EBNF, LF being a line feed and no other blank standing anywhere:
 --
 --     certificate = yes | no
---     yes         = "YES 1" LF "ranks" numbers LF "pairs " number LF node "end" LF
---     node        = "done" LF
+--     yes         = "YES 1" LF head node1 "end" LF | "YES 2" LF head node2 "end" LF
+--     head        = "ranks" numbers LF "pairs " number LF
+--     node1       = "done" LF
 --                 | "alone" LF
---                 | "blocks " number LF { "block" numbers LF } { node }
---                 | "subterm" LF { "arg " name " " number LF } "drop" numbers LF node
+--                 | "blocks " number LF { "block" numbers LF } { node1 }
+--                 | "subterm" LF { "arg " name " " number LF } "drop" numbers LF node1
 --                 | "poly" LF { "fun " name " " poly LF } { "mark " name " " poly LF }
---                   { "rule" moves LF } { "pair" moves LF } "drop" numbers LF node
+--                   { "rule" moves LF } { "pair" moves LF } "drop" numbers LF node1
+--     node2       = "done" LF
+--                 | "alone" LF
+--                 | "blocks " number LF { "block" numbers LF } { node2 }
+--                 | "subterm" LF { "arg " name " " number LF } "drop" numbers LF node2
+--                 | "order" LF { "fun " name " " filter LF } { "mark " name " " filter LF }
+--                   { "rule " inference LF } { "pair " inference LF } "drop" numbers LF node2
 --     numbers     = { " " number }
 --     moves       = { " " number ">" number ":" amount }
 --     poly        = "0" | monomial { "+" monomial }
@@ -25,17 +32,21 @@
 --     amount      = nonzero { digit }
 --
 -- Letters and digits are those of ASCII, `nonzero` is a digit but 0. Behind `blocks` come as many blocks, and as many nodes, as
--- its number says. How great, how long, how many and how deep all this may be stands in Limits, TermLimits and PolyLimits. Below,
--- `put_.. r` is the spelling with r behind it.
+-- its number says. How great, how long, how many and how deep all this may be stands in Limits, TermLimits and PolyLimits; filters and
+-- inferences stand beside the crate that has them, in FilterText, InferenceText and InferenceLimits. Below, `put_.. r` is the spelling
+-- with r behind it.
 use Rattle.std.specs.Prelude.{ℕ, ◌+◌, List, [], ◌∷◌, ◌++◌, length, Option, Some, None, codes}
 use Rattle.std.specs.Fmt.{decimal}
 use Rattle.wh_text.specs.Chars.{line_feed}
 use Rattle.wh_terms.specs.declared.path.Step as taken
 use Rattle.wh_text.specs.Spelling.{put_part, put_term}
 use Rattle.wh_hopoly.specs.declared.expression.Move as moved
+use Rattle.wh_inference.specs.Inferences.{Inference}
+use Rattle.wh_inference.specs.InferenceText.{put_inference}
+use Rattle.wh_inference.specs.FilterText.{put_filter}
 use Rattle.wh_cert.specs.PolyText.{put_poly}
 use Rattle.wh_cert.specs.Interps.{Interp}
-use Rattle.wh_cert.specs.Written.{Put, Arg, Node, done, alone, blocks, subterm, interpretations, Cert, yes, no}
+use Rattle.wh_cert.specs.Written.{Put, Arg, Filtering, Node, done, alone, blocks, subterm, interpretations, order, Cert, yes, no}
 
 -- a path behind its `/`: a digit for each entry
 abbrev pub put_path : List ℕ → List ℕ → List ℕ
@@ -115,6 +126,22 @@ abbrev pub put_covers : List ℕ → List (List moved.Move) → List ℕ → Lis
 put_covers word [] r = r
 put_covers word (ms ∷ rest) r = put_cover word ms (put_covers word rest r)
 
+-- the line of a filter, behind its word
+abbrev pub put_filtering : List ℕ → Filtering → List ℕ → List ℕ
+put_filtering word f r = word ++ (f.name ++ (codes " " ++ put_filter f.filter (line_feed ∷ r)))
+
+abbrev pub put_filterings : List ℕ → List Filtering → List ℕ → List ℕ
+put_filterings word [] r = r
+put_filterings word (f ∷ fs) r = put_filtering word f (put_filterings word fs r)
+
+-- the line of an inference, behind its word
+abbrev pub put_shown : List ℕ → Inference → List ℕ → List ℕ
+put_shown word i r = word ++ put_inference i (line_feed ∷ r)
+
+abbrev pub put_all_shown : List ℕ → List Inference → List ℕ → List ℕ
+put_all_shown word [] r = r
+put_all_shown word (i ∷ is) r = put_shown word i (put_all_shown word is r)
+
 -- the lines of a node, without its children's
 abbrev pub put_node : Node → List ℕ → List ℕ
 put_node done r = codes "done" ++ (line_feed ∷ r)
@@ -125,6 +152,10 @@ put_node (interpretations funs marks rules pairs drop) r =
     codes "poly" ++ (line_feed ∷ put_interps (codes "fun ") funs
     (put_interps (codes "mark ") marks (put_covers (codes "rule") rules
     (put_covers (codes "pair") pairs (codes "drop" ++ put_line drop r)))))
+put_node (order funs marks rules pairs drop) r =
+    codes "order" ++ (line_feed ∷ put_filterings (codes "fun ") funs
+    (put_filterings (codes "mark ") marks (put_all_shown (codes "rule ") rules
+    (put_all_shown (codes "pair ") pairs (codes "drop" ++ put_line drop r)))))
 
 abbrev pub put_nodes : List Node → List ℕ → List ℕ
 put_nodes [] r = r

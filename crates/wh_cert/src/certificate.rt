@@ -1,5 +1,6 @@
 //! What a certificate says.
 
+use crate::order_node::OrderNode;
 use crate::poly_node::PolyNode;
 use wh_terms::{Path, Step};
 use wh_text::{Name, RawTerm, RawType};
@@ -17,7 +18,7 @@ pub enum Certificate {
 /// Ranks of the sorts, and a tree of nodes by which every chain of pairs ends.
 #[derive(Drop)]
 pub struct YesCertificate {
-    /// The version of the format.
+    /// The version of the format, 1 or 2: nodes of interpretations stand in the first one, those of path orders in the second.
     pub version: u32,
     /// A rank for each sort.
     pub ranks: Numbers,
@@ -45,6 +46,8 @@ pub enum Node {
     },
     /// By polynomials under which no rule and no pair grows, and some pairs shrink; a child for the others.
     Poly(Box<PolyNode>),
+    /// By argument filters and a path order under which no rule and no pair grows, and some pairs shrink; a child for the others.
+    Order(Box<OrderNode>),
 }
 
 /// A symbol, and which of its arguments is looked at, counted from 1.

@@ -3,6 +3,7 @@
 
 mod certificate;
 mod item;
+mod order_node;
 mod poly_node;
 
 pub use certificate::{
@@ -10,4 +11,6 @@ pub use certificate::{
     YesCertificate,
 };
 pub use item::Item;
+pub use order_node::{NamedFilter, NamedFilters, OrderNode};
 pub use poly_node::{Interp, Interps, PolyNode};
+pub use wh_inference::{Filter, Inference, Inferences, Letter};

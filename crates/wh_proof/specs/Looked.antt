@@ -4,6 +4,9 @@ use Rattle.wh_types.specs.Ty.{Ty}
 use Rattle.wh_system.specs.Systems.{SystemData}
 use Rattle.wh_cert.specs.Written as w
 use Rattle.wh_cert.specs.Interps.{Interp}
+use Rattle.wh_inference.specs.Inferences.{Inference}
+use Rattle.wh_inference.specs.FilterText.{WrittenFilter}
+use Rattle.wh_ordering.specs.Filterings.{MarkFilter, FilteringData}
 use Rattle.wh_hopoly.specs.Evaluation.{Interpretation}
 use Rattle.wh_hopoly.specs.Erase.{transfers}
 use Rattle.wh_hopoly.specs.Moves.{Transfer}
@@ -13,7 +16,7 @@ use Rattle.wh_reduction.specs.ReductionPair.{Evidence}
 use Rattle.wh_polycheck.specs.Marks.{Mark}
 use Rattle.wh_polycheck.specs.Readings.{ReadingsData}
 use Rattle.wh_subterm.specs.Projections.{Chosen}
-use Rattle.wh_proof.specs.Nodes.{Node, done, alone, blocks, subterm, poly}
+use Rattle.wh_proof.specs.Nodes.{Node, done, alone, blocks, subterm, poly, order}
 
 -- a line `arg` says this choice: its name is the name of the symbol (ours)
 pub record SaysChoice (d : SystemData) (line : w.Arg) (c : Chosen) : Type 0 where
@@ -52,6 +55,31 @@ SayReadings d funs lines R = SayInterpretations d.fun_names d.symbols.funs funs 
 abbrev pub moves_of : List (List Move) → List (List Move) → List ℕ → Evidence (List Transfer)
 moves_of rules pairs drop = record { of_rules = map transfers rules; of_pairs = map transfers pairs; drop = drop }
 
+-- the lines `fun` of a node of a path order say the filters of all symbols: they name these in order (ours)
+abbrev pub SayFilters : List (List ℕ) → List w.Filtering → List WrittenFilter → Type 0
+SayFilters [] [] [] = Unit {0}
+SayFilters (name ∷ names) (line ∷ lines) (f ∷ filters) = (line.name ≡ name) × (f ≡ line.filter) × SayFilters names lines filters
+SayFilters _ _ _ = ⊥
+
+-- a line `mark` says this filter of a marked symbol: its name is the name of the symbol (ours)
+pub record SaysMarkFilter (d : SystemData) (line : w.Filtering) (m : MarkFilter) : Type 0 where
+  pub named : slice_get d.fun_names m.symbol ≡ Some line.name
+  pub filter : m.filter ≡ line.filter
+
+-- the lines say these, one after another
+abbrev pub SayMarkFilters : SystemData → List w.Filtering → List MarkFilter → Type 0
+SayMarkFilters d [] [] = Unit {0}
+SayMarkFilters d (line ∷ lines) (m ∷ marks) = SaysMarkFilter d line m × SayMarkFilters d lines marks
+SayMarkFilters d _ _ = ⊥
+
+-- the lines `fun` and `mark` say these filters
+abbrev pub SayFilterings : SystemData → List w.Filtering → List w.Filtering → FilteringData → Type 0
+SayFilterings d funs lines D = SayFilters d.fun_names funs D.symbols × SayMarkFilters d lines D.marks
+
+-- the inferences of the lines `rule` and `pair`, with the dropped pairs
+abbrev pub inferences_of : List Inference → List Inference → List ℕ → Evidence Inference
+inferences_of rules pairs drop = record { of_rules = rules; of_pairs = pairs; drop = drop }
+
 -- the lines of a node say this node; one of interpretations is to cover all rules
 abbrev pub SaysNode : SystemData → w.Node → Node → Type 0
 SaysNode d w.done done = Unit {0}
@@ -60,6 +88,8 @@ SaysNode d (w.blocks listed) (blocks parts) = listed ≡ parts
 SaysNode d (w.subterm lines listed) (subterm args drop) = SayChoices d lines args × (listed ≡ drop)
 SaysNode d (w.interpretations funs lines rules pairs listed) (poly covered R E) =
     (covered ≡ numbers_from 0 (length d.rules)) × SayReadings d funs lines R × (E ≡ moves_of rules pairs listed)
+SaysNode d (w.order funs lines rules pairs listed) (order D E) =
+    SayFilterings d funs lines D × (E ≡ inferences_of rules pairs listed)
 SaysNode d _ _ = ⊥
 
 -- the lines say these nodes, one after another
