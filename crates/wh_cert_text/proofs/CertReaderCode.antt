@@ -37,7 +37,7 @@ use Rattle.wh_cert_text.specs.declared.cert_reader.CertReader.{CertReader}
 use Rattle.wh_cert_text.specs.declared.cert_reader.Progress.{Progress}
 use Rattle.wh_cert_text.specs.declared.cert_reader.Progress.TheVariants.{Unread, Yes, No, Refused, Lost}
 use Rattle.wh_cert_text.proofs.Ended.{run_append, run_wrong}
-use Rattle.wh_cert_text.proofs.YesSound.{second, third, stage, LineNext, lead_kept}
+use Rattle.wh_cert_text.proofs.YesSound.{first, second, third, stage, LineNext, lead_kept}
 use Rattle.wh_cert_text.proofs.YesReached.{end_found}
 use Rattle.wh_cert_text.proofs.Reached.{Good, reached_at, reached_yes}
 use Rattle.wh_cert_text.proofs.Whole.{Stops, goes_begins, begins_goes, stopped_at, ended_early, text_run, text_found}
@@ -78,29 +78,34 @@ no_stops h l m.refused t = refl
 pub yes_goes : (h : y.Past) (old : YesItems) (l : Box YesItems) (s : y.LineStep) (out : Option Item) → wanted h ≡ old.wanted
     → (IsPairsLine (yes_place old.line) → ranks_of h ≡ old.ranks) → StageKept (yes_place old.line) s → TakesYes h old l.value s (On out)
     → Tracks (Yes l) (standing_after_yes h s) × (option_map said_item out ≡ handed_yes h s)
-yes_goes (y.so_far ranks pairs nodes k) old l (y.on q) None same known kept t = (
-  (y.so_far ranks pairs nodes k, sym t.2, (λ line. known (kept (subst IsPairsLine t.0 line)) ∙ sym t.1), ap (stands_yes (y.so_far ranks pairs nodes k)) (sym t.0)),
+yes_goes (y.so_far version ranks pairs nodes k) old l (y.on q) None same known kept t = (
+  (y.so_far version ranks pairs nodes k, sym t.2, sym t.3, (λ line. known (kept (subst IsPairsLine t.0 line)) ∙ sym t.1), ap (stands_yes (y.so_far version ranks pairs nodes k)) (sym t.0)),
   refl,
 )
 yes_goes h old l (y.on q) (Some i) same known kept t = absurd t
-yes_goes (y.so_far ranks pairs nodes k) old l (y.gives (y.ranks_item xs) q) None same known kept t = (
-  (y.so_far xs pairs nodes k, sym t.1.1, (λ line. sym t.1.0), ap (stands_yes (y.so_far xs pairs nodes k)) (sym t.0)),
+yes_goes (y.so_far version ranks pairs nodes k) old l (y.gives (y.version_item v) q) None same known kept t = (
+  (y.so_far v ranks pairs nodes k, sym t.1.1, sym t.1.2, (λ line. absurd (kept (subst IsPairsLine t.0 line))), ap (stands_yes (y.so_far v ranks pairs nodes k)) (sym t.0)),
+  refl,
+)
+yes_goes h old l (y.gives (y.version_item v) q) (Some i) same known kept t = absurd t.1
+yes_goes (y.so_far version ranks pairs nodes k) old l (y.gives (y.ranks_item xs) q) None same known kept t = (
+  (y.so_far version xs pairs nodes k, sym t.1.1, sym t.1.2, (λ line. sym t.1.0), ap (stands_yes (y.so_far version xs pairs nodes k)) (sym t.0)),
   refl,
 )
 yes_goes h old l (y.gives (y.ranks_item xs) q) (Some i) same known kept t = absurd t.1
 yes_goes h old l (y.gives (y.pairs_item n) q) None same known kept t = absurd t.1
-yes_goes (y.so_far ranks pairs nodes k) old l (y.gives (y.pairs_item n) q) (Some out) same known kept t = (
-  (y.so_far ranks n nodes 1, sym t.1.1, (λ line. absurd (kept.1 (subst IsPairsLine t.0 line))), ap (stands_yes (y.so_far ranks n nodes 1)) (sym t.0)),
-  ap Some (t.1.0 ∙ ap (λ (xs : List ℕ). yes_head 1 xs n) (sym (known kept.0))),
+yes_goes (y.so_far version ranks pairs nodes k) old l (y.gives (y.pairs_item n) q) (Some out) same known kept t = (
+  (y.so_far version ranks n nodes 1, sym t.1.1, sym t.1.2, (λ line. absurd (kept.1 (subst IsPairsLine t.0 line))), ap (stands_yes (y.so_far version ranks n nodes 1)) (sym t.0)),
+  ap Some (t.1.0 ∙ ap (λ (xs : List ℕ). yes_head version xs n) (sym (known kept.0))),
 )
 yes_goes h old l (y.gives (y.node_item x) q) None same known kept t = absurd t.1
-yes_goes (y.so_far ranks pairs nodes k) old l (y.gives (y.node_item x) q) (Some out) same known kept t = (
-  (y.gather (y.so_far ranks pairs nodes k) (y.node_item x), sym t.1.2, (λ line. absurd (kept (subst IsPairsLine t.0 line))), ap (stands_yes (y.gather (y.so_far ranks pairs nodes k) (y.node_item x))) (sym t.0)),
+yes_goes (y.so_far version ranks pairs nodes k) old l (y.gives (y.node_item x) q) (Some out) same known kept t = (
+  (y.gather (y.so_far version ranks pairs nodes k) (y.node_item x), sym t.1.2, sym t.1.3, (λ line. absurd (kept (subst IsPairsLine t.0 line))), ap (stands_yes (y.gather (y.so_far version ranks pairs nodes k) (y.node_item x))) (sym t.0)),
   ap Some t.1.0,
 )
 yes_goes h old l (y.gives y.end_item q) None same known kept t = absurd t.1
-yes_goes (y.so_far ranks pairs nodes k) old l (y.gives y.end_item q) (Some out) same known kept t = (
-  (y.so_far ranks pairs nodes k, sym t.1.2, (λ line. absurd (kept (subst IsPairsLine t.0 line))), ap (stands_yes (y.so_far ranks pairs nodes k)) (sym t.0)),
+yes_goes (y.so_far version ranks pairs nodes k) old l (y.gives y.end_item q) (Some out) same known kept t = (
+  (y.so_far version ranks pairs nodes k, sym t.1.2, sym t.1.3, (λ line. absurd (kept (subst IsPairsLine t.0 line))), ap (stands_yes (y.so_far version ranks pairs nodes k)) (sym t.0)),
   ap Some t.1.0,
 )
 yes_goes h old l y.refused out same known kept t = absurd t
@@ -125,6 +130,7 @@ listed_not (y.of_drop args) e = absurd cc
 listed_not (y.of_poly funs marks rules pairs) e = absurd cc
 
 of_second : (p : y.Place) → stage p ≡ second → IsPairsLine p
+of_second (y.word w y.to_version) e = absurd cc
 of_second (y.word w (y.to_list of)) e = absurd (listed_not of e)
 of_second (y.word w y.to_pairs) e = tt
 of_second (y.word w y.to_done) e = absurd cc
@@ -135,6 +141,7 @@ of_second (y.word w (y.to_name args)) e = absurd cc
 of_second (y.word w y.to_poly) e = absurd cc
 of_second (y.word w (y.to_line x)) e = absurd cc
 of_second (y.word w y.to_finish) e = absurd cc
+of_second y.version_wanted e = absurd cc
 of_second (y.listed of xs) e = absurd (listed_not of e)
 of_second (y.number_wanted y.of_pairs) e = tt
 of_second (y.number_wanted y.of_blocks) e = absurd cc
@@ -151,27 +158,31 @@ of_second (y.letters args xs) e = absurd cc
 of_second (y.poly_lines x k) e = absurd cc
 of_second y.finished e = absurd cc
 
+not_first : (q : y.Place) → stage q ≡ first → IsPairsLine q → ⊥
+not_first q e line = (let both = sym (in_second q line) ∙ e in absurd cc)
+
 not_third : (q : y.Place) → stage q ≡ third → IsPairsLine q → ⊥
 not_third q e line = (let both = sym (in_second q line) ∙ e in absurd cc)
 
-stage_kept : (w : _) (n : ℕ) (p : y.Place) (s : y.LineStep) (f : List ℕ → List ℕ) → LineNext w n s (stage p) f → StageKept p s
-stage_kept w n p (y.on q) f next = λ line. of_second p (sym next.0 ∙ in_second q line)
-stage_kept w n p (y.gives (y.ranks_item xs) q) f next = tt
-stage_kept w n p (y.gives (y.pairs_item k) q) f next = (of_second p (sym next.0), not_third q next.1)
-stage_kept w n p (y.gives (y.node_item x) q) f next = not_third q next.1
-stage_kept w n p (y.gives y.end_item q) f next = not_third q next.1
-stage_kept w n p y.refused f next = tt
+stage_kept : (v w : _) (n : ℕ) (p : y.Place) (s : y.LineStep) (f : List ℕ → List ℕ) → LineNext v w n s (stage p) f → StageKept p s
+stage_kept u w n p (y.on q) f next = λ line. of_second p (sym next.0 ∙ in_second q line)
+stage_kept u w n p (y.gives (y.version_item v) q) f next = not_first q next.1
+stage_kept u w n p (y.gives (y.ranks_item xs) q) f next = tt
+stage_kept u w n p (y.gives (y.pairs_item k) q) f next = (of_second p (sym next.0), not_third q next.1)
+stage_kept u w n p (y.gives (y.node_item x) q) f next = not_third q next.1
+stage_kept u w n p (y.gives y.end_item q) f next = not_third q next.1
+stage_kept u w n p y.refused f next = tt
 
-stage_kept_at : (p : List ℕ) (h : y.Past) (q : y.Place) (b : ℕ) → run start p ≡ stands_yes h q → StageKept q (y.step (y.wants h) q b)
+stage_kept_at : (p : List ℕ) (h : y.Past) (q : y.Place) (b : ℕ) → run start p ≡ stands_yes h q → StageKept q (y.step (y.version_of h) (y.wants h) q b)
 stage_kept_at p h q b e =
     let g = reached_yes p h q e in
-    stage_kept (y.wants h) (suc g.since) q (y.step (y.wants h) q b) (λ r. g.line (b ∷ r)) (lead_kept (y.wants h) g.since q b g.place g.right g.line g.reads)
+    stage_kept (y.version_of h) (y.wants h) (suc g.since) q (y.step (y.version_of h) (y.wants h) q b) (λ r. g.line (b ∷ r)) (lead_kept (y.version_of h) (y.wants h) g.since q b g.place g.right g.line g.reads)
 
 -- where the reader stands
 
 tracks_goes : (at : Progress) (s : Standing) → Tracks at s → s ≡ wrong → ⊥
 tracks_goes Unread s t e = (let other = sym t ∙ e in absurd cc)
-tracks_goes (Yes l) s t e = (let other = sym t.3 ∙ e in absurd cc)
+tracks_goes (Yes l) s t e = (let other = sym t.4 ∙ e in absurd cc)
 tracks_goes (No l) s t e = (let other = sym t.1 ∙ e in absurd cc)
 tracks_goes Refused s t e = t
 tracks_goes Lost s t e = t
@@ -252,7 +263,7 @@ stops_at old mid new b e p k short =
 
 end_here : (s u : Standing) (c : Cert) → s ≡ u → IsEnd s c → IsEnd u c
 end_here s u (no t steps at puts) e h = sym e ∙ h
-end_here s u (yes version ranks pairs nodes) e h = (h.0, sym e ∙ h.1)
+end_here s u (yes version ranks pairs nodes) e h = sym e ∙ h
 
 lost_at : (old mid new : CertReader) (b : ℕ) (p : List ℕ) → Known old mid new b (Err NoMemory) p → length p < 2 ^ 32 - 1 → StandsFor new p × Begins p
 lost_at old mid new b p k short =
@@ -296,13 +307,13 @@ no_known old mid new b r l was same led p h =
     record { s = stands t.1.0 (line_place l.value); counted = t.0; same = same; here = t.1.1; goes = λ e. absurd cc; led = led t.1.0 }
 
 pub yes_known : (old mid new : CertReader) (b : ℕ) (r : Result (Option Item) (Or CertSyntax)) (l : Box YesItems) → old.at ≡ Yes l → mid.taken ≡ old.taken
-    → ((h : y.Past) → wanted h ≡ l.value.wanted → HeadKnown h l.value b → Led (stands_yes h (yes_place l.value.line)) mid new b r)
+    → ((h : y.Past) → wanted h ≡ l.value.wanted → y.version_of h ≡ l.value.version → HeadKnown h l.value b → Led (stands_yes h (yes_place l.value.line)) mid new b r)
     → (p : List ℕ) → StandsFor old p → Known old mid new b r p
 yes_known old mid new b r l was same led p h =
     let t : (old.taken ≡ length p) × Tracks (Yes l) (run start p) = subst (λ (at : Progress). Stand at old.taken p) was h in
     let u = t.1 in
-    let known : HeadKnown u.0 l.value b = (u.2, stage_kept_at p u.0 (yes_place l.value.line) b u.3) in
-    record { s = stands_yes u.0 (yes_place l.value.line); counted = t.0; same = same; here = u.3; goes = λ e. absurd cc; led = led u.0 u.1 known }
+    let known : HeadKnown u.0 l.value b = (u.3, stage_kept_at p u.0 (yes_place l.value.line) b u.4) in
+    record { s = stands_yes u.0 (yes_place l.value.line); counted = t.0; same = same; here = u.4; goes = λ e. absurd cc; led = led u.0 u.1 u.2 known }
 
 -- the bytes are refused for good
 refused_still : (old new : CertReader) (b n : ℕ) → old.at ≡ Refused → new.at ≡ Refused → new.taken ≡ old.taken → n ≡ old.taken → (p : List ℕ) → StandsFor old p
@@ -329,6 +340,7 @@ naming_goes (Some name) f not e = not name e
 
 ended_place : (k : YesPlace) (l : YesLine) → yes_ended k ≡ false → place_of k l ≡ y.finished → ⊥
 ended_place (place.Word o i) l e f = absurd cc
+ended_place place.VersionWanted l e f = absurd cc
 ended_place (place.Listed of) l e f = absurd cc
 ended_place (place.NumberWanted of) l e f = absurd cc
 ended_place (place.Number of n) l e f = absurd cc
@@ -359,9 +371,9 @@ no_end p h e =
     (w.0, end_here (stands h m.finished) (run start p) w.0 (sym e) w.1)
 
 yes_end : (p : List ℕ) (h : y.Past) → run start p ≡ stands_yes h y.finished → (c : Cert) × IsEnd (run start p) c
-yes_end p (y.so_far ranks pairs nodes k) e =
-    let none = end_found (length p) ranks pairs nodes k (λ r. p ++ r) (reached_yes p (y.so_far ranks pairs nodes k) y.finished e) in
-    (yes 1 ranks pairs nodes, (refl, e ∙ ap (λ (j : ℕ). stands_yes (y.so_far ranks pairs nodes j) y.finished) none.1))
+yes_end p (y.so_far version ranks pairs nodes k) e =
+    let none = end_found (length p) version ranks pairs nodes k (λ r. p ++ r) (reached_yes p (y.so_far version ranks pairs nodes k) y.finished e) in
+    (yes version ranks pairs nodes, e ∙ ap (λ (j : ℕ). stands_yes (y.so_far version ranks pairs nodes j) y.finished) none.1)
 
 whole_said : (p : List ℕ) → length p < 2 ^ 32 → (c : Cert) × IsEnd (run start p) c → (c : Cert) × CertText p c × ((is : List items.Item) → ItemsIn p is → is ≡ items.items c)
 whole_said p short (c, e) =
@@ -372,7 +384,7 @@ pub finish_whole : (at : Progress) (n : ℕ) (p : List ℕ) → has_ended at ≡
     → (c : Cert) × CertText p c × ((is : List items.Item) → ItemsIn p is → is ≡ items.items c)
 finish_whole (Yes l) n p ended h short =
     let t : Tracks (Yes l) (run start p) = h.1 in
-    whole_said p short (yes_end p t.0 (t.3 ∙ ap (stands_yes t.0) (place_ended l.value.line.place l.value.line ended)))
+    whole_said p short (yes_end p t.0 (t.4 ∙ ap (stands_yes t.0) (place_ended l.value.line.place l.value.line ended)))
 finish_whole (No l) n p ended h short =
     let t : Tracks (No l) (run start p) = h.1 in
     whole_said p short (no_end p t.0 (t.1 ∙ ap (stands t.0) (no_place_ended l.value.place l.value ended)))
@@ -386,15 +398,15 @@ early_said p n s short same here goes early =
 
 unread_early : (c : Cert) → IsEnd unread c → ⊥
 unread_early (no t steps at puts) e = absurd cc
-unread_early (yes version ranks pairs nodes) e = (let other = e.1 in absurd cc)
+unread_early (yes version ranks pairs nodes) e = absurd cc
 
 stands_early : (h : m.Past) (q : m.LinePlace) (c : Cert) → (q ≡ m.finished → ⊥) → IsEnd (stands h q) c → ⊥
 stands_early h q (no t steps at puts) not e = not cc
-stands_early h q (yes version ranks pairs nodes) not e = (let other = e.1 in absurd cc)
+stands_early h q (yes version ranks pairs nodes) not e = absurd cc
 
 yes_early : (h : y.Past) (q : y.Place) (c : Cert) → (q ≡ y.finished → ⊥) → IsEnd (stands_yes h q) c → ⊥
 yes_early h q (no t steps at puts) not e = absurd cc
-yes_early h q (yes version ranks pairs nodes) not e = (let other = e.1 in not cc)
+yes_early h q (yes version ranks pairs nodes) not e = not cc
 
 lost_fault : (p : List ℕ) (n : ℕ) → Stand Lost n p → FaultAt p n
 lost_fault p n (same, begins, none) =
@@ -411,7 +423,7 @@ pub finish_fault : (at : Progress) (n : ℕ) (p : List ℕ) → has_ended at ≡
 finish_fault Unread n p ended h short = early_said p n unread short h.0 h.1 (λ e. absurd cc) unread_early
 finish_fault (Yes l) n p ended h short =
     let t : Tracks (Yes l) (run start p) = h.1 in
-    early_said p n (stands_yes t.0 (yes_place l.value.line)) short h.0 t.3 (λ e. absurd cc) (λ c e. yes_early t.0 (yes_place l.value.line) c (ended_place l.value.line.place l.value.line ended) e)
+    early_said p n (stands_yes t.0 (yes_place l.value.line)) short h.0 t.4 (λ e. absurd cc) (λ c e. yes_early t.0 (yes_place l.value.line) c (ended_place l.value.line.place l.value.line ended) e)
 finish_fault (No l) n p ended h short =
     let t : Tracks (No l) (run start p) = h.1 in
     early_said p n (stands t.0 (line_place l.value)) short h.0 t.1 (λ e. absurd cc) (λ c e. stands_early t.0 (line_place l.value) c (place_finished l.value.place l.value (not_no_ended l.value.place ended)) e)

@@ -19,14 +19,13 @@ one_end s (no t steps at puts) (no u others to more) e f =
     let same = sym e ∙ f in
     cc
 one_end s (no t steps at puts) (yes version ranks pairs nodes) e f =
-    let same = sym e ∙ f.1 in
+    let same = sym e ∙ f in
     absurd cc
 one_end s (yes version ranks pairs nodes) (no t steps at puts) e f =
-    let same = sym f ∙ e.1 in
+    let same = sym f ∙ e in
     absurd cc
 one_end s (yes v ranks pairs nodes) (yes w others count more) e f =
-    let same = sym e.1 ∙ f.1 in
-    let one = e.0 ∙ sym f.0 in
+    let same = sym e ∙ f in
     cc
 
 -- some bytes lead from here to the end of a certificate, whose lists have n as limit
@@ -38,7 +37,7 @@ pub record ReachesEnd (n : ℕ) (s : Standing) : Type 0 where
 
 end_same : (s u : Standing) (c : Cert) → s ≡ u → IsEnd u c → IsEnd s c
 end_same s u (no t steps at puts) e h = e ∙ h
-end_same s u (yes version ranks pairs nodes) e h = (h.0, e ∙ h.1)
+end_same s u (yes version ranks pairs nodes) e h = e ∙ h
 
 pub ends_after : (n : ℕ) (s u : Standing) (w : List ℕ → List ℕ) → ((r : List ℕ) → run s (w r) ≡ run u r) → ReachesEnd n u → ReachesEnd n s
 ends_after n s u w leads e =

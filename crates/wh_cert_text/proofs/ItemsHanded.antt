@@ -86,6 +86,7 @@ yes_if true x o so other = so
 yes_if false x o so other = other
 
 yes_behind : (o : y.Behind) → EndsYes (y.behind o)
+yes_behind y.to_version = tt
 yes_behind (y.to_list of) = tt
 yes_behind y.to_pairs = tt
 yes_behind y.to_done = tt
@@ -127,21 +128,22 @@ yes_lines (l.begins x) = tt
 yes_lines (l.drops x) = tt
 yes_lines l.refused = tt
 
-ends_yes : (w : Bool) (p : y.Place) (b : ℕ) → EndsYes (y.step w p b)
-ends_yes w (y.word [] o) b = tt
-ends_yes w (y.word (x ∷ v) o) b = yes_if (b == x) _ _ (yes_word v o) tt
-ends_yes w (y.listed of xs) b = yes_list of xs b
-ends_yes w (y.number_wanted of) b = yes_if (is_digit b) _ _ tt tt
-ends_yes w (y.number of k) b = yes_if (goes_on k b) _ _ tt (yes_number of k b)
-ends_yes w y.front b =
+ends_yes : (v : ℕ) (w : Bool) (p : y.Place) (b : ℕ) → EndsYes (y.step v w p b)
+ends_yes v w (y.word [] o) b = tt
+ends_yes v w (y.word (x ∷ r) o) b = yes_if (b == x) _ _ (yes_word r o) tt
+ends_yes v w y.version_wanted b = yes_if (b == 49) _ _ tt (yes_if (b == 50) _ _ tt tt)
+ends_yes v w (y.listed of xs) b = yes_list of xs b
+ends_yes v w (y.number_wanted of) b = yes_if (is_digit b) _ _ tt tt
+ends_yes v w (y.number of k) b = yes_if (goes_on k b) _ _ tt (yes_number of k b)
+ends_yes v w y.front b =
     yes_if w _ _
-    (yes_if (b == 100) _ _ tt (yes_if (b == 97) _ _ tt (yes_if (b == 98) _ _ tt (yes_if (b == 115) _ _ tt (yes_if (b == 112) _ _ tt tt)))))
+    (yes_if (b == 100) _ _ tt (yes_if (b == 97) _ _ tt (yes_if (b == 98) _ _ tt (yes_if (b == 115) _ _ tt (yes_if (b == 112) _ _ (yes_if (v == 1) _ _ tt tt) tt)))))
     (yes_if (b == 101) _ _ tt tt)
-ends_yes w (y.arg_front args) b = yes_if (b == 97) _ _ tt (yes_if (b == 100) _ _ tt tt)
-ends_yes w (y.name_wanted args) b = yes_if (is_start b) _ _ tt tt
-ends_yes w (y.letters args xs) b = yes_if (is_part b && nat_lt (length xs) 64) _ _ tt (yes_if (b == 32) _ _ tt tt)
-ends_yes w (y.poly_lines x k) b = yes_lines (l.lines_step x k b)
-ends_yes w y.finished b = tt
+ends_yes v w (y.arg_front args) b = yes_if (b == 97) _ _ tt (yes_if (b == 100) _ _ tt tt)
+ends_yes v w (y.name_wanted args) b = yes_if (is_start b) _ _ tt tt
+ends_yes v w (y.letters args xs) b = yes_if (is_part b && nat_lt (length xs) 64) _ _ tt (yes_if (b == 32) _ _ tt tt)
+ends_yes v w (y.poly_lines x k) b = yes_lines (l.lines_step x k b)
+ends_yes v w y.finished b = tt
 
 -- the items behind the bytes that led there
 
@@ -159,7 +161,7 @@ closed_yes y.finished = end ∷ []
 closed_yes _ = []
 
 abbrev pub yes_items : s.Stage → y.Past → y.Place → List Item
-yes_items s.third (y.so_far ranks pairs nodes k) q = yes_head 1 ranks pairs ∷ (map node nodes ++ closed_yes q)
+yes_items s.third (y.so_far version ranks pairs nodes k) q = yes_head version ranks pairs ∷ (map node nodes ++ closed_yes q)
 yes_items _ h q = []
 
 abbrev pub items_of : Standing → List Item
@@ -233,57 +235,59 @@ no_next bytes h p b e onward =
 
 -- one byte of a YES certificate
 
-open_yes : (w : Bool) (p : y.Place) (b : ℕ) → (y.step w p b ≡ y.refused → ⊥) → closed_yes p ≡ []
-open_yes w y.finished b h = absurd (h refl)
-open_yes w p b h = refl
+open_yes : (v : ℕ) (w : Bool) (p : y.Place) (b : ℕ) → (y.step v w p b ≡ y.refused → ⊥) → closed_yes p ≡ []
+open_yes v w y.finished b h = absurd (h refl)
+open_yes v w p b h = refl
 
 yes_on : (q : y.Place) → EndsYes (y.on q) → closed_yes q ≡ []
 yes_on y.finished h = absurd h
 yes_on q h = refl
 
 yes_same : (x : s.Stage) (h : y.Past) (p q : y.Place) → closed_yes p ≡ [] → closed_yes q ≡ [] → yes_items x h q ≡ yes_items x h p
+yes_same s.opening h p q a b = refl
 yes_same s.first h p q a b = refl
 yes_same s.second h p q a b = refl
-yes_same s.third (y.so_far ranks pairs nodes k) p q a b =
-    ap (λ (e : List Item). yes_head 1 ranks pairs ∷ (map node nodes ++ e)) (b ∙ sym a)
+yes_same s.third (y.so_far version ranks pairs nodes k) p q a b =
+    ap (λ (e : List Item). yes_head version ranks pairs ∷ (map node nodes ++ e)) (b ∙ sym a)
 
 abbrev yes_out : y.Past → y.Item → Option Item
 yes_out h i = handed_yes h (y.gives i y.front)
 
 yes_gives : (k : ℕ) (h : y.Past) (p q : y.Place) (i : y.Item) → r.GoodPast k (s.item_from i) h → closed_yes p ≡ [] → EndsYes (y.gives i q)
     → yes_items (s.item_to i) (y.gather h i) q ≡ yes_items (s.item_from i) h p ++ option_to_list (handed_yes h (y.gives i q))
-yes_gives k (y.so_far ranks pairs nodes w) p q (y.ranks_item xs) g a ends = refl
-yes_gives k (y.so_far ranks pairs nodes w) p y.finished (y.pairs_item j) g a ends = absurd ends
-yes_gives k (y.so_far ranks pairs nodes w) p q (y.pairs_item j) g a ends =
-    ap (λ (v : List Node). yes_head 1 ranks j ∷ (map node v ++ [])) g.1
-yes_gives k (y.so_far ranks pairs nodes w) p y.finished (y.node_item x) g a ends = absurd ends
-yes_gives k (y.so_far ranks pairs nodes w) p q (y.node_item x) g a ends =
-    ap (λ (v : List Item). yes_head 1 ranks pairs ∷ v)
+yes_gives k (y.so_far version ranks pairs nodes w) p q (y.version_item v) g a ends = refl
+yes_gives k (y.so_far version ranks pairs nodes w) p q (y.ranks_item xs) g a ends = refl
+yes_gives k (y.so_far version ranks pairs nodes w) p y.finished (y.pairs_item j) g a ends = absurd ends
+yes_gives k (y.so_far version ranks pairs nodes w) p q (y.pairs_item j) g a ends =
+    ap (λ (v : List Node). yes_head version ranks j ∷ (map node v ++ [])) g.1
+yes_gives k (y.so_far version ranks pairs nodes w) p y.finished (y.node_item x) g a ends = absurd ends
+yes_gives k (y.so_far version ranks pairs nodes w) p q (y.node_item x) g a ends =
+    ap (λ (v : List Item). yes_head version ranks pairs ∷ v)
     (append-nil (map node (nodes ++ x ∷ [])) ∙ map_push node nodes x ∙ ap (λ (v : List Item). v ++ node x ∷ []) (sym (append-nil (map node nodes)) ∙ ap (λ (v : List Item). map node nodes ++ v) (sym a)))
-yes_gives k (y.so_far ranks pairs nodes w) p y.finished y.end_item g a ends =
-    ap (λ (v : List Item). yes_head 1 ranks pairs ∷ (v ++ end ∷ [])) (sym (append-nil (map node nodes)) ∙ ap (λ (v : List Item). map node nodes ++ v) (sym a))
-yes_gives k (y.so_far ranks pairs nodes w) p q y.end_item g a ends = absurd ends
+yes_gives k (y.so_far version ranks pairs nodes w) p y.finished y.end_item g a ends =
+    ap (λ (v : List Item). yes_head version ranks pairs ∷ (v ++ end ∷ [])) (sym (append-nil (map node nodes)) ∙ ap (λ (v : List Item). map node nodes ++ v) (sym a))
+yes_gives k (y.so_far version ranks pairs nodes w) p q y.end_item g a ends = absurd ends
 
-yes_step : (w : Bool) (k j : ℕ) (h : y.Past) (p : y.Place) (x : y.LineStep) (f : List ℕ → List ℕ) → r.GoodPast k (s.stage p) h → s.LineNext w j x (s.stage p) f → closed_yes p ≡ []
+yes_step : (u : ℕ) (w : Bool) (k j : ℕ) (h : y.Past) (p : y.Place) (x : y.LineStep) (f : List ℕ → List ℕ) → r.GoodPast k (s.stage p) h → s.LineNext u w j x (s.stage p) f → closed_yes p ≡ []
     → EndsYes x → (standing_after_yes h x ≡ wrong → ⊥) → items_of (standing_after_yes h x) ≡ yes_items (s.stage p) h p ++ option_to_list (handed_yes h x)
-yes_step w k j (y.so_far ranks pairs nodes n) p (y.on q) f g next a ends onward =
-    let h = y.so_far ranks pairs nodes n in
+yes_step u w k j (y.so_far version ranks pairs nodes n) p (y.on q) f g next a ends onward =
+    let h = y.so_far version ranks pairs nodes n in
     ap (λ (v : s.Stage). yes_items v h q) next.0 ∙ yes_same (s.stage p) h p q a (yes_on q ends) ∙ sym (append-nil (yes_items (s.stage p) h p))
-yes_step w k j h p (y.gives i q) f g next a ends onward =
+yes_step u w k j h p (y.gives i q) f g next a ends onward =
     ap (λ (v : s.Stage). yes_items v (y.gather h i) q) next.1
     ∙ yes_gives k h p q i (subst (λ (v : s.Stage). r.GoodPast k v h) (sym next.0) g) a ends
     ∙ ap (λ (v : s.Stage). yes_items v h p ++ option_to_list (handed_yes h (y.gives i q))) next.0
-yes_step w k j h p y.refused f g next a ends onward = absurd (onward refl)
+yes_step u w k j h p y.refused f g next a ends onward = absurd (onward refl)
 
 yes_next : (bytes : List ℕ) (h : y.Past) (p : y.Place) (b : ℕ) → run start bytes ≡ stands_yes h p → (take_byte (stands_yes h p) b ≡ wrong → ⊥)
     → items_of (take_byte (stands_yes h p) b) ≡ items_of (stands_yes h p) ++ option_to_list (handed (stands_yes h p) b)
 yes_next bytes h p b e onward =
     let g = reached_yes bytes h p e in
-    yes_step (y.wants h) g.before (suc g.since) h p (y.step (y.wants h) p b) (λ r. g.line (b ∷ r)) g.past (s.lead_kept (y.wants h) g.since p b g.place g.right g.line g.reads)
-    (open_yes (y.wants h) p b (λ f. onward (ap (standing_after_yes h) f))) (ends_yes (y.wants h) p b) onward
+    yes_step (y.version_of h) (y.wants h) g.before (suc g.since) h p (y.step (y.version_of h) (y.wants h) p b) (λ r. g.line (b ∷ r)) g.past (s.lead_kept (y.version_of h) (y.wants h) g.since p b g.place g.right g.line g.reads)
+    (open_yes (y.version_of h) (y.wants h) p b (λ f. onward (ap (standing_after_yes h) f))) (ends_yes (y.version_of h) (y.wants h) p b) onward
 
 -- the first byte hands out nothing
-first_next : (b : Bool) (c : Bool) → items_of (cond b (stands_yes y.nothing (y.word (codes "ES 1" ++ (10 ∷ codes "ranks")) (y.to_list y.of_ranks))) (cond c (stands nothing (m.word (codes "O 1" ++ (10 ∷ codes "term ")) m.to_term)) wrong)) ≡ []
+first_next : (b : Bool) (c : Bool) → items_of (cond b (stands_yes y.nothing (y.word (codes "ES ") y.to_version)) (cond c (stands nothing (m.word (codes "O 1" ++ (10 ∷ codes "term ")) m.to_term)) wrong)) ≡ []
 first_next true c = refl
 first_next false true = refl
 first_next false false = refl

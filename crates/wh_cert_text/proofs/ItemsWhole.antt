@@ -3,7 +3,6 @@ use Rattle.std.proofs.Common.{◌≡◌, ℕ, zero, suc, ◌+◌, ◌-◌, List,
 use Rattle.std.specs.List.{All}
 use Rattle.std.specs.Option.{option_to_list}
 use Rattle.std.specs.Fmt.{decimal}
-use Rattle.std.proofs.lemmas.Fmt.{decimal_digit}
 use Rattle.std.proofs.lemmas.List.Elements.{All-head, All-tail}
 use Rattle.std.proofs.lemmas.List.{append_cancel_left, length-append, map_push}
 use Rattle.wh_terms.specs.Places.{IsPath}
@@ -13,7 +12,7 @@ use Rattle.wh_cert.specs.TermLimits.{IsSmall}
 use Rattle.wh_cert.specs.Written.{Put, Node, children, Preorder, Cert, yes, no}
 use Rattle.wh_cert.specs.Items.{Item, yes_head, node, no_head, step, at, put, end, items}
 use Rattle.wh_cert.specs.Text.{put_steps, put_puts, put_numbers, put_nodes}
-use Rattle.wh_cert.specs.Limits.{StepFits, PutFits, NodeFits, PartsFit}
+use Rattle.wh_cert.specs.Limits.{StepFits, PutFits, NodeFits, IsVersion, IsOfVersion, PartsFit}
 use Rattle.wh_cert.specs.CertText.{CertText, Begins}
 use Rattle.wh_cert_text.specs.LineMachine as m
 use Rattle.wh_cert_text.specs.LineMachine.{LinePlace, finished, Past, nothing, begun, placed, Standing, unread, stands, stands_yes, wrong, take_byte, run, start}
@@ -27,7 +26,7 @@ use Rattle.wh_cert_text.proofs.YesReached as r
 use Rattle.wh_cert_text.proofs.Ended.{run_wrong, run_append}
 use Rattle.wh_cert_text.proofs.Reached.{Good, StandsGood, reached}
 use Rattle.wh_cert_text.proofs.LineComplete.{head_run, step_run, at_path_run, put_run}
-use Rattle.wh_cert_text.proofs.YesComplete.{numbers_run, counted_run, node_run, wants_some}
+use Rattle.wh_cert_text.proofs.YesComplete.{version_run, numbers_run, counted_run, node_run, wants_some}
 use Rattle.wh_cert_text.proofs.Whole.{text_run}
 use Rattle.wh_cert_text.proofs.ItemsHanded.{no_items, yes_items, items_of, byte_next}
 
@@ -57,11 +56,11 @@ later_items p (b ∷ q) goes =
 end_items : (x : Standing) (c : Cert) → IsEnd x c → items_of x ≡ items c
 end_items x (no t steps path puts) e = ap items_of e
 end_items x (yes version ranks pairs nodes) e =
-    ap items_of e.1 ∙ ap (λ (v : ℕ). yes_head v ranks pairs ∷ (map node nodes ++ end ∷ [])) (sym e.0)
+    ap items_of e
 
 end_goes : (x : Standing) (c : Cert) → IsEnd x c → x ≡ wrong → ⊥
 end_goes x (no t steps path puts) e w = (let both = sym e ∙ w in absurd cc)
-end_goes x (yes version ranks pairs nodes) e w = (let both = sym e.1 ∙ w in absurd cc)
+end_goes x (yes version ranks pairs nodes) e w = (let both = sym e ∙ w in absurd cc)
 
 -- the items are the front of those of each certificate that goes on so
 front_items : (p r : List ℕ) (c : Cert) → CertText (p ++ r) c → (rest : List Item) × (items c ≡ items_of (run start p) ++ rest)
@@ -93,12 +92,10 @@ placed_text t steps path puts xs q =
     ap (λ (v : List ℕ). put_items (no_head t ∷ []) v)
     (steps_text steps (at path ∷ (map put puts ++ xs)) q ∙ ap (λ (v : List ℕ). put_steps steps (put_items (at path ∷ []) v)) (puts_text puts xs q))
 
-head_text : (ranks : List ℕ) (pairs k : ℕ) (nodes : List Node) (xs : List Item) (q : List ℕ)
-    → put_items (yes_head 1 ranks pairs ∷ (map node nodes ++ xs)) q ≡ r.past_text s.third (y.so_far ranks pairs nodes k) (put_items xs q)
-head_text ranks pairs k nodes xs q =
-    ap (λ (v : List ℕ). put_items (yes_head 1 ranks pairs ∷ []) v) (nodes_text nodes xs q)
-    ∙ ap (λ (ds : List ℕ). codes "YES " ++ (ds ++ (10 ∷ (codes "ranks" ++ put_numbers ranks (10 ∷ (codes "pairs " ++ (decimal pairs ++ (10 ∷ put_nodes nodes (put_items xs q)))))))))
-    (decimal_digit 1 (omega arith))
+head_text : (version : ℕ) (ranks : List ℕ) (pairs k : ℕ) (nodes : List Node) (xs : List Item) (q : List ℕ)
+    → put_items (yes_head version ranks pairs ∷ (map node nodes ++ xs)) q ≡ r.past_text s.third (y.so_far version ranks pairs nodes k) (put_items xs q)
+head_text version ranks pairs k nodes xs q =
+    ap (λ (v : List ℕ). put_items (yes_head version ranks pairs ∷ []) v) (nodes_text nodes xs q)
 
 no_begun : (k : ℕ) (h : Past) (p : LinePlace) (f : List ℕ → List ℕ) → Good k h p f → (q : List ℕ) × (put_items (no_items h p) q ≡ f [])
 no_begun k nothing p f g = (f [], refl)
@@ -109,12 +106,13 @@ no_begun k (placed t steps path puts) finished f g =
 no_begun k (placed t steps path puts) p f g = (g.line [], placed_text t steps path puts [] (g.line []) ∙ g.spelled [])
 
 yes_begun : (k : ℕ) (h : y.Past) (p : y.Place) (f : List ℕ → List ℕ) (x : s.Stage) → s.stage p ≡ x → r.Good k h p f → (q : List ℕ) × (put_items (yes_items x h p) q ≡ f [])
+yes_begun k h p f s.opening e g = (f [], refl)
 yes_begun k h p f s.first e g = (f [], refl)
 yes_begun k h p f s.second e g = (f [], refl)
-yes_begun k (y.so_far ranks pairs nodes w) y.finished f s.third e g =
-    ([], head_text ranks pairs w nodes (end ∷ []) [] ∙ ap (r.past_text s.third (y.so_far ranks pairs nodes w)) (g.reads []) ∙ g.spelled [])
-yes_begun k (y.so_far ranks pairs nodes w) p f s.third e g =
-    (g.line [], head_text ranks pairs w nodes [] (g.line []) ∙ ap (λ (v : s.Stage). r.past_text v (y.so_far ranks pairs nodes w) (g.line [])) (sym e) ∙ g.spelled [])
+yes_begun k (y.so_far version ranks pairs nodes w) y.finished f s.third e g =
+    ([], head_text version ranks pairs w nodes (end ∷ []) [] ∙ ap (r.past_text s.third (y.so_far version ranks pairs nodes w)) (g.reads []) ∙ g.spelled [])
+yes_begun k (y.so_far version ranks pairs nodes w) p f s.third e g =
+    (g.line [], head_text version ranks pairs w nodes [] (g.line []) ∙ ap (λ (v : s.Stage). r.past_text v (y.so_far version ranks pairs nodes w) (g.line [])) (sym e) ∙ g.spelled [])
 
 begun_with : (k : ℕ) (x : Standing) (f : List ℕ → List ℕ) → StandsGood k x f → (q : List ℕ) × (put_items (items_of x) q ≡ f [])
 begun_with k unread f g = (f [], refl)
@@ -187,34 +185,33 @@ steps_lead t done (x ∷ steps) path puts (i ∷ is) rest fits is_path put_fits 
     (λ q. step_run (begun t done) x q (All-head StepFits x steps fits))
     (out_same _ is _ _ (ap (λ (v : List Item). no_head t ∷ v) (pushed step done x is)) on))
 
-nodes_lead : (ranks : List ℕ) (pairs k : ℕ) (done nodes : List Node) (is rest : List Item) → All NodeFits nodes → Preorder k nodes
-    → is ++ rest ≡ map node nodes ++ end ∷ [] → Leads (stands_yes (y.so_far ranks pairs done k) y.front) is (yes_head 1 ranks pairs ∷ (map node done ++ is))
-nodes_lead ranks pairs k done nodes [] rest fits order e =
-    record { there = stands_yes (y.so_far ranks pairs done k) y.front; leads = λ q. refl; out = refl }
-nodes_lead ranks pairs zero done [] (i ∷ is) rest fits order e =
+nodes_lead : (version : ℕ) (ranks : List ℕ) (pairs k : ℕ) (done nodes : List Node) (is rest : List Item) → All NodeFits nodes → All (IsOfVersion version) nodes → Preorder k nodes
+    → is ++ rest ≡ map node nodes ++ end ∷ [] → Leads (stands_yes (y.so_far version ranks pairs done k) y.front) is (yes_head version ranks pairs ∷ (map node done ++ is))
+nodes_lead version ranks pairs k done nodes [] rest fits v order e =
+    record { there = stands_yes (y.so_far version ranks pairs done k) y.front; leads = λ q. refl; out = refl }
+nodes_lead version ranks pairs zero done [] (i ∷ is) rest fits v order e =
     let f = first_of i end is rest [] e in
     let last : end ∷ [] ≡ i ∷ is = ap (λ (v : Item). v ∷ []) (sym f.0) ∙ ap (λ (v : List Item). i ∷ v) (sym (none_of is rest f.1)) in
-    subst (λ (v : List Item). Leads (stands_yes (y.so_far ranks pairs done 0) y.front) v (yes_head 1 ranks pairs ∷ (map node done ++ v))) last
-    (record { there = stands_yes (y.so_far ranks pairs done 0) y.finished; leads = λ q. refl; out = refl })
-nodes_lead ranks pairs (suc k) done [] (i ∷ is) rest fits order e = absurd order
-nodes_lead ranks pairs zero done (x ∷ nodes) (i ∷ is) rest fits order e = absurd order
-nodes_lead ranks pairs (suc k) done (x ∷ nodes) (i ∷ is) rest fits order e =
+    subst (λ (v : List Item). Leads (stands_yes (y.so_far version ranks pairs done 0) y.front) v (yes_head version ranks pairs ∷ (map node done ++ v))) last
+    (record { there = stands_yes (y.so_far version ranks pairs done 0) y.finished; leads = λ q. refl; out = refl })
+nodes_lead version ranks pairs (suc k) done [] (i ∷ is) rest fits v order e = absurd order
+nodes_lead version ranks pairs zero done (x ∷ nodes) (i ∷ is) rest fits v order e = absurd order
+nodes_lead version ranks pairs (suc k) done (x ∷ nodes) (i ∷ is) rest fits v order e =
     let f = first_of i (node x) is rest (map node nodes ++ end ∷ []) e in
     let less : children x + k ≡ children x + (suc k - 1) = omega arith in
-    let on = nodes_lead ranks pairs (children x + k) (done ++ x ∷ []) nodes is rest (All-tail NodeFits x nodes fits) order f.1 in
-    let there = subst (λ (j : ℕ). Leads (stands_yes (y.so_far ranks pairs (done ++ x ∷ []) j) y.front) is (yes_head 1 ranks pairs ∷ (map node (done ++ x ∷ []) ++ is))) less on in
-    subst (λ (v : Item). Leads (stands_yes (y.so_far ranks pairs done (suc k)) y.front) (v ∷ is) (yes_head 1 ranks pairs ∷ (map node done ++ v ∷ is))) (sym f.0)
-    (more_leads (stands_yes (y.so_far ranks pairs done (suc k)) y.front) (stands_yes (y.so_far ranks pairs (done ++ x ∷ []) (children x + (suc k - 1))) y.front) (node x) is _
-    (λ q. node_run (y.so_far ranks pairs done (suc k)) x q (All-head NodeFits x nodes fits) (wants_some (suc k) (omega arith)))
-    (out_same _ is _ _ (ap (λ (v : List Item). yes_head 1 ranks pairs ∷ v) (pushed node done x is)) there))
+    let on = nodes_lead version ranks pairs (children x + k) (done ++ x ∷ []) nodes is rest (All-tail NodeFits x nodes fits) (All-tail (IsOfVersion version) x nodes v) order f.1 in
+    let there = subst (λ (j : ℕ). Leads (stands_yes (y.so_far version ranks pairs (done ++ x ∷ []) j) y.front) is (yes_head version ranks pairs ∷ (map node (done ++ x ∷ []) ++ is))) less on in
+    subst (λ (v : Item). Leads (stands_yes (y.so_far version ranks pairs done (suc k)) y.front) (v ∷ is) (yes_head version ranks pairs ∷ (map node done ++ v ∷ is))) (sym f.0)
+    (more_leads (stands_yes (y.so_far version ranks pairs done (suc k)) y.front) (stands_yes (y.so_far version ranks pairs (done ++ x ∷ []) (children x + (suc k - 1))) y.front) (node x) is _
+    (λ q. node_run (y.so_far version ranks pairs done (suc k)) x q (All-head NodeFits x nodes fits) (All-head (IsOfVersion version) x nodes v) (wants_some (suc k) (omega arith)))
+    (out_same _ is _ _ (ap (λ (v : List Item). yes_head version ranks pairs ∷ v) (pushed node done x is)) there))
 
 -- the head of a YES certificate
-head_leads : (ranks : List ℕ) (pairs : ℕ) (q : List ℕ) → All IsSmall ranks → IsSmall pairs → run start (put_items (yes_head 1 ranks pairs ∷ []) q) ≡ run (stands_yes (y.so_far ranks pairs [] 1) y.front) q
-head_leads ranks pairs q small few =
-    ap (λ (ds : List ℕ). run start (codes "YES " ++ (ds ++ (10 ∷ (codes "ranks" ++ put_numbers ranks (10 ∷ (codes "pairs " ++ (decimal pairs ++ (10 ∷ q)))))))))
-    (decimal_digit 1 (omega arith))
-    ∙ numbers_run y.nothing y.of_ranks [] ranks (codes "pairs " ++ (decimal pairs ++ (10 ∷ q))) small
-    ∙ counted_run (y.so_far ranks 0 [] 0) y.of_pairs pairs (10 ∷ q) few
+head_leads : (version : ℕ) (ranks : List ℕ) (pairs : ℕ) (q : List ℕ) → IsVersion version → All IsSmall ranks → IsSmall pairs → run start (put_items (yes_head version ranks pairs ∷ []) q) ≡ run (stands_yes (y.so_far version ranks pairs [] 1) y.front) q
+head_leads version ranks pairs q is small few =
+    version_run version (put_numbers ranks (10 ∷ (codes "pairs " ++ (decimal pairs ++ (10 ∷ q))))) is
+    ∙ numbers_run (y.so_far version [] 0 [] 0) y.of_ranks [] ranks (codes "pairs " ++ (decimal pairs ++ (10 ∷ q))) small
+    ∙ counted_run (y.so_far version ranks 0 [] 0) y.of_pairs pairs (10 ∷ q) few
 
 front_leads : (c : Cert) (is rest : List Item) → PartsFit c → items c ≡ is ++ rest → Leads start is is
 front_leads c [] rest fits e = record { there = start; leads = λ q. refl; out = refl }
@@ -225,10 +222,9 @@ front_leads (no t steps path puts) (i ∷ is) rest fits e =
     (steps_lead t [] steps path puts is rest fits.1 fits.2 fits.3 f.1))
 front_leads (yes version ranks pairs nodes) (i ∷ is) rest fits e =
     let f = first_of i (yes_head version ranks pairs) is rest (map node nodes ++ end ∷ []) (sym e) in
-    let one : yes_head 1 ranks pairs ≡ i = ap (λ (v : ℕ). yes_head v ranks pairs) (sym fits.0) ∙ sym f.0 in
-    subst (λ (v : Item). Leads start (v ∷ is) (v ∷ is)) one
-    (more_leads start (stands_yes (y.so_far ranks pairs [] 1) y.front) (yes_head 1 ranks pairs) is _ (λ q. head_leads ranks pairs q fits.1 fits.2)
-    (nodes_lead ranks pairs 1 [] nodes is rest fits.3 fits.4 f.1))
+    subst (λ (v : Item). Leads start (v ∷ is) (v ∷ is)) (sym f.0)
+    (more_leads start (stands_yes (y.so_far version ranks pairs [] 1) y.front) (yes_head version ranks pairs) is _ (λ q. head_leads version ranks pairs q fits.0 fits.1 fits.2)
+    (nodes_lead version ranks pairs 1 [] nodes is rest fits.3 fits.4 fits.5 f.1))
 
 -- no item more stands whole in the bytes
 

@@ -1,5 +1,5 @@
 -- The reader of certificates reads each text.
-use Rattle.std.proofs.Common.{◌≡◌, ℕ, zero, suc, ◌+◌, ◌-◌, ◌*◌, ◌<◌, cond, List, [], ◌∷◌, ◌++◌, Option, Some, None, codes, refl, sym, ap, ◌∙◌, subst, arith, append_assoc, append-nil}
+use Rattle.std.proofs.Common.{◌≡◌, ℕ, zero, suc, ◌+◌, ◌-◌, ◌*◌, ◌<◌, cond, List, [], ◌∷◌, ◌++◌, Option, Some, None, codes, refl, sym, ap, ◌∙◌, arith, append_assoc, append-nil}
 use Rattle.std.specs.List.{All}
 use Rattle.std.proofs.lemmas.Bool.{cond-true}
 use Rattle.std.proofs.lemmas.List.Elements.{All-head, All-tail}
@@ -21,7 +21,6 @@ use Rattle.wh_cert.specs.Limits.{RuleFits, StepFits, PutFits, PartsFit}
 use Rattle.wh_cert_text.specs.LineMachine.{head_item, step_item, at_item, put_item, LinePlace, in_term, line, rule_wanted, rule_number, step_path, at_path, later_line, put_percent, put_number, put_type, put_term as placing, LineStep, on, term_line, put_line, type_line, Past, nothing, begun, placed, gather, Standing, stands, wrong, standing_after, run, start}
 use Rattle.wh_cert_text.specs.ReadEnd.{IsEnd}
 use Rattle.wh_cert_text.proofs.Ended.{run_wrong}
-use Rattle.wh_cert_text.proofs.YesReached.{text_one}
 use Rattle.wh_cert_text.proofs.YesComplete.{yes_run}
 
 -- the same through the readers of terms and types
@@ -148,5 +147,4 @@ cert_run (no t steps at puts) f =
     ∙ at_path_run (begun t steps) [] at later f.2
     ∙ puts_run t steps at [] puts ending f.3
 cert_run (yes version ranks pairs nodes) f =
-    subst (λ (v : ℕ). IsEnd (run start (text (yes v ranks pairs nodes))) (yes v ranks pairs nodes)) (sym f.0)
-    (refl, ap (run start) (text_one ranks pairs 0 nodes) ∙ yes_run ranks pairs nodes (codes "end" ++ (10 ∷ [])) f.1 f.2 f.3 f.4)
+    yes_run version ranks pairs nodes (codes "end" ++ (10 ∷ [])) f.0 f.1 f.2 f.3 f.4 f.5

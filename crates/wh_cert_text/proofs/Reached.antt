@@ -176,8 +176,8 @@ good_same n m wrong f g e same h = tt
 
 first_kept : (b : ℕ) → StandsGood 1 (first_byte b) (λ r. b ∷ r)
 first_kept b =
-    cond_both (b == 89) (stands_yes y.nothing (y.word (codes "ES 1" ++ (10 ∷ codes "ranks")) (y.to_list y.of_ranks))) _ (λ s. StandsGood 1 s (λ r. b ∷ r))
-    (λ e. subst (λ (x : ℕ). yes_past.Good 1 y.nothing (y.word (codes "ES 1" ++ (10 ∷ codes "ranks")) (y.to_list y.of_ranks)) (λ r. x ∷ r)) (sym (eqb-true b 89 e)) begun_good)
+    cond_both (b == 89) (stands_yes y.nothing (y.word (codes "ES ") y.to_version)) _ (λ s. StandsGood 1 s (λ r. b ∷ r))
+    (λ e. subst (λ (x : ℕ). yes_past.Good 1 y.nothing (y.word (codes "ES ") y.to_version) (λ r. x ∷ r)) (sym (eqb-true b 89 e)) begun_good)
     (λ e. cond_both (b == 78) (stands nothing (word (codes "O 1" ++ (10 ∷ codes "term ")) to_term)) wrong (λ s. StandsGood 1 s (λ r. b ∷ r))
     (λ d. subst (λ (x : ℕ). Good 1 nothing (word (codes "O 1" ++ (10 ∷ codes "term ")) to_term) (λ r. x ∷ r)) (sym (eqb-true b 78 d)) no_begun)
     (λ d. tt))
@@ -186,7 +186,7 @@ byte_kept : (n : ℕ) (s : Standing) (b : ℕ) (f : List ℕ → List ℕ) → S
 byte_kept n unread b f g =
     good_same 1 (suc n) (first_byte b) (λ r. b ∷ r) (λ r. f (b ∷ r)) (sym (ap (λ (k : ℕ). suc k) g.0)) (λ r. g.1 (b ∷ r)) (first_kept b)
 byte_kept n (stands h p) b f g = moved_kept n h p (line_step p b) b f g (lead_kept n p b g.place g.line g.reads)
-byte_kept n (stands_yes h p) b f g = moved_yes_kept (suc n) h (y.step (y.wants h) p b) (λ r. f (b ∷ r)) (byte_good n h p b f g)
+byte_kept n (stands_yes h p) b f g = moved_yes_kept (suc n) h (y.step (y.version_of h) (y.wants h) p b) (λ r. f (b ∷ r)) (byte_good n h p b f g)
 byte_kept n wrong b f g = tt
 
 run_kept : (n : ℕ) (s : Standing) (p : List ℕ) (f : List ℕ → List ℕ) → StandsGood n s f → StandsGood (n + length p) (run s p) (λ r. f (p ++ r))
@@ -215,6 +215,6 @@ found p (no t steps at puts) e =
     let g = reached_at p (placed t steps at puts) finished e in
     (g.fits, sym (ap (past_text (placed t steps at puts)) (g.reads []) ∙ g.spelled [] ∙ append-nil p))
 found p (yes version ranks pairs nodes) e =
-    let g = reached_yes p (y.so_far ranks pairs nodes 0) y.finished e.1 in
-    let f = end_found (length p) ranks pairs nodes 0 (λ r. p ++ r) g in
-    subst (λ (v : ℕ). PartsFit (yes v ranks pairs nodes) × (p ≡ text (yes v ranks pairs nodes))) (sym e.0) (f.0, sym (f.2 ∙ append-nil p))
+    let g = reached_yes p (y.so_far version ranks pairs nodes 0) y.finished e in
+    let f = end_found (length p) version ranks pairs nodes 0 (λ r. p ++ r) g in
+    (f.0, sym (f.2 ∙ append-nil p))

@@ -17,7 +17,7 @@ use Rattle.wh_cert_text.specs.declared.read.NoReader.{NoReader}
 use Rattle.wh_cert_text.specs.declared.read.Reader.{Reader}
 use Rattle.wh_cert_text.specs.declared.read.Reader.TheVariants.{Unread, Yes, No}
 use Rattle.wh_cert_text.proofs.Ended.{run_append}
-use Rattle.wh_cert_text.proofs.YesSound.{Stage, first, second, third, stage}
+use Rattle.wh_cert_text.proofs.YesSound.{Stage, opening, first, second, third, stage}
 use Rattle.wh_cert_text.proofs.YesReached.{GoodPast}
 use Rattle.wh_cert_text.proofs.Reached.{reached_yes}
 use Rattle.wh_cert_text.proofs.Whole.{Stops, stopped_at, ended_early}
@@ -45,9 +45,10 @@ run_all p i s past e = ap (run start) (sym (take_all i p past)) ∙ e
 -- few nodes are wanted
 
 few_past : (n : ℕ) (st : Stage) (h : y.Past) → n < 2 ^ 32 → GoodPast n st h → wanted h < 2 ^ 64
-few_past n first (y.so_far ranks pairs nodes k) short g = omega (arith, g.1)
-few_past n second (y.so_far ranks pairs nodes k) short g = omega (arith, g.2)
-few_past n third (y.so_far ranks pairs nodes k) short g = omega (arith, g.4)
+few_past n opening (y.so_far version ranks pairs nodes k) short g = omega (arith, g.1)
+few_past n first (y.so_far version ranks pairs nodes k) short g = omega (arith, g.1)
+few_past n second (y.so_far version ranks pairs nodes k) short g = omega (arith, g.2)
+few_past n third (y.so_far version ranks pairs nodes k) short g = omega (arith, g.4)
 
 few_at : (p : List ℕ) (s : Standing) → length p < 2 ^ 32 → run start p ≡ s → few s
 few_at p unread short e = tt
@@ -93,7 +94,7 @@ place_finished Finished l h e = h refl
 
 end_place : (h : m.Past) (p : m.LinePlace) (c : Cert) → IsEnd (stands h p) c → p ≡ m.finished
 end_place h p (no t steps at puts) e = cc
-end_place h p (yes version ranks pairs nodes) e = (let other = e.1 in absurd cc)
+end_place h p (yes version ranks pairs nodes) e = absurd cc
 
 pub not_finished : (r : NoReader) → (r.line.value.place ≡ Finished → ⊥) → (c : Cert) → IsEnd (no_standing r) c → ⊥
 not_finished r h c e =

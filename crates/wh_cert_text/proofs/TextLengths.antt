@@ -3,11 +3,14 @@ use Rattle.std.proofs.Common.{ℕ, ◌≤◌, List, [], ◌∷◌, ◌++◌, len
 use Rattle.std.specs.Fmt.{decimal}
 use Rattle.std.proofs.lemmas.List.Elements.{All-nil, All-cons}
 use Rattle.wh_hopoly.specs.declared.expression.Move as moved
+use Rattle.wh_inference.specs.Inferences.{Inference, infer, Inferences, no_parts, more_parts}
+use Rattle.wh_inference.specs.InferenceText.{Form, alone as is_alone, with_parts, with_place, form, put_place, put_listed, put_inference, put_parts, put_more}
+use Rattle.wh_inference.specs.FilterText.{WrittenFilter, keeps, picks, put_places, put_filter}
 use Rattle.wh_cert.specs.PolyText.{put_poly}
 use Rattle.wh_cert_parts.proofs.PolyTextLengths.{behind, behind_poly, long_poly, poly_within}
 use Rattle.wh_cert.specs.Interps.{Interp}
-use Rattle.wh_cert.specs.Written.{Arg, Node, done, alone, blocks, subterm, interpretations, Cert, yes, no}
-use Rattle.wh_cert.specs.Text.{put_interp, put_interps, put_moves, put_covers, put_numbers, put_line, put_blocks, put_args, put_node, put_nodes, text}
+use Rattle.wh_cert.specs.Written.{Arg, Filtering, Node, done, alone, blocks, subterm, interpretations, order, Cert, yes, no}
+use Rattle.wh_cert.specs.Text.{put_interp, put_interps, put_moves, put_covers, put_filterings, put_all_shown, put_numbers, put_line, put_blocks, put_args, put_node, put_nodes, text}
 use Rattle.wh_cert.specs.CertText.{CertText}
 use Rattle.wh_cert.specs.PolyCounts.{PolyWithin, PolysWithin, AllPolysWithin}
 
@@ -61,6 +64,53 @@ behind_args (a ∷ xs) r =
     let rest = put_args xs r in
     omega (arith, behind (codes "arg ") (a.name ++ (32 ∷ (decimal a.place ++ (10 ∷ rest)))), behind a.name (32 ∷ (decimal a.place ++ (10 ∷ rest))), behind (decimal a.place) (10 ∷ rest), behind_args xs r)
 
+-- filters and inferences
+
+behind_places : (ns r : List ℕ) → length r ≤ length (put_places ns r)
+behind_places [] r = omega arith
+behind_places (n ∷ ns) r = omega (arith, behind (decimal n) (put_places ns r), behind_places ns r)
+
+behind_filter : (f : WrittenFilter) (r : List ℕ) → length r ≤ length (put_filter f r)
+behind_filter (keeps prec places) r =
+    omega (arith, behind (codes "keep ") (decimal prec ++ put_places places r), behind (decimal prec) (put_places places r), behind_places places r)
+behind_filter (picks place) r = omega (arith, behind (codes "pick ") (decimal place ++ r), behind (decimal place) r)
+
+behind_filterings : (word : List ℕ) (fs : List Filtering) (r : List ℕ) → length r ≤ length (put_filterings word fs r)
+behind_filterings word [] r = omega arith
+behind_filterings word (f ∷ fs) r =
+    let rest = put_filterings word fs r in
+    omega (arith, behind word (f.name ++ (32 ∷ put_filter f.filter (10 ∷ rest))), behind f.name (32 ∷ put_filter f.filter (10 ∷ rest)), behind_filter f.filter (10 ∷ rest), behind_filterings word fs r)
+
+behind_place : (f : Form) (n : ℕ) (r : List ℕ) → length r ≤ length (put_place f n r)
+behind_place with_place n r = behind (decimal n) r
+behind_place is_alone n r = omega arith
+behind_place with_parts n r = omega arith
+
+behind_listed : (f : Form) (parts r : List ℕ) → length r ≤ length parts → length r ≤ length (put_listed f parts r)
+behind_listed is_alone parts r le = omega arith
+behind_listed with_parts parts r le = omega (arith, le)
+behind_listed with_place parts r le = omega (arith, le)
+
+mutual
+  behind_inference : (i : Inference) (r : List ℕ) → length r ≤ length (put_inference i r)
+  behind_inference (infer l n is) r =
+      let listed = put_listed (form l) (put_parts is r) r in
+      omega (arith, behind_place (form l) n listed, behind_listed (form l) (put_parts is r) r (behind_parts is r))
+
+  behind_parts : (is : Inferences) (r : List ℕ) → length r ≤ length (put_parts is r)
+  behind_parts no_parts r = omega arith
+  behind_parts (more_parts i is) r = omega (arith, behind_inference i (put_more is r), behind_more is r)
+
+  behind_more : (is : Inferences) (r : List ℕ) → length r ≤ length (put_more is r)
+  behind_more no_parts r = omega arith
+  behind_more (more_parts i is) r = omega (arith, behind_inference i (put_more is r), behind_more is r)
+
+behind_all_shown : (word : List ℕ) (is : List Inference) (r : List ℕ) → length r ≤ length (put_all_shown word is r)
+behind_all_shown word [] r = omega arith
+behind_all_shown word (i ∷ is) r =
+    let rest = put_all_shown word is r in
+    omega (arith, behind word (put_inference i (10 ∷ rest)), behind_inference i (10 ∷ rest), behind_all_shown word is r)
+
 -- nodes
 
 behind_node : (x : Node) (r : List ℕ) → length r ≤ length (put_node x r)
@@ -72,6 +122,12 @@ behind_node (blocks parts) r =
 behind_node (subterm args dropped) r =
     let rest = put_line dropped r in
     omega (arith, behind (codes "subterm") (10 ∷ put_args args (codes "drop" ++ rest)), behind_args args (codes "drop" ++ rest), behind (codes "drop") rest, behind_numbers dropped (10 ∷ r))
+behind_node (order funs marks rules pairs dropped) r =
+    let last = codes "drop" ++ put_line dropped r in
+    let fourth = put_all_shown (codes "pair ") pairs last in
+    let third = put_all_shown (codes "rule ") rules fourth in
+    let second = put_filterings (codes "mark ") marks third in
+    omega (arith, behind (codes "order") (10 ∷ put_filterings (codes "fun ") funs second), behind_filterings (codes "fun ") funs second, behind_filterings (codes "mark ") marks third, behind_all_shown (codes "rule ") rules fourth, behind_all_shown (codes "pair ") pairs last, behind (codes "drop") (put_line dropped r), behind_numbers dropped (10 ∷ r))
 behind_node (interpretations funs marks rules pairs dropped) r =
     let last = codes "drop" ++ put_line dropped r in
     let fourth = put_covers (codes "pair") pairs last in
@@ -84,6 +140,7 @@ node_within n done r le = tt
 node_within n alone r le = tt
 node_within n (blocks parts) r le = tt
 node_within n (subterm args dropped) r le = tt
+node_within n (order funs marks rules pairs dropped) r le = tt
 node_within n (interpretations funs marks rules pairs dropped) r le =
     let third = put_covers (codes "rule") rules (put_covers (codes "pair") pairs (codes "drop" ++ put_line dropped r)) in
     let second = put_interps (codes "mark ") marks third in

@@ -36,16 +36,16 @@ goes_or_stops p (suc k) = elim (goes_or_stops p k) [
 
 abbrev IsWhole : Standing → Type 0
 IsWhole (stands (placed t steps at puts) finished) = Unit {0}
-IsWhole (stands_yes (y.so_far ranks pairs nodes zero) y.finished) = Unit {0}
+IsWhole (stands_yes (y.so_far version ranks pairs nodes zero) y.finished) = Unit {0}
 IsWhole _ = ⊥
 
 ended : (s : Standing) (c : Cert) → IsEnd s c → IsWhole s
 ended s (no t steps at puts) is = subst IsWhole (sym is) tt
-ended s (yes version ranks pairs nodes) is = subst IsWhole (sym is.1) tt
+ended s (yes version ranks pairs nodes) is = subst IsWhole (sym is) tt
 
 whole_or_not : (s : Standing) → ((c : Cert) × IsEnd s c) ⊎ (IsWhole s → ⊥)
 whole_or_not (stands (placed t steps at puts) finished) = inl (no t steps at puts, refl)
-whole_or_not (stands_yes (y.so_far ranks pairs nodes zero) y.finished) = inl (yes 1 ranks pairs nodes, (refl, refl))
+whole_or_not (stands_yes (y.so_far version ranks pairs nodes zero) y.finished) = inl (yes version ranks pairs nodes, refl)
 whole_or_not s = inr (λ whole. whole)
 
 pub text_or_fault : (p : List ℕ) → length p < 2 ^ 32 → ((c : Cert) × CertText p c) ⊎ ((at : ℕ) × FaultAt p at)

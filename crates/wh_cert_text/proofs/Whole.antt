@@ -30,7 +30,7 @@ run_stops wrong p h = run_wrong p
 
 no_end : (s : Standing) (c : Cert) → Stops s → IsEnd s c → ⊥
 no_end wrong (no t steps at puts) h e = absurd cc
-no_end wrong (yes version ranks pairs nodes) h (one, e) = absurd cc
+no_end wrong (yes version ranks pairs nodes) h e = absurd cc
 no_end unread c h e = h
 no_end (stands k q) c h e = h
 no_end (stands_yes k q) c h e = h
@@ -40,7 +40,7 @@ counts_found p (no t steps at puts) short e =
     let g = reached_at p (placed t steps at puts) finished e in
     counts_wider (length p) (2 ^ 32) (no t steps at puts) (omega arith) g.within
 counts_found p (yes version ranks pairs nodes) short e =
-    let g = reached_yes p (y.so_far ranks pairs nodes 0) y.finished e.1 in
+    let g = reached_yes p (y.so_far version ranks pairs nodes 0) y.finished e in
     let before : g.before ≤ length p = omega (arith, g.sum) in
     (omega (arith, g.past.0.1), omega (arith, g.past.4), nodes_wider g.before (2 ^ 32) nodes (omega arith) g.past.3)
 
@@ -64,7 +64,7 @@ unread_ends : ReachesEnd (2 ^ 32) unread
 unread_ends = record {
   tail = codes "YES 1" ++ (10 ∷ (codes "ranks" ++ (10 ∷ (codes "pairs 0" ++ (10 ∷ (codes "done" ++ (10 ∷ (codes "end" ++ (10 ∷ [])))))))));
   c = yes 1 [] 0 (done ∷ []);
-  ends = (refl, refl);
+  ends = refl;
   within = (omega arith, omega arith, All-push (NodeWithin (2 ^ 32)) [] done (All-nil (NodeWithin (2 ^ 32))) tt);
 }
 
@@ -133,7 +133,7 @@ end_stops : (s : Standing) (c : Cert) (b : ℕ) (q : List ℕ) → IsEnd s c →
 end_stops s (no t steps at puts) b q e =
     subst (λ (u : Standing). Stops (run u (b ∷ q))) (sym e) (subst Stops (sym (run_wrong q)) tt)
 end_stops s (yes version ranks pairs nodes) b q e =
-    subst (λ (u : Standing). Stops (run u (b ∷ q))) (sym e.1) (subst Stops (sym (run_wrong q)) tt)
+    subst (λ (u : Standing). Stops (run u (b ∷ q))) (sym e) (subst Stops (sym (run_wrong q)) tt)
 
 pub no_proper_prefix : (p q : List ℕ) (c d : Cert) → CertText p c → CertText (p ++ q) d → q ≡ []
 no_proper_prefix p [] c d s t = refl

@@ -36,6 +36,7 @@ behind_same (behind.List listed.Ranks) l p = refl
 behind_same (behind.List (listed.Block left)) l p = refl
 behind_same (behind.List listed.Drop) l p = refl
 behind_same (behind.List listed.Poly) l p = refl
+behind_same behind.Version l p = refl
 behind_same behind.Pairs l p = refl
 behind_same behind.Done l p = refl
 behind_same behind.Alone l p = refl

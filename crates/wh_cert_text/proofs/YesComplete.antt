@@ -1,17 +1,18 @@
 -- The reader of certificates reads each text of a YES certificate.
-use Rattle.std.proofs.Common.{◌≡◌, ℕ, zero, suc, ◌+◌, ◌-◌, ◌*◌, ◌<◌, Bool, true, cond, ◌&&◌, ◌==◌, nat_lt, List, [], ◌∷◌, ◌++◌, length, codes, refl, sym, ap, ◌∙◌, arith, append_assoc, append-nil}
+use Rattle.std.proofs.Common.{◌≡◌, ℕ, zero, suc, ◌+◌, ◌-◌, ◌*◌, ◌<◌, Bool, true, cond, ◌&&◌, ◌==◌, nat_lt, List, [], ◌∷◌, ◌++◌, length, codes, refl, sym, ap, ◌∙◌, subst, arith, ⊎_elim, append_assoc, append-nil}
 use Rattle.std.specs.List.{All}
 use Rattle.std.proofs.lemmas.Bool.{cond-true, lt-ltb, and_from}
 use Rattle.std.proofs.lemmas.List.Elements.{All-head, All-tail}
 use Rattle.std.specs.Fmt.{decimal}
+use Rattle.std.proofs.lemmas.Fmt.{decimal_digit}
 use Rattle.wh_text.specs.Chars.{is_digit, is_start, is_part}
 use Rattle.wh_letters.specs.Digits.{goes_on}
 use Rattle.wh_letters.proofs.NamesAndNumbers.{ReadsNames, name_run, ReadsNumbers, number_run, is_digit_48, goes_on_48}
 use Rattle.wh_cert.specs.TermLimits.{IsSmall}
 use Rattle.wh_cert.specs.Written.{Arg, Node, done, alone, blocks, subterm, interpretations, children, Preorder}
 use Rattle.wh_cert.specs.Text.{put_numbers, put_blocks, put_arg, put_args, put_node, put_nodes, put_interps, put_covers}
-use Rattle.wh_cert.specs.Limits.{ArgFits, NodeFits}
-use Rattle.wh_cert_text.specs.YesMachine.{Listed, of_ranks, of_block, of_drop, of_poly, Counted, of_pairs, of_blocks, of_place, of_list, to_list, node_item, word, listed, number_wanted, number, front, arg_front, name_wanted, letters, LineStep, on, refused, list_ended, number_ended, front_step, Past, so_far, nothing, gather, wants}
+use Rattle.wh_cert.specs.Limits.{ArgFits, NodeFits, IsVersion, IsOfVersion}
+use Rattle.wh_cert_text.specs.YesMachine.{Listed, of_ranks, of_block, of_drop, of_poly, Counted, of_pairs, of_blocks, of_place, of_list, to_list, node_item, word, listed, number_wanted, number, front, arg_front, name_wanted, letters, LineStep, on, refused, list_ended, number_ended, front_step, Past, so_far, gather, version_of, wants}
 use Rattle.wh_cert_text.specs.LineMachine.{stands_yes, standing_after_yes, run, start}
 use Rattle.wh_cert_text.proofs.LinesComplete.{lines_run}
 
@@ -68,44 +69,62 @@ args_run h read (a ∷ args) r fits =
 
 -- nodes
 
-front_run : (h : Past) (b : ℕ) (r : List ℕ) → wants h ≡ true → run (stands_yes h front) (b ∷ r) ≡ run (standing_after_yes h (front_step true b)) r
-front_run h b r e = ap (λ (w : Bool). run (standing_after_yes h (front_step w b)) r) e
+front_run : (h : Past) (b : ℕ) (r : List ℕ) → wants h ≡ true → run (stands_yes h front) (b ∷ r) ≡ run (standing_after_yes h (front_step (version_of h) true b)) r
+front_run h b r e = ap (λ (w : Bool). run (standing_after_yes h (front_step (version_of h) w b)) r) e
 
-pub node_run : (h : Past) (x : Node) (r : List ℕ) → NodeFits x → wants h ≡ true → run (stands_yes h front) (put_node x r) ≡ run (stands_yes (gather h (node_item x)) front) r
-node_run h done r fits e = front_run h 100 (codes "one" ++ (10 ∷ r)) e
-node_run h alone r fits e = front_run h 97 (codes "lone" ++ (10 ∷ r)) e
-node_run h (blocks []) r fits e =
+pub node_run : (h : Past) (x : Node) (r : List ℕ) → NodeFits x → IsOfVersion (version_of h) x → wants h ≡ true → run (stands_yes h front) (put_node x r) ≡ run (stands_yes (gather h (node_item x)) front) r
+node_run h done r fits v e = front_run h 100 (codes "one" ++ (10 ∷ r)) e
+node_run h alone r fits v e = front_run h 97 (codes "lone" ++ (10 ∷ r)) e
+node_run h (blocks []) r fits v e =
     front_run h 98 (codes "locks " ++ (decimal 0 ++ (10 ∷ r))) e ∙ counted_run h of_blocks 0 (10 ∷ r) (omega arith)
-node_run h (blocks (b ∷ bs)) r fits e =
+node_run h (blocks (b ∷ bs)) r fits v e =
     front_run h 98 (codes "locks " ++ (decimal (suc (length bs)) ++ (10 ∷ put_blocks (b ∷ bs) r))) e
     ∙ counted_run h of_blocks (suc (length bs)) (10 ∷ put_blocks (b ∷ bs) r) fits.0
     ∙ blocks_run h [] b bs r fits.1
-node_run h (subterm args drop) r fits e =
+node_run h (subterm args drop) r fits v e =
     front_run h 115 (codes "ubterm" ++ (10 ∷ put_args args (codes "drop" ++ put_numbers drop (10 ∷ r)))) e
     ∙ args_run h [] args (codes "drop" ++ put_numbers drop (10 ∷ r)) fits.0
     ∙ numbers_run h (of_drop args) [] drop r fits.1
-node_run h (interpretations funs marks rules pairs drop) r fits e =
-    front_run h 112 (codes "oly" ++ (10 ∷ put_interps (codes "fun ") funs (put_interps (codes "mark ") marks (put_covers (codes "rule") rules (put_covers (codes "pair") pairs (codes "drop" ++ put_numbers drop (10 ∷ r))))))) e
+node_run h (interpretations funs marks rules pairs drop) r fits v e =
+    let lines : List ℕ = codes "oly" ++ (10 ∷ put_interps (codes "fun ") funs (put_interps (codes "mark ") marks (put_covers (codes "rule") rules (put_covers (codes "pair") pairs (codes "drop" ++ put_numbers drop (10 ∷ r)))))) in
+    front_run h 112 lines e
+    ∙ ap (λ (n : ℕ). run (standing_after_yes h (front_step n true 112)) lines) v
     ∙ lines_run h funs marks rules pairs (put_numbers drop (10 ∷ r)) fits.0 fits.1 fits.2 fits.3
     ∙ numbers_run h (of_poly funs marks rules pairs) [] drop r fits.4
 
 pub wants_some : (k : ℕ) → 0 < k → nat_lt 0 k ≡ true
 wants_some k some = lt-ltb 0 k some
 
-nodes_run : (ranks : List ℕ) (pairs k : ℕ) (read nodes : List Node) (r : List ℕ) → All NodeFits nodes → Preorder k nodes → run (stands_yes (so_far ranks pairs read k) front) (put_nodes nodes r) ≡ run (stands_yes (so_far ranks pairs (read ++ nodes) 0) front) r
-nodes_run ranks pairs zero read [] r fits p =
-    ap (λ (zs : List Node). run (stands_yes (so_far ranks pairs zs 0) front) r) (sym (append-nil read))
-nodes_run ranks pairs zero read (x ∷ nodes) r fits p = absurd p
-nodes_run ranks pairs (suc k) read [] r fits p = absurd p
-nodes_run ranks pairs (suc k) read (x ∷ nodes) r fits p =
+nodes_run : (version : ℕ) (ranks : List ℕ) (pairs k : ℕ) (read nodes : List Node) (r : List ℕ) → All NodeFits nodes → All (IsOfVersion version) nodes → Preorder k nodes → run (stands_yes (so_far version ranks pairs read k) front) (put_nodes nodes r) ≡ run (stands_yes (so_far version ranks pairs (read ++ nodes) 0) front) r
+nodes_run version ranks pairs zero read [] r fits v p =
+    ap (λ (zs : List Node). run (stands_yes (so_far version ranks pairs zs 0) front) r) (sym (append-nil read))
+nodes_run version ranks pairs zero read (x ∷ nodes) r fits v p = absurd p
+nodes_run version ranks pairs (suc k) read [] r fits v p = absurd p
+nodes_run version ranks pairs (suc k) read (x ∷ nodes) r fits v p =
     let less : children x + (suc k - 1) ≡ children x + k = omega arith in
-    node_run (so_far ranks pairs read (suc k)) x (put_nodes nodes r) (All-head NodeFits x nodes fits) (wants_some (suc k) (omega arith))
-    ∙ ap (λ (j : ℕ). run (stands_yes (so_far ranks pairs (read ++ x ∷ []) j) front) (put_nodes nodes r)) less
-    ∙ nodes_run ranks pairs (children x + k) (read ++ x ∷ []) nodes r (All-tail NodeFits x nodes fits) p
-    ∙ ap (λ (zs : List Node). run (stands_yes (so_far ranks pairs zs 0) front) r) (append_assoc read (x ∷ []) nodes)
+    node_run (so_far version ranks pairs read (suc k)) x (put_nodes nodes r) (All-head NodeFits x nodes fits) (All-head (IsOfVersion version) x nodes v) (wants_some (suc k) (omega arith))
+    ∙ ap (λ (j : ℕ). run (stands_yes (so_far version ranks pairs (read ++ x ∷ []) j) front) (put_nodes nodes r)) less
+    ∙ nodes_run version ranks pairs (children x + k) (read ++ x ∷ []) nodes r (All-tail NodeFits x nodes fits) (All-tail (IsOfVersion version) x nodes v) p
+    ∙ ap (λ (zs : List Node). run (stands_yes (so_far version ranks pairs zs 0) front) r) (append_assoc read (x ∷ []) nodes)
 
-pub yes_run : (ranks : List ℕ) (pairs : ℕ) (nodes : List Node) (r : List ℕ) → All IsSmall ranks → IsSmall pairs → All NodeFits nodes → Preorder 1 nodes → run start (codes "YES 1" ++ (10 ∷ (codes "ranks" ++ put_numbers ranks (10 ∷ (codes "pairs " ++ (decimal pairs ++ (10 ∷ put_nodes nodes r))))))) ≡ run (stands_yes (so_far ranks pairs nodes 0) front) r
-yes_run ranks pairs nodes r small few fits p =
-    numbers_run nothing of_ranks [] ranks (codes "pairs " ++ (decimal pairs ++ (10 ∷ put_nodes nodes r))) small
-    ∙ counted_run (so_far ranks 0 [] 0) of_pairs pairs (10 ∷ put_nodes nodes r) few
-    ∙ nodes_run ranks pairs 1 [] nodes r fits p
+-- the version, up to the line of the ranks
+
+digit_run : (v : ℕ) (r : List ℕ) → ((w : List ℕ) → run start (codes "YES " ++ ((48 + v) ∷ w)) ≡ run (stands_yes (so_far v [] 0 [] 0) (word (10 ∷ codes "ranks") (to_list of_ranks))) w) → v < 10
+    → run start (codes "YES " ++ (decimal v ++ (10 ∷ (codes "ranks" ++ r)))) ≡ run (stands_yes (so_far v [] 0 [] 0) (listed of_ranks [])) r
+digit_run v r leads low =
+    ap (λ (ds : List ℕ). run start (codes "YES " ++ (ds ++ (10 ∷ (codes "ranks" ++ r))))) (decimal_digit v low) ∙ leads (10 ∷ (codes "ranks" ++ r))
+
+pub version_run : (version : ℕ) (r : List ℕ) → IsVersion version → run start (codes "YES " ++ (decimal version ++ (10 ∷ (codes "ranks" ++ r)))) ≡ run (stands_yes (so_far version [] 0 [] 0) (listed of_ranks [])) r
+version_run version r is =
+    let Runs : ℕ → Type 0 = λ v. run start (codes "YES " ++ (decimal v ++ (10 ∷ (codes "ranks" ++ r)))) ≡ run (stands_yes (so_far v [] 0 [] 0) (listed of_ranks [])) r in
+    ⊎_elim
+    (λ (e : version ≡ 1). subst Runs (sym e) (digit_run 1 r (λ w. refl) (omega arith)))
+    (λ (e : version ≡ 2). subst Runs (sym e) (digit_run 2 r (λ w. refl) (omega arith)))
+    is
+
+pub yes_run : (version : ℕ) (ranks : List ℕ) (pairs : ℕ) (nodes : List Node) (r : List ℕ) → IsVersion version → All IsSmall ranks → IsSmall pairs → All NodeFits nodes → All (IsOfVersion version) nodes → Preorder 1 nodes → run start (codes "YES " ++ (decimal version ++ (10 ∷ (codes "ranks" ++ put_numbers ranks (10 ∷ (codes "pairs " ++ (decimal pairs ++ (10 ∷ put_nodes nodes r)))))))) ≡ run (stands_yes (so_far version ranks pairs nodes 0) front) r
+yes_run version ranks pairs nodes r is small few fits v p =
+    version_run version (put_numbers ranks (10 ∷ (codes "pairs " ++ (decimal pairs ++ (10 ∷ put_nodes nodes r))))) is
+    ∙ numbers_run (so_far version [] 0 [] 0) of_ranks [] ranks (codes "pairs " ++ (decimal pairs ++ (10 ∷ put_nodes nodes r))) small
+    ∙ counted_run (so_far version ranks 0 [] 0) of_pairs pairs (10 ∷ put_nodes nodes r) few
+    ∙ nodes_run version ranks pairs 1 [] nodes r fits v p

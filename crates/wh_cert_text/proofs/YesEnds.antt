@@ -18,41 +18,41 @@ use Rattle.wh_cert_text.proofs.PolyLinesSound.{limits, GoodMoves, GoodLines, Goo
 use Rattle.wh_cert_text.proofs.SectionsLaws.{TakesNamed, TakesShown, pairs_good}
 use Rattle.wh_cert_text.proofs.LinesComplete.{poly_lift}
 use Rattle.wh_cert.specs.Written.{Arg, Node, done, alone, blocks, subterm, interpretations, children, yes}
-use Rattle.wh_cert_text.specs.YesMachine.{node_item, end_item, Listed, of_ranks, of_block, of_drop, of_poly, Counted, of_pairs, of_blocks, of_place, of_list, Behind, to_list, to_pairs, to_done, to_alone, to_blocks, to_subterm, to_name, to_poly, to_line, to_finish, Place, word, listed, number_wanted, number, front, arg_front, name_wanted as arg_name_wanted, letters, poly_lines, finished, LineStep, on, refused, behind, list_ended, Past, so_far, gather, wants}
+use Rattle.wh_cert_text.specs.YesMachine.{node_item, end_item, Listed, of_ranks, of_block, of_drop, of_poly, Counted, of_pairs, of_blocks, of_place, of_list, Behind, to_version, to_list, to_pairs, to_done, to_alone, to_blocks, to_subterm, to_name, to_poly, to_line, to_finish, Place, word, version_wanted, listed, number_wanted, number, front, arg_front, name_wanted as arg_name_wanted, letters, poly_lines, finished, LineStep, on, refused, behind, list_ended, Past, so_far, gather, version_of, wants}
 use Rattle.wh_cert_text.specs.LineMachine.{stands_yes, standing_after_yes, run}
-use Rattle.wh_cert_text.proofs.YesSound.{second, third, listed_stage, counted_stage, word_stage, stage, GoodListed, GoodCounted, GoodBehind, GoodPlace, ListedFor, CountedFor, BehindFor, PlaceFor}
+use Rattle.wh_cert_text.proofs.YesSound.{opening, second, third, listed_stage, counted_stage, word_stage, stage, GoodListed, GoodCounted, GoodBehind, GoodPlace, ListedFor, CountedFor, BehindFor, PlaceFor}
 use Rattle.wh_cert_text.proofs.YesReached.{GoodPast, Good, no_wanted, nodes_wider}
 use Rattle.wh_cert_text.proofs.YesComplete.{node_run, wants_some}
 use Rattle.wh_cert_text.proofs.Ended.{ReachesEnd, ends_after}
 
 -- what is wanted leaves room for as many more nodes, and for the lists
 abbrev pub Room : ℕ → Past → Type 0
-Room more (so_far ranks pairs nodes wanted) =
+Room more (so_far version ranks pairs nodes wanted) =
     (length ranks ≤ 2 ^ 32) × All (NodeWithin (2 ^ 32)) nodes × (length nodes + wanted + more < 2 ^ 32)
 
 abbrev no_numbers : List ℕ
 no_numbers = []
 
 -- an end, where the nodes that are wanted are `done`
-front_ends : (k : ℕ) (ranks : List ℕ) (pairs : ℕ) (nodes : List Node) → Room 0 (so_far ranks pairs nodes k) → ReachesEnd (2 ^ 32) (stands_yes (so_far ranks pairs nodes k) front)
-front_ends zero ranks pairs nodes g = record {
+front_ends : (k version : ℕ) (ranks : List ℕ) (pairs : ℕ) (nodes : List Node) → Room 0 (so_far version ranks pairs nodes k) → ReachesEnd (2 ^ 32) (stands_yes (so_far version ranks pairs nodes k) front)
+front_ends zero version ranks pairs nodes g = record {
   tail = codes "end" ++ (10 ∷ []);
-  c = yes 1 ranks pairs nodes;
-  ends = (refl, refl);
+  c = yes version ranks pairs nodes;
+  ends = refl;
   within = (g.0, omega (arith, g.2), g.1);
 }
-front_ends (suc k) ranks pairs nodes g =
-    let h : Past = so_far ranks pairs nodes (suc k) in
+front_ends (suc k) version ranks pairs nodes g =
+    let h : Past = so_far version ranks pairs nodes (suc k) in
     let less : 0 + (suc k - 1) ≡ k = omega arith in
-    ends_after (2 ^ 32) (stands_yes h front) (stands_yes (so_far ranks pairs (nodes ++ done ∷ []) k) front) (λ r. codes "done" ++ (10 ∷ r))
-    (λ r. node_run h done r tt (wants_some (suc k) (omega arith)) ∙ ap (λ (j : ℕ). run (stands_yes (so_far ranks pairs (nodes ++ done ∷ []) j) front) r) less)
-    (front_ends k ranks pairs (nodes ++ done ∷ []) (g.0, All-push (NodeWithin (2 ^ 32)) nodes done g.1 tt, omega (arith, length-append nodes (done ∷ []), g.2)))
+    ends_after (2 ^ 32) (stands_yes h front) (stands_yes (so_far version ranks pairs (nodes ++ done ∷ []) k) front) (λ r. codes "done" ++ (10 ∷ r))
+    (λ r. node_run h done r tt tt (wants_some (suc k) (omega arith)) ∙ ap (λ (j : ℕ). run (stands_yes (so_far version ranks pairs (nodes ++ done ∷ []) j) front) r) less)
+    (front_ends k version ranks pairs (nodes ++ done ∷ []) (g.0, All-push (NodeWithin (2 ^ 32)) nodes done g.1 tt, omega (arith, length-append nodes (done ∷ []), g.2)))
 
 -- behind one more node
 node_ends : (h : Past) (x : Node) → wants h ≡ true → Room 65535 h → NodeWithin (2 ^ 32) x → children x ≤ 65535 → ReachesEnd (2 ^ 32) (stands_yes (gather h (node_item x)) front)
-node_ends (so_far ranks pairs nodes wanted) x is g within few =
+node_ends (so_far version ranks pairs nodes wanted) x is g within few =
     let some : 0 < wanted = ltb-true 0 wanted is in
-    front_ends (children x + (wanted - 1)) ranks pairs (nodes ++ x ∷ []) (g.0, All-push (NodeWithin (2 ^ 32)) nodes x g.1 within, omega (arith, length-append nodes (x ∷ []), g.2, some, few))
+    front_ends (children x + (wanted - 1)) version ranks pairs (nodes ++ x ∷ []) (g.0, All-push (NodeWithin (2 ^ 32)) nodes x g.1 within, omega (arith, length-append nodes (x ∷ []), g.2, some, few))
 
 -- in the lines of blocks: the blocks that are left are empty
 block_ends : (left : ℕ) (h : Past) (parts : List (List ℕ)) → wants h ≡ true → Room 65535 h → All (λ (block : List ℕ). length block ≤ 2 ^ 32) parts → length parts + suc left ≤ 65535 → ReachesEnd (2 ^ 32) (stands_yes h (word (codes "block") (to_list (of_block left parts))))
@@ -66,14 +66,14 @@ block_ends (suc left) h parts is g within few =
 -- fewer than 2^32 bytes were read, n of them since the last item
 
 room_of : (before n : ℕ) (h : Past) → before + n ≤ 2 ^ 32 → GoodPast before third h → Room 65535 h
-room_of before n (so_far ranks pairs nodes wanted) short g =
+room_of before n (so_far version ranks pairs nodes wanted) short g =
     (omega (arith, g.0.1), nodes_wider before (2 ^ 32) nodes (omega arith) g.3, omega (arith, g.4))
 
 -- the number of pairs
 pairs_ends : (before n k : ℕ) (h : Past) → before + n < 2 ^ 32 → GoodPast before second h → ReachesEnd (2 ^ 32) (stands_yes h (number of_pairs k))
-pairs_ends before n k (so_far ranks pairs nodes wanted) short g =
-    ends_after (2 ^ 32) (stands_yes (so_far ranks pairs nodes wanted) (number of_pairs k)) (stands_yes (so_far ranks k nodes 1) front) (λ r. 10 ∷ r) (λ r. refl)
-    (subst (λ (xs : List Node). ReachesEnd (2 ^ 32) (stands_yes (so_far ranks k xs 1) front)) (sym g.1) (front_ends 1 ranks k [] (omega (arith, g.0.1), All-nil (NodeWithin (2 ^ 32)), omega arith)))
+pairs_ends before n k (so_far version ranks pairs nodes wanted) short g =
+    ends_after (2 ^ 32) (stands_yes (so_far version ranks pairs nodes wanted) (number of_pairs k)) (stands_yes (so_far version ranks k nodes 1) front) (λ r. 10 ∷ r) (λ r. refl)
+    (subst (λ (xs : List Node). ReachesEnd (2 ^ 32) (stands_yes (so_far version ranks k xs 1) front)) (sym g.1) (front_ends 1 version ranks k [] (omega (arith, g.0.1), All-nil (NodeWithin (2 ^ 32)), omega arith)))
 
 pairs_wanted_ends : (before n : ℕ) (h : Past) → before + n < 2 ^ 32 → GoodPast before second h → ReachesEnd (2 ^ 32) (stands_yes h (number_wanted of_pairs))
 pairs_wanted_ends before n h short g =
@@ -86,13 +86,13 @@ poly_within n funs marks rules pairs xs le g few =
     (wide.0.1, wide.1.1, wide.2.1, wide.2.2, wide.3.1, wide.3.2, few)
 
 -- a list's line
-list_ended_ends : (before n : ℕ) (h : Past) (of : Listed) (xs : List ℕ) → before + n ≤ 2 ^ 32 → GoodPast before (listed_stage of) h → GoodListed 1 n of → length xs ≤ n → ListedFor (wants h) of → ReachesEnd (2 ^ 32) (standing_after_yes h (list_ended of xs))
-list_ended_ends before n (so_far ranks pairs nodes wanted) of_ranks xs short past g few a =
-    let h : Past = so_far xs pairs nodes wanted in
+list_ended_ends : (before n : ℕ) (h : Past) (of : Listed) (xs : List ℕ) → before + n ≤ 2 ^ 32 → GoodPast before (listed_stage of) h → GoodListed 1 n of → length xs ≤ n → ListedFor (version_of h) (wants h) of → ReachesEnd (2 ^ 32) (standing_after_yes h (list_ended of xs))
+list_ended_ends before n (so_far version ranks pairs nodes wanted) of_ranks xs short past g few a =
+    let h : Past = so_far version xs pairs nodes wanted in
     ends_after (2 ^ 32) (stands_yes h (word (codes "pairs ") to_pairs)) (stands_yes h (number_wanted of_pairs)) (λ r. codes "pairs " ++ r) (λ r. refl)
-    (subst (λ (ys : List Node). ReachesEnd (2 ^ 32) (stands_yes (so_far xs pairs ys wanted) (number_wanted of_pairs))) (sym past.0)
-    (ends_after (2 ^ 32) (stands_yes (so_far xs pairs [] wanted) (number_wanted of_pairs)) (stands_yes (so_far xs 0 [] 1) front) (λ r. 48 ∷ 10 ∷ r) (λ r. refl)
-    (front_ends 1 xs 0 [] (omega arith, All-nil (NodeWithin (2 ^ 32)), omega arith))))
+    (subst (λ (ys : List Node). ReachesEnd (2 ^ 32) (stands_yes (so_far version xs pairs ys wanted) (number_wanted of_pairs))) (sym past.0)
+    (ends_after (2 ^ 32) (stands_yes (so_far version xs pairs [] wanted) (number_wanted of_pairs)) (stands_yes (so_far version xs 0 [] 1) front) (λ r. 48 ∷ 10 ∷ r) (λ r. refl)
+    (front_ends 1 version xs 0 [] (omega arith, All-nil (NodeWithin (2 ^ 32)), omega arith))))
 list_ended_ends before n h (of_block zero parts) xs short past g few a =
     let wide : All (λ (block : List ℕ). length block ≤ 2 ^ 32) parts = All-weaker (λ (block : List ℕ). length block ≤ n) (λ (block : List ℕ). length block ≤ 2 ^ 32) (λ block p. omega arith) parts g.2 in
     node_ends h (blocks (parts ++ xs ∷ [])) a (room_of before n h short past) (All-push (λ (block : List ℕ). length block ≤ 2 ^ 32) parts xs wide (omega arith)) (omega (arith, length-append parts (xs ∷ []), g.0))
@@ -102,9 +102,9 @@ list_ended_ends before n h (of_block (suc left) parts) xs short past g few a =
 list_ended_ends before n h (of_drop args) xs short past g few a =
     node_ends h (subterm args xs) a (room_of before n h short past) (omega (arith, g.1), omega arith) (omega arith)
 list_ended_ends before n h (of_poly funs marks rules pairs) xs short past g few a =
-    node_ends h (interpretations funs marks rules pairs xs) a (room_of before n h short past) (poly_within n funs marks rules pairs xs (omega (arith, short)) g.0 (omega (arith, few, short))) (omega arith)
+    node_ends h (interpretations funs marks rules pairs xs) a.0 (room_of before n h short past) (poly_within n funs marks rules pairs xs (omega (arith, short)) g.0 (omega (arith, few, short))) (omega arith)
 
-list_ends : (before n : ℕ) (h : Past) (of : Listed) (xs : List ℕ) → before + n ≤ 2 ^ 32 → GoodPast before (listed_stage of) h → GoodListed 1 n of → length xs ≤ n → ListedFor (wants h) of → ReachesEnd (2 ^ 32) (stands_yes h (listed of xs))
+list_ends : (before n : ℕ) (h : Past) (of : Listed) (xs : List ℕ) → before + n ≤ 2 ^ 32 → GoodPast before (listed_stage of) h → GoodListed 1 n of → length xs ≤ n → ListedFor (version_of h) (wants h) of → ReachesEnd (2 ^ 32) (stands_yes h (listed of xs))
 list_ends before n h of xs short past g few a =
     ends_after (2 ^ 32) (stands_yes h (listed of xs)) (standing_after_yes h (list_ended of xs)) (λ r. 10 ∷ r) (λ r. refl) (list_ended_ends before n h of xs short past g few a)
 
@@ -138,7 +138,7 @@ count_ends before n (suc left) h short past small a =
     ends_after (2 ^ 32) (stands_yes h (number of_blocks (suc left))) (stands_yes h (word (codes "block") (to_list (of_block left [])))) (λ r. 10 ∷ r) (λ r. refl)
     (block_ends left h [] a (room_of before n h (omega (arith, short)) past) (All-nil (λ (block : List ℕ). length block ≤ 2 ^ 32)) (omega (arith, small)))
 
-number_ends : (before n k : ℕ) (h : Past) (of : Counted) → before + n < 2 ^ 32 → GoodPast before (counted_stage of) h → k ≤ 65535 → GoodCounted n of → CountedFor (wants h) of → ReachesEnd (2 ^ 32) (stands_yes h (number of k))
+number_ends : (before n k : ℕ) (h : Past) (of : Counted) → before + n < 2 ^ 32 → GoodPast before (counted_stage of) h → k ≤ 65535 → GoodCounted n of → CountedFor (version_of h) (wants h) of → ReachesEnd (2 ^ 32) (stands_yes h (number of k))
 number_ends before n k h of_pairs short past small g a = pairs_ends before n k h short past
 number_ends before n k h of_blocks short past small g a = count_ends before n k h short past small a
 number_ends before n k h (of_place args name) short past small g a = place_ends before n k h args name short past g.0.1 a
@@ -146,15 +146,15 @@ number_ends before n k h (of_list of xs) short past small g a =
     ends_after (2 ^ 32) (stands_yes h (number (of_list of xs) k)) (standing_after_yes h (list_ended of (xs ++ k ∷ []))) (λ r. 10 ∷ r) (λ r. refl)
     (list_ended_ends before n h of (xs ++ k ∷ []) (omega (arith, short)) past g.0 (omega (arith, length-append xs (k ∷ []), g.2)) a)
 
-wanted_ends : (before n : ℕ) (h : Past) (of : Counted) → before + n < 2 ^ 32 → GoodPast before (counted_stage of) h → GoodCounted n of → CountedFor (wants h) of → ReachesEnd (2 ^ 32) (stands_yes h (number_wanted of))
+wanted_ends : (before n : ℕ) (h : Past) (of : Counted) → before + n < 2 ^ 32 → GoodPast before (counted_stage of) h → GoodCounted n of → CountedFor (version_of h) (wants h) of → ReachesEnd (2 ^ 32) (stands_yes h (number_wanted of))
 wanted_ends before n h of short past g a =
     ends_after (2 ^ 32) (stands_yes h (number_wanted of)) (stands_yes h (number of 0)) (λ r. 48 ∷ r) (λ r. refl) (number_ends before n 0 h of short past (omega arith) g a)
 
 finished_ends : (before n : ℕ) (h : Past) → before + n < 2 ^ 32 → GoodPast before third h → wants h ≡ false → ReachesEnd (2 ^ 32) (stands_yes h finished)
-finished_ends before n (so_far ranks pairs nodes wanted) short past a =
+finished_ends before n (so_far version ranks pairs nodes wanted) short past a =
     let none : wanted ≡ 0 = no_wanted wanted a in
-    let room = room_of before n (so_far ranks pairs nodes wanted) (omega (arith, short)) past in
-    record { tail = []; c = yes 1 ranks pairs nodes; ends = (refl, ap (λ (k : ℕ). stands_yes (so_far ranks pairs nodes k) finished) none); within = (room.0, omega (arith, room.2), room.1) }
+    let room = room_of before n (so_far version ranks pairs nodes wanted) (omega (arith, short)) past in
+    record { tail = []; c = yes version ranks pairs nodes; ends = ap (λ (k : ℕ). stands_yes (so_far version ranks pairs nodes k) finished) none; within = (room.0, omega (arith, room.2), room.1) }
 
 -- lines of interpretations
 
@@ -234,10 +234,17 @@ lines_place_ends before n h x (amount ms i j k) short past g p a =
     ends_after (2 ^ 32) (stands_yes h (poly_lines x (amount ms i j k))) (stands_yes h (poly_lines (add_shown x (add_move ms i j k)) lines_front)) (λ r. 10 ∷ r) (λ r. refl)
     (move_ends before n h x ms i j k short past g p a)
 
+-- the version
+version_ends : {before : ℕ} (h : Past) → GoodPast before opening h → ReachesEnd (2 ^ 32) (stands_yes h version_wanted)
+version_ends (so_far version ranks pairs nodes wanted) past =
+    subst (λ (xs : List Node). ReachesEnd (2 ^ 32) (stands_yes (so_far version ranks pairs xs wanted) version_wanted)) (sym past.0)
+    (ends_after (2 ^ 32) (stands_yes (so_far version ranks pairs [] wanted) version_wanted) (stands_yes (so_far 1 [] 0 [] 1) front) (λ r. codes "1" ++ (10 ∷ (codes "ranks" ++ (10 ∷ (codes "pairs 0" ++ (10 ∷ r)))))) (λ r. refl)
+    (front_ends 1 1 [] 0 [] (omega arith, All-nil (NodeWithin (2 ^ 32)), omega arith)))
+
 -- fixed words
 
 gather_end : (h : Past) → gather h end_item ≡ h
-gather_end (so_far ranks pairs nodes wanted) = refl
+gather_end (so_far version ranks pairs nodes wanted) = refl
 
 word_run : (h : Past) (x : ℕ) (w : List ℕ) (o : Behind) (r : List ℕ) → run (stands_yes h (word (x ∷ w) o)) ((x ∷ w) ++ r) ≡ run (standing_after_yes h (behind o)) r
 word_run h x [] o r =
@@ -255,7 +262,8 @@ list_begun n (of_drop args) g = (g.0, omega (arith, g.1), omega (arith, g.2))
 list_begun n (of_poly funs marks rules pairs) g =
     (lines_wider n (suc n) (in_pairs funs marks rules pairs) (omega arith) g.0, omega (arith, g.1))
 
-behind_ends : (before n : ℕ) (h : Past) (o : Behind) → before + n < 2 ^ 32 → GoodPast before (word_stage o) h → GoodBehind n o → BehindFor (wants h) o → ReachesEnd (2 ^ 32) (standing_after_yes h (behind o))
+behind_ends : (before n : ℕ) (h : Past) (o : Behind) → before + n < 2 ^ 32 → GoodPast before (word_stage o) h → GoodBehind n o → BehindFor (version_of h) (wants h) o → ReachesEnd (2 ^ 32) (standing_after_yes h (behind o))
+behind_ends before n h to_version short past g a = version_ends h past
 behind_ends before n h (to_list of) short past g a =
     list_ends before (suc n) h of [] (omega (arith, short)) past (list_begun n of g) (omega arith) a
 behind_ends before n h to_pairs short past g a = pairs_wanted_ends before n h short past
@@ -264,21 +272,22 @@ behind_ends before n h to_alone short past g a = node_ends h alone a (room_of be
 behind_ends before n h to_blocks short past g a = wanted_ends before n h of_blocks short past tt a
 behind_ends before n h to_subterm short past g a = args_end before n h [] short past (omega arith) a
 behind_ends before n h (to_name args) short past g a = name_ends before n h args short past g.1 a
-behind_ends before n h to_poly short past g a = lines_end before n h (in_funs []) (omega (arith, short)) past (no_interps n) a
-behind_ends before n h (to_line x) short past g a = lines_place_ends before n h x (line_begun x) short past g (begun_good n x) a
+behind_ends before n h to_poly short past g a = lines_end before n h (in_funs []) (omega (arith, short)) past (no_interps n) a.0
+behind_ends before n h (to_line x) short past g a = lines_place_ends before n h x (line_begun x) short past g (begun_good n x) a.0
 behind_ends before n h to_finish short past g a =
     subst (λ (k : Past). ReachesEnd (2 ^ 32) (stands_yes k finished)) (sym (gather_end h)) (finished_ends before n h short past a)
 
 -- the front of a node or of the end
 front_place_ends : (before n : ℕ) (h : Past) → before + n < 2 ^ 32 → GoodPast before third h → ReachesEnd (2 ^ 32) (stands_yes h front)
-front_place_ends before n (so_far ranks pairs nodes wanted) short past =
-    let room = room_of before n (so_far ranks pairs nodes wanted) (omega (arith, short)) past in
-    front_ends wanted ranks pairs nodes (room.0, room.1, omega (arith, room.2))
+front_place_ends before n (so_far version ranks pairs nodes wanted) short past =
+    let room = room_of before n (so_far version ranks pairs nodes wanted) (omega (arith, short)) past in
+    front_ends wanted version ranks pairs nodes (room.0, room.1, omega (arith, room.2))
 
-place_end : (before n : ℕ) (h : Past) (p : Place) → before + n < 2 ^ 32 → GoodPast before (stage p) h → GoodPlace n p → PlaceFor (wants h) p → ReachesEnd (2 ^ 32) (stands_yes h p)
+place_end : (before n : ℕ) (h : Past) (p : Place) → before + n < 2 ^ 32 → GoodPast before (stage p) h → GoodPlace n p → PlaceFor (version_of h) (wants h) p → ReachesEnd (2 ^ 32) (stands_yes h p)
 place_end before n h (word [] o) short past g a = absurd g
 place_end before n h (word (x ∷ w) o) short past g a =
     ends_after (2 ^ 32) (stands_yes h (word (x ∷ w) o)) (standing_after_yes h (behind o)) (λ r. (x ∷ w) ++ r) (λ r. word_run h x w o r) (behind_ends before n h o short past g a)
+place_end before n h version_wanted short past g a = version_ends h past
 place_end before n h (listed of xs) short past g a = list_ends before n h of xs (omega (arith, short)) past g.0 g.1.1 a
 place_end before n h (number_wanted of) short past g a = wanted_ends before n h of short past g a
 place_end before n h (number of k) short past g a = number_ends before n k h of short past g.0 g.1 a
@@ -286,7 +295,7 @@ place_end before n h front short past g a = front_place_ends before n h short pa
 place_end before n h (arg_front args) short past g a = args_end before n h args short past (omega (arith, g.1)) a
 place_end before n h (arg_name_wanted args) short past g a = name_ends before n h args short past g.1 a
 place_end before n h (letters args xs) short past g a = letters_end before n h args xs short past g.0.1 a
-place_end before n h (poly_lines x k) short past g a = lines_place_ends before n h x k short past g.0 g.1 a
+place_end before n h (poly_lines x k) short past g a = lines_place_ends before n h x k short past g.0 g.1 a.0
 place_end before n h finished short past g a = finished_ends before n h short past a
 
 pub yes_ends : (n : ℕ) (h : Past) (p : Place) (f : List ℕ → List ℕ) → n < 2 ^ 32 → Good n h p f → ReachesEnd (2 ^ 32) (stands_yes h p)

@@ -1,10 +1,11 @@
 -- What the reader of YES certificates has read is spelled: each step keeps what a place has read, and that it is within the
 -- limits.
-use Rattle.std.proofs.Common.{◌≡◌, ℕ, zero, suc, ◌+◌, ◌-◌, ◌*◌, ◌<◌, ◌≤◌, Bool, true, false, cond, ◌==◌, ◌&&◌, nat_lt, List, [], ◌∷◌, ◌++◌, length, codes, refl, sym, ap, ◌∙◌, subst, arith, append_assoc, length-append}
+use Rattle.std.proofs.Common.{◌≡◌, ℕ, zero, suc, ◌+◌, ◌-◌, ◌*◌, ◌<◌, ◌≤◌, Bool, true, false, cond, ◌==◌, ◌&&◌, nat_lt, List, [], ◌∷◌, ◌++◌, length, codes, refl, sym, ap, ◌∙◌, subst, arith, append_assoc, length-append, inl, inr}
 use Rattle.std.specs.List.{All}
 use Rattle.std.proofs.lemmas.Bool.{eqb-true, cond_both}
 use Rattle.std.proofs.lemmas.List.Elements.{All-nil, All-push, All-weaker}
 use Rattle.std.specs.Fmt.{decimal}
+use Rattle.std.proofs.lemmas.Fmt.{decimal_digit}
 use Rattle.wh_text.specs.Chars.{is_digit, is_start, is_part}
 use Rattle.wh_text.specs.Words.{IsWord}
 use Rattle.wh_letters.specs.Digits.{goes_on}
@@ -12,8 +13,8 @@ use Rattle.wh_letters.proofs.NamesAndNumbers.{first_letter, next_letter, first_d
 use Rattle.wh_cert.specs.TermLimits.{IsSmall}
 use Rattle.wh_cert.specs.Written.{Arg, Node, blocks, children}
 use Rattle.wh_cert.specs.Text.{put_numbers, put_block, put_blocks, put_arg, put_args, put_node, put_nodes}
-use Rattle.wh_cert.specs.Limits.{ArgFits, NodeFits, NodeWithin}
-use Rattle.wh_cert_text.specs.YesMachine.{Item, ranks_item, pairs_item, node_item, end_item, Listed, of_ranks, of_block, of_drop, of_poly, Counted, of_pairs, of_blocks, of_place, of_list, Behind, to_list, to_pairs, to_done, to_alone, to_blocks, to_subterm, to_name, to_poly, to_line, to_finish, Place, word, listed, number_wanted, number, front, arg_front, name_wanted, letters, poly_lines, finished, LineStep, on, gives, refused, spelling, behind, word_on, list_ended, count_ended, list_step, number_ended, front_step, lines_led, step}
+use Rattle.wh_cert.specs.Limits.{ArgFits, NodeFits, IsVersion, IsOfVersion, NodeWithin}
+use Rattle.wh_cert_text.specs.YesMachine.{Item, version_item, ranks_item, pairs_item, node_item, end_item, Listed, of_ranks, of_block, of_drop, of_poly, Counted, of_pairs, of_blocks, of_place, of_list, Behind, to_version, to_list, to_pairs, to_done, to_alone, to_blocks, to_subterm, to_name, to_poly, to_line, to_finish, Place, word, version_wanted, listed, number_wanted, number, front, arg_front, name_wanted, letters, poly_lines, finished, LineStep, on, gives, refused, spelling, behind, word_on, version_begun, version_step, list_ended, count_ended, list_step, number_ended, front_step, lines_led, step}
 use Rattle.wh_cert_text.specs.PolyLines as l
 use Rattle.wh_cert_text.specs.PolyLines.{Lines, in_funs, in_marks, in_rules, in_pairs, lines_front, LinesStep, begins, drops, line_first, line_begun, lines_step}
 use Rattle.wh_cert_text.proofs.PolyLinesSound.{put_lines, lines_seen, GoodLines, GoodLinesPlace, LinesNext, no_interps, no_covers, lines_wider, begun_good, begun_text, lines_kept}
@@ -36,10 +37,10 @@ pub put_nodes_add : (nodes : List Node) (x : Node) (r : List ℕ) → put_nodes 
 put_nodes_add [] x r = refl
 put_nodes_add (y ∷ nodes) x r = ap (put_node y) (put_nodes_add nodes x r)
 
--- the parts of a certificate come in three stages: the ranks, the number of pairs, the nodes
+-- the parts of a certificate come in four stages: the version, the ranks, the number of pairs, the nodes
 
 pub data Stage : Type 0 where
-  first second third : Stage
+  opening first second third : Stage
 
 abbrev pub listed_stage : Listed → Stage
 listed_stage of_ranks = first
@@ -51,23 +52,27 @@ counted_stage (of_list of xs) = listed_stage of
 counted_stage _ = third
 
 abbrev pub word_stage : Behind → Stage
+word_stage to_version = opening
 word_stage (to_list of) = listed_stage of
 word_stage to_pairs = second
 word_stage _ = third
 
 abbrev pub stage : Place → Stage
 stage (word w o) = word_stage o
+stage version_wanted = opening
 stage (listed of xs) = listed_stage of
 stage (number_wanted of) = counted_stage of
 stage (number of n) = counted_stage of
 stage _ = third
 
 abbrev pub item_from : Item → Stage
+item_from (version_item v) = opening
 item_from (ranks_item xs) = first
 item_from (pairs_item n) = second
 item_from _ = third
 
 abbrev pub item_to : Item → Stage
+item_to (version_item v) = first
 item_to (ranks_item xs) = second
 item_to _ = third
 
@@ -96,6 +101,7 @@ counted_lead (of_place args name) r = codes "subterm" ++ (10 ∷ put_args args (
 counted_lead (of_list of xs) r = list_lead of xs (32 ∷ r)
 
 abbrev pub lead : Place → List ℕ → List ℕ
+lead version_wanted r = codes "YES " ++ r
 lead (listed of xs) r = list_lead of xs r
 lead (number_wanted of) r = counted_lead of r
 lead (number of n) r = counted_lead of (decimal n ++ r)
@@ -112,7 +118,8 @@ PlaceReads (word w o) f = (v : List ℕ) × (v ++ w ≡ spelling o) × ((r : Lis
 PlaceReads p f = (r : List ℕ) → lead p r ≡ f r
 
 abbrev pub item_text : Item → List ℕ → List ℕ
-item_text (ranks_item xs) r = codes "YES 1" ++ (10 ∷ (codes "ranks" ++ put_numbers xs (10 ∷ r)))
+item_text (version_item v) r = codes "YES " ++ (decimal v ++ r)
+item_text (ranks_item xs) r = 10 ∷ (codes "ranks" ++ put_numbers xs (10 ∷ r))
 item_text (pairs_item n) r = codes "pairs " ++ (decimal n ++ (10 ∷ r))
 item_text (node_item x) r = put_node x r
 item_text end_item r = r
@@ -156,68 +163,75 @@ GoodPlace n (letters args xs) = GoodArgs n args × IsWord xs
 GoodPlace n (poly_lines x k) = GoodLines n x × GoodLinesPlace n x k
 GoodPlace n _ = Unit {0}
 
--- the place is right where a node is wanted, or where none is
+-- the place is right where a node is wanted, or where none is, in a certificate of the version
 
-abbrev pub ListedFor : Bool → Listed → Type 0
-ListedFor wants of_ranks = Unit {0}
-ListedFor wants _ = wants ≡ true
+abbrev pub ListedFor : ℕ → Bool → Listed → Type 0
+ListedFor version wants of_ranks = Unit {0}
+ListedFor version wants (of_poly funs marks rules pairs) = (wants ≡ true) × (version ≡ 1)
+ListedFor version wants _ = wants ≡ true
 
-abbrev pub CountedFor : Bool → Counted → Type 0
-CountedFor wants of_pairs = Unit {0}
-CountedFor wants (of_list of xs) = ListedFor wants of
-CountedFor wants _ = wants ≡ true
+abbrev pub CountedFor : ℕ → Bool → Counted → Type 0
+CountedFor version wants of_pairs = Unit {0}
+CountedFor version wants (of_list of xs) = ListedFor version wants of
+CountedFor version wants _ = wants ≡ true
 
-abbrev pub BehindFor : Bool → Behind → Type 0
-BehindFor wants (to_list of) = ListedFor wants of
-BehindFor wants to_pairs = Unit {0}
-BehindFor wants to_finish = wants ≡ false
-BehindFor wants _ = wants ≡ true
+abbrev pub BehindFor : ℕ → Bool → Behind → Type 0
+BehindFor version wants (to_list of) = ListedFor version wants of
+BehindFor version wants to_version = Unit {0}
+BehindFor version wants to_pairs = Unit {0}
+BehindFor version wants to_poly = (wants ≡ true) × (version ≡ 1)
+BehindFor version wants (to_line x) = (wants ≡ true) × (version ≡ 1)
+BehindFor version wants to_finish = wants ≡ false
+BehindFor version wants _ = wants ≡ true
 
-abbrev pub PlaceFor : Bool → Place → Type 0
-PlaceFor wants (word w o) = BehindFor wants o
-PlaceFor wants (listed of xs) = ListedFor wants of
-PlaceFor wants (number_wanted of) = CountedFor wants of
-PlaceFor wants (number of n) = CountedFor wants of
-PlaceFor wants front = Unit {0}
-PlaceFor wants finished = wants ≡ false
-PlaceFor wants _ = wants ≡ true
+abbrev pub PlaceFor : ℕ → Bool → Place → Type 0
+PlaceFor version wants (word w o) = BehindFor version wants o
+PlaceFor version wants (listed of xs) = ListedFor version wants of
+PlaceFor version wants (number_wanted of) = CountedFor version wants of
+PlaceFor version wants (number of n) = CountedFor version wants of
+PlaceFor version wants version_wanted = Unit {0}
+PlaceFor version wants front = Unit {0}
+PlaceFor version wants (poly_lines x k) = (wants ≡ true) × (version ≡ 1)
+PlaceFor version wants finished = wants ≡ false
+PlaceFor version wants _ = wants ≡ true
 
 -- an item after n bytes: within its limits, and given where a node is wanted, or none
-abbrev pub ItemGood : Bool → ℕ → Item → Type 0
-ItemGood wants n (ranks_item xs) = GoodNumbers n xs
-ItemGood wants n (pairs_item k) = IsSmall k
-ItemGood wants n (node_item x) = (wants ≡ true) × NodeFits x × NodeWithin n x × (2 * children x ≤ n)
-ItemGood wants n end_item = wants ≡ false
+abbrev pub ItemGood : ℕ → Bool → ℕ → Item → Type 0
+ItemGood version wants n (version_item v) = IsVersion v
+ItemGood version wants n (ranks_item xs) = GoodNumbers n xs
+ItemGood version wants n (pairs_item k) = IsSmall k
+ItemGood version wants n (node_item x) = (wants ≡ true) × NodeFits x × NodeWithin n x × (2 * children x ≤ n) × IsOfVersion version x
+ItemGood version wants n end_item = wants ≡ false
 
 -- where the next item is begun
-abbrev pub PlaceAfter : Bool → Item → Place → Type 0
-PlaceAfter wants end_item p = PlaceFor wants p
-PlaceAfter wants i p = (any : Bool) → PlaceFor any p
+abbrev pub PlaceAfter : ℕ → Bool → Item → Place → Type 0
+PlaceAfter version wants end_item p = PlaceFor version wants p
+PlaceAfter version wants i p = (v : ℕ) (any : Bool) → PlaceFor v any p
 
 -- after n bytes the step leads on in this stage, or gives an item of it, and has read f since the last item
-abbrev pub LineNext : Bool → ℕ → LineStep → Stage → (List ℕ → List ℕ) → Type 0
-LineNext wants n (on p) s f = (stage p ≡ s) × GoodPlace n p × PlaceFor wants p × PlaceReads p f
-LineNext wants n (gives i p) s f = (item_from i ≡ s) × (stage p ≡ item_to i) × ItemGood wants n i × GoodPlace 0 p × PlaceAfter wants i p × ((g : List ℕ → List ℕ) × PlaceReads p g × ((r : List ℕ) → item_text i (g r) ≡ f r))
-LineNext wants n refused s f = Unit {0}
+abbrev pub LineNext : ℕ → Bool → ℕ → LineStep → Stage → (List ℕ → List ℕ) → Type 0
+LineNext version wants n (on p) s f = (stage p ≡ s) × GoodPlace n p × PlaceFor version wants p × PlaceReads p f
+LineNext version wants n (gives i p) s f = (item_from i ≡ s) × (stage p ≡ item_to i) × ItemGood version wants n i × GoodPlace 0 p × PlaceAfter version wants i p × ((g : List ℕ → List ℕ) × PlaceReads p g × ((r : List ℕ) → item_text i (g r) ≡ f r))
+LineNext version wants n refused s f = Unit {0}
 
-if_byte : (wants : Bool) (n b c : ℕ) (s o : LineStep) (st : Stage) (f : List ℕ → List ℕ) → LineNext wants n s st (λ r. f (c ∷ r)) → LineNext wants n o st (λ r. f (b ∷ r)) → LineNext wants n (cond (b == c) s o) st (λ r. f (b ∷ r))
-if_byte wants n b c s o st f so other =
-    cond_both (b == c) s o (λ t. LineNext wants n t st (λ r. f (b ∷ r)))
-    (λ e. subst (λ (x : ℕ). LineNext wants n s st (λ r. f (x ∷ r))) (sym (eqb-true b c e)) so)
+if_byte : (version : ℕ) (wants : Bool) (n b c : ℕ) (s o : LineStep) (st : Stage) (f : List ℕ → List ℕ) → LineNext version wants n s st (λ r. f (c ∷ r)) → LineNext version wants n o st (λ r. f (b ∷ r)) → LineNext version wants n (cond (b == c) s o) st (λ r. f (b ∷ r))
+if_byte version wants n b c s o st f so other =
+    cond_both (b == c) s o (λ t. LineNext version wants n t st (λ r. f (b ∷ r)))
+    (λ e. subst (λ (x : ℕ). LineNext version wants n s st (λ r. f (x ∷ r))) (sym (eqb-true b c e)) so)
     (λ e. other)
 
-if_so : (wants : Bool) (n : ℕ) (t : Bool) (s o : LineStep) (st : Stage) (f : List ℕ → List ℕ) → (t ≡ true → LineNext wants n s st f) → (t ≡ false → LineNext wants n o st f) → LineNext wants n (cond t s o) st f
-if_so wants n t s o st f so other = cond_both t s o (λ u. LineNext wants n u st f) so other
+if_so : (version : ℕ) (wants : Bool) (n : ℕ) (t : Bool) (s o : LineStep) (st : Stage) (f : List ℕ → List ℕ) → (t ≡ true → LineNext version wants n s st f) → (t ≡ false → LineNext version wants n o st f) → LineNext version wants n (cond t s o) st f
+if_so version wants n t s o st f so other = cond_both t s o (λ u. LineNext version wants n u st f) so other
 
 reads_same : (p : Place) (f g : List ℕ → List ℕ) → ((r : List ℕ) → f r ≡ g r) → PlaceReads p f → PlaceReads p g
 reads_same (word w o) f g same (v, is, reads) = (v, is, λ r. reads r ∙ same r)
 reads_same p f g same reads = λ r. reads r ∙ same r
 
-next_same : (wants : Bool) (n : ℕ) (s : LineStep) (st : Stage) (f g : List ℕ → List ℕ) → ((r : List ℕ) → f r ≡ g r) → LineNext wants n s st f → LineNext wants n s st g
-next_same wants n (on p) st f g same h = (h.0, h.1, h.2, reads_same p f g same h.3)
-next_same wants n (gives i p) st f g same h =
+next_same : (version : ℕ) (wants : Bool) (n : ℕ) (s : LineStep) (st : Stage) (f g : List ℕ → List ℕ) → ((r : List ℕ) → f r ≡ g r) → LineNext version wants n s st f → LineNext version wants n s st g
+next_same version wants n (on p) st f g same h = (h.0, h.1, h.2, reads_same p f g same h.3)
+next_same version wants n (gives i p) st f g same h =
     (h.0, h.1, h.2, h.3, h.4, (h.5.0, h.5.1, λ r. h.5.2 r ∙ same r))
-next_same wants n refused st f g same h = tt
+next_same version wants n refused st f g same h = tt
 
 -- one more byte leaves the limits good
 
@@ -257,6 +271,7 @@ behind_wider n (to_list of) g = listed_wider 0 n of g
 behind_wider n (to_name args) g = args_wider n args g
 behind_wider n to_poly g = tt
 behind_wider n (to_line x) g = lines_wider n (suc n) x (omega arith) g
+behind_wider n to_version g = tt
 behind_wider n to_pairs g = tt
 behind_wider n to_done g = tt
 behind_wider n to_alone g = tt
@@ -272,41 +287,54 @@ no_args = All-nil ArgFits
 no_numbers : All IsSmall []
 no_numbers = All-nil IsSmall
 
-behind_kept : (wants : Bool) (n : ℕ) (o : Behind) → GoodBehind n o → BehindFor wants o → LineNext wants (suc n) (behind o) (word_stage o) (λ r. before_word o (spelling o ++ r))
-behind_kept wants n (to_list of) g a = (refl, (listed_begun n of g, (no_numbers, omega arith)), a, λ r. refl)
-behind_kept wants n to_pairs g a = (refl, tt, tt, λ r. refl)
-behind_kept wants n to_done g a = (refl, refl, (a, tt, tt, omega arith), tt, (λ any. tt), ((λ (r : List ℕ). r), (λ r. refl), (λ r. refl)))
-behind_kept wants n to_alone g a = (refl, refl, (a, tt, tt, omega arith), tt, (λ any. tt), ((λ (r : List ℕ). r), (λ r. refl), (λ r. refl)))
-behind_kept wants n to_blocks g a = (refl, tt, a, λ r. refl)
-behind_kept wants n to_subterm g a = (refl, (no_args, omega arith), a, λ r. refl)
-behind_kept wants n (to_name args) g a = (refl, args_wider n args g, a, λ r. refl)
-behind_kept wants n to_poly g a = (refl, (no_interps (suc n), tt), a, λ r. refl)
-behind_kept wants n (to_line x) g a =
+behind_kept : (version : ℕ) (wants : Bool) (n : ℕ) (o : Behind) → GoodBehind n o → BehindFor version wants o → LineNext version wants (suc n) (behind o) (word_stage o) (λ r. before_word o (spelling o ++ r))
+behind_kept version wants n to_version g a = (refl, tt, tt, λ r. refl)
+behind_kept version wants n (to_list of) g a = (refl, (listed_begun n of g, (no_numbers, omega arith)), a, λ r. refl)
+behind_kept version wants n to_pairs g a = (refl, tt, tt, λ r. refl)
+behind_kept version wants n to_done g a = (refl, refl, (a, tt, tt, omega arith, tt), tt, (λ v any. tt), ((λ (r : List ℕ). r), (λ r. refl), (λ r. refl)))
+behind_kept version wants n to_alone g a = (refl, refl, (a, tt, tt, omega arith, tt), tt, (λ v any. tt), ((λ (r : List ℕ). r), (λ r. refl), (λ r. refl)))
+behind_kept version wants n to_blocks g a = (refl, tt, a, λ r. refl)
+behind_kept version wants n to_subterm g a = (refl, (no_args, omega arith), a, λ r. refl)
+behind_kept version wants n (to_name args) g a = (refl, args_wider n args g, a, λ r. refl)
+behind_kept version wants n to_poly g a = (refl, (no_interps (suc n), tt), a, λ r. refl)
+behind_kept version wants n (to_line x) g a =
     (refl, (lines_wider n (suc n) x (omega arith) g, begun_good (suc n) x), a, λ r. ap (λ (s : List ℕ). codes "poly" ++ (10 ∷ s)) (begun_text x r))
-behind_kept wants n to_finish g a = (refl, refl, a, tt, a, ((λ (r : List ℕ). codes "end" ++ (10 ∷ r)), (λ r. refl), (λ r. refl)))
+behind_kept version wants n to_finish g a = (refl, refl, a, tt, a, ((λ (r : List ℕ). codes "end" ++ (10 ∷ r)), (λ r. refl), (λ r. refl)))
 
-word_kept : (wants : Bool) (n x : ℕ) (w : List ℕ) (o : Behind) (v : List ℕ) (f : List ℕ → List ℕ) → GoodBehind n o → BehindFor wants o → v ++ x ∷ w ≡ spelling o → ((r : List ℕ) → before_word o (v ++ r) ≡ f r) → LineNext wants (suc n) (word_on w o) (word_stage o) (λ r. f (x ∷ r))
-word_kept wants n x [] o v f g a is reads =
-    next_same wants (suc n) (behind o) (word_stage o) (λ r. before_word o (spelling o ++ r)) (λ r. f (x ∷ r))
+word_kept : (version : ℕ) (wants : Bool) (n x : ℕ) (w : List ℕ) (o : Behind) (v : List ℕ) (f : List ℕ → List ℕ) → GoodBehind n o → BehindFor version wants o → v ++ x ∷ w ≡ spelling o → ((r : List ℕ) → before_word o (v ++ r) ≡ f r) → LineNext version wants (suc n) (word_on w o) (word_stage o) (λ r. f (x ∷ r))
+word_kept version wants n x [] o v f g a is reads =
+    next_same version wants (suc n) (behind o) (word_stage o) (λ r. before_word o (spelling o ++ r)) (λ r. f (x ∷ r))
     (λ r. ap (λ (s : List ℕ). before_word o (s ++ r)) (sym is) ∙ ap (before_word o) (append_assoc v (x ∷ []) r) ∙ reads (x ∷ r))
-    (behind_kept wants n o g a)
-word_kept wants n x (y ∷ w) o v f g a is reads =
+    (behind_kept version wants n o g a)
+word_kept version wants n x (y ∷ w) o v f g a is reads =
     (refl, behind_wider n o g, a, (v ++ x ∷ [], append_assoc v (x ∷ []) (y ∷ w) ∙ is, λ r. ap (before_word o) (append_assoc v (x ∷ []) r) ∙ reads (x ∷ r)))
+
+-- the version
+
+digit_kept : (version : ℕ) (wants : Bool) (n v : ℕ) → v < 10 → IsVersion v → LineNext version wants (suc n) (version_begun v) opening (λ r. codes "YES " ++ ((48 + v) ∷ r))
+digit_kept version wants n v low is =
+    (refl, refl, is, tt, (λ u any. tt), ((λ (r : List ℕ). r), ([], refl, λ r. refl), (λ r. ap (λ (ds : List ℕ). codes "YES " ++ (ds ++ r)) (decimal_digit v low))))
+
+version_kept : (version : ℕ) (wants : Bool) (n b : ℕ) → LineNext version wants (suc n) (version_step b) opening (λ r. codes "YES " ++ (b ∷ r))
+version_kept version wants n b =
+    if_byte version wants (suc n) b 49 (version_begun 1) (cond (b == 50) (version_begun 2) refused) opening (λ r. codes "YES " ++ r)
+    (digit_kept version wants n 1 (omega arith) (inl refl))
+    (if_byte version wants (suc n) b 50 (version_begun 2) refused opening (λ r. codes "YES " ++ r) (digit_kept version wants n 2 (omega arith) (inr refl)) tt)
 
 -- lists
 
 block_small : (left : ℕ) (parts : List (List ℕ)) (xs : List ℕ) → length (parts ++ xs ∷ []) + left ≡ length parts + suc left
 block_small left parts xs = omega (arith, length-append parts (xs ∷ []))
 
-list_ended_kept : (wants : Bool) (n : ℕ) (of : Listed) (xs : List ℕ) → GoodListed 1 n of → GoodNumbers n xs → ListedFor wants of → LineNext wants (suc n) (list_ended of xs) (listed_stage of) (λ r. list_lead of xs (10 ∷ r))
-list_ended_kept wants n of_ranks xs g few a =
-    (refl, refl, numbers_wider n xs few, tt, (λ any. tt), ((λ (r : List ℕ). r), ([], refl, λ r. refl), (λ r. refl)))
-list_ended_kept wants n (of_block zero parts) xs g few a =
+list_ended_kept : (version : ℕ) (wants : Bool) (n : ℕ) (of : Listed) (xs : List ℕ) → GoodListed 1 n of → GoodNumbers n xs → ListedFor version wants of → LineNext version wants (suc n) (list_ended of xs) (listed_stage of) (λ r. list_lead of xs (10 ∷ r))
+list_ended_kept version wants n of_ranks xs g few a =
+    (refl, refl, numbers_wider n xs few, tt, (λ v any. tt), ((λ (r : List ℕ). r), ([], refl, λ r. refl), (λ r. refl)))
+list_ended_kept version wants n (of_block zero parts) xs g few a =
     let one : length (parts ++ xs ∷ []) ≡ length parts + 1 = length-append parts (xs ∷ []) in
     let fits : NodeFits (blocks (parts ++ xs ∷ [])) = (subst IsSmall (sym one) g.0, All-push (All IsSmall) parts xs g.1 few.0) in
     let lists : NodeWithin (suc n) (blocks (parts ++ xs ∷ [])) = All-push (λ (block : List ℕ). length block ≤ suc n) parts xs (within_wider n (suc n) parts (omega arith) g.2) (omega (arith, few.1)) in
-    (refl, refl, (a, fits, lists, omega (arith, one, g.3)), tt, (λ any. tt), ((λ (r : List ℕ). r), (λ r. refl), (λ r. ap (λ (k : ℕ). codes "blocks " ++ (decimal k ++ (10 ∷ put_blocks (parts ++ xs ∷ []) r))) one ∙ ap (λ (s : List ℕ). codes "blocks " ++ (decimal (length parts + 1) ++ (10 ∷ s))) (put_blocks_add parts xs r))))
-list_ended_kept wants n (of_block (suc left) parts) xs g few a =
+    (refl, refl, (a, fits, lists, omega (arith, one, g.3), tt), tt, (λ v any. tt), ((λ (r : List ℕ). r), (λ r. refl), (λ r. ap (λ (k : ℕ). codes "blocks " ++ (decimal k ++ (10 ∷ put_blocks (parts ++ xs ∷ []) r))) one ∙ ap (λ (s : List ℕ). codes "blocks " ++ (decimal (length parts + 1) ++ (10 ∷ s))) (put_blocks_add parts xs r))))
+list_ended_kept version wants n (of_block (suc left) parts) xs g few a =
     let one : length (parts ++ xs ∷ []) ≡ length parts + 1 = length-append parts (xs ∷ []) in
     let same : length (parts ++ xs ∷ []) + suc left ≡ length parts + suc (suc left) = block_small (suc left) parts xs in
     let lists : All (λ (block : List ℕ). length block ≤ suc n) (parts ++ xs ∷ []) = All-push (λ (block : List ℕ). length block ≤ suc n) parts xs (within_wider n (suc n) parts (omega arith) g.2) (omega (arith, few.1)) in (
@@ -315,83 +343,88 @@ list_ended_kept wants n (of_block (suc left) parts) xs g few a =
       a,
       ([], refl, λ r. ap (λ (k : ℕ). codes "blocks " ++ (decimal k ++ (10 ∷ put_blocks (parts ++ xs ∷ []) r))) same ∙ ap (λ (s : List ℕ). codes "blocks " ++ (decimal (length parts + suc (suc left)) ++ (10 ∷ s))) (put_blocks_add parts xs r)),
     )
-list_ended_kept wants n (of_drop args) xs g few a =
-    (refl, refl, (a, (g.0, few.0), (omega (arith, g.1), omega (arith, few.1)), omega (arith, g.2)), tt, (λ any. tt), ((λ (r : List ℕ). r), (λ r. refl), (λ r. refl)))
-list_ended_kept wants n (of_poly funs marks rules pairs) xs g few a =
+list_ended_kept version wants n (of_drop args) xs g few a =
+    (refl, refl, (a, (g.0, few.0), (omega (arith, g.1), omega (arith, few.1)), omega (arith, g.2), tt), tt, (λ v any. tt), ((λ (r : List ℕ). r), (λ r. refl), (λ r. refl)))
+list_ended_kept version wants n (of_poly funs marks rules pairs) xs g few a =
     let wide = lines_wider n (suc n) (in_pairs funs marks rules pairs) (omega arith) g.0 in
-    (refl, refl, (a, (wide.0.0, wide.1.0, wide.2.0, wide.3.0, few.0), (wide.0.1, wide.1.1, wide.2.1, wide.2.2, wide.3.1, wide.3.2, omega (arith, few.1)), omega (arith, g.1)), tt, (λ any. tt), ((λ (r : List ℕ). r), (λ r. refl), (λ r. refl)))
+    (refl, refl, (a.0, (wide.0.0, wide.1.0, wide.2.0, wide.3.0, few.0), (wide.0.1, wide.1.1, wide.2.1, wide.2.2, wide.3.1, wide.3.2, omega (arith, few.1)), omega (arith, g.1), a.1), tt, (λ v any. tt), ((λ (r : List ℕ). r), (λ r. refl), (λ r. refl)))
 
-list_kept : (wants : Bool) (n : ℕ) (of : Listed) (xs : List ℕ) (b : ℕ) → GoodListed 1 n of → GoodNumbers n xs → ListedFor wants of → LineNext wants (suc n) (list_step of xs b) (listed_stage of) (λ r. list_lead of xs (b ∷ r))
-list_kept wants n of xs b g few a =
-    if_byte wants (suc n) b 32 (on (number_wanted (of_list of xs))) (cond (b == 10) (list_ended of xs) refused) (listed_stage of) (list_lead of xs)
+list_kept : (version : ℕ) (wants : Bool) (n : ℕ) (of : Listed) (xs : List ℕ) (b : ℕ) → GoodListed 1 n of → GoodNumbers n xs → ListedFor version wants of → LineNext version wants (suc n) (list_step of xs b) (listed_stage of) (λ r. list_lead of xs (b ∷ r))
+list_kept version wants n of xs b g few a =
+    if_byte version wants (suc n) b 32 (on (number_wanted (of_list of xs))) (cond (b == 10) (list_ended of xs) refused) (listed_stage of) (list_lead of xs)
     (refl, (listed_wider 1 n of g, few.0, omega (arith, few.1)), a, λ r. refl)
-    (if_byte wants (suc n) b 10 (list_ended of xs) refused (listed_stage of) (list_lead of xs) (list_ended_kept wants n of xs g few a) tt)
+    (if_byte version wants (suc n) b 10 (list_ended of xs) refused (listed_stage of) (list_lead of xs) (list_ended_kept version wants n of xs g few a) tt)
 
 -- numbers
 
 -- the count of blocks has been read
-count_ended_kept : (wants : Bool) (n k : ℕ) → IsSmall k → wants ≡ true → LineNext wants (suc n) (count_ended k) third (λ r. codes "blocks " ++ (decimal k ++ (10 ∷ r)))
-count_ended_kept wants n zero small a =
-    (refl, refl, (a, (omega arith, All-nil (All IsSmall)), All-nil (λ (block : List ℕ). length block ≤ suc n), omega arith), tt, (λ any. tt), ((λ (r : List ℕ). r), (λ r. refl), (λ r. refl)))
-count_ended_kept wants n (suc left) small a =
+count_ended_kept : (version : ℕ) (wants : Bool) (n k : ℕ) → IsSmall k → wants ≡ true → LineNext version wants (suc n) (count_ended k) third (λ r. codes "blocks " ++ (decimal k ++ (10 ∷ r)))
+count_ended_kept version wants n zero small a =
+    (refl, refl, (a, (omega arith, All-nil (All IsSmall)), All-nil (λ (block : List ℕ). length block ≤ suc n), omega arith, tt), tt, (λ v any. tt), ((λ (r : List ℕ). r), (λ r. refl), (λ r. refl)))
+count_ended_kept version wants n (suc left) small a =
     (refl, (omega (arith, small), All-nil (All IsSmall), All-nil (λ (block : List ℕ). length block ≤ suc n), omega arith), a, ([], refl, λ r. ap (λ (k : ℕ). codes "blocks " ++ (decimal k ++ (10 ∷ r))) (omega arith)))
 
 small_more : (xs : List ℕ) (k : ℕ) → All IsSmall xs → IsSmall k → All IsSmall (xs ++ k ∷ [])
 small_more xs k all small = All-push IsSmall xs k all small
 
-number_ended_kept : (wants : Bool) (n : ℕ) (of : Counted) (k b : ℕ) → IsSmall k → GoodCounted n of → CountedFor wants of → LineNext wants (suc n) (number_ended of k b) (counted_stage of) (λ r. counted_lead of (decimal k ++ b ∷ r))
-number_ended_kept wants n of_pairs k b small g a =
-    if_byte wants (suc n) b 10 (gives (pairs_item k) front) refused second (λ r. codes "pairs " ++ (decimal k ++ r))
-    (refl, refl, small, tt, (λ any. tt), ((λ (r : List ℕ). r), (λ r. refl), (λ r. refl))) tt
-number_ended_kept wants n of_blocks k b small g a =
-    if_byte wants (suc n) b 10 (count_ended k) refused third (λ r. codes "blocks " ++ (decimal k ++ r)) (count_ended_kept wants n k small a) tt
-number_ended_kept wants n (of_place args name) k b small g a =
+number_ended_kept : (version : ℕ) (wants : Bool) (n : ℕ) (of : Counted) (k b : ℕ) → IsSmall k → GoodCounted n of → CountedFor version wants of → LineNext version wants (suc n) (number_ended of k b) (counted_stage of) (λ r. counted_lead of (decimal k ++ b ∷ r))
+number_ended_kept version wants n of_pairs k b small g a =
+    if_byte version wants (suc n) b 10 (gives (pairs_item k) front) refused second (λ r. codes "pairs " ++ (decimal k ++ r))
+    (refl, refl, small, tt, (λ v any. tt), ((λ (r : List ℕ). r), (λ r. refl), (λ r. refl))) tt
+number_ended_kept version wants n of_blocks k b small g a =
+    if_byte version wants (suc n) b 10 (count_ended k) refused third (λ r. codes "blocks " ++ (decimal k ++ r)) (count_ended_kept version wants n k small a) tt
+number_ended_kept version wants n (of_place args name) k b small g a =
     let arg : Arg = record { name = name; place = k } in
-    if_byte wants (suc n) b 10 (on (arg_front (args ++ arg ∷ []))) refused third (λ r. counted_lead (of_place args name) (decimal k ++ r))
+    if_byte version wants (suc n) b 10 (on (arg_front (args ++ arg ∷ []))) refused third (λ r. counted_lead (of_place args name) (decimal k ++ r))
     (refl, (All-push ArgFits args arg g.0.0 (record { name = g.1; place = small }), omega (arith, length-append args (arg ∷ []), g.0.1)), a, λ r. ap (λ (s : List ℕ). codes "subterm" ++ (10 ∷ s)) (put_args_add args arg r))
     tt
-number_ended_kept wants n (of_list of xs) k b small g a =
-    next_same wants (suc n) (list_step of (xs ++ k ∷ []) b) (listed_stage of) (λ r. list_lead of (xs ++ k ∷ []) (b ∷ r)) (λ r. counted_lead (of_list of xs) (decimal k ++ b ∷ r))
+number_ended_kept version wants n (of_list of xs) k b small g a =
+    next_same version wants (suc n) (list_step of (xs ++ k ∷ []) b) (listed_stage of) (λ r. list_lead of (xs ++ k ∷ []) (b ∷ r)) (λ r. counted_lead (of_list of xs) (decimal k ++ b ∷ r))
     (λ r. ap (λ (s : List ℕ). before_list of (spelling (to_list of) ++ s)) (put_numbers_add xs k (b ∷ r)))
-    (list_kept wants n of (xs ++ k ∷ []) b g.0 (small_more xs k g.1 small, omega (arith, length-append xs (k ∷ []), g.2)) a)
+    (list_kept version wants n of (xs ++ k ∷ []) b g.0 (small_more xs k g.1 small, omega (arith, length-append xs (k ∷ []), g.2)) a)
 
-first_digit_kept : (wants : Bool) (n : ℕ) (of : Counted) (b : ℕ) → GoodCounted n of → CountedFor wants of → LineNext wants (suc n) (cond (is_digit b) (on (number of (b - 48))) refused) (counted_stage of) (λ r. counted_lead of (b ∷ r))
-first_digit_kept wants n of b g a =
-    if_so wants (suc n) (is_digit b) (on (number of (b - 48))) refused (counted_stage of) (λ r. counted_lead of (b ∷ r))
+first_digit_kept : (version : ℕ) (wants : Bool) (n : ℕ) (of : Counted) (b : ℕ) → GoodCounted n of → CountedFor version wants of → LineNext version wants (suc n) (cond (is_digit b) (on (number of (b - 48))) refused) (counted_stage of) (λ r. counted_lead of (b ∷ r))
+first_digit_kept version wants n of b g a =
+    if_so version wants (suc n) (is_digit b) (on (number of (b - 48))) refused (counted_stage of) (λ r. counted_lead of (b ∷ r))
     (λ e. (refl, (first_digit_small b e, counted_wider n of g), a, λ r. ap (counted_lead of) (first_digit_spelled b r e)))
     (λ e. tt)
 
-digits_kept : (wants : Bool) (n : ℕ) (of : Counted) (k b : ℕ) → IsSmall k → GoodCounted n of → CountedFor wants of → LineNext wants (suc n) (step wants (number of k) b) (counted_stage of) (λ r. counted_lead of (decimal k ++ b ∷ r))
-digits_kept wants n of k b small g a =
-    if_so wants (suc n) (goes_on k b) (on (number of (10 * k + (b - 48)))) (number_ended of k b) (counted_stage of) (λ r. counted_lead of (decimal k ++ b ∷ r))
+digits_kept : (version : ℕ) (wants : Bool) (n : ℕ) (of : Counted) (k b : ℕ) → IsSmall k → GoodCounted n of → CountedFor version wants of → LineNext version wants (suc n) (step version wants (number of k) b) (counted_stage of) (λ r. counted_lead of (decimal k ++ b ∷ r))
+digits_kept version wants n of k b small g a =
+    if_so version wants (suc n) (goes_on k b) (on (number of (10 * k + (b - 48)))) (number_ended of k b) (counted_stage of) (λ r. counted_lead of (decimal k ++ b ∷ r))
     (λ e. let is = goes_on_true k b e in (refl, (is.fits, counted_wider n of g), a, λ r. ap (counted_lead of) (next_digit_spelled k b r e)))
-    (λ e. number_ended_kept wants n of k b small g a)
+    (λ e. number_ended_kept version wants n of k b small g a)
 
 -- names
 
-letters_kept : (wants : Bool) (n : ℕ) (args : List Arg) (xs : List ℕ) (b : ℕ) → GoodArgs n args → IsWord xs → wants ≡ true → LineNext wants (suc n) (step wants (letters args xs) b) third (λ r. lead (letters args xs) (b ∷ r))
-letters_kept wants n args xs b g name a =
-    if_so wants (suc n) (is_part b && nat_lt (length xs) 64) (on (letters args (xs ++ b ∷ []))) (cond (b == 32) (on (number_wanted (of_place args xs))) refused) third (λ r. lead (letters args xs) (b ∷ r))
+letters_kept : (version : ℕ) (wants : Bool) (n : ℕ) (args : List Arg) (xs : List ℕ) (b : ℕ) → GoodArgs n args → IsWord xs → wants ≡ true → LineNext version wants (suc n) (step version wants (letters args xs) b) third (λ r. lead (letters args xs) (b ∷ r))
+letters_kept version wants n args xs b g name a =
+    if_so version wants (suc n) (is_part b && nat_lt (length xs) 64) (on (letters args (xs ++ b ∷ []))) (cond (b == 32) (on (number_wanted (of_place args xs))) refused) third (λ r. lead (letters args xs) (b ∷ r))
     (λ e. (refl, (args_wider n args g, next_letter xs b name e), a, λ r. ap (λ (s : List ℕ). codes "subterm" ++ (10 ∷ put_args args (codes "arg " ++ s))) (append_assoc xs (b ∷ []) r)))
-    (λ e. if_byte wants (suc n) b 32 (on (number_wanted (of_place args xs))) refused third (lead (letters args xs)) (refl, (args_wider n args g, name), a, λ r. refl) tt)
+    (λ e. if_byte version wants (suc n) b 32 (on (number_wanted (of_place args xs))) refused third (lead (letters args xs)) (refl, (args_wider n args g, name), a, λ r. refl) tt)
 
 -- fronts
 
-node_kept : (wants : Bool) (n b : ℕ) → wants ≡ true → LineNext wants (suc n) (front_step true b) third (λ r. b ∷ r)
-node_kept wants n b a =
-    if_byte wants (suc n) b 100 (on (word (codes "one" ++ (10 ∷ [])) to_done)) _ third (λ r. r) (refl, tt, a, ([], refl, λ r. refl))
-    (if_byte wants (suc n) b 97 (on (word (codes "lone" ++ (10 ∷ [])) to_alone)) _ third (λ r. r) (refl, tt, a, (97 ∷ [], refl, λ r. refl))
-    (if_byte wants (suc n) b 98 (on (word (codes "locks ") to_blocks)) _ third (λ r. r) (refl, tt, a, (98 ∷ [], refl, λ r. refl))
-    (if_byte wants (suc n) b 115 (on (word (codes "ubterm" ++ (10 ∷ [])) to_subterm)) _ third (λ r. r) (refl, tt, a, (115 ∷ [], refl, λ r. refl))
-    (if_byte wants (suc n) b 112 (on (word (codes "oly" ++ (10 ∷ [])) to_poly)) refused third (λ r. r) (refl, tt, a, (112 ∷ [], refl, λ r. refl)) tt))))
+poly_kept : (version : ℕ) (wants : Bool) (n : ℕ) → wants ≡ true → LineNext version wants (suc n) (cond (version == 1) (on (word (codes "oly" ++ (10 ∷ [])) to_poly)) refused) third (λ r. 112 ∷ r)
+poly_kept version wants n a =
+    if_so version wants (suc n) (version == 1) (on (word (codes "oly" ++ (10 ∷ [])) to_poly)) refused third (λ r. 112 ∷ r)
+    (λ e. (refl, tt, (a, eqb-true version 1 e), (112 ∷ [], refl, λ r. refl))) (λ e. tt)
 
-end_kept : (wants : Bool) (n b : ℕ) → wants ≡ false → LineNext wants (suc n) (front_step false b) third (λ r. b ∷ r)
-end_kept wants n b a =
-    if_byte wants (suc n) b 101 (on (word (codes "nd" ++ (10 ∷ [])) to_finish)) refused third (λ r. r) (refl, tt, a, (101 ∷ [], refl, λ r. refl)) tt
+node_kept : (version : ℕ) (wants : Bool) (n b : ℕ) → wants ≡ true → LineNext version wants (suc n) (front_step version true b) third (λ r. b ∷ r)
+node_kept version wants n b a =
+    if_byte version wants (suc n) b 100 (on (word (codes "one" ++ (10 ∷ [])) to_done)) _ third (λ r. r) (refl, tt, a, ([], refl, λ r. refl))
+    (if_byte version wants (suc n) b 97 (on (word (codes "lone" ++ (10 ∷ [])) to_alone)) _ third (λ r. r) (refl, tt, a, (97 ∷ [], refl, λ r. refl))
+    (if_byte version wants (suc n) b 98 (on (word (codes "locks ") to_blocks)) _ third (λ r. r) (refl, tt, a, (98 ∷ [], refl, λ r. refl))
+    (if_byte version wants (suc n) b 115 (on (word (codes "ubterm" ++ (10 ∷ [])) to_subterm)) _ third (λ r. r) (refl, tt, a, (115 ∷ [], refl, λ r. refl))
+    (if_byte version wants (suc n) b 112 (cond (version == 1) (on (word (codes "oly" ++ (10 ∷ [])) to_poly)) refused) refused third (λ r. r) (poly_kept version wants n a) tt))))
 
-front_kept : (wants : Bool) (n b : ℕ) → LineNext wants (suc n) (front_step wants b) third (λ r. b ∷ r)
-front_kept true n b = node_kept true n b refl
-front_kept false n b = end_kept false n b refl
+end_kept : (version : ℕ) (wants : Bool) (n b : ℕ) → wants ≡ false → LineNext version wants (suc n) (front_step version false b) third (λ r. b ∷ r)
+end_kept version wants n b a =
+    if_byte version wants (suc n) b 101 (on (word (codes "nd" ++ (10 ∷ [])) to_finish)) refused third (λ r. r) (refl, tt, a, (101 ∷ [], refl, λ r. refl)) tt
+
+front_kept : (version : ℕ) (wants : Bool) (n b : ℕ) → LineNext version wants (suc n) (front_step version wants b) third (λ r. b ∷ r)
+front_kept version true n b = node_kept version true n b refl
+front_kept version false n b = end_kept version false n b refl
 
 -- lines of interpretations
 
@@ -399,55 +432,57 @@ in_node : (f g : List ℕ → List ℕ) → ((r : List ℕ) → f r ≡ g r) →
 in_node f g same r = ap (λ (s : List ℕ). codes "poly" ++ (10 ∷ s)) (same r)
 
 -- a line whose first byte was read
-line_kept : (wants : Bool) (n : ℕ) (x : Lines) (f : List ℕ → List ℕ) → wants ≡ true → GoodLines (suc n) x → ((r : List ℕ) → put_lines x (line_first x ∷ r) ≡ f r) → LineNext wants (suc n) (lines_led (begins x)) third (λ r. codes "poly" ++ (10 ∷ f r))
-line_kept wants n (in_funs funs) f a g same = (refl, g, a, (102 ∷ [], refl, in_node (λ r. put_lines (in_funs funs) (102 ∷ r)) f same))
-line_kept wants n (in_marks funs marks) f a g same =
+line_kept : (version : ℕ) (wants : Bool) (n : ℕ) (x : Lines) (f : List ℕ → List ℕ) → (wants ≡ true) × (version ≡ 1) → GoodLines (suc n) x → ((r : List ℕ) → put_lines x (line_first x ∷ r) ≡ f r) → LineNext version wants (suc n) (lines_led (begins x)) third (λ r. codes "poly" ++ (10 ∷ f r))
+line_kept version wants n (in_funs funs) f a g same = (refl, g, a, (102 ∷ [], refl, in_node (λ r. put_lines (in_funs funs) (102 ∷ r)) f same))
+line_kept version wants n (in_marks funs marks) f a g same =
     (refl, g, a, (109 ∷ [], refl, in_node (λ r. put_lines (in_marks funs marks) (109 ∷ r)) f same))
-line_kept wants n (in_rules funs marks rules) f a g same =
+line_kept version wants n (in_rules funs marks rules) f a g same =
     (refl, g, a, (114 ∷ [], refl, in_node (λ r. put_lines (in_rules funs marks rules) (114 ∷ r)) f same))
-line_kept wants n (in_pairs funs marks rules pairs) f a g same =
+line_kept version wants n (in_pairs funs marks rules pairs) f a g same =
     (refl, g, a, (112 ∷ [], refl, in_node (λ r. put_lines (in_pairs funs marks rules pairs) (112 ∷ r)) f same))
 
 -- the line of `drop`
-drop_kept : (wants : Bool) (n : ℕ) (x : Lines) (f : List ℕ → List ℕ) → wants ≡ true → GoodLines (suc n) x → ((r : List ℕ) → put_lines x (100 ∷ r) ≡ f r) → LineNext wants (suc n) (lines_led (drops x)) third (λ r. codes "poly" ++ (10 ∷ f r))
-drop_kept wants n (in_funs funs) f a g same =
+drop_kept : (version : ℕ) (wants : Bool) (n : ℕ) (x : Lines) (f : List ℕ → List ℕ) → (wants ≡ true) × (version ≡ 1) → GoodLines (suc n) x → ((r : List ℕ) → put_lines x (100 ∷ r) ≡ f r) → LineNext version wants (suc n) (lines_led (drops x)) third (λ r. codes "poly" ++ (10 ∷ f r))
+drop_kept version wants n (in_funs funs) f a g same =
     (refl, ((g, no_interps (suc n), no_covers (suc n), no_covers (suc n)), omega arith), a, (100 ∷ [], refl, in_node (λ r. put_lines (in_funs funs) (100 ∷ r)) f same))
-drop_kept wants n (in_marks funs marks) f a g same =
+drop_kept version wants n (in_marks funs marks) f a g same =
     (refl, ((g.0, g.1, no_covers (suc n), no_covers (suc n)), omega arith), a, (100 ∷ [], refl, in_node (λ r. put_lines (in_marks funs marks) (100 ∷ r)) f same))
-drop_kept wants n (in_rules funs marks rules) f a g same =
+drop_kept version wants n (in_rules funs marks rules) f a g same =
     (refl, ((g.0, g.1, g.2, no_covers (suc n)), omega arith), a, (100 ∷ [], refl, in_node (λ r. put_lines (in_rules funs marks rules) (100 ∷ r)) f same))
-drop_kept wants n (in_pairs funs marks rules pairs) f a g same =
+drop_kept version wants n (in_pairs funs marks rules pairs) f a g same =
     (refl, (g, omega arith), a, (100 ∷ [], refl, in_node (λ r. put_lines (in_pairs funs marks rules pairs) (100 ∷ r)) f same))
 
-led_kept : (wants : Bool) (n : ℕ) (s : LinesStep) (f : List ℕ → List ℕ) → wants ≡ true → LinesNext (suc n) s f → LineNext wants (suc n) (lines_led s) third (λ r. codes "poly" ++ (10 ∷ f r))
-led_kept wants n (l.on x k) f a h = (refl, (h.0, h.1), a, in_node (lines_seen x k) f h.2)
-led_kept wants n (begins x) f a h = line_kept wants n x f a h.0 h.1
-led_kept wants n (drops x) f a h = drop_kept wants n x f a h.0 h.1
-led_kept wants n l.refused f a h = tt
+led_kept : (version : ℕ) (wants : Bool) (n : ℕ) (s : LinesStep) (f : List ℕ → List ℕ) → (wants ≡ true) × (version ≡ 1) → LinesNext (suc n) s f → LineNext version wants (suc n) (lines_led s) third (λ r. codes "poly" ++ (10 ∷ f r))
+led_kept version wants n (l.on x k) f a h = (refl, (h.0, h.1), a, in_node (lines_seen x k) f h.2)
+led_kept version wants n (begins x) f a h = line_kept version wants n x f a h.0 h.1
+led_kept version wants n (drops x) f a h = drop_kept version wants n x f a h.0 h.1
+led_kept version wants n l.refused f a h = tt
 
 -- each step
 
-pub lead_kept : (wants : Bool) (n : ℕ) (p : Place) (b : ℕ) → GoodPlace n p → PlaceFor wants p → (f : List ℕ → List ℕ) → PlaceReads p f → LineNext wants (suc n) (step wants p b) (stage p) (λ r. f (b ∷ r))
-lead_kept wants n (word [] o) b g a f reads = absurd g
-lead_kept wants n (word (x ∷ w) o) b g a f (v, is, reads) =
-    if_byte wants (suc n) b x (word_on w o) refused (word_stage o) f (word_kept wants n x w o v f g a is reads) tt
-lead_kept wants n (listed of xs) b g a f reads =
-    next_same wants (suc n) (list_step of xs b) (listed_stage of) (λ r. list_lead of xs (b ∷ r)) (λ r. f (b ∷ r)) (λ r. reads (b ∷ r)) (list_kept wants n of xs b g.0 g.1 a)
-lead_kept wants n (number_wanted of) b g a f reads =
-    next_same wants (suc n) (step wants (number_wanted of) b) (counted_stage of) (λ r. counted_lead of (b ∷ r)) (λ r. f (b ∷ r)) (λ r. reads (b ∷ r)) (first_digit_kept wants n of b g a)
-lead_kept wants n (number of k) b g a f reads =
-    next_same wants (suc n) (step wants (number of k) b) (counted_stage of) (λ r. counted_lead of (decimal k ++ b ∷ r)) (λ r. f (b ∷ r)) (λ r. reads (b ∷ r)) (digits_kept wants n of k b g.0 g.1 a)
-lead_kept wants n front b g a f reads =
-    next_same wants (suc n) (front_step wants b) third (λ r. b ∷ r) (λ r. f (b ∷ r)) (λ r. reads (b ∷ r)) (front_kept wants n b)
-lead_kept wants n (arg_front args) b g a f reads =
-    next_same wants (suc n) (step wants (arg_front args) b) third (λ r. lead (arg_front args) (b ∷ r)) (λ r. f (b ∷ r)) (λ r. reads (b ∷ r))
-    (if_byte wants (suc n) b 97 (on (word (codes "rg ") (to_name args))) _ third (lead (arg_front args)) (refl, args_wider n args g, a, (97 ∷ [], refl, λ r. refl))
-    (if_byte wants (suc n) b 100 (on (word (codes "rop") (to_list (of_drop args)))) refused third (lead (arg_front args)) (refl, (g.0, omega (arith, g.1), omega arith), a, (100 ∷ [], refl, λ r. refl)) tt))
-lead_kept wants n (name_wanted args) b g a f reads =
-    next_same wants (suc n) (step wants (name_wanted args) b) third (λ r. lead (name_wanted args) (b ∷ r)) (λ r. f (b ∷ r)) (λ r. reads (b ∷ r))
-    (if_so wants (suc n) (is_start b) (on (letters args (b ∷ []))) refused third (λ r. lead (name_wanted args) (b ∷ r)) (λ e. (refl, (args_wider n args g, first_letter b e), a, λ r. refl)) (λ e. tt))
-lead_kept wants n (letters args xs) b g a f reads =
-    next_same wants (suc n) (step wants (letters args xs) b) third (λ r. lead (letters args xs) (b ∷ r)) (λ r. f (b ∷ r)) (λ r. reads (b ∷ r)) (letters_kept wants n args xs b g.0 g.1 a)
-lead_kept wants n (poly_lines x k) b g a f reads =
-    next_same wants (suc n) (lines_led (lines_step x k b)) third (λ r. lead (poly_lines x k) (b ∷ r)) (λ r. f (b ∷ r)) (λ r. reads (b ∷ r)) (led_kept wants n (lines_step x k b) (λ r. lines_seen x k (b ∷ r)) a (lines_kept n x k b g.0 g.1))
-lead_kept wants n finished b g a f reads = tt
+pub lead_kept : (version : ℕ) (wants : Bool) (n : ℕ) (p : Place) (b : ℕ) → GoodPlace n p → PlaceFor version wants p → (f : List ℕ → List ℕ) → PlaceReads p f → LineNext version wants (suc n) (step version wants p b) (stage p) (λ r. f (b ∷ r))
+lead_kept version wants n (word [] o) b g a f reads = absurd g
+lead_kept version wants n (word (x ∷ w) o) b g a f (v, is, reads) =
+    if_byte version wants (suc n) b x (word_on w o) refused (word_stage o) f (word_kept version wants n x w o v f g a is reads) tt
+lead_kept version wants n version_wanted b g a f reads =
+    next_same version wants (suc n) (version_step b) opening (λ r. codes "YES " ++ (b ∷ r)) (λ r. f (b ∷ r)) (λ r. reads (b ∷ r)) (version_kept version wants n b)
+lead_kept version wants n (listed of xs) b g a f reads =
+    next_same version wants (suc n) (list_step of xs b) (listed_stage of) (λ r. list_lead of xs (b ∷ r)) (λ r. f (b ∷ r)) (λ r. reads (b ∷ r)) (list_kept version wants n of xs b g.0 g.1 a)
+lead_kept version wants n (number_wanted of) b g a f reads =
+    next_same version wants (suc n) (step version wants (number_wanted of) b) (counted_stage of) (λ r. counted_lead of (b ∷ r)) (λ r. f (b ∷ r)) (λ r. reads (b ∷ r)) (first_digit_kept version wants n of b g a)
+lead_kept version wants n (number of k) b g a f reads =
+    next_same version wants (suc n) (step version wants (number of k) b) (counted_stage of) (λ r. counted_lead of (decimal k ++ b ∷ r)) (λ r. f (b ∷ r)) (λ r. reads (b ∷ r)) (digits_kept version wants n of k b g.0 g.1 a)
+lead_kept version wants n front b g a f reads =
+    next_same version wants (suc n) (front_step version wants b) third (λ r. b ∷ r) (λ r. f (b ∷ r)) (λ r. reads (b ∷ r)) (front_kept version wants n b)
+lead_kept version wants n (arg_front args) b g a f reads =
+    next_same version wants (suc n) (step version wants (arg_front args) b) third (λ r. lead (arg_front args) (b ∷ r)) (λ r. f (b ∷ r)) (λ r. reads (b ∷ r))
+    (if_byte version wants (suc n) b 97 (on (word (codes "rg ") (to_name args))) _ third (lead (arg_front args)) (refl, args_wider n args g, a, (97 ∷ [], refl, λ r. refl))
+    (if_byte version wants (suc n) b 100 (on (word (codes "rop") (to_list (of_drop args)))) refused third (lead (arg_front args)) (refl, (g.0, omega (arith, g.1), omega arith), a, (100 ∷ [], refl, λ r. refl)) tt))
+lead_kept version wants n (name_wanted args) b g a f reads =
+    next_same version wants (suc n) (step version wants (name_wanted args) b) third (λ r. lead (name_wanted args) (b ∷ r)) (λ r. f (b ∷ r)) (λ r. reads (b ∷ r))
+    (if_so version wants (suc n) (is_start b) (on (letters args (b ∷ []))) refused third (λ r. lead (name_wanted args) (b ∷ r)) (λ e. (refl, (args_wider n args g, first_letter b e), a, λ r. refl)) (λ e. tt))
+lead_kept version wants n (letters args xs) b g a f reads =
+    next_same version wants (suc n) (step version wants (letters args xs) b) third (λ r. lead (letters args xs) (b ∷ r)) (λ r. f (b ∷ r)) (λ r. reads (b ∷ r)) (letters_kept version wants n args xs b g.0 g.1 a)
+lead_kept version wants n (poly_lines x k) b g a f reads =
+    next_same version wants (suc n) (lines_led (lines_step x k b)) third (λ r. lead (poly_lines x k) (b ∷ r)) (λ r. f (b ∷ r)) (λ r. reads (b ∷ r)) (led_kept version wants n (lines_step x k b) (λ r. lines_seen x k (b ∷ r)) a (lines_kept n x k b g.0 g.1))
+lead_kept version wants n finished b g a f reads = tt

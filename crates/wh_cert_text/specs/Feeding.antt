@@ -31,7 +31,7 @@ OnWant (Err NoMemory) P = P
 OnWant _ P = Unit {0}
 
 abbrev pub ranks_of : y.Past → List ℕ
-ranks_of (y.so_far ranks pairs nodes k) = ranks
+ranks_of (y.so_far version ranks pairs nodes k) = ranks
 
 -- in the line of the number of pairs, which comes behind that of the ranks
 abbrev pub IsPairsLine : y.Place → Type 0
@@ -40,13 +40,13 @@ IsPairsLine (y.number_wanted y.of_pairs) = Unit {0}
 IsPairsLine (y.number y.of_pairs n) = Unit {0}
 IsPairsLine _ = ⊥
 
--- the bytes led there; nothing is known of the items before but how many nodes are wanted, and the ranks until they are
--- handed out
+-- the bytes led there; nothing is known of the items before but how many nodes are wanted, the version, and the ranks until they
+-- are handed out
 abbrev pub Tracks : Progress → Standing → Type 0
 Tracks Unread s = s ≡ unread
 Tracks (Yes l) s =
-    (h : y.Past) × (wanted h ≡ l.value.wanted) × (IsPairsLine (yes_place l.value.line) → ranks_of h ≡ l.value.ranks)
-    × (s ≡ stands_yes h (yes_place l.value.line))
+    (h : y.Past) × (wanted h ≡ l.value.wanted) × (y.version_of h ≡ l.value.version)
+    × (IsPairsLine (yes_place l.value.line) → ranks_of h ≡ l.value.ranks) × (s ≡ stands_yes h (yes_place l.value.line))
 Tracks (No l) s = (h : m.Past) × (s ≡ stands h (line_place l.value))
 Tracks Refused s = ⊥
 Tracks Lost s = ⊥
@@ -92,6 +92,7 @@ Led s old new b (Err (Because e)) = (e.at ≡ old.taken) × (new.taken ≡ old.t
 -- a byte leads into the line of the number of pairs from that of the ranks, or from a place in it
 abbrev pub StageKept : y.Place → y.LineStep → Type 0
 StageKept p (y.on q) = IsPairsLine q → IsPairsLine p
+StageKept p (y.gives (y.version_item v) q) = IsPairsLine q → ⊥
 StageKept p (y.gives (y.ranks_item xs) q) = Unit {0}
 StageKept p (y.gives (y.pairs_item n) q) = IsPairsLine p × (IsPairsLine q → ⊥)
 StageKept p (y.gives i q) = IsPairsLine q → ⊥
@@ -100,4 +101,5 @@ StageKept p y.refused = Unit {0}
 -- the ranks are known where the number of pairs is read, before and behind the byte
 abbrev pub HeadKnown : y.Past → YesItems → ℕ → Type 0
 HeadKnown h l b =
-    (IsPairsLine (yes_place l.line) → ranks_of h ≡ l.ranks) × StageKept (yes_place l.line) (y.step (y.wants h) (yes_place l.line) b)
+    (IsPairsLine (yes_place l.line) → ranks_of h ≡ l.ranks)
+    × StageKept (yes_place l.line) (y.step (y.version_of h) (y.wants h) (yes_place l.line) b)

@@ -151,13 +151,13 @@ standing_after_yes h y.refused = wrong
 -- the first byte tells YES from NO
 abbrev pub first_byte : ℕ → Standing
 first_byte b =
-    cond (b == 89) (stands_yes y.nothing (y.word (codes "ES 1" ++ (line_feed ∷ codes "ranks")) (y.to_list y.of_ranks)))
+    cond (b == 89) (stands_yes y.nothing (y.word (codes "ES ") y.to_version))
     (cond (b == 78) (stands nothing (word (codes "O 1" ++ (line_feed ∷ codes "term ")) to_term)) wrong)
 
 abbrev pub take_byte : Standing → ℕ → Standing
 take_byte unread b = first_byte b
 take_byte (stands h p) b = standing_after h (line_step p b)
-take_byte (stands_yes h p) b = standing_after_yes h (y.step (y.wants h) p b)
+take_byte (stands_yes h p) b = standing_after_yes h (y.step (y.version_of h) (y.wants h) p b)
 take_byte wrong b = wrong
 
 -- where the bytes lead

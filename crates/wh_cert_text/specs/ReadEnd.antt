@@ -7,4 +7,4 @@ use Rattle.wh_cert_text.specs.YesMachine as y
 -- all of the certificate was read
 abbrev pub IsEnd : Standing → Cert → Type 0
 IsEnd s (no t steps at puts) = s ≡ stands (placed t steps at puts) finished
-IsEnd s (yes version ranks pairs nodes) = (version ≡ 1) × (s ≡ stands_yes (y.so_far ranks pairs nodes 0) y.finished)
+IsEnd s (yes version ranks pairs nodes) = s ≡ stands_yes (y.so_far version ranks pairs nodes 0) y.finished

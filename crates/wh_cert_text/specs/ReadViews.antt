@@ -29,7 +29,7 @@ abbrev pub no_standing : NoReader → m.Standing
 no_standing r = m.stands (no_past r) (line_place r.line.value)
 
 abbrev pub yes_past : YesReader → y.Past
-yes_past r = y.so_far r.ranks r.pairs (map said_node r.nodes) r.wanted
+yes_past r = y.so_far r.version r.ranks r.pairs (map said_node r.nodes) r.wanted
 
 abbrev pub yes_standing : YesReader → m.Standing
 yes_standing r = m.stands_yes (yes_past r) (yes_place r.line)
@@ -46,7 +46,7 @@ after fed.Wrong s = m.wrong
 
 -- how many nodes are wanted
 abbrev pub wanted : y.Past → ℕ
-wanted (y.so_far ranks pairs nodes k) = k
+wanted (y.so_far version ranks pairs nodes k) = k
 
 -- their number fits into its place
 abbrev pub few : m.Standing → Type 0

@@ -10,8 +10,9 @@ use Rattle.wh_cert.specs.Written.{Arg, Node, done, alone, blocks, subterm, inter
 use Rattle.wh_cert_text.specs.PolyLines as l
 use Rattle.wh_cert_text.specs.PolyLines.{Lines, in_funs, in_marks, in_rules, in_pairs, LinesPlace, lines_front, LinesStep, begins, drops, line_first, line_rest, line_begun, lines_step}
 
--- what lines give: ranks, the number of pairs, a node, the end
+-- what lines give: the version, ranks, the number of pairs, a node, the end
 pub data Item : Type 0 where
+  version_item : (version : ℕ) → Item
   ranks_item : (ranks : List ℕ) → Item
   pairs_item : (pairs : ℕ) → Item
   node_item : (x : Node) → Item
@@ -33,6 +34,7 @@ pub data Counted : Type 0 where
 
 -- what stands behind a fixed word
 pub data Behind : Type 0 where
+  to_version : Behind
   to_list : (of : Listed) → Behind
   to_pairs to_done to_alone to_blocks to_subterm : Behind
   to_name : (args : List Arg) → Behind
@@ -40,11 +42,12 @@ pub data Behind : Type 0 where
   to_line : (x : Lines) → Behind
   to_finish : Behind
 
--- the place: what is left of a fixed word; numbers of a list, behind the last one; before a number; in a number; the front of
+-- the place: what is left of a fixed word; behind `YES `; numbers of a list, behind the last one; before a number; in a number; the front of
 -- a node, or of the end; the front of a line of `arg` or `drop`; behind `arg `; a part of a name; a part of the lines of a node of
 -- interpretations; behind all
 pub data Place : Type 0 where
   word : (rest : List ℕ) (behind : Behind) → Place
+  version_wanted : Place
   listed : (of : Listed) (xs : List ℕ) → Place
   number_wanted : (of : Counted) → Place
   number : (of : Counted) (n : ℕ) → Place
@@ -62,7 +65,8 @@ pub data LineStep : Type 0 where
 
 -- the fixed word whose end leads there; that of `done` without its first byte, behind which no other word goes on
 abbrev pub spelling : Behind → List ℕ
-spelling (to_list of_ranks) = codes "YES 1" ++ (line_feed ∷ codes "ranks")
+spelling to_version = codes "YES "
+spelling (to_list of_ranks) = line_feed ∷ codes "ranks"
 spelling (to_list (of_block left parts)) = codes "block"
 spelling (to_list (of_drop args)) = codes "drop"
 spelling (to_list (of_poly funs marks rules pairs)) = codes "drop"
@@ -77,6 +81,7 @@ spelling (to_line x) = line_first x ∷ line_rest x
 spelling to_finish = codes "end" ++ (line_feed ∷ [])
 
 abbrev pub behind : Behind → LineStep
+behind to_version = on version_wanted
 behind (to_list of) = on (listed of [])
 behind to_pairs = on (number_wanted of_pairs)
 behind to_done = gives (node_item done) front
@@ -92,6 +97,13 @@ behind to_finish = gives end_item finished
 abbrev pub word_on : List ℕ → Behind → LineStep
 word_on [] o = behind o
 word_on (x ∷ w) o = on (word (x ∷ w) o)
+
+-- the digit of a version, behind which the line of the ranks comes
+abbrev pub version_begun : ℕ → LineStep
+version_begun version = gives (version_item version) (word (line_feed ∷ codes "ranks") (to_list of_ranks))
+
+abbrev pub version_step : ℕ → LineStep
+version_step b = cond (b == 49) (version_begun 1) (cond (b == 50) (version_begun 2) refused)
 
 -- the front of the line of a block
 abbrev pub block_wanted : ℕ → List (List ℕ) → LineStep
@@ -122,15 +134,15 @@ number_ended (of_place args name) n b =
     cond (b == line_feed) (on (arg_front (args ++ record { name = name; place = n } ∷ []))) refused
 number_ended (of_list of xs) n b = list_step of (xs ++ n ∷ []) b
 
--- the front of a node, or of the end where no node is wanted
-abbrev pub front_step : Bool → ℕ → LineStep
-front_step wants b =
+-- the front of a node of the version, or of the end where no node is wanted; nodes of interpretations stand in version 1 alone
+abbrev pub front_step : ℕ → Bool → ℕ → LineStep
+front_step version wants b =
     cond wants
     (cond (b == 100) (on (word (codes "one" ++ (line_feed ∷ [])) to_done))
     (cond (b == 97) (on (word (codes "lone" ++ (line_feed ∷ [])) to_alone))
     (cond (b == 98) (on (word (codes "locks ") to_blocks))
     (cond (b == 115) (on (word (codes "ubterm" ++ (line_feed ∷ [])) to_subterm))
-    (cond (b == 112) (on (word (codes "oly" ++ (line_feed ∷ [])) to_poly)) refused)))))
+    (cond (b == 112) (cond (version == 1) (on (word (codes "oly" ++ (line_feed ∷ [])) to_poly)) refused) refused)))))
     (cond (b == 101) (on (word (codes "nd" ++ (line_feed ∷ [])) to_finish)) refused)
 
 -- the next byte of a fixed word
@@ -175,33 +187,39 @@ lines_led (begins x) = on (word (line_rest x) (to_line x))
 lines_led (drops x) = on (word (codes "rop") (to_list (dropped x)))
 lines_led l.refused = refused
 
--- where a byte leads, with whether a node is wanted
-abbrev pub step : Bool → Place → ℕ → LineStep
-step wants (word w o) b = word_step w o b
-step wants (listed of xs) b = list_step of xs b
-step wants (number_wanted of) b = digit_step of b
-step wants (number of n) b = number_step of n b
-step wants front b = front_step wants b
-step wants (arg_front args) b = arg_step args b
-step wants (name_wanted args) b = letter_step args b
-step wants (letters args xs) b = letters_step args xs b
-step wants (poly_lines x k) b = lines_led (lines_step x k b)
-step wants finished b = refused
+-- where a byte leads, with the version and whether a node is wanted
+abbrev pub step : ℕ → Bool → Place → ℕ → LineStep
+step version wants (word w o) b = word_step w o b
+step version wants version_wanted b = version_step b
+step version wants (listed of xs) b = list_step of xs b
+step version wants (number_wanted of) b = digit_step of b
+step version wants (number of n) b = number_step of n b
+step version wants front b = front_step version wants b
+step version wants (arg_front args) b = arg_step args b
+step version wants (name_wanted args) b = letter_step args b
+step version wants (letters args xs) b = letters_step args xs b
+step version wants (poly_lines x k) b = lines_led (lines_step x k b)
+step version wants finished b = refused
 
--- the items so far: ranks, the number of pairs, nodes; and how many nodes are still wanted
+-- the items so far: the version, 0 before it is read, ranks, the number of pairs, nodes; and how many nodes are still wanted
 pub data Past : Type 0 where
-  so_far : (ranks : List ℕ) (pairs : ℕ) (nodes : List Node) (wanted : ℕ) → Past
+  so_far : (version : ℕ) (ranks : List ℕ) (pairs : ℕ) (nodes : List Node) (wanted : ℕ) → Past
 
 abbrev pub nothing : Past
-nothing = so_far [] 0 [] 0
+nothing = so_far 0 [] 0 [] 0
 
 -- one more item; a node wants its children in its place
 abbrev pub gather : Past → Item → Past
-gather (so_far ranks pairs nodes wanted) (ranks_item new) = so_far new pairs nodes wanted
-gather (so_far ranks pairs nodes wanted) (pairs_item new) = so_far ranks new nodes 1
-gather (so_far ranks pairs nodes wanted) (node_item x) = so_far ranks pairs (nodes ++ x ∷ []) (children x + (wanted - 1))
+gather (so_far version ranks pairs nodes wanted) (version_item new) = so_far new ranks pairs nodes wanted
+gather (so_far version ranks pairs nodes wanted) (ranks_item new) = so_far version new pairs nodes wanted
+gather (so_far version ranks pairs nodes wanted) (pairs_item new) = so_far version ranks new nodes 1
+gather (so_far version ranks pairs nodes wanted) (node_item x) = so_far version ranks pairs (nodes ++ x ∷ []) (children x + (wanted - 1))
 gather h end_item = h
+
+-- the version
+abbrev pub version_of : Past → ℕ
+version_of (so_far version ranks pairs nodes wanted) = version
 
 -- some node is wanted
 abbrev pub wants : Past → Bool
-wants (so_far ranks pairs nodes wanted) = nat_lt 0 wanted
+wants (so_far version ranks pairs nodes wanted) = nat_lt 0 wanted

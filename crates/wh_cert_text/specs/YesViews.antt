@@ -26,6 +26,7 @@ listed_of listed.Drop l = m.of_drop (map said_arg l.args)
 listed_of listed.Poly l = m.dropped (lines_of l.lines.value)
 
 abbrev pub behind_of : YesBehind → YesLine → m.Behind
+behind_of behind.Version l = m.to_version
 behind_of (behind.List of) l = m.to_list (listed_of of l)
 behind_of behind.Pairs l = m.to_pairs
 behind_of behind.Done l = m.to_done
@@ -54,6 +55,7 @@ counted_of (counted.List of) l = m.of_list (listed_of of l) l.numbers
 -- past the end of a word no byte is right
 abbrev pub place_of : YesPlace → YesLine → m.Place
 place_of (place.Word o i) l = m.word (drop i (m.spelling (behind_of o l))) (behind_of o l)
+place_of place.VersionWanted l = m.version_wanted
 place_of (place.Listed of) l = m.listed (listed_of of l) l.numbers
 place_of (place.NumberWanted of) l = m.number_wanted (counted_of of l)
 place_of (place.Number of n) l = m.number (counted_of of l) n
@@ -70,6 +72,7 @@ abbrev pub yes_place : YesLine → m.Place
 yes_place l = place_of l.place l
 
 abbrev pub item_of : YesItem → m.Item
+item_of (item.Version version) = m.version_item version
 item_of (item.Ranks ranks) = m.ranks_item ranks
 item_of (item.Pairs n) = m.pairs_item n
 item_of (item.Node x) = m.node_item (said_node x)

@@ -179,8 +179,8 @@ impl CertReader {
     ) -> Result<Option<Item>, Or<CertSyntax>>
         requires room { self.old.taken < 2 ^ 32 - 1 }
         requires away { self.old.at ≡ Lost }
-        ensures { (h : y.Past) → wanted_of h ≡ lines.value.wanted → HeadKnown h lines.value byte
-            → Led (stands_yes h (yes_place lines.value.line)) self.old self.new byte result }
+        ensures { (h : y.Past) → wanted_of h ≡ lines.value.wanted → y.version_of h ≡ lines.value.version
+            → HeadKnown h lines.value byte → Led (stands_yes h (yes_place lines.value.line)) self.old self.new byte result }
     {
         match lines.take(self.alloc, byte)? {
             Taken::On(item) => {

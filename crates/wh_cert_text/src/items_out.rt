@@ -33,6 +33,8 @@ pub enum Taken {
 pub struct YesItems {
     /// The lines.
     pub line: YesLine,
+    /// The version, once it was read.
+    pub version: u32,
     /// The ranks, until they are handed out.
     pub ranks: Numbers,
     /// How many nodes are still wanted.
@@ -46,6 +48,7 @@ impl YesItems {
     {
         Ok(YesItems {
             line: YesLine::new(alloc)?,
+            version: 0,
             ranks: Numbers::new(alloc)?,
             wanted: 0,
         })
@@ -53,28 +56,32 @@ impl YesItems {
 
     /// Where the next byte leads. No memory is needed where all was read.
     pub fn take(&mut self, alloc: Global, byte: u8) -> Result<Taken, AllocError>
-        ensures takes { IfOk result (λ taken. (h : y.Past) → wanted_of h ≡ self.old.wanted
-            → TakesYes h self.old self.new (y.step (y.wants h) (yes_place self.old.line) byte) taken) }
+        ensures takes { IfOk result (λ taken. (h : y.Past) → wanted_of h ≡ self.old.wanted → y.version_of h ≡ self.old.version
+            → TakesYes h self.old self.new (y.step (y.version_of h) (y.wants h) (yes_place self.old.line) byte) taken) }
         ensures wants { OnErr result (self.old.line.place ≡ place.Finished → ⊥) }
     {
         if matches!(self.line.place, YesPlace::Finished) {
             return Ok(Taken::Wrong);
         }
         let wants = self.wanted > 0;
-        match self.line.step(alloc, wants, byte)? {
+        match self.line.step(alloc, self.version, wants, byte)? {
             YesStep::On => Ok(Taken::On(None)),
             YesStep::Gives(item) => Ok(Taken::On(self.hand_out(alloc, item)?)),
             YesStep::Wrong => Ok(Taken::Wrong),
         }
     }
 
-    /// What an item of the lines hands out: the ranks wait for the number of pairs.
+    /// What an item of the lines hands out: the version and the ranks wait for the number of pairs.
     fn hand_out(&mut self, alloc: Global, item: YesItem) -> Result<Option<Item>, AllocError>
         ensures line { IfOk result (λ out. self.new.line ≡ self.old.line) }
-        ensures gives { IfOk result (λ out. (h : y.Past) → wanted_of h ≡ self.old.wanted
+        ensures gives { IfOk result (λ out. (h : y.Past) → wanted_of h ≡ self.old.wanted → y.version_of h ≡ self.old.version
             → GivesYes h self.old self.new (yes_item item) out) }
     {
         match item {
+            YesItem::Version(version) => {
+                self.version = version;
+                Ok(None)
+            }
             YesItem::Ranks(ranks) => {
                 self.ranks = ranks;
                 Ok(None)
@@ -83,7 +90,7 @@ impl YesItems {
                 self.wanted = 1;
                 let ranks = mem::replace(&mut self.ranks, Numbers::new(alloc)?);
                 Ok(Some(Item::YesHead {
-                    version: 1,
+                    version: self.version,
                     ranks,
                     pairs,
                 }))

@@ -142,6 +142,8 @@ impl NoReader {
 pub struct YesReader {
     /// The lines since the last item.
     pub line: YesLine,
+    /// The version, once it was read.
+    pub version: u32,
     /// The ranks.
     pub ranks: Numbers,
     /// The number of pairs.
@@ -159,6 +161,7 @@ impl YesReader {
     {
         Ok(YesReader {
             line: YesLine::new(alloc)?,
+            version: 0,
             ranks: Numbers::new(alloc)?,
             pairs: 0,
             nodes: Nodes::new(alloc)?,
@@ -174,6 +177,7 @@ impl YesReader {
         ensures line { self.new.line ≡ self.old.line }
     {
         match item {
+            YesItem::Version(version) => self.version = version,
             YesItem::Ranks(ranks) => self.ranks = ranks,
             YesItem::Pairs(pairs) => {
                 self.pairs = pairs;
@@ -194,7 +198,9 @@ impl YesReader {
         requires { few (take_byte (yes_standing self.old) byte) }
         ensures { IfOk result (λ fed. after fed (yes_standing self.new) ≡ take_byte (yes_standing self.old) byte) }
     {
-        match self.line.step(alloc, self.wanted > 0, byte)? {
+        match self
+            .line
+            .step(alloc, self.version, self.wanted > 0, byte)? {
             YesStep::On => Ok(Fed::On),
             YesStep::Gives(item) => {
                 self.gather(item)?;
@@ -212,6 +218,7 @@ impl YesReader {
     {
         let YesReader {
             line,
+            version,
             ranks,
             pairs,
             nodes,
@@ -221,7 +228,7 @@ impl YesReader {
             return None;
         }
         Some(Certificate::Yes(YesCertificate {
-            version: 1,
+            version,
             ranks,
             pairs,
             nodes,
@@ -236,7 +243,7 @@ pub fn children(node: &Node) -> u64
     match node {
         Node::Done | Node::Alone => 0,
         Node::Blocks(parts) => parts.as_slice().len() as u64,
-        Node::Subterm { .. } | Node::Poly(_) => 1,
+        Node::Subterm { .. } | Node::Poly(_) | Node::Order(_) => 1,
     }
 }
 

@@ -3,7 +3,7 @@
 
 ghost use Rattle.std.specs.Prelude.{◌≡◌, true, drop, map, IfOk};
 ghost use Rattle.wh_cert.specs.Said.{said_arg};
-ghost use Rattle.wh_cert_text.specs.YesMachine.{of_pairs, of_blocks, spelling, behind as stands_behind, list_ended, list_step, number_ended, front_step, word_step, digit_step, number_step, arg_step, letter_step, lines_led, step as machine_step};
+ghost use Rattle.wh_cert_text.specs.YesMachine.{of_pairs, of_blocks, spelling, behind as stands_behind, list_ended, list_step, number_ended, front_step, version_step, word_step, digit_step, number_step, arg_step, letter_step, lines_led, step as machine_step};
 ghost use Rattle.wh_cert_text.specs.PolyLines.{lines_step};
 ghost use Rattle.wh_cert_text.specs.PolyLinesViews.{lines_of, lines_place};
 ghost use Rattle.wh_cert_text.specs.YesViews.{listed_of, behind_of, counted_of, yes_place, yes_went, next_block};
@@ -47,6 +47,8 @@ pub enum Counted {
 /// What stands behind a fixed word.
 #[derive(Clone, Copy)]
 pub enum YesBehind {
+    /// The version.
+    Version,
     /// Numbers of a list.
     List(Listed),
     /// The number of pairs.
@@ -74,6 +76,8 @@ pub enum YesBehind {
 pub enum YesPlace {
     /// That many bytes of a fixed word.
     Word(YesBehind, usize),
+    /// `YES `.
+    VersionWanted,
     /// A list's line up to its last number.
     Listed(Listed),
     /// What stands before a number.
@@ -118,6 +122,8 @@ pub struct YesLine {
 /// What lines give.
 #[derive(Drop)]
 pub enum YesItem {
+    /// The version.
+    Version(u32),
     /// The ranks.
     Ranks(Numbers),
     /// The number of pairs.
@@ -142,10 +148,10 @@ pub enum YesStep {
 impl YesLine {
     /// Before the certificate's second byte.
     pub fn new(alloc: Global) -> Result<YesLine, AllocError>
-        ensures { IfOk result (λ line. line.place ≡ place.Word (behind.List listed.Ranks) 1) }
+        ensures { IfOk result (λ line. line.place ≡ place.Word behind.Version 1) }
     {
         Ok(YesLine {
-            place: YesPlace::Word(YesBehind::List(Listed::Ranks), 1),
+            place: YesPlace::Word(YesBehind::Version, 1),
             numbers: Numbers::new(alloc)?,
             parts: Blocks::new(alloc)?,
             args: Args::new(alloc)?,
@@ -154,16 +160,23 @@ impl YesLine {
         })
     }
 
-    /// The step from a place in the lines; at the front of a node with whether one is wanted.
-    pub fn step(&mut self, alloc: Global, wants: bool, byte: u8) -> Result<YesStep, AllocError>
-        ensures { IfOk result (λ went. yes_went went self.new ≡ machine_step wants (yes_place self.old) byte) }
+    /// The step from a place in the lines; at the front of a node with the version, and whether one is wanted.
+    pub fn step(
+        &mut self,
+        alloc: Global,
+        version: u32,
+        wants: bool,
+        byte: u8,
+    ) -> Result<YesStep, AllocError>
+        ensures { IfOk result (λ went. yes_went went self.new ≡ machine_step version wants (yes_place self.old) byte) }
     {
         match self.place {
             YesPlace::Word(behind, at) => self.step_word(alloc, behind, at, byte),
+            YesPlace::VersionWanted => Ok(self.step_version(byte)),
             YesPlace::Listed(of) => self.step_list(alloc, of, byte),
             YesPlace::NumberWanted(of) => Ok(self.first_digit(of, byte)),
             YesPlace::Number(of, number) => self.step_number(alloc, of, number, byte),
-            YesPlace::Front => Ok(self.step_front(wants, byte)),
+            YesPlace::Front => Ok(self.step_front(version, wants, byte)),
             YesPlace::ArgFront => Ok(self.step_arg_front(byte)),
             YesPlace::NameWanted => self.first_letter(alloc, byte),
             YesPlace::Name => self.step_name(byte),
@@ -204,6 +217,7 @@ impl YesLine {
         ensures { IfOk result (λ went. yes_went went self.new ≡ stands_behind (behind_of behind self.old)) }
     {
         match behind {
+            YesBehind::Version => self.place = YesPlace::VersionWanted,
             YesBehind::List(of) => {
                 self.numbers = Numbers::new(alloc)?;
                 self.place = YesPlace::Listed(of);
@@ -237,6 +251,19 @@ impl YesLine {
             }
         }
         Ok(YesStep::On)
+    }
+
+    /// The digit of the version, behind which the line of the ranks comes.
+    fn step_version(&mut self, byte: u8) -> YesStep
+        ensures { yes_went result self.new ≡ version_step byte }
+    {
+        let version = match byte {
+            b'1' => 1,
+            b'2' => 2,
+            _ => return YesStep::Wrong,
+        };
+        self.place = YesPlace::Word(YesBehind::List(Listed::Ranks), 0);
+        YesStep::Gives(YesItem::Version(version))
     }
 
     /// Behind a number of a list another one comes, or the line ends.
@@ -380,7 +407,7 @@ impl YesLine {
     /// The first digit of a symbol's argument.
     fn first_arg_digit(&mut self, byte: u8) -> YesStep
         requires { self.old.place ≡ place.ArgPlaceWanted }
-        ensures { yes_went result self.new ≡ machine_step true (yes_place self.old) byte }
+        ensures { yes_went result self.new ≡ machine_step 1 true (yes_place self.old) byte }
     {
         if self.name.is_none() {
             return YesStep::Wrong;
@@ -403,7 +430,7 @@ impl YesLine {
         byte: u8,
     ) -> Result<YesStep, AllocError>
         requires { self.old.place ≡ place.ArgPlace number }
-        ensures { IfOk result (λ went. yes_went went self.new ≡ machine_step true (yes_place self.old) byte) }
+        ensures { IfOk result (λ went. yes_went went self.new ≡ machine_step 1 true (yes_place self.old) byte) }
     {
         match &self.name {
             None => Ok(YesStep::Wrong),
@@ -426,16 +453,16 @@ impl YesLine {
         }
     }
 
-    /// The first byte of a node, or of the end.
-    fn step_front(&mut self, wants: bool, byte: u8) -> YesStep
-        ensures { yes_went result self.new ≡ front_step wants byte }
+    /// The first byte of a node of the version, or of the end.
+    fn step_front(&mut self, version: u32, wants: bool, byte: u8) -> YesStep
+        ensures { yes_went result self.new ≡ front_step version wants byte }
     {
         let behind = match (wants, byte) {
             (true, b'd') => YesPlace::Word(YesBehind::Done, 0),
             (true, b'a') => YesPlace::Word(YesBehind::Alone, 1),
             (true, b'b') => YesPlace::Word(YesBehind::Blocks, 1),
             (true, b's') => YesPlace::Word(YesBehind::Subterm, 1),
-            (true, b'p') => YesPlace::Word(YesBehind::Poly, 1),
+            (true, b'p') if version == 1 => YesPlace::Word(YesBehind::Poly, 1),
             (false, b'e') => YesPlace::Word(YesBehind::Finish, 1),
             _ => return YesStep::Wrong,
         };
@@ -470,7 +497,7 @@ impl YesLine {
     /// A symbol's name goes on with the byte, or has ended before it.
     fn step_name(&mut self, byte: u8) -> Result<YesStep, AllocError>
         requires { self.old.place ≡ place.Name }
-        ensures { IfOk result (λ went. yes_went went self.new ≡ machine_step true (yes_place self.old) byte) }
+        ensures { IfOk result (λ went. yes_went went self.new ≡ machine_step 1 true (yes_place self.old) byte) }
     {
         match &mut self.name {
             None => Ok(YesStep::Wrong),
@@ -494,7 +521,8 @@ fn spelling(behind: YesBehind) -> &'static [u8]
     ensures { (l : YesLine) → result.now ≡ spelling (behind_of behind l) }
 {
     match behind {
-        YesBehind::List(Listed::Ranks) => b"YES 1\nranks".as_slice(),
+        YesBehind::Version => b"YES ".as_slice(),
+        YesBehind::List(Listed::Ranks) => b"\nranks".as_slice(),
         YesBehind::List(Listed::Block(_)) => b"block".as_slice(),
         YesBehind::List(Listed::Drop | Listed::Poly) => b"drop".as_slice(),
         YesBehind::Pairs => b"pairs ".as_slice(),
