@@ -1,0 +1,3 @@
+pub mod SectionsLaws
+pub mod PolyLinesSound
+pub mod PolyLinesCode

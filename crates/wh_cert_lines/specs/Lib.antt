@@ -1,0 +1,4 @@
+pub mod Sections
+pub mod SectionsViews
+pub mod PolyLines
+pub mod PolyLinesViews
