@@ -2,3 +2,5 @@ pub mod Sections
 pub mod SectionsViews
 pub mod PolyLines
 pub mod PolyLinesViews
+pub mod OrderLines
+pub mod OrderLinesViews

@@ -85,7 +85,7 @@ rest_ends x (y ∷ xs) w =
     let behind = rest_ends y xs w in
     record { tail = x ∷ behind.tail; f = behind.f; ends = ap (λ (s : Step). scan s behind.tail) (cond-true (x == x) (goes (word (y ∷ xs) w)) nowhere (eq-eqb x x refl)) ∙ behind.ends }
 
-pub place_ends : (k : Place) (f : List ℕ → List ℕ) → Good k f → Ends k
+place_ends : (k : Place) (f : List ℕ → List ℕ) → Good k f → Ends k
 place_ends wanted f g = record { tail = codes "pick 0" ++ 10 ∷ []; f = picks 0; ends = refl }
 place_ends (word [] w) f g = absurd g
 place_ends (word (x ∷ xs) w) f g = rest_ends x xs w
