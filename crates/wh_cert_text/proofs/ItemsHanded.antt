@@ -11,7 +11,7 @@ use Rattle.wh_cert.specs.Items.{Item, yes_head, node, no_head, step, at, put, en
 use Rattle.wh_cert_text.specs.LineMachine as m
 use Rattle.wh_cert_text.specs.LineMachine.{LinePlace, finished, LineStep, on, gives, refused, line_step, Past, nothing, begun, placed, gather, Standing, unread, stands, stands_yes, wrong, standing_after, standing_after_yes, first_byte, take_byte, run, start}
 use Rattle.wh_cert_text.specs.YesMachine as y
-use Rattle.wh_cert_text.specs.PolyLines as l
+use Rattle.wh_cert_lines.specs.PolyLines as l
 use Rattle.wh_cert_text.specs.Handing.{no_item, handed_no, handed_yes, handed}
 use Rattle.wh_cert_text.proofs.LineSound as n
 use Rattle.wh_cert_text.proofs.YesSound as s

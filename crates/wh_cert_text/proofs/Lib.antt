@@ -1,5 +1,3 @@
-pub mod SectionsLaws
-pub mod PolyLinesSound
 pub mod YesSound
 pub mod LinesComplete
 pub mod YesComplete
@@ -13,7 +11,6 @@ pub mod LineEnds
 pub mod Whole
 pub mod TextOrFault
 pub mod TextLengths
-pub mod PolyLinesCode
 pub mod YesCode
 pub mod ReadCode
 pub mod ItemsHanded

@@ -2,13 +2,15 @@
 use Rattle.std.proofs.Common.{◌≡◌, ℕ, zero, suc, ◌+◌, ◌<◌, ◌==◌, List, [], ◌∷◌, ◌++◌, length, get_or, drop, map, refl, sym, ap, ◌∙◌, arith}
 use Rattle.std.proofs.lemmas.Bool.{cond-true, eq-eqb}
 use Rattle.std.proofs.lemmas.List.{drop_more}
+use Rattle.wh_cert.specs.Written as written
 use Rattle.wh_cert.specs.Said.{said_arg, said_node}
-use Rattle.wh_cert_text.specs.YesMachine.{Behind, of_block, list_ended, word, on, refused, spelling, word_step}
+use Rattle.wh_cert_lines.specs.PolyLines.{Lines, in_funs, in_marks, in_rules, in_pairs, node_of}
+use Rattle.wh_cert_text.specs.YesMachine.{Behind, of_block, list_ended, dropped, word, on, gives, node_item, front, refused, spelling, word_step}
 use Rattle.wh_cert_text.specs.YesViews.{behind_of, next_block, yes_place}
 use Rattle.wh_cert_text.specs.declared.yes_line.Listed.TheVariants as listed
 use Rattle.wh_cert_text.specs.declared.yes_line.YesBehind.{YesBehind}
 use Rattle.wh_cert_text.specs.declared.yes_line.YesBehind.TheVariants as behind
-use Rattle.wh_cert_text.specs.declared.sections.Section.TheVariants as section
+use Rattle.wh_cert_lines.specs.declared.sections.Section.TheVariants as section
 use Rattle.wh_cert_text.specs.declared.yes_line.YesPlace.{YesPlace}
 use Rattle.wh_cert_text.specs.declared.yes_line.YesPlace.TheVariants as place
 use Rattle.wh_cert_text.specs.declared.yes_line.YesLine.{YesLine}
@@ -29,6 +31,13 @@ nodes_grow new old x e = ap (map said_node) e ∙ map_add said_node old x
 pub block_ended : (left : ℕ) (parts : List (List ℕ)) (xs : List ℕ) → next_block left (parts ++ xs ∷ []) ≡ list_ended (of_block left parts) xs
 block_ended zero parts xs = refl
 block_ended (suc left) parts xs = refl
+
+-- the line of `drop` ends the node of the lines before it
+pub drop_ended : (x : Lines) (xs : List ℕ) (node : written.Node) → node ≡ node_of x xs → gives (node_item node) front ≡ list_ended (dropped x) xs
+drop_ended (in_funs funs) xs node is = ap (λ (y : written.Node). gives (node_item y) front) is
+drop_ended (in_marks funs marks) xs node is = ap (λ (y : written.Node). gives (node_item y) front) is
+drop_ended (in_rules funs marks rules) xs node is = ap (λ (y : written.Node). gives (node_item y) front) is
+drop_ended (in_pairs funs marks rules pairs) xs node is = ap (λ (y : written.Node). gives (node_item y) front) is
 
 -- what stands behind a word does not depend on the place
 behind_same : (o : YesBehind) (l : YesLine) (p : YesPlace) → behind_of o (record { place = p; numbers = l.numbers; parts = l.parts; args = l.args; name = l.name; lines = l.lines }) ≡ behind_of o l

@@ -13,9 +13,9 @@ use Rattle.wh_cert_parts.proofs.PolyLaws.{poly_seen, poly_sound}
 use Rattle.wh_cert_parts.proofs.PolyRuns.{poly_ends}
 use Rattle.wh_cert.specs.Interps.{Interp}
 use Rattle.wh_cert.specs.Limits.{InterpFits, MoveFits, NodeWithin}
-use Rattle.wh_cert_text.specs.PolyLines.{Lines, in_funs, in_marks, in_rules, in_pairs, LinesPlace, lines_front, name_wanted, name as line_name, in_poly, moves, from_wanted, from, to_wanted, to, amount_wanted, amount, line_begun, add_named, add_shown, add_move}
-use Rattle.wh_cert_text.proofs.PolyLinesSound.{limits, GoodMoves, GoodLines, GoodLinesPlace, no_interps, lines_wider, interp_good, cover_good, begun_good}
-use Rattle.wh_cert_text.proofs.SectionsLaws.{TakesNamed, TakesShown, pairs_good}
+use Rattle.wh_cert_lines.specs.PolyLines.{Lines, in_funs, in_marks, in_rules, in_pairs, LinesPlace, lines_front, name_wanted, name as line_name, in_poly, moves, from_wanted, from, to_wanted, to, amount_wanted, amount, line_begun, add_named, add_shown, add_move}
+use Rattle.wh_cert_lines.proofs.PolyLinesSound.{limits, GoodMoves, GoodLines, GoodLinesPlace, no_interps, lines_wider, interp_good, cover_good, begun_good}
+use Rattle.wh_cert_lines.proofs.SectionsLaws.{TakesNamed, TakesShown, pairs_good}
 use Rattle.wh_cert_text.proofs.LinesComplete.{poly_lift}
 use Rattle.wh_cert.specs.Written.{Arg, Node, done, alone, blocks, subterm, interpretations, children, yes}
 use Rattle.wh_cert_text.specs.YesMachine.{node_item, end_item, Listed, of_ranks, of_block, of_drop, of_poly, Counted, of_pairs, of_blocks, of_place, of_list, Behind, to_version, to_list, to_pairs, to_done, to_alone, to_blocks, to_subterm, to_name, to_poly, to_line, to_finish, Place, word, version_wanted, listed, number_wanted, number, front, arg_front, name_wanted as arg_name_wanted, letters, poly_lines, finished, LineStep, on, refused, behind, list_ended, Past, so_far, gather, version_of, wants}

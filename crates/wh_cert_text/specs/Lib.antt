@@ -1,11 +1,7 @@
-pub mod Sections
-pub mod SectionsViews
-pub mod PolyLines
 pub mod YesMachine
 pub mod LineMachine
 pub mod ReadEnd
 pub mod LineViews
-pub mod PolyLinesViews
 pub mod YesViews
 pub mod ReadViews
 pub mod ItemsRead

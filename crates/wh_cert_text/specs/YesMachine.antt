@@ -7,8 +7,8 @@ use Rattle.wh_hopoly.specs.declared.expression.Move as moved
 use Rattle.wh_letters.specs.Digits.{goes_on}
 use Rattle.wh_cert.specs.Interps.{Interp}
 use Rattle.wh_cert.specs.Written.{Arg, Node, done, alone, blocks, subterm, interpretations, children}
-use Rattle.wh_cert_text.specs.PolyLines as l
-use Rattle.wh_cert_text.specs.PolyLines.{Lines, in_funs, in_marks, in_rules, in_pairs, LinesPlace, lines_front, LinesStep, begins, drops, line_first, line_rest, line_begun, lines_step}
+use Rattle.wh_cert_lines.specs.PolyLines as l
+use Rattle.wh_cert_lines.specs.PolyLines.{Lines, in_funs, in_marks, in_rules, in_pairs, LinesPlace, lines_front, LinesStep, begins, drops, line_first, line_rest, line_begun, lines_step}
 
 -- what lines give: the version, ranks, the number of pairs, a node, the end
 pub data Item : Type 0 where

@@ -4,7 +4,7 @@ use Rattle.wh_letters.specs.declared.letters.Letters.{Letters}
 use Rattle.wh_cert.specs.Written.{blocks}
 use Rattle.wh_cert.specs.Said.{said_arg, said_node}
 use Rattle.wh_cert_text.specs.YesMachine as m
-use Rattle.wh_cert_text.specs.PolyLinesViews.{section_of, lines_of, lines_place}
+use Rattle.wh_cert_lines.specs.PolyLinesViews.{section_of, lines_of, lines_place}
 use Rattle.wh_cert_text.specs.declared.yes_line.Listed.{Listed}
 use Rattle.wh_cert_text.specs.declared.yes_line.Listed.TheVariants as listed
 use Rattle.wh_cert_text.specs.declared.yes_line.Counted.{Counted}

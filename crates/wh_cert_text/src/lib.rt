@@ -5,9 +5,7 @@ mod cert_reader;
 mod items_out;
 mod laws;
 mod line_reader;
-mod poly_lines;
 mod read;
-mod sections;
 mod yes_line;
 
 pub use cert_reader::CertReader;

@@ -4,19 +4,18 @@
 ghost use Rattle.std.specs.Prelude.{◌≡◌, true, drop, map, IfOk};
 ghost use Rattle.wh_cert.specs.Said.{said_arg};
 ghost use Rattle.wh_cert_text.specs.YesMachine.{of_pairs, of_blocks, spelling, behind as stands_behind, list_ended, list_step, number_ended, front_step, version_step, word_step, digit_step, number_step, arg_step, letter_step, lines_led, step as machine_step};
-ghost use Rattle.wh_cert_text.specs.PolyLines.{lines_step};
-ghost use Rattle.wh_cert_text.specs.PolyLinesViews.{lines_of, lines_place};
+ghost use Rattle.wh_cert_lines.specs.PolyLines.{lines_step};
+ghost use Rattle.wh_cert_lines.specs.PolyLinesViews.{lines_of, lines_place};
 ghost use Rattle.wh_cert_text.specs.YesViews.{listed_of, behind_of, counted_of, yes_place, yes_went, next_block};
 ghost use Rattle.wh_cert_text.specs.declared.yes_line.YesLine.{YesLine};
 ghost use Rattle.wh_cert_text.specs.declared.yes_line.Listed.TheVariants as listed;
 ghost use Rattle.wh_cert_text.specs.declared.yes_line.YesBehind.TheVariants as behind;
 ghost use Rattle.wh_cert_text.specs.declared.yes_line.YesPlace.TheVariants as place;
 
-use crate::poly_lines::{LinesStep, PolyLines};
-use crate::sections::Section;
 use std::alloc::{AllocError, Global};
 use std::mem;
 use wh_cert::{Arg, Args, Node};
+use wh_cert_lines::{LinesStep, PolyLines, Section};
 use wh_letters::{Letters, begins_name, first_number, next_number};
 use wh_types::{Blocks, Numbers};
 
@@ -281,7 +280,7 @@ impl YesLine {
     }
 
     /// The line of a list has ended.
-    #[tactic(auto, using(crate::proofs::YesCode::block_ended))]
+    #[tactic(auto, using(crate::proofs::YesCode::block_ended, crate::proofs::YesCode::drop_ended))]
     fn end_list(&mut self, alloc: Global, of: Listed) -> Result<YesStep, AllocError>
         ensures { IfOk result (λ went. yes_went went self.new ≡ list_ended (listed_of of self.old) self.old.numbers) }
     {

@@ -19,9 +19,9 @@ use Rattle.wh_cert_parts.proofs.PolyLaws.{poly_seen, GoodPolys, GoodPolyPlace, P
 use Rattle.wh_cert.specs.Interps.{Interp}
 use Rattle.wh_cert.specs.Text.{put_interp, put_interps, put_move, put_moves, put_cover, put_covers}
 use Rattle.wh_cert.specs.Limits.{InterpFits, MoveFits}
-use Rattle.wh_cert_text.proofs.SectionsLaws as sections
-use Rattle.wh_cert_text.proofs.SectionsLaws.{TakesNamed, TakesShown}
-use Rattle.wh_cert_text.specs.PolyLines.{Lines, in_funs, in_marks, in_rules, in_pairs, LinesPlace, lines_front, name_wanted, name, in_poly, moves, from_wanted, from, to_wanted, to, amount_wanted, amount, LinesStep, on, begins, drops, refused, line_first, line_begun, add_named, add_shown, first_step, poly_led, moves_step, add_move, lines_step}
+use Rattle.wh_cert_lines.proofs.SectionsLaws as sections
+use Rattle.wh_cert_lines.proofs.SectionsLaws.{TakesNamed, TakesShown}
+use Rattle.wh_cert_lines.specs.PolyLines.{Lines, in_funs, in_marks, in_rules, in_pairs, LinesPlace, lines_front, name_wanted, name, in_poly, moves, from_wanted, from, to_wanted, to, amount_wanted, amount, LinesStep, on, begins, drops, refused, line_first, line_begun, add_named, add_shown, first_step, poly_led, moves_step, add_move, lines_step}
 
 -- how lists of lines are spelled
 abbrev pub spelling : sections.Spelling Interp (List moved.Move)

@@ -3,14 +3,13 @@
 ghost use Rattle.std.specs.Prelude.{◌≡◌, [], IfOk, OnOk};
 ghost use Rattle.wh_hopoly.specs.Erase.{poly};
 ghost use Rattle.wh_cert_parts.specs.PolyMachine.{poly_ended};
-ghost use Rattle.wh_cert_text.specs.Sections.{in_funs, first_step};
-ghost use Rattle.wh_cert_text.specs.PolyLines.{lines_front, name_wanted, from_wanted, from, to_wanted, to, amount_wanted, amount, name as in_name, line_begun, poly_led, moves_step, lines_step};
-ghost use Rattle.wh_cert_text.specs.YesMachine.{gives, node_item, front, list_ended, dropped};
-ghost use Rattle.wh_cert_text.specs.PolyLinesViews.{section_of, lines_of, lines_place, lines_went};
+ghost use Rattle.wh_cert_lines.specs.Sections.{in_funs, first_step};
+ghost use Rattle.wh_cert_lines.specs.PolyLines.{lines_front, name_wanted, from_wanted, from, to_wanted, to, amount_wanted, amount, name as in_name, line_begun, poly_led, moves_step, lines_step, node_of};
+ghost use Rattle.wh_cert_lines.specs.PolyLinesViews.{section_of, lines_of, lines_place, lines_went};
 ghost use Rattle.wh_cert.specs.Said.{said_poly};
-ghost use Rattle.wh_cert_text.specs.declared.poly_lines.LinesPlace.TheVariants as place;
+ghost use Rattle.wh_cert_lines.specs.declared.poly_lines.LinesPlace.TheVariants as place;
 
-use crate::sections::{LineBegun, Section, Sections};
+use crate::sections::{LineBegun, LinesStep, Section, Sections};
 use std::alloc::{AllocError, Global};
 use std::mem;
 use wh_cert::{Interp, Interps, PolyNode};
@@ -65,19 +64,6 @@ pub struct PolyLines {
     pub to: u32,
 }
 
-/// Where a byte leads.
-#[derive(Clone, Copy)]
-pub enum LinesStep {
-    /// On.
-    On,
-    /// To a line of the last kind, whose first byte it is.
-    Begins,
-    /// To the line of `drop`, whose first byte it is.
-    Drops,
-    /// Nowhere.
-    Wrong,
-}
-
 impl PolyLines {
     /// Before all lines.
     pub fn new(alloc: Global) -> Result<PolyLines, AllocError>
@@ -123,7 +109,7 @@ impl PolyLines {
 
     /// The node of which all lines were read.
     pub fn node(&mut self, alloc: Global, drop: Numbers) -> Result<PolyNode, AllocError>
-        ensures { IfOk result (λ node. gives (node_item (said_poly node)) front ≡ list_ended (dropped (lines_of self.old)) drop) }
+        ensures { IfOk result (λ node. said_poly node ≡ node_of (lines_of self.old) drop) }
     {
         self.lists.enter_pairs(alloc)?;
         let funs = mem::replace(&mut self.lists.funs, Interps::new(alloc)?);

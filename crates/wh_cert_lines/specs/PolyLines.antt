@@ -7,8 +7,9 @@ use Rattle.wh_text.specs.Chars.{line_feed, space, is_digit, is_start, is_part}
 use Rattle.wh_letters.specs.Digits.{goes_on, begins_big, goes_on_big}
 use Rattle.wh_cert_parts.specs.PolyMachine.{PolyStack, outside, PolyPlace, poly_wanted, PolyStep, goes, poly_ended, no_poly, poly_step}
 use Rattle.wh_cert.specs.Interps.{Interp}
-use Rattle.wh_cert_text.specs.Sections as s
-pub use Rattle.wh_cert_text.specs.Sections.{in_funs, in_marks, in_rules, in_pairs, on, begins, drops, refused, line_first, line_rest, to_marks, to_rules, to_pairs, add_named, add_shown, pair_step, rule_step, mark_step, first_step}
+use Rattle.wh_cert.specs.Written.{Node, interpretations}
+use Rattle.wh_cert_lines.specs.Sections as s
+pub use Rattle.wh_cert_lines.specs.Sections.{in_funs, in_marks, in_rules, in_pairs, on, begins, drops, refused, line_first, line_rest, to_marks, to_rules, to_pairs, add_named, add_shown, pair_step, rule_step, mark_step, first_step}
 
 -- the place in the present line, which is of the last kind: its front; behind `fun ` or `mark `; letters of a name; a part of a
 -- polynomial; behind moves; these and a space; this and digits; this and a `>`; this and digits; this and a `:`; this and digits
@@ -66,3 +67,10 @@ lines_step x (to ms i j) b =
 lines_step x (amount_wanted ms i j) b = cond (begins_big b) (on x (amount ms i j (b - 48))) refused
 lines_step x (amount ms i j n) b =
     cond (goes_on_big n b) (on x (amount ms i j (10 * n + (b - 48)))) (moves_step x (add_move ms i j n) b)
+
+-- the node of these lines, and of the pairs that are dropped
+abbrev pub node_of : Lines → List ℕ → Node
+node_of (in_funs funs) drop = interpretations funs [] [] [] drop
+node_of (in_marks funs marks) drop = interpretations funs marks [] [] drop
+node_of (in_rules funs marks rules) drop = interpretations funs marks rules [] drop
+node_of (in_pairs funs marks rules pairs) drop = interpretations funs marks rules pairs drop

@@ -6,13 +6,12 @@ use Rattle.wh_cert.specs.Interps as w
 use Rattle.wh_cert.specs.Written.{interpretations}
 use Rattle.wh_cert.specs.Said.{said_interp}
 use Rattle.wh_cert.specs.declared.poly_node.Interp.{Interp}
-use Rattle.wh_cert_text.specs.Sections as s
-use Rattle.wh_cert_text.specs.SectionsViews as v
-use Rattle.wh_cert_text.specs.PolyLines.{Lines, LinesStep, in_funs, in_marks, in_rules, in_pairs, begins, drops, refused, to_marks, to_rules, to_pairs, add_named, add_shown, pair_step, rule_step, mark_step, first_step}
-use Rattle.wh_cert_text.specs.PolyLinesViews.{said_lines}
-use Rattle.wh_cert_text.specs.YesMachine.{gives, node_item, front, list_ended, dropped}
-use Rattle.wh_cert_text.specs.declared.sections.Sections.{Sections}
-use Rattle.wh_cert_text.specs.declared.sections.LineBegun.{LineBegun}
+use Rattle.wh_cert_lines.specs.Sections as s
+use Rattle.wh_cert_lines.specs.SectionsViews as v
+use Rattle.wh_cert_lines.specs.PolyLines.{Lines, LinesStep, in_funs, in_marks, in_rules, in_pairs, begins, drops, refused, to_marks, to_rules, to_pairs, add_named, add_shown, pair_step, rule_step, mark_step, first_step, node_of}
+use Rattle.wh_cert_lines.specs.PolyLinesViews.{said_lines}
+use Rattle.wh_cert_lines.specs.declared.sections.Sections.{Sections}
+use Rattle.wh_cert_lines.specs.declared.sections.LineBegun.{LineBegun}
 
 abbrev Raw : Type 0
 Raw = s.Lines Interp (List moved.Move)
@@ -90,13 +89,13 @@ begun_said went old new b e = ap said_step e ∙ first_said (v.lines_of old) b
 
 -- the node of all lines
 
-dropped_same : (x : Lines) → dropped (to_pairs x) ≡ dropped x
-dropped_same (in_funs funs) = refl
-dropped_same (in_marks funs marks) = refl
-dropped_same (in_rules funs marks rules) = refl
-dropped_same (in_pairs funs marks rules pairs) = refl
+node_same : (x : Lines) (drop : List ℕ) → node_of (to_pairs x) drop ≡ node_of x drop
+node_same (in_funs funs) drop = refl
+node_same (in_marks funs marks) drop = refl
+node_same (in_rules funs marks rules) drop = refl
+node_same (in_pairs funs marks rules pairs) drop = refl
 
-pub node_ended : (x y : Raw) (funs marks : List w.Interp) (rules pairs : List (List moved.Move)) (xs : List ℕ) → y ≡ to_pairs x → said_lines y ≡ in_pairs funs marks rules pairs
-    → gives (node_item (interpretations funs marks rules pairs xs)) front ≡ list_ended (dropped (said_lines x)) xs
-node_ended x y funs marks rules pairs xs to is =
-    ap (λ (z : Lines). list_ended (dropped z) xs) (sym is ∙ ap said_lines to ∙ pairs_said x) ∙ ap (λ o. list_ended o xs) (dropped_same (said_lines x))
+pub node_ended : (x y : Raw) (funs marks : List w.Interp) (rules pairs : List (List moved.Move)) (drop : List ℕ) → y ≡ to_pairs x → said_lines y ≡ in_pairs funs marks rules pairs
+    → interpretations funs marks rules pairs drop ≡ node_of (said_lines x) drop
+node_ended x y funs marks rules pairs drop to is =
+    ap (λ (z : Lines). node_of z drop) (sym is ∙ ap said_lines to ∙ pairs_said x) ∙ node_same (said_lines x) drop

@@ -4,15 +4,15 @@ use Rattle.wh_hopoly.specs.declared.expression.Move as moved
 use Rattle.wh_cert_parts.specs.PolyViews.{poly_stack, poly_place}
 use Rattle.wh_cert.specs.Said.{said_interp}
 use Rattle.wh_cert.specs.declared.poly_node.Interp.{Interp}
-use Rattle.wh_cert_text.specs.Sections as s
-use Rattle.wh_cert_text.specs.SectionsViews.{lines_up_to}
-use Rattle.wh_cert_text.specs.PolyLines as m
-use Rattle.wh_cert_text.specs.declared.sections.Section.{Section}
-use Rattle.wh_cert_text.specs.declared.poly_lines.LinesPlace.{LinesPlace}
-use Rattle.wh_cert_text.specs.declared.poly_lines.LinesPlace.TheVariants as place
-use Rattle.wh_cert_text.specs.declared.poly_lines.PolyLines.{PolyLines}
-use Rattle.wh_cert_text.specs.declared.poly_lines.LinesStep.{LinesStep}
-use Rattle.wh_cert_text.specs.declared.poly_lines.LinesStep.TheVariants as step
+use Rattle.wh_cert_lines.specs.Sections as s
+use Rattle.wh_cert_lines.specs.SectionsViews.{lines_up_to}
+use Rattle.wh_cert_lines.specs.PolyLines as m
+use Rattle.wh_cert_lines.specs.declared.sections.Section.{Section}
+use Rattle.wh_cert_lines.specs.declared.sections.LinesStep.{LinesStep}
+use Rattle.wh_cert_lines.specs.declared.sections.LinesStep.TheVariants as step
+use Rattle.wh_cert_lines.specs.declared.poly_lines.LinesPlace.{LinesPlace}
+use Rattle.wh_cert_lines.specs.declared.poly_lines.LinesPlace.TheVariants as place
+use Rattle.wh_cert_lines.specs.declared.poly_lines.PolyLines.{PolyLines}
 
 -- the lines with names and polynomials without pointers
 abbrev pub said_lines : s.Lines Interp (List moved.Move) → m.Lines

@@ -1,7 +1,7 @@
 -- Lines in four sections, whatever a line holds: what the first byte of a line has read, and where it leads.
 use Rattle.std.proofs.Common.{◌≡◌, ℕ, cond, ◌==◌, false, List, [], ◌∷◌, ◌++◌, codes, refl, sym, ap, ◌∙◌, subst}
 use Rattle.std.proofs.lemmas.Bool.{eqb-true, cond_both, cond-false}
-use Rattle.wh_cert_text.specs.Sections.{Lines, in_funs, in_marks, in_rules, in_pairs, LinesStep, on, begins, drops, refused, line_first, line_rest, to_marks, to_rules, to_pairs, pair_step, rule_step, mark_step, first_step}
+use Rattle.wh_cert_lines.specs.Sections.{Lines, in_funs, in_marks, in_rules, in_pairs, LinesStep, on, begins, drops, refused, line_first, line_rest, to_marks, to_rules, to_pairs, pair_step, rule_step, mark_step, first_step}
 
 -- how lists of lines are spelled behind a word, those of symbols and those of rules or pairs, with r behind them
 pub record Spelling (N L : Type 0) : Type 0 where

@@ -2,9 +2,9 @@
 //! in which order they come, and the lists of what they hold. What a line holds, and how it is read, is another matter.
 
 ghost use Rattle.std.specs.Prelude.{◌≡◌, [], IfOk, OnOk};
-ghost use Rattle.wh_cert_text.specs.Sections.{in_funs, to_marks, to_rules, to_pairs, add_named, add_shown, first_step, mark_step, rule_step, pair_step};
-ghost use Rattle.wh_cert_text.specs.SectionsViews.{lines_of, begun_went};
-ghost use Rattle.wh_cert_text.specs.declared.sections.Section.TheVariants as section;
+ghost use Rattle.wh_cert_lines.specs.Sections.{in_funs, to_marks, to_rules, to_pairs, add_named, add_shown, first_step, mark_step, rule_step, pair_step};
+ghost use Rattle.wh_cert_lines.specs.SectionsViews.{lines_of, begun_went};
+ghost use Rattle.wh_cert_lines.specs.declared.sections.Section.TheVariants as section;
 
 use std::alloc::{AllocError, Global};
 use wh_types::List;
@@ -28,6 +28,19 @@ pub enum LineBegun {
     /// To a line of the last kind.
     Begins,
     /// To the line of `drop`.
+    Drops,
+    /// Nowhere.
+    Wrong,
+}
+
+/// Where a byte of a line leads.
+#[derive(Clone, Copy)]
+pub enum LinesStep {
+    /// On.
+    On,
+    /// To a line of the last kind, whose first byte it is.
+    Begins,
+    /// To the line of `drop`, whose first byte it is.
     Drops,
     /// Nowhere.
     Wrong,

@@ -1,10 +1,10 @@
 -- What the values of the reader of lines in four sections stand for.
-use Rattle.wh_cert_text.specs.Sections as m
-use Rattle.wh_cert_text.specs.declared.sections.Section.{Section}
-use Rattle.wh_cert_text.specs.declared.sections.Section.TheVariants.{Funs, Marks, Rules, Pairs}
-use Rattle.wh_cert_text.specs.declared.sections.Sections.{Sections}
-use Rattle.wh_cert_text.specs.declared.sections.LineBegun.{LineBegun}
-use Rattle.wh_cert_text.specs.declared.sections.LineBegun.TheVariants.{Begins, Drops, Wrong}
+use Rattle.wh_cert_lines.specs.Sections as m
+use Rattle.wh_cert_lines.specs.declared.sections.Section.{Section}
+use Rattle.wh_cert_lines.specs.declared.sections.Section.TheVariants.{Funs, Marks, Rules, Pairs}
+use Rattle.wh_cert_lines.specs.declared.sections.Sections.{Sections}
+use Rattle.wh_cert_lines.specs.declared.sections.LineBegun.{LineBegun}
+use Rattle.wh_cert_lines.specs.declared.sections.LineBegun.TheVariants.{Begins, Drops, Wrong}
 
 -- the lines up to those of a kind
 abbrev pub lines_up_to : {N L : Type 0} → Section → Sections N L → m.Lines N L
