@@ -128,6 +128,7 @@ listed_not y.of_ranks e = absurd cc
 listed_not (y.of_block left parts) e = absurd cc
 listed_not (y.of_drop args) e = absurd cc
 listed_not (y.of_poly funs marks rules pairs) e = absurd cc
+listed_not (y.of_order funs marks rules pairs) e = absurd cc
 
 of_second : (p : y.Place) → stage p ≡ second → IsPairsLine p
 of_second (y.word w y.to_version) e = absurd cc
@@ -140,6 +141,8 @@ of_second (y.word w y.to_subterm) e = absurd cc
 of_second (y.word w (y.to_name args)) e = absurd cc
 of_second (y.word w y.to_poly) e = absurd cc
 of_second (y.word w (y.to_line x)) e = absurd cc
+of_second (y.word w y.to_order) e = absurd cc
+of_second (y.word w (y.to_order_line x)) e = absurd cc
 of_second (y.word w y.to_finish) e = absurd cc
 of_second y.version_wanted e = absurd cc
 of_second (y.listed of xs) e = absurd (listed_not of e)
@@ -156,6 +159,7 @@ of_second (y.arg_front args) e = absurd cc
 of_second (y.name_wanted args) e = absurd cc
 of_second (y.letters args xs) e = absurd cc
 of_second (y.poly_lines x k) e = absurd cc
+of_second (y.order_lines x k) e = absurd cc
 of_second y.finished e = absurd cc
 
 not_first : (q : y.Place) → stage q ≡ first → IsPairsLine q → ⊥
@@ -351,6 +355,7 @@ ended_place place.Name l e f = naming_goes l.name _ (λ xs g. absurd cc) f
 ended_place place.ArgPlaceWanted l e f = naming_goes l.name _ (λ xs g. absurd cc) f
 ended_place (place.ArgPlace n) l e f = naming_goes l.name _ (λ xs g. absurd cc) f
 ended_place place.Lines l e f = absurd cc
+ended_place place.OrderLines l e f = absurd cc
 ended_place place.Finished l e f = absurd cc
 
 no_place_ended : (k : LinePlace) (l : NoLine) → no_ended k ≡ true → no_place_of k l ≡ m.finished

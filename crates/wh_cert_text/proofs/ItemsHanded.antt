@@ -11,6 +11,7 @@ use Rattle.wh_cert.specs.Items.{Item, yes_head, node, no_head, step, at, put, en
 use Rattle.wh_cert_text.specs.LineMachine as m
 use Rattle.wh_cert_text.specs.LineMachine.{LinePlace, finished, LineStep, on, gives, refused, line_step, Past, nothing, begun, placed, gather, Standing, unread, stands, stands_yes, wrong, standing_after, standing_after_yes, first_byte, take_byte, run, start}
 use Rattle.wh_cert_text.specs.YesMachine as y
+use Rattle.wh_cert_lines.specs.OrderLines as ol
 use Rattle.wh_cert_lines.specs.PolyLines as l
 use Rattle.wh_cert_text.specs.Handing.{no_item, handed_no, handed_yes, handed}
 use Rattle.wh_cert_text.proofs.LineSound as n
@@ -96,6 +97,8 @@ yes_behind y.to_subterm = tt
 yes_behind (y.to_name args) = tt
 yes_behind y.to_poly = tt
 yes_behind (y.to_line x) = tt
+yes_behind y.to_order = tt
+yes_behind (y.to_order_line x) = tt
 yes_behind y.to_finish = tt
 
 yes_word : (w : List ℕ) (o : y.Behind) → EndsYes (y.word_on w o)
@@ -108,6 +111,7 @@ yes_ended (y.of_block zero parts) xs = tt
 yes_ended (y.of_block (suc left) parts) xs = tt
 yes_ended (y.of_drop args) xs = tt
 yes_ended (y.of_poly funs marks rules pairs) xs = tt
+yes_ended (y.of_order funs marks rules pairs) xs = tt
 
 yes_list : (of : y.Listed) (xs : List ℕ) (b : ℕ) → EndsYes (y.list_step of xs b)
 yes_list of xs b = yes_if (b == 32) _ _ tt (yes_if (b == 10) _ _ (yes_ended of xs) tt)
@@ -128,6 +132,12 @@ yes_lines (l.begins x) = tt
 yes_lines (l.drops x) = tt
 yes_lines l.refused = tt
 
+yes_order : (x : ol.LinesStep) → EndsYes (y.order_led x)
+yes_order (ol.on x k) = tt
+yes_order (ol.begins x) = tt
+yes_order (ol.drops x) = tt
+yes_order ol.refused = tt
+
 ends_yes : (v : ℕ) (w : Bool) (p : y.Place) (b : ℕ) → EndsYes (y.step v w p b)
 ends_yes v w (y.word [] o) b = tt
 ends_yes v w (y.word (x ∷ r) o) b = yes_if (b == x) _ _ (yes_word r o) tt
@@ -137,12 +147,13 @@ ends_yes v w (y.number_wanted of) b = yes_if (is_digit b) _ _ tt tt
 ends_yes v w (y.number of k) b = yes_if (goes_on k b) _ _ tt (yes_number of k b)
 ends_yes v w y.front b =
     yes_if w _ _
-    (yes_if (b == 100) _ _ tt (yes_if (b == 97) _ _ tt (yes_if (b == 98) _ _ tt (yes_if (b == 115) _ _ tt (yes_if (b == 112) _ _ (yes_if (v == 1) _ _ tt tt) tt)))))
+    (yes_if (b == 100) _ _ tt (yes_if (b == 97) _ _ tt (yes_if (b == 98) _ _ tt (yes_if (b == 115) _ _ tt (yes_if (b == 112) _ _ (yes_if (v == 1) _ _ tt tt) (yes_if (b == 111) _ _ (yes_if (v == 2) _ _ tt tt) tt))))))
     (yes_if (b == 101) _ _ tt tt)
 ends_yes v w (y.arg_front args) b = yes_if (b == 97) _ _ tt (yes_if (b == 100) _ _ tt tt)
 ends_yes v w (y.name_wanted args) b = yes_if (is_start b) _ _ tt tt
 ends_yes v w (y.letters args xs) b = yes_if (is_part b && nat_lt (length xs) 64) _ _ tt (yes_if (b == 32) _ _ tt tt)
 ends_yes v w (y.poly_lines x k) b = yes_lines (l.lines_step x k b)
+ends_yes v w (y.order_lines x k) b = yes_order (ol.lines_step x k b)
 ends_yes v w y.finished b = tt
 
 -- the items behind the bytes that led there

@@ -1,5 +1,6 @@
 pub mod YesSound
 pub mod LinesComplete
+pub mod OrderComplete
 pub mod YesComplete
 pub mod YesReached
 pub mod Ended

@@ -4,8 +4,9 @@ use Rattle.std.proofs.lemmas.Bool.{cond-true, eq-eqb}
 use Rattle.std.proofs.lemmas.List.{drop_more}
 use Rattle.wh_cert.specs.Written as written
 use Rattle.wh_cert.specs.Said.{said_arg, said_node}
+use Rattle.wh_cert_lines.specs.OrderLines as orders
 use Rattle.wh_cert_lines.specs.PolyLines.{Lines, in_funs, in_marks, in_rules, in_pairs, node_of}
-use Rattle.wh_cert_text.specs.YesMachine.{Behind, of_block, list_ended, dropped, word, on, gives, node_item, front, refused, spelling, word_step}
+use Rattle.wh_cert_text.specs.YesMachine.{Behind, of_block, list_ended, dropped, order_dropped, word, on, gives, node_item, front, refused, spelling, word_step}
 use Rattle.wh_cert_text.specs.YesViews.{behind_of, next_block, yes_place}
 use Rattle.wh_cert_text.specs.declared.yes_line.Listed.TheVariants as listed
 use Rattle.wh_cert_text.specs.declared.yes_line.YesBehind.{YesBehind}
@@ -39,12 +40,19 @@ drop_ended (in_marks funs marks) xs node is = ap (λ (y : written.Node). gives (
 drop_ended (in_rules funs marks rules) xs node is = ap (λ (y : written.Node). gives (node_item y) front) is
 drop_ended (in_pairs funs marks rules pairs) xs node is = ap (λ (y : written.Node). gives (node_item y) front) is
 
+pub order_ended : (x : orders.Lines) (xs : List ℕ) (node : written.Node) → node ≡ orders.node_of x xs → gives (node_item node) front ≡ list_ended (order_dropped x) xs
+order_ended (in_funs funs) xs node is = ap (λ (y : written.Node). gives (node_item y) front) is
+order_ended (in_marks funs marks) xs node is = ap (λ (y : written.Node). gives (node_item y) front) is
+order_ended (in_rules funs marks rules) xs node is = ap (λ (y : written.Node). gives (node_item y) front) is
+order_ended (in_pairs funs marks rules pairs) xs node is = ap (λ (y : written.Node). gives (node_item y) front) is
+
 -- what stands behind a word does not depend on the place
-behind_same : (o : YesBehind) (l : YesLine) (p : YesPlace) → behind_of o (record { place = p; numbers = l.numbers; parts = l.parts; args = l.args; name = l.name; lines = l.lines }) ≡ behind_of o l
+behind_same : (o : YesBehind) (l : YesLine) (p : YesPlace) → behind_of o (record { place = p; numbers = l.numbers; parts = l.parts; args = l.args; name = l.name; lines = l.lines; order = l.order }) ≡ behind_of o l
 behind_same (behind.List listed.Ranks) l p = refl
 behind_same (behind.List (listed.Block left)) l p = refl
 behind_same (behind.List listed.Drop) l p = refl
 behind_same (behind.List listed.Poly) l p = refl
+behind_same (behind.List listed.Order) l p = refl
 behind_same behind.Version l p = refl
 behind_same behind.Pairs l p = refl
 behind_same behind.Done l p = refl
@@ -57,6 +65,11 @@ behind_same (behind.Line section.Funs) l p = refl
 behind_same (behind.Line section.Marks) l p = refl
 behind_same (behind.Line section.Rules) l p = refl
 behind_same (behind.Line section.Pairs) l p = refl
+behind_same behind.Order l p = refl
+behind_same (behind.OrderLine section.Funs) l p = refl
+behind_same (behind.OrderLine section.Marks) l p = refl
+behind_same (behind.OrderLine section.Rules) l p = refl
+behind_same (behind.OrderLine section.Pairs) l p = refl
 behind_same behind.Finish l p = refl
 
 -- a byte of a fixed word that goes on behind it
@@ -73,7 +86,7 @@ word_more w o at b below is =
     ∙ two_left x y b (drop (at + 1 + 1) w) o is
     ∙ ap (λ (v : List ℕ). on (word v o)) (sym rest)
 
-pub word_goes_on : (o : YesBehind) (l : YesLine) (at b : ℕ) (w : List ℕ) → w ≡ spelling (behind_of o l) → at + 1 < length w → b ≡ get_or w at 0 → on (yes_place (record { place = place.Word o (at + 1); numbers = l.numbers; parts = l.parts; args = l.args; name = l.name; lines = l.lines })) ≡ word_step (drop at (spelling (behind_of o l))) (behind_of o l) b
+pub word_goes_on : (o : YesBehind) (l : YesLine) (at b : ℕ) (w : List ℕ) → w ≡ spelling (behind_of o l) → at + 1 < length w → b ≡ get_or w at 0 → on (yes_place (record { place = place.Word o (at + 1); numbers = l.numbers; parts = l.parts; args = l.args; name = l.name; lines = l.lines; order = l.order })) ≡ word_step (drop at (spelling (behind_of o l))) (behind_of o l) b
 word_goes_on o l at b w spelled below is =
     ap (λ (r : Behind). on (word (drop (at + 1) (spelling r)) r)) (behind_same o l (place.Word o (at + 1)))
     ∙ ap (λ (v : List ℕ). on (word (drop (at + 1) v) (behind_of o l))) (sym spelled)

@@ -9,12 +9,13 @@ use Rattle.wh_text.specs.Chars.{is_digit, is_start, is_part}
 use Rattle.wh_letters.specs.Digits.{goes_on}
 use Rattle.wh_letters.proofs.NamesAndNumbers.{ReadsNames, name_run, ReadsNumbers, number_run, is_digit_48, goes_on_48}
 use Rattle.wh_cert.specs.TermLimits.{IsSmall}
-use Rattle.wh_cert.specs.Written.{Arg, Node, done, alone, blocks, subterm, interpretations, children, Preorder}
-use Rattle.wh_cert.specs.Text.{put_numbers, put_blocks, put_arg, put_args, put_node, put_nodes, put_interps, put_covers}
+use Rattle.wh_cert.specs.Written.{Arg, Node, done, alone, blocks, subterm, interpretations, order, children, Preorder}
+use Rattle.wh_cert.specs.Text.{put_numbers, put_blocks, put_arg, put_args, put_node, put_nodes, put_interps, put_covers, put_filterings, put_all_shown}
 use Rattle.wh_cert.specs.Limits.{ArgFits, NodeFits, IsVersion, IsOfVersion}
-use Rattle.wh_cert_text.specs.YesMachine.{Listed, of_ranks, of_block, of_drop, of_poly, Counted, of_pairs, of_blocks, of_place, of_list, to_list, node_item, word, listed, number_wanted, number, front, arg_front, name_wanted, letters, LineStep, on, refused, list_ended, number_ended, front_step, Past, so_far, gather, version_of, wants}
+use Rattle.wh_cert_text.specs.YesMachine.{Listed, of_ranks, of_block, of_drop, of_poly, of_order, Counted, of_pairs, of_blocks, of_place, of_list, to_list, node_item, word, listed, number_wanted, number, front, arg_front, name_wanted, letters, LineStep, on, refused, list_ended, number_ended, front_step, Past, so_far, gather, version_of, wants}
 use Rattle.wh_cert_text.specs.LineMachine.{stands_yes, standing_after_yes, run, start}
 use Rattle.wh_cert_text.proofs.LinesComplete.{lines_run}
+use Rattle.wh_cert_text.proofs.OrderComplete.{order_run}
 
 -- names and numbers
 
@@ -85,6 +86,12 @@ node_run h (subterm args drop) r fits v e =
     front_run h 115 (codes "ubterm" ++ (10 ∷ put_args args (codes "drop" ++ put_numbers drop (10 ∷ r)))) e
     ∙ args_run h [] args (codes "drop" ++ put_numbers drop (10 ∷ r)) fits.0
     ∙ numbers_run h (of_drop args) [] drop r fits.1
+node_run h (order funs marks rules pairs drop) r fits v e =
+    let lines : List ℕ = codes "rder" ++ (10 ∷ put_filterings (codes "fun ") funs (put_filterings (codes "mark ") marks (put_all_shown (codes "rule ") rules (put_all_shown (codes "pair ") pairs (codes "drop" ++ put_numbers drop (10 ∷ r)))))) in
+    front_run h 111 lines e
+    ∙ ap (λ (n : ℕ). run (standing_after_yes h (front_step n true 111)) lines) v
+    ∙ order_run h funs marks rules pairs (put_numbers drop (10 ∷ r)) fits.0 fits.1 fits.2 fits.3
+    ∙ numbers_run h (of_order funs marks rules pairs) [] drop r fits.4
 node_run h (interpretations funs marks rules pairs drop) r fits v e =
     let lines : List ℕ = codes "oly" ++ (10 ∷ put_interps (codes "fun ") funs (put_interps (codes "mark ") marks (put_covers (codes "rule") rules (put_covers (codes "pair") pairs (codes "drop" ++ put_numbers drop (10 ∷ r)))))) in
     front_run h 112 lines e

@@ -11,15 +11,20 @@ use Rattle.wh_letters.proofs.NamesAndNumbers.{first_letter}
 use Rattle.wh_cert_parts.specs.PolyMachine.{goes}
 use Rattle.wh_cert_parts.proofs.PolyLaws.{poly_seen, poly_sound}
 use Rattle.wh_cert_parts.proofs.PolyRuns.{poly_ends}
+use Rattle.wh_inference.specs.Inferences.{Inference}
 use Rattle.wh_cert.specs.Interps.{Interp}
 use Rattle.wh_cert.specs.Limits.{InterpFits, MoveFits, NodeWithin}
 use Rattle.wh_cert_lines.specs.PolyLines.{Lines, in_funs, in_marks, in_rules, in_pairs, LinesPlace, lines_front, name_wanted, name as line_name, in_poly, moves, from_wanted, from, to_wanted, to, amount_wanted, amount, line_begun, add_named, add_shown, add_move}
 use Rattle.wh_cert_lines.proofs.PolyLinesSound.{limits, GoodMoves, GoodLines, GoodLinesPlace, no_interps, lines_wider, interp_good, cover_good, begun_good}
+use Rattle.wh_cert_lines.specs.OrderLines as ol
+use Rattle.wh_cert_lines.proofs.OrderLinesSound as os
+use Rattle.wh_cert_lines.proofs.OrderLinesEnds.{line_ends}
+use Rattle.wh_cert_text.proofs.OrderComplete.{order_reader}
 use Rattle.wh_cert_lines.proofs.SectionsLaws.{TakesNamed, TakesShown, pairs_good}
 use Rattle.wh_cert_text.proofs.LinesComplete.{poly_lift}
-use Rattle.wh_cert.specs.Written.{Arg, Node, done, alone, blocks, subterm, interpretations, children, yes}
-use Rattle.wh_cert_text.specs.YesMachine.{node_item, end_item, Listed, of_ranks, of_block, of_drop, of_poly, Counted, of_pairs, of_blocks, of_place, of_list, Behind, to_version, to_list, to_pairs, to_done, to_alone, to_blocks, to_subterm, to_name, to_poly, to_line, to_finish, Place, word, version_wanted, listed, number_wanted, number, front, arg_front, name_wanted as arg_name_wanted, letters, poly_lines, finished, LineStep, on, refused, behind, list_ended, Past, so_far, gather, version_of, wants}
-use Rattle.wh_cert_text.specs.LineMachine.{stands_yes, standing_after_yes, run}
+use Rattle.wh_cert.specs.Written.{Arg, Filtering, Node, done, alone, blocks, subterm, interpretations, order, children, yes}
+use Rattle.wh_cert_text.specs.YesMachine.{node_item, end_item, Listed, of_ranks, of_block, of_drop, of_poly, of_order, Counted, of_pairs, of_blocks, of_place, of_list, Behind, to_version, to_list, to_pairs, to_done, to_alone, to_blocks, to_subterm, to_name, to_poly, to_line, to_order, to_order_line, to_finish, Place, word, version_wanted, listed, number_wanted, number, front, arg_front, name_wanted as arg_name_wanted, letters, poly_lines, order_lines, finished, LineStep, on, refused, behind, list_ended, Past, so_far, gather, version_of, wants}
+use Rattle.wh_cert_text.specs.LineMachine.{Standing, stands_yes, standing_after_yes, run}
 use Rattle.wh_cert_text.proofs.YesSound.{opening, second, third, listed_stage, counted_stage, word_stage, stage, GoodListed, GoodCounted, GoodBehind, GoodPlace, ListedFor, CountedFor, BehindFor, PlaceFor}
 use Rattle.wh_cert_text.proofs.YesReached.{GoodPast, Good, no_wanted, nodes_wider}
 use Rattle.wh_cert_text.proofs.YesComplete.{node_run, wants_some}
@@ -79,6 +84,10 @@ pairs_wanted_ends : (before n : ℕ) (h : Past) → before + n < 2 ^ 32 → Good
 pairs_wanted_ends before n h short g =
     ends_after (2 ^ 32) (stands_yes h (number_wanted of_pairs)) (stands_yes h (number of_pairs 0)) (λ r. 48 ∷ r) (λ r. refl) (pairs_ends before n 0 h short g)
 
+-- a node of a path order within the limits
+order_within : (funs marks : List Filtering) (rules pairs : List Inference) (xs : List ℕ) → os.GoodLines (2 ^ 32) (in_pairs funs marks rules pairs) → length xs ≤ 2 ^ 32 → NodeWithin (2 ^ 32) (order funs marks rules pairs xs)
+order_within funs marks rules pairs xs g few = (g.0.2, g.1.2, g.0.1, g.1.1, g.2.1, g.2.2, g.3.1, g.3.2, few)
+
 -- a node of interpretations within the limits
 poly_within : (n : ℕ) (funs marks : List Interp) (rules pairs : List (List moved.Move)) (xs : List ℕ) → n ≤ 2 ^ 32 → GoodLines n (in_pairs funs marks rules pairs) → length xs ≤ 2 ^ 32 → NodeWithin (2 ^ 32) (interpretations funs marks rules pairs xs)
 poly_within n funs marks rules pairs xs le g few =
@@ -103,6 +112,9 @@ list_ended_ends before n h (of_drop args) xs short past g few a =
     node_ends h (subterm args xs) a (room_of before n h short past) (omega (arith, g.1), omega arith) (omega arith)
 list_ended_ends before n h (of_poly funs marks rules pairs) xs short past g few a =
     node_ends h (interpretations funs marks rules pairs xs) a.0 (room_of before n h short past) (poly_within n funs marks rules pairs xs (omega (arith, short)) g.0 (omega (arith, few, short))) (omega arith)
+list_ended_ends before n h (of_order funs marks rules pairs) xs short past g few a =
+    let wide = os.lines_wider n (2 ^ 32) (in_pairs funs marks rules pairs) (omega (arith, short)) g.0 in
+    node_ends h (order funs marks rules pairs xs) a.0 (room_of before n h short past) (order_within funs marks rules pairs xs wide (omega (arith, few, short))) (omega arith)
 
 list_ends : (before n : ℕ) (h : Past) (of : Listed) (xs : List ℕ) → before + n ≤ 2 ^ 32 → GoodPast before (listed_stage of) h → GoodListed 1 n of → length xs ≤ n → ListedFor (version_of h) (wants h) of → ReachesEnd (2 ^ 32) (stands_yes h (listed of xs))
 list_ends before n h of xs short past g few a =
@@ -234,9 +246,37 @@ lines_place_ends before n h x (amount ms i j k) short past g p a =
     ends_after (2 ^ 32) (stands_yes h (poly_lines x (amount ms i j k))) (stands_yes h (poly_lines (add_shown x (add_move ms i j k)) lines_front)) (λ r. 10 ∷ r) (λ r. refl)
     (move_ends before n h x ms i j k short past g p a)
 
+-- lines of a path order
+
+-- behind all lines the line of `drop` drops nothing
+order_drop_ends : (before n : ℕ) (h : Past) (funs marks : List Filtering) (rules pairs : List Inference) → before + n ≤ 2 ^ 32 → GoodPast before third h → os.GoodLines n (in_pairs funs marks rules pairs) → wants h ≡ true → ReachesEnd (2 ^ 32) (stands_yes (gather h (node_item (order funs marks rules pairs []))) front)
+order_drop_ends before n h funs marks rules pairs short past g a =
+    let wide = os.lines_wider n (2 ^ 32) (in_pairs funs marks rules pairs) (omega (arith, short)) g in
+    node_ends h (order funs marks rules pairs []) a (room_of before n h short past) (order_within funs marks rules pairs [] wide (omega arith)) (omega arith)
+
+order_end : (before n : ℕ) (h : Past) (x : ol.Lines) → before + n ≤ 2 ^ 32 → GoodPast before third h → os.GoodLines n x → wants h ≡ true → ReachesEnd (2 ^ 32) (stands_yes h (order_lines x ol.lines_front))
+order_end before n h (in_funs funs) short past g a =
+    ends_after (2 ^ 32) (stands_yes h (order_lines (in_funs funs) ol.lines_front)) (stands_yes (gather h (node_item (order funs [] [] [] []))) front) (λ r. codes "drop" ++ (10 ∷ r)) (λ r. refl)
+    (order_drop_ends before n h funs [] [] [] short past (pairs_good os.limits n (in_funs funs) g) a)
+order_end before n h (in_marks funs marks) short past g a =
+    ends_after (2 ^ 32) (stands_yes h (order_lines (in_marks funs marks) ol.lines_front)) (stands_yes (gather h (node_item (order funs marks [] [] []))) front) (λ r. codes "drop" ++ (10 ∷ r)) (λ r. refl)
+    (order_drop_ends before n h funs marks [] [] short past (pairs_good os.limits n (in_marks funs marks) g) a)
+order_end before n h (in_rules funs marks rules) short past g a =
+    ends_after (2 ^ 32) (stands_yes h (order_lines (in_rules funs marks rules) ol.lines_front)) (stands_yes (gather h (node_item (order funs marks rules [] []))) front) (λ r. codes "drop" ++ (10 ∷ r)) (λ r. refl)
+    (order_drop_ends before n h funs marks rules [] short past (pairs_good os.limits n (in_rules funs marks rules) g) a)
+order_end before n h (in_pairs funs marks rules pairs) short past g a =
+    ends_after (2 ^ 32) (stands_yes h (order_lines (in_pairs funs marks rules pairs) ol.lines_front)) (stands_yes (gather h (node_item (order funs marks rules pairs []))) front) (λ r. codes "drop" ++ (10 ∷ r)) (λ r. refl)
+    (order_drop_ends before n h funs marks rules pairs short past g a)
+
+order_place_ends : (before n : ℕ) (h : Past) (x : ol.Lines) (k : ol.LinesPlace) → before + n < 2 ^ 32 → GoodPast before third h → os.GoodLines n x → os.GoodLinesPlace n x k → wants h ≡ true → ReachesEnd (2 ^ 32) (stands_yes h (order_lines x k))
+order_place_ends before n h x k short past g p a =
+    let e = line_ends n x k g p in
+    ends_after (2 ^ 32) (stands_yes h (order_lines x k)) (stands_yes h (order_lines e.after ol.lines_front)) e.tail (λ r. e.leads Standing (order_reader h) r)
+    (order_end before (suc n) h e.after (omega (arith, short)) past e.good a)
+
 -- the version
-version_ends : {before : ℕ} (h : Past) → GoodPast before opening h → ReachesEnd (2 ^ 32) (stands_yes h version_wanted)
-version_ends (so_far version ranks pairs nodes wanted) past =
+version_ends : (before : ℕ) (h : Past) → GoodPast before opening h → ReachesEnd (2 ^ 32) (stands_yes h version_wanted)
+version_ends before (so_far version ranks pairs nodes wanted) past =
     subst (λ (xs : List Node). ReachesEnd (2 ^ 32) (stands_yes (so_far version ranks pairs xs wanted) version_wanted)) (sym past.0)
     (ends_after (2 ^ 32) (stands_yes (so_far version ranks pairs [] wanted) version_wanted) (stands_yes (so_far 1 [] 0 [] 1) front) (λ r. codes "1" ++ (10 ∷ (codes "ranks" ++ (10 ∷ (codes "pairs 0" ++ (10 ∷ r)))))) (λ r. refl)
     (front_ends 1 1 [] 0 [] (omega arith, All-nil (NodeWithin (2 ^ 32)), omega arith)))
@@ -261,9 +301,11 @@ list_begun n (of_block left parts) g =
 list_begun n (of_drop args) g = (g.0, omega (arith, g.1), omega (arith, g.2))
 list_begun n (of_poly funs marks rules pairs) g =
     (lines_wider n (suc n) (in_pairs funs marks rules pairs) (omega arith) g.0, omega (arith, g.1))
+list_begun n (of_order funs marks rules pairs) g =
+    (os.lines_wider n (suc n) (in_pairs funs marks rules pairs) (omega arith) g.0, omega (arith, g.1))
 
 behind_ends : (before n : ℕ) (h : Past) (o : Behind) → before + n < 2 ^ 32 → GoodPast before (word_stage o) h → GoodBehind n o → BehindFor (version_of h) (wants h) o → ReachesEnd (2 ^ 32) (standing_after_yes h (behind o))
-behind_ends before n h to_version short past g a = version_ends h past
+behind_ends before n h to_version short past g a = version_ends before h past
 behind_ends before n h (to_list of) short past g a =
     list_ends before (suc n) h of [] (omega (arith, short)) past (list_begun n of g) (omega arith) a
 behind_ends before n h to_pairs short past g a = pairs_wanted_ends before n h short past
@@ -274,6 +316,9 @@ behind_ends before n h to_subterm short past g a = args_end before n h [] short 
 behind_ends before n h (to_name args) short past g a = name_ends before n h args short past g.1 a
 behind_ends before n h to_poly short past g a = lines_end before n h (in_funs []) (omega (arith, short)) past (no_interps n) a.0
 behind_ends before n h (to_line x) short past g a = lines_place_ends before n h x (line_begun x) short past g (begun_good n x) a.0
+behind_ends before n h to_order short past g a = order_end before n h (in_funs []) (omega (arith, short)) past (os.limits.no_named n) a.0
+behind_ends before n h (to_order_line x) short past g a =
+    order_place_ends before n h x (ol.line_begun x) short past g.0 (os.begun_good n x g.1) a.0
 behind_ends before n h to_finish short past g a =
     subst (λ (k : Past). ReachesEnd (2 ^ 32) (stands_yes k finished)) (sym (gather_end h)) (finished_ends before n h short past a)
 
@@ -287,7 +332,7 @@ place_end : (before n : ℕ) (h : Past) (p : Place) → before + n < 2 ^ 32 → 
 place_end before n h (word [] o) short past g a = absurd g
 place_end before n h (word (x ∷ w) o) short past g a =
     ends_after (2 ^ 32) (stands_yes h (word (x ∷ w) o)) (standing_after_yes h (behind o)) (λ r. (x ∷ w) ++ r) (λ r. word_run h x w o r) (behind_ends before n h o short past g a)
-place_end before n h version_wanted short past g a = version_ends h past
+place_end before n h version_wanted short past g a = version_ends before h past
 place_end before n h (listed of xs) short past g a = list_ends before n h of xs (omega (arith, short)) past g.0 g.1.1 a
 place_end before n h (number_wanted of) short past g a = wanted_ends before n h of short past g a
 place_end before n h (number of k) short past g a = number_ends before n k h of short past g.0 g.1 a
@@ -296,6 +341,7 @@ place_end before n h (arg_front args) short past g a = args_end before n h args 
 place_end before n h (arg_name_wanted args) short past g a = name_ends before n h args short past g.1 a
 place_end before n h (letters args xs) short past g a = letters_end before n h args xs short past g.0.1 a
 place_end before n h (poly_lines x k) short past g a = lines_place_ends before n h x k short past g.0 g.1 a.0
+place_end before n h (order_lines x k) short past g a = order_place_ends before n h x k short past g.0 g.1 a.0
 place_end before n h finished short past g a = finished_ends before n h short past a
 
 pub yes_ends : (n : ℕ) (h : Past) (p : Place) (f : List ℕ → List ℕ) → n < 2 ^ 32 → Good n h p f → ReachesEnd (2 ^ 32) (stands_yes h p)

@@ -10,13 +10,17 @@ use Rattle.wh_text.specs.Chars.{is_digit, is_start, is_part}
 use Rattle.wh_text.specs.Words.{IsWord}
 use Rattle.wh_letters.specs.Digits.{goes_on}
 use Rattle.wh_letters.proofs.NamesAndNumbers.{first_letter, next_letter, first_digit_spelled, first_digit_small, goes_on_true, next_digit_spelled}
+use Rattle.wh_inference.specs.Inferences.{Inference}
 use Rattle.wh_cert.specs.TermLimits.{IsSmall}
-use Rattle.wh_cert.specs.Written.{Arg, Node, blocks, children}
+use Rattle.wh_cert.specs.Written.{Arg, Filtering, Node, blocks, order, children}
 use Rattle.wh_cert.specs.Text.{put_numbers, put_block, put_blocks, put_arg, put_args, put_node, put_nodes}
 use Rattle.wh_cert.specs.Limits.{ArgFits, NodeFits, IsVersion, IsOfVersion, NodeWithin}
-use Rattle.wh_cert_text.specs.YesMachine.{Item, version_item, ranks_item, pairs_item, node_item, end_item, Listed, of_ranks, of_block, of_drop, of_poly, Counted, of_pairs, of_blocks, of_place, of_list, Behind, to_version, to_list, to_pairs, to_done, to_alone, to_blocks, to_subterm, to_name, to_poly, to_line, to_finish, Place, word, version_wanted, listed, number_wanted, number, front, arg_front, name_wanted, letters, poly_lines, finished, LineStep, on, gives, refused, spelling, behind, word_on, version_begun, version_step, list_ended, count_ended, list_step, number_ended, front_step, lines_led, step}
+use Rattle.wh_cert_text.specs.YesMachine.{Item, version_item, ranks_item, pairs_item, node_item, end_item, Listed, of_ranks, of_block, of_drop, of_poly, of_order, Counted, of_pairs, of_blocks, of_place, of_list, Behind, to_version, to_list, to_pairs, to_done, to_alone, to_blocks, to_subterm, to_name, to_poly, to_line, to_order, to_order_line, to_finish, Place, word, version_wanted, listed, number_wanted, number, front, arg_front, name_wanted, letters, poly_lines, order_lines, finished, LineStep, on, gives, refused, spelling, behind, word_on, version_begun, version_step, list_ended, count_ended, list_step, number_ended, front_step, lines_led, order_led, step}
+use Rattle.wh_cert_lines.specs.OrderLines as ol
 use Rattle.wh_cert_lines.specs.PolyLines as l
 use Rattle.wh_cert_lines.specs.PolyLines.{Lines, in_funs, in_marks, in_rules, in_pairs, lines_front, LinesStep, begins, drops, line_first, line_begun, lines_step}
+use Rattle.wh_cert_lines.proofs.SectionsLaws.{pairs_good}
+use Rattle.wh_cert_lines.proofs.OrderLinesSound as os
 use Rattle.wh_cert_lines.proofs.PolyLinesSound.{put_lines, lines_seen, GoodLines, GoodLinesPlace, LinesNext, no_interps, no_covers, lines_wider, begun_good, begun_text, lines_kept}
 
 -- one more at the end of a list
@@ -82,11 +86,13 @@ abbrev pub before_list : Listed → List ℕ → List ℕ
 before_list of_ranks r = r
 before_list (of_block left parts) r = codes "blocks " ++ (decimal (length parts + suc left) ++ (10 ∷ put_blocks parts r))
 before_list (of_drop args) r = codes "subterm" ++ (10 ∷ put_args args r)
+before_list (of_order funs marks rules pairs) r = codes "order" ++ (10 ∷ os.put_lines (in_pairs funs marks rules pairs) r)
 before_list (of_poly funs marks rules pairs) r = codes "poly" ++ (10 ∷ put_lines (in_pairs funs marks rules pairs) r)
 
 abbrev pub before_word : Behind → List ℕ → List ℕ
 before_word (to_list of) r = before_list of r
 before_word (to_name args) r = codes "subterm" ++ (10 ∷ put_args args r)
+before_word (to_order_line x) r = codes "order" ++ (10 ∷ os.put_lines x r)
 before_word (to_line x) r = codes "poly" ++ (10 ∷ put_lines x r)
 before_word to_done r = 100 ∷ r
 before_word _ r = r
@@ -108,6 +114,7 @@ lead (number of n) r = counted_lead of (decimal n ++ r)
 lead (arg_front args) r = codes "subterm" ++ (10 ∷ put_args args r)
 lead (name_wanted args) r = codes "subterm" ++ (10 ∷ put_args args (codes "arg " ++ r))
 lead (letters args xs) r = codes "subterm" ++ (10 ∷ put_args args (codes "arg " ++ (xs ++ r)))
+lead (order_lines x k) r = codes "order" ++ (10 ∷ os.lines_seen x k r)
 lead (poly_lines x k) r = codes "poly" ++ (10 ∷ lines_seen x k r)
 lead finished r = codes "end" ++ (10 ∷ r)
 lead _ r = r
@@ -133,6 +140,7 @@ GoodListed d n (of_block left parts) =
     IsSmall (length parts + suc left) × All (All IsSmall) parts × All (λ block. length block ≤ n) parts × (2 * length parts + d ≤ n)
 GoodListed d n (of_drop args) = All ArgFits args × (length args ≤ n) × (1 + d ≤ n)
 GoodListed d n (of_poly funs marks rules pairs) = GoodLines n (in_pairs funs marks rules pairs) × (1 + d ≤ n)
+GoodListed d n (of_order funs marks rules pairs) = os.GoodLines n (in_pairs funs marks rules pairs) × (1 + d ≤ n)
 
 abbrev pub GoodArgs : ℕ → List Arg → Type 0
 GoodArgs n args = All ArgFits args × (length args ≤ n)
@@ -149,6 +157,7 @@ abbrev pub GoodBehind : ℕ → Behind → Type 0
 GoodBehind n (to_list of) = GoodListed 0 n of
 GoodBehind n (to_name args) = GoodArgs n args
 GoodBehind n (to_line x) = GoodLines n x
+GoodBehind n (to_order_line x) = os.GoodLines n x × (0 < n)
 GoodBehind n _ = Unit {0}
 
 abbrev pub GoodPlace : ℕ → Place → Type 0
@@ -161,6 +170,7 @@ GoodPlace n (arg_front args) = GoodArgs n args
 GoodPlace n (name_wanted args) = GoodArgs n args
 GoodPlace n (letters args xs) = GoodArgs n args × IsWord xs
 GoodPlace n (poly_lines x k) = GoodLines n x × GoodLinesPlace n x k
+GoodPlace n (order_lines x k) = os.GoodLines n x × os.GoodLinesPlace n x k
 GoodPlace n _ = Unit {0}
 
 -- the place is right where a node is wanted, or where none is, in a certificate of the version
@@ -168,6 +178,7 @@ GoodPlace n _ = Unit {0}
 abbrev pub ListedFor : ℕ → Bool → Listed → Type 0
 ListedFor version wants of_ranks = Unit {0}
 ListedFor version wants (of_poly funs marks rules pairs) = (wants ≡ true) × (version ≡ 1)
+ListedFor version wants (of_order funs marks rules pairs) = (wants ≡ true) × (version ≡ 2)
 ListedFor version wants _ = wants ≡ true
 
 abbrev pub CountedFor : ℕ → Bool → Counted → Type 0
@@ -181,6 +192,8 @@ BehindFor version wants to_version = Unit {0}
 BehindFor version wants to_pairs = Unit {0}
 BehindFor version wants to_poly = (wants ≡ true) × (version ≡ 1)
 BehindFor version wants (to_line x) = (wants ≡ true) × (version ≡ 1)
+BehindFor version wants to_order = (wants ≡ true) × (version ≡ 2)
+BehindFor version wants (to_order_line x) = (wants ≡ true) × (version ≡ 2)
 BehindFor version wants to_finish = wants ≡ false
 BehindFor version wants _ = wants ≡ true
 
@@ -192,6 +205,7 @@ PlaceFor version wants (number of n) = CountedFor version wants of
 PlaceFor version wants version_wanted = Unit {0}
 PlaceFor version wants front = Unit {0}
 PlaceFor version wants (poly_lines x k) = (wants ≡ true) × (version ≡ 1)
+PlaceFor version wants (order_lines x k) = (wants ≡ true) × (version ≡ 2)
 PlaceFor version wants finished = wants ≡ false
 PlaceFor version wants _ = wants ≡ true
 
@@ -245,6 +259,8 @@ listed_wider d n (of_block left parts) g = (g.0, g.1, within_wider n (suc n) par
 listed_wider d n (of_drop args) g = (g.0, omega (arith, g.1), omega (arith, g.2))
 listed_wider d n (of_poly funs marks rules pairs) g =
     (lines_wider n (suc n) (in_pairs funs marks rules pairs) (omega arith) g.0, omega (arith, g.1))
+listed_wider d n (of_order funs marks rules pairs) g =
+    (os.lines_wider n (suc n) (in_pairs funs marks rules pairs) (omega arith) g.0, omega (arith, g.1))
 
 -- the word of the list's line ends
 listed_begun : (n : ℕ) (of : Listed) → GoodListed 0 n of → GoodListed 1 (suc n) of
@@ -253,6 +269,8 @@ listed_begun n (of_block left parts) g = (g.0, g.1, within_wider n (suc n) parts
 listed_begun n (of_drop args) g = (g.0, omega (arith, g.1), omega (arith, g.2))
 listed_begun n (of_poly funs marks rules pairs) g =
     (lines_wider n (suc n) (in_pairs funs marks rules pairs) (omega arith) g.0, omega (arith, g.1))
+listed_begun n (of_order funs marks rules pairs) g =
+    (os.lines_wider n (suc n) (in_pairs funs marks rules pairs) (omega arith) g.0, omega (arith, g.1))
 
 args_wider : (n : ℕ) (args : List Arg) → GoodArgs n args → GoodArgs (suc n) args
 args_wider n args g = (g.0, omega (arith, g.1))
@@ -271,6 +289,8 @@ behind_wider n (to_list of) g = listed_wider 0 n of g
 behind_wider n (to_name args) g = args_wider n args g
 behind_wider n to_poly g = tt
 behind_wider n (to_line x) g = lines_wider n (suc n) x (omega arith) g
+behind_wider n to_order g = tt
+behind_wider n (to_order_line x) g = (os.lines_wider n (suc n) x (omega arith) g.0, omega arith)
 behind_wider n to_version g = tt
 behind_wider n to_pairs g = tt
 behind_wider n to_done g = tt
@@ -299,6 +319,9 @@ behind_kept version wants n (to_name args) g a = (refl, args_wider n args g, a, 
 behind_kept version wants n to_poly g a = (refl, (no_interps (suc n), tt), a, λ r. refl)
 behind_kept version wants n (to_line x) g a =
     (refl, (lines_wider n (suc n) x (omega arith) g, begun_good (suc n) x), a, λ r. ap (λ (s : List ℕ). codes "poly" ++ (10 ∷ s)) (begun_text x r))
+behind_kept version wants n to_order g a = (refl, (os.limits.no_named (suc n), tt), a, λ r. refl)
+behind_kept version wants n (to_order_line x) g a =
+    (refl, (os.lines_wider n (suc n) x (omega arith) g.0, os.begun_good (suc n) x (omega arith)), a, λ r. ap (λ (s : List ℕ). codes "order" ++ (10 ∷ s)) (os.begun_text x r))
 behind_kept version wants n to_finish g a = (refl, refl, a, tt, a, ((λ (r : List ℕ). codes "end" ++ (10 ∷ r)), (λ r. refl), (λ r. refl)))
 
 word_kept : (version : ℕ) (wants : Bool) (n x : ℕ) (w : List ℕ) (o : Behind) (v : List ℕ) (f : List ℕ → List ℕ) → GoodBehind n o → BehindFor version wants o → v ++ x ∷ w ≡ spelling o → ((r : List ℕ) → before_word o (v ++ r) ≡ f r) → LineNext version wants (suc n) (word_on w o) (word_stage o) (λ r. f (x ∷ r))
@@ -320,6 +343,13 @@ version_kept version wants n b =
     if_byte version wants (suc n) b 49 (version_begun 1) (cond (b == 50) (version_begun 2) refused) opening (λ r. codes "YES " ++ r)
     (digit_kept version wants n 1 (omega arith) (inl refl))
     (if_byte version wants (suc n) b 50 (version_begun 2) refused opening (λ r. codes "YES " ++ r) (digit_kept version wants n 2 (omega arith) (inr refl)) tt)
+
+-- a node of a path order within the limits
+pub order_good : (n : ℕ) (funs marks : List Filtering) (rules pairs : List Inference) (xs : List ℕ) → os.GoodLines n (in_pairs funs marks rules pairs) → All IsSmall xs → length xs ≤ n → NodeFits (order funs marks rules pairs xs) × NodeWithin n (order funs marks rules pairs xs)
+order_good n funs marks rules pairs xs g small few = (
+  (g.0.0, g.1.0, g.2.0, g.3.0, small),
+  (g.0.2, g.1.2, g.0.1, g.1.1, g.2.1, g.2.2, g.3.1, g.3.2, few),
+)
 
 -- lists
 
@@ -348,6 +378,10 @@ list_ended_kept version wants n (of_drop args) xs g few a =
 list_ended_kept version wants n (of_poly funs marks rules pairs) xs g few a =
     let wide = lines_wider n (suc n) (in_pairs funs marks rules pairs) (omega arith) g.0 in
     (refl, refl, (a.0, (wide.0.0, wide.1.0, wide.2.0, wide.3.0, few.0), (wide.0.1, wide.1.1, wide.2.1, wide.2.2, wide.3.1, wide.3.2, omega (arith, few.1)), omega (arith, g.1), a.1), tt, (λ v any. tt), ((λ (r : List ℕ). r), (λ r. refl), (λ r. refl)))
+list_ended_kept version wants n (of_order funs marks rules pairs) xs g few a =
+    let wide = os.lines_wider n (suc n) (in_pairs funs marks rules pairs) (omega arith) g.0 in
+    let good = order_good (suc n) funs marks rules pairs xs wide few.0 (omega (arith, few.1)) in
+    (refl, refl, (a.0, good.0, good.1, omega (arith, g.1), a.1), tt, (λ v any. tt), ((λ (r : List ℕ). r), (λ r. refl), (λ r. refl)))
 
 list_kept : (version : ℕ) (wants : Bool) (n : ℕ) (of : Listed) (xs : List ℕ) (b : ℕ) → GoodListed 1 n of → GoodNumbers n xs → ListedFor version wants of → LineNext version wants (suc n) (list_step of xs b) (listed_stage of) (λ r. list_lead of xs (b ∷ r))
 list_kept version wants n of xs b g few a =
@@ -410,13 +444,19 @@ poly_kept version wants n a =
     if_so version wants (suc n) (version == 1) (on (word (codes "oly" ++ (10 ∷ [])) to_poly)) refused third (λ r. 112 ∷ r)
     (λ e. (refl, tt, (a, eqb-true version 1 e), (112 ∷ [], refl, λ r. refl))) (λ e. tt)
 
+order_kept : (version : ℕ) (wants : Bool) (n : ℕ) → wants ≡ true → LineNext version wants (suc n) (cond (version == 2) (on (word (codes "rder" ++ (10 ∷ [])) to_order)) refused) third (λ r. 111 ∷ r)
+order_kept version wants n a =
+    if_so version wants (suc n) (version == 2) (on (word (codes "rder" ++ (10 ∷ [])) to_order)) refused third (λ r. 111 ∷ r)
+    (λ e. (refl, tt, (a, eqb-true version 2 e), (111 ∷ [], refl, λ r. refl))) (λ e. tt)
+
 node_kept : (version : ℕ) (wants : Bool) (n b : ℕ) → wants ≡ true → LineNext version wants (suc n) (front_step version true b) third (λ r. b ∷ r)
 node_kept version wants n b a =
     if_byte version wants (suc n) b 100 (on (word (codes "one" ++ (10 ∷ [])) to_done)) _ third (λ r. r) (refl, tt, a, ([], refl, λ r. refl))
     (if_byte version wants (suc n) b 97 (on (word (codes "lone" ++ (10 ∷ [])) to_alone)) _ third (λ r. r) (refl, tt, a, (97 ∷ [], refl, λ r. refl))
     (if_byte version wants (suc n) b 98 (on (word (codes "locks ") to_blocks)) _ third (λ r. r) (refl, tt, a, (98 ∷ [], refl, λ r. refl))
     (if_byte version wants (suc n) b 115 (on (word (codes "ubterm" ++ (10 ∷ [])) to_subterm)) _ third (λ r. r) (refl, tt, a, (115 ∷ [], refl, λ r. refl))
-    (if_byte version wants (suc n) b 112 (cond (version == 1) (on (word (codes "oly" ++ (10 ∷ [])) to_poly)) refused) refused third (λ r. r) (poly_kept version wants n a) tt))))
+    (if_byte version wants (suc n) b 112 (cond (version == 1) (on (word (codes "oly" ++ (10 ∷ [])) to_poly)) refused) refused third (λ r. r) (poly_kept version wants n a)
+    (if_byte version wants (suc n) b 111 (cond (version == 2) (on (word (codes "rder" ++ (10 ∷ [])) to_order)) refused) refused third (λ r. r) (order_kept version wants n a) tt)))))
 
 end_kept : (version : ℕ) (wants : Bool) (n b : ℕ) → wants ≡ false → LineNext version wants (suc n) (front_step version false b) third (λ r. b ∷ r)
 end_kept version wants n b a =
@@ -458,6 +498,39 @@ led_kept version wants n (begins x) f a h = line_kept version wants n x f a h.0 
 led_kept version wants n (drops x) f a h = drop_kept version wants n x f a h.0 h.1
 led_kept version wants n l.refused f a h = tt
 
+-- lines of a path order
+
+in_order : (f g : List ℕ → List ℕ) → ((r : List ℕ) → f r ≡ g r) → (r : List ℕ) → codes "order" ++ (10 ∷ f r) ≡ codes "order" ++ (10 ∷ g r)
+in_order f g same r = ap (λ (s : List ℕ). codes "order" ++ (10 ∷ s)) (same r)
+
+-- a line whose first byte was read
+order_line_kept : (version : ℕ) (wants : Bool) (n : ℕ) (x : ol.Lines) (f : List ℕ → List ℕ) → (wants ≡ true) × (version ≡ 2) → os.GoodLines (suc n) x → ((r : List ℕ) → os.put_lines x (line_first x ∷ r) ≡ f r) → LineNext version wants (suc n) (order_led (begins x)) third (λ r. codes "order" ++ (10 ∷ f r))
+order_line_kept version wants n (in_funs funs) f a g same =
+    (refl, (g, omega arith), a, (102 ∷ [], refl, in_order (λ r. os.put_lines (in_funs funs) (102 ∷ r)) f same))
+order_line_kept version wants n (in_marks funs marks) f a g same =
+    (refl, (g, omega arith), a, (109 ∷ [], refl, in_order (λ r. os.put_lines (in_marks funs marks) (109 ∷ r)) f same))
+order_line_kept version wants n (in_rules funs marks rules) f a g same =
+    (refl, (g, omega arith), a, (114 ∷ [], refl, in_order (λ r. os.put_lines (in_rules funs marks rules) (114 ∷ r)) f same))
+order_line_kept version wants n (in_pairs funs marks rules pairs) f a g same =
+    (refl, (g, omega arith), a, (112 ∷ [], refl, in_order (λ r. os.put_lines (in_pairs funs marks rules pairs) (112 ∷ r)) f same))
+
+-- the line of `drop`
+order_drop_kept : (version : ℕ) (wants : Bool) (n : ℕ) (x : ol.Lines) (f : List ℕ → List ℕ) → (wants ≡ true) × (version ≡ 2) → os.GoodLines (suc n) x → ((r : List ℕ) → os.put_lines x (100 ∷ r) ≡ f r) → LineNext version wants (suc n) (order_led (drops x)) third (λ r. codes "order" ++ (10 ∷ f r))
+order_drop_kept version wants n (in_funs funs) f a g same =
+    (refl, (pairs_good os.limits (suc n) (in_funs funs) g, omega arith), a, (100 ∷ [], refl, in_order (λ r. os.put_lines (in_funs funs) (100 ∷ r)) f same))
+order_drop_kept version wants n (in_marks funs marks) f a g same =
+    (refl, (pairs_good os.limits (suc n) (in_marks funs marks) g, omega arith), a, (100 ∷ [], refl, in_order (λ r. os.put_lines (in_marks funs marks) (100 ∷ r)) f same))
+order_drop_kept version wants n (in_rules funs marks rules) f a g same =
+    (refl, (pairs_good os.limits (suc n) (in_rules funs marks rules) g, omega arith), a, (100 ∷ [], refl, in_order (λ r. os.put_lines (in_rules funs marks rules) (100 ∷ r)) f same))
+order_drop_kept version wants n (in_pairs funs marks rules pairs) f a g same =
+    (refl, (g, omega arith), a, (100 ∷ [], refl, in_order (λ r. os.put_lines (in_pairs funs marks rules pairs) (100 ∷ r)) f same))
+
+order_led_kept : (version : ℕ) (wants : Bool) (n : ℕ) (s : ol.LinesStep) (f : List ℕ → List ℕ) → (wants ≡ true) × (version ≡ 2) → os.LinesNext (suc n) s f → LineNext version wants (suc n) (order_led s) third (λ r. codes "order" ++ (10 ∷ f r))
+order_led_kept version wants n (ol.on x k) f a h = (refl, (h.0, h.1), a, in_order (os.lines_seen x k) f h.2)
+order_led_kept version wants n (begins x) f a h = order_line_kept version wants n x f a h.0 h.1
+order_led_kept version wants n (drops x) f a h = order_drop_kept version wants n x f a h.0 h.1
+order_led_kept version wants n ol.refused f a h = tt
+
 -- each step
 
 pub lead_kept : (version : ℕ) (wants : Bool) (n : ℕ) (p : Place) (b : ℕ) → GoodPlace n p → PlaceFor version wants p → (f : List ℕ → List ℕ) → PlaceReads p f → LineNext version wants (suc n) (step version wants p b) (stage p) (λ r. f (b ∷ r))
@@ -485,4 +558,6 @@ lead_kept version wants n (letters args xs) b g a f reads =
     next_same version wants (suc n) (step version wants (letters args xs) b) third (λ r. lead (letters args xs) (b ∷ r)) (λ r. f (b ∷ r)) (λ r. reads (b ∷ r)) (letters_kept version wants n args xs b g.0 g.1 a)
 lead_kept version wants n (poly_lines x k) b g a f reads =
     next_same version wants (suc n) (lines_led (lines_step x k b)) third (λ r. lead (poly_lines x k) (b ∷ r)) (λ r. f (b ∷ r)) (λ r. reads (b ∷ r)) (led_kept version wants n (lines_step x k b) (λ r. lines_seen x k (b ∷ r)) a (lines_kept n x k b g.0 g.1))
+lead_kept version wants n (order_lines x k) b g a f reads =
+    next_same version wants (suc n) (order_led (ol.lines_step x k b)) third (λ r. lead (order_lines x k) (b ∷ r)) (λ r. f (b ∷ r)) (λ r. reads (b ∷ r)) (order_led_kept version wants n (ol.lines_step x k b) (λ r. os.lines_seen x k (b ∷ r)) a (os.lines_kept n x k b g.0 g.1))
 lead_kept version wants n finished b g a f reads = tt

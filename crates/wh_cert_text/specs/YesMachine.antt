@@ -5,8 +5,10 @@ use Rattle.wh_types.specs.Limits.{longest_name}
 use Rattle.wh_text.specs.Chars.{line_feed, space, is_digit, is_start, is_part}
 use Rattle.wh_hopoly.specs.declared.expression.Move as moved
 use Rattle.wh_letters.specs.Digits.{goes_on}
+use Rattle.wh_inference.specs.Inferences.{Inference}
 use Rattle.wh_cert.specs.Interps.{Interp}
-use Rattle.wh_cert.specs.Written.{Arg, Node, done, alone, blocks, subterm, interpretations, children}
+use Rattle.wh_cert.specs.Written.{Arg, Filtering, Node, done, alone, blocks, subterm, interpretations, order, children}
+use Rattle.wh_cert_lines.specs.OrderLines as orders
 use Rattle.wh_cert_lines.specs.PolyLines as l
 use Rattle.wh_cert_lines.specs.PolyLines.{Lines, in_funs, in_marks, in_rules, in_pairs, LinesPlace, lines_front, LinesStep, begins, drops, line_first, line_rest, line_begun, lines_step}
 
@@ -19,12 +21,13 @@ pub data Item : Type 0 where
   end_item : Item
 
 -- a list of numbers: the ranks; a block, with the blocks before it and how many come behind it; the pairs that are dropped,
--- with the arguments that are looked at, or with interpretations and moves
+-- with the arguments that are looked at, with interpretations and moves, or with filters and inferences
 pub data Listed : Type 0 where
   of_ranks : Listed
   of_block : (left : ℕ) (parts : List (List ℕ)) → Listed
   of_drop : (args : List Arg) → Listed
   of_poly : (funs marks : List Interp) (rules pairs : List (List moved.Move)) → Listed
+  of_order : (funs marks : List Filtering) (rules pairs : List Inference) → Listed
 
 -- a number: of pairs; of blocks; of the argument of the symbol with this name; one more of a list
 pub data Counted : Type 0 where
@@ -40,11 +43,13 @@ pub data Behind : Type 0 where
   to_name : (args : List Arg) → Behind
   to_poly : Behind
   to_line : (x : Lines) → Behind
+  to_order : Behind
+  to_order_line : (x : orders.Lines) → Behind
   to_finish : Behind
 
 -- the place: what is left of a fixed word; behind `YES `; numbers of a list, behind the last one; before a number; in a number; the front of
 -- a node, or of the end; the front of a line of `arg` or `drop`; behind `arg `; a part of a name; a part of the lines of a node of
--- interpretations; behind all
+-- interpretations, or of a path order; behind all
 pub data Place : Type 0 where
   word : (rest : List ℕ) (behind : Behind) → Place
   version_wanted : Place
@@ -55,6 +60,7 @@ pub data Place : Type 0 where
   arg_front name_wanted : (args : List Arg) → Place
   letters : (args : List Arg) (xs : List ℕ) → Place
   poly_lines : (x : Lines) (k : LinesPlace) → Place
+  order_lines : (x : orders.Lines) (k : orders.LinesPlace) → Place
   finished : Place
 
 -- where a byte leads: on; on, with an item; nowhere
@@ -70,6 +76,7 @@ spelling (to_list of_ranks) = line_feed ∷ codes "ranks"
 spelling (to_list (of_block left parts)) = codes "block"
 spelling (to_list (of_drop args)) = codes "drop"
 spelling (to_list (of_poly funs marks rules pairs)) = codes "drop"
+spelling (to_list (of_order funs marks rules pairs)) = codes "drop"
 spelling to_pairs = codes "pairs "
 spelling to_done = codes "one" ++ (line_feed ∷ [])
 spelling to_alone = codes "alone" ++ (line_feed ∷ [])
@@ -78,6 +85,8 @@ spelling to_subterm = codes "subterm" ++ (line_feed ∷ [])
 spelling (to_name args) = codes "arg "
 spelling to_poly = codes "poly" ++ (line_feed ∷ [])
 spelling (to_line x) = line_first x ∷ line_rest x
+spelling to_order = codes "order" ++ (line_feed ∷ [])
+spelling (to_order_line x) = line_first x ∷ line_rest x
 spelling to_finish = codes "end" ++ (line_feed ∷ [])
 
 abbrev pub behind : Behind → LineStep
@@ -91,6 +100,8 @@ behind to_subterm = on (arg_front [])
 behind (to_name args) = on (name_wanted args)
 behind to_poly = on (poly_lines (in_funs []) lines_front)
 behind (to_line x) = on (poly_lines x (line_begun x))
+behind to_order = on (order_lines (in_funs []) orders.lines_front)
+behind (to_order_line x) = on (order_lines x (orders.line_begun x))
 behind to_finish = gives end_item finished
 
 -- a byte of a fixed word was read, and this is left
@@ -116,6 +127,7 @@ list_ended (of_block zero parts) xs = gives (node_item (blocks (parts ++ xs ∷ 
 list_ended (of_block (suc left) parts) xs = block_wanted left (parts ++ xs ∷ [])
 list_ended (of_drop args) xs = gives (node_item (subterm args xs)) front
 list_ended (of_poly funs marks rules pairs) xs = gives (node_item (interpretations funs marks rules pairs xs)) front
+list_ended (of_order funs marks rules pairs) xs = gives (node_item (order funs marks rules pairs xs)) front
 
 -- the line of the number of blocks has ended
 abbrev pub count_ended : ℕ → LineStep
@@ -134,7 +146,8 @@ number_ended (of_place args name) n b =
     cond (b == line_feed) (on (arg_front (args ++ record { name = name; place = n } ∷ []))) refused
 number_ended (of_list of xs) n b = list_step of (xs ++ n ∷ []) b
 
--- the front of a node of the version, or of the end where no node is wanted; nodes of interpretations stand in version 1 alone
+-- the front of a node of the version, or of the end where no node is wanted; nodes of interpretations stand in
+-- version 1 alone, those of path orders in version 2
 abbrev pub front_step : ℕ → Bool → ℕ → LineStep
 front_step version wants b =
     cond wants
@@ -142,7 +155,8 @@ front_step version wants b =
     (cond (b == 97) (on (word (codes "lone" ++ (line_feed ∷ [])) to_alone))
     (cond (b == 98) (on (word (codes "locks ") to_blocks))
     (cond (b == 115) (on (word (codes "ubterm" ++ (line_feed ∷ [])) to_subterm))
-    (cond (b == 112) (cond (version == 1) (on (word (codes "oly" ++ (line_feed ∷ [])) to_poly)) refused) refused)))))
+    (cond (b == 112) (cond (version == 1) (on (word (codes "oly" ++ (line_feed ∷ [])) to_poly)) refused)
+    (cond (b == 111) (cond (version == 2) (on (word (codes "rder" ++ (line_feed ∷ [])) to_order)) refused) refused))))))
     (cond (b == 101) (on (word (codes "nd" ++ (line_feed ∷ [])) to_finish)) refused)
 
 -- the next byte of a fixed word
@@ -187,6 +201,19 @@ lines_led (begins x) = on (word (line_rest x) (to_line x))
 lines_led (drops x) = on (word (codes "rop") (to_list (dropped x)))
 lines_led l.refused = refused
 
+-- the same of a node of a path order
+abbrev pub order_dropped : orders.Lines → Listed
+order_dropped (in_funs funs) = of_order funs [] [] []
+order_dropped (in_marks funs marks) = of_order funs marks [] []
+order_dropped (in_rules funs marks rules) = of_order funs marks rules []
+order_dropped (in_pairs funs marks rules pairs) = of_order funs marks rules pairs
+
+abbrev pub order_led : orders.LinesStep → LineStep
+order_led (orders.on x k) = on (order_lines x k)
+order_led (begins x) = on (word (line_rest x) (to_order_line x))
+order_led (drops x) = on (word (codes "rop") (to_list (order_dropped x)))
+order_led orders.refused = refused
+
 -- where a byte leads, with the version and whether a node is wanted
 abbrev pub step : ℕ → Bool → Place → ℕ → LineStep
 step version wants (word w o) b = word_step w o b
@@ -199,6 +226,7 @@ step version wants (arg_front args) b = arg_step args b
 step version wants (name_wanted args) b = letter_step args b
 step version wants (letters args xs) b = letters_step args xs b
 step version wants (poly_lines x k) b = lines_led (lines_step x k b)
+step version wants (order_lines x k) b = order_led (orders.lines_step x k b)
 step version wants finished b = refused
 
 -- the items so far: the version, 0 before it is read, ranks, the number of pairs, nodes; and how many nodes are still wanted

@@ -4,6 +4,7 @@ use Rattle.wh_letters.specs.declared.letters.Letters.{Letters}
 use Rattle.wh_cert.specs.Written.{blocks}
 use Rattle.wh_cert.specs.Said.{said_arg, said_node}
 use Rattle.wh_cert_text.specs.YesMachine as m
+use Rattle.wh_cert_lines.specs.OrderLinesViews as orders
 use Rattle.wh_cert_lines.specs.PolyLinesViews.{section_of, lines_of, lines_place}
 use Rattle.wh_cert_text.specs.declared.yes_line.Listed.{Listed}
 use Rattle.wh_cert_text.specs.declared.yes_line.Listed.TheVariants as listed
@@ -24,6 +25,7 @@ listed_of listed.Ranks l = m.of_ranks
 listed_of (listed.Block left) l = m.of_block left l.parts
 listed_of listed.Drop l = m.of_drop (map said_arg l.args)
 listed_of listed.Poly l = m.dropped (lines_of l.lines.value)
+listed_of listed.Order l = m.order_dropped (orders.lines_of l.order.value)
 
 abbrev pub behind_of : YesBehind → YesLine → m.Behind
 behind_of behind.Version l = m.to_version
@@ -36,6 +38,8 @@ behind_of behind.Subterm l = m.to_subterm
 behind_of behind.Name l = m.to_name (map said_arg l.args)
 behind_of behind.Poly l = m.to_poly
 behind_of (behind.Line section) l = m.to_line (section_of section l.lines.value)
+behind_of behind.Order l = m.to_order
+behind_of (behind.OrderLine section) l = m.to_order_line (orders.section_of section l.order.value)
 behind_of behind.Finish l = m.to_finish
 
 -- no byte is right here
@@ -66,6 +70,7 @@ place_of place.Name l = naming l.name (λ name. m.letters (map said_arg l.args) 
 place_of place.ArgPlaceWanted l = naming l.name (λ name. m.number_wanted (m.of_place (map said_arg l.args) name))
 place_of (place.ArgPlace n) l = naming l.name (λ name. m.number (m.of_place (map said_arg l.args) name) n)
 place_of place.Lines l = m.poly_lines (lines_of l.lines.value) (lines_place l.lines.value)
+place_of place.OrderLines l = m.order_lines (orders.lines_of l.order.value) (orders.lines_place l.order.value)
 place_of place.Finished l = m.finished
 
 abbrev pub yes_place : YesLine → m.Place

@@ -198,9 +198,7 @@ impl YesReader {
         requires { few (take_byte (yes_standing self.old) byte) }
         ensures { IfOk result (λ fed. after fed (yes_standing self.new) ≡ take_byte (yes_standing self.old) byte) }
     {
-        match self
-            .line
-            .step(alloc, self.version, self.wanted > 0, byte)? {
+        match self.line.step(alloc, self.version, self.wanted > 0, byte)? {
             YesStep::On => Ok(Fed::On),
             YesStep::Gives(item) => {
                 self.gather(item)?;

@@ -3,7 +3,9 @@
 
 ghost use Rattle.std.specs.Prelude.{◌≡◌, true, drop, map, IfOk};
 ghost use Rattle.wh_cert.specs.Said.{said_arg};
-ghost use Rattle.wh_cert_text.specs.YesMachine.{of_pairs, of_blocks, spelling, behind as stands_behind, list_ended, list_step, number_ended, front_step, version_step, word_step, digit_step, number_step, arg_step, letter_step, lines_led, step as machine_step};
+ghost use Rattle.wh_cert_text.specs.YesMachine.{of_pairs, of_blocks, spelling, behind as stands_behind, list_ended, list_step, number_ended, front_step, version_step, word_step, digit_step, number_step, arg_step, letter_step, lines_led, order_led, step as machine_step};
+ghost use Rattle.wh_cert_lines.specs.OrderLines.{lines_step as order_step};
+ghost use Rattle.wh_cert_lines.specs.OrderLinesViews.{lines_of as order_lines_of, lines_place as order_place};
 ghost use Rattle.wh_cert_lines.specs.PolyLines.{lines_step};
 ghost use Rattle.wh_cert_lines.specs.PolyLinesViews.{lines_of, lines_place};
 ghost use Rattle.wh_cert_text.specs.YesViews.{listed_of, behind_of, counted_of, yes_place, yes_went, next_block};
@@ -15,7 +17,7 @@ ghost use Rattle.wh_cert_text.specs.declared.yes_line.YesPlace.TheVariants as pl
 use std::alloc::{AllocError, Global};
 use std::mem;
 use wh_cert::{Arg, Args, Node};
-use wh_cert_lines::{LinesStep, PolyLines, Section};
+use wh_cert_lines::{LinesStep, OrderLines, PolyLines, Section};
 use wh_letters::{Letters, begins_name, first_number, next_number};
 use wh_types::{Blocks, Numbers};
 
@@ -30,6 +32,8 @@ pub enum Listed {
     Drop,
     /// The pairs that are dropped, behind lines of interpretations and moves.
     Poly,
+    /// The pairs that are dropped, behind lines of filters and inferences.
+    Order,
 }
 
 /// What a number is read for.
@@ -66,6 +70,10 @@ pub enum YesBehind {
     Poly,
     /// What such a line of this kind has behind its word.
     Line(Section),
+    /// Lines of a node of a path order.
+    Order,
+    /// What such a line of this kind has behind its word.
+    OrderLine(Section),
     /// Nothing.
     Finish,
 }
@@ -97,6 +105,8 @@ pub enum YesPlace {
     ArgPlace(u32),
     /// A part of the lines of a node of interpretations.
     Lines,
+    /// A part of the lines of a node of a path order.
+    OrderLines,
     /// All of the certificate.
     Finished,
 }
@@ -116,6 +126,8 @@ pub struct YesLine {
     pub name: Option<Letters>,
     /// The lines of a node of interpretations.
     pub lines: Box<PolyLines>,
+    /// The lines of a node of a path order.
+    pub order: Box<OrderLines>,
 }
 
 /// What lines give.
@@ -156,6 +168,7 @@ impl YesLine {
             args: Args::new(alloc)?,
             name: None,
             lines: Box::new(alloc, PolyLines::new(alloc)?)?,
+            order: Box::new(alloc, OrderLines::new(alloc)?)?,
         })
     }
 
@@ -182,6 +195,7 @@ impl YesLine {
             YesPlace::ArgPlaceWanted => Ok(self.first_arg_digit(byte)),
             YesPlace::ArgPlace(number) => self.step_arg_place(alloc, number, byte),
             YesPlace::Lines => self.step_lines(alloc, byte),
+            YesPlace::OrderLines => self.step_order(alloc, byte),
             YesPlace::Finished => Ok(YesStep::Wrong),
         }
     }
@@ -244,6 +258,14 @@ impl YesLine {
                 self.lines.begin_line(alloc, section)?;
                 self.place = YesPlace::Lines;
             }
+            YesBehind::Order => {
+                self.order.restart(alloc)?;
+                self.place = YesPlace::OrderLines;
+            }
+            YesBehind::OrderLine(section) => {
+                self.order.begin_line(section);
+                self.place = YesPlace::OrderLines;
+            }
             YesBehind::Finish => {
                 self.place = YesPlace::Finished;
                 return Ok(YesStep::Gives(YesItem::End));
@@ -280,7 +302,7 @@ impl YesLine {
     }
 
     /// The line of a list has ended.
-    #[tactic(auto, using(crate::proofs::YesCode::block_ended, crate::proofs::YesCode::drop_ended))]
+    #[tactic(auto, using(crate::proofs::YesCode::block_ended, crate::proofs::YesCode::drop_ended, crate::proofs::YesCode::order_ended))]
     fn end_list(&mut self, alloc: Global, of: Listed) -> Result<YesStep, AllocError>
         ensures { IfOk result (λ went. yes_went went self.new ≡ list_ended (listed_of of self.old) self.old.numbers) }
     {
@@ -308,6 +330,11 @@ impl YesLine {
                 self.place = YesPlace::Front;
                 Ok(YesStep::Gives(YesItem::Node(Node::Poly(node))))
             }
+            Listed::Order => {
+                let node = Box::new(alloc, self.order.node(alloc, numbers)?)?;
+                self.place = YesPlace::Front;
+                Ok(YesStep::Gives(YesItem::Node(Node::Order(node))))
+            }
         }
     }
 
@@ -323,6 +350,24 @@ impl YesLine {
             }
             LinesStep::Drops => {
                 self.place = YesPlace::Word(YesBehind::List(Listed::Poly), 1);
+            }
+            LinesStep::Wrong => return Ok(YesStep::Wrong),
+        }
+        Ok(YesStep::On)
+    }
+
+    /// The lines of a node of a path order go on with the byte.
+    fn step_order(&mut self, alloc: Global, byte: u8) -> Result<YesStep, AllocError>
+        ensures { IfOk result (λ went. yes_went went self.new ≡ order_led
+            (order_step (order_lines_of self.old.order.value) (order_place self.old.order.value) byte)) }
+    {
+        match self.order.step(alloc, byte)? {
+            LinesStep::On => self.place = YesPlace::OrderLines,
+            LinesStep::Begins => {
+                self.place = YesPlace::Word(YesBehind::OrderLine(self.order.lists.section), 1);
+            }
+            LinesStep::Drops => {
+                self.place = YesPlace::Word(YesBehind::List(Listed::Order), 1);
             }
             LinesStep::Wrong => return Ok(YesStep::Wrong),
         }
@@ -462,6 +507,7 @@ impl YesLine {
             (true, b'b') => YesPlace::Word(YesBehind::Blocks, 1),
             (true, b's') => YesPlace::Word(YesBehind::Subterm, 1),
             (true, b'p') if version == 1 => YesPlace::Word(YesBehind::Poly, 1),
+            (true, b'o') if version == 2 => YesPlace::Word(YesBehind::Order, 1),
             (false, b'e') => YesPlace::Word(YesBehind::Finish, 1),
             _ => return YesStep::Wrong,
         };
@@ -523,7 +569,7 @@ fn spelling(behind: YesBehind) -> &'static [u8]
         YesBehind::Version => b"YES ".as_slice(),
         YesBehind::List(Listed::Ranks) => b"\nranks".as_slice(),
         YesBehind::List(Listed::Block(_)) => b"block".as_slice(),
-        YesBehind::List(Listed::Drop | Listed::Poly) => b"drop".as_slice(),
+        YesBehind::List(Listed::Drop | Listed::Poly | Listed::Order) => b"drop".as_slice(),
         YesBehind::Pairs => b"pairs ".as_slice(),
         YesBehind::Done => b"one\n".as_slice(),
         YesBehind::Alone => b"alone\n".as_slice(),
@@ -531,10 +577,13 @@ fn spelling(behind: YesBehind) -> &'static [u8]
         YesBehind::Subterm => b"subterm\n".as_slice(),
         YesBehind::Name => b"arg ".as_slice(),
         YesBehind::Poly => b"poly\n".as_slice(),
-        YesBehind::Line(Section::Funs) => b"fun ".as_slice(),
-        YesBehind::Line(Section::Marks) => b"mark ".as_slice(),
-        YesBehind::Line(Section::Rules) => b"rule".as_slice(),
-        YesBehind::Line(Section::Pairs) => b"pair".as_slice(),
+        YesBehind::Order => b"order\n".as_slice(),
+        YesBehind::Line(section) | YesBehind::OrderLine(section) => match section {
+            Section::Funs => b"fun ".as_slice(),
+            Section::Marks => b"mark ".as_slice(),
+            Section::Rules => b"rule".as_slice(),
+            Section::Pairs => b"pair".as_slice(),
+        },
         YesBehind::Finish => b"end\n".as_slice(),
     }
 }

@@ -116,7 +116,7 @@ const MAP_ROWS: &[(&[u8], &[u8])] = &[
         b"YES 1\nranks 0 0\npairs 1\nsubterm\narg map 2\ndrop 0\nend\n",
         b"REJECTED syntax 49\n",
     ),
-    (b"YES 2\n", b"REJECTED syntax 4\n"),
+    (b"YES 3\n", b"REJECTED syntax 4\n"),
     (
         b"YES 1\nranks 0 0\npairs 1\npoly\n",
         b"REJECTED syntax 29\n",

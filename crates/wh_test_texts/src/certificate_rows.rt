@@ -55,10 +55,13 @@ const FAULTS: &[(&[u8], &[u8])] = &[
     // a node behind the last one, and none where one is wanted
     (b"YES 1\nranks\npairs 0\ndone\ndone\nend\n", b"25"),
     (b"YES 1\nranks\npairs 0\nblocks 1\nblock\nend\n", b"35"),
-    // a block too few, a byte behind the end, and another version
+    // a block too few, a byte behind the end, another version, and a node of the other version
     (b"YES 1\nranks\npairs 0\nblocks 1\ndone\nend\n", b"29"),
     (b"YES 1\nranks\npairs 0\ndone\nend\n\n", b"29"),
-    (b"YES 2", b"4"),
+    (b"YES 3", b"4"),
+    (b"YES 12", b"5"),
+    (b"YES 1\nranks\npairs 0\norder\n", b"20"),
+    (b"YES 2\nranks\npairs 0\npoly\n", b"20"),
     // a digit behind the polynomial 0, a coefficient of 2^128, a variable's number that is too great, none, no units, and lines
     // in another order
     (b"YES 1\nranks\npairs 0\npoly\nfun f 01\n", b"32"),
