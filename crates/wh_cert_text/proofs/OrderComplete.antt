@@ -12,7 +12,7 @@ use Rattle.wh_cert_text.specs.YesMachine.{order_lines, order_led, Past}
 use Rattle.wh_cert_text.specs.LineMachine.{Standing, stands_yes, standing_after_yes, run}
 
 -- the word of a line
-word_run : (h : Past) (x : Lines) (r : List ℕ) → run (standing_after_yes h (order_led (begins x))) (line_rest x ++ r) ≡ run (stands_yes h (order_lines x (line_begun x))) r
+pub word_run : (h : Past) (x : Lines) (r : List ℕ) → run (standing_after_yes h (order_led (begins x))) (line_rest x ++ r) ≡ run (stands_yes h (order_lines x (line_begun x))) r
 word_run h (in_funs funs) r = refl
 word_run h (in_marks funs marks) r = refl
 word_run h (in_rules funs marks rules) r = refl

@@ -316,7 +316,7 @@ behind_ends before n h to_subterm short past g a = args_end before n h [] short 
 behind_ends before n h (to_name args) short past g a = name_ends before n h args short past g.1 a
 behind_ends before n h to_poly short past g a = lines_end before n h (in_funs []) (omega (arith, short)) past (no_interps n) a.0
 behind_ends before n h (to_line x) short past g a = lines_place_ends before n h x (line_begun x) short past g (begun_good n x) a.0
-behind_ends before n h to_order short past g a = order_end before n h (in_funs []) (omega (arith, short)) past (os.limits.no_named n) a.0
+behind_ends before n h to_order short past g a = order_end before n h (in_funs []) (omega (arith, short)) past (os.no_filterings n) a.0
 behind_ends before n h (to_order_line x) short past g a =
     order_place_ends before n h x (ol.line_begun x) short past g.0 (os.begun_good n x g.1) a.0
 behind_ends before n h to_finish short past g a =

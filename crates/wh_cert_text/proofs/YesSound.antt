@@ -319,7 +319,7 @@ behind_kept version wants n (to_name args) g a = (refl, args_wider n args g, a, 
 behind_kept version wants n to_poly g a = (refl, (no_interps (suc n), tt), a, λ r. refl)
 behind_kept version wants n (to_line x) g a =
     (refl, (lines_wider n (suc n) x (omega arith) g, begun_good (suc n) x), a, λ r. ap (λ (s : List ℕ). codes "poly" ++ (10 ∷ s)) (begun_text x r))
-behind_kept version wants n to_order g a = (refl, (os.limits.no_named (suc n), tt), a, λ r. refl)
+behind_kept version wants n to_order g a = (refl, (os.no_filterings (suc n), tt), a, λ r. refl)
 behind_kept version wants n (to_order_line x) g a =
     (refl, (os.lines_wider n (suc n) x (omega arith) g.0, os.begun_good (suc n) x (omega arith)), a, λ r. ap (λ (s : List ℕ). codes "order" ++ (10 ∷ s)) (os.begun_text x r))
 behind_kept version wants n to_finish g a = (refl, refl, a, tt, a, ((λ (r : List ℕ). codes "end" ++ (10 ∷ r)), (λ r. refl), (λ r. refl)))
@@ -455,7 +455,7 @@ node_kept version wants n b a =
     (if_byte version wants (suc n) b 97 (on (word (codes "lone" ++ (10 ∷ [])) to_alone)) _ third (λ r. r) (refl, tt, a, (97 ∷ [], refl, λ r. refl))
     (if_byte version wants (suc n) b 98 (on (word (codes "locks ") to_blocks)) _ third (λ r. r) (refl, tt, a, (98 ∷ [], refl, λ r. refl))
     (if_byte version wants (suc n) b 115 (on (word (codes "ubterm" ++ (10 ∷ [])) to_subterm)) _ third (λ r. r) (refl, tt, a, (115 ∷ [], refl, λ r. refl))
-    (if_byte version wants (suc n) b 112 (cond (version == 1) (on (word (codes "oly" ++ (10 ∷ [])) to_poly)) refused) refused third (λ r. r) (poly_kept version wants n a)
+    (if_byte version wants (suc n) b 112 (cond (version == 1) (on (word (codes "oly" ++ (10 ∷ [])) to_poly)) refused) _ third (λ r. r) (poly_kept version wants n a)
     (if_byte version wants (suc n) b 111 (cond (version == 2) (on (word (codes "rder" ++ (10 ∷ [])) to_order)) refused) refused third (λ r. r) (order_kept version wants n a) tt)))))
 
 end_kept : (version : ℕ) (wants : Bool) (n b : ℕ) → wants ≡ false → LineNext version wants (suc n) (front_step version false b) third (λ r. b ∷ r)
