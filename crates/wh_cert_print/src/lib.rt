@@ -4,5 +4,6 @@
 mod poly_printer;
 mod print;
 mod print_lines;
+mod print_order;
 
 pub use print::print_certificate;

@@ -7,11 +7,12 @@ ghost use Rattle.wh_terms.specs.Places.{IsPath};
 ghost use Rattle.wh_text.specs.Pushes.{Pushes};
 ghost use Rattle.wh_cert.specs.Written.{blocks, subterm};
 ghost use Rattle.wh_cert.specs.Text.{put_path, put_rule, put_step, put_steps, put_put, put_puts, put_entry, put_numbers, put_line, put_block, put_blocks, put_arg, put_args, put_node, put_nodes, text};
-ghost use Rattle.wh_cert.specs.Said.{said_arg, said_poly, said_node, said_yes, said_put, said_no, said};
+ghost use Rattle.wh_cert.specs.Said.{said_arg, said_poly, said_order, said_node, said_yes, said_put, said_no, said};
 
 use crate::print_lines::{print_covers, print_interps};
+use crate::print_order::{print_filters, print_inferences};
 use std::alloc::{AllocError, Global};
-use wh_cert::{Arg, Certificate, NoCertificate, Node, PolyNode, Put, YesCertificate};
+use wh_cert::{Arg, Certificate, NoCertificate, Node, OrderNode, PolyNode, Put, YesCertificate};
 use wh_terms::Step;
 use wh_text::{print_number, print_part, print_term};
 use wh_types::{Bytes, Numbers};
@@ -99,6 +100,7 @@ fn print_node(out: &mut Bytes, node: &Node) -> Result<(), AllocError>
         Node::Blocks(parts) => print_parts(out, parts.as_slice()),
         Node::Subterm { args, drop } => print_subterm(out, args.as_slice(), drop.as_slice()),
         Node::Poly(node) => print_interpretations(out, node),
+        Node::Order(node) => print_order(out, node),
     }
 }
 
@@ -111,6 +113,19 @@ fn print_interpretations(out: &mut Bytes, node: &PolyNode) -> Result<(), AllocEr
     print_interps(out, b"mark ", node.marks.as_slice())?;
     print_covers(out, b"rule", node.rules.as_slice())?;
     print_covers(out, b"pair", node.pairs.as_slice())?;
+    out.append(b"drop")?;
+    print_line(out, node.drop.as_slice())
+}
+
+/// Appends the lines of a node of a path order.
+fn print_order(out: &mut Bytes, node: &OrderNode) -> Result<(), AllocError>
+    ensures { OnOk result (Pushes out.old out.new (put_node (said_order node.now))) }
+{
+    out.append(b"order\n")?;
+    print_filters(out, b"fun ", node.funs.as_slice())?;
+    print_filters(out, b"mark ", node.marks.as_slice())?;
+    print_inferences(out, b"rule ", node.rules.as_slice())?;
+    print_inferences(out, b"pair ", node.pairs.as_slice())?;
     out.append(b"drop")?;
     print_line(out, node.drop.as_slice())
 }
