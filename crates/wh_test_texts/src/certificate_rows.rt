@@ -27,9 +27,13 @@ pub const BLOCKS: &[u8] =
 pub const POLY: &[u8] =
     b"YES 1\nranks\npairs 1\npoly\nfun sort 0\nfun g 1+2*y0*y1(1*y0+1*y0*y2,0)+340282366920938463463374607431768211455*y65535\nmark g 3\nrule\nrule 0>65535:1 1>2:340282366920938463463374607431768211455\npair\ndrop 0 5\ndone\nend\n";
 
+/// Filters, with inferences for rules and for a pair.
+pub const ORDER: &[u8] =
+    b"YES 2\nranks 0\npairs 1\norder\nfun f keep 1 1 2\nfun g keep 0\nmark f pick 65535\nrule =\nrule x1(s2(=),v,z65535())\npair p(l(m(=,v)),a(b(v)))\ndrop 0\ndone\nend\n";
+
 /// Texts that are read and printed: with an argument, with abstractions and bound variables, with an abstraction as a head,
-/// functional types, and beta; of termination without ranks, with keywords as names, with blocks in a block and with none, and
-/// with interpretations.
+/// functional types, and beta; of termination without ranks, with keywords as names, with blocks in a block and with none,
+/// with interpretations, and of version 2.
 const TEXTS: &[&[u8]] = &[
     LOOP,
     PUT,
@@ -43,6 +47,9 @@ const TEXTS: &[&[u8]] = &[
     b"YES 1\nranks\npairs 3\nblocks 2\nblock 2 1\nblock\nblocks 1\nblock 7\ndone\nblocks 0\nend\n",
     POLY,
     b"YES 1\nranks\npairs 0\npoly\ndrop\ndone\nend\n",
+    b"YES 2\nranks\npairs 0\ndone\nend\n",
+    b"YES 2\nranks\npairs 0\norder\ndrop\ndone\nend\n",
+    ORDER,
 ];
 
 /// Texts with the places of their faults.
@@ -73,6 +80,9 @@ const FAULTS: &[(&[u8], &[u8])] = &[
     (b"YES 1\nranks\npairs 0\npoly\nfun f 1*0\n", b"33"),
     (b"YES 1\nranks\npairs 0\npoly\nrule 0>0:0\n", b"34"),
     (b"YES 1\nranks\npairs 0\npoly\nrule\nmark f 0\n", b"30"),
+    // a filter that keeps without a precedence, and an inference without the space before it
+    (b"YES 2\nranks\npairs 0\norder\nfun f keep\n", b"36"),
+    (b"YES 2\nranks\npairs 0\norder\nrule=\n", b"30"),
 ];
 
 /// The text of a certificate.
@@ -152,7 +162,7 @@ fn expect_faults_at_ends(rt: &impl Abort, alloc: Global, text: &[u8]) -> Result<
 }
 
 /// Texts of which each front part is read.
-const WHOLE: &[&[u8]] = &[LOOP, PUT, SUBTERM, BLOCKS, POLY];
+const WHOLE: &[&[u8]] = &[LOOP, PUT, SUBTERM, BLOCKS, POLY, ORDER];
 
 #[test]
 fn every_front_is_at_fault_at_its_end(rt: HostRuntime) -> Result<(), Fail> {
