@@ -6,7 +6,7 @@ use Rattle.wh_inference.specs.InferenceLimits.{InferenceFits}
 use Rattle.wh_cert.specs.Written.{Filtering}
 use Rattle.wh_cert.specs.Text.{put_filterings, put_all_shown}
 use Rattle.wh_cert.specs.Limits.{FilteringFits}
-use Rattle.wh_cert_lines.specs.OrderLines.{Lines, in_funs, in_marks, in_rules, in_pairs, LinesPlace, lines_front, LinesStep, begins, line_rest, line_begun}
+use Rattle.wh_cert_lines.specs.OrderLines.{Lines, in_funs, in_marks, in_rules, in_pairs, lines_front, begins, line_rest, line_begun}
 use Rattle.wh_cert_lines.proofs.OrderLinesComplete.{Reader, lines_run}
 use Rattle.wh_cert_text.specs.YesMachine.{order_lines, order_led, Past}
 use Rattle.wh_cert_text.specs.LineMachine.{Standing, stands_yes, standing_after_yes, run}
