@@ -1,0 +1,3 @@
+mod Proper
+mod OrderingWalk
+pub mod Orderings
