@@ -1,5 +1,5 @@
 -- Of the things that can be wrong with a node of a path order one at most is the first, and none is where its conditions hold.
-use Rattle.std.proofs.Common.{◌≡◌, ℕ, ◌<◌, Bool, true, false, List, Some, slice_get, refl, sym, ap, ap₂, subst, ◌∙◌, arith}
+use Rattle.std.proofs.Common.{◌≡◌, ℕ, ◌<◌, Bool, true, false, List, Option, Some, None, slice_get, refl, sym, ap, ap₂, subst, ◌∙◌, arith}
 use Rattle.wh_types.specs.Ty.{Ty, arguments}
 use Rattle.wh_terms.specs.Rules.{RewriteRule}
 use Rattle.wh_pairs.specs.PairData.{PairData}
@@ -19,6 +19,9 @@ use Rattle.wh_orienting.specs.declared.fault.OrderingFault.TheVariants.{BadFilte
 
 neither_below : (m n : ℕ) → (m < n → ⊥) → (n < m → ⊥) → m ≡ n
 neither_below m n above below = omega (arith, above, below)
+
+none_or_some : {A : Type 0} {o : Option A} {a : A} → o ≡ None → o ≡ Some a → ⊥
+none_or_some none some = cc
 
 -- two faults of lines of which nothing but the line is told are alike
 abbrev Any : Unit {0} → Unit {0} → Type 0
@@ -89,11 +92,11 @@ module _ (T : TaskData) (D : FilteringData) (E : Evidence Inference) where
 
   bad_rule_not : (r : RewriteRule) (i : Inference) (e : ℕ) → IsGoodRule T.symbols T.rules D r i
       → (bad_lines T.symbols T.rules D).rule r i e → ⊥
-  bad_rule_not r i e good bad = cc (good, bad)
+  bad_rule_not r i e good bad = none_or_some good bad
 
   bad_pair_not : (p : PairData) (strict : Bool) (i : Inference) (e : ℕ) → IsGoodPair T.symbols T.rules D p i
       → (bad_lines T.symbols T.rules D).pair p strict i e → ⊥
-  bad_pair_not p strict i e good bad = cc (good, bad)
+  bad_pair_not p strict i e good bad = none_or_some good bad
 
   bad_rule_one : (r : RewriteRule) (i : Inference) (e h : ℕ) → (bad_lines T.symbols T.rules D).rule r i e
       → (bad_lines T.symbols T.rules D).rule r i h → Same e h

@@ -12,16 +12,8 @@ use wh_types::Bytes;
 const MAP_CHANGES: &[(&str, &str, &[u8])] = &[
     ("end", "end", b"YES\n"),
     // The lines `fun` and `mark`.
-    (
-        "mark map keep 0 2\n",
-        "",
-        b"REJECTED node 0 bad-symbols\n",
-    ),
-    (
-        "fun nil keep 0\n",
-        "",
-        b"REJECTED node 0 bad-symbols\n",
-    ),
+    ("mark map keep 0 2\n", "", b"REJECTED node 0 bad-symbols\n"),
+    ("fun nil keep 0\n", "", b"REJECTED node 0 bad-symbols\n"),
     (
         "fun zero keep 0\nfun s keep 0 1",
         "fun s keep 0 1\nfun zero keep 0",
@@ -81,11 +73,7 @@ const MAP_CHANGES: &[(&str, &str, &[u8])] = &[
     ),
     // The numbers of lines, and the list of dropped pairs.
     ("rule s2(=)\n", "", b"REJECTED node 0 bad-lines\n"),
-    (
-        "drop 0",
-        "pair =\ndrop 0",
-        b"REJECTED node 0 bad-lines\n",
-    ),
+    ("drop 0", "pair =\ndrop 0", b"REJECTED node 0 bad-lines\n"),
     ("drop 0", "drop 0 0", b"REJECTED node 0 bad-drop\n"),
     ("drop 0", "drop 1", b"REJECTED node 0 bad-drop\n"),
     ("drop 0", "drop", b"REJECTED node 0 bad-drop\n"),
@@ -179,7 +167,15 @@ fn judges_path_orders(rt: HostRuntime) -> Result<(), Fail> {
 fn judges_both_versions(rt: HostRuntime) -> Result<(), Fail> {
     let alloc = rt.alloc();
     assert!(rt; checks_changed(alloc, MAP, MAP_CERTIFICATE, ("YES 1", "YES 2"), b"YES\n")?);
-    assert!(rt; checks_changed(alloc, MAP, MAP_CERTIFICATE, ("YES 1", "YES 3"), b"REJECTED syntax 4\n")?);
+    assert!(rt;
+        checks_changed(
+            alloc,
+            MAP,
+            MAP_CERTIFICATE,
+            ("YES 1", "YES 3"),
+            b"REJECTED syntax 4\n"
+        )?
+    );
     assert!(rt;
         checks_changed(
             alloc,
@@ -232,6 +228,13 @@ fn stops_at_wide_sides(rt: HostRuntime) -> Result<(), Fail> {
         )?
     );
     let beyond = wide_system(alloc, 31)?;
-    assert!(rt; check_writes(alloc, beyond.as_slice(), certificate, b"REJECTED node 0 too-wide rule 0\n")?);
+    assert!(rt;
+        check_writes(
+            alloc,
+            beyond.as_slice(),
+            certificate,
+            b"REJECTED node 0 too-wide rule 0\n"
+        )?
+    );
     Ok(())
 }
