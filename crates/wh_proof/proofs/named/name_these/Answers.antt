@@ -1,4 +1,4 @@
-use Rattle.std.proofs.Common.{◌<◌, length, Some, get_or, slice_get, ap, ◌∙◌, arith}
+use Rattle.std.proofs.Common.{ℕ, ◌<◌, List, length, Some, get_or, slice_get, ap, sym, ◌∙◌, arith}
 use Rattle.std.proofs.lemmas.List.{get_or_default}
 use Rattle.wh_proof.proofs.InterpretationLemmas.{pace_broken}
 use Rattle.wh_proof.proofs.named.name_these.Goals as goal
@@ -14,6 +14,6 @@ returns-then-not-is_name_of g c =
       λ same. absurd (pace_broken (λ n. slice_get names n) (λ line. Some (g.L.Named.name_of line)) numbers lines i
           (get_or numbers i 0) c.index-lines-i.result
           within (get_or_default numbers i 0 (get_or numbers i 0) within) c.loop-i-test.true c.index-lines-i.is
-          (λ here. cc (c.is_name_of.ensures.1 (here ∙ ap (λ line. Some (g.L.Named.name_of line)) c.index-lines-i.is), c.if-not-is_name_of.true))
+          (λ here. cc (c.is_name_of.ensures.1 (here ∙ ap (λ (name : List ℕ). Some name) (sym c.name.ensures)), c.if-not-is_name_of.true))
           same),
     )
