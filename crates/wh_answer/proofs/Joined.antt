@@ -37,6 +37,8 @@ row_joined front (row.BadPut i) = refl
 row_joined front row.NoInstance = refl
 row_joined front (row.BadPolynomial k f false) = simp append_assoc
 row_joined front (row.BadPolynomial k f true) = simp append_assoc
+row_joined front (row.BadFilter k f false) = simp append_assoc
+row_joined front (row.BadFilter k f true) = simp append_assoc
 row_joined front r = simp append_assoc
 
 cause_joined : (front : List ℕ) (c : NamedCause) → named front (cause_text c) ≡ join_with_byte 32 (front ∷ cause_words c)

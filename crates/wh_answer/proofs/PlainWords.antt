@@ -77,6 +77,8 @@ marked_plain w h = marked_parts_plain w h.parts
 row_plain : (r : NamedRejection) → RowStands r → AllPlain (row_words r)
 row_plain (row.BadPolynomial k f false) h = search (rules, short_plain, word_plain)
 row_plain (row.BadPolynomial k f true) h = search (rules, short_plain, marked_plain)
+row_plain (row.BadFilter k f false) h = search (rules, short_plain, word_plain)
+row_plain (row.BadFilter k f true) h = search (rules, short_plain, marked_plain)
 row_plain r h = search (rules, long_plain, short_plain, word_plain)
 
 names_plain : (names : List (List ℕ)) → AllWords names → AllPlain names

@@ -43,6 +43,12 @@ same_row (row.BadPolynomial k f true) (row.BadPolynomial j v true) h g e =
     let name : f ≡ v = append_cancel_right f v (codes "#") cc in
     cc
 same_row (row.BadPolynomial k f true) s h g e = grind (arith, same_short, word_no_mark)
+same_row (row.BadFilter k f false) s h g e = grind (arith, same_short, word_no_mark)
+same_row (row.BadFilter k f true) (row.BadFilter j v true) h g e =
+    let node : k ≡ j = same_short k j h.0 g.0 cc in
+    let name : f ≡ v = append_cancel_right f v (codes "#") cc in
+    cc
+same_row (row.BadFilter k f true) s h g e = grind (arith, same_short, word_no_mark)
 same_row r s h g e = grind (arith, same_short)
 
 same_names : (names others : List (List ℕ)) → names ≡ others → cause.Sorts names ≡ cause.Sorts others

@@ -2,15 +2,17 @@
 use Rattle.wh_answer.specs.declared.report.NamedRejection.{NamedRejection}
 use Rattle.wh_answer.specs.declared.report.NamedRejection.TheVariants as row
 
--- the reason is of the moves of a line in a node (ours)
-abbrev pub OfMoves : NamedRejection → Type 0
-OfMoves (row.BadMoveRule k r e) = Unit {0}
-OfMoves (row.OverSpentRule k r i) = Unit {0}
-OfMoves (row.NotCoveredRule k r j) = Unit {0}
-OfMoves (row.BadMovePair k a e) = Unit {0}
-OfMoves (row.OverSpentPair k a i) = Unit {0}
-OfMoves (row.NotCoveredPair k a j) = Unit {0}
-OfMoves r = ⊥
+-- the reason is of a line in a node, with a number in the line (ours)
+abbrev pub OfLine : NamedRejection → Type 0
+OfLine (row.BadMoveRule k r e) = Unit {0}
+OfLine (row.OverSpentRule k r i) = Unit {0}
+OfLine (row.NotCoveredRule k r j) = Unit {0}
+OfLine (row.BadMovePair k a e) = Unit {0}
+OfLine (row.OverSpentPair k a i) = Unit {0}
+OfLine (row.NotCoveredPair k a j) = Unit {0}
+OfLine (row.BadInferenceRule k r e) = Unit {0}
+OfLine (row.BadInferencePair k a e) = Unit {0}
+OfLine r = ⊥
 
 -- the reason is of a node (ours)
 abbrev pub OfNode : NamedRejection → Type 0

@@ -1,5 +1,5 @@
 -- The one line of each answer (ours).
-use Rattle.std.specs.Prelude.{ℕ, List, [], ◌∷◌, ◌++◌, codes, true, false}
+use Rattle.std.specs.Prelude.{ℕ, Bool, List, [], ◌∷◌, ◌++◌, codes, true, false}
 use Rattle.std.specs.Fmt.{decimal}
 use Rattle.wh_text.specs.Chars.{line_feed, space}
 use Rattle.wh_answer.specs.declared.report.Report.{Report}
@@ -71,6 +71,11 @@ of_rule k word r n = numbered (numbered (named (of_node k word) (codes "rule")) 
 abbrev pub of_pair : ℕ → List ℕ → ℕ → ℕ → List ℕ
 of_pair k word a n = numbered (numbered (named (of_node k word) (codes "pair")) a) n
 
+-- the name of a symbol, or of a marked one
+abbrev pub symbol_word : List ℕ → Bool → List ℕ
+symbol_word f false = f
+symbol_word f true = f ++ codes "#"
+
 -- what stands behind `REJECTED`
 abbrev pub rejection_text : NamedRejection → List ℕ
 rejection_text (row.Syntax at) = numbered (codes "syntax") at
@@ -89,8 +94,7 @@ rejection_text (row.BadArgument k f) = named (of_node k (codes "bad-argument")) 
 rejection_text (row.BadDrop k) = of_node k (codes "bad-drop")
 rejection_text (row.NotDecreasing k a) = numbered (of_node k (codes "not-decreasing")) a
 rejection_text (row.BadSymbols k) = of_node k (codes "bad-symbols")
-rejection_text (row.BadPolynomial k f false) = named (of_node k (codes "bad-polynomial")) f
-rejection_text (row.BadPolynomial k f true) = named (of_node k (codes "bad-polynomial")) (f ++ codes "#")
+rejection_text (row.BadPolynomial k f marked) = named (of_node k (codes "bad-polynomial")) (symbol_word f marked)
 rejection_text (row.BadLines k) = of_node k (codes "bad-lines")
 rejection_text (row.BadMoveRule k r e) = of_rule k (codes "bad-move") r e
 rejection_text (row.OverSpentRule k r i) = of_rule k (codes "over-spent") r i
@@ -98,6 +102,11 @@ rejection_text (row.NotCoveredRule k r j) = of_rule k (codes "not-covered") r j
 rejection_text (row.BadMovePair k a e) = of_pair k (codes "bad-move") a e
 rejection_text (row.OverSpentPair k a i) = of_pair k (codes "over-spent") a i
 rejection_text (row.NotCoveredPair k a j) = of_pair k (codes "not-covered") a j
+rejection_text (row.BadFilter k f marked) = named (of_node k (codes "bad-filter")) (symbol_word f marked)
+rejection_text (row.TooWideRule k r) = numbered (named (of_node k (codes "too-wide")) (codes "rule")) r
+rejection_text (row.TooWidePair k a) = numbered (named (of_node k (codes "too-wide")) (codes "pair")) a
+rejection_text (row.BadInferenceRule k r e) = of_rule k (codes "bad-inference") r e
+rejection_text (row.BadInferencePair k a e) = of_pair k (codes "bad-inference") a e
 rejection_text (row.NotStrict k a) = numbered (named (of_node k (codes "not-strict")) (codes "pair")) a
 rejection_text row.NotATerm = codes "term"
 rejection_text row.NoStep = codes "no-step"

@@ -1,10 +1,10 @@
 -- The words of each answer: its line without the line feed is these words with a space between any two (ours).
-use Rattle.std.specs.Prelude.{ℕ, ◌≢◌, ◌==◌, ◌++◌, List, [], ◌∷◌, map, codes, true, false}
+use Rattle.std.specs.Prelude.{ℕ, ◌≢◌, ◌==◌, List, [], ◌∷◌, map, codes}
 use Rattle.std.specs.Borrow.{Bor}
 use Rattle.std.specs.Fmt.{decimal}
 use Rattle.std.specs.List.{slice_split}
 use Rattle.wh_text.specs.Chars.{space}
-use Rattle.wh_answer.specs.Texts.{finder_word, reason_word, role_word}
+use Rattle.wh_answer.specs.Texts.{finder_word, reason_word, role_word, symbol_word}
 use Rattle.wh_answer.specs.declared.report.Report.{Report}
 use Rattle.wh_answer.specs.declared.report.Report.TheVariants as answer
 use Rattle.wh_answer.specs.declared.report.NamedRejection.{NamedRejection}
@@ -42,8 +42,7 @@ row_words (row.BadArgument k f) = at_node k (codes "bad-argument" ∷ f ∷ [])
 row_words (row.BadDrop k) = at_node k (codes "bad-drop" ∷ [])
 row_words (row.NotDecreasing k a) = at_node k (codes "not-decreasing" ∷ decimal a ∷ [])
 row_words (row.BadSymbols k) = at_node k (codes "bad-symbols" ∷ [])
-row_words (row.BadPolynomial k f false) = at_node k (codes "bad-polynomial" ∷ f ∷ [])
-row_words (row.BadPolynomial k f true) = at_node k (codes "bad-polynomial" ∷ (f ++ codes "#") ∷ [])
+row_words (row.BadPolynomial k f marked) = at_node k (codes "bad-polynomial" ∷ symbol_word f marked ∷ [])
 row_words (row.BadLines k) = at_node k (codes "bad-lines" ∷ [])
 row_words (row.BadMoveRule k r e) = at_node k (codes "bad-move" ∷ codes "rule" ∷ decimal r ∷ decimal e ∷ [])
 row_words (row.OverSpentRule k r i) = at_node k (codes "over-spent" ∷ codes "rule" ∷ decimal r ∷ decimal i ∷ [])
@@ -51,6 +50,11 @@ row_words (row.NotCoveredRule k r j) = at_node k (codes "not-covered" ∷ codes 
 row_words (row.BadMovePair k a e) = at_node k (codes "bad-move" ∷ codes "pair" ∷ decimal a ∷ decimal e ∷ [])
 row_words (row.OverSpentPair k a i) = at_node k (codes "over-spent" ∷ codes "pair" ∷ decimal a ∷ decimal i ∷ [])
 row_words (row.NotCoveredPair k a j) = at_node k (codes "not-covered" ∷ codes "pair" ∷ decimal a ∷ decimal j ∷ [])
+row_words (row.BadFilter k f marked) = at_node k (codes "bad-filter" ∷ symbol_word f marked ∷ [])
+row_words (row.TooWideRule k r) = at_node k (codes "too-wide" ∷ codes "rule" ∷ decimal r ∷ [])
+row_words (row.TooWidePair k a) = at_node k (codes "too-wide" ∷ codes "pair" ∷ decimal a ∷ [])
+row_words (row.BadInferenceRule k r e) = at_node k (codes "bad-inference" ∷ codes "rule" ∷ decimal r ∷ decimal e ∷ [])
+row_words (row.BadInferencePair k a e) = at_node k (codes "bad-inference" ∷ codes "pair" ∷ decimal a ∷ decimal e ∷ [])
 row_words (row.NotStrict k a) = at_node k (codes "not-strict" ∷ codes "pair" ∷ decimal a ∷ [])
 row_words row.NotATerm = codes "term" ∷ []
 row_words row.NoStep = codes "no-step" ∷ []

@@ -2,10 +2,10 @@
 //! `print_answer`; the lines of two answers are there without memory.
 
 ghost use Rattle.std.specs.Prelude.{◌≡◌, IfOk, OnOk};
-ghost use Rattle.wh_answer.specs.Texts.{all_named, all_numbered, cause_text, finder_word, line, named, numbered, of_node, of_pair, of_rule, reason_word, rejection_text, report_text, role_word};
-ghost use Rattle.wh_answer.specs.Groups.{OfMoves, OfNode};
+ghost use Rattle.wh_answer.specs.Texts.{all_named, all_numbered, cause_text, finder_word, line, named, numbered, of_node, of_pair, of_rule, reason_word, rejection_text, report_text, role_word, symbol_word};
+ghost use Rattle.wh_answer.specs.Groups.{OfLine, OfNode};
 ghost use Rattle.wh_answer.specs.declared.report.Report.TheVariants.{BadWords, OutOfMemory, Refused};
-ghost use Rattle.wh_answer.specs.declared.report.NamedRejection.TheVariants.{BackEdge, BadPolynomial, NotStrict};
+ghost use Rattle.wh_answer.specs.declared.report.NamedRejection.TheVariants.{BackEdge};
 
 use crate::names::Names;
 use crate::report::{NamedCause, NamedFinder, NamedRejection as Row, ReasonWord, Report, Role};
@@ -172,16 +172,23 @@ fn node_words(alloc: Global, row: &Row) -> Result<Bytes, AllocError>
             node,
             symbol,
             marked,
-        } => bad_polynomial(alloc, *node, symbol, *marked),
+        } => node_symbol(alloc, *node, b"bad-polynomial", symbol, *marked),
         Row::BadLines { node } => of_node(alloc, *node, b"bad-lines"),
-        Row::NotStrict { node, pair } => not_strict(alloc, *node, *pair),
+        Row::BadFilter {
+            node,
+            symbol,
+            marked,
+        } => node_symbol(alloc, *node, b"bad-filter", symbol, *marked),
+        Row::TooWideRule { node, rule } => node_line(alloc, *node, b"too-wide", b"rule", *rule),
+        Row::TooWidePair { node, pair } => node_line(alloc, *node, b"too-wide", b"pair", *pair),
+        Row::NotStrict { node, pair } => node_line(alloc, *node, b"not-strict", b"pair", *pair),
         _ => line_words(alloc, row),
     }
 }
 
-// What is said of the moves of a line in a node.
+// What is said of a line in a node, with a number in it.
 fn line_words(alloc: Global, row: &Row) -> Result<Bytes, AllocError>
-    requires { OfMoves row.now }
+    requires { OfLine row.now }
     ensures { IfOk result (λ text. text ≡ rejection_text row.now) }
 {
     match row {
@@ -207,6 +214,12 @@ fn line_words(alloc: Global, row: &Row) -> Result<Bytes, AllocError>
             pair,
             monomial,
         } => of_pair(alloc, *node, b"not-covered", *pair, *monomial),
+        Row::BadInferenceRule { node, rule, entry } => {
+            of_rule(alloc, *node, b"bad-inference", *rule, *entry)
+        }
+        Row::BadInferencePair { node, pair, entry } => {
+            of_pair(alloc, *node, b"bad-inference", *pair, *entry)
+        }
         _ => Bytes::new(alloc),
     }
 }
@@ -247,29 +260,36 @@ fn back_edge(alloc: Global, node: u32, a: u32, b: u32) -> Result<Bytes, AllocErr
     Ok(text)
 }
 
-// A symbol of a node whose interpretation is not normal.
-fn bad_polynomial(
+// A node, a word and the name of a symbol, or of a marked one.
+fn node_symbol(
     alloc: Global,
     node: u32,
+    word: &[u8],
     symbol: &Name,
     marked: bool,
 ) -> Result<Bytes, AllocError>
-    ensures { IfOk result (λ text. text ≡ rejection_text (BadPolynomial node symbol.now marked)) }
+    ensures { IfOk result (λ text. text ≡ named (of_node node word.now) (symbol_word symbol.now marked)) }
 {
-    let mut text = node_name(alloc, node, b"bad-polynomial", symbol)?;
+    let mut text = node_name(alloc, node, word, symbol)?;
     if marked {
         text.push(b'#')?;
     }
     Ok(text)
 }
 
-// A pair of a node that is not below strictly.
-fn not_strict(alloc: Global, node: u32, pair: u32) -> Result<Bytes, AllocError>
-    ensures { IfOk result (λ text. text ≡ rejection_text (NotStrict node pair)) }
+// A node, a word, and the line of a rule or of a pair.
+fn node_line(
+    alloc: Global,
+    node: u32,
+    word: &[u8],
+    kind: &[u8],
+    number: u32,
+) -> Result<Bytes, AllocError>
+    ensures { IfOk result (λ text. text ≡ numbered (named (of_node node word.now) kind.now) number) }
 {
-    let mut text = of_node(alloc, node, b"not-strict")?;
-    put_word(&mut text, b"pair")?;
-    put_number(alloc, &mut text, u64::from(pair))?;
+    let mut text = of_node(alloc, node, word)?;
+    put_word(&mut text, kind)?;
+    put_number(alloc, &mut text, u64::from(number))?;
     Ok(text)
 }
 

@@ -111,7 +111,7 @@ pub enum ReasonWord {
 }
 
 /// Why a certificate is rejected: its bytes are no certificate text, or the first condition of a valid certificate that is false. Nodes
-/// are counted from 0, each before its children; so are rules, pairs, steps and lines, and the moves and monomials of a line.
+/// are counted from 0, each before its children; so are rules, pairs, steps and lines, and the moves, monomials and inferences of a line.
 #[derive(Drop)]
 pub enum NamedRejection {
     /// The bytes are no certificate text, and no such text begins with more of them than this.
@@ -230,7 +230,35 @@ pub enum NamedRejection {
         pair: u32,
         monomial: u32,
     },
-    /// This pair is dropped, and its moves leave nothing of the constant of its left side.
+    /// The filter of this symbol, as it stands or marked, is not proper.
+    BadFilter {
+        node: u32,
+        symbol: Name,
+        marked: bool,
+    },
+    /// A side of this rule has more than 65,536 nodes once it has all its arguments.
+    TooWideRule {
+        node: u32,
+        rule: u32,
+    },
+    /// A side of this pair has more than 65,536 nodes once it has all its arguments.
+    TooWidePair {
+        node: u32,
+        pair: u32,
+    },
+    /// This inference of the rule's line is the first that is bad, counted in preorder from 0.
+    BadInferenceRule {
+        node: u32,
+        rule: u32,
+        entry: u32,
+    },
+    /// This inference of the pair's line is the first that is bad, counted in the same way.
+    BadInferencePair {
+        node: u32,
+        pair: u32,
+        entry: u32,
+    },
+    /// This pair is dropped, and its moves leave nothing of the constant of its left side, or its inference is that of equal trees.
     NotStrict {
         node: u32,
         pair: u32,

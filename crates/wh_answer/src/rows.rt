@@ -1,6 +1,6 @@
 //! The reasons for rejecting a certificate, told by their words.
 
-ghost use Rattle.std.specs.Prelude.{◌≡◌, ◌∷◌, [], ℕ, codes, IfOk};
+ghost use Rattle.std.specs.Prelude.{◌≡◌, ◌∷◌, ◌++◌, [], ℕ, codes, IfOk};
 ghost use Rattle.std.specs.Fmt.{decimal};
 ghost use Rattle.wh_text.specs.Words.{IsWord};
 ghost use Rattle.wh_answer.specs.Stands.{Reads, RowStands, Short};
@@ -180,6 +180,11 @@ fn symbol_row(node: u32, word: &str, symbol: Name) -> Option<Row>
             symbol,
             marked: false,
         }),
+        "bad-filter" => Some(Row::BadFilter {
+            node,
+            symbol,
+            marked: false,
+        }),
         _ => None,
     }
 }
@@ -190,19 +195,32 @@ fn marked_row(alloc: Global, node: u32, word: &str, last: &str) -> Result<Option
     requires name { IsWord last.now → ⊥ }
     ensures { IfOk result (Reads RowStands row_words (at_node node (word.now ∷ last.now ∷ []))) }
 {
-    if word != "bad-polynomial" {
-        return Ok(None);
-    }
     let Some(name) = unmarked(last.as_bytes()) else {
         return Ok(None);
     };
     match name_of(alloc, name)? {
-        Some(symbol) => Ok(Some(Row::BadPolynomial {
+        Some(symbol) => Ok(marked_symbol_row(node, word, symbol)),
+        None => Ok(None),
+    }
+}
+
+// A node, a word and the name of a symbol that is marked.
+fn marked_symbol_row(node: u32, word: &str, symbol: Name) -> Option<Row>
+    requires { IsWord symbol }
+    ensures { Reads RowStands row_words (at_node node (word.now ∷ (symbol ++ codes "#") ∷ [])) result }
+{
+    match word {
+        "bad-polynomial" => Some(Row::BadPolynomial {
             node,
             symbol,
             marked: true,
-        })),
-        None => Ok(None),
+        }),
+        "bad-filter" => Some(Row::BadFilter {
+            node,
+            symbol,
+            marked: true,
+        }),
+        _ => None,
     }
 }
 
@@ -223,6 +241,11 @@ fn two_row(node: u32, word: &str, first: &str, second: &str) -> Option<Row>
                 None
             }
         }
+        "too-wide" => match first {
+            "rule" => Some(Row::TooWideRule { node, rule: b }),
+            "pair" => Some(Row::TooWidePair { node, pair: b }),
+            _ => None,
+        },
         _ => None,
     }
 }
@@ -260,6 +283,11 @@ fn rule_row(node: u32, word: &str, rule: u32, number: u32) -> Option<Row>
             rule,
             monomial: number,
         }),
+        "bad-inference" => Some(Row::BadInferenceRule {
+            node,
+            rule,
+            entry: number,
+        }),
         _ => None,
     }
 }
@@ -283,6 +311,11 @@ fn pair_row(node: u32, word: &str, pair: u32, number: u32) -> Option<Row>
             node,
             pair,
             monomial: number,
+        }),
+        "bad-inference" => Some(Row::BadInferencePair {
+            node,
+            pair,
+            entry: number,
         }),
         _ => None,
     }

@@ -26,10 +26,13 @@ use Rattle.wh_polycheck.specs.Readings.{ReadingsData}
 use Rattle.wh_reduction.proofs.Numbers.{numbers_within}
 use Rattle.wh_polycheck.specs.Covering.{IsCovering, HaveTypedSides, IsTypedTask}
 use Rattle.wh_polycheck.specs.Small.{IsSmall}
-use Rattle.wh_proof.specs.Nodes.{done, alone, blocks, subterm, poly, AreSetsOf, Leaves, by_done, by_alone, by_blocks, by_subterm, by_poly}
+use Rattle.wh_inference.specs.Inferences.{Inference}
+use Rattle.wh_ordering.specs.Filterings.{FilteringData}
+use Rattle.wh_ordering.specs.Ordering.{IsOrdering}
+use Rattle.wh_proof.specs.Nodes.{done, alone, blocks, subterm, poly, order, AreSetsOf, Leaves, by_done, by_alone, by_blocks, by_subterm, by_poly, by_order}
 use Rattle.wh_pairs.specs.Sets.{IsSetOf, IsKept}
-use Rattle.wh_proof.specs.Looked.{SayChoices, moves_of}
-use Rattle.wh_checker.specs.Faults.{IsSubtermFault, SayCovering}
+use Rattle.wh_proof.specs.Looked.{SayChoices, moves_of, inferences_of}
+use Rattle.wh_checker.specs.Faults.{IsSubtermFault, SayCovering, SayOrdering}
 use Rattle.wh_checker.specs.Walk.{IsSingle, IsReduced}
 use Rattle.wh_proof.specs.GoesOn.{GoesOn}
 use Rattle.wh_proof.proofs.ChoiceLemmas.{one_list_said}
@@ -99,6 +102,20 @@ goes_poly d ps set funs lines rules pairs drop rest R (says, marked) is small ke
   after_is = refl;
 }
 
+-- the conditions of a node of a path order, under what its lines say
+pub goes_order : (d : SystemData) (ps : List PairData) (set : List ℕ) (funs lines : List w.Filtering) (rules pairs : List Inference)
+    (drop rest : List ℕ) (D : FilteringData) → SayOrdering d ps set funs lines D
+    → IsOrdering (whole_task d.symbols d.rules ps set) D (inferences_of rules pairs drop) → IsSetOf (IsKept set drop) rest
+    → GoesOn d ps set (w.order funs lines rules pairs drop) [] (rest ∷ [])
+goes_order d ps set funs lines rules pairs drop rest D (says, marked) is kept = record {
+  node = order D (inferences_of rules pairs drop);
+  left = rest ∷ [];
+  says = (says, refl);
+  leaves = by_order is kept;
+  small = tt;
+  after_is = refl;
+}
+
 -- a task of the set in which all rules are to be covered
 pub whole_is : (S : Symbols) (rules : List RewriteRule) (ps : List PairData) (set other covered : List ℕ) → other ≡ set
     → covered ≡ numbers_from 0 (length rules) → task_over S rules ps other covered ≡ whole_task S rules ps set
@@ -126,6 +143,13 @@ pub moves_are : (rs rules ps pairs : List (List Move)) (ns drop : List ℕ) → 
 moves_are rs rules ps pairs ns drop r p n =
     subst (λ x. moves_of rs ps ns ≡ moves_of rules pairs x) n
     (subst (λ x. moves_of rs ps ns ≡ moves_of rules x ns) p (subst (λ x. moves_of rs ps ns ≡ moves_of x ps ns) r refl))
+
+-- and so are the inferences
+pub inferences_are : (rs rules ps pairs : List Inference) (ns drop : List ℕ) → rs ≡ rules → ps ≡ pairs → ns ≡ drop
+    → inferences_of rs ps ns ≡ inferences_of rules pairs drop
+inferences_are rs rules ps pairs ns drop r p n =
+    subst (λ x. inferences_of rs ps ns ≡ inferences_of rules pairs x) n
+    (subst (λ x. inferences_of rs ps ns ≡ inferences_of rules x ns) p (subst (λ x. inferences_of rs ps ns ≡ inferences_of x ps ns) r refl))
 
 -- what is left of it comes before other sets
 pub goes_before : (d : SystemData) (ps : List PairData) (set : List ℕ) (line : w.Node) (rest : List ℕ) (sets after : List (List ℕ))

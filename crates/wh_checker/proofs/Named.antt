@@ -29,7 +29,10 @@ use Rattle.wh_polycheck.specs.declared.fault.CoverFault.TheVariants as moves
 use Rattle.wh_polycheck.specs.Small.{Limits}
 use Rattle.wh_covering.specs.declared.fault.CoveringFault.TheVariants as covered
 use Rattle.wh_covering.specs.declared.fault.LineFault.TheVariants as line
-use Rattle.wh_proof.specs.Looked.{SayChoices, SayInterpretations, SayMarks}
+use Rattle.wh_ordering.specs.Filterings.{MarkFilter}
+use Rattle.wh_orienting.specs.declared.fault.OrderingFault.TheVariants as ordered
+use Rattle.wh_proof.specs.Looked.{SayChoices, SayInterpretations, SayMarks, SayMarkFilters}
+use Rattle.wh_proof.proofs.FilterLemmas.{as_many_filters}
 use Rattle.wh_checker.specs.Faults.{IsNodeFault, IsFirstNodeFault, at_first, behind_first, at_node, in_excess, of_claim, IsFirstYesFault, rank_count, inaccessible, pair_count, in_node, IsFirstFault}
 use Rattle.wh_checker.specs.Named.{HasSymbol, HasMeta, NamesAreThere}
 use Rattle.wh_checker.specs.declared.rejected.NodeFault.{NodeFault}
@@ -101,6 +104,16 @@ as_many (n ∷ names) [] lines symbols says = absurd says
 as_many (n ∷ names) (a ∷ kinds) [] symbols says = absurd says
 as_many (n ∷ names) (a ∷ kinds) (l ∷ lines) [] says = absurd says
 
+mark_filter_there : (d : SystemData) (lines : List w.Filtering) (marks : List MarkFilter) (i : ℕ) (m : MarkFilter) → SayMarkFilters d lines marks
+    → slice_get marks i ≡ Some m → HasSymbol d m.symbol
+mark_filter_there d (line ∷ lines) (a ∷ marks) zero m says at =
+    let same : a ≡ m = cc at in
+    subst (λ (b : MarkFilter). HasSymbol d b.symbol) same (slice_get_within d.fun_names a.symbol line.name says.0.named)
+mark_filter_there d (line ∷ lines) (a ∷ marks) (suc i) m says at = mark_filter_there d lines marks i m says.1 at
+mark_filter_there d [] [] i m says at = absurd (cc at)
+mark_filter_there d [] (a ∷ marks) i m says at = absurd says
+mark_filter_there d (line ∷ lines) [] i m says at = absurd says
+
 -- the symbol of the first choice that P holds of
 first_there : (d : SystemData) (lines : List w.Arg) (args : List Chosen) (P : Chosen → Type 0) (f : ℕ) → SayChoices d lines args
     → IsFirstOf P args f → HasSymbol d f
@@ -150,18 +163,39 @@ node_there m d ps set k l (fault.Poly (covered.Pair a (line.Cover (moves.BadMove
 node_there m d ps set k l (fault.Poly (covered.Pair a (line.Cover (moves.OverSpent i)))) is = tt
 node_there m d ps set k l (fault.Poly (covered.Pair a (line.Cover (moves.NotCovered j)))) is = tt
 node_there m d ps set k l (fault.Poly (covered.Pair a (line.Cover moves.NotStrict))) is = tt
+node_there m d ps set k (w.order funs lines rules pairs drop) (fault.Order (ordered.BadFilter f false)) (D, say, first) =
+    let (a, w, at, here, not, least) = first in
+    subst (λ n. f < n) (as_many_filters d.fun_names funs D.symbols say.0.0) (slice_get_within D.symbols f w here)
+node_there m d ps set k (w.order funs lines rules pairs drop) (fault.Order (ordered.BadFilter f true)) (D, say, ready) =
+    let (i, a, at, is, not, least) = ready.1 in
+    subst (HasSymbol d) is (mark_filter_there d lines D.marks i a say.0.1 at)
+node_there m d ps set k l (fault.Order ordered.BadLines) is = tt
+node_there m d ps set k l (fault.Order ordered.BadDrop) is = tt
+node_there m d ps set k l (fault.Order (ordered.WideRule r)) is = tt
+node_there m d ps set k l (fault.Order (ordered.WidePair a)) is = tt
+node_there m d ps set k l (fault.Order (ordered.BadRule r e)) is = tt
+node_there m d ps set k l (fault.Order (ordered.BadPair a e)) is = tt
+node_there m d ps set k l (fault.Order (ordered.NotStrict a)) is = tt
 node_there m d ps set k w.done (fault.Subterm (projected.NoProjection f)) is = absurd is
 node_there m d ps set k w.alone (fault.Subterm (projected.NoProjection f)) is = absurd is
 node_there m d ps set k (w.blocks parts) (fault.Subterm (projected.NoProjection f)) is = absurd is
 node_there m d ps set k (w.interpretations funs lines rules pairs drop) (fault.Subterm (projected.NoProjection f)) is = absurd is
+node_there m d ps set k (w.order funs lines rules pairs drop) (fault.Subterm (projected.NoProjection f)) is = absurd is
 node_there m d ps set k w.done (fault.Subterm (projected.BadArgument f)) is = absurd is
 node_there m d ps set k w.alone (fault.Subterm (projected.BadArgument f)) is = absurd is
 node_there m d ps set k (w.blocks parts) (fault.Subterm (projected.BadArgument f)) is = absurd is
 node_there m d ps set k (w.interpretations funs lines rules pairs drop) (fault.Subterm (projected.BadArgument f)) is = absurd is
+node_there m d ps set k (w.order funs lines rules pairs drop) (fault.Subterm (projected.BadArgument f)) is = absurd is
 node_there m d ps set k w.done (fault.Poly (covered.BadPolynomial f marked)) is = absurd is
 node_there m d ps set k w.alone (fault.Poly (covered.BadPolynomial f marked)) is = absurd is
 node_there m d ps set k (w.blocks parts) (fault.Poly (covered.BadPolynomial f marked)) is = absurd is
 node_there m d ps set k (w.subterm lines drop) (fault.Poly (covered.BadPolynomial f marked)) is = absurd is
+node_there m d ps set k (w.order funs lines rules pairs drop) (fault.Poly (covered.BadPolynomial f marked)) is = absurd is
+node_there m d ps set k w.done (fault.Order (ordered.BadFilter f marked)) is = absurd is
+node_there m d ps set k w.alone (fault.Order (ordered.BadFilter f marked)) is = absurd is
+node_there m d ps set k (w.blocks parts) (fault.Order (ordered.BadFilter f marked)) is = absurd is
+node_there m d ps set k (w.subterm lines drop) (fault.Order (ordered.BadFilter f marked)) is = absurd is
+node_there m d ps set k (w.interpretations funs lines rules pairs drop) (fault.Order (ordered.BadFilter f marked)) is = absurd is
 
 first_node_there : (m : Limits) (d : SystemData) (ps : List PairData) (n k : ℕ) (sets : List (List ℕ)) (lines : List w.Node) (f : NodeFault)
     → IsFirstNodeFault m d ps n sets lines k f → ItsNamesAreThere d (at_node k f)

@@ -25,15 +25,21 @@ use Rattle.wh_polycheck.specs.Covering.{IsCovering}
 use Rattle.wh_covering.specs.CoveringFaults.{IsFirstCoveringFault}
 use Rattle.wh_polycheck.specs.Small.{Limits, without_limits, with_limits}
 use Rattle.wh_covering.specs.declared.fault.CoveringFault.{CoveringFault}
-use Rattle.wh_proof.specs.Nodes.{Node, done, alone, blocks, subterm, poly, AreSetsOf, no_sets, more_sets, Leaves, by_done, by_alone, by_blocks, by_subterm, by_poly}
-use Rattle.wh_proof.specs.Looked.{SayChoices, SaysNode, moves_of}
+use Rattle.wh_inference.specs.Inferences.{Inference}
+use Rattle.wh_ordering.specs.Filterings.{FilteringData}
+use Rattle.wh_ordering.specs.Ordering.{IsOrdering}
+use Rattle.wh_orienting.specs.OrderingFaults.{IsFirstOrderingFault}
+use Rattle.wh_orienting.specs.declared.fault.OrderingFault.{OrderingFault}
+use Rattle.wh_orienting.proofs.OneOrdering.{ordering_fault_one, ordering_or_fault}
+use Rattle.wh_proof.specs.Nodes.{Node, done, alone, blocks, subterm, poly, order, AreSetsOf, no_sets, more_sets, Leaves, by_done, by_alone, by_blocks, by_subterm, by_poly, by_order}
+use Rattle.wh_proof.specs.Looked.{SayChoices, SaysNode, moves_of, inferences_of}
 use Rattle.wh_proof.specs.Small.{IsSmallNode}
-use Rattle.wh_checker.specs.Faults.{IsSubtermFault, SayCovering, IsNodeFault, at_node, in_excess}
+use Rattle.wh_checker.specs.Faults.{IsSubtermFault, SayCovering, SayOrdering, IsNodeFault, at_node, in_excess}
 use Rattle.wh_checker.specs.declared.rejected.NodeFault.{NodeFault}
-use Rattle.wh_checker.specs.declared.rejected.NodeFault.TheVariants.{NotEmpty, NotOne, Loops, Blocks, Subterm, BadSymbols, Poly}
+use Rattle.wh_checker.specs.declared.rejected.NodeFault.TheVariants.{NotEmpty, NotOne, Loops, Blocks, Subterm, BadSymbols, Poly, Order}
 use Rattle.wh_pairs.proofs.SetLemmas.{set_one}
 use Rattle.wh_proof.proofs.ChoiceLemmas.{one_list_said}
-use Rattle.wh_proof.proofs.OneNode.{one_readings_said}
+use Rattle.wh_proof.proofs.OneNode.{one_readings_said, one_filterings_said}
 use Rattle.wh_checker.proofs.RowLaws.{block_fault_one, blocks_or_fault, subterm_fault_one, projection_or_fault}
 use Rattle.wh_checker.proofs.CoveringLaws.{CoveringsAlike, SmallFor, IsRejection, covering_fault_one, covering_or_fault, fault_unlimited}
 
@@ -54,6 +60,8 @@ leaves_one S rules ps set (blocks parts) left other (by_blocks are sets) (by_blo
 leaves_one S rules ps set (subterm args drop) left other (by_subterm {rest = rest} is kept) (by_subterm {rest = others} also same) =
     ap (λ l. l ∷ []) (set_one _ rest others kept same)
 leaves_one S rules ps set (poly covered R E) left other (by_poly {rest = rest} is all kept) (by_poly {rest = others} also whole same) =
+    ap (λ l. l ∷ []) (set_one _ rest others kept same)
+leaves_one S rules ps set (order D E) left other (by_order {rest = rest} is kept) (by_order {rest = others} also same) =
     ap (λ l. l ∷ []) (set_one _ rest others kept same)
 leaves_one S rules ps set done (_ ∷ _) other leaves also = elim leaves [ ]
 leaves_one S rules ps set done [] (_ ∷ _) leaves also = elim also [ ]
@@ -139,6 +147,39 @@ poly_fault_one limits d ps set funs lines rules pairs drop f g apart (with_symbo
     (subst (λ (x : ReadingsData). IsFirstCoveringFault limits (whole_task d.symbols d.rules ps set) x
     (moves_of rules pairs drop) b) one other))
 
+-- and for nodes of path orders
+data OrderFault (d : SystemData) (ps : List PairData) (set : List ℕ) (funs lines : List w.Filtering) (rules pairs : List Inference)
+    (drop : List ℕ) : NodeFault → Type 0 where
+  no_filters : ((D : FilteringData) → SayOrdering d ps set funs lines D → ⊥) → OrderFault d ps set funs lines rules pairs drop BadSymbols
+  with_filters : {f : OrderingFault} (D : FilteringData) → SayOrdering d ps set funs lines D
+      → IsFirstOrderingFault (whole_task d.symbols d.rules ps set) D (inferences_of rules pairs drop) f
+      → OrderFault d ps set funs lines rules pairs drop (Order f)
+
+order_fault_one : (d : SystemData) (ps : List PairData) (set : List ℕ) (funs lines : List w.Filtering) (rules pairs : List Inference)
+    (drop : List ℕ) (f g : NodeFault) → AreDistinct d.fun_names → OrderFault d ps set funs lines rules pairs drop f
+    → OrderFault d ps set funs lines rules pairs drop g → f ≡ g
+order_fault_one d ps set funs lines rules pairs drop f g apart (no_filters none) (no_filters also) = refl
+order_fault_one d ps set funs lines rules pairs drop f g apart (no_filters none) (with_filters D says first) = absurd (none D says)
+order_fault_one d ps set funs lines rules pairs drop f g apart (with_filters D says first) (no_filters none) = absurd (none D says)
+order_fault_one d ps set funs lines rules pairs drop f g apart (with_filters {f = a} D says first)
+    (with_filters {f = b} B also other) =
+    let one : B ≡ D = one_filterings_said d funs lines B D apart also.0 says.0 in
+    ap Order (ordering_fault_one (whole_task d.symbols d.rules ps set) D (inferences_of rules pairs drop) a b first
+    (subst (λ (x : FilteringData). IsFirstOrderingFault (whole_task d.symbols d.rules ps set) x
+    (inferences_of rules pairs drop) b) one other))
+
+ordering_or_order : (d : SystemData) (ps : List PairData) (set : List ℕ) (funs lines : List w.Filtering) (rules pairs : List Inference)
+    (listed : List ℕ) (D : FilteringData) (E : Evidence Inference) (f : NodeFault) → AreDistinct d.fun_names
+    → SaysNode d (w.order funs lines rules pairs listed) (order D E) → IsOrdering (whole_task d.symbols d.rules ps set) D E
+    → OrderFault d ps set funs lines rules pairs listed f → ⊥
+ordering_or_order d ps set funs lines rules pairs listed D E f apart says is (no_filters none) = none D (says.0, is.filters.marked)
+ordering_or_order d ps set funs lines rules pairs listed D E f apart says is (with_filters {f = g} B also first) =
+    let one : B ≡ D = one_filterings_said d funs lines B D apart also.0 says.0 in
+    ordering_or_fault (whole_task d.symbols d.rules ps set) D E is g
+    (subst (λ (x : Evidence Inference). IsFirstOrderingFault (whole_task d.symbols d.rules ps set) D x g) (sym says.1)
+    (subst (λ (x : FilteringData). IsFirstOrderingFault (whole_task d.symbols d.rules ps set) x
+    (inferences_of rules pairs listed) g) one first))
+
 small_for : (limits : Limits) (S : Symbols) (rules : List RewriteRule) (ps : List PairData) (set covered : List ℕ) (R : ReadingsData)
     (E : Evidence (List Transfer)) → IsSmallNode limits S rules ps set (poly covered R E)
     → SmallFor limits (task_over S rules ps set covered) R
@@ -171,6 +212,8 @@ data KindFault (limits : Limits) (d : SystemData) (ps : List PairData) (set : Li
   of_poly : {funs lines : List Interp} {rules pairs : List (List Move)} {drop : List ℕ} {f : NodeFault}
       → PolyFault limits d ps set funs lines rules pairs drop f → KindFault limits d ps set
       (w.interpretations funs lines rules pairs drop) f
+  of_order : {funs lines : List w.Filtering} {rules pairs : List Inference} {drop : List ℕ} {f : NodeFault}
+      → OrderFault d ps set funs lines rules pairs drop f → KindFault limits d ps set (w.order funs lines rules pairs drop) f
 
 kind_fault : (limits : Limits) (d : SystemData) (ps : List PairData) (set : List ℕ) (line : w.Node) (f : NodeFault)
     → IsNodeFault limits d ps set line f → KindFault limits d ps set line f
@@ -181,6 +224,7 @@ kind_fault limits d ps set w.done (Blocks f) fault = absurd fault
 kind_fault limits d ps set w.done (Subterm f) fault = absurd fault
 kind_fault limits d ps set w.done BadSymbols fault = absurd fault
 kind_fault limits d ps set w.done (Poly f) fault = absurd fault
+kind_fault limits d ps set w.done (Order f) fault = absurd fault
 kind_fault limits d ps set w.alone NotEmpty fault = absurd fault
 kind_fault limits d ps set w.alone NotOne fault = of_alone fault
 kind_fault limits d ps set w.alone (Loops a) (is, follows) = of_loop is follows
@@ -188,6 +232,7 @@ kind_fault limits d ps set w.alone (Blocks f) fault = absurd fault
 kind_fault limits d ps set w.alone (Subterm f) fault = absurd fault
 kind_fault limits d ps set w.alone BadSymbols fault = absurd fault
 kind_fault limits d ps set w.alone (Poly f) fault = absurd fault
+kind_fault limits d ps set w.alone (Order f) fault = absurd fault
 kind_fault limits d ps set (w.blocks parts) NotEmpty fault = absurd fault
 kind_fault limits d ps set (w.blocks parts) NotOne fault = absurd fault
 kind_fault limits d ps set (w.blocks parts) (Loops a) fault = absurd fault
@@ -195,6 +240,7 @@ kind_fault limits d ps set (w.blocks parts) (Blocks f) fault = of_blocks fault
 kind_fault limits d ps set (w.blocks parts) (Subterm f) fault = absurd fault
 kind_fault limits d ps set (w.blocks parts) BadSymbols fault = absurd fault
 kind_fault limits d ps set (w.blocks parts) (Poly f) fault = absurd fault
+kind_fault limits d ps set (w.blocks parts) (Order f) fault = absurd fault
 kind_fault limits d ps set (w.subterm lines drop) NotEmpty fault = absurd fault
 kind_fault limits d ps set (w.subterm lines drop) NotOne fault = absurd fault
 kind_fault limits d ps set (w.subterm lines drop) (Loops a) fault = absurd fault
@@ -202,6 +248,7 @@ kind_fault limits d ps set (w.subterm lines drop) (Blocks f) fault = absurd faul
 kind_fault limits d ps set (w.subterm lines drop) (Subterm f) fault = of_subterm (choice_fault d ps set lines drop f fault)
 kind_fault limits d ps set (w.subterm lines drop) BadSymbols fault = absurd fault
 kind_fault limits d ps set (w.subterm lines drop) (Poly f) fault = absurd fault
+kind_fault limits d ps set (w.subterm lines drop) (Order f) fault = absurd fault
 kind_fault limits d ps set (w.interpretations funs lines rules pairs drop) NotEmpty fault = absurd fault
 kind_fault limits d ps set (w.interpretations funs lines rules pairs drop) NotOne fault = absurd fault
 kind_fault limits d ps set (w.interpretations funs lines rules pairs drop) (Loops a) fault = absurd fault
@@ -210,6 +257,15 @@ kind_fault limits d ps set (w.interpretations funs lines rules pairs drop) (Subt
 kind_fault limits d ps set (w.interpretations funs lines rules pairs drop) BadSymbols none = of_poly (no_symbols none)
 kind_fault limits d ps set (w.interpretations funs lines rules pairs drop) (Poly f) (R, says, first) =
     of_poly (with_symbols R says first)
+kind_fault limits d ps set (w.interpretations funs lines rules pairs drop) (Order f) fault = absurd fault
+kind_fault limits d ps set (w.order funs lines rules pairs drop) NotEmpty fault = absurd fault
+kind_fault limits d ps set (w.order funs lines rules pairs drop) NotOne fault = absurd fault
+kind_fault limits d ps set (w.order funs lines rules pairs drop) (Loops a) fault = absurd fault
+kind_fault limits d ps set (w.order funs lines rules pairs drop) (Blocks f) fault = absurd fault
+kind_fault limits d ps set (w.order funs lines rules pairs drop) (Subterm f) fault = absurd fault
+kind_fault limits d ps set (w.order funs lines rules pairs drop) BadSymbols none = of_order (no_filters none)
+kind_fault limits d ps set (w.order funs lines rules pairs drop) (Poly f) fault = absurd fault
+kind_fault limits d ps set (w.order funs lines rules pairs drop) (Order f) (D, says, first) = of_order (with_filters D says first)
 
 kind_fault_one : (limits : Limits) (d : SystemData) (ps : List PairData) (set : List ℕ) (line : w.Node) (f g : NodeFault)
     → AreDistinct d.fun_names → KindFault limits d ps set line f → KindFault limits d ps set line g → NodesAlike f g
@@ -225,6 +281,8 @@ kind_fault_one limits d ps set (w.subterm lines drop) f g apart (of_subterm {f =
     one_fault (ap Subterm (choice_fault_one d ps set lines drop a b apart first other))
 kind_fault_one limits d ps set (w.interpretations funs lines rules pairs drop) f g apart (of_poly first) (of_poly other) =
     poly_fault_one limits d ps set funs lines rules pairs drop f g apart first other
+kind_fault_one limits d ps set (w.order funs lines rules pairs drop) f g apart (of_order first) (of_order other) =
+    one_fault (order_fault_one d ps set funs lines rules pairs drop f g apart first other)
 
 pub node_fault_one : (limits : Limits) (d : SystemData) (ps : List PairData) (set : List ℕ) (line : w.Node) (f g : NodeFault)
     → AreDistinct d.fun_names → IsNodeFault limits d ps set line f → IsNodeFault limits d ps set line g → NodesAlike f g
@@ -249,22 +307,29 @@ leaves_or_kind limits d ps set (w.interpretations funs lines rules pairs listed)
     (by_poly {covered = covered} {R = R} {E = E} is all kept) small (of_poly first) =
     covering_or_poly limits d ps set funs lines rules pairs listed covered R E f apart says is
     (small_for limits d.symbols d.rules ps set covered R E small) first
+leaves_or_kind limits d ps set (w.order funs lines rules pairs listed) node left f apart says (by_order {D = D} {E = E} is kept) small
+    (of_order first) =
+    ordering_or_order d ps set funs lines rules pairs listed D E f apart says is first
 leaves_or_kind limits d ps set w.done node left f apart says (by_alone free) small fault = elim says [ ]
 leaves_or_kind limits d ps set w.done node left f apart says (by_blocks are sets) small fault = elim says [ ]
 leaves_or_kind limits d ps set w.done node left f apart says (by_subterm is kept) small fault = elim says [ ]
 leaves_or_kind limits d ps set w.done node left f apart says (by_poly is all kept) small fault = elim says [ ]
+leaves_or_kind limits d ps set w.done node left f apart says (by_order is kept) small fault = elim says [ ]
 leaves_or_kind limits d ps set w.alone node left f apart says by_done small fault = elim says [ ]
 leaves_or_kind limits d ps set w.alone node left f apart says (by_blocks are sets) small fault = elim says [ ]
 leaves_or_kind limits d ps set w.alone node left f apart says (by_subterm is kept) small fault = elim says [ ]
 leaves_or_kind limits d ps set w.alone node left f apart says (by_poly is all kept) small fault = elim says [ ]
+leaves_or_kind limits d ps set w.alone node left f apart says (by_order is kept) small fault = elim says [ ]
 leaves_or_kind limits d ps set (w.blocks listed) node left f apart says by_done small fault = elim says [ ]
 leaves_or_kind limits d ps set (w.blocks listed) node left f apart says (by_alone free) small fault = elim says [ ]
 leaves_or_kind limits d ps set (w.blocks listed) node left f apart says (by_subterm is kept) small fault = elim says [ ]
 leaves_or_kind limits d ps set (w.blocks listed) node left f apart says (by_poly is all kept) small fault = elim says [ ]
+leaves_or_kind limits d ps set (w.blocks listed) node left f apart says (by_order is kept) small fault = elim says [ ]
 leaves_or_kind limits d ps set (w.subterm lines listed) node left f apart says by_done small fault = elim says [ ]
 leaves_or_kind limits d ps set (w.subterm lines listed) node left f apart says (by_alone free) small fault = elim says [ ]
 leaves_or_kind limits d ps set (w.subterm lines listed) node left f apart says (by_blocks are sets) small fault = elim says [ ]
 leaves_or_kind limits d ps set (w.subterm lines listed) node left f apart says (by_poly is all kept) small fault = elim says [ ]
+leaves_or_kind limits d ps set (w.subterm lines listed) node left f apart says (by_order is kept) small fault = elim says [ ]
 leaves_or_kind limits d ps set (w.interpretations funs lines rules pairs listed) node left f apart says by_done small fault = elim says [ ]
 leaves_or_kind limits d ps set (w.interpretations funs lines rules pairs listed) node left f apart says (by_alone free) small fault =
     elim says [ ]
@@ -272,6 +337,13 @@ leaves_or_kind limits d ps set (w.interpretations funs lines rules pairs listed)
     elim says [ ]
 leaves_or_kind limits d ps set (w.interpretations funs lines rules pairs listed) node left f apart says (by_subterm is kept) small fault =
     elim says [ ]
+leaves_or_kind limits d ps set (w.interpretations funs lines rules pairs listed) node left f apart says (by_order is kept) small fault =
+    elim says [ ]
+leaves_or_kind limits d ps set (w.order funs lines rules pairs listed) node left f apart says by_done small fault = elim says [ ]
+leaves_or_kind limits d ps set (w.order funs lines rules pairs listed) node left f apart says (by_alone free) small fault = elim says [ ]
+leaves_or_kind limits d ps set (w.order funs lines rules pairs listed) node left f apart says (by_blocks are sets) small fault = elim says [ ]
+leaves_or_kind limits d ps set (w.order funs lines rules pairs listed) node left f apart says (by_subterm is kept) small fault = elim says [ ]
+leaves_or_kind limits d ps set (w.order funs lines rules pairs listed) node left f apart says (by_poly is all kept) small fault = elim says [ ]
 
 pub leaves_or_fault : (limits : Limits) (d : SystemData) (ps : List PairData) (set : List ℕ) (line : w.Node) (node : Node)
     (left : List (List ℕ)) (f : NodeFault) → AreDistinct d.fun_names → SaysNode d line node → Leaves d.symbols d.rules ps set node left
@@ -291,6 +363,8 @@ kind_unlimited d ps set (w.subterm lines drop) k f is (of_subterm {f = g} first)
 kind_unlimited d ps set (w.interpretations funs lines rules pairs drop) k f is (of_poly (no_symbols none)) = none
 kind_unlimited d ps set (w.interpretations funs lines rules pairs drop) k f is (of_poly (with_symbols {f = g} R says first)) =
     (R, says, fault_unlimited (whole_task d.symbols d.rules ps set) R (moves_of rules pairs drop) k g is first)
+kind_unlimited d ps set (w.order funs lines rules pairs drop) k f is (of_order (no_filters none)) = none
+kind_unlimited d ps set (w.order funs lines rules pairs drop) k f is (of_order (with_filters D says first)) = (D, says, first)
 
 pub node_unlimited : (d : SystemData) (ps : List PairData) (set : List ℕ) (line : w.Node) (k : ℕ) (f : NodeFault)
     → IsRejection (at_node k f) → IsNodeFault with_limits d ps set line f → IsNodeFault without_limits d ps set line f

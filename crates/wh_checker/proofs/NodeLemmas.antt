@@ -9,7 +9,7 @@ use Rattle.wh_pairs.proofs.ByPlace.{place_of}
 use Rattle.wh_graph.specs.Components.{IsIn}
 use Rattle.wh_cert.specs.Written as w
 use Rattle.wh_cert.specs.Written.{children}
-use Rattle.wh_proof.specs.Nodes.{Node, done, alone, blocks, subterm, poly, AreSetsOf, no_sets, more_sets, Leaves, by_done, by_alone, by_blocks, by_subterm, by_poly}
+use Rattle.wh_proof.specs.Nodes.{Node, done, alone, blocks, subterm, poly, order, AreSetsOf, no_sets, more_sets, Leaves, by_done, by_alone, by_blocks, by_subterm, by_poly, by_order}
 use Rattle.wh_proof.specs.Looked.{SaysNode}
 use Rattle.wh_pairs.proofs.SetLemmas.{all_from_members}
 
@@ -28,28 +28,39 @@ leaves_count d ps set (w.blocks listed) (blocks parts) left says (by_blocks are 
 leaves_count d ps set (w.subterm lines listed) (subterm args drop) left says (by_subterm is rest) = refl
 leaves_count d ps set (w.interpretations funs lines rules pairs listed) (poly covered R E) left says
     (by_poly is all rest) = refl
+leaves_count d ps set (w.order funs lines rules pairs listed) (order D E) left says (by_order is rest) = refl
 leaves_count d ps set w.done done (_ ∷ _) says leaves = elim leaves [ ]
 leaves_count d ps set w.alone alone (_ ∷ _) says leaves = elim leaves [ ]
 leaves_count d ps set w.done alone left says leaves = absurd says
 leaves_count d ps set w.done (blocks parts) left says leaves = absurd says
 leaves_count d ps set w.done (subterm args drop) left says leaves = absurd says
 leaves_count d ps set w.done (poly covered R E) left says leaves = absurd says
+leaves_count d ps set w.done (order D E) left says leaves = absurd says
 leaves_count d ps set w.alone done left says leaves = absurd says
 leaves_count d ps set w.alone (blocks parts) left says leaves = absurd says
 leaves_count d ps set w.alone (subterm args drop) left says leaves = absurd says
 leaves_count d ps set w.alone (poly covered R E) left says leaves = absurd says
+leaves_count d ps set w.alone (order D E) left says leaves = absurd says
 leaves_count d ps set (w.blocks listed) done left says leaves = absurd says
 leaves_count d ps set (w.blocks listed) alone left says leaves = absurd says
 leaves_count d ps set (w.blocks listed) (subterm args drop) left says leaves = absurd says
 leaves_count d ps set (w.blocks listed) (poly covered R E) left says leaves = absurd says
+leaves_count d ps set (w.blocks listed) (order D E) left says leaves = absurd says
 leaves_count d ps set (w.subterm lines listed) done left says leaves = absurd says
 leaves_count d ps set (w.subterm lines listed) alone left says leaves = absurd says
 leaves_count d ps set (w.subterm lines listed) (blocks parts) left says leaves = absurd says
 leaves_count d ps set (w.subterm lines listed) (poly covered R E) left says leaves = absurd says
+leaves_count d ps set (w.subterm lines listed) (order D E) left says leaves = absurd says
 leaves_count d ps set (w.interpretations funs lines rules pairs listed) done left says leaves = absurd says
 leaves_count d ps set (w.interpretations funs lines rules pairs listed) alone left says leaves = absurd says
 leaves_count d ps set (w.interpretations funs lines rules pairs listed) (blocks parts) left says leaves = absurd says
 leaves_count d ps set (w.interpretations funs lines rules pairs listed) (subterm args drop) left says leaves = absurd says
+leaves_count d ps set (w.interpretations funs lines rules pairs listed) (order D E) left says leaves = absurd says
+leaves_count d ps set (w.order funs lines rules pairs listed) done left says leaves = absurd says
+leaves_count d ps set (w.order funs lines rules pairs listed) alone left says leaves = absurd says
+leaves_count d ps set (w.order funs lines rules pairs listed) (blocks parts) left says leaves = absurd says
+leaves_count d ps set (w.order funs lines rules pairs listed) (subterm args drop) left says leaves = absurd says
+leaves_count d ps set (w.order funs lines rules pairs listed) (poly covered R E) left says leaves = absurd says
 
 sets_within : (P : ℕ → Type 0) (parts sets : List (List ℕ)) → AreSetsOf parts sets → ((i n : ℕ) → IsIn parts i n → P n) → All (All P) sets
 sets_within P [] [] no_sets each = All-nil (All P)
@@ -70,6 +81,8 @@ left_within S rules ps P set (blocks parts) left (by_blocks are sets) all =
 left_within S rules ps P set (subterm args drop) left (by_subterm {rest = rest} is rest_is) all =
     All-cons (All P) rest [] (all_from_members P rest (λ n found. All-contains P set n all ((rest_is.each n).0 found).0)) (All-nil (All P))
 left_within S rules ps P set (poly covered R E) left (by_poly {rest = rest} is whole rest_is) all =
+    All-cons (All P) rest [] (all_from_members P rest (λ n found. All-contains P set n all ((rest_is.each n).0 found).0)) (All-nil (All P))
+left_within S rules ps P set (order D E) left (by_order {rest = rest} is rest_is) all =
     All-cons (All P) rest [] (all_from_members P rest (λ n found. All-contains P set n all ((rest_is.each n).0 found).0)) (All-nil (All P))
 left_within S rules ps P set done (_ ∷ _) leaves all = elim leaves [ ]
 left_within S rules ps P set alone (_ ∷ _) leaves all = elim leaves [ ]

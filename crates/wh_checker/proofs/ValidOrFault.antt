@@ -30,7 +30,14 @@ use Rattle.wh_polycheck.specs.Marks.{Mark}
 use Rattle.wh_polycheck.specs.Readings.{ReadingsData, AreReadingsFor}
 use Rattle.wh_polycheck.specs.Covering.{IsCovering}
 use Rattle.wh_hopoly.specs.Moves.{Transfer}
-use Rattle.wh_proof.specs.Nodes.{Node, done, alone, blocks, subterm, poly, Leaves, by_done, by_alone, by_blocks, by_subterm, by_poly}
+use Rattle.wh_inference.specs.Inferences.{Inference}
+use Rattle.wh_inference.specs.FilterText.{WrittenFilter}
+use Rattle.wh_ordering.specs.Filterings.{FilteringData, MarkFilter, AreFiltersFor}
+use Rattle.wh_ordering.specs.Ordering.{IsOrdering}
+use Rattle.wh_orienting.specs.OrderingFaults.{IsFirstOrderingFault}
+use Rattle.wh_orienting.specs.declared.fault.OrderingFault.{OrderingFault}
+use Rattle.wh_orienting.proofs.Orderings.{orients_or_fault}
+use Rattle.wh_proof.specs.Nodes.{Node, done, alone, blocks, subterm, poly, order, Leaves, by_done, by_alone, by_blocks, by_subterm, by_poly, by_order}
 use Rattle.wh_proof.specs.Proves.{Proves, all_proved, one_proved}
 use Rattle.wh_pairs.proofs.Searches.{SomeOrNone, equal_decided, list_decided, HasFirst, HasNoneOf, first_place}
 use Rattle.wh_graph.proofs.ClashesDecided.{follows_decided}
@@ -42,17 +49,18 @@ use Rattle.wh_covering.proofs.Coverings.{covering_or_fault, small_or_fault}
 use Rattle.wh_access.proofs.Breaks.{passing_or_break}
 use Rattle.wh_no.proofs.Claims.{ClaimOrFault, claim_or_fault}
 use Rattle.wh_polycheck.specs.Small.{Limits, without_limits, with_limits}
-use Rattle.wh_proof.specs.Looked.{SayChoices, SayInterpretations, SayMarks, SaysNode, SayNodes, moves_of}
+use Rattle.wh_proof.specs.Looked.{SayChoices, SayInterpretations, SayMarks, SayFilters, SayMarkFilters, SaysNode, SayNodes, moves_of, inferences_of}
 use Rattle.wh_proof.specs.Small.{IsSmallNode, all_small, one_small}
 use Rattle.wh_proof.specs.Valid.{IsSmallCert, IsValidCert, IsValidYes}
-use Rattle.wh_checker.specs.Faults.{IsSubtermFault, SayCovering, IsNodeFault, IsFirstNodeFault, at_first, behind_first, at_node, of_claim, IsFirstYesFault, rank_count, inaccessible, pair_count, in_node, IsFirstFault}
+use Rattle.wh_checker.specs.Faults.{IsSubtermFault, SayCovering, SayOrdering, IsNodeFault, IsFirstNodeFault, at_first, behind_first, at_node, of_claim, IsFirstYesFault, rank_count, inaccessible, pair_count, in_node, IsFirstFault}
 use Rattle.wh_checker.specs.declared.rejected.NodeFault.{NodeFault}
-use Rattle.wh_checker.specs.declared.rejected.NodeFault.TheVariants.{NotEmpty, NotOne, Loops, Blocks, Subterm, BadSymbols, Poly}
+use Rattle.wh_checker.specs.declared.rejected.NodeFault.TheVariants.{NotEmpty, NotOne, Loops, Blocks, Subterm, BadSymbols, Poly, Order}
 use Rattle.wh_checker.specs.declared.rejected.CheckFault.{CheckFault}
 use Rattle.wh_checker.specs.declared.rejected.CheckFault.TheVariants as check
 use Rattle.wh_checker.specs.declared.rejected.Rejected.TheVariants as row
 use Rattle.wh_proof.proofs.ChoiceLemmas.{one_list_said}
 use Rattle.wh_proof.proofs.InterpretationLemmas.{said_lists, marked_numbers, one_marks_said}
+use Rattle.wh_proof.proofs.FilterLemmas.{as_many_filters, one_mark_filters_said, marked_numbers as numbers_marked}
 use Rattle.wh_checker.proofs.NodeLemmas.{leaves_count}
 use Rattle.wh_checker.proofs.CoveringLaws.{SmallFor}
 use Rattle.wh_checker.proofs.FaultLaws.{AreSmallFor, IsSmallFor}
@@ -196,6 +204,80 @@ covering_said d ps set funs lines apart = go (interpretations_or_none d.fun_name
     go (inl symbols) (inr none) = inr (λ other said. none other.marks said.0.1)
     go (inl (symbols, says)) (inl (marks, also)) = at_marks symbols marks says also (are_marked_decided ps set (marked_numbers marks))
 
+-- lines that say argument filters
+
+filters_or_none : (names : List (List ℕ)) (lines : List w.Filtering) → SomeOrNone (SayFilters names lines)
+filters_or_none [] [] = inl ([], tt)
+filters_or_none [] (line ∷ lines) = inr (λ filters says. says)
+filters_or_none (name ∷ names) [] = inr (λ filters says. says)
+filters_or_none (name ∷ names) (line ∷ lines) = go (list_decided equal_decided line.name name) (filters_or_none names lines)
+  where
+    other : (line.name ≡ name → ⊥) → (filters : List WrittenFilter) → SayFilters (name ∷ names) (line ∷ lines) filters → ⊥
+    other not [] says = says
+    other not (f ∷ filters) says = not says.0
+
+    none_behind_it : ((filters : List WrittenFilter) → SayFilters names lines filters → ⊥) → (filters : List WrittenFilter)
+        → SayFilters (name ∷ names) (line ∷ lines) filters → ⊥
+    none_behind_it none [] says = says
+    none_behind_it none (f ∷ filters) says = none filters says.2
+
+    go : Decided (line.name ≡ name) → SomeOrNone (SayFilters names lines) → SomeOrNone (SayFilters (name ∷ names) (line ∷ lines))
+    go (inr not) rest = inr (other not)
+    go (inl same) (inr none) = inr (none_behind_it none)
+    go (inl same) (inl (filters, says)) = inl (line.filter ∷ filters, (same, refl, says))
+
+no_mark_filter_behind : (d : SystemData) (line : w.Filtering) (lines : List w.Filtering)
+    → ((marks : List MarkFilter) → SayMarkFilters d lines marks → ⊥) → (marks : List MarkFilter) → SayMarkFilters d (line ∷ lines) marks → ⊥
+no_mark_filter_behind d line lines none [] says = says
+no_mark_filter_behind d line lines none (m ∷ marks) says = none marks says.1
+
+no_mark_filter_named : (d : SystemData) (line : w.Filtering) (lines : List w.Filtering)
+    → HasNoneOf (λ (name : List ℕ). name ≡ line.name) d.fun_names → (marks : List MarkFilter) → SayMarkFilters d (line ∷ lines) marks → ⊥
+no_mark_filter_named d line lines none [] says = says
+no_mark_filter_named d line lines none (m ∷ marks) says =
+    none line.name (contains_at d.fun_names m.symbol line.name says.0.named) refl
+
+mark_filters_or_none : (d : SystemData) (lines : List w.Filtering) → SomeOrNone (SayMarkFilters d lines)
+mark_filters_or_none d [] = inl ([], tt)
+mark_filters_or_none d (line ∷ lines) =
+    go (first_place (λ (name : List ℕ). name ≡ line.name) (λ name. list_decided equal_decided name line.name) d.fun_names)
+    (mark_filters_or_none d lines)
+  where
+    go : HasFirst (λ (name : List ℕ). name ≡ line.name) d.fun_names ⊎ HasNoneOf (λ (name : List ℕ). name ≡ line.name) d.fun_names
+        → SomeOrNone (SayMarkFilters d lines) → SomeOrNone (SayMarkFilters d (line ∷ lines))
+    go (inl (i, name, at, same, before)) (inl (marks, says)) =
+        inl (
+          record { symbol = i; filter = line.filter } ∷ marks,
+          (record { named = at ∙ ap (λ n. Some n) same; filter = refl }, says),
+        )
+    go (inl found) (inr none) = inr (no_mark_filter_behind d line lines none)
+    go (inr none) rest = inr (no_mark_filter_named d line lines none)
+
+-- the lines of a node of a path order say filters of all symbols and of the marked symbols of the set, or not
+
+abbrev SaysFilters : SystemData → List PairData → List ℕ → List w.Filtering → List w.Filtering → Type 0
+SaysFilters d ps set funs lines = (D : FilteringData) × SayOrdering d ps set funs lines D
+
+abbrev SaysNoFilters : SystemData → List PairData → List ℕ → List w.Filtering → List w.Filtering → Type 0
+SaysNoFilters d ps set funs lines = (D : FilteringData) → SayOrdering d ps set funs lines D → ⊥
+
+ordering_said : (d : SystemData) (ps : List PairData) (set : List ℕ) (funs lines : List w.Filtering) → AreDistinct d.fun_names
+    → SaysFilters d ps set funs lines ⊎ SaysNoFilters d ps set funs lines
+ordering_said d ps set funs lines apart = go (filters_or_none d.fun_names funs) (mark_filters_or_none d lines)
+  where
+    at_marks : (symbols : List WrittenFilter) (marks : List MarkFilter) → SayFilters d.fun_names funs symbols → SayMarkFilters d lines marks
+        → Decided (AreMarked ps set (numbers_marked marks)) → SaysFilters d ps set funs lines ⊎ SaysNoFilters d ps set funs lines
+    at_marks symbols marks says also (inl marked) = inl (record { symbols = symbols; marks = marks }, ((says, also), marked))
+    at_marks symbols marks says also (inr not) =
+        inr (λ other said. not (subst (λ (l : List MarkFilter). AreMarked ps set (numbers_marked l))
+        (one_mark_filters_said d lines other.marks marks apart said.0.1 also) said.1))
+
+    go : SomeOrNone (SayFilters d.fun_names funs) → SomeOrNone (SayMarkFilters d lines)
+        → SaysFilters d ps set funs lines ⊎ SaysNoFilters d ps set funs lines
+    go (inr none) marks = inr (λ other said. none other.symbols said.0.0)
+    go (inl symbols) (inr none) = inr (λ other said. none other.marks said.0.1)
+    go (inl (symbols, says)) (inl (marks, also)) = at_marks symbols marks says also (are_marked_decided ps set (numbers_marked marks))
+
 -- readings with their moves, for a choice of limits
 
 abbrev CoversOrFault : Limits → TaskData → ReadingsData → Evidence (List Transfer) → Type 0
@@ -224,6 +306,7 @@ plain_small with_limits d ps set alone plain = tt
 plain_small with_limits d ps set (blocks parts) plain = tt
 plain_small with_limits d ps set (subterm args drop) plain = tt
 plain_small with_limits d ps set (poly covered R E) plain = absurd plain
+plain_small with_limits d ps set (order D E) plain = tt
 
 poly_small : (limits : Limits) (d : SystemData) (ps : List PairData) (set : List ℕ) (R : ReadingsData) (E : Evidence (List Transfer))
     → SmallFor limits (whole_task d.symbols d.rules ps set) R
@@ -289,14 +372,39 @@ module _ (limits : Limits) (d : SystemData) (ps : List PairData) where
             poly_small limits d ps set R (moves_of rules pairs drop) small,
           )
 
-  node_or_fault : (set : List ℕ) (line : w.Node) → AreDistinct d.fun_names → NodeOrFault set line
-  node_or_fault set w.done apart = done_or_fault set
-  node_or_fault set w.alone apart = alone_or_fault set
-  node_or_fault set (w.blocks parts) apart =
+  order_said : (set : List ℕ) (funs lines : List w.Filtering) (rules pairs : List Inference) (drop : List ℕ) → IsWellMadeSystem d
+      → SaysFilters d ps set funs lines ⊎ SaysNoFilters d ps set funs lines → NodeOrFault set (w.order funs lines rules pairs drop)
+  order_said set funs lines rules pairs drop made (inr nothing) = inr (BadSymbols, nothing)
+  order_said set funs lines rules pairs drop made (inl (D, said)) =
+      go (orients_or_fault (whole_task d.symbols d.rules ps set) D (inferences_of rules pairs drop) (record {
+        each_symbol = as_many_filters d.fun_names funs D.symbols said.0.0 ∙ made.symbols_named;
+        marked = said.1;
+      }))
+    where
+      go : IsOrdering (whole_task d.symbols d.rules ps set) D (inferences_of rules pairs drop)
+          ⊎ ((f : OrderingFault) × IsFirstOrderingFault (whole_task d.symbols d.rules ps set) D (inferences_of rules pairs drop) f)
+          → NodeOrFault set (w.order funs lines rules pairs drop)
+      go (inr (f, first)) = inr (Order f, (D, said, first))
+      go (inl is) =
+          let (rest, kept) = kept_set set drop in
+          inl (
+            order D (inferences_of rules pairs drop),
+            rest ∷ [],
+            (said.0, refl),
+            by_order is kept,
+            plain_small limits d ps set (order D (inferences_of rules pairs drop)) tt,
+          )
+
+  node_or_fault : (set : List ℕ) (line : w.Node) → IsWellMadeSystem d → NodeOrFault set line
+  node_or_fault set w.done made = done_or_fault set
+  node_or_fault set w.alone made = alone_or_fault set
+  node_or_fault set (w.blocks parts) made =
       blocks_said set parts (blocks_or_fault (Follows d.rules ps) (follows_decided d.rules ps) set parts)
-  node_or_fault set (w.subterm lines drop) apart = subterm_said set lines drop (projection_said d ps set lines drop apart)
-  node_or_fault set (w.interpretations funs lines rules pairs drop) apart =
-      poly_said set funs lines rules pairs drop (covering_said d ps set funs lines apart)
+  node_or_fault set (w.subterm lines drop) made = subterm_said set lines drop (projection_said d ps set lines drop made.fun_names_distinct)
+  node_or_fault set (w.interpretations funs lines rules pairs drop) made =
+      poly_said set funs lines rules pairs drop (covering_said d ps set funs lines made.fun_names_distinct)
+  node_or_fault set (w.order funs lines rules pairs drop) made =
+      order_said set funs lines rules pairs drop made (ordering_said d ps set funs lines made.fun_names_distinct)
 
 -- the nodes in preorder
 
@@ -321,17 +429,17 @@ abbrev HasNodeFault : Limits → SystemData → List PairData → ℕ → List (
 HasNodeFault limits d ps k sets lines = (m : ℕ) × (f : NodeFault) × IsFirstNodeFault limits d ps k sets lines m f
 
 proved_or_fault : (limits : Limits) (d : SystemData) (ps : List PairData) (k : ℕ) (sets : List (List ℕ)) (lines : List w.Node)
-    → AreDistinct d.fun_names → Preorder (length sets) lines
+    → IsWellMadeSystem d → Preorder (length sets) lines
     → AreProvedBy limits d ps sets lines ⊎ HasNodeFault limits d ps k sets lines
-proved_or_fault limits d ps k [] [] apart counted = inl ([], tt, all_proved, no_more_small limits d ps)
-proved_or_fault limits d ps k [] (line ∷ lines) apart counted = absurd counted
-proved_or_fault limits d ps k (set ∷ sets) [] apart counted = absurd counted
-proved_or_fault limits d ps k (set ∷ sets) (line ∷ lines) apart counted = elim (node_or_fault limits d ps set line apart) [
+proved_or_fault limits d ps k [] [] made counted = inl ([], tt, all_proved, no_more_small limits d ps)
+proved_or_fault limits d ps k [] (line ∷ lines) made counted = absurd counted
+proved_or_fault limits d ps k (set ∷ sets) [] made counted = absurd counted
+proved_or_fault limits d ps k (set ∷ sets) (line ∷ lines) made counted = elim (node_or_fault limits d ps set line made) [
   | inr (f, fault) ↦ inr (k, f, at_first fault)
   | inl (node, left, says, leaves, small) ↦
       let count : length (left ++ sets) ≡ w.children line + length sets =
       length-append left sets ∙ ap (λ n. n + length sets) (leaves_count d ps set line node left says leaves) in
-      elim (proved_or_fault limits d ps (suc k) (left ++ sets) lines apart (subst (λ n. Preorder n lines) (sym count) counted)) [
+      elim (proved_or_fault limits d ps (suc k) (left ++ sets) lines made (subst (λ n. Preorder n lines) (sym count) counted)) [
         | inl (nodes, say, proves, few) ↦
             inl (
               node ∷ nodes,
@@ -357,8 +465,8 @@ small_yes_for with_limits d ps lines set whole (nodes, say, proves, small) =
 small_yes_for without_limits d ps lines set whole proved = tt
 
 valid_or_yes_fault : (limits : Limits) (d : SystemData) (ps : List PairData) (ranks : List ℕ) (pairs : ℕ) (lines : List w.Node)
-    → AreDistinct d.fun_names → Preorder 1 lines → YesOrFault limits d ps ranks pairs lines
-valid_or_yes_fault limits d ps ranks pairs lines apart counted =
+    → IsWellMadeSystem d → Preorder 1 lines → YesOrFault limits d ps ranks pairs lines
+valid_or_yes_fault limits d ps ranks pairs lines made counted =
     go (equal_decided (length ranks) d.symbols.sorts) (passing_or_break d.symbols (rank_of ranks) d.rules) (equal_decided pairs (length ps))
   where
     go : Decided (length ranks ≡ d.symbols.sorts) → Passing d.symbols (rank_of ranks) d.rules
@@ -369,7 +477,7 @@ valid_or_yes_fault limits d ps ranks pairs lines apart counted =
     go (inl ranked) (inl passing) (inr other) = inr (check.Rejected (row.PairCount (length ps)), pair_count ranked passing other)
     go (inl ranked) (inl passing) (inl right) =
         let (set, whole) = whole_set ps in
-        elim (proved_or_fault limits d ps 0 (set ∷ []) lines apart counted) [
+        elim (proved_or_fault limits d ps 0 (set ∷ []) lines made counted) [
           | inl (nodes, say, proves, small) ↦
               inl (
                 record {
@@ -401,7 +509,7 @@ valid_or_claim_fault limits d ps t steps at puts (inr (f, first)) = inr (check.R
 pub valid_or_faulty : (d : SystemData) (ps : List PairData) (c : Cert) → IsWellMadeSystem d → IsCert c
     → IsValidCert d ps c ⊎ HasFault without_limits d ps c
 valid_or_faulty d ps (yes version ranks pairs lines) made cert =
-    elim (valid_or_yes_fault without_limits d ps ranks pairs lines made.fun_names_distinct cert.parts.4) [
+    elim (valid_or_yes_fault without_limits d ps ranks pairs lines made cert.parts.5) [
       | inl (valid, small) ↦ inl valid
       | inr fault ↦ inr fault
     ]
@@ -411,7 +519,7 @@ valid_or_faulty d ps (no t steps at puts) made cert =
 pub accepted_or_faulty : (d : SystemData) (ps : List PairData) (c : Cert) → IsWellMadeSystem d → IsCert c
     → (IsValidCert d ps c × IsSmallCert d ps c) ⊎ HasFault with_limits d ps c
 accepted_or_faulty d ps (yes version ranks pairs lines) made cert =
-    valid_or_yes_fault with_limits d ps ranks pairs lines made.fun_names_distinct cert.parts.4
+    valid_or_yes_fault with_limits d ps ranks pairs lines made cert.parts.5
 accepted_or_faulty d ps (no t steps at puts) made cert =
     elim (valid_or_claim_fault with_limits d ps t steps at puts (claim_or_fault d t steps at puts made.rules)) [
       | inl valid ↦ inl (valid, tt)

@@ -13,6 +13,11 @@ use Rattle.wh_subterm.specs.declared.projection.SubtermFault.TheVariants as proj
 use Rattle.wh_cert.specs.Written as w
 use Rattle.wh_cert.specs.Written.{Cert, yes, no}
 use Rattle.wh_cert.specs.Interps.{Interp}
+use Rattle.wh_inference.specs.Inferences.{Inference}
+use Rattle.wh_ordering.specs.Filterings.{FilteringData}
+use Rattle.wh_orienting.specs.OrderingFaults.{IsFirstOrderingFault}
+use Rattle.wh_orienting.specs.declared.fault.OrderingFault.{OrderingFault}
+use Rattle.wh_orienting.specs.declared.fault.OrderingFault.TheVariants as ordered
 use Rattle.wh_no.specs.Faults as claims
 use Rattle.wh_no.specs.declared.fault.NoFault.{NoFault}
 use Rattle.wh_no.specs.declared.fault.NoFault.TheVariants as refuted
@@ -29,7 +34,7 @@ use Rattle.wh_covering.specs.declared.fault.CoveringFault.{CoveringFault}
 use Rattle.wh_covering.specs.declared.fault.CoveringFault.TheVariants as covered
 use Rattle.wh_covering.specs.declared.fault.LineFault.TheVariants as line
 use Rattle.wh_proof.specs.Nodes.{Node, Leaves}
-use Rattle.wh_proof.specs.Looked.{SayChoices, SayReadings, SaysNode, moves_of}
+use Rattle.wh_proof.specs.Looked.{SayChoices, SayReadings, SayFilterings, SaysNode, moves_of, inferences_of}
 use Rattle.wh_proof.specs.Small.{IsSmallNode}
 use Rattle.wh_pairs.specs.Sets.{IsWhole}
 use Rattle.wh_checker.specs.declared.rejected.NodeFault.{NodeFault}
@@ -49,6 +54,10 @@ IsSubtermFault d ps set lines drop f = (args : List Chosen) × SayChoices d line
 abbrev pub SayCovering : SystemData → List PairData → List ℕ → List Interp → List Interp → ReadingsData → Type 0
 SayCovering d ps set funs lines R = SayReadings d funs lines R × AreMarked ps set (map (λ m. m.symbol) R.marks)
 
+-- the lines of a node of a path order say these filters, of all symbols and of the marked symbols of the set
+abbrev pub SayOrdering : SystemData → List PairData → List ℕ → List w.Filtering → List w.Filtering → FilteringData → Type 0
+SayOrdering d ps set funs lines D = SayFilterings d funs lines D × AreMarked ps set (map (λ m. m.symbol) D.marks)
+
 -- the first thing wrong with a node on a set of pairs, by the kinds of nodes; with limits it is also one that a value exceeds them in
 -- the evaluation of a side (ours)
 abbrev pub IsNodeFault : Limits → SystemData → List PairData → List ℕ → w.Node → NodeFault → Type 0
@@ -62,6 +71,11 @@ IsNodeFault limits d ps set (w.interpretations funs lines rules pairs drop) faul
 IsNodeFault limits d ps set (w.interpretations funs lines rules pairs drop) (fault.Poly f) =
     (R : ReadingsData) × SayCovering d ps set funs lines R
     × IsFirstCoveringFault limits (whole_task d.symbols d.rules ps set) R (moves_of rules pairs drop) f
+IsNodeFault limits d ps set (w.order funs lines rules pairs drop) fault.BadSymbols =
+    (D : FilteringData) → SayOrdering d ps set funs lines D → ⊥
+IsNodeFault limits d ps set (w.order funs lines rules pairs drop) (fault.Order f) =
+    (D : FilteringData) × SayOrdering d ps set funs lines D
+    × IsFirstOrderingFault (whole_task d.symbols d.rules ps set) D (inferences_of rules pairs drop) f
 IsNodeFault limits d ps set _ _ = ⊥
 
 -- of the nodes that these lines say, in preorder, the one with that number, counted from the number of the first, is the first
@@ -105,6 +119,17 @@ at_covering k (covered.Rule r (line.Cover f)) = check.Rejected (at_rule k r f)
 at_covering k (covered.Pair a (line.Exceeds e)) = in_excess k e
 at_covering k (covered.Pair a (line.Cover f)) = check.Rejected (at_pair k a f)
 
+-- what a fault of a node of a path order is called
+abbrev pub at_ordering : ℕ → OrderingFault → Rejected
+at_ordering k (ordered.BadFilter f marked) = row.BadFilter k f marked
+at_ordering k ordered.BadLines = row.BadLines k
+at_ordering k ordered.BadDrop = row.BadDrop k
+at_ordering k (ordered.WideRule r) = row.TooWideRule k r
+at_ordering k (ordered.WidePair a) = row.TooWidePair k a
+at_ordering k (ordered.BadRule r e) = row.BadInferenceRule k r e
+at_ordering k (ordered.BadPair a e) = row.BadInferencePair k a e
+at_ordering k (ordered.NotStrict a) = row.NotStrict k a
+
 -- what a node's fault is called, with the number of the node
 abbrev pub at_node : ℕ → NodeFault → CheckFault
 at_node k fault.NotEmpty = check.Rejected (row.NotEmpty k)
@@ -120,6 +145,7 @@ at_node k (fault.Subterm projected.BadDrop) = check.Rejected (row.BadDrop k)
 at_node k (fault.Subterm (projected.NotDecreasing a)) = check.Rejected (row.NotDecreasing k a)
 at_node k fault.BadSymbols = check.Rejected (row.BadSymbols k)
 at_node k (fault.Poly f) = at_covering k f
+at_node k (fault.Order f) = check.Rejected (at_ordering k f)
 
 -- what a false condition of a NO certificate is called
 abbrev pub of_claim : NoFault → Rejected

@@ -18,4 +18,5 @@ NamesAreThere d (row.Inaccessible r z) = HasMeta d r z
 NamesAreThere d (row.NoProjection k f) = HasSymbol d f
 NamesAreThere d (row.BadArgument k f) = HasSymbol d f
 NamesAreThere d (row.BadPolynomial k f marked) = HasSymbol d f
+NamesAreThere d (row.BadFilter k f marked) = HasSymbol d f
 NamesAreThere d _ = Unit {0}

@@ -4,26 +4,29 @@ ghost use Rattle.std.specs.Prelude.{◌≡◌, ◌≢◌, [], ◌∷◌, ◌++�
 ghost use Rattle.wh_types.specs.Outcome.{IfBecause, MatchOr};
 ghost use Rattle.wh_pairs.specs.Views.{pairs_data};
 ghost use Rattle.wh_system.specs.SystemView.{system_data};
-ghost use Rattle.wh_cert.specs.Said.{said_arg, said_interp, said_node, said_poly};
+ghost use Rattle.wh_cert.specs.Said.{said_arg, said_filter, said_interp, said_node, said_order, said_poly};
 ghost use Rattle.wh_cert.specs.Written as w;
 ghost use Rattle.wh_polycheck.specs.ReadingsView.{readings_data};
 ghost use Rattle.wh_reduction.specs.TaskData.{CoversAll};
 ghost use Rattle.wh_reduction.specs.TaskView.{task_data};
 ghost use Rattle.wh_polycheck.specs.Covering.{HaveTypedSides, IsTypedTask};
 ghost use Rattle.wh_polycheck.specs.Small.{with_limits};
-ghost use Rattle.wh_checker.specs.Faults.{IsNodeFault, IsSubtermFault, SayCovering};
+ghost use Rattle.wh_ordering.specs.FilteringView.{filtering_data};
+ghost use Rattle.wh_checker.specs.Faults.{IsNodeFault, IsSubtermFault, SayCovering, SayOrdering};
 ghost use Rattle.wh_checker.specs.Walk.{IsReduced, IsSingle};
 ghost use Rattle.wh_proof.specs.GoesOn.{GoesOn};
 ghost use Rattle.wh_checker.specs.declared.rejected.NodeFault.TheVariants.{NotEmpty};
 
 use crate::rejected::NodeFault;
 use std::alloc::{AllocError, Global};
-use wh_cert::{Arg, Node, PolyNode};
+use wh_cert::{Arg, Node, OrderNode, PolyNode};
 use wh_covering::{Evidence, check_covering};
 use wh_graph::{check_blocks, may_follow};
+use wh_ordering::Filters;
+use wh_orienting::{Inferred, check_ordering};
 use wh_pairs::{Pair, PairList, PairSet, kept};
 use wh_polycheck::Readings;
-use wh_proof::{choices_of, marks_of_set, open_blocks, symbols_of};
+use wh_proof::{choices_of, filters_of_lines, marks_of_set, open_blocks, symbols_of};
 use wh_reduction::{Task, all_rules};
 use wh_subterm::{SubtermFault, check_projection};
 use wh_system::System;
@@ -66,6 +69,10 @@ pub fn check_node(
         }
         Node::Poly(node) => {
             stack.push(covered(alloc, system, pairs, set, node)?)?;
+            Ok(())
+        }
+        Node::Order(node) => {
+            stack.push(oriented(alloc, system, pairs, set, node)?)?;
             Ok(())
         }
     }
@@ -180,6 +187,64 @@ fn covered_by<'a, 'b>(
     match check_covering(alloc, task, readings, &evidence) {
         Ok(()) => Ok(kept(alloc, set, node.drop.as_slice())?),
         Err(Or::Because(fault)) => Err(Or::Because(NodeFault::Poly(fault))),
+        Err(Or::NoMemory) => Err(Or::NoMemory),
+    }
+}
+
+// What a node of a path order leaves of the set, if its conditions hold.
+fn oriented(
+    alloc: Global,
+    system: &System,
+    pairs: &PairList,
+    set: &PairSet,
+    node: &OrderNode,
+) -> Result<PairSet, Or<NodeFault>>
+    requires typed { HaveTypedSides (system_data system.now).symbols (system_data system.now).rules (pairs_data pairs.now) }
+    requires set { All (λ n. n < length pairs.now) set.now }
+    ensures { MatchOr result (λ rest. GoesOn (system_data system.now) (pairs_data pairs.now) set.now (said_order node.now) [] (rest ∷ []))
+        (IsNodeFault with_limits (system_data system.now) (pairs_data pairs.now) set.now (said_order node.now)) }
+{
+    let funs = node.funs.as_slice();
+    let marks = node.marks.as_slice();
+    let Some(filters) = filters_of_lines(alloc, system, pairs, set, funs, marks)? else {
+        return Err(Or::Because(NodeFault::BadSymbols));
+    };
+    let rules = all_rules(alloc, system)?;
+    let task = Task {
+        system,
+        pairs: pairs.as_slice(),
+        set: set.as_slice(),
+        covered: &rules,
+    };
+    oriented_by(alloc, &task, set, node, &filters)
+}
+
+// The same under the filters that its lines say, for a task of the set in which all rules are to be covered.
+fn oriented_by<'a>(
+    alloc: Global,
+    task: &Task<'a>,
+    set: &PairSet,
+    node: &OrderNode,
+    filters: &Filters,
+) -> Result<PairSet, Or<NodeFault>>
+    requires typed { IsTypedTask (task_data task.now) }
+    requires set { task.now.set.now ≡ set.now }
+    requires whole { CoversAll (task_data task.now) }
+    requires says { SayOrdering (system_data task.now.system.now) (pairs_data task.now.pairs.now) set.now (map said_filter node.now.funs)
+        (map said_filter node.now.marks) (filtering_data filters.now) }
+    ensures { MatchOr result (λ rest. GoesOn (system_data task.now.system.now) (pairs_data task.now.pairs.now) set.now
+        (said_order node.now) [] (rest ∷ [])) (IsNodeFault with_limits (system_data task.now.system.now) (pairs_data task.now.pairs.now)
+        set.now (said_order node.now)) }
+{
+    task.system.is_well_made();
+    let inferred = Inferred {
+        rules: node.rules.as_slice(),
+        pairs: node.pairs.as_slice(),
+        drop: node.drop.as_slice(),
+    };
+    match check_ordering(alloc, task, filters, &inferred) {
+        Ok(()) => Ok(kept(alloc, set, inferred.drop)?),
+        Err(Or::Because(fault)) => Err(Or::Because(NodeFault::Order(fault))),
         Err(Or::NoMemory) => Err(Or::NoMemory),
     }
 }

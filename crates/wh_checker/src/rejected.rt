@@ -1,7 +1,7 @@
 //! Why a certificate is refused.
 
 ghost use Rattle.std.specs.Prelude.{◌≡◌};
-ghost use Rattle.wh_checker.specs.Faults.{at_covering, at_node, at_pair, at_rule, in_excess, of_claim};
+ghost use Rattle.wh_checker.specs.Faults.{at_covering, at_node, at_ordering, at_pair, at_rule, in_excess, of_claim};
 ghost use Rattle.wh_checker.specs.declared.rejected.NodeFault.TheVariants.{Blocks, Subterm};
 ghost use Rattle.wh_covering.specs.declared.fault.CoveringFault.TheVariants.{Pair, Rule};
 
@@ -9,6 +9,7 @@ use wh_covering::{CoveringFault, LineFault};
 use wh_graph::BlockFault;
 use wh_hopoly::Excess;
 use wh_no::NoFault;
+use wh_orienting::OrderingFault;
 use wh_polycheck::CoverFault;
 use wh_subterm::SubtermFault;
 
@@ -28,10 +29,12 @@ pub enum NodeFault {
     Blocks(BlockFault),
     /// Of a node `subterm`.
     Subterm(SubtermFault),
-    /// The lines of a node `poly` are not for all symbols of the system and for the marked symbols of the set, in order.
+    /// The lines of a node `poly` or `order` are not for all symbols of the system and for the marked symbols of the set, in order.
     BadSymbols,
     /// What else is wrong with a node `poly`.
     Poly(CoveringFault),
+    /// What else is wrong with a node `order`.
+    Order(OrderingFault),
 }
 
 /// The first condition of a valid certificate that is false. Nodes are counted from 0, each before its children; so are rules,
@@ -150,7 +153,36 @@ pub enum Rejected {
         pair: u32,
         monomial: u32,
     },
-    /// This pair is dropped, and its left side has no constant, or the moves leave none of it.
+    /// The filter of this symbol, or of its marked symbol, is the first that is not proper.
+    BadFilter {
+        node: u32,
+        symbol: u32,
+        marked: bool,
+    },
+    /// A side of this rule has too many nodes once it has all its arguments.
+    TooWideRule {
+        node: u32,
+        rule: u32,
+    },
+    /// A side of this pair has too many nodes once it has all its arguments.
+    TooWidePair {
+        node: u32,
+        pair: u32,
+    },
+    /// This inference in the line of this rule, in preorder from 0, is the first that is bad.
+    BadInferenceRule {
+        node: u32,
+        rule: u32,
+        entry: u32,
+    },
+    /// This inference in the line of this pair, in preorder from 0, is the first that is bad.
+    BadInferencePair {
+        node: u32,
+        pair: u32,
+        entry: u32,
+    },
+    /// This pair is dropped, and its left side has no constant, or the moves leave none of it, or its inference is that of equal
+    /// trees.
     NotStrict {
         node: u32,
         pair: u32,
@@ -205,6 +237,7 @@ impl NodeFault {
             NodeFault::Subterm(fault) => in_subterm(node, fault),
             NodeFault::BadSymbols => CheckFault::Rejected(Rejected::BadSymbols { node }),
             NodeFault::Poly(fault) => at_covering(node, fault),
+            NodeFault::Order(fault) => CheckFault::Rejected(at_ordering(node, fault)),
         }
     }
 }
@@ -321,6 +354,26 @@ fn at_pair(node: u32, pair: u32, fault: CoverFault) -> Rejected
             monomial,
         },
         CoverFault::NotStrict => Rejected::NotStrict { node, pair },
+    }
+}
+
+// The fault of the node `order` of that number, whose names are looked up.
+fn at_ordering(node: u32, fault: OrderingFault) -> Rejected
+    ensures { result ≡ at_ordering node fault }
+{
+    match fault {
+        OrderingFault::BadFilter { symbol, marked } => Rejected::BadFilter {
+            node,
+            symbol,
+            marked,
+        },
+        OrderingFault::BadLines => Rejected::BadLines { node },
+        OrderingFault::BadDrop => Rejected::BadDrop { node },
+        OrderingFault::WideRule { rule } => Rejected::TooWideRule { node, rule },
+        OrderingFault::WidePair { pair } => Rejected::TooWidePair { node, pair },
+        OrderingFault::BadRule { rule, entry } => Rejected::BadInferenceRule { node, rule, entry },
+        OrderingFault::BadPair { pair, entry } => Rejected::BadInferencePair { node, pair, entry },
+        OrderingFault::NotStrict { pair } => Rejected::NotStrict { node, pair },
     }
 }
 

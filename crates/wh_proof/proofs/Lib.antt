@@ -1,5 +1,6 @@
 pub mod ChoiceLemmas
 pub mod InterpretationLemmas
+pub mod FilterLemmas
 pub mod SomeSets
 pub mod WrittenLemmas
 pub mod BlockLemmas

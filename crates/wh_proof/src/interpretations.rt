@@ -1,7 +1,7 @@
 //! What the lines `fun` and `mark` of a node say: interpretations of all symbols, and of the marked symbols of a set. The names in
 //! them are compared in order, and the polynomials copied.
 
-ghost use Rattle.std.specs.Prelude.{◌≡◌, ◌↔◌, ◌<◌, All, IfOk, IsTrue, List, MatchOption, Some, length, map, slice_get};
+ghost use Rattle.std.specs.Prelude.{◌≡◌, ◌<◌, All, IfOk, List, MatchOption, length, map};
 ghost use Rattle.wh_types.specs.Erase.{ty, tys};
 ghost use Rattle.wh_pairs.specs.Views.{pairs_data};
 ghost use Rattle.wh_system.specs.SystemView.{system_data};
@@ -13,13 +13,13 @@ ghost use Rattle.wh_polycheck.specs.Marks.{Mark};
 ghost use Rattle.wh_polycheck.specs.SideResults.{marks_of};
 ghost use Rattle.wh_proof.specs.Looked.{SayInterpretations, SayMarks};
 
+use crate::named::{name_all, name_these};
 use std::alloc::{AllocError, Global};
 use wh_cert::Interp;
 use wh_hopoly::{Symbol, copy};
 use wh_pairs::{PairList, PairSet, marked_symbols};
 use wh_polycheck::MarkedSymbol;
 use wh_system::System;
-use wh_text::Name;
 use wh_types::SimpleType;
 
 /// The interpretations of all symbols that the lines say, each of its symbol's type; `None` where they say none.
@@ -62,50 +62,6 @@ pub fn marks_of_set(
         return Ok(None);
     }
     Ok(Some(read_marks(alloc, &numbers, lines)?))
-}
-
-// Whether the lines have these names, in order.
-fn name_all(names: &[Name], lines: &[Interp]) -> bool
-    ensures { IsTrue result ↔ (map (λ line. line.name) lines.now ≡ names.now) }
-{
-    if lines.len() != names.len() {
-        return false;
-    }
-    for i in 0..lines.len() {
-        if !same_name(&lines[i].name, &names[i]) {
-            return false;
-        }
-    }
-    true
-}
-
-// Whether the lines have the names of the symbols with these numbers, in order.
-fn name_these(names: &[Name], numbers: &[u32], lines: &[Interp]) -> bool
-    ensures { IsTrue result ↔ (map (λ n. slice_get names.now n) numbers.now ≡ map (λ line. Some line.name) lines.now) }
-{
-    if lines.len() != numbers.len() {
-        return false;
-    }
-    for i in 0..lines.len() {
-        if !is_name_of(names, numbers[i], &lines[i].name) {
-            return false;
-        }
-    }
-    true
-}
-
-// Whether the symbol with the number has the name.
-fn is_name_of(names: &[Name], number: u32, name: &Name) -> bool
-    ensures { IsTrue result ↔ (slice_get names.now number ≡ Some name.now) }
-{
-    (number as usize) < names.len() && same_name(&names[number as usize], name)
-}
-
-// Whether two names are equal.
-fn same_name(a: &Name, b: &Name) -> bool
-    ensures { IsTrue result ↔ (a.now ≡ b.now) }
-{
-    a.bytes() == b.bytes()
 }
 
 // Symbols of these types, read as the lines say.

@@ -5,12 +5,15 @@
 
 mod blocks;
 mod choices;
+mod filters;
 mod interpretations;
 mod laws;
+mod named;
 mod written;
 
 pub use blocks::open_blocks;
 pub use choices::choices_of;
+pub use filters::filters_of_lines;
 pub use interpretations::{marks_of_set, symbols_of};
 pub use laws::lines_say_one_node;
 pub use written::{lines_of_choices, lines_of_marks, lines_of_symbols};

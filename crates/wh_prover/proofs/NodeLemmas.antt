@@ -168,6 +168,7 @@ interpretation_searched d ps set w.done is = tt
 interpretation_searched d ps set w.alone is = tt
 interpretation_searched d ps set (w.blocks parts) is = tt
 interpretation_searched d ps set (w.subterm lines drop) is = tt
+interpretation_searched d ps set (w.order funs marks rules pairs drop) is = absurd is.says
 
 pub adds_interpretation : (d : SystemData) (ps : List PairData) (set rest : List ℕ) (line : w.Node) (sets after : List (List ℕ)) (lines longer : List w.Node)
     → Ended d ps set → HasNoProjection d.rules ps set → (is : IsInterpretation d ps set line) → IsSetOf (IsKept set is.evidence.drop) rest → after ≡ rest ∷ sets
@@ -200,6 +201,7 @@ dropped_by_interpretation d ps set w.done is = absurd is.says
 dropped_by_interpretation d ps set w.alone is = absurd is.says
 dropped_by_interpretation d ps set (w.blocks parts) is = absurd is.says
 dropped_by_interpretation d ps set (w.subterm lines drop) is = absurd is.says
+dropped_by_interpretation d ps set (w.order funs marks rules pairs drop) is = absurd is.says
 
 -- whether a list is empty, as a test tells it
 

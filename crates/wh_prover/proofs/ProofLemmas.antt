@@ -1,14 +1,16 @@
 -- A tree of nodes for the set of all pairs, with ranks, is a proof.
 use Rattle.std.proofs.Common.{◌≡◌, inl, inr, ℕ, ◌≤◌, List, [], ◌∷◌, length, All, refl, arith}
+use Rattle.std.proofs.lemmas.List.Elements.{All-weaker}
 use Rattle.wh_system.specs.Systems.{SystemData}
 use Rattle.wh_system.specs.WellMade.{IsWellMadeSystem}
 use Rattle.wh_pairs.specs.PairData.{PairData}
 use Rattle.wh_access.specs.Passing.{IsPassing}
 use Rattle.wh_pairs.specs.SystemPairs.{HasPairs}
 use Rattle.wh_cert.specs.Written as w
-use Rattle.wh_cert.specs.Limits.{IsCert}
+use Rattle.wh_cert.specs.Limits.{IsCert, IsOfVersion}
 use Rattle.wh_pairs.specs.Sets.{IsWhole}
 use Rattle.wh_prover.specs.Answers.{IsProof, IsReason, IsFull, HasNoLoops, HasNoProof, HasRanks}
+use Rattle.wh_prover.specs.Searched.{IsSearched}
 use Rattle.wh_prover.specs.Walk.{weigh, IsTree, IsEnd}
 use Rattle.wh_find_loop.specs.Answers.{Arrival}
 use Rattle.wh_prover.specs.declared.answer.Options.{Options}
@@ -21,6 +23,15 @@ weigh_low : (set : List ℕ) → length set ≤ 4096 → weigh set ≤ 12287
 weigh_low [] few = omega arith
 weigh_low (n ∷ ns) few = omega (arith, few)
 
+-- a node of the search is one of the first version
+searched_first : (d : SystemData) (line : w.Node) → IsSearched d line → IsOfVersion 1 line
+searched_first d (w.interpretations funs marks rules pairs drop) searched = refl
+searched_first d (w.order funs marks rules pairs drop) searched = absurd searched
+searched_first d w.done searched = tt
+searched_first d w.alone searched = tt
+searched_first d (w.blocks parts) searched = tt
+searched_first d (w.subterm lines drop) searched = tt
+
 tree_fits : (d : SystemData) (ps : List PairData) (ranks : List ℕ) (count : ℕ) (set : List ℕ) (lines : List w.Node) → IsWellMadeSystem d
     → HasPairs d ps → length ranks ≡ d.symbols.sorts → All (λ r. r ≤ 65535) ranks → count ≡ length ps → IsWhole ps set
     → IsTree d ps set lines → IsCert (w.yes 1 ranks count lines)
@@ -28,7 +39,14 @@ tree_fits d ps ranks count set lines made pairs each low right whole tree =
     let few = few_below set (length ps) (apart_increasing set whole.increasing) (λ n found. (whole.each n).0 found) in
     let nodes = weigh_low set (omega (arith, few, pairs.few)) in
     record {
-      parts = (refl, low, omega (arith, right, pairs.few), tree.fit, tree.counted);
+      parts = (
+        inl refl,
+        low,
+        omega (arith, right, pairs.few),
+        tree.fit,
+        All-weaker (IsSearched d) (IsOfVersion 1) (searched_first d) lines tree.searched,
+        tree.counted,
+      );
       counts = (omega (arith, each, made.sorts_within), omega (arith, nodes, tree.few), tree.within);
     }
 
@@ -38,7 +56,7 @@ pub proof_of_tree : (d : SystemData) (ps : List PairData) (ranks : List ℕ) (co
 proof_of_tree d ps ranks count set lines made pairs passing each low right whole tree =
     let (nodes, says, proves, small) = tree.proved in
     record {
-      yes = tt;
+      yes = refl;
       fits = tree_fits d ps ranks count set lines made pairs each low right whole tree;
       valid = record { rank_count = each; passing = passing; pair_count = right; set = set; whole = whole; nodes = nodes; says = says; proves = proves };
       small = record { set = set; whole = whole; nodes = nodes; says = says; small = small };

@@ -9,7 +9,7 @@ use Rattle.wh_cert.specs.Written.{children, Preorder}
 use Rattle.wh_cert.specs.Limits.{NodeFits, NodeWithin}
 use Rattle.wh_cert.specs.Said.{said_node}
 use Rattle.wh_cert.specs.declared.certificate.Node as code
-use Rattle.wh_proof.specs.Nodes.{Node, done, alone, blocks, subterm, poly, AreSetsOf, no_sets, more_sets, Leaves, by_done, by_alone, by_blocks, by_subterm, by_poly}
+use Rattle.wh_proof.specs.Nodes.{Node, done, alone, blocks, subterm, poly, order, AreSetsOf, no_sets, more_sets, Leaves, by_done, by_alone, by_blocks, by_subterm, by_poly, by_order}
 use Rattle.wh_proof.specs.Proves.{Proves, all_proved, one_proved}
 use Rattle.wh_proof.specs.Looked.{SaysNode}
 use Rattle.wh_proof.specs.Small.{AreSmall, all_small, one_small}
@@ -34,26 +34,37 @@ leaves_count d ps set w.alone alone left says (by_alone free) = refl
 leaves_count d ps set (w.blocks listed) (blocks parts) left says (by_blocks are sets) = sets_count parts left sets ∙ ap length (sym says)
 leaves_count d ps set (w.subterm lines listed) (subterm args drop) left says (by_subterm is rest) = refl
 leaves_count d ps set (w.interpretations funs marks rules pairs listed) (poly covered R E) left says (by_poly is all rest) = refl
+leaves_count d ps set (w.order funs marks rules pairs listed) (order D E) left says (by_order is rest) = refl
 leaves_count d ps set w.done alone left says leaves = absurd says
 leaves_count d ps set w.done (blocks parts) left says leaves = absurd says
 leaves_count d ps set w.done (subterm args drop) left says leaves = absurd says
 leaves_count d ps set w.done (poly covered R E) left says leaves = absurd says
+leaves_count d ps set w.done (order D E) left says leaves = absurd says
 leaves_count d ps set w.alone done left says leaves = absurd says
 leaves_count d ps set w.alone (blocks parts) left says leaves = absurd says
 leaves_count d ps set w.alone (subterm args drop) left says leaves = absurd says
 leaves_count d ps set w.alone (poly covered R E) left says leaves = absurd says
+leaves_count d ps set w.alone (order D E) left says leaves = absurd says
 leaves_count d ps set (w.blocks listed) done left says leaves = absurd says
 leaves_count d ps set (w.blocks listed) alone left says leaves = absurd says
 leaves_count d ps set (w.blocks listed) (subterm args drop) left says leaves = absurd says
 leaves_count d ps set (w.blocks listed) (poly covered R E) left says leaves = absurd says
+leaves_count d ps set (w.blocks listed) (order D E) left says leaves = absurd says
 leaves_count d ps set (w.subterm lines listed) done left says leaves = absurd says
 leaves_count d ps set (w.subterm lines listed) alone left says leaves = absurd says
 leaves_count d ps set (w.subterm lines listed) (blocks parts) left says leaves = absurd says
 leaves_count d ps set (w.subterm lines listed) (poly covered R E) left says leaves = absurd says
+leaves_count d ps set (w.subterm lines listed) (order D E) left says leaves = absurd says
 leaves_count d ps set (w.interpretations funs marks rules pairs listed) done left says leaves = absurd says
 leaves_count d ps set (w.interpretations funs marks rules pairs listed) alone left says leaves = absurd says
 leaves_count d ps set (w.interpretations funs marks rules pairs listed) (blocks parts) left says leaves = absurd says
 leaves_count d ps set (w.interpretations funs marks rules pairs listed) (subterm args drop) left says leaves = absurd says
+leaves_count d ps set (w.interpretations funs marks rules pairs listed) (order D E) left says leaves = absurd says
+leaves_count d ps set (w.order funs marks rules pairs listed) done left says leaves = absurd says
+leaves_count d ps set (w.order funs marks rules pairs listed) alone left says leaves = absurd says
+leaves_count d ps set (w.order funs marks rules pairs listed) (blocks parts) left says leaves = absurd says
+leaves_count d ps set (w.order funs marks rules pairs listed) (subterm args drop) left says leaves = absurd says
+leaves_count d ps set (w.order funs marks rules pairs listed) (poly covered R E) left says leaves = absurd says
 
 -- lists of lines with one more
 

@@ -25,9 +25,9 @@ use Rattle.wh_prover.specs.declared.answer.Cause.{Cause}
 use Rattle.wh_prover.specs.declared.answer.Cause.TheVariants.{NoRanks, Stuck, Spent, Full}
 use Rattle.wh_prover.specs.declared.answer.Finder.TheVariants.{Subterm, Poly}
 
--- a certificate of termination
+-- a certificate of termination, of the first version
 abbrev pub IsYes : Cert → Type 0
-IsYes (yes version ranks pairs lines) = Unit {0}
+IsYes (yes version ranks pairs lines) = version ≡ 1
 IsYes (no t steps at puts) = ⊥
 
 -- each of its nodes of interpretations is of the space that is searched

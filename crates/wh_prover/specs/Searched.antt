@@ -21,7 +21,8 @@ pub record AreSearched (d : SystemData) (funs marks : List Interp) (rules pairs 
   pub rules_apart : All AreApart (map transfers rules)
   pub pairs_apart : All AreApart (map transfers pairs)
 
--- so it is of a node of interpretations; of any other nothing is asked
+-- so it is of a node of interpretations; the search gives none of a path order; of any other nothing is asked
 abbrev pub IsSearched : SystemData → w.Node → Type 0
 IsSearched d (w.interpretations funs marks rules pairs drop) = AreSearched d funs marks rules pairs
+IsSearched d (w.order funs marks rules pairs drop) = ⊥
 IsSearched d _ = Unit {0}

@@ -50,6 +50,7 @@ SaysProjection d line args drop = (lines : List w.Arg) × (line ≡ w.subterm li
 abbrev pub dropped_by : w.Node → List ℕ
 dropped_by (w.subterm lines drop) = drop
 dropped_by (w.interpretations funs marks rules pairs drop) = drop
+dropped_by (w.order funs marks rules pairs drop) = drop
 dropped_by _ = []
 
 -- a node for the set joins the lines: its conditions hold, what it leaves comes before the other sets, and its lines are within

@@ -143,6 +143,7 @@ fn dropped_by(node: &Node) -> &[u32]
     match node {
         Node::Subterm { drop, .. } => drop.as_slice(),
         Node::Poly(poly) => poly.drop.as_slice(),
+        Node::Order(order) => order.drop.as_slice(),
         Node::Done | Node::Alone | Node::Blocks(_) => &[],
     }
 }

@@ -11,6 +11,8 @@ mod fault_rows;
 #[cfg(test)]
 mod input_rows;
 #[cfg(test)]
+mod order_rows;
+#[cfg(test)]
 mod poly_rows;
 #[cfg(test)]
 mod prove_rows;

@@ -189,7 +189,7 @@ const TWICE_ROWS: &[(&str, &str, &str, &[u8])] = &[
 ];
 
 /// Whether a check of the certificate with the one text in the place of the other writes this.
-fn checks_changed(
+pub fn checks_changed(
     alloc: Global,
     system: &[u8],
     certificate: &[u8],
@@ -206,7 +206,7 @@ fn checks_changed(
 }
 
 /// Whether a check of the certificate writes the text, and ends with its status.
-fn check_writes(
+pub fn check_writes(
     alloc: Global,
     system: &[u8],
     certificate: &[u8],
@@ -373,7 +373,7 @@ fn multiplies_values(rt: HostRuntime) -> Result<(), Fail> {
 }
 
 /// A front, a piece so many times, and an end.
-fn repeated(
+pub fn repeated(
     alloc: Global,
     front: &[u8],
     piece: &[u8],

@@ -81,6 +81,10 @@ pub const MAP_CERTIFICATE: &[u8] =
 pub const MAP_VALUES_CERTIFICATE: &[u8] =
     b"YES 1\nranks 0 0\npairs 1\npoly\nfun zero 0\nfun s 1*y0\nfun nil 0\nfun cons 1+1*y0+1*y1\nfun map 1*y0(1*y1)*y1+1*y1\nmark map 1*y1\nrule\nrule 0>0:1 1>1:1 3>2:1 5>3:1\npair 2>0:1\ndrop 0\ndone\nend\n";
 
+/// A certificate of termination for `MAP` by a path order, in which `map` is above `cons`.
+pub const MAP_ORDER_CERTIFICATE: &[u8] =
+    b"YES 2\nranks 0 0\npairs 1\norder\nfun zero keep 0\nfun s keep 0 1\nfun nil keep 0\nfun cons keep 1 1 2\nfun map keep 2 1 2\nmark map keep 0 2\nrule s2(=)\nrule p(z1(s2(s1(=))),x2(s2(=),s1(=),s2(s2(=))))\npair x1(s2(=),s1(s2(=)))\ndrop 0\ndone\nend\n";
+
 /// A certificate of termination for `IDENTITY`: the call of `t` gets smaller by an interpretation.
 pub const IDENTITY_CERTIFICATE: &[u8] =
     b"YES 1\nranks 0\npairs 2\nblocks 2\nblock 0\nblock 1\npoly\nfun s 1+1*y0\nfun i 1*y0\nfun t 0\nmark t 1*y0\nrule 0>0:1\nrule\npair 1>0:1\ndrop 0\ndone\nalone\nend\n";

@@ -1,0 +1,10 @@
+use Rattle.std.proofs.Common.{◌∙◌}
+use Rattle.wh_system.specs.SystemView.{system_data}
+use Rattle.wh_checker.proofs.GoLemmas.{typed_task}
+use Rattle.wh_checker.proofs.node.oriented.Goals as goal
+
+pub oriented_by-requires-clause-typed : goal.oriented_by-requires-clause-typed
+oriented_by-requires-clause-typed c =
+    typed_task (system_data c.args.system.now) c.args.pairs.now c.as_slice.result.now c.args.set.now c.as_slice-2.result.now
+    c.deref.result.now c.as_slice.ensures c.as_slice-2.ensures.numbers (c.deref.ensures.value ∙ c.in_ok-rules.ensures) c.requires.set
+    c.as_slice-2.ensures.increasing c.requires.typed

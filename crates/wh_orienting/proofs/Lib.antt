@@ -1,0 +1,4 @@
+mod Proper
+mod OrderingWalk
+pub mod Orderings
+pub mod OneOrdering

@@ -1,5 +1,0 @@
-use Rattle.std.proofs.Common.{◌≡◌, ℕ, List, map, take}
-use Rattle.wh_proof.proofs.interpretations.name_all.Given as goal
-
-abbrev pub invariant-loop-i : goal.invariant-loop-i
-invariant-loop-i l = map (λ line. line.name) (take l.i l.lines) ≡ map (λ (name : List ℕ). name) (take l.i l.names)

@@ -1,5 +1,0 @@
-use Rattle.std.proofs.Common.{◌≡◌, Some, map, take, slice_get}
-use Rattle.wh_proof.proofs.interpretations.name_these.Given as goal
-
-abbrev pub invariant-loop-i : goal.invariant-loop-i
-invariant-loop-i l = map (λ n. slice_get l.names n) (take l.i l.numbers) ≡ map (λ line. Some line.name) (take l.i l.lines)
