@@ -6,7 +6,8 @@ use Rattle.wh_terms.specs.Rules.{RewriteRule}
 use Rattle.wh_system.specs.CanonicalView.{side_of}
 use Rattle.wh_pairs.specs.PairData.{PairData}
 use Rattle.wh_polycheck.specs.Marks.{marked_types, head_of_side}
-use Rattle.wh_inference.specs.Inferences.{Inference}
+use Rattle.wh_inference.specs.declared.inference.Inference.{Inference}
+use Rattle.wh_inference.specs.Said.{inference}
 use Rattle.wh_extended.specs.ExtendedSides.{extended_metas, extended_side, extended_call}
 use Rattle.wh_extended.specs.Filtered.{collapsed}
 use Rattle.wh_path_order.specs.Lines.{filtered_side, filtered_call}
@@ -55,7 +56,7 @@ pub record AreSides (S : Symbols) (rules : List RewriteRule) (D : FilteringData)
   pub left : IsOver (length S.funs) (filtered_signature S rules D) M s
   pub right : IsOver (length S.funs) (filtered_signature S rules D) M t
 
--- the number of the first bad inference of a line for two trees
+-- the number of the first bad one in a line of inferences for two trees, or None where all are good
 abbrev pub tree_verdict : Symbols → List RewriteRule → FilteringData → List Declared → Tree → Tree → Inference → Option ℕ
 tree_verdict S rules D M s t i =
-    line_verdict (filtered_signature S rules D) (precedences_of S D) M (tree (length S.funs) s) (tree (length S.funs) t) i
+    line_verdict (filtered_signature S rules D) (precedences_of S D) M (tree (length S.funs) s) (tree (length S.funs) t) (inference i)

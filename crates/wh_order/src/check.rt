@@ -4,7 +4,6 @@ ghost use Rattle.std.specs.Prelude.{◌≡◌, List, None, Some};
 ghost use Rattle.wh_types.specs.Outcome.{MatchOr};
 ghost use Rattle.wh_terms.specs.Rules.{RewriteRule};
 ghost use Rattle.wh_terms.specs.Typing.{Declared, Symbols};
-ghost use Rattle.wh_inference.specs.Said.{inference};
 ghost use Rattle.wh_ordering.specs.FilteringView.{filtering_data};
 ghost use Rattle.wh_order.specs.TreeSides.{AreSides, tree_verdict};
 
@@ -35,9 +34,9 @@ pub fn check_inference(
 ) -> Result<(), Or<BadInference>>
     ensures { MatchOr result
         (λ _. (S : Symbols) (rules : List RewriteRule) (M : List Declared) → AreSides S rules (filtering_data filters.now) M left.now right.now
-        → tree_verdict S rules (filtering_data filters.now) M left.now right.now (inference inference.now) ≡ None)
+        → tree_verdict S rules (filtering_data filters.now) M left.now right.now inference.now ≡ None)
         (λ e. (S : Symbols) (rules : List RewriteRule) (M : List Declared) → AreSides S rules (filtering_data filters.now) M left.now right.now
-        → tree_verdict S rules (filtering_data filters.now) M left.now right.now (inference inference.now) ≡ Some e.at) }
+        → tree_verdict S rules (filtering_data filters.now) M left.now right.now inference.now ≡ Some e.at) }
 {
     Err(Or::NoMemory)
 }

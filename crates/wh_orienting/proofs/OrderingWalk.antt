@@ -1,15 +1,15 @@
 -- What all lines of a node of a path order say together.
-use Rattle.std.proofs.Common.{◌≡◌, ◌↔◌, ℕ, Bool, true, false, List, Some, slice_get, Contains, arith}
+use Rattle.std.proofs.Common.{◌↔◌, ℕ, List, Contains, arith}
 use Rattle.std.proofs.lemmas.Option.{slice_get_within}
 use Rattle.wh_pairs.proofs.ByPlace.{place_of}
 use Rattle.wh_reduction.specs.TaskData.{TaskData}
-use Rattle.wh_reduction.specs.ReductionPair.{Evidence, Showing, IsRightRule, IsRightPair}
+use Rattle.wh_reduction.specs.ReductionPair.{Evidence, IsRightPair}
 use Rattle.wh_reduction.proofs.Lines.{dropped_or_not, all_right, first_pair_same}
 use Rattle.wh_inference.specs.Inferences.{Inference}
 use Rattle.wh_covering.proofs.Walks.{some_at}
 use Rattle.wh_ordering.specs.Filterings.{FilteringData, AreFiltersFor}
 use Rattle.wh_ordering.specs.Ordering.{AreNarrow, by_inferences, IsOrdering}
-use Rattle.wh_orienting.specs.OrderingFaults.{AreNarrowRules, AreNarrowPairs, AreGoodRules, AreGoodPairs, AreStrictPairs, IsPrepared, strict_lines, weak_lines}
+use Rattle.wh_orienting.specs.OrderingFaults.{AreNarrowRules, AreNarrowPairs, AreGoodRules, AreGoodPairs, AreStrictPairs, IsPrepared, IsFirstOrderingFault, strict_lines, weak_lines}
 use Rattle.wh_orienting.specs.Found.{IsWeakPairOf}
 use Rattle.wh_orienting.specs.declared.fault.OrderingFault.{OrderingFault}
 use Rattle.wh_orienting.specs.declared.fault.OrderingFault.TheVariants.{BadFilter, BadLines, BadDrop, WideRule, WidePair, BadRule, BadPair, NotStrict}
@@ -44,6 +44,18 @@ module _ (T : TaskData) (D : FilteringData) (E : Evidence Inference) where
     narrow = narrow_holds ready narrow_rules narrow_pairs;
     lines = all_right (by_inferences T.symbols T.rules D) T E ready.counted rules (both_pairs pairs strict);
   }
+
+  -- a dropped pair that does not shrink is what is wrong first where nothing else is
+  pub weak_first : IsPrepared T D E → AreNarrowRules T D E → AreNarrowPairs T D E → AreGoodRules T D E → AreGoodPairs T D E
+      → (f : OrderingFault) → IsWeakPairOf T E.of_pairs E.drop f → IsFirstOrderingFault T D E f
+  weak_first ready narrow narrow_too rules pairs (BadFilter f marked) h = absurd h
+  weak_first ready narrow narrow_too rules pairs BadLines h = absurd h
+  weak_first ready narrow narrow_too rules pairs BadDrop h = absurd h
+  weak_first ready narrow narrow_too rules pairs (WideRule r) h = absurd h
+  weak_first ready narrow narrow_too rules pairs (WidePair n) h = absurd h
+  weak_first ready narrow narrow_too rules pairs (BadRule r e) h = absurd h
+  weak_first ready narrow narrow_too rules pairs (BadPair n e) h = absurd h
+  weak_first ready narrow narrow_too rules pairs (NotStrict n) h = (ready, narrow, narrow_too, rules, pairs, h)
 
 -- the fault is the first for another list of the same dropped pairs
 pub weak_same : (T : TaskData) (lines : List Inference) (ns ms : List ℕ) → ((n : ℕ) → Contains ns n ↔ Contains ms n) → (f : OrderingFault)

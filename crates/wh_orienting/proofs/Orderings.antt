@@ -1,9 +1,8 @@
 -- The conditions of a node of a path order on a set of pairs hold, or there is a first thing wrong with them, and one only.
-use Rattle.std.proofs.Common.{◌≡◌, ◌⊎◌, ℕ, ◌<◌, ◌≤◌, inl, inr, Bool, true, false, List, length, Option, Some, None, slice_get, refl, sym, ap, subst, arith}
+use Rattle.std.proofs.Common.{◌≡◌, ◌⊎◌, ℕ, inl, inr, Bool, true, false, length, Option, Some, None, slice_get, refl, subst}
 use Rattle.std.proofs.lemmas.Option.{slice_get_within}
 use Rattle.wh_types.specs.Limits.{greatest_size}
 use Rattle.wh_types.specs.Ty.{Ty, arguments}
-use Rattle.wh_terms.specs.Measures.{size}
 use Rattle.wh_terms.specs.Rules.{RewriteRule}
 use Rattle.wh_system.proofs.TypedDecided.{Decided, both_decided}
 use Rattle.wh_pairs.specs.PairData.{PairData}
@@ -14,17 +13,15 @@ use Rattle.wh_reduction.specs.TaskData.{TaskData}
 use Rattle.wh_reduction.specs.ReductionPair.{Evidence}
 use Rattle.wh_reduction.specs.FirstFault.{AreBadLines, AreCounted}
 use Rattle.wh_reduction.proofs.Lines.{all_or_first, rules_or_first, pairs_or_first, counted_or_not}
-use Rattle.wh_inference.specs.Inferences.{Inference, Letter, infer, same_trees, bodies, arguments as by_arguments, part, lower, first_less, spine_parts, body, variable, meta_part, letter_of}
+use Rattle.wh_inference.specs.Inferences.{Inference, Letter, same_trees, bodies, arguments as by_arguments, part, lower, first_less, spine_parts, body, variable, meta_part, letter_of}
 use Rattle.wh_inference.specs.FilterText.{WrittenFilter}
 use Rattle.wh_polycheck.specs.Marks.{marked_types}
-use Rattle.wh_covering.proofs.Walks.{some_at}
-use Rattle.wh_path_order.specs.Verdict.{line_verdict}
 use Rattle.wh_ordering.specs.Filterings.{FilteringData, MarkFilter, AreFiltersFor, AreProperSymbols, AreProperMarks, IsProperAsWritten}
-use Rattle.wh_ordering.specs.Ordering.{IsGoodRule, IsGoodPair, IsStrictWhere, IsNarrow, HasNarrowSides, HasNarrowCalls, IsOrdering}
+use Rattle.wh_ordering.specs.Ordering.{IsGoodRule, IsGoodPair, IsStrictWhere, HasNarrowSides, HasNarrowCalls, IsOrdering}
 use Rattle.wh_orienting.specs.OrderingFaults.{IsFirstImproper, IsFirstImproperMark, AreProperFilters, IsPrepared, narrow_lines, wide_lines, good_lines, bad_lines, strict_lines, weak_lines, AreNarrowRules, AreNarrowPairs, AreGoodRules, AreGoodPairs, IsFirstOrderingFault}
 use Rattle.wh_orienting.specs.declared.fault.OrderingFault.{OrderingFault}
 use Rattle.wh_orienting.specs.declared.fault.OrderingFault.TheVariants.{BadFilter, BadLines, BadDrop, WideRule, WidePair, BadRule, BadPair, NotStrict}
-use Rattle.wh_orienting.proofs.Proper.{proper_decided}
+use Rattle.wh_orienting.proofs.ProperFilters.{proper_decided}
 use Rattle.wh_orienting.proofs.OrderingWalk.{ordering_holds}
 
 -- decided, as a sum that names a fault

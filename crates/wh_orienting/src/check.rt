@@ -51,7 +51,7 @@ pub fn check_ordering<'a, 'b>(
     check_narrow(alloc, task, filters, inferred)?;
     check_good(alloc, task, filters, inferred)?;
     let dropped = sorted(alloc, inferred.drop)?;
-    check_pairs_strict(task, inferred.pairs, &dropped)
+    check_pairs_strict(task, inferred.pairs, dropped.as_slice())
 }
 
 // All that is tested before the first line.

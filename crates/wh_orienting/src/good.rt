@@ -1,8 +1,9 @@
 //! Whether all inferences are good.
 
-ghost use Rattle.std.specs.Prelude.{◌≡◌, ◌<◌, ℕ, All, Contains, IfOk, OnOk, Some, length, map, slice_get, true};
+ghost use Rattle.std.specs.Prelude.{◌≡◌, ◌<◌, ℕ, All, Contains, IfOk, List, None, OnOk, Some, length, map, slice_get, true};
 ghost use Rattle.wh_types.specs.Outcome.{IfBecause, MatchOr};
 ghost use Rattle.wh_terms.specs.Rules.{RewriteRule};
+ghost use Rattle.wh_terms.specs.Typing.{Declared, Symbols};
 ghost use Rattle.wh_system.specs.CanonicalView.{side_of};
 ghost use Rattle.wh_system.specs.SystemView.{system_data};
 ghost use Rattle.wh_pairs.specs.PairData.{PairData, pair_data};
@@ -11,7 +12,7 @@ ghost use Rattle.wh_reduction.specs.TaskData.{IsTask};
 ghost use Rattle.wh_reduction.specs.TaskView.{task_data};
 ghost use Rattle.wh_inference.specs.Said.{inference};
 ghost use Rattle.wh_extended.specs.ExtendedSides.{extended_side};
-ghost use Rattle.wh_order.specs.TreeSides.{AreFilters, HasTypedCalls, IsTreeOfCall, IsTreeOfSide, extended_pair_side};
+ghost use Rattle.wh_order.specs.TreeSides.{AreFilters, AreSides, HasTypedCalls, IsTreeOfCall, IsTreeOfSide, extended_pair_side, tree_verdict};
 ghost use Rattle.wh_ordering.specs.FilteringView.{filtering_data};
 ghost use Rattle.wh_ordering.specs.Ordering.{HasNarrowCalls, HasNarrowSides, IsGoodPair, IsGoodRule, IsNarrow};
 ghost use Rattle.wh_orienting.specs.OrderingFaults.{bad_lines, good_lines, narrow_lines};
@@ -73,7 +74,23 @@ fn check_rule(
 {
     let left = rule_side(alloc, system, filters, rule, false)?;
     let right = rule_side(alloc, system, filters, rule, true)?;
-    match check_inference(alloc, filters, &left, &right, line) {
+    first_bad(alloc, filters, &left, &right, line)
+}
+
+// Whether the inference is good for the two trees, or the number of the first bad one in it.
+fn first_bad(
+    alloc: Global,
+    filters: &Filters,
+    left: &Tree,
+    right: &Tree,
+    line: &Inference,
+) -> Result<(), Or<u32>>
+    ensures { (S : Symbols) (rules : List RewriteRule) (M : List Declared) → AreSides S rules (filtering_data filters.now) M left.now right.now
+        → MatchOr result
+        (λ _. tree_verdict S rules (filtering_data filters.now) M left.now right.now line.now ≡ None)
+        (λ e. tree_verdict S rules (filtering_data filters.now) M left.now right.now line.now ≡ Some e) }
+{
+    match check_inference(alloc, filters, left, right, line) {
         Ok(()) => Ok(()),
         Err(Or::NoMemory) => Err(Or::NoMemory),
         Err(Or::Because(bad)) => Err(Or::Because(bad.at)),
@@ -155,11 +172,7 @@ fn check_pair(
 {
     let left = pair_side(alloc, system, filters, pair, false)?;
     let right = pair_side(alloc, system, filters, pair, true)?;
-    match check_inference(alloc, filters, &left, &right, line) {
-        Ok(()) => Ok(()),
-        Err(Or::NoMemory) => Err(Or::NoMemory),
-        Err(Or::Because(bad)) => Err(Or::Because(bad.at)),
-    }
+    first_bad(alloc, filters, &left, &right, line)
 }
 
 // A side of the pair, which is not too wide.

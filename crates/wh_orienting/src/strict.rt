@@ -6,8 +6,8 @@ ghost use Rattle.wh_types.specs.Outcome.{IfBecause};
 ghost use Rattle.wh_reduction.specs.ReductionPair.{IsRightPair};
 ghost use Rattle.wh_reduction.specs.TaskData.{IsTask};
 ghost use Rattle.wh_reduction.specs.TaskView.{task_data};
-ghost use Rattle.wh_inference.specs.Inferences.{letter_of, same_trees};
 ghost use Rattle.wh_inference.specs.Said.{inference};
+ghost use Rattle.wh_ordering.specs.Ordering.{IsStrictWhere};
 ghost use Rattle.wh_orienting.specs.OrderingFaults.{strict_lines};
 ghost use Rattle.wh_orienting.specs.Found.{IsWeakPairOf};
 
@@ -32,16 +32,20 @@ pub fn check_pairs_strict<'a>(
 {
     for (i, line) in lines.iter().enumerate() {
         let number = task.set[i];
-        if is_equal(line) && is_dropped(drop, number) {
+        let dropped = is_dropped(drop, number);
+        if !is_strict_where(dropped, line) {
             return Err(Or::Because(OrderingFault::NotStrict { pair: number }));
         }
     }
     Ok(())
 }
 
-// Whether the inference is that of equal trees.
-fn is_equal(line: &Inference) -> bool
-    ensures { IsTrue result ↔ (letter_of (inference line.now) ≡ same_trees) }
+// Whether the inference, where that is asked, is not that of equal trees.
+fn is_strict_where(asked: bool, line: &Inference) -> bool
+    ensures { IsTrue result ↔ IsStrictWhere asked (inference line.now) }
 {
-    matches!(line.letter, Letter::Same)
+    match line.letter {
+        Letter::Same => !asked,
+        _ => true,
+    }
 }

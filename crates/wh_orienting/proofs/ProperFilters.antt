@@ -1,17 +1,17 @@
 -- Whether filters are proper is decided.
-use Rattle.std.proofs.Common.{◌≡◌, ◌↔◌, ℕ, zero, suc, ◌<◌, ◌≤◌, ◌-◌, inl, inr, List, [], ◌∷◌, ◌++◌, length, map, All, Option, Some, None, slice_get, refl, sym, subst, arith}
-use Rattle.std.proofs.lemmas.Option.{slice_get_within}
-use Rattle.wh_types.specs.Ty.{Ty, sort, ◌⇒◌, arguments}
+use Rattle.std.proofs.Common.{◌≡◌, ℕ, suc, ◌<◌, ◌-◌, inl, inr, List, [], ◌∷◌, length, map, Option, Some, None, slice_get, refl}
+use Rattle.wh_types.specs.Ty.{Ty, sort, ◌⇒◌}
 use Rattle.wh_system.proofs.TypedDecided.{Decided, decided_by, both_decided, below_decided}
-use Rattle.wh_pairs.proofs.ByPlace.{some_one}
 use Rattle.wh_pairs.proofs.Searches.{all_decided}
-use Rattle.wh_inference.specs.FilterText.{WrittenFilter, keeps, picks, filter_of}
-use Rattle.wh_extended.specs.Filtered.{IncreasingFrom, IsProper}
-use Rattle.wh_ordering.specs.Filterings.{HasPlaces, IsProperAsWritten}
+use Rattle.wh_inference.specs.FilterText.{WrittenFilter, keeps, picks}
+use Rattle.wh_extended.specs.Filtered.{IncreasingFrom}
+use Rattle.wh_ordering.specs.Filterings.{IsProperAsWritten}
 
 pub increasing_decided : (from n : ℕ) (is : List ℕ) → Decided (IncreasingFrom from n is)
 increasing_decided from n [] = inl tt
-increasing_decided from n (i ∷ is) = both_decided (below_decided from (suc i)) (both_decided (below_decided i n) (increasing_decided (suc i) n is))
+increasing_decided from n (i ∷ is) =
+    decided_by (λ (above, (within, rest)). (above, within, rest)) (λ (above, within, rest). (above, (within, rest)))
+    (both_decided (below_decided from (suc i)) (both_decided (below_decided i n) (increasing_decided (suc i) n is)))
 
 is_sort_decided : (o : Option Ty) → Decided ((s : ℕ) × (o ≡ Some (sort s)))
 is_sort_decided None = inr (λ (s, e). absurd (cc))
