@@ -10,6 +10,7 @@ pub mod SystemLaws
 pub mod NameTests
 pub mod MapMade
 pub mod MapProof
+pub mod MapOrdering
 pub mod MapLaws
 pub mod IdentityMade
 pub mod IdentityCovers

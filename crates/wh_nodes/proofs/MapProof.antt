@@ -85,7 +85,7 @@ rest_is_part =
 is_below : (n : ℕ) (a : PairData) → slice_get (map_pair ∷ []) n ≡ Some a → Below (map_choice ∷ []) a
 is_below n a found = subst (Below (map_choice ∷ [])) (get_one map_pair a n found).1 rest_is_part
 
-map_is_marked : AreMarked (map_pair ∷ []) (0 ∷ []) (4 ∷ [])
+pub map_is_marked : AreMarked (map_pair ∷ []) (0 ∷ []) (4 ∷ [])
 map_is_marked = record { in_order = tt; each = λ f. (marked f, only f) }
   where
     marked : (f : ℕ) → Contains (4 ∷ []) f → IsMarked (map_pair ∷ []) (0 ∷ []) f
@@ -109,7 +109,7 @@ map_projection = record {
   below = λ n a there found. is_below n a found;
 }
 
-none_kept : IsSetOf (IsKept (0 ∷ []) (0 ∷ [])) []
+pub none_kept : IsSetOf (IsKept (0 ∷ []) (0 ∷ [])) []
 none_kept = record {
   increasing = tt;
   each = λ n. ((λ never. absurd (none_there n never)), (λ (there, kept). absurd (kept there)));

@@ -17,6 +17,7 @@ use Rattle.wh_calls.specs.MarkedCalls.{CallsEnd}
 use Rattle.wh_calls.proofs.EndOfCalls.{calls-bounded}
 use Rattle.wh_polycheck.specs.Covering.{HaveTypedSides}
 use Rattle.wh_meaning.proofs.PairSides.{pair_sides}
+use Rattle.wh_descent.proofs.PatternPairs.{known_sorts, pattern_sides}
 use Rattle.wh_proof.specs.Nodes.{Node}
 use Rattle.wh_proof.specs.Proves.{Proves}
 use Rattle.wh_pairs.specs.Sets.{InSet}
@@ -33,7 +34,8 @@ all_calls_end : (d : SystemData) → IsWellMadeSystem d → (ps : List PairData)
     → ((n : ℕ) → n < length ps → Contains all n) → CallsEnd d.symbols d.rules (Step d.rules) (Contains ps)
 all_calls_end d made ps pairs all nodes proves whole =
     let typed : HaveTypedSides d.symbols d.rules ps = λ marks p found. pair_sides d made ps pairs marks p found in
-    calls_fewer (in_all ps all whole) (proofs_keep d.symbols d.rules ps made.rules typed proves all (at_head [] all))
+    calls_fewer (in_all ps all whole) (proofs_keep d.symbols d.rules ps made.rules (known_sorts d made) typed
+    (pattern_sides d made ps pairs) proves all (at_head [] all))
 
 -- and so terms are bounded
 pub proved_systems_end : (d : SystemData) → IsWellMadeSystem d → (ranks : List ℕ) → IsPassing d ranks → (ps : List PairData)

@@ -1,3 +1,4 @@
 pub mod Many
 pub mod MapSystem
 pub mod IdentitySystem
+pub mod MapOrder

@@ -17,6 +17,7 @@ ghost use Rattle.wh_pairs.specs.Subsumption.{ArePairs};
 ghost use Rattle.wh_graph.specs.May.{May};
 ghost use Rattle.wh_calls.specs.MarkedCalls.{CallsEnd};
 ghost use Rattle.wh_polycheck.specs.Covering.{HaveTypedSides};
+ghost use Rattle.wh_descent.specs.PatternSides.{HaveKnownSorts, HavePatternSides};
 ghost use Rattle.wh_nodes.specs.Many.{Many};
 ghost use Rattle.wh_proof.specs.Nodes.{Node};
 ghost use Rattle.wh_proof.specs.Proves.{Proves};
@@ -31,12 +32,14 @@ pub fn may_is_sound()
         → Many (StepsIn (Step rules)) us vs → May rules a b }
 {}
 
-/// Where the nodes prove the sets, and the sides of all pairs are typed and closed, a call whose arguments end leads to no
-/// endless sequence of calls by the pairs of any one of the sets (Kop 2012 for the dependency graph and the subterm criterion,
-/// Fuhs and Kop 2012 for interpretations; Fuhs and Kop 2019 for calls whose arguments end, the minimal chains).
+/// Where the nodes prove the sets, the sides of all pairs are typed and closed, the left ones patterns, and all
+/// declared sorts known, a call whose arguments end leads to no endless sequence of calls by the pairs of any one of
+/// the sets (Kop 2012 for the dependency graph, the subterm criterion and path orders, Fuhs and Kop 2012 for
+/// interpretations; Fuhs and Kop 2019 for calls whose arguments end, the minimal chains).
 pub fn nodes_keep_that_calls_end()
     ensures { (S : Symbols) (rules : List RewriteRule) (pairs : List PairData) (sets : List (List ℕ)) (nodes : List Node) (set : List ℕ)
-        → AreWellMade S rules → HaveTypedSides S rules pairs → Proves S rules pairs sets nodes → Contains sets set
+        → AreWellMade S rules → HaveKnownSorts S rules → HaveTypedSides S rules pairs → HavePatternSides S pairs
+        → Proves S rules pairs sets nodes → Contains sets set
         → CallsEnd S rules (Step rules) (InSet pairs set) }
 {}
 

@@ -3,4 +3,5 @@ use Rattle.wh_nodes.proofs.NodeLaws.{proofs_keep}
 use Rattle.wh_nodes.proofs.nodes.nodes_keep_that_calls_end.Goals as goal
 
 pub returns : goal.returns
-returns c S rules pairs sets nodes set made typed proves inside = proofs_keep S rules pairs made typed proves set inside
+returns c S rules pairs sets nodes set made sorts typed patterns proves inside =
+    proofs_keep S rules pairs made sorts typed patterns proves set inside
