@@ -218,3 +218,9 @@ tested_some (x ∷ xs) b is false_b = λ empty. cc
 
 pub not_so : (b : Bool) (P : Type 0) → (P → IsTrue b) → b ≡ false → P → ⊥
 not_so b P is false_b p = let true_b : b ≡ true = is p in cc
+
+-- a list that is not empty has something
+
+pub some_of : {A : Type 0} (xs : List A) → xs ≢ [] → 1 ≤ length xs
+some_of [] some = absurd (some refl)
+some_of (x ∷ xs) some = omega arith

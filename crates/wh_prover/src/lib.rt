@@ -3,6 +3,7 @@
 #![tactic(auto)]
 
 mod answer;
+mod interpretations;
 mod lines;
 mod node;
 mod numbers;

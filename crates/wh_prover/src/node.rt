@@ -11,10 +11,10 @@ ghost use Rattle.wh_prover.specs.Arriving.{Arrives, Ended, HasNoProjection, IsAl
 ghost use Rattle.wh_prover.specs.Walk.{AddsNode, IsEnd, dropped_by};
 
 use crate::answer::{Cause, Finder};
+use crate::interpretations::interpretation_of;
 use crate::lines::node_of;
 use std::alloc::{AllocError, Global};
 use wh_cert::{Node, Nodes};
-use wh_find_poly::find_interpretation;
 use wh_find_subterm::find_projection;
 use wh_graph::Graph;
 use wh_pairs::{PairList, PairSet, kept};
@@ -121,7 +121,7 @@ fn interpret(
     ensures { IfOk result (λ end. MatchOption end (AddsNode system.now pairs.now set stack.old.items stack.new.items nodes.old nodes.new)
         (IsEnd (system_data system.now) (pairs_data pairs.now) tries)) }
 {
-    match find_interpretation(alloc, system, pairs, &set, tries)? {
+    match interpretation_of(alloc, system, pairs, &set, tries)? {
         Search::Found(node) => {
             stack.push(kept(alloc, &set, dropped_by(&node))?)?;
             nodes.push(node)?;

@@ -6,12 +6,16 @@ use std::test::Fail;
 use wh_test_runs::{Given, checked, told, writes};
 use wh_test_samples::{
     APART, BETA, CALLS, DOUBLE, ETA, EVEN_ODD, FOLD, FUNCTION_LIST, IDENTITY, INNER_CALL,
-    ITERATION, LOOP, MAP, NEIGHBOURS, NO_RULES, ORDINALS, PAIRS, PARTIAL, PRENEX, PROCESSES, READ,
-    RECURSOR, SORT, TWICE, TWO_CALLS, UNDER_BINDER, UNTYPED,
+    ITERATION, LOOP, MAP, NEIGHBOURS, NO_RULES, ORDINALS, PAIRS, PARTIAL, PRENEX, PROCESSES,
+    QUADRUPLE, READ, RECURSOR, SORT, TWICE, TWO_CALLS, UNDER_BINDER, UNTYPED,
 };
 
 /// A search within the usual bounds.
 const SEARCH: &[&str] = &["prove", "system"];
+
+/// String rewriting, of which guesses of interpretations come to no end in time; one formula shows that there is none.
+const STRINGS: &[u8] =
+    b"sort a;fun a : a -> a;fun b : a -> a;fun c : a -> a;rule {X:a} a (a X) => b (c X);rule {X:a} b (b X) => a (c X);rule {X:a} c (c X) => a (b X);";
 
 /// Systems of which the search finds a proof.
 const PROVED: &[&[u8]] = &[
@@ -80,6 +84,14 @@ const GIVEN_UP: &[(&[&str], &[u8], u8, &[u8])] = &[
     (SEARCH, PRENEX, 0, b"MAYBE no-ranks sorts form\n"),
     (SEARCH, PROCESSES, 0, b"MAYBE no-ranks sorts proc\n"),
     (SEARCH, ETA, 0, b"MAYBE stuck 0\n"),
+    // by one formula for a flat set
+    (
+        &["prove", "system", "--tries", "1000000"],
+        QUADRUPLE,
+        0,
+        b"MAYBE stuck 0\n",
+    ),
+    (SEARCH, STRINGS, 0, b"MAYBE stuck 0 2\n"),
     (SEARCH, b"sort nat;sort nat;", 3, b"REFUSED twice 14\n"),
 ];
 

@@ -143,3 +143,8 @@ pub const TWICE: &[u8] =
 /// Doubling by addition.
 pub const DOUBLE: &[u8] =
     b"sort n;fun z:n;fun s:n->n;fun add:n->n->n;fun double:n->n;rule {Y:n} add z Y => Y;rule {X:n,Y:n} add (s X) Y => s (add X Y);rule {X:n} double X => add X X;";
+
+/// Where the rules of `c` are covered, the right side of that of `e` is worth four times its argument: more than any
+/// coefficient that is tried.
+pub const QUADRUPLE: &[u8] =
+    b"sort o;\nfun s : o -> o;\nfun e : o -> o;\nfun t : o -> o;\nfun c : o -> o -> o;\nrule {X:o} t (s X) => t (e X);\nrule {X:o} e X => c (c X X) (c X X);\nrule {X:o,Y:o} c X Y => X;\nrule {X:o,Y:o} c X Y => Y;\n";

@@ -8,12 +8,12 @@ use Rattle.wh_pairs.specs.Sets.{IsKept, IsSetOf}
 use Rattle.wh_guesses.specs.Found.{IsInterpretation}
 use Rattle.wh_blocking.specs.Answers.{IsAnswer}
 use Rattle.wh_prover.proofs.ArriveLemmas.{arrives_within}
-use Rattle.wh_prover.proofs.NodeLemmas.{adds_interpretation, dropped_by_interpretation}
+use Rattle.wh_prover.proofs.NodeLemmas.{adds_interpretation, dropped_by_interpretation, some_of}
 use Rattle.wh_prover.proofs.WalkLemmas.{reverse_push, said_push}
 use Rattle.wh_prover.proofs.node.interpret.Goals as goal
 
-pub find_interpretation-requires-clause-set : goal.find_interpretation-requires-clause-set
-find_interpretation-requires-clause-set c =
+pub interpretation_of-requires-clause-set : goal.interpretation_of-requires-clause-set
+interpretation_of-requires-clause-set c =
     let pairs = c.args.pairs.now in
     let set = c.args.set in
     subst (λ n. All (λ m. m < n) set) (length-map pairs pair_data) (arrives_within (system_data c.args.system.now) (pairs_data pairs) set c.requires.ended.arrives)
@@ -34,3 +34,6 @@ returns-in_ok-push-in-Found-2 c =
     c.requires.ended c.requires.none is kept
     (ap reverse c.in_ok-push-in-Found.ensures.items ∙ reverse_push stack rest)
     (said_push c.args.nodes.now c.push-in-Found.new.self node c.in_ok-push-in-Found-2.ensures.ok)
+
+pub interpretation_of-requires-clause-some : goal.interpretation_of-requires-clause-some
+interpretation_of-requires-clause-some c = some_of c.args.set c.requires.ended.knot.some

@@ -1,0 +1,113 @@
+//! Rows of flat sets: whether a set of one pair is flat, and what one formula for it comes to.
+
+ghost use Rattle.std.specs.Prelude.{◌≤◌, IfOk, length};
+ghost use Rattle.wh_types.specs.Limits.{most_pairs};
+ghost use Rattle.wh_system.specs.SystemView.{system_data};
+ghost use Rattle.wh_pairs.specs.SystemPairs.{HasPairs};
+ghost use Rattle.wh_pairs.specs.Views.{pairs_data};
+
+use std::alloc::{AllocError, Global};
+use std::test::Fail;
+use wh_cert::Node;
+use wh_find_flat::find_by_circuit;
+use wh_find_pairs::pairs;
+use wh_flat::flat;
+use wh_pairs::{PairList, PairSet};
+use wh_read::{Refused, read_system};
+use wh_sat::Search;
+use wh_system::System;
+use wh_test_samples::{IDENTITY, MAP, QUADRUPLE};
+use wh_types::Or;
+
+/// The answer about pair 0 of the system of a text; want of memory stands for all that has no pairs.
+fn answer(alloc: Global, text: &[u8], budget: u64) -> Result<String, AllocError> {
+    if text.len() > 1_048_576 {
+        return Err(AllocError);
+    }
+    let outcome = read_system(alloc, text);
+    answer_from(alloc, &outcome, budget)
+}
+
+/// The same about the system that is read.
+fn answer_from(
+    alloc: Global,
+    outcome: &Result<System, Or<Refused>>,
+    budget: u64,
+) -> Result<String, AllocError> {
+    match outcome {
+        Ok(system) => answer_about(alloc, system, budget),
+        Err(_) => Err(AllocError),
+    }
+}
+
+/// The same about the system.
+fn answer_about(alloc: Global, system: &System, budget: u64) -> Result<String, AllocError> {
+    let list = pairs_of(alloc, system)?;
+    answer_of_first(alloc, system, &list, budget)
+}
+
+/// The pairs of the system; want of memory stands for too many.
+fn pairs_of(alloc: Global, system: &System) -> Result<PairList, AllocError>
+    ensures pairs { IfOk result (λ list. HasPairs (system_data system.now) (pairs_data list)) }
+    ensures few { IfOk result (λ list. length list ≤ most_pairs) }
+{
+    match pairs(alloc, system) {
+        Ok(list) => Ok(list),
+        Err(_) => Err(AllocError),
+    }
+}
+
+/// The answer about pair 0.
+fn answer_of_first(
+    alloc: Global,
+    system: &System,
+    list: &PairList,
+    budget: u64,
+) -> Result<String, AllocError>
+    requires pairs { HasPairs (system_data system.now) (pairs_data list.now) }
+    requires few { length list.now ≤ most_pairs }
+{
+    if list.as_slice().is_empty() {
+        return Err(AllocError);
+    }
+    let mut set = PairSet::new(alloc)?;
+    set.push(0)?;
+    if !flat(system, list, &set) {
+        return String::from_str(alloc, "not flat");
+    }
+    told(alloc, find_by_circuit(alloc, system, list, &set, budget)?)
+}
+
+/// What is found: how many pairs a node drops, or how many clauses were learnt.
+fn told(alloc: Global, found: Search<Node>) -> Result<String, AllocError> {
+    match found {
+        Search::Found(Node::Poly(node)) => {
+            let count = node.drop.as_slice().len();
+            format!(in alloc; "found, {count} dropped")
+        }
+        Search::Found(_) => String::from_str(alloc, "found another node"),
+        Search::Nothing => String::from_str(alloc, "nothing"),
+        Search::Spent(learnt) => {
+            let count = learnt.as_slice().len();
+            format!(in alloc; "spent {count}")
+        }
+    }
+}
+
+/// Systems and budgets with the answers about pair 0. What `prove` makes of the first, a check accepts (`prove_rows` of
+/// wh_test_program).
+const ANSWERS: &[(&[u8], u64, &str)] = &[
+    (IDENTITY, 10_000, "found, 1 dropped"),
+    (QUADRUPLE, 1_000_000, "nothing"),
+    (MAP, 10_000, "not flat"),
+];
+
+#[test]
+fn flat_sets_are_settled_by_a_formula(rt: HostRuntime) -> Result<(), Fail> {
+    let alloc = rt.alloc();
+    for (system, budget, expected) in ANSWERS {
+        let text = answer(alloc, *system, *budget)?;
+        assert_eq!(rt; text.as_str(), *expected);
+    }
+    Ok(())
+}
