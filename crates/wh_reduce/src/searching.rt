@@ -67,12 +67,14 @@ fn first_below(alloc: Global, rules: &[Rule], term: &Term) -> Result<Option<Foun
 
 // The path of these steps, which come last step first.
 fn path_back(alloc: Global, back: &[u8]) -> Result<Path, AllocError>
-    requires { IsPath back.now }
+    requires { IsPath (reverse back.now) }
     ensures { IfOk result (λ path. path ≡ reverse back.now) }
 {
     let mut path = Path::new(alloc)?;
-    for step in back.iter().rev() {
+    let mut left = back;
+    while let [rest @ .., step] = left {
         path.push(*step)?;
+        left = rest;
     }
     Ok(path)
 }

@@ -1,0 +1,76 @@
+-- The machine of terms reads a text and a line feed behind it exactly where the bytes are the text of a term.
+use Rattle.std.proofs.Common.{◌≡◌, ℕ, suc, ◌+◌, ◌<◌, ◌≤◌, List, [], ◌∷◌, ◌++◌, length, drop, get_or, refl, ap, sym, ◌∙◌, subst, arith, append_cancel_right}
+use Rattle.std.proofs.lemmas.List.{drop_more, drop_all}
+use Rattle.wh_text.specs.RawTree.{RTm}
+use Rattle.wh_text.specs.Spelling.{put_term, spelled}
+use Rattle.wh_cert.specs.TermLimits.{TermFits}
+use Rattle.wh_cert_parts.specs.TermMachine.{Stack, base, Place, wanted, closed, State, at, whole, failed, step}
+use Rattle.wh_cert_parts.specs.TermViews.{term_stack, term_place, term_went}
+use Rattle.wh_cert_parts.specs.declared.term_reader.Frame.{Frame}
+use Rattle.wh_cert_parts.specs.declared.term_reader.TermPlace.{TermPlace}
+use Rattle.wh_cert_parts.proofs.TermSound.{Next, front}
+use Rattle.wh_cert_parts.proofs.TermComplete.{Scan, still, read, stuck, scan, term_run, term_sound}
+use Rattle.wh_term_text.specs.TermText.{IsTermText}
+use Rattle.wh_term_text.specs.Ending.{EndsHere}
+use Rattle.wh_term_text.proofs.Appending.{term-append}
+
+-- the text, and a line feed
+abbrev pub line : List ℕ → List ℕ
+line bytes = bytes ++ (10 ∷ [])
+
+abbrev pub began : List ℕ → Scan
+began bytes = scan (at base wanted) (line bytes)
+
+pub text_read : (t : RTm) (bytes : List ℕ) → IsTermText t bytes → began bytes ≡ read t []
+text_read t bytes text =
+    ap (λ (b : List ℕ). scan (at base wanted) (line b)) text.text
+    ∙ ap (scan (at base wanted)) (sym (term-append t [] (10 ∷ [])))
+    ∙ term_run base t (10 ∷ []) text.fits refl
+
+pub read_text : (t : RTm) (r bytes : List ℕ) → began bytes ≡ read t r → r ≡ [] → IsTermText t bytes
+read_text t r bytes is none =
+    let (fits, put) = term_sound (at base wanted) (line bytes) (λ (q : List ℕ). q) t r (tt, tt, λ q. refl) is in
+    let spells : put_term t [] ++ (10 ∷ []) ≡ bytes ++ (10 ∷ []) = sym (term-append t [] (10 ∷ [])) ∙ ap (λ (q : List ℕ). put_term t (10 ∷ q)) (sym none) ∙ put in
+    record { fits = fits; text = sym (append_cancel_right (put_term t []) bytes (10 ∷ []) spells) }
+
+pub one_text : (bytes : List ℕ) (t u : RTm) → IsTermText t bytes → IsTermText u bytes → t ≡ u
+one_text bytes t u x y = let same : read t [] ≡ read u [] = sym (text_read t bytes x) ∙ text_read u bytes y in cc
+
+-- while the bytes are read
+
+pub next_byte : (bytes : List ℕ) (i b : ℕ) (s : State) (fs : Stack) (k : Place) → i < length bytes → b ≡ get_or bytes i b → s ≡ step fs k b → began bytes ≡ scan (at fs k) (line (drop i bytes)) → began bytes ≡ scan s (line (drop (i + 1) bytes))
+next_byte bytes i b s fs k within is took so_far =
+    so_far
+    ∙ ap (λ (l : List ℕ). scan (at fs k) (line l)) (drop_more bytes i b within ∙ ap (λ (c : ℕ). c ∷ drop (i + 1) bytes) (sym is))
+    ∙ ap (λ (t : State). scan t (line (drop (i + 1) bytes))) (sym took)
+
+-- a term that has ended before the last byte, or never, is none
+
+line_some : (l : List ℕ) → line l ≡ [] → ⊥
+line_some [] e = absurd (cc)
+line_some (b ∷ l) e = absurd (cc)
+
+pub ended_early : (bytes rest : List ℕ) (u : RTm) → began bytes ≡ scan (whole u) (line rest) → (t : RTm) → IsTermText t bytes → ⊥
+ended_early bytes rest u is t text = let same : read u (line rest) ≡ read t [] = sym is ∙ text_read t bytes text in let none : line rest ≡ [] = cc in line_some rest none
+
+pub gone_wrong : (bytes rest : List ℕ) → began bytes ≡ scan failed (line rest) → (t : RTm) → IsTermText t bytes → ⊥
+gone_wrong bytes rest is t text = let same : stuck ≡ read t [] = sym is ∙ text_read t bytes text in absurd (cc)
+
+-- behind the last byte
+
+pub all_read : (bytes : List ℕ) (i : ℕ) (fs : Stack) (k : Place) → length bytes ≤ i → began bytes ≡ scan (at fs k) (line (drop i bytes)) → began bytes ≡ scan (step fs k 10) []
+all_read bytes i fs k all is = is ∙ ap (λ (l : List ℕ). scan (at fs k) (line l)) (nothing_left bytes i all)
+  where
+    nothing_left : (l : List ℕ) (j : ℕ) → length l ≤ j → drop j l ≡ []
+    nothing_left l j h = drop_all j l h
+
+whole_read : (s : State) (t : RTm) → scan s [] ≡ read t [] → s ≡ whole t
+whole_read (whole u) t e = let same : u ≡ t = cc in ap whole same
+whole_read failed t e = absurd (cc)
+whole_read (at fs k) t e = absurd (cc)
+
+pub ends_text : (bytes : List ℕ) (fs : Stack) (k : Place) (t : RTm) → began bytes ≡ scan (step fs k 10) [] → EndsHere fs k t → IsTermText t bytes
+ends_text bytes fs k t is ends = read_text t [] bytes (is ∙ ap (λ (s : State). scan s []) ends) refl
+
+pub text_ends : (bytes : List ℕ) (fs : Stack) (k : Place) (t : RTm) → began bytes ≡ scan (step fs k 10) [] → IsTermText t bytes → EndsHere fs k t
+text_ends bytes fs k t is text = whole_read (step fs k 10) t (sym is ∙ text_read t bytes text)
