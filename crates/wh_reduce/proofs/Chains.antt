@@ -3,10 +3,12 @@ use Rattle.std.proofs.Common.{◌≡◌, ℕ, suc, ◌+◌, ◌<◌, ◌≤◌, 
 use Rattle.std.proofs.lemmas.List.Elements.{All-nil, All-cons, All-head, All-tail, All-append}
 use Rattle.wh_terms.specs.Tree.{Tm}
 use Rattle.wh_terms.specs.Measures.{Fits}
+use Rattle.wh_terms.specs.Sight.{LooseBelow, IsTerm}
 use Rattle.wh_terms.specs.Typing.{Symbols}
 use Rattle.wh_terms.specs.Rules.{RewriteRule, AreWellMade}
 use Rattle.wh_step.specs.Step.{Step}
 use Rattle.wh_step.specs.Reduction.{Walk, last_of, Reduction}
+use Rattle.wh_step.proofs.ReplayLemmas.{step_shut, step_term}
 use Rattle.wh_reduce.specs.Leftmost.{Leftmost, IsNormal, LeadsTo}
 use Rattle.wh_reduce.specs.Reducing.{EndsBy, Reduces}
 use Rattle.wh_reduce.specs.declared.reducing.End.{End}
@@ -97,3 +99,40 @@ module _ {rules : List RewriteRule} (S : Symbols) (w : AreWellMade S rules) (ask
       let many : m ≡ n = sym l.counted ∙ long ∙ r.counted in
       let same : u ≡ v = sym l.last ∙ last ∙ r.last in
       (many, same, reason_one v n d e (subst (λ (k : ℕ). EndsBy rules asked k v d) many (subst (λ (s : Tm). EndsBy rules asked m s d) same x.end)) y.end)
+
+-- what holds of the term while steps are taken, and where they end
+
+pub record Stands (rules : List RewriteRule) (t : Tm) (n : ℕ) (u : Tm) : Type 0 where
+  pub steps : LeadsTo rules t n u
+  pub fits : Fits u
+  pub shut : LooseBelow 0 u
+  pub plain : IsTerm u
+
+pub stands_first : (rules : List RewriteRule) (t u : Tm) → u ≡ t → Fits t → LooseBelow 0 t → IsTerm t → Stands rules t 0 u
+stands_first rules t u is fits shut plain = record {
+  steps = leads_nowhere rules t u (sym is);
+  fits = subst Fits (sym is) fits;
+  shut = subst (LooseBelow 0) (sym is) shut;
+  plain = subst IsTerm (sym is) plain;
+}
+
+pub stands_next : (S : Symbols) (rules : List RewriteRule) → AreWellMade S rules → (t u v : Tm) (n : ℕ) → Stands rules t n u → Leftmost rules u v × Fits v → Stands rules t (n + 1) v
+stands_next S rules w t u v n s ((a, f), fits) = record {
+  steps = leads_on t u v n s.steps (a, f) fits;
+  fits = fits;
+  shut = step_shut S w (record { rule = a.rule; path = a.path }) f.applies s.shut;
+  plain = step_term S w (record { rule = a.rule; path = a.path }) f.applies s.plain;
+}
+
+pub ends_normal : (rules : List RewriteRule) (t u : Tm) (asked n : ℕ) → Stands rules t n u → n < asked → IsNormal rules u → Reduces rules t asked n u Normal
+ends_normal rules t u asked n s more normal = record { steps = s.steps; within = omega arith; end = normal }
+
+pub ends_big : (rules : List RewriteRule) (t u : Tm) (asked n : ℕ) → Stands rules t n u → n < asked → ((v : Tm) × Leftmost rules u v × (Fits v → ⊥)) → Reduces rules t asked n u TooBig
+ends_big rules t u asked n s more big = record { steps = s.steps; within = omega arith; end = (more, big) }
+
+pub ends_all : (rules : List RewriteRule) (t u v : Tm) (asked n m : ℕ) (e : End) → Stands rules t n u → n ≡ asked → m ≡ asked → v ≡ u → EndsBy rules asked asked u e → Reduces rules t asked m v e
+ends_all rules t u v asked n m e s all is same end = record {
+  steps = subst (λ (x : Tm). LeadsTo rules t m x) (sym same) (subst (λ (k : ℕ). LeadsTo rules t k u) (all ∙ sym is) s.steps);
+  within = omega arith;
+  end = subst (λ (x : Tm). EndsBy rules asked m x e) (sym same) (subst (λ (k : ℕ). EndsBy rules asked k u e) (sym is) end);
+}

@@ -46,7 +46,7 @@ later_part d e k q a less (inl (inr h)) = omega (arith, h.0)
 later_part d e k q a less (inr h) = omega (arith, same_head d e q a.path h.0)
 
 module _ (rules : List RewriteRule) where
-  abbrev NoneAtRoot : Tm → Type 0
+  abbrev pub NoneAtRoot : Tm → Type 0
   NoneAtRoot t = (k : Option ℕ) → StepsBy rules t k → ⊥
 
   root_steps : (t : Tm) (k : Option ℕ) → HasRedex rules t (at_root k) → StepsBy rules t k
@@ -138,12 +138,18 @@ module _ (rules : List RewriteRule) where
   redex_is : (g : Found) (k : Option ℕ) (p : List ℕ) → g.rule ≡ k → reverse g.back.items ≡ p → redex_of g ≡ record { rule = k; path = p }
   redex_is g k p e d = cc
 
+  pub first_up : (t s : Tm) (d : ℕ) (f : Found) (o : Option Found) → ((a : Redex) → IsFirst rules t a → IsFirst rules s (below d a)) → Told t (Some f) → OneUp d (Some f) o → Told s o
+  first_up t s d f None first told up = absurd up
+  first_up t s d f (Some g) first told up =
+      subst (IsFirst rules s) (sym (redex_is g f.rule (d ∷ reverse f.back.items) up.0 up.1)) (first (redex_of f) told)
+
   pub told_up : (t s : Tm) (d : ℕ) (f o : Option Found) → (HasNone rules t → HasNone rules s) → ((a : Redex) → IsFirst rules t a → IsFirst rules s (below d a)) → Told t f → OneUp d f o → Told s o
   told_up t s d None None none first told up = none told
   told_up t s d None (Some g) none first told up = let wrong : Some g ≡ None = up in absurd (cc)
-  told_up t s d (Some f) None none first told up = absurd up
-  told_up t s d (Some f) (Some g) none first told up =
-      subst (IsFirst rules s) (sym (redex_is g f.rule (d ∷ reverse f.back.items) up.0 up.1)) (first (redex_of f) told)
+  told_up t s d (Some f) o none first told up = first_up t s d f o first told up
+
+  pub first_found : (t : Tm) (f : Found) → f.back.items ≡ [] → IsFirstBy rules t f.rule → IsFirst rules t (redex_of f)
+  first_found t f none first = subst (IsFirst rules t) (sym (redex_is f f.rule [] refl (ap reverse none))) (first_root t f.rule first)
 
 -- on terms without loose variables
 

@@ -1,11 +1,13 @@
 -- What a search for a step at the root of a tree tells.
 use Rattle.std.proofs.Common.{◌≡◌, ℕ, zero, suc, ◌+◌, ◌<◌, ◌≤◌, ◌⊎◌, inl, inr, List, length, Bool, true, false, Option, Some, None, slice_get, refl, ap, sym, ◌∙◌, subst, arith}
-use Rattle.std.specs.Prelude.{IsTrue, ◌↔◌}
+use Rattle.std.specs.Prelude.{IsTrue, ◌↔◌, MatchOption, is_some}
 use Rattle.std.proofs.lemmas.Option.{slice_get_within}
 use Rattle.wh_types.specs.Ty.{Ty}
 use Rattle.wh_terms.specs.Tree.{Tm, lam, app}
 use Rattle.wh_terms.specs.Substitution.{opened}
 use Rattle.wh_terms.specs.Rules.{RewriteRule}
+use Rattle.wh_terms.specs.declared.subst.MetaBody.{MetaBody}
+use Rattle.wh_match.specs.Matching.{IsMatch, HasNoMatch}
 use Rattle.wh_step.specs.Reducts.{IsEarlier}
 use Rattle.wh_step.specs.Roots.{BetaStep, RuleStep, RootStep}
 use Rattle.wh_step.proofs.RootLaws.{same_rule}
@@ -17,7 +19,7 @@ pub it_is : (P : Type 0) → P → IsTrue true ↔ P
 it_is P p = (λ yes. p, λ q. refl)
 
 pub it_is_not : (P : Type 0) → (P → ⊥) → IsTrue false ↔ P
-it_is_not P no = (λ wrong. absurd (cc), λ p. absurd (no p))
+it_is_not P none = (λ wrong. absurd (cc), λ p. absurd (none p))
 
 -- beta
 
@@ -43,18 +45,24 @@ NoneBefore rules t i = (j : Option ℕ) → StepsBy rules t j → IsEarlier j (S
 abbrev pub StepsByRule : RewriteRule → Tm → Type 0
 StepsByRule r t = (v : Tm) × RuleStep r t v
 
+-- what a match tells of the step by a rule
+pub told_rule : (r : RewriteRule) (t : Tm) (o : Option (List MetaBody)) (b : Bool) → b ≡ is_some o → ((bs : List MetaBody) → IsMatch r.left t bs → StepsByRule r t) → MatchOption o (HasNoMatch r.left t) (IsMatch r.left t)
+    → IsTrue b ↔ StepsByRule r t
+told_rule r t None b is meets none = subst (λ (c : Bool). IsTrue c ↔ StepsByRule r t) (sym is) (it_is_not (StepsByRule r t) (λ step. none step.1.0 step.1.1))
+told_rule r t (Some bs) b is meets found = subst (λ (c : Bool). IsTrue c ↔ StepsByRule r t) (sym is) (it_is (StepsByRule r t) (meets bs found))
+
 module _ (rules : List RewriteRule) (t : Tm) where
   pub none_yet : (((v : Tm) × BetaStep t v) → ⊥) → NoneBefore rules t 0
-  none_yet no None step early = no step
-  none_yet no (Some k) step early = omega arith
+  none_yet none None step early = none step
+  none_yet none (Some k) step early = omega arith
 
   pub none_by_next : (i : ℕ) (r : RewriteRule) → slice_get rules i ≡ Some r → NoneBefore rules t i → (StepsByRule r t → ⊥) → NoneBefore rules t (i + 1)
-  none_by_next i r here none no None step early = none None step tt
-  none_by_next i r here none no (Some k) (v, (q, e, s)) early = at_or_below (below_or_at k i early)
+  none_by_next i r here none other None step early = none None step tt
+  none_by_next i r here none other (Some k) (v, (q, e, s)) early = at_or_below (below_or_at k i early)
     where
       at_or_below : (k < i) ⊎ (k ≡ i) → ⊥
       at_or_below (inl low) = none (Some k) (v, (q, e, s)) low
-      at_or_below (inr is) = no (v, subst (λ (p : RewriteRule). RuleStep p t v) (same_rule rules i r q here (ap (slice_get rules) (sym is) ∙ e)) s)
+      at_or_below (inr is) = other (v, subst (λ (p : RewriteRule). RuleStep p t v) (same_rule rules i r q here (ap (slice_get rules) (sym is) ∙ e)) s)
 
   pub none_at_all : (i : ℕ) → length rules ≤ i → NoneBefore rules t i → (j : Option ℕ) → StepsBy rules t j → ⊥
   none_at_all i all none None step = none None step tt

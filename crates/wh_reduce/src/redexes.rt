@@ -45,10 +45,7 @@ fn steps_by_rule(alloc: Global, rule: &Rule, term: &Term) -> Result<bool, AllocE
     if !same_head(&rule.left, term) {
         return Ok(false);
     }
-    match match_pattern(alloc, &rule.metas, &rule.left, term)? {
-        Some(_) => Ok(true),
-        None => Ok(false),
-    }
+    Ok(match_pattern(alloc, &rule.metas, &rule.left, term)?.is_some())
 }
 
 /// What the term steps by first at its root: beta comes before the rules (`Some(None)`), and the rules come by their

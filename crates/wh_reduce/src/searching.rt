@@ -65,16 +65,14 @@ fn first_below(alloc: Global, rules: &[Rule], term: &Term) -> Result<Option<Foun
     }
 }
 
-// The path of these steps, which come last step first.
-fn path_back(alloc: Global, back: &[u8]) -> Result<Path, AllocError>
-    requires { IsPath (reverse back.now) }
-    ensures { IfOk result (λ path. path ≡ reverse back.now) }
+// The path of these steps.
+fn path_of(alloc: Global, steps: &[u8]) -> Result<Path, AllocError>
+    requires { IsPath steps.now }
+    ensures { IfOk result (λ path. path ≡ steps.now) }
 {
     let mut path = Path::new(alloc)?;
-    let mut left = back;
-    while let [rest @ .., step] = left {
+    for step in steps {
         path.push(*step)?;
-        left = rest;
     }
     Ok(path)
 }
@@ -90,10 +88,14 @@ pub fn first_step(alloc: Global, rules: &[Rule], term: &Term) -> Result<Option<S
         (λ s. StepsFirstBy (rewrite_rules rules.now) (tm term.now) s.rule s.path)) }
 {
     match first_below(alloc, rules, term)? {
-        Some(found) => Ok(Some(Step {
-            rule: found.rule,
-            path: path_back(alloc, found.back.as_slice())?,
-        })),
+        Some(mut found) => {
+            found.back.reverse();
+            let path = path_of(alloc, found.back.as_slice())?;
+            Ok(Some(Step {
+                rule: found.rule,
+                path,
+            }))
+        }
         None => Ok(None),
     }
 }

@@ -5,7 +5,7 @@ use Rattle.wh_terms.specs.Erase.{tm, rewrite_rule}
 use Rattle.wh_match.specs.Matching.{IsMatch, HasNoMatch}
 use Rattle.wh_step.specs.Roots.{RuleStep}
 use Rattle.wh_step.proofs.RedexLemmas.{no_step_of_other_head, manageable_left, match_step}
-use Rattle.wh_reduce.proofs.RootSearch.{StepsByRule, it_is, it_is_not}
+use Rattle.wh_reduce.proofs.RootSearch.{StepsByRule, it_is_not, told_rule}
 use Rattle.wh_reduce.proofs.redexes.steps_by_rule.Goals as goal
 
 pub returns-then-not-same_head : goal.returns-then-not-same_head
@@ -19,17 +19,9 @@ pub match_pattern-requires-clause-pattern_in_range :
     goal.match_pattern-requires-clause-pattern_in_range
 match_pattern-requires-clause-pattern_in_range c = let (S, made) = c.requires.well_made in manageable_left S (rewrite_rule c.args.rule.now) made
 
-pub returns-in-Some : goal.returns-in-Some
-returns-in-Some c =
+pub returns : goal.returns
+returns c =
     let (S, made) = c.requires.well_made in
     let r = rewrite_rule c.args.rule.now in
     let t = tm c.args.term.now in
-    let found : IsMatch r.left t c.in-Some.field-0 = subst (λ o. MatchOption o (HasNoMatch r.left t) (IsMatch r.left t)) c.in-Some.is c.in_ok-match_pattern.ensures in
-    it_is (StepsByRule r t) (_, match_step S r made t c.in-Some.field-0 found)
-
-pub returns-in-None : goal.returns-in-None
-returns-in-None c =
-    let r = rewrite_rule c.args.rule.now in
-    let t = tm c.args.term.now in
-    let none : HasNoMatch r.left t = subst (λ o. MatchOption o (HasNoMatch r.left t) (IsMatch r.left t)) c.in-None.is c.in_ok-match_pattern.ensures in
-    it_is_not (StepsByRule r t) (λ (v, (g, left, right)). none g left)
+    told_rule r t c.in_ok-match_pattern.field-0 c.is_some.result c.is_some.ensures (λ bs found. (_, match_step S r made t bs found)) c.in_ok-match_pattern.ensures
