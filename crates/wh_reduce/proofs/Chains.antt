@@ -6,7 +6,6 @@ use Rattle.wh_terms.specs.Measures.{Fits}
 use Rattle.wh_terms.specs.Sight.{LooseBelow, IsTerm}
 use Rattle.wh_terms.specs.Typing.{Symbols}
 use Rattle.wh_terms.specs.Rules.{RewriteRule, AreWellMade}
-use Rattle.wh_step.specs.Step.{Step}
 use Rattle.wh_step.specs.Reduction.{Walk, last_of, Reduction}
 use Rattle.wh_step.proofs.ReplayLemmas.{step_shut, step_term}
 use Rattle.wh_reduce.specs.Leftmost.{Leftmost, IsNormal, LeadsTo}

@@ -1,5 +1,5 @@
 -- The first redex of a tree, from those of its parts.
-use Rattle.std.proofs.Common.{◌≡◌, ℕ, zero, suc, ◌+◌, ◌<◌, ◌⊎◌, inl, inr, List, [], ◌∷◌, length, Option, Some, None, refl, ap, sym, ◌∙◌, subst, arith}
+use Rattle.std.proofs.Common.{◌≡◌, ℕ, zero, suc, ◌<◌, inl, inr, List, [], ◌∷◌, Option, Some, None, refl, ap, sym, ◌∙◌, subst, arith}
 use Rattle.std.proofs.lemmas.List.Elements.{All-nil, All-cons}
 use Rattle.std.specs.Prelude.{option_and_then, MatchOption, reverse}
 use Rattle.wh_types.specs.Ty.{Ty}
@@ -8,14 +8,13 @@ use Rattle.wh_terms.specs.Sight.{IsTerm, LooseBelow}
 use Rattle.wh_terms.specs.Places.{child, part_at, IsPath}
 use Rattle.wh_terms.specs.Typing.{Symbols}
 use Rattle.wh_terms.specs.Rules.{RewriteRule, AreWellMade}
-use Rattle.wh_step.specs.Step.{Step}
 use Rattle.wh_step.specs.Replay.{StepAt}
-use Rattle.wh_step.specs.Reducts.{IsBefore, IsEarlier, Redex, Precedes}
-use Rattle.wh_step.specs.Roots.{RootStep, put_at}
+use Rattle.wh_step.specs.Reducts.{Redex, Precedes}
+use Rattle.wh_step.specs.Roots.{put_at}
 use Rattle.wh_step.proofs.RootLaws.{some_one, at_of_step}
 use Rattle.wh_step.proofs.Places.{step-step_at}
 use Rattle.wh_step.proofs.PlaceLemmas.{along, step_there}
-use Rattle.wh_reduce.specs.Leftmost.{IsFirstStep, IsNormal, StepsFirstBy}
+use Rattle.wh_reduce.specs.Leftmost.{IsNormal, StepsFirstBy}
 use Rattle.wh_reduce.specs.Redexes.{StepsBy, HasRedex, HasNone, IsFirst, IsFirstBy, redex_of}
 use Rattle.wh_reduce.specs.declared.searching.Found.{Found}
 
@@ -176,3 +175,6 @@ path_of_part path t r e =
     (λ path t u e h. All-cons (λ (d : ℕ). d < 2) 1 path (omega arith) h)
     (λ path a t e h. All-cons (λ (d : ℕ). d < 2) 0 path (omega arith) h)
     path t e
+
+pub first_path : (rules : List RewriteRule) (t : Tm) (a : Redex) → IsFirst rules t a → IsPath a.path
+first_path rules t a f = let (r, here, steps) = f.here in path_of_part a.path t r here

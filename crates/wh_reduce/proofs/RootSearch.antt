@@ -9,7 +9,7 @@ use Rattle.wh_terms.specs.Rules.{RewriteRule}
 use Rattle.wh_terms.specs.declared.subst.MetaBody.{MetaBody}
 use Rattle.wh_match.specs.Matching.{IsMatch, HasNoMatch}
 use Rattle.wh_step.specs.Reducts.{IsEarlier}
-use Rattle.wh_step.specs.Roots.{BetaStep, RuleStep, RootStep}
+use Rattle.wh_step.specs.Roots.{BetaStep, RuleStep}
 use Rattle.wh_step.proofs.RootLaws.{same_rule}
 use Rattle.wh_reduce.specs.Redexes.{StepsBy, IsFirstBy}
 

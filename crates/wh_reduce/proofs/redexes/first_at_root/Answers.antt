@@ -1,10 +1,8 @@
-use Rattle.std.proofs.Common.{◌≡◌, ◌≤◌, length, true, Some, slice_get, sym, ◌∙◌, subst, arith}
-use Rattle.std.specs.Prelude.{IsTrue}
-use Rattle.wh_terms.specs.Rules.{RewriteRule}
+use Rattle.std.proofs.Common.{◌≡◌, ◌≤◌, length, true, arith}
 use Rattle.wh_terms.specs.Erase.{tm, rewrite_rule, rewrite_rules}
 use Rattle.wh_step.proofs.RedexLemmas.{rule_now, rules_counted}
 use Rattle.wh_step.proofs.RootLaws.{rule_made}
-use Rattle.wh_reduce.proofs.RootSearch.{StepsByRule, none_by_next, none_at_all, first_by_rule}
+use Rattle.wh_reduce.proofs.RootSearch.{none_by_next, none_at_all, first_by_rule}
 use Rattle.wh_reduce.proofs.redexes.first_at_root.Goals as goal
 
 pub steps_by_rule-requires-clause-well_made : goal.steps_by_rule-requires-clause-well_made

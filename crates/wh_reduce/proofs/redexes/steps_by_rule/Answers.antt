@@ -1,9 +1,5 @@
-use Rattle.std.proofs.Common.{◌≡◌, subst, true, false}
-use Rattle.std.specs.Prelude.{MatchOption}
-use Rattle.wh_terms.specs.Tree.{Tm}
+use Rattle.std.proofs.Common.{◌≡◌, true, false}
 use Rattle.wh_terms.specs.Erase.{tm, rewrite_rule}
-use Rattle.wh_match.specs.Matching.{IsMatch, HasNoMatch}
-use Rattle.wh_step.specs.Roots.{RuleStep}
 use Rattle.wh_step.proofs.RedexLemmas.{no_step_of_other_head, manageable_left, match_step}
 use Rattle.wh_reduce.proofs.RootSearch.{StepsByRule, it_is_not, told_rule}
 use Rattle.wh_reduce.proofs.redexes.steps_by_rule.Goals as goal

@@ -1,4 +1,4 @@
-use Rattle.std.proofs.Common.{◌≡◌, ap, sym, ◌∙◌, subst, ℕ, List, Option, Some, None}
+use Rattle.std.proofs.Common.{◌≡◌, ap, sym, ◌∙◌, subst, ℕ, List, Option, Some}
 use Rattle.std.specs.Prelude.{MatchOption}
 use Rattle.wh_types.specs.Erase.{ty}
 use Rattle.wh_terms.specs.Tree.{Tm, lam, app}
@@ -6,7 +6,7 @@ use Rattle.wh_terms.specs.Rules.{RewriteRule}
 use Rattle.wh_terms.specs.Erase.{tm, rewrite_rules}
 use Rattle.wh_terms.proofs.Results.{IfOk-map}
 use Rattle.wh_step.proofs.EnumerationLaws.{childless_leaf}
-use Rattle.wh_reduce.specs.Redexes.{StepsBy, IsFirstBy, HasNone, IsFirst, redex_of}
+use Rattle.wh_reduce.specs.Redexes.{IsFirstBy, HasNone}
 use Rattle.wh_reduce.proofs.FirstRedexes.{NoneAtRoot, Told, OneUp, first_found, first_function, first_argument, first_body, first_up, none_app, none_lam, none_leaf, told_up}
 use Rattle.wh_reduce.proofs.searching.+first_below.Goals as goal
 
