@@ -13,7 +13,7 @@ mutual
       ∙ ap (λ (z : List ℕ). put_part a (45 ∷ 62 ∷ z)) (arguments-append rest (sort ++ (41 ∷ r)) s)
       ∙ part-append a (45 ∷ 62 ∷ put_arguments rest (sort ++ (41 ∷ r))) s)
 
-  arguments-append : (as : RTys) (r s : List ℕ) → put_arguments as (r ++ s) ≡ put_arguments as r ++ s
+  arguments-append : (rest : RTys) (r s : List ℕ) → put_arguments rest (r ++ s) ≡ put_arguments rest r ++ s
   arguments-append no_types r s = refl
   arguments-append (more_types a rest) r s =
       ap (λ (z : List ℕ). put_part a (45 ∷ 62 ∷ z)) (arguments-append rest r s) ∙ part-append a (45 ∷ 62 ∷ put_arguments rest r) s

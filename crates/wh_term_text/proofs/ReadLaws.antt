@@ -1,6 +1,6 @@
 -- The machine of terms reads a text and a line feed behind it exactly where the bytes are the text of a term.
-use Rattle.std.proofs.Common.{◌≡◌, ℕ, suc, ◌+◌, ◌<◌, ◌≤◌, List, [], ◌∷◌, ◌++◌, length, drop, get_or, refl, ap, sym, ◌∙◌, subst, arith, append_cancel_right}
-use Rattle.std.proofs.lemmas.List.{drop_more, drop_all}
+use Rattle.std.proofs.Common.{◌≡◌, ℕ, suc, ◌+◌, ◌<◌, ◌≤◌, List, [], ◌∷◌, ◌++◌, length, drop, get_or, refl, ap, sym, ◌∙◌, subst, arith}
+use Rattle.std.proofs.lemmas.List.{append_cancel_right, drop_more, drop_all}
 use Rattle.wh_text.specs.RawTree.{RTm}
 use Rattle.wh_text.specs.Spelling.{put_term, spelled}
 use Rattle.wh_cert.specs.TermLimits.{TermFits}

@@ -14,11 +14,7 @@ use wh_cert_parts::{Frame, TermPlace, TermStep, term_step};
 use wh_text::RawTerm;
 
 // The term that has ended, if it has.
-fn ended(
-    alloc: Global,
-    stack: Vec<Frame>,
-    place: TermPlace,
-) -> Result<Option<RawTerm>, AllocError>
+fn ended(alloc: Global, stack: Vec<Frame>, place: TermPlace) -> Result<Option<RawTerm>, AllocError>
     ensures { IfOk result (λ o. MatchOption o ((t : RTm) → EndsHere (term_stack stack.items) (term_place place) t → ⊥)
         (λ r. EndsHere (term_stack stack.items) (term_place place) (rtm r))) }
 {
