@@ -1,2 +1,0 @@
-pub mod TermText
-pub mod Ending
