@@ -1,11 +1,11 @@
 -- Every front of lines of a node of a path order that is read goes on to the end of a line, within the limits.
-use Rattle.std.proofs.Common.{◌≡◌, ℕ, suc, ◌+◌, ◌<◌, ◌≤◌, cond, ◌==◌, List, [], ◌∷◌, ◌++◌, length, codes, refl, sym, ap, ◌∙◌, arith, length-append}
+use Rattle.std.proofs.Common.{◌≡◌, ℕ, suc, ◌+◌, ◌<◌, ◌≤◌, ◌==◌, List, [], ◌∷◌, ◌++◌, length, codes, refl, sym, ap, ◌∙◌, arith, length-append}
 use Rattle.std.proofs.lemmas.Bool.{cond-true, eq-eqb}
 use Rattle.std.proofs.lemmas.List.Elements.{All-nil, All-push}
 use Rattle.std.specs.Fmt.{decimal}
 use Rattle.wh_text.specs.Words.{IsWord}
 use Rattle.wh_letters.proofs.NamesAndNumbers.{first_letter}
-use Rattle.wh_inference.specs.Inferences.{Letter, same_trees, Inference, infer, Inferences, no_parts, more_parts, entries, all_entries}
+use Rattle.wh_inference.specs.Inferences.{same_trees, Inference, infer, Inferences, no_parts, more_parts, entries, all_entries}
 use Rattle.wh_inference.specs.InferenceText.{Form, alone, with_parts, with_place, form, sign, put_place, put_inference}
 use Rattle.wh_inference.specs.InferenceLimits.{InferenceFits, PartsFit}
 use Rattle.wh_inference.specs.FilterText.{WrittenFilter, keeps, picks, put_places, FilterFits}
@@ -16,8 +16,8 @@ use Rattle.wh_order_parts.proofs.InferenceSound.{seen, front, put_open, put_late
 use Rattle.wh_order_parts.proofs.InferenceWhole.{long_inference}
 use Rattle.wh_cert.specs.Written.{Filtering}
 use Rattle.wh_cert.specs.Limits.{FilterWithin}
-use Rattle.wh_cert_lines.specs.OrderLines.{Lines, LinesPlace, lines_front, name_wanted, name, in_filter, space_wanted, in_inference, on, add_named, add_shown}
-use Rattle.wh_cert_lines.proofs.SectionsLaws.{TakesNamed, TakesShown}
+use Rattle.wh_cert_lines.specs.OrderLines.{Lines, LinesPlace, lines_front, name_wanted, name, in_filter, space_wanted, in_inference, add_named, add_shown}
+use Rattle.wh_cert_lines.proofs.SectionsLaws.{TakesNamed}
 use Rattle.wh_cert_lines.proofs.OrderLinesSound.{GoodLines, GoodLinesPlace, FilterRead, InferenceRead, lines_wider, filter_good, inference_good, long_places}
 use Rattle.wh_cert_lines.proofs.OrderLinesComplete.{Reader, on_byte, filter_lift, inference_lift}
 
