@@ -1,4 +1,4 @@
-mod Proper
+mod ProperFilters
 mod OrderingWalk
 pub mod Orderings
 pub mod OneOrdering

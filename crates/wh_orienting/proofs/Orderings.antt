@@ -24,7 +24,7 @@ use Rattle.wh_ordering.specs.Ordering.{IsGoodRule, IsGoodPair, IsStrictWhere, Is
 use Rattle.wh_orienting.specs.OrderingFaults.{IsFirstImproper, IsFirstImproperMark, AreProperFilters, IsPrepared, narrow_lines, wide_lines, good_lines, bad_lines, strict_lines, weak_lines, AreNarrowRules, AreNarrowPairs, AreGoodRules, AreGoodPairs, IsFirstOrderingFault}
 use Rattle.wh_orienting.specs.declared.fault.OrderingFault.{OrderingFault}
 use Rattle.wh_orienting.specs.declared.fault.OrderingFault.TheVariants.{BadFilter, BadLines, BadDrop, WideRule, WidePair, BadRule, BadPair, NotStrict}
-use Rattle.wh_orienting.proofs.Proper.{proper_decided}
+use Rattle.wh_orienting.proofs.ProperFilters.{proper_decided}
 use Rattle.wh_orienting.proofs.OrderingWalk.{ordering_holds}
 
 -- decided, as a sum that names a fault
