@@ -8,3 +8,4 @@ mod NarrowTypes
 mod ProperFilters
 mod OrderingWalk
 pub mod Orderings
+pub mod OneOrdering

@@ -8,6 +8,7 @@ mod good;
 mod inferred;
 mod laws;
 mod narrow;
+mod one_fault;
 mod proper;
 mod strict;
 
@@ -15,3 +16,4 @@ pub use check::check_ordering;
 pub use fault::OrderingFault;
 pub use inferred::Inferred;
 pub use laws::orders_orient_or_have_a_first_fault;
+pub use one_fault::one_first_ordering_fault;
