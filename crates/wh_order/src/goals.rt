@@ -60,7 +60,7 @@ pub type Goals<'a> = Vec<Goal<'a>>;
 
 /// One goal alone.
 pub fn one<'a>(alloc: Global, goal: Goal<'a>) -> Result<Option<Goals<'a>>, AllocError>
-    ensures { IfOk result (λ r. (n : ℕ) (w : World) → IsGoalOver n w goal → HoldsGoals n w r (task n goal ∷ [])) }
+    ensures { IfOk result (λ r. (n : ℕ) (w : World) → IsGoalOver n w goal.entry → HoldsGoals n w r (task n goal.entry ∷ [])) }
 {
     let mut goals = Vec::new(alloc);
     goals.push(goal)?;

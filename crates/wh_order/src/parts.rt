@@ -23,10 +23,14 @@ pub fn arguments_of(t: &Tree) -> &[Tree]
 pub fn argument_at(t: &Tree, place: u32) -> Option<&Tree>
     ensures { IsArgument t.now place result }
 {
+    let items = arguments_of(t);
     if place == 0 {
         return None;
     }
-    arguments_of(t).get(place as usize - 1)
+    if place as usize > items.len() {
+        return None;
+    }
+    Some(&items[place as usize - 1])
 }
 
 /// The type and the body of an abstraction.

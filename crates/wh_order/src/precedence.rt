@@ -30,9 +30,12 @@ pub fn precedence_of(filters: &Filters, t: &Tree) -> Option<u32>
 fn of_symbol(filters: &Filters, symbol: u32) -> u32
     ensures { result ≡ precedence (filter_among (filtering_data filters.now).symbols symbol) }
 {
-    match filters.funs.as_slice().get(symbol as usize) {
-        Some(filter) => of_filter(filter),
-        None => 0,
+    let funs = filters.funs.as_slice();
+    let place = symbol as usize;
+    if place < funs.len() {
+        of_filter(&funs[place])
+    } else {
+        0
     }
 }
 
