@@ -1,0 +1,2 @@
+-- Extended terms, shape by shape.
+use Rattle.std.proofs.Common.{◌≡◌, ℕ}

@@ -1,0 +1,5 @@
+pub mod BuildLemmas
+pub mod ExpandLemmas
+pub mod KindLemmas
+pub mod MetaLemmas
+pub mod RaiseLemmas
