@@ -1,2 +1,4 @@
 pub mod TreeLemmas
 pub mod PartLemmas
+pub mod FilterLemmas
+pub mod OverLemmas

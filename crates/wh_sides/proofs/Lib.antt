@@ -1,4 +1,5 @@
 pub mod BuildLemmas
+pub mod CallLemmas
 pub mod ExpandLemmas
 pub mod KindLemmas
 pub mod MetaLemmas
