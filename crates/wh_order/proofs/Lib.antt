@@ -2,3 +2,4 @@ pub mod TreeLemmas
 pub mod PartLemmas
 pub mod FilterLemmas
 pub mod OverLemmas
+pub mod SiftLemmas

@@ -11,10 +11,11 @@ use Rattle.wh_terms.specs.Erase.{tm, tms}
 use Rattle.wh_terms.specs.declared.term.Term.{Term, Meta}
 use Rattle.wh_terms.proofs.TermLemmas.{join, tms_append, tms_take_next, tm_meta, tm_of_meta}
 use Rattle.wh_extended.specs.Kinds.{kind}
-use Rattle.wh_extended.specs.Long.{core, cores, finish_argument, long}
+use Rattle.wh_extended.specs.Long.{core, cores, finish, finish_argument, long}
 use Rattle.wh_sides.specs.declared.room.Built.{Built}
 use Rattle.wh_sides.specs.declared.room.BuiltTerms.{BuiltTerms}
 use Rattle.wh_sides.specs.Room.{IsBuilt, AreBuilt}
+use Rattle.wh_sides.proofs.ExpandLemmas.{size_expand}
 
 -- want of room in a part is want of room for the whole
 pub passed_on : {T U E : Type 0} (r : Result U (Or E)) (e : Or E) (P : T → Type 0) (Q : U → Type 0) (A B : Type 0) → IsErrAnd r (λ x. x ≡ e)
@@ -29,6 +30,30 @@ passed_on {T} {U} {E} (Err x) e P Q A B is h on = subst (λ y. MatchOr {T = U} (
 -- an argument of a meta-variable, extended
 abbrev pub argued : Symbols → List Declared → List Ty → Tm → Tm
 argued S M Γ t = finish_argument t (kind S M Γ t) (core S M Γ t)
+
+-- missing arguments make a tree no smaller
+
+finish-larger : (t : Tm) (a : Ty) (c : Tm) → size c ≤ size (finish t a c)
+finish-larger (bound i) a c = omega (arith, size_expand a c)
+finish-larger (free x b) a c = omega (arith, size_expand a c)
+finish-larger (fun f) a c = omega (arith, size_expand a c)
+finish-larger (meta z ts) a c = omega arith
+finish-larger (lam b t) a c = omega arith
+finish-larger (app t u) a c = omega (arith, size_expand a c)
+
+argument-larger : (t : Tm) (a : Ty) (c : Tm) → size c ≤ size (finish_argument t a c)
+argument-larger (bound i) a c = omega arith
+argument-larger (free x b) a c = finish-larger (free x b) a c
+argument-larger (fun f) a c = finish-larger (fun f) a c
+argument-larger (meta z ts) a c = finish-larger (meta z ts) a c
+argument-larger (lam b t) a c = finish-larger (lam b t) a c
+argument-larger (app t u) a c = finish-larger (app t u) a c
+
+pub long_wide : (S : Symbols) (M : List Declared) (Γ : List Ty) (room : ℕ) (t : Tm) → room < size (core S M Γ t) → room < size (long S M Γ t)
+long_wide S M Γ room t wide = omega (arith, wide, finish-larger t (kind S M Γ t) (core S M Γ t))
+
+pub argument_wide : (S : Symbols) (M : List Declared) (Γ : List Ty) (room : ℕ) (t : Tm) → room < size (core S M Γ t) → room < size (argued S M Γ t)
+argument_wide S M Γ room t wide = omega (arith, wide, argument-larger t (kind S M Γ t) (core S M Γ t))
 
 is_built : (room : ℕ) (u v : Tm) (b : Built) → u ≡ v → tm b.term ≡ v → b.room + size v ≡ room → IsBuilt room u b
 is_built room u v b e same left = subst (λ w. IsBuilt room w b) (sym e) (record { same = same; left = left })
@@ -146,9 +171,9 @@ module _ (S : Symbols) (M : List Declared) (Γ : List Ty) where
   cores-take (x ∷ xs) zero = omega arith
   cores-take (x ∷ xs) (suc n) = omega (arith, cores-take xs n)
 
-  pub none_built : (room : ℕ) → AreBuilt room (cores S M Γ none) (record { items = []; room = room })
+  pub none_built : (room : ℕ) (out : List Term) → out ≡ [] → AreBuilt room (cores S M Γ none) (record { items = out; room = room })
   unfolding cores
-  none_built room = record { same = refl; left = omega arith }
+  none_built room out e = record { same = ap tms e; left = omega arith }
 
   -- one argument more
   pub more_built : (Δ : List Ty) (room left : ℕ) (xs out new : List Term) (i : ℕ) (t : Term) (a : Built) → i < length xs → t ≡ get_or xs i t → Δ ≡ Γ

@@ -15,7 +15,7 @@ use Rattle.wh_sides.specs.Room.{IsBuilt}
 use Rattle.wh_sides.specs.PairSides.{AreWholeArguments}
 
 -- how many nodes arguments add to a spine
-total : List Tm → ℕ
+abbrev pub total : List Tm → ℕ
 total [] = 0
 total (t ∷ ts) = 1 + size t + total ts
 
@@ -24,11 +24,11 @@ size-spine h [] = omega arith
 size-spine h (t ∷ ts) = omega (arith, size-spine (app h t) ts)
 
 total-append : (ts us : List Tm) → total (ts ++ us) ≡ total ts + total us
-total-append [] us = refl
+total-append [] us = omega arith
 total-append (t ∷ ts) us = omega (arith, total-append ts us)
 
 module _ (S : Symbols) (M : List Declared) where
-  extended : List Term → List Tm
+  abbrev pub extended : List Term → List Tm
   extended xs = map (long S M []) (map tm xs)
 
   call-size : (f : ℕ) (xs : List Term) → size (extended_call S M f (map tm xs)) ≡ 1 + total (extended xs)
@@ -55,8 +55,8 @@ module _ (S : Symbols) (M : List Declared) where
     pub same : map tm us ≡ extended xs
     pub room : left + (1 + total (extended xs)) ≡ greatest_size
 
-  pub first_none : (left : ℕ) → left + 1 ≡ greatest_size → AreFirst [] left []
-  first_none left one = record { same = refl; room = omega (arith, one) }
+  pub first_none : (left : ℕ) (out : List Term) → out ≡ [] → left + 1 ≡ greatest_size → AreFirst [] left out
+  first_none left out none one = record { same = ap (map tm) none; room = omega (arith, one) }
 
   pub first_next : (xs out new : List Term) (i left rest : ℕ) (t : Term) (a : Built) → i < length xs → t ≡ get_or xs i t → AreFirst (take i xs) left out
       → rest + 1 ≡ left → IsBuilt rest (long S M [] (tm t)) a → new ≡ out ++ a.term ∷ [] → AreFirst (take (i + 1) xs) a.room new

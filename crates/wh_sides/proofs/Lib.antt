@@ -4,3 +4,4 @@ pub mod ExpandLemmas
 pub mod KindLemmas
 pub mod MetaLemmas
 pub mod RaiseLemmas
+pub mod SideLemmas

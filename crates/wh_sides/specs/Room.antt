@@ -27,8 +27,3 @@ pub record AreBuilt (room : ℕ) (ts : Tms) (b : BuiltTerms) : Type 0 where
 
 abbrev pub BuildsAll : ℕ → Tms → Result BuiltTerms (Or TooWide) → Type 0
 BuildsAll room ts r = MatchOr r (AreBuilt room ts) (λ _. room < sizes ts)
-
--- the term is the tree, which has at most 65,536 nodes
-pub record IsWholeSide (t : Tm) (u : Term) : Type 0 where
-  pub same : tm u ≡ t
-  pub narrow : size t ≤ greatest_size

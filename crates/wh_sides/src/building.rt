@@ -61,9 +61,28 @@ fn argument_under<'a>(
     ensures kept { OnOk result (binders.new.items ≡ binders.old.items) }
 {
     let spine = core_under(alloc, signature, metas, binders, term, room)?;
+    finish_argument(alloc, signature, metas, binders, term, spine)
+}
+
+// What stands for an argument of a meta-variable, with its missing arguments; a bound variable stands as it is.
+fn finish_argument<'a>(
+    alloc: Global,
+    signature: &Signature,
+    metas: &[MetaDecl],
+    binders: &mut Vec<&'a SimpleType>,
+    term: &'a Term,
+    spine: Built,
+) -> Result<Built, Or<TooWide>>
+    ensures built { (room : ℕ) (t : Tm) → IsBuilt room t spine → Builds room
+        (finish_argument (tm term.now) (kind (symbols signature.now) (declared_metas metas.now) (scope binders.old.items) (tm term.now)) t) result }
+    ensures kept { OnOk result (binders.new.items ≡ binders.old.items) }
+{
     match term {
-        Term::Bound(_) => Ok(spine),
-        _ => finish(alloc, signature, metas, binders, term, spine),
+        Term::Bound(_) | Term::Lam(_, _) | Term::Meta(_, _) => Ok(spine),
+        Term::Free(_, _) | Term::Fun(_) | Term::App(_, _) => {
+            let kind = kind_under(alloc, signature, metas, binders, term)?;
+            expand_within(alloc, &kind, spine)
+        }
     }
 }
 

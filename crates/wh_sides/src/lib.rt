@@ -10,4 +10,4 @@ mod room;
 mod sides;
 
 pub use room::TooWide;
-pub use sides::{extended_arguments, extended_rule};
+pub use sides::{WideSide, extended_arguments, extended_rule};

@@ -10,18 +10,27 @@ ghost use Rattle.wh_system.specs.CanonicalView.{side_of};
 ghost use Rattle.wh_system.specs.SystemView.{system_data};
 ghost use Rattle.wh_pairs.specs.PairData.{pair_data};
 ghost use Rattle.wh_extended.specs.ExtendedSides.{extended_side};
-ghost use Rattle.wh_sides.specs.Room.{Builds, IsWholeSide};
+ghost use Rattle.wh_sides.specs.RuleSides.{IsWideSide};
 ghost use Rattle.wh_sides.specs.PairSides.{BuildsCall, list_of_side};
 
 use crate::building::long;
 use crate::kinds::kind_of;
 use crate::metas::{applied, copy_metas, with_added};
-use crate::room::{Built, TooWide, without};
+use crate::room::{TooWide, without};
 use std::alloc::Global;
 use wh_pairs::Pair;
 use wh_system::System;
-use wh_terms::{MOST_SIZE, MetaDecl, Rule, Signature, Term, Terms, copy_term};
+use wh_terms::{MOST_SIZE, MetaDecl, Metas, Rule, Signature, Term, Terms, copy_term};
 use wh_types::{Or, counted};
+
+/// A side of a rule with all its arguments, and what it is over.
+#[derive(Drop)]
+pub struct WideSide {
+    /// The meta-variables: those of the rule, and behind them one for each argument that the sides of the rule lack.
+    pub metas: Metas,
+    /// The side.
+    pub term: Term,
+}
 
 /// The right side of a rule, or its left side, applied to fresh meta-variables for its missing arguments and extended (Kop 2012).
 ///
@@ -31,16 +40,15 @@ pub fn extended_rule(
     system: &System,
     rule: u32,
     right: bool,
-) -> Result<Term, Or<TooWide>>
+) -> Result<WideSide, Or<TooWide>>
     requires { rule < length (system_data system.now).rules }
     ensures { (r : RewriteRule) → slice_get (system_data system.now).rules rule ≡ Some r → MatchOr result
-        (IsWholeSide (extended_side (system_data system.now).symbols r (side_of right r)))
+        (IsWideSide (system_data system.now).symbols r (side_of right r))
         (λ _. greatest_size < size (extended_side (system_data system.now).symbols r (side_of right r))) }
 {
     let rule = &system.rules()[rule as usize];
     let side = if right { &rule.right } else { &rule.left };
-    let whole = extended_side(alloc, system.signature(), rule, side)?;
-    Ok(whole.term)
+    extended_side(alloc, system.signature(), rule, side)
 }
 
 // A side of the rule, extended.
@@ -49,14 +57,17 @@ fn extended_side(
     signature: &Signature,
     rule: &Rule,
     side: &Term,
-) -> Result<Built, Or<TooWide>>
-    ensures { Builds greatest_size (extended_side (symbols signature.now) (rewrite_rule rule.now) (tm side.now)) result }
+) -> Result<WideSide, Or<TooWide>>
+    ensures { MatchOr result (IsWideSide (symbols signature.now) (rewrite_rule rule.now) (tm side.now))
+        (λ _. greatest_size < size (extended_side (symbols signature.now) (rewrite_rule rule.now) (tm side.now))) }
 {
     let kind = kind_of(alloc, signature, rule.metas.as_slice(), &rule.left)?;
     let metas = with_added(alloc, copy_metas(alloc, &rule.metas)?, &kind)?;
     let first = counted(rule.metas.as_slice().len())?;
     let whole = applied(alloc, copy_term(alloc, side)?, first, &kind)?;
-    long(alloc, signature, metas.as_slice(), &whole, MOST_SIZE)
+    let built = long(alloc, signature, metas.as_slice(), &whole, MOST_SIZE)?;
+    let term = built.term;
+    Ok(WideSide { metas, term })
 }
 
 /// The arguments of the right side of a pair, or of its left side, extended (Kop 2012).
