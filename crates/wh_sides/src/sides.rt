@@ -47,8 +47,14 @@ pub fn extended_rule(
         (λ _. greatest_size < size (extended_side (system_data system.now).symbols r (side_of right r))) }
 {
     let rule = &system.rules()[rule as usize];
-    let side = if right { &rule.right } else { &rule.left };
-    extended_side(alloc, system.signature(), rule, side)
+    extended_side(alloc, system.signature(), rule, side_of(rule, right))
+}
+
+// The right side of a rule, or its left side.
+fn side_of(rule: &Rule, right: bool) -> &Term
+    ensures { tm result.now ≡ side_of right (rewrite_rule rule.now) }
+{
+    if right { &rule.right } else { &rule.left }
 }
 
 // A side of the rule, extended.

@@ -138,3 +138,26 @@ cores_under-loop-item-preserved t c =
           c.as_slice-item-items.result.now c.loop-item.results c.push.new.self c.loop-item.item-index c.item-item.result c.in_ok-argument.argument c.loop-item-test.true
           c.item-item.is (ap scope c.loop-item.invariant.kept) c.loop-item.invariant.built c.in_ok-argument.ensures.built c.in_ok-push.ensures.ok;
     }
+
+pub core_under-returns-in_ok-new-in-Lam-clause-built : goal.core_under-returns-in_ok-new-in-Lam-clause-built
+core_under-returns-in_ok-new-in-Lam-clause-built t c =
+    let Γ = scope c.args.binders.now.items in
+    let Δ = scope c.push.new.self.items in
+    let v = tm c.args.term.now in
+    let u = tm c.deref.result.now in
+    let inner : Δ ≡ ty c.in-Lam.kind ∷ Γ = ap scope c.in_ok-push-in-Lam.ensures.items ∙ scope_push c.args.binders.now.items _ in
+    let e : v ≡ lam (ty c.in-Lam.kind) u = ap tm c.in-Lam.is ∙ ap (λ b. lam (ty c.in-Lam.kind) (tm b)) (sym c.deref.ensures) in
+    lam_built (symbols c.args.signature.now) (declared_metas c.args.metas.now) Γ Δ c.args.room c.in_ok-rest.rest v (ty c.in-Lam.kind) u c.in_ok-body-in-Lam.body _
+    e inner c.in_ok-rest.ensures c.in_ok-body-in-Lam.ensures.built (ap₂ lam c.in_ok-kind-in-Lam.ensures (ap tm c.in_ok-new-in-Lam.ensures.ok)) refl
+
+pub core_under-returns-in_ok-new-in-App-clause-built : goal.core_under-returns-in_ok-new-in-App-clause-built
+core_under-returns-in_ok-new-in-App-clause-built t c =
+    let Δ = scope c.core_under.new.binders.items in
+    let v = tm c.args.term.now in
+    let f = tm c.deref-in-App.result.now in
+    let u = tm c.deref-in-App-2.result.now in
+    let e : v ≡ app f u = ap tm c.in-App.is ∙ ap₂ (λ p q. app (tm p) (tm q)) (sym c.deref-in-App.ensures) (sym c.deref-in-App-2.ensures) in
+    app_built (symbols c.args.signature.now) (declared_metas c.args.metas.now) (scope c.args.binders.now.items) Δ c.args.room c.in_ok-rest.rest v f u
+    c.in_ok-function-in-App.function c.in_ok-argument-in-App.argument _ e (ap scope c.in_ok-function-in-App.ensures.kept) c.in_ok-rest.ensures
+    c.in_ok-function-in-App.ensures.built c.in_ok-argument-in-App.ensures.built
+    (ap₂ (λ p q. app (tm p) (tm q)) c.in_ok-front-in-App.ensures.ok c.in_ok-new-in-App.ensures.ok) refl
