@@ -27,7 +27,7 @@ returns-in_err-built c =
     let is : a ≡ kind S r.metas [] r.left = c.in_ok-kind.ensures ∙ ap (λ (ms : List MetaDecl). kind S (declared_metas ms) [] (tm c.args.rule.now.left)) c.as_slice.ensures in
     let more : M ≡ r.metas ++ added (arguments a) = ap declared_metas c.as_slice-3.ensures ∙ c.in_ok-metas.ensures ∙ ap (λ l. l ++ added (arguments a)) c.in_ok-copy_metas.ensures in
     let count : c.in_ok-first.first ≡ length r.metas =
-    omega (arith, c.in_ok-first.ensures, c.len.ensures, ap length c.as_slice-2.ensures, length-map c.args.rule.now.metas declared_meta) in
+    omega (arith, c.in_ok-first.ensures, ap length c.as_slice-2.ensures, length-map c.args.rule.now.metas declared_meta) in
     let whole : w ≡ spine t (added_from c.in_ok-first.first (arguments a)) = c.in_ok-whole.ensures ∙ ap (λ h. spine h (added_from c.in_ok-first.first (arguments a))) c.in_ok-copy_term.ensures in
     passed_on c.from_residual-in_err-built.result c.in_err-built.field-0.0 (IsBuilt greatest_size (long S M [] w)) (IsWideSide S r t)
     (greatest_size < size (long S M [] w)) (greatest_size < size (extended_side S r t)) c.from_residual-in_err-built.ensures.1 c.in_err-built.ensures
@@ -44,6 +44,6 @@ returns c =
     let is : a ≡ kind S r.metas [] r.left = c.in_ok-kind.ensures ∙ ap (λ (ms : List MetaDecl). kind S (declared_metas ms) [] (tm c.args.rule.now.left)) c.as_slice.ensures in
     let more : M ≡ r.metas ++ added (arguments a) = ap declared_metas c.as_slice-3.ensures ∙ c.in_ok-metas.ensures ∙ ap (λ l. l ++ added (arguments a)) c.in_ok-copy_metas.ensures in
     let count : c.in_ok-first.first ≡ length r.metas =
-    omega (arith, c.in_ok-first.ensures, c.len.ensures, ap length c.as_slice-2.ensures, length-map c.args.rule.now.metas declared_meta) in
+    omega (arith, c.in_ok-first.ensures, ap length c.as_slice-2.ensures, length-map c.args.rule.now.metas declared_meta) in
     let whole : w ≡ spine t (added_from c.in_ok-first.first (arguments a)) = c.in_ok-whole.ensures ∙ ap (λ h. spine h (added_from c.in_ok-first.first (arguments a))) c.in_ok-copy_term.ensures in
     side_built S r t M a c.in_ok-first.first w c.in_ok-built.built _ is more count whole c.in_ok-built.ensures refl (sym (ap declared_metas c.as_slice-3.ensures))
