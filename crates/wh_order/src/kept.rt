@@ -56,7 +56,7 @@ pub fn filtered_symbol(
     if place >= funs.len() {
         return Ok(Tree::Sym(symbol, Trees::new(alloc)?));
     }
-    match kept(alloc, &funs[place], behind)? {
+    match left_of(alloc, &funs[place], behind)? {
         Kept::Arguments(items) => Ok(Tree::Sym(symbol, items)),
         Kept::Instead(tree) => Ok(tree),
     }
@@ -74,7 +74,7 @@ pub fn filtered_mark(
 {
     for mark in filters.marks.as_slice() {
         if mark.symbol == symbol {
-            return match kept(alloc, &mark.filter, behind)? {
+            return match left_of(alloc, &mark.filter, behind)? {
                 Kept::Arguments(items) => Ok(Tree::Mark(symbol, items)),
                 Kept::Instead(tree) => Ok(tree),
             };
@@ -84,7 +84,7 @@ pub fn filtered_mark(
 }
 
 // What the filter leaves of a symbol with these arguments, the first of them last.
-fn kept(alloc: Global, filter: &Filter, behind: Vec<Tree>) -> Result<Kept, AllocError>
+fn left_of(alloc: Global, filter: &Filter, behind: Vec<Tree>) -> Result<Kept, AllocError>
     ensures { IfOk result (λ k. (cs : List Ty) → IsProperAsWritten cs (written_filter filter.now) → length behind.items ≡ length cs
         → IsLeft (written_filter filter.now) cs (reverse behind.items) k) }
 {
