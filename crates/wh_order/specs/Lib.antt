@@ -1,2 +1,5 @@
 pub mod Trees
 pub mod TreeSides
+pub mod TreeParts
+pub mod Claims
+pub mod BadNumber

@@ -42,11 +42,6 @@ IsHeadTree (Mark' f shape all) = ⊥
 IsHeadTree (Apply' p t shape all) = ⊥
 IsHeadTree _ = Unit {0}
 
--- there is an argument
-abbrev pub IsSomeRow : {m : _} → Row_of-Tree m → Type 0
-IsSomeRow end_of-Tree = ⊥
-IsSomeRow (more_of-Tree t rest) = Unit {0}
-
 module _ (n : ℕ) (F : Symbols) (M : List Declared) where
   -- a tree over the n symbols and the marked ones, which have the types in F, and over the meta-variables M: each symbol
   -- has all arguments that its type has and leads to the one sort, each meta-variable has its type of M, and an
@@ -59,8 +54,13 @@ module _ (n : ℕ) (F : Symbols) (M : List Declared) where
     IsOver (Sym' f shape all) = (f < n) × (spine_type (type_at F.funs f) (length (row n all)) ≡ sort 0) × AreOver all
     IsOver (Mark' f shape all) = (spine_type (type_at F.funs (n + f)) (length (row n all)) ≡ sort 0) × AreOver all
     IsOver (Lam' a p t) = IsOver t
-    IsOver (Apply' p t shape all) = IsHeadTree t × IsOver t × IsSomeRow all × AreOver all
+    IsOver (Apply' p t shape all) = IsHeadTree t × (0 < length (row n all)) × IsOver t × AreOver all
 
     pub AreOver : {m : _} → Row_of-Tree m → Type 0
     AreOver end_of-Tree = Unit {0}
     AreOver (more_of-Tree t rest) = IsOver t × AreOver rest
+
+  -- and so each tree of a list
+  abbrev pub EachOver : List Tree → Type 0
+  EachOver [] = Unit {0}
+  EachOver (t ∷ ts) = IsOver t × EachOver ts
