@@ -42,11 +42,14 @@ Nearest ts count i left = (n : ℕ) (w : World) → AllOver n w ts
 drop_more : (ts : List Tree) (i : ℕ) (t : Tree) → i < length ts → t ≡ get_or ts i t → drop i ts ≡ t ∷ drop (i + 1) ts
 drop_more [] i t within e = absurd (omega arith)
 drop_more (u ∷ ts) zero t within e = ap (λ (x : Tree). x ∷ ts) (sym e)
-drop_more (u ∷ ts) (suc i) t within e = drop_more ts i t (omega arith) e
+drop_more (u ∷ ts) (suc i) t within e =
+    let next : suc (i + 1) ≡ suc i + 1 = omega arith in
+    drop_more ts i t (omega arith) e ∙ ap (λ (k : ℕ). t ∷ drop k (u ∷ ts)) next
 
 step : (t : Tm) (ts : Tms) (left : ℕ) (b : Bool) → 0 < left → b ≡ same t (bound (left - 1)) → all_same (more t ts) (nearest left) ≡ (b && all_same ts (nearest (left - 1)))
 step t ts zero b some e = absurd (omega arith)
-step t ts (suc k) b some e = ap (λ (c : Bool). c && all_same ts (nearest k)) (sym e)
+step t ts (suc k) b some e =
+    ap₂ (λ (c : Bool) (j : ℕ). c && all_same ts (nearest j)) (ap (λ (j : ℕ). same t (bound j)) (omega arith) ∙ sym e) (omega arith)
 
 past : (t : Tm) (ts : Tms) (left : ℕ) → left ≡ 0 → all_same (more t ts) (nearest left) ≡ false
 past t ts zero e = refl
@@ -54,13 +57,13 @@ past t ts (suc k) e = absurd (omega (arith, e))
 
 pub nearest_next : (ts : List Tree) (count i left : ℕ) (t : Tree) (b : Bool) → Nearest ts count i left → i < length ts → t ≡ get_or ts i t → 0 < left
     → ((n : ℕ) (w : World) → Over n w t → b ≡ same (tree n t) (bound (left - 1))) → b ≡ true → Nearest ts count (i + 1) (left - 1)
-nearest_next ts count i left t b before within e some is yes n w all =
+nearest_next ts count i left t b before within e some is so n w all =
     let l = drop_more ts i t within e in
     let p = subst (AllOver n w) l (before n w all).0 in (
       p.1,
       (before n w all).1 ∙ ap (λ (us : List Tree). all_same (tms_of (trees n us)) (nearest left)) l
-      ∙ step (tree n t) (tms_of (trees n (drop (i + 1) ts))) left b some (is n w p.0)
-      ∙ ap (λ (c : Bool). c && all_same (tms_of (trees n (drop (i + 1) ts))) (nearest (left - 1))) yes,
+          ∙ step (tree n t) (tms_of (trees n (drop (i + 1) ts))) left b some (is n w p.0)
+          ∙ ap (λ (c : Bool). c && all_same (tms_of (trees n (drop (i + 1) ts))) (nearest (left - 1))) so,
     )
 
 pub nearest_other : (ts : List Tree) (count i left : ℕ) (t : Tree) (b : Bool) → Nearest ts count i left → i < length ts → t ≡ get_or ts i t → 0 < left
@@ -78,17 +81,22 @@ nearest_past ts count i left t before within e zero_left n w all =
     sym ((before n w all).1 ∙ ap (λ (us : List Tree). all_same (tms_of (trees n us)) (nearest left)) (drop_more ts i t within e)
     ∙ past (tree n t) (tms_of (trees n (drop (i + 1) ts))) left zero_left)
 
-drop_whole : (ts : List Tree) → drop (length ts) ts ≡ []
-drop_whole [] = refl
-drop_whole (t ∷ ts) = drop_whole ts
+drop_past : (ts : List Tree) (i : ℕ) → length ts ≤ i → drop i ts ≡ []
+drop_past [] zero past = refl
+drop_past [] (suc i) past = refl
+drop_past (t ∷ ts) zero past = absurd (omega arith)
+drop_past (t ∷ ts) (suc i) past = drop_past ts i (omega arith)
 
 ended : (left : ℕ) → (left == 0) ≡ all_same none (nearest left)
 ended zero = refl
-ended (suc k) = refl
+ended (suc k) = ne_eqb (suc k) 0 (λ e. absurd (omega (arith, e)))
 
-pub nearest_end : (ts : List Tree) (count left : ℕ) → Nearest ts count (length ts) left → (n : ℕ) (w : World) → AllOver n w ts → (left == 0) ≡ all_same (tms_of (trees n ts)) (nearest count)
-nearest_end ts count left h n w all =
-    ended left ∙ ap (λ (us : List Tree). all_same (tms_of (trees n us)) (nearest left)) (sym (drop_whole ts)) ∙ sym (h n w all).1
+pub nearest_first : (ts : List Tree) (count : ℕ) → Nearest ts count 0 count
+nearest_first ts count n w all = (all, refl)
+
+pub nearest_end : (ts : List Tree) (count i left : ℕ) → Nearest ts count i left → length ts ≤ i → (n : ℕ) (w : World) → AllOver n w ts → (left == 0) ≡ all_same (tms_of (trees n ts)) (nearest count)
+nearest_end ts count i left h past n w all =
+    ended left ∙ ap (λ (us : List Tree). all_same (tms_of (trees n us)) (nearest left)) (sym (drop_past ts i past)) ∙ sym (h n w all).1
 
 -- below abstractions
 
@@ -114,18 +122,38 @@ below_lam t a p z c left b e some h n k w sum o =
     h n (suc k) w (omega arith) (subst (Over n w) e o) ∙ ap (λ (u : Tree). is_abstracted z c k (tree n u)) (sym e)
 
 pub below_none : (t : Tree) (a : SimpleType) (p : Box Tree Global) (z c left : ℕ) → t ≡ Lam a p → left ≡ 0 → IsBelow t z c left false
-below_none t a p z c left e none n k w sum o =
-    sym (ap (λ (u : Tree). is_abstracted z c k (tree n u)) e ∙ too_deep z c (suc k) (tree n p.value) (omega (arith, sum, none)))
+below_none t a p z c left e zero_left n k w sum o =
+    sym (ap (λ (u : Tree). is_abstracted z c k (tree n u)) e ∙ too_deep z c (suc k) (tree n p.value) (omega (arith, sum, zero_left)))
 
 zero_same : (left k c : ℕ) → k + left ≡ c → (left == 0) ≡ (k == c)
 zero_same zero k c sum = sym (eq-eqb k c (omega (arith, sum)))
-zero_same (suc l) k c sum = sym (ne_eqb k c (λ e. absurd (omega (arith, sum, e))))
+zero_same (suc l) k c sum = ne_eqb (suc l) 0 (λ e. absurd (omega (arith, e))) ∙ sym (ne_eqb k c (λ e. absurd (omega (arith, sum, e))))
 
 pub below_meta : (t : Tree) (y : ℕ) (a : SimpleType) (ts xs : List Tree) (z c left : ℕ) (b d : Bool) → t ≡ Meta y a ts → xs ≡ ts
     → ((n : ℕ) (w : World) → AllOver n w xs → d ≡ all_same (tms_of (trees n xs)) (nearest c)) → b ≡ (((y == z) && (left == 0)) && d) → IsBelow t z c left b
 below_meta t y a ts xs z c left b d e list h is n k w sum o =
     is ∙ ap₂ (λ (u v : Bool). ((y == z) && u) && v) (zero_same left k c sum) (h n w (subst (AllOver n w) (sym list) (over_of_meta n w t y a ts e o).1) ∙ ap (λ (us : List Tree). all_same (tms_of (trees n us)) (nearest c)) list)
     ∙ sym (ap (is_abstracted z c k) (tree_of_meta n t y a ts e))
+
+pub below_meta_is : (t : Tree) (y : ℕ) (a : SimpleType) (ts xs : List Tree) (z c left : ℕ) (d : Bool) → t ≡ Meta y a ts → xs ≡ ts
+    → ((n : ℕ) (w : World) → AllOver n w xs → d ≡ all_same (tms_of (trees n xs)) (nearest c)) → y ≡ z → left ≡ 0 → IsBelow t z c left d
+below_meta_is t y a ts xs z c left d e list h number none_left =
+    below_meta t y a ts xs z c left d d e list h (sym (ap₂ (λ (u v : Bool). (u && v) && d) (eq-eqb y z number) (eq-eqb left 0 none_left)))
+
+pub below_other_number : (t : Tree) (y : ℕ) (a : SimpleType) (ts : List Tree) (z c left : ℕ) → t ≡ Meta y a ts → (y ≡ z → ⊥) → IsBelow t z c left false
+below_other_number t y a ts z c left e differ n k w sum o =
+    sym (ap (is_abstracted z c k) (tree_of_meta n t y a ts e)
+    ∙ ap (λ (b : Bool). (b && (k == c)) && all_same (tms_of (trees n ts)) (nearest c)) (ne_eqb y z differ))
+
+and_false : (b c : Bool) → ((b && false) && c) ≡ false
+and_false true c = refl
+and_false false c = refl
+
+pub below_too_few : (t : Tree) (y : ℕ) (a : SimpleType) (ts : List Tree) (z c left : ℕ) → t ≡ Meta y a ts → (left ≡ 0 → ⊥) → IsBelow t z c left false
+below_too_few t y a ts z c left e some n k w sum o =
+    sym (ap (is_abstracted z c k) (tree_of_meta n t y a ts e)
+    ∙ ap (λ (b : Bool). ((y == z) && b) && all_same (tms_of (trees n ts)) (nearest c)) (ne_eqb k c (λ e. absurd (some (omega (arith, sum, e)))))
+    ∙ and_false (y == z) (all_same (tms_of (trees n ts)) (nearest c)))
 
 abbrev pub IsNeither : Tree → Type 0
 IsNeither (Meta' z a shape all) = ⊥

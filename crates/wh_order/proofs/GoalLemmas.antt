@@ -1,6 +1,5 @@
 -- Lists of goals, and the tasks that they stand for.
-use Rattle.std.proofs.Common.{◌≡◌, ℕ, zero, suc, ◌+◌, ◌<◌, List, [], ◌∷◌, ◌++◌, length, map, take, get_or, Option, Some, None, refl, ap, ap₂, subst, sym, ◌∙◌, add-one, append-nil, append_assoc, arith}
-use Rattle.std.proofs.Math.Seq.{take-suc, take-length}
+use Rattle.std.proofs.Common.{◌≡◌, ℕ, zero, suc, ◌+◌, ◌<◌, ◌≤◌, List, [], ◌∷◌, ◌++◌, length, map, take, get_or, Option, Some, None, refl, ap, ap₂, subst, sym, ◌∙◌, add-one, append-nil, append_assoc, arith}
 use Rattle.std.proofs.lemmas.List.{map-append}
 use Rattle.wh_terms.specs.Tree.{Tm}
 use Rattle.wh_path_order.specs.Verdict as v
@@ -11,7 +10,7 @@ use Rattle.wh_order.specs.Trees.{tree, trees}
 use Rattle.wh_order.specs.TreeParts.{World, Over, AllOver}
 use Rattle.wh_order.specs.Claims.{task, IsGoalOver, AreGoalsOver, StandFor}
 use Rattle.wh_order.proofs.TreeLemmas.{all_get}
-use Rattle.wh_order.proofs.SameLemmas.{trees_take_next}
+use Rattle.wh_order.proofs.SameLemmas.{trees_take_next, take_past}
 
 goals_append : (n : ℕ) (w : World) (gs hs : List Goal) → AreGoalsOver n w gs → AreGoalsOver n w hs → AreGoalsOver n w (gs ++ hs)
 goals_append n w [] hs p q = q
@@ -52,10 +51,10 @@ each_next c next s ts start old new g i t before pushed is over within e n w l o
     ∙ sym (append_assoc l (each c next (tree n s) (trees n (take i ts))) (each c next (tree n s) (tree n t ∷ [])))
     ∙ ap (λ (k : Task). (l ++ each c next (tree n s) (trees n (take i ts))) ++ k ∷ []) (sym (is n)))
 
-pub each_all : (c : v.Claim) (next : ℕ) (s : Tree) (ts : List Tree) (old new : List Goal) → PushedEach c next s ts old new (length ts)
+pub each_all : (c : v.Claim) (next : ℕ) (s : Tree) (ts : List Tree) (old new : List Goal) (i : ℕ) → PushedEach c next s ts old new i → length ts ≤ i
     → (n : ℕ) (w : World) (l : List Task) → Over n w s → AllOver n w ts → StandFor n w old l → StandFor n w new (l ++ each c next (tree n s) (trees n ts))
-each_all c next s ts old new h n w l o all st =
-    subst (λ (us : List Tree). StandFor n w new (l ++ each c next (tree n s) (trees n us))) (take-length ts) (h n w l o all st)
+each_all c next s ts old new i h past n w l o all st =
+    subst (λ (us : List Tree). StandFor n w new (l ++ each c next (tree n s) (trees n us))) (take_past ts i past) (h n w l o all st)
 
 -- pairs of trees
 
@@ -91,9 +90,8 @@ pairs_next next ss ts start old new g i s t before pushed is over within long es
     ∙ sym (append_assoc l (pairwise next (trees n (take i ss)) (trees n (take i ts))) (record { claim = v.at_least; next = next; left = tree n s; right = tree n t } ∷ []))
     ∙ ap (λ (k : Task). (l ++ pairwise next (trees n (take i ss)) (trees n (take i ts))) ++ k ∷ []) (sym (is n)))
 
-pub pairs_all : (next : ℕ) (ss ts : List Tree) (old new : List Goal) → length ss ≡ length ts → PushedPairs next ss ts old new (length ss)
+pub pairs_all : (next : ℕ) (ss ts : List Tree) (old new : List Goal) (i : ℕ) → length ss ≡ length ts → PushedPairs next ss ts old new i → length ss ≤ i
     → (n : ℕ) (w : World) (l : List Task) → AllOver n w ss → AllOver n w ts → StandFor n w old l → StandFor n w new (l ++ pairwise next (trees n ss) (trees n ts))
-pairs_all next ss ts old new long h n w l p q st =
-    subst (λ (us : List Tree). StandFor n w new (l ++ pairwise next (trees n ss) (trees n us))) (take-length ts)
-    (subst (λ (k : ℕ). StandFor n w new (l ++ pairwise next (trees n ss) (trees n (take k ts)))) long
-    (subst (λ (us : List Tree). StandFor n w new (l ++ pairwise next (trees n us) (trees n (take (length ss) ts)))) (take-length ss) (h n w l p q st)))
+pairs_all next ss ts old new i long h past n w l p q st =
+    subst (λ (us : List Tree). StandFor n w new (l ++ pairwise next (trees n ss) (trees n us))) (take_past ts i (omega (arith, long, past)))
+    (subst (λ (us : List Tree). StandFor n w new (l ++ pairwise next (trees n us) (trees n (take i ts)))) (take_past ss i past) (h n w l p q st))

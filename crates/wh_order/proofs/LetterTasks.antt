@@ -33,13 +33,13 @@ module _ (F : Symbols) (prec : ℕ → ℕ) (M : List Declared) where
   lower_place f from next s t h (suc k) some = refl
 
   pub lower_other : (f from next : ℕ) (s t h : Tm) (place : ℕ) → ((g : ℕ) → h ≡ fun g → ⊥) → symbol_tasks F prec M f from next s t lower place h ≡ None
-  lower_other f from next s t h (suc k) no = refl
-  lower_other f from next s t (bound i) zero no = refl
-  lower_other f from next s t (free x a) zero no = refl
-  lower_other f from next s t (fun g) zero no = absurd (no g refl)
-  lower_other f from next s t (meta z ts) zero no = refl
-  lower_other f from next s t (lam a u) zero no = refl
-  lower_other f from next s t (app u v) zero no = refl
+  lower_other f from next s t h (suc k) refuted = refl
+  lower_other f from next s t (bound i) zero refuted = refl
+  lower_other f from next s t (free x a) zero refuted = refl
+  lower_other f from next s t (fun g) zero refuted = absurd (refuted g refl)
+  lower_other f from next s t (meta z ts) zero refuted = refl
+  lower_other f from next s t (lam a u) zero refuted = refl
+  lower_other f from next s t (app u v) zero refuted = refl
 
   lower_at : (f g from next : ℕ) (s t h : Tm) → h ≡ fun g → symbol_tasks F prec M f from next s t lower zero h ≡ when (nat_lt (prec g) (prec f)) (each (above from) next s (arguments_of t))
   lower_at f g from next s t h e = ap (λ (h : Tm). symbol_tasks F prec M f from next s t lower zero h) e
@@ -49,19 +49,19 @@ module _ (F : Symbols) (prec : ℕ → ℕ) (M : List Declared) where
   lower_not f g from next s t h zero e not = lower_at f g from next s t h e ∙ ap (λ b. when b (each (above from) next s (arguments_of t))) (le-ltb (prec g) (prec f) not)
 
   pub lower_is : (f g from next : ℕ) (s t h : Tm) (place : ℕ) → place ≡ 0 → h ≡ fun g → prec g < prec f → symbol_tasks F prec M f from next s t lower place h ≡ Some (each (above from) next s (arguments_of t))
-  lower_is f g from next s t h (suc k) none e less = absurd (omega (arith, none))
-  lower_is f g from next s t h zero none e less = lower_at f g from next s t h e ∙ ap (λ b. when b (each (above from) next s (arguments_of t))) (lt-ltb (prec g) (prec f) less)
+  lower_is f g from next s t h (suc k) zero_place e less = absurd (omega (arith, zero_place))
+  lower_is f g from next s t h zero zero_place e less = lower_at f g from next s t h e ∙ ap (λ b. when b (each (above from) next s (arguments_of t))) (lt-ltb (prec g) (prec f) less)
 
   -- x
 
   pub less_other : (f from next : ℕ) (s t h : Tm) (place : ℕ) → ((g : ℕ) → h ≡ fun g → ⊥) → symbol_tasks F prec M f from next s t first_less place h ≡ None
-  less_other f from next s t h zero no = refl
-  less_other f from next s t (bound i) (suc k) no = refl
-  less_other f from next s t (free x a) (suc k) no = refl
-  less_other f from next s t (fun g) (suc k) no = absurd (no g refl)
-  less_other f from next s t (meta z ts) (suc k) no = refl
-  less_other f from next s t (lam a u) (suc k) no = refl
-  less_other f from next s t (app u v) (suc k) no = refl
+  less_other f from next s t h zero refuted = refl
+  less_other f from next s t (bound i) (suc k) refuted = refl
+  less_other f from next s t (free x a) (suc k) refuted = refl
+  less_other f from next s t (fun g) (suc k) refuted = absurd (refuted g refl)
+  less_other f from next s t (meta z ts) (suc k) refuted = refl
+  less_other f from next s t (lam a u) (suc k) refuted = refl
+  less_other f from next s t (app u v) (suc k) refuted = refl
 
   abbrev less : (from next : ℕ) → Tm → Tm → Option Tm → Option Tm → Bool → Option (List Task)
   less from next s t o p b = elim o as (λ x. Option (List Task)) [
@@ -90,10 +90,10 @@ module _ (F : Symbols) (prec : ℕ → ℕ) (M : List Declared) where
   less_place f from next s t h (suc k) e = absurd (omega (arith, e))
 
   pub less_not : (f g from next : ℕ) (s t h : Tm) (place : ℕ) → h ≡ fun g → (prec g ≡ prec f → ⊥) → symbol_tasks F prec M f from next s t first_less place h ≡ None
-  less_not f g from next s t h zero e no = refl
-  less_not f g from next s t h (suc k) e no =
+  less_not f g from next s t h zero e refuted = refl
+  less_not f g from next s t h (suc k) e refuted =
       less_at f g from next s t h k e
-      ∙ ap (λ b. less from next s t (slice_get (arguments_of s) k) (slice_get (arguments_of t) k) (b && same_list (take k (arguments_of s)) (take k (arguments_of t)))) (ne_eqb (prec g) (prec f) no)
+      ∙ ap (λ b. less from next s t (slice_get (arguments_of s) k) (slice_get (arguments_of t) k) (b && same_list (take k (arguments_of s)) (take k (arguments_of t)))) (ne_eqb (prec g) (prec f) refuted)
       ∙ less_false from next s t (slice_get (arguments_of s) k) (slice_get (arguments_of t) k)
 
   pub less_short_left : (f g from next : ℕ) (s t h : Tm) (k : ℕ) → h ≡ fun g → slice_get (arguments_of s) k ≡ None → symbol_tasks F prec M f from next s t first_less (suc k) h ≡ None
@@ -111,12 +111,12 @@ module _ (F : Symbols) (prec : ℕ → ℕ) (M : List Declared) where
   less_differ f g from next s t h k e d =
       less_at f g from next s t h k e
       ∙ ap (λ b. less from next s t (slice_get (arguments_of s) k) (slice_get (arguments_of t) k) ((prec g == prec f) && b)) d
-      ∙ ap (less from next s t (slice_get (arguments_of s) k) (slice_get (arguments_of t) k)) (no (prec g == prec f))
+      ∙ ap (less from next s t (slice_get (arguments_of s) k) (slice_get (arguments_of t) k)) (refuted (prec g == prec f))
       ∙ less_false from next s t (slice_get (arguments_of s) k) (slice_get (arguments_of t) k)
     where
-      no : (b : Bool) → (b && false) ≡ false
-      no true = refl
-      no false = refl
+      refuted : (b : Bool) → (b && false) ≡ false
+      refuted true = refl
+      refuted false = refl
 
   pub less_is : (f g from next : ℕ) (s t h u v : Tm) (k : ℕ) → h ≡ fun g → prec g ≡ prec f → same_list (take k (arguments_of s)) (take k (arguments_of t)) ≡ true
       → slice_get (arguments_of s) k ≡ Some u → slice_get (arguments_of t) k ≡ Some v
@@ -129,29 +129,29 @@ module _ (F : Symbols) (prec : ℕ → ℕ) (M : List Declared) where
   -- a
 
   other_heads : (u v : Tm) (l : List Task) → (IsOtherSpine (app u v) → ⊥) → when (is_other_head (head (app u v))) l ≡ None
-  other_heads u v l no = on (head u) refl
+  other_heads u v l refuted = on (head u) refl
     where
       on : (h : Tm) → head u ≡ h → when (is_other_head h) l ≡ None
-      on (bound i) e = absurd (no (λ f k. absurd (cc (sym e ∙ k))))
-      on (free x a) e = absurd (no (λ f k. absurd (cc (sym e ∙ k))))
+      on (bound i) e = absurd (refuted (λ f k. absurd (cc (sym e ∙ k))))
+      on (free x a) e = absurd (refuted (λ f k. absurd (cc (sym e ∙ k))))
       on (fun f) e = refl
-      on (meta z ts) e = absurd (no (λ f k. absurd (cc (sym e ∙ k))))
-      on (lam a t) e = absurd (no (λ f k. absurd (cc (sym e ∙ k))))
+      on (meta z ts) e = absurd (refuted (λ f k. absurd (cc (sym e ∙ k))))
+      on (lam a t) e = absurd (refuted (λ f k. absurd (cc (sym e ∙ k))))
       on (app p q) e = refl
 
   pub spine_none : (f from next : ℕ) (s t : Tm) (place : ℕ) → (IsOtherSpine t → ⊥) → symbol_tasks F prec M f from next s t spine_parts place (head t) ≡ None
-  spine_none f from next s (bound i) zero no = refl
-  spine_none f from next s (free x a) zero no = refl
-  spine_none f from next s (fun g) zero no = refl
-  spine_none f from next s (meta z ts) zero no = refl
-  spine_none f from next s (lam a u) zero no = refl
-  spine_none f from next s (app u v) zero no = other_heads u v (each (above from) next s (head (app u v) ∷ arguments_of (app u v))) no
-  spine_none f from next s (bound i) (suc k) no = refl
-  spine_none f from next s (free x a) (suc k) no = refl
-  spine_none f from next s (fun g) (suc k) no = refl
-  spine_none f from next s (meta z ts) (suc k) no = refl
-  spine_none f from next s (lam a u) (suc k) no = refl
-  spine_none f from next s (app u v) (suc k) no = refl
+  spine_none f from next s (bound i) zero refuted = refl
+  spine_none f from next s (free x a) zero refuted = refl
+  spine_none f from next s (fun g) zero refuted = refl
+  spine_none f from next s (meta z ts) zero refuted = refl
+  spine_none f from next s (lam a u) zero refuted = refl
+  spine_none f from next s (app u v) zero refuted = other_heads u v (each (above from) next s (head (app u v) ∷ arguments_of (app u v))) refuted
+  spine_none f from next s (bound i) (suc k) refuted = refl
+  spine_none f from next s (free x a) (suc k) refuted = refl
+  spine_none f from next s (fun g) (suc k) refuted = refl
+  spine_none f from next s (meta z ts) (suc k) refuted = refl
+  spine_none f from next s (lam a u) (suc k) refuted = refl
+  spine_none f from next s (app u v) (suc k) refuted = refl
 
   pub spine_place : (f from next : ℕ) (s t h : Tm) (place : ℕ) → 0 < place → symbol_tasks F prec M f from next s t spine_parts place h ≡ None
   spine_place f from next s t h zero some = absurd (omega arith)
@@ -164,15 +164,15 @@ module _ (F : Symbols) (prec : ℕ → ℕ) (M : List Declared) where
 
   pub spine_is : (f from next : ℕ) (s t u v h : Tm) (place : ℕ) → place ≡ 0 → t ≡ app u v → head t ≡ h → is_other_head h ≡ true
       → symbol_tasks F prec M f from next s t spine_parts place (head t) ≡ Some (each (above from) next s (h ∷ arguments_of t))
-  spine_is f from next s t u v h (suc k) none form e other = absurd (omega (arith, none))
-  spine_is f from next s (app p q) u v h zero none form e other =
+  spine_is f from next s t u v h (suc k) zero_place form e other = absurd (omega (arith, zero_place))
+  spine_is f from next s (app p q) u v h zero zero_place form e other =
       ap (λ (h : Tm). when (is_other_head h) (each (above from) next s (h ∷ arguments_of (app p q)))) e
       ∙ ap (λ b. when b (each (above from) next s (h ∷ arguments_of (app p q)))) other
-  spine_is f from next s (bound i) u v h zero none form e other = absurd (cc)
-  spine_is f from next s (free x a) u v h zero none form e other = absurd (cc)
-  spine_is f from next s (fun g) u v h zero none form e other = absurd (cc)
-  spine_is f from next s (meta z ts) u v h zero none form e other = absurd (cc)
-  spine_is f from next s (lam a p) u v h zero none form e other = absurd (cc)
+  spine_is f from next s (bound i) u v h zero zero_place form e other = absurd (cc)
+  spine_is f from next s (free x a) u v h zero zero_place form e other = absurd (cc)
+  spine_is f from next s (fun g) u v h zero zero_place form e other = absurd (cc)
+  spine_is f from next s (meta z ts) u v h zero zero_place form e other = absurd (cc)
+  spine_is f from next s (lam a p) u v h zero zero_place form e other = absurd (cc)
 
   -- b
 
@@ -196,8 +196,8 @@ module _ (F : Symbols) (prec : ℕ → ℕ) (M : List Declared) where
 
   pub body_is : (f from next : ℕ) (s t h u : Tm) (a : Ty) (place : ℕ) → place ≡ 0 → t ≡ lam a u
       → symbol_tasks F prec M f from next s t body place h ≡ Some (record { claim = above from; next = suc next; left = s; right = opened (free next a) u } ∷ [])
-  body_is f from next s t h u a (suc k) none e = absurd (omega (arith, none))
-  body_is f from next s t h u a zero none e = ap (λ (t : Tm). symbol_tasks F prec M f from next s t body zero h) e
+  body_is f from next s t h u a (suc k) zero_place e = absurd (omega (arith, zero_place))
+  body_is f from next s t h u a zero zero_place e = ap (λ (t : Tm). symbol_tasks F prec M f from next s t body zero h) e
 
   -- v
 
@@ -233,32 +233,32 @@ module _ (F : Symbols) (prec : ℕ → ℕ) (M : List Declared) where
 
   pub variable_high : (f from next : ℕ) (s t h : Tm) (place x : ℕ) → number_in t ≡ Some x → next ≤ x → symbol_tasks F prec M f from next s t variable place h ≡ None
   variable_high f from next s t h (suc k) x e high = variable_place f from next s t h (suc k) (omega arith)
-  variable_high f from next s t h zero x e high = variable_at f from next s t h x e ∙ ap (λ b. when (cond (nat_lt x from) false b) []) (le-ltb x next high) ∙ no (nat_lt x from)
+  variable_high f from next s t h zero x e high = variable_at f from next s t h x e ∙ ap (λ b. when (cond (nat_lt x from) false b) []) (le-ltb x next high) ∙ refuted (nat_lt x from)
     where
-      no : (b : Bool) → when (cond b false false) [] ≡ None
-      no true = refl
-      no false = refl
+      refuted : (b : Bool) → when (cond b false false) [] ≡ None
+      refuted true = refl
+      refuted false = refl
 
   pub variable_is : (f from next : ℕ) (s t h : Tm) (place x : ℕ) → place ≡ 0 → number_in t ≡ Some x → from ≤ x → x < next → symbol_tasks F prec M f from next s t variable place h ≡ Some []
-  variable_is f from next s t h (suc k) x none e low high = absurd (omega (arith, none))
-  variable_is f from next s t h zero x none e low high =
+  variable_is f from next s t h (suc k) x zero_place e low high = absurd (omega (arith, zero_place))
+  variable_is f from next s t h zero x zero_place e low high =
       variable_at f from next s t h x e ∙ ap₂ (λ b c. when (cond b false c) []) (le-ltb x from low) (lt-ltb x next high)
 
   -- z
 
   pub meta_none : (f from next : ℕ) (s t h : Tm) (place : ℕ) → (IsMeta t → ⊥) → symbol_tasks F prec M f from next s t meta_part place h ≡ None
-  meta_none f from next s (bound i) h zero no = refl
-  meta_none f from next s (free x a) h zero no = refl
-  meta_none f from next s (fun g) h zero no = refl
-  meta_none f from next s (meta z ts) h zero no = absurd (no tt)
-  meta_none f from next s (lam a u) h zero no = refl
-  meta_none f from next s (app u v) h zero no = refl
-  meta_none f from next s (bound i) h (suc k) no = refl
-  meta_none f from next s (free x a) h (suc k) no = refl
-  meta_none f from next s (fun g) h (suc k) no = refl
-  meta_none f from next s (meta z ts) h (suc k) no = absurd (no tt)
-  meta_none f from next s (lam a u) h (suc k) no = refl
-  meta_none f from next s (app u v) h (suc k) no = refl
+  meta_none f from next s (bound i) h zero refuted = refl
+  meta_none f from next s (free x a) h zero refuted = refl
+  meta_none f from next s (fun g) h zero refuted = refl
+  meta_none f from next s (meta z ts) h zero refuted = absurd (refuted tt)
+  meta_none f from next s (lam a u) h zero refuted = refl
+  meta_none f from next s (app u v) h zero refuted = refl
+  meta_none f from next s (bound i) h (suc k) refuted = refl
+  meta_none f from next s (free x a) h (suc k) refuted = refl
+  meta_none f from next s (fun g) h (suc k) refuted = refl
+  meta_none f from next s (meta z ts) h (suc k) refuted = absurd (refuted tt)
+  meta_none f from next s (lam a u) h (suc k) refuted = refl
+  meta_none f from next s (app u v) h (suc k) refuted = refl
 
   abbrev behind : (from next : ℕ) → Tm → ℕ → Tms → Option Tm → Option (List Task)
   behind from next s z ts o = elim o as (λ x. Option (List Task)) [ None ↦ None | Some u ↦ when (is_abstracted z (length (list_of ts)) 0 u) (each (above from) next s (list_of ts)) ]
@@ -278,19 +278,19 @@ module _ (F : Symbols) (prec : ℕ → ℕ) (M : List Declared) where
 
   pub meta_is : (f from next : ℕ) (s t h u : Tm) (z place : ℕ) (ts : Tms) → t ≡ meta z ts → item_at (arguments_of s) place ≡ Some u → is_abstracted z (length (list_of ts)) 0 u ≡ true
       → symbol_tasks F prec M f from next s t meta_part place h ≡ Some (each (above from) next s (list_of ts))
-  meta_is f from next s t h u z zero ts e some yes = absurd (cc)
-  meta_is f from next s t h u z (suc k) ts e some yes =
-      meta_at f from next s t h z k ts e ∙ ap (behind from next s z ts) some ∙ ap (λ b. when b (each (above from) next s (list_of ts))) yes
+  meta_is f from next s t h u z zero ts e some so = absurd (cc)
+  meta_is f from next s t h u z (suc k) ts e some so =
+      meta_at f from next s t h z k ts e ∙ ap (behind from next s z ts) some ∙ ap (λ b. when b (each (above from) next s (list_of ts))) so
 
   -- where a symbol heads the left tree, or none does
 
   pub above_none : (from next : ℕ) (s t : Tm) (l : Letter) (place : ℕ) → ((f : ℕ) → head s ≡ fun f → ⊥) → above_tasks F prec M from next s t l place ≡ None
-  above_none from next s t l place no = on (head s) refl
+  above_none from next s t l place refuted = on (head s) refl
     where
       on : (h : Tm) → head s ≡ h → elim h as (λ x. Option (List Task)) [ fun f ↦ symbol_tasks F prec M f from next s t l place (head t) | _ ↦ None ] ≡ None
       on (bound i) e = refl
       on (free x a) e = refl
-      on (fun f) e = absurd (no f e)
+      on (fun f) e = absurd (refuted f e)
       on (meta z ts) e = refl
       on (lam a u) e = refl
       on (app u v) e = refl

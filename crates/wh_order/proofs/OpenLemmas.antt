@@ -1,7 +1,6 @@
 -- The walk that opens the body of an abstraction.
 use Rattle.std.proofs.Common.{◌≡◌, ℕ, zero, suc, ◌+◌, ◌-◌, ◌<◌, ◌≤◌, List, [], ◌∷◌, ◌++◌, length, map, take, get_or, Box, Global, refl, ap, ap₂, subst, sym, ◌∙◌, add-one, arith}
-use Rattle.std.proofs.Math.Seq.{take-suc, take-length}
-use Rattle.std.proofs.lemmas.List.{map-append, length-map}
+use Rattle.std.proofs.lemmas.List.{map-append}
 use Rattle.wh_types.specs.declared.simple_type.SimpleType.{SimpleType}
 use Rattle.wh_types.specs.Ty.{Ty}
 use Rattle.wh_types.specs.Erase.{ty}
@@ -13,8 +12,8 @@ use Rattle.wh_terms.proofs.WalkLemmas.{act_at_lam}
 use Rattle.wh_order.specs.declared.tree.Tree.{Tree, Meta, Sym, Mark, Lam, Apply}
 use Rattle.wh_order.specs.Trees.{tree, trees, IsHeadTree, spine_type}
 use Rattle.wh_order.specs.TreeParts.{World, Over, AllOver}
-use Rattle.wh_order.proofs.TreeLemmas.{tree_of_meta, tree_of_sym, tree_of_mark, tree_of_apply, over_of_meta, over_of_sym, over_of_mark, over_of_apply, meta_over, sym_over, mark_over, apply_over, all_get}
-use Rattle.wh_order.proofs.SameLemmas.{trees_take_next}
+use Rattle.wh_order.proofs.TreeLemmas.{trees-length, tree_of_meta, tree_of_sym, tree_of_mark, tree_of_apply, over_of_meta, over_of_sym, over_of_mark, over_of_apply, meta_over, sym_over, mark_over, apply_over, all_get}
+use Rattle.wh_order.proofs.SameLemmas.{trees_take_next, take_past}
 
 act-spine : (σ : ℕ → Tm) (φ : ℕ → Ty → Tm) (h : Tm) (ts : List Tm) → act σ φ (spine h ts) ≡ spine (act σ φ h) (map (act σ φ) ts)
 unfolding act
@@ -65,7 +64,11 @@ KeepsAllOver ts rs = (n : ℕ) (w : World) → AllOver n w ts → AllOver n w rs
 
 same_count : (x : ℕ) (a : Ty) (k : ℕ) (ts rs : List Tree) → OpensAll x a k ts rs → length ts ≡ length rs
 same_count x a k ts rs h =
-    sym (length-map (tree 0) ts) ∙ sym (length-map (opens x a k) (trees 0 ts)) ∙ sym (ap length (h 0)) ∙ length-map (tree 0) rs
+    sym (trees-length 0 ts) ∙ sym (count (trees 0 ts)) ∙ sym (ap length (h 0)) ∙ trees-length 0 rs
+  where
+    count : (us : List Tm) → length (map (opens x a k) us) ≡ length us
+    count [] = refl
+    count (u ∷ us) = ap suc (count us)
 
 -- variables
 
@@ -167,5 +170,5 @@ pub keeps_next : (ts old new : List Tree) (i : ℕ) (t r : Tree) → KeepsSoFar 
 keeps_next ts old new i t r before pushed opened within e n w o =
     subst (AllOver n w) (sym pushed) (all_append n w old (r ∷ []) (before n w o) (opened n w (all_get n w ts i t o within e), tt))
 
-pub opens_all : (x : ℕ) (a : Ty) (k : ℕ) (ts rs : List Tree) → OpensAll x a k (take (length ts) ts) rs → OpensAll x a k ts rs
-opens_all x a k ts rs h n = h n ∙ ap (λ (l : List Tree). map (opens x a k) (trees n l)) (take-length ts)
+pub opens_all : (x : ℕ) (a : Ty) (k : ℕ) (ts rs : List Tree) (i : ℕ) → OpensAll x a k (take i ts) rs → length ts ≤ i → OpensAll x a k ts rs
+opens_all x a k ts rs i h past n = h n ∙ ap (λ (l : List Tree). map (opens x a k) (trees n l)) (take_past ts i past)

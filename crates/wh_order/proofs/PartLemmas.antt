@@ -1,21 +1,25 @@
 -- What the code finds in a tree: arguments, bodies, heads and their precedences.
-use Rattle.std.proofs.Common.{◌≡◌, ℕ, zero, suc, ◌+◌, ◌-◌, ◌<◌, ◌≤◌, List, [], ◌∷◌, ◌++◌, length, map, get_or, Option, Some, None, cond, true, false, Box, Global, refl, ap, ap₂, subst, sym, ◌∙◌, arith}
+use Rattle.std.proofs.Common.{◌≡◌, ℕ, zero, suc, ◌+◌, ◌-◌, ◌<◌, ◌≤◌, List, [], ◌∷◌, ◌++◌, length, map, drop, get_or, Option, Some, None, cond, true, false, Box, Global, refl, ap, ap₂, subst, sym, ◌∙◌, arith}
 use Rattle.std.specs.Prelude.{slice_get, nat_lt}
 use Rattle.std.specs.Borrow.{Bor}
-use Rattle.std.proofs.lemmas.Bool.{lt-ltb, le-ltb}
+use Rattle.std.proofs.lemmas.Bool.{lt-ltb, le-ltb, eq-eqb, ne_eqb}
 use Rattle.wh_types.specs.declared.simple_type.SimpleType.{SimpleType}
 use Rattle.wh_types.specs.Erase.{ty}
 use Rattle.wh_terms.specs.Tree.{Tm, bound, free, fun, meta, lam, app, tms_of, spine, head}
 use Rattle.wh_laws.proofs.Candidates.{head-spine}
-use Rattle.wh_inference.specs.Filters.{Filter}
+use Rattle.wh_inference.specs.declared.filter.Filter.{Filter}
+use Rattle.wh_inference.specs.FilterText.{filter_of}
+use Rattle.wh_inference.specs.Said.{written_filter}
 use Rattle.wh_extended.specs.Filtered.{precedence}
 use Rattle.wh_path_order.specs.Heads.{arguments_of}
-use Rattle.wh_ordering.specs.Filterings.{FilteringData, filter_among, mark_among}
+use Rattle.wh_ordering.specs.declared.filters.MarkFilter.{MarkFilter}
+use Rattle.wh_ordering.specs.FilteringView.{mark_filter}
+use Rattle.wh_ordering.specs.Filterings.{FilteringData, filter_among, mark_among, unfiltered}
 use Rattle.wh_order.specs.declared.tree.Tree.{Tree, Meta, Sym, Mark, Lam, Apply}
 use Rattle.wh_order.specs.declared.tree.Tree.TheVariants.{Bound, Free, Meta', Sym', Mark', Lam', Apply'}
 use Rattle.wh_order.specs.Trees.{tree, row, trees, IsHeadTree}
-use Rattle.wh_order.specs.TreeParts.{World, Over, AllOver, order_of, HasArguments, IsArgument, HeadOrder, body_in, IsBody, number_in, IsMeta, IsMetaApplication, IsOtherSpine, IsApplied, IsApplication}
-use Rattle.wh_order.proofs.TreeLemmas.{tree_of_meta, tree_of_sym, tree_of_mark, tree_of_apply, over_of_meta, over_of_sym, over_of_mark, over_of_apply, all_get, arguments-spine, head-alone, arguments-alone}
+use Rattle.wh_order.specs.TreeParts.{World, Over, AllOver, order_of, HasArguments, item_at, IsArgument, HeadOrder, body_in, IsBody, number_in, IsMeta, IsMetaApplication, IsOtherSpine, IsApplied, IsApplication}
+use Rattle.wh_order.proofs.TreeLemmas.{trees-length, tree_of_meta, tree_of_sym, tree_of_mark, tree_of_apply, over_of_meta, over_of_sym, over_of_mark, over_of_apply, all_get, arguments-spine, head-alone, arguments-alone}
 
 -- arguments
 
@@ -31,7 +35,7 @@ has_mark t f ts xs e same n w o = (
   subst (AllOver n w) (sym same) (over_of_mark n w t f ts e o).1,
 )
 
-pub has_apply : (t : Tree) (h : _) (ts xs : List Tree) → t ≡ Apply h ts → xs ≡ ts → HasArguments t xs
+pub has_apply : (t : Tree) (h : Box Tree Global) (ts xs : List Tree) → t ≡ Apply h ts → xs ≡ ts → HasArguments t xs
 has_apply t h ts xs e same n w o =
     let p = over_of_apply n w t h ts e o in (
       ap arguments_of (tree_of_apply n t h ts e) ∙ arguments-spine (tree n h.value) (trees n ts)
@@ -68,13 +72,14 @@ beyond n [] k past = refl
 beyond n (x ∷ xs) zero past = absurd (omega arith)
 beyond n (x ∷ xs) (suc k) past = beyond n xs k (omega arith)
 
-pub argument_here : (t : Tree) (xs : List Tree) (place : ℕ) (u : Bor Tree) → HasArguments t xs → 0 < place → place ≤ length xs
-    → u.now ≡ get_or xs (place - 1) u.now → IsArgument t place (Some u)
-argument_here t xs zero u has some within e n w o = absurd (omega arith)
-argument_here t xs (suc k) u has some within e n w o = (
-  ap (λ (l : List Tm). slice_get l k) (has n w o).0 ∙ read n xs k u.now (omega arith) e,
-  all_get n w xs k u.now (has n w o).1 (omega arith) e,
-)
+pub argument_is : (t : Tree) (xs : List Tree) (place : ℕ) (u : Tree) → HasArguments t xs → 0 < place → place ≤ length xs → u ≡ get_or xs (place - 1) u
+    → (n : ℕ) (w : World) → Over n w t → (item_at (arguments_of (tree n t)) place ≡ Some (tree n u)) × Over n w u
+argument_is t xs zero u has some within e n w o = absurd (omega arith)
+argument_is t xs (suc k) u has some within given n w o =
+    let e : u ≡ get_or xs k u = given ∙ ap (λ (i : ℕ). get_or xs i u) (omega arith) in (
+      ap (λ (l : List Tm). slice_get l k) (has n w o).0 ∙ read n xs k u (omega arith) e,
+      all_get n w xs k u (has n w o).1 (omega arith) e,
+    )
 
 pub no_place : (t : Tree) (place : ℕ) → place ≡ 0 → IsArgument t place None
 no_place t zero e n w o = refl
@@ -209,10 +214,6 @@ head_no_app n (Mark' g shape all) h u v e = absurd h
 head_no_app n (Lam' a p t) h u v e = absurd (cc)
 head_no_app n (Apply' p t shape all) h u v e = absurd h
 
-trees-length : (n : ℕ) (ts : List Tree) → length (trees n ts) ≡ length ts
-trees-length n [] = refl
-trees-length n (t ∷ ts) = ap suc (trees-length n ts)
-
 pub applied : (t : Tree) (h : Box Tree Global) (ts : List Tree) → t ≡ Apply h ts → (n : ℕ) (w : World) → Over n w t → IsApplied t h.value ts n w
 applied t h ts e n w o =
     let p = over_of_apply n w t h ts e o in
@@ -269,3 +270,44 @@ no_symbol n (Apply' p t shape all) h w o f e =
 
 pub no_order : (D : FilteringData) (t : Tree) → IsOtherTree t → (w : World) → Over (length D.symbols) w t → HeadOrder D (tree (length D.symbols) t) None
 no_order D t h w o = no_symbol (length D.symbols) t h w o
+
+pub filter_read : (fs : List Filter) (f : ℕ) (x : Filter) → f < length fs → x ≡ get_or fs f x → filter_among (map written_filter fs) f ≡ filter_of (written_filter x)
+filter_read [] f x within e = absurd (omega arith)
+filter_read (y ∷ fs) zero x within e = ap (λ (z : Filter). filter_of (written_filter z)) (sym e)
+filter_read (y ∷ fs) (suc f) x within e = filter_read fs f x (omega arith) e
+
+pub filter_past : (fs : List Filter) (f : ℕ) → length fs ≤ f → precedence (filter_among (map written_filter fs) f) ≡ 0
+filter_past [] f past = refl
+filter_past (y ∷ fs) zero past = absurd (omega arith)
+filter_past (y ∷ fs) (suc f) past = filter_past fs f (omega arith)
+
+-- the marks before the place have other symbols
+abbrev pub MarksFrom : List MarkFilter → ℕ → ℕ → Type 0
+MarksFrom ms s i = mark_among (map mark_filter ms) s ≡ mark_among (map mark_filter (drop i ms)) s
+
+mark_drop : (ms : List MarkFilter) (i : ℕ) (m : MarkFilter) → i < length ms → m ≡ get_or ms i m → drop i ms ≡ m ∷ drop (i + 1) ms
+mark_drop [] i m within e = absurd (omega arith)
+mark_drop (x ∷ ms) zero m within e = ap (λ (y : MarkFilter). y ∷ ms) (sym e)
+mark_drop (x ∷ ms) (suc i) m within e =
+    let next : suc (i + 1) ≡ suc i + 1 = omega arith in
+    mark_drop ms i m (omega arith) e ∙ ap (λ (k : ℕ). m ∷ drop k (x ∷ ms)) next
+
+pub mark_here : (ms : List MarkFilter) (s i : ℕ) (m : MarkFilter) → MarksFrom ms s i → i < length ms → m ≡ get_or ms i m → m.symbol ≡ s
+    → mark_among (map mark_filter ms) s ≡ filter_of (written_filter m.filter)
+mark_here ms s i m before within e same =
+    before ∙ ap (λ (xs : List MarkFilter). mark_among (map mark_filter xs) s) (mark_drop ms i m within e)
+    ∙ ap (λ b. cond b (filter_of (written_filter m.filter)) (mark_among (map mark_filter (drop (i + 1) ms)) s)) (eq-eqb m.symbol s same)
+
+pub mark_next : (ms : List MarkFilter) (s i : ℕ) (m : MarkFilter) → MarksFrom ms s i → i < length ms → m ≡ get_or ms i m → (m.symbol ≡ s → ⊥) → MarksFrom ms s (i + 1)
+mark_next ms s i m before within e other =
+    before ∙ ap (λ (xs : List MarkFilter). mark_among (map mark_filter xs) s) (mark_drop ms i m within e)
+    ∙ ap (λ b. cond b (filter_of (written_filter m.filter)) (mark_among (map mark_filter (drop (i + 1) ms)) s)) (ne_eqb m.symbol s other)
+
+marks_past : (ms : List MarkFilter) (s i : ℕ) → length ms ≤ i → mark_among (map mark_filter (drop i ms)) s ≡ unfiltered
+marks_past [] s zero past = refl
+marks_past [] s (suc i) past = refl
+marks_past (m ∷ ms) s zero past = absurd (omega arith)
+marks_past (m ∷ ms) s (suc i) past = marks_past ms s i (omega arith)
+
+pub mark_end : (ms : List MarkFilter) (s i : ℕ) → MarksFrom ms s i → length ms ≤ i → mark_among (map mark_filter ms) s ≡ unfiltered
+mark_end ms s i before past = before ∙ marks_past ms s i past

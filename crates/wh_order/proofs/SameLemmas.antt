@@ -1,6 +1,6 @@
 -- When two trees stand for the same tree.
-use Rattle.std.proofs.Common.{◌≡◌, ℕ, zero, suc, ◌+◌, ◌<◌, List, [], ◌∷◌, ◌++◌, length, take, get_or, map, Bool, true, false, IsTrue, ◌↔◌, Some, None, Box, Global, refl, ap, ap₂, subst, sym, ◌∙◌, add-one, arith}
-use Rattle.std.proofs.Math.Seq.{take-suc, take-length}
+use Rattle.std.proofs.Common.{◌≡◌, ℕ, zero, suc, ◌+◌, ◌<◌, ◌≤◌, List, [], ◌∷◌, ◌++◌, length, take, get_or, map, Bool, true, false, IsTrue, ◌↔◌, Some, None, Box, Global, refl, ap, ap₂, subst, sym, ◌∙◌, add-one, arith}
+use Rattle.std.proofs.Math.Seq.{take-suc}
 use Rattle.std.proofs.lemmas.List.{map-append}
 use Rattle.std.specs.Borrow.{Bor}
 use Rattle.wh_types.specs.declared.simple_type.SimpleType.{SimpleType}
@@ -18,40 +18,40 @@ use Rattle.wh_order.proofs.TreeLemmas.{tree_of_meta, tree_of_sym, tree_of_mark, 
 use Rattle.wh_order.proofs.PartLemmas.{has_sym, has_mark, has_apply, applied, some_app, no_symbol}
 
 pub never : {P : Type 0} → (P → ⊥) → IsTrue false ↔ P
-never no = (λ e. absurd (cc), λ p. absurd (no p))
+never refuted = (λ e. absurd (cc), λ p. absurd (refuted p))
 
 -- a test that decides whether two trees are the same
 abbrev pub Decided : Tree → Tree → Bool → Type 0
 Decided a b r = (n : ℕ) (w : World) → Over n w a → Over n w b → IsTrue r ↔ (tree n a ≡ tree n b)
 
 abbrev pub AllDecided : List Tree → List Tree → Bool → Type 0
-AllDecided as bs r = (n : ℕ) (w : World) → AllOver n w as → AllOver n w bs → IsTrue r ↔ (trees n as ≡ trees n bs)
+AllDecided ss bs r = (n : ℕ) (w : World) → AllOver n w ss → AllOver n w bs → IsTrue r ↔ (trees n ss ≡ trees n bs)
 
 -- variables
 
 bound-spine : (k f : ℕ) (ts : List Tm) → bound k ≡ spine (fun f) ts → ⊥
-bound-spine k f ts e = absurd (no (ap head e ∙ head-spine (fun f) ts))
+bound-spine k f ts e = absurd (refuted (ap head e ∙ head-spine (fun f) ts))
   where
-    no : bound k ≡ fun f → ⊥
-    no e = cc
+    refuted : bound k ≡ fun f → ⊥
+    refuted e = cc
 
 free-spine : (x : ℕ) (a : Ty) (f : ℕ) (ts : List Tm) → free x a ≡ spine (fun f) ts → ⊥
-free-spine x a f ts e = absurd (no (ap head e ∙ head-spine (fun f) ts))
+free-spine x a f ts e = absurd (refuted (ap head e ∙ head-spine (fun f) ts))
   where
-    no : free x a ≡ fun f → ⊥
-    no e = cc
+    refuted : free x a ≡ fun f → ⊥
+    refuted e = cc
 
 bound-some : (k : ℕ) (h : Tm) (ts : List Tm) → 0 < length ts → bound k ≡ spine h ts → ⊥
-bound-some k h ts some e = let (u, v, form) = some_app h ts some in no u v (e ∙ form)
+bound-some k h ts some e = let (u, v, form) = some_app h ts some in refuted u v (e ∙ form)
   where
-    no : (u v : Tm) → bound k ≡ app u v → ⊥
-    no u v e = cc
+    refuted : (u v : Tm) → bound k ≡ app u v → ⊥
+    refuted u v e = cc
 
 free-some : (x : ℕ) (a : Ty) (h : Tm) (ts : List Tm) → 0 < length ts → free x a ≡ spine h ts → ⊥
-free-some x a h ts some e = let (u, v, form) = some_app h ts some in no u v (e ∙ form)
+free-some x a h ts some e = let (u, v, form) = some_app h ts some in refuted u v (e ∙ form)
   where
-    no : (u v : Tm) → free x a ≡ app u v → ⊥
-    no u v e = cc
+    refuted : (u v : Tm) → free x a ≡ app u v → ⊥
+    refuted u v e = cc
 
 pub other_bound : (t : Tree) (k : ℕ) → ((i : ℕ) → t ≡ Bound i → ⊥) → (n : ℕ) (w : World) → Over n w t → IsTrue false ↔ (bound k ≡ tree n t)
 other_bound (Bound i) k h n w o = absurd (h i refl)
@@ -70,6 +70,14 @@ other_free (Sym' f shape all) x a h n w o = never (free-spine x a f (row n all))
 other_free (Mark' f shape all) x a h n w o = never (free-spine x a (n + f) (row n all))
 other_free (Lam' b p t) x a h n w o = never (λ e. cc)
 other_free (Apply' p t shape all) x a h n w o = never (free-some x a (tree n t) (row n all) o.1)
+
+pub bound_arm : (a b : Tree) (k : ℕ) (r : Bool) → a ≡ Bound k → ((n : ℕ) (w : World) → Over n w b → IsTrue r ↔ (bound k ≡ tree n b)) → Decided a b r
+bound_arm a b k r e h n w o u =
+    let d = h n w u in (λ y. ap (tree n) e ∙ d.0 y, λ s. d.1 (sym (ap (tree n) e) ∙ s))
+
+pub free_arm : (a b : Tree) (x : ℕ) (k : SimpleType) (r : Bool) → a ≡ Free x k → ((n : ℕ) (w : World) → Over n w b → IsTrue r ↔ (free x (ty k) ≡ tree n b)) → Decided a b r
+free_arm a b x k r e h n w o u =
+    let d = h n w u in (λ y. ap (tree n) e ∙ d.0 y, λ s. d.1 (sym (ap (tree n) e) ∙ s))
 
 -- symbols
 
@@ -100,16 +108,16 @@ mark_no_symbol t f g ts e n w o = never (λ k. absurd (omega (arith, (over_of_sy
 spine_one : (t u : Tm) → head t ≡ head u → arguments_of t ≡ arguments_of u → t ≡ u
 spine_one t u e l = spine_whole t ∙ ap₂ spine e l ∙ sym (spine_whole u)
 
-pub spines_same : (r : Bool) (a b : Tree) (as bs : List Tree) → HasArguments a as → HasArguments b bs
-    → ((n : ℕ) (w : World) → Over n w a → Over n w b → head (tree n a) ≡ head (tree n b)) → AllDecided as bs r → Decided a b r
-spines_same r a b as bs p q heads h n w o u =
+pub spines_same : (r : Bool) (a b : Tree) (ss bs : List Tree) → HasArguments a ss → HasArguments b bs
+    → ((n : ℕ) (w : World) → Over n w a → Over n w b → head (tree n a) ≡ head (tree n b)) → AllDecided ss bs r → Decided a b r
+spines_same r a b ss bs p q heads h n w o u =
     let same = h n w (p n w o).1 (q n w u).1 in (
       λ y. spine_one (tree n a) (tree n b) (heads n w o u) ((p n w o).0 ∙ same.0 y ∙ sym (q n w u).0),
       λ e. same.1 (sym (p n w o).0 ∙ ap arguments_of e ∙ (q n w u).0),
     )
 
 pub spines_other : (a b : Tree) → ((n : ℕ) (w : World) → Over n w a → Over n w b → head (tree n a) ≡ head (tree n b) → ⊥) → Decided a b false
-spines_other a b no n w o u = never (λ e. no n w o u (ap head e))
+spines_other a b refuted n w o u = never (λ e. refuted n w o u (ap head e))
 
 -- abstractions
 
@@ -129,7 +137,7 @@ pub lams_other : (a b : Tree) (k : SimpleType) (p : Box Tree Global) → a ≡ L
 lams_other a b k p e h n w o u = never (λ s. some_none (sym (ap body_in (lam_is a k p e n)) ∙ ap body_in s ∙ h n w u))
 
 pub lams_of_types : (a b : Tree) (k : SimpleType) (p : Box Tree Global) (x : Bor SimpleType) (y : Bor Tree) → a ≡ Lam k p → IsBody b (Some (x, y)) → (ty k ≡ ty x.now → ⊥) → Decided a b false
-lams_of_types a b k p x y e h no n w o u = never (λ s. no (lam_type (sym (lam_is a k p e n) ∙ s ∙ (h n w u).0)))
+lams_of_types a b k p x y e h refuted n w o u = never (λ s. refuted (lam_type (sym (lam_is a k p e n) ∙ s ∙ (h n w u).0)))
 
 pub lams_same : (r : Bool) (a b : Tree) (k : SimpleType) (p : Box Tree Global) (x : Bor SimpleType) (y : Bor Tree) → a ≡ Lam k p → IsBody b (Some (x, y)) → ty k ≡ ty x.now
     → Decided p.value y.now r → Decided a b r
@@ -155,15 +163,15 @@ pub metas_other : (a b : Tree) (z : ℕ) (k : SimpleType) (ts : List Tree) → a
 metas_other a b z k ts e h n w o u = never (λ s. h n w u (subst IsMeta (sym (tree_of_meta n a z k ts e) ∙ s) tt))
 
 pub metas_of_numbers : (a b : Tree) (z y : ℕ) (k : SimpleType) (ts : List Tree) (xs : Bor (List Tree)) → a ≡ Meta z k ts → IsMetaApplication b (Some (y, xs)) → (z ≡ y → ⊥) → Decided a b false
-metas_of_numbers a b z y k ts xs e h no n w o u = never (λ s. no (meta_number (sym (tree_of_meta n a z k ts e) ∙ s ∙ (h n w u).0)))
+metas_of_numbers a b z y k ts xs e h refuted n w o u = never (λ s. refuted (meta_number (sym (tree_of_meta n a z k ts e) ∙ s ∙ (h n w u).0)))
 
-pub metas_same : (r : Bool) (a b : Tree) (z y : ℕ) (k : SimpleType) (ts as : List Tree) (xs : Bor (List Tree)) → a ≡ Meta z k ts → as ≡ ts → IsMetaApplication b (Some (y, xs)) → z ≡ y
-    → AllDecided as xs.now r → Decided a b r
-metas_same r a b z y k ts as xs e list h numbers d n w o u =
+pub metas_same : (r : Bool) (a b : Tree) (z y : ℕ) (k : SimpleType) (ts ss : List Tree) (xs : Bor (List Tree)) → a ≡ Meta z k ts → ss ≡ ts → IsMetaApplication b (Some (y, xs)) → z ≡ y
+    → AllDecided ss xs.now r → Decided a b r
+metas_same r a b z y k ts ss xs e list h numbers d n w o u =
     let is = tree_of_meta n a z k ts e ∙ ap (λ (l : List Tree). meta z (tms_of (trees n l))) (sym list) in
     let same = d n w (subst (AllOver n w) (sym list) (over_of_meta n w a z k ts e o).1) (h n w u).1 in (
       λ t. is ∙ ap₂ (λ (v : ℕ) (l : List Tm). meta v (tms_of l)) numbers (same.0 t) ∙ sym (h n w u).0,
-      λ s. same.1 (sym (list_back (trees n as)) ∙ ap list_of (meta_items (sym is ∙ s ∙ (h n w u).0)) ∙ list_back (trees n xs.now)),
+      λ s. same.1 (sym (list_back (trees n ss)) ∙ ap list_of (meta_items (sym is ∙ s ∙ (h n w u).0)) ∙ list_back (trees n xs.now)),
     )
 
 -- applications
@@ -174,26 +182,26 @@ applies_other a b g ts e h n w o u =
     never (λ s. h n w u (other p.spine_of.0 p.spine_of.1 (sym s ∙ p.spine_of.2) (λ f k. p.others f (sym p.head_of ∙ ap head s ∙ k))))
   where
     other : (x y : Tm) → tree n b ≡ app x y → ((f : ℕ) → head (tree n b) ≡ fun f → ⊥) → IsOtherSpine (tree n b)
-    other x y form no = subst IsOtherSpine (sym form) (λ f k. no f (ap head form ∙ k))
+    other x y form refuted = subst IsOtherSpine (sym form) (λ f k. refuted f (ap head form ∙ k))
 
 pub applies_of_heads : (a b : Tree) (g : Box Tree Global) (ts : List Tree) (x : Bor Tree) (xs : Bor (List Tree)) (r : Bool) → a ≡ Apply g ts → IsApplication b (Some (x, xs))
     → Decided g.value x.now r → r ≡ false → Decided a b false
 applies_of_heads a b g ts x xs r e h d not n w o u =
     let p = applied a g ts e n w o in
     let q = h n w u in
-    never (λ s. no (sym ((d n w p.head_over q.head_over).1 (sym p.head_of ∙ ap head s ∙ q.head_of)) ∙ not))
+    never (λ s. refuted (sym ((d n w p.head_over q.head_over).1 (sym p.head_of ∙ ap head s ∙ q.head_of)) ∙ not))
   where
-    no : true ≡ false → ⊥
-    no e = cc
+    refuted : true ≡ false → ⊥
+    refuted e = cc
 
-pub applies_same : (a b : Tree) (g : Box Tree Global) (ts as : List Tree) (x : Bor Tree) (xs : Bor (List Tree)) (r v : Bool) → a ≡ Apply g ts → as ≡ ts → IsApplication b (Some (x, xs))
-    → Decided g.value x.now r → r ≡ true → AllDecided as xs.now v → Decided a b v
-applies_same a b g ts as x xs r v e list h d yes all n w o u =
+pub applies_same : (a b : Tree) (g : Box Tree Global) (ts ss : List Tree) (x : Bor Tree) (xs : Bor (List Tree)) (r v : Bool) → a ≡ Apply g ts → ss ≡ ts → IsApplication b (Some (x, xs))
+    → Decided g.value x.now r → r ≡ true → AllDecided ss xs.now v → Decided a b v
+applies_same a b g ts ss x xs r v e list h d so all n w o u =
     let p = applied a g ts e n w o in
     let q = h n w u in
     let same = all n w (subst (AllOver n w) (sym list) p.items_over) q.items_over in
     let items = p.items ∙ ap (trees n) (sym list) in (
-      λ t. spine_one (tree n a) (tree n b) (p.head_of ∙ (d n w p.head_over q.head_over).0 yes ∙ sym q.head_of) (items ∙ same.0 t ∙ sym q.items),
+      λ t. spine_one (tree n a) (tree n b) (p.head_of ∙ (d n w p.head_over q.head_over).0 so ∙ sym q.head_of) (items ∙ same.0 t ∙ sym q.items),
       λ s. same.1 (sym items ∙ ap arguments_of s ∙ q.items),
     )
 
@@ -204,8 +212,14 @@ trees_take_next n xs i t within e =
     rw (add-one, take-suc xs i t within) (map-append (tree n) (take i xs) (get_or xs i t ∷ [])
     ∙ ap (λ (u : Tree). trees n (take i xs) ++ tree n u ∷ []) (sym e))
 
-pub all_length : (as bs : List Tree) → (length as ≡ length bs → ⊥) → AllDecided as bs false
-all_length as bs no n w o u = never (λ e. no (sym (count n as) ∙ ap length e ∙ count n bs))
+pub take_past : (ts : List Tree) (i : ℕ) → length ts ≤ i → take i ts ≡ ts
+take_past [] zero past = refl
+take_past [] (suc i) past = refl
+take_past (t ∷ ts) zero past = absurd (omega arith)
+take_past (t ∷ ts) (suc i) past = ap (λ (us : List Tree). t ∷ us) (take_past ts i (omega arith))
+
+pub all_length : (ss bs : List Tree) → (length ss ≡ length bs → ⊥) → AllDecided ss bs false
+all_length ss bs refuted n w o u = never (λ e. refuted (sym (count n ss) ∙ ap length e ∙ count n bs))
   where
     count : (n : ℕ) (ts : List Tree) → length (trees n ts) ≡ length ts
     count n [] = refl
@@ -213,35 +227,35 @@ all_length as bs no n w o u = never (λ e. no (sym (count n as) ∙ ap length e 
 
 -- the trees before the place are the same
 abbrev pub SameBefore : List Tree → List Tree → ℕ → Type 0
-SameBefore as bs i = (n : ℕ) (w : World) → AllOver n w as → AllOver n w bs → trees n (take i as) ≡ trees n (take i bs)
+SameBefore ss bs i = (n : ℕ) (w : World) → AllOver n w ss → AllOver n w bs → trees n (take i ss) ≡ trees n (take i bs)
 
-pub same_next : (as bs : List Tree) (i : ℕ) (a b : Tree) (r : Bool) → SameBefore as bs i → i < length as → length as ≡ length bs → a ≡ get_or as i a → b ≡ get_or bs i b
-    → Decided a b r → r ≡ true → SameBefore as bs (i + 1)
-same_next as bs i a b r before within long ea eb d yes n w o u =
-    trees_take_next n as i a within ea
-    ∙ ap₂ (λ (l : List Tm) (t : Tm). l ++ t ∷ []) (before n w o u) ((d n w (all_get n w as i a o within ea) (all_get n w bs i b u (omega arith) eb)).0 yes)
+pub same_next : (ss bs : List Tree) (i : ℕ) (a b : Tree) (r : Bool) → SameBefore ss bs i → i < length ss → length ss ≡ length bs → a ≡ get_or ss i a → b ≡ get_or bs i b
+    → Decided a b r → r ≡ true → SameBefore ss bs (i + 1)
+same_next ss bs i a b r before within long ea eb d so n w o u =
+    trees_take_next n ss i a within ea
+    ∙ ap₂ (λ (l : List Tm) (t : Tm). l ++ t ∷ []) (before n w o u) ((d n w (all_get n w ss i a o within ea) (all_get n w bs i b u (omega arith) eb)).0 so)
     ∙ sym (trees_take_next n bs i b (omega arith) eb)
 
-at_place : (n : ℕ) (as bs : List Tree) (i : ℕ) (a b : Tree) → trees n as ≡ trees n bs → i < length as → i < length bs → a ≡ get_or as i a → b ≡ get_or bs i b → tree n a ≡ tree n b
+at_place : (n : ℕ) (ss bs : List Tree) (i : ℕ) (a b : Tree) → trees n ss ≡ trees n bs → i < length ss → i < length bs → a ≡ get_or ss i a → b ≡ get_or bs i b → tree n a ≡ tree n b
 at_place n [] bs i a b e within inside ea eb = absurd (omega arith)
-at_place n (x ∷ as) [] i a b e within inside ea eb = absurd (omega arith)
-at_place n (x ∷ as) (y ∷ bs) zero a b e within inside ea eb = ap (tree n) ea ∙ first e ∙ sym (ap (tree n) eb)
+at_place n (x ∷ ss) [] i a b e within inside ea eb = absurd (omega arith)
+at_place n (x ∷ ss) (y ∷ bs) zero a b e within inside ea eb = ap (tree n) ea ∙ first e ∙ sym (ap (tree n) eb)
   where
     first : {t u : Tm} {ts us : List Tm} → t ∷ ts ≡ u ∷ us → t ≡ u
     first e = cc
-at_place n (x ∷ as) (y ∷ bs) (suc i) a b e within inside ea eb = at_place n as bs i a b (rest e) (omega arith) (omega arith) ea eb
+at_place n (x ∷ ss) (y ∷ bs) (suc i) a b e within inside ea eb = at_place n ss bs i a b (rest e) (omega arith) (omega arith) ea eb
   where
     rest : {t u : Tm} {ts us : List Tm} → t ∷ ts ≡ u ∷ us → ts ≡ us
     rest e = cc
 
-pub differs : (as bs : List Tree) (i : ℕ) (a b : Tree) (r : Bool) → i < length as → length as ≡ length bs → a ≡ get_or as i a → b ≡ get_or bs i b
-    → Decided a b r → r ≡ false → AllDecided as bs false
-differs as bs i a b r within long ea eb d not n w o u =
-    never (λ e. no (sym ((d n w (all_get n w as i a o within ea) (all_get n w bs i b u (omega arith) eb)).1 (at_place n as bs i a b e within (omega arith) ea eb)) ∙ not))
+pub differs : (ss bs : List Tree) (i : ℕ) (a b : Tree) (r : Bool) → i < length ss → length ss ≡ length bs → a ≡ get_or ss i a → b ≡ get_or bs i b
+    → Decided a b r → r ≡ false → AllDecided ss bs false
+differs ss bs i a b r within long ea eb d not n w o u =
+    never (λ e. refuted (sym ((d n w (all_get n w ss i a o within ea) (all_get n w bs i b u (omega arith) eb)).1 (at_place n ss bs i a b e within (omega arith) ea eb)) ∙ not))
   where
-    no : true ≡ false → ⊥
-    no e = cc
+    refuted : true ≡ false → ⊥
+    refuted e = cc
 
-pub same_all : (as bs : List Tree) → length as ≡ length bs → SameBefore as bs (length as) → AllDecided as bs true
-same_all as bs long before n w o u =
-    (λ y. sym (ap (trees n) (take-length as)) ∙ before n w o u ∙ ap (λ (k : ℕ). trees n (take k bs)) long ∙ ap (trees n) (take-length bs), λ e. refl)
+pub same_all : (ss bs : List Tree) (i : ℕ) → length ss ≡ length bs → SameBefore ss bs i → length ss ≤ i → AllDecided ss bs true
+same_all ss bs i long before past n w o u =
+    (λ y. sym (ap (trees n) (take_past ss i past)) ∙ before n w o u ∙ ap (trees n) (take_past bs i (omega (arith, long, past))), λ e. refl)

@@ -1,7 +1,6 @@
 -- What a tree stands for, and what it is over, by the list of its arguments.
 use mathlib.Core.Former.{Count}
-use Rattle.std.proofs.Common.{◌≡◌, ℕ, zero, suc, ◌+◌, ◌<◌, List, [], ◌∷◌, ◌++◌, length, map, get_or, refl, ap, subst, sym, ◌∙◌, append-nil, append_assoc, arith}
-use Rattle.std.proofs.lemmas.List.{length-map}
+use Rattle.std.proofs.Common.{◌≡◌, ℕ, zero, suc, ◌+◌, ◌<◌, List, [], ◌∷◌, ◌++◌, length, map, get_or, refl, ap, subst, sym, ◌∙◌, append-nil, append_assoc, Box, Global, arith}
 use Rattle.wh_types.specs.declared.simple_type.SimpleType.{SimpleType}
 use Rattle.wh_types.specs.Ty.{Ty, sort}
 use Rattle.wh_types.specs.Erase.{ty}
@@ -34,7 +33,7 @@ row_sym n f ts = row-items n _ (row_of (Sym f ts)).1 ∙ ap (trees n) (items_hid
 row_mark : (n f : ℕ) (ts : List Tree) → row n (row_of (Mark f ts)).1 ≡ trees n ts
 row_mark n f ts = row-items n _ (row_of (Mark f ts)).1 ∙ ap (trees n) (items_hidden-the_row-Tree-0 ts)
 
-row_apply : (n : ℕ) (h : _) (ts : List Tree) → row n (row_of (Apply h ts)).1 ≡ trees n ts
+row_apply : (n : ℕ) (h : Box Tree Global) (ts : List Tree) → row n (row_of (Apply h ts)).1 ≡ trees n ts
 row_apply n h ts = row-items n _ (row_of (Apply h ts)).1 ∙ ap (trees n) (items_hidden-the_row-Tree-0 ts)
 
 -- the trees
@@ -48,7 +47,7 @@ tree_of_sym n t f ts e = ap (tree n) e ∙ ap (spine (fun f)) (row_sym n f ts)
 pub tree_of_mark : (n : ℕ) (t : Tree) (f : ℕ) (ts : List Tree) → t ≡ Mark f ts → tree n t ≡ spine (fun (n + f)) (trees n ts)
 tree_of_mark n t f ts e = ap (tree n) e ∙ ap (spine (fun (n + f))) (row_mark n f ts)
 
-pub tree_of_apply : (n : ℕ) (t : Tree) (h : _) (ts : List Tree) → t ≡ Apply h ts → tree n t ≡ spine (tree n h.value) (trees n ts)
+pub tree_of_apply : (n : ℕ) (t : Tree) (h : Box Tree Global) (ts : List Tree) → t ≡ Apply h ts → tree n t ≡ spine (tree n h.value) (trees n ts)
 tree_of_apply n t h ts e = ap (tree n) e ∙ ap (spine (tree n h.value)) (row_apply n h ts)
 
 -- what they are over
@@ -72,8 +71,12 @@ of_each n w m r ts e o = each_are n w.symbols w.metas m r (subst (AllOver n w) (
 abbrev HasWhole : ℕ → World → ℕ → ℕ → Type 0
 HasWhole n w f k = spine_type (type_at w.symbols.funs f) k ≡ sort 0
 
+pub trees-length : (n : ℕ) (ts : List Tree) → length (trees n ts) ≡ length ts
+trees-length n [] = refl
+trees-length n (t ∷ ts) = ap suc (trees-length n ts)
+
 row_length : (n : ℕ) (us : List Tm) (ts : List Tree) → us ≡ trees n ts → length us ≡ length ts
-row_length n us ts e = ap length e ∙ length-map (tree n) ts
+row_length n us ts e = ap length e ∙ trees-length n ts
 
 pub over_of_meta : (n : ℕ) (w : World) (t : Tree) (z : ℕ) (a : SimpleType) (ts : List Tree) → t ≡ Meta z a ts → Over n w t
     → (out_at w.metas z ≡ ty a) × AllOver n w ts
@@ -98,7 +101,7 @@ over_of_mark n w t f ts e o =
       each_of n w _ (row_of (Mark f ts)).1 ts (items_hidden-the_row-Tree-0 ts) p.1,
     )
 
-pub over_of_apply : (n : ℕ) (w : World) (t : Tree) (h : _) (ts : List Tree) → t ≡ Apply h ts → Over n w t
+pub over_of_apply : (n : ℕ) (w : World) (t : Tree) (h : Box Tree Global) (ts : List Tree) → t ≡ Apply h ts → Over n w t
     → IsHeadTree h.value × (0 < length ts) × Over n w h.value × AllOver n w ts
 over_of_apply n w t h ts e o =
     let p = subst (Over n w) e o in (
@@ -126,7 +129,7 @@ mark_over n w f ts whole all = (
   of_each n w _ (row_of (Mark f ts)).1 ts (items_hidden-the_row-Tree-0 ts) all,
 )
 
-pub apply_over : (n : ℕ) (w : World) (h : _) (ts : List Tree) → IsHeadTree h.value → 0 < length ts → Over n w h.value → AllOver n w ts → Over n w (Apply h ts)
+pub apply_over : (n : ℕ) (w : World) (h : Box Tree Global) (ts : List Tree) → IsHeadTree h.value → 0 < length ts → Over n w h.value → AllOver n w ts → Over n w (Apply h ts)
 apply_over n w h ts form some over all = (
   form,
   subst (λ (k : ℕ). 0 < k) (sym (row_length n (row n (row_of (Apply h ts)).1) ts (row_apply n h ts))) some,
@@ -164,3 +167,44 @@ arguments-alone n (Sym' f shape all) h = absurd h
 arguments-alone n (Mark' f shape all) h = absurd h
 arguments-alone n (Lam' a p t) h = refl
 arguments-alone n (Apply' p t shape all) h = absurd h
+
+-- the measure of a recursion over trees: a part has less weight than the whole
+
+abbrev mutual
+  pub weight : Tree → ℕ
+  weight (Bound i) = 0
+  weight (Free x a) = 0
+  weight (Meta' z a shape all) = 1 + row_weight all
+  weight (Sym' f shape all) = 1 + row_weight all
+  weight (Mark' f shape all) = 1 + row_weight all
+  weight (Lam' a p t) = 1 + weight t
+  weight (Apply' p t shape all) = 1 + (weight t + row_weight all)
+
+  pub row_weight : {m : _} → Row_of-Tree m → ℕ
+  row_weight end_of-Tree = 0
+  row_weight (more_of-Tree t rest) = 1 + (weight t + row_weight rest)
+
+abbrev pub weights : List Tree → ℕ
+weights [] = 0
+weights (t ∷ ts) = 1 + (weight t + weights ts)
+
+row_weight-items : (m : _) (r : Row_of-Tree m) → row_weight r ≡ weights (items-the_row-Tree m r)
+row_weight-items m end_of-Tree = refl
+row_weight-items m (more_of-Tree t rest) = omega (arith, row_weight-items _ rest)
+
+pub weight_of_meta : (t : Tree) (z : ℕ) (a : SimpleType) (ts : List Tree) → t ≡ Meta z a ts → weight t ≡ 1 + weights ts
+weight_of_meta t z a ts e = ap weight e ∙ ap (λ (k : ℕ). 1 + k) (row_weight-items _ (row_of (Meta z a ts)).1 ∙ ap weights (items_hidden-the_row-Tree-0 ts))
+
+pub weight_of_sym : (t : Tree) (f : ℕ) (ts : List Tree) → t ≡ Sym f ts → weight t ≡ 1 + weights ts
+weight_of_sym t f ts e = ap weight e ∙ ap (λ (k : ℕ). 1 + k) (row_weight-items _ (row_of (Sym f ts)).1 ∙ ap weights (items_hidden-the_row-Tree-0 ts))
+
+pub weight_of_mark : (t : Tree) (f : ℕ) (ts : List Tree) → t ≡ Mark f ts → weight t ≡ 1 + weights ts
+weight_of_mark t f ts e = ap weight e ∙ ap (λ (k : ℕ). 1 + k) (row_weight-items _ (row_of (Mark f ts)).1 ∙ ap weights (items_hidden-the_row-Tree-0 ts))
+
+pub weight_of_apply : (t : Tree) (h : Box Tree Global) (ts : List Tree) → t ≡ Apply h ts → weight t ≡ 1 + (weight h.value + weights ts)
+weight_of_apply t h ts e = ap weight e ∙ ap (λ (k : ℕ). 1 + (weight h.value + k)) (row_weight-items _ (row_of (Apply h ts)).1 ∙ ap weights (items_hidden-the_row-Tree-0 ts))
+
+pub weight_in : (ts : List Tree) (i : ℕ) (t : Tree) → i < length ts → t ≡ get_or ts i t → weight t < weights ts
+weight_in [] i t within e = absurd (omega arith)
+weight_in (u ∷ ts) zero t within e = omega (arith, ap weight e)
+weight_in (u ∷ ts) (suc i) t within e = omega (arith, weight_in ts i t (omega arith) e)

@@ -138,10 +138,16 @@ fn by_bodies<'a>(
 ) -> Result<Option<Goals<'a>>, AllocError>
     ensures { IfOk result (λ r. (n : ℕ) (prec : ℕ → ℕ) (is : Inferences) → AreGreaterGoals n prec next left.now right.now bodies place is r) }
 {
-    let (Some((kind, body)), Some((other, other_body))) = (body_of(left), body_of(right)) else {
+    let Some((kind, body)) = body_of(left) else {
         return Ok(None);
     };
-    if place != 0 || !same_type(kind, other) {
+    let Some((other, other_body)) = body_of(right) else {
+        return Ok(None);
+    };
+    if place != 0 {
+        return Ok(None);
+    }
+    if !same_type(kind, other) {
         return Ok(None);
     }
     let goal = Goal {
@@ -164,14 +170,22 @@ fn by_arguments<'a>(
 ) -> Result<Option<Goals<'a>>, AllocError>
     ensures { IfOk result (λ r. (n : ℕ) (prec : ℕ → ℕ) → AreGreaterGoals n prec next left.now right.now arguments place (s.inferences parts.now) r) }
 {
-    let (Some((head, items)), Some((other, others))) = (application_of(left), application_of(right))
-    else {
+    let Some((head, items)) = application_of(left) else {
         return Ok(None);
     };
-    if place != 0 || items.len() != others.len() {
+    let Some((other, others)) = application_of(right) else {
+        return Ok(None);
+    };
+    if place != 0 {
         return Ok(None);
     }
-    if !same_tree(head, other) || !is_some_strict(parts) {
+    if items.len() != others.len() {
+        return Ok(None);
+    }
+    if !same_tree(head, other) {
+        return Ok(None);
+    }
+    if !is_some_strict(parts) {
         return Ok(None);
     }
     let mut goals = Vec::new(alloc);

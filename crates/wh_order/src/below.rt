@@ -18,10 +18,18 @@ pub fn is_meta_below(t: &Tree, meta: u32, count: usize, left: usize) -> bool
     match t {
         Tree::Lam(_, body) => left > 0 && is_meta_below(body, meta, count, left - 1),
         Tree::Meta(number, _, items) => {
-            *number == meta && left == 0 && are_nearest(items.as_slice(), count)
+            if *number != meta {
+                return false;
+            }
+            if left != 0 {
+                return false;
+            }
+            are_nearest(items.as_slice(), count)
         }
+        Tree::Sym(_, _) => false,
+        Tree::Mark(_, _) => false,
+        Tree::Apply(_, _) => false,
         Tree::Bound(_) | Tree::Free(_, _) => false,
-        Tree::Sym(_, _) | Tree::Mark(_, _) | Tree::Apply(_, _) => false,
     }
 }
 
@@ -31,7 +39,10 @@ fn are_nearest(items: &[Tree], count: usize) -> bool
 {
     let mut left = count;
     for item in items {
-        if left == 0 || !is_variable(item, left - 1) {
+        if left == 0 {
+            return false;
+        }
+        if !is_variable(item, left - 1) {
             return false;
         }
         left -= 1;

@@ -111,8 +111,9 @@ fn check_goals(
         (verdicts w.symbols (order_of (filtering_data filters.now)) w.metas (map (task (length (filtering_data filters.now).symbols)) goals.now)
         (s.inferences parts.now)) (all_entries (s.inferences parts.now)) result }
 {
+    let items = parts.as_slice();
     let mut next = at;
-    for (i, part) in parts.as_slice().iter().enumerate() {
+    for (i, part) in items.iter().enumerate() {
         next = check_goal(alloc, filters, &goals[i], part, next)?;
     }
     Ok(next)

@@ -93,11 +93,13 @@ fn by_lower<'a>(
 {
     match precedence_of(filters, right) {
         Some(low) => {
-            if place == 0 && low < high {
-                above_each(alloc, from, next, left, right)
-            } else {
-                Ok(None)
+            if place != 0 {
+                return Ok(None);
             }
+            if low >= high {
+                return Ok(None);
+            }
+            above_each(alloc, from, next, left, right)
         }
         None => Ok(None),
     }
@@ -166,7 +168,13 @@ fn less_at<'a>(
         → AreSymbolGoals n prec f from next left.now right.now first_less place r) }
 {
     let (items, others) = (arguments_of(left), arguments_of(right));
-    if place == 0 || place > items.len() || place > others.len() {
+    if place == 0 {
+        return Ok(None);
+    }
+    if place > items.len() {
+        return Ok(None);
+    }
+    if place > others.len() {
         return Ok(None);
     }
     if !same_trees(&items[..place - 1], &others[..place - 1]) {
@@ -254,11 +262,16 @@ fn by_variable<'a>(
 {
     match number_of(right) {
         Some(number) => {
-            if place == 0 && from <= number && number < next {
-                Ok(Some(Vec::new(alloc)))
-            } else {
-                Ok(None)
+            if place != 0 {
+                return Ok(None);
             }
+            if number < from {
+                return Ok(None);
+            }
+            if number >= next {
+                return Ok(None);
+            }
+            Ok(Some(Vec::new(alloc)))
         }
         None => Ok(None),
     }
@@ -275,7 +288,10 @@ fn by_meta<'a>(
 ) -> Result<Option<Goals<'a>>, AllocError>
     ensures { IfOk result (λ r. (n f : ℕ) (prec : ℕ → ℕ) → AreSymbolGoals n prec f from next left.now right.now meta_part place r) }
 {
-    let (Some((meta, items)), Some(item)) = (meta_of(right), argument_at(left, place)) else {
+    let Some((meta, items)) = meta_of(right) else {
+        return Ok(None);
+    };
+    let Some(item) = argument_at(left, place) else {
         return Ok(None);
     };
     if !is_meta_below(item, meta, items.len(), items.len()) {

@@ -59,8 +59,10 @@ pub fn meta_of(t: &Tree) -> Option<(u32, &[Tree])>
 {
     match t {
         Tree::Meta(meta, _, items) => Some((*meta, items.as_slice())),
+        Tree::Sym(_, _) => None,
+        Tree::Mark(_, _) => None,
+        Tree::Apply(_, _) => None,
         Tree::Bound(_) | Tree::Free(_, _) | Tree::Lam(_, _) => None,
-        Tree::Sym(_, _) | Tree::Mark(_, _) | Tree::Apply(_, _) => None,
     }
 }
 
@@ -70,7 +72,9 @@ pub fn application_of(t: &Tree) -> Option<(&Tree, &[Tree])>
 {
     match t {
         Tree::Apply(head, items) => Some((head, items.as_slice())),
+        Tree::Sym(_, _) => None,
+        Tree::Mark(_, _) => None,
+        Tree::Meta(_, _, _) => None,
         Tree::Bound(_) | Tree::Free(_, _) | Tree::Lam(_, _) => None,
-        Tree::Sym(_, _) | Tree::Mark(_, _) | Tree::Meta(_, _, _) => None,
     }
 }

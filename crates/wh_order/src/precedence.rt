@@ -21,8 +21,9 @@ pub fn precedence_of(filters: &Filters, t: &Tree) -> Option<u32>
     match t {
         Tree::Sym(symbol, _) => Some(of_symbol(filters, *symbol)),
         Tree::Mark(symbol, _) => Some(of_mark(filters, *symbol)),
+        Tree::Apply(_, _) => None,
+        Tree::Meta(_, _, _) => None,
         Tree::Bound(_) | Tree::Free(_, _) | Tree::Lam(_, _) => None,
-        Tree::Meta(_, _, _) | Tree::Apply(_, _) => None,
     }
 }
 

@@ -65,8 +65,12 @@ fn is_symbol(t: &Tree, symbol: u32) -> bool
 {
     match t {
         Tree::Sym(own, _) => *own == symbol,
-        Tree::Mark(_, _) | Tree::Bound(_) | Tree::Free(_, _) => false,
-        Tree::Lam(_, _) | Tree::Meta(_, _, _) | Tree::Apply(_, _) => false,
+        Tree::Mark(_, _) => false,
+        Tree::Apply(_, _) => false,
+        Tree::Meta(_, _, _) => false,
+        Tree::Lam(_, _) => false,
+        Tree::Bound(_) => false,
+        Tree::Free(_, _) => false,
     }
 }
 
@@ -76,8 +80,12 @@ fn is_marked(t: &Tree, symbol: u32) -> bool
 {
     match t {
         Tree::Mark(own, _) => *own == symbol,
-        Tree::Sym(_, _) | Tree::Bound(_) | Tree::Free(_, _) => false,
-        Tree::Lam(_, _) | Tree::Meta(_, _, _) | Tree::Apply(_, _) => false,
+        Tree::Sym(_, _) => false,
+        Tree::Apply(_, _) => false,
+        Tree::Meta(_, _, _) => false,
+        Tree::Lam(_, _) => false,
+        Tree::Bound(_) => false,
+        Tree::Free(_, _) => false,
     }
 }
 

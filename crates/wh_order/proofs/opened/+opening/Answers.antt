@@ -1,0 +1,52 @@
+use Rattle.std.proofs.Common.{List, IfOk, subst, sym, ap, ◌∙◌, rules}
+use Rattle.wh_types.specs.Erase.{ty}
+use Rattle.wh_terms.specs.Tree.{bound, free}
+use Rattle.wh_order.specs.Trees.{tree}
+use Rattle.wh_order.proofs.OpenLemmas.{variable_opens, free_opens, meta_opens, meta_keeps, sym_opens, sym_keeps, mark_opens, mark_keeps, lam_opens, lam_keeps, apply_opens, apply_keeps, opens_none, opens_next, opens_all, keeps_next}
+use Rattle.wh_order.proofs.opened.+opening.Goals as goal
+
+pub open_under-returns-in_ok-open_each-in-Meta-clause-same : goal.open_under-returns-in_ok-open_each-in-Meta-clause-same
+open_under-returns-in_ok-open_each-in-Meta-clause-same t c =
+    meta_opens c.args.number (ty c.args.kind.now) c.args.depth c.args.t.now c.in-Meta.meta c.in-Meta.own c.in_ok-own-in-Meta.own c.in-Meta.items c.in_ok-open_each-in-Meta.field-0 c.in-Meta.is c.in_ok-open_each-in-Meta.ensures.same
+
+pub open_under-returns-in_ok-open_each-in-Meta-clause-over : goal.open_under-returns-in_ok-open_each-in-Meta-clause-over
+open_under-returns-in_ok-open_each-in-Meta-clause-over t c =
+    meta_keeps c.args.t.now c.in-Meta.meta c.in-Meta.own c.in_ok-own-in-Meta.own c.in-Meta.items c.in_ok-open_each-in-Meta.field-0 c.in-Meta.is c.in_ok-own-in-Meta.ensures c.in_ok-open_each-in-Meta.ensures.over
+
+pub open_under-returns-in_ok-open_each-in-Sym-clause-same : goal.open_under-returns-in_ok-open_each-in-Sym-clause-same
+open_under-returns-in_ok-open_each-in-Sym-clause-same t c =
+    sym_opens c.args.number (ty c.args.kind.now) c.args.depth c.args.t.now c.in-Sym.symbol c.in-Sym.items c.in_ok-open_each-in-Sym.field-0 c.in-Sym.is c.in_ok-open_each-in-Sym.ensures.same
+
+pub open_under-returns-in_ok-open_each-in-Sym-clause-over : goal.open_under-returns-in_ok-open_each-in-Sym-clause-over
+open_under-returns-in_ok-open_each-in-Sym-clause-over t c =
+    sym_keeps c.args.number (ty c.args.kind.now) c.args.depth c.args.t.now c.in-Sym.symbol c.in-Sym.items c.in_ok-open_each-in-Sym.field-0 c.in-Sym.is c.in_ok-open_each-in-Sym.ensures.same c.in_ok-open_each-in-Sym.ensures.over
+
+pub open_under-returns-in_ok-open_each-in-Mark-clause-same : goal.open_under-returns-in_ok-open_each-in-Mark-clause-same
+open_under-returns-in_ok-open_each-in-Mark-clause-same t c =
+    mark_opens c.args.number (ty c.args.kind.now) c.args.depth c.args.t.now c.in-Mark.symbol c.in-Mark.items c.in_ok-open_each-in-Mark.field-0 c.in-Mark.is c.in_ok-open_each-in-Mark.ensures.same
+
+pub open_under-returns-in_ok-open_each-in-Mark-clause-over : goal.open_under-returns-in_ok-open_each-in-Mark-clause-over
+open_under-returns-in_ok-open_each-in-Mark-clause-over t c =
+    mark_keeps c.args.number (ty c.args.kind.now) c.args.depth c.args.t.now c.in-Mark.symbol c.in-Mark.items c.in_ok-open_each-in-Mark.field-0 c.in-Mark.is c.in_ok-open_each-in-Mark.ensures.same c.in_ok-open_each-in-Mark.ensures.over
+
+pub open_under-returns-in_ok-new-in-Lam-clause-same : goal.open_under-returns-in_ok-new-in-Lam-clause-same
+open_under-returns-in_ok-new-in-Lam-clause-same t c = ?
+
+pub open_under-returns-in_ok-new-in-Lam-clause-over : goal.open_under-returns-in_ok-new-in-Lam-clause-over
+open_under-returns-in_ok-new-in-Lam-clause-over t c = ?
+
+pub open_under-returns-in_ok-new-in-Apply-clause-same : goal.open_under-returns-in_ok-new-in-Apply-clause-same
+open_under-returns-in_ok-new-in-Apply-clause-same t c = ?
+
+pub open_under-returns-in_ok-new-in-Apply-clause-over : goal.open_under-returns-in_ok-new-in-Apply-clause-over
+open_under-returns-in_ok-new-in-Apply-clause-over t c = ?
+
+pub open_under-returns-in-Bound-clause-same : goal.open_under-returns-in-Bound-clause-same
+open_under-returns-in-Bound-clause-same t c = ?
+
+pub open_under-returns-in_ok-copy-in-Free-clause-same : goal.open_under-returns-in_ok-copy-in-Free-clause-same
+open_under-returns-in_ok-copy-in-Free-clause-same t c = ?
+
+pub open_each-returns-clause-same : goal.open_each-returns-clause-same
+open_each-returns-clause-same t c n =
+    opens_all c.args.number (ty c.args.kind.now) c.args.depth c.args.items.now c.loop-item.results c.loop-item.item-index ? ? n
