@@ -1,3 +1,4 @@
+use Rattle.std.proofs.Common.{refl}
 use Rattle.wh_order.specs.Claims.{said}
 use Rattle.wh_order.proofs.GoalLemmas.{each_none, each_next, each_all}
 use Rattle.wh_order.proofs.goals.push_each.Goals as goal

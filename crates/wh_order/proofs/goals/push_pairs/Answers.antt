@@ -1,3 +1,4 @@
+use Rattle.std.proofs.Common.{refl}
 use Rattle.wh_order.proofs.GoalLemmas.{pairs_none, pairs_next, pairs_all}
 use Rattle.wh_order.proofs.goals.push_pairs.Goals as goal
 

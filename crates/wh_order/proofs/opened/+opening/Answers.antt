@@ -1,4 +1,4 @@
-use Rattle.std.proofs.Common.{List, IfOk, subst, sym, ap, ◌∙◌, rules}
+use Rattle.std.proofs.Common.{List, IfOk, subst, sym, ap, refl, ◌∙◌, rules}
 use Rattle.wh_types.specs.Erase.{ty}
 use Rattle.wh_terms.specs.Tree.{bound, free}
 use Rattle.wh_order.specs.Trees.{tree}
@@ -45,8 +45,9 @@ pub open_under-returns-in-Bound-clause-same : goal.open_under-returns-in-Bound-c
 open_under-returns-in-Bound-clause-same t c = ?
 
 pub open_under-returns-in_ok-copy-in-Free-clause-same : goal.open_under-returns-in_ok-copy-in-Free-clause-same
-open_under-returns-in_ok-copy-in-Free-clause-same t c = ?
+open_under-returns-in_ok-copy-in-Free-clause-same t c =
+    free_opens c.args.number (ty c.args.kind.now) c.args.depth c.args.t.now _ c.in-Free.x (ty c.in-Free.own) (ty c.in_ok-copy-in-Free.field-0) (λ n. ap (tree n) c.in-Free.is) (λ n. refl) c.in_ok-copy-in-Free.ensures
 
 pub open_each-returns-clause-same : goal.open_each-returns-clause-same
-open_each-returns-clause-same t c n =
-    opens_all c.args.number (ty c.args.kind.now) c.args.depth c.args.items.now c.loop-item.results c.loop-item.item-index ? ? n
+open_each-returns-clause-same t c =
+    opens_all c.args.number (ty c.args.kind.now) c.args.depth c.args.items.now c.loop-item.results c.loop-item.item-index ? ?
