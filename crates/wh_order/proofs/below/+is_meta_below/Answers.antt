@@ -30,7 +30,7 @@ pub returns-then-left-ne0 : goal.returns-then-left-ne0
 returns-then-left-ne0 t c =
     below_too_few c.args.t.now c.in-Meta.number c.in-Meta.field-1 c.in-Meta.items c.args.meta c.args.count c.args.left c.in-Meta.is c.if-left-ne0.true
 
-pub returns-in-Meta : goal.returns-in-Meta
-returns-in-Meta t c =
+pub returns-else-left-ne0 : goal.returns-else-left-ne0
+returns-else-left-ne0 t c =
     below_meta_is c.args.t.now c.in-Meta.number c.in-Meta.field-1 c.in-Meta.items c.as_slice.result.now c.args.meta c.args.count c.args.left c.are_nearest.result c.in-Meta.is c.as_slice.ensures
     c.are_nearest.ensures c.if-number-meta.false c.if-left-ne0.false

@@ -1,8 +1,10 @@
 use Rattle.std.proofs.Common.{List, IfOk, subst, sym, ap, refl, ◌∙◌, rules}
 use Rattle.wh_types.specs.Erase.{ty}
 use Rattle.wh_terms.specs.Tree.{bound, free}
-use Rattle.wh_order.specs.Trees.{tree}
-use Rattle.wh_order.proofs.OpenLemmas.{variable_opens, free_opens, meta_opens, meta_keeps, sym_opens, sym_keeps, mark_opens, mark_keeps, lam_opens, lam_keeps, apply_opens, apply_keeps, opens_none, opens_next, opens_all, keeps_next}
+use Rattle.wh_order.specs.declared.tree.Tree.{Tree}
+use Rattle.wh_order.specs.Trees.{tree, IsHeadTree}
+use Rattle.wh_order.specs.TreeParts.{Over}
+use Rattle.wh_order.proofs.OpenLemmas.{opens, variable_opens, free_opens, meta_opens, meta_keeps, sym_opens, sym_keeps, mark_opens, mark_keeps, lam_opens, lam_keeps, apply_opens, apply_keeps, opens_none, opens_next, opens_all, keeps_next}
 use Rattle.wh_order.proofs.opened.+opening.Goals as goal
 
 pub open_under-returns-in_ok-open_each-in-Meta-clause-same : goal.open_under-returns-in_ok-open_each-in-Meta-clause-same
@@ -30,16 +32,20 @@ open_under-returns-in_ok-open_each-in-Mark-clause-over t c =
     mark_keeps c.args.number (ty c.args.kind.now) c.args.depth c.args.t.now c.in-Mark.symbol c.in-Mark.items c.in_ok-open_each-in-Mark.field-0 c.in-Mark.is c.in_ok-open_each-in-Mark.ensures.same c.in_ok-open_each-in-Mark.ensures.over
 
 pub open_under-returns-in_ok-new-in-Lam-clause-same : goal.open_under-returns-in_ok-new-in-Lam-clause-same
-open_under-returns-in_ok-new-in-Lam-clause-same t c = ?
+open_under-returns-in_ok-new-in-Lam-clause-same t c =
+    lam_opens c.args.number (ty c.args.kind.now) c.args.depth c.args.t.now c.in-Lam.own c.in_ok-own-in-Lam.own c.in-Lam.body c.in_ok-new-in-Lam.field-0 c.in-Lam.is c.in_ok-own-in-Lam.ensures ?
 
 pub open_under-returns-in_ok-new-in-Lam-clause-over : goal.open_under-returns-in_ok-new-in-Lam-clause-over
-open_under-returns-in_ok-new-in-Lam-clause-over t c = ?
+open_under-returns-in_ok-new-in-Lam-clause-over t c =
+    lam_keeps c.args.t.now c.in-Lam.own c.in_ok-own-in-Lam.own c.in-Lam.body c.in_ok-new-in-Lam.field-0 c.in-Lam.is (λ n w o. subst (Over n w) (sym c.in_ok-new-in-Lam.ensures.ok) (c.in_ok-body-in-Lam.ensures.over n w (subst (Over n w) (sym c.deref.ensures) o)))
 
 pub open_under-returns-in_ok-new-in-Apply-clause-same : goal.open_under-returns-in_ok-new-in-Apply-clause-same
-open_under-returns-in_ok-new-in-Apply-clause-same t c = ?
+open_under-returns-in_ok-new-in-Apply-clause-same t c =
+    apply_opens c.args.number (ty c.args.kind.now) c.args.depth c.args.t.now c.in-Apply.head c.in_ok-new-in-Apply.field-0 c.in-Apply.items c.in_ok-items-in-Apply.items c.in-Apply.is (λ n. ap (tree n) c.in_ok-new-in-Apply.ensures.ok ∙ c.in_ok-head-in-Apply.ensures.same n ∙ ap (λ (u : Tree). opens c.args.number (ty c.args.kind.now) c.args.depth (tree n u)) c.deref-in-Apply.ensures) c.in_ok-items-in-Apply.ensures.same
 
 pub open_under-returns-in_ok-new-in-Apply-clause-over : goal.open_under-returns-in_ok-new-in-Apply-clause-over
-open_under-returns-in_ok-new-in-Apply-clause-over t c = ?
+open_under-returns-in_ok-new-in-Apply-clause-over t c =
+    apply_keeps c.args.number (ty c.args.kind.now) c.args.depth c.args.t.now c.in-Apply.head c.in_ok-new-in-Apply.field-0 c.in-Apply.items c.in_ok-items-in-Apply.items c.in-Apply.is c.in_ok-items-in-Apply.ensures.same (λ h. subst IsHeadTree (sym c.in_ok-new-in-Apply.ensures.ok) (c.in_ok-head-in-Apply.ensures.head (subst IsHeadTree (sym c.deref-in-Apply.ensures) h))) (λ n w o. subst (Over n w) (sym c.in_ok-new-in-Apply.ensures.ok) (c.in_ok-head-in-Apply.ensures.over n w (subst (Over n w) (sym c.deref-in-Apply.ensures) o))) c.in_ok-items-in-Apply.ensures.over
 
 pub open_under-returns-in-Bound-clause-same : goal.open_under-returns-in-Bound-clause-same
 open_under-returns-in-Bound-clause-same t c = ?
