@@ -1,19 +1,17 @@
 -- Meta-variables below abstractions over all their arguments.
-use Rattle.std.proofs.Common.{◌≡◌, ℕ, zero, suc, ◌+◌, ◌-◌, ◌<◌, ◌≤◌, List, [], ◌∷◌, length, drop, get_or, Bool, true, false, ◌&&◌, IsTrue, ◌↔◌, Box, Global, refl, ap, ap₂, subst, sym, ◌∙◌, arith}
+use Rattle.std.proofs.Common.{◌≡◌, ℕ, zero, suc, ◌+◌, ◌-◌, ◌<◌, ◌≤◌, List, [], ◌∷◌, length, drop, get_or, Bool, true, false, ◌&&◌, Box, Global, refl, ap, ap₂, subst, sym, ◌∙◌, arith}
 use Rattle.std.specs.Prelude.{◌==◌}
 use Rattle.std.proofs.lemmas.Bool.{eq-eqb, ne_eqb}
 use Rattle.wh_types.specs.declared.simple_type.SimpleType.{SimpleType}
-use Rattle.wh_types.specs.Erase.{ty}
 use Rattle.wh_terms.specs.Tree.{Tm, bound, free, fun, meta, lam, app, Tms, none, more, tms_of, spine}
 use Rattle.wh_path_order.specs.Heads.{nearest}
 use Rattle.wh_path_order.specs.SameTrees.{same, all_same}
 use Rattle.wh_path_order.specs.Verdict.{is_abstracted}
-use Rattle.wh_order.specs.declared.tree.Tree.{Tree, Meta, Sym, Mark, Lam, Apply}
+use Rattle.wh_order.specs.declared.tree.Tree.{Tree, Meta, Lam}
 use Rattle.wh_order.specs.declared.tree.Tree.TheVariants.{Bound, Free, Meta', Sym', Mark', Lam', Apply'}
 use Rattle.wh_order.specs.Trees.{tree, row, trees}
 use Rattle.wh_order.specs.TreeParts.{World, Over, AllOver}
 use Rattle.wh_order.proofs.TreeLemmas.{tree_of_meta, over_of_meta}
-use Rattle.wh_order.proofs.PartLemmas.{some_app}
 
 same-spine : (k : ℕ) (h : Tm) (ts : List Tm) → same h (bound k) ≡ false → same (spine h ts) (bound k) ≡ false
 same-spine k h [] e = e

@@ -8,7 +8,7 @@ use Rattle.wh_types.specs.Erase.{ty}
 use Rattle.wh_terms.specs.Tree.{Tm, fun, app, spine}
 use Rattle.wh_terms.specs.Typing.{Symbols, Declared}
 use Rattle.wh_terms.specs.Scope.{scope}
-use Rattle.wh_extended.specs.Kinds.{type_at, codomain, kind}
+use Rattle.wh_extended.specs.Kinds.{type_at, kind}
 use Rattle.wh_order.specs.declared.tree.Tree.{Tree, Meta, Sym, Mark, Lam, Apply}
 use Rattle.wh_order.specs.Trees.{tree, trees, spine_type}
 use Rattle.wh_order.specs.TreeParts.{World, Over}

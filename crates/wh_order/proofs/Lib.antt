@@ -2,9 +2,5 @@ pub mod TreeLemmas
 pub mod PartLemmas
 pub mod SameLemmas
 pub mod KindLemmas
-pub mod OpenLemmas
 pub mod GoalLemmas
 pub mod BelowLemmas
-pub mod LetterTasks
-pub mod LetterLemmas
-pub mod CheckLemmas

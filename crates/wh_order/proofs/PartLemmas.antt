@@ -1,6 +1,6 @@
 -- What the code finds in a tree: arguments, bodies, heads and their precedences.
-use Rattle.std.proofs.Common.{◌≡◌, ℕ, zero, suc, ◌+◌, ◌-◌, ◌<◌, ◌≤◌, List, [], ◌∷◌, ◌++◌, length, map, drop, get_or, Option, Some, None, cond, true, false, Box, Global, refl, ap, ap₂, subst, sym, ◌∙◌, arith}
-use Rattle.std.specs.Prelude.{slice_get, nat_lt}
+use Rattle.std.proofs.Common.{◌≡◌, ℕ, zero, suc, ◌+◌, ◌-◌, ◌<◌, ◌≤◌, List, [], ◌∷◌, ◌++◌, length, map, drop, get_or, Some, None, cond, Box, Global, refl, ap, ap₂, subst, sym, ◌∙◌, arith}
+use Rattle.std.specs.Prelude.{slice_get}
 use Rattle.std.specs.Borrow.{Bor}
 use Rattle.std.proofs.lemmas.Bool.{lt-ltb, le-ltb, eq-eqb, ne_eqb}
 use Rattle.wh_types.specs.declared.simple_type.SimpleType.{SimpleType}
@@ -18,7 +18,7 @@ use Rattle.wh_ordering.specs.Filterings.{FilteringData, filter_among, mark_among
 use Rattle.wh_order.specs.declared.tree.Tree.{Tree, Meta, Sym, Mark, Lam, Apply}
 use Rattle.wh_order.specs.declared.tree.Tree.TheVariants.{Bound, Free, Meta', Sym', Mark', Lam', Apply'}
 use Rattle.wh_order.specs.Trees.{tree, row, trees, IsHeadTree}
-use Rattle.wh_order.specs.TreeParts.{World, Over, AllOver, order_of, HasArguments, item_at, IsArgument, HeadOrder, body_in, IsBody, number_in, IsMeta, IsMetaApplication, IsOtherSpine, IsApplied, IsApplication}
+use Rattle.wh_order.specs.TreeParts.{World, Over, AllOver, HasArguments, item_at, IsArgument, HeadOrder, body_in, IsBody, number_in, IsMeta, IsMetaApplication, IsOtherSpine, IsApplied, IsApplication}
 use Rattle.wh_order.proofs.TreeLemmas.{trees-length, tree_of_meta, tree_of_sym, tree_of_mark, tree_of_apply, over_of_meta, over_of_sym, over_of_mark, over_of_apply, all_get, arguments-spine, head-alone, arguments-alone}
 
 -- arguments

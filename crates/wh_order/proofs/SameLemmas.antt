@@ -1,21 +1,21 @@
 -- When two trees stand for the same tree.
-use Rattle.std.proofs.Common.{◌≡◌, ℕ, zero, suc, ◌+◌, ◌<◌, ◌≤◌, List, [], ◌∷◌, ◌++◌, length, take, get_or, map, Bool, true, false, IsTrue, ◌↔◌, Some, None, Box, Global, refl, ap, ap₂, subst, sym, ◌∙◌, add-one, arith}
+use Rattle.std.proofs.Common.{◌≡◌, ℕ, zero, suc, ◌+◌, ◌<◌, ◌≤◌, List, [], ◌∷◌, ◌++◌, length, take, get_or, Bool, true, false, IsTrue, ◌↔◌, Some, None, Box, Global, refl, ap, ap₂, subst, sym, ◌∙◌, add-one, arith}
 use Rattle.std.proofs.Math.Seq.{take-suc}
 use Rattle.std.proofs.lemmas.List.{map-append}
 use Rattle.std.specs.Borrow.{Bor}
 use Rattle.wh_types.specs.declared.simple_type.SimpleType.{SimpleType}
 use Rattle.wh_types.specs.Ty.{Ty}
 use Rattle.wh_types.specs.Erase.{ty}
-use Rattle.wh_terms.specs.Tree.{Tm, bound, free, fun, meta, lam, app, Tms, none, more, tms_of, spine, head}
+use Rattle.wh_terms.specs.Tree.{Tm, bound, free, fun, meta, lam, app, Tms, tms_of, spine, head}
 use Rattle.wh_laws.proofs.Candidates.{head-spine}
 use Rattle.wh_path_order.specs.Heads.{arguments_of, list_of}
 use Rattle.wh_path_order.proofs.AskedTasks.{spine_whole}
 use Rattle.wh_order.specs.declared.tree.Tree.{Tree, Meta, Sym, Mark, Lam, Apply}
 use Rattle.wh_order.specs.declared.tree.Tree.TheVariants.{Bound, Free, Meta', Sym', Mark', Lam', Apply'}
 use Rattle.wh_order.specs.Trees.{tree, row, trees}
-use Rattle.wh_order.specs.TreeParts.{World, Over, AllOver, HasArguments, body_in, IsBody, IsMeta, IsMetaApplication, IsOtherSpine, IsApplied, IsApplication}
-use Rattle.wh_order.proofs.TreeLemmas.{tree_of_meta, tree_of_sym, tree_of_mark, tree_of_apply, over_of_meta, over_of_sym, over_of_mark, over_of_apply, all_get}
-use Rattle.wh_order.proofs.PartLemmas.{has_sym, has_mark, has_apply, applied, some_app, no_symbol}
+use Rattle.wh_order.specs.TreeParts.{World, Over, AllOver, HasArguments, body_in, IsBody, IsMeta, IsMetaApplication, IsOtherSpine, IsApplication}
+use Rattle.wh_order.proofs.TreeLemmas.{tree_of_meta, tree_of_sym, tree_of_mark, over_of_meta, over_of_sym, all_get}
+use Rattle.wh_order.proofs.PartLemmas.{applied, some_app}
 
 pub never : {P : Type 0} → (P → ⊥) → IsTrue false ↔ P
 never refuted = (λ e. absurd (cc), λ p. absurd (refuted p))

@@ -1,16 +1,16 @@
 -- What a tree stands for, and what it is over, by the list of its arguments.
 use mathlib.Core.Former.{Count}
-use Rattle.std.proofs.Common.{◌≡◌, ℕ, zero, suc, ◌+◌, ◌<◌, List, [], ◌∷◌, ◌++◌, length, map, get_or, refl, ap, subst, sym, ◌∙◌, append-nil, append_assoc, Box, Global, arith}
+use Rattle.std.proofs.Common.{◌≡◌, ℕ, zero, suc, ◌+◌, ◌<◌, List, [], ◌∷◌, ◌++◌, length, get_or, refl, ap, subst, sym, ◌∙◌, append-nil, append_assoc, Box, Global, arith}
 use Rattle.wh_types.specs.declared.simple_type.SimpleType.{SimpleType}
-use Rattle.wh_types.specs.Ty.{Ty, sort}
+use Rattle.wh_types.specs.Ty.{sort}
 use Rattle.wh_types.specs.Erase.{ty}
-use Rattle.wh_terms.specs.Tree.{Tm, bound, free, fun, meta, lam, app, tms_of, spine, head}
+use Rattle.wh_terms.specs.Tree.{Tm, fun, meta, app, tms_of, spine, head}
 use Rattle.wh_terms.specs.Typing.{Symbols, Declared}
 use Rattle.wh_extended.specs.Kinds.{type_at, out_at}
 use Rattle.wh_path_order.specs.Heads.{arguments_of}
-use Rattle.wh_order.specs.declared.tree.Tree.{Tree, Meta, Sym, Mark, Lam, Apply, Row_of-Tree, end_of-Tree, more_of-Tree, items-the_row-Tree, items_hidden-the_row-Tree-0}
+use Rattle.wh_order.specs.declared.tree.Tree.{Tree, Meta, Sym, Mark, Apply, Row_of-Tree, end_of-Tree, more_of-Tree, items-the_row-Tree, items_hidden-the_row-Tree-0}
 use Rattle.wh_order.specs.declared.tree.Tree.TheVariants.{Bound, Free, Meta', Sym', Mark', Lam', Apply'}
-use Rattle.wh_order.specs.Trees.{tree, row, trees, spine_type, IsHeadTree, IsOver, AreOver, EachOver}
+use Rattle.wh_order.specs.Trees.{tree, row, trees, spine_type, IsHeadTree, AreOver, EachOver}
 use Rattle.wh_order.specs.TreeParts.{World, Over, AllOver}
 
 row-items : (n : ℕ) (m : _) (r : Row_of-Tree m) → row n r ≡ trees n (items-the_row-Tree m r)

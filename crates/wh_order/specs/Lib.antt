@@ -2,4 +2,3 @@ pub mod Trees
 pub mod TreeSides
 pub mod TreeParts
 pub mod Claims
-pub mod BadNumber

@@ -1,5 +1,5 @@
 -- What the code looks at in a tree over a signature, told by the tree that it stands for.
-use Rattle.std.specs.Prelude.{ℕ, zero, suc, ◌-◌, ◌==◌, ◌&&◌, ◌≡◌, nat_lt, Bool, true, false, cond, List, [], ◌∷◌, length, Option, Some, None, MatchOption, slice_get}
+use Rattle.std.specs.Prelude.{ℕ, zero, suc, ◌-◌, ◌≡◌, nat_lt, cond, List, length, Option, Some, None, slice_get}
 use Rattle.std.specs.Borrow.{Bor}
 use Rattle.wh_types.specs.Ty.{Ty}
 use Rattle.wh_types.specs.Erase.{ty}
@@ -10,7 +10,7 @@ use Rattle.wh_extended.specs.Filtered.{precedences}
 use Rattle.wh_path_order.specs.Heads.{arguments_of}
 use Rattle.wh_ordering.specs.Filterings.{FilteringData, filter_among, mark_among}
 use Rattle.wh_order.specs.declared.tree.Tree.{Tree}
-use Rattle.wh_order.specs.Trees.{tree, trees, IsOver, EachOver, IsHeadTree}
+use Rattle.wh_order.specs.Trees.{tree, trees, IsOver, EachOver}
 
 -- what trees are over: the types of symbols and marked symbols, and the meta-variables
 pub record World : Type 0 where

@@ -1,5 +1,5 @@
 -- Filtered sides of rules and of pairs as trees of the program, and the verdict on inferences for two trees.
-use Rattle.std.specs.Prelude.{ℕ, ◌≡◌, Bool, true, false, List, [], length, map, Option}
+use Rattle.std.specs.Prelude.{ℕ, ◌≡◌, Bool, true, false, List, [], length, Option}
 use Rattle.wh_terms.specs.Tree.{Tm, tms_of}
 use Rattle.wh_terms.specs.Typing.{Symbols, Declared, AllTyped}
 use Rattle.wh_terms.specs.Rules.{RewriteRule}
@@ -8,7 +8,7 @@ use Rattle.wh_pairs.specs.PairData.{PairData}
 use Rattle.wh_polycheck.specs.Marks.{marked_types, head_of_side}
 use Rattle.wh_inference.specs.declared.inference.Inference.{Inference}
 use Rattle.wh_inference.specs.Said.{inference}
-use Rattle.wh_extended.specs.ExtendedSides.{extended_metas, extended_side, extended_call}
+use Rattle.wh_extended.specs.ExtendedSides.{extended_metas, extended_call}
 use Rattle.wh_extended.specs.Filtered.{collapsed}
 use Rattle.wh_path_order.specs.Lines.{filtered_side, filtered_call}
 use Rattle.wh_path_order.specs.Verdict.{line_verdict}

@@ -1,4 +1,4 @@
-use Rattle.std.proofs.Common.{arith, rules, tests}
+use Rattle.std.proofs.Common.{arith, rules}
 use Rattle.wh_order.proofs.BelowLemmas.{nearest_next, nearest_other, nearest_past, nearest_end}
 use Rattle.wh_order.proofs.below.are_nearest.Goals as goal
 

@@ -1,4 +1,4 @@
-use Rattle.std.proofs.Common.{ap, sym, ◌∙◌, arith}
+use Rattle.std.proofs.Common.{ap, sym, ◌∙◌}
 use Rattle.wh_types.specs.Erase.{ty}
 use Rattle.wh_order.specs.Trees.{spine_type}
 use Rattle.wh_order.proofs.KindLemmas.{sort_behind}

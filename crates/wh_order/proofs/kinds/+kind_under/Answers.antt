@@ -1,8 +1,7 @@
 use Rattle.wh_order.specs.declared.tree.Tree.{Tree}
-use Rattle.std.proofs.Common.{subst, ◌≡◌, ap, sym, ◌∙◌, arith, rules}
+use Rattle.std.proofs.Common.{subst}
 use Rattle.wh_types.specs.Erase.{ty}
 use Rattle.wh_terms.specs.Scope.{scope}
-use Rattle.wh_terms.proofs.TypeWalk.{scope_push}
 use Rattle.wh_order.proofs.KindLemmas.{HasKind, sym_kind, mark_kind, apply_kind}
 use Rattle.wh_order.proofs.kinds.+kind_under.Goals as goal
 

@@ -1,7 +1,6 @@
-use Rattle.std.proofs.Common.{arith}
 use Rattle.wh_order.proofs.KindLemmas.{binder_past, binder_read}
 use Rattle.std.proofs.lemmas.Result.{IfOk-weaker}
-use Rattle.std.proofs.Common.{sym, ◌∙◌}
+use Rattle.std.proofs.Common.{◌∙◌}
 use Rattle.wh_order.proofs.kinds.kind_of_binder.Goals as goal
 
 pub returns-then-outward-binders : goal.returns-then-outward-binders

@@ -1,4 +1,4 @@
-use Rattle.std.proofs.Common.{Bool, true, false, ap, sym, ◌∙◌, subst, arith, rules}
+use Rattle.std.proofs.Common.{ap, sym, ◌∙◌, subst, arith, rules}
 use Rattle.std.proofs.lemmas.Bool.{true≢false, ne_eqb}
 use Rattle.wh_order.specs.declared.tree.Tree.{Tree}
 use Rattle.wh_order.proofs.TreeLemmas.{weights, weight_of_meta, weight_of_sym, weight_of_mark, weight_of_apply, weight_in}
