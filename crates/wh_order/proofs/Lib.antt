@@ -4,3 +4,4 @@ pub mod SameLemmas
 pub mod KindLemmas
 pub mod GoalLemmas
 pub mod BelowLemmas
+pub mod OpenLemmas

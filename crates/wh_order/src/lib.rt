@@ -7,6 +7,7 @@ mod check;
 mod filtered;
 mod goals;
 mod kinds;
+mod opened;
 mod parts;
 mod precedence;
 mod same;
