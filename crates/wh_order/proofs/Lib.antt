@@ -5,3 +5,6 @@ pub mod KindLemmas
 pub mod GoalLemmas
 pub mod BelowLemmas
 pub mod OpenLemmas
+pub mod LetterTasks
+pub mod LetterLemmas
+pub mod CheckLemmas

@@ -2,11 +2,13 @@
 //! of a node, and whether an inference is good for two of them.
 #![tactic(auto)]
 
+mod asked;
 mod below;
 mod check;
 mod filtered;
 mod goals;
 mod kinds;
+mod letters;
 mod opened;
 mod parts;
 mod precedence;
