@@ -1,0 +1,3 @@
+pub mod Leftmost
+pub mod Reducing
+pub mod Redexes

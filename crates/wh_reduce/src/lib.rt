@@ -1,0 +1,11 @@
+//! The leftmost-outermost step of a term, and reduction by such steps.
+#![tactic(auto)]
+
+mod laws;
+mod redexes;
+mod reducing;
+mod searching;
+
+pub use laws::{first_reduct_is_leftmost, leftmost_steps_are_reductions, one_end_of_reduction};
+pub use reducing::{End, Reduced, reduce};
+pub use searching::first_step;
