@@ -1,0 +1,3 @@
+pub mod Filterings
+pub mod FilteringView
+pub mod Ordering
