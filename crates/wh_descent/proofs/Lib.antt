@@ -1,0 +1,3 @@
+pub mod FilteredSignature
+pub mod OrderedCalls
+pub mod PatternPairs
