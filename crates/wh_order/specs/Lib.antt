@@ -1,0 +1,4 @@
+pub mod Trees
+pub mod TreeSides
+pub mod TreeParts
+pub mod Claims

@@ -1,0 +1,8 @@
+mod ReadAt
+mod LetterLemmas
+mod PlaceLemmas
+mod NarrowTypes
+mod ProperFilters
+mod OrderingWalk
+pub mod Orderings
+pub mod OneOrdering

@@ -1,0 +1,3 @@
+pub mod InferenceView
+pub mod OrderingFaults
+pub mod Found

@@ -1,0 +1,4 @@
+pub mod Room
+pub mod Growth
+pub mod PairSides
+pub mod RuleSides
