@@ -12,6 +12,7 @@ use Rattle.wh_terms.specs.declared.term.Term.{Term, Meta}
 use Rattle.wh_terms.proofs.TermLemmas.{join, tms_append, tms_take_next, tm_meta, tm_of_meta}
 use Rattle.wh_extended.specs.Kinds.{kind}
 use Rattle.wh_extended.specs.Long.{core, cores, finish, finish_argument, long}
+use Rattle.wh_sides.specs.Growth.{argued}
 use Rattle.wh_sides.specs.declared.room.Built.{Built}
 use Rattle.wh_sides.specs.declared.room.BuiltTerms.{BuiltTerms}
 use Rattle.wh_sides.specs.Room.{IsBuilt, AreBuilt}
@@ -26,10 +27,6 @@ passed_on {T} {U} {E} (Err x) e P Q A B is h on = subst (λ y. MatchOr {T = U} (
     by : (e : Or E) → MatchOr {T = T} (Err e) P (λ _. A) → MatchOr {T = U} (Err e) Q (λ _. B)
     by NoMemory h = tt
     by (Because o) h = on h
-
--- an argument of a meta-variable, extended
-abbrev pub argued : Symbols → List Declared → List Ty → Tm → Tm
-argued S M Γ t = finish_argument t (kind S M Γ t) (core S M Γ t)
 
 -- missing arguments make a tree no smaller
 

@@ -1,5 +1,5 @@
 -- The types of terms: where a type is found.
-use Rattle.std.proofs.Common.{◌≡◌, ℕ, zero, suc, ◌+◌, ◌-◌, ◌<◌, ◌≤◌, List, [], ◌∷◌, ◌++◌, length, map, get_or, reverse, refl, ap, ap₂, sym, ◌∙◌, arith}
+use Rattle.std.proofs.Common.{◌≡◌, ℕ, zero, suc, ◌+◌, ◌-◌, ◌<◌, ◌≤◌, List, [], ◌∷◌, ◌++◌, length, map, get_or, refl, ap, sym, ◌∙◌, arith}
 use Rattle.std.specs.Borrow.{Bor}
 use Rattle.std.proofs.lemmas.List.{length-map, length-reverse, get_or-map, get_or-reverse}
 use Rattle.wh_types.specs.declared.simple_type.SimpleType.{SimpleType}
@@ -13,7 +13,7 @@ use Rattle.wh_terms.specs.declared.rule.MetaDecl.{MetaDecl}
 use Rattle.wh_terms.specs.declared.term.Term.{Term, Meta}
 use Rattle.wh_terms.proofs.TermLemmas.{tm_of_meta}
 use Rattle.wh_terms.proofs.TypeWalk.{scope_push}
-use Rattle.wh_extended.specs.Kinds.{type_at, out_at, codomain, kind}
+use Rattle.wh_extended.specs.Kinds.{type_at, out_at, kind}
 
 type-past : (Γ : List Ty) (i : ℕ) → length Γ ≤ i → type_at Γ i ≡ sort 0
 type-past [] i past = refl
@@ -26,9 +26,6 @@ type-read (a ∷ Γ) zero d within = refl
 type-read (a ∷ Γ) (suc i) d within = type-read Γ i d (omega arith)
 
 -- binders, the outermost first
-
-types : List (Bor SimpleType) → List Ty
-types = map (λ kind. ty kind.now)
 
 length-scope : (bs : List (Bor SimpleType)) → length (scope bs) ≡ length bs
 length-scope bs = length-reverse (map (λ (kind : Bor SimpleType). ty kind.now) bs) ∙ length-map bs (λ (kind : Bor SimpleType). ty kind.now)

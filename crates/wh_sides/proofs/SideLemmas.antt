@@ -11,7 +11,6 @@ use Rattle.wh_terms.specs.Rules.{RewriteRule}
 use Rattle.wh_terms.specs.Measures.{size}
 use Rattle.wh_terms.specs.Erase.{declared_metas, rewrite_rule, rewrite_rules, tm}
 use Rattle.wh_terms.specs.declared.rule.Rule.{Rule}
-use Rattle.wh_terms.specs.declared.term.Term.{Term}
 use Rattle.wh_terms.proofs.TypingLaws.{some_one}
 use Rattle.wh_system.specs.CanonicalView.{side_of}
 use Rattle.wh_pairs.proofs.ByPlace.{read_map}

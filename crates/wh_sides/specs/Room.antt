@@ -1,12 +1,10 @@
 -- Trees that are built as long as there is room for their nodes.
-use Rattle.std.specs.Prelude.{ℕ, ◌+◌, ◌≡◌, ◌<◌, ◌≤◌, Result}
-use Rattle.wh_types.specs.Limits.{greatest_size}
+use Rattle.std.specs.Prelude.{ℕ, ◌+◌, ◌≡◌, ◌<◌, Result}
 use Rattle.wh_types.specs.Outcome.{MatchOr}
 use Rattle.wh_types.specs.declared.want.Or.{Or}
 use Rattle.wh_terms.specs.Tree.{Tm, Tms}
 use Rattle.wh_terms.specs.Erase.{tm, tms}
 use Rattle.wh_terms.specs.Measures.{size, sizes}
-use Rattle.wh_terms.specs.declared.term.Term.{Term}
 use Rattle.wh_sides.specs.declared.room.TooWide.{TooWide}
 use Rattle.wh_sides.specs.declared.room.Built.{Built}
 use Rattle.wh_sides.specs.declared.room.BuiltTerms.{BuiltTerms}

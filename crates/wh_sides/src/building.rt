@@ -6,6 +6,7 @@ ghost use Rattle.wh_terms.specs.Scope.{scope};
 ghost use Rattle.wh_terms.specs.Tree.{Tm};
 ghost use Rattle.wh_extended.specs.Kinds.{kind};
 ghost use Rattle.wh_extended.specs.Long.{core, cores, finish, finish_argument, long};
+ghost use Rattle.wh_sides.specs.Growth.{argued};
 ghost use Rattle.wh_sides.specs.Room.{Builds, BuildsAll, IsBuilt};
 
 use crate::expanding::expand_within;
@@ -15,7 +16,9 @@ use std::alloc::Global;
 use wh_terms::{MetaDecl, Signature, Term, Terms};
 use wh_types::{Or, SimpleType};
 
-/// The extended term of a term without loose variables (Kop 2012; Fuhs and Kop 2019); `Err` exactly where there is no room for it.
+/// The extended term of a term without loose variables (Kop 2012; Fuhs and Kop 2019).
+///
+/// `Err` comes exactly where there is no room for it.
 pub fn long(
     alloc: Global,
     signature: &Signature,
@@ -39,7 +42,8 @@ fn long_under<'a>(
     term: &'a Term,
     room: u32,
 ) -> Result<Built, Or<TooWide>>
-    ensures built { Builds room (long (symbols signature.now) (declared_metas metas.now) (scope binders.old.items) (tm term.now)) result }
+    ensures built { Builds room (long (symbols signature.now) (declared_metas metas.now) (scope binders.old.items)
+        (tm term.now)) result }
     ensures kept { OnOk result (binders.new.items ≡ binders.old.items) }
 {
     let spine = core_under(alloc, signature, metas, binders, term, room)?;
@@ -56,8 +60,8 @@ fn argument_under<'a>(
     term: &'a Term,
     room: u32,
 ) -> Result<Built, Or<TooWide>>
-    ensures built { Builds room (finish_argument (tm term.now) (kind (symbols signature.now) (declared_metas metas.now) (scope binders.old.items) (tm term.now))
-        (core (symbols signature.now) (declared_metas metas.now) (scope binders.old.items) (tm term.now))) result }
+    ensures built { Builds room (argued (symbols signature.now) (declared_metas metas.now) (scope binders.old.items)
+        (tm term.now)) result }
     ensures kept { OnOk result (binders.new.items ≡ binders.old.items) }
 {
     let spine = core_under(alloc, signature, metas, binders, term, room)?;
@@ -73,8 +77,8 @@ fn finish_argument<'a>(
     term: &'a Term,
     spine: Built,
 ) -> Result<Built, Or<TooWide>>
-    ensures built { (room : ℕ) (t : Tm) → IsBuilt room t spine → Builds room
-        (finish_argument (tm term.now) (kind (symbols signature.now) (declared_metas metas.now) (scope binders.old.items) (tm term.now)) t) result }
+    ensures built { (room : ℕ) (t : Tm) → IsBuilt room t spine → Builds room (finish_argument (tm term.now)
+        (kind (symbols signature.now) (declared_metas metas.now) (scope binders.old.items) (tm term.now)) t) result }
     ensures kept { OnOk result (binders.new.items ≡ binders.old.items) }
 {
     match term {
@@ -86,7 +90,8 @@ fn finish_argument<'a>(
     }
 }
 
-// What stands for the term, with its missing arguments; an abstraction and a meta-variable's application stand as they are.
+// What stands for the term, with its missing arguments; an abstraction and an application of a meta-variable stand as they
+// are.
 fn finish<'a>(
     alloc: Global,
     signature: &Signature,
@@ -95,8 +100,8 @@ fn finish<'a>(
     term: &'a Term,
     spine: Built,
 ) -> Result<Built, Or<TooWide>>
-    ensures built { (room : ℕ) (t : Tm) → IsBuilt room t spine → Builds room
-        (finish (tm term.now) (kind (symbols signature.now) (declared_metas metas.now) (scope binders.old.items) (tm term.now)) t) result }
+    ensures built { (room : ℕ) (t : Tm) → IsBuilt room t spine → Builds room (finish (tm term.now)
+        (kind (symbols signature.now) (declared_metas metas.now) (scope binders.old.items) (tm term.now)) t) result }
     ensures kept { OnOk result (binders.new.items ≡ binders.old.items) }
 {
     match term {
@@ -118,7 +123,8 @@ fn core_under<'a>(
     term: &'a Term,
     room: u32,
 ) -> Result<Built, Or<TooWide>>
-    ensures built { Builds room (core (symbols signature.now) (declared_metas metas.now) (scope binders.old.items) (tm term.now)) result }
+    ensures built { Builds room (core (symbols signature.now) (declared_metas metas.now) (scope binders.old.items)
+        (tm term.now)) result }
     ensures kept { OnOk result (binders.new.items ≡ binders.old.items) }
 {
     let rest = without(room, 1)?;
@@ -174,7 +180,8 @@ fn cores_under<'a>(
     items: &'a Terms,
     room: u32,
 ) -> Result<BuiltTerms, Or<TooWide>>
-    ensures built { BuildsAll room (cores (symbols signature.now) (declared_metas metas.now) (scope binders.old.items) (tms items.now)) result }
+    ensures built { BuildsAll room (cores (symbols signature.now) (declared_metas metas.now) (scope binders.old.items)
+        (tms items.now)) result }
     ensures kept { OnOk result (binders.new.items ≡ binders.old.items) }
 {
     let mut results = Terms::new(alloc)?;

@@ -4,7 +4,6 @@ ghost use Rattle.std.specs.Prelude.{ℕ, ◌≡◌, ◌+◌, ◌<◌, IfOk};
 ghost use Rattle.wh_types.specs.Erase.{ty};
 ghost use Rattle.wh_types.specs.Outcome.{MatchOr};
 ghost use Rattle.wh_terms.specs.Erase.{tm};
-ghost use Rattle.wh_terms.specs.Measures.{size};
 ghost use Rattle.wh_terms.specs.Tree.{Tm};
 ghost use Rattle.wh_extended.specs.Long.{expand};
 ghost use Rattle.wh_sides.specs.Growth.{growth};
@@ -16,7 +15,9 @@ use std::alloc::{AllocError, Global};
 use wh_terms::Term;
 use wh_types::{Or, SimpleType};
 
-/// The term with all missing arguments of its type, these extended too (Kop 2012); `Err` exactly where there is no room.
+/// The term with all missing arguments of its type, these extended too (Kop 2012).
+///
+/// `Err` comes exactly where there is no room.
 #[tactic(auto, using(crate::proofs::ExpandLemmas::size_expand))]
 pub fn expand_within(alloc: Global, kind: &SimpleType, spine: Built) -> Result<Built, Or<TooWide>>
     ensures { (room : ℕ) (t : Tm) → IsBuilt room t spine → Builds room (expand (ty kind.now) t) result }

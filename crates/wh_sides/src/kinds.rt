@@ -32,7 +32,8 @@ pub fn kind_under<'a>(
     binders: &mut Vec<&'a SimpleType>,
     term: &'a Term,
 ) -> Result<SimpleType, AllocError>
-    ensures typed { IfOk result (λ a. ty a ≡ kind (symbols signature.now) (declared_metas metas.now) (scope binders.old.items) (tm term.now)) }
+    ensures typed { IfOk result (λ a. ty a ≡ kind (symbols signature.now) (declared_metas metas.now) (scope binders.old.items)
+        (tm term.now)) }
     ensures kept { OnOk result (binders.new.items ≡ binders.old.items) }
 {
     match term {

@@ -1,7 +1,7 @@
 //! The meta-variables of the extended sides of a rule.
 
 ghost use Rattle.std.specs.Prelude.{◌≡◌, ◌++◌, [], IfOk};
-ghost use Rattle.wh_types.specs.Erase.{ty, tys};
+ghost use Rattle.wh_types.specs.Erase.{ty};
 ghost use Rattle.wh_types.specs.Ty.{arguments};
 ghost use Rattle.wh_terms.specs.Erase.{declared_meta, declared_metas, tm};
 ghost use Rattle.wh_terms.specs.Tree.{meta, none, spine};

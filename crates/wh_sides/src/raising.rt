@@ -19,7 +19,7 @@ pub fn raise(alloc: Global, term: &Term) -> Result<Term, AllocError>
 
 // The same for a part of the term that stands below `depth` of its binders.
 #[cycle(raising)]
-#[tactic(auto, using(crate::proofs::RaiseLemmas::past_low, crate::proofs::RaiseLemmas::past_high, crate::proofs::RaiseLemmas::raised_bound, crate::proofs::RaiseLemmas::raised_free, crate::proofs::RaiseLemmas::raised_fun, crate::proofs::RaiseLemmas::raised_app, crate::proofs::RaiseLemmas::raised_lam))]
+#[tactic(auto, using(crate::proofs::RaiseLemmas::raised_bound, crate::proofs::RaiseLemmas::raised_free, crate::proofs::RaiseLemmas::raised_fun, crate::proofs::RaiseLemmas::raised_app, crate::proofs::RaiseLemmas::raised_lam))]
 fn raise_under(alloc: Global, term: &Term, depth: u32) -> Result<Term, AllocError>
     ensures { IfOk result (λ r. tm r ≡ rename (past depth) (tm term.now)) }
 {

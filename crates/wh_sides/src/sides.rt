@@ -32,7 +32,8 @@ pub struct WideSide {
     pub term: Term,
 }
 
-/// The right side of a rule, or its left side, applied to fresh meta-variables for its missing arguments and extended (Kop 2012).
+/// The right side of a rule, or its left side, applied to fresh meta-variables for its missing arguments and extended
+/// (Kop 2012).
 ///
 /// `Err` comes exactly where that has more than 65,536 nodes.
 pub fn extended_rule(

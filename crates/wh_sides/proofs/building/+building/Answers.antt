@@ -1,14 +1,15 @@
 use Rattle.std.proofs.Common.{◌≡◌, ◌∷◌, ◌<◌, ap, ap₂, refl, ◌∙◌, sym, arith}
 use Rattle.wh_types.specs.Erase.{ty}
-use Rattle.wh_terms.specs.Tree.{Tm, free, lam, app}
+use Rattle.wh_terms.specs.Tree.{free, lam, app}
 use Rattle.wh_terms.specs.Erase.{tm, tms, symbols, declared_metas}
 use Rattle.wh_terms.specs.Measures.{size, sizes}
 use Rattle.wh_terms.specs.Scope.{scope}
 use Rattle.wh_terms.proofs.TermLemmas.{weight_in_meta, weight_in_item}
 use Rattle.wh_terms.proofs.TypeWalk.{scope_push}
 use Rattle.wh_extended.specs.Long.{core, cores, long}
+use Rattle.wh_sides.specs.Growth.{argued}
 use Rattle.wh_sides.specs.Room.{IsBuilt, AreBuilt}
-use Rattle.wh_sides.proofs.BuildLemmas.{passed_on, argued, long_wide, argument_wide, bound_built, free_built, fun_built, meta_built, meta_wide, lam_built, lam_wide, app_built, app_wide_front, app_wide, none_built, more_built, more_wide}
+use Rattle.wh_sides.proofs.BuildLemmas.{passed_on, long_wide, argument_wide, bound_built, free_built, fun_built, meta_built, meta_wide, lam_built, lam_wide, app_built, app_wide_front, app_wide, none_built, more_built, more_wide}
 use Rattle.wh_sides.proofs.building.+building.Goals as goal
 
 pub long_under-returns-in_err-spine-clause-built : goal.long_under-returns-in_err-spine-clause-built
