@@ -2,3 +2,4 @@ pub mod Trees
 pub mod TreeSides
 pub mod TreeParts
 pub mod Claims
+pub mod BadNumber

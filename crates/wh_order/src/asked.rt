@@ -1,0 +1,205 @@
+//! What an inference asks for: the claims that its parts are for.
+
+ghost use Rattle.std.specs.Prelude.{ℕ, ◌≡◌, ◌↔◌, IfOk, IsTrue, length};
+ghost use Rattle.wh_inference.specs.Inferences.{Inferences, arguments, bodies, same_trees};
+ghost use Rattle.wh_inference.specs.Said as s;
+ghost use Rattle.wh_path_order.specs.Verdict.{some_strict};
+ghost use Rattle.wh_ordering.specs.FilteringView.{filtering_data};
+ghost use Rattle.wh_order.specs.Claims.{AreAtLeastGoals, AreGoals, AreGreaterGoals, AreTypedGoals};
+ghost use Rattle.wh_order.specs.TreeParts.{order_of};
+
+use crate::goals::{Claim, Goal, Goals, Side, one, push_pairs};
+use crate::kinds::have_one_type;
+use crate::letters::above_goals;
+use crate::opened::open_tree;
+use crate::parts::{application_of, body_of};
+use crate::same::same_tree;
+use crate::tree::Tree;
+use std::alloc::{AllocError, Global};
+use wh_inference::{Inference, Letter};
+use wh_ordering::Filters;
+use wh_types::{same_type, sum};
+
+/// What the parts of an inference with this letter, this place and these parts are for, where it is for the goal. `None` where the
+/// letter is not for that, its condition fails, or it compares trees of two types.
+pub fn goals_of<'a>(
+    alloc: Global,
+    filters: &Filters,
+    goal: &'a Goal<'_>,
+    letter: Letter,
+    place: u32,
+    parts: &[Inference],
+) -> Result<Option<Goals<'a>>, AllocError>
+    ensures { IfOk result (λ r. AreGoals (length (filtering_data filters.now).symbols) (order_of (filtering_data filters.now))
+        goal.now (s.letter letter) place (s.inferences parts.now) r) }
+{
+    let (left, right) = (goal.left.tree(), goal.right.tree());
+    match goal.claim {
+        Claim::AtLeast => {
+            at_least_goals(alloc, filters, goal.next, left, right, letter, place, parts)
+        }
+        Claim::Greater => typed_goals(alloc, filters, goal.next, left, right, letter, place, parts),
+        Claim::Above(from) => {
+            above_goals(alloc, filters, from, goal.next, left, right, letter, place)
+        }
+    }
+}
+
+// The same where the left tree is to be at least the right one.
+fn at_least_goals<'a>(
+    alloc: Global,
+    filters: &Filters,
+    next: u32,
+    left: &'a Tree,
+    right: &'a Tree,
+    letter: Letter,
+    place: u32,
+    parts: &[Inference],
+) -> Result<Option<Goals<'a>>, AllocError>
+    ensures { IfOk result (λ r. AreAtLeastGoals (length (filtering_data filters.now).symbols) (order_of (filtering_data filters.now))
+        next left.now right.now (s.letter letter) place (s.inferences parts.now) r) }
+{
+    if asks_same(letter, place) {
+        if same_tree(left, right) {
+            Ok(Some(Vec::new(alloc)))
+        } else {
+            Ok(None)
+        }
+    } else {
+        typed_goals(alloc, filters, next, left, right, letter, place, parts)
+    }
+}
+
+// Whether an inference with this letter and this place is that of the same trees.
+fn asks_same(letter: Letter, place: u32) -> bool
+    ensures { IsTrue result ↔ ((place ≡ 0) × (s.letter letter ≡ same_trees)) }
+{
+    place == 0 && is_same(letter)
+}
+
+// Whether the letter is that of the same trees.
+fn is_same(letter: Letter) -> bool
+    ensures { IsTrue result ↔ (s.letter letter ≡ same_trees) }
+{
+    matches!(letter, Letter::Same)
+}
+
+// The same where the left tree is to be greater than the right one, which has to have its type.
+fn typed_goals<'a>(
+    alloc: Global,
+    filters: &Filters,
+    next: u32,
+    left: &'a Tree,
+    right: &'a Tree,
+    letter: Letter,
+    place: u32,
+    parts: &[Inference],
+) -> Result<Option<Goals<'a>>, AllocError>
+    ensures { IfOk result (λ r. AreTypedGoals (length (filtering_data filters.now).symbols) (order_of (filtering_data filters.now))
+        next left.now right.now (s.letter letter) place (s.inferences parts.now) r) }
+{
+    let alike = have_one_type(alloc, left, right)?;
+    if alike {
+        greater_goals(alloc, filters, next, left, right, letter, place, parts)
+    } else {
+        Ok(None)
+    }
+}
+
+// The same where both have one type.
+fn greater_goals<'a>(
+    alloc: Global,
+    filters: &Filters,
+    next: u32,
+    left: &'a Tree,
+    right: &'a Tree,
+    letter: Letter,
+    place: u32,
+    parts: &[Inference],
+) -> Result<Option<Goals<'a>>, AllocError>
+    ensures { IfOk result (λ r. AreGreaterGoals (length (filtering_data filters.now).symbols) (order_of (filtering_data filters.now))
+        next left.now right.now (s.letter letter) place (s.inferences parts.now) r) }
+{
+    match letter {
+        Letter::Lam => by_bodies(alloc, next, left, right, place),
+        Letter::Mono => by_arguments(alloc, next, left, right, place, parts),
+        _ => above_goals(alloc, filters, next, next, left, right, letter, place),
+    }
+}
+
+// `l`: two abstractions over one type; the left body is greater, where one free variable stands for both variables.
+fn by_bodies<'a>(
+    alloc: Global,
+    next: u32,
+    left: &'a Tree,
+    right: &'a Tree,
+    place: u32,
+) -> Result<Option<Goals<'a>>, AllocError>
+    ensures { IfOk result (λ r. (n : ℕ) (prec : ℕ → ℕ) (is : Inferences) → AreGreaterGoals n prec next left.now right.now bodies place is r) }
+{
+    let Some((kind, body)) = body_of(left) else {
+        return Ok(None);
+    };
+    let Some((other, other_body)) = body_of(right) else {
+        return Ok(None);
+    };
+    if place != 0 {
+        return Ok(None);
+    }
+    if !same_type(kind, other) {
+        return Ok(None);
+    }
+    let goal = Goal {
+        claim: Claim::Greater,
+        next: sum(next, 1)?,
+        left: Side::Made(open_tree(alloc, body, next, kind)?),
+        right: Side::Made(open_tree(alloc, other_body, next, other)?),
+    };
+    one(alloc, goal)
+}
+
+// `m`: two applications of one head to as many arguments; each argument is at least the other one, and some part says more.
+fn by_arguments<'a>(
+    alloc: Global,
+    next: u32,
+    left: &'a Tree,
+    right: &'a Tree,
+    place: u32,
+    parts: &[Inference],
+) -> Result<Option<Goals<'a>>, AllocError>
+    ensures { IfOk result (λ r. (n : ℕ) (prec : ℕ → ℕ) → AreGreaterGoals n prec next left.now right.now arguments place (s.inferences parts.now) r) }
+{
+    let Some((head, items)) = application_of(left) else {
+        return Ok(None);
+    };
+    let Some((other, others)) = application_of(right) else {
+        return Ok(None);
+    };
+    if place != 0 {
+        return Ok(None);
+    }
+    if items.len() != others.len() {
+        return Ok(None);
+    }
+    if !same_tree(head, other) {
+        return Ok(None);
+    }
+    if !is_some_strict(parts) {
+        return Ok(None);
+    }
+    let mut goals = Vec::new(alloc);
+    push_pairs(&mut goals, next, items, others)?;
+    Ok(Some(goals))
+}
+
+// Whether some part is not that of the same trees.
+fn is_some_strict(parts: &[Inference]) -> bool
+    ensures { result ≡ some_strict (s.inferences parts.now) }
+{
+    for part in parts {
+        if !is_same(part.letter) {
+            return true;
+        }
+    }
+    false
+}
