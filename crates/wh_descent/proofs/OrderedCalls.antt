@@ -1,5 +1,4 @@
--- What the conditions of a node of a path order say of a set of pairs: its calls end where those by the pairs that are
--- kept do.
+-- What the conditions of a node of a path order say of a set of pairs: its calls end where those by the pairs that are kept do.
 use Rattle.std.proofs.Common.{◌≡◌, ◌≢◌, ℕ, zero, suc, ◌<◌, List, [], ◌∷◌, length, take, unwrap_or, Some, slice_get, Contains, refl, ap₂, sym, subst}
 use Rattle.std.proofs.lemmas.Option.{none-some, same_Some, slice_get_within}
 use mathlib.Core.Path.{subst₂}
@@ -36,8 +35,8 @@ use Rattle.wh_path_order.specs.Lines.{AreOriented, PairSides, filtered_call}
 use Rattle.wh_path_order.proofs.FilteredSteps.{call_steps, call_ends}
 use Rattle.wh_path_order.proofs.PairValues.{pair_values_step}
 use Rattle.wh_ordering.specs.Filterings.{FilteringData, filters_of, precedences_of, argument_types, filtered_signature}
-use Rattle.wh_ordering.specs.Ordering.{IsGoodPair, by_inferences, IsOrdering}
-use Rattle.wh_descent.specs.PatternSides.{HaveKnownSorts, HavePatternSides}
+use Rattle.wh_ordering.specs.Ordering.{IsGoodRule, IsGoodPair, by_inferences, IsOrdering}
+use Rattle.wh_descent.specs.PatternSides.{HaveKnownSorts, HasPatternSides, HavePatternSides}
 use Rattle.wh_descent.proofs.FilteredSignature.{filters_fit, mark_fits}
 
 -- where steps end, sequences of steps end
@@ -123,8 +122,8 @@ module _ (T : TaskData) (D : FilteringData) (E : Evidence Inference) (is : IsOrd
   arguments_trees : (c d : MarkedCall) → IsTypedCall S T.rules c → ArgumentsStep (Step T.rules) c d → Many Order (tree_of c) (tree_of d)
   arguments_trees c d t s =
       subst (λ f. Many Order (tree_of c) (filtered_call S Φ [] f d.arguments)) (sym s.symbol)
-      (call_steps S F Φ prec T.rules made sorts.of_symbols oriented.filters oriented.one_sort oriented.lines c.symbol c.arguments
-      d.arguments (marked_types S T.rules c.symbol) (typed_at_marked S T.rules c t) s.arguments)
+      (call_steps S F Φ prec T.rules made sorts.of_symbols oriented.filters oriented.one_sort oriented.lines c.symbol c.arguments d.arguments
+      (marked_types S T.rules c.symbol) (typed_at_marked S T.rules c t) s.arguments)
 
   -- what a pair asks
   sides : (p : PairData) → Contains T.pairs p

@@ -1,11 +1,9 @@
 -- The check of one inference after another.
 use Rattle.std.proofs.Common.{◌≡◌, ℕ, zero, suc, ◌+◌, ◌<◌, ◌≤◌, List, [], ◌∷◌, length, map, drop, get_or, cond, Option, Some, None, Result, Ok, Err, refl, ap, ap₂, subst, sym, ◌∙◌, arith}
-use Rattle.std.specs.Prelude.{◌==◌}
-use Rattle.std.specs.Global.{Vec}
+use Rattle.std.specs.Prelude.{◌==◌, IsErrAnd}
 use Rattle.std.proofs.lemmas.Bool.{eq-eqb, ne_eqb}
 use Rattle.wh_types.specs.declared.want.Or.{Or}
 use Rattle.wh_types.specs.declared.want.Or.TheVariants.{NoMemory, Because}
-use Rattle.wh_types.specs.Outcome.{MatchOr}
 use Rattle.wh_terms.specs.Typing.{Symbols, Declared}
 use Rattle.wh_inference.specs.Inferences as m
 use Rattle.wh_inference.specs.Inferences.{infer, no_parts, more_parts, entries, all_entries, count_parts}
@@ -14,7 +12,7 @@ use Rattle.wh_inference.specs.declared.inference.Inference.{Inference, Inference
 use Rattle.wh_path_order.specs.Verdict.{Task, tasks, or_later, verdict, verdicts}
 use Rattle.wh_order.specs.declared.goals.Goal.{Goal}
 use Rattle.wh_order.specs.TreeParts.{World}
-use Rattle.wh_order.specs.Claims.{task, IsGoalOver, AreGoalsOver, StandFor, HoldsGoals, MayStandFor, moved, Judged}
+use Rattle.wh_order.specs.Claims.{task, IsGoalOver, AreGoalsOver, moved, Judged}
 
 -- an inference of the program, by its letter, its place and its parts
 
@@ -75,14 +73,14 @@ judged_bad number at v count e is here = ap (moved at) is ∙ ap Some (omega (ar
 
 -- one after another
 
-drop_here : {A : Type 0} (xs : List A) (i : ℕ) (x : A) → i < length xs → x ≡ get_or xs i x → drop i xs ≡ x ∷ drop (i + 1) xs
+pub drop_here : {A : Type 0} (xs : List A) (i : ℕ) (x : A) → i < length xs → x ≡ get_or xs i x → drop i xs ≡ x ∷ drop (i + 1) xs
 drop_here [] i x within e = absurd (omega arith)
 drop_here (y ∷ xs) zero x within e = ap (λ z. z ∷ xs) (sym e)
 drop_here (y ∷ xs) (suc i) x within e =
     let next : suc (i + 1) ≡ suc i + 1 = omega arith in
     drop_here xs i x (omega arith) e ∙ ap (λ (k : ℕ). x ∷ drop k (y ∷ xs)) next
 
-drop_end : {A : Type 0} (xs : List A) (i : ℕ) → length xs ≤ i → drop i xs ≡ []
+pub drop_end : {A : Type 0} (xs : List A) (i : ℕ) → length xs ≤ i → drop i xs ≡ []
 drop_end [] zero past = refl
 drop_end [] (suc i) past = refl
 drop_end (x ∷ xs) zero past = absurd (omega arith)
@@ -155,3 +153,10 @@ judged_error number next at v o count all (Because e) h f = f (number e) h
 pub moved_zero : (o : Option ℕ) → moved 0 o ≡ o
 moved_zero None = refl
 moved_zero (Some k) = ap Some (omega arith)
+
+-- the same where the error is passed on
+pub judged_passed : {E : Type 0} (number : E → ℕ) (next at : ℕ) (v o : Option ℕ) (count all : ℕ) (e : Or E) (r : Result ℕ (Or E)) → IsErrAnd r (λ f. f ≡ e) → Judged number next v count (Err e)
+    → ((k : ℕ) → moved next v ≡ Some k → moved at o ≡ Some k) → Judged number at o all r
+judged_passed number next at v o count all e (Ok x) err h f = absurd err
+judged_passed {E} number next at v o count all e (Err g) err h f =
+    judged_error number next at v o count all g (subst (λ (x : Or E). Judged number next v count (Err x)) (sym err) h) f

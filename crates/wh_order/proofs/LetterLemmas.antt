@@ -1,22 +1,15 @@
 -- The goals of the code stand for what letters ask for.
-use Rattle.std.proofs.Common.{◌≡◌, ℕ, zero, suc, ◌+◌, ◌-◌, ◌<◌, ◌≤◌, List, [], ◌∷◌, ◌++◌, length, map, take, get_or, Bool, true, false, ◌&&◌, IsTrue, ◌↔◌, Option, Some, None, slice_get, refl, ap, ap₂, subst, sym, ◌∙◌, arith}
-use Rattle.std.specs.Borrow.{Bor}
+use Rattle.std.proofs.Common.{◌≡◌, ℕ, List, [], ◌∷◌, true, Option, Some, None, refl, ap, subst, sym}
 use Rattle.std.specs.Global.{Vec}
-use Rattle.wh_types.specs.Ty.{Ty, same_ty}
-use Rattle.wh_types.specs.Erase.{ty}
-use Rattle.wh_types.specs.declared.simple_type.SimpleType.{SimpleType}
 use Rattle.wh_terms.specs.Tree.{Tm, bound, free, fun, meta, lam, app, tms_of, head}
-use Rattle.wh_terms.specs.Substitution.{opened}
-use Rattle.wh_inference.specs.Inferences.{Letter, same_trees, bodies, arguments, part, lower, first_less, spine_parts, body, variable, meta_part, Inferences}
-use Rattle.wh_path_order.specs.Heads.{arguments_of, list_of}
-use Rattle.wh_path_order.specs.SameTrees.{same_list}
-use Rattle.wh_path_order.specs.Verdict.{at_least, greater, above, Task, each, is_other_head, is_abstracted, symbol_tasks}
+use Rattle.wh_inference.specs.Inferences.{Letter}
+use Rattle.wh_path_order.specs.Heads.{list_of}
+use Rattle.wh_path_order.specs.Verdict.{Task, is_other_head, symbol_tasks}
 use Rattle.wh_order.specs.declared.tree.Tree.{Tree}
 use Rattle.wh_order.specs.declared.goals.Goal.{Goal}
-use Rattle.wh_order.specs.Trees.{tree, trees}
-use Rattle.wh_order.specs.TreeParts.{World, Over, AllOver, item_at, body_in, number_in, IsMeta, IsMetaApplication, IsOtherSpine, IsApplied, IsApplication, IsArgument, IsBody, HasArguments}
-use Rattle.wh_order.specs.Claims.{task, IsGoalOver, StandFor, HoldsGoals, MayStandFor, AreSymbolGoals}
-use Rattle.wh_order.proofs.LetterTasks.{part_none, part_some, body_none, body_place, body_is, variable_none, variable_place, variable_low, variable_high, variable_is, meta_none, meta_no_item, meta_other, meta_is, spine_none, spine_place, spine_is, lower_other, lower_not, lower_place, lower_is}
+use Rattle.wh_order.specs.Trees.{tree}
+use Rattle.wh_order.specs.TreeParts.{World, Over}
+use Rattle.wh_order.specs.Claims.{HoldsGoals, MayStandFor, AreSymbolGoals}
 
 -- what stands for the tasks, where these are told in another way
 pub may : (n : ℕ) (w : World) (r : Option (Vec Goal)) (o p : Option (List Task)) → o ≡ p → MayStandFor n w r p → MayStandFor n w r o

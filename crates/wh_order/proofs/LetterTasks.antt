@@ -1,15 +1,15 @@
 -- What the letters ask for, each in the cases that the code tells apart.
-use Rattle.std.proofs.Common.{◌≡◌, ℕ, zero, suc, ◌+◌, ◌<◌, ◌≤◌, List, [], ◌∷◌, length, take, Bool, true, false, ◌&&◌, cond, Option, Some, None, slice_get, refl, ap, ap₂, subst, sym, ◌∙◌, arith}
+use Rattle.std.proofs.Common.{◌≡◌, ℕ, zero, suc, ◌<◌, ◌≤◌, List, [], ◌∷◌, length, take, Bool, true, false, ◌&&◌, cond, Option, Some, None, slice_get, refl, ap, ap₂, sym, ◌∙◌, arith}
 use Rattle.std.specs.Prelude.{◌==◌, nat_lt}
 use Rattle.std.proofs.lemmas.Bool.{eq-eqb, ne_eqb, lt-ltb, le-ltb}
-use Rattle.wh_types.specs.Ty.{Ty, same_ty}
+use Rattle.wh_types.specs.Ty.{Ty}
 use Rattle.wh_terms.specs.Tree.{Tm, bound, free, fun, meta, lam, app, Tms, head}
 use Rattle.wh_terms.specs.Substitution.{opened}
 use Rattle.wh_terms.specs.Typing.{Symbols, Declared}
-use Rattle.wh_inference.specs.Inferences.{Letter, same_trees, bodies, arguments, part, lower, first_less, spine_parts, body, variable, meta_part, Inferences}
-use Rattle.wh_path_order.specs.Heads.{arguments_of, list_of, nearest}
-use Rattle.wh_path_order.specs.SameTrees.{same, same_list}
-use Rattle.wh_path_order.specs.Verdict.{at_least, greater, above, Task, each, pairwise, when, is_other_head, is_abstracted, some_strict, symbol_tasks, above_tasks, greater_tasks, typed_tasks, at_least_tasks, one_kind}
+use Rattle.wh_inference.specs.Inferences.{Letter, same_trees, bodies, arguments, part, lower, first_less, spine_parts, body, variable, meta_part}
+use Rattle.wh_path_order.specs.Heads.{arguments_of, list_of}
+use Rattle.wh_path_order.specs.SameTrees.{same_list}
+use Rattle.wh_path_order.specs.Verdict.{at_least, greater, above, Task, each, when, is_other_head, is_abstracted, symbol_tasks, above_tasks}
 use Rattle.wh_order.specs.TreeParts.{item_at, body_in, number_in, IsMeta, IsOtherSpine}
 
 module _ (F : Symbols) (prec : ℕ → ℕ) (M : List Declared) where
@@ -309,7 +309,7 @@ module _ (F : Symbols) (prec : ℕ → ℕ) (M : List Declared) where
   pub arguments_asks : (f from next : ℕ) (s t : Tm) (place : ℕ) → symbol_tasks F prec M f from next s t arguments place (head t) ≡ None
   arguments_asks f from next s t place = refl
 
-  no_above : (from next : ℕ) (s t : Tm) (l : Letter) (place : ℕ) → ((f : ℕ) → symbol_tasks F prec M f from next s t l place (head t) ≡ None) → above_tasks F prec M from next s t l place ≡ None
+  pub no_above : (from next : ℕ) (s t : Tm) (l : Letter) (place : ℕ) → ((f : ℕ) → symbol_tasks F prec M f from next s t l place (head t) ≡ None) → above_tasks F prec M from next s t l place ≡ None
   no_above from next s t l place none = on (head s)
     where
       on : (h : Tm) → elim h as (λ x. Option (List Task)) [ fun f ↦ symbol_tasks F prec M f from next s t l place (head t) | _ ↦ None ] ≡ None

@@ -7,4 +7,10 @@ pub mod BelowLemmas
 pub mod OpenLemmas
 pub mod LetterTasks
 pub mod LetterLemmas
+pub mod SymbolGoals
+pub mod AskedTasks
+pub mod AskedGoals
 pub mod CheckLemmas
+pub mod StrictParts
+pub mod JudgedLemmas
+pub mod LineLemmas

@@ -9,7 +9,7 @@ ghost use Rattle.wh_order.specs.Claims.{AreAtLeastGoals, AreGoals, AreGreaterGoa
 ghost use Rattle.wh_order.specs.TreeParts.{order_of};
 
 use crate::goals::{Claim, Goal, Goals, Side, one, push_pairs};
-use crate::kinds::kind_of;
+use crate::kinds::have_one_type;
 use crate::letters::above_goals;
 use crate::opened::open_tree;
 use crate::parts::{application_of, body_of};
@@ -59,7 +59,7 @@ fn at_least_goals<'a>(
     ensures { IfOk result (λ r. AreAtLeastGoals (length (filtering_data filters.now).symbols) (order_of (filtering_data filters.now))
         next left.now right.now (s.letter letter) place (s.inferences parts.now) r) }
 {
-    if place == 0 && is_same(letter) {
+    if asks_same(letter, place) {
         if same_tree(left, right) {
             Ok(Some(Vec::new(alloc)))
         } else {
@@ -68,6 +68,13 @@ fn at_least_goals<'a>(
     } else {
         typed_goals(alloc, filters, next, left, right, letter, place, parts)
     }
+}
+
+// Whether an inference with this letter and this place is that of the same trees.
+fn asks_same(letter: Letter, place: u32) -> bool
+    ensures { IsTrue result ↔ ((place ≡ 0) × (s.letter letter ≡ same_trees)) }
+{
+    place == 0 && is_same(letter)
 }
 
 // Whether the letter is that of the same trees.
@@ -91,9 +98,8 @@ fn typed_goals<'a>(
     ensures { IfOk result (λ r. AreTypedGoals (length (filtering_data filters.now).symbols) (order_of (filtering_data filters.now))
         next left.now right.now (s.letter letter) place (s.inferences parts.now) r) }
 {
-    let kind = kind_of(alloc, left)?;
-    let other = kind_of(alloc, right)?;
-    if same_type(&kind, &other) {
+    let alike = have_one_type(alloc, left, right)?;
+    if alike {
         greater_goals(alloc, filters, next, left, right, letter, place, parts)
     } else {
         Ok(None)
@@ -117,14 +123,7 @@ fn greater_goals<'a>(
     match letter {
         Letter::Lam => by_bodies(alloc, next, left, right, place),
         Letter::Mono => by_arguments(alloc, next, left, right, place, parts),
-        Letter::Same
-        | Letter::Sub
-        | Letter::Prec
-        | Letter::Lex
-        | Letter::App
-        | Letter::Bind
-        | Letter::Var
-        | Letter::Meta => { above_goals(alloc, filters, next, next, left, right, letter, place) }
+        _ => above_goals(alloc, filters, next, next, left, right, letter, place),
     }
 }
 

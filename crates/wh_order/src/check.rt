@@ -17,7 +17,7 @@ use crate::asked::goals_of;
 use crate::goals::{Claim, Goal, Side};
 use crate::tree::Tree;
 use std::alloc::Global;
-use wh_inference::{Inference, Inferences};
+use wh_inference::Inference;
 use wh_ordering::Filters;
 use wh_types::{Or, sum};
 
@@ -82,13 +82,7 @@ fn check_goal(
     )? {
         Some(goals) => {
             if goals.len() == parts.len() {
-                check_goals(
-                    alloc,
-                    filters,
-                    goals.as_slice(),
-                    &inference.parts,
-                    sum(at, 1)?,
-                )
+                check_goals(alloc, filters, goals.as_slice(), parts, sum(at, 1)?)
             } else {
                 Err(Or::Because(BadInference { at }))
             }
@@ -103,7 +97,7 @@ fn check_goals(
     alloc: Global,
     filters: &Filters,
     goals: &[Goal<'_>],
-    parts: &Inferences,
+    parts: &[Inference],
     at: u32,
 ) -> Result<u32, Or<BadInference>>
     requires { length goals.now ≡ length parts.now }
@@ -111,9 +105,8 @@ fn check_goals(
         (verdicts w.symbols (order_of (filtering_data filters.now)) w.metas (map (task (length (filtering_data filters.now).symbols)) goals.now)
         (s.inferences parts.now)) (all_entries (s.inferences parts.now)) result }
 {
-    let items = parts.as_slice();
     let mut next = at;
-    for (i, part) in items.iter().enumerate() {
+    for (i, part) in parts.iter().enumerate() {
         next = check_goal(alloc, filters, &goals[i], part, next)?;
     }
     Ok(next)

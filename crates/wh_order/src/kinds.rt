@@ -1,6 +1,6 @@
 //! The types of trees.
 
-ghost use Rattle.std.specs.Prelude.{ℕ, ◌≡◌, [], IfOk, OnOk, length};
+ghost use Rattle.std.specs.Prelude.{ℕ, ◌≡◌, ◌↔◌, [], IfOk, IsTrue, OnOk, length};
 ghost use Rattle.wh_types.specs.Erase.{ty};
 ghost use Rattle.wh_types.specs.Ty.{◌⇒◌};
 ghost use Rattle.wh_terms.specs.Scope.{scope};
@@ -10,10 +10,20 @@ ghost use Rattle.wh_order.specs.TreeParts.{Over, World};
 
 use crate::tree::Tree;
 use std::alloc::{AllocError, Global};
-use wh_types::SimpleType;
+use wh_types::{SimpleType, same_type};
 
-/// The type of a tree without loose variables.
-pub fn kind_of(alloc: Global, t: &Tree) -> Result<SimpleType, AllocError>
+/// Whether two trees without loose variables have one type.
+pub fn have_one_type(alloc: Global, left: &Tree, right: &Tree) -> Result<bool, AllocError>
+    ensures { IfOk result (λ b. (n : ℕ) (w : World) → Over n w left.now → Over n w right.now
+        → IsTrue b ↔ (kind w.symbols w.metas [] (tree n left.now) ≡ kind w.symbols w.metas [] (tree n right.now))) }
+{
+    let own = kind_of(alloc, left)?;
+    let other = kind_of(alloc, right)?;
+    Ok(same_type(&own, &other))
+}
+
+// The type of a tree without loose variables.
+fn kind_of(alloc: Global, t: &Tree) -> Result<SimpleType, AllocError>
     ensures { IfOk result (λ a. (n : ℕ) (w : World) → Over n w t.now → ty a ≡ kind w.symbols w.metas [] (tree n t.now)) }
 {
     let mut binders = Vec::new(alloc);

@@ -44,8 +44,8 @@ unfolding fit_bodies
 fit_typed S M b ts h z d o e = record { counted = ap length (args_is M z d e); typed = (h z d o e).typed }
 
 -- the values are the same under these
-fit_list : (S : Symbols) (M : List Declared) (b : ℕ → Body) (ts us : List Tm) (cs : List Ty) → AllTyped S M [] (tms_of ts) cs
-    → Values b (tms_of ts) (tms_of us) → map (value (fit_bodies M b)) ts ≡ us
+fit_list : (S : Symbols) (M : List Declared) (b : ℕ → Body) (ts us : List Tm) (cs : List Ty) → AllTyped S M [] (tms_of ts) cs → Values b (tms_of ts) (tms_of us)
+    → map (value (fit_bodies M b)) ts ≡ us
 unfolding fit_bodies
 fit_list S M b ts us cs p v =
     sym (values_list (fit_bodies M b) ts)
@@ -61,9 +61,9 @@ fit_list S M b ts us cs p v =
         ap (λ n. put n (b z).tree) (f.counted ∙ ap length (sym (args_is M z f.declared f.at)))
 
 -- where the inference of a pair is good, the filtered call of a value of its left side comes to that of its right side
-pub pair_values_step : (S F : Symbols) (Φ : ℕ → Filter) (prec : ℕ → ℕ) (rules : List RewriteRule) (M : List Declared) (f g : ℕ)
-    (cs ds : List Ty) (ls rs ts us : List Tm) (i : Inference) (b : ℕ → Body) → AreOriented S F Φ prec rules
-    → FitsMark S F Φ f cs → FitsMark S F Φ g ds → PairSides S M cs ds ls rs → IsGoodPairLine S F Φ prec M f ls g rs i → HasTypedBodies S M b (tms_of (ls ++ rs))
+pub pair_values_step : (S F : Symbols) (Φ : ℕ → Filter) (prec : ℕ → ℕ) (rules : List RewriteRule) (M : List Declared) (f g : ℕ) (cs ds : List Ty)
+    (ls rs ts us : List Tm) (i : Inference) (b : ℕ → Body) → AreOriented S F Φ prec rules → FitsMark S F Φ f cs → FitsMark S F Φ g ds
+    → PairSides S M cs ds ls rs → IsGoodPairLine S F Φ prec M f ls g rs i → HasTypedBodies S M b (tms_of (ls ++ rs))
     → Values b (tms_of ls) (tms_of ts) → Values b (tms_of rs) (tms_of us)
     → Many (StepOver (OrderRoot F prec)) (filtered_call S Φ [] f ts) (filtered_call S Φ [] g us)
     × (letter_of i ≢ same_trees → Plus (StepOver (OrderRoot F prec)) (filtered_call S Φ [] f ts) (filtered_call S Φ [] g us))
@@ -73,9 +73,7 @@ pair_values_step S F Φ prec rules M f g cs ds ls rs ts us i b o m n sides good 
     let right = fit_list S M b rs us ds sides.right_typed w in
     let typed = fit_typed S M b (tms_of (ls ++ rs)) bodies in (
       subst₂ (λ ts us. Many (StepOver (OrderRoot F prec)) (filtered_call S Φ [] f ts) (filtered_call S Φ [] g us)) left right
-          (pair_steps S F Φ prec rules o.well_made o.sorts_known o.filters o.one_sort o.lines M f g cs ds m n
-          ls rs sides i good fit (fit_counted M b) typed),
+          (pair_steps S F Φ prec rules o.well_made o.sorts_known o.filters o.one_sort o.lines M f g cs ds m n ls rs sides i good fit (fit_counted M b) typed),
       λ strict. subst₂ (λ ts us. Plus (StepOver (OrderRoot F prec)) (filtered_call S Φ [] f ts) (filtered_call S Φ [] g us)) left right
-          (pair_falls S F Φ prec rules o.well_made o.sorts_known o.filters o.one_sort o.lines M f g cs ds m n
-          ls rs sides i good fit (fit_counted M b) typed strict),
+          (pair_falls S F Φ prec rules o.well_made o.sorts_known o.filters o.one_sort o.lines M f g cs ds m n ls rs sides i good fit (fit_counted M b) typed strict),
     )

@@ -74,8 +74,8 @@ fn end_of(alloc: Global, rules: &[Rule], last: Term, steps: u32) -> Result<Reduc
     Ok(Reduced { steps, last, end })
 }
 
-/// The term reduced by its leftmost-outermost steps, at most as many as are asked for. A step whose result does not fit is
-/// not taken, and ends the reduction.
+/// The term reduced by its leftmost-outermost steps, at most as many as are asked for. A step whose result does not fit
+/// is not taken, and ends the reduction.
 pub fn reduce(alloc: Global, rules: &[Rule], term: &Term, steps: u32) -> Result<Reduced, AllocError>
     requires well_made { (S : Symbols) × AreWellMade S (rewrite_rules rules.now) }
     requires fits { Fits (tm term.now) }

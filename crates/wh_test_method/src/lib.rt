@@ -1,5 +1,5 @@
-//! Rows of the calls of the method over systems that are read from texts, of generated systems, of the solver, of
-//! circuits, of flat sets, and of the search for projections, which goes through the solver.
+//! Rows of the calls of the method over systems that are read from texts, of generated systems, of the solver, of circuits, and of the
+//! search for projections, which goes through the solver.
 //!
 //! This crate has tests alone: a library with tests of its own would be proved a second time with them.
 #![tactic(auto)]
@@ -12,8 +12,6 @@ mod chance_rows;
 mod circuit_rows;
 #[cfg(test)]
 mod family_rows;
-#[cfg(test)]
-mod flat_rows;
 #[cfg(test)]
 mod formulas;
 #[cfg(test)]

@@ -94,8 +94,7 @@ fn told(alloc: Global, found: Search<Node>) -> Result<String, AllocError> {
     }
 }
 
-/// Systems and budgets with the answers about pair 0. What `prove` makes of the first, a check accepts (`prove_rows` of
-/// wh_test_program).
+/// Systems and budgets with the answers about pair 0. That the conditions of a node hold is a clause of the call.
 const ANSWERS: &[(&[u8], u64, &str)] = &[
     (IDENTITY, 10_000, "found, 1 dropped"),
     (QUADRUPLE, 1_000_000, "nothing"),

@@ -1,0 +1,5 @@
+use Rattle.wh_order.proofs.AskedGoals.{decided_types}
+use Rattle.wh_order.proofs.kinds.have_one_type.Goals as goal
+
+pub returns : goal.returns
+returns c n w o u = decided_types c.same_type.result _ _ _ _ (c.in_ok-own.ensures n w o) (c.in_ok-other.ensures n w u) c.same_type.ensures

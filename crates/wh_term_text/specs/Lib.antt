@@ -1,0 +1,2 @@
+pub mod TermText
+pub mod Ending
