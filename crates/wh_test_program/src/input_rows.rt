@@ -1,12 +1,13 @@
-//! Certificates that are cut at each byte, and single texts that are not quite right, or only just.
+//! Certificates that are cut at each byte or have another one in its place, and single texts that are not quite right, or only just.
 
 use std::alloc::{AllocError, Global};
 use std::test::Fail;
-use wh_test_runs::{CHECK, Given, SHOW, checked, shown, writes};
+use wh_test_runs::{CHECK, Given, SHOW, checked, decides, shown, writes};
 use wh_test_samples::{
     EVEN_ODD, IDENTITY, IDENTITY_CERTIFICATE, LOOP, LOOP_CERTIFICATE, MAP, MAP_CERTIFICATE,
-    MAP_VALUES_CERTIFICATE,
+    MAP_ORDER_CERTIFICATE, MAP_VALUES_CERTIFICATE,
 };
+use wh_types::Bytes;
 
 /// Systems with certificates for them.
 const CERTIFICATES: &[(&[u8], &[u8])] = &[
@@ -14,6 +15,7 @@ const CERTIFICATES: &[(&[u8], &[u8])] = &[
     (MAP, MAP_CERTIFICATE),
     (IDENTITY, IDENTITY_CERTIFICATE),
     (MAP, MAP_VALUES_CERTIFICATE),
+    (MAP, MAP_ORDER_CERTIFICATE),
 ];
 
 /// Whether a check rejects the certificate at its end.
@@ -36,6 +38,64 @@ fn rejects_fronts(alloc: Global, system: &[u8], certificate: &[u8]) -> Result<bo
 fn rejects_cut_certificates(rt: HostRuntime) -> Result<(), Fail> {
     for (system, certificate) in CERTIFICATES {
         assert!(rt; rejects_fronts(rt.alloc(), *system, *certificate)?);
+    }
+    Ok(())
+}
+
+/// The bytes with another one at this place.
+fn changed_at(alloc: Global, bytes: &[u8], place: usize, other: u8) -> Result<Bytes, AllocError> {
+    let mut changed = Bytes::new(alloc)?;
+    for (at, byte) in bytes.iter().enumerate() {
+        changed.push(if at == place { other } else { *byte })?;
+    }
+    Ok(changed)
+}
+
+/// Whether a check rejects the certificate at this place, where a byte stands in it that no certificate has.
+fn rejects_foreign(
+    alloc: Global,
+    system: &[u8],
+    certificate: &[u8],
+    place: usize,
+) -> Result<bool, AllocError> {
+    let changed = changed_at(alloc, certificate, place, 0xff)?;
+    let line = format!(in alloc; "REJECTED syntax {place}\n")?;
+    writes(
+        alloc,
+        checked(system, changed.as_slice()),
+        1,
+        line.as_bytes(),
+    )
+}
+
+/// Whether a check accepts or rejects the certificate with a byte at this place that is next to its own: the other digit of two, and a
+/// parenthesis that closes for one that opens.
+fn decides_neighbour(
+    alloc: Global,
+    system: &[u8],
+    certificate: &[u8],
+    place: usize,
+    byte: u8,
+) -> Result<bool, AllocError> {
+    let changed = changed_at(alloc, certificate, place, byte ^ 1)?;
+    decides(alloc, checked(system, changed.as_slice()))
+}
+
+/// Whether the certificate with another byte at each of its places is rejected there, or gets an answer.
+fn answers_changes(alloc: Global, system: &[u8], certificate: &[u8]) -> Result<bool, AllocError> {
+    let mut all = true;
+    for (place, byte) in certificate.iter().enumerate() {
+        all = all
+            && rejects_foreign(alloc, system, certificate, place)?
+            && decides_neighbour(alloc, system, certificate, place, *byte)?;
+    }
+    Ok(all)
+}
+
+#[test]
+fn answers_changed_certificates(rt: HostRuntime) -> Result<(), Fail> {
+    for (system, certificate) in CERTIFICATES {
+        assert!(rt; answers_changes(rt.alloc(), *system, *certificate)?);
     }
     Ok(())
 }

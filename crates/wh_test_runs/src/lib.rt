@@ -9,4 +9,6 @@ mod given;
 mod telling;
 
 pub use given::{CHECK, Faults, Given, SHOW, checked, shown};
-pub use telling::{answers, ends_with, told, writes, writes_before, writes_first, writes_last};
+pub use telling::{
+    answers, decides, ends_with, told, writes, writes_before, writes_first, writes_last,
+};

@@ -84,6 +84,17 @@ pub fn answers(alloc: Global, given: Given<'_>, line: &[u8]) -> Result<bool, All
     writes(alloc, given, status_of(line), line)
 }
 
+/// Whether a check ends with an answer: it accepts the certificate or rejects it.
+pub fn decides(alloc: Global, given: Given<'_>) -> Result<bool, AllocError> {
+    let end = whole(alloc, given)?;
+    let text = end.out.bytes();
+    Ok(match end.status {
+        0 => text == b"YES\n" || text == b"NO\n",
+        1 => text.starts_with(b"REJECTED ") && text.ends_with(b"\n"),
+        _ => false,
+    })
+}
+
 /// Whether a run ends with the status, and what it writes begins with the text.
 pub fn writes_first(
     alloc: Global,
