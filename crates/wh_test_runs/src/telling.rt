@@ -87,9 +87,10 @@ pub fn answers(alloc: Global, given: Given<'_>, line: &[u8]) -> Result<bool, All
 /// Whether a check ends with an answer: it accepts the certificate or rejects it.
 pub fn decides(alloc: Global, given: Given<'_>) -> Result<bool, AllocError> {
     let end = whole(alloc, given)?;
+    let status = end.status;
     let text = end.out.bytes();
-    Ok(match end.status {
-        0 => text == b"YES\n" || text == b"NO\n",
+    Ok(match status {
+        0 => text == b"YES\n".as_slice() || text == b"NO\n".as_slice(),
         1 => text.starts_with(b"REJECTED ") && text.ends_with(b"\n"),
         _ => false,
     })
