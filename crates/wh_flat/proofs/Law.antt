@@ -34,7 +34,8 @@ use Rattle.wh_space.specs.Coefficients.{HasCoefficients}
 use Rattle.wh_guesses.specs.Coefficients.{HaveCoefficients}
 use Rattle.wh_guesses.specs.Conditions.{covers_rule, covers_pair, some_strictly, of_rule, of_pair, of_set, IsMet, LetsGo}
 use Rattle.wh_guesses.specs.Found.{task_of}
-use Rattle.wh_flat.specs.Flat.{AreSorts, IsFirstOrder, IsFlatTree, AreFlatTrees, IsFlatRule, IsFlatPair, IsFlat, occurrences, call_occurrences}
+use Rattle.wh_first_order.specs.FirstOrder.{AreSorts, IsFirstOrder, IsFlatTree, AreFlatTrees}
+use Rattle.wh_flat.specs.Flat.{IsFlatRule, IsFlatPair, IsFlat, occurrences, call_occurrences}
 use Rattle.wh_flat.specs.Worth.{IsAtLeast, IsGreater}
 use Rattle.wh_flat.specs.Dominance.{place_among, marked_number, left_call, right_call, LetsGoBy}
 use Rattle.wh_flat.proofs.Valued.{IsLinearSymbol, IsRead, run_of}

@@ -7,6 +7,5 @@ pub mod Covered
 pub mod ReadLemmas
 pub mod Sides
 pub mod Law
-pub mod TypeReads
 pub mod RoomLemmas
 pub mod Decided

@@ -16,7 +16,7 @@ use Rattle.wh_space.specs.declared.space.Spot.TheVariants.{Constant, One, Two}
 use Rattle.wh_space.proofs.SpaceLemmas.{spot_there}
 use Rattle.wh_space.proofs.SpotLemmas.{spot_at}
 use Rattle.wh_guesses.proofs.Uniqueness.{coefficient_is, monomial_of}
-use Rattle.wh_flat.specs.Flat.{AreSorts}
+use Rattle.wh_first_order.specs.FirstOrder.{AreSorts}
 use Rattle.wh_flat.specs.Worth.{coefficient, nothing, only}
 use Rattle.wh_flat.proofs.Totals.{IsUnit, IsLinear, total, spread, total_alike, spread_alike}
 use Rattle.wh_flat.proofs.Tails.{sum_to, tail}

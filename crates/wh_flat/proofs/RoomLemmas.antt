@@ -12,7 +12,9 @@ use Rattle.wh_terms.specs.declared.term.Term.{Term}
 use Rattle.wh_pairs.specs.PairData.{PairData}
 use Rattle.wh_pairs.specs.Sets.{InSet}
 use Rattle.wh_pairs.proofs.ByPlace.{some_one, Before, before_more, before_all, contains_at}
-use Rattle.wh_flat.specs.Flat.{IsFlatTree, AreFlatTrees, IsFlatPair, IsNullary, occurrences, occurrences_in, occurrences_at, pair_occurrences}
+use Rattle.wh_first_order.proofs.Lists.{all_flat, flat_each}
+use Rattle.wh_first_order.specs.FirstOrder.{IsFlatTree, AreFlatTrees, IsNullary}
+use Rattle.wh_flat.specs.Flat.{IsFlatPair, occurrences, occurrences_in, occurrences_at, pair_occurrences}
 
 -- the same said in other words
 pub left_as : (room m n : ℕ) (P Q : Type 0) → m ≡ n → (P → Q) → (Q → P) → (answer : Option ℕ) → Left room m P answer → Left room n Q answer
@@ -74,25 +76,13 @@ occurrences_sum [] = refl
 occurrences_sum (t ∷ ts) = sum_by-cons (λ t. occurrences (tm t)) t ts ∙ ap (λ n. occurrences (tm t) + n) (occurrences_sum ts)
 
 module _ (S : Symbols) (M : List Declared) where
-  abbrev IsFlat : Term → Type 0
-  IsFlat t = IsFlatTree S M (tm t)
-
-  pub all_flat : (ts : List Term) → ((t : Term) → Contains ts t → IsFlatTree S M (tm t)) → AreFlatTrees S M (map tm ts)
-  all_flat [] each = tt
-  all_flat (t ∷ ts) each = (each t (0, omega arith, refl), all_flat ts (λ u (i, within, at). each u (suc i, omega (arith, within), at)))
-
-  pub flat_each : (ts : List Term) → AreFlatTrees S M (map tm ts) → (t : Term) → Contains ts t → IsFlatTree S M (tm t)
-  flat_each [] flat t (i, within, at) = absurd (omega (arith, within))
-  flat_each (u ∷ ts) flat t (zero, within, at) = subst IsFlat at flat.0
-  flat_each (u ∷ ts) flat t (suc i, within, at) = flat_each ts flat.1 t (i, omega (arith, within), at)
-
   pub left_trees : (ts : List Term) (room : ℕ) (answer : Option ℕ) → Whole (λ t. IsFlatTree S M (tm t)) (λ t. occurrences (tm t)) ts room answer
       → Left room (occurrences_in (tms_of (map tm ts))) (AreFlatTrees S M (map tm ts) × (occurrences_in (tms_of (map tm ts)) ≤ room)) answer
   left_trees ts room answer h =
       let e = occurrences_sum ts in
       left_as room (sum_by (λ t. occurrences (tm t)) ts) (occurrences_in (tms_of (map tm ts))) (((t : Term) → Contains ts t → IsFlatTree S M (tm t)) × (sum_by (λ t. occurrences (tm t)) ts ≤ room))
       (AreFlatTrees S M (map tm ts) × (occurrences_in (tms_of (map tm ts)) ≤ room)) e
-      (λ (each, few). (all_flat ts each, omega (arith, few, e))) (λ (flat, few). (flat_each ts flat, omega (arith, few, e))) answer h
+      (λ (each, few). (all_flat S M ts each, omega (arith, few, e))) (λ (flat, few). (flat_each S M ts flat, omega (arith, few, e))) answer h
 
 -- pairs of a set
 

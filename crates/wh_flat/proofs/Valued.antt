@@ -9,7 +9,8 @@ use Rattle.wh_hopoly.specs.Polynomials.{Polynomial, zero_poly}
 use Rattle.wh_hopoly.specs.Evaluation.{Run, type_at, Interpretation, interpretation_at, type_of, codomain, evaluate, variable, apply_one, down, TypedExpression}
 use Rattle.wh_hopoly.proofs.RunLaws.{Within, within_one, within_both}
 use Rattle.wh_polycheck.specs.Sides.{side}
-use Rattle.wh_flat.specs.Flat.{AreSorts, occurrences}
+use Rattle.wh_first_order.specs.FirstOrder.{AreSorts}
+use Rattle.wh_flat.specs.Flat.{occurrences}
 use Rattle.wh_flat.specs.Worth.{coefficient, worth, symbol_in, places_in}
 use Rattle.wh_flat.proofs.Totals.{IsLinear, total, spread, total_renumber, spread_renumber, linear_renumber}
 use Rattle.wh_flat.proofs.Light.{each_one, each_two, light_fits}

@@ -3,7 +3,6 @@
 #![tactic(auto)]
 
 mod flatness;
-mod kinds;
 mod laws;
 mod rooms;
 

@@ -7,22 +7,10 @@ ghost use Rattle.wh_terms.specs.Erase.{declared_metas, rewrite_rule, symbols, tm
 ghost use Rattle.wh_terms.specs.Rules.{IsWellMade};
 ghost use Rattle.wh_terms.specs.Tree.{none, tms_of};
 ghost use Rattle.wh_pairs.specs.PairData.{pair_data};
-ghost use Rattle.wh_flat.specs.Flat.{
-  AreFlatTrees,
-  IsFirstOrder,
-  IsFlatPair,
-  IsFlatRule,
-  IsFlatTree,
-  IsNullary,
-  call_occurrences,
-  most_in_side,
-  occurrences,
-  occurrences_in,
-  pair_occurrences,
-  rule_occurrences,
-};
+ghost use Rattle.wh_first_order.specs.FirstOrder.{AreFlatTrees, IsFirstOrder, IsFlatTree, IsNullary};
+ghost use Rattle.wh_flat.specs.Flat.{IsFlatPair, IsFlatRule, call_occurrences, most_in_side, occurrences, occurrences_in, pair_occurrences, rule_occurrences};
 
-use crate::kinds::{is_first_order, is_nullary, is_of_a_sort};
+use wh_first_order::{is_first_order, is_nullary, is_of_a_sort};
 use wh_pairs::Pair;
 use wh_terms::{MetaDecl, Rule, Signature, Term, Terms};
 

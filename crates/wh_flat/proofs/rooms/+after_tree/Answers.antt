@@ -3,7 +3,8 @@ use Rattle.wh_terms.specs.Budget.{Left}
 use Rattle.wh_terms.specs.Erase.{declared_metas, symbols, tms}
 use Rattle.wh_terms.specs.Tree.{Tm}
 use Rattle.wh_terms.proofs.TermLemmas.{tm_of_meta}
-use Rattle.wh_flat.specs.Flat.{IsFlatTree, occurrences}
+use Rattle.wh_first_order.specs.FirstOrder.{IsFlatTree}
+use Rattle.wh_flat.specs.Flat.{occurrences}
 use Rattle.wh_flat.proofs.RoomLemmas.{left_meta}
 use Rattle.wh_flat.proofs.rooms.+after_tree.Goals as goal
 

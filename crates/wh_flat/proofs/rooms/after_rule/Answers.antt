@@ -2,7 +2,8 @@ use Rattle.std.proofs.Common.{Option, ℕ, List, ◌≤◌, sym, subst, arith}
 use Rattle.wh_terms.specs.Budget.{Left}
 use Rattle.wh_terms.specs.Erase.{declared_metas, rewrite_rule, symbols, tm}
 use Rattle.wh_terms.specs.declared.rule.MetaDecl.{MetaDecl}
-use Rattle.wh_flat.specs.Flat.{IsFlatRule, IsFlatTree, rule_occurrences}
+use Rattle.wh_first_order.specs.FirstOrder.{IsFlatTree}
+use Rattle.wh_flat.specs.Flat.{IsFlatRule, rule_occurrences}
 use Rattle.wh_flat.proofs.rooms.after_rule.Goals as goal
 
 pub returns-in_err-behind : goal.returns-in_err-behind

@@ -4,7 +4,8 @@ use Rattle.wh_terms.specs.Erase.{declared_metas, symbols, tm}
 use Rattle.wh_terms.specs.Tree.{tms_of}
 use Rattle.wh_terms.specs.declared.term.Term.{Term}
 use Rattle.wh_pairs.proofs.ByPlace.{read}
-use Rattle.wh_flat.specs.Flat.{IsFlatTree, AreFlatTrees, occurrences, occurrences_in}
+use Rattle.wh_first_order.specs.FirstOrder.{IsFlatTree, AreFlatTrees}
+use Rattle.wh_flat.specs.Flat.{occurrences, occurrences_in}
 use Rattle.wh_flat.proofs.RoomLemmas.{walk_next, walk_stops, walk_ends, left_trees}
 use Rattle.wh_flat.proofs.rooms.after_trees.Goals as goal
 

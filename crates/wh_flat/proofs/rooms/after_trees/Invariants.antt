@@ -1,5 +1,6 @@
 use Rattle.wh_terms.specs.Erase.{declared_metas, symbols, tm}
-use Rattle.wh_flat.specs.Flat.{IsFlatTree, occurrences}
+use Rattle.wh_first_order.specs.FirstOrder.{IsFlatTree}
+use Rattle.wh_flat.specs.Flat.{occurrences}
 use Rattle.wh_flat.proofs.RoomLemmas.{Passed}
 use Rattle.wh_flat.proofs.rooms.after_trees.Given as goal
 

@@ -1,11 +1,12 @@
 //! What types tell of symbols, of meta-variables and of trees of these.
 
-ghost use Rattle.std.specs.Prelude.{◌≡◌, ◌↔◌, ℕ, [], IsTrue, MatchOption};
+ghost use Rattle.std.specs.Prelude.{◌≡◌, ◌↔◌, ℕ, [], IsTrue, MatchOption, take};
 ghost use Rattle.wh_types.specs.Erase.{ty};
 ghost use Rattle.wh_types.specs.Ty.{Ty, ◌⇒◌, arguments, sort};
 ghost use Rattle.wh_terms.specs.Erase.{declared_metas, symbols, tm};
 ghost use Rattle.wh_terms.specs.Typing.{Typed};
-ghost use Rattle.wh_flat.specs.Flat.{AreSorts, IsFirstOrder, IsFlatTree, IsNullary};
+ghost use Rattle.wh_hopoly.specs.Evaluation.{type_at};
+ghost use Rattle.wh_first_order.specs.FirstOrder.{AreSorts, IsFirstOrder, IsFlatTree, IsNullary};
 
 use wh_terms::{MetaDecl, Signature, Term};
 use wh_types::SimpleType;
@@ -84,5 +85,27 @@ fn behind_one(kind: &SimpleType) -> Option<&SimpleType>
     match kind {
         SimpleType::Arrow(_, rest) => Some(rest),
         SimpleType::Sort(_) => None,
+    }
+}
+
+/// Whether the first arguments of the symbol, so many of them, are of a sort.
+pub fn takes_sorts_first(signature: &Signature, symbol: u32, count: u32) -> bool
+    ensures { IsTrue result ↔ AreSorts (take count (arguments (type_at (symbols signature.now).funs symbol))) }
+{
+    match signature.funs.as_slice().get(symbol as usize) {
+        Some(kind) => first_are_sorts(kind, count),
+        None => true,
+    }
+}
+
+// Whether the first arguments of the type, so many of them, are sorts.
+fn first_are_sorts(kind: &SimpleType, count: u32) -> bool
+    ensures { IsTrue result ↔ AreSorts (take count (arguments (ty kind.now))) }
+{
+    match kind {
+        SimpleType::Sort(_) => true,
+        SimpleType::Arrow(first, rest) => {
+            count == 0 || (is_sort(first) && first_are_sorts(rest, count - 1))
+        }
     }
 }

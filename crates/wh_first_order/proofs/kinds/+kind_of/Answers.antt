@@ -4,8 +4,8 @@ use Rattle.wh_terms.specs.Erase.{declared_metas, symbols, tm}
 use Rattle.wh_terms.specs.Tree.{Tm, app}
 use Rattle.wh_terms.specs.Typing.{Typed}
 use Rattle.wh_terms.proofs.TypeWalk.{function_of_app}
-use Rattle.wh_flat.specs.Flat.{IsFlatTree}
-use Rattle.wh_flat.proofs.kinds.+kind_of.Goals as goal
+use Rattle.wh_first_order.specs.FirstOrder.{IsFlatTree}
+use Rattle.wh_first_order.proofs.kinds.+kind_of.Goals as goal
 
 pub returns-in_ok-kind_of-in-App : goal.returns-in_ok-kind_of-in-App
 returns-in_ok-kind_of-in-App t c a typed flat =

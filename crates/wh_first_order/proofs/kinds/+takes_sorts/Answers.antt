@@ -1,9 +1,9 @@
 use Rattle.std.proofs.Common.{◌≡◌, ap, sym, subst, ◌∙◌}
 use Rattle.wh_types.specs.Erase.{ty}
 use Rattle.wh_types.specs.Ty.{◌⇒◌, arguments}
-use Rattle.wh_flat.specs.Flat.{AreSorts}
-use Rattle.wh_flat.proofs.TypeReads.{arguments_there, arguments_if}
-use Rattle.wh_flat.proofs.kinds.+takes_sorts.Goals as goal
+use Rattle.wh_first_order.specs.FirstOrder.{AreSorts}
+use Rattle.wh_first_order.proofs.TypeReads.{arguments_there, arguments_if}
+use Rattle.wh_first_order.proofs.kinds.+takes_sorts.Goals as goal
 
 pub returns-then-is_sort : goal.returns-then-is_sort
 returns-then-is_sort t c =

@@ -1,8 +1,8 @@
 use Rattle.std.proofs.Common.{◌≡◌, ◌==◌, true, List, length, ap, sym, ◌∙◌, arith, tests, eq-eqb}
 use Rattle.wh_types.specs.declared.simple_type.SimpleType.{SimpleType}
 use Rattle.wh_pairs.proofs.ByPlace.{read}
-use Rattle.wh_flat.proofs.TypeReads.{nullary_there, nullary_if, nullary_within}
-use Rattle.wh_flat.proofs.kinds.is_nullary.Goals as goal
+use Rattle.wh_first_order.proofs.TypeReads.{nullary_there, nullary_if, nullary_within}
+use Rattle.wh_first_order.proofs.kinds.is_nullary.Goals as goal
 
 pub returns-then-is_empty : goal.returns-then-is_empty
 returns-then-is_empty c =

@@ -3,9 +3,9 @@ use Rattle.wh_types.specs.declared.simple_type.SimpleType.{SimpleType}
 use Rattle.wh_types.specs.Erase.{tys}
 use Rattle.wh_types.specs.Ty.{arguments}
 use Rattle.wh_hopoly.specs.Evaluation.{type_at}
-use Rattle.wh_flat.specs.Flat.{AreSorts}
-use Rattle.wh_flat.proofs.TypeReads.{symbol_there, symbol_past}
-use Rattle.wh_flat.proofs.kinds.is_first_order.Goals as goal
+use Rattle.wh_first_order.specs.FirstOrder.{AreSorts}
+use Rattle.wh_first_order.proofs.TypeReads.{symbol_there, symbol_past}
+use Rattle.wh_first_order.proofs.kinds.is_first_order.Goals as goal
 
 pub returns-in-Some : goal.returns-in-Some
 returns-in-Some c =

@@ -1,0 +1,2 @@
+pub mod TypeReads
+pub mod Lists
