@@ -31,10 +31,10 @@ among_is (v ∷ ws) (suc f) w e = among_is ws f w e
 
 -- each symbol has a type, and a filter where there are as many of them
 
-pub type_there : (as : List Ty) (f : ℕ) → f < length as → slice_get as f ≡ Some (type_at as f)
+pub type_there : (kinds : List Ty) (f : ℕ) → f < length kinds → slice_get kinds f ≡ Some (type_at kinds f)
 type_there [] f low = absurd (omega (arith, low))
-type_there (a ∷ as) zero low = refl
-type_there (a ∷ as) (suc f) low = type_there as f (omega (arith, low))
+type_there (a ∷ kinds) zero low = refl
+type_there (a ∷ kinds) (suc f) low = type_there kinds f (omega (arith, low))
 
 pub filter_there : (ws : List WrittenFilter) (f : ℕ) → f < length ws → (w : WrittenFilter) × (slice_get ws f ≡ Some w)
 filter_there ws f low = (get_or ws f (picks 0), slice_get-get_or ws f (picks 0) low)
@@ -55,11 +55,11 @@ mark_filter_of S D f =
 
 pub mark_proper : (marks : List MarkFilter) (f : ℕ) (cs : List Ty) → HasProperMark marks f cs → IsProper cs (mark_among marks f)
 mark_proper [] f cs h = tt
-mark_proper (m ∷ marks) f cs h = by (m.symbol == f) refl
+mark_proper (m ∷ marks) f cs h = by (m.symbol == f) refl (mark_proper marks f cs (λ i n at is. h (suc i) n at is))
   where
-    by : (b : Bool) → b ≡ (m.symbol == f) → IsProper cs (cond b (filter_of m.filter) (mark_among marks f))
-    by true e = (h 0 m refl (eqb-true m.symbol f (sym e))).proper
-    by false e = mark_proper marks f cs (λ i n at is. h (suc i) n at is)
+    by : (b : Bool) → b ≡ (m.symbol == f) → IsProper cs (mark_among marks f) → IsProper cs (cond b (filter_of m.filter) (mark_among marks f))
+    by true e rest = (h 0 m refl (eqb-true m.symbol f (sym e))).proper
+    by false e rest = rest
 
 -- no filter that is proper for a symbol without arguments keeps one
 kept_none : (F : Filter) → IsProper [] F → kept_type [] F ≡ sort 0
@@ -68,15 +68,15 @@ kept_none (keep p (i ∷ is)) h = absurd (omega (arith, h.1))
 kept_none (pick i) h = refl
 
 -- there is a sort past the end
-type_past : (as : List Ty) (i : ℕ) → length as ≤ i → type_at as i ≡ sort 0
+type_past : (kinds : List Ty) (i : ℕ) → length kinds ≤ i → type_at kinds i ≡ sort 0
 type_past [] i past = refl
-type_past (a ∷ as) zero past = absurd (omega (arith, past))
-type_past (a ∷ as) (suc i) past = type_past as i (omega (arith, past))
+type_past (a ∷ kinds) zero past = absurd (omega (arith, past))
+type_past (a ∷ kinds) (suc i) past = type_past kinds i (omega (arith, past))
 
-declared_past : (as : List Ty) (i : ℕ) → length as ≤ i → e.type_at as i ≡ sort 0
+declared_past : (kinds : List Ty) (i : ℕ) → length kinds ≤ i → e.type_at kinds i ≡ sort 0
 declared_past [] i past = refl
-declared_past (a ∷ as) zero past = absurd (omega (arith, past))
-declared_past (a ∷ as) (suc i) past = declared_past as i (omega (arith, past))
+declared_past (a ∷ kinds) zero past = absurd (omega (arith, past))
+declared_past (a ∷ kinds) (suc i) past = declared_past kinds i (omega (arith, past))
 
 kept_length : (Φ : ℕ → Filter) (n : ℕ) (css : List (List Ty)) → length (kept_types Φ n css) ≡ length css
 kept_length Φ n [] = refl

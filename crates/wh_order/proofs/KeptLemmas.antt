@@ -1,11 +1,11 @@
 -- What filters leave of symbols with arguments.
-use Rattle.std.proofs.Common.{◌≡◌, ◌≢◌, ℕ, zero, suc, ◌+◌, ◌-◌, ◌<◌, ◌≤◌, ◌==◌, Bool, true, false, cond, List, [], ◌∷◌, ◌++◌, length, map, drop, reverse, get_or, Some, slice_get, All, Box, Global, refl, ap, ap₂, subst, sym, ◌∙◌, append-nil, append_assoc, arith}
+use Rattle.std.proofs.Common.{◌≡◌, ◌≢◌, ℕ, zero, suc, ◌+◌, ◌-◌, ◌<◌, ◌≤◌, ◌==◌, ◌↔◌, IsTrue, Bool, true, false, cond, List, [], ◌∷◌, ◌++◌, length, map, drop, reverse, get_or, Some, slice_get, All, Box, Global, refl, ap, ap₂, subst, sym, ◌∙◌, append-nil, append_assoc, arith}
 use Rattle.std.proofs.Math.Path.{subst₂}
 use Rattle.std.proofs.Math.Seq.{drop-cons}
 use Rattle.std.proofs.lemmas.Bool.{eqb-true, eqb-false, eq-eqb, ne_eqb}
-use Rattle.std.proofs.lemmas.List.{length-map, reverse-append, length-reverse, get_or-reverse}
+use Rattle.std.proofs.lemmas.List.{nil_from_length, length-map, reverse-append, length-reverse, get_or-reverse}
 use Rattle.std.proofs.lemmas.List.Elements.{All-head, All-tail}
-use Rattle.std.proofs.lemmas.Option.{none-some, same_Some, slice_get_within, slice_get-get_or}
+use Rattle.std.proofs.lemmas.Option.{none-some, same_Some, get_or_from_slice_get, slice_get_within, slice_get-get_or}
 use Rattle.wh_types.specs.Ty.{Ty, sort}
 use Rattle.wh_terms.specs.Tree.{Tm, fun, spine}
 use Rattle.wh_inference.specs.Filters.{Filter, keep, pick}
@@ -98,18 +98,14 @@ instead_kept n f cs (picks place) qs k t e left =
 
 -- heads that are no symbols
 
-pub alone_spine : (h : Tree) (items : List Tree) → items ≡ [] → IsSpineOf h (reverse items) h
-alone_spine h items e = subst (λ (qs : List Tree). IsSpineOf h (reverse qs) h) (sym e) (record { same = λ n. refl; over = λ n w head over all. over })
+pub alone_spine : (h : Tree) (items : List Tree) → length items ≡ 0 → IsSpineOf h (reverse items) h
+alone_spine h items e = subst (λ (qs : List Tree). IsSpineOf h (reverse qs) h) (sym (nil_from_length items e)) (record { same = λ n. refl; over = λ n w head over all. over })
 
-pub apply_spine : (h : Tree) (items ts : List Tree) (p : Box Tree Global) → p.value ≡ h → ts ≡ reverse items → (items ≡ [] → ⊥) → IsSpineOf h (reverse items) (Apply p ts)
+pub apply_spine : (h : Tree) (items ts : List Tree) (p : Box Tree Global) → p.value ≡ h → ts ≡ reverse items → 0 < length items → IsSpineOf h (reverse items) (Apply p ts)
 apply_spine h items ts p here turned some = record {
   same = λ n. tree_of_apply n (Apply p ts) p ts refl ∙ ap₂ (λ u us. spine (tree n u) (trees n us)) here turned;
-  over = λ n w head over all. apply_over n w p ts (subst IsHeadTree (sym here) head) (longer items ts turned some) (subst (Over n w) (sym here) over) (subst (AllOver n w) (sym turned) all);
+  over = λ n w head over all. apply_over n w p ts (subst IsHeadTree (sym here) head) (omega (arith, ap length turned, length-reverse items, some)) (subst (Over n w) (sym here) over) (subst (AllOver n w) (sym turned) all);
 }
-  where
-    longer : (items ts : List Tree) → ts ≡ reverse items → (items ≡ [] → ⊥) → 0 < length ts
-    longer [] ts e some = absurd (some refl)
-    longer (x ∷ items) ts e some = omega (arith, ap length e, length-reverse (x ∷ items))
 
 -- marks, one after another
 
@@ -170,7 +166,8 @@ merged_at : (all : List Tree) (k : ℕ) (ps : List ℕ) (qs : List Tree) → ((i
     → IncreasingFrom k (k + length qs) (map (λ p. p - 1) ps) → AreAt (map (λ p. p - 1) ps) all (merged k ps qs)
 merged_at all k [] qs h some inc = tt
 merged_at all k (p ∷ ps) [] h some inc = absurd (omega (arith, inc.0, inc.1))
-merged_at all k (p ∷ ps) (q ∷ qs) h some inc = by (p == suc k) refl
+merged_at all k (p ∷ ps) (q ∷ qs) h some inc =
+    by (p == suc k) refl (λ i. merged_at all (suc k) ps qs shift (All-tail (λ p. 0 < p) p ps some) i) (λ i. merged_at all (suc k) (p ∷ ps) qs shift some i)
   where
     shift : (i : ℕ) → slice_get all (suc k + i) ≡ slice_get qs i
     shift i = let moved : suc k + i ≡ k + suc i = omega arith in ap (slice_get all) moved ∙ h (suc i)
@@ -178,19 +175,27 @@ merged_at all k (p ∷ ps) (q ∷ qs) h some inc = by (p == suc k) refl
     count : k + length (q ∷ qs) ≡ suc k + length qs
     count = omega arith
 
-    by : (b : Bool) → b ≡ (p == suc k) → AreAt (map (λ p. p - 1) (p ∷ ps)) all (cond b (q ∷ merged (suc k) ps qs) (merged (suc k) (p ∷ ps) qs))
-    by true e =
+    by : (b : Bool) → b ≡ (p == suc k)
+        → (IncreasingFrom (suc k) (suc k + length qs) (map (λ p. p - 1) ps) → AreAt (map (λ p. p - 1) ps) all (merged (suc k) ps qs))
+        → (IncreasingFrom (suc k) (suc k + length qs) (map (λ p. p - 1) (p ∷ ps)) → AreAt (map (λ p. p - 1) (p ∷ ps)) all (merged (suc k) (p ∷ ps) qs))
+        → AreAt (map (λ p. p - 1) (p ∷ ps)) all (cond b (q ∷ merged (suc k) ps qs) (merged (suc k) (p ∷ ps) qs))
+    by true e taken left =
         let is : p ≡ suc k = eqb-true p (suc k) (sym e) in
         let here : p - 1 ≡ k + 0 = omega (arith, is) in
-        let next : suc (p - 1) ≡ suc k = omega (arith, is) in (
-          ap (slice_get all) here ∙ h 0,
-          merged_at all (suc k) ps qs shift (All-tail (λ p. 0 < p) p ps some) (subst₂ (λ a b. IncreasingFrom a b (map (λ p. p - 1) ps)) next count inc.2),
-        )
-    by false e =
+        let next : suc (p - 1) ≡ suc k = omega (arith, is) in
+        (ap (slice_get all) here ∙ h 0, taken (subst₂ (λ (a b : ℕ). IncreasingFrom a b (map (λ p. p - 1) ps)) next count inc.2))
+    by false e taken left =
         let other : p ≢ suc k = eqb-false p (suc k) (sym e) in
         let positive : 0 < p = All-head (λ p. 0 < p) p ps some in
-        merged_at all (suc k) (p ∷ ps) qs shift some
-        (omega (arith, other, positive, inc.0), omega (arith, inc.1, count), subst (λ b. IncreasingFrom (suc (p - 1)) b (map (λ p. p - 1) ps)) count inc.2)
+        let high : suc k < suc (p - 1) = omega (arith, other, positive, inc.0) in
+        let low : p - 1 < suc k + length qs = omega (arith, inc.1, count) in
+        left (high, low, subst (λ (b : ℕ). IncreasingFrom (suc (p - 1)) b (map (λ p. p - 1) ps)) count inc.2)
+
+pub stands_within : (xs : List ℕ) (i p : ℕ) → i < length xs → IsTrue (get_or xs i 0 == p) ↔ (slice_get xs i ≡ Some p)
+stands_within xs i p low = (λ e. slice_get-get_or xs i 0 low ∙ ap Some (eqb-true (get_or xs i 0) p e), λ at. eq-eqb (get_or xs i 0) p (get_or_from_slice_get xs i p 0 at))
+
+pub stands_past : (xs : List ℕ) (i p : ℕ) → length xs ≤ i → IsTrue false ↔ (slice_get xs i ≡ Some p)
+stands_past xs i p past = (λ e. absurd (cc), λ at. absurd (omega (arith, slice_get_within xs i p at, past)))
 
 pub chosen_start : (places : List ℕ) (items behind : List Tree) → items ≡ [] → items ++ merged 0 (drop 0 places) (reverse behind) ≡ merged 0 places (reverse behind)
 chosen_start places items behind e = ap (λ (l : List Tree). l ++ merged 0 (drop 0 places) (reverse behind)) e
@@ -214,22 +219,22 @@ chosen_other places j k l items left rest whole t so popped count other =
     ∙ ap (λ (us : List Tree). items ++ us) (sym (merged_past places j k t (reverse rest) (λ e. other (e ∙ ap Some (sym next)))))
     ∙ ap (λ (us : List Tree). items ++ merged k (drop j places) us) (sym (turned left rest t popped)) ∙ so
 
-pub chosen_end : (places : List ℕ) (j k : ℕ) (items left qs : List Tree) → items ++ merged k (drop j places) (reverse left) ≡ merged 0 places qs → left ≡ []
+pub chosen_end : (places : List ℕ) (j k : ℕ) (items left qs : List Tree) → items ++ merged k (drop j places) (reverse left) ≡ merged 0 places qs → length left ≡ 0
     → All (λ p. 0 < p) places → IncreasingFrom 0 (length qs) (map (λ p. p - 1) places) → AreAt (map (λ p. p - 1) places) qs items
 chosen_end places j k items left qs so none some inc =
     let done : items ≡ merged 0 places qs =
     sym (append-nil items) ∙ ap (λ (us : List Tree). items ++ us) (sym (merged_none k (drop j places)))
-    ∙ ap (λ (us : List Tree). items ++ merged k (drop j places) (reverse us)) (sym none) ∙ so in
+    ∙ ap (λ (us : List Tree). items ++ merged k (drop j places) (reverse us)) (sym (nil_from_length left none)) ∙ so in
     let count : length qs ≡ 0 + length qs = omega arith in
     subst (AreAt (map (λ p. p - 1) places) qs) (sym done)
     (merged_at qs 0 places qs (λ i. let same : 0 + i ≡ i = omega arith in ap (slice_get qs) same) some (subst (λ b. IncreasingFrom 0 b (map (λ p. p - 1) places)) count inc))
 
-pub picked_at : (xs : List Tree) (place at : ℕ) (t : Tree) → at ≡ length xs - place → t ≡ get_or xs at t → 0 < place → place ≤ length (reverse xs)
+pub picked_at : (xs : List Tree) (place at : ℕ) (t : Tree) → at ≡ length xs - place → t ≡ get_or xs at t → 0 < place → place ≤ length xs
     → slice_get (reverse xs) (place - 1) ≡ Some t
 picked_at xs place at t split e some within =
     let long = length-reverse xs in
     let index : length xs - 1 - (place - 1) ≡ at = omega (arith, split, some, within, long) in
-    slice_get-get_or (reverse xs) (place - 1) t (omega (arith, some, within))
+    slice_get-get_or (reverse xs) (place - 1) t (omega (arith, some, within, long))
     ∙ ap Some (get_or-reverse xs (place - 1) t (omega (arith, some, within, long)) ∙ ap (λ i. get_or xs i t) index ∙ sym e)
 
 -- a list that is turned, tree by tree
@@ -240,8 +245,8 @@ nearest_next items new left rest whole t so popped pushed =
     ap (λ (us : List Tree). us ++ reverse rest) pushed ∙ append_assoc items (t ∷ []) (reverse rest)
     ∙ ap (λ (us : List Tree). items ++ us) (sym (turned left rest t popped)) ∙ so
 
-pub nearest_end : (items left whole : List Tree) → items ++ reverse left ≡ whole → left ≡ [] → items ≡ whole
-nearest_end items left whole so none = sym (append-nil items) ∙ ap (λ (us : List Tree). items ++ reverse us) (sym none) ∙ so
+pub nearest_end : (items left whole : List Tree) → items ++ reverse left ≡ whole → length left ≡ 0 → items ≡ whole
+nearest_end items left whole so none = sym (append-nil items) ∙ ap (λ (us : List Tree). items ++ reverse us) (sym (nil_from_length left none)) ∙ so
 
 -- filters as the program has them
 
@@ -273,10 +278,10 @@ keep_left F p ns ps cs qs ts e same left proper count =
     subst₂ (λ (b : ℕ) (ms : List ℕ). IncreasingFrom 0 b (map (λ n. n - 1) ms)) (sym count) (sym same) here.proper in
     subst (λ (G : code.Filter). IsLeft (written_filter G) qs (Arguments ts)) (sym e) (subst (λ (ms : List ℕ). AreAt (map (λ n. n - 1) ms) qs ts) same (left some inc))
 
-pub pick_left : (F : code.Filter) (place : ℕ) (cs : List Ty) (qs : List Tree) (t : Tree) → F ≡ Pick place
-    → (0 < place → place ≤ length qs → slice_get qs (place - 1) ≡ Some t)
-    → IsProperAsWritten cs (written_filter F) → length qs ≡ length cs → IsLeft (written_filter F) qs (Instead t)
-pick_left F place cs qs t e left proper count =
+pub pick_left : (F : code.Filter) (place : ℕ) (cs : List Ty) (items : List Tree) (t : Tree) → F ≡ Pick place
+    → (0 < place → place ≤ length items → slice_get (reverse items) (place - 1) ≡ Some t)
+    → IsProperAsWritten cs (written_filter F) → length (reverse items) ≡ length cs → IsLeft (written_filter F) (reverse items) (Instead t)
+pick_left F place cs items t e left proper count =
     let here : IsProperAsWritten cs (picks place) = subst (λ (G : code.Filter). IsProperAsWritten cs (written_filter G)) e proper in
     let within = slice_get_within cs (place - 1) (sort here.proper.0) here.proper.1 in
-    subst (λ (G : code.Filter). IsLeft (written_filter G) qs (Instead t)) (sym e) (left here.counted (omega (arith, within, here.counted, count)))
+    subst (λ (G : code.Filter). IsLeft (written_filter G) (reverse items) (Instead t)) (sym e) (left here.counted (omega (arith, within, here.counted, count, length-reverse items)))

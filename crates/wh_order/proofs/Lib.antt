@@ -18,3 +18,4 @@ pub mod FilterLemmas
 pub mod KeptLemmas
 pub mod WholeLemmas
 pub mod SiftLemmas
+pub mod FilteredLemmas

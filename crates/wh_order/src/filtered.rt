@@ -27,7 +27,6 @@ use wh_types::Or;
 /// The right side of a rule, or its left side, with all its arguments and behind the filters (Kop 2012).
 ///
 /// `Err` comes exactly where the side with all its arguments has more than 65,536 nodes.
-#[tactic(auto, using(crate::proofs::WholeLemmas::whole_side))]
 pub fn filtered_rule(
     alloc: Global,
     system: &System,

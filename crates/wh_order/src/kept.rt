@@ -25,7 +25,6 @@ pub enum Kept {
 }
 
 /// The head, which is no symbol and no application, applied to the trees behind it, the nearest of them last.
-#[tactic(auto, using(crate::proofs::KeptLemmas::alone_spine, crate::proofs::KeptLemmas::apply_spine))]
 pub fn applied(alloc: Global, head: Tree, behind: Vec<Tree>) -> Result<Tree, AllocError>
     ensures { IfOk result (IsSpineOf head (reverse behind.items)) }
 {
@@ -121,6 +120,8 @@ fn chosen(alloc: Global, places: &[u32], behind: Vec<Tree>) -> Result<Trees, All
         if stands_at(places, wanted, place) {
             items.push(tree)?;
             wanted += 1;
+        } else {
+            drop(tree);
         }
     }
     Ok(items)
@@ -135,7 +136,7 @@ fn stands_at(places: &[u32], number: usize, place: u32) -> bool
 
 // The tree at the place, which is counted from 1, of a list with the first tree last.
 fn picked(alloc: Global, place: u32, behind: Vec<Tree>) -> Result<Tree, AllocError>
-    ensures { IfOk result (λ t. 0 < place → place ≤ length (reverse behind.items) → slice_get (reverse behind.items) (place - 1) ≡ Some t) }
+    ensures { IfOk result (λ t. 0 < place → place ≤ length behind.items → slice_get (reverse behind.items) (place - 1) ≡ Some t) }
 {
     let mut left = behind;
     let wanted = place as usize;

@@ -114,7 +114,6 @@ fn collapse(alloc: Global, kind: &SimpleType) -> Result<SimpleType, AllocError>
 }
 
 // The type of the applications of that meta-variable, read so; where there is none, a sort.
-#[tactic(auto, using(crate::proofs::SiftLemmas::kind_there, crate::proofs::SiftLemmas::kind_past))]
 fn collapsed_kind(
     alloc: Global,
     metas: &[MetaDecl],
