@@ -14,3 +14,8 @@ pub mod CheckLemmas
 pub mod StrictParts
 pub mod JudgedLemmas
 pub mod LineLemmas
+pub mod FilterLemmas
+pub mod KeptLemmas
+pub mod WholeLemmas
+pub mod SiftLemmas
+pub mod FilteredLemmas

@@ -3,3 +3,5 @@ pub mod TreeSides
 pub mod TreeParts
 pub mod Claims
 pub mod BadNumber
+pub mod Sifted
+pub mod Kept

@@ -1,5 +1,5 @@
 -- Filtered sides of rules and of pairs as trees of the program, and the verdict on inferences for two trees.
-use Rattle.std.specs.Prelude.{ℕ, ◌≡◌, Bool, true, false, List, [], length, Option}
+use Rattle.std.specs.Prelude.{ℕ, ◌≡◌, Bool, List, [], length, Option}
 use Rattle.wh_terms.specs.Tree.{Tm, tms_of}
 use Rattle.wh_terms.specs.Typing.{Symbols, Declared, AllTyped}
 use Rattle.wh_terms.specs.Rules.{RewriteRule}
@@ -10,6 +10,7 @@ use Rattle.wh_inference.specs.declared.inference.Inference.{Inference}
 use Rattle.wh_inference.specs.Said.{inference}
 use Rattle.wh_extended.specs.ExtendedSides.{extended_metas, extended_call}
 use Rattle.wh_extended.specs.Filtered.{collapsed}
+use Rattle.wh_sides.specs.PairSides.{list_of_side}
 use Rattle.wh_path_order.specs.Lines.{filtered_side, filtered_call}
 use Rattle.wh_path_order.specs.Verdict.{line_verdict}
 use Rattle.wh_ordering.specs.Filterings.{FilteringData, filters_of, precedences_of, filtered_signature, AreProperSymbols, AreProperMarks}
@@ -35,11 +36,6 @@ pub record IsTreeOf (S : Symbols) (rules : List RewriteRule) (D : FilteringData)
 -- for the right or the left side of a rule, extended and filtered
 abbrev pub IsTreeOfSide : Symbols → List RewriteRule → FilteringData → RewriteRule → Bool → Tree → Type 0
 IsTreeOfSide S rules D r right u = IsTreeOf S rules D (extended_metas S r) (filtered_side S (filters_of S D) r (side_of right r)) u
-
--- the arguments of the right or the left side of a pair
-abbrev pub list_of_side : PairData → Bool → List Tm
-list_of_side p false = p.left
-list_of_side p true = p.right
 
 -- the right or the left side of a pair, extended
 abbrev pub extended_pair_side : Symbols → PairData → Bool → Tm

@@ -8,21 +8,21 @@ ghost use Rattle.wh_terms.specs.Rules.{RewriteRule};
 ghost use Rattle.wh_system.specs.CanonicalView.{side_of};
 ghost use Rattle.wh_system.specs.SystemView.{system_data};
 ghost use Rattle.wh_pairs.specs.PairData.{pair_data};
+ghost use Rattle.wh_polycheck.specs.Marks.{head_of_side};
 ghost use Rattle.wh_extended.specs.ExtendedSides.{extended_side};
 ghost use Rattle.wh_ordering.specs.FilteringView.{filtering_data};
 ghost use Rattle.wh_ordering.specs.Ordering.{IsNarrow};
 ghost use Rattle.wh_order.specs.TreeSides.{AreFilters, HasTypedCalls, IsTreeOfCall, IsTreeOfSide, extended_pair_side};
 
+use crate::kept::filtered_mark;
+use crate::sift::{sift, sift_list};
 use crate::tree::Tree;
 use std::alloc::Global;
 use wh_ordering::Filters;
 use wh_pairs::Pair;
+use wh_sides::{TooWide, extended_arguments, extended_rule};
 use wh_system::System;
 use wh_types::Or;
-
-/// A side has more than 65,536 nodes once it has all its arguments.
-#[derive(Clone, Copy)]
-pub struct TooWide;
 
 /// The right side of a rule, or its left side, with all its arguments and behind the filters (Kop 2012).
 ///
@@ -41,7 +41,9 @@ pub fn filtered_rule(
         × IsTreeOfSide (system_data system.now).symbols (system_data system.now).rules (filtering_data filters.now) r right u)
         (λ _. greatest_size < size (extended_side (system_data system.now).symbols r (side_of right r))) }
 {
-    Err(Or::NoMemory)
+    system.is_well_made();
+    let side = extended_rule(alloc, system, rule, right)?;
+    Ok(sift(alloc, filters, side.metas.as_slice(), &side.term)?)
 }
 
 /// The right side of a pair, or its left side, with all arguments and behind the filters (Kop 2012). `Err` as for a rule.
@@ -59,5 +61,14 @@ pub fn filtered_pair(
         × IsTreeOfCall (system_data system.now).symbols (system_data system.now).rules (filtering_data filters.now) (pair_data pair.now) right u)
         (λ _. greatest_size < size (extended_pair_side (system_data system.now).symbols (pair_data pair.now) right)) }
 {
-    Err(Or::NoMemory)
+    let items = extended_arguments(alloc, system, pair, right)?;
+    let behind = sift_list(alloc, filters, pair.metas.as_slice(), items.as_slice())?;
+    Ok(filtered_mark(alloc, filters, head_of_side(pair, right), behind)?)
+}
+
+// The symbol whose mark heads the right side of a pair, or its left side.
+fn head_of_side(pair: &Pair, right: bool) -> u32
+    ensures { result ≡ head_of_side (pair_data pair.now) right }
+{
+    if right { pair.right_fun } else { pair.left_fun }
 }

@@ -1,5 +1,5 @@
-//! The check of the path order on filtered trees: whether an inference is good for two of them. That a side of a rule or of a pair
-//! comes to such a tree is to come.
+//! The check of the path order on filtered trees: sides of rules and of pairs with all their arguments, behind the filters
+//! of a node, and whether an inference is good for two of them.
 #![tactic(auto)]
 
 mod asked;
@@ -7,15 +7,18 @@ mod below;
 mod check;
 mod filtered;
 mod goals;
+mod kept;
 mod kinds;
 mod letters;
 mod opened;
 mod parts;
 mod precedence;
 mod same;
+mod sift;
 mod tree;
 
 pub use check::{BadInference, check_inference};
-pub use filtered::{TooWide, filtered_pair, filtered_rule};
+pub use filtered::{filtered_pair, filtered_rule};
 pub use same::{same_tree, same_trees};
 pub use tree::{Tree, Trees};
+pub use wh_sides::TooWide;
