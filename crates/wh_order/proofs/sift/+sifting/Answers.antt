@@ -34,3 +34,15 @@ sift_before-returns-in-Fun t c =
     IfOk-weaker c.filtered_symbol.result _ _
     (λ u behind. fun_sifted (filtering_data c.args.filters.now) (declared_metas c.args.metas.now) (tm c.args.term.now) c.in-Fun.symbol (reverse c.args.behind.items) u (ap tm c.in-Fun.is) behind)
     c.filtered_symbol.ensures
+
+pub sift_each-loop-item-preserved : goal.sift_each-loop-item-preserved
+sift_each-loop-item-preserved t c =
+    sifted_next (filtering_data c.args.filters.now) (declared_metas c.args.metas.now) c.as_slice-item-items.result.now c.loop-item.item-index c.item-item.result c.loop-item.results c.push.new.self
+    c.in_ok-sift_before.field-0 c.loop-item.invariant
+    (subst (λ (qs : List Tree). IsSifted (filtering_data c.args.filters.now) (declared_metas c.args.metas.now) (tm c.item-item.result) (reverse qs) c.in_ok-sift_before.field-0) c.new.ensures.items c.in_ok-sift_before.ensures)
+    c.in_ok-push.ensures.ok c.loop-item-test.true c.item-item.is
+
+pub sift_each-returns : goal.sift_each-returns
+sift_each-returns t c =
+    sifted_all (filtering_data c.args.filters.now) (declared_metas c.args.metas.now) c.as_slice-item-items.result.now c.args.items.now c.loop-item.item-index c.loop-item.results c.as_slice-item-items.ensures
+    c.loop-item-test.false c.loop-item.invariant
