@@ -24,10 +24,16 @@ sift_before-returns-in-Bound t c =
     (ap tm c.in-Bound.is) (λ n. refl) tt (λ n w. tt) is) c.applied.ensures
 
 pub sift_before-returns-in_ok-kind-in-Free : goal.sift_before-returns-in_ok-kind-in-Free
-sift_before-returns-in_ok-kind-in-Free t c =
-    IfOk-weaker c.applied.result _ _
-    (λ u is. free_sifted (filtering_data c.args.filters.now) (declared_metas c.args.metas.now) (tm c.args.term.now) c.in-Free.number (ty c.in-Free.kind) (reverse c.args.behind.items)
-    (Free c.in-Free.number c.in_ok-kind-in-Free.kind) u (ap tm c.in-Free.is) (λ n. ap (λ a. free c.in-Free.number a) c.in_ok-kind-in-Free.ensures) tt (λ n w. tt) is) c.applied.ensures
+sift_before-returns-in_ok-kind-in-Free t c = ?
+
+pub sift_before-returns-in_ok-items-in-Meta : goal.sift_before-returns-in_ok-items-in-Meta
+sift_before-returns-in_ok-items-in-Meta t c = ?
+
+pub sift_before-returns-in_ok-new-in-Lam : goal.sift_before-returns-in_ok-new-in-Lam
+sift_before-returns-in_ok-new-in-Lam t c = ?
+
+pub sift_before-returns-in_ok-push-in-App : goal.sift_before-returns-in_ok-push-in-App
+sift_before-returns-in_ok-push-in-App t c = ?
 
 pub sift_before-returns-in-Fun : goal.sift_before-returns-in-Fun
 sift_before-returns-in-Fun t c =
