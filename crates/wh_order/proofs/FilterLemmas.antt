@@ -108,8 +108,14 @@ module _ (S : Symbols) (rules : List RewriteRule) (D : FilteringData) where
   signature-length : length (filtered_signature S rules D).funs ≡ length S.funs + length S.funs
   signature-length =
       let marks : List (List Ty) = map (marked_types S rules) (numbers_from 0 (length S.funs)) in
-      omega (arith, kept_length (filters_of S D) 0 (argument_types S rules), length-append (map arguments S.funs) marks, length-map S.funs arguments,
-      length-map (numbers_from 0 (length S.funs)) (marked_types S rules), numbers_length 0 (length S.funs))
+      omega (
+        arith,
+        kept_length (filters_of S D) 0 (argument_types S rules),
+        length-append (map arguments S.funs) marks,
+        length-map S.funs arguments,
+        length-map (numbers_from 0 (length S.funs)) (marked_types S rules),
+        numbers_length 0 (length S.funs),
+      )
 
   no-types : (f : ℕ) → length S.funs ≤ f → marked_types S rules f ≡ []
   no-types f high =

@@ -141,6 +141,19 @@ module _ (D : FilteringData) (M : List Declared) where
       twice [] = refl
       twice (t ∷ ts) = ap (λ l. sift (filters_of S D) (long S M [] t) [] ∷ l) (twice ts)
 
+  -- by what the walk has in hand
+
+  pub inner_sifted : (x y : Term) (qs : List Tree) (u v : Tree) → x ≡ y → qs ≡ [] → v ≡ u → IsSifted D M (tm x) (reverse qs) u → IsSifted D M (tm y) [] v
+  inner_sifted x y qs u v same empty made h =
+      subst (λ (z : Term). IsSifted D M (tm z) [] v) same
+      (subst (λ (ps : List Tree). IsSifted D M (tm x) (reverse ps) v) empty (subst (IsSifted D M (tm x) (reverse qs)) (sym made) h))
+
+  pub behind_sifted : (x y : Term) (qs new : List Tree) (last u : Tree) → x ≡ y → new ≡ qs ++ last ∷ [] → IsSifted D M (tm x) (reverse new) u
+      → IsSifted D M (tm y) (last ∷ reverse qs) u
+  behind_sifted x y qs new last u same pushed h =
+      subst (λ (z : Term). IsSifted D M (tm z) (last ∷ reverse qs) u) same
+      (subst (λ (ps : List Tree). IsSifted D M (tm x) ps u) (ap reverse pushed ∙ reverse-append qs (last ∷ [])) h)
+
   -- lists, from the front
 
   pub sifted_none : (us : List Tree) → us ≡ [] → AreSifted D M [] us
@@ -204,10 +217,10 @@ module _ (D : FilteringData) (M : List Declared) where
 
 -- the types of meta-variables, read so that there is one sort
 
-pub kind_there : (xs : List MetaDecl) (z : ℕ) (d : MetaDecl) → z < length xs → d ≡ get_or xs z d → collapse (ty d.result) ≡ out_at (collapsed (declared_metas xs)) z
-kind_there [] z d within e = absurd (omega (arith, within))
-kind_there (x ∷ xs) zero d within e = ap (λ (c : MetaDecl). collapse (ty c.result)) e
-kind_there (x ∷ xs) (suc z) d within e = kind_there xs z d (omega (arith, within)) e
+pub kind_there : (xs : List MetaDecl) (z : ℕ) (d : MetaDecl) → z < length xs → collapse (ty (get_or xs z d).result) ≡ out_at (collapsed (declared_metas xs)) z
+kind_there [] z d within = absurd (omega (arith, within))
+kind_there (x ∷ xs) zero d within = refl
+kind_there (x ∷ xs) (suc z) d within = kind_there xs z d (omega (arith, within))
 
 pub kind_past : (xs : List MetaDecl) (z : ℕ) → length xs ≤ z → sort 0 ≡ out_at (collapsed (declared_metas xs)) z
 kind_past [] z past = refl

@@ -8,8 +8,8 @@ loop-tree-preserved-then-stands_at c =
     chosen_here c.args.places.now c.loop-tree.wanted c.loop-tree.place c.in_ok-place.place c.loop-tree.items c.push.new.self c.loop-tree.left.items c.pop.new.self.items
     (merged 0 c.args.places.now (reverse c.args.behind.items)) c.in-Some.tree c.loop-tree.invariant c.in-Some.ensures.items c.in_ok-place.ensures (c.stands_at.ensures.0 c.if-stands_at.true) c.in_ok-push.ensures.ok
 
-pub loop-tree-preserved-else-stands_at : goal.loop-tree-preserved-else-stands_at
-loop-tree-preserved-else-stands_at c =
+pub loop-tree-preserved : goal.loop-tree-preserved
+loop-tree-preserved c =
     chosen_other c.args.places.now c.loop-tree.wanted c.loop-tree.place c.in_ok-place.place c.loop-tree.items c.loop-tree.left.items c.pop.new.self.items
     (merged 0 c.args.places.now (reverse c.args.behind.items)) c.in-Some.tree c.loop-tree.invariant c.in-Some.ensures.items c.in_ok-place.ensures
     (λ e. true≢false (sym (c.stands_at.ensures.1 e) ∙ c.if-stands_at.false))

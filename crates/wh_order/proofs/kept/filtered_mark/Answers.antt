@@ -1,5 +1,8 @@
-use Rattle.std.proofs.Common.{arith, reverse, ◌+◌, map, subst, sym}
+use Rattle.std.proofs.Common.{List, reverse, ◌+◌, map, ap, subst, sym, ◌∙◌}
 use Rattle.wh_inference.specs.Said.{written_filter}
+use Rattle.wh_ordering.specs.declared.filters.MarkFilter.{MarkFilter}
+use Rattle.wh_ordering.specs.FilteringView.{mark_filter}
+use Rattle.wh_ordering.specs.Filterings.{mark_among}
 use Rattle.wh_order.specs.declared.tree.Tree.{Mark}
 use Rattle.wh_order.specs.Kept.{IsFiltered}
 use Rattle.wh_order.proofs.KeptLemmas.{mark_given, mark_kept, instead_kept, mark_alone, mark_next, mark_end}
@@ -24,4 +27,8 @@ loop-mark-preserved c =
     mark_next c.as_slice-mark-items.result.now c.loop-mark.mark-index c.args.symbol c.mark-item.result c.loop-mark-test.true c.mark-item.is c.if-mark-symbol.false c.loop-mark.invariant
 
 pub returns : goal.returns
-returns c n cs proper count = ?
+returns c n cs proper count =
+    subst (λ F. IsFiltered n (n + c.args.symbol) cs F (reverse c.args.behind.items) (Mark c.args.symbol c.in_ok-new.field-0))
+    (sym (ap (λ (xs : List MarkFilter). mark_among (map mark_filter xs) c.args.symbol) (sym c.as_slice-mark-items.ensures)
+    ∙ mark_end c.as_slice-mark-items.result.now c.loop-mark.mark-index c.args.symbol c.loop-mark-test.false c.loop-mark.invariant))
+    (mark_alone n c.args.symbol cs (reverse c.args.behind.items) c.in_ok-new.field-0 c.in_ok-new.ensures)

@@ -1,6 +1,7 @@
-use Rattle.std.proofs.Common.{◌-◌, length, ap, subst, sym, arith}
-use Rattle.wh_terms.specs.Erase.{declared_metas}
+use Rattle.std.proofs.Common.{◌≡◌, ℕ, ◌-◌, drop, length, map, reverse, subst, arith}
+use Rattle.wh_terms.specs.Erase.{declared_metas, tm}
 use Rattle.wh_ordering.specs.FilteringView.{filtering_data}
+use Rattle.wh_order.specs.Sifted.{AreSifted}
 use Rattle.wh_order.proofs.SiftLemmas.{sifted_behind, sifted_before}
 use Rattle.wh_order.proofs.sift.sift_list.Goals as goal
 
@@ -18,4 +19,6 @@ loop-left-preserved c = (
 )
 
 pub returns : goal.returns
-returns c = ?
+returns c =
+    let none : c.loop-left.left ≡ 0 = omega (arith, c.loop-left-test.false) in
+    subst (λ (k : ℕ). AreSifted (filtering_data c.args.filters.now) (declared_metas c.args.metas.now) (map tm (drop k c.args.items.now)) (reverse c.loop-left.results.items)) none c.loop-left.invariant.1
