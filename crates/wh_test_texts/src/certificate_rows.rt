@@ -84,9 +84,15 @@ const FAULTS: &[(&[u8], &[u8])] = &[
     // a node of the other version below blocks
     (b"YES 2\nranks\npairs 0\norder\nfun f keep\n", b"36"),
     (b"YES 2\nranks\npairs 0\norder\nrule=\n", b"30"),
-    (b"YES 2\nranks\npairs 0\norder\nrule =\nmark f pick 1\n", b"33"),
+    (
+        b"YES 2\nranks\npairs 0\norder\nrule =\nmark f pick 1\n",
+        b"33",
+    ),
     (b"YES 2\nranks\npairs 0\norder\npair =\nrule =\n", b"33"),
-    (b"YES 2\nranks 0\npairs 2\nblocks 2\nblock 0\nblock 1\npoly\n", b"47"),
+    (
+        b"YES 2\nranks 0\npairs 2\nblocks 2\nblock 0\nblock 1\npoly\n",
+        b"47",
+    ),
 ];
 
 /// The text of a certificate.
