@@ -80,9 +80,19 @@ const FAULTS: &[(&[u8], &[u8])] = &[
     (b"YES 1\nranks\npairs 0\npoly\nfun f 1*0\n", b"33"),
     (b"YES 1\nranks\npairs 0\npoly\nrule 0>0:0\n", b"34"),
     (b"YES 1\nranks\npairs 0\npoly\nrule\nmark f 0\n", b"30"),
-    // a filter that keeps without a precedence, and an inference without the space before it
+    // a filter that keeps without a precedence, an inference without the space before it, lines in another order, and
+    // a node of the other version below blocks
     (b"YES 2\nranks\npairs 0\norder\nfun f keep\n", b"36"),
     (b"YES 2\nranks\npairs 0\norder\nrule=\n", b"30"),
+    (
+        b"YES 2\nranks\npairs 0\norder\nrule =\nmark f pick 1\n",
+        b"33",
+    ),
+    (b"YES 2\nranks\npairs 0\norder\npair =\nrule =\n", b"33"),
+    (
+        b"YES 2\nranks 0\npairs 2\nblocks 2\nblock 0\nblock 1\npoly\n",
+        b"47",
+    ),
 ];
 
 /// The text of a certificate.
