@@ -224,6 +224,41 @@ def many_moves(count):
     return IDENTITY, identity_node(f"1+{count}*y0", "1*y0", "0", "1*y0", ["rule 0>0:1", "rule"], f"pair {moves}")
 
 
+def order_certificate(funs, rules, precedences, inferences):
+    """A certificate with one `order` node for a system of one sort, whose last rule is `h (s X) => h X` and alone has a pair."""
+    lines = ["YES 2", "ranks 0", "pairs 1", "order"]
+    for name, arity in funs:
+        kept = "".join(f" {k}" for k in range(1, arity + 1))
+        lines.append(f"fun {name} keep {precedences.get(name, 0)}{kept}")
+    lines.append("mark h keep 0 1")
+    lines += [f"rule {inference}" for inference in inferences] + ["rule x1(s1(=),s1(s1(=)))"]
+    lines += ["pair x1(s1(=),s1(s1(=)))", "drop 0", "done", "end"]
+    declared = [f"fun {name} : {'o -> ' * arity}o;" for name, arity in funs]
+    system = ["sort o;"] + declared + rules + ["rule {X:o} h (s X) => h X;"]
+    return "\n".join(system) + "\n", "\n".join(lines) + "\n"
+
+
+def order_rules(count):
+    """So many rules whose right sides have 450 variables, each below three symbols on the left: 8 KB of inferences a rule."""
+    funs = [("w", 30), ("v", 15), ("s", 1), ("h", 1)] + [(f"g{i}", 1) for i in range(count)]
+    side = "v" + (" (w" + " X" * 30 + ")") * 15
+    rules = [f"rule {{X:o}} g{i} (s (s (s X))) => {side};" for i in range(count)]
+    group = "p(" + ",".join(["s1(s1(s1(s1(=))))"] * 30) + ")"
+    inference = "p(" + ",".join([group] * 15) + ")"
+    return order_certificate(funs, rules, {name: 1 for name, _ in funs[4:]}, [inference] * count)
+
+
+def order_entries(height):
+    """One rule whose right side has 27,000 variables and a size of some 57,000, each below so many symbols on the left."""
+    funs = [("w", 30), ("s", 1), ("h", 1), ("g", 1)]
+    side, inference = "X", "s1(" * (height + 1) + "=" + ")" * (height + 1)
+    for _ in range(3):
+        side = "(w" + f" {side}" * 30 + ")"
+        inference = "p(" + ",".join([inference] * 30) + ")"
+    left = "(s " * height + "X" + ")" * height
+    return order_certificate(funs, [f"rule {{X:o}} g {left} => {side};"], {"g": 1}, [inference])
+
+
 def rule_chain(count):
     """A chain of rules, all covered in each node; one node of interpretations drops the one pair that may follow itself."""
     names = [f"f{k}" for k in range(count)]
@@ -381,6 +416,10 @@ def main():
         cases.append(("poly moves", f"{count} moves", many_moves, count))
     for count in (25, 50, 100):
         cases.append(("poly rules", f"{count} rules", rule_chain, count))
+    for count in (250, 500, 1000):
+        cases.append(("order rules", f"{count} rules", order_rules, count))
+    for height in (9, 18, 36):
+        cases.append(("order entries", f"{27000 * (height + 2)} entries", order_entries, height))
     for symbols in (125, 250, 500, 1000):
         cases.append(("show chain", f"{symbols} pairs", chain, symbols))
     for symbols in (125, 250, 500, 1000):
