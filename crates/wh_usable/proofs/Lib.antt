@@ -1,0 +1,4 @@
+mod FlatSides
+mod CallLemmas
+mod Whole
+mod Firsts
