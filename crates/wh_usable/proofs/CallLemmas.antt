@@ -1,5 +1,5 @@
 -- What symbols in trees call.
-use Rattle.std.proofs.Common.{◌≡◌, ℕ, zero, suc, ◌+◌, ◌<◌, ◌↔◌, inl, inr, List, [], ◌∷◌, length, map, Contains, Some, slice_get, refl, sym, subst, arith}
+use Rattle.std.proofs.Common.{◌≡◌, ℕ, zero, suc, ◌+◌, ◌<◌, ◌↔◌, inl, inr, List, [], ◌∷◌, map, Contains, Some, slice_get, refl, sym, subst, arith}
 use Rattle.wh_terms.specs.Erase.{tm}
 use Rattle.wh_terms.specs.Tree.{Tm, fun, app, head}
 use Rattle.wh_terms.specs.Rules.{RewriteRule}

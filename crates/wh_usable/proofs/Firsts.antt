@@ -1,5 +1,5 @@
 -- The first number of a list that is that of an element with a property.
-use Rattle.std.proofs.Common.{◌≡◌, ℕ, List, Some, slice_get, ◌<◌, subst, sym}
+use Rattle.std.proofs.Common.{◌≡◌, ℕ, List, Some, slice_get, subst}
 use Rattle.wh_pairs.proofs.ByPlace.{Before, some_one}
 use Rattle.wh_usable.specs.Open.{IsFirstNot}
 

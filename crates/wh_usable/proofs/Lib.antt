@@ -2,3 +2,5 @@ mod FlatSides
 mod CallLemmas
 mod Whole
 mod Firsts
+mod RuleLemmas
+mod RuleAt

@@ -1,11 +1,11 @@
 -- Increasing numbers below a bound, as many as there are, are all of them.
-use Rattle.std.proofs.Common.{◌≡◌, ℕ, zero, suc, ◌+◌, ◌<◌, ◌≤◌, List, [], ◌∷◌, length, All, refl, ap, ap₂, ◌∙◌, arith}
+use Rattle.std.proofs.Common.{◌≡◌, ℕ, suc, ◌+◌, ◌<◌, ◌≤◌, List, [], ◌∷◌, length, All, refl, ap, ap₂, ◌∙◌, arith}
 use Rattle.wh_pairs.specs.PairData.{IsIncreasing}
 use Rattle.wh_reduction.specs.TaskData.{numbers_from}
 use Rattle.wh_reduction.proofs.Numbers.{numbers_length}
 
 -- the numbers rise from a on and end before b
-Between : ℕ → ℕ → List ℕ → Type 0
+abbrev Between : ℕ → ℕ → List ℕ → Type 0
 Between a b [] = a ≤ b
 Between a b (n ∷ ns) = (a ≤ n) × Between (suc n) b ns
 

@@ -120,7 +120,10 @@ fn is_closed_pair(system: &System, listed: &[u32], pair: &Pair) -> bool
     ensures { IsTrue result
         ↔ IsClosedPair (system_data system.now).symbols (system_data system.now).rules listed.now (pair_data pair.now) }
 {
-    if !has_sorts(system, pair) || !is_flat_pair(system, pair) {
+    if !has_sorts(system, pair) {
+        return false;
+    }
+    if !is_flat_pair(system, pair) {
         return false;
     }
     each_calls_listed(system, listed, pair.right.as_slice())

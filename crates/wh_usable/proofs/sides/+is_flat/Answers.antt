@@ -1,5 +1,5 @@
 use Rattle.std.proofs.Common.{◌≡◌, ◌==◌, true, List, length, ap, sym, subst, ◌∙◌, arith, tests, eq-eqb}
-use Rattle.wh_terms.specs.Erase.{declared_metas, symbols, tm}
+use Rattle.wh_terms.specs.Erase.{declared_metas, symbols}
 use Rattle.wh_terms.specs.declared.term.Term.{Term}
 use Rattle.wh_terms.proofs.TermLemmas.{tm_of_meta}
 use Rattle.wh_first_order.specs.FirstOrder.{IsFlatTree}
