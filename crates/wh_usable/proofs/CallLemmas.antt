@@ -1,10 +1,9 @@
 -- What symbols in trees call.
-use Rattle.std.proofs.Common.{◌≡◌, ℕ, zero, suc, ◌+◌, ◌<◌, ◌↔◌, inl, inr, List, [], ◌∷◌, map, Contains, Some, slice_get, refl, sym, subst, arith}
+use Rattle.std.proofs.Common.{◌≡◌, ℕ, zero, suc, ◌↔◌, inl, inr, List, [], ◌∷◌, map, Contains, refl, sym, subst, arith}
 use Rattle.wh_terms.specs.Erase.{tm}
-use Rattle.wh_terms.specs.Tree.{Tm, fun, app, head}
+use Rattle.wh_terms.specs.Tree.{Tm, fun, app}
 use Rattle.wh_terms.specs.Rules.{RewriteRule}
 use Rattle.wh_terms.specs.declared.term.Term.{Term}
-use Rattle.wh_pairs.proofs.ByPlace.{same_or_below, some_one}
 use Rattle.wh_usable.specs.Closed.{HasSymbol, ListsRulesOf, ListsRulesIn, ListsRulesInEach}
 
 module _ (rules : List RewriteRule) (listed : List ℕ) where
@@ -31,14 +30,3 @@ module _ (rules : List RewriteRule) (listed : List ℕ) where
   lists_each [] all t (i, within, at) = absurd (omega (arith, within))
   lists_each (u ∷ ts) all t (zero, within, at) = subst (λ (t : Term). ListsRulesIn rules listed (tm t)) at all.0
   lists_each (u ∷ ts) all t (suc i, within, at) = lists_each ts all.1 t (i, omega (arith, within), at)
-
-  -- all rules of the symbol before a place are listed
-  abbrev pub ListsBefore : ℕ → ℕ → Type 0
-  ListsBefore f i = (n : ℕ) (r : RewriteRule) → n < i → slice_get rules n ≡ Some r → head r.left ≡ fun f → Contains listed n
-
-  pub lists_more : (f i : ℕ) (r : RewriteRule) → slice_get rules i ≡ Some r → (head r.left ≡ fun f → Contains listed i) → ListsBefore f i → ListsBefore f (i + 1)
-  lists_more f i r at here before n q less there heads = elim (same_or_below n i less) [
-    | inl same ↦ subst (Contains listed) (sym same)
-        (here (subst (λ (r : RewriteRule). head r.left ≡ fun f) (some_one (subst (λ n. slice_get rules n ≡ Some q) same there) at) heads))
-    | inr below ↦ before n q below there heads
-  ]

@@ -4,3 +4,4 @@ mod Whole
 mod Firsts
 mod RuleLemmas
 mod RuleAt
+mod TableLemmas

@@ -1,6 +1,6 @@
 //! Whether the rules that are to be covered are closed for a set of dependency pairs.
 
-ghost use Rattle.std.specs.Prelude.{◌↔◌, IfErr, IsTrue, MatchOption, OnOk};
+ghost use Rattle.std.specs.Prelude.{◌↔◌, ℕ, IfErr, IsTrue, List, MatchOption, OnOk};
 ghost use Rattle.wh_terms.specs.Erase.{rewrite_rule, symbols};
 ghost use Rattle.wh_terms.specs.Rules.{IsWellMade};
 ghost use Rattle.wh_pairs.specs.PairData.{IsIncreasing, pair_data};
@@ -10,9 +10,10 @@ ghost use Rattle.wh_reduction.specs.TaskView.{task_data};
 ghost use Rattle.wh_polycheck.specs.Marks.{marked_types};
 ghost use Rattle.wh_first_order.specs.FirstOrder.{AreFlatTrees, AreSorts, IsFlatTree};
 ghost use Rattle.wh_usable.specs.Closed.{AreClosedPairs, AreClosedRules, IsClosed, IsClosedPair, IsClosedRule};
+ghost use Rattle.wh_usable.specs.Tables.{IsTableOf};
 ghost use Rattle.wh_usable.specs.Open.{IsFirstOpen, IsFirstOpenPair, IsFirstOpenRule};
 
-use crate::calls::{calls_listed, each_calls_listed};
+use crate::calls::{MOST_SYMBOLS, calls_listed, each_calls_listed, look_up};
 use crate::sides::{are_flat, is_flat};
 use wh_first_order::{is_of_a_sort, takes_sorts_first};
 use wh_pairs::Pair;
@@ -39,8 +40,8 @@ pub enum NotClosed {
 /// and each pair of the set, is first-order and calls only symbols all whose rules are among them (usable rules, Arts
 /// and Giesl 2000; this form is the project's own).
 ///
-/// `Err` names the first of these rules that is not so, or else the first pair of the set. It takes no memory. For each
-/// symbol in a right side it goes through the rules once, of which a system has 1,024 at most.
+/// `Err` names the first of these rules that is not so, or else the first pair of the set. It takes no memory, and its
+/// time is linear in the rules of the system and in the sides that it looks at.
 pub fn check_closed<'a>(task: &Task<'a>) -> Result<(), NotClosed>
     requires task { IsTask (task_data task.now) }
     requires increasing { IsIncreasing (task_data task.now).covered }
@@ -51,25 +52,27 @@ pub fn check_closed<'a>(task: &Task<'a>) -> Result<(), NotClosed>
     if task.covered.len() == task.system.rules().len() {
         return Ok(());
     }
-    if let Some(rule) = first_open_rule(task) {
+    let mut table = [false; MOST_SYMBOLS];
+    look_up(&mut table, task.system, task.covered);
+    if let Some(rule) = first_open_rule(task, &table) {
         return Err(NotClosed::Rule { rule });
     }
-    if let Some(pair) = first_open_pair(task) {
+    if let Some(pair) = first_open_pair(task, &table) {
         return Err(NotClosed::Pair { pair });
     }
     Ok(())
 }
 
 // The first listed rule that is not closed.
-fn first_open_rule<'a>(task: &Task<'a>) -> Option<u32>
+fn first_open_rule<'a>(task: &Task<'a>, table: &[bool]) -> Option<u32>
     requires task { IsTask (task_data task.now) }
-    requires increasing { IsIncreasing (task_data task.now).covered }
+    requires table { IsTableOf (task_data task.now).rules (task_data task.now).covered table.now }
     ensures { MatchOption result (AreClosedRules (task_data task.now)) (IsFirstOpenRule (task_data task.now)) }
 {
     task.system.is_well_made();
     for number in task.covered {
         let rule = &task.system.rules()[*number as usize];
-        if !is_closed_rule(task.system, task.covered, rule) {
+        if !is_closed_rule(task.system, table, rule) {
             return Some(*number);
         }
     }
@@ -77,13 +80,13 @@ fn first_open_rule<'a>(task: &Task<'a>) -> Option<u32>
 }
 
 // The first pair of the set that is not closed.
-fn first_open_pair<'a>(task: &Task<'a>) -> Option<u32>
+fn first_open_pair<'a>(task: &Task<'a>, table: &[bool]) -> Option<u32>
     requires task { IsTask (task_data task.now) }
-    requires increasing { IsIncreasing (task_data task.now).covered }
+    requires table { IsTableOf (task_data task.now).rules (task_data task.now).covered table.now }
     ensures { MatchOption result (AreClosedPairs (task_data task.now)) (IsFirstOpenPair (task_data task.now)) }
 {
     for number in task.set {
-        if !is_closed_pair(task.system, task.covered, &task.pairs[*number as usize]) {
+        if !is_closed_pair(task.system, table, &task.pairs[*number as usize]) {
             return Some(*number);
         }
     }
@@ -91,18 +94,16 @@ fn first_open_pair<'a>(task: &Task<'a>) -> Option<u32>
 }
 
 // Whether the rule is closed.
-fn is_closed_rule(system: &System, listed: &[u32], rule: &Rule) -> bool
-    requires increasing { IsIncreasing listed.now }
-    requires made { IsWellMade (system_data system.now).symbols (rewrite_rule rule.now) }
-    ensures { IsTrue result
-        ↔ IsClosedRule (system_data system.now).symbols (system_data system.now).rules listed.now (rewrite_rule rule.now) }
+fn is_closed_rule(system: &System, table: &[bool], rule: &Rule) -> bool
+    requires { IsWellMade (system_data system.now).symbols (rewrite_rule rule.now) }
+    ensures { (listed : List ℕ) → IsTableOf (system_data system.now).rules listed table.now → IsTrue result
+        ↔ IsClosedRule (system_data system.now).symbols (system_data system.now).rules listed (rewrite_rule rule.now) }
 {
     let signature = system.signature();
     if !is_flat_rule(signature, rule) {
         return false;
     }
-    is_of_a_sort(signature, rule.metas.as_slice(), &rule.left)
-        && calls_listed(system, listed, &rule.right)
+    is_of_a_sort(signature, rule.metas.as_slice(), &rule.left) && calls_listed(table, &rule.right)
 }
 
 // Whether both sides of the rule are first-order.
@@ -115,10 +116,9 @@ fn is_flat_rule(signature: &Signature, rule: &Rule) -> bool
 }
 
 // Whether the pair is closed.
-fn is_closed_pair(system: &System, listed: &[u32], pair: &Pair) -> bool
-    requires { IsIncreasing listed.now }
-    ensures { IsTrue result
-        ↔ IsClosedPair (system_data system.now).symbols (system_data system.now).rules listed.now (pair_data pair.now) }
+fn is_closed_pair(system: &System, table: &[bool], pair: &Pair) -> bool
+    ensures { (listed : List ℕ) → IsTableOf (system_data system.now).rules listed table.now → IsTrue result
+        ↔ IsClosedPair (system_data system.now).symbols (system_data system.now).rules listed (pair_data pair.now) }
 {
     if !has_sorts(system, pair) {
         return false;
@@ -126,7 +126,7 @@ fn is_closed_pair(system: &System, listed: &[u32], pair: &Pair) -> bool
     if !is_flat_pair(system, pair) {
         return false;
     }
-    each_calls_listed(system, listed, pair.right.as_slice())
+    each_calls_listed(table, pair.right.as_slice())
 }
 
 // Whether all arguments of both marked symbols of the pair are of a sort.

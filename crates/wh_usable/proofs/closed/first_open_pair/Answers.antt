@@ -15,7 +15,7 @@ returns-then-not-is_closed_pair c =
     let p = pair_data (get_or c.args.task.now.pairs.now n c.index-task-number.result) in
     first_not (IsClosedPair T.symbols T.rules T.covered) T.pairs T.set i n p (number_at T.set i c.loop-number-test.true)
     (pair_at c.args.task.now c.requires.task i c.index-task-number.result c.loop-number-test.true)
-    c.loop-number.invariant (λ closed. cc (c.is_closed_pair.ensures.1 closed, c.if-not-is_closed_pair.true))
+    c.loop-number.invariant (λ closed. cc ((c.is_closed_pair.ensures T.covered c.requires.table).1 closed, c.if-not-is_closed_pair.true))
 
 pub loop-number-preserved : goal.loop-number-preserved
 loop-number-preserved c =
@@ -26,7 +26,7 @@ loop-number-preserved c =
     let Q = IsClosedPair T.symbols T.rules T.covered in
     before_more (IsAt Q T.pairs) T.set i n c.loop-number.invariant (number_at T.set i c.loop-number-test.true)
     (is_at Q T.pairs n p (pair_at c.args.task.now c.requires.task i c.index-task-number.result c.loop-number-test.true)
-    (c.is_closed_pair.ensures.0 c.if-not-is_closed_pair.false))
+    ((c.is_closed_pair.ensures T.covered c.requires.table).0 c.if-not-is_closed_pair.false))
 
 pub returns : goal.returns
 returns c p inside =

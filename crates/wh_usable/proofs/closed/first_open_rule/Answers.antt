@@ -7,8 +7,8 @@ use Rattle.wh_usable.proofs.Firsts.{IsAt, is_at, first_not}
 use Rattle.wh_usable.proofs.RuleAt.{rule_at}
 use Rattle.wh_usable.proofs.closed.first_open_rule.Goals as goal
 
-pub is_closed_rule-requires-clause-made : goal.is_closed_rule-requires-clause-made
-is_closed_rule-requires-clause-made c =
+pub is_closed_rule-requires : goal.is_closed_rule-requires
+is_closed_rule-requires c =
     let T = task_data c.args.task.now in
     let i = c.loop-number.number-index in
     let n = get_or T.covered i 0 in
@@ -24,7 +24,7 @@ returns-then-not-is_closed_rule c =
     let rule = c.index-rules-number.result in
     let at = rule_at T.rules c.rules.result.now n rule c.rules.ensures (c.requires.task.are_rules i 0 c.loop-number-test.true) c.index-rules-number.is in
     first_not (IsClosedRule T.symbols T.rules T.covered) T.rules T.covered i n (rewrite_rule rule) (number_at T.covered i c.loop-number-test.true) at
-    c.loop-number.invariant (λ closed. cc (c.is_closed_rule.ensures.1 closed, c.if-not-is_closed_rule.true))
+    c.loop-number.invariant (λ closed. cc ((c.is_closed_rule.ensures T.covered c.requires.table).1 closed, c.if-not-is_closed_rule.true))
 
 pub loop-number-preserved : goal.loop-number-preserved
 loop-number-preserved c =
@@ -35,7 +35,7 @@ loop-number-preserved c =
     let at = rule_at T.rules c.rules.result.now n rule c.rules.ensures (c.requires.task.are_rules i 0 c.loop-number-test.true) c.index-rules-number.is in
     let Q = IsClosedRule T.symbols T.rules T.covered in
     before_more (IsAt Q T.rules) T.covered i n c.loop-number.invariant (number_at T.covered i c.loop-number-test.true)
-    (is_at Q T.rules n (rewrite_rule rule) at (c.is_closed_rule.ensures.0 c.if-not-is_closed_rule.false))
+    (is_at Q T.rules n (rewrite_rule rule) at ((c.is_closed_rule.ensures T.covered c.requires.table).0 c.if-not-is_closed_rule.false))
 
 pub returns : goal.returns
 returns c n r found at =

@@ -9,7 +9,7 @@ use Rattle.wh_usable.proofs.RuleLemmas.{closed_rule}
 use Rattle.wh_usable.proofs.closed.is_closed_rule.Goals as goal
 
 pub returns-then-is_of_a_sort : goal.returns-then-is_of_a_sort
-returns-then-is_of_a_sort c =
+returns-then-is_of_a_sort c listed table =
     let d = system_data c.args.system.now in
     let r = rewrite_rule c.args.rule.now in
     let flat = subst (λ (S : Symbols). IsFlatTree S r.metas r.left × IsFlatTree S r.metas r.right) c.signature-signature.ensures
@@ -18,5 +18,5 @@ returns-then-is_of_a_sort c =
     → IsTrue c.is_of_a_sort.result ↔ ((s : ℕ) × (a ≡ sort s)) in
     let sorts = subst (λ (S : Symbols). Sorted S c.args.rule.now.metas) c.signature-signature.ensures
     (subst (Sorted (symbols c.signature-signature.result.now)) c.as_slice.ensures c.is_of_a_sort.ensures) in
-    closed_rule d.symbols d.rules c.args.listed.now r c.calls_listed.result c.requires.made flat
-    (λ a typed. (sorts a typed flat.0).0 c.if-is_of_a_sort.true) (c.calls_listed.ensures d.symbols r.metas flat.1)
+    closed_rule d.symbols d.rules listed r c.calls_listed.result c.requires flat
+    (λ a typed. (sorts a typed flat.0).0 c.if-is_of_a_sort.true) (c.calls_listed.ensures d.symbols r.metas d.rules listed flat.1 table)
