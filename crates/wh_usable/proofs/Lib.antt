@@ -1,0 +1,7 @@
+mod FlatSides
+mod CallLemmas
+mod Whole
+mod Firsts
+mod RuleLemmas
+mod RuleAt
+mod TableLemmas

@@ -1,0 +1,9 @@
+//! Usable rules: the lists of rules that a node of interpretations may cover in place of all rules (after Arts and Giesl
+//! 2000; the condition is this project's own).
+#![tactic(auto)]
+
+mod calls;
+mod closed;
+mod sides;
+
+pub use closed::{NotClosed, check_closed};
