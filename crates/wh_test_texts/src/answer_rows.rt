@@ -7,7 +7,7 @@ use std::test::Fail;
 use wh_answer::{print_answer, read_answer};
 
 /// A line of each variant of a report, of a rejection, and of a cause.
-const LINES: [&str; 54] = [
+const LINES: [&str; 60] = [
     "YES",
     "NO",
     "BAD WORDS",
