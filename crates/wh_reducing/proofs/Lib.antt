@@ -1,0 +1,2 @@
+pub mod GivenTerms
+pub mod ToldLines
