@@ -28,6 +28,9 @@ one_meant d raw t u m n = let same : Some t ≡ Some u = sym m.named ∙ n.named
 pub not_given : (d : SystemData) (bytes : List ℕ) (raw : RTm) (t u : Tm) → IsTermText raw bytes → Means d raw u → (Fits u → ⊥) → Gives d bytes t → ⊥
 not_given d bytes raw t u text means big g = big (subst Fits (one_meant d raw t u (gives_meant d bytes raw t text g) means) g.fits)
 
+pub one_given : (d : SystemData) (bytes : List ℕ) (t u : Tm) → Gives d bytes t → Gives d bytes u → t ≡ u
+one_given d bytes t u g h = one_meant d g.raw t u g.means (gives_meant d bytes g.raw u g.text h)
+
 -- steps keep types
 
 walk_typed : (S : Symbols) (rules : List RewriteRule) → AreWellMade S rules → (a : Ty) (t : Tm) (l : List Tm) → Walk (Leftmost rules) t l → Typed S [] [] t a → Typed S [] [] (last_of t l) a

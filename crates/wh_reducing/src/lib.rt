@@ -2,7 +2,9 @@
 #![tactic(auto)]
 
 mod given;
+mod laws;
 mod telling;
 
 pub use given::NotATerm;
+pub use laws::one_text_of_reduction;
 pub use telling::reduced_text;

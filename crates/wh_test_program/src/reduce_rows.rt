@@ -110,12 +110,7 @@ const REDUCED: &[(&[&str], &[u8], u8, &[u8])] = &[
         2,
         b"BAD WORDS\n",
     ),
-    (
-        &["show", "system", "--steps", "1"],
-        LOOP,
-        2,
-        b"BAD WORDS\n",
-    ),
+    (&["show", "system", "--steps", "1"], LOOP, 2, b"BAD WORDS\n"),
 ];
 
 #[test]

@@ -34,12 +34,7 @@ pub fn reduce_file<S: Shelf>(
 }
 
 // The same of the system.
-fn reduced_in(
-    alloc: Global,
-    system: &System,
-    term: &[u8],
-    steps: u32,
-) -> Result<Bytes, Or<Report>>
+fn reduced_in(alloc: Global, system: &System, term: &[u8], steps: u32) -> Result<Bytes, Or<Report>>
     ensures { MatchOr result (TellsReduced (system_data system.now) term.now steps) (IsNotReduced (system_data system.now) term.now) }
 {
     match reduced_text(alloc, system, term, steps) {

@@ -177,16 +177,16 @@ some_bound kept o r one is other not_one none =
 
 -- no number is kept where no bound is, nor how many steps are taken
 set_none : (kept : Kept) → SetsNoBounds kept → kept.steps ≡ None → SetsNo kept
-set_none kept no none tries = no.tries
-set_none kept no none depth = no.depth
-set_none kept no none visited = no.visited
-set_none kept no none steps = none
+set_none kept bounds none tries = bounds.tries
+set_none kept bounds none depth = bounds.depth
+set_none kept bounds none visited = bounds.visited
+set_none kept bounds none steps = none
 
 pub no_bounds : (kept : Kept) → SetsNo kept → SetsNoBounds kept
 no_bounds kept none = record { tries = none tries; depth = none depth; visited = none visited }
 
 pub sets_none_where : (kept : Kept) → SetsNoBounds kept → (r : Bool) → is_some kept.steps ≡ not r → IsTrue r ↔ SetsNo kept
-sets_none_where kept no r last = (λ t. set_none kept no (none_where kept.steps r last t), λ none. both r last (none steps))
+sets_none_where kept bounds r last = (λ t. set_none kept bounds (none_where kept.steps r last t), λ none. both r last (none steps))
   where
     both : (r : Bool) → is_some kept.steps ≡ not r → kept.steps ≡ None → IsTrue r
     both true e none = refl
