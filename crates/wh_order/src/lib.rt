@@ -5,6 +5,7 @@
 mod asked;
 mod below;
 mod check;
+mod filtered;
 mod goals;
 mod kinds;
 mod letters;
@@ -15,5 +16,6 @@ mod same;
 mod tree;
 
 pub use check::{BadInference, check_inference};
+pub use filtered::{TooWide, filtered_pair, filtered_rule};
 pub use same::{same_tree, same_trees};
 pub use tree::{Tree, Trees};
