@@ -1,6 +1,7 @@
-//! The worked rows of the program, run over files and a sink in memory: of words, files and limits, of system texts, of certificates, and of
-//! the search for a proof or a loop; and the table of hostile inputs: files and an output that fail at each call in turn, certificates that are
-//! cut or changed at each byte, and texts that pass a limit or miss a rule by little. What is expected was worked out by hand.
+//! The worked rows of the program, run over files and a sink in memory: of words, files and limits, of system texts, of certificates, of
+//! the search for a proof or a loop, and of terms that are reduced; and the table of hostile inputs: files and an output that fail at each
+//! call in turn, certificates that are cut or changed at each byte, and texts that pass a limit or miss a rule by little. What is expected
+//! was worked out by hand.
 //!
 //! This crate has tests alone: a library with tests of its own would be proved a second time with them. It is one crate, since a crate of
 //! tests over the program reads all that the program stands on before its first test.
@@ -16,6 +17,8 @@ mod order_rows;
 mod poly_rows;
 #[cfg(test)]
 mod prove_rows;
+#[cfg(test)]
+mod reduce_rows;
 #[cfg(test)]
 mod run_rows;
 #[cfg(test)]

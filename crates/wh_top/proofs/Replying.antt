@@ -4,16 +4,18 @@ use Rattle.wh_types.specs.Limits.{certificate_limit}
 use Rattle.wh_types.specs.Outcome.{MatchOr}
 use Rattle.wh_types.specs.declared.want.Or.{Or}
 use Rattle.wh_types.specs.declared.want.Or.TheVariants.{NoMemory, Because}
-use Rattle.wh_words.specs.Words.{Bounds, prove, show, gen}
+use Rattle.wh_words.specs.Words.{Bounds, prove, show, gen, reduce}
 use Rattle.wh_answer.specs.declared.report.Report.{Report}
 use Rattle.wh_answer.specs.Texts.{line}
 use Rattle.wh_prover.specs.declared.answer.Options.{Options}
 use Rattle.wh_judging.specs.declared.status.Status.{Status}
 use Rattle.wh_judging.specs.declared.status.Status.TheVariants.{Answered}
-use Rattle.wh_judging.specs.Outcomes.{Shelves, BeginsWith, ToldSystem, StandsBySystem}
+use Rattle.wh_judging.specs.Outcomes.{Shelves, BeginsWith, ToldSystem, ToldText, StandsBySystem}
 use Rattle.wh_judging.specs.Texts.{IsShown, TellsMade}
 use Rattle.wh_top.specs.Generating.{ShowsGenerated, StandsForGenerated}
 use Rattle.wh_top.specs.Proving.{IsFoundText, StandsForSearch}
+use Rattle.wh_top.specs.Reducing.{StandsForReduction}
+use Rattle.wh_reducing.specs.Telling.{TellsReduced}
 use Rattle.wh_top.specs.Run.{Replies}
 use Rattle.wh_top.specs.Words.{options_of}
 
@@ -64,3 +66,16 @@ generated_replies s n (Ok shown) status text shows (answered, is) = inl (subst�
 generated_replies s n (Err (Because report)) status text stands (status_is, text_is) =
     inr (record { report = report; stands = stands; status_is = status_is; text_is = text_is })
 generated_replies s n (Err NoMemory) status text stands none = absurd none
+
+-- and of a term that is reduced
+pub reduced_replies : (s : Shelves) (file term : List ℕ) (n : ℕ) (made : Result (List ℕ) (Or Report)) (status : Status) (text : List ℕ)
+    → MatchOr made (λ t. ToldText (s.held file) (λ d. TellsReduced d term n t)) (StandsForReduction s file term)
+    → IfOk made (BeginsWith (codes "REDUCED ")) → TellsMade made status text → Replies s (reduce file term n) status text
+reduced_replies s file term n (Ok reduced) status text told begins (answered, is) = inl (record {
+  told = subst (λ t. ToldText (s.held file) (λ d. TellsReduced d term n t)) (sym is) told;
+  begins = subst (BeginsWith (codes "REDUCED ")) (sym is) begins;
+  status_is = answered;
+})
+reduced_replies s file term n (Err (Because report)) status text stands begins (status_is, text_is) =
+    inr (record { report = report; stands = stands; status_is = status_is; text_is = text_is })
+reduced_replies s file term n (Err NoMemory) status text stands begins none = absurd none

@@ -13,6 +13,7 @@ ghost use Rattle.wh_judging.specs.declared.status.Status.TheVariants.{Answered};
 
 use crate::generating::generated;
 use crate::proving::prove_file;
+use crate::reducing::reduce_file;
 use std::alloc::{AllocError, Global};
 use wh_answer::{Report, bad_words_line, out_of_memory_line, print_answer};
 use wh_io::{Shelf, Sink, write_all_of};
@@ -80,6 +81,9 @@ fn reply_to<S: Shelf>(alloc: Global, shelf: &mut S, command: &Command) -> Result
         }
         Command::Show { file } => reply_with(alloc, show_file(alloc, shelf, file)),
         Command::Gen { n } => reply_with(alloc, generated(alloc, *n)),
+        Command::Reduce { file, term, steps } => {
+            reply_with(alloc, reduce_file(alloc, shelf, file, term, *steps))
+        }
     }
 }
 

@@ -1,12 +1,12 @@
 //! What the words ask for.
 
-ghost use Rattle.std.specs.Prelude.{ℕ, ◌≡◌, ◌≤◌, MatchOption, codes, map, string_bytes};
+ghost use Rattle.std.specs.Prelude.{ℕ, ◌≡◌, ◌≤◌, MatchOption, codes, map, string_bytes, unwrap_or};
 ghost use Rattle.std.specs.Fmt.{decimal};
 ghost use Rattle.wh_types.specs.Limits.{most_generated};
 ghost use Rattle.wh_words.specs.Answers.{Answers};
 ghost use Rattle.wh_words.specs.Asked.{bounds_of, request};
 ghost use Rattle.wh_words.specs.Kept.{AllWithin, SetsAll};
-ghost use Rattle.wh_words.specs.Words.{Asks, Request, gen};
+ghost use Rattle.wh_words.specs.Words.{Asks, Request, gen, steps, usual};
 
 use crate::items::read_items;
 use crate::kept::{Alone, Kept};
@@ -50,6 +50,15 @@ pub enum Command<'a> {
         /// The number: 1 to 200.
         n: u32,
     },
+    /// To reduce a term of a system.
+    Reduce {
+        /// The name of the system file.
+        file: &'a str,
+        /// The text of the term.
+        term: &'a str,
+        /// How many steps are taken at most: 0 to 10,000.
+        steps: u32,
+    },
 }
 
 /// What the words ask for; `None` exactly where they are none of the program's. It takes no memory.
@@ -79,6 +88,7 @@ fn asked<'a>(command: &str, kept: &Kept<'a>) -> Option<Command<'a>>
         "prove" => prove(kept),
         "show" => show(kept),
         "gen" => generate(kept),
+        "reduce" => reduce(kept),
         _ => None,
     }
 }
@@ -99,7 +109,7 @@ fn prove<'a>(kept: &Kept<'a>) -> Option<Command<'a>>
     ensures { Answers (codes "prove") kept.now result }
 {
     match kept.alone {
-        Alone::One(file) => Some(Command::Prove {
+        Alone::One(file) if kept.steps.is_none() => Some(Command::Prove {
             file,
             limits: bounds(kept),
         }),
@@ -138,6 +148,29 @@ fn generated(word: &str) -> Option<Command<'static>>
     } else {
         None
     }
+}
+
+// `reduce FILE TERM`, with `--steps N`.
+fn reduce<'a>(kept: &Kept<'a>) -> Option<Command<'a>>
+    requires { AllWithin kept.now }
+    ensures { Answers (codes "reduce") kept.now result }
+{
+    match kept.alone {
+        Alone::Two(file, term) if kept.sets_no_bounds() => Some(Command::Reduce {
+            file,
+            term,
+            steps: steps(kept),
+        }),
+        _ => None,
+    }
+}
+
+// How many steps are set, or usual where none are.
+fn steps(kept: &Kept<'_>) -> u32
+    requires { AllWithin kept.now }
+    ensures { result ≡ unwrap_or kept.now.steps (usual steps) }
+{
+    kept.steps.unwrap_or(1_000) as u32
 }
 
 // What is set, or usual where nothing is.
