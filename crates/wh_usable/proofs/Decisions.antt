@@ -91,8 +91,8 @@ module _ (rules : List RewriteRule) (listed : List ℕ) where
   rules_decided : (f : ℕ) → Decided (ListsRulesOf rules listed f)
   rules_decided f = elim (some_below (IsUnlisted f) (unlisted_decided f) (length rules)) [
     | inl (n, less, (r, at, heads, missing)) ↦ inr (λ lists. missing (lists n r at heads))
-    | inr none ↦
-        inl (λ n r at heads. not_refuted (listed_decided n) (λ missing. none (n, slice_get_within rules n r at, (r, at, heads, missing))))
+    | inr all ↦
+        inl (λ n r at heads. not_refuted (listed_decided n) (λ missing. all (n, slice_get_within rules n r at, (r, at, heads, missing))))
   ]
 
   -- all rules of each symbol in one of the trees are listed
@@ -143,22 +143,22 @@ sort_decided S r = sort_of_sides S r (typed_decided S r.metas r.left []) (typed_
 
 closed_rule_decided : (S : Symbols) (rules : List RewriteRule) (listed : List ℕ) (r : RewriteRule) → Decided (IsClosedRule S rules listed r)
 closed_rule_decided S rules listed r =
-    decided_by (λ (of_a_sort, left, right, calls). record { of_a_sort = of_a_sort; left = left; right = right; calls = calls })
-    (λ is. (is.of_a_sort, is.left, is.right, is.calls))
+    decided_by (λ (of_a_sort, (left, (right, calls))). record { of_a_sort = of_a_sort; left = left; right = right; calls = calls })
+    (λ is. (is.of_a_sort, (is.left, (is.right, is.calls))))
     (both_decided (sort_decided S r) (both_decided (flat_decided S r.metas r.left)
     (both_decided (flat_decided S r.metas r.right) (calls_decided rules listed r.right))))
 
 closed_pair_decided : (S : Symbols) (rules : List RewriteRule) (listed : List ℕ) (p : PairData) → Decided (IsClosedPair S rules listed p)
 closed_pair_decided S rules listed p =
     decided_by
-    (λ (left_head, right_head, left, right, calls). record {
+    (λ (left_head, (right_head, (left, (right, calls)))). record {
       left_head = left_head;
       right_head = right_head;
       left = left;
       right = right;
       calls = calls;
     })
-    (λ is. (is.left_head, is.right_head, is.left, is.right, is.calls))
+    (λ is. (is.left_head, (is.right_head, (is.left, (is.right, is.calls)))))
     (both_decided (sorts_decided (marked_types S rules p.left_fun)) (both_decided (sorts_decided (marked_types S rules p.right_fun))
     (both_decided (flat_trees_decided S p.metas p.left) (both_decided (flat_trees_decided S p.metas p.right)
     (each_calls_decided rules listed p.right)))))
@@ -192,7 +192,7 @@ module _ {A : Type 0} (Q : A → Type 0) (decided : (x : A) → Decided (Q x)) (
             before = λ k m x less at_k at_m. not_refuted (at_decided m) (before k m less at_k) x at_m;
           },
         )
-    | inr none ↦ inl (λ n found. not_refuted (at_decided n) (none n found))
+    | inr all ↦ inl (λ n found. not_refuted (at_decided n) (all n found))
   ]
 
 neither_below : (m n : ℕ) → (m < n → ⊥) → (n < m → ⊥) → m ≡ n
