@@ -11,11 +11,13 @@ use Rattle.wh_hopoly.specs.Evaluation.{Interpretation}
 use Rattle.wh_hopoly.specs.Erase.{transfers}
 use Rattle.wh_hopoly.specs.Moves.{Transfer}
 use Rattle.wh_hopoly.specs.declared.expression.Move.{Move}
-use Rattle.wh_reduction.specs.TaskData.{numbers_from}
+use Rattle.wh_pairs.specs.PairData.{PairData}
+use Rattle.wh_reduction.specs.TaskData.{TaskData, numbers_from, task_over}
 use Rattle.wh_reduction.specs.ReductionPair.{Evidence}
 use Rattle.wh_polycheck.specs.Marks.{Mark}
 use Rattle.wh_polycheck.specs.Readings.{ReadingsData}
 use Rattle.wh_subterm.specs.Projections.{Chosen}
+use Rattle.wh_usable.specs.Closed.{AreRulesInOrder}
 use Rattle.wh_proof.specs.Nodes.{Node, done, alone, blocks, subterm, poly, order}
 
 -- a line `arg` says this choice: its name is the name of the symbol (ours)
@@ -84,6 +86,14 @@ inferences_of rules pairs drop = record { of_rules = rules; of_pairs = pairs; dr
 abbrev pub covered_rules : Option (List ℕ) → ℕ → List ℕ
 covered_rules (Some listed) n = listed
 covered_rules None n = numbers_from 0 n
+
+-- these are rules of the system, each above the one before
+abbrev pub CoversRules : SystemData → Option (List ℕ) → Type 0
+CoversRules d usable = AreRulesInOrder (length d.rules) (covered_rules usable (length d.rules))
+
+-- what such a node has to show of the set
+abbrev pub poly_task : SystemData → List PairData → List ℕ → Option (List ℕ) → TaskData
+poly_task d ps set usable = task_over d.symbols d.rules ps set (covered_rules usable (length d.rules))
 
 -- the lines of a node say this node
 abbrev pub SaysNode : SystemData → w.Node → Node → Type 0

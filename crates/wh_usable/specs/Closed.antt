@@ -64,6 +64,10 @@ AreClosedPairs T = (p : PairData) → InSet T.pairs T.set p → IsClosedPair T.s
 abbrev pub IsClosed : TaskData → Type 0
 IsClosed T = CoversAll T ⊎ (AreClosedRules T × AreClosedPairs T)
 
+-- the numbers are those of rules, of which there are so many, each above the one before
+abbrev pub AreRulesInOrder : ℕ → List ℕ → Type 0
+AreRulesInOrder count numbers = IsIncreasing numbers × All (λ n. n < count) numbers
+
 -- the rules that are to be covered are rules, listed in increasing order, and closed for the set
 pub record IsUsable (T : TaskData) : Type 0 where
   pub increasing : IsIncreasing T.covered
