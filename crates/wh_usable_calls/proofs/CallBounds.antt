@@ -71,11 +71,13 @@ module _ (S : Symbols) (rules : List RewriteRule) (listed : List ℕ) (symbols :
     list_numbers [] F (t ∷ ts) (w ∷ vs) n flat p v fed = absurd fed
     list_numbers (sort s ∷ cs) F (t ∷ ts) (w ∷ vs) n flat (typed_more p ps) (of_more v rest_values) (k, b, rest) =
         let (ν, first) = side_numbers S rules listed symbols M g t s k flat.0 p (subst (λ w. IsBound w k) (value_is v).1 b) in
-        let (μ, others) = list_numbers cs (F k) ts vs n flat.1 ps rest_values rest in
-        (λ z. ν z + μ z, λ z o. elim o [
-          | inl i ↦ bounds_more S rules listed symbols (ν z + μ z) (omega arith) (first z i)
-          | inr i ↦ bounds_more S rules listed symbols (ν z + μ z) (omega arith) (others z i)
-        ])
+        let (μ, others) = list_numbers cs (F k) ts vs n flat.1 ps rest_values rest in (
+          λ z. ν z + μ z,
+          λ z o. elim o [
+            | inl i ↦ bounds_more S rules listed symbols (ν z + μ z) (omega arith) (first z i)
+            | inr i ↦ bounds_more S rules listed symbols (ν z + μ z) (omega arith) (others z i)
+          ],
+        )
     list_numbers ((a ⇒ b) ∷ cs) F (t ∷ ts) (w ∷ vs) n flat p v fed = absurd fed
 
     -- and such numbers can be made as small as the arguments tell
@@ -98,9 +100,10 @@ module _ (S : Symbols) (rules : List RewriteRule) (listed : List ℕ) (symbols :
           λ z. le_trans (second z) (first z),
           bodies_second,
           le_trans
-          (fed_le S M (by_numbers_of symbols χ) (numbers_mono symbols χ) (tms_of ts) [] all_nothing all_nothing nothings_mono nothings_mono
-          (le_valuation_same all_nothing) cs (sort 0) (F x) (F k) (mono.0 x tt) (mono.0 k tt) (mono.1 x k tt tt less))
-          le,
+              (fed_le S M (by_numbers_of symbols χ) (numbers_mono symbols χ) (tms_of ts) [] all_nothing all_nothing nothings_mono
+              nothings_mono
+              (le_valuation_same all_nothing) cs (sort 0) (F x) (F k) (mono.0 x tt) (mono.0 k tt) (mono.1 x k tt tt less))
+              le,
         )
     list_lowers P ν ((a ⇒ b) ∷ cs) F (t ∷ ts) (w ∷ vs) n bodies mono flat p v fed = absurd fed
 

@@ -1,5 +1,5 @@
--- Rules with a number of the list are covered, also over the interpretations with those of the marked symbols behind them; and what a marked
--- side is worth is what its polynomial means.
+-- Rules with a number of the list are covered, also over the interpretations with those of the marked symbols behind
+-- them; and what a marked side is worth is what its polynomial means.
 use Rattle.std.proofs.Common.{◌≡◌, ℕ, ◌<◌, List, [], ◌∷◌, ◌++◌, map, length, Some, slice_get, get_or, Contains, refl, ap, ◌∙◌, sym, subst}
 use Rattle.std.proofs.lemmas.Option.{none-some, slice_get_within, slice_get-get_or}
 use Rattle.wh_types.specs.Ty.{Ty, sort}
@@ -71,7 +71,8 @@ module _ (S : Symbols) (symbols : List Interpretation) (interprets : Interprets 
       let x = side_applied (length Γ) (symbol k) ts in
       let (typed, e) = marked_type M k cs ts h in
       let (i, j, q) = h.interpreted in
-      let c : type_of symbols Γ (symbol k) ≡ arrows cs (sort 0) = ap (λ (i : Interpretation). i.kind) (interpretation_is symbols k i j) ∙ q in
+      let c : type_of symbols Γ (symbol k) ≡ arrows cs (sort 0) =
+      ap (λ (i : Interpretation). i.kind) (interpretation_is symbols k i j) ∙ q in
       sym (mean_applied S M symbols interprets normal m means (length Γ) refl ρ m.of_metas
       (record { metas = λ z d h. refl; binders = λ i b h. absurd (none-some b h) }) (symbol k) (sort 0) c h.typed h.closed e
       ∙ ap (λ f. fed S M m [] ρ cs (sort 0) f ts)

@@ -63,10 +63,13 @@ module _ (S : Symbols) (rules : List RewriteRule) (listed : List ℕ) (symbols :
   FromBound s n t = GivesNumbers t → Typed S M [] t (sort s) → IsBound (value g t) n → HasNumbers (λ z. Occurs z t)
 
   meta_numbers : (s n z : ℕ) → IsNullary M z → FromBound s n (meta z none)
-  meta_numbers s n z flat gives p b = (λ y. n, λ y o. elim o [
-    | inl e ↦ subst (λ y. IsBound (value g (meta y none)) n) e b
-    | inr never ↦ absurd never
-  ])
+  meta_numbers s n z flat gives p b = (
+    λ y. n,
+    λ y o. elim o [
+      | inl e ↦ subst (λ y. IsBound (value g (meta y none)) n) e b
+      | inr never ↦ absurd never
+    ],
+  )
 
   headed_numbers : (s n : ℕ) (t : Tm) → IsHeaded t → IsFlatTree S M t → FromBound s n t
   headed_numbers s n t h flat gives p b =
@@ -79,10 +82,13 @@ module _ (S : Symbols) (rules : List RewriteRule) (listed : List ℕ) (symbols :
       flat_cases S M (FromBound s n) (meta_numbers s n) (headed_numbers s n) t (sort s) flat p gives p b
 
   numbers_both : (t u : Tm) → HasNumbers (λ z. Occurs z t) → HasNumbers (λ z. Occurs z u) → HasNumbers (λ z. Occurs z (app t u))
-  numbers_both t u (ν, left) (μ, right) = (λ z. ν z + μ z, λ z o. elim o [
-    | inl i ↦ bounds_more S rules listed symbols (ν z + μ z) (omega arith) (left z i)
-    | inr i ↦ bounds_more S rules listed symbols (ν z + μ z) (omega arith) (right z i)
-  ])
+  numbers_both t u (ν, left) (μ, right) = (
+    λ z. ν z + μ z,
+    λ z o. elim o [
+      | inl i ↦ bounds_more S rules listed symbols (ν z + μ z) (omega arith) (left z i)
+      | inr i ↦ bounds_more S rules listed symbols (ν z + μ z) (omega arith) (right z i)
+    ],
+  )
 
   reading_numbers : (t : Tm) → GivesNumbers t
   unfolding value
@@ -181,8 +187,8 @@ module _ (S : Symbols) (rules : List RewriteRule) (listed : List ℕ) (symbols :
         λ z. le_trans (second z) (first z),
         bodies_second,
         subst (λ v. Le B v (G n)) (sym (app_value S M symbols t u χ (sort s) B argument))
-        (le_then B (f x) (k x) (G n) (side_below S M symbols t (sort s ⇒ B) χ μ second flat.0 function x tt)
-        (le_then B (k x) (G x) (G n) (le x tt) ((reads_mono S rules listed symbols r).1 x n tt tt under))),
+            (le_then B (f x) (k x) (G n) (side_below S M symbols t (sort s ⇒ B) χ μ second flat.0 function x tt)
+            (le_then B (k x) (G x) (G n) (le x tt) ((reads_mono S rules listed symbols r).1 x n tt tt under))),
       )
 
   -- the side is worth no more than the bound

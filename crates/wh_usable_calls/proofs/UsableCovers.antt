@@ -66,7 +66,8 @@ occurs_right : (z : ℕ) (ts us : List Tm) → OccursIn z (tms_of us) → Occurs
 occurs_right z [] us o = o
 occurs_right z (t ∷ ts) us o = inr (occurs_right z ts us o)
 
-module _ (T : TaskData) (R : ReadingsData) (E : Evidence (List Transfer)) (is : IsCovering T R E) (made : AreWellMade T.symbols T.rules) where
+module _ (T : TaskData) (R : ReadingsData) (E : Evidence (List Transfer)) (is : IsCovering T R E)
+    (made : AreWellMade T.symbols T.rules) where
   abbrev S : Symbols
   S = T.symbols
 
@@ -113,12 +114,13 @@ module _ (T : TaskData) (R : ReadingsData) (E : Evidence (List Transfer)) (is : 
       (λ x B. mono_nothing B)
 
   -- a step in an argument
-  measured_step : AreClosedRules T → (c d : MarkedCall) (n : ℕ) → measures c n → ArgumentsStep (Step T.rules) c d → HasNoMore by_numbers measures n d
+  measured_step : AreClosedRules T → (c d : MarkedCall) (n : ℕ) → measures c n → ArgumentsStep (Step T.rules) c d
+      → HasNoMore by_numbers measures n d
   measured_step closed c d n fed step = (
     n,
     subst (λ f. IsFed (types_of f) (read_as f) d.arguments n) (sym step.symbol)
-    (step_fed S T.rules T.covered all (covered_step closed)
-    (types_of c.symbol) (read_as c.symbol) c.arguments d.arguments n fed step.arguments),
+        (step_fed S T.rules T.covered all (covered_step closed)
+        (types_of c.symbol) (read_as c.symbol) c.arguments d.arguments n fed step.arguments),
     le_nat n,
   )
 
@@ -201,10 +203,13 @@ module _ (T : TaskData) (R : ReadingsData) (E : Evidence (List Transfer)) (is : 
     both_numbers : (g : ℕ → Body) → HasNumbers S T.rules T.covered all p.metas g (λ z. OccursIn z (tms_of p.left))
         → HasNumbers S T.rules T.covered all p.metas g (λ z. OccursIn z (tms_of p.right))
         → HasNumbers S T.rules T.covered all p.metas g Stands
-    both_numbers g (ν, left) (χ, right) = (λ z. ν z + χ z, λ z o. elim o [
-      | inl i ↦ bounds_more S T.rules T.covered all (ν z + χ z) (omega arith) (left z i)
-      | inr i ↦ bounds_more S T.rules T.covered all (ν z + χ z) (omega arith) (right z i)
-    ])
+    both_numbers g (ν, left) (χ, right) = (
+      λ z. ν z + χ z,
+      λ z o. elim o [
+        | inl i ↦ bounds_more S T.rules T.covered all (ν z + χ z) (omega arith) (left z i)
+        | inr i ↦ bounds_more S T.rules T.covered all (ν z + χ z) (omega arith) (right z i)
+      ],
+    )
 
     -- numbers at which the left side is worth no more than a measure of the one call, and the right side measures the other
     lowered : (c d : MarkedCall) (n : ℕ) → PairStep S (Step T.rules) p c d → measures c n
@@ -225,8 +230,8 @@ module _ (T : TaskData) (R : ReadingsData) (E : Evidence (List Transfer)) (is : 
           μ,
           under,
           subst (λ f. IsFed (types_of f) (read_as f) d.arguments (right_worth μ)) (sym s.right_symbol)
-          (list_fed S T.rules T.covered all p.metas s.bodies μ (types_of p.right_fun) (read_as p.right_fun) p.right d.arguments
-          pair.right_head pair.right sides.right_typed pair.calls (λ z o. fits z (inr o)) s.right),
+              (list_fed S T.rules T.covered all p.metas s.bodies μ (types_of p.right_fun) (read_as p.right_fun) p.right d.arguments
+              pair.right_head pair.right sides.right_typed pair.calls (λ z o. fits z (inr o)) s.right),
         )
 
   -- where the calls by the pairs that are not dropped end, the calls of the set do
@@ -237,7 +242,8 @@ module _ (T : TaskData) (R : ReadingsData) (E : Evidence (List Transfer)) (is : 
     together = numbers_together;
     measured = λ c d t s. let (n, at) = measured_call pairs_closed c d t s in (n, at, numbers_end n);
     arguments = λ c d n t at s. measured_step rules_closed c d n at s;
-    pairs = λ p c d n (i, inside, at) t has s. let (ms, strict, dropped, shown) = pair_shown (by_moves S T.rules R) T E is.lines i p inside at in
+    pairs = λ p c d n (i, inside, at) t has s.
+        let (ms, strict, dropped, shown) = pair_shown (by_moves S T.rules R) T E is.lines i p inside at in
         by_line i p ms strict c d n inside at dropped shown has s;
   })
     where

@@ -38,7 +38,8 @@ module _ (S : Symbols) (rules : List RewriteRule) (listed : List ℕ) (symbols :
     -- the functional is what the interpretation of the symbol that heads the call gives at bounds of the arguments (ours)
     pub data Reads : Tm → (A : Ty) → Sem A → Type 0 where
       reads_symbol : {f : ℕ} {A : Ty} → type_at S.funs f ≡ A → Reads (fun f) A (of_interpretations symbols f A)
-      reads_application : {t u : Tm} {s n : ℕ} {B : Ty} {F : Sem (sort s ⇒ B)} → Reads t (sort s ⇒ B) F → Bounds u n → Reads (app t u) B (F n)
+      reads_application : {t u : Tm} {s n : ℕ} {B : Ty} {F : Sem (sort s ⇒ B)} → Reads t (sort s ⇒ B) F → Bounds u n
+          → Reads (app t u) B (F n)
 
   -- the number is at least what a function of arguments of sorts gives at bounds of the terms (ours)
   abbrev pub BoundsFed : (cs : List Ty) → Sem (arrows cs (sort 0)) → List Tm → ℕ → Type 0
