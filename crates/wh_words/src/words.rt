@@ -6,7 +6,7 @@ ghost use Rattle.wh_types.specs.Limits.{most_generated};
 ghost use Rattle.wh_words.specs.Answers.{Answers};
 ghost use Rattle.wh_words.specs.Asked.{bounds_of, request};
 ghost use Rattle.wh_words.specs.Kept.{AllWithin, SetsAll};
-ghost use Rattle.wh_words.specs.Words.{Asks, Request, gen, steps, usual};
+ghost use Rattle.wh_words.specs.Words.{Asks, Request, gen, steps, tries, usual};
 
 use crate::items::read_items;
 use crate::kept::{Alone, Kept};
@@ -59,6 +59,13 @@ pub enum Command<'a> {
         /// How many steps are taken at most: 0 to 10,000.
         steps: u32,
     },
+    /// To refute that a projection lets a pair go of the set on which the search for a proof is stuck.
+    Refute {
+        /// The name of the system file.
+        file: &'a str,
+        /// How many clauses a finder may learn for one set: 0 to 1,000,000.
+        tries: u64,
+    },
 }
 
 /// What the words ask for; `None` exactly where they are none of the program's. It takes no memory.
@@ -89,6 +96,7 @@ fn asked<'a>(command: &str, kept: &Kept<'a>) -> Option<Command<'a>>
         "show" => show(kept),
         "gen" => generate(kept),
         "reduce" => reduce(kept),
+        "refute" => refute(kept),
         _ => None,
     }
 }
@@ -173,13 +181,34 @@ fn steps(kept: &Kept<'_>) -> u32
     kept.steps.unwrap_or(1_000) as u32
 }
 
+// `refute FILE`, with `--tries N`.
+fn refute<'a>(kept: &Kept<'a>) -> Option<Command<'a>>
+    requires { AllWithin kept.now }
+    ensures { Answers (codes "refute") kept.now result }
+{
+    match kept.alone {
+        Alone::One(file) if kept.sets_tries_alone() => Some(Command::Refute {
+            file,
+            tries: tries(kept),
+        }),
+        _ => None,
+    }
+}
+
+// How many tries are set, or usual where none are.
+fn tries(kept: &Kept<'_>) -> u64
+    ensures { result ≡ unwrap_or kept.now.tries (usual tries) }
+{
+    kept.tries.unwrap_or(10_000)
+}
+
 // What is set, or usual where nothing is.
 fn bounds(kept: &Kept<'_>) -> Limits
     requires { AllWithin kept.now }
     ensures { SetsAll kept.now (bounds_of result) }
 {
     Limits {
-        tries: kept.tries.unwrap_or(10_000),
+        tries: tries(kept),
         depth: kept.depth.unwrap_or(6) as u32,
         visited: kept.visited.unwrap_or(500) as u32,
     }
