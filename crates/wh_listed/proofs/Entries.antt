@@ -24,7 +24,7 @@ pub none_yet : (n : ℕ) (all : List (List Literal)) (given : ℕ) → given ≤
 none_yet n all given within = record {
   good = λ j e w f. absurd (omega (arith, w));
   clauses = append-nil (take given all);
-  count = length-take-le given all within;
+  count = omega (arith, length-take-le given all within);
   hints = λ e h. absurd (omega (arith, h.1));
 }
 
@@ -66,10 +66,10 @@ one_more n given all place list x within is clause few s = record {
 }
 
 -- at last the empty clause
-pub with_last : (n : ℕ) (given all : List (List Literal)) (list : List Entry) (x : Entry) → IsGoodEntry n all x → x.clause ≡ []
-    → SoFar n given all (length all) list → IsRefutation n given (list ++ x ∷ [])
-with_last n given all list x is clause s = record {
-  good = good_more n given list x s.good (subst (λ c. IsGoodEntry n c x) (sym (s.clauses ∙ take_all (length all) all (omega arith))) is);
+pub with_last : (n : ℕ) (given all : List (List Literal)) (place : ℕ) (list : List Entry) (x : Entry) → length all ≤ place → IsGoodEntry n all x
+    → x.clause ≡ [] → SoFar n given all place list → IsRefutation n given (list ++ x ∷ [])
+with_last n given all place list x end is clause s = record {
+  good = good_more n given list x s.good (subst (λ c. IsGoodEntry n c x) (sym (s.clauses ∙ take_all place all end)) is);
   empty = (
     length list,
     length_push list x,

@@ -28,12 +28,14 @@ pub fn solve_listed(alloc: Global, formula: &Formula, budget: u64) -> Result<Lis
     ensures { IfOk result (IsListed formula.now.variables formula.now.clauses budget) }
 {
     let given = formula.clauses.as_slice().len();
+    let clauses = copy_clauses(alloc, &formula.clauses, 0)?;
     let copy = Formula {
         variables: formula.variables,
-        clauses: copy_clauses(alloc, &formula.clauses, 0)?,
+        clauses,
     };
     let mut learner = Learner::new(alloc, copy, budget)?;
-    match learner.next()? {
+    let next = learner.next()?;
+    match next {
         Next::Model(values) => Ok(Listed::Sat(values)),
         Next::Exhausted => {
             let list = refutation_of(alloc, learner.formula(), given)?;

@@ -49,9 +49,10 @@ pub fn refute(
     requires tries { options.now.tries ≤ 1000000 }
     ensures { IfOk result (IsVerdict (system_data system.now) (pairs_data pairs.now) options.now) }
 {
-    match prove(alloc, system, pairs, options)? {
+    let answer = prove(alloc, system, pairs, options)?;
+    match answer {
         Answer::Maybe(Cause::Stuck(set)) => of_set(alloc, system, pairs, set, options.tries),
-        answer => Ok(Verdict::Unstuck(answer)),
+        other => Ok(Verdict::Unstuck(other)),
     }
 }
 
@@ -72,7 +73,8 @@ fn of_set(
     if formula.clauses.as_slice().len() > MOST_CLAUSES {
         return Err(AllocError);
     }
-    match solve_listed(alloc, &formula, tries)? {
+    let listed = solve_listed(alloc, &formula, tries)?;
+    match listed {
         Listed::Sat(_) => unreachable!(),
         Listed::Unsat(list) => {
             confirm(alloc, &formula, &list)?;
