@@ -1,5 +1,9 @@
 -- What the search for a proof and for a refutation come to is told of the system file.
-use Rattle.std.proofs.Common.{◌≡◌, ℕ, inl, inr, List, [], ◌∷◌, ◌++◌, length, codes, Result, Ok, Err, IfOk, sym, ap, ◌∙◌, subst, take, get_or}
+use Rattle.std.proofs.Common.{◌≡◌, ℕ, suc, ◌+◌, ◌<◌, ◌≤◌, inl, inr, List, [], ◌∷◌, ◌++◌, length, drop, get_or, Result, Ok, Err, IfOk, sym, ap, ◌∙◌, arith}
+use Rattle.std.specs.Fmt.{decimal}
+use Rattle.std.proofs.lemmas.List.{append_assoc, length-drop, nil_from_length}
+use Rattle.std.proofs.Math.Seq.{drop-cons}
+use Rattle.wh_text.specs.Chars.{line_feed, space}
 use Rattle.std.specs.declared.alloc.AllocError.{AllocError}
 use Rattle.wh_types.specs.Outcome.{MatchOr}
 use Rattle.wh_types.specs.declared.want.Or.{Or}
@@ -17,7 +21,7 @@ use Rattle.wh_refuting.specs.declared.refuting.Verdict.{Verdict}
 use Rattle.wh_refuting.specs.declared.refuting.Verdict.TheVariants.{Refuted, Unrefuted, Unstuck}
 use Rattle.wh_judging.specs.Outcomes.{Shelves, IsProblemIn, ToldSystem, StandsBySystem}
 use Rattle.wh_judging.proofs.Standing.{told_with}
-use Rattle.wh_top.specs.Refuting.{AnswerIsThere, BeginsRefuted, TellsRefuted, VerdictIsThere, refuted_text}
+use Rattle.wh_top.specs.Refuting.{AnswerIsThere, BeginsRefuted, TellsRefuted, VerdictIsThere, numbers_text, refuted_text}
 use Rattle.wh_top.proofs.Causes.{reason_there}
 
 -- what an answer or a verdict names is there
@@ -48,3 +52,22 @@ told_begins d ps o text (v, is, same) = begins_by d v text same
 pub refuted_told : (s : Shelves) (file : List ℕ) (o : Options) (d : SystemData) (ps : List PairData) (text : List ℕ)
     → IsProblemIn (s.held file) d ps → TellsRefuted d ps o text → ToldSystem (s.held file) (λ e es. TellsRefuted e es o text)
 refuted_told s file o d ps text is tells = told_with (s.held file) d ps (λ e es. TellsRefuted e es o text) is tells
+
+-- one number more
+pub one_number : (text more whole numbers : List ℕ) (i n : ℕ) → i < length numbers → n ≡ get_or numbers i 0
+    → more ≡ (text ++ space ∷ []) ++ decimal n → text ++ numbers_text (drop i numbers) ≡ whole
+    → more ++ numbers_text (drop (i + 1) numbers) ≡ whole
+one_number text more whole numbers i n within is pushed before =
+    let rest = numbers_text (drop (i + 1) numbers) in
+    let one : suc i ≡ i + 1 = omega arith in
+    let split : drop i numbers ≡ n ∷ drop (i + 1) numbers =
+    drop-cons numbers i 0 within ∙ ap (λ m. m ∷ drop (suc i) numbers) (sym is) ∙ ap (λ k. n ∷ drop k numbers) one in
+    ap (λ m. m ++ rest) pushed ∙ append_assoc (text ++ space ∷ []) (decimal n) rest ∙ append_assoc text (space ∷ []) (decimal n ++ rest)
+    ∙ ap (λ l. text ++ numbers_text l) (sym split) ∙ before
+
+-- and the end of the line
+pub no_number : (text whole numbers : List ℕ) (i : ℕ) → length numbers ≤ i → text ++ numbers_text (drop i numbers) ≡ whole
+    → text ++ line_feed ∷ [] ≡ whole
+no_number text whole numbers i end before =
+    let none : drop i numbers ≡ [] = nil_from_length (drop i numbers) (omega (arith, end, length-drop i numbers)) in
+    ap (λ l. text ++ numbers_text l) (sym none) ∙ before
