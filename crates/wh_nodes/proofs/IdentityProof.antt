@@ -13,11 +13,12 @@ use Rattle.wh_pairs.proofs.MemberLemmas.{none_there, at_head, behind}
 use Rattle.wh_graph.specs.May.{Follows}
 use Rattle.wh_graph.specs.Components.{StandsAt, IsIn, Partition}
 use Rattle.wh_graph.specs.Blocks.{AreBlocks}
+use Rattle.wh_usable.specs.Closed.{IsUsable}
 use Rattle.wh_proof.specs.Nodes.{no_sets, more_sets, by_done, by_alone, by_blocks, by_poly}
 use Rattle.wh_pairs.specs.Sets.{IsSetOf, IsKept}
 use Rattle.wh_proof.specs.Proves.{Proves, all_proved, one_proved}
 use Rattle.wh_nodes.specs.MapSystem.{nat}
-use Rattle.wh_nodes.specs.IdentitySystem.{unary, identity_symbols, identity_rule, count_rule, identity_system, count_pair, call_pair, identity_pairs, identity_nodes}
+use Rattle.wh_nodes.specs.IdentitySystem.{unary, identity_symbols, identity_rule, count_rule, identity_system, count_pair, call_pair, identity_pairs, count_task, identity_nodes}
 use Rattle.wh_pairs.proofs.FewLemmas.{in_one, get_one, each_of_two, get_two}
 use Rattle.wh_nodes.proofs.IdentityCovers.{count_covering}
 
@@ -142,10 +143,18 @@ none_kept = record {
   each = λ n. ((λ never. absurd (none_there n never)), (λ (there, kept). absurd (kept there)));
 }
 
+-- both rules are to be covered
+count_usable : IsUsable count_task
+count_usable = record {
+  increasing = (omega arith, tt);
+  are_rules = All-from_recursion (λ n. n < 2) (0 ∷ 1 ∷ []) (omega arith, (omega arith, tt));
+  closed = inl refl;
+}
+
 pub identity_proved : Proves identity_symbols identity_system.rules identity_pairs ((0 ∷ 1 ∷ []) ∷ []) identity_nodes
 identity_proved =
     one_proved (by_blocks blocks_are (more_sets (one_set 0) (more_sets (one_set 1) no_sets)))
-    (one_proved (by_poly count_covering refl none_kept) (one_proved by_done (one_proved (by_alone (none_follows 1)) all_proved)))
+    (one_proved (by_poly count_covering count_usable none_kept) (one_proved by_done (one_proved (by_alone (none_follows 1)) all_proved)))
 
 -- the set has all pairs
 pub both_pairs : (n : ℕ) → n < length identity_pairs → Contains (0 ∷ 1 ∷ []) n

@@ -42,7 +42,7 @@ pub record SetsNoBounds (kept : Kept) : Type 0 where
   pub depth : kept.depth ≡ None
   pub visited : kept.visited ≡ None
 
--- no number but that of tries is kept (ours)
+-- no number is kept but how many clauses a finder may learn (ours)
 pub record SetsTriesAlone (kept : Kept) : Type 0 where
   pub depth : kept.depth ≡ None
   pub visited : kept.visited ≡ None

@@ -62,7 +62,7 @@ impl<'a> Kept<'a> {
         self.tries.is_none() && self.depth.is_none() && self.visited.is_none()
     }
 
-    /// Whether no option stood but that for tries.
+    /// Whether no option stood but `--tries`.
     pub fn sets_tries_alone(&self) -> bool
         ensures { IsTrue result ↔ SetsTriesAlone self.now }
     {

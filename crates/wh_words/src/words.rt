@@ -59,11 +59,18 @@ pub enum Command<'a> {
         /// How many steps are taken at most: 0 to 10,000.
         steps: u32,
     },
-    /// To refute that a projection lets a pair go of the set on which the search for a proof is stuck.
+    /// To write a certificate in the second version of the format, where it is accepted.
+    Upgrade {
+        /// The name of the system file.
+        file: &'a str,
+        /// The name of the certificate file.
+        cert: &'a str,
+    },
+    /// To refute that a projection drops a pair, where a search for a proof is stuck.
     Refute {
         /// The name of the system file.
         file: &'a str,
-        /// How many clauses a finder may learn for one set: 0 to 1,000,000.
+        /// How many clauses a finder, or the refutation, may learn for one set: 0 to 1,000,000.
         tries: u64,
     },
 }
@@ -96,6 +103,7 @@ fn asked<'a>(command: &str, kept: &Kept<'a>) -> Option<Command<'a>>
         "show" => show(kept),
         "gen" => generate(kept),
         "reduce" => reduce(kept),
+        "upgrade" => upgrade(kept),
         "refute" => refute(kept),
         _ => None,
     }
@@ -173,12 +181,14 @@ fn reduce<'a>(kept: &Kept<'a>) -> Option<Command<'a>>
     }
 }
 
-// How many steps are set, or usual where none are.
-fn steps(kept: &Kept<'_>) -> u32
-    requires { AllWithin kept.now }
-    ensures { result ≡ unwrap_or kept.now.steps (usual steps) }
+// `upgrade FILE CERT`.
+fn upgrade<'a>(kept: &Kept<'a>) -> Option<Command<'a>>
+    ensures { Answers (codes "upgrade") kept.now result }
 {
-    kept.steps.unwrap_or(1_000) as u32
+    match kept.alone {
+        Alone::Two(file, cert) if kept.sets_none() => Some(Command::Upgrade { file, cert }),
+        _ => None,
+    }
 }
 
 // `refute FILE`, with `--tries N`.
@@ -189,17 +199,25 @@ fn refute<'a>(kept: &Kept<'a>) -> Option<Command<'a>>
     match kept.alone {
         Alone::One(file) if kept.sets_tries_alone() => Some(Command::Refute {
             file,
-            tries: tries(kept),
+            tries: clauses(kept),
         }),
         _ => None,
     }
 }
 
-// How many tries are set, or usual where none are.
-fn tries(kept: &Kept<'_>) -> u64
+// How many clauses are set, or usual where none are.
+fn clauses(kept: &Kept<'_>) -> u64
     ensures { result ≡ unwrap_or kept.now.tries (usual tries) }
 {
     kept.tries.unwrap_or(10_000)
+}
+
+// How many steps are set, or usual where none are.
+fn steps(kept: &Kept<'_>) -> u32
+    requires { AllWithin kept.now }
+    ensures { result ≡ unwrap_or kept.now.steps (usual steps) }
+{
+    kept.steps.unwrap_or(1_000) as u32
 }
 
 // What is set, or usual where nothing is.
@@ -208,7 +226,7 @@ fn bounds(kept: &Kept<'_>) -> Limits
     ensures { SetsAll kept.now (bounds_of result) }
 {
     Limits {
-        tries: tries(kept),
+        tries: kept.tries.unwrap_or(10_000),
         depth: kept.depth.unwrap_or(6) as u32,
         visited: kept.visited.unwrap_or(500) as u32,
     }
