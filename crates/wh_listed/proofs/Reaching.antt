@@ -48,15 +48,15 @@ apart_push u l apart other i j d ij w same = elim (cases_lt j (length u)) [
   | inl before ↦
       let early : i < length u = omega (arith, ij, before) in
       apart i j d ij before
-          (sym (ap (λ (x : Literal). x.variable) (get_or_append_left u (l ∷ []) d i early)) ∙ same
-          ∙ ap (λ (x : Literal). x.variable) (get_or_append_left u (l ∷ []) d j before))
+      (sym (ap (λ (x : Literal). x.variable) (get_or_append_left u (l ∷ []) d i early)) ∙ same
+      ∙ ap (λ (x : Literal). x.variable) (get_or_append_left u (l ∷ []) d j before))
   | inr behind ↦
       let early : i < length u = omega (arith, ij, w, length_push u l) in
       let last : get_or (u ++ l ∷ []) j d ≡ l =
       ap (λ k. get_or (u ++ l ∷ []) k d) (omega (arith, w, behind, length_push u l)) ∙ get_or-append_seam u l [] d in
       other i d early
-          (sym (ap (λ (x : Literal). x.variable) (get_or_append_left u (l ∷ []) d i early)) ∙ same
-          ∙ ap (λ (x : Literal). x.variable) last)
+      (sym (ap (λ (x : Literal). x.variable) (get_or_append_left u (l ∷ []) d i early)) ∙ same
+      ∙ ap (λ (x : Literal). x.variable) last)
 ]
 
 any_below : (n : ℕ) (xs : List ℕ) (q : ℕ) → ((i d : ℕ) → i < length xs → get_or xs i d < n) → list_any (eqb q) xs ≡ true → q < n

@@ -42,13 +42,7 @@ pub fn refutation_of(
             clauses[number].as_slice(),
         )?)?;
     }
-    list.push(entry_for(
-        alloc,
-        &mut truth,
-        formula.variables,
-        clauses,
-        &[],
-    )?)?;
+    list.push(entry_for(alloc, &mut truth, formula.variables, clauses, &[])?)?;
     Ok(list)
 }
 

@@ -33,12 +33,7 @@ const REFUTED: &[(&[&str], &[u8], u8, &[u8])] = &[
         3,
         b"REFUSED uneven-rules 96\n",
     ),
-    (
-        &["refute", "missing"],
-        PARTIAL,
-        4,
-        b"READ FAULT system\n",
-    ),
+    (&["refute", "missing"], PARTIAL, 4, b"READ FAULT system\n"),
     // other words
     (&["refute"], MAP, 2, b"BAD WORDS\n"),
     (&["refute", "system", "other"], MAP, 2, b"BAD WORDS\n"),
