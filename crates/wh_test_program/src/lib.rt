@@ -1,5 +1,5 @@
 //! The worked rows of the program, run over files and a sink in memory: of words, files and limits, of system texts, of certificates, of
-//! the search for a proof or a loop, and of terms that are reduced; and the table of hostile inputs: files and an output that fail at each
+//! the search for a proof or a loop, of terms that are reduced and of refutations; and the table of hostile inputs: files and an output that fail at each
 //! call in turn, certificates that are cut or changed at each byte, and texts that pass a limit or miss a rule by little. What is expected
 //! was worked out by hand.
 //!
@@ -19,6 +19,8 @@ mod poly_rows;
 mod prove_rows;
 #[cfg(test)]
 mod reduce_rows;
+#[cfg(test)]
+mod refute_rows;
 #[cfg(test)]
 mod run_rows;
 #[cfg(test)]

@@ -18,7 +18,7 @@ use Rattle.wh_answer.specs.declared.report.ReasonWord.TheVariants.{TooManyPairs}
 use Rattle.wh_answer.specs.declared.report.Role.TheVariants.{System, Certificate, Output}
 use Rattle.wh_answer.specs.declared.report.Report.{Report}
 use Rattle.wh_answer.specs.declared.report.Report.TheVariants.{Yes, No, Rejected, Maybe, Refused, ReadFault, TooLong, Overflow, TooLarge}
-use Rattle.wh_words.specs.Words.{Request, check, prove, show, gen, reduce, upgrade, Asks}
+use Rattle.wh_words.specs.Words.{Request, check, prove, show, gen, reduce, upgrade, refute, Asks}
 use Rattle.wh_judging.specs.declared.status.Status.{Status}
 use Rattle.wh_top.specs.Words.{options_of}
 use Rattle.wh_judging.specs.Texts.{IsShown}
@@ -27,6 +27,7 @@ use Rattle.wh_top.specs.Proving.{IsFoundText, IsNotFound, StandsForSearch}
 use Rattle.wh_top.specs.Generating.{StandsForGenerated}
 use Rattle.wh_top.specs.Reducing.{IsNotReduced, StandsForReduction}
 use Rattle.wh_reducing.specs.Telling.{TellsReduced}
+use Rattle.wh_top.specs.Refuting.{TellsRefuted, options_with}
 use Rattle.wh_cert.specs.Written.{Cert, yes, no}
 use Rattle.wh_proof.specs.Valid.{IsValidCert}
 use Rattle.wh_cert.specs.CertText.{CertText}
@@ -231,6 +232,10 @@ complete s words (upgrade file cert) status text asks (inr tells) = λ d ps byte
   status_is = tells.status_is;
   text_is = tells.text_is;
 })
+complete s words (refute file n) status text asks (inl shows) = λ d ps holds.
+    (shows.status_is, told_holds s file d ps (λ e es. TellsRefuted e es (options_with n) text) holds shows.told)
+complete s words (refute file n) status text asks (inr tells) = λ d ps holds.
+    absurd (not_by_system s file d ps tells.report holds tells.stands)
 
 -- what is asked is served
 pub served : (s : Shelves) (words : List (List ℕ)) (request : Request) (status : Status) (text : List ℕ) → Asks words request

@@ -22,7 +22,7 @@ use Rattle.wh_judging.specs.declared.status.Status.{Status}
 use Rattle.wh_answer.specs.Texts.{report_text}
 use Rattle.wh_answer.specs.declared.report.Report.{Report}
 use Rattle.wh_answer.specs.declared.report.Report.TheVariants.{Yes, No, Rejected, Maybe, Refused, BadWords, ReadFault, OutOfMemory, TooLong, Overflow, TooLarge}
-use Rattle.wh_words.specs.Words.{Bounds, Request, check, prove, show, gen, reduce, upgrade, Asks}
+use Rattle.wh_words.specs.Words.{Bounds, Request, check, prove, show, gen, reduce, upgrade, refute, Asks}
 use Rattle.wh_top.specs.Words.{AsksWhether, options_of}
 use Rattle.wh_judging.specs.Outcomes.{Shelves, Told, IsYes, IsNo, BeginsWith, Checked, Certified, Weighed, Stands, StandsBySystem}
 use Rattle.wh_prover.specs.declared.answer.Options.{Options}
@@ -121,15 +121,15 @@ IsAnswerTo s words status text o =
     ⊎ ((file cert : List ℕ) × Asks words (upgrade file cert) × ShowsUpgraded s file cert status text)
 
 -- it is one of these where no other answer has a text that begins so, and o is none of the system file alone, of a search, of a
--- generated system, of a term that is to be reduced or of a certificate that is not upgraded
+-- generated system, of a term that is to be reduced, of a certificate that is not upgraded or of a refutation
 only_answer : (s : Shelves) (words : List (List ℕ)) (status : Status) (text rest : List ℕ) (letter : ℕ) (o : Report)
     → ((p : Report) (more : List ℕ) → report_text p ≡ letter ∷ more → p ≡ o)
     → ((file : List ℕ) → StandsBySystem s file o → ⊥) → ((file : List ℕ) (options : Options) → StandsForSearch s file options o → ⊥)
     → ((n : ℕ) → StandsForGenerated n o → ⊥) → ((file term : List ℕ) → StandsForReduction s file term o → ⊥)
     → ((file cert : List ℕ) → StandsForUpgrade s file cert o → ⊥)
-    → (83 ≡ letter → ⊥) → (82 ≡ letter → ⊥) → (71 ≡ letter → ⊥) → (66 ≡ letter → ⊥) → (79 ≡ letter → ⊥) → Answers s words status text → text ≡ letter ∷ rest
+    → (83 ≡ letter → ⊥) → (82 ≡ letter → ⊥) → (85 ≡ letter → ⊥) → (71 ≡ letter → ⊥) → (66 ≡ letter → ⊥) → (79 ≡ letter → ⊥) → Answers s words status text → text ≡ letter ∷ rest
     → IsAnswerTo s words status text o
-only_answer s words status text rest letter o only never never_found never_made never_reduced never_upgraded show_differs reduced_differs made_differs words_differ memory_differs (inl served) e =
+only_answer s words status text rest letter o only never never_found never_made never_reduced never_upgraded show_differs reduced_differs un_differs made_differs words_differ memory_differs (inl served) e =
     by served.request served.asks served.reply
   where
     told : (P : Report → Type 0) → Tells P status text → P o
@@ -147,22 +147,27 @@ only_answer s words status text rest letter o only never never_found never_made 
     by (reduce file term n) asks (inr tells) = absurd (never_reduced file term (told (StandsForReduction s file term) tells))
     by (upgrade file cert) asks (inl shows) = inr (inr (file, cert, asks, shows))
     by (upgrade file cert) asks (inr tells) = absurd (never_upgraded file cert (told (StandsForUpgrade s file cert) tells))
-only_answer s words status text rest letter o only never never_found never_made never_reduced never_upgraded show_differs reduced_differs made_differs words_differ memory_differs (inr (inl misspoken)) e =
+    by (refute file n) asks (inl shows) = elim shows.begins [
+      | inl begins ↦ absurd (not_byte letter 82 _ rest reduced_differs (sym begins.1 ∙ e))
+      | inr begins ↦ absurd (not_byte letter 85 _ rest un_differs (sym begins.1 ∙ e))
+    ]
+    by (refute file n) asks (inr tells) = absurd (never file (told (StandsBySystem s file) tells))
+only_answer s words status text rest letter o only never never_found never_made never_reduced never_upgraded show_differs reduced_differs un_differs made_differs words_differ memory_differs (inr (inl misspoken)) e =
     absurd (not_byte letter 66 _ rest words_differ (sym misspoken.text_is ∙ e))
-only_answer s words status text rest letter o only never never_found never_made never_reduced never_upgraded show_differs reduced_differs made_differs words_differ memory_differs (inr (inr starved)) e =
+only_answer s words status text rest letter o only never never_found never_made never_reduced never_upgraded show_differs reduced_differs un_differs made_differs words_differ memory_differs (inr (inr starved)) e =
     absurd (not_byte letter 79 _ rest memory_differs (sym starved.text_is ∙ e))
 
 only_yes_answers : (s : Shelves) (words : List (List ℕ)) (status : Status) (text rest : List ℕ) → Answers s words status text
     → text ≡ 89 ∷ rest → IsAnswerTo s words status text Yes
 only_yes_answers s words status text rest answers e =
     only_answer s words status text rest 89 Yes only_yes (λ file h. h) (λ file options h. h) (λ n h. h) (λ file term h. h) (λ file cert h. h)
-    (λ d. omega arith) (λ d. omega arith) (λ d. omega arith) (λ d. omega arith) (λ d. omega arith) answers e
+    (λ d. omega arith) (λ d. omega arith) (λ d. omega arith) (λ d. omega arith) (λ d. omega arith) (λ d. omega arith) answers e
 
 only_no_answers : (s : Shelves) (words : List (List ℕ)) (status : Status) (text rest : List ℕ) → Answers s words status text
     → text ≡ 78 ∷ rest → IsAnswerTo s words status text No
 only_no_answers s words status text rest answers e =
     only_answer s words status text rest 78 No only_no (λ file h. h) (λ file options h. h) (λ n h. h) (λ file term h. h) (λ file cert h. h)
-    (λ d. omega arith) (λ d. omega arith) (λ d. omega arith) (λ d. omega arith) (λ d. omega arith) answers e
+    (λ d. omega arith) (λ d. omega arith) (λ d. omega arith) (λ d. omega arith) (λ d. omega arith) (λ d. omega arith) answers e
 
 -- a certificate of termination, in the words of the search and of the check
 pub same_yes : (c : Cert) → proofs.IsYes c → IsYes c

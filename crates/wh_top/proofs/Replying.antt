@@ -4,7 +4,7 @@ use Rattle.wh_types.specs.Limits.{certificate_limit}
 use Rattle.wh_types.specs.Outcome.{MatchOr}
 use Rattle.wh_types.specs.declared.want.Or.{Or}
 use Rattle.wh_types.specs.declared.want.Or.TheVariants.{NoMemory, Because}
-use Rattle.wh_words.specs.Words.{Bounds, prove, show, gen, reduce, upgrade}
+use Rattle.wh_words.specs.Words.{Bounds, prove, show, gen, reduce, upgrade, refute}
 use Rattle.wh_answer.specs.declared.report.Report.{Report}
 use Rattle.wh_answer.specs.Texts.{line}
 use Rattle.wh_prover.specs.declared.answer.Options.{Options}
@@ -15,6 +15,7 @@ use Rattle.wh_judging.specs.Texts.{IsShown, TellsMade}
 use Rattle.wh_top.specs.Generating.{ShowsGenerated, StandsForGenerated}
 use Rattle.wh_top.specs.Proving.{IsFoundText, StandsForSearch}
 use Rattle.wh_top.specs.Reducing.{StandsForReduction}
+use Rattle.wh_top.specs.Refuting.{BeginsRefuted, TellsRefuted, options_with}
 use Rattle.wh_reducing.specs.Telling.{TellsReduced}
 use Rattle.wh_upgrading.specs.Upgrading.{IsUpgradedIn, StandsForUpgrade}
 use Rattle.wh_top.specs.Run.{Replies}
@@ -93,3 +94,17 @@ upgraded_replies s file cert (Ok written) status text found within (answered, is
 upgraded_replies s file cert (Err (Because report)) status text stands within (status_is, text_is) =
     inr (record { report = report; stands = stands; status_is = status_is; text_is = text_is })
 upgraded_replies s file cert (Err NoMemory) status text stands within none = absurd none
+
+-- and of a refutation
+pub refuted_replies : (s : Shelves) (file : List ℕ) (n : ℕ) (o : Options) (made : Result (List ℕ) (Or Report)) (status : Status) (text : List ℕ)
+    → o ≡ options_with n → MatchOr made (λ t. ToldSystem (s.held file) (λ d ps. TellsRefuted d ps o t)) (StandsBySystem s file)
+    → IfOk made BeginsRefuted → TellsMade made status text → Replies s (refute file n) status text
+refuted_replies s file n o (Ok told) status text same is begins (answered, text_is) = inl (record {
+  told = subst (λ (p : Options). ToldSystem (s.held file) (λ d ps. TellsRefuted d ps p text)) same
+      (subst (λ t. ToldSystem (s.held file) (λ d ps. TellsRefuted d ps o t)) (sym text_is) is);
+  begins = subst BeginsRefuted (sym text_is) begins;
+  status_is = answered;
+})
+refuted_replies s file n o (Err (Because report)) status text same stands begins (status_is, text_is) =
+    inr (record { report = report; stands = stands; status_is = status_is; text_is = text_is })
+refuted_replies s file n o (Err NoMemory) status text same stands begins none = absurd none

@@ -9,7 +9,7 @@ use Rattle.wh_pairs.specs.SystemPairs.{HasPairs}
 use Rattle.wh_read.specs.Reading.{Reads}
 use Rattle.wh_answer.specs.declared.report.Report.{Report}
 use Rattle.wh_answer.specs.declared.report.Report.TheVariants.{Yes, No, Overflow, TooLarge}
-use Rattle.wh_words.specs.Words.{Bounds, Request, check, prove, show, gen, reduce, upgrade}
+use Rattle.wh_words.specs.Words.{Bounds, Request, check, prove, show, gen, reduce, upgrade, refute}
 use Rattle.wh_judging.specs.declared.status.Status.{Status}
 use Rattle.wh_judging.specs.declared.status.Status.TheVariants.{Answered}
 use Rattle.wh_top.specs.Words.{options_of}
@@ -17,6 +17,7 @@ use Rattle.wh_judging.specs.Texts.{status_of, shown_text, Tells}
 use Rattle.wh_judging.specs.Outcomes.{Shelves, Judged}
 use Rattle.wh_top.specs.Proving.{IsNotFound}
 use Rattle.wh_top.specs.Reducing.{IsNotReduced}
+use Rattle.wh_top.specs.Refuting.{TellsRefuted, options_with}
 use Rattle.wh_reducing.specs.Telling.{TellsReduced}
 use Rattle.wh_cert.specs.Written.{Cert}
 use Rattle.wh_cert.specs.CertText.{CertText}
@@ -42,8 +43,9 @@ pub record HoldsSystem (s : Shelves) (file : List ℕ) (d : SystemData) (ps : Li
   pub has : HasPairs d ps
 
 -- then a check answers what the certificate comes to; a search writes a certificate that a check accepts, or says why there is none; a
--- system is shown; a generated system is always answered; a term is reduced where the word is the text of one, and else rejected; and a
--- certificate that a check accepts is upgraded to one that it accepts, if that is not too long (ours)
+-- system is shown; a generated system is always answered; a term is reduced where the word is the text of one, and else rejected; a
+-- certificate that a check accepts is upgraded to one that it accepts, if that is not too long; and the search for a refutation is
+-- always told of (ours)
 abbrev pub IsComplete : Shelves → Request → Status → List ℕ → Type 0
 IsComplete s (check file cert) status text =
     (d : SystemData) (ps : List PairData) (bytes : List ℕ) → HoldsSystem s file d ps → IsRead s cert certificate_limit bytes
@@ -61,6 +63,8 @@ IsComplete s (upgrade file cert) status text =
     (d : SystemData) (ps : List PairData) (bytes : List ℕ) → HoldsSystem s file d ps → IsRead s cert certificate_limit bytes
     → ((status ≡ Answered) × (length text ≤ certificate_limit) × ((c : Cert) × CertText bytes c × IsUpgradedText d ps c text)
     × (Judged d ps text Yes ⊎ Judged d ps text No)) ⊎ Tells (IsNotUpgraded d ps bytes) status text
+IsComplete s (refute file n) status text =
+    (d : SystemData) (ps : List PairData) → HoldsSystem s file d ps → (status ≡ Answered) × TellsRefuted d ps (options_with n) text
 
 -- a value exceeds a limit in the node with that number
 abbrev pub IsTooBigAt : ℕ → Report → Type 0

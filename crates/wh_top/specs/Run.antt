@@ -17,7 +17,7 @@ use Rattle.wh_judging.specs.declared.status.Status.TheVariants.{Answered, BadWor
 use Rattle.wh_answer.specs.declared.report.Report.{Report}
 use Rattle.wh_answer.specs.declared.report.Report.TheVariants as answer
 use Rattle.wh_answer.specs.Texts.{line, report_text}
-use Rattle.wh_words.specs.Words.{Bounds, Request, check, prove, show, gen, reduce, upgrade, Asks}
+use Rattle.wh_words.specs.Words.{Bounds, Request, check, prove, show, gen, reduce, upgrade, refute, Asks}
 use Rattle.wh_top.specs.Words.{options_of}
 use Rattle.wh_judging.specs.Texts.{IsShown, Tells}
 use Rattle.wh_judging.specs.Outcomes.{Shelves, BeginsWith, Told, ToldSystem, StandsBySystem, Stands}
@@ -25,6 +25,7 @@ use Rattle.wh_top.specs.Proving.{ShowsFound, StandsForSearch}
 use Rattle.wh_top.specs.Generating.{ShowsGenerated, StandsForGenerated}
 use Rattle.wh_top.specs.Reducing.{ShowsReduced, StandsForReduction}
 use Rattle.wh_upgrading.specs.Upgrading.{IsUpgradedIn, StandsForUpgrade}
+use Rattle.wh_top.specs.Refuting.{ShowsRefuted, options_with}
 use Rattle.wh_top.specs.Complete.{IsComplete}
 
 -- the text shows the system in the file and its pairs
@@ -41,8 +42,8 @@ pub record ShowsUpgraded (s : Shelves) (file cert : List ℕ) (status : Status) 
   pub status_is : status ≡ Answered
 
 -- the reply to a request: of a check its answer; of a search a proof or a loop, or why there is neither; for a system to be shown its
--- text, or why there is none; what the search comes to for a generated system; how a term reduces, or why that is not told; and the text
--- of an upgraded certificate, or why there is none
+-- text, or why there is none; what the search comes to for a generated system; how a term reduces, or why that is not told; the text of
+-- an upgraded certificate, or why there is none; and what the search for a refutation comes to, or why there is no such system
 abbrev pub Replies : Shelves → Request → Status → List ℕ → Type 0
 Replies s (check file cert) status text = Tells (Stands s file cert) status text
 Replies s (prove file b) status text = ShowsFound s file (options_of b) status text
@@ -51,6 +52,7 @@ Replies s (show file) status text = Shows s file status text ⊎ Tells (StandsBy
 Replies s (gen n) status text = ShowsGenerated n status text ⊎ Tells (StandsForGenerated n) status text
 Replies s (reduce file term n) status text = ShowsReduced s file term n status text ⊎ Tells (StandsForReduction s file term) status text
 Replies s (upgrade file cert) status text = ShowsUpgraded s file cert status text ⊎ Tells (StandsForUpgrade s file cert) status text
+Replies s (refute file n) status text = ShowsRefuted s file (options_with n) status text ⊎ Tells (StandsBySystem s file) status text
 
 -- the words ask for something, and this is the reply; where nothing goes wrong outside, it is one that answers what is asked
 pub record Served (s : Shelves) (words : List (List ℕ)) (status : Status) (text : List ℕ) : Type 0 where
