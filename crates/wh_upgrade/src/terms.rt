@@ -49,7 +49,6 @@ fn copy_binder(alloc: Global, binder: &RawBinder) -> Result<RawBinder, AllocErro
 
 /// An equal term.
 #[cycle(copy_term)]
-#[tactic(auto, using(crate::proofs::SameParts::meta_copied, crate::proofs::SameParts::spine_copied))]
 pub fn copy_term(alloc: Global, term: &RawTerm) -> Result<RawTerm, AllocError>
     ensures { IfOk result (λ copy. rtm copy ≡ rtm term.now) }
 {
