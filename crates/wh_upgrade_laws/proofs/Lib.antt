@@ -1,1 +1,1 @@
-mod SameNodes
+pub mod SameNodes

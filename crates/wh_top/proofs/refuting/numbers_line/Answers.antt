@@ -1,7 +1,7 @@
 use Rattle.std.proofs.Common.{◌++◌, ◌∙◌, ap, arith, get_or, refl}
 use Rattle.std.specs.Fmt.{decimal}
 use Rattle.wh_top.specs.Refuting.{numbers_text}
-use Rattle.wh_top.proofs.Refuting.{one_number, no_number}
+use Rattle.wh_top.proofs.Refutals.{one_number, no_number}
 use Rattle.wh_top.proofs.refuting.numbers_line.Goals as goal
 
 pub loop-number-preserved : goal.loop-number-preserved

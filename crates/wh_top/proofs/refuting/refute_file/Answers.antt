@@ -1,7 +1,7 @@
 use Rattle.wh_system.specs.SystemView.{system_data}
 use Rattle.wh_pairs.specs.Views.{pairs_data}
 use Rattle.wh_judging.specs.Outcomes.{Shelves, outside}
-use Rattle.wh_top.proofs.Refuting.{refuted_told, told_begins}
+use Rattle.wh_top.proofs.Refutals.{refuted_told, told_begins}
 use Rattle.wh_top.proofs.refuting.refute_file.Goals as goal
 
 pub returns-clause-refuted : goal.returns-clause-refuted

@@ -1,6 +1,6 @@
 use Rattle.wh_system.specs.SystemView.{system_data}
 use Rattle.wh_pairs.specs.Views.{pairs_data}
-use Rattle.wh_top.proofs.Refuting.{verdict_there, verdict_told}
+use Rattle.wh_top.proofs.Refutals.{verdict_there, verdict_told}
 use Rattle.wh_top.proofs.refuting.refuted_in.Goals as goal
 
 pub verdict_line-requires : goal.verdict_line-requires
