@@ -73,11 +73,12 @@ fn of_set(
     if formula.clauses.as_slice().len() > MOST_CLAUSES {
         return Err(AllocError);
     }
+    let _variables = formula.variables;
     let listed = solve_listed(alloc, &formula, tries)?;
-    match listed {
+    match &listed {
         Listed::Sat(_) => unreachable!(),
         Listed::Unsat(list) => {
-            confirm(alloc, &formula, &list)?;
+            confirm(alloc, &formula, list)?;
             Ok(Verdict::Refuted(set))
         }
         Listed::Spent(_) => Ok(Verdict::Unrefuted(set)),
