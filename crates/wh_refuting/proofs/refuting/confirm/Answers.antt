@@ -1,6 +1,10 @@
+use Rattle.std.proofs.Common.{arith}
 use Rattle.wh_refute.proofs.RefuteLaws.{refutations_have_no_fault_law}
 use Rattle.wh_refuting.proofs.Verdicts.{because_of}
 use Rattle.wh_refuting.proofs.refuting.confirm.Goals as goal
+
+pub check_refutation-requires-clause-hints : goal.check_refutation-requires-clause-hints
+check_refutation-requires-clause-hints c = λ e h. omega (arith, c.requires.hints e h)
 
 pub unreachable-requires : goal.unreachable-requires
 unreachable-requires c =

@@ -1,4 +1,4 @@
-use Rattle.std.proofs.Common.{◌+◌, ◌<◌, ◌≤◌, ◌^◌, false, get_or, length, map, All, ap, refl, sym, subst, arith}
+use Rattle.std.proofs.Common.{◌<◌, false, get_or, length, map, All, ap, refl, sym, subst, arith}
 use Rattle.std.proofs.lemmas.List.{length-map}
 use Rattle.std.proofs.Common.{ℕ}
 use Rattle.wh_pairs.specs.PairData.{pair_data}
@@ -22,7 +22,7 @@ confirm-requires-clause-few c =
 pub confirm-requires-clause-hints : goal.confirm-requires-clause-hints
 confirm-requires-clause-hints c = λ e h.
     let is = rw c.in-Unsat.is at c.in_ok-listed.ensures in
-    omega (arith, is.1.hints e h)
+    is.1.hints e h
 
 pub confirm-requires-clause-good : goal.confirm-requires-clause-good
 confirm-requires-clause-good c = let is = rw c.in-Unsat.is at c.in_ok-listed.ensures in is.1.refutes

@@ -1,4 +1,4 @@
-use Rattle.std.proofs.Common.{ℕ, ◌≡◌, ◌<◌, List, map, All, length, subst}
+use Rattle.std.proofs.Common.{ℕ, ◌≡◌, ◌<◌, List, All, subst}
 use Rattle.std.proofs.lemmas.List.{length-map}
 use Rattle.wh_pairs.specs.PairData.{pair_data}
 use Rattle.wh_pairs.specs.Views.{pairs_data}
