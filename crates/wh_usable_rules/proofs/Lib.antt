@@ -1,0 +1,4 @@
+mod Leasts
+mod Tables
+mod Takings
+mod Calling
