@@ -10,6 +10,7 @@ use wh_sat::{Learner, Next, copy_clauses};
 use wh_sat_trail::{Clauses, Formula, Refutation};
 
 /// What a formula comes to.
+#[derive(Drop)]
 pub enum Listed {
     /// A truth value for each variable, under which all clauses are true.
     Sat(Vec<bool>),

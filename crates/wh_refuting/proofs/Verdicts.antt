@@ -1,6 +1,11 @@
 -- What a set that the search is stuck on comes to, as a verdict.
-use Rattle.std.proofs.Common.{ℕ, ◌≡◌, ◌<◌, ◌≤◌, Bool, List, length, All, Result, Ok, Err, IfOk, subst, sym}
+use Rattle.std.proofs.Common.{ℕ, ◌≡◌, ◌<◌, Bool, List, length, All, Result, Ok, Err, IfOk, subst, sym}
 use Rattle.std.specs.declared.alloc.AllocError.{AllocError}
+use Rattle.wh_types.specs.Outcome.{IfBecause}
+use Rattle.wh_types.specs.declared.want.Or.{Or}
+use Rattle.wh_types.specs.declared.want.Or.TheVariants.{NoMemory, Because}
+use Rattle.wh_refute.specs.declared.fault.RefuteFault.{RefuteFault}
+use Rattle.wh_refute.specs.declared.fault.Refuted as checked
 use Rattle.wh_terms.specs.Rules.{RewriteRule}
 use Rattle.wh_system.specs.Systems.{SystemData}
 use Rattle.wh_pairs.specs.PairData.{PairData}
@@ -15,6 +20,10 @@ use Rattle.wh_prover.specs.declared.answer.Options.{Options}
 use Rattle.wh_refuting.specs.declared.refuting.Verdict.{Verdict}
 use Rattle.wh_refuting.specs.declared.refuting.Verdict.TheVariants.{Refuted, Unrefuted, Unstuck}
 use Rattle.wh_refuting.specs.Verdicts.{HasRefutation, IsOfSet, IsUndecided, IsVerdict}
+
+pub because_of : (e : Or RefuteFault) (f : RefuteFault) (P : RefuteFault → Type 0) → e ≡ Because f → IfBecause {T = checked.Refuted} (Err e) P → P f
+because_of (Because g) f P is p = let same : g ≡ f = cc is in subst P same p
+because_of NoMemory f P is p = cc is
 
 -- the formula of a set of which no projection lets a pair go has no model
 pub no_model : (rules : List RewriteRule) (pairs : List PairData) (set : List ℕ) (n : ℕ) (clauses : List (List Literal)) (v : ℕ → Bool)

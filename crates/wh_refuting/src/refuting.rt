@@ -74,10 +74,10 @@ fn of_set(
         return Err(AllocError);
     }
     let listed = solve_listed(alloc, &formula, tries)?;
-    match listed {
+    match &listed {
         Listed::Sat(_) => unreachable!(),
         Listed::Unsat(list) => {
-            confirm(alloc, &formula, &list)?;
+            confirm(alloc, &formula, list)?;
             Ok(Verdict::Refuted(set))
         }
         Listed::Spent(_) => Ok(Verdict::Unrefuted(set)),
@@ -88,9 +88,10 @@ fn of_set(
 fn confirm(alloc: Global, formula: &Formula, list: &Refutation) -> Result<(), AllocError>
     requires within { Within formula.now.variables formula.now.clauses }
     requires few { length formula.now.clauses + length list.now < 2 ^ 31 }
-    requires hints { (e : Entry) → Contains list.now e → length e.hints ≤ 2 ^ 32 }
+    requires hints { (e : Entry) → Contains list.now e → length e.hints ≤ formula.now.variables + 1 }
     requires good { IsRefutation formula.now.variables formula.now.clauses list.now }
 {
+    let _variables = formula.variables;
     match check_refutation(alloc, formula, list) {
         Ok(_) => Ok(()),
         Err(Or::NoMemory) => Err(AllocError),
