@@ -21,10 +21,10 @@ returns-clause-reduced g c =
     let s : Shelves = outside (g.S.Shelf.held c.args.shelf.now) (g.S.Shelf.faults c.args.shelf.now) (g.S.Shelf.faults c.system_in.new.shelf) in
     let d = system_data c.in_ok-system.system in
     reduction_stands s c.args.file.now c.args.term.now c.args.steps d c.reduced_in.result c.in_ok-system.ensures.read
-    (subst (λ t. MatchOr c.reduced_in.result (TellsReduced d t c.args.steps) (IsNotReduced d t)) c.as_bytes.ensures c.reduced_in.ensures)
+    (subst (λ t. MatchOr c.reduced_in.result (TellsReduced d t c.args.steps) (IsNotReduced d t)) c.as_bytes.ensures.value c.reduced_in.ensures)
 
 pub returns-clause-begins : goal.returns-clause-begins
 returns-clause-begins g c =
     let d = system_data c.in_ok-system.system in
     reduced_begins d c.args.term.now c.args.steps c.reduced_in.result
-    (subst (λ t. MatchOr c.reduced_in.result (TellsReduced d t c.args.steps) (IsNotReduced d t)) c.as_bytes.ensures c.reduced_in.ensures)
+    (subst (λ t. MatchOr c.reduced_in.result (TellsReduced d t c.args.steps) (IsNotReduced d t)) c.as_bytes.ensures.value c.reduced_in.ensures)
