@@ -26,8 +26,8 @@ fn are_short(entries: &[Entry]) -> bool
 }
 
 // What is first wrong with a list, or how many entries it has.
-fn told(alloc: Global, result: Result<u32, RefuteFault>) -> Result<String, AllocError> {
-    match result {
+fn told(alloc: Global, outcome: Result<u32, RefuteFault>) -> Result<String, AllocError> {
+    match outcome {
         Ok(entries) => format!(in alloc; "refuted {entries}"),
         Err(RefuteFault::BadLiteral { entry }) => format!(in alloc; "literal {entry}"),
         Err(RefuteFault::BadHint { entry, hint }) => format!(in alloc; "hint {entry} {hint}"),
