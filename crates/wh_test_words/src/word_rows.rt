@@ -19,6 +19,9 @@ const ROWS: &[&[&str]] = &[
     &["wanda", "reduce", "system", "(f zero)"],
     &["wanda", "reduce", "--steps=3", "system", "(f zero)"],
     &["wanda", "reduce", "system", "(f zero)", "--steps", "10000"],
+    &["wanda", "upgrade", "system", "certificate"],
+    &["wanda", "refute", "system"],
+    &["wanda", "refute", "--tries", "5", "system"],
 ];
 
 /// A command line of the same commands, options and files.
@@ -36,11 +39,19 @@ fn stock(alloc: Global) -> Result<Stock<'static>, AllocError> {
         .arg(Arg::new(alloc, "file"))?
         .arg(Arg::new(alloc, "term"))?
         .arg(Arg::new(alloc, "steps").long("steps"))?;
+    let upgrade = Stock::new(alloc, "upgrade")
+        .arg(Arg::new(alloc, "file"))?
+        .arg(Arg::new(alloc, "cert"))?;
+    let refute = Stock::new(alloc, "refute")
+        .arg(Arg::new(alloc, "file"))?
+        .arg(Arg::new(alloc, "tries").long("tries"))?;
     Stock::new(alloc, "wanda")
         .subcommand(check)?
         .subcommand(show)?
         .subcommand(prove)?
-        .subcommand(reduce)
+        .subcommand(reduce)?
+        .subcommand(upgrade)?
+        .subcommand(refute)
 }
 
 /// Whether the option has that number, or is not there and the number is the usual one.
@@ -77,6 +88,16 @@ fn is_same(command: &Command<'_>, name: &str, matches: &ArgMatches<'_>) -> bool 
                 && matches.get_str("file") == Some(*file)
                 && matches.get_str("term") == Some(*term)
                 && is_number(matches, "steps", u64::from(*steps), 1_000)
+        }
+        Command::Upgrade { file, cert } => {
+            name == "upgrade"
+                && matches.get_str("file") == Some(*file)
+                && matches.get_str("cert") == Some(*cert)
+        }
+        Command::Refute { file, tries } => {
+            name == "refute"
+                && matches.get_str("file") == Some(*file)
+                && is_number(matches, "tries", *tries, 10_000)
         }
         Command::Gen { .. } => false,
     }
