@@ -1,5 +1,5 @@
 -- The least numbers of entries of inferences for the goals of the program.
-use Rattle.std.specs.Prelude.{ℕ, suc, ◌≡◌, ◌<◌, ◌≤◌, ◌⊎◌, List, map, length, Option, None, Some}
+use Rattle.std.specs.Prelude.{ℕ, suc, ◌≡◌, ◌<◌, ◌≤◌, ◌^◌, ◌==◌, ◌⊎◌, if◌then◌else◌, List, map, length, Option, None, Some}
 use Rattle.std.specs.Option.{option_map}
 use Rattle.wh_terms.specs.Typing.{Symbols, Declared}
 use Rattle.wh_inference.specs.Inferences as m
@@ -20,16 +20,17 @@ use Rattle.wh_infer.specs.Ways.{IsGood, AreGood, IsShown, AreShown, tasks_by}
 
 -- the letters, numbered from 0
 abbrev pub letter_with : ℕ → Letter
-letter_with 0 = Same
-letter_with 1 = Lam
-letter_with 2 = Mono
-letter_with 3 = Sub
-letter_with 4 = Prec
-letter_with 5 = Lex
-letter_with 6 = App
-letter_with 7 = Bind
-letter_with 8 = Var
-letter_with _ = Meta
+letter_with n =
+    if n == 0 then Same
+    else if n == 1 then Lam
+    else if n == 2 then Mono
+    else if n == 3 then Sub
+    else if n == 4 then Prec
+    else if n == 5 then Lex
+    else if n == 6 then App
+    else if n == 7 then Bind
+    else if n == 8 then Var
+    else Meta
 
 module _ (F : Symbols) (prec : ℕ → ℕ) (M : List Declared) where
   -- by this letter at this place the task is shown with so many entries in all, nested at most `room` deep
@@ -74,10 +75,13 @@ abbrev pub IsLeastInference : FilteringData → ℕ → Goal → Option Inferenc
 IsLeastInference D room g r = (w : World) → IsGoalOver (length D.symbols) w g
     → IsLeast entries (IsGood w.symbols (order_of D) w.metas room (task (length D.symbols) g)) (option_map inference r)
 
--- and such inferences for the goals of a list
+-- and such inferences for the goals of a list, however many entries they have together
 abbrev pub AreLeastInferences : FilteringData → ℕ → List Goal → Option (List Inference) → Type 0
-AreLeastInferences D room gs r = (w : World) → AreGoalsOver (length D.symbols) w gs
-    → IsLeast all_entries (AreGood w.symbols (order_of D) w.metas room (map (task (length D.symbols)) gs)) (option_map inferences r)
+AreLeastInferences D room gs None = (w : World) → AreGoalsOver (length D.symbols) w gs
+    → (js : m.Inferences) → AreGood w.symbols (order_of D) w.metas room (map (task (length D.symbols)) gs) js → 2 ^ 32 ≤ all_entries js
+AreLeastInferences D room gs (Some is) = (w : World) → AreGoalsOver (length D.symbols) w gs
+    → AreGood w.symbols (order_of D) w.metas room (map (task (length D.symbols)) gs) (inferences is)
+    × ((js : m.Inferences) → AreGood w.symbols (order_of D) w.metas room (map (task (length D.symbols)) gs) js → all_entries (inferences is) ≤ all_entries js)
 
 -- the one with fewer entries, and the first one where they have equally many
 abbrev pub IsLesser : Option Choice → Option Choice → Option Choice → Type 0
@@ -88,3 +92,8 @@ IsLesser (Some a) (Some b) r = ((a.count ≤ b.count) × (r ≡ Some a)) ⊎ ((b
 -- the place that is written with the letter of a choice: none with `m`
 abbrev pub written_place : Choice → ℕ
 written_place c = elim c.letter [ Mono ↦ 0 | _ ↦ c.place ]
+
+-- how many entries that makes
+abbrev pub count_of : Option Choice → Option ℕ
+count_of None = None
+count_of (Some c) = Some c.count

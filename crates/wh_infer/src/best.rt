@@ -2,7 +2,7 @@
 
 ghost use Rattle.std.specs.Prelude.{◌≡◌, IfOk};
 ghost use Rattle.wh_ordering.specs.FilteringView.{filtering_data};
-ghost use Rattle.wh_infer.specs.Bests.{IsBest, IsBestAt, IsBestBy, IsLeastCount, IsLeastTotal};
+ghost use Rattle.wh_infer.specs.Bests.{IsBest, IsBestAt, IsBestBy, IsLeastCount, IsLeastTotal, count_of};
 
 use crate::choice::Choice;
 use crate::known::Known;
@@ -108,10 +108,17 @@ fn least(known: &mut Known<'_>, goal: &Goal<'_>, room: u8) -> Result<Option<u32>
     if let Some(count) = known.look(goal, room) {
         return Ok(count);
     }
-    let count = match best(known, goal, room)? {
-        Some(choice) => Some(choice.count),
-        None => None,
-    };
+    let count = count_of(best(known, goal, room)?);
     known.note(goal, room, count)?;
     Ok(count)
+}
+
+// How many entries that makes.
+fn count_of(choice: Option<Choice>) -> Option<u32>
+    ensures { result ≡ count_of choice }
+{
+    match choice {
+        Some(choice) => Some(choice.count),
+        None => None,
+    }
 }

@@ -1,9 +1,11 @@
 //! Inferences with the fewest entries.
 
 ghost use Rattle.std.specs.Prelude.{◌≡◌, IfOk};
-ghost use Rattle.std.specs.Option.{option_map};
+ghost use Rattle.wh_inference.specs.Inferences.{infer};
+ghost use Rattle.wh_inference.specs.Said as s;
+ghost use Rattle.wh_inference.specs.Said.{inference, inferences};
 ghost use Rattle.wh_ordering.specs.FilteringView.{filtering_data};
-ghost use Rattle.wh_infer.specs.Bests.{AreLeastInferences, IsLeastInference, items_of};
+ghost use Rattle.wh_infer.specs.Bests.{AreLeastInferences, IsLeastInference, written_place};
 
 use crate::best::best;
 use crate::choice::Choice;
@@ -36,11 +38,7 @@ pub fn build(
     let Some(parts) = build_each(known, goals.as_slice(), room - 1)? else {
         return Ok(None);
     };
-    Ok(Some(Inference {
-        letter: choice.letter,
-        place: written_place(choice),
-        parts,
-    }))
+    Ok(Some(made(choice.letter, written_place(choice), parts)))
 }
 
 // Such inferences for each of the goals.
@@ -50,7 +48,7 @@ fn build_each(
     goals: &[Goal<'_>],
     room: u8,
 ) -> Result<Option<Inferences>, AllocError>
-    ensures found { IfOk result (λ r. AreLeastInferences (filtering_data known.old.filters.now) room goals.now (option_map items_of r)) }
+    ensures found { IfOk result (AreLeastInferences (filtering_data known.old.filters.now) room goals.now) }
     ensures filters { known.new.filters ≡ known.old.filters }
 {
     let mut parts = Inferences::new(known.alloc)?;
@@ -70,5 +68,17 @@ fn written_place(choice: Choice) -> u32
     match choice.letter {
         Letter::Mono => 0,
         _ => choice.place,
+    }
+}
+
+// The inference of these parts.
+#[tactic(auto, using(crate::proofs::BuildLemmas::inference_made))]
+fn made(letter: Letter, place: u32, parts: Inferences) -> Inference
+    ensures { inference result ≡ infer (s.letter letter) place (inferences parts) }
+{
+    Inference {
+        letter,
+        place,
+        parts,
     }
 }

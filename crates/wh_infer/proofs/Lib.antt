@@ -1,0 +1,5 @@
+pub mod LeastLemmas
+pub mod TaskLemmas
+pub mod WayLemmas
+pub mod BestLemmas
+pub mod BuildLemmas
