@@ -1,0 +1,15 @@
+use Rattle.std.proofs.Common.{◌≡◌, ◌+◌, ◌*◌, take}
+use Rattle.wh_ordering.specs.FilteringView.{filtering_data}
+use Rattle.wh_infer.proofs.BuildLemmas.{EachLeast}
+use Rattle.wh_infer.proofs.build.+building.Given as goal
+
+abbrev pub decreases-build : goal.decreases-build
+decreases-build l = 2 * l.room
+
+abbrev pub decreases-build_each : goal.decreases-build_each
+decreases-build_each l = 2 * l.room + 1
+
+abbrev pub invariant-build_each-loop-goal : goal.invariant-build_each-loop-goal
+invariant-build_each-loop-goal l =
+    (l.known.filters ≡ l.fn.known.filters)
+    × EachLeast (filtering_data l.fn.known.filters.now) l.room (take l.goal-index l.goals) l.parts
