@@ -1,4 +1,5 @@
 pub mod Space
+pub mod OrderLines
 pub mod Bits
 pub mod Tried
 pub mod Answers

@@ -1,6 +1,7 @@
 -- The orders that are tried for a set of pairs, and which pairs they let go. An order is given by argument filters with precedences of
 -- all symbols and of the marked symbols of the set.
 use Rattle.std.specs.Prelude.{ℕ, ◌+◌, ◌≡◌, ◌≢◌, ◌<◌, ◌≤◌, ◌^◌, List, Some, All, Contains, length, slice_get}
+use Rattle.wh_terms.specs.Typing.{Symbols}
 use Rattle.wh_terms.specs.Rules.{RewriteRule}
 use Rattle.wh_pairs.specs.PairData.{PairData}
 use Rattle.wh_reduction.specs.TaskData.{TaskData}
@@ -35,34 +36,45 @@ pub record IsWithin (i : Inference) : Type 0 where
   pub nested : depth i ≤ deepest_inference
   pub few : entries i < 2 ^ 32
 
-module _ (T : TaskData) (D : FilteringData) where
+module _ (S : Symbols) (rules : List RewriteRule) (D : FilteringData) where
   -- the line of a rule can be made good
   abbrev pub OrientsRule : RewriteRule → Type 0
-  OrientsRule r = (i : Inference) × IsGoodRule T.symbols T.rules D r i × IsWithin i
+  OrientsRule r = (i : Inference) × IsGoodRule S rules D r i × IsWithin i
 
   -- so can that of a pair
   abbrev pub OrientsPair : PairData → Type 0
-  OrientsPair p = (i : Inference) × IsGoodPair T.symbols T.rules D p i × IsWithin i
+  OrientsPair p = (i : Inference) × IsGoodPair S rules D p i × IsWithin i
 
   -- and without being that of equal trees
   abbrev pub OrientsStrictly : PairData → Type 0
-  OrientsStrictly p = (i : Inference) × IsGoodPair T.symbols T.rules D p i × IsWithin i × (letter_of i ≢ same_trees)
+  OrientsStrictly p = (i : Inference) × IsGoodPair S rules D p i × IsWithin i × (letter_of i ≢ same_trees)
 
-  -- the condition holds under the order (ours); it fails also where a side is too wide
+  -- the rule, and the pair, is oriented (ours); that fails also where a side is too wide
+  abbrev pub MeetsRule : RewriteRule → Type 0
+  MeetsRule r = HasNarrowSides S r × OrientsRule r
+
+  abbrev pub MeetsPair : PairData → Type 0
+  MeetsPair p = HasNarrowCalls S p × OrientsPair p
+
+  abbrev pub MeetsStrictly : PairData → Type 0
+  MeetsStrictly p = HasNarrowCalls S p × OrientsStrictly p
+
+module _ (T : TaskData) (D : FilteringData) where
+  -- the condition holds under the order (ours)
   abbrev pub Meets : Condition → Type 0
-  Meets (covers_rule r) = HasNarrowSides T.symbols r × OrientsRule r
-  Meets (covers_pair p) = HasNarrowCalls T.symbols p × OrientsPair p
-  Meets some_strictly = (n : ℕ) × (p : PairData) × Contains T.set n × (slice_get T.pairs n ≡ Some p) × HasNarrowCalls T.symbols p × OrientsStrictly p
+  Meets (covers_rule r) = MeetsRule T.symbols T.rules D r
+  Meets (covers_pair p) = MeetsPair T.symbols T.rules D p
+  Meets some_strictly = (n : ℕ) × (p : PairData) × Contains T.set n × (slice_get T.pairs n ≡ Some p) × MeetsStrictly T.symbols T.rules D p
 
   -- the order lets the pair with this number go: the lines of all rules and of all pairs of the set can be made good, that of this one
   -- without being that of equal trees (ours)
   pub record LetsGo (n : ℕ) : Type 0 where
-    pub rules : (k : ℕ) (r : RewriteRule) → Contains T.covered k → slice_get T.rules k ≡ Some r → OrientsRule r
-    pub pairs : (k : ℕ) (p : PairData) → Contains T.set k → slice_get T.pairs k ≡ Some p → OrientsPair p
+    pub rules : (k : ℕ) (r : RewriteRule) → Contains T.covered k → slice_get T.rules k ≡ Some r → OrientsRule T.symbols T.rules D r
+    pub pairs : (k : ℕ) (p : PairData) → Contains T.set k → slice_get T.pairs k ≡ Some p → OrientsPair T.symbols T.rules D p
     pub pair : PairData
     pub in_set : Contains T.set n
     pub is : slice_get T.pairs n ≡ Some pair
-    pub strictly : OrientsStrictly pair
+    pub strictly : OrientsStrictly T.symbols T.rules D pair
 
 -- no order that is tried lets a pair of the set go (ours)
 abbrev pub HasNoOrder : TaskData → Type 0

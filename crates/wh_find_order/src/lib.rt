@@ -2,5 +2,7 @@
 #![tactic(auto)]
 
 mod find;
+mod lines;
 
 pub use find::find_order;
+pub use lines::{PairLine, pair_line, rule_line};

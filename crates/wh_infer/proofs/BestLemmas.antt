@@ -75,7 +75,7 @@ best_counted D room g r h w over = by_count w.symbols (order_of D) w.metas room 
 -- choices among more and more
 
 pub best_none : (C : Choice → Type 0) (D : FilteringData) (room : ℕ) (g : Goal) → ((c : Choice) → C c → ⊥) → IsBestOf C D room g None
-best_none C D room g no w over c x = absurd (no c x.1)
+best_none C D room g never w over c x = absurd (never c x.1)
 
 pub best_more : (C B E : Choice → Type 0) (D : FilteringData) (room : ℕ) (g : Goal) (f s r : Option Choice) → IsLesser f s r
     → ((c : Choice) → E c → C c ⊎ B c) → ((c : Choice) → C c → E c) → ((c : Choice) → B c → E c) → IsBestOf C D room g f → IsBestOf B D room g s → IsBestOf E D room g r
@@ -153,7 +153,7 @@ places_all D room g l i r s items is has past h =
 pub at_no_room : (D : FilteringData) (room : ℕ) (g : Goal) (l : Letter) (place : ℕ) → room ≡ 0 → IsBestAt D room g l place None
 at_no_room D room g l place none w over c x = absurd (omega (arith, x.0.3, none))
 
-nothing_asked : (n : ℕ) (w : World) (o : Option (List Task)) → MayStandFor n w None o → o ≡ None
+pub nothing_asked : (n : ℕ) (w : World) (o : Option (List Task)) → MayStandFor n w None o → o ≡ None
 nothing_asked n w None h = refl
 nothing_asked n w (Some ks) h = absurd h
 
@@ -173,7 +173,7 @@ tasks_at D g w c l place ks e f h =
     ∙ sym (ap (λ (x : ℕ). tasks_by w.symbols (order_of D) w.metas (task (length D.symbols) g) (letter c.letter) x) f) ∙ h
 
 pub at_no_goals : (D : FilteringData) (room : ℕ) (g : Goal) (l : Letter) (place : ℕ) → AreGoalsBy D g (letter l) place None → IsBestAt D room g l place None
-at_no_goals D room g l place none w over c ((d, b, ks, deep, by, shown, count), e, f) =
+at_no_goals D room g l place none w over c ((d, b, ks, deep, by, shown, count), (e, f)) =
     absurd (none_some (sym (nothing_asked (length D.symbols) w (tasks_by w.symbols (order_of D) w.metas (task (length D.symbols) g) (letter l) place) (none w over))
     ∙ tasks_at D g w c l place ks e f by))
 
@@ -202,12 +202,12 @@ too_many D room less g w c l place gs hs n items step goals over (d, b, ks, deep
 
 pub at_no_total : (D : FilteringData) (room less : ℕ) (g : Goal) (l : Letter) (place : ℕ) (gs : Vec Goal) (hs : List Goal) → hs ≡ gs.items → less ≡ room - 1
     → AreGoalsBy D g (letter l) place (Some gs) → IsLeastTotal D less hs None → IsBestAt D room g l place None
-at_no_total D room less g l place gs hs items step goals total w over c (by, e, f) =
+at_no_total D room less g l place gs hs items step goals total w over c (by, (e, f)) =
     omega (arith, too_many D room less g w c l place gs hs (2 ^ 32) items step goals over by e f total)
 
 pub at_over : (D : FilteringData) (room less : ℕ) (g : Goal) (l : Letter) (place : ℕ) (gs : Vec Goal) (hs : List Goal) (n : ℕ) → hs ≡ gs.items → less ≡ room - 1
     → AreGoalsBy D g (letter l) place (Some gs) → IsLeastTotal D less hs (Some n) → 2 ^ 32 ≤ n + 1 → IsBestAt D room g l place None
-at_over D room less g l place gs hs n items step goals total over_full w over c (by, e, f) =
+at_over D room less g l place gs hs n items step goals total over_full w over c (by, (e, f)) =
     omega (arith, over_full, too_many D room less g w c l place gs hs n items step goals over by e f (λ w over. (total w over).2))
 
 pub at_some : (D : FilteringData) (room less : ℕ) (g : Goal) (l : Letter) (place : ℕ) (gs : Vec Goal) (hs : List Goal) (n : ℕ) (c : Choice) → hs ≡ gs.items → less + 1 ≡ room
@@ -216,7 +216,7 @@ pub at_some : (D : FilteringData) (room less : ℕ) (g : Goal) (l : Letter) (pla
 at_some D room less g l place gs hs n c items step goals total e f count few w over = on (tasks_by w.symbols (order_of D) w.metas (task (length D.symbols) g) (letter l) place) refl (goals w over)
   where
     on : (o : Option (List Task)) → tasks_by w.symbols (order_of D) w.metas (task (length D.symbols) g) (letter l) place ≡ o → MayStandFor (length D.symbols) w (Some gs) o
-        → IsLeast (λ c. c.count) (λ c. IsBy w.symbols (order_of D) w.metas room (task (length D.symbols) g) c × (c.letter ≡ l) × (c.place ≡ place)) (Some c)
+        → IsLeast (λ c. c.count) (λ c. IsBy w.symbols (order_of D) w.metas room (task (length D.symbols) g) c × ((c.letter ≡ l) × (c.place ≡ place))) (Some c)
     on None d h = absurd (some_none h)
     on (Some ks) d h =
         let js : map (task (length D.symbols)) hs ≡ ks = ap (map (task (length D.symbols))) items ∙ h.same_tasks in
@@ -227,8 +227,8 @@ at_some D room less g l place gs hs n c items step goals total e f count few w o
         ap (λ (x : Letter). tasks_by w.symbols (order_of D) w.metas (task (length D.symbols) g) (letter x) c.place) e
         ∙ ap (λ (x : ℕ). tasks_by w.symbols (order_of D) w.metas (task (length D.symbols) g) (letter l) x) f ∙ d in (
           few,
-          ((less, n, ks, deep, by, subst (λ k. AreShown w.symbols (order_of D) w.metas less k n) js least.1, number), e, f),
-          λ b x. omega (arith, count, too_many D room less g w b l place gs hs n items (omega (arith, step)) goals over x.0 x.1 x.2 (λ w over. (total w over).2)),
+          ((less, n, ks, deep, by, subst (λ k. AreShown w.symbols (order_of D) w.metas less k n) js least.1, number), (e, f)),
+          λ b x. omega (arith, count, too_many D room less g w b l place gs hs n items (omega (arith, step)) goals over x.0 x.1.0 x.1.1 (λ w over. (total w over).2)),
         )
 
 -- sums over goals

@@ -212,5 +212,5 @@ line_found D c s t g r is over least S rules M sides = on r (least w (over (leng
 
     on : (r : Option Inference) → IsLeast entries (IsGood w.symbols (order_of D) w.metas deepest_inference (task (length D.symbols) g)) (option_map inference r)
         → MatchOption r ((i : m.Inference) → Shows S rules D M c s t i → ⊥) (λ i. Shows S rules D M c s t (inference i))
-    on None h i shows = omega (arith, h i (there i ∙ shows.good, shows.nested), shows.few)
+    on None h = λ i shows. omega (arith, h i (there i ∙ shows.good, shows.nested), shows.few)
     on (Some i) h = record { good = sym (there (inference i)) ∙ h.1.0; nested = h.1.1; few = h.0 }

@@ -3,3 +3,4 @@ pub mod TaskLemmas
 pub mod WayLemmas
 pub mod BestLemmas
 pub mod BuildLemmas
+pub mod PlainLemmas

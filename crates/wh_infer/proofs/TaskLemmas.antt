@@ -226,6 +226,16 @@ module _ (F : Symbols) (prec : ℕ → ℕ) (M : List Declared) where
   above_place from next s t body zero ks (asks_body a v e k) = omega arith
   above_place from next s t variable zero ks (asks_variable x a e b k) = omega arith
   above_place from next s t meta_part (suc n) ks (asks_meta z ts u e here b k) = omega (arith, slice_get_within (arguments_of s) n u here)
+  above_place from next s t same_trees n ks h = elim h [ ]
+  above_place from next s t bodies n ks h = elim h [ ]
+  above_place from next s t arguments n ks h = elim h [ ]
+  above_place from next s t part zero ks h = elim h [ ]
+  above_place from next s t lower (suc n) ks h = elim h [ ]
+  above_place from next s t first_less zero ks h = elim h [ ]
+  above_place from next s t spine_parts (suc n) ks h = elim h [ ]
+  above_place from next s t body (suc n) ks h = elim h [ ]
+  above_place from next s t variable (suc n) ks h = elim h [ ]
+  above_place from next s t meta_part zero ks h = elim h [ ]
 
   greater_place : (next : ℕ) (s t : Tm) (l : Letter) (n : ℕ) (is : Inferences) (ks : List Task) → GreaterAsks F prec M next s t l n is ks → n ≤ length (arguments_of s)
   greater_place next s t l n is ks (asks_bodies e k) = omega arith

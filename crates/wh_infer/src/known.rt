@@ -1,11 +1,14 @@
 //! What is known of goals.
 
-ghost use Rattle.std.specs.Prelude.{◌≡◌, IfSome};
+ghost use Rattle.std.specs.Prelude.{◌≡◌, All, IfSome, IsTrue};
 ghost use Rattle.wh_ordering.specs.FilteringView.{filtering_data};
 ghost use Rattle.wh_infer.specs.Bests.{IsLeastCount};
+ghost use Rattle.wh_infer.specs.Entries.{IsEntryFor, IsExact};
 
+use crate::copies::{are_alike, copy_tree};
+use crate::entry::Entry;
 use std::alloc::{AllocError, Global};
-use wh_order::Goal;
+use wh_order::{Claim, Goal};
 use wh_ordering::Filters;
 
 /// The least numbers of entries that show goals, under some filters.
@@ -15,15 +18,32 @@ pub struct Known<'a> {
     pub alloc: Global,
     /// The filters.
     pub filters: &'a Filters,
+    /// What is known so far.
+    pub entries: Vec<Entry>,
+    ghost exact: { All (IsExact (filtering_data filters.now)) entries.items },
 }
 
 impl<'a> Known<'a> {
+    /// Nothing is known.
+    pub fn new(alloc: Global, filters: &'a Filters) -> Known<'a>
+        ensures { result.filters ≡ filters }
+    {
+        Known {
+            alloc,
+            filters,
+            entries: Vec::new(alloc),
+        }
+    }
+
     /// The least number of entries that shows the goal, nested at most `room` deep, where it is known.
     pub fn look(&self, goal: &Goal<'_>, room: u8) -> Option<Option<u32>>
-        ensures { IfSome result (λ count. IsLeastCount (filtering_data self.now.filters.now) room goal.now count) }
+        ensures { IfSome result (IsLeastCount (filtering_data self.now.filters.now) room goal.now) }
     {
-        let _goal = goal;
-        let _room = room;
+        for entry in &self.entries {
+            if is_for(entry, goal, room) {
+                return Some(entry.count);
+            }
+        }
         None
     }
 
@@ -32,9 +52,37 @@ impl<'a> Known<'a> {
         requires { IsLeastCount (filtering_data self.old.filters.now) room goal.now count }
         ensures filters { self.new.filters ≡ self.old.filters }
     {
-        let _goal = goal;
-        let _room = room;
-        let _count = count;
-        Ok(())
+        let entry = Entry {
+            claim: goal.claim,
+            next: goal.next,
+            left: copy_tree(self.alloc, goal.left.tree())?,
+            right: copy_tree(self.alloc, goal.right.tree())?,
+            room,
+            count,
+        };
+        self.entries.push(entry)
+    }
+}
+
+// Whether the entry is for this goal, nested at most `room` deep.
+fn is_for(entry: &Entry, goal: &Goal<'_>, room: u8) -> bool
+    ensures { IsTrue result → IsEntryFor entry.now goal.now room }
+{
+    entry.room == room
+        && entry.next == goal.next
+        && same_claim(entry.claim, goal.claim)
+        && are_alike(&entry.left, goal.left.tree())
+        && are_alike(&entry.right, goal.right.tree())
+}
+
+// Whether the claims are the same.
+fn same_claim(first: Claim, second: Claim) -> bool
+    ensures { IsTrue result → first ≡ second }
+{
+    match (first, second) {
+        (Claim::AtLeast, Claim::AtLeast) => true,
+        (Claim::Greater, Claim::Greater) => true,
+        (Claim::Above(from), Claim::Above(other)) => from == other,
+        _ => false,
     }
 }

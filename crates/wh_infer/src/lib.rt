@@ -4,6 +4,8 @@
 mod best;
 mod build;
 mod choice;
+mod copies;
+mod entry;
 mod known;
 mod line;
 mod ways;

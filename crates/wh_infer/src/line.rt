@@ -57,6 +57,6 @@ fn find(
         left: Side::Here(left),
         right: Side::Here(right),
     };
-    let mut known = Known { alloc, filters };
+    let mut known = Known::new(alloc, filters);
     build(&mut known, &goal, DEEPEST)
 }

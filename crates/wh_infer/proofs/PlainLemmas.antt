@@ -1,0 +1,161 @@
+-- What a tree stands for, and what it is over, by what tells it apart.
+use mathlib.Core.Former.{Count}
+use Rattle.std.proofs.Common.{◌≡◌, ℕ, ◌+◌, ◌<◌, List, [], ◌∷◌, ◌++◌, length, take, get_or, Box, Global, refl, ap, ap₂, subst, sym, ◌∙◌, arith}
+use Rattle.wh_types.specs.declared.simple_type.SimpleType.{SimpleType}
+use Rattle.wh_types.specs.Ty.{sort}
+use Rattle.wh_types.specs.Erase.{ty}
+use Rattle.wh_terms.specs.Tree.{Tm, bound, free, fun, meta, lam, tms_of, spine}
+use Rattle.wh_extended.specs.Kinds.{type_at, out_at}
+use Rattle.wh_order.specs.declared.tree.Tree.{Tree, Meta, Sym, Mark, Lam, Apply, Row_of-Tree, end_of-Tree, more_of-Tree, items-the_row-Tree, items_hidden-the_row-Tree-0}
+use Rattle.wh_order.specs.declared.tree.Tree.TheVariants.{Bound, Free, Meta', Sym', Mark', Lam', Apply'}
+use Rattle.wh_order.specs.Trees.{tree, row, spine_type, IsHeadTree, AreOver}
+use Rattle.wh_order.specs.TreeParts.{World, Over}
+use Rattle.wh_infer.specs.Plain.{Plain, a_bound, a_free, a_meta, a_symbol, a_mark, a_lam, a_spine, Plains, no_trees, more_trees, plain, plain_row, plains}
+
+-- the tree that is stood for
+
+abbrev mutual
+  tree_by : ℕ → Plain → Tm
+  tree_by n (a_bound i) = bound i
+  tree_by n (a_free x a) = free x a
+  tree_by n (a_meta z a ts) = meta z (tms_of (trees_by n ts))
+  tree_by n (a_symbol f ts) = spine (fun f) (trees_by n ts)
+  tree_by n (a_mark f ts) = spine (fun (n + f)) (trees_by n ts)
+  tree_by n (a_lam a t) = lam a (tree_by n t)
+  tree_by n (a_spine t ts) = spine (tree_by n t) (trees_by n ts)
+
+  trees_by : ℕ → Plains → List Tm
+  trees_by n no_trees = []
+  trees_by n (more_trees t ts) = tree_by n t ∷ trees_by n ts
+
+mutual
+  tree_is : (n : ℕ) (t : Tree) → tree n t ≡ tree_by n (plain t)
+  tree_is n (Bound i) = refl
+  tree_is n (Free x a) = refl
+  tree_is n (Meta' z a shape all) = ap (λ (us : List Tm). meta z (tms_of us)) (row_is n _ all)
+  tree_is n (Sym' f shape all) = ap (spine (fun f)) (row_is n _ all)
+  tree_is n (Mark' f shape all) = ap (spine (fun (n + f))) (row_is n _ all)
+  tree_is n (Lam' a p t) = ap (lam (ty a)) (tree_is n t)
+  tree_is n (Apply' p t shape all) = ap₂ spine (tree_is n t) (row_is n _ all)
+
+  row_is : (n : ℕ) (m : _) (r : Row_of-Tree m) → row n r ≡ trees_by n (plain_row r)
+  row_is n m end_of-Tree = refl
+  row_is n m (more_of-Tree t rest) = ap₂ (λ (u : Tm) (us : List Tm). u ∷ us) (tree_is n t) (row_is n _ rest)
+
+-- what it is over
+
+abbrev IsHead : Plain → Type 0
+IsHead (a_symbol f ts) = ⊥
+IsHead (a_mark f ts) = ⊥
+IsHead (a_spine t ts) = ⊥
+IsHead _ = Unit {0}
+
+head_is : (t : Tree) → IsHeadTree t → IsHead (plain t)
+head_is (Bound i) h = tt
+head_is (Free x a) h = tt
+head_is (Meta' z a shape all) h = tt
+head_is (Sym' f shape all) h = absurd h
+head_is (Mark' f shape all) h = absurd h
+head_is (Lam' a p t) h = tt
+head_is (Apply' p t shape all) h = absurd h
+
+is_head : (t : Tree) → IsHead (plain t) → IsHeadTree t
+is_head (Bound i) h = tt
+is_head (Free x a) h = tt
+is_head (Meta' z a shape all) h = tt
+is_head (Sym' f shape all) h = absurd h
+is_head (Mark' f shape all) h = absurd h
+is_head (Lam' a p t) h = tt
+is_head (Apply' p t shape all) h = absurd h
+
+abbrev mutual
+  OverBy : ℕ → World → Plain → Type 0
+  OverBy n w (a_bound i) = Unit {0}
+  OverBy n w (a_free x a) = Unit {0}
+  OverBy n w (a_meta z a ts) = (out_at w.metas z ≡ a) × AllOverBy n w ts
+  OverBy n w (a_symbol f ts) = (f < n) × (spine_type (type_at w.symbols.funs f) (length (trees_by n ts)) ≡ sort 0) × AllOverBy n w ts
+  OverBy n w (a_mark f ts) = (spine_type (type_at w.symbols.funs (n + f)) (length (trees_by n ts)) ≡ sort 0) × AllOverBy n w ts
+  OverBy n w (a_lam a t) = OverBy n w t
+  OverBy n w (a_spine t ts) = IsHead t × (0 < length (trees_by n ts)) × OverBy n w t × AllOverBy n w ts
+
+  AllOverBy : ℕ → World → Plains → Type 0
+  AllOverBy n w no_trees = Unit {0}
+  AllOverBy n w (more_trees t ts) = OverBy n w t × AllOverBy n w ts
+
+count_is : (n : ℕ) (m : _) (r : Row_of-Tree m) → length (row n r) ≡ length (trees_by n (plain_row r))
+count_is n m r = ap length (row_is n m r)
+
+mutual
+  over_is : (n : ℕ) (w : World) (t : Tree) → Over n w t → OverBy n w (plain t)
+  over_is n w (Bound i) o = tt
+  over_is n w (Free x a) o = tt
+  over_is n w (Meta' z a shape all) o = (o.0, each_is n w _ all o.1)
+  over_is n w (Sym' f shape all) o = (o.0, subst (λ (k : ℕ). spine_type (type_at w.symbols.funs f) k ≡ sort 0) (count_is n _ all) o.1, each_is n w _ all o.2)
+  over_is n w (Mark' f shape all) o = (subst (λ (k : ℕ). spine_type (type_at w.symbols.funs (n + f)) k ≡ sort 0) (count_is n _ all) o.0, each_is n w _ all o.1)
+  over_is n w (Lam' a p t) o = over_is n w t o
+  over_is n w (Apply' p t shape all) o = (head_is t o.0, subst (λ (k : ℕ). 0 < k) (count_is n _ all) o.1, over_is n w t o.2, each_is n w _ all o.3)
+
+  each_is : (n : ℕ) (w : World) (m : _) (r : Row_of-Tree m) → AreOver n w.symbols w.metas r → AllOverBy n w (plain_row r)
+  each_is n w m end_of-Tree o = tt
+  each_is n w m (more_of-Tree t rest) o = (over_is n w t o.0, each_is n w _ rest o.1)
+
+mutual
+  is_over : (n : ℕ) (w : World) (t : Tree) → OverBy n w (plain t) → Over n w t
+  is_over n w (Bound i) o = tt
+  is_over n w (Free x a) o = tt
+  is_over n w (Meta' z a shape all) o = (o.0, is_each n w _ all o.1)
+  is_over n w (Sym' f shape all) o = (o.0, subst (λ (k : ℕ). spine_type (type_at w.symbols.funs f) k ≡ sort 0) (sym (count_is n _ all)) o.1, is_each n w _ all o.2)
+  is_over n w (Mark' f shape all) o = (subst (λ (k : ℕ). spine_type (type_at w.symbols.funs (n + f)) k ≡ sort 0) (sym (count_is n _ all)) o.0, is_each n w _ all o.1)
+  is_over n w (Lam' a p t) o = is_over n w t o
+  is_over n w (Apply' p t shape all) o = (is_head t o.0, subst (λ (k : ℕ). 0 < k) (sym (count_is n _ all)) o.1, is_over n w t o.2, is_each n w _ all o.3)
+
+  is_each : (n : ℕ) (w : World) (m : _) (r : Row_of-Tree m) → AllOverBy n w (plain_row r) → AreOver n w.symbols w.metas r
+  is_each n w m end_of-Tree o = tt
+  is_each n w m (more_of-Tree t rest) o = (is_over n w t o.0, is_each n w _ rest o.1)
+
+-- so trees that are told apart by nothing stand for one tree, and are over the same
+
+pub alike_tree : (n : ℕ) (s t : Tree) → plain s ≡ plain t → tree n s ≡ tree n t
+alike_tree n s t e = tree_is n s ∙ ap (tree_by n) e ∙ sym (tree_is n t)
+
+pub alike_over : (n : ℕ) (w : World) (s t : Tree) → plain s ≡ plain t → Over n w s → Over n w t
+alike_over n w s t e o = is_over n w t (subst (OverBy n w) e (over_is n w s o))
+
+-- trees with arguments
+
+plain_items : (m : _) (r : Row_of-Tree m) → plain_row r ≡ plains (items-the_row-Tree m r)
+plain_items m end_of-Tree = refl
+plain_items m (more_of-Tree t rest) = ap (λ (us : Plains). more_trees (plain t) us) (plain_items _ rest)
+
+abbrev row_of : Tree → (m : Count) × Row_of-Tree m
+row_of (Meta' z a _ r) = (_, r)
+row_of (Sym' f _ r) = (_, r)
+row_of (Mark' f _ r) = (_, r)
+row_of (Apply' p t _ r) = (_, r)
+row_of _ = (_, end_of-Tree)
+
+pub plain_meta : (t : Tree) (z : ℕ) (a : SimpleType) (ts : List Tree) → t ≡ Meta z a ts → plain t ≡ a_meta z (ty a) (plains ts)
+plain_meta t z a ts e = ap plain e ∙ ap (a_meta z (ty a)) (plain_items _ (row_of (Meta z a ts)).1 ∙ ap plains (items_hidden-the_row-Tree-0 ts))
+
+pub plain_sym : (t : Tree) (f : ℕ) (ts : List Tree) → t ≡ Sym f ts → plain t ≡ a_symbol f (plains ts)
+plain_sym t f ts e = ap plain e ∙ ap (a_symbol f) (plain_items _ (row_of (Sym f ts)).1 ∙ ap plains (items_hidden-the_row-Tree-0 ts))
+
+pub plain_mark : (t : Tree) (f : ℕ) (ts : List Tree) → t ≡ Mark f ts → plain t ≡ a_mark f (plains ts)
+plain_mark t f ts e = ap plain e ∙ ap (a_mark f) (plain_items _ (row_of (Mark f ts)).1 ∙ ap plains (items_hidden-the_row-Tree-0 ts))
+
+pub plain_apply : (t : Tree) (h : Box Tree Global) (ts : List Tree) → t ≡ Apply h ts → plain t ≡ a_spine (plain h.value) (plains ts)
+plain_apply t h ts e = ap plain e ∙ ap (a_spine (plain h.value)) (plain_items _ (row_of (Apply h ts)).1 ∙ ap plains (items_hidden-the_row-Tree-0 ts))
+
+-- lists
+
+pub plains_push : (ts us : List Tree) (t u : Tree) → plains ts ≡ plains us → plain t ≡ plain u → plains (ts ++ t ∷ []) ≡ plains (us ++ u ∷ [])
+plains_push [] [] t u e f = ap (λ p. more_trees p no_trees) f
+plains_push [] (y ∷ us) t u e f = absurd (cc)
+plains_push (x ∷ ts) [] t u e f = absurd (cc)
+plains_push (x ∷ ts) (y ∷ us) t u e f = ap₂ more_trees (first e) (plains_push ts us t u (behind e) f)
+  where
+    first : {p q : Plain} {ps qs : Plains} → more_trees p ps ≡ more_trees q qs → p ≡ q
+    first e = cc
+
+    behind : {p q : Plain} {ps qs : Plains} → more_trees p ps ≡ more_trees q qs → ps ≡ qs
+    behind e = cc
