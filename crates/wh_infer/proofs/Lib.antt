@@ -2,5 +2,7 @@ pub mod LeastLemmas
 pub mod TaskLemmas
 pub mod WayLemmas
 pub mod BestLemmas
+pub mod WayGoals
 pub mod BuildLemmas
 pub mod PlainLemmas
+pub mod EntryLemmas

@@ -1,6 +1,7 @@
 -- What a tree stands for, and what it is over, by what tells it apart.
 use mathlib.Core.Former.{Count}
-use Rattle.std.proofs.Common.{◌≡◌, ℕ, ◌+◌, ◌<◌, List, [], ◌∷◌, ◌++◌, length, take, get_or, Box, Global, refl, ap, ap₂, subst, sym, ◌∙◌, arith}
+use Rattle.std.proofs.Common.{◌≡◌, ℕ, zero, suc, ◌+◌, ◌<◌, ◌≤◌, List, [], ◌∷◌, ◌++◌, length, take, get_or, Box, Global, refl, ap, ap₂, subst, sym, ◌∙◌, arith}
+use Rattle.std.proofs.lemmas.List.{take_more}
 use Rattle.wh_types.specs.declared.simple_type.SimpleType.{SimpleType}
 use Rattle.wh_types.specs.Ty.{sort}
 use Rattle.wh_types.specs.Erase.{ty}
@@ -159,3 +160,28 @@ plains_push (x ∷ ts) (y ∷ us) t u e f = ap₂ more_trees (first e) (plains_p
 
     behind : {p q : Plain} {ps qs : Plains} → more_trees p ps ≡ more_trees q qs → ps ≡ qs
     behind e = cc
+
+take_whole : (ts : List Tree) (i : ℕ) → length ts ≤ i → take i ts ≡ ts
+take_whole [] zero past = refl
+take_whole [] (suc i) past = refl
+take_whole (t ∷ ts) zero past = absurd (omega arith)
+take_whole (t ∷ ts) (suc i) past = ap (λ (us : List Tree). t ∷ us) (take_whole ts i (omega arith))
+
+-- a copy of each tree so far, and one more
+pub copied_next : (old new ts : List Tree) (i : ℕ) (r t : Tree) → plains old ≡ plains (take i ts) → new ≡ old ++ r ∷ [] → plain r ≡ plain t → i < length ts → t ≡ get_or ts i t
+    → plains new ≡ plains (take (i + 1) ts)
+copied_next old new ts i r t before pushed same within here =
+    ap plains pushed ∙ plains_push old (take i ts) r t before same ∙ ap plains (sym (take_more ts i t within ∙ ap (λ (x : Tree). take i ts ++ x ∷ []) (sym here)))
+
+pub copied_all : (rs ts : List Tree) (i : ℕ) → plains rs ≡ plains (take i ts) → length ts ≤ i → plains rs ≡ plains ts
+copied_all rs ts i h past = h ∙ ap plains (take_whole ts i past)
+
+pub alike_next : (ts us : List Tree) (i : ℕ) (t u : Tree) → plains (take i ts) ≡ plains (take i us) → plain t ≡ plain u → i < length ts → i < length us → t ≡ get_or ts i t → u ≡ get_or us i u
+    → plains (take (i + 1) ts) ≡ plains (take (i + 1) us)
+alike_next ts us i t u before same within inside here there =
+    ap plains (take_more ts i t within ∙ ap (λ (x : Tree). take i ts ++ x ∷ []) (sym here))
+    ∙ plains_push (take i ts) (take i us) t u before same
+    ∙ ap plains (sym (take_more us i u inside ∙ ap (λ (x : Tree). take i us ++ x ∷ []) (sym there)))
+
+pub alike_all : (ts us : List Tree) (i : ℕ) → plains (take i ts) ≡ plains (take i us) → length ts ≤ i → length us ≤ i → plains ts ≡ plains us
+alike_all ts us i h p q = sym (ap plains (take_whole ts i p)) ∙ h ∙ ap plains (take_whole us i q)

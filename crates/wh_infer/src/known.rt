@@ -60,7 +60,8 @@ impl<'a> Known<'a> {
             room,
             count,
         };
-        self.entries.push(entry)
+        self.entries.push(entry)?;
+        Ok(())
     }
 }
 
