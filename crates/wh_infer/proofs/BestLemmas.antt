@@ -19,7 +19,7 @@ use Rattle.wh_order.proofs.CheckLemmas.{drop_here, drop_end}
 use Rattle.wh_infer.specs.declared.choice.Choice.{Choice}
 use Rattle.wh_infer.specs.Least.{IsLeast, own}
 use Rattle.wh_infer.specs.Ways.{IsShown, AreShown, tasks_by}
-use Rattle.wh_infer.specs.Bests.{letter_with, IsBy, AreGoalsBy, IsBestOf, IsBest, IsBestBy, IsBestAt, IsLeastCount, IsLeastTotal, IsLesser, count_of}
+use Rattle.wh_infer.specs.Bests.{letter_with, IsBy, AreGoalsBy, IsBestOf, IsBest, IsBestBy, IsBestAt, IsLeastCount, IsLeastTotal, IsLesser, IsOneMore, IsSum, count_of}
 use Rattle.wh_infer.proofs.LeastLemmas.{least_same, least_or}
 use Rattle.wh_infer.proofs.TaskLemmas.{some_none, none_some}
 use Rattle.wh_infer.proofs.WayLemmas.{way_within, shown_by, none_shown, by_shown, nothing_shown, sum_none, sum_over, sum_some, none_behind}
@@ -231,6 +231,16 @@ at_some D room less g l place gs hs n c items step goals total e f count few w o
           λ b x. omega (arith, count, too_many D room less g w b l place gs hs n items (omega (arith, step)) goals over x.0 x.1.0 x.1.1 (λ w over. (total w over).2)),
         )
 
+pub at_choice : (D : FilteringData) (room less : ℕ) (g : Goal) (l : Letter) (place : ℕ) (gs : Vec Goal) (hs : List Goal) (o : Option ℕ) (r : Option Choice) → hs ≡ gs.items → less + 1 ≡ room
+    → AreGoalsBy D g (letter l) place (Some gs) → IsLeastTotal D less hs o → IsOneMore l place o r → IsBestAt D room g l place r
+at_choice D room less g l place gs hs None r items step goals total is =
+    subst (IsBestAt D room g l place) (sym is) (at_no_total D room less g l place gs hs items (omega (arith, step)) goals total)
+at_choice D room less g l place gs hs (Some n) r items step goals total (inl is) =
+    subst (IsBestAt D room g l place) (sym is.1)
+    (at_some D room less g l place gs hs n (record { letter = l; place = place; count = n + 1 }) items step goals total refl refl refl is.0)
+at_choice D room less g l place gs hs (Some n) r items step goals total (inr is) =
+    subst (IsBestAt D room g l place) (sym is.1) (at_over D room less g l place gs hs n items (omega (arith, step)) goals total is.0)
+
 -- sums over goals
 
 pub total_first : (D : FilteringData) (room : ℕ) (gs : List Goal) (i : ℕ) → length gs ≤ i → IsLeastTotal D room (drop i gs) (Some 0)
@@ -258,3 +268,20 @@ pub total_more : (D : FilteringData) (room : ℕ) (gs : List Goal) (i : ℕ) (g 
 total_more D room gs i g a b s within is count rest sum few =
     subst (λ (hs : List Goal). IsLeastTotal D room hs (Some s)) (sym (drop_here gs i g within is))
     (λ w over. sum_some w.symbols (order_of D) w.metas room (task (length D.symbols) g) (map (task (length D.symbols)) (drop (i + 1) gs)) a b s (count w over.0) (rest w over.1) sum few)
+
+pub total_next : (D : FilteringData) (room : ℕ) (gs : List Goal) (i j : ℕ) (g : Goal) (o : Option ℕ) (b s : ℕ) → j + 1 ≡ i → j < length gs → g ≡ get_or gs j g → IsLeastCount D room g o
+    → IsLeastTotal D room (drop i gs) (Some b) → IsSum o b (Some s) → IsLeastTotal D room (drop j gs) (Some s)
+total_next D room gs i j g None b s step within is count rest sum = absurd (some_none sum)
+total_next D room gs i j g (Some a) b s step within is count rest (inl sum) =
+    total_more D room gs j g a b s within is count (subst (λ (k : ℕ). IsLeastTotal D room (drop k gs) (Some b)) (sym step) rest) (same sum.1) (omega (arith, sum.0, same sum.1))
+  where
+    same : {m n : ℕ} → Some m ≡ Some n → m ≡ n
+    same e = cc
+total_next D room gs i j g (Some a) b s step within is count rest (inr sum) = absurd (some_none sum.1)
+
+pub total_stop : (D : FilteringData) (room : ℕ) (gs : List Goal) (i j : ℕ) (g : Goal) (o : Option ℕ) (b : ℕ) → j + 1 ≡ i → j < length gs → g ≡ get_or gs j g → IsLeastCount D room g o
+    → IsLeastTotal D room (drop i gs) (Some b) → IsSum o b None → IsLeastTotal D room gs None
+total_stop D room gs i j g None b step within is count rest sum = total_none D room gs j g within is count
+total_stop D room gs i j g (Some a) b step within is count rest (inl sum) = absurd (none_some sum.1)
+total_stop D room gs i j g (Some a) b step within is count rest (inr sum) =
+    total_over D room gs j g a b within is count (subst (λ (k : ℕ). IsLeastTotal D room (drop k gs) (Some b)) (sym step) rest) sum.0

@@ -27,7 +27,7 @@ use Rattle.wh_order.specs.Claims.{task, IsGoalOver, AreGoalsOver}
 use Rattle.wh_infer.specs.declared.choice.Choice.{Choice}
 use Rattle.wh_infer.specs.Least.{IsLeast}
 use Rattle.wh_infer.specs.Ways.{IsGood, AreGood, IsShown, AreShown, tasks_by}
-use Rattle.wh_infer.specs.Bests.{IsBy, AreGoalsBy, IsBest, IsLeastCount, IsLeastTotal, IsLeastInference, AreLeastInferences, written_place}
+use Rattle.wh_infer.specs.Bests.{IsBy, AreGoalsBy, IsBest, IsLeastCount, IsLeastTotal, IsLeastInference, AreLeastInferences, IsMadeWith, written_place}
 use Rattle.wh_infer.specs.Lines.{Shows, IsFound}
 use Rattle.wh_infer.proofs.TaskLemmas.{some_none, none_some, both_none}
 use Rattle.wh_infer.proofs.WayLemmas.{place_by, good_by, none_shown}
@@ -123,6 +123,13 @@ built D room less g c gs hs parts i items step best goals least shape w over =
       ),
       λ j good. omega (arith, size, few, all, count, no_fewer D room g w c.count (λ b x. (best w over).2 b (x, tt)) j good),
     )
+
+pub built_with : (D : FilteringData) (room less : ℕ) (g : Goal) (c : Choice) (gs : Vec Goal) (hs : List Goal) (o : Option (List Inference)) (r : Option Inference) → hs ≡ gs.items → less + 1 ≡ room
+    → IsBest D room g (Some c) → AreGoalsBy D g (letter c.letter) c.place (Some gs) → AreLeastInferences D less hs o → IsMadeWith c o r → IsLeastInference D room g r
+built_with D room less g c gs hs None r items step best goals none is =
+    subst (IsLeastInference D room g) (sym is) (no_parts_left D room less g c gs hs items step best goals none)
+built_with D room less g c gs hs (Some parts) r items step best goals least (i, is, shape) =
+    subst (IsLeastInference D room g) (sym is) (built D room less g c gs hs parts i items step best goals least shape)
 
 -- one inference after another
 

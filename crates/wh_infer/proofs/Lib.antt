@@ -4,5 +4,3 @@ pub mod WayLemmas
 pub mod BestLemmas
 pub mod WayGoals
 pub mod BuildLemmas
-pub mod PlainLemmas
-pub mod EntryLemmas

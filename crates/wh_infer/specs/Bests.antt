@@ -1,9 +1,9 @@
 -- The least numbers of entries of inferences for the goals of the program.
-use Rattle.std.specs.Prelude.{ℕ, suc, ◌≡◌, ◌<◌, ◌≤◌, ◌^◌, ◌==◌, ◌⊎◌, if◌then◌else◌, List, map, length, Option, None, Some}
+use Rattle.std.specs.Prelude.{ℕ, suc, ◌+◌, ◌≡◌, ◌<◌, ◌≤◌, ◌^◌, ◌==◌, ◌⊎◌, if◌then◌else◌, List, map, length, Option, None, Some}
 use Rattle.std.specs.Option.{option_map}
 use Rattle.wh_terms.specs.Typing.{Symbols, Declared}
 use Rattle.wh_inference.specs.Inferences as m
-use Rattle.wh_inference.specs.Inferences.{entries, all_entries}
+use Rattle.wh_inference.specs.Inferences.{infer, entries, all_entries}
 use Rattle.wh_inference.specs.Said.{letter, inference, inferences}
 use Rattle.wh_inference.specs.declared.inference.Letter.{Letter}
 use Rattle.wh_inference.specs.declared.inference.Letter.TheVariants.{Same, Lam, Mono, Sub, Prec, Lex, App, Bind, Var, Meta}
@@ -97,3 +97,20 @@ written_place c = elim c.letter [ Mono ↦ 0 | _ ↦ c.place ]
 abbrev pub count_of : Option Choice → Option ℕ
 count_of None = None
 count_of (Some c) = Some c.count
+
+-- the choice by this letter at this place whose parts have so many entries, where that makes fewer than 2^32
+abbrev pub IsOneMore : Letter → ℕ → Option ℕ → Option Choice → Type 0
+IsOneMore l place None r = r ≡ None
+IsOneMore l place (Some n) r =
+    ((n + 1 < 2 ^ 32) × (r ≡ Some (record { letter = l; place = place; count = n + 1 }))) ⊎ ((2 ^ 32 ≤ n + 1) × (r ≡ None))
+
+-- the sum of two numbers, where the first one is there and it is below 2^32
+abbrev pub IsSum : Option ℕ → ℕ → Option ℕ → Type 0
+IsSum None n r = r ≡ None
+IsSum (Some m) n r = ((m + n < 2 ^ 32) × (r ≡ Some (m + n))) ⊎ ((2 ^ 32 ≤ m + n) × (r ≡ None))
+
+-- the inference by the choice with these parts, where they are there
+abbrev pub IsMadeWith : Choice → Option (List Inference) → Option Inference → Type 0
+IsMadeWith c None r = r ≡ None
+IsMadeWith c (Some parts) r =
+    (i : Inference) × (r ≡ Some i) × (inference i ≡ infer (letter c.letter) (written_place c) (inferences parts))

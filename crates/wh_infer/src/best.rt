@@ -2,25 +2,30 @@
 
 ghost use Rattle.std.specs.Prelude.{◌≡◌, IfOk};
 ghost use Rattle.wh_ordering.specs.FilteringView.{filtering_data};
-ghost use Rattle.wh_infer.specs.Bests.{IsBest, IsBestAt, IsBestBy, IsLeastCount, IsLeastTotal, count_of};
+ghost use Rattle.wh_infer.specs.Bests.{IsBest, IsBestAt, IsBestBy, IsLeastCount, IsLeastTotal, IsOneMore, IsSum, count_of};
 
 use crate::choice::Choice;
-use crate::known::Known;
 use crate::ways::{LETTERS, goals_by, lesser, letter_at};
-use std::alloc::AllocError;
+use std::alloc::{AllocError, Global};
 use wh_inference::Letter;
 use wh_order::{Goal, arguments_of};
+use wh_ordering::Filters;
 use wh_types::{counted, sum};
 
 /// The way to show the goal that has the fewest entries, nested at most `room` deep; `None` where each has 2^32 at least.
 #[cycle(counting)]
-pub fn best(known: &mut Known<'_>, goal: &Goal<'_>, room: u8) -> Result<Option<Choice>, AllocError>
-    ensures found { IfOk result (IsBest (filtering_data known.old.filters.now) room goal.now) }
-    ensures filters { known.new.filters ≡ known.old.filters }
+pub fn best(
+    alloc: Global,
+    filters: &Filters,
+    goal: &Goal<'_>,
+    room: u8,
+) -> Result<Option<Choice>, AllocError>
+    ensures { IfOk result (IsBest (filtering_data filters.now) room goal.now) }
 {
     let mut found = None;
     for number in 0..LETTERS {
-        let own = best_by(known, goal, room, letter_at(number))?;
+        let letter = letter_at(number);
+        let own = best_by(alloc, filters, goal, room, letter)?;
         found = lesser(found, own);
     }
     Ok(found)
@@ -29,18 +34,21 @@ pub fn best(known: &mut Known<'_>, goal: &Goal<'_>, room: u8) -> Result<Option<C
 // The same by one letter.
 #[cycle(counting)]
 fn best_by(
-    known: &mut Known<'_>,
+    alloc: Global,
+    filters: &Filters,
     goal: &Goal<'_>,
     room: u8,
     letter: Letter,
 ) -> Result<Option<Choice>, AllocError>
-    ensures found { IfOk result (IsBestBy (filtering_data known.old.filters.now) room goal.now letter) }
-    ensures filters { known.new.filters ≡ known.old.filters }
+    ensures { IfOk result (IsBestBy (filtering_data filters.now) room goal.now letter) }
 {
+    let left = goal.left.tree();
+    let items = arguments_of(left);
+    let count = counted(items.len())?;
+    let places = sum(count, 1)?;
     let mut found = None;
-    let places = sum(counted(arguments_of(goal.left.tree()).len())?, 1)?;
     for place in 0..places {
-        let own = choice_at(known, goal, room, letter, place)?;
+        let own = choice_at(alloc, filters, goal, room, letter, place)?;
         found = lesser(found, own);
     }
     Ok(found)
@@ -49,68 +57,89 @@ fn best_by(
 // The same by one letter at one place.
 #[cycle(counting)]
 fn choice_at(
-    known: &mut Known<'_>,
+    alloc: Global,
+    filters: &Filters,
     goal: &Goal<'_>,
     room: u8,
     letter: Letter,
     place: u32,
 ) -> Result<Option<Choice>, AllocError>
-    ensures found { IfOk result (IsBestAt (filtering_data known.old.filters.now) room goal.now letter place) }
-    ensures filters { known.new.filters ≡ known.old.filters }
+    ensures { IfOk result (IsBestAt (filtering_data filters.now) room goal.now letter place) }
 {
     if room == 0 {
         return Ok(None);
     }
-    let filters = known.filters;
-    let Some(goals) = goals_by(known.alloc, filters, goal, letter, place)? else {
-        return Ok(None);
-    };
-    let Some(parts) = total(known, goals.as_slice(), room - 1)? else {
-        return Ok(None);
-    };
-    match parts.checked_add(1) {
-        Some(count) => Ok(Some(Choice {
-            letter,
-            place,
-            count,
-        })),
+    match goals_by(alloc, filters, goal, letter, place)? {
+        Some(goals) => {
+            let parts = total(alloc, filters, goals.as_slice(), room - 1)?;
+            Ok(one_more(letter, place, parts))
+        }
         None => Ok(None),
     }
 }
 
-/// The least number of entries that shows each of the goals, nested at most `room` deep; `None` where it is 2^32 at least.
-#[cycle(counting)]
-fn total(known: &mut Known<'_>, goals: &[Goal<'_>], room: u8) -> Result<Option<u32>, AllocError>
-    ensures found { IfOk result (IsLeastTotal (filtering_data known.old.filters.now) room goals.now) }
-    ensures filters { known.new.filters ≡ known.old.filters }
+// The choice whose parts have so many entries.
+fn one_more(letter: Letter, place: u32, parts: Option<u32>) -> Option<Choice>
+    ensures { IsOneMore letter place parts result }
 {
-    let mut total = 0;
+    match parts {
+        Some(parts) => match parts.checked_add(1) {
+            Some(count) => Some(Choice {
+                letter,
+                place,
+                count,
+            }),
+            None => None,
+        },
+        None => None,
+    }
+}
+
+// The least number of entries that shows each of the goals, nested at most `room` deep; `None` where it is 2^32 at least.
+#[cycle(counting)]
+fn total(
+    alloc: Global,
+    filters: &Filters,
+    goals: &[Goal<'_>],
+    room: u8,
+) -> Result<Option<u32>, AllocError>
+    ensures { IfOk result (IsLeastTotal (filtering_data filters.now) room goals.now) }
+{
+    let mut entries = 0;
     let mut left = goals.len();
     while left > 0 {
         left -= 1;
-        let Some(own) = least(known, &goals[left], room)? else {
-            return Ok(None);
-        };
-        match own.checked_add(total) {
-            Some(more) => total = more,
+        let own = least(alloc, filters, &goals[left], room)?;
+        match sum_of(own, entries) {
+            Some(more) => entries = more,
             None => return Ok(None),
         }
     }
-    Ok(Some(total))
+    Ok(Some(entries))
 }
 
-// The same of one goal. It is looked up, or else kept.
-#[cycle(counting)]
-fn least(known: &mut Known<'_>, goal: &Goal<'_>, room: u8) -> Result<Option<u32>, AllocError>
-    ensures found { IfOk result (IsLeastCount (filtering_data known.old.filters.now) room goal.now) }
-    ensures filters { known.new.filters ≡ known.old.filters }
+// The sum of two numbers, where the first one is there and it is below 2^32.
+fn sum_of(own: Option<u32>, others: u32) -> Option<u32>
+    ensures { IsSum own others result }
 {
-    if let Some(count) = known.look(goal, room) {
-        return Ok(count);
+    match own {
+        Some(own) => own.checked_add(others),
+        None => None,
     }
-    let count = count_of(best(known, goal, room)?);
-    known.note(goal, room, count)?;
-    Ok(count)
+}
+
+// The least number of entries that shows the goal, nested at most `room` deep; `None` where it is 2^32 at least.
+#[cycle(counting)]
+fn least(
+    alloc: Global,
+    filters: &Filters,
+    goal: &Goal<'_>,
+    room: u8,
+) -> Result<Option<u32>, AllocError>
+    ensures { IfOk result (IsLeastCount (filtering_data filters.now) room goal.now) }
+{
+    let choice = best(alloc, filters, goal, room)?;
+    Ok(count_of(choice))
 }
 
 // How many entries that makes.

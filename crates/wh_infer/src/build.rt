@@ -1,64 +1,88 @@
 //! Inferences with the fewest entries.
 
-ghost use Rattle.std.specs.Prelude.{◌≡◌, IfOk};
+ghost use Rattle.std.specs.Prelude.{◌≡◌, IfOk, Some};
 ghost use Rattle.wh_inference.specs.Inferences.{infer};
 ghost use Rattle.wh_inference.specs.Said as s;
 ghost use Rattle.wh_inference.specs.Said.{inference, inferences};
 ghost use Rattle.wh_ordering.specs.FilteringView.{filtering_data};
-ghost use Rattle.wh_infer.specs.Bests.{AreLeastInferences, IsLeastInference, written_place};
+ghost use Rattle.wh_infer.specs.Bests.{AreLeastInferences, IsBest, IsLeastInference, IsMadeWith, written_place};
 
 use crate::best::best;
 use crate::choice::Choice;
-use crate::known::Known;
 use crate::ways::goals_by;
-use std::alloc::AllocError;
+use std::alloc::{AllocError, Global};
 use wh_inference::{Inference, Inferences, Letter};
 use wh_order::Goal;
+use wh_ordering::Filters;
 
 /// An inference with the fewest entries that shows the goal, nested at most `room` deep; `None` where each has 2^32 at least.
 #[cycle(building)]
 pub fn build(
-    known: &mut Known<'_>,
+    alloc: Global,
+    filters: &Filters,
     goal: &Goal<'_>,
     room: u8,
 ) -> Result<Option<Inference>, AllocError>
-    ensures found { IfOk result (IsLeastInference (filtering_data known.old.filters.now) room goal.now) }
-    ensures filters { known.new.filters ≡ known.old.filters }
+    ensures { IfOk result (IsLeastInference (filtering_data filters.now) room goal.now) }
 {
-    let Some(choice) = best(known, goal, room)? else {
-        return Ok(None);
-    };
+    match best(alloc, filters, goal, room)? {
+        Some(choice) => build_by(alloc, filters, goal, room, choice),
+        None => Ok(None),
+    }
+}
+
+// The same by the best choice.
+#[cycle(building)]
+fn build_by(
+    alloc: Global,
+    filters: &Filters,
+    goal: &Goal<'_>,
+    room: u8,
+    choice: Choice,
+) -> Result<Option<Inference>, AllocError>
+    requires { IsBest (filtering_data filters.now) room goal.now (Some choice) }
+    ensures { IfOk result (IsLeastInference (filtering_data filters.now) room goal.now) }
+{
     if room == 0 {
         return Ok(None);
     }
-    let filters = known.filters;
-    let Some(goals) = goals_by(known.alloc, filters, goal, choice.letter, choice.place)? else {
-        return Ok(None);
-    };
-    let Some(parts) = build_each(known, goals.as_slice(), room - 1)? else {
-        return Ok(None);
-    };
-    Ok(Some(made(choice.letter, written_place(choice), parts)))
+    match goals_by(alloc, filters, goal, choice.letter, choice.place)? {
+        Some(goals) => {
+            let parts = build_each(alloc, filters, goals.as_slice(), room - 1)?;
+            Ok(made_with(choice, parts))
+        }
+        None => Ok(None),
+    }
 }
 
 // Such inferences for each of the goals.
 #[cycle(building)]
 fn build_each(
-    known: &mut Known<'_>,
+    alloc: Global,
+    filters: &Filters,
     goals: &[Goal<'_>],
     room: u8,
 ) -> Result<Option<Inferences>, AllocError>
-    ensures found { IfOk result (AreLeastInferences (filtering_data known.old.filters.now) room goals.now) }
-    ensures filters { known.new.filters ≡ known.old.filters }
+    ensures { IfOk result (AreLeastInferences (filtering_data filters.now) room goals.now) }
 {
-    let mut parts = Inferences::new(known.alloc)?;
+    let mut parts = Inferences::new(alloc)?;
     for goal in goals {
-        match build(known, goal, room)? {
+        match build(alloc, filters, goal, room)? {
             Some(part) => parts.push(part)?,
             None => return Ok(None),
         }
     }
     Ok(Some(parts))
+}
+
+// The inference by the choice, where the parts are there.
+fn made_with(choice: Choice, parts: Option<Inferences>) -> Option<Inference>
+    ensures { IsMadeWith choice parts result }
+{
+    match parts {
+        Some(parts) => Some(made(choice.letter, written_place(choice), parts)),
+        None => None,
+    }
 }
 
 // The place that is written with the letter: none with `m`.

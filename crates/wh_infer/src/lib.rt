@@ -4,9 +4,6 @@
 mod best;
 mod build;
 mod choice;
-mod copies;
-mod entry;
-mod known;
 mod line;
 mod ways;
 

@@ -7,7 +7,6 @@ ghost use Rattle.wh_order.specs.Claims.{said};
 ghost use Rattle.wh_infer.specs.Lines.{IsFound};
 
 use crate::build::build;
-use crate::known::Known;
 use std::alloc::{AllocError, Global};
 use wh_inference::Inference;
 use wh_order::{Claim, Goal, Side, Tree};
@@ -57,6 +56,5 @@ fn find(
         left: Side::Here(left),
         right: Side::Here(right),
     };
-    let mut known = Known::new(alloc, filters);
-    build(&mut known, &goal, DEEPEST)
+    build(alloc, filters, &goal, DEEPEST)
 }

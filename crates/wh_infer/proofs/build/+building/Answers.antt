@@ -1,39 +1,48 @@
-use Rattle.std.proofs.Common.{rules, ◌≡◌, IfOk, ℕ, ◌+◌, ◌-◌, ◌*◌, ◌<◌, ◌≤◌, length, ◌/◌, ◌%◌, Bool, true, false, nat_eq, nat_lt, List, [], ◌∷◌, ◌++◌, slice_index_or, slice_set, bit_and, bit_or, Fits, w8, w32, w64, Bor, MutBor}
-use Rattle.wh_inference.specs.Inferences.{infer}
-use Rattle.wh_inference.specs.Said as s
-use Rattle.wh_inference.specs.Said.{inference, inferences}
+use Rattle.std.proofs.Common.{◌≡◌, ℕ, ◌+◌, ◌-◌, Option, Some, None, Vec, length, subst, sym, arith}
+use Rattle.wh_inference.specs.Said.{letter}
+use Rattle.wh_inference.specs.declared.inference.Inference.{Inference}
 use Rattle.wh_ordering.specs.FilteringView.{filtering_data}
-use Rattle.wh_infer.specs.Bests.{AreLeastInferences, IsLeastInference, written_place}
+use Rattle.wh_order.specs.declared.goals.Goal.{Goal}
+use Rattle.wh_infer.specs.declared.choice.Choice.{Choice}
+use Rattle.wh_infer.specs.Bests.{AreGoalsBy, IsBest, IsLeastInference}
+use Rattle.wh_infer.proofs.BuildLemmas.{no_best, no_room, no_goals, built_with, each_none, each_next, each_built, one_missing}
 use Rattle.wh_infer.proofs.build.+building.Goals as goal
 
--- src/build.rt:29:9
-pub build-returns-in_default-clause-found : goal.build-returns-in_default-clause-found
-build-returns-in_default-clause-found t c = ?
+pub build-returns : goal.build-returns
+build-returns t c =
+    no_best (filtering_data c.args.filters.now) c.args.room c.args.goal.now
+    (subst (λ (r : Option Choice). IsBest (filtering_data c.args.filters.now) c.args.room c.args.goal.now r) c.in-None.is c.in_ok-choice.ensures)
 
--- src/build.rt:32:9
-pub build-returns-then-room-eq0-clause-found : goal.build-returns-then-room-eq0-clause-found
-build-returns-then-room-eq0-clause-found t c = ?
+pub build-build_by-requires : goal.build-build_by-requires
+build-build_by-requires t c = (
+  omega arith,
+  subst (λ (r : Option Choice). IsBest (filtering_data c.args.filters.now) c.args.room c.args.goal.now r) c.in-Some.is c.in_ok-choice.ensures,
+)
 
--- src/build.rt:36:9
-pub build-returns-in_default-2-clause-found : goal.build-returns-in_default-2-clause-found
-build-returns-in_default-2-clause-found t c = ?
+pub build_by-returns-then-room-eq0 : goal.build_by-returns-then-room-eq0
+build_by-returns-then-room-eq0 t c = no_room (filtering_data c.args.filters.now) c.args.room c.args.goal.now c.if-room-eq0.true
 
--- src/build.rt:39:9
-pub build-returns-in_default-3-clause-found : goal.build-returns-in_default-3-clause-found
-build-returns-in_default-3-clause-found t c = ?
+pub build_by-returns-in-Some : goal.build_by-returns-in-Some
+build_by-returns-in-Some t c =
+    built_with (filtering_data c.args.filters.now) c.args.room (c.args.room - 1) c.args.goal.now c.args.choice c.in-Some.goals c.as_slice.result.now c.in_ok-parts.parts c.made_with.result
+    c.as_slice.ensures.value (omega arith) c.requires
+    (subst (λ (r : Option (Vec Goal)). AreGoalsBy (filtering_data c.args.filters.now) c.args.goal.now (letter c.args.choice.letter) c.args.choice.place r) c.in-Some.is c.in_ok-goals.ensures)
+    c.in_ok-parts.ensures c.made_with.ensures
 
--- src/build.rt:19:1
-pub build-returns-clause-found : goal.build-returns-clause-found
-build-returns-clause-found t c = ?
+pub build_by-returns : goal.build_by-returns
+build_by-returns t c =
+    no_goals (filtering_data c.args.filters.now) c.args.room c.args.goal.now c.args.choice c.requires
+    (subst (λ (r : Option (Vec Goal)). AreGoalsBy (filtering_data c.args.filters.now) c.args.goal.now (letter c.args.choice.letter) c.args.choice.place r) c.in-None.is c.in_ok-goals.ensures)
 
--- src/build.rt:58:21
-pub build_each-returns-in-None-clause-found : goal.build_each-returns-in-None-clause-found
-build_each-returns-in-None-clause-found t c = ?
-
--- src/build.rt:55:5
 pub build_each-loop-goal-preserved : goal.build_each-loop-goal-preserved
-build_each-loop-goal-preserved t c = ?
+build_each-loop-goal-preserved t c =
+    each_next (filtering_data c.args.filters.now) c.args.room c.args.goals.now c.loop-goal.goal-index c.loop-goal.parts c.push.new.self c.goal-item.result c.in-Some.part c.loop-goal.invariant
+    (subst (λ (r : Option Inference). IsLeastInference (filtering_data c.args.filters.now) c.args.room c.goal-item.result r) c.in-Some.is c.in_ok-part.ensures) c.loop-goal-test.true c.goal-item.is c.in_ok-push.ensures.ok
 
--- src/build.rt:45:1
-pub build_each-returns-clause-found : goal.build_each-returns-clause-found
-build_each-returns-clause-found t c = ?
+pub build_each-returns-in-None : goal.build_each-returns-in-None
+build_each-returns-in-None t c =
+    one_missing (filtering_data c.args.filters.now) c.args.room c.args.goals.now c.loop-goal.goal-index c.goal-item.result c.loop-goal-test.true c.goal-item.is
+    (subst (λ (r : Option Inference). IsLeastInference (filtering_data c.args.filters.now) c.args.room c.goal-item.result r) c.in-None.is c.in_ok-part.ensures)
+
+pub build_each-returns : goal.build_each-returns
+build_each-returns t c = each_built (filtering_data c.args.filters.now) c.args.room c.args.goals.now c.loop-goal.goal-index c.loop-goal.parts c.loop-goal.invariant c.loop-goal-test.false

@@ -1,10 +1,12 @@
-use Rattle.std.proofs.Common.{rules, IfOk, ◌≡◌, ℕ, ◌+◌, ◌-◌, ◌*◌, ◌<◌, ◌≤◌, length, ◌/◌, ◌%◌, Bool, true, false, nat_eq, nat_lt, List, [], ◌∷◌, ◌++◌, slice_index_or, slice_set, bit_and, bit_or, Fits, w8, w32, w64, Bor, MutBor}
-use Rattle.wh_path_order.specs.Verdict.{at_least, greater}
+use Rattle.std.proofs.Common.{ℕ, refl}
+use Rattle.std.proofs.lemmas.Result.{IfOk-weaker}
 use Rattle.wh_ordering.specs.FilteringView.{filtering_data}
 use Rattle.wh_order.specs.Claims.{said}
-use Rattle.wh_infer.specs.Lines.{IsFound}
+use Rattle.wh_order.specs.declared.goals.Goal.{Goal}
+use Rattle.wh_infer.proofs.BuildLemmas.{line_found}
 use Rattle.wh_infer.proofs.line.find.Goals as goal
 
--- src/line.rt:45:1
 pub returns : goal.returns
-returns c = ?
+returns c =
+    IfOk-weaker c.build.result _ _
+    (λ r h. line_found (filtering_data c.args.filters.now) (said c.args.claim) c.args.left.now c.args.right.now _ r (λ n. refl) (λ n w o p. (o, p)) h) c.build.ensures
