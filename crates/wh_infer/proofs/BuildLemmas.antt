@@ -4,7 +4,6 @@ use Rattle.std.specs.Prelude.{◌^◌, nat_lt, cond, MatchOption}
 use Rattle.std.specs.Option.{option_map}
 use Rattle.std.specs.Global.{Vec}
 use Rattle.std.proofs.lemmas.List.{take_more}
-use mathlib.Core.Former.{Count}
 use Rattle.wh_terms.specs.Typing.{Symbols, Declared}
 use Rattle.wh_terms.specs.Rules.{RewriteRule}
 use Rattle.wh_inference.specs.Inferences as m
@@ -13,7 +12,7 @@ use Rattle.wh_inference.specs.InferenceLimits.{depth, deepest, deepest_inference
 use Rattle.wh_inference.specs.Said.{letter, inference, inferences, parts_row}
 use Rattle.wh_inference.specs.declared.inference.Letter.{Letter}
 use Rattle.wh_inference.specs.declared.inference.Letter.TheVariants.{Same, Lam, Mono, Sub, Prec, Lex, App, Bind, Var, Meta}
-use Rattle.wh_inference.specs.declared.inference.Inference.{Inference, Inference', Row_of-Inference, end_of-Inference, more_of-Inference, items-the_row-Inference, items_hidden-the_row-Inference-0, roll-Inference}
+use Rattle.wh_inference.specs.declared.inference.Inference.{Inference}
 use Rattle.wh_extended.specs.Filtered.{precedences}
 use Rattle.wh_path_order.specs.Verdict.{Claim, Task, verdict, verdicts}
 use Rattle.wh_path_order.proofs.AskedTasks.{first_part}
@@ -32,21 +31,6 @@ use Rattle.wh_infer.specs.Lines.{Shows, IsFound}
 use Rattle.wh_infer.proofs.TaskLemmas.{some_none, none_some, both_none}
 use Rattle.wh_infer.proofs.WayLemmas.{place_by, good_by, none_shown}
 use Rattle.wh_infer.proofs.BestLemmas.{way_some, nothing_asked, asked, total_none}
-
--- the inference of a letter, a place and parts
-
-parts_row-items : (n : _) (r : Row_of-Inference n) → parts_row r ≡ inferences (items-the_row-Inference n r)
-parts_row-items n end_of-Inference = refl
-parts_row-items n (more_of-Inference i rest) = ap (λ (is : m.Inferences). more_parts (inference i) is) (parts_row-items _ rest)
-
-abbrev row_of : Inference → (n : Count) × Row_of-Inference n
-row_of (Inference' _ _ _ all) = (_, all)
-
-pub inference_made : (l : Letter) (n : ℕ) (is : List Inference) → inference (roll-Inference (record { letter = l; place = n; parts = is })) ≡ infer (letter l) n (inferences is)
-unfolding roll-Inference denote.Hole.Carrier.roll
-inference_made l n is =
-    ap (λ (js : m.Inferences). infer (letter l) n js)
-    (parts_row-items _ (row_of (roll-Inference (record { letter = l; place = n; parts = is }))).1 ∙ ap inferences (items_hidden-the_row-Inference-0 is))
 
 -- the place that is written with a choice
 

@@ -1,3 +1,4 @@
+pub mod InferenceLemmas
 pub mod LeastLemmas
 pub mod TaskLemmas
 pub mod WayLemmas

@@ -1,15 +1,12 @@
 //! Inferences with the fewest entries.
 
 ghost use Rattle.std.specs.Prelude.{◌≡◌, IfOk, Some};
-ghost use Rattle.wh_inference.specs.Inferences.{infer};
-ghost use Rattle.wh_inference.specs.Said as s;
-ghost use Rattle.wh_inference.specs.Said.{inference, inferences};
 ghost use Rattle.wh_ordering.specs.FilteringView.{filtering_data};
 ghost use Rattle.wh_infer.specs.Bests.{AreLeastInferences, IsBest, IsLeastInference, IsMadeWith, written_place};
 
 use crate::best::best;
 use crate::choice::Choice;
-use crate::ways::goals_by;
+use crate::ways::{goals_by, made};
 use std::alloc::{AllocError, Global};
 use wh_inference::{Inference, Inferences, Letter};
 use wh_order::Goal;
@@ -92,17 +89,5 @@ fn written_place(choice: Choice) -> u32
     match choice.letter {
         Letter::Mono => 0,
         _ => choice.place,
-    }
-}
-
-// The inference of these parts.
-#[tactic(auto, using(crate::proofs::BuildLemmas::inference_made))]
-fn made(letter: Letter, place: u32, parts: Inferences) -> Inference
-    ensures { inference result ≡ infer (s.letter letter) place (inferences parts) }
-{
-    Inference {
-        letter,
-        place,
-        parts,
     }
 }

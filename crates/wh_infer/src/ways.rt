@@ -1,8 +1,9 @@
 //! The ways to show a goal.
 
 ghost use Rattle.std.specs.Prelude.{◌≡◌, IfOk};
-ghost use Rattle.wh_inference.specs.Inferences.{arguments};
+ghost use Rattle.wh_inference.specs.Inferences.{arguments, infer, no_parts, variable};
 ghost use Rattle.wh_inference.specs.Said as s;
+ghost use Rattle.wh_inference.specs.Said.{inference, inferences};
 ghost use Rattle.wh_ordering.specs.FilteringView.{filtering_data};
 ghost use Rattle.wh_infer.specs.Bests.{AreGoalsBy, IsLesser, letter_with};
 
@@ -73,11 +74,7 @@ fn goals_by_argument<'a>(
     if number == 0 {
         return Ok(None);
     }
-    let strict = Inference {
-        letter: Letter::Var,
-        place: 0,
-        parts: Inferences::new(alloc)?,
-    };
+    let strict = strict_part(alloc)?;
     match goals_of(alloc, filters, goal, Letter::Mono, 0, &[strict])? {
         Some(mut goals) => {
             if number > goals.len() {
@@ -87,5 +84,24 @@ fn goals_by_argument<'a>(
             Ok(Some(goals))
         }
         None => Ok(None),
+    }
+}
+
+// An inference that is not that of equal trees.
+fn strict_part(alloc: Global) -> Result<Inference, AllocError>
+    ensures { IfOk result (λ i. inference i ≡ infer variable 0 no_parts) }
+{
+    Ok(made(Letter::Var, 0, Inferences::new(alloc)?))
+}
+
+/// The inference of these parts.
+#[tactic(auto, using(crate::proofs::InferenceLemmas::inference_made))]
+pub fn made(letter: Letter, place: u32, parts: Inferences) -> Inference
+    ensures { inference result ≡ infer (s.letter letter) place (inferences parts) }
+{
+    Inference {
+        letter,
+        place,
+        parts,
     }
 }

@@ -23,18 +23,13 @@ best_by-loop-place-preserved t c =
 pub best_by-returns : goal.best_by-returns
 best_by-returns t c =
     places_all (filtering_data c.args.filters.now) c.args.room c.args.goal.now c.args.letter c.loop-place.place c.loop-place.found c.tree-left.result.now c.arguments_of-items.result.now
-    c.tree-left.ensures c.arguments_of-items.ensures (omega (arith, c.loop-place-test.false, c.in_ok-places.ensures, c.in_ok-count.ensures, c.len.ensures)) c.loop-place.invariant
+    c.tree-left.ensures c.arguments_of-items.ensures (omega (arith, c.loop-place-test.false, c.in_ok-places.ensures, c.in_ok-count.ensures)) c.loop-place.invariant
 
-pub choice_at-returns-in-Some : goal.choice_at-returns-in-Some
-choice_at-returns-in-Some t c =
-    at_choice (filtering_data c.args.filters.now) c.args.room (c.args.room - 1) c.args.goal.now c.args.letter c.args.place c.in-Some.goals c.as_slice.result.now c.in_ok-parts.parts c.one_more.result
+pub choice_at-returns-in_ok-parts-in-Some : goal.choice_at-returns-in_ok-parts-in-Some
+choice_at-returns-in_ok-parts-in-Some t c =
+    at_choice (filtering_data c.args.filters.now) c.args.room (c.args.room - 1) c.args.goal.now c.args.letter c.args.place c.in-Some.goals c.as_slice.result.now c.in_ok-parts-in-Some.parts c.one_more.result
     c.as_slice.ensures.value (omega arith)
-    (subst (λ (r : Option (Vec Goal)). AreGoalsBy (filtering_data c.args.filters.now) c.args.goal.now (letter c.args.letter) c.args.place r) c.in-Some.is c.in_ok-goals.ensures) c.in_ok-parts.ensures c.one_more.ensures
-
-pub choice_at-returns : goal.choice_at-returns
-choice_at-returns t c =
-    at_no_goals (filtering_data c.args.filters.now) c.args.room c.args.goal.now c.args.letter c.args.place
-    (subst (λ (r : Option (Vec Goal)). AreGoalsBy (filtering_data c.args.filters.now) c.args.goal.now (letter c.args.letter) c.args.place r) c.in-None.is c.in_ok-goals.ensures)
+    (subst (λ (r : Option (Vec Goal)). AreGoalsBy (filtering_data c.args.filters.now) c.args.goal.now (letter c.args.letter) c.args.place r) c.in-Some.is c.in_ok-goals.ensures) c.in_ok-parts-in-Some.ensures c.one_more.ensures
 
 pub least-returns : goal.least-returns
 least-returns t c =
