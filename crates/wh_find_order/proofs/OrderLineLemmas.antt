@@ -1,5 +1,5 @@
 -- Lines for rules and pairs, from those for their filtered sides.
-use Rattle.std.proofs.Common.{◌≡◌, ◌≢◌, ◌↔◌, ℕ, Bool, true, false, IsTrue, List, length, Option, Some, None, refl, ap₂, sym, ◌∙◌}
+use Rattle.std.proofs.Common.{◌≡◌, ◌≢◌, ◌↔◌, ℕ, Bool, true, false, IsTrue, List, length, Option, Some, None, refl, ap₂, subst, sym, ◌∙◌}
 use Rattle.std.specs.Prelude.{MatchOption}
 use Rattle.std.proofs.lemmas.Bool.{false≢true}
 use Rattle.wh_terms.specs.Tree.{Tm}
@@ -21,7 +21,7 @@ use Rattle.wh_order.specs.TreeSides.{AreFilters, AreSides, IsTreeOfSide, IsTreeO
 use Rattle.wh_infer.specs.Lines.{Shows, IsFound}
 use Rattle.wh_infer.proofs.TaskLemmas.{stricter_good, weaker_good}
 use Rattle.wh_find_order.specs.Space.{IsWithin, OrientsStrictly, MeetsRule, MeetsPair}
-use Rattle.wh_find_order.specs.OrderLines.{IsRuleLine, IsPairLine, IsRuleLineOrNone, IsPairLineOrNone}
+use Rattle.wh_find_order.specs.OrderLines.{IsRuleLine, IsPairLine, IsRuleLineOrNone, IsPairLineOrNone, IsLineBetween}
 use Rattle.wh_find_order.specs.declared.lines.PairLine.{PairLine}
 
 module _ (S : Symbols) (rules : List RewriteRule) (D : FilteringData) where
@@ -107,3 +107,14 @@ module _ (S : Symbols) (rules : List RewriteRule) (D : FilteringData) where
         nested = few.nested;
         few = few.few;
       })
+
+  pub pair_between : (p : PairData) (u v : Tree) (found : Option PairLine) → AreFilters S rules D → HasNarrowCalls S p → IsTreeOfCall S rules D p false u → IsTreeOfCall S rules D p true v
+      → IsLineBetween D u v found → IsPairLineOrNone S rules D p found
+  pair_between p u v None f narrow a b h = pair_none p u v f a b h
+  pair_between p u v (Some line) f narrow a b h = on line.strict refl h
+    where
+      on : (strict : Bool) → line.strict ≡ strict
+          → elim strict as (λ x. Type 0) [ true ↦ IsFound D greater u v (Some line.inference) | false ↦ IsFound D greater u v None × IsFound D at_least u v (Some line.inference) ]
+          → IsPairLine S rules D p line
+      on true e h = subst (λ (x : Bool). IsPairLine S rules D p (record { inference = line.inference; strict = x })) (sym e) (pair_strict p u v line.inference f narrow a b h)
+      on false e h = subst (λ (x : Bool). IsPairLine S rules D p (record { inference = line.inference; strict = x })) (sym e) (pair_weak p u v line.inference f narrow a b h.0 h.1)

@@ -1,5 +1,5 @@
 -- Lines that are found for rules and pairs under a given order.
-use Rattle.std.specs.Prelude.{ℕ, ◌≡◌, ◌≢◌, ◌↔◌, List, Option, IsTrue, MatchOption}
+use Rattle.std.specs.Prelude.{ℕ, ◌≡◌, ◌≢◌, ◌↔◌, List, Option, Some, None, true, false, IsTrue, MatchOption}
 use Rattle.wh_terms.specs.Typing.{Symbols}
 use Rattle.wh_terms.specs.Rules.{RewriteRule}
 use Rattle.wh_pairs.specs.PairData.{PairData}
@@ -8,6 +8,9 @@ use Rattle.wh_inference.specs.Said.{inference}
 use Rattle.wh_inference.specs.declared.inference.Inference as made
 use Rattle.wh_ordering.specs.Filterings.{FilteringData}
 use Rattle.wh_ordering.specs.Ordering.{IsGoodRule, IsGoodPair, HasNarrowSides, HasNarrowCalls}
+use Rattle.wh_path_order.specs.Verdict.{at_least, greater}
+use Rattle.wh_order.specs.declared.tree.Tree.{Tree}
+use Rattle.wh_infer.specs.Lines.{IsFound}
 use Rattle.wh_find_order.specs.Space.{IsWithin, OrientsStrictly, MeetsRule, MeetsPair}
 use Rattle.wh_find_order.specs.declared.lines.PairLine.{PairLine}
 
@@ -34,3 +37,11 @@ module _ (S : Symbols) (rules : List RewriteRule) (D : FilteringData) where
   -- and so for the pair
   abbrev pub IsPairLineOrNone : PairData → Option PairLine → Type 0
   IsPairLineOrNone p found = MatchOption found (MeetsPair S rules D p → ⊥) (IsPairLine p)
+
+-- the line of two filtered trees: it is strict where the left one is greater
+abbrev pub IsLineBetween : FilteringData → Tree → Tree → Option PairLine → Type 0
+IsLineBetween D u v None = IsFound D at_least u v None
+IsLineBetween D u v (Some line) = elim line.strict [
+  | true ↦ IsFound D greater u v (Some line.inference)
+  | false ↦ IsFound D greater u v None × IsFound D at_least u v (Some line.inference)
+]

@@ -1,15 +1,17 @@
 //! Lines of rules and of pairs under a given order.
 
-ghost use Rattle.std.specs.Prelude.{◌≡◌, ◌<◌, IfOk, MatchOption, Some, length, slice_get};
+ghost use Rattle.std.specs.Prelude.{◌≡◌, ◌<◌, IfOk, MatchOption, None, Some, length, slice_get};
 ghost use Rattle.wh_terms.specs.Rules.{RewriteRule};
 ghost use Rattle.wh_system.specs.CanonicalView.{side_of};
 ghost use Rattle.wh_system.specs.SystemView.{system_data};
 ghost use Rattle.wh_pairs.specs.PairData.{pair_data};
 ghost use Rattle.wh_extended.specs.ExtendedSides.{extended_side};
+ghost use Rattle.wh_path_order.specs.Verdict.{greater};
 ghost use Rattle.wh_ordering.specs.FilteringView.{filtering_data};
 ghost use Rattle.wh_ordering.specs.Ordering.{IsNarrow};
 ghost use Rattle.wh_order.specs.TreeSides.{AreFilters, HasTypedCalls, IsTreeOfCall, IsTreeOfSide, extended_pair_side};
-ghost use Rattle.wh_find_order.specs.OrderLines.{IsPairLineOrNone, IsRuleLineOrNone};
+ghost use Rattle.wh_infer.specs.Lines.{IsFound};
+ghost use Rattle.wh_find_order.specs.OrderLines.{IsLineBetween, IsPairLineOrNone, IsRuleLineOrNone};
 
 use std::alloc::{AllocError, Global};
 use wh_infer::{find_greater, find_inference};
@@ -91,13 +93,38 @@ pub fn pair_line(
     let Some(right) = pair_side(alloc, system, filters, pair, true)? else {
         return Ok(None);
     };
-    if let Some(inference) = find_greater(alloc, filters, &left, &right)? {
-        return Ok(Some(PairLine {
+    line_between(alloc, filters, &left, &right)
+}
+
+// The line of two filtered sides.
+fn line_between(
+    alloc: Global,
+    filters: &Filters,
+    left: &Tree,
+    right: &Tree,
+) -> Result<Option<PairLine>, AllocError>
+    ensures { IfOk result (IsLineBetween (filtering_data filters.now) left.now right.now) }
+{
+    match find_greater(alloc, filters, left, right)? {
+        Some(inference) => Ok(Some(PairLine {
             inference,
             strict: true,
-        }));
+        })),
+        None => weak_line(alloc, filters, left, right),
     }
-    match find_inference(alloc, filters, &left, &right)? {
+}
+
+// The same where the left side is not greater.
+fn weak_line(
+    alloc: Global,
+    filters: &Filters,
+    left: &Tree,
+    right: &Tree,
+) -> Result<Option<PairLine>, AllocError>
+    requires { IsFound (filtering_data filters.now) greater left.now right.now None }
+    ensures { IfOk result (IsLineBetween (filtering_data filters.now) left.now right.now) }
+{
+    match find_inference(alloc, filters, left, right)? {
         Some(inference) => Ok(Some(PairLine {
             inference,
             strict: false,
