@@ -1,4 +1,5 @@
-use Rattle.std.proofs.Common.{◌≡◌, ℕ, ◌+◌, ◌-◌, Option, Some, None, Vec, length, subst, sym, arith}
+use Rattle.std.proofs.Common.{◌≡◌, ℕ, ◌+◌, ◌-◌, Option, Some, None, length, subst, sym, arith}
+use Rattle.std.specs.Global.{Vec}
 use Rattle.wh_inference.specs.Said.{letter}
 use Rattle.wh_inference.specs.declared.inference.Inference.{Inference}
 use Rattle.wh_ordering.specs.FilteringView.{filtering_data}

@@ -1,4 +1,5 @@
-use Rattle.std.proofs.Common.{◌≡◌, ℕ, ◌+◌, ◌-◌, ◌<◌, Option, Some, None, Vec, List, [], ◌∷◌, length, ap, subst, sym, ◌∙◌, refl, arith}
+use Rattle.std.proofs.Common.{◌≡◌, ℕ, ◌+◌, ◌-◌, ◌<◌, Option, Some, None, List, [], ◌∷◌, length, ap, subst, sym, ◌∙◌, refl, arith}
+use Rattle.std.specs.Global.{Vec}
 use Rattle.wh_inference.specs.Inferences.{arguments}
 use Rattle.wh_inference.specs.Said.{inferences}
 use Rattle.wh_ordering.specs.FilteringView.{filtering_data}
