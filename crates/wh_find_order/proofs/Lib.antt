@@ -1,1 +1,2 @@
 pub mod OrderLineLemmas
+pub mod WalkLemmas
