@@ -1,5 +1,5 @@
 -- Lines for rules and pairs, from those for their filtered sides.
-use Rattle.std.proofs.Common.{◌≡◌, ◌≢◌, ◌↔◌, ℕ, Bool, true, false, IsTrue, List, length, Option, Some, None, refl, ap₂, subst, sym, ◌∙◌}
+use Rattle.std.proofs.Common.{◌≡◌, ◌≢◌, ℕ, Bool, true, false, List, length, Option, Some, None, refl, ap₂, subst, sym, ◌∙◌}
 use Rattle.std.specs.Prelude.{MatchOption}
 use Rattle.std.proofs.lemmas.Bool.{false≢true}
 use Rattle.wh_terms.specs.Tree.{Tm}
@@ -7,21 +7,20 @@ use Rattle.wh_terms.specs.Typing.{Symbols, Declared}
 use Rattle.wh_terms.specs.Rules.{RewriteRule}
 use Rattle.wh_pairs.specs.PairData.{PairData}
 use Rattle.wh_inference.specs.Inferences as m
-use Rattle.wh_inference.specs.Inferences.{letter_of, same_trees}
 use Rattle.wh_inference.specs.Said.{inference}
 use Rattle.wh_inference.specs.declared.inference.Inference.{Inference}
 use Rattle.wh_extended.specs.ExtendedSides.{extended_metas}
 use Rattle.wh_extended.specs.Filtered.{collapsed}
 use Rattle.wh_path_order.specs.Verdict.{at_least, greater, Task, line_verdict}
 use Rattle.wh_ordering.specs.Filterings.{FilteringData, precedences_of, filtered_signature}
-use Rattle.wh_ordering.specs.Ordering.{IsGoodRule, IsGoodPair, HasNarrowSides, HasNarrowCalls}
+use Rattle.wh_ordering.specs.Ordering.{IsGoodPair, HasNarrowSides, HasNarrowCalls}
 use Rattle.wh_order.specs.declared.tree.Tree.{Tree}
 use Rattle.wh_order.specs.Trees.{tree}
 use Rattle.wh_order.specs.TreeSides.{AreFilters, AreSides, IsTreeOfSide, IsTreeOfCall}
 use Rattle.wh_infer.specs.Lines.{Shows, IsFound}
 use Rattle.wh_infer.proofs.TaskLemmas.{stricter_good, weaker_good}
-use Rattle.wh_find_order.specs.Space.{IsWithin, OrientsStrictly, MeetsRule, MeetsPair}
-use Rattle.wh_find_order.specs.OrderLines.{IsRuleLine, IsPairLine, IsRuleLineOrNone, IsPairLineOrNone, IsLineBetween}
+use Rattle.wh_find_order.specs.Space.{IsWithin, OrientsStrictly, MeetsPair}
+use Rattle.wh_find_order.specs.OrderLines.{IsPairLine, IsRuleLineOrNone, IsPairLineOrNone, IsLineBetween}
 use Rattle.wh_find_order.specs.declared.lines.PairLine.{PairLine}
 
 module _ (S : Symbols) (rules : List RewriteRule) (D : FilteringData) where

@@ -1,5 +1,5 @@
 -- Lines that are found for rules and pairs under a given order.
-use Rattle.std.specs.Prelude.{ℕ, ◌≡◌, ◌≢◌, ◌↔◌, List, Option, Some, None, true, false, IsTrue, MatchOption}
+use Rattle.std.specs.Prelude.{◌≢◌, ◌↔◌, List, Option, Some, None, true, false, IsTrue, MatchOption}
 use Rattle.wh_terms.specs.Typing.{Symbols}
 use Rattle.wh_terms.specs.Rules.{RewriteRule}
 use Rattle.wh_pairs.specs.PairData.{PairData}

@@ -1,6 +1,6 @@
 //! Lines for all rules, and for all pairs of a set, under a given order.
 
-ghost use Rattle.std.specs.Prelude.{◌<◌, All, Contains, length, map};
+ghost use Rattle.std.specs.Prelude.{◌<◌, Contains, map};
 ghost use Rattle.wh_types.specs.Outcome.{MatchOr};
 ghost use Rattle.wh_pairs.specs.PairData.{PairData};
 ghost use Rattle.wh_reduction.specs.TaskData.{IsTask};

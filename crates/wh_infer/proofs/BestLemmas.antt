@@ -7,7 +7,6 @@ use Rattle.wh_inference.specs.Inferences as m
 use Rattle.wh_inference.specs.Said.{letter}
 use Rattle.wh_inference.specs.declared.inference.Letter.{Letter}
 use Rattle.wh_inference.specs.declared.inference.Letter.TheVariants.{Same, Lam, Mono, Sub, Prec, Lex, App, Bind, Var, Meta}
-use Rattle.wh_path_order.specs.Heads.{arguments_of}
 use Rattle.wh_path_order.specs.Verdict.{Task}
 use Rattle.wh_ordering.specs.Filterings.{FilteringData}
 use Rattle.wh_order.specs.declared.goals.Goal.{Goal}

@@ -1,15 +1,14 @@
 -- Inferences with the fewest entries.
-use Rattle.std.proofs.Common.{◌≡◌, ℕ, zero, suc, ◌+◌, ◌-◌, ◌<◌, ◌≤◌, List, [], ◌∷◌, ◌++◌, length, map, take, drop, get_or, Option, Some, None, refl, ap, subst, sym, ◌∙◌, arith}
+use Rattle.std.proofs.Common.{◌≡◌, ℕ, zero, suc, ◌+◌, ◌-◌, ◌<◌, ◌≤◌, List, [], ◌∷◌, ◌++◌, length, map, take, get_or, Option, Some, None, refl, ap, subst, sym, ◌∙◌, arith}
 use Rattle.std.specs.Prelude.{◌^◌, nat_lt, cond, MatchOption}
 use Rattle.std.specs.Option.{option_map}
 use Rattle.std.specs.Global.{Vec}
 use Rattle.std.proofs.lemmas.List.{take_more}
 use Rattle.wh_terms.specs.Typing.{Symbols, Declared}
-use Rattle.wh_terms.specs.Rules.{RewriteRule}
 use Rattle.wh_inference.specs.Inferences as m
 use Rattle.wh_inference.specs.Inferences.{infer, no_parts, more_parts, entries, all_entries}
 use Rattle.wh_inference.specs.InferenceLimits.{depth, deepest, deepest_inference}
-use Rattle.wh_inference.specs.Said.{letter, inference, inferences, parts_row}
+use Rattle.wh_inference.specs.Said.{letter, inference, inferences}
 use Rattle.wh_inference.specs.declared.inference.Letter.{Letter}
 use Rattle.wh_inference.specs.declared.inference.Letter.TheVariants.{Same, Lam, Mono, Sub, Prec, Lex, App, Bind, Var, Meta}
 use Rattle.wh_inference.specs.declared.inference.Inference.{Inference}
@@ -21,12 +20,11 @@ use Rattle.wh_order.specs.declared.goals.Goal.{Goal}
 use Rattle.wh_order.specs.declared.tree.Tree.{Tree}
 use Rattle.wh_order.specs.Trees.{tree}
 use Rattle.wh_order.specs.TreeParts.{World, Over, order_of}
-use Rattle.wh_order.specs.TreeSides.{AreSides}
 use Rattle.wh_order.specs.Claims.{task, IsGoalOver, AreGoalsOver}
 use Rattle.wh_infer.specs.declared.choice.Choice.{Choice}
 use Rattle.wh_infer.specs.Least.{IsLeast}
-use Rattle.wh_infer.specs.Ways.{IsGood, AreGood, IsShown, AreShown, tasks_by}
-use Rattle.wh_infer.specs.Bests.{IsBy, AreGoalsBy, IsBest, IsLeastCount, IsLeastTotal, IsLeastInference, AreLeastInferences, IsMadeWith, written_place}
+use Rattle.wh_infer.specs.Ways.{IsGood, AreGood, tasks_by}
+use Rattle.wh_infer.specs.Bests.{IsBy, AreGoalsBy, IsBest, IsLeastInference, AreLeastInferences, IsMadeWith, written_place}
 use Rattle.wh_infer.specs.Lines.{Shows, IsFound}
 use Rattle.wh_infer.proofs.TaskLemmas.{some_none, none_some, both_none}
 use Rattle.wh_infer.proofs.WayLemmas.{place_by, good_by, none_shown}

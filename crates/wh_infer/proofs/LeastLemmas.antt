@@ -1,5 +1,5 @@
 -- Least things: said in other words, and the lesser of two.
-use Rattle.std.proofs.Common.{◌≡◌, ◌⊎◌, ℕ, ◌<◌, ◌≤◌, inl, inr, Option, Some, None, subst, sym, arith}
+use Rattle.std.proofs.Common.{◌⊎◌, ℕ, inl, inr, Option, Some, None, subst, sym, arith}
 use Rattle.wh_infer.specs.declared.choice.Choice.{Choice}
 use Rattle.wh_infer.specs.Least.{IsLeast}
 use Rattle.wh_infer.specs.Bests.{IsLesser}

@@ -1,16 +1,16 @@
 -- What inferences ask for: on what it hangs, and at which places.
-use Rattle.std.proofs.Common.{◌≡◌, ◌⊎◌, ℕ, zero, suc, ◌<◌, ◌≤◌, inl, inr, Bool, true, false, cond, List, [], ◌∷◌, length, Option, Some, None, refl, ap, ap₂, subst, sym, ◌∙◌, arith}
+use Rattle.std.proofs.Common.{◌≡◌, ◌⊎◌, ℕ, zero, suc, ◌≤◌, inl, inr, Bool, true, cond, List, [], ◌∷◌, length, Option, Some, None, refl, ap, ap₂, subst, sym, ◌∙◌, arith}
 use Rattle.std.proofs.lemmas.Option.{slice_get_within}
 use Rattle.wh_terms.specs.Tree.{Tm, bound, free, fun, meta, lam, app, head}
 use Rattle.wh_terms.specs.Typing.{Symbols, Declared}
-use Rattle.wh_inference.specs.Inferences.{Letter, same_trees, bodies, arguments, part, lower, first_less, spine_parts, body, variable, meta_part, Inference, infer, Inferences, no_parts, more_parts, letter_of, entries, count_parts}
+use Rattle.wh_inference.specs.Inferences.{Letter, same_trees, bodies, arguments, part, lower, first_less, spine_parts, body, variable, meta_part, Inference, infer, Inferences, no_parts, more_parts, letter_of, count_parts}
 use Rattle.wh_path_order.specs.Heads.{arguments_of}
-use Rattle.wh_path_order.specs.Verdict.{Claim, at_least, greater, above, Task, pairwise, some_strict, symbol_tasks, above_tasks, one_kind, greater_tasks, typed_tasks, at_least_tasks, tasks, or_later, verdict, verdicts}
-use Rattle.wh_path_order.proofs.AskedTasks.{split, first_part, AboveAsks, asks_part, asks_lower, asks_first_less, asks_spine, asks_body, asks_variable, asks_meta, above_asks, GreaterAsks, asks_bodies, asks_arguments, asks_above, greater_asks, typed_asks, AtLeastAsks, asks_same, asks_greater, at_least_asks}
+use Rattle.wh_path_order.specs.Verdict.{Claim, at_least, greater, above, Task, pairwise, some_strict, symbol_tasks, one_kind, greater_tasks, typed_tasks, at_least_tasks, tasks, or_later, verdict, verdicts}
+use Rattle.wh_path_order.proofs.AskedTasks.{split, first_part, AboveAsks, asks_part, asks_lower, asks_first_less, asks_spine, asks_body, asks_variable, asks_meta, above_asks, GreaterAsks, asks_bodies, asks_arguments, asks_above, typed_asks, AtLeastAsks, asks_same, asks_greater, at_least_asks}
 use Rattle.wh_order.specs.Claims.{moved}
 use Rattle.wh_order.proofs.CheckLemmas.{by_parts}
 use Rattle.wh_order.proofs.LetterTasks.{no_above, same_asks, arguments_asks}
-use Rattle.wh_order.proofs.AskedTasks.{IsOtherLetter, bodies_left, bodies_right, arguments_are, greater_above, typed_greater, at_least_typed}
+use Rattle.wh_order.proofs.AskedTasks.{IsOtherLetter, bodies_left, arguments_are, greater_above, typed_greater, at_least_typed}
 
 pub some_none : {A : Type 0} {a : A} → Some a ≡ None → ⊥
 some_none e = cc

@@ -11,7 +11,7 @@ use Rattle.wh_ordering.specs.Filterings.{FilteringData}
 use Rattle.wh_order.specs.declared.goals.Goal.{Goal}
 use Rattle.wh_order.specs.declared.goals.Claim.TheVariants.{Greater}
 use Rattle.wh_order.specs.TreeParts.{World, order_of}
-use Rattle.wh_order.specs.Claims.{task, IsGoalOver, AreGoalsOver, StandFor, MayStandFor, AreGoals}
+use Rattle.wh_order.specs.Claims.{task, IsGoalOver, AreGoalsOver, MayStandFor, AreGoals}
 use Rattle.wh_infer.specs.Ways.{strict_part, sharpened, tasks_by}
 use Rattle.wh_infer.specs.Bests.{AreGoalsBy}
 use Rattle.wh_infer.proofs.TaskLemmas.{claimed}

@@ -1,15 +1,14 @@
 -- The ways to show a task, and the inferences that begin so.
-use Rattle.std.proofs.Common.{◌≡◌, ◌⊎◌, ℕ, zero, suc, ◌+◌, ◌<◌, ◌≤◌, inl, inr, true, List, [], ◌∷◌, length, drop, Option, Some, None, refl, ap, subst, sym, ◌∙◌, arith}
+use Rattle.std.proofs.Common.{◌≡◌, ℕ, zero, suc, ◌+◌, ◌<◌, ◌≤◌, inl, inr, true, List, [], ◌∷◌, length, drop, Option, Some, None, refl, ap, subst, sym, ◌∙◌, arith}
 use Rattle.std.specs.Prelude.{◌^◌}
 use Rattle.wh_terms.specs.Typing.{Symbols, Declared}
-use Rattle.wh_inference.specs.Inferences.{Letter, same_trees, bodies, arguments, part, lower, first_less, spine_parts, body, variable, meta_part, Inference, infer, Inferences, no_parts, more_parts, entries, all_entries}
-use Rattle.wh_inference.specs.InferenceLimits.{depth, deepest}
+use Rattle.wh_inference.specs.Inferences.{Letter, same_trees, bodies, arguments, part, lower, first_less, spine_parts, body, variable, meta_part, infer, Inferences, no_parts, more_parts, entries, all_entries}
 use Rattle.wh_path_order.specs.Heads.{arguments_of}
 use Rattle.wh_path_order.specs.Verdict.{greater, Task, some_strict, tasks, verdict, verdicts}
 use Rattle.wh_path_order.proofs.AskedTasks.{split, first_part}
 use Rattle.wh_infer.specs.Least.{IsLeast, own}
-use Rattle.wh_infer.specs.Ways.{strict_part, sharpened, IsGood, AreGood, IsShown, AreShown, tasks_by}
-use Rattle.wh_infer.proofs.TaskLemmas.{some_none, none_some, AllAtLeast, is_arguments, strict_split, strict_first, strict_behind, claimed, both_none, joined, tasks_any, AskedPairs, asked_pairs, place_within, stricter_good, weaker_good}
+use Rattle.wh_infer.specs.Ways.{strict_part, sharpened, IsShown, AreShown, tasks_by}
+use Rattle.wh_infer.proofs.TaskLemmas.{some_none, none_some, AllAtLeast, is_arguments, strict_split, strict_first, strict_behind, claimed, both_none, joined, tasks_any, asked_pairs, place_within, stricter_good, weaker_good}
 
 some_of : {A : Type 0} {a b : A} → Some a ≡ Some b → a ≡ b
 some_of e = cc

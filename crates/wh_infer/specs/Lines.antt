@@ -1,5 +1,5 @@
 -- Lines of inferences that are found, or shown to be none.
-use Rattle.std.specs.Prelude.{ℕ, ◌≡◌, ◌<◌, ◌≤◌, ◌^◌, List, length, Option, None, MatchOption}
+use Rattle.std.specs.Prelude.{◌≡◌, ◌<◌, ◌≤◌, ◌^◌, List, length, Option, None, MatchOption}
 use Rattle.wh_terms.specs.Typing.{Symbols, Declared}
 use Rattle.wh_terms.specs.Rules.{RewriteRule}
 use Rattle.wh_inference.specs.Inferences as m

@@ -1,4 +1,4 @@
-use Rattle.std.proofs.Common.{◌≡◌, Bool, true, false}
+use Rattle.std.proofs.Common.{Bool, true, false}
 use Rattle.std.proofs.lemmas.Result.{IfOk-weaker}
 use Rattle.wh_pairs.specs.PairData.{pair_data}
 use Rattle.wh_system.specs.SystemView.{system_data}

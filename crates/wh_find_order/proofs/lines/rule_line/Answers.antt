@@ -1,6 +1,5 @@
-use Rattle.std.proofs.Common.{◌≡◌, Bool, true, false}
+use Rattle.std.proofs.Common.{Bool, true, false}
 use Rattle.std.proofs.lemmas.Result.{IfOk-weaker}
-use Rattle.wh_terms.specs.Rules.{RewriteRule}
 use Rattle.wh_system.specs.CanonicalView.{side_of}
 use Rattle.wh_system.specs.SystemView.{system_data}
 use Rattle.wh_extended.specs.ExtendedSides.{extended_side}

@@ -1,10 +1,10 @@
-use Rattle.std.proofs.Common.{◌≡◌, ℕ, ◌+◌, ◌-◌, ◌<◌, ◌≤◌, Option, Some, None, length, drop, subst, sym, ◌∙◌, refl, arith}
+use Rattle.std.proofs.Common.{◌≡◌, ℕ, ◌-◌, Option, Some, length, drop, subst, sym, arith}
 use Rattle.std.specs.Global.{Vec}
 use Rattle.wh_inference.specs.Said.{letter}
 use Rattle.wh_ordering.specs.FilteringView.{filtering_data}
 use Rattle.wh_order.specs.declared.goals.Goal.{Goal}
 use Rattle.wh_infer.specs.Bests.{AreGoalsBy, IsLeastCount, IsLeastTotal, IsSum}
-use Rattle.wh_infer.proofs.BestLemmas.{best_counted, letters_next, letters_all, places_next, places_all, at_no_goals, at_choice, total_first, total_next, total_stop}
+use Rattle.wh_infer.proofs.BestLemmas.{best_counted, letters_next, letters_all, places_next, places_all, at_choice, total_first, total_next, total_stop}
 use Rattle.wh_infer.proofs.best.+counting.Goals as goal
 
 pub best-loop-number-preserved : goal.best-loop-number-preserved

@@ -1,4 +1,4 @@
-use Rattle.std.proofs.Common.{◌≡◌, ◌+◌, ◌*◌, ◌≤◌, length, drop, Some}
+use Rattle.std.proofs.Common.{◌+◌, ◌*◌, ◌≤◌, length, drop, Some}
 use Rattle.wh_ordering.specs.FilteringView.{filtering_data}
 use Rattle.wh_infer.specs.Bests.{IsBestOf, IsLeastTotal}
 use Rattle.wh_infer.proofs.BestLemmas.{ByLetters, ByPlaces}

@@ -1,4 +1,4 @@
-use Rattle.std.proofs.Common.{◌≡◌, ℕ, ◌+◌, ◌-◌, Option, Some, None, length, subst, sym, arith}
+use Rattle.std.proofs.Common.{◌-◌, Option, subst, arith}
 use Rattle.std.specs.Global.{Vec}
 use Rattle.wh_inference.specs.Said.{letter}
 use Rattle.wh_inference.specs.declared.inference.Inference.{Inference}
@@ -6,7 +6,7 @@ use Rattle.wh_ordering.specs.FilteringView.{filtering_data}
 use Rattle.wh_order.specs.declared.goals.Goal.{Goal}
 use Rattle.wh_infer.specs.declared.choice.Choice.{Choice}
 use Rattle.wh_infer.specs.Bests.{AreGoalsBy, IsBest, IsLeastInference}
-use Rattle.wh_infer.proofs.BuildLemmas.{no_best, no_room, no_goals, built_with, each_none, each_next, each_built, one_missing}
+use Rattle.wh_infer.proofs.BuildLemmas.{no_best, no_room, no_goals, built_with, each_next, each_built, one_missing}
 use Rattle.wh_infer.proofs.build.+building.Goals as goal
 
 pub build-returns-in-None : goal.build-returns-in-None

@@ -1,4 +1,4 @@
-use Rattle.std.proofs.Common.{ℕ, refl}
+use Rattle.std.proofs.Common.{refl}
 use Rattle.std.proofs.lemmas.Result.{IfOk-weaker}
 use Rattle.wh_ordering.specs.FilteringView.{filtering_data}
 use Rattle.wh_order.specs.Claims.{said}

@@ -1,4 +1,4 @@
-use Rattle.std.proofs.Common.{◌≡◌, ℕ, ◌+◌, ◌-◌, ◌<◌, Option, Some, None, List, [], ◌∷◌, length, ap, subst, sym, ◌∙◌, refl, arith}
+use Rattle.std.proofs.Common.{◌-◌, Option, [], ◌∷◌, length, subst, refl, arith}
 use Rattle.std.specs.Global.{Vec}
 use Rattle.wh_inference.specs.Inferences.{arguments}
 use Rattle.wh_inference.specs.Said.{inferences}
