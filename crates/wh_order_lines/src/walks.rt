@@ -8,7 +8,7 @@ ghost use Rattle.wh_reduction.specs.TaskView.{task_data};
 ghost use Rattle.wh_inference.specs.Said.{inference};
 ghost use Rattle.wh_ordering.specs.FilteringView.{filtering_data};
 ghost use Rattle.wh_order.specs.TreeSides.{AreFilters, HasTypedCalls};
-ghost use Rattle.wh_find_order.specs.OrderWalks.{AreLinesOfPairs, AreRuleLines, IsFailingPair, IsFailingRule};
+ghost use Rattle.wh_order_lines.specs.OrderWalks.{AreLinesOfPairs, AreRuleLines, IsFailingPair, IsFailingRule};
 
 use crate::lines::{pair_line, rule_line};
 use std::alloc::Global;

@@ -11,8 +11,8 @@ use Rattle.wh_ordering.specs.Ordering.{IsGoodRule, IsGoodPair, HasNarrowSides, H
 use Rattle.wh_path_order.specs.Verdict.{at_least, greater}
 use Rattle.wh_order.specs.declared.tree.Tree.{Tree}
 use Rattle.wh_infer.specs.Lines.{IsFound}
-use Rattle.wh_find_order.specs.Space.{IsWithin, OrientsStrictly, MeetsRule, MeetsPair}
-use Rattle.wh_find_order.specs.declared.lines.PairLine.{PairLine}
+use Rattle.wh_order_lines.specs.Oriented.{IsWithin, OrientsStrictly, MeetsRule, MeetsPair}
+use Rattle.wh_order_lines.specs.declared.lines.PairLine.{PairLine}
 
 module _ (S : Symbols) (rules : List RewriteRule) (D : FilteringData) where
   -- the inference orients the rule, no side of which is too wide

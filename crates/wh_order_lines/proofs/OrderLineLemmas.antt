@@ -19,9 +19,9 @@ use Rattle.wh_order.specs.Trees.{tree}
 use Rattle.wh_order.specs.TreeSides.{AreFilters, AreSides, IsTreeOfSide, IsTreeOfCall}
 use Rattle.wh_infer.specs.Lines.{Shows, IsFound}
 use Rattle.wh_infer.proofs.TaskLemmas.{stricter_good, weaker_good}
-use Rattle.wh_find_order.specs.Space.{IsWithin, OrientsStrictly, MeetsPair}
-use Rattle.wh_find_order.specs.OrderLines.{IsPairLine, IsRuleLineOrNone, IsPairLineOrNone, IsLineBetween}
-use Rattle.wh_find_order.specs.declared.lines.PairLine.{PairLine}
+use Rattle.wh_order_lines.specs.Oriented.{IsWithin, OrientsStrictly, MeetsPair}
+use Rattle.wh_order_lines.specs.OrderLines.{IsPairLine, IsRuleLineOrNone, IsPairLineOrNone, IsLineBetween}
+use Rattle.wh_order_lines.specs.declared.lines.PairLine.{PairLine}
 
 module _ (S : Symbols) (rules : List RewriteRule) (D : FilteringData) where
   within_of : (M : List Declared) (u v : Tree) (i : m.Inference) → Shows S rules D M at_least u v i → IsWithin i

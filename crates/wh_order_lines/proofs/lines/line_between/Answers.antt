@@ -3,7 +3,7 @@ use Rattle.wh_inference.specs.declared.inference.Inference.{Inference}
 use Rattle.wh_path_order.specs.Verdict.{greater}
 use Rattle.wh_ordering.specs.FilteringView.{filtering_data}
 use Rattle.wh_infer.specs.Lines.{IsFound}
-use Rattle.wh_find_order.proofs.lines.line_between.Goals as goal
+use Rattle.wh_order_lines.proofs.lines.line_between.Goals as goal
 
 pub returns-in-Some : goal.returns-in-Some
 returns-in-Some c =

@@ -7,9 +7,9 @@ use Rattle.wh_ordering.specs.FilteringView.{filtering_data}
 use Rattle.wh_ordering.specs.Ordering.{IsNarrow}
 use Rattle.wh_order.specs.declared.tree.Tree.{Tree}
 use Rattle.wh_order.specs.TreeSides.{IsTreeOfSide}
-use Rattle.wh_guesses.proofs.LineLemmas.{matched_some, matched_none}
-use Rattle.wh_find_order.proofs.OrderLineLemmas.{rule_found}
-use Rattle.wh_find_order.proofs.lines.rule_line.Goals as goal
+use Rattle.wh_order_lines.proofs.Matched.{matched_some, matched_none}
+use Rattle.wh_order_lines.proofs.OrderLineLemmas.{rule_found}
+use Rattle.wh_order_lines.proofs.lines.rule_line.Goals as goal
 
 pub returns : goal.returns
 returns c r at =

@@ -11,7 +11,7 @@ ghost use Rattle.wh_ordering.specs.FilteringView.{filtering_data};
 ghost use Rattle.wh_ordering.specs.Ordering.{IsNarrow};
 ghost use Rattle.wh_order.specs.TreeSides.{AreFilters, HasTypedCalls, IsTreeOfCall, IsTreeOfSide, extended_pair_side};
 ghost use Rattle.wh_infer.specs.Lines.{IsFound};
-ghost use Rattle.wh_find_order.specs.OrderLines.{IsLineBetween, IsPairLineOrNone, IsRuleLineOrNone};
+ghost use Rattle.wh_order_lines.specs.OrderLines.{IsLineBetween, IsPairLineOrNone, IsRuleLineOrNone};
 
 use std::alloc::{AllocError, Global};
 use wh_infer::{find_greater, find_inference};

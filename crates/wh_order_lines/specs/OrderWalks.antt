@@ -7,9 +7,9 @@ use Rattle.wh_inference.specs.Inferences.{Inference, letter_of, same_trees}
 use Rattle.wh_inference.specs.Said.{inference}
 use Rattle.wh_ordering.specs.Filterings.{FilteringData}
 use Rattle.wh_ordering.specs.Ordering.{IsGoodPair, HasNarrowCalls}
-use Rattle.wh_find_order.specs.Space.{IsWithin, OrientsStrictly, MeetsRule, MeetsPair}
-use Rattle.wh_find_order.specs.OrderLines.{IsRuleLine}
-use Rattle.wh_find_order.specs.declared.walks.PairLines.{PairLines}
+use Rattle.wh_order_lines.specs.Oriented.{IsWithin, OrientsStrictly, MeetsRule, MeetsPair}
+use Rattle.wh_order_lines.specs.OrderLines.{IsRuleLine}
+use Rattle.wh_order_lines.specs.declared.walks.PairLines.{PairLines}
 
 module _ (T : TaskData) (D : FilteringData) where
   -- the line of the rule number n

@@ -14,9 +14,9 @@ use Rattle.wh_inference.specs.Said.{inference}
 use Rattle.wh_inference.specs.declared.inference.Inference.{Inference}
 use Rattle.wh_ordering.specs.Filterings.{FilteringData}
 use Rattle.wh_space.proofs.PushLemmas.{EachAt, each_push, map_push}
-use Rattle.wh_find_order.specs.OrderLines.{IsPairLine}
-use Rattle.wh_find_order.specs.OrderWalks.{IsLineOfRule, AreRuleLines, IsDropped, IsLineOfPair, ArePairLines}
-use Rattle.wh_find_order.specs.declared.lines.PairLine.{PairLine}
+use Rattle.wh_order_lines.specs.OrderLines.{IsPairLine}
+use Rattle.wh_order_lines.specs.OrderWalks.{IsLineOfRule, AreRuleLines, IsDropped, IsLineOfPair, ArePairLines}
+use Rattle.wh_order_lines.specs.declared.lines.PairLine.{PairLine}
 
 -- rules
 

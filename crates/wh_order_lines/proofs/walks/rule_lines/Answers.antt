@@ -4,11 +4,11 @@ use Rattle.wh_reduction.specs.TaskView.{task_data}
 use Rattle.wh_inference.specs.Said.{inference}
 use Rattle.wh_ordering.specs.FilteringView.{filtering_data}
 use Rattle.wh_covering.proofs.Walks.{some_at}
-use Rattle.wh_guesses.proofs.LineLemmas.{matched_some, matched_none}
-use Rattle.wh_find_order.specs.Space.{MeetsRule}
-use Rattle.wh_find_order.specs.OrderLines.{IsRuleLine}
-use Rattle.wh_find_order.proofs.WalkLemmas.{rule_lines_more, rule_lines_all}
-use Rattle.wh_find_order.proofs.walks.rule_lines.Goals as goal
+use Rattle.wh_order_lines.proofs.Matched.{matched_some, matched_none}
+use Rattle.wh_order_lines.specs.Oriented.{MeetsRule}
+use Rattle.wh_order_lines.specs.OrderLines.{IsRuleLine}
+use Rattle.wh_order_lines.proofs.WalkLemmas.{rule_lines_more, rule_lines_all}
+use Rattle.wh_order_lines.proofs.walks.rule_lines.Goals as goal
 
 pub rule_line-requires-clause-rule : goal.rule_line-requires-clause-rule
 rule_line-requires-clause-rule c = c.requires.task.are_rules c.loop-i.i 0 c.loop-i-test.true

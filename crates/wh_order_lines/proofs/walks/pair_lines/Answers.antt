@@ -4,12 +4,12 @@ use Rattle.wh_pairs.proofs.ByPlace.{number_at, contains_at}
 use Rattle.wh_reduction.specs.TaskView.{task_data}
 use Rattle.wh_reduction.proofs.TaskLemmas.{pair_at}
 use Rattle.wh_ordering.specs.FilteringView.{filtering_data}
-use Rattle.wh_guesses.proofs.LineLemmas.{matched_some, matched_none}
-use Rattle.wh_find_order.specs.Space.{MeetsPair}
-use Rattle.wh_find_order.specs.OrderLines.{IsPairLine}
-use Rattle.wh_find_order.proofs.WalkLemmas.{HasPairLines, pair_kept, pair_dropped, pair_lines_all}
-use Rattle.wh_find_order.proofs.walks.pair_lines.Goals.{then-line+in_ok-push-2, else-line}
-use Rattle.wh_find_order.proofs.walks.pair_lines.Goals as goal
+use Rattle.wh_order_lines.proofs.Matched.{matched_some, matched_none}
+use Rattle.wh_order_lines.specs.Oriented.{MeetsPair}
+use Rattle.wh_order_lines.specs.OrderLines.{IsPairLine}
+use Rattle.wh_order_lines.proofs.WalkLemmas.{HasPairLines, pair_kept, pair_dropped, pair_lines_all}
+use Rattle.wh_order_lines.proofs.walks.pair_lines.Goals.{then-line+in_ok-push-2, else-line}
+use Rattle.wh_order_lines.proofs.walks.pair_lines.Goals as goal
 
 pub pair_line-requires-clause-typed : goal.pair_line-requires-clause-typed
 pair_line-requires-clause-typed c =
