@@ -1,4 +1,0 @@
-pub mod Space
-pub mod Bits
-pub mod Tried
-pub mod Answers

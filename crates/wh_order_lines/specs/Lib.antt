@@ -1,3 +1,0 @@
-pub mod Oriented
-pub mod OrderLines
-pub mod OrderWalks
