@@ -17,8 +17,11 @@ mod same;
 mod sift;
 mod tree;
 
+pub use asked::goals_of;
 pub use check::{BadInference, check_inference};
 pub use filtered::{filtered_pair, filtered_rule};
+pub use goals::{Claim, Goal, Goals, Side};
+pub use parts::arguments_of;
 pub use same::{same_tree, same_trees};
 pub use tree::{Tree, Trees};
 pub use wh_sides::TooWide;

@@ -1,0 +1,21 @@
+-- An inference of the program by its letter, its place and its parts.
+use mathlib.Core.Former.{Count}
+use Rattle.std.proofs.Common.{◌≡◌, ℕ, List, refl, ap, ◌∙◌}
+use Rattle.wh_inference.specs.Inferences as m
+use Rattle.wh_inference.specs.Inferences.{infer, more_parts}
+use Rattle.wh_inference.specs.Said.{letter, inference, inferences, parts_row}
+use Rattle.wh_inference.specs.declared.inference.Letter.{Letter}
+use Rattle.wh_inference.specs.declared.inference.Inference.{Inference, Inference', Row_of-Inference, end_of-Inference, more_of-Inference, items-the_row-Inference, items_hidden-the_row-Inference-0, roll-Inference}
+
+parts_row-items : (n : _) (r : Row_of-Inference n) → parts_row r ≡ inferences (items-the_row-Inference n r)
+parts_row-items n end_of-Inference = refl
+parts_row-items n (more_of-Inference i rest) = ap (λ (is : m.Inferences). more_parts (inference i) is) (parts_row-items _ rest)
+
+abbrev row_of : Inference → (n : Count) × Row_of-Inference n
+row_of (Inference' _ _ _ all) = (_, all)
+
+pub inference_made : (l : Letter) (n : ℕ) (is : List Inference) → inference (roll-Inference (record { letter = l; place = n; parts = is })) ≡ infer (letter l) n (inferences is)
+unfolding roll-Inference denote.Hole.Carrier.roll
+inference_made l n is =
+    ap (λ (js : m.Inferences). infer (letter l) n js)
+    (parts_row-items _ (row_of (roll-Inference (record { letter = l; place = n; parts = is }))).1 ∙ ap inferences (items_hidden-the_row-Inference-0 is))

@@ -1,0 +1,4 @@
+pub mod Least
+pub mod Ways
+pub mod Bests
+pub mod Lines

@@ -1,0 +1,153 @@
+//! The least number of entries that shows a goal.
+
+ghost use Rattle.std.specs.Prelude.{◌≡◌, IfOk};
+ghost use Rattle.wh_ordering.specs.FilteringView.{filtering_data};
+ghost use Rattle.wh_infer.specs.Bests.{IsBest, IsBestAt, IsBestBy, IsLeastCount, IsLeastTotal, IsOneMore, IsSum, count_of};
+
+use crate::choice::Choice;
+use crate::ways::{LETTERS, goals_by, lesser, letter_at};
+use std::alloc::{AllocError, Global};
+use wh_inference::Letter;
+use wh_order::{Goal, arguments_of};
+use wh_ordering::Filters;
+use wh_types::{counted, sum};
+
+/// The way to show the goal that has the fewest entries, nested at most `room` deep; `None` where each has 2^32 at least.
+#[cycle(counting)]
+pub fn best(
+    alloc: Global,
+    filters: &Filters,
+    goal: &Goal<'_>,
+    room: u8,
+) -> Result<Option<Choice>, AllocError>
+    ensures { IfOk result (IsBest (filtering_data filters.now) room goal.now) }
+{
+    let mut found = None;
+    for number in 0..LETTERS {
+        let letter = letter_at(number);
+        let own = best_by(alloc, filters, goal, room, letter)?;
+        found = lesser(found, own);
+    }
+    Ok(found)
+}
+
+// The same by one letter.
+#[cycle(counting)]
+fn best_by(
+    alloc: Global,
+    filters: &Filters,
+    goal: &Goal<'_>,
+    room: u8,
+    letter: Letter,
+) -> Result<Option<Choice>, AllocError>
+    ensures { IfOk result (IsBestBy (filtering_data filters.now) room goal.now letter) }
+{
+    let left = goal.left.tree();
+    let items = arguments_of(left);
+    let count = counted(items.len())?;
+    let places = sum(count, 1)?;
+    let mut found = None;
+    for place in 0..places {
+        let own = choice_at(alloc, filters, goal, room, letter, place)?;
+        found = lesser(found, own);
+    }
+    Ok(found)
+}
+
+// The same by one letter at one place.
+#[cycle(counting)]
+fn choice_at(
+    alloc: Global,
+    filters: &Filters,
+    goal: &Goal<'_>,
+    room: u8,
+    letter: Letter,
+    place: u32,
+) -> Result<Option<Choice>, AllocError>
+    ensures { IfOk result (IsBestAt (filtering_data filters.now) room goal.now letter place) }
+{
+    if room == 0 {
+        return Ok(None);
+    }
+    match goals_by(alloc, filters, goal, letter, place)? {
+        Some(goals) => {
+            let parts = total(alloc, filters, goals.as_slice(), room - 1)?;
+            Ok(one_more(letter, place, parts))
+        }
+        None => Ok(None),
+    }
+}
+
+// The choice whose parts have so many entries.
+fn one_more(letter: Letter, place: u32, parts: Option<u32>) -> Option<Choice>
+    ensures { IsOneMore letter place parts result }
+{
+    match parts {
+        Some(parts) => match parts.checked_add(1) {
+            Some(count) => Some(Choice {
+                letter,
+                place,
+                count,
+            }),
+            None => None,
+        },
+        None => None,
+    }
+}
+
+// The least number of entries that shows each of the goals, nested at most `room` deep; `None` where it is 2^32 at least.
+#[cycle(counting)]
+fn total(
+    alloc: Global,
+    filters: &Filters,
+    goals: &[Goal<'_>],
+    room: u8,
+) -> Result<Option<u32>, AllocError>
+    ensures { IfOk result (IsLeastTotal (filtering_data filters.now) room goals.now) }
+{
+    let mut entries = 0;
+    let mut left = goals.len();
+    while left > 0 {
+        left -= 1;
+        let own = least(alloc, filters, &goals[left], room)?;
+        match sum_of(own, entries) {
+            Some(more) => entries = more,
+            None => return Ok(None),
+        }
+    }
+    Ok(Some(entries))
+}
+
+// The sum of two numbers, where the first one is there and it is below 2^32.
+fn sum_of(own: Option<u32>, others: u32) -> Option<u32>
+    ensures { IsSum own others result }
+{
+    match own {
+        Some(own) => own.checked_add(others),
+        None => None,
+    }
+}
+
+// The least number of entries that shows the goal, nested at most `room` deep; `None` where it is 2^32 at least.
+#[cycle(counting)]
+fn least(
+    alloc: Global,
+    filters: &Filters,
+    goal: &Goal<'_>,
+    room: u8,
+) -> Result<Option<u32>, AllocError>
+    ensures { IfOk result (IsLeastCount (filtering_data filters.now) room goal.now) }
+{
+    let choice = best(alloc, filters, goal, room)?;
+    Ok(count_of(choice))
+}
+
+// How many entries that makes.
+fn count_of(choice: Option<Choice>) -> Option<u32>
+    ensures { result ≡ count_of choice }
+{
+    match choice {
+        Some(choice) => Some(choice.count),
+        None => None,
+    }
+}

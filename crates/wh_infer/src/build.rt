@@ -1,0 +1,93 @@
+//! Inferences with the fewest entries.
+
+ghost use Rattle.std.specs.Prelude.{◌≡◌, IfOk, Some};
+ghost use Rattle.wh_ordering.specs.FilteringView.{filtering_data};
+ghost use Rattle.wh_infer.specs.Bests.{AreLeastInferences, IsBest, IsLeastInference, IsMadeWith, written_place};
+
+use crate::best::best;
+use crate::choice::Choice;
+use crate::ways::{goals_by, made};
+use std::alloc::{AllocError, Global};
+use wh_inference::{Inference, Inferences, Letter};
+use wh_order::Goal;
+use wh_ordering::Filters;
+
+/// An inference with the fewest entries that shows the goal, nested at most `room` deep; `None` where each has 2^32 at least.
+#[cycle(building)]
+pub fn build(
+    alloc: Global,
+    filters: &Filters,
+    goal: &Goal<'_>,
+    room: u8,
+) -> Result<Option<Inference>, AllocError>
+    ensures { IfOk result (IsLeastInference (filtering_data filters.now) room goal.now) }
+{
+    match best(alloc, filters, goal, room)? {
+        Some(choice) => build_by(alloc, filters, goal, room, choice),
+        None => Ok(None),
+    }
+}
+
+// The same by the best choice.
+#[cycle(building)]
+fn build_by(
+    alloc: Global,
+    filters: &Filters,
+    goal: &Goal<'_>,
+    room: u8,
+    choice: Choice,
+) -> Result<Option<Inference>, AllocError>
+    requires { IsBest (filtering_data filters.now) room goal.now (Some choice) }
+    ensures { IfOk result (IsLeastInference (filtering_data filters.now) room goal.now) }
+{
+    if room == 0 {
+        return Ok(None);
+    }
+    match goals_by(alloc, filters, goal, choice.letter, choice.place)? {
+        Some(goals) => {
+            let parts = build_each(alloc, filters, goals.as_slice(), room - 1)?;
+            Ok(made_with(choice, parts))
+        }
+        None => Ok(None),
+    }
+}
+
+// Such inferences for each of the goals.
+#[cycle(building)]
+fn build_each(
+    alloc: Global,
+    filters: &Filters,
+    goals: &[Goal<'_>],
+    room: u8,
+) -> Result<Option<Inferences>, AllocError>
+    ensures { IfOk result (AreLeastInferences (filtering_data filters.now) room goals.now) }
+{
+    let mut parts = Inferences::new(alloc)?;
+    for goal in goals {
+        match build(alloc, filters, goal, room)? {
+            Some(part) => parts.push(part)?,
+            None => return Ok(None),
+        }
+    }
+    Ok(Some(parts))
+}
+
+// The inference by the choice, where the parts are there.
+fn made_with(choice: Choice, parts: Option<Inferences>) -> Option<Inference>
+    ensures { IsMadeWith choice parts result }
+{
+    match parts {
+        Some(parts) => Some(made(choice.letter, written_place(choice), parts)),
+        None => None,
+    }
+}
+
+// The place that is written with the letter: none with `m`.
+fn written_place(choice: Choice) -> u32
+    ensures { result ≡ written_place choice }
+{
+    match choice.letter {
+        Letter::Mono => 0,
+        _ => choice.place,
+    }
+}
