@@ -200,6 +200,10 @@ line_found D c s t g r is over least S rules M sides = on r (least w (over (leng
     there i = ap (λ (k : Task). verdict w.symbols (order_of D) M k i) (is (length D.symbols)) ∙ ap (claim_verdict D w.symbols M c s t i) sides.each_symbol
 
     on : (r : Option Inference) → IsLeast entries (IsGood w.symbols (order_of D) w.metas deepest_inference (task (length D.symbols) g)) (option_map inference r)
-        → MatchOption r ((i : m.Inference) → Shows S rules D M c s t i → ⊥) (λ i. Shows S rules D M c s t (inference i))
+        → MatchOption r ((i : m.Inference) → Shows S rules D M c s t i → ⊥)
+        (λ i. Shows S rules D M c s t (inference i) × ((j : m.Inference) → Shows S rules D M c s t j → entries (inference i) ≤ entries j))
     on None h = λ i shows. omega (arith, h i (there i ∙ shows.good, shows.nested), shows.few)
-    on (Some i) h = record { good = sym (there (inference i)) ∙ h.1.0; nested = h.1.1; few = h.0 }
+    on (Some i) h = (
+      record { good = sym (there (inference i)) ∙ h.1.0; nested = h.1.1; few = h.0 },
+      λ j shows. h.2 j (there j ∙ shows.good, shows.nested),
+    )
