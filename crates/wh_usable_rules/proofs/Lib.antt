@@ -1,0 +1,3 @@
+mod Leasts
+mod Tables
+mod Takings

@@ -1,0 +1,4 @@
+pub mod Tables
+pub mod Called
+pub mod Taken
+pub mod Least
