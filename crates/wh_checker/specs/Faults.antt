@@ -72,8 +72,8 @@ IsNodeFault limits d ps set (w.interpretations usable funs lines rules pairs dro
 IsNodeFault limits d ps set (w.interpretations usable funs lines rules pairs drop) fault.BadSymbols =
     CoversRules d usable × ((R : ReadingsData) → SayCovering d ps set funs lines R → ⊥)
 IsNodeFault limits d ps set (w.interpretations usable funs lines rules pairs drop) (fault.Poly f) =
-    CoversRules d usable × ((R : ReadingsData) × SayCovering d ps set funs lines R
-    × IsFirstCoveringFault limits (poly_task d ps set usable) R (moves_of rules pairs drop) f)
+    CoversRules d usable × (R : ReadingsData) × SayCovering d ps set funs lines R
+    × IsFirstCoveringFault limits (poly_task d ps set usable) R (moves_of rules pairs drop) f
 IsNodeFault limits d ps set (w.order funs lines rules pairs drop) fault.BadSymbols =
     (D : FilteringData) → SayOrdering d ps set funs lines D → ⊥
 IsNodeFault limits d ps set (w.order funs lines rules pairs drop) (fault.Order f) =

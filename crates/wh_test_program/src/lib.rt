@@ -24,4 +24,6 @@ mod run_rows;
 #[cfg(test)]
 mod system_rows;
 #[cfg(test)]
+mod usable_rows;
+#[cfg(test)]
 mod yes_rows;

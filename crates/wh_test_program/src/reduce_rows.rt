@@ -1,6 +1,7 @@
 //! Rows of terms that are reduced. What is expected was worked out by hand.
 
 use crate::system_rows::calling;
+use std::alloc::AllocError;
 use std::test::Fail;
 use wh_test_runs::{Given, writes};
 use wh_test_samples::{LOOP, MAP, PARTIAL, UNDER_BINDER, UNEVEN};
@@ -135,5 +136,19 @@ fn asks_for_no_pairs(rt: HostRuntime) -> Result<(), Fail> {
         certificate: b"",
     };
     assert!(rt; writes(rt.alloc(), given, 0, b"REDUCED 0\n(s a)\nnormal\n")?);
+    Ok(())
+}
+
+#[test]
+fn rejects_long_words(rt: HostRuntime) -> Result<(), Fail> {
+    let alloc = rt.alloc();
+    let many = vec![in alloc; b'('; 8_388_608]?;
+    let word = str::from_utf8(many.as_slice()).or(Err(AllocError))?;
+    let given = Given {
+        words: &["reduce", "system", word],
+        system: PARTIAL,
+        certificate: b"",
+    };
+    assert!(rt; writes(alloc, given, 1, b"REJECTED term\n")?);
     Ok(())
 }

@@ -113,10 +113,7 @@ const FAULTS: &[(&[u8], &[u8])] = &[
     (b"YES 2\nranks\npairs 0\npoly\nusable 00\n", b"33"),
     (b"YES 2\nranks\npairs 0\npoly\nusable 65536\n", b"36"),
     (b"YES 2\nranks\npairs 0\npoly\nusable 0>0:1\n", b"33"),
-    (
-        b"YES 2\nranks\npairs 0\npoly\nusable 0\nusable 0\n",
-        b"34",
-    ),
+    (b"YES 2\nranks\npairs 0\npoly\nusable 0\nusable 0\n", b"34"),
     (
         b"YES 2\nranks\npairs 0\npoly\nusable\nrule\nmark f 0\n",
         b"37",

@@ -96,7 +96,7 @@ as_valid d ps (yes version ranks pairs xs) fits =
     let c : Cert = yes version ranks pairs xs in
     cond_both (version == 1) (yes 2 ranks pairs (map (Upgraded d) xs)) c (λ (u : Cert). IsValidCert d ps u ↔ IsValidCert d ps c)
     (λ e. let v = of_one version ranks pairs xs fits (eqb-true version 1 e) in
-        ((λ h. valid_again d ps ranks pairs (map (Upgraded d) xs) xs (λ nodes s. all_old d xs nodes v s) h), (λ h. valid_again d ps ranks pairs xs (map (Upgraded d) xs) (λ nodes s. all_new d xs nodes v s) h)))
+    ((λ h. valid_again d ps ranks pairs (map (Upgraded d) xs) xs (λ nodes s. all_old d xs nodes v s) h), (λ h. valid_again d ps ranks pairs xs (map (Upgraded d) xs) (λ nodes s. all_new d xs nodes v s) h)))
     (λ e. ((λ h. h), (λ h. h)))
 
 pub as_small : (d : SystemData) (ps : List PairData) (c : Cert) → IsCert c → (IsSmallCert d ps (upgraded (length d.rules) c) ↔ IsSmallCert d ps c)
@@ -105,5 +105,5 @@ as_small d ps (yes version ranks pairs xs) fits =
     let c : Cert = yes version ranks pairs xs in
     cond_both (version == 1) (yes 2 ranks pairs (map (Upgraded d) xs)) c (λ (u : Cert). IsSmallCert d ps u ↔ IsSmallCert d ps c)
     (λ e. let v = of_one version ranks pairs xs fits (eqb-true version 1 e) in
-        ((λ h. small_again d ps (map (Upgraded d) xs) xs (λ nodes s. all_old d xs nodes v s) h), (λ h. small_again d ps xs (map (Upgraded d) xs) (λ nodes s. all_new d xs nodes v s) h)))
+    ((λ h. small_again d ps (map (Upgraded d) xs) xs (λ nodes s. all_old d xs nodes v s) h), (λ h. small_again d ps xs (map (Upgraded d) xs) (λ nodes s. all_new d xs nodes v s) h)))
     (λ e. ((λ h. h), (λ h. h)))

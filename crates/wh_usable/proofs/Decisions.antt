@@ -1,5 +1,5 @@
 -- A list of rules is closed for a set, or some rule or pair is the first for which it is not.
-use Rattle.std.proofs.Common.{◌≡◌, ℕ, ◌<◌, ◌⊎◌, inl, inr, List, [], ◌∷◌, Contains, Option, Some, None, slice_get, length, refl, ap, sym, subst, ◌∙◌}
+use Rattle.std.proofs.Common.{◌≡◌, ℕ, ◌<◌, ◌≤◌, ◌⊎◌, inl, inr, List, [], ◌∷◌, Contains, Option, Some, None, slice_get, length, refl, ap, sym, subst, ◌∙◌, arith}
 use Rattle.std.proofs.lemmas.Option.{slice_get_within}
 use Rattle.std.proofs.lemmas.Bool.{cases_lt}
 use Rattle.wh_types.specs.Ty.{Ty, sort, ◌⇒◌, arguments}
@@ -43,14 +43,16 @@ sorts_decided ((a ⇒ b) ∷ Γ) = inr (λ h. h)
 
 declared_nullary : (M : List Declared) (z : ℕ) (types : List Ty) (o : Ty) → slice_get M z ≡ Some (record { args = types; out = o }) → Decided (IsNullary M z)
 declared_nullary M z [] (sort s) e = inl (s, e)
-declared_nullary M z [] (a ⇒ b) e = inr (λ (s, at). cc)
-declared_nullary M z (a ∷ types) o e = inr (λ (s, at). cc)
+declared_nullary M z [] (a ⇒ b) e =
+    inr (λ (s, at). absurd (let same : (a ⇒ b) ≡ sort s = ap (λ (d : Declared). d.out) (some_one e at) in cc))
+declared_nullary M z (a ∷ types) o e =
+    inr (λ (s, at). absurd (let same : (a ∷ types) ≡ [] = ap (λ (d : Declared). d.args) (some_one e at) in cc))
 
 nullary_decided : (M : List Declared) (z : ℕ) → Decided (IsNullary M z)
 nullary_decided M z = go (slice_get M z) refl
   where
     go : (o : Option Declared) → slice_get M z ≡ o → Decided (IsNullary M z)
-    go None e = inr (λ (s, at). cc)
+    go None e = inr (λ (s, at). absurd (cc (e, at)))
     go (Some d) e = declared_nullary M z d.args d.out e
 
 flat_decided : (S : Symbols) (M : List Declared) (t : Tm) → Decided (IsFlatTree S M t)
@@ -80,7 +82,7 @@ module _ (rules : List RewriteRule) (listed : List ℕ) where
   unlisted_decided f n = go (slice_get rules n) refl
     where
       go : (o : Option RewriteRule) → slice_get rules n ≡ o → Decided (IsUnlisted f n)
-      go None e = inr (λ (r, at, heads, missing). cc)
+      go None e = inr (λ (r, at, heads, missing). absurd (cc (e, at)))
       go (Some r) e =
           decided_by (λ (heads, missing). (r, e, heads, missing))
           (λ (q, at, heads, missing). (subst (λ (x : RewriteRule). head x.left ≡ fun f) (some_one at e) heads, missing))
@@ -89,8 +91,8 @@ module _ (rules : List RewriteRule) (listed : List ℕ) where
   rules_decided : (f : ℕ) → Decided (ListsRulesOf rules listed f)
   rules_decided f = elim (some_below (IsUnlisted f) (unlisted_decided f) (length rules)) [
     | inl (n, less, (r, at, heads, missing)) ↦ inr (λ lists. missing (lists n r at heads))
-    | inr none ↦
-        inl (λ n r at heads. not_refuted (listed_decided n) (λ missing. none (n, slice_get_within rules n r at, (r, at, heads, missing))))
+    | inr all ↦
+        inl (λ n r at heads. not_refuted (listed_decided n) (λ missing. all (n, slice_get_within rules n r at, (r, at, heads, missing))))
   ]
 
   -- all rules of each symbol in one of the trees are listed
@@ -141,22 +143,22 @@ sort_decided S r = sort_of_sides S r (typed_decided S r.metas r.left []) (typed_
 
 closed_rule_decided : (S : Symbols) (rules : List RewriteRule) (listed : List ℕ) (r : RewriteRule) → Decided (IsClosedRule S rules listed r)
 closed_rule_decided S rules listed r =
-    decided_by (λ (of_a_sort, left, right, calls). record { of_a_sort = of_a_sort; left = left; right = right; calls = calls })
-    (λ is. (is.of_a_sort, is.left, is.right, is.calls))
+    decided_by (λ (of_a_sort, (left, (right, calls))). record { of_a_sort = of_a_sort; left = left; right = right; calls = calls })
+    (λ is. (is.of_a_sort, (is.left, (is.right, is.calls))))
     (both_decided (sort_decided S r) (both_decided (flat_decided S r.metas r.left)
     (both_decided (flat_decided S r.metas r.right) (calls_decided rules listed r.right))))
 
 closed_pair_decided : (S : Symbols) (rules : List RewriteRule) (listed : List ℕ) (p : PairData) → Decided (IsClosedPair S rules listed p)
 closed_pair_decided S rules listed p =
     decided_by
-    (λ (left_head, right_head, left, right, calls). record {
+    (λ (left_head, (right_head, (left, (right, calls)))). record {
       left_head = left_head;
       right_head = right_head;
       left = left;
       right = right;
       calls = calls;
     })
-    (λ is. (is.left_head, is.right_head, is.left, is.right, is.calls))
+    (λ is. (is.left_head, (is.right_head, (is.left, (is.right, is.calls)))))
     (both_decided (sorts_decided (marked_types S rules p.left_fun)) (both_decided (sorts_decided (marked_types S rules p.right_fun))
     (both_decided (flat_trees_decided S p.metas p.left) (both_decided (flat_trees_decided S p.metas p.right)
     (each_calls_decided rules listed p.right)))))
@@ -168,14 +170,14 @@ module _ {A : Type 0} (Q : A → Type 0) (decided : (x : A) → Decided (Q x)) (
   at_decided n = go (slice_get xs n) refl
     where
       go : (o : Option A) → slice_get xs n ≡ o → Decided (IsAt Q xs n)
-      go None e = inl (λ x at. cc)
+      go None e = inl (λ x at. absurd (cc (e, at)))
       go (Some x) e = decided_by (is_at Q xs n x e) (λ h. h x e) (decided x)
 
   some_not : (n : ℕ) → (IsAt Q xs n → ⊥) → (x : A) × (slice_get xs n ≡ Some x) × (Q x → ⊥)
   some_not n not = go (slice_get xs n) refl
     where
       go : (o : Option A) → slice_get xs n ≡ o → (x : A) × (slice_get xs n ≡ Some x) × (Q x → ⊥)
-      go None e = absurd (not (λ x at. cc))
+      go None e = absurd (not (λ x at. absurd (cc (e, at))))
       go (Some x) e = (x, e, λ holds. not (is_at Q xs n x e holds))
 
   all_or_first_not : (numbers : List ℕ) → ((n : ℕ) → Contains numbers n → IsAt Q xs n) ⊎ ((n : ℕ) × IsFirstNot Q xs numbers n)
@@ -190,7 +192,7 @@ module _ {A : Type 0} (Q : A → Type 0) (decided : (x : A) → Decided (Q x)) (
             before = λ k m x less at_k at_m. not_refuted (at_decided m) (before k m less at_k) x at_m;
           },
         )
-    | inr none ↦ inl (λ n found. not_refuted (at_decided n) (none n found))
+    | inr all ↦ inl (λ n found. not_refuted (at_decided n) (all n found))
   ]
 
 neither_below : (m n : ℕ) → (m < n → ⊥) → (n < m → ⊥) → m ≡ n

@@ -158,22 +158,18 @@ some_where o true e f none = cc
 some_where None false e f none = cc
 some_where (Some n) false e f none = cc
 
--- where no other bound is kept, the last tells whether any is
-pub none_bound : (kept : Kept) → kept.tries ≡ None → kept.depth ≡ None → (r : Bool) → is_some kept.visited ≡ not r → IsTrue r ↔ SetsNoBounds kept
-none_bound kept no_tries no_depth r last = (all, λ none. both r last none.visited)
+-- where P asks of one number alone that it is not kept, that tells whether P holds
+pub last_tells : (P : Type 0) (o : Option ℕ) (r : Bool) → is_some o ≡ not r → (o ≡ None → P) → (P → o ≡ None) → IsTrue r ↔ P
+last_tells P o r last to from = (λ t. to (none_where o r last t), λ p. both r last (from p))
   where
-    all : IsTrue r → SetsNoBounds kept
-    all t = record { tries = no_tries; depth = no_depth; visited = none_where kept.visited r last t }
-
-    both : (r : Bool) → is_some kept.visited ≡ not r → kept.visited ≡ None → IsTrue r
+    both : (r : Bool) → is_some o ≡ not r → o ≡ None → IsTrue r
     both true e none = refl
-    both false e none = absurd (some_where kept.visited false e refl none)
+    both false e none = absurd (some_where o false e refl none)
 
--- where one is kept, not none is
-pub some_bound : (kept : Kept) (o : Option ℕ) (r one : Bool) → r ≡ false → is_some o ≡ not one → one ≡ false → (SetsNoBounds kept → o ≡ None)
-    → IsTrue r ↔ SetsNoBounds kept
-some_bound kept o r one is other not_one none =
-    (λ t. absurd (false≢true (sym is ∙ t)), λ no. absurd (some_where o one other not_one (none no)))
+-- where a number is kept that P asks not to be kept, P does not hold
+pub one_tells : (P : Type 0) (o : Option ℕ) (r one : Bool) → r ≡ false → is_some o ≡ not one → one ≡ false → (P → o ≡ None) → IsTrue r ↔ P
+one_tells P o r one is other not_one none =
+    (λ t. absurd (false≢true (sym is ∙ t)), λ p. absurd (some_where o one other not_one (none p)))
 
 -- no number is kept where no bound is, nor how many steps are taken
 set_none : (kept : Kept) → SetsNoBounds kept → kept.steps ≡ None → SetsNo kept

@@ -42,6 +42,12 @@ pub record SetsNoBounds (kept : Kept) : Type 0 where
   pub depth : kept.depth ≡ None
   pub visited : kept.visited ≡ None
 
+-- no number is kept but how many clauses a finder may learn (ours)
+pub record SetsTriesAlone (kept : Kept) : Type 0 where
+  pub depth : kept.depth ≡ None
+  pub visited : kept.visited ≡ None
+  pub steps : kept.steps ≡ None
+
 -- what is kept sums up the items (ours)
 pub record Sums (kept : Kept) (items : List Item) : Type 0 where
   pub words : words_in items ≡ words_of kept.alone

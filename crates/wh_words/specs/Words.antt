@@ -103,14 +103,24 @@ pub record SetSteps (items : List Item) (n : ℕ) : Type 0 where
   pub depth : IsUnset items depth
   pub visited : IsUnset items visited
 
+-- the items set how many clauses a finder may learn, and nothing else
+pub record SetTries (items : List Item) (n : ℕ) : Type 0 where
+  pub tries : SetTo items tries n
+  pub depth : IsUnset items depth
+  pub visited : IsUnset items visited
+  pub steps : IsUnset items steps
+
 -- what the words may ask for: to check a certificate for a system, to search for a proof of termination or a loop within bounds, to show
--- a system, to prove the generated system with a number, or to reduce a term of a system by at most that many steps
+-- a system, to prove the generated system with a number, to reduce a term of a system by at most that many steps, to write a certificate
+-- in the second version of the format, or to refute that a projection helps where a search is stuck, by at most that many clauses
 pub data Request : Type 0 where
   check : (file cert : List ℕ) → Request
   prove : (file : List ℕ) (b : Bounds) → Request
   show : (file : List ℕ) → Request
   gen : (n : ℕ) → Request
   reduce : (file term : List ℕ) (n : ℕ) → Request
+  upgrade : (file cert : List ℕ) → Request
+  refute : (file : List ℕ) (n : ℕ) → Request
 
 -- the words ask for it: a command, and behind it its files, options, number and term
 abbrev pub Asks : List (List ℕ) → Request → Type 0
@@ -123,3 +133,7 @@ Asks words (gen n) = (more : List (List ℕ)) × (words ≡ codes "gen" ∷ more
 Asks words (reduce file term n) =
     (more : List (List ℕ)) × (items : List Item) × (words ≡ codes "reduce" ∷ more) × Say more items
     × (words_in items ≡ file ∷ term ∷ []) × SetSteps items n
+Asks words (upgrade file cert) = (more : List (List ℕ)) × (words ≡ codes "upgrade" ∷ more) × Say more (alone file ∷ alone cert ∷ [])
+Asks words (refute file n) =
+    (more : List (List ℕ)) × (items : List Item) × (words ≡ codes "refute" ∷ more) × Say more items × (words_in items ≡ file ∷ [])
+    × SetTries items n

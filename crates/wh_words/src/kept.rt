@@ -1,7 +1,7 @@
 //! What is kept of the words behind the command.
 
 ghost use Rattle.std.specs.Prelude.{ℕ, ◌≡◌, ◌↔◌, ◌++◌, List, [], ◌∷◌, All, IsTrue, MatchOption, Some, None, map, string_bytes};
-ghost use Rattle.wh_words.specs.Kept.{Adds, AddsNone, Sets, SetsNo, SetsNoBounds, SetsNone, Sums};
+ghost use Rattle.wh_words.specs.Kept.{Adds, AddsNone, Sets, SetsNo, SetsNoBounds, SetsNone, SetsTriesAlone, Sums};
 ghost use Rattle.wh_words.specs.Options.{which};
 ghost use Rattle.wh_words.specs.Words.{IsFilled, Item, alone};
 
@@ -60,6 +60,13 @@ impl<'a> Kept<'a> {
         ensures { IsTrue result ↔ SetsNoBounds self.now }
     {
         self.tries.is_none() && self.depth.is_none() && self.visited.is_none()
+    }
+
+    /// Whether no option stood but `--tries`.
+    pub fn sets_tries_alone(&self) -> bool
+        ensures { IsTrue result ↔ SetsTriesAlone self.now }
+    {
+        self.depth.is_none() && self.visited.is_none() && self.steps.is_none()
     }
 
     /// Keeps one more word by itself; `None` where it is the third.
