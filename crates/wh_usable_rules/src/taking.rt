@@ -11,6 +11,7 @@ use crate::calls::{call_symbols, call_symbols_of_all, calls_head};
 use std::alloc::{AllocError, Global};
 use wh_pairs::Pair;
 use wh_terms::Rule;
+use wh_types::Numbers;
 
 /// The symbols in the right arguments of the pairs of the set are called.
 pub fn call_pairs(called: &mut [bool], pairs: &[Pair], set: &[u32])
@@ -47,12 +48,12 @@ fn take_some(called: &mut [bool], taken: &mut [bool], rules: &[Rule]) -> bool
 }
 
 /// The numbers of the rules that are taken.
-pub fn numbers_of(alloc: Global, taken: &[bool]) -> Result<Vec<u32>, AllocError>
+pub fn numbers_of(alloc: Global, taken: &[bool]) -> Result<Numbers, AllocError>
     requires { length taken.now < 2 ^ 32 }
-    ensures increasing { IfOk result (λ made. IsIncreasing made.items) }
-    ensures taken { IfOk result (λ made. (n : ℕ) → Contains made.items n ↔ Says taken.now n) }
+    ensures increasing { IfOk result (λ made. IsIncreasing made) }
+    ensures taken { IfOk result (λ made. (n : ℕ) → Contains made n ↔ Says taken.now n) }
 {
-    let mut numbers = Vec::new(alloc);
+    let mut numbers = Numbers::new(alloc)?;
     for number in 0..taken.len() as u32 {
         if taken[number as usize] {
             numbers.push(number)?;

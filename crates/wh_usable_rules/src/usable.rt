@@ -1,18 +1,19 @@
 //! The least closed list of rules.
 
-ghost use Rattle.std.specs.Prelude.{◌≡◌, ◌<◌, [], All, IfOk, MatchOption, length};
+ghost use Rattle.std.specs.Prelude.{◌<◌, All, IfOk, length};
 ghost use Rattle.wh_system.specs.SystemView.{system_data};
 ghost use Rattle.wh_pairs.specs.PairData.{IsIncreasing};
 ghost use Rattle.wh_pairs.specs.Views.{pairs_data};
-ghost use Rattle.wh_reduction.specs.TaskData.{TaskData, task_over};
+ghost use Rattle.wh_reduction.specs.TaskData.{task_over};
 ghost use Rattle.wh_usable_rules.specs.Called.{AreRulesOfCalled};
-ghost use Rattle.wh_usable_rules.specs.Least.{IsLeastClosed, IsOnlyWhole};
+ghost use Rattle.wh_usable_rules.specs.Least.{AreUsableRules};
 
 use crate::taking::{call_pairs, numbers_of, take_all};
 use std::alloc::{AllocError, Global};
 use wh_pairs::{PairList, PairSet};
 use wh_reduction::Task;
 use wh_system::System;
+use wh_types::Numbers;
 use wh_usable::check_closed;
 
 /// The usable rules of the set: those of the symbols that are called from its pairs. `None` where no list of rules is
@@ -26,19 +27,18 @@ pub fn usable_rules(
     system: &System,
     pairs: &PairList,
     set: &PairSet,
-) -> Result<Option<Vec<u32>>, AllocError>
+) -> Result<Option<Numbers>, AllocError>
     requires { All (λ n. n < length pairs.now) set.now }
-    ensures { (T : TaskData) → T ≡ task_over (system_data system.now).symbols (system_data system.now).rules (pairs_data pairs.now) set.now []
-        → IfOk result (λ found. MatchOption found (IsOnlyWhole T) (λ listed. IsLeastClosed T listed.items)) }
+    ensures { IfOk result (AreUsableRules (system_data system.now) (pairs_data pairs.now) set.now) }
 {
     let listed = rules_of_called(alloc, system, pairs, set)?;
     let task = Task {
         system,
         pairs: pairs.as_slice(),
         set: set.as_slice(),
-        covered: &listed,
+        covered: listed.as_slice(),
     };
-    if listed.len() == system.rules().len() || check_closed(&task).is_err() {
+    if listed.as_slice().len() == system.rules().len() || check_closed(&task).is_err() {
         return Ok(None);
     }
     Ok(Some(listed))
@@ -53,11 +53,11 @@ fn rules_of_called(
     system: &System,
     pairs: &PairList,
     set: &PairSet,
-) -> Result<Vec<u32>, AllocError>
+) -> Result<Numbers, AllocError>
     requires { All (λ n. n < length pairs.now) set.now }
-    ensures increasing { IfOk result (λ listed. IsIncreasing listed.items) }
+    ensures increasing { IfOk result (λ listed. IsIncreasing listed) }
     ensures called { IfOk result (λ listed. AreRulesOfCalled (task_over (system_data system.now).symbols (system_data system.now).rules
-        (pairs_data pairs.now) set.now listed.items)) }
+        (pairs_data pairs.now) set.now listed)) }
 {
     system.is_well_made();
     let mut called = [false; MOST_SYMBOLS];
