@@ -1,10 +1,8 @@
 -- What the search by a circuit ends with.
-use Rattle.std.proofs.Common.{◌≡◌, ℕ, ◌<◌, ◌≤◌, Bool, true, List, map, length, All, subst, ◌∙◌, arith}
+use Rattle.std.proofs.Common.{◌≡◌, ℕ, ◌<◌, ◌≤◌, inl, Bool, true, Option, Some, None, List, map, length, All, refl, sym, subst, ◌∙◌, arith}
 use Rattle.std.proofs.lemmas.List.{length-map}
 use Rattle.std.proofs.lemmas.List.Elements.{All-contains}
 use Rattle.std.specs.Global.{Vec}
-use Rattle.wh_terms.specs.Typing.{Symbols}
-use Rattle.wh_terms.specs.Rules.{RewriteRule}
 use Rattle.wh_pairs.specs.PairData.{PairData, IsIncreasing, pair_data}
 use Rattle.wh_pairs.specs.declared.pair.Pair.{Pair}
 use Rattle.wh_pairs.proofs.SetLemmas.{all_from_members}
@@ -12,12 +10,15 @@ use Rattle.wh_pairs.specs.Marked.{AreMarked}
 use Rattle.wh_system.specs.SystemView.{system_data}
 use Rattle.wh_system.specs.Systems.{SystemData}
 use Rattle.wh_system.specs.WellMade.{IsWellMadeSystem}
-use Rattle.wh_reduction.specs.TaskData.{TaskData, task_over}
+use Rattle.wh_reduction.specs.TaskData.{TaskData, IsTask, task_over}
 use Rattle.wh_reduction.specs.TaskView.{task_data}
 use Rattle.wh_reduction.specs.declared.task.Task.{Task}
-use Rattle.wh_polycheck.specs.Covering.{HaveTypedSides, IsTypedTask}
+use Rattle.wh_polycheck.specs.Covering.{IsTypedTask}
 use Rattle.wh_polycheck.specs.Readings.{ReadingsData}
 use Rattle.wh_covering.proofs.Walks.{marks_are}
+use Rattle.wh_usable.specs.Closed.{IsUsable}
+use Rattle.wh_usable.proofs.Whole.{all_in_order}
+use Rattle.wh_proof.specs.Looked.{poly_task}
 use Rattle.wh_sat_trail.specs.declared.literal.Literal.{Literal}
 use Rattle.wh_sat_trail.specs.Propagation.{Within}
 use Rattle.wh_sat.specs.Solving.{Solves}
@@ -36,21 +37,32 @@ use Rattle.wh_blocking.specs.Tried.{AreWritten}
 use Rattle.wh_blocking.proofs.EncodingLemmas.{lists_are}
 use Rattle.wh_flat.specs.Flat.{IsFlat, all_occurrences}
 use Rattle.wh_find_flat.specs.Ready.{IsFlatCircuit}
-use Rattle.wh_find_flat.specs.Answers.{IsFlatFormula, most_variables}
+use Rattle.wh_find_flat.specs.Answers.{IsClosedList, IsFlatFormula, most_variables}
 use Rattle.wh_find_flat.proofs.Formulas.{flat_formula}
 
--- the task of a set with these rules
-pub typed_task : (S : Symbols) (rules : List RewriteRule) (pairs : List Pair) (set covered : List ℕ) → HaveTypedSides S rules (map pair_data pairs)
-    → All (λ n. n < length pairs) set → IsIncreasing set → All (λ n. n < length rules) covered
-    → IsTypedTask (task_over S rules (map pair_data pairs) set covered)
-typed_task S rules pairs set covered typed within up are_rules = record {
-  task = record {
-    within = all_from_members (λ n. n < length (map pair_data pairs)) set (λ n found.
-        let h = All-contains (λ n. n < length pairs) set n within found in omega (arith, h, length-map pairs pair_data));
-    increasing = up;
-    are_rules = are_rules;
-  };
-  typed = typed;
+-- the rules of the list, or all rules, are closed for the set
+pub usable_is : (d : SystemData) (pairs : List PairData) (set : List ℕ) (usable : Option (List ℕ)) → IsClosedList d pairs set usable
+    → IsUsable (poly_task d pairs set usable)
+usable_is d pairs set None closed =
+    let order = all_in_order (length d.rules) in record { increasing = order.0; are_rules = order.1; closed = inl refl }
+usable_is d pairs set (Some listed) closed = closed
+
+-- what holds of the set holds of the task that is made of it
+pub of_task : (P : TaskData → Type 0) (d : SystemData) (ps qs : List Pair) (set numbers rules covered : List ℕ) → ps ≡ qs → set ≡ numbers → rules ≡ covered
+    → P (task_over d.symbols d.rules (map pair_data qs) numbers covered) → P (task_over d.symbols d.rules (map pair_data ps) set rules)
+of_task P d ps qs set numbers rules covered p s r h =
+    subst (λ (l : List Pair). P (task_over d.symbols d.rules (map pair_data l) set rules)) (sym p)
+    (subst (λ (l : List ℕ). P (task_over d.symbols d.rules (map pair_data qs) l rules)) (sym s)
+    (subst (λ (l : List ℕ). P (task_over d.symbols d.rules (map pair_data qs) numbers l)) (sym r) h))
+
+-- the task of the set, without the types of its sides
+pub plain_task : (d : SystemData) (pairs : List Pair) (set covered : List ℕ) → All (λ n. n < length pairs) set → IsIncreasing set
+    → All (λ n. n < length d.rules) covered → IsTask (task_over d.symbols d.rules (map pair_data pairs) set covered)
+plain_task d pairs set covered within up are_rules = record {
+  within = all_from_members (λ n. n < length (map pair_data pairs)) set (λ n found.
+      let h = All-contains (λ n. n < length pairs) set n within found in omega (arith, h, length-map pairs pair_data));
+  increasing = up;
+  are_rules = are_rules;
 }
 
 module _ (t : Task) (marked sizes : List ℕ) (sized : sizes ≡ map (λ Γ. length (space_of Γ)) (scopes_of (task_data t) marked)) where

@@ -1,5 +1,5 @@
 -- What the search by a circuit ends with.
-use Rattle.std.specs.Prelude.{ℕ, ◌+◌, ◌*◌, ◌≤◌, ◌≡◌, Bool, Option, List, [], ◌∷◌, length}
+use Rattle.std.specs.Prelude.{ℕ, ◌+◌, ◌*◌, ◌≤◌, ◌≡◌, Bool, Option, Some, None, List, [], ◌∷◌, length}
 use Rattle.wh_system.specs.Systems.{SystemData}
 use Rattle.wh_pairs.specs.PairData.{PairData}
 use Rattle.wh_pairs.specs.Marked.{AreMarked}
@@ -7,6 +7,7 @@ use Rattle.wh_reduction.specs.TaskData.{TaskData}
 use Rattle.wh_polycheck.specs.Readings.{ReadingsData}
 use Rattle.wh_cert.specs.declared.certificate.Node.{Node}
 use Rattle.wh_cert.specs.Said.{said_node}
+use Rattle.wh_usable.specs.Closed.{IsUsable}
 use Rattle.wh_proof.specs.Looked.{poly_task}
 use Rattle.wh_sat_trail.specs.declared.literal.Literal.{Literal}
 use Rattle.wh_sat_trail.specs.Propagation.{Within}
@@ -45,6 +46,11 @@ pub record IsFlatSpent (T : TaskData) (budget : ℕ) (list : List (List Literal)
   pub clauses : List (List Literal)
   pub formula : IsFlatFormula T marked variables clauses
   pub learnt : Learnt variables clauses list
+
+-- the list, where there is one, is closed for the set
+abbrev pub IsClosedList : SystemData → List PairData → List ℕ → Option (List ℕ) → Type 0
+IsClosedList d pairs set None = Unit {0}
+IsClosedList d pairs set (Some listed) = IsUsable (poly_task d pairs set (Some listed))
 
 -- a node of interpretations, which lists these rules or none; that no interpretations of the space let a pair go where these rules, or
 -- else all, are to be covered; or the clauses

@@ -1,6 +1,6 @@
 //! The search for interpretations of a flat set.
 
-ghost use Rattle.std.specs.Prelude.{◌≡◌, ◌≤◌, ◌<◌, All, IfOk, length, map};
+ghost use Rattle.std.specs.Prelude.{◌≡◌, ◌↔◌, ◌≤◌, ◌<◌, All, IfOk, IsTrue, length, map};
 ghost use Rattle.wh_types.specs.Limits.{most_pairs};
 ghost use Rattle.wh_system.specs.SystemView.{system_data};
 ghost use Rattle.wh_pairs.specs.Marked.{AreMarked};
@@ -9,7 +9,6 @@ ghost use Rattle.wh_pairs.specs.Views.{pairs_data};
 ghost use Rattle.wh_reduction.specs.TaskView.{task_data};
 ghost use Rattle.wh_polycheck.specs.Covering.{IsTypedTask};
 ghost use Rattle.wh_polycheck.specs.Readings.{ReadingsData};
-ghost use Rattle.wh_usable.specs.Closed.{IsUsable};
 ghost use Rattle.wh_proof.specs.Looked.{covered_rules, poly_task};
 ghost use Rattle.wh_cert.specs.Said.{said_node};
 ghost use Rattle.wh_space.specs.Space.{space_of};
@@ -20,13 +19,14 @@ ghost use Rattle.wh_guesses.specs.Weighing.{AreRulesOf};
 ghost use Rattle.wh_blocking.specs.Sizes.{value_of};
 ghost use Rattle.wh_blocking.specs.Tried.{AreWritten};
 ghost use Rattle.wh_flat.specs.Flat.{IsFlat};
-ghost use Rattle.wh_find_flat.specs.Answers.{IsFlatAnswer};
+ghost use Rattle.wh_find_flat.specs.Answers.{IsClosedList, IsFlatAnswer};
 
 use crate::bits::Bits;
 use crate::formula::circuit_of;
 use std::alloc::{AllocError, Global};
 use wh_blocking::{first_bits, lists_by};
 use wh_cert::Node;
+use wh_flat::flat;
 use wh_guesses::{Weighing, guess_by, listing_node_of_guess, sizes_of};
 use wh_pairs::{PairList, PairSet, marked_symbols};
 use wh_reduction::{Task, all_rules};
@@ -52,7 +52,7 @@ pub fn find_by_circuit(
     requires whole { HasPairs (system_data system.now) (pairs_data pairs.now) }
     requires set { All (λ n. n < length pairs.now) set.now }
     requires some { 1 ≤ length set.now }
-    requires usable { IsUsable (poly_task (system_data system.now) (pairs_data pairs.now) set.now usable) }
+    requires usable { IsClosedList (system_data system.now) (pairs_data pairs.now) set.now usable }
     requires flat { IsFlat (poly_task (system_data system.now) (pairs_data pairs.now) set.now usable) }
     ensures { IfOk result (IsFlatAnswer (system_data system.now) (pairs_data pairs.now) set.now usable budget) }
 {
@@ -66,6 +66,28 @@ pub fn find_by_circuit(
     system.is_well_made();
     let marked = marked_symbols(alloc, pairs, set)?;
     find_for(alloc, &task, usable, &marked, budget)
+}
+
+/// Whether the set is flat where the rules of the list, or all rules where there is no list, are to be covered.
+pub fn is_flat(
+    alloc: Global,
+    system: &System,
+    pairs: &PairList,
+    set: &PairSet,
+    usable: &Option<Numbers>,
+) -> Result<bool, AllocError>
+    requires set { All (λ n. n < length pairs.now) set.now }
+    requires usable { IsClosedList (system_data system.now) (pairs_data pairs.now) set.now usable.now }
+    ensures { IfOk result (λ flat. IsTrue flat ↔ IsFlat (poly_task (system_data system.now) (pairs_data pairs.now) set.now usable.now)) }
+{
+    let covered = rules_of(alloc, system, usable)?;
+    let task = Task {
+        system,
+        pairs: pairs.as_slice(),
+        set: set.as_slice(),
+        covered: &covered,
+    };
+    Ok(flat(&task))
 }
 
 // The rules of the list, or all rules where there is none.

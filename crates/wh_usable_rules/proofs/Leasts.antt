@@ -99,7 +99,10 @@ same_numbers (n ∷ ns) a (suc k) up within all =
       let above = above_first n ns m up found in omega (arith, above, same),
       let bounds = within m (later n ns m found) in omega (arith, bounds.1),
     ))
-    (λ m from below. in_rest n ns m (omega (arith, from, same)) (all m (omega (arith, from)) (omega (arith, below)))))
+    (λ m low below. in_rest n ns m (omega (arith, low, same)) (all m (omega (arith, low)) (omega (arith, below)))))
+
+all_have : (k n : ℕ) → n < k → Contains (numbers_from 0 k) n
+all_have k n less = let same : 0 + n ≡ n = omega arith in contains_at (numbers_from 0 k) n n (numbers_at 0 k n less ∙ ap Some same)
 
 -- the list of the rules of the symbols that are called
 
@@ -110,7 +113,7 @@ module _ (T : TaskData) (listed : List ℕ) (are : AreRulesOfCalled (covering T 
         let (r, f, at, heads, called) = are.of_called n found in
         let within = slice_get_within T.rules n r at in
         subst (λ (l : List ℕ). Contains l n) (sym whole)
-        (contains_at (numbers_from 0 (length T.rules)) n n (numbers_at 0 (length T.rules) n within))
+        (all_have (length T.rules) n within)
     | inr closed ↦ in_closed T other closed.0 closed.1 listed are n found
   ]
 
@@ -119,13 +122,13 @@ module _ (T : TaskData) (listed : List ℕ) (are : AreRulesOfCalled (covering T 
   only_whole all other usable =
       same_numbers other 0 (length T.rules) usable.increasing
       (λ m found. (omega arith, let below = All-contains (λ n. n < length T.rules) other m usable.are_rules found in omega (arith, below)))
-      (λ m from below.
+      (λ m low below.
           least_is other usable m (subst (λ (l : List ℕ). Contains l m) (sym all)
-          (contains_at (numbers_from 0 (length T.rules)) m m (numbers_at 0 (length T.rules) m (omega (arith, below))))))
+          (all_have (length T.rules) m (omega (arith, below)))))
 
   -- and so it is where they are not closed
   pub none_closed : (IsClosed (covering T listed) → ⊥) → IsOnlyWhole T
-  none_closed open other usable = elim usable.closed [
+  none_closed not_closed other usable = elim usable.closed [
     | inl whole ↦ whole
-    | inr closed ↦ absurd (open (called_closed T other closed.0 closed.1 listed are))
+    | inr closed ↦ absurd (not_closed (called_closed T other closed.0 closed.1 listed are))
   ]

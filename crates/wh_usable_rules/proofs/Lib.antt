@@ -1,3 +1,4 @@
 mod Leasts
 mod Tables
 mod Takings
+mod Calling

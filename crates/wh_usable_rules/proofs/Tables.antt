@@ -108,6 +108,13 @@ module _ (pairs : List PairData) (set : List ℕ) where
     ],
   )
 
+  pub enters_pair : (i n : ℕ) (p : PairData) (ts : Tms) (old mid new : List Bool) → slice_get set i ≡ Some n → slice_get pairs n ≡ Some p
+      → tms_of p.right ≡ ts → Enters (StandsBefore i) old mid → Enters (λ f. HaveSymbol f ts) mid new → Enters (StandsBefore (i + 1)) old new
+  enters_pair i n p ts old mid new at there same before here =
+      enters_as (λ f. StandsBefore i f ⊎ HaveSymbol f (tms_of p.right)) (StandsBefore (i + 1)) old new (stands_next i n p at there)
+      (enters_both (StandsBefore i) (λ f. HaveSymbol f (tms_of p.right)) old mid new before
+      (subst (λ (v : Tms). Enters (λ f. HaveSymbol f v) mid new) (sym same) here))
+
   pub stands_all : (i : ℕ) → length set ≤ i → (f : ℕ) → StandsBefore i f ↔ StandsInPairs pairs set f
   stands_all i past f = (
     λ s. (s.pair, (s.number, contains_at set s.place s.number s.at, s.there), s.has),

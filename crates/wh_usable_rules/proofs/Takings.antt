@@ -1,5 +1,5 @@
 -- Rules that are taken, and what their right sides call.
-use Rattle.std.proofs.Common.{◌≡◌, ℕ, zero, suc, ◌+◌, ◌<◌, ◌≤◌, ◌⊎◌, inl, inr, Bool, true, false, List, [], ◌∷◌, length, Some, slice_get, refl, ap, sym, subst, ◌∙◌, arith}
+use Rattle.std.proofs.Common.{◌≡◌, ℕ, zero, suc, ◌+◌, ◌<◌, ◌≤◌, ◌⊎◌, inl, inr, Bool, true, false, List, [], ◌∷◌, length, Some, slice_get, refl, ap, ap₂, sym, subst, if◌then◌else◌, ◌∙◌, arith}
 use Rattle.std.proofs.lemmas.Option.{slice_get_within}
 use Rattle.wh_terms.specs.Tree.{fun, head}
 use Rattle.wh_terms.specs.Rules.{RewriteRule}
@@ -8,13 +8,6 @@ use Rattle.wh_usable.specs.Closed.{HasSymbol}
 use Rattle.wh_usable_rules.specs.Tables.{Says, Enters}
 use Rattle.wh_usable_rules.specs.Called.{Reaches, from, by_rule}
 use Rattle.wh_usable_rules.specs.Taken.{IsFollowed, Takes, AreTakenBefore, IsPass, open_in}
-
--- the table says yes of one place more
-pub record IsSet (before : List Bool) (i : ℕ) (after : List Bool) : Type 0 where
-  pub was : slice_get before i ≡ Some false
-  pub same_length : length after ≡ length before
-  pub is : Says after i
-  pub others : (n : ℕ) → (n ≡ i → ⊥) → slice_get after n ≡ slice_get before n
 
 module _ (rules : List RewriteRule) where
   pub takes_none : (called taken : List Bool) → Takes rules called taken called taken
@@ -27,7 +20,7 @@ module _ (rules : List RewriteRule) where
     taken_only = λ n says. inl says;
   }
 
-  reaches_on : {f : ℕ} (P Q : ℕ → Type 0) → ((g : ℕ) → P g → Reaches rules Q g) → Reaches rules P f → Reaches rules Q f
+  pub reaches_on : (P Q : ℕ → Type 0) → ((g : ℕ) → P g → Reaches rules Q g) → {f : ℕ} → Reaches rules P f → Reaches rules Q f
   reaches_on P Q on (from f p) = on f p
   reaches_on P Q on (by_rule n r g f at heads called has) = by_rule n r g f at heads (reaches_on P Q on called) has
 
@@ -58,20 +51,14 @@ module _ (rules : List RewriteRule) where
     ];
   }
 
-  place_is : (n i : ℕ) → (n ≡ i) ⊎ (n ≡ i → ⊥)
-  place_is zero zero = inl refl
-  place_is zero (suc i) = inr (λ e. omega (arith, e))
-  place_is (suc n) zero = inr (λ e. omega (arith, e))
-  place_is (suc n) (suc i) = elim (place_is n i) [ inl e ↦ inl (ap suc e) | inr other ↦ inr (λ e. other (omega (arith, e))) ]
-
   -- a rule of a symbol that is called is taken
   pub takes_one : (c t c1 t1 : List Bool) (i g : ℕ) (r : RewriteRule) → slice_get rules i ≡ Some r → head r.left ≡ fun g → Says c g
-      → IsSet t i t1 → Enters (λ f. HasSymbol f r.right) c c1 → Takes rules c t c1 t1
-  takes_one c t c1 t1 i g r at heads says set enters =
+      → Enters (λ n. n ≡ i) t t1 → Enters (λ f. HasSymbol f r.right) c c1 → Takes rules c t c1 t1
+  takes_one c t c1 t1 i g r at heads says taken enters =
       let kept : (f : ℕ) → Says c f → Says c1 f = λ f there. (enters.each f (slice_get_within c f true there)).1 (inl there) in
       record {
         called_length = enters.same_length;
-        taken_length = set.same_length;
+        taken_length = taken.same_length;
         called_kept = kept;
         called_only = λ f now.
             let within = slice_get_within c1 f true now in
@@ -79,22 +66,21 @@ module _ (rules : List RewriteRule) where
               | inl there ↦ from f there
               | inr has ↦ by_rule i r g f at heads (from g says) has
             ];
-        taken_kept = λ n there. elim (place_is n i) [
-          | inl same ↦ subst (Says t1) (sym same) set.is
-          | inr other ↦ set.others n other ∙ there
-        ];
-        taken_only = λ n now. elim (place_is n i) [
-          | inr other ↦ inl (sym (set.others n other) ∙ now)
-          | inl same ↦
-              inr (record {
-                rule = r;
-                there = subst (λ k. slice_get rules k ≡ Some r) (sym same) at;
-                symbol = g;
-                heads = heads;
-                is_called = kept g says;
-                calls = λ f has within. (enters.each f (omega (arith, within, enters.same_length))).1 (inr has);
-              })
-        ];
+        taken_kept = λ n there. (taken.each n (slice_get_within t n true there)).1 (inl there);
+        taken_only = λ n now.
+            let within = slice_get_within t1 n true now in
+            elim ((taken.each n (omega (arith, within, taken.same_length))).0 now) [
+              | inl there ↦ inl there
+              | inr same ↦
+                  inr (record {
+                    rule = r;
+                    there = subst (λ k. slice_get rules k ≡ Some r) (sym same) at;
+                    symbol = g;
+                    heads = heads;
+                    is_called = kept g says;
+                    calls = λ f has within. (enters.each f (omega (arith, within, enters.same_length))).1 (inr has);
+                  })
+            ];
       }
 
   -- passes over the rules before a place
@@ -134,28 +120,56 @@ module _ (rules : List RewriteRule) where
   }
 
 -- one place less is open
-pub fewer_open : (t t1 : List Bool) (i : ℕ) → IsSet t i t1 → open_in t1 < open_in t
-fewer_open [] t1 i set = cc (set.was)
-fewer_open (b ∷ t) [] i set = absurd (omega (arith, set.same_length))
-fewer_open (b ∷ t) (b1 ∷ t1) zero set =
-    let first : b ≡ false = cc (set.was) in
-    let now : b1 ≡ true = cc (set.is) in
-    let rest : open_in t1 ≡ open_in t = ap open_in (all_same t1 t (omega (arith, set.same_length)) (λ n. set.others (suc n) (λ e. omega (arith, e)))) in
-    rw (first, now) (omega (arith, rest))
-  where
-    all_same : (xs ys : List Bool) → length xs ≡ length ys → ((n : ℕ) → slice_get xs n ≡ slice_get ys n) → xs ≡ ys
-    all_same [] [] same each = refl
-    all_same [] (y ∷ ys) same each = absurd (omega (arith, same))
-    all_same (x ∷ xs) [] same each = absurd (omega (arith, same))
-    all_same (x ∷ xs) (y ∷ ys) same each =
-        let head_same : x ≡ y = cc (each 0) in
-        let rest = all_same xs ys (omega (arith, same)) (λ n. each (suc n)) in cc (head_same, rest)
-fewer_open (b ∷ t) (b1 ∷ t1) (suc i) set =
-    let first : b1 ≡ b = cc (set.others 0 (λ e. omega (arith, e))) in
-    let rest = fewer_open t t1 i (record {
-      was = set.was;
-      same_length = omega (arith, set.same_length);
-      is = set.is;
-      others = λ n other. set.others (suc n) (λ e. other (omega (arith, e)));
+
+same_bool : (a b : Bool) → (a ≡ true → b ≡ true) → (b ≡ true → a ≡ true) → a ≡ b
+same_bool true b to back = sym (to refl)
+same_bool false true to back = back refl
+same_bool false false to back = refl
+
+first_said : (a b : Bool) (xs ys : List Bool) → (Says (a ∷ xs) 0 → Says (b ∷ ys) 0) → a ≡ true → b ≡ true
+first_said a b xs ys to e = let said : Some b ≡ Some true = to (ap Some e) in cc
+
+all_alike : (xs ys : List Bool) → length xs ≡ length ys → ((n : ℕ) → n < length ys → (Says xs n → Says ys n) × (Says ys n → Says xs n)) → open_in xs ≡ open_in ys
+all_alike [] [] same each = refl
+all_alike [] (y ∷ ys) same each = absurd (omega (arith, same))
+all_alike (x ∷ xs) [] same each = absurd (omega (arith, same))
+all_alike (x ∷ xs) (y ∷ ys) same each =
+    let (to, back) = each 0 (omega arith) in
+    let first : x ≡ y = same_bool x y (first_said x y xs ys to) (first_said y x ys xs back) in
+    let rest = all_alike xs ys (omega (arith, same)) (λ n within. each (suc n) (omega (arith, within))) in
+    ap₂ (λ (b : Bool) k. (if b then 0 else 1) + k) first rest
+
+not_said : (b : Bool) (t : List Bool) → (Says (b ∷ t) 0 → ⊥) → b ≡ false
+not_said true t not = absurd (not refl)
+not_said false t not = refl
+
+pub fewer_open : (t t1 : List Bool) (i : ℕ) → i < length t → (Says t i → ⊥) → Enters (λ n. n ≡ i) t t1 → open_in t1 < open_in t
+fewer_open [] t1 i within not enters = absurd (omega (arith, within))
+fewer_open (b ∷ t) [] i within not enters = absurd (omega (arith, enters.same_length))
+fewer_open (b ∷ t) (b1 ∷ t1) zero within not enters =
+    let was : b ≡ false = not_said b t not in
+    let said : Some b1 ≡ Some true = (enters.each 0 (omega arith)).1 (inr refl) in
+    let now : b1 ≡ true = cc in
+    let rest = all_alike t1 t (omega (arith, enters.same_length)) (λ n below.
+        let each = enters.each (suc n) (omega (arith, below)) in (
+          λ says. elim (each.0 says) [ inl there ↦ there | inr same ↦ absurd (omega (arith, same)) ],
+          λ says. each.1 (inl says),
+        )) in
+    let less : open_in (b1 ∷ t1) ≡ 0 + open_in t1 = ap (λ (x : Bool). open_in (x ∷ t1)) now in
+    let more : open_in (b ∷ t) ≡ 1 + open_in t = ap (λ (x : Bool). open_in (x ∷ t)) was in
+    omega (arith, rest, less, more)
+fewer_open (b ∷ t) (b1 ∷ t1) (suc i) within not enters =
+    let each = enters.each 0 (omega arith) in
+    let first : b1 ≡ b = same_bool b1 b
+        (first_said b1 b t1 t (λ says. elim (each.0 says) [ inl there ↦ there | inr same ↦ absurd (omega (arith, same)) ]))
+        (first_said b b1 t t1 (λ says. each.1 (inl says))) in
+    let rest = fewer_open t t1 i (omega (arith, within)) not (record {
+      same_length = omega (arith, enters.same_length);
+      each = λ n below.
+          let next = enters.each (suc n) (omega (arith, below)) in (
+            λ says. elim (next.0 says) [ inl there ↦ inl there | inr same ↦ inr (omega (arith, same)) ],
+            λ h. next.1 (elim h [ inl there ↦ inl there | inr same ↦ inr (omega (arith, same)) ]),
+          );
     }) in
-    rw first (omega (arith, rest))
+    let kept : open_in (b1 ∷ t1) ≡ (if b then 0 else 1) + open_in t1 = ap (λ (x : Bool). open_in (x ∷ t1)) first in
+    omega (arith, rest, kept)

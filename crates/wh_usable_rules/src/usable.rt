@@ -44,8 +44,10 @@ pub fn usable_rules(
     Ok(Some(listed))
 }
 
-// No system has more symbols.
+// No system has more symbols, or more rules.
 const MOST_SYMBOLS: usize = 1024;
+
+const MOST_RULES: usize = 1024;
 
 // The numbers of the rules of all symbols that are called from the set.
 fn rules_of_called(
@@ -62,10 +64,7 @@ fn rules_of_called(
     system.is_well_made();
     let mut called = [false; MOST_SYMBOLS];
     call_pairs(&mut called, pairs.as_slice(), set.as_slice());
-    let mut taken = Vec::new(alloc);
-    for _ in system.rules() {
-        taken.push(false)?;
-    }
+    let mut taken = [false; MOST_RULES];
     take_all(&mut called, &mut taken, system.rules());
     numbers_of(alloc, &taken)
 }
