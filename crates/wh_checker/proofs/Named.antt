@@ -27,7 +27,7 @@ use Rattle.wh_hopoly.specs.declared.excess.Excess.TheVariants.{Overflow, TooLarg
 use Rattle.wh_polycheck.specs.Marks.{Mark}
 use Rattle.wh_polycheck.specs.declared.fault.CoverFault.TheVariants as moves
 use Rattle.wh_polycheck.specs.Small.{Limits}
-use Rattle.wh_usable.specs.declared.closed.NotClosed.TheVariants as open
+use Rattle.wh_usable.specs.declared.closed.NotClosed.TheVariants as not_closed
 use Rattle.wh_covering.specs.declared.fault.CoveringFault.TheVariants as covered
 use Rattle.wh_covering.specs.declared.fault.LineFault.TheVariants as line
 use Rattle.wh_ordering.specs.Filterings.{MarkFilter}
@@ -155,8 +155,8 @@ node_there m d ps set k (w.interpretations usable funs lines rules pairs drop) (
     subst (HasSymbol d) is (mark_there d lines R.marks i a say.0.1 at)
 node_there m d ps set k l (fault.Poly covered.BadLines) is = tt
 node_there m d ps set k l (fault.Poly covered.BadDrop) is = tt
-node_there m d ps set k l (fault.Poly (covered.NotClosed (open.Rule r))) is = tt
-node_there m d ps set k l (fault.Poly (covered.NotClosed (open.Pair a))) is = tt
+node_there m d ps set k l (fault.Poly (covered.NotClosed (not_closed.Rule r))) is = tt
+node_there m d ps set k l (fault.Poly (covered.NotClosed (not_closed.Pair a))) is = tt
 node_there m d ps set k l (fault.Poly (covered.Rule r (line.Exceeds e))) is = excess_there d k e
 node_there m d ps set k l (fault.Poly (covered.Rule r (line.Cover (moves.BadMove e)))) is = tt
 node_there m d ps set k l (fault.Poly (covered.Rule r (line.Cover (moves.OverSpent i)))) is = tt

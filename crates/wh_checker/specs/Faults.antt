@@ -34,7 +34,7 @@ use Rattle.wh_covering.specs.declared.fault.CoveringFault.{CoveringFault}
 use Rattle.wh_covering.specs.declared.fault.CoveringFault.TheVariants as covered
 use Rattle.wh_covering.specs.declared.fault.LineFault.TheVariants as line
 use Rattle.wh_usable.specs.declared.closed.NotClosed.{NotClosed}
-use Rattle.wh_usable.specs.declared.closed.NotClosed.TheVariants as open
+use Rattle.wh_usable.specs.declared.closed.NotClosed.TheVariants as not_closed
 use Rattle.wh_proof.specs.Nodes.{Node, Leaves}
 use Rattle.wh_proof.specs.Looked.{SayChoices, SayReadings, SayFilterings, SaysNode, CoversRules, poly_task, moves_of, inferences_of}
 use Rattle.wh_proof.specs.Small.{IsSmallNode}
@@ -114,8 +114,8 @@ in_excess k excess.TooLarge = check.TooLarge k
 
 -- what it is called that the rules that are to be covered are not closed
 abbrev pub at_open : ℕ → NotClosed → Rejected
-at_open k (open.Rule r) = row.NotClosedRule k r
-at_open k (open.Pair a) = row.NotClosedPair k a
+at_open k (not_closed.Rule r) = row.NotClosedRule k r
+at_open k (not_closed.Pair a) = row.NotClosedPair k a
 
 -- what a fault of a node of interpretations is called
 abbrev pub at_covering : ℕ → CoveringFault → CheckFault

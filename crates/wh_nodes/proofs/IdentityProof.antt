@@ -82,7 +82,7 @@ identity_pairs_are =
 left_symbol : (n : ℕ) (p : PairData) → slice_get identity_pairs n ≡ Some p → 2 ≡ p.left_fun
 left_symbol = get_two (λ n p. 2 ≡ p.left_fun) count_pair call_pair refl refl
 
-none_follows : (b : ℕ) → Follows identity_system.rules identity_pairs 1 b → ⊥
+pub none_follows : (b : ℕ) → Follows identity_system.rules identity_pairs 1 b → ⊥
 none_follows b (x, y, at, also, may) =
     let same : call_pair ≡ x = cc in
     let right : 1 ≡ x.right_fun = ap (λ (p : PairData). p.right_fun) same in
@@ -119,7 +119,7 @@ apart = record {
 only_later : (i j a : ℕ) → i < j → j ≡ a → Contains (0 ∷ 1 ∷ []) a → a ≡ 1
 only_later i j a less is inside = each_of_two (λ n. i < n → n ≡ 1) 0 1 (λ never. absurd (omega arith)) (λ _. refl) a inside (omega arith)
 
-blocks_are : AreBlocks (Follows identity_system.rules identity_pairs) (0 ∷ 1 ∷ []) block_list
+pub blocks_are : AreBlocks (Follows identity_system.rules identity_pairs) (0 ∷ 1 ∷ []) block_list
 blocks_are = record {
   enough = omega arith;
   filled = λ there. each_of_two (λ block. block ≡ [] → ⊥) (0 ∷ []) (1 ∷ []) (λ e. absurd (cc)) (λ e. absurd (cc)) [] there refl;
@@ -134,10 +134,10 @@ blocks_are = record {
 
 -- nodes
 
-one_set : (n : ℕ) → IsSetOf (Contains (n ∷ [])) (n ∷ [])
+pub one_set : (n : ℕ) → IsSetOf (Contains (n ∷ [])) (n ∷ [])
 one_set n = record { increasing = tt; each = λ m. (λ there. there, λ there. there) }
 
-none_kept : IsSetOf (IsKept (0 ∷ []) (0 ∷ [])) []
+pub none_kept : IsSetOf (IsKept (0 ∷ []) (0 ∷ [])) []
 none_kept = record {
   increasing = tt;
   each = λ n. ((λ never. absurd (none_there n never)), (λ (there, kept). absurd (kept there)));

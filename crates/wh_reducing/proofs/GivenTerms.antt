@@ -49,10 +49,19 @@ pub none_fits : (d : SystemData) (bytes : List ℕ) (raw : RTm) (answer : Option
 none_fits d bytes raw None text none big = nothing_meant d bytes raw text none
 none_fits d bytes raw (Some u) text means big = too_big d bytes raw (tm u) text means (big u refl)
 
+-- a term that is too big is none that fits
+pub unfit : (meant : Option Term) (t : Term) → meant ≡ Some t → (Fits (tm t) → ⊥) → (u : Term) → meant ≡ Some u → Fits (tm u) → ⊥
+unfit meant t is big u same fits = let one : t ≡ u = let e : Some t ≡ Some u = sym is ∙ same in cc in big (subst (λ (x : Term). Fits (tm x)) (sym one) fits)
+
 -- there is one
 
 pub given : (d : SystemData) (bytes : List ℕ) (raw : RTm) (t : Tm) → IsTermText raw bytes → Means d raw t → Fits t → Gives d bytes t
 given d bytes raw t text means fits = record { raw = raw; text = text; means = means; fits = fits }
+
+pub given_some : (d : SystemData) (bytes : List ℕ) (raw : RTm) (meant : Option Term) (t : Term) → IsTermText raw bytes → TellsMeant d raw meant
+    → meant ≡ Some t → Fits (tm t) → Gives d bytes (tm t)
+given_some d bytes raw meant t text means is fits =
+    given d bytes raw (tm t) text (subst (TellsMeant d raw) is means) fits
 
 pub one_given : (d : SystemData) (bytes : List ℕ) (t u : Tm) → Gives d bytes t → Gives d bytes u → t ≡ u
 one_given d bytes t u g h = one_meant d g.raw t u g.means (gives_meant d bytes g.raw u g.text h)

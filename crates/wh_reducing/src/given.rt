@@ -1,9 +1,10 @@
 //! The term that a text gives.
 
-ghost use Rattle.std.specs.Prelude.{ℕ};
+ghost use Rattle.std.specs.Prelude.{◌≡◌, MatchOption, Some};
 ghost use Rattle.wh_types.specs.Outcome.{MatchOr};
-ghost use Rattle.wh_terms.specs.Tree.{Tm};
+ghost use Rattle.wh_terms.specs.Measures.{Fits};
 ghost use Rattle.wh_terms.specs.Erase.{tm};
+ghost use Rattle.wh_terms.specs.declared.term.Term.{Term};
 ghost use Rattle.wh_system.specs.SystemView.{system_data};
 ghost use Rattle.wh_reducing.specs.Telling.{Gives, GivesNone};
 
@@ -27,8 +28,18 @@ pub fn given_term(alloc: Global, system: &System, text: &[u8]) -> Result<Term, O
         return Err(Or::Because(NotATerm));
     };
     let names = NameTables::of(alloc, system)?;
-    match names.resolve(alloc, system, &raw)? {
-        Some(term) if fits(&term) => Ok(term),
-        _ => Err(Or::Because(NotATerm)),
+    let meant = names.resolve(alloc, system, &raw)?;
+    match fitting(meant) {
+        Some(term) => Ok(term),
+        None => Err(Or::Because(NotATerm)),
     }
+}
+
+// The term that names stand for, where it fits.
+#[tactic(auto, using(crate::proofs::GivenTerms::unfit))]
+fn fitting(meant: Option<Term>) -> Option<Term>
+    ensures { MatchOption result ((t : Term) → meant ≡ Some t → Fits (tm t) → ⊥) (λ t. (meant ≡ Some t) × Fits (tm t)) }
+{
+    let term = meant?;
+    if fits(&term) { Some(term) } else { None }
 }

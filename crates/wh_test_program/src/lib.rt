@@ -24,6 +24,8 @@ mod run_rows;
 #[cfg(test)]
 mod system_rows;
 #[cfg(test)]
+mod upgrade_rows;
+#[cfg(test)]
 mod usable_rows;
 #[cfg(test)]
 mod yes_rows;

@@ -18,19 +18,25 @@ use Rattle.wh_answer.specs.declared.report.ReasonWord.TheVariants.{TooManyPairs}
 use Rattle.wh_answer.specs.declared.report.Role.TheVariants.{System, Certificate, Output}
 use Rattle.wh_answer.specs.declared.report.Report.{Report}
 use Rattle.wh_answer.specs.declared.report.Report.TheVariants.{Yes, No, Rejected, Maybe, Refused, ReadFault, TooLong, Overflow, TooLarge}
-use Rattle.wh_words.specs.Words.{Request, check, prove, show, gen, reduce, Asks}
+use Rattle.wh_words.specs.Words.{Request, check, prove, show, gen, reduce, upgrade, Asks}
 use Rattle.wh_judging.specs.declared.status.Status.{Status}
 use Rattle.wh_top.specs.Words.{options_of}
 use Rattle.wh_judging.specs.Texts.{IsShown}
-use Rattle.wh_judging.specs.Outcomes.{Shelves, ToldSystem, ToldText, Judged, Checked, IsRefusedText, IsRefusedFor, StandsByText, StandsBySystem, Stands}
+use Rattle.wh_judging.specs.Outcomes.{Shelves, IsNo, ToldSystem, ToldText, Certified, Weighed, Judged, Checked, IsRefusedText, IsRefusedFor, StandsByText, StandsBySystem, Stands}
 use Rattle.wh_top.specs.Proving.{IsFoundText, IsNotFound, StandsForSearch}
 use Rattle.wh_top.specs.Generating.{StandsForGenerated}
 use Rattle.wh_top.specs.Reducing.{IsNotReduced, StandsForReduction}
 use Rattle.wh_reducing.specs.Telling.{TellsReduced}
+use Rattle.wh_cert.specs.Written.{Cert, yes, no}
+use Rattle.wh_proof.specs.Valid.{IsValidCert}
+use Rattle.wh_cert.specs.CertText.{CertText}
+use Rattle.wh_upgrade.specs.Upgraded.{upgraded}
+use Rattle.wh_upgrade_laws.proofs.SameNodes.{as_valid, as_small}
+use Rattle.wh_upgrading.specs.Upgrading.{IsAccepted, IsUpgradedText, IsNotUpgradedFor, IsNotUpgraded, StandsForUpgrade}
 use Rattle.wh_top.specs.Complete.{HoldsText, HoldsSystem, IsComplete, IsRead}
 use Rattle.wh_top.specs.Run.{Replies, Served}
 use Rattle.wh_top.proofs.Asking.{count_asked}
-use Rattle.wh_top.proofs.Meaning.{same_yes, same_no}
+use Rattle.wh_top.proofs.Meaning.{same_yes, same_no, upgraded_yes}
 
 -- a system has one list of pairs
 pairs_one : (d : SystemData) (ps es : List PairData) → HasPairs d ps → HasPairs d es → ps ≡ es
@@ -145,6 +151,39 @@ reduction_told s file term d (Rejected NotATerm) holds stands =
     text_holds s file d (λ e. IsNotReduced e term (Rejected NotATerm)) holds stands
 reduction_told s file term d o holds stands = absurd (not_by_text s file d o holds stands)
 
+-- so is that of a loop, which is upgraded to itself
+loop_judged : (d : SystemData) (ps : List PairData) (text : List ℕ) (c : Cert) → IsNo c → CertText text (upgraded (length d.rules) c)
+    → IsValidCert d ps c → Judged d ps text No
+loop_judged d ps text (yes version ranks pairs nodes) is spelled valid = absurd is
+loop_judged d ps text (no term steps at puts) is spelled valid = (no term steps at puts, spelled, (tt, valid))
+
+-- a check of the text of an upgraded certificate accepts it
+upgraded_judged : (d : SystemData) (ps : List PairData) (bytes text : List ℕ) (c : Cert) → CertText bytes c
+    → CertText text (upgraded (length d.rules) c) → IsAccepted d ps c → Judged d ps text Yes ⊎ Judged d ps text No
+upgraded_judged d ps bytes text c read spelled (inl (is, valid, small)) = inl (
+  upgraded (length d.rules) c,
+  spelled,
+  (
+    upgraded_yes (length d.rules) c is,
+    (as_valid d ps c read.fits).1 valid,
+    (as_small d ps c read.fits).1 small,
+  ),
+)
+upgraded_judged d ps bytes text c read spelled (inr (is, valid)) = inr (loop_judged d ps text c is spelled valid)
+
+upgrade_told : (s : Shelves) (file cert : List ℕ) (d : SystemData) (ps : List PairData) (bytes : List ℕ) (o : Report)
+    → HoldsSystem s file d ps → IsRead s cert certificate_limit bytes → StandsForUpgrade s file cert o → IsNotUpgraded d ps bytes o
+upgrade_told s file cert d ps bytes o holds read stands = by o stands
+  where
+    by : (o : Report) → StandsForUpgrade s file cert o → IsNotUpgraded d ps bytes o
+    by Yes stands = absurd stands
+    by No stands = absurd stands
+    by (TooLong Output) stands =
+        let (c, why, told) = told_holds s file d ps (λ e es. Certified (s.held cert) (λ c. IsNotUpgradedFor e es c (TooLong Output))) holds stands in
+        (c, (told bytes read.told).1, why)
+    by (Rejected (Syntax at)) stands = check_judged s file cert d ps bytes (Rejected (Syntax at)) holds read stands
+    by o stands = check_judged s file cert d ps bytes o holds read stands
+
 complete : (s : Shelves) (words : List (List ℕ)) (request : Request) (status : Status) (text : List ℕ) → Asks words request
     → Replies s request status text → IsComplete s request status text
 complete s words (check file cert) status text asks reply = λ d ps bytes holds read. record {
@@ -179,6 +218,16 @@ complete s words (reduce file term n) status text asks (inl shows) = λ d holds.
 complete s words (reduce file term n) status text asks (inr tells) = λ d holds. inr (record {
   report = tells.report;
   stands = reduction_told s file term d tells.report holds tells.stands;
+  status_is = tells.status_is;
+  text_is = tells.text_is;
+})
+complete s words (upgrade file cert) status text asks (inl shows) = λ d ps bytes holds read.
+    let (c, (is, spelled), told) = told_holds s file d ps (λ e es. Certified (s.held cert) (λ c. IsUpgradedText e es c text)) holds shows.found in
+    let of_bytes = (told bytes read.told).1 in
+    inl (shows.status_is, shows.within, (c, of_bytes, (is, spelled)), upgraded_judged d ps bytes text c of_bytes spelled is)
+complete s words (upgrade file cert) status text asks (inr tells) = λ d ps bytes holds read. inr (record {
+  report = tells.report;
+  stands = upgrade_told s file cert d ps bytes tells.report holds read tells.stands;
   status_is = tells.status_is;
   text_is = tells.text_is;
 })

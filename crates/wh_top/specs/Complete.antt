@@ -9,7 +9,7 @@ use Rattle.wh_pairs.specs.SystemPairs.{HasPairs}
 use Rattle.wh_read.specs.Reading.{Reads}
 use Rattle.wh_answer.specs.declared.report.Report.{Report}
 use Rattle.wh_answer.specs.declared.report.Report.TheVariants.{Yes, No, Overflow, TooLarge}
-use Rattle.wh_words.specs.Words.{Bounds, Request, check, prove, show, gen, reduce}
+use Rattle.wh_words.specs.Words.{Bounds, Request, check, prove, show, gen, reduce, upgrade}
 use Rattle.wh_judging.specs.declared.status.Status.{Status}
 use Rattle.wh_judging.specs.declared.status.Status.TheVariants.{Answered}
 use Rattle.wh_top.specs.Words.{options_of}
@@ -18,6 +18,9 @@ use Rattle.wh_judging.specs.Outcomes.{Shelves, Judged}
 use Rattle.wh_top.specs.Proving.{IsNotFound}
 use Rattle.wh_top.specs.Reducing.{IsNotReduced}
 use Rattle.wh_reducing.specs.Telling.{TellsReduced}
+use Rattle.wh_cert.specs.Written.{Cert}
+use Rattle.wh_cert.specs.CertText.{CertText}
+use Rattle.wh_upgrading.specs.Upgrading.{IsUpgradedText, IsNotUpgraded}
 
 -- the file was read without a fault, and these are its bytes, within the limit
 pub record IsRead (s : Shelves) (file : List ℕ) (limit : ℕ) (bytes : List ℕ) : Type 0 where
@@ -39,7 +42,8 @@ pub record HoldsSystem (s : Shelves) (file : List ℕ) (d : SystemData) (ps : Li
   pub has : HasPairs d ps
 
 -- then a check answers what the certificate comes to; a search writes a certificate that a check accepts, or says why there is none; a
--- system is shown; a generated system is always answered; and a term is reduced where the word is the text of one, and else rejected (ours)
+-- system is shown; a generated system is always answered; a term is reduced where the word is the text of one, and else rejected; and a
+-- certificate that a check accepts is upgraded to one that it accepts, if that is not too long (ours)
 abbrev pub IsComplete : Shelves → Request → Status → List ℕ → Type 0
 IsComplete s (check file cert) status text =
     (d : SystemData) (ps : List PairData) (bytes : List ℕ) → HoldsSystem s file d ps → IsRead s cert certificate_limit bytes
@@ -53,6 +57,10 @@ IsComplete s (show file) status text =
 IsComplete s (gen n) status text = status ≡ Answered
 IsComplete s (reduce file term n) status text =
     (d : SystemData) → HoldsText s file d → ((status ≡ Answered) × TellsReduced d term n text) ⊎ Tells (IsNotReduced d term) status text
+IsComplete s (upgrade file cert) status text =
+    (d : SystemData) (ps : List PairData) (bytes : List ℕ) → HoldsSystem s file d ps → IsRead s cert certificate_limit bytes
+    → ((status ≡ Answered) × (length text ≤ certificate_limit) × ((c : Cert) × CertText bytes c × IsUpgradedText d ps c text)
+    × (Judged d ps text Yes ⊎ Judged d ps text No)) ⊎ Tells (IsNotUpgraded d ps bytes) status text
 
 -- a value exceeds a limit in the node with that number
 abbrev pub IsTooBigAt : ℕ → Report → Type 0

@@ -20,6 +20,7 @@ use wh_io::{Shelf, Sink, write_all_of};
 use wh_judging::{Status, check_files, show_file, status_of};
 use wh_prover::Options;
 use wh_types::{Bytes, Or};
+use wh_upgrading::upgrade_files;
 use wh_words::{Command, Limits, read_words};
 
 /// Does what the words ask, reads files from the shelf and writes one text to the sink.
@@ -83,6 +84,9 @@ fn reply_to<S: Shelf>(alloc: Global, shelf: &mut S, command: &Command) -> Result
         Command::Gen { n } => reply_with(alloc, generated(alloc, *n)),
         Command::Reduce { file, term, steps } => {
             reply_with(alloc, reduce_file(alloc, shelf, file, term, *steps))
+        }
+        Command::Upgrade { file, cert } => {
+            reply_with(alloc, upgrade_files(alloc, shelf, file, cert))
         }
     }
 }

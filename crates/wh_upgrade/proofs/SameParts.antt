@@ -13,7 +13,7 @@ use Rattle.wh_order_parts.proofs.InferenceCode.{parts_row-items, inference_made}
 
 -- types
 
-types_of : List RTy → RTys
+abbrev types_of : List RTy → RTys
 types_of [] = no_types
 types_of (a ∷ rest) = more_types a (types_of rest)
 
@@ -34,7 +34,7 @@ type_copied a args sort same named =
 
 -- terms
 
-terms_of : List RTm → RTms
+abbrev terms_of : List RTm → RTms
 terms_of [] = none
 terms_of (t ∷ rest) = more t (terms_of rest)
 
@@ -65,7 +65,7 @@ inference_is : (i : Inference) → inference i ≡ m.infer (letter (out-Inferenc
 inference_is (Inference' l n shape all) =
     rw (outs-Inference' l n shape all) (ap (λ (is : m.Inferences). m.infer (letter l) n is) (parts_row-items _ all ∙ ap inferences (sym (items_shown-the_row-Inference-0 shape all))))
 
-parts_of : List m.Inference → m.Inferences
+abbrev parts_of : List m.Inference → m.Inferences
 parts_of [] = m.no_parts
 parts_of (i ∷ rest) = m.more_parts i (parts_of rest)
 

@@ -1,5 +1,5 @@
 -- An upgraded certificate is within the limits of the format.
-use Rattle.std.proofs.Common.{◌≡◌, ℕ, zero, suc, ◌+◌, ◌^◌, ◌<◌, ◌≤◌, cond, ◌==◌, List, [], ◌∷◌, length, map, Option, Some, None, refl, sym, ap, ◌∙◌, subst, arith, inl, inr}
+use Rattle.std.proofs.Common.{◌≡◌, ℕ, zero, suc, ◌+◌, ◌^◌, ◌<◌, ◌≤◌, ◌==◌, List, [], ◌∷◌, length, map, refl, sym, ap, subst, arith, inr}
 use Rattle.std.specs.List.{All}
 use Rattle.std.proofs.lemmas.Bool.{cond_both, eqb-true}
 use Rattle.std.proofs.lemmas.List.Elements.{All-nil, All-cons, All-head, All-tail, All-weaker}
@@ -9,7 +9,7 @@ use Rattle.wh_reduction.proofs.Numbers.{numbers_length, numbers_within}
 use Rattle.wh_cert.specs.TermLimits.{IsSmall}
 use Rattle.wh_cert.specs.Written.{Node, done, alone, blocks, subterm, interpretations, order, children, Preorder, Cert, yes, no}
 use Rattle.wh_cert.specs.Text.{text}
-use Rattle.wh_cert.specs.Limits.{NodeFits, IsOfVersion, NodeWithin, PartsFit, CountsWithin, IsCert}
+use Rattle.wh_cert.specs.Limits.{NodeFits, IsOfVersion, NodeWithin, IsCert}
 use Rattle.wh_cert.specs.CertText.{CertText}
 use Rattle.wh_cert.specs.PolyCounts.{PolysWithin, AllPolysWithin}
 use Rattle.wh_upgrade.specs.Upgraded.{upgraded_node, upgraded}

@@ -11,6 +11,7 @@ use wh_text::{RawBinder, RawTerm, RawTerms, RawType, RawTypes};
 
 /// An equal type.
 #[cycle(copy_type)]
+#[tactic(auto, using(crate::proofs::SameParts::type_copied))]
 pub fn copy_type(alloc: Global, kind: &RawType) -> Result<RawType, AllocError>
     ensures { IfOk result (λ copy. rty copy ≡ rty kind.now) }
 {
@@ -90,6 +91,7 @@ fn copy_terms(alloc: Global, terms: &RawTerms) -> Result<RawTerms, AllocError>
 
 /// An equal inference.
 #[cycle(copy_inference)]
+#[tactic(auto, using(crate::proofs::SameParts::inference_copied))]
 pub fn copy_inference(alloc: Global, item: &Inference) -> Result<Inference, AllocError>
     ensures { IfOk result (λ copy. inference copy ≡ inference item.now) }
 {

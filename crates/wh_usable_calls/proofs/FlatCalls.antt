@@ -97,7 +97,7 @@ abbrev pub IsSomeCall : Symbols → Tm → Type 0
 IsSomeCall S t = (A : Ty) × IsFlatCall S t A
 
 no_call : (S : Symbols) (t u : Tm) → (IsSomeCall S t → ⊥) → IsSomeCall S (app t u) → ⊥
-no_call S t u never (A, s, p) = never (sort s ⇒ A, p)
+no_call S t u never (A, (s, p)) = never (sort s ⇒ A, p)
 
 call_or_not : (S : Symbols) (t : Tm) → IsSomeCall S t ⊎ (IsSomeCall S t → ⊥)
 call_or_not S (bound i) = inr (λ p. p.1)
@@ -108,10 +108,10 @@ call_or_not S (lam a t) = inr (λ p. p.1)
 call_or_not S (app t u) = go (call_or_not S t)
   where
     by_type : (A : Ty) → IsFlatCall S t A → IsSomeCall S (app t u) ⊎ (IsSomeCall S (app t u) → ⊥)
-    by_type (sort r) p = inr (λ (A, s, q). let same : sort r ≡ (sort s ⇒ A) = call_one S t (sort r) (sort s ⇒ A) p q in absurd (cc))
-    by_type (sort r ⇒ B) p = inl (B, r, p)
+    by_type (sort r) p = inr (λ (A, (s, q)). let same : sort r ≡ (sort s ⇒ A) = call_one S t (sort r) (sort s ⇒ A) p q in absurd (cc))
+    by_type (sort r ⇒ B) p = inl (B, (r, p))
     by_type ((a ⇒ b) ⇒ B) p =
-        inr (λ (A, s, q). let same : ((a ⇒ b) ⇒ B) ≡ (sort s ⇒ A) = call_one S t ((a ⇒ b) ⇒ B) (sort s ⇒ A) p q in absurd (cc))
+        inr (λ (A, (s, q)). let same : ((a ⇒ b) ⇒ B) ≡ (sort s ⇒ A) = call_one S t ((a ⇒ b) ⇒ B) (sort s ⇒ A) p q in absurd (cc))
 
     go : IsSomeCall S t ⊎ (IsSomeCall S t → ⊥) → IsSomeCall S (app t u) ⊎ (IsSomeCall S (app t u) → ⊥)
     go (inl (A, p)) = by_type A p

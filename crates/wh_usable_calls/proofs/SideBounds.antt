@@ -59,29 +59,36 @@ module _ (S : Symbols) (rules : List RewriteRule) (listed : List ℕ) (symbols :
   GivesNumbers t = (A B : Ty) (F : Sem B) → IsHeaded t → IsFlatTree S M t → Typed S M [] t A → IsRead (value g t) B F
       → HasNumbers (λ z. Occurs z t)
 
+  abbrev FromBound : ℕ → ℕ → Tm → Type 0
+  FromBound s n t = GivesNumbers t → Typed S M [] t (sort s) → IsBound (value g t) n → HasNumbers (λ z. Occurs z t)
+
+  meta_numbers : (s n z : ℕ) → IsNullary M z → FromBound s n (meta z none)
+  meta_numbers s n z flat gives p b = (
+    λ y. n,
+    λ y o. elim o [
+      | inl e ↦ subst (λ y. IsBound (value g (meta y none)) n) e b
+      | inr never ↦ absurd never
+    ],
+  )
+
+  headed_numbers : (s n : ℕ) (t : Tm) → IsHeaded t → IsFlatTree S M t → FromBound s n t
+  headed_numbers s n t h flat gives p b =
+      let (r, k, read, under) = bound_reading S rules listed symbols (s, value_call S M g t (sort s) h flat p) b in
+      gives (sort s) (sort r) k h flat p read
+
   bound_numbers : (t : Tm) → GivesNumbers t → (s n : ℕ) → IsFlatTree S M t → Typed S M [] t (sort s) → IsBound (value g t) n
       → HasNumbers (λ z. Occurs z t)
-  bound_numbers t gives s n flat p b = flat_cases S M By metas headed t (sort s) flat p gives p b
-    where
-      abbrev By : Tm → Type 0
-      By t = GivesNumbers t → Typed S M [] t (sort s) → IsBound (value g t) n → HasNumbers (λ z. Occurs z t)
-
-      metas : (z : ℕ) → IsNullary M z → By (meta z none)
-      metas z flat gives p b = (λ y. n, λ y o. elim o [
-        | inl e ↦ subst (λ y. IsBound (value g (meta y none)) n) e b
-        | inr never ↦ absurd never
-      ])
-
-      headed : (t : Tm) → IsHeaded t → IsFlatTree S M t → By t
-      headed t h flat gives p b =
-          let (r, k, read, under) = bound_reading S rules listed symbols (s, value_call S M g t (sort s) h flat p) b in
-          gives (sort s) (sort r) k h flat p read
+  bound_numbers t gives s n flat p b =
+      flat_cases S M (FromBound s n) (meta_numbers s n) (headed_numbers s n) t (sort s) flat p gives p b
 
   numbers_both : (t u : Tm) → HasNumbers (λ z. Occurs z t) → HasNumbers (λ z. Occurs z u) → HasNumbers (λ z. Occurs z (app t u))
-  numbers_both t u (ν, left) (μ, right) = (λ z. ν z + μ z, λ z o. elim o [
-    | inl i ↦ bounds_more S rules listed symbols (ν z + μ z) (omega arith) (left z i)
-    | inr i ↦ bounds_more S rules listed symbols (ν z + μ z) (omega arith) (right z i)
-  ])
+  numbers_both t u (ν, left) (μ, right) = (
+    λ z. ν z + μ z,
+    λ z o. elim o [
+      | inl i ↦ bounds_more S rules listed symbols (ν z + μ z) (omega arith) (left z i)
+      | inr i ↦ bounds_more S rules listed symbols (ν z + μ z) (omega arith) (right z i)
+    ],
+  )
 
   reading_numbers : (t : Tm) → GivesNumbers t
   unfolding value
@@ -106,7 +113,7 @@ module _ (S : Symbols) (rules : List RewriteRule) (listed : List ℕ) (symbols :
   Lowers P ν Q = (μ : ℕ → ℕ) × AreBelow μ ν × BoundBodies P μ × Q μ
 
   -- a call is read at its type
-  reading_type : (t : Tm) (A B : Ty) (F : Sem B) → IsHeaded t → IsFlatTree S M t → Typed S M [] t A → IsRead (value g t) B F → A ≡ B
+  pub reading_type : (t : Tm) (A B : Ty) (F : Sem B) → IsHeaded t → IsFlatTree S M t → Typed S M [] t A → IsRead (value g t) B F → A ≡ B
   unfolding value
   reading_type (bound i) A B F h flat p r = absurd h
   reading_type (free x a) A B F h flat p r = absurd h
@@ -134,43 +141,45 @@ module _ (S : Symbols) (rules : List RewriteRule) (listed : List ℕ) (symbols :
       there : with_number ν z n z ≤ n
       there = let same : with_number ν z n z ≡ n = grind arith in omega (arith, same)
 
-  abbrev LowersAt : Tm → Type 0
-  LowersAt t = (P : ℕ → Type 0) (ν : ℕ → ℕ) (A B : Ty) (F : Sem B) → BoundBodies P ν → IsHeaded t → IsFlatTree S M t → Typed S M [] t A
+  abbrev LowersAt : (ℕ → Type 0) → Tm → Type 0
+  LowersAt P t = (ν : ℕ → ℕ) (A B : Ty) (F : Sem B) → BoundBodies P ν → IsHeaded t → IsFlatTree S M t → Typed S M [] t A
       → IsRead (value g t) B F → Lowers P ν (λ μ. Le B (at t μ B) F)
 
-  lower_bound : (t : Tm) → LowersAt t → (P : ℕ → Type 0) (ν : ℕ → ℕ) (s n : ℕ) → BoundBodies P ν → IsFlatTree S M t
+  abbrev LowersTo : (ℕ → Type 0) → (ℕ → ℕ) → ℕ → ℕ → Tm → Type 0
+  LowersTo P ν s n t = LowersAt P t → Typed S M [] t (sort s) → IsBound (value g t) n → Lowers P ν (λ μ. at t μ (sort s) ≤ n)
+
+  meta_lowers : (P : ℕ → Type 0) (ν : ℕ → ℕ) (s n : ℕ) → BoundBodies P ν → (z : ℕ) → IsNullary M z → LowersTo P ν s n (meta z none)
+  meta_lowers P ν s n bodies z flat lowers p b =
+      let (μ, below, fits, under) = lower_meta P ν z n bodies b in
+      (μ, below, fits, subst (λ k. k ≤ n) (sym (meta_value S M symbols z μ s flat p)) under)
+
+  headed_lowers : (P : ℕ → Type 0) (ν : ℕ → ℕ) (s n : ℕ) → BoundBodies P ν → (t : Tm) → IsHeaded t → IsFlatTree S M t
+      → LowersTo P ν s n t
+  headed_lowers P ν s n bodies t h flat lowers p b =
+      let (r, k, read, under) = bound_reading S rules listed symbols (s, value_call S M g t (sort s) h flat p) b in
+      let (μ, below, fits, le) = lowers ν (sort s) (sort r) k bodies h flat p read in
+      let same = sort_one (reading_type t (sort s) (sort r) k h flat p read) in
+      (μ, below, fits, le_trans (subst (λ r. at t μ (sort r) ≤ k) (sym same) le) under)
+
+  lower_bound : (P : ℕ → Type 0) (t : Tm) → LowersAt P t → (ν : ℕ → ℕ) (s n : ℕ) → BoundBodies P ν → IsFlatTree S M t
       → Typed S M [] t (sort s) → IsBound (value g t) n → Lowers P ν (λ μ. at t μ (sort s) ≤ n)
-  lower_bound t lowers P ν s n bodies flat p b = flat_cases S M By metas headed t (sort s) flat p lowers p b
-    where
-      abbrev By : Tm → Type 0
-      By t = LowersAt t → Typed S M [] t (sort s) → IsBound (value g t) n → Lowers P ν (λ μ. at t μ (sort s) ≤ n)
+  lower_bound P t lowers ν s n bodies flat p b =
+      flat_cases S M (LowersTo P ν s n) (meta_lowers P ν s n bodies) (headed_lowers P ν s n bodies) t (sort s) flat p lowers p b
 
-      metas : (z : ℕ) → IsNullary M z → By (meta z none)
-      metas z flat lowers p b =
-          let (μ, below, fits, under) = lower_meta P ν z n bodies b in
-          (μ, below, fits, subst (λ k. k ≤ n) (sym (meta_value S M symbols z μ s flat p)) under)
-
-      headed : (t : Tm) → IsHeaded t → IsFlatTree S M t → By t
-      headed t h flat lowers p b =
-          let (r, k, read, under) = bound_reading S rules listed symbols (s, value_call S M g t (sort s) h flat p) b in
-          let (μ, below, fits, le) = lowers P ν (sort s) (sort r) k bodies h flat p read in
-          let same = sort_one (reading_type t (sort s) (sort r) k h flat p read) in
-          (μ, below, fits, le_trans (subst (λ r. at t μ (sort r) ≤ k) (sym same) le) under)
-
-  lower_reading : (t : Tm) → LowersAt t
+  lower_reading : (P : ℕ → Type 0) (t : Tm) → LowersAt P t
   unfolding value
-  lower_reading (bound i) P ν A B F bodies h flat p r = absurd h
-  lower_reading (free x a) P ν A B F bodies h flat p r = absurd h
-  lower_reading (fun f) P ν A B F bodies h flat p (reads_symbol e) =
+  lower_reading P (bound i) ν A B F bodies h flat p r = absurd h
+  lower_reading P (free x a) ν A B F bodies h flat p r = absurd h
+  lower_reading P (fun f) ν A B F bodies h flat p (reads_symbol e) =
       (ν, λ z. le_nat (ν z), bodies, le_same B (of_interpretations symbols f B))
-  lower_reading (meta z ts) P ν A B F bodies h flat p r = absurd h
-  lower_reading (lam a t) P ν A B F bodies h flat p r = absurd h
-  lower_reading (app t u) P ν A B F bodies h flat (typed_app {a = a} p q) (reads_application {s = s} {n = n} {F = G} r b) =
+  lower_reading P (meta z ts) ν A B F bodies h flat p r = absurd h
+  lower_reading P (lam a t) ν A B F bodies h flat p r = absurd h
+  lower_reading P (app t u) ν A B F bodies h flat (typed_app {a = a} p q) (reads_application {s = s} {n = n} {F = G} r b) =
       let same = reading_type t (a ⇒ A) (sort s ⇒ B) G h flat.0 p r in
       let function = subst (λ c. Typed S M [] t c) same p in
       let argument = subst (λ a. Typed S M [] u a) (argument_one same) q in
-      let (μ, first, bodies_first, le) = lower_reading t P ν (a ⇒ A) (sort s ⇒ B) G bodies h flat.0 p r in
-      let (χ, second, bodies_second, under) = lower_bound u (lower_reading u) P μ s n bodies_first flat.1 argument b in
+      let (μ, first, bodies_first, le) = lower_reading P t ν (a ⇒ A) (sort s ⇒ B) G bodies h flat.0 p r in
+      let (χ, second, bodies_second, under) = lower_bound P u (lower_reading P u) μ s n bodies_first flat.1 argument b in
       let x = at u χ (sort s) in
       let f = at t χ (sort s ⇒ B) in
       let k = at t μ (sort s ⇒ B) in (
@@ -178,14 +187,14 @@ module _ (S : Symbols) (rules : List RewriteRule) (listed : List ℕ) (symbols :
         λ z. le_trans (second z) (first z),
         bodies_second,
         subst (λ v. Le B v (G n)) (sym (app_value S M symbols t u χ (sort s) B argument))
-        (le_then B (f x) (k x) (G n) (side_below S M symbols t (sort s ⇒ B) χ μ second flat.0 function x tt)
-        (le_then B (k x) (G x) (G n) (le x tt) ((reads_mono S rules listed symbols r).1 x n tt tt under))),
+            (le_then B (f x) (k x) (G n) (side_below S M symbols t (sort s ⇒ B) χ μ second flat.0 function x tt)
+            (le_then B (k x) (G x) (G n) (le x tt) ((reads_mono S rules listed symbols r).1 x n tt tt under))),
       )
 
   -- the side is worth no more than the bound
   pub side_lowers : (t : Tm) (P : ℕ → Type 0) (ν : ℕ → ℕ) (s n : ℕ) → BoundBodies P ν → IsFlatTree S M t → Typed S M [] t (sort s)
       → IsBound (value g t) n → Lowers P ν (λ μ. at t μ (sort s) ≤ n)
-  side_lowers t = lower_bound t (lower_reading t)
+  side_lowers t P = lower_bound P t (lower_reading P t)
 
   -- the other way round: what a side is worth bounds its value, where all rules of its symbols are listed
 
@@ -203,21 +212,22 @@ module _ (S : Symbols) (rules : List RewriteRule) (listed : List ℕ) (symbols :
   IsReadAt ν t = (A : Ty) → IsHeaded t → IsFlatTree S M t → Typed S M [] t A → ListsRulesIn rules listed t
       → BoundBodies (λ z. Occurs z t) ν → IsRead (value g t) A (at t ν A)
 
+  abbrev IsBoundedAt : (ℕ → ℕ) → ℕ → Tm → Type 0
+  IsBoundedAt ν s t = IsReadAt ν t → Typed S M [] t (sort s) → ListsRulesIn rules listed t → BoundBodies (λ z. Occurs z t) ν
+      → IsBound (value g t) (at t ν (sort s))
+
+  meta_bounded : (ν : ℕ → ℕ) (s z : ℕ) → IsNullary M z → IsBoundedAt ν s (meta z none)
+  meta_bounded ν s z flat reads p lists bodies =
+      subst (IsBound (value g (meta z none))) (sym (meta_value S M symbols z ν s flat p)) (bodies z (inl refl))
+
+  headed_bounded : (ν : ℕ → ℕ) (s : ℕ) (t : Tm) → IsHeaded t → IsFlatTree S M t → IsBoundedAt ν s t
+  headed_bounded ν s t h flat reads p lists bodies =
+      by_reading (λ f e. lists f (head_occurs t f h e)) (reads (sort s) h flat p lists bodies) (le_nat (at t ν (sort s)))
+
   bound_at : (ν : ℕ → ℕ) (t : Tm) → IsReadAt ν t → (s : ℕ) → IsFlatTree S M t → Typed S M [] t (sort s) → ListsRulesIn rules listed t
       → BoundBodies (λ z. Occurs z t) ν → IsBound (value g t) (at t ν (sort s))
-  bound_at ν t reads s flat p lists bodies = flat_cases S M By metas headed t (sort s) flat p reads p lists bodies
-    where
-      abbrev By : Tm → Type 0
-      By t = IsReadAt ν t → Typed S M [] t (sort s) → ListsRulesIn rules listed t → BoundBodies (λ z. Occurs z t) ν
-          → IsBound (value g t) (at t ν (sort s))
-
-      metas : (z : ℕ) → IsNullary M z → By (meta z none)
-      metas z flat reads p lists bodies =
-          subst (IsBound (value g (meta z none))) (sym (meta_value S M symbols z ν s flat p)) (bodies z (inl refl))
-
-      headed : (t : Tm) → IsHeaded t → IsFlatTree S M t → By t
-      headed t h flat reads p lists bodies =
-          by_reading (λ f e. lists f (head_occurs t f h e)) (reads (sort s) h flat p lists bodies) (le_nat (at t ν (sort s)))
+  bound_at ν t reads s flat p lists bodies =
+      flat_cases S M (IsBoundedAt ν s) (meta_bounded ν s) (headed_bounded ν s) t (sort s) flat p reads p lists bodies
 
   read_at : (ν : ℕ → ℕ) (t : Tm) → IsReadAt ν t
   unfolding value

@@ -1,11 +1,12 @@
 -- Numbers that bound terms: what takes the place of values where an interpretation is to cover only some rules.
-use Rattle.std.specs.Prelude.{ℕ, ◌≡◌, ◌≤◌, List}
+use Rattle.std.specs.Prelude.{ℕ, ◌≡◌, ◌≤◌, List, [], ◌∷◌}
 use Rattle.wh_types.specs.Ty.{Ty, sort, ◌⇒◌}
 use Rattle.wh_terms.specs.Tree.{Tm, fun, app, head}
 use Rattle.wh_terms.specs.Typing.{Symbols}
 use Rattle.wh_terms.specs.Rules.{RewriteRule}
 use Rattle.wh_step.specs.Step.{Step}
 use Rattle.wh_hopoly.specs.Evaluation.{type_at, Interpretation}
+use Rattle.wh_polycheck.specs.Sides.{arrows}
 use Rattle.wh_meaning.specs.Functionals.{Sem}
 use Rattle.wh_meaning.specs.TermValues.{of_interpretations}
 use Rattle.wh_usable.specs.Closed.{ListsRulesOf}
@@ -37,4 +38,13 @@ module _ (S : Symbols) (rules : List RewriteRule) (listed : List ℕ) (symbols :
     -- the functional is what the interpretation of the symbol that heads the call gives at bounds of the arguments (ours)
     pub data Reads : Tm → (A : Ty) → Sem A → Type 0 where
       reads_symbol : {f : ℕ} {A : Ty} → type_at S.funs f ≡ A → Reads (fun f) A (of_interpretations symbols f A)
-      reads_application : {t u : Tm} {s n : ℕ} {B : Ty} {F : Sem (sort s ⇒ B)} → Reads t (sort s ⇒ B) F → Bounds u n → Reads (app t u) B (F n)
+      reads_application : {t u : Tm} {s n : ℕ} {B : Ty} {F : Sem (sort s ⇒ B)} → Reads t (sort s ⇒ B) F → Bounds u n
+          → Reads (app t u) B (F n)
+
+  -- the number is at least what a function of arguments of sorts gives at bounds of the terms (ours)
+  abbrev pub BoundsFed : (cs : List Ty) → Sem (arrows cs (sort 0)) → List Tm → ℕ → Type 0
+  BoundsFed [] F [] n = F ≤ n
+  BoundsFed [] F (t ∷ ts) n = ⊥
+  BoundsFed (c ∷ cs) F [] n = ⊥
+  BoundsFed (sort s ∷ cs) F (t ∷ ts) n = (k : ℕ) × Bounds t k × BoundsFed cs (F k) ts n
+  BoundsFed ((a ⇒ b) ∷ cs) F (t ∷ ts) n = ⊥
