@@ -1,5 +1,5 @@
 -- What is called at the end is just what is called from the set.
-use Rattle.std.proofs.Common.{◌≡◌, ℕ, zero, suc, ◌<◌, ◌≤◌, inl, inr, Bool, true, false, List, [], length, replicate, Contains, Some, slice_get, refl, sym, subst, arith}
+use Rattle.std.proofs.Common.{◌≡◌, ℕ, zero, suc, ◌<◌, ◌≤◌, inl, inr, Bool, true, false, List, [], length, replicate, Contains, Some, slice_get, refl, ap, sym, subst, arith}
 use Rattle.std.proofs.lemmas.Option.{slice_get_within}
 use Rattle.wh_types.specs.Ty.{Ty}
 use Rattle.wh_terms.specs.Tree.{Tm, fun, head}
@@ -20,6 +20,10 @@ pub says_nothing : (k n : ℕ) → Says (replicate k false) n → ⊥
 says_nothing zero n says = cc
 says_nothing (suc k) zero says = cc
 says_nothing (suc k) (suc n) says = says_nothing k n says
+
+pub as_long : (k : ℕ) → length (replicate k false) ≡ k
+as_long zero = refl
+as_long (suc k) = ap suc (as_long k)
 
 -- the symbol that heads a typed tree is a symbol
 head_within : {S : Symbols} {M : List Declared} {Γ : List Ty} {t : Tm} {a : Ty} → Typed S M Γ t a → (f : ℕ) → head t ≡ fun f → f < length S.funs

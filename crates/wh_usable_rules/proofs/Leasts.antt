@@ -8,6 +8,7 @@ use Rattle.wh_pairs.specs.PairData.{PairData, IsIncreasing}
 use Rattle.wh_pairs.specs.Sets.{InSet}
 use Rattle.wh_pairs.proofs.ByPlace.{some_one, contains_at}
 use Rattle.wh_pairs.proofs.Increasing.{increasing_at}
+use Rattle.wh_pairs.proofs.SetLemmas.{all_from_members}
 use Rattle.wh_reduction.specs.TaskData.{TaskData, CoversAll, numbers_from}
 use Rattle.wh_reduction.proofs.Numbers.{numbers_at}
 use Rattle.wh_usable.specs.Closed.{HasSymbol, HaveSymbol, ListsRulesOf, ListsRulesInEach, AreClosedRules, AreClosedPairs, IsClosed, IsUsable}
@@ -116,6 +117,9 @@ module _ (T : TaskData) (listed : List ℕ) (are : AreRulesOfCalled (covering T 
         (all_have (length T.rules) n within)
     | inr closed ↦ in_closed T other closed.0 closed.1 listed are n found
   ]
+
+  pub are_rules : All (λ n. n < length T.rules) listed
+  are_rules = all_from_members (λ n. n < length T.rules) listed (λ n found. let (r, f, at, heads, called) = are.of_called n found in slice_get_within T.rules n r at)
 
   -- where these are all rules, each closed list has all of them
   pub only_whole : CoversAll (covering T listed) → IsOnlyWhole T

@@ -38,10 +38,13 @@ pub fn usable_rules(
         set: set.as_slice(),
         covered: listed.as_slice(),
     };
-    if listed.as_slice().len() == system.rules().len() || check_closed(&task).is_err() {
+    if listed.as_slice().len() == system.rules().len() {
         return Ok(None);
     }
-    Ok(Some(listed))
+    match check_closed(&task) {
+        Ok(()) => Ok(Some(listed)),
+        Err(_) => Ok(None),
+    }
 }
 
 // No system has more symbols, or more rules.

@@ -1,6 +1,6 @@
-use Rattle.std.proofs.Common.{◌≡◌, ◌+◌, ◌<◌, ℕ, Bool, true, List, length, get_or, sym, subst, arith}
+use Rattle.std.proofs.Common.{◌≡◌, ◌+◌, ◌<◌, ℕ, Bool, true, List, length, sym, subst, arith}
 use Rattle.wh_terms.specs.Erase.{rewrite_rule, rewrite_rules}
-use Rattle.wh_pairs.proofs.ByPlace.{map_at}
+use Rattle.wh_pairs.proofs.ByPlace.{read_map}
 use Rattle.wh_usable_rules.specs.Taken.{IsPass}
 use Rattle.wh_usable_rules.proofs.Takings.{fewer_open, pass_first, pass_left, pass_taken, takes_one}
 use Rattle.wh_usable_rules.proofs.taking.take_some.Goals.{then-not-says+then-calls_head, else-not-says, else-not-says-via-then-not-says+else-calls_head, else-not-says-via-else-not-says}
@@ -14,8 +14,8 @@ loop-number-preserved c =
     let rules = c.args.rules.now in
     let rs = rewrite_rules rules in
     let i = c.loop-number.number in
-    let r = rewrite_rule (get_or rules i c.index-rules-number.result) in
-    let at = map_at rewrite_rule rules i c.index-rules-number.result c.loop-number-test.true in
+    let r = rewrite_rule c.index-rules-number.result in
+    let at = read_map rewrite_rule rules i c.index-rules-number.result c.loop-number-test.true c.index-rules-number.is in
     let c0 : List Bool = c.args.called.now in
     let t0 : List Bool = c.args.taken.now in
     let c1 : List Bool = c.loop-number.called in
