@@ -43,12 +43,15 @@ pub fn interpretation_of(
     requires some { 1 ≤ length set.now }
     ensures { IfOk result (IsAnswer (system_data system.now) (pairs_data pairs.now) set.now budget) }
 {
-    let small = system.signature().funs.as_slice().len() <= MOST_SYMBOLS;
-    if small && is_flat(alloc, system, pairs, set, &None)? {
+    if system.signature().funs.as_slice().len() > MOST_SYMBOLS {
+        return find_interpretation(alloc, system, pairs, set, budget);
+    }
+    let all = None;
+    if is_flat(alloc, system, pairs, set, &all)? {
         if let Some(node) = climbed(alloc, system, pairs, set)? {
             return Ok(Search::Found(node));
         }
-        match find_by_circuit(alloc, system, pairs, set, None, budget)? {
+        match find_by_circuit(alloc, system, pairs, set, all, budget)? {
             Search::Spent(_) => {}
             settled => return Ok(settled),
         }

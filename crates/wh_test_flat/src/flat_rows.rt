@@ -109,7 +109,10 @@ fn answer_over(
     if !is_flat(alloc, system, list, set, &usable)? {
         return String::from_str(alloc, "not flat");
     }
-    told(alloc, find_by_circuit(alloc, system, list, set, usable, budget)?)
+    told(
+        alloc,
+        find_by_circuit(alloc, system, list, set, usable, budget)?,
+    )
 }
 
 /// What is found: how many pairs a node drops and how many rules it lists, or how many clauses were learnt.

@@ -1,19 +1,18 @@
 -- The rules of the symbols that are called are in each closed list, and they are closed if some list is.
-use Rattle.std.proofs.Common.{◌≡◌, ℕ, zero, suc, ◌+◌, ◌<◌, ◌≤◌, inl, inr, List, [], ◌∷◌, length, All, Contains, Some, slice_get, get_or, refl, ap, ap₂, sym, subst, ◌∙◌, arith}
+use Rattle.std.proofs.Common.{◌≡◌, ℕ, zero, suc, ◌+◌, ◌<◌, ◌≤◌, inl, inr, List, [], ◌∷◌, length, All, Contains, Some, get_or, refl, ap, ap₂, sym, subst, ◌∙◌, arith}
 use Rattle.std.proofs.lemmas.Option.{slice_get_within, slice_get-get_or, get_or_from_slice_get}
 use Rattle.std.proofs.lemmas.List.Elements.{All-contains}
 use Rattle.wh_terms.specs.Tree.{Tm, fun, head, tms_of}
 use Rattle.wh_terms.specs.Rules.{RewriteRule}
-use Rattle.wh_pairs.specs.PairData.{PairData, IsIncreasing}
-use Rattle.wh_pairs.specs.Sets.{InSet}
+use Rattle.wh_pairs.specs.PairData.{IsIncreasing}
 use Rattle.wh_pairs.proofs.ByPlace.{some_one, contains_at}
 use Rattle.wh_pairs.proofs.Increasing.{increasing_at}
 use Rattle.wh_pairs.proofs.SetLemmas.{all_from_members}
 use Rattle.wh_reduction.specs.TaskData.{TaskData, CoversAll, numbers_from}
 use Rattle.wh_reduction.proofs.Numbers.{numbers_at}
-use Rattle.wh_usable.specs.Closed.{HasSymbol, HaveSymbol, ListsRulesOf, ListsRulesInEach, AreClosedRules, AreClosedPairs, IsClosed, IsUsable}
-use Rattle.wh_usable_rules.specs.Called.{Reaches, from, by_rule, StandsInPairs, IsCalled, AreRulesOfCalled}
-use Rattle.wh_usable_rules.specs.Least.{covering, IsLeastClosed, IsOnlyWhole}
+use Rattle.wh_usable.specs.Closed.{HaveSymbol, ListsRulesOf, ListsRulesInEach, AreClosedRules, AreClosedPairs, IsClosed, IsUsable}
+use Rattle.wh_usable_rules.specs.Called.{from, by_rule, IsCalled, AreRulesOfCalled}
+use Rattle.wh_usable_rules.specs.Least.{covering, IsOnlyWhole}
 
 -- lists of trees
 
@@ -127,8 +126,8 @@ module _ (T : TaskData) (listed : List ℕ) (are : AreRulesOfCalled (covering T 
       same_numbers other 0 (length T.rules) usable.increasing
       (λ m found. (omega arith, let below = All-contains (λ n. n < length T.rules) other m usable.are_rules found in omega (arith, below)))
       (λ m low below.
-          least_is other usable m (subst (λ (l : List ℕ). Contains l m) (sym all)
-          (all_have (length T.rules) m (omega (arith, below)))))
+      least_is other usable m (subst (λ (l : List ℕ). Contains l m) (sym all)
+      (all_have (length T.rules) m (omega (arith, below)))))
 
   -- and so it is where they are not closed
   pub none_closed : (IsClosed (covering T listed) → ⊥) → IsOnlyWhole T

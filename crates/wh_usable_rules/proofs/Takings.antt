@@ -1,5 +1,5 @@
 -- Rules that are taken, and what their right sides call.
-use Rattle.std.proofs.Common.{◌≡◌, ℕ, zero, suc, ◌+◌, ◌<◌, ◌≤◌, ◌⊎◌, inl, inr, Bool, true, false, List, [], ◌∷◌, length, Some, slice_get, refl, ap, ap₂, sym, subst, if◌then◌else◌, ◌∙◌, arith}
+use Rattle.std.proofs.Common.{◌≡◌, ℕ, zero, suc, ◌+◌, ◌<◌, inl, inr, Bool, true, false, List, [], ◌∷◌, length, Some, slice_get, refl, ap, ap₂, sym, subst, if◌then◌else◌, ◌∙◌, arith}
 use Rattle.std.proofs.lemmas.Option.{slice_get_within}
 use Rattle.wh_terms.specs.Tree.{fun, head}
 use Rattle.wh_terms.specs.Rules.{RewriteRule}
@@ -7,7 +7,7 @@ use Rattle.wh_pairs.proofs.ByPlace.{same_or_below, some_one}
 use Rattle.wh_usable.specs.Closed.{HasSymbol}
 use Rattle.wh_usable_rules.specs.Tables.{Says, Enters}
 use Rattle.wh_usable_rules.specs.Called.{Reaches, from, by_rule}
-use Rattle.wh_usable_rules.specs.Taken.{IsFollowed, Takes, AreTakenBefore, IsPass, open_in}
+use Rattle.wh_usable_rules.specs.Taken.{IsFollowed, Takes, IsPass, open_in}
 
 module _ (rules : List RewriteRule) where
   pub takes_none : (called taken : List Bool) → Takes rules called taken called taken
@@ -45,9 +45,9 @@ module _ (rules : List RewriteRule) where
     taken_only = λ n says. elim (second.taken_only n says) [
       | inr followed ↦ inr followed
       | inl there ↦ elim (first.taken_only n there) [
-          | inl before ↦ inl before
-          | inr followed ↦ inr (followed_on c1 c2 n second.called_length second.called_kept followed)
-        ]
+        | inl before ↦ inl before
+        | inr followed ↦ inr (followed_on c1 c2 n second.called_length second.called_kept followed)
+      ]
     ];
   }
 
@@ -151,18 +151,18 @@ fewer_open (b ∷ t) (b1 ∷ t1) zero within not enters =
     let said : Some b1 ≡ Some true = (enters.each 0 (omega arith)).1 (inr refl) in
     let now : b1 ≡ true = cc in
     let rest = all_alike t1 t (omega (arith, enters.same_length)) (λ n below.
-        let each = enters.each (suc n) (omega (arith, below)) in (
-          λ says. elim (each.0 says) [ inl there ↦ there | inr same ↦ absurd (omega (arith, same)) ],
-          λ says. each.1 (inl says),
-        )) in
+    let each = enters.each (suc n) (omega (arith, below)) in (
+      λ says. elim (each.0 says) [ inl there ↦ there | inr same ↦ absurd (omega (arith, same)) ],
+      λ says. each.1 (inl says),
+    )) in
     let less : open_in (b1 ∷ t1) ≡ 0 + open_in t1 = ap (λ (x : Bool). open_in (x ∷ t1)) now in
     let more : open_in (b ∷ t) ≡ 1 + open_in t = ap (λ (x : Bool). open_in (x ∷ t)) was in
     omega (arith, rest, less, more)
 fewer_open (b ∷ t) (b1 ∷ t1) (suc i) within not enters =
     let each = enters.each 0 (omega arith) in
     let first : b1 ≡ b = same_bool b1 b
-        (first_said b1 b t1 t (λ says. elim (each.0 says) [ inl there ↦ there | inr same ↦ absurd (omega (arith, same)) ]))
-        (first_said b b1 t t1 (λ says. each.1 (inl says))) in
+    (first_said b1 b t1 t (λ says. elim (each.0 says) [ inl there ↦ there | inr same ↦ absurd (omega (arith, same)) ]))
+    (first_said b b1 t t1 (λ says. each.1 (inl says))) in
     let rest = fewer_open t t1 i (omega (arith, within)) not (record {
       same_length = omega (arith, enters.same_length);
       each = λ n below.

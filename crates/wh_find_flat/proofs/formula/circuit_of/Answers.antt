@@ -42,8 +42,8 @@ require_rules-requires-clause-within c =
     let listed : List ℕ = c.args.task.now.covered.now in
     let count = ap (λ (l : List RewriteRule). length l) c.rules.ensures in
     all_from_members (λ n. n < length c.rules.result.now) listed (λ n found.
-        let below = All-contains (λ n. n < length (task_data c.args.task.now).rules) listed n c.requires.listed found in
-        omega (arith, below, count, length-map c.rules.result.now rewrite_rule))
+    let below = All-contains (λ n. n < length (task_data c.args.task.now).rules) listed n c.requires.listed found in
+    omega (arith, below, count, length-map c.rules.result.now rewrite_rule))
 
 pub require_rules-requires-clause-ready : goal.require_rules-requires-clause-ready
 require_rules-requires-clause-ready c r is =
@@ -54,6 +54,12 @@ require_rules-requires-clause-room c =
     let T = task_data c.args.task.now in
     let sum = ap (λ (l : List RewriteRule). sum_by (rule_occurrences_at l) T.covered) c.rules.ensures in
     omega (arith, sum, c.requires.few, c.requires.bits, c.in_ok-circuit.ensures.count, c.count.ensures)
+
+pub require_pairs-requires-clause-room : goal.require_pairs-requires-clause-room
+require_pairs-requires-clause-room c =
+    let T = task_data c.args.task.now in
+    let sum = ap (λ (l : List RewriteRule). sum_by (rule_occurrences_at l) T.covered) c.rules.ensures in
+    omega (arith, sum, c.requires.few, c.requires.bits, c.in_ok-circuit.ensures.count, c.count.ensures, c.in_ok-require_rules.ensures.few)
 
 pub returns : goal.returns
 returns c =

@@ -44,7 +44,7 @@ returns-in_err-rest c =
     let stops = walk_stops (IsFlatRuleAt S rs) (rule_occurrences_at rs) listed room i c.loop-number.rest n (number_at listed i c.loop-number-test.true)
     c.loop-number.invariant (left_rule_at S rs n c.loop-number.rest (rewrite_rule r) there None c.in_err-rest.ensures) in
     subst (λ (answer : Option ℕ). Left room (sum_by (rule_occurrences_at rs) listed)
-        (((q : RewriteRule) → IsListed rs listed q → IsFlatRule S q) × (sum_by (rule_occurrences_at rs) listed ≤ room)) answer)
+    (((q : RewriteRule) → IsListed rs listed q → IsFlatRule S q) × (sum_by (rule_occurrences_at rs) listed ≤ room)) answer)
     (sym c.from_residual.ensures) (left_rules S rs listed room None stops)
 
 pub returns : goal.returns

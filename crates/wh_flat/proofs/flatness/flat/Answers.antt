@@ -20,16 +20,16 @@ after_rules-requires-clause-within c =
     let covered : List ℕ = c.args.task.now.covered.now in
     let count = ap (λ (l : List RewriteRule). length l) c.rules.ensures in
     all_from_members (λ n. n < length c.rules.result.now) covered (λ n found.
-        let below = All-contains (λ n. n < length (task_data c.args.task.now).rules) covered n c.requires.are_rules found in
-        omega (arith, below, count, length-map c.rules.result.now rewrite_rule))
+    let below = All-contains (λ n. n < length (task_data c.args.task.now).rules) covered n c.requires.are_rules found in
+    omega (arith, below, count, length-map c.rules.result.now rewrite_rule))
 
 pub after_pairs-requires : goal.after_pairs-requires
 after_pairs-requires c =
     let set : List ℕ = c.args.task.now.set.now in
     let pairs = c.args.task.now.pairs.now in
     all_from_members (λ n. n < length pairs) set (λ n found.
-        let below = All-contains (λ n. n < length (task_data c.args.task.now).pairs) set n c.requires.within found in
-        omega (arith, below, length-map pairs pair_data))
+    let below = All-contains (λ n. n < length (task_data c.args.task.now).pairs) set n c.requires.within found in
+    omega (arith, below, length-map pairs pair_data))
 
 pub returns-in-None : goal.returns-in-None
 returns-in-None c =

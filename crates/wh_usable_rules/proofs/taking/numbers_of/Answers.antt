@@ -2,7 +2,7 @@ use Rattle.std.proofs.Common.{ℕ, ◌+◌, ◌<◌, List, inl, inr, true, sym, 
 use Rattle.std.proofs.lemmas.Bool.{cases_lt}
 use Rattle.std.proofs.lemmas.Option.{slice_get_within}
 use Rattle.wh_pairs.specs.Sets.{IsSetOf}
-use Rattle.wh_pairs.proofs.SetLemmas.{set_none, set_push, set_same}
+use Rattle.wh_pairs.proofs.SetLemmas.{set_push, set_same}
 use Rattle.wh_usable_rules.specs.Tables.{Says}
 use Rattle.wh_usable_rules.proofs.taking.numbers_of.Goals.{then-says+in_ok-push, else-says}
 use Rattle.wh_usable_rules.proofs.taking.numbers_of.Goals as goal

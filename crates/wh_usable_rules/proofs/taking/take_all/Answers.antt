@@ -1,4 +1,4 @@
-use Rattle.std.proofs.Common.{ℕ, length, sym, subst}
+use Rattle.std.proofs.Common.{ℕ, sym, subst}
 use Rattle.std.proofs.lemmas.List.{length-map}
 use Rattle.wh_terms.specs.Erase.{rewrite_rule, rewrite_rules}
 use Rattle.wh_usable_rules.specs.Taken.{AreTakenBefore}

@@ -30,5 +30,5 @@ returns-clause-called c =
     (subst (λ (l : List Pair). Enters (StandsInPairs (map pair_data l) c.as_slice-2.result.now) none called) c.as_slice.ensures c.call_pairs.ensures) in
     let are : AreTaken d.rules called none now taken = subst (λ (l : List RewriteRule). AreTaken l called none now taken) c.rules.ensures c.take_all.ensures in
     ok_map c.numbers_of.result (IsSetOf (Says taken)) _ (λ l is. rules_of_called d.symbols d.rules ps set c.is_well_made.ensures.rules.each
-        c.is_well_made.ensures.symbols_within none called now none taken (as_long 1024) (says_nothing 1024) enters (says_nothing 1024) are l is)
+    c.is_well_made.ensures.symbols_within none called now none taken (as_long 1024) (says_nothing 1024) enters (says_nothing 1024) are l is)
     c.numbers_of.ensures

@@ -1,17 +1,16 @@
-use Rattle.std.proofs.Common.{◌≡◌, ◌<◌, ℕ, All, List, length, map, ap, sym, subst, ◌∙◌, arith}
+use Rattle.std.proofs.Common.{◌≡◌, ◌<◌, ℕ, All, List, length, map, ap, sym, subst, arith}
 use Rattle.std.proofs.lemmas.List.{length-map}
 use Rattle.std.proofs.lemmas.List.Elements.{All-contains}
 use Rattle.wh_terms.specs.Erase.{rewrite_rule}
 use Rattle.wh_terms.specs.Rules.{RewriteRule}
 use Rattle.wh_system.specs.SystemView.{system_data}
 use Rattle.wh_system.specs.Systems.{SystemData}
-use Rattle.wh_pairs.specs.PairData.{pair_data}
+use Rattle.wh_pairs.specs.PairData.{IsIncreasing, pair_data}
 use Rattle.wh_pairs.specs.declared.pair.Pair.{Pair}
 use Rattle.wh_pairs.specs.Views.{pairs_data}
 use Rattle.wh_pairs.proofs.SetLemmas.{all_from_members}
 use Rattle.wh_reduction.specs.TaskData.{TaskData, task_over, whole_task}
 use Rattle.wh_usable.specs.Closed.{IsClosed}
-use Rattle.wh_usable.specs.Open.{IsFirstOpen}
 use Rattle.wh_usable.proofs.Decisions.{closed_not_open}
 use Rattle.wh_usable.proofs.Whole.{all_numbers, fewer_numbers}
 use Rattle.wh_usable_rules.proofs.Leasts.{are_rules, least_is, none_closed, only_whole}
@@ -37,7 +36,7 @@ check_closed-requires-clause-task c =
           let below = subst (λ (l : List ℕ). All (λ n. n < length c.args.pairs.now) l) (sym c.as_slice-2.ensures.numbers) c.requires in
           let less = All-contains (λ n. n < length c.args.pairs.now) set n below found in
           omega (arith, less, count, length-map pairs pair_data));
-      increasing = c.as_slice-2.ensures.increasing;
+      increasing = subst (λ (l : List ℕ). IsIncreasing l) (sym c.as_slice-2.ensures.numbers) c.as_slice-2.ensures.increasing;
       are_rules = subst (λ (l : List ℕ). All (λ n. n < length d.rules) l) (sym c.as_slice-3.ensures) (are_rules T c.in_ok-listed.listed c.in_ok-listed.ensures.called);
     }
 
@@ -77,6 +76,6 @@ returns-in-Err c =
     let listed : List ℕ = c.in_ok-listed.listed in
     let T = whole_task d.symbols d.rules (pairs_data c.args.pairs.now) c.args.set.now in
     none_closed T listed c.in_ok-listed.ensures.called (λ closed.
-        closed_not_open (task_over d.symbols d.rules (map pair_data c.as_slice.result.now) c.as_slice-2.result.now c.as_slice-3.result.now) c.in-Err.field-0
-        (of_task IsClosed d c.args.pairs.now c.as_slice.result.now c.args.set.now c.as_slice-2.result.now listed c.as_slice-3.result.now
-        (sym c.as_slice.ensures) (sym c.as_slice-2.ensures.numbers) (sym c.as_slice-3.ensures) closed) c.in-Err.ensures.first)
+    closed_not_open (task_over d.symbols d.rules (map pair_data c.as_slice.result.now) c.as_slice-2.result.now c.as_slice-3.result.now) c.in-Err.field-0
+    (of_task IsClosed d c.args.pairs.now c.as_slice.result.now c.args.set.now c.as_slice-2.result.now listed c.as_slice-3.result.now
+    (sym c.as_slice.ensures) (sym c.as_slice-2.ensures.numbers) (sym c.as_slice-3.ensures) closed) c.in-Err.ensures.first)
