@@ -99,9 +99,16 @@ fn rules_of(
     ensures { IfOk result (λ rules. rules.items ≡ covered_rules usable.now (length (system_data system.now).rules)) }
 {
     match usable {
-        Some(listed) => Vec::from_slice(alloc, listed.as_slice()),
+        Some(listed) => copied(alloc, listed.as_slice()),
         None => all_rules(alloc, system),
     }
+}
+
+// The same numbers.
+fn copied(alloc: Global, numbers: &[u32]) -> Result<Vec<u32>, AllocError>
+    ensures { IfOk result (λ made. made.items ≡ numbers.now) }
+{
+    Vec::from_slice(alloc, numbers)
 }
 
 // No set has more marked symbols, and no symbols have more bits of coefficients.
