@@ -12,9 +12,8 @@ ghost use Rattle.wh_blocking.specs.Answers.{IsAnswer};
 use std::alloc::{AllocError, Global};
 use wh_cert::Node;
 use wh_climb::{Climbed, climb};
-use wh_find_flat::find_by_circuit;
+use wh_find_flat::{find_by_circuit, is_flat};
 use wh_find_poly::find_interpretation;
-use wh_flat::flat;
 use wh_pairs::{PairList, PairSet, marked_symbols};
 use wh_reduction::{Task, all_rules};
 use wh_sat::Search;
@@ -44,11 +43,15 @@ pub fn interpretation_of(
     requires some { 1 ≤ length set.now }
     ensures { IfOk result (IsAnswer (system_data system.now) (pairs_data pairs.now) set.now budget) }
 {
-    if system.signature().funs.as_slice().len() <= MOST_SYMBOLS && flat(system, pairs, set) {
+    if system.signature().funs.as_slice().len() > MOST_SYMBOLS {
+        return find_interpretation(alloc, system, pairs, set, budget);
+    }
+    let all = None;
+    if is_flat(alloc, system, pairs, set, &all)? {
         if let Some(node) = climbed(alloc, system, pairs, set)? {
             return Ok(Search::Found(node));
         }
-        match find_by_circuit(alloc, system, pairs, set, budget)? {
+        match find_by_circuit(alloc, system, pairs, set, all, budget)? {
             Search::Spent(_) => {}
             settled => return Ok(settled),
         }
