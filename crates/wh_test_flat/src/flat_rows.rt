@@ -17,7 +17,7 @@ use wh_pairs::{PairList, PairSet};
 use wh_read::{Refused, read_system};
 use wh_sat::Search;
 use wh_system::System;
-use wh_test_samples::{IDENTITY, MAP, QUADRUPLE};
+use wh_test_samples::{HALVES, IDENTITY, MAP, QUADRUPLE};
 use wh_types::{Numbers, Or};
 use wh_usable_rules::usable_rules;
 
@@ -146,10 +146,6 @@ const ANSWERS: &[(&[u8], bool, u64, &str)] = &[
     (HALVES, false, 10_000, "found, 1 dropped, 3 rules"),
     (MAP, false, 10_000, "no list"),
 ];
-
-/// Logarithms by halves, beside rules that no interpretation of the space covers.
-const HALVES: &[u8] =
-    b"sort o;\nfun z : o;\nfun s : o -> o;\nfun h : o -> o;\nfun l : o -> o;\nfun e : o -> o;\nfun c : o -> o -> o;\nrule {X:o} l (s (s X)) => s (l (s (h X)));\nrule {} h z => z;\nrule {} h (s z) => z;\nrule {X:o} h (s (s X)) => s (h X);\nrule {X:o} e X => c (c X X) (c X X);\nrule {X:o,Y:o} c X Y => X;\nrule {X:o,Y:o} c X Y => Y;\n";
 
 #[test]
 fn flat_sets_are_settled_by_a_formula(rt: HostRuntime) -> Result<(), Fail> {
