@@ -1,11 +1,12 @@
 -- What the searches by a climb, by a formula and by guesses find, as one answer.
-use Rattle.std.proofs.Common.{◌≡◌, ℕ, List, Option, Some, None, subst}
+use Rattle.std.proofs.Common.{◌≡◌, ◌↔◌, ℕ, Bool, IsTrue, List, Option, Some, None, Result, Ok, Err, IfOk, subst}
 use Rattle.wh_system.specs.Systems.{SystemData}
 use Rattle.wh_pairs.specs.PairData.{PairData}
 use Rattle.wh_cert.specs.Said.{said_node}
 use Rattle.wh_cert.specs.declared.certificate.Node.{Node}
 use Rattle.wh_sat.specs.declared.solving.Search.{Search}
 use Rattle.wh_sat.specs.declared.solving.Search.TheVariants as search
+use Rattle.wh_reduction.specs.TaskData.{TaskData}
 use Rattle.wh_proof.specs.Looked.{poly_task}
 use Rattle.wh_guesses.specs.Conditions.{HasNoInterpretation}
 use Rattle.wh_guesses.specs.Found.{task_of, IsInterpretation}
@@ -34,6 +35,11 @@ by_search d ps set budget (search.Found node) is = without_list d ps set node is
 by_search d ps set budget search.Nothing is = is
 by_search d ps set budget (search.Spent list) is = is
 
+pub by_search_if : {E : Type 0} (d : SystemData) (ps : List PairData) (set : List ℕ) (budget : ℕ) (r : Result (Search Node) E)
+    → IfOk r (IsAnswer d ps set budget) → IfOk r (IsInterpreted d ps set budget)
+by_search_if d ps set budget (Ok found) is = by_search d ps set budget found is
+by_search_if d ps set budget (Err e) is = tt
+
 -- that of the formula over all rules
 pub found_by_formula : (d : SystemData) (ps : List PairData) (set : List ℕ) (budget : ℕ) (found : Search Node) (node : Node)
     → IsFlatAnswer d ps set None budget found → found ≡ search.Found node → Interprets d ps set (said_node node)
@@ -54,3 +60,9 @@ pub flat_list : (d : SystemData) (ps : List PairData) (set : List ℕ) (usable :
     → IsFlat (poly_task d ps set usable) → IsFlatList d ps set usable
 flat_list d ps set (Some listed) are flat = ((are.usable, are.fewer), flat)
 flat_list d ps set None are flat = tt
+
+-- whether a set is flat, one way
+
+pub small_if : {E : Type 0} (T : TaskData) (r : Result Bool E) → IfOk r (λ flat. IsTrue flat ↔ IsFlat T) → IfOk r (λ flat. IsTrue flat → IsFlat T)
+small_if T (Ok flat) is = is.0
+small_if T (Err e) is = tt

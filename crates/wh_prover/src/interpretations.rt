@@ -42,7 +42,7 @@ const MOST_LEARNT: u64 = 1_000;
 /// with them, a formula over these rules comes first; a node that is found by it lists them. A flat set of a system with few symbols is then put into
 /// one formula over all rules, which settles it or is given up with `budget` learnt clauses. A set that is left open, and any other one,
 /// goes through `find_interpretation` with the same budget, from which alone `Spent` comes.
-#[tactic(auto, using(crate::proofs::InterpretedLemmas::without_list, crate::proofs::InterpretedLemmas::found_by_formula, crate::proofs::InterpretedLemmas::none_by_formula, crate::proofs::InterpretedLemmas::by_search))]
+#[tactic(auto, using(crate::proofs::InterpretedLemmas::without_list, crate::proofs::InterpretedLemmas::found_by_formula, crate::proofs::InterpretedLemmas::none_by_formula, crate::proofs::InterpretedLemmas::by_search_if))]
 pub fn interpretation_of(
     alloc: Global,
     system: &System,
@@ -110,6 +110,7 @@ fn is_short(usable: &Option<Numbers>, set: &PairSet) -> bool {
 }
 
 // Whether the formula over all rules is made: the set is flat with them, and the system has few symbols.
+#[tactic(auto, using(crate::proofs::InterpretedLemmas::small_if))]
 fn is_small(
     alloc: Global,
     system: &System,
