@@ -45,8 +45,8 @@ returns-in-Unsat c =
     subst (λ (T : TaskData). HasNoInterpretation T) (listing_is t c.args.usable c.requires.usable)
     (λ R space go. (let (v, solves, by) = formula.all R space go in unsolved.1 v solves))
 
-pub returns : goal.returns
-returns c =
+pub returns-in-Spent : goal.returns-in-Spent
+returns-in-Spent c =
     let t = c.args.task.now in
     let f = c.formula.result.now in
     let e = c.formula.ensures in

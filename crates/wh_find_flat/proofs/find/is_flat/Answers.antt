@@ -1,4 +1,4 @@
-use Rattle.std.proofs.Common.{ℕ, ◌≡◌, List, length, map, sym, ◌∙◌}
+use Rattle.std.proofs.Common.{length, map, sym, ◌∙◌}
 use Rattle.wh_pairs.specs.PairData.{pair_data}
 use Rattle.wh_system.specs.SystemView.{system_data}
 use Rattle.wh_reduction.specs.TaskData.{IsTask}

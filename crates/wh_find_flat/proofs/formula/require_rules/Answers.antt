@@ -6,7 +6,7 @@ use Rattle.std.proofs.lemmas.Option.{slice_get-get_or}
 use Rattle.wh_terms.specs.Erase.{rewrite_rule, rewrite_rules, declared_meta}
 use Rattle.wh_terms.specs.Rules.{RewriteRule}
 use Rattle.wh_terms.specs.declared.rule.Rule.{Rule}
-use Rattle.wh_pairs.proofs.ByPlace.{contains_at, remap}
+use Rattle.wh_pairs.proofs.ByPlace.{contains_at, read_map}
 use Rattle.wh_circuit.specs.State.{gates_of}
 use Rattle.wh_flat.specs.Flat.{rule_occurrences, rule_occurrences_at}
 use Rattle.wh_find_flat.specs.Numbers.{Asks}
@@ -23,20 +23,20 @@ loop-number-init c = record {
 
 -- the rule at a place of the list
 there : (rules : List Rule) (listed : List ℕ) (i : ℕ) (rule : Rule) → All (λ n. n < length rules) listed → i < length listed
-    → (slice_get listed i ≡ Some (get_or listed i 0))
-    × (slice_get (rewrite_rules rules) (get_or listed i 0) ≡ Some (rewrite_rule (get_or rules (get_or listed i 0) rule)))
-there rules listed i rule within less =
-    (slice_get-get_or listed i 0 less, remap rewrite_rule rules (get_or listed i 0) (get_or rules (get_or listed i 0) rule) (slice_get-get_or rules (get_or listed i 0) rule (within i 0 less)))
+    → rule ≡ get_or rules (get_or listed i 0) rule
+    → (slice_get listed i ≡ Some (get_or listed i 0)) × (slice_get (rewrite_rules rules) (get_or listed i 0) ≡ Some (rewrite_rule rule))
+there rules listed i rule within less is =
+    (slice_get-get_or listed i 0 less, read_map rewrite_rule rules (get_or listed i 0) rule (within i 0 less) is)
 
 pub require_rule-requires : goal.require_rule-requires
 require_rule-requires c =
     let rules : List Rule = c.args.rules.now in
     let listed : List ℕ = c.args.listed.now in
     let i = c.loop-number.number-index in
-    let r : Rule = get_or rules (get_or listed i 0) c.index-rules-number.result in
+    let r = c.index-rules-number.result in
     let rs = rewrite_rules rules in
     let n = get_or listed i 0 in
-    let at = there rules listed i c.index-rules-number.result c.requires.within c.loop-number-test.true in
+    let at = there rules listed i r c.requires.within c.loop-number-test.true c.index-rules-number.is in
     let ready : IsReadyRule (rewrite_rule r) = c.requires.ready (rewrite_rule r) (n, contains_at listed i n at.0, at.1) in
     let long = length-map r.metas declared_meta in
     let len = ap length c.as_slice-metas.ensures in
@@ -59,10 +59,10 @@ loop-number-preserved c =
     let rules : List Rule = c.args.rules.now in
     let listed : List ℕ = c.args.listed.now in
     let i = c.loop-number.number-index in
-    let r : Rule = get_or rules (get_or listed i 0) c.index-rules-number.result in
+    let r = c.index-rules-number.result in
     let rs = rewrite_rules rules in
     let n = get_or listed i 0 in
-    let at = there rules listed i c.index-rules-number.result c.requires.within c.loop-number-test.true in
+    let at = there rules listed i r c.requires.within c.loop-number-test.true c.index-rules-number.is in
     let next = sum_next (rule_occurrences_at rs) listed i n at.0 in
     let own : rule_occurrences_at rs n ≡ rule_occurrences (rewrite_rule r) = ap (λ (o : Option RewriteRule). option_map_or rule_occurrences o 0) at.1 in
     let few = c.loop-number.invariant.few in
