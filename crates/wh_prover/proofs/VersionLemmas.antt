@@ -45,11 +45,9 @@ later d x xs (line, found, needs) = (line, behind xs x line found, needs)
 
 pub some_needs : (d : SystemData) (lines : List w.Node) → All (IsMade d) lines → (All (IsOfVersion 1) lines → ⊥) → SomeNeeds d (Upgraded d lines)
 some_needs d [] made not_first = absurd (not_first (All-nil (IsOfVersion 1)))
-some_needs d (x ∷ xs) made not_first = at x (All-head (IsMade d) x xs made) (λ one. rest (λ all. not_first (All-cons (IsOfVersion 1) x xs one all)))
+some_needs d (x ∷ xs) made not_first =
+    at x (All-head (IsMade d) x xs made) (λ one. some_needs d xs (All-tail (IsMade d) x xs made) (λ all. not_first (All-cons (IsOfVersion 1) x xs one all)))
   where
-    rest : (All (IsOfVersion 1) xs → ⊥) → SomeNeeds d (Upgraded d xs)
-    rest other = some_needs d xs (All-tail (IsMade d) x xs made) other
-
     at : (y : w.Node) → IsMade d y → (IsOfVersion 1 y → SomeNeeds d (Upgraded d xs)) → SomeNeeds d (upgraded_node (length d.rules) y ∷ Upgraded d xs)
     at (w.interpretations None funs marks rules pairs drop) of_space other = later d _ (Upgraded d xs) (other refl)
     at (w.interpretations (Some listed) funs marks rules pairs drop) of_space other =
