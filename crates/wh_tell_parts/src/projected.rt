@@ -1,0 +1,85 @@
+//! Nodes of projections: for each pair the two arguments that are compared.
+
+use crate::compared::put_compared;
+use std::alloc::AllocError;
+use wh_cert::Arg;
+use wh_pairs::Pair;
+use wh_system::System;
+use wh_tell::Piece::{Number, Spell};
+use wh_tell::{Text, put_numbers, put_pair_line, tell};
+
+/// Appends which argument of each symbol is looked at, and what becomes of it in each pair of the set.
+pub fn put_projection<'a>(
+    text: &mut Text,
+    system: &'a System,
+    pairs: &'a [Pair],
+    set: &[u32],
+    args: &[Arg],
+    drop: &[u32],
+    depth: u32,
+) -> Result<(), AllocError> {
+    put_choices(text, args, depth)?;
+    for number in set {
+        if let Some(pair) = pairs.get(*number as usize) {
+            put_pair_line(text, system, *number, pair, depth)?;
+            put_looked_at(text, system, pair, args, depth.saturating_add(1))?;
+        }
+    }
+    put_dropped(text, drop, depth)
+}
+
+// Appends which argument of each symbol is looked at.
+fn put_choices(text: &mut Text, args: &[Arg], depth: u32) -> Result<(), AllocError> {
+    text.indent(depth)?;
+    let mut words: &[u8] = b"Projection: looked at is argument ";
+    for arg in args {
+        text.spell(words)?;
+        tell(
+            text,
+            "@ of @",
+            &[Number(arg.place), Spell(arg.name.bytes())],
+        )?;
+        words = b", argument ";
+    }
+    text.say(if args.is_empty() {
+        "Projection: no argument is looked at.\n"
+    } else {
+        ".\n"
+    })
+}
+
+/// Appends which pairs are dropped.
+pub fn put_dropped(text: &mut Text, drop: &[u32], depth: u32) -> Result<(), AllocError> {
+    text.indent(depth)?;
+    text.say("Dropped:")?;
+    put_numbers(text, drop)?;
+    text.say(".\n")
+}
+
+// Appends what becomes of the argument that is looked at in a pair.
+fn put_looked_at<'a>(
+    text: &mut Text,
+    system: &'a System,
+    pair: &'a Pair,
+    args: &[Arg],
+    depth: u32,
+) -> Result<(), AllocError> {
+    text.indent(depth)?;
+    let left = place_of(system, args, pair.left_fun);
+    let right = place_of(system, args, pair.right_fun);
+    match (left, right) {
+        (Some(left), Some(right)) => put_compared(text, system, pair, left, right),
+        _ => text.say("No argument is named.\n"),
+    }
+}
+
+// The place, counted from 0, of the argument of the symbol that is looked at.
+fn place_of(system: &System, args: &[Arg], symbol: u32) -> Option<u32> {
+    let name = system.fun_names().get(symbol as usize)?;
+    for arg in args {
+        if arg.name.bytes() == name.bytes() {
+            return arg.place.checked_sub(1);
+        }
+    }
+    None
+}
