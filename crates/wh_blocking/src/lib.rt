@@ -11,5 +11,7 @@ mod hints;
 mod numbers;
 mod search;
 
-pub use bits::{first_bits, lists_by};
+pub use bits::{bit, first_bits, lists_by};
+pub use clauses::{clause_of, copy_clauses};
+pub use numbers::numbers_of_conditions;
 pub use search::find_by_guesses;

@@ -1,0 +1,4 @@
+pub mod Space
+pub mod Bits
+pub mod Tried
+pub mod Answers
