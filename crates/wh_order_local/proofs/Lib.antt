@@ -1,0 +1,4 @@
+pub mod OnlyLemmas
+pub mod SiftLocal
+pub mod VerdictLocal
+pub mod OrderLocal
