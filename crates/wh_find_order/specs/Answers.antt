@@ -18,7 +18,7 @@ use Rattle.wh_sat.specs.declared.solving.Search.{Search}
 use Rattle.wh_sat.specs.declared.solving.Search.TheVariants as search
 use Rattle.wh_guesses.specs.Found.{task_of}
 use Rattle.wh_order_lines.specs.Oriented.{IsWithin}
-use Rattle.wh_find_order.specs.Space.{IsOfSpace, LetsGo, HasNoOrder}
+use Rattle.wh_order_space.specs.Space.{IsOfSpace, LetsGo, HasNoOrder}
 use Rattle.wh_find_order.specs.Tried.{Tried}
 
 -- the node is one of a path order, whose conditions hold of the set, and which is tried (ours)

@@ -15,7 +15,7 @@ use Rattle.wh_sat.specs.declared.learner.Learner.{Learner}
 use Rattle.wh_guesses.specs.Coefficients.{scopes_of}
 use Rattle.wh_guesses.specs.Conditions.{Condition, IsCondition, UsesNumber}
 use Rattle.wh_guesses.specs.Tasks.{IsTaskOf}
-use Rattle.wh_find_order.specs.Bits.{bit_count, first_bit, precedence_bits, IsFilterBy}
+use Rattle.wh_order_space.specs.Bits.{bit_count, first_bit, precedence_bits, IsFilterBy}
 use Rattle.wh_find_order.specs.Tried.{FailsUnder, IsBlocked, proper}
 use Rattle.wh_find_order.specs.declared.encoding.Encoding.{Encoding}
 

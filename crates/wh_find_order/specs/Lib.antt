@@ -1,5 +1,3 @@
-pub mod Space
-pub mod Bits
 pub mod Tried
 pub mod Answers
 pub mod Encodings

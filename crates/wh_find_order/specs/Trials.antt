@@ -8,7 +8,7 @@ use Rattle.wh_ordering.specs.Filterings.{FilteringData, AreFiltersFor, AreProper
 use Rattle.wh_cert.specs.Said.{said_order}
 use Rattle.wh_guesses.specs.Conditions.{Condition, IsCondition}
 use Rattle.wh_find_order.specs.Answers.{IsOrder}
-use Rattle.wh_find_order.specs.Space.{IsLow, Meets}
+use Rattle.wh_order_space.specs.Space.{IsLow, Meets}
 use Rattle.wh_find_order.specs.Tried.{FailsUnder, line}
 use Rattle.wh_find_order.specs.Encodings.{HasNoFilter, system_in, task_in}
 use Rattle.wh_find_order.specs.declared.encoding.Encoding.{Encoding}

@@ -10,8 +10,8 @@ use Rattle.wh_sat.specs.Solving.{Solves, literal_true}
 use Rattle.wh_guesses.specs.Coefficients.{scopes_of}
 use Rattle.wh_guesses.specs.Conditions as g
 use Rattle.wh_guesses.specs.Conditions.{IsCondition, UsesNumber}
-use Rattle.wh_find_order.specs.Space.{Meets}
-use Rattle.wh_find_order.specs.Bits.{precedence_bits, bit_count, bit_from, IsFilterBy, IsWritten}
+use Rattle.wh_order_space.specs.Space.{Meets}
+use Rattle.wh_order_space.specs.Bits.{precedence_bits, bit_count, bit_from, IsFilterBy, IsWritten}
 
 -- a condition: that the bits of a symbol write a proper filter and a precedence that is tried; or one on the lines of rules and pairs
 -- (ours)

@@ -6,7 +6,7 @@ ghost use Rattle.wh_inference.specs.FilterText.{WrittenFilter};
 ghost use Rattle.wh_inference.specs.Said.{written_filter};
 ghost use Rattle.wh_ordering.specs.FilteringView.{filtering_data};
 ghost use Rattle.wh_blocking.specs.Sizes.{value_of};
-ghost use Rattle.wh_find_order.specs.Bits.{IsFilterBy, IsWritten};
+ghost use Rattle.wh_order_space.specs.Bits.{IsFilterBy, IsWritten};
 ghost use Rattle.wh_find_order.specs.Encodings.{AreFiltersFrom, HasNoFilter, IsEncoding, symbols_in, task_in};
 
 use crate::encoding::Encoding;

@@ -5,8 +5,8 @@ ghost use Rattle.wh_types.specs.Erase.{tys};
 ghost use Rattle.wh_inference.specs.Said.{written_filter};
 ghost use Rattle.wh_ordering.specs.Filterings.{HasPlaces};
 ghost use Rattle.wh_blocking.specs.Sizes.{value_of};
-ghost use Rattle.wh_find_order.specs.Bits as written;
-ghost use Rattle.wh_find_order.specs.Bits.{number_from, places_from};
+ghost use Rattle.wh_order_space.specs.Bits as written;
+ghost use Rattle.wh_order_space.specs.Bits.{number_from, places_from};
 ghost use Rattle.wh_find_order.specs.Encodings.{PicksSort};
 
 use std::alloc::{AllocError, Global};

@@ -1,7 +1,7 @@
 //! How many bits the orders have, and which bit of a symbol comes first.
 
 ghost use Rattle.std.specs.Prelude.{◌≡◌, ◌+◌, ◌*◌, ◌-◌, ◌<◌, ◌≤◌, ◌^◌, ℕ, IfOk, get_or, length};
-ghost use Rattle.wh_find_order.specs.Bits.{binary_length, first_bit};
+ghost use Rattle.wh_order_space.specs.Bits.{binary_length, first_bit};
 ghost use Rattle.wh_find_order.specs.Encodings.{types_in};
 
 use std::alloc::{AllocError, Global};

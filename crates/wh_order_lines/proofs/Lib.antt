@@ -1,3 +1,0 @@
-pub mod Matched
-pub mod OrderLineLemmas
-pub mod WalkLemmas

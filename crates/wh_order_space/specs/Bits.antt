@@ -6,7 +6,7 @@ use Rattle.wh_reduction.specs.TaskData.{TaskData}
 use Rattle.wh_inference.specs.FilterText.{WrittenFilter, keeps, picks}
 use Rattle.wh_ordering.specs.Filterings.{FilteringData, IsProperAsWritten}
 use Rattle.wh_guesses.specs.Coefficients.{scopes_of}
-use Rattle.wh_find_order.specs.Space.{symbol_count}
+use Rattle.wh_order_space.specs.Space.{symbol_count}
 
 -- how many bits a number has, where it is below 2^most
 abbrev pub binary_length : (most n : ℕ) → ℕ
