@@ -6,10 +6,14 @@ use Rattle.wh_types.specs.Ty.{Ty, sort}
 use Rattle.wh_types.specs.declared.simple_type.SimpleType.{SimpleType}
 use Rattle.wh_system.specs.Systems.{SystemData}
 use Rattle.wh_system.specs.SystemView.{system_data}
+use Rattle.wh_system.specs.WellMade.{IsWellMadeSystem}
 use Rattle.wh_pairs.specs.Marked.{AreMarked}
 use Rattle.wh_reduction.specs.TaskData.{TaskData}
 use Rattle.wh_reduction.specs.TaskView.{task_data}
 use Rattle.wh_inference.specs.FilterText.{WrittenFilter, keeps, picks}
+use Rattle.wh_sat_trail.specs.Assignment.{AllBelow}
+use Rattle.wh_sat_trail.specs.declared.literal.Literal.{Literal}
+use Rattle.wh_sat.specs.Solving.{Solves}
 use Rattle.wh_sat.specs.State.{Sound, clauses_of, variables_of}
 use Rattle.wh_sat.specs.declared.learner.Learner.{Learner}
 use Rattle.wh_guesses.specs.Coefficients.{scopes_of}
@@ -50,6 +54,7 @@ bits_for e = precedence_bits (task_in e) e.marked.now
 -- the tables of the bits and of what is used are right
 pub record IsEncoding (e : Encoding) : Type 0 where
   pub task : IsTaskOf e.task
+  pub made : IsWellMadeSystem (system_in e)
   pub marked : AreMarked (task_in e).pairs (task_in e).set e.marked.now
   pub scopes : types_in e.scopes.items ≡ scopes_for e
   pub precedence : e.precedence_bits ≡ bits_for e
@@ -78,3 +83,8 @@ pub record IsBlocking (e : Encoding) (learner : Learner) : Type 0 where
   pub variables : variables_of learner ≡ bit_count (bits_for e) (scopes_for e)
   pub blocked : (k : ℕ) → k < length (clauses_of learner) → get_or learner.learnt.items k false ≡ false
       → IsBlocked (task_in e) e.marked.now (take k (clauses_of learner)) (get_or (clauses_of learner) k [])
+
+-- the clause is over the bits, and blocked where the bits make all clauses before it true
+pub record ShutsOut (e : Encoding) (v : ℕ → Bool) (clause : List Literal) : Type 0 where
+  pub below : AllBelow (bit_count (bits_for e) (scopes_for e)) clause
+  pub blocked : (earlier : List (List Literal)) → Solves v earlier → IsBlocked (task_in e) e.marked.now earlier clause

@@ -1,12 +1,12 @@
 //! The search by guesses: each guess under which a condition fails is shut out by a clause, and a solver tells the next one.
 
-ghost use Rattle.std.specs.Prelude.{◌≡◌, ◌+◌, ◌<◌, ◌≤◌, IfOk, OnOk, All, length};
+ghost use Rattle.std.specs.Prelude.{◌≡◌, ◌+◌, ◌<◌, ◌≤◌, IfOk, OnOk, length};
 ghost use Rattle.wh_types.specs.Limits.{most_pairs};
 ghost use Rattle.wh_blocking.specs.Sizes.{value_of};
 ghost use Rattle.wh_sat.specs.Solving.{Solves};
 ghost use Rattle.wh_sat.specs.State.{clauses_of};
 ghost use Rattle.wh_find_order.specs.Answers.{IsAnswer};
-ghost use Rattle.wh_find_order.specs.Encodings.{IsBlocking, IsEncoding, system_in, task_in};
+ghost use Rattle.wh_find_order.specs.Encodings.{IsBlocking, IsEncoding, ShutsOut, system_in, task_in};
 ghost use Rattle.wh_find_order.specs.Trials.{HasFailed, IsLooked};
 
 use crate::decoding::order_by;
@@ -16,7 +16,7 @@ use std::alloc::{AllocError, Global};
 use wh_blocking::{clause_of, copy_clauses};
 use wh_cert::OrderNode;
 use wh_sat::{Learner, Next, Search};
-use wh_sat_trail::{Clauses, Formula};
+use wh_sat_trail::{Clause, Clauses, Formula};
 use wh_types::Or;
 
 /// What a guess comes to.
@@ -138,17 +138,29 @@ fn block<'a>(
     ensures count { OnOk result (length (clauses_of learner.new) ≡ length (clauses_of learner.old) + 1) }
     ensures left { OnOk result (learner.new.left + 1 ≡ learner.old.left) }
 {
-    let clause = match failing {
-        Failing::Symbol(number) => clause_of(alloc, values, &encoding.first_bits, &[number])?,
-        Failing::Line(number) => {
-            clause_of(
-                alloc,
-                values,
-                &encoding.first_bits,
-                &encoding.numbers[number],
-            )?
-        }
-    };
+    let clause = clause_for(alloc, encoding, values, failing)?;
     learner.give(clause)?;
     Ok(())
+}
+
+// The clause that shuts out the guess: the literals that are false under it, on the bits of what is used in the condition.
+fn clause_for<'a>(
+    alloc: Global,
+    encoding: &Encoding<'a>,
+    values: &[bool],
+    failing: Failing,
+) -> Result<Clause, AllocError>
+    requires encoding { IsEncoding encoding.now }
+    requires fails { HasFailed encoding.now (value_of values.now) failing }
+    ensures { IfOk result (ShutsOut encoding.now (value_of values.now)) }
+{
+    match failing {
+        Failing::Symbol(number) => clause_of(alloc, values, &encoding.first_bits, &[number]),
+        Failing::Line(number) => clause_of(
+            alloc,
+            values,
+            &encoding.first_bits,
+            &encoding.numbers[number],
+        ),
+    }
 }

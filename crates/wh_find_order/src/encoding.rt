@@ -44,6 +44,7 @@ pub fn encoding_of<'a>(
     ensures encoding { IfOk result IsEncoding }
     ensures task { IfOk result (λ made. made.task ≡ task.now) }
 {
+    task.system.is_well_made();
     let scopes = scopes_of(alloc, task, marked)?;
     let precedence_bits = precedence_bits(scopes.len());
     if precedence_bits >= 32 {
