@@ -1,8 +1,9 @@
 -- What bits write depends only on their values, and is proper but for the type of a place that is picked.
 use Rattle.std.proofs.Common.{◌≡◌, ℕ, zero, suc, ◌+◌, ◌-◌, ◌*◌, ◌/◌, ◌<◌, ◌≤◌, ◌^◌, ◌==◌, inl, inr, Bool, true, false, if◌then◌else◌, List, [], ◌∷◌, ◌++◌, length, map, get_or, Option, None, Some, All, refl, ap, ap₂, sym, subst, ◌∙◌, append_assoc, arith}
+use Rattle.std.proofs.Math.Nat.{pow-suc}
 use Rattle.std.proofs.lemmas.Bool.{cases_Bool}
 use Rattle.std.proofs.lemmas.List.{append-nil}
-use Rattle.std.proofs.lemmas.List.Elements.{All-nil, All-cons}
+use Rattle.std.proofs.lemmas.List.Elements.{All-nil, All-cons, All-head}
 use Rattle.wh_types.specs.Ty.{Ty}
 use Rattle.wh_inference.specs.FilterText.{WrittenFilter, keeps, picks, filter_of}
 use Rattle.wh_extended.specs.Filtered.{IncreasingFrom, IsProper}
@@ -61,37 +62,36 @@ later_first : (from n : ℕ) (is : List ℕ) → IncreasingFrom (suc from) n is 
 later_first from n [] h = tt
 later_first from n (i ∷ is) h = (omega (arith, h.0), h.1, h.2)
 
+rise_with : (from n : ℕ) (rest : List ℕ) (b : Bool) → from < n → IncreasingFrom (suc from) n (down rest)
+    → IncreasingFrom from n (down (if b then suc from ∷ rest else rest))
+rise_with from n rest true within rise =
+    let e : suc from - 1 ≡ from = omega arith in
+    (omega arith, omega (arith, within), subst (λ i. IncreasingFrom (suc i) n (down rest)) (sym e) rise)
+rise_with from n rest false within rise = later_first from n (down rest) rise
+
 places_rise : (v : ℕ → Bool) (x from k n : ℕ) → from + k ≡ n → IncreasingFrom from n (down (places_from v x (suc from) k))
 places_rise v x from zero n sum = tt
-places_rise v x from (suc k) n sum = on (v x)
-  where
-    rest : IncreasingFrom (suc from) n (down (places_from v (suc x) (suc (suc from)) k))
-    rest = places_rise v (suc x) (suc from) k n (omega (arith, sum))
+places_rise v x from (suc k) n sum =
+    rise_with from n (places_from v (suc x) (suc (suc from)) k) (v x) (omega (arith, sum)) (places_rise v (suc x) (suc from) k n (omega (arith, sum)))
 
-    on : (b : Bool) → IncreasingFrom from n
-        (down (if b then suc from ∷ places_from v (suc x) (suc (suc from)) k else places_from v (suc x) (suc (suc from)) k))
-    on true = (omega arith, omega (arith, sum), rest)
-    on false = later_first from n (down (places_from v (suc x) (suc (suc from)) k)) rest
+counted_with : (from : ℕ) (rest : List ℕ) (b : Bool) → All (λ n. 0 < n) rest → All (λ n. 0 < n) (if b then suc from ∷ rest else rest)
+counted_with from rest true h = All-cons (λ n. 0 < n) (suc from) rest (omega arith) h
+counted_with from rest false h = h
 
 places_counted : (v : ℕ → Bool) (x from k : ℕ) → All (λ n. 0 < n) (places_from v x (suc from) k)
 places_counted v x from zero = All-nil (λ n. 0 < n)
-places_counted v x from (suc k) = on (v x)
-  where
-    rest : All (λ n. 0 < n) (places_from v (suc x) (suc (suc from)) k)
-    rest = places_counted v (suc x) (suc from) k
-
-    on : (b : Bool) → All (λ n. 0 < n) (if b then suc from ∷ places_from v (suc x) (suc (suc from)) k else places_from v (suc x) (suc (suc from)) k)
-    on true = All-cons (λ n. 0 < n) (suc from) (places_from v (suc x) (suc (suc from)) k) (omega arith) rest
-    on false = rest
+places_counted v x from (suc k) =
+    counted_with from (places_from v (suc x) (suc (suc from)) k) (v x) (places_counted v (suc x) (suc from) k)
 
 -- the filter, if its bits write one, is proper where it picks a sort
 
 with_places : (prec : ℕ) (kept picked : List ℕ) (w : WrittenFilter) → All (λ n. 0 < n) kept → All (λ n. 0 < n) picked
     → filter_with prec kept picked ≡ Some w → HasPlaces w
 with_places prec kept [] w a b is = let same : keeps prec kept ≡ w = cc in subst HasPlaces same a
-with_places prec [] (place ∷ []) w a b is = let same : picks place ≡ w = cc in subst HasPlaces same (b 0 (omega arith))
+with_places prec [] (place ∷ []) w a b is = let same : picks place ≡ w = cc in subst HasPlaces same (All-head (λ n. 0 < n) place [] b)
 with_places prec [] (place ∷ other ∷ picked) w a b is = absurd (cc)
-with_places prec (n ∷ kept) (place ∷ picked) w a b is = absurd (cc)
+with_places prec (n ∷ kept) (place ∷ []) w a b is = absurd (cc)
+with_places prec (n ∷ kept) (place ∷ other ∷ picked) w a b is = absurd (cc)
 
 pub places_of_filter : (v : ℕ → Bool) (b x k : ℕ) (w : WrittenFilter) → filter_by v b x k ≡ Some w → HasPlaces w
 places_of_filter v b x k w is =
@@ -104,7 +104,8 @@ with_proper cs prec [] (place ∷ []) w rise is sorted =
     let same : picks place ≡ w = cc in
     subst (λ w. IsProper cs (filter_of w)) same (subst (PicksSort cs) (sym same) sorted)
 with_proper cs prec [] (place ∷ other ∷ picked) w rise is sorted = absurd (cc)
-with_proper cs prec (n ∷ kept) (place ∷ picked) w rise is sorted = absurd (cc)
+with_proper cs prec (n ∷ kept) (place ∷ []) w rise is sorted = absurd (cc)
+with_proper cs prec (n ∷ kept) (place ∷ other ∷ picked) w rise is sorted = absurd (cc)
 
 pub proper_of_filter : (v : ℕ → Bool) (b x : ℕ) (cs : List Ty) (w : WrittenFilter) → filter_by v b x (length cs) ≡ Some w → PicksSort cs w
     → IsProperAsWritten cs w
@@ -173,7 +174,7 @@ pub number_below : (v : ℕ → Bool) (x k : ℕ) → number_from v x k < 2 ^ k
 number_below v x zero = omega arith
 number_below v x (suc k) =
     let rest = number_below v (suc x) k in
-    let double : 2 ^ suc k ≡ 2 * 2 ^ k = refl in
+    let double = pow-suc 2 k in
     omega (arith, rest, double, bit (v x))
   where
     bit : (b : Bool) → (if b then 1 else 0) ≤ 1

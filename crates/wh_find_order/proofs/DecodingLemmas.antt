@@ -75,7 +75,8 @@ low_filter T marked p w low kept [] is =
 low_filter T marked p w low [] (place ∷ []) is =
     let same : picks place ≡ w = some_same is in subst (IsLow (symbol_count T marked)) same tt
 low_filter T marked p w low [] (place ∷ other ∷ picked) is = absurd (cc)
-low_filter T marked p w low (m ∷ kept) (place ∷ picked) is = absurd (cc)
+low_filter T marked p w low (m ∷ kept) (place ∷ []) is = absurd (cc)
+low_filter T marked p w low (m ∷ kept) (place ∷ other ∷ picked) is = absurd (cc)
 
 number_low : (T : TaskData) (marked : List ℕ) (v : ℕ → Bool) (n : ℕ) (w : WrittenFilter) → IsFilterBy T marked v n w → IsLow (symbol_count T marked) w
 number_low T marked v n w h =

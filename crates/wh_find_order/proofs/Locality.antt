@@ -3,7 +3,7 @@ use Rattle.std.proofs.Common.{◌≡◌, ◌≢◌, ◌⊎◌, inl, inr, ℕ, ze
 use Rattle.std.proofs.lemmas.Bool.{cases_Bool, eqb-true}
 use Rattle.std.proofs.lemmas.List.{length-map}
 use Rattle.std.proofs.lemmas.Option.{slice_get_within}
-use Rattle.wh_types.specs.Ty.{Ty}
+use Rattle.wh_types.specs.Ty.{Ty, ◌⇒◌}
 use Rattle.wh_terms.specs.Tree.{Tm, bound, free, fun, meta, lam, app, Tms, none, more, tms_of}
 use Rattle.wh_terms.specs.Typing.{Symbols, Declared, Typed, typed_bound, typed_free, typed_fun, typed_meta, typed_lam, typed_app, AllTyped, typed_none, typed_more}
 use Rattle.wh_terms.specs.Rules.{RewriteRule, IsWellMade}
@@ -37,7 +37,7 @@ module _ (P : ℕ → Type 0) (S : Symbols) where
     only_typed M Γ (meta z ts) A (typed_meta {d = d} e ps i) h = all_typed M Γ ts d.args ps h
     only_typed M Γ (lam a t) A (typed_lam {b = b} s p) h = only_typed M (a ∷ Γ) t b p h
     only_typed M Γ (app t u) A (typed_app {a = a} p q) h =
-        (only_typed M Γ t _ p (λ f less s. h f less (inl s)), only_typed M Γ u a q (λ f less s. h f less (inr s)))
+        (only_typed M Γ t (a ⇒ A) p (λ f less s. h f less (inl s)), only_typed M Γ u a q (λ f less s. h f less (inr s)))
 
     all_typed : (M : List Declared) (Γ : List Ty) (ts : Tms) (As : List Ty) → AllTyped S M Γ ts As
         → ((f : ℕ) → f < length S.funs → SomeHasSymbol f ts → P f) → AllOnly P ts

@@ -23,7 +23,7 @@ use Rattle.wh_inference.specs.Inferences.{Inference, letter_of, same_trees, entr
 use Rattle.wh_inference.specs.InferenceLimits.{InferenceFits}
 use Rattle.wh_inference.specs.FilterText.{WrittenFilter, keeps, picks, FilterFits}
 use Rattle.wh_extended.specs.Filtered.{IncreasingFrom}
-use Rattle.wh_extended.specs.Kinds as k
+use Rattle.wh_extended.specs.Kinds as extended
 use Rattle.wh_ordering.specs.Filterings.{FilteringData, MarkFilter, IsProperAsWritten}
 use Rattle.wh_ordering.specs.Ordering.{IsGoodRule, IsGoodPair, IsStrictWhere, by_inferences, AreNarrow, IsOrdering}
 use Rattle.wh_cert.specs.TermLimits.{IsSmall}
@@ -68,14 +68,14 @@ wide : (a : Ty) → ArgumentsWithin 32 a → length (arguments a) ≤ 32
 wide (sort s) narrow = omega arith
 wide (a ⇒ b) narrow = omega (arith, narrow.0)
 
-type_wide : (sorts : ℕ) (kinds : List Ty) → All (IsTypeOver sorts) kinds → (f : ℕ) → length (arguments (k.type_at kinds f)) ≤ 32
+type_wide : (sorts : ℕ) (kinds : List Ty) → All (IsTypeOver sorts) kinds → (f : ℕ) → length (arguments (extended.type_at kinds f)) ≤ 32
 type_wide sorts [] over f = omega arith
 type_wide sorts (a ∷ kinds) over zero = wide a (All-head (IsTypeOver sorts) a kinds over).narrow
 type_wide sorts (a ∷ kinds) over (suc f) = type_wide sorts kinds (All-tail (IsTypeOver sorts) a kinds over) f
 
 marked_wide : (S : Symbols) (rules : List RewriteRule) (f : ℕ) → All (IsTypeOver S.sorts) S.funs → length (marked_types S rules f) ≤ 32
 marked_wide S rules f over =
-    let h = type_wide S.sorts S.funs over f in omega (arith, h, length-take (unwrap_or (need_of rules f) 0) (arguments (k.type_at S.funs f)))
+    let h = type_wide S.sorts S.funs over f in omega (arith, h, length-take (unwrap_or (need_of rules f) 0) (arguments (extended.type_at S.funs f)))
 
 -- lines that say filters
 

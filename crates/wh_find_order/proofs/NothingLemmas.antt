@@ -1,5 +1,6 @@
 -- Where no bits make all blocked clauses true, no order that is tried lets a pair go: the bits of one that does make each of them true.
 use Rattle.std.proofs.Common.{◌≡◌, inl, inr, ℕ, suc, ◌+◌, ◌<◌, ◌≤◌, Bool, true, false, not, cond, List, [], ◌∷◌, ◌++◌, map, length, get_or, take, Some, slice_get, Contains, refl, ap, sym, subst, ◌∙◌, arith}
+use Rattle.std.proofs.lemmas.List.{length-map}
 use Rattle.wh_terms.specs.Rules.{RewriteRule, IsWellMade}
 use Rattle.wh_pairs.specs.PairData.{PairData}
 use Rattle.wh_pairs.specs.Marked.{AreMarked}
@@ -63,17 +64,10 @@ module _ (T : TaskData) (marked : List ℕ) where
     never_fails : (guess : ℕ → Bool) (c : Condition) → IsOfSet T marked c → FailsUnder T marked guess c
         → ((x : ℕ) → IsBitOf T marked c x → v x ≡ guess x) → ⊥
     never_fails guess (proper m) within fails alike =
-        let long : length (all_filters D) ≡ length (scopes_of T marked) =
-        filters_long D ∙ (let a = here.count in let b = marks_long in omega (arith, a, b, count_is T marked)) in
-        let (w, at) = some_at (all_filters D) m (omega (arith, within, long)) in
+        let marks_long : length D.marks ≡ length marked = sym (length-map D.marks (λ (m : MarkFilter). m.symbol)) ∙ ap length here.marks in
+        let low : m < length (all_filters D) = omega (arith, within, filters_long D, here.count, marks_long, count_is T marked) in
+        let (w, at) = some_at (all_filters D) m low in
         fails w (filter_moved T marked v guess m (λ x low high. alike x (m, refl, low, high)) w (here.each m w at))
-      where
-        marks_long : length D.marks ≡ length marked
-        marks_long = sym (length_of D.marks) ∙ ap length here.marks
-          where
-            length_of : (ms : List MarkFilter) → length (map (λ (m : MarkFilter). m.symbol) ms) ≡ length ms
-            length_of [] = refl
-            length_of (m ∷ ms) = ap suc (length_of ms)
     never_fails guess (line c) (k, is) (E, there, fails) alike =
         fails (meets_moved T marked made typed D E (order_filters T marked D of here.marks) there.count here.marks there.marks k c is
         (λ m w u uses at also.

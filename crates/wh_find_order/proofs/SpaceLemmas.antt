@@ -17,7 +17,7 @@ use Rattle.wh_guesses.specs.Coefficients.{scopes_of}
 use Rattle.wh_order_space.specs.Space.{symbol_count, IsLow, IsOfSpace}
 use Rattle.wh_order_space.specs.Bits.{bits_of, first_bit, precedence_bits, filter_by, number_from, bit_from, IsFilterBy, IsWritten}
 use Rattle.wh_find_order.proofs.BitLemmas.{first_next, filter_alike, precedence_alike}
-use Rattle.wh_find_order.proofs.WrittenOrders.{prec_of, order_bit, order_bits, filter_written, precedence_written, length_enough}
+use Rattle.wh_find_order.proofs.WrittenOrders.{prec_of, order_bit, order_bits, filter_written, precedence_written, length_holds}
 
 pub some_same : {A : Type 0} {x y : A} → Some x ≡ Some y → x ≡ y
 some_same e = cc
@@ -111,7 +111,7 @@ module _ (T : TaskData) (marked : List ℕ) (D : FilteringData) (of : IsOfSpace 
       let good = each_good n w at in
       let within = slice_get_within (scopes_of T marked) n good.types good.is in
       let low = low_prec n w (omega (arith, within, count_is T marked)) good.low in
-      let enough = length_enough (symbol_count T marked) (symbol_count T marked - 1) (omega arith) in
+      let enough = length_holds (symbol_count T marked) (symbol_count T marked - 1) (omega arith) in
       let fits : prec_of w < 2 ^ b = omega (arith, low, enough) in
       let is = order_bits b (scopes_of T marked) (all_filters D) n good.types w good.is at in record {
         types = good.types;

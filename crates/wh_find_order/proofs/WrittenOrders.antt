@@ -1,5 +1,6 @@
 -- Each order that is tried is written by some bits.
 use Rattle.std.proofs.Common.{◌≡◌, ℕ, zero, suc, ◌+◌, ◌-◌, ◌*◌, ◌/◌, ◌<◌, ◌≤◌, ◌^◌, ◌==◌, nat_lt, inl, inr, Bool, true, false, if◌then◌else◌, List, [], ◌∷◌, ◌++◌, length, map, Option, None, Some, slice_get, All, refl, ap, ap₂, sym, subst, ◌∙◌, arith}
+use Rattle.std.proofs.Math.Nat.{pow-suc}
 use Rattle.std.proofs.lemmas.Bool.{cases_eq, eq-eqb, ne_eqb, lt-ltb, le-ltb, false≢true}
 use Rattle.std.proofs.lemmas.List.Elements.{All-head, All-tail}
 use Rattle.wh_types.specs.Ty.{Ty, sort}
@@ -11,12 +12,12 @@ use Rattle.wh_order_space.specs.Bits.{binary_length, bits_of, first_bit, places_
 
 -- half a number, and whether it is odd
 
-abbrev odd : ℕ → Bool
+abbrev pub odd : ℕ → Bool
 odd zero = false
 odd (suc zero) = true
 odd (suc (suc n)) = odd n
 
-abbrev half : ℕ → ℕ
+abbrev pub half : ℕ → ℕ
 half zero = 0
 half (suc zero) = 0
 half (suc (suc n)) = suc (half n)
@@ -30,7 +31,7 @@ half_below : (n m : ℕ) → n < 2 * m → half n < m
 half_below n m below = omega (arith, halves n, below)
 
 -- the bits of a number, the lowest one first
-abbrev binary : ℕ → ℕ → Bool
+abbrev pub binary : ℕ → ℕ → Bool
 binary n zero = odd n
 binary n (suc y) = binary (half n) y
 
@@ -39,7 +40,7 @@ number_is v x zero p low is = omega (arith, low)
 number_is v x (suc b) p low is =
     let e : x + 0 ≡ x = omega arith in
     let first : v x ≡ odd p = sym (ap v e) ∙ is 0 (omega arith) in
-    let double : 2 ^ suc b ≡ 2 * 2 ^ b = refl in
+    let double = pow-suc 2 b in
     let rest : number_from v (suc x) b ≡ half p = number_is v (suc x) b (half p) (half_below p (2 ^ b) (omega (arith, low, double))) (λ y below.
     let f : suc x + y ≡ x + suc y = omega arith in
     ap v f ∙ is (suc y) (omega (arith, below))) in
@@ -50,23 +51,23 @@ number_is v x (suc b) p low is =
 div_two : (n : ℕ) → n < 2 * (n / 2) + 2
 div_two n = omega arith
 
-length_enough : (most n : ℕ) → n ≤ most → n < 2 ^ binary_length most n
-length_enough zero n small = omega (arith, small)
-length_enough (suc most) n small = elim (cases_eq n 0) [
+pub length_holds : (most n : ℕ) → n ≤ most → n < 2 ^ binary_length most n
+length_holds zero n small = omega (arith, small)
+length_holds (suc most) n small = elim (cases_eq n 0) [
   | inl none ↦
       let e = eq-eqb n 0 none in
       subst (λ c. n < 2 ^ (if c then 0 else suc (binary_length most (n / 2)))) (sym e) (omega (arith, none))
   | inr some ↦
       let e = ne_eqb n 0 some in
       let less : n / 2 ≤ most = omega (arith, small, some) in
-      let rest = length_enough most (n / 2) less in
-      let double : 2 ^ suc (binary_length most (n / 2)) ≡ 2 * 2 ^ binary_length most (n / 2) = refl in
+      let rest = length_holds most (n / 2) less in
+      let double = pow-suc 2 (binary_length most (n / 2)) in
       subst (λ c. n < 2 ^ (if c then 0 else suc (binary_length most (n / 2)))) (sym e) (omega (arith, rest, double, div_two n))
 ]
 
 -- the places of a list, one bit for each
 
-abbrev member : ℕ → List ℕ → Bool
+abbrev pub member : ℕ → List ℕ → Bool
 member n [] = false
 member n (m ∷ ms) = if m == n then true else member n ms
 
@@ -121,11 +122,11 @@ places_are v x from (suc k) n (m ∷ ms) sum rise is = elim (cases_eq m (suc fro
 
 -- what a filter keeps and what it picks, and its precedence
 
-abbrev kept : WrittenFilter → List ℕ
+abbrev pub kept : WrittenFilter → List ℕ
 kept (keeps prec ns) = ns
 kept (picks n) = []
 
-abbrev picked : WrittenFilter → List ℕ
+abbrev pub picked : WrittenFilter → List ℕ
 picked (keeps prec ns) = []
 picked (picks n) = n ∷ []
 
@@ -156,7 +157,7 @@ picked_rise cs (picks n) h =
     (some, omega (arith, some, within), tt)
 
 -- the bits of a filter for a symbol with k arguments
-abbrev filter_bit : ℕ → WrittenFilter → ℕ → Bool
+abbrev pub filter_bit : ℕ → WrittenFilter → ℕ → Bool
 filter_bit k w y =
     if nat_lt y k then member (suc y) (kept w) else if nat_lt (y - k) k then member (suc (y - k)) (picked w) else binary (prec_of w) ((y - k) - k)
 
