@@ -112,7 +112,7 @@ pub proper_of_filter : (v : ℕ → Bool) (b x : ℕ) (cs : List Ty) (w : Writte
 proper_of_filter v b x cs w is sorted =
     let k = length cs in record {
       counted = places_of_filter v b x k w is;
-      proper = with_proper cs (number_from v (k + (k + x)) b) (places_from v x 1 k) (places_from v (k + x) 1 k) w (places_rise v x 0 k k refl) is sorted;
+      proper = with_proper cs (number_from v (k + (k + x)) b) (places_from v x 1 k) (places_from v (k + x) 1 k) w (places_rise v x 0 k k (omega arith)) is sorted;
     }
 
 -- and where it is proper, it picks a sort

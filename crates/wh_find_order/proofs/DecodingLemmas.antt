@@ -58,7 +58,9 @@ order_is e v filters count marks funs others = record {
   count = length-map filters.funs written_filter ∙ count;
   marks = map-map (λ (m : f.MarkFilter). m.symbol) mark_filter filters.marks ∙ marks;
   each = λ n w found. elim (at_append (map written_filter filters.funs) (map (λ (m : f.MarkFilter). m.filter) (map mark_filter filters.marks)) n w found) [
-    | inl early ↦ funs n w early
+    | inl early ↦
+        let same : 0 + n ≡ n = omega arith in
+        subst (λ m. IsFilterBy (task_in e) e.marked.now v m w) same (funs n w early)
     | inr (i, n_is, late) ↦
         let place : n ≡ symbols_in e + i = omega (arith, n_is, length-map filters.funs written_filter, count) in
         subst (λ m. IsFilterBy (task_in e) e.marked.now v m w) (sym place)

@@ -195,12 +195,15 @@ module _ (v : ℕ → Bool) (b x : ℕ) (cs : List Ty) (w : WrittenFilter) (prop
       ap v e ∙ is (k + (k + y)) (omega (arith, below)) ∙ in_precedence k w y)
 
   kept_written : places_from v x 1 k ≡ kept w
-  kept_written = places_are v x 0 k k (kept w) refl (kept_rise cs w proper) (λ y below. is y (omega (arith, below)) ∙ in_kept k w y below)
+  kept_written = places_are v x 0 k k (kept w) (omega arith) (kept_rise cs w proper) (λ y below.
+      let f : suc y ≡ 1 + y = omega arith in
+      is y (omega (arith, below)) ∙ in_kept k w y below ∙ ap (λ c. member c (kept w)) f)
 
   picked_written : places_from v (k + x) 1 k ≡ picked w
-  picked_written = places_are v (k + x) 0 k k (picked w) refl (picked_rise cs w proper) (λ y below.
+  picked_written = places_are v (k + x) 0 k k (picked w) (omega arith) (picked_rise cs w proper) (λ y below.
       let e : (k + x) + y ≡ x + (k + y) = omega arith in
-      ap v e ∙ is (k + y) (omega (arith, below)) ∙ in_picked k w y below)
+      let f : suc y ≡ 1 + y = omega arith in
+      ap v e ∙ is (k + y) (omega (arith, below)) ∙ in_picked k w y below ∙ ap (λ c. member c (picked w)) f)
 
   pub filter_written : filter_by v b x k ≡ Some w
   filter_written =

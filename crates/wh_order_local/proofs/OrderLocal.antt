@@ -45,10 +45,11 @@ module _ (S : Symbols) (rules : List RewriteRule) (D E : FilteringData) where
 
   alike : (f : ℕ) → HasSame f
       → IsAlike (filtered_signature S rules D) (filtered_signature S rules E) (precedences_of S D) (precedences_of S E) f
-  alike f same = record {
-    types = kept_alike (filters_of S D) (filters_of S E) 0 (argument_types S rules) f same;
-    precedences = ap precedence same;
-  }
+  alike f same =
+      let e : f ≡ 0 + f = omega arith in record {
+        types = kept_alike (filters_of S D) (filters_of S E) 0 (argument_types S rules) f (subst (λ n. filters_of S D n ≡ filters_of S E n) e same);
+        precedences = ap precedence same;
+      }
 
   module _ (filters : AreFilters S rules D) where
     places : (f : ℕ) → f < length S.funs → IsPlaced (symbol_arity S f) (filters_of S D f)
