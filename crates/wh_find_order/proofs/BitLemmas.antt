@@ -1,14 +1,13 @@
 -- What bits write depends only on their values, and is proper but for the type of a place that is picked.
-use Rattle.std.proofs.Common.{◌≡◌, ℕ, zero, suc, ◌+◌, ◌-◌, ◌*◌, ◌/◌, ◌<◌, ◌≤◌, ◌^◌, ◌==◌, inl, inr, Bool, true, false, if◌then◌else◌, List, [], ◌∷◌, ◌++◌, length, map, get_or, Option, None, Some, All, refl, ap, ap₂, sym, subst, ◌∙◌, append_assoc, arith}
+use Rattle.std.proofs.Common.{◌≡◌, ℕ, zero, suc, ◌+◌, ◌-◌, ◌*◌, ◌<◌, ◌≤◌, ◌^◌, Bool, true, false, if◌then◌else◌, List, [], ◌∷◌, ◌++◌, length, map, get_or, Some, All, refl, ap, ap₂, sym, subst, ◌∙◌, append_assoc, arith}
 use Rattle.std.proofs.Math.Nat.{pow-suc}
-use Rattle.std.proofs.lemmas.Bool.{cases_Bool}
 use Rattle.std.proofs.lemmas.List.{append-nil}
 use Rattle.std.proofs.lemmas.List.Elements.{All-nil, All-cons, All-head}
 use Rattle.wh_types.specs.Ty.{Ty}
 use Rattle.wh_inference.specs.FilterText.{WrittenFilter, keeps, picks, filter_of}
 use Rattle.wh_extended.specs.Filtered.{IncreasingFrom, IsProper}
 use Rattle.wh_ordering.specs.Filterings.{HasPlaces, IsProperAsWritten}
-use Rattle.wh_order_space.specs.Bits.{binary_length, bits_of, first_bit, bit_count, places_from, number_from, filter_with, filter_by}
+use Rattle.wh_order_space.specs.Bits.{bits_of, first_bit, bit_count, places_from, number_from, filter_with, filter_by}
 use Rattle.wh_find_order.specs.Encodings.{PicksSort}
 
 -- bits that agree write the same

@@ -1,32 +1,29 @@
 -- Filters that bits write, one symbol after another.
-use Rattle.std.proofs.Common.{◌≡◌, ℕ, zero, suc, ◌+◌, ◌*◌, ◌<◌, ◌≤◌, ◌^◌, inl, inr, Bool, None, Some, List, [], ◌∷◌, ◌++◌, length, map, get_or, slice_get, All, Contains, refl, ap, ap₂, sym, subst, ◌∙◌, arith}
-use Rattle.std.proofs.lemmas.List.{length-map, length-append, map-append, length_push}
+use Rattle.std.proofs.Common.{◌≡◌, ℕ, zero, suc, ◌+◌, ◌*◌, ◌<◌, ◌≤◌, inl, inr, Bool, None, Some, List, [], ◌∷◌, ◌++◌, length, map, get_or, slice_get, ap, sym, subst, ◌∙◌, arith}
+use Rattle.std.proofs.lemmas.List.{length-map}
 use Rattle.std.proofs.lemmas.Option.{slice_get-get_or, slice_get_within}
 use Rattle.std.specs.Global.{Vec}
-use Rattle.wh_types.specs.Ty.{Ty, sort, arguments}
+use Rattle.wh_types.specs.Ty.{Ty, arguments}
 use Rattle.wh_types.specs.Erase.{tys}
 use Rattle.wh_types.specs.declared.simple_type.SimpleType.{SimpleType}
-use Rattle.wh_pairs.proofs.ByPlace.{unmap, remap, contains_at, some_one}
+use Rattle.wh_pairs.proofs.ByPlace.{remap, some_one}
 use Rattle.wh_pairs.proofs.ListLemmas.{map-map}
 use Rattle.wh_pairs.proofs.SetLemmas.{all_from_members}
 use Rattle.wh_pairs.specs.Marked.{AreMarked}
 use Rattle.wh_pairs.proofs.ByPlace as by
 use Rattle.wh_reduction.specs.TaskData.{TaskData}
 use Rattle.wh_polycheck.specs.Marks.{marked_types}
-use Rattle.wh_inference.specs.FilterText.{WrittenFilter, keeps, picks, filter_of}
+use Rattle.wh_inference.specs.FilterText.{WrittenFilter, keeps, picks}
 use Rattle.wh_inference.specs.Said.{written_filter}
-use Rattle.wh_inference.specs.declared.filter.Filter.{Filter}
 use Rattle.wh_ordering.specs.Filterings as f
 use Rattle.wh_ordering.specs.Filterings.{FilteringData, IsProperAsWritten}
 use Rattle.wh_ordering.specs.FilteringView.{mark_filter, filtering_data}
 use Rattle.wh_ordering.specs.declared.filters.Filters.{Filters}
 use Rattle.wh_ordering.specs.declared.filters.MarkFilter.{MarkFilter}
 use Rattle.wh_space.proofs.SpotLemmas.{at_append}
-use Rattle.wh_guesses.specs.Coefficients.{scopes_of}
-use Rattle.wh_blocking.specs.Sizes.{value_of}
 use Rattle.wh_order_space.specs.Space.{symbol_count, IsLow}
-use Rattle.wh_order_space.specs.Bits.{bits_of, bit_count, first_bit, precedence_bits, filter_by, filter_with, number_from, places_from, bit_from, IsFilterBy, IsWritten}
-use Rattle.wh_find_order.specs.Encodings.{types_in, task_in, symbols_in, scopes_for, bits_for, PicksSort, IsEncoding, AreFiltersFrom}
+use Rattle.wh_order_space.specs.Bits.{bits_of, precedence_bits, filter_by, filter_with, number_from, places_from, bit_from, IsFilterBy, IsWritten}
+use Rattle.wh_find_order.specs.Encodings.{task_in, symbols_in, scopes_for, bits_for, PicksSort, IsEncoding, AreFiltersFrom}
 use Rattle.wh_find_order.specs.Trials.{IsTried}
 use Rattle.wh_find_order.specs.declared.encoding.Encoding.{Encoding}
 use Rattle.wh_find_order.proofs.BitLemmas.{first_next, first_within, proper_of_filter, picks_of_proper}

@@ -1,28 +1,26 @@
 -- What a condition on lines comes to depends only on the filters of what is used in it.
-use Rattle.std.proofs.Common.{◌≡◌, ◌≢◌, ◌⊎◌, inl, inr, ℕ, zero, suc, ◌+◌, ◌<◌, ◌==◌, Bool, true, false, cond, List, [], ◌∷◌, ◌++◌, length, map, Some, slice_get, Contains, refl, ap, ap₂, sym, subst, ◌∙◌, arith}
+use Rattle.std.proofs.Common.{◌≡◌, ◌⊎◌, inl, inr, ℕ, zero, suc, ◌+◌, ◌<◌, ◌==◌, cond, List, [], ◌∷◌, ◌++◌, length, map, Some, slice_get, Contains, refl, ap, sym, ◌∙◌, arith}
 use Rattle.std.proofs.lemmas.Bool.{cases_Bool, eqb-true}
-use Rattle.std.proofs.lemmas.List.{length-map}
 use Rattle.std.proofs.lemmas.Option.{slice_get_within}
 use Rattle.wh_types.specs.Ty.{Ty, ◌⇒◌}
 use Rattle.wh_terms.specs.Tree.{Tm, bound, free, fun, meta, lam, app, Tms, none, more, tms_of}
-use Rattle.wh_terms.specs.Typing.{Symbols, Declared, Typed, typed_bound, typed_free, typed_fun, typed_meta, typed_lam, typed_app, AllTyped, typed_none, typed_more}
+use Rattle.wh_terms.specs.Typing.{Symbols, Declared, Typed, typed_fun, typed_meta, typed_lam, typed_app, AllTyped, typed_more}
 use Rattle.wh_terms.specs.Rules.{RewriteRule, IsWellMade}
 use Rattle.wh_pairs.specs.PairData.{PairData}
-use Rattle.wh_pairs.specs.Marked.{AreMarked, HeadsASide}
-use Rattle.wh_pairs.specs.Sets.{InSet}
-use Rattle.wh_pairs.proofs.ByPlace.{contains_at, place_of, unmap, remap}
+use Rattle.wh_pairs.specs.Marked.{HeadsASide}
+use Rattle.wh_pairs.proofs.ByPlace.{contains_at, remap}
 use Rattle.wh_reduction.specs.TaskData.{TaskData}
 use Rattle.wh_polycheck.specs.Marks.{marked_types}
 use Rattle.wh_inference.specs.FilterText.{WrittenFilter, filter_of}
 use Rattle.wh_inference.specs.Inferences.{Inference}
 use Rattle.wh_ordering.specs.Ordering.{IsGoodPair}
 use Rattle.wh_extended.specs.ExtendedSides.{marked_number}
-use Rattle.wh_ordering.specs.Filterings.{FilteringData, MarkFilter, filters_of, mark_among}
+use Rattle.wh_ordering.specs.Filterings.{FilteringData, MarkFilter, mark_among}
 use Rattle.wh_order.specs.TreeSides.{AreFilters, HasTypedCalls}
 use Rattle.wh_order.proofs.FilterLemmas.{symbol_filter, mark_filter_of}
 use Rattle.wh_order_local.specs.Only.{Only, AllOnly}
 use Rattle.wh_order_local.proofs.OrderLocal.{HasSame, rule_alike, pair_alike}
-use Rattle.wh_guesses.specs.Conditions.{Condition, covers_rule, covers_pair, some_strictly, IsCondition, of_rule, of_pair, of_set, HasSymbol, SomeHasSymbol, StandsInPair, UsesSymbol, UsesMark, UsesNumber}
+use Rattle.wh_guesses.specs.Conditions.{Condition, covers_rule, covers_pair, some_strictly, IsCondition, of_rule, of_pair, HasSymbol, SomeHasSymbol, StandsInPair, UsesSymbol, UsesMark, UsesNumber}
 use Rattle.wh_order_lines.specs.Oriented.{OrientsRule, OrientsPair, OrientsStrictly}
 use Rattle.wh_order_space.specs.Space.{Meets}
 use Rattle.wh_find_order.proofs.SpaceLemmas.{all_filters, at_front}

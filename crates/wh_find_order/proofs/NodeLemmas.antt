@@ -1,5 +1,5 @@
 -- The node of an order under which all lines are found, and the conditions that fail.
-use Rattle.std.proofs.Common.{◌≡◌, ◌≢◌, ℕ, zero, suc, ◌+◌, ◌-◌, ◌<◌, ◌≤◌, ◌^◌, inl, inr, Bool, true, false, List, [], ◌∷◌, length, map, Some, slice_get, All, Contains, refl, ap, sym, subst, ◌∙◌, arith}
+use Rattle.std.proofs.Common.{◌≡◌, ◌≢◌, ℕ, zero, suc, ◌+◌, ◌-◌, ◌<◌, ◌≤◌, ◌^◌, true, false, List, [], ◌∷◌, length, map, Some, slice_get, All, Contains, refl, ap, sym, subst, ◌∙◌, arith}
 use Rattle.std.proofs.lemmas.List.{length-map, length-take}
 use Rattle.std.proofs.lemmas.List.Elements.{All-nil, All-cons, All-head, All-tail, All-contains}
 use Rattle.std.proofs.lemmas.Option.{slice_get_within}
@@ -11,21 +11,21 @@ use Rattle.wh_terms.specs.Rules.{RewriteRule}
 use Rattle.wh_system.specs.Needs.{need_of}
 use Rattle.wh_system.specs.Systems.{SystemData}
 use Rattle.wh_system.specs.WellMade.{ArgumentsWithin, IsTypeOver, IsWellMadeSystem}
-use Rattle.wh_pairs.specs.PairData.{PairData, IsIncreasing}
+use Rattle.wh_pairs.specs.PairData.{PairData}
 use Rattle.wh_pairs.proofs.Increasing.{one_place}
 use Rattle.wh_pairs.proofs.ByPlace.{contains_at, place_of, unmap, remap}
 use Rattle.wh_pairs.proofs.SetLemmas.{all_from_members}
 use Rattle.wh_reduction.specs.TaskData.{TaskData, IsTask}
-use Rattle.wh_reduction.specs.ReductionPair.{Evidence, IsRightRule, IsRightPair, IsReductionPair}
+use Rattle.wh_reduction.specs.ReductionPair.{Evidence, IsRightRule, IsRightPair}
 use Rattle.wh_reduction.proofs.Numbers.{numbers_length}
 use Rattle.wh_polycheck.specs.Marks.{marked_types}
-use Rattle.wh_inference.specs.Inferences.{Inference, letter_of, same_trees, entries}
+use Rattle.wh_inference.specs.Inferences.{Inference, entries}
 use Rattle.wh_inference.specs.InferenceLimits.{InferenceFits}
 use Rattle.wh_inference.specs.FilterText.{WrittenFilter, keeps, picks, FilterFits}
 use Rattle.wh_extended.specs.Filtered.{IncreasingFrom}
 use Rattle.wh_extended.specs.Kinds as extended
 use Rattle.wh_ordering.specs.Filterings.{FilteringData, MarkFilter, IsProperAsWritten}
-use Rattle.wh_ordering.specs.Ordering.{IsGoodRule, IsGoodPair, IsStrictWhere, by_inferences, AreNarrow, IsOrdering}
+use Rattle.wh_ordering.specs.Ordering.{IsGoodRule, IsGoodPair, by_inferences, AreNarrow, IsOrdering}
 use Rattle.wh_cert.specs.TermLimits.{IsSmall}
 use Rattle.wh_cert.specs.Written as w
 use Rattle.wh_cert.specs.Limits.{FilteringFits, FilterWithin, NodeFits, NodeWithin}
@@ -35,10 +35,10 @@ use Rattle.wh_covering.proofs.Walks.{some_at}
 use Rattle.wh_guesses.specs.Conditions.{covers_rule, covers_pair, some_strictly, of_rule, of_pair, of_set}
 use Rattle.wh_guesses.specs.Found.{task_of}
 use Rattle.wh_guesses.proofs.IncreasingLemmas.{few_increasing}
-use Rattle.wh_order_lines.specs.Oriented.{IsWithin, MeetsStrictly}
+use Rattle.wh_order_lines.specs.Oriented.{IsWithin}
 use Rattle.wh_order_lines.specs.OrderLines.{IsRuleLine}
 use Rattle.wh_order_lines.specs.OrderWalks.{AreRuleLines, ArePairLines, IsDropped, IsFailingRule, IsFailingPair}
-use Rattle.wh_order_space.specs.Space.{IsLow, IsOfSpace, LetsGo}
+use Rattle.wh_order_space.specs.Space.{IsLow, IsOfSpace}
 use Rattle.wh_find_order.specs.Answers.{IsOrder}
 use Rattle.wh_find_order.specs.Trials.{IsTried, Fails}
 

@@ -1,12 +1,11 @@
 -- Where no bits make all blocked clauses true, no order that is tried lets a pair go: the bits of one that does make each of them true.
-use Rattle.std.proofs.Common.{◌≡◌, inl, inr, ℕ, suc, ◌+◌, ◌<◌, ◌≤◌, Bool, true, false, not, cond, List, [], ◌∷◌, ◌++◌, map, length, get_or, take, Some, slice_get, Contains, refl, ap, sym, subst, ◌∙◌, arith}
+use Rattle.std.proofs.Common.{◌≡◌, inl, inr, ℕ, ◌<◌, Bool, true, false, not, cond, List, [], map, length, get_or, take, Contains, refl, ap, sym, subst, ◌∙◌, arith}
 use Rattle.std.proofs.lemmas.List.{length-map}
 use Rattle.wh_terms.specs.Rules.{RewriteRule, IsWellMade}
 use Rattle.wh_pairs.specs.PairData.{PairData}
 use Rattle.wh_pairs.specs.Marked.{AreMarked}
-use Rattle.wh_pairs.proofs.ByPlace.{contains_at, some_one}
+use Rattle.wh_pairs.proofs.ByPlace.{contains_at}
 use Rattle.wh_reduction.specs.TaskData.{TaskData}
-use Rattle.wh_inference.specs.FilterText.{WrittenFilter}
 use Rattle.wh_ordering.specs.Filterings.{FilteringData, MarkFilter}
 use Rattle.wh_order.specs.TreeSides.{HasTypedCalls}
 use Rattle.wh_proof.proofs.InterpretationLemmas.{marked_one}
@@ -15,11 +14,10 @@ use Rattle.wh_sat_trail.specs.declared.literal.Literal.{Literal}
 use Rattle.wh_sat.specs.Learning.{Has}
 use Rattle.wh_sat.specs.Solving.{SolvesGiven, clause_true, literal_true}
 use Rattle.wh_sat.proofs.Assuring.{cases_bool, all_false}
-use Rattle.wh_guesses.specs.Coefficients.{scopes_of}
 use Rattle.wh_guesses.specs.Conditions as g
-use Rattle.wh_guesses.specs.Conditions.{covers_rule, covers_pair, some_strictly, IsCondition, of_rule, of_pair, of_set, UsesNumber}
-use Rattle.wh_order_space.specs.Space.{symbol_count, IsOfSpace, Meets, LetsGo, HasNoOrder}
-use Rattle.wh_order_space.specs.Bits.{bit_from, IsFilterBy, IsWritten}
+use Rattle.wh_guesses.specs.Conditions.{covers_rule, covers_pair, some_strictly, IsCondition, of_rule, of_pair, of_set}
+use Rattle.wh_order_space.specs.Space.{IsOfSpace, Meets, LetsGo, HasNoOrder}
+use Rattle.wh_order_space.specs.Bits.{IsWritten}
 use Rattle.wh_find_order.specs.Tried.{Condition, proper, line, IsOfSet, IsBitOf, FailsUnder, IsBlocked}
 use Rattle.wh_find_order.proofs.SpaceLemmas.{all_filters, filters_long, count_is, order_written, order_filters, filter_moved, one_filter}
 use Rattle.wh_find_order.proofs.Locality.{meets_moved}

@@ -1,10 +1,9 @@
 -- What the search by guesses keeps, and what it ends with.
-use Rattle.std.proofs.Common.{◌≡◌, ◌↔◌, ℕ, suc, ◌+◌, ◌<◌, ◌≤◌, inl, inr, Bool, false, List, [], ◌∷◌, ◌++◌, length, get_or, take, map, Some, slice_get, All, Contains, refl, ap, sym, subst, ◌∙◌, arith}
+use Rattle.std.proofs.Common.{◌≡◌, ◌↔◌, ℕ, suc, ◌+◌, ◌<◌, inl, inr, Bool, false, List, [], ◌∷◌, ◌++◌, length, get_or, take, Some, slice_get, All, Contains, refl, ap, sym, subst, ◌∙◌, arith}
 use Rattle.std.specs.Global.{Vec}
 use Rattle.std.specs.List.{flat_map}
 use Rattle.std.proofs.lemmas.Bool.{cases_Bool}
-use Rattle.std.proofs.lemmas.List.Elements.{All-nil, All-cons}
-use Rattle.wh_terms.specs.Rules.{RewriteRule, IsWellMade}
+use Rattle.wh_terms.specs.Rules.{RewriteRule}
 use Rattle.wh_pairs.specs.PairData.{PairData}
 use Rattle.wh_pairs.proofs.MemberLemmas.{at_head, behind}
 use Rattle.wh_pairs.proofs.SetLemmas.{all_from_members}
@@ -16,13 +15,13 @@ use Rattle.wh_terms.specs.Typing.{Symbols}
 use Rattle.wh_order.specs.TreeSides.{HasTypedCalls}
 use Rattle.wh_sat_trail.specs.declared.literal.Literal.{Literal}
 use Rattle.wh_sat_trail.specs.Assignment.{AllBelow}
-use Rattle.wh_sat.specs.Learning.{Has, IsLearnt}
-use Rattle.wh_sat.specs.Solving.{Solves, SolvesGiven, literal_true}
+use Rattle.wh_sat.specs.Learning.{IsLearnt}
+use Rattle.wh_sat.specs.Solving.{Solves, SolvesGiven}
 use Rattle.wh_sat.specs.State.{Extends, Sound, clauses_of, variables_of}
 use Rattle.wh_sat.specs.declared.learner.Learner.{Learner}
 use Rattle.wh_sat.proofs.Clashing.{at_place}
 use Rattle.wh_guesses.specs.Conditions as g
-use Rattle.wh_guesses.specs.Conditions.{IsCondition, UsesNumber}
+use Rattle.wh_guesses.specs.Conditions.{IsCondition}
 use Rattle.wh_guesses.specs.Found.{task_of}
 use Rattle.wh_guesses.proofs.NodeLemmas.{whole_is}
 use Rattle.wh_blocking.specs.Literals.{literals_on}
@@ -30,10 +29,10 @@ use Rattle.wh_blocking.proofs.BlockingLemmas.{given_extends, given_push}
 use Rattle.wh_blocking.proofs.EncodingLemmas.{uses_within, via}
 use Rattle.wh_blocking.proofs.LiteralLemmas.{IsAmong, literals_are}
 use Rattle.wh_order_space.specs.Space.{HasNoOrder}
-use Rattle.wh_order_space.specs.Bits.{bit_count, first_bit}
+use Rattle.wh_order_space.specs.Bits.{bit_count}
 use Rattle.wh_find_order.specs.Answers.{IsSpent}
 use Rattle.wh_find_order.specs.Tried.{Condition, proper, line, Uses, IsOfSet, IsBitOf, FailsUnder, IsBlocked, Tried}
-use Rattle.wh_find_order.specs.Encodings.{system_in, task_in, scopes_for, bits_for, HasNoFilter, IsEncoding, IsBlocking}
+use Rattle.wh_find_order.specs.Encodings.{system_in, task_in, scopes_for, bits_for, IsEncoding, IsBlocking}
 use Rattle.wh_find_order.specs.declared.encoding.Encoding.{Encoding}
 use Rattle.wh_find_order.proofs.BitLemmas.{first_within}
 use Rattle.wh_find_order.proofs.NothingLemmas.{nothing}

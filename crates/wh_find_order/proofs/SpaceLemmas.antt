@@ -1,9 +1,9 @@
 -- The filters of an order by the numbers of the symbols, and the bits that write them.
-use Rattle.std.proofs.Common.{◌≡◌, ℕ, zero, suc, ◌+◌, ◌-◌, ◌*◌, ◌<◌, ◌≤◌, ◌^◌, inl, inr, Bool, List, [], ◌∷◌, ◌++◌, length, map, Some, slice_get, All, Contains, refl, ap, ap₂, sym, subst, ◌∙◌, arith}
+use Rattle.std.proofs.Common.{◌≡◌, ℕ, zero, suc, ◌+◌, ◌-◌, ◌*◌, ◌<◌, ◌≤◌, ◌^◌, inl, inr, Bool, List, [], ◌∷◌, ◌++◌, length, map, Some, slice_get, ap, ap₂, sym, subst, ◌∙◌, arith}
 use Rattle.std.proofs.lemmas.List.{length-map, length-append}
 use Rattle.std.proofs.lemmas.List.Elements.{All-contains}
 use Rattle.std.proofs.lemmas.Option.{slice_get-get_or, slice_get_within}
-use Rattle.wh_types.specs.Ty.{Ty, sort, arguments}
+use Rattle.wh_types.specs.Ty.{Ty, arguments}
 use Rattle.wh_pairs.proofs.ByPlace.{contains_at, unmap, remap, some_one}
 use Rattle.wh_reduction.specs.TaskData.{TaskData}
 use Rattle.wh_polycheck.specs.Marks.{marked_types}
@@ -15,7 +15,7 @@ use Rattle.wh_space.proofs.SpotLemmas.{at_append}
 use Rattle.wh_covering.proofs.Walks.{some_at}
 use Rattle.wh_guesses.specs.Coefficients.{scopes_of}
 use Rattle.wh_order_space.specs.Space.{symbol_count, IsLow, IsOfSpace}
-use Rattle.wh_order_space.specs.Bits.{bits_of, first_bit, precedence_bits, filter_by, number_from, bit_from, IsFilterBy, IsWritten}
+use Rattle.wh_order_space.specs.Bits.{bits_of, precedence_bits, filter_by, bit_from, IsFilterBy, IsWritten}
 use Rattle.wh_find_order.proofs.BitLemmas.{first_next, filter_alike, precedence_alike}
 use Rattle.wh_find_order.proofs.WrittenOrders.{prec_of, order_bit, order_bits, filter_written, precedence_written, length_holds}
 

@@ -1,7 +1,7 @@
 -- The tables of the bits and of what is used.
-use Rattle.std.proofs.Common.{◌≡◌, ℕ, zero, suc, ◌+◌, ◌-◌, ◌*◌, ◌/◌, ◌<◌, ◌≤◌, ◌==◌, inl, inr, if◌then◌else◌, List, [], ◌∷◌, ◌++◌, length, map, get_or, refl, ap, ap₂, sym, subst, ◌∙◌, arith}
+use Rattle.std.proofs.Common.{◌≡◌, ℕ, zero, suc, ◌+◌, ◌-◌, ◌*◌, ◌/◌, ◌<◌, ◌≤◌, inl, inr, if◌then◌else◌, List, [], ◌∷◌, ◌++◌, length, get_or, refl, ap, ap₂, sym, subst, ◌∙◌, arith}
 use Rattle.std.specs.Global.{Vec}
-use Rattle.std.proofs.lemmas.Bool.{cases_eq, eq-eqb, ne_eqb}
+use Rattle.std.proofs.lemmas.Bool.{cases_eq, ne_eqb}
 use Rattle.std.proofs.lemmas.List.{get_or_push, get_or_append_left, length-map}
 use Rattle.wh_types.specs.Erase.{tys}
 use Rattle.wh_types.specs.declared.simple_type.SimpleType.{SimpleType}
@@ -13,7 +13,7 @@ use Rattle.wh_guesses.specs.declared.uses.Uses.{Uses}
 use Rattle.wh_blocking.specs.Numbers.{AreNumbers}
 use Rattle.wh_blocking.proofs.EncodingLemmas.{numbers_long, numbers_used}
 use Rattle.wh_order_space.specs.Space.{symbol_count}
-use Rattle.wh_order_space.specs.Bits.{binary_length, bits_of, first_bit, bit_count}
+use Rattle.wh_order_space.specs.Bits.{binary_length, bits_of, first_bit}
 use Rattle.wh_find_order.specs.Encodings.{types_in, system_in, task_in, scopes_for, bits_for, IsEncoding}
 use Rattle.wh_find_order.specs.declared.encoding.Encoding.{Encoding}
 use Rattle.wh_find_order.proofs.BitLemmas.{first_zero, first_next}

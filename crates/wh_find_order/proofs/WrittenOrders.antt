@@ -1,12 +1,12 @@
 -- Each order that is tried is written by some bits.
-use Rattle.std.proofs.Common.{◌≡◌, ℕ, zero, suc, ◌+◌, ◌-◌, ◌*◌, ◌/◌, ◌<◌, ◌≤◌, ◌^◌, ◌==◌, nat_lt, inl, inr, Bool, true, false, if◌then◌else◌, List, [], ◌∷◌, ◌++◌, length, map, Option, None, Some, slice_get, All, refl, ap, ap₂, sym, subst, ◌∙◌, arith}
+use Rattle.std.proofs.Common.{◌≡◌, ℕ, zero, suc, ◌+◌, ◌-◌, ◌*◌, ◌/◌, ◌<◌, ◌≤◌, ◌^◌, ◌==◌, nat_lt, inl, inr, Bool, true, false, if◌then◌else◌, List, [], ◌∷◌, length, map, Some, slice_get, All, refl, ap, ap₂, sym, subst, ◌∙◌, arith}
 use Rattle.std.proofs.Math.Nat.{pow-suc}
-use Rattle.std.proofs.lemmas.Bool.{cases_eq, eq-eqb, ne_eqb, lt-ltb, le-ltb, false≢true}
+use Rattle.std.proofs.lemmas.Bool.{cases_eq, eq-eqb, ne_eqb, lt-ltb, le-ltb}
 use Rattle.std.proofs.lemmas.List.Elements.{All-head, All-tail}
 use Rattle.wh_types.specs.Ty.{Ty, sort}
-use Rattle.wh_inference.specs.FilterText.{WrittenFilter, keeps, picks, filter_of}
-use Rattle.wh_extended.specs.Filtered.{IncreasingFrom, IsProper}
-use Rattle.wh_ordering.specs.Filterings.{HasPlaces, IsProperAsWritten}
+use Rattle.wh_inference.specs.FilterText.{WrittenFilter, keeps, picks}
+use Rattle.wh_extended.specs.Filtered.{IncreasingFrom}
+use Rattle.wh_ordering.specs.Filterings.{IsProperAsWritten}
 use Rattle.std.proofs.lemmas.Option.{slice_get_within}
 use Rattle.wh_order_space.specs.Bits.{binary_length, bits_of, first_bit, places_from, number_from, filter_with, filter_by}
 

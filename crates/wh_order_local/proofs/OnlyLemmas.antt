@@ -1,12 +1,12 @@
 -- What holds of all symbols of a tree holds of those of its parts, behind renamings and openings, and where missing arguments are added.
-use Rattle.std.proofs.Common.{◌≡◌, ℕ, zero, suc, List, [], ◌∷◌, ◌++◌, map, Some, slice_get, refl, ap, sym, subst, length}
+use Rattle.std.proofs.Common.{◌≡◌, ℕ, zero, suc, List, [], ◌∷◌, ◌++◌, map, Some, slice_get, subst, length}
 use Rattle.std.specs.List.{AllByRecursion}
 use Rattle.wh_types.specs.Ty.{Ty, sort, ◌⇒◌}
 use Rattle.wh_terms.specs.Tree.{Tm, bound, free, fun, meta, lam, app, Tms, none, more, tms_of, spine, head}
 use Rattle.wh_terms.specs.Substitution.{up_renaming, rename, renames, up, up_free, act, acts, cons, opened}
 use Rattle.wh_terms.specs.Typing.{Symbols, Declared}
 use Rattle.wh_terms.specs.Rules.{RewriteRule}
-use Rattle.wh_extended.specs.Kinds.{type_at, kind}
+use Rattle.wh_extended.specs.Kinds.{kind}
 use Rattle.wh_extended.specs.Long.{expand, finish, finish_argument, core, cores, long}
 use Rattle.wh_extended.specs.ExtendedSides.{missing, added_from, extended_metas, extended_side}
 use Rattle.wh_path_order.specs.Heads.{arguments_of, list_of}

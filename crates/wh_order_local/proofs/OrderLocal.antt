@@ -1,8 +1,8 @@
 -- Whether an inference is good for a rule or a pair depends only on the filters of the symbols in the two sides.
-use Rattle.std.proofs.Common.{◌≡◌, ℕ, zero, suc, ◌+◌, ◌<◌, Bool, true, false, List, [], ◌∷◌, ◌++◌, length, map, None, Some, slice_get, refl, ap, ap₂, sym, subst, subst₂, ◌∙◌, arith}
+use Rattle.std.proofs.Common.{◌≡◌, ℕ, zero, suc, ◌+◌, ◌<◌, Bool, true, false, List, [], ◌∷◌, length, map, None, refl, ap, ap₂, sym, subst, ◌∙◌, arith}
 use Rattle.std.proofs.lemmas.List.{length-map}
 use Rattle.wh_types.specs.Ty.{Ty, arguments}
-use Rattle.wh_terms.specs.Tree.{Tm, fun, Tms, tms_of, spine}
+use Rattle.wh_terms.specs.Tree.{Tm, fun, tms_of}
 use Rattle.wh_terms.specs.Typing.{Symbols, Declared, AllTyped}
 use Rattle.wh_terms.specs.Rules.{RewriteRule, IsWellMade}
 use Rattle.wh_system.specs.CanonicalView.{side_of}
@@ -13,18 +13,17 @@ use Rattle.wh_inference.specs.Inferences.{Inference}
 use Rattle.wh_extended.specs.Kinds.{type_at}
 use Rattle.wh_extended.specs.Long.{long}
 use Rattle.wh_extended.specs.ExtendedSides.{extended_metas, extended_side, extended_call, marked_number}
-use Rattle.wh_extended.specs.Filtered.{sift, filtered, collapsed, kept_type, kept_types, precedence, symbol_arity, IsProper}
+use Rattle.wh_extended.specs.Filtered.{sift, collapsed, kept_type, kept_types, precedence, symbol_arity, IsProper}
 use Rattle.wh_extended.proofs.TypeLists.{typed_length}
 use Rattle.wh_path_order.specs.Verdict.{at_least, line_verdict}
 use Rattle.wh_path_order.specs.Lines.{filtered_side, filtered_call}
 use Rattle.wh_ordering.specs.Filterings.{FilteringData, filters_of, precedences_of, filtered_signature, argument_types}
 use Rattle.wh_ordering.specs.Ordering.{IsGoodRule, IsGoodPair}
 use Rattle.wh_order.specs.TreeSides.{AreFilters, HasTypedCalls}
-use Rattle.wh_order.specs.Sifted.{IsWhole, AreWhole}
 use Rattle.wh_order.proofs.FilterLemmas.{type_there, filter_there, symbol_filter, mark_filter_of, mark_proper, proper_marks}
 use Rattle.wh_order.proofs.WholeLemmas.{whole_arguments, whole_side}
 use Rattle.wh_order_local.specs.Only.{Only, AllOnly}
-use Rattle.wh_order_local.proofs.OnlyLemmas.{EachOnly, only_more, only_spine, only_longs, only_side}
+use Rattle.wh_order_local.proofs.OnlyLemmas.{only_more, only_spine, only_longs, only_side}
 use Rattle.wh_order_local.proofs.SiftLocal.{IsPlaced, sift_alike, proper_placed, filtered_only, sift_only, each_sifted, sift_spine}
 use Rattle.wh_order_local.proofs.VerdictLocal.{IsAlike, verdict_alike}
 

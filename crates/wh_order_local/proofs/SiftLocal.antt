@@ -1,10 +1,10 @@
 -- A filtered tree depends only on the filters of the symbols of the tree, and has no others.
-use Rattle.std.proofs.Common.{◌≡◌, ℕ, zero, suc, ◌<◌, List, [], ◌∷◌, ◌++◌, length, map, get_or, Some, slice_get, refl, ap, sym, subst, ◌∙◌, arith}
+use Rattle.std.proofs.Common.{◌≡◌, ℕ, zero, suc, ◌<◌, List, [], ◌∷◌, ◌++◌, length, map, get_or, refl, ap, sym, subst, ◌∙◌, arith}
 use Rattle.std.proofs.lemmas.Option.{slice_get_within}
 use Rattle.std.specs.List.{AllByRecursion}
-use Rattle.wh_types.specs.Ty.{Ty, sort, arguments}
+use Rattle.wh_types.specs.Ty.{Ty, sort}
 use Rattle.wh_terms.specs.Tree.{Tm, bound, free, fun, meta, lam, app, Tms, none, more, tms_of, spine}
-use Rattle.wh_terms.specs.Typing.{Symbols, Declared}
+use Rattle.wh_terms.specs.Typing.{Symbols}
 use Rattle.wh_inference.specs.Filters.{Filter, keep, pick}
 use Rattle.wh_extended.specs.Filtered.{collapse, chosen, filtered, sift, sifts, symbol_arity, IncreasingFrom, IsProper}
 use Rattle.wh_order.specs.Sifted.{IsWhole, AreWhole}
