@@ -143,13 +143,15 @@ module _ (T : TaskData) (marked : List ℕ) (made : (r : RewriteRule) → Contai
       (narrow, rule_moved r (contains_at T.rules n r there) (symbol_same (covers_rule r) alike) orients)
   meets_moved k (covers_pair p) (of_pair i n p' at there) alike (narrow, orients) =
       (narrow, pair_moved p (contains_at T.pairs n p there) (symbol_same (covers_pair p) alike) (head_same (covers_pair p) alike) orients)
-  meets_moved k some_strictly is alike (n, p, found, there, narrow, orients) = (
+  meets_moved k some_strictly is alike (n, p, found, there, (narrow, orients)) = (
     n,
     p,
     found,
     there,
-    narrow,
-    strict_moved p (contains_at T.pairs n p there)
-        (λ f less stands. symbol_same some_strictly alike f less (p, (n, found, there), stands))
-        (λ f heads. head_same some_strictly alike f (p, (n, found, there), heads)) orients,
+    (
+      narrow,
+      strict_moved p (contains_at T.pairs n p there)
+          (λ f less stands. symbol_same some_strictly alike f less (p, (n, found, there), stands))
+          (λ f heads. head_same some_strictly alike f (p, (n, found, there), heads)) orients,
+    ),
   )

@@ -269,7 +269,7 @@ module _ (d : SystemData) (ps : List PairData) (set : List ℕ) (D : FilteringDa
   rule_within = all_from_members IsWithin rules (λ i found. (a_rule i found).1.within)
 
   pair_within : All IsWithin pairs
-  pair_within = all_from_members IsWithin pairs (λ i found. (a_pair i found).1.1.within)
+  pair_within = all_from_members IsWithin pairs (λ i found. (a_pair i found).2.within)
 
   few_entries : (lines : List Inference) → All IsWithin lines → All (λ i. entries i < 2 ^ 32) lines
   few_entries lines within = all_from_members (λ (i : Inference). entries i < 2 ^ 32) lines (λ i found. (All-contains IsWithin lines i within found).few)

@@ -53,7 +53,7 @@ module _ (T : TaskData) (marked : List ℕ) where
   lets_meet D n of lets k (covers_pair p) (of_pair i m p' at there) =
       let found = contains_at T.set i m at in (of.narrow.of_pairs m p found there, lets.pairs m p found there)
   lets_meet D n of lets k some_strictly is =
-      (n, lets.pair, lets.in_set, lets.is, of.narrow.of_pairs n lets.pair lets.in_set lets.is, lets.strictly)
+      (n, lets.pair, lets.in_set, lets.is, (of.narrow.of_pairs n lets.pair lets.in_set lets.is, lets.strictly))
 
   module _ (made : (r : RewriteRule) → Contains T.rules r → IsWellMade T.symbols r)
       (typed : (p : PairData) → Contains T.pairs p → HasTypedCalls T.symbols T.rules p)

@@ -225,7 +225,9 @@ order_bits b (ds ∷ scopes) [] n cs w at there y below = absurd (cc)
 order_bits b (ds ∷ scopes) (u ∷ ws) zero cs w at there y below =
     let same : ds ≡ cs = cc in
     let also : u ≡ w = cc in
-    ap (λ c. if c then filter_bit (length ds) u y else order_bit b scopes ws (y - bits_of b ds))
+    let zeroed : 0 + y ≡ y = omega arith in
+    ap (order_bit b (ds ∷ scopes) (u ∷ ws)) zeroed
+    ∙ ap (λ c. if c then filter_bit (length ds) u y else order_bit b scopes ws (y - bits_of b ds))
     (lt-ltb y (bits_of b ds) (subst (λ l. y < bits_of b l) (sym same) below))
     ∙ ap₂ (λ l f. filter_bit (length l) f y) same also
 order_bits b (ds ∷ scopes) (u ∷ ws) (suc n) cs w at there y below =
