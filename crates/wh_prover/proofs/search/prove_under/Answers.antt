@@ -6,9 +6,8 @@ use Rattle.wh_pairs.specs.PairData.{pair_data}
 use Rattle.wh_pairs.specs.declared.pair.Pair.{Pair}
 use Rattle.wh_pairs.specs.Views.{pairs_data}
 use Rattle.wh_pairs.specs.Sets.{IsSetOf}
-use Rattle.wh_cert.specs.Written as w
-use Rattle.wh_cert.specs.Said.{said_node}
-use Rattle.wh_prover.specs.Answers.{IsProof}
+use Rattle.wh_cert.specs.Said.{said_node, said_yes}
+use Rattle.wh_prover.specs.Versions.{IsCertificateOf}
 use Rattle.wh_prover.proofs.ProofLemmas.{proof_of_tree}
 use Rattle.wh_prover.proofs.search.prove_under.Goals as goal
 
@@ -30,5 +29,6 @@ returns c =
     let count : m ≡ length ps = ap (λ (l : List Pair). length l) c.as_slice.ensures ∙ sym (length-map pairs pair_data) in
     let whole = subst (λ k. IsSetOf (λ n. n < k) set) count c.in_ok-whole.ensures in
     let tree = MatchOption-at_none _ _ c.in_default.is c.in_ok-cause.ensures in
-    subst (λ (l : List ℕ). IsProof d ps (w.yes 1 l m lines)) (sym c.in_ok-numbers_of_ranks.ensures)
-    (proof_of_tree d ps ranks m set lines c.is_well_made.ensures c.requires.pairs c.requires.passing c.requires.each c.requires.low count whole tree)
+    let made = c.in_ok-certificate.ensures in
+    let same = subst (λ (l : List ℕ). IsCertificateOf (length d.rules) l m lines (said_yes c.in_ok-certificate.certificate)) c.in_ok-listed.ensures made in
+    proof_of_tree d ps ranks m set lines (said_yes c.in_ok-certificate.certificate) c.is_well_made.ensures c.requires.pairs c.requires.passing c.requires.each c.requires.low count whole tree same
