@@ -12,7 +12,7 @@ ghost use Rattle.wh_find_order.specs.Trials.{IsTried, Weighs};
 use std::alloc::{AllocError, Global};
 use wh_cert::{NamedFilter, NamedFilters, OrderNode};
 use wh_inference::{Filter, Inferences};
-use wh_order_lines::{PairLines, pair_lines, rule_lines};
+use wh_order_lines::{PairLines, pair_line_fits, pair_lines, rule_line_fits, rule_lines};
 use wh_ordering::{Filters, MarkFilter};
 use wh_reduction::Task;
 use wh_text::Name;
@@ -80,6 +80,8 @@ fn node_with<'a>(
     ensures { IfOk result (Weighs task.now (filtering_data filters.now)) }
 {
     task.system.is_well_made();
+    rule_line_fits();
+    pair_line_fits();
     let names = task.system.fun_names();
     let funs = lines_of_filters(alloc, names, filters.funs.as_slice())?;
     let marks = lines_of_marks(alloc, names, filters.marks.as_slice())?;

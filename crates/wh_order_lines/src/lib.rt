@@ -2,8 +2,10 @@
 //! that has none.
 #![tactic(auto)]
 
+mod laws;
 mod lines;
 mod walks;
 
+pub use laws::{pair_line_fits, rule_line_fits};
 pub use lines::{PairLine, pair_line, rule_line};
 pub use walks::{PairLines, pair_lines, rule_lines};

@@ -43,7 +43,35 @@ pub fn rule_line(
     ensures { (r : RewriteRule) → slice_get (system_data system.now).rules rule ≡ Some r
         → IfOk result (IsRuleLineOrNone (system_data system.now).symbols (system_data system.now).rules (filtering_data filters.now) r) }
 {
-    Err(AllocError)
+    let Some(left) = rule_side(alloc, system, filters, rule, false)? else {
+        return Ok(None);
+    };
+    let Some(right) = rule_side(alloc, system, filters, rule, true)? else {
+        return Ok(None);
+    };
+    find_inference(alloc, filters, &left, &right)
+}
+
+// A filtered side of the rule; `None` where it is too wide.
+fn rule_side(
+    alloc: Global,
+    system: &System,
+    filters: &Filters,
+    rule: u32,
+    right: bool,
+) -> Result<Option<Tree>, AllocError>
+    requires filters { AreFilters (system_data system.now).symbols (system_data system.now).rules (filtering_data filters.now) }
+    requires rule { rule < length (system_data system.now).rules }
+    ensures { (r : RewriteRule) → slice_get (system_data system.now).rules rule ≡ Some r → IfOk result (λ found. MatchOption found
+        (IsNarrow (extended_side (system_data system.now).symbols r (side_of right r)) → ⊥)
+        (λ u. IsNarrow (extended_side (system_data system.now).symbols r (side_of right r))
+        × IsTreeOfSide (system_data system.now).symbols (system_data system.now).rules (filtering_data filters.now) r right u)) }
+{
+    match filtered_rule(alloc, system, filters, rule, right) {
+        Ok(side) => Ok(Some(side)),
+        Err(Or::NoMemory) => Err(AllocError),
+        Err(Or::Because(_)) => Ok(None),
+    }
 }
 
 /// An inference that orients the pair, which is not that of equal trees where one can be had that is not; `None` where there is none, or
@@ -59,5 +87,70 @@ pub fn pair_line(
     ensures { IfOk result (IsPairLineOrNone (system_data system.now).symbols (system_data system.now).rules (filtering_data filters.now)
         (pair_data pair.now)) }
 {
-    Err(AllocError)
+    let Some(left) = pair_side(alloc, system, filters, pair, false)? else {
+        return Ok(None);
+    };
+    let Some(right) = pair_side(alloc, system, filters, pair, true)? else {
+        return Ok(None);
+    };
+    line_between(alloc, filters, &left, &right)
+}
+
+// The line of two filtered sides.
+fn line_between(
+    alloc: Global,
+    filters: &Filters,
+    left: &Tree,
+    right: &Tree,
+) -> Result<Option<PairLine>, AllocError>
+    ensures { IfOk result (IsLineBetween (filtering_data filters.now) left.now right.now) }
+{
+    match find_greater(alloc, filters, left, right)? {
+        Some(inference) => Ok(Some(PairLine {
+            inference,
+            strict: true,
+        })),
+        None => weak_line(alloc, filters, left, right),
+    }
+}
+
+// The same where the left side is not greater.
+fn weak_line(
+    alloc: Global,
+    filters: &Filters,
+    left: &Tree,
+    right: &Tree,
+) -> Result<Option<PairLine>, AllocError>
+    requires { IsFound (filtering_data filters.now) greater left.now right.now None }
+    ensures { IfOk result (IsLineBetween (filtering_data filters.now) left.now right.now) }
+{
+    match find_inference(alloc, filters, left, right)? {
+        Some(inference) => Ok(Some(PairLine {
+            inference,
+            strict: false,
+        })),
+        None => Ok(None),
+    }
+}
+
+// A filtered side of the pair; `None` where it is too wide.
+fn pair_side(
+    alloc: Global,
+    system: &System,
+    filters: &Filters,
+    pair: &Pair,
+    right: bool,
+) -> Result<Option<Tree>, AllocError>
+    requires filters { AreFilters (system_data system.now).symbols (system_data system.now).rules (filtering_data filters.now) }
+    requires typed { HasTypedCalls (system_data system.now).symbols (system_data system.now).rules (pair_data pair.now) }
+    ensures { IfOk result (λ found. MatchOption found
+        (IsNarrow (extended_pair_side (system_data system.now).symbols (pair_data pair.now) right) → ⊥)
+        (λ u. IsNarrow (extended_pair_side (system_data system.now).symbols (pair_data pair.now) right)
+        × IsTreeOfCall (system_data system.now).symbols (system_data system.now).rules (filtering_data filters.now) (pair_data pair.now) right u)) }
+{
+    match filtered_pair(alloc, system, filters, pair, right) {
+        Ok(side) => Ok(Some(side)),
+        Err(Or::NoMemory) => Err(AllocError),
+        Err(Or::Because(_)) => Ok(None),
+    }
 }
