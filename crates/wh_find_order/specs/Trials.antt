@@ -19,8 +19,8 @@ use Rattle.wh_find_order.specs.declared.blocking.Failing.TheVariants as failing
 use Rattle.wh_find_order.specs.declared.blocking.Looked.{Looked}
 use Rattle.wh_find_order.specs.declared.blocking.Looked.TheVariants as looked
 
--- the order is one that is tried, but for the widths of sides: it has a proper filter for each symbol and each marked symbol of the set,
--- and a precedence below the number of these together
+-- the order is one that is tried, but for the widths of sides: it has a proper filter for each symbol and each marked
+-- symbol of the set, and a precedence below the number of these together
 pub record IsTried (T : TaskData) (D : FilteringData) : Type 0 where
   pub filters : AreFiltersFor T D
   pub symbols : AreProperSymbols T.symbols D

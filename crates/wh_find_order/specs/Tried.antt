@@ -1,5 +1,5 @@
--- Lists of clauses on the bits of orders that a search by guesses makes: each shuts out a guess under which a condition fails, or
--- follows from those before it.
+-- Lists of clauses on the bits of orders that a search by guesses makes: each shuts out a guess under which a condition
+-- fails, or follows from those before it.
 use Rattle.std.specs.Prelude.{ℕ, suc, ◌<◌, ◌≤◌, ◌≡◌, ◌⊎◌, ◌↔◌, Bool, false, List, [], length, take, get_or}
 use Rattle.wh_reduction.specs.TaskData.{TaskData}
 use Rattle.wh_inference.specs.FilterText.{WrittenFilter}
@@ -13,14 +13,15 @@ use Rattle.wh_guesses.specs.Conditions.{IsCondition, UsesNumber}
 use Rattle.wh_order_space.specs.Space.{Meets}
 use Rattle.wh_order_space.specs.Bits.{precedence_bits, bit_count, bit_from, IsFilterBy, IsWritten}
 
--- a condition: that the bits of a symbol write a proper filter and a precedence that is tried; or one on the lines of rules and pairs
--- (ours)
+-- a condition: that the bits of a symbol write a proper filter and a precedence that is tried; or one on the lines of
+-- rules and pairs (ours)
 pub data Condition : Type 0 where
   proper : (n : ℕ) → Condition
   line : (c : g.Condition) → Condition
 
 module _ (T : TaskData) (marked : List ℕ) where
-  -- it is one of the conditions of the set: the symbol is one of those that are numbered, the line that of a rule or of a pair
+  -- it is one of the conditions of the set: the symbol is one of those that are numbered, the line that of a rule or of
+  -- a pair
   abbrev pub IsOfSet : Condition → Type 0
   IsOfSet (proper n) = n < length (scopes_of T marked)
   IsOfSet (line c) = (k : ℕ) × IsCondition T k c
@@ -34,14 +35,14 @@ module _ (T : TaskData) (marked : List ℕ) where
   abbrev pub IsBitOf : Condition → ℕ → Type 0
   IsBitOf c x = (n : ℕ) × Uses c n × (bit_from T marked n ≤ x) × (x < bit_from T marked (suc n))
 
-  -- under these bits the condition fails. That of a line fails where the bits write an order and it does not hold under that one: where
-  -- they write none, a symbol is at fault
+  -- under these bits the condition fails. That of a line fails where the bits write an order and it does not hold under
+  -- that one: where they write none, a symbol is at fault
   abbrev pub FailsUnder : (ℕ → Bool) → Condition → Type 0
   FailsUnder v (proper n) = (f : WrittenFilter) → IsFilterBy T marked v n f → ⊥
   FailsUnder v (line c) = (D : FilteringData) × IsWritten T marked v D × (Meets T D c → ⊥)
 
-  -- a blocked clause: there is a guess under which all earlier clauses are true and a condition fails, and the clause has just the
-  -- literals that are false under it, over the bits of what is used in the condition (ours)
+  -- a blocked clause: there is a guess under which all earlier clauses are true and a condition fails, and the clause
+  -- has just the literals that are false under it, over the bits of what is used in the condition (ours)
   pub record IsBlocked (earlier : List (List Literal)) (clause : List Literal) : Type 0 where
     pub guess : ℕ → Bool
     pub allowed : Solves guess earlier

@@ -1,4 +1,5 @@
-//! The search by guesses: each guess under which a condition fails is shut out by a clause, and a solver tells the next one.
+//! The search by guesses: each guess under which a condition fails is shut out by a clause, and a solver tells the next
+//! one.
 
 ghost use Rattle.std.specs.Prelude.{◌≡◌, ◌+◌, ◌<◌, ◌≤◌, IfOk, OnOk, length};
 ghost use Rattle.wh_types.specs.Limits.{most_pairs};
@@ -37,7 +38,8 @@ pub enum Failing {
     Line(usize),
 }
 
-/// Looks for orders guess by guess, beginning with the one that bits with these values write; those that are missing are false.
+/// Looks for orders guess by guess, beginning with the one that bits with these values write; those that are missing
+/// are false.
 pub fn search_from<'a>(
     alloc: Global,
     encoding: &Encoding<'a>,
@@ -71,7 +73,8 @@ fn learner_for<'a>(
     Ok(learner)
 }
 
-// Shuts out the guesses under which a condition fails, one after the other, until none fails or no clause may join any more.
+// Shuts out the guesses under which a condition fails, one after the other, until none fails or no clause may join any
+// more.
 fn search<'a>(
     alloc: Global,
     encoding: &Encoding<'a>,
@@ -143,7 +146,8 @@ fn block<'a>(
     Ok(())
 }
 
-// The clause that shuts out the guess: the literals that are false under it, on the bits of what is used in the condition.
+// The clause that shuts out the guess: the literals that are false under it, on the bits of what is used in the
+// condition.
 fn clause_for<'a>(
     alloc: Global,
     encoding: &Encoding<'a>,

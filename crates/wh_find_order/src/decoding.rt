@@ -16,8 +16,8 @@ use wh_inference::Filter;
 use wh_ordering::{FilterList, Filters, MarkFilter, MarkFilterList};
 use wh_types::Or;
 
-/// The order that bits with these values write; the cause is the number of the first symbol for which they write no proper filter, or too
-/// great a precedence.
+/// The order that bits with these values write; the cause is the number of the first symbol for which they write no
+/// proper filter, or too great a precedence.
 pub fn order_by<'a>(
     alloc: Global,
     encoding: &Encoding<'a>,

@@ -20,9 +20,9 @@ use wh_reduction::Task;
 use wh_system::System;
 use wh_types::SimpleType;
 
-/// A task with the marked symbols of its set, and what is looked up in the search: of each symbol, and then of each marked one, the types
-/// of its arguments and which bit comes first; how many bits a precedence has; and of each condition on lines the numbers of what is used
-/// in it.
+/// A task with the marked symbols of its set, and what is looked up in the search: of each symbol, and then of each
+/// marked one, the types of its arguments and which bit comes first; how many bits a precedence has; and of each
+/// condition on lines the numbers of what is used in it.
 #[derive(Drop)]
 pub struct Encoding<'a> {
     pub task: Task<'a>,
@@ -33,7 +33,8 @@ pub struct Encoding<'a> {
     pub numbers: Vec<Vec<usize>>,
 }
 
-/// That of a task. Fails also where there are more bits than a solver has variables, or where a precedence has more than 31.
+/// That of a task. Fails also where there are more bits than a solver has variables, or where a precedence has more
+/// than 31.
 pub fn encoding_of<'a>(
     alloc: Global,
     task: &Task<'a>,

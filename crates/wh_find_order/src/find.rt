@@ -20,11 +20,12 @@ use wh_sat::Search;
 use wh_sat_trail::Clauses;
 use wh_system::System;
 
-/// Argument filters, precedences and inferences under which no rule and no pair of the set grows and some pair shrinks (the
-/// reduction pair processor with the path order of Kop 2012; the search is ours).
+/// Argument filters, precedences and inferences under which no rule and no pair of the set grows and some pair shrinks
+/// (the reduction pair processor with the path order of Kop 2012; the search is ours).
 ///
-/// `Found` drops every pair that its order lets go. `Nothing` comes only where no order that is tried lets a pair of the set go,
-/// and `Spent` only with `budget` clauses, each of which shuts out a guess under which a condition fails, or is learnt.
+/// `Found` drops every pair that its order lets go. `Nothing` comes only where no order that is tried lets a pair of
+/// the set go, and `Spent` only with `budget` clauses, each of which shuts out a guess under which a condition fails,
+/// or is learnt.
 pub fn find_order(
     alloc: Global,
     system: &System,
@@ -49,8 +50,8 @@ pub fn find_order(
     find_order_from(alloc, &task, &marked, Vec::new(alloc), budget)
 }
 
-/// The same by guesses alone, with the marked symbols of the set: the first guess is the order that bits with these values write; those
-/// that are missing are false.
+/// The same by guesses alone, with the marked symbols of the set: the first guess is the order that bits with these
+/// values write; those that are missing are false.
 pub fn find_order_from<'a>(
     alloc: Global,
     task: &Task<'a>,

@@ -1,4 +1,5 @@
-//! The search for path orders that let pairs of a set go: which orders are tried, how bits write them, and what the search answers.
+//! The search for path orders that let pairs of a set go: which orders are tried, how bits write them, and what the
+//! search answers.
 #![tactic(auto)]
 
 mod blocking;

@@ -27,8 +27,8 @@ pub enum Weighing {
     Failing(usize),
 }
 
-/// The node of the order, if under it there are lines for every rule and every pair of the set, and some pair's is not that of equal
-/// trees; else a condition that fails. All pairs that the order lets go are dropped.
+/// The node of the order, if under it there are lines for every rule and every pair of the set, and some pair's is not
+/// that of equal trees; else a condition that fails. All pairs that the order lets go are dropped.
 pub fn node_of_order<'a>(
     alloc: Global,
     task: &Task<'a>,

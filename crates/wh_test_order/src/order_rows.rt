@@ -96,7 +96,8 @@ fn told(alloc: Global, found: Search<OrderNode>) -> Result<String, AllocError> {
     }
 }
 
-/// Systems, pairs and budgets with the answers about the pair. That the conditions of a node hold is a clause of the call.
+/// Systems, pairs and budgets with the answers about the pair. That the conditions of a node hold is a clause of the
+/// call.
 const ANSWERS: &[(&[u8], u32, u64, &str)] = &[
     (PARTIAL, 1, 1_000_000, "nothing"),
     (MAP, 0, 0, "spent 0"),
