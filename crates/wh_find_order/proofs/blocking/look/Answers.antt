@@ -21,7 +21,7 @@ returns-in-Err-Because c =
     subst (HasNoFilter e v) (sym told.number-is)
     (matched_because told.field-0 told.number (λ (filters : Filters). IsWritten (task_in e) e.marked.now v (filtering_data filters)) (HasNoFilter e v) told.field-0-is told.ensures)
 
-pub returns-in-Failing : goal.returns-in-Failing
-returns-in-Failing c =
-    let h = rw c.in-Failing.is at c.in_ok-node_of_order.ensures in
+pub returns : goal.returns
+returns c =
+    let h = rw c.in-Failing.is at c.in_ok-node.ensures in
     (h.0, h.1, (filtering_data c.in-Ok.filters, c.in-Ok.ensures, h.2))
