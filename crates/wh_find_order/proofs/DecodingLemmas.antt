@@ -3,6 +3,7 @@ use Rattle.std.proofs.Common.{◌≡◌, ℕ, zero, suc, ◌+◌, ◌*◌, ◌<�
 use Rattle.std.proofs.lemmas.List.{length-map}
 use Rattle.std.proofs.lemmas.Option.{slice_get-get_or, slice_get_within}
 use Rattle.std.specs.Global.{Vec}
+use Rattle.std.specs.Vec.{vec_len}
 use Rattle.wh_types.specs.Ty.{Ty, arguments}
 use Rattle.wh_types.specs.Erase.{ty, tys}
 use Rattle.wh_types.specs.declared.simple_type.SimpleType.{SimpleType}
@@ -163,7 +164,7 @@ module _ (e : Encoding) (enc : IsEncoding e) where
         omega (arith, enc.few, first_within (bits_for e) (scopes_for e) (suc n), next, many)
 
     -- what is looked up of it: its first bit, and how many arguments it has
-    module _ (from places : ℕ) (from_is : from ≡ get_or e.first_bits.items n 0) (places_are : places ≡ length scope.items) where
+    module _ (from places : ℕ) (from_is : from ≡ get_or e.first_bits.items n 0) (places_are : places ≡ vec_len scope) where
       abbrev x : ℕ
       x = bit_from (task_in e) e.marked.now n
 
@@ -174,7 +175,7 @@ module _ (e : Encoding) (enc : IsEncoding e) where
       first_is = from_is ∙ starts
 
       long : places ≡ k
-      long = places_are ∙ sym (length-map scope.items ty)
+      long = omega (arith, places_are, scope.ok.0, length-map scope.items ty)
 
       pub looked_few : from + (2 * places + e.precedence_bits) < 4294967296
       looked_few = omega (arith, bits_few, first_is, long, enc.precedence)

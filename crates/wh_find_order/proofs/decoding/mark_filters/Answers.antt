@@ -1,4 +1,4 @@
-use Rattle.std.proofs.Common.{◌≡◌, ◌+◌, ◌<◌, ◌≤◌, ◌++◌, ◌∷◌, [], List, length, map, take, get_or, ap, sym, ◌∙◌, arith}
+use Rattle.std.proofs.Common.{◌+◌, ◌<◌, ◌≤◌, ◌++◌, ◌∷◌, [], List, length, map, get_or, ap, sym, ◌∙◌, arith}
 use Rattle.std.proofs.lemmas.List.{length-map, length_push, take_more, take_all}
 use Rattle.wh_inference.specs.FilterText.{WrittenFilter}
 use Rattle.wh_inference.specs.Said.{written_filter}
@@ -8,7 +8,7 @@ use Rattle.wh_pairs.proofs.ListLemmas.{map_push}
 use Rattle.wh_blocking.specs.Sizes.{value_of}
 use Rattle.wh_order_lines.proofs.Matched.{matched_some, matched_none}
 use Rattle.wh_order_space.specs.Bits.{IsFilterBy}
-use Rattle.wh_find_order.specs.Encodings.{task_in, symbols_in}
+use Rattle.wh_find_order.specs.Encodings.{task_in, symbols_in, scopes_for}
 use Rattle.wh_find_order.proofs.SpaceLemmas.{count_is}
 use Rattle.wh_find_order.proofs.DecodingLemmas.{all_symbols, filters_next, no_filters}
 use Rattle.wh_find_order.proofs.decoding.mark_filters.Goals as goal
@@ -56,7 +56,7 @@ returns-in_default c =
     let v = value_of c.args.values.now in
     let n = c.args.symbols + c.loop-i.i in
     let is = λ (f : WrittenFilter). IsFilterBy (task_in e) e.marked.now v n f in
-    let within = omega (arith, count_is (task_in e) e.marked.now, c.requires.symbols, c.loop-i-test.true) in
+    let within : n < length (scopes_for e) = omega (arith, count_is (task_in e) e.marked.now, c.requires.symbols, c.loop-i-test.true) in
     let none = matched_none c.in_ok-filter.field-0 ((f : WrittenFilter) → is f → ⊥) (λ (f : Filter). is (written_filter f)) c.in_default.is c.in_ok-filter.ensures in
     record { marks = (within, none); filters = (within, none) }
 

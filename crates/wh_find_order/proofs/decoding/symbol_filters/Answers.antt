@@ -1,4 +1,4 @@
-use Rattle.std.proofs.Common.{◌≡◌, ◌+◌, ◌<◌, ◌≤◌, List, length, map, ap, ◌∙◌, arith}
+use Rattle.std.proofs.Common.{◌+◌, ◌<◌, length, map, ap, ◌∙◌, arith}
 use Rattle.std.proofs.lemmas.List.{length-map, length_push}
 use Rattle.wh_inference.specs.FilterText.{WrittenFilter}
 use Rattle.wh_inference.specs.Said.{written_filter}
@@ -7,7 +7,7 @@ use Rattle.wh_pairs.proofs.ListLemmas.{map_push}
 use Rattle.wh_blocking.specs.Sizes.{value_of}
 use Rattle.wh_order_lines.proofs.Matched.{matched_some, matched_none}
 use Rattle.wh_order_space.specs.Bits.{IsFilterBy}
-use Rattle.wh_find_order.specs.Encodings.{task_in}
+use Rattle.wh_find_order.specs.Encodings.{task_in, scopes_for}
 use Rattle.wh_find_order.proofs.SpaceLemmas.{count_is}
 use Rattle.wh_find_order.proofs.DecodingLemmas.{all_symbols, filters_next, no_filters}
 use Rattle.wh_find_order.proofs.decoding.symbol_filters.Goals as goal
@@ -47,6 +47,6 @@ returns-in_default c =
     let v = value_of c.args.values.now in
     let n = c.loop-number.number in
     let is = λ (f : WrittenFilter). IsFilterBy (task_in e) e.marked.now v n f in
-    let within = omega (arith, count_is (task_in e) e.marked.now, c.requires.symbols, c.loop-number-test.true) in
+    let within : n < length (scopes_for e) = omega (arith, count_is (task_in e) e.marked.now, c.requires.symbols, c.loop-number-test.true) in
     let none = matched_none c.in_ok-filter.field-0 ((f : WrittenFilter) → is f → ⊥) (λ (f : Filter). is (written_filter f)) c.in_default.is c.in_ok-filter.ensures in
     record { count = (within, none); filters = (within, none) }

@@ -1,4 +1,4 @@
-use Rattle.std.proofs.Common.{◌≡◌, ◌==◌, ◌+◌, ◌<◌, true, false, List, ℕ, length, get_or, ap, sym, ◌∙◌, arith, tests}
+use Rattle.std.proofs.Common.{◌≡◌, ◌==◌, ◌<◌, true, false, List, ℕ, length, get_or, ap, sym, ◌∙◌, arith, tests}
 use Rattle.std.proofs.lemmas.List.{get_or_default}
 use Rattle.wh_blocking.specs.Sizes.{value_of}
 use Rattle.wh_find_order.proofs.BitLemmas.{keeps_by, picks_by, none_by}

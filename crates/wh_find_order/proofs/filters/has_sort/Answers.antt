@@ -1,4 +1,3 @@
-use Rattle.std.proofs.Common.{arith}
 use Rattle.wh_pairs.proofs.ByPlace.{read}
 use Rattle.wh_find_order.proofs.SortLemmas.{sort_at, sort_there, no_sort}
 use Rattle.wh_find_order.proofs.filters.has_sort.Goals as goal

@@ -1,4 +1,4 @@
-use Rattle.std.proofs.Common.{◌<◌, arith, subst}
+use Rattle.std.proofs.Common.{arith, subst}
 use Rattle.wh_inference.specs.Said.{written_filter}
 use Rattle.wh_inference.specs.declared.filter.Filter.{Filter}
 use Rattle.wh_ordering.specs.Filterings.{HasPlaces}
