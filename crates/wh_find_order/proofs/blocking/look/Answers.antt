@@ -1,4 +1,4 @@
-use Rattle.std.proofs.Common.{◌≡◌, ℕ, sym, subst}
+use Rattle.std.proofs.Common.{sym, subst}
 use Rattle.wh_ordering.specs.FilteringView.{filtering_data}
 use Rattle.wh_ordering.specs.declared.filters.Filters.{Filters}
 use Rattle.wh_blocking.specs.Sizes.{value_of}

@@ -1,5 +1,4 @@
-use Rattle.std.proofs.Common.{◌≡◌, ◌+◌, ◌-◌, ◌<◌, ap, sym, ◌∙◌, arith}
-use Rattle.wh_order_space.specs.Bits.{binary_length}
+use Rattle.std.proofs.Common.{◌≡◌, ◌<◌, arith}
 use Rattle.wh_find_order.proofs.TableLemmas.{length_next, length_end}
 use Rattle.wh_find_order.proofs.tables.precedence_bits.Goals as goal
 
