@@ -1,6 +1,7 @@
 -- What bits write depends only on their values, and is proper but for the type of a place that is picked.
-use Rattle.std.proofs.Common.{◌≡◌, ℕ, zero, suc, ◌+◌, ◌-◌, ◌*◌, ◌<◌, ◌≤◌, ◌^◌, Bool, true, false, if◌then◌else◌, List, [], ◌∷◌, ◌++◌, length, map, get_or, Some, All, refl, ap, ap₂, sym, subst, ◌∙◌, append_assoc, arith}
+use Rattle.std.proofs.Common.{◌≡◌, ℕ, zero, suc, ◌+◌, ◌-◌, ◌*◌, ◌<◌, ◌≤◌, ◌^◌, Bool, true, false, if◌then◌else◌, List, [], ◌∷◌, ◌++◌, length, map, get_or, None, Some, All, refl, ap, ap₂, sym, subst, ◌∙◌, append_assoc, arith}
 use Rattle.std.proofs.Math.Nat.{pow-suc}
+use Rattle.std.proofs.Math.Pow.{pow_mono}
 use Rattle.std.proofs.lemmas.List.{append-nil}
 use Rattle.std.proofs.lemmas.List.Elements.{All-nil, All-cons, All-head}
 use Rattle.wh_types.specs.Ty.{Ty}
@@ -139,6 +140,25 @@ places_next v x k i made within =
     on true rest = sym (append_assoc made (suc i ∷ []) rest)
     on false rest = refl
 
+-- a place whose bit is set is put at the end
+pub places_put : (v : ℕ → Bool) (x k i : ℕ) (made new : List ℕ) → i < k → v (x + i) ≡ true → new ≡ made ++ (i + 1) ∷ []
+    → made ++ places_from v (x + i) (suc i) (k - i) ≡ places_from v x 1 k
+    → new ++ places_from v (x + (i + 1)) (suc (i + 1)) (k - (i + 1)) ≡ places_from v x 1 k
+places_put v x k i made new within set is before =
+    let rest = places_from v (x + (i + 1)) (suc (i + 1)) (k - (i + 1)) in
+    let place : i + 1 ≡ suc i = omega arith in
+    ap (λ l. l ++ rest) (is ∙ ap (λ p. made ++ p ∷ []) place)
+    ∙ ap (λ b. (if b then made ++ suc i ∷ [] else made) ++ rest) (sym set)
+    ∙ sym (places_next v x k i made within) ∙ before
+
+-- and one whose bit is not set is passed
+pub places_pass : (v : ℕ → Bool) (x k i : ℕ) (made : List ℕ) → i < k → v (x + i) ≡ false
+    → made ++ places_from v (x + i) (suc i) (k - i) ≡ places_from v x 1 k
+    → made ++ places_from v (x + (i + 1)) (suc (i + 1)) (k - (i + 1)) ≡ places_from v x 1 k
+places_pass v x k i made within set before =
+    let rest = places_from v (x + (i + 1)) (suc (i + 1)) (k - (i + 1)) in
+    ap (λ b. (if b then made ++ suc i ∷ [] else made) ++ rest) (sym set) ∙ sym (places_next v x k i made within) ∙ before
+
 pub places_end : (v : ℕ → Bool) (x k i : ℕ) (made : List ℕ) → k ≤ i → made ++ places_from v (x + i) (suc i) (k - i) ≡ made
 places_end v x k i made past =
     let e : k - i ≡ 0 = omega arith in
@@ -179,6 +199,51 @@ number_below v x (suc k) =
     bit : (b : Bool) → (if b then 1 else 0) ≤ 1
     bit true = omega arith
     bit false = omega arith
+
+-- 31 bits write numbers below 2^31
+pub number_small : (v : ℕ → Bool) (x k : ℕ) → k < 32 → number_from v x k < 2147483648
+number_small v x k few =
+    let most : 2 ^ k ≤ 2 ^ 31 = pow_mono {i = k} {j = 31} (omega (arith, few)) in
+    omega (arith, number_below v x k, most)
+
+-- the number with one more bit in front
+pub number_put : (v : ℕ → Bool) (x k left next low number more : ℕ) → next + 1 ≡ left → left ≤ k → low ≡ (if v (x + next) then 1 else 0)
+    → number ≡ number_from v (x + left) (k - left) → more ≡ low + 2 * number → more ≡ number_from v (x + next) (k - next)
+number_put v x k left next low number more less within bit before sum =
+    sum ∙ ap₂ (λ b n. b + 2 * n) bit before ∙ sym (number_next v x k left next less within)
+
+-- a filter by the places that are kept and picked
+
+with_none : (prec : ℕ) (kept picked : List ℕ) → length picked ≡ 0 → filter_with prec kept picked ≡ Some (keeps prec kept)
+with_none prec kept [] none = refl
+with_none prec kept (n ∷ picked) none = absurd (omega (arith, none))
+
+with_one : (prec place : ℕ) (kept picked : List ℕ) → length kept ≡ 0 → length picked ≡ 1 → place ≡ get_or picked 0 place
+    → filter_with prec kept picked ≡ Some (picks place)
+with_one prec place [] (n ∷ []) none one is = let same : place ≡ n = is in ap (λ m. Some (picks m)) (sym same)
+with_one prec place [] [] none one is = absurd (omega (arith, one))
+with_one prec place [] (n ∷ m ∷ picked) none one is = absurd (omega (arith, one))
+with_one prec place (n ∷ kept) picked none one is = absurd (omega (arith, none))
+
+with_more : (prec : ℕ) (kept picked : List ℕ) → 0 < length picked → (length kept ≡ 0 → length picked ≡ 1 → ⊥) → filter_with prec kept picked ≡ None
+with_more prec kept [] some other = absurd (omega (arith, some))
+with_more prec [] (place ∷ []) some other = absurd (other refl refl)
+with_more prec [] (place ∷ more ∷ picked) some other = refl
+with_more prec (n ∷ kept) (place ∷ []) some other = refl
+with_more prec (n ∷ kept) (place ∷ more ∷ picked) some other = refl
+
+module _ (v : ℕ → Bool) (b x k : ℕ) (kept picked : List ℕ) (kept_is : kept ≡ places_from v x 1 k) (picked_is : picked ≡ places_from v (k + x) 1 k) where
+  by_places : filter_by v b x k ≡ filter_with (number_from v (k + (k + x)) b) kept picked
+  by_places = ap₂ (filter_with (number_from v (k + (k + x)) b)) (sym kept_is) (sym picked_is)
+
+  pub keeps_by : (prec : ℕ) → prec ≡ number_from v (k + (k + x)) b → length picked ≡ 0 → filter_by v b x k ≡ Some (keeps prec kept)
+  keeps_by prec prec_is none = by_places ∙ with_none (number_from v (k + (k + x)) b) kept picked none ∙ ap (λ n. Some (keeps n kept)) (sym prec_is)
+
+  pub picks_by : (place : ℕ) → length kept ≡ 0 → length picked ≡ 1 → place ≡ get_or picked 0 place → filter_by v b x k ≡ Some (picks place)
+  picks_by place none one is = by_places ∙ with_one (number_from v (k + (k + x)) b) place kept picked none one is
+
+  pub none_by : 0 < length picked → (length kept ≡ 0 → length picked ≡ 1 → ⊥) → filter_by v b x k ≡ None
+  none_by some other = by_places ∙ with_more (number_from v (k + (k + x)) b) kept picked some other
 
 -- tables of first bits
 

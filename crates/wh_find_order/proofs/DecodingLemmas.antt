@@ -1,10 +1,11 @@
 -- Filters that bits write, one symbol after another.
-use Rattle.std.proofs.Common.{◌≡◌, ℕ, zero, suc, ◌+◌, ◌*◌, ◌<◌, ◌≤◌, inl, inr, Bool, None, Some, List, [], ◌∷◌, ◌++◌, length, map, get_or, slice_get, ap, sym, subst, ◌∙◌, arith}
+use Rattle.std.proofs.Common.{◌≡◌, ℕ, zero, suc, ◌+◌, ◌*◌, ◌<◌, ◌≤◌, inl, inr, Bool, None, Some, List, [], ◌∷◌, ◌++◌, length, map, get_or, slice_get, ap, ap₂, sym, subst, ◌∙◌, arith}
 use Rattle.std.proofs.lemmas.List.{length-map}
 use Rattle.std.proofs.lemmas.Option.{slice_get-get_or, slice_get_within}
 use Rattle.std.specs.Global.{Vec}
+use Rattle.std.specs.Vec.{vec_len}
 use Rattle.wh_types.specs.Ty.{Ty, arguments}
-use Rattle.wh_types.specs.Erase.{tys}
+use Rattle.wh_types.specs.Erase.{ty, tys}
 use Rattle.wh_types.specs.declared.simple_type.SimpleType.{SimpleType}
 use Rattle.wh_pairs.proofs.ByPlace.{remap, some_one}
 use Rattle.wh_pairs.proofs.ListLemmas.{map-map}
@@ -28,6 +29,14 @@ use Rattle.wh_find_order.specs.Trials.{IsTried}
 use Rattle.wh_find_order.specs.declared.encoding.Encoding.{Encoding}
 use Rattle.wh_find_order.proofs.BitLemmas.{first_next, first_within, proper_of_filter, picks_of_proper}
 use Rattle.wh_find_order.proofs.SpaceLemmas.{some_same, count_is, symbol_scope, mark_scope}
+
+-- what bits write, by equal tables
+
+pub same_number : (v : ℕ → Bool) (x y k l b c : ℕ) → x ≡ y → k ≡ l → b ≡ c → number_from v (k + (k + x)) b ≡ number_from v (l + (l + y)) c
+same_number v x y k l b c xs ks bs = ap₂ (number_from v) (ap₂ (λ m z. m + (m + z)) ks xs) bs
+
+pub same_filter : (v : ℕ → Bool) (x y k l b c : ℕ) → x ≡ y → k ≡ l → b ≡ c → filter_by v b x k ≡ filter_by v c y l
+same_filter v x y k l b c xs ks bs = ap₂ (λ m z. filter_by v m z k) bs xs ∙ ap (filter_by v c y) ks
 
 -- one more filter is written
 pub filters_next : (e : Encoding) (v : ℕ → Bool) (n : ℕ) (old new : List WrittenFilter) (w : WrittenFilter) (at : ℕ) → new ≡ old ++ w ∷ []
@@ -154,40 +163,59 @@ module _ (e : Encoding) (enc : IsEncoding e) where
         let many = ap (bits_of (bits_for e)) there in
         omega (arith, enc.few, first_within (bits_for e) (scopes_for e) (suc n), next, many)
 
-    module _ (v : ℕ → Bool) where
+    -- what is looked up of it: its first bit, and how many arguments it has
+    module _ (from places : ℕ) (from_is : from ≡ get_or e.first_bits.items n 0) (places_are : places ≡ vec_len scope) where
       abbrev x : ℕ
       x = bit_from (task_in e) e.marked.now n
 
       abbrev k : ℕ
       k = length (tys scope.items)
 
-      same_types : (f : WrittenFilter) (h : IsFilterBy (task_in e) e.marked.now v n f) → h.types ≡ tys scope.items
-      same_types f h = some_one h.is types_at
+      first_is : from ≡ x
+      first_is = from_is ∙ starts
 
-      pub too_great : symbol_count (task_in e) e.marked.now ≤ number_from v (k + (k + x)) (bits_for e)
-          → (f : WrittenFilter) → IsFilterBy (task_in e) e.marked.now v n f → ⊥
-      too_great high f h =
-          let same = ap (λ (cs : List Ty). number_from v (length cs + (length cs + x)) (bits_for e)) (same_types f h) in
-          omega (arith, high, h.low, same)
+      long : places ≡ k
+      long = omega (arith, places_are, scope.ok.0, length-map scope.items ty)
 
-      pub none_written : filter_by v (bits_for e) x k ≡ None → (f : WrittenFilter) → IsFilterBy (task_in e) e.marked.now v n f → ⊥
-      none_written none f h =
-          let same = ap (λ (cs : List Ty). filter_by v (bits_for e) x (length cs)) (same_types f h) in
-          let wrong : Some f ≡ None = sym h.by_bits ∙ same ∙ none in absurd (cc)
+      pub looked_few : from + (2 * places + e.precedence_bits) < 4294967296
+      looked_few = omega (arith, bits_few, first_is, long, enc.precedence)
 
-      pub not_a_sort : (w : WrittenFilter) → filter_by v (bits_for e) x k ≡ Some w → (PicksSort (tys scope.items) w → ⊥)
-          → (f : WrittenFilter) → IsFilterBy (task_in e) e.marked.now v n f → ⊥
-      not_a_sort w is wrong f h =
-          let same = ap (λ (cs : List Ty). filter_by v (bits_for e) x (length cs)) (same_types f h) in
-          let one : f ≡ w = some_same (sym h.by_bits ∙ same ∙ is) in
-          wrong (subst (PicksSort (tys scope.items)) one (picks_of_proper (tys scope.items) f (subst (λ cs. IsProperAsWritten cs f) (same_types f h) h.proper)))
+      module _ (v : ℕ → Bool) where
+        number_is : number_from v (places + (places + from)) e.precedence_bits ≡ number_from v (k + (k + x)) (bits_for e)
+        number_is = same_number v from x places k e.precedence_bits (bits_for e) first_is long enc.precedence
 
-      pub is_written : (w : WrittenFilter) → filter_by v (bits_for e) x k ≡ Some w → PicksSort (tys scope.items) w
-          → number_from v (k + (k + x)) (bits_for e) < symbol_count (task_in e) e.marked.now → IsFilterBy (task_in e) e.marked.now v n w
-      is_written w is sorted low = record {
-        types = tys scope.items;
-        is = types_at;
-        by_bits = is;
-        proper = proper_of_filter v (bits_for e) x (tys scope.items) w is sorted;
-        low = low;
-      }
+        filter_is : filter_by v e.precedence_bits from places ≡ filter_by v (bits_for e) x k
+        filter_is = same_filter v from x places k e.precedence_bits (bits_for e) first_is long enc.precedence
+
+        same_types : (f : WrittenFilter) (h : IsFilterBy (task_in e) e.marked.now v n f) → h.types ≡ tys scope.items
+        same_types f h = some_one h.is types_at
+
+        pub too_great : length e.scopes.items ≤ number_from v (places + (places + from)) e.precedence_bits
+            → (f : WrittenFilter) → IsFilterBy (task_in e) e.marked.now v n f → ⊥
+        too_great high f h =
+            let same = ap (λ (cs : List Ty). number_from v (length cs + (length cs + x)) (bits_for e)) (same_types f h) in
+            omega (arith, high, h.low, same, number_is, all_symbols)
+
+        by_types : (f : WrittenFilter) → IsFilterBy (task_in e) e.marked.now v n f → filter_by v e.precedence_bits from places ≡ Some f
+        by_types f h =
+            filter_is ∙ sym (ap (λ (cs : List Ty). filter_by v (bits_for e) x (length cs)) (same_types f h)) ∙ h.by_bits
+
+        pub none_written : filter_by v e.precedence_bits from places ≡ None → (f : WrittenFilter) → IsFilterBy (task_in e) e.marked.now v n f → ⊥
+        none_written none f h = let wrong : Some f ≡ None = sym (by_types f h) ∙ none in absurd (cc)
+
+        pub not_a_sort : (w : WrittenFilter) → filter_by v e.precedence_bits from places ≡ Some w → (PicksSort (tys scope.items) w → ⊥)
+            → (f : WrittenFilter) → IsFilterBy (task_in e) e.marked.now v n f → ⊥
+        not_a_sort w is wrong f h =
+            let one : f ≡ w = some_same (sym (by_types f h) ∙ is) in
+            wrong (subst (PicksSort (tys scope.items)) one (picks_of_proper (tys scope.items) f (subst (λ cs. IsProperAsWritten cs f) (same_types f h) h.proper)))
+
+        pub is_written : (w : WrittenFilter) → filter_by v e.precedence_bits from places ≡ Some w → PicksSort (tys scope.items) w
+            → number_from v (places + (places + from)) e.precedence_bits < length e.scopes.items → IsFilterBy (task_in e) e.marked.now v n w
+        is_written w is sorted low =
+            let by_bits : filter_by v (bits_for e) x k ≡ Some w = sym filter_is ∙ is in record {
+              types = tys scope.items;
+              is = types_at;
+              by_bits = by_bits;
+              proper = proper_of_filter v (bits_for e) x (tys scope.items) w by_bits sorted;
+              low = omega (arith, low, number_is, all_symbols);
+            }

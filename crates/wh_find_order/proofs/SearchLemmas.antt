@@ -32,7 +32,7 @@ use Rattle.wh_order_space.specs.Space.{HasNoOrder}
 use Rattle.wh_order_space.specs.Bits.{bit_count}
 use Rattle.wh_find_order.specs.Answers.{IsSpent}
 use Rattle.wh_find_order.specs.Tried.{Condition, proper, line, Uses, IsOfSet, IsBitOf, FailsUnder, IsBlocked, Tried}
-use Rattle.wh_find_order.specs.Encodings.{system_in, task_in, scopes_for, bits_for, IsEncoding, IsBlocking}
+use Rattle.wh_find_order.specs.Encodings.{system_in, task_in, scopes_for, bits_for, IsEncoding, IsBlocking, ShutsOut}
 use Rattle.wh_find_order.specs.declared.encoding.Encoding.{Encoding}
 use Rattle.wh_find_order.proofs.BitLemmas.{first_within}
 use Rattle.wh_find_order.proofs.NothingLemmas.{nothing}
@@ -111,6 +111,14 @@ module _ (e : Encoding) (enc : IsEncoding e) (c : Condition) (ns : List ℕ) (of
       let among_numbers = ((literals_are v e.first_bits.items ns l).0 (at_place clause i d within)).0 in
       let bit = (among l.variable).0 among_numbers in
       omega (arith, bit.3, first_within (bits_for e) (scopes_for e) (suc bit.0))
+
+-- a clause with just these literals shuts out the guess
+pub shuts_out : (e : Encoding) (v : ℕ → Bool) (c : Condition) (ns : List ℕ) (clause : List Literal) → IsEncoding e → IsOfSet (task_in e) e.marked.now c
+    → AreUsed e c ns → FailsUnder (task_in e) e.marked.now v c → clause ≡ flat_map (literals_on v e.first_bits.items) ns → ShutsOut e v clause
+shuts_out e v c ns clause enc of used fails is = record {
+  below = subst (AllBelow (bit_count (bits_for e) (scopes_for e))) (sym is) (clause_below e enc c ns of used v);
+  blocked = λ earlier solves. subst (IsBlocked (task_in e) e.marked.now earlier) (sym is) (clause_blocked e enc c ns of used v earlier solves fails);
+}
 
 -- a blocked clause is given
 pub blocking_given : (e : Encoding) (before after : Learner) (clause : List Literal) → IsBlocking e before → Sound after → variables_of after ≡ variables_of before

@@ -1,12 +1,17 @@
 -- The tables of the bits and of what is used.
-use Rattle.std.proofs.Common.{◌≡◌, ℕ, zero, suc, ◌+◌, ◌-◌, ◌*◌, ◌/◌, ◌<◌, ◌≤◌, inl, inr, if◌then◌else◌, List, [], ◌∷◌, ◌++◌, length, get_or, refl, ap, ap₂, sym, subst, ◌∙◌, arith}
+use Rattle.std.proofs.Common.{◌≡◌, ℕ, zero, suc, ◌+◌, ◌-◌, ◌*◌, ◌/◌, ◌<◌, ◌≤◌, inl, inr, if◌then◌else◌, List, [], ◌∷◌, ◌++◌, length, map, get_or, refl, ap, ap₂, sym, subst, ◌∙◌, arith}
 use Rattle.std.specs.Global.{Vec}
 use Rattle.std.proofs.lemmas.Bool.{cases_eq, ne_eqb}
 use Rattle.std.proofs.lemmas.List.{get_or_push, get_or_append_left, length-map}
-use Rattle.wh_types.specs.Erase.{tys}
+use Rattle.wh_types.specs.Ty.{Ty, arguments}
+use Rattle.wh_types.specs.Erase.{ty, tys}
 use Rattle.wh_types.specs.declared.simple_type.SimpleType.{SimpleType}
 use Rattle.wh_system.specs.WellMade.{IsWellMadeSystem}
 use Rattle.wh_pairs.specs.Marked.{AreMarked}
+use Rattle.wh_pairs.proofs.ListLemmas.{map-map}
+use Rattle.wh_reduction.specs.TaskData.{TaskData}
+use Rattle.wh_polycheck.specs.Marks.{marked_types}
+use Rattle.wh_guesses.specs.Coefficients.{scopes_of}
 use Rattle.wh_guesses.specs.Tasks.{IsTaskOf}
 use Rattle.wh_guesses.specs.Uses.{AreAllUses}
 use Rattle.wh_guesses.specs.declared.uses.Uses.{Uses}
@@ -95,6 +100,13 @@ firsts_next b scopes items new i total is long sum before n within = elim (cases
       let u : n ≤ i = omega (arith, within, other) in
       ap (λ l. get_or l n 0) is ∙ get_or_append_left items (total ∷ []) 0 n (omega (arith, long, u)) ∙ before n u
 ]
+
+-- the types of the arguments of all symbols, and then of the marked ones
+pub scopes_are : (T : TaskData) (marked : List ℕ) (kinds : List SimpleType) (a b : List (List Ty)) → tys kinds ≡ T.symbols.funs
+    → a ≡ map (λ kind. arguments (ty kind)) kinds → b ≡ a ++ map (marked_types T.symbols T.rules) marked → b ≡ scopes_of T marked
+scopes_are T marked kinds a b funs first second =
+    second ∙ ap (λ l. l ++ map (marked_types T.symbols T.rules) marked)
+    (first ∙ sym (map-map arguments ty kinds) ∙ ap (map arguments) funs)
 
 -- the tables of an encoding are right
 pub encoding_is : (e : Encoding) (uses : List Uses) (rules : ℕ) → IsTaskOf e.task → IsWellMadeSystem (system_in e)

@@ -1,7 +1,8 @@
 //! The filters that bits write.
 
-ghost use Rattle.std.specs.Prelude.{◌≡◌, ◌↔◌, ◌+◌, ◌*◌, ◌<◌, ◌≤◌, ◌^◌, IfOk, IsTrue, MatchOption, None, Some};
-ghost use Rattle.wh_types.specs.Erase.{tys};
+ghost use Rattle.std.specs.Prelude.{ℕ, ◌≡◌, ◌↔◌, ◌+◌, ◌*◌, ◌<◌, ◌≤◌, ◌^◌, IfOk, IsTrue, MatchOption, None, Some, slice_get};
+ghost use Rattle.wh_types.specs.Erase.{ty, tys};
+ghost use Rattle.wh_types.specs.Ty.{sort};
 ghost use Rattle.wh_inference.specs.Said.{written_filter};
 ghost use Rattle.wh_ordering.specs.Filterings.{HasPlaces};
 ghost use Rattle.wh_blocking.specs.Sizes.{value_of};
@@ -84,9 +85,23 @@ pub fn picks_sort(scope: &[SimpleType], filter: &Filter) -> bool
 {
     match filter {
         Filter::Keep { .. } => true,
-        Filter::Pick { place } => {
-            let at = *place as usize - 1;
-            at < scope.len() && matches!(scope[at], SimpleType::Sort(_))
-        }
+        Filter::Pick { place } => has_sort(scope, *place as usize - 1),
     }
+}
+
+// Whether a sort stands at the place.
+fn has_sort(scope: &[SimpleType], place: usize) -> bool
+    ensures { IsTrue result ↔ ((s : ℕ) × (slice_get (tys scope.now) place ≡ Some (sort s))) }
+{
+    match scope.get(place) {
+        Some(kind) => is_sort(kind),
+        None => false,
+    }
+}
+
+// Whether the type is a sort.
+fn is_sort(kind: &SimpleType) -> bool
+    ensures { IsTrue result ↔ ((s : ℕ) × (ty kind.now ≡ sort s)) }
+{
+    matches!(kind, SimpleType::Sort(_))
 }

@@ -1,12 +1,12 @@
 -- Inferences that are found have a text within the limits of certificates.
-use Rattle.std.proofs.Common.{◌≡◌, ℕ, zero, suc, ◌+◌, ◌-◌, ◌<◌, ◌≤◌, Bool, true, false, cond, List, [], ◌∷◌, length, take, Some, None, All, slice_get, refl, ap, subst, sym, ◌∙◌, arith}
+use Rattle.std.proofs.Common.{◌≡◌, ℕ, zero, suc, ◌+◌, ◌-◌, ◌≤◌, Bool, true, false, cond, List, [], ◌∷◌, length, take, Some, None, All, slice_get, refl, ap, subst, sym, ◌∙◌, arith}
 use Rattle.std.specs.Prelude.{nat_lt, unwrap_or}
 use Rattle.std.proofs.lemmas.Bool.{ltb-true}
 use Rattle.std.proofs.lemmas.List.Elements.{All-contains, All-head, All-tail}
 use Rattle.std.proofs.lemmas.Option.{slice_get_within}
 use Rattle.wh_types.specs.Limits.{greatest_number, most_arguments}
 use Rattle.wh_types.specs.Ty.{Ty, sort, ◌⇒◌, arguments}
-use Rattle.wh_terms.specs.Tree.{Tm, bound, free, fun, meta, lam, app, head}
+use Rattle.wh_terms.specs.Tree.{Tm, fun, app, head}
 use Rattle.wh_terms.specs.Typing.{Symbols, Declared}
 use Rattle.wh_terms.specs.Rules.{RewriteRule}
 use Rattle.wh_system.specs.Systems.{SystemData}
@@ -16,7 +16,7 @@ use Rattle.wh_pairs.specs.PairData.{PairData}
 use Rattle.wh_pairs.proofs.ByPlace.{contains_at}
 use Rattle.wh_hopoly.specs.Evaluation.{type_at}
 use Rattle.wh_polycheck.specs.Marks.{marked_types}
-use Rattle.wh_inference.specs.Filters.{Filter, keep, pick}
+use Rattle.wh_inference.specs.Filters.{Filter, keep}
 use Rattle.wh_inference.specs.FilterText.{filter_of}
 use Rattle.wh_inference.specs.Inferences as m
 use Rattle.wh_inference.specs.Inferences.{Letter, same_trees, bodies, part, lower, first_less, spine_parts, body, variable, meta_part, Inference, infer, Inferences, no_parts, more_parts}
@@ -24,10 +24,10 @@ use Rattle.wh_inference.specs.InferenceText.{form}
 use Rattle.wh_inference.specs.InferenceLimits.{FormFits, InferenceFits, PartsFit, depth, deepest, deepest_inference}
 use Rattle.wh_extended.specs.Kinds.{type_at as kind_at}
 use Rattle.wh_extended.specs.ExtendedSides.{extended_metas, extended_side, extended_call}
-use Rattle.wh_extended.specs.Filtered.{IncreasingFrom, IsProper, collapsed, sift}
+use Rattle.wh_extended.specs.Filtered.{IncreasingFrom, IsProper, collapsed}
 use Rattle.wh_path_order.specs.Heads.{arguments_of, list_of}
 use Rattle.wh_path_order.specs.Lines.{filtered_side, filtered_call}
-use Rattle.wh_path_order.specs.Verdict.{Claim, at_least, greater, above, Task, each, pairwise, greater_tasks, typed_tasks, at_least_tasks, tasks, verdict, verdicts}
+use Rattle.wh_path_order.specs.Verdict.{Claim, at_least, greater, above, Task, each, pairwise, typed_tasks, tasks, verdict, verdicts}
 use Rattle.wh_path_order.proofs.AskedTasks.{split, first_part, AboveAsks, asks_part, asks_lower, asks_first_less, asks_spine, asks_body, asks_variable, asks_meta, above_asks, GreaterAsks, asks_bodies, asks_arguments, asks_above, typed_asks, AtLeastAsks, asks_same, asks_greater, at_least_asks}
 use Rattle.wh_ordering.specs.Filterings.{FilteringData, IsProperAsWritten, filters_of, filtered_signature, precedences_of, filter_among, mark_among}
 use Rattle.wh_ordering.specs.Ordering.{IsGoodRule, IsGoodPair}

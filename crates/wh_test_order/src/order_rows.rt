@@ -15,7 +15,7 @@ use wh_pairs::{PairList, PairSet};
 use wh_read::{Refused, read_system};
 use wh_sat::Search;
 use wh_system::System;
-use wh_test_samples::{MAP, PARTIAL};
+use wh_test_samples::{MAP, PARTIAL, QUADRUPLE};
 use wh_types::Or;
 
 /// The answer about a pair of the system of a text; want of memory stands for all that has no such pair.
@@ -96,11 +96,28 @@ fn told(alloc: Global, found: Search<OrderNode>) -> Result<String, AllocError> {
     }
 }
 
+/// Each order for the first pair picks the place of `i`, which has to keep its argument and may be no greater than it.
+const PICKED: &[u8] =
+    b"sort o;\nfun s : o -> o;\nfun i : o -> o;\nfun t : o -> o;\nrule {X:o} t (s X) => t (i X);\nrule {X:o} i X => X;\nrule {X:o} i (s X) => s (i X);\n";
+
+/// `f` has to keep both places, and shrinks at the second one alone.
+const SECOND_PLACE: &[u8] =
+    b"sort o;\nfun s : o -> o;\nfun f : o -> o -> o;\nfun t : o -> o;\nrule {X:o,Y:o} t (f X (s Y)) => t (f X Y);\nrule {X:o,Y:o} f X Y => X;\nrule {X:o,Y:o} f X Y => Y;\n";
+
+/// What shrinks stands under a binder.
+const UNDER_BINDER: &[u8] =
+    b"sort o;\nfun s : o -> o;\nfun l : (o -> o) -> o;\nrule {F:[o] o} l (\\x:o.s F[x]) => l (\\x:o.F[x]);\n";
+
 /// Systems, pairs and budgets with the answers about the pair. That the conditions of a node hold is a clause of the
 /// call.
 const ANSWERS: &[(&[u8], u32, u64, &str)] = &[
     (PARTIAL, 1, 1_000_000, "nothing"),
     (MAP, 0, 0, "spent 0"),
+    (QUADRUPLE, 0, 1_000_000, "found, 1 dropped"),
+    (QUADRUPLE, 0, 100, "spent 100"),
+    (PICKED, 0, 1_000_000, "found, 1 dropped"),
+    (SECOND_PLACE, 0, 1_000_000, "found, 1 dropped"),
+    (UNDER_BINDER, 0, 1_000_000, "found, 1 dropped"),
 ];
 
 #[test]

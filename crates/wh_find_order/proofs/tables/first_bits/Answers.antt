@@ -24,8 +24,9 @@ loop-scope-preserved c =
     let before = c.loop-scope.invariant in
     let total = c.in_ok-total.total in
     let is = c.in_ok-push-2.ensures.items in
+    let places : c.len.result ≡ length c.scope-item.result.items = omega (arith, c.len.ensures, c.scope-item.result.ok.0) in
     let sum : total ≡ first_bit b (types_in scopes) (suc i) =
-    first_after b scopes i c.loop-scope.total total c.len.result c.scope-item.result c.loop-scope-test.true c.scope-item.is c.len.ensures before.total c.in_ok-total.ensures.sum in
+    first_after b scopes i c.loop-scope.total total c.len.result c.scope-item.result c.loop-scope-test.true c.scope-item.is places before.total c.in_ok-total.ensures.sum in
     let next : suc i ≡ i + 1 = omega arith in
     record {
       count = ap length is ∙ length_push c.loop-scope.made.items total ∙ ap (λ n. n + 1) before.count;
