@@ -1,10 +1,12 @@
-use Rattle.std.proofs.Common.{◌≡◌, ◌<◌, ℕ, List, map, reverse, All, ap, subst, ◌∙◌}
+use Rattle.std.proofs.Common.{◌<◌, ℕ, List, [], ◌∷◌, ◌++◌, map, reverse, All, ap, subst, ◌∙◌}
 use Rattle.std.proofs.lemmas.List.{length-map}
 use Rattle.wh_system.specs.SystemView.{system_data}
 use Rattle.wh_pairs.specs.PairData.{pair_data}
 use Rattle.wh_pairs.specs.Views.{pairs_data}
 use Rattle.wh_inference.specs.Said.{inference}
 use Rattle.wh_cert.specs.Said.{said_node, said_filter, said_order}
+use Rattle.wh_cert.specs.declared.certificate.Node.TheVariants as code
+use Rattle.wh_cert.specs.declared.order_node.OrderNode.{OrderNode}
 use Rattle.wh_pairs.specs.Sets.{IsKept, IsSetOf}
 use Rattle.wh_find_order.specs.Answers.{IsAnswer, IsOrder}
 use Rattle.wh_prover.proofs.ArriveLemmas.{arrives_within}
@@ -32,4 +34,5 @@ returns-in_ok-push-in-Found-2 c =
     (reverse stack) (reverse c.push.new.self.items) (map said_node c.args.nodes.now) (map said_node c.push-in-Found.new.self)
     c.requires.ended c.requires.none c.requires.none_either found kept
     (ap reverse c.in_ok-push-in-Found.ensures.items ∙ reverse_push stack rest)
-    (said_push c.args.nodes.now c.push-in-Found.new.self _ c.in_ok-push-in-Found-2.ensures.ok)
+    (said_push c.args.nodes.now c.push-in-Found.new.self (code.Order c.in_ok-new-in-Found.field-0) c.in_ok-push-in-Found-2.ensures.ok
+    ∙ ap (λ (x : OrderNode). map said_node c.args.nodes.now ++ said_order x ∷ []) c.in_ok-new-in-Found.ensures.ok)
