@@ -1,0 +1,175 @@
+//! Which projection comes closest for pairs of which none was dropped: one that keeps or lowers the argument in as many of them as can be
+//! found by changing one argument at a time. Others may keep as many.
+
+use std::alloc::{AllocError, Global};
+use wh_judging::Problem;
+use wh_pairs::{Pair, PairSet};
+use wh_subterm::{Relation, relation_at};
+use wh_system::System;
+use wh_tell::Piece::{AFun, ATerm, Number, Say};
+use wh_tell::{Text, names_of_rule, names_of_system, tell, tell_line};
+use wh_terms::Terms;
+
+// How often each symbol is gone through.
+const ROUNDS: u32 = 4;
+
+/// Appends the projection that comes closest, and the pairs that stop it.
+pub fn put_closest_projection(
+    alloc: Global,
+    text: &mut Text,
+    problem: &Problem,
+    set: &PairSet,
+) -> Result<(), AllocError> {
+    let pairs = pairs_of_set(alloc, problem, set.as_slice())?;
+    let mut chosen = Vec::new(alloc);
+    for _ in 0..problem.system.fun_names().len() {
+        chosen.push(0)?;
+    }
+    for _ in 0..ROUNDS {
+        improve(&problem.system, &pairs, &mut chosen);
+    }
+    put_chosen(text, problem, set.as_slice(), &chosen)
+}
+
+// The pairs of a set.
+fn pairs_of_set<'a>(
+    alloc: Global,
+    problem: &'a Problem,
+    set: &[u32],
+) -> Result<Vec<&'a Pair>, AllocError> {
+    let mut found = Vec::new(alloc);
+    for number in set {
+        if let Some(pair) = problem.pairs.as_slice().get(*number as usize) {
+            found.push(pair)?;
+        }
+    }
+    Ok(found)
+}
+
+// Chooses for each symbol the argument with which the most pairs are kept or lowered.
+fn improve(system: &System, pairs: &[&Pair], chosen: &mut [u32]) {
+    for symbol in 0..chosen.len() {
+        let before = chosen[symbol];
+        let mut best = before;
+        let mut most = score(pairs, chosen);
+        for place in 0..system.need(symbol as u32).unwrap_or(0) {
+            chosen[symbol] = place;
+            let now = score(pairs, chosen);
+            if now > most {
+                most = now;
+                best = place;
+            }
+        }
+        chosen[symbol] = best;
+    }
+}
+
+// How many pairs are kept or lowered, where one that is lowered counts a little more.
+fn score(pairs: &[&Pair], chosen: &[u32]) -> u64 {
+    let mut sum: u64 = 0;
+    for pair in pairs {
+        sum = sum.saturating_add(match relation_in(pair, chosen) {
+            Relation::Neither => 0,
+            Relation::Equal => 1000,
+            Relation::Below => 1001,
+        });
+    }
+    sum
+}
+
+// What the chosen arguments of a pair are to one another.
+fn relation_in(pair: &Pair, chosen: &[u32]) -> Relation {
+    let left = chosen.get(pair.left_fun as usize);
+    let right = chosen.get(pair.right_fun as usize);
+    match (left, right) {
+        (Some(left), Some(right)) => relation_at(pair, *left, *right),
+        _ => Relation::Neither,
+    }
+}
+
+// Appends the choices and the pairs that stop them.
+fn put_chosen(
+    text: &mut Text,
+    problem: &Problem,
+    set: &[u32],
+    chosen: &[u32],
+) -> Result<(), AllocError> {
+    text.say("No projection lets a pair go. One that comes close looks at the arguments:")?;
+    for (symbol, place) in chosen.iter().enumerate() {
+        if heads_some(problem, set, symbol as u32) {
+            put_choice(text, &problem.system, symbol as u32, *place)?;
+        }
+    }
+    text.say(".\n")?;
+    for number in set {
+        if let Some(pair) = problem.pairs.as_slice().get(*number as usize) {
+            put_relation(text, &problem.system, *number, pair, chosen)?;
+        }
+    }
+    Ok(())
+}
+
+// Whether the symbol heads a side of a pair of the set.
+fn heads_some(problem: &Problem, set: &[u32], symbol: u32) -> bool {
+    for number in set {
+        if let Some(pair) = problem.pairs.as_slice().get(*number as usize) {
+            if pair.left_fun == symbol || pair.right_fun == symbol {
+                return true;
+            }
+        }
+    }
+    false
+}
+
+fn put_choice(text: &mut Text, system: &System, symbol: u32, place: u32) -> Result<(), AllocError> {
+    let names = names_of_system(system);
+    tell(
+        text,
+        " @ @",
+        &[AFun(&names, symbol), Number(place.saturating_add(1))],
+    )
+}
+
+// Appends what becomes of the chosen argument in a pair.
+fn put_relation(
+    text: &mut Text,
+    system: &System,
+    number: u32,
+    pair: &Pair,
+    chosen: &[u32],
+) -> Result<(), AllocError> {
+    tell(text, "  pair @: ", &[Number(number)])?;
+    put_argument(text, system, pair, chosen, pair.left_fun, &pair.left)?;
+    text.say(" becomes ")?;
+    put_argument(text, system, pair, chosen, pair.right_fun, &pair.right)?;
+    tell_line(
+        text,
+        0,
+        "@",
+        &[Say(match relation_in(pair, chosen) {
+            Relation::Equal => ", the same.",
+            Relation::Below => ", a proper part of it.",
+            Relation::Neither => ", neither the same nor a part of it: this pair stops it.",
+        })],
+    )
+}
+
+// Appends the argument of a side that is chosen.
+fn put_argument(
+    text: &mut Text,
+    system: &System,
+    pair: &Pair,
+    chosen: &[u32],
+    fun: u32,
+    arguments: &Terms,
+) -> Result<(), AllocError> {
+    let names = names_of_rule(system, pair.rule);
+    let place = match chosen.get(fun as usize) {
+        Some(place) => *place as usize,
+        None => return Ok(()),
+    };
+    match arguments.as_slice().get(place) {
+        Some(term) => tell(text, "@", &[ATerm(&names, term)]),
+        None => text.say("nothing"),
+    }
+}

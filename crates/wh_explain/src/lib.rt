@@ -1,0 +1,24 @@
+//! Why a system terminates, why it runs for ever, or where a search gave up, in words. The text is pinned by no clause, but that it calls
+//! a certificate a proof or a loop only where the check accepts it.
+#![tactic(auto)]
+
+mod causes;
+mod closest;
+mod explain;
+mod filtered;
+mod guessed;
+mod inferred;
+mod judge;
+mod loops;
+mod ordered;
+mod projected;
+mod request;
+mod stepping;
+mod tree;
+mod valued;
+mod values;
+mod within;
+
+pub use explain::{explain_file, graph_file, lint_file};
+pub use judge::{Verdict, judged, word_of};
+pub use request::{Request, read_request};
