@@ -1,6 +1,6 @@
 -- What a text means that begins with the word of a verdict.
-use Rattle.std.proofs.Common.{◌≡◌, ℕ, List, ◌∷◌, ◌++◌, Option, arith}
-use Rattle.std.specs.Prelude.{codes}
+use Rattle.std.proofs.Common.{◌≡◌, ℕ, List, ◌∷◌, ◌++◌, Option, ap, sym, subst, ◌∙◌, arith}
+use Rattle.std.specs.Prelude.{codes, Result, Ok, Err, IfOk}
 use Rattle.wh_system.specs.Systems.{SystemData}
 use Rattle.wh_cert.specs.Written.{Cert, yes, no}
 use Rattle.wh_checker.specs.Accepted.{IsUnbounded}
@@ -40,3 +40,9 @@ means_proof held d text has means begins bytes told = (d, (has bytes told).1, me
 pub means_loop : (held : Option (List ℕ)) (d : SystemData) (text : List ℕ) → IsSystemIn held d → Means d text
     → BeginsWith (codes "NO") text → Told held MeansLoop
 means_loop held d text has means begins bytes told = (d, (has bytes told).1, means.no begins)
+
+-- a text that was made of the word and the rest means what the verdict does
+pub joined_means : {E : Type 0} (d : SystemData) (v : Verdict) (rest word : List ℕ) (r : Result (List ℕ) E) → word ≡ word_of v
+    → MeantBy d v → IfOk r (λ text. text ≡ word ++ rest) → IfOk r (Means d)
+joined_means d v rest word (Ok text) is m e = subst (Means d) (sym (e ∙ ap (λ w. w ++ rest) is)) (text_means d v rest m)
+joined_means d v rest word (Err f) is m e = tt

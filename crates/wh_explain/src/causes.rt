@@ -13,8 +13,12 @@ use wh_access::NoRanks;
 use wh_judging::Problem;
 use wh_pairs::PairSet;
 use wh_prover::{Answer, Cause, Finder, Options, prove};
-use wh_tell::Piece::{AMeta, ASort, Number, Say};
-use wh_tell::{Names, Text, names_of_rule, names_of_system, put_pairs, tell, tell_line};
+use wh_tell::Piece::{Named, Number, Unknown};
+use wh_tell::{Text, names_of_rule, names_of_system, put_pairs, tell, tell_line};
+
+// What a search came to that ended on a set of pairs.
+const NONE_LETS_GO: &str =
+    "On some set of pairs no projection lets one go, and no interpretation of those that are tried.\n";
 
 /// Appends why nothing was found under these options.
 pub fn put_cause(
@@ -26,15 +30,12 @@ pub fn put_cause(
 ) -> Result<(), AllocError>
     requires { HasPairs (system_data problem.now.system) (pairs_data problem.now.pairs) }
 {
+    text.say("\n")?;
     match cause {
         Cause::NoRanks(cause) => put_no_ranks(text, problem, cause),
         Cause::Stuck(set) => {
-            tell_line(
-                text,
-                0,
-                "There is no loop of few steps from the left side of a rule.",
-                &[],
-            )?;
+            text.say(NONE_LETS_GO)?;
+            text.say("There is no loop of few steps from the left side of a rule.\n")?;
             put_stuck(alloc, text, problem, set)
         }
         Cause::Spent { finder, set, .. } => {
@@ -42,12 +43,8 @@ pub fn put_cause(
             put_stuck(alloc, text, problem, set)
         }
         Cause::Full(_) => {
-            tell_line(
-                text,
-                0,
-                "The search for loops kept as many terms as it may.",
-                &[],
-            )?;
+            text.say(NONE_LETS_GO)?;
+            text.say("The search for loops kept as many terms as it may, and found none.\n")?;
             put_without_loops(alloc, text, problem, options)
         }
     }
@@ -62,7 +59,7 @@ fn put_no_ranks(text: &mut Text, problem: &Problem, cause: &NoRanks) -> Result<(
                 text,
                 0,
                 "Rule @ uses @, which its left side has only within an argument of a bound variable.",
-                &[Number(*rule), AMeta(&names, *meta)],
+                &[Number(*rule), Unknown(names.metas, *meta)],
             )
         }
         NoRanks::Cycle(sorts) => put_cycle(text, problem, sorts.as_slice()),
@@ -76,33 +73,26 @@ fn put_cycle(text: &mut Text, problem: &Problem, sorts: &[u32]) -> Result<(), Al
         "What rules take out of their arguments asks that ranks of sorts rise along a cycle:",
     )?;
     for sort in sorts {
-        put_sort(text, &names, *sort)?;
+        tell(text, " @", &[Named(names.sorts, *sort)])?;
     }
     if let Some(first) = sorts.first() {
-        put_sort(text, &names, *first)?;
+        tell(text, " @", &[Named(names.sorts, *first)])?;
     }
     text.say(
-        "\nSo a constructor takes a function over the sort that it makes, which no certificate allows.\n",
+        "\nOne of them at least has to be smaller than the next, so no ranks serve, and no certificate allows that.\n",
     )
-}
-
-fn put_sort(text: &mut Text, names: &Names<'_>, sort: u32) -> Result<(), AllocError> {
-    tell(text, " @", &[ASort(names, sort)])
 }
 
 // Appends which search ended without an answer.
 fn put_spent(text: &mut Text, finder: Finder) -> Result<(), AllocError> {
-    tell_line(
-        text,
-        0,
-        "@",
-        &[Say(match finder {
-            Finder::Subterm =>
-                "The search for a projection ended without an answer; no loop was found.",
-            Finder::Poly =>
-                "The search for an interpretation ended without an answer; no loop was found.",
-        })],
-    )
+    match finder {
+        Finder::Subterm => text.say("The search for a projection ended without an answer.\n")?,
+        Finder::Poly => {
+            text.say("No projection lets a pair of some set go, ")?;
+            text.say("and the search for an interpretation ended without an answer.\n")?;
+        }
+    }
+    text.say("No loop was found.\n")
 }
 
 // Searches once more for a proof alone, for the set on which that ends.

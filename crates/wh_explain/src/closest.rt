@@ -6,9 +6,10 @@ use wh_judging::Problem;
 use wh_pairs::{Pair, PairSet};
 use wh_subterm::{Relation, relation_at};
 use wh_system::System;
-use wh_tell::Piece::{AFun, ATerm, Number, Say};
+use wh_tell::Piece::{Named, Number, Say, Tree};
 use wh_tell::{Text, names_of_rule, names_of_system, tell, tell_line};
 use wh_terms::Terms;
+use wh_types::counted;
 
 // How often each symbol is gone through.
 const ROUNDS: u32 = 4;
@@ -52,7 +53,10 @@ fn improve(system: &System, pairs: &[&Pair], chosen: &mut [u32]) {
         let before = chosen[symbol];
         let mut best = before;
         let mut most = score(pairs, chosen);
-        for place in 0..system.need(symbol as u32).unwrap_or(0) {
+        for place in 0..system
+            .need(u32::try_from(symbol).unwrap_or(u32::MAX))
+            .unwrap_or(0)
+        {
             chosen[symbol] = place;
             let now = score(pairs, chosen);
             if now > most {
@@ -94,10 +98,11 @@ fn put_chosen(
     set: &[u32],
     chosen: &[u32],
 ) -> Result<(), AllocError> {
-    text.say("No projection lets a pair go. One that comes close looks at the arguments:")?;
+    text.say("A projection that comes close looks at the arguments:")?;
     for (symbol, place) in chosen.iter().enumerate() {
-        if heads_some(problem, set, symbol as u32) {
-            put_choice(text, &problem.system, symbol as u32, *place)?;
+        let symbol = counted(symbol)?;
+        if heads_some(problem, set, symbol) {
+            put_choice(text, &problem.system, symbol, *place)?;
         }
     }
     text.say(".\n")?;
@@ -126,16 +131,16 @@ fn put_choice(text: &mut Text, system: &System, symbol: u32, place: u32) -> Resu
     tell(
         text,
         " @ @",
-        &[AFun(&names, symbol), Number(place.saturating_add(1))],
+        &[Named(names.funs, symbol), Number(place.saturating_add(1))],
     )
 }
 
 // Appends what becomes of the chosen argument in a pair.
-fn put_relation(
+fn put_relation<'a>(
     text: &mut Text,
-    system: &System,
+    system: &'a System,
     number: u32,
-    pair: &Pair,
+    pair: &'a Pair,
     chosen: &[u32],
 ) -> Result<(), AllocError> {
     tell(text, "  pair @: ", &[Number(number)])?;
@@ -155,13 +160,13 @@ fn put_relation(
 }
 
 // Appends the argument of a side that is chosen.
-fn put_argument(
+fn put_argument<'a>(
     text: &mut Text,
-    system: &System,
+    system: &'a System,
     pair: &Pair,
     chosen: &[u32],
     fun: u32,
-    arguments: &Terms,
+    arguments: &'a Terms,
 ) -> Result<(), AllocError> {
     let names = names_of_rule(system, pair.rule);
     let place = match chosen.get(fun as usize) {
@@ -169,7 +174,7 @@ fn put_argument(
         None => return Ok(()),
     };
     match arguments.as_slice().get(place) {
-        Some(term) => tell(text, "@", &[ATerm(&names, term)]),
+        Some(term) => tell(text, "@", &[Tree(names, term)]),
         None => text.say("nothing"),
     }
 }

@@ -24,7 +24,7 @@ use wh_prover::{Answer, Options, prove};
 use wh_system::System;
 use wh_tell::Piece::{Big, Count, Number};
 use wh_tell::{Text, put_graph, put_lints, put_pair_line, put_ranks, tell, tell_line};
-use wh_types::{Bytes, Or};
+use wh_types::{Bytes, Or, counted};
 
 /// The bounds of a search, which are those of `prove` where it is given none.
 const USUAL: Options = Options {
@@ -197,7 +197,10 @@ fn put_place(text: &mut Text, verdict: Verdict) -> Result<(), AllocError> {
             "A value in node @ passes a limit.",
             &[Number(node)],
         ),
-        _ => Ok(()),
+        Verdict::Rejected(_) => {
+            text.say("`./wanda check` names the first condition that does not hold.\n")
+        }
+        Verdict::Proof | Verdict::Loop | Verdict::Open => Ok(()),
     }
 }
 
@@ -210,7 +213,7 @@ fn put_all_pairs(text: &mut Text, problem: &Problem) -> Result<(), AllocError> {
         &[Count(pairs.len())],
     )?;
     for (number, pair) in pairs.iter().enumerate() {
-        put_pair_line(text, &problem.system, number as u32, pair, 1)?;
+        put_pair_line(text, &problem.system, counted(number)?, pair, 1)?;
     }
     Ok(())
 }

@@ -2,7 +2,7 @@
 
 use std::alloc::AllocError;
 use wh_order::{Tree, Trees};
-use wh_tell::{Names, Text, put_bound, put_fun, put_meta};
+use wh_tell::{Names, Text, put_bound, put_meta, put_name};
 
 /// Appends a filtered tree below so many binders; a spine that is bare has no parentheses.
 #[cycle(filtered)]
@@ -20,19 +20,19 @@ pub fn put_filtered_tree(
             text.number(*number as u128)
         }
         Tree::Meta(meta, _, items) => {
-            put_meta(text, names, *meta)?;
-            put_enclosed(text, names, items, depth, "[", ",", "]")
+            put_meta(text, names.metas, *meta)?;
+            put_enclosed(text, names, items, depth, b"[", b",", "]")
         }
         Tree::Sym(symbol, items) => {
             text.say(front(bare, items))?;
-            put_fun(text, names, *symbol)?;
-            put_enclosed(text, names, items, depth, " ", " ", back(bare))
+            put_name(text, names.funs, *symbol)?;
+            put_enclosed(text, names, items, depth, b" ", b" ", back(bare))
         }
         Tree::Mark(symbol, items) => {
             text.say(front(bare, items))?;
-            put_fun(text, names, *symbol)?;
+            put_name(text, names.funs, *symbol)?;
             text.say("#")?;
-            put_enclosed(text, names, items, depth, " ", " ", back(bare))
+            put_enclosed(text, names, items, depth, b" ", b" ", back(bare))
         }
         Tree::Lam(_, body) => {
             text.say("(\\$")?;
@@ -44,7 +44,7 @@ pub fn put_filtered_tree(
         Tree::Apply(head, items) => {
             text.say(front(bare, items))?;
             put_filtered_tree(text, names, head, depth, true)?;
-            put_enclosed(text, names, items, depth, " ", " ", back(bare))
+            put_enclosed(text, names, items, depth, b" ", b" ", back(bare))
         }
     }
 }
@@ -70,13 +70,13 @@ fn put_enclosed(
     names: &Names<'_>,
     items: &Trees,
     depth: u32,
-    first: &str,
-    other: &str,
+    first: &[u8],
+    other: &[u8],
     end: &str,
 ) -> Result<(), AllocError> {
     let mut sign = first;
     for item in items.as_slice() {
-        text.say(sign)?;
+        text.spell(sign)?;
         put_filtered_tree(text, names, item, depth, false)?;
         sign = other;
     }

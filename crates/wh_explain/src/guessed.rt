@@ -16,8 +16,9 @@ use wh_judging::Problem;
 use wh_pairs::{PairSet, marked_symbols};
 use wh_reduction::{Task, all_rules};
 use wh_system::System;
-use wh_tell::Piece::{AFun, APoly};
+use wh_tell::Piece::{Named, Sum};
 use wh_tell::{Text, names_of_system, put_pair_line, put_rule_line, tell_line};
+use wh_types::counted;
 
 // How many rules and pairs the climb looks at.
 const LOOKS: u64 = 30_000;
@@ -66,15 +67,15 @@ fn put_climbed<'a>(
 }
 
 // Appends what symbols are read as.
-fn put_guess(text: &mut Text, system: &System, guess: &Guess) -> Result<(), AllocError> {
+fn put_guess<'a>(text: &mut Text, system: &'a System, guess: &'a Guess) -> Result<(), AllocError> {
     let names = names_of_system(system);
-    text.say("No interpretation was found. One that the search began with reads\n")?;
+    text.say("One of the interpretations that are tried first reads\n")?;
     for (number, symbol) in guess.symbols.iter().enumerate() {
         tell_line(
             text,
             1,
             "@ as @",
-            &[AFun(&names, number as u32), APoly(&symbol.poly)],
+            &[Named(names.funs, counted(number)?), Sum(&symbol.poly)],
         )?;
     }
     for mark in &guess.marks {
@@ -82,7 +83,7 @@ fn put_guess(text: &mut Text, system: &System, guess: &Guess) -> Result<(), Allo
             text,
             1,
             "@# as @",
-            &[AFun(&names, mark.symbol), APoly(&mark.poly)],
+            &[Named(names.funs, mark.symbol), Sum(&mark.poly)],
         )?;
     }
     Ok(())

@@ -9,10 +9,10 @@ use wh_tell::Piece::{Number, Say, Spell};
 use wh_tell::{Names, Text, put_numbers, tell};
 
 /// Appends what is left of each symbol; a mark stands behind the names of marked ones.
-pub fn put_filters(
+pub fn put_filters<'a>(
     text: &mut Text,
-    mark: &str,
-    lines: &[NamedFilter],
+    mark: &'a str,
+    lines: &'a [NamedFilter],
     depth: u32,
 ) -> Result<(), AllocError> {
     for line in lines {
@@ -42,7 +42,7 @@ pub fn put_filters(
 /// What an inference is to show of two trees, each below so many binders.
 #[derive(Clone, Copy)]
 struct Claim<'a> {
-    words: &'static str,
+    words: &'static [u8],
     left: &'a Tree,
     above: u32,
     right: &'a Tree,
@@ -60,7 +60,7 @@ pub fn put_inferred(
 ) -> Result<(), AllocError> {
     if let (Some(left), Some(right), Some(inference)) = (left, right, inference) {
         let claim = Some(Claim {
-            words: " is at least ",
+            words: b" is at least ",
             left: &left,
             above: 0,
             right: &right,
@@ -82,7 +82,7 @@ fn put_inference(
     text.indent(depth)?;
     if let Some(claim) = claim {
         put_filtered_tree(text, names, claim.left, claim.above, false)?;
-        text.say(claim.words)?;
+        text.spell(claim.words)?;
         put_filtered_tree(text, names, claim.right, claim.below, false)?;
         text.say(": ")?;
     }
@@ -125,13 +125,13 @@ fn part_of<'a>(claim: Claim<'a>, letter: Letter, place: u32, index: usize) -> Op
     match letter {
         Letter::Same | Letter::Var => None,
         Letter::Lam => in_bodies(claim),
-        Letter::Mono => by_arguments(claim, index, index, " is at least "),
+        Letter::Mono => by_arguments(claim, index, index, b" is at least "),
         Letter::Sub => by_left(claim, place),
         Letter::Prec | Letter::Meta => by_right(claim, index),
         Letter::Lex => match index.checked_sub(1) {
             None => {
                 let at = (place as usize).checked_sub(1)?;
-                by_arguments(claim, at, at, " is greater than ")
+                by_arguments(claim, at, at, b" is greater than ")
             }
             Some(index) => by_right(claim, index),
         },
@@ -158,7 +158,7 @@ fn by_arguments<'a>(
     claim: Claim<'a>,
     left: usize,
     right: usize,
-    words: &'static str,
+    words: &'static [u8],
 ) -> Option<Claim<'a>> {
     let left = items_of(claim.left).get(left)?;
     let right = items_of(claim.right).get(right)?;
@@ -174,7 +174,7 @@ fn by_left<'a>(claim: Claim<'a>, place: u32) -> Option<Claim<'a>> {
     let at = (place as usize).checked_sub(1)?;
     let left = items_of(claim.left).get(at)?;
     Some(Claim {
-        words: " is at least ",
+        words: b" is at least ",
         left,
         ..claim
     })
@@ -183,7 +183,7 @@ fn by_left<'a>(claim: Claim<'a>, place: u32) -> Option<Claim<'a>> {
 fn by_right<'a>(claim: Claim<'a>, index: usize) -> Option<Claim<'a>> {
     let right = items_of(claim.right).get(index)?;
     Some(Claim {
-        words: " is above ",
+        words: b" is above ",
         right,
         ..claim
     })
@@ -192,7 +192,7 @@ fn by_right<'a>(claim: Claim<'a>, index: usize) -> Option<Claim<'a>> {
 fn by_head<'a>(claim: Claim<'a>) -> Option<Claim<'a>> {
     match claim.right {
         Tree::Apply(head, _) => Some(Claim {
-            words: " is above ",
+            words: b" is above ",
             right: &**head,
             ..claim
         }),
@@ -203,7 +203,7 @@ fn by_head<'a>(claim: Claim<'a>) -> Option<Claim<'a>> {
 fn in_right_body<'a>(claim: Claim<'a>) -> Option<Claim<'a>> {
     match claim.right {
         Tree::Lam(_, body) => Some(Claim {
-            words: " is above ",
+            words: b" is above ",
             right: &**body,
             below: claim.below.saturating_add(1),
             ..claim
@@ -215,7 +215,7 @@ fn in_right_body<'a>(claim: Claim<'a>) -> Option<Claim<'a>> {
 fn in_bodies<'a>(claim: Claim<'a>) -> Option<Claim<'a>> {
     match (claim.left, claim.right) {
         (Tree::Lam(_, left), Tree::Lam(_, right)) => Some(Claim {
-            words: " is greater than ",
+            words: b" is greater than ",
             left: &**left,
             above: claim.above.saturating_add(1),
             right: &**right,

@@ -1,6 +1,6 @@
 //! Nodes of path orders: the sides of rules and pairs are filtered, and each inference is told.
 
-ghost use Rattle.std.specs.Prelude.{◌<◌, All, Contains, length};
+ghost use Rattle.std.specs.Prelude.{◌<◌, All, Contains, length, map};
 ghost use Rattle.wh_system.specs.SystemView.{system_data};
 ghost use Rattle.wh_pairs.specs.PairData.{PairData};
 ghost use Rattle.wh_pairs.specs.SystemPairs.{HasPairs};
@@ -9,7 +9,8 @@ ghost use Rattle.wh_polycheck.specs.Covering.{IsTypedTask};
 ghost use Rattle.wh_reduction.specs.TaskView.{task_data};
 ghost use Rattle.wh_order.specs.TreeSides.{AreFilters, HasTypedCalls};
 ghost use Rattle.wh_ordering.specs.FilteringView.{filtering_data};
-ghost use Rattle.wh_ordering.specs.Filterings.{AreFiltersFor};
+ghost use Rattle.wh_cert.specs.Said.{said_filter};
+ghost use Rattle.wh_checker.specs.Faults.{SayOrdering};
 
 use crate::inferred::{put_filters, put_inferred};
 use crate::projected::put_dropped;
@@ -88,8 +89,10 @@ fn put_under<'a>(
     depth: u32,
 ) -> Result<(), AllocError>
     requires task { IsTypedTask (task_data task.now) }
-    requires filters { AreFiltersFor (task_data task.now) (filtering_data filters.now) }
+    requires says { SayOrdering (system_data task.now.system.now) (pairs_data task.now.pairs.now) task.now.set.now
+        (map said_filter node.now.funs) (map said_filter node.now.marks) (filtering_data filters.now) }
 {
+    task.system.is_well_made();
     let inferred = Inferred {
         rules: node.rules.as_slice(),
         pairs: node.pairs.as_slice(),
@@ -146,7 +149,7 @@ fn put_pairs<'a>(
 ) -> Result<(), AllocError>
     requires filters { AreFilters (task_data task.now).symbols (task_data task.now).rules (filtering_data filters.now) }
     requires task { IsTypedTask (task_data task.now) }
-    requires typed { (p : PairData) → Contains (task_data task.now).pairs p
+    requires calls { (p : PairData) → Contains (task_data task.now).pairs p
         → HasTypedCalls (task_data task.now).symbols (task_data task.now).rules p }
 {
     for i in 0..task.set.len() {

@@ -5,7 +5,7 @@ use wh_cert::Arg;
 use wh_judging::Problem;
 use wh_pairs::Pair;
 use wh_system::System;
-use wh_tell::Piece::{ATerm, Number, Say, Spell};
+use wh_tell::Piece::{Number, Say, Spell, Tree};
 use wh_tell::{Names, Text, names_of_rule, put_numbers, put_pair_line, tell, tell_line};
 use wh_terms::{Term, Terms, same};
 
@@ -42,10 +42,10 @@ pub fn put_dropped(text: &mut Text, drop: &[u32], depth: u32) -> Result<(), Allo
 }
 
 // Appends the two arguments that are compared in a pair.
-fn put_compared(
+fn put_compared<'a>(
     text: &mut Text,
-    system: &System,
-    pair: &Pair,
+    system: &'a System,
+    pair: &'a Pair,
     args: &[Arg],
     depth: u32,
 ) -> Result<(), AllocError> {
@@ -58,8 +58,8 @@ fn put_compared(
             depth,
             "@ becomes @@",
             &[
-                ATerm(&names, left),
-                ATerm(&names, right),
+                Tree(names, left),
+                Tree(names, right),
                 Say(if same(left, right) {
                     ": it stays the same."
                 } else {

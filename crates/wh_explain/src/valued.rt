@@ -5,21 +5,21 @@ use wh_cert::{Interp, PolyNode};
 use wh_hopoly::{Monomial, Move, Moves, Poly};
 use wh_pairs::Pair;
 use wh_system::System;
-use wh_tell::Piece::{APoly, Big, Count, Number, Say, Spell};
+use wh_tell::Piece::{Big, Count, Number, Say, Spell, Sum};
 use wh_tell::{
     Names, Text, names_of_rule, put_factors, put_meta, put_pair_line, put_rule_line, tell,
     tell_line,
 };
-use wh_types::is_in;
+use wh_types::{counted, is_in};
 
 // How many monomials of a side are listed.
 const MOST_LISTED: usize = 100;
 
 /// Appends what symbols are read as; a mark stands behind the names of marked ones.
-pub fn put_readings(
+pub fn put_readings<'a>(
     text: &mut Text,
-    mark: &str,
-    lines: &[Interp],
+    mark: &'a str,
+    lines: &'a [Interp],
     depth: u32,
 ) -> Result<(), AllocError> {
     for line in lines {
@@ -27,7 +27,7 @@ pub fn put_readings(
             text,
             depth,
             "@@ is @",
-            &[Spell(line.name.bytes()), Say(mark), APoly(&line.poly)],
+            &[Spell(line.name.bytes()), Say(mark), Sum(&line.poly)],
         )?;
     }
     Ok(())
@@ -85,11 +85,12 @@ fn put_variables(
         return Ok(());
     }
     text.indent(depth.saturating_add(1))?;
-    let mut words = "with y@ for ";
+    let mut words: &[u8] = b"with y";
     for number in 0..count {
-        tell(text, words, &[Count(number)])?;
-        put_meta(text, names, number as u32)?;
-        words = ", y@ for ";
+        text.spell(words)?;
+        tell(text, "@ for ", &[Count(number)])?;
+        put_meta(text, names.metas, counted(number)?)?;
+        words = b", y";
     }
     text.say("\n")
 }
@@ -121,8 +122,13 @@ fn put_covered(
 }
 
 // Appends a side, and each of its monomials with its number.
-fn put_side(text: &mut Text, word: &str, side: &Poly, depth: u32) -> Result<(), AllocError> {
-    tell_line(text, depth, "@ @", &[Say(word), APoly(side)])?;
+fn put_side<'a>(
+    text: &mut Text,
+    word: &'a str,
+    side: &'a Poly,
+    depth: u32,
+) -> Result<(), AllocError> {
+    tell_line(text, depth, "@ @", &[Say(word), Sum(side)])?;
     let items = side.as_slice();
     if items.len() < 2 {
         return Ok(());

@@ -1,15 +1,17 @@
 //! Nodes of interpretations: the sides of rules and pairs are evaluated under the polynomials of the node, and each line is told.
 
-ghost use Rattle.std.specs.Prelude.{◌≡◌, ◌<◌, ℕ, All, Contains, Some, length, slice_get};
+ghost use Rattle.std.specs.Prelude.{◌≡◌, ◌<◌, ℕ, All, Contains, Some, length, map, slice_get};
 ghost use Rattle.wh_system.specs.SystemView.{system_data};
 ghost use Rattle.wh_pairs.specs.PairData.{PairData};
 ghost use Rattle.wh_pairs.specs.SystemPairs.{HasPairs};
 ghost use Rattle.wh_pairs.specs.Views.{pairs_data};
 ghost use Rattle.wh_polycheck.specs.Covering.{IsTypedTask};
 ghost use Rattle.wh_polycheck.specs.Marks.{HasMarkedSides};
-ghost use Rattle.wh_polycheck.specs.Readings.{AreProper, AreReadingsFor};
+ghost use Rattle.wh_polycheck.specs.Readings.{AreProper};
 ghost use Rattle.wh_polycheck.specs.ReadingsView.{readings_data};
 ghost use Rattle.wh_reduction.specs.TaskView.{task_data};
+ghost use Rattle.wh_cert.specs.Said.{said_interp};
+ghost use Rattle.wh_checker.specs.Faults.{SayCovering};
 
 use crate::projected::put_dropped;
 use crate::valued::{put_pair_values, put_readings, put_rule_values};
@@ -95,7 +97,8 @@ fn put_under<'a, 'b>(
     depth: u32,
 ) -> Result<(), AllocError>
     requires task { IsTypedTask (task_data task.now) }
-    requires readings { AreReadingsFor (task_data task.now) (readings_data readings.now) }
+    requires says { SayCovering (system_data task.now.system.now) (pairs_data task.now.pairs.now) task.now.set.now
+        (map said_interp node.now.funs) (map said_interp node.now.marks) (readings_data readings.now) }
 {
     interpretations_in_order_interpret();
     let evidence = Evidence {

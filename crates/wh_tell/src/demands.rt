@@ -1,14 +1,14 @@
 //! Which sorts have which ranks, and why: what rules take out of their arguments demands that ranks rise.
 
 use crate::names::{names_of_rule, names_of_system};
-use crate::sentence::Piece::{AFun, AMeta, ASort, Number, Say};
+use crate::sentence::Piece::{Named, Number, Say, Unknown};
 use crate::sentence::{tell, tell_line};
 use crate::spines::{argument_type, arguments_of, count_meta, symbol_of};
 use crate::text::Text;
 use std::alloc::{AllocError, Global};
 use wh_system::System;
 use wh_terms::{Signature, Term};
-use wh_types::SimpleType;
+use wh_types::{SimpleType, counted};
 
 /// That the rank of a sort is to be at most that of another one, or below it.
 #[derive(Clone, Copy)]
@@ -32,7 +32,7 @@ pub fn put_ranks(
     let names = names_of_system(system);
     text.say("\nRanks of sorts:")?;
     for (sort, rank) in ranks.iter().enumerate() {
-        let sort = ASort(&names, sort as u32);
+        let sort = Named(names.sorts, counted(sort)?);
         tell(text, " @ @", &[sort, Number(*rank)])?;
     }
     text.say(".\n")?;
@@ -53,13 +53,13 @@ fn put_demand(text: &mut Text, system: &System, demand: &Demand) -> Result<(), A
         text,
         "  @@@",
         &[
-            ASort(&names, demand.from),
+            Named(names.sorts, demand.from),
             Say(if demand.strict {
                 " is below "
             } else {
                 " is not above "
             }),
-            ASort(&names, demand.to),
+            Named(names.sorts, demand.to),
         ],
     )?;
     tell_line(
@@ -68,9 +68,9 @@ fn put_demand(text: &mut Text, system: &System, demand: &Demand) -> Result<(), A
         ": rule @ takes @ out of argument @ of @.",
         &[
             Number(demand.rule),
-            AMeta(&names, demand.meta),
+            Unknown(names.metas, demand.meta),
             Number(demand.place.saturating_add(1)),
-            AFun(&names, demand.symbol),
+            Named(names.funs, demand.symbol),
         ],
     )
 }
@@ -80,14 +80,14 @@ fn demands_of(alloc: Global, system: &System) -> Result<Vec<Demand>, AllocError>
     let mut demands = Vec::new(alloc);
     for (number, rule) in system.rules().iter().enumerate() {
         for meta in 0..rule.metas.as_slice().len() {
-            let meta = meta as u32;
+            let meta = counted(meta)?;
             if count_meta(meta, &rule.right) > 0 {
                 ask_left(
                     alloc,
                     system.signature(),
                     &mut demands,
                     &rule.left,
-                    number as u32,
+                    counted(number)?,
                     meta,
                 )?;
             }
@@ -137,7 +137,7 @@ fn ask_in(
             if !ask_in(alloc, signature, demands, argument, rule, meta)? {
                 return Ok(false);
             }
-            let place = arguments_of(alloc, function)?.len() as u32;
+            let place = counted(arguments_of(alloc, function)?.len())?;
             ask_at(signature, demands, symbol, place, rule, meta)?;
             Ok(true)
         }

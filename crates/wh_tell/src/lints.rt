@@ -1,7 +1,7 @@
 //! What is likely not meant in a system: arguments that no rule can match, and names that are not used.
 
 use crate::names::{Names, names_of_rule, names_of_system};
-use crate::sentence::Piece::{AFun, AMeta, Count, Number, Say};
+use crate::sentence::Piece::{Count, Named, Number, Say, Unknown};
 use crate::sentence::{tell, tell_line};
 use crate::spines::{argument_type, arguments_of, binders_of, count_meta, has_symbol, symbol_of};
 use crate::terms::put_term;
@@ -10,7 +10,7 @@ use crate::types::put_type;
 use std::alloc::{AllocError, Global};
 use wh_system::System;
 use wh_terms::{Rule, Term, Terms};
-use wh_types::SimpleType;
+use wh_types::{SimpleType, counted};
 
 /// An argument that is an abstraction on the left of all rules of a symbol.
 #[derive(Clone, Copy)]
@@ -28,7 +28,7 @@ pub fn put_lints(alloc: Global, text: &mut Text, system: &System) -> Result<(), 
     let begin = text.len();
     let wanted = wanted_abstractions(alloc, system)?;
     for (number, rule) in system.rules().iter().enumerate() {
-        let names = names_of_rule(system, number as u32);
+        let names = names_of_rule(system, counted(number)?);
         let place = Place {
             system,
             names: &names,
@@ -49,7 +49,7 @@ pub fn put_lints(alloc: Global, text: &mut Text, system: &System) -> Result<(), 
 fn wanted_abstractions(alloc: Global, system: &System) -> Result<Vec<Wanted>, AllocError> {
     let mut wanted = Vec::new(alloc);
     for symbol in 0..system.fun_names().len() {
-        let symbol = symbol as u32;
+        let symbol = counted(symbol)?;
         if let Some(need) = system.need(symbol) {
             for place in 0..need {
                 let binders = binders_wanted(alloc, system.rules(), symbol, place)?;
@@ -172,7 +172,7 @@ fn put_mismatch(
         &[
             Count(place.rule),
             Number(wanted.place.saturating_add(1)),
-            AFun(names, wanted.symbol),
+            Named(names.funs, wanted.symbol),
         ],
     )?;
     put_term(text, names, argument, depth, false)?;
@@ -180,7 +180,7 @@ fn put_mismatch(
     tell(
         text,
         "@ want an abstraction there: ",
-        &[AFun(names, wanted.symbol)],
+        &[Named(names.funs, wanted.symbol)],
     )?;
     text.say(match argument {
         Term::Meta(..) | Term::Bound(_) => "they apply only where an abstraction comes for it.\n",
@@ -246,7 +246,7 @@ fn lint_metas(
     rule: &Rule,
 ) -> Result<(), AllocError> {
     for meta in 0..rule.metas.as_slice().len() {
-        let meta = meta as u32;
+        let meta = counted(meta)?;
         let times = count_meta(meta, &rule.left);
         let words = match times {
             0 => " is declared and stands nowhere.",
@@ -257,7 +257,7 @@ fn lint_metas(
             text,
             0,
             "lint: in rule @ @@",
-            &[Count(number), AMeta(names, meta), Say(words)],
+            &[Count(number), Unknown(names.metas, meta), Say(words)],
         )?;
     }
     Ok(())
@@ -267,13 +267,13 @@ fn lint_metas(
 fn lint_symbols(text: &mut Text, system: &System) -> Result<(), AllocError> {
     let names = names_of_system(system);
     for symbol in 0..system.fun_names().len() {
-        let symbol = symbol as u32;
+        let symbol = counted(symbol)?;
         if !is_used(system.rules(), symbol) {
             tell_line(
                 text,
                 0,
                 "lint: @ stands in no rule.",
-                &[AFun(&names, symbol)],
+                &[Named(names.funs, symbol)],
             )?;
         }
     }

@@ -40,18 +40,8 @@ pub fn names_of_system<'a>(system: &'a System) -> Names<'a> {
     }
 }
 
-/// Appends the name of a sort.
-pub fn put_sort(text: &mut Text, names: &Names<'_>, number: u32) -> Result<(), AllocError> {
-    put_name(text, names.sorts, number)
-}
-
-/// Appends the name of a symbol.
-pub fn put_fun(text: &mut Text, names: &Names<'_>, number: u32) -> Result<(), AllocError> {
-    put_name(text, names.funs, number)
-}
-
-// Appends the name with this number.
-fn put_name(text: &mut Text, names: &[Name], number: u32) -> Result<(), AllocError> {
+/// Appends the name with this number.
+pub fn put_name(text: &mut Text, names: &[Name], number: u32) -> Result<(), AllocError> {
     match names.get(number as usize) {
         Some(name) => text.spell(name.bytes()),
         None => text.number(number as u128),
@@ -59,11 +49,11 @@ fn put_name(text: &mut Text, names: &[Name], number: u32) -> Result<(), AllocErr
 }
 
 /// Appends the name of a meta-variable; those behind the named ones are fresh, `?0` first.
-pub fn put_meta(text: &mut Text, names: &Names<'_>, number: u32) -> Result<(), AllocError> {
-    match names.metas.get(number as usize) {
+pub fn put_meta(text: &mut Text, metas: &[Name], number: u32) -> Result<(), AllocError> {
+    match metas.get(number as usize) {
         Some(name) => text.spell(name.bytes()),
         None => {
-            let fresh = (number as usize).saturating_sub(names.metas.len());
+            let fresh = (number as usize).saturating_sub(metas.len());
             text.say("?")?;
             text.number(fresh as u128)
         }

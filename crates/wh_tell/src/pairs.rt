@@ -1,7 +1,7 @@
 //! Dependency pairs and rules in words.
 
-use crate::names::{Names, names_of_rule, put_fun, put_meta};
-use crate::sentence::Piece::{ATerm, Number};
+use crate::names::{Names, names_of_rule, put_meta, put_name};
+use crate::sentence::Piece::{Number, Tree};
 use crate::sentence::{tell, tell_line};
 use crate::terms::put_term;
 use crate::text::Text;
@@ -17,7 +17,7 @@ pub fn put_call(
     fun: u32,
     arguments: &Terms,
 ) -> Result<(), AllocError> {
-    put_fun(text, names, fun)?;
+    put_name(text, names.funs, fun)?;
     text.say("#")?;
     for argument in arguments.as_slice() {
         text.say(" ")?;
@@ -41,13 +41,13 @@ fn put_conditions(
     names: &Names<'_>,
     conditions: &[Condition],
 ) -> Result<(), AllocError> {
-    let mut words = ", where ";
+    let mut words: &[u8] = b", where ";
     for condition in conditions {
-        text.say(words)?;
-        put_meta(text, names, condition.meta)?;
+        text.spell(words)?;
+        put_meta(text, names.metas, condition.meta)?;
         text.say(" uses its argument ")?;
         text.number(condition.place as u128)?;
-        words = " and ";
+        words = b" and ";
     }
     Ok(())
 }
@@ -107,8 +107,8 @@ pub fn put_rule_line(
             "rule @: @ => @",
             &[
                 Number(number),
-                ATerm(&names, &rule.left),
-                ATerm(&names, &rule.right),
+                Tree(names, &rule.left),
+                Tree(names, &rule.right),
             ],
         ),
         None => tell_line(text, depth, "rule @", &[Number(number)]),

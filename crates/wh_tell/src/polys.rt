@@ -7,12 +7,12 @@ use wh_hopoly::{Atoms, Poly, Polys};
 /// Appends a polynomial.
 #[cycle(polys)]
 pub fn put_poly(text: &mut Text, poly: &Poly) -> Result<(), AllocError> {
-    let mut sign = "";
+    let mut sign: &[u8] = b"";
     for monomial in poly.as_slice() {
-        text.say(sign)?;
+        text.spell(sign)?;
         text.number(monomial.coefficient)?;
         put_factors(text, &monomial.atoms)?;
-        sign = "+";
+        sign = b"+";
     }
     if poly.as_slice().is_empty() {
         return text.say("0");
@@ -34,11 +34,11 @@ pub fn put_factors(text: &mut Text, factors: &Atoms) -> Result<(), AllocError> {
 // Appends arguments in parentheses, where there are some.
 #[cycle(polys)]
 fn put_arguments(text: &mut Text, arguments: &Polys) -> Result<(), AllocError> {
-    let mut sign = "(";
+    let mut sign: &[u8] = b"(";
     for argument in arguments.as_slice() {
-        text.say(sign)?;
+        text.spell(sign)?;
         put_poly(text, argument)?;
-        sign = ",";
+        sign = b",";
     }
     if arguments.as_slice().is_empty() {
         return Ok(());

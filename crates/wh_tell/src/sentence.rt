@@ -1,14 +1,13 @@
 //! Sentences of pieces.
 
-use crate::names::{Names, put_fun, put_meta, put_sort};
+use crate::names::{Names, put_meta, put_name};
 use crate::polys::put_poly;
 use crate::terms::put_term;
 use crate::text::Text;
-use crate::types::put_type;
 use std::alloc::AllocError;
 use wh_hopoly::Poly;
 use wh_terms::Term;
-use wh_types::SimpleType;
+use wh_text::Name;
 
 /// A piece of a sentence.
 #[derive(Clone, Copy)]
@@ -23,18 +22,14 @@ pub enum Piece<'a> {
     Count(usize),
     /// A coefficient.
     Big(u128),
-    /// The name of a sort.
-    ASort(&'a Names<'a>, u32),
-    /// The name of a symbol.
-    AFun(&'a Names<'a>, u32),
-    /// The name of a meta-variable.
-    AMeta(&'a Names<'a>, u32),
+    /// The name of a sort or symbol by its number.
+    Named(&'a [Name], u32),
+    /// The name of a meta-variable by its number.
+    Unknown(&'a [Name], u32),
     /// A term that stands below no binder.
-    ATerm(&'a Names<'a>, &'a Term),
-    /// A type.
-    AType(&'a Names<'a>, &'a SimpleType),
+    Tree(Names<'a>, &'a Term),
     /// A polynomial.
-    APoly(&'a Poly),
+    Sum(&'a Poly),
 }
 
 /// Appends the words, with the next piece in the place of each `@`.
@@ -73,11 +68,9 @@ fn put_piece(text: &mut Text, piece: &Piece<'_>) -> Result<(), AllocError> {
         Piece::Number(number) => text.number(*number as u128),
         Piece::Count(count) => text.number(*count as u128),
         Piece::Big(number) => text.number(*number),
-        Piece::ASort(names, sort) => put_sort(text, names, *sort),
-        Piece::AFun(names, fun) => put_fun(text, names, *fun),
-        Piece::AMeta(names, meta) => put_meta(text, names, *meta),
-        Piece::ATerm(names, term) => put_term(text, names, term, 0, false),
-        Piece::AType(names, kind) => put_type(text, names, kind, false),
-        Piece::APoly(poly) => put_poly(text, poly),
+        Piece::Named(names, number) => put_name(text, names, *number),
+        Piece::Unknown(metas, number) => put_meta(text, metas, *number),
+        Piece::Tree(names, term) => put_term(text, names, term, 0, false),
+        Piece::Sum(poly) => put_poly(text, poly),
     }
 }

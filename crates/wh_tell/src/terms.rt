@@ -1,6 +1,6 @@
 //! Terms, as `show` writes them.
 
-use crate::names::{Names, put_fun, put_meta};
+use crate::names::{Names, put_meta, put_name};
 use crate::text::Text;
 use crate::types::put_type;
 use std::alloc::AllocError;
@@ -23,9 +23,9 @@ pub fn put_term(
             text.say(":")?;
             put_type(text, names, kind, true)
         }
-        Term::Fun(symbol) => put_fun(text, names, *symbol),
+        Term::Fun(symbol) => put_name(text, names.funs, *symbol),
         Term::Meta(meta, items) => {
-            put_meta(text, names, *meta)?;
+            put_meta(text, names.metas, *meta)?;
             put_bracketed(text, names, items, depth)
         }
         Term::Lam(kind, body) => {
@@ -67,11 +67,11 @@ fn put_bracketed(
     items: &Terms,
     depth: u32,
 ) -> Result<(), AllocError> {
-    let mut sign = "[";
+    let mut sign: &[u8] = b"[";
     for item in items.as_slice() {
-        text.say(sign)?;
+        text.spell(sign)?;
         put_term(text, names, item, depth, false)?;
-        sign = ",";
+        sign = b",";
     }
     if items.as_slice().is_empty() {
         return Ok(());

@@ -1,6 +1,6 @@
 //! Types, as `show` writes them.
 
-use crate::names::{Names, put_sort};
+use crate::names::{Names, put_name};
 use crate::text::Text;
 use std::alloc::AllocError;
 use wh_types::SimpleType;
@@ -13,7 +13,7 @@ pub fn put_type(
     part: bool,
 ) -> Result<(), AllocError> {
     match kind {
-        SimpleType::Sort(sort) => put_sort(text, names, *sort),
+        SimpleType::Sort(sort) => put_name(text, names.sorts, *sort),
         SimpleType::Arrow(argument, rest) => {
             if part {
                 text.say("(")?;
