@@ -22,14 +22,20 @@ pub fn put_closest_projection(
     set: &PairSet,
 ) -> Result<(), AllocError> {
     let pairs = pairs_of_set(alloc, problem, set.as_slice())?;
-    let mut chosen = Vec::new(alloc);
-    for _ in 0..problem.system.fun_names().len() {
-        chosen.push(0)?;
-    }
+    let mut chosen = first_arguments(alloc, problem.system.fun_names().len())?;
     for _ in 0..ROUNDS {
         improve(&problem.system, &pairs, &mut chosen);
     }
     put_chosen(text, problem, set.as_slice(), &chosen)
+}
+
+// The first argument of each of so many symbols.
+fn first_arguments(alloc: Global, count: usize) -> Result<Vec<u32>, AllocError> {
+    let mut chosen = Vec::new(alloc);
+    for _ in 0..count {
+        chosen.push(0)?;
+    }
+    Ok(chosen)
 }
 
 // The pairs of a set.
@@ -50,21 +56,31 @@ fn pairs_of_set<'a>(
 // Chooses for each symbol the argument with which the most pairs are kept or lowered.
 fn improve(system: &System, pairs: &[&Pair], chosen: &mut [u32]) {
     for symbol in 0..chosen.len() {
-        let before = chosen[symbol];
-        let mut best = before;
-        let mut most = score(pairs, chosen);
-        for place in 0..system
-            .need(u32::try_from(symbol).unwrap_or(u32::MAX))
-            .unwrap_or(0)
-        {
-            chosen[symbol] = place;
-            let now = score(pairs, chosen);
-            if now > most {
-                most = now;
-                best = place;
-            }
+        let need = system.need(u32::try_from(symbol).unwrap_or(u32::MAX));
+        improve_at(pairs, chosen, symbol, need.unwrap_or(0));
+    }
+}
+
+// The same for one symbol, whose rules have so many arguments.
+fn improve_at(pairs: &[&Pair], chosen: &mut [u32], symbol: usize, need: u32) {
+    for place in 0..need {
+        let most = score(pairs, chosen);
+        let before = choose(chosen, symbol, place);
+        if score(pairs, chosen) <= most {
+            choose(chosen, symbol, before);
         }
-        chosen[symbol] = best;
+    }
+}
+
+// Chooses the argument of a symbol, and gives the one that was chosen before.
+fn choose(chosen: &mut [u32], symbol: usize, place: u32) -> u32 {
+    match chosen.get_mut(symbol) {
+        Some(here) => {
+            let before = *here;
+            *here = place;
+            before
+        }
+        None => place,
     }
 }
 
@@ -99,16 +115,29 @@ fn put_chosen(
     chosen: &[u32],
 ) -> Result<(), AllocError> {
     text.say("A projection that comes close looks at the arguments:")?;
-    for (symbol, place) in chosen.iter().enumerate() {
-        let symbol = counted(symbol)?;
-        if heads_some(problem, set, symbol) {
-            put_choice(text, &problem.system, symbol, *place)?;
-        }
-    }
+    put_choices(text, problem, set, chosen)?;
     text.say(".\n")?;
     for number in set {
         if let Some(pair) = problem.pairs.as_slice().get(*number as usize) {
             put_relation(text, &problem.system, *number, pair, chosen)?;
+        }
+    }
+    Ok(())
+}
+
+// Appends the chosen argument of each symbol that heads a side of a pair of the set.
+fn put_choices(
+    text: &mut Text,
+    problem: &Problem,
+    set: &[u32],
+    chosen: &[u32],
+) -> Result<(), AllocError> {
+    let names = names_of_system(&problem.system);
+    for (symbol, place) in chosen.iter().enumerate() {
+        let symbol = counted(symbol)?;
+        if heads_some(problem, set, symbol) {
+            let place = Number(place.saturating_add(1));
+            tell(text, " @ @", &[Named(names.funs, symbol), place])?;
         }
     }
     Ok(())
@@ -124,15 +153,6 @@ fn heads_some(problem: &Problem, set: &[u32], symbol: u32) -> bool {
         }
     }
     false
-}
-
-fn put_choice(text: &mut Text, system: &System, symbol: u32, place: u32) -> Result<(), AllocError> {
-    let names = names_of_system(system);
-    tell(
-        text,
-        " @ @",
-        &[Named(names.funs, symbol), Number(place.saturating_add(1))],
-    )
 }
 
 // Appends what becomes of the chosen argument in a pair.

@@ -14,6 +14,7 @@ use wh_climb::{Climbed, climb};
 use wh_guesses::{Guess, guess_by, outcome_of};
 use wh_judging::Problem;
 use wh_pairs::{PairSet, marked_symbols};
+use wh_polycheck::MarkedSymbol;
 use wh_reduction::{Task, all_rules};
 use wh_system::System;
 use wh_tell::Piece::{Named, Sum};
@@ -71,20 +72,22 @@ fn put_guess<'a>(text: &mut Text, system: &'a System, guess: &'a Guess) -> Resul
     let names = names_of_system(system);
     text.say("One of the interpretations that are tried first reads\n")?;
     for (number, symbol) in guess.symbols.iter().enumerate() {
-        tell_line(
-            text,
-            1,
-            "@ as @",
-            &[Named(names.funs, counted(number)?), Sum(&symbol.poly)],
-        )?;
+        let name = Named(names.funs, counted(number)?);
+        tell_line(text, 1, "@ as @", &[name, Sum(&symbol.poly)])?;
     }
-    for mark in &guess.marks {
-        tell_line(
-            text,
-            1,
-            "@# as @",
-            &[Named(names.funs, mark.symbol), Sum(&mark.poly)],
-        )?;
+    put_marks(text, system, &guess.marks)
+}
+
+// Appends what marked symbols are read as.
+fn put_marks<'a>(
+    text: &mut Text,
+    system: &'a System,
+    marks: &'a [MarkedSymbol],
+) -> Result<(), AllocError> {
+    let names = names_of_system(system);
+    for mark in marks {
+        let name = Named(names.funs, mark.symbol);
+        tell_line(text, 1, "@# as @", &[name, Sum(&mark.poly)])?;
     }
     Ok(())
 }
@@ -100,12 +103,28 @@ fn put_uncovered<'a>(
     requires guess { IsGuessOf task.now guess.now }
 {
     text.say("and what it does not cover is\n")?;
-    let mut strict = false;
     for (number, rule) in task.covered.iter().enumerate() {
         if outcome_of(alloc, task, guess, number)?.wanting > 0 {
             put_rule_line(text, task.system, *rule, 1)?;
         }
     }
+    if !put_uncovered_pairs(alloc, text, task, guess)? {
+        tell_line(text, 1, "that some pair is worth less on the right", &[])?;
+    }
+    text.say("This says nothing of other interpretations.\n")
+}
+
+// Appends the pairs that are not covered under the guess, and says whether some pair is covered strictly.
+fn put_uncovered_pairs<'a>(
+    alloc: Global,
+    text: &mut Text,
+    task: &Task<'a>,
+    guess: &Guess,
+) -> Result<bool, AllocError>
+    requires task { IsTaskOf task.now }
+    requires guess { IsGuessOf task.now guess.now }
+{
+    let mut strict = false;
     for (place, number) in task.set.iter().enumerate() {
         let condition = place.saturating_add(task.covered.len());
         let outcome = outcome_of(alloc, task, guess, condition)?;
@@ -116,8 +135,5 @@ fn put_uncovered<'a>(
             }
         }
     }
-    if !strict {
-        tell_line(text, 1, "that some pair is worth less on the right", &[])?;
-    }
-    text.say("This says nothing of other interpretations.\n")
+    Ok(strict)
 }

@@ -7,7 +7,7 @@ use crate::spines::{argument_type, arguments_of, count_meta, symbol_of};
 use crate::text::Text;
 use std::alloc::{AllocError, Global};
 use wh_system::System;
-use wh_terms::{Signature, Term};
+use wh_terms::{Rule, Signature, Term};
 use wh_types::{SimpleType, counted};
 
 /// That the rank of a sort is to be at most that of another one, or below it.
@@ -79,21 +79,32 @@ fn put_demand(text: &mut Text, system: &System, demand: &Demand) -> Result<(), A
 fn demands_of(alloc: Global, system: &System) -> Result<Vec<Demand>, AllocError> {
     let mut demands = Vec::new(alloc);
     for (number, rule) in system.rules().iter().enumerate() {
-        for meta in 0..rule.metas.as_slice().len() {
-            let meta = counted(meta)?;
-            if count_meta(meta, &rule.right) > 0 {
-                ask_left(
-                    alloc,
-                    system.signature(),
-                    &mut demands,
-                    &rule.left,
-                    counted(number)?,
-                    meta,
-                )?;
-            }
-        }
+        ask_rule(
+            alloc,
+            system.signature(),
+            &mut demands,
+            rule,
+            counted(number)?,
+        )?;
     }
     Ok(demands)
+}
+
+// Adds what is asked by what the rule uses on the right.
+fn ask_rule(
+    alloc: Global,
+    signature: &Signature,
+    demands: &mut Vec<Demand>,
+    rule: &Rule,
+    number: u32,
+) -> Result<(), AllocError> {
+    for meta in 0..rule.metas.as_slice().len() {
+        let meta = counted(meta)?;
+        if count_meta(meta, &rule.right) > 0 {
+            ask_left(alloc, signature, demands, &rule.left, number, meta)?;
+        }
+    }
+    Ok(())
 }
 
 // Adds what is asked on the way to the first place of the meta-variable in a left side, whose own arguments ask for nothing.

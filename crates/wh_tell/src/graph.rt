@@ -99,11 +99,23 @@ fn put_escaped(text: &mut Text, bytes: &[u8]) -> Result<(), AllocError> {
 
 // Appends an arrow for each two pairs of which the second may follow the first.
 fn put_edges(text: &mut Text, system: &System, pairs: &[Pair]) -> Result<(), AllocError> {
-    for (from, pair) in pairs.iter().enumerate() {
-        for (to, other) in pairs.iter().enumerate() {
-            if may_follow(system, pair, other) {
-                tell_line(text, 1, "p@ -> p@;", &[Count(from), Count(to)])?;
-            }
+    for (number, pair) in pairs.iter().enumerate() {
+        put_edges_from(text, system, pairs, number, pair)?;
+    }
+    Ok(())
+}
+
+// Appends an arrow for each pair that may follow the one with this number.
+fn put_edges_from(
+    text: &mut Text,
+    system: &System,
+    pairs: &[Pair],
+    number: usize,
+    pair: &Pair,
+) -> Result<(), AllocError> {
+    for (to, other) in pairs.iter().enumerate() {
+        if may_follow(system, pair, other) {
+            tell_line(text, 1, "p@ -> p@;", &[Count(number), Count(to)])?;
         }
     }
     Ok(())

@@ -49,21 +49,29 @@ pub fn put_lints(alloc: Global, text: &mut Text, system: &System) -> Result<(), 
 fn wanted_abstractions(alloc: Global, system: &System) -> Result<Vec<Wanted>, AllocError> {
     let mut wanted = Vec::new(alloc);
     for symbol in 0..system.fun_names().len() {
-        let symbol = counted(symbol)?;
-        if let Some(need) = system.need(symbol) {
-            for place in 0..need {
-                let binders = binders_wanted(alloc, system.rules(), symbol, place)?;
-                if binders > 0 {
-                    wanted.push(Wanted {
-                        symbol,
-                        place,
-                        binders,
-                    })?;
-                }
-            }
-        }
+        add_wanted(alloc, system, counted(symbol)?, &mut wanted)?;
     }
     Ok(wanted)
+}
+
+// Adds what is wanted as an abstraction by all rules of this symbol.
+fn add_wanted(
+    alloc: Global,
+    system: &System,
+    symbol: u32,
+    wanted: &mut Vec<Wanted>,
+) -> Result<(), AllocError> {
+    for place in 0..system.need(symbol).unwrap_or(0) {
+        let binders = binders_wanted(alloc, system.rules(), symbol, place)?;
+        if binders > 0 {
+            wanted.push(Wanted {
+                symbol,
+                place,
+                binders,
+            })?;
+        }
+    }
+    Ok(())
 }
 
 // How many abstractions the argument begins with on the left of each rule of the symbol, at least.
@@ -206,15 +214,36 @@ fn put_expanded(
         return Ok(());
     };
     text.say("  as an abstraction it is ")?;
-    let count = wanted.binders;
-    for number in 0..count {
-        put_binder(text, place.names, kind, number, depth)?;
-    }
+    put_binders(text, place.names, kind, wanted.binders, depth)?;
     put_term(text, place.names, argument, depth, true)?;
+    put_variables(text, wanted.binders, depth)?;
+    put_ends(text, wanted.binders)
+}
+
+// Appends the beginnings of so many abstractions.
+fn put_binders(
+    text: &mut Text,
+    names: &Names<'_>,
+    kind: &SimpleType,
+    count: u32,
+    depth: u32,
+) -> Result<(), AllocError> {
     for number in 0..count {
-        text.say(" $")?;
-        text.number(depth.saturating_add(number) as u128)?;
+        put_binder(text, names, kind, number, depth)?;
     }
+    Ok(())
+}
+
+// Appends the variables of so many abstractions.
+fn put_variables(text: &mut Text, count: u32, depth: u32) -> Result<(), AllocError> {
+    for number in 0..count {
+        tell(text, " $@", &[Number(depth.saturating_add(number))])?;
+    }
+    Ok(())
+}
+
+// Appends the ends of so many abstractions.
+fn put_ends(text: &mut Text, count: u32) -> Result<(), AllocError> {
     for _ in 0..count {
         text.say(")")?;
     }
