@@ -1,4 +1,5 @@
-//! A second program beside wanda: it says in words why a system terminates, why it runs for ever, or where a search gave up.
+//! A second program beside wanda: it says in words why a system terminates, why it runs for ever, or where a
+//! search gave up.
 #![tactic(auto)]
 
 use std::alloc::{AllocError, Global};

@@ -1,5 +1,5 @@
-//! Which projection comes closest for pairs of which none was dropped: one that keeps or lowers the argument in as many of them as can be
-//! found by changing one argument at a time. Others may keep as many.
+//! Which projection comes closest for pairs of which none was dropped: one that keeps or lowers the argument in
+//! as many of them as can be found by changing one argument at a time. Others may keep as many.
 
 use std::alloc::{AllocError, Global};
 use wh_judging::Problem;

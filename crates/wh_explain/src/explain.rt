@@ -33,9 +33,9 @@ const USUAL: Options = Options {
     visited: 500,
 };
 
-/// Explains why the system in the file terminates or not: by the certificate in the other file, or by a search where there is none. The
-/// text begins with `YES` only where the check accepts a certificate of termination, and with `NO` only where it accepts one of
-/// non-termination.
+/// Explains why the system in the file terminates or not: by the certificate in the other file, or by a search
+/// where there is none. The text begins with `YES` only where the check accepts a certificate of termination,
+/// and with `NO` only where it accepts one of non-termination.
 pub fn explain_file<S: Shelf>(
     alloc: Global,
     shelf: &mut S,

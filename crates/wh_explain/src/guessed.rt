@@ -1,4 +1,5 @@
-//! The interpretation that the search came to first, by a climb, for pairs of which none was dropped: what it covers and what not.
+//! The interpretation that the search came to first, by a climb, for pairs of which none was dropped: what it
+//! covers and what not.
 
 ghost use Rattle.std.specs.Prelude.{◌≤◌, ◌<◌, All, IfOk, length};
 ghost use Rattle.wh_types.specs.Limits.{most_pairs};
@@ -92,7 +93,8 @@ fn put_marks<'a>(
     Ok(())
 }
 
-// Appends the rules and pairs that are not covered under the guess, and that no pair is covered strictly where that is so.
+// Appends the rules and pairs that are not covered under the guess, and that no pair is covered strictly where
+// that is so.
 fn put_uncovered<'a>(
     alloc: Global,
     text: &mut Text,

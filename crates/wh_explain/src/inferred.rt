@@ -71,7 +71,8 @@ pub fn put_inferred(
     Ok(())
 }
 
-// Appends what is claimed and by which inference, and below it those of its parts. A claim that the letter does not fit is not told.
+// Appends what is claimed and by which inference, and below it those of its parts. A claim that the letter does
+// not fit is not told.
 fn put_inference(
     text: &mut Text,
     names: &Names<'_>,

@@ -1,5 +1,5 @@
-//! Why a system terminates, why it runs for ever, or where a search gave up, in words. The text is pinned by no clause, but that it calls
-//! a certificate a proof or a loop only where the check accepts it.
+//! Why a system terminates, why it runs for ever, or where a search gave up, in words. The text is pinned by no
+//! clause, but that it calls a certificate a proof or a loop only where the check accepts it.
 #![tactic(auto)]
 
 mod causes;

@@ -18,12 +18,7 @@ pub fn put_projection(
     drop: &[u32],
     depth: u32,
 ) -> Result<(), AllocError> {
-    text.indent(depth)?;
-    text.say("Projection: of each of these symbols one argument is looked at:")?;
-    for arg in args {
-        tell(text, " @ @", &[Spell(arg.name.bytes()), Number(arg.place)])?;
-    }
-    text.say(".\n")?;
+    put_choices(text, args, depth)?;
     for number in set {
         if let Some(pair) = problem.pairs.as_slice().get(*number as usize) {
             put_pair_line(text, &problem.system, *number, pair, depth)?;
@@ -31,6 +26,16 @@ pub fn put_projection(
         }
     }
     put_dropped(text, drop, depth)
+}
+
+// Appends which argument of each symbol is looked at.
+fn put_choices(text: &mut Text, args: &[Arg], depth: u32) -> Result<(), AllocError> {
+    text.indent(depth)?;
+    text.say("Projection: of each of these symbols one argument is looked at:")?;
+    for arg in args {
+        tell(text, " @ @", &[Spell(arg.name.bytes()), Number(arg.place)])?;
+    }
+    text.say(".\n")
 }
 
 /// Appends which pairs are dropped.

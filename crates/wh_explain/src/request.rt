@@ -22,8 +22,8 @@ pub enum Request<'a> {
     },
 }
 
-/// What the words behind the program's own name ask for; `None` where they are none of `FILE`, `FILE CERT`, `--lint FILE` and
-/// `--graph FILE`. Names stand behind a first word `--` if one of them begins with `-`.
+/// What the words behind the program's own name ask for; `None` where they are none of `FILE`, `FILE CERT`,
+/// `--lint FILE` and `--graph FILE`. Names stand behind a first word `--` if one of them begins with `-`.
 pub fn read_request(words: &[String]) -> Option<Request<'_>> {
     let first = words.first()?.as_str();
     match first {

@@ -107,17 +107,13 @@ fn put_head(text: &mut Text, number: usize, level: &Level) -> Result<(), AllocEr
 
 // Appends what blocks are for.
 fn put_blocks(text: &mut Text, count: usize, depth: u32) -> Result<(), AllocError> {
-    tell_line(
+    text.indent(depth)?;
+    tell(
         text,
-        depth,
-        "They fall into @@",
-        &[
-            Count(count),
-            Say(
-                " blocks, and no pair of an earlier block may follow one of a later block. So a chain stays in one block in the end.",
-            ),
-        ],
-    )
+        "They fall into @ blocks, and no pair of an earlier block may follow",
+        &[Count(count)],
+    )?;
+    text.say(" one of a later block. So a chain stays in one block in the end.\n")
 }
 
 // Puts what a node leaves on top of the stack, the first of it on top.

@@ -1,5 +1,6 @@
-//! Explains systems one after the other, so that the text over each example of the repository is stored and compared. A file whose name ends
-//! with `.cert` is a certificate for the system file before it; a system file is explained by a search.
+//! Explains systems one after the other, so that the text over each example of the repository is stored and
+//! compared. A file whose name ends with `.cert` is a certificate for the system file before it; a system file
+//! is explained by a search.
 #![tactic(auto)]
 
 use std::alloc::{AllocError, Global};

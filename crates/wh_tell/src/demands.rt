@@ -29,13 +29,7 @@ pub fn put_ranks(
     system: &System,
     ranks: &[u32],
 ) -> Result<(), AllocError> {
-    let names = names_of_system(system);
-    text.say("\nRanks of sorts:")?;
-    for (sort, rank) in ranks.iter().enumerate() {
-        let sort = Named(names.sorts, counted(sort)?);
-        tell(text, " @ @", &[sort, Number(*rank)])?;
-    }
-    text.say(".\n")?;
+    put_sorts(text, system, ranks)?;
     let demands = demands_of(alloc, system)?;
     if demands.is_empty() {
         return tell_line(text, 1, "no rule asks for a difference.", &[]);
@@ -44,6 +38,17 @@ pub fn put_ranks(
         put_demand(text, system, demand)?;
     }
     Ok(())
+}
+
+// Appends the rank of each sort.
+fn put_sorts(text: &mut Text, system: &System, ranks: &[u32]) -> Result<(), AllocError> {
+    let names = names_of_system(system);
+    text.say("\nRanks of sorts:")?;
+    for (sort, rank) in ranks.iter().enumerate() {
+        let sort = Named(names.sorts, counted(sort)?);
+        tell(text, " @ @", &[sort, Number(*rank)])?;
+    }
+    text.say(".\n")
 }
 
 // Appends what a rule asks for.
@@ -107,7 +112,8 @@ fn ask_rule(
     Ok(())
 }
 
-// Adds what is asked on the way to the first place of the meta-variable in a left side, whose own arguments ask for nothing.
+// Adds what is asked on the way to the first place of the meta-variable in a left side, whose own arguments ask
+// for nothing.
 fn ask_left(
     alloc: Global,
     signature: &Signature,

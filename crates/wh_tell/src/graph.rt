@@ -1,5 +1,5 @@
-//! The dependency graph in the language of Graphviz: a box for each pair, in frames for the components that have an edge, and an arrow
-//! where one pair may follow another.
+//! The dependency graph in the language of Graphviz: a box for each pair, in frames for the components that
+//! have an edge, and an arrow where one pair may follow another.
 
 ghost use Rattle.std.specs.Prelude.{◌<◌, All, IfOk, length};
 

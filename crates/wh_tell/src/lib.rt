@@ -1,5 +1,5 @@
-//! Systems, pairs and terms in words: sentences of pieces, a term with a place marked, what ranks are for, what is likely not meant in a
-//! system, and the graph of its pairs. The text is pinned by no clause.
+//! Systems, pairs and terms in words: sentences of pieces, a term with a place marked, what ranks are for, what
+//! is likely not meant in a system, and the graph of its pairs. The text is pinned by no clause.
 #![tactic(auto)]
 
 mod demands;

@@ -197,8 +197,8 @@ fn put_mismatch(
     put_expanded(text, place, wanted, argument, depth)
 }
 
-// Appends the spelling of the argument as an abstraction. The new binders have the numbers from the depth on; a binder within the
-// argument may have one of these again, and hides it where it is not used.
+// Appends the spelling of the argument as an abstraction. The new binders have the numbers from the depth on; a
+// binder within the argument may have one of these again, and hides it where it is not used.
 fn put_expanded(
     text: &mut Text,
     place: &Place<'_>,

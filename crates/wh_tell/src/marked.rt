@@ -1,8 +1,8 @@
-//! A term with a place in it marked: the place is reached by a path of digits, 0 for the function of an application, 1 for its
-//! argument, 0 for the body of an abstraction.
+//! A term with a place in it marked: the place is reached by a path of digits, 0 for the function of an
+//! application, 1 for its argument, 0 for the body of an abstraction.
 
 use crate::names::Names;
-use crate::terms::{put_bound, put_term};
+use crate::terms::put_term;
 use crate::text::Text;
 use crate::types::put_type;
 use std::alloc::AllocError;
@@ -32,7 +32,12 @@ pub fn put_marked(
         start: begin,
         end: begin,
     };
-    put_at(text, names, term, 0, false, Some(path), &mut span)?;
+    let place = Place {
+        depth: 0,
+        bare: false,
+        path: Some(path),
+    };
+    put_at(text, names, term, place, &mut span)?;
     text.say("\n")?;
     let start = span.start.saturating_sub(begin);
     let width = span.end.saturating_sub(span.start);
@@ -53,76 +58,95 @@ fn put_times(text: &mut Text, words: &str, count: usize) -> Result<(), AllocErro
     Ok(())
 }
 
+/// How a term stands: below so many binders, bare where its spine has no parentheses, and with the path to the
+/// part from there.
+#[derive(Clone, Copy)]
+struct Place<'a> {
+    depth: u32,
+    bare: bool,
+    path: Option<&'a [u8]>,
+}
+
+impl<'a> Place<'a> {
+    // That of the body of an abstraction.
+    fn body(self) -> Place<'a> {
+        Place {
+            depth: self.depth.saturating_add(1),
+            bare: false,
+            path: path_after(self.path, 0),
+        }
+    }
+
+    // That of a function.
+    fn function(self) -> Place<'a> {
+        Place {
+            depth: self.depth,
+            bare: true,
+            path: path_after(self.path, 0),
+        }
+    }
+
+    // That of an argument.
+    fn argument(self) -> Place<'a> {
+        Place {
+            depth: self.depth,
+            bare: false,
+            path: path_after(self.path, 1),
+        }
+    }
+}
+
+// The rest of the path, if it goes that way.
+fn path_after<'a>(path: Option<&'a [u8]>, way: u8) -> Option<&'a [u8]> {
+    match path?.split_first() {
+        Some((first, rest)) if *first == way => Some(rest),
+        _ => None,
+    }
+}
+
+// Whether the path ends here.
+fn is_there(path: Option<&[u8]>) -> bool {
+    match path {
+        Some(rest) => rest.is_empty(),
+        None => false,
+    }
+}
+
 // Appends a term, and notes where the part at the path stands.
 fn put_at(
     text: &mut Text,
     names: &Names<'_>,
     term: &Term,
-    depth: u32,
-    bare: bool,
-    path: Option<&[u8]>,
+    place: Place<'_>,
     span: &mut Span,
 ) -> Result<(), AllocError> {
-    let Some(path) = path else {
-        return put_term(text, names, term, depth, bare);
-    };
     let start = text.len();
     match term {
+        Term::Bound(_) | Term::Free(..) | Term::Fun(_) | Term::Meta(..) => {
+            put_term(text, names, term, place.depth, place.bare)?;
+        }
         Term::Lam(kind, body) => {
             text.say("(\\$")?;
-            text.number(depth as u128)?;
+            text.number(place.depth as u128)?;
             text.say(":")?;
             put_type(text, names, kind, true)?;
             text.say(".")?;
-            let inner = depth.saturating_add(1);
-            put_at(text, names, body, inner, false, path_after(path, 0), span)?;
+            put_at(text, names, body, place.body(), span)?;
             text.say(")")?;
         }
         Term::App(function, argument) => {
-            if !bare {
-                text.say("(")?;
-            }
-            put_at(
-                text,
-                names,
-                function,
-                depth,
-                true,
-                path_after(path, 0),
-                span,
-            )?;
+            text.say(if place.bare { "" } else { "(" })?;
+            put_at(text, names, function, place.function(), span)?;
             text.say(" ")?;
-            put_at(
-                text,
-                names,
-                argument,
-                depth,
-                false,
-                path_after(path, 1),
-                span,
-            )?;
-            if !bare {
-                text.say(")")?;
-            }
-        }
-        Term::Bound(outward) => put_bound(text, depth, *outward)?,
-        Term::Free(..) | Term::Fun(_) | Term::Meta(..) => {
-            put_term(text, names, term, depth, bare)?;
+            put_at(text, names, argument, place.argument(), span)?;
+            text.say(if place.bare { "" } else { ")" })?;
         }
     }
-    if path.is_empty() {
+    if is_there(place.path) {
         *span = Span {
             start,
             end: text.len(),
         };
     }
     Ok(())
-}
-
-// The rest of the path, if it goes that way.
-fn path_after(path: &[u8], way: u8) -> Option<&[u8]> {
-    match path.split_first() {
-        Some((first, rest)) if *first == way => Some(rest),
-        _ => None,
-    }
 }
