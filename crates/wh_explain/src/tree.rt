@@ -11,7 +11,7 @@ use std::alloc::{AllocError, Global};
 use wh_cert::{Node, YesCertificate};
 use wh_judging::Problem;
 use wh_pairs::{PairSet, kept, numbers_below, set_of};
-use wh_tell::Piece::{Count, Say};
+use wh_tell::Piece::Count;
 use wh_tell::{Text, put_numbers, put_pairs, tell, tell_line};
 use wh_types::counted;
 
