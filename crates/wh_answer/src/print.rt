@@ -167,6 +167,7 @@ fn node_words(alloc: Global, row: &Row) -> Result<Bytes, AllocError>
         Row::BadArgument { node, symbol } => node_name(alloc, *node, b"bad-argument", symbol),
         Row::BadDrop { node } => of_node(alloc, *node, b"bad-drop"),
         Row::NotDecreasing { node, pair } => node_number(alloc, *node, b"not-decreasing", *pair),
+        Row::BadUsable { node } => of_node(alloc, *node, b"bad-usable"),
         Row::BadSymbols { node } => of_node(alloc, *node, b"bad-symbols"),
         Row::BadPolynomial {
             node,
@@ -179,6 +180,8 @@ fn node_words(alloc: Global, row: &Row) -> Result<Bytes, AllocError>
             symbol,
             marked,
         } => node_symbol(alloc, *node, b"bad-filter", symbol, *marked),
+        Row::NotClosedRule { node, rule } => node_line(alloc, *node, b"not-closed", b"rule", *rule),
+        Row::NotClosedPair { node, pair } => node_line(alloc, *node, b"not-closed", b"pair", *pair),
         Row::TooWideRule { node, rule } => node_line(alloc, *node, b"too-wide", b"rule", *rule),
         Row::TooWidePair { node, pair } => node_line(alloc, *node, b"too-wide", b"pair", *pair),
         Row::NotStrict { node, pair } => node_line(alloc, *node, b"not-strict", b"pair", *pair),

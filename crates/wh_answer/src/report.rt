@@ -180,6 +180,10 @@ pub enum NamedRejection {
         node: u32,
         pair: u32,
     },
+    /// The list of the rules that are to be covered has a number that is not above the one before, or that is no rule.
+    BadUsable {
+        node: u32,
+    },
     /// The lines `fun` are not for the symbols of the system in order, or the lines `mark` not for the marked symbols of the set.
     BadSymbols {
         node: u32,
@@ -190,9 +194,19 @@ pub enum NamedRejection {
         symbol: Name,
         marked: bool,
     },
-    /// There is not one line `rule` for each rule, or not one line `pair` for each pair of the set.
+    /// There is not one line `rule` for each rule that is to be covered, or not one line `pair` for each pair of the set.
     BadLines {
         node: u32,
+    },
+    /// Not all rules are listed, and this listed rule is not first-order, or its right side has a symbol not all whose rules are listed.
+    NotClosedRule {
+        node: u32,
+        rule: u32,
+    },
+    /// The same of this pair of the set.
+    NotClosedPair {
+        node: u32,
+        pair: u32,
     },
     /// This move of the rule's line is not good: a monomial is not there, or the left one is not of the right one's kind.
     BadMoveRule {

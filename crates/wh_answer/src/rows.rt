@@ -136,6 +136,7 @@ fn plain_row(node: u32, word: &str) -> Option<Row>
         "few-blocks" => Some(Row::FewBlocks { node }),
         "bad-args" => Some(Row::BadArgs { node }),
         "bad-drop" => Some(Row::BadDrop { node }),
+        "bad-usable" => Some(Row::BadUsable { node }),
         "bad-symbols" => Some(Row::BadSymbols { node }),
         "bad-lines" => Some(Row::BadLines { node }),
         _ => None,
@@ -241,6 +242,11 @@ fn two_row(node: u32, word: &str, first: &str, second: &str) -> Option<Row>
                 None
             }
         }
+        "not-closed" => match first {
+            "rule" => Some(Row::NotClosedRule { node, rule: b }),
+            "pair" => Some(Row::NotClosedPair { node, pair: b }),
+            _ => None,
+        },
         "too-wide" => match first {
             "rule" => Some(Row::TooWideRule { node, rule: b }),
             "pair" => Some(Row::TooWidePair { node, pair: b }),

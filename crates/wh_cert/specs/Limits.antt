@@ -44,11 +44,16 @@ pub record MoveFits (m : moved.Move) : Type 0 where
   pub to : m.to ≤ greatest_number
   pub amount : IsBig m.amount
 
+-- the numbers of the rules that are to be covered, where they are listed
+abbrev pub UsableFits : Option (List ℕ) → Type 0
+UsableFits (Some ns) = All IsSmall ns
+UsableFits None = Unit {0}
+
 abbrev pub NodeFits : Node → Type 0
 NodeFits (blocks parts) = IsSmall (length parts) × All (All IsSmall) parts
 NodeFits (subterm args drop) = All ArgFits args × All IsSmall drop
-NodeFits (interpretations funs marks rules pairs drop) =
-    All InterpFits funs × All InterpFits marks × All (All MoveFits) rules × All (All MoveFits) pairs × All IsSmall drop
+NodeFits (interpretations usable funs marks rules pairs drop) =
+    UsableFits usable × All InterpFits funs × All InterpFits marks × All (All MoveFits) rules × All (All MoveFits) pairs × All IsSmall drop
 NodeFits (order funs marks rules pairs drop) =
     All FilteringFits funs × All FilteringFits marks × All (InferenceFits 0) rules × All (InferenceFits 0) pairs × All IsSmall drop
 NodeFits _ = Unit {0}
@@ -57,9 +62,11 @@ NodeFits _ = Unit {0}
 abbrev pub IsVersion : ℕ → Type 0
 IsVersion version = (version ≡ 1) ⊎ (version ≡ 2)
 
--- the node is one of that version: those of interpretations are of the first one, those of path orders of the second
+-- the node is one of that version: of interpretations those that list no rules are of the first one, those that list some are of
+-- the second, and so are those of path orders
 abbrev pub IsOfVersion : ℕ → Node → Type 0
-IsOfVersion version (interpretations funs marks rules pairs drop) = version ≡ 1
+IsOfVersion version (interpretations None funs marks rules pairs drop) = version ≡ 1
+IsOfVersion version (interpretations (Some ns) funs marks rules pairs drop) = version ≡ 2
 IsOfVersion version (order funs marks rules pairs drop) = version ≡ 2
 IsOfVersion version _ = Unit {0}
 
@@ -78,12 +85,17 @@ abbrev pub FilterWithin : ℕ → WrittenFilter → Type 0
 FilterWithin n (keeps prec places) = length places ≤ n
 FilterWithin n (picks place) = Unit {0}
 
+-- the list of rules that are to be covered has at most n entries, where there is one
+abbrev pub UsableWithin : ℕ → Option (List ℕ) → Type 0
+UsableWithin n (Some ns) = length ns ≤ n
+UsableWithin n None = Unit {0}
+
 -- the lists of a node have at most n entries each, and each of its lines has fewer than n inferences
 abbrev pub NodeWithin : ℕ → Node → Type 0
 NodeWithin n (blocks parts) = All (λ block. length block ≤ n) parts
 NodeWithin n (subterm args drop) = (length args ≤ n) × (length drop ≤ n)
-NodeWithin n (interpretations funs marks rules pairs drop) =
-    (length funs ≤ n) × (length marks ≤ n) × All (λ moves. length moves ≤ n) rules × (length rules ≤ n)
+NodeWithin n (interpretations usable funs marks rules pairs drop) =
+    UsableWithin n usable × (length funs ≤ n) × (length marks ≤ n) × All (λ moves. length moves ≤ n) rules × (length rules ≤ n)
     × All (λ moves. length moves ≤ n) pairs × (length pairs ≤ n) × (length drop ≤ n)
 NodeWithin n (order funs marks rules pairs drop) =
     (length funs ≤ n) × (length marks ≤ n) × All (λ f. FilterWithin n f.filter) funs × All (λ f. FilterWithin n f.filter) marks

@@ -37,7 +37,7 @@ PolyWithin n p = (monomial_count p ≤ n) × MonomialsWithin n p
 
 -- each list in each polynomial of a node has at most n entries
 abbrev pub PolysWithin : ℕ → Node → Type 0
-PolysWithin n (interpretations funs marks rules pairs drop) =
+PolysWithin n (interpretations usable funs marks rules pairs drop) =
     All (λ (i : Interp). PolyWithin n i.poly) funs × All (λ (i : Interp). PolyWithin n i.poly) marks
 PolysWithin n _ = Unit {0}
 

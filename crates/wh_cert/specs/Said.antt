@@ -34,7 +34,7 @@ abbrev pub said_interp : Interp → w_interps.Interp
 said_interp i = record { name = i.name; poly = poly i.poly }
 
 abbrev pub said_poly : PolyNode → w.Node
-said_poly x = w.interpretations (map said_interp x.funs) (map said_interp x.marks) x.rules x.pairs x.drop
+said_poly x = w.interpretations x.usable (map said_interp x.funs) (map said_interp x.marks) x.rules x.pairs x.drop
 
 abbrev pub said_filter : NamedFilter → w.Filtering
 said_filter f = record { name = f.name; filter = written_filter f.filter }

@@ -15,6 +15,8 @@
 --                 | "subterm" LF { "arg " name " " number LF } "drop" numbers LF node2
 --                 | "order" LF { "fun " name " " filter LF } { "mark " name " " filter LF }
 --                   { "rule " inference LF } { "pair " inference LF } "drop" numbers LF node2
+--                 | "poly" LF "usable" numbers LF { "fun " name " " poly LF } { "mark " name " " poly LF }
+--                   { "rule" moves LF } { "pair" moves LF } "drop" numbers LF node2
 --     numbers     = { " " number }
 --     moves       = { " " number ">" number ":" amount }
 --     poly        = "0" | monomial { "+" monomial }
@@ -142,16 +144,21 @@ abbrev pub put_all_shown : List ℕ → List Inference → List ℕ → List ℕ
 put_all_shown word [] r = r
 put_all_shown word (i ∷ is) r = put_shown word i (put_all_shown word is r)
 
+-- the line of the rules that are to be covered, where there is one
+abbrev pub put_usable : Option (List ℕ) → List ℕ → List ℕ
+put_usable None r = r
+put_usable (Some ns) r = codes "usable" ++ put_line ns r
+
 -- the lines of a node, without its children's
 abbrev pub put_node : Node → List ℕ → List ℕ
 put_node done r = codes "done" ++ (line_feed ∷ r)
 put_node alone r = codes "alone" ++ (line_feed ∷ r)
 put_node (blocks parts) r = codes "blocks " ++ (decimal (length parts) ++ (line_feed ∷ put_blocks parts r))
 put_node (subterm args drop) r = codes "subterm" ++ (line_feed ∷ put_args args (codes "drop" ++ put_line drop r))
-put_node (interpretations funs marks rules pairs drop) r =
-    codes "poly" ++ (line_feed ∷ put_interps (codes "fun ") funs
+put_node (interpretations usable funs marks rules pairs drop) r =
+    codes "poly" ++ (line_feed ∷ put_usable usable (put_interps (codes "fun ") funs
     (put_interps (codes "mark ") marks (put_covers (codes "rule") rules
-    (put_covers (codes "pair") pairs (codes "drop" ++ put_line drop r)))))
+    (put_covers (codes "pair") pairs (codes "drop" ++ put_line drop r))))))
 put_node (order funs marks rules pairs drop) r =
     codes "order" ++ (line_feed ∷ put_filterings (codes "fun ") funs
     (put_filterings (codes "mark ") marks (put_all_shown (codes "rule ") rules

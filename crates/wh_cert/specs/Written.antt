@@ -1,5 +1,5 @@
 -- What a certificate says, as trees without pointers.
-use Rattle.std.specs.Prelude.{ℕ, zero, suc, ◌+◌, List, [], ◌∷◌, length}
+use Rattle.std.specs.Prelude.{ℕ, zero, suc, ◌+◌, List, [], ◌∷◌, length, Option}
 use Rattle.wh_terms.specs.declared.path.Step as taken
 use Rattle.wh_text.specs.RawTree.{RTy, RTm}
 use Rattle.wh_hopoly.specs.declared.expression.Move as moved
@@ -25,14 +25,14 @@ pub record Filtering : Type 0 where
 
 -- how the chains of a set of pairs are shown to end: there is no pair; there is one pair, which may not follow itself; by
 -- blocks of pairs, of which no later one leads back to an earlier one; by an argument for each symbol that never grows and
--- shrinks in the pairs that are dropped; by polynomials for all symbols and for the marked ones, with moves that cover each rule
--- and each pair, the dropped ones strictly; by argument filters for all symbols and for the marked ones, with an inference of the path
--- order for each rule and each pair (Kop 2012, Fuhs and Kop 2019; the spelling is ours)
+-- shrinks in the pairs that are dropped; by polynomials for all symbols and for the marked ones, with moves that cover each rule,
+-- or each of those that are listed, and each pair, the dropped ones strictly; by argument filters for all symbols and for the marked
+-- ones, with an inference of the path order for each rule and each pair (Kop 2012, Fuhs and Kop 2019; the spelling is ours)
 pub data Node : Type 0 where
   done alone : Node
   blocks : (parts : List (List ℕ)) → Node
   subterm : (args : List Arg) (drop : List ℕ) → Node
-  interpretations : (funs marks : List Interp) (rules pairs : List (List moved.Move)) (drop : List ℕ) → Node
+  interpretations : (usable : Option (List ℕ)) (funs marks : List Interp) (rules pairs : List (List moved.Move)) (drop : List ℕ) → Node
   order : (funs marks : List Filtering) (rules pairs : List Inference) (drop : List ℕ) → Node
 
 -- for how many sets a node leaves the same to be shown
@@ -41,7 +41,7 @@ children done = 0
 children alone = 0
 children (blocks parts) = length parts
 children (subterm args drop) = 1
-children (interpretations funs marks rules pairs drop) = 1
+children (interpretations usable funs marks rules pairs drop) = 1
 children (order funs marks rules pairs drop) = 1
 
 -- the nodes are so many trees, one behind the other, in each a node before its children's trees

@@ -4,14 +4,16 @@ use wh_hopoly::{Covers, Poly};
 use wh_text::Name;
 use wh_types::{List, Numbers};
 
-/// Interpretations under which no rule and no pair grows, and some pairs shrink.
+/// Interpretations under which no rule that is to be covered and no pair grows, and some pairs shrink.
 #[derive(Drop)]
 pub struct PolyNode {
+    /// The numbers of the rules that are to be covered; `None` in version 1 of the format, where all are.
+    pub usable: Option<Numbers>,
     /// Those of the symbols.
     pub funs: Interps,
     /// Those of the marked symbols.
     pub marks: Interps,
-    /// The moves for each rule.
+    /// The moves for each rule that is to be covered.
     pub rules: Covers,
     /// The moves for each pair.
     pub pairs: Covers,

@@ -1,5 +1,5 @@
 -- What the reader of the lines of a node of interpretations keeps, as trees.
-use Rattle.std.proofs.Common.{◌≡◌, ℕ, List, map, refl, sym, ap, ◌∙◌}
+use Rattle.std.proofs.Common.{◌≡◌, ℕ, List, map, Option, refl, sym, ap, ◌∙◌}
 use Rattle.std.proofs.lemmas.List.{map_push}
 use Rattle.wh_hopoly.specs.declared.expression.Move as moved
 use Rattle.wh_cert.specs.Interps as w
@@ -43,13 +43,13 @@ begun_said went old new b e = c.begun_said LinesPlace reading went old new b e
 
 -- the node of all lines
 
-node_same : (x : Lines) (drop : List ℕ) → node_of (to_pairs x) drop ≡ node_of x drop
-node_same (in_funs funs) drop = refl
-node_same (in_marks funs marks) drop = refl
-node_same (in_rules funs marks rules) drop = refl
-node_same (in_pairs funs marks rules pairs) drop = refl
+node_same : (usable : Option (List ℕ)) (x : Lines) (drop : List ℕ) → node_of usable (to_pairs x) drop ≡ node_of usable x drop
+node_same usable (in_funs funs) drop = refl
+node_same usable (in_marks funs marks) drop = refl
+node_same usable (in_rules funs marks rules) drop = refl
+node_same usable (in_pairs funs marks rules pairs) drop = refl
 
-pub node_ended : (x y : Raw) (funs marks : List w.Interp) (rules pairs : List (List moved.Move)) (drop : List ℕ) → y ≡ to_pairs x → said_lines y ≡ in_pairs funs marks rules pairs
-    → interpretations funs marks rules pairs drop ≡ node_of (said_lines x) drop
-node_ended x y funs marks rules pairs drop to is =
-    ap (λ (z : Lines). node_of z drop) (sym is ∙ ap said_lines to ∙ c.pairs_said reading x) ∙ node_same (said_lines x) drop
+pub node_ended : (x y : Raw) (usable : Option (List ℕ)) (funs marks : List w.Interp) (rules pairs : List (List moved.Move)) (drop : List ℕ) → y ≡ to_pairs x
+    → said_lines y ≡ in_pairs funs marks rules pairs → interpretations usable funs marks rules pairs drop ≡ node_of usable (said_lines x) drop
+node_ended x y usable funs marks rules pairs drop to is =
+    ap (λ (z : Lines). node_of usable z drop) (sym is ∙ ap said_lines to ∙ c.pairs_said reading x) ∙ node_same usable (said_lines x) drop

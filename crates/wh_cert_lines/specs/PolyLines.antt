@@ -1,6 +1,6 @@
 -- A reader of the lines of a node of interpretations up to that of `drop`, byte by byte, as a function: where it stands, and where
 -- the next byte leads. It mirrors the code; the laws in proofs/ tie it to the text.
-use Rattle.std.specs.Prelude.{ℕ, ◌+◌, ◌-◌, ◌*◌, ◌==◌, ◌&&◌, nat_lt, cond, List, [], ◌∷◌, ◌++◌, length}
+use Rattle.std.specs.Prelude.{ℕ, ◌+◌, ◌-◌, ◌*◌, ◌==◌, ◌&&◌, nat_lt, cond, List, [], ◌∷◌, ◌++◌, length, Option}
 use Rattle.wh_types.specs.Limits.{longest_name}
 use Rattle.wh_hopoly.specs.declared.expression.Move as moved
 use Rattle.wh_text.specs.Chars.{line_feed, space, is_digit, is_start, is_part}
@@ -68,9 +68,9 @@ lines_step x (amount_wanted ms i j) b = cond (begins_big b) (on x (amount ms i j
 lines_step x (amount ms i j n) b =
     cond (goes_on_big n b) (on x (amount ms i j (10 * n + (b - 48)))) (moves_step x (add_move ms i j n) b)
 
--- the node of these lines, and of the pairs that are dropped
-abbrev pub node_of : Lines → List ℕ → Node
-node_of (in_funs funs) drop = interpretations funs [] [] [] drop
-node_of (in_marks funs marks) drop = interpretations funs marks [] [] drop
-node_of (in_rules funs marks rules) drop = interpretations funs marks rules [] drop
-node_of (in_pairs funs marks rules pairs) drop = interpretations funs marks rules pairs drop
+-- the node of the rules that are to be covered, where they are listed, of these lines, and of the pairs that are dropped
+abbrev pub node_of : Option (List ℕ) → Lines → List ℕ → Node
+node_of usable (in_funs funs) drop = interpretations usable funs [] [] [] drop
+node_of usable (in_marks funs marks) drop = interpretations usable funs marks [] [] drop
+node_of usable (in_rules funs marks rules) drop = interpretations usable funs marks rules [] drop
+node_of usable (in_pairs funs marks rules pairs) drop = interpretations usable funs marks rules pairs drop

@@ -107,9 +107,14 @@ impl PolyLines {
         Ok(())
     }
 
-    /// The node of which all lines were read.
-    pub fn node(&mut self, alloc: Global, drop: Numbers) -> Result<PolyNode, AllocError>
-        ensures { IfOk result (λ node. said_poly node ≡ node_of (lines_of self.old) drop) }
+    /// The node of which all lines were read, with the rules that are to be covered, where they are listed.
+    pub fn node(
+        &mut self,
+        alloc: Global,
+        usable: Option<Numbers>,
+        drop: Numbers,
+    ) -> Result<PolyNode, AllocError>
+        ensures { IfOk result (λ node. said_poly node ≡ node_of usable (lines_of self.old) drop) }
     {
         self.lists.enter_pairs(alloc)?;
         let funs = mem::replace(&mut self.lists.funs, Interps::new(alloc)?);
@@ -117,6 +122,7 @@ impl PolyLines {
         let rules = mem::replace(&mut self.lists.rules, Covers::new(alloc)?);
         let pairs = mem::replace(&mut self.lists.pairs, Covers::new(alloc)?);
         Ok(PolyNode {
+            usable,
             funs,
             marks,
             rules,

@@ -1,5 +1,5 @@
 -- What the printers of the lines of a node of interpretations append, one after another.
-use Rattle.std.proofs.Common.{◌≡◌, ℕ, ◌+◌, ◌<◌, ◌≤◌, List, [], ◌∷◌, ◌++◌, length, get_or, drop, map, codes, refl}
+use Rattle.std.proofs.Common.{◌≡◌, ℕ, ◌+◌, ◌<◌, ◌≤◌, List, [], ◌∷◌, ◌++◌, length, get_or, drop, map, codes, Option, Some, None, refl}
 use Rattle.std.specs.Fmt.{decimal}
 use Rattle.wh_hopoly.specs.declared.expression.Move as moved
 use Rattle.wh_text.specs.Pushes.{Pushes}
@@ -8,7 +8,7 @@ use Rattle.wh_cert.specs.PolyText.{put_poly}
 use Rattle.wh_cert_print.proofs.PrintedLists.{next_left, none_left}
 use Rattle.wh_cert.specs.Interps as w
 use Rattle.wh_cert.specs.Written.{interpretations}
-use Rattle.wh_cert.specs.Text.{put_interp, put_interps, put_move, put_moves, put_cover, put_covers, put_line, put_node}
+use Rattle.wh_cert.specs.Text.{put_interp, put_interps, put_move, put_moves, put_cover, put_covers, put_line, put_usable, put_node}
 use Rattle.wh_cert.specs.Said.{said_interp}
 use Rattle.wh_cert.specs.declared.poly_node.Interp.{Interp}
 
@@ -54,11 +54,20 @@ move_pushes m a b c d e f g space from over to colon amount =
     push_then a b g (λ r. 32 ∷ r) (λ r. decimal m.from ++ (62 ∷ (decimal m.to ++ (58 ∷ (decimal m.amount ++ r))))) (push_byte a b 32 space) p4
 
 -- a node of interpretations
-pub interpretations_push : (funs marks : List w.Interp) (rules pairs : List (List moved.Move)) (dropped a b c d e f g h : List ℕ) → b ≡ a ++ (codes "poly" ++ (10 ∷ [])) → Pushes b c (put_interps (codes "fun ") funs) → Pushes c d (put_interps (codes "mark ") marks) → Pushes d e (put_covers (codes "rule") rules) → Pushes e f (put_covers (codes "pair") pairs) → g ≡ f ++ codes "drop" → Pushes g h (put_line dropped) → Pushes a h (put_node (interpretations funs marks rules pairs dropped))
-interpretations_push funs marks rules pairs dropped a b c d e f g h word first second third fourth last list =
-    let p1 = push_then f g h (λ r. codes "drop" ++ r) (put_line dropped) (push_bytes f g (codes "drop") last) list in
-    let p2 = push_then e f h (put_covers (codes "pair") pairs) (λ r. codes "drop" ++ put_line dropped r) fourth p1 in
-    let p3 = push_then d e h (put_covers (codes "rule") rules) (λ r. put_covers (codes "pair") pairs (codes "drop" ++ put_line dropped r)) third p2 in
-    let p4 = push_then c d h (put_interps (codes "mark ") marks) (λ r. put_covers (codes "rule") rules (put_covers (codes "pair") pairs (codes "drop" ++ put_line dropped r))) second p3 in
-    let p5 = push_then b c h (put_interps (codes "fun ") funs) (λ r. put_interps (codes "mark ") marks (put_covers (codes "rule") rules (put_covers (codes "pair") pairs (codes "drop" ++ put_line dropped r)))) first p4 in
-    push_then a b h (λ r. codes "poly" ++ (10 ∷ r)) (λ r. put_interps (codes "fun ") funs (put_interps (codes "mark ") marks (put_covers (codes "rule") rules (put_covers (codes "pair") pairs (codes "drop" ++ put_line dropped r))))) (push_bytes a b (codes "poly" ++ (10 ∷ [])) word) p5
+
+pub usable_pushes : (ns a b c : List ℕ) → b ≡ a ++ codes "usable" → Pushes b c (put_line ns) → Pushes a c (put_usable (Some ns))
+usable_pushes ns a b c word list = push_then a b c (λ r. codes "usable" ++ r) (put_line ns) (push_bytes a b (codes "usable") word) list
+
+pub no_usable_pushes : (a : List ℕ) → Pushes a a (put_usable None)
+no_usable_pushes a = record { behind = λ r. refl }
+
+pub interpretations_push : (usable : Option (List ℕ)) (funs marks : List w.Interp) (rules pairs : List (List moved.Move)) (dropped a b c d e f g h i : List ℕ) → b ≡ a ++ (codes "poly" ++ (10 ∷ [])) → Pushes b c (put_usable usable)
+    → Pushes c d (put_interps (codes "fun ") funs) → Pushes d e (put_interps (codes "mark ") marks) → Pushes e f (put_covers (codes "rule") rules) → Pushes f g (put_covers (codes "pair") pairs) → h ≡ g ++ codes "drop" → Pushes h i (put_line dropped) → Pushes a i (put_node (interpretations usable funs marks rules pairs dropped))
+interpretations_push usable funs marks rules pairs dropped a b c d e f g h i word listed first second third fourth last list =
+    let p1 = push_then g h i (λ r. codes "drop" ++ r) (put_line dropped) (push_bytes g h (codes "drop") last) list in
+    let p2 = push_then f g i (put_covers (codes "pair") pairs) (λ r. codes "drop" ++ put_line dropped r) fourth p1 in
+    let p3 = push_then e f i (put_covers (codes "rule") rules) (λ r. put_covers (codes "pair") pairs (codes "drop" ++ put_line dropped r)) third p2 in
+    let p4 = push_then d e i (put_interps (codes "mark ") marks) (λ r. put_covers (codes "rule") rules (put_covers (codes "pair") pairs (codes "drop" ++ put_line dropped r))) second p3 in
+    let p5 = push_then c d i (put_interps (codes "fun ") funs) (λ r. put_interps (codes "mark ") marks (put_covers (codes "rule") rules (put_covers (codes "pair") pairs (codes "drop" ++ put_line dropped r)))) first p4 in
+    let p6 = push_then b c i (put_usable usable) (λ r. put_interps (codes "fun ") funs (put_interps (codes "mark ") marks (put_covers (codes "rule") rules (put_covers (codes "pair") pairs (codes "drop" ++ put_line dropped r))))) listed p5 in
+    push_then a b i (λ r. codes "poly" ++ (10 ∷ r)) (λ r. put_usable usable (put_interps (codes "fun ") funs (put_interps (codes "mark ") marks (put_covers (codes "rule") rules (put_covers (codes "pair") pairs (codes "drop" ++ put_line dropped r)))))) (push_bytes a b (codes "poly" ++ (10 ∷ [])) word) p6

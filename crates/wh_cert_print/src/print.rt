@@ -6,7 +6,7 @@ ghost use Rattle.std.specs.Fmt.{decimal};
 ghost use Rattle.wh_terms.specs.Places.{IsPath};
 ghost use Rattle.wh_text.specs.Pushes.{Pushes};
 ghost use Rattle.wh_cert.specs.Written.{blocks, subterm};
-ghost use Rattle.wh_cert.specs.Text.{put_path, put_rule, put_step, put_steps, put_put, put_puts, put_entry, put_numbers, put_line, put_block, put_blocks, put_arg, put_args, put_node, put_nodes, text};
+ghost use Rattle.wh_cert.specs.Text.{put_path, put_rule, put_step, put_steps, put_put, put_puts, put_entry, put_numbers, put_line, put_block, put_blocks, put_arg, put_args, put_usable, put_node, put_nodes, text};
 ghost use Rattle.wh_cert.specs.Said.{said_arg, said_poly, said_order, said_node, said_yes, said_put, said_no, said};
 
 use crate::print_lines::{print_covers, print_interps};
@@ -109,12 +109,26 @@ fn print_interpretations(out: &mut Bytes, node: &PolyNode) -> Result<(), AllocEr
     ensures { OnOk result (Pushes out.old out.new (put_node (said_poly node.now))) }
 {
     out.append(b"poly\n")?;
+    print_usable(out, &node.usable)?;
     print_interps(out, b"fun ", node.funs.as_slice())?;
     print_interps(out, b"mark ", node.marks.as_slice())?;
     print_covers(out, b"rule", node.rules.as_slice())?;
     print_covers(out, b"pair", node.pairs.as_slice())?;
     out.append(b"drop")?;
     print_line(out, node.drop.as_slice())
+}
+
+/// Appends the line of the rules that are to be covered, where they are listed.
+fn print_usable(out: &mut Bytes, usable: &Option<Numbers>) -> Result<(), AllocError>
+    ensures { OnOk result (Pushes out.old out.new (put_usable usable.now)) }
+{
+    match usable {
+        Some(numbers) => {
+            out.append(b"usable")?;
+            print_line(out, numbers.as_slice())
+        }
+        None => Ok(()),
+    }
 }
 
 /// Appends the lines of a node of a path order.

@@ -127,7 +127,8 @@ listed_not : (of : y.Listed) → stage (y.listed of []) ≡ second → ⊥
 listed_not y.of_ranks e = absurd cc
 listed_not (y.of_block left parts) e = absurd cc
 listed_not (y.of_drop args) e = absurd cc
-listed_not (y.of_poly funs marks rules pairs) e = absurd cc
+listed_not y.of_usable e = absurd cc
+listed_not (y.of_poly usable funs marks rules pairs) e = absurd cc
 listed_not (y.of_order funs marks rules pairs) e = absurd cc
 
 of_second : (p : y.Place) → stage p ≡ second → IsPairsLine p
@@ -140,7 +141,7 @@ of_second (y.word w y.to_blocks) e = absurd cc
 of_second (y.word w y.to_subterm) e = absurd cc
 of_second (y.word w (y.to_name args)) e = absurd cc
 of_second (y.word w y.to_poly) e = absurd cc
-of_second (y.word w (y.to_line x)) e = absurd cc
+of_second (y.word w (y.to_line usable x)) e = absurd cc
 of_second (y.word w y.to_order) e = absurd cc
 of_second (y.word w (y.to_order_line x)) e = absurd cc
 of_second (y.word w y.to_finish) e = absurd cc
@@ -158,7 +159,7 @@ of_second y.front e = absurd cc
 of_second (y.arg_front args) e = absurd cc
 of_second (y.name_wanted args) e = absurd cc
 of_second (y.letters args xs) e = absurd cc
-of_second (y.poly_lines x k) e = absurd cc
+of_second (y.poly_lines usable x k) e = absurd cc
 of_second (y.order_lines x k) e = absurd cc
 of_second y.finished e = absurd cc
 

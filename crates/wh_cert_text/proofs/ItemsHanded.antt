@@ -96,7 +96,7 @@ yes_behind y.to_blocks = tt
 yes_behind y.to_subterm = tt
 yes_behind (y.to_name args) = tt
 yes_behind y.to_poly = tt
-yes_behind (y.to_line x) = tt
+yes_behind (y.to_line usable x) = tt
 yes_behind y.to_order = tt
 yes_behind (y.to_order_line x) = tt
 yes_behind y.to_finish = tt
@@ -110,7 +110,8 @@ yes_ended y.of_ranks xs = tt
 yes_ended (y.of_block zero parts) xs = tt
 yes_ended (y.of_block (suc left) parts) xs = tt
 yes_ended (y.of_drop args) xs = tt
-yes_ended (y.of_poly funs marks rules pairs) xs = tt
+yes_ended y.of_usable xs = tt
+yes_ended (y.of_poly usable funs marks rules pairs) xs = tt
 yes_ended (y.of_order funs marks rules pairs) xs = tt
 
 yes_list : (of : y.Listed) (xs : List ℕ) (b : ℕ) → EndsYes (y.list_step of xs b)
@@ -126,11 +127,11 @@ yes_number y.of_blocks k b = yes_if (b == 10) _ _ (yes_count k) tt
 yes_number (y.of_place args name) k b = yes_if (b == 10) _ _ tt tt
 yes_number (y.of_list of xs) k b = yes_list of (xs ++ k ∷ []) b
 
-yes_lines : (x : l.LinesStep) → EndsYes (y.lines_led x)
-yes_lines (l.on x k) = tt
-yes_lines (l.begins x) = tt
-yes_lines (l.drops x) = tt
-yes_lines l.refused = tt
+yes_lines : (usable : Option (List ℕ)) (x : l.LinesStep) → EndsYes (y.lines_led usable x)
+yes_lines usable (l.on x k) = tt
+yes_lines usable (l.begins x) = tt
+yes_lines usable (l.drops x) = tt
+yes_lines usable l.refused = tt
 
 yes_order : (x : ol.LinesStep) → EndsYes (y.order_led x)
 yes_order (ol.on x k) = tt
@@ -147,12 +148,12 @@ ends_yes v w (y.number_wanted of) b = yes_if (is_digit b) _ _ tt tt
 ends_yes v w (y.number of k) b = yes_if (goes_on k b) _ _ tt (yes_number of k b)
 ends_yes v w y.front b =
     yes_if w _ _
-    (yes_if (b == 100) _ _ tt (yes_if (b == 97) _ _ tt (yes_if (b == 98) _ _ tt (yes_if (b == 115) _ _ tt (yes_if (b == 112) _ _ (yes_if (v == 1) _ _ tt tt) (yes_if (b == 111) _ _ (yes_if (v == 2) _ _ tt tt) tt))))))
+    (yes_if (b == 100) _ _ tt (yes_if (b == 97) _ _ tt (yes_if (b == 98) _ _ tt (yes_if (b == 115) _ _ tt (yes_if (b == 112) _ _ (yes_if (v == 1) _ _ tt (yes_if (v == 2) _ _ tt tt)) (yes_if (b == 111) _ _ (yes_if (v == 2) _ _ tt tt) tt))))))
     (yes_if (b == 101) _ _ tt tt)
 ends_yes v w (y.arg_front args) b = yes_if (b == 97) _ _ tt (yes_if (b == 100) _ _ tt tt)
 ends_yes v w (y.name_wanted args) b = yes_if (is_start b) _ _ tt tt
 ends_yes v w (y.letters args xs) b = yes_if (is_part b && nat_lt (length xs) 64) _ _ tt (yes_if (b == 32) _ _ tt tt)
-ends_yes v w (y.poly_lines x k) b = yes_lines (l.lines_step x k b)
+ends_yes v w (y.poly_lines usable x k) b = yes_lines usable (l.lines_step x k b)
 ends_yes v w (y.order_lines x k) b = yes_order (ol.lines_step x k b)
 ends_yes v w y.finished b = tt
 

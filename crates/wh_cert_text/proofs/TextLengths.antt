@@ -1,5 +1,5 @@
 -- A text is at least as long as each list that it spells.
-use Rattle.std.proofs.Common.{ℕ, ◌≤◌, List, [], ◌∷◌, ◌++◌, length, codes, All, subst, sym, arith}
+use Rattle.std.proofs.Common.{ℕ, ◌≤◌, List, [], ◌∷◌, ◌++◌, length, codes, All, Option, Some, None, subst, sym, arith}
 use Rattle.std.specs.Fmt.{decimal}
 use Rattle.std.proofs.lemmas.List.Elements.{All-nil, All-cons}
 use Rattle.wh_hopoly.specs.declared.expression.Move as moved
@@ -10,7 +10,7 @@ use Rattle.wh_cert.specs.PolyText.{put_poly}
 use Rattle.wh_cert_parts.proofs.PolyTextLengths.{behind, behind_poly, long_poly, poly_within}
 use Rattle.wh_cert.specs.Interps.{Interp}
 use Rattle.wh_cert.specs.Written.{Arg, Filtering, Node, done, alone, blocks, subterm, interpretations, order, Cert, yes, no}
-use Rattle.wh_cert.specs.Text.{put_interp, put_interps, put_moves, put_covers, put_filterings, put_all_shown, put_numbers, put_line, put_blocks, put_args, put_node, put_nodes, text}
+use Rattle.wh_cert.specs.Text.{put_interp, put_interps, put_moves, put_covers, put_filterings, put_all_shown, put_numbers, put_line, put_blocks, put_args, put_usable, put_node, put_nodes, text}
 use Rattle.wh_cert.specs.CertText.{CertText}
 use Rattle.wh_cert.specs.PolyCounts.{PolyWithin, PolysWithin, AllPolysWithin}
 
@@ -113,6 +113,10 @@ behind_all_shown word (i ∷ is) r =
 
 -- nodes
 
+behind_usable : (usable : Option (List ℕ)) (r : List ℕ) → length r ≤ length (put_usable usable r)
+behind_usable None r = omega arith
+behind_usable (Some ns) r = omega (arith, behind (codes "usable") (put_line ns r), behind_numbers ns (10 ∷ r))
+
 behind_node : (x : Node) (r : List ℕ) → length r ≤ length (put_node x r)
 behind_node done r = omega (arith, behind (codes "done") (10 ∷ r))
 behind_node alone r = omega (arith, behind (codes "alone") (10 ∷ r))
@@ -128,12 +132,13 @@ behind_node (order funs marks rules pairs dropped) r =
     let third = put_all_shown (codes "rule ") rules fourth in
     let second = put_filterings (codes "mark ") marks third in
     omega (arith, behind (codes "order") (10 ∷ put_filterings (codes "fun ") funs second), behind_filterings (codes "fun ") funs second, behind_filterings (codes "mark ") marks third, behind_all_shown (codes "rule ") rules fourth, behind_all_shown (codes "pair ") pairs last, behind (codes "drop") (put_line dropped r), behind_numbers dropped (10 ∷ r))
-behind_node (interpretations funs marks rules pairs dropped) r =
+behind_node (interpretations usable funs marks rules pairs dropped) r =
     let last = codes "drop" ++ put_line dropped r in
     let fourth = put_covers (codes "pair") pairs last in
     let third = put_covers (codes "rule") rules fourth in
     let second = put_interps (codes "mark ") marks third in
-    omega (arith, behind (codes "poly") (10 ∷ put_interps (codes "fun ") funs second), behind_interps (codes "fun ") funs second, behind_interps (codes "mark ") marks third, behind_covers (codes "rule") rules fourth, behind_covers (codes "pair") pairs last, behind (codes "drop") (put_line dropped r), behind_numbers dropped (10 ∷ r))
+    let first = put_interps (codes "fun ") funs second in
+    omega (arith, behind (codes "poly") (10 ∷ put_usable usable first), behind_usable usable first, behind_interps (codes "fun ") funs second, behind_interps (codes "mark ") marks third, behind_covers (codes "rule") rules fourth, behind_covers (codes "pair") pairs last, behind (codes "drop") (put_line dropped r), behind_numbers dropped (10 ∷ r))
 
 node_within : (n : ℕ) (x : Node) (r : List ℕ) → length (put_node x r) ≤ n → PolysWithin n x
 node_within n done r le = tt
@@ -141,10 +146,11 @@ node_within n alone r le = tt
 node_within n (blocks parts) r le = tt
 node_within n (subterm args dropped) r le = tt
 node_within n (order funs marks rules pairs dropped) r le = tt
-node_within n (interpretations funs marks rules pairs dropped) r le =
+node_within n (interpretations usable funs marks rules pairs dropped) r le =
     let third = put_covers (codes "rule") rules (put_covers (codes "pair") pairs (codes "drop" ++ put_line dropped r)) in
     let second = put_interps (codes "mark ") marks third in
-    let short : length (put_interps (codes "fun ") funs second) ≤ n = omega (arith, le, behind (codes "poly") (10 ∷ put_interps (codes "fun ") funs second)) in
+    let first = put_interps (codes "fun ") funs second in
+    let short : length first ≤ n = omega (arith, le, behind (codes "poly") (10 ∷ put_usable usable first), behind_usable usable first) in
     (interps_within n (codes "fun ") funs second short, interps_within n (codes "mark ") marks third (omega (arith, short, behind_interps (codes "fun ") funs second)))
 
 nodes_within : (n : ℕ) (xs : List Node) (r : List ℕ) → length (put_nodes xs r) ≤ n → All (PolysWithin n) xs

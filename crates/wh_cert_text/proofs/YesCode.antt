@@ -1,5 +1,5 @@
 -- What the reader of YES certificates keeps, as trees.
-use Rattle.std.proofs.Common.{◌≡◌, ℕ, zero, suc, ◌+◌, ◌<◌, ◌==◌, List, [], ◌∷◌, ◌++◌, length, get_or, drop, map, refl, sym, ap, ◌∙◌, arith}
+use Rattle.std.proofs.Common.{◌≡◌, ℕ, zero, suc, ◌+◌, ◌<◌, ◌==◌, List, [], ◌∷◌, ◌++◌, length, get_or, drop, map, Option, refl, sym, ap, ◌∙◌, arith}
 use Rattle.std.proofs.lemmas.Bool.{cond-true, eq-eqb}
 use Rattle.std.proofs.lemmas.List.{drop_more}
 use Rattle.wh_cert.specs.Written as written
@@ -34,11 +34,11 @@ block_ended zero parts xs = refl
 block_ended (suc left) parts xs = refl
 
 -- the line of `drop` ends the node of the lines before it
-pub drop_ended : (x : Lines) (xs : List ℕ) (node : written.Node) → node ≡ node_of x xs → gives (node_item node) front ≡ list_ended (dropped x) xs
-drop_ended (in_funs funs) xs node is = ap (λ (y : written.Node). gives (node_item y) front) is
-drop_ended (in_marks funs marks) xs node is = ap (λ (y : written.Node). gives (node_item y) front) is
-drop_ended (in_rules funs marks rules) xs node is = ap (λ (y : written.Node). gives (node_item y) front) is
-drop_ended (in_pairs funs marks rules pairs) xs node is = ap (λ (y : written.Node). gives (node_item y) front) is
+pub drop_ended : (usable : Option (List ℕ)) (x : Lines) (xs : List ℕ) (node : written.Node) → node ≡ node_of usable x xs → gives (node_item node) front ≡ list_ended (dropped usable x) xs
+drop_ended usable (in_funs funs) xs node is = ap (λ (y : written.Node). gives (node_item y) front) is
+drop_ended usable (in_marks funs marks) xs node is = ap (λ (y : written.Node). gives (node_item y) front) is
+drop_ended usable (in_rules funs marks rules) xs node is = ap (λ (y : written.Node). gives (node_item y) front) is
+drop_ended usable (in_pairs funs marks rules pairs) xs node is = ap (λ (y : written.Node). gives (node_item y) front) is
 
 pub order_ended : (x : orders.Lines) (xs : List ℕ) (node : written.Node) → node ≡ orders.node_of x xs → gives (node_item node) front ≡ list_ended (order_dropped x) xs
 order_ended (in_funs funs) xs node is = ap (λ (y : written.Node). gives (node_item y) front) is
@@ -47,10 +47,11 @@ order_ended (in_rules funs marks rules) xs node is = ap (λ (y : written.Node). 
 order_ended (in_pairs funs marks rules pairs) xs node is = ap (λ (y : written.Node). gives (node_item y) front) is
 
 -- what stands behind a word does not depend on the place
-behind_same : (o : YesBehind) (l : YesLine) (p : YesPlace) → behind_of o (record { place = p; numbers = l.numbers; parts = l.parts; args = l.args; name = l.name; lines = l.lines; order = l.order }) ≡ behind_of o l
+behind_same : (o : YesBehind) (l : YesLine) (p : YesPlace) → behind_of o (record { place = p; numbers = l.numbers; parts = l.parts; args = l.args; name = l.name; usable = l.usable; lines = l.lines; order = l.order }) ≡ behind_of o l
 behind_same (behind.List listed.Ranks) l p = refl
 behind_same (behind.List (listed.Block left)) l p = refl
 behind_same (behind.List listed.Drop) l p = refl
+behind_same (behind.List listed.Usable) l p = refl
 behind_same (behind.List listed.Poly) l p = refl
 behind_same (behind.List listed.Order) l p = refl
 behind_same behind.Version l p = refl
@@ -86,7 +87,7 @@ word_more w o at b below is =
     ∙ two_left x y b (drop (at + 1 + 1) w) o is
     ∙ ap (λ (v : List ℕ). on (word v o)) (sym rest)
 
-pub word_goes_on : (o : YesBehind) (l : YesLine) (at b : ℕ) (w : List ℕ) → w ≡ spelling (behind_of o l) → at + 1 < length w → b ≡ get_or w at 0 → on (yes_place (record { place = place.Word o (at + 1); numbers = l.numbers; parts = l.parts; args = l.args; name = l.name; lines = l.lines; order = l.order })) ≡ word_step (drop at (spelling (behind_of o l))) (behind_of o l) b
+pub word_goes_on : (o : YesBehind) (l : YesLine) (at b : ℕ) (w : List ℕ) → w ≡ spelling (behind_of o l) → at + 1 < length w → b ≡ get_or w at 0 → on (yes_place (record { place = place.Word o (at + 1); numbers = l.numbers; parts = l.parts; args = l.args; name = l.name; usable = l.usable; lines = l.lines; order = l.order })) ≡ word_step (drop at (spelling (behind_of o l))) (behind_of o l) b
 word_goes_on o l at b w spelled below is =
     ap (λ (r : Behind). on (word (drop (at + 1) (spelling r)) r)) (behind_same o l (place.Word o (at + 1)))
     ∙ ap (λ (v : List ℕ). on (word (drop (at + 1) v) (behind_of o l))) (sym spelled)

@@ -1,5 +1,5 @@
 -- The reader of certificates reads each text of a YES certificate.
-use Rattle.std.proofs.Common.{◌≡◌, ℕ, zero, suc, ◌+◌, ◌-◌, ◌*◌, ◌<◌, Bool, true, cond, ◌&&◌, ◌==◌, nat_lt, List, [], ◌∷◌, ◌++◌, length, codes, refl, sym, ap, ◌∙◌, subst, arith, ⊎_elim, append_assoc, append-nil}
+use Rattle.std.proofs.Common.{◌≡◌, ℕ, zero, suc, ◌+◌, ◌-◌, ◌*◌, ◌<◌, Bool, true, cond, ◌&&◌, ◌==◌, nat_lt, List, [], ◌∷◌, ◌++◌, length, codes, Some, None, refl, sym, ap, ◌∙◌, subst, arith, ⊎_elim, append_assoc, append-nil}
 use Rattle.std.specs.List.{All}
 use Rattle.std.proofs.lemmas.Bool.{cond-true, lt-ltb, and_from}
 use Rattle.std.proofs.lemmas.List.Elements.{All-head, All-tail}
@@ -12,7 +12,7 @@ use Rattle.wh_cert.specs.TermLimits.{IsSmall}
 use Rattle.wh_cert.specs.Written.{Arg, Node, done, alone, blocks, subterm, interpretations, order, children, Preorder}
 use Rattle.wh_cert.specs.Text.{put_numbers, put_blocks, put_arg, put_args, put_node, put_nodes, put_interps, put_covers, put_filterings, put_all_shown}
 use Rattle.wh_cert.specs.Limits.{ArgFits, NodeFits, IsVersion, IsOfVersion}
-use Rattle.wh_cert_text.specs.YesMachine.{Listed, of_ranks, of_block, of_drop, of_poly, of_order, Counted, of_pairs, of_blocks, of_place, of_list, to_list, node_item, word, listed, number_wanted, number, front, arg_front, name_wanted, letters, LineStep, on, refused, list_ended, number_ended, front_step, Past, so_far, gather, version_of, wants}
+use Rattle.wh_cert_text.specs.YesMachine.{Listed, of_ranks, of_block, of_drop, of_usable, of_poly, of_order, Counted, of_pairs, of_blocks, of_place, of_list, to_list, node_item, word, listed, number_wanted, number, front, arg_front, name_wanted, letters, LineStep, on, refused, list_ended, number_ended, front_step, Past, so_far, gather, version_of, wants}
 use Rattle.wh_cert_text.specs.LineMachine.{stands_yes, standing_after_yes, run, start}
 use Rattle.wh_cert_text.proofs.LinesComplete.{lines_run}
 use Rattle.wh_cert_text.proofs.OrderComplete.{order_run}
@@ -92,12 +92,20 @@ node_run h (order funs marks rules pairs drop) r fits v e =
     ∙ ap (λ (n : ℕ). run (standing_after_yes h (front_step n true 111)) lines) v
     ∙ order_run h funs marks rules pairs (put_numbers drop (10 ∷ r)) fits.0 fits.1 fits.2 fits.3
     ∙ numbers_run h (of_order funs marks rules pairs) [] drop r fits.4
-node_run h (interpretations funs marks rules pairs drop) r fits v e =
+node_run h (interpretations None funs marks rules pairs drop) r fits v e =
     let lines : List ℕ = codes "oly" ++ (10 ∷ put_interps (codes "fun ") funs (put_interps (codes "mark ") marks (put_covers (codes "rule") rules (put_covers (codes "pair") pairs (codes "drop" ++ put_numbers drop (10 ∷ r)))))) in
     front_run h 112 lines e
     ∙ ap (λ (n : ℕ). run (standing_after_yes h (front_step n true 112)) lines) v
-    ∙ lines_run h funs marks rules pairs (put_numbers drop (10 ∷ r)) fits.0 fits.1 fits.2 fits.3
-    ∙ numbers_run h (of_poly funs marks rules pairs) [] drop r fits.4
+    ∙ lines_run h None funs marks rules pairs (put_numbers drop (10 ∷ r)) fits.1 fits.2 fits.3 fits.4
+    ∙ numbers_run h (of_poly None funs marks rules pairs) [] drop r fits.5
+node_run h (interpretations (Some ns) funs marks rules pairs drop) r fits v e =
+    let rest : List ℕ = put_interps (codes "fun ") funs (put_interps (codes "mark ") marks (put_covers (codes "rule") rules (put_covers (codes "pair") pairs (codes "drop" ++ put_numbers drop (10 ∷ r))))) in
+    let lines : List ℕ = codes "oly" ++ (10 ∷ (codes "usable" ++ put_numbers ns (10 ∷ rest))) in
+    front_run h 112 lines e
+    ∙ ap (λ (n : ℕ). run (standing_after_yes h (front_step n true 112)) lines) v
+    ∙ numbers_run h of_usable [] ns rest fits.0
+    ∙ lines_run h (Some ns) funs marks rules pairs (put_numbers drop (10 ∷ r)) fits.1 fits.2 fits.3 fits.4
+    ∙ numbers_run h (of_poly (Some ns) funs marks rules pairs) [] drop r fits.5
 
 pub wants_some : (k : ℕ) → 0 < k → nat_lt 0 k ≡ true
 wants_some k some = lt-ltb 0 k some

@@ -1,6 +1,6 @@
 -- Every front of a YES certificate that the reader goes along can be ended within the limits: with `done` for each node that is
 -- still wanted.
-use Rattle.std.proofs.Common.{◌≡◌, ℕ, zero, suc, ◌+◌, ◌-◌, ◌^◌, ◌<◌, ◌≤◌, ◌==◌, true, false, List, [], ◌∷◌, ◌++◌, length, codes, refl, sym, ap, ◌∙◌, subst, arith, length-append}
+use Rattle.std.proofs.Common.{◌≡◌, ℕ, zero, suc, ◌+◌, ◌-◌, ◌^◌, ◌<◌, ◌≤◌, ◌==◌, true, false, List, [], ◌∷◌, ◌++◌, length, codes, Option, Some, None, refl, sym, ap, ◌∙◌, subst, arith, length-append}
 use Rattle.std.specs.List.{All}
 use Rattle.std.proofs.lemmas.Bool.{cond-true, eq-eqb, ltb-true}
 use Rattle.std.proofs.lemmas.List.Elements.{All-nil, All-push, All-weaker}
@@ -13,7 +13,7 @@ use Rattle.wh_cert_parts.proofs.PolyLaws.{poly_seen, poly_sound}
 use Rattle.wh_cert_parts.proofs.PolyRuns.{poly_ends}
 use Rattle.wh_inference.specs.Inferences.{Inference}
 use Rattle.wh_cert.specs.Interps.{Interp}
-use Rattle.wh_cert.specs.Limits.{InterpFits, MoveFits, NodeWithin}
+use Rattle.wh_cert.specs.Limits.{InterpFits, MoveFits, UsableWithin, NodeWithin}
 use Rattle.wh_cert_lines.specs.PolyLines.{Lines, in_funs, in_marks, in_rules, in_pairs, LinesPlace, lines_front, name_wanted, name as line_name, in_poly, moves, from_wanted, from, to_wanted, to, amount_wanted, amount, line_begun, add_named, add_shown, add_move}
 use Rattle.wh_cert_lines.proofs.PolyLinesSound.{limits, GoodMoves, GoodLines, GoodLinesPlace, no_interps, lines_wider, interp_good, cover_good, begun_good}
 use Rattle.wh_cert_lines.specs.OrderLines as ol
@@ -23,9 +23,9 @@ use Rattle.wh_cert_text.proofs.OrderComplete.{order_reader}
 use Rattle.wh_cert_lines.proofs.SectionsLaws.{TakesNamed, TakesShown, pairs_good}
 use Rattle.wh_cert_text.proofs.LinesComplete.{poly_lift}
 use Rattle.wh_cert.specs.Written.{Arg, Filtering, Node, done, alone, blocks, subterm, interpretations, order, children, yes}
-use Rattle.wh_cert_text.specs.YesMachine.{node_item, end_item, Listed, of_ranks, of_block, of_drop, of_poly, of_order, Counted, of_pairs, of_blocks, of_place, of_list, Behind, to_version, to_list, to_pairs, to_done, to_alone, to_blocks, to_subterm, to_name, to_poly, to_line, to_order, to_order_line, to_finish, Place, word, version_wanted, listed, number_wanted, number, front, arg_front, name_wanted as arg_name_wanted, letters, poly_lines, order_lines, finished, LineStep, on, refused, behind, list_ended, Past, so_far, gather, version_of, wants}
+use Rattle.wh_cert_text.specs.YesMachine.{node_item, end_item, Listed, of_ranks, of_block, of_drop, of_usable, of_poly, of_order, Counted, of_pairs, of_blocks, of_place, of_list, Behind, to_version, to_list, to_pairs, to_done, to_alone, to_blocks, to_subterm, to_name, to_poly, to_line, to_order, to_order_line, to_finish, Place, word, version_wanted, listed, number_wanted, number, front, arg_front, name_wanted as arg_name_wanted, letters, poly_lines, order_lines, finished, LineStep, on, refused, behind, list_ended, Past, so_far, gather, version_of, wants}
 use Rattle.wh_cert_text.specs.LineMachine.{Standing, stands_yes, standing_after_yes, run}
-use Rattle.wh_cert_text.proofs.YesSound.{opening, second, third, listed_stage, counted_stage, word_stage, stage, GoodListed, GoodCounted, GoodBehind, GoodPlace, ListedFor, CountedFor, BehindFor, PlaceFor}
+use Rattle.wh_cert_text.proofs.YesSound.{opening, second, third, listed_stage, counted_stage, word_stage, stage, usable_wider, usable_within, GoodListed, GoodCounted, GoodBehind, GoodPlace, ListedFor, CountedFor, BehindFor, PlaceFor}
 use Rattle.wh_cert_text.proofs.YesReached.{GoodPast, Good, no_wanted, nodes_wider}
 use Rattle.wh_cert_text.proofs.YesComplete.{node_run, wants_some}
 use Rattle.wh_cert_text.proofs.Ended.{ReachesEnd, ends_after}
@@ -89,10 +89,30 @@ order_within : (funs marks : List Filtering) (rules pairs : List Inference) (xs 
 order_within funs marks rules pairs xs g few = (g.0.2, g.1.2, g.0.1, g.1.1, g.2.1, g.2.2, g.3.1, g.3.2, few)
 
 -- a node of interpretations within the limits
-poly_within : (n : ℕ) (funs marks : List Interp) (rules pairs : List (List moved.Move)) (xs : List ℕ) → n ≤ 2 ^ 32 → GoodLines n (in_pairs funs marks rules pairs) → length xs ≤ 2 ^ 32 → NodeWithin (2 ^ 32) (interpretations funs marks rules pairs xs)
-poly_within n funs marks rules pairs xs le g few =
+poly_within : (n : ℕ) (usable : Option (List ℕ)) (funs marks : List Interp) (rules pairs : List (List moved.Move)) (xs : List ℕ) → n ≤ 2 ^ 32 → UsableWithin (2 ^ 32) usable → GoodLines n (in_pairs funs marks rules pairs) → length xs ≤ 2 ^ 32 → NodeWithin (2 ^ 32) (interpretations usable funs marks rules pairs xs)
+poly_within n usable funs marks rules pairs xs le room g few =
     let wide = lines_wider n (2 ^ 32) (in_pairs funs marks rules pairs) le g in
-    (wide.0.1, wide.1.1, wide.2.1, wide.2.2, wide.3.1, wide.3.2, few)
+    (room, wide.0.1, wide.1.1, wide.2.1, wide.2.2, wide.3.1, wide.3.2, few)
+
+-- behind the lines of interpretations and moves
+
+drop_ends : (before n : ℕ) (h : Past) (usable : Option (List ℕ)) (funs marks : List Interp) (rules pairs : List (List moved.Move)) → UsableWithin (2 ^ 32) usable → before + n ≤ 2 ^ 32 → GoodPast before third h → GoodLines n (in_pairs funs marks rules pairs) → wants h ≡ true → ReachesEnd (2 ^ 32) (stands_yes (gather h (node_item (interpretations usable funs marks rules pairs []))) front)
+drop_ends before n h usable funs marks rules pairs room short past g a =
+    node_ends h (interpretations usable funs marks rules pairs []) a (room_of before n h short past) (poly_within n usable funs marks rules pairs [] (omega (arith, short)) room g (omega arith)) (omega arith)
+
+lines_end : (before n : ℕ) (h : Past) (usable : Option (List ℕ)) (x : Lines) → UsableWithin (2 ^ 32) usable → before + n ≤ 2 ^ 32 → GoodPast before third h → GoodLines n x → wants h ≡ true → ReachesEnd (2 ^ 32) (stands_yes h (poly_lines usable x lines_front))
+lines_end before n h usable (in_funs funs) room short past g a =
+    ends_after (2 ^ 32) (stands_yes h (poly_lines usable (in_funs funs) lines_front)) (stands_yes (gather h (node_item (interpretations usable funs [] [] [] []))) front) (λ r. codes "drop" ++ (10 ∷ r)) (λ r. refl)
+    (drop_ends before n h usable funs [] [] [] room short past (pairs_good limits n (in_funs funs) g) a)
+lines_end before n h usable (in_marks funs marks) room short past g a =
+    ends_after (2 ^ 32) (stands_yes h (poly_lines usable (in_marks funs marks) lines_front)) (stands_yes (gather h (node_item (interpretations usable funs marks [] [] []))) front) (λ r. codes "drop" ++ (10 ∷ r)) (λ r. refl)
+    (drop_ends before n h usable funs marks [] [] room short past (pairs_good limits n (in_marks funs marks) g) a)
+lines_end before n h usable (in_rules funs marks rules) room short past g a =
+    ends_after (2 ^ 32) (stands_yes h (poly_lines usable (in_rules funs marks rules) lines_front)) (stands_yes (gather h (node_item (interpretations usable funs marks rules [] []))) front) (λ r. codes "drop" ++ (10 ∷ r)) (λ r. refl)
+    (drop_ends before n h usable funs marks rules [] room short past (pairs_good limits n (in_rules funs marks rules) g) a)
+lines_end before n h usable (in_pairs funs marks rules pairs) room short past g a =
+    ends_after (2 ^ 32) (stands_yes h (poly_lines usable (in_pairs funs marks rules pairs) lines_front)) (stands_yes (gather h (node_item (interpretations usable funs marks rules pairs []))) front) (λ r. codes "drop" ++ (10 ∷ r)) (λ r. refl)
+    (drop_ends before n h usable funs marks rules pairs room short past g a)
 
 -- a list's line
 list_ended_ends : (before n : ℕ) (h : Past) (of : Listed) (xs : List ℕ) → before + n ≤ 2 ^ 32 → GoodPast before (listed_stage of) h → GoodListed 1 n of → length xs ≤ n → ListedFor (version_of h) (wants h) of → ReachesEnd (2 ^ 32) (standing_after_yes h (list_ended of xs))
@@ -110,8 +130,11 @@ list_ended_ends before n h (of_block (suc left) parts) xs short past g few a =
     block_ends left h (parts ++ xs ∷ []) a (room_of before n h short past) (All-push (λ (block : List ℕ). length block ≤ 2 ^ 32) parts xs wide (omega arith)) (omega (arith, length-append parts (xs ∷ []), g.0))
 list_ended_ends before n h (of_drop args) xs short past g few a =
     node_ends h (subterm args xs) a (room_of before n h short past) (omega (arith, g.1), omega arith) (omega arith)
-list_ended_ends before n h (of_poly funs marks rules pairs) xs short past g few a =
-    node_ends h (interpretations funs marks rules pairs xs) a.0 (room_of before n h short past) (poly_within n funs marks rules pairs xs (omega (arith, short)) g.0 (omega (arith, few, short))) (omega arith)
+list_ended_ends before n h of_usable xs short past g few a =
+    lines_end before n h (Some xs) (in_funs []) (omega (arith, few, short)) short past (no_interps n) a.0
+list_ended_ends before n h (of_poly usable funs marks rules pairs) xs short past g few a =
+    let room = usable_within n (2 ^ 32) usable (omega (arith, short)) g.0 in
+    node_ends h (interpretations usable funs marks rules pairs xs) a.0 (room_of before n h short past) (poly_within n usable funs marks rules pairs xs (omega (arith, short)) room g.1 (omega (arith, few, short))) (omega arith)
 list_ended_ends before n h (of_order funs marks rules pairs) xs short past g few a =
     let wide = os.lines_wider n (2 ^ 32) (in_pairs funs marks rules pairs) (omega (arith, short)) g.0 in
     node_ends h (order funs marks rules pairs xs) a.0 (room_of before n h short past) (order_within funs marks rules pairs xs wide (omega (arith, few, short))) (omega arith)
@@ -170,81 +193,63 @@ finished_ends before n (so_far version ranks pairs nodes wanted) short past a =
 
 -- lines of interpretations
 
-drop_ends : (before n : ℕ) (h : Past) (funs marks : List Interp) (rules pairs : List (List moved.Move)) → before + n ≤ 2 ^ 32 → GoodPast before third h → GoodLines n (in_pairs funs marks rules pairs) → wants h ≡ true → ReachesEnd (2 ^ 32) (stands_yes (gather h (node_item (interpretations funs marks rules pairs []))) front)
-drop_ends before n h funs marks rules pairs short past g a =
-    node_ends h (interpretations funs marks rules pairs []) a (room_of before n h short past) (poly_within n funs marks rules pairs [] (omega (arith, short)) g (omega arith)) (omega arith)
-
-lines_end : (before n : ℕ) (h : Past) (x : Lines) → before + n ≤ 2 ^ 32 → GoodPast before third h → GoodLines n x → wants h ≡ true → ReachesEnd (2 ^ 32) (stands_yes h (poly_lines x lines_front))
-lines_end before n h (in_funs funs) short past g a =
-    ends_after (2 ^ 32) (stands_yes h (poly_lines (in_funs funs) lines_front)) (stands_yes (gather h (node_item (interpretations funs [] [] [] []))) front) (λ r. codes "drop" ++ (10 ∷ r)) (λ r. refl)
-    (drop_ends before n h funs [] [] [] short past (pairs_good limits n (in_funs funs) g) a)
-lines_end before n h (in_marks funs marks) short past g a =
-    ends_after (2 ^ 32) (stands_yes h (poly_lines (in_marks funs marks) lines_front)) (stands_yes (gather h (node_item (interpretations funs marks [] [] []))) front) (λ r. codes "drop" ++ (10 ∷ r)) (λ r. refl)
-    (drop_ends before n h funs marks [] [] short past (pairs_good limits n (in_marks funs marks) g) a)
-lines_end before n h (in_rules funs marks rules) short past g a =
-    ends_after (2 ^ 32) (stands_yes h (poly_lines (in_rules funs marks rules) lines_front)) (stands_yes (gather h (node_item (interpretations funs marks rules [] []))) front) (λ r. codes "drop" ++ (10 ∷ r)) (λ r. refl)
-    (drop_ends before n h funs marks rules [] short past (pairs_good limits n (in_rules funs marks rules) g) a)
-lines_end before n h (in_pairs funs marks rules pairs) short past g a =
-    ends_after (2 ^ 32) (stands_yes h (poly_lines (in_pairs funs marks rules pairs) lines_front)) (stands_yes (gather h (node_item (interpretations funs marks rules pairs []))) front) (λ r. codes "drop" ++ (10 ∷ r)) (λ r. refl)
-    (drop_ends before n h funs marks rules pairs short past g a)
-
 -- behind one more line
-interp_ends : (before n : ℕ) (h : Past) (x : Lines) (i : Interp) → before + n < 2 ^ 32 → GoodPast before third h → GoodLines n x → TakesNamed x → InterpFits i → wants h ≡ true → ReachesEnd (2 ^ 32) (stands_yes h (poly_lines (add_named x i) lines_front))
-interp_ends before n h x i short past g t fits a =
-    lines_end before (suc n) h (add_named x i) (omega (arith, short)) past (interp_good n x i t g fits) a
+interp_ends : (before n : ℕ) (h : Past) (usable : Option (List ℕ)) (x : Lines) (i : Interp) → UsableWithin (2 ^ 32) usable → before + n < 2 ^ 32 → GoodPast before third h → GoodLines n x → TakesNamed x → InterpFits i → wants h ≡ true → ReachesEnd (2 ^ 32) (stands_yes h (poly_lines usable (add_named x i) lines_front))
+interp_ends before n h usable x i room short past g t fits a =
+    lines_end before (suc n) h usable (add_named x i) room (omega (arith, short)) past (interp_good n x i t g fits) a
 
-cover_ends : (before n : ℕ) (h : Past) (x : Lines) (ms : List moved.Move) → before + n < 2 ^ 32 → GoodPast before third h → GoodLines n x → TakesShown x → GoodMoves n ms → wants h ≡ true → ReachesEnd (2 ^ 32) (stands_yes h (poly_lines (add_shown x ms) lines_front))
-cover_ends before n h x ms short past g t few a =
-    lines_end before (suc n) h (add_shown x ms) (omega (arith, short)) past (cover_good n x ms t g few) a
+cover_ends : (before n : ℕ) (h : Past) (usable : Option (List ℕ)) (x : Lines) (ms : List moved.Move) → UsableWithin (2 ^ 32) usable → before + n < 2 ^ 32 → GoodPast before third h → GoodLines n x → TakesShown x → GoodMoves n ms → wants h ≡ true → ReachesEnd (2 ^ 32) (stands_yes h (poly_lines usable (add_shown x ms) lines_front))
+cover_ends before n h usable x ms room short past g t few a =
+    lines_end before (suc n) h usable (add_shown x ms) room (omega (arith, short)) past (cover_good n x ms t g few) a
 
-poly_name_ends : (before n : ℕ) (h : Past) (x : Lines) (xs : List ℕ) → before + n < 2 ^ 32 → GoodPast before third h → GoodLines n x → TakesNamed x → IsWord xs → wants h ≡ true → ReachesEnd (2 ^ 32) (stands_yes h (poly_lines x (line_name xs)))
-poly_name_ends before n h x xs short past g t is a =
+poly_name_ends : (before n : ℕ) (h : Past) (usable : Option (List ℕ)) (x : Lines) (xs : List ℕ) → UsableWithin (2 ^ 32) usable → before + n < 2 ^ 32 → GoodPast before third h → GoodLines n x → TakesNamed x → IsWord xs → wants h ≡ true → ReachesEnd (2 ^ 32) (stands_yes h (poly_lines usable x (line_name xs)))
+poly_name_ends before n h usable x xs room short past g t is a =
     let i : Interp = record { name = xs; poly = zero_poly } in
-    ends_after (2 ^ 32) (stands_yes h (poly_lines x (line_name xs))) (stands_yes h (poly_lines (add_named x i) lines_front)) (λ r. 32 ∷ 48 ∷ 10 ∷ r) (λ r. refl)
-    (interp_ends before n h x i short past g t (record { name = is; poly = tt }) a)
+    ends_after (2 ^ 32) (stands_yes h (poly_lines usable x (line_name xs))) (stands_yes h (poly_lines usable (add_named x i) lines_front)) (λ r. 32 ∷ 48 ∷ 10 ∷ r) (λ r. refl)
+    (interp_ends before n h usable x i room short past g t (record { name = is; poly = tt }) a)
 
-in_poly_ends : (before n : ℕ) (h : Past) (x : Lines) (xs : List ℕ) (fs : _) (k : _) → before + n < 2 ^ 32 → GoodPast before third h → GoodLines n x → GoodLinesPlace n x (in_poly xs fs k) → wants h ≡ true → ReachesEnd (2 ^ 32) (stands_yes h (poly_lines x (in_poly xs fs k)))
-in_poly_ends before n h x xs fs k short past g p a =
+in_poly_ends : (before n : ℕ) (h : Past) (usable : Option (List ℕ)) (x : Lines) (xs : List ℕ) (fs : _) (k : _) → UsableWithin (2 ^ 32) usable → before + n < 2 ^ 32 → GoodPast before third h → GoodLines n x → GoodLinesPlace n x (in_poly xs fs k) → wants h ≡ true → ReachesEnd (2 ^ 32) (stands_yes h (poly_lines usable x (in_poly xs fs k)))
+in_poly_ends before n h usable x xs fs k room short past g p a =
     let e = poly_ends fs k in
     let i : Interp = record { name = xs; poly = e.p } in
     let fits = poly_sound (goes fs k) (e.tail (10 ∷ [])) (poly_seen fs k) e.p (10 ∷ []) (p.2, p.3, λ r. refl) (e.ends 10 [] (refl, refl, refl, refl)) in
-    ends_after (2 ^ 32) (stands_yes h (poly_lines x (in_poly xs fs k))) (stands_yes h (poly_lines (add_named x i) lines_front)) (λ r. e.tail (10 ∷ r))
-    (λ r. poly_lift h x xs (goes fs k) (e.tail (10 ∷ r)) e.p r (e.ends 10 r (refl, refl, refl, refl)))
-    (interp_ends before n h x i short past g p.0 (record { name = p.1; poly = fits.0 }) a)
+    ends_after (2 ^ 32) (stands_yes h (poly_lines usable x (in_poly xs fs k))) (stands_yes h (poly_lines usable (add_named x i) lines_front)) (λ r. e.tail (10 ∷ r))
+    (λ r. poly_lift h usable x xs (goes fs k) (e.tail (10 ∷ r)) e.p r (e.ends 10 r (refl, refl, refl, refl)))
+    (interp_ends before n h usable x i room short past g p.0 (record { name = p.1; poly = fits.0 }) a)
 
-move_ends : (before n : ℕ) (h : Past) (x : Lines) (ms : List moved.Move) (i j k : ℕ) → before + n < 2 ^ 32 → GoodPast before third h → GoodLines n x → GoodLinesPlace n x (amount ms i j k) → wants h ≡ true → ReachesEnd (2 ^ 32) (stands_yes h (poly_lines (add_shown x (add_move ms i j k)) lines_front))
-move_ends before n h x ms i j k short past g p a =
+move_ends : (before n : ℕ) (h : Past) (usable : Option (List ℕ)) (x : Lines) (ms : List moved.Move) (i j k : ℕ) → UsableWithin (2 ^ 32) usable → before + n < 2 ^ 32 → GoodPast before third h → GoodLines n x → GoodLinesPlace n x (amount ms i j k) → wants h ≡ true → ReachesEnd (2 ^ 32) (stands_yes h (poly_lines usable (add_shown x (add_move ms i j k)) lines_front))
+move_ends before n h usable x ms i j k room short past g p a =
     let m : moved.Move = record { from = i; to = j; amount = k } in
-    cover_ends before n h x (ms ++ m ∷ []) short past g p.0 (All-push MoveFits ms m p.1 (record { from = p.3; to = p.4; amount = p.5 }), omega (arith, length-append ms (m ∷ []), p.2)) a
+    cover_ends before n h usable x (ms ++ m ∷ []) room short past g p.0 (All-push MoveFits ms m p.1 (record { from = p.3; to = p.4; amount = p.5 }), omega (arith, length-append ms (m ∷ []), p.2)) a
 
-lines_place_ends : (before n : ℕ) (h : Past) (x : Lines) (k : LinesPlace) → before + n < 2 ^ 32 → GoodPast before third h → GoodLines n x → GoodLinesPlace n x k → wants h ≡ true → ReachesEnd (2 ^ 32) (stands_yes h (poly_lines x k))
-lines_place_ends before n h x lines_front short past g p a = lines_end before n h x (omega (arith, short)) past g a
-lines_place_ends before n h x name_wanted short past g p a =
-    ends_after (2 ^ 32) (stands_yes h (poly_lines x name_wanted)) (stands_yes h (poly_lines x (line_name (97 ∷ [])))) (λ r. 97 ∷ r) (λ r. refl)
-    (poly_name_ends before n h x (97 ∷ []) short past g p (first_letter 97 refl) a)
-lines_place_ends before n h x (line_name xs) short past g p a = poly_name_ends before n h x xs short past g p.0 p.1 a
-lines_place_ends before n h x (in_poly xs fs k) short past g p a = in_poly_ends before n h x xs fs k short past g p a
-lines_place_ends before n h x (moves ms) short past g p a =
-    ends_after (2 ^ 32) (stands_yes h (poly_lines x (moves ms))) (stands_yes h (poly_lines (add_shown x ms) lines_front)) (λ r. 10 ∷ r) (λ r. refl)
-    (cover_ends before n h x ms short past g p.0 p.1 a)
-lines_place_ends before n h x (from_wanted ms) short past g p a =
-    ends_after (2 ^ 32) (stands_yes h (poly_lines x (from_wanted ms))) (stands_yes h (poly_lines (add_shown x (add_move ms 0 0 1)) lines_front)) (λ r. 48 ∷ 62 ∷ 48 ∷ 58 ∷ 49 ∷ 10 ∷ r) (λ r. refl)
-    (move_ends before n h x ms 0 0 1 short past g (p.0, p.1, p.2, omega arith, omega arith, (omega arith, omega arith)) a)
-lines_place_ends before n h x (from ms i) short past g p a =
-    ends_after (2 ^ 32) (stands_yes h (poly_lines x (from ms i))) (stands_yes h (poly_lines (add_shown x (add_move ms i 0 1)) lines_front)) (λ r. 62 ∷ 48 ∷ 58 ∷ 49 ∷ 10 ∷ r) (λ r. refl)
-    (move_ends before n h x ms i 0 1 short past g (p.0, p.1, p.2, p.3, omega arith, (omega arith, omega arith)) a)
-lines_place_ends before n h x (to_wanted ms i) short past g p a =
-    ends_after (2 ^ 32) (stands_yes h (poly_lines x (to_wanted ms i))) (stands_yes h (poly_lines (add_shown x (add_move ms i 0 1)) lines_front)) (λ r. 48 ∷ 58 ∷ 49 ∷ 10 ∷ r) (λ r. refl)
-    (move_ends before n h x ms i 0 1 short past g (p.0, p.1, p.2, p.3, omega arith, (omega arith, omega arith)) a)
-lines_place_ends before n h x (to ms i j) short past g p a =
-    ends_after (2 ^ 32) (stands_yes h (poly_lines x (to ms i j))) (stands_yes h (poly_lines (add_shown x (add_move ms i j 1)) lines_front)) (λ r. 58 ∷ 49 ∷ 10 ∷ r) (λ r. refl)
-    (move_ends before n h x ms i j 1 short past g (p.0, p.1, p.2, p.3, p.4, (omega arith, omega arith)) a)
-lines_place_ends before n h x (amount_wanted ms i j) short past g p a =
-    ends_after (2 ^ 32) (stands_yes h (poly_lines x (amount_wanted ms i j))) (stands_yes h (poly_lines (add_shown x (add_move ms i j 1)) lines_front)) (λ r. 49 ∷ 10 ∷ r) (λ r. refl)
-    (move_ends before n h x ms i j 1 short past g (p.0, p.1, p.2, p.3, p.4, (omega arith, omega arith)) a)
-lines_place_ends before n h x (amount ms i j k) short past g p a =
-    ends_after (2 ^ 32) (stands_yes h (poly_lines x (amount ms i j k))) (stands_yes h (poly_lines (add_shown x (add_move ms i j k)) lines_front)) (λ r. 10 ∷ r) (λ r. refl)
-    (move_ends before n h x ms i j k short past g p a)
+lines_place_ends : (before n : ℕ) (h : Past) (usable : Option (List ℕ)) (x : Lines) (k : LinesPlace) → UsableWithin (2 ^ 32) usable → before + n < 2 ^ 32 → GoodPast before third h → GoodLines n x → GoodLinesPlace n x k → wants h ≡ true → ReachesEnd (2 ^ 32) (stands_yes h (poly_lines usable x k))
+lines_place_ends before n h usable x lines_front room short past g p a = lines_end before n h usable x room (omega (arith, short)) past g a
+lines_place_ends before n h usable x name_wanted room short past g p a =
+    ends_after (2 ^ 32) (stands_yes h (poly_lines usable x name_wanted)) (stands_yes h (poly_lines usable x (line_name (97 ∷ [])))) (λ r. 97 ∷ r) (λ r. refl)
+    (poly_name_ends before n h usable x (97 ∷ []) room short past g p (first_letter 97 refl) a)
+lines_place_ends before n h usable x (line_name xs) room short past g p a = poly_name_ends before n h usable x xs room short past g p.0 p.1 a
+lines_place_ends before n h usable x (in_poly xs fs k) room short past g p a = in_poly_ends before n h usable x xs fs k room short past g p a
+lines_place_ends before n h usable x (moves ms) room short past g p a =
+    ends_after (2 ^ 32) (stands_yes h (poly_lines usable x (moves ms))) (stands_yes h (poly_lines usable (add_shown x ms) lines_front)) (λ r. 10 ∷ r) (λ r. refl)
+    (cover_ends before n h usable x ms room short past g p.0 p.1 a)
+lines_place_ends before n h usable x (from_wanted ms) room short past g p a =
+    ends_after (2 ^ 32) (stands_yes h (poly_lines usable x (from_wanted ms))) (stands_yes h (poly_lines usable (add_shown x (add_move ms 0 0 1)) lines_front)) (λ r. 48 ∷ 62 ∷ 48 ∷ 58 ∷ 49 ∷ 10 ∷ r) (λ r. refl)
+    (move_ends before n h usable x ms 0 0 1 room short past g (p.0, p.1, p.2, omega arith, omega arith, (omega arith, omega arith)) a)
+lines_place_ends before n h usable x (from ms i) room short past g p a =
+    ends_after (2 ^ 32) (stands_yes h (poly_lines usable x (from ms i))) (stands_yes h (poly_lines usable (add_shown x (add_move ms i 0 1)) lines_front)) (λ r. 62 ∷ 48 ∷ 58 ∷ 49 ∷ 10 ∷ r) (λ r. refl)
+    (move_ends before n h usable x ms i 0 1 room short past g (p.0, p.1, p.2, p.3, omega arith, (omega arith, omega arith)) a)
+lines_place_ends before n h usable x (to_wanted ms i) room short past g p a =
+    ends_after (2 ^ 32) (stands_yes h (poly_lines usable x (to_wanted ms i))) (stands_yes h (poly_lines usable (add_shown x (add_move ms i 0 1)) lines_front)) (λ r. 48 ∷ 58 ∷ 49 ∷ 10 ∷ r) (λ r. refl)
+    (move_ends before n h usable x ms i 0 1 room short past g (p.0, p.1, p.2, p.3, omega arith, (omega arith, omega arith)) a)
+lines_place_ends before n h usable x (to ms i j) room short past g p a =
+    ends_after (2 ^ 32) (stands_yes h (poly_lines usable x (to ms i j))) (stands_yes h (poly_lines usable (add_shown x (add_move ms i j 1)) lines_front)) (λ r. 58 ∷ 49 ∷ 10 ∷ r) (λ r. refl)
+    (move_ends before n h usable x ms i j 1 room short past g (p.0, p.1, p.2, p.3, p.4, (omega arith, omega arith)) a)
+lines_place_ends before n h usable x (amount_wanted ms i j) room short past g p a =
+    ends_after (2 ^ 32) (stands_yes h (poly_lines usable x (amount_wanted ms i j))) (stands_yes h (poly_lines usable (add_shown x (add_move ms i j 1)) lines_front)) (λ r. 49 ∷ 10 ∷ r) (λ r. refl)
+    (move_ends before n h usable x ms i j 1 room short past g (p.0, p.1, p.2, p.3, p.4, (omega arith, omega arith)) a)
+lines_place_ends before n h usable x (amount ms i j k) room short past g p a =
+    ends_after (2 ^ 32) (stands_yes h (poly_lines usable x (amount ms i j k))) (stands_yes h (poly_lines usable (add_shown x (add_move ms i j k)) lines_front)) (λ r. 10 ∷ r) (λ r. refl)
+    (move_ends before n h usable x ms i j k room short past g p a)
 
 -- lines of a path order
 
@@ -299,8 +304,9 @@ list_begun n (of_block left parts) g =
     let wide = All-weaker (λ (block : List ℕ). length block ≤ n) (λ (block : List ℕ). length block ≤ suc n) (λ block p. omega arith) parts g.2 in
     (g.0, g.1, wide, omega (arith, g.3))
 list_begun n (of_drop args) g = (g.0, omega (arith, g.1), omega (arith, g.2))
-list_begun n (of_poly funs marks rules pairs) g =
-    (lines_wider n (suc n) (in_pairs funs marks rules pairs) (omega arith) g.0, omega (arith, g.1))
+list_begun n of_usable g = tt
+list_begun n (of_poly usable funs marks rules pairs) g =
+    (usable_wider n usable g.0, lines_wider n (suc n) (in_pairs funs marks rules pairs) (omega arith) g.1, omega (arith, g.2))
 list_begun n (of_order funs marks rules pairs) g =
     (os.lines_wider n (suc n) (in_pairs funs marks rules pairs) (omega arith) g.0, omega (arith, g.1))
 
@@ -314,8 +320,10 @@ behind_ends before n h to_alone short past g a = node_ends h alone a (room_of be
 behind_ends before n h to_blocks short past g a = wanted_ends before n h of_blocks short past tt a
 behind_ends before n h to_subterm short past g a = args_end before n h [] short past (omega arith) a
 behind_ends before n h (to_name args) short past g a = name_ends before n h args short past g.1 a
-behind_ends before n h to_poly short past g a = lines_end before n h (in_funs []) (omega (arith, short)) past (no_interps n) a.0
-behind_ends before n h (to_line x) short past g a = lines_place_ends before n h x (line_begun x) short past g (begun_good n x) a.0
+behind_ends before n h to_poly short past g a = lines_end before n h None (in_funs []) tt (omega (arith, short)) past (no_interps n) a.0
+behind_ends before n h (to_line usable x) short past g a =
+    let room = usable_within n (2 ^ 32) usable (omega (arith, short)) g.0 in
+    lines_place_ends before n h usable x (line_begun x) room short past g.1 (begun_good n x) a.0
 behind_ends before n h to_order short past g a = order_end before n h (in_funs []) (omega (arith, short)) past (os.no_filterings n) a.0
 behind_ends before n h (to_order_line x) short past g a =
     order_place_ends before n h x (ol.line_begun x) short past g.0 (os.begun_good n x g.1) a.0
@@ -340,7 +348,9 @@ place_end before n h front short past g a = front_place_ends before n h short pa
 place_end before n h (arg_front args) short past g a = args_end before n h args short past (omega (arith, g.1)) a
 place_end before n h (arg_name_wanted args) short past g a = name_ends before n h args short past g.1 a
 place_end before n h (letters args xs) short past g a = letters_end before n h args xs short past g.0.1 a
-place_end before n h (poly_lines x k) short past g a = lines_place_ends before n h x k short past g.0 g.1 a.0
+place_end before n h (poly_lines usable x k) short past g a =
+    let room = usable_within n (2 ^ 32) usable (omega (arith, short)) g.0 in
+    lines_place_ends before n h usable x k room short past g.1 g.2 a.0
 place_end before n h (order_lines x k) short past g a = order_place_ends before n h x k short past g.0 g.1 a.0
 place_end before n h finished short past g a = finished_ends before n h short past a
 

@@ -1,5 +1,5 @@
 -- Where the bytes of a YES certificate lead: the items so far and the lines since the last item spell them.
-use Rattle.std.proofs.Common.{◌≡◌, ℕ, zero, suc, ◌+◌, ◌-◌, ◌*◌, ◌<◌, ◌≤◌, false, nat_lt, List, [], ◌∷◌, ◌++◌, length, codes, refl, sym, ap, ◌∙◌, subst, arith, append_assoc, append-nil, length-append}
+use Rattle.std.proofs.Common.{◌≡◌, ℕ, zero, suc, ◌+◌, ◌-◌, ◌*◌, ◌<◌, ◌≤◌, false, nat_lt, List, [], ◌∷◌, ◌++◌, length, codes, Option, Some, None, refl, sym, ap, ◌∙◌, subst, arith, append_assoc, append-nil, length-append}
 use Rattle.std.specs.List.{All}
 use Rattle.std.proofs.lemmas.Bool.{ltb-true, lt-ltb}
 use Rattle.std.proofs.lemmas.List.Elements.{All-nil, All-push, All-weaker}
@@ -10,7 +10,7 @@ use Rattle.wh_inference.specs.FilterText.{WrittenFilter, keeps, picks}
 use Rattle.wh_cert.specs.TermLimits.{IsSmall}
 use Rattle.wh_cert.specs.Written.{Filtering, Node, done, alone, blocks, subterm, interpretations, order, children, Preorder, yes}
 use Rattle.wh_cert.specs.Text.{put_numbers, put_nodes, text}
-use Rattle.wh_cert.specs.Limits.{NodeFits, IsVersion, IsOfVersion, FilterWithin, NodeWithin, PartsFit}
+use Rattle.wh_cert.specs.Limits.{NodeFits, IsVersion, IsOfVersion, FilterWithin, UsableWithin, NodeWithin, PartsFit}
 use Rattle.wh_cert_text.specs.YesMachine.{Item, version_item, ranks_item, pairs_item, node_item, end_item, to_version, Place, word, finished, LineStep, on, gives, refused, step, Past, so_far, nothing, gather, version_of, wants}
 use Rattle.wh_cert_text.proofs.YesSound.{put_nodes_add, Stage, opening, first, second, third, stage, item_from, item_to, PlaceReads, item_text, GoodNumbers, GoodPlace, PlaceFor, ItemGood, PlaceAfter, LineNext, lead_kept}
 
@@ -63,14 +63,18 @@ shown_wider : (n m : ℕ) (is : List Inference) → n ≤ m → All (λ (i : Inf
 shown_wider n m is le h =
     All-weaker (λ (i : Inference). entries i < n) (λ (i : Inference). entries i < m) (λ i p. omega (arith, p, le)) is h
 
+usable_wider : (n m : ℕ) (usable : Option (List ℕ)) → n ≤ m → UsableWithin n usable → UsableWithin m usable
+usable_wider n m (Some ns) le h = omega arith
+usable_wider n m None le h = tt
+
 node_wider : (n m : ℕ) (x : Node) → n ≤ m → NodeWithin n x → NodeWithin m x
 node_wider n m done le h = tt
 node_wider n m alone le h = tt
 node_wider n m (blocks parts) le h =
     All-weaker (λ (block : List ℕ). length block ≤ n) (λ (block : List ℕ). length block ≤ m) (λ block p. omega arith) parts h
 node_wider n m (subterm args drop) le h = (omega (arith, h.0), omega (arith, h.1))
-node_wider n m (interpretations funs marks rules pairs drop) le h =
-    (omega (arith, h.0), omega (arith, h.1), moves_wider n m rules le h.2, omega (arith, h.3), moves_wider n m pairs le h.4, omega (arith, h.5), omega (arith, h.6))
+node_wider n m (interpretations usable funs marks rules pairs drop) le h =
+    (usable_wider n m usable le h.0, omega (arith, h.1), omega (arith, h.2), moves_wider n m rules le h.3, omega (arith, h.4), moves_wider n m pairs le h.5, omega (arith, h.6), omega (arith, h.7))
 node_wider n m (order funs marks rules pairs drop) le h =
     (omega (arith, h.0), omega (arith, h.1), filters_wider n m funs le h.2, filters_wider n m marks le h.3, shown_wider n m rules le h.4, omega (arith, h.5), shown_wider n m pairs le h.6, omega (arith, h.7), omega (arith, h.8))
 

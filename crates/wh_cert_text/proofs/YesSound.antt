@@ -1,6 +1,6 @@
 -- What the reader of YES certificates has read is spelled: each step keeps what a place has read, and that it is within the
 -- limits.
-use Rattle.std.proofs.Common.{◌≡◌, ℕ, zero, suc, ◌+◌, ◌-◌, ◌*◌, ◌<◌, ◌≤◌, Bool, true, false, cond, ◌==◌, ◌&&◌, nat_lt, List, [], ◌∷◌, ◌++◌, length, codes, refl, sym, ap, ◌∙◌, subst, arith, append_assoc, length-append, inl, inr}
+use Rattle.std.proofs.Common.{◌≡◌, ℕ, zero, suc, ◌+◌, ◌-◌, ◌*◌, ◌<◌, ◌≤◌, Bool, true, false, cond, ◌==◌, ◌&&◌, nat_lt, List, [], ◌∷◌, ◌++◌, length, codes, Option, Some, None, refl, sym, ap, ◌∙◌, subst, arith, append_assoc, length-append, inl, inr}
 use Rattle.std.specs.List.{All}
 use Rattle.std.proofs.lemmas.Bool.{eqb-true, cond_both}
 use Rattle.std.proofs.lemmas.List.Elements.{All-nil, All-push, All-weaker}
@@ -12,10 +12,12 @@ use Rattle.wh_letters.specs.Digits.{goes_on}
 use Rattle.wh_letters.proofs.NamesAndNumbers.{first_letter, next_letter, first_digit_spelled, first_digit_small, goes_on_true, next_digit_spelled}
 use Rattle.wh_inference.specs.Inferences.{Inference}
 use Rattle.wh_cert.specs.TermLimits.{IsSmall}
-use Rattle.wh_cert.specs.Written.{Arg, Filtering, Node, blocks, order, children}
-use Rattle.wh_cert.specs.Text.{put_numbers, put_block, put_blocks, put_arg, put_args, put_node, put_nodes}
-use Rattle.wh_cert.specs.Limits.{ArgFits, NodeFits, IsVersion, IsOfVersion, NodeWithin}
-use Rattle.wh_cert_text.specs.YesMachine.{Item, version_item, ranks_item, pairs_item, node_item, end_item, Listed, of_ranks, of_block, of_drop, of_poly, of_order, Counted, of_pairs, of_blocks, of_place, of_list, Behind, to_version, to_list, to_pairs, to_done, to_alone, to_blocks, to_subterm, to_name, to_poly, to_line, to_order, to_order_line, to_finish, Place, word, version_wanted, listed, number_wanted, number, front, arg_front, name_wanted, letters, poly_lines, order_lines, finished, LineStep, on, gives, refused, spelling, behind, word_on, version_begun, version_step, list_ended, count_ended, list_step, number_ended, front_step, lines_led, order_led, step}
+use Rattle.wh_hopoly.specs.declared.expression.Move as moved
+use Rattle.wh_cert.specs.Interps.{Interp}
+use Rattle.wh_cert.specs.Written.{Arg, Filtering, Node, blocks, interpretations, order, children}
+use Rattle.wh_cert.specs.Text.{put_numbers, put_block, put_blocks, put_arg, put_args, put_usable, put_node, put_nodes}
+use Rattle.wh_cert.specs.Limits.{ArgFits, UsableFits, NodeFits, IsVersion, IsOfVersion, UsableWithin, NodeWithin}
+use Rattle.wh_cert_text.specs.YesMachine.{Item, version_item, ranks_item, pairs_item, node_item, end_item, Listed, of_ranks, of_block, of_drop, of_usable, of_poly, of_order, Counted, of_pairs, of_blocks, of_place, of_list, Behind, to_version, to_list, to_pairs, to_done, to_alone, to_blocks, to_subterm, to_name, to_poly, to_line, to_order, to_order_line, to_finish, Place, word, version_wanted, listed, number_wanted, number, front, arg_front, name_wanted, letters, poly_lines, order_lines, finished, LineStep, on, gives, refused, spelling, behind, word_on, version_begun, version_step, list_ended, count_ended, list_step, number_ended, poly_begun, front_step, lines_led, order_led, step}
 use Rattle.wh_cert_lines.specs.OrderLines as ol
 use Rattle.wh_cert_lines.specs.PolyLines as l
 use Rattle.wh_cert_lines.specs.PolyLines.{Lines, in_funs, in_marks, in_rules, in_pairs, lines_front, LinesStep, begins, drops, line_first, line_begun, lines_step}
@@ -87,13 +89,14 @@ before_list of_ranks r = r
 before_list (of_block left parts) r = codes "blocks " ++ (decimal (length parts + suc left) ++ (10 ∷ put_blocks parts r))
 before_list (of_drop args) r = codes "subterm" ++ (10 ∷ put_args args r)
 before_list (of_order funs marks rules pairs) r = codes "order" ++ (10 ∷ os.put_lines (in_pairs funs marks rules pairs) r)
-before_list (of_poly funs marks rules pairs) r = codes "poly" ++ (10 ∷ put_lines (in_pairs funs marks rules pairs) r)
+before_list of_usable r = r
+before_list (of_poly usable funs marks rules pairs) r = codes "poly" ++ (10 ∷ put_usable usable (put_lines (in_pairs funs marks rules pairs) r))
 
 abbrev pub before_word : Behind → List ℕ → List ℕ
 before_word (to_list of) r = before_list of r
 before_word (to_name args) r = codes "subterm" ++ (10 ∷ put_args args r)
 before_word (to_order_line x) r = codes "order" ++ (10 ∷ os.put_lines x r)
-before_word (to_line x) r = codes "poly" ++ (10 ∷ put_lines x r)
+before_word (to_line usable x) r = codes "poly" ++ (10 ∷ put_usable usable (put_lines x r))
 before_word to_done r = 100 ∷ r
 before_word _ r = r
 
@@ -115,7 +118,7 @@ lead (arg_front args) r = codes "subterm" ++ (10 ∷ put_args args r)
 lead (name_wanted args) r = codes "subterm" ++ (10 ∷ put_args args (codes "arg " ++ r))
 lead (letters args xs) r = codes "subterm" ++ (10 ∷ put_args args (codes "arg " ++ (xs ++ r)))
 lead (order_lines x k) r = codes "order" ++ (10 ∷ os.lines_seen x k r)
-lead (poly_lines x k) r = codes "poly" ++ (10 ∷ lines_seen x k r)
+lead (poly_lines usable x k) r = codes "poly" ++ (10 ∷ put_usable usable (lines_seen x k r))
 lead finished r = codes "end" ++ (10 ∷ r)
 lead _ r = r
 
@@ -133,20 +136,26 @@ item_text end_item r = r
 
 -- the limits, where n bytes were read since the last item
 
+abbrev pub GoodNumbers : ℕ → List ℕ → Type 0
+GoodNumbers n xs = All IsSmall xs × (length xs ≤ n)
+
+-- the rules that are to be covered, where they are listed
+abbrev pub GoodUsable : ℕ → Option (List ℕ) → Type 0
+GoodUsable n (Some ns) = GoodNumbers n ns
+GoodUsable n None = Unit {0}
+
 -- d: the word of the list's line was read
 abbrev pub GoodListed : ℕ → ℕ → Listed → Type 0
 GoodListed d n of_ranks = Unit {0}
 GoodListed d n (of_block left parts) =
     IsSmall (length parts + suc left) × All (All IsSmall) parts × All (λ block. length block ≤ n) parts × (2 * length parts + d ≤ n)
 GoodListed d n (of_drop args) = All ArgFits args × (length args ≤ n) × (1 + d ≤ n)
-GoodListed d n (of_poly funs marks rules pairs) = GoodLines n (in_pairs funs marks rules pairs) × (1 + d ≤ n)
+GoodListed d n of_usable = Unit {0}
+GoodListed d n (of_poly usable funs marks rules pairs) = GoodUsable n usable × GoodLines n (in_pairs funs marks rules pairs) × (1 + d ≤ n)
 GoodListed d n (of_order funs marks rules pairs) = os.GoodLines n (in_pairs funs marks rules pairs) × (1 + d ≤ n)
 
 abbrev pub GoodArgs : ℕ → List Arg → Type 0
 GoodArgs n args = All ArgFits args × (length args ≤ n)
-
-abbrev pub GoodNumbers : ℕ → List ℕ → Type 0
-GoodNumbers n xs = All IsSmall xs × (length xs ≤ n)
 
 abbrev pub GoodCounted : ℕ → Counted → Type 0
 GoodCounted n (of_place args name) = GoodArgs n args × IsWord name
@@ -156,7 +165,7 @@ GoodCounted n _ = Unit {0}
 abbrev pub GoodBehind : ℕ → Behind → Type 0
 GoodBehind n (to_list of) = GoodListed 0 n of
 GoodBehind n (to_name args) = GoodArgs n args
-GoodBehind n (to_line x) = GoodLines n x
+GoodBehind n (to_line usable x) = GoodUsable n usable × GoodLines n x
 GoodBehind n (to_order_line x) = os.GoodLines n x × (0 < n)
 GoodBehind n _ = Unit {0}
 
@@ -169,15 +178,21 @@ GoodPlace n (number of k) = IsSmall k × GoodCounted n of
 GoodPlace n (arg_front args) = GoodArgs n args
 GoodPlace n (name_wanted args) = GoodArgs n args
 GoodPlace n (letters args xs) = GoodArgs n args × IsWord xs
-GoodPlace n (poly_lines x k) = GoodLines n x × GoodLinesPlace n x k
+GoodPlace n (poly_lines usable x k) = GoodUsable n usable × GoodLines n x × GoodLinesPlace n x k
 GoodPlace n (order_lines x k) = os.GoodLines n x × os.GoodLinesPlace n x k
 GoodPlace n _ = Unit {0}
 
 -- the place is right where a node is wanted, or where none is, in a certificate of the version
 
+-- rules are listed in version 2, and in version 1 they are not
+abbrev pub UsableFor : ℕ → Option (List ℕ) → Type 0
+UsableFor version (Some ns) = version ≡ 2
+UsableFor version None = version ≡ 1
+
 abbrev pub ListedFor : ℕ → Bool → Listed → Type 0
 ListedFor version wants of_ranks = Unit {0}
-ListedFor version wants (of_poly funs marks rules pairs) = (wants ≡ true) × (version ≡ 1)
+ListedFor version wants of_usable = (wants ≡ true) × (version ≡ 2)
+ListedFor version wants (of_poly usable funs marks rules pairs) = (wants ≡ true) × UsableFor version usable
 ListedFor version wants (of_order funs marks rules pairs) = (wants ≡ true) × (version ≡ 2)
 ListedFor version wants _ = wants ≡ true
 
@@ -191,7 +206,7 @@ BehindFor version wants (to_list of) = ListedFor version wants of
 BehindFor version wants to_version = Unit {0}
 BehindFor version wants to_pairs = Unit {0}
 BehindFor version wants to_poly = (wants ≡ true) × (version ≡ 1)
-BehindFor version wants (to_line x) = (wants ≡ true) × (version ≡ 1)
+BehindFor version wants (to_line usable x) = (wants ≡ true) × UsableFor version usable
 BehindFor version wants to_order = (wants ≡ true) × (version ≡ 2)
 BehindFor version wants (to_order_line x) = (wants ≡ true) × (version ≡ 2)
 BehindFor version wants to_finish = wants ≡ false
@@ -204,7 +219,7 @@ PlaceFor version wants (number_wanted of) = CountedFor version wants of
 PlaceFor version wants (number of n) = CountedFor version wants of
 PlaceFor version wants version_wanted = Unit {0}
 PlaceFor version wants front = Unit {0}
-PlaceFor version wants (poly_lines x k) = (wants ≡ true) × (version ≡ 1)
+PlaceFor version wants (poly_lines usable x k) = (wants ≡ true) × UsableFor version usable
 PlaceFor version wants (order_lines x k) = (wants ≡ true) × (version ≡ 2)
 PlaceFor version wants finished = wants ≡ false
 PlaceFor version wants _ = wants ≡ true
@@ -253,12 +268,17 @@ within_wider : (n m : ℕ) (parts : List (List ℕ)) → n ≤ m → All (λ (bl
 within_wider n m parts le h =
     All-weaker (λ (block : List ℕ). length block ≤ n) (λ (block : List ℕ). length block ≤ m) (λ block p. omega arith) parts h
 
+pub usable_wider : (n : ℕ) (usable : Option (List ℕ)) → GoodUsable n usable → GoodUsable (suc n) usable
+usable_wider n (Some ns) g = (g.0, omega (arith, g.1))
+usable_wider n None g = tt
+
 listed_wider : (d n : ℕ) (of : Listed) → GoodListed d n of → GoodListed d (suc n) of
 listed_wider d n of_ranks g = tt
 listed_wider d n (of_block left parts) g = (g.0, g.1, within_wider n (suc n) parts (omega arith) g.2, omega (arith, g.3))
 listed_wider d n (of_drop args) g = (g.0, omega (arith, g.1), omega (arith, g.2))
-listed_wider d n (of_poly funs marks rules pairs) g =
-    (lines_wider n (suc n) (in_pairs funs marks rules pairs) (omega arith) g.0, omega (arith, g.1))
+listed_wider d n of_usable g = tt
+listed_wider d n (of_poly usable funs marks rules pairs) g =
+    (usable_wider n usable g.0, lines_wider n (suc n) (in_pairs funs marks rules pairs) (omega arith) g.1, omega (arith, g.2))
 listed_wider d n (of_order funs marks rules pairs) g =
     (os.lines_wider n (suc n) (in_pairs funs marks rules pairs) (omega arith) g.0, omega (arith, g.1))
 
@@ -267,8 +287,9 @@ listed_begun : (n : ℕ) (of : Listed) → GoodListed 0 n of → GoodListed 1 (s
 listed_begun n of_ranks g = tt
 listed_begun n (of_block left parts) g = (g.0, g.1, within_wider n (suc n) parts (omega arith) g.2, omega (arith, g.3))
 listed_begun n (of_drop args) g = (g.0, omega (arith, g.1), omega (arith, g.2))
-listed_begun n (of_poly funs marks rules pairs) g =
-    (lines_wider n (suc n) (in_pairs funs marks rules pairs) (omega arith) g.0, omega (arith, g.1))
+listed_begun n of_usable g = tt
+listed_begun n (of_poly usable funs marks rules pairs) g =
+    (usable_wider n usable g.0, lines_wider n (suc n) (in_pairs funs marks rules pairs) (omega arith) g.1, omega (arith, g.2))
 listed_begun n (of_order funs marks rules pairs) g =
     (os.lines_wider n (suc n) (in_pairs funs marks rules pairs) (omega arith) g.0, omega (arith, g.1))
 
@@ -288,7 +309,7 @@ behind_wider : (n : ℕ) (o : Behind) → GoodBehind n o → GoodBehind (suc n) 
 behind_wider n (to_list of) g = listed_wider 0 n of g
 behind_wider n (to_name args) g = args_wider n args g
 behind_wider n to_poly g = tt
-behind_wider n (to_line x) g = lines_wider n (suc n) x (omega arith) g
+behind_wider n (to_line usable x) g = (usable_wider n usable g.0, lines_wider n (suc n) x (omega arith) g.1)
 behind_wider n to_order g = tt
 behind_wider n (to_order_line x) g = (os.lines_wider n (suc n) x (omega arith) g.0, omega arith)
 behind_wider n to_version g = tt
@@ -316,9 +337,9 @@ behind_kept version wants n to_alone g a = (refl, refl, (a, tt, tt, omega arith,
 behind_kept version wants n to_blocks g a = (refl, tt, a, λ r. refl)
 behind_kept version wants n to_subterm g a = (refl, (no_args, omega arith), a, λ r. refl)
 behind_kept version wants n (to_name args) g a = (refl, args_wider n args g, a, λ r. refl)
-behind_kept version wants n to_poly g a = (refl, (no_interps (suc n), tt), a, λ r. refl)
-behind_kept version wants n (to_line x) g a =
-    (refl, (lines_wider n (suc n) x (omega arith) g, begun_good (suc n) x), a, λ r. ap (λ (s : List ℕ). codes "poly" ++ (10 ∷ s)) (begun_text x r))
+behind_kept version wants n to_poly g a = (refl, (tt, no_interps (suc n), tt), a, λ r. refl)
+behind_kept version wants n (to_line usable x) g a =
+    (refl, (usable_wider n usable g.0, lines_wider n (suc n) x (omega arith) g.1, begun_good (suc n) x), a, λ r. ap (λ (s : List ℕ). codes "poly" ++ (10 ∷ put_usable usable s)) (begun_text x r))
 behind_kept version wants n to_order g a = (refl, (os.no_filterings (suc n), tt), a, λ r. refl)
 behind_kept version wants n (to_order_line x) g a =
     (refl, (os.lines_wider n (suc n) x (omega arith) g.0, os.begun_good (suc n) x (omega arith)), a, λ r. ap (λ (s : List ℕ). codes "order" ++ (10 ∷ s)) (os.begun_text x r))
@@ -351,6 +372,20 @@ order_good n funs marks rules pairs xs g small few = (
   (g.0.2, g.1.2, g.0.1, g.1.1, g.2.1, g.2.2, g.3.1, g.3.2, few),
 )
 
+-- the rules that are to be covered
+
+usable_fits : (n : ℕ) (usable : Option (List ℕ)) → GoodUsable n usable → UsableFits usable
+usable_fits n (Some ns) g = g.0
+usable_fits n None g = tt
+
+pub usable_within : (n m : ℕ) (usable : Option (List ℕ)) → n ≤ m → GoodUsable n usable → UsableWithin m usable
+usable_within n m (Some ns) le g = omega (arith, g.1)
+usable_within n m None le g = tt
+
+poly_of_version : (version : ℕ) (usable : Option (List ℕ)) (funs marks : List Interp) (rules pairs : List (List moved.Move)) (xs : List ℕ) → UsableFor version usable → IsOfVersion version (interpretations usable funs marks rules pairs xs)
+poly_of_version version (Some ns) funs marks rules pairs xs is = is
+poly_of_version version None funs marks rules pairs xs is = is
+
 -- lists
 
 block_small : (left : ℕ) (parts : List (List ℕ)) (xs : List ℕ) → length (parts ++ xs ∷ []) + left ≡ length parts + suc left
@@ -375,9 +410,13 @@ list_ended_kept version wants n (of_block (suc left) parts) xs g few a =
     )
 list_ended_kept version wants n (of_drop args) xs g few a =
     (refl, refl, (a, (g.0, few.0), (omega (arith, g.1), omega (arith, few.1)), omega (arith, g.2), tt), tt, (λ v any. tt), ((λ (r : List ℕ). r), (λ r. refl), (λ r. refl)))
-list_ended_kept version wants n (of_poly funs marks rules pairs) xs g few a =
-    let wide = lines_wider n (suc n) (in_pairs funs marks rules pairs) (omega arith) g.0 in
-    (refl, refl, (a.0, (wide.0.0, wide.1.0, wide.2.0, wide.3.0, few.0), (wide.0.1, wide.1.1, wide.2.1, wide.2.2, wide.3.1, wide.3.2, omega (arith, few.1)), omega (arith, g.1), a.1), tt, (λ v any. tt), ((λ (r : List ℕ). r), (λ r. refl), (λ r. refl)))
+list_ended_kept version wants n of_usable xs g few a = (refl, (numbers_wider n xs few, no_interps (suc n), tt), a, λ r. refl)
+list_ended_kept version wants n (of_poly usable funs marks rules pairs) xs g few a =
+    let wide = lines_wider n (suc n) (in_pairs funs marks rules pairs) (omega arith) g.1 in
+    let node = interpretations usable funs marks rules pairs xs in
+    let fits : NodeFits node = (usable_fits n usable g.0, wide.0.0, wide.1.0, wide.2.0, wide.3.0, few.0) in
+    let within : NodeWithin (suc n) node = (usable_within n (suc n) usable (omega arith) g.0, wide.0.1, wide.1.1, wide.2.1, wide.2.2, wide.3.1, wide.3.2, omega (arith, few.1)) in
+    (refl, refl, (a.0, fits, within, omega (arith, g.2), poly_of_version version usable funs marks rules pairs xs a.1), tt, (λ v any. tt), ((λ (r : List ℕ). r), (λ r. refl), (λ r. refl)))
 list_ended_kept version wants n (of_order funs marks rules pairs) xs g few a =
     let wide = os.lines_wider n (suc n) (in_pairs funs marks rules pairs) (omega arith) g.0 in
     let good = order_good (suc n) funs marks rules pairs xs wide few.0 (omega (arith, few.1)) in
@@ -439,10 +478,12 @@ letters_kept version wants n args xs b g name a =
 
 -- fronts
 
-poly_kept : (version : ℕ) (wants : Bool) (n : ℕ) → wants ≡ true → LineNext version wants (suc n) (cond (version == 1) (on (word (codes "oly" ++ (10 ∷ [])) to_poly)) refused) third (λ r. 112 ∷ r)
+poly_kept : (version : ℕ) (wants : Bool) (n : ℕ) → wants ≡ true → LineNext version wants (suc n) (poly_begun version) third (λ r. 112 ∷ r)
 poly_kept version wants n a =
-    if_so version wants (suc n) (version == 1) (on (word (codes "oly" ++ (10 ∷ [])) to_poly)) refused third (λ r. 112 ∷ r)
-    (λ e. (refl, tt, (a, eqb-true version 1 e), (112 ∷ [], refl, λ r. refl))) (λ e. tt)
+    if_so version wants (suc n) (version == 1) (on (word (codes "oly" ++ (10 ∷ [])) to_poly)) _ third (λ r. 112 ∷ r)
+    (λ e. (refl, tt, (a, eqb-true version 1 e), (112 ∷ [], refl, λ r. refl)))
+    (λ no. if_so version wants (suc n) (version == 2) (on (word (codes "oly" ++ (10 ∷ codes "usable")) (to_list of_usable))) refused third (λ r. 112 ∷ r)
+    (λ e. (refl, tt, (a, eqb-true version 2 e), (112 ∷ [], refl, λ r. refl))) (λ e. tt))
 
 order_kept : (version : ℕ) (wants : Bool) (n : ℕ) → wants ≡ true → LineNext version wants (suc n) (cond (version == 2) (on (word (codes "rder" ++ (10 ∷ [])) to_order)) refused) third (λ r. 111 ∷ r)
 order_kept version wants n a =
@@ -455,7 +496,7 @@ node_kept version wants n b a =
     (if_byte version wants (suc n) b 97 (on (word (codes "lone" ++ (10 ∷ [])) to_alone)) _ third (λ r. r) (refl, tt, a, (97 ∷ [], refl, λ r. refl))
     (if_byte version wants (suc n) b 98 (on (word (codes "locks ") to_blocks)) _ third (λ r. r) (refl, tt, a, (98 ∷ [], refl, λ r. refl))
     (if_byte version wants (suc n) b 115 (on (word (codes "ubterm" ++ (10 ∷ [])) to_subterm)) _ third (λ r. r) (refl, tt, a, (115 ∷ [], refl, λ r. refl))
-    (if_byte version wants (suc n) b 112 (cond (version == 1) (on (word (codes "oly" ++ (10 ∷ [])) to_poly)) refused) _ third (λ r. r) (poly_kept version wants n a)
+    (if_byte version wants (suc n) b 112 (poly_begun version) _ third (λ r. r) (poly_kept version wants n a)
     (if_byte version wants (suc n) b 111 (cond (version == 2) (on (word (codes "rder" ++ (10 ∷ [])) to_order)) refused) refused third (λ r. r) (order_kept version wants n a) tt)))))
 
 end_kept : (version : ℕ) (wants : Bool) (n b : ℕ) → wants ≡ false → LineNext version wants (suc n) (front_step version false b) third (λ r. b ∷ r)
@@ -468,35 +509,35 @@ front_kept version false n b = end_kept version false n b refl
 
 -- lines of interpretations
 
-in_node : (f g : List ℕ → List ℕ) → ((r : List ℕ) → f r ≡ g r) → (r : List ℕ) → codes "poly" ++ (10 ∷ f r) ≡ codes "poly" ++ (10 ∷ g r)
-in_node f g same r = ap (λ (s : List ℕ). codes "poly" ++ (10 ∷ s)) (same r)
+in_node : (usable : Option (List ℕ)) (f g : List ℕ → List ℕ) → ((r : List ℕ) → f r ≡ g r) → (r : List ℕ) → codes "poly" ++ (10 ∷ put_usable usable (f r)) ≡ codes "poly" ++ (10 ∷ put_usable usable (g r))
+in_node usable f g same r = ap (λ (s : List ℕ). codes "poly" ++ (10 ∷ put_usable usable s)) (same r)
 
 -- a line whose first byte was read
-line_kept : (version : ℕ) (wants : Bool) (n : ℕ) (x : Lines) (f : List ℕ → List ℕ) → (wants ≡ true) × (version ≡ 1) → GoodLines (suc n) x → ((r : List ℕ) → put_lines x (line_first x ∷ r) ≡ f r) → LineNext version wants (suc n) (lines_led (begins x)) third (λ r. codes "poly" ++ (10 ∷ f r))
-line_kept version wants n (in_funs funs) f a g same = (refl, g, a, (102 ∷ [], refl, in_node (λ r. put_lines (in_funs funs) (102 ∷ r)) f same))
-line_kept version wants n (in_marks funs marks) f a g same =
-    (refl, g, a, (109 ∷ [], refl, in_node (λ r. put_lines (in_marks funs marks) (109 ∷ r)) f same))
-line_kept version wants n (in_rules funs marks rules) f a g same =
-    (refl, g, a, (114 ∷ [], refl, in_node (λ r. put_lines (in_rules funs marks rules) (114 ∷ r)) f same))
-line_kept version wants n (in_pairs funs marks rules pairs) f a g same =
-    (refl, g, a, (112 ∷ [], refl, in_node (λ r. put_lines (in_pairs funs marks rules pairs) (112 ∷ r)) f same))
+line_kept : (version : ℕ) (wants : Bool) (n : ℕ) (usable : Option (List ℕ)) (x : Lines) (f : List ℕ → List ℕ) → (wants ≡ true) × UsableFor version usable → GoodUsable (suc n) usable → GoodLines (suc n) x → ((r : List ℕ) → put_lines x (line_first x ∷ r) ≡ f r) → LineNext version wants (suc n) (lines_led usable (begins x)) third (λ r. codes "poly" ++ (10 ∷ put_usable usable (f r)))
+line_kept version wants n usable (in_funs funs) f a u g same = (refl, (u, g), a, (102 ∷ [], refl, in_node usable (λ r. put_lines (in_funs funs) (102 ∷ r)) f same))
+line_kept version wants n usable (in_marks funs marks) f a u g same =
+    (refl, (u, g), a, (109 ∷ [], refl, in_node usable (λ r. put_lines (in_marks funs marks) (109 ∷ r)) f same))
+line_kept version wants n usable (in_rules funs marks rules) f a u g same =
+    (refl, (u, g), a, (114 ∷ [], refl, in_node usable (λ r. put_lines (in_rules funs marks rules) (114 ∷ r)) f same))
+line_kept version wants n usable (in_pairs funs marks rules pairs) f a u g same =
+    (refl, (u, g), a, (112 ∷ [], refl, in_node usable (λ r. put_lines (in_pairs funs marks rules pairs) (112 ∷ r)) f same))
 
 -- the line of `drop`
-drop_kept : (version : ℕ) (wants : Bool) (n : ℕ) (x : Lines) (f : List ℕ → List ℕ) → (wants ≡ true) × (version ≡ 1) → GoodLines (suc n) x → ((r : List ℕ) → put_lines x (100 ∷ r) ≡ f r) → LineNext version wants (suc n) (lines_led (drops x)) third (λ r. codes "poly" ++ (10 ∷ f r))
-drop_kept version wants n (in_funs funs) f a g same =
-    (refl, ((g, no_interps (suc n), no_covers (suc n), no_covers (suc n)), omega arith), a, (100 ∷ [], refl, in_node (λ r. put_lines (in_funs funs) (100 ∷ r)) f same))
-drop_kept version wants n (in_marks funs marks) f a g same =
-    (refl, ((g.0, g.1, no_covers (suc n), no_covers (suc n)), omega arith), a, (100 ∷ [], refl, in_node (λ r. put_lines (in_marks funs marks) (100 ∷ r)) f same))
-drop_kept version wants n (in_rules funs marks rules) f a g same =
-    (refl, ((g.0, g.1, g.2, no_covers (suc n)), omega arith), a, (100 ∷ [], refl, in_node (λ r. put_lines (in_rules funs marks rules) (100 ∷ r)) f same))
-drop_kept version wants n (in_pairs funs marks rules pairs) f a g same =
-    (refl, (g, omega arith), a, (100 ∷ [], refl, in_node (λ r. put_lines (in_pairs funs marks rules pairs) (100 ∷ r)) f same))
+drop_kept : (version : ℕ) (wants : Bool) (n : ℕ) (usable : Option (List ℕ)) (x : Lines) (f : List ℕ → List ℕ) → (wants ≡ true) × UsableFor version usable → GoodUsable (suc n) usable → GoodLines (suc n) x → ((r : List ℕ) → put_lines x (100 ∷ r) ≡ f r) → LineNext version wants (suc n) (lines_led usable (drops x)) third (λ r. codes "poly" ++ (10 ∷ put_usable usable (f r)))
+drop_kept version wants n usable (in_funs funs) f a u g same =
+    (refl, (u, (g, no_interps (suc n), no_covers (suc n), no_covers (suc n)), omega arith), a, (100 ∷ [], refl, in_node usable (λ r. put_lines (in_funs funs) (100 ∷ r)) f same))
+drop_kept version wants n usable (in_marks funs marks) f a u g same =
+    (refl, (u, (g.0, g.1, no_covers (suc n), no_covers (suc n)), omega arith), a, (100 ∷ [], refl, in_node usable (λ r. put_lines (in_marks funs marks) (100 ∷ r)) f same))
+drop_kept version wants n usable (in_rules funs marks rules) f a u g same =
+    (refl, (u, (g.0, g.1, g.2, no_covers (suc n)), omega arith), a, (100 ∷ [], refl, in_node usable (λ r. put_lines (in_rules funs marks rules) (100 ∷ r)) f same))
+drop_kept version wants n usable (in_pairs funs marks rules pairs) f a u g same =
+    (refl, (u, g, omega arith), a, (100 ∷ [], refl, in_node usable (λ r. put_lines (in_pairs funs marks rules pairs) (100 ∷ r)) f same))
 
-led_kept : (version : ℕ) (wants : Bool) (n : ℕ) (s : LinesStep) (f : List ℕ → List ℕ) → (wants ≡ true) × (version ≡ 1) → LinesNext (suc n) s f → LineNext version wants (suc n) (lines_led s) third (λ r. codes "poly" ++ (10 ∷ f r))
-led_kept version wants n (l.on x k) f a h = (refl, (h.0, h.1), a, in_node (lines_seen x k) f h.2)
-led_kept version wants n (begins x) f a h = line_kept version wants n x f a h.0 h.1
-led_kept version wants n (drops x) f a h = drop_kept version wants n x f a h.0 h.1
-led_kept version wants n l.refused f a h = tt
+led_kept : (version : ℕ) (wants : Bool) (n : ℕ) (usable : Option (List ℕ)) (s : LinesStep) (f : List ℕ → List ℕ) → (wants ≡ true) × UsableFor version usable → GoodUsable (suc n) usable → LinesNext (suc n) s f → LineNext version wants (suc n) (lines_led usable s) third (λ r. codes "poly" ++ (10 ∷ put_usable usable (f r)))
+led_kept version wants n usable (l.on x k) f a u h = (refl, (u, h.0, h.1), a, in_node usable (lines_seen x k) f h.2)
+led_kept version wants n usable (begins x) f a u h = line_kept version wants n usable x f a u h.0 h.1
+led_kept version wants n usable (drops x) f a u h = drop_kept version wants n usable x f a u h.0 h.1
+led_kept version wants n usable l.refused f a u h = tt
 
 -- lines of a path order
 
@@ -556,8 +597,9 @@ lead_kept version wants n (name_wanted args) b g a f reads =
     (if_so version wants (suc n) (is_start b) (on (letters args (b ∷ []))) refused third (λ r. lead (name_wanted args) (b ∷ r)) (λ e. (refl, (args_wider n args g, first_letter b e), a, λ r. refl)) (λ e. tt))
 lead_kept version wants n (letters args xs) b g a f reads =
     next_same version wants (suc n) (step version wants (letters args xs) b) third (λ r. lead (letters args xs) (b ∷ r)) (λ r. f (b ∷ r)) (λ r. reads (b ∷ r)) (letters_kept version wants n args xs b g.0 g.1 a)
-lead_kept version wants n (poly_lines x k) b g a f reads =
-    next_same version wants (suc n) (lines_led (lines_step x k b)) third (λ r. lead (poly_lines x k) (b ∷ r)) (λ r. f (b ∷ r)) (λ r. reads (b ∷ r)) (led_kept version wants n (lines_step x k b) (λ r. lines_seen x k (b ∷ r)) a (lines_kept n x k b g.0 g.1))
+lead_kept version wants n (poly_lines usable x k) b g a f reads =
+    next_same version wants (suc n) (lines_led usable (lines_step x k b)) third (λ r. lead (poly_lines usable x k) (b ∷ r)) (λ r. f (b ∷ r)) (λ r. reads (b ∷ r))
+    (led_kept version wants n usable (lines_step x k b) (λ r. lines_seen x k (b ∷ r)) a (usable_wider n usable g.0) (lines_kept n x k b g.1 g.2))
 lead_kept version wants n (order_lines x k) b g a f reads =
     next_same version wants (suc n) (order_led (ol.lines_step x k b)) third (λ r. lead (order_lines x k) (b ∷ r)) (λ r. f (b ∷ r)) (λ r. reads (b ∷ r)) (order_led_kept version wants n (ol.lines_step x k b) (λ r. os.lines_seen x k (b ∷ r)) a (os.lines_kept n x k b g.0 g.1))
 lead_kept version wants n finished b g a f reads = tt

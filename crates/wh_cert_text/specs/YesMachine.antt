@@ -1,6 +1,6 @@
 -- A reader of YES certificates, byte by byte, as a function: what it stands before in the present line or node, and the items
 -- that the lines give. It mirrors the code; the laws in proofs/ tie it to the text.
-use Rattle.std.specs.Prelude.{ℕ, zero, suc, ◌+◌, ◌-◌, ◌*◌, ◌==◌, ◌&&◌, nat_lt, Bool, cond, List, [], ◌∷◌, ◌++◌, length, codes}
+use Rattle.std.specs.Prelude.{ℕ, zero, suc, ◌+◌, ◌-◌, ◌*◌, ◌==◌, ◌&&◌, nat_lt, Bool, cond, List, [], ◌∷◌, ◌++◌, length, codes, Option, Some, None}
 use Rattle.wh_types.specs.Limits.{longest_name}
 use Rattle.wh_text.specs.Chars.{line_feed, space, is_digit, is_start, is_part}
 use Rattle.wh_hopoly.specs.declared.expression.Move as moved
@@ -20,13 +20,15 @@ pub data Item : Type 0 where
   node_item : (x : Node) → Item
   end_item : Item
 
--- a list of numbers: the ranks; a block, with the blocks before it and how many come behind it; the pairs that are dropped,
--- with the arguments that are looked at, with interpretations and moves, or with filters and inferences
+-- a list of numbers: the ranks; a block, with the blocks before it and how many come behind it; the rules that are to be covered;
+-- the pairs that are dropped, with the arguments that are looked at, with the rules that are to be covered, where they are listed,
+-- interpretations and moves, or with filters and inferences
 pub data Listed : Type 0 where
   of_ranks : Listed
   of_block : (left : ℕ) (parts : List (List ℕ)) → Listed
   of_drop : (args : List Arg) → Listed
-  of_poly : (funs marks : List Interp) (rules pairs : List (List moved.Move)) → Listed
+  of_usable : Listed
+  of_poly : (usable : Option (List ℕ)) (funs marks : List Interp) (rules pairs : List (List moved.Move)) → Listed
   of_order : (funs marks : List Filtering) (rules pairs : List Inference) → Listed
 
 -- a number: of pairs; of blocks; of the argument of the symbol with this name; one more of a list
@@ -42,14 +44,14 @@ pub data Behind : Type 0 where
   to_pairs to_done to_alone to_blocks to_subterm : Behind
   to_name : (args : List Arg) → Behind
   to_poly : Behind
-  to_line : (x : Lines) → Behind
+  to_line : (usable : Option (List ℕ)) (x : Lines) → Behind
   to_order : Behind
   to_order_line : (x : orders.Lines) → Behind
   to_finish : Behind
 
 -- the place: what is left of a fixed word; behind `YES `; numbers of a list, behind the last one; before a number; in a number; the front of
 -- a node, or of the end; the front of a line of `arg` or `drop`; behind `arg `; a part of a name; a part of the lines of a node of
--- interpretations, or of a path order; behind all
+-- interpretations, behind the rules that are to be covered, or of a path order; behind all
 pub data Place : Type 0 where
   word : (rest : List ℕ) (behind : Behind) → Place
   version_wanted : Place
@@ -59,7 +61,7 @@ pub data Place : Type 0 where
   front : Place
   arg_front name_wanted : (args : List Arg) → Place
   letters : (args : List Arg) (xs : List ℕ) → Place
-  poly_lines : (x : Lines) (k : LinesPlace) → Place
+  poly_lines : (usable : Option (List ℕ)) (x : Lines) (k : LinesPlace) → Place
   order_lines : (x : orders.Lines) (k : orders.LinesPlace) → Place
   finished : Place
 
@@ -75,7 +77,8 @@ spelling to_version = codes "YES "
 spelling (to_list of_ranks) = line_feed ∷ codes "ranks"
 spelling (to_list (of_block left parts)) = codes "block"
 spelling (to_list (of_drop args)) = codes "drop"
-spelling (to_list (of_poly funs marks rules pairs)) = codes "drop"
+spelling (to_list of_usable) = codes "poly" ++ (line_feed ∷ codes "usable")
+spelling (to_list (of_poly usable funs marks rules pairs)) = codes "drop"
 spelling (to_list (of_order funs marks rules pairs)) = codes "drop"
 spelling to_pairs = codes "pairs "
 spelling to_done = codes "one" ++ (line_feed ∷ [])
@@ -84,7 +87,7 @@ spelling to_blocks = codes "blocks "
 spelling to_subterm = codes "subterm" ++ (line_feed ∷ [])
 spelling (to_name args) = codes "arg "
 spelling to_poly = codes "poly" ++ (line_feed ∷ [])
-spelling (to_line x) = line_first x ∷ line_rest x
+spelling (to_line usable x) = line_first x ∷ line_rest x
 spelling to_order = codes "order" ++ (line_feed ∷ [])
 spelling (to_order_line x) = line_first x ∷ line_rest x
 spelling to_finish = codes "end" ++ (line_feed ∷ [])
@@ -98,8 +101,8 @@ behind to_alone = gives (node_item alone) front
 behind to_blocks = on (number_wanted of_blocks)
 behind to_subterm = on (arg_front [])
 behind (to_name args) = on (name_wanted args)
-behind to_poly = on (poly_lines (in_funs []) lines_front)
-behind (to_line x) = on (poly_lines x (line_begun x))
+behind to_poly = on (poly_lines None (in_funs []) lines_front)
+behind (to_line usable x) = on (poly_lines usable x (line_begun x))
 behind to_order = on (order_lines (in_funs []) orders.lines_front)
 behind (to_order_line x) = on (order_lines x (orders.line_begun x))
 behind to_finish = gives end_item finished
@@ -126,7 +129,8 @@ list_ended of_ranks xs = gives (ranks_item xs) (word (codes "pairs ") to_pairs)
 list_ended (of_block zero parts) xs = gives (node_item (blocks (parts ++ xs ∷ []))) front
 list_ended (of_block (suc left) parts) xs = block_wanted left (parts ++ xs ∷ [])
 list_ended (of_drop args) xs = gives (node_item (subterm args xs)) front
-list_ended (of_poly funs marks rules pairs) xs = gives (node_item (interpretations funs marks rules pairs xs)) front
+list_ended of_usable xs = on (poly_lines (Some xs) (in_funs []) lines_front)
+list_ended (of_poly usable funs marks rules pairs) xs = gives (node_item (interpretations usable funs marks rules pairs xs)) front
 list_ended (of_order funs marks rules pairs) xs = gives (node_item (order funs marks rules pairs xs)) front
 
 -- the line of the number of blocks has ended
@@ -146,8 +150,13 @@ number_ended (of_place args name) n b =
     cond (b == line_feed) (on (arg_front (args ++ record { name = name; place = n } ∷ []))) refused
 number_ended (of_list of xs) n b = list_step of (xs ++ n ∷ []) b
 
--- the front of a node of the version, or of the end where no node is wanted; nodes of interpretations stand in
--- version 1 alone, those of path orders in version 2
+-- the front of a node of interpretations, which lists the rules that are to be covered in version 2
+abbrev pub poly_begun : ℕ → LineStep
+poly_begun version =
+    cond (version == 1) (on (word (codes "oly" ++ (line_feed ∷ [])) to_poly))
+    (cond (version == 2) (on (word (codes "oly" ++ (line_feed ∷ codes "usable")) (to_list of_usable))) refused)
+
+-- the front of a node of the version, or of the end where no node is wanted; nodes of path orders stand in version 2 alone
 abbrev pub front_step : ℕ → Bool → ℕ → LineStep
 front_step version wants b =
     cond wants
@@ -155,7 +164,7 @@ front_step version wants b =
     (cond (b == 97) (on (word (codes "lone" ++ (line_feed ∷ [])) to_alone))
     (cond (b == 98) (on (word (codes "locks ") to_blocks))
     (cond (b == 115) (on (word (codes "ubterm" ++ (line_feed ∷ [])) to_subterm))
-    (cond (b == 112) (cond (version == 1) (on (word (codes "oly" ++ (line_feed ∷ [])) to_poly)) refused)
+    (cond (b == 112) (poly_begun version)
     (cond (b == 111) (cond (version == 2) (on (word (codes "rder" ++ (line_feed ∷ [])) to_order)) refused) refused))))))
     (cond (b == 101) (on (word (codes "nd" ++ (line_feed ∷ [])) to_finish)) refused)
 
@@ -188,18 +197,18 @@ letters_step args xs b =
     (cond (b == space) (on (number_wanted (of_place args xs))) refused)
 
 -- behind all lines of a node of interpretations but that of `drop`
-abbrev pub dropped : Lines → Listed
-dropped (in_funs funs) = of_poly funs [] [] []
-dropped (in_marks funs marks) = of_poly funs marks [] []
-dropped (in_rules funs marks rules) = of_poly funs marks rules []
-dropped (in_pairs funs marks rules pairs) = of_poly funs marks rules pairs
+abbrev pub dropped : Option (List ℕ) → Lines → Listed
+dropped usable (in_funs funs) = of_poly usable funs [] [] []
+dropped usable (in_marks funs marks) = of_poly usable funs marks [] []
+dropped usable (in_rules funs marks rules) = of_poly usable funs marks rules []
+dropped usable (in_pairs funs marks rules pairs) = of_poly usable funs marks rules pairs
 
 -- where a byte leads that was given to the reader of such lines
-abbrev pub lines_led : LinesStep → LineStep
-lines_led (l.on x k) = on (poly_lines x k)
-lines_led (begins x) = on (word (line_rest x) (to_line x))
-lines_led (drops x) = on (word (codes "rop") (to_list (dropped x)))
-lines_led l.refused = refused
+abbrev pub lines_led : Option (List ℕ) → LinesStep → LineStep
+lines_led usable (l.on x k) = on (poly_lines usable x k)
+lines_led usable (begins x) = on (word (line_rest x) (to_line usable x))
+lines_led usable (drops x) = on (word (codes "rop") (to_list (dropped usable x)))
+lines_led usable l.refused = refused
 
 -- the same of a node of a path order
 abbrev pub order_dropped : orders.Lines → Listed
@@ -225,7 +234,7 @@ step version wants front b = front_step version wants b
 step version wants (arg_front args) b = arg_step args b
 step version wants (name_wanted args) b = letter_step args b
 step version wants (letters args xs) b = letters_step args xs b
-step version wants (poly_lines x k) b = lines_led (lines_step x k b)
+step version wants (poly_lines usable x k) b = lines_led usable (lines_step x k b)
 step version wants (order_lines x k) b = order_led (orders.lines_step x k b)
 step version wants finished b = refused
 

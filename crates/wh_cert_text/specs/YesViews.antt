@@ -24,7 +24,8 @@ abbrev pub listed_of : Listed → YesLine → m.Listed
 listed_of listed.Ranks l = m.of_ranks
 listed_of (listed.Block left) l = m.of_block left l.parts
 listed_of listed.Drop l = m.of_drop (map said_arg l.args)
-listed_of listed.Poly l = m.dropped (lines_of l.lines.value)
+listed_of listed.Usable l = m.of_usable
+listed_of listed.Poly l = m.dropped l.usable (lines_of l.lines.value)
 listed_of listed.Order l = m.order_dropped (orders.lines_of l.order.value)
 
 abbrev pub behind_of : YesBehind → YesLine → m.Behind
@@ -37,7 +38,7 @@ behind_of behind.Blocks l = m.to_blocks
 behind_of behind.Subterm l = m.to_subterm
 behind_of behind.Name l = m.to_name (map said_arg l.args)
 behind_of behind.Poly l = m.to_poly
-behind_of (behind.Line section) l = m.to_line (section_of section l.lines.value)
+behind_of (behind.Line section) l = m.to_line l.usable (section_of section l.lines.value)
 behind_of behind.Order l = m.to_order
 behind_of (behind.OrderLine section) l = m.to_order_line (orders.section_of section l.order.value)
 behind_of behind.Finish l = m.to_finish
@@ -69,7 +70,7 @@ place_of place.NameWanted l = m.name_wanted (map said_arg l.args)
 place_of place.Name l = naming l.name (λ name. m.letters (map said_arg l.args) name)
 place_of place.ArgPlaceWanted l = naming l.name (λ name. m.number_wanted (m.of_place (map said_arg l.args) name))
 place_of (place.ArgPlace n) l = naming l.name (λ name. m.number (m.of_place (map said_arg l.args) name) n)
-place_of place.Lines l = m.poly_lines (lines_of l.lines.value) (lines_place l.lines.value)
+place_of place.Lines l = m.poly_lines l.usable (lines_of l.lines.value) (lines_place l.lines.value)
 place_of place.OrderLines l = m.order_lines (orders.lines_of l.order.value) (orders.lines_place l.order.value)
 place_of place.Finished l = m.finished
 

@@ -30,6 +30,8 @@ pub enum Listed {
     Block(u32),
     /// The pairs that are dropped, behind lines of arguments.
     Drop,
+    /// The rules that are to be covered, before lines of interpretations and moves.
+    Usable,
     /// The pairs that are dropped, behind lines of interpretations and moves.
     Poly,
     /// The pairs that are dropped, behind lines of filters and inferences.
@@ -124,6 +126,8 @@ pub struct YesLine {
     pub args: Args,
     /// The name of a symbol, once it was begun.
     pub name: Option<Letters>,
+    /// The rules that a node of interpretations lists, where it does.
+    pub usable: Option<Numbers>,
     /// The lines of a node of interpretations.
     pub lines: Box<PolyLines>,
     /// The lines of a node of a path order.
@@ -167,6 +171,7 @@ impl YesLine {
             parts: Blocks::new(alloc)?,
             args: Args::new(alloc)?,
             name: None,
+            usable: None,
             lines: Box::new(alloc, PolyLines::new(alloc)?)?,
             order: Box::new(alloc, OrderLines::new(alloc)?)?,
         })
@@ -251,6 +256,7 @@ impl YesLine {
             }
             YesBehind::Name => self.place = YesPlace::NameWanted,
             YesBehind::Poly => {
+                self.usable = None;
                 self.lines.restart(alloc)?;
                 self.place = YesPlace::Lines;
             }
@@ -302,7 +308,7 @@ impl YesLine {
     }
 
     /// The line of a list has ended.
-    #[tactic(auto, using(crate::proofs::YesCode::block_ended, crate::proofs::YesCode::drop_ended, crate::proofs::YesCode::order_ended))]
+    #[tactic(auto, using(crate::proofs::YesCode::block_ended))]
     fn end_list(&mut self, alloc: Global, of: Listed) -> Result<YesStep, AllocError>
         ensures { IfOk result (λ went. yes_went went self.new ≡ list_ended (listed_of of self.old) self.old.numbers) }
     {
@@ -325,22 +331,41 @@ impl YesLine {
                 };
                 Ok(YesStep::Gives(YesItem::Node(node)))
             }
-            Listed::Poly => {
-                let node = Box::new(alloc, self.lines.node(alloc, numbers)?)?;
-                self.place = YesPlace::Front;
-                Ok(YesStep::Gives(YesItem::Node(Node::Poly(node))))
+            Listed::Usable => {
+                self.usable = Some(numbers);
+                self.lines.restart(alloc)?;
+                self.place = YesPlace::Lines;
+                Ok(YesStep::On)
             }
-            Listed::Order => {
-                let node = Box::new(alloc, self.order.node(alloc, numbers)?)?;
-                self.place = YesPlace::Front;
-                Ok(YesStep::Gives(YesItem::Node(Node::Order(node))))
-            }
+            Listed::Poly => self.end_poly(alloc, numbers),
+            Listed::Order => self.end_order(alloc, numbers),
         }
+    }
+
+    /// The line of the pairs that a node of interpretations drops has ended.
+    #[tactic(auto, using(crate::proofs::YesCode::drop_ended))]
+    fn end_poly(&mut self, alloc: Global, numbers: Numbers) -> Result<YesStep, AllocError>
+        ensures { IfOk result (λ went. yes_went went self.new ≡ list_ended (listed_of listed.Poly self.old) numbers) }
+    {
+        let usable = mem::replace(&mut self.usable, None);
+        let node = Box::new(alloc, self.lines.node(alloc, usable, numbers)?)?;
+        self.place = YesPlace::Front;
+        Ok(YesStep::Gives(YesItem::Node(Node::Poly(node))))
+    }
+
+    /// The line of the pairs that a node of a path order drops has ended.
+    #[tactic(auto, using(crate::proofs::YesCode::order_ended))]
+    fn end_order(&mut self, alloc: Global, numbers: Numbers) -> Result<YesStep, AllocError>
+        ensures { IfOk result (λ went. yes_went went self.new ≡ list_ended (listed_of listed.Order self.old) numbers) }
+    {
+        let node = Box::new(alloc, self.order.node(alloc, numbers)?)?;
+        self.place = YesPlace::Front;
+        Ok(YesStep::Gives(YesItem::Node(Node::Order(node))))
     }
 
     /// The lines of a node of interpretations go on with the byte.
     fn step_lines(&mut self, alloc: Global, byte: u8) -> Result<YesStep, AllocError>
-        ensures { IfOk result (λ went. yes_went went self.new ≡ lines_led
+        ensures { IfOk result (λ went. yes_went went self.new ≡ lines_led self.old.usable
             (lines_step (lines_of self.old.lines.value) (lines_place self.old.lines.value) byte)) }
     {
         match self.lines.step(alloc, byte)? {
@@ -507,6 +532,7 @@ impl YesLine {
             (true, b'b') => YesPlace::Word(YesBehind::Blocks, 1),
             (true, b's') => YesPlace::Word(YesBehind::Subterm, 1),
             (true, b'p') if version == 1 => YesPlace::Word(YesBehind::Poly, 1),
+            (true, b'p') if version == 2 => YesPlace::Word(YesBehind::List(Listed::Usable), 1),
             (true, b'o') if version == 2 => YesPlace::Word(YesBehind::Order, 1),
             (false, b'e') => YesPlace::Word(YesBehind::Finish, 1),
             _ => return YesStep::Wrong,
@@ -569,6 +595,7 @@ fn spelling(behind: YesBehind) -> &'static [u8]
         YesBehind::Version => b"YES ".as_slice(),
         YesBehind::List(Listed::Ranks) => b"\nranks".as_slice(),
         YesBehind::List(Listed::Block(_)) => b"block".as_slice(),
+        YesBehind::List(Listed::Usable) => b"poly\nusable".as_slice(),
         YesBehind::List(Listed::Drop | Listed::Poly | Listed::Order) => b"drop".as_slice(),
         YesBehind::Pairs => b"pairs ".as_slice(),
         YesBehind::Done => b"one\n".as_slice(),

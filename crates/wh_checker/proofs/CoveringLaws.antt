@@ -17,8 +17,10 @@ use Rattle.wh_polycheck.specs.Readings.{ReadingsData}
 use Rattle.wh_polycheck.specs.Covering.{rule_run, pair_run, by_moves, IsCovering}
 use Rattle.wh_polycheck.specs.Small.{Limits, without_limits, with_limits, StaysWithin, IsSmall}
 use Rattle.wh_covering.specs.CoveringFaults.{IsFirstLineFault, IsRightLine, IsFirstNotNormal, IsFirstNotNormalMark, IsFirstWrongRule, IsFirstWrongPair, IsFirstCoveringFault, right_lines, wrong_lines}
+use Rattle.wh_usable.specs.Closed.{IsClosed}
+use Rattle.wh_usable.proofs.Decisions.{closed_not_open, one_open}
 use Rattle.wh_covering.specs.declared.fault.CoveringFault.{CoveringFault}
-use Rattle.wh_covering.specs.declared.fault.CoveringFault.TheVariants.{BadPolynomial, BadLines, BadDrop, Rule, Pair}
+use Rattle.wh_covering.specs.declared.fault.CoveringFault.TheVariants.{BadPolynomial, BadLines, BadDrop, NotClosed, Rule, Pair}
 use Rattle.wh_covering.specs.declared.fault.LineFault.{LineFault}
 use Rattle.wh_covering.specs.declared.fault.LineFault.TheVariants as line
 use Rattle.wh_checker.specs.Faults.{in_excess, at_covering}
@@ -139,6 +141,7 @@ module _ (limits : Limits) (T : TaskData) (R : ReadingsData) (E : Evidence (List
   covering_fault_one (BadPolynomial f false) (BadPolynomial g true) first other = absurd (normal_or_not f first other.0)
   covering_fault_one (BadPolynomial f false) BadLines first other = absurd (normal_or_not f first other.0.symbols)
   covering_fault_one (BadPolynomial f false) BadDrop first other = absurd (normal_or_not f first other.0.symbols)
+  covering_fault_one (BadPolynomial f false) (NotClosed g) first other = absurd (normal_or_not f first other.0.symbols)
   covering_fault_one (BadPolynomial f false) (Rule t g) first other = absurd (normal_or_not f first other.0.normal.symbols)
   covering_fault_one (BadPolynomial f false) (Pair m g) first other = absurd (normal_or_not f first other.0.normal.symbols)
   covering_fault_one (BadPolynomial f true) (BadPolynomial g false) first other = absurd (normal_or_not g other first.0)
@@ -146,30 +149,42 @@ module _ (limits : Limits) (T : TaskData) (R : ReadingsData) (E : Evidence (List
       inl (ap (λ x. BadPolynomial x true) (not_normal_mark_one f g first.1 other.1))
   covering_fault_one (BadPolynomial f true) BadLines first other = absurd (marks_normal_or_not f first.1 other.0.marks)
   covering_fault_one (BadPolynomial f true) BadDrop first other = absurd (marks_normal_or_not f first.1 other.0.marks)
+  covering_fault_one (BadPolynomial f true) (NotClosed g) first other = absurd (marks_normal_or_not f first.1 other.0.marks)
   covering_fault_one (BadPolynomial f true) (Rule t g) first other = absurd (marks_normal_or_not f first.1 other.0.normal.marks)
   covering_fault_one (BadPolynomial f true) (Pair m g) first other = absurd (marks_normal_or_not f first.1 other.0.normal.marks)
   covering_fault_one BadLines (BadPolynomial g false) first other = absurd (normal_or_not g other first.0.symbols)
   covering_fault_one BadLines (BadPolynomial g true) first other = absurd (marks_normal_or_not g other.1 first.0.marks)
   covering_fault_one BadLines BadLines first other = inl refl
   covering_fault_one BadLines BadDrop first other = absurd (other.1 first.1)
+  covering_fault_one BadLines (NotClosed g) first other = absurd (counted_not_bad other.1 first.1)
   covering_fault_one BadLines (Rule t g) first other = absurd (counted_not_bad other.0.counted first.1)
   covering_fault_one BadLines (Pair m g) first other = absurd (counted_not_bad other.0.counted first.1)
   covering_fault_one BadDrop (BadPolynomial g false) first other = absurd (normal_or_not g other first.0.symbols)
   covering_fault_one BadDrop (BadPolynomial g true) first other = absurd (marks_normal_or_not g other.1 first.0.marks)
   covering_fault_one BadDrop BadLines first other = absurd (first.1 other.1)
   covering_fault_one BadDrop BadDrop first other = inl refl
+  covering_fault_one BadDrop (NotClosed g) first other = absurd (other.1.good_drop first.2)
   covering_fault_one BadDrop (Rule t g) first other = absurd (other.0.counted.good_drop first.2)
   covering_fault_one BadDrop (Pair m g) first other = absurd (other.0.counted.good_drop first.2)
+  covering_fault_one (NotClosed f) (BadPolynomial g false) first other = absurd (normal_or_not g other first.0.symbols)
+  covering_fault_one (NotClosed f) (BadPolynomial g true) first other = absurd (marks_normal_or_not g other.1 first.0.marks)
+  covering_fault_one (NotClosed f) BadLines first other = absurd (counted_not_bad first.1 other.1)
+  covering_fault_one (NotClosed f) BadDrop first other = absurd (first.1.good_drop other.2)
+  covering_fault_one (NotClosed f) (NotClosed g) first other = inl (ap NotClosed (one_open T f g first.2 other.2))
+  covering_fault_one (NotClosed f) (Rule t g) first other = absurd (closed_not_open T f other.0.closed first.2)
+  covering_fault_one (NotClosed f) (Pair m g) first other = absurd (closed_not_open T f other.0.closed first.2)
   covering_fault_one (Rule r f) (BadPolynomial g false) first other = absurd (normal_or_not g other first.0.normal.symbols)
   covering_fault_one (Rule r f) (BadPolynomial g true) first other = absurd (marks_normal_or_not g other.1 first.0.normal.marks)
   covering_fault_one (Rule r f) BadLines first other = absurd (counted_not_bad first.0.counted other.1)
   covering_fault_one (Rule r f) BadDrop first other = absurd (first.0.counted.good_drop other.2)
+  covering_fault_one (Rule r f) (NotClosed g) first other = absurd (closed_not_open T g first.0.closed other.2)
   covering_fault_one (Rule r f) (Rule t g) first other = rule_fault_one r t f g first.1 other.1
   covering_fault_one (Rule r f) (Pair m g) first other = absurd (rule_not_right r f first.1 other.1)
   covering_fault_one (Pair n f) (BadPolynomial g false) first other = absurd (normal_or_not g other first.0.normal.symbols)
   covering_fault_one (Pair n f) (BadPolynomial g true) first other = absurd (marks_normal_or_not g other.1 first.0.normal.marks)
   covering_fault_one (Pair n f) BadLines first other = absurd (counted_not_bad first.0.counted other.1)
   covering_fault_one (Pair n f) BadDrop first other = absurd (first.0.counted.good_drop other.2)
+  covering_fault_one (Pair n f) (NotClosed g) first other = absurd (closed_not_open T g first.0.closed other.2)
   covering_fault_one (Pair n f) (Rule t g) first other = absurd (rule_not_right t g other.1 first.1)
   covering_fault_one (Pair n f) (Pair m g) first other = pair_fault_one n m f g first.2 other.2
 
@@ -191,7 +206,7 @@ module _ (limits : Limits) (T : TaskData) (R : ReadingsData) (E : Evidence (List
       stays with_limits is = is.of_pairs n p right found at
       stays without_limits is = tt
 
-  module _ (is : IsCovering T R E) (small : SmallFor limits T R) where
+  module _ (is : IsCovering T R E) (closed : IsClosed T) (small : SmallFor limits T R) where
     right_rule : (k : ℕ) → IsRightRule (right_lines limits T.symbols T.rules R) T E.of_rules k
     right_rule k n r ms at there here = (
       rule_stays small n r false (contains_at T.covered k n at) there,
@@ -211,6 +226,7 @@ module _ (limits : Limits) (T : TaskData) (R : ReadingsData) (E : Evidence (List
     covering_or_fault (BadPolynomial f true) first = marks_normal_or_not f first.1 is.normal.marks
     covering_or_fault BadLines first = counted_not_bad (counted_of (by_moves T.symbols T.rules R) T E is.lines) first.1
     covering_or_fault BadDrop first = (counted_of (by_moves T.symbols T.rules R) T E is.lines).good_drop first.2
+    covering_or_fault (NotClosed f) first = closed_not_open T f closed first.2
     covering_or_fault (Rule r f) first = rule_not_right r f first.1 right_rule
     covering_or_fault (Pair n f) first = pair_not_right n f first.2 right_pair
 
@@ -230,6 +246,7 @@ module _ (T : TaskData) (R : ReadingsData) (E : Evidence (List Transfer)) where
   fault_unlimited k (BadPolynomial f true) is first = first
   fault_unlimited k BadLines is first = first
   fault_unlimited k BadDrop is first = first
+  fault_unlimited k (NotClosed f) is first = first
   fault_unlimited k (Rule n (line.Cover f)) is (ready, (i, before, (r, ms, at, there, here, first))) =
       (ready, (i, (λ j less. rule_unlimited j (before j less)), (r, ms, at, there, here, (tt, tt, first.2))))
   fault_unlimited k (Rule r (line.Exceeds e)) is first = absurd (excess_not_rejected k e is)

@@ -1,5 +1,5 @@
 -- The answers of the parts of a node's check, as what they say of the node.
-use Rattle.std.proofs.Common.{◌≡◌, ℕ, ◌<◌, List, [], ◌∷◌, ◌++◌, length, map, drop, get_or, Some, All, Result, Ok, Err, OnOk, slice_get, refl, sym, ap, ap₂, subst, ◌∙◌, arith}
+use Rattle.std.proofs.Common.{◌≡◌, ℕ, ◌<◌, List, [], ◌∷◌, ◌++◌, length, map, drop, get_or, Some, All, Result, Ok, Err, OnOk, slice_get, Option, refl, sym, ap, ap₂, subst, ◌∙◌, arith}
 use Rattle.std.proofs.lemmas.List.{length-map, append-nil}
 use Rattle.wh_types.specs.Outcome.{IfBecause, MatchOr}
 use Rattle.wh_types.specs.declared.want.Or.{Or}
@@ -23,15 +23,15 @@ use Rattle.wh_cert.specs.Interps.{Interp}
 use Rattle.wh_reduction.specs.TaskData.{numbers_from, task_over, whole_task}
 use Rattle.wh_hopoly.specs.declared.expression.Move.{Move}
 use Rattle.wh_polycheck.specs.Readings.{ReadingsData}
-use Rattle.wh_reduction.proofs.Numbers.{numbers_within}
 use Rattle.wh_polycheck.specs.Covering.{IsCovering, HaveTypedSides, IsTypedTask}
 use Rattle.wh_polycheck.specs.Small.{IsSmall}
 use Rattle.wh_inference.specs.Inferences.{Inference}
 use Rattle.wh_ordering.specs.Filterings.{FilteringData}
 use Rattle.wh_ordering.specs.Ordering.{IsOrdering}
+use Rattle.wh_usable.specs.Closed.{IsClosed}
 use Rattle.wh_proof.specs.Nodes.{done, alone, blocks, subterm, poly, order, AreSetsOf, Leaves, by_done, by_alone, by_blocks, by_subterm, by_poly, by_order}
 use Rattle.wh_pairs.specs.Sets.{IsSetOf, IsKept}
-use Rattle.wh_proof.specs.Looked.{SayChoices, moves_of, inferences_of}
+use Rattle.wh_proof.specs.Looked.{SayChoices, CoversRules, covered_rules, poly_task, moves_of, inferences_of}
 use Rattle.wh_checker.specs.Faults.{IsSubtermFault, SayCovering, SayOrdering}
 use Rattle.wh_checker.specs.Walk.{IsSingle, IsReduced}
 use Rattle.wh_proof.specs.GoesOn.{GoesOn}
@@ -89,15 +89,16 @@ goes_subterm d ps set lines drop rest sets after (args, says, is, kept) after_is
     record { node = subterm args drop; left = rest ∷ []; says = (says, refl); leaves = by_subterm is kept; small = tt; after_is = after_is }
 
 -- the conditions of a node of interpretations, under what its lines say
-pub goes_poly : (d : SystemData) (ps : List PairData) (set : List ℕ) (funs lines : List Interp) (rules pairs : List (List Move))
-    (drop rest : List ℕ) (R : ReadingsData) → SayCovering d ps set funs lines R
-    → IsCovering (whole_task d.symbols d.rules ps set) R (moves_of rules pairs drop) → IsSmall (whole_task d.symbols d.rules ps set) R
-    → IsSetOf (IsKept set drop) rest → GoesOn d ps set (w.interpretations funs lines rules pairs drop) [] (rest ∷ [])
-goes_poly d ps set funs lines rules pairs drop rest R (says, marked) is small kept = record {
-  node = poly (numbers_from 0 (length d.rules)) R (moves_of rules pairs drop);
+pub goes_poly : (d : SystemData) (ps : List PairData) (set : List ℕ) (usable : Option (List ℕ)) (funs lines : List Interp)
+    (rules pairs : List (List Move)) (drop rest : List ℕ) (R : ReadingsData) → CoversRules d usable → SayCovering d ps set funs lines R
+    → IsCovering (poly_task d ps set usable) R (moves_of rules pairs drop) → IsClosed (poly_task d ps set usable)
+    → IsSmall (poly_task d ps set usable) R → IsSetOf (IsKept set drop) rest
+    → GoesOn d ps set (w.interpretations usable funs lines rules pairs drop) [] (rest ∷ [])
+goes_poly d ps set usable funs lines rules pairs drop rest R covers (says, marked) is closed small kept = record {
+  node = poly (covered_rules usable (length d.rules)) R (moves_of rules pairs drop);
   left = rest ∷ [];
   says = (refl, says, refl);
-  leaves = by_poly is refl kept;
+  leaves = by_poly is (record { increasing = covers.0; are_rules = covers.1; closed = closed }) kept;
   small = small;
   after_is = refl;
 }
@@ -121,18 +122,23 @@ pub whole_is : (S : Symbols) (rules : List RewriteRule) (ps : List PairData) (se
     → covered ≡ numbers_from 0 (length rules) → task_over S rules ps other covered ≡ whole_task S rules ps set
 whole_is S rules ps set other covered same all = ap₂ (λ s c. task_over S rules ps s c) same all
 
--- the task of a set of pairs with typed sides, where all rules are to be covered
-pub typed_task : (d : SystemData) (ps qs : List Pair) (set other covered : List ℕ) → qs ≡ ps → other ≡ set
-    → covered ≡ numbers_from 0 (length d.rules) → All (λ n. n < length ps) set → IsIncreasing set
+-- a task of the set in which these rules are to be covered
+pub task_is : (S : Symbols) (rules : List RewriteRule) (ps : List PairData) (set other covered wanted : List ℕ) → other ≡ set
+    → covered ≡ wanted → task_over S rules ps other covered ≡ task_over S rules ps set wanted
+task_is S rules ps set other covered wanted same all = ap₂ (λ s c. task_over S rules ps s c) same all
+
+-- the task of a set of pairs with typed sides, where rules of the system are to be covered
+pub typed_task : (d : SystemData) (ps qs : List Pair) (set other covered wanted : List ℕ) → qs ≡ ps → other ≡ set
+    → covered ≡ wanted → All (λ n. n < length d.rules) wanted → All (λ n. n < length ps) set → IsIncreasing set
     → HaveTypedSides d.symbols d.rules (pairs_data ps) → IsTypedTask (task_over d.symbols d.rules (pairs_data qs) other covered)
-typed_task d ps qs set other covered pairs_same set_same all within increasing typed =
+typed_task d ps qs set other covered wanted pairs_same set_same all are_rules within increasing typed =
     subst (λ (l : List Pair). IsTypedTask (task_over d.symbols d.rules (pairs_data l) other covered)) (sym pairs_same)
     (subst (λ (s : List ℕ). IsTypedTask (task_over d.symbols d.rules (pairs_data ps) s covered)) (sym set_same)
     (subst (λ (c : List ℕ). IsTypedTask (task_over d.symbols d.rules (pairs_data ps) set c)) (sym all) (record {
       task = record {
         within = subst (λ n. All (λ m. m < n) set) (sym (length-map ps pair_data)) within;
         increasing = increasing;
-        are_rules = numbers_within (length d.rules);
+        are_rules = are_rules;
       };
       typed = typed;
     })))

@@ -27,6 +27,7 @@ use Rattle.wh_hopoly.specs.declared.excess.Excess.TheVariants.{Overflow, TooLarg
 use Rattle.wh_polycheck.specs.Marks.{Mark}
 use Rattle.wh_polycheck.specs.declared.fault.CoverFault.TheVariants as moves
 use Rattle.wh_polycheck.specs.Small.{Limits}
+use Rattle.wh_usable.specs.declared.closed.NotClosed.TheVariants as not_closed
 use Rattle.wh_covering.specs.declared.fault.CoveringFault.TheVariants as covered
 use Rattle.wh_covering.specs.declared.fault.LineFault.TheVariants as line
 use Rattle.wh_ordering.specs.Filterings.{MarkFilter}
@@ -144,15 +145,18 @@ node_there m d ps set k (w.subterm lines drop) (fault.Subterm (projected.BadArgu
     first_there d lines args _ f says first.2
 node_there m d ps set k l (fault.Subterm projected.BadDrop) is = tt
 node_there m d ps set k l (fault.Subterm (projected.NotDecreasing a)) is = tt
+node_there m d ps set k l fault.BadUsable is = tt
 node_there m d ps set k l fault.BadSymbols is = tt
-node_there m d ps set k (w.interpretations funs lines rules pairs drop) (fault.Poly (covered.BadPolynomial f false)) (R, say, first) =
+node_there m d ps set k (w.interpretations usable funs lines rules pairs drop) (fault.Poly (covered.BadPolynomial f false)) (covers, R, say, first) =
     let (s, at, not, least) = first in
     subst (λ n. f < n) (as_many d.fun_names d.symbols.funs funs R.symbols say.0.0) (slice_get_within R.symbols f s at)
-node_there m d ps set k (w.interpretations funs lines rules pairs drop) (fault.Poly (covered.BadPolynomial f true)) (R, say, ready) =
+node_there m d ps set k (w.interpretations usable funs lines rules pairs drop) (fault.Poly (covered.BadPolynomial f true)) (covers, R, say, ready) =
     let (i, a, at, is, not, least) = ready.1 in
     subst (HasSymbol d) is (mark_there d lines R.marks i a say.0.1 at)
 node_there m d ps set k l (fault.Poly covered.BadLines) is = tt
 node_there m d ps set k l (fault.Poly covered.BadDrop) is = tt
+node_there m d ps set k l (fault.Poly (covered.NotClosed (not_closed.Rule r))) is = tt
+node_there m d ps set k l (fault.Poly (covered.NotClosed (not_closed.Pair a))) is = tt
 node_there m d ps set k l (fault.Poly (covered.Rule r (line.Exceeds e))) is = excess_there d k e
 node_there m d ps set k l (fault.Poly (covered.Rule r (line.Cover (moves.BadMove e)))) is = tt
 node_there m d ps set k l (fault.Poly (covered.Rule r (line.Cover (moves.OverSpent i)))) is = tt
@@ -179,12 +183,12 @@ node_there m d ps set k l (fault.Order (ordered.NotStrict a)) is = tt
 node_there m d ps set k w.done (fault.Subterm (projected.NoProjection f)) is = absurd is
 node_there m d ps set k w.alone (fault.Subterm (projected.NoProjection f)) is = absurd is
 node_there m d ps set k (w.blocks parts) (fault.Subterm (projected.NoProjection f)) is = absurd is
-node_there m d ps set k (w.interpretations funs lines rules pairs drop) (fault.Subterm (projected.NoProjection f)) is = absurd is
+node_there m d ps set k (w.interpretations usable funs lines rules pairs drop) (fault.Subterm (projected.NoProjection f)) is = absurd is
 node_there m d ps set k (w.order funs lines rules pairs drop) (fault.Subterm (projected.NoProjection f)) is = absurd is
 node_there m d ps set k w.done (fault.Subterm (projected.BadArgument f)) is = absurd is
 node_there m d ps set k w.alone (fault.Subterm (projected.BadArgument f)) is = absurd is
 node_there m d ps set k (w.blocks parts) (fault.Subterm (projected.BadArgument f)) is = absurd is
-node_there m d ps set k (w.interpretations funs lines rules pairs drop) (fault.Subterm (projected.BadArgument f)) is = absurd is
+node_there m d ps set k (w.interpretations usable funs lines rules pairs drop) (fault.Subterm (projected.BadArgument f)) is = absurd is
 node_there m d ps set k (w.order funs lines rules pairs drop) (fault.Subterm (projected.BadArgument f)) is = absurd is
 node_there m d ps set k w.done (fault.Poly (covered.BadPolynomial f marked)) is = absurd is
 node_there m d ps set k w.alone (fault.Poly (covered.BadPolynomial f marked)) is = absurd is
@@ -195,7 +199,7 @@ node_there m d ps set k w.done (fault.Order (ordered.BadFilter f marked)) is = a
 node_there m d ps set k w.alone (fault.Order (ordered.BadFilter f marked)) is = absurd is
 node_there m d ps set k (w.blocks parts) (fault.Order (ordered.BadFilter f marked)) is = absurd is
 node_there m d ps set k (w.subterm lines drop) (fault.Order (ordered.BadFilter f marked)) is = absurd is
-node_there m d ps set k (w.interpretations funs lines rules pairs drop) (fault.Order (ordered.BadFilter f marked)) is = absurd is
+node_there m d ps set k (w.interpretations usable funs lines rules pairs drop) (fault.Order (ordered.BadFilter f marked)) is = absurd is
 
 first_node_there : (m : Limits) (d : SystemData) (ps : List PairData) (n k : ℕ) (sets : List (List ℕ)) (lines : List w.Node) (f : NodeFault)
     → IsFirstNodeFault m d ps n sets lines k f → ItsNamesAreThere d (at_node k f)

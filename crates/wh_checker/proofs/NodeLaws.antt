@@ -1,6 +1,6 @@
 -- A node leaves one list of sets, one thing at most is wrong first with it, but that values may exceed both limits, and none where its
 -- conditions hold.
-use Rattle.std.proofs.Common.{◌≡◌, ◌≢◌, ℕ, inl, inr, List, [], ◌∷◌, Contains, refl, sym, ap, subst, ◌∙◌}
+use Rattle.std.proofs.Common.{◌≡◌, ◌≢◌, ℕ, inl, inr, List, [], ◌∷◌, length, Option, Contains, refl, sym, ap, subst, ◌∙◌}
 use Rattle.wh_terms.specs.Typing.{Symbols}
 use Rattle.wh_terms.specs.Rules.{RewriteRule}
 use Rattle.wh_system.specs.Systems.{SystemData}
@@ -31,12 +31,13 @@ use Rattle.wh_ordering.specs.Ordering.{IsOrdering}
 use Rattle.wh_orienting.specs.OrderingFaults.{IsFirstOrderingFault}
 use Rattle.wh_orienting.specs.declared.fault.OrderingFault.{OrderingFault}
 use Rattle.wh_orienting.proofs.OneOrdering.{ordering_fault_one, ordering_or_fault}
+use Rattle.wh_usable.specs.Closed.{AreRulesInOrder, IsUsable}
 use Rattle.wh_proof.specs.Nodes.{Node, done, alone, blocks, subterm, poly, order, AreSetsOf, no_sets, more_sets, Leaves, by_done, by_alone, by_blocks, by_subterm, by_poly, by_order}
-use Rattle.wh_proof.specs.Looked.{SayChoices, SaysNode, moves_of, inferences_of}
+use Rattle.wh_proof.specs.Looked.{SayChoices, SaysNode, CoversRules, poly_task, moves_of, inferences_of}
 use Rattle.wh_proof.specs.Small.{IsSmallNode}
 use Rattle.wh_checker.specs.Faults.{IsSubtermFault, SayCovering, SayOrdering, IsNodeFault, at_node, in_excess}
 use Rattle.wh_checker.specs.declared.rejected.NodeFault.{NodeFault}
-use Rattle.wh_checker.specs.declared.rejected.NodeFault.TheVariants.{NotEmpty, NotOne, Loops, Blocks, Subterm, BadSymbols, Poly, Order}
+use Rattle.wh_checker.specs.declared.rejected.NodeFault.TheVariants.{NotEmpty, NotOne, Loops, Blocks, Subterm, BadUsable, BadSymbols, Poly, Order}
 use Rattle.wh_pairs.proofs.SetLemmas.{set_one}
 use Rattle.wh_proof.proofs.ChoiceLemmas.{one_list_said}
 use Rattle.wh_proof.proofs.OneNode.{one_readings_said, one_filterings_said}
@@ -112,12 +113,14 @@ from_choice d ps set lines drop projected.BadDrop (with_args args says marked fi
 from_choice d ps set lines drop (projected.NotDecreasing n) (with_args args says marked first) = (args, says, first)
 
 -- the same for nodes of interpretations
-data PolyFault (limits : Limits) (d : SystemData) (ps : List PairData) (set : List ℕ) (funs lines : List Interp)
+data PolyFault (limits : Limits) (d : SystemData) (ps : List PairData) (set : List ℕ) (usable : Option (List ℕ)) (funs lines : List Interp)
     (rules pairs : List (List Move)) (drop : List ℕ) : NodeFault → Type 0 where
-  no_symbols : ((R : ReadingsData) → SayCovering d ps set funs lines R → ⊥) → PolyFault limits d ps set funs lines rules pairs drop BadSymbols
-  with_symbols : {f : CoveringFault} (R : ReadingsData) → SayCovering d ps set funs lines R
-      → IsFirstCoveringFault limits (whole_task d.symbols d.rules ps set) R (moves_of rules pairs drop) f
-      → PolyFault limits d ps set funs lines rules pairs drop (Poly f)
+  no_rules : (CoversRules d usable → ⊥) → PolyFault limits d ps set usable funs lines rules pairs drop BadUsable
+  no_symbols : CoversRules d usable → ((R : ReadingsData) → SayCovering d ps set funs lines R → ⊥)
+      → PolyFault limits d ps set usable funs lines rules pairs drop BadSymbols
+  with_symbols : {f : CoveringFault} (R : ReadingsData) → CoversRules d usable → SayCovering d ps set funs lines R
+      → IsFirstCoveringFault limits (poly_task d ps set usable) R (moves_of rules pairs drop) f
+      → PolyFault limits d ps set usable funs lines rules pairs drop (Poly f)
 
 -- it is that a value exceeds a limit
 pub record IsExcessOfNode (f : NodeFault) : Type 0 where
@@ -133,18 +136,27 @@ polys_alike : (f g : CoveringFault) → CoveringsAlike f g → NodesAlike (Poly 
 polys_alike f g (inl same) = one_fault (ap Poly same)
 polys_alike f g (inr ((e, is), (h, also))) = both_exceed (record { excess = e; row = is }) (record { excess = h; row = also })
 
-poly_fault_one : (limits : Limits) (d : SystemData) (ps : List PairData) (set : List ℕ) (funs lines : List Interp)
-    (rules pairs : List (List Move))
-    (drop : List ℕ) (f g : NodeFault) → AreDistinct d.fun_names → PolyFault limits d ps set funs lines rules pairs drop f
-    → PolyFault limits d ps set funs lines rules pairs drop g → NodesAlike f g
-poly_fault_one limits d ps set funs lines rules pairs drop f g apart (no_symbols none) (no_symbols also) = one_fault refl
-poly_fault_one limits d ps set funs lines rules pairs drop f g apart (no_symbols none) (with_symbols R says first) = absurd (none R says)
-poly_fault_one limits d ps set funs lines rules pairs drop f g apart (with_symbols R says first) (no_symbols none) = absurd (none R says)
-poly_fault_one limits d ps set funs lines rules pairs drop f g apart (with_symbols {f = a} R says first)
-    (with_symbols {f = b} Q also other) =
+poly_fault_one : (limits : Limits) (d : SystemData) (ps : List PairData) (set : List ℕ) (usable : Option (List ℕ)) (funs lines : List Interp)
+    (rules pairs : List (List Move)) (drop : List ℕ) (f g : NodeFault) → AreDistinct d.fun_names
+    → PolyFault limits d ps set usable funs lines rules pairs drop f → PolyFault limits d ps set usable funs lines rules pairs drop g
+    → NodesAlike f g
+poly_fault_one limits d ps set usable funs lines rules pairs drop f g apart (no_rules none) (no_rules also) = one_fault refl
+poly_fault_one limits d ps set usable funs lines rules pairs drop f g apart (no_rules none) (no_symbols covers also) = absurd (none covers)
+poly_fault_one limits d ps set usable funs lines rules pairs drop f g apart (no_rules none) (with_symbols R covers says first) =
+    absurd (none covers)
+poly_fault_one limits d ps set usable funs lines rules pairs drop f g apart (no_symbols covers also) (no_rules none) = absurd (none covers)
+poly_fault_one limits d ps set usable funs lines rules pairs drop f g apart (with_symbols R covers says first) (no_rules none) =
+    absurd (none covers)
+poly_fault_one limits d ps set usable funs lines rules pairs drop f g apart (no_symbols covers none) (no_symbols too also) = one_fault refl
+poly_fault_one limits d ps set usable funs lines rules pairs drop f g apart (no_symbols covers none) (with_symbols R too says first) =
+    absurd (none R says)
+poly_fault_one limits d ps set usable funs lines rules pairs drop f g apart (with_symbols R covers says first) (no_symbols too none) =
+    absurd (none R says)
+poly_fault_one limits d ps set usable funs lines rules pairs drop f g apart (with_symbols {f = a} R covers says first)
+    (with_symbols {f = b} Q too also other) =
     let one : Q ≡ R = one_readings_said d funs lines Q R apart also.0 says.0 in
-    polys_alike a b (covering_fault_one limits (whole_task d.symbols d.rules ps set) R (moves_of rules pairs drop) a b first
-    (subst (λ (x : ReadingsData). IsFirstCoveringFault limits (whole_task d.symbols d.rules ps set) x
+    polys_alike a b (covering_fault_one limits (poly_task d ps set usable) R (moves_of rules pairs drop) a b first
+    (subst (λ (x : ReadingsData). IsFirstCoveringFault limits (poly_task d ps set usable) x
     (moves_of rules pairs drop) b) one other))
 
 -- and for nodes of path orders
@@ -186,19 +198,24 @@ small_for : (limits : Limits) (S : Symbols) (rules : List RewriteRule) (ps : Lis
 small_for with_limits S rules ps set covered R E small = small
 small_for without_limits S rules ps set covered R E small = tt
 
-covering_or_poly : (limits : Limits) (d : SystemData) (ps : List PairData) (set : List ℕ) (funs lines : List Interp)
-    (rules pairs : List (List Move)) (listed covered : List ℕ) (R : ReadingsData) (E : Evidence (List Transfer)) (f : NodeFault)
-    → AreDistinct d.fun_names → SaysNode d (w.interpretations funs lines rules pairs listed) (poly covered R E)
-    → IsCovering (task_over d.symbols d.rules ps set covered) R E → SmallFor limits (task_over d.symbols d.rules ps set covered) R
-    → PolyFault limits d ps set funs lines rules pairs listed f → ⊥
-covering_or_poly limits d ps set funs lines rules pairs listed covered R E f apart says is small (no_symbols none) =
+covering_or_poly : (limits : Limits) (d : SystemData) (ps : List PairData) (set : List ℕ) (usable : Option (List ℕ))
+    (funs lines : List Interp) (rules pairs : List (List Move)) (listed covered : List ℕ) (R : ReadingsData)
+    (E : Evidence (List Transfer)) (f : NodeFault) → AreDistinct d.fun_names
+    → SaysNode d (w.interpretations usable funs lines rules pairs listed) (poly covered R E)
+    → IsCovering (task_over d.symbols d.rules ps set covered) R E → IsUsable (task_over d.symbols d.rules ps set covered)
+    → SmallFor limits (task_over d.symbols d.rules ps set covered) R
+    → PolyFault limits d ps set usable funs lines rules pairs listed f → ⊥
+covering_or_poly limits d ps set usable funs lines rules pairs listed covered R E f apart says is closed small (no_rules none) =
+    none (subst (AreRulesInOrder (length d.rules)) says.0 (closed.increasing, closed.are_rules))
+covering_or_poly limits d ps set usable funs lines rules pairs listed covered R E f apart says is closed small (no_symbols covers none) =
     none R (says.1, is.readings.marked)
-covering_or_poly limits d ps set funs lines rules pairs listed covered R E f apart says is small (with_symbols {f = g} Q also first) =
+covering_or_poly limits d ps set usable funs lines rules pairs listed covered R E f apart says is closed small
+    (with_symbols {f = g} Q covers also first) =
     let one : Q ≡ R = one_readings_said d funs lines Q R apart also.0 says.1 in
-    covering_or_fault limits (task_over d.symbols d.rules ps set covered) R E is small g
+    covering_or_fault limits (task_over d.symbols d.rules ps set covered) R E is closed.closed small g
     (subst (λ (l : List ℕ). IsFirstCoveringFault limits (task_over d.symbols d.rules ps set l) R E g) (sym says.0)
-    (subst (λ (x : Evidence (List Transfer)). IsFirstCoveringFault limits (whole_task d.symbols d.rules ps set) R x g) (sym says.2)
-    (subst (λ (x : ReadingsData). IsFirstCoveringFault limits (whole_task d.symbols d.rules ps set) x
+    (subst (λ (x : Evidence (List Transfer)). IsFirstCoveringFault limits (poly_task d ps set usable) R x g) (sym says.2)
+    (subst (λ (x : ReadingsData). IsFirstCoveringFault limits (poly_task d ps set usable) x
     (moves_of rules pairs listed) g) one first)))
 
 data KindFault (limits : Limits) (d : SystemData) (ps : List PairData) (set : List ℕ) : w.Node → NodeFault → Type 0 where
@@ -209,9 +226,9 @@ data KindFault (limits : Limits) (d : SystemData) (ps : List PairData) (set : Li
       → KindFault limits d ps set (w.blocks parts) (Blocks f)
   of_subterm : {lines : List w.Arg} {drop : List ℕ} {f : SubtermFault} → ChoiceFault d ps set lines drop f
       → KindFault limits d ps set (w.subterm lines drop) (Subterm f)
-  of_poly : {funs lines : List Interp} {rules pairs : List (List Move)} {drop : List ℕ} {f : NodeFault}
-      → PolyFault limits d ps set funs lines rules pairs drop f → KindFault limits d ps set
-      (w.interpretations funs lines rules pairs drop) f
+  of_poly : {usable : Option (List ℕ)} {funs lines : List Interp} {rules pairs : List (List Move)} {drop : List ℕ} {f : NodeFault}
+      → PolyFault limits d ps set usable funs lines rules pairs drop f → KindFault limits d ps set
+      (w.interpretations usable funs lines rules pairs drop) f
   of_order : {funs lines : List w.Filtering} {rules pairs : List Inference} {drop : List ℕ} {f : NodeFault}
       → OrderFault d ps set funs lines rules pairs drop f → KindFault limits d ps set (w.order funs lines rules pairs drop) f
 
@@ -222,6 +239,7 @@ kind_fault limits d ps set w.done NotOne fault = absurd fault
 kind_fault limits d ps set w.done (Loops a) fault = absurd fault
 kind_fault limits d ps set w.done (Blocks f) fault = absurd fault
 kind_fault limits d ps set w.done (Subterm f) fault = absurd fault
+kind_fault limits d ps set w.done BadUsable fault = absurd fault
 kind_fault limits d ps set w.done BadSymbols fault = absurd fault
 kind_fault limits d ps set w.done (Poly f) fault = absurd fault
 kind_fault limits d ps set w.done (Order f) fault = absurd fault
@@ -230,6 +248,7 @@ kind_fault limits d ps set w.alone NotOne fault = of_alone fault
 kind_fault limits d ps set w.alone (Loops a) (is, follows) = of_loop is follows
 kind_fault limits d ps set w.alone (Blocks f) fault = absurd fault
 kind_fault limits d ps set w.alone (Subterm f) fault = absurd fault
+kind_fault limits d ps set w.alone BadUsable fault = absurd fault
 kind_fault limits d ps set w.alone BadSymbols fault = absurd fault
 kind_fault limits d ps set w.alone (Poly f) fault = absurd fault
 kind_fault limits d ps set w.alone (Order f) fault = absurd fault
@@ -238,6 +257,7 @@ kind_fault limits d ps set (w.blocks parts) NotOne fault = absurd fault
 kind_fault limits d ps set (w.blocks parts) (Loops a) fault = absurd fault
 kind_fault limits d ps set (w.blocks parts) (Blocks f) fault = of_blocks fault
 kind_fault limits d ps set (w.blocks parts) (Subterm f) fault = absurd fault
+kind_fault limits d ps set (w.blocks parts) BadUsable fault = absurd fault
 kind_fault limits d ps set (w.blocks parts) BadSymbols fault = absurd fault
 kind_fault limits d ps set (w.blocks parts) (Poly f) fault = absurd fault
 kind_fault limits d ps set (w.blocks parts) (Order f) fault = absurd fault
@@ -246,23 +266,27 @@ kind_fault limits d ps set (w.subterm lines drop) NotOne fault = absurd fault
 kind_fault limits d ps set (w.subterm lines drop) (Loops a) fault = absurd fault
 kind_fault limits d ps set (w.subterm lines drop) (Blocks f) fault = absurd fault
 kind_fault limits d ps set (w.subterm lines drop) (Subterm f) fault = of_subterm (choice_fault d ps set lines drop f fault)
+kind_fault limits d ps set (w.subterm lines drop) BadUsable fault = absurd fault
 kind_fault limits d ps set (w.subterm lines drop) BadSymbols fault = absurd fault
 kind_fault limits d ps set (w.subterm lines drop) (Poly f) fault = absurd fault
 kind_fault limits d ps set (w.subterm lines drop) (Order f) fault = absurd fault
-kind_fault limits d ps set (w.interpretations funs lines rules pairs drop) NotEmpty fault = absurd fault
-kind_fault limits d ps set (w.interpretations funs lines rules pairs drop) NotOne fault = absurd fault
-kind_fault limits d ps set (w.interpretations funs lines rules pairs drop) (Loops a) fault = absurd fault
-kind_fault limits d ps set (w.interpretations funs lines rules pairs drop) (Blocks f) fault = absurd fault
-kind_fault limits d ps set (w.interpretations funs lines rules pairs drop) (Subterm f) fault = absurd fault
-kind_fault limits d ps set (w.interpretations funs lines rules pairs drop) BadSymbols none = of_poly (no_symbols none)
-kind_fault limits d ps set (w.interpretations funs lines rules pairs drop) (Poly f) (R, says, first) =
-    of_poly (with_symbols R says first)
-kind_fault limits d ps set (w.interpretations funs lines rules pairs drop) (Order f) fault = absurd fault
+kind_fault limits d ps set (w.interpretations usable funs lines rules pairs drop) NotEmpty fault = absurd fault
+kind_fault limits d ps set (w.interpretations usable funs lines rules pairs drop) NotOne fault = absurd fault
+kind_fault limits d ps set (w.interpretations usable funs lines rules pairs drop) (Loops a) fault = absurd fault
+kind_fault limits d ps set (w.interpretations usable funs lines rules pairs drop) (Blocks f) fault = absurd fault
+kind_fault limits d ps set (w.interpretations usable funs lines rules pairs drop) (Subterm f) fault = absurd fault
+kind_fault limits d ps set (w.interpretations usable funs lines rules pairs drop) BadUsable none = of_poly (no_rules none)
+kind_fault limits d ps set (w.interpretations usable funs lines rules pairs drop) BadSymbols (covers, none) =
+    of_poly (no_symbols covers none)
+kind_fault limits d ps set (w.interpretations usable funs lines rules pairs drop) (Poly f) (covers, R, says, first) =
+    of_poly (with_symbols R covers says first)
+kind_fault limits d ps set (w.interpretations usable funs lines rules pairs drop) (Order f) fault = absurd fault
 kind_fault limits d ps set (w.order funs lines rules pairs drop) NotEmpty fault = absurd fault
 kind_fault limits d ps set (w.order funs lines rules pairs drop) NotOne fault = absurd fault
 kind_fault limits d ps set (w.order funs lines rules pairs drop) (Loops a) fault = absurd fault
 kind_fault limits d ps set (w.order funs lines rules pairs drop) (Blocks f) fault = absurd fault
 kind_fault limits d ps set (w.order funs lines rules pairs drop) (Subterm f) fault = absurd fault
+kind_fault limits d ps set (w.order funs lines rules pairs drop) BadUsable fault = absurd fault
 kind_fault limits d ps set (w.order funs lines rules pairs drop) BadSymbols none = of_order (no_filters none)
 kind_fault limits d ps set (w.order funs lines rules pairs drop) (Poly f) fault = absurd fault
 kind_fault limits d ps set (w.order funs lines rules pairs drop) (Order f) (D, says, first) = of_order (with_filters D says first)
@@ -279,8 +303,8 @@ kind_fault_one limits d ps set (w.blocks parts) f g apart (of_blocks {f = a} fir
     one_fault (ap Blocks (block_fault_one (Follows d.rules ps) set parts a b first other))
 kind_fault_one limits d ps set (w.subterm lines drop) f g apart (of_subterm {f = a} first) (of_subterm {f = b} other) =
     one_fault (ap Subterm (choice_fault_one d ps set lines drop a b apart first other))
-kind_fault_one limits d ps set (w.interpretations funs lines rules pairs drop) f g apart (of_poly first) (of_poly other) =
-    poly_fault_one limits d ps set funs lines rules pairs drop f g apart first other
+kind_fault_one limits d ps set (w.interpretations usable funs lines rules pairs drop) f g apart (of_poly first) (of_poly other) =
+    poly_fault_one limits d ps set usable funs lines rules pairs drop f g apart first other
 kind_fault_one limits d ps set (w.order funs lines rules pairs drop) f g apart (of_order first) (of_order other) =
     one_fault (order_fault_one d ps set funs lines rules pairs drop f g apart first other)
 
@@ -303,9 +327,9 @@ leaves_or_kind limits d ps set (w.blocks listed) node left f apart says (by_bloc
 leaves_or_kind limits d ps set (w.subterm lines listed) node left f apart says (by_subterm {drop = drop} {args = args} is kept) small
     (of_subterm {f = g} first) =
     choices_or_fault d ps set lines args drop g apart says.0 is (subst (λ (l : List ℕ). ChoiceFault d ps set lines l g) says.1 first)
-leaves_or_kind limits d ps set (w.interpretations funs lines rules pairs listed) node left f apart says
-    (by_poly {covered = covered} {R = R} {E = E} is all kept) small (of_poly first) =
-    covering_or_poly limits d ps set funs lines rules pairs listed covered R E f apart says is
+leaves_or_kind limits d ps set (w.interpretations usable funs lines rules pairs listed) node left f apart says
+    (by_poly {covered = covered} {R = R} {E = E} is closed kept) small (of_poly first) =
+    covering_or_poly limits d ps set usable funs lines rules pairs listed covered R E f apart says is closed
     (small_for limits d.symbols d.rules ps set covered R E small) first
 leaves_or_kind limits d ps set (w.order funs lines rules pairs listed) node left f apart says (by_order {D = D} {E = E} is kept) small
     (of_order first) =
@@ -330,14 +354,14 @@ leaves_or_kind limits d ps set (w.subterm lines listed) node left f apart says (
 leaves_or_kind limits d ps set (w.subterm lines listed) node left f apart says (by_blocks are sets) small fault = elim says [ ]
 leaves_or_kind limits d ps set (w.subterm lines listed) node left f apart says (by_poly is all kept) small fault = elim says [ ]
 leaves_or_kind limits d ps set (w.subterm lines listed) node left f apart says (by_order is kept) small fault = elim says [ ]
-leaves_or_kind limits d ps set (w.interpretations funs lines rules pairs listed) node left f apart says by_done small fault = elim says [ ]
-leaves_or_kind limits d ps set (w.interpretations funs lines rules pairs listed) node left f apart says (by_alone free) small fault =
+leaves_or_kind limits d ps set (w.interpretations usable funs lines rules pairs listed) node left f apart says by_done small fault = elim says [ ]
+leaves_or_kind limits d ps set (w.interpretations usable funs lines rules pairs listed) node left f apart says (by_alone free) small fault =
     elim says [ ]
-leaves_or_kind limits d ps set (w.interpretations funs lines rules pairs listed) node left f apart says (by_blocks are sets) small fault =
+leaves_or_kind limits d ps set (w.interpretations usable funs lines rules pairs listed) node left f apart says (by_blocks are sets) small fault =
     elim says [ ]
-leaves_or_kind limits d ps set (w.interpretations funs lines rules pairs listed) node left f apart says (by_subterm is kept) small fault =
+leaves_or_kind limits d ps set (w.interpretations usable funs lines rules pairs listed) node left f apart says (by_subterm is kept) small fault =
     elim says [ ]
-leaves_or_kind limits d ps set (w.interpretations funs lines rules pairs listed) node left f apart says (by_order is kept) small fault =
+leaves_or_kind limits d ps set (w.interpretations usable funs lines rules pairs listed) node left f apart says (by_order is kept) small fault =
     elim says [ ]
 leaves_or_kind limits d ps set (w.order funs lines rules pairs listed) node left f apart says by_done small fault = elim says [ ]
 leaves_or_kind limits d ps set (w.order funs lines rules pairs listed) node left f apart says (by_alone free) small fault = elim says [ ]
@@ -360,9 +384,10 @@ kind_unlimited d ps set w.alone k f is (of_alone other) = other
 kind_unlimited d ps set w.alone k f is (of_loop one follows) = (one, follows)
 kind_unlimited d ps set (w.blocks parts) k f is (of_blocks first) = first
 kind_unlimited d ps set (w.subterm lines drop) k f is (of_subterm {f = g} first) = from_choice d ps set lines drop g first
-kind_unlimited d ps set (w.interpretations funs lines rules pairs drop) k f is (of_poly (no_symbols none)) = none
-kind_unlimited d ps set (w.interpretations funs lines rules pairs drop) k f is (of_poly (with_symbols {f = g} R says first)) =
-    (R, says, fault_unlimited (whole_task d.symbols d.rules ps set) R (moves_of rules pairs drop) k g is first)
+kind_unlimited d ps set (w.interpretations usable funs lines rules pairs drop) k f is (of_poly (no_rules none)) = none
+kind_unlimited d ps set (w.interpretations usable funs lines rules pairs drop) k f is (of_poly (no_symbols covers none)) = (covers, none)
+kind_unlimited d ps set (w.interpretations usable funs lines rules pairs drop) k f is (of_poly (with_symbols {f = g} R covers says first)) =
+    (covers, R, says, fault_unlimited (poly_task d ps set usable) R (moves_of rules pairs drop) k g is first)
 kind_unlimited d ps set (w.order funs lines rules pairs drop) k f is (of_order (no_filters none)) = none
 kind_unlimited d ps set (w.order funs lines rules pairs drop) k f is (of_order (with_filters D says first)) = (D, says, first)
 

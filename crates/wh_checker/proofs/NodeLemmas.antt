@@ -26,7 +26,7 @@ leaves_count d ps set w.done done [] says by_done = refl
 leaves_count d ps set w.alone alone [] says (by_alone free) = refl
 leaves_count d ps set (w.blocks listed) (blocks parts) left says (by_blocks are sets) = sets_count parts left sets ∙ ap length (sym says)
 leaves_count d ps set (w.subterm lines listed) (subterm args drop) left says (by_subterm is rest) = refl
-leaves_count d ps set (w.interpretations funs lines rules pairs listed) (poly covered R E) left says
+leaves_count d ps set (w.interpretations usable funs lines rules pairs listed) (poly covered R E) left says
     (by_poly is all rest) = refl
 leaves_count d ps set (w.order funs lines rules pairs listed) (order D E) left says (by_order is rest) = refl
 leaves_count d ps set w.done done (_ ∷ _) says leaves = elim leaves [ ]
@@ -51,11 +51,11 @@ leaves_count d ps set (w.subterm lines listed) alone left says leaves = absurd s
 leaves_count d ps set (w.subterm lines listed) (blocks parts) left says leaves = absurd says
 leaves_count d ps set (w.subterm lines listed) (poly covered R E) left says leaves = absurd says
 leaves_count d ps set (w.subterm lines listed) (order D E) left says leaves = absurd says
-leaves_count d ps set (w.interpretations funs lines rules pairs listed) done left says leaves = absurd says
-leaves_count d ps set (w.interpretations funs lines rules pairs listed) alone left says leaves = absurd says
-leaves_count d ps set (w.interpretations funs lines rules pairs listed) (blocks parts) left says leaves = absurd says
-leaves_count d ps set (w.interpretations funs lines rules pairs listed) (subterm args drop) left says leaves = absurd says
-leaves_count d ps set (w.interpretations funs lines rules pairs listed) (order D E) left says leaves = absurd says
+leaves_count d ps set (w.interpretations usable funs lines rules pairs listed) done left says leaves = absurd says
+leaves_count d ps set (w.interpretations usable funs lines rules pairs listed) alone left says leaves = absurd says
+leaves_count d ps set (w.interpretations usable funs lines rules pairs listed) (blocks parts) left says leaves = absurd says
+leaves_count d ps set (w.interpretations usable funs lines rules pairs listed) (subterm args drop) left says leaves = absurd says
+leaves_count d ps set (w.interpretations usable funs lines rules pairs listed) (order D E) left says leaves = absurd says
 leaves_count d ps set (w.order funs lines rules pairs listed) done left says leaves = absurd says
 leaves_count d ps set (w.order funs lines rules pairs listed) alone left says leaves = absurd says
 leaves_count d ps set (w.order funs lines rules pairs listed) (blocks parts) left says leaves = absurd says

@@ -1,5 +1,5 @@
 -- A certificate is valid, or it has a first fault; with limits, it is valid and small, or it has a first fault with them.
-use Rattle.std.proofs.Common.{◌≡◌, ℕ, suc, ◌+◌, ◌⊎◌, inl, inr, List, [], ◌∷◌, ◌++◌, length, Some, refl, sym, ap, subst, ◌∙◌}
+use Rattle.std.proofs.Common.{◌≡◌, ℕ, suc, ◌+◌, ◌⊎◌, inl, inr, List, [], ◌∷◌, ◌++◌, length, Option, Some, refl, sym, ap, subst, ◌∙◌}
 use Rattle.std.proofs.lemmas.List.{length-append}
 use Rattle.wh_terms.specs.declared.path.Step as taken
 use Rattle.wh_text.specs.RawTree.{RTm}
@@ -22,7 +22,7 @@ use Rattle.wh_cert.specs.Interps.{Interp}
 use Rattle.wh_types.specs.Ty.{Ty}
 use Rattle.wh_pairs.specs.Marked.{AreMarked}
 use Rattle.wh_pairs.specs.Sets.{IsWhole}
-use Rattle.wh_reduction.specs.TaskData.{TaskData, numbers_from, whole_task}
+use Rattle.wh_reduction.specs.TaskData.{TaskData, whole_task}
 use Rattle.wh_reduction.specs.ReductionPair.{Evidence}
 use Rattle.wh_hopoly.specs.Evaluation.{Interpretation}
 use Rattle.wh_hopoly.specs.declared.expression.Move.{Move}
@@ -43,18 +43,20 @@ use Rattle.wh_pairs.proofs.Searches.{SomeOrNone, equal_decided, list_decided, Ha
 use Rattle.wh_graph.proofs.ClashesDecided.{follows_decided}
 use Rattle.wh_graph.proofs.BlockFaults.{BlocksOrFault, blocks_or_fault}
 use Rattle.wh_subterm.proofs.Projections.{ProjectionOrFault, projection_or_fault, are_marked_decided}
+use Rattle.wh_usable.specs.Closed.{IsClosed}
+use Rattle.wh_usable.proofs.Decisions.{in_order_decided}
 use Rattle.wh_covering.specs.CoveringFaults.{IsFirstCoveringFault}
 use Rattle.wh_covering.specs.declared.fault.CoveringFault.{CoveringFault}
 use Rattle.wh_covering.proofs.Coverings.{covering_or_fault, small_or_fault}
 use Rattle.wh_access.proofs.Breaks.{passing_or_break}
 use Rattle.wh_no.proofs.Claims.{ClaimOrFault, claim_or_fault}
 use Rattle.wh_polycheck.specs.Small.{Limits, without_limits, with_limits}
-use Rattle.wh_proof.specs.Looked.{SayChoices, SayInterpretations, SayMarks, SayFilters, SayMarkFilters, SaysNode, SayNodes, moves_of, inferences_of}
+use Rattle.wh_proof.specs.Looked.{SayChoices, SayInterpretations, SayMarks, SayFilters, SayMarkFilters, SaysNode, SayNodes, CoversRules, covered_rules, poly_task, moves_of, inferences_of}
 use Rattle.wh_proof.specs.Small.{IsSmallNode, all_small, one_small}
 use Rattle.wh_proof.specs.Valid.{IsSmallCert, IsValidCert, IsValidYes}
 use Rattle.wh_checker.specs.Faults.{IsSubtermFault, SayCovering, SayOrdering, IsNodeFault, IsFirstNodeFault, at_first, behind_first, at_node, of_claim, IsFirstYesFault, rank_count, inaccessible, pair_count, in_node, IsFirstFault}
 use Rattle.wh_checker.specs.declared.rejected.NodeFault.{NodeFault}
-use Rattle.wh_checker.specs.declared.rejected.NodeFault.TheVariants.{NotEmpty, NotOne, Loops, Blocks, Subterm, BadSymbols, Poly, Order}
+use Rattle.wh_checker.specs.declared.rejected.NodeFault.TheVariants.{NotEmpty, NotOne, Loops, Blocks, Subterm, BadUsable, BadSymbols, Poly, Order}
 use Rattle.wh_checker.specs.declared.rejected.CheckFault.{CheckFault}
 use Rattle.wh_checker.specs.declared.rejected.CheckFault.TheVariants as check
 use Rattle.wh_checker.specs.declared.rejected.Rejected.TheVariants as row
@@ -281,13 +283,14 @@ ordering_said d ps set funs lines apart = go (filters_or_none d.fun_names funs) 
 -- readings with their moves, for a choice of limits
 
 abbrev CoversOrFault : Limits → TaskData → ReadingsData → Evidence (List Transfer) → Type 0
-CoversOrFault limits T R E = (IsCovering T R E × SmallFor limits T R) ⊎ ((f : CoveringFault) × IsFirstCoveringFault limits T R E f)
+CoversOrFault limits T R E =
+    (IsCovering T R E × IsClosed T × SmallFor limits T R) ⊎ ((f : CoveringFault) × IsFirstCoveringFault limits T R E f)
 
 covers_or_fault : (limits : Limits) (T : TaskData) (R : ReadingsData) (E : Evidence (List Transfer)) → AreReadingsFor T R
     → CoversOrFault limits T R E
 covers_or_fault with_limits T R E readings = small_or_fault T R E readings
 covers_or_fault without_limits T R E readings = elim (covering_or_fault T R E readings) [
-  | inl is ↦ inl (is, tt)
+  | inl (is, closed) ↦ inl (is, closed, tt)
   | inr fault ↦ inr fault
 ]
 
@@ -308,11 +311,11 @@ plain_small with_limits d ps set (subterm args drop) plain = tt
 plain_small with_limits d ps set (poly covered R E) plain = absurd plain
 plain_small with_limits d ps set (order D E) plain = tt
 
-poly_small : (limits : Limits) (d : SystemData) (ps : List PairData) (set : List ℕ) (R : ReadingsData) (E : Evidence (List Transfer))
-    → SmallFor limits (whole_task d.symbols d.rules ps set) R
-    → IsSmallNode limits d.symbols d.rules ps set (poly (numbers_from 0 (length d.rules)) R E)
-poly_small with_limits d ps set R E small = small
-poly_small without_limits d ps set R E small = tt
+poly_small : (limits : Limits) (d : SystemData) (ps : List PairData) (set : List ℕ) (usable : Option (List ℕ)) (R : ReadingsData)
+    (E : Evidence (List Transfer)) → SmallFor limits (poly_task d ps set usable) R
+    → IsSmallNode limits d.symbols d.rules ps set (poly (covered_rules usable (length d.rules)) R E)
+poly_small with_limits d ps set usable R E small = small
+poly_small without_limits d ps set usable R E small = tt
 
 module _ (limits : Limits) (d : SystemData) (ps : List PairData) where
   -- the line says a node whose conditions hold of the set, and which is small where there are limits
@@ -350,26 +353,28 @@ module _ (limits : Limits) (d : SystemData) (ps : List PairData) where
       inl (subterm args drop, rest ∷ [], (says, refl), by_subterm is kept, plain_small limits d ps set (subterm args drop) tt)
   subterm_said set lines drop (inr (f, fault)) = inr (Subterm f, fault)
 
-  poly_said : (set : List ℕ) (funs lines : List Interp) (rules pairs : List (List Move)) (drop : List ℕ)
-      → SaysSome d ps set funs lines ⊎ SaysNothing d ps set funs lines → NodeOrFault set (w.interpretations funs lines rules pairs drop)
-  poly_said set funs lines rules pairs drop (inr nothing) = inr (BadSymbols, nothing)
-  poly_said set funs lines rules pairs drop (inl (R, said)) =
-      go (covers_or_fault limits (whole_task d.symbols d.rules ps set) R (moves_of rules pairs drop) (record {
+  poly_said : (set : List ℕ) (usable : Option (List ℕ)) (funs lines : List Interp) (rules pairs : List (List Move)) (drop : List ℕ)
+      → Decided (CoversRules d usable) → SaysSome d ps set funs lines ⊎ SaysNothing d ps set funs lines
+      → NodeOrFault set (w.interpretations usable funs lines rules pairs drop)
+  poly_said set usable funs lines rules pairs drop (inr none) said = inr (BadUsable, none)
+  poly_said set usable funs lines rules pairs drop (inl covers) (inr nothing) = inr (BadSymbols, (covers, nothing))
+  poly_said set usable funs lines rules pairs drop (inl covers) (inl (R, said)) =
+      go (covers_or_fault limits (poly_task d ps set usable) R (moves_of rules pairs drop) (record {
         kinds = (said_lists d.fun_names d.symbols.funs funs R.symbols said.0.0).1;
         marked = said.1;
       }))
     where
-      go : CoversOrFault limits (whole_task d.symbols d.rules ps set) R (moves_of rules pairs drop)
-          → NodeOrFault set (w.interpretations funs lines rules pairs drop)
-      go (inr (f, first)) = inr (Poly f, (R, said, first))
-      go (inl (is, small)) =
+      go : CoversOrFault limits (poly_task d ps set usable) R (moves_of rules pairs drop)
+          → NodeOrFault set (w.interpretations usable funs lines rules pairs drop)
+      go (inr (f, first)) = inr (Poly f, (covers, R, said, first))
+      go (inl (is, closed, small)) =
           let (rest, kept) = kept_set set drop in
           inl (
-            poly (numbers_from 0 (length d.rules)) R (moves_of rules pairs drop),
+            poly (covered_rules usable (length d.rules)) R (moves_of rules pairs drop),
             rest ∷ [],
             (refl, said.0, refl),
-            by_poly is refl kept,
-            poly_small limits d ps set R (moves_of rules pairs drop) small,
+            by_poly is (record { increasing = covers.0; are_rules = covers.1; closed = closed }) kept,
+            poly_small limits d ps set usable R (moves_of rules pairs drop) small,
           )
 
   order_said : (set : List ℕ) (funs lines : List w.Filtering) (rules pairs : List Inference) (drop : List ℕ) → IsWellMadeSystem d
@@ -401,8 +406,9 @@ module _ (limits : Limits) (d : SystemData) (ps : List PairData) where
   node_or_fault set (w.blocks parts) made =
       blocks_said set parts (blocks_or_fault (Follows d.rules ps) (follows_decided d.rules ps) set parts)
   node_or_fault set (w.subterm lines drop) made = subterm_said set lines drop (projection_said d ps set lines drop made.fun_names_distinct)
-  node_or_fault set (w.interpretations funs lines rules pairs drop) made =
-      poly_said set funs lines rules pairs drop (covering_said d ps set funs lines made.fun_names_distinct)
+  node_or_fault set (w.interpretations usable funs lines rules pairs drop) made =
+      poly_said set usable funs lines rules pairs drop (in_order_decided (length d.rules) (covered_rules usable (length d.rules)))
+      (covering_said d ps set funs lines made.fun_names_distinct)
   node_or_fault set (w.order funs lines rules pairs drop) made =
       order_said set funs lines rules pairs drop made (ordering_said d ps set funs lines made.fun_names_distinct)
 

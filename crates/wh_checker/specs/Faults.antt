@@ -33,8 +33,10 @@ use Rattle.wh_polycheck.specs.Small.{Limits}
 use Rattle.wh_covering.specs.declared.fault.CoveringFault.{CoveringFault}
 use Rattle.wh_covering.specs.declared.fault.CoveringFault.TheVariants as covered
 use Rattle.wh_covering.specs.declared.fault.LineFault.TheVariants as line
+use Rattle.wh_usable.specs.declared.closed.NotClosed.{NotClosed}
+use Rattle.wh_usable.specs.declared.closed.NotClosed.TheVariants as not_closed
 use Rattle.wh_proof.specs.Nodes.{Node, Leaves}
-use Rattle.wh_proof.specs.Looked.{SayChoices, SayReadings, SayFilterings, SaysNode, moves_of, inferences_of}
+use Rattle.wh_proof.specs.Looked.{SayChoices, SayReadings, SayFilterings, SaysNode, CoversRules, poly_task, moves_of, inferences_of}
 use Rattle.wh_proof.specs.Small.{IsSmallNode}
 use Rattle.wh_pairs.specs.Sets.{IsWhole}
 use Rattle.wh_checker.specs.declared.rejected.NodeFault.{NodeFault}
@@ -66,11 +68,12 @@ IsNodeFault limits d ps set w.alone fault.NotOne = (a : ℕ) → set ≢ a ∷ [
 IsNodeFault limits d ps set w.alone (fault.Loops a) = (set ≡ a ∷ []) × Follows d.rules ps a a
 IsNodeFault limits d ps set (w.blocks parts) (fault.Blocks f) = IsFirstBlockFault (Follows d.rules ps) set parts f
 IsNodeFault limits d ps set (w.subterm lines drop) (fault.Subterm f) = IsSubtermFault d ps set lines drop f
-IsNodeFault limits d ps set (w.interpretations funs lines rules pairs drop) fault.BadSymbols =
-    (R : ReadingsData) → SayCovering d ps set funs lines R → ⊥
-IsNodeFault limits d ps set (w.interpretations funs lines rules pairs drop) (fault.Poly f) =
-    (R : ReadingsData) × SayCovering d ps set funs lines R
-    × IsFirstCoveringFault limits (whole_task d.symbols d.rules ps set) R (moves_of rules pairs drop) f
+IsNodeFault limits d ps set (w.interpretations usable funs lines rules pairs drop) fault.BadUsable = CoversRules d usable → ⊥
+IsNodeFault limits d ps set (w.interpretations usable funs lines rules pairs drop) fault.BadSymbols =
+    CoversRules d usable × ((R : ReadingsData) → SayCovering d ps set funs lines R → ⊥)
+IsNodeFault limits d ps set (w.interpretations usable funs lines rules pairs drop) (fault.Poly f) =
+    CoversRules d usable × (R : ReadingsData) × SayCovering d ps set funs lines R
+    × IsFirstCoveringFault limits (poly_task d ps set usable) R (moves_of rules pairs drop) f
 IsNodeFault limits d ps set (w.order funs lines rules pairs drop) fault.BadSymbols =
     (D : FilteringData) → SayOrdering d ps set funs lines D → ⊥
 IsNodeFault limits d ps set (w.order funs lines rules pairs drop) (fault.Order f) =
@@ -109,11 +112,17 @@ abbrev pub in_excess : ℕ → Excess → CheckFault
 in_excess k excess.Overflow = check.Overflow k
 in_excess k excess.TooLarge = check.TooLarge k
 
+-- what it is called that the rules that are to be covered are not closed
+abbrev pub at_open : ℕ → NotClosed → Rejected
+at_open k (not_closed.Rule r) = row.NotClosedRule k r
+at_open k (not_closed.Pair a) = row.NotClosedPair k a
+
 -- what a fault of a node of interpretations is called
 abbrev pub at_covering : ℕ → CoveringFault → CheckFault
 at_covering k (covered.BadPolynomial f marked) = check.Rejected (row.BadPolynomial k f marked)
 at_covering k covered.BadLines = check.Rejected (row.BadLines k)
 at_covering k covered.BadDrop = check.Rejected (row.BadDrop k)
+at_covering k (covered.NotClosed f) = check.Rejected (at_open k f)
 at_covering k (covered.Rule r (line.Exceeds e)) = in_excess k e
 at_covering k (covered.Rule r (line.Cover f)) = check.Rejected (at_rule k r f)
 at_covering k (covered.Pair a (line.Exceeds e)) = in_excess k e
@@ -143,6 +152,7 @@ at_node k (fault.Subterm (projected.NoProjection f)) = check.Rejected (row.NoPro
 at_node k (fault.Subterm (projected.BadArgument f)) = check.Rejected (row.BadArgument k f)
 at_node k (fault.Subterm projected.BadDrop) = check.Rejected (row.BadDrop k)
 at_node k (fault.Subterm (projected.NotDecreasing a)) = check.Rejected (row.NotDecreasing k a)
+at_node k fault.BadUsable = check.Rejected (row.BadUsable k)
 at_node k fault.BadSymbols = check.Rejected (row.BadSymbols k)
 at_node k (fault.Poly f) = at_covering k f
 at_node k (fault.Order f) = check.Rejected (at_ordering k f)

@@ -15,6 +15,7 @@ ghost use Rattle.wh_ordering.specs.FilteringView.{filtering_data};
 ghost use Rattle.wh_checker.specs.Faults.{IsNodeFault, IsSubtermFault, SayCovering, SayOrdering};
 ghost use Rattle.wh_checker.specs.Walk.{IsReduced, IsSingle};
 ghost use Rattle.wh_proof.specs.GoesOn.{GoesOn};
+ghost use Rattle.wh_proof.specs.Looked.{CoversRules, covered_rules};
 ghost use Rattle.wh_checker.specs.declared.rejected.NodeFault.TheVariants.{NotEmpty};
 
 use crate::rejected::NodeFault;
@@ -26,7 +27,7 @@ use wh_ordering::Filters;
 use wh_orienting::{Inferred, check_ordering};
 use wh_pairs::{Pair, PairList, PairSet, kept};
 use wh_polycheck::Readings;
-use wh_proof::{choices_of, filters_of_lines, marks_of_set, open_blocks, symbols_of};
+use wh_proof::{choices_of, filters_of_lines, marks_of_set, open_blocks, rules_to_cover, symbols_of};
 use wh_reduction::{Task, all_rules};
 use wh_subterm::{SubtermFault, check_projection};
 use wh_system::System;
@@ -141,13 +142,15 @@ fn covered(
     ensures { MatchOr result (λ rest. GoesOn (system_data system.now) (pairs_data pairs.now) set.now (said_poly node.now) [] (rest ∷ []))
         (IsNodeFault with_limits (system_data system.now) (pairs_data pairs.now) set.now (said_poly node.now)) }
 {
+    let Some(rules) = rules_to_cover(alloc, system, &node.usable)? else {
+        return Err(Or::Because(NodeFault::BadUsable));
+    };
     let Some(symbols) = symbols_of(alloc, system, node.funs.as_slice())? else {
         return Err(Or::Because(NodeFault::BadSymbols));
     };
     let Some(marks) = marks_of_set(alloc, system, pairs, set, node.marks.as_slice())? else {
         return Err(Or::Because(NodeFault::BadSymbols));
     };
-    let rules = all_rules(alloc, system)?;
     let task = Task {
         system,
         pairs: pairs.as_slice(),
@@ -161,8 +164,7 @@ fn covered(
     covered_by(alloc, &task, set, node, &readings)
 }
 
-// The same under the readings that its lines say, for a task of the set in which all rules are to be covered: so it is in this
-// version of certificates.
+// The same under the readings that its lines say, for a task of the set with the rules that the node is to cover.
 fn covered_by<'a, 'b>(
     alloc: Global,
     task: &Task<'a>,
@@ -172,7 +174,8 @@ fn covered_by<'a, 'b>(
 ) -> Result<PairSet, Or<NodeFault>>
     requires typed { IsTypedTask (task_data task.now) }
     requires set { task.now.set.now ≡ set.now }
-    requires whole { CoversAll (task_data task.now) }
+    requires covered { task.now.covered.now ≡ covered_rules node.now.usable (length (system_data task.now.system.now).rules) }
+    requires rules { CoversRules (system_data task.now.system.now) node.now.usable }
     requires says { SayCovering (system_data task.now.system.now) (pairs_data task.now.pairs.now) set.now (map said_interp node.now.funs)
         (map said_interp node.now.marks) (readings_data readings.now) }
     ensures { MatchOr result (λ rest. GoesOn (system_data task.now.system.now) (pairs_data task.now.pairs.now) set.now (said_poly node.now)

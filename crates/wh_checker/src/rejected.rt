@@ -1,7 +1,7 @@
 //! Why a certificate is refused.
 
 ghost use Rattle.std.specs.Prelude.{◌≡◌};
-ghost use Rattle.wh_checker.specs.Faults.{at_covering, at_node, at_ordering, at_pair, at_rule, in_excess, of_claim};
+ghost use Rattle.wh_checker.specs.Faults.{at_covering, at_node, at_open, at_ordering, at_pair, at_rule, in_excess, of_claim};
 ghost use Rattle.wh_checker.specs.declared.rejected.NodeFault.TheVariants.{Blocks, Subterm};
 ghost use Rattle.wh_covering.specs.declared.fault.CoveringFault.TheVariants.{Pair, Rule};
 
@@ -12,6 +12,7 @@ use wh_no::NoFault;
 use wh_orienting::OrderingFault;
 use wh_polycheck::CoverFault;
 use wh_subterm::SubtermFault;
+use wh_usable::NotClosed;
 
 /// What is wrong with a node of a YES certificate.
 #[derive(Clone, Copy)]
@@ -29,6 +30,8 @@ pub enum NodeFault {
     Blocks(BlockFault),
     /// Of a node `subterm`.
     Subterm(SubtermFault),
+    /// The list of a node `poly` is not one of rules, each above the one before.
+    BadUsable,
     /// The lines of a node `poly` or `order` are not for all symbols of the system and for the marked symbols of the set, in order.
     BadSymbols,
     /// What else is wrong with a node `poly`.
@@ -103,6 +106,10 @@ pub enum Rejected {
         node: u32,
         pair: u32,
     },
+    /// The list of the rules that are to be covered is not one of rules, each above the one before.
+    BadUsable {
+        node: u32,
+    },
     /// The lines `fun` are not for the symbols of the system, or the lines `mark` not for the marked symbols of the set, in order.
     BadSymbols {
         node: u32,
@@ -113,9 +120,19 @@ pub enum Rejected {
         symbol: u32,
         marked: bool,
     },
-    /// There are not as many lines `rule` as rules, or not as many lines `pair` as pairs of the set.
+    /// There are not as many lines `rule` as rules that are to be covered, or not as many lines `pair` as pairs of the set.
     BadLines {
         node: u32,
+    },
+    /// Not all rules are to be covered, and this is the first of them that is not first-order, or calls a rule that is not one of them.
+    NotClosedRule {
+        node: u32,
+        rule: u32,
+    },
+    /// The same of the first pair of the set.
+    NotClosedPair {
+        node: u32,
+        pair: u32,
     },
     /// This move for this rule is the first that is not between monomials that fit.
     BadMoveRule {
@@ -235,6 +252,7 @@ impl NodeFault {
             NodeFault::Loops { pair } => CheckFault::Rejected(Rejected::Loops { node, pair }),
             NodeFault::Blocks(fault) => in_blocks(node, fault),
             NodeFault::Subterm(fault) => in_subterm(node, fault),
+            NodeFault::BadUsable => CheckFault::Rejected(Rejected::BadUsable { node }),
             NodeFault::BadSymbols => CheckFault::Rejected(Rejected::BadSymbols { node }),
             NodeFault::Poly(fault) => at_covering(node, fault),
             NodeFault::Order(fault) => CheckFault::Rejected(at_ordering(node, fault)),
@@ -282,8 +300,19 @@ fn at_covering(node: u32, fault: CoveringFault) -> CheckFault
         }
         CoveringFault::BadLines => CheckFault::Rejected(Rejected::BadLines { node }),
         CoveringFault::BadDrop => CheckFault::Rejected(Rejected::BadDrop { node }),
+        CoveringFault::NotClosed(fault) => CheckFault::Rejected(at_open(node, fault)),
         CoveringFault::Rule { rule, fault } => in_rule_line(node, rule, fault),
         CoveringFault::Pair { pair, fault } => in_pair_line(node, pair, fault),
+    }
+}
+
+// That the rules that are to be covered are not closed.
+fn at_open(node: u32, fault: NotClosed) -> Rejected
+    ensures { result ≡ at_open node fault }
+{
+    match fault {
+        NotClosed::Rule { rule } => Rejected::NotClosedRule { node, rule },
+        NotClosed::Pair { pair } => Rejected::NotClosedPair { node, pair },
     }
 }
 

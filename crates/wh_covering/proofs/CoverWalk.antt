@@ -17,7 +17,7 @@ use Rattle.wh_polycheck.specs.Small.{Limits, with_limits, StaysWithin, IsSmall}
 use Rattle.wh_covering.specs.CoveringFaults.{IsRightLine, IsReady, IsFirstCoveringFault, right_lines, wrong_lines}
 use Rattle.wh_covering.specs.Lines.{IsFirstOfRules, IsFirstOfPairs}
 use Rattle.wh_covering.specs.declared.fault.CoveringFault.{CoveringFault}
-use Rattle.wh_covering.specs.declared.fault.CoveringFault.TheVariants.{BadPolynomial, BadLines, BadDrop, Rule, Pair}
+use Rattle.wh_covering.specs.declared.fault.CoveringFault.TheVariants.{BadPolynomial, BadLines, BadDrop, NotClosed, Rule, Pair}
 use Rattle.wh_covering.proofs.Walks.{some_at}
 
 module _ (T : TaskData) (R : ReadingsData) (E : Evidence (List Transfer)) where
@@ -31,6 +31,7 @@ module _ (T : TaskData) (R : ReadingsData) (E : Evidence (List Transfer)) where
   rule_fault_first ready (BadPolynomial f marked) h = absurd h
   rule_fault_first ready BadLines h = absurd h
   rule_fault_first ready BadDrop h = absurd h
+  rule_fault_first ready (NotClosed f) h = absurd h
   rule_fault_first ready (Rule r f) h = (ready, h)
   rule_fault_first ready (Pair n f) h = absurd h
 
@@ -39,6 +40,7 @@ module _ (T : TaskData) (R : ReadingsData) (E : Evidence (List Transfer)) where
   pair_fault_first ready right (BadPolynomial f marked) h = absurd h
   pair_fault_first ready right BadLines h = absurd h
   pair_fault_first ready right BadDrop h = absurd h
+  pair_fault_first ready right (NotClosed f) h = absurd h
   pair_fault_first ready right (Rule r f) h = absurd h
   pair_fault_first ready right (Pair n f) h = (ready, right, h)
 
@@ -85,6 +87,7 @@ pub pairs_same : (T : TaskData) (R : ReadingsData) (lines : List (List Transfer)
 pairs_same T R lines ns ms same (BadPolynomial f marked) h = absurd h
 pairs_same T R lines ns ms same BadLines h = absurd h
 pairs_same T R lines ns ms same BadDrop h = absurd h
+pairs_same T R lines ns ms same (NotClosed f) h = absurd h
 pairs_same T R lines ns ms same (Rule r f) h = absurd h
 pairs_same T R lines ns ms same (Pair n f) h =
     first_pair_same (right_lines with_limits T.symbols T.rules R) (wrong_lines with_limits T.symbols T.rules R) T lines ns ms same n f h

@@ -26,8 +26,10 @@ use Rattle.wh_polycheck.specs.Covering.{rule_run, pair_run, CoversSides, IsCover
 use Rattle.wh_polycheck.specs.Small.{Limits, without_limits, with_limits, StaysWithin, IsSmall}
 use Rattle.wh_polycheck.specs.declared.fault.CoverFault.{CoverFault}
 use Rattle.wh_covering.specs.CoveringFaults.{RunExceeds, IsFirstFaultOfMoves, IsFirstLineFault, IsRightLine, IsFirstNotNormal, IsFirstNotNormalMark, IsReady, IsFirstCoveringFault, right_lines, wrong_lines}
+use Rattle.wh_usable.specs.Closed.{IsClosed}
+use Rattle.wh_usable.proofs.Decisions.{closed_or_open}
 use Rattle.wh_covering.specs.declared.fault.CoveringFault.{CoveringFault}
-use Rattle.wh_covering.specs.declared.fault.CoveringFault.TheVariants.{BadPolynomial, BadLines, BadDrop, Rule, Pair}
+use Rattle.wh_covering.specs.declared.fault.CoveringFault.TheVariants.{BadPolynomial, BadLines, BadDrop, NotClosed, Rule, Pair}
 use Rattle.wh_covering.specs.declared.fault.LineFault.{LineFault}
 use Rattle.wh_covering.specs.declared.fault.LineFault.TheVariants as line
 use Rattle.wh_covering.proofs.CoverWalk.{RightRules, RightPairs, covering_holds, small_holds}
@@ -140,7 +142,10 @@ module _ (limits : Limits) (T : TaskData) (R : ReadingsData) (E : Evidence (List
 
   counted_or_fault : AreNormal T.symbols T.rules R → AreCounted T E ⊎ (AreBadLines T E ⊎ ((AreBadLines T E → ⊥) × IsBadDrop T.set E.drop))
       → RightOrFault
-  counted_or_fault normal (inl counted) = lines_or_fault (record { normal = normal; counted = counted })
+  counted_or_fault normal (inl counted) = elim (closed_or_open T) [
+    | inl closed ↦ lines_or_fault (record { normal = normal; counted = counted; closed = closed })
+    | inr (f, first) ↦ inr (NotClosed f, (normal, counted, first))
+  ]
   counted_or_fault normal (inr (inl bad)) = inr (BadLines, (normal, bad))
   counted_or_fault normal (inr (inr (lines, bad))) = inr (BadDrop, (normal, lines, bad))
 
@@ -157,15 +162,16 @@ module _ (limits : Limits) (T : TaskData) (R : ReadingsData) (E : Evidence (List
   right_or_fault = symbols_or_fault first_not_normal
 
 pub covering_or_fault : (T : TaskData) (R : ReadingsData) (E : Evidence (List Transfer)) → AreReadingsFor T R
-    → IsCovering T R E ⊎ ((f : CoveringFault) × IsFirstCoveringFault without_limits T R E f)
+    → (IsCovering T R E × IsClosed T) ⊎ ((f : CoveringFault) × IsFirstCoveringFault without_limits T R E f)
 covering_or_fault T R E readings = elim (right_or_fault without_limits T R E) [
-  | inl (ready, rules, pairs) ↦ inl (covering_holds T R E without_limits ready rules pairs readings)
+  | inl (ready, rules, pairs) ↦ inl (covering_holds T R E without_limits ready rules pairs readings, ready.closed)
   | inr fault ↦ inr fault
 ]
 
 pub small_or_fault : (T : TaskData) (R : ReadingsData) (E : Evidence (List Transfer)) → AreReadingsFor T R
-    → (IsCovering T R E × IsSmall T R) ⊎ ((f : CoveringFault) × IsFirstCoveringFault with_limits T R E f)
+    → (IsCovering T R E × IsClosed T × IsSmall T R) ⊎ ((f : CoveringFault) × IsFirstCoveringFault with_limits T R E f)
 small_or_fault T R E readings = elim (right_or_fault with_limits T R E) [
-  | inl (ready, rules, pairs) ↦ inl (covering_holds T R E with_limits ready rules pairs readings, small_holds T R E ready rules pairs)
+  | inl (ready, rules, pairs) ↦
+      inl (covering_holds T R E with_limits ready rules pairs readings, ready.closed, small_holds T R E ready rules pairs)
   | inr fault ↦ inr fault
 ]

@@ -18,8 +18,10 @@ use Rattle.wh_polycheck.specs.CoverFaults.{IsFirstCoverFault, IsFirstStrictCover
 use Rattle.wh_polycheck.specs.declared.fault.CoverFault.{CoverFault}
 use Rattle.wh_polycheck.specs.Covering.{rule_run, pair_run, CoversSides}
 use Rattle.wh_polycheck.specs.Small.{Limits, without_limits, with_limits, StaysWithin}
+use Rattle.wh_usable.specs.Closed.{IsClosed}
+use Rattle.wh_usable.specs.Open.{IsFirstOpen}
 use Rattle.wh_covering.specs.declared.fault.CoveringFault.{CoveringFault}
-use Rattle.wh_covering.specs.declared.fault.CoveringFault.TheVariants.{BadPolynomial, BadLines, BadDrop, Rule, Pair}
+use Rattle.wh_covering.specs.declared.fault.CoveringFault.TheVariants.{BadPolynomial, BadLines, BadDrop, NotClosed, Rule, Pair}
 use Rattle.wh_covering.specs.declared.fault.LineFault.{LineFault}
 use Rattle.wh_covering.specs.declared.fault.LineFault.TheVariants as line
 
@@ -73,6 +75,7 @@ IsFirstNotNormalMark S rules marks f =
 pub record IsReady (T : TaskData) (R : ReadingsData) (E : Evidence (List Transfer)) : Type 0 where
   pub normal : AreNormal T.symbols T.rules R
   pub counted : AreCounted T E
+  pub closed : IsClosed T
 
 module _ (limits : Limits) (T : TaskData) (R : ReadingsData) where
   -- the first thing wrong with the lines of the rules
@@ -83,13 +86,14 @@ module _ (limits : Limits) (T : TaskData) (R : ReadingsData) where
   abbrev pub IsFirstWrongPair : List (List Transfer) → List ℕ → ℕ → LineFault → Type 0
   IsFirstWrongPair = IsFirstPairFault (right_lines limits T.symbols T.rules R) (wrong_lines limits T.symbols T.rules R) T
 
-  -- the first thing wrong: an interpretation, the numbers of lines, the list of dropped pairs, the rules in order, the pairs of the
-  -- set in order, each line with all its tests before the next (ours)
+  -- the first thing wrong: an interpretation, the numbers of lines, the list of dropped pairs, that the rules are not closed for the
+  -- set, the rules in order, the pairs of the set in order, each line with all its tests before the next (ours)
   abbrev pub IsFirstCoveringFault : Evidence (List Transfer) → CoveringFault → Type 0
   IsFirstCoveringFault E (BadPolynomial f false) = IsFirstNotNormal R.symbols f
   IsFirstCoveringFault E (BadPolynomial f true) = NormalInterpretations R.symbols × IsFirstNotNormalMark T.symbols T.rules R.marks f
   IsFirstCoveringFault E BadLines = AreNormal T.symbols T.rules R × AreBadLines T E
   IsFirstCoveringFault E BadDrop = AreNormal T.symbols T.rules R × (AreBadLines T E → ⊥) × IsBadDrop T.set E.drop
+  IsFirstCoveringFault E (NotClosed f) = AreNormal T.symbols T.rules R × AreCounted T E × IsFirstOpen T f
   IsFirstCoveringFault E (Rule r f) = IsReady T R E × IsFirstWrongRule E.of_rules r f
   IsFirstCoveringFault E (Pair n f) = IsReady T R E
       × ((k : ℕ) → IsRightRule (right_lines limits T.symbols T.rules R) T E.of_rules k)

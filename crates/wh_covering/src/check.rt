@@ -13,6 +13,7 @@ ghost use Rattle.wh_polycheck.specs.ReadingsView.{readings_data};
 ghost use Rattle.wh_polycheck.specs.Small.{IsSmall, with_limits};
 ghost use Rattle.wh_covering.specs.CoveringFaults.{IsFirstCoveringFault, IsReady, right_lines};
 ghost use Rattle.wh_covering.specs.EvidenceView.{evidence_data};
+ghost use Rattle.wh_usable.specs.Closed.{IsClosed};
 
 use crate::dropping::sorted;
 use crate::evidence::Evidence;
@@ -25,14 +26,16 @@ use wh_pairs::is_bad_drop;
 use wh_polycheck::{Readings, interpretations_in_order_interpret};
 use wh_reduction::Task;
 use wh_types::Or;
+use wh_usable::check_closed;
 
 /// Whether readings and moves let the dropped pairs go from the set (the reduction pair processor of Kop 2012 with the polynomials
 /// of Fuhs and Kop 2012, in the form of this project).
 ///
 /// The readings are of the system's symbols and of the marked symbols of the set, each by a polynomial that must be normal in the
 /// scope of its arguments. There must be a line of moves for each rule that is to be covered and for each pair of the set, and
-/// the list of dropped pairs must have some pairs of the set, each once. Then each line must show that the left side of its rule or
-/// pair is at least the right one, and that it is greater where the pair is dropped.
+/// the list of dropped pairs must have some pairs of the set, each once. The rules that are to be covered must be closed for the set.
+/// Then each line must show that the left side of its rule or pair is at least the right one, and that it is greater where the pair is
+/// dropped.
 ///
 /// `Err` names the first condition that fails, in this order: of the symbols, the marks, the rules and the pairs of the set the
 /// first one, and of a line first that a value in the evaluation of a side exceeds a limit. Each side is evaluated once. A line of
@@ -44,8 +47,10 @@ pub fn check_covering<'a, 'b, 'c>(
     evidence: &Evidence<'c>,
 ) -> Result<(), Or<CoveringFault>>
     requires task { IsTypedTask (task_data task.now) }
+    requires increasing { IsIncreasing (task_data task.now).covered }
     requires readings { AreReadingsFor (task_data task.now) (readings_data readings.now) }
     ensures covering { OnOk result (IsCovering (task_data task.now) (readings_data readings.now) (evidence_data evidence.now)) }
+    ensures closed { OnOk result (IsClosed (task_data task.now)) }
     ensures small { OnOk result (IsSmall (task_data task.now) (readings_data readings.now)) }
     ensures fault { IfBecause result (IsFirstCoveringFault with_limits (task_data task.now) (readings_data readings.now)
         (evidence_data evidence.now)) }
@@ -64,7 +69,8 @@ fn check_ready<'a, 'b, 'c>(
     evidence: &Evidence<'c>,
 ) -> Result<(), Or<CoveringFault>>
     requires few { length readings.now.symbols.now ≤ 2 ^ 32 }
-    requires increasing { IsIncreasing task.now.set.now }
+    requires task { IsTask (task_data task.now) }
+    requires increasing { IsIncreasing (task_data task.now).covered }
     ensures { MatchOr result (λ _. IsReady (task_data task.now) (readings_data readings.now) (evidence_data evidence.now))
         (IsFirstCoveringFault with_limits (task_data task.now) (readings_data readings.now) (evidence_data evidence.now)) }
 {
@@ -85,6 +91,9 @@ fn check_ready<'a, 'b, 'c>(
     }
     if is_bad_drop(task.set, evidence.drop) {
         return Err(Or::Because(CoveringFault::BadDrop));
+    }
+    if let Err(fault) = check_closed(task) {
+        return Err(Or::Because(CoveringFault::NotClosed(fault)));
     }
     Ok(())
 }

@@ -2,6 +2,7 @@
 
 use wh_hopoly::Excess;
 use wh_polycheck::CoverFault;
+use wh_usable::NotClosed;
 
 /// What is wrong first with a node of interpretations on a set of pairs, once its names are looked up. Symbols, rules and pairs are
 /// told by their numbers.
@@ -18,6 +19,8 @@ pub enum CoveringFault {
     BadLines,
     /// The list of dropped pairs is empty, has one twice, or one that is not of the set.
     BadDrop,
+    /// The rules that are to be covered are not closed for the set.
+    NotClosed(NotClosed),
     /// What is wrong with the line of this rule.
     Rule {
         /// The rule.

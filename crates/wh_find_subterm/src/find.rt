@@ -4,6 +4,8 @@ ghost use Rattle.std.specs.Prelude.{◌≢◌, ◌≡◌, ◌+◌, ◌<◌, ◌^
 ghost use Rattle.wh_pairs.specs.PairData.{IsIncreasing, pair_data};
 ghost use Rattle.wh_system.specs.SystemView.{system_data};
 ghost use Rattle.wh_subterm.specs.SubtermRows.{chosen};
+ghost use Rattle.wh_sat_trail.specs.Propagation.{Within};
+ghost use Rattle.wh_find_subterm.specs.Formula.{IsProjections};
 ghost use Rattle.wh_find_subterm.specs.Found.{IsAnswer};
 ghost use Rattle.wh_find_subterm.specs.Reading.{IsBelowSet, chosen_by};
 
@@ -13,6 +15,7 @@ use crate::rows::{Row, rows_of};
 use std::alloc::{AllocError, Global};
 use wh_pairs::{Pair, PairList, PairSet, marked_symbols};
 use wh_sat::{Outcome, Search, solve_owned};
+use wh_sat_trail::Formula;
 use wh_subterm::Projection;
 use wh_system::System;
 
@@ -57,6 +60,24 @@ pub fn find_projection(
         Outcome::Unsat => Ok(Search::Nothing),
         Outcome::Spent(learnt) => Ok(Search::Spent(learnt)),
     }
+}
+
+/// The formula that the search for a projection of the set asks the solver: its models are the projections that let a pair go
+/// (`models_are_projections`, `projections_are_models`). The error is want of memory.
+pub fn projection_formula(
+    alloc: Global,
+    system: &System,
+    pairs: &PairList,
+    set: &PairSet,
+) -> Result<Formula, AllocError>
+    requires { All (λ n. n < length pairs.now) set.now }
+    ensures formula { IfOk result (λ made.
+        IsProjections (system_data system.now).rules (map pair_data pairs.now) set.now made.variables made.clauses) }
+    ensures within { IfOk result (λ made. Within made.variables made.clauses) }
+{
+    let symbols = marked_symbols(alloc, pairs, set)?;
+    let rows = rows_of(alloc, system, &symbols)?;
+    formula_of(alloc, &rows, pairs.as_slice(), set.as_slice())
 }
 
 // The projection that a model says, with the pairs that are below under it.

@@ -9,5 +9,5 @@ mod laws;
 mod reading;
 mod rows;
 
-pub use find::{ProjectionFound, find_projection};
+pub use find::{ProjectionFound, find_projection, projection_formula};
 pub use laws::{formula_is_one, models_are_projections, projections_are_models};

@@ -1,5 +1,5 @@
 -- The node of readings under which all lines are found.
-use Rattle.std.proofs.Common.{◌≡◌, ◌≢◌, ℕ, ◌+◌, Result, IfOk, ap, sym, subst, ◌<◌, ◌≤◌, ◌^◌, inl, inr, true, false, List, [], length, map, All, Contains, refl, arith}
+use Rattle.std.proofs.Common.{◌≡◌, ◌≢◌, ℕ, ◌+◌, Result, IfOk, ap, sym, subst, ◌<◌, ◌≤◌, ◌^◌, inl, inr, true, false, None, List, [], length, map, All, Contains, refl, arith}
 use Rattle.std.specs.declared.alloc.AllocError.{AllocError}
 use Rattle.std.proofs.lemmas.List.{length-map}
 use Rattle.std.proofs.lemmas.List.Elements.{All-contains}
@@ -105,6 +105,7 @@ module _ (d : SystemData) (ps : List PairData) (set : List ℕ) (R : ReadingsDat
       pair_count = are.pair_lines.count;
       good_drop = good_drop set drop some are.pair_lines.increasing are.pair_lines.within;
     };
+    closed = inl refl;
   }
 
   right_rules : (k : ℕ) → IsRightRule (right_lines with_limits T.symbols T.rules R) T (map transfers rules) k
@@ -147,9 +148,10 @@ module _ (d : SystemData) (ps : List PairData) (set : List ℕ) (R : ReadingsDat
       let below = slice_get_within d.fun_names (m.0).symbol name named in omega (arith, below, m.2)) in
       omega (arith, short, length-map R.marks (λ (m : Mark). m.symbol))
 
-  fits : NodeFits (w.interpretations funs mark_lines rules pairs drop)
+  fits : NodeFits (w.interpretations None funs mark_lines rules pairs drop)
   fits =
       let narrow = all_narrow d.symbols.sorts d.symbols.funs made.symbol_types in (
+        tt,
         symbols_fit d.fun_names d.symbols.funs funs R.symbols says made.fun_names_spelled narrow are.of_space.symbols_of_space,
         marks_fit d mark_lines R.marks says_marks made.fun_names_spelled narrow are.of_space.marks_of_space,
         all_fit rules some_rules,
@@ -157,12 +159,13 @@ module _ (d : SystemData) (ps : List PairData) (set : List ℕ) (R : ReadingsDat
         all_from_members IsSmall drop (λ n found. let below = drop_below n found in omega (arith, below, few)),
       )
 
-  within : NodeWithin (2 ^ 32) (w.interpretations funs mark_lines rules pairs drop)
+  within : NodeWithin (2 ^ 32) (w.interpretations None funs mark_lines rules pairs drop)
   within =
       let named = made.symbols_named in
       let symbols_few = made.symbols_within in
       let set_few = few_increasing set (length ps) are.task.increasing (λ n found. All-contains (λ n. n < length ps) set n are.task.within found) in
       let drop_few = few_increasing drop (length ps) are.pair_lines.increasing drop_below in (
+        tt,
         omega (arith, as_many_symbols d.fun_names d.symbols.funs funs R.symbols says, named, symbols_few),
         omega (arith, as_many_marks d mark_lines R.marks says_marks, marks_few, named, symbols_few),
         all_few rules some_rules,
@@ -172,7 +175,7 @@ module _ (d : SystemData) (ps : List PairData) (set : List ℕ) (R : ReadingsDat
         omega (arith, drop_few, few),
       )
 
-  pub interpretation_found : IsInterpretation d ps set (w.interpretations funs mark_lines rules pairs drop)
+  pub interpretation_found : IsInterpretation d ps set (w.interpretations None funs mark_lines rules pairs drop)
   interpretation_found = record {
     readings = R;
     evidence = E;
@@ -184,6 +187,7 @@ module _ (d : SystemData) (ps : List PairData) (set : List ℕ) (R : ReadingsDat
     pairs_apart = all_apart (map transfers pairs) some_pairs;
     increasing = are.pair_lines.increasing;
     all_strict = λ i n p ms at pair there strict. (are.pair_lines.each i n ms at there p pair).1.1 strict;
+    version = refl;
     fits = fits;
     within = within;
   }

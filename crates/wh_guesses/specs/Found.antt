@@ -9,7 +9,7 @@ use Rattle.wh_polycheck.specs.Readings.{ReadingsData}
 use Rattle.wh_polycheck.specs.Covering.{pair_run, IsCovering}
 use Rattle.wh_polycheck.specs.Small.{IsSmall}
 use Rattle.wh_cert.specs.Written as w
-use Rattle.wh_cert.specs.Limits.{NodeFits, NodeWithin}
+use Rattle.wh_cert.specs.Limits.{NodeFits, NodeWithin, IsOfVersion}
 use Rattle.wh_proof.specs.Nodes.{poly}
 use Rattle.wh_proof.specs.Looked.{SaysNode}
 use Rattle.wh_find_moves.specs.Found.{AreApart}
@@ -42,6 +42,7 @@ pub record IsInterpretation (d : SystemData) (ps : List PairData) (set : List â„
   pub pairs_apart : All AreApart evidence.of_pairs
   pub increasing : IsIncreasing evidence.drop
   pub all_strict : DropsAllStrict (task_of d ps set) readings evidence
-  -- the node is within the limits of certificates
+  -- it lists no rules, so that all are to be covered, and is within the limits of certificates
+  pub version : IsOfVersion 1 line
   pub fits : NodeFits line
   pub within : NodeWithin (2 ^ 32) line

@@ -102,6 +102,7 @@ fn node_with<'a, 'b>(
     let marks = lines_of_marks(alloc, names, readings.marks)?;
     let PairLines { lines, drop } = found;
     let node = PolyNode {
+        usable: None,
         funs,
         marks,
         rules,

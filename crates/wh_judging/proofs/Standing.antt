@@ -19,7 +19,7 @@ use Rattle.wh_answer.specs.declared.report.ReasonWord.TheVariants.{TooManyPairs}
 use Rattle.wh_answer.specs.declared.report.NamedRejection.TheVariants.{Syntax}
 use Rattle.wh_answer.specs.declared.report.Report.{Report}
 use Rattle.wh_answer.specs.declared.report.Report.TheVariants.{Yes, No, Rejected, Refused, ReadFault, TooLong, Overflow, TooLarge}
-use Rattle.wh_judging.specs.Outcomes.{Shelves, Told, AreWithin, IsSystemIn, IsProblemIn, ToldSystem, ToldCert, Certified, Weighed, Judged, Checked, IsRefusedFor, StandsBySystem, Stands}
+use Rattle.wh_judging.specs.Outcomes.{Shelves, Told, AreWithin, IsSystemIn, IsProblemIn, ToldSystem, ToldCert, Certified, Weighed, Judged, Checked, IsRefusedText, StandsByText, StandsBySystem, ToldText, Stands}
 use Rattle.wh_judging.specs.Rows.{reason_of}
 use Rattle.wh_judging.specs.Unread.{CertificateFault, RefusedBy}
 
@@ -42,14 +42,14 @@ too_many_stand s file d o is same many = subst (λ o. StandsBySystem s file o) (
 
 -- what the bytes of the system file are refused for is told of the file
 refusal_stands : (s : Shelves) (file bytes : List ℕ) (r : refusal.Refused) → Told (s.held file) (AreWithin system_limit bytes)
-    → Refuses bytes r → StandsBySystem s file (Refused (reason_of r.reason) r.at)
+    → Refuses bytes r → StandsByText s file (Refused (reason_of r.reason) r.at)
 refusal_stands s file bytes r is refuses = by r.reason refl
   where
     told : (word : Reason) → word ≡ r.reason
         → Told (s.held file) (λ held. (length held ≤ system_limit) × (why : refusal.Refused) × (reason_of word ≡ reason_of why.reason) × (r.at ≡ why.at) × Refuses held why)
     told word same held h = ((is held h).1, r, ap reason_of same, refl, subst (λ b. Refuses b r) (is held h).0 refuses)
 
-    by : (word : Reason) → word ≡ r.reason → IsRefusedFor (s.held file) (reason_of word) r.at
+    by : (word : Reason) → word ≡ r.reason → IsRefusedText (s.held file) (reason_of word) r.at
     by BadByte same = told BadByte same
     by word same = told word same
 
@@ -57,17 +57,27 @@ refusal_stands s file bytes r is refuses = by r.reason refl
 pub read_stands : {T : Type 0} (s : Shelves) (file bytes : List ℕ) (said : T → SystemData) (r : Result T (Or refusal.Refused))
     (o : Result T (Or Report)) → Told (s.held file) (AreWithin system_limit bytes) → IfOk r (λ x. Reads bytes (said x))
     → IfBecause r (Refuses bytes) → MatchResult r (λ x. o ≡ Ok x) (λ e. IsErrAnd o (RefusedBy e))
-    → MatchOr o (λ x. IsSystemIn (s.held file) (said x)) (StandsBySystem s file)
+    → MatchOr o (λ x. IsSystemIn (s.held file) (said x)) (StandsByText s file)
 read_stands s file bytes said (Ok x) o is reads refuses same =
-    subst (λ p. MatchOr p (λ x. IsSystemIn (s.held file) (said x)) (StandsBySystem s file)) (sym same)
+    subst (λ p. MatchOr p (λ x. IsSystemIn (s.held file) (said x)) (StandsByText s file)) (sym same)
     (λ held h. ((is held h).1, subst (λ b. Reads b (said x)) (is held h).0 reads))
 read_stands {T} s file bytes said (Err NoMemory) (Err e) is reads refuses same =
-    subst (λ e. MatchOr {T = T} (Err e) (λ x. IsSystemIn (s.held file) (said x)) (StandsBySystem s file)) (sym same) tt
+    subst (λ e. MatchOr {T = T} (Err e) (λ x. IsSystemIn (s.held file) (said x)) (StandsByText s file)) (sym same) tt
 read_stands {T} s file bytes said (Err (Because r)) (Err e) is reads refuses same =
-    subst (λ e. MatchOr {T = T} (Err e) (λ x. IsSystemIn (s.held file) (said x)) (StandsBySystem s file)) (sym same)
+    subst (λ e. MatchOr {T = T} (Err e) (λ x. IsSystemIn (s.held file) (said x)) (StandsByText s file)) (sym same)
     (refusal_stands s file bytes r is refuses)
 read_stands s file bytes said (Err NoMemory) (Ok x) is reads refuses same = absurd same
 read_stands s file bytes said (Err (Because r)) (Ok x) is reads refuses same = absurd same
+
+-- what the text of the file decides, the file decides
+pub text_stands : (s : Shelves) (file : List ℕ) (o : Report) → StandsByText s file o → StandsBySystem s file o
+text_stands s file (Refused TooManyPairs at) stands = absurd stands
+text_stands s file (Refused word at) stands = stands
+text_stands s file o stands = stands
+
+-- a system that is read is one of which P holds
+pub text_told : (held : Option (List ℕ)) (d : SystemData) (P : SystemData → Type 0) → IsSystemIn held d → P d → ToldText held P
+text_told held d P is p bytes h = ((is bytes h).0, d, (is bytes h).1, p)
 
 rose_before : (before mid after : ℕ) → before ≤ mid → Rose mid after → Rose before after
 rose_before before mid after low rose = omega (arith, low, rose)

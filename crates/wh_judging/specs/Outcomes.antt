@@ -50,6 +50,10 @@ IsSystemIn held d = Told held (λ bytes. (length bytes ≤ system_limit) × Read
 abbrev pub IsProblemIn : Option (List ℕ) → SystemData → List PairData → Type 0
 IsProblemIn held d ps = IsSystemIn held d × HasPairs d ps
 
+-- the file is a text of a system of which P holds
+abbrev pub ToldText : Option (List ℕ) → (SystemData → Type 0) → Type 0
+ToldText held P = Told held (λ bytes. (length bytes ≤ system_limit) × (d : SystemData) × Reads bytes d × P d)
+
 -- the file is a text of a system with few enough pairs, and P holds of the system and its pairs
 abbrev pub ToldSystem : Option (List ℕ) → (SystemData → List PairData → Type 0) → Type 0
 ToldSystem held P =
@@ -89,20 +93,30 @@ abbrev pub Judged : SystemData → List PairData → List ℕ → Report → Typ
 Judged d ps bytes (Rejected (Syntax at)) = FaultAt bytes at
 Judged d ps bytes o = (c : Cert) × CertText bytes c × Weighed d ps c o
 
--- why there is no system in the file: its bytes are no text of one, or the system has too many pairs
+-- why there is no system in the file: its bytes are no text of one; of pairs nothing is said
+abbrev pub IsRefusedText : Option (List ℕ) → ReasonWord → ℕ → Type 0
+IsRefusedText held reason.TooManyPairs at = ⊥
+IsRefusedText held word at =
+    Told held (λ bytes. (length bytes ≤ system_limit) × (r : refusal.Refused) × (word ≡ reason_of r.reason) × (at ≡ r.at) × Refuses bytes r)
+
+-- why there is no system with few enough pairs in it: its bytes are no text of one, or the system has too many pairs
 abbrev pub IsRefusedFor : Option (List ℕ) → ReasonWord → ℕ → Type 0
 IsRefusedFor held reason.TooManyPairs at =
     (at ≡ 0) × Told held (λ bytes. (length bytes ≤ system_limit) × (d : SystemData) × Reads bytes d × HasTooManyPairs d)
-IsRefusedFor held word at =
-    Told held (λ bytes. (length bytes ≤ system_limit) × (r : refusal.Refused) × (word ≡ reason_of r.reason) × (at ≡ r.at) × Refuses bytes r)
+IsRefusedFor held word at = IsRefusedText held word at
 
--- when the answers come that the system file alone decides: its fault, then its length, then why it is no system, then that
--- it has too many pairs
+-- when the answers come that the system file alone decides before its pairs are asked for: its fault, then its length, then why it is
+-- no system
+abbrev pub StandsByText : Shelves → List ℕ → Report → Type 0
+StandsByText s file (ReadFault System) = Rose (s.before file) (s.after file)
+StandsByText s file (TooLong System) = Told (s.held file) (λ bytes. system_limit < length bytes)
+StandsByText s file (Refused word at) = IsRefusedText (s.held file) word at
+StandsByText s file _ = ⊥
+
+-- when the answers come that it alone decides: these, then that the system has too many pairs
 abbrev pub StandsBySystem : Shelves → List ℕ → Report → Type 0
-StandsBySystem s file (ReadFault System) = Rose (s.before file) (s.after file)
-StandsBySystem s file (TooLong System) = Told (s.held file) (λ bytes. system_limit < length bytes)
 StandsBySystem s file (Refused word at) = IsRefusedFor (s.held file) word at
-StandsBySystem s file _ = ⊥
+StandsBySystem s file o = StandsByText s file o
 
 -- P holds of a certificate, whose text the file is where its bytes are told
 abbrev pub Certified : Option (List ℕ) → (Cert → Type 0) → Type 0

@@ -8,7 +8,7 @@ ghost use Rattle.wh_system.specs.SystemView.{system_data};
 ghost use Rattle.wh_pairs.specs.SystemPairs.{HasPairs, HasTooManyPairs};
 ghost use Rattle.wh_answer.specs.declared.report.ReasonWord.TheVariants as reason;
 ghost use Rattle.wh_answer.specs.declared.report.Report.TheVariants.{Refused as refused_answer};
-ghost use Rattle.wh_judging.specs.Outcomes.{AreWithin, IsProblemIn, IsSystemIn, StandsBySystem, Told, UnreadBy, outside};
+ghost use Rattle.wh_judging.specs.Outcomes.{AreWithin, IsProblemIn, IsSystemIn, StandsBySystem, StandsByText, Told, UnreadBy, outside};
 ghost use Rattle.wh_judging.specs.Rows.{reason_of};
 ghost use Rattle.wh_judging.specs.Unread.{CertificateFault, RefusedBy};
 ghost use Rattle.wh_pairs.specs.Views.{pairs_data};
@@ -63,10 +63,10 @@ pub fn pairs_of(alloc: Global, system: &System) -> Result<PairList, Or<Report>>
     }
 }
 
-// The system of which the file of that name is a text, or why there is none.
-fn system_in<S: Shelf>(alloc: Global, shelf: &mut S, file: &str) -> Result<System, Or<Report>>
+/// The system of which the file of that name is a text, or why there is none. Of its pairs nothing is asked.
+pub fn system_in<S: Shelf>(alloc: Global, shelf: &mut S, file: &str) -> Result<System, Or<Report>>
     ensures read { MatchOr result (λ system. IsSystemIn (S.held shelf.old file.now) (system_data system))
-        (StandsBySystem (outside (S.held shelf.old) (S.faults shelf.old) (S.faults shelf.new)) file.now) }
+        (StandsByText (outside (S.held shelf.old) (S.faults shelf.old) (S.faults shelf.new)) file.now) }
     ensures later { (other : List ℕ) → S.faults shelf.old other ≤ S.faults shelf.new other }
     ensures kept { (other : List ℕ) → S.held shelf.new other ≡ S.held shelf.old other }
 {

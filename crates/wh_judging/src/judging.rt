@@ -78,8 +78,12 @@ fn judge(alloc: Global, problem: &Problem, bytes: &[u8]) -> Result<Report, Alloc
     }
 }
 
-// What a certificate that was read comes to.
-fn weigh(alloc: Global, problem: &Problem, certificate: &Certificate) -> Result<Report, AllocError>
+/// What a certificate that was read comes to, for a system with its pairs: that it is accepted, or why it is not, with names.
+pub fn weigh(
+    alloc: Global,
+    problem: &Problem,
+    certificate: &Certificate,
+) -> Result<Report, AllocError>
     requires certificate { IsCert (said certificate.now) }
     requires pairs { HasPairs (system_data problem.now.system) (pairs_data problem.now.pairs) }
     ensures { IfOk result (Weighed (system_data problem.now.system) (pairs_data problem.now.pairs) (said certificate.now)) }

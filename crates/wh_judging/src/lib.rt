@@ -7,7 +7,7 @@ mod judging;
 mod rejection;
 mod status;
 
-pub use files::{CERTIFICATE_LIMIT, Problem, pairs_of, problem_in};
-pub use judging::{check_files, show_file};
+pub use files::{CERTIFICATE_LIMIT, Problem, certificate_in, pairs_of, problem_in, system_in};
+pub use judging::{check_files, show_file, weigh};
 pub use rejection::meta_name;
 pub use status::{Status, status_of};

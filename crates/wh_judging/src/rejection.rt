@@ -62,6 +62,7 @@ pub fn named_rejection(
         Rejected::BadArgs { node } => NamedRejection::BadArgs { node },
         Rejected::BadDrop { node } => NamedRejection::BadDrop { node },
         Rejected::NotDecreasing { node, pair } => NamedRejection::NotDecreasing { node, pair },
+        Rejected::BadUsable { node } => NamedRejection::BadUsable { node },
         Rejected::BadSymbols { node } => NamedRejection::BadSymbols { node },
         Rejected::BadLines { node } => NamedRejection::BadLines { node },
         Rejected::BadMoveRule { node, rule, entry } => NamedRejection::BadMoveRule {
@@ -110,6 +111,8 @@ pub fn named_rejection(
             pair,
             monomial,
         },
+        Rejected::NotClosedRule { node, rule } => NamedRejection::NotClosedRule { node, rule },
+        Rejected::NotClosedPair { node, pair } => NamedRejection::NotClosedPair { node, pair },
         Rejected::TooWideRule { node, rule } => NamedRejection::TooWideRule { node, rule },
         Rejected::TooWidePair { node, pair } => NamedRejection::TooWidePair { node, pair },
         Rejected::BadInferenceRule { node, rule, entry } => NamedRejection::BadInferenceRule {

@@ -62,7 +62,7 @@ itself_covered : (j i : ℕ) → Covered itself (unit_from i ∷ []) j
 itself_covered zero i c us at = let e : 1 ≡ c = at.0 in omega arith
 itself_covered (suc j) i c us never = absurd never
 
-itself_covers : IsCover itself itself (unit_from 0 ∷ [])
+pub itself_covers : IsCover itself itself (unit_from 0 ∷ [])
 itself_covers = record {
   good = λ m there. subst (Good itself itself) (in_one (unit_from 0) m there) itself_good;
   not_over_spent = itself_not_over_spent;
@@ -109,11 +109,11 @@ one_more_covers = record {
 
 -- what the moves show
 
-abbrev shows : Showing (List Transfer)
+abbrev pub shows : Showing (List Transfer)
 shows = by_moves identity_symbols identity_system.rules readings
 
 -- what is shown of one rule by its line
-right_line : (u r : RewriteRule) (k ms : List Transfer) → u ≡ r → k ≡ ms → shows.rule u k → shows.rule r ms
+pub right_line : (u r : RewriteRule) (k ms : List Transfer) → u ≡ r → k ≡ ms → shows.rule u k → shows.rule r ms
 right_line u r k ms rule line right = subst₂ (λ (r : RewriteRule) (ms : List Transfer). shows.rule r ms) rule line right
 
 rules_covered : (i : ℕ) → IsRightRule shows count_task count_moves.of_rules i

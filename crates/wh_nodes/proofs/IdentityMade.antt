@@ -27,13 +27,13 @@ metas_over =
 
 -- types of the sides
 
-number_typed : Typed identity_symbols identity_metas [] number nat
+pub number_typed : Typed identity_symbols identity_metas [] number nat
 number_typed = typed_meta refl typed_none refl
 
 next_typed : Typed identity_symbols identity_metas [] next_number nat
 next_typed = typed_app (typed_fun refl) number_typed
 
-same_typed : Typed identity_symbols identity_metas [] same_number nat
+pub same_typed : Typed identity_symbols identity_metas [] same_number nat
 same_typed = typed_app (typed_fun refl) number_typed
 
 -- rules

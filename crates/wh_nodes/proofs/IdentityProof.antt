@@ -13,11 +13,12 @@ use Rattle.wh_pairs.proofs.MemberLemmas.{none_there, at_head, behind}
 use Rattle.wh_graph.specs.May.{Follows}
 use Rattle.wh_graph.specs.Components.{StandsAt, IsIn, Partition}
 use Rattle.wh_graph.specs.Blocks.{AreBlocks}
+use Rattle.wh_usable.specs.Closed.{IsUsable}
 use Rattle.wh_proof.specs.Nodes.{no_sets, more_sets, by_done, by_alone, by_blocks, by_poly}
 use Rattle.wh_pairs.specs.Sets.{IsSetOf, IsKept}
 use Rattle.wh_proof.specs.Proves.{Proves, all_proved, one_proved}
 use Rattle.wh_nodes.specs.MapSystem.{nat}
-use Rattle.wh_nodes.specs.IdentitySystem.{unary, identity_symbols, identity_rule, count_rule, identity_system, count_pair, call_pair, identity_pairs, identity_nodes}
+use Rattle.wh_nodes.specs.IdentitySystem.{unary, identity_symbols, identity_rule, count_rule, identity_system, count_pair, call_pair, identity_pairs, count_task, identity_nodes}
 use Rattle.wh_pairs.proofs.FewLemmas.{in_one, get_one, each_of_two, get_two}
 use Rattle.wh_nodes.proofs.IdentityCovers.{count_covering}
 
@@ -81,7 +82,7 @@ identity_pairs_are =
 left_symbol : (n : ℕ) (p : PairData) → slice_get identity_pairs n ≡ Some p → 2 ≡ p.left_fun
 left_symbol = get_two (λ n p. 2 ≡ p.left_fun) count_pair call_pair refl refl
 
-none_follows : (b : ℕ) → Follows identity_system.rules identity_pairs 1 b → ⊥
+pub none_follows : (b : ℕ) → Follows identity_system.rules identity_pairs 1 b → ⊥
 none_follows b (x, y, at, also, may) =
     let same : call_pair ≡ x = cc in
     let right : 1 ≡ x.right_fun = ap (λ (p : PairData). p.right_fun) same in
@@ -118,7 +119,7 @@ apart = record {
 only_later : (i j a : ℕ) → i < j → j ≡ a → Contains (0 ∷ 1 ∷ []) a → a ≡ 1
 only_later i j a less is inside = each_of_two (λ n. i < n → n ≡ 1) 0 1 (λ never. absurd (omega arith)) (λ _. refl) a inside (omega arith)
 
-blocks_are : AreBlocks (Follows identity_system.rules identity_pairs) (0 ∷ 1 ∷ []) block_list
+pub blocks_are : AreBlocks (Follows identity_system.rules identity_pairs) (0 ∷ 1 ∷ []) block_list
 blocks_are = record {
   enough = omega arith;
   filled = λ there. each_of_two (λ block. block ≡ [] → ⊥) (0 ∷ []) (1 ∷ []) (λ e. absurd (cc)) (λ e. absurd (cc)) [] there refl;
@@ -133,19 +134,27 @@ blocks_are = record {
 
 -- nodes
 
-one_set : (n : ℕ) → IsSetOf (Contains (n ∷ [])) (n ∷ [])
+pub one_set : (n : ℕ) → IsSetOf (Contains (n ∷ [])) (n ∷ [])
 one_set n = record { increasing = tt; each = λ m. (λ there. there, λ there. there) }
 
-none_kept : IsSetOf (IsKept (0 ∷ []) (0 ∷ [])) []
+pub none_kept : IsSetOf (IsKept (0 ∷ []) (0 ∷ [])) []
 none_kept = record {
   increasing = tt;
   each = λ n. ((λ never. absurd (none_there n never)), (λ (there, kept). absurd (kept there)));
 }
 
+-- both rules are to be covered
+count_usable : IsUsable count_task
+count_usable = record {
+  increasing = (omega arith, tt);
+  are_rules = All-from_recursion (λ n. n < 2) (0 ∷ 1 ∷ []) (omega arith, (omega arith, tt));
+  closed = inl refl;
+}
+
 pub identity_proved : Proves identity_symbols identity_system.rules identity_pairs ((0 ∷ 1 ∷ []) ∷ []) identity_nodes
 identity_proved =
     one_proved (by_blocks blocks_are (more_sets (one_set 0) (more_sets (one_set 1) no_sets)))
-    (one_proved (by_poly count_covering refl none_kept) (one_proved by_done (one_proved (by_alone (none_follows 1)) all_proved)))
+    (one_proved (by_poly count_covering count_usable none_kept) (one_proved by_done (one_proved (by_alone (none_follows 1)) all_proved)))
 
 -- the set has all pairs
 pub both_pairs : (n : ℕ) → n < length identity_pairs → Contains (0 ∷ 1 ∷ []) n

@@ -15,4 +15,5 @@ pub mod MapLaws
 pub mod IdentityMade
 pub mod IdentityCovers
 pub mod IdentityProof
+pub mod IdentityListed
 pub mod IdentityLaws

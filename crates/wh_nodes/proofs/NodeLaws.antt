@@ -10,7 +10,7 @@ use Rattle.wh_pairs.proofs.MemberLemmas.{none_there, at_head, behind, head_or_be
 use Rattle.wh_calls.specs.MarkedCalls.{CallsEnd}
 use Rattle.wh_reduction.specs.TaskData.{task_over, whole_task}
 use Rattle.wh_polycheck.specs.Covering.{HaveTypedSides}
-use Rattle.wh_meaning.proofs.CoverLaws.{covering_ends}
+use Rattle.wh_usable_calls.proofs.UsableCovers.{usable_ends}
 use Rattle.wh_descent.specs.PatternSides.{HaveKnownSorts, HavePatternSides}
 use Rattle.wh_descent.proofs.OrderedCalls.{ordering_ends}
 use Rattle.wh_proof.specs.Nodes.{Node, AreSetsOf, more_sets, Leaves, by_done, by_alone, by_blocks, by_subterm, by_poly, by_order}
@@ -56,8 +56,8 @@ module _ (S : Symbols) (rules : List RewriteRule) (pairs : List PairData) (made 
       blocks_end S rules pairs set parts (may_sound-step S rules made) are (block_sets_end S rules pairs parts sets sets_are all)
   node_keeps (by_subterm {set = set} {drop = drop} {rest = rest} {args = args} is kept) all =
       subterm_ends S rules pairs set drop rest args (steps_pass rules) is kept (all rest (at_head [] rest))
-  node_keeps (by_poly {set = set} {covered = covered} {rest = rest} {R = R} {E = E} is whole kept) all =
-      covering_ends (task_over S rules pairs set covered) R E is made typed whole rest kept (all rest (at_head [] rest))
+  node_keeps (by_poly {set = set} {covered = covered} {rest = rest} {R = R} {E = E} is usable kept) all =
+      usable_ends (task_over S rules pairs set covered) R E is made typed usable rest kept (all rest (at_head [] rest))
   node_keeps (by_order {set = set} {rest = rest} {D = D} {E = E} is kept) all =
       ordering_ends (whole_task S rules pairs set) D E is made sorts typed patterns refl rest kept (all rest (at_head [] rest))
 

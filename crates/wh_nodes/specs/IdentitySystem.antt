@@ -119,3 +119,18 @@ count_task = task_over identity_symbols identity_system.rules identity_pairs (0 
 abbrev pub identity_nodes : List Node
 identity_nodes =
     blocks ((0 ∷ []) ∷ (1 ∷ []) ∷ []) ∷ poly count_task.covered readings count_moves ∷ done ∷ alone ∷ []
+
+-- or the node lists the rule of i alone, which is all that the first pair calls
+abbrev pub listed_moves : Evidence (List Transfer)
+listed_moves = record {
+  of_rules = (unit_from 0 ∷ []) ∷ [];
+  of_pairs = (unit_from 1 ∷ []) ∷ [];
+  drop = 0 ∷ [];
+}
+
+abbrev pub listed_task : TaskData
+listed_task = task_over identity_symbols identity_system.rules identity_pairs (0 ∷ []) (0 ∷ [])
+
+abbrev pub listed_nodes : List Node
+listed_nodes =
+    blocks ((0 ∷ []) ∷ (1 ∷ []) ∷ []) ∷ poly listed_task.covered readings listed_moves ∷ done ∷ alone ∷ []

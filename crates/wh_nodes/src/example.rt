@@ -7,7 +7,7 @@ ghost use Rattle.wh_step.specs.Reduction.{Bounded};
 ghost use Rattle.wh_proof.specs.Proves.{Proves};
 ghost use Rattle.wh_nodes.specs.MapSystem.{map_symbols, map_system, map_pair};
 ghost use Rattle.wh_nodes.specs.MapOrder.{map_order_nodes};
-ghost use Rattle.wh_nodes.specs.IdentitySystem.{identity_system};
+ghost use Rattle.wh_nodes.specs.IdentitySystem.{identity_symbols, identity_system, identity_pairs, listed_nodes};
 
 /// Each well-typed term over the system `map`, which maps a function over a list, is bounded. The system is well made
 /// and passing under equal ranks, and its one dependency pair is proved by the subterm criterion: map's second argument
@@ -30,4 +30,12 @@ pub fn terms_over_map_are_bounded_by_an_order()
 /// Kop 2012).
 pub fn terms_over_identity_are_bounded()
     ensures { (t : Tm) → WellTyped identity_system.symbols t → Bounded identity_system.rules t }
+{}
+
+/// They are so too by a proof whose node of interpretations covers the rule of i alone: that is all that the pair in
+/// which t calls itself uses. The law on proved systems makes of it that well-typed terms are bounded (Fuhs and Kop
+/// 2012; lists of rules are ours).
+pub fn terms_over_identity_are_bounded_by_usable_rules()
+    ensures proved { Proves identity_symbols identity_system.rules identity_pairs ((0 ∷ 1 ∷ []) ∷ []) listed_nodes }
+    ensures bounded { (t : Tm) → WellTyped identity_system.symbols t → Bounded identity_system.rules t }
 {}

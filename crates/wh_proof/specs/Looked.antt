@@ -1,5 +1,5 @@
 -- What the lines of a YES certificate say over a system, once the names in them are looked up.
-use Rattle.std.specs.Prelude.{ℕ, ◌≡◌, List, [], ◌∷◌, Some, length, map, slice_get}
+use Rattle.std.specs.Prelude.{ℕ, ◌≡◌, List, [], ◌∷◌, Option, Some, None, length, map, slice_get}
 use Rattle.wh_types.specs.Ty.{Ty}
 use Rattle.wh_system.specs.Systems.{SystemData}
 use Rattle.wh_cert.specs.Written as w
@@ -11,11 +11,13 @@ use Rattle.wh_hopoly.specs.Evaluation.{Interpretation}
 use Rattle.wh_hopoly.specs.Erase.{transfers}
 use Rattle.wh_hopoly.specs.Moves.{Transfer}
 use Rattle.wh_hopoly.specs.declared.expression.Move.{Move}
-use Rattle.wh_reduction.specs.TaskData.{numbers_from}
+use Rattle.wh_pairs.specs.PairData.{PairData}
+use Rattle.wh_reduction.specs.TaskData.{TaskData, numbers_from, task_over}
 use Rattle.wh_reduction.specs.ReductionPair.{Evidence}
 use Rattle.wh_polycheck.specs.Marks.{Mark}
 use Rattle.wh_polycheck.specs.Readings.{ReadingsData}
 use Rattle.wh_subterm.specs.Projections.{Chosen}
+use Rattle.wh_usable.specs.Closed.{AreRulesInOrder}
 use Rattle.wh_proof.specs.Nodes.{Node, done, alone, blocks, subterm, poly, order}
 
 -- a line `arg` says this choice: its name is the name of the symbol (ours)
@@ -80,14 +82,27 @@ SayFilterings d funs lines D = SayFilters d.fun_names funs D.symbols × SayMarkF
 abbrev pub inferences_of : List Inference → List Inference → List ℕ → Evidence Inference
 inferences_of rules pairs drop = record { of_rules = rules; of_pairs = pairs; drop = drop }
 
--- the lines of a node say this node; one of interpretations is to cover all rules
+-- the rules that a node of interpretations is to cover: those that it lists, or all rules where it lists none
+abbrev pub covered_rules : Option (List ℕ) → ℕ → List ℕ
+covered_rules (Some listed) n = listed
+covered_rules None n = numbers_from 0 n
+
+-- these are rules of the system, each above the one before
+abbrev pub CoversRules : SystemData → Option (List ℕ) → Type 0
+CoversRules d usable = AreRulesInOrder (length d.rules) (covered_rules usable (length d.rules))
+
+-- what such a node has to show of the set
+abbrev pub poly_task : SystemData → List PairData → List ℕ → Option (List ℕ) → TaskData
+poly_task d ps set usable = task_over d.symbols d.rules ps set (covered_rules usable (length d.rules))
+
+-- the lines of a node say this node
 abbrev pub SaysNode : SystemData → w.Node → Node → Type 0
 SaysNode d w.done done = Unit {0}
 SaysNode d w.alone alone = Unit {0}
 SaysNode d (w.blocks listed) (blocks parts) = listed ≡ parts
 SaysNode d (w.subterm lines listed) (subterm args drop) = SayChoices d lines args × (listed ≡ drop)
-SaysNode d (w.interpretations funs lines rules pairs listed) (poly covered R E) =
-    (covered ≡ numbers_from 0 (length d.rules)) × SayReadings d funs lines R × (E ≡ moves_of rules pairs listed)
+SaysNode d (w.interpretations usable funs lines rules pairs listed) (poly covered R E) =
+    (covered ≡ covered_rules usable (length d.rules)) × SayReadings d funs lines R × (E ≡ moves_of rules pairs listed)
 SaysNode d (w.order funs lines rules pairs listed) (order D E) =
     SayFilterings d funs lines D × (E ≡ inferences_of rules pairs listed)
 SaysNode d _ _ = ⊥

@@ -8,11 +8,12 @@ use Rattle.wh_graph.specs.May.{Follows}
 use Rattle.wh_graph.specs.Blocks.{AreBlocks}
 use Rattle.wh_subterm.specs.Projections.{Chosen}
 use Rattle.wh_subterm.specs.SubtermRows.{IsProjection}
-use Rattle.wh_reduction.specs.TaskData.{CoversAll, task_over, whole_task}
+use Rattle.wh_reduction.specs.TaskData.{task_over, whole_task}
 use Rattle.wh_reduction.specs.ReductionPair.{Evidence}
 use Rattle.wh_hopoly.specs.Moves.{Transfer}
 use Rattle.wh_polycheck.specs.Readings.{ReadingsData}
 use Rattle.wh_polycheck.specs.Covering.{IsCovering}
+use Rattle.wh_usable.specs.Closed.{IsUsable}
 use Rattle.wh_inference.specs.Inferences.{Inference}
 use Rattle.wh_ordering.specs.Filterings.{FilteringData}
 use Rattle.wh_ordering.specs.Ordering.{IsOrdering}
@@ -43,7 +44,7 @@ pub data Leaves (S : Symbols) (rules : List RewriteRule) (pairs : List PairData)
   by_subterm : {set drop rest : List ℕ} {args : List Chosen} → IsProjection rules pairs set args drop → IsSetOf (IsKept set drop) rest
       → Leaves S rules pairs set (subterm args drop) (rest ∷ [])
   by_poly : {set covered rest : List ℕ} {R : ReadingsData} {E : Evidence (List Transfer)}
-      → IsCovering (task_over S rules pairs set covered) R E → CoversAll (task_over S rules pairs set covered)
+      → IsCovering (task_over S rules pairs set covered) R E → IsUsable (task_over S rules pairs set covered)
       → IsSetOf (IsKept set E.drop) rest
       → Leaves S rules pairs set (poly covered R E) (rest ∷ [])
   by_order : {set rest : List ℕ} {D : FilteringData} {E : Evidence Inference} → IsOrdering (whole_task S rules pairs set) D E

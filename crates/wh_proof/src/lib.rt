@@ -9,6 +9,7 @@ mod filters;
 mod interpretations;
 mod laws;
 mod named;
+mod usable;
 mod written;
 
 pub use blocks::open_blocks;
@@ -16,4 +17,5 @@ pub use choices::choices_of;
 pub use filters::filters_of_lines;
 pub use interpretations::{marks_of_set, symbols_of};
 pub use laws::lines_say_one_node;
+pub use usable::rules_to_cover;
 pub use written::{lines_of_choices, lines_of_marks, lines_of_symbols};

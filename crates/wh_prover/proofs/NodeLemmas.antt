@@ -1,5 +1,5 @@
 -- A node for a set, from the answers of its parts.
-use Rattle.std.proofs.Common.{◌≡◌, ◌≢◌, ◌↔◌, ℕ, ◌^◌, ◌≤◌, ◌==◌, eqb-true, Bool, true, false, not, List, [], ◌∷◌, ◌++◌, length, get_or, IsTrue, All, refl, sym, ap, subst, ◌∙◌, arith}
+use Rattle.std.proofs.Common.{◌≡◌, ◌≢◌, ◌↔◌, ℕ, ◌^◌, ◌≤◌, ◌==◌, eqb-true, Bool, true, false, not, inl, Some, None, List, [], ◌∷◌, ◌++◌, length, get_or, IsTrue, All, refl, sym, ap, subst, ◌∙◌, arith}
 use Rattle.std.proofs.lemmas.List.Elements.{All-nil, All-cons}
 use Rattle.wh_system.specs.Systems.{SystemData}
 use Rattle.wh_system.specs.WellMade.{IsWellMadeSystem}
@@ -13,6 +13,7 @@ use Rattle.wh_cert.specs.Written as w
 use Rattle.wh_reduction.specs.TaskData.{numbers_from}
 use Rattle.wh_reduction.specs.ReductionPair.{Evidence}
 use Rattle.wh_hopoly.specs.Moves.{Transfer}
+use Rattle.wh_usable.proofs.Whole.{all_in_order}
 use Rattle.wh_find_moves.specs.Found.{AreApart}
 use Rattle.wh_guesses.specs.Found.{IsInterpretation}
 use Rattle.wh_prover.specs.Searched.{IsSearched}
@@ -156,7 +157,7 @@ adds_subterm d ps set drop rest args line sets after lines longer made few end i
 
 -- it is of the space that is searched
 interpretation_searched : (d : SystemData) (ps : List PairData) (set : List ℕ) (line : w.Node) → IsInterpretation d ps set line → IsSearched d line
-interpretation_searched d ps set (w.interpretations funs marks rules pairs drop) is = record {
+interpretation_searched d ps set (w.interpretations None funs marks rules pairs drop) is = record {
   readings = is.readings;
   says = is.says.1;
   of_space = is.of_space.symbols_of_space;
@@ -164,6 +165,7 @@ interpretation_searched d ps set (w.interpretations funs marks rules pairs drop)
   rules_apart = subst (λ (E : Evidence (List Transfer)). All AreApart E.of_rules) is.says.2 is.rules_apart;
   pairs_apart = subst (λ (E : Evidence (List Transfer)). All AreApart E.of_pairs) is.says.2 is.pairs_apart;
 }
+interpretation_searched d ps set (w.interpretations (Some listed) funs marks rules pairs drop) is = let other = is.version in absurd (omega (arith, other))
 interpretation_searched d ps set w.done is = tt
 interpretation_searched d ps set w.alone is = tt
 interpretation_searched d ps set (w.blocks parts) is = tt
@@ -175,6 +177,7 @@ pub adds_interpretation : (d : SystemData) (ps : List PairData) (set rest : List
     → longer ≡ lines ++ line ∷ [] → Adds d ps set sets after lines longer
 adds_interpretation d ps set rest line sets after lines longer end none is kept after_is joined =
     let covering = is.covering in
+    let order = all_in_order (length d.rules) in
     record {
       line = line;
       joined = joined;
@@ -182,7 +185,7 @@ adds_interpretation d ps set rest line sets after lines longer end none is kept 
         node = poly (numbers_from 0 (length d.rules)) is.readings is.evidence;
         left = rest ∷ [];
         says = is.says;
-        leaves = by_poly covering refl kept;
+        leaves = by_poly covering (record { increasing = order.0; are_rules = order.1; closed = inl refl }) kept;
         small = is.small;
         after_is = after_is;
       };
@@ -195,7 +198,7 @@ adds_interpretation d ps set rest line sets after lines longer end none is kept 
 
 -- the pairs that its line drops are those that it drops
 pub dropped_by_interpretation : (d : SystemData) (ps : List PairData) (set : List ℕ) (line : w.Node) → (is : IsInterpretation d ps set line) → dropped_by line ≡ is.evidence.drop
-dropped_by_interpretation d ps set (w.interpretations funs marks rules pairs drop) is =
+dropped_by_interpretation d ps set (w.interpretations usable funs marks rules pairs drop) is =
     ap (λ (E : Evidence (List Transfer)). E.drop) (sym is.says.2)
 dropped_by_interpretation d ps set w.done is = absurd is.says
 dropped_by_interpretation d ps set w.alone is = absurd is.says

@@ -1,5 +1,5 @@
 -- A tree of nodes for the set of all pairs, with ranks, is a proof.
-use Rattle.std.proofs.Common.{◌≡◌, inl, inr, ℕ, ◌≤◌, List, [], ◌∷◌, length, All, refl, arith}
+use Rattle.std.proofs.Common.{◌≡◌, inl, inr, ℕ, ◌≤◌, Some, None, List, [], ◌∷◌, length, All, refl, arith}
 use Rattle.std.proofs.lemmas.List.Elements.{All-weaker}
 use Rattle.wh_system.specs.Systems.{SystemData}
 use Rattle.wh_system.specs.WellMade.{IsWellMadeSystem}
@@ -25,7 +25,8 @@ weigh_low (n ∷ ns) few = omega (arith, few)
 
 -- a node of the search is one of the first version
 searched_first : (d : SystemData) (line : w.Node) → IsSearched d line → IsOfVersion 1 line
-searched_first d (w.interpretations funs marks rules pairs drop) searched = refl
+searched_first d (w.interpretations None funs marks rules pairs drop) searched = refl
+searched_first d (w.interpretations (Some listed) funs marks rules pairs drop) searched = absurd searched
 searched_first d (w.order funs marks rules pairs drop) searched = absurd searched
 searched_first d w.done searched = tt
 searched_first d w.alone searched = tt

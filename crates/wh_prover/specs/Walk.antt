@@ -49,7 +49,7 @@ SaysProjection d line args drop = (lines : List w.Arg) × (line ≡ w.subterm li
 -- the pairs that the lines of a node drop
 abbrev pub dropped_by : w.Node → List ℕ
 dropped_by (w.subterm lines drop) = drop
-dropped_by (w.interpretations funs marks rules pairs drop) = drop
+dropped_by (w.interpretations usable funs marks rules pairs drop) = drop
 dropped_by (w.order funs marks rules pairs drop) = drop
 dropped_by _ = []
 

@@ -11,3 +11,5 @@ mod truth;
 pub use check::check_refutation;
 pub use fault::{RefuteFault, Refuted};
 pub use laws::{refutations_have_no_fault, refutations_refute};
+pub use look::{Look, look_at, negation};
+pub use truth::Truth;

@@ -92,13 +92,18 @@ sound_ground b e q lv =
     let n : marks_of b.trail ≡ [] = nil_from_length (marks_of b.trail) e in
     record { known = q; ground = n; derived = λ m h. subst (λ ms. Derives (clauses_of b) (decisions (assigned b.trail) ms) m) n (lv.derived m h) }
 
--- a false clause without a level: no assignment makes the given clauses true
+-- a false clause without a level: propagation alone refutes the clauses
+pub ground_refutes : (b : Learner) (k : ℕ) → length (marks_of b.trail) ≡ 0 → Levels (clauses_of b) (assigned b.trail) (marks_of b.trail)
+    → k < length (clauses_of b) → IsRefuted (assigned b.trail) (get_or (clauses_of b) k []) → Refutes (clauses_of b) []
+ground_refutes b k e lv w r =
+    let n : marks_of b.trail ≡ [] = nil_from_length (marks_of b.trail) e in
+    subst (λ ms. Refutes (clauses_of b) (decisions (assigned b.trail) ms)) n (conflict_refutes (clauses_of b) (assigned b.trail) (marks_of b.trail) k lv w r)
+
+-- and no assignment makes the given clauses true
 pub ground_conflict : (b : Learner) (k : ℕ) → length (marks_of b.trail) ≡ 0 → Known (variables_of b) (clauses_of b) b.learnt.items → Levels (clauses_of b) (assigned b.trail) (marks_of b.trail)
     → k < length (clauses_of b) → IsRefuted (assigned b.trail) (get_or (clauses_of b) k []) → (v : ℕ → Bool) → SolvesGiven v (clauses_of b) b.learnt.items → ⊥
 ground_conflict b k e q lv w r v s =
-    let n : marks_of b.trail ≡ [] = nil_from_length (marks_of b.trail) e in
-    let f : Refutes (clauses_of b) [] = subst (λ ms. Refutes (clauses_of b) (decisions (assigned b.trail) ms)) n (conflict_refutes (clauses_of b) (assigned b.trail) (marks_of b.trail) k lv w r) in
-    refutes_false v (clauses_of b) [] (q.follows v s) (λ m h. absurd (omega (arith, h.within))) f
+    refutes_false v (clauses_of b) [] (q.follows v s) (λ m h. absurd (omega (arith, h.within))) (ground_refutes b k e lv w r)
 
 not_false : (b : Bool) → not b ≡ false → b ≡ true
 not_false true e = refl

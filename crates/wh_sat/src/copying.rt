@@ -5,8 +5,8 @@ ghost use Rattle.std.specs.Prelude.{◌≡◌, IfOk, drop};
 use std::alloc::{AllocError, Global};
 use wh_sat_trail::{Clause, Clauses, Literal};
 
-/// A clause with the same literals.
-fn copy_clause(alloc: Global, literals: &[Literal]) -> Result<Clause, AllocError>
+/// A clause with the same literals. The error is want of memory.
+pub fn copy_clause(alloc: Global, literals: &[Literal]) -> Result<Clause, AllocError>
     ensures { IfOk result (λ made. made ≡ literals.now) }
 {
     let mut clause = Clause::new(alloc)?;
@@ -16,7 +16,7 @@ fn copy_clause(alloc: Global, literals: &[Literal]) -> Result<Clause, AllocError
     Ok(clause)
 }
 
-/// A list with the same clauses, from a place on.
+/// A list with the same clauses, from a place on. The error is want of memory.
 pub fn copy_clauses(alloc: Global, clauses: &Clauses, from: usize) -> Result<Clauses, AllocError>
     ensures { IfOk result (λ made. made ≡ drop from clauses.now) }
 {

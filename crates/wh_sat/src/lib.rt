@@ -8,5 +8,6 @@ mod halving;
 mod learner;
 mod solving;
 
+pub use copying::{copy_clause, copy_clauses};
 pub use learner::{Learner, Next};
 pub use solving::{Outcome, Search, solve, solve_owned};

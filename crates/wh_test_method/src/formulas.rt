@@ -16,8 +16,8 @@ fn literal_of(number: i32) -> Literal {
     }
 }
 
-// The clause of numbers.
-fn clause_of(alloc: Global, numbers: &[i32]) -> Result<Clause, AllocError> {
+/// The clause of numbers.
+pub fn clause_of(alloc: Global, numbers: &[i32]) -> Result<Clause, AllocError> {
     let mut clause = Clause::new(alloc)?;
     for number in numbers {
         clause.push(literal_of(*number))?;

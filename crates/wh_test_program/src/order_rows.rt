@@ -4,8 +4,8 @@ use crate::poly_rows::{check_writes, checks_changed, repeated};
 use std::alloc::{AllocError, Global};
 use std::test::Fail;
 use wh_test_samples::{
-    EVEN_ODD, IDENTITY, IDENTITY_CERTIFICATE, ITERATION, LOOP, LOOP_CERTIFICATE, MAP,
-    MAP_CERTIFICATE, MAP_ORDER_CERTIFICATE,
+    EVEN_ODD, IDENTITY, ITERATION, LOOP, LOOP_CERTIFICATE, MAP, MAP_CERTIFICATE,
+    MAP_ORDER_CERTIFICATE,
 };
 use wh_types::Bytes;
 
@@ -472,13 +472,6 @@ const VERSIONS: &[(&[u8], &[u8], (&str, &str), &[u8])] = &[
         MAP_CERTIFICATE,
         ("YES 1", "YES 3"),
         b"REJECTED syntax 4\n",
-    ),
-    // A node of interpretations stands in no certificate of version 2.
-    (
-        IDENTITY,
-        IDENTITY_CERTIFICATE,
-        ("YES 1", "YES 2"),
-        b"REJECTED syntax 47\n",
     ),
     (
         LOOP,

@@ -68,7 +68,7 @@ fn shows_pairs(rt: HostRuntime) -> Result<(), Fail> {
 }
 
 /// 1,024 rules of one symbol with four calls each; the last argument of the last rule is given.
-fn calling(alloc: Global, last: &[u8]) -> Result<Vec<u8>, AllocError> {
+pub fn calling(alloc: Global, last: &[u8]) -> Result<Vec<u8>, AllocError> {
     let rule = b"rule {X:o} g X => c (g X) (g (s X)) (g (s (s X))) (g a) ".as_slice();
     let mut text = Vec::from_slice(
         alloc,

@@ -19,6 +19,8 @@ mod rank_rows;
 #[cfg(test)]
 mod reading;
 #[cfg(test)]
+mod reduction_rows;
+#[cfg(test)]
 mod spelling;
 #[cfg(test)]
 mod stack;

@@ -280,7 +280,7 @@ fn add_times(text: &mut Vec<u8>, times: u32, item: &[u8]) -> Result<(), AllocErr
 }
 
 /// A number of items, what stands in their middle, and something behind it for each.
-fn add_nest(
+pub fn add_nest(
     text: &mut Vec<u8>,
     times: u32,
     open: &[u8],

@@ -31,9 +31,14 @@ pub const POLY: &[u8] =
 pub const ORDER: &[u8] =
     b"YES 2\nranks 0\npairs 1\norder\nfun f keep 1 1 2\nfun g keep 0\nmark f pick 65535\nrule =\nrule x1(s2(=),v,z65535())\npair p(l(m(=,v)),a(b(v)))\ndrop 0\ndone\nend\n";
 
+/// Interpretations that list the rules that they cover, as version 2 has them.
+pub const USABLE: &[u8] =
+    b"YES 2\nranks\npairs 1\npoly\nusable 0 65535 10\nfun sort 0\nfun g 1+2*y0\nmark g 3\nrule\nrule 0>65535:1 1>2:3\npair\ndrop 0\ndone\nend\n";
+
 /// Texts that are read and printed: with an argument, with abstractions and bound variables, with an abstraction as a head,
 /// functional types, and beta; of termination without ranks, with keywords as names, with blocks in a block and with none,
-/// with interpretations, and of version 2.
+/// with interpretations, and of version 2, where lists of rules are empty, are in no order, and tell nothing of how many lines
+/// of rules there are.
 const TEXTS: &[&[u8]] = &[
     LOOP,
     PUT,
@@ -50,6 +55,11 @@ const TEXTS: &[&[u8]] = &[
     b"YES 2\nranks\npairs 0\ndone\nend\n",
     b"YES 2\nranks\npairs 0\norder\ndrop\ndone\nend\n",
     ORDER,
+    USABLE,
+    b"YES 2\nranks\npairs 0\npoly\nusable\ndrop\ndone\nend\n",
+    b"YES 2\nranks\npairs 1\npoly\nusable 3 3 0\npair\ndrop 0\ndone\nend\n",
+    b"YES 2\nranks\npairs 1\npoly\nusable\nrule\nrule\ndrop\npoly\nusable 1\nmark g 0\ndrop 0\ndone\nend\n",
+    b"YES 2\nranks\npairs 2\nblocks 2\nblock 0\nblock 1\npoly\nusable 1\ndrop 0\ndone\norder\ndrop 1\npoly\nusable\ndrop\nalone\nend\n",
 ];
 
 /// Texts with the places of their faults.
@@ -68,7 +78,6 @@ const FAULTS: &[(&[u8], &[u8])] = &[
     (b"YES 3", b"4"),
     (b"YES 12", b"5"),
     (b"YES 1\nranks\npairs 0\norder\n", b"20"),
-    (b"YES 2\nranks\npairs 0\npoly\n", b"20"),
     // a digit behind the polynomial 0, a coefficient of 2^128, a variable's number that is too great, none, no units, and lines
     // in another order
     (b"YES 1\nranks\npairs 0\npoly\nfun f 01\n", b"32"),
@@ -90,8 +99,24 @@ const FAULTS: &[(&[u8], &[u8])] = &[
     ),
     (b"YES 2\nranks\npairs 0\norder\npair =\nrule =\n", b"33"),
     (
-        b"YES 2\nranks 0\npairs 2\nblocks 2\nblock 0\nblock 1\npoly\n",
+        b"YES 1\nranks 0\npairs 2\nblocks 2\nblock 0\nblock 1\norder\n",
         b"47",
+    ),
+    // interpretations of version 2 without the rules that they cover, and of version 1 with them
+    (b"YES 2\nranks\npairs 0\npoly\ndrop\n", b"25"),
+    (b"YES 2\nranks\npairs 0\npoly\nfun f 0\n", b"25"),
+    (b"YES 1\nranks\npairs 0\npoly\nusable\n", b"25"),
+    // a list of rules without the space before a number, without the number, with a leading zero, past the greatest number,
+    // with a move, and twice; and lines in another order behind it
+    (b"YES 2\nranks\npairs 0\npoly\nusable0\n", b"31"),
+    (b"YES 2\nranks\npairs 0\npoly\nusable \n", b"32"),
+    (b"YES 2\nranks\npairs 0\npoly\nusable 00\n", b"33"),
+    (b"YES 2\nranks\npairs 0\npoly\nusable 65536\n", b"36"),
+    (b"YES 2\nranks\npairs 0\npoly\nusable 0>0:1\n", b"33"),
+    (b"YES 2\nranks\npairs 0\npoly\nusable 0\nusable 0\n", b"34"),
+    (
+        b"YES 2\nranks\npairs 0\npoly\nusable\nrule\nmark f 0\n",
+        b"37",
     ),
 ];
 
@@ -172,7 +197,7 @@ fn expect_faults_at_ends(rt: &impl Abort, alloc: Global, text: &[u8]) -> Result<
 }
 
 /// Texts of which each front part is read.
-const WHOLE: &[&[u8]] = &[LOOP, PUT, SUBTERM, BLOCKS, POLY, ORDER];
+const WHOLE: &[&[u8]] = &[LOOP, PUT, SUBTERM, BLOCKS, POLY, ORDER, USABLE];
 
 #[test]
 fn every_front_is_at_fault_at_its_end(rt: HostRuntime) -> Result<(), Fail> {

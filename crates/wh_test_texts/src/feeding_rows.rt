@@ -2,7 +2,7 @@
 
 ghost use Rattle.std.specs.Prelude.{◌<◌, ◌-◌, ◌^◌, length};
 
-use crate::certificate_rows::{BLOCKS, LOOP, ORDER, POLY, PUT, SUBTERM, add_place};
+use crate::certificate_rows::{BLOCKS, LOOP, ORDER, POLY, PUT, SUBTERM, USABLE, add_place};
 use crate::comparing::expect_text;
 use std::alloc::{AllocError, Global};
 use std::test::Fail;
@@ -20,9 +20,14 @@ const FED: &[(&[u8], &[u8])] = &[
     (BLOCKS, b"h3n6n7n8e9"),
     (POLY, b"h3n11n12e13"),
     (ORDER, b"h3n11n12e13"),
+    (USABLE, b"h3n12n13e14"),
     (b"NO 1\nterm a\n", b"h212"),
     (b"NO 1\nterm a\nstap 0 /\n", b"h2!!!!!!!14"),
     (b"YES 1\nranks\npairs 0\ndone\nend\nend\n", b"h3n4e5!!!!29"),
+    (
+        b"YES 2\nranks\npairs 0\npoly\nusable 0\nusable\n",
+        b"h3!!!!!!!34",
+    ),
     (b"", b"0"),
 ];
 

@@ -22,3 +22,5 @@ mod order_rows;
 mod outside_rows;
 #[cfg(test)]
 mod text_rows;
+#[cfg(test)]
+mod upgrade_rows;

@@ -16,6 +16,9 @@ const ROWS: &[&[&str]] = &[
         "wanda", "prove", "system", "--depth", "0", "--tries", "1000000",
     ],
     &["wanda", "prove", "--visited", "10", "--", "system"],
+    &["wanda", "reduce", "system", "(f zero)"],
+    &["wanda", "reduce", "--steps=3", "system", "(f zero)"],
+    &["wanda", "reduce", "system", "(f zero)", "--steps", "10000"],
 ];
 
 /// A command line of the same commands, options and files.
@@ -29,10 +32,15 @@ fn stock(alloc: Global) -> Result<Stock<'static>, AllocError> {
         .arg(Arg::new(alloc, "tries").long("tries"))?
         .arg(Arg::new(alloc, "depth").long("depth"))?
         .arg(Arg::new(alloc, "visited").long("visited"))?;
+    let reduce = Stock::new(alloc, "reduce")
+        .arg(Arg::new(alloc, "file"))?
+        .arg(Arg::new(alloc, "term"))?
+        .arg(Arg::new(alloc, "steps").long("steps"))?;
     Stock::new(alloc, "wanda")
         .subcommand(check)?
         .subcommand(show)?
-        .subcommand(prove)
+        .subcommand(prove)?
+        .subcommand(reduce)
 }
 
 /// Whether the option has that number, or is not there and the number is the usual one.
@@ -64,6 +72,12 @@ fn is_same(command: &Command<'_>, name: &str, matches: &ArgMatches<'_>) -> bool 
                 && are_limits(matches, *limits)
         }
         Command::Show { file } => name == "show" && matches.get_str("file") == Some(*file),
+        Command::Reduce { file, term, steps } => {
+            name == "reduce"
+                && matches.get_str("file") == Some(*file)
+                && matches.get_str("term") == Some(*term)
+                && is_number(matches, "steps", u64::from(*steps), 1_000)
+        }
         Command::Gen { .. } => false,
     }
 }

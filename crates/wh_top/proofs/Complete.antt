@@ -12,23 +12,32 @@ use Rattle.wh_gen.specs.Family.{gen_data}
 use Rattle.wh_gen.proofs.PairCount.{few_pairs}
 use Rattle.wh_prover.specs.declared.answer.Options.{Options}
 use Rattle.wh_prover.proofs.LoopLemmas.{loop_is_valid}
-use Rattle.wh_answer.specs.declared.report.NamedRejection.TheVariants.{Syntax}
+use Rattle.wh_answer.specs.declared.report.NamedRejection.TheVariants.{Syntax, NotATerm}
 use Rattle.wh_answer.specs.declared.report.ReasonWord.{ReasonWord}
 use Rattle.wh_answer.specs.declared.report.ReasonWord.TheVariants.{TooManyPairs}
 use Rattle.wh_answer.specs.declared.report.Role.TheVariants.{System, Certificate, Output}
 use Rattle.wh_answer.specs.declared.report.Report.{Report}
 use Rattle.wh_answer.specs.declared.report.Report.TheVariants.{Yes, No, Rejected, Maybe, Refused, ReadFault, TooLong, Overflow, TooLarge}
-use Rattle.wh_words.specs.Words.{Request, check, prove, show, gen, Asks}
+use Rattle.wh_words.specs.Words.{Request, check, prove, show, gen, reduce, upgrade, refute, Asks}
 use Rattle.wh_judging.specs.declared.status.Status.{Status}
 use Rattle.wh_top.specs.Words.{options_of}
 use Rattle.wh_judging.specs.Texts.{IsShown}
-use Rattle.wh_judging.specs.Outcomes.{Shelves, ToldSystem, Judged, Checked, IsRefusedFor, StandsBySystem, Stands}
+use Rattle.wh_judging.specs.Outcomes.{Shelves, IsNo, ToldSystem, ToldText, Certified, Weighed, Judged, Checked, IsRefusedText, IsRefusedFor, StandsByText, StandsBySystem, Stands}
 use Rattle.wh_top.specs.Proving.{IsFoundText, IsNotFound, StandsForSearch}
 use Rattle.wh_top.specs.Generating.{StandsForGenerated}
-use Rattle.wh_top.specs.Complete.{HoldsSystem, IsComplete, IsRead}
+use Rattle.wh_top.specs.Reducing.{IsNotReduced, StandsForReduction}
+use Rattle.wh_reducing.specs.Telling.{TellsReduced}
+use Rattle.wh_top.specs.Refuting.{TellsRefuted, options_with}
+use Rattle.wh_cert.specs.Written.{Cert, yes, no}
+use Rattle.wh_proof.specs.Valid.{IsValidCert}
+use Rattle.wh_cert.specs.CertText.{CertText}
+use Rattle.wh_upgrade.specs.Upgraded.{upgraded}
+use Rattle.wh_upgrade_laws.proofs.SameNodes.{as_valid, as_small}
+use Rattle.wh_upgrading.specs.Upgrading.{IsAccepted, IsUpgradedText, IsNotUpgradedFor, IsNotUpgraded, StandsForUpgrade}
+use Rattle.wh_top.specs.Complete.{HoldsText, HoldsSystem, IsComplete, IsRead}
 use Rattle.wh_top.specs.Run.{Replies, Served}
 use Rattle.wh_top.proofs.Asking.{count_asked}
-use Rattle.wh_top.proofs.Meaning.{same_yes, same_no}
+use Rattle.wh_top.proofs.Meaning.{same_yes, same_no, upgraded_yes}
 
 -- a system has one list of pairs
 pairs_one : (d : SystemData) (ps es : List PairData) → HasPairs d ps → HasPairs d es → ps ≡ es
@@ -52,25 +61,46 @@ told_holds s file d ps P holds told = by (told holds.bytes holds.read.told)
         let pairs : es ≡ ps = pairs_one d es ps (subst (λ x. HasPairs x es) same has) holds.has in
         subst (P d) pairs (subst (λ x. P x es) same p)
 
+-- so does what is told of the system alone
+text_holds : (s : Shelves) (file : List ℕ) (d : SystemData) (P : SystemData → Type 0) → HoldsText s file d → ToldText (s.held file) P → P d
+text_holds s file d P holds told = by (told holds.bytes holds.read.told)
+  where
+    by : (length holds.bytes ≤ system_limit) × (e : SystemData) × Reads holds.bytes e × P e → P d
+    by (within, e, reads, p) = subst P (one_reading holds.bytes e d reads holds.reads) p
+
+-- the text of the system file is not refused
+text_not_refused : (s : Shelves) (file : List ℕ) (d : SystemData) (at : ℕ) (word : ReasonWord) → HoldsText s file d
+    → IsRefusedText (s.held file) word at → ⊥
+text_not_refused s file d at TooManyPairs holds refused = refused
+text_not_refused s file d at word holds refused =
+    let (within, r, is, place, refuses) = refused holds.bytes holds.read.told in
+    read_or_refused holds.bytes d r holds.reads refuses
+
+-- nor does it decide any other answer
+not_by_text : (s : Shelves) (file : List ℕ) (d : SystemData) (o : Report) → HoldsText s file d → StandsByText s file o → ⊥
+not_by_text s file d (ReadFault System) holds rose = holds.read.calm rose
+not_by_text s file d (TooLong System) holds long =
+    let more = long holds.bytes holds.read.told in
+    omega (arith, more, holds.read.within)
+not_by_text s file d (Refused word at) holds refused = text_not_refused s file d at word holds refused
+not_by_text s file d o holds stands = stands
+
+text_held : (s : Shelves) (file : List ℕ) (d : SystemData) (ps : List PairData) → HoldsSystem s file d ps → HoldsText s file d
+text_held s file d ps holds = record { bytes = holds.bytes; read = holds.read; reads = holds.reads }
+
 -- the system file is not refused
 not_refused : (s : Shelves) (file : List ℕ) (d : SystemData) (ps : List PairData) (at : ℕ) (word : ReasonWord) → HoldsSystem s file d ps
     → IsRefusedFor (s.held file) word at → ⊥
 not_refused s file d ps at TooManyPairs holds (first, many) =
     let (within, e, reads, more) = many holds.bytes holds.read.told in
     not_too_many d ps holds.has (subst HasTooManyPairs (one_reading holds.bytes e d reads holds.reads) more)
-not_refused s file d ps at word holds refused =
-    let (within, r, is, place, refuses) = refused holds.bytes holds.read.told in
-    read_or_refused holds.bytes d r holds.reads refuses
+not_refused s file d ps at word holds refused = text_not_refused s file d at word (text_held s file d ps holds) refused
 
 -- nor does it decide any other answer alone
 not_by_system : (s : Shelves) (file : List ℕ) (d : SystemData) (ps : List PairData) (o : Report) → HoldsSystem s file d ps
     → StandsBySystem s file o → ⊥
-not_by_system s file d ps (ReadFault System) holds rose = holds.read.calm rose
-not_by_system s file d ps (TooLong System) holds long =
-    let more = long holds.bytes holds.read.told in
-    omega (arith, more, holds.read.within)
 not_by_system s file d ps (Refused word at) holds refused = not_refused s file d ps at word holds refused
-not_by_system s file d ps o holds stands = stands
+not_by_system s file d ps o holds stands = not_by_text s file d o (text_held s file d ps holds) stands
 
 -- what the certificate's file was told to come to, its bytes come to
 checked_judged : (held : Option (List ℕ)) (d : SystemData) (ps : List PairData) (bytes : List ℕ) (o : Report) → held ≡ Some bytes
@@ -115,6 +145,46 @@ never_refused : (n : ℕ) (o : Report) → 1 ≤ n → n ≤ 200 → StandsForGe
 never_refused n (Refused TooManyPairs at) some few (first, many) = few_pairs n some few many
 never_refused n o some few stands = stands
 
+-- a term is rejected only for its text
+reduction_told : (s : Shelves) (file term : List ℕ) (d : SystemData) (o : Report) → HoldsText s file d → StandsForReduction s file term o
+    → IsNotReduced d term o
+reduction_told s file term d (Rejected NotATerm) holds stands =
+    text_holds s file d (λ e. IsNotReduced e term (Rejected NotATerm)) holds stands
+reduction_told s file term d o holds stands = absurd (not_by_text s file d o holds stands)
+
+-- so is that of a loop, which is upgraded to itself
+loop_judged : (d : SystemData) (ps : List PairData) (text : List ℕ) (c : Cert) → IsNo c → CertText text (upgraded (length d.rules) c)
+    → IsValidCert d ps c → Judged d ps text No
+loop_judged d ps text (yes version ranks pairs nodes) is spelled valid = absurd is
+loop_judged d ps text (no term steps at puts) is spelled valid = (no term steps at puts, spelled, (tt, valid))
+
+-- a check of the text of an upgraded certificate accepts it
+upgraded_judged : (d : SystemData) (ps : List PairData) (bytes text : List ℕ) (c : Cert) → CertText bytes c
+    → CertText text (upgraded (length d.rules) c) → IsAccepted d ps c → Judged d ps text Yes ⊎ Judged d ps text No
+upgraded_judged d ps bytes text c read spelled (inl (is, valid, small)) = inl (
+  upgraded (length d.rules) c,
+  spelled,
+  (
+    upgraded_yes (length d.rules) c is,
+    (as_valid d ps c read.fits).1 valid,
+    (as_small d ps c read.fits).1 small,
+  ),
+)
+upgraded_judged d ps bytes text c read spelled (inr (is, valid)) = inr (loop_judged d ps text c is spelled valid)
+
+upgrade_told : (s : Shelves) (file cert : List ℕ) (d : SystemData) (ps : List PairData) (bytes : List ℕ) (o : Report)
+    → HoldsSystem s file d ps → IsRead s cert certificate_limit bytes → StandsForUpgrade s file cert o → IsNotUpgraded d ps bytes o
+upgrade_told s file cert d ps bytes o holds read stands = by o stands
+  where
+    by : (o : Report) → StandsForUpgrade s file cert o → IsNotUpgraded d ps bytes o
+    by Yes stands = absurd stands
+    by No stands = absurd stands
+    by (TooLong Output) stands =
+        let (c, why, told) = told_holds s file d ps (λ e es. Certified (s.held cert) (λ c. IsNotUpgradedFor e es c (TooLong Output))) holds stands in
+        (c, (told bytes read.told).1, why)
+    by (Rejected (Syntax at)) stands = check_judged s file cert d ps bytes (Rejected (Syntax at)) holds read stands
+    by o stands = check_judged s file cert d ps bytes o holds read stands
+
 complete : (s : Shelves) (words : List (List ℕ)) (request : Request) (status : Status) (text : List ℕ) → Asks words request
     → Replies s request status text → IsComplete s request status text
 complete s words (check file cert) status text asks reply = λ d ps bytes holds read. record {
@@ -144,6 +214,28 @@ complete s words (gen n) status text asks (inl shows) = shows.status_is
 complete s words (gen n) status text asks (inr tells) =
     let (some, few) = count_asked words n asks in
     absurd (never_refused n tells.report some few tells.stands)
+complete s words (reduce file term n) status text asks (inl shows) = λ d holds.
+    inl (shows.status_is, text_holds s file d (λ e. TellsReduced e term n text) holds shows.told)
+complete s words (reduce file term n) status text asks (inr tells) = λ d holds. inr (record {
+  report = tells.report;
+  stands = reduction_told s file term d tells.report holds tells.stands;
+  status_is = tells.status_is;
+  text_is = tells.text_is;
+})
+complete s words (upgrade file cert) status text asks (inl shows) = λ d ps bytes holds read.
+    let (c, (is, spelled), told) = told_holds s file d ps (λ e es. Certified (s.held cert) (λ c. IsUpgradedText e es c text)) holds shows.found in
+    let of_bytes = (told bytes read.told).1 in
+    inl (shows.status_is, shows.within, (c, of_bytes, (is, spelled)), upgraded_judged d ps bytes text c of_bytes spelled is)
+complete s words (upgrade file cert) status text asks (inr tells) = λ d ps bytes holds read. inr (record {
+  report = tells.report;
+  stands = upgrade_told s file cert d ps bytes tells.report holds read tells.stands;
+  status_is = tells.status_is;
+  text_is = tells.text_is;
+})
+complete s words (refute file n) status text asks (inl shows) = λ d ps holds.
+    (shows.status_is, told_holds s file d ps (λ e es. TellsRefuted e es (options_with n) text) holds shows.told)
+complete s words (refute file n) status text asks (inr tells) = λ d ps holds.
+    absurd (not_by_system s file d ps tells.report holds tells.stands)
 
 -- what is asked is served
 pub served : (s : Shelves) (words : List (List ℕ)) (request : Request) (status : Status) (text : List ℕ) → Asks words request

@@ -2,6 +2,8 @@ pub mod Causes
 pub mod Meaning
 pub mod ProofText
 pub mod Searching
+pub mod Reducing
+pub mod Refuting
 pub mod Asking
 pub mod Replying
 pub mod OneAnswer

@@ -1,11 +1,10 @@
 -- How the text of a proof or of a loop that was found begins.
-use Rattle.std.proofs.Common.{◌≡◌, ℕ, ◌⊎◌, inl, inr, List, [], ◌∷◌, ◌++◌, codes, Result, Ok, Err, IfOk, refl, sym, ap, subst, ◌∙◌, arith}
+use Rattle.std.proofs.Common.{◌≡◌, ℕ, ◌⊎◌, inl, inr, List, [], ◌∷◌, ◌++◌, codes, Result, Ok, Err, IfOk, refl, ◌∙◌}
 use Rattle.wh_types.specs.Outcome.{MatchOr}
 use Rattle.wh_types.specs.declared.want.Or.{Or}
 use Rattle.wh_types.specs.declared.want.Or.TheVariants.{NoMemory, Because}
 use Rattle.wh_pairs.specs.PairData.{PairData}
 use Rattle.std.specs.Fmt.{decimal}
-use Rattle.std.proofs.lemmas.Fmt.{decimal_digit}
 use Rattle.wh_system.specs.Systems.{SystemData}
 use Rattle.wh_pairs.specs.PairData.{PairData}
 use Rattle.wh_cert.specs.Text.{put_line, put_nodes, text}
@@ -19,19 +18,19 @@ use Rattle.wh_answer.specs.declared.report.Role.TheVariants.{Output}
 use Rattle.wh_answer.specs.declared.report.Report.{Report}
 use Rattle.wh_answer.specs.declared.report.Report.TheVariants.{TooLong}
 use Rattle.wh_judging.specs.Outcomes.{BeginsWith}
-use Rattle.wh_top.specs.Proving.{IsFoundText, IsNotFound, IsTextOf}
+use Rattle.wh_upgrading.specs.Output.{IsTextOf}
+use Rattle.wh_top.specs.Proving.{IsFoundText, IsNotFound}
 
--- it begins with the word, and with the number of the version
-yes_begins : (c : Cert) → IsYes c → BeginsWith (codes "YES 1") (text c)
-yes_begins (yes version ranks pairs nodes) is =
-    let rest : List ℕ =
-    10 ∷ (codes "ranks" ++ put_line ranks (codes "pairs " ++ (decimal pairs ++ (10 ∷ put_nodes nodes (codes "end" ++ (10 ∷ [])))))) in
-    subst (λ v. BeginsWith (codes "YES 1") (text (yes v ranks pairs nodes))) (sym is)
-    (rest, ap (λ (digits : List ℕ). codes "YES " ++ (digits ++ rest)) (decimal_digit 1 (omega arith)))
+-- it begins with the word
+yes_begins : (c : Cert) → IsYes c → BeginsWith (codes "YES ") (text c)
+yes_begins (yes version ranks pairs nodes) is = (
+  decimal version ++ (10 ∷ (codes "ranks" ++ put_line ranks (codes "pairs " ++ (decimal pairs ++ (10 ∷ put_nodes nodes (codes "end" ++ (10 ∷ []))))))),
+  refl,
+)
 yes_begins (no t steps at puts) is = absurd is
 
 pub proof_begins : (d : SystemData) (ps : List PairData) (c : Cert) (bytes : List ℕ) → IsProof d ps c → bytes ≡ text c
-    → BeginsWith (codes "YES 1") bytes
+    → BeginsWith (codes "YES ") bytes
 proof_begins d ps c bytes is printed =
     let (rest, begins) = yes_begins c is.yes in
     (rest, printed ∙ begins)
@@ -67,12 +66,12 @@ loop_found d ps o c r is text = found_or_long d ps o c r (λ bytes spelled. inr 
 
 -- how what was found begins
 pub found_begins : (d : SystemData) (ps : List PairData) (o : Options) (bytes : List ℕ) → IsFoundText d ps o bytes
-    → BeginsWith (codes "YES 1") bytes ⊎ BeginsWith (codes "NO 1") bytes
+    → BeginsWith (codes "YES ") bytes ⊎ BeginsWith (codes "NO 1") bytes
 found_begins d ps o bytes (inl (proof, begins)) = inl begins
 found_begins d ps o bytes (inr (loops, begins)) = inr begins
 
 -- so does what was found where it is not too long
 pub begins_if_found : (d : SystemData) (ps : List PairData) (o : Options) (r : Result (List ℕ) (Or Report)) → MatchOr r (IsFoundText d ps o) (IsNotFound d ps o)
-    → IfOk r (λ bytes. BeginsWith (codes "YES 1") bytes ⊎ BeginsWith (codes "NO 1") bytes)
+    → IfOk r (λ bytes. BeginsWith (codes "YES ") bytes ⊎ BeginsWith (codes "NO 1") bytes)
 begins_if_found d ps o (Ok bytes) found = found_begins d ps o bytes found
 begins_if_found d ps o (Err e) found = tt

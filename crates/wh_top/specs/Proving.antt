@@ -1,8 +1,6 @@
 -- What a search for a proof of termination or for a loop answers.
-use Rattle.std.specs.Prelude.{ℕ, ◌≡◌, ◌≤◌, ◌<◌, ◌⊎◌, List, All, length, codes, Result, Ok, Err}
+use Rattle.std.specs.Prelude.{ℕ, ◌≡◌, ◌≤◌, ◌<◌, ◌⊎◌, List, All, length, codes}
 use Rattle.wh_types.specs.Limits.{certificate_limit}
-use Rattle.wh_types.specs.declared.want.Or.{Or}
-use Rattle.wh_types.specs.declared.want.Or.TheVariants.{NoMemory, Because}
 use Rattle.wh_system.specs.Systems.{SystemData}
 use Rattle.wh_pairs.specs.PairData.{PairData}
 use Rattle.wh_access.specs.declared.find.NoRanks.TheVariants as ranks
@@ -31,7 +29,7 @@ IsLoopText d depth text = (c : Cert) × IsLoopProof d depth c × CertText text c
 
 -- the text is that of one or the other
 abbrev pub IsFoundText : SystemData → List PairData → Options → List ℕ → Type 0
-IsFoundText d ps o text = (IsProofText d ps text × BeginsWith (codes "YES 1") text)
+IsFoundText d ps o text = (IsProofText d ps text × BeginsWith (codes "YES ") text)
     ⊎ (IsLoopText d o.depth text × BeginsWith (codes "NO 1") text)
 
 -- why there is none: nothing was found, for a reason; or the text of what was found is too long
@@ -43,7 +41,7 @@ IsNotFound d ps o _ = ⊥
 -- the text is that of a proof or of a loop for the system in the file, within the limit
 pub record ShowsFound (s : Shelves) (file : List ℕ) (o : Options) (status : Status) (text : List ℕ) : Type 0 where
   pub found : ToldSystem (s.held file) (λ d ps. IsFoundText d ps o text)
-  pub begins : BeginsWith (codes "YES 1") text ⊎ BeginsWith (codes "NO 1") text
+  pub begins : BeginsWith (codes "YES ") text ⊎ BeginsWith (codes "NO 1") text
   pub within : length text ≤ certificate_limit
   pub status_is : status ≡ Answered
 
@@ -52,13 +50,6 @@ abbrev pub StandsForSearch : Shelves → List ℕ → Options → Report → Typ
 StandsForSearch s file o (Maybe named) = ToldSystem (s.held file) (λ d ps. IsNotFound d ps o (Maybe named))
 StandsForSearch s file o (TooLong Output) = ToldSystem (s.held file) (λ d ps. IsNotFound d ps o (TooLong Output))
 StandsForSearch s file o report = StandsBySystem s file report
-
--- the text of the certificate, within the limit; or that it is too long
-abbrev pub IsTextOf : Cert → Result (List ℕ) (Or Report) → Type 0
-IsTextOf c (Ok bytes) = CertText bytes c × (length bytes ≤ certificate_limit)
-IsTextOf c (Err NoMemory) = Unit {0}
-IsTextOf c (Err (Because (TooLong Output))) = (bytes : List ℕ) × CertText bytes c × (certificate_limit < length bytes)
-IsTextOf c (Err (Because _)) = ⊥
 
 -- the sorts and the meta-variable that a cause names are there
 abbrev pub CauseIsThere : SystemData → Cause → Type 0

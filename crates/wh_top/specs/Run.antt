@@ -1,5 +1,6 @@
 -- What a run answers, what it writes, and what an output means that begins with YES or NO.
-use Rattle.std.specs.Prelude.{ℕ, ◌≡◌, ◌⊎◌, List, codes, Option}
+use Rattle.std.specs.Prelude.{ℕ, ◌≡◌, ◌≤◌, ◌⊎◌, List, length, codes, Option}
+use Rattle.wh_types.specs.Limits.{certificate_limit}
 use Rattle.wh_io.specs.Outside.{Rose, Wrote}
 use Rattle.wh_io.specs.Writing.{WroteFront}
 use Rattle.wh_terms.specs.Tree.{Tm}
@@ -16,12 +17,15 @@ use Rattle.wh_judging.specs.declared.status.Status.TheVariants.{Answered, BadWor
 use Rattle.wh_answer.specs.declared.report.Report.{Report}
 use Rattle.wh_answer.specs.declared.report.Report.TheVariants as answer
 use Rattle.wh_answer.specs.Texts.{line, report_text}
-use Rattle.wh_words.specs.Words.{Bounds, Request, check, prove, show, gen, Asks}
+use Rattle.wh_words.specs.Words.{Bounds, Request, check, prove, show, gen, reduce, upgrade, refute, Asks}
 use Rattle.wh_top.specs.Words.{options_of}
 use Rattle.wh_judging.specs.Texts.{IsShown, Tells}
 use Rattle.wh_judging.specs.Outcomes.{Shelves, BeginsWith, Told, ToldSystem, StandsBySystem, Stands}
 use Rattle.wh_top.specs.Proving.{ShowsFound, StandsForSearch}
 use Rattle.wh_top.specs.Generating.{ShowsGenerated, StandsForGenerated}
+use Rattle.wh_top.specs.Reducing.{ShowsReduced, StandsForReduction}
+use Rattle.wh_upgrading.specs.Upgrading.{IsUpgradedIn, StandsForUpgrade}
+use Rattle.wh_top.specs.Refuting.{ShowsRefuted, options_with}
 use Rattle.wh_top.specs.Complete.{IsComplete}
 
 -- the text shows the system in the file and its pairs
@@ -30,14 +34,25 @@ pub record Shows (s : Shelves) (file : List ℕ) (status : Status) (text : List 
   pub begins : BeginsWith (line (codes "SYSTEM")) text
   pub status_is : status ≡ Answered
 
+-- the text is that of the certificate in the second file as one of the second version, within the limit; a check accepts it for the
+-- system in the first file
+pub record ShowsUpgraded (s : Shelves) (file cert : List ℕ) (status : Status) (text : List ℕ) : Type 0 where
+  pub found : IsUpgradedIn s file cert text
+  pub within : length text ≤ certificate_limit
+  pub status_is : status ≡ Answered
+
 -- the reply to a request: of a check its answer; of a search a proof or a loop, or why there is neither; for a system to be shown its
--- text, or why there is none; and what the search comes to for a generated system
+-- text, or why there is none; what the search comes to for a generated system; how a term reduces, or why that is not told; the text of
+-- an upgraded certificate, or why there is none; and what the search for a refutation comes to, or why there is no such system
 abbrev pub Replies : Shelves → Request → Status → List ℕ → Type 0
 Replies s (check file cert) status text = Tells (Stands s file cert) status text
 Replies s (prove file b) status text = ShowsFound s file (options_of b) status text
     ⊎ Tells (StandsForSearch s file (options_of b)) status text
 Replies s (show file) status text = Shows s file status text ⊎ Tells (StandsBySystem s file) status text
 Replies s (gen n) status text = ShowsGenerated n status text ⊎ Tells (StandsForGenerated n) status text
+Replies s (reduce file term n) status text = ShowsReduced s file term n status text ⊎ Tells (StandsForReduction s file term) status text
+Replies s (upgrade file cert) status text = ShowsUpgraded s file cert status text ⊎ Tells (StandsForUpgrade s file cert) status text
+Replies s (refute file n) status text = ShowsRefuted s file (options_with n) status text ⊎ Tells (StandsBySystem s file) status text
 
 -- the words ask for something, and this is the reply; where nothing goes wrong outside, it is one that answers what is asked
 pub record Served (s : Shelves) (words : List (List ℕ)) (status : Status) (text : List ℕ) : Type 0 where
@@ -89,10 +104,12 @@ pub record MeansNo (system cert : List ℕ) : Type 0 where
   pub unbounded : Unbounded data_read.rules claim.term
 
 -- what an output that begins with NO says, of these words: it answers a check, and means what NO means of the two files; or it is the
--- front part of the text that answers a search, and means that of the file and of this text
+-- front part of the text that answers a search or an upgrade, and means that of the file and of this text
 abbrev pub SaysNo : Shelves → List (List ℕ) → List ℕ → Type 0
 SaysNo s words output =
     ((file cert : List ℕ) × Asks words (check file cert)
     × Told (s.held file) (λ system. Told (s.held cert) (λ certificate. MeansNo system certificate)))
     ⊎ ((file : List ℕ) × (b : Bounds) × (text : List ℕ) × Asks words (prove file b)
     × ShowsFound s file (options_of b) Answered text × BeginsWith output text × Told (s.held file) (λ system. MeansNo system text))
+    ⊎ ((file cert text : List ℕ) × Asks words (upgrade file cert) × ShowsUpgraded s file cert Answered text × BeginsWith output text
+    × Told (s.held file) (λ system. MeansNo system text))

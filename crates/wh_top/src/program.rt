@@ -8,17 +8,21 @@ ghost use Rattle.wh_answer.specs.declared.report.Report.TheVariants.{OutOfMemory
 ghost use Rattle.wh_judging.specs.Outcomes.{BeginsWith, Told, outside};
 ghost use Rattle.wh_top.specs.Run.{Answers, EndsWith, MeansYes, Replies, SaysNo};
 ghost use Rattle.wh_judging.specs.Texts.{TellsMade, status_of};
+ghost use Rattle.wh_top.specs.Refuting.{options_with};
 ghost use Rattle.wh_top.specs.Words.{AsksWhether, options_of};
 ghost use Rattle.wh_judging.specs.declared.status.Status.TheVariants.{Answered};
 
 use crate::generating::generated;
 use crate::proving::prove_file;
+use crate::reducing::reduce_file;
+use crate::refuting::refute_file;
 use std::alloc::{AllocError, Global};
 use wh_answer::{Report, bad_words_line, out_of_memory_line, print_answer};
 use wh_io::{Shelf, Sink, write_all_of};
 use wh_judging::{Status, check_files, show_file, status_of};
 use wh_prover::Options;
 use wh_types::{Bytes, Or};
+use wh_upgrading::upgrade_files;
 use wh_words::{Command, Limits, read_words};
 
 /// Does what the words ask, reads files from the shelf and writes one text to the sink.
@@ -80,6 +84,16 @@ fn reply_to<S: Shelf>(alloc: Global, shelf: &mut S, command: &Command) -> Result
         }
         Command::Show { file } => reply_with(alloc, show_file(alloc, shelf, file)),
         Command::Gen { n } => reply_with(alloc, generated(alloc, *n)),
+        Command::Reduce { file, term, steps } => {
+            reply_with(alloc, reduce_file(alloc, shelf, file, term, *steps))
+        }
+        Command::Upgrade { file, cert } => {
+            reply_with(alloc, upgrade_files(alloc, shelf, file, cert))
+        }
+        Command::Refute { file, tries } => {
+            let options = options_with(*tries);
+            reply_with(alloc, refute_file(alloc, shelf, file, &options))
+        }
     }
 }
 
@@ -102,6 +116,17 @@ fn options_of(limits: &Limits) -> Options
         tries: limits.tries,
         depth: limits.depth,
         visited: limits.visited,
+    }
+}
+
+// The usual bounds of a search with so many tries.
+fn options_with(tries: u64) -> Options
+    ensures { result ≡ options_with tries }
+{
+    Options {
+        tries,
+        depth: 6,
+        visited: 500,
     }
 }
 

@@ -2,28 +2,25 @@
 
 ghost use Rattle.std.specs.Prelude.{◌≡◌, ◌≤◌, ◌<◌, ◌⊎◌, ℕ, All, List, IfOk, length, map, codes};
 ghost use Rattle.wh_types.specs.Limits.{certificate_limit};
-ghost use Rattle.wh_cert.specs.Limits.{IsCert};
-ghost use Rattle.wh_cert.specs.Said.{said};
 ghost use Rattle.wh_types.specs.Outcome.{MatchOr};
 ghost use Rattle.wh_system.specs.SystemView.{system_data};
 ghost use Rattle.wh_pairs.specs.SystemPairs.{HasPairs};
 ghost use Rattle.wh_pairs.specs.Views.{pairs_data};
 ghost use Rattle.wh_judging.specs.Outcomes.{BeginsWith, ToldSystem, outside};
-ghost use Rattle.wh_top.specs.Proving.{CauseIsThere, IsFoundText, IsNotFound, IsTextOf, StandsForSearch};
+ghost use Rattle.wh_top.specs.Proving.{CauseIsThere, IsFoundText, IsNotFound, StandsForSearch};
 ghost use Rattle.wh_judging.specs.Rows.{sort_name};
 ghost use Rattle.wh_top.specs.Causes.{finder_named, named_cause};
 
 use std::alloc::{AllocError, Global};
 use wh_access::NoRanks;
-use wh_answer::{NamedCause, NamedFinder, Names, Report, Role};
-use wh_cert::Certificate;
-use wh_cert_print::print_certificate;
+use wh_answer::{NamedCause, NamedFinder, Names, Report};
 use wh_io::Shelf;
-use wh_judging::{CERTIFICATE_LIMIT, Problem, meta_name, problem_in};
+use wh_judging::{Problem, meta_name, problem_in};
 use wh_prover::{Answer, Cause, Finder, Options, prove};
 use wh_system::System;
 use wh_text::Name;
 use wh_types::{Bytes, Numbers, Or};
+use wh_upgrading::certificate_text;
 
 /// The text of a proof of termination of the system in the file, or of a loop, or why there is neither.
 pub fn prove_file<S: Shelf>(
@@ -35,7 +32,7 @@ pub fn prove_file<S: Shelf>(
     requires { options.now.depth ≤ 100 }
     ensures found { MatchOr result (λ text. ToldSystem (S.held shelf.old file.now) (λ d ps. IsFoundText d ps options.now text))
         (StandsForSearch (outside (S.held shelf.old) (S.faults shelf.old) (S.faults shelf.new)) file.now options.now) }
-    ensures begins { IfOk result (λ text. BeginsWith (codes "YES 1") text ⊎ BeginsWith (codes "NO 1") text) }
+    ensures begins { IfOk result (λ text. BeginsWith (codes "YES ") text ⊎ BeginsWith (codes "NO 1") text) }
     ensures within { IfOk result (λ text. length text ≤ certificate_limit) }
     ensures kept { (other : List ℕ) → S.held shelf.new other ≡ S.held shelf.old other }
 {
@@ -49,7 +46,7 @@ fn found_text(alloc: Global, problem: &Problem, options: &Options) -> Result<Byt
     requires depth { options.now.depth ≤ 100 }
     ensures found { MatchOr result (IsFoundText (system_data problem.now.system) (pairs_data problem.now.pairs) options.now)
         (IsNotFound (system_data problem.now.system) (pairs_data problem.now.pairs) options.now) }
-    ensures begins { IfOk result (λ text. BeginsWith (codes "YES 1") text ⊎ BeginsWith (codes "NO 1") text) }
+    ensures begins { IfOk result (λ text. BeginsWith (codes "YES ") text ⊎ BeginsWith (codes "NO 1") text) }
     ensures within { IfOk result (λ text. length text ≤ certificate_limit) }
 {
     problem.system.is_well_made();
@@ -61,19 +58,6 @@ fn found_text(alloc: Global, problem: &Problem, options: &Options) -> Result<Byt
             Err(Or::Because(Report::Maybe(named)))
         }
     }
-}
-
-// The text of a certificate, if it is not longer than an output may be.
-fn certificate_text(alloc: Global, certificate: &Certificate) -> Result<Bytes, Or<Report>>
-    requires { IsCert (said certificate.now) }
-    ensures text { IsTextOf (said certificate.now) result }
-    ensures within { IfOk result (λ text. length text ≤ certificate_limit) }
-{
-    let text = print_certificate(alloc, certificate)?;
-    if text.as_slice().len() as u64 > CERTIFICATE_LIMIT {
-        return Err(Or::Because(Report::TooLong(Role::Output)));
-    }
-    Ok(text)
 }
 
 /// Why nothing was found, with names in place of numbers. A list of clauses or of terms is told by its length.

@@ -15,6 +15,6 @@ pub first_not : {A : Type 0} (Q : A → Type 0) (xs : List A) (numbers : List �
 first_not Q xs numbers i n x there at before fails = record {
   place = i;
   there = there;
-  fails = λ y same holds. fails (subst Q (some_one same at) holds);
+  fails = (x, at, fails);
   before = λ k m y less at_k at_m. before k m less at_k y at_m;
 }

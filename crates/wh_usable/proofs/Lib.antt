@@ -1,7 +1,8 @@
 mod FlatSides
 mod CallLemmas
-mod Whole
+pub mod Whole
 mod Firsts
 mod RuleLemmas
 mod RuleAt
 mod TableLemmas
+pub mod Decisions

@@ -17,7 +17,7 @@ number_is (suc f) (suc g) = elim (number_is f g) [
   | inr n ↦ inr (λ e. n (omega (arith, e)))
 ]
 
-symbol_is : (f : ℕ) (t : Tm) → (t ≡ fun f) ⊎ (t ≡ fun f → ⊥)
+pub symbol_is : (f : ℕ) (t : Tm) → (t ≡ fun f) ⊎ (t ≡ fun f → ⊥)
 symbol_is f (fun g) = elim (number_is f g) [
   | inl e ↦ inl (ap fun e)
   | inr n ↦ inr (λ e. n (cc e))

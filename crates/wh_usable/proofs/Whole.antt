@@ -1,8 +1,17 @@
--- Increasing numbers below a bound, as many as there are, are all of them.
-use Rattle.std.proofs.Common.{◌≡◌, ℕ, suc, ◌+◌, ◌<◌, ◌≤◌, List, [], ◌∷◌, length, All, refl, ap, ap₂, ◌∙◌, arith}
+-- All numbers below a bound are an increasing list, and increasing numbers below it, as many as there are, are all of them.
+use Rattle.std.proofs.Common.{◌≡◌, ℕ, zero, suc, ◌+◌, ◌<◌, ◌≤◌, List, [], ◌∷◌, length, All, refl, ap, ap₂, ◌∙◌, arith}
 use Rattle.wh_pairs.specs.PairData.{IsIncreasing}
 use Rattle.wh_reduction.specs.TaskData.{numbers_from}
-use Rattle.wh_reduction.proofs.Numbers.{numbers_length}
+use Rattle.wh_reduction.proofs.Numbers.{numbers_length, numbers_within}
+use Rattle.wh_usable.specs.Closed.{AreRulesInOrder}
+
+numbers_increase : (n k : ℕ) → IsIncreasing (numbers_from n k)
+numbers_increase n zero = tt
+numbers_increase n (suc zero) = tt
+numbers_increase n (suc (suc k)) = (omega arith, numbers_increase (suc n) (suc k))
+
+pub all_in_order : (count : ℕ) → AreRulesInOrder count (numbers_from 0 count)
+all_in_order count = (numbers_increase 0 count, numbers_within count)
 
 -- the numbers rise from a on and end before b
 abbrev Between : ℕ → ℕ → List ℕ → Type 0

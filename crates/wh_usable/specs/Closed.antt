@@ -1,10 +1,10 @@
 -- Lists of rules that a set of dependency pairs uses: the interpretation of a node may leave out all other rules.
-use Rattle.std.specs.Prelude.{ℕ, ◌≡◌, ◌⊎◌, List, [], ◌∷◌, Contains, Some, slice_get}
+use Rattle.std.specs.Prelude.{ℕ, ◌≡◌, ◌<◌, ◌⊎◌, List, [], ◌∷◌, length, All, Contains, Some, slice_get}
 use Rattle.wh_types.specs.Ty.{sort}
 use Rattle.wh_terms.specs.Tree.{Tm, fun, meta, lam, app, head, Tms, none, more}
 use Rattle.wh_terms.specs.Typing.{Symbols, Typed}
 use Rattle.wh_terms.specs.Rules.{RewriteRule}
-use Rattle.wh_pairs.specs.PairData.{PairData}
+use Rattle.wh_pairs.specs.PairData.{PairData, IsIncreasing}
 use Rattle.wh_pairs.specs.Sets.{InSet}
 use Rattle.wh_reduction.specs.TaskData.{TaskData, CoversAll}
 use Rattle.wh_polycheck.specs.Marks.{marked_types}
@@ -63,3 +63,13 @@ AreClosedPairs T = (p : PairData) → InSet T.pairs T.set p → IsClosedPair T.s
 -- is closed (ours)
 abbrev pub IsClosed : TaskData → Type 0
 IsClosed T = CoversAll T ⊎ (AreClosedRules T × AreClosedPairs T)
+
+-- the numbers are those of rules, of which there are so many, each above the one before
+abbrev pub AreRulesInOrder : ℕ → List ℕ → Type 0
+AreRulesInOrder count numbers = IsIncreasing numbers × All (λ n. n < count) numbers
+
+-- the rules that are to be covered are rules, listed in increasing order, and closed for the set
+pub record IsUsable (T : TaskData) : Type 0 where
+  pub increasing : IsIncreasing T.covered
+  pub are_rules : All (λ n. n < length T.rules) T.covered
+  pub closed : IsClosed T

@@ -9,7 +9,7 @@ use Rattle.wh_usable.specs.declared.closed.NotClosed.TheVariants.{Rule, Pair}
 pub record IsFirstNot {A : Type 0} (Q : A → Type 0) (xs : List A) (numbers : List ℕ) (n : ℕ) : Type 0 where
   pub place : ℕ
   pub there : slice_get numbers place ≡ Some n
-  pub fails : (x : A) → slice_get xs n ≡ Some x → Q x → ⊥
+  pub fails : (x : A) × (slice_get xs n ≡ Some x) × (Q x → ⊥)
   pub before : (k m : ℕ) (x : A) → k < place → slice_get numbers k ≡ Some m → slice_get xs m ≡ Some x → Q x
 
 -- the first listed rule that is not closed, and the first pair of the set

@@ -4,6 +4,10 @@
 
 mod calls;
 mod closed;
+mod laws;
+mod listed;
 mod sides;
 
 pub use closed::{NotClosed, check_closed};
+pub use laws::lists_are_closed_or_first_open;
+pub use listed::are_rules_in_order;

@@ -1,7 +1,7 @@
 -- The words and the numbers among items.
 use Rattle.std.proofs.Common.{ℕ, ◌≡◌, ◌<◌, ◌^◌, inl, inr, List, [], ◌∷◌, ◌++◌, length, refl, sym, ap, ◌∙◌, arith}
 use Rattle.std.proofs.lemmas.List.{length-append}
-use Rattle.wh_words.specs.Words.{Setting, tries, depth, visited, Item, alone, set, words_in, numbers_for}
+use Rattle.wh_words.specs.Words.{Setting, tries, depth, visited, steps, Item, alone, set, words_in, numbers_for}
 use Rattle.wh_words.specs.Kept.{Fits, Within}
 
 pub words_in-append : (items more : List Item) → words_in (items ++ more) ≡ words_in items ++ words_in more
@@ -15,17 +15,25 @@ numbers_for-append s (alone word ∷ items) more = numbers_for-append s items mo
 numbers_for-append tries (set tries n ∷ items) more = ap (λ ns. n ∷ ns) (numbers_for-append tries items more)
 numbers_for-append tries (set depth n ∷ items) more = numbers_for-append tries items more
 numbers_for-append tries (set visited n ∷ items) more = numbers_for-append tries items more
+numbers_for-append tries (set steps n ∷ items) more = numbers_for-append tries items more
 numbers_for-append depth (set tries n ∷ items) more = numbers_for-append depth items more
 numbers_for-append depth (set depth n ∷ items) more = ap (λ ns. n ∷ ns) (numbers_for-append depth items more)
 numbers_for-append depth (set visited n ∷ items) more = numbers_for-append depth items more
+numbers_for-append depth (set steps n ∷ items) more = numbers_for-append depth items more
 numbers_for-append visited (set tries n ∷ items) more = numbers_for-append visited items more
 numbers_for-append visited (set depth n ∷ items) more = numbers_for-append visited items more
 numbers_for-append visited (set visited n ∷ items) more = ap (λ ns. n ∷ ns) (numbers_for-append visited items more)
+numbers_for-append visited (set steps n ∷ items) more = numbers_for-append visited items more
+numbers_for-append steps (set tries n ∷ items) more = numbers_for-append steps items more
+numbers_for-append steps (set depth n ∷ items) more = numbers_for-append steps items more
+numbers_for-append steps (set visited n ∷ items) more = numbers_for-append steps items more
+numbers_for-append steps (set steps n ∷ items) more = ap (λ ns. n ∷ ns) (numbers_for-append steps items more)
 
 pub numbers_for-set : (s : Setting) (n : ℕ) (items : List Item) → numbers_for s (set s n ∷ items) ≡ n ∷ numbers_for s items
 numbers_for-set tries n items = refl
 numbers_for-set depth n items = refl
 numbers_for-set visited n items = refl
+numbers_for-set steps n items = refl
 
 -- before a word by itself stands at most one other
 pub room_for_word : (items : List Item) (word : List ℕ) (more : List Item) → Fits (items ++ alone word ∷ more) → length (words_in items) < 2
@@ -59,3 +67,4 @@ pub within_is_long : (s : Setting) (n : ℕ) → Within s n → n < 2 ^ 64
 within_is_long tries n w = omega arith
 within_is_long depth n w = omega arith
 within_is_long visited n w = omega arith
+within_is_long steps n w = omega arith

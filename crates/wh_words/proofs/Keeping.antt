@@ -4,8 +4,8 @@ use Rattle.std.specs.Fmt.{decimal}
 use Rattle.std.proofs.lemmas.Fmt.{decimal_injective}
 use Rattle.std.proofs.lemmas.Bool.{false≢true}
 use Rattle.std.proofs.lemmas.List.{append-nil}
-use Rattle.wh_words.specs.Words.{Setting, tries, depth, visited, Item, alone, set, words_in, numbers_for}
-use Rattle.wh_words.specs.Kept.{Adds, AddsNone, Fits, Within, AllWithin, Sums, Sets, SetsNo, SetsNone, words_of, number_of, listed}
+use Rattle.wh_words.specs.Words.{Setting, tries, depth, visited, steps, Item, alone, set, words_in, numbers_for}
+use Rattle.wh_words.specs.Kept.{Adds, AddsNone, Fits, Within, AllWithin, Sums, Sets, SetsNo, SetsNoBounds, SetsNone, words_of, number_of, listed}
 use Rattle.wh_words.specs.declared.kept.Kept.{Kept}
 use Rattle.wh_words.proofs.Among.{words_in-append, numbers_for-append, numbers_for-set, room_for_word, room_for_number, within_is_long}
 
@@ -15,11 +15,13 @@ pub record KeepsWord (old : Kept) (word : List ℕ) (new : Kept) : Type 0 where
   pub tries : new.tries ≡ old.tries
   pub depth : new.depth ≡ old.depth
   pub visited : new.visited ≡ old.visited
+  pub steps : new.steps ≡ old.steps
 
 same_numbers : (old new : Kept) (word : List ℕ) → KeepsWord old word new → (s : Setting) → number_of new s ≡ number_of old s
 same_numbers old new word k tries = k.tries
 same_numbers old new word k depth = k.depth
 same_numbers old new word k visited = k.visited
+same_numbers old new word k steps = k.steps
 
 pub adds_word : (old new : Kept) (word : List ℕ) → KeepsWord old word new → Adds old (alone word ∷ []) new
 adds_word old new word k items sums = record {
@@ -114,6 +116,7 @@ told_tries old place = told old (record old { tries = place }) tries refl others
     others tries = inl refl
     others depth = inr (λ _. refl, refl)
     others visited = inr (λ _. refl, refl)
+    others steps = inr (λ _. refl, refl)
 
 pub told_depth : (old : Kept) (place : Option ℕ) (word : List ℕ) (number : ℕ) (r : Option (Unit {0})) → decimal number ≡ word → Within depth number
     → IsPut r old.depth number place → MatchOption r (SetsNone old depth word) (λ _. Sets old depth word (record old { depth = place }))
@@ -123,6 +126,7 @@ told_depth old place = told old (record old { depth = place }) depth refl others
     others tries = inr (λ _. refl, refl)
     others depth = inl refl
     others visited = inr (λ _. refl, refl)
+    others steps = inr (λ _. refl, refl)
 
 pub told_visited : (old : Kept) (place : Option ℕ) (word : List ℕ) (number : ℕ) (r : Option (Unit {0})) → decimal number ≡ word → Within visited number
     → IsPut r old.visited number place → MatchOption r (SetsNone old visited word) (λ _. Sets old visited word (record old { visited = place }))
@@ -132,6 +136,17 @@ told_visited old place = told old (record old { visited = place }) visited refl 
     others tries = inr (λ _. refl, refl)
     others depth = inr (λ _. refl, refl)
     others visited = inl refl
+    others steps = inr (λ _. refl, refl)
+
+pub told_steps : (old : Kept) (place : Option ℕ) (word : List ℕ) (number : ℕ) (r : Option (Unit {0})) → decimal number ≡ word → Within steps number
+    → IsPut r old.steps number place → MatchOption r (SetsNone old steps word) (λ _. Sets old steps word (record old { steps = place }))
+told_steps old place = told old (record old { steps = place }) steps refl others
+  where
+    others : (t : Setting) → (t ≡ steps) ⊎ IsApart steps old (record old { steps = place }) t
+    others tries = inr (λ _. refl, refl)
+    others depth = inr (λ _. refl, refl)
+    others visited = inr (λ _. refl, refl)
+    others steps = inl refl
 
 pub none_where : (o : Option ℕ) (r : Bool) → is_some o ≡ not r → r ≡ true → o ≡ None
 none_where None r e t = refl
@@ -143,20 +158,32 @@ some_where o true e f none = cc
 some_where None false e f none = cc
 some_where (Some n) false e f none = cc
 
--- where no other number is kept, the last tells whether any is
-pub none_set : (kept : Kept) → kept.tries ≡ None → kept.depth ≡ None → (r : Bool) → is_some kept.visited ≡ not r → IsTrue r ↔ SetsNo kept
-none_set kept no_tries no_depth r last = (λ t. all (none_where kept.visited r last t), λ none. both r last (none visited))
+-- where P asks of one number alone that it is not kept, that tells whether P holds
+pub last_tells : (P : Type 0) (o : Option ℕ) (r : Bool) → is_some o ≡ not r → (o ≡ None → P) → (P → o ≡ None) → IsTrue r ↔ P
+last_tells P o r last to from = (λ t. to (none_where o r last t), λ p. both r last (from p))
   where
-    all : kept.visited ≡ None → (s : Setting) → number_of kept s ≡ None
-    all no_visited tries = no_tries
-    all no_visited depth = no_depth
-    all no_visited visited = no_visited
-
-    both : (r : Bool) → is_some kept.visited ≡ not r → kept.visited ≡ None → IsTrue r
+    both : (r : Bool) → is_some o ≡ not r → o ≡ None → IsTrue r
     both true e none = refl
-    both false e none = absurd (some_where kept.visited false e refl none)
+    both false e none = absurd (some_where o false e refl none)
 
--- where one is kept, not none is
-pub some_set : (kept : Kept) (s : Setting) (r one : Bool) → r ≡ false → is_some (number_of kept s) ≡ not one → one ≡ false → IsTrue r ↔ SetsNo kept
-some_set kept s r one is other not_one =
-    (λ t. absurd (false≢true (sym is ∙ t)), λ none. absurd (some_where (number_of kept s) one other not_one (none s)))
+-- where a number is kept that P asks not to be kept, P does not hold
+pub one_tells : (P : Type 0) (o : Option ℕ) (r one : Bool) → r ≡ false → is_some o ≡ not one → one ≡ false → (P → o ≡ None) → IsTrue r ↔ P
+one_tells P o r one is other not_one none =
+    (λ t. absurd (false≢true (sym is ∙ t)), λ p. absurd (some_where o one other not_one (none p)))
+
+-- no number is kept where no bound is, nor how many steps are taken
+set_none : (kept : Kept) → SetsNoBounds kept → kept.steps ≡ None → SetsNo kept
+set_none kept bounds none tries = bounds.tries
+set_none kept bounds none depth = bounds.depth
+set_none kept bounds none visited = bounds.visited
+set_none kept bounds none steps = none
+
+pub no_bounds : (kept : Kept) → SetsNo kept → SetsNoBounds kept
+no_bounds kept none = record { tries = none tries; depth = none depth; visited = none visited }
+
+pub sets_none_where : (kept : Kept) → SetsNoBounds kept → (r : Bool) → is_some kept.steps ≡ not r → IsTrue r ↔ SetsNo kept
+sets_none_where kept bounds r last = (λ t. set_none kept bounds (none_where kept.steps r last t), λ none. both r last (none steps))
+  where
+    both : (r : Bool) → is_some kept.steps ≡ not r → kept.steps ≡ None → IsTrue r
+    both true e none = refl
+    both false e none = absurd (some_where kept.steps false e refl none)

@@ -1,8 +1,8 @@
 -- Words ask for one request at most.
-use Rattle.std.proofs.Common.{ℕ, ◌≡◌, ◌<◌, ◌^◌, inl, inr, List, [], ◌∷◌, ◌++◌, get_or, refl, sym, ap, ap₂, ◌∙◌, subst, arith, append_assoc}
+use Rattle.std.proofs.Common.{ℕ, ◌+◌, ◌≡◌, ◌<◌, ◌^◌, inl, inr, List, [], ◌∷◌, ◌++◌, get_or, refl, sym, ap, ap₂, ◌∙◌, subst, arith, append_assoc}
 use Rattle.std.specs.Fmt.{decimal}
 use Rattle.std.proofs.lemmas.Fmt.{decimal_injective}
-use Rattle.wh_words.specs.Words.{Setting, tries, depth, visited, Item, alone, set, Say, say_none, say_rest, say_alone, say_joined, say_apart, SetTo, Bounds, SetBounds, Request, check, prove, show, gen, Asks}
+use Rattle.wh_words.specs.Words.{Setting, tries, depth, visited, steps, Item, alone, set, Say, say_none, say_rest, say_alone, say_joined, say_apart, SetTo, Bounds, SetBounds, Request, check, prove, show, gen, reduce, upgrade, refute, Asks}
 use Rattle.wh_words.specs.Kept.{Fits}
 use Rattle.wh_words.specs.Answers.{Wants}
 use Rattle.wh_words.proofs.Among.{room_for_number, within_is_long}
@@ -56,21 +56,27 @@ bounds_one items b c sets also =
     let same_visited = set_one items visited b.visited c.visited sets.visited also.visited in
     λ i. record { tries = same_tries i; depth = same_depth i; visited = same_visited i }
 
--- the byte that tells the commands apart
-abbrev first : List ℕ → ℕ
-first word = get_or word 0 0
+-- the sum of two bytes tells the commands apart
+abbrev mark : List ℕ → ℕ
+mark word = get_or word 0 0 + get_or word 2 0
 
 abbrev letter : Request → ℕ
-letter (check file cert) = 99
-letter (prove file b) = 112
-letter (show file) = 115
-letter (gen n) = 103
+letter (check file cert) = 200
+letter (prove file b) = 223
+letter (show file) = 226
+letter (gen n) = 213
+letter (reduce file term n) = 214
+letter (upgrade file cert) = 220
+letter (refute file n) = 216
 
-wants_letter : (command : List ℕ) (items : List Item) (a : Request) → Wants command items a → first command ≡ letter a
-wants_letter command items (check file cert) w = ap first w.0
-wants_letter command items (prove file b) w = ap first w.0
-wants_letter command items (show file) w = ap first w.0
-wants_letter command items (gen n) w = ap first w.0
+wants_letter : (command : List ℕ) (items : List Item) (a : Request) → Wants command items a → mark command ≡ letter a
+wants_letter command items (check file cert) w = ap mark w.0
+wants_letter command items (prove file b) w = ap mark w.0
+wants_letter command items (show file) w = ap mark w.0
+wants_letter command items (gen n) w = ap mark w.0
+wants_letter command items (reduce file term n) w = ap mark w.0
+wants_letter command items (upgrade file cert) w = ap mark w.0
+wants_letter command items (refute file n) w = ap mark w.0
 
 -- a command asks for one thing with the items
 wants_one : (command : List ℕ) (items : List Item) (a b : Request) → letter a ≡ letter b → Wants command items a → Wants command items b → a ≡ b
@@ -88,6 +94,19 @@ wants_one command items (gen n) (gen m) e w v =
     let few = w.3 in
     let also_few = v.3 in
     ap gen (decimal_injective n m (omega arith) (omega arith) spelled)
+wants_one command items (reduce file term n) (reduce other by m) e w v =
+    let here = w.1 in
+    let there = v.1 in
+    let files : file ≡ other = cc in
+    let terms : term ≡ by = cc in
+    let counts = set_one items steps n m w.2.steps v.2.steps in
+    λ i. reduce (files i) (terms i) (counts i)
+wants_one command items (upgrade file cert) (upgrade other by) e w v = let here = w.1 in let there = v.1 in cc
+wants_one command items (refute file n) (refute other m) e w v =
+    let here = w.1 in
+    let there = v.1 in
+    let files : file ≡ other = cc in
+    ap₂ refute files (set_one items tries n m w.2.tries v.2.tries)
 wants_one command items a b e w v = absurd (omega arith)
 
 pub one_request : (words : List (List ℕ)) (a b : Request) → Asks words a → Asks words b → a ≡ b

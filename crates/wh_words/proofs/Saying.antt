@@ -1,27 +1,31 @@
 -- What words say, told from the first word: each of them in one way.
 use Rattle.std.proofs.Common.{ℕ, ◌≡◌, List, [], ◌∷◌, ◌++◌, All, map, codes, get_or, refl, sym, ap, ◌∙◌, subst, arith}
 use Rattle.std.specs.Fmt.{decimal}
-use Rattle.wh_words.specs.Words.{Setting, tries, depth, visited, option_of, Item, alone, set, IsFilled, IsPlain, Say, say_none, say_rest, say_alone, say_joined, say_apart}
+use Rattle.wh_words.specs.Words.{Setting, tries, depth, visited, steps, option_of, Item, alone, set, IsFilled, IsPlain, Say, say_none, say_rest, say_alone, say_joined, say_apart}
 
 option_is_not_plain : (s : Setting) → IsPlain (option_of s) → ⊥
 option_is_not_plain tries plain = plain refl
 option_is_not_plain depth plain = plain refl
 option_is_not_plain visited plain = plain refl
+option_is_not_plain steps plain = plain refl
 
 joined_is_not_plain : (s : Setting) (number : List ℕ) → IsPlain (option_of s ++ 61 ∷ number) → ⊥
 joined_is_not_plain tries number plain = plain refl
 joined_is_not_plain depth number plain = plain refl
 joined_is_not_plain visited number plain = plain refl
+joined_is_not_plain steps number plain = plain refl
 
 end_is_no_option : (s : Setting) → codes "--" ≡ option_of s → ⊥
 end_is_no_option tries e = cc
 end_is_no_option depth e = cc
 end_is_no_option visited e = cc
+end_is_no_option steps e = cc
 
 end_is_not_joined : (s : Setting) (number : List ℕ) → codes "--" ≡ option_of s ++ 61 ∷ number → ⊥
 end_is_not_joined tries number e = cc
 end_is_not_joined depth number e = cc
 end_is_not_joined visited number e = cc
+end_is_not_joined steps number e = cc
 
 -- the byte that tells the options apart
 third : List ℕ → ℕ
@@ -31,30 +35,40 @@ mark : Setting → ℕ
 mark tries = 116
 mark depth = 100
 mark visited = 118
+mark steps = 115
 
 mark_is_injective : (s t : Setting) → mark s ≡ mark t → s ≡ t
 unfolding mark
 mark_is_injective tries tries e = refl
 mark_is_injective tries depth e = absurd (omega arith)
 mark_is_injective tries visited e = absurd (omega arith)
+mark_is_injective tries steps e = absurd (omega arith)
 mark_is_injective depth tries e = absurd (omega arith)
 mark_is_injective depth depth e = refl
 mark_is_injective depth visited e = absurd (omega arith)
+mark_is_injective depth steps e = absurd (omega arith)
 mark_is_injective visited tries e = absurd (omega arith)
 mark_is_injective visited depth e = absurd (omega arith)
 mark_is_injective visited visited e = refl
+mark_is_injective visited steps e = absurd (omega arith)
+mark_is_injective steps tries e = absurd (omega arith)
+mark_is_injective steps depth e = absurd (omega arith)
+mark_is_injective steps visited e = absurd (omega arith)
+mark_is_injective steps steps e = refl
 
 third-option : (s : Setting) → third (option_of s) ≡ mark s
 unfolding third mark
 third-option tries = refl
 third-option depth = refl
 third-option visited = refl
+third-option steps = refl
 
 third-joined : (s : Setting) (number : List ℕ) → third (option_of s ++ 61 ∷ number) ≡ mark s
 unfolding third mark
 third-joined tries number = refl
 third-joined depth number = refl
 third-joined visited number = refl
+third-joined steps number = refl
 
 same_option : (s t : Setting) → option_of s ≡ option_of t → s ≡ t
 same_option s t e = mark_is_injective s t (sym (third-option s) ∙ ap third e ∙ third-option t)
@@ -63,6 +77,7 @@ same_number : (s : Setting) (a b : List ℕ) → option_of s ++ 61 ∷ a ≡ opt
 same_number tries a b e = cc
 same_number depth a b e = cc
 same_number visited a b e = cc
+same_number steps a b e = cc
 
 same_joined : (s t : Setting) (a b : List ℕ) → option_of s ++ 61 ∷ a ≡ option_of t ++ 61 ∷ b → (s ≡ t) × (a ≡ b)
 same_joined s t a b e =
@@ -73,6 +88,7 @@ no_number : (s : Setting) (number : List ℕ) → option_of s ≡ option_of s ++
 no_number tries number e = cc
 no_number depth number e = cc
 no_number visited number e = cc
+no_number steps number e = cc
 
 option_is_not_joined : (s t : Setting) (number : List ℕ) → option_of s ≡ option_of t ++ 61 ∷ number → ⊥
 option_is_not_joined s t number e =

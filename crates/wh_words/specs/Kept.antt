@@ -1,7 +1,7 @@
 -- What the code keeps of the words behind the command. Only contracts of private functions cite this.
 use Rattle.std.specs.Prelude.{ℕ, ◌≡◌, ◌≤◌, ◌⊎◌, ◌++◌, List, [], ◌∷◌, Option, Some, None, length, unwrap_or}
 use Rattle.std.specs.Fmt.{decimal}
-use Rattle.wh_words.specs.Words.{Setting, tries, depth, visited, Item, set, Say, least, most, usual, words_in, numbers_for, Bounds}
+use Rattle.wh_words.specs.Words.{Setting, tries, depth, visited, steps, Item, set, Say, least, most, usual, words_in, numbers_for, Bounds}
 use Rattle.wh_words.specs.declared.kept.Alone.{Alone}
 use Rattle.wh_words.specs.declared.kept.Alone.TheVariants.{Nothing, One, Two}
 use Rattle.wh_words.specs.declared.kept.Kept.{Kept}
@@ -21,6 +21,7 @@ abbrev pub number_of : Kept → Setting → Option ℕ
 number_of kept tries = kept.tries
 number_of kept depth = kept.depth
 number_of kept visited = kept.visited
+number_of kept steps = kept.steps
 
 -- the numbers in an option (ours)
 abbrev pub listed : Option ℕ → List ℕ
@@ -34,6 +35,18 @@ AllWithin kept = (s : Setting) (n : ℕ) → number_of kept s ≡ Some n → Wit
 -- no number is kept (ours)
 abbrev pub SetsNo : Kept → Type 0
 SetsNo kept = (s : Setting) → number_of kept s ≡ None
+
+-- no number that bounds a search is kept (ours)
+pub record SetsNoBounds (kept : Kept) : Type 0 where
+  pub tries : kept.tries ≡ None
+  pub depth : kept.depth ≡ None
+  pub visited : kept.visited ≡ None
+
+-- no number is kept but how many clauses a finder may learn (ours)
+pub record SetsTriesAlone (kept : Kept) : Type 0 where
+  pub depth : kept.depth ≡ None
+  pub visited : kept.visited ≡ None
+  pub steps : kept.steps ≡ None
 
 -- what is kept sums up the items (ours)
 pub record Sums (kept : Kept) (items : List Item) : Type 0 where

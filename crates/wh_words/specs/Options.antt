@@ -2,15 +2,16 @@
 use Rattle.std.specs.Prelude.{ℕ, ◌≡◌, ◌≢◌, ◌++◌, List, ◌∷◌, Option, Some, None}
 use Rattle.std.specs.Borrow.{Bor}
 use Rattle.wh_words.specs.Words as said
-use Rattle.wh_words.specs.Words.{option_of, tries, depth, visited}
+use Rattle.wh_words.specs.Words.{option_of, tries, depth, visited, steps}
 use Rattle.wh_words.specs.declared.options.Setting.{Setting}
-use Rattle.wh_words.specs.declared.options.Setting.TheVariants.{Tries, Depth, Visited}
+use Rattle.wh_words.specs.declared.options.Setting.TheVariants.{Tries, Depth, Visited, Steps}
 
 -- the setting that the code means (ours)
 abbrev pub which : Setting → said.Setting
 which Tries = tries
 which Depth = depth
 which Visited = visited
+which Steps = steps
 
 -- the word is no setting's option (ours)
 abbrev pub NamesNone : List ℕ → Type 0

@@ -1,7 +1,7 @@
 //! What is kept of the words behind the command.
 
 ghost use Rattle.std.specs.Prelude.{ℕ, ◌≡◌, ◌↔◌, ◌++◌, List, [], ◌∷◌, All, IsTrue, MatchOption, Some, None, map, string_bytes};
-ghost use Rattle.wh_words.specs.Kept.{Adds, AddsNone, Sets, SetsNo, SetsNone, Sums};
+ghost use Rattle.wh_words.specs.Kept.{Adds, AddsNone, Sets, SetsNo, SetsNoBounds, SetsNone, SetsTriesAlone, Sums};
 ghost use Rattle.wh_words.specs.Options.{which};
 ghost use Rattle.wh_words.specs.Words.{IsFilled, Item, alone};
 
@@ -30,6 +30,8 @@ pub struct Kept<'a> {
     pub depth: Option<u64>,
     /// What `--visited` sets.
     pub visited: Option<u64>,
+    /// What `--steps` sets.
+    pub steps: Option<u64>,
 }
 
 impl<'a> Kept<'a> {
@@ -42,6 +44,7 @@ impl<'a> Kept<'a> {
             tries: None,
             depth: None,
             visited: None,
+            steps: None,
         }
     }
 
@@ -49,7 +52,21 @@ impl<'a> Kept<'a> {
     pub fn sets_none(&self) -> bool
         ensures { IsTrue result ↔ SetsNo self.now }
     {
+        self.sets_no_bounds() && self.steps.is_none()
+    }
+
+    /// Whether no option stood that bounds a search.
+    pub fn sets_no_bounds(&self) -> bool
+        ensures { IsTrue result ↔ SetsNoBounds self.now }
+    {
         self.tries.is_none() && self.depth.is_none() && self.visited.is_none()
+    }
+
+    /// Whether no option stood but `--tries`.
+    pub fn sets_tries_alone(&self) -> bool
+        ensures { IsTrue result ↔ SetsTriesAlone self.now }
+    {
+        self.depth.is_none() && self.visited.is_none() && self.steps.is_none()
     }
 
     /// Keeps one more word by itself; `None` where it is the third.
@@ -92,6 +109,7 @@ impl<'a> Kept<'a> {
             Setting::Tries => set_once(&mut self.tries, number),
             Setting::Depth => set_once(&mut self.depth, number),
             Setting::Visited => set_once(&mut self.visited, number),
+            Setting::Steps => set_once(&mut self.steps, number),
         }
     }
 }

@@ -14,6 +14,8 @@ pub enum Setting {
     Depth,
     /// How many terms the search for loops may keep.
     Visited,
+    /// How many steps a reduction takes at most.
+    Steps,
 }
 
 impl Setting {
@@ -25,6 +27,7 @@ impl Setting {
             Setting::Tries => number <= 1_000_000,
             Setting::Depth => number <= 100,
             Setting::Visited => 1 <= number && number <= 10_000,
+            Setting::Steps => number <= 10_000,
         }
     }
 }
@@ -58,6 +61,7 @@ fn setting_of(name: &str) -> Option<Setting>
         "--tries" => Some(Setting::Tries),
         "--depth" => Some(Setting::Depth),
         "--visited" => Some(Setting::Visited),
+        "--steps" => Some(Setting::Steps),
         _ => None,
     }
 }

@@ -1,12 +1,12 @@
 //! What the words ask for.
 
-ghost use Rattle.std.specs.Prelude.{ℕ, ◌≡◌, ◌≤◌, MatchOption, codes, map, string_bytes};
+ghost use Rattle.std.specs.Prelude.{ℕ, ◌≡◌, ◌≤◌, MatchOption, codes, map, string_bytes, unwrap_or};
 ghost use Rattle.std.specs.Fmt.{decimal};
 ghost use Rattle.wh_types.specs.Limits.{most_generated};
 ghost use Rattle.wh_words.specs.Answers.{Answers};
 ghost use Rattle.wh_words.specs.Asked.{bounds_of, request};
 ghost use Rattle.wh_words.specs.Kept.{AllWithin, SetsAll};
-ghost use Rattle.wh_words.specs.Words.{Asks, Request, gen};
+ghost use Rattle.wh_words.specs.Words.{Asks, Request, gen, steps, tries, usual};
 
 use crate::items::read_items;
 use crate::kept::{Alone, Kept};
@@ -50,6 +50,29 @@ pub enum Command<'a> {
         /// The number: 1 to 200.
         n: u32,
     },
+    /// To reduce a term of a system.
+    Reduce {
+        /// The name of the system file.
+        file: &'a str,
+        /// The text of the term.
+        term: &'a str,
+        /// How many steps are taken at most: 0 to 10,000.
+        steps: u32,
+    },
+    /// To write a certificate in the second version of the format, where it is accepted.
+    Upgrade {
+        /// The name of the system file.
+        file: &'a str,
+        /// The name of the certificate file.
+        cert: &'a str,
+    },
+    /// To refute that a projection drops a pair, where a search for a proof is stuck.
+    Refute {
+        /// The name of the system file.
+        file: &'a str,
+        /// How many clauses a finder, or the refutation, may learn for one set: 0 to 1,000,000.
+        tries: u64,
+    },
 }
 
 /// What the words ask for; `None` exactly where they are none of the program's. It takes no memory.
@@ -79,6 +102,9 @@ fn asked<'a>(command: &str, kept: &Kept<'a>) -> Option<Command<'a>>
         "prove" => prove(kept),
         "show" => show(kept),
         "gen" => generate(kept),
+        "reduce" => reduce(kept),
+        "upgrade" => upgrade(kept),
+        "refute" => refute(kept),
         _ => None,
     }
 }
@@ -99,7 +125,7 @@ fn prove<'a>(kept: &Kept<'a>) -> Option<Command<'a>>
     ensures { Answers (codes "prove") kept.now result }
 {
     match kept.alone {
-        Alone::One(file) => Some(Command::Prove {
+        Alone::One(file) if kept.steps.is_none() => Some(Command::Prove {
             file,
             limits: bounds(kept),
         }),
@@ -138,6 +164,60 @@ fn generated(word: &str) -> Option<Command<'static>>
     } else {
         None
     }
+}
+
+// `reduce FILE TERM`, with `--steps N`.
+fn reduce<'a>(kept: &Kept<'a>) -> Option<Command<'a>>
+    requires { AllWithin kept.now }
+    ensures { Answers (codes "reduce") kept.now result }
+{
+    match kept.alone {
+        Alone::Two(file, term) if kept.sets_no_bounds() => Some(Command::Reduce {
+            file,
+            term,
+            steps: steps(kept),
+        }),
+        _ => None,
+    }
+}
+
+// `upgrade FILE CERT`.
+fn upgrade<'a>(kept: &Kept<'a>) -> Option<Command<'a>>
+    ensures { Answers (codes "upgrade") kept.now result }
+{
+    match kept.alone {
+        Alone::Two(file, cert) if kept.sets_none() => Some(Command::Upgrade { file, cert }),
+        _ => None,
+    }
+}
+
+// `refute FILE`, with `--tries N`.
+fn refute<'a>(kept: &Kept<'a>) -> Option<Command<'a>>
+    requires { AllWithin kept.now }
+    ensures { Answers (codes "refute") kept.now result }
+{
+    match kept.alone {
+        Alone::One(file) if kept.sets_tries_alone() => Some(Command::Refute {
+            file,
+            tries: clauses(kept),
+        }),
+        _ => None,
+    }
+}
+
+// How many clauses are set, or usual where none are.
+fn clauses(kept: &Kept<'_>) -> u64
+    ensures { result ≡ unwrap_or kept.now.tries (usual tries) }
+{
+    kept.tries.unwrap_or(10_000)
+}
+
+// How many steps are set, or usual where none are.
+fn steps(kept: &Kept<'_>) -> u32
+    requires { AllWithin kept.now }
+    ensures { result ≡ unwrap_or kept.now.steps (usual steps) }
+{
+    kept.steps.unwrap_or(1_000) as u32
 }
 
 // What is set, or usual where nothing is.

@@ -2,7 +2,7 @@
 
 ghost use Rattle.std.specs.Bool.{OnTrue};
 ghost use Rattle.std.specs.Prelude.{◌≡◌, ◌+◌, ◌<◌, ◌++◌, [], ◌∷◌, IfOk, OnOk, false, length, replicate};
-ghost use Rattle.wh_sat.specs.Answers.{Answers};
+ghost use Rattle.wh_sat.specs.Answers.{Answers, IsRefutedInTheEnd};
 ghost use Rattle.wh_sat.specs.State.{Extends, Sound, clauses_of, variables_of};
 ghost use Rattle.wh_sat_trail.specs.Assignment.{AllBelow};
 ghost use Rattle.wh_sat_trail.specs.Propagation.{Within};
@@ -63,6 +63,7 @@ impl Learner {
         ensures sound { OnOk result (Sound self.new) }
         ensures extends { OnOk result (Extends self.old self.new) }
         ensures answer { IfOk result (Answers self.new) }
+        ensures refuted { IfOk result (IsRefutedInTheEnd self.new) }
     {
         // Whether the decisions were planned at the last conflict: the next one is learnt from.
         let mut is_planned = false;

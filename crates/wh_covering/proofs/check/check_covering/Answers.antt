@@ -35,6 +35,9 @@ returns-clause-covering c =
     (λ rules pairs. covering_holds T R E with_limits c.in_ok-check_ready.ensures rules pairs c.requires.readings)
     c.check_lines.ensures.rules c.check_lines.ensures.pairs
 
+pub returns-clause-closed : goal.returns-clause-closed
+returns-clause-closed c = ok_both c.check_lines.result _ _ _ (λ rules pairs. c.in_ok-check_ready.ensures.closed) c.check_lines.ensures.rules c.check_lines.ensures.pairs
+
 pub returns-clause-small : goal.returns-clause-small
 returns-clause-small c =
     let T = task_data c.args.task.now in

@@ -4,7 +4,7 @@ use Rattle.wh_words.specs.Asked.{bounds_of, request}
 use Rattle.wh_judging.specs.Outcomes.{Shelves, outside}
 use Rattle.wh_top.specs.Run.{Replies}
 use Rattle.wh_judging.specs.Texts.{TellsMade}
-use Rattle.wh_top.proofs.Replying.{search_replies, show_replies, generated_replies}
+use Rattle.wh_top.proofs.Replying.{search_replies, show_replies, generated_replies, reduced_replies, upgraded_replies, refuted_replies}
 use Rattle.wh_top.proofs.program.reply_to.Goals as goal
 
 pub returns-in-Prove-clause-served : goal.returns-in-Prove-clause-served
@@ -35,3 +35,33 @@ returns-in-Gen-clause-served g c =
     c.reply_with-in-Gen.result
     (λ reply tells. subst (λ command. Replies s (request command) reply.status reply.text) (sym c.in-Gen.is)
     (generated_replies s c.in-Gen.n made reply.status reply.text c.generated.ensures tells)) c.reply_with-in-Gen.ensures
+
+pub returns-in-Reduce-clause-served : goal.returns-in-Reduce-clause-served
+returns-in-Reduce-clause-served g c =
+    let s : Shelves = outside (g.S.Shelf.held c.args.shelf.now) (g.S.Shelf.faults c.args.shelf.now) (g.S.Shelf.faults c.reduce_file.new.shelf) in
+    let made = c.reduce_file.result in
+    IfOk-map (λ reply. TellsMade made reply.status reply.text) (λ reply. Replies s (request c.args.command.now) reply.status reply.text)
+    c.reply_with-in-Reduce.result
+    (λ reply tells. subst (λ command. Replies s (request command) reply.status reply.text) (sym c.in-Reduce.is)
+    (reduced_replies s c.in-Reduce.file.now c.in-Reduce.term.now c.in-Reduce.steps made reply.status reply.text c.reduce_file.ensures.reduced
+    c.reduce_file.ensures.begins tells)) c.reply_with-in-Reduce.ensures
+
+pub returns-in-Upgrade-clause-served : goal.returns-in-Upgrade-clause-served
+returns-in-Upgrade-clause-served g c =
+    let s : Shelves = outside (g.S.Shelf.held c.args.shelf.now) (g.S.Shelf.faults c.args.shelf.now) (g.S.Shelf.faults c.upgrade_files.new.shelf) in
+    let made = c.upgrade_files.result in
+    IfOk-map (λ reply. TellsMade made reply.status reply.text) (λ reply. Replies s (request c.args.command.now) reply.status reply.text)
+    c.reply_with-in-Upgrade.result
+    (λ reply tells. subst (λ command. Replies s (request command) reply.status reply.text) (sym c.in-Upgrade.is)
+    (upgraded_replies s c.in-Upgrade.file.now c.in-Upgrade.cert.now made reply.status reply.text c.upgrade_files.ensures.upgraded
+    c.upgrade_files.ensures.within tells)) c.reply_with-in-Upgrade.ensures
+
+pub returns-in-Refute-clause-served : goal.returns-in-Refute-clause-served
+returns-in-Refute-clause-served g c =
+    let s : Shelves = outside (g.S.Shelf.held c.args.shelf.now) (g.S.Shelf.faults c.args.shelf.now) (g.S.Shelf.faults c.refute_file.new.shelf) in
+    let made = c.refute_file.result in
+    IfOk-map (λ reply. TellsMade made reply.status reply.text) (λ reply. Replies s (request c.args.command.now) reply.status reply.text)
+    c.reply_with-in-Refute.result
+    (λ reply tells. subst (λ command. Replies s (request command) reply.status reply.text) (sym c.in-Refute.is)
+    (refuted_replies s c.in-Refute.file.now c.in-Refute.tries c.options_with-options.result made reply.status reply.text c.options_with-options.ensures
+    c.refute_file.ensures.refuted c.refute_file.ensures.begins tells)) c.reply_with-in-Refute.ensures

@@ -9,7 +9,7 @@ use Rattle.wh_sat.specs.Learning.{Refutes}
 use Rattle.wh_sat.specs.State.{clauses_of, variables_of}
 use Rattle.wh_sat.proofs.Leveling.{levels_start, conflict_refutes}
 use Rattle.wh_sat_trail.specs.declared.formula.Formula.{Formula}
-use Rattle.wh_sat.proofs.Searching.{extends_trans, extends_as, known_trail, sound_back, sound_ground, ground_conflict, closed_solves, levels_after, levels_decided, trail_short, turns, turns_planned, turns_learnt, measure_turned, measure_decided}
+use Rattle.wh_sat.proofs.Searching.{extends_trans, extends_as, known_trail, sound_back, sound_ground, ground_conflict, ground_refutes, closed_solves, levels_after, levels_decided, trail_short, turns, turns_planned, turns_learnt, measure_turned, measure_decided}
 use Rattle.wh_sat.specs.declared.learner.Learner.{Learner}
 use Rattle.wh_sat.proofs.learner.Learner.next.Goals as goal
 
@@ -38,6 +38,20 @@ returns-then-levels-eq0-clause-answer c =
     let kw : k < length (clauses_of b) = subst (λ (f : Formula). k < length f.clauses) (sym e.same) a.0 in
     let kr : IsRefuted (assigned u) (get_or (clauses_of b) k []) = subst (λ (f : Formula). IsRefuted (assigned u) (get_or f.clauses k [])) (sym e.same) a.1 in
     (omega (arith, c.if-self-eq0.false), ground_conflict b k (omega (arith, c.levels.ensures, c.if-levels-eq0.true)) q lv kw kr)
+
+pub returns-then-levels-eq0-clause-refuted : goal.returns-then-levels-eq0-clause-refuted
+returns-then-levels-eq0-clause-refuted c =
+    let s = c.loop-self.self in
+    let i = c.loop-self.invariant in
+    let u = c.propagate.new.self in
+    let e = c.propagate.ensures in
+    let b : Learner = record s { trail = u } in
+    let lv = levels_after s.trail u e.same e.marks e.grows i.levels in
+    let a = rw c.in-Some.is at c.in_ok-clause.ensures.answer in
+    let k = c.in-Some.clause in
+    let kw : k < length (clauses_of b) = subst (λ (f : Formula). k < length f.clauses) (sym e.same) a.0 in
+    let kr : IsRefuted (assigned u) (get_or (clauses_of b) k []) = subst (λ (f : Formula). IsRefuted (assigned u) (get_or f.clauses k [])) (sym e.same) a.1 in
+    ground_refutes b k (omega (arith, c.levels.ensures, c.if-levels-eq0.true)) lv kw kr
 
 pub learn-requires-clause-known : goal.learn-requires-clause-known
 learn-requires-clause-known c =

@@ -15,4 +15,4 @@ returns c =
       | in-Nothing w ↦ rw (w.self-is, w.in-Nothing.is) refl
       | in-One w ↦ rw (w.self-is, w.in-One.is) refl
     ] in
-    adds_word c.args.self.now _ c.args.word.now (record { words = words; tries = refl; depth = refl; visited = refl })
+    adds_word c.args.self.now _ c.args.word.now (record { words = words; tries = refl; depth = refl; visited = refl; steps = refl })

@@ -1,6 +1,6 @@
 use Rattle.wh_words.specs.Options.{which}
 use Rattle.wh_words.specs.Kept.{Within}
-use Rattle.wh_words.proofs.Keeping.{spells_none, spells_other, told_tries, told_depth, told_visited}
+use Rattle.wh_words.proofs.Keeping.{spells_none, spells_other, told_tries, told_depth, told_visited, told_steps}
 use Rattle.wh_words.proofs.kept.Kept.set.Goals as goal
 
 pub returns-in_err-number : goal.returns-in_err-number
@@ -29,3 +29,9 @@ returns-in-Visited c =
     let here = c.allows.ensures.0 c.if-not-allows.false in
     rw c.in-Visited.is (told_visited c.args.self.now c.set_once-in-Visited.new.place c.args.word.now c.in_ok-number.number c.set_once-in-Visited.result
     c.in_ok-number.ensures.1 (rw c.in-Visited.is at here) c.set_once-in-Visited.ensures)
+
+pub returns-in-Steps : goal.returns-in-Steps
+returns-in-Steps c =
+    let here = c.allows.ensures.0 c.if-not-allows.false in
+    rw c.in-Steps.is (told_steps c.args.self.now c.set_once-in-Steps.new.place c.args.word.now c.in_ok-number.number c.set_once-in-Steps.result
+    c.in_ok-number.ensures.1 (rw c.in-Steps.is at here) c.set_once-in-Steps.ensures)

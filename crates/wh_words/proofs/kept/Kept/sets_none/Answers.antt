@@ -1,24 +1,14 @@
+use Rattle.std.proofs.Common.{sym, ◌∙◌}
 use Rattle.std.proofs.lemmas.Bool.{false≢true}
-use Rattle.std.proofs.Common.{◌≡◌, sym, true, false, None}
-use Rattle.wh_words.specs.Words.{tries, depth}
-use Rattle.wh_words.proofs.Keeping.{none_set, some_set, none_where}
+use Rattle.wh_words.proofs.Keeping.{sets_none_where, no_bounds}
 use Rattle.wh_words.proofs.kept.Kept.sets_none.Goals as goal
-use Rattle.wh_words.proofs.kept.Kept.sets_none.Goals.{then-is_none, else-is_none}
 
-pub returns-then-is_none-2 : goal.returns-then-is_none-2
-returns-then-is_none-2 c =
-    let two : (c.args.self.now.tries ≡ None) × (c.args.self.now.depth ≡ None) = elim c.if-is_none.branch [
-      | then-is_none w ↦
-          let both : w.is_none-then-is_none.result ≡ true = cc in
-          (none_where _ _ c.is_none.ensures w.if-is_none.true, none_where _ _ w.is_none-then-is_none.ensures both)
-      | else-is_none w ↦ let e : true ≡ false = cc in absurd (false≢true (sym e))
-    ] in
-    none_set c.args.self.now two.0 two.1 _ c.is_none-then-is_none-2.ensures
+pub returns-then-sets_no_bounds : goal.returns-then-sets_no_bounds
+returns-then-sets_no_bounds c =
+    sets_none_where c.args.self.now (c.sets_no_bounds.ensures.0 c.if-sets_no_bounds.true) _ c.is_none.ensures
 
-pub returns-else-is_none-2 : goal.returns-else-is_none-2
-returns-else-is_none-2 c = elim c.if-is_none.branch [
-  | then-is_none w ↦
-      let one : w.is_none-then-is_none.result ≡ false = cc in
-      some_set c.args.self.now depth _ _ c.if-is_none-2.false w.is_none-then-is_none.ensures one
-  | else-is_none w ↦ some_set c.args.self.now tries _ _ c.if-is_none-2.false c.is_none.ensures w.if-is_none.false
-]
+pub returns-else-sets_no_bounds : goal.returns-else-sets_no_bounds
+returns-else-sets_no_bounds c = (
+  λ t. absurd (false≢true (sym c.if-sets_no_bounds.false ∙ t)),
+  λ none. c.sets_no_bounds.ensures.1 (no_bounds c.args.self.now none),
+)

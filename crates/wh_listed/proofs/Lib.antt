@@ -1,0 +1,4 @@
+pub mod Closing
+pub mod Reaching
+pub mod Entries
+pub mod Passing

@@ -1,0 +1,3 @@
+pub mod GivenTerms
+pub mod ToldLines
+pub mod OneText
