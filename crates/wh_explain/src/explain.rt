@@ -14,12 +14,12 @@ use crate::judge::{Verdict, judged, word_of};
 use crate::loops::put_loop;
 use crate::tree::put_tree;
 use std::alloc::{AllocError, Global};
-use wh_answer::{Report, Role};
+use wh_answer::Report;
 use wh_cert::Certificate;
 use wh_cert_print::print_certificate;
 use wh_cert_text::read_certificate;
-use wh_io::{ReadFault, Shelf, read_whole};
-use wh_judging::{CERTIFICATE_LIMIT, Problem, problem_in};
+use wh_io::Shelf;
+use wh_judging::{CERTIFICATE_LIMIT, Problem, certificate_in, problem_in};
 use wh_prover::{Answer, Options, prove};
 use wh_system::System;
 use wh_tell::Piece::{Big, Count, Number};
@@ -70,20 +70,6 @@ pub fn graph_file<S: Shelf>(alloc: Global, shelf: &mut S, file: &str) -> Result<
     let mut text = Text::new(alloc)?;
     put_graph(alloc, &mut text, &problem.system, &problem.pairs)?;
     Ok(text.into_bytes())
-}
-
-// The bytes of the certificate file.
-fn certificate_in<S: Shelf>(alloc: Global, shelf: &mut S, name: &str) -> Result<Bytes, Or<Report>> {
-    match read_whole(alloc, shelf, name, CERTIFICATE_LIMIT) {
-        Ok(bytes) => Ok(bytes),
-        Err(Or::NoMemory) => Err(Or::NoMemory),
-        Err(Or::Because(ReadFault::Failed)) => {
-            Err(Or::Because(Report::ReadFault(Role::Certificate)))
-        }
-        Err(Or::Because(ReadFault::TooLong)) => Err(Or::Because(Report::TooLong(
-            Role::Certificate,
-        ))),
-    }
 }
 
 // What a search for a certificate comes to. What it finds is printed, and explained as a text from elsewhere.

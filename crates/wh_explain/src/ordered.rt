@@ -65,7 +65,8 @@ fn put_inferences(
     let system = &problem.system;
     system.is_well_made();
     pairs_have_marked_sides();
-    let (funs, marks) = (node.funs.as_slice(), node.marks.as_slice());
+    let funs = node.funs.as_slice();
+    let marks = node.marks.as_slice();
     let Some(filters) = filters_of_lines(alloc, system, &problem.pairs, set, funs, marks)? else {
         return Ok(());
     };

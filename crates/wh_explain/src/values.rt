@@ -3,7 +3,7 @@
 
 ghost use Rattle.std.specs.Prelude.{◌≡◌, ◌<◌, ℕ, All, Contains, Some, length, map, slice_get};
 ghost use Rattle.wh_system.specs.SystemView.{system_data};
-ghost use Rattle.wh_pairs.specs.PairData.{PairData};
+ghost use Rattle.wh_pairs.specs.PairData.{IsIncreasing, PairData};
 ghost use Rattle.wh_pairs.specs.SystemPairs.{HasPairs};
 ghost use Rattle.wh_pairs.specs.Views.{pairs_data};
 ghost use Rattle.wh_polycheck.specs.Covering.{IsTypedTask};
@@ -25,8 +25,8 @@ use wh_judging::Problem;
 use wh_meaning::pairs_have_marked_sides;
 use wh_pairs::PairSet;
 use wh_polycheck::{Readings, interpretations_in_order_interpret};
-use wh_proof::{marks_of_set, symbols_of};
-use wh_reduction::{Task, all_rules};
+use wh_proof::{marks_of_set, rules_to_cover, symbols_of};
+use wh_reduction::Task;
 use wh_tell::{Text, tell_line};
 use wh_types::Or;
 
@@ -67,6 +67,9 @@ fn put_values(
     let system = &problem.system;
     system.is_well_made();
     pairs_have_marked_sides();
+    let Some(rules) = rules_to_cover(alloc, system, &node.usable)? else {
+        return Ok(());
+    };
     let Some(symbols) = symbols_of(alloc, system, node.funs.as_slice())? else {
         return Ok(());
     };
@@ -74,12 +77,11 @@ fn put_values(
     else {
         return Ok(());
     };
-    let covered = all_rules(alloc, system)?;
     let task = Task {
         system,
         pairs: problem.pairs.as_slice(),
         set: set.as_slice(),
-        covered: &covered,
+        covered: &rules,
     };
     let readings = Readings {
         symbols: &symbols,
@@ -98,6 +100,7 @@ fn put_under<'a, 'b>(
     depth: u32,
 ) -> Result<(), AllocError>
     requires task { IsTypedTask (task_data task.now) }
+    requires increasing { IsIncreasing (task_data task.now).covered }
     requires says { SayCovering (system_data task.now.system.now) (pairs_data task.now.pairs.now) task.now.set.now
         (map said_interp node.now.funs) (map said_interp node.now.marks) (readings_data readings.now) }
 {
