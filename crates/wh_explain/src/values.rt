@@ -27,7 +27,7 @@ use wh_pairs::PairSet;
 use wh_polycheck::{Readings, interpretations_in_order_interpret};
 use wh_proof::{marks_of_set, rules_to_cover, symbols_of};
 use wh_reduction::Task;
-use wh_tell::{Text, tell_line};
+use wh_tell::{Text, put_numbers, tell_line};
 use wh_types::Or;
 
 /// Appends what symbols are read as, what both sides of each rule and pair are worth, and which pairs are dropped.
@@ -46,6 +46,12 @@ pub fn put_interpretation(
     tell_line(text, depth, words, &[])?;
     put_readings(text, "", node.funs.as_slice(), depth.saturating_add(1))?;
     put_readings(text, "#", node.marks.as_slice(), depth.saturating_add(1))?;
+    if let Some(listed) = &node.usable {
+        text.indent(depth)?;
+        text.say("Only these rules are covered, since what the pairs call uses no others:")?;
+        put_numbers(text, listed.as_slice())?;
+        text.say("\n")?;
+    }
     if is_within(set, problem.pairs.as_slice().len()) {
         put_values(alloc, text, problem, set, node, depth)?;
     }
