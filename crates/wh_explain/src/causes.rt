@@ -5,9 +5,7 @@ ghost use Rattle.wh_system.specs.SystemView.{system_data};
 ghost use Rattle.wh_pairs.specs.SystemPairs.{HasPairs};
 ghost use Rattle.wh_pairs.specs.Views.{pairs_data};
 
-use crate::closest::put_closest_projection;
 use crate::guessed::put_best_guess;
-use crate::within::is_within;
 use std::alloc::{AllocError, Global};
 use wh_access::NoRanks;
 use wh_judging::Problem;
@@ -15,6 +13,7 @@ use wh_pairs::PairSet;
 use wh_prover::{Answer, Cause, Finder, Options, prove};
 use wh_tell::Piece::{Named, Number, Unknown};
 use wh_tell::{Text, names_of_rule, names_of_system, put_pairs, tell, tell_line};
+use wh_tell_parts::{is_within, put_closest_projection};
 
 // What a search came to that ended on a set of pairs.
 const NONE_LETS_GO: &str =
@@ -137,7 +136,7 @@ fn put_stuck(
         set.as_slice(),
         1,
     )?;
-    put_closest_projection(alloc, text, problem, set)?;
+    put_closest_projection(alloc, text, &problem.system, problem.pairs.as_slice(), set)?;
     if is_within(set, problem.pairs.as_slice().len()) {
         put_best_guess(alloc, text, problem, set)?;
     }

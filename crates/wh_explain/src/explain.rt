@@ -11,7 +11,6 @@ ghost use Rattle.wh_explain.specs.Meaning.{Means, MeansLoop, MeansProof, MeantBy
 
 use crate::causes::put_cause;
 use crate::judge::{Verdict, judged, word_of};
-use crate::loops::put_loop;
 use crate::tree::put_tree;
 use std::alloc::{AllocError, Global};
 use wh_answer::Report;
@@ -24,6 +23,7 @@ use wh_prover::{Answer, Options, prove};
 use wh_system::System;
 use wh_tell::Piece::{Big, Count, Number};
 use wh_tell::{Text, put_graph, put_lints, put_pair_line, put_ranks, tell, tell_line};
+use wh_tell_parts::put_loop;
 use wh_types::{Bytes, Or, counted};
 
 /// The bounds of a search, which are those of `prove` where it is given none.

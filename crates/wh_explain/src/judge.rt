@@ -48,6 +48,7 @@ pub fn word_of(verdict: &Verdict) -> &'static [u8]
 }
 
 /// What the check says of the certificate.
+#[tactic(auto, using(crate::proofs::Texts::some_unbounded))]
 pub fn judged(
     alloc: Global,
     problem: &Problem,

@@ -3,21 +3,13 @@
 #![tactic(auto)]
 
 mod causes;
-mod closest;
 mod explain;
-mod filtered;
 mod guessed;
-mod inferred;
 mod judge;
-mod loops;
 mod ordered;
-mod projected;
 mod request;
-mod stepping;
 mod tree;
-mod valued;
 mod values;
-mod within;
 
 pub use explain::{explain_file, graph_file, lint_file};
 pub use judge::{Verdict, judged, word_of};

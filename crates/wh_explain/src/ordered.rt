@@ -12,9 +12,6 @@ ghost use Rattle.wh_ordering.specs.FilteringView.{filtering_data};
 ghost use Rattle.wh_cert.specs.Said.{said_filter};
 ghost use Rattle.wh_checker.specs.Faults.{SayOrdering};
 
-use crate::inferred::{put_filters, put_inferred};
-use crate::projected::put_dropped;
-use crate::within::is_within;
 use std::alloc::{AllocError, Global};
 use wh_cert::OrderNode;
 use wh_judging::Problem;
@@ -26,6 +23,7 @@ use wh_pairs::PairSet;
 use wh_proof::filters_of_lines;
 use wh_reduction::{Task, all_rules};
 use wh_tell::{Text, names_of_rule, put_pair_line, put_rule_line, tell_line};
+use wh_tell_parts::{is_within, put_dropped, put_filters, put_inferred};
 use wh_types::Or;
 
 /// Appends how symbols are filtered, the inferences of each rule and pair, and which pairs are dropped.

@@ -5,7 +5,6 @@ ghost use Rattle.wh_pairs.specs.SystemPairs.{HasPairs};
 ghost use Rattle.wh_pairs.specs.Views.{pairs_data};
 
 use crate::ordered::put_order;
-use crate::projected::put_projection;
 use crate::values::put_interpretation;
 use std::alloc::{AllocError, Global};
 use wh_cert::{Node, YesCertificate};
@@ -13,6 +12,7 @@ use wh_judging::Problem;
 use wh_pairs::{PairSet, kept, numbers_below, set_of};
 use wh_tell::Piece::Count;
 use wh_tell::{Text, put_numbers, put_pairs, tell, tell_line};
+use wh_tell_parts::put_projection;
 use wh_types::counted;
 
 /// A set of pairs that a node is to deal with, and how deep that node stands in the tree.
@@ -82,7 +82,8 @@ fn put_node(
         Node::Blocks(blocks) => put_blocks(text, blocks.as_slice().len(), depth),
         Node::Subterm { args, drop } => put_projection(
             text,
-            problem,
+            &problem.system,
+            problem.pairs.as_slice(),
             level.set.as_slice(),
             args.as_slice(),
             drop.as_slice(),

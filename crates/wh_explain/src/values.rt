@@ -14,9 +14,6 @@ ghost use Rattle.wh_reduction.specs.TaskView.{task_data};
 ghost use Rattle.wh_cert.specs.Said.{said_interp};
 ghost use Rattle.wh_checker.specs.Faults.{SayCovering};
 
-use crate::projected::put_dropped;
-use crate::valued::{put_pair_values, put_readings, put_rule_values};
-use crate::within::is_within;
 use std::alloc::{AllocError, Global};
 use wh_cert::PolyNode;
 use wh_covering::{Evidence, check_covering};
@@ -28,6 +25,7 @@ use wh_polycheck::{Readings, interpretations_in_order_interpret};
 use wh_proof::{marks_of_set, rules_to_cover, symbols_of};
 use wh_reduction::Task;
 use wh_tell::{Text, put_numbers, tell_line};
+use wh_tell_parts::{is_within, put_dropped, put_pair_values, put_readings, put_rule_values};
 use wh_types::Or;
 
 /// Appends what symbols are read as, what both sides of each rule and pair are worth, and which pairs are dropped.

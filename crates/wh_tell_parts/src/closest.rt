@@ -2,7 +2,6 @@
 //! as many of them as can be found by changing one argument at a time. Others may keep as many.
 
 use std::alloc::{AllocError, Global};
-use wh_judging::Problem;
 use wh_pairs::{Pair, PairSet};
 use wh_subterm::{Relation, relation_at};
 use wh_system::System;
@@ -15,18 +14,19 @@ use wh_types::counted;
 const ROUNDS: u32 = 4;
 
 /// Appends the projection that comes closest, and the pairs that stop it.
-pub fn put_closest_projection(
+pub fn put_closest_projection<'a>(
     alloc: Global,
     text: &mut Text,
-    problem: &Problem,
+    system: &'a System,
+    pairs: &'a [Pair],
     set: &PairSet,
 ) -> Result<(), AllocError> {
-    let pairs = pairs_of_set(alloc, problem, set.as_slice())?;
-    let mut chosen = first_arguments(alloc, problem.system.fun_names().len())?;
+    let members = pairs_of_set(alloc, pairs, set.as_slice())?;
+    let mut chosen = first_arguments(alloc, system.fun_names().len())?;
     for _ in 0..ROUNDS {
-        improve(&problem.system, &pairs, &mut chosen);
+        improve(system, &members, &mut chosen);
     }
-    put_chosen(text, problem, set.as_slice(), &chosen)
+    put_chosen(text, system, pairs, set.as_slice(), &chosen)
 }
 
 // The first argument of each of so many symbols.
@@ -41,12 +41,12 @@ fn first_arguments(alloc: Global, count: usize) -> Result<Vec<u32>, AllocError> 
 // The pairs of a set.
 fn pairs_of_set<'a>(
     alloc: Global,
-    problem: &'a Problem,
+    pairs: &'a [Pair],
     set: &[u32],
 ) -> Result<Vec<&'a Pair>, AllocError> {
     let mut found = Vec::new(alloc);
     for number in set {
-        if let Some(pair) = problem.pairs.as_slice().get(*number as usize) {
+        if let Some(pair) = pairs.get(*number as usize) {
             found.push(pair)?;
         }
     }
@@ -108,18 +108,19 @@ fn relation_in(pair: &Pair, chosen: &[u32]) -> Relation {
 }
 
 // Appends the choices and the pairs that stop them.
-fn put_chosen(
+fn put_chosen<'a>(
     text: &mut Text,
-    problem: &Problem,
+    system: &'a System,
+    pairs: &'a [Pair],
     set: &[u32],
     chosen: &[u32],
 ) -> Result<(), AllocError> {
     text.say("A projection that comes close looks at the arguments:")?;
-    put_choices(text, problem, set, chosen)?;
+    put_choices(text, system, pairs, set, chosen)?;
     text.say(".\n")?;
     for number in set {
-        if let Some(pair) = problem.pairs.as_slice().get(*number as usize) {
-            put_relation(text, &problem.system, *number, pair, chosen)?;
+        if let Some(pair) = pairs.get(*number as usize) {
+            put_relation(text, system, *number, pair, chosen)?;
         }
     }
     Ok(())
@@ -128,14 +129,15 @@ fn put_chosen(
 // Appends the chosen argument of each symbol that heads a side of a pair of the set.
 fn put_choices(
     text: &mut Text,
-    problem: &Problem,
+    system: &System,
+    pairs: &[Pair],
     set: &[u32],
     chosen: &[u32],
 ) -> Result<(), AllocError> {
-    let names = names_of_system(&problem.system);
+    let names = names_of_system(system);
     for (symbol, place) in chosen.iter().enumerate() {
         let symbol = counted(symbol)?;
-        if heads_some(problem, set, symbol) {
+        if heads_some(pairs, set, symbol) {
             let place = Number(place.saturating_add(1));
             tell(text, " @ @", &[Named(names.funs, symbol), place])?;
         }
@@ -144,9 +146,9 @@ fn put_choices(
 }
 
 // Whether the symbol heads a side of a pair of the set.
-fn heads_some(problem: &Problem, set: &[u32], symbol: u32) -> bool {
+fn heads_some(pairs: &[Pair], set: &[u32], symbol: u32) -> bool {
     for number in set {
-        if let Some(pair) = problem.pairs.as_slice().get(*number as usize) {
+        if let Some(pair) = pairs.get(*number as usize) {
             if pair.left_fun == symbol || pair.right_fun == symbol {
                 return true;
             }

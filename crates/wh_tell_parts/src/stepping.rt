@@ -18,7 +18,10 @@ pub fn term_after(
         return Ok(None);
     }
     match type_of(alloc, system.signature(), &no_metas, term)? {
-        Some(_) => step_at(alloc, system.rules(), term, &step.path, step.rule),
+        Some(found) => {
+            drop(found);
+            step_at(alloc, system.rules(), term, &step.path, step.rule)
+        }
         None => Ok(None),
     }
 }

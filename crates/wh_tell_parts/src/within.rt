@@ -8,10 +8,8 @@ use wh_pairs::PairSet;
 pub fn is_within(set: &PairSet, count: usize) -> bool
     ensures { IsTrue result → All (λ n. n < count) set.now }
 {
-    for number in set.as_slice() {
-        if *number as usize >= count {
-            return false;
-        }
+    match set.as_slice().last() {
+        Some(last) => (*last as usize) < count,
+        None => true,
     }
-    true
 }

@@ -2,7 +2,6 @@
 
 use std::alloc::AllocError;
 use wh_cert::Arg;
-use wh_judging::Problem;
 use wh_pairs::Pair;
 use wh_system::System;
 use wh_tell::Piece::{Number, Say, Spell, Tree};
@@ -10,9 +9,10 @@ use wh_tell::{Names, Text, names_of_rule, put_numbers, put_pair_line, tell, tell
 use wh_terms::{Term, Terms, same};
 
 /// Appends which argument of each symbol is looked at, and what becomes of it in each pair of the set.
-pub fn put_projection(
+pub fn put_projection<'a>(
     text: &mut Text,
-    problem: &Problem,
+    system: &'a System,
+    pairs: &'a [Pair],
     set: &[u32],
     args: &[Arg],
     drop: &[u32],
@@ -20,9 +20,9 @@ pub fn put_projection(
 ) -> Result<(), AllocError> {
     put_choices(text, args, depth)?;
     for number in set {
-        if let Some(pair) = problem.pairs.as_slice().get(*number as usize) {
-            put_pair_line(text, &problem.system, *number, pair, depth)?;
-            put_compared(text, &problem.system, pair, args, depth.saturating_add(1))?;
+        if let Some(pair) = pairs.get(*number as usize) {
+            put_pair_line(text, system, *number, pair, depth)?;
+            put_compared(text, system, pair, args, depth.saturating_add(1))?;
         }
     }
     put_dropped(text, drop, depth)
