@@ -46,11 +46,24 @@ pub fn explain_file<S: Shelf>(
     ensures endless { IfOk result (λ text. BeginsWith (codes "NO") text → Told (S.held shelf.old file.now) MeansLoop) }
 {
     let problem = problem_in(alloc, shelf, file)?;
+    explanation(alloc, shelf, &problem, cert)
+}
+
+// The explanation of a system, by the certificate in the file or by a search.
+fn explanation<S: Shelf>(
+    alloc: Global,
+    shelf: &mut S,
+    problem: &Problem,
+    cert: Option<&str>,
+) -> Result<Bytes, Or<Report>>
+    requires { HasPairs (system_data problem.now.system) (pairs_data problem.now.pairs) }
+    ensures { IfOk result (Means (system_data problem.now.system)) }
+{
     match cert {
-        None => Ok(searched(alloc, &problem)?),
+        None => Ok(searched(alloc, problem)?),
         Some(name) => {
             let bytes = certificate_in(alloc, shelf, name)?;
-            Ok(explained(alloc, &problem, bytes.as_slice())?)
+            Ok(explained(alloc, problem, bytes.as_slice())?)
         }
     }
 }
