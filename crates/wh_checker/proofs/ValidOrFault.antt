@@ -32,7 +32,7 @@ use Rattle.wh_polycheck.specs.Covering.{IsCovering}
 use Rattle.wh_hopoly.specs.Moves.{Transfer}
 use Rattle.wh_inference.specs.Inferences.{Inference}
 use Rattle.wh_inference.specs.FilterText.{WrittenFilter}
-use Rattle.wh_ordering.specs.Filterings.{FilteringData, MarkFilter, AreFiltersFor}
+use Rattle.wh_ordering.specs.Filterings.{FilteringData, MarkFilter}
 use Rattle.wh_ordering.specs.Ordering.{IsOrdering}
 use Rattle.wh_orienting.specs.OrderingFaults.{IsFirstOrderingFault}
 use Rattle.wh_orienting.specs.declared.fault.OrderingFault.{OrderingFault}

@@ -13,7 +13,6 @@ use Rattle.wh_subterm.specs.declared.projection.SubtermFault.TheVariants as proj
 use Rattle.wh_cert.specs.Written as w
 use Rattle.wh_cert.specs.Written.{Cert, yes, no}
 use Rattle.wh_cert.specs.Interps.{Interp}
-use Rattle.wh_inference.specs.Inferences.{Inference}
 use Rattle.wh_ordering.specs.Filterings.{FilteringData}
 use Rattle.wh_orienting.specs.OrderingFaults.{IsFirstOrderingFault}
 use Rattle.wh_orienting.specs.declared.fault.OrderingFault.{OrderingFault}

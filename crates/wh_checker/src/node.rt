@@ -27,7 +27,9 @@ use wh_ordering::Filters;
 use wh_orienting::{Inferred, check_ordering};
 use wh_pairs::{Pair, PairList, PairSet, kept};
 use wh_polycheck::Readings;
-use wh_proof::{choices_of, filters_of_lines, marks_of_set, open_blocks, rules_to_cover, symbols_of};
+use wh_proof::{
+    choices_of, filters_of_lines, marks_of_set, open_blocks, rules_to_cover, symbols_of,
+};
 use wh_reduction::{Task, all_rules};
 use wh_subterm::{SubtermFault, check_projection};
 use wh_system::System;

@@ -1,5 +1,5 @@
 -- Entries one by one.
-use Rattle.std.proofs.Common.{◌≡◌, ℕ, suc, ◌+◌, ◌<◌, ◌≤◌, inl, inr, List, [], ◌∷◌, ◌++◌, Some, Contains, length, get_or, map, take, slice_get, refl, sym, ◌∙◌, ap, subst, arith}
+use Rattle.std.proofs.Common.{◌≡◌, ℕ, suc, ◌+◌, ◌<◌, ◌≤◌, inl, inr, List, [], ◌∷◌, ◌++◌, Some, Contains, length, get_or, map, take, slice_get, sym, ◌∙◌, ap, subst, arith}
 use Rattle.std.proofs.lemmas.Bool.{cases_lt}
 use Rattle.std.proofs.lemmas.List.{append-nil, append_assoc, length_push, length-take-le, map-append, take-append-le, get_or_append_left, take_all}
 use Rattle.std.proofs.lemmas.List.Elements.{Contains-push_cases}
@@ -7,7 +7,7 @@ use Rattle.std.proofs.lemmas.Option.{slice_get-get_or, get_or_from_slice_get}
 use Rattle.std.proofs.Math.Seq.{get_or-append_seam, take-append_seam, take-suc}
 use Rattle.wh_sat_trail.specs.declared.literal.Literal.{Literal}
 use Rattle.wh_sat_trail.specs.declared.entry.Entry.{Entry}
-use Rattle.wh_refute.specs.Refuting.{IsGoodEntry, AreGoodBefore, EndsEmpty, IsRefutation, clauses_before}
+use Rattle.wh_refute.specs.Refuting.{IsGoodEntry, AreGoodBefore, IsRefutation}
 
 -- the clauses of entries
 abbrev pub clauses_in : List Entry → List (List Literal)

@@ -1,6 +1,6 @@
 //! Hints for a clause: numbers of clauses that lead from the negations of its literals to a clause that is false.
 
-ghost use Rattle.std.specs.Prelude.{◌≡◌, ◌⊎◌, ◌+◌, ◌<◌, ◌≤◌, ◌^◌, [], ℕ, IfOk, List, MatchBool, length, map};
+ghost use Rattle.std.specs.Prelude.{◌≡◌, ◌+◌, ◌<◌, ◌≤◌, ◌^◌, [], IfOk, List, MatchBool, length, map};
 ghost use Rattle.wh_sat_trail.specs.Assignment.{AllBelow, negated};
 ghost use Rattle.wh_sat_trail.specs.Propagation.{Within};
 ghost use Rattle.wh_sat_trail.specs.declared.literal.Literal.{Literal};

@@ -1,6 +1,6 @@
 //! The list of clauses with hints that learnt clauses come to.
 
-ghost use Rattle.std.specs.Prelude.{◌≡◌, ℕ, ◌+◌, ◌<◌, ◌≤◌, ◌^◌, [], IfOk, OnOk, List, Contains, get_or, length, map, take};
+ghost use Rattle.std.specs.Prelude.{◌≡◌, ℕ, ◌+◌, ◌<◌, ◌≤◌, ◌^◌, [], Contains, IfOk, OnOk, get_or, length, map, take};
 ghost use Rattle.wh_sat_trail.specs.Assignment.{AllBelow, negated};
 ghost use Rattle.wh_sat_trail.specs.Propagation.{Within};
 ghost use Rattle.wh_sat_trail.specs.declared.entry.Entry.{Entry};

@@ -13,7 +13,6 @@ use Rattle.wh_terms.proofs.StepOver.{over-typed}
 use Rattle.wh_terms.proofs.TypingLaws.{typed_loose, typed_term}
 use Rattle.wh_text.specs.RawTree.{RTm}
 use Rattle.wh_step.specs.Reduction.{Walk, last_of}
-use Rattle.wh_step.specs.Step.{Step}
 use Rattle.wh_step.proofs.Instances.{instances_typed}
 use Rattle.wh_step.proofs.RawStep.{step_raw}
 use Rattle.wh_reduce.specs.Leftmost.{Leftmost, LeadsTo}

@@ -97,6 +97,11 @@ const MAP_CHANGES: &[(&str, &str, &[u8])] = &[
         "usable 1\n",
         b"REJECTED node 0 not-closed rule 1\n",
     ),
+    (
+        "usable 0\nfun zero 0\nfun s 1*y0\nfun nil 0\nfun cons 1+1*y0+1*y1\nfun map 1*y0(1*y1)*y1+1*y1\nmark map 1*y1\nrule\n",
+        "usable\nfun zero 0\nfun s 1*y0\nfun nil 0\nfun cons 1+1*y0+1*y1\nfun map 1*y0(1*y1)*y1+1*y1\nmark map 1*y1\n",
+        b"REJECTED node 0 not-closed pair 0\n",
+    ),
 ];
 
 /// A symbol whose rule makes a number greater, called by none of the pairs of the set.

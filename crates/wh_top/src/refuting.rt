@@ -7,7 +7,6 @@ ghost use Rattle.wh_pairs.specs.SystemPairs.{HasPairs};
 ghost use Rattle.wh_pairs.specs.Views.{pairs_data};
 ghost use Rattle.wh_answer.specs.Texts.{report_text};
 ghost use Rattle.wh_judging.specs.Outcomes.{StandsBySystem, ToldSystem, outside};
-ghost use Rattle.wh_refuting.specs.Verdicts.{IsVerdict};
 ghost use Rattle.wh_top.specs.Refuting.{AnswerIsThere, BeginsRefuted, TellsRefuted, VerdictIsThere, numbers_text, refuted_text, told_answer};
 
 use crate::proving::name_cause;

@@ -1,5 +1,5 @@
 -- What is answered where the certificate in a file is to be written in the second version of the format.
-use Rattle.std.specs.Prelude.{ℕ, ◌≤◌, ◌<◌, ◌⊎◌, List, length}
+use Rattle.std.specs.Prelude.{ℕ, ◌<◌, ◌⊎◌, List, length}
 use Rattle.wh_types.specs.Limits.{certificate_limit}
 use Rattle.wh_system.specs.Systems.{SystemData}
 use Rattle.wh_pairs.specs.PairData.{PairData}

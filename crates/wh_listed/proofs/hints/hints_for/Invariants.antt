@@ -1,7 +1,5 @@
-use Rattle.std.proofs.Common.{◌≡◌, ◌+◌, ◌-◌, List, length, map}
-use Rattle.wh_sat_trail.specs.declared.literal.Literal.{Literal}
+use Rattle.std.proofs.Common.{◌≡◌, ◌+◌, ◌-◌, length, map}
 use Rattle.wh_sat_trail.specs.Assignment.{negated}
-use Rattle.wh_refute.specs.Told.{Tells}
 use Rattle.wh_listed.specs.Leading.{IsAt}
 use Rattle.wh_listed.proofs.hints.hints_for.Given as goal
 

@@ -1,5 +1,4 @@
-use Rattle.std.proofs.Common.{◌≡◌, ◌+◌, ◌≤◌, List, ℕ, [], ◌∷◌, ◌++◌, length, get_or, sym, ◌∙◌, subst, arith}
-use Rattle.wh_sat_trail.specs.declared.literal.Literal.{Literal}
+use Rattle.std.proofs.Common.{◌+◌, ◌≤◌, List, ℕ, ◌++◌, length, sym, subst, arith}
 use Rattle.wh_sat_trail.specs.Assignment.{AllBelow}
 use Rattle.wh_refute.specs.Refuting.{IsFalse, IsLeft, Leads}
 use Rattle.wh_refute.specs.RefuteFaults.{IsStuck}

@@ -1,4 +1,4 @@
-use Rattle.std.proofs.Common.{sym, subst}
+use Rattle.std.proofs.Common.{subst}
 use Rattle.wh_terms.specs.Erase.{tm}
 use Rattle.wh_system.specs.SystemView.{system_data}
 use Rattle.wh_reduce.specs.Reducing.{Reduces}
