@@ -7,7 +7,7 @@ use Rattle.wh_checker.specs.Accepted.{IsUnbounded}
 use Rattle.wh_judging.specs.Outcomes.{BeginsWith, IsSystemIn, Told}
 use Rattle.wh_explain.specs.declared.judge.Verdict.{Verdict}
 use Rattle.wh_explain.specs.declared.judge.Verdict.TheVariants.{Proof, Loop, Rejected, Overflow, TooLarge, Unread, Open}
-use Rattle.wh_explain.specs.Meaning.{Means, MeansLoop, MeansProof, MeantBy, SomeIsUnbounded, word_of}
+use Rattle.wh_explain.specs.Meaning.{Means, MeansLoop, MeansProof, MeantBy, SomeIsUnbounded, first_words}
 
 -- the term of an accepted loop is one
 pub some_unbounded : (d : SystemData) (c : Cert) → IsUnbounded d c → SomeIsUnbounded d
@@ -24,7 +24,7 @@ neither d a xs y n = record {
   no = λ (rest, e). absurd (not_byte 78 a xs _ n e);
 }
 
-pub text_means : (d : SystemData) (v : Verdict) (rest : List ℕ) → MeantBy d v → Means d (word_of v ++ rest)
+pub text_means : (d : SystemData) (v : Verdict) (rest : List ℕ) → MeantBy d v → Means d (first_words v ++ rest)
 text_means d Proof rest m = record { yes = λ b. m; no = λ (more, e). absurd (not_byte 78 89 _ _ (λ h. omega arith) e) }
 text_means d Loop rest m = record { yes = λ (more, e). absurd (not_byte 89 78 _ _ (λ h. omega arith) e); no = λ b. m }
 text_means d (Rejected r) rest m = neither d 82 _ (λ h. omega arith) (λ h. omega arith)
@@ -42,7 +42,7 @@ pub means_loop : (held : Option (List ℕ)) (d : SystemData) (text : List ℕ) �
 means_loop held d text has means begins bytes told = (d, (has bytes told).1, means.no begins)
 
 -- a text that was made of the word and the rest means what the verdict does
-pub joined_means : {E : Type 0} (d : SystemData) (v : Verdict) (rest word : List ℕ) (r : Result (List ℕ) E) → word ≡ word_of v
+pub joined_means : {E : Type 0} (d : SystemData) (v : Verdict) (rest word : List ℕ) (r : Result (List ℕ) E) → word ≡ first_words v
     → MeantBy d v → IfOk r (λ text. text ≡ word ++ rest) → IfOk r (Means d)
 joined_means d v rest word (Ok text) is m e = subst (Means d) (sym (e ∙ ap (λ w. w ++ rest) is)) (text_means d v rest m)
 joined_means d v rest word (Err f) is m e = tt

@@ -1,5 +1,5 @@
 -- What it means that an explanation calls a certificate a proof or a loop.
-use Rattle.std.specs.Prelude.{ℕ, List, Unit, codes}
+use Rattle.std.specs.Prelude.{ℕ, List, codes}
 use Rattle.wh_terms.specs.Tree.{Tm}
 use Rattle.wh_step.specs.Reduction.{Unbounded}
 use Rattle.wh_system.specs.Systems.{SystemData}
@@ -23,15 +23,15 @@ MeantBy d (TooLarge k) = Unit {0}
 MeantBy d (Unread at) = Unit {0}
 MeantBy d Open = Unit {0}
 
--- the word that an explanation begins with
-abbrev pub word_of : Verdict → List ℕ
-word_of Proof = codes "YES"
-word_of Loop = codes "NO"
-word_of (Rejected r) = codes "REJECTED"
-word_of (Overflow k) = codes "OVERFLOW"
-word_of (TooLarge k) = codes "TOO LARGE"
-word_of (Unread at) = codes "REJECTED"
-word_of Open = codes "MAYBE"
+-- the words that an explanation begins with
+abbrev pub first_words : Verdict → List ℕ
+first_words Proof = codes "YES: this is a proof, which the check accepts."
+first_words Loop = codes "NO: this is a loop, which the check accepts."
+first_words (Rejected r) = codes "REJECTED: the check does not accept this certificate."
+first_words (Overflow k) = codes "OVERFLOW: the check does not accept this certificate."
+first_words (TooLarge k) = codes "TOO LARGE: the check does not accept this certificate."
+first_words (Unread at) = codes "REJECTED: the check does not accept this certificate."
+first_words Open = codes "MAYBE: no certificate was found."
 
 -- what a text means of a system that begins with YES or with NO
 pub record Means (d : SystemData) (text : List ℕ) : Type 0 where

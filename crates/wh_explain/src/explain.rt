@@ -10,7 +10,7 @@ ghost use Rattle.wh_judging.specs.Outcomes.{BeginsWith, Told};
 ghost use Rattle.wh_explain.specs.Meaning.{Means, MeansLoop, MeansProof, MeantBy};
 
 use crate::causes::put_cause;
-use crate::judge::{Verdict, judged, word_of};
+use crate::judge::{Verdict, first_words, judged};
 use crate::tree::put_tree;
 use std::alloc::{AllocError, Global};
 use wh_answer::Report;
@@ -166,16 +166,7 @@ fn put_certificate(
 // The rest of the first line, and the pairs of the system.
 fn opening(alloc: Global, problem: &Problem, verdict: Verdict) -> Result<Text, AllocError> {
     let mut text = Text::new(alloc)?;
-    text.say(match verdict {
-        Verdict::Proof =>
-            ": this is a proof, which the check accepts. What follows is no part of what is proved.\n",
-        Verdict::Loop =>
-            ": this is a loop, which the check accepts. What follows is no part of what is proved.\n",
-        Verdict::Open => ": no certificate was found. What follows is no part of what is proved.\n",
-        Verdict::Rejected(_) | Verdict::Unread(_) | Verdict::Overflow(_) | Verdict::TooLarge(_) => {
-            ": the check does not accept this certificate. What follows is no part of what is proved.\n"
-        }
-    })?;
+    text.say(" What follows is no part of what is proved.\n")?;
     put_place(&mut text, verdict)?;
     put_all_pairs(&mut text, problem)?;
     Ok(text)
@@ -228,7 +219,7 @@ fn headed(
     ensures { IfOk result (Means (system_data problem.now.system)) }
 {
     put_last(alloc, text, &problem.system)?;
-    joined(alloc, word_of(&verdict), text.as_slice())
+    joined(alloc, first_words(&verdict), text.as_slice())
 }
 
 // Appends what is likely not meant.

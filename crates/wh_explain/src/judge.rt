@@ -6,7 +6,7 @@ ghost use Rattle.wh_pairs.specs.SystemPairs.{HasPairs};
 ghost use Rattle.wh_pairs.specs.Views.{pairs_data};
 ghost use Rattle.wh_cert.specs.Limits.{IsCert};
 ghost use Rattle.wh_cert.specs.Said.{said};
-ghost use Rattle.wh_explain.specs.Meaning.{MeantBy, word_of};
+ghost use Rattle.wh_explain.specs.Meaning.{MeantBy, first_words};
 
 use std::alloc::{AllocError, Global};
 use wh_cert::Certificate;
@@ -33,17 +33,18 @@ pub enum Verdict {
     Open,
 }
 
-/// The word that an explanation begins with.
-pub fn word_of(verdict: &Verdict) -> &'static [u8]
-    ensures { result.now ≡ word_of verdict.now }
+/// The words that an explanation begins with.
+pub fn first_words(verdict: &Verdict) -> &'static [u8]
+    ensures { result.now ≡ first_words verdict.now }
 {
     match verdict {
-        Verdict::Proof => b"YES",
-        Verdict::Loop => b"NO",
-        Verdict::Rejected(_) | Verdict::Unread(_) => b"REJECTED",
-        Verdict::Overflow(_) => b"OVERFLOW",
-        Verdict::TooLarge(_) => b"TOO LARGE",
-        Verdict::Open => b"MAYBE",
+        Verdict::Proof => b"YES: this is a proof, which the check accepts.",
+        Verdict::Loop => b"NO: this is a loop, which the check accepts.",
+        Verdict::Rejected(_) | Verdict::Unread(_) =>
+            b"REJECTED: the check does not accept this certificate.",
+        Verdict::Overflow(_) => b"OVERFLOW: the check does not accept this certificate.",
+        Verdict::TooLarge(_) => b"TOO LARGE: the check does not accept this certificate.",
+        Verdict::Open => b"MAYBE: no certificate was found.",
     }
 }
 

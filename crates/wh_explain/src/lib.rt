@@ -12,5 +12,5 @@ mod tree;
 mod values;
 
 pub use explain::{explain_file, graph_file, lint_file};
-pub use judge::{Verdict, judged, word_of};
+pub use judge::{Verdict, first_words, judged};
 pub use request::{Request, read_request};

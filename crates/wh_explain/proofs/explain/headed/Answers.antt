@@ -4,5 +4,5 @@ use Rattle.wh_explain.proofs.explain.headed.Goals as goal
 
 pub returns : goal.returns
 returns c =
-    joined_means (system_data c.args.problem.now.system) c.args.verdict c.as_slice.result.now c.word_of.result.now c.joined.result
-    c.word_of.ensures c.requires c.joined.ensures
+    joined_means (system_data c.args.problem.now.system) c.args.verdict c.as_slice.result.now c.first_words.result.now c.joined.result
+    c.first_words.ensures c.requires c.joined.ensures
