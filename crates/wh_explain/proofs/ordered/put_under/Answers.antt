@@ -4,7 +4,7 @@ use Rattle.wh_reduction.specs.TaskView.{task_data}
 use Rattle.wh_cert.specs.Said.{said_filter}
 use Rattle.wh_ordering.specs.FilteringView.{filtering_data}
 use Rattle.wh_proof.proofs.FilterLemmas.{as_many_filters}
-use Rattle.wh_orienting.proofs.TypedCalls.{typed_calls}
+use Rattle.wh_explain.proofs.TypedCalls.{typed_calls}
 use Rattle.wh_explain.proofs.ordered.put_under.Goals as goal
 
 pub check_ordering-requires-clause-filters : goal.check_ordering-requires-clause-filters
