@@ -1,0 +1,61 @@
+//! The names of what stands in a rule or in a dependency pair. What has no name has a number behind a sign.
+
+use crate::text::Text;
+use std::alloc::AllocError;
+use wh_system::System;
+use wh_text::Name;
+
+/// The names that are spelled in a term.
+#[derive(Clone, Copy)]
+pub struct Names<'a> {
+    /// Those of the sorts.
+    pub sorts: &'a [Name],
+    /// Those of the symbols.
+    pub funs: &'a [Name],
+    /// Those of the meta-variables of a rule, which come before the fresh ones.
+    pub metas: &'a [Name],
+}
+
+/// The names in the rule with that number; a rule that is not there has no meta-variables.
+pub fn names_of_rule<'a>(system: &'a System, rule: u32) -> Names<'a> {
+    system.is_well_made();
+    let metas = if (rule as usize) < system.rules().len() {
+        system.meta_names(rule)
+    } else {
+        &[]
+    };
+    Names {
+        sorts: system.sort_names(),
+        funs: system.fun_names(),
+        metas,
+    }
+}
+
+/// The names in a term without meta-variables.
+pub fn names_of_system<'a>(system: &'a System) -> Names<'a> {
+    Names {
+        sorts: system.sort_names(),
+        funs: system.fun_names(),
+        metas: &[],
+    }
+}
+
+/// Appends the name with this number.
+pub fn put_name(text: &mut Text, names: &[Name], number: u32) -> Result<(), AllocError> {
+    match names.get(number as usize) {
+        Some(name) => text.spell(name.bytes()),
+        None => text.number(number as u128),
+    }
+}
+
+/// Appends the name of a meta-variable; those behind the named ones are fresh, `?0` first.
+pub fn put_meta(text: &mut Text, metas: &[Name], number: u32) -> Result<(), AllocError> {
+    match metas.get(number as usize) {
+        Some(name) => text.spell(name.bytes()),
+        None => {
+            let fresh = (number as usize).saturating_sub(metas.len());
+            text.say("?")?;
+            text.number(fresh as u128)
+        }
+    }
+}

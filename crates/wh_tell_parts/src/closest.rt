@@ -1,0 +1,202 @@
+//! Which projection comes closest for pairs of which none was dropped: one that keeps or lowers the argument in
+//! as many of them as can be found by changing one argument at a time. Others may keep as many.
+
+use std::alloc::{AllocError, Global};
+use wh_pairs::{Pair, PairSet};
+use wh_subterm::{Relation, relation_at};
+use wh_system::System;
+use wh_tell::Piece::{Named, Number, Say, Tree};
+use wh_tell::{Text, names_of_rule, names_of_system, tell, tell_line};
+use wh_terms::Terms;
+use wh_types::counted;
+
+// How often each symbol is gone through.
+const ROUNDS: u32 = 4;
+
+/// Appends the projection that comes closest, and the pairs that stop it.
+pub fn put_closest_projection<'a>(
+    alloc: Global,
+    text: &mut Text,
+    system: &'a System,
+    pairs: &'a [Pair],
+    set: &PairSet,
+) -> Result<(), AllocError> {
+    let members = pairs_of_set(alloc, pairs, set.as_slice())?;
+    let mut chosen = first_arguments(alloc, system.fun_names().len())?;
+    for _ in 0..ROUNDS {
+        improve(system, &members, &mut chosen);
+    }
+    put_chosen(text, system, pairs, set.as_slice(), &chosen)
+}
+
+// The first argument of each of so many symbols.
+fn first_arguments(alloc: Global, count: usize) -> Result<Vec<u32>, AllocError> {
+    let mut chosen = Vec::new(alloc);
+    for _ in 0..count {
+        chosen.push(0)?;
+    }
+    Ok(chosen)
+}
+
+// The pairs of a set.
+fn pairs_of_set<'a>(
+    alloc: Global,
+    pairs: &'a [Pair],
+    set: &[u32],
+) -> Result<Vec<&'a Pair>, AllocError> {
+    let mut found = Vec::new(alloc);
+    for number in set {
+        if let Some(pair) = pairs.get(*number as usize) {
+            found.push(pair)?;
+        }
+    }
+    Ok(found)
+}
+
+// Chooses for each symbol the argument with which the most pairs are kept or lowered.
+fn improve(system: &System, pairs: &[&Pair], chosen: &mut [u32]) {
+    for symbol in 0..chosen.len() {
+        let need = system.need(u32::try_from(symbol).unwrap_or(u32::MAX));
+        improve_at(pairs, chosen, symbol, need.unwrap_or(0));
+    }
+}
+
+// The same for one symbol, whose rules have so many arguments.
+fn improve_at(pairs: &[&Pair], chosen: &mut [u32], symbol: usize, need: u32) {
+    for place in 0..need {
+        let most = score(pairs, chosen);
+        let before = choose(chosen, symbol, place);
+        if score(pairs, chosen) <= most {
+            choose(chosen, symbol, before);
+        }
+    }
+}
+
+// Chooses the argument of a symbol, and gives the one that was chosen before.
+fn choose(chosen: &mut [u32], symbol: usize, place: u32) -> u32 {
+    match chosen.get_mut(symbol) {
+        Some(here) => {
+            let before = *here;
+            *here = place;
+            before
+        }
+        None => place,
+    }
+}
+
+// How many pairs are kept or lowered, where one that is lowered counts a little more.
+fn score(pairs: &[&Pair], chosen: &[u32]) -> u64 {
+    let mut sum: u64 = 0;
+    for pair in pairs {
+        sum = sum.saturating_add(match relation_in(pair, chosen) {
+            Relation::Neither => 0,
+            Relation::Equal => 1000,
+            Relation::Below => 1001,
+        });
+    }
+    sum
+}
+
+// What the chosen arguments of a pair are to one another.
+fn relation_in(pair: &Pair, chosen: &[u32]) -> Relation {
+    let left = chosen.get(pair.left_fun as usize);
+    let right = chosen.get(pair.right_fun as usize);
+    match (left, right) {
+        (Some(left), Some(right)) => relation_at(pair, *left, *right),
+        _ => Relation::Neither,
+    }
+}
+
+// Appends the choices and the pairs that stop them.
+fn put_chosen<'a>(
+    text: &mut Text,
+    system: &'a System,
+    pairs: &'a [Pair],
+    set: &[u32],
+    chosen: &[u32],
+) -> Result<(), AllocError> {
+    text.say("A projection that comes close looks at the arguments:")?;
+    put_choices(text, system, pairs, set, chosen)?;
+    text.say(".\n")?;
+    for number in set {
+        if let Some(pair) = pairs.get(*number as usize) {
+            put_relation(text, system, *number, pair, chosen)?;
+        }
+    }
+    Ok(())
+}
+
+// Appends the chosen argument of each symbol that heads a side of a pair of the set.
+fn put_choices(
+    text: &mut Text,
+    system: &System,
+    pairs: &[Pair],
+    set: &[u32],
+    chosen: &[u32],
+) -> Result<(), AllocError> {
+    let names = names_of_system(system);
+    for (symbol, place) in chosen.iter().enumerate() {
+        let symbol = counted(symbol)?;
+        if heads_some(pairs, set, symbol) {
+            let place = Number(place.saturating_add(1));
+            tell(text, " @ @", &[Named(names.funs, symbol), place])?;
+        }
+    }
+    Ok(())
+}
+
+// Whether the symbol heads a side of a pair of the set.
+fn heads_some(pairs: &[Pair], set: &[u32], symbol: u32) -> bool {
+    for number in set {
+        if let Some(pair) = pairs.get(*number as usize) {
+            if pair.left_fun == symbol || pair.right_fun == symbol {
+                return true;
+            }
+        }
+    }
+    false
+}
+
+// Appends what becomes of the chosen argument in a pair.
+fn put_relation<'a>(
+    text: &mut Text,
+    system: &'a System,
+    number: u32,
+    pair: &'a Pair,
+    chosen: &[u32],
+) -> Result<(), AllocError> {
+    tell(text, "  pair @: ", &[Number(number)])?;
+    put_argument(text, system, pair, chosen, pair.left_fun, &pair.left)?;
+    text.say(" becomes ")?;
+    put_argument(text, system, pair, chosen, pair.right_fun, &pair.right)?;
+    tell_line(
+        text,
+        0,
+        "@",
+        &[Say(match relation_in(pair, chosen) {
+            Relation::Equal => ", the same.",
+            Relation::Below => ", a proper part of it.",
+            Relation::Neither => ", neither the same nor a part of it: this pair stops it.",
+        })],
+    )
+}
+
+// Appends the argument of a side that is chosen.
+fn put_argument<'a>(
+    text: &mut Text,
+    system: &'a System,
+    pair: &Pair,
+    chosen: &[u32],
+    fun: u32,
+    arguments: &'a Terms,
+) -> Result<(), AllocError> {
+    let names = names_of_rule(system, pair.rule);
+    let place = match chosen.get(fun as usize) {
+        Some(place) => *place as usize,
+        None => return Ok(()),
+    };
+    match arguments.as_slice().get(place) {
+        Some(term) => tell(text, "@", &[Tree(names, term)]),
+        None => text.say("nothing"),
+    }
+}

@@ -1,0 +1,87 @@
+//! Trees behind argument filters, printed.
+
+use std::alloc::AllocError;
+use wh_order::{Tree, Trees};
+use wh_tell::{Names, Text, put_bound, put_meta, put_name};
+
+/// Appends a filtered tree below so many binders; a spine that is bare has no parentheses.
+#[cycle(filtered)]
+pub fn put_filtered_tree(
+    text: &mut Text,
+    names: &Names<'_>,
+    tree: &Tree,
+    depth: u32,
+    bare: bool,
+) -> Result<(), AllocError> {
+    match tree {
+        Tree::Bound(outward) => put_bound(text, depth, *outward),
+        Tree::Free(number, _) => {
+            text.say("%")?;
+            text.number(*number as u128)
+        }
+        Tree::Meta(meta, _, items) => {
+            put_meta(text, names.metas, *meta)?;
+            put_enclosed(text, names, items, depth, b"[", b",", "]")
+        }
+        Tree::Sym(symbol, items) => {
+            text.say(front(bare, items))?;
+            put_name(text, names.funs, *symbol)?;
+            put_enclosed(text, names, items, depth, b" ", b" ", back(bare))
+        }
+        Tree::Mark(symbol, items) => {
+            text.say(front(bare, items))?;
+            put_name(text, names.funs, *symbol)?;
+            text.say("#")?;
+            put_enclosed(text, names, items, depth, b" ", b" ", back(bare))
+        }
+        Tree::Lam(_, body) => {
+            text.say("(\\$")?;
+            text.number(depth as u128)?;
+            text.say(".")?;
+            put_filtered_tree(text, names, body, depth.saturating_add(1), false)?;
+            text.say(")")
+        }
+        Tree::Apply(head, items) => {
+            text.say(front(bare, items))?;
+            put_filtered_tree(text, names, head, depth, true)?;
+            put_enclosed(text, names, items, depth, b" ", b" ", back(bare))
+        }
+    }
+}
+
+// What stands before a spine with these arguments.
+fn front(bare: bool, items: &Trees) -> &'static str {
+    if bare || items.as_slice().is_empty() {
+        ""
+    } else {
+        "("
+    }
+}
+
+// What stands behind a spine with arguments.
+fn back(bare: bool) -> &'static str {
+    if bare { "" } else { ")" }
+}
+
+// Appends arguments behind signs, and an end where there are any.
+#[cycle(filtered)]
+fn put_enclosed(
+    text: &mut Text,
+    names: &Names<'_>,
+    items: &Trees,
+    depth: u32,
+    first: &[u8],
+    other: &[u8],
+    end: &str,
+) -> Result<(), AllocError> {
+    let mut sign = first;
+    for item in items.as_slice() {
+        text.spell(sign)?;
+        put_filtered_tree(text, names, item, depth, false)?;
+        sign = other;
+    }
+    if items.as_slice().is_empty() {
+        return Ok(());
+    }
+    text.say(end)
+}

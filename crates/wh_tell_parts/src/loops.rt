@@ -1,0 +1,109 @@
+//! Loops: each term of the reduction with its redex, and the instance at its end.
+
+use crate::stepping::term_after;
+use std::alloc::{AllocError, Global};
+use wh_cert::{NoCertificate, Put};
+use wh_making::NameTables;
+use wh_system::System;
+use wh_tell::Piece::{Count, Number, Spell};
+use wh_tell::{Names, Text, names_of_system, put_marked, put_rule_line, tell, tell_line};
+use wh_terms::{Step, Term};
+use wh_text::print_raw;
+
+// How many steps are told.
+const MOST_STEPS: usize = 100;
+
+/// Appends the reduction of a certificate.
+pub fn put_loop(
+    alloc: Global,
+    text: &mut Text,
+    system: &System,
+    certificate: &NoCertificate,
+) -> Result<(), AllocError> {
+    let tables = NameTables::of(alloc, system)?;
+    let Some(first) = tables.resolve(alloc, system, &certificate.term)? else {
+        return Ok(());
+    };
+    let names = names_of_system(system);
+    text.say("\nThe reduction. Carets stand under what each step replaces.\n")?;
+    let Some(last) = put_steps(alloc, text, system, first, certificate.steps.as_slice())? else {
+        return put_puts(alloc, text, certificate.puts.as_slice());
+    };
+    tell_line(
+        text,
+        0,
+        "The last term. Carets stand under an instance of the first one.",
+        &[],
+    )?;
+    put_marked(text, &names, &last, certificate.at.as_slice(), 1)?;
+    put_path(text, "  at ", certificate.at.as_slice())?;
+    put_puts(alloc, text, certificate.puts.as_slice())
+}
+
+// Appends the terms before each step, and gives the last one; `None` where there are too many to be told.
+fn put_steps(
+    alloc: Global,
+    text: &mut Text,
+    system: &System,
+    first: Term,
+    steps: &[Step],
+) -> Result<Option<Term>, AllocError> {
+    let names = names_of_system(system);
+    let mut here = first;
+    for (number, step) in steps.iter().enumerate() {
+        if number == MOST_STEPS {
+            tell_line(text, 0, "and so on, @ steps in all.", &[Count(steps.len())])?;
+            return Ok(None);
+        }
+        put_step(text, system, &names, number, &here, step)?;
+        match term_after(alloc, system, &here, step)? {
+            Some(next) => here = next,
+            None => return Ok(None),
+        }
+    }
+    Ok(Some(here))
+}
+
+// Appends a term and the step that it takes.
+fn put_step(
+    text: &mut Text,
+    system: &System,
+    names: &Names<'_>,
+    number: usize,
+    term: &Term,
+    step: &Step,
+) -> Result<(), AllocError> {
+    tell_line(text, 0, "Term @:", &[Count(number)])?;
+    let path = step.path.as_slice();
+    put_marked(text, names, term, path, 1)?;
+    match step.rule {
+        Some(rule) => {
+            put_path(text, "  steps at ", path)?;
+            put_rule_line(text, system, rule, 2)
+        }
+        None => put_path(text, "  steps by beta at ", path),
+    }
+}
+
+// Appends a line with a path.
+fn put_path(text: &mut Text, words: &str, path: &[u8]) -> Result<(), AllocError> {
+    text.say(words)?;
+    text.say("/")?;
+    for way in path {
+        text.number(*way as u128)?;
+    }
+    text.say("\n")
+}
+
+// Appends what is put for the variables of the first term in the instance.
+fn put_puts(alloc: Global, text: &mut Text, puts: &[Put]) -> Result<(), AllocError> {
+    for item in puts {
+        let value = print_raw(alloc, &item.term)?;
+        tell(
+            text,
+            "  with @ for %@\n",
+            &[Spell(value.as_slice()), Number(item.number)],
+        )?;
+    }
+    text.say("So all steps can be made again there, as often as one likes.\n")
+}
