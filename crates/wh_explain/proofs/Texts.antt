@@ -6,7 +6,7 @@ use Rattle.wh_cert.specs.Written.{Cert, yes, no}
 use Rattle.wh_checker.specs.Accepted.{IsUnbounded}
 use Rattle.wh_judging.specs.Outcomes.{BeginsWith, IsSystemIn, Told}
 use Rattle.wh_explain.specs.declared.judge.Verdict.{Verdict}
-use Rattle.wh_explain.specs.declared.judge.Verdict.TheVariants.{Proof, Loop, Rejected, Overflow, TooLarge, Unread, Open}
+use Rattle.wh_explain.specs.declared.judge.Verdict.TheVariants.{Proof, Loop, Rejected, Overflow, TooLarge, Open}
 use Rattle.wh_explain.specs.Meaning.{Means, MeansLoop, MeansProof, MeantBy, SomeIsUnbounded, first_words}
 
 -- the term of an accepted loop is one
@@ -27,10 +27,9 @@ neither d a xs y n = record {
 pub text_means : (d : SystemData) (v : Verdict) (rest : List ℕ) → MeantBy d v → Means d (first_words v ++ rest)
 text_means d Proof rest m = record { yes = λ b. m; no = λ (more, e). absurd (not_byte 78 89 _ _ (λ h. omega arith) e) }
 text_means d Loop rest m = record { yes = λ (more, e). absurd (not_byte 89 78 _ _ (λ h. omega arith) e); no = λ b. m }
-text_means d (Rejected r) rest m = neither d 82 _ (λ h. omega arith) (λ h. omega arith)
-text_means d (Overflow k) rest m = neither d 79 _ (λ h. omega arith) (λ h. omega arith)
-text_means d (TooLarge k) rest m = neither d 84 _ (λ h. omega arith) (λ h. omega arith)
-text_means d (Unread at) rest m = neither d 82 _ (λ h. omega arith) (λ h. omega arith)
+text_means d Rejected rest m = neither d 82 _ (λ h. omega arith) (λ h. omega arith)
+text_means d Overflow rest m = neither d 79 _ (λ h. omega arith) (λ h. omega arith)
+text_means d TooLarge rest m = neither d 84 _ (λ h. omega arith) (λ h. omega arith)
 text_means d Open rest m = neither d 77 _ (λ h. omega arith) (λ h. omega arith)
 
 pub means_proof : (held : Option (List ℕ)) (d : SystemData) (text : List ℕ) → IsSystemIn held d → Means d text

@@ -6,7 +6,7 @@ use Rattle.wh_system.specs.Systems.{SystemData}
 use Rattle.wh_read.specs.Reading.{Reads}
 use Rattle.wh_checker.specs.Accepted.{AreBounded}
 use Rattle.wh_explain.specs.declared.judge.Verdict.{Verdict}
-use Rattle.wh_explain.specs.declared.judge.Verdict.TheVariants.{Proof, Loop, Rejected, Overflow, TooLarge, Unread, Open}
+use Rattle.wh_explain.specs.declared.judge.Verdict.TheVariants.{Proof, Loop, Rejected, Overflow, TooLarge, Open}
 use Rattle.wh_judging.specs.Outcomes.{BeginsWith}
 
 -- some term has reductions of every length
@@ -17,20 +17,18 @@ SomeIsUnbounded d = (t : Tm) × Unbounded d.rules t
 abbrev pub MeantBy : SystemData → Verdict → Type 0
 MeantBy d Proof = AreBounded d
 MeantBy d Loop = SomeIsUnbounded d
-MeantBy d (Rejected r) = Unit {0}
-MeantBy d (Overflow k) = Unit {0}
-MeantBy d (TooLarge k) = Unit {0}
-MeantBy d (Unread at) = Unit {0}
+MeantBy d Rejected = Unit {0}
+MeantBy d Overflow = Unit {0}
+MeantBy d TooLarge = Unit {0}
 MeantBy d Open = Unit {0}
 
 -- the words that an explanation begins with
 abbrev pub first_words : Verdict → List ℕ
 first_words Proof = codes "YES: this is a proof, which the check accepts."
 first_words Loop = codes "NO: this is a loop, which the check accepts."
-first_words (Rejected r) = codes "REJECTED: the check does not accept this certificate."
-first_words (Overflow k) = codes "OVERFLOW: the check does not accept this certificate."
-first_words (TooLarge k) = codes "TOO LARGE: the check does not accept this certificate."
-first_words (Unread at) = codes "REJECTED: the check does not accept this certificate."
+first_words Rejected = codes "REJECTED: the check does not accept this certificate."
+first_words Overflow = codes "OVERFLOW: the check does not accept this certificate."
+first_words TooLarge = codes "TOO LARGE: the check does not accept this certificate."
 first_words Open = codes "MAYBE: no certificate was found."
 
 -- what a text means of a system that begins with YES or with NO

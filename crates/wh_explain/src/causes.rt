@@ -12,12 +12,12 @@ use wh_judging::Problem;
 use wh_pairs::PairSet;
 use wh_prover::{Answer, Cause, Finder, Options, prove};
 use wh_tell::Piece::{Named, Number, Unknown};
-use wh_tell::{Text, names_of_rule, names_of_system, put_pairs, tell, tell_line};
+use wh_tell::{Text, names_of_rule, names_of_system, put_demands, put_pairs, tell, tell_line};
 use wh_tell_parts::{is_within, put_closest_projection};
 
 // What a search came to that ended on a set of pairs.
 const NONE_LETS_GO: &str =
-    "On some set of pairs no projection lets one go, and no interpretation of those that are tried.\n";
+    "No projection drops a pair of the set below, and no interpretation of those that are tried.\n";
 
 /// Appends why nothing was found under these options.
 pub fn put_cause(
@@ -31,10 +31,11 @@ pub fn put_cause(
 {
     text.say("\n")?;
     match cause {
-        Cause::NoRanks(cause) => put_no_ranks(text, problem, cause),
+        Cause::NoRanks(cause) => put_no_ranks(alloc, text, problem, cause),
         Cause::Stuck(set) => {
             text.say(NONE_LETS_GO)?;
-            text.say("There is no loop of few steps from the left side of a rule.\n")?;
+            let words = "No loop of at most @ steps begins at the left side of a rule.";
+            tell_line(text, 0, words, &[Number(options.depth)])?;
             put_stuck(alloc, text, problem, set)
         }
         Cause::Spent { finder, set, .. } => {
@@ -43,14 +44,19 @@ pub fn put_cause(
         }
         Cause::Full(_) => {
             text.say(NONE_LETS_GO)?;
-            text.say("The search for loops kept as many terms as it may, and found none.\n")?;
+            text.say("The search for loops found none, and kept as many terms as it may.\n")?;
             put_without_loops(alloc, text, problem, options)
         }
     }
 }
 
 // Appends that ranks can't be found.
-fn put_no_ranks(text: &mut Text, problem: &Problem, cause: &NoRanks) -> Result<(), AllocError> {
+fn put_no_ranks(
+    alloc: Global,
+    text: &mut Text,
+    problem: &Problem,
+    cause: &NoRanks,
+) -> Result<(), AllocError> {
     match cause {
         NoRanks::Unread { rule, meta } => {
             let names = names_of_rule(&problem.system, *rule);
@@ -61,7 +67,11 @@ fn put_no_ranks(text: &mut Text, problem: &Problem, cause: &NoRanks) -> Result<(
                 &[Number(*rule), Unknown(names.metas, *meta)],
             )
         }
-        NoRanks::Cycle(sorts) => put_cycle(text, problem, sorts.as_slice()),
+        NoRanks::Cycle(sorts) => {
+            put_cycle(text, problem, sorts.as_slice())?;
+            put_demands(alloc, text, &problem.system)?;
+            text.say("So no certificate is a proof for this system.\n")
+        }
     }
 }
 
@@ -69,7 +79,7 @@ fn put_no_ranks(text: &mut Text, problem: &Problem, cause: &NoRanks) -> Result<(
 fn put_cycle(text: &mut Text, problem: &Problem, sorts: &[u32]) -> Result<(), AllocError> {
     let names = names_of_system(&problem.system);
     text.say(
-        "What rules take out of their arguments asks that ranks of sorts rise along a cycle:",
+        "No ranks serve: what rules take out of their arguments asks that those of sorts rise along a cycle,",
     )?;
     for sort in sorts {
         tell(text, " @", &[Named(names.sorts, *sort)])?;
@@ -77,9 +87,7 @@ fn put_cycle(text: &mut Text, problem: &Problem, sorts: &[u32]) -> Result<(), Al
     if let Some(first) = sorts.first() {
         tell(text, " @", &[Named(names.sorts, *first)])?;
     }
-    text.say(
-        "\nOne of them at least has to be smaller than the next, so no ranks serve, and no certificate allows that.\n",
-    )
+    text.say(".\n")
 }
 
 // Appends which search ended without an answer.
@@ -87,7 +95,7 @@ fn put_spent(text: &mut Text, finder: Finder) -> Result<(), AllocError> {
     match finder {
         Finder::Subterm => text.say("The search for a projection ended without an answer.\n")?,
         Finder::Poly => {
-            text.say("No projection lets a pair of some set go, ")?;
+            text.say("No projection drops a pair of the set below, ")?;
             text.say("and the search for an interpretation ended without an answer.\n")?;
         }
     }
@@ -123,12 +131,7 @@ fn put_stuck(
 ) -> Result<(), AllocError>
     requires { HasPairs (system_data problem.now.system) (pairs_data problem.now.pairs) }
 {
-    tell_line(
-        text,
-        0,
-        "These pairs are left, and none of them was dropped:",
-        &[],
-    )?;
+    tell_line(text, 0, "The set that is left:", &[])?;
     put_pairs(
         text,
         &problem.system,

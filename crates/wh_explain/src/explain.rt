@@ -13,17 +13,16 @@ use crate::causes::put_cause;
 use crate::judge::{Verdict, first_words, judged};
 use crate::tree::put_tree;
 use std::alloc::{AllocError, Global};
-use wh_answer::Report;
+use wh_answer::{NamedRejection, Report, print_answer};
 use wh_cert::Certificate;
-use wh_cert_print::print_certificate;
 use wh_cert_text::read_certificate;
 use wh_io::Shelf;
-use wh_judging::{CERTIFICATE_LIMIT, Problem, certificate_in, problem_in};
+use wh_judging::{CERTIFICATE_LIMIT, Problem, certificate_in, problem_in, weigh};
 use wh_prover::{Answer, Options, prove};
 use wh_system::System;
-use wh_tell::Piece::{Big, Count, Number};
-use wh_tell::{Text, put_graph, put_lints, put_pair_line, put_ranks, tell, tell_line};
-use wh_tell_parts::put_loop;
+use wh_tell::Piece::{Count, Spell};
+use wh_tell::{Text, put_graph, put_lints, put_pair_line, put_ranks, tell};
+use wh_tell_parts::{put_attempt, put_loop};
 use wh_types::{Bytes, Or, counted};
 
 /// The bounds of a search, which are those of `prove` where it is given none.
@@ -32,6 +31,13 @@ const USUAL: Options = Options {
     depth: 6,
     visited: 500,
 };
+
+// What stands above the nodes of a proof, and above those of a certificate that is not accepted.
+const PROOF: &str =
+    "\nThe proof. Each node shows of its pairs that no chain of calls uses them for ever.\n";
+
+const CLAIM: &str =
+    "\nThe nodes of the certificate. What it says of its pairs need not hold, since the check does not accept it.\n";
 
 /// Explains why the system in the file terminates or not: by the certificate in the other file, or by a search
 /// where there is none. The text begins with `YES` only where the check accepts a certificate of termination,
@@ -85,29 +91,21 @@ pub fn graph_file<S: Shelf>(alloc: Global, shelf: &mut S, file: &str) -> Result<
     Ok(text.into_bytes())
 }
 
-// What a search for a certificate comes to. What it finds is printed, and explained as a text from elsewhere.
+// What a search for a certificate comes to. What it finds is checked like a certificate from elsewhere.
 fn searched(alloc: Global, problem: &Problem) -> Result<Bytes, AllocError>
     requires { HasPairs (system_data problem.now.system) (pairs_data problem.now.pairs) }
     ensures { IfOk result (Means (system_data problem.now.system)) }
 {
     match prove(alloc, &problem.system, &problem.pairs, &USUAL)? {
-        Answer::Yes(certificate) => found(alloc, problem, &certificate),
-        Answer::No(certificate) => found(alloc, problem, &certificate),
+        Answer::Yes(certificate) => weighed(alloc, problem, &certificate),
+        Answer::No(certificate) => weighed(alloc, problem, &certificate),
         Answer::Maybe(cause) => {
-            let mut text = opening(alloc, problem, Verdict::Open)?;
+            let mut text = opening(alloc)?;
+            put_all_pairs(&mut text, problem)?;
             put_cause(alloc, &mut text, problem, &USUAL, &cause)?;
             headed(alloc, problem, Verdict::Open, &mut text)
         }
     }
-}
-
-// The explanation of a certificate that was found.
-fn found(alloc: Global, problem: &Problem, certificate: &Certificate) -> Result<Bytes, AllocError>
-    requires { HasPairs (system_data problem.now.system) (pairs_data problem.now.pairs) }
-    ensures { IfOk result (Means (system_data problem.now.system)) }
-{
-    let bytes = print_certificate(alloc, certificate)?;
-    explained(alloc, problem, bytes.as_slice())
 }
 
 // The explanation of the text of a certificate.
@@ -122,9 +120,11 @@ fn explained(alloc: Global, problem: &Problem, bytes: &[u8]) -> Result<Bytes, Al
         Ok(certificate) => weighed(alloc, problem, &certificate),
         Err(Or::NoMemory) => Err(AllocError),
         Err(Or::Because(fault)) => {
-            let verdict = Verdict::Unread(fault.at);
-            let mut text = opening(alloc, problem, verdict)?;
-            headed(alloc, problem, verdict, &mut text)
+            let mut text = opening(alloc)?;
+            let report = Report::Rejected(NamedRejection::Syntax { at: fault.at });
+            put_report(alloc, &mut text, &report)?;
+            put_all_pairs(&mut text, problem)?;
+            headed(alloc, problem, Verdict::Rejected, &mut text)
         }
     }
 }
@@ -136,62 +136,54 @@ fn weighed(alloc: Global, problem: &Problem, certificate: &Certificate) -> Resul
     ensures { IfOk result (Means (system_data problem.now.system)) }
 {
     let verdict = judged(alloc, problem, certificate)?;
-    let mut text = opening(alloc, problem, verdict)?;
-    put_certificate(alloc, &mut text, problem, certificate, &verdict)?;
+    let mut text = opening(alloc)?;
+    let accepted = matches!(verdict, Verdict::Proof | Verdict::Loop);
+    if !accepted {
+        let report = weigh(alloc, problem, certificate)?;
+        put_report(alloc, &mut text, &report)?;
+    }
+    put_all_pairs(&mut text, problem)?;
+    put_certificate(alloc, &mut text, problem, certificate, accepted)?;
     headed(alloc, problem, verdict, &mut text)
 }
 
-// Appends what a certificate says, where the check accepts it.
+// Appends what a certificate says.
 fn put_certificate(
     alloc: Global,
     text: &mut Text,
     problem: &Problem,
     certificate: &Certificate,
-    verdict: &Verdict,
+    accepted: bool,
 ) -> Result<(), AllocError>
     requires { HasPairs (system_data problem.now.system) (pairs_data problem.now.pairs) }
 {
-    match (verdict, certificate) {
-        (Verdict::Proof, Certificate::Yes(certificate)) => {
+    match certificate {
+        Certificate::Yes(certificate) => {
             put_ranks(alloc, text, &problem.system, certificate.ranks.as_slice())?;
+            text.say(if accepted { PROOF } else { CLAIM })?;
             put_tree(alloc, text, problem, certificate)
         }
-        (Verdict::Loop, Certificate::No(certificate)) => {
-            put_loop(alloc, text, &problem.system, certificate)
+        Certificate::No(certificate) => {
+            if accepted {
+                put_loop(alloc, text, &problem.system, certificate)
+            } else {
+                put_attempt(alloc, text, &problem.system, certificate)
+            }
         }
-        _ => Ok(()),
     }
 }
 
-// The rest of the first line, and the pairs of the system.
-fn opening(alloc: Global, problem: &Problem, verdict: Verdict) -> Result<Text, AllocError> {
+// The rest of the first line.
+fn opening(alloc: Global) -> Result<Text, AllocError> {
     let mut text = Text::new(alloc)?;
     text.say(" What follows is no part of what is proved.\n")?;
-    put_place(&mut text, verdict)?;
-    put_all_pairs(&mut text, problem)?;
     Ok(text)
 }
 
-// Appends where a certificate could not be read, or a value is too great.
-fn put_place(text: &mut Text, verdict: Verdict) -> Result<(), AllocError> {
-    match verdict {
-        Verdict::Unread(at) => tell_line(
-            text,
-            0,
-            "No text of a certificate begins so up to byte @, counted from 0.",
-            &[Big(at as u128)],
-        ),
-        Verdict::Overflow(node) | Verdict::TooLarge(node) => tell_line(
-            text,
-            0,
-            "A value in node @ passes a limit.",
-            &[Number(node)],
-        ),
-        Verdict::Rejected(_) => {
-            text.say("`./wanda check` names the first condition that does not hold.\n")
-        }
-        Verdict::Proof | Verdict::Loop | Verdict::Open => Ok(()),
-    }
+// Appends what the check says of a certificate.
+fn put_report(alloc: Global, text: &mut Text, report: &Report) -> Result<(), AllocError> {
+    let line = print_answer(alloc, report)?;
+    tell(text, "`./wanda check` says: @", &[Spell(line.as_slice())])
 }
 
 // Appends all pairs of the system.

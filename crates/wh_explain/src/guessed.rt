@@ -71,10 +71,10 @@ fn put_climbed<'a>(
 // Appends what symbols are read as.
 fn put_guess<'a>(text: &mut Text, system: &'a System, guess: &'a Guess) -> Result<(), AllocError> {
     let names = names_of_system(system);
-    text.say("One of the interpretations that are tried first reads\n")?;
+    text.say("An interpretation that a short search comes to:\n")?;
     for (number, symbol) in guess.symbols.iter().enumerate() {
         let name = Named(names.funs, counted(number)?);
-        tell_line(text, 1, "@ as @", &[name, Sum(&symbol.poly)])?;
+        tell_line(text, 1, "@ is @", &[name, Sum(&symbol.poly)])?;
     }
     put_marks(text, system, &guess.marks)
 }
@@ -88,7 +88,7 @@ fn put_marks<'a>(
     let names = names_of_system(system);
     for mark in marks {
         let name = Named(names.funs, mark.symbol);
-        tell_line(text, 1, "@# as @", &[name, Sum(&mark.poly)])?;
+        tell_line(text, 1, "@# is @", &[name, Sum(&mark.poly)])?;
     }
     Ok(())
 }
@@ -104,14 +104,14 @@ fn put_uncovered<'a>(
     requires task { IsTaskOf task.now }
     requires guess { IsGuessOf task.now guess.now }
 {
-    text.say("and what it does not cover is\n")?;
+    text.say("What it leaves open:\n")?;
     for (number, rule) in task.covered.iter().enumerate() {
         if outcome_of(alloc, task, guess, number)?.wanting > 0 {
             put_rule_line(text, task.system, *rule, 1)?;
         }
     }
     if !put_uncovered_pairs(alloc, text, task, guess)? {
-        tell_line(text, 1, "that some pair is worth less on the right", &[])?;
+        text.say("  no pair is worth less on the right side, and one has to be\n")?;
     }
     text.say("This says nothing of other interpretations.\n")
 }

@@ -10,7 +10,7 @@ ghost use Rattle.wh_explain.specs.Meaning.{MeantBy, first_words};
 
 use std::alloc::{AllocError, Global};
 use wh_cert::Certificate;
-use wh_checker::{Accepted, CheckFault, Rejected, check};
+use wh_checker::{Accepted, CheckFault, check};
 use wh_judging::Problem;
 use wh_types::Or;
 
@@ -21,14 +21,12 @@ pub enum Verdict {
     Proof,
     /// It is a loop: some term has reductions of every length.
     Loop,
-    /// This is the first condition that does not hold.
-    Rejected(Rejected),
-    /// A coefficient of a value in this node exceeds its limit.
-    Overflow(u32),
-    /// A value in this node is too large.
-    TooLarge(u32),
-    /// The text is no certificate; this is the byte where the trouble stands.
-    Unread(u64),
+    /// The text is no certificate, or a condition does not hold.
+    Rejected,
+    /// A coefficient of a value exceeds its limit.
+    Overflow,
+    /// A value is too large.
+    TooLarge,
     /// A search found no certificate.
     Open,
 }
@@ -40,10 +38,9 @@ pub fn first_words(verdict: &Verdict) -> &'static [u8]
     match verdict {
         Verdict::Proof => b"YES: this is a proof, which the check accepts.",
         Verdict::Loop => b"NO: this is a loop, which the check accepts.",
-        Verdict::Rejected(_) | Verdict::Unread(_) =>
-            b"REJECTED: the check does not accept this certificate.",
-        Verdict::Overflow(_) => b"OVERFLOW: the check does not accept this certificate.",
-        Verdict::TooLarge(_) => b"TOO LARGE: the check does not accept this certificate.",
+        Verdict::Rejected => b"REJECTED: the check does not accept this certificate.",
+        Verdict::Overflow => b"OVERFLOW: the check does not accept this certificate.",
+        Verdict::TooLarge => b"TOO LARGE: the check does not accept this certificate.",
         Verdict::Open => b"MAYBE: no certificate was found.",
     }
 }
@@ -63,8 +60,8 @@ pub fn judged(
         Ok(Accepted::Yes(_)) => Ok(Verdict::Proof),
         Ok(Accepted::No(_)) => Ok(Verdict::Loop),
         Err(Or::NoMemory) => Err(AllocError),
-        Err(Or::Because(CheckFault::Rejected(row))) => Ok(Verdict::Rejected(row)),
-        Err(Or::Because(CheckFault::Overflow { node })) => Ok(Verdict::Overflow(node)),
-        Err(Or::Because(CheckFault::TooLarge { node })) => Ok(Verdict::TooLarge(node)),
+        Err(Or::Because(CheckFault::Rejected(_))) => Ok(Verdict::Rejected),
+        Err(Or::Because(CheckFault::Overflow { .. })) => Ok(Verdict::Overflow),
+        Err(Or::Because(CheckFault::TooLarge { .. })) => Ok(Verdict::TooLarge),
     }
 }

@@ -1,6 +1,6 @@
 //! Nodes of path orders: the sides of rules and pairs are filtered, and each inference is told.
 
-ghost use Rattle.std.specs.Prelude.{◌<◌, All, Contains, length, map};
+ghost use Rattle.std.specs.Prelude.{◌<◌, All, Contains, IfOk, IsTrue, length, map};
 ghost use Rattle.wh_system.specs.SystemView.{system_data};
 ghost use Rattle.wh_pairs.specs.PairData.{PairData};
 ghost use Rattle.wh_pairs.specs.SystemPairs.{HasPairs};
@@ -8,6 +8,7 @@ ghost use Rattle.wh_pairs.specs.Views.{pairs_data};
 ghost use Rattle.wh_polycheck.specs.Covering.{IsTypedTask};
 ghost use Rattle.wh_reduction.specs.TaskView.{task_data};
 ghost use Rattle.wh_order.specs.TreeSides.{AreFilters, HasTypedCalls};
+ghost use Rattle.wh_ordering.specs.Filterings.{AreFiltersFor};
 ghost use Rattle.wh_ordering.specs.FilteringView.{filtering_data};
 ghost use Rattle.wh_cert.specs.Said.{said_filter};
 ghost use Rattle.wh_checker.specs.Faults.{SayOrdering};
@@ -18,13 +19,13 @@ use wh_judging::Problem;
 use wh_meaning::pairs_have_marked_sides;
 use wh_order::{TooWide, Tree, filtered_pair, filtered_rule};
 use wh_ordering::Filters;
-use wh_orienting::{Inferred, check_ordering};
+use wh_orienting::{Inferred, OrderingFault, check_ordering};
 use wh_pairs::PairSet;
 use wh_proof::filters_of_lines;
 use wh_reduction::{Task, all_rules};
 use wh_tell::{Text, names_of_rule, put_pair_line, put_rule_line, tell_line};
 use wh_tell_parts::{is_within, put_dropped, put_filters, put_inferred};
-use wh_types::Or;
+use wh_types::{Or, is_in};
 
 /// Appends how symbols are filtered, the inferences of each rule and pair, and which pairs are dropped.
 pub fn put_order(
@@ -48,7 +49,7 @@ pub fn put_order(
     put_dropped(text, node.drop.as_slice(), depth)
 }
 
-// Appends the inferences of each line, where the conditions of the node hold.
+// Appends the inferences of each line, where the lines of the node name what they have to name.
 fn put_inferences(
     alloc: Global,
     text: &mut Text,
@@ -92,22 +93,41 @@ fn put_under<'a>(
         (map said_filter node.now.funs) (map said_filter node.now.marks) (filtering_data filters.now) }
 {
     task.system.is_well_made();
+    if are_proper(alloc, task, filters, node)? {
+        put_rules(alloc, text, task, filters, node, depth)?;
+        put_pairs(alloc, text, task, filters, node, depth)
+    } else {
+        let words = "Some of these filters is not proper, so sides can't be compared.";
+        tell_line(text, depth, words, &[])
+    }
+}
+
+// Whether the filters are proper: a check of the node that finds anything else wrong finds it later.
+fn are_proper<'a>(
+    alloc: Global,
+    task: &Task<'a>,
+    filters: &Filters,
+    node: &OrderNode,
+) -> Result<bool, AllocError>
+    requires task { IsTypedTask (task_data task.now) }
+    requires filters { AreFiltersFor (task_data task.now) (filtering_data filters.now) }
+    ensures { IfOk result (λ b. IsTrue b
+        → AreFilters (task_data task.now).symbols (task_data task.now).rules (filtering_data filters.now)) }
+{
     let inferred = Inferred {
         rules: node.rules.as_slice(),
         pairs: node.pairs.as_slice(),
         drop: node.drop.as_slice(),
     };
     match check_ordering(alloc, task, filters, &inferred) {
-        Ok(()) => {
-            put_rules(alloc, text, task, filters, node, depth)?;
-            put_pairs(alloc, text, task, filters, node, depth)
-        }
+        Ok(()) => Ok(true),
         Err(Or::NoMemory) => Err(AllocError),
-        Err(Or::Because(_)) => Ok(()),
+        Err(Or::Because(OrderingFault::BadFilter { .. })) => Ok(false),
+        Err(Or::Because(_)) => Ok(true),
     }
 }
 
-// Appends each rule that is covered.
+// Appends each rule.
 fn put_rules<'a>(
     alloc: Global,
     text: &mut Text,
@@ -131,6 +151,7 @@ fn put_rules<'a>(
             left,
             right,
             node.rules.as_slice().get(i),
+            false,
             depth,
         )?;
     }
@@ -164,6 +185,7 @@ fn put_pairs<'a>(
             left,
             right,
             node.pairs.as_slice().get(i),
+            is_in(node.drop.as_slice(), number),
             depth,
         )?;
     }

@@ -31,9 +31,6 @@ pub fn put_tree(
 ) -> Result<(), AllocError>
     requires { HasPairs (system_data problem.now.system) (pairs_data problem.now.pairs) }
 {
-    text.say(
-        "\nThe proof. Each node shows of its pairs that no chain of calls uses them for ever.\n",
-    )?;
     let mut stack = Vec::new(alloc);
     let count = counted(problem.pairs.as_slice().len())?;
     stack.push(Level {
@@ -111,7 +108,7 @@ fn put_blocks(text: &mut Text, count: usize, depth: u32) -> Result<(), AllocErro
     text.indent(depth)?;
     tell(
         text,
-        "They fall into @ blocks, and no pair of an earlier block may follow",
+        "These fall into @ blocks, and no pair of an earlier block may follow",
         &[Count(count)],
     )?;
     text.say(" one of a later block. So a chain stays in one block in the end.\n")

@@ -1,14 +1,14 @@
 //! Nodes of interpretations: the sides of rules and pairs are evaluated under the polynomials of the node, and
 //! each line is told.
 
-ghost use Rattle.std.specs.Prelude.{◌≡◌, ◌<◌, ℕ, All, Contains, Some, length, map, slice_get};
+ghost use Rattle.std.specs.Prelude.{◌≡◌, ◌<◌, ℕ, All, Contains, IfOk, IsTrue, Some, length, map, slice_get};
 ghost use Rattle.wh_system.specs.SystemView.{system_data};
 ghost use Rattle.wh_pairs.specs.PairData.{IsIncreasing, PairData};
 ghost use Rattle.wh_pairs.specs.SystemPairs.{HasPairs};
 ghost use Rattle.wh_pairs.specs.Views.{pairs_data};
 ghost use Rattle.wh_polycheck.specs.Covering.{IsTypedTask};
 ghost use Rattle.wh_polycheck.specs.Marks.{HasMarkedSides};
-ghost use Rattle.wh_polycheck.specs.Readings.{AreProper};
+ghost use Rattle.wh_polycheck.specs.Readings.{AreNormal, AreProper, AreReadingsFor};
 ghost use Rattle.wh_polycheck.specs.ReadingsView.{readings_data};
 ghost use Rattle.wh_reduction.specs.TaskView.{task_data};
 ghost use Rattle.wh_cert.specs.Said.{said_interp};
@@ -16,7 +16,7 @@ ghost use Rattle.wh_checker.specs.Faults.{SayCovering};
 
 use std::alloc::{AllocError, Global};
 use wh_cert::PolyNode;
-use wh_covering::{Evidence, check_covering};
+use wh_covering::{CoveringFault, Evidence, check_covering};
 use wh_guesses::{pair_side, rule_side};
 use wh_judging::Problem;
 use wh_meaning::pairs_have_marked_sides;
@@ -25,8 +25,10 @@ use wh_polycheck::{Readings, interpretations_in_order_interpret};
 use wh_proof::{marks_of_set, rules_to_cover, symbols_of};
 use wh_reduction::Task;
 use wh_tell::{Text, put_numbers, tell_line};
-use wh_tell_parts::{is_within, put_dropped, put_pair_values, put_readings, put_rule_values};
-use wh_types::Or;
+use wh_tell_parts::{
+    Valued, is_within, put_dropped, put_pair_values, put_readings, put_rule_values,
+};
+use wh_types::{Or, is_in};
 
 /// Appends what symbols are read as, what both sides of each rule and pair are worth, and which pairs are dropped.
 pub fn put_interpretation(
@@ -56,7 +58,7 @@ pub fn put_interpretation(
     put_dropped(text, node.drop.as_slice(), depth)
 }
 
-// Appends what both sides of each line are worth, where the conditions of the node hold.
+// Appends what both sides of each line are worth, where the lines of the node name what they have to name.
 fn put_values(
     alloc: Global,
     text: &mut Text,
@@ -109,22 +111,42 @@ fn put_under<'a, 'b>(
         (map said_interp node.now.funs) (map said_interp node.now.marks) (readings_data readings.now) }
 {
     interpretations_in_order_interpret();
+    if are_normal(alloc, task, readings, node)? {
+        put_rules(alloc, text, task, readings, node, depth)?;
+        put_pairs(alloc, text, task, readings, node, depth)
+    } else {
+        let words = "Some of these polynomials is not normal, so sides have no values.";
+        tell_line(text, depth, words, &[])
+    }
+}
+
+// Whether the polynomials of the readings are normal: a check of the node that finds anything else wrong finds it later.
+fn are_normal<'a, 'b>(
+    alloc: Global,
+    task: &Task<'a>,
+    readings: &Readings<'b>,
+    node: &PolyNode,
+) -> Result<bool, AllocError>
+    requires task { IsTypedTask (task_data task.now) }
+    requires increasing { IsIncreasing (task_data task.now).covered }
+    requires readings { AreReadingsFor (task_data task.now) (readings_data readings.now) }
+    ensures { IfOk result (λ b. IsTrue b
+        → AreNormal (task_data task.now).symbols (task_data task.now).rules (readings_data readings.now)) }
+{
     let evidence = Evidence {
         rules: node.rules.as_slice(),
         pairs: node.pairs.as_slice(),
         drop: node.drop.as_slice(),
     };
     match check_covering(alloc, task, readings, &evidence) {
-        Ok(()) => {
-            put_rules(alloc, text, task, readings, node, depth)?;
-            put_pairs(alloc, text, task, readings, node, depth)
-        }
+        Ok(()) => Ok(true),
         Err(Or::NoMemory) => Err(AllocError),
-        Err(Or::Because(_)) => Ok(()),
+        Err(Or::Because(CoveringFault::BadPolynomial { .. })) => Ok(false),
+        Err(Or::Because(_)) => Ok(true),
     }
 }
 
-// Appends each rule that is covered.
+// Appends each rule that is to be covered.
 fn put_rules<'a, 'b>(
     alloc: Global,
     text: &mut Text,
@@ -140,13 +162,12 @@ fn put_rules<'a, 'b>(
         let rule = task.covered[i];
         let left = rule_side(alloc, task.system, readings, rule, false)?;
         let right = rule_side(alloc, task.system, readings, rule, true)?;
-        if let (Some(left), Some(right), Some(moves)) = (
-            left,
-            right,
-            node.rules.as_slice().get(i),
-        ) {
-            put_rule_values(text, task.system, rule, &left, &right, moves, depth)?;
-        }
+        let valued = Valued {
+            left: &left,
+            right: &right,
+            moves: node.rules.as_slice().get(i),
+        };
+        put_rule_values(text, task.system, rule, &valued, depth)?;
     }
     Ok(())
 }
@@ -170,19 +191,13 @@ fn put_pairs<'a, 'b>(
         let pair = &task.pairs[number as usize];
         let left = pair_side(alloc, task.system, readings, pair, false)?;
         let right = pair_side(alloc, task.system, readings, pair, true)?;
-        if let (Some(left), Some(right)) = (left, right) {
-            put_pair_values(
-                text,
-                task.system,
-                number,
-                i,
-                pair,
-                &left,
-                &right,
-                node,
-                depth,
-            )?;
-        }
+        let valued = Valued {
+            left: &left,
+            right: &right,
+            moves: node.pairs.as_slice().get(i),
+        };
+        let dropped = is_in(node.drop.as_slice(), number);
+        put_pair_values(text, task.system, number, pair, &valued, dropped, depth)?;
     }
     Ok(())
 }

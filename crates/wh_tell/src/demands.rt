@@ -30,9 +30,14 @@ pub fn put_ranks(
     ranks: &[u32],
 ) -> Result<(), AllocError> {
     put_sorts(text, system, ranks)?;
+    put_demands(alloc, text, system)
+}
+
+/// Appends which sorts are to be below which others or not above them, and which rules ask for it.
+pub fn put_demands(alloc: Global, text: &mut Text, system: &System) -> Result<(), AllocError> {
     let demands = demands_of(alloc, system)?;
     if demands.is_empty() {
-        return tell_line(text, 1, "no rule asks for a difference.", &[]);
+        return tell_line(text, 1, "No rule asks that they differ.", &[]);
     }
     for demand in &demands {
         put_demand(text, system, demand)?;
@@ -60,9 +65,9 @@ fn put_demand(text: &mut Text, system: &System, demand: &Demand) -> Result<(), A
         &[
             Named(names.sorts, demand.from),
             Say(if demand.strict {
-                " is below "
+                " has to be below "
             } else {
-                " is not above "
+                " must not be above "
             }),
             Named(names.sorts, demand.to),
         ],
@@ -70,7 +75,7 @@ fn put_demand(text: &mut Text, system: &System, demand: &Demand) -> Result<(), A
     tell_line(
         text,
         0,
-        ": rule @ takes @ out of argument @ of @.",
+        ", since rule @ takes @ out of argument @ of @.",
         &[
             Number(demand.rule),
             Unknown(names.metas, demand.meta),

@@ -3,6 +3,7 @@
 #![tactic(auto)]
 
 mod demands;
+mod expanded;
 mod graph;
 mod lints;
 mod marked;
@@ -14,8 +15,9 @@ mod spines;
 mod terms;
 mod text;
 mod types;
+mod wanted;
 
-pub use demands::put_ranks;
+pub use demands::{put_demands, put_ranks};
 pub use graph::{all_of, put_graph};
 pub use lints::put_lints;
 pub use marked::put_marked;

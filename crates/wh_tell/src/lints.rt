@@ -1,27 +1,17 @@
 //! What is likely not meant in a system: arguments that no rule can match, and names that are not used.
 
-use crate::names::{Names, names_of_rule, names_of_system};
+use crate::expanded::put_expanded;
+use crate::names::{Names, names_of_rule, names_of_system, put_name};
 use crate::sentence::Piece::{Count, Named, Number, Say, Unknown};
 use crate::sentence::{tell, tell_line};
-use crate::spines::{argument_type, arguments_of, binders_of, count_meta, has_symbol, symbol_of};
+use crate::spines::{arguments_of, binders_of, count_meta, has_symbol, symbol_of};
 use crate::terms::put_term;
 use crate::text::Text;
-use crate::types::put_type;
+use crate::wanted::{Wanted, wanted_abstractions};
 use std::alloc::{AllocError, Global};
 use wh_system::System;
 use wh_terms::{Rule, Term, Terms};
-use wh_types::{SimpleType, counted};
-
-/// An argument that is an abstraction on the left of all rules of a symbol.
-#[derive(Clone, Copy)]
-struct Wanted {
-    /// The symbol.
-    symbol: u32,
-    /// The argument, counted from 0.
-    place: u32,
-    /// How many abstractions all these left sides begin with there.
-    binders: u32,
-}
+use wh_types::counted;
 
 /// Appends a line or two for each thing that is likely not meant, or a line that there is none.
 pub fn put_lints(alloc: Global, text: &mut Text, system: &System) -> Result<(), AllocError> {
@@ -40,59 +30,9 @@ pub fn put_lints(alloc: Global, text: &mut Text, system: &System) -> Result<(), 
     }
     lint_symbols(text, system)?;
     if text.len() == begin {
-        tell_line(text, 0, "lint: nothing to say.", &[])?;
+        tell_line(text, 0, "lint: nothing was found.", &[])?;
     }
     Ok(())
-}
-
-// What is wanted as an abstraction by all rules of a symbol.
-fn wanted_abstractions(alloc: Global, system: &System) -> Result<Vec<Wanted>, AllocError> {
-    let mut wanted = Vec::new(alloc);
-    for symbol in 0..system.fun_names().len() {
-        add_wanted(alloc, system, counted(symbol)?, &mut wanted)?;
-    }
-    Ok(wanted)
-}
-
-// Adds what is wanted as an abstraction by all rules of this symbol.
-fn add_wanted(
-    alloc: Global,
-    system: &System,
-    symbol: u32,
-    wanted: &mut Vec<Wanted>,
-) -> Result<(), AllocError> {
-    for place in 0..system.need(symbol).unwrap_or(0) {
-        let binders = binders_wanted(alloc, system.rules(), symbol, place)?;
-        if binders > 0 {
-            wanted.push(Wanted {
-                symbol,
-                place,
-                binders,
-            })?;
-        }
-    }
-    Ok(())
-}
-
-// How many abstractions the argument begins with on the left of each rule of the symbol, at least.
-fn binders_wanted(
-    alloc: Global,
-    rules: &[Rule],
-    symbol: u32,
-    place: u32,
-) -> Result<u32, AllocError> {
-    let mut least = u32::MAX;
-    for rule in rules {
-        if symbol_of(&rule.left) == Some(symbol) {
-            let arguments = arguments_of(alloc, &rule.left)?;
-            let here = match arguments.get(place as usize) {
-                Some(argument) => binders_of(argument),
-                None => 0,
-            };
-            least = least.min(here);
-        }
-    }
-    Ok(if least == u32::MAX { 0 } else { least })
 }
 
 /// Where a term is looked at.
@@ -194,77 +134,7 @@ fn put_mismatch(
         Term::Meta(..) | Term::Bound(_) => "they apply only where an abstraction comes for it.\n",
         _ => "they don't apply to it.\n",
     })?;
-    put_expanded(text, place, wanted, argument, depth)
-}
-
-// Appends the spelling of the argument as an abstraction. The new binders have the numbers from the depth on; a
-// binder within the argument may have one of these again, and hides it where it is not used.
-fn put_expanded(
-    text: &mut Text,
-    place: &Place<'_>,
-    wanted: &Wanted,
-    argument: &Term,
-    depth: u32,
-) -> Result<(), AllocError> {
-    let kinds = place.system.signature().funs.as_slice();
-    let Some(whole) = kinds.get(wanted.symbol as usize) else {
-        return Ok(());
-    };
-    let Some(kind) = argument_type(whole, wanted.place) else {
-        return Ok(());
-    };
-    text.say("  as an abstraction it is ")?;
-    put_binders(text, place.names, kind, wanted.binders, depth)?;
-    put_term(text, place.names, argument, depth, true)?;
-    put_variables(text, wanted.binders, depth)?;
-    put_ends(text, wanted.binders)
-}
-
-// Appends the beginnings of so many abstractions.
-fn put_binders(
-    text: &mut Text,
-    names: &Names<'_>,
-    kind: &SimpleType,
-    count: u32,
-    depth: u32,
-) -> Result<(), AllocError> {
-    for number in 0..count {
-        put_binder(text, names, kind, number, depth)?;
-    }
-    Ok(())
-}
-
-// Appends the variables of so many abstractions.
-fn put_variables(text: &mut Text, count: u32, depth: u32) -> Result<(), AllocError> {
-    for number in 0..count {
-        tell(text, " $@", &[Number(depth.saturating_add(number))])?;
-    }
-    Ok(())
-}
-
-// Appends the ends of so many abstractions.
-fn put_ends(text: &mut Text, count: u32) -> Result<(), AllocError> {
-    for _ in 0..count {
-        text.say(")")?;
-    }
-    text.say("\n")
-}
-
-// Appends the beginning of an abstraction over the argument of that number.
-fn put_binder(
-    text: &mut Text,
-    names: &Names<'_>,
-    kind: &SimpleType,
-    number: u32,
-    depth: u32,
-) -> Result<(), AllocError> {
-    text.say("(\\$")?;
-    text.number(depth.saturating_add(number) as u128)?;
-    text.say(":")?;
-    if let Some(argument) = argument_type(kind, number) {
-        put_type(text, names, argument, true)?;
-    }
-    text.say(".")
+    put_expanded(text, place.system, names, wanted, argument, depth)
 }
 
 // Looks for meta-variables of a rule that are not used or that stand twice on the left.
@@ -292,21 +162,20 @@ fn lint_metas(
     Ok(())
 }
 
-// Looks for symbols that stand in no rule.
+// Looks for symbols that stand in no rule, and names all of them in one line.
 fn lint_symbols(text: &mut Text, system: &System) -> Result<(), AllocError> {
     let names = names_of_system(system);
+    let begin = text.len();
+    let mut words: &[u8] = b"lint: no rule has ";
     for symbol in 0..system.fun_names().len() {
         let symbol = counted(symbol)?;
         if !is_used(system.rules(), symbol) {
-            tell_line(
-                text,
-                0,
-                "lint: @ stands in no rule.",
-                &[Named(names.funs, symbol)],
-            )?;
+            text.spell(words)?;
+            put_name(text, names.funs, symbol)?;
+            words = b", ";
         }
     }
-    Ok(())
+    text.say(if text.len() == begin { "" } else { ".\n" })
 }
 
 // Whether the symbol stands in some rule.

@@ -1,13 +1,13 @@
 //! Which projection comes closest for pairs of which none was dropped: one that keeps or lowers the argument in
 //! as many of them as can be found by changing one argument at a time. Others may keep as many.
 
+use crate::compared::put_compared;
 use std::alloc::{AllocError, Global};
 use wh_pairs::{Pair, PairSet};
 use wh_subterm::{Relation, relation_at};
 use wh_system::System;
-use wh_tell::Piece::{Named, Number, Say, Tree};
-use wh_tell::{Text, names_of_rule, names_of_system, tell, tell_line};
-use wh_terms::Terms;
+use wh_tell::Piece::{Named, Number};
+use wh_tell::{Text, names_of_system, tell};
 use wh_types::counted;
 
 // How often each symbol is gone through.
@@ -115,12 +115,10 @@ fn put_chosen<'a>(
     set: &[u32],
     chosen: &[u32],
 ) -> Result<(), AllocError> {
-    text.say("A projection that comes close looks at the arguments:")?;
     put_choices(text, system, pairs, set, chosen)?;
-    text.say(".\n")?;
     for number in set {
         if let Some(pair) = pairs.get(*number as usize) {
-            put_relation(text, system, *number, pair, chosen)?;
+            put_chosen_in(text, system, *number, pair, chosen)?;
         }
     }
     Ok(())
@@ -135,14 +133,17 @@ fn put_choices(
     chosen: &[u32],
 ) -> Result<(), AllocError> {
     let names = names_of_system(system);
+    let mut words: &[u8] = b"A projection that comes close looks at argument ";
     for (symbol, place) in chosen.iter().enumerate() {
         let symbol = counted(symbol)?;
         if heads_some(pairs, set, symbol) {
             let place = Number(place.saturating_add(1));
-            tell(text, " @ @", &[Named(names.funs, symbol), place])?;
+            text.spell(words)?;
+            tell(text, "@ of @", &[place, Named(names.funs, symbol)])?;
+            words = b", argument ";
         }
     }
-    Ok(())
+    text.say(".\n")
 }
 
 // Whether the symbol heads a side of a pair of the set.
@@ -158,7 +159,7 @@ fn heads_some(pairs: &[Pair], set: &[u32], symbol: u32) -> bool {
 }
 
 // Appends what becomes of the chosen argument in a pair.
-fn put_relation<'a>(
+fn put_chosen_in<'a>(
     text: &mut Text,
     system: &'a System,
     number: u32,
@@ -166,37 +167,10 @@ fn put_relation<'a>(
     chosen: &[u32],
 ) -> Result<(), AllocError> {
     tell(text, "  pair @: ", &[Number(number)])?;
-    put_argument(text, system, pair, chosen, pair.left_fun, &pair.left)?;
-    text.say(" becomes ")?;
-    put_argument(text, system, pair, chosen, pair.right_fun, &pair.right)?;
-    tell_line(
-        text,
-        0,
-        "@",
-        &[Say(match relation_in(pair, chosen) {
-            Relation::Equal => ", the same.",
-            Relation::Below => ", a proper part of it.",
-            Relation::Neither => ", neither the same nor a part of it: this pair stops it.",
-        })],
-    )
-}
-
-// Appends the argument of a side that is chosen.
-fn put_argument<'a>(
-    text: &mut Text,
-    system: &'a System,
-    pair: &Pair,
-    chosen: &[u32],
-    fun: u32,
-    arguments: &'a Terms,
-) -> Result<(), AllocError> {
-    let names = names_of_rule(system, pair.rule);
-    let place = match chosen.get(fun as usize) {
-        Some(place) => *place as usize,
-        None => return Ok(()),
-    };
-    match arguments.as_slice().get(place) {
-        Some(term) => tell(text, "@", &[Tree(names, term)]),
-        None => text.say("nothing"),
+    let left = chosen.get(pair.left_fun as usize);
+    let right = chosen.get(pair.right_fun as usize);
+    match (left, right) {
+        (Some(left), Some(right)) => put_compared(text, system, pair, *left, *right),
+        _ => text.say("There is no such argument.\n"),
     }
 }

@@ -24,7 +24,7 @@ pub fn put_filters<'a>(
                 text.say(if places.as_slice().is_empty() {
                     " and keeps no argument"
                 } else {
-                    " and keeps the arguments"
+                    " and keeps arguments"
                 })?;
                 put_numbers(text, places.as_slice())?;
             }
@@ -49,18 +49,23 @@ struct Claim<'a> {
     below: u32,
 }
 
-/// Appends the inferences that show that the left side is at least the right one.
+/// Appends the inferences that show that the left side is at least the right one, or greater where that is asked.
 pub fn put_inferred(
     text: &mut Text,
     names: &Names<'_>,
     left: Option<Tree>,
     right: Option<Tree>,
     inference: Option<&Inference>,
+    greater: bool,
     depth: u32,
 ) -> Result<(), AllocError> {
     if let (Some(left), Some(right), Some(inference)) = (left, right, inference) {
         let claim = Some(Claim {
-            words: b" is at least ",
+            words: if greater {
+                b" is greater than "
+            } else {
+                b" is at least "
+            },
             left: &left,
             above: 0,
             right: &right,
@@ -105,14 +110,14 @@ fn put_letter(text: &mut Text, inference: &Inference) -> Result<(), AllocError> 
         Letter::Same => "they are the same.",
         Letter::Lam => "both are abstractions, and the body gets smaller.",
         Letter::Mono => "the head is the same, and no argument gets greater.",
-        Letter::Sub => "by an argument on the left, number ",
+        Letter::Sub => "by its argument ",
         Letter::Prec => "its symbol has a greater precedence, and it is above each argument.",
         Letter::Lex =>
-            "their symbols have one precedence, and the first argument that differs gets smaller, number ",
+            "both symbols have one precedence, and the first argument that differs gets smaller: argument ",
         Letter::App => "it is above the head and each argument.",
         Letter::Bind => "it is above the body.",
         Letter::Var => "that is the variable of a binder that was passed.",
-        Letter::Meta => "it has that meta-variable itself as an argument, number ",
+        Letter::Meta => "it has that meta-variable itself as its argument ",
     };
     text.say(words)?;
     if matches!(inference.letter, Letter::Sub | Letter::Lex | Letter::Meta) {

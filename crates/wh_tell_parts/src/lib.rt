@@ -3,6 +3,7 @@
 #![tactic(auto)]
 
 mod closest;
+mod compared;
 mod filtered;
 mod inferred;
 mod loops;
@@ -13,8 +14,8 @@ mod within;
 
 pub use closest::put_closest_projection;
 pub use inferred::{put_filters, put_inferred};
-pub use loops::put_loop;
+pub use loops::{put_attempt, put_loop};
 pub use projected::{put_dropped, put_projection};
 pub use stepping::term_after;
-pub use valued::{put_pair_values, put_readings, put_rule_values};
+pub use valued::{Valued, put_pair_values, put_readings, put_rule_values};
 pub use within::is_within;

@@ -13,34 +13,65 @@ use wh_text::print_raw;
 // How many steps are told.
 const MOST_STEPS: usize = 100;
 
-/// Appends the reduction of a certificate.
+/// Appends the reduction of a loop, and the instance of the first term at its end.
 pub fn put_loop(
     alloc: Global,
     text: &mut Text,
     system: &System,
     certificate: &NoCertificate,
 ) -> Result<(), AllocError> {
-    let tables = NameTables::of(alloc, system)?;
-    let Some(first) = tables.resolve(alloc, system, &certificate.term)? else {
-        return Ok(());
-    };
-    let names = names_of_system(system);
-    text.say("\nThe reduction. Carets stand under what each step replaces.\n")?;
-    let Some(last) = put_steps(alloc, text, system, first, certificate.steps.as_slice())? else {
-        return put_puts(alloc, text, certificate.puts.as_slice());
-    };
-    tell_line(
-        text,
-        0,
-        "The last term. Carets stand under an instance of the first one.",
-        &[],
-    )?;
-    put_marked(text, &names, &last, certificate.at.as_slice(), 1)?;
-    put_path(text, "  at ", certificate.at.as_slice())?;
+    let words = "The last term. Carets stand under an instance of the first one.";
+    put_claim(alloc, text, system, certificate, words)?;
+    text.say("So all steps can be made again there, as often as one likes.\n")
+}
+
+/// Appends the reduction of a certificate that is no loop, as far as its steps can be taken.
+pub fn put_attempt(
+    alloc: Global,
+    text: &mut Text,
+    system: &System,
+    certificate: &NoCertificate,
+) -> Result<(), AllocError> {
+    let words = "The last term. Carets stand under what is to be an instance of the first one.";
+    put_claim(alloc, text, system, certificate, words)
+}
+
+// Appends the reduction of a certificate, its last term behind these words, and what is put for variables.
+fn put_claim(
+    alloc: Global,
+    text: &mut Text,
+    system: &System,
+    certificate: &NoCertificate,
+    words: &str,
+) -> Result<(), AllocError> {
+    if let Some(last) = put_reduction(alloc, text, system, certificate)? {
+        let names = names_of_system(system);
+        let path = certificate.at.as_slice();
+        tell_line(text, 0, words, &[])?;
+        put_marked(text, &names, &last, path, 1)?;
+        put_path(text, "  at ", path)?;
+    }
     put_puts(alloc, text, certificate.puts.as_slice())
 }
 
-// Appends the terms before each step, and gives the last one; `None` where there are too many to be told.
+// Appends the terms before each step of a certificate, and gives the last one, if the steps lead there and are not
+// too many to be told.
+fn put_reduction(
+    alloc: Global,
+    text: &mut Text,
+    system: &System,
+    certificate: &NoCertificate,
+) -> Result<Option<Term>, AllocError> {
+    let tables = NameTables::of(alloc, system)?;
+    let Some(first) = tables.resolve(alloc, system, &certificate.term)? else {
+        return Ok(None);
+    };
+    text.say("\nThe reduction. Carets stand under what each step replaces.\n")?;
+    put_steps(alloc, text, system, first, certificate.steps.as_slice())
+}
+
+// Appends the terms before each step, and gives the last one; `None` where there are too many to be told, or where
+// a step can't be taken.
 fn put_steps(
     alloc: Global,
     text: &mut Text,
@@ -58,7 +89,10 @@ fn put_steps(
         put_step(text, system, &names, number, &here, step)?;
         match term_after(alloc, system, &here, step)? {
             Some(next) => here = next,
-            None => return Ok(None),
+            None => {
+                text.say("  which can't be.\n")?;
+                return Ok(None);
+            }
         }
     }
     Ok(Some(here))
@@ -105,5 +139,5 @@ fn put_puts(alloc: Global, text: &mut Text, puts: &[Put]) -> Result<(), AllocErr
             &[Spell(value.as_slice()), Number(item.number)],
         )?;
     }
-    text.say("So all steps can be made again there, as often as one likes.\n")
+    Ok(())
 }

@@ -1,7 +1,7 @@
 //! What symbols are read as, and how the monomials of the left side of a rule or pair cover those of the right one.
 
 use std::alloc::AllocError;
-use wh_cert::{Interp, PolyNode};
+use wh_cert::Interp;
 use wh_hopoly::{Monomial, Move, Moves, Poly};
 use wh_pairs::Pair;
 use wh_system::System;
@@ -10,7 +10,7 @@ use wh_tell::{
     Names, Text, names_of_rule, put_factors, put_meta, put_pair_line, put_rule_line, tell,
     tell_line,
 };
-use wh_types::{counted, is_in};
+use wh_types::counted;
 
 // How many monomials of a side are listed.
 const MOST_LISTED: usize = 100;
@@ -33,45 +33,47 @@ pub fn put_readings<'a>(
     Ok(())
 }
 
+/// What both sides of a rule or pair are worth, if no value passes a limit, and the line of moves between them, if
+/// there is one.
+#[derive(Clone, Copy)]
+pub struct Valued<'a> {
+    /// The left side.
+    pub left: &'a Option<Poly>,
+    /// The right side.
+    pub right: &'a Option<Poly>,
+    /// The moves.
+    pub moves: Option<&'a Moves>,
+}
+
 /// Appends a rule and what its sides are worth.
 pub fn put_rule_values(
     text: &mut Text,
     system: &System,
     rule: u32,
-    left: &Poly,
-    right: &Poly,
-    moves: &Moves,
+    valued: &Valued<'_>,
     depth: u32,
 ) -> Result<(), AllocError> {
     put_rule_line(text, system, rule, depth)?;
     let names = names_of_rule(system, rule);
     put_variables(text, &names, names.metas.len(), depth)?;
-    put_covered(text, left, right, moves.as_slice(), depth)
+    put_valued(text, valued, false, depth.saturating_add(1))
 }
 
-/// Appends a pair and what its sides are worth; its line is the one with the index `place`.
+/// Appends a pair and what its sides are worth, and for a pair that is dropped whether a unit of its constant is
+/// left over.
 pub fn put_pair_values(
     text: &mut Text,
     system: &System,
     number: u32,
-    place: usize,
     pair: &Pair,
-    left: &Poly,
-    right: &Poly,
-    node: &PolyNode,
+    valued: &Valued<'_>,
+    dropped: bool,
     depth: u32,
 ) -> Result<(), AllocError> {
     put_pair_line(text, system, number, pair, depth)?;
     let names = names_of_rule(system, pair.rule);
     put_variables(text, &names, pair.metas.as_slice().len(), depth)?;
-    if let Some(moves) = node.pairs.as_slice().get(place) {
-        put_covered(text, left, right, moves.as_slice(), depth)?;
-    }
-    if is_in(node.drop.as_slice(), number) {
-        let words = "a unit of the constant on the left is left over: the right side is worth less";
-        tell_line(text, depth.saturating_add(1), words, &[])?;
-    }
-    Ok(())
+    put_valued(text, valued, dropped, depth.saturating_add(1))
 }
 
 // Appends which variable stands for which meta-variable.
@@ -95,30 +97,79 @@ fn put_variables(
     text.say("\n")
 }
 
-// Appends the monomials of both sides, and what covers what.
-fn put_covered(
+// Appends both sides and what is moved; and what is left of the constant where that is asked.
+fn put_valued(
+    text: &mut Text,
+    valued: &Valued<'_>,
+    dropped: bool,
+    depth: u32,
+) -> Result<(), AllocError> {
+    let (Some(left), Some(right)) = (valued.left, valued.right) else {
+        return tell_line(text, depth, "the value of a side passes a limit", &[]);
+    };
+    put_side(text, "left side", left, depth)?;
+    put_side(text, "right side", right, depth)?;
+    let Some(moves) = valued.moves else {
+        return tell_line(text, depth, "there is no line of moves", &[]);
+    };
+    put_moves(text, left, right, moves.as_slice(), depth)?;
+    if dropped {
+        tell_line(text, depth, words_of(left, moves.as_slice()), &[])?;
+    }
+    Ok(())
+}
+
+// Appends what is moved from which monomial of the left side to which one of the right side, each as in certificates
+// and in words.
+fn put_moves(
     text: &mut Text,
     left: &Poly,
     right: &Poly,
     moves: &[Move],
     depth: u32,
 ) -> Result<(), AllocError> {
-    let inner = depth.saturating_add(1);
-    put_side(text, "left side", left, inner)?;
-    put_side(text, "right side", right, inner)?;
     for item in moves {
-        text.indent(inner)?;
+        text.indent(depth)?;
+        let (from, to) = (Number(item.from), Number(item.to));
         tell(
             text,
-            "@ of monomial @",
-            &[Big(item.amount), Number(item.from)],
+            "@>@:@ moves @ from ",
+            &[from, to, Big(item.amount), Big(item.amount)],
         )?;
-        put_named(text, left, item.from)?;
-        tell(text, " on the left for monomial @", &[Number(item.to)])?;
-        put_named(text, right, item.to)?;
-        text.say(" on the right\n")?;
+        put_numbered(text, left, item.from)?;
+        text.say(" to ")?;
+        put_numbered(text, right, item.to)?;
+        text.say("\n")?;
     }
     Ok(())
+}
+
+// What is said of the constant on the left of a pair that is dropped.
+fn words_of(left: &Poly, moves: &[Move]) -> &'static str {
+    if spent(moves) < constant(left) {
+        "a unit of the constant on the left is left over: the right side is worth less"
+    } else {
+        "no unit of a constant on the left is left over: the right side may be worth as much"
+    }
+}
+
+// The constant of a polynomial: that of its first monomial, if this has no factors.
+fn constant(poly: &Poly) -> u128 {
+    match poly.as_slice().first() {
+        Some(first) if first.atoms.as_slice().is_empty() => first.coefficient,
+        _ => 0,
+    }
+}
+
+// How many units are moved from the first monomial.
+fn spent(moves: &[Move]) -> u128 {
+    let mut sum: u128 = 0;
+    for item in moves {
+        if item.from == 0 {
+            sum = sum.saturating_add(item.amount);
+        }
+    }
+    sum
 }
 
 // Appends a side, and each of its monomials with its number.
@@ -152,12 +203,10 @@ fn put_monomial(text: &mut Text, item: &Monomial) -> Result<(), AllocError> {
     put_factors(text, &item.atoms)
 }
 
-// Appends the monomial with that number in parentheses.
-fn put_named(text: &mut Text, side: &Poly, number: u32) -> Result<(), AllocError> {
-    if let Some(item) = side.as_slice().get(number as usize) {
-        text.say(" (")?;
-        put_monomial(text, item)?;
-        text.say(")")?;
+// Appends the monomial with that number.
+fn put_numbered(text: &mut Text, side: &Poly, number: u32) -> Result<(), AllocError> {
+    match side.as_slice().get(number as usize) {
+        Some(item) => put_monomial(text, item),
+        None => text.say("none"),
     }
-    Ok(())
 }

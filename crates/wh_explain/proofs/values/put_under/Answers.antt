@@ -7,35 +7,11 @@ use Rattle.wh_polycheck.proofs.ProperReadings.{sides_of_set}
 use Rattle.wh_proof.proofs.InterpretationLemmas.{said_lists}
 use Rattle.wh_explain.proofs.values.put_under.Goals as goal
 
-pub check_covering-requires-clause-readings : goal.check_covering-requires-clause-readings
-check_covering-requires-clause-readings c =
+pub are_normal-requires-clause-readings : goal.are_normal-requires-clause-readings
+are_normal-requires-clause-readings c =
     let d = system_data c.args.task.now.system.now in
     let R = readings_data c.args.readings.now in
     record {
       kinds = (said_lists d.fun_names d.symbols.funs (map said_interp c.args.node.now.funs) R.symbols c.requires.says.0.0).1;
       marked = c.requires.says.1;
     }
-
-pub put_rules-requires-clause-proper : goal.put_rules-requires-clause-proper
-put_rules-requires-clause-proper c =
-    let T = task_data c.args.task.now in
-    let R = readings_data c.args.readings.now in
-    record {
-      interpreted = c.interpretations_in_order_interpret.ensures T.symbols R.symbols c.in-Ok.ensures.covering.readings.kinds;
-      normal = c.in-Ok.ensures.covering.normal;
-    }
-
-pub put_pairs-requires-clause-proper : goal.put_pairs-requires-clause-proper
-put_pairs-requires-clause-proper c =
-    let T = task_data c.args.task.now in
-    let R = readings_data c.args.readings.now in
-    record {
-      interpreted = c.interpretations_in_order_interpret.ensures T.symbols R.symbols c.in-Ok.ensures.covering.readings.kinds;
-      normal = c.in-Ok.ensures.covering.normal;
-    }
-
-pub put_pairs-requires-clause-sides : goal.put_pairs-requires-clause-sides
-put_pairs-requires-clause-sides c n p found there =
-    let T = task_data c.args.task.now in
-    let R = readings_data c.args.readings.now in
-    sides_of_set T.pairs T.set R.marks c.in-Ok.ensures.covering.readings.marked T.symbols T.rules c.requires.task.typed p (n, found, there)

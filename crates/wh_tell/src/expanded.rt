@@ -1,0 +1,85 @@
+//! The spelling of an argument as an abstraction: an eta step backwards.
+
+use crate::names::Names;
+use crate::sentence::Piece::Number;
+use crate::sentence::tell;
+use crate::spines::argument_type;
+use crate::terms::put_term;
+use crate::text::Text;
+use crate::types::put_type;
+use crate::wanted::Wanted;
+use std::alloc::AllocError;
+use wh_system::System;
+use wh_terms::Term;
+use wh_types::SimpleType;
+
+/// Appends the spelling of the argument as an abstraction. The new binders have the numbers from the depth on; a
+/// binder within the argument may have one of these again, and hides it where it is not used.
+pub fn put_expanded(
+    text: &mut Text,
+    system: &System,
+    names: &Names<'_>,
+    wanted: &Wanted,
+    argument: &Term,
+    depth: u32,
+) -> Result<(), AllocError> {
+    let kinds = system.signature().funs.as_slice();
+    let Some(whole) = kinds.get(wanted.symbol as usize) else {
+        return Ok(());
+    };
+    let Some(kind) = argument_type(whole, wanted.place) else {
+        return Ok(());
+    };
+    text.say("  as an abstraction it is ")?;
+    put_binders(text, names, kind, wanted.binders, depth)?;
+    put_term(text, names, argument, depth, true)?;
+    put_variables(text, wanted.binders, depth)?;
+    put_ends(text, wanted.binders)
+}
+
+// Appends the beginnings of so many abstractions.
+fn put_binders(
+    text: &mut Text,
+    names: &Names<'_>,
+    kind: &SimpleType,
+    count: u32,
+    depth: u32,
+) -> Result<(), AllocError> {
+    for number in 0..count {
+        put_binder(text, names, kind, number, depth)?;
+    }
+    Ok(())
+}
+
+// Appends the variables of so many abstractions.
+fn put_variables(text: &mut Text, count: u32, depth: u32) -> Result<(), AllocError> {
+    for number in 0..count {
+        tell(text, " $@", &[Number(depth.saturating_add(number))])?;
+    }
+    Ok(())
+}
+
+// Appends the ends of so many abstractions.
+fn put_ends(text: &mut Text, count: u32) -> Result<(), AllocError> {
+    for _ in 0..count {
+        text.say(")")?;
+    }
+    text.say("\n")
+}
+
+// Appends the beginning of an abstraction over the argument of that number.
+fn put_binder(
+    text: &mut Text,
+    names: &Names<'_>,
+    kind: &SimpleType,
+    number: u32,
+    depth: u32,
+) -> Result<(), AllocError> {
+    text.say("(\\$")?;
+    text.number(depth.saturating_add(number) as u128)?;
+    text.say(":")?;
+    if let Some(argument) = argument_type(kind, number) {
+        put_type(text, names, argument, true)?;
+    }
+    text.say(".")
+}
