@@ -5,8 +5,8 @@
 
 A block of lines is indented by four spaces. In it a command is a line with `$`, and its output the lines behind it. A
 block below a paragraph that ends with "file `NAME`:" is that file. All is run in one new folder, in which ./wanda,
-./wanda-all, ./wanda-explain and examples are those of this repository. What is shown may also be what a terminal shows, where the
-command says more there. Times, as 0.123, may differ.
+./wanda-all, ./wanda-explain and examples are those of this repository. What is shown may also be what a terminal shows,
+where the command says more there. Times, as 0.123, may differ.
 """
 
 import argparse

@@ -70,7 +70,7 @@ fn put_no_ranks(
         NoRanks::Cycle(sorts) => {
             put_cycle(text, problem, sorts.as_slice())?;
             put_demands(alloc, text, &problem.system)?;
-            text.say("So no certificate is a proof for this system.\n")
+            text.say("So no certificate of this format is a proof for the system.\n")
         }
     }
 }
@@ -79,7 +79,7 @@ fn put_no_ranks(
 fn put_cycle(text: &mut Text, problem: &Problem, sorts: &[u32]) -> Result<(), AllocError> {
     let names = names_of_system(&problem.system);
     text.say(
-        "No ranks serve: what rules take out of their arguments asks that those of sorts rise along a cycle,",
+        "No ranks of sorts serve: what rules take out of their arguments asks that they rise along a cycle,",
     )?;
     for sort in sorts {
         tell(text, " @", &[Named(names.sorts, *sort)])?;

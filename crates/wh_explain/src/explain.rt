@@ -216,7 +216,7 @@ fn headed(
 
 // Appends what is likely not meant.
 fn put_last(alloc: Global, text: &mut Text, system: &System) -> Result<(), AllocError> {
-    text.say("\nWhat is likely not meant:\n")?;
+    text.say("\nWhat may not be meant:\n")?;
     put_lints(alloc, text, system)
 }
 

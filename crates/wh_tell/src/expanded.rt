@@ -3,7 +3,7 @@
 use crate::names::Names;
 use crate::sentence::Piece::Number;
 use crate::sentence::tell;
-use crate::spines::argument_type;
+use crate::spines::{argument_type, binders_of, body_of};
 use crate::terms::put_term;
 use crate::text::Text;
 use crate::types::put_type;
@@ -13,8 +13,9 @@ use wh_system::System;
 use wh_terms::Term;
 use wh_types::SimpleType;
 
-/// Appends the spelling of the argument as an abstraction. The new binders have the numbers from the depth on; a
-/// binder within the argument may have one of these again, and hides it where it is not used.
+/// Appends the spelling of the argument as an abstraction, behind the abstractions that it begins with. The binders
+/// have the numbers from the depth on; one within the argument may have such a number again, and hides it where it is
+/// not used.
 pub fn put_expanded(
     text: &mut Text,
     system: &System,
@@ -32,8 +33,15 @@ pub fn put_expanded(
     };
     text.say("  as an abstraction it is ")?;
     put_binders(text, names, kind, wanted.binders, depth)?;
-    put_term(text, names, argument, depth, true)?;
-    put_variables(text, wanted.binders, depth)?;
+    let had = binders_of(argument);
+    put_term(
+        text,
+        names,
+        body_of(argument),
+        depth.saturating_add(had),
+        true,
+    )?;
+    put_variables(text, had, wanted.binders, depth)?;
     put_ends(text, wanted.binders)
 }
 
@@ -51,9 +59,9 @@ fn put_binders(
     Ok(())
 }
 
-// Appends the variables of so many abstractions.
-fn put_variables(text: &mut Text, count: u32, depth: u32) -> Result<(), AllocError> {
-    for number in 0..count {
+// Appends the variables of the new abstractions, from the one of that number on.
+fn put_variables(text: &mut Text, first: u32, count: u32, depth: u32) -> Result<(), AllocError> {
+    for number in first..count {
         tell(text, " $@", &[Number(depth.saturating_add(number))])?;
     }
     Ok(())

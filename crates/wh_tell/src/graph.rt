@@ -1,5 +1,5 @@
-//! The dependency graph in the language of Graphviz: a box for each pair, in frames for the components that
-//! have an edge, and an arrow where one pair may follow another.
+//! The dependency graph in the language of Graphviz: a box for each pair, in frames for the components in which pairs
+//! may follow one another, and an arrow where one pair may follow another.
 
 ghost use Rattle.std.specs.Prelude.{◌<◌, All, IfOk, length};
 
@@ -51,7 +51,7 @@ pub fn all_of(alloc: Global, list: &PairList) -> Result<PairSet, AllocError>
     Ok(set)
 }
 
-// Appends a frame with the boxes of the pairs of a component.
+// Appends the boxes of the pairs of a component, in a frame unless it is a pair that may not follow itself.
 fn put_component(
     alloc: Global,
     text: &mut Text,
@@ -60,11 +60,29 @@ fn put_component(
     number: usize,
     block: &[u32],
 ) -> Result<(), AllocError> {
-    tell_line(text, 1, "subgraph cluster@ {", &[Count(number)])?;
+    let framed = !is_alone(system, pairs, block);
+    if framed {
+        tell_line(text, 1, "subgraph cluster@ {", &[Count(number)])?;
+    }
     for pair in block {
+        text.indent(if framed { 2 } else { 1 })?;
         put_box(alloc, text, system, pairs, *pair)?;
     }
-    tell_line(text, 1, "}", &[])
+    if framed {
+        tell_line(text, 1, "}", &[])?;
+    }
+    Ok(())
+}
+
+// Whether the component is a pair that may not follow itself.
+fn is_alone(system: &System, pairs: &[Pair], block: &[u32]) -> bool {
+    match block.first() {
+        Some(first) if block.len() == 1 => match pairs.get(*first as usize) {
+            Some(pair) => !may_follow(system, pair, pair),
+            None => true,
+        },
+        _ => false,
+    }
 }
 
 // Appends the box of a pair, in which a backslash is written twice.
@@ -78,7 +96,6 @@ fn put_box(
     let Some(pair) = pairs.get(number as usize) else {
         return Ok(());
     };
-    text.indent(2)?;
     tell(text, "p@ [label=\"@: ", &[Number(number), Number(number)])?;
     let mut label = Text::new(alloc)?;
     put_pair(&mut label, system, pair)?;

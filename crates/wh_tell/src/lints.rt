@@ -127,8 +127,15 @@ fn put_mismatch(
     text.say(", and all rules of ")?;
     tell(
         text,
-        "@ want an abstraction there: ",
-        &[Named(names.funs, wanted.symbol)],
+        "@ want an abstraction@ there: ",
+        &[
+            Named(names.funs, wanted.symbol),
+            Say(if wanted.binders > 1 {
+                " of several variables"
+            } else {
+                ""
+            }),
+        ],
     )?;
     text.say(match argument {
         Term::Meta(..) | Term::Bound(_) => "they apply only where an abstraction comes for it.\n",
@@ -175,7 +182,8 @@ fn lint_symbols(text: &mut Text, system: &System) -> Result<(), AllocError> {
             words = b", ";
         }
     }
-    text.say(if text.len() == begin { "" } else { ".\n" })
+    let end = if text.len() == begin { "" } else { ".\n" };
+    text.say(end)
 }
 
 // Whether the symbol stands in some rule.

@@ -44,6 +44,15 @@ pub fn binders_of(term: &Term) -> u32 {
     count
 }
 
+/// What stands behind these abstractions.
+pub fn body_of(term: &Term) -> &Term {
+    let mut here = term;
+    while let Term::Lam(_, body) = here {
+        here = body;
+    }
+    here
+}
+
 /// The type of the argument of that index, counted from 0; `None` where there are not so many.
 pub fn argument_type(kind: &SimpleType, index: u32) -> Option<&SimpleType> {
     let mut left = index;

@@ -22,8 +22,12 @@ pub fn put_compared<'a>(
     match (from, to) {
         (Some(from), Some(to)) => {
             let words = words_of(relation_at(pair, left, right));
-            let pieces = &[Tree(names, from), Tree(names, to), Say(words)];
-            tell_line(text, 0, "@ becomes @: @.", pieces)
+            tell_line(
+                text,
+                0,
+                "@ becomes @: @.",
+                &[Tree(names, from), Tree(names, to), Say(words)],
+            )
         }
         _ => text.say("There is no such argument.\n"),
     }

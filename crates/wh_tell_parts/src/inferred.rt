@@ -21,10 +21,10 @@ pub fn put_filters<'a>(
         match &line.filter {
             Filter::Keep { prec, places } => {
                 tell(text, " has precedence @", &[Number(*prec)])?;
-                text.say(if places.as_slice().is_empty() {
-                    " and keeps no argument"
-                } else {
-                    " and keeps arguments"
+                text.say(match places.as_slice().len() {
+                    0 => " and keeps no argument",
+                    1 => " and keeps argument",
+                    _ => " and keeps arguments",
                 })?;
                 put_numbers(text, places.as_slice())?;
             }
@@ -39,10 +39,17 @@ pub fn put_filters<'a>(
     Ok(())
 }
 
+// What a claim says.
+const LEAST: &str = " is at least ";
+
+const GREATER: &str = " is greater than ";
+
+const ABOVE: &str = " is above ";
+
 /// What an inference is to show of two trees, each below so many binders.
 #[derive(Clone, Copy)]
 struct Claim<'a> {
-    words: &'static [u8],
+    words: &'static str,
     left: &'a Tree,
     above: u32,
     right: &'a Tree,
@@ -61,11 +68,7 @@ pub fn put_inferred(
 ) -> Result<(), AllocError> {
     if let (Some(left), Some(right), Some(inference)) = (left, right, inference) {
         let claim = Some(Claim {
-            words: if greater {
-                b" is greater than "
-            } else {
-                b" is at least "
-            },
+            words: if greater { GREATER } else { LEAST },
             left: &left,
             above: 0,
             right: &right,
@@ -88,7 +91,7 @@ fn put_inference(
     text.indent(depth)?;
     if let Some(claim) = claim {
         put_filtered_tree(text, names, claim.left, claim.above, false)?;
-        text.spell(claim.words)?;
+        text.say(claim.words)?;
         put_filtered_tree(text, names, claim.right, claim.below, false)?;
         text.say(": ")?;
     }
@@ -131,13 +134,13 @@ fn part_of<'a>(claim: Claim<'a>, letter: Letter, place: u32, index: usize) -> Op
     match letter {
         Letter::Same | Letter::Var => None,
         Letter::Lam => in_bodies(claim),
-        Letter::Mono => by_arguments(claim, index, index, b" is at least "),
+        Letter::Mono => by_arguments(claim, index, index, LEAST),
         Letter::Sub => by_left(claim, place),
         Letter::Prec | Letter::Meta => by_right(claim, index),
         Letter::Lex => match index.checked_sub(1) {
             None => {
                 let at = (place as usize).checked_sub(1)?;
-                by_arguments(claim, at, at, b" is greater than ")
+                by_arguments(claim, at, at, GREATER)
             }
             Some(index) => by_right(claim, index),
         },
@@ -164,7 +167,7 @@ fn by_arguments<'a>(
     claim: Claim<'a>,
     left: usize,
     right: usize,
-    words: &'static [u8],
+    words: &'static str,
 ) -> Option<Claim<'a>> {
     let left = items_of(claim.left).get(left)?;
     let right = items_of(claim.right).get(right)?;
@@ -180,7 +183,7 @@ fn by_left<'a>(claim: Claim<'a>, place: u32) -> Option<Claim<'a>> {
     let at = (place as usize).checked_sub(1)?;
     let left = items_of(claim.left).get(at)?;
     Some(Claim {
-        words: b" is at least ",
+        words: LEAST,
         left,
         ..claim
     })
@@ -189,7 +192,7 @@ fn by_left<'a>(claim: Claim<'a>, place: u32) -> Option<Claim<'a>> {
 fn by_right<'a>(claim: Claim<'a>, index: usize) -> Option<Claim<'a>> {
     let right = items_of(claim.right).get(index)?;
     Some(Claim {
-        words: b" is above ",
+        words: ABOVE,
         right,
         ..claim
     })
@@ -198,7 +201,7 @@ fn by_right<'a>(claim: Claim<'a>, index: usize) -> Option<Claim<'a>> {
 fn by_head<'a>(claim: Claim<'a>) -> Option<Claim<'a>> {
     match claim.right {
         Tree::Apply(head, _) => Some(Claim {
-            words: b" is above ",
+            words: ABOVE,
             right: &**head,
             ..claim
         }),
@@ -209,7 +212,7 @@ fn by_head<'a>(claim: Claim<'a>) -> Option<Claim<'a>> {
 fn in_right_body<'a>(claim: Claim<'a>) -> Option<Claim<'a>> {
     match claim.right {
         Tree::Lam(_, body) => Some(Claim {
-            words: b" is above ",
+            words: ABOVE,
             right: &**body,
             below: claim.below.saturating_add(1),
             ..claim
@@ -221,7 +224,7 @@ fn in_right_body<'a>(claim: Claim<'a>) -> Option<Claim<'a>> {
 fn in_bodies<'a>(claim: Claim<'a>) -> Option<Claim<'a>> {
     match (claim.left, claim.right) {
         (Tree::Lam(_, left), Tree::Lam(_, right)) => Some(Claim {
-            words: b" is greater than ",
+            words: GREATER,
             left: &**left,
             above: claim.above.saturating_add(1),
             right: &**right,

@@ -113,6 +113,7 @@ fn put_valued(
         return tell_line(text, depth, "there is no line of moves", &[]);
     };
     put_moves(text, left, right, moves.as_slice(), depth)?;
+    put_wanting(text, right, moves.as_slice(), depth)?;
     if dropped {
         tell_line(text, depth, words_of(left, moves.as_slice()), &[])?;
     }
@@ -144,12 +145,44 @@ fn put_moves(
     Ok(())
 }
 
+// Appends which monomials of the right side get fewer units than they have.
+fn put_wanting(
+    text: &mut Text,
+    right: &Poly,
+    moves: &[Move],
+    depth: u32,
+) -> Result<(), AllocError> {
+    for (number, item) in right.as_slice().iter().enumerate() {
+        let units = units_to(moves, counted(number)?);
+        if units < item.coefficient {
+            tell_line(
+                text,
+                depth,
+                "monomial @ on the right gets @ of its @ units",
+                &[Count(number), Big(units), Big(item.coefficient)],
+            )?;
+        }
+    }
+    Ok(())
+}
+
+// How many units are moved to the monomial of that number.
+fn units_to(moves: &[Move], number: u32) -> u128 {
+    let mut sum: u128 = 0;
+    for item in moves {
+        if item.to == number {
+            sum = sum.saturating_add(item.amount);
+        }
+    }
+    sum
+}
+
 // What is said of the constant on the left of a pair that is dropped.
 fn words_of(left: &Poly, moves: &[Move]) -> &'static str {
     if spent(moves) < constant(left) {
-        "a unit of the constant on the left is left over: the right side is worth less"
+        "a unit of the constant on the left is left over, as it has to be in a dropped pair"
     } else {
-        "no unit of a constant on the left is left over: the right side may be worth as much"
+        "no unit of a constant on the left is left over, and one has to be in a dropped pair"
     }
 }
 
