@@ -7,8 +7,8 @@ use Rattle.wh_proof.proofs.FilterLemmas.{as_many_filters}
 use Rattle.wh_explain.proofs.TypedCalls.{typed_calls}
 use Rattle.wh_explain.proofs.ordered.put_under.Goals as goal
 
-pub check_ordering-requires-clause-filters : goal.check_ordering-requires-clause-filters
-check_ordering-requires-clause-filters c =
+pub are_proper-requires-clause-filters : goal.are_proper-requires-clause-filters
+are_proper-requires-clause-filters c =
     let d = system_data c.args.task.now.system.now in
     let D = filtering_data c.args.filters.now in
     record {
@@ -18,14 +18,10 @@ check_ordering-requires-clause-filters c =
     }
 
 pub put_rules-requires-clause-filters : goal.put_rules-requires-clause-filters
-put_rules-requires-clause-filters c =
-    let o = c.in-Ok.ensures.ordering in
-    record { each_symbol = o.filters.each_symbol; symbols = o.symbols; marks = o.marks }
+put_rules-requires-clause-filters c = c.in_ok-are_proper.ensures c.if-branch.true
 
 pub put_pairs-requires-clause-filters : goal.put_pairs-requires-clause-filters
-put_pairs-requires-clause-filters c =
-    let o = c.in-Ok.ensures.ordering in
-    record { each_symbol = o.filters.each_symbol; symbols = o.symbols; marks = o.marks }
+put_pairs-requires-clause-filters c = c.in_ok-are_proper.ensures c.if-branch.true
 
 pub put_pairs-requires-clause-calls : goal.put_pairs-requires-clause-calls
 put_pairs-requires-clause-calls c =
