@@ -15,6 +15,7 @@ ghost use Rattle.wh_checker.specs.Faults.{SayOrdering};
 
 use std::alloc::{AllocError, Global};
 use wh_cert::OrderNode;
+use wh_inference::Inference;
 use wh_judging::Problem;
 use wh_meaning::pairs_have_marked_sides;
 use wh_order::{TooWide, Tree, filtered_pair, filtered_rule};
@@ -23,7 +24,7 @@ use wh_orienting::{Inferred, OrderingFault, check_ordering};
 use wh_pairs::PairSet;
 use wh_proof::filters_of_lines;
 use wh_reduction::{Task, all_rules};
-use wh_tell::{Text, names_of_rule, put_pair_line, put_rule_line, tell_line};
+use wh_tell::{Names, Text, names_of_rule, put_pair_line, put_rule_line, tell_line};
 use wh_tell_parts::{is_within, put_dropped, put_filters, put_inferred};
 use wh_types::{Or, is_in};
 
@@ -145,15 +146,8 @@ fn put_rules<'a>(
         let right = side(filtered_rule(alloc, task.system, filters, rule, true))?;
         put_rule_line(text, task.system, rule, depth)?;
         let names = names_of_rule(task.system, rule);
-        put_inferred(
-            text,
-            &names,
-            left,
-            right,
-            node.rules.as_slice().get(i),
-            false,
-            depth,
-        )?;
+        let line = node.rules.as_slice().get(i);
+        put_line(text, &names, &left, &right, line, false, depth)?;
     }
     Ok(())
 }
@@ -179,17 +173,33 @@ fn put_pairs<'a>(
         let right = side(filtered_pair(alloc, task.system, filters, pair, true))?;
         put_pair_line(text, task.system, number, pair, depth)?;
         let names = names_of_rule(task.system, pair.rule);
-        put_inferred(
-            text,
-            &names,
-            left,
-            right,
-            node.pairs.as_slice().get(i),
-            is_in(node.drop.as_slice(), number),
-            depth,
-        )?;
+        let line = node.pairs.as_slice().get(i);
+        let greater = is_in(node.drop.as_slice(), number);
+        put_line(text, &names, &left, &right, line, greater, depth)?;
     }
     Ok(())
+}
+
+// Appends the inferences of a line, where there are both sides and the line.
+fn put_line(
+    text: &mut Text,
+    names: &Names<'_>,
+    left: &Option<Tree>,
+    right: &Option<Tree>,
+    line: Option<&Inference>,
+    greater: bool,
+    depth: u32,
+) -> Result<(), AllocError> {
+    let inner = depth.saturating_add(1);
+    match (left, right, line) {
+        (Some(left), Some(right), Some(line)) => {
+            put_inferred(text, names, left, right, line, greater, inner)
+        }
+        _ => {
+            let words = "there is no line for it, or a side has too many nodes";
+            tell_line(text, inner, words, &[])
+        }
+    }
 }
 
 // A side, if it is not too wide.

@@ -60,23 +60,20 @@ struct Claim<'a> {
 pub fn put_inferred(
     text: &mut Text,
     names: &Names<'_>,
-    left: Option<Tree>,
-    right: Option<Tree>,
-    inference: Option<&Inference>,
+    left: &Tree,
+    right: &Tree,
+    inference: &Inference,
     greater: bool,
     depth: u32,
 ) -> Result<(), AllocError> {
-    if let (Some(left), Some(right), Some(inference)) = (left, right, inference) {
-        let claim = Some(Claim {
-            words: if greater { GREATER } else { LEAST },
-            left: &left,
-            above: 0,
-            right: &right,
-            below: 0,
-        });
-        put_inference(text, names, claim, inference, depth.saturating_add(1))?;
-    }
-    Ok(())
+    let claim = Claim {
+        words: if greater { GREATER } else { LEAST },
+        left,
+        above: 0,
+        right,
+        below: 0,
+    };
+    put_inference(text, names, Some(claim), inference, depth)
 }
 
 // Appends what is claimed and by which inference, and below it those of its parts. A claim that the letter does

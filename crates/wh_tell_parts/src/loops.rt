@@ -62,12 +62,23 @@ fn put_reduction(
     system: &System,
     certificate: &NoCertificate,
 ) -> Result<Option<Term>, AllocError> {
+    match first_term(alloc, system, certificate)? {
+        Some(first) => {
+            text.say("\nThe reduction. Carets stand under what each step replaces.\n")?;
+            put_steps(alloc, text, system, first, certificate.steps.as_slice())
+        }
+        None => Ok(None),
+    }
+}
+
+// The term of a certificate, if it is one of the system.
+fn first_term(
+    alloc: Global,
+    system: &System,
+    certificate: &NoCertificate,
+) -> Result<Option<Term>, AllocError> {
     let tables = NameTables::of(alloc, system)?;
-    let Some(first) = tables.resolve(alloc, system, &certificate.term)? else {
-        return Ok(None);
-    };
-    text.say("\nThe reduction. Carets stand under what each step replaces.\n")?;
-    put_steps(alloc, text, system, first, certificate.steps.as_slice())
+    tables.resolve(alloc, system, &certificate.term)
 }
 
 // Appends the terms before each step, and gives the last one; `None` where there are too many to be told, or where
