@@ -1,35 +1,25 @@
--- What was tested before the first thing wrong with a node: that polynomials are normal, and that filters are proper.
-use Rattle.std.proofs.Common.{◌≡◌, ℕ, List, Bool, refl}
-use Rattle.wh_reduction.specs.TaskData.{TaskData}
-use Rattle.wh_reduction.specs.ReductionPair.{Evidence}
-use Rattle.wh_hopoly.specs.Moves.{Transfer}
-use Rattle.wh_polycheck.specs.Readings.{ReadingsData, AreNormal}
-use Rattle.wh_polycheck.specs.Small.{with_limits}
-use Rattle.wh_covering.specs.CoveringFaults.{IsFirstCoveringFault}
+-- Each fault but that of a polynomial that is not normal, or of a filter that is not proper, is found behind these.
+use Rattle.std.proofs.Common.{◌≡◌, ℕ, Bool, refl}
 use Rattle.wh_covering.specs.declared.fault.CoveringFault.{CoveringFault}
 use Rattle.wh_covering.specs.declared.fault.CoveringFault.TheVariants.{BadPolynomial, BadLines, BadDrop, NotClosed, Rule, Pair}
-use Rattle.wh_inference.specs.Inferences.{Inference}
-use Rattle.wh_ordering.specs.Filterings.{FilteringData}
-use Rattle.wh_orienting.specs.OrderingFaults.{AreProperFilters, IsFirstOrderingFault}
 use Rattle.wh_orienting.specs.declared.fault.OrderingFault.{OrderingFault}
 use Rattle.wh_orienting.specs.declared.fault.OrderingFault.TheVariants as order
+use Rattle.wh_explain.specs.Later.{LeavesNormal, LeavesProper}
 
-pub normal_before : (T : TaskData) (R : ReadingsData) (E : Evidence (List Transfer)) (f : CoveringFault) → IsFirstCoveringFault with_limits T R E f
-    → ((s : ℕ) (m : Bool) → f ≡ BadPolynomial s m → ⊥) → AreNormal T.symbols T.rules R
-normal_before T R E (BadPolynomial s m) h other = absurd (other s m refl)
-normal_before T R E BadLines h other = h.0
-normal_before T R E BadDrop h other = h.0
-normal_before T R E (NotClosed g) h other = h.0
-normal_before T R E (Rule r g) h other = h.0.normal
-normal_before T R E (Pair n g) h other = h.0.normal
+pub normal_before : (f : CoveringFault) → ((s : ℕ) (m : Bool) → f ≡ BadPolynomial s m → ⊥) → LeavesNormal f
+normal_before (BadPolynomial s m) other = absurd (other s m refl)
+normal_before BadLines other = λ T R E h. h.0
+normal_before BadDrop other = λ T R E h. h.0
+normal_before (NotClosed g) other = λ T R E h. h.0
+normal_before (Rule r g) other = λ T R E h. h.0.normal
+normal_before (Pair n g) other = λ T R E h. h.0.normal
 
-pub proper_before : (T : TaskData) (D : FilteringData) (E : Evidence Inference) (f : OrderingFault) → IsFirstOrderingFault T D E f
-    → ((s : ℕ) (m : Bool) → f ≡ order.BadFilter s m → ⊥) → AreProperFilters T D
-proper_before T D E (order.BadFilter s m) h other = absurd (other s m refl)
-proper_before T D E order.BadLines h other = h.0
-proper_before T D E order.BadDrop h other = h.0
-proper_before T D E (order.WideRule r) h other = h.0.proper
-proper_before T D E (order.WidePair n) h other = h.0.proper
-proper_before T D E (order.BadRule r e) h other = h.0.proper
-proper_before T D E (order.BadPair n e) h other = h.0.proper
-proper_before T D E (order.NotStrict n) h other = h.0.proper
+pub proper_before : (f : OrderingFault) → ((s : ℕ) (m : Bool) → f ≡ order.BadFilter s m → ⊥) → LeavesProper f
+proper_before (order.BadFilter s m) other = absurd (other s m refl)
+proper_before order.BadLines other = λ T D E h. h.0
+proper_before order.BadDrop other = λ T D E h. h.0
+proper_before (order.WideRule r) other = λ T D E h. h.0.proper
+proper_before (order.WidePair n) other = λ T D E h. h.0.proper
+proper_before (order.BadRule r e) other = λ T D E h. h.0.proper
+proper_before (order.BadPair n e) other = λ T D E h. h.0.proper
+proper_before (order.NotStrict n) other = λ T D E h. h.0.proper

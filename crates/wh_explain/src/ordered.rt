@@ -12,6 +12,7 @@ ghost use Rattle.wh_ordering.specs.Filterings.{AreFiltersFor};
 ghost use Rattle.wh_ordering.specs.FilteringView.{filtering_data};
 ghost use Rattle.wh_cert.specs.Said.{said_filter};
 ghost use Rattle.wh_checker.specs.Faults.{SayOrdering};
+ghost use Rattle.wh_explain.specs.Later.{LeavesProper};
 
 use std::alloc::{AllocError, Global};
 use wh_cert::OrderNode;
@@ -123,8 +124,18 @@ fn are_proper<'a>(
     match check_ordering(alloc, task, filters, &inferred) {
         Ok(()) => Ok(true),
         Err(Or::NoMemory) => Err(AllocError),
-        Err(Or::Because(OrderingFault::BadFilter { .. })) => Ok(false),
-        Err(Or::Because(_)) => Ok(true),
+        Err(Or::Because(fault)) => Ok(comes_later(&fault)),
+    }
+}
+
+// Whether the fault is one that is found behind the filters, which are proper then.
+#[tactic(auto, using(crate::proofs::Before::proper_before))]
+fn comes_later(fault: &OrderingFault) -> bool
+    ensures { IsTrue result → LeavesProper fault.now }
+{
+    match fault {
+        OrderingFault::BadFilter { .. } => false,
+        _ => true,
     }
 }
 

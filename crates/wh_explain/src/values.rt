@@ -13,6 +13,7 @@ ghost use Rattle.wh_polycheck.specs.ReadingsView.{readings_data};
 ghost use Rattle.wh_reduction.specs.TaskView.{task_data};
 ghost use Rattle.wh_cert.specs.Said.{said_interp};
 ghost use Rattle.wh_checker.specs.Faults.{SayCovering};
+ghost use Rattle.wh_explain.specs.Later.{LeavesNormal};
 
 use std::alloc::{AllocError, Global};
 use wh_cert::PolyNode;
@@ -141,8 +142,18 @@ fn are_normal<'a, 'b>(
     match check_covering(alloc, task, readings, &evidence) {
         Ok(()) => Ok(true),
         Err(Or::NoMemory) => Err(AllocError),
-        Err(Or::Because(CoveringFault::BadPolynomial { .. })) => Ok(false),
-        Err(Or::Because(_)) => Ok(true),
+        Err(Or::Because(fault)) => Ok(comes_later(&fault)),
+    }
+}
+
+// Whether the fault is one that is found behind the polynomials, which are normal then.
+#[tactic(auto, using(crate::proofs::Before::normal_before))]
+fn comes_later(fault: &CoveringFault) -> bool
+    ensures { IsTrue result → LeavesNormal fault.now }
+{
+    match fault {
+        CoveringFault::BadPolynomial { .. } => false,
+        _ => true,
     }
 }
 
