@@ -13,15 +13,15 @@ use crate::causes::put_cause;
 use crate::judge::{Verdict, first_words, judged};
 use crate::tree::put_tree;
 use std::alloc::{AllocError, Global};
-use wh_answer::{NamedRejection, Report, print_answer};
+use wh_answer::{Report, print_answer};
 use wh_cert::Certificate;
 use wh_cert_text::read_certificate;
 use wh_io::Shelf;
 use wh_judging::{CERTIFICATE_LIMIT, Problem, certificate_in, problem_in, weigh};
 use wh_prover::{Answer, Options, prove};
 use wh_system::System;
-use wh_tell::Piece::{Count, Spell};
-use wh_tell::{Text, put_graph, put_lints, put_pair_line, put_ranks, tell};
+use wh_tell::Piece::{Big, Count, Spell};
+use wh_tell::{Text, put_graph, put_lints, put_pair_line, put_ranks, tell, tell_line};
 use wh_tell_parts::{put_attempt, put_loop};
 use wh_types::{Bytes, Or, counted};
 
@@ -121,8 +121,8 @@ fn explained(alloc: Global, problem: &Problem, bytes: &[u8]) -> Result<Bytes, Al
         Err(Or::NoMemory) => Err(AllocError),
         Err(Or::Because(fault)) => {
             let mut text = opening(alloc)?;
-            let report = Report::Rejected(NamedRejection::Syntax { at: fault.at });
-            put_report(alloc, &mut text, &report)?;
+            let words = "`./wanda check` says: REJECTED syntax @";
+            tell_line(&mut text, 0, words, &[Big(fault.at as u128)])?;
             put_all_pairs(&mut text, problem)?;
             headed(alloc, problem, Verdict::Rejected, &mut text)
         }
@@ -139,8 +139,12 @@ fn weighed(alloc: Global, problem: &Problem, certificate: &Certificate) -> Resul
     let mut text = opening(alloc)?;
     let accepted = matches!(verdict, Verdict::Proof | Verdict::Loop);
     if !accepted {
-        let report = weigh(alloc, problem, certificate)?;
-        put_report(alloc, &mut text, &report)?;
+        let line = line_of(alloc, problem, certificate)?;
+        tell(
+            &mut text,
+            "`./wanda check` says: @",
+            &[Spell(line.as_slice())],
+        )?;
     }
     put_all_pairs(&mut text, problem)?;
     put_certificate(alloc, &mut text, problem, certificate, accepted)?;
@@ -180,10 +184,13 @@ fn opening(alloc: Global) -> Result<Text, AllocError> {
     Ok(text)
 }
 
-// Appends what the check says of a certificate.
-fn put_report(alloc: Global, text: &mut Text, report: &Report) -> Result<(), AllocError> {
-    let line = print_answer(alloc, report)?;
-    tell(text, "`./wanda check` says: @", &[Spell(line.as_slice())])
+// The line that the check writes of a certificate.
+fn line_of(alloc: Global, problem: &Problem, certificate: &Certificate) -> Result<Bytes, AllocError>
+    requires pairs { HasPairs (system_data problem.now.system) (pairs_data problem.now.pairs) }
+    requires certificate { IsCert (said certificate.now) }
+{
+    let report = weigh(alloc, problem, certificate)?;
+    print_answer(alloc, &report)
 }
 
 // Appends all pairs of the system.
