@@ -136,19 +136,17 @@ fn weighed(alloc: Global, problem: &Problem, certificate: &Certificate) -> Resul
     ensures { IfOk result (Means (system_data problem.now.system)) }
 {
     let verdict = judged(alloc, problem, certificate)?;
+    let accepted = is_accepted(&verdict);
     let mut text = opening(alloc)?;
-    let accepted = matches!(verdict, Verdict::Proof | Verdict::Loop);
-    if !accepted {
-        let line = line_of(alloc, problem, certificate)?;
-        tell(
-            &mut text,
-            "`./wanda check` says: @",
-            &[Spell(line.as_slice())],
-        )?;
-    }
+    put_line(alloc, &mut text, problem, certificate, accepted)?;
     put_all_pairs(&mut text, problem)?;
     put_certificate(alloc, &mut text, problem, certificate, accepted)?;
     headed(alloc, problem, verdict, &mut text)
+}
+
+// Whether it is that of a certificate that the check accepts.
+fn is_accepted(verdict: &Verdict) -> bool {
+    matches!(verdict, Verdict::Proof | Verdict::Loop)
 }
 
 // Appends what a certificate says.
@@ -182,6 +180,24 @@ fn opening(alloc: Global) -> Result<Text, AllocError> {
     let mut text = Text::new(alloc)?;
     text.say(" What follows is no part of what is proved.\n")?;
     Ok(text)
+}
+
+// Appends the line that the check writes of a certificate, where it does not accept it.
+fn put_line(
+    alloc: Global,
+    text: &mut Text,
+    problem: &Problem,
+    certificate: &Certificate,
+    accepted: bool,
+) -> Result<(), AllocError>
+    requires pairs { HasPairs (system_data problem.now.system) (pairs_data problem.now.pairs) }
+    requires certificate { IsCert (said certificate.now) }
+{
+    if accepted {
+        return Ok(());
+    }
+    let line = line_of(alloc, problem, certificate)?;
+    tell(text, "`./wanda check` says: @", &[Spell(line.as_slice())])
 }
 
 // The line that the check writes of a certificate.
