@@ -77,6 +77,12 @@ def joined(leaves):
     return f"(p {joined(leaves[:half])} {joined(leaves[half:])})"
 
 
+def leaves_from_the_left(_steps):
+    """A term of size 16,381 whose 4,096 leaves step twice each, one after another from the left."""
+    system = "sort o;\nfun a : o;\nfun b : o;\nfun c : o;\nfun p : o -> o -> o;\nrule {} a => b;\nrule {} b => c;\n"
+    return system, joined(["a"] * 4096)
+
+
 def large_left(calls):
     """A rule with a left side of size 24,575 and that many calls: each is a pair with this left side."""
     lines = ["sort nat;", "fun a : nat;", "fun s : nat -> nat;", "fun p : nat -> nat -> nat;", "fun big : nat -> nat;"]
@@ -395,6 +401,8 @@ def main():
         cases.append(("check leaf", f"{steps} steps", wide_leaf, steps))
     for steps in (100000, 200000, 400000):
         cases.append(("check binder", f"{steps} steps", binder_loop, steps))
+    for steps in (2000, 4000, 8192):
+        cases.append(("reduce leaves", f"{steps} steps", leaves_from_the_left, steps))
     for pairs in (100, 200, 400):
         cases.append(("check nodes", f"{pairs} nodes", dropping, pairs))
     for pairs in (250, 500, 1000):
@@ -456,7 +464,9 @@ def main():
                 words += ["--depth", "100", "--visited", str(count)]
             if what.startswith("components"):
                 program, words = str(COMPONENTS), ["components", str(folder / "system")]
-            if written.name == "certificate":
+            if what.startswith("reduce"):
+                words += [written.read_text(), "--steps", str(count)]
+            elif written.name == "certificate":
                 words = ["check", str(folder / "system"), str(written)]
             seconds, megabytes, first = run(program, words, folder)
             hashed = hash_seconds(written)

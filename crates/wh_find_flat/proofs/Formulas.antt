@@ -20,18 +20,17 @@ use Rattle.wh_circuit.proofs.Carrying.{values_exist_law}
 use Rattle.wh_space.specs.Space.{space_of}
 use Rattle.wh_guesses.specs.Coefficients.{scopes_of, AreOfSpace, HaveCoefficients}
 use Rattle.wh_guesses.specs.Conditions.{LetsGo}
-use Rattle.wh_guesses.specs.Found.{task_of}
 use Rattle.wh_blocking.specs.Bits.{digits, lists_by}
 use Rattle.wh_blocking.specs.Sizes.{bits_in, lists_of}
 use Rattle.wh_blocking.specs.Tried.{AreWritten}
 use Rattle.wh_blocking.proofs.EncodingLemmas.{lists_same}
 use Rattle.wh_blocking.proofs.Written.{written}
-use Rattle.wh_flat.specs.Flat.{IsFlat, all_occurrences}
+use Rattle.wh_flat.specs.Flat.{IsFlat, all_occurrences, task_for}
 use Rattle.wh_flat.specs.Dominance.{LetsGoBy}
 use Rattle.wh_flat.proofs.Law.{lets_go_if, lets_go_by}
 use Rattle.wh_find_flat.specs.Lists.{lists_for}
 use Rattle.wh_find_flat.specs.Ready.{IsFlatCircuit}
-use Rattle.wh_find_flat.specs.Answers.{IsFlatFormula}
+use Rattle.wh_find_flat.specs.Answers.{IsFlatFormula, most_variables}
 
 -- bits that agree write the same coefficients
 
@@ -54,11 +53,11 @@ lists_alike v w x (k ∷ sizes) same = ap₂ (λ c cs. c ∷ cs) (digits_alike v
     let e : x + (2 * k + y) ≡ (2 * k + x) + y = omega arith in
     subst (λ z. v z ≡ w z) e (same (2 * k + y) (omega (arith, below)))))
 
-module _ (d : SystemData) (pairs : List PairData) (set marked : List ℕ) (made : IsWellMadeSystem d)
-    (typed : HaveTypedSides d.symbols d.rules pairs) (flat : IsFlat (task_of d pairs set)) (are : AreMarked pairs set marked) (sizes : List ℕ)
-    (sized : sizes ≡ map (λ Γ. length (space_of Γ)) (scopes_of (task_of d pairs set) marked)) where
+module _ (d : SystemData) (pairs : List PairData) (set covered marked : List ℕ) (made : IsWellMadeSystem d)
+    (typed : HaveTypedSides d.symbols d.rules pairs) (flat : IsFlat (task_for d pairs set covered)) (are : AreMarked pairs set marked) (sizes : List ℕ)
+    (sized : sizes ≡ map (λ Γ. length (space_of Γ)) (scopes_of (task_for d pairs set covered) marked)) where
   abbrev T : TaskData
-  T = task_of d pairs set
+  T = task_for d pairs set covered
 
   -- the coefficients that bits write
   lists_are : (v : ℕ → Bool) → lists_for sizes v ≡ lists_by v (scopes_of T marked)
@@ -72,12 +71,12 @@ module _ (d : SystemData) (pairs : List PairData) (set marked : List ℕ) (made 
     readings = record { kinds = by.kinds; marked = subst (AreMarked pairs set) (sym by.marked_are) are }
 
     go_if : LetsGoBy T marked (lists_for sizes v) → LetsGo T R
-    go_if h = lets_go_if d pairs set (lists_for sizes v) R made typed flat readings coefficients
+    go_if h = lets_go_if d pairs set covered (lists_for sizes v) R made typed flat readings coefficients
         (subst (λ ns. LetsGoBy T ns (lists_for sizes v)) (sym by.marked_are) h)
 
     go_by : LetsGo T R → LetsGoBy T marked (lists_for sizes v)
     go_by h = subst (λ ns. LetsGoBy T ns (lists_for sizes v)) by.marked_are
-        (lets_go_by d pairs set (lists_for sizes v) R made typed flat readings coefficients h)
+        (lets_go_by d pairs set covered (lists_for sizes v) R made typed flat readings coefficients h)
 
   module _ (circuit : Circuit) (is : IsFlatCircuit sizes T marked (bits_in sizes) circuit) (variables : ℕ) (clauses : List (List Literal))
       (ordered : Ordered (gates_of circuit))
@@ -106,7 +105,7 @@ module _ (d : SystemData) (pairs : List PairData) (set marked : List ℕ) (made 
           },
         )
 
-    pub flat_formula : variables ≤ 200000 * all_occurrences T → Within variables clauses → IsFlatFormula T marked variables clauses
+    pub flat_formula : variables ≤ most_variables T.covered (all_occurrences T) → Within variables clauses → IsFlatFormula T marked variables clauses
     flat_formula few within = record {
       few = few;
       within = within;

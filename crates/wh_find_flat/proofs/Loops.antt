@@ -38,12 +38,14 @@ sum_all f (x ∷ xs) zero h = absurd (omega (arith, h))
 sum_all f (x ∷ xs) (suc i) h =
     sum_by-cons f x (take i xs) ∙ ap (λ n. f x + n) (sum_all f xs i (omega (arith, h))) ∙ sym (sum_by-cons f x xs)
 
-pub rule_asks : (a b c : Circuit) (sizes : List ℕ) (rules : List RewriteRule) (k : ℕ) (r : RewriteRule) → slice_get rules k ≡ Some r
-    → Asks a b (λ v. (j : ℕ) → j < k → RuleHolds sizes rules v j) → Asks b c (λ v. IsAtLeast (lists_for sizes v) r.left r.right)
-    → Asks a c (λ v. (j : ℕ) → j < k + 1 → RuleHolds sizes rules v j)
-rule_asks a b c sizes rules k r at g h = asks_more a b c (RuleHolds sizes rules) k g
-    (asks_same b c (λ v. IsAtLeast (lists_for sizes v) r.left r.right) (λ v. RuleHolds sizes rules v k) h
-    (λ v p s e. subst (λ (s : RewriteRule). IsAtLeast (lists_for sizes v) s.left s.right) (some_one at e) p) (λ v q. q r at))
+pub rule_asks : (a b c : Circuit) (sizes : List ℕ) (rules : List RewriteRule) (listed : List ℕ) (k n : ℕ) (r : RewriteRule)
+    → slice_get listed k ≡ Some n → slice_get rules n ≡ Some r
+    → Asks a b (λ v. (j : ℕ) → j < k → RuleHolds sizes rules listed v j) → Asks b c (λ v. IsAtLeast (lists_for sizes v) r.left r.right)
+    → Asks a c (λ v. (j : ℕ) → j < k + 1 → RuleHolds sizes rules listed v j)
+rule_asks a b c sizes rules listed k n r at there g h = asks_more a b c (RuleHolds sizes rules listed) k g
+    (asks_same b c (λ v. IsAtLeast (lists_for sizes v) r.left r.right) (λ v. RuleHolds sizes rules listed v k) h
+    (λ v p m s e f. subst (λ (s : RewriteRule). IsAtLeast (lists_for sizes v) s.left s.right)
+    (some_one there (subst (λ m. slice_get rules m ≡ Some s) (some_one e at) f)) p) (λ v q. q n r at there))
 
 pub pair_asks : (a b c : Circuit) (sizes : List ℕ) (first : ℕ) (marked : List ℕ) (pairs : List PairData) (set : List ℕ) (k n : ℕ) (p : PairData)
     → slice_get set k ≡ Some n → slice_get pairs n ≡ Some p

@@ -1,5 +1,5 @@
 -- The whole circuit: its requirements come to what is asked of coefficients.
-use Rattle.std.proofs.Common.{◌≡◌, ℕ, zero, suc, ◌+◌, ◌*◌, ◌<◌, ◌≤◌, nat_lt, inl, inr, Bool, true, false, List, [], ◌∷◌, ◌++◌, length, get_or, Some, slice_get, Contains, Option, sum_by, refl, ap, sym, subst, ◌∙◌, arith, tests}
+use Rattle.std.proofs.Common.{◌≡◌, ℕ, zero, suc, ◌+◌, ◌*◌, ◌<◌, ◌≤◌, nat_lt, inl, inr, Bool, true, false, List, [], ◌∷◌, ◌++◌, length, get_or, Some, slice_get, All, Contains, Option, sum_by, refl, ap, sym, subst, ◌∙◌, arith, tests}
 use Rattle.std.proofs.lemmas.Option.{none-some, same_Some, slice_get_within, slice_get-get_or}
 use Rattle.wh_sat_trail.specs.declared.literal.Literal.{Literal}
 use Rattle.wh_sat.specs.Solving.{clause_true, literal_true}
@@ -10,7 +10,8 @@ use Rattle.wh_pairs.specs.Sets.{InSet}
 use Rattle.wh_reduction.specs.TaskData.{TaskData}
 use Rattle.std.specs.Option.{option_map_or}
 use Rattle.std.proofs.lemmas.List.Sums.{sum_by-cons}
-use Rattle.wh_flat.specs.Flat.{all_occurrences, occurrences_at, pair_occurrences, rule_occurrences}
+use Rattle.std.proofs.lemmas.List.Elements.{All-contains}
+use Rattle.wh_flat.specs.Flat.{IsListed, all_occurrences, occurrences_at, pair_occurrences, rule_occurrences, rule_occurrences_at}
 use Rattle.wh_pairs.proofs.ByPlace.{contains_at, place_of, some_one}
 use Rattle.wh_circuit.specs.declared.circuit.Circuit.{Circuit}
 use Rattle.wh_circuit.specs.declared.circuit.Gate.{Gate}
@@ -21,6 +22,7 @@ use Rattle.wh_circuit.proofs.Gating.{slice_get_front}
 use Rattle.wh_circuit.proofs.Solving.{cases_bool}
 use Rattle.wh_flat.specs.Worth.{IsGreater, constant_of}
 use Rattle.wh_flat.specs.Dominance.{LetsGoBy}
+use Rattle.wh_find_flat.specs.Answers.{most_variables}
 use Rattle.wh_find_flat.specs.Lists.{lists_for}
 use Rattle.wh_find_flat.specs.Numbers.{Later, AreInputs, Asks, Builds}
 use Rattle.wh_find_flat.specs.Ready.{AreGreater, IsFlatCircuit, IsReadyRule, PairHolds, RuleHolds, left_of, right_of}
@@ -85,6 +87,9 @@ module _ (sizes : List ℕ) (T : TaskData) (marked : List ℕ) (within : (k : �
   abbrev rules : List RewriteRule
   rules = T.rules
 
+  abbrev listed : List ℕ
+  listed = T.covered
+
   abbrev pairs : List PairData
   pairs = T.pairs
 
@@ -118,7 +123,7 @@ module _ (sizes : List ℕ) (T : TaskData) (marked : List ℕ) (within : (k : �
         (constant_of (lists_for sizes v) (left_of (length S.funs) marked p)) g)
 
   pub whole : (count : ℕ) (c0 c1 c2 c3 c4 : Circuit) (wires : List Literal) (some : Literal) → AreInputs count (gates_of c0) → required_of c0 ≡ []
-      → Asks c0 c1 (λ v. (k : ℕ) → k < length rules → RuleHolds sizes rules v k)
+      → Asks c0 c1 (λ v. (k : ℕ) → k < length listed → RuleHolds sizes rules listed v k)
       → Asks c1 c2 (λ v. (k : ℕ) → k < length set → PairHolds sizes (length S.funs) marked pairs set v k)
       → AreGreater sizes (length S.funs) marked pairs set (gates_of c2) wires
       → Builds 1 c2 c3 → Means (gates_of c3) some (λ v. clause_true v wires)
@@ -129,17 +134,17 @@ module _ (sizes : List ℕ) (T : TaskData) (marked : List ℕ) (within : (k : �
       asks_wire c2 c3 c4 some (λ v. clause_true v wires) (IsSomeGreater sizes (length S.funs) marked pairs set) built.gates built.required gates more means
       (λ v a e. some_of (gates_of c2) wires are v (agrees_early (gates_of c2) (gates_of c3) v built.gates a) e)
       (λ v a e. of_some (gates_of c2) wires are v (agrees_early (gates_of c2) (gates_of c3) v built.gates a) e) in
-      let P : (ℕ → Bool) → Type 0 = λ v. (k : ℕ) → k < length rules → RuleHolds sizes rules v k in
+      let P : (ℕ → Bool) → Type 0 = λ v. (k : ℕ) → k < length listed → RuleHolds sizes rules listed v k in
       let Q : (ℕ → Bool) → Type 0 = λ v. (k : ℕ) → k < length set → PairHolds sizes (length S.funs) marked pairs set v k in
       let both : Asks c0 c2 (λ v. P v × Q v) = asks_then c0 c1 c2 P Q (λ v. P v × Q v) g h (λ v a p q. (p, q)) (λ v a r. r.0) (λ v a r. r.1) in
       let all : Asks c0 c4 (λ v. LetsGoBy T marked (lists_for sizes v)) =
       asks_then c0 c2 c4 (λ v. P v × Q v) (IsSomeGreater sizes (length S.funs) marked pairs set) (λ v. LetsGoBy T marked (lists_for sizes v)) both k
       (λ v a pq s. record {
-        rules_at_least = λ r c. (let (i, at) = place_of rules r c in pq.0 i (slice_get_within rules i r at) r at);
+        rules_at_least = λ r is. (let (n, c, at) = is in let (i, li) = place_of listed n c in pq.0 i (slice_get_within listed i n li) n r li at);
         pairs_at_least = λ p in_set. (let (n, c, at) = in_set in let (i, si) = place_of set n c in pq.1 i (slice_get_within set i n si) n p si at);
         some_greater = s;
       })
-      (λ v a l. ((λ i less r at. l.rules_at_least r (contains_at rules i r at)), (λ i less n p si at. l.pairs_at_least p (n, contains_at set i n si, at))))
+      (λ v a l. ((λ i less n r li at. l.rules_at_least r (n, contains_at listed i n li, at)), (λ i less n p si at. l.pairs_at_least p (n, contains_at set i n si, at))))
       (λ v a l. l.some_greater) in
       record {
         inputs = inputs_stay count (gates_of c0) (gates_of c4) all.gates inputs;
@@ -156,12 +161,20 @@ least_sum f (x ∷ xs) h =
     let e = sum_by-cons f x xs in
     omega (arith, a, b, e)
 
--- in all at least two in each rule, and in each pair of the set
-pub many_occurrences : (T : TaskData) → ((r : RewriteRule) → Contains T.rules r → IsReadyRule r)
-    → ((k : ℕ) → k < length T.set → get_or T.set k 0 < length T.pairs) → 2 * (length T.rules + length T.set) ≤ all_occurrences T
-many_occurrences T ready within =
-    let a = least_sum rule_occurrences T.rules (λ r c. (let p = (ready r c).plain in
-    let x = occurs_some r.left p.left_plain in let y = occurs_some r.right p.right_plain in omega (arith, x, y))) in
+rule_there : (rules : List RewriteRule) (n : ℕ) → n < length rules → (r : RewriteRule) × (slice_get rules n ≡ Some r)
+rule_there [] n h = absurd (omega (arith, h))
+rule_there (r ∷ rules) zero h = (r, refl)
+rule_there (r ∷ rules) (suc n) h = rule_there rules n (omega (arith, h))
+
+-- in all at least two in each rule that is to be covered, and in each pair of the set
+pub many_occurrences : (T : TaskData) → All (λ n. n < length T.rules) T.covered → ((r : RewriteRule) → IsListed T.rules T.covered r → IsReadyRule r)
+    → ((k : ℕ) → k < length T.set → get_or T.set k 0 < length T.pairs) → 2 * (length T.covered + length T.set) ≤ all_occurrences T
+many_occurrences T listed_within ready within =
+    let a = least_sum (rule_occurrences_at T.rules) T.covered (λ n c. (let (r, there) = rule_there T.rules n (All-contains (λ n. n < length T.rules) T.covered n listed_within c) in
+    let p = (ready r (n, c, there)).plain in
+    let x = occurs_some r.left p.left_plain in let y = occurs_some r.right p.right_plain in
+    let e : rule_occurrences_at T.rules n ≡ rule_occurrences r = ap (λ (o : Option RewriteRule). option_map_or rule_occurrences o 0) there in
+    omega (arith, x, y, e))) in
     let b = least_sum (occurrences_at T.pairs) T.set (λ n c. (let (k, at) = place_of T.set n c in
     let less = slice_get_within T.set k n at in
     let same : get_or T.set k 0 ≡ n = some_one (slice_get-get_or T.set k 0 less) at in
@@ -169,3 +182,8 @@ many_occurrences T ready within =
     let e : occurrences_at T.pairs n ≡ pair_occurrences p = ap (λ (o : Option PairData). option_map_or pair_occurrences o 0) there in
     omega (arith, e))) in
     omega (arith, a, b)
+
+-- so many variables there are at most
+pub fits_variables : (covered : List ℕ) (n all : ℕ) → (1 ≤ length covered → n ≤ 200000 * all) → n ≤ 200000 * (all + 2) → n ≤ most_variables covered all
+fits_variables [] n all some any = any
+fits_variables (m ∷ covered) n all some any = some (omega arith)

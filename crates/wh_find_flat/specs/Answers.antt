@@ -1,5 +1,5 @@
 -- What the search by a circuit ends with.
-use Rattle.std.specs.Prelude.{ℕ, ◌*◌, ◌≤◌, ◌≡◌, Bool, List, length}
+use Rattle.std.specs.Prelude.{ℕ, ◌+◌, ◌*◌, ◌≤◌, ◌≡◌, Bool, Option, Some, None, List, [], ◌∷◌, length}
 use Rattle.wh_system.specs.Systems.{SystemData}
 use Rattle.wh_pairs.specs.PairData.{PairData}
 use Rattle.wh_pairs.specs.Marked.{AreMarked}
@@ -7,6 +7,8 @@ use Rattle.wh_reduction.specs.TaskData.{TaskData}
 use Rattle.wh_polycheck.specs.Readings.{ReadingsData}
 use Rattle.wh_cert.specs.declared.certificate.Node.{Node}
 use Rattle.wh_cert.specs.Said.{said_node}
+use Rattle.wh_usable.specs.Closed.{IsUsable}
+use Rattle.wh_proof.specs.Looked.{poly_task}
 use Rattle.wh_sat_trail.specs.declared.literal.Literal.{Literal}
 use Rattle.wh_sat_trail.specs.Propagation.{Within}
 use Rattle.wh_sat.specs.Learning.{Learnt}
@@ -15,14 +17,20 @@ use Rattle.wh_sat.specs.declared.solving.Search.{Search}
 use Rattle.wh_sat.specs.declared.solving.Search.TheVariants as search
 use Rattle.wh_guesses.specs.Coefficients.{AreOfSpace}
 use Rattle.wh_guesses.specs.Conditions.{HasNoInterpretation, LetsGo}
-use Rattle.wh_guesses.specs.Found.{task_of, IsInterpretation}
+use Rattle.wh_guesses.specs.Found.{IsInterpretationOver}
 use Rattle.wh_blocking.specs.Tried.{AreWritten}
 use Rattle.wh_flat.specs.Flat.{all_occurrences}
 
+-- so many variables there are at most: 200,000 for each occurrence, and where no rules are to be covered 400,000 more, as all
+-- symbols have coefficients
+abbrev pub most_variables : List ℕ → ℕ → ℕ
+most_variables [] n = 200000 * (n + 2)
+most_variables (m ∷ covered) n = 200000 * n
+
 -- the models of the clauses are, on the bits of coefficients, just the interpretations of the space that let a pair of
--- the set go; there are at most 200,000 variables for each occurrence (ours)
+-- the set go, with not too many variables (ours)
 pub record IsFlatFormula (T : TaskData) (marked : List ℕ) (variables : ℕ) (clauses : List (List Literal)) : Type 0 where
-  pub few : variables ≤ 200000 * all_occurrences T
+  pub few : variables ≤ most_variables T.covered (all_occurrences T)
   pub within : Within variables clauses
   -- what a model writes lets a pair go
   pub models : (v : ℕ → Bool) → Solves v clauses → (R : ReadingsData) → AreWritten T marked v R → LetsGo T R
@@ -30,17 +38,23 @@ pub record IsFlatFormula (T : TaskData) (marked : List ℕ) (variables : ℕ) (c
   pub all : (R : ReadingsData) → AreOfSpace T R → LetsGo T R → (v : ℕ → Bool) × Solves v clauses × AreWritten T marked v R
 
 -- as many clauses as the budget, each of which can be learnt from such a formula and those before it (ours)
-pub record IsFlatSpent (d : SystemData) (pairs : List PairData) (set : List ℕ) (budget : ℕ) (list : List (List Literal)) : Type 0 where
+pub record IsFlatSpent (T : TaskData) (budget : ℕ) (list : List (List Literal)) : Type 0 where
   pub count : length list ≡ budget
   pub marked : List ℕ
-  pub are_marked : AreMarked pairs set marked
+  pub are_marked : AreMarked T.pairs T.set marked
   pub variables : ℕ
   pub clauses : List (List Literal)
-  pub formula : IsFlatFormula (task_of d pairs set) marked variables clauses
+  pub formula : IsFlatFormula T marked variables clauses
   pub learnt : Learnt variables clauses list
 
--- a node of interpretations; that none of the space lets a pair go; or the clauses
-abbrev pub IsFlatAnswer : SystemData → List PairData → List ℕ → ℕ → Search Node → Type 0
-IsFlatAnswer d pairs set budget (search.Found node) = IsInterpretation d pairs set (said_node node)
-IsFlatAnswer d pairs set budget search.Nothing = HasNoInterpretation (task_of d pairs set)
-IsFlatAnswer d pairs set budget (search.Spent list) = IsFlatSpent d pairs set budget list
+-- the list, where there is one, is closed for the set
+abbrev pub IsClosedList : SystemData → List PairData → List ℕ → Option (List ℕ) → Type 0
+IsClosedList d pairs set None = Unit {0}
+IsClosedList d pairs set (Some listed) = IsUsable (poly_task d pairs set (Some listed))
+
+-- a node of interpretations, which lists these rules or none; that no interpretations of the space let a pair go where these rules, or
+-- else all, are to be covered; or the clauses
+abbrev pub IsFlatAnswer : SystemData → List PairData → List ℕ → Option (List ℕ) → ℕ → Search Node → Type 0
+IsFlatAnswer d pairs set usable budget (search.Found node) = IsInterpretationOver d pairs set usable (said_node node)
+IsFlatAnswer d pairs set usable budget search.Nothing = HasNoInterpretation (poly_task d pairs set usable)
+IsFlatAnswer d pairs set usable budget (search.Spent list) = IsFlatSpent (poly_task d pairs set usable) budget list

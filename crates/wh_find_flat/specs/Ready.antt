@@ -39,9 +39,10 @@ right_of first marked p = call_of first marked p.right_fun p.right
 abbrev pub IsReadyPair : ℕ → List ℕ → PairData → Type 0
 IsReadyPair first marked p = AreReady (length p.metas) (left_of first marked p) (right_of first marked p)
 
--- the left side of the rule at this place is at least the right one
-abbrev pub RuleHolds : List ℕ → List RewriteRule → (ℕ → Bool) → ℕ → Type 0
-RuleHolds sizes rules v k = (r : RewriteRule) → slice_get rules k ≡ Some r → IsAtLeast (lists_for sizes v) r.left r.right
+-- the left side of the rule at this place of the list is at least the right one
+abbrev pub RuleHolds : List ℕ → List RewriteRule → List ℕ → (ℕ → Bool) → ℕ → Type 0
+RuleHolds sizes rules listed v k =
+    (n : ℕ) (r : RewriteRule) → slice_get listed k ≡ Some n → slice_get rules n ≡ Some r → IsAtLeast (lists_for sizes v) r.left r.right
 
 -- so it is of the pair at this place of the set
 abbrev pub PairHolds : List ℕ → ℕ → List ℕ → List PairData → List ℕ → (ℕ → Bool) → ℕ → Type 0

@@ -1,6 +1,6 @@
 //! The circuit of a flat set.
 
-ghost use Rattle.std.specs.Prelude.{◌≡◌, ℕ, ◌+◌, ◌*◌, ◌<◌, ◌≤◌, ◌^◌, [], All, Contains, IfOk, OnOk, length, map, nat_lt, sum_by};
+ghost use Rattle.std.specs.Prelude.{◌≡◌, ℕ, ◌+◌, ◌*◌, ◌<◌, ◌≤◌, ◌^◌, [], All, IfOk, OnOk, length, map, nat_lt, sum_by};
 ghost use Rattle.wh_terms.specs.Erase.{rewrite_rules, tm};
 ghost use Rattle.wh_terms.specs.Rules.{RewriteRule};
 ghost use Rattle.wh_terms.specs.Tree.{fun, spine};
@@ -9,10 +9,11 @@ ghost use Rattle.wh_pairs.specs.Sets.{InSet};
 ghost use Rattle.wh_reduction.specs.TaskView.{task_data};
 ghost use Rattle.wh_blocking.specs.Sizes.{bits_in};
 ghost use Rattle.wh_circuit.specs.State.{gates_of, required_of};
-ghost use Rattle.wh_flat.specs.Flat.{all_occurrences, most_in_all, occurrences_at, pair_occurrences, rule_occurrences};
+ghost use Rattle.wh_flat.specs.Flat.{IsListed, all_occurrences, most_in_all, occurrences_at, pair_occurrences, rule_occurrences_at};
 ghost use Rattle.wh_flat.specs.Dominance.{place_among};
 ghost use Rattle.wh_find_flat.specs.Numbers.{AreInputs, Asks};
 ghost use Rattle.wh_find_flat.specs.Ready.{AreGreater, IsFlatCircuit, IsReadyPair, IsReadyRule, PairHolds, RuleHolds, left_of, right_of};
+ghost use Rattle.wh_find_flat.specs.Answers.{most_variables};
 ghost use Rattle.wh_find_flat.specs.Lists.{lists_for};
 ghost use Rattle.wh_circuit.specs.Gates.{Means};
 ghost use Rattle.wh_flat.specs.Worth.{IsAtLeast, constant_of};
@@ -63,22 +64,25 @@ fn call(alloc: Global, symbol: u32, arguments: &Terms) -> Result<Box<Term>, Allo
     Ok(made)
 }
 
-// The left side of each rule has to be at least the right one.
+// The left side of each rule of the list has to be at least the right one.
 fn require_rules(
     alloc: Global,
     circuit: &mut Circuit,
     bits: &Bits,
     rules: &[Rule],
+    listed: &[u32],
 ) -> Result<(), AllocError>
-    requires ready { (r : RewriteRule) → Contains (rewrite_rules rules.now) r → IsReadyRule r }
+    requires within { All (λ n. n < length rules.now) listed.now }
+    requires ready { (r : RewriteRule) → IsListed (rewrite_rules rules.now) listed.now r → IsReadyRule r }
     requires inputs { bits_in bits.now.sizes.items ≤ length (gates_of circuit.old) }
-    requires room { length (gates_of circuit.old) + 147254 * sum_by rule_occurrences (rewrite_rules rules.now) < 2 ^ 31 }
+    requires room { length (gates_of circuit.old) + 147254 * sum_by (rule_occurrences_at (rewrite_rules rules.now)) listed.now < 2 ^ 31 }
     ensures asks { OnOk result (Asks circuit.old circuit.new
-        (λ v. (k : ℕ) → k < length rules.now → RuleHolds bits.now.sizes.items (rewrite_rules rules.now) v k)) }
-    ensures few { OnOk result (length (gates_of circuit.new) + 261862 * length rules.now
-        ≤ length (gates_of circuit.old) + 147254 * sum_by rule_occurrences (rewrite_rules rules.now)) }
+        (λ v. (k : ℕ) → k < length listed.now → RuleHolds bits.now.sizes.items (rewrite_rules rules.now) listed.now v k)) }
+    ensures few { OnOk result (length (gates_of circuit.new) + 261862 * length listed.now
+        ≤ length (gates_of circuit.old) + 147254 * sum_by (rule_occurrences_at (rewrite_rules rules.now)) listed.now) }
 {
-    for rule in rules {
+    for number in listed {
+        let rule = &rules[*number as usize];
         let metas = rule.metas.as_slice().len();
         require_rule(alloc, circuit, bits, metas, &rule.left, &rule.right)?;
     }
@@ -170,19 +174,21 @@ pub fn circuit_of<'a>(
     bits: &Bits,
 ) -> Result<Circuit, AllocError>
     requires within { All (λ n. n < length task.now.pairs.now) task.now.set.now }
-    requires rules { (r : RewriteRule) → Contains (task_data task.now).rules r → IsReadyRule r }
+    requires listed { All (λ n. n < length (task_data task.now).rules) task.now.covered.now }
+    requires rules { (r : RewriteRule) → IsListed (task_data task.now).rules task.now.covered.now r → IsReadyRule r }
     requires pairs { (p : PairData) → InSet (task_data task.now).pairs (task_data task.now).set p
         → IsReadyPair (length (task_data task.now).symbols.funs) marked.now p }
-    requires some { (1 ≤ length (task_data task.now).rules) × (1 ≤ length (task_data task.now).set) }
+    requires some { 1 ≤ length task.now.set.now }
     requires numbers { length marked.now ≤ 1024 }
     requires bits { bits_in bits.now.sizes.items ≤ 659456 }
     requires few { all_occurrences (task_data task.now) ≤ most_in_all }
     ensures circuit { IfOk result (IsFlatCircuit bits.now.sizes.items (task_data task.now) marked.now (bits_in bits.now.sizes.items)) }
-    ensures few { IfOk result (λ made. length (gates_of made) ≤ 200000 * all_occurrences (task_data task.now)) }
+    ensures few { IfOk result (λ made. length (gates_of made)
+        ≤ most_variables task.now.covered.now (all_occurrences (task_data task.now))) }
 {
     task.system.is_well_made();
     let mut circuit = inputs(alloc, bits.count())?;
-    require_rules(alloc, &mut circuit, bits, task.system.rules())?;
+    require_rules(alloc, &mut circuit, bits, task.system.rules(), task.covered)?;
     let calls = Calls {
         pairs: task.pairs,
         set: task.set,

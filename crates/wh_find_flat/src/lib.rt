@@ -14,4 +14,4 @@ mod sides;
 mod stands;
 mod value;
 
-pub use find::find_by_circuit;
+pub use find::{find_by_circuit, is_flat};

@@ -4,7 +4,7 @@ use mathlib.Core.Path.{subst₂}
 use Rattle.std.proofs.Common.{◌≡◌, inl, inr, ℕ, zero, suc, ◌+◌, ◌≤◌, ◌==◌, if◌then◌else◌, true, false, List, [], ◌∷◌, ◌++◌, length, map, take, get_or, unwrap_or, Some, slice_get, Contains, refl, ap, ap₂, ◌∙◌, sym, subst, arith}
 use Rattle.std.proofs.lemmas.List.{length-map}
 use Rattle.std.proofs.lemmas.List.Elements.{All-contains}
-use Rattle.std.proofs.lemmas.Option.{none-some, same_Some, slice_get_within}
+use Rattle.std.proofs.lemmas.Option.{none-some, same_Some}
 use Rattle.wh_types.specs.Ty.{Ty, sort, ◌⇒◌, arguments}
 use Rattle.wh_terms.specs.Tree.{Tm, fun, meta, app, Tms, none, more, tms_of, spine}
 use Rattle.wh_terms.specs.Sight.{NoFree, AllNoFree}
@@ -17,7 +17,6 @@ use Rattle.wh_pairs.specs.PairData.{PairData}
 use Rattle.wh_pairs.specs.Sets.{InSet}
 use Rattle.wh_pairs.specs.Marked.{AreMarked, HeadsASide}
 use Rattle.wh_reduction.specs.TaskData.{TaskData}
-use Rattle.wh_reduction.proofs.Numbers.{numbers_at}
 use Rattle.wh_pairs.proofs.ByPlace.{contains_at, place_of as placed, unmap}
 use Rattle.wh_hopoly.specs.Polynomials.{Polynomial}
 use Rattle.wh_hopoly.specs.Evaluation.{Run, Interpretation, type_at, NormalInterpretations, TypedExpression, evaluate, type_of, symbol}
@@ -33,9 +32,8 @@ use Rattle.wh_polycheck.proofs.MoreInterpretations.{slice_get_front, slice_get_b
 use Rattle.wh_space.specs.Coefficients.{HasCoefficients}
 use Rattle.wh_guesses.specs.Coefficients.{HaveCoefficients}
 use Rattle.wh_guesses.specs.Conditions.{covers_rule, covers_pair, some_strictly, of_rule, of_pair, of_set, IsMet, LetsGo}
-use Rattle.wh_guesses.specs.Found.{task_of}
 use Rattle.wh_first_order.specs.FirstOrder.{AreSorts, IsFirstOrder, IsFlatTree, AreFlatTrees}
-use Rattle.wh_flat.specs.Flat.{IsFlatRule, IsFlatPair, IsFlat, occurrences, call_occurrences}
+use Rattle.wh_flat.specs.Flat.{IsFlatRule, IsFlatPair, IsFlat, IsListed, occurrences, call_occurrences, task_for}
 use Rattle.wh_flat.specs.Worth.{IsAtLeast, IsGreater}
 use Rattle.wh_flat.specs.Dominance.{place_among, marked_number, left_call, right_call, LetsGoBy}
 use Rattle.wh_flat.proofs.Valued.{IsLinearSymbol, IsRead, run_of}
@@ -94,11 +92,11 @@ pub place_same : (marks : List Mark) (f : ℕ) → place_of marks f ≡ place_am
 place_same [] f = refl
 place_same (m ∷ marks) f = ap (λ k. if m.symbol == f then 0 else suc k) (place_same marks f)
 
-module _ (d : SystemData) (pairs : List PairData) (set : List ℕ) (lists : List (List ℕ)) (R : ReadingsData) (made : IsWellMadeSystem d)
-    (typed : HaveTypedSides d.symbols d.rules pairs) (flat : IsFlat (task_of d pairs set)) (readings : AreReadingsFor (task_of d pairs set) R)
-    (has : HaveCoefficients (task_of d pairs set) lists R) where
+module _ (d : SystemData) (pairs : List PairData) (set covered : List ℕ) (lists : List (List ℕ)) (R : ReadingsData) (made : IsWellMadeSystem d)
+    (typed : HaveTypedSides d.symbols d.rules pairs) (flat : IsFlat (task_for d pairs set covered))
+    (readings : AreReadingsFor (task_for d pairs set covered) R) (has : HaveCoefficients (task_for d pairs set covered) lists R) where
   abbrev T : TaskData
-  T = task_of d pairs set
+  T = task_for d pairs set covered
 
   abbrev symbols : List Interpretation
   symbols = R.symbols
@@ -149,9 +147,12 @@ module _ (d : SystemData) (pairs : List PairData) (set : List ℕ) (lists : List
       (subst (λ A. length (arguments A) ≤ 32) (sym k) (few_of f A e)) (has.of_symbols f s at)
 
   -- sides of rules
-  module _ (r : RewriteRule) (within : Contains d.rules r) where
+  module _ (r : RewriteRule) (listed : IsListed d.rules covered r) where
     rule_flat : IsFlatRule S r
-    rule_flat = flat.rules r within
+    rule_flat = flat.rules r listed
+
+    within : Contains d.rules r
+    within = let (n, found, at) = listed in contains_at d.rules n r at
 
     rule_tree : (t : Tm) → IsFlatTree S r.metas t → (s : ℕ) → Typed S r.metas [] t (sort s) → NoFree t → occurrences t ≤ 60
         → IsSideTree symbols (types_of_metas r.metas) lists normal t
@@ -294,15 +295,15 @@ module _ (d : SystemData) (pairs : List PairData) (set : List ℕ) (lists : List
         (subst₂ (λ a b. IsMet a b true) (sym left_run) (sym right_run) m))
 
   pub lets_go_if : LetsGoBy T of_marks lists → LetsGo T R
-  lets_go_if by k c (of_rule i n r si at) = rule_if r (contains_at d.rules n r at) (by.rules_at_least r (contains_at d.rules n r at))
+  lets_go_if by k c (of_rule i n r si at) =
+      let listed : IsListed d.rules covered r = (n, contains_at covered i n si, at) in rule_if r listed (by.rules_at_least r listed)
   lets_go_if by k c (of_pair i n p si at) = let within : InSet pairs set p = (n, contains_at set i n si, at) in pair_if p within (by.pairs_at_least p within)
   lets_go_if by k c of_set = let (p, within, g) = by.some_greater in (p, within, pair_strictly_if p within (by.pairs_at_least p within) g)
 
   pub lets_go_by : LetsGo T R → LetsGoBy T of_marks lists
   lets_go_by go = record {
-    rules_at_least = λ r c. (let (k, at) = placed d.rules r c in
-        let there = numbers_at 0 (length d.rules) k (slice_get_within d.rules k r at) ∙ ap (λ n. Some n) (omega arith) in
-        rule_where r c (go k (covers_rule r) (of_rule k k r there at)));
+    rules_at_least = λ r listed. (let (n, c, at) = listed in let (k, si) = placed covered n c in
+        rule_where r listed (go k (covers_rule r) (of_rule k n r si at)));
     pairs_at_least = λ p within. (let (n, c, at) = within in let (i, si) = placed set n c in
         pair_where p within (go (length T.covered + i) (covers_pair p) (of_pair i n p si at)));
     some_greater = (let (p, within, m) = go (length T.covered + length set) some_strictly of_set in (p, within, pair_greater p within m));

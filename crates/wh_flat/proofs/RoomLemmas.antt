@@ -8,13 +8,14 @@ use Rattle.wh_terms.specs.Budget.{Left}
 use Rattle.wh_terms.specs.Erase.{tm, tms}
 use Rattle.wh_terms.specs.Tree.{meta, Tms, none, more, tms_of}
 use Rattle.wh_terms.specs.Typing.{Symbols, Declared}
+use Rattle.wh_terms.specs.Rules.{RewriteRule}
 use Rattle.wh_terms.specs.declared.term.Term.{Term}
 use Rattle.wh_pairs.specs.PairData.{PairData}
 use Rattle.wh_pairs.specs.Sets.{InSet}
 use Rattle.wh_pairs.proofs.ByPlace.{some_one, Before, before_more, before_all, contains_at}
 use Rattle.wh_first_order.proofs.Lists.{all_flat, flat_each}
 use Rattle.wh_first_order.specs.FirstOrder.{IsFlatTree, AreFlatTrees, IsNullary}
-use Rattle.wh_flat.specs.Flat.{IsFlatPair, occurrences, occurrences_in, occurrences_at, pair_occurrences}
+use Rattle.wh_flat.specs.Flat.{IsFlatPair, IsFlatRule, IsListed, occurrences, occurrences_in, occurrences_at, pair_occurrences, rule_occurrences, rule_occurrences_at}
 
 -- the same said in other words
 pub left_as : (room m n : ℕ) (P Q : Type 0) → m ≡ n → (P → Q) → (Q → P) → (answer : Option ℕ) → Left room m P answer → Left room n Q answer
@@ -110,3 +111,30 @@ module _ (S : Symbols) (pairs : List PairData) where
       (((p : PairData) → InSet pairs set p → IsFlatPair S p) × (sum_by (occurrences_at pairs) set ≤ room)) refl
       (λ (each, few). ((λ p (n, found, there). each n found p there), few))
       (λ (flat, few). ((λ n found p there. flat p (n, found, there)), few)) answer h
+
+-- rules of a list
+
+-- the rule with this number is flat
+abbrev pub IsFlatRuleAt : Symbols → List RewriteRule → ℕ → Type 0
+IsFlatRuleAt S rules n = (r : RewriteRule) → slice_get rules n ≡ Some r → IsFlatRule S r
+
+module _ (S : Symbols) (rules : List RewriteRule) where
+  pub left_rule_at : (n rest : ℕ) (r : RewriteRule) → slice_get rules n ≡ Some r → (answer : Option ℕ)
+      → Left rest (rule_occurrences r) (IsFlatRule S r × (rule_occurrences r ≤ rest)) answer
+      → Left rest (rule_occurrences_at rules n) (IsFlatRuleAt S rules n × (rule_occurrences_at rules n ≤ rest)) answer
+  left_rule_at n rest r at answer h =
+      let e : rule_occurrences r ≡ rule_occurrences_at rules n = ap (λ (o : Option RewriteRule). option_map_or rule_occurrences o 0) (sym at) in
+      left_as rest (rule_occurrences r) (rule_occurrences_at rules n) (IsFlatRule S r × (rule_occurrences r ≤ rest))
+      (IsFlatRuleAt S rules n × (rule_occurrences_at rules n ≤ rest)) e
+      (λ (flat, few). ((λ q there. subst (IsFlatRule S) (some_one at there) flat), omega (arith, few, e)))
+      (λ (flat, few). (flat r at, omega (arith, few, e))) answer h
+
+  pub left_rules : (listed : List ℕ) (room : ℕ) (answer : Option ℕ) → Whole (IsFlatRuleAt S rules) (rule_occurrences_at rules) listed room answer
+      → Left room (sum_by (rule_occurrences_at rules) listed)
+      (((r : RewriteRule) → IsListed rules listed r → IsFlatRule S r) × (sum_by (rule_occurrences_at rules) listed ≤ room)) answer
+  left_rules listed room answer h =
+      left_as room (sum_by (rule_occurrences_at rules) listed) (sum_by (rule_occurrences_at rules) listed)
+      (((n : ℕ) → Contains listed n → IsFlatRuleAt S rules n) × (sum_by (rule_occurrences_at rules) listed ≤ room))
+      (((r : RewriteRule) → IsListed rules listed r → IsFlatRule S r) × (sum_by (rule_occurrences_at rules) listed ≤ room)) refl
+      (λ (each, few). ((λ r (n, found, there). each n found r there), few))
+      (λ (flat, few). ((λ n found r there. flat r (n, found, there)), few)) answer h

@@ -1,11 +1,12 @@
 -- When coefficients let a pair of a flat set go, by what the sides are worth.
-use Rattle.std.specs.Prelude.{ℕ, suc, ◌+◌, ◌==◌, if◌then◌else◌, List, [], ◌∷◌, length, Contains}
+use Rattle.std.specs.Prelude.{ℕ, suc, ◌+◌, ◌==◌, if◌then◌else◌, List, [], ◌∷◌, length}
 use Rattle.wh_terms.specs.Tree.{Tm, fun, spine}
 use Rattle.wh_terms.specs.Typing.{Symbols}
 use Rattle.wh_terms.specs.Rules.{RewriteRule}
 use Rattle.wh_pairs.specs.PairData.{PairData}
 use Rattle.wh_pairs.specs.Sets.{InSet}
 use Rattle.wh_reduction.specs.TaskData.{TaskData}
+use Rattle.wh_flat.specs.Flat.{IsListed}
 use Rattle.wh_flat.specs.Worth.{IsAtLeast, IsGreater}
 
 -- the place of a symbol among the marked ones, or their number where it is none of them
@@ -24,10 +25,10 @@ left_call S marked p = spine (fun (marked_number S marked p.left_fun)) p.left
 abbrev pub right_call : Symbols → List ℕ → PairData → Tm
 right_call S marked p = spine (fun (marked_number S marked p.right_fun)) p.right
 
--- by these coefficients the left side of each rule and of each pair of the set is at least the right one, and of some
--- pair of the set it is greater (ours)
+-- by these coefficients the left side of each rule that is to be covered and of each pair of the set is at least the right one,
+-- and of some pair of the set it is greater (ours)
 pub record LetsGoBy (T : TaskData) (marked : List ℕ) (lists : List (List ℕ)) : Type 0 where
-  pub rules_at_least : (r : RewriteRule) → Contains T.rules r → IsAtLeast lists r.left r.right
+  pub rules_at_least : (r : RewriteRule) → IsListed T.rules T.covered r → IsAtLeast lists r.left r.right
   pub pairs_at_least : (p : PairData) → InSet T.pairs T.set p
       → IsAtLeast lists (left_call T.symbols marked p) (right_call T.symbols marked p)
   pub some_greater :

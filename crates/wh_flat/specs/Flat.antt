@@ -5,9 +5,10 @@ use Rattle.wh_types.specs.Ty.{sort}
 use Rattle.wh_terms.specs.Tree.{Tm, fun, meta, lam, app, Tms, none, more, tms_of}
 use Rattle.wh_terms.specs.Typing.{Symbols, Declared, Typed}
 use Rattle.wh_terms.specs.Rules.{RewriteRule}
+use Rattle.wh_system.specs.Systems.{SystemData}
 use Rattle.wh_pairs.specs.PairData.{PairData}
 use Rattle.wh_pairs.specs.Sets.{InSet}
-use Rattle.wh_reduction.specs.TaskData.{TaskData}
+use Rattle.wh_reduction.specs.TaskData.{TaskData, task_over}
 use Rattle.wh_first_order.specs.FirstOrder.{IsFirstOrder, IsFlatTree, AreFlatTrees}
 
 abbrev mutual
@@ -61,12 +62,24 @@ pair_occurrences p = call_occurrences p.left + call_occurrences p.right
 abbrev pub occurrences_at : List PairData → ℕ → ℕ
 occurrences_at pairs n = option_map_or pair_occurrences (slice_get pairs n) 0
 
--- those of the sides of all rules and of the set's pairs
-abbrev pub all_occurrences : TaskData → ℕ
-all_occurrences T = sum_by rule_occurrences T.rules + sum_by (occurrences_at T.pairs) T.set
+-- the same of the rule with this number
+abbrev pub rule_occurrences_at : List RewriteRule → ℕ → ℕ
+rule_occurrences_at rules n = option_map_or rule_occurrences (slice_get rules n) 0
 
--- the set is flat: the sides of all rules and of its pairs are, and these are together not large (ours)
+-- the set of pairs of a system, with these rules to be covered
+abbrev pub task_for : SystemData → List PairData → List ℕ → List ℕ → TaskData
+task_for d pairs set covered = task_over d.symbols d.rules pairs set covered
+
+-- the rule is one of those with the numbers of the list
+abbrev pub IsListed : List RewriteRule → List ℕ → RewriteRule → Type 0
+IsListed rules listed r = (n : ℕ) × Contains listed n × (slice_get rules n ≡ Some r)
+
+-- those of the sides of the rules that are to be covered and of the set's pairs
+abbrev pub all_occurrences : TaskData → ℕ
+all_occurrences T = sum_by (rule_occurrences_at T.rules) T.covered + sum_by (occurrences_at T.pairs) T.set
+
+-- the set is flat: the sides of the rules that are to be covered and of its pairs are, and these are together not large (ours)
 pub record IsFlat (T : TaskData) : Type 0 where
-  pub rules : (r : RewriteRule) → Contains T.rules r → IsFlatRule T.symbols r
+  pub rules : (r : RewriteRule) → IsListed T.rules T.covered r → IsFlatRule T.symbols r
   pub pairs_of_set : (p : PairData) → InSet T.pairs T.set p → IsFlatPair T.symbols p
   pub few : all_occurrences T ≤ most_in_all

@@ -8,15 +8,14 @@ ghost use Rattle.wh_polycheck.specs.Covering.{HaveTypedSides};
 ghost use Rattle.wh_polycheck.specs.Readings.{AreReadingsFor, ReadingsData};
 ghost use Rattle.wh_guesses.specs.Coefficients.{HaveCoefficients};
 ghost use Rattle.wh_guesses.specs.Conditions.{LetsGo};
-ghost use Rattle.wh_guesses.specs.Found.{task_of};
 ghost use Rattle.wh_flat.specs.Dominance.{LetsGoBy};
-ghost use Rattle.wh_flat.specs.Flat.{IsFlat};
+ghost use Rattle.wh_flat.specs.Flat.{IsFlat, task_for};
 
-/// Interpretations of the space let a pair of a flat set go just where by their coefficients the left side of each rule
-/// and of each pair is worth at least the right one, and of some pair more.
+/// Interpretations of the space let a pair of a flat set go just where by their coefficients the left side of each rule that is
+/// to be covered and of each pair is worth at least the right one, and of some pair more.
 pub fn flat_sets_are_let_go_by_worth()
-    ensures { (d : SystemData) (pairs : List PairData) (set : List ℕ) (lists : List (List ℕ)) (R : ReadingsData) → IsWellMadeSystem d
-        → HaveTypedSides d.symbols d.rules pairs → IsFlat (task_of d pairs set) → AreReadingsFor (task_of d pairs set) R
-        → HaveCoefficients (task_of d pairs set) lists R
-        → LetsGo (task_of d pairs set) R ↔ LetsGoBy (task_of d pairs set) (map (λ m. m.symbol) R.marks) lists }
+    ensures { (d : SystemData) (pairs : List PairData) (set covered : List ℕ) (lists : List (List ℕ)) (R : ReadingsData)
+        → IsWellMadeSystem d → HaveTypedSides d.symbols d.rules pairs → IsFlat (task_for d pairs set covered)
+        → AreReadingsFor (task_for d pairs set covered) R → HaveCoefficients (task_for d pairs set covered) lists R
+        → LetsGo (task_for d pairs set covered) R ↔ LetsGoBy (task_for d pairs set covered) (map (λ m. m.symbol) R.marks) lists }
 {}

@@ -1,5 +1,5 @@
 -- The node of readings under which all lines are found.
-use Rattle.std.proofs.Common.{◌≡◌, ◌≢◌, ℕ, ◌+◌, Result, IfOk, ap, sym, subst, ◌<◌, ◌≤◌, ◌^◌, inl, inr, true, false, None, List, [], length, map, All, Contains, refl, arith}
+use Rattle.std.proofs.Common.{◌≡◌, ◌≢◌, ℕ, ◌+◌, Result, IfOk, ap, sym, subst, ◌<◌, ◌≤◌, ◌^◌, inl, inr, true, false, Option, Some, None, List, [], length, map, All, Contains, refl, arith}
 use Rattle.std.specs.declared.alloc.AllocError.{AllocError}
 use Rattle.std.proofs.lemmas.List.{length-map}
 use Rattle.std.proofs.lemmas.List.Elements.{All-contains}
@@ -16,7 +16,6 @@ use Rattle.wh_reduction.specs.TaskData.{TaskData, IsTask, CoversAll, task_over}
 use Rattle.wh_reduction.specs.TaskView.{task_data}
 use Rattle.wh_reduction.specs.ReductionPair.{Evidence, IsRightRule, IsRightPair}
 use Rattle.wh_reduction.specs.declared.task.Task.{Task}
-use Rattle.wh_reduction.proofs.Numbers.{numbers_length}
 use Rattle.wh_hopoly.specs.Polynomials.{Polynomial}
 use Rattle.wh_hopoly.specs.Evaluation.{Run}
 use Rattle.wh_hopoly.specs.Erase.{transfers}
@@ -32,15 +31,17 @@ use Rattle.wh_covering.proofs.CoverWalk.{covering_holds, small_holds}
 use Rattle.wh_cert.specs.TermLimits.{IsSmall}
 use Rattle.wh_cert.specs.Written as w
 use Rattle.wh_cert.specs.Interps.{Interp}
-use Rattle.wh_cert.specs.Limits.{NodeFits, NodeWithin, MoveFits}
-use Rattle.wh_proof.specs.Looked.{SayInterpretations, SayMarks, moves_of}
+use Rattle.wh_cert.specs.Limits.{NodeFits, NodeWithin, MoveFits, UsableFits, UsableWithin, IsOfVersion}
+use Rattle.wh_usable.specs.Closed.{AreRulesInOrder, IsUsable}
+use Rattle.wh_usable.proofs.Whole.{all_in_order}
+use Rattle.wh_proof.specs.Looked.{SayInterpretations, SayMarks, covered_rules, moves_of, poly_task}
 use Rattle.wh_find_moves.specs.Found.{AreApart}
 use Rattle.wh_guesses.specs.Coefficients.{AreOfSpace}
 use Rattle.wh_guesses.specs.Conditions.{covers_rule, covers_pair, some_strictly, of_rule, of_pair, of_set, IsMet, Fails}
 use Rattle.wh_guesses.specs.Lines.{IsLine, IsStrictLine, IsFailingRule, IsFailingPair, AreRuleLines, ArePairLines}
-use Rattle.wh_guesses.specs.Weighing.{Weighs}
+use Rattle.wh_guesses.specs.Weighing.{AreRulesOf, WeighsOver}
 use Rattle.wh_guesses.specs.declared.node.Weighing.{Weighing}
-use Rattle.wh_guesses.specs.Found.{task_of, IsInterpretation}
+use Rattle.wh_guesses.specs.Found.{task_of, IsInterpretationOver, version_with}
 use Rattle.wh_guesses.proofs.IncreasingLemmas.{few_increasing}
 use Rattle.wh_guesses.proofs.GuessLemmas.{space_normal}
 use Rattle.wh_guesses.proofs.LimitLemmas.{all_narrow, symbols_fit, marks_fit, as_many_symbols, as_many_marks, said_named, moves_fit}
@@ -84,18 +85,57 @@ pub whole_is : (t : Task) → CoversAll (task_data t) → task_data t ≡ task_o
 whole_is t whole =
     let T = task_data t in ap (λ (l : List ℕ). task_over T.symbols T.rules T.pairs T.set l) whole
 
-module _ (d : SystemData) (ps : List PairData) (set : List ℕ) (R : ReadingsData) (funs mark_lines : List Interp)
+-- so it is of a task with the rules that a node lists
+pub listing_is : (t : Task) (usable : Option (List ℕ)) → AreRulesOf t usable
+    → task_data t ≡ poly_task (system_data t.system.now) (task_data t).pairs (task_data t).set usable
+listing_is t usable are =
+    let T = task_data t in ap (λ (l : List ℕ). task_over T.symbols T.rules T.pairs T.set l) are.covers
+
+pub whole_rules : (t : Task) → IsTask (task_data t) → CoversAll (task_data t) → AreRulesOf t None
+whole_rules t task whole =
+    let T = task_data t in
+    record {
+      covers = whole;
+      closed = record {
+        increasing = subst IsIncreasing (sym whole) (all_in_order (length T.rules)).0;
+        are_rules = task.are_rules;
+        closed = inl whole;
+      };
+    }
+
+-- lists of rules in nodes
+
+rules_fit : (usable : Option (List ℕ)) (count : ℕ) → count ≤ 1024 → AreRulesInOrder count (covered_rules usable count) → UsableFits usable
+rules_fit None count few in_order = tt
+rules_fit (Some listed) count few in_order =
+    all_from_members IsSmall listed (λ n found. let below = All-contains (λ n. n < count) listed n in_order.1 found in omega (arith, below, few))
+
+rules_few : (usable : Option (List ℕ)) (count : ℕ) → count ≤ 1024 → AreRulesInOrder count (covered_rules usable count) → UsableWithin (2 ^ 32) usable
+rules_few None count few in_order = tt
+rules_few (Some listed) count few in_order =
+    let short = few_increasing listed count in_order.0 (λ n found. All-contains (λ n. n < count) listed n in_order.1 found) in omega (arith, short, few)
+
+version_is : (usable : Option (List ℕ)) (funs marks : List Interp) (rules pairs : List (List Move)) (drop : List ℕ)
+    → IsOfVersion (version_with usable) (w.interpretations usable funs marks rules pairs drop)
+version_is None funs marks rules pairs drop = refl
+version_is (Some listed) funs marks rules pairs drop = refl
+
+module _ (d : SystemData) (ps : List PairData) (set : List ℕ) (usable : Option (List ℕ)) (R : ReadingsData) (funs mark_lines : List Interp)
     (rules pairs : List (List Move)) (drop : List ℕ) (made : IsWellMadeSystem d) (few : length ps ≤ 4096)
-    (are : AreAllLines (task_of d ps set) R rules pairs drop) (some : drop ≢ [])
+    (are : AreAllLines (poly_task d ps set usable) R rules pairs drop) (listed : IsUsable (poly_task d ps set usable)) (some : drop ≢ [])
     (says : SayInterpretations d.fun_names d.symbols.funs funs R.symbols) (says_marks : SayMarks d mark_lines R.marks) where
   abbrev T : TaskData
-  T = task_of d ps set
+  T = poly_task d ps set usable
 
   abbrev E : Evidence (List Transfer)
   E = moves_of rules pairs drop
 
-  as_many_rules : length T.covered ≡ length d.rules
-  as_many_rules = numbers_length 0 (length d.rules)
+  in_order : AreRulesInOrder (length d.rules) (covered_rules usable (length d.rules))
+  in_order = (listed.increasing, listed.are_rules)
+
+  few_rules : length T.covered ≤ length d.rules
+  few_rules = few_increasing T.covered (length d.rules) listed.increasing
+      (λ n found. All-contains (λ n. n < length d.rules) T.covered n listed.are_rules found)
 
   ready : IsReady T R E
   ready = record {
@@ -105,7 +145,7 @@ module _ (d : SystemData) (ps : List PairData) (set : List ℕ) (R : ReadingsDat
       pair_count = are.pair_lines.count;
       good_drop = good_drop set drop some are.pair_lines.increasing are.pair_lines.within;
     };
-    closed = inl refl;
+    closed = listed.closed;
   }
 
   right_rules : (k : ℕ) → IsRightRule (right_lines with_limits T.symbols T.rules R) T (map transfers rules) k
@@ -148,10 +188,10 @@ module _ (d : SystemData) (ps : List PairData) (set : List ℕ) (R : ReadingsDat
       let below = slice_get_within d.fun_names (m.0).symbol name named in omega (arith, below, m.2)) in
       omega (arith, short, length-map R.marks (λ (m : Mark). m.symbol))
 
-  fits : NodeFits (w.interpretations None funs mark_lines rules pairs drop)
+  fits : NodeFits (w.interpretations usable funs mark_lines rules pairs drop)
   fits =
       let narrow = all_narrow d.symbols.sorts d.symbols.funs made.symbol_types in (
-        tt,
+        rules_fit usable (length d.rules) made.rules_within in_order,
         symbols_fit d.fun_names d.symbols.funs funs R.symbols says made.fun_names_spelled narrow are.of_space.symbols_of_space,
         marks_fit d mark_lines R.marks says_marks made.fun_names_spelled narrow are.of_space.marks_of_space,
         all_fit rules some_rules,
@@ -159,23 +199,23 @@ module _ (d : SystemData) (ps : List PairData) (set : List ℕ) (R : ReadingsDat
         all_from_members IsSmall drop (λ n found. let below = drop_below n found in omega (arith, below, few)),
       )
 
-  within : NodeWithin (2 ^ 32) (w.interpretations None funs mark_lines rules pairs drop)
+  within : NodeWithin (2 ^ 32) (w.interpretations usable funs mark_lines rules pairs drop)
   within =
       let named = made.symbols_named in
       let symbols_few = made.symbols_within in
       let set_few = few_increasing set (length ps) are.task.increasing (λ n found. All-contains (λ n. n < length ps) set n are.task.within found) in
       let drop_few = few_increasing drop (length ps) are.pair_lines.increasing drop_below in (
-        tt,
+        rules_few usable (length d.rules) made.rules_within in_order,
         omega (arith, as_many_symbols d.fun_names d.symbols.funs funs R.symbols says, named, symbols_few),
         omega (arith, as_many_marks d mark_lines R.marks says_marks, marks_few, named, symbols_few),
         all_few rules some_rules,
-        omega (arith, are.rule_lines.count, as_many_rules, length-map rules transfers, made.rules_within),
+        omega (arith, are.rule_lines.count, few_rules, length-map rules transfers, made.rules_within),
         all_few pairs some_pairs,
         omega (arith, are.pair_lines.count, length-map pairs transfers, set_few, few),
         omega (arith, drop_few, few),
       )
 
-  pub interpretation_found : IsInterpretation d ps set (w.interpretations None funs mark_lines rules pairs drop)
+  pub interpretation_found : IsInterpretationOver d ps set usable (w.interpretations usable funs mark_lines rules pairs drop)
   interpretation_found = record {
     readings = R;
     evidence = E;
@@ -187,7 +227,7 @@ module _ (d : SystemData) (ps : List PairData) (set : List ℕ) (R : ReadingsDat
     pairs_apart = all_apart (map transfers pairs) some_pairs;
     increasing = are.pair_lines.increasing;
     all_strict = λ i n p ms at pair there strict. (are.pair_lines.each i n ms at there p pair).1.1 strict;
-    version = refl;
+    version = version_is usable funs mark_lines rules pairs drop;
     fits = fits;
     within = within;
   }
@@ -224,5 +264,6 @@ module _ (T : TaskData) (R : ReadingsData) where
       nothing (k, within, is) = omega (arith, within)
 
 -- what the readings come to is what the guess comes to
-pub weighs : (t : Task) (R Q : ReadingsData) (r : Result Weighing AllocError) → R ≡ Q → IfOk r (Weighs t R) → IfOk r (Weighs t Q)
-weighs t R Q r same h = subst (λ (R : ReadingsData). IfOk r (Weighs t R)) same h
+pub weighs : (t : Task) (usable : Option (List ℕ)) (R Q : ReadingsData) (r : Result Weighing AllocError) → R ≡ Q
+    → IfOk r (WeighsOver t usable R) → IfOk r (WeighsOver t usable Q)
+weighs t usable R Q r same h = subst (λ (R : ReadingsData). IfOk r (WeighsOver t usable R)) same h

@@ -5,3 +5,6 @@ pub mod WayLemmas
 pub mod BestLemmas
 pub mod WayGoals
 pub mod BuildLemmas
+pub mod StableLemmas
+pub mod PlainLemmas
+pub mod EntryLemmas

@@ -10,3 +10,7 @@ IsLeast {A} number P (Some a) = (number a < 2 ^ 32) × P a × ((b : A) → P b �
 -- the number of each thing is itself
 abbrev pub own : ℕ → ℕ
 own n = n
+
+-- it is not so that the fact fails: what can be kept of it beside data
+abbrev pub NotRefuted : Type 0 → Type 0
+NotRefuted A = (A → ⊥) → ⊥

@@ -2,30 +2,27 @@
 
 ghost use Rattle.std.specs.Prelude.{◌≡◌, IfOk};
 ghost use Rattle.wh_ordering.specs.FilteringView.{filtering_data};
+ghost use Rattle.wh_infer.specs.Least.{NotRefuted};
 ghost use Rattle.wh_infer.specs.Bests.{IsBest, IsBestAt, IsBestBy, IsLeastCount, IsLeastTotal, IsOneMore, IsSum, count_of};
 
 use crate::choice::Choice;
+use crate::known::Known;
 use crate::ways::{LETTERS, goals_by, lesser, letter_at};
-use std::alloc::{AllocError, Global};
+use std::alloc::AllocError;
 use wh_inference::Letter;
 use wh_order::{Goal, arguments_of};
-use wh_ordering::Filters;
 use wh_types::{counted, sum};
 
 /// The way to show the goal that has the fewest entries, nested at most `room` deep; `None` where each has 2^32 at least.
 #[cycle(counting)]
-pub fn best(
-    alloc: Global,
-    filters: &Filters,
-    goal: &Goal<'_>,
-    room: u8,
-) -> Result<Option<Choice>, AllocError>
-    ensures { IfOk result (IsBest (filtering_data filters.now) room goal.now) }
+pub fn best(known: &mut Known<'_>, goal: &Goal<'_>, room: u8) -> Result<Option<Choice>, AllocError>
+    ensures found { IfOk result (λ r. NotRefuted (IsBest (filtering_data known.old.filters.now) room goal.now r)) }
+    ensures filters { known.new.filters ≡ known.old.filters }
 {
     let mut found = None;
     for number in 0..LETTERS {
         let letter = letter_at(number);
-        let own = best_by(alloc, filters, goal, room, letter)?;
+        let own = best_by(known, goal, room, letter)?;
         found = lesser(found, own);
     }
     Ok(found)
@@ -34,13 +31,13 @@ pub fn best(
 // The same by one letter.
 #[cycle(counting)]
 fn best_by(
-    alloc: Global,
-    filters: &Filters,
+    known: &mut Known<'_>,
     goal: &Goal<'_>,
     room: u8,
     letter: Letter,
 ) -> Result<Option<Choice>, AllocError>
-    ensures { IfOk result (IsBestBy (filtering_data filters.now) room goal.now letter) }
+    ensures found { IfOk result (λ r. NotRefuted (IsBestBy (filtering_data known.old.filters.now) room goal.now letter r)) }
+    ensures filters { known.new.filters ≡ known.old.filters }
 {
     let left = goal.left.tree();
     let items = arguments_of(left);
@@ -48,7 +45,7 @@ fn best_by(
     let places = sum(count, 1)?;
     let mut found = None;
     for place in 0..places {
-        let own = choice_at(alloc, filters, goal, room, letter, place)?;
+        let own = choice_at(known, goal, room, letter, place)?;
         found = lesser(found, own);
     }
     Ok(found)
@@ -57,21 +54,22 @@ fn best_by(
 // The same by one letter at one place.
 #[cycle(counting)]
 fn choice_at(
-    alloc: Global,
-    filters: &Filters,
+    known: &mut Known<'_>,
     goal: &Goal<'_>,
     room: u8,
     letter: Letter,
     place: u32,
 ) -> Result<Option<Choice>, AllocError>
-    ensures { IfOk result (IsBestAt (filtering_data filters.now) room goal.now letter place) }
+    ensures found { IfOk result (λ r. NotRefuted (IsBestAt (filtering_data known.old.filters.now) room goal.now letter place r)) }
+    ensures filters { known.new.filters ≡ known.old.filters }
 {
     if room == 0 {
         return Ok(None);
     }
-    match goals_by(alloc, filters, goal, letter, place)? {
+    let filters = known.filters;
+    match goals_by(known.alloc, filters, goal, letter, place)? {
         Some(goals) => {
-            let parts = total(alloc, filters, goals.as_slice(), room - 1)?;
+            let parts = total(known, goals.as_slice(), room - 1)?;
             Ok(one_more(letter, place, parts))
         }
         None => Ok(None),
@@ -97,19 +95,15 @@ fn one_more(letter: Letter, place: u32, parts: Option<u32>) -> Option<Choice>
 
 // The least number of entries that shows each of the goals, nested at most `room` deep; `None` where it is 2^32 at least.
 #[cycle(counting)]
-fn total(
-    alloc: Global,
-    filters: &Filters,
-    goals: &[Goal<'_>],
-    room: u8,
-) -> Result<Option<u32>, AllocError>
-    ensures { IfOk result (IsLeastTotal (filtering_data filters.now) room goals.now) }
+fn total(known: &mut Known<'_>, goals: &[Goal<'_>], room: u8) -> Result<Option<u32>, AllocError>
+    ensures found { IfOk result (λ r. NotRefuted (IsLeastTotal (filtering_data known.old.filters.now) room goals.now r)) }
+    ensures filters { known.new.filters ≡ known.old.filters }
 {
     let mut entries = 0;
     let mut left = goals.len();
     while left > 0 {
         left -= 1;
-        let own = least(alloc, filters, &goals[left], room)?;
+        let own = least(known, &goals[left], room)?;
         match sum_of(own, entries) {
             Some(more) => entries = more,
             None => return Ok(None),
@@ -128,18 +122,20 @@ fn sum_of(own: Option<u32>, others: u32) -> Option<u32>
     }
 }
 
-// The least number of entries that shows the goal, nested at most `room` deep; `None` where it is 2^32 at least.
+// The least number of entries that shows the goal, nested at most `room` deep; `None` where it is 2^32 at least. It is looked up, or
+// else kept.
 #[cycle(counting)]
-fn least(
-    alloc: Global,
-    filters: &Filters,
-    goal: &Goal<'_>,
-    room: u8,
-) -> Result<Option<u32>, AllocError>
-    ensures { IfOk result (IsLeastCount (filtering_data filters.now) room goal.now) }
+fn least(known: &mut Known<'_>, goal: &Goal<'_>, room: u8) -> Result<Option<u32>, AllocError>
+    ensures found { IfOk result (λ r. NotRefuted (IsLeastCount (filtering_data known.old.filters.now) room goal.now r)) }
+    ensures filters { known.new.filters ≡ known.old.filters }
 {
-    let choice = best(alloc, filters, goal, room)?;
-    Ok(count_of(choice))
+    if let Some(count) = known.look(goal, room) {
+        return Ok(count);
+    }
+    let choice = best(known, goal, room)?;
+    let count = count_of(choice);
+    known.note(goal, room, count)?;
+    Ok(count)
 }
 
 // How many entries that makes.

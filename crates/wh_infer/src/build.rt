@@ -2,28 +2,29 @@
 
 ghost use Rattle.std.specs.Prelude.{◌≡◌, IfOk, Some};
 ghost use Rattle.wh_ordering.specs.FilteringView.{filtering_data};
+ghost use Rattle.wh_infer.specs.Least.{NotRefuted};
 ghost use Rattle.wh_infer.specs.Bests.{AreLeastInferences, IsBest, IsLeastInference, IsMadeWith, written_place};
 
 use crate::best::best;
 use crate::choice::Choice;
+use crate::known::Known;
 use crate::ways::{goals_by, made};
-use std::alloc::{AllocError, Global};
+use std::alloc::AllocError;
 use wh_inference::{Inference, Inferences, Letter};
 use wh_order::Goal;
-use wh_ordering::Filters;
 
 /// An inference with the fewest entries that shows the goal, nested at most `room` deep; `None` where each has 2^32 at least.
 #[cycle(building)]
 pub fn build(
-    alloc: Global,
-    filters: &Filters,
+    known: &mut Known<'_>,
     goal: &Goal<'_>,
     room: u8,
 ) -> Result<Option<Inference>, AllocError>
-    ensures { IfOk result (IsLeastInference (filtering_data filters.now) room goal.now) }
+    ensures found { IfOk result (IsLeastInference (filtering_data known.old.filters.now) room goal.now) }
+    ensures filters { known.new.filters ≡ known.old.filters }
 {
-    match best(alloc, filters, goal, room)? {
-        Some(choice) => build_by(alloc, filters, goal, room, choice),
+    match best(known, goal, room)? {
+        Some(choice) => build_by(known, goal, room, choice),
         None => Ok(None),
     }
 }
@@ -31,21 +32,22 @@ pub fn build(
 // The same by the best choice.
 #[cycle(building)]
 fn build_by(
-    alloc: Global,
-    filters: &Filters,
+    known: &mut Known<'_>,
     goal: &Goal<'_>,
     room: u8,
     choice: Choice,
 ) -> Result<Option<Inference>, AllocError>
-    requires { IsBest (filtering_data filters.now) room goal.now (Some choice) }
-    ensures { IfOk result (IsLeastInference (filtering_data filters.now) room goal.now) }
+    requires { NotRefuted (IsBest (filtering_data known.old.filters.now) room goal.now (Some choice)) }
+    ensures found { IfOk result (IsLeastInference (filtering_data known.old.filters.now) room goal.now) }
+    ensures filters { known.new.filters ≡ known.old.filters }
 {
     if room == 0 {
         return Ok(None);
     }
-    match goals_by(alloc, filters, goal, choice.letter, choice.place)? {
+    let filters = known.filters;
+    match goals_by(known.alloc, filters, goal, choice.letter, choice.place)? {
         Some(goals) => {
-            let parts = build_each(alloc, filters, goals.as_slice(), room - 1)?;
+            let parts = build_each(known, goals.as_slice(), room - 1)?;
             Ok(made_with(choice, parts))
         }
         None => Ok(None),
@@ -55,16 +57,16 @@ fn build_by(
 // Such inferences for each of the goals.
 #[cycle(building)]
 fn build_each(
-    alloc: Global,
-    filters: &Filters,
+    known: &mut Known<'_>,
     goals: &[Goal<'_>],
     room: u8,
 ) -> Result<Option<Inferences>, AllocError>
-    ensures { IfOk result (AreLeastInferences (filtering_data filters.now) room goals.now) }
+    ensures found { IfOk result (AreLeastInferences (filtering_data known.old.filters.now) room goals.now) }
+    ensures filters { known.new.filters ≡ known.old.filters }
 {
-    let mut parts = Inferences::new(alloc)?;
+    let mut parts = Inferences::new(known.alloc)?;
     for goal in goals {
-        match build(alloc, filters, goal, room)? {
+        match build(known, goal, room)? {
             Some(part) => parts.push(part)?,
             None => return Ok(None),
         }

@@ -4,6 +4,10 @@
 mod best;
 mod build;
 mod choice;
+mod copies;
+mod entry;
+mod key;
+mod known;
 mod line;
 mod ways;
 

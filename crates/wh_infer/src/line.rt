@@ -7,6 +7,7 @@ ghost use Rattle.wh_order.specs.Claims.{said};
 ghost use Rattle.wh_infer.specs.Lines.{IsFound};
 
 use crate::build::build;
+use crate::known::Known;
 use std::alloc::{AllocError, Global};
 use wh_inference::Inference;
 use wh_order::{Claim, Goal, Side, Tree};
@@ -56,5 +57,6 @@ fn find(
         left: Side::Here(left),
         right: Side::Here(right),
     };
-    build(alloc, filters, &goal, DEEPEST)
+    let mut known = Known::new(alloc, filters)?;
+    build(&mut known, &goal, DEEPEST)
 }

@@ -23,7 +23,7 @@ arrives_below d ps set (at_component {set = from} {part = part} {parts = parts} 
     arrives_below d ps from arrives n (are.partition.within at.0 n (stands.0, (part, at.1, stands.1)))
 arrives_below d ps set (behind_projection {set = from} arrives knot is all rest) n found =
     arrives_below d ps from arrives n ((rest.each n).0 found).0
-arrives_below d ps set (behind_interpretation {set = from} arrives knot none is rest) n found =
+arrives_below d ps set (behind_interpretation {set = from} arrives knot none closed is rest) n found =
     arrives_below d ps from arrives n ((rest.each n).0 found).0
 
 pub arrives_within : (d : SystemData) (ps : List PairData) (set : List ℕ) → Arrives d ps set → All (λ n. n < length ps) set

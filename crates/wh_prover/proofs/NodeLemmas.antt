@@ -1,5 +1,5 @@
 -- A node for a set, from the answers of its parts.
-use Rattle.std.proofs.Common.{◌≡◌, ◌≢◌, ◌↔◌, ℕ, ◌^◌, ◌≤◌, ◌==◌, eqb-true, Bool, true, false, not, inl, Some, None, List, [], ◌∷◌, ◌++◌, length, get_or, IsTrue, All, refl, sym, ap, subst, ◌∙◌, arith}
+use Rattle.std.proofs.Common.{◌≡◌, ◌≢◌, ◌↔◌, ℕ, ◌^◌, ◌≤◌, ◌==◌, eqb-true, Bool, true, false, not, inl, Option, Some, None, List, [], ◌∷◌, ◌++◌, length, get_or, IsTrue, All, refl, sym, ap, subst, ◌∙◌, arith}
 use Rattle.std.proofs.lemmas.List.Elements.{All-nil, All-cons}
 use Rattle.wh_system.specs.Systems.{SystemData}
 use Rattle.wh_system.specs.WellMade.{IsWellMadeSystem}
@@ -10,13 +10,16 @@ use Rattle.wh_subterm.specs.Projections.{Chosen}
 use Rattle.wh_subterm.specs.SubtermRows.{IsProjection}
 use Rattle.wh_find_subterm.specs.Found.{DropsAllBelow}
 use Rattle.wh_cert.specs.Written as w
-use Rattle.wh_reduction.specs.TaskData.{numbers_from}
 use Rattle.wh_reduction.specs.ReductionPair.{Evidence}
 use Rattle.wh_hopoly.specs.Moves.{Transfer}
 use Rattle.wh_usable.proofs.Whole.{all_in_order}
 use Rattle.wh_find_moves.specs.Found.{AreApart}
-use Rattle.wh_guesses.specs.Found.{IsInterpretation}
-use Rattle.wh_prover.specs.Searched.{IsSearched}
+use Rattle.wh_usable.specs.Closed.{IsUsable}
+use Rattle.wh_guesses.specs.Found.{version_with}
+use Rattle.wh_proof.specs.Looked.{covered_rules, poly_task}
+use Rattle.wh_prover.specs.Searched.{AreSearched}
+use Rattle.wh_prover.specs.Versions.{HasFewer, IsMade}
+use Rattle.wh_prover.specs.Interpreted.{IsShortList, Interprets}
 use Rattle.wh_cert.specs.Limits.{NodeFits, NodeWithin}
 use Rattle.wh_proof.specs.Nodes.{done, alone, blocks, subterm, poly, Leaves, by_done, by_alone, by_blocks, by_subterm, by_poly}
 use Rattle.wh_pairs.specs.Sets.{IsSetOf, IsKept}
@@ -61,15 +64,15 @@ alone_same E F set same = (
 -- nodes that leave nothing
 
 adds_nothing : (d : SystemData) (ps : List PairData) (set : List ℕ) (sets : List (List ℕ)) (lines longer : List w.Node) (line : w.Node)
-    → longer ≡ lines ++ line ∷ [] → (goes : GoesOn d ps set line sets sets) → NodeFits line → NodeWithin (2 ^ 32) line → IsSearched d line → goes.left ≡ []
+    → longer ≡ lines ++ line ∷ [] → (goes : GoesOn d ps set line sets sets) → NodeFits line → NodeWithin (2 ^ 32) line → IsMade d line → goes.left ≡ []
     → Adds d ps set sets sets lines longer
-adds_nothing d ps set sets lines longer line joined goes fits within searched nothing = record {
+adds_nothing d ps set sets lines longer line joined goes fits within made nothing = record {
   line = line;
   joined = joined;
   goes = goes;
   fits = fits;
   within = within;
-  searched = searched;
+  made = made;
   arrives = subst (All (Arrives d ps)) (sym nothing) (All-nil (Arrives d ps));
   lighter = omega (arith, weighs_something set, ap weight nothing);
 }
@@ -121,7 +124,7 @@ adds_blocks d ps set parts sets after lines longer few up arrives are parts_up e
       };
       fits = blocks_fit E (length ps) set parts few up below parts_up are;
       within = blocks_within E (length ps) set parts few below parts_up are;
-      searched = tt;
+      made = tt;
       arrives = arrives_apart d ps set parts arrives are parts_up enough;
       lighter = components_lighter E set parts parts_up are enough;
     }
@@ -148,63 +151,85 @@ adds_subterm d ps set drop rest args line sets after lines longer made few end i
       };
       fits = subterm_fits (length ps) set said drop few below is.within fit;
       within = subterm_within d ps (length ps) set said args drop made few below says is;
-      searched = tt;
+      made = tt;
       arrives = All-cons (Arrives d ps) rest [] (behind_projection end.arrives end.knot is all kept) (All-nil (Arrives d ps));
       lighter = omega (arith, rest_lighter set drop rest kept is.some_dropped is.within);
     }
 
 -- a node by interpretations
 
--- it is of the space that is searched
-interpretation_searched : (d : SystemData) (ps : List PairData) (set : List ℕ) (line : w.Node) → IsInterpretation d ps set line → IsSearched d line
-interpretation_searched d ps set (w.interpretations None funs marks rules pairs drop) is = record {
-  readings = is.readings;
-  says = is.says.1;
-  of_space = is.of_space.symbols_of_space;
-  marks_of_space = is.of_space.marks_of_space;
-  rules_apart = subst (λ (E : Evidence (List Transfer)). All AreApart E.of_rules) is.says.2 is.rules_apart;
-  pairs_apart = subst (λ (E : Evidence (List Transfer)). All AreApart E.of_pairs) is.says.2 is.pairs_apart;
-}
-interpretation_searched d ps set (w.interpretations (Some listed) funs marks rules pairs drop) is = let other = is.version in absurd (omega (arith, other))
-interpretation_searched d ps set w.done is = tt
-interpretation_searched d ps set w.alone is = tt
-interpretation_searched d ps set (w.blocks parts) is = tt
-interpretation_searched d ps set (w.subterm lines drop) is = tt
-interpretation_searched d ps set (w.order funs marks rules pairs drop) is = absurd is.says
+-- a list that is closed for the set, or none, which stands for all rules
+list_usable : (d : SystemData) (ps : List PairData) (set : List ℕ) (usable : Option (List ℕ)) → IsShortList d ps set usable
+    → IsUsable (poly_task d ps set usable)
+list_usable d ps set (Some listed) list = list.0
+list_usable d ps set None list =
+    let order = all_in_order (length d.rules) in record { increasing = order.0; are_rules = order.1; closed = inl refl }
+
+fewer_of : (d : SystemData) (ps : List PairData) (set : List ℕ) (usable : Option (List ℕ)) (listed : List ℕ) → IsShortList d ps set usable
+    → 2 ≡ version_with usable → covered_rules usable (length d.rules) ≡ listed → HasFewer d listed
+fewer_of d ps set (Some other) listed list two same = subst (HasFewer d) same list.1
+fewer_of d ps set None listed list two same = absurd (omega (arith, two))
+
+-- it is of the space that is searched, and where it lists rules, these are not all
+interpretation_made : (d : SystemData) (ps : List PairData) (set : List ℕ) (line : w.Node) → Interprets d ps set line → IsMade d line
+interpretation_made d ps set (w.interpretations usable funs marks rules pairs drop) found = by usable found
+  where
+    of_space : (usable : Option (List ℕ)) → Interprets d ps set (w.interpretations usable funs marks rules pairs drop) → AreSearched d funs marks rules pairs
+    of_space usable found = record {
+      readings = found.is.readings;
+      says = found.is.says.1;
+      of_space = found.is.of_space.symbols_of_space;
+      marks_of_space = found.is.of_space.marks_of_space;
+      rules_apart = subst (λ (E : Evidence (List Transfer)). All AreApart E.of_rules) found.is.says.2 found.is.rules_apart;
+      pairs_apart = subst (λ (E : Evidence (List Transfer)). All AreApart E.of_pairs) found.is.says.2 found.is.pairs_apart;
+    }
+
+    by : (usable : Option (List ℕ)) → Interprets d ps set (w.interpretations usable funs marks rules pairs drop)
+        → IsMade d (w.interpretations usable funs marks rules pairs drop)
+    by None found = of_space None found
+    by (Some listed) found =
+        (of_space (Some listed) found, fewer_of d ps set found.usable listed found.list (sym found.is.version) found.is.says.0)
+interpretation_made d ps set w.done found = tt
+interpretation_made d ps set w.alone found = tt
+interpretation_made d ps set (w.blocks parts) found = tt
+interpretation_made d ps set (w.subterm lines drop) found = tt
+interpretation_made d ps set (w.order funs marks rules pairs drop) found = absurd found.is.says
 
 pub adds_interpretation : (d : SystemData) (ps : List PairData) (set rest : List ℕ) (line : w.Node) (sets after : List (List ℕ)) (lines longer : List w.Node)
-    → Ended d ps set → HasNoProjection d.rules ps set → (is : IsInterpretation d ps set line) → IsSetOf (IsKept set is.evidence.drop) rest → after ≡ rest ∷ sets
-    → longer ≡ lines ++ line ∷ [] → Adds d ps set sets after lines longer
-adds_interpretation d ps set rest line sets after lines longer end none is kept after_is joined =
+    → Ended d ps set → HasNoProjection d.rules ps set → (found : Interprets d ps set line) → IsSetOf (IsKept set found.is.evidence.drop) rest
+    → after ≡ rest ∷ sets → longer ≡ lines ++ line ∷ [] → Adds d ps set sets after lines longer
+adds_interpretation d ps set rest line sets after lines longer end none found kept after_is joined =
+    let is = found.is in
     let covering = is.covering in
-    let order = all_in_order (length d.rules) in
+    let closed = list_usable d ps set found.usable found.list in
     record {
       line = line;
       joined = joined;
       goes = record {
-        node = poly (numbers_from 0 (length d.rules)) is.readings is.evidence;
+        node = poly (covered_rules found.usable (length d.rules)) is.readings is.evidence;
         left = rest ∷ [];
         says = is.says;
-        leaves = by_poly covering (record { increasing = order.0; are_rules = order.1; closed = inl refl }) kept;
+        leaves = by_poly covering closed kept;
         small = is.small;
         after_is = after_is;
       };
       fits = is.fits;
       within = is.within;
-      searched = interpretation_searched d ps set line is;
-      arrives = All-cons (Arrives d ps) rest [] (behind_interpretation end.arrives end.knot none covering kept) (All-nil (Arrives d ps));
+      made = interpretation_made d ps set line found;
+      arrives = All-cons (Arrives d ps) rest [] (behind_interpretation end.arrives end.knot none closed covering kept) (All-nil (Arrives d ps));
       lighter = omega (arith, rest_lighter set is.evidence.drop rest kept covering.lines.some_dropped covering.lines.within);
     }
 
 -- the pairs that its line drops are those that it drops
-pub dropped_by_interpretation : (d : SystemData) (ps : List PairData) (set : List ℕ) (line : w.Node) → (is : IsInterpretation d ps set line) → dropped_by line ≡ is.evidence.drop
-dropped_by_interpretation d ps set (w.interpretations usable funs marks rules pairs drop) is =
-    ap (λ (E : Evidence (List Transfer)). E.drop) (sym is.says.2)
-dropped_by_interpretation d ps set w.done is = absurd is.says
-dropped_by_interpretation d ps set w.alone is = absurd is.says
-dropped_by_interpretation d ps set (w.blocks parts) is = absurd is.says
-dropped_by_interpretation d ps set (w.subterm lines drop) is = absurd is.says
-dropped_by_interpretation d ps set (w.order funs marks rules pairs drop) is = absurd is.says
+pub dropped_by_interpretation : (d : SystemData) (ps : List PairData) (set : List ℕ) (line : w.Node) → (found : Interprets d ps set line)
+    → dropped_by line ≡ found.is.evidence.drop
+dropped_by_interpretation d ps set (w.interpretations usable funs marks rules pairs drop) found =
+    ap (λ (E : Evidence (List Transfer)). E.drop) (sym found.is.says.2)
+dropped_by_interpretation d ps set w.done found = absurd found.is.says
+dropped_by_interpretation d ps set w.alone found = absurd found.is.says
+dropped_by_interpretation d ps set (w.blocks parts) found = absurd found.is.says
+dropped_by_interpretation d ps set (w.subterm lines drop) found = absurd found.is.says
+dropped_by_interpretation d ps set (w.order funs marks rules pairs drop) found = absurd found.is.says
 
 -- whether a list is empty, as a test tells it
 

@@ -1,5 +1,5 @@
--- A tree of nodes for the set of all pairs, with ranks, is a proof.
-use Rattle.std.proofs.Common.{◌≡◌, inl, inr, ℕ, ◌≤◌, Some, None, List, [], ◌∷◌, length, All, refl, arith}
+-- A tree of nodes for the set of all pairs, with ranks, is a proof, as a certificate of one version or of the other.
+use Rattle.std.proofs.Common.{◌≡◌, inl, inr, ℕ, ◌^◌, ◌<◌, ◌≤◌, List, [], ◌∷◌, length, map, All, refl, arith}
 use Rattle.std.proofs.lemmas.List.Elements.{All-weaker}
 use Rattle.wh_system.specs.Systems.{SystemData}
 use Rattle.wh_system.specs.WellMade.{IsWellMadeSystem}
@@ -7,10 +7,14 @@ use Rattle.wh_pairs.specs.PairData.{PairData}
 use Rattle.wh_access.specs.Passing.{IsPassing}
 use Rattle.wh_pairs.specs.SystemPairs.{HasPairs}
 use Rattle.wh_cert.specs.Written as w
-use Rattle.wh_cert.specs.Limits.{IsCert, IsOfVersion}
+use Rattle.wh_cert.specs.Limits.{IsCert, IsOfVersion, NodeFits, NodeWithin}
+use Rattle.wh_upgrade.specs.Upgraded.{upgraded_node}
+use Rattle.wh_upgrade.proofs.Texts.{all_upgraded, node_fits, node_within, node_of_two, preorder, map_length}
+use Rattle.wh_upgrade_laws.proofs.SameNodes.{all_new}
 use Rattle.wh_pairs.specs.Sets.{IsWhole}
 use Rattle.wh_prover.specs.Answers.{IsProof, IsReason, IsFull, HasNoLoops, HasNoProof, HasRanks}
 use Rattle.wh_prover.specs.Searched.{IsSearched}
+use Rattle.wh_prover.specs.Versions.{IsMade, IsCertificateOf, first, second}
 use Rattle.wh_prover.specs.Walk.{weigh, IsTree, IsEnd}
 use Rattle.wh_find_loop.specs.Answers.{Arrival}
 use Rattle.wh_prover.specs.declared.answer.Options.{Options}
@@ -18,50 +22,79 @@ use Rattle.wh_prover.specs.declared.answer.Cause.{Cause}
 use Rattle.wh_prover.specs.declared.answer.Cause.TheVariants.{NoRanks, Stuck, Spent, Full}
 use Rattle.wh_prover.specs.declared.answer.Finder.TheVariants.{Subterm, Poly}
 use Rattle.wh_prover.proofs.CountLemmas.{apart_increasing, few_below}
+use Rattle.wh_prover.proofs.VersionLemmas.{made_searched, upgraded_searched, some_needs}
 
 weigh_low : (set : List ℕ) → length set ≤ 4096 → weigh set ≤ 12287
 weigh_low [] few = omega arith
 weigh_low (n ∷ ns) few = omega (arith, few)
 
--- a node of the search is one of the first version
-searched_first : (d : SystemData) (line : w.Node) → IsSearched d line → IsOfVersion 1 line
-searched_first d (w.interpretations None funs marks rules pairs drop) searched = refl
-searched_first d (w.interpretations (Some listed) funs marks rules pairs drop) searched = absurd searched
-searched_first d (w.order funs marks rules pairs drop) searched = absurd searched
-searched_first d w.done searched = tt
-searched_first d w.alone searched = tt
-searched_first d (w.blocks parts) searched = tt
-searched_first d (w.subterm lines drop) searched = tt
-
-tree_fits : (d : SystemData) (ps : List PairData) (ranks : List ℕ) (count : ℕ) (set : List ℕ) (lines : List w.Node) → IsWellMadeSystem d
-    → HasPairs d ps → length ranks ≡ d.symbols.sorts → All (λ r. r ≤ 65535) ranks → count ≡ length ps → IsWhole ps set
-    → IsTree d ps set lines → IsCert (w.yes 1 ranks count lines)
-tree_fits d ps ranks count set lines made pairs each low right whole tree =
+-- there are few nodes
+tree_short : (d : SystemData) (ps : List PairData) (set : List ℕ) (lines : List w.Node) → HasPairs d ps → IsWhole ps set → IsTree d ps set lines
+    → length lines < 2 ^ 32
+tree_short d ps set lines pairs whole tree =
     let few = few_below set (length ps) (apart_increasing set whole.increasing) (λ n found. (whole.each n).0 found) in
     let nodes = weigh_low set (omega (arith, few, pairs.few)) in
+    omega (arith, nodes, tree.few)
+
+-- within the limits of the format, in both versions
+
+first_fits : (d : SystemData) (ps : List PairData) (ranks : List ℕ) (count : ℕ) (set : List ℕ) (lines : List w.Node) → IsWellMadeSystem d
+    → HasPairs d ps → length ranks ≡ d.symbols.sorts → All (λ r. r ≤ 65535) ranks → count ≡ length ps → IsWhole ps set
+    → IsTree d ps set lines → All (IsOfVersion 1) lines → IsCert (w.yes 1 ranks count lines)
+first_fits d ps ranks count set lines made pairs each low right whole tree all_first =
     record {
-      parts = (
-        inl refl,
-        low,
-        omega (arith, right, pairs.few),
-        tree.fit,
-        All-weaker (IsSearched d) (IsOfVersion 1) (searched_first d) lines tree.searched,
-        tree.counted,
-      );
-      counts = (omega (arith, each, made.sorts_within), omega (arith, nodes, tree.few), tree.within);
+      parts = (inl refl, low, omega (arith, right, pairs.few), tree.fit, all_first, tree.counted);
+      counts = (omega (arith, each, made.sorts_within), tree_short d ps set lines pairs whole tree, tree.within);
     }
 
-pub proof_of_tree : (d : SystemData) (ps : List PairData) (ranks : List ℕ) (count : ℕ) (set : List ℕ) (lines : List w.Node) → IsWellMadeSystem d
+second_fits : (d : SystemData) (ps : List PairData) (ranks : List ℕ) (count : ℕ) (set : List ℕ) (lines : List w.Node) → IsWellMadeSystem d
+    → HasPairs d ps → length ranks ≡ d.symbols.sorts → All (λ r. r ≤ 65535) ranks → count ≡ length ps → IsWhole ps set
+    → IsTree d ps set lines → IsCert (w.yes 2 ranks count (map (upgraded_node (length d.rules)) lines))
+second_fits d ps ranks count set lines made pairs each low right whole tree =
+    let rules = length d.rules in
+    let few : rules ≤ 65535 = omega (arith, made.rules_within) in
+    let short = tree_short d ps set lines pairs whole tree in
+    record {
+      parts = (
+        inr refl,
+        low,
+        omega (arith, right, pairs.few),
+        all_upgraded NodeFits NodeFits rules lines (node_fits rules few) tree.fit,
+        all_upgraded (IsMade d) (IsOfVersion 2) rules lines (λ x made. node_of_two rules x) tree.made,
+        preorder rules 1 lines tree.counted,
+      );
+      counts = (
+        omega (arith, each, made.sorts_within),
+        omega (arith, map_length rules lines, short),
+        all_upgraded (NodeWithin (2 ^ 32)) (NodeWithin (2 ^ 32)) rules lines (node_within rules few) tree.within,
+      );
+    }
+
+-- the proof
+
+pub proof_of_tree : (d : SystemData) (ps : List PairData) (ranks : List ℕ) (count : ℕ) (set : List ℕ) (lines : List w.Node) (c : w.Cert) → IsWellMadeSystem d
     → HasPairs d ps → IsPassing d ranks → length ranks ≡ d.symbols.sorts → All (λ r. r ≤ 65535) ranks → count ≡ length ps → IsWhole ps set
-    → IsTree d ps set lines → IsProof d ps (w.yes 1 ranks count lines)
-proof_of_tree d ps ranks count set lines made pairs passing each low right whole tree =
+    → IsTree d ps set lines → IsCertificateOf (length d.rules) ranks count lines c → IsProof d ps c
+proof_of_tree d ps ranks count set lines c made pairs passing each low right whole tree (first all_first) =
     let (nodes, says, proves, small) = tree.proved in
     record {
-      yes = refl;
-      fits = tree_fits d ps ranks count set lines made pairs each low right whole tree;
+      yes = tt;
+      fits = first_fits d ps ranks count set lines made pairs each low right whole tree all_first;
       valid = record { rank_count = each; passing = passing; pair_count = right; set = set; whole = whole; nodes = nodes; says = says; proves = proves };
       small = record { set = set; whole = whole; nodes = nodes; says = says; small = small };
-      searched = tree.searched;
+      searched = All-weaker (IsMade d) (IsSearched d) (made_searched d) lines tree.made;
+      version = inl refl;
+    }
+proof_of_tree d ps ranks count set lines c made pairs passing each low right whole tree (second not_first) =
+    let (nodes, says, proves, small) = tree.proved in
+    let listed = all_new d lines nodes says in
+    record {
+      yes = tt;
+      fits = second_fits d ps ranks count set lines made pairs each low right whole tree;
+      valid = record { rank_count = each; passing = passing; pair_count = right; set = set; whole = whole; nodes = nodes; says = listed; proves = proves };
+      small = record { set = set; whole = whole; nodes = nodes; says = listed; small = small };
+      searched = all_upgraded (IsMade d) (IsSearched d) (length d.rules) lines (upgraded_searched d) tree.made;
+      version = inr (refl, some_needs d lines tree.made not_first);
     }
 
 -- what ended the walk is why there is no proof

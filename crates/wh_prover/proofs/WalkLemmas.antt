@@ -16,7 +16,7 @@ use Rattle.wh_proof.specs.Small.{AreSmall, all_small, one_small}
 use Rattle.wh_pairs.specs.Sets.{IsWhole}
 use Rattle.wh_proof.specs.GoesOn.{AreProvedBy}
 use Rattle.wh_prover.specs.Arriving.{Arrives, at_all}
-use Rattle.wh_prover.specs.Searched.{IsSearched}
+use Rattle.wh_prover.specs.Versions.{IsMade}
 use Rattle.wh_prover.specs.Walk.{weigh, weight, Adds, HasWalked, IsTree}
 use Rattle.wh_prover.proofs.CountLemmas.{weight_append}
 
@@ -76,7 +76,7 @@ walked_first d ps set whole = record {
   arrive = All-cons (Arrives d ps) set [] (at_all whole) (All-nil (Arrives d ps));
   fit = All-nil NodeFits;
   within = All-nil (NodeWithin (2 ^ 32));
-  searched = All-nil (IsSearched d);
+  made = All-nil (IsMade d);
   few = omega arith;
   counted = λ rest counted. counted;
   proved = λ rest proved. proved;
@@ -97,7 +97,7 @@ walked_next d ps whole set sets after lines longer walked adds =
       arrive = subst (All (Arrives d ps)) (sym goes.after_is) (All-append (Arrives d ps) left sets adds.arrives (All-tail (Arrives d ps) set sets walked.arrive));
       fit = subst (All NodeFits) (sym adds.joined) (All-push NodeFits lines line walked.fit adds.fits);
       within = subst (All (NodeWithin (2 ^ 32))) (sym adds.joined) (All-push (NodeWithin (2 ^ 32)) lines line walked.within adds.within);
-      searched = subst (All (IsSearched d)) (sym adds.joined) (All-push (IsSearched d) lines line walked.searched adds.searched);
+      made = subst (All (IsMade d)) (sym adds.joined) (All-push (IsMade d) lines line walked.made adds.made);
       few = omega (arith, long, weighs, walked.few, adds.lighter);
       counted = λ rest counted. subst (Preorder 1) (sym (split rest)) (walked.counted (line ∷ rest) (subst (λ n. Preorder n rest) count counted));
       proved = λ rest (nodes, say, proves, small). subst (AreProvedBy d ps (whole ∷ [])) (sym (split rest)) (walked.proved (line ∷ rest) (
@@ -114,7 +114,7 @@ walked_last d ps whole lines walked =
     record {
       fit = walked.fit;
       within = walked.within;
-      searched = walked.searched;
+      made = walked.made;
       few = omega (arith, walked.few);
       counted = subst (Preorder 1) whole_is (walked.counted [] tt);
       proved = subst (AreProvedBy d ps (whole ∷ [])) whole_is (walked.proved [] ([], tt, all_proved, all_small));

@@ -17,6 +17,7 @@ use Rattle.wh_loops.specs.Found.{IsLoopCertificate}
 use Rattle.wh_find_loop.specs.Answers.{Arrival, arrival, AreVisited, ReachesFewer}
 use Rattle.wh_proof.specs.Valid.{IsValidCert, IsSmallCert}
 use Rattle.wh_prover.specs.Searched.{IsSearched}
+use Rattle.wh_prover.specs.Versions.{IsOfLeastVersion}
 use Rattle.wh_prover.specs.Arriving.{Ended, HasNoProjection}
 use Rattle.wh_prover.specs.declared.answer.Answer.{Answer}
 use Rattle.wh_prover.specs.declared.answer.Answer.TheVariants.{Yes, No, Maybe}
@@ -25,9 +26,9 @@ use Rattle.wh_prover.specs.declared.answer.Cause.{Cause}
 use Rattle.wh_prover.specs.declared.answer.Cause.TheVariants.{NoRanks, Stuck, Spent, Full}
 use Rattle.wh_prover.specs.declared.answer.Finder.TheVariants.{Subterm, Poly}
 
--- a certificate of termination, of the first version
+-- a certificate of termination
 abbrev pub IsYes : Cert → Type 0
-IsYes (yes version ranks pairs lines) = version ≡ 1
+IsYes (yes version ranks pairs lines) = Unit {0}
 IsYes (no t steps at puts) = ⊥
 
 -- each of its nodes of interpretations is of the space that is searched
@@ -42,6 +43,7 @@ pub record IsProof (d : SystemData) (ps : List PairData) (c : Cert) : Type 0 whe
   pub valid : IsValidCert d ps c
   pub small : IsSmallCert d ps c
   pub searched : IsSearchedCert d c
+  pub version : IsOfLeastVersion d c
 
 -- there are ranks under which the system is passing
 abbrev pub HasRanks : SystemData → Type 0

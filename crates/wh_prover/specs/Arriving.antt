@@ -9,11 +9,12 @@ use Rattle.wh_subterm.specs.Projections.{Chosen}
 use Rattle.wh_subterm.specs.SubtermRows.{IsProjection}
 use Rattle.wh_find_subterm.specs.Found.{DropsAllBelow}
 use Rattle.wh_pairs.specs.Sets.{IsSetOf, IsKept, IsWhole}
-use Rattle.wh_reduction.specs.TaskData.{whole_task}
+use Rattle.wh_reduction.specs.TaskData.{task_over}
 use Rattle.wh_reduction.specs.ReductionPair.{Evidence}
 use Rattle.wh_hopoly.specs.Moves.{Transfer}
 use Rattle.wh_polycheck.specs.Readings.{ReadingsData}
 use Rattle.wh_polycheck.specs.Covering.{IsCovering}
+use Rattle.wh_usable.specs.Closed.{IsUsable}
 
 -- the set is one component: each pair of it leads to each other one within it
 abbrev pub IsOneComponent : List RewriteRule → List PairData → List ℕ → Type 0
@@ -39,7 +40,7 @@ HasNoProjection rules pairs set = (args : List Chosen) (drop : List ℕ) → IsP
 
 -- the search comes to the set of all pairs; from a set with several components to each of them; from a knot to what a projection
 -- leaves of it that lets some pair go and drops all pairs that are below; and, where no projection lets one go, to what any
--- interpretation leaves of it (ours)
+-- interpretation leaves of it that covers a list of rules which is closed for it (ours)
 pub data Arrives (d : SystemData) (pairs : List PairData) : List ℕ → Type 0 where
   at_all : {set : List ℕ} → IsWhole pairs set → Arrives d pairs set
   at_component : {set part component : List ℕ} {parts : List (List ℕ)} → Arrives d pairs set
@@ -47,10 +48,11 @@ pub data Arrives (d : SystemData) (pairs : List PairData) : List ℕ → Type 0 
       → 2 ≤ length parts → Contains parts part → IsSetOf (Contains part) component → Arrives d pairs component
   behind_projection : {set drop rest : List ℕ} {args : List Chosen} → Arrives d pairs set → IsKnot d.rules pairs set
       → IsProjection d.rules pairs set args drop → DropsAllBelow pairs set args drop → IsSetOf (IsKept set drop) rest → Arrives d pairs rest
-  behind_interpretation : {set rest : List ℕ} {R : ReadingsData} {E : Evidence (List Transfer)} → Arrives d pairs set
+  behind_interpretation : {set rest listed : List ℕ} {R : ReadingsData} {E : Evidence (List Transfer)} → Arrives d pairs set
       → IsKnot d.rules pairs set
       → HasNoProjection d.rules pairs set
-      → IsCovering (whole_task d.symbols d.rules pairs set) R E → IsSetOf (IsKept set E.drop) rest
+      → IsUsable (task_over d.symbols d.rules pairs set listed)
+      → IsCovering (task_over d.symbols d.rules pairs set listed) R E → IsSetOf (IsKept set E.drop) rest
       → Arrives d pairs rest
 
 -- the search can end on a knot that it comes to (ours)

@@ -1,5 +1,5 @@
 -- Nodes of the space that the search for interpretations looks through.
-use Rattle.std.specs.Prelude.{List, Some, None, All, map}
+use Rattle.std.specs.Prelude.{List, All, map}
 use Rattle.wh_types.specs.Ty.{arguments}
 use Rattle.wh_system.specs.Systems.{SystemData}
 use Rattle.wh_cert.specs.Written as w
@@ -21,10 +21,9 @@ pub record AreSearched (d : SystemData) (funs marks : List Interp) (rules pairs 
   pub rules_apart : All AreApart (map transfers rules)
   pub pairs_apart : All AreApart (map transfers pairs)
 
--- so it is of a node of interpretations that lists no rules; the search gives none that lists some, and none of a path order; of any
--- other nothing is asked
+-- so it is of a node of interpretations, whatever rules it lists; the search gives none of a path order; of any other nothing is
+-- asked
 abbrev pub IsSearched : SystemData → w.Node → Type 0
-IsSearched d (w.interpretations None funs marks rules pairs drop) = AreSearched d funs marks rules pairs
-IsSearched d (w.interpretations (Some listed) funs marks rules pairs drop) = ⊥
+IsSearched d (w.interpretations usable funs marks rules pairs drop) = AreSearched d funs marks rules pairs
 IsSearched d (w.order funs marks rules pairs drop) = ⊥
 IsSearched d _ = Unit {0}

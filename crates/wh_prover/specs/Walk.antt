@@ -19,7 +19,7 @@ use Rattle.wh_subterm.specs.Projections.{Chosen}
 use Rattle.wh_proof.specs.Looked.{SayChoices}
 use Rattle.wh_proof.specs.GoesOn.{GoesOn, AreProvedBy}
 use Rattle.wh_prover.specs.Arriving.{Arrives, Ended, HasNoProjection}
-use Rattle.wh_prover.specs.Searched.{IsSearched}
+use Rattle.wh_prover.specs.Versions.{IsMade}
 use Rattle.wh_prover.specs.declared.answer.Cause.{Cause}
 use Rattle.wh_prover.specs.declared.answer.Cause.TheVariants.{NoRanks, Stuck, Spent, Full}
 use Rattle.wh_prover.specs.declared.answer.Finder.TheVariants.{Subterm, Poly}
@@ -62,7 +62,7 @@ pub record Adds (d : SystemData) (ps : List PairData) (set : List ℕ) (sets aft
   pub goes : GoesOn d ps set line sets after
   pub fits : NodeFits line
   pub within : NodeWithin (2 ^ 32) line
-  pub searched : IsSearched d line
+  pub made : IsMade d line
   pub arrives : All (Arrives d ps) goes.left
   pub lighter : weight goes.left < weigh set
 
@@ -76,7 +76,7 @@ pub record HasWalked (d : SystemData) (ps : List PairData) (set : List ℕ) (set
   pub arrive : All (Arrives d ps) sets
   pub fit : All NodeFits lines
   pub within : All (NodeWithin (2 ^ 32)) lines
-  pub searched : All (IsSearched d) lines
+  pub made : All (IsMade d) lines
   pub few : length lines + weight sets ≤ weigh set
   -- where the rest is one tree for each set, the whole is one tree
   pub counted : (rest : List w.Node) → Preorder (length sets) rest → Preorder 1 (lines ++ rest)
@@ -87,7 +87,7 @@ pub record HasWalked (d : SystemData) (ps : List PairData) (set : List ℕ) (set
 pub record IsTree (d : SystemData) (ps : List PairData) (set : List ℕ) (lines : List w.Node) : Type 0 where
   pub fit : All NodeFits lines
   pub within : All (NodeWithin (2 ^ 32)) lines
-  pub searched : All (IsSearched d) lines
+  pub made : All (IsMade d) lines
   pub few : length lines ≤ weigh set
   pub counted : Preorder 1 lines
   pub proved : AreProvedBy d ps (set ∷ []) lines

@@ -1,36 +1,48 @@
-//! Interpretations that let a pair of a set go: small flat sets by one formula where a climb finds none, all others by the wider search.
+//! Interpretations that let a pair of a set go: by formulas for flat sets where a climb finds none, and by the wider search.
 
-ghost use Rattle.std.specs.Prelude.{◌<◌, ◌≤◌, All, IfOk, IfSome, length};
+ghost use Rattle.std.specs.Prelude.{◌<◌, ◌≤◌, All, IfOk, IfSome, IsTrue, None, Some, length};
 ghost use Rattle.wh_types.specs.Limits.{most_pairs};
 ghost use Rattle.wh_pairs.specs.SystemPairs.{HasPairs};
 ghost use Rattle.wh_pairs.specs.Views.{pairs_data};
 ghost use Rattle.wh_system.specs.SystemView.{system_data};
 ghost use Rattle.wh_cert.specs.Said.{said_node};
+ghost use Rattle.wh_proof.specs.Looked.{poly_task};
 ghost use Rattle.wh_guesses.specs.Found.{IsInterpretation};
-ghost use Rattle.wh_blocking.specs.Answers.{IsAnswer};
+ghost use Rattle.wh_flat.specs.Flat.{IsFlat};
+ghost use Rattle.wh_prover.specs.Interpreted.{Interprets, IsFlatList, IsInterpreted};
 
 use std::alloc::{AllocError, Global};
 use wh_cert::Node;
 use wh_climb::{Climbed, climb};
-use wh_find_flat::find_by_circuit;
+use wh_find_flat::{find_by_circuit, is_flat};
 use wh_find_poly::find_interpretation;
-use wh_flat::flat;
 use wh_pairs::{PairList, PairSet, marked_symbols};
 use wh_reduction::{Task, all_rules};
 use wh_sat::Search;
 use wh_system::System;
+use wh_types::Numbers;
+use wh_usable_rules::usable_rules;
 
-// The formula is made for systems with at most so many symbols: the solver needs long for the formulas of more.
+// The formula over all rules is made for systems with at most so many symbols: the solver needs long for the formulas of more.
 const MOST_SYMBOLS: usize = 16;
 
-// How many times the sides of a rule or pair are evaluated in the climb before the formula.
+// How many times the sides of a rule or pair are evaluated in the climb before the formulas.
 const EVALUATIONS: u64 = 30_000;
 
-/// Interpretations under which no rule and no pair of the set grows and some pair shrinks.
+// The formula over the usable rules is made where these and the pairs of the set are at most so many together.
+const MOST_COVERED: usize = 40;
+
+// The search by the formula over the usable rules is given up with so many learnt clauses: most sets of programs need fewer than a
+// hundred, and the wider search goes on.
+const MOST_LEARNT: u64 = 1_000;
+
+/// Interpretations under which no rule that is to be covered and no pair of the set grows and some pair shrinks.
 ///
-/// A flat set of a system with few symbols is first climbed for, and then put into one formula, which settles it or is given up with
-/// `budget` learnt clauses. A set that is left open, and any other one, goes through `find_interpretation` with the same budget, from
-/// which alone `Spent` comes.
+/// A set is first climbed for where some formula can be made for it. Where its usable rules are not all rules, but few, and it is flat
+/// with them, a formula over these rules comes first; a node that is found by it lists them. A flat set of a system with few symbols is then put into
+/// one formula over all rules, which settles it or is given up with `budget` learnt clauses. A set that is left open, and any other one,
+/// goes through `find_interpretation` with the same budget, from which alone `Spent` comes.
+#[tactic(auto, using(crate::proofs::InterpretedLemmas::without_list, crate::proofs::InterpretedLemmas::found_by_formula, crate::proofs::InterpretedLemmas::none_by_formula, crate::proofs::InterpretedLemmas::by_search_if))]
 pub fn interpretation_of(
     alloc: Global,
     system: &System,
@@ -42,18 +54,124 @@ pub fn interpretation_of(
     requires whole { HasPairs (system_data system.now) (pairs_data pairs.now) }
     requires set { All (λ n. n < length pairs.now) set.now }
     requires some { 1 ≤ length set.now }
-    ensures { IfOk result (IsAnswer (system_data system.now) (pairs_data pairs.now) set.now budget) }
+    ensures { IfOk result (IsInterpreted (system_data system.now) (pairs_data pairs.now) set.now budget) }
 {
-    if system.signature().funs.as_slice().len() <= MOST_SYMBOLS && flat(system, pairs, set) {
+    let usable = flat_list(alloc, system, pairs, set)?;
+    let small = is_small(alloc, system, pairs, set)?;
+    if usable.is_some() || small {
         if let Some(node) = climbed(alloc, system, pairs, set)? {
             return Ok(Search::Found(node));
         }
-        match find_by_circuit(alloc, system, pairs, set, budget)? {
+    }
+    if let Some(node) = by_usable_rules(alloc, system, pairs, set, usable, budget)? {
+        return Ok(Search::Found(node));
+    }
+    if small {
+        match find_by_circuit(alloc, system, pairs, set, None, budget)? {
+            Search::Found(node) => return Ok(Search::Found(node)),
+            Search::Nothing => return Ok(Search::Nothing),
             Search::Spent(_) => {}
-            settled => return Ok(settled),
         }
     }
     find_interpretation(alloc, system, pairs, set, budget)
+}
+
+// The usable rules of the set, where they are not all rules, but few, and the set is flat with them.
+#[tactic(auto, using(crate::proofs::InterpretedLemmas::closed_list, crate::proofs::InterpretedLemmas::flat_list))]
+fn flat_list(
+    alloc: Global,
+    system: &System,
+    pairs: &PairList,
+    set: &PairSet,
+) -> Result<Option<Numbers>, AllocError>
+    requires set { All (λ n. n < length pairs.now) set.now }
+    ensures { IfOk result (IsFlatList (system_data system.now) (pairs_data pairs.now) set.now) }
+{
+    let usable = usable_rules(alloc, system, pairs, set)?;
+    if !is_short(&usable, set) {
+        return Ok(None);
+    }
+    if is_flat(alloc, system, pairs, set, &usable)? {
+        Ok(usable)
+    } else {
+        Ok(None)
+    }
+}
+
+// Whether there is a list, and few rules and pairs are to be covered.
+fn is_short(usable: &Option<Numbers>, set: &PairSet) -> bool {
+    match usable {
+        Some(listed) => {
+            let rules = listed.as_slice().len();
+            rules.saturating_add(set.as_slice().len()) <= MOST_COVERED
+        }
+        None => false,
+    }
+}
+
+// Whether the formula over all rules is made: the set is flat with them, and the system has few symbols.
+#[tactic(auto, using(crate::proofs::InterpretedLemmas::small_if))]
+fn is_small(
+    alloc: Global,
+    system: &System,
+    pairs: &PairList,
+    set: &PairSet,
+) -> Result<bool, AllocError>
+    requires set { All (λ n. n < length pairs.now) set.now }
+    ensures { IfOk result (λ small. IsTrue small → IsFlat (poly_task (system_data system.now) (pairs_data pairs.now) set.now None)) }
+{
+    if system.signature().funs.as_slice().len() > MOST_SYMBOLS {
+        return Ok(false);
+    }
+    is_flat(alloc, system, pairs, set, &None)
+}
+
+// A node that lists these rules, where there is a list and the formula over its rules gives one.
+fn by_usable_rules(
+    alloc: Global,
+    system: &System,
+    pairs: &PairList,
+    set: &PairSet,
+    usable: Option<Numbers>,
+    budget: u64,
+) -> Result<Option<Node>, AllocError>
+    requires few { length pairs.now ≤ most_pairs }
+    requires whole { HasPairs (system_data system.now) (pairs_data pairs.now) }
+    requires set { All (λ n. n < length pairs.now) set.now }
+    requires some { 1 ≤ length set.now }
+    requires usable { IsFlatList (system_data system.now) (pairs_data pairs.now) set.now usable }
+    ensures { IfOk result (λ found. IfSome found (λ node. Interprets (system_data system.now) (pairs_data pairs.now) set.now
+        (said_node node))) }
+{
+    match usable {
+        Some(listed) => by_list(alloc, system, pairs, set, listed, budget),
+        None => Ok(None),
+    }
+}
+
+// A node that lists these rules, where the formula over them gives one.
+#[tactic(auto, using(crate::proofs::InterpretedLemmas::with_list))]
+fn by_list(
+    alloc: Global,
+    system: &System,
+    pairs: &PairList,
+    set: &PairSet,
+    listed: Numbers,
+    budget: u64,
+) -> Result<Option<Node>, AllocError>
+    requires few { length pairs.now ≤ most_pairs }
+    requires whole { HasPairs (system_data system.now) (pairs_data pairs.now) }
+    requires set { All (λ n. n < length pairs.now) set.now }
+    requires some { 1 ≤ length set.now }
+    requires listed { IsFlatList (system_data system.now) (pairs_data pairs.now) set.now (Some listed) }
+    ensures { IfOk result (λ found. IfSome found (λ node. Interprets (system_data system.now) (pairs_data pairs.now) set.now
+        (said_node node))) }
+{
+    let most = budget.min(MOST_LEARNT);
+    match find_by_circuit(alloc, system, pairs, set, Some(listed), most)? {
+        Search::Found(node) => Ok(Some(node)),
+        Search::Nothing | Search::Spent(_) => Ok(None),
+    }
 }
 
 // An interpretation that a climb finds, if it finds one.

@@ -8,6 +8,7 @@ mod lines;
 mod node;
 mod numbers;
 mod search;
+mod version;
 mod walk;
 
 pub use answer::{Answer, Cause, Finder, Options};

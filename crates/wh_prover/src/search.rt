@@ -11,10 +11,11 @@ ghost use Rattle.wh_prover.specs.Answers.{HasNoProof, IsAnswer, IsProof};
 
 use crate::answer::{Answer, Cause, Options};
 use crate::numbers::numbers_of_ranks;
+use crate::version::certificate_of;
 use crate::walk::walk;
 use std::alloc::{AllocError, Global};
 use wh_access::find_ranks;
-use wh_cert::{Certificate, Nodes, YesCertificate};
+use wh_cert::{Certificate, Nodes};
 use wh_find_loop::{LoopSearch, find_loop};
 use wh_graph::Graph;
 use wh_pairs::{PairList, numbers_below};
@@ -93,12 +94,10 @@ fn prove_under(
     if let Some(cause) = walk(alloc, system, pairs, &graph, tries, whole, &mut nodes)? {
         return Ok(Err(cause));
     }
-    Ok(Ok(Certificate::Yes(YesCertificate {
-        version: 1,
-        ranks: numbers_of_ranks(alloc, ranks)?,
-        pairs: count,
-        nodes,
-    })))
+    let rules = system.rules().len() as u32;
+    let listed = numbers_of_ranks(alloc, ranks)?;
+    let certificate = certificate_of(alloc, listed, count, rules, nodes)?;
+    Ok(Ok(Certificate::Yes(certificate)))
 }
 
 // A loop, or why there is neither a proof nor a loop. A search for loops that is full outweighs only that nothing lets a pair go.

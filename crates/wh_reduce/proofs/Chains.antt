@@ -2,16 +2,21 @@
 use Rattle.std.proofs.Common.{◌≡◌, ℕ, suc, ◌+◌, ◌<◌, ◌≤◌, List, [], ◌∷◌, ◌++◌, length, All, refl, ap, sym, ◌∙◌, subst, arith}
 use Rattle.std.proofs.lemmas.List.Elements.{All-nil, All-cons, All-head, All-tail, All-append}
 use Rattle.wh_terms.specs.Tree.{Tm}
-use Rattle.wh_terms.specs.Measures.{Fits}
+use Rattle.wh_terms.specs.Measures.{size, Fits}
 use Rattle.wh_terms.specs.Sight.{LooseBelow, IsTerm}
 use Rattle.wh_terms.specs.Typing.{Symbols}
 use Rattle.wh_terms.specs.Rules.{RewriteRule, AreWellMade}
+use Rattle.wh_terms.specs.declared.path.Step as taken
+use Rattle.wh_step.specs.Replay.{StepAt}
+use Rattle.wh_step.specs.Stepping.{TakesTo, IsPast}
 use Rattle.wh_step.specs.Reduction.{Walk, last_of, Reduction}
 use Rattle.wh_step.proofs.ReplayLemmas.{step_shut, step_term}
-use Rattle.wh_reduce.specs.Leftmost.{Leftmost, IsNormal, LeadsTo}
+use Rattle.wh_reduce.specs.Leftmost.{Leftmost, IsNormal, LeadsTo, StepsFirstBy}
+use Rattle.wh_reduce.specs.Redexes.{NoneLeft}
 use Rattle.wh_reduce.specs.Reducing.{EndsBy, Reduces}
 use Rattle.wh_reduce.specs.declared.reducing.End.{End}
 use Rattle.wh_reduce.specs.declared.reducing.End.TheVariants.{Normal, Spent, TooBig}
+use Rattle.wh_reduce.proofs.LeftLaws.{none_left_root, none_left_of_first, none_left_after}
 use Rattle.wh_reduce.proofs.FirstSteps.{leftmost_step, leftmost_one}
 
 -- no step, and one more
@@ -101,36 +106,50 @@ module _ {rules : List RewriteRule} (S : Symbols) (w : AreWellMade S rules) (ask
 
 -- what holds of the term while steps are taken, and where they end
 
-pub record Stands (rules : List RewriteRule) (t : Tm) (n : ℕ) (u : Tm) : Type 0 where
+pub record Stands (rules : List RewriteRule) (t : Tm) (n : ℕ) (place : List ℕ) (u : Tm) (total : ℕ) : Type 0 where
   pub steps : LeadsTo rules t n u
   pub fits : Fits u
   pub shut : LooseBelow 0 u
   pub plain : IsTerm u
+  pub none_left : NoneLeft rules place u
+  pub sized : total ≡ size u
 
-pub stands_first : (rules : List RewriteRule) (t u : Tm) → u ≡ t → Fits t → LooseBelow 0 t → IsTerm t → Stands rules t 0 u
-stands_first rules t u is fits shut plain = record {
+pub stands_first : (rules : List RewriteRule) (t u : Tm) (place : List ℕ) (total : ℕ) → u ≡ t → Fits t → LooseBelow 0 t → IsTerm t → length place ≡ 0 → total ≡ size t → Stands rules t 0 place u total
+stands_first rules t u place total is fits shut plain root sized = record {
   steps = leads_nowhere rules t u (sym is);
   fits = subst Fits (sym is) fits;
   shut = subst (LooseBelow 0) (sym is) shut;
   plain = subst IsTerm (sym is) plain;
+  none_left = none_left_root rules place u root;
+  sized = sized ∙ ap size (sym is);
 }
 
-pub stands_next : (S : Symbols) (rules : List RewriteRule) → AreWellMade S rules → (t u v : Tm) (n : ℕ) → Stands rules t n u → Leftmost rules u v × Fits v → Stands rules t (n + 1) v
-stands_next S rules w t u v n s ((a, f), fits) = record {
-  steps = leads_on t u v n s.steps (a, f) fits;
-  fits = fits;
-  shut = step_shut S w (record { rule = a.rule; path = a.path }) f.applies s.shut;
-  plain = step_term S w (record { rule = a.rule; path = a.path }) f.applies s.plain;
+-- the step that was found is the first of its term
+leftmost_there : (rules : List RewriteRule) (u v : Tm) (s : taken.Step) → StepsFirstBy rules u s.rule s.path → StepAt rules s.rule s.path u v → Leftmost rules u v
+leftmost_there rules u v s (w, f) step = (record { rule = s.rule; path = s.path }, record { applies = step; first = f.first })
+
+pub stands_next : (S : Symbols) (rules : List RewriteRule) → AreWellMade S rules → (t u v : Tm) (n : ℕ) (place : List ℕ) (total next : ℕ) (s : taken.Step) → Stands rules t n place u total → StepsFirstBy rules u s.rule s.path
+    → TakesTo rules s u v next → Stands rules t (n + 1) s.path v next
+stands_next S rules w t u v n place total next s l first takes = record {
+  steps = leads_on t u v n l.steps (leftmost_there rules u v s first takes.step) takes.fits;
+  fits = takes.fits;
+  shut = step_shut S w s takes.step l.shut;
+  plain = step_term S w s takes.step l.plain;
+  none_left = none_left_after S w s.rule s.path u v takes.step (none_left_of_first S w s.rule s.path u l.shut l.plain first);
+  sized = takes.sized;
 }
 
-pub ends_normal : (rules : List RewriteRule) (t u : Tm) (asked n : ℕ) → Stands rules t n u → n < asked → IsNormal rules u → Reduces rules t asked n u Normal
-ends_normal rules t u asked n s more normal = record { steps = s.steps; within = omega arith; end = normal }
+pub stands_past : (rules : List RewriteRule) (u : Tm) (s : taken.Step) → StepsFirstBy rules u s.rule s.path → IsPast rules s u → (v : Tm) × Leftmost rules u v × (Fits v → ⊥)
+stands_past rules u s first (v, step, big) = (v, leftmost_there rules u v s first step, big)
 
-pub ends_big : (rules : List RewriteRule) (t u : Tm) (asked n : ℕ) → Stands rules t n u → n < asked → ((v : Tm) × Leftmost rules u v × (Fits v → ⊥)) → Reduces rules t asked n u TooBig
-ends_big rules t u asked n s more big = record { steps = s.steps; within = omega arith; end = (more, big) }
+pub ends_normal : (rules : List RewriteRule) (t u : Tm) (asked n : ℕ) (place : List ℕ) (total : ℕ) → Stands rules t n place u total → n < asked → IsNormal rules u → Reduces rules t asked n u Normal
+ends_normal rules t u asked n place total s more normal = record { steps = s.steps; within = omega arith; end = normal }
 
-pub ends_all : (rules : List RewriteRule) (t u v : Tm) (asked n m : ℕ) (e : End) → Stands rules t n u → n ≡ asked → m ≡ asked → v ≡ u → EndsBy rules asked asked u e → Reduces rules t asked m v e
-ends_all rules t u v asked n m e s all is same end = record {
+pub ends_big : (rules : List RewriteRule) (t u : Tm) (asked n : ℕ) (place : List ℕ) (total : ℕ) → Stands rules t n place u total → n < asked → ((v : Tm) × Leftmost rules u v × (Fits v → ⊥)) → Reduces rules t asked n u TooBig
+ends_big rules t u asked n place total s more big = record { steps = s.steps; within = omega arith; end = (more, big) }
+
+pub ends_all : (rules : List RewriteRule) (t u v : Tm) (asked n m : ℕ) (e : End) (place : List ℕ) (total : ℕ) → Stands rules t n place u total → n ≡ asked → m ≡ asked → v ≡ u → EndsBy rules asked asked u e → Reduces rules t asked m v e
+ends_all rules t u v asked n m e place total s all is same end = record {
   steps = subst (λ (x : Tm). LeadsTo rules t m x) (sym same) (subst (λ (k : ℕ). LeadsTo rules t k u) (all ∙ sym is) s.steps);
   within = omega arith;
   end = subst (λ (x : Tm). EndsBy rules asked m x e) (sym same) (subst (λ (k : ℕ). EndsBy rules asked k u e) (sym is) end);

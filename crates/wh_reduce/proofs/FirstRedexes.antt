@@ -5,6 +5,7 @@ use Rattle.std.specs.Prelude.{option_and_then, MatchOption, reverse}
 use Rattle.wh_types.specs.Ty.{Ty}
 use Rattle.wh_terms.specs.Tree.{Tm, lam, app}
 use Rattle.wh_terms.specs.Sight.{IsTerm, LooseBelow}
+use Rattle.wh_terms.specs.declared.path.Step as taken
 use Rattle.wh_terms.specs.Places.{child, part_at, IsPath}
 use Rattle.wh_terms.specs.Typing.{Symbols}
 use Rattle.wh_terms.specs.Rules.{RewriteRule, AreWellMade}
@@ -159,12 +160,17 @@ module _ {rules : List RewriteRule} (S : Symbols) (w : AreWellMade S rules) (t :
   pub normal_if_none : HasNone rules t → IsNormal rules t
   normal_if_none none u step = let (k, path, at) = step-step_at step in none (record { rule = k; path = path }) (redex_of_step (record { rule = k; path = path }) u at)
 
-  pub steps_by_first : LooseBelow 0 t → IsTerm t → (a : Redex) → IsFirst rules t a → StepsFirstBy rules t a.rule a.path
+  steps_by_first : LooseBelow 0 t → IsTerm t → (a : Redex) → IsFirst rules t a → StepsFirstBy rules t a.rule a.path
   steps_by_first shut plain a f =
       let (r, here, (v, steps)) = f.here in (
         put_at a.path v t,
         record { applies = step_there S w a.rule a.path t r v (put_at a.path v t) shut plain here steps refl; first = λ b x step h. f.first b (redex_of_step b x step) h },
       )
+
+  -- the same of a step that the redex is
+  pub steps_first_as : LooseBelow 0 t → IsTerm t → (a : Redex) (s : taken.Step) → IsFirst rules t a → s.rule ≡ a.rule → s.path ≡ a.path → StepsFirstBy rules t s.rule s.path
+  steps_first_as shut plain a s f rule path =
+      subst (λ (p : List ℕ). StepsFirstBy rules t s.rule p) (sym path) (subst (λ (k : Option ℕ). StepsFirstBy rules t k a.path) (sym rule) (steps_by_first shut plain a f))
 
 -- a path to a part is one
 pub path_of_part : (path : List ℕ) (t r : Tm) → part_at path t ≡ Some r → IsPath path

@@ -54,23 +54,5 @@ module _ {rules : List RewriteRule} {t : Tm} (S : Symbols) (w : AreWellMade S ru
   pub reduct_first : (u : Tm) (us : List Tm) → AreReducts rules t us → slice_get us 0 ≡ Some u → Leftmost rules t u
   reduct_first u us are e = head_is_first u are.redexes us are.order are.results (λ b v step. are.all b.rule b.path v step) e
 
--- a step that is taken by a replay of it alone
-
 pub first_has_reduct : {rules : List RewriteRule} {t : Tm} (k : Option ℕ) (path : List ℕ) → StepsFirstBy rules t k path → (v : Tm) × Step rules t v
 first_has_reduct k path (v, f) = (v, step_at-step f.applies)
-
-pub replayed_first : (rules : List RewriteRule) (s : taken.Step) (t u : Tm) → StepsFirstBy rules t s.rule s.path → Replays rules (s ∷ []) t u → Leftmost rules t u × Fits u
-replayed_first rules s t u (w, f) (v, step, fits, same) =
-    ((record { rule = s.rule; path = s.path }, record { applies = subst (StepAt rules s.rule s.path t) same step; first = f.first }), subst Fits same fits)
-
-one_step : (s r : taken.Step) (i : ℕ) → slice_get (s ∷ []) i ≡ Some r → (i ≡ 0) × (s ≡ r)
-one_step s r zero e = (refl, cc)
-one_step s r (suc i) e = absurd (cc)
-
-pub replayed_big : (rules : List RewriteRule) (s : taken.Step) (t : Tm) (i : ℕ) → StepsFirstBy rules t s.rule s.path → TooBigAt rules (s ∷ []) t i → (v : Tm) × Leftmost rules t v × (Fits v → ⊥)
-replayed_big rules s t i (w, f) big =
-    let (zero_is, same) = one_step s big.step i big.here in
-    let here : t ≡ big.term = subst (λ (j : ℕ). Replays rules (take j (s ∷ [])) t big.term) zero_is big.before in
-    let step : StepAt rules s.rule s.path t big.result =
-    subst (λ (u : Tm). StepAt rules s.rule s.path u big.result) (sym here) (subst (λ (r : taken.Step). StepAt rules r.rule r.path big.term big.result) (sym same) big.applies) in
-    (big.result, (record { rule = s.rule; path = s.path }, record { applies = step; first = f.first }), big.big)

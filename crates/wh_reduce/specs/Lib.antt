@@ -1,3 +1,5 @@
 pub mod Leftmost
 pub mod Reducing
 pub mod Redexes
+pub mod Strands
+pub mod Taking

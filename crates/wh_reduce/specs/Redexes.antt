@@ -1,14 +1,10 @@
 -- Redexes of trees with loose variables. Working forms: none of it is told to a caller.
-use Rattle.std.specs.Prelude.{ℕ, ◌≡◌, List, Option, Some, None, reverse}
+use Rattle.std.specs.Prelude.{ℕ, ◌≡◌, ◌<◌, ◌⊎◌, List, [], ◌∷◌, Option, Some, None, reverse}
 use Rattle.wh_terms.specs.Tree.{Tm}
-use Rattle.wh_terms.specs.Measures.{Fits}
-use Rattle.wh_terms.specs.Erase.{tm}
 use Rattle.wh_terms.specs.Places.{part_at}
 use Rattle.wh_terms.specs.Rules.{RewriteRule}
-use Rattle.wh_terms.specs.declared.term.Term.{Term}
 use Rattle.wh_step.specs.Reducts.{Redex, Precedes, IsEarlier}
 use Rattle.wh_step.specs.Roots.{RootStep}
-use Rattle.wh_reduce.specs.Leftmost.{Leftmost}
 use Rattle.wh_reduce.specs.declared.searching.Found.{Found}
 
 -- t steps at its root, by the rule number k, or by beta where there is no number
@@ -36,7 +32,12 @@ pub record IsFirstBy (rules : List RewriteRule) (t : Tm) (k : Option ℕ) : Type
 abbrev pub redex_of : Found → Redex
 redex_of found = record { rule = found.rule; path = reverse found.back.items }
 
--- what a step of t by its first redex leads to: a term that fits, or one that does not
-abbrev pub Next : List RewriteRule → Tm → Option Term → Type 0
-Next rules t (Some next) = Leftmost rules t (tm next) × Fits (tm next)
-Next rules t None = (v : Tm) × Leftmost rules t v × (Fits v → ⊥)
+-- one place is to the left of another: where they part, it turns to the smaller number (ours)
+abbrev pub IsLeftOf : List ℕ → List ℕ → Type 0
+IsLeftOf [] q = ⊥
+IsLeftOf (d ∷ p) [] = ⊥
+IsLeftOf (d ∷ p) (e ∷ q) = (d < e) ⊎ ((d ≡ e) × IsLeftOf p q)
+
+-- t has no redex to the left of the path (ours)
+abbrev pub NoneLeft : List RewriteRule → List ℕ → Tm → Type 0
+NoneLeft rules path t = (a : Redex) → HasRedex rules t a → IsLeftOf a.path path → ⊥

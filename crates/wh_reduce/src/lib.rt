@@ -4,7 +4,10 @@
 mod laws;
 mod redexes;
 mod reducing;
+mod resuming;
 mod searching;
+mod strands;
+mod taking;
 
 pub use laws::{first_reduct_is_leftmost, leftmost_steps_are_reductions, one_end_of_reduction};
 pub use reducing::{End, Reduced, reduce};

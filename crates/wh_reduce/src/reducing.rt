@@ -6,14 +6,13 @@ ghost use Rattle.wh_terms.specs.Sight.{LooseBelow, IsTerm};
 ghost use Rattle.wh_terms.specs.Measures.{Fits};
 ghost use Rattle.wh_terms.specs.Erase.{tm, rewrite_rules};
 ghost use Rattle.wh_terms.specs.Rules.{AreWellMade};
-ghost use Rattle.wh_reduce.specs.Leftmost.{StepsFirstBy};
 ghost use Rattle.wh_reduce.specs.Reducing.{EndsBy, Reduces};
-ghost use Rattle.wh_reduce.specs.Redexes.{Next};
+ghost use Rattle.wh_reduce.specs.Redexes.{NoneLeft};
 
-use crate::searching::first_step;
+use crate::searching::next_step;
+use crate::taking::take_step;
 use std::alloc::{AllocError, Global};
-use wh_step::{StepFault, replay};
-use wh_terms::{Rule, Step, Term, copy_term};
+use wh_terms::{Path, Rule, Term, copy_term, size};
 
 /// Why a reduction ends.
 #[derive(Clone, Copy)]
@@ -37,37 +36,23 @@ pub struct Reduced {
     pub end: End,
 }
 
-// The result of the term's leftmost-outermost step, if it fits.
-fn next_term(
+// Why no step is taken from the term after the last that was asked for.
+fn end_of(
     alloc: Global,
     rules: &[Rule],
-    term: &Term,
-    step: Step,
-) -> Result<Option<Term>, AllocError>
-    requires well_made { (S : Symbols) × AreWellMade S (rewrite_rules rules.now) }
-    requires fits { Fits (tm term.now) }
-    requires shut { LooseBelow 0 (tm term.now) }
-    requires plain { IsTerm (tm term.now) }
-    requires first { StepsFirstBy (rewrite_rules rules.now) (tm term.now) step.rule step.path }
-    ensures { IfOk result (Next (rewrite_rules rules.now) (tm term.now)) }
-{
-    match replay(alloc, rules, term, &[step])? {
-        Ok(next) => Ok(Some(next)),
-        Err(StepFault::TooBig { .. }) => Ok(None),
-        Err(StepFault::Fails { .. }) => unreachable!(),
-    }
-}
-
-// Why no step is taken from the term after the last that was asked for.
-fn end_of(alloc: Global, rules: &[Rule], last: Term, steps: u32) -> Result<Reduced, AllocError>
+    last: Term,
+    place: &[u8],
+    steps: u32,
+) -> Result<Reduced, AllocError>
     requires well_made { (S : Symbols) × AreWellMade S (rewrite_rules rules.now) }
     requires fits { Fits (tm last) }
     requires shut { LooseBelow 0 (tm last) }
     requires plain { IsTerm (tm last) }
+    requires none_left { NoneLeft (rewrite_rules rules.now) place.now (tm last) }
     ensures { IfOk result (λ r. (r.steps ≡ steps) × (tm r.last ≡ tm last)
         × EndsBy (rewrite_rules rules.now) steps steps (tm last) r.end) }
 {
-    let end = match first_step(alloc, rules, &last)? {
+    let end = match next_step(alloc, rules, &last, place)? {
         Some(_) => End::Spent,
         None => End::Normal,
     };
@@ -76,6 +61,9 @@ fn end_of(alloc: Global, rules: &[Rule], last: Term, steps: u32) -> Result<Reduc
 
 /// The term reduced by its leftmost-outermost steps, at most as many as are asked for. A step whose result does not fit
 /// is not taken, and ends the reduction.
+///
+/// The term is copied once, and each step is taken in the copy. The next one is looked for from the place of the last: no
+/// redex is to the left of it, and those above it are looked at first.
 pub fn reduce(alloc: Global, rules: &[Rule], term: &Term, steps: u32) -> Result<Reduced, AllocError>
     requires well_made { (S : Symbols) × AreWellMade S (rewrite_rules rules.now) }
     requires fits { Fits (tm term.now) }
@@ -84,16 +72,18 @@ pub fn reduce(alloc: Global, rules: &[Rule], term: &Term, steps: u32) -> Result<
     ensures { IfOk result (λ r. Reduces (rewrite_rules rules.now) (tm term.now) steps r.steps (tm r.last) r.end) }
 {
     let mut here = copy_term(alloc, term)?;
+    let mut total = size(term);
+    let mut place = Path::new(alloc)?;
     for taken in 0..steps {
-        let Some(step) = first_step(alloc, rules, &here)? else {
+        let Some(step) = next_step(alloc, rules, &here, place.as_slice())? else {
             return Ok(Reduced {
                 steps: taken,
                 last: here,
                 end: End::Normal,
             });
         };
-        match next_term(alloc, rules, &here, step)? {
-            Some(next) => here = next,
+        match take_step(alloc, rules, &mut here, total, &step)? {
+            Some(next) => total = next,
             None => {
                 return Ok(Reduced {
                     steps: taken,
@@ -102,6 +92,7 @@ pub fn reduce(alloc: Global, rules: &[Rule], term: &Term, steps: u32) -> Result<
                 });
             }
         }
+        place = step.path;
     }
-    end_of(alloc, rules, here, steps)
+    end_of(alloc, rules, here, place.as_slice(), steps)
 }

@@ -13,9 +13,10 @@ ghost use Rattle.wh_terms.specs.Erase.{tm, rewrite_rules};
 ghost use Rattle.wh_terms.specs.Rules.{AreWellMade};
 ghost use Rattle.wh_step.specs.Contracta.{IsPlain};
 ghost use Rattle.wh_reduce.specs.Leftmost.{IsNormal, StepsFirstBy};
-ghost use Rattle.wh_reduce.specs.Redexes.{HasNone, IsFirst, redex_of};
+ghost use Rattle.wh_reduce.specs.Redexes.{HasNone, IsFirst, NoneLeft, redex_of};
 
 use crate::redexes::first_at_root;
+use crate::resuming::next_below;
 use std::alloc::{AllocError, Global};
 use wh_terms::{Path, Rule, Step, Term};
 
@@ -28,8 +29,8 @@ pub struct Found {
     pub back: Vec<u8>,
 }
 
-// The redex, seen from one level up.
-fn one_up(found: Option<Found>, step: u8) -> Result<Option<Found>, AllocError>
+/// The redex, seen from one level up.
+pub fn one_up(found: Option<Found>, step: u8) -> Result<Option<Found>, AllocError>
     ensures { IfOk result (λ o. MatchOption found (o ≡ None) (λ f. MatchOption o ⊥
         (λ g. (g.rule ≡ f.rule) × (reverse g.back.items ≡ step ∷ reverse f.back.items)))) }
 {
@@ -42,8 +43,8 @@ fn one_up(found: Option<Found>, step: u8) -> Result<Option<Found>, AllocError>
     }
 }
 
-// The first redex of a part of a term, whose variables may be loose.
-fn first_below(alloc: Global, rules: &[Rule], term: &Term) -> Result<Option<Found>, AllocError>
+/// The first redex of a part of a term, whose variables may be loose.
+pub fn first_below(alloc: Global, rules: &[Rule], term: &Term) -> Result<Option<Found>, AllocError>
     requires well_made { (S : Symbols) × AreWellMade S (rewrite_rules rules.now) }
     requires plain { IsPlain (tm term.now) }
     ensures { IfOk result (λ o. MatchOption o (HasNone (rewrite_rules rules.now) (tm term.now))
@@ -77,6 +78,41 @@ fn path_of(alloc: Global, steps: &[u8]) -> Result<Path, AllocError>
     Ok(path)
 }
 
+// The redex, as a step.
+fn as_step(alloc: Global, found: Found) -> Result<Step, AllocError>
+    requires { IsPath (reverse found.back.items) }
+    ensures { IfOk result (λ s. (s.rule ≡ found.rule) × (s.path ≡ reverse found.back.items)) }
+{
+    let mut found = found;
+    found.back.reverse();
+    let path = path_of(alloc, found.back.as_slice())?;
+    Ok(Step {
+        rule: found.rule,
+        path,
+    })
+}
+
+/// The leftmost-outermost step of a term that has no redex to the left of the place; `None` exactly where it has no reduct.
+pub fn next_step(
+    alloc: Global,
+    rules: &[Rule],
+    term: &Term,
+    place: &[u8],
+) -> Result<Option<Step>, AllocError>
+    requires well_made { (S : Symbols) × AreWellMade S (rewrite_rules rules.now) }
+    requires fits { Fits (tm term.now) }
+    requires shut { LooseBelow 0 (tm term.now) }
+    requires plain { IsTerm (tm term.now) }
+    requires none_left { NoneLeft (rewrite_rules rules.now) place.now (tm term.now) }
+    ensures { IfOk result (λ o. MatchOption o (IsNormal (rewrite_rules rules.now) (tm term.now))
+        (λ s. StepsFirstBy (rewrite_rules rules.now) (tm term.now) s.rule s.path)) }
+{
+    match next_below(alloc, rules, term, place)? {
+        Some(found) => Ok(Some(as_step(alloc, found)?)),
+        None => Ok(None),
+    }
+}
+
 /// The leftmost-outermost step of the term, which leads to the first of its `reducts`; `None` exactly where it has no
 /// reduct.
 pub fn first_step(alloc: Global, rules: &[Rule], term: &Term) -> Result<Option<Step>, AllocError>
@@ -87,15 +123,5 @@ pub fn first_step(alloc: Global, rules: &[Rule], term: &Term) -> Result<Option<S
     ensures { IfOk result (λ o. MatchOption o (IsNormal (rewrite_rules rules.now) (tm term.now))
         (λ s. StepsFirstBy (rewrite_rules rules.now) (tm term.now) s.rule s.path)) }
 {
-    match first_below(alloc, rules, term)? {
-        Some(mut found) => {
-            found.back.reverse();
-            let path = path_of(alloc, found.back.as_slice())?;
-            Ok(Some(Step {
-                rule: found.rule,
-                path,
-            }))
-        }
-        None => Ok(None),
-    }
+    next_step(alloc, rules, term, &[])
 }

@@ -1,49 +1,58 @@
-//! Rows of flat sets: whether a set of one pair is flat, and what one formula for it comes to.
+//! Rows of flat sets: whether a set of one pair is flat, and what one formula for it comes to, where all rules are to be
+//! covered and where only its usable rules are.
 
-ghost use Rattle.std.specs.Prelude.{◌≤◌, IfOk, length};
+ghost use Rattle.std.specs.Prelude.{◌≤◌, ◌<◌, All, IfOk, length};
 ghost use Rattle.wh_types.specs.Limits.{most_pairs};
 ghost use Rattle.wh_system.specs.SystemView.{system_data};
 ghost use Rattle.wh_pairs.specs.SystemPairs.{HasPairs};
 ghost use Rattle.wh_pairs.specs.Views.{pairs_data};
+ghost use Rattle.wh_find_flat.specs.Answers.{IsClosedList};
 
 use std::alloc::{AllocError, Global};
 use std::test::Fail;
 use wh_cert::Node;
-use wh_find_flat::find_by_circuit;
+use wh_find_flat::{find_by_circuit, is_flat};
 use wh_find_pairs::pairs;
-use wh_flat::flat;
 use wh_pairs::{PairList, PairSet};
 use wh_read::{Refused, read_system};
 use wh_sat::Search;
 use wh_system::System;
-use wh_test_samples::{IDENTITY, MAP, QUADRUPLE};
-use wh_types::Or;
+use wh_test_samples::{HALVES, IDENTITY, MAP, QUADRUPLE};
+use wh_types::{Numbers, Or};
+use wh_usable_rules::usable_rules;
 
-/// The answer about pair 0 of the system of a text; want of memory stands for all that has no pairs.
-fn answer(alloc: Global, text: &[u8], budget: u64) -> Result<String, AllocError> {
+/// The answer about pair 0 of the system of a text, where all rules are to be covered or only the usable ones; want of
+/// memory stands for all that has no pairs.
+fn answer(alloc: Global, text: &[u8], all: bool, budget: u64) -> Result<String, AllocError> {
     if text.len() > 1_048_576 {
         return Err(AllocError);
     }
     let outcome = read_system(alloc, text);
-    answer_from(alloc, &outcome, budget)
+    answer_from(alloc, &outcome, all, budget)
 }
 
 /// The same about the system that is read.
 fn answer_from(
     alloc: Global,
     outcome: &Result<System, Or<Refused>>,
+    all: bool,
     budget: u64,
 ) -> Result<String, AllocError> {
     match outcome {
-        Ok(system) => answer_about(alloc, system, budget),
+        Ok(system) => answer_about(alloc, system, all, budget),
         Err(_) => Err(AllocError),
     }
 }
 
 /// The same about the system.
-fn answer_about(alloc: Global, system: &System, budget: u64) -> Result<String, AllocError> {
+fn answer_about(
+    alloc: Global,
+    system: &System,
+    all: bool,
+    budget: u64,
+) -> Result<String, AllocError> {
     let list = pairs_of(alloc, system)?;
-    answer_of_first(alloc, system, &list, budget)
+    answer_of_first(alloc, system, &list, all, budget)
 }
 
 /// The pairs of the system; want of memory stands for too many.
@@ -62,6 +71,7 @@ fn answer_of_first(
     alloc: Global,
     system: &System,
     list: &PairList,
+    all: bool,
     budget: u64,
 ) -> Result<String, AllocError>
     requires pairs { HasPairs (system_data system.now) (pairs_data list.now) }
@@ -72,18 +82,51 @@ fn answer_of_first(
     }
     let mut set = PairSet::new(alloc)?;
     set.push(0)?;
-    if !flat(system, list, &set) {
-        return String::from_str(alloc, "not flat");
+    if all {
+        return answer_over(alloc, system, list, &set, None, budget);
     }
-    told(alloc, find_by_circuit(alloc, system, list, &set, budget)?)
+    match usable_rules(alloc, system, list, &set)? {
+        Some(listed) => answer_over(alloc, system, list, &set, Some(listed), budget),
+        None => String::from_str(alloc, "no list"),
+    }
 }
 
-/// What is found: how many pairs a node drops, or how many clauses were learnt.
+/// The answer about a set where the rules of the list are to be covered, or all rules where there is none.
+fn answer_over(
+    alloc: Global,
+    system: &System,
+    list: &PairList,
+    set: &PairSet,
+    usable: Option<Numbers>,
+    budget: u64,
+) -> Result<String, AllocError>
+    requires pairs { HasPairs (system_data system.now) (pairs_data list.now) }
+    requires few { length list.now ≤ most_pairs }
+    requires set { All (λ n. n < length list.now) set.now }
+    requires some { 1 ≤ length set.now }
+    requires usable { IsClosedList (system_data system.now) (pairs_data list.now) set.now usable }
+{
+    if !is_flat(alloc, system, list, set, &usable)? {
+        return String::from_str(alloc, "not flat");
+    }
+    told(
+        alloc,
+        find_by_circuit(alloc, system, list, set, usable, budget)?,
+    )
+}
+
+/// What is found: how many pairs a node drops and how many rules it lists, or how many clauses were learnt.
 fn told(alloc: Global, found: Search<Node>) -> Result<String, AllocError> {
     match found {
         Search::Found(Node::Poly(node)) => {
             let count = node.drop.as_slice().len();
-            format!(in alloc; "found, {count} dropped")
+            match &node.usable {
+                Some(listed) => {
+                    let rules = listed.as_slice().len();
+                    format!(in alloc; "found, {count} dropped, {rules} rules")
+                }
+                None => format!(in alloc; "found, {count} dropped"),
+            }
         }
         Search::Found(_) => String::from_str(alloc, "found another node"),
         Search::Nothing => String::from_str(alloc, "nothing"),
@@ -95,17 +138,20 @@ fn told(alloc: Global, found: Search<Node>) -> Result<String, AllocError> {
 }
 
 /// Systems and budgets with the answers about pair 0. That the conditions of a node hold is a clause of the call.
-const ANSWERS: &[(&[u8], u64, &str)] = &[
-    (IDENTITY, 10_000, "found, 1 dropped"),
-    (QUADRUPLE, 1_000_000, "nothing"),
-    (MAP, 10_000, "not flat"),
+const ANSWERS: &[(&[u8], bool, u64, &str)] = &[
+    (IDENTITY, true, 10_000, "found, 1 dropped"),
+    (QUADRUPLE, true, 1_000_000, "nothing"),
+    (MAP, true, 10_000, "not flat"),
+    (HALVES, true, 1_000_000, "nothing"),
+    (HALVES, false, 10_000, "found, 1 dropped, 3 rules"),
+    (MAP, false, 10_000, "no list"),
 ];
 
 #[test]
 fn flat_sets_are_settled_by_a_formula(rt: HostRuntime) -> Result<(), Fail> {
     let alloc = rt.alloc();
-    for (system, budget, expected) in ANSWERS {
-        let text = answer(alloc, *system, *budget)?;
+    for (system, all, budget, expected) in ANSWERS {
+        let text = answer(alloc, *system, *all, *budget)?;
         assert_eq!(rt; text.as_str(), *expected);
     }
     Ok(())

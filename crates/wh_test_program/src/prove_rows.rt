@@ -5,7 +5,7 @@ use std::alloc::{AllocError, Global};
 use std::test::Fail;
 use wh_test_runs::{Given, checked, told, writes};
 use wh_test_samples::{
-    APART, BETA, CALLS, DOUBLE, ETA, EVEN_ODD, FOLD, FUNCTION_LIST, IDENTITY, INNER_CALL,
+    APART, BETA, CALLS, DOUBLE, ETA, EVEN_ODD, FOLD, FUNCTION_LIST, HALVES, IDENTITY, INNER_CALL,
     ITERATION, LOOP, MAP, NEIGHBOURS, NO_RULES, ORDINALS, PAIRS, PARTIAL, PRENEX, PROCESSES,
     QUADRUPLE, READ, RECURSOR, SORT, TWICE, TWO_CALLS, UNDER_BINDER, UNTYPED,
 };
@@ -36,6 +36,9 @@ const PROVED: &[&[u8]] = &[
     TWICE,
     APART,
 ];
+
+/// Systems of which it finds a proof that lists usable rules.
+const LISTED: &[&[u8]] = &[HALVES];
 
 /// Systems of which it finds a loop.
 const LOOPS: &[&[u8]] = &[LOOP, PARTIAL, UNDER_BINDER, BETA];
@@ -135,6 +138,8 @@ const SAME_WORDS: &[&[&str]] = &[
 enum Found {
     /// A text that begins with `YES 1` and that a check accepts.
     Proof,
+    /// A text that begins with `YES 2` and that a check accepts.
+    ListedProof,
     /// A text that begins with `NO 1` and that a check accepts.
     Loop,
     /// A line that begins with `MAYBE`.
@@ -161,6 +166,8 @@ fn searched(alloc: Global, words: &[&str], system: &[u8]) -> Result<Found, Alloc
         Ok(Found::None)
     } else if text.starts_with(b"YES 1\n") && writes(alloc, given, 0, b"YES\n")? {
         Ok(Found::Proof)
+    } else if text.starts_with(b"YES 2\n") && writes(alloc, given, 0, b"YES\n")? {
+        Ok(Found::ListedProof)
     } else if text.starts_with(b"NO 1\n") && writes(alloc, given, 0, b"NO\n")? {
         Ok(Found::Loop)
     } else {
@@ -172,6 +179,9 @@ fn searched(alloc: Global, words: &[&str], system: &[u8]) -> Result<Found, Alloc
 fn finds_proofs(rt: HostRuntime) -> Result<(), Fail> {
     for system in PROVED {
         assert!(rt; searched(rt.alloc(), SEARCH, *system)? == Found::Proof);
+    }
+    for system in LISTED {
+        assert!(rt; searched(rt.alloc(), SEARCH, *system)? == Found::ListedProof);
     }
     for words in SAME_WORDS {
         assert!(rt; searched(rt.alloc(), *words, MAP)? == Found::Proof);

@@ -144,6 +144,10 @@ pub const TWICE: &[u8] =
 pub const DOUBLE: &[u8] =
     b"sort n;fun z:n;fun s:n->n;fun add:n->n->n;fun double:n->n;rule {Y:n} add z Y => Y;rule {X:n,Y:n} add (s X) Y => s (add X Y);rule {X:n} double X => add X X;";
 
+/// Logarithms by halves, beside rules that no interpretation of the space covers.
+pub const HALVES: &[u8] =
+    b"sort o;\nfun z : o;\nfun s : o -> o;\nfun h : o -> o;\nfun l : o -> o;\nfun e : o -> o;\nfun c : o -> o -> o;\nrule {X:o} l (s (s X)) => s (l (s (h X)));\nrule {} h z => z;\nrule {} h (s z) => z;\nrule {X:o} h (s (s X)) => s (h X);\nrule {X:o} e X => c (c X X) (c X X);\nrule {X:o,Y:o} c X Y => X;\nrule {X:o,Y:o} c X Y => Y;\n";
+
 /// Where the rules of `c` are covered, the right side of that of `e` is worth four times its argument: more than any
 /// coefficient that is tried.
 pub const QUADRUPLE: &[u8] =

@@ -1,3 +1,3 @@
 mod Copies
 mod SameParts
-mod Texts
+pub mod Texts

@@ -1,5 +1,5 @@
 -- An upgraded certificate is within the limits of the format.
-use Rattle.std.proofs.Common.{◌≡◌, ℕ, zero, suc, ◌+◌, ◌^◌, ◌<◌, ◌≤◌, ◌==◌, List, [], ◌∷◌, length, map, refl, sym, ap, subst, arith, inr}
+use Rattle.std.proofs.Common.{◌≡◌, ℕ, zero, suc, ◌+◌, ◌^◌, ◌<◌, ◌≤◌, ◌==◌, Some, None, List, [], ◌∷◌, length, map, refl, sym, ap, subst, arith, inr}
 use Rattle.std.specs.List.{All}
 use Rattle.std.proofs.lemmas.Bool.{cond_both, eqb-true}
 use Rattle.std.proofs.lemmas.List.Elements.{All-nil, All-cons, All-head, All-tail, All-weaker}
@@ -15,7 +15,7 @@ use Rattle.wh_cert.specs.PolyCounts.{PolysWithin, AllPolysWithin}
 use Rattle.wh_upgrade.specs.Upgraded.{upgraded_node, upgraded}
 
 -- what holds of all nodes, node by node
-all_upgraded : (P Q : Node → Type 0) (rules : ℕ) (xs : List Node) → ((x : Node) → P x → Q (upgraded_node rules x)) → All P xs → All Q (map (upgraded_node rules) xs)
+pub all_upgraded : (P Q : Node → Type 0) (rules : ℕ) (xs : List Node) → ((x : Node) → P x → Q (upgraded_node rules x)) → All P xs → All Q (map (upgraded_node rules) xs)
 all_upgraded P Q rules [] one h = All-nil Q
 all_upgraded P Q rules (x ∷ xs) one h =
     All-cons Q (upgraded_node rules x) (map (upgraded_node rules) xs) (one x (All-head P x xs h)) (all_upgraded P Q rules xs one (All-tail P x xs h))
@@ -26,29 +26,32 @@ small_rules rules few = All-weaker (λ (n : ℕ). n < rules) IsSmall (λ n p. om
 few_rules : (rules : ℕ) → rules ≤ greatest_number → length (numbers_from 0 rules) ≤ 2 ^ 32
 few_rules rules few = omega (arith, numbers_length 0 rules, few)
 
-node_fits : (rules : ℕ) → rules ≤ greatest_number → (x : Node) → NodeFits x → NodeFits (upgraded_node rules x)
-node_fits rules few (interpretations usable funs marks lines pairs drop) f = (small_rules rules few, f.1, f.2, f.3, f.4, f.5)
+pub node_fits : (rules : ℕ) → rules ≤ greatest_number → (x : Node) → NodeFits x → NodeFits (upgraded_node rules x)
+node_fits rules few (interpretations None funs marks lines pairs drop) f = (small_rules rules few, f.1, f.2, f.3, f.4, f.5)
+node_fits rules few (interpretations (Some listed) funs marks lines pairs drop) f = f
 node_fits rules few done f = f
 node_fits rules few alone f = f
 node_fits rules few (blocks parts) f = f
 node_fits rules few (subterm args drop) f = f
 node_fits rules few (order funs marks lines pairs drop) f = f
 
-node_within : (rules : ℕ) → rules ≤ greatest_number → (x : Node) → NodeWithin (2 ^ 32) x → NodeWithin (2 ^ 32) (upgraded_node rules x)
-node_within rules few (interpretations usable funs marks lines pairs drop) f = (few_rules rules few, f.1, f.2, f.3, f.4, f.5, f.6, f.7)
+pub node_within : (rules : ℕ) → rules ≤ greatest_number → (x : Node) → NodeWithin (2 ^ 32) x → NodeWithin (2 ^ 32) (upgraded_node rules x)
+node_within rules few (interpretations None funs marks lines pairs drop) f = (few_rules rules few, f.1, f.2, f.3, f.4, f.5, f.6, f.7)
+node_within rules few (interpretations (Some listed) funs marks lines pairs drop) f = f
 node_within rules few done f = f
 node_within rules few alone f = f
 node_within rules few (blocks parts) f = f
 node_within rules few (subterm args drop) f = f
 node_within rules few (order funs marks lines pairs drop) f = f
 
-node_of_two : (rules : ℕ) (x : Node) → IsOfVersion 1 x → IsOfVersion 2 (upgraded_node rules x)
-node_of_two rules (interpretations usable funs marks lines pairs drop) f = refl
-node_of_two rules done f = tt
-node_of_two rules alone f = tt
-node_of_two rules (blocks parts) f = tt
-node_of_two rules (subterm args drop) f = tt
-node_of_two rules (order funs marks lines pairs drop) f = refl
+pub node_of_two : (rules : ℕ) (x : Node) → IsOfVersion 2 (upgraded_node rules x)
+node_of_two rules (interpretations None funs marks lines pairs drop) = refl
+node_of_two rules (interpretations (Some listed) funs marks lines pairs drop) = refl
+node_of_two rules done = tt
+node_of_two rules alone = tt
+node_of_two rules (blocks parts) = tt
+node_of_two rules (subterm args drop) = tt
+node_of_two rules (order funs marks lines pairs drop) = refl
 
 same_children : (rules : ℕ) (x : Node) → children (upgraded_node rules x) ≡ children x
 same_children rules (interpretations usable funs marks lines pairs drop) = refl
@@ -58,14 +61,14 @@ same_children rules (blocks parts) = refl
 same_children rules (subterm args drop) = refl
 same_children rules (order funs marks lines pairs drop) = refl
 
-preorder : (rules k : ℕ) (xs : List Node) → Preorder k xs → Preorder k (map (upgraded_node rules) xs)
+pub preorder : (rules k : ℕ) (xs : List Node) → Preorder k xs → Preorder k (map (upgraded_node rules) xs)
 preorder rules zero [] h = h
 preorder rules zero (x ∷ xs) h = absurd h
 preorder rules (suc k) [] h = absurd h
 preorder rules (suc k) (x ∷ xs) h =
     subst (λ (c : ℕ). Preorder (c + k) (map (upgraded_node rules) xs)) (sym (same_children rules x)) (preorder rules (children x + k) xs h)
 
-map_length : (rules : ℕ) (xs : List Node) → length (map (upgraded_node rules) xs) ≡ length xs
+pub map_length : (rules : ℕ) (xs : List Node) → length (map (upgraded_node rules) xs) ≡ length xs
 map_length rules [] = refl
 map_length rules (x ∷ xs) = ap suc (map_length rules xs)
 
@@ -76,7 +79,7 @@ yes_upgraded rules ranks pairs nodes few c = record {
     c.parts.1,
     c.parts.2,
     all_upgraded NodeFits NodeFits rules nodes (node_fits rules few) c.parts.3,
-    all_upgraded (IsOfVersion 1) (IsOfVersion 2) rules nodes (node_of_two rules) c.parts.4,
+    all_upgraded (IsOfVersion 1) (IsOfVersion 2) rules nodes (λ x f. node_of_two rules x) c.parts.4,
     preorder rules 1 nodes c.parts.5,
   );
   counts = (

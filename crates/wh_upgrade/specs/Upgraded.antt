@@ -1,5 +1,5 @@
 -- What a certificate of version 1 is in version 2 (ours).
-use Rattle.std.specs.Prelude.{ℕ, ◌==◌, cond, List, map, Option, Some}
+use Rattle.std.specs.Prelude.{ℕ, ◌==◌, cond, List, map, Option, Some, None}
 use Rattle.wh_reduction.specs.TaskData.{numbers_from}
 use Rattle.wh_cert.specs.Written.{Node, interpretations, Cert, yes, no}
 
@@ -8,9 +8,16 @@ abbrev pub relisted : Option (List ℕ) → Node → Node
 relisted usable (interpretations old funs marks rules pairs drop) = interpretations usable funs marks rules pairs drop
 relisted usable x = x
 
--- a node for a system with so many rules, as one of version 2: one of interpretations lists all of them
+-- the rules that a node of interpretations lists, or all of so many where it lists none
+abbrev pub listed_or_all : ℕ → Option (List ℕ) → Option (List ℕ)
+listed_or_all rules (Some listed) = Some listed
+listed_or_all rules None = Some (numbers_from 0 rules)
+
+-- a node for a system with so many rules, as one of version 2: one of interpretations that lists no rules lists all of them
 abbrev pub upgraded_node : ℕ → Node → Node
-upgraded_node rules x = relisted (Some (numbers_from 0 rules)) x
+upgraded_node rules (interpretations usable funs marks lines pairs drop) =
+    interpretations (listed_or_all rules usable) funs marks lines pairs drop
+upgraded_node rules x = x
 
 -- a certificate for such a system: a YES certificate of version 1 as one of version 2, any other as it is
 abbrev pub upgraded : ℕ → Cert → Cert

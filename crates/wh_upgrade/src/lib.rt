@@ -9,4 +9,4 @@ mod terms;
 mod upgrading;
 
 pub use laws::{upgraded_has_text, upgraded_is_short};
-pub use upgrading::upgrade;
+pub use upgrading::{upgrade, upgrade_nodes};

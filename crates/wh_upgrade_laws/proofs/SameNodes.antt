@@ -19,49 +19,47 @@ Upgraded d x = upgraded_node (length d.rules) x
 
 -- a node
 
-says_new : (d : SystemData) (x : w.Node) (node : Node) → IsOfVersion 1 x → SaysNode d x node → SaysNode d (Upgraded d x) node
-says_new d (w.interpretations None funs marks rules pairs drop) (poly covered R E) v s = s
-says_new d (w.interpretations None funs marks rules pairs drop) done v s = s
-says_new d (w.interpretations None funs marks rules pairs drop) alone v s = s
-says_new d (w.interpretations None funs marks rules pairs drop) (blocks parts) v s = s
-says_new d (w.interpretations None funs marks rules pairs drop) (subterm args drop2) v s = s
-says_new d (w.interpretations None funs marks rules pairs drop) (order D E) v s = s
-says_new d (w.interpretations (Some ns) funs marks rules pairs drop) node v s = absurd (omega (arith, v))
-says_new d w.done node v s = s
-says_new d w.alone node v s = s
-says_new d (w.blocks parts) node v s = s
-says_new d (w.subterm args drop) node v s = s
-says_new d (w.order funs marks rules pairs drop) node v s = s
+pub says_new : (d : SystemData) (x : w.Node) (node : Node) → SaysNode d x node → SaysNode d (Upgraded d x) node
+says_new d (w.interpretations None funs marks rules pairs drop) (poly covered R E) s = s
+says_new d (w.interpretations None funs marks rules pairs drop) done s = s
+says_new d (w.interpretations None funs marks rules pairs drop) alone s = s
+says_new d (w.interpretations None funs marks rules pairs drop) (blocks parts) s = s
+says_new d (w.interpretations None funs marks rules pairs drop) (subterm args drop2) s = s
+says_new d (w.interpretations None funs marks rules pairs drop) (order D E) s = s
+says_new d (w.interpretations (Some ns) funs marks rules pairs drop) node s = s
+says_new d w.done node s = s
+says_new d w.alone node s = s
+says_new d (w.blocks parts) node s = s
+says_new d (w.subterm args drop) node s = s
+says_new d (w.order funs marks rules pairs drop) node s = s
 
-says_old : (d : SystemData) (x : w.Node) (node : Node) → IsOfVersion 1 x → SaysNode d (Upgraded d x) node → SaysNode d x node
-says_old d (w.interpretations None funs marks rules pairs drop) (poly covered R E) v s = s
-says_old d (w.interpretations None funs marks rules pairs drop) done v s = s
-says_old d (w.interpretations None funs marks rules pairs drop) alone v s = s
-says_old d (w.interpretations None funs marks rules pairs drop) (blocks parts) v s = s
-says_old d (w.interpretations None funs marks rules pairs drop) (subterm args drop2) v s = s
-says_old d (w.interpretations None funs marks rules pairs drop) (order D E) v s = s
-says_old d (w.interpretations (Some ns) funs marks rules pairs drop) node v s = absurd (omega (arith, v))
-says_old d w.done node v s = s
-says_old d w.alone node v s = s
-says_old d (w.blocks parts) node v s = s
-says_old d (w.subterm args drop) node v s = s
-says_old d (w.order funs marks rules pairs drop) node v s = s
+says_old : (d : SystemData) (x : w.Node) (node : Node) → SaysNode d (Upgraded d x) node → SaysNode d x node
+says_old d (w.interpretations None funs marks rules pairs drop) (poly covered R E) s = s
+says_old d (w.interpretations None funs marks rules pairs drop) done s = s
+says_old d (w.interpretations None funs marks rules pairs drop) alone s = s
+says_old d (w.interpretations None funs marks rules pairs drop) (blocks parts) s = s
+says_old d (w.interpretations None funs marks rules pairs drop) (subterm args drop2) s = s
+says_old d (w.interpretations None funs marks rules pairs drop) (order D E) s = s
+says_old d (w.interpretations (Some ns) funs marks rules pairs drop) node s = s
+says_old d w.done node s = s
+says_old d w.alone node s = s
+says_old d (w.blocks parts) node s = s
+says_old d (w.subterm args drop) node s = s
+says_old d (w.order funs marks rules pairs drop) node s = s
 
 -- nodes, one after another
 
-all_new : (d : SystemData) (xs : List w.Node) (nodes : List Node) → All (IsOfVersion 1) xs → SayNodes d xs nodes → SayNodes d (map (Upgraded d) xs) nodes
-all_new d [] [] v s = s
-all_new d [] (node ∷ nodes) v s = absurd s
-all_new d (x ∷ xs) [] v s = absurd s
-all_new d (x ∷ xs) (node ∷ nodes) v s =
-    (says_new d x node (All-head (IsOfVersion 1) x xs v) s.0, all_new d xs nodes (All-tail (IsOfVersion 1) x xs v) s.1)
+pub all_new : (d : SystemData) (xs : List w.Node) (nodes : List Node) → SayNodes d xs nodes → SayNodes d (map (Upgraded d) xs) nodes
+all_new d [] [] s = s
+all_new d [] (node ∷ nodes) s = absurd s
+all_new d (x ∷ xs) [] s = absurd s
+all_new d (x ∷ xs) (node ∷ nodes) s = (says_new d x node s.0, all_new d xs nodes s.1)
 
-all_old : (d : SystemData) (xs : List w.Node) (nodes : List Node) → All (IsOfVersion 1) xs → SayNodes d (map (Upgraded d) xs) nodes → SayNodes d xs nodes
-all_old d [] [] v s = s
-all_old d [] (node ∷ nodes) v s = absurd s
-all_old d (x ∷ xs) [] v s = absurd s
-all_old d (x ∷ xs) (node ∷ nodes) v s =
-    (says_old d x node (All-head (IsOfVersion 1) x xs v) s.0, all_old d xs nodes (All-tail (IsOfVersion 1) x xs v) s.1)
+all_old : (d : SystemData) (xs : List w.Node) (nodes : List Node) → SayNodes d (map (Upgraded d) xs) nodes → SayNodes d xs nodes
+all_old d [] [] s = s
+all_old d [] (node ∷ nodes) s = absurd s
+all_old d (x ∷ xs) [] s = absurd s
+all_old d (x ∷ xs) (node ∷ nodes) s = (says_old d x node s.0, all_old d xs nodes s.1)
 
 -- certificates
 
@@ -86,17 +84,12 @@ small_again d ps xs ys same v = record {
   small = v.small;
 }
 
--- the nodes of a certificate of version 1
-of_one : (version : ℕ) (ranks : List ℕ) (pairs : ℕ) (xs : List w.Node) → IsCert (yes version ranks pairs xs) → version ≡ 1 → All (IsOfVersion 1) xs
-of_one version ranks pairs xs fits e = subst (λ (v : ℕ). All (IsOfVersion v) xs) e fits.parts.4
-
 pub as_valid : (d : SystemData) (ps : List PairData) (c : Cert) → IsCert c → (IsValidCert d ps (upgraded (length d.rules) c) ↔ IsValidCert d ps c)
 as_valid d ps (no t steps at puts) fits = ((λ v. v), (λ v. v))
 as_valid d ps (yes version ranks pairs xs) fits =
     let c : Cert = yes version ranks pairs xs in
     cond_both (version == 1) (yes 2 ranks pairs (map (Upgraded d) xs)) c (λ (u : Cert). IsValidCert d ps u ↔ IsValidCert d ps c)
-    (λ e. let v = of_one version ranks pairs xs fits (eqb-true version 1 e) in
-    ((λ h. valid_again d ps ranks pairs (map (Upgraded d) xs) xs (λ nodes s. all_old d xs nodes v s) h), (λ h. valid_again d ps ranks pairs xs (map (Upgraded d) xs) (λ nodes s. all_new d xs nodes v s) h)))
+    (λ e. ((λ h. valid_again d ps ranks pairs (map (Upgraded d) xs) xs (all_old d xs) h), (λ h. valid_again d ps ranks pairs xs (map (Upgraded d) xs) (all_new d xs) h)))
     (λ e. ((λ h. h), (λ h. h)))
 
 pub as_small : (d : SystemData) (ps : List PairData) (c : Cert) → IsCert c → (IsSmallCert d ps (upgraded (length d.rules) c) ↔ IsSmallCert d ps c)
@@ -104,6 +97,5 @@ as_small d ps (no t steps at puts) fits = ((λ v. v), (λ v. v))
 as_small d ps (yes version ranks pairs xs) fits =
     let c : Cert = yes version ranks pairs xs in
     cond_both (version == 1) (yes 2 ranks pairs (map (Upgraded d) xs)) c (λ (u : Cert). IsSmallCert d ps u ↔ IsSmallCert d ps c)
-    (λ e. let v = of_one version ranks pairs xs fits (eqb-true version 1 e) in
-    ((λ h. small_again d ps (map (Upgraded d) xs) xs (λ nodes s. all_old d xs nodes v s) h), (λ h. small_again d ps xs (map (Upgraded d) xs) (λ nodes s. all_new d xs nodes v s) h)))
+    (λ e. ((λ h. small_again d ps (map (Upgraded d) xs) xs (all_old d xs) h), (λ h. small_again d ps xs (map (Upgraded d) xs) (all_new d xs) h)))
     (λ e. ((λ h. h), (λ h. h)))

@@ -3,7 +3,7 @@ use Rattle.std.specs.Global.{Vec}
 use Rattle.wh_reduction.specs.TaskView.{task_data}
 use Rattle.wh_guesses.specs.Coefficients.{HaveCoefficients}
 use Rattle.wh_guesses.specs.Tasks.{guess_data}
-use Rattle.wh_guesses.specs.Weighing.{Weighs}
+use Rattle.wh_guesses.specs.Weighing.{WeighsOver}
 use Rattle.wh_blocking.specs.Sizes.{lists_of, value_of}
 use Rattle.wh_find_flat.proofs.Ended.{never_fails}
 use Rattle.wh_find_flat.proofs.find.node_by.Goals as goal
@@ -20,4 +20,4 @@ unreachable-requires c =
     subst (λ (l : List (Vec ℕ)). HaveCoefficients (task_data t) (map (λ l. l.items) l) (guess_data g))
     c.deref-2.ensures.value c.in_ok-guess.ensures.lists in
     never_fails t c.args.marked.now c.args.bits.now.sizes.items c.requires.sizes values made g c.in-Failing.field-0 c.requires.lets_go lists
-    c.in_ok-guess.ensures.guess c.in_ok-guess.ensures.marks has (subst (Weighs t (guess_data g)) c.in-Failing.is c.in_ok-node.ensures)
+    c.in_ok-guess.ensures.guess c.in_ok-guess.ensures.marks has (subst (WeighsOver t c.args.usable (guess_data g)) c.in-Failing.is c.in_ok-node.ensures)

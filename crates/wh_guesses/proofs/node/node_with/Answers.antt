@@ -1,4 +1,4 @@
-use Rattle.std.proofs.Common.{◌≡◌, ◌≤◌, ℕ, List, length, map, Some, slice_get, refl, sym, subst, ◌∙◌, arith}
+use Rattle.std.proofs.Common.{◌≡◌, ◌≤◌, ℕ, List, Option, length, map, Some, slice_get, refl, sym, subst, ◌∙◌, arith}
 use Rattle.std.proofs.lemmas.List.{length-map}
 use Rattle.wh_system.specs.SystemView.{system_data}
 use Rattle.wh_pairs.specs.PairData.{pair_data}
@@ -12,8 +12,9 @@ use Rattle.wh_cert.specs.Said.{said_interp, said_poly}
 use Rattle.wh_cert.specs.declared.poly_node.Interp.{Interp}
 use Rattle.wh_cert.specs.declared.poly_node.PolyNode.{PolyNode}
 use Rattle.wh_proof.proofs.InterpretationLemmas.{symbols_read, marks_read}
-use Rattle.wh_guesses.specs.Found.{IsInterpretation}
-use Rattle.wh_guesses.proofs.NodeLemmas.{AreAllLines, whole_is, interpretation_found}
+use Rattle.wh_usable.specs.Closed.{IsUsable}
+use Rattle.wh_guesses.specs.Found.{IsInterpretationOver}
+use Rattle.wh_guesses.proofs.NodeLemmas.{AreAllLines, listing_is, interpretation_found}
 use Rattle.wh_guesses.proofs.node.node_with.Goals as goal
 
 pub returns : goal.returns
@@ -33,12 +34,14 @@ returns c =
     let polynomials = c.in_ok-marks.ensures.polynomials in
     let says_marks = marks_read d lines (map (λ (m : MarkedSymbol). m.symbol) marks) marks (map-map (λ n. slice_get d.fun_names n) (λ (m : MarkedSymbol). m.symbol) marks ∙ named) refl polynomials in
     let are : AreAllLines T R c.args.rules c.args.found.lines c.args.found.drop = record {
-      task = c.requires.task.typed.task;
+      task = c.requires.task.task;
       of_space = c.requires.readings;
       rule_lines = c.requires.rules;
       pair_lines = c.requires.pairs;
     } in
-    let whole = subst (λ (T : TaskData). AreAllLines T R c.args.rules c.args.found.lines c.args.found.drop) (whole_is t c.requires.task.whole) are in
-    subst (λ (x : PolyNode). IsInterpretation d T.pairs T.set (said_poly x)) (sym c.in_ok-new.ensures.ok)
-    (interpretation_found d T.pairs T.set R (map said_interp funs) (map said_interp lines) c.args.rules c.args.found.lines c.args.found.drop
-    c.is_well_made.ensures few whole c.requires.some says says_marks)
+    let usable : Option (List ℕ) = c.args.usable in
+    let same = listing_is t usable c.requires.usable in
+    let lists = subst (λ (T : TaskData). AreAllLines T R c.args.rules c.args.found.lines c.args.found.drop) same are in
+    subst (λ (x : PolyNode). IsInterpretationOver d T.pairs T.set usable (said_poly x)) (sym c.in_ok-new.ensures.ok)
+    (interpretation_found d T.pairs T.set usable R (map said_interp funs) (map said_interp lines) c.args.rules c.args.found.lines c.args.found.drop
+    c.is_well_made.ensures few lists (subst IsUsable same c.requires.usable.closed) c.requires.some says says_marks)

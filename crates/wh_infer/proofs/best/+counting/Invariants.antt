@@ -1,5 +1,6 @@
-use Rattle.std.proofs.Common.{◌+◌, ◌*◌, ◌≤◌, length, drop, Some}
+use Rattle.std.proofs.Common.{◌≡◌, ◌+◌, ◌*◌, ◌≤◌, length, drop, Some}
 use Rattle.wh_ordering.specs.FilteringView.{filtering_data}
+use Rattle.wh_infer.specs.Least.{NotRefuted}
 use Rattle.wh_infer.specs.Bests.{IsBestOf, IsLeastTotal}
 use Rattle.wh_infer.proofs.BestLemmas.{ByLetters, ByPlaces}
 use Rattle.wh_infer.proofs.best.+counting.Given as goal
@@ -20,13 +21,17 @@ abbrev pub decreases-least : goal.decreases-least
 decreases-least l = 5 * l.room + 3
 
 abbrev pub invariant-best-loop-number : goal.invariant-best-loop-number
-invariant-best-loop-number l = IsBestOf (ByLetters l.number) (filtering_data l.filters) l.room l.goal l.found
+invariant-best-loop-number l =
+    (l.known.filters ≡ l.fn.known.filters) × NotRefuted (IsBestOf (ByLetters l.number) (filtering_data l.fn.known.filters.now) l.room l.goal l.found)
 
 abbrev pub invariant-best_by-loop-place : goal.invariant-best_by-loop-place
-invariant-best_by-loop-place l = IsBestOf (ByPlaces l.letter l.place) (filtering_data l.filters) l.room l.goal l.found
+invariant-best_by-loop-place l =
+    (l.known.filters ≡ l.fn.known.filters) × NotRefuted (IsBestOf (ByPlaces l.letter l.place) (filtering_data l.fn.known.filters.now) l.room l.goal l.found)
 
 abbrev pub invariant-total-loop-left : goal.invariant-total-loop-left
-invariant-total-loop-left l = (l.left ≤ length l.goals) × IsLeastTotal (filtering_data l.filters) l.room (drop l.left l.goals) (Some l.entries)
+invariant-total-loop-left l =
+    (l.known.filters ≡ l.fn.known.filters) × (l.left ≤ length l.goals)
+    × NotRefuted (IsLeastTotal (filtering_data l.fn.known.filters.now) l.room (drop l.left l.goals) (Some l.entries))
 
 abbrev pub decreases-total-loop-left : goal.decreases-total-loop-left
 decreases-total-loop-left l = l.left

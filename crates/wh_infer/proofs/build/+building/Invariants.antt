@@ -1,4 +1,4 @@
-use Rattle.std.proofs.Common.{◌+◌, ◌*◌, take}
+use Rattle.std.proofs.Common.{◌≡◌, ◌+◌, ◌*◌, take}
 use Rattle.wh_ordering.specs.FilteringView.{filtering_data}
 use Rattle.wh_infer.proofs.BuildLemmas.{EachLeast}
 use Rattle.wh_infer.proofs.build.+building.Given as goal
@@ -13,4 +13,5 @@ abbrev pub decreases-build_each : goal.decreases-build_each
 decreases-build_each l = 3 * l.room + 2
 
 abbrev pub invariant-build_each-loop-goal : goal.invariant-build_each-loop-goal
-invariant-build_each-loop-goal l = EachLeast (filtering_data l.filters) l.room (take l.goal-index l.goals) l.parts
+invariant-build_each-loop-goal l =
+    (l.known.filters ≡ l.fn.known.filters) × EachLeast (filtering_data l.fn.known.filters.now) l.room (take l.goal-index l.goals) l.parts

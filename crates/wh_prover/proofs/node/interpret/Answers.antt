@@ -5,8 +5,7 @@ use Rattle.wh_pairs.specs.PairData.{pair_data}
 use Rattle.wh_pairs.specs.Views.{pairs_data}
 use Rattle.wh_cert.specs.Said.{said_node}
 use Rattle.wh_pairs.specs.Sets.{IsKept, IsSetOf}
-use Rattle.wh_guesses.specs.Found.{IsInterpretation}
-use Rattle.wh_blocking.specs.Answers.{IsAnswer}
+use Rattle.wh_prover.specs.Interpreted.{Interprets, IsInterpreted}
 use Rattle.wh_prover.proofs.ArriveLemmas.{arrives_within}
 use Rattle.wh_prover.proofs.NodeLemmas.{adds_interpretation, dropped_by_interpretation, some_of}
 use Rattle.wh_prover.proofs.WalkLemmas.{reverse_push, said_push}
@@ -27,11 +26,11 @@ returns-in_ok-push-in-Found-2 c =
     let line = said_node node in
     let stack = c.args.stack.now.items in
     let rest = c.in_ok-kept-in-Found.field-0 in
-    let is : IsInterpretation d ps set line = subst (IsAnswer d ps set c.args.tries) c.in-Found.is c.in_ok-node.ensures in
-    let drops : c.dropped_by.result.now ≡ is.evidence.drop = c.dropped_by.ensures ∙ dropped_by_interpretation d ps set line is in
+    let found : Interprets d ps set line = subst (IsInterpreted d ps set c.args.tries) c.in-Found.is c.in_ok-node.ensures in
+    let drops : c.dropped_by.result.now ≡ found.is.evidence.drop = c.dropped_by.ensures ∙ dropped_by_interpretation d ps set line found in
     let kept = subst (λ (s : List ℕ). IsSetOf (IsKept set s) rest) drops c.in_ok-kept-in-Found.ensures in
     adds_interpretation d ps set rest line (reverse stack) (reverse c.push.new.self.items) (map said_node c.args.nodes.now) (map said_node c.push-in-Found.new.self)
-    c.requires.ended c.requires.none is kept
+    c.requires.ended c.requires.none found kept
     (ap reverse c.in_ok-push-in-Found.ensures.items ∙ reverse_push stack rest)
     (said_push c.args.nodes.now c.push-in-Found.new.self node c.in_ok-push-in-Found-2.ensures.ok)
 

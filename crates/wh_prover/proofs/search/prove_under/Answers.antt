@@ -1,14 +1,15 @@
 use Rattle.std.proofs.Common.{◌≡◌, ◌<◌, ℕ, List, length, map, sym, ap, subst, ◌∙◌}
 use Rattle.std.proofs.lemmas.List.{length-map}
 use Rattle.std.proofs.lemmas.Option.{MatchOption-at_none}
+use Rattle.wh_terms.specs.Rules.{RewriteRule}
+use Rattle.wh_terms.specs.Erase.{rewrite_rule}
 use Rattle.wh_system.specs.SystemView.{system_data}
 use Rattle.wh_pairs.specs.PairData.{pair_data}
 use Rattle.wh_pairs.specs.declared.pair.Pair.{Pair}
 use Rattle.wh_pairs.specs.Views.{pairs_data}
 use Rattle.wh_pairs.specs.Sets.{IsSetOf}
-use Rattle.wh_cert.specs.Written as w
-use Rattle.wh_cert.specs.Said.{said_node}
-use Rattle.wh_prover.specs.Answers.{IsProof}
+use Rattle.wh_cert.specs.Said.{said_node, said_yes}
+use Rattle.wh_prover.specs.Versions.{IsCertificateOf}
 use Rattle.wh_prover.proofs.ProofLemmas.{proof_of_tree}
 use Rattle.wh_prover.proofs.search.prove_under.Goals as goal
 
@@ -30,5 +31,8 @@ returns c =
     let count : m ≡ length ps = ap (λ (l : List Pair). length l) c.as_slice.ensures ∙ sym (length-map pairs pair_data) in
     let whole = subst (λ k. IsSetOf (λ n. n < k) set) count c.in_ok-whole.ensures in
     let tree = MatchOption-at_none _ _ c.in_default.is c.in_ok-cause.ensures in
-    subst (λ (l : List ℕ). IsProof d ps (w.yes 1 l m lines)) (sym c.in_ok-numbers_of_ranks.ensures)
-    (proof_of_tree d ps ranks m set lines c.is_well_made.ensures c.requires.pairs c.requires.passing c.requires.each c.requires.low count whole tree)
+    let certificate = said_yes c.in_ok-certificate.certificate in
+    let rules : length c.rules.result.now ≡ length d.rules = sym (length-map c.rules.result.now rewrite_rule) ∙ ap (λ (l : List RewriteRule). length l) c.rules.ensures in
+    let made = subst (λ k. IsCertificateOf k c.in_ok-listed.listed m lines certificate) rules c.in_ok-certificate.ensures in
+    let same = subst (λ (l : List ℕ). IsCertificateOf (length d.rules) l m lines certificate) c.in_ok-listed.ensures made in
+    proof_of_tree d ps ranks m set lines certificate c.is_well_made.ensures c.requires.pairs c.requires.passing c.requires.each c.requires.low count whole tree same

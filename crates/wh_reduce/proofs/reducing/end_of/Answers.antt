@@ -13,7 +13,7 @@ returns c =
     let u = tm c.args.last in
     let n = c.args.steps in
     let ends : EndsBy rules n n u c.match-branch-2.end = elim c.match-branch-2.branch [
-      | in-Some w ↦ subst (EndsBy rules n n u) (sym w.end-is) (refl, first_has_reduct _ _ (subst (λ o. MatchOption o (IsNormal rules u) (λ s. StepsFirstBy rules u s.rule s.path)) w.in-Some.is c.in_ok-first_step.ensures))
-      | in-None w ↦ subst (EndsBy rules n n u) (sym w.end-is) (subst (λ o. MatchOption o (IsNormal rules u) (λ s. StepsFirstBy rules u s.rule s.path)) w.in-None.is c.in_ok-first_step.ensures)
+      | in-Some w ↦ subst (EndsBy rules n n u) (sym w.end-is) (refl, first_has_reduct _ _ (subst (λ o. MatchOption o (IsNormal rules u) (λ s. StepsFirstBy rules u s.rule s.path)) w.in-Some.is c.in_ok-next_step.ensures))
+      | in-None w ↦ subst (EndsBy rules n n u) (sym w.end-is) (subst (λ o. MatchOption o (IsNormal rules u) (λ s. StepsFirstBy rules u s.rule s.path)) w.in-None.is c.in_ok-next_step.ensures)
     ] in
     (refl, refl, ends)

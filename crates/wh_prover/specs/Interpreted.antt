@@ -1,0 +1,38 @@
+-- What the search for interpretations of a set ends with.
+use Rattle.std.specs.Prelude.{ℕ, List, Option, Some, None}
+use Rattle.wh_system.specs.Systems.{SystemData}
+use Rattle.wh_pairs.specs.PairData.{PairData}
+use Rattle.wh_cert.specs.Written as w
+use Rattle.wh_cert.specs.declared.certificate.Node.{Node}
+use Rattle.wh_cert.specs.Said.{said_node}
+use Rattle.wh_sat.specs.declared.solving.Search.{Search}
+use Rattle.wh_sat.specs.declared.solving.Search.TheVariants as search
+use Rattle.wh_usable.specs.Closed.{IsUsable}
+use Rattle.wh_proof.specs.Looked.{poly_task}
+use Rattle.wh_guesses.specs.Conditions.{HasNoInterpretation}
+use Rattle.wh_guesses.specs.Found.{task_of, IsInterpretationOver}
+use Rattle.wh_blocking.specs.Answers.{IsSpent}
+use Rattle.wh_flat.specs.Flat.{IsFlat}
+use Rattle.wh_prover.specs.Versions.{HasFewer}
+
+-- the list, where there is one, is closed for the set and has not all rules (ours)
+abbrev pub IsShortList : SystemData → List PairData → List ℕ → Option (List ℕ) → Type 0
+IsShortList d ps set None = Unit {0}
+IsShortList d ps set (Some listed) = IsUsable (poly_task d ps set (Some listed)) × HasFewer d listed
+
+-- and the set is flat where its rules are to be covered
+abbrev pub IsFlatList : SystemData → List PairData → List ℕ → Option (List ℕ) → Type 0
+IsFlatList d ps set None = Unit {0}
+IsFlatList d ps set (Some listed) = IsShortList d ps set (Some listed) × IsFlat (poly_task d ps set (Some listed))
+
+-- the node is one of interpretations that lists no rules, or such a list, and its conditions hold of the set (ours)
+pub record Interprets (d : SystemData) (ps : List PairData) (set : List ℕ) (line : w.Node) : Type 0 where
+  pub usable : Option (List ℕ)
+  pub list : IsShortList d ps set usable
+  pub is : IsInterpretationOver d ps set usable line
+
+-- such a node; that no interpretation of the space lets a pair go where all rules are to be covered; or the clauses of the search for one
+abbrev pub IsInterpreted : SystemData → List PairData → List ℕ → ℕ → Search Node → Type 0
+IsInterpreted d ps set budget (search.Found node) = Interprets d ps set (said_node node)
+IsInterpreted d ps set budget search.Nothing = HasNoInterpretation (task_of d ps set)
+IsInterpreted d ps set budget (search.Spent list) = IsSpent d ps set budget list
