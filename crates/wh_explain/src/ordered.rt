@@ -95,7 +95,8 @@ fn put_under<'a>(
         (map said_filter node.now.funs) (map said_filter node.now.marks) (filtering_data filters.now) }
 {
     task.system.is_well_made();
-    if are_proper(alloc, task, filters, node)? {
+    let proper = are_proper(alloc, task, filters, node)?;
+    if proper {
         put_rules(alloc, text, task, filters, node, depth)?;
         put_pairs(alloc, text, task, filters, node, depth)
     } else {

@@ -112,7 +112,8 @@ fn put_under<'a, 'b>(
         (map said_interp node.now.funs) (map said_interp node.now.marks) (readings_data readings.now) }
 {
     interpretations_in_order_interpret();
-    if are_normal(alloc, task, readings, node)? {
+    let normal = are_normal(alloc, task, readings, node)?;
+    if normal {
         put_rules(alloc, text, task, readings, node, depth)?;
         put_pairs(alloc, text, task, readings, node, depth)
     } else {

@@ -18,10 +18,10 @@ are_proper-requires-clause-filters c =
     }
 
 pub put_rules-requires-clause-filters : goal.put_rules-requires-clause-filters
-put_rules-requires-clause-filters c = c.in_ok-are_proper.ensures c.if-branch.true
+put_rules-requires-clause-filters c = c.in_ok-proper.ensures c.if-proper.true
 
 pub put_pairs-requires-clause-filters : goal.put_pairs-requires-clause-filters
-put_pairs-requires-clause-filters c = c.in_ok-are_proper.ensures c.if-branch.true
+put_pairs-requires-clause-filters c = c.in_ok-proper.ensures c.if-proper.true
 
 pub put_pairs-requires-clause-calls : goal.put_pairs-requires-clause-calls
 put_pairs-requires-clause-calls c =

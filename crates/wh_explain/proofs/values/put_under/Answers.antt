@@ -23,7 +23,7 @@ put_rules-requires-clause-proper c =
     let kinds = (said_lists d.fun_names d.symbols.funs (map said_interp c.args.node.now.funs) R.symbols c.requires.says.0.0).1 in
     record {
       interpreted = c.interpretations_in_order_interpret.ensures d.symbols R.symbols kinds;
-      normal = c.in_ok-are_normal.ensures c.if-branch.true;
+      normal = c.in_ok-normal.ensures c.if-normal.true;
     }
 
 pub put_pairs-requires-clause-proper : goal.put_pairs-requires-clause-proper
@@ -33,7 +33,7 @@ put_pairs-requires-clause-proper c =
     let kinds = (said_lists d.fun_names d.symbols.funs (map said_interp c.args.node.now.funs) R.symbols c.requires.says.0.0).1 in
     record {
       interpreted = c.interpretations_in_order_interpret.ensures d.symbols R.symbols kinds;
-      normal = c.in_ok-are_normal.ensures c.if-branch.true;
+      normal = c.in_ok-normal.ensures c.if-normal.true;
     }
 
 pub put_pairs-requires-clause-sides : goal.put_pairs-requires-clause-sides
