@@ -130,7 +130,6 @@ fn are_proper<'a>(
 }
 
 // Whether the fault is one that is found behind the filters, which are proper then.
-#[tactic(auto, using(crate::proofs::Before::proper_before))]
 fn comes_later(fault: &OrderingFault) -> bool
     ensures { IsTrue result → LeavesProper fault.now }
 {

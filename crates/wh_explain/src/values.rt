@@ -148,7 +148,6 @@ fn are_normal<'a, 'b>(
 }
 
 // Whether the fault is one that is found behind the polynomials, which are normal then.
-#[tactic(auto, using(crate::proofs::Before::normal_before))]
 fn comes_later(fault: &CoveringFault) -> bool
     ensures { IsTrue result → LeavesNormal fault.now }
 {
