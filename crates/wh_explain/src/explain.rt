@@ -1,6 +1,7 @@
 //! Explanations of a system: with a certificate that is given or found, or of why none was found.
 
-ghost use Rattle.std.specs.Prelude.{◌≡◌, ◌++◌, IfOk, codes};
+ghost use Rattle.std.specs.Prelude.{◌≡◌, ◌≤◌, ◌++◌, IfOk, codes, length};
+ghost use Rattle.wh_types.specs.Limits.{certificate_limit};
 ghost use Rattle.wh_system.specs.SystemView.{system_data};
 ghost use Rattle.wh_pairs.specs.SystemPairs.{HasPairs};
 ghost use Rattle.wh_pairs.specs.Views.{pairs_data};
@@ -17,7 +18,7 @@ use wh_answer::{Report, print_answer};
 use wh_cert::Certificate;
 use wh_cert_text::read_certificate;
 use wh_io::Shelf;
-use wh_judging::{CERTIFICATE_LIMIT, Problem, certificate_in, problem_in, weigh};
+use wh_judging::{Problem, certificate_in, problem_in, weigh};
 use wh_prover::{Answer, Options, prove};
 use wh_system::System;
 use wh_tell::Piece::{Big, Count, Spell};
@@ -110,12 +111,10 @@ fn searched(alloc: Global, problem: &Problem) -> Result<Bytes, AllocError>
 
 // The explanation of the text of a certificate.
 fn explained(alloc: Global, problem: &Problem, bytes: &[u8]) -> Result<Bytes, AllocError>
-    requires { HasPairs (system_data problem.now.system) (pairs_data problem.now.pairs) }
+    requires length { length bytes.now ≤ certificate_limit }
+    requires pairs { HasPairs (system_data problem.now.system) (pairs_data problem.now.pairs) }
     ensures { IfOk result (Means (system_data problem.now.system)) }
 {
-    if bytes.len() as u64 > CERTIFICATE_LIMIT {
-        return Err(AllocError);
-    }
     match read_certificate(alloc, bytes) {
         Ok(certificate) => weighed(alloc, problem, &certificate),
         Err(Or::NoMemory) => Err(AllocError),

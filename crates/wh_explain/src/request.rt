@@ -23,39 +23,66 @@ pub enum Request<'a> {
 }
 
 /// What the words behind the program's own name ask for; `None` where they are none of `FILE`, `FILE CERT`,
-/// `--lint FILE` and `--graph FILE`. Names stand behind a first word `--` if one of them begins with `-`.
+/// `--lint FILE` and `--graph FILE`. A word of several bytes that begins with `-` names a file only behind a word `--`.
 pub fn read_request(words: &[String]) -> Option<Request<'_>> {
-    let first = words.first()?.as_str();
-    match first {
-        "--lint" => Some(Request::Lint { file: only(words)? }),
-        "--graph" => Some(Request::Graph { file: only(words)? }),
-        "--" => named(words.get(1), words.get(2), words.len() <= 3),
-        _ => {
-            if first.starts_with("--") {
-                return None;
-            }
-            named(words.first(), words.get(1), words.len() <= 2)
+    let [first, rest @ ..] = words else {
+        return None;
+    };
+    match first.as_str() {
+        "--lint" => Some(Request::Lint {
+            file: one_name(rest)?,
+        }),
+        "--graph" => Some(Request::Graph {
+            file: one_name(rest)?,
+        }),
+        _ => to_explain(words),
+    }
+}
+
+// The system file, and the certificate file if there is one.
+fn to_explain(words: &[String]) -> Option<Request<'_>> {
+    match names_of(words)? {
+        [file] => Some(Request::Explain {
+            file: file.as_str(),
+            cert: None,
+        }),
+        [file, cert] => Some(Request::Explain {
+            file: file.as_str(),
+            cert: Some(cert.as_str()),
+        }),
+        _ => None,
+    }
+}
+
+// The only name of a file.
+fn one_name(words: &[String]) -> Option<&str> {
+    match names_of(words)? {
+        [file] => Some(file.as_str()),
+        _ => None,
+    }
+}
+
+// The names of files: all words behind a first `--`, or these words, if none of them looks like an option.
+fn names_of(words: &[String]) -> Option<&[String]> {
+    let [first, rest @ ..] = words else {
+        return None;
+    };
+    if first.as_str() == "--" {
+        return Some(rest);
+    }
+    for word in words {
+        if !is_name(word.as_str()) {
+            return None;
         }
     }
+    Some(words)
 }
 
-// The second of two words.
-fn only(words: &[String]) -> Option<&str> {
-    if words.len() != 2 {
-        return None;
+// Whether a word names a file where no `--` stands before it.
+fn is_name(word: &str) -> bool {
+    match word.as_bytes() {
+        [] => false,
+        [_] => true,
+        [first, ..] => *first != b'-',
     }
-    Some(words.get(1)?.as_str())
-}
-
-// A system file, and a certificate file if there is one.
-fn named<'a>(file: Option<&'a String>, cert: Option<&'a String>, all: bool) -> Option<Request<'a>> {
-    if !all {
-        return None;
-    }
-    let file = file?.as_str();
-    let cert = match cert {
-        Some(word) => Some(word.as_str()),
-        None => None,
-    };
-    Some(Request::Explain { file, cert })
 }
