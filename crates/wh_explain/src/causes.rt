@@ -78,16 +78,14 @@ fn put_no_ranks(
 // Appends the cycle of sorts.
 fn put_cycle(text: &mut Text, problem: &Problem, sorts: &[u32]) -> Result<(), AllocError> {
     let names = names_of_system(&problem.system);
-    text.say(
-        "No ranks of sorts serve: what rules take out of their arguments asks that they rise along a cycle,",
-    )?;
+    let mut words: &[u8] =
+        b"No ranks of sorts serve, since each of these would have to be below itself: ";
     for sort in sorts {
-        tell(text, " @", &[Named(names.sorts, *sort)])?;
+        text.spell(words)?;
+        tell(text, "@", &[Named(names.sorts, *sort)])?;
+        words = b", ";
     }
-    if let Some(first) = sorts.first() {
-        tell(text, " @", &[Named(names.sorts, *first)])?;
-    }
-    text.say(".\n")
+    text.say(".\nWhat rules take out of their arguments asks for it:\n")
 }
 
 // Appends which search ended without an answer.

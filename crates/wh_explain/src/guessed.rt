@@ -59,7 +59,9 @@ fn put_climbed<'a>(
     requires marked { AreMarked (task_data task.now).pairs (task_data task.now).set marked.now }
 {
     match climb(alloc, task, marked, LOOKS)? {
-        Climbed::Found(_) => Ok(()),
+        Climbed::Found(_) => text.say(
+            "A short search finds an interpretation that drops a pair.\n",
+        ),
         Climbed::Best(lists) => {
             let guess = guess_by(alloc, task, marked, &lists)?;
             put_guess(text, task.system, &guess)?;

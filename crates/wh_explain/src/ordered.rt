@@ -29,6 +29,10 @@ use wh_tell::{Names, Text, names_of_rule, put_pair_line, put_rule_line, tell_lin
 use wh_tell_parts::{is_within, put_dropped, put_filters, put_inferred};
 use wh_types::{Or, is_in};
 
+// What is said of lines that don't name what they have to name.
+const NO_FILTERS: &str =
+    "These lines don't name each symbol and each marked symbol of the pairs once, in order, so sides can't be compared.";
+
 /// Appends how symbols are filtered, the inferences of each rule and pair, and which pairs are dropped.
 pub fn put_order(
     alloc: Global,
@@ -69,7 +73,7 @@ fn put_inferences(
     let funs = node.funs.as_slice();
     let marks = node.marks.as_slice();
     let Some(filters) = filters_of_lines(alloc, system, &problem.pairs, set, funs, marks)? else {
-        return Ok(());
+        return tell_line(text, depth, NO_FILTERS, &[]);
     };
     let covered = all_rules(alloc, system)?;
     let task = Task {
@@ -100,7 +104,7 @@ fn put_under<'a>(
         put_rules(alloc, text, task, filters, node, depth)?;
         put_pairs(alloc, text, task, filters, node, depth)
     } else {
-        let words = "Some of these filters is not proper, so sides can't be compared.";
+        let words = "Not all of these filters are proper, so sides can't be compared.";
         tell_line(text, depth, words, &[])
     }
 }

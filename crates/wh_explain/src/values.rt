@@ -31,6 +31,13 @@ use wh_tell_parts::{
 };
 use wh_types::{Or, is_in};
 
+// What is said of lines that don't name what they have to name.
+const NO_LIST: &str =
+    "These are not the numbers of rules, each above the one before it, so sides are not told.";
+
+const NO_READINGS: &str =
+    "These lines don't name each symbol and each marked symbol of the pairs once, in order, so sides have no values.";
+
 /// Appends what symbols are read as, what both sides of each rule and pair are worth, and which pairs are dropped.
 pub fn put_interpretation(
     alloc: Global,
@@ -75,14 +82,14 @@ fn put_values(
     system.is_well_made();
     pairs_have_marked_sides();
     let Some(rules) = rules_to_cover(alloc, system, &node.usable)? else {
-        return Ok(());
+        return tell_line(text, depth, NO_LIST, &[]);
     };
     let Some(symbols) = symbols_of(alloc, system, node.funs.as_slice())? else {
-        return Ok(());
+        return tell_line(text, depth, NO_READINGS, &[]);
     };
     let Some(marks) = marks_of_set(alloc, system, &problem.pairs, set, node.marks.as_slice())?
     else {
-        return Ok(());
+        return tell_line(text, depth, NO_READINGS, &[]);
     };
     let task = Task {
         system,
@@ -117,7 +124,7 @@ fn put_under<'a, 'b>(
         put_rules(alloc, text, task, readings, node, depth)?;
         put_pairs(alloc, text, task, readings, node, depth)
     } else {
-        let words = "Some of these polynomials is not normal, so sides have no values.";
+        let words = "Not all of these polynomials are normal, so sides have no values.";
         tell_line(text, depth, words, &[])
     }
 }
