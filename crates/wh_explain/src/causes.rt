@@ -65,14 +65,14 @@ fn put_no_ranks(
                 0,
                 "Rule @ uses @, which its left side has only within an argument of a bound variable.",
                 &[Number(*rule), Unknown(names.metas, *meta)],
-            )
+            )?;
         }
         NoRanks::Cycle(sorts) => {
             put_cycle(text, problem, sorts.as_slice())?;
             put_demands(alloc, text, &problem.system)?;
-            text.say("So no certificate of this format is a proof for the system.\n")
         }
     }
+    text.say("So no certificate of this format is a proof for the system.\n")
 }
 
 // Appends the cycle of sorts.
