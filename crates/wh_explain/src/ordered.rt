@@ -31,7 +31,7 @@ use wh_types::{Or, is_in};
 
 // What is said of lines that don't name what they have to name.
 const NO_FILTERS: &str =
-    "These lines don't name each symbol and each marked symbol of the pairs once, in order, so sides can't be compared.";
+    "These lines don't name each symbol and each marked symbol of the pairs once, in order, so no sides are compared.";
 
 /// Appends how symbols are filtered, the inferences of each rule and pair, and which pairs are dropped.
 pub fn put_order(
@@ -109,7 +109,7 @@ fn put_under<'a>(
     }
 }
 
-// Whether the filters are proper: a check of the node that finds anything else wrong finds it later.
+// Whether the filters are proper: a check of the node finds anything else that is wrong later.
 fn are_proper<'a>(
     alloc: Global,
     task: &Task<'a>,

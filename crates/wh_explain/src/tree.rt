@@ -61,21 +61,7 @@ fn put_node(
     let depth = level.depth.saturating_add(1);
     match node {
         Node::Done => tell_line(text, depth, "No pair is left.", &[]),
-        Node::Alone => {
-            put_pairs(
-                text,
-                &problem.system,
-                problem.pairs.as_slice(),
-                level.set.as_slice(),
-                depth,
-            )?;
-            tell_line(
-                text,
-                depth,
-                "It may not follow itself: what it calls is never what it starts from.",
-                &[],
-            )
-        }
+        Node::Alone => put_alone(text, problem, &level.set, depth),
         Node::Blocks(blocks) => put_blocks(text, blocks.as_slice().len(), depth),
         Node::Subterm { args, drop } => put_projection(
             text,
@@ -89,6 +75,19 @@ fn put_node(
         Node::Poly(node) => put_interpretation(alloc, text, problem, &level.set, node, depth),
         Node::Order(node) => put_order(alloc, text, problem, &level.set, node, depth),
     }
+}
+
+// Appends the only pair of a node, and why it is used once.
+fn put_alone(
+    text: &mut Text,
+    problem: &Problem,
+    set: &PairSet,
+    depth: u32,
+) -> Result<(), AllocError> {
+    let pairs = problem.pairs.as_slice();
+    put_pairs(text, &problem.system, pairs, set.as_slice(), depth)?;
+    let words = "It may not follow itself: what it calls is never what it starts from.";
+    tell_line(text, depth, words, &[])
 }
 
 // Appends the number of the node and its pairs.

@@ -129,7 +129,7 @@ fn put_under<'a, 'b>(
     }
 }
 
-// Whether the polynomials of the readings are normal: a check of the node that finds anything else wrong finds it later.
+// Whether the polynomials of the readings are normal: a check of the node finds anything else that is wrong later.
 fn are_normal<'a, 'b>(
     alloc: Global,
     task: &Task<'a>,
