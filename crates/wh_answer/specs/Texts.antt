@@ -43,6 +43,7 @@ role_word role.Output = codes "output"
 abbrev pub finder_word : NamedFinder → List ℕ
 finder_word finder.Subterm = codes "subterm"
 finder_word finder.Poly = codes "poly"
+finder_word finder.Order = codes "order"
 finder_word finder.Loop = codes "loop"
 
 abbrev pub reason_word : ReasonWord → List ℕ

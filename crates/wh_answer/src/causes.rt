@@ -96,6 +96,7 @@ fn finder_of(word: &str) -> Option<NamedFinder>
     match word {
         "subterm" => Some(NamedFinder::Subterm),
         "poly" => Some(NamedFinder::Poly),
+        "order" => Some(NamedFinder::Order),
         "loop" => Some(NamedFinder::Loop),
         _ => None,
     }

@@ -402,6 +402,7 @@ fn finder_word(finder: NamedFinder) -> &'static [u8]
     match finder {
         NamedFinder::Subterm => b"subterm",
         NamedFinder::Poly => b"poly",
+        NamedFinder::Order => b"order",
         NamedFinder::Loop => b"loop",
     }
 }

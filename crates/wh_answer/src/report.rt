@@ -73,6 +73,8 @@ pub enum NamedFinder {
     Subterm,
     /// Of interpretations.
     Poly,
+    /// Of path orders.
+    Order,
     /// Of loops.
     Loop,
 }

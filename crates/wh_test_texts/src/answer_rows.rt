@@ -7,7 +7,7 @@ use std::test::Fail;
 use wh_answer::{print_answer, read_answer};
 
 /// A line of each variant of a report, of a rejection, and of a cause.
-const LINES: [&str; 60] = [
+const LINES: [&str; 61] = [
     "YES",
     "NO",
     "BAD WORDS",
@@ -29,6 +29,7 @@ const LINES: [&str; 60] = [
     "MAYBE stuck 0 1 4095",
     "MAYBE spent subterm 0",
     "MAYBE spent poly 10000",
+    "MAYBE spent order 10000",
     "MAYBE spent loop 500",
     "REJECTED syntax 35",
     "REJECTED rank-count",
