@@ -1,9 +1,12 @@
 #!/usr/bin/env python3
 """The time of the solver beside that of MiniSat, on formulas in DIMACS form.
 
-    bench/sat.py [--program PATH] [--only WORD] [--seconds N]
+    bench/sat.py [--program PATH] [--only WORD] [--seconds N] [--lists]
 
 The program is that of crates/wh_bench_sat, which `rt run` in its folder builds; MiniSat comes from the system's packages.
+
+With --lists it needs no MiniSat. For each formula without a model it then times `solve`, `solve_listed` with the list's text in the
+LRAT format, and the check of that list by the program, and has bench/lrat.py check the list as well.
 
 Makes its formulas in a temporary folder: random formulas of three literals a clause at 4.26 clauses a variable, of ten seeds
 for each size, pigeonholes, the formulas of projections of a ring of symbols, and formulas that want nothing but propagation. Runs each program three times on each, adds up the
@@ -17,6 +20,8 @@ import resource
 import shutil
 import subprocess
 import tempfile
+
+import lrat
 
 HERE = pathlib.Path(__file__).resolve().parent
 PROGRAM = HERE.parent / "crates" / "wh_bench_sat" / "out" / "wh_bench_sat"
@@ -130,18 +135,48 @@ def compare(name, formulas, program, folder, seconds):
     print(f"{name:14} {ours:9.3f} s  MiniSat {theirs:9.3f} s  {ours / theirs:7.1f} times  {told}", flush=True)
 
 
+def list_of(program, path, seconds):
+    """The text of the list that refutes a formula, or None."""
+    done = subprocess.run([program, path, "list"], capture_output=True, text=True, timeout=seconds)
+    return None if done.stdout.startswith("S") else done.stdout
+
+
+def compare_lists(name, formulas, program, folder, seconds):
+    """One line: the sums of the least times for solving, listing and checking, over the formulas of a kind that have no model."""
+    solved, listed, checked, entries, hints = 0.0, 0.0, 0.0, 0, 0
+    path, file = folder / "formula.cnf", folder / "formula.lrat"
+    for formula in formulas:
+        write(path, formula)
+        text = list_of(program, path, seconds)
+        if text is None:
+            continue
+        file.write_text(text)
+        solved += least([program, path], seconds)[0]
+        listed += least([program, path, "list"], seconds)[0]
+        spent, answer = least([program, path, file], seconds)
+        checked += spent
+        right = lrat.check(path.read_text(), file.read_text())
+        if right is not None or not answer.isdigit():
+            raise SystemExit(f"bench/sat.py: {name}: the program says {answer}, bench/lrat.py says {right}")
+        entries += lrat.count(file.read_text())[0]
+        hints += lrat.count(file.read_text())[1]
+    if entries:
+        print(f"{name:14} solve {solved:8.3f} s  list {listed:8.3f} s  {listed / solved:5.1f} times  check {checked:8.3f} s  {entries:9} entries {hints:9} hints", flush=True)
+
+
 def main():
     parser = argparse.ArgumentParser()
     parser.add_argument("--program", default=str(PROGRAM))
     parser.add_argument("--only", default="")
     parser.add_argument("--seconds", type=float, default=60)
+    parser.add_argument("--lists", action="store_true")
     options = parser.parse_args()
-    if not shutil.which("minisat"):
+    if not options.lists and not shutil.which("minisat"):
         raise SystemExit("bench/sat.py: there is no minisat: apt-get install -y minisat")
     with tempfile.TemporaryDirectory() as folder:
         for name, formulas in kinds():
             if options.only in name:
-                compare(name, formulas, options.program, pathlib.Path(folder), options.seconds)
+                (compare_lists if options.lists else compare)(name, formulas, options.program, pathlib.Path(folder), options.seconds)
 
 
 if __name__ == "__main__":

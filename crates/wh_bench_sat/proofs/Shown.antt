@@ -1,9 +1,11 @@
 -- What tests of clauses show, one place after the other.
-use Rattle.std.proofs.Common.{◌≡◌, ℕ, ◌+◌, ◌<◌, Bool, true, false, List, [], length, get_or, sym, subst, inl, inr, arith}
+use Rattle.std.proofs.Common.{◌≡◌, ℕ, ◌+◌, ◌<◌, ◌≤◌, ◌^◌, Bool, true, false, List, [], ◌∷◌, ◌++◌, length, get_or, take, All, Contains, sym, ap, subst, ◌∙◌, inl, inr, arith}
 use Rattle.std.specs.Bool.{OnTrue}
 use Rattle.std.proofs.lemmas.Bool.{cases_eq}
-use Rattle.std.proofs.lemmas.List.{get_or_default}
+use Rattle.std.proofs.lemmas.List.{get_or_default, take_all, take_more}
+use Rattle.std.proofs.lemmas.List.Elements.{All-contains, All-push}
 use Rattle.wh_sat_trail.specs.declared.literal.Literal.{Literal}
+use Rattle.wh_sat_trail.specs.declared.entry.Entry.{Entry}
 use Rattle.wh_sat_trail.specs.Assignment.{AllBelow}
 
 pub on_true : (b : Bool) (P : Type 0) → OnTrue b P → b ≡ true → P
@@ -25,3 +27,16 @@ within_more variables clauses n before here k u = elim (cases_eq k n) [
   | inl same ↦ subst (λ j. AllBelow variables (get_or clauses j [])) (sym same) here
   | inr other ↦ before k (omega (arith, other, u))
 ]
+
+-- one entry more has few hints
+
+abbrev pub IsShort : Entry → Type 0
+IsShort e = length e.hints ≤ 2 ^ 32
+
+pub short_more : (xs : List Entry) (i : ℕ) (x : Entry) → All IsShort (take i xs) → IsShort x → i < length xs → x ≡ get_or xs i x
+    → All IsShort (take (i + 1) xs)
+short_more xs i x all one within here =
+    subst (All IsShort) (sym (take_more xs i x within ∙ ap (λ y. take i xs ++ y ∷ []) (sym here))) (All-push IsShort (take i xs) x all one)
+
+pub short_all : (xs : List Entry) (i : ℕ) → All IsShort (take i xs) → length xs ≤ i → (e : Entry) → Contains xs e → IsShort e
+short_all xs i all past e found = All-contains IsShort xs e (subst (All IsShort) (take_all i xs past) all) found

@@ -1,116 +1,100 @@
-//! Solves the formula of a file in DIMACS form. It stands here to be timed by `bench/sat.py` beside other solvers.
+//! Solves the formula of a file in DIMACS form. With the word `list` behind the file it prints a list that shows that there is no model, in the
+//! LRAT format; with the name of such a list it checks that one. It stands here to be timed by `bench/sat.py` beside other solvers.
 #![tactic(auto)]
 
-ghost use Rattle.std.specs.Bool.{OnTrue};
-ghost use Rattle.std.specs.Prelude.{IfOk};
-ghost use Rattle.wh_sat_trail.specs.Assignment.{AllBelow};
+mod dimacs;
+mod lrat;
+
 ghost use Rattle.wh_sat_trail.specs.Propagation.{Within};
 
+use dimacs::read;
+use lrat::{are_short, lrat, read_list};
 use std::alloc::{AllocError, Global};
 use std::process::ExitCode;
 use std::rt::{Env, Files};
 use std::{env, fs};
+use wh_listed::{Listed, solve_listed};
+use wh_refute::check_refutation;
 use wh_sat::{Outcome, solve_owned};
-use wh_sat_trail::{Clause, Clauses, Formula, Literal};
+use wh_sat_trail::{Formula, Refutation};
+use wh_types::Or;
 
 // How many clauses may be learnt.
 const BUDGET: u64 = 1_000_000;
 
+// How many clauses a formula, and entries a list, may have where lists are made or checked.
+const MOST_CLAUSES: usize = 1_000_000_000;
+
 fn main(rt: HostRuntime) -> ExitCode {
-    let Ok(answer) = answer(&rt) else {
+    let Ok(text) = answer(&rt) else {
         return ExitCode::from(1);
     };
-    match println!(rt; "{answer}") {
+    match println!(rt; "{text}") {
         Ok(()) => ExitCode::from(0),
         Err(_) => ExitCode::from(2),
     }
 }
 
-// The answer for the file that the first word names; want of memory stands for all else.
-fn answer<R: Env + Files + AllocGlobal>(rt: &R) -> Result<&'static str, AllocError> {
+// The answer to the words; want of memory stands for all else.
+fn answer<R: Env + Files + AllocGlobal>(rt: &R) -> Result<String, AllocError> {
     let alloc = rt.alloc();
     let mut words = env::args(rt).or(Err(AllocError))?.skip(1);
     let file = words.next().ok_or(AllocError)?;
     let text = fs::read_to_string(rt, file.as_str()).or(Err(AllocError))?;
     let formula = read(alloc, text.as_str())?;
-    match solve_owned(alloc, formula, BUDGET)? {
-        Outcome::Sat(_) => Ok("SAT"),
-        Outcome::Unsat => Ok("UNSAT"),
-        Outcome::Spent(_) => Ok("SPENT"),
-    }
-}
-
-// The formula of a text. Each clause ends with `0`; lines that begin with another letter than `p` are passed over.
-fn read(alloc: Global, text: &str) -> Result<Formula, AllocError>
-    ensures { IfOk result (λ made. Within made.variables made.clauses) }
-{
-    let mut formula = Formula {
-        variables: 0,
-        clauses: Clauses::new(alloc)?,
+    let Some(word) = words.next() else {
+        return solved(alloc, formula);
     };
-    let mut clause = Clause::new(alloc)?;
-    for line in text.lines() {
-        if line.starts_with('p') {
-            formula.variables = head(line)?;
-        } else if !line.starts_with('c') {
-            clause = read_line(alloc, line, &mut formula.clauses, clause)?;
-        }
+    if word.as_str() == "list" {
+        return listed(alloc, &formula);
     }
-    if is_within(&formula) {
-        return Ok(formula);
-    }
-    Err(AllocError)
+    let text = fs::read_to_string(rt, word.as_str()).or(Err(AllocError))?;
+    let list = read_list(alloc, text.as_str())?;
+    checked(alloc, &formula, &list)
 }
 
-// The number of variables in the line `p cnf VARIABLES CLAUSES`.
-fn head(line: &str) -> Result<u32, AllocError> {
-    let word = line.split_whitespace().nth(2).ok_or(AllocError)?;
-    word.parse().or(Err(AllocError))
-}
-
-// The clauses that end in a line join the others; what is begun is handed back.
-fn read_line(
-    alloc: Global,
-    line: &str,
-    clauses: &mut Clauses,
-    begun: Clause,
-) -> Result<Clause, AllocError> {
-    let mut clause = begun;
-    for word in line.split_whitespace() {
-        let number: i32 = word.parse().or(Err(AllocError))?;
-        if number == 0 {
-            clauses.push(clause)?;
-            clause = Clause::new(alloc)?;
-        } else {
-            clause.push(Literal {
-                variable: number.unsigned_abs().saturating_sub(1),
-                positive: number > 0,
-            })?;
-        }
-    }
-    Ok(clause)
-}
-
-// Whether the clauses have no variables but those of the formula.
-fn is_within(formula: &Formula) -> bool
-    ensures { OnTrue result (Within formula.now.variables formula.now.clauses) }
+// What the formula comes to.
+fn solved(alloc: Global, formula: Formula) -> Result<String, AllocError>
+    requires { Within formula.variables formula.clauses }
 {
-    for clause in formula.clauses.as_slice() {
-        if !is_below(formula.variables, clause.as_slice()) {
-            return false;
-        }
-    }
-    true
+    let word = match solve_owned(alloc, formula, BUDGET)? {
+        Outcome::Sat(_) => "SAT",
+        Outcome::Unsat => "UNSAT",
+        Outcome::Spent(_) => "SPENT",
+    };
+    String::from_str(alloc, word)
 }
 
-// Whether the literals' variables are below a number.
-fn is_below(variables: u32, clause: &[Literal]) -> bool
-    ensures { OnTrue result (AllBelow variables clause.now) }
+// The same, and the list where there is no model.
+fn listed(alloc: Global, formula: &Formula) -> Result<String, AllocError>
+    requires { Within formula.now.variables formula.now.clauses }
 {
-    for literal in clause {
-        if literal.variable >= variables {
-            return false;
-        }
+    let given = formula.clauses.as_slice().len();
+    if given > MOST_CLAUSES {
+        return Err(AllocError);
     }
-    true
+    match solve_listed(alloc, formula, BUDGET)? {
+        Listed::Sat(_) => String::from_str(alloc, "SAT"),
+        Listed::Unsat(list) => lrat(alloc, given, list.as_slice()),
+        Listed::Spent(_) => String::from_str(alloc, "SPENT"),
+    }
+}
+
+// What the checker says of the list.
+fn checked(alloc: Global, formula: &Formula, list: &Refutation) -> Result<String, AllocError>
+    requires { Within formula.now.variables formula.now.clauses }
+{
+    let clauses = formula.clauses.as_slice().len();
+    let entries = list.as_slice();
+    if clauses > MOST_CLAUSES || entries.len() > MOST_CLAUSES || !are_short(entries) {
+        return Err(AllocError);
+    }
+    match check_refutation(alloc, formula, list) {
+        Ok(refuted) => {
+            let count = refuted.entries;
+            format!(in alloc; "REFUTED {count}")
+        }
+        Err(Or::Because(_)) => String::from_str(alloc, "BAD LIST"),
+        Err(Or::NoMemory) => Err(AllocError),
+    }
 }

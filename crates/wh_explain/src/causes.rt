@@ -17,7 +17,7 @@ use wh_tell_parts::{is_within, put_closest_projection};
 
 // What a search came to that ended on a set of pairs.
 const NONE_LETS_GO: &str =
-    "No projection drops a pair of the set below, and no interpretation of those that are tried.\n";
+    "No projection drops a pair of the set below, and no interpretation and no path order of those that are tried.\n";
 
 /// Appends why nothing was found under these options.
 pub fn put_cause(
@@ -95,6 +95,11 @@ fn put_spent(text: &mut Text, finder: Finder) -> Result<(), AllocError> {
         Finder::Poly => {
             text.say("No projection drops a pair of the set below, ")?;
             text.say("and the search for an interpretation ended without an answer.\n")?;
+        }
+        Finder::Order => {
+            text.say("No projection drops a pair of the set below, ")?;
+            text.say("and no interpretation of those that are tried.\n")?;
+            text.say("The search for a path order ended without an answer.\n")?;
         }
     }
     text.say("No loop was found.\n")

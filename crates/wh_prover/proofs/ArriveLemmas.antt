@@ -11,7 +11,7 @@ use Rattle.wh_graph.specs.Blocks.{AreBlocks}
 use Rattle.wh_graph.specs.Components.{IsIn, AreComponents}
 use Rattle.wh_proof.specs.Nodes.{AreSetsOf, no_sets, more_sets}
 use Rattle.wh_pairs.proofs.SetLemmas.{all_from_members}
-use Rattle.wh_prover.specs.Arriving.{IsOneComponent, IsAlone, Arrives, at_all, at_component, behind_projection, behind_interpretation, Ended}
+use Rattle.wh_prover.specs.Arriving.{IsOneComponent, IsAlone, Arrives, at_all, at_component, behind_projection, behind_interpretation, behind_order, Ended}
 use Rattle.wh_prover.proofs.SetLemmas.{set_itself}
 
 -- each number is that of a pair
@@ -24,6 +24,8 @@ arrives_below d ps set (at_component {set = from} {part = part} {parts = parts} 
 arrives_below d ps set (behind_projection {set = from} arrives knot is all rest) n found =
     arrives_below d ps from arrives n ((rest.each n).0 found).0
 arrives_below d ps set (behind_interpretation {set = from} arrives knot none closed is rest) n found =
+    arrives_below d ps from arrives n ((rest.each n).0 found).0
+arrives_below d ps set (behind_order {set = from} arrives knot none none_either is rest) n found =
     arrives_below d ps from arrives n ((rest.each n).0 found).0
 
 pub arrives_within : (d : SystemData) (ps : List PairData) (set : List ℕ) → Arrives d ps set → All (λ n. n < length ps) set

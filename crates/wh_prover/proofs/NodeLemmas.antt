@@ -17,14 +17,19 @@ use Rattle.wh_find_moves.specs.Found.{AreApart}
 use Rattle.wh_usable.specs.Closed.{IsUsable}
 use Rattle.wh_guesses.specs.Found.{version_with}
 use Rattle.wh_proof.specs.Looked.{covered_rules, poly_task}
-use Rattle.wh_prover.specs.Searched.{AreSearched}
+use Rattle.wh_inference.specs.Inferences.{Inference}
+use Rattle.wh_order_lines.specs.Oriented.{IsWithin}
+use Rattle.wh_guesses.specs.Conditions.{HasNoInterpretation}
+use Rattle.wh_guesses.specs.Found.{task_of}
+use Rattle.wh_find_order.specs.Answers.{IsOrder}
+use Rattle.wh_prover.specs.Searched.{AreSearched, AreOrders}
 use Rattle.wh_prover.specs.Versions.{HasFewer, IsMade}
 use Rattle.wh_prover.specs.Interpreted.{IsShortList, Interprets}
 use Rattle.wh_cert.specs.Limits.{NodeFits, NodeWithin}
-use Rattle.wh_proof.specs.Nodes.{done, alone, blocks, subterm, poly, Leaves, by_done, by_alone, by_blocks, by_subterm, by_poly}
+use Rattle.wh_proof.specs.Nodes.{done, alone, blocks, subterm, poly, order, Leaves, by_done, by_alone, by_blocks, by_subterm, by_poly, by_order}
 use Rattle.wh_pairs.specs.Sets.{IsSetOf, IsKept}
 use Rattle.wh_proof.specs.GoesOn.{GoesOn}
-use Rattle.wh_prover.specs.Arriving.{IsAlone, IsAloneUnder, Arrives, behind_projection, behind_interpretation, Ended, HasNoProjection}
+use Rattle.wh_prover.specs.Arriving.{IsAlone, IsAloneUnder, Arrives, behind_projection, behind_interpretation, behind_order, Ended, HasNoProjection}
 use Rattle.wh_prover.specs.Walk.{weight, SaysProjection, Adds, dropped_by}
 use Rattle.wh_prover.proofs.CountLemmas.{components_lighter, rest_lighter, weighs_something}
 use Rattle.wh_prover.proofs.ArriveLemmas.{arrives_below, arrives_apart, sets_themselves, components_are_blocks}
@@ -230,6 +235,47 @@ dropped_by_interpretation d ps set w.alone found = absurd found.is.says
 dropped_by_interpretation d ps set (w.blocks parts) found = absurd found.is.says
 dropped_by_interpretation d ps set (w.subterm lines drop) found = absurd found.is.says
 dropped_by_interpretation d ps set (w.order funs marks rules pairs drop) found = absurd found.is.says
+
+-- a node of a path order
+
+-- it is of the space that is searched
+order_made : (d : SystemData) (ps : List PairData) (set : List ℕ) (funs marks : List w.Filtering) (rules pairs : List Inference) (drop : List ℕ)
+    → IsOrder d ps set (w.order funs marks rules pairs drop) → AreOrders d funs marks rules pairs
+order_made d ps set funs marks rules pairs drop found = record {
+  filtering = found.filtering;
+  says = found.says.0;
+  proper = found.of_space.symbols;
+  marks_proper = found.of_space.marks;
+  low = found.of_space.symbols_low;
+  marks_low = found.of_space.marks_low;
+  rules_within = subst (λ (E : Evidence Inference). All IsWithin E.of_rules) found.says.1 found.rules_within;
+  pairs_within = subst (λ (E : Evidence Inference). All IsWithin E.of_pairs) found.says.1 found.pairs_within;
+}
+
+pub adds_order : (d : SystemData) (ps : List PairData) (set rest : List ℕ) (funs marks : List w.Filtering) (rules pairs : List Inference) (drop : List ℕ)
+    (sets after : List (List ℕ)) (lines longer : List w.Node) → Ended d ps set → HasNoProjection d.rules ps set → HasNoInterpretation (task_of d ps set)
+    → IsOrder d ps set (w.order funs marks rules pairs drop) → IsSetOf (IsKept set drop) rest
+    → after ≡ rest ∷ sets → longer ≡ lines ++ w.order funs marks rules pairs drop ∷ [] → Adds d ps set sets after lines longer
+adds_order d ps set rest funs marks rules pairs drop sets after lines longer end none none_either found kept after_is joined =
+    let ordering = found.ordering in
+    let left = subst (λ (E : Evidence Inference). IsSetOf (IsKept set E.drop) rest) (sym found.says.1) kept in
+    record {
+      line = w.order funs marks rules pairs drop;
+      joined = joined;
+      goes = record {
+        node = order found.filtering found.evidence;
+        left = rest ∷ [];
+        says = found.says;
+        leaves = by_order ordering left;
+        small = tt;
+        after_is = after_is;
+      };
+      fits = found.fits;
+      within = found.within;
+      made = order_made d ps set funs marks rules pairs drop found;
+      arrives = All-cons (Arrives d ps) rest [] (behind_order end.arrives end.knot none none_either ordering left) (All-nil (Arrives d ps));
+      lighter = omega (arith, rest_lighter set found.evidence.drop rest left ordering.lines.some_dropped ordering.lines.within);
+    }
 
 -- whether a list is empty, as a test tells it
 

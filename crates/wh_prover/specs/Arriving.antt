@@ -9,12 +9,16 @@ use Rattle.wh_subterm.specs.Projections.{Chosen}
 use Rattle.wh_subterm.specs.SubtermRows.{IsProjection}
 use Rattle.wh_find_subterm.specs.Found.{DropsAllBelow}
 use Rattle.wh_pairs.specs.Sets.{IsSetOf, IsKept, IsWhole}
-use Rattle.wh_reduction.specs.TaskData.{task_over}
+use Rattle.wh_reduction.specs.TaskData.{task_over, whole_task}
 use Rattle.wh_reduction.specs.ReductionPair.{Evidence}
 use Rattle.wh_hopoly.specs.Moves.{Transfer}
 use Rattle.wh_polycheck.specs.Readings.{ReadingsData}
 use Rattle.wh_polycheck.specs.Covering.{IsCovering}
 use Rattle.wh_usable.specs.Closed.{IsUsable}
+use Rattle.wh_inference.specs.Inferences.{Inference}
+use Rattle.wh_ordering.specs.Filterings.{FilteringData}
+use Rattle.wh_ordering.specs.Ordering.{IsOrdering}
+use Rattle.wh_guesses.specs.Conditions.{HasNoInterpretation}
 
 -- the set is one component: each pair of it leads to each other one within it
 abbrev pub IsOneComponent : List RewriteRule → List PairData → List ℕ → Type 0
@@ -39,8 +43,9 @@ abbrev pub HasNoProjection : List RewriteRule → List PairData → List ℕ →
 HasNoProjection rules pairs set = (args : List Chosen) (drop : List ℕ) → IsProjection rules pairs set args drop → ⊥
 
 -- the search comes to the set of all pairs; from a set with several components to each of them; from a knot to what a projection
--- leaves of it that lets some pair go and drops all pairs that are below; and, where no projection lets one go, to what any
--- interpretation leaves of it that covers a list of rules which is closed for it (ours)
+-- leaves of it that lets some pair go and drops all pairs that are below; where no projection lets one go, to what any
+-- interpretation leaves of it that covers a list of rules which is closed for it; and, where no interpretation of the space lets one
+-- go, either, to what a path order leaves of it (ours)
 pub data Arrives (d : SystemData) (pairs : List PairData) : List ℕ → Type 0 where
   at_all : {set : List ℕ} → IsWhole pairs set → Arrives d pairs set
   at_component : {set part component : List ℕ} {parts : List (List ℕ)} → Arrives d pairs set
@@ -53,6 +58,11 @@ pub data Arrives (d : SystemData) (pairs : List PairData) : List ℕ → Type 0 
       → HasNoProjection d.rules pairs set
       → IsUsable (task_over d.symbols d.rules pairs set listed)
       → IsCovering (task_over d.symbols d.rules pairs set listed) R E → IsSetOf (IsKept set E.drop) rest
+      → Arrives d pairs rest
+  behind_order : {set rest : List ℕ} {D : FilteringData} {E : Evidence Inference} → Arrives d pairs set → IsKnot d.rules pairs set
+      → HasNoProjection d.rules pairs set
+      → HasNoInterpretation (whole_task d.symbols d.rules pairs set)
+      → IsOrdering (whole_task d.symbols d.rules pairs set) D E → IsSetOf (IsKept set E.drop) rest
       → Arrives d pairs rest
 
 -- the search can end on a knot that it comes to (ours)

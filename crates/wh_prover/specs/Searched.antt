@@ -1,5 +1,5 @@
--- Nodes of the space that the search for interpretations looks through.
-use Rattle.std.specs.Prelude.{List, All, map}
+-- Nodes of the spaces that the searches for interpretations and for path orders look through.
+use Rattle.std.specs.Prelude.{List, All, ◌+◌, length, map}
 use Rattle.wh_types.specs.Ty.{arguments}
 use Rattle.wh_system.specs.Systems.{SystemData}
 use Rattle.wh_cert.specs.Written as w
@@ -8,9 +8,13 @@ use Rattle.wh_hopoly.specs.declared.expression.Move as moved
 use Rattle.wh_hopoly.specs.Erase.{transfers}
 use Rattle.wh_polycheck.specs.Marks.{marked_types}
 use Rattle.wh_polycheck.specs.Readings.{ReadingsData}
-use Rattle.wh_proof.specs.Looked.{SayReadings}
+use Rattle.wh_inference.specs.Inferences.{Inference}
+use Rattle.wh_ordering.specs.Filterings.{FilteringData, AreProperSymbols, AreProperMarks}
+use Rattle.wh_proof.specs.Looked.{SayReadings, SayFilterings}
 use Rattle.wh_find_moves.specs.Found.{AreApart}
 use Rattle.wh_space.specs.Space.{IsOfSpace}
+use Rattle.wh_order_lines.specs.Oriented.{IsWithin}
+use Rattle.wh_order_space.specs.Space.{IsLow}
 
 -- the lines say readings of the space, and in no line of moves are two between the same monomials (ours)
 pub record AreSearched (d : SystemData) (funs marks : List Interp) (rules pairs : List (List moved.Move)) : Type 0 where
@@ -21,9 +25,20 @@ pub record AreSearched (d : SystemData) (funs marks : List Interp) (rules pairs 
   pub rules_apart : All AreApart (map transfers rules)
   pub pairs_apart : All AreApart (map transfers pairs)
 
--- so it is of a node of interpretations, whatever rules it lists; the search gives none of a path order; of any other nothing is
--- asked
+-- the lines say a proper filter of each symbol and of each marked one, with a precedence below the number of these together, and
+-- inferences that are within the limits of lines (ours)
+pub record AreOrders (d : SystemData) (funs marks : List w.Filtering) (rules pairs : List Inference) : Type 0 where
+  pub filtering : FilteringData
+  pub says : SayFilterings d funs marks filtering
+  pub proper : AreProperSymbols d.symbols filtering
+  pub marks_proper : AreProperMarks d.symbols d.rules filtering
+  pub low : All (IsLow (length filtering.symbols + length filtering.marks)) filtering.symbols
+  pub marks_low : All (λ m. IsLow (length filtering.symbols + length filtering.marks) m.filter) filtering.marks
+  pub rules_within : All IsWithin rules
+  pub pairs_within : All IsWithin pairs
+
+-- so it is of a node of interpretations, whatever rules it lists, and of one of a path order; of any other nothing is asked
 abbrev pub IsSearched : SystemData → w.Node → Type 0
 IsSearched d (w.interpretations usable funs marks rules pairs drop) = AreSearched d funs marks rules pairs
-IsSearched d (w.order funs marks rules pairs drop) = ⊥
+IsSearched d (w.order funs marks rules pairs drop) = AreOrders d funs marks rules pairs
 IsSearched d _ = Unit {0}

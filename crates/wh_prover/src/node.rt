@@ -7,6 +7,8 @@ ghost use Rattle.wh_pairs.specs.Views.{pairs_data};
 ghost use Rattle.wh_system.specs.SystemView.{system_data};
 ghost use Rattle.wh_cert.specs.Said.{said_node};
 ghost use Rattle.wh_graph.specs.Graphs.{IsGraphOf, edge_of, size_of};
+ghost use Rattle.wh_guesses.specs.Conditions.{HasNoInterpretation};
+ghost use Rattle.wh_guesses.specs.Found.{task_of};
 ghost use Rattle.wh_prover.specs.Arriving.{Arrives, Ended, HasNoProjection, IsAloneUnder};
 ghost use Rattle.wh_prover.specs.Walk.{AddsNode, IsEnd, dropped_by};
 
@@ -15,6 +17,7 @@ use crate::interpretations::interpretation_of;
 use crate::lines::node_of;
 use std::alloc::{AllocError, Global};
 use wh_cert::{Node, Nodes};
+use wh_find_order::find_order;
 use wh_find_subterm::find_projection;
 use wh_graph::Graph;
 use wh_pairs::{PairList, PairSet, kept};
@@ -127,9 +130,43 @@ fn interpret(
             nodes.push(node)?;
             Ok(None)
         }
-        Search::Nothing => Ok(Some(Cause::Stuck(set))),
+        Search::Nothing => order(alloc, system, pairs, tries, set, stack, nodes),
         Search::Spent(list) => Ok(Some(Cause::Spent {
             finder: Finder::Poly,
+            set,
+            list,
+        })),
+    }
+}
+
+// A node of a path order, where no projection and no interpretation lets a pair go.
+fn order(
+    alloc: Global,
+    system: &System,
+    pairs: &PairList,
+    tries: u64,
+    set: PairSet,
+    stack: &mut Vec<PairSet>,
+    nodes: &mut Nodes,
+) -> Result<Option<Cause>, AllocError>
+    requires few { length pairs.now ≤ most_pairs }
+    requires pairs { HasPairs (system_data system.now) (pairs_data pairs.now) }
+    requires ended { Ended (system_data system.now) (pairs_data pairs.now) set }
+    requires none { HasNoProjection (system_data system.now).rules (pairs_data pairs.now) set }
+    requires none_either { HasNoInterpretation (task_of (system_data system.now) (pairs_data pairs.now) set) }
+    requires some { 0 < tries }
+    ensures { IfOk result (λ end. MatchOption end (AddsNode system.now pairs.now set stack.old.items stack.new.items nodes.old nodes.new)
+        (IsEnd (system_data system.now) (pairs_data pairs.now) tries)) }
+{
+    match find_order(alloc, system, pairs, &set, tries)? {
+        Search::Found(found) => {
+            stack.push(kept(alloc, &set, found.drop.as_slice())?)?;
+            nodes.push(Node::Order(Box::new(alloc, found)?))?;
+            Ok(None)
+        }
+        Search::Nothing => Ok(Some(Cause::Stuck(set))),
+        Search::Spent(list) => Ok(Some(Cause::Spent {
+            finder: Finder::Order,
             set,
             list,
         })),

@@ -1,0 +1,10 @@
+pub mod BitLemmas
+pub mod SortLemmas
+pub mod WrittenOrders
+pub mod SpaceLemmas
+pub mod Locality
+pub mod NothingLemmas
+pub mod SearchLemmas
+pub mod TableLemmas
+pub mod DecodingLemmas
+pub mod NodeLemmas

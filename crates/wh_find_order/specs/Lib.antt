@@ -1,0 +1,4 @@
+pub mod Tried
+pub mod Answers
+pub mod Encodings
+pub mod Trials

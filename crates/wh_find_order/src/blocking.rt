@@ -1,0 +1,170 @@
+//! The search by guesses: each guess under which a condition fails is shut out by a clause, and a solver tells the next
+//! one.
+
+ghost use Rattle.std.specs.Prelude.{◌≡◌, ◌+◌, ◌<◌, ◌≤◌, IfOk, OnOk, length};
+ghost use Rattle.wh_types.specs.Limits.{most_pairs};
+ghost use Rattle.wh_blocking.specs.Sizes.{value_of};
+ghost use Rattle.wh_sat.specs.Solving.{Solves};
+ghost use Rattle.wh_sat.specs.State.{clauses_of};
+ghost use Rattle.wh_find_order.specs.Answers.{IsAnswer};
+ghost use Rattle.wh_find_order.specs.Encodings.{IsBlocking, IsEncoding, ShutsOut, system_in, task_in};
+ghost use Rattle.wh_find_order.specs.Trials.{HasFailed, IsLooked};
+
+use crate::decoding::order_by;
+use crate::encoding::Encoding;
+use crate::node::{Weighing, node_of_order};
+use std::alloc::{AllocError, Global};
+use wh_blocking::{clause_of, copy_clauses};
+use wh_cert::OrderNode;
+use wh_sat::{Learner, Next, Search};
+use wh_sat_trail::{Clause, Clauses, Formula};
+use wh_types::Or;
+
+/// What a guess comes to.
+#[derive(Drop)]
+pub enum Looked {
+    /// The node of the order that it writes.
+    Found(OrderNode),
+    /// A condition that fails.
+    Failing(Failing),
+}
+
+/// A condition that fails under a guess.
+#[derive(Clone, Copy)]
+pub enum Failing {
+    /// That the bits of the symbol with this number write a proper filter, and a precedence that is tried.
+    Symbol(usize),
+    /// The condition on lines that has this number.
+    Line(usize),
+}
+
+/// Looks for orders guess by guess, beginning with the one that bits with these values write; those that are missing
+/// are false.
+pub fn search_from<'a>(
+    alloc: Global,
+    encoding: &Encoding<'a>,
+    first: Vec<bool>,
+    budget: u64,
+) -> Result<Search<OrderNode>, AllocError>
+    requires few { length encoding.now.task.pairs.now ≤ most_pairs }
+    requires encoding { IsEncoding encoding.now }
+    requires room { 0 < budget }
+    ensures { IfOk result (IsAnswer (system_in encoding.now) (task_in encoding.now).pairs (task_in encoding.now).set budget) }
+{
+    let mut learner = learner_for(alloc, encoding, budget)?;
+    let found = search(alloc, encoding, first, &mut learner)?;
+    Ok(found)
+}
+
+// A learner over the bits, without clauses.
+fn learner_for<'a>(
+    alloc: Global,
+    encoding: &Encoding<'a>,
+    budget: u64,
+) -> Result<Learner, AllocError>
+    requires { IsEncoding encoding.now }
+    ensures blocking { IfOk result (IsBlocking encoding.now) }
+    ensures none { IfOk result (λ made. length (clauses_of made) ≡ 0) }
+    ensures left { IfOk result (λ made. made.left ≡ budget) }
+{
+    let variables = encoding.first_bits[encoding.scopes.len()];
+    let clauses = Clauses::new(alloc)?;
+    let learner = Learner::new(alloc, Formula { variables, clauses }, budget)?;
+    Ok(learner)
+}
+
+// Shuts out the guesses under which a condition fails, one after the other, until none fails or no clause may join any
+// more.
+fn search<'a>(
+    alloc: Global,
+    encoding: &Encoding<'a>,
+    first: Vec<bool>,
+    learner: &mut Learner,
+) -> Result<Search<OrderNode>, AllocError>
+    requires few { length encoding.now.task.pairs.now ≤ most_pairs }
+    requires encoding { IsEncoding encoding.now }
+    requires blocking { IsBlocking encoding.now learner.old }
+    requires solves { Solves (value_of first.items) (clauses_of learner.old) }
+    requires room { 0 < learner.old.left }
+    ensures { IfOk result (IsAnswer (system_in encoding.now) (task_in encoding.now).pairs (task_in encoding.now).set
+        (length (clauses_of learner.old) + learner.old.left)) }
+{
+    let mut values = first;
+    'guesses: loop {
+        let failing = match look(alloc, encoding, &values)? {
+            Looked::Found(node) => return Ok(Search::Found(node)),
+            Looked::Failing(failing) => failing,
+        };
+        block(alloc, encoding, &values, learner, failing)?;
+        match learner.next()? {
+            Next::Model(next) => values = next,
+            Next::Exhausted => return Ok(Search::Nothing),
+            Next::Spent => {
+                let clauses = copy_clauses(alloc, &learner.formula().clauses)?;
+                return Ok(Search::Spent(clauses));
+            }
+        }
+    }
+}
+
+// The node of the order that the bits write, or a condition that fails.
+fn look<'a>(alloc: Global, encoding: &Encoding<'a>, values: &[bool]) -> Result<Looked, AllocError>
+    requires few { length encoding.now.task.pairs.now ≤ most_pairs }
+    requires encoding { IsEncoding encoding.now }
+    ensures { IfOk result (IsLooked encoding.now (value_of values.now)) }
+{
+    let filters = match order_by(alloc, encoding, values) {
+        Ok(filters) => filters,
+        Err(Or::Because(number)) => return Ok(Looked::Failing(Failing::Symbol(number))),
+        Err(Or::NoMemory) => return Err(AllocError),
+    };
+    match node_of_order(alloc, &encoding.task, &filters)? {
+        Weighing::Found(node) => Ok(Looked::Found(node)),
+        Weighing::Failing(number) => Ok(Looked::Failing(Failing::Line(number))),
+    }
+}
+
+// Gives the clause that shuts out the guess, by a condition that fails under it.
+fn block<'a>(
+    alloc: Global,
+    encoding: &Encoding<'a>,
+    values: &[bool],
+    learner: &mut Learner,
+    failing: Failing,
+) -> Result<(), AllocError>
+    requires encoding { IsEncoding encoding.now }
+    requires blocking { IsBlocking encoding.now learner.old }
+    requires solves { Solves (value_of values.now) (clauses_of learner.old) }
+    requires room { 0 < learner.old.left }
+    requires fails { HasFailed encoding.now (value_of values.now) failing }
+    ensures blocking { OnOk result (IsBlocking encoding.now learner.new) }
+    ensures count { OnOk result (length (clauses_of learner.new) ≡ length (clauses_of learner.old) + 1) }
+    ensures left { OnOk result (learner.new.left + 1 ≡ learner.old.left) }
+{
+    let clause = clause_for(alloc, encoding, values, failing)?;
+    learner.give(clause)?;
+    Ok(())
+}
+
+// The clause that shuts out the guess: the literals that are false under it, on the bits of what is used in the
+// condition.
+fn clause_for<'a>(
+    alloc: Global,
+    encoding: &Encoding<'a>,
+    values: &[bool],
+    failing: Failing,
+) -> Result<Clause, AllocError>
+    requires encoding { IsEncoding encoding.now }
+    requires fails { HasFailed encoding.now (value_of values.now) failing }
+    ensures { IfOk result (ShutsOut encoding.now (value_of values.now)) }
+{
+    match failing {
+        Failing::Symbol(number) => clause_of(alloc, values, &encoding.first_bits, &[number]),
+        Failing::Line(number) => clause_of(
+            alloc,
+            values,
+            &encoding.first_bits,
+            &encoding.numbers[number],
+        ),
+    }
+}

@@ -1,0 +1,74 @@
+//! The search for path orders of a set.
+
+ghost use Rattle.std.specs.Prelude.{◌<◌, ◌≤◌, All, IfOk, length};
+ghost use Rattle.wh_types.specs.Limits.{most_pairs};
+ghost use Rattle.wh_pairs.specs.SystemPairs.{HasPairs};
+ghost use Rattle.wh_pairs.specs.Views.{pairs_data};
+ghost use Rattle.wh_pairs.specs.Marked.{AreMarked};
+ghost use Rattle.wh_reduction.specs.TaskView.{task_data};
+ghost use Rattle.wh_system.specs.SystemView.{system_data};
+ghost use Rattle.wh_guesses.specs.Tasks.{IsTaskOf};
+ghost use Rattle.wh_find_order.specs.Answers.{IsAnswer};
+
+use crate::blocking::search_from;
+use crate::encoding::encoding_of;
+use std::alloc::{AllocError, Global};
+use wh_cert::OrderNode;
+use wh_pairs::{PairList, PairSet, marked_symbols};
+use wh_reduction::{Task, all_rules};
+use wh_sat::Search;
+use wh_sat_trail::Clauses;
+use wh_system::System;
+
+/// Argument filters, precedences and inferences under which no rule and no pair of the set grows and some pair shrinks
+/// (the reduction pair processor with the path order of Kop 2012; the search is ours).
+///
+/// `Found` drops every pair that its order lets go. `Nothing` comes only where no order that is tried lets a pair of
+/// the set go, and `Spent` only with `budget` clauses, each of which shuts out a guess under which a condition fails,
+/// or is learnt.
+pub fn find_order(
+    alloc: Global,
+    system: &System,
+    pairs: &PairList,
+    set: &PairSet,
+    budget: u64,
+) -> Result<Search<OrderNode>, AllocError>
+    requires few { length pairs.now ≤ most_pairs }
+    requires whole { HasPairs (system_data system.now) (pairs_data pairs.now) }
+    requires set { All (λ n. n < length pairs.now) set.now }
+    ensures { IfOk result (IsAnswer (system_data system.now) (pairs_data pairs.now) set.now budget) }
+{
+    let covered = all_rules(alloc, system)?;
+    let task = Task {
+        system,
+        pairs: pairs.as_slice(),
+        set: set.as_slice(),
+        covered: &covered,
+    };
+    system.is_well_made();
+    let marked = marked_symbols(alloc, pairs, set)?;
+    find_order_from(alloc, &task, &marked, Vec::new(alloc), budget)
+}
+
+/// The same by guesses alone, with the marked symbols of the set: the first guess is the order that bits with these
+/// values write; those that are missing are false.
+pub fn find_order_from<'a>(
+    alloc: Global,
+    task: &Task<'a>,
+    marked: &'a [u32],
+    first: Vec<bool>,
+    budget: u64,
+) -> Result<Search<OrderNode>, AllocError>
+    requires few { length task.now.pairs.now ≤ most_pairs }
+    requires task { IsTaskOf task.now }
+    requires marked { AreMarked (task_data task.now).pairs (task_data task.now).set marked.now }
+    ensures { IfOk result (IsAnswer (system_data task.now.system.now) (task_data task.now).pairs (task_data task.now).set budget) }
+{
+    if budget == 0 {
+        let none = Clauses::new(alloc)?;
+        return Ok(Search::Spent(none));
+    }
+    let encoding = encoding_of(alloc, task, marked)?;
+    let found = search_from(alloc, &encoding, first, budget)?;
+    Ok(found)
+}

@@ -1,0 +1,13 @@
+//! The search for path orders that let pairs of a set go: which orders are tried, how bits write them, and what the
+//! search answers.
+#![tactic(auto)]
+
+mod blocking;
+mod decoding;
+mod encoding;
+mod filters;
+mod find;
+mod node;
+mod tables;
+
+pub use find::{find_order, find_order_from};

@@ -1,0 +1,5 @@
+pub mod Matched
+pub mod SpineLemmas
+pub mod FitLemmas
+pub mod OrderLineLemmas
+pub mod WalkLemmas

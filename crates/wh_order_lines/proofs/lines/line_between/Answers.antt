@@ -1,0 +1,14 @@
+use Rattle.std.proofs.Common.{Option, subst}
+use Rattle.wh_inference.specs.declared.inference.Inference.{Inference}
+use Rattle.wh_path_order.specs.Verdict.{greater}
+use Rattle.wh_ordering.specs.FilteringView.{filtering_data}
+use Rattle.wh_infer.specs.Lines.{IsFound}
+use Rattle.wh_order_lines.proofs.lines.line_between.Goals as goal
+
+pub returns-in-Some : goal.returns-in-Some
+returns-in-Some c =
+    subst (λ (r : Option Inference). IsFound (filtering_data c.args.filters.now) greater c.args.left.now c.args.right.now r) c.in-Some.is c.in_ok-inference.ensures
+
+pub weak_line-requires : goal.weak_line-requires
+weak_line-requires c =
+    subst (λ (r : Option Inference). IsFound (filtering_data c.args.filters.now) greater c.args.left.now c.args.right.now r) c.in-None.is c.in_ok-inference.ensures

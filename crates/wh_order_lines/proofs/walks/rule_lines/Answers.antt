@@ -1,0 +1,43 @@
+use Rattle.std.proofs.Common.{◌≡◌, length, get_or, arith}
+use Rattle.wh_pairs.proofs.ByPlace.{number_at}
+use Rattle.wh_reduction.specs.TaskView.{task_data}
+use Rattle.wh_inference.specs.Said.{inference}
+use Rattle.wh_ordering.specs.FilteringView.{filtering_data}
+use Rattle.wh_covering.proofs.Walks.{some_at}
+use Rattle.wh_order_lines.proofs.Matched.{matched_some, matched_none}
+use Rattle.wh_order_lines.specs.Oriented.{MeetsRule}
+use Rattle.wh_order_lines.specs.OrderLines.{IsRuleLine}
+use Rattle.wh_order_lines.proofs.WalkLemmas.{rule_lines_more, rule_lines_all}
+use Rattle.wh_order_lines.proofs.walks.rule_lines.Goals as goal
+
+pub rule_line-requires-clause-rule : goal.rule_line-requires-clause-rule
+rule_line-requires-clause-rule c = c.requires.task.are_rules c.loop-i.i 0 c.loop-i-test.true
+
+pub loop-i-preserved : goal.loop-i-preserved
+loop-i-preserved c =
+    let T = task_data c.args.task.now in
+    let D = filtering_data c.args.filters.now in
+    let i = c.loop-i.i in
+    rule_lines_more T D i (get_or T.covered i 0) c.loop-i.lines c.push.new.self c.in-Some.line c.loop-i.invariant c.in_ok-push.ensures.ok
+    (number_at T.covered i c.loop-i-test.true)
+    (λ r at. matched_some c.in_ok-line.field-0 c.in-Some.line (MeetsRule T.symbols T.rules D r → ⊥) (λ line. IsRuleLine T.symbols T.rules D r (inference line)) c.in-Some.is (c.in_ok-line.ensures r at))
+
+pub returns : goal.returns
+returns c =
+    let T = task_data c.args.task.now in
+    let all : c.loop-i.i ≡ length T.covered = omega (arith, c.loop-i-test.false, c.loop-i.auto.i-end) in
+    rule_lines_all T (filtering_data c.args.filters.now) c.loop-i.i c.loop-i.lines c.loop-i.invariant all
+
+pub returns-in_default : goal.returns-in_default
+returns-in_default c =
+    let T = task_data c.args.task.now in
+    let D = filtering_data c.args.filters.now in
+    let i = c.loop-i.i in
+    let n = get_or T.covered i 0 in
+    let (r, at) = some_at T.rules n (c.requires.task.are_rules i 0 c.loop-i-test.true) in (
+      n,
+      r,
+      number_at T.covered i c.loop-i-test.true,
+      at,
+      matched_none c.in_ok-line.field-0 (MeetsRule T.symbols T.rules D r → ⊥) (λ line. IsRuleLine T.symbols T.rules D r (inference line)) c.in_default.is (c.in_ok-line.ensures r at),
+    )

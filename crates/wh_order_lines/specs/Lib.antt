@@ -1,0 +1,3 @@
+pub mod Oriented
+pub mod OrderLines
+pub mod OrderWalks

@@ -1,0 +1,2 @@
+//! The orders that are tried for a set of pairs, and a circuit that tells where none of them lets a pair go.
+#![tactic(auto)]
