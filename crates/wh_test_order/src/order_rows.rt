@@ -96,7 +96,8 @@ fn told(alloc: Global, found: Search<OrderNode>) -> Result<String, AllocError> {
     }
 }
 
-/// Each order for the first pair picks the place of `i`, which has to keep its argument and may be no greater than it.
+/// Each order for the first pair picks the place of `i`: where `i` keeps it, the last rule asks for `i` above `s`, and
+/// `t` for the other way around.
 const PICKED: &[u8] =
     b"sort o;\nfun s : o -> o;\nfun i : o -> o;\nfun t : o -> o;\nrule {X:o} t (s X) => t (i X);\nrule {X:o} i X => X;\nrule {X:o} i (s X) => s (i X);\n";
 

@@ -78,20 +78,20 @@ const GIVEN_UP: &[(&[&str], &[u8], u8, &[u8])] = &[
         0,
         b"MAYBE stuck 0 1\n",
     ),
-    // ranges of coefficients come to that without a guess, so that one guess is left for orders
+    // ranges of coefficients come to that without a guess; one guess alone would leave it open
     (
         &["prove", "system", "--depth=0", "--tries", "1"],
         LOOP,
         0,
-        b"MAYBE spent order 1\n",
+        b"MAYBE stuck 0 1\n",
     ),
     (SEARCH, ORDINALS, 0, b"MAYBE no-ranks sorts ord\n"),
     (SEARCH, UNTYPED, 0, b"MAYBE no-ranks sorts o\n"),
     (SEARCH, PRENEX, 0, b"MAYBE no-ranks sorts form\n"),
     (SEARCH, PROCESSES, 0, b"MAYBE no-ranks sorts proc\n"),
     (SEARCH, ETA, 0, b"MAYBE stuck 0\n"),
-    // one formula shows that there is no interpretation; the guesses of orders come to no end
-    (SEARCH, STRINGS, 0, b"MAYBE spent order 10000\n"),
+    // by one formula for a flat set
+    (SEARCH, STRINGS, 0, b"MAYBE stuck 0 2\n"),
     (SEARCH, b"sort nat;sort nat;", 3, b"REFUSED twice 14\n"),
 ];
 
