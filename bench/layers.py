@@ -17,7 +17,7 @@ import sys
 TOP = pathlib.Path(__file__).resolve().parent.parent
 PAGE = TOP / "docs" / "ARCHITECTURE.md"
 README = TOP / "README.md"
-ROW = re.compile(r"^\| (wh_\w+|wanda) \|(.*)\|(.*)\|$", re.M)
+ROW = re.compile(r"^\| (w(?:h_|anda)\w*) \|(.*)\|(.*)\|$", re.M)
 TOOLS = "**Tests and tools**"
 
 

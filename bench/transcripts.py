@@ -5,8 +5,8 @@
 
 A block of lines is indented by four spaces. In it a command is a line with `$`, and its output the lines behind it. A
 block below a paragraph that ends with "file `NAME`:" is that file. All is run in one new folder, in which ./wanda,
-./wanda-all and examples are those of this repository. What is shown may also be what a terminal shows, where the
-command says more there. Times, as 0.123, may differ.
+./wanda-all, ./wanda-explain and examples are those of this repository. What is shown may also be what a terminal shows,
+where the command says more there. Times, as 0.123, may differ.
 """
 
 import argparse
@@ -89,7 +89,7 @@ def main():
     for page in PAGES:
         text = (TOP / page).read_text()
         with tempfile.TemporaryDirectory(prefix="wanda-transcripts-") as room:
-            for name in ("wanda", "wanda-all", "examples"):
+            for name in ("wanda", "wanda-all", "wanda-explain", "examples"):
                 (pathlib.Path(room) / name).symlink_to(TOP / name)
             new = settled_page(text, pathlib.Path(room))
         differs |= new != text

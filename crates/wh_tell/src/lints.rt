@@ -173,7 +173,7 @@ fn lint_metas(
 fn lint_symbols(text: &mut Text, system: &System) -> Result<(), AllocError> {
     let names = names_of_system(system);
     let begin = text.len();
-    let mut words: &[u8] = b"lint: no rule has ";
+    let mut words: &[u8] = b"lint: these symbols stand in no rule: ";
     for symbol in 0..system.fun_names().len() {
         let symbol = counted(symbol)?;
         if !is_used(system.rules(), symbol) {

@@ -26,7 +26,11 @@ pub fn put_closest_projection<'a>(
     for _ in 0..ROUNDS {
         improve(system, &members, &mut chosen);
     }
-    put_chosen(text, system, pairs, set.as_slice(), &chosen)
+    put_chosen(text, system, pairs, set.as_slice(), &chosen)?;
+    if !lowers_some(&members, &chosen) {
+        text.say("  no argument gets smaller, and one has to\n")?;
+    }
+    Ok(())
 }
 
 // The first argument of each of so many symbols.
@@ -95,6 +99,16 @@ fn score(pairs: &[&Pair], chosen: &[u32]) -> u64 {
         });
     }
     sum
+}
+
+// Whether some pair is lowered.
+fn lowers_some(pairs: &[&Pair], chosen: &[u32]) -> bool {
+    for pair in pairs {
+        if matches!(relation_in(pair, chosen), Relation::Below) {
+            return true;
+        }
+    }
+    false
 }
 
 // What the chosen arguments of a pair are to one another.

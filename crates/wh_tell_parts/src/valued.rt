@@ -134,13 +134,13 @@ fn put_moves(
         let (from, to) = (Number(item.from), Number(item.to));
         tell(
             text,
-            "@>@:@ moves @ from ",
+            "@>@:@ gives @ of the units of ",
             &[from, to, Big(item.amount), Big(item.amount)],
         )?;
         put_numbered(text, left, item.from)?;
-        text.say(" to ")?;
+        text.say(" on the left to ")?;
         put_numbered(text, right, item.to)?;
-        text.say("\n")?;
+        text.say(" on the right\n")?;
     }
     Ok(())
 }

@@ -1,0 +1,4 @@
+pub mod Before
+pub mod Filters
+pub mod Texts
+pub mod TypedCalls

@@ -1,0 +1,253 @@
+//! Explanations of a system: with a certificate that is given or found, or of why none was found.
+
+ghost use Rattle.std.specs.Prelude.{◌≡◌, ◌≤◌, ◌++◌, IfOk, codes, length};
+ghost use Rattle.wh_types.specs.Limits.{certificate_limit};
+ghost use Rattle.wh_system.specs.SystemView.{system_data};
+ghost use Rattle.wh_pairs.specs.SystemPairs.{HasPairs};
+ghost use Rattle.wh_pairs.specs.Views.{pairs_data};
+ghost use Rattle.wh_cert.specs.Limits.{IsCert};
+ghost use Rattle.wh_cert.specs.Said.{said};
+ghost use Rattle.wh_judging.specs.Outcomes.{BeginsWith, Told};
+ghost use Rattle.wh_explain.specs.Meaning.{Means, MeansLoop, MeansProof, MeantBy};
+
+use crate::causes::put_cause;
+use crate::judge::{Verdict, first_words, judged};
+use crate::tree::put_tree;
+use std::alloc::{AllocError, Global};
+use wh_answer::{Report, print_answer};
+use wh_cert::Certificate;
+use wh_cert_text::read_certificate;
+use wh_io::Shelf;
+use wh_judging::{Problem, certificate_in, problem_in, weigh};
+use wh_prover::{Answer, Options, prove};
+use wh_system::System;
+use wh_tell::Piece::{Big, Count, Spell};
+use wh_tell::{Text, put_graph, put_lints, put_pair_line, put_ranks, tell, tell_line};
+use wh_tell_parts::{put_attempt, put_loop};
+use wh_types::{Bytes, Or, counted};
+
+/// The bounds of a search, which are those of `prove` where it is given none.
+const USUAL: Options = Options {
+    tries: 10_000,
+    depth: 6,
+    visited: 500,
+};
+
+// What stands above the nodes of a proof, and above those of a certificate that is not accepted.
+const PROOF: &str =
+    "\nThe proof. Each node shows of its pairs that no chain of calls uses them for ever.\n";
+
+const CLAIM: &str =
+    "\nThe nodes of the certificate. What it says of its pairs need not hold, since the check does not accept it.\n";
+
+/// Explains why the system in the file terminates or not: by the certificate in the other file, or by a search
+/// where there is none. The text begins with `YES` only where the check accepts a certificate of termination,
+/// and with `NO` only where it accepts one of non-termination.
+pub fn explain_file<S: Shelf>(
+    alloc: Global,
+    shelf: &mut S,
+    file: &str,
+    cert: Option<&str>,
+) -> Result<Bytes, Or<Report>>
+    ensures proof { IfOk result (λ text. BeginsWith (codes "YES") text → Told (S.held shelf.old file.now) MeansProof) }
+    ensures endless { IfOk result (λ text. BeginsWith (codes "NO") text → Told (S.held shelf.old file.now) MeansLoop) }
+{
+    let problem = problem_in(alloc, shelf, file)?;
+    explanation(alloc, shelf, &problem, cert)
+}
+
+// The explanation of a system, by the certificate in the file or by a search.
+fn explanation<S: Shelf>(
+    alloc: Global,
+    shelf: &mut S,
+    problem: &Problem,
+    cert: Option<&str>,
+) -> Result<Bytes, Or<Report>>
+    requires { HasPairs (system_data problem.now.system) (pairs_data problem.now.pairs) }
+    ensures { IfOk result (Means (system_data problem.now.system)) }
+{
+    match cert {
+        None => Ok(searched(alloc, problem)?),
+        Some(name) => {
+            let bytes = certificate_in(alloc, shelf, name)?;
+            Ok(explained(alloc, problem, bytes.as_slice())?)
+        }
+    }
+}
+
+/// What is likely not meant in the system in the file.
+pub fn lint_file<S: Shelf>(alloc: Global, shelf: &mut S, file: &str) -> Result<Bytes, Or<Report>> {
+    let problem = problem_in(alloc, shelf, file)?;
+    let mut text = Text::new(alloc)?;
+    text.say("What follows is no part of what is proved.\n")?;
+    put_lints(alloc, &mut text, &problem.system)?;
+    Ok(text.into_bytes())
+}
+
+/// The dependency graph of the system in the file.
+pub fn graph_file<S: Shelf>(alloc: Global, shelf: &mut S, file: &str) -> Result<Bytes, Or<Report>> {
+    let problem = problem_in(alloc, shelf, file)?;
+    let mut text = Text::new(alloc)?;
+    put_graph(alloc, &mut text, &problem.system, &problem.pairs)?;
+    Ok(text.into_bytes())
+}
+
+// What a search for a certificate comes to. What it finds is checked like a certificate from elsewhere.
+fn searched(alloc: Global, problem: &Problem) -> Result<Bytes, AllocError>
+    requires { HasPairs (system_data problem.now.system) (pairs_data problem.now.pairs) }
+    ensures { IfOk result (Means (system_data problem.now.system)) }
+{
+    match prove(alloc, &problem.system, &problem.pairs, &USUAL)? {
+        Answer::Yes(certificate) => weighed(alloc, problem, &certificate),
+        Answer::No(certificate) => weighed(alloc, problem, &certificate),
+        Answer::Maybe(cause) => {
+            let mut text = opening(alloc)?;
+            put_all_pairs(&mut text, problem)?;
+            put_cause(alloc, &mut text, problem, &USUAL, &cause)?;
+            headed(alloc, problem, Verdict::Open, &mut text)
+        }
+    }
+}
+
+// The explanation of the text of a certificate.
+fn explained(alloc: Global, problem: &Problem, bytes: &[u8]) -> Result<Bytes, AllocError>
+    requires length { length bytes.now ≤ certificate_limit }
+    requires pairs { HasPairs (system_data problem.now.system) (pairs_data problem.now.pairs) }
+    ensures { IfOk result (Means (system_data problem.now.system)) }
+{
+    match read_certificate(alloc, bytes) {
+        Ok(certificate) => weighed(alloc, problem, &certificate),
+        Err(Or::NoMemory) => Err(AllocError),
+        Err(Or::Because(fault)) => {
+            let mut text = opening(alloc)?;
+            let words = "`./wanda check` says: REJECTED syntax @";
+            tell_line(&mut text, 0, words, &[Big(fault.at as u128)])?;
+            put_all_pairs(&mut text, problem)?;
+            headed(alloc, problem, Verdict::Rejected, &mut text)
+        }
+    }
+}
+
+// The explanation of a certificate by what the check says of it.
+fn weighed(alloc: Global, problem: &Problem, certificate: &Certificate) -> Result<Bytes, AllocError>
+    requires pairs { HasPairs (system_data problem.now.system) (pairs_data problem.now.pairs) }
+    requires certificate { IsCert (said certificate.now) }
+    ensures { IfOk result (Means (system_data problem.now.system)) }
+{
+    let verdict = judged(alloc, problem, certificate)?;
+    let accepted = is_accepted(&verdict);
+    let mut text = opening(alloc)?;
+    put_line(alloc, &mut text, problem, certificate, accepted)?;
+    put_all_pairs(&mut text, problem)?;
+    put_certificate(alloc, &mut text, problem, certificate, accepted)?;
+    headed(alloc, problem, verdict, &mut text)
+}
+
+// Whether it is that of a certificate that the check accepts.
+fn is_accepted(verdict: &Verdict) -> bool {
+    matches!(verdict, Verdict::Proof | Verdict::Loop)
+}
+
+// Appends what a certificate says.
+fn put_certificate(
+    alloc: Global,
+    text: &mut Text,
+    problem: &Problem,
+    certificate: &Certificate,
+    accepted: bool,
+) -> Result<(), AllocError>
+    requires { HasPairs (system_data problem.now.system) (pairs_data problem.now.pairs) }
+{
+    match certificate {
+        Certificate::Yes(certificate) => {
+            put_ranks(alloc, text, &problem.system, certificate.ranks.as_slice())?;
+            text.say(if accepted { PROOF } else { CLAIM })?;
+            put_tree(alloc, text, problem, certificate)
+        }
+        Certificate::No(certificate) => {
+            if accepted {
+                put_loop(alloc, text, &problem.system, certificate)
+            } else {
+                put_attempt(alloc, text, &problem.system, certificate)
+            }
+        }
+    }
+}
+
+// The rest of the first line.
+fn opening(alloc: Global) -> Result<Text, AllocError> {
+    let mut text = Text::new(alloc)?;
+    text.say(" What follows is no part of what is proved.\n")?;
+    Ok(text)
+}
+
+// Appends the line that the check writes of a certificate, where it does not accept it.
+fn put_line(
+    alloc: Global,
+    text: &mut Text,
+    problem: &Problem,
+    certificate: &Certificate,
+    accepted: bool,
+) -> Result<(), AllocError>
+    requires pairs { HasPairs (system_data problem.now.system) (pairs_data problem.now.pairs) }
+    requires certificate { IsCert (said certificate.now) }
+{
+    if accepted {
+        return Ok(());
+    }
+    let line = line_of(alloc, problem, certificate)?;
+    tell(text, "`./wanda check` says: @", &[Spell(line.as_slice())])
+}
+
+// The line that the check writes of a certificate.
+fn line_of(alloc: Global, problem: &Problem, certificate: &Certificate) -> Result<Bytes, AllocError>
+    requires pairs { HasPairs (system_data problem.now.system) (pairs_data problem.now.pairs) }
+    requires certificate { IsCert (said certificate.now) }
+{
+    let report = weigh(alloc, problem, certificate)?;
+    print_answer(alloc, &report)
+}
+
+// Appends all pairs of the system.
+fn put_all_pairs(text: &mut Text, problem: &Problem) -> Result<(), AllocError> {
+    let pairs = problem.pairs.as_slice();
+    tell(
+        text,
+        "\nWhich call leads to which (dependency pairs): @\n",
+        &[Count(pairs.len())],
+    )?;
+    for (number, pair) in pairs.iter().enumerate() {
+        put_pair_line(text, &problem.system, counted(number)?, pair, 1)?;
+    }
+    Ok(())
+}
+
+// The whole text: the word of the verdict, what was written behind it, and what is likely not meant.
+fn headed(
+    alloc: Global,
+    problem: &Problem,
+    verdict: Verdict,
+    text: &mut Text,
+) -> Result<Bytes, AllocError>
+    requires { MeantBy (system_data problem.now.system) verdict }
+    ensures { IfOk result (Means (system_data problem.now.system)) }
+{
+    put_last(alloc, text, &problem.system)?;
+    joined(alloc, first_words(&verdict), text.as_slice())
+}
+
+// Appends what is likely not meant.
+fn put_last(alloc: Global, text: &mut Text, system: &System) -> Result<(), AllocError> {
+    text.say("\nWhat may not be meant:\n")?;
+    put_lints(alloc, text, system)
+}
+
+// Both, one behind the other.
+fn joined(alloc: Global, first: &[u8], second: &[u8]) -> Result<Bytes, AllocError>
+    ensures { IfOk result (λ text. text ≡ first.now ++ second.now) }
+{
+    let mut text = Bytes::new(alloc)?;
+    text.append(first)?;
+    text.append(second)?;
+    Ok(text)
+}
