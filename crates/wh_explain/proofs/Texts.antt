@@ -1,18 +1,74 @@
--- What a text means that begins with the word of a verdict.
+-- What a text says, and what it means, that begins with the word of a verdict.
 use Rattle.std.proofs.Common.{◌≡◌, ℕ, List, ◌∷◌, ◌++◌, Option, ap, sym, subst, ◌∙◌, arith}
 use Rattle.std.specs.Prelude.{codes, Result, Ok, Err, IfOk}
+use Rattle.wh_terms.specs.Typing.{Symbols}
+use Rattle.wh_terms.specs.Rules.{RewriteRule, AreWellMade}
+use Rattle.wh_step.specs.Reduction.{Unbounded}
 use Rattle.wh_system.specs.Systems.{SystemData}
+use Rattle.wh_system.specs.WellMade.{IsWellMadeSystem}
+use Rattle.wh_pairs.specs.PairData.{PairData}
+use Rattle.wh_pairs.specs.SystemPairs.{HasPairs}
+use Rattle.wh_cert.specs.Written as written
 use Rattle.wh_cert.specs.Written.{Cert, yes, no}
-use Rattle.wh_checker.specs.Accepted.{IsUnbounded}
-use Rattle.wh_judging.specs.Outcomes.{BeginsWith, IsSystemIn, Told}
-use Rattle.wh_explain.specs.declared.judge.Verdict.{Verdict}
-use Rattle.wh_explain.specs.declared.judge.Verdict.TheVariants.{Proof, Loop, Rejected, Overflow, TooLarge, Open}
-use Rattle.wh_explain.specs.Meaning.{Means, MeansLoop, MeansProof, MeantBy, SomeIsUnbounded, first_words}
+use Rattle.wh_cert.specs.CertText.{CertText}
+use Rattle.wh_no.specs.Claim.{Claim}
+use Rattle.wh_no.specs.Valid.{IsValid}
+use Rattle.wh_proof.specs.Valid.{IsValidYes}
+use Rattle.wh_checker.specs.Accepted.{AreBounded}
+use Rattle.wh_checker.specs.declared.rejected.Rejected.{Rejected as Row}
+use Rattle.wh_answer.specs.declared.report.Report.{Report}
+use Rattle.wh_answer.specs.declared.report.Report.TheVariants as answer
+use Rattle.wh_answer.specs.declared.report.NamedRejection.TheVariants.{Syntax}
+use Rattle.wh_verdict.specs.declared.verdict.Verdict.{Verdict}
+use Rattle.wh_verdict.specs.declared.verdict.Verdict.TheVariants.{Proof, Loop, Rejected, Overflow, TooLarge, Open}
+use Rattle.wh_verdict.specs.FirstWords.{first_words, verdict_of}
+use Rattle.wh_judging.specs.Outcomes.{BeginsWith, IsSystemIn, Judged, Told, Weighed}
+use Rattle.wh_judging.specs.Rows.{named_row}
+use Rattle.wh_explain.specs.Meaning.{Means, MeansLoop, MeansProof, SaysOf, SaysOfBytes, SomeIsUnbounded}
 
--- the term of an accepted loop is one
-pub some_unbounded : (d : SystemData) (c : Cert) → IsUnbounded d c → SomeIsUnbounded d
-some_unbounded d (yes version ranks pairs nodes) h = absurd h
-some_unbounded d (no raw steps at puts) (t, means, unbounded) = (t, unbounded)
+-- what a verdict means of a system
+abbrev pub MeantBy : SystemData → Verdict → Type 0
+MeantBy d Proof = AreBounded d
+MeantBy d Loop = SomeIsUnbounded d
+MeantBy d Rejected = Unit {0}
+MeantBy d Overflow = Unit {0}
+MeantBy d TooLarge = Unit {0}
+MeantBy d Open = Unit {0}
+
+-- the law of valid proofs, and that of valid loops
+abbrev pub ProofsBound : Type 0
+ProofsBound = (d : SystemData) (ps : List PairData) (ranks : List ℕ) (pairs : ℕ) (lines : List written.Node) → IsWellMadeSystem d
+    → HasPairs d ps → IsValidYes d ps ranks pairs lines → AreBounded d
+
+abbrev pub LoopsRun : Type 0
+LoopsRun = (S : Symbols) (rules : List RewriteRule) (c : Claim) → AreWellMade S rules → IsValid S rules c → Unbounded rules c.term
+
+-- what the check answers means it
+pub weighed_means : (d : SystemData) (ps : List PairData) (c : Cert) (o : Report) → ProofsBound → LoopsRun → IsWellMadeSystem d
+    → HasPairs d ps → Weighed d ps c o → MeantBy d (verdict_of o)
+weighed_means d ps (yes version ranks pairs nodes) answer.Yes proofs loops made has (is, valid, small) =
+    proofs d ps ranks pairs nodes made has valid
+weighed_means d ps (no raw steps at puts) answer.Yes proofs loops made has (is, valid, small) = absurd is
+weighed_means d ps (yes version ranks pairs nodes) answer.No proofs loops made has (is, valid) = absurd is
+weighed_means d ps (no raw steps at puts) answer.No proofs loops made has (is, claim, says, holds) =
+    (claim.term, loops d.symbols d.rules claim made.rules holds)
+weighed_means d ps c o proofs loops made has w = tt
+
+-- no condition is named like a text that is none
+never_syntax : (d : SystemData) (r : Row) (at : ℕ) → Syntax at ≡ named_row d r → ⊥
+never_syntax d r at e = absurd e
+
+-- what the check answers on the certificate of a text is what it answers on the text
+pub text_judged : (d : SystemData) (ps : List PairData) (bytes : List ℕ) (c : Cert) (o : Report) → CertText bytes c → Weighed d ps c o
+    → Judged d ps bytes o
+text_judged d ps bytes c (answer.Rejected (Syntax at)) text (r, first, e) = absurd (never_syntax d r at e)
+text_judged d ps bytes c o text w = (c, text, w)
+
+-- so what is said of the one is said of the other
+pub text_said : {E : Type 0} (d : SystemData) (ps : List PairData) (bytes : List ℕ) (c : Cert) (r : Result (List ℕ) E) → CertText bytes c
+    → IfOk r (SaysOf d ps c) → IfOk r (SaysOfBytes d ps bytes)
+text_said d ps bytes c (Ok text) of (o, w, says) = (o, text_judged d ps bytes c o of w, says)
+text_said d ps bytes c (Err e) of said = tt
 
 not_byte : (n a : ℕ) (xs rest : List ℕ) → (a ≡ n → ⊥) → a ∷ xs ≡ n ∷ rest → ⊥
 not_byte n a xs rest differs e = differs cc
@@ -24,13 +80,31 @@ neither d a xs y n = record {
   no = λ (rest, e). absurd (not_byte 78 a xs _ n e);
 }
 
-pub text_means : (d : SystemData) (v : Verdict) (rest : List ℕ) → MeantBy d v → Means d (first_words v ++ rest)
+text_means : (d : SystemData) (v : Verdict) (rest : List ℕ) → MeantBy d v → Means d (first_words v ++ rest)
 text_means d Proof rest m = record { yes = λ b. m; no = λ (more, e). absurd (not_byte 78 89 _ _ (λ h. omega arith) e) }
 text_means d Loop rest m = record { yes = λ (more, e). absurd (not_byte 89 78 _ _ (λ h. omega arith) e); no = λ b. m }
 text_means d Rejected rest m = neither d 82 _ (λ h. omega arith) (λ h. omega arith)
 text_means d Overflow rest m = neither d 79 _ (λ h. omega arith) (λ h. omega arith)
 text_means d TooLarge rest m = neither d 84 _ (λ h. omega arith) (λ h. omega arith)
 text_means d Open rest m = neither d 77 _ (λ h. omega arith) (λ h. omega arith)
+
+-- a text that begins with the words of a verdict means what the verdict does
+pub begun_means : {E : Type 0} (d : SystemData) (v : Verdict) (r : Result (List ℕ) E) → MeantBy d v
+    → IfOk r (BeginsWith (first_words v)) → IfOk r (Means d)
+begun_means d v (Ok text) m (rest, e) = subst (Means d) (sym e) (text_means d v rest m)
+begun_means d v (Err e) m begins = tt
+
+-- a text that was made of the words and the rest begins with the words
+pub begins_so : {E : Type 0} (v : Verdict) (rest word : List ℕ) (r : Result (List ℕ) E) → word ≡ first_words v
+    → IfOk r (λ text. text ≡ word ++ rest) → IfOk r (BeginsWith (first_words v))
+begins_so v rest word (Ok text) is e = (rest, e ∙ ap (λ w. w ++ rest) is)
+begins_so v rest word (Err f) is e = tt
+
+-- what it says of an answer
+pub said_so : {E : Type 0} (d : SystemData) (ps : List PairData) (c : Cert) (o : Report) (r : Result (List ℕ) E) → Weighed d ps c o
+    → IfOk r (BeginsWith (first_words (verdict_of o))) → IfOk r (SaysOf d ps c)
+said_so d ps c o (Ok text) w begins = (o, w, begins)
+said_so d ps c o (Err e) w begins = tt
 
 pub means_proof : (held : Option (List ℕ)) (d : SystemData) (text : List ℕ) → IsSystemIn held d → Means d text
     → BeginsWith (codes "YES") text → Told held MeansProof
@@ -39,9 +113,3 @@ means_proof held d text has means begins bytes told = (d, (has bytes told).1, me
 pub means_loop : (held : Option (List ℕ)) (d : SystemData) (text : List ℕ) → IsSystemIn held d → Means d text
     → BeginsWith (codes "NO") text → Told held MeansLoop
 means_loop held d text has means begins bytes told = (d, (has bytes told).1, means.no begins)
-
--- a text that was made of the word and the rest means what the verdict does
-pub joined_means : {E : Type 0} (d : SystemData) (v : Verdict) (rest word : List ℕ) (r : Result (List ℕ) E) → word ≡ first_words v
-    → MeantBy d v → IfOk r (λ text. text ≡ word ++ rest) → IfOk r (Means d)
-joined_means d v rest word (Ok text) is m e = subst (Means d) (sym (e ∙ ap (λ w. w ++ rest) is)) (text_means d v rest m)
-joined_means d v rest word (Err f) is m e = tt

@@ -2,29 +2,33 @@
 
 ghost use Rattle.std.specs.Prelude.{◌≡◌, ◌≤◌, ◌++◌, IfOk, codes, length};
 ghost use Rattle.wh_types.specs.Limits.{certificate_limit};
+ghost use Rattle.wh_types.specs.Outcome.{IfBecause, MatchOr};
 ghost use Rattle.wh_system.specs.SystemView.{system_data};
 ghost use Rattle.wh_pairs.specs.SystemPairs.{HasPairs};
 ghost use Rattle.wh_pairs.specs.Views.{pairs_data};
 ghost use Rattle.wh_cert.specs.Limits.{IsCert};
 ghost use Rattle.wh_cert.specs.Said.{said};
-ghost use Rattle.wh_judging.specs.Outcomes.{BeginsWith, Told};
-ghost use Rattle.wh_explain.specs.Meaning.{Means, MeansLoop, MeansProof, MeantBy};
+ghost use Rattle.wh_verdict.specs.FirstWords.{first_words};
+ghost use Rattle.wh_judging.specs.Outcomes.{BeginsWith, Stands, StandsBySystem, Told, ToldSystem, outside};
+ghost use Rattle.wh_explain.specs.Meaning.{Explains, Finds, IsUnexplained, Means, MeansLoop, MeansProof, SaysOf, SaysOfBytes, SaysOfFiles};
 
 use crate::causes::put_cause;
-use crate::judge::{Verdict, first_words, judged};
 use crate::tree::put_tree;
 use std::alloc::{AllocError, Global};
-use wh_answer::{Report, print_answer};
+use wh_answer::{NamedRejection, Report, print_answer};
 use wh_cert::Certificate;
 use wh_cert_text::read_certificate;
+use wh_checker::valid_certificates_mean_bounded;
 use wh_io::Shelf;
 use wh_judging::{Problem, certificate_in, problem_in, weigh};
+use wh_no::valid_claims_are_unbounded;
 use wh_prover::{Answer, Options, prove};
 use wh_system::System;
 use wh_tell::Piece::{Big, Count, Spell};
 use wh_tell::{Text, put_graph, put_lints, put_pair_line, put_ranks, tell, tell_line};
 use wh_tell_parts::{put_attempt, put_loop};
 use wh_types::{Bytes, Or, counted};
+use wh_verdict::{Verdict, first_words, verdict_of};
 
 /// The bounds of a search, which are those of `prove` where it is given none.
 const USUAL: Options = Options {
@@ -41,42 +45,61 @@ const CLAIM: &str =
     "\nThe nodes of the certificate. What it says of its pairs need not hold, since the check does not accept it.\n";
 
 /// Explains why the system in the file terminates or not: by the certificate in the other file, or by a search
-/// where there is none. The text begins with `YES` only where the check accepts a certificate of termination,
-/// and with `NO` only where it accepts one of non-termination.
+/// where there is none. The text begins with what `check` answers on the two files; without a certificate it begins
+/// with what the check answers on one that was found, or says that none was. So it begins with `YES` only where every
+/// well-typed term is bounded, and with `NO` only where some term has reductions of every length. The error is that of
+/// `check` on the two files, where no certificate is weighed, or that of the system file alone.
 pub fn explain_file<S: Shelf>(
     alloc: Global,
     shelf: &mut S,
     file: &str,
     cert: Option<&str>,
 ) -> Result<Bytes, Or<Report>>
+    ensures says { MatchOr result
+        (Explains (outside (S.held shelf.old) (S.faults shelf.old) (S.faults shelf.new)) file.now cert)
+        (IsUnexplained (outside (S.held shelf.old) (S.faults shelf.old) (S.faults shelf.new)) file.now cert) }
+    ensures proof { IfOk result (λ text. BeginsWith (codes "YES") text → Told (S.held shelf.old file.now) MeansProof) }
+    ensures endless { IfOk result (λ text. BeginsWith (codes "NO") text → Told (S.held shelf.old file.now) MeansLoop) }
+{
+    match cert {
+        Some(cert) => by_certificate(alloc, shelf, file, cert),
+        None => by_search(alloc, shelf, file),
+    }
+}
+
+// The explanation by the certificate in the other file.
+fn by_certificate<S: Shelf>(
+    alloc: Global,
+    shelf: &mut S,
+    file: &str,
+    cert: &str,
+) -> Result<Bytes, Or<Report>>
+    ensures says { MatchOr result
+        (SaysOfFiles (outside (S.held shelf.old) (S.faults shelf.old) (S.faults shelf.new)) file.now cert.now)
+        (Stands (outside (S.held shelf.old) (S.faults shelf.old) (S.faults shelf.new)) file.now cert.now) }
     ensures proof { IfOk result (λ text. BeginsWith (codes "YES") text → Told (S.held shelf.old file.now) MeansProof) }
     ensures endless { IfOk result (λ text. BeginsWith (codes "NO") text → Told (S.held shelf.old file.now) MeansLoop) }
 {
     let problem = problem_in(alloc, shelf, file)?;
-    explanation(alloc, shelf, &problem, cert)
+    let certificate = certificate_in(alloc, shelf, cert)?;
+    Ok(explained(alloc, &problem, certificate.as_slice())?)
 }
 
-// The explanation of a system, by the certificate in the file or by a search.
-fn explanation<S: Shelf>(
-    alloc: Global,
-    shelf: &mut S,
-    problem: &Problem,
-    cert: Option<&str>,
-) -> Result<Bytes, Or<Report>>
-    requires { HasPairs (system_data problem.now.system) (pairs_data problem.now.pairs) }
-    ensures { IfOk result (Means (system_data problem.now.system)) }
+// The explanation by a search.
+fn by_search<S: Shelf>(alloc: Global, shelf: &mut S, file: &str) -> Result<Bytes, Or<Report>>
+    ensures says { MatchOr result (λ text. ToldSystem (S.held shelf.old file.now) (λ d ps. Finds d ps text))
+        (StandsBySystem (outside (S.held shelf.old) (S.faults shelf.old) (S.faults shelf.new)) file.now) }
+    ensures proof { IfOk result (λ text. BeginsWith (codes "YES") text → Told (S.held shelf.old file.now) MeansProof) }
+    ensures endless { IfOk result (λ text. BeginsWith (codes "NO") text → Told (S.held shelf.old file.now) MeansLoop) }
 {
-    match cert {
-        None => Ok(searched(alloc, problem)?),
-        Some(name) => {
-            let bytes = certificate_in(alloc, shelf, name)?;
-            Ok(explained(alloc, problem, bytes.as_slice())?)
-        }
-    }
+    let problem = problem_in(alloc, shelf, file)?;
+    Ok(searched(alloc, &problem)?)
 }
 
-/// What is likely not meant in the system in the file.
-pub fn lint_file<S: Shelf>(alloc: Global, shelf: &mut S, file: &str) -> Result<Bytes, Or<Report>> {
+/// What is likely not meant in the system in the file. The error is why there is no system with its pairs.
+pub fn lint_file<S: Shelf>(alloc: Global, shelf: &mut S, file: &str) -> Result<Bytes, Or<Report>>
+    ensures { IfBecause result (StandsBySystem (outside (S.held shelf.old) (S.faults shelf.old) (S.faults shelf.new)) file.now) }
+{
     let problem = problem_in(alloc, shelf, file)?;
     let mut text = Text::new(alloc)?;
     text.say("What follows is no part of what is proved.\n")?;
@@ -84,8 +107,10 @@ pub fn lint_file<S: Shelf>(alloc: Global, shelf: &mut S, file: &str) -> Result<B
     Ok(text.into_bytes())
 }
 
-/// The dependency graph of the system in the file.
-pub fn graph_file<S: Shelf>(alloc: Global, shelf: &mut S, file: &str) -> Result<Bytes, Or<Report>> {
+/// The dependency graph of the system in the file. The error is why there is no system with its pairs.
+pub fn graph_file<S: Shelf>(alloc: Global, shelf: &mut S, file: &str) -> Result<Bytes, Or<Report>>
+    ensures { IfBecause result (StandsBySystem (outside (S.held shelf.old) (S.faults shelf.old) (S.faults shelf.new)) file.now) }
+{
     let problem = problem_in(alloc, shelf, file)?;
     let mut text = Text::new(alloc)?;
     put_graph(alloc, &mut text, &problem.system, &problem.pairs)?;
@@ -95,7 +120,8 @@ pub fn graph_file<S: Shelf>(alloc: Global, shelf: &mut S, file: &str) -> Result<
 // What a search for a certificate comes to. What it finds is checked like a certificate from elsewhere.
 fn searched(alloc: Global, problem: &Problem) -> Result<Bytes, AllocError>
     requires { HasPairs (system_data problem.now.system) (pairs_data problem.now.pairs) }
-    ensures { IfOk result (Means (system_data problem.now.system)) }
+    ensures finds { IfOk result (Finds (system_data problem.now.system) (pairs_data problem.now.pairs)) }
+    ensures means { IfOk result (Means (system_data problem.now.system)) }
 {
     match prove(alloc, &problem.system, &problem.pairs, &USUAL)? {
         Answer::Yes(certificate) => weighed(alloc, problem, &certificate),
@@ -113,17 +139,18 @@ fn searched(alloc: Global, problem: &Problem) -> Result<Bytes, AllocError>
 fn explained(alloc: Global, problem: &Problem, bytes: &[u8]) -> Result<Bytes, AllocError>
     requires length { length bytes.now ≤ certificate_limit }
     requires pairs { HasPairs (system_data problem.now.system) (pairs_data problem.now.pairs) }
-    ensures { IfOk result (Means (system_data problem.now.system)) }
+    ensures says { IfOk result (SaysOfBytes (system_data problem.now.system) (pairs_data problem.now.pairs) bytes.now) }
+    ensures means { IfOk result (Means (system_data problem.now.system)) }
 {
     match read_certificate(alloc, bytes) {
         Ok(certificate) => weighed(alloc, problem, &certificate),
         Err(Or::NoMemory) => Err(AllocError),
         Err(Or::Because(fault)) => {
+            let report = Report::Rejected(NamedRejection::Syntax { at: fault.at });
             let mut text = opening(alloc)?;
-            let words = "`./wanda check` says: REJECTED syntax @";
-            tell_line(&mut text, 0, words, &[Big(fault.at as u128)])?;
+            put_answer(alloc, &mut text, &report)?;
             put_all_pairs(&mut text, problem)?;
-            headed(alloc, problem, Verdict::Rejected, &mut text)
+            headed(alloc, problem, verdict_of(&report), &mut text)
         }
     }
 }
@@ -132,19 +159,26 @@ fn explained(alloc: Global, problem: &Problem, bytes: &[u8]) -> Result<Bytes, Al
 fn weighed(alloc: Global, problem: &Problem, certificate: &Certificate) -> Result<Bytes, AllocError>
     requires pairs { HasPairs (system_data problem.now.system) (pairs_data problem.now.pairs) }
     requires certificate { IsCert (said certificate.now) }
-    ensures { IfOk result (Means (system_data problem.now.system)) }
+    ensures says { IfOk result (SaysOf (system_data problem.now.system) (pairs_data problem.now.pairs) (said certificate.now)) }
+    ensures means { IfOk result (Means (system_data problem.now.system)) }
 {
-    let verdict = judged(alloc, problem, certificate)?;
-    let accepted = is_accepted(&verdict);
+    problem.system.is_well_made();
+    valid_certificates_mean_bounded();
+    valid_claims_are_unbounded();
+    let report = weigh(alloc, problem, certificate)?;
+    let verdict = verdict_of(&report);
+    let accepted = is_accepted(verdict);
     let mut text = opening(alloc)?;
-    put_line(alloc, &mut text, problem, certificate, accepted)?;
+    if !accepted {
+        put_answer(alloc, &mut text, &report)?;
+    }
     put_all_pairs(&mut text, problem)?;
     put_certificate(alloc, &mut text, problem, certificate, accepted)?;
     headed(alloc, problem, verdict, &mut text)
 }
 
 // Whether it is that of a certificate that the check accepts.
-fn is_accepted(verdict: &Verdict) -> bool {
+fn is_accepted(verdict: Verdict) -> bool {
     matches!(verdict, Verdict::Proof | Verdict::Loop)
 }
 
@@ -181,31 +215,10 @@ fn opening(alloc: Global) -> Result<Text, AllocError> {
     Ok(text)
 }
 
-// Appends the line that the check writes of a certificate, where it does not accept it.
-fn put_line(
-    alloc: Global,
-    text: &mut Text,
-    problem: &Problem,
-    certificate: &Certificate,
-    accepted: bool,
-) -> Result<(), AllocError>
-    requires pairs { HasPairs (system_data problem.now.system) (pairs_data problem.now.pairs) }
-    requires certificate { IsCert (said certificate.now) }
-{
-    if accepted {
-        return Ok(());
-    }
-    let line = line_of(alloc, problem, certificate)?;
+// Appends the line that `check` writes.
+fn put_answer(alloc: Global, text: &mut Text, report: &Report) -> Result<(), AllocError> {
+    let line = print_answer(alloc, report)?;
     tell(text, "`./wanda check` says: @", &[Spell(line.as_slice())])
-}
-
-// The line that the check writes of a certificate.
-fn line_of(alloc: Global, problem: &Problem, certificate: &Certificate) -> Result<Bytes, AllocError>
-    requires pairs { HasPairs (system_data problem.now.system) (pairs_data problem.now.pairs) }
-    requires certificate { IsCert (said certificate.now) }
-{
-    let report = weigh(alloc, problem, certificate)?;
-    print_answer(alloc, &report)
 }
 
 // Appends all pairs of the system.
@@ -229,11 +242,10 @@ fn headed(
     verdict: Verdict,
     text: &mut Text,
 ) -> Result<Bytes, AllocError>
-    requires { MeantBy (system_data problem.now.system) verdict }
-    ensures { IfOk result (Means (system_data problem.now.system)) }
+    ensures { IfOk result (BeginsWith (first_words verdict)) }
 {
     put_last(alloc, text, &problem.system)?;
-    joined(alloc, first_words(&verdict), text.as_slice())
+    joined(alloc, first_words(verdict), text.as_slice())
 }
 
 // Appends what is likely not meant.

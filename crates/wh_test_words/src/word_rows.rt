@@ -24,34 +24,40 @@ const ROWS: &[&[&str]] = &[
     &["wanda", "refute", "--tries", "5", "system"],
 ];
 
+/// The commands, each with its files and its options.
+const COMMANDS: &[(&str, &[&str], &[&str])] = &[
+    ("check", &["file", "cert"], &[]),
+    ("show", &["file"], &[]),
+    ("prove", &["file"], &["tries", "depth", "visited"]),
+    ("reduce", &["file", "term"], &["steps"]),
+    ("upgrade", &["file", "cert"], &[]),
+    ("refute", &["file"], &["tries"]),
+];
+
+/// A command with these files and options.
+fn command_of(
+    alloc: Global,
+    name: &'static str,
+    files: &[&'static str],
+    options: &[&'static str],
+) -> Result<Stock<'static>, AllocError> {
+    let mut command = Stock::new(alloc, name);
+    for file in files {
+        command = command.arg(Arg::new(alloc, *file))?;
+    }
+    for option in options {
+        command = command.arg(Arg::new(alloc, *option).long(*option))?;
+    }
+    Ok(command)
+}
+
 /// A command line of the same commands, options and files.
 fn stock(alloc: Global) -> Result<Stock<'static>, AllocError> {
-    let check = Stock::new(alloc, "check")
-        .arg(Arg::new(alloc, "file"))?
-        .arg(Arg::new(alloc, "cert"))?;
-    let show = Stock::new(alloc, "show").arg(Arg::new(alloc, "file"))?;
-    let prove = Stock::new(alloc, "prove")
-        .arg(Arg::new(alloc, "file"))?
-        .arg(Arg::new(alloc, "tries").long("tries"))?
-        .arg(Arg::new(alloc, "depth").long("depth"))?
-        .arg(Arg::new(alloc, "visited").long("visited"))?;
-    let reduce = Stock::new(alloc, "reduce")
-        .arg(Arg::new(alloc, "file"))?
-        .arg(Arg::new(alloc, "term"))?
-        .arg(Arg::new(alloc, "steps").long("steps"))?;
-    let upgrade = Stock::new(alloc, "upgrade")
-        .arg(Arg::new(alloc, "file"))?
-        .arg(Arg::new(alloc, "cert"))?;
-    let refute = Stock::new(alloc, "refute")
-        .arg(Arg::new(alloc, "file"))?
-        .arg(Arg::new(alloc, "tries").long("tries"))?;
-    Stock::new(alloc, "wanda")
-        .subcommand(check)?
-        .subcommand(show)?
-        .subcommand(prove)?
-        .subcommand(reduce)?
-        .subcommand(upgrade)?
-        .subcommand(refute)
+    let mut program = Stock::new(alloc, "wanda");
+    for (name, files, options) in COMMANDS {
+        program = program.subcommand(command_of(alloc, *name, *files, *options)?)?;
+    }
+    Ok(program)
 }
 
 /// Whether the option has that number, or is not there and the number is the usual one.
