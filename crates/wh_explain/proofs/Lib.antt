@@ -1,4 +1,1 @@
-pub mod Before
-pub mod Filters
 pub mod Texts
-pub mod TypedCalls

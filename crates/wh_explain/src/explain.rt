@@ -13,7 +13,7 @@ ghost use Rattle.wh_judging.specs.Outcomes.{BeginsWith, Stands, StandsBySystem, 
 ghost use Rattle.wh_explain.specs.Meaning.{Explains, Finds, IsUnexplained, Means, MeansLoop, MeansProof, SaysOf, SaysOfBytes, SaysOfFiles};
 
 use crate::causes::put_cause;
-use crate::tree::put_tree;
+use wh_tell_nodes::put_tree;
 use std::alloc::{AllocError, Global};
 use wh_answer::{NamedRejection, Report, print_answer};
 use wh_cert::Certificate;

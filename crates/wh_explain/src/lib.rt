@@ -5,10 +5,6 @@
 mod causes;
 mod explain;
 mod guessed;
-mod ordered;
-mod request;
-mod tree;
-mod values;
 
 pub use explain::{explain_file, graph_file, lint_file};
-pub use request::{Request, read_request};
+

@@ -1,5 +1,0 @@
-use Rattle.wh_explain.proofs.Before.{proper_before}
-use Rattle.wh_explain.proofs.ordered.comes_later.Goals as goal
-
-pub returns-in_default : goal.returns-in_default
-returns-in_default c = λ _. proper_before c.args.fault.now c.in_default.not-BadFilter

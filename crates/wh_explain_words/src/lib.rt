@@ -1,0 +1,6 @@
+//! What the words of the program that explains ask for.
+#![tactic(auto)]
+
+mod request;
+
+pub use request::{Request, read_request};
