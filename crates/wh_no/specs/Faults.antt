@@ -1,5 +1,5 @@
 -- The first condition of a valid certificate that is false.
-use Rattle.std.specs.Prelude.{ℕ, ◌+◌, ◌<◌, ◌≡◌, List, length, Some, All, AllPairs, slice_get}
+use Rattle.std.specs.Prelude.{ℕ, ◌+◌, ◌<◌, ◌≡◌, List, length, take, Some, All, AllPairs, slice_get}
 use Rattle.wh_terms.specs.Tree.{Tm}
 use Rattle.wh_terms.specs.Measures.{Fits}
 use Rattle.wh_terms.specs.Rules.{RewriteRule}
@@ -52,6 +52,11 @@ pub record AreRight (d : SystemData) (lines : List written.Put) (puts : List Put
   pub says : SayPuts d lines puts
   pub over : All (IsPutOver d.symbols) puts
   pub increasing : AllPairs IsBelow puts
+
+-- the first i lines are right, and they stand for these puts
+pub record AreRightTo (d : SystemData) (lines : List written.Put) (i : ℕ) (puts : List Put) : Type 0 where
+  pub stand : AreRight d (take i lines) puts
+  pub each : (j : ℕ) → j < i → IsRightLine d lines j
 
 -- what is wrong with the term: the raw term stands for no well-typed term that fits
 abbrev pub IsTermFault : SystemData → RTm → NoFault → Type 0

@@ -32,8 +32,8 @@ pub struct AcceptedNo {
     pub steps: u32,
 }
 
-// The term that a raw term stands for, if it fits.
-fn check_term(
+/// The term that a raw term stands for, if it fits. The fault is that there is none.
+pub fn check_term(
     alloc: Global,
     system: &System,
     names: &NameTables,

@@ -10,9 +10,11 @@ mod search;
 mod steps;
 mod unused;
 
-pub use check::{AcceptedNo, check_no};
+pub use check::{AcceptedNo, check_no, check_term};
 pub use fault::NoFault;
+pub use instance::check_instance;
 pub use laws::{
     accepted_or_refused, claims_are_valid_or_have_a_first_fault, one_first_fault,
     valid_claims_are_unbounded,
 };
+pub use puts::add_put;

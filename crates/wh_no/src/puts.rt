@@ -1,16 +1,17 @@
 //! What a certificate puts for variables.
 
-ghost use Rattle.std.specs.Prelude.{◌≡◌, ◌↔◌, ◌≤◌, ◌<◌, ◌+◌, ◌^◌, ℕ, [], Some, IfOk, IsTrue, MatchBool, length, map, slice_get};
+ghost use Rattle.std.specs.Prelude.{◌≡◌, ◌↔◌, ◌≤◌, ◌<◌, ◌+◌, ◌^◌, ℕ, List, [], Some, IfOk, IsTrue, MatchBool, length, map, slice_get};
 ghost use Rattle.wh_types.specs.Outcome.{MatchOr};
 ghost use Rattle.wh_types.specs.Erase.{ty};
 ghost use Rattle.wh_terms.specs.Erase.{tm};
 ghost use Rattle.wh_terms.specs.Typing.{Typed};
 ghost use Rattle.wh_terms.specs.declared.subst.SubstEntry as entry;
 ghost use Rattle.wh_cert.specs.Said.{said_put};
+ghost use Rattle.wh_cert.specs.Written as written;
 ghost use Rattle.wh_system.specs.SystemView.{system_data};
 ghost use Rattle.wh_making.specs.TablesOf.{AreTablesOf};
 ghost use Rattle.wh_no.specs.Entry.{entry_puts, SaysTyped};
-ghost use Rattle.wh_no.specs.Faults.{AreRight, IsPutFault};
+ghost use Rattle.wh_no.specs.Faults.{AreRight, AreRightTo, IsPutFault};
 
 use crate::fault::NoFault;
 use std::alloc::{AllocError, Global};
@@ -75,6 +76,32 @@ fn is_above(entries: &[SubstEntry], number: u32) -> bool
     }
 }
 
+/// Adds what one more line, of that number, puts for a variable, behind what the lines before it put. The fault is that the
+/// line does not say a typed put, or that its number is not above that of the line before.
+pub fn add_put(
+    alloc: Global,
+    system: &System,
+    names: &NameTables,
+    index: u32,
+    put: &Put,
+    entries: &mut Vec<SubstEntry>,
+) -> Result<(), Or<NoFault>>
+    requires { AreTablesOf (system_data system.now) names.now }
+    ensures { (lines : List written.Put) → slice_get lines index ≡ Some (said_put put.now)
+        → AreRightTo (system_data system.now) lines index (entry_puts entries.old.items)
+        → MatchOr result (λ _. AreRightTo (system_data system.now) lines (index + 1) (entry_puts entries.new.items))
+        (IsPutFault (system_data system.now) lines) }
+{
+    if !is_above(entries, put.number) {
+        return Err(Or::Because(NoFault::BadPut { index }));
+    }
+    match typed_put(alloc, system, names, put)? {
+        Some(entry) => entries.push(entry)?,
+        None => return Err(Or::Because(NoFault::BadPut { index })),
+    }
+    Ok(())
+}
+
 /// What the lines put for variables. The fault is the first line that does not say a typed put, or whose number is not above
 /// that of the line before.
 pub fn check_puts(
@@ -90,14 +117,7 @@ pub fn check_puts(
 {
     let mut entries = Vec::new(alloc);
     for (i, put) in puts.iter().enumerate() {
-        let bad = NoFault::BadPut { index: i as u32 };
-        if !is_above(&entries, put.number) {
-            return Err(Or::Because(bad));
-        }
-        match typed_put(alloc, system, names, put)? {
-            Some(entry) => entries.push(entry)?,
-            None => return Err(Or::Because(bad)),
-        }
+        add_put(alloc, system, names, i as u32, put, &mut entries)?;
     }
     Ok(entries)
 }

@@ -1,12 +1,10 @@
 -- The lines so far are right, and the entries are what they say.
-use Rattle.std.proofs.Common.{◌<◌, ℕ, map, take}
+use Rattle.std.proofs.Common.{map}
 use Rattle.wh_cert.specs.Said.{said_put}
 use Rattle.wh_system.specs.SystemView.{system_data}
 use Rattle.wh_no.specs.Entry.{entry_puts}
-use Rattle.wh_no.specs.Faults.{AreRight, IsRightLine}
+use Rattle.wh_no.specs.Faults.{AreRightTo}
 use Rattle.wh_no.proofs.puts.check_puts.Given as goal
 
 abbrev pub invariant-loop-i : goal.invariant-loop-i
-invariant-loop-i l =
-    AreRight (system_data l.system) (take l.i (map said_put l.puts)) (entry_puts l.entries.items)
-    × ((j : ℕ) → j < l.i → IsRightLine (system_data l.system) (map said_put l.puts) j)
+invariant-loop-i l = AreRightTo (system_data l.system) (map said_put l.puts) l.i (entry_puts l.entries.items)
