@@ -10,6 +10,7 @@ returns-in-len1 c =
     let names = c.in_ok-names_of.field-0.now in
     let one = one_word string_bytes names c.file-item.result c.as_str.result.now (omega (arith, c.in-len1)) c.file-item.is c.as_str.ensures.value in
     rw one at ((c.in_ok-names_of.ensures (map string_bytes names)).1 refl)
+
 pub returns-in-empty : goal.returns-in-empty
 returns-in-empty c = no_one string_bytes _ c.in_ok-names_of.field-0.now c.in_ok-names_of.ensures (λ e. omega (arith, c.in-empty, e))
 

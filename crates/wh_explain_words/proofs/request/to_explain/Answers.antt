@@ -18,6 +18,7 @@ returns-in-len2 c =
     let two = two_words string_bytes names c.file-item-then-this-lt3.result c.cert-item.result c.as_str-in-len2.result.now c.as_str-in-len2-2.result.now
     (omega (arith, c.in-len2)) c.file-item-then-this-lt3.is c.cert-item.is c.as_str-in-len2.ensures.value c.as_str-in-len2-2.ensures.value in
     rw two at ((c.in_ok-names_of.ensures (map string_bytes names)).1 refl)
+
 pub returns-in-empty : goal.returns-in-empty
 returns-in-empty c =
     let names = c.in_ok-names_of.field-0.now in
