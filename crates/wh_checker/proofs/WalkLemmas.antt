@@ -69,18 +69,22 @@ pub come_last : (d : SystemData) (ps : List PairData) (set : List ℕ) (lines : 
 come_last d ps set lines k [] come = come.proved ([], tt, all_proved, all_small)
 come_last d ps set lines k (here ∷ sets) come = absurd come.counted
 
--- the walk at a node, where the stack has a set on top
-pub come_here : (d : SystemData) (ps : List PairData) (set : List ℕ) (lines : List w.Node) (k : ℕ) (stack rest : List (List ℕ))
-    (here : List ℕ) (nodes : List code.Node) (node : code.Node)
-    → HasCome d ps set lines k (reverse stack) (map said_node (drop k nodes)) → stack ≡ rest ++ here ∷ [] → k < length nodes
-    → node ≡ get_or nodes k node
-    → HasCome d ps set lines k (here ∷ reverse rest) (said_node node ∷ map said_node (drop (k + 1) nodes))
-come_here d ps set lines k stack rest here nodes node come top within is =
+-- the walk at a line, where the stack has a set on top
+pub come_top : (d : SystemData) (ps : List PairData) (set : List ℕ) (lines : List w.Node) (k : ℕ) (stack rest : List (List ℕ))
+    (here : List ℕ) (line : w.Node) (left : List w.Node)
+    → HasCome d ps set lines k (reverse stack) (line ∷ left) → stack ≡ rest ++ here ∷ []
+    → HasCome d ps set lines k (here ∷ reverse rest) (line ∷ left)
+come_top d ps set lines k stack rest here line left come top =
+    subst (λ (s : List (List ℕ)). HasCome d ps set lines k s (line ∷ left)) (ap reverse top ∙ reverse_push rest here) come
+
+-- the walk at a node
+pub come_line : (d : SystemData) (ps : List PairData) (set : List ℕ) (lines : List w.Node) (k : ℕ) (sets : List (List ℕ))
+    (nodes : List code.Node) (node : code.Node) → HasCome d ps set lines k sets (map said_node (drop k nodes)) → k < length nodes
+    → node ≡ get_or nodes k node → HasCome d ps set lines k sets (said_node node ∷ map said_node (drop (k + 1) nodes))
+come_line d ps set lines k sets nodes node come within is =
     let split : drop k nodes ≡ node ∷ drop (k + 1) nodes = subst (λ (n : code.Node). drop k nodes ≡ n ∷ drop (k + 1) nodes) (sym is)
     (drop_more nodes k node within) in
-    let turned : reverse stack ≡ here ∷ reverse rest = ap reverse top ∙ reverse_push rest here in
-    subst (λ (l : List w.Node). HasCome d ps set lines k (here ∷ reverse rest) l) (ap (map said_node) split)
-    (subst (λ (s : List (List ℕ)). HasCome d ps set lines k s (map said_node (drop k nodes))) turned come)
+    subst (λ (l : List w.Node). HasCome d ps set lines k sets l) (ap (map said_node) split) come
 
 -- the walk where no node is left
 pub come_over : (d : SystemData) (ps : List PairData) (set : List ℕ) (lines : List w.Node) (k : ℕ) (sets : List (List ℕ))
