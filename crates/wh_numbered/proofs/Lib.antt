@@ -1,0 +1,3 @@
+pub mod JoinLaws
+pub mod RuleSides
+pub mod EntryLaws

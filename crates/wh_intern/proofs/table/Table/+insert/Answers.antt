@@ -71,8 +71,11 @@ insert-returns-in_ok-argument-in-App-clause-grows t c =
 
 pub insert_meta-insert-requires : goal.insert_meta-insert-requires
 insert_meta-insert-requires t c =
-    omega (arith, weight_in_item c.args.items.now c.as_slice-item-items.result.now c.loop-item.item-index c.item-item.result
-    c.as_slice-item-items.ensures c.loop-item-test.true c.item-item.is)
+    omega (
+      arith,
+      weight_in_item c.args.items.now c.as_slice-item-items.result.now c.loop-item.item-index c.item-item.result
+          c.as_slice-item-items.ensures c.loop-item-test.true c.item-item.is,
+    )
 
 pub insert_meta-returns-in_err-number-clause-grows : goal.insert_meta-returns-in_err-number-clause-grows
 insert_meta-returns-in_err-number-clause-grows t c =

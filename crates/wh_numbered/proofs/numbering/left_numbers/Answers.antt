@@ -1,0 +1,1 @@
+use Rattle.wh_numbered.proofs.numbering.left_numbers.Goals as goal
