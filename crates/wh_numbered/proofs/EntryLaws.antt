@@ -63,7 +63,7 @@ module _ (a b : List Tm) (P : Tm → Type 0) (j : Joins a b P) (done : List Side
     each = λ k t p at there. pick k t p (last_or_front done s k t at) (last_or_front qs q k p there);
   }
 
-there_is : {A : Type 0} (xs : List A) (i : ℕ) → i < length xs → (x : A) × (slice_get xs i ≡ Some x)
+pub there_is : {A : Type 0} (xs : List A) (i : ℕ) → i < length xs → (x : A) × (slice_get xs i ≡ Some x)
 there_is [] i within = absurd (omega (arith, within))
 there_is (x ∷ xs) zero within = (x, refl)
 there_is (x ∷ xs) (suc i) within = there_is xs i (omega (arith, within))

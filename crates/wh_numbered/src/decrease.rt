@@ -11,7 +11,7 @@ use crate::marked::choice_for;
 use crate::parts::{has_part, is_same};
 use wh_intern::{Sides, Table};
 use wh_subterm::Choice;
-use wh_types::is_in;
+use wh_types::{Numbers, is_in};
 
 /// The least pair of the set that is neither equal nor below, or that is dropped and not below.
 pub fn first_not_decreasing(
@@ -44,25 +44,26 @@ fn is_decreasing(table: &Table, pair: &Sides, args: &[Choice], dropped: bool) ->
     requires args { IsIncreasing (chosen_symbols (map chosen args.now)) }
     ensures { IsTrue result ↔ Decreasing (map chosen args.now) dropped (as_pair (trees table.now) pair.now) }
 {
-    let Some(left) = projected(args, pair.left_fun, pair.left.as_slice()) else {
+    let Some(left) = projected(args, pair.left_fun, &pair.left) else {
         return false;
     };
-    let Some(right) = projected(args, pair.right_fun, pair.right.as_slice()) else {
+    let Some(right) = projected(args, pair.right_fun, &pair.right) else {
         return false;
     };
     has_part(table, left, right) || (!dropped && is_same(table, left, right))
 }
 
 // The number that is chosen for the symbol.
-fn projected(args: &[Choice], symbol: u32, numbers: &[u32]) -> Option<u32>
+fn projected(args: &[Choice], symbol: u32, numbers: &Numbers) -> Option<u32>
     requires { IsIncreasing (chosen_symbols (map chosen args.now)) }
     ensures { MatchOption result ((n : ℕ) → IsChosenNumber (map chosen args.now) symbol numbers.now n → ⊥)
         (IsChosenNumber (map chosen args.now) symbol numbers.now) }
 {
     let argument = choice_for(args, symbol)?;
     let place = argument.checked_sub(1)? as usize;
-    if place < numbers.len() {
-        Some(numbers[place])
+    let items = numbers.as_slice();
+    if place < items.len() {
+        Some(items[place])
     } else {
         None
     }

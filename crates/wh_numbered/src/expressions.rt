@@ -10,7 +10,7 @@ ghost use Rattle.wh_intern.specs.Trees.{tree_at, trees_at};
 use std::alloc::{AllocError, Global};
 use wh_hopoly::Expr;
 use wh_intern::{Part, Table};
-use wh_types::sum;
+use wh_types::{Numbers, sum};
 
 /// The tree of that number as an expression in a scope of so many variables.
 #[cycle(expressions)]
@@ -76,14 +76,14 @@ fn application(alloc: Global, function: Expr, argument: Expr) -> Result<Expr, Al
 pub fn expressions_of(
     alloc: Global,
     table: &Table,
-    numbers: &[u32],
+    numbers: &Numbers,
     scope: u32,
 ) -> Result<Vec<Expr>, AllocError>
     requires { All (λ n. n < length (trees table.now)) numbers.now }
     ensures { IfOk result (λ es. map expression es.items ≡ map (λ n. side scope (tree_at (trees table.now) n)) numbers.now) }
 {
     let mut expressions = Vec::new(alloc);
-    for number in numbers {
+    for number in numbers.as_slice() {
         expressions.push(expression_of(alloc, table, *number, scope)?)?;
     }
     Ok(expressions)

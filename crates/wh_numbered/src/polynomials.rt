@@ -25,7 +25,7 @@ use wh_hopoly::{Poly, PolyFault, normal, normal_call};
 use wh_intern::{Sides, Table};
 use wh_polycheck::{Readings, kind_of_mark};
 use wh_system::System;
-use wh_types::{Or, SimpleType, counted};
+use wh_types::{Numbers, Or, SimpleType, counted};
 
 /// The normal form of the tree of that number, a side of a rule, in the scope of the rule's meta-variables and of the arguments of
 /// its type, where symbols are read as `readings` say (Fuhs and Kop 2012).
@@ -49,7 +49,6 @@ pub fn side_by_number<'a>(
     ensures fault { (M : List Declared) → AreInScope M (map ty scope.now)
         → IfBecause result (IsFaultOfSide (readings_data readings.now).symbols M (tree_at (trees table.now) number)) }
 {
-    let _ = system;
     let expression = expression_of(alloc, table, number, counted(scope.len())?)?;
     normal(alloc, &expression, scope, readings.symbols)
 }
@@ -82,7 +81,7 @@ pub fn pair_side_by_number<'a>(
             readings,
             table,
             sides.right_fun,
-            sides.right.as_slice(),
+            &sides.right,
             scope,
         )
     } else {
@@ -92,7 +91,7 @@ pub fn pair_side_by_number<'a>(
             readings,
             table,
             sides.left_fun,
-            sides.left.as_slice(),
+            &sides.left,
             scope,
         )
     }
@@ -106,7 +105,7 @@ fn normal_of_marked<'a>(
     readings: &Readings<'a>,
     table: &Table,
     fun: u32,
-    numbers: &[u32],
+    numbers: &Numbers,
     scope: &[SimpleType],
 ) -> Result<Poly, Or<PolyFault>>
     requires proper { AreProper (system_data system.now).symbols (system_data system.now).rules (readings_data readings.now) }

@@ -2,6 +2,7 @@
 
 ghost use Rattle.std.specs.Prelude.{◌≡◌, IfOk, map};
 ghost use Rattle.wh_types.specs.Erase.{ty, tys};
+ghost use Rattle.wh_types.specs.Ty.{◌⇒◌};
 ghost use Rattle.wh_terms.specs.Erase.{declared_metas};
 ghost use Rattle.wh_polycheck.specs.Sides.{arrows};
 ghost use Rattle.wh_numbered.specs.SidesInScope.{AreInScope};
@@ -30,8 +31,19 @@ fn kind_of(alloc: Global, meta: &MetaDecl) -> Result<SimpleType, AllocError>
     let mut left = args.len();
     while left > 0 {
         left -= 1;
-        let argument = Box::new(alloc, args[left].copy(alloc)?)?;
-        kind = SimpleType::Arrow(argument, Box::new(alloc, kind)?);
+        let argument = args[left].copy(alloc)?;
+        kind = arrow(alloc, argument, kind)?;
     }
     Ok(kind)
+}
+
+// The type of functions from the one type to the other.
+fn arrow(
+    alloc: Global,
+    argument: SimpleType,
+    value: SimpleType,
+) -> Result<SimpleType, AllocError>
+    ensures { IfOk result (λ whole. ty whole ≡ ty argument ⇒ ty value) }
+{
+    Ok(SimpleType::Arrow(Box::new(alloc, argument)?, Box::new(alloc, value)?))
 }

@@ -1,13 +1,11 @@
-use Rattle.std.proofs.Common.{ap, ap₂, sym, ◌∙◌, subst, take, arith}
+use Rattle.std.proofs.Common.{ap, ap₂, sym, ◌∙◌, subst, arith}
 use Rattle.std.proofs.lemmas.List.{take_all}
 use Rattle.wh_types.specs.Erase.{ty}
 use Rattle.wh_terms.specs.Tree as tree
 use Rattle.wh_terms.specs.Erase.{tm, tms}
-use Rattle.wh_terms.specs.Measures.{size, sizes}
 use Rattle.wh_terms.proofs.TermLemmas.{tm_of_meta, weight_in_meta, weight_in_item}
-use Rattle.wh_terms.proofs.MeasureLemmas.{size_here}
 use Rattle.wh_intern.specs.TableTrees.{trees}
-use Rattle.wh_intern.proofs.AddLaws.{adds_length, lam_tree, grows_lam, below_lam, app_tree, grows_app, grows_app_front, below_app, number_of_tree, gathered_next, grows_meta, grows_meta_stop, Gathered}
+use Rattle.wh_intern.proofs.AddLaws.{lam_tree, grows_lam, below_lam, app_tree, grows_app, grows_app_front, below_app, number_of_tree, gathered_next, grows_meta, grows_meta_stop, Gathered}
 use Rattle.wh_intern.proofs.table.Table.+insert.Goals as goal
 
 pub insert-insert_meta-requires : goal.insert-insert_meta-requires

@@ -1,0 +1,1 @@
+use Rattle.wh_numbered.proofs.check.check_conditions.Goals as goal

@@ -1,0 +1,1 @@
+use Rattle.wh_numbered.proofs.expressions.+expressions.Goals as goal
