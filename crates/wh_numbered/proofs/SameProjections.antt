@@ -1,12 +1,15 @@
 -- What the tests of a projection find of numbered sides holds of the pairs that have them.
-use Rattle.std.proofs.Common.{ℕ, zero, suc, ◌≡◌, ◌<◌, ◌⊎◌, inl, inr, List, [], ◌∷◌, length, map, get_or, All, Contains, Some, slice_get, refl, sym, ap, ap₂, ◌∙◌, subst, arith}
+use Rattle.std.proofs.Common.{ℕ, zero, suc, ◌≡◌, ◌<◌, ◌⊎◌, inl, inr, List, [], ◌∷◌, length, map, get_or, All, Contains, Some, slice_get, Result, MatchResult, refl, sym, ap, ap₂, ◌∙◌, subst, arith}
 use Rattle.std.proofs.lemmas.Option.{slice_get_within, slice_get-get_or, get_or_from_slice_get}
 use Rattle.wh_terms.specs.Tree.{Tm, bound}
+use Rattle.wh_terms.specs.Rules.{RewriteRule}
 use Rattle.wh_pairs.specs.PairData.{PairData}
 use Rattle.wh_pairs.specs.Marked.{HeadsASide, IsMarked}
 use Rattle.wh_pairs.proofs.ByPlace.{unmap, remap}
 use Rattle.wh_subterm.specs.Projections.{Chosen, Equal, Below}
-use Rattle.wh_subterm.specs.SubtermRows.{AreForMarked, IsDecreasing, IsNotDecreasing}
+use Rattle.wh_subterm.specs.declared.projection.Choice as code
+use Rattle.wh_subterm.specs.declared.projection.SubtermFault.{SubtermFault}
+use Rattle.wh_subterm.specs.SubtermRows.{AreForMarked, IsDecreasing, IsNotDecreasing, IsProjection, IsFirstSubtermFault, chosen}
 use Rattle.wh_intern.specs.Trees.{tree_at}
 use Rattle.wh_intern.specs.declared.sides.Sides.{Sides}
 use Rattle.wh_numbered.specs.NumberedSides.{AreNumbersOf, AreSidesOf, AreSides}
@@ -109,10 +112,23 @@ module _ (ts : List Tm) (sides : List Sides) (ps : List PairData) (are : AreSide
       → IsNotDecreasing ps args drop n
   wrong_same args drop n (a, at, wrong) =
       let (s, here, is) = unmap (as_pair ts) sides n a at in
-      let (p, there, h) = pair_of n s here in
-      (p, there, subst (λ (q : PairData). ((Equal args q ⊎ Below args q) → ⊥) ⊎ (Contains drop n × (Below args q → ⊥)))
-      (sym is ∙ same_sides s p h) wrong)
+      let (p, there, h) = pair_of n s here in (
+        p,
+        there,
+        subst (λ (q : PairData). ((Equal args q ⊎ Below args q) → ⊥) ⊎ (Contains drop n × (Below args q → ⊥)))
+            (sym is ∙ same_sides s p h) wrong,
+      )
 
   pub wrong_back : (args : List Chosen) (drop : List ℕ) (n : ℕ) → IsNotDecreasing ps args drop n
       → IsNotDecreasing (map (as_pair ts) sides) args drop n
   wrong_back args drop n (p, there, wrong) = (sides_only p, view_there n p there, wrong)
+
+-- what a check answers, over the same lists under other names
+abbrev pub Checked : List RewriteRule → List PairData → List ℕ → List code.Choice → List ℕ → Result (Unit {0}) SubtermFault → Type 0
+Checked rules ps set args drop r =
+    MatchResult r (λ _. IsProjection rules ps set (map chosen args) drop) (IsFirstSubtermFault rules ps set (map chosen args) drop)
+
+pub checked_same : (rules : List RewriteRule) (ps : List PairData) (ms ns : List ℕ) (cs ds : List code.Choice) (drop : List ℕ)
+    (r : Result (Unit {0}) SubtermFault) → ms ≡ ns → cs ≡ ds → Checked rules ps ms cs drop r → Checked rules ps ns ds drop r
+checked_same rules ps ms ns cs ds drop r m c checked =
+    subst (λ bs. Checked rules ps ns bs drop r) c (subst (λ ks. Checked rules ps ks cs drop r) m checked)

@@ -1,7 +1,7 @@
 //! Proper parts of a numbered tree that are reached through arguments alone.
 
 ghost use Rattle.std.specs.Prelude.{◌≡◌, ◌↔◌, ◌<◌, IsTrue, length};
-ghost use Rattle.wh_subterm.specs.ProperParts.{IsHeadedBySymbol, Part, SomeArgumentHas};
+ghost use Rattle.wh_subterm.specs.ProperParts.{IsHeadedBySymbol, Part as ProperPart, SomeArgumentHas};
 ghost use Rattle.wh_intern.specs.TableTrees.{trees};
 ghost use Rattle.wh_intern.specs.Trees.{tree_at};
 
@@ -13,7 +13,7 @@ use wh_intern::{Part, Table};
 pub fn has_part(table: &Table, whole: u32, part: u32) -> bool
     requires whole { whole < length (trees table.now) }
     requires part { part < length (trees table.now) }
-    ensures { IsTrue result ↔ Part (tree_at (trees table.now) part) (tree_at (trees table.now) whole) }
+    ensures { IsTrue result ↔ ProperPart (tree_at (trees table.now) part) (tree_at (trees table.now) whole) }
 {
     is_headed_by_symbol(table, whole) && some_argument_has(table, whole, part)
 }

@@ -38,11 +38,7 @@ fn kind_of(alloc: Global, meta: &MetaDecl) -> Result<SimpleType, AllocError>
 }
 
 // The type of functions from the one type to the other.
-fn arrow(
-    alloc: Global,
-    argument: SimpleType,
-    value: SimpleType,
-) -> Result<SimpleType, AllocError>
+fn arrow(alloc: Global, argument: SimpleType, value: SimpleType) -> Result<SimpleType, AllocError>
     ensures { IfOk result (λ whole. ty whole ≡ ty argument ⇒ ty value) }
 {
     Ok(SimpleType::Arrow(Box::new(alloc, argument)?, Box::new(alloc, value)?))

@@ -32,7 +32,7 @@ returns-in_default c =
     let pair = c.args.pair.now in (
       λ no_way. cc,
       λ decreasing. absurd (unprojected args (as_pair ts pair) c.args.dropped
-      (λ t u left right. no_tree_projected args pair.left_fun pair.left ts c.in_default.ensures t left) decreasing),
+          (λ t u left right. no_tree_projected args pair.left_fun pair.left ts c.in_default.ensures t left) decreasing),
     )
 
 pub returns-in_default-projected : goal.returns-in_default-projected
@@ -42,7 +42,7 @@ returns-in_default-projected c =
     let pair = c.args.pair.now in (
       λ no_way. cc,
       λ decreasing. absurd (unprojected args (as_pair ts pair) c.args.dropped
-      (λ t u left right. no_tree_projected args pair.right_fun pair.right ts c.in_default-projected.ensures u right) decreasing),
+          (λ t u left right. no_tree_projected args pair.right_fun pair.right ts c.in_default-projected.ensures u right) decreasing),
     )
 
 pub returns-then-has_part : goal.returns-then-has_part
@@ -53,7 +53,7 @@ returns-then-has_part c =
     let left = tree_projected args pair.left_fun pair.left c.in-Some.left ts c.in-Some.ensures in
     let right = tree_projected args pair.right_fun pair.right c.in-Some-projected.right ts c.in-Some-projected.ensures in (
       λ is. decreasing_part args (as_pair ts pair) (tree_at ts c.in-Some.left) (tree_at ts c.in-Some-projected.right) c.args.dropped left right
-      (c.has_part.ensures.0 is),
+          (c.has_part.ensures.0 is),
       λ _. c.if-has_part.true,
     )
 
