@@ -1,15 +1,18 @@
 -- Entries of pairs, one behind the other.
 use Rattle.std.proofs.Common.{ℕ, zero, suc, ◌≡◌, ◌+◌, ◌-◌, ◌<◌, ◌≤◌, ◌⊎◌, ◌↔◌, inl, inr, List, [], ◌∷◌, ◌++◌, length, map, take, get_or, Contains, Some, slice_get, refl, sym, ap, ◌∙◌, subst, arith}
-use Rattle.std.proofs.lemmas.List.{length-append, get_or_default}
+use Rattle.std.proofs.lemmas.List.{length-append, length-map, get_or_default}
 use Rattle.std.proofs.lemmas.List.Elements.{Contains-append_left, Contains-append_cases}
 use Rattle.std.proofs.lemmas.Option.{none-some, same_Some, slice_get_within, slice_get_read, get_or_from_slice_get}
 use Rattle.wh_terms.specs.Tree.{Tm, bound}
+use Rattle.wh_terms.specs.Erase.{tm}
+use Rattle.wh_terms.specs.declared.term.Term.{Term}
 use Rattle.wh_system.specs.Systems.{SystemData}
 use Rattle.wh_pairs.specs.PairData.{PairData, pair_data}
 use Rattle.wh_pairs.specs.declared.pair.Pair.{Pair}
 use Rattle.wh_pairs.specs.SystemPairs.{HasPairs}
-use Rattle.wh_pairs.proofs.ByPlace.{contains_at, place_of, unmap, remap}
+use Rattle.wh_pairs.proofs.ByPlace.{some_one, read_map, contains_at, place_of, unmap, remap}
 use Rattle.wh_pairs.proofs.ListLemmas.{map_take}
+use Rattle.wh_pairs.proofs.MemberLemmas.{image_there}
 use Rattle.wh_intern.specs.Trees.{tree_at, IsPart}
 use Rattle.wh_intern.specs.declared.sides.Sides.{Sides}
 use Rattle.wh_numbered.specs.NumberedSides.{AreNumbersOf, AreSidesOf, AreSides, IsPartOfOne, IsPartOfSides, Joins}
@@ -94,6 +97,44 @@ left_taken d a xs i done s p has before some within is same at =
     subst (AreNumbersOf a s.left)
     (one_left d (map pair_data xs) q p has (contains_at (map pair_data xs) (i - 1) q whole) (contains_at (map pair_data xs) i p at) (same q p whole at))
     entry.left
+
+taken_long : {A : Type 0} (n : ℕ) (xs : List A) → n ≤ length xs → length (take n xs) ≡ n
+taken_long zero xs h = refl
+taken_long (suc n) [] h = absurd (omega (arith, h))
+taken_long (suc n) (x ∷ xs) h = ap suc (taken_long n xs (omega (arith, h)))
+
+pub place_before : (a : List Tm) (xs : List Pair) (i : ℕ) (done : List Sides) → AreSides a done (map pair_data (take i xs)) → i < length xs
+    → 0 < i → i - 1 < length done
+place_before a xs i done before within some =
+    omega (arith, before.long, length-map (take i xs) pair_data, taken_long i xs (omega (arith, within)), some)
+
+-- the pair at a place
+module _ (xs : List Pair) (i : ℕ) (x : Pair) (within : i < length xs) (is : x ≡ get_or xs i x) where
+  pub left_parts : (us : List Term) → us ≡ x.left → (s : Tm) → IsPartOfOne (map tm us) s → IsPartOfSides (map pair_data xs) s
+  left_parts us e s part = (pair_data x, image_there pair_data xs i x within is, inl (subst (λ vs. IsPartOfOne (map tm vs) s) e part))
+
+  pub right_parts : (us : List Term) → us ≡ x.right → (s : Tm) → IsPartOfOne (map tm us) s → IsPartOfSides (map pair_data xs) s
+  right_parts us e s part = (pair_data x, image_there pair_data xs i x within is, inr (subst (λ vs. IsPartOfOne (map tm vs) s) e part))
+
+  the_pair : (p : PairData) → slice_get (map pair_data xs) i ≡ Some p → pair_data x ≡ p
+  the_pair p at = some_one (read_map pair_data xs i x within is) at
+
+pub left_made : (b : List Tm) (xs : List Pair) (i : ℕ) (x : Pair) → i < length xs → x ≡ get_or xs i x → (us : List Term) → us ≡ x.left → (ns : List ℕ)
+    → AreNumbersOf b ns (map tm us) → (p : PairData) → slice_get (map pair_data xs) i ≡ Some p → AreNumbersOf b ns p.left
+left_made b xs i x within is us e ns h p at =
+    subst (λ (q : PairData). AreNumbersOf b ns q.left) (the_pair xs i x within is p at) (subst (λ vs. AreNumbersOf b ns (map tm vs)) e h)
+
+pub entry_made : (b d : List Tm) (P : Tm → Type 0) (xs : List Pair) (i : ℕ) (x : Pair) → i < length xs → x ≡ get_or xs i x → (ns ms : List ℕ)
+    (us : List Term) → us ≡ x.right → Joins b d P → ((p : PairData) → slice_get (map pair_data xs) i ≡ Some p → AreNumbersOf b ns p.left)
+    → AreNumbersOf d ms (map tm us) → (p : PairData) → slice_get (map pair_data xs) i ≡ Some p
+    → AreSidesOf d (record { left_fun = x.left_fun; left = ns; right_fun = x.right_fun; right = ms }) p
+entry_made b d P xs i x within is ns ms us e j left right p at =
+    subst (AreSidesOf d (record { left_fun = x.left_fun; left = ns; right_fun = x.right_fun; right = ms })) (the_pair xs i x within is p at) (record {
+      left_fun = refl;
+      left = numbers_kept b d P ns (map tm x.left) j (left (pair_data x) (read_map pair_data xs i x within is));
+      right_fun = refl;
+      right = subst (λ vs. AreNumbersOf d ms (map tm vs)) e right;
+    })
 
 -- what there is in the table where all pairs have their entries
 

@@ -9,7 +9,7 @@ use Rattle.wh_terms.specs.declared.rule.Rule.{Rule}
 use Rattle.wh_system.specs.Systems.{SystemData}
 use Rattle.wh_system.specs.WellMade.{IsWellMadeSystem}
 use Rattle.wh_hopoly.specs.Evaluation.{Interpretation}
-use Rattle.wh_cert.specs.Items.{Interp}
+use Rattle.wh_cert.specs.Interps.{Interp}
 use Rattle.wh_proof.specs.Looked.{SayInterpretations}
 use Rattle.wh_polycheck.proofs.MarkedSides.{contains_there}
 use Rattle.wh_polycheck.proofs.SideFacts.{rule_there}

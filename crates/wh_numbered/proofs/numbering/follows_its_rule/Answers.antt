@@ -1,8 +1,14 @@
 -- The two pairs are those that are compared.
-use Rattle.std.proofs.Common.{◌≡◌, ap, sym, ◌∙◌, rules, tests}
+use Rattle.std.proofs.Common.{◌-◌, ap, sym, ◌∙◌, eqb-true, arith}
 use Rattle.wh_pairs.specs.PairData.{PairData, pair_data}
 use Rattle.wh_pairs.proofs.ByPlace.{some_one, read_map}
 use Rattle.wh_numbered.proofs.numbering.follows_its_rule.Goals as goal
 
-pub returns-else-place-clause-one : goal.returns-else-place-clause-one
-returns-else-place-clause-one c = ?
+pub returns-clause-one : goal.returns-clause-one
+returns-clause-one c = λ same p q at also.
+    let xs = c.args.pairs.now in
+    let x = c.index-pairs-place.result in
+    let y = c.index-pairs-place-2.result in
+    let left = some_one (read_map pair_data xs (c.args.place - 1) x (omega arith) c.index-pairs-place.is) at in
+    let right = some_one (read_map pair_data xs c.args.place y (omega arith) c.index-pairs-place-2.is) also in
+    sym (ap (λ (r : PairData). r.rule) left) ∙ eqb-true x.rule y.rule same ∙ ap (λ (r : PairData). r.rule) right

@@ -1,5 +1,5 @@
 -- One term more.
-use Rattle.std.proofs.Common.{ap, map, sym, subst, refl}
+use Rattle.std.proofs.Common.{ap, map, slice_get, subst}
 use Rattle.std.proofs.lemmas.List.{take_all}
 use Rattle.wh_terms.specs.Erase.{tm}
 use Rattle.wh_intern.specs.TableTrees.{trees}
@@ -9,7 +9,7 @@ use Rattle.wh_numbered.proofs.numbering.numbers_of.Goals as goal
 
 pub loop-term-init : goal.loop-term-init
 loop-term-init c = record {
-  numbers = refl;
+  numbers = ap (map (slice_get (trees c.args.table.now))) c.in_ok-numbers.ensures;
   joins = joins_none (trees c.args.table.now) (IsPartOfOne (map tm c.args.terms.now));
 }
 

@@ -6,6 +6,6 @@ use Rattle.wh_numbered.proofs.scopes.scope_of.Goals as goal
 
 pub returns : goal.returns
 returns c =
-    c.loop-meta.invariant
-    ∙ ap (map meta_type) (take_all c.loop-meta.meta-index c.as_slice-meta-items.result.now c.loop-meta-test.false ∙ c.as_slice-meta-items.ensures)
-    ∙ sym (types_are c.args.metas.now)
+    types_are c.args.metas.now
+    ∙ sym (c.loop-meta.invariant
+    ∙ ap (map meta_type) (take_all c.loop-meta.meta-index c.as_slice-meta-items.result.now c.loop-meta-test.false ∙ c.as_slice-meta-items.ensures))
