@@ -1,15 +1,23 @@
 -- Numbered trees as expressions, argument by argument.
-use Rattle.std.proofs.Common.{◌≡◌, ℕ, ◌+◌, ◌<◌, List, [], ◌∷◌, ◌++◌, length, map, take, get_or, refl, ap, ap₂, sym, ◌∙◌}
+use Rattle.std.proofs.Common.{◌≡◌, ℕ, suc, ◌+◌, ◌<◌, List, [], ◌∷◌, ◌++◌, length, map, take, get_or, refl, ap, ap₂, sym, ◌∙◌, add-one}
 use Rattle.std.proofs.lemmas.List.{take_more}
 use Rattle.wh_terms.specs.Tree.{Tm, Tms, none, more, tms_of}
 use Rattle.wh_terms.proofs.TermLemmas.{join}
-use Rattle.wh_hopoly.specs.Evaluation.{Expression, apply, symbol}
+use Rattle.wh_hopoly.specs.Evaluation.{Expression, apply, lambda, symbol}
 use Rattle.wh_hopoly.specs.Outcomes.{applied_to}
 use Rattle.wh_types.specs.Ty.{Ty}
 use Rattle.wh_polycheck.specs.Sides.{side, side_applied}
-use Rattle.wh_intern.specs.Trees.{tree_at, trees_at}
+use Rattle.wh_intern.specs.Parts.{PartTree, lam}
+use Rattle.wh_intern.specs.Trees.{tree_at, trees_at, tree_of}
 use Rattle.wh_intern.proofs.AddLaws.{trees_at_push}
 use Rattle.wh_numbered.specs.SidesInScope.{call_in}
+
+-- an abstraction
+pub lam_told : (ts : List Tm) (k : ℕ) (p : PartTree) (a b : Ty) (m n s : ℕ) (e : Expression) → tree_at ts k ≡ tree_of ts p → p ≡ lam a m
+    → b ≡ a → s ≡ n + 1 → e ≡ side s (tree_at ts m) → lambda b e ≡ side n (tree_at ts k)
+lam_told ts k p a b m n s e says is kind longer told =
+    let next : s ≡ suc n = longer ∙ add-one n in
+    ap₂ lambda kind (told ∙ ap (λ i. side i (tree_at ts m)) next) ∙ sym (ap (side n) (says ∙ ap (tree_of ts) is))
 
 applied_last : (n : ℕ) (e : Expression) (ts : Tms) (t : Tm)
     → side_applied n e (join ts (more t none)) ≡ apply (side_applied n e ts) (side n t)

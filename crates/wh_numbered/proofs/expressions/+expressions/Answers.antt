@@ -1,12 +1,13 @@
 -- The parts of a node are below it, and a meta-variable is applied to its arguments in turn.
-use Rattle.std.proofs.Common.{ℕ, zero, Contains, refl, sym, subst, arith}
+use Rattle.std.proofs.Common.{ℕ, zero, Contains, refl, ap, sym, ◌∙◌, subst, arith}
+use Rattle.wh_types.specs.Erase.{ty}
 use Rattle.wh_hopoly.specs.Erase.{expression}
 use Rattle.wh_hopoly.specs.Evaluation.{var}
 use Rattle.wh_intern.specs.Parts.{part_tree}
 use Rattle.wh_intern.specs.TableTrees.{trees}
 use Rattle.wh_intern.specs.Trees.{numbers}
 use Rattle.wh_intern.proofs.TermBuilt.{all_below}
-use Rattle.wh_numbered.proofs.ExpressionsByNumber.{applied_next}
+use Rattle.wh_numbered.proofs.ExpressionsByNumber.{lam_told, applied_next}
 use Rattle.wh_numbered.proofs.expressions.+expressions.Goals as goal
 
 pub expression_of-meta_applied-requires : goal.expression_of-meta_applied-requires
@@ -33,7 +34,10 @@ expression_of-expression_of-requires-in-App-2 t c =
     (omega (arith, low), omega (arith, low, c.requires))
 
 pub expression_of-returns-in_ok-new-in-Lam : goal.expression_of-returns-in_ok-new-in-Lam
-expression_of-returns-in_ok-new-in-Lam t c = ?
+expression_of-returns-in_ok-new-in-Lam t c =
+    lam_told (trees c.args.table.now) c.args.number (part_tree c.part.result.now) (ty c.in-Lam.kind) (ty c.in_ok-kind-in-Lam.kind) c.in-Lam.body c.args.scope
+    c.in_ok-sum-in-Lam.field-0 (expression c.in_ok-new-in-Lam.field-0.value) c.part.ensures.tree (ap part_tree c.in-Lam.is) c.in_ok-kind-in-Lam.ensures
+    c.in_ok-sum-in-Lam.ensures (ap expression c.in_ok-new-in-Lam.ensures.ok ∙ c.in_ok-body-in-Lam.ensures)
 
 pub meta_applied-loop-number-preserved : goal.meta_applied-loop-number-preserved
 meta_applied-loop-number-preserved t c =
