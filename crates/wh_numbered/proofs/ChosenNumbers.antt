@@ -1,5 +1,5 @@
 -- The numbers that are chosen, and their trees.
-use Rattle.std.proofs.Common.{◌≡◌, ℕ, ◌+◌, ◌-◌, ◌<◌, ◌≤◌, List, length, map, get_or, All, Some, slice_get, Contains, sym, subst, arith}
+use Rattle.std.proofs.Common.{◌≡◌, ℕ, ◌+◌, ◌<◌, ◌≤◌, List, length, map, All, Some, slice_get, Contains, subst, arith}
 use Rattle.std.proofs.lemmas.Option.{slice_get_within, get_or_from_slice_get}
 use Rattle.wh_terms.specs.Tree.{Tm}
 use Rattle.wh_pairs.specs.PairData.{IsIncreasing}

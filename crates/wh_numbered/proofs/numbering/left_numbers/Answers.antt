@@ -1,5 +1,5 @@
 -- The numbers of the pair before, or new ones.
-use Rattle.std.proofs.Common.{◌≡◌, map, Some, slice_get, ap, sym, subst, ◌∙◌, IfOk}
+use Rattle.std.proofs.Common.{◌≡◌, map, Some, slice_get, ap, sym, subst, ◌∙◌}
 use Rattle.std.proofs.lemmas.Result.{IfOk-weaker}
 use Rattle.wh_terms.specs.Erase.{tm}
 use Rattle.wh_pairs.specs.PairData.{PairData, pair_data}
