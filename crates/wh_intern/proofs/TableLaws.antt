@@ -1,5 +1,5 @@
 -- What joins a table.
-use Rattle.std.proofs.Common.{ℕ, zero, suc, ◌≡◌, ◌+◌, ◌<◌, ◌^◌, ◌⊎◌, inl, inr, Bool, true, false, List, [], ◌∷◌, ◌++◌, length, map, get_or, Contains, option_map, Some, if◌then◌else◌, Result, Ok, Err, OnOk, OnErr, rules, slice_get, refl, sym, ap, ◌∙◌, subst, arith}
+use Rattle.std.proofs.Common.{ℕ, zero, suc, ◌≡◌, ◌-◌, ◌<◌, ◌^◌, ◌⊎◌, inl, inr, Bool, true, false, List, [], ◌∷◌, ◌++◌, length, map, get_or, Contains, option_map, Some, if◌then◌else◌, Result, Ok, Err, OnOk, OnErr, rules, slice_get, refl, sym, ap, ◌∙◌, subst, arith}
 use Rattle.std.specs.List.{list_any}
 use Rattle.indexmap.specs.IndexSet.{insert_key}
 use Rattle.std.proofs.lemmas.List.{length-append, length-map, get_or_append_left}
@@ -114,8 +114,7 @@ part_there ks xs i p e h is =
     let within : i < length ks = omega (arith, h, trees_length ks) in
     slice_get-map part_tree ks i ∙ ap (option_map part_tree) (slice_get-get_or ks i p within ∙ ap Some (ap (λ us. get_or us i p) (sym e) ∙ sym is))
 
--- a number below that of all parts is below 2^32
-pub put_fits : (ks new : List Part) (i : ℕ) (P : Tm → Type 0) → Adds (trees_of ks) (trees_of new) P 1 → i < length new
-    → length (trees_of ks) + 1 < 2 ^ 32 → i < 2 ^ 32
-put_fits ks new i P a h k =
-    omega (arith, h, k, trees_length new, ap length a.behind, length-append (trees_of ks) a.parts, a.few)
+-- one part more at most
+pub put_few : (ks new : List Part) (P : Tm → Type 0) → Adds (trees_of ks) (trees_of new) P 1 → length ks < 2 ^ 32 - 1 → length new < 2 ^ 32
+put_few ks new P a h =
+    omega (arith, h, trees_length ks, trees_length new, ap length a.behind, length-append (trees_of ks) a.parts, a.few)

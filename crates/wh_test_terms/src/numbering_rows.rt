@@ -1,8 +1,5 @@
 //! Rows of tables that number terms.
 
-ghost use Rattle.std.specs.Prelude.{◌+◌, ◌<◌, ◌≤◌, ◌^◌, OnOk, length};
-ghost use Rattle.wh_intern.specs.TableTrees.{trees};
-
 use crate::stack::term_of;
 use std::alloc::{AllocError, Global};
 use std::test::Fail;
@@ -11,15 +8,8 @@ use wh_terms::fits;
 use wh_types::Bytes;
 
 /// The number of the term of a text, which joins the table.
-fn add_text(alloc: Global, table: &mut Table, text: &[u8]) -> Result<u32, AllocError>
-    requires { length (trees table.old) < 2 ^ 31 }
-    ensures { OnOk result (length (trees table.new) ≤ length (trees table.old) + 65536) }
-{
-    let term = term_of(alloc, text)?;
-    if !fits(&term) {
-        return Err(AllocError);
-    }
-    table.add(&term)
+fn add_text(alloc: Global, table: &mut Table, text: &[u8]) -> Result<u32, AllocError> {
+    table.add(&term_of(alloc, text)?)
 }
 
 /// A symbol applied twice to the term before, that many times.

@@ -1,8 +1,7 @@
 //! Trees that join a table, part by part.
 
-ghost use Rattle.std.specs.Prelude.{◌≡◌, ◌+◌, ◌<◌, ◌^◌, ◌↔◌, ◌⊎◌, Contains, IfOk, OnOk, Some, length, slice_get};
+ghost use Rattle.std.specs.Prelude.{◌≡◌, ◌↔◌, ◌⊎◌, Contains, IfOk, OnOk, Some, length, slice_get};
 ghost use Rattle.wh_terms.specs.Erase.{tm, tms};
-ghost use Rattle.wh_terms.specs.Measures.{size};
 ghost use Rattle.wh_terms.specs.Tree as t;
 ghost use Rattle.wh_terms.specs.Tree.{Tm};
 ghost use Rattle.wh_intern.specs.Parts.{part_tree};
@@ -16,21 +15,23 @@ use wh_terms::{Term, Terms};
 use wh_types::Numbers;
 
 impl Table {
-    // The number of the node, which is added unless it is there.
+    // The number of the node, which is added unless it is there. A table whose next number would not fit in 32 bits is full: its
+    // room has ended as memory does.
     fn put(&mut self, part: Part) -> Result<u32, AllocError>
-        requires below { Below (length (trees self.old)) (part_tree part) }
-        requires room { length (trees self.old) + 1 < 2 ^ 32 }
+        requires { Below (length (trees self.old)) (part_tree part) }
         ensures number { IfOk result (λ n. slice_get (trees self.new) n ≡ Some (tree_of (trees self.old) (part_tree part))) }
         ensures adds { Adds (trees self.old) (trees self.new) (λ s. s ≡ tree_of (trees self.old) (part_tree part)) 1 }
     {
+        if self.parts.len() >= u32::MAX as usize {
+            return Err(AllocError);
+        }
         let (index, _) = self.parts.insert_full(part)?;
         Ok(index as u32)
     }
 
     /// The number of the tree. Earlier numbers keep their trees, and only the parts of this one join: all of them, or some
-    /// where memory ends.
+    /// where memory or the numbers of 32 bits end.
     pub fn add(&mut self, term: &Term) -> Result<u32, AllocError>
-        requires { length (trees self.old) + size (tm term.now) < 2 ^ 32 }
         ensures number { IfOk result (λ n. slice_get (trees self.new) n ≡ Some (tm term.now)) }
         ensures parts { OnOk result ((s : Tm) → Contains (trees self.new) s ↔ (Contains (trees self.old) s ⊎ IsPart s (tm term.now))) }
         ensures grows { Grows (trees self.old) (trees self.new) (tm term.now) }
@@ -43,7 +44,6 @@ impl Table {
     // The same, part by part.
     #[cycle(insert)]
     fn insert(&mut self, term: &Term) -> Result<u32, AllocError>
-        requires { length (trees self.old) + size (tm term.now) < 2 ^ 32 }
         ensures number { IfOk result (λ n. slice_get (trees self.new) n ≡ Some (tm term.now)) }
         ensures grows { Grows (trees self.old) (trees self.new) (tm term.now) }
     {
@@ -71,7 +71,6 @@ impl Table {
     // The number of the meta-variable applied to the trees.
     #[cycle(insert)]
     fn insert_meta(&mut self, meta: u32, items: &Terms) -> Result<u32, AllocError>
-        requires { length (trees self.old) + size (t.meta meta (tms items.now)) < 2 ^ 32 }
         ensures number { IfOk result (λ n. slice_get (trees self.new) n ≡ Some (t.meta meta (tms items.now))) }
         ensures grows { Grows (trees self.old) (trees self.new) (t.meta meta (tms items.now)) }
     {

@@ -24,7 +24,6 @@ impl Table {
 
     /// How many nodes there are.
     pub fn count(&self) -> u32
-        requires { length (trees self.now) < 2 ^ 32 }
         ensures { result ≡ length (trees self.now) }
     {
         self.parts.len() as u32

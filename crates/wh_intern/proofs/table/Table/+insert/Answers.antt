@@ -1,23 +1,19 @@
-use Rattle.std.proofs.Common.{ap, ap₂, sym, ◌∙◌, subst, take, arith}
+use Rattle.std.proofs.Common.{ap, ap₂, sym, ◌∙◌, subst, arith}
 use Rattle.std.proofs.lemmas.List.{take_all}
 use Rattle.wh_types.specs.Erase.{ty}
 use Rattle.wh_terms.specs.Tree as tree
 use Rattle.wh_terms.specs.Erase.{tm, tms}
-use Rattle.wh_terms.specs.Measures.{size, sizes}
 use Rattle.wh_terms.proofs.TermLemmas.{tm_of_meta, weight_in_meta, weight_in_item}
-use Rattle.wh_terms.proofs.MeasureLemmas.{size_here}
 use Rattle.wh_intern.specs.TableTrees.{trees}
-use Rattle.wh_intern.proofs.AddLaws.{adds_length, lam_tree, grows_lam, below_lam, app_tree, grows_app, grows_app_front, below_app, number_of_tree, gathered_next, grows_meta, grows_meta_stop, Gathered}
+use Rattle.wh_intern.proofs.AddLaws.{lam_tree, grows_lam, below_lam, app_tree, grows_app, grows_app_front, below_app, number_of_tree, gathered_next, grows_meta, grows_meta_stop, Gathered}
 use Rattle.wh_intern.proofs.table.Table.+insert.Goals as goal
 
 pub insert-insert_meta-requires : goal.insert-insert_meta-requires
-insert-insert_meta-requires t c = (
-  omega (arith, weight_in_meta c.args.term.now c.in-Meta.meta c.in-Meta.items c.in-Meta.is),
-  omega (arith, c.requires, ap size (tm_of_meta c.args.term.now c.in-Meta.meta c.in-Meta.items c.in-Meta.is)),
-)
+insert-insert_meta-requires t c =
+    omega (arith, weight_in_meta c.args.term.now c.in-Meta.meta c.in-Meta.items c.in-Meta.is)
 
-pub insert-put-requires-in-Lam-clause-below : goal.insert-put-requires-in-Lam-clause-below
-insert-put-requires-in-Lam-clause-below t c = below_lam _ _ _ c.in_ok-body-in-Lam.ensures.number
+pub insert-put-requires-in-Lam : goal.insert-put-requires-in-Lam
+insert-put-requires-in-Lam t c = below_lam _ _ _ c.in_ok-body-in-Lam.ensures.number
 
 pub insert-returns-in_err-argument-in-App-clause-grows : goal.insert-returns-in_err-argument-in-App-clause-grows
 insert-returns-in_err-argument-in-App-clause-grows t c =
@@ -26,8 +22,8 @@ insert-returns-in_err-argument-in-App-clause-grows t c =
     (ap tm c.in-App.is ∙ ap₂ tree.app (ap tm (sym c.deref-in-App.ensures)) (ap tm (sym c.deref-in-App-2.ensures)))
     c.insert-in-App.ensures.grows c.insert-in-App-2.ensures.grows
 
-pub insert-put-requires-in-App-clause-below : goal.insert-put-requires-in-App-clause-below
-insert-put-requires-in-App-clause-below t c =
+pub insert-put-requires-in-App : goal.insert-put-requires-in-App
+insert-put-requires-in-App t c =
     below_app (trees c.insert-in-App.new.self) (trees c.insert-in-App-2.new.self) _ _ (tm c.deref-in-App.result.now) (tm c.deref-in-App-2.result.now)
     c.in_ok-function-in-App.ensures.number c.insert-in-App-2.ensures.grows c.in_ok-argument-in-App.ensures.number
 
@@ -73,17 +69,10 @@ insert-returns-in_ok-argument-in-App-clause-grows t c =
 
 pub insert_meta-insert-requires : goal.insert_meta-insert-requires
 insert_meta-insert-requires t c =
-    let xs = c.as_slice-item-items.result.now in
-    let start = trees c.args.self.now in
-    let long = adds_length start (trees c.loop-item.self) _ (sizes (tms (take c.loop-item.item-index xs))) c.loop-item.invariant.adds in (
-      omega (arith, weight_in_item c.args.items.now xs c.loop-item.item-index c.item-item.result c.as_slice-item-items.ensures c.loop-item-test.true c.item-item.is),
-      omega (
-        arith,
-        c.requires,
-        long.1,
-        size_here xs c.loop-item.item-index c.item-item.result c.loop-item-test.true c.item-item.is,
-        ap (λ ts. sizes (tms ts)) c.as_slice-item-items.ensures,
-      ),
+    omega (
+      arith,
+      weight_in_item c.args.items.now c.as_slice-item-items.result.now c.loop-item.item-index c.item-item.result
+          c.as_slice-item-items.ensures c.loop-item-test.true c.item-item.is,
     )
 
 pub insert_meta-returns-in_err-number-clause-grows : goal.insert_meta-returns-in_err-number-clause-grows

@@ -1,0 +1,3 @@
+pub mod NumberedSides
+pub mod SidesAsPairs
+pub mod SidesInScope

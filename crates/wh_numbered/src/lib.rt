@@ -1,0 +1,18 @@
+//! Pairs and their conditions over trees that are numbered once: the arguments of all pairs join one table of nodes, and
+//! projections and polynomials are then checked by numbers.
+#![tactic(auto)]
+
+mod check;
+mod decrease;
+mod expressions;
+mod marked;
+mod marks;
+mod numbering;
+mod parts;
+mod polynomials;
+mod scopes;
+
+pub use check::check_numbered;
+pub use numbering::number_pairs;
+pub use polynomials::{pair_side_by_number, side_by_number};
+pub use scopes::scope_of;
