@@ -30,13 +30,13 @@ pub fn check_next(
     stack: &mut Vec<PairSet>,
 ) -> Result<(), Or<CheckFault>>
     requires typed { HaveTypedSides (system_data system.now).symbols (system_data system.now).rules (pairs_data pairs.now) }
-    requires come { (set : List ℕ) (lines left : List w.Node) × HasCome (system_data system.now) (pairs_data pairs.now) set lines index
-        (reverse stack.old.items) (said_node node.now ∷ left) }
-    ensures on { OnOk result ((set : List ℕ) (lines left : List w.Node) → HasCome (system_data system.now) (pairs_data pairs.now) set lines index
-        (reverse stack.old.items) (said_node node.now ∷ left)
+    requires come { (set : List ℕ) × (lines : List w.Node) × (left : List w.Node)
+        × HasCome (system_data system.now) (pairs_data pairs.now) set lines index (reverse stack.old.items) (said_node node.now ∷ left) }
+    ensures on { OnOk result ((set : List ℕ) (lines left : List w.Node)
+        → HasCome (system_data system.now) (pairs_data pairs.now) set lines index (reverse stack.old.items) (said_node node.now ∷ left)
         → HasCome (system_data system.now) (pairs_data pairs.now) set lines (index + 1) (reverse stack.new.items) left) }
-    ensures fault { IfBecause result (λ r. (set : List ℕ) (lines left : List w.Node) → HasCome (system_data system.now) (pairs_data pairs.now)
-        set lines index (reverse stack.old.items) (said_node node.now ∷ left)
+    ensures fault { IfBecause result (λ r. (set : List ℕ) (lines left : List w.Node)
+        → HasCome (system_data system.now) (pairs_data pairs.now) set lines index (reverse stack.old.items) (said_node node.now ∷ left)
         → IsFaultInNodes (system_data system.now) (pairs_data pairs.now) set lines r) }
 {
     let Some(set) = stack.pop() else {

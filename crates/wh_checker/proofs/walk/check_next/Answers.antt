@@ -1,5 +1,5 @@
 -- The set on top is the one that the node is to prove.
-use Rattle.std.proofs.Common.{◌<◌, All, length, reverse, ap, subst, ◌∙◌}
+use Rattle.std.proofs.Common.{◌<◌, All, length, reverse, ap, subst, ◌∙◌, arith}
 use Rattle.std.proofs.lemmas.List.{length-map}
 use Rattle.std.proofs.lemmas.List.Elements.{All-head}
 use Rattle.wh_pairs.specs.PairData.{pair_data}
@@ -8,8 +8,16 @@ use Rattle.wh_pairs.specs.Views.{pairs_data}
 use Rattle.wh_cert.specs.Said.{said_node}
 use Rattle.wh_checker.specs.Faults.{at_node}
 use Rattle.wh_checker.proofs.GoLemmas.{because_says}
-use Rattle.wh_checker.proofs.WalkLemmas.{come_top, come_open, come_next, come_fault}
+use Rattle.wh_checker.proofs.WalkLemmas.{come_never, come_top, come_next, come_fault}
 use Rattle.wh_checker.proofs.walk.check_next.Goals as goal
+
+pub unreachable-requires : goal.unreachable-requires
+unreachable-requires c =
+    let d = system_data c.args.system.now in
+    let ps = pairs_data c.args.pairs.now in
+    let (set, lines, left, come) = c.requires.come in
+    come_never d ps set lines c.args.index c.args.stack.now.items c.pop.result c.args.stack.now.len (said_node c.args.node.now) left
+    (omega (arith, c.args.stack.now.ok.0)) c.pop.ensures.variant c.in_default.not-Some come
 
 pub check_node-requires-clause-set : goal.check_node-requires-clause-set
 check_node-requires-clause-set c =
