@@ -1,5 +1,6 @@
 -- The walk through the nodes: where it begins, one node further, and where it ends.
-use Rattle.std.proofs.Common.{◌≡◌, ℕ, suc, ◌+◌, ◌<◌, ◌≤◌, List, [], ◌∷◌, ◌++◌, length, map, reverse, drop, get_or, All, sym, ap, subst, ◌∙◌, add-one}
+use Rattle.std.proofs.Common.{◌≡◌, ◌↔◌, ℕ, suc, ◌+◌, ◌<◌, ◌≤◌, List, [], ◌∷◌, ◌++◌, length, map, reverse, drop, get_or, All, Option, Some, None, refl, sym, ap, subst, ◌∙◌, add-one, arith, IsSome}
+use Rattle.std.proofs.lemmas.Bool.{false≢true}
 use Rattle.std.proofs.lemmas.List.{length-append, drop_more, drop_all}
 use Rattle.std.proofs.lemmas.List.Elements.{All-nil, All-cons, All-head, All-tail, All-append}
 use Rattle.wh_system.specs.Systems.{SystemData}
@@ -29,11 +30,6 @@ come_first d ps set lines within counted = record {
   proved = λ proved. proved;
   first = λ m f first. first;
 }
-
--- where lines are left, a set is open
-pub come_open : (d : SystemData) (ps : List PairData) (set : List ℕ) (lines : List w.Node) (k : ℕ) (line : w.Node) (left : List w.Node)
-    → HasCome d ps set lines k [] (line ∷ left) → ⊥
-come_open d ps set lines k line left come = come.counted
 
 pub come_next : (d : SystemData) (ps : List PairData) (set : List ℕ) (lines : List w.Node) (k : ℕ) (here : List ℕ)
     (sets after : List (List ℕ)) (line : w.Node) (left : List w.Node)
@@ -69,18 +65,30 @@ pub come_last : (d : SystemData) (ps : List PairData) (set : List ℕ) (lines : 
 come_last d ps set lines k [] come = come.proved ([], tt, all_proved, all_small)
 come_last d ps set lines k (here ∷ sets) come = absurd come.counted
 
--- the walk at a node, where the stack has a set on top
-pub come_here : (d : SystemData) (ps : List PairData) (set : List ℕ) (lines : List w.Node) (k : ℕ) (stack rest : List (List ℕ))
-    (here : List ℕ) (nodes : List code.Node) (node : code.Node)
-    → HasCome d ps set lines k (reverse stack) (map said_node (drop k nodes)) → stack ≡ rest ++ here ∷ [] → k < length nodes
-    → node ≡ get_or nodes k node
-    → HasCome d ps set lines k (here ∷ reverse rest) (said_node node ∷ map said_node (drop (k + 1) nodes))
-come_here d ps set lines k stack rest here nodes node come top within is =
+-- the walk at a line, where the stack has a set on top
+pub come_top : (d : SystemData) (ps : List PairData) (set : List ℕ) (lines : List w.Node) (k : ℕ) (stack rest : List (List ℕ))
+    (here : List ℕ) (line : w.Node) (left : List w.Node)
+    → HasCome d ps set lines k (reverse stack) (line ∷ left) → stack ≡ rest ++ here ∷ []
+    → HasCome d ps set lines k (here ∷ reverse rest) (line ∷ left)
+come_top d ps set lines k stack rest here line left come top =
+    subst (λ (s : List (List ℕ)). HasCome d ps set lines k s (line ∷ left)) (ap reverse top ∙ reverse_push rest here) come
+
+-- where a line is left, the stack has a set on top
+pub come_never : (d : SystemData) (ps : List PairData) (set : List ℕ) (lines : List w.Node) (k : ℕ) (stack : List (List ℕ))
+    (o : Option (List ℕ)) (n : ℕ) (line : w.Node) (left : List w.Node) → n ≡ length stack → IsSome o ↔ (0 < n)
+    → ((s : List ℕ) → o ≡ Some s → ⊥) → HasCome d ps set lines k (reverse stack) (line ∷ left) → ⊥
+come_never d ps set lines k [] o n line left long some not come = come.counted
+come_never d ps set lines k (s ∷ stack) None n line left long some not come = false≢true (some.1 (omega arith))
+come_never d ps set lines k (s ∷ stack) (Some t) n line left long some not come = not t refl
+
+-- the walk at a node
+pub come_line : (d : SystemData) (ps : List PairData) (set : List ℕ) (lines : List w.Node) (k : ℕ) (sets : List (List ℕ))
+    (nodes : List code.Node) (node : code.Node) → HasCome d ps set lines k sets (map said_node (drop k nodes)) → k < length nodes
+    → node ≡ get_or nodes k node → HasCome d ps set lines k sets (said_node node ∷ map said_node (drop (k + 1) nodes))
+come_line d ps set lines k sets nodes node come within is =
     let split : drop k nodes ≡ node ∷ drop (k + 1) nodes = subst (λ (n : code.Node). drop k nodes ≡ n ∷ drop (k + 1) nodes) (sym is)
     (drop_more nodes k node within) in
-    let turned : reverse stack ≡ here ∷ reverse rest = ap reverse top ∙ reverse_push rest here in
-    subst (λ (l : List w.Node). HasCome d ps set lines k (here ∷ reverse rest) l) (ap (map said_node) split)
-    (subst (λ (s : List (List ℕ)). HasCome d ps set lines k s (map said_node (drop k nodes))) turned come)
+    subst (λ (l : List w.Node). HasCome d ps set lines k sets l) (ap (map said_node) split) come
 
 -- the walk where no node is left
 pub come_over : (d : SystemData) (ps : List PairData) (set : List ℕ) (lines : List w.Node) (k : ℕ) (sets : List (List ℕ))

@@ -1,5 +1,5 @@
 -- The parts of the check of a YES certificate, put together.
-use Rattle.std.proofs.Common.{◌≡◌, ℕ, List, [], ◌∷◌, length, Result, Ok, Err, OnOk, IsErrAnd, sym, subst}
+use Rattle.std.proofs.Common.{◌≡◌, ℕ, List, [], ◌∷◌, Result, Ok, Err, OnOk, IsErrAnd, sym, subst}
 use Rattle.wh_types.specs.Outcome.{IfBecause, MatchOr}
 use Rattle.wh_types.specs.declared.want.Or.{Or}
 use Rattle.wh_types.specs.declared.want.Or.TheVariants.{NoMemory, Because}
@@ -9,11 +9,10 @@ use Rattle.wh_cert.specs.Written as w
 use Rattle.wh_polycheck.specs.Small.{with_limits}
 use Rattle.wh_proof.specs.Valid.{IsValidYes}
 use Rattle.wh_pairs.specs.Sets.{IsWhole}
-use Rattle.wh_checker.specs.Faults.{IsFirstNodeFault, at_node, IsFirstYesFault, rank_count, inaccessible, in_node}
+use Rattle.wh_checker.specs.Faults.{IsFirstYesFault, rank_count, inaccessible, in_node}
 use Rattle.wh_proof.specs.Small.{IsSmallYes}
-use Rattle.wh_checker.specs.Walk.{IsPassingUnder, IsRankFault}
+use Rattle.wh_checker.specs.Walk.{IsRankFault, HasBegun, IsFaultInNodes}
 use Rattle.wh_proof.specs.GoesOn.{AreProvedBy}
-use Rattle.wh_checker.specs.declared.rejected.NodeFault.{NodeFault}
 use Rattle.wh_checker.specs.declared.rejected.CheckFault.{CheckFault}
 use Rattle.wh_checker.specs.declared.rejected.CheckFault.TheVariants as check
 use Rattle.wh_checker.specs.declared.rejected.Rejected.{Rejected}
@@ -29,6 +28,22 @@ passed_on (Ok x) e P Q R same h k = tt
 passed_on (Err NoMemory) e P Q R same h k = tt
 passed_on (Err (Because f)) NoMemory P Q R same h k = absurd (cc)
 passed_on (Err (Because f)) (Because g) P Q R same h k = k f (subst Q (sym (because_one same)) h)
+
+-- so, where the part's contract speaks of the cause alone
+pub cause_passed : {T : Type 0} (r : Result T (Or CheckFault)) (e : Or CheckFault) (Q R : CheckFault → Type 0)
+    → IsErrAnd r (λ x. x ≡ e) → IfBecause {T = Unit {0}} (Err e) Q → ((f : CheckFault) → Q f → R f) → IfBecause r R
+cause_passed (Ok x) e Q R same h k = tt
+cause_passed (Err NoMemory) e Q R same h k = tt
+cause_passed (Err (Because f)) NoMemory Q R same h k = absurd (cc)
+cause_passed (Err (Because f)) (Because g) Q R same h k = k f (subst Q (sym (because_one same)) h)
+
+-- so, where the contract of the whole speaks of the value too
+pub or_passed : {T U : Type 0} (r : Result T (Or CheckFault)) (e : Or CheckFault) (P : U → Type 0) (O : T → Type 0) (Q R : CheckFault → Type 0)
+    → IsErrAnd r (λ x. x ≡ e) → MatchOr (Err e) P Q → ((f : CheckFault) → Q f → R f) → MatchOr r O R
+or_passed (Ok x) e P O Q R same h k = absurd same
+or_passed (Err NoMemory) e P O Q R same h k = tt
+or_passed (Err (Because f)) NoMemory P O Q R same h k = absurd (cc)
+or_passed (Err (Because f)) (Because g) P O Q R same h k = k f (subst Q (sym (because_one same)) h)
 
 -- a row that is what is wrong first with ranks
 abbrev pub HasRankFault : SystemData → List ℕ → CheckFault → Type 0
@@ -81,15 +96,14 @@ rank_fault d ps ranks pairs lines f (r, is, fault) =
     subst (IsFirstYesFault with_limits d ps ranks pairs lines) (sym is) (rank_row d ps ranks pairs lines r fault)
 
 pub valid_yes : (d : SystemData) (ps : List PairData) (ranks : List ℕ) (pairs : ℕ) (lines : List w.Node) (set : List ℕ)
-    → IsPassingUnder d ranks → pairs ≡ length ps → IsWhole ps set → AreProvedBy d ps (set ∷ []) lines
-    → IsValidYes d ps ranks pairs lines
-valid_yes d ps ranks pairs lines set (count, passing) right whole (nodes, says, proves, small) =
+    → HasBegun d ps ranks pairs set → AreProvedBy d ps (set ∷ []) lines → IsValidYes d ps ranks pairs lines
+valid_yes d ps ranks pairs lines set begun (nodes, says, proves, small) =
     record {
-      rank_count = count;
-      passing = passing;
-      pair_count = right;
+      rank_count = begun.passing.0;
+      passing = begun.passing.1;
+      pair_count = begun.count;
       set = set;
-      whole = whole;
+      whole = begun.whole;
       nodes = nodes;
       says = says;
       proves =
@@ -101,14 +115,11 @@ pub small_yes : (d : SystemData) (ps : List PairData) (lines : List w.Node) (set
 small_yes d ps lines set whole (nodes, says, proves, small) = record { set = set; whole = whole; nodes = nodes; says = says; small = small }
 
 -- the fault of a node is that of the certificate
-abbrev pub FaultInNodes : SystemData → List PairData → List ℕ → List w.Node → CheckFault → Type 0
-FaultInNodes d ps set lines r = (k : ℕ) × (f : NodeFault) × (r ≡ at_node k f) × IsFirstNodeFault with_limits d ps 0 (set ∷ []) lines k f
-
 pub node_fault : (d : SystemData) (ps : List PairData) (ranks : List ℕ) (pairs : ℕ) (lines : List w.Node) (set : List ℕ)
-    → IsPassingUnder d ranks → pairs ≡ length ps → IsWhole ps set
-    → (r : CheckFault) → FaultInNodes d ps set lines r → IsFirstYesFault with_limits d ps ranks pairs lines r
-node_fault d ps ranks pairs lines set (count, passing) right whole r (k, f, is, first) =
-    subst (IsFirstYesFault with_limits d ps ranks pairs lines) (sym is) (in_node count passing right whole first)
+    → HasBegun d ps ranks pairs set → (r : CheckFault) → IsFaultInNodes d ps set lines r → IsFirstYesFault with_limits d ps ranks pairs lines r
+node_fault d ps ranks pairs lines set begun r (k, f, is, first) =
+    let (count, passing) = begun.passing in
+    subst (IsFirstYesFault with_limits d ps ranks pairs lines) (sym is) (in_node count passing begun.count begun.whole first)
 
 pub ok_weaker : {T E : Type 0} (r : Result T E) (P Q : Type 0) → OnOk r P → (P → Q) → OnOk r Q
 ok_weaker (Ok x) P Q p then = then p

@@ -9,11 +9,12 @@ use Rattle.wh_subterm.specs.Projections.{Chosen}
 use Rattle.wh_subterm.specs.SubtermRows.{IsProjection}
 use Rattle.wh_cert.specs.Written as w
 use Rattle.wh_cert.specs.Written.{Preorder}
-use Rattle.wh_pairs.specs.Sets.{IsSetOf, IsKept}
+use Rattle.wh_pairs.specs.Sets.{IsSetOf, IsKept, IsWhole}
 use Rattle.wh_proof.specs.GoesOn.{AreProvedBy}
 use Rattle.wh_proof.specs.Looked.{SayChoices}
 use Rattle.wh_polycheck.specs.Small.{with_limits}
-use Rattle.wh_checker.specs.Faults.{IsFirstNodeFault}
+use Rattle.wh_checker.specs.Faults.{IsFirstNodeFault, at_node}
+use Rattle.wh_checker.specs.declared.rejected.CheckFault.{CheckFault}
 use Rattle.wh_checker.specs.declared.rejected.NodeFault.{NodeFault}
 use Rattle.wh_checker.specs.declared.rejected.Rejected.{Rejected}
 use Rattle.wh_checker.specs.declared.rejected.Rejected.TheVariants.{RankCount, Inaccessible}
@@ -27,6 +28,12 @@ abbrev pub IsRankFault : SystemData → List ℕ → Rejected → Type 0
 IsRankFault d ranks RankCount = length ranks ≢ d.symbols.sorts
 IsRankFault d ranks (Inaccessible r z) = (length ranks ≡ d.symbols.sorts) × IsFirstBreakIn d ranks r z
 IsRankFault d ranks _ = ⊥
+
+-- the ranks and the number of pairs are right, and the set is that of all pairs
+pub record HasBegun (d : SystemData) (ps : List PairData) (ranks : List ℕ) (pairs : ℕ) (set : List ℕ) : Type 0 where
+  pub passing : IsPassingUnder d ranks
+  pub count : pairs ≡ length ps
+  pub whole : IsWhole ps set
 
 -- the set has one pair, which may not follow itself
 abbrev pub IsSingle : List RewriteRule → List PairData → List ℕ → Type 0
@@ -49,3 +56,7 @@ pub record HasCome (d : SystemData) (ps : List PairData) (set : List ℕ) (lines
   -- the first fault of the rest is that of the whole
   pub first : (m : ℕ) (f : NodeFault) → IsFirstNodeFault with_limits d ps k sets left m f
       → IsFirstNodeFault with_limits d ps 0 (set ∷ []) lines m f
+
+-- the first node with something wrong, of those that these lines say to prove the set, has this fault
+abbrev pub IsFaultInNodes : SystemData → List PairData → List ℕ → List w.Node → CheckFault → Type 0
+IsFaultInNodes d ps set lines r = (k : ℕ) × (f : NodeFault) × (r ≡ at_node k f) × IsFirstNodeFault with_limits d ps 0 (set ∷ []) lines k f

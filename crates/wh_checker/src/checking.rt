@@ -1,19 +1,20 @@
 //! The check of a certificate.
 
-ghost use Rattle.std.specs.Prelude.{◌≡◌, ◌≤◌, IfErr, IfOk, OnOk, length, map};
+ghost use Rattle.std.specs.Prelude.{◌≡◌, ◌≤◌, IfErr, IfOk, List, OnOk, length, map};
 ghost use Rattle.wh_types.specs.Outcome.{IfBecause, MatchOr};
 ghost use Rattle.wh_system.specs.SystemView.{system_data};
 ghost use Rattle.wh_access.specs.Passing.{IsPassing};
 ghost use Rattle.wh_pairs.specs.SystemPairs.{HasPairs};
 ghost use Rattle.wh_pairs.specs.Views.{pairs_data};
 ghost use Rattle.wh_cert.specs.Limits.{IsCert};
+ghost use Rattle.wh_cert.specs.Written as w;
 ghost use Rattle.wh_cert.specs.Said.{said, said_node, said_no, said_yes};
 ghost use Rattle.wh_checker.specs.Accepted.{AreBounded, IsAccepted, IsMeant};
 ghost use Rattle.wh_polycheck.specs.Small.{with_limits};
 ghost use Rattle.wh_checker.specs.Faults.{IsFirstFault, IsFirstYesFault};
 ghost use Rattle.wh_proof.specs.Small.{IsSmallYes};
 ghost use Rattle.wh_proof.specs.Valid.{IsSmallCert, IsValidYes};
-ghost use Rattle.wh_checker.specs.Walk.{IsPassingUnder, IsRankFault};
+ghost use Rattle.wh_checker.specs.Walk.{HasBegun, IsPassingUnder, IsRankFault};
 ghost use Rattle.wh_checker.specs.declared.rejected.CheckFault.TheVariants.{Rejected as refusal};
 ghost use Rattle.wh_checker.specs.declared.rejected.Rejected as row;
 
@@ -25,7 +26,7 @@ use wh_cert::{Certificate, NoCertificate, YesCertificate};
 use wh_meaning::pairs_have_marked_sides;
 use wh_no::{AcceptedNo, check_no, valid_claims_are_unbounded};
 use wh_nodes::proved_systems_are_bounded;
-use wh_pairs::{PairList, numbers_below};
+use wh_pairs::{PairList, PairSet, numbers_below};
 use wh_system::System;
 use wh_types::{Or, Ranks};
 
@@ -99,13 +100,31 @@ fn check_yes(
     system.is_well_made();
     pairs_have_marked_sides();
     proved_systems_are_bounded();
-    check_passing(alloc, system, certificate.ranks.as_slice())?;
-    let count = pairs.as_slice().len() as u32;
-    if certificate.pairs != count {
-        return Err(Or::Because(CheckFault::Rejected(Rejected::PairCount { pairs: count })));
-    }
-    let whole = numbers_below(alloc, count)?;
+    let ranks = certificate.ranks.as_slice();
+    let whole = check_head(alloc, system, pairs, ranks, certificate.pairs)?;
     check_nodes(alloc, system, pairs, whole, certificate.nodes.as_slice())
+}
+
+/// The set of all pairs, which the nodes of a YES certificate with these ranks and this number of pairs have to prove. The
+/// fault is that of the ranks, or that there is another number of pairs.
+pub fn check_head(
+    alloc: Global,
+    system: &System,
+    pairs: &PairList,
+    ranks: &[u32],
+    count: u32,
+) -> Result<PairSet, Or<CheckFault>>
+    requires { HasPairs (system_data system.now) (pairs_data pairs.now) }
+    ensures { MatchOr result (HasBegun (system_data system.now) (pairs_data pairs.now) ranks.now count)
+        (λ f. (lines : List w.Node) → IsFirstYesFault with_limits (system_data system.now) (pairs_data pairs.now) ranks.now count lines f) }
+{
+    check_passing(alloc, system, ranks)?;
+    let number = pairs.as_slice().len() as u32;
+    if count != number {
+        return Err(Or::Because(CheckFault::Rejected(Rejected::PairCount { pairs: number })));
+    }
+    let whole = numbers_below(alloc, number)?;
+    Ok(whole)
 }
 
 // Whether there is one rank for each sort, and the system is passing under the ranks.

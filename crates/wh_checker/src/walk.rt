@@ -1,16 +1,15 @@
 //! The walk through the nodes of a YES certificate.
 
-ghost use Rattle.std.specs.Prelude.{◌≡◌, ◌∷◌, ◌<◌, ◌^◌, [], ℕ, All, OnOk, length, map};
+ghost use Rattle.std.specs.Prelude.{◌≡◌, ◌∷◌, ◌<◌, ◌^◌, ◌+◌, [], ℕ, All, List, OnOk, length, map, reverse};
 ghost use Rattle.wh_types.specs.Outcome.{IfBecause, MatchOr};
 ghost use Rattle.wh_pairs.specs.Views.{pairs_data};
 ghost use Rattle.wh_system.specs.SystemView.{system_data};
 ghost use Rattle.wh_cert.specs.Said.{said_node};
+ghost use Rattle.wh_cert.specs.Written as w;
 ghost use Rattle.wh_cert.specs.Written.{Preorder};
-ghost use Rattle.wh_polycheck.specs.Small.{with_limits};
 ghost use Rattle.wh_polycheck.specs.Covering.{HaveTypedSides};
-ghost use Rattle.wh_checker.specs.Faults.{IsFirstNodeFault, at_node};
+ghost use Rattle.wh_checker.specs.Walk.{HasCome, IsFaultInNodes};
 ghost use Rattle.wh_proof.specs.GoesOn.{AreProvedBy};
-ghost use Rattle.wh_checker.specs.declared.rejected.NodeFault.{NodeFault};
 
 use crate::node::check_node;
 use crate::rejected::CheckFault;
@@ -19,6 +18,36 @@ use wh_cert::Node;
 use wh_pairs::{PairList, PairSet};
 use wh_system::System;
 use wh_types::Or;
+
+/// Whether the node of that number proves the set on top of the stack, of those that are still to be proved. What it leaves
+/// to be proved comes on top in its place.
+pub fn check_next(
+    alloc: Global,
+    system: &System,
+    pairs: &PairList,
+    index: u32,
+    node: &Node,
+    stack: &mut Vec<PairSet>,
+) -> Result<(), Or<CheckFault>>
+    requires typed { HaveTypedSides (system_data system.now).symbols (system_data system.now).rules (pairs_data pairs.now) }
+    requires come { (set : List ℕ) × (lines : List w.Node) × (left : List w.Node)
+        × HasCome (system_data system.now) (pairs_data pairs.now) set lines index (reverse stack.old.items) (said_node node.now ∷ left) }
+    ensures on { OnOk result ((set : List ℕ) (lines left : List w.Node)
+        → HasCome (system_data system.now) (pairs_data pairs.now) set lines index (reverse stack.old.items) (said_node node.now ∷ left)
+        → HasCome (system_data system.now) (pairs_data pairs.now) set lines (index + 1) (reverse stack.new.items) left) }
+    ensures fault { IfBecause result (λ r. (set : List ℕ) (lines left : List w.Node)
+        → HasCome (system_data system.now) (pairs_data pairs.now) set lines index (reverse stack.old.items) (said_node node.now ∷ left)
+        → IsFaultInNodes (system_data system.now) (pairs_data pairs.now) set lines r) }
+{
+    let Some(set) = stack.pop() else {
+        unreachable!()
+    };
+    match check_node(alloc, system, pairs, &set, node, stack) {
+        Ok(()) => Ok(()),
+        Err(Or::Because(fault)) => Err(Or::Because(fault.at_node(index))),
+        Err(Or::NoMemory) => Err(Or::NoMemory),
+    }
+}
 
 /// Whether the nodes, in preorder, prove the set. The sets that are still to be proved are kept on a stack, the next on top.
 pub fn check_nodes(
@@ -33,20 +62,12 @@ pub fn check_nodes(
     requires preorder { Preorder 1 (map said_node nodes.now) }
     requires few { length nodes.now < 2 ^ 32 }
     ensures proved { OnOk result (AreProvedBy (system_data system.now) (pairs_data pairs.now) (whole ∷ []) (map said_node nodes.now)) }
-    ensures fault { IfBecause result (λ r. (k : ℕ) × (f : NodeFault) × (r ≡ at_node k f) × IsFirstNodeFault with_limits
-        (system_data system.now) (pairs_data pairs.now) 0 (whole ∷ []) (map said_node nodes.now) k f) }
+    ensures fault { IfBecause result (IsFaultInNodes (system_data system.now) (pairs_data pairs.now) whole (map said_node nodes.now)) }
 {
     let mut stack = Vec::new(alloc);
     stack.push(whole)?;
     for (index, node) in nodes.iter().enumerate() {
-        let Some(set) = stack.pop() else {
-            return Ok(());
-        };
-        match check_node(alloc, system, pairs, &set, node, &mut stack) {
-            Ok(()) => {}
-            Err(Or::Because(fault)) => return Err(Or::Because(fault.at_node(index as u32))),
-            Err(Or::NoMemory) => return Err(Or::NoMemory),
-        }
+        check_next(alloc, system, pairs, index as u32, node, &mut stack)?;
     }
     Ok(())
 }

@@ -1,45 +1,38 @@
-use Rattle.std.proofs.Common.{◌+◌, ◌<◌, All, length, map, reverse, drop, ap, subst, ◌∙◌}
-use Rattle.std.proofs.lemmas.List.{length-map}
-use Rattle.std.proofs.lemmas.List.Elements.{All-head}
-use Rattle.wh_pairs.specs.PairData.{pair_data}
+use Rattle.std.proofs.Common.{◌+◌, map, reverse, drop}
 use Rattle.wh_system.specs.SystemView.{system_data}
 use Rattle.wh_pairs.specs.Views.{pairs_data}
 use Rattle.wh_cert.specs.Said.{said_node}
-use Rattle.wh_checker.specs.Faults.{at_node}
-use Rattle.wh_checker.proofs.GoLemmas.{because_says}
-use Rattle.wh_checker.proofs.WalkLemmas.{come_here, come_next, come_fault, come_over}
+use Rattle.wh_checker.specs.Walk.{IsFaultInNodes}
+use Rattle.wh_checker.proofs.YesLemmas.{cause_passed}
+use Rattle.wh_checker.proofs.WalkLemmas.{come_line, come_over}
 use Rattle.wh_checker.proofs.walk.check_nodes.Goals as goal
 
-pub check_node-requires-clause-set : goal.check_node-requires-clause-set
-check_node-requires-clause-set c =
+pub check_next-requires-clause-come : goal.check_next-requires-clause-come
+check_next-requires-clause-come c =
     let d = system_data c.args.system.now in
     let ps = pairs_data c.args.pairs.now in
     let nodes = c.args.nodes.now in
-    let rest = c.pop.new.self.items in
-    let come = come_here d ps c.args.whole (map said_node nodes) c.loop-index.index c.loop-index.stack.items rest c.in-Some.set nodes
-    c.index-nodes-index.result c.loop-index.invariant c.in-Some.ensures.items c.loop-index-test.true c.index-nodes-index.is in
-    subst (λ n. All (λ m. m < n) c.in-Some.set) (length-map c.args.pairs.now pair_data)
-    (All-head (All (λ n. n < length ps)) c.in-Some.set (reverse rest) come.within)
+    let lines = map said_node nodes in
+    let i = c.loop-index.index in (
+      c.args.whole,
+      lines,
+      map said_node (drop (i + 1) nodes),
+      come_line d ps c.args.whole lines i (reverse c.loop-index.stack.items) nodes c.index-nodes-index.result c.loop-index.invariant
+          c.loop-index-test.true c.index-nodes-index.is,
+    )
 
-pub returns-in-Err-Because-clause-fault : goal.returns-in-Err-Because-clause-fault
-returns-in-Err-Because-clause-fault c =
+pub returns-in_err-check_next-clause-fault : goal.returns-in_err-check_next-clause-fault
+returns-in_err-check_next-clause-fault c =
     let d = system_data c.args.system.now in
     let ps = pairs_data c.args.pairs.now in
     let nodes = c.args.nodes.now in
     let lines = map said_node nodes in
     let i = c.loop-index.index in
-    let rest = c.pop.new.self.items in
-    let node = c.index-nodes-index.result in
-    let come = come_here d ps c.args.whole lines i c.loop-index.stack.items rest c.in-Some.set nodes node c.loop-index.invariant
-    c.in-Some.ensures.items c.loop-index-test.true c.index-nodes-index.is in
-    let f = c.in-Err-Because.fault in
-    let fault = because_says c.in-Err-Because.field-0 f _ c.in-Err-Because.field-0-is c.in-Err-Because.ensures.fault in (
-      i,
-      f,
-      c.at_node.ensures ∙ ap (at_node i) c.in-Err-Because.fault-is,
-      come_fault d ps c.args.whole lines i c.in-Some.set (reverse rest)
-          (said_node node) (map said_node (drop (i + 1) nodes)) f come fault,
-    )
+    cause_passed c.from_residual-in_err-check_next.result c.in_err-check_next.field-0.0 _ (IsFaultInNodes d ps c.args.whole lines)
+    c.from_residual-in_err-check_next.ensures.1 c.in_err-check_next.ensures.fault (λ f fault.
+    fault c.args.whole lines (map said_node (drop (i + 1) nodes))
+    (come_line d ps c.args.whole lines i (reverse c.loop-index.stack.items) nodes c.index-nodes-index.result c.loop-index.invariant
+    c.loop-index-test.true c.index-nodes-index.is))
 
 pub loop-index-preserved : goal.loop-index-preserved
 loop-index-preserved c =
@@ -48,12 +41,9 @@ loop-index-preserved c =
     let nodes = c.args.nodes.now in
     let lines = map said_node nodes in
     let i = c.loop-index.index in
-    let rest = c.pop.new.self.items in
-    let node = c.index-nodes-index.result in
-    let come = come_here d ps c.args.whole lines i c.loop-index.stack.items rest c.in-Some.set nodes node c.loop-index.invariant
-    c.in-Some.ensures.items c.loop-index-test.true c.index-nodes-index.is in
-    come_next d ps c.args.whole lines i c.in-Some.set (reverse rest) (reverse c.check_node.new.stack.items) (said_node node)
-    (map said_node (drop (i + 1) nodes)) come c.in-Ok.ensures.proved
+    c.in_ok-check_next.ensures.on c.args.whole lines (map said_node (drop (i + 1) nodes))
+    (come_line d ps c.args.whole lines i (reverse c.loop-index.stack.items) nodes c.index-nodes-index.result c.loop-index.invariant
+    c.loop-index-test.true c.index-nodes-index.is)
 
 pub returns-clause-proved : goal.returns-clause-proved
 returns-clause-proved c =
