@@ -1,5 +1,5 @@
 -- The parts of the check of a YES certificate, put together.
-use Rattle.std.proofs.Common.{◌≡◌, ℕ, List, [], ◌∷◌, length, Result, Ok, Err, OnOk, IsErrAnd, sym, subst}
+use Rattle.std.proofs.Common.{◌≡◌, ℕ, List, [], ◌∷◌, Result, Ok, Err, OnOk, IsErrAnd, sym, subst}
 use Rattle.wh_types.specs.Outcome.{IfBecause, MatchOr}
 use Rattle.wh_types.specs.declared.want.Or.{Or}
 use Rattle.wh_types.specs.declared.want.Or.TheVariants.{NoMemory, Because}
@@ -9,11 +9,10 @@ use Rattle.wh_cert.specs.Written as w
 use Rattle.wh_polycheck.specs.Small.{with_limits}
 use Rattle.wh_proof.specs.Valid.{IsValidYes}
 use Rattle.wh_pairs.specs.Sets.{IsWhole}
-use Rattle.wh_checker.specs.Faults.{IsFirstNodeFault, at_node, IsFirstYesFault, rank_count, inaccessible, in_node}
+use Rattle.wh_checker.specs.Faults.{IsFirstYesFault, rank_count, inaccessible, in_node}
 use Rattle.wh_proof.specs.Small.{IsSmallYes}
-use Rattle.wh_checker.specs.Walk.{IsPassingUnder, IsRankFault, HasBegun, IsFaultInNodes}
+use Rattle.wh_checker.specs.Walk.{IsRankFault, HasBegun, IsFaultInNodes}
 use Rattle.wh_proof.specs.GoesOn.{AreProvedBy}
-use Rattle.wh_checker.specs.declared.rejected.NodeFault.{NodeFault}
 use Rattle.wh_checker.specs.declared.rejected.CheckFault.{CheckFault}
 use Rattle.wh_checker.specs.declared.rejected.CheckFault.TheVariants as check
 use Rattle.wh_checker.specs.declared.rejected.Rejected.{Rejected}
@@ -31,8 +30,8 @@ passed_on (Err (Because f)) NoMemory P Q R same h k = absurd (cc)
 passed_on (Err (Because f)) (Because g) P Q R same h k = k f (subst Q (sym (because_one same)) h)
 
 -- so, where the part's contract speaks of the cause alone
-pub cause_passed : {T U : Type 0} (r : Result T (Or CheckFault)) (e : Or CheckFault) (Q R : CheckFault → Type 0)
-    → IsErrAnd r (λ x. x ≡ e) → IfBecause {T = U} (Err e) Q → ((f : CheckFault) → Q f → R f) → IfBecause r R
+pub cause_passed : {T : Type 0} (r : Result T (Or CheckFault)) (e : Or CheckFault) (Q R : CheckFault → Type 0)
+    → IsErrAnd r (λ x. x ≡ e) → IfBecause {T = Unit {0}} (Err e) Q → ((f : CheckFault) → Q f → R f) → IfBecause r R
 cause_passed (Ok x) e Q R same h k = tt
 cause_passed (Err NoMemory) e Q R same h k = tt
 cause_passed (Err (Because f)) NoMemory Q R same h k = absurd (cc)

@@ -28,8 +28,8 @@ returns-in_err-check_next-clause-fault c =
     let nodes = c.args.nodes.now in
     let lines = map said_node nodes in
     let i = c.loop-index.index in
-    cause_passed c.from_residual.result c.in_err-check_next.field-0.0 _ (IsFaultInNodes d ps c.args.whole lines)
-    c.from_residual.ensures.1 c.in_err-check_next.ensures.fault (λ f fault.
+    cause_passed c.from_residual-in_err-check_next.result c.in_err-check_next.field-0.0 _ (IsFaultInNodes d ps c.args.whole lines)
+    c.from_residual-in_err-check_next.ensures.1 c.in_err-check_next.ensures.fault (λ f fault.
     fault c.args.whole lines (map said_node (drop (i + 1) nodes))
     (come_line d ps c.args.whole lines i (reverse c.loop-index.stack.items) nodes c.index-nodes-index.result c.loop-index.invariant
     c.loop-index-test.true c.index-nodes-index.is))
