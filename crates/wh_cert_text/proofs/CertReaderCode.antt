@@ -1,6 +1,5 @@
 -- A reader that keeps nothing of the lines before: what a byte does to what it stands for.
-use Rattle.std.proofs.Common.{◌≡◌, ℕ, suc, ◌+◌, ◌-◌, ◌^◌, ◌<◌, List, [], ◌∷◌, ◌++◌, length, take, drop, Option, Some, None, Result, Ok, Err, OnOk, OnErr, IfOk, true, false, refl, sym, ap, ◌∙◌, subst, arith}
-use Rattle.std.specs.declared.alloc.AllocError.{AllocError}
+use Rattle.std.proofs.Common.{◌≡◌, ℕ, suc, ◌+◌, ◌-◌, ◌^◌, ◌<◌, List, [], ◌∷◌, ◌++◌, length, take, drop, Option, Some, None, Result, Ok, Err, OnOk, IfOk, true, false, refl, sym, ap, ◌∙◌, subst, arith}
 use Rattle.std.specs.Global.{Box}
 use Rattle.std.specs.Option.{option_map, option_to_list}
 use Rattle.std.proofs.Math.Seq.{take-length}
@@ -23,7 +22,7 @@ use Rattle.wh_cert_text.specs.LineViews.{line_place, place_of as no_place_of}
 use Rattle.wh_cert_text.specs.YesViews.{yes_place, place_of, naming}
 use Rattle.wh_cert_text.specs.ReadViews.{wanted}
 use Rattle.wh_cert_text.specs.Handing.{TakesNo, TakesYes, handed_no, handed_yes, handed}
-use Rattle.wh_cert_text.specs.Feeding.{Came, OnWant, ranks_of, IsPairsLine, Tracks, StopsAt, Stand, StandsFor, Refuses, Led, StageKept, HeadKnown, yes_ended, no_ended, has_ended}
+use Rattle.wh_cert_text.specs.Feeding.{OnWant, ranks_of, IsPairsLine, Tracks, StopsAt, Stand, StandsFor, Refuses, Led, StageKept, HeadKnown, yes_ended, no_ended, has_ended}
 use Rattle.wh_cert_text.specs.ItemsRead.{ItemsIn}
 use Rattle.wh_letters.specs.declared.letters.Letters.{Letters}
 use Rattle.wh_cert_text.specs.declared.line_reader.NoLine.{NoLine}
@@ -32,7 +31,6 @@ use Rattle.wh_cert_text.specs.declared.line_reader.LinePlace.TheVariants as no_p
 use Rattle.wh_cert_text.specs.declared.yes_line.YesPlace.{YesPlace}
 use Rattle.wh_cert_text.specs.declared.yes_line.YesPlace.TheVariants as place
 use Rattle.wh_cert_text.specs.declared.yes_line.YesLine.{YesLine}
-use Rattle.wh_cert_text.specs.declared.items_out.Taken.{Taken}
 use Rattle.wh_cert_text.specs.declared.items_out.Taken.TheVariants.{On, Wrong}
 use Rattle.wh_cert_text.specs.declared.items_out.YesItems.{YesItems}
 use Rattle.wh_cert_text.specs.declared.cert_reader.CertReader.{CertReader}
@@ -451,48 +449,3 @@ pub led_item : (r : Result (Option Item) (Or CertSyntax)) (old mid new : CertRea
     → IfOk r (λ out. (p : List ℕ) (is : List items.Item) → StandsFor old p → length p < 2 ^ 32 - 1 → ItemsIn p is → ItemsIn (p ++ b ∷ []) (is ++ option_to_list (option_map said_item out)))
 led_item (Ok out) old mid new b k = λ p is h short has. item_at old mid new b out p is (k p h) short has
 led_item (Err x) old mid new b k = tt
-
--- what a byte did to the line of a NO certificate, and to the lines of a YES certificate
-pub no_came : (h : m.Past) (l : Box NoLine) (new : NoLine) (b : ℕ) (r : Result Taken AllocError)
-    → IfOk r (TakesNo new (m.line_step (line_place l.value) b)) → OnErr r (l.value.place ≡ no_place.Finished → ⊥)
-    → Came (stands h (line_place l.value)) (No (record l { value = new })) b r
-no_came h l new b (Ok (On out)) takes wants = no_goes h (record l { value = new }) (m.line_step (line_place l.value) b) out takes
-no_came h l new b (Ok Wrong) takes wants = no_stops h new (m.line_step (line_place l.value) b) takes
-no_came h l new b (Err e) takes wants = λ c end. stands_early h (line_place l.value) c (place_finished l.value.place l.value wants) end
-
-yes_place_finished : (k : YesPlace) (l : YesLine) → (k ≡ place.Finished → ⊥) → place_of k l ≡ y.finished → ⊥
-yes_place_finished place.Finished l not f = not refl
-yes_place_finished k l not f = ended_place k l refl f
-
-pub yes_came : (h : y.Past) (l : Box YesItems) (new : YesItems) (b : ℕ) (r : Result Taken AllocError)
-    → wanted h ≡ l.value.wanted → y.version_of h ≡ l.value.version → HeadKnown h l.value b
-    → IfOk r (λ taken. (k : y.Past) → wanted k ≡ l.value.wanted → y.version_of k ≡ l.value.version
-    → TakesYes k l.value new (y.step (y.version_of k) (y.wants k) (yes_place l.value.line) b) taken)
-    → OnErr r (l.value.line.place ≡ place.Finished → ⊥)
-    → Came (stands_yes h (yes_place l.value.line)) (Yes (record l { value = new })) b r
-yes_came h l new b (Ok (On out)) same version known takes wants =
-    yes_goes h l.value (record l { value = new }) (y.step (y.version_of h) (y.wants h) (yes_place l.value.line) b) out same known.0 known.1 (takes h same version)
-yes_came h l new b (Ok Wrong) same version known takes wants =
-    yes_stops h l.value new (y.step (y.version_of h) (y.wants h) (yes_place l.value.line) b) (takes h same version)
-yes_came h l new b (Err e) same version known takes wants =
-    λ c end. yes_early h (yes_place l.value.line) c (yes_place_finished l.value.line.place l.value.line wants) end
-
--- the same where the line was lent
-pub no_lent : (h : m.Past) (l : Box NoLine) (was new : NoLine) (b : ℕ) (r : Result Taken AllocError) → was ≡ l.value
-    → IfOk r (TakesNo new (m.line_step (line_place was) b)) → OnErr r (was.place ≡ no_place.Finished → ⊥)
-    → Came (stands h (line_place l.value)) (No (record l { value = new })) b r
-no_lent h l was new b r e takes wants =
-    no_came h l new b r (subst (λ (line : NoLine). IfOk r (TakesNo new (m.line_step (line_place line) b))) e takes)
-    (subst (λ (line : NoLine). OnErr r (line.place ≡ no_place.Finished → ⊥)) e wants)
-
-pub yes_lent : (h : y.Past) (l : Box YesItems) (was new : YesItems) (b : ℕ) (r : Result Taken AllocError) → was ≡ l.value
-    → wanted h ≡ l.value.wanted → y.version_of h ≡ l.value.version → HeadKnown h l.value b
-    → IfOk r (λ taken. (k : y.Past) → wanted k ≡ was.wanted → y.version_of k ≡ was.version
-    → TakesYes k was new (y.step (y.version_of k) (y.wants k) (yes_place was.line) b) taken)
-    → OnErr r (was.line.place ≡ place.Finished → ⊥)
-    → Came (stands_yes h (yes_place l.value.line)) (Yes (record l { value = new })) b r
-yes_lent h l was new b r e same version known takes wants =
-    yes_came h l new b r same version known
-    (subst (λ (lines : YesItems). IfOk r (λ taken. (k : y.Past) → wanted k ≡ lines.wanted → y.version_of k ≡ lines.version
-    → TakesYes k lines new (y.step (y.version_of k) (y.wants k) (yes_place lines.line) b) taken)) e takes)
-    (subst (λ (lines : YesItems). OnErr r (lines.line.place ≡ place.Finished → ⊥)) e wants)

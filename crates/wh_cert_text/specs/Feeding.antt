@@ -20,9 +20,6 @@ use Rattle.wh_cert_text.specs.declared.line_reader.LinePlace.{LinePlace}
 use Rattle.wh_cert_text.specs.declared.line_reader.LinePlace.TheVariants as no_place
 use Rattle.wh_cert_text.specs.declared.yes_line.YesPlace.{YesPlace}
 use Rattle.wh_cert_text.specs.declared.yes_line.YesPlace.TheVariants as place
-use Rattle.std.specs.declared.alloc.AllocError.{AllocError}
-use Rattle.wh_cert_text.specs.declared.items_out.Taken.{Taken}
-use Rattle.wh_cert_text.specs.declared.items_out.Taken.TheVariants.{On, Wrong}
 use Rattle.wh_cert_text.specs.declared.items_out.YesItems.{YesItems}
 use Rattle.wh_cert_text.specs.declared.cert_reader.CertReader.{CertReader}
 use Rattle.wh_cert_text.specs.declared.cert_reader.Progress.{Progress}
@@ -91,13 +88,6 @@ abbrev pub Led : Standing → CertReader → CertReader → ℕ → Result (Opti
 Led s old new b (Ok out) = (new.taken ≡ old.taken + 1) × Tracks new.at (take_byte s b) × (option_map said_item out ≡ handed s b)
 Led s old new b (Err NoMemory) = (new.taken ≡ old.taken) × (new.at ≡ Lost) × ((c : Cert) → IsEnd s c → ⊥)
 Led s old new b (Err (Because e)) = (e.at ≡ old.taken) × (new.taken ≡ old.taken) × (new.at ≡ Refused) × (take_byte s b ≡ wrong)
-
--- what a byte did to the lines, where the bytes before it led to s: they are behind it, or it is wrong, or there was no memory
--- where a certificate can't end
-abbrev pub Came : Standing → Progress → ℕ → Result Taken AllocError → Type 0
-Came s at b (Ok (On out)) = Tracks at (take_byte s b) × (option_map said_item out ≡ handed s b)
-Came s at b (Ok Wrong) = take_byte s b ≡ wrong
-Came s at b (Err e) = (c : Cert) → IsEnd s c → ⊥
 
 -- a byte leads into the line of the number of pairs from that of the ranks, or from a place in it
 abbrev pub StageKept : y.Place → y.LineStep → Type 0

@@ -7,15 +7,21 @@ ghost use Rattle.wh_cert.specs.Written.{Cert};
 ghost use Rattle.wh_cert.specs.Items.{Item as said, items};
 ghost use Rattle.wh_cert.specs.Said.{said_item};
 ghost use Rattle.wh_cert.specs.CertText.{Begins, CertText, FaultAt};
-ghost use Rattle.wh_cert_text.specs.LineMachine.{Standing, take_byte, unread};
+ghost use Rattle.wh_cert_text.specs.LineMachine as m;
+ghost use Rattle.wh_cert_text.specs.LineMachine.{stands, stands_yes, unread};
+ghost use Rattle.wh_cert_text.specs.YesMachine as y;
+ghost use Rattle.wh_cert_text.specs.LineViews.{line_place};
+ghost use Rattle.wh_cert_text.specs.YesViews.{yes_place};
+ghost use Rattle.wh_cert_text.specs.ReadViews.{wanted as wanted_of};
 ghost use Rattle.wh_cert_text.specs.ItemsRead.{ItemsIn};
-ghost use Rattle.wh_cert_text.specs.Feeding.{Came, Led, OnWant, Refuses, StandsFor, Tracks, has_ended};
-ghost use Rattle.wh_cert_text.specs.declared.cert_reader.Progress.TheVariants.{Unread};
+ghost use Rattle.wh_cert_text.specs.Feeding.{HeadKnown, Led, OnWant, Refuses, StandsFor, has_ended};
+ghost use Rattle.wh_cert_text.specs.declared.cert_reader.Progress.TheVariants.{Lost};
 
 use crate::items_out::{Taken, YesItems, take_no};
 use crate::line_reader::{LinePlace, NoLine};
 use crate::yes_line::YesPlace;
-use std::alloc::{AllocError, Global};
+use std::alloc::Global;
+use std::mem;
 use wh_cert::{CertSyntax, Item};
 use wh_types::Or;
 
@@ -71,16 +77,10 @@ impl CertReader {
         ensures lost { OnWant result ((p : List ℕ) → StandsFor self.old p → length p < 2 ^ 32 - 1
             → StandsFor self.new p × Begins p) }
     {
-        match &mut self.at {
+        match mem::replace(&mut self.at, Progress::Lost) {
             Progress::Unread => self.begin(byte),
-            Progress::Yes(lines) => {
-                let taken = lines.take(self.alloc, byte);
-                self.led(taken)
-            }
-            Progress::No(line) => {
-                let taken = take_no(line, self.alloc, byte);
-                self.led(taken)
-            }
+            Progress::Yes(lines) => self.feed_yes(lines, byte),
+            Progress::No(line) => self.feed_no(line, byte),
             Progress::Refused => self.refuse(),
             Progress::Lost => Err(Or::NoMemory),
         }
@@ -124,61 +124,70 @@ impl CertReader {
         }))
     }
 
-    /// The lines took the byte, or refused it, or had no memory for it.
-    fn led(&mut self, taken: Result<Taken, AllocError>) -> Result<Option<Item>, Or<CertSyntax>>
+    /// On to there.
+    fn go(&mut self, at: Progress)
         requires { self.old.taken < 2 ^ 32 - 1 }
-        ensures { (s : Standing) (b : ℕ) → Came s self.old.at b taken → Led s self.old self.new b result }
+        ensures at { self.new.at ≡ at }
+        ensures taken { self.new.taken ≡ self.old.taken + 1 }
     {
-        match taken {
-            Ok(Taken::On(item)) => {
-                self.taken += 1;
-                Ok(item)
-            }
-            Ok(Taken::Wrong) => self.refuse(),
-            Err(AllocError) => {
-                self.at = Progress::Lost;
-                Err(Or::NoMemory)
-            }
-        }
+        self.at = at;
+        self.taken += 1;
     }
 
     /// The first byte tells YES from NO.
     fn begin(&mut self, byte: u8) -> Result<Option<Item>, Or<CertSyntax>>
         requires room { self.old.taken < 2 ^ 32 - 1 }
-        requires unread { self.old.at ≡ Unread }
+        requires away { self.old.at ≡ Lost }
         ensures { Led unread self.old self.new byte result }
     {
-        let lines = match byte {
-            b'Y' => self.begun_yes(),
-            b'N' => self.begun_no(),
+        match byte {
+            b'Y' => {
+                let lines = YesItems::new(self.alloc)?;
+                let lines = Box::new(self.alloc, lines)?;
+                self.go(Progress::Yes(lines));
+            }
+            b'N' => {
+                let line = NoLine::new(self.alloc)?;
+                let line = Box::new(self.alloc, line)?;
+                self.go(Progress::No(line));
+            }
             _ => return self.refuse(),
-        };
-        match lines {
-            Ok(at) => {
-                self.at = at;
-                self.taken += 1;
-                Ok(None)
+        }
+        Ok(None)
+    }
+
+    /// A byte of a NO certificate.
+    fn feed_no(&mut self, mut line: Box<NoLine>, byte: u8) -> Result<Option<Item>, Or<CertSyntax>>
+        requires room { self.old.taken < 2 ^ 32 - 1 }
+        requires away { self.old.at ≡ Lost }
+        ensures { (h : m.Past) → Led (stands h (line_place line.value)) self.old self.new byte result }
+    {
+        match take_no(&mut line, self.alloc, byte)? {
+            Taken::On(item) => {
+                self.go(Progress::No(line));
+                Ok(item)
             }
-            Err(AllocError) => {
-                self.at = Progress::Lost;
-                Err(Or::NoMemory)
-            }
+            Taken::Wrong => self.refuse(),
         }
     }
 
-    /// Behind the first byte of a YES certificate.
-    fn begun_yes(&self) -> Result<Progress, AllocError>
-        ensures { IfOk result (λ at. Tracks at (take_byte unread 89)) }
+    /// A byte of a YES certificate.
+    fn feed_yes(
+        &mut self,
+        mut lines: Box<YesItems>,
+        byte: u8,
+    ) -> Result<Option<Item>, Or<CertSyntax>>
+        requires room { self.old.taken < 2 ^ 32 - 1 }
+        requires away { self.old.at ≡ Lost }
+        ensures { (h : y.Past) → wanted_of h ≡ lines.value.wanted → y.version_of h ≡ lines.value.version
+            → HeadKnown h lines.value byte → Led (stands_yes h (yes_place lines.value.line)) self.old self.new byte result }
     {
-        let lines = YesItems::new(self.alloc)?;
-        Ok(Progress::Yes(Box::new(self.alloc, lines)?))
-    }
-
-    /// Behind that of a NO certificate.
-    fn begun_no(&self) -> Result<Progress, AllocError>
-        ensures { IfOk result (λ at. Tracks at (take_byte unread 78)) }
-    {
-        let line = NoLine::new(self.alloc)?;
-        Ok(Progress::No(Box::new(self.alloc, line)?))
+        match lines.take(self.alloc, byte)? {
+            Taken::On(item) => {
+                self.go(Progress::Yes(lines));
+                Ok(item)
+            }
+            Taken::Wrong => self.refuse(),
+        }
     }
 }
