@@ -16,6 +16,7 @@ use Rattle.wh_no.specs.Valid.{IsValid}
 use Rattle.wh_proof.specs.Valid.{IsValidYes}
 use Rattle.wh_checker.specs.Accepted.{AreBounded}
 use Rattle.wh_checker.specs.declared.rejected.Rejected.{Rejected as Row}
+use Rattle.wh_checker.specs.declared.rejected.Rejected.TheVariants as row
 use Rattle.wh_answer.specs.declared.report.Report.{Report}
 use Rattle.wh_answer.specs.declared.report.Report.TheVariants as answer
 use Rattle.wh_answer.specs.declared.report.NamedRejection.TheVariants.{Syntax}
@@ -50,13 +51,50 @@ weighed_means d ps (yes version ranks pairs nodes) answer.Yes proofs loops made 
     proofs d ps ranks pairs nodes made has valid
 weighed_means d ps (no raw steps at puts) answer.Yes proofs loops made has (is, valid, small) = absurd is
 weighed_means d ps (yes version ranks pairs nodes) answer.No proofs loops made has (is, valid) = absurd is
-weighed_means d ps (no raw steps at puts) answer.No proofs loops made has (is, claim, says, holds) =
-    (claim.term, loops d.symbols d.rules claim made.rules holds)
+weighed_means d ps (no raw steps at puts) answer.No proofs loops made has (is, valid) =
+    (valid.0.term, loops d.symbols d.rules valid.0 made.rules valid.2)
 weighed_means d ps c o proofs loops made has w = tt
 
 -- no condition is named like a text that is none
 never_syntax : (d : SystemData) (r : Row) (at : ℕ) → Syntax at ≡ named_row d r → ⊥
-never_syntax d r at e = absurd e
+never_syntax d row.RankCount at e = absurd cc
+never_syntax d (row.Inaccessible r z) at e = absurd cc
+never_syntax d (row.PairCount n) at e = absurd cc
+never_syntax d (row.NotEmpty k) at e = absurd cc
+never_syntax d (row.NotOne k) at e = absurd cc
+never_syntax d (row.Loops k a) at e = absurd cc
+never_syntax d (row.FewBlocks k) at e = absurd cc
+never_syntax d (row.NotPartition k a) at e = absurd cc
+never_syntax d (row.BackEdge k a b) at e = absurd cc
+never_syntax d (row.BadArgs k) at e = absurd cc
+never_syntax d (row.NoProjection k f) at e = absurd cc
+never_syntax d (row.BadArgument k f) at e = absurd cc
+never_syntax d (row.BadDrop k) at e = absurd cc
+never_syntax d (row.NotDecreasing k a) at e = absurd cc
+never_syntax d (row.BadUsable k) at e = absurd cc
+never_syntax d (row.BadSymbols k) at e = absurd cc
+never_syntax d (row.BadPolynomial k f marked) at e = absurd cc
+never_syntax d (row.BadLines k) at e = absurd cc
+never_syntax d (row.NotClosedRule k r) at e = absurd cc
+never_syntax d (row.NotClosedPair k a) at e = absurd cc
+never_syntax d (row.BadMoveRule k r i) at e = absurd cc
+never_syntax d (row.OverSpentRule k r i) at e = absurd cc
+never_syntax d (row.NotCoveredRule k r j) at e = absurd cc
+never_syntax d (row.BadMovePair k a i) at e = absurd cc
+never_syntax d (row.OverSpentPair k a i) at e = absurd cc
+never_syntax d (row.NotCoveredPair k a j) at e = absurd cc
+never_syntax d (row.BadFilter k f marked) at e = absurd cc
+never_syntax d (row.TooWideRule k r) at e = absurd cc
+never_syntax d (row.TooWidePair k a) at e = absurd cc
+never_syntax d (row.BadInferenceRule k r i) at e = absurd cc
+never_syntax d (row.BadInferencePair k a i) at e = absurd cc
+never_syntax d (row.NotStrict k a) at e = absurd cc
+never_syntax d row.NotATerm at e = absurd cc
+never_syntax d row.NoStep at e = absurd cc
+never_syntax d (row.StepFails i) at e = absurd cc
+never_syntax d (row.TooBig i) at e = absurd cc
+never_syntax d (row.BadPut i) at e = absurd cc
+never_syntax d row.NoInstance at e = absurd cc
 
 -- what the check answers on the certificate of a text is what it answers on the text
 pub text_judged : (d : SystemData) (ps : List PairData) (bytes : List ℕ) (c : Cert) (o : Report) → CertText bytes c → Weighed d ps c o
@@ -113,3 +151,8 @@ means_proof held d text has means begins bytes told = (d, (has bytes told).1, me
 pub means_loop : (held : Option (List ℕ)) (d : SystemData) (text : List ℕ) → IsSystemIn held d → Means d text
     → BeginsWith (codes "NO") text → Told held MeansLoop
 means_loop held d text has means begins bytes told = (d, (has bytes told).1, means.no begins)
+
+-- a verdict is that of a report
+pub of_report : {E : Type 0} (o : Report) (v : Verdict) (r : Result (List ℕ) E) → v ≡ verdict_of o
+    → IfOk r (BeginsWith (first_words v)) → IfOk r (BeginsWith (first_words (verdict_of o)))
+of_report o v r is begins = subst (λ (w : Verdict). IfOk r (BeginsWith (first_words w))) is begins

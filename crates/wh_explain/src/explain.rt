@@ -1,6 +1,7 @@
 //! Explanations of a system: with a certificate that is given or found, or of why none was found.
 
 ghost use Rattle.std.specs.Prelude.{◌≡◌, ◌≤◌, ◌++◌, IfOk, codes, length};
+ghost use Rattle.std.specs.Option.{option_map};
 ghost use Rattle.wh_types.specs.Limits.{certificate_limit};
 ghost use Rattle.wh_types.specs.Outcome.{IfBecause, MatchOr};
 ghost use Rattle.wh_system.specs.SystemView.{system_data};
@@ -13,7 +14,6 @@ ghost use Rattle.wh_judging.specs.Outcomes.{BeginsWith, Stands, StandsBySystem, 
 ghost use Rattle.wh_explain.specs.Meaning.{Explains, Finds, IsUnexplained, Means, MeansLoop, MeansProof, SaysOf, SaysOfBytes, SaysOfFiles};
 
 use crate::causes::put_cause;
-use wh_tell_nodes::put_tree;
 use std::alloc::{AllocError, Global};
 use wh_answer::{NamedRejection, Report, print_answer};
 use wh_cert::Certificate;
@@ -26,6 +26,7 @@ use wh_prover::{Answer, Options, prove};
 use wh_system::System;
 use wh_tell::Piece::{Big, Count, Spell};
 use wh_tell::{Text, put_graph, put_lints, put_pair_line, put_ranks, tell, tell_line};
+use wh_tell_nodes::put_tree;
 use wh_tell_parts::{put_attempt, put_loop};
 use wh_types::{Bytes, Or, counted};
 use wh_verdict::{Verdict, first_words, verdict_of};
@@ -56,8 +57,8 @@ pub fn explain_file<S: Shelf>(
     cert: Option<&str>,
 ) -> Result<Bytes, Or<Report>>
     ensures says { MatchOr result
-        (Explains (outside (S.held shelf.old) (S.faults shelf.old) (S.faults shelf.new)) file.now cert)
-        (IsUnexplained (outside (S.held shelf.old) (S.faults shelf.old) (S.faults shelf.new)) file.now cert) }
+        (Explains (outside (S.held shelf.old) (S.faults shelf.old) (S.faults shelf.new)) file.now (option_map (λ name. name.now) cert.entry))
+        (IsUnexplained (outside (S.held shelf.old) (S.faults shelf.old) (S.faults shelf.new)) file.now (option_map (λ name. name.now) cert.entry)) }
     ensures proof { IfOk result (λ text. BeginsWith (codes "YES") text → Told (S.held shelf.old file.now) MeansProof) }
     ensures endless { IfOk result (λ text. BeginsWith (codes "NO") text → Told (S.held shelf.old file.now) MeansLoop) }
 {

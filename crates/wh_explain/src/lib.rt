@@ -7,4 +7,3 @@ mod explain;
 mod guessed;
 
 pub use explain::{explain_file, graph_file, lint_file};
-

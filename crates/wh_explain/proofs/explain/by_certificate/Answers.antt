@@ -21,10 +21,13 @@ returns-clause-says g c =
     let s : Shelves = outside (g.S.Shelf.held c.args.shelf.now) (g.S.Shelf.faults c.args.shelf.now) (g.S.Shelf.faults c.certificate_in.new.shelf) in
     let d = system_data c.in_ok-problem.problem.system in
     let ps = pairs_data c.in_ok-problem.problem.pairs in
-    let said = c.in_ok-explained.ensures.says in
-    (said.0, judged_stands s c.args.file.now c.args.cert.now d ps c.in_ok-certificate.certificate said.0 c.in_ok-problem.ensures.read
-    (λ bytes h. c.in_ok-certificate.ensures.read bytes (c.in_ok-problem.ensures.kept c.args.cert.now ∙ h))
-    (subst (λ b. Judged d ps b said.0) c.as_slice.ensures said.1), said.2)
+    let said = c.in_ok-explained.ensures.says in (
+      said.0,
+      judged_stands s c.args.file.now c.args.cert.now d ps c.in_ok-certificate.certificate said.0 c.in_ok-problem.ensures.read
+          (λ bytes h. c.in_ok-certificate.ensures.read bytes (c.in_ok-problem.ensures.kept c.args.cert.now ∙ h))
+          (subst (λ b. Judged d ps b said.0) c.as_slice.ensures said.1),
+      said.2,
+    )
 
 pub returns-clause-proof : goal.returns-clause-proof
 returns-clause-proof g c =
