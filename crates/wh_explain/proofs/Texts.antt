@@ -1,5 +1,5 @@
 -- What a text says, and what it means, that begins with the word of a verdict.
-use Rattle.std.proofs.Common.{◌≡◌, ℕ, List, ◌∷◌, ◌++◌, Option, ap, sym, subst, ◌∙◌, arith}
+use Rattle.std.proofs.Common.{◌≡◌, ℕ, List, ◌∷◌, ◌++◌, Option, inr, ap, sym, subst, ◌∙◌, arith}
 use Rattle.std.specs.Prelude.{codes, Result, Ok, Err, IfOk}
 use Rattle.wh_terms.specs.Typing.{Symbols}
 use Rattle.wh_terms.specs.Rules.{RewriteRule, AreWellMade}
@@ -10,7 +10,8 @@ use Rattle.wh_pairs.specs.PairData.{PairData}
 use Rattle.wh_pairs.specs.SystemPairs.{HasPairs}
 use Rattle.wh_cert.specs.Written as written
 use Rattle.wh_cert.specs.Written.{Cert, yes, no}
-use Rattle.wh_cert.specs.CertText.{CertText}
+use Rattle.wh_cert.specs.Limits.{IsCert}
+use Rattle.wh_cert.specs.CertText.{CertText, FaultAt}
 use Rattle.wh_no.specs.Claim.{Claim}
 use Rattle.wh_no.specs.Valid.{IsValid}
 use Rattle.wh_proof.specs.Valid.{IsValidYes}
@@ -25,7 +26,7 @@ use Rattle.wh_verdict.specs.declared.verdict.Verdict.TheVariants.{Proof, Loop, R
 use Rattle.wh_verdict.specs.FirstWords.{first_words, verdict_of}
 use Rattle.wh_judging.specs.Outcomes.{BeginsWith, IsSystemIn, Judged, Told, Weighed}
 use Rattle.wh_judging.specs.Rows.{named_row}
-use Rattle.wh_explain.specs.Meaning.{Means, MeansLoop, MeansProof, SaysOf, SaysOfBytes, SomeIsUnbounded}
+use Rattle.wh_explain.specs.Meaning.{Finds, Means, MeansLoop, MeansProof, SaysOf, SaysOfBytes, SomeIsUnbounded}
 
 -- what a verdict means of a system
 abbrev pub MeantBy : SystemData → Verdict → Type 0
@@ -156,3 +157,15 @@ means_loop held d text has means begins bytes told = (d, (has bytes told).1, mea
 pub of_report : {E : Type 0} (o : Report) (v : Verdict) (r : Result (List ℕ) E) → v ≡ verdict_of o
     → IfOk r (BeginsWith (first_words v)) → IfOk r (BeginsWith (first_words (verdict_of o)))
 of_report o v r is begins = subst (λ (w : Verdict). IfOk r (BeginsWith (first_words w))) is begins
+
+-- bytes that are no certificate
+pub fault_said : {E : Type 0} (d : SystemData) (ps : List PairData) (bytes : List ℕ) (at : ℕ) (r : Result (List ℕ) E) → FaultAt bytes at
+    → IfOk r (BeginsWith (first_words (verdict_of (answer.Rejected (Syntax at))))) → IfOk r (SaysOfBytes d ps bytes)
+fault_said d ps bytes at (Ok text) fault begins = (answer.Rejected (Syntax at), fault, begins)
+fault_said d ps bytes at (Err e) fault begins = tt
+
+-- what is said of a certificate that was found
+pub found_said : {E : Type 0} (d : SystemData) (ps : List PairData) (c : Cert) (r : Result (List ℕ) E) → IsCert c
+    → IfOk r (SaysOf d ps c) → IfOk r (Finds d ps)
+found_said d ps c (Ok text) fits said = inr (c, fits, said)
+found_said d ps c (Err e) fits said = tt

@@ -9,7 +9,6 @@ use Rattle.wh_cert.specs.Written.{Cert}
 use Rattle.wh_cert.specs.Limits.{IsCert}
 use Rattle.wh_checker.specs.Accepted.{AreBounded}
 use Rattle.wh_answer.specs.declared.report.Report.{Report}
-use Rattle.wh_verdict.specs.declared.verdict.Verdict.{Verdict}
 use Rattle.wh_verdict.specs.declared.verdict.Verdict.TheVariants.{Open}
 use Rattle.wh_verdict.specs.FirstWords.{first_words, verdict_of}
 use Rattle.wh_judging.specs.Outcomes.{BeginsWith, Judged, Shelves, Stands, StandsBySystem, ToldSystem, Weighed}

@@ -1,8 +1,6 @@
 use Rattle.wh_system.specs.SystemView.{system_data}
 use Rattle.wh_pairs.specs.Views.{pairs_data}
 use Rattle.wh_cert.specs.Said.{said}
-use Rattle.std.proofs.Common.{subst}
-use Rattle.wh_verdict.specs.declared.verdict.Verdict.{Verdict}
 use Rattle.wh_explain.proofs.Texts.{begun_means, of_report, said_so, weighed_means}
 use Rattle.wh_explain.proofs.explain.weighed.Goals as goal
 
