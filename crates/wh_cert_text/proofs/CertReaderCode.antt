@@ -22,7 +22,7 @@ use Rattle.wh_cert_text.specs.LineViews.{line_place, place_of as no_place_of}
 use Rattle.wh_cert_text.specs.YesViews.{yes_place, place_of, naming}
 use Rattle.wh_cert_text.specs.ReadViews.{wanted}
 use Rattle.wh_cert_text.specs.Handing.{TakesNo, TakesYes, handed_no, handed_yes, handed}
-use Rattle.wh_cert_text.specs.Feeding.{OnWant, ranks_of, IsPairsLine, Tracks, StopsAt, Stand, StandsFor, Refuses, Led, StageKept, HeadKnown, yes_ended, no_ended, has_ended}
+use Rattle.wh_cert_text.specs.Feeding.{OnWant, ranks_of, IsPairsLine, Tracks, TracksYes, StopsAt, Stand, StandsFor, Refuses, Led, StageKept, HeadKnown, yes_ended, no_ended, has_ended}
 use Rattle.wh_cert_text.specs.ItemsRead.{ItemsIn}
 use Rattle.wh_letters.specs.declared.letters.Letters.{Letters}
 use Rattle.wh_cert_text.specs.declared.line_reader.NoLine.{NoLine}
@@ -44,7 +44,7 @@ use Rattle.wh_cert_text.proofs.Whole.{Stops, goes_begins, begins_goes, stopped_a
 use Rattle.wh_cert_text.proofs.ReadCode.{place_finished}
 use Rattle.wh_cert_text.proofs.ItemsWhole.{item_next, all_items}
 
-is_wrong : (s : Standing) → Stops s → s ≡ wrong
+pub is_wrong : (s : Standing) → Stops s → s ≡ wrong
 is_wrong unread h = absurd h
 is_wrong (stands k q) h = absurd h
 is_wrong (stands_yes k q) h = absurd h
@@ -56,7 +56,7 @@ stops s e = subst Stops (sym e) tt
 pub next_run : (p : List ℕ) (b : ℕ) → run start (p ++ b ∷ []) ≡ take_byte (run start p) b
 next_run p b = run_append start p (b ∷ [])
 
-longer : (p : List ℕ) (b : ℕ) → length (p ++ b ∷ []) ≡ length p + 1
+pub longer : (p : List ℕ) (b : ℕ) → length (p ++ b ∷ []) ≡ length p + 1
 longer p b = length-append p (b ∷ [])
 
 -- one byte of a NO certificate
@@ -75,9 +75,9 @@ no_stops h l m.refused t = refl
 
 -- one byte of a YES certificate
 
-pub yes_goes : (h : y.Past) (old : YesItems) (l : Box YesItems) (s : y.LineStep) (out : Option Item) → wanted h ≡ old.wanted
-    → (IsPairsLine (yes_place old.line) → ranks_of h ≡ old.ranks) → StageKept (yes_place old.line) s → TakesYes h old l.value s (On out)
-    → Tracks (Yes l) (standing_after_yes h s) × (option_map said_item out ≡ handed_yes h s)
+pub yes_goes : (h : y.Past) (old : YesItems) (l : YesItems) (s : y.LineStep) (out : Option Item) → wanted h ≡ old.wanted
+    → (IsPairsLine (yes_place old.line) → ranks_of h ≡ old.ranks) → StageKept (yes_place old.line) s → TakesYes h old l s (On out)
+    → TracksYes l (standing_after_yes h s) × (option_map said_item out ≡ handed_yes h s)
 yes_goes (y.so_far version ranks pairs nodes k) old l (y.on q) None same known kept t = (
   (y.so_far version ranks pairs nodes k, sym t.2, sym t.3, (λ line. known (kept (subst IsPairsLine t.0 line)) ∙ sym t.1), ap (stands_yes (y.so_far version ranks pairs nodes k)) (sym t.0)),
   refl,
@@ -178,21 +178,21 @@ stage_kept u w n p (y.gives (y.node_item x) q) f next = not_third q next.1
 stage_kept u w n p (y.gives y.end_item q) f next = not_third q next.1
 stage_kept u w n p y.refused f next = tt
 
-stage_kept_at : (p : List ℕ) (h : y.Past) (q : y.Place) (b : ℕ) → run start p ≡ stands_yes h q → StageKept q (y.step (y.version_of h) (y.wants h) q b)
+pub stage_kept_at : (p : List ℕ) (h : y.Past) (q : y.Place) (b : ℕ) → run start p ≡ stands_yes h q → StageKept q (y.step (y.version_of h) (y.wants h) q b)
 stage_kept_at p h q b e =
     let g = reached_yes p h q e in
     stage_kept (y.version_of h) (y.wants h) (suc g.since) q (y.step (y.version_of h) (y.wants h) q b) (λ r. g.line (b ∷ r)) (lead_kept (y.version_of h) (y.wants h) g.since q b g.place g.right g.line g.reads)
 
 -- where the reader stands
 
-tracks_goes : (at : Progress) (s : Standing) → Tracks at s → s ≡ wrong → ⊥
+pub tracks_goes : (at : Progress) (s : Standing) → Tracks at s → s ≡ wrong → ⊥
 tracks_goes Unread s t e = (let other = sym t ∙ e in absurd cc)
 tracks_goes (Yes l) s t e = (let other = sym t.4 ∙ e in absurd cc)
 tracks_goes (No l) s t e = (let other = sym t.1 ∙ e in absurd cc)
 tracks_goes Refused s t e = t
 tracks_goes Lost s t e = t
 
-stand_of : (at : Progress) (n : ℕ) (p : List ℕ) → n ≡ length p → Tracks at (run start p) → Stand at n p
+pub stand_of : (at : Progress) (n : ℕ) (p : List ℕ) → n ≡ length p → Tracks at (run start p) → Stand at n p
 stand_of Unread n p e t = (e, t)
 stand_of (Yes l) n p e t = (e, t)
 stand_of (No l) n p e t = (e, t)
@@ -239,7 +239,7 @@ stops_still p b n (within, goes, stop) = (
   ap (run start) (take-append-le (n + 1) p (b ∷ []) (omega (arith, within))) ∙ stop,
 )
 
-fault_of : (p : List ℕ) (n : ℕ) → length p < 2 ^ 32 → StopsAt p n → FaultAt p n
+pub fault_of : (p : List ℕ) (n : ℕ) → length p < 2 ^ 32 → StopsAt p n → FaultAt p n
 fault_of p n short (within, goes, stop) = stopped_at p n short within (λ h. goes (is_wrong _ h)) (stops _ stop)
 
 -- past a wrong byte nothing is right
@@ -248,10 +248,10 @@ still_wrong p n (within, goes, stop) =
     ap (run start) (sym (take-append-drop (n + 1) p)) ∙ run_append start (take (n + 1) p) (drop (n + 1) p)
     ∙ ap (λ (s : Standing). run s (drop (n + 1) p)) stop ∙ run_wrong (drop (n + 1) p)
 
-begins_none : (p : List ℕ) (n : ℕ) → StopsAt p n → Begins p → ⊥
+pub begins_none : (p : List ℕ) (n : ℕ) → StopsAt p n → Begins p → ⊥
 begins_none p n stop begins = begins_goes p begins (stops _ (still_wrong p n stop))
 
-stop_said : (new : CertReader) (p : List ℕ) (e n : ℕ) → new.at ≡ Refused → new.taken ≡ n → e ≡ n → length p < 2 ^ 32 → StopsAt p n
+pub stop_said : (new : CertReader) (p : List ℕ) (e n : ℕ) → new.at ≡ Refused → new.taken ≡ n → e ≡ n → length p < 2 ^ 32 → StopsAt p n
     → StandsFor new p × FaultAt p e × (Begins p → ⊥)
 stop_said new p e n is taken place short stop = (
   subst (λ (at : Progress). Stand at new.taken p) (sym is) (subst (StopsAt p) (sym taken) stop),

@@ -17,3 +17,4 @@ pub mod ReadCode
 pub mod ItemsHanded
 pub mod ItemsWhole
 pub mod CertReaderCode
+pub mod PortionCode

@@ -21,6 +21,7 @@ use Rattle.wh_cert_text.specs.declared.line_reader.LinePlace.TheVariants as no_p
 use Rattle.wh_cert_text.specs.declared.yes_line.YesPlace.{YesPlace}
 use Rattle.wh_cert_text.specs.declared.yes_line.YesPlace.TheVariants as place
 use Rattle.wh_cert_text.specs.declared.items_out.YesItems.{YesItems}
+use Rattle.wh_cert_text.specs.declared.line_reader.NoLine.{NoLine}
 use Rattle.wh_cert_text.specs.declared.cert_reader.CertReader.{CertReader}
 use Rattle.wh_cert_text.specs.declared.cert_reader.Progress.{Progress}
 use Rattle.wh_cert_text.specs.declared.cert_reader.Progress.TheVariants.{Unread, Yes, No, Refused, Lost}
@@ -40,14 +41,20 @@ IsPairsLine (y.number_wanted y.of_pairs) = Unit {0}
 IsPairsLine (y.number y.of_pairs n) = Unit {0}
 IsPairsLine _ = ⊥
 
--- the bytes led there; nothing is known of the items before but how many nodes are wanted, the version, and the ranks until they
--- are handed out
+-- the bytes led where these lines stand; nothing is known of the items before but how many nodes are wanted, the version, and the
+-- ranks until they are handed out
+abbrev pub TracksYes : YesItems → Standing → Type 0
+TracksYes l s =
+    (h : y.Past) × (wanted h ≡ l.wanted) × (y.version_of h ≡ l.version)
+    × (IsPairsLine (yes_place l.line) → ranks_of h ≡ l.ranks) × (s ≡ stands_yes h (yes_place l.line))
+
+abbrev pub TracksNo : NoLine → Standing → Type 0
+TracksNo l s = (h : m.Past) × (s ≡ stands h (line_place l))
+
 abbrev pub Tracks : Progress → Standing → Type 0
 Tracks Unread s = s ≡ unread
-Tracks (Yes l) s =
-    (h : y.Past) × (wanted h ≡ l.value.wanted) × (y.version_of h ≡ l.value.version)
-    × (IsPairsLine (yes_place l.value.line) → ranks_of h ≡ l.value.ranks) × (s ≡ stands_yes h (yes_place l.value.line))
-Tracks (No l) s = (h : m.Past) × (s ≡ stands h (line_place l.value))
+Tracks (Yes l) s = TracksYes l.value s
+Tracks (No l) s = TracksNo l.value s
 Tracks Refused s = ⊥
 Tracks Lost s = ⊥
 

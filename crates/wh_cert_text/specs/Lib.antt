@@ -7,3 +7,4 @@ pub mod ReadViews
 pub mod ItemsRead
 pub mod Handing
 pub mod Feeding
+pub mod Portions

@@ -8,16 +8,17 @@ ghost use Rattle.wh_cert.specs.Items.{Item as said, items};
 ghost use Rattle.wh_cert.specs.Said.{said_item};
 ghost use Rattle.wh_cert.specs.CertText.{Begins, CertText, FaultAt};
 ghost use Rattle.wh_cert_text.specs.LineMachine as m;
-ghost use Rattle.wh_cert_text.specs.LineMachine.{stands, stands_yes, unread};
+ghost use Rattle.wh_cert_text.specs.LineMachine.{run, stands, stands_yes, start, unread};
 ghost use Rattle.wh_cert_text.specs.YesMachine as y;
 ghost use Rattle.wh_cert_text.specs.LineViews.{line_place};
 ghost use Rattle.wh_cert_text.specs.YesViews.{yes_place};
 ghost use Rattle.wh_cert_text.specs.ReadViews.{wanted as wanted_of};
 ghost use Rattle.wh_cert_text.specs.ItemsRead.{ItemsIn};
-ghost use Rattle.wh_cert_text.specs.Feeding.{HeadKnown, Led, OnWant, Refuses, StandsFor, has_ended};
-ghost use Rattle.wh_cert_text.specs.declared.cert_reader.Progress.TheVariants.{Lost};
+ghost use Rattle.wh_cert_text.specs.Portions.{HasFed, HasRun, IsPortionOf, IsWithin, RefusesSome};
+ghost use Rattle.wh_cert_text.specs.Feeding.{Tracks, TracksNo, TracksYes, HeadKnown, Led, OnWant, Refuses, StandsFor, has_ended};
+ghost use Rattle.wh_cert_text.specs.declared.cert_reader.Progress.TheVariants.{Lost, Refused};
 
-use crate::items_out::{Taken, YesItems, take_no};
+use crate::items_out::{Stretch, Taken, YesItems, take_no, take_some_no};
 use crate::line_reader::{LinePlace, NoLine};
 use crate::yes_line::YesPlace;
 use std::alloc::Global;
@@ -38,6 +39,15 @@ pub enum Progress {
     Refused,
     /// On, but no memory was left to say where.
     Lost,
+}
+
+/// Bytes that were taken.
+#[derive(Drop)]
+pub struct Portion {
+    /// How many of those that were given.
+    pub taken: usize,
+    /// The item whose last line the last of them ends.
+    pub item: Option<Item>,
 }
 
 /// A reader of a certificate, which is given its bytes one by one. It keeps the present lines alone.
@@ -86,6 +96,26 @@ impl CertReader {
         }
     }
 
+    /// Takes some of the bytes, at least one, and none behind one that ends the last line of an item. That is what `feed`
+    /// does with them one by one, and quicker. Without memory the reader stands for nothing any more.
+    ///
+    /// # Errors
+    /// The bytes begin no certificate text, with the number of those that do. Once this has come it comes at each call.
+    pub fn feed_some(&mut self, bytes: &[u8]) -> Result<Portion, Or<CertSyntax>>
+        requires some { 0 < length bytes.now }
+        requires few { (p : List ℕ) × StandsFor self.old p × (length p + length bytes.now < 2 ^ 32) }
+        ensures taken { IfOk result (IsPortionOf bytes.now) }
+        ensures fed { (p : List ℕ) → StandsFor self.old p → length p + length bytes.now < 2 ^ 32 → HasFed p bytes.now self.new result }
+    {
+        match mem::replace(&mut self.at, Progress::Lost) {
+            Progress::Unread => self.begin_some(bytes),
+            Progress::Yes(lines) => self.feed_some_yes(lines, bytes),
+            Progress::No(line) => self.feed_some_no(line, bytes),
+            Progress::Refused => self.refuse_some(),
+            Progress::Lost => Err(Or::NoMemory),
+        }
+    }
+
     /// The bytes are all.
     ///
     /// # Errors
@@ -118,20 +148,17 @@ impl CertReader {
     fn refuse(&mut self) -> Result<Option<Item>, Or<CertSyntax>>
         ensures { Refuses self.old self.new result }
     {
-        self.at = Progress::Refused;
-        Err(Or::Because(CertSyntax {
-            at: u64::from(self.taken),
-        }))
+        Err(Or::Because(self.refused()))
     }
 
-    /// On to there.
-    fn go(&mut self, at: Progress)
-        requires { self.old.taken < 2 ^ 32 - 1 }
+    /// On to there by so many bytes.
+    fn go(&mut self, at: Progress, count: usize)
+        requires { self.old.taken + count < 2 ^ 32 }
         ensures at { self.new.at ≡ at }
-        ensures taken { self.new.taken ≡ self.old.taken + 1 }
+        ensures taken { self.new.taken ≡ self.old.taken + count }
     {
         self.at = at;
-        self.taken += 1;
+        self.taken += count as u32;
     }
 
     /// The first byte tells YES from NO.
@@ -144,12 +171,12 @@ impl CertReader {
             b'Y' => {
                 let lines = YesItems::new(self.alloc)?;
                 let lines = Box::new(self.alloc, lines)?;
-                self.go(Progress::Yes(lines));
+                self.go(Progress::Yes(lines), 1);
             }
             b'N' => {
                 let line = NoLine::new(self.alloc)?;
                 let line = Box::new(self.alloc, line)?;
-                self.go(Progress::No(line));
+                self.go(Progress::No(line), 1);
             }
             _ => return self.refuse(),
         }
@@ -164,7 +191,7 @@ impl CertReader {
     {
         match take_no(&mut line, self.alloc, byte)? {
             Taken::On(item) => {
-                self.go(Progress::No(line));
+                self.go(Progress::No(line), 1);
                 Ok(item)
             }
             Taken::Wrong => self.refuse(),
@@ -184,10 +211,112 @@ impl CertReader {
     {
         match lines.take(self.alloc, byte)? {
             Taken::On(item) => {
-                self.go(Progress::Yes(lines));
+                self.go(Progress::Yes(lines), 1);
                 Ok(item)
             }
             Taken::Wrong => self.refuse(),
+        }
+    }
+
+    /// Of the first bytes one alone is taken.
+    fn begin_some(&mut self, bytes: &[u8]) -> Result<Portion, Or<CertSyntax>>
+        requires some { 0 < length bytes.now }
+        requires room { self.old.taken + length bytes.now < 2 ^ 32 }
+        requires away { self.old.at ≡ Lost }
+        ensures taken { IfOk result (IsPortionOf bytes.now) }
+        ensures fed { (p : List ℕ) → self.old.taken ≡ length p → run start p ≡ unread → HasFed p bytes.now self.new result }
+    {
+        match self.begin(bytes[0]) {
+            Ok(item) => Ok(Portion { taken: 1, item }),
+            Err(fault) => Err(fault),
+        }
+    }
+
+    /// The bytes are refused from now on.
+    fn refused(&mut self) -> CertSyntax
+        ensures place { result.at ≡ self.old.taken }
+        ensures taken { self.new.taken ≡ self.old.taken }
+        ensures at { self.new.at ≡ Refused }
+    {
+        self.at = Progress::Refused;
+        CertSyntax {
+            at: u64::from(self.taken),
+        }
+    }
+
+    /// The bytes come behind a wrong one.
+    fn refuse_some(&mut self) -> Result<Portion, Or<CertSyntax>>
+        ensures { RefusesSome self.old self.new result }
+    {
+        Err(Or::Because(self.refused()))
+    }
+
+    /// Bytes of a YES certificate.
+    fn feed_some_yes(
+        &mut self,
+        mut lines: Box<YesItems>,
+        bytes: &[u8],
+    ) -> Result<Portion, Or<CertSyntax>>
+        requires some { 0 < length bytes.now }
+        requires room { self.old.taken + length bytes.now < 2 ^ 32 }
+        requires away { self.old.at ≡ Lost }
+        ensures taken { IfOk result (IsPortionOf bytes.now) }
+        ensures fed { (p : List ℕ) → self.old.taken ≡ length p → TracksYes lines.value (run start p) → HasFed p bytes.now self.new result }
+    {
+        let stretch = lines.take_some(self.alloc, bytes)?;
+        self.go_on(Progress::Yes(lines), stretch, bytes)
+    }
+
+    /// Bytes of a NO certificate.
+    fn feed_some_no(
+        &mut self,
+        mut line: Box<NoLine>,
+        bytes: &[u8],
+    ) -> Result<Portion, Or<CertSyntax>>
+        requires some { 0 < length bytes.now }
+        requires room { self.old.taken + length bytes.now < 2 ^ 32 }
+        requires away { self.old.at ≡ Lost }
+        ensures taken { IfOk result (IsPortionOf bytes.now) }
+        ensures fed { (p : List ℕ) → self.old.taken ≡ length p → TracksNo line.value (run start p) → HasFed p bytes.now self.new result }
+    {
+        let stretch = take_some_no(&mut line, self.alloc, bytes)?;
+        self.go_on(Progress::No(line), stretch, bytes)
+    }
+
+    /// The lines went on to there by the bytes.
+    fn go_on(
+        &mut self,
+        at: Progress,
+        stretch: Stretch,
+        bytes: &[u8],
+    ) -> Result<Portion, Or<CertSyntax>>
+        requires some { 0 < length bytes.now }
+        requires room { self.old.taken + length bytes.now < 2 ^ 32 }
+        requires within { IsWithin bytes.now stretch }
+        ensures taken { IfOk result (IsPortionOf bytes.now) }
+        ensures fed { (p : List ℕ) → self.old.taken ≡ length p → HasRun (Tracks at) p bytes.now stretch → HasFed p bytes.now self.new result }
+    {
+        match stretch {
+            Stretch::On => {
+                self.go(at, bytes.len());
+                Ok(Portion {
+                    taken: bytes.len(),
+                    item: None,
+                })
+            }
+            Stretch::Whole(count, item) => {
+                self.go(at, count);
+                Ok(Portion {
+                    taken: count,
+                    item: Some(item),
+                })
+            }
+            Stretch::Wrong(count) => {
+                self.go(Progress::Refused, count);
+                Err(Or::Because(CertSyntax {
+                    at: u64::from(self.taken),
+                }))
+            }
         }
     }
 }

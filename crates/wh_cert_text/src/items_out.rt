@@ -1,8 +1,10 @@
 //! The items that lines of either kind hand out.
 
-ghost use Rattle.std.specs.Prelude.{◌≡◌, ◌<◌, ◌^◌, IfOk, OnErr, MatchOption};
+ghost use Rattle.std.specs.Prelude.{◌≡◌, ◌+◌, ◌<◌, ◌^◌, ℕ, List, length, IfOk, OnErr, MatchOption};
 ghost use Rattle.wh_cert.specs.Said.{said_node};
-ghost use Rattle.wh_cert_text.specs.LineMachine.{line_step};
+ghost use Rattle.wh_cert_text.specs.LineMachine.{line_step, run, start};
+ghost use Rattle.wh_cert_text.specs.Feeding.{TracksNo, TracksYes};
+ghost use Rattle.wh_cert_text.specs.Portions.{HasRun, IsWithin};
 ghost use Rattle.wh_cert_text.specs.YesMachine as y;
 ghost use Rattle.wh_cert_text.specs.LineViews.{line_place};
 ghost use Rattle.wh_cert_text.specs.YesViews.{item_of as yes_item, yes_place};
@@ -26,6 +28,17 @@ pub enum Taken {
     On(Option<Item>),
     /// Nowhere.
     Wrong,
+}
+
+/// How far some bytes led.
+#[derive(Drop)]
+pub enum Stretch {
+    /// On by all of them, and no item is whole.
+    On,
+    /// On by so many, with the item whose last line the last of them ends.
+    Whole(usize, Item),
+    /// Nowhere: the byte behind so many is wrong.
+    Wrong(usize),
 }
 
 /// The lines of a YES certificate since the last item, and what is known of those before.
@@ -69,6 +82,26 @@ impl YesItems {
             YesStep::Gives(item) => Ok(Taken::On(self.hand_out(alloc, item)?)),
             YesStep::Wrong => Ok(Taken::Wrong),
         }
+    }
+
+    /// How far bytes lead, up to the first that ends an item.
+    pub fn take_some(&mut self, alloc: Global, bytes: &[u8]) -> Result<Stretch, AllocError>
+        ensures within { IfOk result (IsWithin bytes.now) }
+        ensures run { IfOk result (λ stretch. (p : List ℕ) → TracksYes self.old (run start p) → length p + length bytes.now < 2 ^ 32
+            → HasRun (TracksYes self.new) p bytes.now stretch) }
+    {
+        for (index, byte) in bytes.iter().enumerate() {
+            let wants = self.wanted > 0;
+            match self.line.step(alloc, self.version, wants, *byte)? {
+                YesStep::On => {}
+                YesStep::Gives(item) => match self.hand_out(alloc, item)? {
+                    Some(item) => return Ok(Stretch::Whole(index + 1, item)),
+                    None => {}
+                },
+                YesStep::Wrong => return Ok(Stretch::Wrong(index)),
+            }
+        }
+        Ok(Stretch::On)
     }
 
     /// What an item of the lines hands out: the version and the ranks wait for the number of pairs.
@@ -125,6 +158,25 @@ pub fn take_no(line: &mut NoLine, alloc: Global, byte: u8) -> Result<Taken, Allo
         LineStep::Gives(item) => Ok(Taken::On(Some(no_item(item)))),
         LineStep::Wrong => Ok(Taken::Wrong),
     }
+}
+
+/// How far bytes lead in a NO certificate, up to the first that ends an item.
+pub fn take_some_no(line: &mut NoLine, alloc: Global, bytes: &[u8]) -> Result<Stretch, AllocError>
+    ensures within { IfOk result (IsWithin bytes.now) }
+    ensures run { IfOk result (λ stretch. (p : List ℕ) → TracksNo line.old (run start p) → length p + length bytes.now < 2 ^ 32
+        → HasRun (TracksNo line.new) p bytes.now stretch) }
+{
+    for (index, byte) in bytes.iter().enumerate() {
+        if line.goes_by(*byte) {
+            continue;
+        }
+        match line.step(alloc, *byte)? {
+            LineStep::On => {}
+            LineStep::Gives(item) => return Ok(Stretch::Whole(index + 1, no_item(item))),
+            LineStep::Wrong => return Ok(Stretch::Wrong(index)),
+        }
+    }
+    Ok(Stretch::On)
 }
 
 /// The item of a line of a NO certificate.

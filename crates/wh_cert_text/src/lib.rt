@@ -8,7 +8,7 @@ mod line_reader;
 mod read;
 mod yes_line;
 
-pub use cert_reader::CertReader;
+pub use cert_reader::{CertReader, Portion};
 pub use laws::{
     no_proper_prefix, one_certificate, one_place, one_text, polynomials_short, text_or_fault,
 };

@@ -1,8 +1,9 @@
 //! NO certificates line by line: the step takes one byte, and gives an item where a line of the text is whole. It keeps
 //! nothing of the lines before.
 
+ghost use Rattle.std.specs.Bool.{OnFalse, OnTrue};
 ghost use Rattle.std.specs.Prelude.{◌≡◌, IfOk};
-ghost use Rattle.wh_cert_text.specs.LineMachine.{rule_wanted, line as line_front, rule_number, step_path as path_of_step, at_path, later_line, put_percent, put_number, spelling, behind as stands_behind, line_step};
+ghost use Rattle.wh_cert_text.specs.LineMachine.{rule_wanted, line as line_front, rule_number, step_path as path_of_step, at_path, later_line, put_percent, put_number, spelling, behind as stands_behind, line_step, on};
 ghost use Rattle.wh_cert_text.specs.LineViews.{behind_of, place_of, line_place, line_went, went_to};
 ghost use Rattle.wh_cert_text.specs.declared.line_reader.NoLine.{NoLine};
 ghost use Rattle.wh_cert_text.specs.declared.line_reader.Behind.TheVariants as behind;
@@ -143,6 +144,65 @@ impl NoLine {
             LinePlace::PutType(number) => self.step_put_type(alloc, number, byte),
             LinePlace::PutTerm(number) => self.step_put_term(alloc, number, byte),
             LinePlace::Finished => Ok(LineStep::Wrong),
+        }
+    }
+
+    /// Goes on by the byte where that ends no word and no line, as most bytes do; else nothing is done. `step` does the same, and
+    /// takes three times as long.
+    pub fn goes_by(&mut self, byte: u8) -> bool
+        ensures on { OnTrue result (on (line_place self.new) ≡ line_step (line_place self.old) byte) }
+        ensures stays { OnFalse result (self.new ≡ self.old) }
+    {
+        match self.place {
+            LinePlace::Word(behind, at) => self.goes_along(behind, at, byte),
+            LinePlace::Line => self.goes_to(step_line(byte)),
+            LinePlace::Rule => self.goes_to(step_rule(byte)),
+            LinePlace::RuleNumber(number) => self.goes_to(step_rule_number(number, byte)),
+            LinePlace::StepPath(rule) => self.goes_down(rule, byte),
+            _ => false,
+        }
+    }
+
+    /// On to the place, if there is one.
+    fn goes_to(&mut self, place: Option<LinePlace>) -> bool
+        ensures on { OnTrue result (on (line_place self.new) ≡ went_to place self.old) }
+        ensures stays { OnFalse result (self.new ≡ self.old) }
+    {
+        match place {
+            Some(place) => {
+                self.place = place;
+                true
+            }
+            None => false,
+        }
+    }
+
+    /// On by a byte of a fixed word that is not its last.
+    fn goes_along(&mut self, behind: Behind, at: usize, byte: u8) -> bool
+        ensures on { OnTrue result (on (line_place self.new) ≡ line_step (place_of (Word behind at) self.old) byte) }
+        ensures stays { OnFalse result (self.new ≡ self.old) }
+    {
+        let word = spelling(behind);
+        if at >= word.len() || byte != word[at] {
+            return false;
+        }
+        if at + 1 < word.len() {
+            self.place = LinePlace::Word(behind, at + 1);
+            return true;
+        }
+        false
+    }
+
+    /// On by a step of the path of a step.
+    fn goes_down(&mut self, rule: Option<u32>, byte: u8) -> bool
+        requires { self.old.place ≡ StepPath rule }
+        ensures on { OnTrue result (on (line_place self.new) ≡ line_step (path_of_step rule self.old.path) byte) }
+        ensures stays { OnFalse result (self.new ≡ self.old) }
+    {
+        match byte {
+            b'0' => self.path.push(0).is_ok(),
+            b'1' => self.path.push(1).is_ok(),
+            _ => false,
         }
     }
 

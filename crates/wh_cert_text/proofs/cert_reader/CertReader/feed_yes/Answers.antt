@@ -20,5 +20,5 @@ returns-in-On c = λ h same version known.
     let lent_version : y.version_of h ≡ c.deref_mut.result.now.version = version ∙ ap (λ (lines : YesItems). lines.version) (sym c.deref_mut.ensures.value) in
     let lent = subst (λ (taken : Taken). TakesYes h c.deref_mut.result.now c.take.new.self (y.step (y.version_of h) (y.wants h) (yes_place c.deref_mut.result.now.line) c.args.byte) taken) c.in-On.is (c.in_ok-item.ensures.takes h lent_same lent_version) in
     let takes = subst (λ (lines : YesItems). TakesYes h lines c.take.new.self (y.step (y.version_of h) (y.wants h) (yes_place lines.line) c.args.byte) (On c.in-On.item)) c.deref_mut.ensures.value lent in
-    let both = yes_goes h old (record c.args.lines { value = c.take.new.self }) step c.in-On.item same known.0 known.1 takes in
+    let both = yes_goes h old c.take.new.self step c.in-On.item same known.0 known.1 takes in
     (c.go.ensures.taken, subst (λ (at : Progress). Tracks at (standing_after_yes h step)) (sym c.go.ensures.at) both.0, both.1)
