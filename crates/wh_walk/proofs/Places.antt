@@ -1,5 +1,5 @@
 -- Where a walk is, before and behind an item, and at its end.
-use Rattle.std.proofs.Common.{Box, Global, ◌≡◌, ◌∷◌, ◌++◌, ℕ, List, [], map, Result, Ok, Err, append_assoc, refl, ap, sym, ◌∙◌, subst}
+use Rattle.std.proofs.Common.{Box, Global, ◌≡◌, ◌∷◌, ◌++◌, ℕ, List, [], map, Result, Ok, Err, OnOk, append_assoc, refl, ap, sym, ◌∙◌, subst}
 use Rattle.wh_types.specs.Outcome.{MatchOr}
 use Rattle.wh_types.specs.declared.want.Or.{Or}
 use Rattle.wh_types.specs.declared.want.Or.TheVariants.{NoMemory, Because}
@@ -18,7 +18,7 @@ use Rattle.wh_checker.specs.declared.checking.Accepted.{Accepted}
 use Rattle.wh_checker.specs.declared.rejected.CheckFault.{CheckFault}
 use Rattle.wh_checker.specs.declared.rejected.CheckFault.TheVariants.{Rejected}
 use Rattle.wh_walk.specs.Walking.{State, Leads, CanCome, IsBlamed, IsRefused, behind_steps}
-use Rattle.wh_walk.specs.Standing.{Stand, StandsFor, IsNext, IsNamed}
+use Rattle.wh_walk.specs.Standing.{Stand, StandsFor, IsNext, IsNamed, IsThere}
 use Rattle.wh_walk.specs.declared.place.Place.{Place}
 use Rattle.wh_walk.specs.declared.place.Place.TheVariants as place
 use Rattle.wh_walk.specs.declared.walk.Walk.{Walk}
@@ -72,6 +72,19 @@ pub pushed : (d : SystemData) (ps : List PairData) (old new : Walk) (i : Item) �
     → (is : List Item) → StandsFor d ps old is → StandsFor d ps new (is ++ i ∷ [])
 pushed d ps old new i on is stands = λ c rest cert e.
     on c rest cert (stands c (i ∷ rest) cert (e ∙ append_assoc is (i ∷ []) rest))
+
+-- what an item told, where the walk has gone there
+pub told_there : (d : SystemData) (ps : List PairData) (old new : Walk) (i : Item) (told : Result Place (Or CheckFault)) → Tells d ps old.at i told
+    → IsThere told new.at → (is : List Item) → StandsFor d ps old is → StandsFor d ps new (is ++ i ∷ [])
+told_there d ps old new i (Ok p) tells there =
+    pushed d ps old new i (subst (λ q. Leads (Stand d ps old.at) i (Stand d ps q)) (sym there) tells)
+told_there d ps old new i (Err NoMemory) tells there = absurd there
+told_there d ps old new i (Err (Because f)) tells there =
+    pushed d ps old new i (subst (λ q. Leads (Stand d ps old.at) i (Stand d ps q)) (sym there) tells)
+
+pub where_ok : {T E : Type 0} (r : Result T E) (P Q : Type 0) → OnOk r P → (P → Q) → OnOk r Q
+where_ok (Ok x) P Q p on = on p
+where_ok (Err e) P Q p on = tt
 
 -- the end
 

@@ -39,3 +39,9 @@ IsNamed (Ok p) (Ok q) = q ≡ p
 IsNamed (Err NoMemory) (Err NoMemory) = Unit {0}
 IsNamed (Err (Because f)) (Err (Because g)) = g ≡ Rejected (of_claim f)
 IsNamed _ _ = ⊥
+
+-- the place to which an item led, or the fault that it has
+abbrev pub IsThere : Result Place (Or CheckFault) → Place → Type 0
+IsThere (Ok p) q = q ≡ p
+IsThere (Err NoMemory) q = ⊥
+IsThere (Err (Because f)) q = q ≡ place.Blamed f

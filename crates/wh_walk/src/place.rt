@@ -7,11 +7,12 @@ ghost use Rattle.wh_pairs.specs.SystemPairs.{HasPairs};
 ghost use Rattle.wh_pairs.specs.Views.{pairs_data};
 ghost use Rattle.wh_text.specs.Erase.{rtm};
 ghost use Rattle.wh_pairs.specs.PairData.{PairData};
-ghost use Rattle.wh_cert.specs.Items.{no_head};
+ghost use Rattle.wh_cert.specs.Items.{no_head, step};
 ghost use Rattle.wh_cert.specs.Said.{said_item};
 ghost use Rattle.wh_walk.specs.Walking.{AtNodes, AtPuts, AtSteps, CanCome, HasNothing, IsBlamed, IsRefused, Leads};
 ghost use Rattle.wh_walk.specs.Standing.{IsNamed, Stand};
 
+use crate::copies::copy_step;
 use crate::nodes::Nodes;
 use crate::puts::Puts;
 use crate::steps::Steps;
@@ -21,6 +22,7 @@ use wh_checker::{Accepted, CheckFault, of_claim};
 use wh_no::NoFault;
 use wh_pairs::PairList;
 use wh_system::System;
+use wh_terms::Step;
 use wh_text::RawTerm;
 use wh_types::Or;
 
@@ -67,6 +69,28 @@ impl Place {
             Place::Puts(puts) => named(at_puts(alloc, system, puts, item)),
             Place::Blamed(fault) => Ok(Place::Blamed(fault)),
             _ => unreachable!(),
+        }
+    }
+
+    /// Where a step leads from here, which is kept as it is.
+    pub fn after_step(
+        self,
+        alloc: Global,
+        system: &System,
+        pairs: &PairList,
+        next: Step,
+    ) -> Result<Place, Or<CheckFault>>
+        requires pairs { HasPairs (system_data system.now) (pairs_data pairs.now) }
+        requires come { CanCome (Stand (system_data system.now) (pairs_data pairs.now) self) (step next) }
+        ensures { MatchOr result
+            (λ new. Leads (Stand (system_data system.now) (pairs_data pairs.now) self) (step next)
+            (Stand (system_data system.now) (pairs_data pairs.now) new))
+            (λ f. Leads (Stand (system_data system.now) (pairs_data pairs.now) self) (step next)
+            (IsBlamed (system_data system.now) (pairs_data pairs.now) f)) }
+    {
+        match self {
+            Place::Steps(steps) => named(at_step(alloc, system, steps, next)),
+            place => place.after(alloc, system, pairs, &Item::Step(next)),
         }
     }
 }
@@ -136,11 +160,27 @@ fn at_nodes(
     }
 }
 
+// Where a step leads from those before it.
+fn at_step(
+    alloc: Global,
+    system: &System,
+    mut steps: Box<Steps>,
+    next: Step,
+) -> Result<Place, Or<NoFault>>
+    requires { CanCome (AtSteps (system_data system.now) steps.value) (step next) }
+    ensures { (ps : List PairData) → MatchOr result
+        (λ new. Leads (AtSteps (system_data system.now) steps.value) (step next) (Stand (system_data system.now) ps new))
+        (λ f. Leads (AtSteps (system_data system.now) steps.value) (step next) (IsRefused (system_data system.now) f)) }
+{
+    steps.take(alloc, system, next)?;
+    Ok(Place::Steps(steps))
+}
+
 // Where an item leads from the steps of a NO certificate.
 fn at_steps(
     alloc: Global,
     system: &System,
-    mut steps: Box<Steps>,
+    steps: Box<Steps>,
     item: &Item,
 ) -> Result<Place, Or<NoFault>>
     requires { CanCome (AtSteps (system_data system.now) steps.value) (said_item item.now) }
@@ -150,8 +190,8 @@ fn at_steps(
 {
     match item {
         Item::Step(step) => {
-            steps.take(alloc, system, step)?;
-            Ok(Place::Steps(steps))
+            let copy = copy_step(alloc, step)?;
+            at_step(alloc, system, steps, copy)
         }
         Item::At(path) => {
             let puts = Puts::new(alloc, system, steps, path)?;

@@ -8,7 +8,6 @@ ghost use Rattle.wh_cert.specs.Items.{no_head, step, at};
 ghost use Rattle.wh_no.specs.Faults as claims;
 ghost use Rattle.wh_walk.specs.Walking.{AtSteps, CanCome, CanStand, HasNothing, IsRefused, Leads, Stays};
 
-use crate::copies::copy_step;
 use std::alloc::Global;
 use wh_making::NameTables;
 use wh_no::{NoFault, check_term};
@@ -19,7 +18,7 @@ use wh_text::RawTerm;
 use wh_types::Or;
 
 // So many steps are gone over at once: each time the term is copied.
-const MOST_WAITING: usize = 4096;
+const MOST_WAITING: usize = 65_536;
 
 /// Where the next step of a NO certificate comes.
 #[derive(Drop)]
@@ -56,14 +55,13 @@ impl Steps {
     }
 
     /// One step more.
-    pub fn take(&mut self, alloc: Global, system: &System, next: &Step) -> Result<(), Or<NoFault>>
-        requires { CanCome (AtSteps (system_data system.now) self.old) (step next.now) }
+    pub fn take(&mut self, alloc: Global, system: &System, next: Step) -> Result<(), Or<NoFault>>
+        requires { CanCome (AtSteps (system_data system.now) self.old) (step next) }
         ensures { MatchOr result
-            (λ _. Leads (AtSteps (system_data system.now) self.old) (step next.now) (AtSteps (system_data system.now) self.new))
-            (λ f. Leads (AtSteps (system_data system.now) self.old) (step next.now) (IsRefused (system_data system.now) f)) }
+            (λ _. Leads (AtSteps (system_data system.now) self.old) (step next) (AtSteps (system_data system.now) self.new))
+            (λ f. Leads (AtSteps (system_data system.now) self.old) (step next) (IsRefused (system_data system.now) f)) }
     {
-        let copy = copy_step(alloc, next)?;
-        self.waiting.push(copy)?;
+        self.waiting.push(next)?;
         if self.waiting.len() < MOST_WAITING {
             return Ok(());
         }
