@@ -21,6 +21,7 @@ use Rattle.wh_answer.specs.declared.report.Report.{Report}
 use Rattle.wh_answer.specs.declared.report.Report.TheVariants.{Yes, No, Rejected, Refused, ReadFault, TooLong, Overflow, TooLarge}
 use Rattle.wh_judging.specs.Outcomes.{Shelves, Told, AreWithin, IsSystemIn, IsProblemIn, ToldSystem, ToldCert, Certified, Weighed, Judged, Checked, IsRefusedText, StandsByText, StandsBySystem, ToldText, Stands}
 use Rattle.wh_judging.specs.Rows.{reason_of}
+use Rattle.wh_judging.specs.Streamed.{IsJudgedIn}
 use Rattle.wh_judging.specs.Unread.{CertificateFault, RefusedBy}
 
 -- a cause that is handed on
@@ -118,3 +119,13 @@ judged_stands s file cert d ps bytes o is of_cert judged = by o judged
     by (Overflow k) j = with_system (Overflow k) j
     by (TooLarge k) j = with_system (TooLarge k) j
     by o j = absurd j.2
+
+-- what judging the file of the certificate comes to is the answer, behind the system
+pub file_stands : (s : Shelves) (file cert : List ℕ) (d : SystemData) (ps : List PairData) (held : Option (List ℕ)) (mid : ℕ)
+    (r : Result Report (Or Report)) → IsProblemIn (s.held file) d ps → held ≡ s.held cert → s.before cert ≤ mid
+    → MatchOr r (IsJudgedIn held d ps) (CertificateFault held mid (s.after cert)) → MatchOr r (Stands s file cert) (Stands s file cert)
+file_stands s file cert d ps held mid (Ok o) is same low (bytes, of_file, judged) =
+    judged_stands s file cert d ps bytes o is (λ b h. of_file b (same ∙ h)) judged
+file_stands s file cert d ps held mid (Err NoMemory) is same low h = tt
+file_stands s file cert d ps held mid (Err (Because o)) is same low fault =
+    certificate_stands s file cert d ps held mid o is same low fault

@@ -3,3 +3,4 @@ pub mod Outcomes
 pub mod Unread
 pub mod Texts
 pub mod Status
+pub mod Streamed

@@ -1,5 +1,5 @@
 -- Names in place of the numbers of symbols and of meta-variables.
-use Rattle.std.specs.Prelude.{ℕ, List, [], get_or, length, map}
+use Rattle.std.specs.Prelude.{ℕ, List, [], get_or}
 use Rattle.wh_system.specs.Systems.{SystemData}
 use Rattle.wh_read.specs.declared.reasons.Reason.{Reason}
 use Rattle.wh_read.specs.declared.reasons.Reason.TheVariants as read

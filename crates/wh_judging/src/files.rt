@@ -93,8 +93,8 @@ pub fn certificate_in<S: Shelf>(
     }
 }
 
-// The answer where that file was not read.
-fn unread(fault: Or<ReadFault>, role: Role) -> Or<Report>
+/// The answer where that file was not read.
+pub fn unread(fault: Or<ReadFault>, role: Role) -> Or<Report>
     ensures { UnreadBy fault role result }
 {
     match fault {

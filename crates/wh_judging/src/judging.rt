@@ -1,29 +1,32 @@
 //! Judging a certificate for a system, and showing a system with its dependency pairs.
 
-ghost use Rattle.std.specs.Prelude.{◌≡◌, ◌≤◌, ℕ, List, IfOk, length, codes};
-ghost use Rattle.wh_types.specs.Limits.{certificate_limit};
+ghost use Rattle.std.specs.Prelude.{◌≡◌, ℕ, List, IfOk, codes};
 ghost use Rattle.wh_types.specs.Outcome.{MatchOr};
 ghost use Rattle.wh_system.specs.SystemView.{system_data};
 ghost use Rattle.wh_pairs.specs.Views.{pairs_data};
+ghost use Rattle.wh_pairs.specs.PairData.{PairData};
 ghost use Rattle.wh_pairs.specs.SystemPairs.{HasPairs};
-ghost use Rattle.wh_judging.specs.Outcomes.{BeginsWith, Judged, Stands, StandsBySystem, ToldSystem, Weighed, outside};
+ghost use Rattle.wh_judging.specs.Outcomes.{BeginsWith, Stands, StandsBySystem, ToldSystem, Weighed, outside};
 ghost use Rattle.wh_answer.specs.Texts.{line};
 ghost use Rattle.wh_judging.specs.Texts.{IsShown, shown_text};
 ghost use Rattle.wh_cert.specs.Limits.{IsCert};
 ghost use Rattle.wh_cert.specs.Said.{said};
+ghost use Rattle.wh_cert.specs.Written.{Cert};
+ghost use Rattle.wh_walk.specs.Walking.{Answers};
 
-use crate::files::{Problem, certificate_in, problem_in};
+use crate::files::{Problem, problem_in};
 use crate::rejection::named_rejection;
+use crate::streamed::judge_file;
 use std::alloc::{AllocError, Global};
-use wh_answer::{NamedRejection, Report};
+use wh_answer::Report;
 use wh_cert::Certificate;
-use wh_cert_text::read_certificate;
 use wh_checker::{Accepted, CheckFault, check, rejections_name_what_is_there};
 use wh_io::Shelf;
 use wh_print::{print_pairs, print_system, printed_systems_are_read_back};
+use wh_system::System;
 use wh_types::{Bytes, Or};
 
-/// Checks the certificate in the second file against the system in the first one. Both files are read.
+/// Checks the certificate in the second file against the system in the first one. Both files are read, the second one in pieces.
 pub fn check_files<S: Shelf>(
     alloc: Global,
     shelf: &mut S,
@@ -35,8 +38,7 @@ pub fn check_files<S: Shelf>(
     ensures kept { (other : List ℕ) → S.held shelf.new other ≡ S.held shelf.old other }
 {
     let problem = problem_in(alloc, shelf, file)?;
-    let certificate = certificate_in(alloc, shelf, cert)?;
-    Ok(judge(alloc, &problem, certificate.as_slice())?)
+    judge_file(alloc, shelf, &problem, cert)
 }
 
 /// The text that shows the system in the file with its dependency pairs, or why there is none.
@@ -65,19 +67,6 @@ fn shown(alloc: Global, problem: &Problem) -> Result<Bytes, AllocError>
     Ok(text)
 }
 
-// What the bytes of the certificate come to.
-fn judge(alloc: Global, problem: &Problem, bytes: &[u8]) -> Result<Report, AllocError>
-    requires length { length bytes.now ≤ certificate_limit }
-    requires pairs { HasPairs (system_data problem.now.system) (pairs_data problem.now.pairs) }
-    ensures { IfOk result (Judged (system_data problem.now.system) (pairs_data problem.now.pairs) bytes.now) }
-{
-    match read_certificate(alloc, bytes) {
-        Ok(certificate) => weigh(alloc, problem, &certificate),
-        Err(Or::NoMemory) => Err(AllocError),
-        Err(Or::Because(fault)) => { Ok(Report::Rejected(NamedRejection::Syntax { at: fault.at })) }
-    }
-}
-
 /// What a certificate that was read comes to, for a system with its pairs: that it is accepted, or why it is not, with names.
 pub fn weigh(
     alloc: Global,
@@ -88,16 +77,32 @@ pub fn weigh(
     requires pairs { HasPairs (system_data problem.now.system) (pairs_data problem.now.pairs) }
     ensures { IfOk result (Weighed (system_data problem.now.system) (pairs_data problem.now.pairs) (said certificate.now)) }
 {
-    problem.system.is_well_made();
-    rejections_name_what_is_there();
     match check(alloc, &problem.system, &problem.pairs, certificate) {
+        Ok(accepted) => told_of_check(alloc, &problem.system, Ok(accepted)),
+        Err(Or::Because(fault)) => told_of_check(alloc, &problem.system, Err(fault)),
+        Err(Or::NoMemory) => Err(AllocError),
+    }
+}
+
+/// The report of what a check came to for the system, with names in place of numbers.
+pub fn told_of_check(
+    alloc: Global,
+    system: &System,
+    checked: Result<Accepted, CheckFault>,
+) -> Result<Report, AllocError>
+    requires { (ps : List PairData) × (c : Cert) × Answers (system_data system.now) ps c checked }
+    ensures { IfOk result (λ report. (ps : List PairData) (c : Cert) → Answers (system_data system.now) ps c checked
+        → Weighed (system_data system.now) ps c report) }
+{
+    system.is_well_made();
+    rejections_name_what_is_there();
+    match checked {
         Ok(Accepted::Yes(_)) => Ok(Report::Yes),
         Ok(Accepted::No(_)) => Ok(Report::No),
-        Err(Or::NoMemory) => Err(AllocError),
-        Err(Or::Because(CheckFault::Rejected(row))) => {
-            Ok(Report::Rejected(named_rejection(alloc, &problem.system, &row)?))
+        Err(CheckFault::Rejected(row)) => {
+            Ok(Report::Rejected(named_rejection(alloc, system, &row)?))
         }
-        Err(Or::Because(CheckFault::Overflow { node })) => Ok(Report::Overflow(node)),
-        Err(Or::Because(CheckFault::TooLarge { node })) => Ok(Report::TooLarge(node)),
+        Err(CheckFault::Overflow { node }) => Ok(Report::Overflow(node)),
+        Err(CheckFault::TooLarge { node }) => Ok(Report::TooLarge(node)),
     }
 }

@@ -14,6 +14,8 @@ mod input_rows;
 #[cfg(test)]
 mod order_rows;
 #[cfg(test)]
+mod piece_rows;
+#[cfg(test)]
 mod poly_rows;
 #[cfg(test)]
 mod prove_rows;

@@ -1,23 +1,13 @@
-use Rattle.std.proofs.Common.{◌∙◌, subst}
 use Rattle.wh_system.specs.SystemView.{system_data}
 use Rattle.wh_pairs.specs.Views.{pairs_data}
-use Rattle.wh_judging.specs.Outcomes.{Shelves, outside, Stands, Judged}
-use Rattle.wh_judging.specs.Unread.{CertificateFault}
-use Rattle.wh_judging.proofs.Standing.{carry, certificate_stands, judged_stands}
+use Rattle.wh_judging.specs.Outcomes.{Shelves, outside}
+use Rattle.wh_judging.proofs.Standing.{file_stands}
 use Rattle.wh_judging.proofs.judging.check_files.Goals as goal
-
-pub returns-in_err-certificate-clause-stands : goal.returns-in_err-certificate-clause-stands
-returns-in_err-certificate-clause-stands g c =
-    let s : Shelves = outside (g.S.Shelf.held c.args.shelf.now) (g.S.Shelf.faults c.args.shelf.now) (g.S.Shelf.faults c.certificate_in.new.shelf) in
-    let mid = c.problem_in.new.shelf in
-    carry c.from_residual-in_err-certificate.result c.in_err-certificate.field-0.0 _ (CertificateFault (g.S.Shelf.held mid c.args.cert.now) (g.S.Shelf.faults mid c.args.cert.now) (g.S.Shelf.faults c.certificate_in.new.shelf c.args.cert.now))
-    (Stands s c.args.file.now c.args.cert.now) _ c.from_residual-in_err-certificate.ensures.1 c.in_err-certificate.ensures.read
-    (λ o fault. certificate_stands s c.args.file.now c.args.cert.now (system_data c.in_ok-problem.problem.system) (pairs_data c.in_ok-problem.problem.pairs) (g.S.Shelf.held mid c.args.cert.now) (g.S.Shelf.faults mid c.args.cert.now) o c.in_ok-problem.ensures.read
-    (c.in_ok-problem.ensures.kept c.args.cert.now) (c.in_ok-problem.ensures.later c.args.cert.now) fault)
 
 pub returns-clause-stands : goal.returns-clause-stands
 returns-clause-stands g c =
-    let s : Shelves = outside (g.S.Shelf.held c.args.shelf.now) (g.S.Shelf.faults c.args.shelf.now) (g.S.Shelf.faults c.certificate_in.new.shelf) in
-    judged_stands s c.args.file.now c.args.cert.now (system_data c.in_ok-problem.problem.system) (pairs_data c.in_ok-problem.problem.pairs) c.in_ok-certificate.certificate c.in_ok-judge.field-0 c.in_ok-problem.ensures.read
-    (λ bytes h. c.in_ok-certificate.ensures.read bytes (c.in_ok-problem.ensures.kept c.args.cert.now ∙ h))
-    (subst (λ b. Judged (system_data c.in_ok-problem.problem.system) (pairs_data c.in_ok-problem.problem.pairs) b c.in_ok-judge.field-0) c.as_slice.ensures c.in_ok-judge.ensures)
+    let s : Shelves = outside (g.S.Shelf.held c.args.shelf.now) (g.S.Shelf.faults c.args.shelf.now) (g.S.Shelf.faults c.judge_file.new.shelf) in
+    let mid = c.problem_in.new.shelf in
+    file_stands s c.args.file.now c.args.cert.now (system_data c.in_ok-problem.problem.system) (pairs_data c.in_ok-problem.problem.pairs)
+    (g.S.Shelf.held mid c.args.cert.now) (g.S.Shelf.faults mid c.args.cert.now) c.judge_file.result c.in_ok-problem.ensures.read
+    (c.in_ok-problem.ensures.kept c.args.cert.now) (c.in_ok-problem.ensures.later c.args.cert.now) c.judge_file.ensures.judged
