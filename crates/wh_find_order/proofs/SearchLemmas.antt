@@ -178,3 +178,7 @@ nothing_is e learner enc blocking unsolved =
     subst HasNoOrder (as_whole e enc)
     (nothing T e.marked.now (clauses_of learner) learner.learnt.items (λ r found. enc.made.rules.each r found)
     (typed_calls T.symbols T.rules T.pairs enc.task.typed.typed) enc.marked blocking.blocked unsolved)
+
+-- another search shows that there is none
+pub nothing_told : (e : Encoding) → IsEncoding e → HasNoOrder (task_in e) → HasNoOrder (task_of (system_in e) (task_in e).pairs (task_in e).set)
+nothing_told e enc none = subst HasNoOrder (as_whole e enc) none

@@ -8,17 +8,23 @@ ghost use Rattle.wh_pairs.specs.Marked.{AreMarked};
 ghost use Rattle.wh_reduction.specs.TaskView.{task_data};
 ghost use Rattle.wh_system.specs.SystemView.{system_data};
 ghost use Rattle.wh_guesses.specs.Tasks.{IsTaskOf};
+ghost use Rattle.wh_order_space.specs.Circuited.{IsCircuited};
 ghost use Rattle.wh_find_order.specs.Answers.{IsAnswer};
+ghost use Rattle.wh_find_order.specs.Encodings.{IsEncoding, system_in, task_in};
 
 use crate::blocking::search_from;
-use crate::encoding::encoding_of;
+use crate::encoding::{Encoding, encoding_of};
 use std::alloc::{AllocError, Global};
 use wh_cert::OrderNode;
+use wh_order_space::{Circuited, orders_by_circuit};
 use wh_pairs::{PairList, PairSet, marked_symbols};
 use wh_reduction::{Task, all_rules};
 use wh_sat::Search;
 use wh_sat_trail::Clauses;
 use wh_system::System;
+
+// The circuit is given up where its solver has learnt so many clauses.
+const MOST_LEARNT: u64 = 50_000;
 
 /// Argument filters, precedences and inferences under which no rule and no pair of the set grows and some pair shrinks
 /// (the reduction pair processor with the path order of Kop 2012; the search is ours).
@@ -47,16 +53,14 @@ pub fn find_order(
     };
     system.is_well_made();
     let marked = marked_symbols(alloc, pairs, set)?;
-    find_order_from(alloc, &task, &marked, Vec::new(alloc), budget)
+    find_order_of(alloc, &task, &marked, budget)
 }
 
-/// The same by guesses alone, with the marked symbols of the set: the first guess is the order that bits with these
-/// values write; those that are missing are false.
-pub fn find_order_from<'a>(
+// The same for a task, with the marked symbols of its set.
+fn find_order_of<'a>(
     alloc: Global,
     task: &Task<'a>,
     marked: &'a [u32],
-    first: Vec<bool>,
     budget: u64,
 ) -> Result<Search<OrderNode>, AllocError>
     requires few { length task.now.pairs.now ≤ most_pairs }
@@ -69,6 +73,39 @@ pub fn find_order_from<'a>(
         return Ok(Search::Spent(none));
     }
     let encoding = encoding_of(alloc, task, marked)?;
-    let found = search_from(alloc, &encoding, first, budget)?;
+    let found = search_encoded(alloc, &encoding, budget)?;
     Ok(found)
+}
+
+// First a circuit: where it does not tell that there is no order, it may tell of bits that are worth trying first.
+fn search_encoded<'a>(
+    alloc: Global,
+    encoding: &Encoding<'a>,
+    budget: u64,
+) -> Result<Search<OrderNode>, AllocError>
+    requires few { length encoding.now.task.pairs.now ≤ most_pairs }
+    requires encoding { IsEncoding encoding.now }
+    requires room { 0 < budget }
+    ensures { IfOk result (IsAnswer (system_in encoding.now) (task_in encoding.now).pairs (task_in encoding.now).set budget) }
+{
+    match circuited(alloc, encoding)? {
+        Circuited::Nothing => Ok(Search::Nothing),
+        Circuited::First(first) => search_from(alloc, encoding, first, budget),
+        Circuited::Open => search_from(alloc, encoding, Vec::new(alloc), budget),
+    }
+}
+
+// What a circuit tells.
+fn circuited<'a>(alloc: Global, encoding: &Encoding<'a>) -> Result<Circuited, AllocError>
+    requires { IsEncoding encoding.now }
+    ensures { IfOk result (IsCircuited (task_in encoding.now)) }
+{
+    orders_by_circuit(
+        alloc,
+        &encoding.task,
+        encoding.marked,
+        &encoding.scopes,
+        encoding.precedence_bits,
+        MOST_LEARNT,
+    )
 }

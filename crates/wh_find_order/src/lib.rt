@@ -10,4 +10,4 @@ mod find;
 mod node;
 mod tables;
 
-pub use find::{find_order, find_order_from};
+pub use find::find_order;

@@ -1,2 +1,4 @@
 pub mod Space
 pub mod Bits
+pub mod Circuited
+pub mod Spotted

@@ -186,6 +186,10 @@ const SECOND_PLACE: &[u8] =
 const UNDER_BINDER: &[u8] =
     b"sort o;\nfun s : o -> o;\nfun l : (o -> o) -> o;\nrule {F:[o] o} l (\\x:o.s F[x]) => l (\\x:o.F[x]);\n";
 
+/// What grows stands under a binder: there is no order, but a circuit does not tell that.
+const GROWS_UNDER_BINDER: &[u8] =
+    b"sort o;\nfun s : o -> o;\nfun l : (o -> o) -> o;\nrule {F:[o] o} l (\\x:o.F[x]) => l (\\x:o.s F[x]);\n";
+
 /// Systems, finders, pairs and budgets with the answers.
 const ANSWERS: &[(&[u8], Finder, u32, u64, &str)] = &[
     (IDENTITY, Finder::Flat, 0, 10_000, "found, 1 dropped"),
@@ -203,7 +207,7 @@ const ANSWERS: &[(&[u8], Finder, u32, u64, &str)] = &[
     (PARTIAL, Finder::Order, 1, 1_000_000, "nothing"),
     (MAP, Finder::Order, 0, 0, "spent 0"),
     (QUADRUPLE, Finder::Order, 0, 1_000_000, "found, 1 dropped"),
-    (QUADRUPLE, Finder::Order, 0, 100, "spent 100"),
+    (QUADRUPLE, Finder::Order, 0, 1, "found, 1 dropped"),
     (PICKED, Finder::Order, 0, 1_000_000, "found, 1 dropped"),
     (
         SECOND_PLACE,
@@ -219,6 +223,7 @@ const ANSWERS: &[(&[u8], Finder, u32, u64, &str)] = &[
         1_000_000,
         "found, 1 dropped",
     ),
+    (GROWS_UNDER_BINDER, Finder::Order, 0, 2, "spent 2"),
 ];
 
 #[test]

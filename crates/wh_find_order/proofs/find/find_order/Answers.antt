@@ -9,8 +9,8 @@ use Rattle.wh_guesses.specs.Guesses.{IsSearchTask}
 use Rattle.wh_guesses.proofs.GuessLemmas.{search_task}
 use Rattle.wh_find_order.proofs.find.find_order.Goals as goal
 
-pub find_order_from-requires-clause-task : goal.find_order_from-requires-clause-task
-find_order_from-requires-clause-task c =
+pub find_order_of-requires-clause-task : goal.find_order_of-requires-clause-task
+find_order_of-requires-clause-task c =
     let d = system_data c.args.system.now in
     let pairs = c.args.pairs.now in
     let covered = c.deref.result.now in

@@ -1,0 +1,9 @@
+pub mod BehindLemmas
+pub mod PartLemmas
+pub mod ClaimLemmas
+pub mod PlanLemmas
+pub mod PlannedLemmas
+pub mod PutLemmas
+pub mod RowLemmas
+pub mod OrderLemmas
+pub mod FilterLemmas

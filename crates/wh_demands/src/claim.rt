@@ -1,0 +1,16 @@
+//! Claims.
+
+/// What is claimed of two trees behind the filters of an order.
+#[derive(Clone, Copy)]
+pub enum Claim {
+    /// They are the same tree.
+    Equal,
+    /// The left one is greater.
+    Greater,
+    /// They are the same, or the left one is greater.
+    AtLeast,
+    /// A symbol that keeps its arguments heads the left tree, which is above the right one.
+    Above,
+    /// A symbol that keeps its arguments heads the left tree, and one of these is greater than the right tree.
+    PartGreater,
+}

@@ -1,0 +1,11 @@
+use Rattle.std.proofs.Common.{subst}
+use Rattle.wh_system.specs.SystemView.{system_data}
+use Rattle.wh_reduction.specs.TaskView.{task_data}
+use Rattle.wh_reduction.specs.declared.task.Task.{Task}
+use Rattle.wh_find_order.specs.Answers.{IsAnswer}
+use Rattle.wh_find_order.proofs.find.find_order_of.Goals as goal
+
+pub returns : goal.returns
+returns c =
+    subst (λ (t : Task). IsAnswer (system_data t.system.now) (task_data t).pairs (task_data t).set c.args.budget c.in_ok-found.found)
+    c.in_ok-encoding.ensures.task c.in_ok-found.ensures

@@ -1,0 +1,7 @@
+pub mod OrderBits
+pub mod FirstLemmas
+pub mod SideLemmas
+pub mod OrderLemmas
+pub mod CallLemmas
+pub mod SpotLemmas
+pub mod NothingLemmas
