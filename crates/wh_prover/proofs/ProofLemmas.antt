@@ -20,7 +20,7 @@ use Rattle.wh_find_loop.specs.Answers.{Arrival}
 use Rattle.wh_prover.specs.declared.answer.Options.{Options}
 use Rattle.wh_prover.specs.declared.answer.Cause.{Cause}
 use Rattle.wh_prover.specs.declared.answer.Cause.TheVariants.{NoRanks, Stuck, Spent, Full}
-use Rattle.wh_prover.specs.declared.answer.Finder.TheVariants.{Subterm, Poly}
+use Rattle.wh_prover.specs.declared.answer.Finder.TheVariants.{Subterm, Poly, Order}
 use Rattle.wh_prover.proofs.CountLemmas.{apart_increasing, few_below}
 use Rattle.wh_prover.proofs.VersionLemmas.{made_searched, upgraded_searched, some_needs}
 
@@ -100,9 +100,12 @@ proof_of_tree d ps ranks count set lines c made pairs passing each low right who
 -- what ended the walk is why there is no proof
 pub no_proof_of_end : (d : SystemData) (ps : List PairData) (tries : ℕ) (cause : Cause) → HasRanks d → IsEnd d ps tries cause → HasNoProof d ps tries cause
 no_proof_of_end d ps tries (NoRanks cause) ranks end = absurd end
-no_proof_of_end d ps tries (Stuck set) ranks end = record { ranks = ranks; searched = end.0; ended = end.1; no_projection = end.2; no_interpretation = end.3 }
+no_proof_of_end d ps tries (Stuck set) ranks end =
+    record { ranks = ranks; searched = end.0; ended = end.1; no_projection = end.2; no_interpretation = end.3; no_order = end.4 }
 no_proof_of_end d ps tries (Spent Subterm set list) ranks end = record { ranks = ranks; ended = end.0; spent = end.1 }
 no_proof_of_end d ps tries (Spent Poly set list) ranks end = record { ranks = ranks; searched = end.0; ended = end.1; no_projection = end.2; spent = end.3 }
+no_proof_of_end d ps tries (Spent Order set list) ranks end =
+    record { ranks = ranks; searched = end.0; ended = end.1; no_projection = end.2; no_interpretation = end.3; spent = end.4 }
 no_proof_of_end d ps tries (Full visits) ranks end = absurd end
 
 -- where there are no loops, that is the reason
@@ -111,6 +114,7 @@ reason_without_loops d ps o (NoRanks cause) why none = (why, inl none)
 reason_without_loops d ps o (Stuck set) why none = (why, none)
 reason_without_loops d ps o (Spent Subterm set list) why none = (why, inl none)
 reason_without_loops d ps o (Spent Poly set list) why none = (why, inl none)
+reason_without_loops d ps o (Spent Order set list) why none = (why, inl none)
 reason_without_loops d ps o (Full visits) why none = absurd why
 
 -- where the search for loops is full, it is so but where nothing lets a pair of a set go
@@ -120,4 +124,5 @@ reason_beside_full d ps o (NoRanks cause) list why full other = (why, inr (list,
 reason_beside_full d ps o (Stuck set) list why full other = absurd (other set refl)
 reason_beside_full d ps o (Spent Subterm set list) listed why full other = (why, inr (listed, full))
 reason_beside_full d ps o (Spent Poly set list) listed why full other = (why, inr (listed, full))
+reason_beside_full d ps o (Spent Order set list) listed why full other = (why, inr (listed, full))
 reason_beside_full d ps o (Full visits) list why full other = absurd why

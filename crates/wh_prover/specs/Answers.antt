@@ -12,6 +12,8 @@ use Rattle.wh_find_subterm.specs.Found.{IsSpent}
 use Rattle.wh_guesses.specs.Conditions.{HasNoInterpretation}
 use Rattle.wh_guesses.specs.Found.{task_of}
 use Rattle.wh_blocking.specs.Answers as tried
+use Rattle.wh_order_space.specs.Space.{HasNoOrder}
+use Rattle.wh_find_order.specs.Answers as ordered
 use Rattle.wh_loops.specs.Space.{HasNoLoop}
 use Rattle.wh_loops.specs.Found.{IsLoopCertificate}
 use Rattle.wh_find_loop.specs.Answers.{Arrival, arrival, AreVisited, ReachesFewer}
@@ -24,7 +26,7 @@ use Rattle.wh_prover.specs.declared.answer.Answer.TheVariants.{Yes, No, Maybe}
 use Rattle.wh_prover.specs.declared.answer.Options.{Options}
 use Rattle.wh_prover.specs.declared.answer.Cause.{Cause}
 use Rattle.wh_prover.specs.declared.answer.Cause.TheVariants.{NoRanks, Stuck, Spent, Full}
-use Rattle.wh_prover.specs.declared.answer.Finder.TheVariants.{Subterm, Poly}
+use Rattle.wh_prover.specs.declared.answer.Finder.TheVariants.{Subterm, Poly, Order}
 
 -- a certificate of termination
 abbrev pub IsYes : Cert → Type 0
@@ -49,14 +51,15 @@ pub record IsProof (d : SystemData) (ps : List PairData) (c : Cert) : Type 0 whe
 abbrev pub HasRanks : SystemData → Type 0
 HasRanks d = (ranks : List ℕ) × (length ranks ≡ d.symbols.sorts) × IsPassing d ranks
 
--- no projection and no interpretation lets a pair go of a knot that the search comes to, under some ranks; so clauses may be learnt at
--- all (ours)
+-- no projection, no interpretation and no path order of the spaces lets a pair go of a knot that the search comes to, under some ranks;
+-- so clauses may be learnt at all (ours)
 pub record IsStuck (d : SystemData) (ps : List PairData) (tries : ℕ) (set : List ℕ) : Type 0 where
   pub ranks : HasRanks d
   pub searched : 0 < tries
   pub ended : Ended d ps set
   pub no_projection : HasNoProjection d.rules ps set
   pub no_interpretation : HasNoInterpretation (task_of d ps set)
+  pub no_order : HasNoOrder (task_of d ps set)
 
 -- the search for a projection of a knot that the search comes to learnt as many clauses as it may, which are shown (ours)
 pub record IsSpentOn (d : SystemData) (ps : List PairData) (tries : ℕ) (set : List ℕ) (list : List (List Literal)) : Type 0 where
@@ -73,6 +76,16 @@ pub record IsTriedOn (d : SystemData) (ps : List PairData) (tries : ℕ) (set : 
   pub no_projection : HasNoProjection d.rules ps set
   pub spent : tried.IsSpent d ps set tries list
 
+-- no projection and no interpretation lets a pair go of a knot that the search comes to, and the search for path orders made as many
+-- clauses as it may, which are shown (ours)
+pub record AreOrdersTriedOn (d : SystemData) (ps : List PairData) (tries : ℕ) (set : List ℕ) (list : List (List Literal)) : Type 0 where
+  pub ranks : HasRanks d
+  pub searched : 0 < tries
+  pub ended : Ended d ps set
+  pub no_projection : HasNoProjection d.rules ps set
+  pub no_interpretation : HasNoInterpretation (task_of d ps set)
+  pub spent : ordered.IsSpent d ps set tries list
+
 -- why there is no proof of termination: there are no ranks; nothing lets a pair of a set go; or a search for what does was given up
 -- (ours)
 abbrev pub HasNoProof : SystemData → List PairData → ℕ → Cause → Type 0
@@ -80,6 +93,7 @@ HasNoProof d ps tries (NoRanks cause) = IsCause d cause
 HasNoProof d ps tries (Stuck set) = IsStuck d ps tries set
 HasNoProof d ps tries (Spent Subterm set list) = IsSpentOn d ps tries set list
 HasNoProof d ps tries (Spent Poly set list) = IsTriedOn d ps tries set list
+HasNoProof d ps tries (Spent Order set list) = AreOrdersTriedOn d ps tries set list
 HasNoProof d ps tries (Full visits) = ⊥
 
 -- no loop was found: there is none of at most so many steps, and fewer terms are reached than may be kept (ours)
@@ -101,6 +115,7 @@ IsReason d ps o (NoRanks cause) = IsCause d cause × FoundNoLoop d o
 IsReason d ps o (Stuck set) = IsStuck d ps o.tries set × HasNoLoops d o
 IsReason d ps o (Spent Subterm set list) = IsSpentOn d ps o.tries set list × FoundNoLoop d o
 IsReason d ps o (Spent Poly set list) = IsTriedOn d ps o.tries set list × FoundNoLoop d o
+IsReason d ps o (Spent Order set list) = AreOrdersTriedOn d ps o.tries set list × FoundNoLoop d o
 IsReason d ps o (Full visits) = ((set : List ℕ) × IsStuck d ps o.tries set) × IsFull d o (map arrival visits)
 
 -- a certificate of a loop

@@ -15,6 +15,8 @@ use Rattle.wh_find_subterm.specs.Found.{IsSpent}
 use Rattle.wh_guesses.specs.Conditions.{HasNoInterpretation}
 use Rattle.wh_guesses.specs.Found.{task_of}
 use Rattle.wh_blocking.specs.Answers as tried
+use Rattle.wh_order_space.specs.Space.{HasNoOrder}
+use Rattle.wh_find_order.specs.Answers as ordered
 use Rattle.wh_subterm.specs.Projections.{Chosen}
 use Rattle.wh_proof.specs.Looked.{SayChoices}
 use Rattle.wh_proof.specs.GoesOn.{GoesOn, AreProvedBy}
@@ -22,7 +24,7 @@ use Rattle.wh_prover.specs.Arriving.{Arrives, Ended, HasNoProjection}
 use Rattle.wh_prover.specs.Versions.{IsMade}
 use Rattle.wh_prover.specs.declared.answer.Cause.{Cause}
 use Rattle.wh_prover.specs.declared.answer.Cause.TheVariants.{NoRanks, Stuck, Spent, Full}
-use Rattle.wh_prover.specs.declared.answer.Finder.TheVariants.{Subterm, Poly}
+use Rattle.wh_prover.specs.declared.answer.Finder.TheVariants.{Subterm, Poly, Order}
 
 -- more nodes than a set can have: of so many pairs one less than three times as many, and one of no pair (ours)
 abbrev pub weigh : List ℕ → ℕ
@@ -38,8 +40,11 @@ weight (set ∷ sets) = weigh set + weight sets
 abbrev pub IsEnd : SystemData → List PairData → ℕ → Cause → Type 0
 IsEnd d ps tries (NoRanks cause) = ⊥
 IsEnd d ps tries (Stuck set) = (0 < tries) × Ended d ps set × HasNoProjection d.rules ps set × HasNoInterpretation (task_of d ps set)
+    × HasNoOrder (task_of d ps set)
 IsEnd d ps tries (Spent Subterm set list) = Ended d ps set × IsSpent d.rules ps set tries list
 IsEnd d ps tries (Spent Poly set list) = (0 < tries) × Ended d ps set × HasNoProjection d.rules ps set × tried.IsSpent d ps set tries list
+IsEnd d ps tries (Spent Order set list) = (0 < tries) × Ended d ps set × HasNoProjection d.rules ps set
+    × HasNoInterpretation (task_of d ps set) × ordered.IsSpent d ps set tries list
 IsEnd d ps tries (Full visits) = ⊥
 
 -- the lines of a node are for these choices and this drop list, and fit (ours)

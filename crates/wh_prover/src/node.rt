@@ -1,15 +1,14 @@
 //! One node of a proof: how the chains of a set end, or why the search ends on it.
 
-ghost use Rattle.std.specs.Prelude.{◌≡◌, ◌↔◌, ◌<◌, ◌≤◌, All, IfOk, IfSome, IsTrue, MatchOption, length};
+ghost use Rattle.std.specs.Prelude.{◌≡◌, ◌↔◌, ◌<◌, ◌≤◌, All, IfOk, IsTrue, MatchOption, length};
 ghost use Rattle.wh_types.specs.Limits.{most_pairs};
 ghost use Rattle.wh_pairs.specs.SystemPairs.{HasPairs};
 ghost use Rattle.wh_pairs.specs.Views.{pairs_data};
 ghost use Rattle.wh_system.specs.SystemView.{system_data};
-ghost use Rattle.wh_cert.specs.Said.{said_node, said_order};
+ghost use Rattle.wh_cert.specs.Said.{said_node};
 ghost use Rattle.wh_graph.specs.Graphs.{IsGraphOf, edge_of, size_of};
 ghost use Rattle.wh_guesses.specs.Conditions.{HasNoInterpretation};
 ghost use Rattle.wh_guesses.specs.Found.{task_of};
-ghost use Rattle.wh_find_order.specs.Answers.{IsOrder};
 ghost use Rattle.wh_prover.specs.Arriving.{Arrives, Ended, HasNoProjection, IsAloneUnder};
 ghost use Rattle.wh_prover.specs.Walk.{AddsNode, IsEnd, dropped_by};
 
@@ -17,7 +16,7 @@ use crate::answer::{Cause, Finder};
 use crate::interpretations::interpretation_of;
 use crate::lines::node_of;
 use std::alloc::{AllocError, Global};
-use wh_cert::{Node, Nodes, OrderNode};
+use wh_cert::{Node, Nodes};
 use wh_find_order::find_order;
 use wh_find_subterm::find_projection;
 use wh_graph::Graph;
@@ -25,12 +24,6 @@ use wh_pairs::{PairList, PairSet, kept};
 use wh_proof::open_blocks;
 use wh_sat::Search;
 use wh_system::System;
-
-// A path order is looked for where there are at most so many rules and pairs of the set: each guess wants a line for all of them.
-const MOST_LINES: usize = 40;
-
-// The search for a path order is given up with so many clauses: more guesses seldom find one.
-const MOST_CLAUSES: u64 = 2_000;
 
 /// Gives the set a node, and puts what this leaves on top of the stack, the first of it on top; or says why the search ends on the
 /// set. The graph comes first: a set without pairs, with several components, or with one pair that may not follow itself. Then
@@ -146,7 +139,7 @@ fn interpret(
     }
 }
 
-// A node of a path order, where no projection and no interpretation lets a pair go and a short search finds an order.
+// A node of a path order, where no projection and no interpretation lets a pair go.
 fn order(
     alloc: Global,
     system: &System,
@@ -165,36 +158,18 @@ fn order(
     ensures { IfOk result (λ end. MatchOption end (AddsNode system.now pairs.now set stack.old.items stack.new.items nodes.old nodes.new)
         (IsEnd (system_data system.now) (pairs_data pairs.now) tries)) }
 {
-    match order_of(alloc, system, pairs, &set, tries)? {
-        Some(found) => {
+    match find_order(alloc, system, pairs, &set, tries)? {
+        Search::Found(found) => {
             stack.push(kept(alloc, &set, found.drop.as_slice())?)?;
             nodes.push(Node::Order(Box::new(alloc, found)?))?;
             Ok(None)
         }
-        None => Ok(Some(Cause::Stuck(set))),
-    }
-}
-
-// A path order that a short search finds, if it finds one.
-fn order_of(
-    alloc: Global,
-    system: &System,
-    pairs: &PairList,
-    set: &PairSet,
-    tries: u64,
-) -> Result<Option<OrderNode>, AllocError>
-    requires few { length pairs.now ≤ most_pairs }
-    requires pairs { HasPairs (system_data system.now) (pairs_data pairs.now) }
-    requires set { All (λ n. n < length pairs.now) set.now }
-    ensures { IfOk result (λ found. IfSome found (λ node. IsOrder (system_data system.now) (pairs_data pairs.now) set.now (said_order node))) }
-{
-    let lines = system.rules().len().saturating_add(set.as_slice().len());
-    if lines > MOST_LINES {
-        return Ok(None);
-    }
-    match find_order(alloc, system, pairs, set, tries.min(MOST_CLAUSES))? {
-        Search::Found(node) => Ok(Some(node)),
-        Search::Nothing | Search::Spent(_) => Ok(None),
+        Search::Nothing => Ok(Some(Cause::Stuck(set))),
+        Search::Spent(list) => Ok(Some(Cause::Spent {
+            finder: Finder::Order,
+            set,
+            list,
+        })),
     }
 }
 

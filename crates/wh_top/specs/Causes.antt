@@ -16,6 +16,7 @@ use Rattle.wh_judging.specs.Rows.{sort_name, meta_name}
 abbrev pub finder_named : Finder → NamedFinder
 finder_named finder.Subterm = named_finder.Subterm
 finder_named finder.Poly = named_finder.Poly
+finder_named finder.Order = named_finder.Order
 
 -- why nothing was found, with names; of clauses and of terms only their number
 abbrev pub named_cause : SystemData → Cause → NamedCause

@@ -92,6 +92,7 @@ fn named_finder(finder: Finder) -> NamedFinder
     match finder {
         Finder::Subterm => NamedFinder::Subterm,
         Finder::Poly => NamedFinder::Poly,
+        Finder::Order => NamedFinder::Order,
     }
 }
 
