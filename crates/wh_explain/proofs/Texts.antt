@@ -1,6 +1,6 @@
 -- What a text says, and what it means, that begins with the word of a verdict.
 use Rattle.std.proofs.Common.{◌≡◌, ℕ, List, ◌∷◌, ◌++◌, Option, inr, ap, sym, subst, ◌∙◌, arith}
-use Rattle.std.specs.Prelude.{codes, Result, Ok, Err, IfOk}
+use Rattle.std.specs.Prelude.{codes, Result, Ok, Err, IfOk, IsErrAnd}
 use Rattle.wh_terms.specs.Typing.{Symbols}
 use Rattle.wh_terms.specs.Rules.{RewriteRule, AreWellMade}
 use Rattle.wh_step.specs.Reduction.{Unbounded}
@@ -24,9 +24,13 @@ use Rattle.wh_answer.specs.declared.report.NamedRejection.TheVariants.{Syntax}
 use Rattle.wh_verdict.specs.declared.verdict.Verdict.{Verdict}
 use Rattle.wh_verdict.specs.declared.verdict.Verdict.TheVariants.{Proof, Loop, Rejected, Overflow, TooLarge, Open}
 use Rattle.wh_verdict.specs.FirstWords.{first_words, verdict_of}
-use Rattle.wh_judging.specs.Outcomes.{BeginsWith, IsSystemIn, Judged, Told, Weighed}
+use Rattle.wh_judging.specs.Outcomes.{BeginsWith, IsSystemIn, Judged, Shelves, StandsBySystem, Told, Weighed}
+use Rattle.wh_judging.specs.Unread.{CertificateFault}
+use Rattle.wh_types.specs.Outcome.{IfBecause, MatchOr}
+use Rattle.wh_types.specs.declared.want.Or.{Or}
+use Rattle.wh_types.specs.declared.want.Or.TheVariants.{NoMemory, Because}
 use Rattle.wh_judging.specs.Rows.{named_row}
-use Rattle.wh_explain.specs.Meaning.{Finds, Means, MeansLoop, MeansProof, SaysOf, SaysOfBytes, SomeIsUnbounded}
+use Rattle.wh_explain.specs.Meaning.{Finds, IsUnweighed, Means, MeansLoop, MeansProof, SaysOf, SaysOfBytes, SomeIsUnbounded}
 
 -- what a verdict means of a system
 abbrev pub MeantBy : SystemData → Verdict → Type 0
@@ -169,3 +173,40 @@ pub found_said : {E : Type 0} (d : SystemData) (ps : List PairData) (c : Cert) (
     → IfOk r (SaysOf d ps c) → IfOk r (Finds d ps)
 found_said d ps c (Ok text) fits said = inr (c, fits, said)
 found_said d ps c (Err e) fits said = tt
+
+-- no certificate was weighed for what the system file alone decides, nor where that of the certificate was not read
+pub unweighed_system : (s : Shelves) (file : List ℕ) (o : Report) → StandsBySystem s file o → IsUnweighed o
+unweighed_system s file answer.Yes h = h
+unweighed_system s file answer.No h = h
+unweighed_system s file (answer.Rejected r) h = h
+unweighed_system s file (answer.Maybe cause) h = tt
+unweighed_system s file (answer.Refused word at) h = tt
+unweighed_system s file answer.BadWords h = tt
+unweighed_system s file (answer.ReadFault role) h = tt
+unweighed_system s file answer.OutOfMemory h = tt
+unweighed_system s file (answer.TooLong role) h = tt
+unweighed_system s file (answer.Overflow k) h = h
+unweighed_system s file (answer.TooLarge k) h = h
+
+pub unweighed_certificate : (held : Option (List ℕ)) (before after : ℕ) (o : Report) → CertificateFault held before after o → IsUnweighed o
+unweighed_certificate held before after answer.Yes h = h
+unweighed_certificate held before after answer.No h = h
+unweighed_certificate held before after (answer.Rejected r) h = h
+unweighed_certificate held before after (answer.Maybe cause) h = tt
+unweighed_certificate held before after (answer.Refused word at) h = tt
+unweighed_certificate held before after answer.BadWords h = tt
+unweighed_certificate held before after (answer.ReadFault role) h = tt
+unweighed_certificate held before after answer.OutOfMemory h = tt
+unweighed_certificate held before after (answer.TooLong role) h = tt
+unweighed_certificate held before after (answer.Overflow k) h = h
+unweighed_certificate held before after (answer.TooLarge k) h = h
+
+-- a cause that is handed on, of which Q' holds
+pub carry_cause : {T U E : Type 0} (r : Result U (Or E)) (e : Or E) (P : T → Type 0) (Q Q' : E → Type 0) → IsErrAnd r (λ x. x ≡ e)
+    → MatchOr {T = T} (Err e) P Q → ((o : E) → Q o → Q' o) → IfBecause r Q'
+carry_cause {T} {U} {E} (Ok x) e P Q Q' is h on = tt
+carry_cause {T} {U} {E} (Err x) e P Q Q' is h on = subst (λ y. IfBecause {T = U} (Err y) Q') (sym is) (by e h)
+  where
+    by : (e : Or E) → MatchOr {T = T} (Err e) P Q → IfBecause {T = U} (Err e) Q'
+    by NoMemory h = tt
+    by (Because o) h = on o h

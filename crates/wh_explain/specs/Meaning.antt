@@ -9,6 +9,7 @@ use Rattle.wh_cert.specs.Written.{Cert}
 use Rattle.wh_cert.specs.Limits.{IsCert}
 use Rattle.wh_checker.specs.Accepted.{AreBounded}
 use Rattle.wh_answer.specs.declared.report.Report.{Report}
+use Rattle.wh_answer.specs.declared.report.Report.TheVariants.{Yes, No, Rejected, Overflow, TooLarge}
 use Rattle.wh_verdict.specs.declared.verdict.Verdict.TheVariants.{Open}
 use Rattle.wh_verdict.specs.FirstWords.{first_words, verdict_of}
 use Rattle.wh_judging.specs.Outcomes.{BeginsWith, Judged, Shelves, Stands, StandsBySystem, ToldSystem, Weighed}
@@ -38,10 +39,20 @@ abbrev pub Explains : Shelves → List ℕ → Option (List ℕ) → List ℕ �
 Explains s file (Some cert) text = SaysOfFiles s file cert text
 Explains s file None text = ToldSystem (s.held file) (λ d ps. Finds d ps text)
 
--- when there is none: where the check gives this answer on the two files, or where there is no system in the one
+-- when there is none: where the check gives this answer on the two files, though it weighs no certificate for it (`IsUnweighed`), or
+-- where there is no system in the one
 abbrev pub IsUnexplained : Shelves → List ℕ → Option (List ℕ) → Report → Type 0
 IsUnexplained s file (Some cert) o = Stands s file cert o
 IsUnexplained s file None o = StandsBySystem s file o
+
+-- no certificate was weighed for this answer
+abbrev pub IsUnweighed : Report → Type 0
+IsUnweighed Yes = ⊥
+IsUnweighed No = ⊥
+IsUnweighed (Rejected r) = ⊥
+IsUnweighed (Overflow k) = ⊥
+IsUnweighed (TooLarge k) = ⊥
+IsUnweighed _ = Unit {0}
 
 -- some term has reductions of every length
 abbrev pub SomeIsUnbounded : SystemData → Type 0

@@ -17,9 +17,7 @@ use wh_tell_parts::{is_within, put_closest_projection};
 
 // What a search came to that ended on a set of pairs.
 const NONE_LETS_GO: &str =
-    "No projection drops a pair of the set below, and no interpretation of those that are tried.\n";
-
-const NO_ORDER: &str = "A short search for a path order found none.\n";
+    "No projection drops a pair of the set below, and no interpretation and no path order of those that are tried.\n";
 
 /// Appends why nothing was found under these options.
 pub fn put_cause(
@@ -36,7 +34,6 @@ pub fn put_cause(
         Cause::NoRanks(cause) => put_no_ranks(alloc, text, problem, cause),
         Cause::Stuck(set) => {
             text.say(NONE_LETS_GO)?;
-            text.say(NO_ORDER)?;
             let words = "No loop of at most @ steps begins at the left side of a rule.";
             tell_line(text, 0, words, &[Number(options.depth)])?;
             put_stuck(alloc, text, problem, set)
@@ -47,7 +44,6 @@ pub fn put_cause(
         }
         Cause::Full(_) => {
             text.say(NONE_LETS_GO)?;
-            text.say(NO_ORDER)?;
             text.say("The search for loops found none, and kept as many terms as it may.\n")?;
             put_without_loops(alloc, text, problem, options)
         }
@@ -99,6 +95,11 @@ fn put_spent(text: &mut Text, finder: Finder) -> Result<(), AllocError> {
         Finder::Poly => {
             text.say("No projection drops a pair of the set below, ")?;
             text.say("and the search for an interpretation ended without an answer.\n")?;
+        }
+        Finder::Order => {
+            text.say("No projection drops a pair of the set below, ")?;
+            text.say("and no interpretation of those that are tried.\n")?;
+            text.say("The search for a path order ended without an answer.\n")?;
         }
     }
     text.say("No loop was found.\n")

@@ -11,7 +11,7 @@ ghost use Rattle.wh_cert.specs.Limits.{IsCert};
 ghost use Rattle.wh_cert.specs.Said.{said};
 ghost use Rattle.wh_verdict.specs.FirstWords.{first_words};
 ghost use Rattle.wh_judging.specs.Outcomes.{BeginsWith, Stands, StandsBySystem, Told, ToldSystem, outside};
-ghost use Rattle.wh_explain.specs.Meaning.{Explains, Finds, IsUnexplained, Means, MeansLoop, MeansProof, SaysOf, SaysOfBytes, SaysOfFiles};
+ghost use Rattle.wh_explain.specs.Meaning.{Explains, Finds, IsUnexplained, IsUnweighed, Means, MeansLoop, MeansProof, SaysOf, SaysOfBytes, SaysOfFiles};
 
 use crate::causes::put_cause;
 use std::alloc::{AllocError, Global};
@@ -59,6 +59,7 @@ pub fn explain_file<S: Shelf>(
     ensures says { MatchOr result
         (Explains (outside (S.held shelf.old) (S.faults shelf.old) (S.faults shelf.new)) file.now (option_map (λ name. name.now) cert.entry))
         (IsUnexplained (outside (S.held shelf.old) (S.faults shelf.old) (S.faults shelf.new)) file.now (option_map (λ name. name.now) cert.entry)) }
+    ensures unweighed { IfBecause result IsUnweighed }
     ensures proof { IfOk result (λ text. BeginsWith (codes "YES") text → Told (S.held shelf.old file.now) MeansProof) }
     ensures endless { IfOk result (λ text. BeginsWith (codes "NO") text → Told (S.held shelf.old file.now) MeansLoop) }
 {
@@ -78,6 +79,7 @@ fn by_certificate<S: Shelf>(
     ensures says { MatchOr result
         (SaysOfFiles (outside (S.held shelf.old) (S.faults shelf.old) (S.faults shelf.new)) file.now cert.now)
         (Stands (outside (S.held shelf.old) (S.faults shelf.old) (S.faults shelf.new)) file.now cert.now) }
+    ensures unweighed { IfBecause result IsUnweighed }
     ensures proof { IfOk result (λ text. BeginsWith (codes "YES") text → Told (S.held shelf.old file.now) MeansProof) }
     ensures endless { IfOk result (λ text. BeginsWith (codes "NO") text → Told (S.held shelf.old file.now) MeansLoop) }
 {
@@ -90,6 +92,7 @@ fn by_certificate<S: Shelf>(
 fn by_search<S: Shelf>(alloc: Global, shelf: &mut S, file: &str) -> Result<Bytes, Or<Report>>
     ensures says { MatchOr result (λ text. ToldSystem (S.held shelf.old file.now) (λ d ps. Finds d ps text))
         (StandsBySystem (outside (S.held shelf.old) (S.faults shelf.old) (S.faults shelf.new)) file.now) }
+    ensures unweighed { IfBecause result IsUnweighed }
     ensures proof { IfOk result (λ text. BeginsWith (codes "YES") text → Told (S.held shelf.old file.now) MeansProof) }
     ensures endless { IfOk result (λ text. BeginsWith (codes "NO") text → Told (S.held shelf.old file.now) MeansLoop) }
 {

@@ -1,10 +1,11 @@
 use Rattle.std.proofs.Common.{◌∙◌, subst}
 use Rattle.wh_system.specs.SystemView.{system_data}
 use Rattle.wh_pairs.specs.Views.{pairs_data}
-use Rattle.wh_judging.specs.Outcomes.{Shelves, outside, Stands, Judged}
+use Rattle.wh_judging.specs.Outcomes.{Shelves, outside, Stands, StandsBySystem, Judged}
 use Rattle.wh_judging.specs.Unread.{CertificateFault}
 use Rattle.wh_judging.proofs.Standing.{carry, certificate_stands, judged_stands}
-use Rattle.wh_explain.proofs.Texts.{means_loop, means_proof}
+use Rattle.wh_explain.specs.Meaning.{IsUnweighed}
+use Rattle.wh_explain.proofs.Texts.{carry_cause, means_loop, means_proof, unweighed_certificate, unweighed_system}
 use Rattle.wh_explain.proofs.explain.by_certificate.Goals as goal
 
 pub returns-in_err-certificate-clause-says : goal.returns-in_err-certificate-clause-says
@@ -38,3 +39,18 @@ pub returns-clause-endless : goal.returns-clause-endless
 returns-clause-endless g c =
     means_loop (g.S.Shelf.held c.args.shelf.now c.args.file.now) (system_data c.in_ok-problem.problem.system) c.in_ok-explained.field-0
     c.in_ok-problem.ensures.read.0 c.in_ok-explained.ensures.means
+
+pub returns-in_err-problem-clause-unweighed : goal.returns-in_err-problem-clause-unweighed
+returns-in_err-problem-clause-unweighed g c =
+    let s : Shelves = outside (g.S.Shelf.held c.args.shelf.now) (g.S.Shelf.faults c.args.shelf.now) (g.S.Shelf.faults c.problem_in.new.shelf) in
+    carry_cause c.from_residual.result c.in_err-problem.field-0.0 _ (StandsBySystem s c.args.file.now) IsUnweighed c.from_residual.ensures.1
+    c.in_err-problem.ensures.read (unweighed_system s c.args.file.now)
+
+pub returns-in_err-certificate-clause-unweighed : goal.returns-in_err-certificate-clause-unweighed
+returns-in_err-certificate-clause-unweighed g c =
+    let mid = c.problem_in.new.shelf in
+    let held = g.S.Shelf.held mid c.args.cert.now in
+    let before = g.S.Shelf.faults mid c.args.cert.now in
+    let after = g.S.Shelf.faults c.certificate_in.new.shelf c.args.cert.now in
+    carry_cause c.from_residual-in_err-certificate.result c.in_err-certificate.field-0.0 _ (CertificateFault held before after) IsUnweighed
+    c.from_residual-in_err-certificate.ensures.1 c.in_err-certificate.ensures.read (unweighed_certificate held before after)
