@@ -5,6 +5,7 @@ ghost use Rattle.wh_terms.specs.Measures.{Fits};
 ghost use Rattle.wh_terms.specs.Sight.{IsTerm, LooseBelow};
 
 use crate::asking::{Asked, Question, expect_answer, expect_answers};
+use crate::calls::Call;
 use crate::reading::term_in;
 use crate::spelling::spell;
 use crate::step_rows::add_nest;
@@ -202,5 +203,60 @@ fn expect_high_end(rt: &impl Abort, alloc: Global) -> Result<(), AllocError> {
 #[test]
 fn stops_where_a_result_does_not_fit(rt: HostRuntime) -> Result<(), Fail> {
     expect_high_end(&rt, rt.alloc())?;
+    Ok(())
+}
+
+/// A system, a term, a certificate of the term's leftmost-outermost steps, how many they are, and where they lead.
+const REPLAYED: &[(&[u8], &[u8], &[u8], u32, &[u8])] = &[
+    (
+        PARTIAL,
+        b"(f zero)",
+        b"NO 1\nterm (f zero)\nstep 0 /\nstep 1 /\nat /\nend\n",
+        2,
+        b"(f1 f0)",
+    ),
+    (
+        UNDER_BINDER,
+        b"(g %0:o)",
+        b"NO 1\nterm (g %0:o)\nstep 0 /\nstep 0 /10\nat /\nend\n",
+        2,
+        b"(f0 \\0.(f0 \\0.(f1 #0)))",
+    ),
+];
+
+/// The same term comes of the steps that a certificate lists and of as many leftmost-outermost ones.
+fn expect_both(
+    rt: &impl Abort,
+    alloc: Global,
+    system: &[u8],
+    term: &[u8],
+    certificate: &[u8],
+    steps: u32,
+    last: &[u8],
+) -> Result<(), AllocError> {
+    expect_answer(
+        rt,
+        alloc,
+        Asked::In(system, Question::Call(Call::Replay, certificate)),
+        last,
+    )?;
+    let mut expected = Bytes::new(alloc)?;
+    print_number(&mut expected, steps)?;
+    expected.push(b' ')?;
+    expected.append(last)?;
+    expected.append(b" spent")?;
+    expect_answer(
+        rt,
+        alloc,
+        Asked::In(system, Question::Reduce(term, steps)),
+        expected.as_slice(),
+    )
+}
+
+#[test]
+fn goes_where_a_certificate_goes(rt: HostRuntime) -> Result<(), Fail> {
+    for (system, term, certificate, steps, last) in REPLAYED {
+        expect_both(&rt, rt.alloc(), *system, *term, *certificate, *steps, *last)?;
+    }
     Ok(())
 }

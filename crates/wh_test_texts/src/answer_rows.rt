@@ -7,7 +7,7 @@ use std::test::Fail;
 use wh_answer::{print_answer, read_answer};
 
 /// A line of each variant of a report, of a rejection, and of a cause.
-const LINES: [&str; 61] = [
+const LINES: [&str; 64] = [
     "YES",
     "NO",
     "BAD WORDS",
@@ -46,6 +46,9 @@ const LINES: [&str; 61] = [
     "REJECTED node 0 bad-argument f",
     "REJECTED node 0 bad-drop",
     "REJECTED node 0 not-decreasing 0",
+    "REJECTED node 0 bad-usable",
+    "REJECTED node 0 not-closed rule 4294967295",
+    "REJECTED node 2 not-closed pair 0",
     "REJECTED node 0 bad-symbols",
     "REJECTED node 0 bad-polynomial f",
     "REJECTED node 0 bad-polynomial f#",
