@@ -4,7 +4,6 @@
 mod climbing;
 mod holders;
 mod known;
-mod random;
 mod search;
 mod state;
 

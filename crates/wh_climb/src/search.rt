@@ -10,7 +10,7 @@ ghost use Rattle.wh_climb.specs.Climbs.{IsClimb};
 use crate::climbing::climb_from;
 use crate::holders::holders_of;
 use crate::known::Known;
-use crate::random::Random;
+use wh_random::Random;
 use crate::state::{State, copy_lists};
 use std::alloc::{AllocError, Global};
 use std::collections::VecDeque;

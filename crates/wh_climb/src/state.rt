@@ -5,7 +5,7 @@
 ghost use Rattle.std.specs.Prelude.{◌<◌};
 
 use crate::known::{Case, Known};
-use crate::random::Random;
+use wh_random::Random;
 use std::alloc::{AllocError, Global};
 use std::collections::VecDeque;
 use wh_guesses::{Outcome, Uses};

@@ -15,7 +15,11 @@ use Rattle.wh_sat_trail.specs.Assignment.{AllBelow}
 use Rattle.wh_sat_trail.specs.declared.literal.Literal.{Literal}
 use Rattle.wh_sat.specs.Solving.{Solves}
 use Rattle.wh_sat.specs.State.{Sound, clauses_of, variables_of}
+use Rattle.wh_sat.specs.Answers.{Answers}
 use Rattle.wh_sat.specs.declared.learner.Learner.{Learner}
+use Rattle.wh_sat.specs.declared.learner.Next.{Next}
+use Rattle.wh_sat.specs.declared.learner.Next.TheVariants.{Model}
+use Rattle.wh_blocking.specs.Sizes.{value_of}
 use Rattle.wh_guesses.specs.Coefficients.{scopes_of}
 use Rattle.wh_guesses.specs.Conditions.{Condition, IsCondition, UsesNumber}
 use Rattle.wh_guesses.specs.Tasks.{IsTaskOf}
@@ -88,3 +92,9 @@ pub record IsBlocking (e : Encoding) (learner : Learner) : Type 0 where
 pub record ShutsOut (e : Encoding) (v : ℕ → Bool) (clause : List Literal) : Type 0 where
   pub below : AllBelow (bit_count (bits_for e) (scopes_for e)) clause
   pub blocked : (earlier : List (List Literal)) → Solves v earlier → IsBlocked (task_in e) e.marked.now earlier clause
+
+-- what a search for guesses comes to: one under which all clauses are true, that no values make all given clauses true, or that no
+-- clause may join any more
+abbrev pub IsNext : Learner → Next → Type 0
+IsNext learner (Model values) = (0 < learner.left) × Solves (value_of values.items) (clauses_of learner)
+IsNext learner next = Answers learner next

@@ -1,15 +1,16 @@
 //! The search by guesses: each guess under which a condition fails is shut out by a clause, and a solver tells the next
-//! one.
+//! one, or chance does where many have joined.
 
 ghost use Rattle.std.specs.Prelude.{◌≡◌, ◌+◌, ◌<◌, ◌≤◌, IfOk, OnOk, length};
 ghost use Rattle.wh_types.specs.Limits.{most_pairs};
 ghost use Rattle.wh_blocking.specs.Sizes.{value_of};
 ghost use Rattle.wh_sat.specs.Solving.{Solves};
-ghost use Rattle.wh_sat.specs.State.{clauses_of};
+ghost use Rattle.wh_sat.specs.State.{Extends, Sound, clauses_of};
 ghost use Rattle.wh_find_order.specs.Answers.{IsAnswer};
-ghost use Rattle.wh_find_order.specs.Encodings.{IsBlocking, IsEncoding, ShutsOut, system_in, task_in};
+ghost use Rattle.wh_find_order.specs.Encodings.{IsBlocking, IsEncoding, IsNext, ShutsOut, system_in, task_in};
 ghost use Rattle.wh_find_order.specs.Trials.{HasFailed, IsLooked};
 
+use crate::chance::Chance;
 use crate::decoding::order_by;
 use crate::encoding::Encoding;
 use crate::node::{Weighing, node_of_order};
@@ -19,6 +20,9 @@ use wh_cert::OrderNode;
 use wh_sat::{Learner, Next, Search};
 use wh_sat_trail::{Clause, Clauses, Formula};
 use wh_types::Or;
+
+// How many clauses join before guesses are made by chance.
+const BY_SOLVER: usize = 2_000;
 
 /// What a guess comes to.
 #[derive(Drop)]
@@ -52,8 +56,7 @@ pub fn search_from<'a>(
     ensures { IfOk result (IsAnswer (system_in encoding.now) (task_in encoding.now).pairs (task_in encoding.now).set budget) }
 {
     let mut learner = learner_for(alloc, encoding, budget)?;
-    let found = search(alloc, encoding, first, &mut learner)?;
-    Ok(found)
+    search(alloc, encoding, first, &mut learner, budget)
 }
 
 // A learner over the bits, without clauses.
@@ -80,15 +83,17 @@ fn search<'a>(
     encoding: &Encoding<'a>,
     first: Vec<bool>,
     learner: &mut Learner,
+    budget: u64,
 ) -> Result<Search<OrderNode>, AllocError>
     requires few { length encoding.now.task.pairs.now ≤ most_pairs }
     requires encoding { IsEncoding encoding.now }
     requires blocking { IsBlocking encoding.now learner.old }
     requires solves { Solves (value_of first.items) (clauses_of learner.old) }
     requires room { 0 < learner.old.left }
-    ensures { IfOk result (IsAnswer (system_in encoding.now) (task_in encoding.now).pairs (task_in encoding.now).set
-        (length (clauses_of learner.old) + learner.old.left)) }
+    requires budget { length (clauses_of learner.old) + learner.old.left ≡ budget }
+    ensures { IfOk result (IsAnswer (system_in encoding.now) (task_in encoding.now).pairs (task_in encoding.now).set budget) }
 {
+    let mut chance = Chance::new(alloc);
     let mut values = first;
     'guesses: loop {
         let failing = match look(alloc, encoding, &values)? {
@@ -96,7 +101,7 @@ fn search<'a>(
             Looked::Failing(failing) => failing,
         };
         block(alloc, encoding, &values, learner, failing)?;
-        match learner.next()? {
+        match next_guess(encoding, &mut chance, learner, &values, failing, budget)? {
             Next::Model(next) => values = next,
             Next::Exhausted => return Ok(Search::Nothing),
             Next::Spent => {
@@ -105,6 +110,30 @@ fn search<'a>(
             }
         }
     }
+}
+
+// The next guess: by chance, where many clauses have joined, or else what the solver comes to.
+fn next_guess<'a>(
+    encoding: &Encoding<'a>,
+    chance: &mut Chance,
+    learner: &mut Learner,
+    last: &[bool],
+    failing: Failing,
+    budget: u64,
+) -> Result<Next, AllocError>
+    requires sound { Sound learner.old }
+    requires budget { length (clauses_of learner.old) + learner.old.left ≡ budget }
+    ensures sound { OnOk result (Sound learner.new) }
+    ensures extends { OnOk result (Extends learner.old learner.new) }
+    ensures next { IfOk result (IsNext learner.new) }
+{
+    let clauses = learner.formula().clauses.as_slice();
+    if clauses.len() >= BY_SOLVER && (clauses.len() as u64) < budget {
+        if let Some(next) = chance.change(encoding, clauses, last, failing)? {
+            return Ok(Next::Model(next));
+        }
+    }
+    learner.next()
 }
 
 // The node of the order that the bits write, or a condition that fails.

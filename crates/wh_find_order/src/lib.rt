@@ -3,6 +3,7 @@
 #![tactic(auto)]
 
 mod blocking;
+mod chance;
 mod decoding;
 mod encoding;
 mod filters;
