@@ -98,6 +98,7 @@ fn unmet(alloc: Global, count: usize) -> Result<Vec<Outcome>, AllocError> {
         outcomes.push(Outcome {
             wanting: 1,
             strict: false,
+            work: 0,
         })?;
     }
     Ok(outcomes)

@@ -101,6 +101,7 @@ impl State {
             None => Outcome {
                 wanting: 0,
                 strict: false,
+                work: 0,
             },
         }
     }
@@ -296,9 +297,9 @@ impl State {
         })
     }
 
-    /// One look more is done.
-    pub fn spend(&mut self) {
-        self.left = self.left.saturating_sub(1);
+    /// So many looks are done, or what counts as many.
+    pub fn spend(&mut self, looks: u64) {
+        self.left = self.left.saturating_sub(looks);
     }
 }
 
