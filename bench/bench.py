@@ -166,6 +166,24 @@ def long_blocks(numbers):
     return system, "\n".join(lines + ["alone", "alone", "end"]) + "\n"
 
 
+def nested_blocks(pairs):
+    """Pairs of one head that clash at their last leaf, taken apart one at a time: each two are asked about once."""
+
+    def call(leaf):
+        term = leaf
+        for _ in range(35):
+            term = f"t a ({term})"
+        return f"f ({term})"
+
+    lines = ["sort o;"] + [f"fun {name} : o;" for name in "abcd"] + ["fun t : o -> o -> o;", "fun f : o -> o;"]
+    lines += [f"rule {{}} {call('b')} => t ({call('c')}) ({call('d')});"] * (pairs // 2)
+    nodes = ["YES 1", "ranks 0", f"pairs {pairs}"]
+    for first in range(pairs - 1):
+        rest = " ".join(str(pair) for pair in range(first + 1, pairs))
+        nodes += ["blocks 2", f"block {first}", f"block {rest}", "alone"]
+    return "\n".join(lines) + "\n", "\n".join(nodes + ["alone", "end"]) + "\n"
+
+
 def wide_leaf(steps):
     """A loop at the last leaf of a balanced tree of size 16,381."""
     system = "sort o;\nfun a : o;\nfun b : o;\nfun d : o -> o -> o;\nrule {} a => b;\nrule {} b => a;\n"
@@ -411,6 +429,8 @@ def main():
         cases.append(("check drop list", f"{numbers} numbers", long_drop, numbers))
     for numbers in (500000, 1000000, 2000000):
         cases.append(("check blocks", f"{numbers} numbers", long_blocks, numbers))
+    for pairs in (424, 850, 1700):
+        cases.append(("check nested", f"{pairs} pairs", nested_blocks, pairs))
     for count in (15000, 30000, 60000):
         cases.append(("poly factors", f"{count} factors", many_factors, count))
     for count in (15000, 30000, 60000):

@@ -11,9 +11,6 @@ use std::alloc::{AllocError, Global};
 use wh_guesses::{Guess, Outcome, change_at, outcome_of};
 use wh_reduction::Task;
 
-/// So many monomials of sides that are evaluated count as a look more.
-const MONOMIALS: u64 = 16;
-
 /// What came of a change that was tried.
 #[derive(Clone, Copy)]
 enum Trial {
@@ -261,7 +258,7 @@ fn renew_all<'a>(
 }
 
 // What the condition is under the coefficients. It is evaluated only where no earlier look was under the same ones. Each look counts,
-// so that a climb ends also where it sees nothing new, and one at large sides counts as more.
+// so that a climb ends also where it sees nothing new, and one that has to evaluate many abstractions counts as more.
 fn look<'a>(
     alloc: Global,
     task: &Task<'a>,
@@ -273,14 +270,14 @@ fn look<'a>(
     requires guess { IsGuessOf task.now guess.old }
     ensures { IsGuessOf task.now guess.new }
 {
-    state.spend(1);
+    state.spend();
     let case = state.case_of(alloc, condition)?;
     if let Some(outcome) = state.known.get(&case) {
         return Ok(outcome);
     }
     read_sides(alloc, task, guess, state, condition)?;
     let outcome = outcome_of(alloc, task, guess, condition)?;
-    state.spend(outcome.work / MONOMIALS);
+    state.spend_more(condition);
     state.known.learn(case, outcome)?;
     Ok(outcome)
 }

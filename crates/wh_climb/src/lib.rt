@@ -1,6 +1,7 @@
 //! The search for interpretations by climbing from a first guess.
 #![tactic(auto)]
 
+mod burdens;
 mod climbing;
 mod holders;
 mod known;

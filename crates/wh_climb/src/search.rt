@@ -7,6 +7,7 @@ ghost use Rattle.wh_reduction.specs.TaskView.{task_data};
 ghost use Rattle.wh_guesses.specs.Tasks.{IsTaskOf};
 ghost use Rattle.wh_climb.specs.Climbs.{IsClimb};
 
+use crate::burdens::burdens_of;
 use crate::climbing::climb_from;
 use crate::holders::holders_of;
 use crate::known::Known;
@@ -85,6 +86,7 @@ fn first_state<'a>(
         known: Known::new(alloc),
         waiting: VecDeque::new(alloc),
         random: Random::new(),
+        burdens: burdens_of(alloc, task)?,
         left: limit,
         best,
         least: u64::MAX,
@@ -98,7 +100,6 @@ fn unmet(alloc: Global, count: usize) -> Result<Vec<Outcome>, AllocError> {
         outcomes.push(Outcome {
             wanting: 1,
             strict: false,
-            work: 0,
         })?;
     }
     Ok(outcomes)

@@ -59,6 +59,8 @@ pub struct State {
     pub waiting: VecDeque<Waiting>,
     /// What chooses.
     pub random: Random,
+    /// As how many looks more it counts to evaluate each condition.
+    pub burdens: Vec<u64>,
     /// How many looks at a condition are left.
     pub left: u64,
     /// The coefficients of the best guess so far.
@@ -101,7 +103,6 @@ impl State {
             None => Outcome {
                 wanting: 0,
                 strict: false,
-                work: 0,
             },
         }
     }
@@ -297,9 +298,15 @@ impl State {
         })
     }
 
-    /// So many looks are done, or what counts as many.
-    pub fn spend(&mut self, looks: u64) {
-        self.left = self.left.saturating_sub(looks);
+    /// One look more is done.
+    pub fn spend(&mut self) {
+        self.left = self.left.saturating_sub(1);
+    }
+
+    /// The condition was evaluated: where that takes long, it counts as more looks.
+    pub fn spend_more(&mut self, condition: usize) {
+        let more = self.burdens.get(condition).copied().unwrap_or(0);
+        self.left = self.left.saturating_sub(more);
     }
 }
 

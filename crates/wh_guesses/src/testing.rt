@@ -35,11 +35,9 @@ pub struct Outcome {
     pub wanting: u64,
     /// Whether it is a pair that is covered strictly.
     pub strict: bool,
-    /// How much work it was to look at it: the number of monomials of its two sides; only a guide.
-    pub work: u64,
 }
 
-/// How much is wanting where a value exceeds a limit, and how much work that was.
+/// How much is wanting where a value exceeds a limit.
 const EXCEEDING: u64 = 1000;
 
 /// What the condition with the number is under the guess: that of a rule that is to be covered, or behind these that of a pair of the
@@ -66,7 +64,6 @@ pub fn outcome_of<'a>(
     Ok(Outcome {
         wanting: 0,
         strict: false,
-        work: 0,
     })
 }
 
@@ -89,7 +86,6 @@ fn rule_outcome<'a>(
     Ok(Outcome {
         wanting: wanting(alloc, &left, &right)?,
         strict: false,
-        work: monomials(&left, &right),
     })
 }
 
@@ -112,17 +108,7 @@ fn pair_outcome<'a>(
     };
     let wanting = wanting(alloc, &left, &right)?;
     let strict = wanting == 0 && is_greater(alloc, &left, &right)?;
-    Ok(Outcome {
-        wanting,
-        strict,
-        work: monomials(&left, &right),
-    })
-}
-
-// How many monomials the two have.
-fn monomials(left: &Poly, right: &Poly) -> u64 {
-    let count = left.as_slice().len() as u64;
-    count.saturating_add(right.as_slice().len() as u64)
+    Ok(Outcome { wanting, strict })
 }
 
 // What is told where a value exceeds a limit.
@@ -130,7 +116,6 @@ fn exceeding() -> Outcome {
     Outcome {
         wanting: EXCEEDING,
         strict: false,
-        work: EXCEEDING,
     }
 }
 
