@@ -13,7 +13,7 @@ ghost use Rattle.wh_find_order.specs.Trials.{HasFailed, IsLooked};
 use crate::chance::Chance;
 use crate::decoding::order_by;
 use crate::encoding::Encoding;
-use crate::node::{Weighing, fails_at, node_of_order};
+use crate::node::{Weighing, node_of_order};
 use std::alloc::{AllocError, Global};
 use wh_blocking::{clause_of, copy_clauses};
 use wh_cert::OrderNode;
@@ -95,14 +95,12 @@ fn search<'a>(
 {
     let mut chance = Chance::new(alloc);
     let mut values = first;
-    let mut doubt = None;
     'guesses: loop {
-        let failing = match look(alloc, encoding, &values, doubt)? {
+        let failing = match look(alloc, encoding, &values)? {
             Looked::Found(node) => return Ok(Search::Found(node)),
             Looked::Failing(failing) => failing,
         };
         block(alloc, encoding, &values, learner, failing)?;
-        doubt = line_of(failing);
         match next_guess(encoding, &mut chance, learner, &values, failing, budget)? {
             Next::Model(next) => values = next,
             Next::Exhausted => return Ok(Search::Nothing),
@@ -138,21 +136,8 @@ fn next_guess<'a>(
     learner.next()
 }
 
-// The number of the condition, if it is one on lines.
-fn line_of(failing: Failing) -> Option<usize> {
-    match failing {
-        Failing::Line(number) => Some(number),
-        Failing::Symbol(_) => None,
-    }
-}
-
-// The node of the order that the bits write, or a condition that fails. One that is in doubt, since it failed last, comes first.
-fn look<'a>(
-    alloc: Global,
-    encoding: &Encoding<'a>,
-    values: &[bool],
-    doubt: Option<usize>,
-) -> Result<Looked, AllocError>
+// The node of the order that the bits write, or a condition that fails.
+fn look<'a>(alloc: Global, encoding: &Encoding<'a>, values: &[bool]) -> Result<Looked, AllocError>
     requires few { length encoding.now.task.pairs.now ≤ most_pairs }
     requires encoding { IsEncoding encoding.now }
     ensures { IfOk result (IsLooked encoding.now (value_of values.now)) }
@@ -162,11 +147,6 @@ fn look<'a>(
         Err(Or::Because(number)) => return Ok(Looked::Failing(Failing::Symbol(number))),
         Err(Or::NoMemory) => return Err(AllocError),
     };
-    if let Some(number) = doubt {
-        if fails_at(alloc, &encoding.task, &filters, number)? {
-            return Ok(Looked::Failing(Failing::Line(number)));
-        }
-    }
     match node_of_order(alloc, &encoding.task, &filters)? {
         Weighing::Found(node) => Ok(Looked::Found(node)),
         Weighing::Failing(number) => Ok(Looked::Failing(Failing::Line(number))),

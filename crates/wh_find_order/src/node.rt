@@ -1,6 +1,5 @@
 //! The node of an order under which all conditions hold, or a condition that fails.
 
-ghost use Rattle.std.specs.Bool.{OnTrue};
 ghost use Rattle.std.specs.Prelude.{ℕ, ◌+◌, ◌≡◌, ◌≢◌, ◌<◌, ◌≤◌, [], Contains, IfOk, Some, length, map, slice_get};
 ghost use Rattle.wh_types.specs.Limits.{most_pairs};
 ghost use Rattle.wh_reduction.specs.TaskView.{task_data};
@@ -8,14 +7,12 @@ ghost use Rattle.wh_inference.specs.Said.{inference, written_filter};
 ghost use Rattle.wh_ordering.specs.FilteringView.{filtering_data};
 ghost use Rattle.wh_guesses.specs.Tasks.{IsTaskOf};
 ghost use Rattle.wh_order_lines.specs.OrderWalks.{AreLinesOfPairs, AreRuleLines};
-ghost use Rattle.wh_find_order.specs.Trials.{Fails, IsTried, Weighs};
+ghost use Rattle.wh_find_order.specs.Trials.{IsTried, Weighs};
 
 use std::alloc::{AllocError, Global};
 use wh_cert::{NamedFilter, NamedFilters, OrderNode};
 use wh_inference::{Filter, Inferences};
-use wh_order_lines::{
-    PairLines, pair_line, pair_line_fits, pair_lines, rule_line, rule_line_fits, rule_lines,
-};
+use wh_order_lines::{PairLines, pair_line_fits, pair_lines, rule_line_fits, rule_lines};
 use wh_ordering::{Filters, MarkFilter};
 use wh_reduction::Task;
 use wh_text::Name;
@@ -56,68 +53,6 @@ pub fn node_of_order<'a>(
         return Ok(Weighing::Failing(number_of_pair(task, task.set.len())));
     }
     node_with(alloc, task, filters, rules, found)
-}
-
-/// Says `true` only where the condition on lines with this number fails under the order: that of a rule, or behind these that of a pair
-/// of the set. Of any other number nothing is said.
-pub fn fails_at<'a>(
-    alloc: Global,
-    task: &Task<'a>,
-    filters: &Filters,
-    number: usize,
-) -> Result<bool, AllocError>
-    requires task { IsTaskOf task.now }
-    requires filters { IsTried (task_data task.now) (filtering_data filters.now) }
-    ensures { IfOk result (λ told. OnTrue told (Fails (task_data task.now) (filtering_data filters.now) number)) }
-{
-    let rules = task.covered.len();
-    if number < rules {
-        return fails_at_rule(alloc, task, filters, number);
-    }
-    let place = number - rules;
-    if place < task.set.len() {
-        return fails_at_pair(alloc, task, filters, number, place);
-    }
-    Ok(false)
-}
-
-// Whether there is no line for the rule with this place among those that are to be covered.
-fn fails_at_rule<'a>(
-    alloc: Global,
-    task: &Task<'a>,
-    filters: &Filters,
-    place: usize,
-) -> Result<bool, AllocError>
-    requires task { IsTaskOf task.now }
-    requires filters { IsTried (task_data task.now) (filtering_data filters.now) }
-    requires place { place < length task.now.covered.now }
-    ensures { IfOk result (λ told. OnTrue told (Fails (task_data task.now) (filtering_data filters.now) place)) }
-{
-    match rule_line(alloc, task.system, filters, task.covered[place])? {
-        Some(_) => Ok(false),
-        None => Ok(true),
-    }
-}
-
-// Whether there is none for the pair with this place in the set, whose condition has the number.
-fn fails_at_pair<'a>(
-    alloc: Global,
-    task: &Task<'a>,
-    filters: &Filters,
-    number: usize,
-    place: usize,
-) -> Result<bool, AllocError>
-    requires task { IsTaskOf task.now }
-    requires filters { IsTried (task_data task.now) (filtering_data filters.now) }
-    requires place { place < length task.now.set.now }
-    requires number { number ≡ length (task_data task.now).covered + place }
-    ensures { IfOk result (λ told. OnTrue told (Fails (task_data task.now) (filtering_data filters.now) number)) }
-{
-    let pair = &task.pairs[task.set[place] as usize];
-    match pair_line(alloc, task.system, filters, pair)? {
-        Some(_) => Ok(false),
-        None => Ok(true),
-    }
 }
 
 // The number of the condition of the pair with this place in the set, and behind these of the last condition.
