@@ -5,10 +5,10 @@
 ghost use Rattle.std.specs.Prelude.{◌<◌};
 
 use crate::known::{Case, Known};
-use wh_random::Random;
 use std::alloc::{AllocError, Global};
 use std::collections::VecDeque;
 use wh_guesses::{Outcome, Uses};
+use wh_random::Random;
 use wh_space::MAX_COEFFICIENT;
 
 /// A coefficient, told by the number of what is used and by its place, and a value for it.

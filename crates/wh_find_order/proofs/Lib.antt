@@ -1,4 +1,5 @@
 pub mod BitLemmas
+pub mod ChanceLemmas
 pub mod SortLemmas
 pub mod WrittenOrders
 pub mod SpaceLemmas
