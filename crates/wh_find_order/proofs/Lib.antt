@@ -1,5 +1,4 @@
 pub mod BitLemmas
-pub mod ChanceLemmas
 pub mod SortLemmas
 pub mod WrittenOrders
 pub mod SpaceLemmas

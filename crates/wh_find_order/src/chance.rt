@@ -174,10 +174,12 @@ impl Chance {
     fn was_true(&self, number: usize, clause: &[Literal], values: &[bool]) -> bool
         ensures { OnTrue result (clause_true (value_of values.now) clause.now ≡ true) }
     {
-        match self.places.get(number) {
-            Some(place) => *place < clause.len() && holds(values, clause[*place]),
-            None => false,
+        if let Some(place) = self.places.get(number) {
+            if *place < clause.len() {
+                return holds(values, clause[*place]);
+            }
         }
+        false
     }
 
     // Whether some literal of the clause with this number is true under the values; its place is kept.

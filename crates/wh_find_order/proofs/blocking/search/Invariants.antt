@@ -10,7 +10,7 @@ invariant-guesses l = record {
   blocking : IsBlocking l.encoding l.learner;
   solves : Solves (value_of l.values.items) (clauses_of l.learner);
   room : 0 < l.learner.left;
-  count : length (clauses_of l.learner) + l.learner.left ≡ length (clauses_of l.initial.learner) + l.initial.learner.left;
+  count : length (clauses_of l.learner) + l.learner.left ≡ l.fn.budget;
 }
 
 abbrev pub decreases-guesses : goal.decreases-guesses

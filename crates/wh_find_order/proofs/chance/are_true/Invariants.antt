@@ -1,7 +1,0 @@
-use Rattle.std.proofs.Common.{◌≡◌, ℕ, ◌<◌, ◌≤◌, [], get_or, length, true}
-use Rattle.wh_sat.specs.Solving.{clause_true}
-use Rattle.wh_blocking.specs.Sizes.{value_of}
-use Rattle.wh_find_order.proofs.chance.are_true.Given as goal
-
-abbrev pub invariant-loop-left : goal.invariant-loop-left
-invariant-loop-left l = (k : ℕ) → l.left ≤ k → k < length l.clauses → clause_true (value_of l.values) (get_or l.clauses k []) ≡ true
