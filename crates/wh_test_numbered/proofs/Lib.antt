@@ -1,1 +1,2 @@
 pub mod ReadAndTyped
+pub mod ReadKinds

@@ -6,6 +6,10 @@
 #[cfg(test)]
 mod polynomial_rows;
 #[cfg(test)]
+mod polynomials;
+#[cfg(test)]
 mod problem;
 #[cfg(test)]
 mod projection_rows;
+#[cfg(test)]
+mod readings;

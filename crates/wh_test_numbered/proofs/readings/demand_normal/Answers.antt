@@ -5,7 +5,7 @@ use Rattle.wh_types.specs.Ty.{arguments}
 use Rattle.wh_pairs.proofs.ByPlace.{read_map, before_more, map_length}
 use Rattle.wh_hopoly.specs.Polynomials.{Normal}
 use Rattle.wh_hopoly.specs.Erase.{interpretation, interpretations, poly}
-use Rattle.wh_test_numbered.proofs.polynomial_rows.demand_normal.Goals as goal
+use Rattle.wh_test_numbered.proofs.readings.demand_normal.Goals as goal
 
 pub loop-symbol-preserved : goal.loop-symbol-preserved
 loop-symbol-preserved c =
