@@ -1,5 +1,5 @@
 -- What is known of readings and of rules where sides are evaluated.
-use Rattle.std.proofs.Common.{ℕ, ◌≡◌, ◌<◌, List, [], map, Some, slice_get, option_map, ap, sym, ◌∙◌, subst, arith}
+use Rattle.std.proofs.Common.{ℕ, ◌≡◌, List, [], map, Some, slice_get, option_map, ap, sym, ◌∙◌, subst, arith}
 use Rattle.std.proofs.lemmas.Option.{get_or_from_slice_get, slice_get-map}
 use Rattle.wh_types.specs.Ty.{Ty}
 use Rattle.wh_terms.specs.Tree.{Tm, bound}

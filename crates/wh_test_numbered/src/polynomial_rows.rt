@@ -10,12 +10,13 @@ use crate::readings::{demand_normal, symbols_of};
 use std::alloc::{AllocError, Global};
 use std::cmp::Ordering;
 use std::test::Fail;
-use wh_hopoly::{Poly, order};
+use wh_hopoly::{Poly, PolyFault, order};
 use wh_intern::Table;
 use wh_numbered::{scope_of, side_by_number};
 use wh_polycheck::{Readings, interpretations_in_order_interpret};
 use wh_system::System;
 use wh_test_samples::MAP;
+use wh_types::Or;
 
 /// What `MAP_VALUES_CERTIFICATE` reads the symbols of `MAP` as, in the order of the symbols.
 const READ: &[&[Product]] = &[
@@ -45,6 +46,14 @@ const WORTH: &[Product] = &[
     (None, &[2]),
 ];
 
+// Whether the value is that polynomial. Want of memory stands for a fault.
+fn is_that(value: Result<Poly, Or<PolyFault>>, expected: &Poly) -> Result<bool, AllocError> {
+    match value {
+        Ok(value) => Ok(order(&value, expected) == Ordering::Equal),
+        Err(_) => Err(AllocError),
+    }
+}
+
 // Whether the left side of the rule, numbered, is worth that polynomial. Want of memory stands for a rule that there is
 // not, and for a side without a value.
 fn is_worth<'a>(
@@ -63,10 +72,8 @@ fn is_worth<'a>(
     let mut table = Table::new(alloc)?;
     let number = table.add(&item.left)?;
     let scope = scope_of(alloc, &item.metas)?;
-    match side_by_number(alloc, system, readings, &table, number, scope.as_slice()) {
-        Ok(value) => Ok(order(&value, expected) == Ordering::Equal),
-        Err(_) => Err(AllocError),
-    }
+    let worth = side_by_number(alloc, system, readings, &table, number, scope.as_slice());
+    is_that(worth, expected)
 }
 
 // The same where the symbols are read as the table says.

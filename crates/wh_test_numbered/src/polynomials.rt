@@ -37,14 +37,20 @@ fn plain_sum(alloc: Global, products: &[Plain]) -> Result<Poly, AllocError> {
     Ok(sum)
 }
 
+// Variable 0 applied to the sum of the plain products joins the factors.
+fn add_applied(alloc: Global, atoms: &mut Atoms, products: &[Plain]) -> Result<(), AllocError> {
+    let argument = plain_sum(alloc, products)?;
+    let mut args = Polys::new(alloc)?;
+    args.push(argument)?;
+    atoms.push(Atom { head: 0, args })
+}
+
 // The factors of a product.
 fn factors_of(alloc: Global, product: Product) -> Result<Atoms, AllocError> {
     let (argument, variables) = product;
     let mut atoms = Atoms::new(alloc)?;
     if let Some(products) = argument {
-        let mut args = Polys::new(alloc)?;
-        args.push(plain_sum(alloc, products)?)?;
-        atoms.push(Atom { head: 0, args })?;
+        add_applied(alloc, &mut atoms, products)?;
     }
     add_variables(alloc, &mut atoms, variables)?;
     Ok(atoms)

@@ -7,15 +7,15 @@ use Rattle.wh_intern.specs.TableTrees.{trees}
 use Rattle.wh_test_numbered.proofs.ReadAndTyped.{left_typed}
 use Rattle.wh_test_numbered.proofs.polynomial_rows.is_worth.Goals as goal
 
-pub side_by_number-requires-clause-proper : goal.side_by_number-requires-clause-proper
-side_by_number-requires-clause-proper c = c.requires
+pub side_by_number-worth-requires-clause-proper : goal.side_by_number-worth-requires-clause-proper
+side_by_number-worth-requires-clause-proper c = c.requires
 
-pub side_by_number-requires-clause-number : goal.side_by_number-requires-clause-number
-side_by_number-requires-clause-number c =
+pub side_by_number-worth-requires-clause-number : goal.side_by_number-worth-requires-clause-number
+side_by_number-worth-requires-clause-number c =
     slice_get_within (trees c.add.new.self) c.in_ok-number.number (tm c.in-Some.item.now.left) c.in_ok-number.ensures.number
 
-pub side_by_number-requires-clause-typed : goal.side_by_number-requires-clause-typed
-side_by_number-requires-clause-typed c =
+pub side_by_number-worth-requires-clause-typed : goal.side_by_number-worth-requires-clause-typed
+side_by_number-worth-requires-clause-typed c =
     let rules = c.rules.result.now in
     let rule = c.in-Some.item.now in
     left_typed (system_data c.args.system.now) c.is_well_made.ensures rules c.args.rule rule c.rules.ensures
