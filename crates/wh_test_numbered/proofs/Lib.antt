@@ -1,0 +1,2 @@
+pub mod ReadAndTyped
+pub mod ReadKinds
