@@ -5,18 +5,20 @@
     bench/random_systems.py --show SEED
 
 A system is made of its seed alone, so a slow one can be looked at again. Prints how often each answer came, the median, the
-99th of 100 and the sum of the seconds, and the slowest three by their seeds. A run that takes longer than the bound (60 seconds)
-is ended and counted as such.
+99th of 100 and the sum of the seconds of a processor, and the slowest three by their seeds. A run that takes longer than
+the bound (60 seconds by the clock) is ended and counted as such.
 """
 import argparse
 import collections
 import concurrent.futures
+import os
 import pathlib
 import random
+import signal
 import statistics
 import subprocess
 import tempfile
-import time
+import threading
 
 PROGRAM = pathlib.Path(__file__).resolve().parent.parent / "crates" / "wanda" / "out" / "wanda"
 SORT = "o"
@@ -147,18 +149,25 @@ def strip(text):
 
 
 def prove(program, seed, bound):
-    """The first word or words of the answer for that seed's system, and the seconds."""
-    with tempfile.NamedTemporaryFile("w", suffix=".afs") as file:
+    """The first word or words of the answer for that seed's system, and the seconds of a processor that it took."""
+    with tempfile.NamedTemporaryFile("w", suffix=".afs") as file, tempfile.TemporaryFile("w+") as output:
         file.write(Maker(seed).system())
         file.flush()
-        begun = time.monotonic()
-        try:
-            done = subprocess.run([program, "prove", file.name], capture_output=True, text=True, timeout=bound)
-            words = done.stdout.split()
-            answer = " ".join(words[:2]) if words[:1] == ["MAYBE"] else words[0] if words else f"status {done.returncode}"
-        except subprocess.TimeoutExpired:
-            answer = f"over {bound} s"
-        return seed, answer, time.monotonic() - begun
+        process = subprocess.Popen([program, "prove", file.name], stdout=output)
+        ending = threading.Timer(bound, process.kill)
+        ending.start()
+        _, status, used = os.wait4(process.pid, 0)
+        ending.cancel()
+        process.returncode = os.waitstatus_to_exitcode(status)
+        output.seek(0)
+        words = output.read().split()
+    if process.returncode == -signal.SIGKILL:
+        answer = "too long"
+    elif words:
+        answer = " ".join(words[:2]) if words[0] == "MAYBE" else words[0]
+    else:
+        answer = f"status {process.returncode}"
+    return seed, answer, used.ru_utime + used.ru_stime
 
 
 def main():

@@ -1,10 +1,9 @@
-//! The worked rows of the program, run over files and a sink in memory: of words, files and limits, of system texts, of certificates, of
-//! the search for a proof or a loop, of terms that are reduced and of refutations; and the table of hostile inputs: files and an output that fail at each
-//! call in turn, certificates that are cut or changed at each byte, and texts that pass a limit or miss a rule by little. What is expected
-//! was worked out by hand.
+//! The worked rows of the program, run over files and a sink in memory: of words, files and limits, of system texts, of the search for a
+//! proof or a loop, of certificates in pieces and upgraded, of terms that are reduced and of refutations; and the table of hostile inputs:
+//! files and an output that fail at each call in turn, certificates that are cut or changed at each byte, and texts that pass a limit or
+//! miss a rule by little. What is expected was worked out by hand. The rows of nodes stand in wh_test_certificates.
 //!
-//! This crate has tests alone: a library with tests of its own would be proved a second time with them. It is one crate, since a crate of
-//! tests over the program reads all that the program stands on before its first test.
+//! This crate has tests alone: a library with tests of its own would be proved a second time with them.
 #![tactic(auto)]
 
 #[cfg(test)]
@@ -12,11 +11,7 @@ mod fault_rows;
 #[cfg(test)]
 mod input_rows;
 #[cfg(test)]
-mod order_rows;
-#[cfg(test)]
 mod piece_rows;
-#[cfg(test)]
-mod poly_rows;
 #[cfg(test)]
 mod prove_rows;
 #[cfg(test)]
@@ -29,7 +24,3 @@ mod run_rows;
 mod system_rows;
 #[cfg(test)]
 mod upgrade_rows;
-#[cfg(test)]
-mod usable_rows;
-#[cfg(test)]
-mod yes_rows;
