@@ -134,7 +134,7 @@ accessible_from rank (a ⇒ b) t h = ranks_below_from rank (rank t) (a ⇒ b) (�
 
 -- the sorts of a demand are there
 
-sort_below : (n s : ℕ) (a : Ty) → HasSort s a → SortsBelow n a → s < n
+pub sort_below : (n s : ℕ) (a : Ty) → HasSort s a → SortsBelow n a → s < n
 sort_below n s (sort r) here below = subst (λ s. s < n) here below
 sort_below n s (a ⇒ b) (inl here) below = sort_below n s a here below.0
 sort_below n s (a ⇒ b) (inr here) below = sort_below n s b here below.1

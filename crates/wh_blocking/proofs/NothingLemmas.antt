@@ -57,13 +57,13 @@ lists_alike v g (Γ ∷ scopes) (suc n) x alike = lists_alike v g scopes n (bits
 
 -- a literal that is false tells the value of its variable
 
-told : (p a b : Bool) → cond p a (not a) ≡ false → cond p b (not b) ≡ false → a ≡ b
+pub told : (p a b : Bool) → cond p a (not a) ≡ false → cond p b (not b) ≡ false → a ≡ b
 told true a b e f = e ∙ sym f
 told false true true e f = refl
 told false false b e f = absurd (grind (arith, e))
 told false true false e f = absurd (grind (arith, f))
 
-opposed : (b : Bool) → cond (not b) b (not b) ≡ false
+pub opposed : (b : Bool) → cond (not b) b (not b) ≡ false
 opposed true = refl
 opposed false = refl
 

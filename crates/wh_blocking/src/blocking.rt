@@ -13,6 +13,7 @@ ghost use Rattle.wh_sat.specs.State.{clauses_of};
 use crate::clauses::{clause_of, copy_clauses};
 use crate::encoding::Encoding;
 use crate::guessing::{WrittenGuess, rewrite, write};
+use crate::held::Bits;
 use crate::hints::Hints;
 use std::alloc::{AllocError, Global};
 use wh_cert::Node;
@@ -74,13 +75,18 @@ fn search<'a>(
         (length (clauses_of learner.old) + learner.old.left)) }
 {
     'guesses: loop {
-        let number = match hints.weigh(alloc, &encoding.task, &written.guess)? {
+        let bits = Bits {
+            values: &written.values,
+            first_bits: &encoding.first_bits,
+            numbers: &encoding.numbers,
+        };
+        let number = match hints.weigh(alloc, &encoding.task, &written.guess, bits)? {
             Weighing::Found(node) => return Ok(Search::Found(node)),
             Weighing::Failing(number) => number,
         };
         block(alloc, encoding, written, learner, number)?;
         match learner.next()? {
-            Next::Model(values) => rewrite(alloc, encoding, written, hints, values)?,
+            Next::Model(values) => rewrite(alloc, encoding, written, values)?,
             Next::Exhausted => return Ok(Search::Nothing),
             Next::Spent => {
                 let clauses = copy_clauses(alloc, &learner.formula().clauses)?;

@@ -5,7 +5,6 @@ ghost use Rattle.wh_blocking.specs.Encodings.{IsEncoding, IsWritten};
 
 use crate::bits::lists_by;
 use crate::encoding::Encoding;
-use crate::hints::Hints;
 use std::alloc::{AllocError, Global};
 use wh_guesses::{Guess, change_guess, guess_by};
 
@@ -35,12 +34,11 @@ pub fn write<'a>(
     })
 }
 
-/// Goes on to the guess that bits with these values write: only what changes is read anew, and looked at again.
+/// Goes on to the guess that bits with these values write: only what changes is read anew.
 pub fn rewrite<'a>(
     alloc: Global,
     encoding: &Encoding<'a>,
     written: &mut WrittenGuess,
-    hints: &mut Hints,
     values: Vec<bool>,
 ) -> Result<(), AllocError>
     requires encoding { IsEncoding encoding.now }
@@ -49,7 +47,6 @@ pub fn rewrite<'a>(
     ensures values { OnOk result (written.new.values.items ≡ values.items) }
 {
     let lists = lists_by(alloc, &values, &encoding.sizes)?;
-    hints.forget(&written.lists, &lists);
     change_guess(
         alloc,
         &encoding.task,

@@ -33,8 +33,9 @@ use Rattle.wh_pairs.specs.Candidates.{candidates, missing_types}
 use Rattle.wh_pairs.specs.Subsumption.{ArePairs}
 use Rattle.wh_pairs.proofs.KnownLemmas.{takes_arguments, defined_call}
 use Rattle.wh_calls.specs.MarkedCalls.{MarkedCall, IsTypedCall, CallStep}
-use Rattle.wh_calls.proofs.Puts.{inst, arrows, IsComputableCall}
-use Rattle.wh_calls.proofs.TypeLists.{arrows-arguments, arguments-arrows, result-arrows, arrows-append, after_arguments, known_after, typed_spine, computable-spine, spine-computable, list-append, list-length, list-typed}
+use Rattle.wh_calls.proofs.Puts.{inst, IsComputableCall}
+use Rattle.wh_extended.specs.Kinds.{arrows}
+use Rattle.wh_extended.proofs.TypeLists.{arrows-arguments, arguments-arrows, result-arrows, arrows-append, after_arguments, known_after, typed_spine, computable-spine, spine-computable, list-append, list-length, list-typed}
 use Rattle.wh_calls.proofs.Served.{call_served}
 
 -- computable terms of a system

@@ -25,7 +25,8 @@ use Rattle.wh_pairs.specs.Calls.{Call, calls, calls_within, call_where_defined, 
 use Rattle.wh_pairs.specs.Candidates.{nullary, freed, numbered_from}
 use Rattle.wh_pairs.proofs.MemberLemmas.{none_there, head_or_behind}
 use Rattle.wh_pairs.proofs.FreedLemmas.{freed-near, freed-far}
-use Rattle.wh_calls.proofs.Puts.{inst, arrows}
+use Rattle.wh_calls.proofs.Puts.{inst}
+use Rattle.wh_extended.specs.Kinds.{arrows}
 use Rattle.wh_calls.proofs.WholeBodies.{IsShut, ShutBodies, declared_anywhere, typed_fits, typed_shut, occurs_known}
 use Rattle.wh_calls.proofs.MetaSubstitution.{OnPut, fits-put, value-act}
 

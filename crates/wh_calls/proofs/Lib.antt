@@ -1,6 +1,5 @@
 pub mod Puts
 pub mod SpineLaws
-pub mod TypeLists
 pub mod NeedLaws
 pub mod WholeBodies
 pub mod MetaSubstitution

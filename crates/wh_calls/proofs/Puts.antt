@@ -1,6 +1,6 @@
 -- Meta-terms in which bodies are put for meta-variables and terms for loose variables, and the calls that are computable then.
-use Rattle.std.proofs.Common.{◌≡◌, ℕ, List, [], ◌∷◌, Some, slice_get, map}
-use Rattle.wh_types.specs.Ty.{Ty, ◌⇒◌}
+use Rattle.std.proofs.Common.{◌≡◌, ℕ, List, Some, slice_get, map}
+use Rattle.wh_types.specs.Ty.{Ty}
 use Rattle.wh_terms.specs.Tree.{Tm, free, fun, spine}
 use Rattle.wh_terms.specs.Substitution.{act}
 use Rattle.wh_terms.specs.Typing.{Symbols}
@@ -8,16 +8,12 @@ use Rattle.wh_terms.specs.Value.{Body}
 use Rattle.wh_terms.proofs.ValueForm.{value}
 use Rattle.wh_laws.specs.Computable.{Computable, ComputableList}
 use Rattle.wh_laws.proofs.Fundamental.{PutsComputable}
+use Rattle.wh_extended.specs.Kinds.{arrows}
 use Rattle.wh_pairs.specs.Calls.{Call}
 
 -- the value of t under g, with the terms σ for its loose variables
 abbrev pub inst : (ℕ → Body) → (ℕ → Tm) → Tm → Tm
 inst g σ t = act σ free (value g t)
-
--- the type that takes arguments of the types to the last one
-abbrev pub arrows : List Ty → Ty → Ty
-arrows [] b = b
-arrows (c ∷ cs) b = c ⇒ arrows cs b
 
 -- each instance of the call is computable whose arguments are, whatever computable terms stand for the binders around it
 abbrev pub IsComputableCall : Symbols → (ℕ → ℕ) → (Tm → Tm → Type 0) → (ℕ → Body) → Call → Type 0

@@ -36,9 +36,10 @@ use Rattle.wh_access.specs.Passing.{IsPassing}
 use Rattle.wh_access.proofs.FindLemmas.{sorts_known}
 use Rattle.wh_pairs.specs.Spines.{spine_arguments}
 use Rattle.wh_calls.specs.Bodies.{IsComputableBody}
-use Rattle.wh_calls.proofs.Puts.{inst, arrows}
+use Rattle.wh_calls.proofs.Puts.{inst}
+use Rattle.wh_extended.specs.Kinds.{arrows}
 use Rattle.wh_calls.proofs.SpineLaws.{symbol-spine, value-symbol_spine, inst-symbol_spine}
-use Rattle.wh_calls.proofs.TypeLists.{arguments-arrows, known_after, typed_spine-arguments}
+use Rattle.wh_extended.proofs.TypeLists.{arguments-arrows, known_after, typed_spine-arguments}
 use Rattle.wh_calls.proofs.WholeBodies.{ShutBodies, inst-lam, inst-opened, inst-meta, declared_shut, typed_shut}
 use Rattle.wh_calls.proofs.Ways.{slice_get-front, Way, way_here, way_under, way_through, left_way}
 

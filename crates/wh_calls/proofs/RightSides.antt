@@ -33,8 +33,9 @@ use Rattle.wh_pairs.specs.Calls.{Call, calls, calls_within, call_where_defined, 
 use Rattle.wh_pairs.proofs.MemberLemmas.{at_head}
 use Rattle.wh_calls.specs.Bodies.{IsComputableBody}
 use Rattle.wh_calls.specs.Sides.{HasComputableBodies, IsComputableUnder}
-use Rattle.wh_calls.proofs.Puts.{inst, arrows, IsComputableCall}
-use Rattle.wh_calls.proofs.TypeLists.{computable-spine, typed_spine, list-typed}
+use Rattle.wh_calls.proofs.Puts.{inst, IsComputableCall}
+use Rattle.wh_extended.specs.Kinds.{arrows}
+use Rattle.wh_extended.proofs.TypeLists.{computable-spine, typed_spine, list-typed}
 use Rattle.wh_calls.proofs.NeedLaws.{no_need-heads_no_rule}
 use Rattle.wh_calls.proofs.WholeBodies.{declared_anywhere, declared_shut, all_typed_fit, typed_shut, inst-lam, inst-opened, inst-meta}
 use Rattle.wh_calls.proofs.CandidateValues.{IsTypedIn, rule_call}

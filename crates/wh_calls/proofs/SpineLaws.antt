@@ -9,6 +9,7 @@ use Rattle.wh_laws.proofs.Candidates.{head-spine}
 use Rattle.wh_laws.proofs.Spines.{spine-append}
 use Rattle.wh_pairs.specs.Spines.{spine_arguments}
 use Rattle.wh_calls.proofs.Puts.{inst}
+use Rattle.wh_extended.proofs.SiftValues.{value-spine}
 
 -- a tree is its head with its arguments
 pub spine-arguments_head : (t : Tm) → spine (head t) (spine_arguments t) ≡ t
@@ -48,11 +49,6 @@ head-symbol_spine f ts = head-spine (fun f) ts
 -- a tree that is headed by a symbol is the symbol with its arguments
 pub symbol-spine : (f : ℕ) (t : Tm) → head t ≡ fun f → spine (fun f) (spine_arguments t) ≡ t
 symbol-spine f t e = ap (λ h. spine h (spine_arguments t)) (sym e) ∙ spine-arguments_head t
-
-pub value-spine : (g : ℕ → Body) (h : Tm) (ts : List Tm) → value g (spine h ts) ≡ spine (value g h) (map (value g) ts)
-unfolding value
-value-spine g h [] = refl
-value-spine g h (t ∷ ts) = value-spine g (app h t) ts
 
 pub value-symbol_spine : (g : ℕ → Body) (f : ℕ) (ts : List Tm) → value g (spine (fun f) ts) ≡ spine (fun f) (map (value g) ts)
 unfolding value

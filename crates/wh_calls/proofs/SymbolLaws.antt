@@ -31,9 +31,9 @@ use Rattle.wh_pairs.specs.Candidates.{candidates}
 use Rattle.wh_pairs.specs.Subsumption.{ArePairs}
 use Rattle.wh_pairs.proofs.KnownLemmas.{takes_arguments}
 use Rattle.wh_calls.specs.MarkedCalls.{MarkedCall, CallStep, CallsEnd}
-use Rattle.wh_calls.proofs.Puts.{arrows}
+use Rattle.wh_extended.specs.Kinds.{arrows}
 use Rattle.wh_calls.proofs.SpineLaws.{count-spine, head-symbol_spine, symbol-spine, value-symbol_spine}
-use Rattle.wh_calls.proofs.TypeLists.{arrows-arguments, after_arguments, arrows-split, typed_spine, computable-spine, spine-computable, list-append, list-length, list-typed}
+use Rattle.wh_extended.proofs.TypeLists.{arrows-arguments, after_arguments, arrows-split, typed_spine, computable-spine, spine-computable, list-append, list-length, list-typed}
 use Rattle.wh_calls.proofs.NeedLaws.{rule_need, no_need-heads_no_rule}
 use Rattle.wh_calls.proofs.CallLaws.{ComputableIn, ComputableListIn, steps_in-append, fronts_one, IsCallComputable, LeadsToComputable, typed_call, step_leads, right_call}
 use Rattle.wh_calls.proofs.ReadBodies.{bodies_computable}

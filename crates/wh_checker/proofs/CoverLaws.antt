@@ -15,7 +15,7 @@ use Rattle.wh_covering.specs.CoveringFaults.{RunExceeds, IsFirstFaultOfMoves, Is
 use Rattle.wh_polycheck.specs.Small.{Limits, without_limits, with_limits, StaysWithin}
 use Rattle.wh_covering.specs.declared.fault.LineFault.{LineFault}
 use Rattle.wh_covering.specs.declared.fault.LineFault.TheVariants as line
-use Rattle.wh_checker.proofs.RowLaws.{neither_below}
+use Rattle.wh_usable.proofs.Decisions.{neither_below}
 
 -- moves
 

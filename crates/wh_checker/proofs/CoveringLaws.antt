@@ -18,7 +18,7 @@ use Rattle.wh_polycheck.specs.Covering.{rule_run, pair_run, by_moves, IsCovering
 use Rattle.wh_polycheck.specs.Small.{Limits, without_limits, with_limits, StaysWithin, IsSmall}
 use Rattle.wh_covering.specs.CoveringFaults.{IsFirstLineFault, IsRightLine, IsFirstNotNormal, IsFirstNotNormalMark, IsFirstWrongRule, IsFirstWrongPair, IsFirstCoveringFault, right_lines, wrong_lines}
 use Rattle.wh_usable.specs.Closed.{IsClosed}
-use Rattle.wh_usable.proofs.Decisions.{closed_not_open, one_open}
+use Rattle.wh_usable.proofs.Decisions.{closed_not_open, one_open, neither_below}
 use Rattle.wh_covering.specs.declared.fault.CoveringFault.{CoveringFault}
 use Rattle.wh_covering.specs.declared.fault.CoveringFault.TheVariants.{BadPolynomial, BadLines, BadDrop, NotClosed, Rule, Pair}
 use Rattle.wh_covering.specs.declared.fault.LineFault.{LineFault}
@@ -26,7 +26,6 @@ use Rattle.wh_covering.specs.declared.fault.LineFault.TheVariants as line
 use Rattle.wh_checker.specs.Faults.{in_excess, at_covering}
 use Rattle.wh_checker.specs.declared.rejected.CheckFault.{CheckFault}
 use Rattle.wh_checker.specs.declared.rejected.CheckFault.TheVariants as check
-use Rattle.wh_checker.proofs.RowLaws.{neither_below}
 use Rattle.wh_checker.proofs.CoverLaws.{LinesAlike, line_fault_one, right_or_line_fault}
 
 -- it is that a value exceeds a limit

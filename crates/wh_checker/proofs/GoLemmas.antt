@@ -37,7 +37,7 @@ use Rattle.wh_checker.specs.Walk.{IsSingle, IsReduced}
 use Rattle.wh_proof.specs.GoesOn.{GoesOn}
 use Rattle.wh_proof.proofs.ChoiceLemmas.{one_list_said}
 
-because_one : {E : Type 0} {x y : E} → ◌≡◌ {A = Or E} (Because x) (Because y) → x ≡ y
+pub because_one : {E : Type 0} {x y : E} → ◌≡◌ {A = Or E} (Because x) (Because y) → x ≡ y
 because_one e = cc
 
 -- an answer that says one thing says another that follows

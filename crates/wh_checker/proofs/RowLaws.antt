@@ -16,13 +16,7 @@ use Rattle.wh_subterm.specs.SubtermRows.{HasNone, IsPlace, IsFirstOf, NoneIs, Is
 use Rattle.wh_pairs.specs.Drops.{IsBadDrop}
 use Rattle.wh_subterm.specs.declared.projection.SubtermFault.{SubtermFault}
 use Rattle.wh_subterm.specs.declared.projection.SubtermFault.TheVariants.{BadArgs, NoProjection, BadArgument, BadDrop, NotDecreasing}
-
--- two numbers of which neither is below the other are one
-pub neither_below : (m n : ℕ) → (m < n → ⊥) → (n < m → ⊥) → m ≡ n
-neither_below m n above below = elim (cases_lt m n) [
-  | inl less ↦ absurd (above less)
-  | inr le ↦ elim (cases_lt n m) [ inl less ↦ absurd (below less) | inr same ↦ omega arith ]
-]
+use Rattle.wh_usable.proofs.Decisions.{neither_below}
 
 -- ranks
 

@@ -56,7 +56,7 @@ evaluation_ends symbols Γ (apply e d) =
     (Γ ++ type_of symbols Γ d ∷ arguments (codomain (type_of symbols Γ e))) zero_poly (evaluate symbols Γ e).result))
 
 -- a polynomial has no more monomials than its weight
-count_within : (xs : List Monomial) → length xs ≤ weight (sum_of xs)
+pub count_within : (xs : List Monomial) → length xs ≤ weight (sum_of xs)
 count_within [] = omega arith
 count_within (x ∷ xs) = let h = count_within xs in omega (arith, h)
 

@@ -15,14 +15,13 @@ ghost use Rattle.wh_covering.specs.CoveringFaults.{IsFirstCoveringFault, IsReady
 ghost use Rattle.wh_covering.specs.EvidenceView.{evidence_data};
 ghost use Rattle.wh_usable.specs.Closed.{IsClosed};
 
-use crate::dropping::sorted;
 use crate::evidence::Evidence;
 use crate::fault::CoveringFault;
 use crate::normality::{first_not_normal, first_not_normal_mark};
 use crate::pairs::check_pairs;
 use crate::rules::check_rules;
 use std::alloc::Global;
-use wh_pairs::is_bad_drop;
+use wh_pairs::{is_bad_drop, sorted};
 use wh_polycheck::{Readings, interpretations_in_order_interpret};
 use wh_reduction::Task;
 use wh_types::Or;

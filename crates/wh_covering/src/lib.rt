@@ -3,7 +3,6 @@
 #![tactic(auto)]
 
 mod check;
-mod dropping;
 mod evidence;
 mod fault;
 mod laws;
@@ -13,7 +12,6 @@ mod pairs;
 mod rules;
 
 pub use check::check_covering;
-pub use dropping::{is_dropped, sorted};
 pub use evidence::Evidence;
 pub use fault::{CoveringFault, LineFault};
 pub use laws::interpretations_cover_or_have_a_first_fault;

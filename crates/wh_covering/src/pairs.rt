@@ -15,11 +15,11 @@ ghost use Rattle.wh_polycheck.specs.Small.{with_limits};
 ghost use Rattle.wh_covering.specs.CoveringFaults.{right_lines};
 ghost use Rattle.wh_covering.specs.Lines.{IsFirstOfPairs};
 
-use crate::dropping::is_dropped;
 use crate::fault::CoveringFault;
 use crate::lines::check_pair;
 use std::alloc::Global;
 use wh_hopoly::Moves;
+use wh_pairs::is_dropped;
 use wh_polycheck::Readings;
 use wh_reduction::Task;
 use wh_types::Or;

@@ -24,9 +24,8 @@ use Rattle.wh_pairs.proofs.KnownLemmas.{takes_arguments, defined_call}
 use Rattle.wh_pairs.proofs.MemberLemmas.{none_there, head_or_behind}
 use Rattle.wh_pairs.proofs.SubsumptionLaws.{left-member}
 use Rattle.wh_calls.proofs.CandidateValues.{IsTypedIn, rule_call}
-use Rattle.wh_calls.proofs.Puts.{arrows}
 use Rattle.wh_calls.proofs.Served.{IsOfCall, candidate_of_call}
-use Rattle.wh_extended.specs.Kinds.{KnowsMetas}
+use Rattle.wh_extended.specs.Kinds.{arrows, KnowsMetas}
 use Rattle.wh_descent.specs.PatternSides.{HaveKnownSorts, HasPatternSides}
 
 -- lists of types with known sorts

@@ -31,6 +31,7 @@ use Rattle.wh_types.specs.declared.want.Or.{Or}
 use Rattle.wh_types.specs.declared.want.Or.TheVariants.{NoMemory, Because}
 use Rattle.wh_judging.specs.Rows.{named_row}
 use Rattle.wh_explain.specs.Meaning.{Finds, IsUnweighed, Means, MeansLoop, MeansProof, SaysOf, SaysOfBytes, SomeIsUnbounded}
+use Rattle.wh_judging.proofs.Streaming.{never_syntax}
 
 -- what a verdict means of a system
 abbrev pub MeantBy : SystemData → Verdict → Type 0
@@ -61,46 +62,6 @@ weighed_means d ps (no raw steps at puts) answer.No proofs loops made has (is, v
 weighed_means d ps c o proofs loops made has w = tt
 
 -- no condition is named like a text that is none
-never_syntax : (d : SystemData) (r : Row) (at : ℕ) → Syntax at ≡ named_row d r → ⊥
-never_syntax d row.RankCount at e = absurd cc
-never_syntax d (row.Inaccessible r z) at e = absurd cc
-never_syntax d (row.PairCount n) at e = absurd cc
-never_syntax d (row.NotEmpty k) at e = absurd cc
-never_syntax d (row.NotOne k) at e = absurd cc
-never_syntax d (row.Loops k a) at e = absurd cc
-never_syntax d (row.FewBlocks k) at e = absurd cc
-never_syntax d (row.NotPartition k a) at e = absurd cc
-never_syntax d (row.BackEdge k a b) at e = absurd cc
-never_syntax d (row.BadArgs k) at e = absurd cc
-never_syntax d (row.NoProjection k f) at e = absurd cc
-never_syntax d (row.BadArgument k f) at e = absurd cc
-never_syntax d (row.BadDrop k) at e = absurd cc
-never_syntax d (row.NotDecreasing k a) at e = absurd cc
-never_syntax d (row.BadUsable k) at e = absurd cc
-never_syntax d (row.BadSymbols k) at e = absurd cc
-never_syntax d (row.BadPolynomial k f marked) at e = absurd cc
-never_syntax d (row.BadLines k) at e = absurd cc
-never_syntax d (row.NotClosedRule k r) at e = absurd cc
-never_syntax d (row.NotClosedPair k a) at e = absurd cc
-never_syntax d (row.BadMoveRule k r i) at e = absurd cc
-never_syntax d (row.OverSpentRule k r i) at e = absurd cc
-never_syntax d (row.NotCoveredRule k r j) at e = absurd cc
-never_syntax d (row.BadMovePair k a i) at e = absurd cc
-never_syntax d (row.OverSpentPair k a i) at e = absurd cc
-never_syntax d (row.NotCoveredPair k a j) at e = absurd cc
-never_syntax d (row.BadFilter k f marked) at e = absurd cc
-never_syntax d (row.TooWideRule k r) at e = absurd cc
-never_syntax d (row.TooWidePair k a) at e = absurd cc
-never_syntax d (row.BadInferenceRule k r i) at e = absurd cc
-never_syntax d (row.BadInferencePair k a i) at e = absurd cc
-never_syntax d (row.NotStrict k a) at e = absurd cc
-never_syntax d row.NotATerm at e = absurd cc
-never_syntax d row.NoStep at e = absurd cc
-never_syntax d (row.StepFails i) at e = absurd cc
-never_syntax d (row.TooBig i) at e = absurd cc
-never_syntax d (row.BadPut i) at e = absurd cc
-never_syntax d row.NoInstance at e = absurd cc
-
 -- what the check answers on the certificate of a text is what it answers on the text
 pub text_judged : (d : SystemData) (ps : List PairData) (bytes : List ℕ) (c : Cert) (o : Report) → CertText bytes c → Weighed d ps c o
     → Judged d ps bytes o

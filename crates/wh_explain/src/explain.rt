@@ -57,8 +57,10 @@ pub fn explain_file<S: Shelf>(
     cert: Option<&str>,
 ) -> Result<Bytes, Or<Report>>
     ensures says { MatchOr result
-        (Explains (outside (S.held shelf.old) (S.faults shelf.old) (S.faults shelf.new)) file.now (option_map (λ name. name.now) cert.entry))
-        (IsUnexplained (outside (S.held shelf.old) (S.faults shelf.old) (S.faults shelf.new)) file.now (option_map (λ name. name.now) cert.entry)) }
+        (Explains (outside (S.held shelf.old) (S.faults shelf.old) (S.faults shelf.new))
+        file.now (option_map (λ name. name.now) cert.entry))
+        (IsUnexplained (outside (S.held shelf.old) (S.faults shelf.old) (S.faults shelf.new))
+        file.now (option_map (λ name. name.now) cert.entry)) }
     ensures unweighed { IfBecause result IsUnweighed }
     ensures proof { IfOk result (λ text. BeginsWith (codes "YES") text → Told (S.held shelf.old file.now) MeansProof) }
     ensures endless { IfOk result (λ text. BeginsWith (codes "NO") text → Told (S.held shelf.old file.now) MeansLoop) }

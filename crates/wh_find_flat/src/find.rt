@@ -130,7 +130,8 @@ fn find_for<'a>(
     requires marked { AreMarked (task_data task.now).pairs (task_data task.now).set marked.now }
     requires some { 1 ≤ length task.now.set.now }
     requires flat { IsFlat (task_data task.now) }
-    ensures { IfOk result (IsFlatAnswer (system_data task.now.system.now) (task_data task.now).pairs (task_data task.now).set usable budget) }
+    ensures { IfOk result (IsFlatAnswer (system_data task.now.system.now) (task_data task.now).pairs
+        (task_data task.now).set usable budget) }
 {
     let bits = bits_of(alloc, task, marked)?;
     if marked.len() > MOST_MARKED || bits.count() > MOST_BITS {

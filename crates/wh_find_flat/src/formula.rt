@@ -1,9 +1,8 @@
 //! The circuit of a flat set.
 
 ghost use Rattle.std.specs.Prelude.{◌≡◌, ℕ, ◌+◌, ◌*◌, ◌<◌, ◌≤◌, ◌^◌, [], All, IfOk, OnOk, length, map, nat_lt, sum_by};
-ghost use Rattle.wh_terms.specs.Erase.{rewrite_rules, tm};
+ghost use Rattle.wh_terms.specs.Erase.{rewrite_rules};
 ghost use Rattle.wh_terms.specs.Rules.{RewriteRule};
-ghost use Rattle.wh_terms.specs.Tree.{fun, spine};
 ghost use Rattle.wh_pairs.specs.PairData.{PairData, pair_data};
 ghost use Rattle.wh_pairs.specs.Sets.{InSet};
 ghost use Rattle.wh_reduction.specs.TaskView.{task_data};
@@ -22,9 +21,9 @@ use crate::bits::Bits;
 use crate::sides::{require_pair, require_rule};
 use std::alloc::{AllocError, Global};
 use wh_circuit::{Circuit, Wire};
-use wh_pairs::Pair;
+use wh_pairs::{Pair, call};
 use wh_reduction::Task;
-use wh_terms::{Rule, Term, Terms, copy_term};
+use wh_terms::Rule;
 
 // So many inputs.
 fn inputs(alloc: Global, count: usize) -> Result<Circuit, AllocError>
@@ -50,18 +49,6 @@ fn place(marked: &[u32], symbol: u32) -> usize
         }
     }
     marked.len()
-}
-
-// A symbol applied to arguments.
-fn call(alloc: Global, symbol: u32, arguments: &Terms) -> Result<Box<Term>, AllocError>
-    ensures { IfOk result (λ made. tm made.value ≡ spine (fun symbol) (map tm arguments.now)) }
-{
-    let mut made = Box::new(alloc, Term::Fun(symbol))?;
-    for argument in arguments.as_slice() {
-        let last = Box::new(alloc, copy_term(alloc, argument)?)?;
-        made = Box::new(alloc, Term::App(made, last))?;
-    }
-    Ok(made)
 }
 
 // The left side of each rule of the list has to be at least the right one.

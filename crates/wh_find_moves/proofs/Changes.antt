@@ -8,7 +8,7 @@ use Rattle.wh_hopoly.specs.declared.polynomial.Monomial.{Monomial}
 use Rattle.wh_hopoly.specs.Erase.{sum_of, transfers}
 use Rattle.wh_find_moves.specs.declared.flow.Flow.{Flow}
 use Rattle.wh_find_moves.specs.Flows.{IsFlow, AreDistinct, units}
-use Rattle.wh_find_moves.proofs.Units.{if_same, if_other}
+use Rattle.wh_polycheck.proofs.AmountWalk.{if_other, if_same}
 
 -- the moves take so many units more from one place and bring them to another
 pub record AddTo (giver taker amount : ℕ) (old new : List Transfer) : Type 0 where

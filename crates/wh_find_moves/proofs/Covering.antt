@@ -16,7 +16,8 @@ use Rattle.wh_polycheck.specs.CoverFaults.{IsNormal}
 use Rattle.wh_find_moves.specs.declared.flow.Flow.{Flow}
 use Rattle.wh_find_moves.specs.Found.{AreApart, AreCovering, NoneCovers}
 use Rattle.wh_find_moves.specs.Flows.{IsFlow, AreDistinct, NoneBetween, positives, units}
-use Rattle.wh_find_moves.proofs.Units.{share, units_first, if_same, if_other}
+use Rattle.wh_find_moves.proofs.Units.{share, units_first}
+use Rattle.wh_polycheck.proofs.AmountWalk.{if_other, if_same}
 use Rattle.wh_find_moves.proofs.Sums.{sum_below, total, sum_at_most, sum_by_moves}
 use Rattle.wh_find_moves.proofs.FlowSteps.{can_give_from, can_give_to}
 use Rattle.wh_find_moves.proofs.Cut.{units_here, good_between, cover_good}

@@ -16,17 +16,13 @@ use Rattle.wh_find_moves.specs.Paths.{mark, target, IsReached, IsSpent}
 use Rattle.wh_find_moves.proofs.Sums.{sum_below, sum_at_most, sum_less, sum_by_moves, total_at_most}
 use Rattle.wh_find_moves.proofs.FlowSteps.{can_give_from, can_give_to}
 use Rattle.wh_find_moves.proofs.VisitWalk.{PathWalk}
+use Rattle.wh_polycheck.proofs.AmountWalk.{monomial_there}
 
 -- coefficients of monomials
 pub units_here : (xs : List Monomial) (i c : ℕ) (us : Factors) → MonomialAt (sum_of xs) i c us → units xs i ≡ c
 units_here [] i c us m = absurd m
 units_here (x ∷ xs) zero c us m = m.0
 units_here (x ∷ xs) (suc i) c us m = units_here xs i c us m
-
-pub monomial_there : (xs : List Monomial) (i : ℕ) → i < length xs → (c : ℕ) × (us : Factors) × MonomialAt (sum_of xs) i c us
-monomial_there [] i h = absurd (omega (arith, h))
-monomial_there (x ∷ xs) zero h = ((out-Monomial x).coefficient, atoms (out-Monomial x).atoms, (refl, refl))
-monomial_there (x ∷ xs) (suc i) h = monomial_there xs i (omega (arith, h))
 
 pub units_past : (xs : List Monomial) (i : ℕ) → length xs ≤ i → units xs i ≡ 0
 units_past xs i h = get_or_past (map (λ x. (out-Monomial x).coefficient) xs) i 0 (let e = length-map xs (λ x. (out-Monomial x).coefficient) in omega (arith, e, h))

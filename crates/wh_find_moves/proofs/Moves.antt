@@ -10,7 +10,8 @@ use Rattle.wh_hopoly.specs.declared.polynomial.Monomial.{Monomial}
 use Rattle.wh_hopoly.specs.declared.expression.Move.{Move}
 use Rattle.wh_hopoly.specs.Erase.{sum_of, transfer, transfers}
 use Rattle.wh_find_moves.specs.Flows.{AreDistinct, AreKeptBut, NoneBetween, CanGive, move_at}
-use Rattle.wh_find_moves.proofs.Units.{units_push, units_set, if_same, if_other}
+use Rattle.wh_find_moves.proofs.Units.{units_push, units_set}
+use Rattle.wh_polycheck.proofs.AmountWalk.{if_other, if_same}
 use Rattle.wh_find_moves.proofs.Changes.{AddTo}
 
 -- a move of the given kind with another amount

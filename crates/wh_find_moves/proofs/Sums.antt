@@ -4,7 +4,8 @@ use Rattle.std.specs.List.{All}
 use Rattle.std.proofs.lemmas.List.Elements.{All-head, All-tail}
 use Rattle.std.proofs.lemmas.Bool.{cases_eq}
 use Rattle.wh_hopoly.specs.Moves.{Transfer, units_at}
-use Rattle.wh_find_moves.proofs.Units.{share, units_first, if_same, if_other}
+use Rattle.wh_find_moves.proofs.Units.{share, units_first}
+use Rattle.wh_polycheck.proofs.AmountWalk.{if_other, if_same}
 
 -- the sum of f over the places of the set p below n
 abbrev pub sum_below : (ℕ → Bool) → (ℕ → ℕ) → ℕ → ℕ

@@ -2,18 +2,13 @@
 use Rattle.std.proofs.Common.{◌≡◌, ℕ, zero, suc, ◌+◌, ◌<◌, ◌≤◌, ◌==◌, inl, inr, if◌then◌else◌, List, [], ◌∷◌, ◌++◌, length, get_or, set, arith}
 use Rattle.std.proofs.lemmas.Bool.{cases_eq}
 use Rattle.wh_hopoly.specs.Moves.{Transfer, units_at}
+use Rattle.wh_polycheck.proofs.AmountWalk.{if_other, if_same}
 
 -- what one move adds to the units at a place
 abbrev pub share : (Transfer → ℕ) → ℕ → Transfer → ℕ
 share place i m = if place m == i then m.amount else 0
 
 -- a choice by two numbers
-pub if_same : (x i a b : ℕ) → x ≡ i → (if x == i then a else b) ≡ a
-if_same x i a b e = grind (arith, e)
-
-pub if_other : (x i a b : ℕ) → (x ≡ i → ⊥) → (if x == i then a else b) ≡ b
-if_other x i a b e = grind (arith, e)
-
 -- the units at a place, by the first move
 pub units_first : (place : Transfer → ℕ) (i : ℕ) (m : Transfer) (ms : List Transfer) → units_at place i (m ∷ ms) ≡ share place i m + units_at place i ms
 units_first place i m ms = elim (cases_eq (place m) i) [

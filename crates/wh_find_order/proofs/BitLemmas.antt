@@ -247,16 +247,6 @@ module _ (v : ℕ → Bool) (b x k : ℕ) (kept picked : List ℕ) (kept_is : ke
 
 -- tables of first bits
 
-pub first_zero : (b : ℕ) (scopes : List (List Ty)) → first_bit b scopes 0 ≡ 0
-first_zero b [] = refl
-first_zero b (cs ∷ scopes) = refl
-
-pub first_next : (b : ℕ) (scopes : List (List Ty)) (i : ℕ) (d : List Ty) → i < length scopes
-    → first_bit b scopes (suc i) ≡ first_bit b scopes i + bits_of b (get_or scopes i d)
-first_next b [] i d within = absurd (omega (arith, within))
-first_next b (cs ∷ scopes) zero d within = omega (arith, first_zero b scopes)
-first_next b (cs ∷ scopes) (suc i) d within = omega (arith, first_next b scopes i d (omega (arith, within)))
-
 pub first_within : (b : ℕ) (scopes : List (List Ty)) (n : ℕ) → first_bit b scopes n ≤ bit_count b scopes
 first_within b [] n = omega arith
 first_within b (cs ∷ scopes) zero = omega arith

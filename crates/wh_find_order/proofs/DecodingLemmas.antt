@@ -27,7 +27,8 @@ use Rattle.wh_order_space.specs.Bits.{bits_of, precedence_bits, filter_by, filte
 use Rattle.wh_find_order.specs.Encodings.{task_in, symbols_in, scopes_for, bits_for, PicksSort, IsEncoding, AreFiltersFrom}
 use Rattle.wh_find_order.specs.Trials.{IsTried}
 use Rattle.wh_find_order.specs.declared.encoding.Encoding.{Encoding}
-use Rattle.wh_find_order.proofs.BitLemmas.{first_next, first_within, proper_of_filter, picks_of_proper}
+use Rattle.wh_order_space.proofs.FirstLemmas.{first_next}
+use Rattle.wh_find_order.proofs.BitLemmas.{first_within, proper_of_filter, picks_of_proper}
 use Rattle.wh_find_order.proofs.SpaceLemmas.{some_same, count_is, symbol_scope, mark_scope}
 
 -- what bits write, by equal tables

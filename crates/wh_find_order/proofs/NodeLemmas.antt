@@ -41,6 +41,7 @@ use Rattle.wh_order_lines.specs.OrderWalks.{AreRuleLines, ArePairLines, IsDroppe
 use Rattle.wh_order_space.specs.Space.{IsLow, IsOfSpace}
 use Rattle.wh_find_order.specs.Answers.{IsOrder}
 use Rattle.wh_find_order.specs.Trials.{IsTried, Fails}
+use Rattle.wh_guesses.proofs.LimitLemmas.{wide}
 
 -- a filter is within the limits of certificates
 
@@ -63,10 +64,6 @@ filter_within : (cs : List Ty) (f : WrittenFilter) → length cs ≤ 32 → IsPr
 filter_within cs (keeps prec ns) few proper =
     let short = few_places 0 (length cs) ns proper.proper in omega (arith, short, few)
 filter_within cs (picks n) few proper = tt
-
-wide : (a : Ty) → ArgumentsWithin 32 a → length (arguments a) ≤ 32
-wide (sort s) narrow = omega arith
-wide (a ⇒ b) narrow = omega (arith, narrow.0)
 
 type_wide : (sorts : ℕ) (kinds : List Ty) → All (IsTypeOver sorts) kinds → (f : ℕ) → length (arguments (extended.type_at kinds f)) ≤ 32
 type_wide sorts [] over f = omega arith

@@ -21,18 +21,9 @@ use Rattle.wh_order_space.specs.Bits.{IsWritten}
 use Rattle.wh_find_order.specs.Tried.{Condition, proper, line, IsOfSet, IsBitOf, FailsUnder, IsBlocked}
 use Rattle.wh_find_order.proofs.SpaceLemmas.{all_filters, filters_long, count_is, order_written, order_filters, filter_moved, one_filter}
 use Rattle.wh_find_order.proofs.Locality.{meets_moved}
+use Rattle.wh_blocking.proofs.NothingLemmas.{opposed, told}
 
 -- a literal that is false tells the value of its variable
-
-told : (p a b : Bool) → cond p a (not a) ≡ false → cond p b (not b) ≡ false → a ≡ b
-told true a b e f = e ∙ sym f
-told false true true e f = refl
-told false false b e f = absurd (grind (arith, e))
-told false true false e f = absurd (grind (arith, f))
-
-opposed : (b : Bool) → cond (not b) b (not b) ≡ false
-opposed true = refl
-opposed false = refl
 
 module _ (T : TaskData) (marked : List ℕ) where
   -- bits that make a blocked clause false agree with its guess on all that is used in its condition

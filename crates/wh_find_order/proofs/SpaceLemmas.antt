@@ -16,7 +16,8 @@ use Rattle.wh_covering.proofs.Walks.{some_at}
 use Rattle.wh_guesses.specs.Coefficients.{scopes_of}
 use Rattle.wh_order_space.specs.Space.{symbol_count, IsLow, IsOfSpace}
 use Rattle.wh_order_space.specs.Bits.{bits_of, precedence_bits, filter_by, bit_from, IsFilterBy, IsWritten}
-use Rattle.wh_find_order.proofs.BitLemmas.{first_next, filter_alike, precedence_alike}
+use Rattle.wh_order_space.proofs.FirstLemmas.{first_next}
+use Rattle.wh_find_order.proofs.BitLemmas.{filter_alike, precedence_alike}
 use Rattle.wh_find_order.proofs.WrittenOrders.{prec_of, order_bit, order_bits, filter_written, precedence_written, length_holds}
 
 pub some_same : {A : Type 0} {x y : A} → Some x ≡ Some y → x ≡ y

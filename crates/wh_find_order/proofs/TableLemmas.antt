@@ -2,7 +2,7 @@
 use Rattle.std.proofs.Common.{◌≡◌, ℕ, zero, suc, ◌+◌, ◌-◌, ◌*◌, ◌/◌, ◌<◌, ◌≤◌, inl, inr, if◌then◌else◌, List, [], ◌∷◌, ◌++◌, length, map, get_or, refl, ap, ap₂, sym, subst, ◌∙◌, arith}
 use Rattle.std.specs.Global.{Vec}
 use Rattle.std.proofs.lemmas.Bool.{cases_eq, ne_eqb}
-use Rattle.std.proofs.lemmas.List.{get_or_push, get_or_append_left, length-map}
+use Rattle.std.proofs.lemmas.List.{length-map}
 use Rattle.wh_types.specs.Ty.{Ty, arguments}
 use Rattle.wh_types.specs.Erase.{ty, tys}
 use Rattle.wh_types.specs.declared.simple_type.SimpleType.{SimpleType}
@@ -18,10 +18,10 @@ use Rattle.wh_guesses.specs.declared.uses.Uses.{Uses}
 use Rattle.wh_blocking.specs.Numbers.{AreNumbers}
 use Rattle.wh_blocking.proofs.EncodingLemmas.{numbers_long, numbers_used}
 use Rattle.wh_order_space.specs.Space.{symbol_count}
-use Rattle.wh_order_space.specs.Bits.{binary_length, bits_of, first_bit}
-use Rattle.wh_find_order.specs.Encodings.{types_in, system_in, task_in, scopes_for, bits_for, IsEncoding}
+use Rattle.wh_order_space.specs.Bits.{binary_length, first_bit}
+use Rattle.wh_find_order.specs.Encodings.{system_in, task_in, scopes_for, bits_for, IsEncoding}
+use Rattle.wh_order_space.specs.Spotted.{types_in}
 use Rattle.wh_find_order.specs.declared.encoding.Encoding.{Encoding}
-use Rattle.wh_find_order.proofs.BitLemmas.{first_zero, first_next}
 use Rattle.wh_find_order.proofs.SpaceLemmas.{count_is}
 
 -- how many bits a number has, whatever it is known to be at most
@@ -58,48 +58,6 @@ length_next (suc all) left some small =
 
 pub length_end : (all left : ℕ) → left ≡ 0 → binary_length all left ≡ 0
 length_end all left none = ap (binary_length all) none ∙ length_none all
-
--- a table of the numbers of first bits
-
-pub firsts_start : (b : ℕ) (scopes : List (Vec SimpleType)) (items : List ℕ) → items ≡ 0 ∷ [] → (n : ℕ) → n ≤ 0
-    → get_or items n 0 ≡ first_bit b (types_in scopes) n
-firsts_start b scopes items is n none =
-    let e : n ≡ 0 = omega (arith, none) in
-    ap (λ l. get_or l n 0) is ∙ ap (λ i. get_or (0 ∷ []) i 0) e ∙ sym (first_zero b (types_in scopes)) ∙ ap (first_bit b (types_in scopes)) (sym e)
-
-map_get : (scopes : List (Vec SimpleType)) (i : ℕ) (d : Vec SimpleType) → i < length scopes → get_or (types_in scopes) i (tys d.items) ≡ tys (get_or scopes i d).items
-map_get [] i d within = absurd (omega (arith, within))
-map_get (s ∷ scopes) zero d within = refl
-map_get (s ∷ scopes) (suc i) d within = map_get scopes i d (omega (arith, within))
-
--- the number of the next first bit
-pub first_after : (b : ℕ) (scopes : List (Vec SimpleType)) (i before after places : ℕ) (scope : Vec SimpleType) → i < length scopes
-    → scope ≡ get_or scopes i scope → places ≡ length scope.items → before ≡ first_bit b (types_in scopes) i → after ≡ before + (2 * places + b)
-    → after ≡ first_bit b (types_in scopes) (suc i)
-first_after b scopes i before after places scope within scope_is places_are start sum =
-    let long : length (types_in scopes) ≡ length scopes = length-map scopes (λ (l : Vec SimpleType). tys l.items) in
-    let next = first_next b (types_in scopes) i (tys scope.items) (omega (arith, within, long)) in
-    let here : get_or (types_in scopes) i (tys scope.items) ≡ tys scope.items =
-    map_get scopes i scope within ∙ ap (λ (s : Vec SimpleType). tys s.items) (sym scope_is) in
-    let many = ap (bits_of b) here in
-    let count : length (tys scope.items) ≡ length scope.items = tys_long scope.items in
-    omega (arith, sum, start, next, many, count, places_are)
-  where
-    tys_long : (ks : List SimpleType) → length (tys ks) ≡ length ks
-    tys_long [] = refl
-    tys_long (t ∷ ks) = ap suc (tys_long ks)
-
-pub firsts_next : (b : ℕ) (scopes : List (Vec SimpleType)) (items new : List ℕ) (i total : ℕ) → new ≡ items ++ total ∷ [] → length items ≡ i + 1
-    → total ≡ first_bit b (types_in scopes) (suc i)
-    → ((n : ℕ) → n ≤ i → get_or items n 0 ≡ first_bit b (types_in scopes) n) → (n : ℕ) → n ≤ i + 1
-    → get_or new n 0 ≡ first_bit b (types_in scopes) n
-firsts_next b scopes items new i total is long sum before n within = elim (cases_eq n (suc i)) [
-  | inl here ↦
-      ap (λ l. get_or l n 0) is ∙ get_or_push items total 0 n (omega (arith, long, here)) ∙ sum ∙ ap (first_bit b (types_in scopes)) (sym here)
-  | inr other ↦
-      let u : n ≤ i = omega (arith, within, other) in
-      ap (λ l. get_or l n 0) is ∙ get_or_append_left items (total ∷ []) 0 n (omega (arith, long, u)) ∙ before n u
-]
 
 -- the types of the arguments of all symbols, and then of the marked ones
 pub scopes_are : (T : TaskData) (marked : List ℕ) (kinds : List SimpleType) (a b : List (List Ty)) → tys kinds ≡ T.symbols.funs

@@ -1,9 +1,7 @@
 -- How orders are written by bits in the program, and what it keeps in a search.
 use Rattle.std.specs.Prelude.{ℕ, ◌+◌, ◌-◌, ◌<◌, ◌≤◌, ◌≡◌, ◌↔◌, Bool, false, List, [], Some, length, map, take, get_or, slice_get, Contains}
 use Rattle.std.specs.Global.{Vec}
-use Rattle.wh_types.specs.Erase.{tys}
 use Rattle.wh_types.specs.Ty.{Ty, sort}
-use Rattle.wh_types.specs.declared.simple_type.SimpleType.{SimpleType}
 use Rattle.wh_system.specs.Systems.{SystemData}
 use Rattle.wh_system.specs.SystemView.{system_data}
 use Rattle.wh_system.specs.WellMade.{IsWellMadeSystem}
@@ -23,13 +21,10 @@ use Rattle.wh_blocking.specs.Sizes.{value_of}
 use Rattle.wh_guesses.specs.Coefficients.{scopes_of}
 use Rattle.wh_guesses.specs.Conditions.{Condition, IsCondition, UsesNumber}
 use Rattle.wh_guesses.specs.Tasks.{IsTaskOf}
+use Rattle.wh_order_space.specs.Spotted.{types_in}
 use Rattle.wh_order_space.specs.Bits.{bit_count, first_bit, precedence_bits, IsFilterBy}
 use Rattle.wh_find_order.specs.Tried.{FailsUnder, IsBlocked, proper}
 use Rattle.wh_find_order.specs.declared.encoding.Encoding.{Encoding}
-
--- the types of the arguments that lists of them in the program stand for
-abbrev pub types_in : List (Vec SimpleType) → List (List Ty)
-types_in = map (λ (l : Vec SimpleType). tys l.items)
 
 -- where the filter picks a place, a sort stands there
 abbrev pub PicksSort : List Ty → WrittenFilter → Type 0

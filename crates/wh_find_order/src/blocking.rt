@@ -13,9 +13,10 @@ ghost use Rattle.wh_find_order.specs.Trials.{HasFailed, IsLooked};
 use crate::chance::Chance;
 use crate::decoding::order_by;
 use crate::encoding::Encoding;
+use crate::failing::failing_line;
 use crate::node::{Weighing, node_of_order};
 use std::alloc::{AllocError, Global};
-use wh_blocking::{clause_of, copy_clauses};
+use wh_blocking::{Bits, Held, clause_of, copy_clauses};
 use wh_cert::OrderNode;
 use wh_sat::{Learner, Next, Search};
 use wh_sat_trail::{Clause, Clauses, Formula};
@@ -94,9 +95,10 @@ fn search<'a>(
     ensures { IfOk result (IsAnswer (system_in encoding.now) (task_in encoding.now).pairs (task_in encoding.now).set budget) }
 {
     let mut chance = Chance::new(alloc);
+    let mut held = Held::new(alloc)?;
     let mut values = first;
     'guesses: loop {
-        let failing = match look(alloc, encoding, &values)? {
+        let failing = match look(alloc, encoding, &values, &mut held)? {
             Looked::Found(node) => return Ok(Search::Found(node)),
             Looked::Failing(failing) => failing,
         };
@@ -137,7 +139,12 @@ fn next_guess<'a>(
 }
 
 // The node of the order that the bits write, or a condition that fails.
-fn look<'a>(alloc: Global, encoding: &Encoding<'a>, values: &[bool]) -> Result<Looked, AllocError>
+fn look<'a>(
+    alloc: Global,
+    encoding: &Encoding<'a>,
+    values: &[bool],
+    held: &mut Held,
+) -> Result<Looked, AllocError>
     requires few { length encoding.now.task.pairs.now ≤ most_pairs }
     requires encoding { IsEncoding encoding.now }
     ensures { IfOk result (IsLooked encoding.now (value_of values.now)) }
@@ -147,6 +154,14 @@ fn look<'a>(alloc: Global, encoding: &Encoding<'a>, values: &[bool]) -> Result<L
         Err(Or::Because(number)) => return Ok(Looked::Failing(Failing::Symbol(number))),
         Err(Or::NoMemory) => return Err(AllocError),
     };
+    let bits = Bits {
+        values,
+        first_bits: &encoding.first_bits,
+        numbers: &encoding.numbers,
+    };
+    if let Some(number) = failing_line(alloc, encoding, &filters, bits, held)? {
+        return Ok(Looked::Failing(Failing::Line(number)));
+    }
     match node_of_order(alloc, &encoding.task, &filters)? {
         Weighing::Found(node) => Ok(Looked::Found(node)),
         Weighing::Failing(number) => Ok(Looked::Failing(Failing::Line(number))),

@@ -24,7 +24,8 @@ pub fn order_by<'a>(
     values: &[bool],
 ) -> Result<Filters, Or<usize>>
     requires { IsEncoding encoding.now }
-    ensures { MatchOr result (λ filters. IsWritten (task_in encoding.now) encoding.now.marked.now (value_of values.now) (filtering_data filters))
+    ensures { MatchOr result (λ filters. IsWritten (task_in encoding.now) encoding.now.marked.now
+        (value_of values.now) (filtering_data filters))
         (HasNoFilter encoding.now (value_of values.now)) }
 {
     let symbols = encoding.task.system.signature().funs.as_slice().len();

@@ -9,16 +9,18 @@ ghost use Rattle.wh_reduction.specs.TaskView.{task_data};
 ghost use Rattle.wh_system.specs.SystemView.{system_data};
 ghost use Rattle.wh_guesses.specs.Coefficients as g;
 ghost use Rattle.wh_guesses.specs.Tasks.{IsTaskOf};
-ghost use Rattle.wh_find_order.specs.Encodings.{IsEncoding, types_in};
+ghost use Rattle.wh_find_order.specs.Encodings.{IsEncoding};
+ghost use Rattle.wh_order_space.specs.Spotted.{types_in};
 
-use crate::tables::{first_bits, precedence_bits};
+use crate::tables::precedence_bits;
 use std::alloc::{AllocError, Global};
 use wh_blocking::numbers_of_conditions;
 use wh_guesses::{arguments_of, uses_of};
+use wh_order_space::first_bits;
 use wh_polycheck::kind_of_mark;
 use wh_reduction::Task;
 use wh_system::System;
-use wh_types::SimpleType;
+use wh_types::{SimpleType, counted};
 
 /// A task with the marked symbols of its set, and what is looked up in the search: of each symbol, and then of each
 /// marked one, the types of its arguments and which bit comes first; how many bits a precedence has; and of each
@@ -51,7 +53,8 @@ pub fn encoding_of<'a>(
     if precedence_bits >= 32 {
         return Err(AllocError);
     }
-    let first_bits = first_bits(alloc, &scopes, precedence_bits)?;
+    let width = counted(precedence_bits)?;
+    let first_bits = first_bits(alloc, &scopes, width)?;
     let uses = uses_of(alloc, task, marked)?;
     let numbers = numbers_of_conditions(alloc, &uses, task.covered.len())?;
     Ok(Encoding {

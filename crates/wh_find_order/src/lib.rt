@@ -6,6 +6,7 @@ mod blocking;
 mod chance;
 mod decoding;
 mod encoding;
+mod failing;
 mod filters;
 mod find;
 mod node;

@@ -3,20 +3,20 @@
 ghost use Rattle.std.specs.Prelude.{ℕ, ◌+◌, ◌≡◌, ◌≢◌, ◌<◌, ◌≤◌, [], Contains, IfOk, Some, length, map, slice_get};
 ghost use Rattle.wh_types.specs.Limits.{most_pairs};
 ghost use Rattle.wh_reduction.specs.TaskView.{task_data};
-ghost use Rattle.wh_inference.specs.Said.{inference, written_filter};
+ghost use Rattle.wh_inference.specs.Said.{inference};
 ghost use Rattle.wh_ordering.specs.FilteringView.{filtering_data};
 ghost use Rattle.wh_guesses.specs.Tasks.{IsTaskOf};
 ghost use Rattle.wh_order_lines.specs.OrderWalks.{AreLinesOfPairs, AreRuleLines};
 ghost use Rattle.wh_find_order.specs.Trials.{IsTried, Weighs};
 
 use std::alloc::{AllocError, Global};
-use wh_cert::{NamedFilter, NamedFilters, OrderNode};
-use wh_inference::{Filter, Inferences};
+use wh_cert::OrderNode;
+use wh_inference::Inferences;
 use wh_order_lines::{PairLines, pair_line_fits, pair_lines, rule_line_fits, rule_lines};
-use wh_ordering::{Filters, MarkFilter};
+use wh_ordering::Filters;
+use wh_proof::{lines_of_filters, lines_of_mark_filters};
 use wh_reduction::Task;
-use wh_text::Name;
-use wh_types::{Numbers, Or};
+use wh_types::Or;
 
 /// What an order comes to.
 #[derive(Drop)]
@@ -28,7 +28,7 @@ pub enum Weighing {
 }
 
 /// The node of the order, if under it there are lines for every rule and every pair of the set, and some pair's is not
-/// that of equal trees; else a condition that fails. All pairs that the order lets go are dropped.
+/// that of equal trees; else a condition that fails, of the pairs first. All pairs that the order lets go are dropped.
 pub fn node_of_order<'a>(
     alloc: Global,
     task: &Task<'a>,
@@ -39,11 +39,6 @@ pub fn node_of_order<'a>(
     requires filters { IsTried (task_data task.now) (filtering_data filters.now) }
     ensures { IfOk result (Weighs task.now (filtering_data filters.now)) }
 {
-    let rules = match rule_lines(alloc, task, filters) {
-        Ok(lines) => lines,
-        Err(Or::Because(place)) => return Ok(Weighing::Failing(place)),
-        Err(Or::NoMemory) => return Err(AllocError),
-    };
     let found = match pair_lines(alloc, task, filters) {
         Ok(found) => found,
         Err(Or::Because(place)) => return Ok(Weighing::Failing(number_of_pair(task, place))),
@@ -52,11 +47,16 @@ pub fn node_of_order<'a>(
     if found.drop.as_slice().is_empty() {
         return Ok(Weighing::Failing(number_of_pair(task, task.set.len())));
     }
+    let rules = match rule_lines(alloc, task, filters) {
+        Ok(lines) => lines,
+        Err(Or::Because(place)) => return Ok(Weighing::Failing(place)),
+        Err(Or::NoMemory) => return Err(AllocError),
+    };
     node_with(alloc, task, filters, rules, found)
 }
 
-// The number of the condition of the pair with this place in the set, and behind these of the last condition.
-fn number_of_pair<'a>(task: &Task<'a>, place: usize) -> usize
+/// The number of the condition of the pair with this place in the set, and behind these of the last condition.
+pub fn number_of_pair<'a>(task: &Task<'a>, place: usize) -> usize
     requires { place ≤ length task.now.set.now }
     ensures { result ≡ length (task_data task.now).covered + place }
 {
@@ -84,7 +84,7 @@ fn node_with<'a>(
     pair_line_fits();
     let names = task.system.fun_names();
     let funs = lines_of_filters(alloc, names, filters.funs.as_slice())?;
-    let marks = lines_of_marks(alloc, names, filters.marks.as_slice())?;
+    let marks = lines_of_mark_filters(alloc, names, filters.marks.as_slice())?;
     let PairLines { lines, drop } = found;
     Ok(Weighing::Found(OrderNode {
         funs,
@@ -93,71 +93,4 @@ fn node_with<'a>(
         pairs: lines,
         drop,
     }))
-}
-
-// The lines `fun` of the filters of all symbols.
-fn lines_of_filters(
-    alloc: Global,
-    names: &[Name],
-    filters: &[Filter],
-) -> Result<NamedFilters, AllocError>
-    requires { length names.now ≡ length filters.now }
-    ensures names { IfOk result (λ lines. map (λ l. l.name) lines ≡ names.now) }
-    ensures filters { IfOk result (λ lines. map (λ l. written_filter l.filter) lines ≡ map written_filter filters.now) }
-{
-    let mut lines = NamedFilters::new(alloc)?;
-    for i in 0..filters.len() {
-        let name = Name::new(alloc, names[i].bytes())?;
-        let filter = copy_filter(alloc, &filters[i])?;
-        lines.push(NamedFilter { name, filter })?;
-    }
-    Ok(lines)
-}
-
-// The lines `mark` of the filters of marked symbols.
-fn lines_of_marks(
-    alloc: Global,
-    names: &[Name],
-    marks: &[MarkFilter],
-) -> Result<NamedFilters, AllocError>
-    ensures names { IfOk result (λ lines. map (λ m. slice_get names.now m.symbol) marks.now ≡ map (λ l. Some l.name) lines) }
-    ensures filters { IfOk result (λ lines. map (λ m. written_filter m.filter) marks.now ≡ map (λ l. written_filter l.filter) lines) }
-{
-    let mut lines = NamedFilters::new(alloc)?;
-    for mark in marks {
-        if mark.symbol as usize >= names.len() {
-            return Err(AllocError);
-        }
-        let name = Name::new(alloc, names[mark.symbol as usize].bytes())?;
-        let filter = copy_filter(alloc, &mark.filter)?;
-        lines.push(NamedFilter { name, filter })?;
-    }
-    Ok(lines)
-}
-
-// The same filter.
-fn copy_filter(alloc: Global, filter: &Filter) -> Result<Filter, AllocError>
-    ensures { IfOk result (λ made. written_filter made ≡ written_filter filter.now) }
-{
-    match filter {
-        Filter::Keep { prec, places } => {
-            let places = copied(alloc, places.as_slice())?;
-            Ok(Filter::Keep {
-                prec: *prec,
-                places,
-            })
-        }
-        Filter::Pick { place } => Ok(Filter::Pick { place: *place }),
-    }
-}
-
-// The same numbers as a list of its own.
-fn copied(alloc: Global, list: &[u32]) -> Result<Numbers, AllocError>
-    ensures { IfOk result (λ numbers. numbers ≡ list.now) }
-{
-    let mut numbers = Numbers::new(alloc)?;
-    for number in list {
-        numbers.push(*number)?;
-    }
-    Ok(numbers)
 }

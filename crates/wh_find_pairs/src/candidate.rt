@@ -1,11 +1,10 @@
 //! The candidate that a call in a right side makes.
 //!
-//! The candidates of a rule have one left side, which may be large. So `candidate` leaves it out, and `with_left` copies it for a
-//! candidate that is kept.
+//! The candidates of a rule have one left side, which may be large. So it is copied once for all of them: `left_of` makes it.
 
-ghost use Rattle.std.specs.Prelude.{◌≡◌, ◌+◌, ◌-◌, ◌++◌, ◌<◌, ◌≤◌, [], ℕ, length, map, reverse, take, IfOk};
+ghost use Rattle.std.specs.Prelude.{◌≡◌, ◌+◌, ◌-◌, ◌++◌, ◌<◌, ◌≤◌, ℕ, length, map, reverse, take, IfOk};
 ghost use Rattle.wh_types.specs.Erase.{ty};
-ghost use Rattle.wh_terms.specs.Tree.{free};
+ghost use Rattle.wh_terms.specs.Tree.{free, head};
 ghost use Rattle.wh_terms.specs.Erase.{tm, symbols, declared_metas, declared_meta, rewrite_rule};
 ghost use Rattle.wh_terms.specs.Scope.{scope};
 ghost use Rattle.wh_terms.specs.Kinds.{kinds_of};
@@ -13,15 +12,15 @@ ghost use Rattle.wh_terms.specs.Substitution.{act};
 ghost use Rattle.wh_pairs.specs.PairData.{within, pair_data};
 ghost use Rattle.wh_pairs.specs.Candidates.{candidate, freed, missing_types, nullary, numbered_from};
 ghost use Rattle.wh_pairs.specs.Known.{TakesArguments};
-ghost use Rattle.wh_pairs.specs.Spines.{symbol_of};
-ghost use Rattle.wh_pairs.specs.Survivors.{with_left};
+ghost use Rattle.wh_pairs.specs.Spines.{spine_arguments, symbol_of};
 ghost use Rattle.wh_find_pairs.specs.Views.{call_data, trees};
 
 use crate::calling::Call;
 use crate::conditions::conditions_of;
 use crate::freed::{Freeing, freed_arguments, nullary};
-use crate::spine::Spine;
+use crate::spine::spine_of;
 use std::alloc::{AllocError, Global};
+use std::rc::Rc;
 use wh_pairs::Pair;
 use wh_terms::{MetaDecl, Metas, Rule, Signature, Term, Terms, Types, copy_term};
 use wh_types::{SimpleType, counted, sum};
@@ -144,38 +143,52 @@ fn symbol_of(head: &Term) -> u32
     }
 }
 
-/// The candidate of a call in the right side of a rule, which has the number, but for its left side: in place of that stands
-/// the symbol 0 with no arguments.
+/// The left side of a rule, taken apart once for all candidates of the rule.
+#[derive(Drop)]
+pub struct LeftSide {
+    /// The symbol that heads it.
+    pub symbol: u32,
+    /// Its arguments.
+    pub arguments: Rc<Terms>,
+}
+
+/// The left side of the rule.
+pub fn left_of(alloc: Global, rule: &Rule) -> Result<LeftSide, AllocError>
+    ensures symbol { IfOk result (λ left. left.symbol ≡ symbol_of (head (tm rule.now.left))) }
+    ensures arguments { IfOk result (λ left. map tm left.arguments.value ≡ spine_arguments (tm rule.now.left)) }
+{
+    let spine = spine_of(alloc, &rule.left)?;
+    let arguments = left_arguments(alloc, spine.arguments.as_slice())?;
+    Ok(LeftSide {
+        symbol: symbol_of(spine.head),
+        arguments: Rc::new(alloc, arguments)?,
+    })
+}
+
+/// The candidate of a call in the right side of a rule, which has the number and this left side.
 pub fn candidate(
     alloc: Global,
     signature: &Signature,
     number: u32,
     rule: &Rule,
+    left: &LeftSide,
     call: &Call<'_>,
 ) -> Result<Pair, AllocError>
-    requires { TakesArguments (symbols signature.now) call.now.symbol call.now.need }
+    requires needs { TakesArguments (symbols signature.now) call.now.symbol call.now.need }
+    requires symbol { left.now.symbol ≡ symbol_of (head (tm rule.now.left)) }
+    requires arguments { map tm left.now.arguments.value ≡ spine_arguments (tm rule.now.left) }
     ensures { IfOk result (λ pair. pair_data pair
-        ≡ with_left 0 [] (candidate (symbols signature.now) number (rewrite_rule rule.now) (call_data call.now))) }
+        ≡ candidate (symbols signature.now) number (rewrite_rule rule.now) (call_data call.now)) }
 {
     let kinds = fresh_kinds(alloc, signature, call)?;
     let first = counted(rule.metas.as_slice().len())?;
     Ok(Pair {
         rule: number,
         metas: candidate_metas(alloc, &rule.metas, kinds.as_slice())?,
-        left_fun: 0,
-        left: Terms::new(alloc)?,
+        left_fun: left.symbol,
+        left: left.arguments.clone()?,
         right_fun: call.symbol,
         right: right_arguments(alloc, first, call)?,
         conditions: conditions_of(alloc, call.conditions.as_slice())?,
     })
-}
-
-/// The candidate with a copy of the left side of its rule, which is this spine.
-pub fn with_left(alloc: Global, mut candidate: Pair, left: &Spine<'_>) -> Result<Pair, AllocError>
-    ensures { IfOk result (λ pair. pair_data pair
-        ≡ with_left (symbol_of (tm left.now.head.now)) (trees left.now.arguments.items) (pair_data candidate)) }
-{
-    candidate.left_fun = symbol_of(left.head);
-    candidate.left = left_arguments(alloc, left.arguments.as_slice())?;
-    Ok(candidate)
 }

@@ -1,27 +1,23 @@
 //! The pairs of a system.
 //!
 //! The rules are taken one by one. Each candidate of a rule is compared with the pairs that are left of the earlier ones of that
-//! rule, since candidates of two rules do not subsume each other. A candidate gets its left side only when it is kept: comparisons
-//! do not look at left sides, and these may be large.
+//! rule, since candidates of two rules do not subsume each other.
 
-ghost use Rattle.std.specs.Prelude.{◌≡◌, ◌<◌, ◌≤◌, ◌++◌, ◌∷◌, [], ℕ, List, Contains, length, map, IfOk, OnOk, IsTrue, ◌↔◌};
+ghost use Rattle.std.specs.Prelude.{◌≡◌, ◌<◌, ◌≤◌, ◌++◌, ◌∷◌, [], List, Contains, length, map, IfOk, OnOk, IsTrue, ◌↔◌};
 ghost use Rattle.wh_types.specs.Limits.{most_pairs};
 ghost use Rattle.wh_types.specs.Outcome.{MatchOr};
 ghost use Rattle.wh_types.specs.declared.want.Or.TheVariants.{Because};
-ghost use Rattle.wh_terms.specs.Erase.{tm, rewrite_rule};
+ghost use Rattle.wh_terms.specs.Erase.{rewrite_rule};
 ghost use Rattle.wh_pairs.specs.PairData.{PairData, pair_data};
 ghost use Rattle.wh_system.specs.SystemView.{system_data};
 ghost use Rattle.wh_pairs.specs.Calls.{calls_of};
 ghost use Rattle.wh_pairs.specs.Candidates.{candidate, candidates};
-ghost use Rattle.wh_pairs.specs.Spines.{symbol_of};
 ghost use Rattle.wh_pairs.specs.Subsumption.{ArePairs};
-ghost use Rattle.wh_pairs.specs.Survivors.{Survive, IsSubsumedByOne, with_left};
+ghost use Rattle.wh_pairs.specs.Survivors.{Survive, IsSubsumedByOne};
 ghost use Rattle.wh_pairs.specs.Views.{pairs_data};
-ghost use Rattle.wh_find_pairs.specs.Views.{trees};
 
 use crate::calling::calls_of;
-use crate::candidate::{candidate, with_left};
-use crate::spine::{Spine, spine_of};
+use crate::candidate::{candidate, left_of};
 use crate::subsumption::subsumed;
 use std::alloc::{AllocError, Global};
 use wh_pairs::{Pair, PairList};
@@ -56,23 +52,17 @@ fn is_needless(candidate: &Pair, kept: &[Pair]) -> bool
     false
 }
 
-// A further candidate joins the pairs that are left, with this left side: it is dropped where one of them subsumes it, else it
-// drops those that it subsumes.
-fn keep(
-    alloc: Global,
-    kept: &mut Vec<Pair>,
-    candidate: Pair,
-    left: &Spine<'_>,
-) -> Result<(), AllocError>
-    ensures { let pair = with_left (symbol_of (tm left.now.head.now)) (trees left.now.arguments.items) (pair_data candidate) in
-        (earlier : List PairData) → Survive earlier (pairs_data kept.old.items)
-        → OnOk result (Survive (earlier ++ pair ∷ []) (pairs_data kept.new.items)) }
+// A further candidate joins the pairs that are left: it is dropped where one of them subsumes it, else it drops those that it
+// subsumes.
+fn keep(kept: &mut Vec<Pair>, candidate: Pair) -> Result<(), AllocError>
+    ensures { (earlier : List PairData) → Survive earlier (pairs_data kept.old.items)
+        → OnOk result (Survive (earlier ++ pair_data candidate ∷ []) (pairs_data kept.new.items)) }
 {
     if is_needless(&candidate, kept.as_slice()) {
         return Ok(());
     }
     kept.retain(|pair| !subsumed(pair, &candidate));
-    kept.push(with_left(alloc, candidate, left)?)?;
+    kept.push(candidate)?;
     Ok(())
 }
 
@@ -88,12 +78,15 @@ fn pairs_of_rule(
         (calls_of (system_data system.now).rules (rewrite_rule rule.now))) (pairs_data kept.items)) }
 {
     let signature = system.signature();
-    let left = spine_of(alloc, &rule.left)?;
     let calls = calls_of(alloc, system, rule)?;
     let mut kept = Vec::new(alloc);
+    if calls.is_empty() {
+        return Ok(kept);
+    }
+    let left = left_of(alloc, rule)?;
     for call in calls.as_slice() {
-        let made = candidate(alloc, signature, number, rule, call)?;
-        keep(alloc, &mut kept, made, &left)?;
+        let made = candidate(alloc, signature, number, rule, &left, call)?;
+        keep(&mut kept, made)?;
     }
     Ok(kept)
 }

@@ -15,7 +15,7 @@ use Rattle.wh_space.specs.declared.space.Spot.{Spot}
 use Rattle.wh_space.specs.declared.space.Spot.TheVariants.{Constant, One, Two}
 use Rattle.wh_space.proofs.SpaceLemmas.{spot_there}
 use Rattle.wh_space.proofs.SpotLemmas.{spot_at}
-use Rattle.wh_guesses.proofs.Uniqueness.{coefficient_is, monomial_of}
+use Rattle.wh_guesses.proofs.Uniqueness.{normal_positive, coefficient_is, monomial_of}
 use Rattle.wh_first_order.specs.FirstOrder.{AreSorts}
 use Rattle.wh_flat.specs.Worth.{coefficient, nothing, only}
 use Rattle.wh_flat.proofs.Totals.{IsUnit, IsLinear, total, spread, total_alike, spread_alike}
@@ -107,10 +107,6 @@ absent us zero_poly b s = refl
 absent us (plus d vs p) b s =
     ap (λ o. only_if_equal o d + factor_coefficient us p) b
     ∙ (let e = absent us p (before_then us vs p b s.0) s.1 in omega (arith, e))
-
-normal_positive : (Γ : List Ty) (p : Polynomial) → Normal Γ p → Positive p
-normal_positive Γ zero_poly n = tt
-normal_positive Γ (plus c us p) n = (n.0, normal_positive Γ p n.3)
 
 -- no unit stands in a polynomial twice
 

@@ -14,19 +14,12 @@ use Rattle.wh_graph.specs.Times.{plus, TimesIn, TimesListed, AreCounted, AreAdde
 use Rattle.wh_graph.specs.declared.places.Times.{Times}
 use Rattle.wh_graph.specs.declared.places.Times.TheVariants.{Never, Once, Often}
 use Rattle.wh_pairs.proofs.ByPlace.{some_one, contains_at}
-use Rattle.wh_pairs.proofs.Increasing.{increasing_at, increasing_from_adjacent, one_place}
+use Rattle.wh_pairs.proofs.Increasing.{increasing_at, not_falling, increasing_from_adjacent, one_place}
 use Rattle.wh_graph.proofs.LeastLemmas.{least_smaller}
 use Rattle.wh_graph.proofs.PushLemmas.{set_here, set_there}
 use Rattle.wh_graph.proofs.TimesLemmas.{times_skip, times_more, listed_more}
 
 -- a search finds the place of a number
-
-not_falling : (ns : List ℕ) → IsIncreasing ns → (i j : ℕ) → i ≤ j → j < length ns → get_or ns i 0 ≤ get_or ns j 0
-not_falling ns up i j le within = elim (eq-or-lt_of_le le) [
-  | inl same ↦ omega (arith, ap (λ k. get_or ns k 0) same)
-  | inr less ↦ let next = increasing_at ns i j up less within in omega arith
-]
-
 pub search_place : (ns : List ℕ) (n i : ℕ) → IsIncreasing ns → IsBinarySearchResult (λ m. nat_cmp m n) ns (Ok i) → slice_get ns i ≡ Some n
 search_place ns n i up result =
     let said = searched ns n (Ok i) result (not_falling ns up) in

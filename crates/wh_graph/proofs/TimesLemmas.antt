@@ -7,7 +7,7 @@ use Rattle.wh_graph.specs.Blocks.{IsListed, IsMisplaced}
 use Rattle.wh_graph.specs.Times.{plus, TimesIn, TimesListed, IsStray, IsUneven}
 use Rattle.wh_graph.specs.declared.places.Times.{Times}
 use Rattle.wh_graph.specs.declared.places.Times.TheVariants.{Never, Once, Often}
-use Rattle.wh_pairs.proofs.DropLemmas.{contains_or_not}
+use Rattle.wh_pairs.proofs.DropLemmas.{later, only_later, contains_or_not}
 use Rattle.wh_pairs.proofs.ByPlace.{some_one, contains_at, place_of, same_or_below}
 
 pub times_skip : (list : List ℕ) (n i m : ℕ) (t : Times) → TimesIn list n i t → slice_get list i ≡ Some m → (m ≡ n → ⊥) → TimesIn list n (i + 1) t
@@ -122,13 +122,6 @@ once_even set blocks n (j, k, below, stands, one) (found, inl (a, b, c, d, (list
 once_even set blocks n (j, k, below, stands, one) (found, inr missing) = missing (j, (k, stands))
 
 -- a number stands in a list or does not
-
-later : (m n : ℕ) (ns : List ℕ) → Contains ns n → Contains (m ∷ ns) n
-later m n ns found = let at = place_of ns n found in contains_at (m ∷ ns) (suc at.0) n at.1
-
-only_later : (m n k : ℕ) (ns : List ℕ) → (m ≡ n → ⊥) → slice_get (m ∷ ns) k ≡ Some n → Contains ns n
-only_later m n zero ns other at = let same : m ≡ n = cc in absurd (other same)
-only_later m n (suc k) ns other at = contains_at ns k n at
 
 stands_later : (block : List ℕ) (blocks : List (List ℕ)) (i k n : ℕ) → StandsAt blocks i k n → StandsAt (block ∷ blocks) (suc i) k n
 stands_later block blocks i k n stands = stands

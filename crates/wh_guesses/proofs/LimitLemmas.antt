@@ -117,7 +117,7 @@ module _ (Γ : List Ty) (few : length Γ ≤ 65536) where
 
 -- no type has so many arguments
 
-wide : (a : Ty) → ArgumentsWithin 32 a → length (arguments a) ≤ 32
+pub wide : (a : Ty) → ArgumentsWithin 32 a → length (arguments a) ≤ 32
 wide (sort s) narrow = omega arith
 wide (a ⇒ b) narrow = omega (arith, narrow.0)
 

@@ -40,6 +40,7 @@ use Rattle.wh_guesses.specs.Lines.{IsLine, HasNoSide, IsNotMet, IsRuleLine, AreR
 use Rattle.wh_guesses.specs.declared.lines.PairLine.{PairLine}
 use Rattle.wh_pairs.proofs.SetLemmas.{all_from_members}
 use Rattle.wh_space.proofs.PushLemmas.{EachAt, each_push, map_push}
+use Rattle.wh_covering.proofs.SideLemmas.{count_within}
 
 pub line_of : (a b : Run Polynomial) (p q : Polynomial) (ms : List Transfer) → IsSide a p → IsSide b q → AreCovering p q ms → IsLine a b ms
 line_of a b p q ms l r h = record {
@@ -94,10 +95,6 @@ told_missing (Some y) N P true is h = absurd (cc)
 told_missing (Some y) N P false is h = tt
 
 -- a side has few monomials
-
-count_within : (xs : List Monomial) → length xs ≤ weight (sum_of xs)
-count_within [] = omega arith
-count_within (x ∷ xs) = let h = count_within xs in omega (arith, h)
 
 pub few_side : (p : Poly) → IsSomeSide (poly p) → length (monomials p) ≤ 65536
 few_side p (run, side) =

@@ -14,7 +14,7 @@ use Rattle.wh_hopoly.specs.Rearranged.{coefficient, Positive}
 use Rattle.wh_space.specs.Space.{HasMonomial, space_of}
 use Rattle.wh_space.specs.Coefficients.{capped, HasCoefficients}
 
-normal_positive : (Γ : List Ty) (p : Polynomial) → Normal Γ p → Positive p
+pub normal_positive : (Γ : List Ty) (p : Polynomial) → Normal Γ p → Positive p
 normal_positive Γ zero_poly n = tt
 normal_positive Γ (plus c us p) n = (n.0, normal_positive Γ p n.3)
 

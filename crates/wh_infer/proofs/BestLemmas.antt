@@ -20,8 +20,9 @@ use Rattle.wh_infer.specs.Least.{IsLeast, own}
 use Rattle.wh_infer.specs.Ways.{IsShown, AreShown, tasks_by}
 use Rattle.wh_infer.specs.Bests.{letter_with, IsBy, AreGoalsBy, IsBestOf, IsBest, IsBestBy, IsBestAt, IsLeastCount, IsLeastTotal, IsLesser, IsOneMore, IsSum, count_of}
 use Rattle.wh_infer.proofs.LeastLemmas.{least_same, least_or}
-use Rattle.wh_infer.proofs.TaskLemmas.{some_none, none_some}
+use Rattle.wh_path_order.proofs.SameTreeLaws.{none_some, some_none}
 use Rattle.wh_infer.proofs.WayLemmas.{way_within, shown_by, none_shown, by_shown, nothing_shown, sum_none, sum_over, sum_some, none_behind}
+use Rattle.wh_order.proofs.JudgedLemmas.{nothing_asked}
 
 letter_back : (l : m.Letter) → (L : Letter) × (letter L ≡ l)
 letter_back m.same_trees = (Same, refl)
@@ -151,10 +152,6 @@ places_all D room g l i r s items is has past h =
 
 pub at_no_room : (D : FilteringData) (room : ℕ) (g : Goal) (l : Letter) (place : ℕ) → room ≡ 0 → IsBestAt D room g l place None
 at_no_room D room g l place none w over c x = absurd (omega (arith, x.0.3, none))
-
-pub nothing_asked : (n : ℕ) (w : World) (o : Option (List Task)) → MayStandFor n w None o → o ≡ None
-nothing_asked n w None h = refl
-nothing_asked n w (Some ks) h = absurd h
 
 pub asked : (n : ℕ) (w : World) (gs : Vec Goal) (o : Option (List Task)) (ks : List Task) → MayStandFor n w (Some gs) o → o ≡ Some ks → StandFor n w gs.items ks
 asked n w gs None ks h e = absurd (none_some e)

@@ -26,9 +26,11 @@ use Rattle.wh_infer.specs.Least.{IsLeast}
 use Rattle.wh_infer.specs.Ways.{IsGood, AreGood, tasks_by}
 use Rattle.wh_infer.specs.Bests.{IsBy, AreGoalsBy, IsBest, IsLeastInference, AreLeastInferences, IsMadeWith, written_place}
 use Rattle.wh_infer.specs.Lines.{Shows, IsFound}
-use Rattle.wh_infer.proofs.TaskLemmas.{some_none, none_some, both_none}
+use Rattle.wh_infer.proofs.TaskLemmas.{both_none}
+use Rattle.wh_path_order.proofs.SameTreeLaws.{none_some, some_none}
 use Rattle.wh_infer.proofs.WayLemmas.{place_by, good_by, none_shown}
-use Rattle.wh_infer.proofs.BestLemmas.{way_some, nothing_asked, asked, total_none}
+use Rattle.wh_infer.proofs.BestLemmas.{way_some, asked, total_none}
+use Rattle.wh_order.proofs.JudgedLemmas.{nothing_asked}
 
 -- the place that is written with a choice
 

@@ -6,10 +6,7 @@ use Rattle.wh_inference.specs.Inferences.{infer, more_parts}
 use Rattle.wh_inference.specs.Said.{letter, inference, inferences, parts_row}
 use Rattle.wh_inference.specs.declared.inference.Letter.{Letter}
 use Rattle.wh_inference.specs.declared.inference.Inference.{Inference, Inference', Row_of-Inference, end_of-Inference, more_of-Inference, items-the_row-Inference, items_hidden-the_row-Inference-0, roll-Inference}
-
-parts_row-items : (n : _) (r : Row_of-Inference n) → parts_row r ≡ inferences (items-the_row-Inference n r)
-parts_row-items n end_of-Inference = refl
-parts_row-items n (more_of-Inference i rest) = ap (λ (is : m.Inferences). more_parts (inference i) is) (parts_row-items _ rest)
+use Rattle.wh_order.proofs.CheckLemmas.{parts_row-items}
 
 abbrev row_of : Inference → (n : Count) × Row_of-Inference n
 row_of (Inference' _ _ _ all) = (_, all)

@@ -12,6 +12,7 @@ use Rattle.wh_order.specs.declared.tree.Tree.TheVariants.{Bound, Free, Meta', Sy
 use Rattle.wh_order.specs.Trees.{tree, row, spine_type, IsHeadTree, AreOver}
 use Rattle.wh_order.specs.TreeParts.{World, Over}
 use Rattle.wh_infer.specs.Plain.{Plain, a_bound, a_free, a_meta, a_symbol, a_mark, a_lam, a_spine, Plains, no_trees, more_trees, plain, plain_row, plains}
+use Rattle.wh_order.proofs.TreeLemmas.{row_of}
 
 -- the tree that is stood for
 
@@ -127,13 +128,6 @@ alike_over n w s t e o = is_over n w t (subst (OverBy n w) e (over_is n w s o))
 plain_items : (m : _) (r : Row_of-Tree m) → plain_row r ≡ plains (items-the_row-Tree m r)
 plain_items m end_of-Tree = refl
 plain_items m (more_of-Tree t rest) = ap (λ (us : Plains). more_trees (plain t) us) (plain_items _ rest)
-
-abbrev row_of : Tree → (m : Count) × Row_of-Tree m
-row_of (Meta' z a _ r) = (_, r)
-row_of (Sym' f _ r) = (_, r)
-row_of (Mark' f _ r) = (_, r)
-row_of (Apply' p t _ r) = (_, r)
-row_of _ = (_, end_of-Tree)
 
 pub plain_meta : (t : Tree) (z : ℕ) (a : SimpleType) (ts : List Tree) → t ≡ Meta z a ts → plain t ≡ a_meta z (ty a) (plains ts)
 plain_meta t z a ts e = ap plain e ∙ ap (a_meta z (ty a)) (plain_items _ (row_of (Meta z a ts)).1 ∙ ap plains (items_hidden-the_row-Tree-0 ts))

@@ -12,7 +12,7 @@ use Rattle.wh_order.specs.TreeParts.{order_of}
 use Rattle.wh_order.specs.Claims.{task}
 use Rattle.wh_infer.specs.Least.{NotRefuted}
 use Rattle.wh_infer.specs.Bests.{IsLeastInference}
-use Rattle.wh_infer.proofs.TaskLemmas.{some_none}
+use Rattle.wh_path_order.proofs.SameTreeLaws.{some_none}
 
 stable_le : (m n : ℕ) → NotRefuted (m ≤ n) → m ≤ n
 stable_le zero n known = omega arith

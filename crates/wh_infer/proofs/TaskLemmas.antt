@@ -11,12 +11,7 @@ use Rattle.wh_order.specs.Claims.{moved}
 use Rattle.wh_order.proofs.CheckLemmas.{by_parts}
 use Rattle.wh_order.proofs.LetterTasks.{no_above, same_asks, arguments_asks}
 use Rattle.wh_order.proofs.AskedTasks.{IsOtherLetter, bodies_left, arguments_are, greater_above, typed_greater, at_least_typed}
-
-pub some_none : {A : Type 0} {a : A} → Some a ≡ None → ⊥
-some_none e = cc
-
-pub none_some : {A : Type 0} {a : A} → None ≡ Some a → ⊥
-none_some e = cc
+use Rattle.wh_path_order.proofs.SameTreeLaws.{some_none, none_some}
 
 -- each task is that the left tree is at least the right one
 abbrev pub AllAtLeast : List Task → Type 0

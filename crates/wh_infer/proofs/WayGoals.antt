@@ -15,7 +15,7 @@ use Rattle.wh_order.specs.Claims.{task, IsGoalOver, AreGoalsOver, MayStandFor, A
 use Rattle.wh_infer.specs.Ways.{strict_part, sharpened, tasks_by}
 use Rattle.wh_infer.specs.Bests.{AreGoalsBy}
 use Rattle.wh_infer.proofs.TaskLemmas.{claimed}
-use Rattle.wh_infer.proofs.BestLemmas.{nothing_asked}
+use Rattle.wh_order.proofs.JudgedLemmas.{nothing_asked}
 
 -- the goal with the stricter claim
 abbrev pub stricter : Goal → Goal

@@ -1,6 +1,6 @@
 -- Judging a certificate byte by byte.
 use Rattle.std.proofs.Common.{◌≡◌, ℕ, List, [], ◌∷◌, ◌++◌, length, take, Option, Some, None, Result, Ok, Err, IfOk, OnOk, refl, sym, subst, ◌∙◌, arith, append_assoc}
-use Rattle.std.proofs.lemmas.List.{append-nil}
+use Rattle.std.proofs.lemmas.List.{append-nil, take_all}
 use Rattle.std.specs.Option.{option_map, option_to_list}
 use Rattle.wh_system.specs.Systems.{SystemData}
 use Rattle.wh_pairs.specs.PairData.{PairData}
@@ -16,7 +16,6 @@ use Rattle.wh_types.specs.declared.want.Or.TheVariants.{NoMemory, Because}
 use Rattle.wh_cert.specs.declared.certificate.CertSyntax.{CertSyntax}
 use Rattle.wh_cert.specs.declared.item.Item as code
 use Rattle.wh_cert.specs.Said.{said_item}
-use Rattle.std.proofs.lemmas.List.{take_all}
 use Rattle.wh_cert_text.specs.declared.cert_reader.CertReader.{CertReader}
 use Rattle.wh_walk.specs.declared.walk.Walk.{Walk}
 use Rattle.wh_walk.specs.Walking.{Accepts}
@@ -112,7 +111,7 @@ yes_weighed d ps (yes version ranks pairs nodes) a h = (tt, h.accepted.0, h.smal
 yes_weighed d ps (no raw steps at puts) a h = absurd h.accepted
 
 -- no condition is named like a text that is none
-never_syntax : (d : SystemData) (r : Row) (at : ℕ) → Syntax at ≡ named_row d r → ⊥
+pub never_syntax : (d : SystemData) (r : Row) (at : ℕ) → Syntax at ≡ named_row d r → ⊥
 never_syntax d row.RankCount at e = absurd cc
 never_syntax d (row.Inaccessible r z) at e = absurd cc
 never_syntax d (row.PairCount n) at e = absurd cc

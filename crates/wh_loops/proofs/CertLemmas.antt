@@ -41,7 +41,8 @@ use Rattle.wh_loops.proofs.StartLemmas.{start_ready}
 use Rattle.wh_loops.proofs.FillLemmas.{fill, put_shut, holds_kind}
 use Rattle.wh_loops.proofs.TypesKept.{TypesHave, walk_types}
 use Rattle.wh_loops.proofs.SmallTypes.{IsSmallType, start_types, right_types}
-use Rattle.wh_loops.proofs.PlaceLemmas.{AreVariables, variables-up, variables-cons, size_variable, part_path}
+use Rattle.wh_loops.proofs.PlaceLemmas.{part_path}
+use Rattle.wh_no.proofs.Reaching.{size-opened, variables-cons, variables-up, AreVariables, size_variable}
 use Rattle.wh_loops.proofs.PartLimits.{NumbersBelow, AllNumbersBelow, IsWithin, opened_part_within, value_within}
 use Rattle.wh_loops.proofs.CertRaw.{AreNamed, small_type_fits, term_fits}
 
@@ -74,10 +75,6 @@ mutual
   sizes-acts : (σ : ℕ → Tm) (ts : Tms) → AreVariables σ → sizes (acts σ free ts) ≡ sizes ts
   sizes-acts σ none h = refl
   sizes-acts σ (more t ts) h = ap₂ (λ n m. n + m) (size-act σ t h) (sizes-acts σ ts h)
-
-size-opened : (x : ℕ) (a : Ty) (t : Tm) → size (opened (free x a) t) ≡ size t
-unfolding opened
-size-opened x a t = size-act (cons (free x a) bound) t (variables-cons x a)
 
 step_rule : {rules : List RewriteRule} {k : Option ℕ} {path : List ℕ} {t u : Tm} → length rules ≤ 1024 → StepAt rules k path t u → RuleFits k
 step_rule few (beta_here e) = tt

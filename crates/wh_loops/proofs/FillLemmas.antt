@@ -19,6 +19,7 @@ use Rattle.wh_no.specs.Valid.{IsPutOver}
 use Rattle.wh_loops.specs.Found.{IsPutFor}
 use Rattle.wh_loops.specs.declared.meets.Met.{Met}
 use Rattle.wh_loops.specs.Meets.{Holds, HasKinds, IsReady, filled, IsAt, Agrees, IsMeeting, HasNoMeeting, IsFrom, IsOfTable, ArePutsOf, HasUntyped, AreInstance, IsNoInstance}
+use Rattle.wh_no.proofs.InstanceLemmas.{shut_if}
 
 -- values without loose variables may be filled in as they are
 pub fill : (κ : ℕ → Ty) (φ : ℕ → Ty → Tm) (t : Tm) → HasKinds κ t → IsTerm t → ((x : ℕ) (a : Ty) → LooseBelow 0 (φ x a)) → act bound φ t ≡ filled (λ x. φ x (κ x)) t
@@ -31,10 +32,6 @@ fill κ φ (lam a t) h p s = ap (lam a) (act_same up-bound (λ x b. rename_shut 
 fill κ φ (app t u) h p s = ap₂ app (fill κ φ t h.0 p.0 s) (fill κ φ u h.1 p.1 s)
 
 -- what is put is shut and typed
-
-shut_if : (c : Bool) (t u : Tm) → LooseBelow 0 t → LooseBelow 0 u → LooseBelow 0 (if c then t else u)
-shut_if true t u p q = p
-shut_if false t u p q = q
 
 pub put_shut : (S : Symbols) (puts : List Put) → All (IsPutOver S) puts → (x : ℕ) (a : Ty) → LooseBelow 0 (put_for puts x a)
 put_shut S [] h x a = tt

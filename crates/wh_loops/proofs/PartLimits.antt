@@ -6,9 +6,8 @@ use Rattle.wh_terms.specs.Tree.{Tm, bound, free, fun, meta, lam, app, Tms, none,
 use Rattle.wh_terms.specs.Measures.{height, heights, risen, SpinesWithin, AllSpinesWithin}
 use Rattle.wh_terms.specs.Substitution.{rename, up, up_free, act, acts, cons, opened}
 use Rattle.wh_terms.specs.Places.{opened_part_at}
-use Rattle.wh_no.proofs.Reaching.{Reaches, at_end, in_body, in_function, in_argument, reaches}
+use Rattle.wh_no.proofs.Reaching.{Reaches, at_end, in_body, in_function, in_argument, reaches, variables-cons, variables-up, AreVariables, IsVariable}
 use Rattle.wh_loops.specs.Meets.{Holds, filled}
-use Rattle.wh_loops.proofs.PlaceLemmas.{IsVariable, AreVariables, variables-up, variables-cons}
 use Rattle.wh_loops.proofs.TypesKept.{TypesHave, types-opened}
 use Rattle.wh_loops.proofs.SmallTypes.{IsSmallType}
 

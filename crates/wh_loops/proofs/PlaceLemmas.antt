@@ -14,12 +14,10 @@ use Rattle.wh_terms.proofs.TypingLaws.{some_one}
 use Rattle.wh_no.specs.Claim.{Put, put_for}
 use Rattle.wh_no.specs.Unused.{first_unused}
 use Rattle.wh_no.specs.Valid.{HoldsInstance}
-use Rattle.wh_no.proofs.Reaching.{Reaches, at_end, in_body, in_function, in_argument, reaches}
+use Rattle.wh_no.proofs.Reaching.{variables-cons, variables-up, AreVariables, size_variable, variable-rename, IsVariable, Reaches, at_end, in_body, in_function, in_argument, reaches}
 use Rattle.wh_loops.specs.Space.{HoldsInstanceOf}
 use Rattle.wh_loops.specs.Meets.{IsHeaded, SameHead, HasNoneAt, HasNoneBelow, HasNoneFrom}
-
-no_some : {A : Type 0} {a : A} → None ≡ Some a → ⊥
-no_some e = absurd (cc)
+use Rattle.wh_no.proofs.NumberLemmas.{no_some}
 
 -- a child is there, or is not
 
@@ -89,11 +87,6 @@ part_facts (d ∷ p) t r e =
 
 -- variables for variables keep symbols with arguments
 
-abbrev pub IsVariable : Tm → Type 0
-IsVariable (bound i) = Unit {0}
-IsVariable (free x a) = Unit {0}
-IsVariable _ = ⊥
-
 variable-leaf : (t : Tm) → IsVariable t → IsLeaf t
 variable-leaf (bound i) v = tt
 variable-leaf (free x a) v = tt
@@ -119,36 +112,6 @@ variable-headless (bound j) t v h = h
 variable-headless (free y b) t v h = h
 variable-headless (meta y us) t v h = h
 variable-headless (lam b s) t v h = h
-
-abbrev pub AreVariables : (ℕ → Tm) → Type 0
-AreVariables σ = (i : ℕ) → IsVariable (σ i)
-
-pub size_variable : (t : Tm) → IsVariable t → size t ≡ 1
-size_variable (bound i) v = refl
-size_variable (free x a) v = refl
-size_variable (fun f) v = absurd v
-size_variable (meta z ts) v = absurd v
-size_variable (lam a t) v = absurd v
-size_variable (app t u) v = absurd v
-
-variable-rename : (t : Tm) → IsVariable t → IsVariable (rename suc t)
-unfolding rename
-variable-rename (bound i) v = tt
-variable-rename (free x a) v = tt
-variable-rename (fun f) v = v
-variable-rename (meta z ts) v = v
-variable-rename (lam a t) v = v
-variable-rename (app t u) v = v
-
-pub variables-up : (σ : ℕ → Tm) → AreVariables σ → AreVariables (up σ)
-unfolding up
-variables-up σ h zero = tt
-variables-up σ h (suc i) = variable-rename (σ i) (h i)
-
-pub variables-cons : (x : ℕ) (a : Ty) → AreVariables (cons (free x a) bound)
-unfolding cons
-variables-cons x a zero = tt
-variables-cons x a (suc i) = tt
 
 head-act : (σ : ℕ → Tm) (s t : Tm) → AreVariables σ → SameHead s (act σ free t) → SameHead s t
 unfolding act

@@ -24,10 +24,10 @@ use Rattle.wh_pairs.proofs.MemberLemmas.{none_there, head_or_behind}
 use Rattle.wh_pairs.proofs.SubsumptionLaws.{left-member}
 use Rattle.wh_calls.proofs.CandidateValues.{IsTypedIn, rule_call}
 use Rattle.wh_calls.proofs.NeedLaws.{rule_need}
-use Rattle.wh_calls.proofs.Puts.{arrows}
+use Rattle.wh_extended.specs.Kinds.{arrows}
 use Rattle.wh_calls.proofs.Served.{IsOfCall, candidate_of_call}
 use Rattle.wh_calls.proofs.SpineLaws.{symbol-spine, count-arguments}
-use Rattle.wh_calls.proofs.TypeLists.{arguments-arrows, typed_length, typed_spine-arguments}
+use Rattle.wh_extended.proofs.TypeLists.{arguments-arrows, typed_length, typed_spine-arguments}
 use Rattle.wh_hopoly.specs.Evaluation.{type_at}
 use Rattle.wh_polycheck.specs.Marks.{Mark, marked_types, HasMark, HasMarkedSides}
 use Rattle.wh_polycheck.proofs.MoreInterpretations.{slice_get_front, slice_get_behind}

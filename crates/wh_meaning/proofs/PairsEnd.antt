@@ -23,12 +23,12 @@ use Rattle.wh_meaning.proofs.TermValues.{at_is}
 use Rattle.wh_meaning.proofs.CallValues.{call_reduct_le, covered_call_le, strictly_covered_call_lt}
 use Rattle.wh_meaning.proofs.Measures.{ends_numbered}
 
-occurs_left : (z : ℕ) (ts us : List Tm) → OccursIn z (tms_of ts) → OccursIn z (tms_of (ts ++ us))
+pub occurs_left : (z : ℕ) (ts us : List Tm) → OccursIn z (tms_of ts) → OccursIn z (tms_of (ts ++ us))
 occurs_left z [] us o = absurd o
 occurs_left z (t ∷ ts) us (inl o) = inl o
 occurs_left z (t ∷ ts) us (inr o) = inr (occurs_left z ts us o)
 
-occurs_right : (z : ℕ) (ts us : List Tm) → OccursIn z (tms_of us) → OccursIn z (tms_of (ts ++ us))
+pub occurs_right : (z : ℕ) (ts us : List Tm) → OccursIn z (tms_of us) → OccursIn z (tms_of (ts ++ us))
 occurs_right z [] us o = o
 occurs_right z (t ∷ ts) us o = inr (occurs_right z ts us o)
 

@@ -30,7 +30,7 @@ pub filled_app : (φ : ℕ → Ty → Tm) (t u : Tm) → act bound φ (app t u) 
 unfolding act
 filled_app φ t u = refl
 
-shut_if : (c : Bool) (t u : Tm) → LooseBelow 0 t → LooseBelow 0 u → LooseBelow 0 (if c then t else u)
+pub shut_if : (c : Bool) (t u : Tm) → LooseBelow 0 t → LooseBelow 0 u → LooseBelow 0 (if c then t else u)
 shut_if true t u p q = p
 shut_if false t u p q = q
 

@@ -12,7 +12,7 @@ use Rattle.wh_no.specs.Unused.{first_unused}
 abbrev IsLow : Option Tm → Type 0
 IsLow o = (t : Tm) → o ≡ Some t → first_unused t ≤ 65536
 
-no_some : {A : Type 0} {a : A} → None ≡ Some a → ⊥
+pub no_some : {A : Type 0} {a : A} → None ≡ Some a → ⊥
 no_some e = absurd (cc)
 
 low : (t : Tm) → first_unused t ≤ 65536 → IsLow (Some t)

@@ -39,15 +39,15 @@ reaches (suc (suc d) ∷ path) x (meta z ts) w e = absurd (no_part e)
 
 -- variables for variables keep the size
 
-abbrev IsVariable : Tm → Type 0
+abbrev pub IsVariable : Tm → Type 0
 IsVariable (bound i) = Unit {0}
 IsVariable (free x a) = Unit {0}
 IsVariable _ = ⊥
 
-abbrev AreVariables : (ℕ → Tm) → Type 0
+abbrev pub AreVariables : (ℕ → Tm) → Type 0
 AreVariables σ = (i : ℕ) → IsVariable (σ i)
 
-size_variable : (t : Tm) → IsVariable t → size t ≡ 1
+pub size_variable : (t : Tm) → IsVariable t → size t ≡ 1
 size_variable (bound i) v = refl
 size_variable (free x a) v = refl
 size_variable (fun f) v = absurd v
@@ -55,7 +55,7 @@ size_variable (meta z ts) v = absurd v
 size_variable (lam a t) v = absurd v
 size_variable (app t u) v = absurd v
 
-variable-rename : (t : Tm) → IsVariable t → IsVariable (rename suc t)
+pub variable-rename : (t : Tm) → IsVariable t → IsVariable (rename suc t)
 unfolding rename
 variable-rename (bound i) v = tt
 variable-rename (free x a) v = tt
@@ -64,12 +64,12 @@ variable-rename (meta z ts) v = v
 variable-rename (lam a t) v = v
 variable-rename (app t u) v = v
 
-variables-up : (σ : ℕ → Tm) → AreVariables σ → AreVariables (up σ)
+pub variables-up : (σ : ℕ → Tm) → AreVariables σ → AreVariables (up σ)
 unfolding up
 variables-up σ h zero = tt
 variables-up σ h (suc i) = variable-rename (σ i) (h i)
 
-variables-cons : (x : ℕ) (a : Ty) → AreVariables (cons (free x a) bound)
+pub variables-cons : (x : ℕ) (a : Ty) → AreVariables (cons (free x a) bound)
 unfolding cons
 variables-cons x a zero = tt
 variables-cons x a (suc i) = tt
@@ -89,7 +89,7 @@ mutual
   sizes-acts σ none h = refl
   sizes-acts σ (more t ts) h = ap₂ (λ n m. n + m) (size-act σ t h) (sizes-acts σ ts h)
 
-size-opened : (x : ℕ) (a : Ty) (t : Tm) → size (opened (free x a) t) ≡ size t
+pub size-opened : (x : ℕ) (a : Ty) (t : Tm) → size (opened (free x a) t) ≡ size t
 unfolding opened
 size-opened x a t = size-act (cons (free x a) bound) t (variables-cons x a)
 

@@ -21,13 +21,7 @@ use Rattle.wh_nodes.proofs.CallLaws.{calls_fewer, no_pair_calls}
 use Rattle.wh_nodes.proofs.AloneLaws.{alone_ends}
 use Rattle.wh_nodes.proofs.BlockLaws.{blocks_end}
 use Rattle.wh_nodes.proofs.SubtermLaws.{subterm_ends}
-
--- steps pass to the function and to the argument of an application
-steps_pass : (rules : List RewriteRule) → PassesToParts (Step rules)
-steps_pass rules = record {
-  function = λ t t' u s. in_function s;
-  argument = λ t u u' s. in_argument s;
-}
+use Rattle.wh_usable_calls.proofs.BoundLaws.{steps_pass}
 
 -- the calls of each set end
 abbrev pub AllEnd : Symbols → List RewriteRule → List PairData → List (List ℕ) → Type 0

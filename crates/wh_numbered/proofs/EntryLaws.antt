@@ -110,7 +110,7 @@ place_before a xs i done before within some =
 
 -- the pair at a place
 module _ (xs : List Pair) (i : ℕ) (x : Pair) (within : i < length xs) (is : x ≡ get_or xs i x) where
-  pub left_parts : (us : List Term) → us ≡ x.left → (s : Tm) → IsPartOfOne (map tm us) s → IsPartOfSides (map pair_data xs) s
+  pub left_parts : (us : List Term) → us ≡ x.left.value → (s : Tm) → IsPartOfOne (map tm us) s → IsPartOfSides (map pair_data xs) s
   left_parts us e s part = (pair_data x, image_there pair_data xs i x within is, inl (subst (λ vs. IsPartOfOne (map tm vs) s) e part))
 
   pub right_parts : (us : List Term) → us ≡ x.right → (s : Tm) → IsPartOfOne (map tm us) s → IsPartOfSides (map pair_data xs) s
@@ -119,7 +119,7 @@ module _ (xs : List Pair) (i : ℕ) (x : Pair) (within : i < length xs) (is : x 
   the_pair : (p : PairData) → slice_get (map pair_data xs) i ≡ Some p → pair_data x ≡ p
   the_pair p at = some_one (read_map pair_data xs i x within is) at
 
-pub left_made : (b : List Tm) (xs : List Pair) (i : ℕ) (x : Pair) → i < length xs → x ≡ get_or xs i x → (us : List Term) → us ≡ x.left → (ns : List ℕ)
+pub left_made : (b : List Tm) (xs : List Pair) (i : ℕ) (x : Pair) → i < length xs → x ≡ get_or xs i x → (us : List Term) → us ≡ x.left.value → (ns : List ℕ)
     → AreNumbersOf b ns (map tm us) → (p : PairData) → slice_get (map pair_data xs) i ≡ Some p → AreNumbersOf b ns p.left
 left_made b xs i x within is us e ns h p at =
     subst (λ (q : PairData). AreNumbersOf b ns q.left) (the_pair xs i x within is p at) (subst (λ vs. AreNumbersOf b ns (map tm vs)) e h)
@@ -131,7 +131,7 @@ pub entry_made : (b d : List Tm) (P : Tm → Type 0) (xs : List Pair) (i : ℕ) 
 entry_made b d P xs i x within is ns ms us e j left right p at =
     subst (AreSidesOf d (record { left_fun = x.left_fun; left = ns; right_fun = x.right_fun; right = ms })) (the_pair xs i x within is p at) (record {
       left_fun = refl;
-      left = numbers_kept b d P ns (map tm x.left) j (left (pair_data x) (read_map pair_data xs i x within is));
+      left = numbers_kept b d P ns (map tm x.left.value) j (left (pair_data x) (read_map pair_data xs i x within is));
       right_fun = refl;
       right = subst (λ vs. AreNumbersOf d ms (map tm vs)) e right;
     })

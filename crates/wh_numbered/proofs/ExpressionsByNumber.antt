@@ -11,6 +11,7 @@ use Rattle.wh_intern.specs.Parts.{PartTree, lam}
 use Rattle.wh_intern.specs.Trees.{tree_at, trees_at, tree_of}
 use Rattle.wh_intern.proofs.AddLaws.{trees_at_push}
 use Rattle.wh_numbered.specs.SidesInScope.{call_in}
+use Rattle.wh_polycheck.proofs.SideWalk.{applied_last}
 
 -- an abstraction
 pub lam_told : (ts : List Tm) (k : ℕ) (p : PartTree) (a b : Ty) (m n s : ℕ) (e : Expression) → tree_at ts k ≡ tree_of ts p → p ≡ lam a m
@@ -18,11 +19,6 @@ pub lam_told : (ts : List Tm) (k : ℕ) (p : PartTree) (a b : Ty) (m n s : ℕ) 
 lam_told ts k p a b m n s e says is kind longer told =
     let next : s ≡ suc n = longer ∙ add-one n in
     ap₂ lambda kind (told ∙ ap (λ i. side i (tree_at ts m)) next) ∙ sym (ap (side n) (says ∙ ap (tree_of ts) is))
-
-applied_last : (n : ℕ) (e : Expression) (ts : Tms) (t : Tm)
-    → side_applied n e (join ts (more t none)) ≡ apply (side_applied n e ts) (side n t)
-applied_last n e none t = refl
-applied_last n e (more u us) t = applied_last n (apply e (side n u)) us t
 
 -- one number more
 pub applied_next : (n : ℕ) (e : Expression) (ts : List Tm) (ns : List ℕ) (i : ℕ) (before after d : Expression)

@@ -25,7 +25,8 @@ pub fn first_not_decreasing(
     requires set { All (λ n. n < length sides.now) set.now }
     requires increasing { IsIncreasing set.now }
     requires args { IsIncreasing (chosen_symbols (map chosen args.now)) }
-    ensures { MatchOption result ((n : ℕ) → Contains set.now n → IsDecreasing (map (as_pair (trees table.now)) sides.now) (map chosen args.now) drop.now n)
+    ensures { MatchOption result ((n : ℕ) → Contains set.now n
+        → IsDecreasing (map (as_pair (trees table.now)) sides.now) (map chosen args.now) drop.now n)
         (λ n. Contains set.now n × IsNotDecreasing (map (as_pair (trees table.now)) sides.now) (map chosen args.now) drop.now n
         × ((m : ℕ) → m < n → Contains set.now m
         → IsNotDecreasing (map (as_pair (trees table.now)) sides.now) (map chosen args.now) drop.now m → ⊥)) }

@@ -16,7 +16,7 @@ use Rattle.wh_order.specs.Claims.{task, IsGoalOver, AreGoalsOver, moved, Judged}
 
 -- an inference of the program, by its letter, its place and its parts
 
-parts_row-items : (n : _) (r : Row_of-Inference n) → parts_row r ≡ inferences (items-the_row-Inference n r)
+pub parts_row-items : (n : _) (r : Row_of-Inference n) → parts_row r ≡ inferences (items-the_row-Inference n r)
 parts_row-items n end_of-Inference = refl
 parts_row-items n (more_of-Inference i rest) = ap (λ (is : m.Inferences). more_parts (inference i) is) (parts_row-items _ rest)
 

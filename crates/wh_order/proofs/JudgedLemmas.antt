@@ -12,13 +12,11 @@ use Rattle.wh_order.specs.declared.goals.Goal.{Goal}
 use Rattle.wh_order.specs.TreeParts.{World}
 use Rattle.wh_order.specs.Claims.{task, IsGoalOver, AreGoalsOver, StandFor, MayStandFor, AreGoals, moved, Judged}
 use Rattle.wh_order.proofs.CheckLemmas.{inference_is, count_is, bad_alone, bad_count, by_parts, judged_whole, judged_bad}
+use Rattle.wh_path_order.proofs.SameTreeLaws.{some_none}
 
-nothing_asked : (n : ℕ) (w : World) (o : Option (List Task)) → MayStandFor n w None o → o ≡ None
+pub nothing_asked : (n : ℕ) (w : World) (o : Option (List Task)) → MayStandFor n w None o → o ≡ None
 nothing_asked n w None h = refl
 nothing_asked n w (Some ks) h = absurd h
-
-some_none : {A : Type 0} {a : A} → Some a ≡ None → ⊥
-some_none e = cc
 
 asked : (n : ℕ) (w : World) (gs : Vec Goal) (o : Option (List Task)) → MayStandFor n w (Some gs) o → (ks : List Task) × (o ≡ Some ks) × StandFor n w gs.items ks
 asked n w gs None h = absurd (some_none h)

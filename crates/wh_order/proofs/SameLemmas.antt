@@ -16,6 +16,7 @@ use Rattle.wh_order.specs.Trees.{tree, row, trees}
 use Rattle.wh_order.specs.TreeParts.{World, Over, AllOver, HasArguments, body_in, IsBody, IsMeta, IsMetaApplication, IsOtherSpine, IsApplication}
 use Rattle.wh_order.proofs.TreeLemmas.{tree_of_meta, tree_of_sym, tree_of_mark, over_of_meta, over_of_sym, all_get}
 use Rattle.wh_order.proofs.PartLemmas.{applied, some_app}
+use Rattle.wh_path_order.proofs.SameTreeLaws.{some_none}
 
 pub never : {P : Type 0} → (P → ⊥) → IsTrue false ↔ P
 never refuted = (λ e. absurd (cc), λ p. absurd (refuted p))
@@ -126,9 +127,6 @@ lam_type e = cc
 
 lam_body : {a b : Ty} {t u : Tm} → lam a t ≡ lam b u → t ≡ u
 lam_body e = cc
-
-some_none : {A : Type 0} {a : A} → Some a ≡ None → ⊥
-some_none e = cc
 
 lam_is : (a : Tree) (k : SimpleType) (p : Box Tree Global) → a ≡ Lam k p → (n : ℕ) → tree n a ≡ lam (ty k) (tree n p.value)
 lam_is a k p e n = ap (tree n) e

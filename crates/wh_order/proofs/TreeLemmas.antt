@@ -17,7 +17,7 @@ row-items : (n : ℕ) (m : _) (r : Row_of-Tree m) → row n r ≡ trees n (items
 row-items n m end_of-Tree = refl
 row-items n m (more_of-Tree t rest) = ap (λ (ts : List Tm). tree n t ∷ ts) (row-items n _ rest)
 
-abbrev row_of : Tree → (m : Count) × Row_of-Tree m
+abbrev pub row_of : Tree → (m : Count) × Row_of-Tree m
 row_of (Meta' z a _ r) = (_, r)
 row_of (Sym' f _ r) = (_, r)
 row_of (Mark' f _ r) = (_, r)

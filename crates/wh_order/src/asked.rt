@@ -135,7 +135,8 @@ fn by_bodies<'a>(
     right: &'a Tree,
     place: u32,
 ) -> Result<Option<Goals<'a>>, AllocError>
-    ensures { IfOk result (λ r. (n : ℕ) (prec : ℕ → ℕ) (is : Inferences) → AreGreaterGoals n prec next left.now right.now bodies place is r) }
+    ensures { IfOk result (λ r. (n : ℕ) (prec : ℕ → ℕ) (is : Inferences)
+        → AreGreaterGoals n prec next left.now right.now bodies place is r) }
 {
     let Some((kind, body)) = body_of(left) else {
         return Ok(None);
@@ -167,7 +168,8 @@ fn by_arguments<'a>(
     place: u32,
     parts: &[Inference],
 ) -> Result<Option<Goals<'a>>, AllocError>
-    ensures { IfOk result (λ r. (n : ℕ) (prec : ℕ → ℕ) → AreGreaterGoals n prec next left.now right.now arguments place (s.inferences parts.now) r) }
+    ensures { IfOk result (λ r. (n : ℕ) (prec : ℕ → ℕ)
+        → AreGreaterGoals n prec next left.now right.now arguments place (s.inferences parts.now) r) }
 {
     let Some((head, items)) = application_of(left) else {
         return Ok(None);

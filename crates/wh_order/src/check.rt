@@ -41,9 +41,11 @@ pub fn check_inference(
     inference: &Inference,
 ) -> Result<(), Or<BadInference>>
     ensures { MatchOr result
-        (λ _. (S : Symbols) (rules : List RewriteRule) (M : List Declared) → AreSides S rules (filtering_data filters.now) M left.now right.now
+        (λ _. (S : Symbols) (rules : List RewriteRule) (M : List Declared)
+        → AreSides S rules (filtering_data filters.now) M left.now right.now
         → tree_verdict S rules (filtering_data filters.now) M left.now right.now inference.now ≡ None)
-        (λ e. (S : Symbols) (rules : List RewriteRule) (M : List Declared) → AreSides S rules (filtering_data filters.now) M left.now right.now
+        (λ e. (S : Symbols) (rules : List RewriteRule) (M : List Declared)
+        → AreSides S rules (filtering_data filters.now) M left.now right.now
         → tree_verdict S rules (filtering_data filters.now) M left.now right.now inference.now ≡ Some e.at) }
 {
     let goal = Goal {
@@ -102,7 +104,8 @@ fn check_goals(
 ) -> Result<u32, Or<BadInference>>
     requires { length goals.now ≡ length parts.now }
     ensures { (w : World) → AreGoalsOver (length (filtering_data filters.now).symbols) w goals.now → Judged number_of_bad at
-        (verdicts w.symbols (order_of (filtering_data filters.now)) w.metas (map (task (length (filtering_data filters.now).symbols)) goals.now)
+        (verdicts w.symbols (order_of (filtering_data filters.now))
+        w.metas (map (task (length (filtering_data filters.now).symbols)) goals.now)
         (s.inferences parts.now)) (all_entries (s.inferences parts.now)) result }
 {
     let mut next = at;

@@ -58,7 +58,8 @@ pub fn filtered_pair(
     requires typed { HasTypedCalls (system_data system.now).symbols (system_data system.now).rules (pair_data pair.now) }
     ensures { MatchOr result
         (λ u. IsNarrow (extended_pair_side (system_data system.now).symbols (pair_data pair.now) right)
-        × IsTreeOfCall (system_data system.now).symbols (system_data system.now).rules (filtering_data filters.now) (pair_data pair.now) right u)
+        × IsTreeOfCall (system_data system.now).symbols (system_data system.now).rules (filtering_data filters.now)
+        (pair_data pair.now) right u)
         (λ _. greatest_size < size (extended_pair_side (system_data system.now).symbols (pair_data pair.now) right)) }
 {
     let items = extended_arguments(alloc, system, pair, right)?;

@@ -97,7 +97,8 @@ pub fn push_pairs<'a>(
     rights: &'a [Tree],
 ) -> Result<(), AllocError>
     requires { length lefts.now ≡ length rights.now }
-    ensures { OnOk result ((n : ℕ) (w : World) (l : List Task) → AllOver n w lefts.now → AllOver n w rights.now → StandFor n w goals.old.items l
+    ensures { OnOk result ((n : ℕ) (w : World) (l : List Task) → AllOver n w lefts.now → AllOver n w rights.now
+        → StandFor n w goals.old.items l
         → StandFor n w goals.new.items (l ++ pairwise next (trees n lefts.now) (trees n rights.now))) }
 {
     for (i, left) in lefts.iter().enumerate() {

@@ -2,7 +2,7 @@
 
 ghost use Rattle.std.specs.Prelude.{ℕ, ◌≡◌, ◌↔◌, [], IfOk, IsTrue, OnOk, length};
 ghost use Rattle.wh_types.specs.Erase.{ty};
-ghost use Rattle.wh_types.specs.Ty.{◌⇒◌};
+ghost use Rattle.wh_types.specs.Ty.{◌⇒◌, sort};
 ghost use Rattle.wh_terms.specs.Scope.{scope};
 ghost use Rattle.wh_extended.specs.Kinds.{kind, type_at};
 ghost use Rattle.wh_order.specs.Trees.{spine_type, tree};
@@ -17,9 +17,43 @@ pub fn have_one_type(alloc: Global, left: &Tree, right: &Tree) -> Result<bool, A
     ensures { IfOk result (λ b. (n : ℕ) (w : World) → Over n w left.now → Over n w right.now
         → IsTrue b ↔ (kind w.symbols w.metas [] (tree n left.now) ≡ kind w.symbols w.metas [] (tree n right.now))) }
 {
+    // sorts have collapsed to one, so most trees are of that, and no type has to be made to tell it
+    if are_of_the_sort(left, right) {
+        return Ok(true);
+    }
     let own = kind_of(alloc, left)?;
     let other = kind_of(alloc, right)?;
     Ok(same_type(&own, &other))
+}
+
+// Says true only of two trees of the sort that all sorts have collapsed to.
+fn are_of_the_sort(left: &Tree, right: &Tree) -> bool
+    ensures { IsTrue result → (n : ℕ) (w : World) → Over n w left.now → Over n w right.now
+        → kind w.symbols w.metas [] (tree n left.now) ≡ kind w.symbols w.metas [] (tree n right.now) }
+{
+    is_of_the_sort(left) && is_of_the_sort(right)
+}
+
+// Says true only of a tree of that sort.
+fn is_of_the_sort(t: &Tree) -> bool
+    ensures { IsTrue result → (n : ℕ) (w : World) → Over n w t.now → sort 0 ≡ kind w.symbols w.metas [] (tree n t.now) }
+{
+    match t {
+        Tree::Sym(_, _) => true,
+        Tree::Mark(_, _) => true,
+        Tree::Meta(_, kind, _) => is_the_sort(kind),
+        _ => false,
+    }
+}
+
+// Whether the type is that sort.
+fn is_the_sort(kind: &SimpleType) -> bool
+    ensures { IsTrue result → sort 0 ≡ ty kind.now }
+{
+    match kind {
+        SimpleType::Sort(sort) => *sort == 0,
+        SimpleType::Arrow(_, _) => false,
+    }
 }
 
 // The type of a tree without loose variables.
@@ -36,7 +70,8 @@ fn kind_under<'a>(
     binders: &mut Vec<&'a SimpleType>,
     t: &'a Tree,
 ) -> Result<SimpleType, AllocError>
-    ensures typed { IfOk result (λ a. (n : ℕ) (w : World) → Over n w t.now → ty a ≡ kind w.symbols w.metas (scope binders.old.items) (tree n t.now)) }
+    ensures typed { IfOk result (λ a. (n : ℕ) (w : World) → Over n w t.now
+        → ty a ≡ kind w.symbols w.metas (scope binders.old.items) (tree n t.now)) }
     ensures kept { OnOk result (binders.new.items ≡ binders.old.items) }
 {
     match t {

@@ -89,7 +89,8 @@ fn by_lower<'a>(
     place: u32,
 ) -> Result<Option<Goals<'a>>, AllocError>
     ensures { IfOk result (λ r. (f : ℕ) → order_of (filtering_data filters.now) f ≡ high
-        → AreSymbolGoals (length (filtering_data filters.now).symbols) (order_of (filtering_data filters.now)) f from next left.now right.now lower place r) }
+        → AreSymbolGoals (length (filtering_data filters.now).symbols) (order_of (filtering_data filters.now))
+        f from next left.now right.now lower place r) }
 {
     match precedence_of(filters, right) {
         Some(low) => {
@@ -140,7 +141,8 @@ fn by_first_less<'a>(
     place: u32,
 ) -> Result<Option<Goals<'a>>, AllocError>
     ensures { IfOk result (λ r. (f : ℕ) → order_of (filtering_data filters.now) f ≡ high
-        → AreSymbolGoals (length (filtering_data filters.now).symbols) (order_of (filtering_data filters.now)) f from next left.now right.now first_less place r) }
+        → AreSymbolGoals (length (filtering_data filters.now).symbols) (order_of (filtering_data filters.now))
+        f from next left.now right.now first_less place r) }
 {
     match precedence_of(filters, right) {
         Some(low) => {

@@ -34,7 +34,8 @@ fn open_under(
     kind: &SimpleType,
     depth: u32,
 ) -> Result<Tree, AllocError>
-    ensures same { IfOk result (λ r. (n : ℕ) → tree n r ≡ act (ups depth (cons (free number (ty kind.now)) bound)) (ups_free depth free) (tree n t.now)) }
+    ensures same { IfOk result (λ r. (n : ℕ) → tree n r ≡ act (ups depth (cons (free number (ty kind.now)) bound)) (ups_free depth free)
+        (tree n t.now)) }
     ensures over { IfOk result (λ r. (n : ℕ) (w : World) → Over n w t.now → Over n w r) }
     ensures head { IfOk result (λ r. IsHeadTree t.now → IsHeadTree r) }
 {

@@ -92,7 +92,8 @@ fn is_marked(t: &Tree, symbol: u32) -> bool
 /// Whether the two lists stand for the same trees, one by one.
 #[cycle(same)]
 pub fn same_trees(items: &[Tree], others: &[Tree]) -> bool
-    ensures { (n : ℕ) (w : World) → AllOver n w items.now → AllOver n w others.now → IsTrue result ↔ (trees n items.now ≡ trees n others.now) }
+    ensures { (n : ℕ) (w : World) → AllOver n w items.now → AllOver n w others.now
+        → IsTrue result ↔ (trees n items.now ≡ trees n others.now) }
 {
     if items.len() != others.len() {
         return false;

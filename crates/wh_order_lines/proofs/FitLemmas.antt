@@ -33,7 +33,8 @@ use Rattle.wh_ordering.specs.Filterings.{FilteringData, IsProperAsWritten, filte
 use Rattle.wh_ordering.specs.Ordering.{IsGoodRule, IsGoodPair}
 use Rattle.wh_order.specs.TreeSides.{AreFilters}
 use Rattle.wh_order.proofs.FilterLemmas.{type_there, filter_there, symbol_filter, mark_proper}
-use Rattle.wh_infer.proofs.TaskLemmas.{some_none, claimed}
+use Rattle.wh_infer.proofs.TaskLemmas.{claimed}
+use Rattle.wh_path_order.proofs.SameTreeLaws.{some_none}
 use Rattle.wh_order_lines.specs.Oriented.{IsWithin}
 use Rattle.wh_order_lines.proofs.SpineLemmas.{SpinesTo, AllSpinesTo, one_of, arguments_to, count_to, opened_to, sift_to}
 

@@ -8,4 +8,4 @@ mod walks;
 
 pub use laws::{pair_line_fits, rule_line_fits};
 pub use lines::{PairLine, pair_line, rule_line};
-pub use walks::{PairLines, pair_lines, rule_lines};
+pub use walks::{PairLines, lacks_pair_line, lacks_rule_line, pair_lines, rule_lines};

@@ -146,7 +146,8 @@ fn pair_side(
     ensures { IfOk result (λ found. MatchOption found
         (IsNarrow (extended_pair_side (system_data system.now).symbols (pair_data pair.now) right) → ⊥)
         (λ u. IsNarrow (extended_pair_side (system_data system.now).symbols (pair_data pair.now) right)
-        × IsTreeOfCall (system_data system.now).symbols (system_data system.now).rules (filtering_data filters.now) (pair_data pair.now) right u)) }
+        × IsTreeOfCall (system_data system.now).symbols (system_data system.now).rules (filtering_data filters.now)
+        (pair_data pair.now) right u)) }
 {
     match filtered_pair(alloc, system, filters, pair, right) {
         Ok(side) => Ok(Some(side)),

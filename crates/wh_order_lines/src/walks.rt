@@ -1,6 +1,6 @@
 //! Lines for all rules, and for all pairs of a set, under a given order.
 
-ghost use Rattle.std.specs.Prelude.{◌<◌, Contains, map};
+ghost use Rattle.std.specs.Prelude.{◌↔◌, ◌<◌, Contains, IfOk, IsTrue, length, map};
 ghost use Rattle.wh_types.specs.Outcome.{MatchOr};
 ghost use Rattle.wh_pairs.specs.PairData.{PairData};
 ghost use Rattle.wh_reduction.specs.TaskData.{IsTask};
@@ -11,7 +11,7 @@ ghost use Rattle.wh_order.specs.TreeSides.{AreFilters, HasTypedCalls};
 ghost use Rattle.wh_order_lines.specs.OrderWalks.{AreLinesOfPairs, AreRuleLines, IsFailingPair, IsFailingRule};
 
 use crate::lines::{pair_line, rule_line};
-use std::alloc::Global;
+use std::alloc::{AllocError, Global};
 use wh_inference::Inferences;
 use wh_ordering::Filters;
 use wh_reduction::Task;
@@ -73,4 +73,40 @@ pub fn pair_lines<'a>(
         }
     }
     Ok(PairLines { lines, drop })
+}
+
+/// Whether there is no inference for the rule with this place among those that are to be covered.
+pub fn lacks_rule_line<'a>(
+    alloc: Global,
+    task: &Task<'a>,
+    filters: &Filters,
+    place: usize,
+) -> Result<bool, AllocError>
+    requires task { IsTask (task_data task.now) }
+    requires filters { AreFilters (task_data task.now).symbols (task_data task.now).rules (filtering_data filters.now) }
+    requires place { place < length (task_data task.now).covered }
+    ensures { IfOk result (λ lacks. IsTrue lacks ↔ IsFailingRule (task_data task.now) (filtering_data filters.now) place) }
+{
+    let line = rule_line(alloc, task.system, filters, task.covered[place])?;
+    Ok(line.is_none())
+}
+
+/// Whether there is no inference for the pair with this place in the set.
+pub fn lacks_pair_line<'a>(
+    alloc: Global,
+    task: &Task<'a>,
+    filters: &Filters,
+    place: usize,
+) -> Result<bool, AllocError>
+    requires task { IsTask (task_data task.now) }
+    requires filters { AreFilters (task_data task.now).symbols (task_data task.now).rules (filtering_data filters.now) }
+    requires typed { (p : PairData) → Contains (task_data task.now).pairs p
+        → HasTypedCalls (task_data task.now).symbols (task_data task.now).rules p }
+    requires place { place < length (task_data task.now).set }
+    ensures { IfOk result (λ lacks. IsTrue lacks ↔ IsFailingPair (task_data task.now) (filtering_data filters.now) place) }
+{
+    let number = task.set[place];
+    let pair = &task.pairs[number as usize];
+    let line = pair_line(alloc, task.system, filters, pair)?;
+    Ok(line.is_none())
 }

@@ -1,4 +1,4 @@
--- Symbols applied to arguments, one argument after another.
+-- Marked symbols applied to arguments.
 use Rattle.std.proofs.Common.{Box, Global, ◌≡◌, ℕ, zero, suc, ◌+◌, ◌<◌, ◌≤◌, List, [], ◌∷◌, ◌++◌, Result, Ok, Err, IfOk, length, take, get_or, map, refl, ap, sym, ◌∙◌, arith}
 use Rattle.std.specs.declared.alloc.AllocError.{AllocError}
 use Rattle.wh_types.specs.Erase.{ty}
@@ -9,26 +9,6 @@ use Rattle.wh_terms.specs.Typing.{Symbols}
 use Rattle.wh_terms.specs.declared.rule.Signature.{Signature}
 use Rattle.wh_terms.specs.declared.term.Term.{Term}
 use Rattle.wh_extended.specs.ExtendedSides.{marked_number}
-
--- a spine with one more argument
-pub spine_more : (h : Tm) (ts : List Tm) (t : Tm) → spine h (ts ++ t ∷ []) ≡ app (spine h ts) t
-spine_more h [] t = refl
-spine_more h (u ∷ ts) t = spine_more (app h u) ts t
-
--- one more element is taken
-pub take_mapped : {A B : Type 0} (f : A → B) (xs : List A) (i : ℕ) (x : A) → x ≡ get_or xs i x → i < length xs
-    → map f (take (i + 1) xs) ≡ map f (take i xs) ++ f x ∷ []
-take_mapped f [] i x e h = absurd (omega (arith, h))
-take_mapped f (y ∷ xs) zero x e h = let z : 0 + 1 ≡ 1 = omega arith in ap (λ k. map f (take k (y ∷ xs))) z ∙ ap (λ y. f y ∷ []) (sym e)
-take_mapped f (y ∷ xs) (suc i) x e h =
-    let k : suc i + 1 ≡ suc (i + 1) = omega arith in
-    ap (λ k. map f (take k (y ∷ xs))) k ∙ ap (λ l. f y ∷ l) (take_mapped f xs i x e (omega (arith, h)))
-
-pub take_end : {A : Type 0} (xs : List A) (i : ℕ) → length xs ≤ i → take i xs ≡ xs
-take_end [] zero h = refl
-take_end [] (suc i) h = refl
-take_end (x ∷ xs) zero h = absurd (omega (arith, h))
-take_end (x ∷ xs) (suc i) h = ap (λ l. x ∷ l) (take_end xs i (omega (arith, h)))
 
 mapped_length : {A B : Type 0} (f : A → B) (xs : List A) → length (map f xs) ≡ length xs
 mapped_length f [] = refl

@@ -25,7 +25,7 @@ firsts_start b scopes items is n none =
     let e : n ≡ 0 = omega (arith, none) in
     ap (λ l. get_or l n 0) is ∙ ap (λ i. get_or (0 ∷ []) i 0) e ∙ sym (first_zero b (types_in scopes)) ∙ ap (first_bit b (types_in scopes)) (sym e)
 
-map_get : (scopes : List (Vec SimpleType)) (i : ℕ) (d : Vec SimpleType) → i < length scopes → get_or (types_in scopes) i (tys d.items) ≡ tys (get_or scopes i d).items
+pub map_get : (scopes : List (Vec SimpleType)) (i : ℕ) (d : Vec SimpleType) → i < length scopes → get_or (types_in scopes) i (tys d.items) ≡ tys (get_or scopes i d).items
 map_get [] i d within = absurd (omega (arith, within))
 map_get (s ∷ scopes) zero d within = refl
 map_get (s ∷ scopes) (suc i) d within = map_get scopes i d (omega (arith, within))

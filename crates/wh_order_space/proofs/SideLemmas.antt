@@ -25,16 +25,7 @@ use Rattle.wh_demands.specs.Claims.{Holds, IsPossible}
 use Rattle.wh_demands.specs.OrderDemands.{IsOrderDemand}
 use Rattle.wh_demands.proofs.ClaimLemmas.{at_least_holds, greater_holds}
 use Rattle.wh_order_space.specs.Circuited.{IsDemandOfSet, IsDemandOfSome, IsClaimOfRule, IsClaimOfPair, IsSide}
-
-or_left : {a : Bool} (b : Bool) → a ≡ true → (a || b) ≡ true
-or_left b e = ap (λ a. a || b) e
-
-or_right : (a : Bool) {b : Bool} → b ≡ true → (a || b) ≡ true
-or_right true e = refl
-or_right false e = e
-
-both_true : {a b : Bool} → a ≡ true → b ≡ true → (a && b) ≡ true
-both_true e f = ap₂ (λ x y. x && y) e f
+use Rattle.wh_demands.proofs.OrderLemmas.{both_true, or_left, or_right}
 
 -- an oriented rule, and an oriented pair
 rule_holds : (S : Symbols) (rules : List RewriteRule) (D : FilteringData) (r : RewriteRule) → OrientsRule S rules D r

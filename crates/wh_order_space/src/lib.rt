@@ -7,4 +7,5 @@ mod orders;
 mod sides;
 mod spots;
 
+pub use firsts::first_bits;
 pub use orders::{Circuited, orders_by_circuit};

@@ -18,11 +18,11 @@ use std::alloc::{AllocError, Global};
 use wh_demands::{
     Claim, Demand, Spot, both, demand_of, demand_of_filters, demand_of_orders, either,
 };
-use wh_pairs::Pair;
+use wh_pairs::{Pair, call};
 use wh_reduction::Task;
 use wh_sides::{extended_arguments, extended_rule};
 use wh_system::System;
-use wh_terms::{Term, Terms, copy_term};
+use wh_terms::{Term, Terms};
 use wh_types::{Or, counted, sum};
 
 // Claims are followed so deep, and so many of them in all.
@@ -213,16 +213,4 @@ fn marked_call(
 {
     let symbols = counted(system.signature().funs.as_slice().len())?;
     call(alloc, sum(symbols, symbol)?, arguments)
-}
-
-// A symbol applied to arguments.
-fn call(alloc: Global, symbol: u32, arguments: &Terms) -> Result<Box<Term>, AllocError>
-    ensures { IfOk result (λ made. tm made.value ≡ spine (fun symbol) (map tm arguments.now)) }
-{
-    let mut made = Box::new(alloc, Term::Fun(symbol))?;
-    for argument in arguments.as_slice() {
-        let last = Box::new(alloc, copy_term(alloc, argument)?)?;
-        made = Box::new(alloc, Term::App(made, last))?;
-    }
-    Ok(made)
 }

@@ -1,4 +1,4 @@
-mod TypedCalls
+pub mod TypedCalls
 mod GoodLines
 mod NarrowAnswers
 mod ReadAt

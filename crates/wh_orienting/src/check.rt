@@ -20,9 +20,8 @@ use crate::narrow::{check_pairs_narrow, check_rules_narrow};
 use crate::proper::{first_improper, first_improper_mark};
 use crate::strict::check_pairs_strict;
 use std::alloc::Global;
-use wh_covering::sorted;
 use wh_ordering::Filters;
-use wh_pairs::is_bad_drop;
+use wh_pairs::{is_bad_drop, sorted};
 use wh_reduction::Task;
 use wh_types::Or;
 

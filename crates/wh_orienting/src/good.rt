@@ -85,7 +85,8 @@ fn first_bad(
     right: &Tree,
     line: &Inference,
 ) -> Result<(), Or<u32>>
-    ensures { (S : Symbols) (rules : List RewriteRule) (M : List Declared) → AreSides S rules (filtering_data filters.now) M left.now right.now
+    ensures { (S : Symbols) (rules : List RewriteRule) (M : List Declared)
+        → AreSides S rules (filtering_data filters.now) M left.now right.now
         → MatchOr result
         (λ _. tree_verdict S rules (filtering_data filters.now) M left.now right.now line.now ≡ None)
         (λ e. tree_verdict S rules (filtering_data filters.now) M left.now right.now line.now ≡ Some e) }

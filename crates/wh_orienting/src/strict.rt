@@ -12,8 +12,8 @@ ghost use Rattle.wh_orienting.specs.OrderingFaults.{strict_lines};
 ghost use Rattle.wh_orienting.specs.Found.{IsWeakPairOf};
 
 use crate::fault::OrderingFault;
-use wh_covering::is_dropped;
 use wh_inference::{Inference, Letter};
+use wh_pairs::is_dropped;
 use wh_reduction::Task;
 use wh_types::Or;
 

@@ -9,10 +9,10 @@ use Rattle.std.proofs.lemmas.Bool.{cases_eq}
 use Rattle.wh_pairs.specs.Drops.{StandsTwice, HasStray, IsBadDrop}
 use Rattle.wh_pairs.proofs.ByPlace.{contains_at, place_of}
 
-later : (m n : ℕ) (ns : List ℕ) → Contains ns n → Contains (m ∷ ns) n
+pub later : (m n : ℕ) (ns : List ℕ) → Contains ns n → Contains (m ∷ ns) n
 later m n ns found = let at = place_of ns n found in contains_at (m ∷ ns) (suc at.0) n at.1
 
-only_later : (m n k : ℕ) (ns : List ℕ) → (m ≡ n → ⊥) → slice_get (m ∷ ns) k ≡ Some n → Contains ns n
+pub only_later : (m n k : ℕ) (ns : List ℕ) → (m ≡ n → ⊥) → slice_get (m ∷ ns) k ≡ Some n → Contains ns n
 only_later m n zero ns other at = let same : m ≡ n = cc in absurd (other same)
 only_later m n (suc k) ns other at = contains_at ns k n at
 

@@ -1,14 +1,13 @@
 -- Increasing lists of numbers.
-use Rattle.std.proofs.Common.{◌≡◌, ℕ, zero, suc, ◌+◌, ◌<◌, ◌≤◌, inl, inr, List, [], ◌∷◌, length, get_or, Some, Result, Ok, Err, slice_get, Contains, ap, sym, subst, ◌∙◌, add-one, eq-or-lt_of_le, arith}
+use Rattle.std.proofs.Common.{◌≡◌, ℕ, zero, suc, ◌+◌, ◌<◌, ◌≤◌, inl, inr, List, [], ◌∷◌, length, get_or, Some, Result, Ok, Err, slice_get, Contains, ap, sym, subst, ◌∙◌, add-one, eq-or-lt_of_le, arith, true, false}
 use Rattle.std.specs.Result.{is_err}
 use Rattle.std.specs.Ordering.{nat_cmp}
 use Rattle.std.specs.List.Sorted.{IsBinarySearchResult}
-use Rattle.std.proofs.Common.{true, false}
 use Rattle.std.proofs.lemmas.Option.{slice_get_within, get_or_from_slice_get, slice_get-get_or}
 use Rattle.std.proofs.lemmas.List.Sorted.{searched}
 use Rattle.wh_pairs.specs.PairData.{IsIncreasing}
 
-increasing_rest : (n : ℕ) (ns : List ℕ) → IsIncreasing (n ∷ ns) → IsIncreasing ns
+pub increasing_rest : (n : ℕ) (ns : List ℕ) → IsIncreasing (n ∷ ns) → IsIncreasing ns
 increasing_rest n [] up = tt
 increasing_rest n (m ∷ rest) up = up.1
 
@@ -56,7 +55,7 @@ increasing_from_adjacent (n ∷ m ∷ rest) next = (
 )
 
 -- numbers do not fall
-not_falling : (ns : List ℕ) → IsIncreasing ns → (i j : ℕ) → i ≤ j → j < length ns → get_or ns i 0 ≤ get_or ns j 0
+pub not_falling : (ns : List ℕ) → IsIncreasing ns → (i j : ℕ) → i ≤ j → j < length ns → get_or ns i 0 ≤ get_or ns j 0
 not_falling ns up i j le within = elim (eq-or-lt_of_le le) [
   | inl same ↦ omega (arith, ap (λ k. get_or ns k 0) same)
   | inr less ↦ let next = increasing_at ns i j up less within in omega arith

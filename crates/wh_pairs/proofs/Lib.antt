@@ -4,6 +4,7 @@ pub mod Increasing
 pub mod Rows
 pub mod SubsumptionLaws
 pub mod ListLemmas
+pub mod CallLemmas
 pub mod FreedLemmas
 pub mod ConditionLemmas
 pub mod AlikeLemmas

@@ -1,13 +1,13 @@
 -- Laws of subsumption, and of the candidates that are left.
-use Rattle.std.proofs.Common.{◌≡◌, ℕ, List, [], ◌∷◌, ◌++◌, ◌⊎◌, inl, inr, refl, ap, sym, subst, ◌∙◌}
+use Rattle.std.proofs.Common.{◌≡◌, List, [], ◌∷◌, ◌++◌, ◌⊎◌, inl, inr, refl, ap, sym, subst, ◌∙◌}
 use Rattle.std.specs.Prelude.{Contains}
 use Rattle.std.proofs.lemmas.List.Elements.{Contains-append_cases, Contains-append_left, Contains-append_right}
-use Rattle.wh_terms.specs.Tree.{Tm, tms_of}
+use Rattle.wh_terms.specs.Tree.{tms_of}
 use Rattle.wh_terms.specs.Sight.{OccursIn}
 use Rattle.wh_pairs.specs.PairData.{PairData}
 use Rattle.wh_pairs.specs.Conditions.{AreAmong}
 use Rattle.wh_pairs.specs.Subsumption.{EqualSides, IsSubsumed, IsDropped, for_earlier, for_later, AreLeft, none_left, one_dropped, one_kept}
-use Rattle.wh_pairs.specs.Survivors.{with_left, Survive}
+use Rattle.wh_pairs.specs.Survivors.{Survive}
 use Rattle.wh_pairs.proofs.MemberLemmas.{none_there, at_head, behind, head_or_behind}
 
 -- there is one list at most
@@ -43,19 +43,6 @@ subsumed_trans a b c s t = record {
 
 subsumes_back : (a b : PairData) → IsSubsumed a b → AreAmong a.conditions b.conditions → IsSubsumed b a
 subsumes_back a b s few = record { sides = sides_sym a b s.sides; conditions = few }
-
--- subsumption does not look at left sides
-pub subsumed_with_left : (f : ℕ) (ts : List Tm) (a b : PairData) → IsSubsumed a b → IsSubsumed (with_left f ts a) b
-subsumed_with_left f ts a b s = record {
-  sides = record { rule = s.sides.rule; symbol = s.sides.symbol; arguments = s.sides.arguments; types = s.sides.types };
-  conditions = s.conditions;
-}
-
-pub subsumed_by_with_left : (f : ℕ) (ts : List Tm) (a b : PairData) → IsSubsumed a b → IsSubsumed a (with_left f ts b)
-subsumed_by_with_left f ts a b s = record {
-  sides = record { rule = s.sides.rule; symbol = s.sides.symbol; arguments = s.sides.arguments; types = s.sides.types };
-  conditions = s.conditions;
-}
 
 -- more candidates behind
 pub wider : (before after more : List PairData) (c : PairData) → IsDropped before c after → IsDropped before c (after ++ more)
@@ -115,12 +102,6 @@ pub data Thinned (c : PairData) : List PairData → List PairData → Type 0 whe
   thin_none : Thinned c [] []
   thin_out : {ps qs : List PairData} {p : PairData} → IsSubsumed p c → Thinned c ps qs → Thinned c (p ∷ ps) qs
   thin_keep : {ps qs : List PairData} {p : PairData} → (IsSubsumed p c → ⊥) → Thinned c ps qs → Thinned c (p ∷ ps) (p ∷ qs)
-
-pub thinned_with_left : (f : ℕ) (ts : List Tm) (c : PairData) (ps qs : List PairData) → Thinned c ps qs → Thinned (with_left f ts c) ps qs
-thinned_with_left f ts c ps qs thin_none = thin_none
-thinned_with_left f ts c ps qs (thin_out {ps = rest} {p = p} s t) = thin_out (subsumed_by_with_left f ts p c s) (thinned_with_left f ts c rest qs t)
-thinned_with_left f ts c ps qs (thin_keep {ps = rest} {qs = us} {p = p} n t) =
-    thin_keep (λ s. n (subsumed_by_with_left c.left_fun c.left p (with_left f ts c) s)) (thinned_with_left f ts c rest us t)
 
 -- a candidate that none before it subsumes is kept, and drops those that it subsumes
 kept-by-none : (before : List PairData) (c : PairData) → ((s : PairData) → Among before [] s → IsSubsumed c s → ⊥) → IsDropped before c [] → ⊥

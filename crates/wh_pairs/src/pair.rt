@@ -5,6 +5,7 @@ ghost use Rattle.wh_pairs.specs.PairData.{IsIncreasing};
 
 use std::alloc::{AllocError, Global};
 use std::marker::Model;
+use std::rc::Rc;
 use wh_terms::{Metas, Terms};
 use wh_types::List;
 
@@ -32,8 +33,8 @@ pub struct Pair {
     pub metas: Metas,
     /// The symbol that heads the left side.
     pub left_fun: u32,
-    /// The arguments of the left side.
-    pub left: Terms,
+    /// The arguments of the left side, which the pairs of a rule share.
+    pub left: Rc<Terms>,
     /// The symbol that is called.
     pub right_fun: u32,
     /// The arguments of the call, as many as the rules of the symbol have.

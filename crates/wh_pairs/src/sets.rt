@@ -2,6 +2,7 @@
 
 ghost use Rattle.std.specs.Prelude.{◌≡◌, ◌↔◌, ◌<◌, ℕ, All, Contains, IfOk, IsTrue};
 ghost use Rattle.std.specs.List.Sorted.{IsNonDecreasing};
+ghost use Rattle.wh_pairs.specs.PairData.{IsIncreasing};
 ghost use Rattle.wh_pairs.specs.Sets.{IsKept, IsSetOf};
 
 use crate::pair::PairSet;
@@ -63,4 +64,16 @@ pub fn kept(alloc: Global, set: &PairSet, drop: &[u32]) -> Result<PairSet, Alloc
         }
     }
     Ok(rest)
+}
+
+/// Whether each number is above the one before.
+pub fn is_increasing(numbers: &[u32]) -> bool
+    ensures { IsTrue result ↔ IsIncreasing numbers.now }
+{
+    for i in 1..numbers.len() {
+        if numbers[i - 1] >= numbers[i] {
+            return false;
+        }
+    }
+    true
 }

@@ -22,10 +22,10 @@ next_units place i xs t m h e = ap (λ ys. units_at place i (transfers ys)) (dro
     ∙ (let z : suc t ≡ t + 1 = omega arith in subst (λ n. units_at place i (transfers (get_or xs t m ∷ drop (suc t) xs)) ≡ (if place (transfer m) == i then m.amount + units_at place i (transfers (drop n xs)) else units_at place i (transfers (drop n xs)))) z
     (ap (λ n. units_at place i (transfers (n ∷ drop (suc t) xs))) (sym e)))
 
-if_same : (x i a b : ℕ) → x ≡ i → (if x == i then a else b) ≡ a
+pub if_same : (x i a b : ℕ) → x ≡ i → (if x == i then a else b) ≡ a
 if_same x i a b e = grind (arith, e)
 
-if_other : (x i a b : ℕ) → (x ≡ i → ⊥) → (if x == i then a else b) ≡ b
+pub if_other : (x i a b : ℕ) → (x ≡ i → ⊥) → (if x == i then a else b) ≡ b
 if_other x i a b e = grind (arith, e)
 
 units_here : (place : Transfer → ℕ) (i : ℕ) (xs : List Move) (t : ℕ) (m : Move) → t < length xs → m ≡ get_or xs t m → place (transfer m) ≡ i

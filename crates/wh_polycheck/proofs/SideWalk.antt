@@ -11,7 +11,7 @@ use Rattle.wh_polycheck.specs.Sides.{side, side_applied}
 pub side_of_meta : (n : ℕ) (t : Term) (z : ℕ) (ts : List Term) → t ≡ Meta z ts → side n (tm t) ≡ side_applied n (var z) (tms ts)
 side_of_meta n t z ts e = ap (side n) (tm_of_meta t z ts e)
 
-applied_last : (n : ℕ) (e : Expression) (ts : Tms) (t : Tm)
+pub applied_last : (n : ℕ) (e : Expression) (ts : Tms) (t : Tm)
     → side_applied n e (join ts (more t none)) ≡ apply (side_applied n e ts) (side n t)
 applied_last n e none t = refl
 applied_last n e (more u us) t = applied_last n (apply e (side n u)) us t

@@ -1,7 +1,7 @@
 //! What the lines `fun` and `mark` of a node of a path order say: argument filters of all symbols, and of the marked symbols of a set.
-//! The names in them are compared in order, and the filters copied.
+//! The names in them are compared in order, and the filters copied. Such lines are also made here.
 
-ghost use Rattle.std.specs.Prelude.{◌≡◌, ◌<◌, All, IfOk, List, MatchOption, length, map};
+ghost use Rattle.std.specs.Prelude.{◌≡◌, ◌<◌, All, IfOk, List, MatchOption, Some, length, map, slice_get};
 ghost use Rattle.wh_pairs.specs.Marked.{AreMarked};
 ghost use Rattle.wh_pairs.specs.Views.{pairs_data};
 ghost use Rattle.wh_system.specs.SystemView.{system_data};
@@ -14,10 +14,11 @@ ghost use Rattle.wh_proof.specs.Looked.{SayFilterings, SayFilters, SayMarkFilter
 
 use crate::named::{name_all, name_these};
 use std::alloc::{AllocError, Global};
-use wh_cert::{Filter, NamedFilter};
+use wh_cert::{Filter, NamedFilter, NamedFilters};
 use wh_ordering::{FilterList, Filters, MarkFilter, MarkFilterList};
 use wh_pairs::{PairList, PairSet, marked_symbols};
 use wh_system::System;
+use wh_text::Name;
 use wh_types::Numbers;
 
 /// The filters of all symbols and of the marked symbols of the set that the lines `fun` and `mark` say; `None` where they say none.
@@ -112,6 +113,46 @@ fn read_mark_filters(
         })?;
     }
     Ok(marks)
+}
+
+/// The lines `fun` of the filters of all symbols.
+pub fn lines_of_filters(
+    alloc: Global,
+    names: &[Name],
+    filters: &[Filter],
+) -> Result<NamedFilters, AllocError>
+    requires { length names.now ≡ length filters.now }
+    ensures names { IfOk result (λ lines. map (λ l. l.name) lines ≡ names.now) }
+    ensures filters { IfOk result (λ lines. map (λ l. written_filter l.filter) lines ≡ map written_filter filters.now) }
+{
+    let mut lines = NamedFilters::new(alloc)?;
+    for i in 0..filters.len() {
+        let name = Name::new(alloc, names[i].bytes())?;
+        let filter = copy_filter(alloc, &filters[i])?;
+        lines.push(NamedFilter { name, filter })?;
+    }
+    Ok(lines)
+}
+
+/// The lines `mark` of the filters of marked symbols.
+pub fn lines_of_mark_filters(
+    alloc: Global,
+    names: &[Name],
+    marks: &[MarkFilter],
+) -> Result<NamedFilters, AllocError>
+    ensures names { IfOk result (λ lines. map (λ m. slice_get names.now m.symbol) marks.now ≡ map (λ l. Some l.name) lines) }
+    ensures filters { IfOk result (λ lines. map (λ m. written_filter m.filter) marks.now ≡ map (λ l. written_filter l.filter) lines) }
+{
+    let mut lines = NamedFilters::new(alloc)?;
+    for mark in marks {
+        if mark.symbol as usize >= names.len() {
+            return Err(AllocError);
+        }
+        let name = Name::new(alloc, names[mark.symbol as usize].bytes())?;
+        let filter = copy_filter(alloc, &mark.filter)?;
+        lines.push(NamedFilter { name, filter })?;
+    }
+    Ok(lines)
 }
 
 // The same filter.

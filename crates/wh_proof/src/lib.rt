@@ -14,7 +14,7 @@ mod written;
 
 pub use blocks::open_blocks;
 pub use choices::choices_of;
-pub use filters::filters_of_lines;
+pub use filters::{filters_of_lines, lines_of_filters, lines_of_mark_filters};
 pub use interpretations::{marks_of_set, symbols_of};
 pub use laws::lines_say_one_node;
 pub use usable::rules_to_cover;

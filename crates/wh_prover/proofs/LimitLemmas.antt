@@ -19,6 +19,7 @@ use Rattle.wh_cert.specs.Limits.{ArgFits, NodeFits, NodeWithin}
 use Rattle.wh_proof.specs.Looked.{SayChoices}
 use Rattle.wh_pairs.proofs.SetLemmas.{all_from_members}
 use Rattle.wh_prover.proofs.CountLemmas.{Apart, apart_increasing, few_below, few_components}
+use Rattle.wh_guesses.proofs.LimitLemmas.{wide}
 
 -- blocks
 
@@ -44,10 +45,6 @@ blocks_within E k set parts few below parts_up are =
     omega (arith, long, few))
 
 -- choices
-
-wide : (a : Ty) → ArgumentsWithin 32 a → length (arguments a) ≤ 32
-wide (sort s) narrow = omega arith
-wide (a ⇒ b) narrow = omega (arith, narrow.0)
 
 -- a chosen symbol has a name
 pub place_named : (d : SystemData) (c : Chosen) → IsWellMadeSystem d → IsPlace d.rules c → c.symbol < length d.fun_names

@@ -19,6 +19,7 @@ use Rattle.wh_prover.specs.Arriving.{Arrives, at_all}
 use Rattle.wh_prover.specs.Versions.{IsMade}
 use Rattle.wh_prover.specs.Walk.{weigh, weight, Adds, HasWalked, IsTree}
 use Rattle.wh_prover.proofs.CountLemmas.{weight_append}
+use Rattle.wh_proof.proofs.BlockLemmas.{reverse_push}
 
 sets_count : (parts sets : List (List ℕ)) → AreSetsOf parts sets → length sets ≡ length parts
 sets_count [] [] no_sets = refl
@@ -67,9 +68,6 @@ leaves_count d ps set (w.order funs marks rules pairs listed) (subterm args drop
 leaves_count d ps set (w.order funs marks rules pairs listed) (poly covered R E) left says leaves = absurd says
 
 -- lists of lines with one more
-
-pub reverse_push : {A : Type 0} (xs : List A) (x : A) → reverse (xs ++ x ∷ []) ≡ x ∷ reverse xs
-reverse_push xs x = reverse-append xs (x ∷ [])
 
 pub walked_first : (d : SystemData) (ps : List PairData) (set : List ℕ) → IsWhole ps set → HasWalked d ps set (set ∷ []) []
 walked_first d ps set whole = record {

@@ -25,25 +25,35 @@ use wh_proof::open_blocks;
 use wh_sat::Search;
 use wh_system::System;
 
+/// The setting of a search: a system with its pairs, and how many clauses each solver may use.
+#[derive(Clone, Copy)]
+pub struct Setting<'a> {
+    /// The system.
+    pub system: &'a System,
+    /// All its pairs.
+    pub pairs: &'a PairList,
+    /// How many clauses each solver may use.
+    pub tries: u64,
+}
+
 /// Gives the set a node, and puts what this leaves on top of the stack, the first of it on top; or says why the search ends on the
 /// set. The graph comes first: a set without pairs, with several components, or with one pair that may not follow itself. Then
 /// come the finders.
-pub fn settle(
+pub fn settle<'a>(
     alloc: Global,
-    system: &System,
-    pairs: &PairList,
+    setting: &Setting<'a>,
     graph: &Graph,
-    tries: u64,
     set: PairSet,
     stack: &mut Vec<PairSet>,
     nodes: &mut Nodes,
 ) -> Result<Option<Cause>, AllocError>
-    requires few { length pairs.now ≤ most_pairs }
-    requires pairs { HasPairs (system_data system.now) (pairs_data pairs.now) }
-    requires graph { IsGraphOf (system_data system.now).rules (pairs_data pairs.now) graph.now }
-    requires arrives { Arrives (system_data system.now) (pairs_data pairs.now) set }
-    ensures { IfOk result (λ end. MatchOption end (AddsNode system.now pairs.now set stack.old.items stack.new.items nodes.old nodes.new)
-        (IsEnd (system_data system.now) (pairs_data pairs.now) tries)) }
+    requires few { length setting.now.pairs.now ≤ most_pairs }
+    requires pairs { HasPairs (system_data setting.now.system.now) (pairs_data setting.now.pairs.now) }
+    requires graph { IsGraphOf (system_data setting.now.system.now).rules (pairs_data setting.now.pairs.now) graph.now }
+    requires arrives { Arrives (system_data setting.now.system.now) (pairs_data setting.now.pairs.now) set }
+    ensures { IfOk result (λ end. MatchOption end (AddsNode setting.now.system.now setting.now.pairs.now set
+        stack.old.items stack.new.items nodes.old nodes.new)
+        (IsEnd (system_data setting.now.system.now) (pairs_data setting.now.pairs.now) setting.now.tries)) }
 {
     if set.as_slice().is_empty() {
         nodes.push(Node::Done)?;
@@ -59,7 +69,7 @@ pub fn settle(
         nodes.push(Node::Alone)?;
         return Ok(None);
     }
-    lower(alloc, system, pairs, tries, set, stack, nodes)
+    lower(alloc, setting, set, stack, nodes)
 }
 
 // Whether the set has one pair, which may not follow itself.
@@ -75,29 +85,28 @@ fn is_alone(graph: &Graph, set: &[u32]) -> bool
 }
 
 // A node by what a finder gives for a set of which the graph settles nothing.
-fn lower(
+fn lower<'a>(
     alloc: Global,
-    system: &System,
-    pairs: &PairList,
-    tries: u64,
+    setting: &Setting<'a>,
     set: PairSet,
     stack: &mut Vec<PairSet>,
     nodes: &mut Nodes,
 ) -> Result<Option<Cause>, AllocError>
-    requires few { length pairs.now ≤ most_pairs }
-    requires pairs { HasPairs (system_data system.now) (pairs_data pairs.now) }
-    requires ended { Ended (system_data system.now) (pairs_data pairs.now) set }
-    ensures { IfOk result (λ end. MatchOption end (AddsNode system.now pairs.now set stack.old.items stack.new.items nodes.old nodes.new)
-        (IsEnd (system_data system.now) (pairs_data pairs.now) tries)) }
+    requires few { length setting.now.pairs.now ≤ most_pairs }
+    requires pairs { HasPairs (system_data setting.now.system.now) (pairs_data setting.now.pairs.now) }
+    requires ended { Ended (system_data setting.now.system.now) (pairs_data setting.now.pairs.now) set }
+    ensures { IfOk result (λ end. MatchOption end (AddsNode setting.now.system.now setting.now.pairs.now set
+        stack.old.items stack.new.items nodes.old nodes.new)
+        (IsEnd (system_data setting.now.system.now) (pairs_data setting.now.pairs.now) setting.now.tries)) }
 {
-    system.is_well_made();
-    match find_projection(alloc, system, pairs, &set, tries)? {
+    setting.system.is_well_made();
+    match find_projection(alloc, setting.system, setting.pairs, &set, setting.tries)? {
         Search::Found(found) => {
             stack.push(kept(alloc, &set, found.drop.as_slice())?)?;
-            nodes.push(node_of(alloc, system, &found)?)?;
+            nodes.push(node_of(alloc, setting.system, &found)?)?;
             Ok(None)
         }
-        Search::Nothing => interpret(alloc, system, pairs, tries, set, stack, nodes),
+        Search::Nothing => interpret(alloc, setting, set, stack, nodes),
         Search::Spent(list) => Ok(Some(Cause::Spent {
             finder: Finder::Subterm,
             set,
@@ -107,30 +116,29 @@ fn lower(
 }
 
 // A node by interpretations, where no projection lets a pair go.
-fn interpret(
+fn interpret<'a>(
     alloc: Global,
-    system: &System,
-    pairs: &PairList,
-    tries: u64,
+    setting: &Setting<'a>,
     set: PairSet,
     stack: &mut Vec<PairSet>,
     nodes: &mut Nodes,
 ) -> Result<Option<Cause>, AllocError>
-    requires few { length pairs.now ≤ most_pairs }
-    requires pairs { HasPairs (system_data system.now) (pairs_data pairs.now) }
-    requires ended { Ended (system_data system.now) (pairs_data pairs.now) set }
-    requires none { HasNoProjection (system_data system.now).rules (pairs_data pairs.now) set }
-    requires some { 0 < tries }
-    ensures { IfOk result (λ end. MatchOption end (AddsNode system.now pairs.now set stack.old.items stack.new.items nodes.old nodes.new)
-        (IsEnd (system_data system.now) (pairs_data pairs.now) tries)) }
+    requires few { length setting.now.pairs.now ≤ most_pairs }
+    requires pairs { HasPairs (system_data setting.now.system.now) (pairs_data setting.now.pairs.now) }
+    requires ended { Ended (system_data setting.now.system.now) (pairs_data setting.now.pairs.now) set }
+    requires none { HasNoProjection (system_data setting.now.system.now).rules (pairs_data setting.now.pairs.now) set }
+    requires some { 0 < setting.now.tries }
+    ensures { IfOk result (λ end. MatchOption end (AddsNode setting.now.system.now setting.now.pairs.now set
+        stack.old.items stack.new.items nodes.old nodes.new)
+        (IsEnd (system_data setting.now.system.now) (pairs_data setting.now.pairs.now) setting.now.tries)) }
 {
-    match interpretation_of(alloc, system, pairs, &set, tries)? {
+    match interpretation_of(alloc, setting.system, setting.pairs, &set, setting.tries)? {
         Search::Found(node) => {
             stack.push(kept(alloc, &set, dropped_by(&node))?)?;
             nodes.push(node)?;
             Ok(None)
         }
-        Search::Nothing => order(alloc, system, pairs, tries, set, stack, nodes),
+        Search::Nothing => order(alloc, setting, set, stack, nodes),
         Search::Spent(list) => Ok(Some(Cause::Spent {
             finder: Finder::Poly,
             set,
@@ -140,25 +148,24 @@ fn interpret(
 }
 
 // A node of a path order, where no projection and no interpretation lets a pair go.
-fn order(
+fn order<'a>(
     alloc: Global,
-    system: &System,
-    pairs: &PairList,
-    tries: u64,
+    setting: &Setting<'a>,
     set: PairSet,
     stack: &mut Vec<PairSet>,
     nodes: &mut Nodes,
 ) -> Result<Option<Cause>, AllocError>
-    requires few { length pairs.now ≤ most_pairs }
-    requires pairs { HasPairs (system_data system.now) (pairs_data pairs.now) }
-    requires ended { Ended (system_data system.now) (pairs_data pairs.now) set }
-    requires none { HasNoProjection (system_data system.now).rules (pairs_data pairs.now) set }
-    requires none_either { HasNoInterpretation (task_of (system_data system.now) (pairs_data pairs.now) set) }
-    requires some { 0 < tries }
-    ensures { IfOk result (λ end. MatchOption end (AddsNode system.now pairs.now set stack.old.items stack.new.items nodes.old nodes.new)
-        (IsEnd (system_data system.now) (pairs_data pairs.now) tries)) }
+    requires few { length setting.now.pairs.now ≤ most_pairs }
+    requires pairs { HasPairs (system_data setting.now.system.now) (pairs_data setting.now.pairs.now) }
+    requires ended { Ended (system_data setting.now.system.now) (pairs_data setting.now.pairs.now) set }
+    requires none { HasNoProjection (system_data setting.now.system.now).rules (pairs_data setting.now.pairs.now) set }
+    requires none_either { HasNoInterpretation (task_of (system_data setting.now.system.now) (pairs_data setting.now.pairs.now) set) }
+    requires some { 0 < setting.now.tries }
+    ensures { IfOk result (λ end. MatchOption end (AddsNode setting.now.system.now setting.now.pairs.now set
+        stack.old.items stack.new.items nodes.old nodes.new)
+        (IsEnd (system_data setting.now.system.now) (pairs_data setting.now.pairs.now) setting.now.tries)) }
 {
-    match find_order(alloc, system, pairs, &set, tries)? {
+    match find_order(alloc, setting.system, setting.pairs, &set, setting.tries)? {
         Search::Found(found) => {
             stack.push(kept(alloc, &set, found.drop.as_slice())?)?;
             nodes.push(Node::Order(Box::new(alloc, found)?))?;

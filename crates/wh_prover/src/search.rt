@@ -10,6 +10,7 @@ ghost use Rattle.wh_cert.specs.Said.{said};
 ghost use Rattle.wh_prover.specs.Answers.{HasNoProof, IsAnswer, IsProof};
 
 use crate::answer::{Answer, Cause, Options};
+use crate::node::Setting;
 use crate::numbers::numbers_of_ranks;
 use crate::version::certificate_of;
 use crate::walk::walk;
@@ -91,7 +92,12 @@ fn prove_under(
     let graph = Graph::new(alloc, system, pairs)?;
     let whole = numbers_below(alloc, count)?;
     let mut nodes = Nodes::new(alloc)?;
-    if let Some(cause) = walk(alloc, system, pairs, &graph, tries, whole, &mut nodes)? {
+    let setting = Setting {
+        system,
+        pairs,
+        tries,
+    };
+    if let Some(cause) = walk(alloc, &setting, &graph, whole, &mut nodes)? {
         return Ok(Err(cause));
     }
     let rules = system.rules().len() as u32;

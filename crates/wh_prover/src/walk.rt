@@ -11,36 +11,33 @@ ghost use Rattle.wh_pairs.specs.Sets.{IsWhole};
 ghost use Rattle.wh_prover.specs.Walk.{IsEnd, IsTree};
 
 use crate::answer::Cause;
-use crate::node::settle;
+use crate::node::{Setting, settle};
 use std::alloc::{AllocError, Global};
 use wh_cert::Nodes;
 use wh_graph::Graph;
-use wh_pairs::{PairList, PairSet};
-use wh_system::System;
+use wh_pairs::PairSet;
 
 /// Puts the nodes of a proof for the set of all pairs into the list, each before what it leaves; or says on which set the walk
 /// ends, and why. The sets that are still to be settled are kept on a stack, the next on top.
-pub fn walk(
+pub fn walk<'a>(
     alloc: Global,
-    system: &System,
-    pairs: &PairList,
+    setting: &Setting<'a>,
     graph: &Graph,
-    tries: u64,
     whole: PairSet,
     nodes: &mut Nodes,
 ) -> Result<Option<Cause>, AllocError>
-    requires few { length pairs.now ≤ most_pairs }
-    requires pairs { HasPairs (system_data system.now) (pairs_data pairs.now) }
-    requires graph { IsGraphOf (system_data system.now).rules (pairs_data pairs.now) graph.now }
-    requires whole { IsWhole (pairs_data pairs.now) whole }
+    requires few { length setting.now.pairs.now ≤ most_pairs }
+    requires pairs { HasPairs (system_data setting.now.system.now) (pairs_data setting.now.pairs.now) }
+    requires graph { IsGraphOf (system_data setting.now.system.now).rules (pairs_data setting.now.pairs.now) graph.now }
+    requires whole { IsWhole (pairs_data setting.now.pairs.now) whole }
     requires none { nodes.old ≡ [] }
-    ensures { IfOk result (λ end. MatchOption end (IsTree (system_data system.now) (pairs_data pairs.now) whole
-        (map said_node nodes.new)) (IsEnd (system_data system.now) (pairs_data pairs.now) tries)) }
+    ensures { IfOk result (λ end. MatchOption end (IsTree (system_data setting.now.system.now) (pairs_data setting.now.pairs.now) whole
+        (map said_node nodes.new)) (IsEnd (system_data setting.now.system.now) (pairs_data setting.now.pairs.now) setting.now.tries)) }
 {
     let mut stack = Vec::new(alloc);
     stack.push(whole)?;
     while let Some(set) = stack.pop() {
-        if let Some(cause) = settle(alloc, system, pairs, graph, tries, set, &mut stack, nodes)? {
+        if let Some(cause) = settle(alloc, setting, graph, set, &mut stack, nodes)? {
             return Ok(Some(cause));
         }
     }

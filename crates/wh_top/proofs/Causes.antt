@@ -10,7 +10,7 @@ use Rattle.wh_access.specs.Passing.{IsFirstUnread}
 use Rattle.wh_access.specs.Demands.{Demand, HasSort, Asks, IsDemand, Leads, LeadsAlong, IsStrictCycle}
 use Rattle.wh_access.specs.declared.find.NoRanks.TheVariants as ranks
 use Rattle.wh_access.proofs.PlaceLemmas.{argument_below}
-use Rattle.wh_access.proofs.FindLemmas.{sorts_known}
+use Rattle.wh_access.proofs.FindLemmas.{sort_below, sorts_known}
 use Rattle.wh_checker.specs.Named.{HasMeta}
 use Rattle.wh_checker.proofs.Named.{used_there}
 use Rattle.wh_prover.specs.Answers.{IsReason}
@@ -26,11 +26,6 @@ unread_there d r z made first =
     used_there d r z rule made at occurs
 
 -- the sort that a demand comes from
-
-sort_below : (n s : ℕ) (a : Ty) → HasSort s a → SortsBelow n a → s < n
-sort_below n s (sort r) here below = subst (λ s. s < n) here below
-sort_below n s (a ⇒ b) (inl here) below = sort_below n s a here below.0
-sort_below n s (a ⇒ b) (inr here) below = sort_below n s b here below.1
 
 asker_below : (n : ℕ) (a : Ty) (t : ℕ) (e : Demand) → Asks a t e → SortsBelow n a → e.from < n
 asker_below n (sort r) t e asks below = subst (λ s. s < n) (sym asks.0) below

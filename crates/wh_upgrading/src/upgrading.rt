@@ -33,7 +33,8 @@ pub fn upgrade_files<S: Shelf>(
     file: &str,
     cert: &str,
 ) -> Result<Bytes, Or<Report>>
-    ensures upgraded { MatchOr result (IsUpgradedIn (outside (S.held shelf.old) (S.faults shelf.old) (S.faults shelf.new)) file.now cert.now)
+    ensures upgraded { MatchOr result (IsUpgradedIn (outside (S.held shelf.old) (S.faults shelf.old) (S.faults shelf.new))
+        file.now cert.now)
         (StandsForUpgrade (outside (S.held shelf.old) (S.faults shelf.old) (S.faults shelf.new)) file.now cert.now) }
     ensures within { IfOk result (λ text. length text ≤ certificate_limit) }
     ensures kept { (other : List ℕ) → S.held shelf.new other ≡ S.held shelf.old other }
@@ -69,7 +70,8 @@ fn upgraded_for(
 ) -> Result<Bytes, Or<Report>>
     requires certificate { IsCert (said certificate.now) }
     requires pairs { HasPairs (system_data problem.now.system) (pairs_data problem.now.pairs) }
-    ensures upgraded { MatchOr result (IsUpgradedText (system_data problem.now.system) (pairs_data problem.now.pairs) (said certificate.now))
+    ensures upgraded { MatchOr result (IsUpgradedText (system_data problem.now.system) (pairs_data problem.now.pairs)
+        (said certificate.now))
         (IsNotUpgradedFor (system_data problem.now.system) (pairs_data problem.now.pairs) (said certificate.now)) }
     ensures within { IfOk result (λ text. length text ≤ certificate_limit) }
 {

@@ -195,7 +195,7 @@ module _ {A : Type 0} (Q : A → Type 0) (decided : (x : A) → Decided (Q x)) (
     | inr all ↦ inl (λ n found. not_refuted (at_decided n) (all n found))
   ]
 
-neither_below : (m n : ℕ) → (m < n → ⊥) → (n < m → ⊥) → m ≡ n
+pub neither_below : (m n : ℕ) → (m < n → ⊥) → (n < m → ⊥) → m ≡ n
 neither_below m n above below = elim (cases_lt m n) [
   | inl less ↦ absurd (above less)
   | inr le ↦ elim (cases_lt n m) [ inl less ↦ absurd (below less) | inr same ↦ omega arith ]

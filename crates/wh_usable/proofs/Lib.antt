@@ -4,5 +4,5 @@ pub mod Whole
 mod Firsts
 mod RuleLemmas
 mod RuleAt
-mod TableLemmas
+pub mod TableLemmas
 pub mod Decisions

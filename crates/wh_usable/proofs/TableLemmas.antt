@@ -29,7 +29,7 @@ symbol_is f (lam a t) = inr (λ e. cc e)
 symbol_is f (app t u) = inr (λ e. cc e)
 
 -- the symbol that heads a typed tree is a symbol
-head_within : {S : Symbols} {M : List Declared} {Γ : List Ty} {t : Tm} {a : Ty} → Typed S M Γ t a → (f : ℕ) → head t ≡ fun f → f < length S.funs
+pub head_within : {S : Symbols} {M : List Declared} {Γ : List Ty} {t : Tm} {a : Ty} → Typed S M Γ t a → (f : ℕ) → head t ≡ fun f → f < length S.funs
 head_within (typed_bound e) f h = cc
 head_within (typed_free s) f h = cc
 head_within {S} (typed_fun {f = g} {a = a} e) f h =
@@ -44,7 +44,7 @@ only_true zero f b at = cc
 only_true (suc n) zero b at = cc
 only_true (suc n) (suc f) b at = only_true n f b at
 
-left_typed : {S : Symbols} (r : RewriteRule) (made : IsWellMade S r) → Typed S r.metas [] r.left (made.typed.0)
+pub left_typed : {S : Symbols} (r : RewriteRule) (made : IsWellMade S r) → Typed S r.metas [] r.left (made.typed.0)
 left_typed r made = let (a, left, right) = made.typed in left
 
 module _ (rules : List RewriteRule) (listed : List ℕ) where

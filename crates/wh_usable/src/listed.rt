@@ -2,9 +2,9 @@
 
 ghost use Rattle.std.specs.Prelude.{◌↔◌, ◌<◌, All, IsTrue, length};
 ghost use Rattle.wh_system.specs.SystemView.{system_data};
-ghost use Rattle.wh_pairs.specs.PairData.{IsIncreasing};
 ghost use Rattle.wh_usable.specs.Closed.{AreRulesInOrder};
 
+use wh_pairs::is_increasing;
 use wh_system::System;
 
 /// Whether the numbers are those of rules of the system, each above the one before.
@@ -12,18 +12,6 @@ pub fn are_rules_in_order(system: &System, numbers: &[u32]) -> bool
     ensures { IsTrue result ↔ AreRulesInOrder (length (system_data system.now).rules) numbers.now }
 {
     is_increasing(numbers) && all_below(numbers, system.rules().len())
-}
-
-// Whether each number is above the one before.
-fn is_increasing(numbers: &[u32]) -> bool
-    ensures { IsTrue result ↔ IsIncreasing numbers.now }
-{
-    for i in 1..numbers.len() {
-        if numbers[i - 1] >= numbers[i] {
-            return false;
-        }
-    }
-    true
 }
 
 // Whether all numbers are below the bound.

@@ -17,7 +17,7 @@ use Rattle.wh_meaning.proofs.Order.{mono_nothing, reading_mono}
 use Rattle.wh_usable_calls.specs.Bounds.{IsFlatCall, IsWholeCall, Bounds, by_reading, by_reading_and_steps, by_steps, Reads, reads_symbol, reads_application}
 use Rattle.wh_usable_calls.proofs.FlatCalls.{whole_or_not}
 
-steps_pass : (rules : List RewriteRule) → PassesToParts (Step rules)
+pub steps_pass : (rules : List RewriteRule) → PassesToParts (Step rules)
 steps_pass rules = record {
   function = λ t t' u s. in_function s;
   argument = λ t u u' s. in_argument s;

@@ -49,6 +49,7 @@ use Rattle.wh_usable_calls.proofs.SideBounds.{BoundBodies, HasNumbers}
 use Rattle.wh_usable_calls.proofs.StepBounds.{step_bound}
 use Rattle.wh_usable_calls.proofs.CallBounds.{ending_fed, step_fed, list_numbers, list_lowers, list_fed}
 use Rattle.wh_usable_calls.proofs.ListedCovers.{listed_covered, marked_worth}
+use Rattle.wh_meaning.proofs.PairsEnd.{occurs_right, occurs_left}
 
 -- the types of the arguments of a typed call
 typed_at_marked : (S : Symbols) (rules : List RewriteRule) (c : MarkedCall) → IsTypedCall S rules c
@@ -57,15 +58,6 @@ typed_at_marked S rules c t = subst (AllTyped S [] [] (tms_of c.arguments))
     (ap₂ (λ n a. take (unwrap_or n 0) (arguments a)) (sym t.needed) (sym (at_is S.funs c.symbol t.kind t.known))) t.typed
 
 -- a meta-variable of one of two lists stands in their sum
-occurs_left : (z : ℕ) (ts us : List Tm) → OccursIn z (tms_of ts) → OccursIn z (tms_of (ts ++ us))
-occurs_left z [] us o = absurd o
-occurs_left z (t ∷ ts) us (inl o) = inl o
-occurs_left z (t ∷ ts) us (inr o) = inr (occurs_left z ts us o)
-
-occurs_right : (z : ℕ) (ts us : List Tm) → OccursIn z (tms_of us) → OccursIn z (tms_of (ts ++ us))
-occurs_right z [] us o = o
-occurs_right z (t ∷ ts) us o = inr (occurs_right z ts us o)
-
 module _ (T : TaskData) (R : ReadingsData) (E : Evidence (List Transfer)) (is : IsCovering T R E)
     (made : AreWellMade T.symbols T.rules) where
   abbrev S : Symbols

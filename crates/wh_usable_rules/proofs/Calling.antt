@@ -14,6 +14,7 @@ use Rattle.wh_usable_rules.specs.Tables.{Says, Enters}
 use Rattle.wh_usable_rules.specs.Called.{Reaches, from, by_rule, StandsInPairs, AreRulesOfCalled}
 use Rattle.wh_usable_rules.specs.Taken.{AreTaken, IsFollowed}
 use Rattle.wh_usable_rules.proofs.Takings.{reaches_on}
+use Rattle.wh_usable.proofs.TableLemmas.{left_typed, head_within}
 
 -- a table of no says yes of nothing
 pub says_nothing : (k n : ℕ) → Says (replicate k false) n → ⊥
@@ -26,19 +27,6 @@ as_long zero = refl
 as_long (suc k) = ap suc (as_long k)
 
 -- the symbol that heads a typed tree is a symbol
-head_within : {S : Symbols} {M : List Declared} {Γ : List Ty} {t : Tm} {a : Ty} → Typed S M Γ t a → (f : ℕ) → head t ≡ fun f → f < length S.funs
-head_within (typed_bound e) f h = cc
-head_within (typed_free s) f h = cc
-head_within {S} (typed_fun {f = g} {a = a} e) f h =
-    let same : g ≡ f = cc in
-    let below = slice_get_within S.funs g a e in omega arith
-head_within (typed_meta e ts o) f h = cc
-head_within (typed_lam s t) f h = cc
-head_within (typed_app t u) f h = head_within t f h
-
-left_typed : {S : Symbols} (r : RewriteRule) (made : IsWellMade S r) → Typed S r.metas [] r.left (made.typed.0)
-left_typed r made = let (a, left, right) = made.typed in left
-
 module _ (S : Symbols) (rules : List RewriteRule) (pairs : List PairData) (set : List ℕ)
     (made : (r : RewriteRule) → Contains rules r → IsWellMade S r) (few : length S.funs ≤ 1024)
     (none called now untaken taken : List Bool) (long : length none ≡ 1024) (nothing : (f : ℕ) → Says none f → ⊥)

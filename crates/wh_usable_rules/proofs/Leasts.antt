@@ -6,7 +6,7 @@ use Rattle.wh_terms.specs.Tree.{Tm, fun, head, tms_of}
 use Rattle.wh_terms.specs.Rules.{RewriteRule}
 use Rattle.wh_pairs.specs.PairData.{IsIncreasing}
 use Rattle.wh_pairs.proofs.ByPlace.{some_one, contains_at}
-use Rattle.wh_pairs.proofs.Increasing.{increasing_at}
+use Rattle.wh_pairs.proofs.Increasing.{increasing_rest, increasing_at}
 use Rattle.wh_pairs.proofs.SetLemmas.{all_from_members}
 use Rattle.wh_reduction.specs.TaskData.{TaskData, CoversAll, numbers_from}
 use Rattle.wh_reduction.proofs.Numbers.{numbers_at}
@@ -63,10 +63,6 @@ module _ (T : TaskData) (other : List ℕ) (rules : AreClosedRules (covering T o
 
 member_at : (ns : List ℕ) (n : ℕ) → Contains ns n → (i : ℕ) × (i < length ns) × (get_or ns i 0 ≡ n)
 member_at ns n (i, within, at) = (i, within, get_or_from_slice_get ns i n 0 (slice_get-get_or ns i n within ∙ ap Some at))
-
-increasing_rest : (n : ℕ) (ns : List ℕ) → IsIncreasing (n ∷ ns) → IsIncreasing ns
-increasing_rest n [] up = tt
-increasing_rest n (m ∷ rest) up = up.1
 
 above_first : (n : ℕ) (ns : List ℕ) (m : ℕ) → IsIncreasing (n ∷ ns) → Contains ns m → n < m
 above_first n ns m up found =

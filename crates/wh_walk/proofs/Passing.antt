@@ -5,9 +5,7 @@ use Rattle.wh_types.specs.declared.want.Or.{Or}
 use Rattle.wh_types.specs.declared.want.Or.TheVariants.{NoMemory, Because}
 use Rattle.wh_cert.specs.Items.{Item}
 use Rattle.wh_walk.specs.Walking.{State, Leads, Stays}
-
-because_one : {E : Type 0} {x y : E} → ◌≡◌ {A = Or E} (Because x) (Because y) → x ≡ y
-because_one e = cc
+use Rattle.wh_checker.proofs.GoLemmas.{because_one}
 
 -- the cause of the part
 pub or_on : {T U E : Type 0} (r : Result T (Or E)) (e : Or E) (P : U → Type 0) (O : T → Type 0) (Q R : E → Type 0)

@@ -8,6 +8,11 @@ use Rattle.wh_find_order.specs.Encodings.{HasNoFilter, task_in}
 use Rattle.wh_find_order.proofs.DecodingLemmas.{tried_is}
 use Rattle.wh_find_order.proofs.blocking.look.Goals as goal
 
+pub failing_line-requires-clause-filters : goal.failing_line-requires-clause-filters
+failing_line-requires-clause-filters c =
+    let e = c.args.encoding.now in
+    tried_is e (value_of c.args.values.now) (filtering_data c.in-Ok.filters) c.requires.encoding c.in-Ok.ensures
+
 pub node_of_order-requires-clause-filters : goal.node_of_order-requires-clause-filters
 node_of_order-requires-clause-filters c =
     let e = c.args.encoding.now in

@@ -8,7 +8,7 @@ use Rattle.wh_system.specs.SystemView.{system_data}
 use Rattle.wh_pairs.proofs.ListLemmas.{map_push, map_take}
 use Rattle.wh_polycheck.specs.Marks.{marked_types}
 use Rattle.wh_polycheck.proofs.MoreInterpretations.{arguments_of_arrows}
-use Rattle.wh_find_order.specs.Encodings.{types_in}
+use Rattle.wh_order_space.specs.Spotted.{types_in}
 use Rattle.wh_find_order.proofs.encoding.add_mark_scopes.Goals as goal
 
 pub loop-symbol-preserved : goal.loop-symbol-preserved

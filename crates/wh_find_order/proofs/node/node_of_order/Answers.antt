@@ -16,11 +16,11 @@ pub pair_lines-requires-clause-typed : goal.pair_lines-requires-clause-typed
 pair_lines-requires-clause-typed c =
     let T = task_data c.args.task.now in typed_calls T.symbols T.rules T.pairs c.requires.task.typed.typed
 
-pub returns-in-Err-Because : goal.returns-in-Err-Because
-returns-in-Err-Because c =
+pub returns-in-Err-Because-rule_lines : goal.returns-in-Err-Because-rule_lines
+returns-in-Err-Because-rule_lines c =
     let T = task_data c.args.task.now in
     let D = filtering_data c.args.filters.now in
-    let e = c.in-Err-Because in
+    let e = c.in-Err-Because-rule_lines in
     subst (λ (k : ℕ). Fails T D k) (sym e.place-is)
     (rule_fails T D e.place
     (matched_because e.field-0 e.place (λ (lines : List Inference). AreRuleLines T D (map inference lines)) (IsFailingRule T D) e.field-0-is e.ensures))
@@ -28,23 +28,23 @@ returns-in-Err-Because c =
 pub number_of_pair-requires : goal.number_of_pair-requires
 number_of_pair-requires c =
     let T = task_data c.args.task.now in
-    let e = c.in-Err-Because-pair_lines in
+    let e = c.in-Err-Because in
     let (n, p, place, at, never) = matched_because e.field-0 e.place _ (IsFailingPair T (filtering_data c.args.filters.now)) e.field-0-is e.ensures in
     let within = slice_get_within T.set e.place n place in
     let below : e.place ≤ length T.set = omega (arith, within) in
     subst (λ (k : ℕ). k ≤ length T.set) (sym e.place-is) below
 
-pub returns-in-Err-Because-pair_lines : goal.returns-in-Err-Because-pair_lines
-returns-in-Err-Because-pair_lines c =
+pub returns-in-Err-Because : goal.returns-in-Err-Because
+returns-in-Err-Because c =
     let T = task_data c.args.task.now in
     let D = filtering_data c.args.filters.now in
-    let e = c.in-Err-Because-pair_lines in
+    let e = c.in-Err-Because in
     pair_fails T D e.place c.number_of_pair.result (matched_because e.field-0 e.place _ (IsFailingPair T D) e.field-0-is e.ensures)
     (c.number_of_pair.ensures ∙ ap (λ (k : ℕ). length T.covered + k) e.place-is)
 
 pub returns-then-is_empty : goal.returns-then-is_empty
 returns-then-is_empty c =
-    let found = c.in-Ok-pair_lines.found in
+    let found = c.in-Ok.found in
     let none = empty_list c.as_slice.result.now found.drop c.is_empty.result c.as_slice.ensures c.is_empty.ensures c.if-is_empty.true in
     set_fails (task_data c.args.task.now) (filtering_data c.args.filters.now) (map inference found.lines) found.drop c.number_of_pair-then-is_empty.result
-    c.in-Ok-pair_lines.ensures none c.number_of_pair-then-is_empty.ensures
+    c.in-Ok.ensures none c.number_of_pair-then-is_empty.ensures

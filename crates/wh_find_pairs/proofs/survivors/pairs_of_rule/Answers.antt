@@ -1,9 +1,8 @@
-use Rattle.std.proofs.Common.{◌≡◌, ◌++◌, ◌∷◌, [], List, map, take, ap, ap₂, sym, subst, ◌∙◌, arith}
+use Rattle.std.proofs.Common.{◌≡◌, ◌++◌, ◌∷◌, [], List, map, take, ap, sym, subst, ◌∙◌, arith, rules}
 use Rattle.std.specs.Prelude.{Contains}
-use Rattle.std.proofs.lemmas.List.{take_all}
-use Rattle.wh_terms.specs.Tree.{Tm, head}
+use Rattle.std.proofs.lemmas.List.{take_all, nil_from_length}
 use Rattle.wh_terms.specs.Typing.{Symbols}
-use Rattle.wh_terms.specs.Erase.{tm, rewrite_rule}
+use Rattle.wh_terms.specs.Erase.{rewrite_rule}
 use Rattle.wh_pairs.specs.PairData.{PairData, pair_data}
 use Rattle.wh_system.specs.SystemView.{system_data}
 use Rattle.wh_pairs.specs.declared.pair.Pair.{Pair}
@@ -11,12 +10,11 @@ use Rattle.wh_system.proofs.MadeDecided.{system_is_well_made}
 use Rattle.wh_pairs.specs.Calls.{Call, calls_of}
 use Rattle.wh_pairs.specs.Candidates.{candidate}
 use Rattle.wh_pairs.specs.Known.{TakesArguments}
-use Rattle.wh_pairs.specs.Spines.{spine_arguments, symbol_of}
-use Rattle.wh_pairs.specs.Subsumption.{ArePairs}
-use Rattle.wh_pairs.specs.Survivors.{Survive, with_left}
+use Rattle.wh_pairs.specs.Subsumption.{ArePairs, none_left}
+use Rattle.wh_pairs.specs.Survivors.{Survive}
 use Rattle.wh_find_pairs.specs.declared.calling.Call as code
 use Rattle.wh_pairs.specs.Views.{pairs_data}
-use Rattle.wh_find_pairs.specs.Views.{call_data, trees}
+use Rattle.wh_find_pairs.specs.Views.{call_data}
 use Rattle.wh_pairs.proofs.ListLemmas.{map_take, map-map}
 use Rattle.wh_pairs.proofs.MemberLemmas.{image_there}
 use Rattle.wh_pairs.proofs.KnownLemmas.{right_symbols, takes_arguments, defined_call}
@@ -30,8 +28,8 @@ calls_of-requires c =
 pub loop-call-init : goal.loop-call-init
 loop-call-init c = subst (λ (ps : List Pair). Survive [] (pairs_data ps)) (sym c.new-kept.ensures.items) survive_none
 
-pub candidate-requires : goal.candidate-requires
-candidate-requires c =
+pub candidate-requires-clause-needs : goal.candidate-requires-clause-needs
+candidate-requires-clause-needs c =
     let s = system_data c.args.system.now in
     let xs = c.as_slice-call-items.result.now in
     let call : Call = call_data c.call-item.result in
@@ -46,14 +44,21 @@ loop-call-preserved c =
     let s = system_data c.args.system.now in
     let xs = c.as_slice-call-items.result.now in
     let of_call : code.Call → PairData = λ d. candidate s.symbols c.args.number (rewrite_rule c.args.rule.now) (call_data d) in
-    let l : Tm = tm c.args.rule.now.left in
-    let is : with_left (symbol_of (tm c.in_ok-left.left.head.now)) (trees c.in_ok-left.left.arguments.items) (pair_data c.in_ok-made.made) ≡ of_call c.call-item.result =
-    ap₂ (λ t ts. with_left (symbol_of t) ts (pair_data c.in_ok-made.made)) c.in_ok-left.ensures.head c.in_ok-left.ensures.arguments
-    ∙ ap (with_left (symbol_of (head l)) (spine_arguments l)) c.in_ok-made.ensures
-    ∙ ap (λ (S : Symbols). candidate S c.args.number (rewrite_rule c.args.rule.now) (call_data c.call-item.result)) c.signature-signature.ensures in
+    let is : pair_data c.in_ok-made.made ≡ of_call c.call-item.result =
+    c.in_ok-made.ensures ∙ ap (λ (S : Symbols). candidate S c.args.number (rewrite_rule c.args.rule.now) (call_data c.call-item.result)) c.signature-signature.ensures in
     let next = c.in_ok-keep.ensures (map of_call (take c.loop-call.call-index xs)) c.loop-call.invariant in
     subst (λ (cs : List PairData). Survive cs (pairs_data c.keep.new.kept.items))
     (ap (λ p. map of_call (take c.loop-call.call-index xs) ++ p ∷ []) is ∙ sym (map_take of_call xs c.loop-call.call-index c.call-item.result c.loop-call-test.true c.call-item.is)) next
+
+pub returns-then-is_empty : goal.returns-then-is_empty
+returns-then-is_empty c =
+    let s = system_data c.args.system.now in
+    let xs = c.in_ok-calls.calls.items in
+    let cand : Call → PairData = candidate s.symbols c.args.number (rewrite_rule c.args.rule.now) in
+    let none : xs ≡ [] = nil_from_length xs (search rules) in
+    let all : [] ≡ calls_of s.rules (rewrite_rule c.args.rule.now) = ap (map call_data) (sym none) ∙ c.in_ok-calls.ensures in
+    subst (λ (ps : List Pair). ArePairs (map cand (calls_of s.rules (rewrite_rule c.args.rule.now))) (pairs_data ps)) (sym c.new-kept.ensures.items)
+    (subst (λ (cs : List Call). ArePairs (map cand cs) []) all none_left)
 
 pub returns : goal.returns
 returns c =

@@ -34,7 +34,7 @@ returns-else-follows_its_rule-clause-numbers c =
     IfOk-weaker c.numbers_of.result (λ ns. AreNumbersOf b ns (map tm us))
     (λ ns. (p : PairData) → slice_get (map pair_data xs) c.args.place ≡ Some p → AreNumbersOf b ns p.left)
     (λ ns e p at. left_made b xs c.args.place c.index-pairs-place.result c.requires.within c.index-pairs-place.is us
-    (c.as_slice-else-follows_its_rule.ensures ∙ ap (λ (z : Pair). z.left) (sym c.index-pairs-place.is)) ns
+    (c.as_slice-else-follows_its_rule.ensures ∙ c.deref.ensures ∙ ap (λ (z : Pair). z.left.value) (sym c.index-pairs-place.is)) ns
     e p at) c.numbers_of.ensures.numbers
 
 pub returns-else-follows_its_rule-clause-joins : goal.returns-else-follows_its_rule-clause-joins
@@ -43,4 +43,4 @@ returns-else-follows_its_rule-clause-joins c =
     let us = c.as_slice-else-follows_its_rule.result.now in
     joins_as (trees c.args.table.now) (trees c.numbers_of.new.table) (IsPartOfOne (map tm us)) (IsPartOfSides (map pair_data xs)) c.numbers_of.ensures.joins
     (left_parts xs c.args.place c.index-pairs-place.result c.requires.within c.index-pairs-place.is us
-    (c.as_slice-else-follows_its_rule.ensures ∙ ap (λ (z : Pair). z.left) (sym c.index-pairs-place.is)))
+    (c.as_slice-else-follows_its_rule.ensures ∙ c.deref.ensures ∙ ap (λ (z : Pair). z.left.value) (sym c.index-pairs-place.is)))

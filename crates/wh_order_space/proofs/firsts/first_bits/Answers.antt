@@ -12,6 +12,7 @@ loop-scope-init c =
       count = ap length is;
       each = firsts_start c.args.width c.args.scopes.now c.push.new.self.items is;
       total = sym (first_zero c.args.width (types_in c.args.scopes.now));
+      few = omega arith;
     }
 
 pub loop-scope-preserved : goal.loop-scope-preserved
@@ -24,10 +25,16 @@ loop-scope-preserved c =
     let is = c.in_ok-push-2.ensures.items in
     let places : c.len.result ≡ length c.scope-item.result.items = omega (arith, c.len.ensures, c.scope-item.result.ok.0) in
     let sum : total ≡ first_bit b (types_in scopes) (suc i) =
-    first_after b scopes i c.loop-scope.total total c.len.result c.scope-item.result c.loop-scope-test.true c.scope-item.is places before.total c.in_ok-total.ensures in
+    first_after b scopes i c.loop-scope.total total c.len.result c.scope-item.result c.loop-scope-test.true c.scope-item.is places before.total c.in_ok-total.ensures.sum in
     let next : suc i ≡ i + 1 = omega arith in
     record {
       count = ap length is ∙ length_push c.loop-scope.made.items total ∙ ap (λ n. n + 1) before.count;
       each = firsts_next b scopes c.loop-scope.made.items c.push-in-loop-scope.new.self.items i total is before.count sum before.each;
       total = sum ∙ ap (first_bit b (types_in scopes)) next;
+      few = c.in_ok-total.ensures.few;
     }
+
+pub returns-clause-few : goal.returns-clause-few
+returns-clause-few c =
+    let end : c.loop-scope.scope-index ≡ length c.args.scopes.now = omega (arith, c.loop-scope-test.false, c.loop-scope.auto.scope-index-end) in
+    omega (arith, c.loop-scope.invariant.few, c.loop-scope.invariant.total, ap (first_bit c.args.width (types_in c.args.scopes.now)) end)

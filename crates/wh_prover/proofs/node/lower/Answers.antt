@@ -10,38 +10,39 @@ use Rattle.wh_find_subterm.specs.Found.{IsAnswer}
 use Rattle.wh_prover.proofs.ArriveLemmas.{arrives_within}
 use Rattle.wh_prover.proofs.LimitLemmas.{choices_named, choices_low}
 use Rattle.wh_prover.proofs.NodeLemmas.{adds_subterm}
-use Rattle.wh_prover.proofs.WalkLemmas.{reverse_push, said_push}
+use Rattle.wh_prover.proofs.WalkLemmas.{said_push}
+use Rattle.wh_proof.proofs.BlockLemmas.{reverse_push}
 use Rattle.wh_prover.proofs.node.lower.Goals as goal
 
 pub find_projection-requires-clause-set : goal.find_projection-requires-clause-set
 find_projection-requires-clause-set c =
-    let pairs = c.args.pairs.now in
+    let pairs = c.args.setting.now.pairs.now in
     let set = c.args.set in
-    subst (λ n. All (λ m. m < n) set) (length-map pairs pair_data) (arrives_within (system_data c.args.system.now) (pairs_data pairs) set c.requires.ended.arrives)
+    subst (λ n. All (λ m. m < n) set) (length-map pairs pair_data) (arrives_within (system_data c.args.setting.now.system.now) (pairs_data pairs) set c.requires.ended.arrives)
 
 pub node_of-requires-clause-symbols : goal.node_of-requires-clause-symbols
 node_of-requires-clause-symbols c =
-    let d = system_data c.args.system.now in
-    let found = subst (IsAnswer d.rules (pairs_data c.args.pairs.now) c.args.set c.args.tries) c.in-Found.is c.in_ok-found.ensures in
+    let d = system_data c.args.setting.now.system.now in
+    let found = subst (IsAnswer d.rules (pairs_data c.args.setting.now.pairs.now) c.args.set c.args.setting.now.tries) c.in-Found.is c.in_ok-found.ensures in
     choices_named d c.in-Found.found.args c.is_well_made.ensures found.1.places
 
 pub node_of-requires-clause-arguments : goal.node_of-requires-clause-arguments
 node_of-requires-clause-arguments c =
-    let d = system_data c.args.system.now in
-    let found = subst (IsAnswer d.rules (pairs_data c.args.pairs.now) c.args.set c.args.tries) c.in-Found.is c.in_ok-found.ensures in
+    let d = system_data c.args.setting.now.system.now in
+    let found = subst (IsAnswer d.rules (pairs_data c.args.setting.now.pairs.now) c.args.set c.args.setting.now.tries) c.in-Found.is c.in_ok-found.ensures in
     choices_low d c.in-Found.found.args c.is_well_made.ensures found.1.places
 
 pub returns-in_ok-push-in-Found-2 : goal.returns-in_ok-push-in-Found-2
 returns-in_ok-push-in-Found-2 c =
-    let d = system_data c.args.system.now in
-    let pairs = c.args.pairs.now in
+    let d = system_data c.args.setting.now.system.now in
+    let pairs = c.args.setting.now.pairs.now in
     let ps = pairs_data pairs in
     let set = c.args.set in
     let drop = c.in-Found.found.drop in
     let rest = c.in_ok-kept-in-Found.field-0 in
     let node = c.in_ok-node_of-in-Found.field-0 in
     let stack = c.args.stack.now.items in
-    let found = subst (IsAnswer d.rules ps set c.args.tries) c.in-Found.is c.in_ok-found.ensures in
+    let found = subst (IsAnswer d.rules ps set c.args.setting.now.tries) c.in-Found.is c.in_ok-found.ensures in
     let few = subst (λ n. n ≤ 4096) (sym (length-map pairs pair_data)) c.requires.few in
     let kept = subst (λ (s : List ℕ). IsSetOf (IsKept set s) rest) c.as_slice.ensures.numbers c.in_ok-kept-in-Found.ensures in
     adds_subterm d ps set drop rest (map chosen c.in-Found.found.args) (said_node node) (reverse stack) (reverse c.push.new.self.items) (map said_node c.args.nodes.now) (map said_node c.push-in-Found.new.self)

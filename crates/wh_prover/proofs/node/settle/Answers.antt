@@ -20,7 +20,7 @@ returns-then-is_empty c =
     let nodes = c.args.nodes.now in
     let longer = c.push.new.self in
     let empty = sym c.as_slice.ensures.numbers ∙ tested_none c.as_slice.result.now c.is_empty.result c.is_empty.ensures c.if-is_empty.true in
-    adds_done (system_data c.args.system.now) (pairs_data c.args.pairs.now) c.args.set (reverse c.args.stack.now.items) (map said_node nodes) (map said_node longer) empty
+    adds_done (system_data c.args.setting.now.system.now) (pairs_data c.args.setting.now.pairs.now) c.args.set (reverse c.args.stack.now.items) (map said_node nodes) (map said_node longer) empty
     (said_push nodes longer code.Done c.in_ok-push.ensures.ok)
 
 pub components-requires-clause-graph : goal.components-requires-clause-graph
@@ -29,11 +29,11 @@ components-requires-clause-graph c = c.requires.graph.graph
 pub components-requires-clause-set : goal.components-requires-clause-set
 components-requires-clause-set c =
     let set = c.args.set in
-    subst (λ n. All (λ m. m < n) set) (sym c.requires.graph.size) (arrives_within (system_data c.args.system.now) (pairs_data c.args.pairs.now) set c.requires.arrives)
+    subst (λ n. All (λ m. m < n) set) (sym c.requires.graph.size) (arrives_within (system_data c.args.setting.now.system.now) (pairs_data c.args.setting.now.pairs.now) set c.requires.arrives)
 
 pub returns-then-as_slice-gt1 : goal.returns-then-as_slice-gt1
 returns-then-as_slice-gt1 c =
-    let pairs = c.args.pairs.now in
+    let pairs = c.args.setting.now.pairs.now in
     let ps = pairs_data pairs in
     let set = c.args.set in
     let nodes = c.args.nodes.now in
@@ -46,8 +46,8 @@ returns-then-as_slice-gt1 c =
     let blocks_are : blocks ≡ parts = c.as_slice-then-as_slice-gt1.ensures in
     let (opened, are, put) = c.in_ok-open_blocks.ensures in
     let same = sets_of_increasing blocks opened (subst (All IsIncreasing) (sym blocks_are) c.in_ok-blocks.ensures.increasing) are ∙ blocks_are in
-    adds_blocks (system_data c.args.system.now) ps set parts sets (reverse c.open_blocks.new.stack.items) (map said_node nodes) (map said_node longer) few c.as_slice.ensures.increasing c.requires.arrives
-    (components_of_pairs (system_data c.args.system.now).rules ps c.args.graph.now set parts c.requires.graph c.in_ok-blocks.ensures.components)
+    adds_blocks (system_data c.args.setting.now.system.now) ps set parts sets (reverse c.open_blocks.new.stack.items) (map said_node nodes) (map said_node longer) few c.as_slice.ensures.increasing c.requires.arrives
+    (components_of_pairs (system_data c.args.setting.now.system.now).rules ps c.args.graph.now set parts c.requires.graph c.in_ok-blocks.ensures.components)
     c.in_ok-blocks.ensures.increasing enough
     (put ∙ ap (λ (l : List (List ℕ)). l ++ sets) same)
     (said_push nodes longer (code.Blocks parts) c.in_ok-push-2.ensures.ok)
@@ -56,15 +56,15 @@ pub is_alone-requires : goal.is_alone-requires
 is_alone-requires c =
     let set = c.args.set in
     let graph = c.args.graph.now in
-    let within = subst (λ n. All (λ m. m < n) set) (sym c.requires.graph.size) (arrives_within (system_data c.args.system.now) (pairs_data c.args.pairs.now) set c.requires.arrives) in
+    let within = subst (λ n. All (λ m. m < n) set) (sym c.requires.graph.size) (arrives_within (system_data c.args.setting.now.system.now) (pairs_data c.args.setting.now.pairs.now) set c.requires.arrives) in
     subst (All (λ m. m < size_of graph)) (sym c.as_slice-3.ensures.numbers) within
 
 pub returns-then-is_alone : goal.returns-then-is_alone
 returns-then-is_alone c =
-    let d = system_data c.args.system.now in
+    let d = system_data c.args.setting.now.system.now in
     let nodes = c.args.nodes.now in
     let longer = c.push-then-is_alone.new.self in
-    let ps = pairs_data c.args.pairs.now in
+    let ps = pairs_data c.args.setting.now.pairs.now in
     let same = alone_same (edge_of c.args.graph.now) (Follows d.rules ps) c.as_slice-3.result.now c.requires.graph.each in
     let here = subst (λ (s : List ℕ). IsAlone d.rules ps s) c.as_slice-3.ensures.numbers (same.0 (c.is_alone.ensures.0 c.if-is_alone.true)) in
     adds_alone d ps c.args.set (reverse c.args.stack.now.items) (map said_node nodes) (map said_node longer) here
@@ -72,8 +72,8 @@ returns-then-is_alone c =
 
 pub lower-requires-clause-ended : goal.lower-requires-clause-ended
 lower-requires-clause-ended c =
-    let d = system_data c.args.system.now in
-    let ps = pairs_data c.args.pairs.now in
+    let d = system_data c.args.setting.now.system.now in
+    let ps = pairs_data c.args.setting.now.pairs.now in
     let set = c.args.set in
     let some = subst (λ (s : List ℕ). s ≢ []) c.as_slice.ensures.numbers (tested_some c.as_slice.result.now c.is_empty.result c.is_empty.ensures c.if-is_empty.false) in
     let few : length c.in_ok-blocks.blocks ≤ 1 = omega (arith, c.if-as_slice-gt1.false, ap (λ (l : List (List ℕ)). length l) c.as_slice-2.ensures) in

@@ -10,8 +10,8 @@ use Rattle.wh_prover.proofs.walk.walk.Goals as goal
 
 pub loop-set-init : goal.loop-set-init
 loop-set-init c =
-    let d = system_data c.args.system.now in
-    let ps = pairs_data c.args.pairs.now in
+    let d = system_data c.args.setting.now.system.now in
+    let ps = pairs_data c.args.setting.now.pairs.now in
     let whole = c.args.whole in
     let stack_is = ap reverse (c.in_ok-push.ensures.items ∙ ap (λ (l : List (List ℕ)). l ++ whole ∷ []) c.new-stack.ensures.items) in
     let none : map said_node c.args.nodes.now ≡ [] = ap (map said_node) c.requires.none in
@@ -20,13 +20,13 @@ loop-set-init c =
 pub loop-set-smaller : goal.loop-set-smaller
 loop-set-smaller c =
     let adds = MatchOption-at_none _ _ c.in_default-2.is c.in_ok-cause.ensures in
-    adds_lighter (system_data c.args.system.now) (pairs_data c.args.pairs.now) c.in-Some.set c.loop-set.stack.items c.pop.new.self.items (reverse c.settle.new.stack.items) (map said_node c.loop-set.nodes)
+    adds_lighter (system_data c.args.setting.now.system.now) (pairs_data c.args.setting.now.pairs.now) c.in-Some.set c.loop-set.stack.items c.pop.new.self.items (reverse c.settle.new.stack.items) (map said_node c.loop-set.nodes)
     (map said_node c.settle.new.nodes) c.in-Some.ensures.items adds
 
 pub loop-set-preserved : goal.loop-set-preserved
 loop-set-preserved c =
-    let d = system_data c.args.system.now in
-    let ps = pairs_data c.args.pairs.now in
+    let d = system_data c.args.setting.now.system.now in
+    let ps = pairs_data c.args.setting.now.pairs.now in
     let whole = c.args.whole in
     let rest = c.pop.new.self.items in
     let lines = map said_node c.loop-set.nodes in
@@ -36,8 +36,8 @@ loop-set-preserved c =
 
 pub returns : goal.returns
 returns c =
-    let d = system_data c.args.system.now in
-    let ps = pairs_data c.args.pairs.now in
+    let d = system_data c.args.setting.now.system.now in
+    let ps = pairs_data c.args.setting.now.pairs.now in
     let whole = c.args.whole in
     let lines = map said_node c.loop-set.nodes in
     let none : c.loop-set.stack.items ≡ [] = is_none c.loop-set.stack.items (omega (arith, c.in_default.ensures.cases.0, c.loop-set.stack.ok)) in

@@ -6,7 +6,7 @@ use Rattle.wh_prover.specs.Walk.{HasWalked, weight}
 use Rattle.wh_prover.proofs.walk.walk.Given as goal
 
 abbrev pub invariant-loop-set : goal.invariant-loop-set
-invariant-loop-set l = HasWalked (system_data l.system) (pairs_data l.pairs) l.fn.whole (reverse l.stack.items) (map said_node l.nodes)
+invariant-loop-set l = HasWalked (system_data l.setting.system.now) (pairs_data l.setting.pairs.now) l.fn.whole (reverse l.stack.items) (map said_node l.nodes)
 
 abbrev pub decreases-loop-set : goal.decreases-loop-set
 decreases-loop-set l = weight (reverse l.stack.items)

@@ -1,7 +1,7 @@
 use Rattle.std.proofs.Common.{◌≡◌, ◌+◌, ◌-◌, get_or, inl, inr, refl, ap, arith}
 use Rattle.wh_pairs.proofs.ByPlace.{same_or_below}
 use Rattle.wh_pairs.proofs.Increasing.{increasing_at, increasing_from_adjacent}
-use Rattle.wh_usable.proofs.listed.is_increasing.Goals as goal
+use Rattle.wh_pairs.proofs.sets.is_increasing.Goals as goal
 
 pub returns-then-numbers-i : goal.returns-then-numbers-i
 returns-then-numbers-i c =

@@ -1,6 +1,6 @@
 use Rattle.std.proofs.Common.{◌≡◌, map, take, Some, slice_get}
 use Rattle.wh_inference.specs.Said.{written_filter}
-use Rattle.wh_find_order.proofs.node.lines_of_marks.Given as goal
+use Rattle.wh_proof.proofs.filters.lines_of_mark_filters.Given as goal
 
 abbrev pub invariant-loop-mark : goal.invariant-loop-mark
 invariant-loop-mark l = record {

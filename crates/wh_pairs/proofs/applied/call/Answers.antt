@@ -3,8 +3,8 @@ use Rattle.wh_terms.specs.Erase.{tm}
 use Rattle.wh_terms.specs.Tree.{Tm, app, fun, spine}
 use Rattle.wh_terms.specs.declared.term.Term.{Term}
 use Rattle.wh_terms.specs.declared.term.Term.TheVariants.{App}
-use Rattle.wh_order_space.proofs.CallLemmas.{spine_more, take_mapped, take_end}
-use Rattle.wh_order_space.proofs.sides.call.Goals as goal
+use Rattle.wh_pairs.proofs.CallLemmas.{spine_more, take_mapped, take_end}
+use Rattle.wh_pairs.proofs.applied.call.Goals as goal
 
 pub loop-argument-init : goal.loop-argument-init
 loop-argument-init c =

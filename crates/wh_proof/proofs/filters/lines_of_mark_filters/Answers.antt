@@ -2,7 +2,7 @@ use Rattle.std.proofs.Common.{◌≡◌, ◌<◌, ◌++◌, ◌∷◌, [], lengt
 use Rattle.std.proofs.lemmas.Option.{slice_get-get_or}
 use Rattle.wh_inference.specs.Said.{written_filter}
 use Rattle.wh_pairs.proofs.ListLemmas.{map_push, map_take}
-use Rattle.wh_find_order.proofs.node.lines_of_marks.Goals as goal
+use Rattle.wh_proof.proofs.filters.lines_of_mark_filters.Goals as goal
 
 pub loop-mark-preserved : goal.loop-mark-preserved
 loop-mark-preserved c =

@@ -1,6 +1,6 @@
 use Rattle.std.proofs.Common.{◌≡◌, map, take}
 use Rattle.wh_inference.specs.Said.{written_filter}
-use Rattle.wh_find_order.proofs.node.lines_of_filters.Given as goal
+use Rattle.wh_proof.proofs.filters.lines_of_filters.Given as goal
 
 abbrev pub invariant-loop-i : goal.invariant-loop-i
 invariant-loop-i l = record {
