@@ -1,5 +1,5 @@
 -- Two answers that stand and have the same words are the same.
-use Rattle.std.proofs.Common.{ℕ, ◌≡◌, ◌<◌, ◌^◌, true, false, List, [], ◌∷◌, Option, Some, None, map, codes, refl, sym, ◌∙◌, ap, arith}
+use Rattle.std.proofs.Common.{ℕ, ◌≡◌, ◌<◌, ◌^◌, true, false, List, [], ◌∷◌, map, codes, refl, sym, ◌∙◌, ap, arith}
 use Rattle.std.specs.Fmt.{decimal}
 use Rattle.std.specs.List.{join_with_byte}
 use Rattle.std.proofs.lemmas.Fmt.{decimal_injective}
@@ -13,7 +13,7 @@ use Rattle.wh_answer.specs.declared.report.NamedCause.TheVariants as cause
 use Rattle.wh_answer.specs.declared.report.NamedFinder.{NamedFinder}
 use Rattle.wh_answer.specs.declared.report.ReasonWord.{ReasonWord}
 use Rattle.wh_answer.specs.declared.report.Role.{Role}
-use Rattle.wh_answer.specs.Stands.{AllShort, CauseStands, Reads, RowStands, Stands}
+use Rattle.wh_answer.specs.Stands.{AllShort, CauseStands, RowStands, Stands}
 use Rattle.wh_answer.specs.Texts.{finder_word, reason_word, role_word, report_text}
 use Rattle.wh_answer.specs.Words.{cause_words, report_words, row_words, words_of}
 use Rattle.wh_answer.proofs.Joined.{report_joined}
@@ -76,7 +76,3 @@ pub one_answer : (r s : Report) → Stands r → Stands s → report_text r ≡ 
 one_answer r s h g e =
     let front : join_with_byte 32 (report_words r) ≡ join_with_byte 32 (report_words s) = append_cancel_right _ _ (10 ∷ []) (sym (report_joined r) ∙ (e ∙ report_joined s)) in
     same_report r s h g (sym (report_split r h) ∙ (ap (λ (t : List ℕ). words_of t) front ∙ report_split s g))
-
-pub read_back : (r : Report) (found : Option Report) → Stands r → Reads Stands report_text (report_text r) found → found ≡ Some r
-read_back r None h none = absurd (none r h refl)
-read_back r (Some s) h some = ap (λ (x : Report). Some x) (one_answer s r some.0 h some.1)

@@ -1,6 +1,5 @@
 -- The words of each answer: its line without the line feed is these words with a space between any two (ours).
 use Rattle.std.specs.Prelude.{ℕ, ◌≢◌, ◌==◌, List, [], ◌∷◌, map, codes}
-use Rattle.std.specs.Borrow.{Bor}
 use Rattle.std.specs.Fmt.{decimal}
 use Rattle.std.specs.List.{slice_split}
 use Rattle.wh_text.specs.Chars.{space}
@@ -15,10 +14,6 @@ use Rattle.wh_answer.specs.declared.report.NamedCause.TheVariants as cause
 -- the parts of a text between spaces (ours)
 abbrev pub words_of : List ℕ → List (List ℕ)
 words_of = slice_split (λ b. b == space)
-
--- the texts behind references (ours)
-abbrev pub seen : List (Bor (List ℕ)) → List (List ℕ)
-seen = map (λ w. w.now)
 
 -- what is said of a node, in words (ours)
 abbrev pub at_node : ℕ → List (List ℕ) → List (List ℕ)

@@ -1,16 +1,11 @@
-//! A line is of one answer, so that a printed answer is read back as it was.
+//! A line is of one answer.
 
-ghost use Rattle.std.specs.Prelude.{◌≡◌, Option, Some};
-ghost use Rattle.wh_answer.specs.Stands.{Reads, Stands};
+ghost use Rattle.std.specs.Prelude.{◌≡◌};
+ghost use Rattle.wh_answer.specs.Stands.{Stands};
 ghost use Rattle.wh_answer.specs.Texts.{report_text};
 ghost use Rattle.wh_answer.specs.declared.report.Report.{Report};
 
 /// Answers with the same line are the same.
 pub fn one_answer()
     ensures { (r s : Report) → Stands r → Stands s → report_text r ≡ report_text s → r ≡ s }
-{}
-
-/// What is read from the line of an answer is that answer.
-pub fn read_back()
-    ensures { (r : Report) (found : Option Report) → Stands r → Reads Stands report_text (report_text r) found → found ≡ Some r }
 {}

@@ -36,8 +36,10 @@ below_next : (n m : ℕ) → nat_lt n m ≡ nat_lt (suc n) (suc m)
 below_next n m =
     ⊎_elim (λ (l : n < m). lt-ltb n m l ∙ sym (lt-ltb (suc n) (suc m) (omega arith))) (λ l. le-ltb n m l ∙ sym (le-ltb (suc n) (suc m) (omega arith))) (cases_lt n m)
 
-pub next_level : (xs : List Frame) → nat_lt (suc (level (term_stack xs))) 200 ≡ nat_lt (length xs) 199
-next_level xs = sym (below_next (level (term_stack xs)) 199) ∙ ap (λ (n : ℕ). nat_lt n 199) (level_is xs)
+pub next_level : (xs : List Frame) → nat_lt (suc (level (term_stack xs))) 200 ≡ nat_lt (length xs + 1) 200
+next_level xs =
+    let more : suc (level (term_stack xs)) ≡ length xs + 1 = omega (arith, level_is xs) in
+    ap (λ (n : ℕ). nat_lt n 200) more
 
 pub next_argument : (xs : List RawTerm) → nat_lt (suc (term_count (rtms xs))) 32 ≡ nat_lt (length xs) 31
 next_argument xs = sym (below_next (term_count (rtms xs)) 31) ∙ ap (λ (n : ℕ). nat_lt n 31) (rtms_count xs)

@@ -17,13 +17,11 @@ use crate::type_reader::{TypePlace, TypeStep, type_step};
 use std::alloc::{AllocError, Global};
 use std::mem;
 use wh_letters::{Letters, begins_name, first_number, next_number};
+use wh_nesting::opens_in_certificate;
 use wh_text::{RawTerm, RawTerms, RawType, RawTypes};
 
 /// The arguments of a spine are that many at most.
 const MOST_ARGUMENTS: usize = 32;
-
-/// The parentheses of a term nest that deep.
-const DEEPEST_TERM: usize = 200;
 
 /// An open parenthesis of a term.
 #[derive(Drop)]
@@ -164,7 +162,7 @@ fn close_term(stack: &mut Vec<Frame>) -> Option<Frame>
 fn opens(stack: &[Frame], byte: u8) -> bool
     ensures { result ≡ ((byte == 40) && nat_lt (level (term_stack stack.now)) deepest_certificate_term) }
 {
-    byte == b'(' && stack.len() < DEEPEST_TERM
+    byte == b'(' && opens_in_certificate(stack.len())
 }
 
 /// The byte opens a second parenthesis, where one that is not on the stack is open.
@@ -172,7 +170,7 @@ fn opens(stack: &[Frame], byte: u8) -> bool
 fn opens_second(stack: &[Frame], byte: u8) -> bool
     ensures { result ≡ ((byte == 40) && nat_lt (suc (level (term_stack stack.now))) deepest_certificate_term) }
 {
-    byte == b'(' && stack.len() < DEEPEST_TERM - 1
+    byte == b'(' && opens_in_certificate(stack.len() + 1)
 }
 
 /// The byte begins one more argument behind these and another one, and may.

@@ -1,5 +1,5 @@
 -- What the reader's lists and trees stand for once they have grown by one.
-use Rattle.std.proofs.Common.{◌≡◌, ℕ, zero, suc, ◌+◌, ◌<◌, ◌≤◌, List, [], ◌∷◌, ◌++◌, map, length, Option, None, Some, option_map, is_some, Box, Global, refl, sym, ap, ◌∙◌, arith, Vec, vec_len, ◌==◌, Bool, false, true≢false, lt-ltb, if◌then◌else◌, Result, Ok, Err, IfOk}
+use Rattle.std.proofs.Common.{◌≡◌, ℕ, zero, suc, ◌+◌, ◌<◌, ◌≤◌, List, [], ◌∷◌, ◌++◌, map, length, Option, None, Some, option_map, is_some, Box, Global, refl, sym, ap, ◌∙◌, arith, Vec, vec_len, ◌==◌, Bool, false, true≢false, nat_lt, lt-ltb, if◌then◌else◌, Result, Ok, Err, IfOk}
 use Rattle.std.proofs.lemmas.Bool.{le-ltb}
 use Rattle.std.proofs.lemmas.List.{map-append}
 use Rattle.wh_text.specs.RawTree.{RTy, raw_type, RTys, no_types, more_types, RTm, named, lam, spine, RTms, more}
@@ -97,15 +97,6 @@ outer_is xs =
 pub level_of : (v : Vec Frame Global) → r.level (held.frames_in r.no_frames v.items) ≡ vec_len v
 level_of v = level_is v.items ∙ sym v.ok.0
 
--- the frames of the place where an atom may begin
-abbrev frames_at : r.Place → r.Frames
-frames_at (r.want_atom u before) = u.frames
-frames_at p = r.no_frames
-
--- one more frame is one more level
-pub levels_grow : (u : r.OpenRule) (f : Frame) (b : Box OpenRule Global) → held.place (WantAtom b) ≡ r.want_atom (r.with_frames u (held.frame f u.frames)) None → r.level u.frames + 1 ≡ vec_len b.value.frames
-levels_grow u f b e = sym (level_frame f u.frames) ∙ sym (ap (λ (p : r.Place). r.level (frames_at p)) e) ∙ level_of b.value.frames
-
 pub outer_of : (v : Vec (List RawType) Global) → length (held.types_in [] v.items) ≡ vec_len v
 outer_of v = outer_is v.items ∙ sym v.ok.0
 
@@ -129,6 +120,10 @@ open_under parts k n m p e h = ap (λ (c : Bool). if c then r.inside parts p els
 
 pub open_over : (parts : RParts) (k n m : ℕ) (p : r.Place) → k ≡ m → n ≤ m → r.opened parts k n p ≡ r.too_many
 open_over parts k n m p e h = ap (λ (c : Bool). if c then r.inside parts p else r.too_many) (le-ltb k n (omega (arith, e, h)))
+
+-- the same, by the test of one level more
+pub open_tested : (parts : RParts) (k n m : ℕ) (b : Bool) (p : r.Place) → k ≡ m → nat_lt m n ≡ b → r.opened parts k n p ≡ (if b then r.inside parts p else r.too_many)
+open_tested parts k n m b p e h = ap (λ (c : Bool). if c then r.inside parts p else r.too_many) (ap (λ (x : ℕ). nat_lt x n) e ∙ h)
 
 -- where no atom stands before it an abstraction opens a level
 pub begins_empty : (parts : RParts) (u : r.OpenRule) (before : Option RawTerm) (at : ℕ) → is_some before ≡ false → r.lambda_begins parts u (option_map rtm before) at ≡ r.open_term parts u (r.behind_lambda u at)

@@ -14,11 +14,9 @@ use crate::lexeme::Lexeme;
 use crate::place::{Frame, OpenRule, Place, Purpose, Step};
 use crate::types::want_type;
 use std::alloc::{AllocError, Global};
+use wh_nesting::opens_in_system;
 use wh_parts::{Parts, RawName, RawRule};
 use wh_text::{RawBinder, RawTerm, RawTerms, RawType};
-
-/// Terms nest that deep.
-const DEEPEST_TERM: usize = 400;
 
 /// The spine with one more argument.
 fn longer(
@@ -107,11 +105,13 @@ fn open_frame(rule: Box<OpenRule>, frame: Frame) -> Result<Step, AllocError>
         ≡ r.open_term parts (held.rule rule) (r.want_atom (r.with_frames (held.rule rule) (held.frame frame (held.rule rule).frames))
         None)) }
 {
+    let may_open = opens_in_system(rule.frames.len());
     let opened = begin_in(rule, frame)?;
-    if opened.frames.len() > DEEPEST_TERM {
-        return Ok(Step::TooMany);
+    if may_open {
+        Ok(Step::To(Place::WantAtom(opened)))
+    } else {
+        Ok(Step::TooMany)
     }
-    Ok(Step::To(Place::WantAtom(opened)))
 }
 
 /// A parenthesis opens, behind the spine so far.
@@ -141,10 +141,10 @@ fn lambda_begins(rule: Box<OpenRule>, at: u32) -> Step
 {
     if rule.before.is_some() {
         Step::Failed
-    } else if rule.frames.len() >= DEEPEST_TERM {
-        Step::TooMany
-    } else {
+    } else if opens_in_system(rule.frames.len()) {
         Step::To(Place::BehindLambda(rule, at))
+    } else {
+        Step::TooMany
     }
 }
 

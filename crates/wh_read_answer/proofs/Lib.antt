@@ -1,0 +1,5 @@
+mod Spelled
+mod OtherRows
+mod Lists
+mod Cut
+mod ReadBack

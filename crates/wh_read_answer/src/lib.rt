@@ -1,0 +1,11 @@
+//! Answers read back from their lines.
+#![tactic(auto)]
+
+mod causes;
+mod laws;
+mod read;
+mod rows;
+mod words;
+
+pub use laws::read_back;
+pub use read::read_answer;
