@@ -16,7 +16,6 @@ use Rattle.wh_read.specs.declared.lexeme.Lexeme.TheVariants.{CloseParen, OpenBra
 use Rattle.wh_read.specs.declared.place.Step.{Step}
 use Rattle.wh_read.specs.declared.place.Frame.{Frame}
 use Rattle.wh_read.specs.declared.place.OpenRule.{OpenRule}
-use Rattle.wh_read.specs.declared.place.Place.TheVariants.{WantAtom}
 use Rattle.wh_read.specs.declared.place.Frame.TheVariants.{Body, Paren, Bracket}
 use Rattle.wh_read.specs.Lexemes as s
 use Rattle.wh_read.specs.Held as held
