@@ -117,6 +117,16 @@ letters_all D room g i r past h =
     best_all (ByLetters i) (λ c. Unit {0}) D room g r
     (λ w over c by u. let (j, less, e) = letter_number c.letter in (j, omega (arith, less, past), e)) (λ c x. tt) h
 
+-- a choice with one entry: none has fewer
+pub best_one : (C : Choice → Type 0) (D : FilteringData) (room : ℕ) (g : Goal) (r : Option Choice) → count_of r ≡ Some 1 → IsBestOf C D room g r → IsBest D room g r
+best_one C D room g None one h w over = absurd (none_some one)
+best_one C D room g (Some b) one h w over =
+    let few : b.count ≡ 1 = some_of one in
+    ((h w over).0, ((h w over).1.0, tt), λ c x. omega (arith, few, x.0.6))
+  where
+    some_of : {A : Type 0} {a b : A} → Some a ≡ Some b → a ≡ b
+    some_of e = cc
+
 -- by places
 
 abbrev pub ByPlaces : Letter → ℕ → Choice → Type 0

@@ -1,6 +1,6 @@
 //! The least number of entries that shows a goal.
 
-ghost use Rattle.std.specs.Prelude.{◌≡◌, IfOk};
+ghost use Rattle.std.specs.Prelude.{◌≡◌, ◌↔◌, IfOk, IsTrue, Some};
 ghost use Rattle.wh_ordering.specs.FilteringView.{filtering_data};
 ghost use Rattle.wh_infer.specs.Least.{NotRefuted};
 ghost use Rattle.wh_infer.specs.Bests.{IsBest, IsBestAt, IsBestBy, IsLeastCount, IsLeastTotal, IsOneMore, IsSum, count_of};
@@ -24,8 +24,22 @@ pub fn best(known: &mut Known<'_>, goal: &Goal<'_>, room: u8) -> Result<Option<C
         let letter = letter_at(number);
         let own = best_by(known, goal, room, letter)?;
         found = lesser(found, own);
+        // No choice has fewer entries, and of two with as many the first one counts: the other letters need not be tried.
+        if has_one_entry(found) {
+            return Ok(found);
+        }
     }
     Ok(found)
+}
+
+// Whether there is a choice, and it has one entry.
+fn has_one_entry(choice: Option<Choice>) -> bool
+    ensures { IsTrue result ↔ (count_of choice ≡ Some 1) }
+{
+    match choice {
+        Some(choice) => choice.count == 1,
+        None => false,
+    }
 }
 
 // The same by one letter.
@@ -123,17 +137,23 @@ fn sum_of(own: Option<u32>, others: u32) -> Option<u32>
 }
 
 // The least number of entries that shows the goal, nested at most `room` deep; `None` where it is 2^32 at least. It is looked up, or
-// else kept.
+// else kept where other goals were asked for on the way: one that asks for none is found as fast again, and to keep it copies both
+// its trees.
 #[cycle(counting)]
 fn least(known: &mut Known<'_>, goal: &Goal<'_>, room: u8) -> Result<Option<u32>, AllocError>
     ensures found { IfOk result (λ r. NotRefuted (IsLeastCount (filtering_data known.old.filters.now) room goal.now r)) }
     ensures filters { known.new.filters ≡ known.old.filters }
 {
+    known.asked = known.asked.wrapping_add(1);
     if let Some(count) = known.look(goal, room) {
         return Ok(count);
     }
+    let asked = known.asked;
     let choice = best(known, goal, room)?;
     let count = count_of(choice);
+    if known.asked == asked {
+        return Ok(count);
+    }
     known.note(goal, room, count)?;
     Ok(count)
 }

@@ -13,8 +13,9 @@ use std::alloc::{AllocError, Global};
 use wh_order::{Claim, Goal};
 use wh_ordering::Filters;
 
-// How many buckets there are.
-const BUCKETS: usize = 1024;
+// How many buckets there are. Each search makes a table of them, and most searches keep few goals: a larger table costs more than it
+// gives.
+const BUCKETS: usize = 128;
 
 // The place of no entry.
 const NO_PLACE: usize = usize::MAX;
@@ -26,12 +27,14 @@ pub struct Known<'a> {
     pub alloc: Global,
     /// The filters.
     pub filters: &'a Filters,
+    /// How many goals were asked for, modulo 2^64; nothing is claimed of it.
+    pub asked: u64,
     // What is known so far, in the order in which it came.
     entries: Vec<Entry>,
     // The place of the last entry of each bucket.
     heads: Vec<usize>,
     ghost exact: { NotRefuted (All (IsExact (filtering_data filters.now)) entries.items) },
-    ghost whole: { length heads.items ≡ 1024 },
+    ghost whole: { length heads.items ≡ 128 },
 }
 
 impl<'a> Known<'a> {
@@ -42,6 +45,7 @@ impl<'a> Known<'a> {
         Ok(Known {
             alloc,
             filters,
+            asked: 0,
             entries: Vec::new(alloc),
             heads: vec![in alloc; NO_PLACE; BUCKETS]?,
         })

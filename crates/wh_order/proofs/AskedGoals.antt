@@ -1,5 +1,5 @@
 -- What the goals of the code stand for where the left tree is to be greater than the right one, or at least it.
-use Rattle.std.proofs.Common.{◌≡◌, ℕ, suc, ◌+◌, ◌<◌, List, [], ◌∷◌, length, Bool, true, false, IsTrue, ◌↔◌, Option, Some, None, refl, ap, ap₂, subst, sym, ◌∙◌, arith}
+use Rattle.std.proofs.Common.{◌≡◌, ℕ, suc, ◌+◌, ◌<◌, List, [], ◌∷◌, length, Bool, true, false, cond, IsTrue, ◌↔◌, Option, Some, None, refl, ap, ap₂, subst, sym, ◌∙◌, arith}
 use Rattle.std.specs.Global.{Vec}
 use Rattle.wh_types.specs.Ty.{Ty}
 use Rattle.wh_types.specs.Erase.{ty}
@@ -12,14 +12,14 @@ use Rattle.wh_inference.specs.declared.inference.Letter as c
 use Rattle.wh_inference.specs.declared.inference.Letter.TheVariants.{Same, Lam, Mono, Sub, Prec, Lex, App, Bind, Var, Meta}
 use Rattle.wh_extended.specs.Kinds.{kind}
 use Rattle.wh_path_order.specs.Verdict as v
-use Rattle.wh_path_order.specs.Verdict.{greater, Task, pairwise, some_strict, above_tasks, greater_tasks, typed_tasks, at_least_tasks, tasks}
+use Rattle.wh_path_order.specs.Verdict.{greater, Task, pairwise, some_strict, one_kind, above_tasks, greater_tasks, typed_tasks, at_least_tasks, tasks}
 use Rattle.wh_order.specs.declared.tree.Tree.{Tree}
 use Rattle.wh_order.specs.declared.goals.Claim.{Claim}
 use Rattle.wh_order.specs.declared.goals.Claim.TheVariants.{AtLeast, Greater, Above}
 use Rattle.wh_order.specs.declared.goals.Goal.{Goal}
 use Rattle.wh_order.specs.Trees.{tree, trees}
 use Rattle.wh_order.specs.TreeParts.{World, Over, AllOver, IsBody, IsApplied, IsApplication}
-use Rattle.wh_order.specs.Claims.{said, side_tree, task, HoldsGoals, AreAboveGoals, AreGreaterGoals, AreTypedGoals, AreAtLeastGoals, AreGoals}
+use Rattle.wh_order.specs.Claims.{said, side_tree, task, HoldsGoals, MayStandFor, AreAboveGoals, AreGreaterGoals, AreTypedGoals, AreAtLeastGoals, AreGoals}
 use Rattle.wh_order.proofs.TreeLemmas.{trees-length}
 use Rattle.wh_order.proofs.SameLemmas.{Decided}
 use Rattle.wh_order.proofs.LetterLemmas.{may, other_head}
@@ -177,11 +177,12 @@ TestsTypes s t c = (n : ℕ) (w : World) → Over n w s → Over n w t → IsTru
 pub decided_types : (c : Bool) (a b x y : Ty) → a ≡ x → b ≡ y → (IsTrue c ↔ (a ≡ b)) → IsTrue c ↔ (x ≡ y)
 decided_types c a b x y e f decides = (λ so. sym e ∙ decides.0 so ∙ f, λ k. decides.1 (e ∙ k ∙ sym f))
 
-pub one_type_goals : (n : ℕ) (prec : ℕ → ℕ) (next place : ℕ) (s t : Tree) (c : Bool) (l : Letter) (is : Inferences) (r : Option (Vec Goal)) → TestsTypes s t c → c ≡ true
-    → AreGreaterGoals n prec next s t l place is r → AreTypedGoals n prec next s t l place is r
-one_type_goals n prec next place s t c l is r decides so h w o u =
-    may n w r (typed_tasks w.symbols prec w.metas next (tree n s) (tree n t) l place is) (greater_tasks w.symbols prec w.metas next (tree n s) (tree n t) l place is)
-    (typed_greater w.symbols prec w.metas next (tree n s) (tree n t) l place is ((decides n w o u).0 so)) (h w o u)
+pub one_type_goals : (n : ℕ) (prec : ℕ → ℕ) (next place : ℕ) (s t : Tree) (c : Bool) (l : Letter) (is : Inferences) (r q : Option (Vec Goal)) → TestsTypes s t c → c ≡ true → r ≡ q
+    → AreGreaterGoals n prec next s t l place is r → AreTypedGoals n prec next s t l place is q
+one_type_goals n prec next place s t c l is r q decides so e h w o u =
+    may n w q (typed_tasks w.symbols prec w.metas next (tree n s) (tree n t) l place is) (greater_tasks w.symbols prec w.metas next (tree n s) (tree n t) l place is)
+    (typed_greater w.symbols prec w.metas next (tree n s) (tree n t) l place is ((decides n w o u).0 so))
+    (subst (λ (x : Option (Vec Goal)). MayStandFor n w x (greater_tasks w.symbols prec w.metas next (tree n s) (tree n t) l place is)) e (h w o u))
 
 pub two_types : (n : ℕ) (prec : ℕ → ℕ) (next place : ℕ) (s t : Tree) (c : Bool) (l : Letter) (is : Inferences) → TestsTypes s t c → c ≡ false
     → AreTypedGoals n prec next s t l place is None
@@ -191,6 +192,17 @@ two_types n prec next place s t c l is decides not w o u =
   where
     refuted : true ≡ false → ⊥
     refuted e = cc
+
+-- where nothing is asked for there are no goals, whatever the test says
+none_either : (n : ℕ) (w : World) (c : Bool) (o : Option (List Task)) → MayStandFor n w None o → MayStandFor n w None (cond c o None)
+none_either n w true o h = h
+none_either n w false o h = refl
+
+pub no_goals : (n : ℕ) (prec : ℕ → ℕ) (next place : ℕ) (s t : Tree) (l : Letter) (is : Inferences) (r : Option (Vec Goal)) → r ≡ None
+    → AreGreaterGoals n prec next s t l place is r → AreTypedGoals n prec next s t l place is None
+no_goals n prec next place s t l is r e h w o u =
+    none_either n w (one_kind w.symbols prec w.metas (tree n s) (tree n t)) (greater_tasks w.symbols prec w.metas next (tree n s) (tree n t) l place is)
+    (subst (λ (x : Option (Vec Goal)). MayStandFor n w x (greater_tasks w.symbols prec w.metas next (tree n s) (tree n t) l place is)) e (h w o u))
 
 -- the same trees
 

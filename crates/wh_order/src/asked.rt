@@ -98,12 +98,12 @@ fn typed_goals<'a>(
     ensures { IfOk result (λ r. AreTypedGoals (length (filtering_data filters.now).symbols) (order_of (filtering_data filters.now))
         next left.now right.now (s.letter letter) place (s.inferences parts.now) r) }
 {
+    let Some(goals) = greater_goals(alloc, filters, next, left, right, letter, place, parts)? else {
+        return Ok(None);
+    };
+    // To compare types they have to be made, which is dear: that is done only where the letter asks for something at all.
     let alike = have_one_type(alloc, left, right)?;
-    if alike {
-        greater_goals(alloc, filters, next, left, right, letter, place, parts)
-    } else {
-        Ok(None)
-    }
+    if alike { Ok(Some(goals)) } else { Ok(None) }
 }
 
 // The same where both have one type.

@@ -21,7 +21,7 @@ use Rattle.wh_order.specs.TreeSides.{AreFilters, AreSides, IsTreeOfSide, IsTreeO
 use Rattle.wh_infer.specs.Lines.{Shows, IsFound}
 use Rattle.wh_infer.proofs.TaskLemmas.{stricter_good, weaker_good}
 use Rattle.wh_order_lines.specs.Oriented.{IsWithin, OrientsStrictly, MeetsPair}
-use Rattle.wh_order_lines.specs.OrderLines.{IsPairLine, IsRuleLineOrNone, IsPairLineOrNone, IsLineBetween}
+use Rattle.wh_order_lines.specs.OrderLines.{IsPairLine, IsRuleLineOrNone, IsPairLineOrNone, IsAnyPairLineOrNone, IsLineBetween}
 use Rattle.wh_order_lines.specs.declared.lines.PairLine.{PairLine}
 
 module _ (S : Symbols) (rules : List RewriteRule) (D : FilteringData) where
@@ -108,6 +108,17 @@ module _ (S : Symbols) (rules : List RewriteRule) (D : FilteringData) where
         nested = few.nested;
         few = few.few;
       })
+
+  pub any_pair_found : (p : PairData) (u v : Tree) (found : Option Inference) → AreFilters S rules D → HasNarrowCalls S p → IsTreeOfCall S rules D p false u → IsTreeOfCall S rules D p true v
+      → IsFound D at_least u v found → IsAnyPairLineOrNone S rules D p found
+  any_pair_found p u v None f narrow a b h = pair_none p u v f a b h
+  any_pair_found p u v (Some i) f narrow a b h =
+      let shows = (h S rules (collapsed p.metas) (pair_sides p u v f a b)).0 in
+      record {
+        narrow = narrow;
+        good = sym (ap₂ (λ (s t : Tm). on_trees (collapsed p.metas) s t (inference i)) a.same_tree b.same_tree) ∙ shows.good;
+        within = record { nested = shows.nested; few = shows.few };
+      }
 
   pub pair_between : (p : PairData) (u v : Tree) (found : Option PairLine) → AreFilters S rules D → HasNarrowCalls S p → IsTreeOfCall S rules D p false u → IsTreeOfCall S rules D p true v
       → IsLineBetween D u v found → IsPairLineOrNone S rules D p found

@@ -30,6 +30,12 @@ module _ (S : Symbols) (rules : List RewriteRule) (D : FilteringData) where
     pub strict_is : IsTrue line.strict ↔ OrientsStrictly S rules D p
     pub differ : IsTrue line.strict → letter_of (inference line.inference) ≢ same_trees
 
+  -- the inference orients the pair, no side of which is too wide; it may be that of equal trees
+  pub record IsAnyPairLine (p : PairData) (line : Inference) : Type 0 where
+    pub narrow : HasNarrowCalls S p
+    pub good : IsGoodPair S rules D p line
+    pub within : IsWithin line
+
   -- a line for the rule, or there is none
   abbrev pub IsRuleLineOrNone : RewriteRule → Option made.Inference → Type 0
   IsRuleLineOrNone r found = MatchOption found (MeetsRule S rules D r → ⊥) (λ line. IsRuleLine r (inference line))
@@ -37,6 +43,10 @@ module _ (S : Symbols) (rules : List RewriteRule) (D : FilteringData) where
   -- and so for the pair
   abbrev pub IsPairLineOrNone : PairData → Option PairLine → Type 0
   IsPairLineOrNone p found = MatchOption found (MeetsPair S rules D p → ⊥) (IsPairLine p)
+
+  -- any line for the pair, or there is none
+  abbrev pub IsAnyPairLineOrNone : PairData → Option made.Inference → Type 0
+  IsAnyPairLineOrNone p found = MatchOption found (MeetsPair S rules D p → ⊥) (λ line. IsAnyPairLine p (inference line))
 
 -- the line of two filtered trees: it is strict where the left one is greater
 abbrev pub IsLineBetween : FilteringData → Tree → Tree → Option PairLine → Type 0

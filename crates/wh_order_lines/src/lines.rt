@@ -11,7 +11,7 @@ ghost use Rattle.wh_ordering.specs.FilteringView.{filtering_data};
 ghost use Rattle.wh_ordering.specs.Ordering.{IsNarrow};
 ghost use Rattle.wh_order.specs.TreeSides.{AreFilters, HasTypedCalls, IsTreeOfCall, IsTreeOfSide, extended_pair_side};
 ghost use Rattle.wh_infer.specs.Lines.{IsFound};
-ghost use Rattle.wh_order_lines.specs.OrderLines.{IsLineBetween, IsPairLineOrNone, IsRuleLineOrNone};
+ghost use Rattle.wh_order_lines.specs.OrderLines.{IsAnyPairLineOrNone, IsLineBetween, IsPairLineOrNone, IsRuleLineOrNone};
 
 use std::alloc::{AllocError, Global};
 use wh_infer::{find_greater, find_inference};
@@ -94,6 +94,28 @@ pub fn pair_line(
         return Ok(None);
     };
     line_between(alloc, filters, &left, &right)
+}
+
+/// An inference that orients the pair, that of equal trees or another one; `None` where there is none, or a side is too wide. It takes
+/// one search, where `pair_line` may take two.
+pub fn any_pair_line(
+    alloc: Global,
+    system: &System,
+    filters: &Filters,
+    pair: &Pair,
+) -> Result<Option<Inference>, AllocError>
+    requires filters { AreFilters (system_data system.now).symbols (system_data system.now).rules (filtering_data filters.now) }
+    requires typed { HasTypedCalls (system_data system.now).symbols (system_data system.now).rules (pair_data pair.now) }
+    ensures { IfOk result (IsAnyPairLineOrNone (system_data system.now).symbols (system_data system.now).rules (filtering_data filters.now)
+        (pair_data pair.now)) }
+{
+    let Some(left) = pair_side(alloc, system, filters, pair, false)? else {
+        return Ok(None);
+    };
+    let Some(right) = pair_side(alloc, system, filters, pair, true)? else {
+        return Ok(None);
+    };
+    find_inference(alloc, filters, &left, &right)
 }
 
 // The line of two filtered sides.

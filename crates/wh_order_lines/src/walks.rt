@@ -10,7 +10,7 @@ ghost use Rattle.wh_ordering.specs.FilteringView.{filtering_data};
 ghost use Rattle.wh_order.specs.TreeSides.{AreFilters, HasTypedCalls};
 ghost use Rattle.wh_order_lines.specs.OrderWalks.{AreLinesOfPairs, AreRuleLines, IsFailingPair, IsFailingRule};
 
-use crate::lines::{pair_line, rule_line};
+use crate::lines::{any_pair_line, pair_line, rule_line};
 use std::alloc::{AllocError, Global};
 use wh_inference::Inferences;
 use wh_ordering::Filters;
@@ -107,6 +107,6 @@ pub fn lacks_pair_line<'a>(
 {
     let number = task.set[place];
     let pair = &task.pairs[number as usize];
-    let line = pair_line(alloc, task.system, filters, pair)?;
+    let line = any_pair_line(alloc, task.system, filters, pair)?;
     Ok(line.is_none())
 }

@@ -1,4 +1,4 @@
-use Rattle.std.proofs.Common.{◌≡◌, ℕ, ◌-◌, Bor, Option, Some, length, drop, subst, sym, ◌∙◌, refl, arith}
+use Rattle.std.proofs.Common.{◌≡◌, ℕ, ◌+◌, ◌-◌, Bor, Option, Some, length, drop, subst, sym, ◌∙◌, refl, arith}
 use Rattle.std.specs.Global.{Vec}
 use Rattle.wh_inference.specs.Said.{letter}
 use Rattle.wh_ordering.specs.FilteringView.{filtering_data}
@@ -6,7 +6,7 @@ use Rattle.wh_ordering.specs.declared.filters.Filters.{Filters}
 use Rattle.wh_order.specs.declared.goals.Goal.{Goal}
 use Rattle.wh_infer.specs.Least.{NotRefuted}
 use Rattle.wh_infer.specs.Bests.{AreGoalsBy, IsBestAt, IsBestBy, IsLeastCount, IsLeastTotal, IsSum}
-use Rattle.wh_infer.proofs.BestLemmas.{best_counted, letters_next, letters_all, places_next, places_all, at_choice, total_first, total_next, total_stop}
+use Rattle.wh_infer.proofs.BestLemmas.{ByLetters, best_counted, best_one, letters_next, letters_all, places_next, places_all, at_choice, total_first, total_next, total_stop}
 use Rattle.wh_infer.proofs.best.+counting.Goals as goal
 
 pub best-loop-number-preserved : goal.best-loop-number-preserved
@@ -17,6 +17,14 @@ best-loop-number-preserved t c =
           (letters_next (filtering_data c.args.known.now.filters.now) c.args.room c.args.goal.now c.loop-number.number c.letter_at-letter.result c.loop-number.found c.in_ok-own.own c.lesser-found.result
           c.letter_at-letter.ensures c.lesser-found.ensures before own))),
     )
+
+pub best-returns-then-has_one_entry-clause-found : goal.best-returns-then-has_one_entry-clause-found
+best-returns-then-has_one_entry-clause-found t c refuted =
+    let found = subst (λ (f : Bor Filters). NotRefuted (IsBestBy (filtering_data f.now) c.args.room c.args.goal.now c.letter_at-letter.result c.in_ok-own.own)) c.loop-number.invariant.0 c.in_ok-own.ensures.found in
+    c.loop-number.invariant.1 (λ before. found (λ own. refuted
+    (best_one (ByLetters (c.loop-number.number + 1)) (filtering_data c.args.known.now.filters.now) c.args.room c.args.goal.now c.lesser-found.result (c.has_one_entry.ensures.0 c.if-has_one_entry.true)
+    (letters_next (filtering_data c.args.known.now.filters.now) c.args.room c.args.goal.now c.loop-number.number c.letter_at-letter.result c.loop-number.found c.in_ok-own.own c.lesser-found.result
+    c.letter_at-letter.ensures c.lesser-found.ensures before own))))
 
 pub best-returns-clause-found : goal.best-returns-clause-found
 best-returns-clause-found t c refuted =
@@ -54,6 +62,12 @@ least-note-requires t c refuted =
 
 pub least-returns-clause-found : goal.least-returns-clause-found
 least-returns-clause-found t c refuted =
+    c.in_ok-choice.ensures.found (λ best. refuted
+    (subst (λ (r : Option ℕ). IsLeastCount (filtering_data c.args.known.now.filters.now) c.args.room c.args.goal.now r) (sym c.count_of-count.ensures)
+    (best_counted (filtering_data c.args.known.now.filters.now) c.args.room c.args.goal.now c.in_ok-choice.choice best)))
+
+pub least-returns-then-known-asked-clause-found : goal.least-returns-then-known-asked-clause-found
+least-returns-then-known-asked-clause-found t c refuted =
     c.in_ok-choice.ensures.found (λ best. refuted
     (subst (λ (r : Option ℕ). IsLeastCount (filtering_data c.args.known.now.filters.now) c.args.room c.args.goal.now r) (sym c.count_of-count.ensures)
     (best_counted (filtering_data c.args.known.now.filters.now) c.args.room c.args.goal.now c.in_ok-choice.choice best)))

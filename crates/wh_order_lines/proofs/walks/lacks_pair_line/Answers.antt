@@ -8,11 +8,11 @@ use Rattle.wh_inference.specs.Said.{inference}
 use Rattle.wh_ordering.specs.FilteringView.{filtering_data}
 use Rattle.wh_order_lines.proofs.Matched.{told_missing}
 use Rattle.wh_order_lines.specs.Oriented.{MeetsPair}
-use Rattle.wh_order_lines.specs.OrderLines.{IsPairLine}
+use Rattle.wh_order_lines.specs.OrderLines.{IsAnyPairLine}
 use Rattle.wh_order_lines.proofs.walks.lacks_pair_line.Goals as goal
 
-pub pair_line-requires-clause-typed : goal.pair_line-requires-clause-typed
-pair_line-requires-clause-typed c =
+pub any_pair_line-requires-clause-typed : goal.any_pair_line-requires-clause-typed
+any_pair_line-requires-clause-typed c =
     let t = c.args.task.now in
     let T = task_data t in
     let i = c.args.place in
@@ -28,8 +28,8 @@ returns c =
     let p = pair_data (get_or t.pairs.now n c.index-task-number.result) in
     let here = number_at T.set i c.requires.place in
     let at = pair_at t c.requires.task i c.index-task-number.result c.requires.place in
-    let told = told_missing c.in_ok-line.line (MeetsPair T.symbols T.rules D p → ⊥) (IsPairLine T.symbols T.rules D p) c.is_none.result
-    c.is_none.ensures c.in_ok-line.ensures (λ line is never. never (is.narrow, (inference line.inference, is.good, is.within))) in (
+    let told = told_missing c.in_ok-line.line (MeetsPair T.symbols T.rules D p → ⊥) (λ line. IsAnyPairLine T.symbols T.rules D p (inference line)) c.is_none.result
+    c.is_none.ensures c.in_ok-line.ensures (λ line is never. never (is.narrow, (inference line, is.good, is.within))) in (
       λ missing. (n, p, here, at, told.0 missing),
       λ (m, q, place, there, never).
           let same : m ≡ n = some_one place here in

@@ -21,4 +21,4 @@ invariant_of-self-2-clause-exact c =
     (c.in_ok-copy_tree.ensures ∙ ap plain c.tree.ensures) (c.in_ok-copy_tree-2.ensures ∙ ap plain c.tree-2.ensures)
 
 pub invariant_of-self-2-clause-whole : goal.invariant_of-self-2-clause-whole
-invariant_of-self-2-clause-whole c = length-set c.args.self.now.heads.items (c.key_of-key.result % 1024) c.len-place.result ∙ c.args.self.now.whole
+invariant_of-self-2-clause-whole c = length-set c.args.self.now.heads.items (c.key_of-key.result % 128) c.len-place.result ∙ c.args.self.now.whole
