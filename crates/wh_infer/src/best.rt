@@ -24,7 +24,7 @@ pub fn best(known: &mut Known<'_>, goal: &Goal<'_>, room: u8) -> Result<Option<C
         let letter = letter_at(number);
         let own = best_by(known, goal, room, letter)?;
         found = lesser(found, own);
-        // No choice has fewer entries, and of two with as many the first one counts: the other letters need not be tried.
+        // No choice has fewer entries, and of two with as many the first one counts: the others need not be tried.
         if has_one_entry(found) {
             return Ok(found);
         }
@@ -136,9 +136,9 @@ fn sum_of(own: Option<u32>, others: u32) -> Option<u32>
     }
 }
 
-// The least number of entries that shows the goal, nested at most `room` deep; `None` where it is 2^32 at least. It is looked up, or
-// else kept where other goals were asked for on the way: one that asks for none is found as fast again, and to keep it copies both
-// its trees.
+// The least number of entries that shows the goal, nested at most `room` deep; `None` where it is 2^32 at least. It is
+// looked up, or else kept where other goals were asked for on the way: one that asks for none is found as fast again,
+// and to keep it copies both its trees.
 #[cycle(counting)]
 fn least(known: &mut Known<'_>, goal: &Goal<'_>, room: u8) -> Result<Option<u32>, AllocError>
     ensures found { IfOk result (λ r. NotRefuted (IsLeastCount (filtering_data known.old.filters.now) room goal.now r)) }

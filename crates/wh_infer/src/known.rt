@@ -13,8 +13,8 @@ use std::alloc::{AllocError, Global};
 use wh_order::{Claim, Goal};
 use wh_ordering::Filters;
 
-// How many buckets there are. Each search makes a table of them, and most searches keep few goals: a larger table costs more than it
-// gives.
+// How many buckets there are. Each search makes a table of them, and most searches keep few goals: a larger table
+// costs more than it gives.
 const BUCKETS: usize = 128;
 
 // The place of no entry.

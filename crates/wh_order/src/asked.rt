@@ -101,7 +101,7 @@ fn typed_goals<'a>(
     let Some(goals) = greater_goals(alloc, filters, next, left, right, letter, place, parts)? else {
         return Ok(None);
     };
-    // To compare types they have to be made, which is dear: that is done only where the letter asks for something at all.
+    // To compare types they have to be made, which is dear: that is done only where the letter asks for something.
     let alike = have_one_type(alloc, left, right)?;
     if alike { Ok(Some(goals)) } else { Ok(None) }
 }

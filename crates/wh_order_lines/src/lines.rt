@@ -96,8 +96,8 @@ pub fn pair_line(
     line_between(alloc, filters, &left, &right)
 }
 
-/// An inference that orients the pair, that of equal trees or another one; `None` where there is none, or a side is too wide. It takes
-/// one search, where `pair_line` may take two.
+/// An inference that orients the pair, that of equal trees or another one; `None` where there is none, or a side is too
+/// wide. It takes one search, where `pair_line` may take two.
 pub fn any_pair_line(
     alloc: Global,
     system: &System,
