@@ -1,11 +1,2 @@
-pub mod Causes
-pub mod Meaning
-pub mod ProofText
-pub mod Searching
-pub mod Reductions
-pub mod Refutals
-pub mod Asking
-pub mod Replying
 pub mod OneAnswer
 pub mod SomeAnswer
-pub mod Complete

@@ -1,12 +1,8 @@
 //! The program's one call: words in, one text and a status out.
 #![tactic(auto)]
 
-mod generating;
 mod laws;
 mod program;
-mod proving;
-mod reducing;
-mod refuting;
 
 pub use laws::{
     checks_have_one_answer, each_check_has_an_answer, loops_are_accepted, loops_mean_unbounded,

@@ -1,0 +1,9 @@
+pub mod Causes
+pub mod Meaning
+pub mod ProofText
+pub mod Searching
+pub mod Reductions
+pub mod Refutals
+pub mod Asking
+pub mod Replying
+pub mod Complete
