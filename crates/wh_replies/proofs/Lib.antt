@@ -5,5 +5,5 @@ pub mod Searching
 pub mod Reductions
 pub mod Refutals
 pub mod Asking
-pub mod Replying
+pub mod OwnTexts
 pub mod Complete

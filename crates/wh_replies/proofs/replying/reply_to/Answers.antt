@@ -4,7 +4,7 @@ use Rattle.wh_words.specs.Asked.{bounds_of, request}
 use Rattle.wh_judging.specs.Outcomes.{Shelves, outside}
 use Rattle.wh_replies.specs.Run.{Replies}
 use Rattle.wh_judging.specs.Texts.{TellsMade}
-use Rattle.wh_replies.proofs.Replying.{search_replies, show_replies, generated_replies, reduced_replies, upgraded_replies, refuted_replies}
+use Rattle.wh_replies.proofs.OwnTexts.{search_replies, show_replies, generated_replies, reduced_replies, upgraded_replies, refuted_replies}
 use Rattle.wh_replies.proofs.replying.reply_to.Goals as goal
 
 pub returns-in-Prove-clause-served : goal.returns-in-Prove-clause-served
