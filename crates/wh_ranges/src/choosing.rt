@@ -21,6 +21,15 @@ pub struct Candidate {
     weight: usize,
 }
 
+/// A condition that fails at the lower ends of the ranges, for which a place to split them is sought.
+#[derive(Clone, Copy)]
+struct Failure<'a, 'b> {
+    task: &'a Task<'b>,
+    plan: &'a Plan,
+    ranges: &'a Ranges,
+    goal: Goal,
+}
+
 /// The coefficient at which the ranges are split: one on the left side of a condition that fails at the lower ends, since only more there
 /// can help. None where no condition is seen to fail, or no work is left.
 pub fn place_to_split<'a>(
@@ -44,57 +53,56 @@ pub fn place_to_split<'a>(
         if fails_at(alloc, task, work, &ranges.low.guess, goal)? {
             let lists = copy_lists(alloc, &ranges.low.lists)?;
             let mut probe = Bound::by(alloc, task, marked, lists)?;
-            return place_for(alloc, task, plan, work, ranges, goal, &mut probe);
+            let failure = Failure {
+                task,
+                plan,
+                ranges,
+                goal,
+            };
+            return place_for(alloc, &failure, work, &mut probe);
         }
     }
     Ok(None)
 }
 
 // The best open coefficient on the left side of the condition. The probe has the lower ends.
-fn place_for<'a>(
+fn place_for<'a, 'b>(
     alloc: Global,
-    task: &Task<'a>,
-    plan: &Plan,
+    failure: &Failure<'a, 'b>,
     work: &mut Work,
-    ranges: &Ranges,
-    goal: Goal,
     probe: &mut Bound,
 ) -> Result<Option<Coefficient>, AllocError>
-    requires task { IsTaskOf task.now }
-    requires probe { IsBound task.now probe.old }
-    ensures probe { OnOk result (IsBound task.now probe.new) }
+    requires task { IsTaskOf failure.now.task.now }
+    requires probe { IsBound failure.now.task.now probe.old }
+    ensures probe { OnOk result (IsBound failure.now.task.now probe.new) }
 {
     let mut best = None;
-    for number in plan.read_at(goal.number, End::Low) {
-        let weight = plan.weight_of(*number);
-        best = best_in_list(
-            alloc, task, work, ranges, goal, probe, *number, weight, best,
-        )?;
+    for number in failure.plan.read_at(failure.goal.number, End::Low) {
+        best = best_in_list(alloc, failure, work, probe, *number, best)?;
     }
     Ok(best.map(|candidate| candidate.at))
 }
 
 // The best so far, and the open coefficients of the list with the number.
-fn best_in_list<'a>(
+fn best_in_list<'a, 'b>(
     alloc: Global,
-    task: &Task<'a>,
+    failure: &Failure<'a, 'b>,
     work: &mut Work,
-    ranges: &Ranges,
-    goal: Goal,
     probe: &mut Bound,
     number: usize,
-    weight: usize,
     best: Option<Candidate>,
 ) -> Result<Option<Candidate>, AllocError>
-    requires task { IsTaskOf task.now }
-    requires probe { IsBound task.now probe.old }
-    ensures probe { OnOk result (IsBound task.now probe.new) }
+    requires task { IsTaskOf failure.now.task.now }
+    requires probe { IsBound failure.now.task.now probe.old }
+    ensures probe { OnOk result (IsBound failure.now.task.now probe.new) }
 {
+    let Ranges { low, high, .. } = failure.ranges;
+    let weight = failure.plan.weight_of(number);
     let mut best = best;
-    for place in 0..ranges.high.count(number) {
+    for place in 0..high.count(number) {
         let at = Coefficient { number, place };
-        if ranges.low.at(at) < ranges.high.at(at) {
-            let mends = is_mended(alloc, task, work, ranges, goal, probe, at)?;
+        if low.at(at) < high.at(at) {
+            let mends = is_mended(alloc, failure, work, probe, at)?;
             best = Some(better(best, Candidate { at, mends, weight }));
         }
     }
@@ -102,19 +110,20 @@ fn best_in_list<'a>(
 }
 
 // Whether the condition is not seen to fail where the coefficient is at its upper end, and all others are at their lower ends.
-fn is_mended<'a>(
+fn is_mended<'a, 'b>(
     alloc: Global,
-    task: &Task<'a>,
+    failure: &Failure<'a, 'b>,
     work: &mut Work,
-    ranges: &Ranges,
-    goal: Goal,
     probe: &mut Bound,
     at: Coefficient,
 ) -> Result<bool, AllocError>
-    requires task { IsTaskOf task.now }
-    requires probe { IsBound task.now probe.old }
-    ensures probe { OnOk result (IsBound task.now probe.new) }
+    requires task { IsTaskOf failure.now.task.now }
+    requires probe { IsBound failure.now.task.now probe.old }
+    ensures probe { OnOk result (IsBound failure.now.task.now probe.new) }
 {
+    let Failure {
+        task, ranges, goal, ..
+    } = *failure;
     probe.set(alloc, task, at, ranges.high.at(at))?;
     let fails = fails_at(alloc, task, work, &probe.guess, goal)?;
     probe.set(alloc, task, at, ranges.low.at(at))?;

@@ -5,7 +5,9 @@ mod causes;
 mod laws;
 mod read;
 mod rows;
+mod standing;
 mod words;
 
 pub use laws::read_back;
 pub use read::read_answer;
+pub use standing::report_stands;
