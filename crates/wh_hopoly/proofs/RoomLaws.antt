@@ -12,13 +12,13 @@ use Rattle.wh_hopoly.specs.Arithmetic.{join_factors, multiply, constant, atom, f
 use Rattle.wh_hopoly.specs.Limits.{weight, weight_of_factors, nesting, nesting_of_factors, Exceeds}
 use Rattle.wh_hopoly.specs.Merges.{joined}
 use Rattle.wh_hopoly.specs.Growing.{grown, first_value, HasRoom, LeavesRoom, HasCoefficientsUpTo, monomial_count}
-use Rattle.wh_hopoly.specs.Erase.{poly, atoms, polys, factors, monomials, sum_of, product_of}
+use Rattle.wh_hopoly.specs.Erase.{poly, atoms, polys, factors, list, monomials, sum_of, product_of}
 use Rattle.wh_hopoly.specs.declared.growing.Growing.{Growing}
 use Rattle.wh_hopoly.specs.declared.polynomial.Atoms.{Atoms}
 use Rattle.wh_hopoly.specs.declared.polynomial.Poly.{Poly}
 use Rattle.wh_hopoly.specs.declared.polynomial.Monomial.{Monomial, out-Monomial}
 use Rattle.wh_hopoly.specs.declared.polynomial.Atom.{Atom, out-Atom}
-use Rattle.wh_hopoly.proofs.Lists.{poly_is, atoms_is}
+use Rattle.wh_hopoly.proofs.Lists.{poly_is, atoms_is, no_arguments_left}
 use Rattle.wh_hopoly.proofs.Pushes.{sum_one_more}
 use Rattle.wh_hopoly.proofs.SumLaws.{one_product}
 use Rattle.wh_hopoly.proofs.GrowingLaws.{joined_append, joined_by, joined_same, joined_ordered, weight_joins, nesting_joins}
@@ -70,6 +70,17 @@ pub variable_taken_in : (p : Polynomial) (greatest c left x : ℕ) (us new : Lis
     → (multiply p (one c (joined new)) ≡ multiply (multiply p (one c (joined us))) (atom x no_arguments)) × LeavesRoom p greatest c (joined new) (left - 1)
 variable_taken_in p greatest c left x us new u h l f ex ep = taken_in_as p greatest c 1 c left (left - 1) us new (times x no_arguments no_factors) h (omega arith) (tt, tt)
     (ap joined f ∙ joined_append us (u ∷ []) ∙ ap (join_factors (joined us)) (ap₂ (λ x ps. times x ps no_factors) ex ep)) (sym (mul-one c)) h.fitting (omega (arith, l)) (omega arith)
+
+-- a monomial that is a variable without arguments
+only_factor : (us : Atoms) (xs : List Atom) (u : Atom) → xs ≡ factors us → length xs ≡ 1 → u ≡ get_or xs 0 u → atoms us ≡ times (out-Atom u).head (polys (out-Atom u).args) no_factors
+only_factor us [] u e l h = absurd (omega (arith, l))
+only_factor us (x ∷ []) u e l h = atoms_is us ∙ ap product_of (sym e) ∙ ap (λ x. times (out-Atom x).head (polys (out-Atom x).args) no_factors) (sym h)
+only_factor us (x ∷ y ∷ xs) u e l h = absurd (omega (arith, l))
+
+pub only_variable : (c : ℕ) (us : Atoms) (xs : List Atom) (u : Atom) (ys : List Poly) → c ≡ 1 → xs ≡ factors us → length xs ≡ 1 → u ≡ get_or xs 0 u → ys ≡ list (out-Atom u).args → length ys ≤ 0
+    → plus c (atoms us) zero_poly ≡ atom (out-Atom u).head no_arguments
+only_variable c us xs u ys k e l h f n =
+    ap₂ (λ c us. plus c us zero_poly) k (only_factor us xs u e l h ∙ ap (λ ps. times (out-Atom u).head ps no_factors) (no_arguments_left (out-Atom u).args ys f n))
 
 -- no monomial yet
 pub begins : (p : Polynomial) (greatest left : ℕ) (us : List _) → Ordered p → (Exceeds p → ⊥) → HasCoefficientsUpTo greatest p → greatest < 2 ^ 128 → weight p + monomial_count p * left ≤ 65536 → us ≡ []
