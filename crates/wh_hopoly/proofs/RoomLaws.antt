@@ -1,6 +1,6 @@
 -- What a product that grows may still take in.
 use Rattle.std.proofs.Common.{◌≡◌, ℕ, ◌+◌, ◌-◌, ◌*◌, ◌<◌, ◌≤◌, ◌^◌, inl, inr, List, [], ◌∷◌, ◌++◌, length, take, get_or, refl, ap, ap₂, sym, subst, ◌∙◌, arith, one-mul, mul-one, mul-le-mul, mul_comm, div-mul-le_self, le_refl, ◌/◌}
-use Rattle.std.specs.Prelude.{Some, Result, Err}
+use Rattle.std.specs.Prelude.{None, Some, Result, Err}
 use Rattle.wh_types.specs.Outcome.{IfBecause}
 use Rattle.wh_types.specs.declared.want.Or.{Or}
 use Rattle.wh_types.specs.declared.want.Or.TheVariants.{Because}
@@ -21,6 +21,7 @@ use Rattle.wh_hopoly.specs.declared.polynomial.Atom.{Atom, out-Atom}
 use Rattle.wh_hopoly.proofs.Lists.{poly_is, atoms_is, no_arguments_left}
 use Rattle.wh_hopoly.proofs.Pushes.{sum_one_more}
 use Rattle.wh_hopoly.proofs.SumLaws.{one_product}
+use Rattle.wh_hopoly.proofs.CommuteLaws.{multiply_commutes}
 use Rattle.wh_hopoly.proofs.GrowingLaws.{joined_append, joined_by, joined_same, joined_ordered, weight_joins, nesting_joins}
 use Rattle.wh_hopoly.proofs.ScaleLaws.{one, multiply_twice, multiply_by_one, one_multiplied, up_to_multiply, up_to_fits, light_multiply, shallow_multiply}
 
@@ -111,6 +112,19 @@ starts c us l b e = (
     shallow = omega arith;
   }),
 )
+
+-- the product of nothing
+nothing_joined : (xs us : List Atom) → xs ≡ us → length xs ≤ 0 → joined us ≡ no_factors
+nothing_joined [] us e l = ap joined (sym e)
+nothing_joined (x ∷ xs) us e l = absurd (omega (arith, l))
+
+pub grown_one : (g : Growing) (xs : List Atom) → g.first ≡ None → g.coefficient ≡ 1 → xs ≡ factors g.factors → length xs ≤ 0 → grown g ≡ constant 1
+grown_one g xs e k f l =
+    ap₂ (λ first c. multiply (first_value first) (one c (joined (factors g.factors)))) e k ∙ ap (λ us. multiply (constant 1) (one 1 us)) (nothing_joined xs (factors g.factors) f l)
+    ∙ one_multiplied 1 no_factors
+
+pub times_one : (p q : Polynomial) → Ordered q → p ≡ constant 1 → multiply p q ≡ q
+times_one p q o e = ap (λ p. multiply p q) e ∙ multiply_commutes (constant 1) q (omega arith, tt, tt, tt) o ∙ multiply_by_one q o
 
 -- the monomial as a polynomial is in order
 pub last_ordered : (c : ℕ) (us : List _) (p : Polynomial) → 1 ≤ c → p ≡ one c (joined us) → Ordered p

@@ -2,7 +2,7 @@
 //! monomials before it in any order, and what they may still weigh is counted; they are put in order once, and multiplied in once. So
 //! what stands before a long row of factors is not copied, compared or weighed anew for each of them.
 
-ghost use Rattle.std.specs.Prelude.{◌≡◌, ◌+◌, ◌*◌, ◌≤◌, ◌<◌, IfOk, OnOk, IfSome};
+ghost use Rattle.std.specs.Prelude.{◌≡◌, ◌+◌, ◌*◌, ◌≤◌, ◌<◌, IfOk, OnOk, IfSome, IsTrue};
 ghost use Rattle.wh_types.specs.Limits.{greatest_weight};
 ghost use Rattle.wh_types.specs.Outcome.{IfBecause};
 ghost use Rattle.wh_hopoly.specs.Erase.{poly, atoms, polys, factors as factors_of};
@@ -14,10 +14,10 @@ ghost use Rattle.wh_hopoly.specs.Merges.{joined};
 ghost use Rattle.wh_hopoly.specs.Growing.{grown, HasRoom, TakesIn, HasCoefficientsUpTo, monomial_count};
 ghost use Rattle.wh_hopoly.specs.declared.polynomial.Monomial.{out-Monomial};
 
-use crate::copying::push_copies;
+use crate::copying::{copy, push_copies};
 use crate::excess::Excess;
 use crate::joining::in_order;
-use crate::limits::{MAX_NESTING, MAX_WEIGHT, fits};
+use crate::limits::{MAX_NESTING, MAX_WEIGHT, fits, tested};
 use crate::polynomial::{Atom, Atoms, Monomial, Poly, Polys};
 use crate::products::product;
 use crate::variables::one_factor;
@@ -47,13 +47,15 @@ pub struct Room {
     left: u32,
 }
 
-/// The product of no values: the number alone.
-pub fn start(alloc: Global, coefficient: u128) -> Result<Growing, AllocError>
+/// The product of no values: the number alone. So many factors may be about to come.
+pub fn start(alloc: Global, coefficient: u128, count: usize) -> Result<Growing, AllocError>
     requires { 1 ≤ coefficient }
     ensures { IfOk result (λ r. (grown r ≡ constant coefficient) × HasRoom r) }
 {
     fits(coefficient);
-    let factors = Atoms::new(alloc)?;
+    // Few have room at once, where they come at all.
+    let room = if count > 4 { count } else { 0 };
+    let factors = Atoms::with_capacity(alloc, room)?;
     Ok(Growing {
         first: None,
         greatest: 1,
@@ -184,11 +186,29 @@ fn multiply_out(alloc: Global, so_far: &mut Growing, value: &Poly) -> Result<(),
     ensures ok { OnOk result ((grown so_far.new ≡ multiply (grown so_far.old) (poly value.now)) × HasRoom so_far.new) }
     ensures fault { IfBecause result (λ e. ExceedsAs e (multiply (grown so_far.old) (poly value.now))) }
 {
-    let taken = mem::replace(so_far, start(alloc, 1)?);
+    if is_one(&*so_far) {
+        let same = tested(copy(alloc, value)?)?;
+        *so_far = begun(alloc, same)?;
+        return Ok(());
+    }
+    let taken = mem::replace(so_far, start(alloc, 1, 0)?);
     let before = finish(alloc, taken)?;
     let whole = product(alloc, &before, value)?;
     *so_far = begun(alloc, whole)?;
     Ok(())
+}
+
+// Whether the product is still 1.
+fn is_one(so_far: &Growing) -> bool
+    ensures { IsTrue result → grown so_far.now ≡ constant 1 }
+{
+    if so_far.coefficient != 1 || !so_far.factors.as_slice().is_empty() {
+        return false;
+    }
+    match &so_far.first {
+        Some(_) => false,
+        None => true,
+    }
 }
 
 // The value as the first one of a product.

@@ -139,7 +139,7 @@ fn replace_factors<'a>(
         e) }
     ensures kept { OnOk result (Keeps raised.new replacement.now place.now) }
 {
-    let mut so_far = start(alloc, coefficient)?;
+    let mut so_far = start(alloc, coefficient, us.as_slice().len())?;
     for item in us.as_slice() {
         multiply_by_factor(alloc, replacement, place, raised, &mut so_far, item)?;
     }
