@@ -1,5 +1,5 @@
 -- Results that are passed on: their values, and the limits that are exceeded.
-use Rattle.std.specs.Prelude.{◌≡◌, Result, Ok, Err, IfOk, IsErrAnd}
+use Rattle.std.specs.Prelude.{◌≡◌, Result, Ok, Err, IfOk, OnOk, IsErrAnd}
 use Rattle.std.proofs.Common.{sym, subst}
 use Rattle.wh_types.specs.Outcome.{IfBecause}
 use Rattle.wh_types.specs.declared.want.Or.{Or}
@@ -9,6 +9,11 @@ use Rattle.wh_types.specs.declared.want.Or.TheVariants.{NoMemory, Because}
 pub ok_so : {T E : Type 0} (r : Result T E) (P Q : T → Type 0) → ((x : T) → P x → Q x) → IfOk r P → IfOk r Q
 ok_so (Ok x) P Q f h = f x h
 ok_so (Err e) P Q f h = tt
+
+-- of what stands once it is done
+pub done_so : {T E : Type 0} (r : Result T E) (P Q : Type 0) → (P → Q) → OnOk r P → OnOk r Q
+done_so (Ok x) P Q f h = f h
+done_so (Err e) P Q f h = tt
 
 -- and of a cause
 pub because_so : {T E : Type 0} (r : Result T (Or E)) (P Q : E → Type 0) → ((e : E) → P e → Q e) → IfBecause r P → IfBecause r Q

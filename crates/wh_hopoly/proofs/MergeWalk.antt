@@ -1,9 +1,9 @@
 -- A merge of two sorted polynomials: each step gives the first monomial of the sum.
-use Rattle.std.proofs.Common.{◌≡◌, ◌<◌, ◌≤◌, inl, inr, List, [], ◌∷◌, ◌++◌, refl, ap, ap₂, sym, subst, ◌∙◌, arith, length, drop, get_or, Less, Equal, Greater}
+use Rattle.std.proofs.Common.{◌≡◌, ℕ, zero, suc, ◌+◌, ◌<◌, ◌≤◌, inl, inr, List, [], ◌∷◌, ◌++◌, refl, ap, ap₂, sym, subst, ◌∙◌, arith, length, drop, get_or, Less, Equal, Greater}
 use Rattle.std.specs.Prelude.{Option, Some, None}
 use mathlib.Core.Path.{subst₂}
-use Rattle.wh_hopoly.specs.Polynomials.{Polynomial, zero_poly, plus, Factors, compare_factors, Sorted}
-use Rattle.wh_hopoly.specs.Arithmetic.{sum_poly, followed_by}
+use Rattle.wh_hopoly.specs.Polynomials.{Polynomial, zero_poly, plus, Factors, MonomialBefore, compare_factors, Ordered, Sorted}
+use Rattle.wh_hopoly.specs.Arithmetic.{add_monomial, sum_poly, followed_by}
 use Rattle.wh_hopoly.specs.Limits.{weight, nesting, Overflows}
 use Rattle.wh_hopoly.specs.Excesses.{ExceedsAs}
 use Rattle.wh_hopoly.specs.declared.excess.Excess.{Excess}
@@ -11,9 +11,10 @@ use Rattle.wh_hopoly.specs.declared.excess.Excess.TheVariants as excess
 use Rattle.wh_hopoly.specs.declared.polynomial.Monomial.{Monomial, out-Monomial}
 use Rattle.wh_hopoly.specs.declared.polynomial.Poly.{Poly}
 use Rattle.wh_hopoly.specs.Erase.{poly, atoms, monomials, sum_of}
-use Rattle.wh_hopoly.specs.Merges.{FirstOfSum, AddsFirst, FirstOverflows}
+use Rattle.wh_hopoly.specs.Merges.{FirstOfSum, AddsFirst, FirstOverflows, EndsBefore}
 use Rattle.wh_hopoly.proofs.Lists.{poly_is}
 use Rattle.wh_hopoly.proofs.Pushes.{sum_of_append}
+use Rattle.wh_hopoly.proofs.OrderedLaws.{ordered_sorted, ordered_commute}
 use Rattle.wh_hopoly.proofs.SumLaws.{sum_less, sum_equal, sum_greater, add_front, before_sum}
 
 pub followed_assoc : (p q r : Polynomial) → followed_by (followed_by p q) r ≡ followed_by p (followed_by q r)
@@ -144,3 +145,29 @@ exceeds_behind excess.TooLarge p q (inr h) = inr (let k = deep_behind p q in ome
 
 pub merging_exceeds : (e : Excess) (total : Polynomial) (out xs ys : List Monomial) → Merging total out xs ys → ExceedsAs e (sum_poly (sum_of xs) (sum_of ys)) → ExceedsAs e total
 merging_exceeds e total out xs ys g h = subst (ExceedsAs e) (sym g.same) (exceeds_behind e (sum_of out) (sum_poly (sum_of xs) (sum_of ys)) h)
+
+-- values of which one is wholly before the other
+pub sum_follows : (p q : Polynomial) → Sorted p → EndsBefore p q → sum_poly p q ≡ followed_by p q
+sum_follows zero_poly q s b = refl
+sum_follows (plus c us zero_poly) q s b = add_front c us q b
+sum_follows (plus c us (plus d vs p)) q s b = ap (add_monomial c us) (sum_follows (plus d vs p) q s.1 b) ∙ add_front c us (plus d vs (followed_by p q)) s.0
+
+pub sum_precedes : (p q : Polynomial) → Ordered p → Ordered q → EndsBefore q p → sum_poly p q ≡ followed_by q p
+sum_precedes p q n m b = ordered_commute p q n m ∙ sum_follows q p (ordered_sorted q m) b
+
+pub none_ends_before : (p : Poly) (xs : List Monomial) (q : Polynomial) → xs ≡ monomials p → length xs ≤ 0 → EndsBefore (poly p) q
+none_ends_before p [] q e l = subst (λ p. EndsBefore p q) (sym (poly_is p ∙ ap sum_of (sym e))) tt
+none_ends_before p (x ∷ xs) q e l = absurd (omega (arith, l))
+
+last_before : (xs : List Monomial) (i : ℕ) (m : Monomial) (q : Polynomial) → i + 1 ≡ length xs → m ≡ get_or xs i m → MonomialBefore (factors_of m) q → EndsBefore (sum_of xs) q
+last_before [] i m q l e b = absurd (omega (arith, l))
+last_before (x ∷ []) zero m q l e b = subst (λ m. MonomialBefore (factors_of m) q) e b
+last_before (x ∷ []) (suc i) m q l e b = absurd (omega (arith, l))
+last_before (x ∷ y ∷ xs) zero m q l e b = absurd (omega (arith, l))
+last_before (x ∷ y ∷ xs) (suc i) m q l e b = last_before (y ∷ xs) i m q (omega (arith, l)) e b
+
+pub ends_before : (p : Poly) (xs : List Monomial) (i : ℕ) (m : Monomial) (q : Polynomial) → xs ≡ monomials p → i + 1 ≡ length xs → m ≡ get_or xs i m → MonomialBefore (factors_of m) q → EndsBefore (poly p) q
+ends_before p xs i m q e l k b = subst (λ p. EndsBefore p q) (sym (poly_is p ∙ ap sum_of (sym e))) (last_before xs i m q l k b)
+
+pub appended_is : (p q r : Poly) → monomials r ≡ monomials p ++ monomials q → poly r ≡ followed_by (poly p) (poly q)
+appended_is p q r e = poly_is r ∙ ap sum_of e ∙ sum_of_append (monomials p) (monomials q) ∙ sym (ap₂ followed_by (poly_is p) (poly_is q))

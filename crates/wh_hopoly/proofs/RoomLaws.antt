@@ -1,6 +1,6 @@
 -- What a product that grows may still take in.
 use Rattle.std.proofs.Common.{◌≡◌, ℕ, ◌+◌, ◌-◌, ◌*◌, ◌<◌, ◌≤◌, ◌^◌, inl, inr, List, [], ◌∷◌, ◌++◌, length, take, get_or, refl, ap, ap₂, sym, subst, ◌∙◌, arith, one-mul, mul-one, mul-le-mul, mul_comm, div-mul-le_self, le_refl, ◌/◌}
-use Rattle.std.specs.Prelude.{Some, Result, Err}
+use Rattle.std.specs.Prelude.{None, Some, Result, Err}
 use Rattle.wh_types.specs.Outcome.{IfBecause}
 use Rattle.wh_types.specs.declared.want.Or.{Or}
 use Rattle.wh_types.specs.declared.want.Or.TheVariants.{Because}
@@ -12,15 +12,16 @@ use Rattle.wh_hopoly.specs.Arithmetic.{join_factors, multiply, constant, atom, f
 use Rattle.wh_hopoly.specs.Limits.{weight, weight_of_factors, nesting, nesting_of_factors, Exceeds}
 use Rattle.wh_hopoly.specs.Merges.{joined}
 use Rattle.wh_hopoly.specs.Growing.{grown, first_value, HasRoom, LeavesRoom, HasCoefficientsUpTo, monomial_count}
-use Rattle.wh_hopoly.specs.Erase.{poly, atoms, polys, factors, monomials, sum_of, product_of}
+use Rattle.wh_hopoly.specs.Erase.{poly, atoms, polys, factors, list, monomials, sum_of, product_of}
 use Rattle.wh_hopoly.specs.declared.growing.Growing.{Growing}
 use Rattle.wh_hopoly.specs.declared.polynomial.Atoms.{Atoms}
 use Rattle.wh_hopoly.specs.declared.polynomial.Poly.{Poly}
 use Rattle.wh_hopoly.specs.declared.polynomial.Monomial.{Monomial, out-Monomial}
 use Rattle.wh_hopoly.specs.declared.polynomial.Atom.{Atom, out-Atom}
-use Rattle.wh_hopoly.proofs.Lists.{poly_is, atoms_is}
+use Rattle.wh_hopoly.proofs.Lists.{poly_is, atoms_is, no_arguments_left}
 use Rattle.wh_hopoly.proofs.Pushes.{sum_one_more}
 use Rattle.wh_hopoly.proofs.SumLaws.{one_product}
+use Rattle.wh_hopoly.proofs.CommuteLaws.{multiply_commutes}
 use Rattle.wh_hopoly.proofs.GrowingLaws.{joined_append, joined_by, joined_same, joined_ordered, weight_joins, nesting_joins}
 use Rattle.wh_hopoly.proofs.ScaleLaws.{one, multiply_twice, multiply_by_one, one_multiplied, up_to_multiply, up_to_fits, light_multiply, shallow_multiply}
 
@@ -71,6 +72,17 @@ pub variable_taken_in : (p : Polynomial) (greatest c left x : ℕ) (us new : Lis
 variable_taken_in p greatest c left x us new u h l f ex ep = taken_in_as p greatest c 1 c left (left - 1) us new (times x no_arguments no_factors) h (omega arith) (tt, tt)
     (ap joined f ∙ joined_append us (u ∷ []) ∙ ap (join_factors (joined us)) (ap₂ (λ x ps. times x ps no_factors) ex ep)) (sym (mul-one c)) h.fitting (omega (arith, l)) (omega arith)
 
+-- a monomial that is a variable without arguments
+only_factor : (us : Atoms) (xs : List Atom) (u : Atom) → xs ≡ factors us → length xs ≡ 1 → u ≡ get_or xs 0 u → atoms us ≡ times (out-Atom u).head (polys (out-Atom u).args) no_factors
+only_factor us [] u e l h = absurd (omega (arith, l))
+only_factor us (x ∷ []) u e l h = atoms_is us ∙ ap product_of (sym e) ∙ ap (λ x. times (out-Atom x).head (polys (out-Atom x).args) no_factors) (sym h)
+only_factor us (x ∷ y ∷ xs) u e l h = absurd (omega (arith, l))
+
+pub only_variable : (c : ℕ) (us : Atoms) (xs : List Atom) (u : Atom) (ys : List Poly) → c ≡ 1 → xs ≡ factors us → length xs ≡ 1 → u ≡ get_or xs 0 u → ys ≡ list (out-Atom u).args → length ys ≤ 0
+    → plus c (atoms us) zero_poly ≡ atom (out-Atom u).head no_arguments
+only_variable c us xs u ys k e l h f n =
+    ap₂ (λ c us. plus c us zero_poly) k (only_factor us xs u e l h ∙ ap (λ ps. times (out-Atom u).head ps no_factors) (no_arguments_left (out-Atom u).args ys f n))
+
 -- no monomial yet
 pub begins : (p : Polynomial) (greatest left : ℕ) (us : List _) → Ordered p → (Exceeds p → ⊥) → HasCoefficientsUpTo greatest p → greatest < 2 ^ 128 → weight p + monomial_count p * left ≤ 65536 → us ≡ []
     → (multiply p (one 1 (joined us)) ≡ p) × LeavesRoom p greatest 1 (joined us) left
@@ -100,6 +112,19 @@ starts c us l b e = (
     shallow = omega arith;
   }),
 )
+
+-- the product of nothing
+nothing_joined : (xs us : List Atom) → xs ≡ us → length xs ≤ 0 → joined us ≡ no_factors
+nothing_joined [] us e l = ap joined (sym e)
+nothing_joined (x ∷ xs) us e l = absurd (omega (arith, l))
+
+pub grown_one : (g : Growing) (xs : List Atom) → g.first ≡ None → g.coefficient ≡ 1 → xs ≡ factors g.factors → length xs ≤ 0 → grown g ≡ constant 1
+grown_one g xs e k f l =
+    ap₂ (λ first c. multiply (first_value first) (one c (joined (factors g.factors)))) e k ∙ ap (λ us. multiply (constant 1) (one 1 us)) (nothing_joined xs (factors g.factors) f l)
+    ∙ one_multiplied 1 no_factors
+
+pub times_one : (p q : Polynomial) → Ordered q → p ≡ constant 1 → multiply p q ≡ q
+times_one p q o e = ap (λ p. multiply p q) e ∙ multiply_commutes (constant 1) q (omega arith, tt, tt, tt) o ∙ multiply_by_one q o
 
 -- the monomial as a polynomial is in order
 pub last_ordered : (c : ℕ) (us : List _) (p : Polynomial) → 1 ≤ c → p ≡ one c (joined us) → Ordered p

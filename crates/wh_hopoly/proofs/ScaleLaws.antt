@@ -167,7 +167,7 @@ up_to_fits n (plus c us p) h l (inl k) = omega (arith, h.0, l, k)
 up_to_fits n (plus c us p) h l (inr k) = up_to_fits n p h.1 l k
 
 -- what it weighs and how deep it nests
-light_add : (a : ℕ) (ws : Factors) (q : Polynomial) → weight (add_monomial a ws q) ≤ (1 + weight_of_factors ws) + weight q
+pub light_add : (a : ℕ) (ws : Factors) (q : Polynomial) → weight (add_monomial a ws q) ≤ (1 + weight_of_factors ws) + weight q
 light_add a ws zero_poly = omega arith
 light_add a ws (plus d vs q) = go (light_add a ws q) (compare_factors ws vs)
   where
@@ -184,7 +184,7 @@ light_multiply (plus a ws p) c us =
     let m : (1 + monomial_count p) * weight_of_factors us ≡ 1 * weight_of_factors us + monomial_count p * weight_of_factors us = add-mul 1 (monomial_count p) (weight_of_factors us) in
     let n : 1 * weight_of_factors us ≡ weight_of_factors us = one-mul (weight_of_factors us) in omega (arith, r, l, j, m, n)
 
-shallow_add : (a : ℕ) (ws : Factors) (q : Polynomial) → nesting (add_monomial a ws q) ≤ max (nesting_of_factors ws) (nesting q)
+pub shallow_add : (a : ℕ) (ws : Factors) (q : Polynomial) → nesting (add_monomial a ws q) ≤ max (nesting_of_factors ws) (nesting q)
 shallow_add a ws zero_poly = omega arith
 shallow_add a ws (plus d vs q) = go (shallow_add a ws q) (compare_factors ws vs)
   where

@@ -1,15 +1,17 @@
 -- A sum of many polynomials does not depend on which are added first.
-use Rattle.std.proofs.Common.{◌≡◌, ◌-◌, ◌≤◌, inl, inr, List, [], ◌∷◌, ◌++◌, refl, ap, sym, subst, ◌∙◌, arith, length, length-append}
+use Rattle.std.proofs.Common.{◌≡◌, ℕ, ◌+◌, ◌-◌, ◌≤◌, inl, inr, List, [], ◌∷◌, ◌++◌, refl, ap, sym, subst, ◌∙◌, arith, length, length-append}
+use Rattle.std.specs.Prelude.{max, Option, None, Some}
 use Rattle.wh_hopoly.specs.Polynomials.{Polynomial, zero_poly, plus, Ordered}
 use Rattle.wh_hopoly.specs.Arithmetic.{add_monomial, sum_poly}
-use Rattle.wh_hopoly.specs.Limits.{Exceeds}
+use Rattle.wh_hopoly.specs.Limits.{weight, nesting, Overflows, Exceeds}
 use Rattle.wh_hopoly.specs.Excesses.{ExceedsAs}
 use Rattle.wh_hopoly.specs.Erase.{poly, monomials, sum_of}
-use Rattle.wh_hopoly.specs.Totals.{sum_of_parts, AllOrdered}
+use Rattle.wh_hopoly.specs.Totals.{sum_of_parts, AllOrdered, weight_of_parts, nesting_of_parts, Leaves, IsTakenFrom}
 use Rattle.wh_hopoly.specs.declared.excess.Excess.{Excess}
 use Rattle.wh_hopoly.specs.declared.polynomial.Poly.{Poly}
 use Rattle.wh_hopoly.proofs.Lists.{poly_is}
 use Rattle.wh_hopoly.proofs.SumLaws.{add_front}
+use Rattle.wh_hopoly.proofs.ScaleLaws.{light_add, shallow_add}
 use Rattle.wh_hopoly.proofs.OrderedLaws.{ordered_sum, ordered_associate, exceeds_left}
 
 pub parts_append : (q : Polynomial) (ps : List Poly) (p : Poly) → sum_of_parts q (ps ++ p ∷ []) ≡ sum_poly (poly p) (sum_of_parts q ps)
@@ -51,6 +53,68 @@ last_exceeds x p old new part e n m h =
     let k = all_but_last new part (subst AllOrdered e m) in
     subst (ExceedsAs x) (sym (last_added p old new part e n m))
     (exceeds_left x (sum_poly p (poly part)) (sum_of_parts zero_poly new) (ordered_sum p (poly part) n k.1) (total_ordered new k.0) h)
+
+-- what is left
+weight_sum : (p q : Polynomial) → weight (sum_poly p q) ≤ weight p + weight q
+weight_sum zero_poly q = omega arith
+weight_sum (plus c us p) q = let r = weight_sum p q in let a = light_add c us (sum_poly p q) in omega (arith, r, a)
+
+nesting_sum : (p q : Polynomial) → nesting (sum_poly p q) ≤ max (nesting p) (nesting q)
+nesting_sum zero_poly q = omega arith
+nesting_sum (plus c us p) q = let r = nesting_sum p q in let a = shallow_add c us (sum_poly p q) in omega (arith, r, a)
+
+weight_append : (ps : List Poly) (p : Poly) → weight_of_parts (ps ++ p ∷ []) ≡ weight_of_parts ps + weight (poly p)
+weight_append [] p = omega arith
+weight_append (a ∷ ps) p = let r = weight_append ps p in omega (arith, r)
+
+nesting_append : (ps : List Poly) (p : Poly) → nesting_of_parts (ps ++ p ∷ []) ≡ max (nesting_of_parts ps) (nesting (poly p))
+nesting_append [] p = omega arith
+nesting_append (a ∷ ps) p = let r = nesting_append ps p in omega (arith, r)
+
+pub taken_leaves : (left rest : Option ℕ) (q : Polynomial) (ps : List Poly) → IsTakenFrom left q rest → Leaves left zero_poly ps → Leaves rest q ps
+taken_leaves left None q ps t h = tt
+taken_leaves None (Some n) q ps t h = absurd t
+taken_leaves (Some m) (Some n) q ps t h = (omega (arith, t.0, h.0), t.1, h.2)
+
+pub sum_leaves : (left : Option ℕ) (p : Polynomial) (old new : List Poly) (part : Poly) → old ≡ new ++ part ∷ [] → Leaves left p old → Leaves left (sum_poly p (poly part)) new
+sum_leaves None p old new part e h = tt
+sum_leaves (Some n) p old new part e h =
+    let w = weight_sum p (poly part) in
+    let d = nesting_sum p (poly part) in
+    let a = ap weight_of_parts e ∙ weight_append new part in
+    let b = ap nesting_of_parts e ∙ nesting_append new part in
+    (omega (arith, w, a, h.0), omega (arith, d, b, h.1, h.2), omega (arith, b, h.2))
+
+pub last_leaves : (left : Option ℕ) (old new : List Poly) (last : Poly) → old ≡ new ++ last ∷ [] → Leaves left zero_poly old → Leaves left (poly last) new
+last_leaves None old new last e h = tt
+last_leaves (Some n) old new last e h =
+    let a = ap weight_of_parts e ∙ weight_append new last in
+    let b = ap nesting_of_parts e ∙ nesting_append new last in
+    (omega (arith, a, h.0), omega (arith, b, h.2), omega (arith, b, h.2))
+
+pub pushed_leaves : (left : Option ℕ) (old new : List Poly) (last : Poly) → new ≡ old ++ last ∷ [] → Leaves left (poly last) old → Leaves left zero_poly new
+pushed_leaves None old new last e h = tt
+pushed_leaves (Some n) old new last e h =
+    let a = ap weight_of_parts e ∙ weight_append old last in
+    let b = ap nesting_of_parts e ∙ nesting_append old last in
+    (omega (arith, a, h.0), omega arith, omega (arith, b, h.1, h.2))
+
+-- of the value alone, and of the parts
+pub value_leaves : (left : Option ℕ) (p q : Polynomial) (ps : List Poly) → p ≡ q → Leaves left p ps → Leaves left q []
+value_leaves None p q ps e h = tt
+value_leaves (Some n) p q ps e h = subst (λ q. Leaves (Some n) q []) e (omega (arith, h.0), h.1, omega arith)
+
+pub parts_leave : (left : Option ℕ) (p : Polynomial) (ps : List Poly) → Leaves left p ps → Leaves left zero_poly ps
+parts_leave None p ps h = tt
+parts_leave (Some n) p ps h = (omega (arith, h.0), omega arith, h.2)
+
+pub leaves_within : (left : Option ℕ) (n : ℕ) (p : Polynomial) → left ≡ Some n → (Overflows p → ⊥) → Leaves left p [] → Exceeds p → ⊥
+leaves_within left n p e o h x = within (subst (λ left. Leaves left p []) e h) x
+  where
+    within : Leaves (Some n) p [] → Exceeds p → ⊥
+    within h (inl f) = o f
+    within h (inr (inl l)) = omega (arith, h.0, l)
+    within h (inr (inr l)) = omega (arith, h.1, l)
 
 -- a value that is still to be added to the parts, which give the whole with it
 pub record Carrying (whole p : Polynomial) (parts : List Poly) : Type 0 where
@@ -104,13 +168,19 @@ last_alone_exceeds x parts rest last e m h =
     subst (ExceedsAs x) (sym (ap (sum_of_parts zero_poly) e ∙ parts_append zero_poly rest last))
     (exceeds_left x (poly last) (sum_of_parts zero_poly rest) n.1 (total_ordered rest n.0) h)
 
-pub last_taken : (p : Polynomial) (old new : List Poly) (part r : Poly) → old ≡ new ++ part ∷ [] → Ordered p → AllOrdered old → poly r ≡ sum_poly p (poly part) → (Exceeds (poly r) → ⊥)
-    → (sum_poly p (sum_of_parts zero_poly old) ≡ sum_poly (poly r) (sum_of_parts zero_poly new)) × Ordered (poly r) × AllOrdered new × ((Exceeds p → ⊥) → Exceeds (poly r) → ⊥) × (length new ≡ length old - 1)
-last_taken p old new part r e n m h w =
-    let k = last_ordered p old new part e n m in (
+pub part_ordered : (old new : List Poly) (part : Poly) → old ≡ new ++ part ∷ [] → AllOrdered old → Ordered (poly part)
+part_ordered old new part e m = (all_but_last new part (subst AllOrdered e m)).1
+
+pub last_taken : (left : Option ℕ) (p : Polynomial) (old new : List Poly) (part r : Poly) → old ≡ new ++ part ∷ [] → Ordered p → AllOrdered old → Leaves left p old → poly r ≡ sum_poly p (poly part) → (Exceeds (poly r) → ⊥)
+    → (sum_poly p (sum_of_parts zero_poly old) ≡ sum_poly (poly r) (sum_of_parts zero_poly new)) × Ordered (poly r) × (AllOrdered new × Leaves left zero_poly new) × ((Exceeds p → ⊥) → Exceeds (poly r) → ⊥) × (length new ≡ length old - 1)
+    × Leaves left (poly r) new
+last_taken left p old new part r e n m s h w =
+    let k = last_ordered p old new part e n m in
+    let l = sum_leaves left p old new part e s in (
       last_added p old new part e n m ∙ ap (λ q. sum_poly q (sum_of_parts zero_poly new)) (sym h),
       subst Ordered (sym h) k.0,
-      k.1,
+      (k.1, parts_leave left (sum_poly p (poly part)) new l),
       (λ _. w),
       k.2,
+      subst (λ q. Leaves left q new) (sym h) l,
     )

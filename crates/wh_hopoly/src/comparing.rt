@@ -3,7 +3,8 @@
 //! Most factors have no arguments. So what is done for each factor stands in the walks themselves (`inline`), and what
 //! is done for arguments does not; the same holds of copies and of weights.
 
-ghost use Rattle.std.specs.Prelude.{◌≡◌};
+ghost use Rattle.std.specs.Prelude.{◌≡◌, IsTrue};
+ghost use Rattle.std.specs.declared.cmp.Ordering.TheVariants.{Equal};
 ghost use Rattle.wh_hopoly.specs.Erase.{poly, atoms, polys};
 ghost use Rattle.wh_hopoly.specs.Polynomials.{compare_polynomials, compare_factors, compare_factor, compare_arguments};
 ghost use Rattle.wh_hopoly.specs.declared.polynomial.Atom.{out-Atom};
@@ -45,7 +46,11 @@ pub fn order_factors(a: &Atoms, b: &Atoms) -> Ordering
         if i == others.len() {
             return Ordering::Greater;
         }
-        let first = order_factor(item, &others[i]);
+        let other = &others[i];
+        if is_same_variable(item, other) {
+            continue;
+        }
+        let first = order_factor(item, other);
         if first.is_ne() {
             return first;
         }
@@ -55,6 +60,19 @@ pub fn order_factors(a: &Atoms, b: &Atoms) -> Ordering
     } else {
         Ordering::Equal
     }
+}
+
+/// Whether both are the same variable without arguments, as most factors of a common front are.
+#[inline(always)]
+pub fn is_same_variable(a: &Atom, b: &Atom) -> bool
+    ensures { IsTrue result → compare_factor (out-Atom a.now).head (polys (out-Atom a.now).args) (out-Atom b.now).head
+        (polys (out-Atom b.now).args) ≡ Equal }
+{
+    let heads = a.head.cmp(&b.head);
+    if heads.is_ne() || !a.args.as_slice().is_empty() {
+        return false;
+    }
+    b.args.as_slice().is_empty()
 }
 
 /// The order of two factors alone. The arguments are looked at only where the numbers agree.

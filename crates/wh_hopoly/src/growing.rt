@@ -2,7 +2,7 @@
 //! monomials before it in any order, and what they may still weigh is counted; they are put in order once, and multiplied in once. So
 //! what stands before a long row of factors is not copied, compared or weighed anew for each of them.
 
-ghost use Rattle.std.specs.Prelude.{◌≡◌, ◌+◌, ◌*◌, ◌≤◌, ◌<◌, IfOk, IfSome};
+ghost use Rattle.std.specs.Prelude.{◌≡◌, ◌+◌, ◌*◌, ◌≤◌, ◌<◌, IfOk, OnOk, IfSome, IsTrue};
 ghost use Rattle.wh_types.specs.Limits.{greatest_weight};
 ghost use Rattle.wh_types.specs.Outcome.{IfBecause};
 ghost use Rattle.wh_hopoly.specs.Erase.{poly, atoms, polys, factors as factors_of};
@@ -14,15 +14,16 @@ ghost use Rattle.wh_hopoly.specs.Merges.{joined};
 ghost use Rattle.wh_hopoly.specs.Growing.{grown, HasRoom, TakesIn, HasCoefficientsUpTo, monomial_count};
 ghost use Rattle.wh_hopoly.specs.declared.polynomial.Monomial.{out-Monomial};
 
-use crate::copying::push_copies;
+use crate::copying::{copy, push_copies};
 use crate::excess::Excess;
 use crate::joining::in_order;
-use crate::limits::{MAX_NESTING, MAX_WEIGHT, fits};
+use crate::limits::{MAX_NESTING, MAX_WEIGHT, fits, tested};
 use crate::polynomial::{Atom, Atoms, Monomial, Poly, Polys};
 use crate::products::product;
 use crate::variables::one_factor;
 use crate::weighing::{weigh, weigh_factors};
 use std::alloc::{AllocError, Global};
+use std::mem;
 use wh_types::Or;
 
 /// The product so far: a first value times a monomial.
@@ -46,13 +47,15 @@ pub struct Room {
     left: u32,
 }
 
-/// The product of no values: the number alone.
-pub fn start(alloc: Global, coefficient: u128) -> Result<Growing, AllocError>
+/// The product of no values: the number alone. So many factors may be about to come.
+pub fn start(alloc: Global, coefficient: u128, count: usize) -> Result<Growing, AllocError>
     requires { 1 ≤ coefficient }
     ensures { IfOk result (λ r. (grown r ≡ constant coefficient) × HasRoom r) }
 {
     fits(coefficient);
-    let factors = Atoms::new(alloc)?;
+    // Few have room at once, where they come at all.
+    let room = if count > 4 { count } else { 0 };
+    let factors = Atoms::with_capacity(alloc, room)?;
     Ok(Growing {
         first: None,
         greatest: 1,
@@ -62,37 +65,46 @@ pub fn start(alloc: Global, coefficient: u128) -> Result<Growing, AllocError>
     })
 }
 
-/// The product with one more value; a fault only where it exceeds a limit.
-pub fn multiplied(alloc: Global, so_far: Growing, value: &Poly) -> Result<Growing, Or<Excess>>
-    requires room { HasRoom so_far }
-    requires left { Ordered (grown so_far) }
+/// The product takes in one more value; a fault only where it exceeds a limit.
+pub fn multiply_by(alloc: Global, so_far: &mut Growing, value: &Poly) -> Result<(), Or<Excess>>
+    requires room { HasRoom so_far.old }
+    requires left { Ordered (grown so_far.old) }
     requires right { Ordered (poly value.now) }
-    ensures ok { IfOk result (λ r. (grown r ≡ multiply (grown so_far) (poly value.now)) × HasRoom r) }
-    ensures fault { IfBecause result (λ e. ExceedsAs e (multiply (grown so_far) (poly value.now))) }
+    ensures ok { OnOk result ((grown so_far.new ≡ multiply (grown so_far.old) (poly value.now)) × HasRoom so_far.new) }
+    ensures fault { IfBecause result (λ e. ExceedsAs e (multiply (grown so_far.old) (poly value.now))) }
 {
     let items = value.as_slice();
     if items.len() == 1 {
         let item = &items[0];
-        if let Some(room) = room_for(&so_far, item) {
-            return Ok(extended(alloc, so_far, item, room)?);
+        if let Some(head) = plain_variable(item) {
+            return multiply_by_variable(alloc, so_far, head);
+        }
+        if let Some(room) = room_for(&*so_far, item) {
+            return Ok(extend(alloc, so_far, item, room)?);
         }
     }
-    with_value(alloc, so_far, value)
+    multiply_out(alloc, so_far, value)
 }
 
-/// The product with one more variable, which has no arguments; a fault only where it exceeds a limit.
-pub fn with_variable(alloc: Global, so_far: Growing, head: u32) -> Result<Growing, Or<Excess>>
-    requires room { HasRoom so_far }
-    requires left { Ordered (grown so_far) }
-    ensures ok { IfOk result (λ r. (grown r ≡ multiply (grown so_far) (atom head no_arguments)) × HasRoom r) }
-    ensures fault { IfBecause result (λ e. ExceedsAs e (multiply (grown so_far) (atom head no_arguments))) }
+/// The product takes in one more variable, which has no arguments; a fault only where it exceeds a limit.
+pub fn multiply_by_variable(
+    alloc: Global,
+    so_far: &mut Growing,
+    head: u32,
+) -> Result<(), Or<Excess>>
+    requires room { HasRoom so_far.old }
+    requires left { Ordered (grown so_far.old) }
+    ensures ok { OnOk result ((grown so_far.new ≡ multiply (grown so_far.old) (atom head no_arguments)) × HasRoom so_far.new) }
+    ensures fault { IfBecause result (λ e. ExceedsAs e (multiply (grown so_far.old) (atom head no_arguments))) }
 {
     let args = Polys::new(alloc)?;
     if so_far.left == 0 {
         let value = one_factor(alloc, head, args)?;
-        return with_value(alloc, so_far, &value);
+        return multiply_out(alloc, so_far, &value);
     }
-    Ok(lengthened(so_far, head, args)?)
+    so_far.factors.push(Atom { head, args })?;
+    so_far.left -= 1;
+    Ok(())
 }
 
 /// The product.
@@ -130,72 +142,73 @@ fn room_for(so_far: &Growing, item: &Monomial) -> Option<Room>
     Some(Room { coefficient, left })
 }
 
-// The monomial takes in one more.
-fn extended(
-    alloc: Global,
-    so_far: Growing,
-    item: &Monomial,
-    room: Room,
-) -> Result<Growing, AllocError>
-    requires room { HasRoom so_far }
-    requires right { Ordered (plus (out-Monomial item.now).coefficient (atoms (out-Monomial item.now).atoms) zero_poly) }
-    requires takes { TakesIn so_far item.now room }
-    ensures { IfOk result (λ r. (grown r ≡ multiply (grown so_far)
-        (plus (out-Monomial item.now).coefficient (atoms (out-Monomial item.now).atoms) zero_poly)) × HasRoom r) }
+// The variable that the monomial is, if it is one without arguments.
+fn plain_variable(item: &Monomial) -> Option<u32>
+    ensures { IfSome result (λ head. plus (out-Monomial item.now).coefficient (atoms (out-Monomial item.now).atoms) zero_poly
+        ≡ atom head no_arguments) }
 {
-    let Growing {
-        first,
-        greatest,
-        factors,
-        ..
-    } = so_far;
-    let mut all = factors;
-    push_copies(alloc, &mut all, item.atoms.as_slice())?;
-    Ok(Growing {
-        first,
-        greatest,
-        coefficient: room.coefficient,
-        factors: all,
-        left: room.left,
-    })
+    let factors = item.atoms.as_slice();
+    if item.coefficient != 1 || factors.len() != 1 {
+        return None;
+    }
+    let factor = &factors[0];
+    if factor.args.as_slice().is_empty() {
+        Some(factor.head)
+    } else {
+        None
+    }
 }
 
-// The monomial takes in one more factor, a variable without arguments.
-fn lengthened(so_far: Growing, head: u32, args: Polys) -> Result<Growing, AllocError>
-    requires room { HasRoom so_far }
-    requires some { 1 ≤ so_far.left }
-    requires alone { polys args ≡ no_arguments }
-    ensures { IfOk result (λ r. (grown r ≡ multiply (grown so_far) (atom head no_arguments)) × HasRoom r) }
+// The monomial takes in one more.
+fn extend(
+    alloc: Global,
+    so_far: &mut Growing,
+    item: &Monomial,
+    room: Room,
+) -> Result<(), AllocError>
+    requires room { HasRoom so_far.old }
+    requires right { Ordered (plus (out-Monomial item.now).coefficient (atoms (out-Monomial item.now).atoms) zero_poly) }
+    requires takes { TakesIn so_far.old item.now room }
+    ensures { OnOk result ((grown so_far.new ≡ multiply (grown so_far.old)
+        (plus (out-Monomial item.now).coefficient (atoms (out-Monomial item.now).atoms) zero_poly)) × HasRoom so_far.new) }
 {
-    let Growing {
-        first,
-        greatest,
-        coefficient,
-        factors,
-        left,
-    } = so_far;
-    let mut all = factors;
-    all.push(Atom { head, args })?;
-    Ok(Growing {
-        first,
-        greatest,
-        coefficient,
-        factors: all,
-        left: left - 1,
-    })
+    push_copies(alloc, &mut so_far.factors, item.atoms.as_slice())?;
+    so_far.coefficient = room.coefficient;
+    so_far.left = room.left;
+    Ok(())
 }
 
 // The product with one more value, multiplied out.
-fn with_value(alloc: Global, so_far: Growing, value: &Poly) -> Result<Growing, Or<Excess>>
-    requires room { HasRoom so_far }
-    requires left { Ordered (grown so_far) }
+fn multiply_out(alloc: Global, so_far: &mut Growing, value: &Poly) -> Result<(), Or<Excess>>
+    requires room { HasRoom so_far.old }
+    requires left { Ordered (grown so_far.old) }
     requires right { Ordered (poly value.now) }
-    ensures ok { IfOk result (λ r. (grown r ≡ multiply (grown so_far) (poly value.now)) × HasRoom r) }
-    ensures fault { IfBecause result (λ e. ExceedsAs e (multiply (grown so_far) (poly value.now))) }
+    ensures ok { OnOk result ((grown so_far.new ≡ multiply (grown so_far.old) (poly value.now)) × HasRoom so_far.new) }
+    ensures fault { IfBecause result (λ e. ExceedsAs e (multiply (grown so_far.old) (poly value.now))) }
 {
-    let before = finish(alloc, so_far)?;
+    if is_one(&*so_far) {
+        let same = tested(copy(alloc, value)?)?;
+        *so_far = begun(alloc, same)?;
+        return Ok(());
+    }
+    let taken = mem::replace(so_far, start(alloc, 1, 0)?);
+    let before = finish(alloc, taken)?;
     let whole = product(alloc, &before, value)?;
-    Ok(begun(alloc, whole)?)
+    *so_far = begun(alloc, whole)?;
+    Ok(())
+}
+
+// Whether the product is still 1.
+fn is_one(so_far: &Growing) -> bool
+    ensures { IsTrue result → grown so_far.now ≡ constant 1 }
+{
+    if so_far.coefficient != 1 || !so_far.factors.as_slice().is_empty() {
+        return false;
+    }
+    match &so_far.first {
+        Some(_) => false,
+        None => true,
+    }
 }
 
 // The value as the first one of a product.

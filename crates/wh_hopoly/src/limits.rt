@@ -39,8 +39,8 @@ pub fn tested(value: Poly) -> Result<Poly, Or<Excess>>
     }
 }
 
-// What is stored never overflows: a walk that does nothing at run time.
-fn coefficients_fit(p: &Poly)
+/// What is stored never overflows: a walk that does nothing at run time.
+pub fn coefficients_fit(p: &Poly)
     ensures { Overflows (poly p.now) → ⊥ }
 {
     for item in p.as_slice() {

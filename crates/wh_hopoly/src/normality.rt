@@ -7,7 +7,7 @@ ghost use Rattle.wh_hopoly.specs.Scopes.{scope_of};
 ghost use Rattle.wh_hopoly.specs.Polynomials.{MonomialBefore, FactorBefore, Normal, NormalFactors, NormalArguments, HasNormalArguments};
 ghost use Rattle.wh_hopoly.specs.declared.polynomial.Atom.{out-Atom};
 
-use crate::comparing::{order_factor, order_factors};
+use crate::comparing::{is_same_variable, order_factor, order_factors};
 use crate::polynomial::{Atom, Atoms, Monomial, Poly, Polys};
 use crate::scope::{Scope, find};
 use wh_types::SimpleType;
@@ -95,7 +95,7 @@ pub fn stands_not_after(atom: &Atom, rest: &[Atom]) -> bool
     ensures { IsTrue result ↔ FactorBefore (out-Atom atom.now).head (polys (out-Atom atom.now).args) (product_of rest.now) }
 {
     match rest.first() {
-        Some(next) => order_factor(atom, next).is_le(),
+        Some(next) => is_same_variable(atom, next) || order_factor(atom, next).is_le(),
         None => true,
     }
 }

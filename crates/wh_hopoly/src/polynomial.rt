@@ -76,6 +76,16 @@ impl Poly {
         Ok(())
     }
 
+    /// The other's monomials join at the end.
+    pub(crate) fn append(&mut self, other: Poly) -> Result<(), AllocError>
+        ensures { OnOk result (monomials self.new ≡ monomials self.old ++ monomials other) }
+    {
+        let Poly { items } = other;
+        let mut more = items;
+        self.items.append(&mut more)?;
+        Ok(())
+    }
+
     /// The monomials in order.
     pub fn as_slice(&self) -> &[Monomial]
         ensures { result.now ≡ monomials self.now }

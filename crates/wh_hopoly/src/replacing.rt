@@ -12,7 +12,7 @@ ghost use Rattle.wh_hopoly.specs.Erase.{poly, atoms, polys};
 ghost use Rattle.wh_hopoly.specs.Scopes.{scope_of};
 ghost use Rattle.wh_hopoly.specs.Polynomials.{zero_poly, Ordered, Normal, NormalFactors, NormalArguments, HasNormalArguments};
 ghost use Rattle.wh_hopoly.specs.Arithmetic.{constant};
-ghost use Rattle.wh_hopoly.specs.Evaluation.{down, applied as applied_run, replace as replace_run, replace_factors as factors_run, replace_arguments as arguments_run};
+ghost use Rattle.wh_hopoly.specs.Evaluation.{one, down, applied as applied_run, replace as replace_run, replace_factors as factors_run, replace_arguments as arguments_run};
 ghost use Rattle.wh_hopoly.specs.Replacements.{head_of, replace_factor as factor_run, product_with, apply_at, NormalFor, Fits, value_at, Keeps};
 ghost use Rattle.wh_hopoly.specs.Growing.{grown, HasRoom};
 ghost use Rattle.wh_hopoly.specs.Limits.{Exceeds};
@@ -21,7 +21,7 @@ ghost use Rattle.wh_hopoly.specs.Outcomes.{ComesTo, ComesToArguments, PassesLimi
 ghost use Rattle.wh_hopoly.specs.declared.polynomial.Atom.{out-Atom};
 
 use crate::excess::Excess;
-use crate::growing::{Growing, finish, multiplied, start, with_variable};
+use crate::growing::{Growing, finish, multiply_by, multiply_by_variable, start};
 use crate::limits::tested;
 use crate::polynomial::{Atom, Atoms, Poly, Polys};
 use crate::renumbering::raise;
@@ -139,63 +139,81 @@ fn replace_factors<'a>(
         e) }
     ensures kept { OnOk result (Keeps raised.new replacement.now place.now) }
 {
-    let mut so_far = start(alloc, coefficient)?;
+    let mut so_far = start(alloc, coefficient, us.as_slice().len())?;
     for item in us.as_slice() {
-        so_far = with_factor(alloc, replacement, place, raised, so_far, item)?;
+        multiply_by_factor(alloc, replacement, place, raised, &mut so_far, item)?;
     }
     Ok(finish(alloc, so_far)?)
 }
 
-// The product with one more factor, which is replaced.
+// The product takes in one more factor, which is replaced.
 #[cycle(replace)]
-fn with_factor<'a>(
+fn multiply_by_factor<'a>(
     alloc: Global,
     replacement: &'a Replacement<'a>,
     place: &'a Place<'a>,
     raised: &mut Option<Poly>,
-    so_far: Growing,
+    so_far: &mut Growing,
     item: &Atom,
-) -> Result<Growing, Or<Excess>>
+) -> Result<(), Or<Excess>>
     requires fits { Fits replacement.now place.now }
     requires kept { Keeps raised.old replacement.now place.now }
-    requires room { HasRoom so_far }
-    requires left { Ordered (grown so_far) }
+    requires room { HasRoom so_far.old }
+    requires left { Ordered (grown so_far.old) }
     requires normal { HasNormalArguments (scope_of place.now.inner) (out-Atom item.now).head (polys (out-Atom item.now).args) }
-    ensures ok { IfOk result (λ r. ComesTo (product_with (grown so_far) (factor_run (head_of replacement.now) replacement.now.variable
-        (scope_of place.now.inner) (out-Atom item.now).head (polys (out-Atom item.now).args))) (grown r) × HasRoom r) }
+    ensures ok { OnOk result (ComesTo (product_with (grown so_far.old) (factor_run (head_of replacement.now) replacement.now.variable
+        (scope_of place.now.inner) (out-Atom item.now).head (polys (out-Atom item.now).args))) (grown so_far.new) × HasRoom so_far.new) }
     ensures kept { OnOk result (Keeps raised.new replacement.now place.now) }
-    ensures fault { IfBecause result (λ e. PassesLimit (product_with (grown so_far) (factor_run (head_of replacement.now)
+    ensures fault { IfBecause result (λ e. PassesLimit (product_with (grown so_far.old) (factor_run (head_of replacement.now)
         replacement.now.variable (scope_of place.now.inner) (out-Atom item.now).head (polys (out-Atom item.now).args))) e) }
 {
     if !item.args.as_slice().is_empty() {
         let factor = replace_factor(alloc, replacement, place, item)?;
-        return multiplied(alloc, so_far, &factor);
+        return multiply_by(alloc, so_far, &factor);
     }
     if item.head != replacement.variable {
-        return with_variable(alloc, so_far, lowered(item.head, replacement.variable));
+        return multiply_by_variable(alloc, so_far, lowered(item.head, replacement.variable));
     }
-    // Without arguments nothing is replaced in the value.
-    let value = raised_value(alloc, replacement, place, raised.take())?;
-    let product = multiplied(alloc, so_far, &value)?;
-    *raised = Some(value);
-    Ok(product)
+    multiply_by_raised(alloc, replacement, place, raised, so_far)
 }
 
-// The value in the scope without the variable: the one that is kept, if there is one.
+// The product takes in the value of the variable, which has no arguments here: nothing is replaced in it. It is raised once, and kept.
+fn multiply_by_raised<'a>(
+    alloc: Global,
+    replacement: &'a Replacement<'a>,
+    place: &'a Place<'a>,
+    raised: &mut Option<Poly>,
+    so_far: &mut Growing,
+) -> Result<(), Or<Excess>>
+    requires fits { Fits replacement.now place.now }
+    requires kept { Keeps raised.old replacement.now place.now }
+    requires room { HasRoom so_far.old }
+    requires left { Ordered (grown so_far.old) }
+    requires right { Ordered (value_at replacement.now place.now) }
+    ensures ok { OnOk result (ComesTo (product_with (grown so_far.old) (one (value_at replacement.now place.now))) (grown so_far.new)
+        × HasRoom so_far.new) }
+    ensures kept { OnOk result (Keeps raised.new replacement.now place.now) }
+    ensures fault { IfBecause result (λ e. PassesLimit (product_with (grown so_far.old) (one (value_at replacement.now place.now))) e) }
+{
+    if let Some(value) = &*raised {
+        return multiply_by(alloc, so_far, value);
+    }
+    let value = raised_value(alloc, replacement, place)?;
+    multiply_by(alloc, so_far, &value)?;
+    *raised = Some(value);
+    Ok(())
+}
+
+// The value in the scope without the variable.
 fn raised_value<'a>(
     alloc: Global,
     replacement: &'a Replacement<'a>,
     place: &'a Place<'a>,
-    kept: Option<Poly>,
 ) -> Result<Poly, Or<Excess>>
     requires fits { Fits replacement.now place.now }
-    requires kept { Keeps kept replacement.now place.now }
     ensures ok { IfOk result (λ r. (poly r ≡ value_at replacement.now place.now) × (Exceeds (poly r) → ⊥)) }
     ensures fault { IfBecause result (λ e. ExceedsAs e (value_at replacement.now place.now)) }
 {
-    if let Some(value) = kept {
-        return Ok(value);
-    }
     // The scope without the variable has one less.
     let count = place.count - 1;
     tested(raise(

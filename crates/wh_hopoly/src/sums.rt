@@ -1,19 +1,20 @@
 //! Sums of two polynomials, by merging: their monomials move to the sum.
 
-ghost use Rattle.std.specs.Prelude.{◌≡◌, ◌<◌, length, IfOk, MatchOption};
+ghost use Rattle.std.specs.Prelude.{◌≡◌, ◌<◌, length, IfOk, MatchOption, IsTrue};
 ghost use Rattle.wh_types.specs.Outcome.{IfBecause};
 ghost use Rattle.wh_hopoly.specs.Erase.{poly, sum_of};
-ghost use Rattle.wh_hopoly.specs.Polynomials.{Sorted};
-ghost use Rattle.wh_hopoly.specs.Arithmetic.{sum_poly};
+ghost use Rattle.wh_hopoly.specs.Polynomials.{Sorted, Ordered};
+ghost use Rattle.wh_hopoly.specs.Arithmetic.{sum_poly, followed_by};
 ghost use Rattle.wh_hopoly.specs.Limits.{Exceeds};
 ghost use Rattle.wh_hopoly.specs.Excesses.{ExceedsAs};
-ghost use Rattle.wh_hopoly.specs.Merges.{FirstOfSum, AddsFirst, FirstOverflows};
+ghost use Rattle.wh_hopoly.specs.Merges.{FirstOfSum, AddsFirst, FirstOverflows, EndsBefore};
 
 use crate::comparing::order_factors;
 use crate::excess::Excess;
 use crate::limits::tested;
+use crate::normality::stands_before;
 use crate::polynomial::{Monomial, Poly};
-use std::alloc::Global;
+use std::alloc::{AllocError, Global};
 use std::cmp::Ordering;
 use std::collections::VecDeque;
 use wh_types::Or;
@@ -25,6 +26,44 @@ pub fn sum(alloc: Global, a: Poly, b: Poly) -> Result<Poly, Or<Excess>>
     ensures fault { IfBecause result (λ e. ExceedsAs e (sum_poly (poly a) (poly b))) }
 {
     tested(merge(alloc, a, b)?)
+}
+
+/// The sum, whatever its weight. Values that come in order, one wholly behind the other, are not compared item by item.
+pub fn sum_of_ordered(alloc: Global, a: Poly, b: Poly) -> Result<Poly, Or<Excess>>
+    requires left { Ordered (poly a) }
+    requires right { Ordered (poly b) }
+    ensures ok { IfOk result (λ r. poly r ≡ sum_poly (poly a) (poly b)) }
+    ensures fault { IfBecause result (λ e. ExceedsAs e (sum_poly (poly a) (poly b))) }
+{
+    if ends_before(&b, &a) {
+        return Ok(appended(b, a)?);
+    }
+    if ends_before(&a, &b) {
+        return Ok(appended(a, b)?);
+    }
+    merge(alloc, a, b)
+}
+
+// Whether the last monomial stands before the first one of the other value.
+fn ends_before(a: &Poly, b: &Poly) -> bool
+    ensures { IsTrue result → EndsBefore (poly a.now) (poly b.now) }
+{
+    let items = a.as_slice();
+    let count = items.len();
+    if count == 0 {
+        return true;
+    }
+    let last = &items[count - 1];
+    stands_before(&last.atoms, b.as_slice())
+}
+
+// The monomials of both, in this order.
+fn appended(a: Poly, b: Poly) -> Result<Poly, AllocError>
+    ensures { IfOk result (λ r. poly r ≡ followed_by (poly a) (poly b)) }
+{
+    let mut whole = a;
+    whole.append(b)?;
+    Ok(whole)
 }
 
 // The sum, whatever its weight.

@@ -1,8 +1,9 @@
 -- Each return is what is left to compare at its place.
-use Rattle.std.proofs.Common.{rules, ◌<◌, ◌≤◌, ap₂, sym, ◌∙◌, arith, length}
+use Rattle.std.proofs.Common.{rules, ◌+◌, ◌<◌, ◌≤◌, ap, ap₂, sym, ◌∙◌, arith, length, drop}
 use Rattle.std.specs.Ordering.{ordering_then}
-use Rattle.wh_hopoly.specs.Polynomials.{compare_arguments}
+use Rattle.wh_hopoly.specs.Polynomials.{compare_factors, compare_arguments}
 use Rattle.wh_hopoly.specs.declared.polynomial.Atom.{out-Atom}
+use Rattle.wh_hopoly.specs.Erase.{product_of}
 use Rattle.wh_hopoly.proofs.Lists.{no_arguments_left, polys_by_lists, atoms_by_lists, arguments_by_lists}
 use Rattle.wh_hopoly.proofs.Sizes.{smaller_factors, smaller_arguments, smaller_poly}
 use Rattle.wh_hopoly.proofs.Walks.{decided, undecided, sums_at, products_at, arguments_at, sums_end_right, products_end_right, arguments_end_right, sums_end_left, products_end_left, arguments_end_left, sums_end, products_end, arguments_end}
@@ -35,6 +36,15 @@ pub order_factors-returns-then-i-others : goal.order_factors-returns-then-i-othe
 order_factors-returns-then-i-others t c = let past : length c.as_slice-others.result.now ≤ c.loop-i.i = search rules in
     sym (atoms_by_lists c.args.a.now c.args.b.now c.as_slice-items.result.now c.as_slice-others.result.now c.as_slice-items.ensures c.as_slice-others.ensures ∙ c.loop-i.invariant.same
     ∙ products_end_right c.as_slice-items.result.now c.as_slice-others.result.now c.loop-i.i c.index-items-i.result c.loop-i-test.true past c.index-items-i.is)
+
+pub order_factors-loop-i-preserved-then-is_same_variable : goal.order_factors-loop-i-preserved-then-is_same_variable
+order_factors-loop-i-preserved-then-is_same_variable t c = let within : c.loop-i.i < length c.as_slice-others.result.now = search rules in
+    record {
+      within = omega (arith, within);
+      same = c.loop-i.invariant.same
+          ∙ products_at c.as_slice-items.result.now c.as_slice-others.result.now c.loop-i.i c.index-items-i.result c.index-others-i.result c.loop-i-test.true within c.index-items-i.is c.index-others-i.is
+          ∙ ap (λ o. ordering_then o (compare_factors (product_of (drop (c.loop-i.i + 1) c.as_slice-items.result.now)) (product_of (drop (c.loop-i.i + 1) c.as_slice-others.result.now)))) (c.is_same_variable.ensures c.if-is_same_variable.true);
+    }
 
 pub order_factors-order_factor-first-requires : goal.order_factors-order_factor-first-requires
 order_factors-order_factor-first-requires t c =

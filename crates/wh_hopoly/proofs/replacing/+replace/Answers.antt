@@ -16,7 +16,7 @@ use Rattle.wh_hopoly.specs.declared.polynomial.Monomial.{out-Monomial}
 use Rattle.wh_hopoly.specs.declared.polynomial.Atom.{out-Atom}
 use Rattle.wh_hopoly.specs.Erase.{poly, atoms, polys, list, sum_of, product_of, arguments_of}
 use Rattle.wh_hopoly.proofs.Lists.{poly_is, atoms_is, polys_is}
-use Rattle.wh_hopoly.proofs.FaultLaws.{ok_so, because_so, passed_on}
+use Rattle.wh_hopoly.proofs.FaultLaws.{ok_so, done_so, because_so, passed_on}
 use Rattle.wh_hopoly.proofs.OrderedLaws.{normal_ordered}
 use Rattle.wh_hopoly.proofs.NormalWalk.{one_type, not_past}
 use Rattle.wh_hopoly.proofs.RenumberLaws.{moved_by}
@@ -181,8 +181,8 @@ replace-returns-clause-fault t c =
     (λ e h. subst (λ p. PassesLimit (replace H v Γ zero_poly p) e) (sym same)
     (laws.last_sum_fault H v Γ xs c.loop-item.total c.loop-item.item-index e c.loop-item.invariant.summing c.loop-item-test.false h)) c.finish.ensures.fault
 
-pub replace_factors-with_factor-requires : goal.replace_factors-with_factor-requires
-replace_factors-with_factor-requires t c =
+pub replace_factors-multiply_by_factor-requires : goal.replace_factors-multiply_by_factor-requires
+replace_factors-multiply_by_factor-requires t c =
     let H = head_of c.args.replacement.now in
     let v = c.args.replacement.now.variable in
     let Γ = scope_of c.args.place.now.inner in
@@ -207,17 +207,17 @@ replace_factors-with_factor-requires t c =
       ),
     )
 
-pub replace_factors-returns-in_err-so_far-2-clause-fault : goal.replace_factors-returns-in_err-so_far-2-clause-fault
-replace_factors-returns-in_err-so_far-2-clause-fault t c =
+pub replace_factors-returns-in_err-multiply_by_factor-clause-fault : goal.replace_factors-returns-in_err-multiply_by_factor-clause-fault
+replace_factors-returns-in_err-multiply_by_factor-clause-fault t c =
     let H = head_of c.args.replacement.now in
     let v = c.args.replacement.now.variable in
     let Γ = scope_of c.args.place.now.inner in
     let Δ = scope_of c.args.place.now.outer in
     let us = c.as_slice-item-items.result.now in
     let same : atoms c.args.us.now ≡ product_of us = atoms_is c.args.us.now ∙ ap product_of (sym c.as_slice-item-items.ensures) in
-    passed_on c.with_factor.result c.from_residual-in_err-so_far-2.result c.in_err-so_far-2.field-0.0
+    passed_on c.multiply_by_factor.result c.from_residual-in_err-multiply_by_factor.result c.in_err-multiply_by_factor.field-0.0
     (PassesLimit (product_with (grown c.loop-item.so_far) (replace_factor H v Γ (out-Atom c.item-item.result).head (polys (out-Atom c.item-item.result).args))))
-    (PassesLimit (replace_factors H v Γ (constant c.args.coefficient) (atoms c.args.us.now))) c.from_residual-in_err-so_far-2.ensures.1 c.in_err-so_far-2.ensures.fault
+    (PassesLimit (replace_factors H v Γ (constant c.args.coefficient) (atoms c.args.us.now))) c.from_residual-in_err-multiply_by_factor.ensures.1 c.in_err-multiply_by_factor.ensures.fault
     (λ e f. subst (λ us. PassesLimit (replace_factors H v Γ (constant c.args.coefficient) us) e) (sym same)
     (laws.factor_or_product_fault H v Γ Δ c.args.coefficient us (grown c.loop-item.so_far) c.loop-item.item-index c.item-item.result e c.loop-item.invariant.multiplying c.loop-item-test.true c.item-item.is f))
 
@@ -231,15 +231,15 @@ replace_factors-loop-item-preserved t c =
     let us = c.as_slice-item-items.result.now in
     let u = c.item-item.result in
     let same : atoms c.args.us.now ≡ product_of us = atoms_is c.args.us.now ∙ ap product_of (sym c.as_slice-item-items.ensures) in
-    let made = c.in_ok-so_far-2.ensures.ok in
+    let made = c.in_ok-multiply_by_factor.ensures.ok in
     let normal = laws.atom_normal Γ us c.loop-item.item-index u (subst (NormalFactors Γ) same c.requires.normal) c.loop-item-test.true c.item-item.is in
     record {
-      multiplying = laws.multiplying_goes_on H v Γ Δ c.args.coefficient us (grown c.loop-item.so_far) (grown c.in_ok-so_far-2.so_far) c.loop-item.item-index u
+      multiplying = laws.multiplying_goes_on H v Γ Δ c.args.coefficient us (grown c.loop-item.so_far) (grown c.multiply_by_factor.new.so_far) c.loop-item.item-index u
           c.loop-item.invariant.multiplying c.loop-item-test.true c.item-item.is
           (laws.factor_normal (ty r.kind.now) v (poly r.value.now) Γ Δ c.requires.fits.0 (out-Atom u).head (polys (out-Atom u).args) normal)
-          made.0 (room_is_within c.in_ok-so_far-2.so_far made.1);
+          made.0 (room_is_within c.multiply_by_factor.new.so_far made.1);
       room = made.1;
-      kept = c.in_ok-so_far-2.ensures.kept;
+      kept = c.in_ok-multiply_by_factor.ensures.kept;
     }
 
 pub replace_factors-returns-clause-ok : goal.replace_factors-returns-clause-ok
@@ -253,8 +253,8 @@ replace_factors-returns-clause-ok t c =
     let end = laws.multiplying_ends H v Γ Δ c.args.coefficient us (grown c.loop-item.so_far) c.loop-item.item-index c.loop-item.invariant.multiplying c.loop-item-test.false in
     subst (λ us. ComesTo (replace_factors H v Γ (constant c.args.coefficient) us) (poly c.in_ok-finish.field-0)) (sym same) (c.in_ok-finish.ensures ∙ end.0, end.1)
 
-pub with_factor-multiplied-requires-clause-right : goal.with_factor-multiplied-requires-clause-right
-with_factor-multiplied-requires-clause-right t c =
+pub multiply_by_factor-multiply_by-requires-clause-right : goal.multiply_by_factor-multiply_by-requires-clause-right
+multiply_by_factor-multiply_by-requires-clause-right t c =
     let r = c.args.replacement.now in
     let H = head_of r in
     let Γ = scope_of c.args.place.now.inner in
@@ -262,12 +262,11 @@ with_factor-multiplied-requires-clause-right t c =
     let x = (out-Atom c.args.item.now).head in
     let ps = polys (out-Atom c.args.item.now).args in
     let run = replace_factor H r.variable Γ x ps in
-    let p = grown c.args.so_far in
     normal_ordered Δ (poly c.in_ok-factor.factor) (subst (Normal Δ) (sym {b = run.result} c.in_ok-factor.ensures.ok.0)
     (laws.factor_normal (ty r.kind.now) r.variable (poly r.value.now) Γ Δ c.requires.fits.0 x ps c.requires.normal))
 
-pub with_factor-returns-then-not-is_empty-clause-ok : goal.with_factor-returns-then-not-is_empty-clause-ok
-with_factor-returns-then-not-is_empty-clause-ok t c =
+pub multiply_by_factor-returns-then-not-is_empty-clause-ok : goal.multiply_by_factor-returns-then-not-is_empty-clause-ok
+multiply_by_factor-returns-then-not-is_empty-clause-ok t c =
     let r = c.args.replacement.now in
     let H = head_of r in
     let Γ = scope_of c.args.place.now.inner in
@@ -275,12 +274,13 @@ with_factor-returns-then-not-is_empty-clause-ok t c =
     let x = (out-Atom c.args.item.now).head in
     let ps = polys (out-Atom c.args.item.now).args in
     let run = replace_factor H r.variable Γ x ps in
-    let p = grown c.args.so_far in
-    ok_so c.multiplied.result (λ a. (grown a ≡ multiply p (poly c.in_ok-factor.factor)) × HasRoom a) (λ a. ComesTo (product_with p run) (grown a) × HasRoom a)
-    (λ a h. (laws.product_comes run p (poly c.in_ok-factor.factor) (grown a) c.in_ok-factor.ensures.ok h.0 (room_is_within a h.1), h.1)) c.multiplied.ensures.ok
+    let p = grown c.args.so_far.now in
+    let a = c.multiply_by.new.so_far in
+    done_so c.multiply_by.result ((grown a ≡ multiply p (poly c.in_ok-factor.factor)) × HasRoom a) (ComesTo (product_with p run) (grown a) × HasRoom a)
+    (λ h. (laws.product_comes run p (poly c.in_ok-factor.factor) (grown a) c.in_ok-factor.ensures.ok h.0 (room_is_within a h.1), h.1)) c.multiply_by.ensures.ok
 
-pub with_factor-returns-then-not-is_empty-clause-fault : goal.with_factor-returns-then-not-is_empty-clause-fault
-with_factor-returns-then-not-is_empty-clause-fault t c =
+pub multiply_by_factor-returns-then-not-is_empty-clause-fault : goal.multiply_by_factor-returns-then-not-is_empty-clause-fault
+multiply_by_factor-returns-then-not-is_empty-clause-fault t c =
     let r = c.args.replacement.now in
     let H = head_of r in
     let Γ = scope_of c.args.place.now.inner in
@@ -288,12 +288,12 @@ with_factor-returns-then-not-is_empty-clause-fault t c =
     let x = (out-Atom c.args.item.now).head in
     let ps = polys (out-Atom c.args.item.now).args in
     let run = replace_factor H r.variable Γ x ps in
-    let p = grown c.args.so_far in
-    because_so c.multiplied.result (λ e. ExceedsAs e (multiply p (poly c.in_ok-factor.factor))) (PassesLimit (product_with p run))
-    (λ e h. laws.product_passes run p (poly c.in_ok-factor.factor) e c.in_ok-factor.ensures.ok.0 h) c.multiplied.ensures.fault
+    let p = grown c.args.so_far.now in
+    because_so c.multiply_by.result (λ e. ExceedsAs e (multiply p (poly c.in_ok-factor.factor))) (PassesLimit (product_with p run))
+    (λ e h. laws.product_passes run p (poly c.in_ok-factor.factor) e c.in_ok-factor.ensures.ok.0 h) c.multiply_by.ensures.fault
 
-pub with_factor-returns-then-item-replacement-clause-ok : goal.with_factor-returns-then-item-replacement-clause-ok
-with_factor-returns-then-item-replacement-clause-ok t c =
+pub multiply_by_factor-returns-then-item-replacement-clause-ok : goal.multiply_by_factor-returns-then-item-replacement-clause-ok
+multiply_by_factor-returns-then-item-replacement-clause-ok t c =
     let r = c.args.replacement.now in
     let H = head_of r in
     let Γ = scope_of c.args.place.now.inner in
@@ -301,20 +301,21 @@ with_factor-returns-then-item-replacement-clause-ok t c =
     let x = (out-Atom c.args.item.now).head in
     let ps = polys (out-Atom c.args.item.now).args in
     let run = replace_factor H r.variable Γ x ps in
-    let p = grown c.args.so_far in
+    let p = grown c.args.so_far.now in
     let none : length c.as_slice.result.now ≤ 0 = search rules in
     let alone = laws.alone_is ps c.as_slice.result.now (polys_is (out-Atom c.args.item.now).args ∙ ap arguments_of (sym c.as_slice.ensures)) none in
     let q = atom (down r.variable x) no_arguments in
     let same : run ≡ one q = laws.variable_alone H r.variable Γ x ps alone c.if-item-replacement.true in
-    ok_so c.with_variable.result (λ a. (grown a ≡ multiply p (atom c.lowered.result no_arguments)) × HasRoom a) (λ a. ComesTo (product_with p run) (grown a) × HasRoom a)
-    (λ a h. (
+    let a = c.multiply_by_variable.new.so_far in
+    done_so c.multiply_by_variable.result ((grown a ≡ multiply p (atom c.lowered.result no_arguments)) × HasRoom a) (ComesTo (product_with p run) (grown a) × HasRoom a)
+    (λ h. (
       laws.product_comes run p q (grown a) (subst (λ run. ComesTo run q) (sym same) (laws.one_comes q (laws.variable_within (down r.variable x))))
           (h.0 ∙ ap (λ y. multiply p (atom y no_arguments)) c.lowered.ensures) (room_is_within a h.1),
       h.1,
-    )) c.with_variable.ensures.ok
+    )) c.multiply_by_variable.ensures.ok
 
-pub with_factor-returns-then-item-replacement-clause-fault : goal.with_factor-returns-then-item-replacement-clause-fault
-with_factor-returns-then-item-replacement-clause-fault t c =
+pub multiply_by_factor-returns-then-item-replacement-clause-fault : goal.multiply_by_factor-returns-then-item-replacement-clause-fault
+multiply_by_factor-returns-then-item-replacement-clause-fault t c =
     let r = c.args.replacement.now in
     let H = head_of r in
     let Γ = scope_of c.args.place.now.inner in
@@ -322,16 +323,16 @@ with_factor-returns-then-item-replacement-clause-fault t c =
     let x = (out-Atom c.args.item.now).head in
     let ps = polys (out-Atom c.args.item.now).args in
     let run = replace_factor H r.variable Γ x ps in
-    let p = grown c.args.so_far in
+    let p = grown c.args.so_far.now in
     let none : length c.as_slice.result.now ≤ 0 = search rules in
     let alone = laws.alone_is ps c.as_slice.result.now (polys_is (out-Atom c.args.item.now).args ∙ ap arguments_of (sym c.as_slice.ensures)) none in
     let q = atom (down r.variable x) no_arguments in
     let same : run ≡ one q = laws.variable_alone H r.variable Γ x ps alone c.if-item-replacement.true in
-    because_so c.with_variable.result (λ e. ExceedsAs e (multiply p (atom c.lowered.result no_arguments))) (PassesLimit (product_with p run))
-    (λ e h. laws.product_passes run p q e (sym (ap (λ run. run.result) same)) (subst (λ y. ExceedsAs e (multiply p (atom y no_arguments))) c.lowered.ensures h)) c.with_variable.ensures.fault
+    because_so c.multiply_by_variable.result (λ e. ExceedsAs e (multiply p (atom c.lowered.result no_arguments))) (PassesLimit (product_with p run))
+    (λ e h. laws.product_passes run p q e (sym (ap (λ run. run.result) same)) (subst (λ y. ExceedsAs e (multiply p (atom y no_arguments))) c.lowered.ensures h)) c.multiply_by_variable.ensures.fault
 
-pub with_factor-returns-in_err-value-clause-fault : goal.with_factor-returns-in_err-value-clause-fault
-with_factor-returns-in_err-value-clause-fault t c =
+pub multiply_by_factor-multiply_by_raised-requires-clause-right : goal.multiply_by_factor-multiply_by_raised-requires-clause-right
+multiply_by_factor-multiply_by_raised-requires-clause-right t c =
     let r = c.args.replacement.now in
     let H = head_of r in
     let Γ = scope_of c.args.place.now.inner in
@@ -339,34 +340,15 @@ with_factor-returns-in_err-value-clause-fault t c =
     let x = (out-Atom c.args.item.now).head in
     let ps = polys (out-Atom c.args.item.now).args in
     let run = replace_factor H r.variable Γ x ps in
-    let p = grown c.args.so_far in
     let none : length c.as_slice.result.now ≤ 0 = search rules in
     let alone = laws.alone_is ps c.as_slice.result.now (polys_is (out-Atom c.args.item.now).args ∙ ap arguments_of (sym c.as_slice.ensures)) none in
     let q = value_at r c.args.place.now in
     let same : run ≡ one q = laws.value_alone (ty r.kind.now) r.variable (poly r.value.now) Γ Δ x ps c.requires.fits.0 alone c.if-item-replacement.false in
-    passed_on c.raised_value.result c.from_residual-in_err-value.result c.in_err-value.field-0.0 (λ e. ExceedsAs e q) (PassesLimit (product_with p run))
-    c.from_residual-in_err-value.ensures.1 c.in_err-value.ensures.fault
-    (λ e h. laws.factor_passes run p e (subst (λ run. PassesLimit run e) (sym same) (laws.one_passes q e h)))
-
-pub with_factor-multiplied-requires-2-clause-right : goal.with_factor-multiplied-requires-2-clause-right
-with_factor-multiplied-requires-2-clause-right t c =
-    let r = c.args.replacement.now in
-    let H = head_of r in
-    let Γ = scope_of c.args.place.now.inner in
-    let Δ = scope_of c.args.place.now.outer in
-    let x = (out-Atom c.args.item.now).head in
-    let ps = polys (out-Atom c.args.item.now).args in
-    let run = replace_factor H r.variable Γ x ps in
-    let p = grown c.args.so_far in
-    let none : length c.as_slice.result.now ≤ 0 = search rules in
-    let alone = laws.alone_is ps c.as_slice.result.now (polys_is (out-Atom c.args.item.now).args ∙ ap arguments_of (sym c.as_slice.ensures)) none in
-    let q = value_at r c.args.place.now in
-    let same : run ≡ one q = laws.value_alone (ty r.kind.now) r.variable (poly r.value.now) Γ Δ x ps c.requires.fits.0 alone c.if-item-replacement.false in
-    normal_ordered Δ (poly c.in_ok-value.value) (subst (Normal Δ) (ap (λ run. run.result) same ∙ sym c.in_ok-value.ensures.ok.0)
+    normal_ordered Δ q (subst (Normal Δ) (ap (λ run. run.result) same)
     (laws.factor_normal (ty r.kind.now) r.variable (poly r.value.now) Γ Δ c.requires.fits.0 x ps c.requires.normal))
 
-pub with_factor-returns-in_err-product-clause-fault : goal.with_factor-returns-in_err-product-clause-fault
-with_factor-returns-in_err-product-clause-fault t c =
+pub multiply_by_factor-returns-clause-ok : goal.multiply_by_factor-returns-clause-ok
+multiply_by_factor-returns-clause-ok t c =
     let r = c.args.replacement.now in
     let H = head_of r in
     let Γ = scope_of c.args.place.now.inner in
@@ -374,17 +356,17 @@ with_factor-returns-in_err-product-clause-fault t c =
     let x = (out-Atom c.args.item.now).head in
     let ps = polys (out-Atom c.args.item.now).args in
     let run = replace_factor H r.variable Γ x ps in
-    let p = grown c.args.so_far in
+    let p = grown c.args.so_far.now in
     let none : length c.as_slice.result.now ≤ 0 = search rules in
     let alone = laws.alone_is ps c.as_slice.result.now (polys_is (out-Atom c.args.item.now).args ∙ ap arguments_of (sym c.as_slice.ensures)) none in
     let q = value_at r c.args.place.now in
     let same : run ≡ one q = laws.value_alone (ty r.kind.now) r.variable (poly r.value.now) Γ Δ x ps c.requires.fits.0 alone c.if-item-replacement.false in
-    passed_on c.multiplied-2.result c.from_residual-in_err-product.result c.in_err-product.field-0.0 (λ e. ExceedsAs e (multiply p (poly c.in_ok-value.value))) (PassesLimit (product_with p run))
-    c.from_residual-in_err-product.ensures.1 c.in_err-product.ensures.fault
-    (λ e h. laws.product_passes run p (poly c.in_ok-value.value) e (c.in_ok-value.ensures.ok.0 ∙ sym (ap (λ run. run.result) same)) h)
+    let a = c.multiply_by_raised.new.so_far in
+    done_so c.multiply_by_raised.result (ComesTo (product_with p (one q)) (grown a) × HasRoom a) (ComesTo (product_with p run) (grown a) × HasRoom a)
+    (λ h. (subst (λ run. ComesTo (product_with p run) (grown a)) (sym same) h.0, h.1)) c.multiply_by_raised.ensures.ok
 
-pub with_factor-returns-clause-ok : goal.with_factor-returns-clause-ok
-with_factor-returns-clause-ok t c =
+pub multiply_by_factor-returns-clause-fault : goal.multiply_by_factor-returns-clause-fault
+multiply_by_factor-returns-clause-fault t c =
     let r = c.args.replacement.now in
     let H = head_of r in
     let Γ = scope_of c.args.place.now.inner in
@@ -392,14 +374,13 @@ with_factor-returns-clause-ok t c =
     let x = (out-Atom c.args.item.now).head in
     let ps = polys (out-Atom c.args.item.now).args in
     let run = replace_factor H r.variable Γ x ps in
-    let p = grown c.args.so_far in
+    let p = grown c.args.so_far.now in
     let none : length c.as_slice.result.now ≤ 0 = search rules in
     let alone = laws.alone_is ps c.as_slice.result.now (polys_is (out-Atom c.args.item.now).args ∙ ap arguments_of (sym c.as_slice.ensures)) none in
     let q = value_at r c.args.place.now in
     let same : run ≡ one q = laws.value_alone (ty r.kind.now) r.variable (poly r.value.now) Γ Δ x ps c.requires.fits.0 alone c.if-item-replacement.false in
-    let value = poly c.in_ok-value.value in
-    let comes : ComesTo run value = subst (λ run. ComesTo run value) (sym same) (subst (λ q. ComesTo (one q) value) c.in_ok-value.ensures.ok.0 (laws.one_comes value c.in_ok-value.ensures.ok.1)) in
-    (laws.product_comes run p value (grown c.in_ok-product.product) comes c.in_ok-product.ensures.ok.0 (room_is_within c.in_ok-product.product c.in_ok-product.ensures.ok.1), c.in_ok-product.ensures.ok.1)
+    because_so c.multiply_by_raised.result (PassesLimit (product_with p (one q))) (PassesLimit (product_with p run))
+    (λ e h. subst (λ run. PassesLimit (product_with p run) e) (sym same) h) c.multiply_by_raised.ensures.fault
 
 pub replace_factor-unreachable-requires : goal.replace_factor-unreachable-requires
 replace_factor-unreachable-requires t c =

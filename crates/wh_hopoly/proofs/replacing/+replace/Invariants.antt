@@ -22,8 +22,8 @@ abbrev pub decreases-replace_factors : goal.decreases-replace_factors
 decreases-replace_factors l =
     2 * length (replace_factors (head_of l.replacement.now) l.replacement.now.variable (scope_of l.place.now.inner) (constant l.coefficient) (atoms l.us.now)).values
 
-abbrev pub decreases-with_factor : goal.decreases-with_factor
-decreases-with_factor l =
+abbrev pub decreases-multiply_by_factor : goal.decreases-multiply_by_factor
+decreases-multiply_by_factor l =
     2 * length (replace_factor (head_of l.replacement.now) l.replacement.now.variable (scope_of l.place.now.inner) (out-Atom l.item.now).head (polys (out-Atom l.item.now).args)).values + 3
 
 abbrev pub decreases-replace_factor : goal.decreases-replace_factor

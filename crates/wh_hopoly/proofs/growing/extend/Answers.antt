@@ -4,11 +4,11 @@ use Rattle.wh_hopoly.specs.Erase.{factors, product_of}
 use Rattle.wh_hopoly.specs.Growing.{first_value}
 use Rattle.wh_hopoly.specs.declared.polynomial.Monomial.{out-Monomial}
 use Rattle.wh_hopoly.proofs.RoomLaws.{taken_in}
-use Rattle.wh_hopoly.proofs.growing.extended.Goals as goal
+use Rattle.wh_hopoly.proofs.growing.extend.Goals as goal
 
 pub returns : goal.returns
 returns c =
-    let g = c.args.so_far in
+    let g = c.args.so_far.now in
     let m = out-Monomial c.args.item.now in
     let takes = c.requires.takes in
     taken_in (first_value g.first) g.greatest g.coefficient m.coefficient c.args.room.coefficient g.left c.args.room.left g.factors m.atoms c.push_copies.new.us
