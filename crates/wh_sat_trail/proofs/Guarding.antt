@@ -2,7 +2,7 @@ use Rattle.std.proofs.Common.{◌≡◌, ◌≢◌, ℕ, ◌+◌, ◌-◌, ◌*�
 use Rattle.std.specs.List.{swap_remove}
 use Rattle.std.proofs.lemmas.List.{get_or_default, length_push, get_or-set_same, get_or-set_other, length-set, get_or_push, get_or_append_left, get_or-take, length-take-le}
 use Rattle.std.proofs.lemmas.List.Sums.{sum_by-swap_remove, sum_by_push}
-use Rattle.std.proofs.lemmas.Bool.{cases_eq}
+use Rattle.std.proofs.lemmas.Bool.{cases_eq, cases_lt}
 use Rattle.wh_sat_trail.specs.declared.literal.Literal.{Literal}
 use Rattle.wh_sat_trail.specs.declared.watch.Stop.{Stop}
 use Rattle.wh_sat_trail.specs.declared.watch.Pair.{Pair}
@@ -68,16 +68,24 @@ member_at [] i d w = absurd (omega arith)
 member_at (x ∷ c) zero d w = rw (eqb_refl x.variable, beq_refl x.positive) refl
 member_at (x ∷ c) (suc i) d w = rw (member_at c i d (omega arith)) (or_true _)
 
-abbrev pub Rest : List Literal → List Literal → Literal → ℕ → Type 0
-Rest t c other n = (i : ℕ) (d : Literal) → i < n → get_or c i d ≢ other → Fails t (get_or c i d)
+abbrev pub Rest : List Literal → List Literal → Literal → ℕ → ℕ → Type 0
+Rest t c other from n = (i : ℕ) (d : Literal) → from ≤ i → i < n → get_or c i d ≢ other → Fails t (get_or c i d)
 
-pub rest_step : (t c : List Literal) (other : Literal) (n : ℕ) (e : Literal) → Rest t c other n → n < length c → (get_or c n e ≡ other) ⊎ (Fails t (get_or c n e)) → Rest t c other (n + 1)
-rest_step t c other n e h w s i d q u = elim (cases_eq i n) [
+pub rest_step : (t c : List Literal) (other : Literal) (from n : ℕ) (e : Literal) → Rest t c other from n → n < length c → (get_or c n e ≡ other) ⊎ (Fails t (get_or c n e)) → Rest t c other from (n + 1)
+rest_step t c other from n e h w s i d f q u = elim (cases_eq i n) [
   | inl same ↦ elim s [
     | inl o ↦ absurd (u (subst (λ j. get_or c j d ≡ other) (sym same) (get_or_default c n d e w ∙ o)))
     | inr f ↦ subst (λ j. Fails t (get_or c j d)) (sym same) (subst (Fails t) (get_or_default c n e d w) f)
   ]
-  | inr o ↦ h i d (omega (arith, o, q)) u
+  | inr o ↦ h i d f (omega (arith, o, q)) u
+]
+
+-- from a place on, and before it
+pub rest_all : (t c : List Literal) (other : Literal) (middle : ℕ) → Rest t c other middle (length c) → Rest t c other 0 middle
+    → (i : ℕ) (d : Literal) → i < length c → get_or c i d ≢ other → Fails t (get_or c i d)
+rest_all t c other middle late early i d w u = elim (cases_lt i middle) [
+  | inl l ↦ early i d (omega arith) l u
+  | inr l ↦ late i d l w u
 ]
 
 pub is_one : (k x : ℕ) → x ≡ k → cond (eqb x k) 1 0 ≡ suc zero

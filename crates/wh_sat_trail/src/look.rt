@@ -1,7 +1,7 @@
 //! What a clause says under an assignment, and which of its literals can be watched.
 
 ghost use Rattle.std.specs.Bool.{OnTrue};
-ghost use Rattle.std.specs.Prelude.{◌≡◌, ◌≢◌, ℕ, ◌<◌, MatchOption, IfSome, get_or, length, true, vec_len};
+ghost use Rattle.std.specs.Prelude.{◌≡◌, ◌≢◌, ℕ, ◌<◌, ◌≤◌, MatchOption, IfSome, get_or, length, true, vec_len};
 ghost use Rattle.wh_sat_trail.specs.Assignment.{AllBelow, Fails};
 ghost use Rattle.wh_sat_trail.specs.Look.{IsCandidate, Looks};
 ghost use Rattle.wh_sat_trail.specs.Settled.{IsMet};
@@ -60,20 +60,48 @@ impl Assignment {
         false
     }
 
-    /// A literal that is not false, and not the other one.
-    pub fn replacement(&self, clause: &[Literal], other: Literal) -> Option<Literal>
+    /// A literal that is not false, and not the other one, with its place. It is looked for from a place on, and then before that.
+    pub fn replacement(
+        &self,
+        clause: &[Literal],
+        other: Literal,
+        from: usize,
+    ) -> Option<(usize, Literal)>
         requires { AllBelow (vec_len self.now.values) clause.now }
         ensures { MatchOption result ((i : ℕ) (d : Literal) → i < length clause.now → get_or clause.now i d ≢ other
-            → Fails self.now.literals.items (get_or clause.now i d)) (λ new. IsCandidate self.now clause.now new × (new ≢ other)) }
+            → Fails self.now.literals.items (get_or clause.now i d))
+            (λ found. IsCandidate self.now clause.now found.1 × (found.1 ≢ other)) }
     {
-        for literal in clause {
-            match self.truth(*literal) {
+        let middle = from.min(clause.len());
+        match self.replacement_in(clause, other, middle, clause.len()) {
+            Some(found) => Some(found),
+            None => self.replacement_in(clause, other, 0, middle),
+        }
+    }
+
+    /// The same among the literals from a place to another.
+    fn replacement_in(
+        &self,
+        clause: &[Literal],
+        other: Literal,
+        from: usize,
+        to: usize,
+    ) -> Option<(usize, Literal)>
+        requires below { AllBelow (vec_len self.now.values) clause.now }
+        requires within { to ≤ length clause.now }
+        ensures { MatchOption result ((i : ℕ) (d : Literal) → from ≤ i → i < to → get_or clause.now i d ≢ other
+            → Fails self.now.literals.items (get_or clause.now i d))
+            (λ found. IsCandidate self.now clause.now found.1 × (found.1 ≢ other)) }
+    {
+        for place in from..to {
+            let literal = clause[place];
+            match self.truth(literal) {
                 Some(false) => {}
-                Some(true) => if *literal != other {
-                    return Some(*literal);
+                Some(true) => if literal != other {
+                    return Some((place, literal));
                 },
-                None => if *literal != other {
-                    return Some(*literal);
+                None => if literal != other {
+                    return Some((place, literal));
                 },
             }
         }
@@ -103,9 +131,9 @@ impl Assignment {
     {
         match self.candidate(clause) {
             None => None,
-            Some(first) => match self.replacement(clause, first) {
+            Some(first) => match self.replacement(clause, first, 0) {
                 None => None,
-                Some(second) => Some((first, second)),
+                Some((_, second)) => Some((first, second)),
             },
         }
     }

@@ -15,7 +15,7 @@ ghost use Rattle.wh_sat_trail.specs.Watch.{Guarded, Ordered};
 
 use crate::assignment::Assignment;
 use crate::formula::Formula;
-use crate::watch::{Pair, Stop, Watchers};
+use crate::watch::{Pair, Places, Stop, Watchers};
 
 /// A formula and a part of an assignment to its variables, by levels: each begins with a decision,
 /// and goes on with what the clauses force.
@@ -27,6 +27,7 @@ pub struct Trail {
     head: usize,
     lists: Vec<Watchers>,
     pairs: Vec<Pair>,
+    places: Places,
     short: Vec<usize>,
     settled: usize,
     ghost width: { vec_len assignment.values ≡ formula.variables },

@@ -4,6 +4,7 @@ ghost use Rattle.std.specs.Prelude.{◌≡◌};
 ghost use Rattle.wh_sat_trail.specs.Code.{code_of};
 
 use crate::literal::Literal;
+use std::alloc::{AllocError, Global};
 use std::marker::Model;
 
 /// Where a level began: how many literals had been propagated, and how many were true.
@@ -33,6 +34,43 @@ impl Model for Watchers {
     ghost Value = { List ℕ };
 
     ghost view = { λ list. list.items.items };
+}
+
+/// For each clause the place of the watch that it took last: the search for the next one goes on from there, as in CaDiCaL (Gent
+/// 2013). Nothing is claimed of it.
+#[derive(Drop)]
+pub struct Places {
+    items: Vec<usize>,
+}
+
+impl Places {
+    /// No clause.
+    pub fn new(alloc: Global) -> Places {
+        Places {
+            items: Vec::new(alloc),
+        }
+    }
+
+    /// Makes room for one clause more, which begins at its first literal.
+    pub fn open(&mut self) -> Result<(), AllocError> {
+        self.items.push(0)?;
+        Ok(())
+    }
+
+    /// The place of a clause.
+    pub fn place(&self, number: usize) -> usize {
+        match self.items.get(number) {
+            Some(place) => *place,
+            None => 0,
+        }
+    }
+
+    /// A clause has another place.
+    pub fn put(&mut self, number: usize, place: usize) {
+        if let Some(slot) = self.items.get_mut(number) {
+            *slot = place;
+        }
+    }
 }
 
 /// What became of a clause in the list of a literal that is false now.

@@ -12,7 +12,7 @@ use crate::clause::{Clause, Clauses};
 use crate::formula::Formula;
 use crate::literal::Literal;
 use crate::trail::Trail;
-use crate::watch::{Pair, Watchers, code};
+use crate::watch::{Pair, Places, Watchers, code};
 use std::alloc::{AllocError, Global};
 
 impl Trail {
@@ -45,6 +45,7 @@ impl Trail {
             head: 0,
             lists,
             pairs: Vec::new(alloc),
+            places: Places::new(alloc),
             short: Vec::new(alloc),
             settled: 0,
         })
@@ -61,6 +62,7 @@ impl Trail {
     {
         let number = self.pairs.len();
         self.pairs.reserve(1)?;
+        self.places.open()?;
         match self.assignment.watches(clause.as_slice()) {
             Some((first, second)) => {
                 self.enlist(first, number)?;

@@ -111,9 +111,14 @@ impl Trail {
         ensures grows { Grows self.old.formula.clauses self.old.assignment.literals.items self.new.assignment.literals.items }
         ensures answer { IfOk result (Visits self.old self.new at falsified) }
     {
-        match self.assignment.replacement(self.clause(number), other) {
-            Some(new) => {
+        let from = self.places.place(number);
+        match self
+            .assignment
+            .replacement(self.clause(number), other, from)
+        {
+            Some((place, new)) => {
                 self.rewatch(at, number, falsified, other, new)?;
+                self.places.put(number, place);
                 Ok(Visit::Moved)
             }
             None => match self.assignment.truth(other) {
