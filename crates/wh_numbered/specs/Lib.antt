@@ -1,3 +1,4 @@
 pub mod NumberedSides
+pub mod Numberings
 pub mod SidesAsPairs
 pub mod SidesInScope

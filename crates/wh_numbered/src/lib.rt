@@ -7,12 +7,14 @@ mod decrease;
 mod expressions;
 mod marked;
 mod marks;
+mod numbered;
 mod numbering;
 mod parts;
 mod polynomials;
 mod scopes;
 
 pub use check::check_numbered;
+pub use numbered::Numbered;
 pub use numbering::number_pairs;
 pub use polynomials::{pair_side_by_number, side_by_number};
 pub use scopes::scope_of;
