@@ -1,4 +1,5 @@
 pub mod NumberedSides
 pub mod Numberings
+pub mod Sharing
 pub mod SidesAsPairs
 pub mod SidesInScope

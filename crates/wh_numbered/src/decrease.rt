@@ -1,10 +1,11 @@
 //! Whether the projected sides of a pair are equal, or the right one is below the left one.
 
 ghost use Rattle.std.specs.Prelude.{◌≡◌, ◌↔◌, ◌<◌, ℕ, All, Contains, IsTrue, MatchOption, length, map};
-ghost use Rattle.wh_pairs.specs.PairData.{IsIncreasing};
-ghost use Rattle.wh_subterm.specs.Projections.{Decreasing};
+ghost use Rattle.wh_pairs.specs.PairData.{IsIncreasing, PairData};
+ghost use Rattle.wh_subterm.specs.Projections.{Below, Decreasing};
 ghost use Rattle.wh_subterm.specs.SubtermRows.{IsDecreasing, IsNotDecreasing, chosen, chosen_symbols};
 ghost use Rattle.wh_intern.specs.TableTrees.{trees};
+ghost use Rattle.wh_numbered.specs.NumberedSides.{AreSidesOf};
 ghost use Rattle.wh_numbered.specs.SidesAsPairs.{AreNumbersIn, IsChosenNumber, as_pair};
 
 use crate::marked::choice_for;
@@ -37,6 +38,15 @@ pub fn first_not_decreasing(
         }
     }
     None
+}
+
+/// Whether the pair with these sides is below: the answer of `wh_subterm::is_below`.
+pub fn is_below_by_number(table: &Table, sides: &Sides, args: &[Choice]) -> bool
+    requires sides { (p : PairData) × AreSidesOf (trees table.now) sides.now p }
+    requires args { IsIncreasing (chosen_symbols (map chosen args.now)) }
+    ensures { (p : PairData) → AreSidesOf (trees table.now) sides.now p → IsTrue result ↔ Below (map chosen args.now) p }
+{
+    is_decreasing(table, sides, args, true)
 }
 
 // Whether the pair is below, or equal and not dropped.

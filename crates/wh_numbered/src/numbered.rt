@@ -1,7 +1,9 @@
 //! The sides of all pairs of a system, numbered once.
 
 mod building;
+mod sharing;
 
+pub use sharing::number_if_shared;
 use wh_intern::{SidesList, Table};
 
 /// The sides of pairs by numbers, with the table that the numbers are of. It is made once for all pairs of a system, so that equal
