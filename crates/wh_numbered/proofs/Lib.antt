@@ -6,3 +6,6 @@ pub mod ChosenNumbers
 pub mod SameProjections
 pub mod ExpressionsByNumber
 pub mod MarkedByNumber
+pub mod MarkedPlaces
+pub mod ChosenAt
+pub mod Listed
