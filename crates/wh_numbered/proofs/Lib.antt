@@ -8,3 +8,6 @@ pub mod RelationByNumber
 pub mod ShareLemmas
 pub mod ExpressionsByNumber
 pub mod MarkedByNumber
+pub mod MarkedPlaces
+pub mod ChosenAt
+pub mod Listed

@@ -1,3 +1,5 @@
+pub mod Asking
+pub mod Headed
 pub mod NumberedSides
 pub mod Numberings
 pub mod Sharing

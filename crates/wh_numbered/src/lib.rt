@@ -2,6 +2,7 @@
 //! projections and polynomials are then checked by numbers.
 #![tactic(auto)]
 
+mod asked;
 mod check;
 mod decrease;
 mod expressions;
