@@ -76,7 +76,12 @@ fn add_pair<'a>(
 }
 
 // Those of a pair with one symbol on both sides.
-fn add_alike<'a>(cases: &mut Vec<Case>, sight: &Sight<'a>, row: Row, own: u32) -> Result<(), AllocError>
+fn add_alike<'a>(
+    cases: &mut Vec<Case>,
+    sight: &Sight<'a>,
+    row: Row,
+    own: u32,
+) -> Result<(), AllocError>
     requires sight { IsSight sight.now }
     requires row { row.first + row.need ≤ own }
     ensures { OnOk result (Adds cases.old.items cases.new.items (spots_alike (pair_data sight.now.pair.now) row own)) }
@@ -128,7 +133,14 @@ fn add_beside<'a>(
 }
 
 // One of them.
-fn case_at<'a>(sight: &Sight<'a>, left: Row, right: Row, own: u32, left_place: u32, right_place: u32) -> Case
+fn case_at<'a>(
+    sight: &Sight<'a>,
+    left: Row,
+    right: Row,
+    own: u32,
+    left_place: u32,
+    right_place: u32,
+) -> Case
     requires sight { IsSight sight.now }
     requires left { left.first + left.need ≤ own }
     requires right { right.first + right.need ≤ own }

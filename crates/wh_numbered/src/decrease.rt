@@ -5,11 +5,8 @@ ghost use Rattle.wh_pairs.specs.PairData.{IsIncreasing, PairData};
 ghost use Rattle.wh_subterm.specs.Projections.{Below, Decreasing};
 ghost use Rattle.wh_subterm.specs.SubtermRows.{IsDecreasing, IsNotDecreasing, chosen, chosen_symbols};
 ghost use Rattle.wh_intern.specs.TableTrees.{trees};
-<<<<<<< HEAD
-ghost use Rattle.wh_numbered.specs.NumberedSides.{AreSidesOf};
-=======
 ghost use Rattle.wh_numbered.specs.Asking.{IsAnswered};
->>>>>>> 84eea5fc8f5e3573592e3ab463d7d8aadbcf8701
+ghost use Rattle.wh_numbered.specs.NumberedSides.{AreSidesOf};
 ghost use Rattle.wh_numbered.specs.SidesAsPairs.{AreNumbersIn, IsChosenNumber, as_pair};
 
 use crate::asked::Asked;
@@ -49,15 +46,16 @@ pub fn first_not_decreasing(
     None
 }
 
-<<<<<<< HEAD
 /// Whether the pair with these sides is below: the answer of `wh_subterm::is_below`.
 pub fn is_below_by_number(table: &Table, sides: &Sides, args: &[Choice]) -> bool
     requires sides { (p : PairData) × AreSidesOf (trees table.now) sides.now p }
     requires args { IsIncreasing (chosen_symbols (map chosen args.now)) }
     ensures { (p : PairData) → AreSidesOf (trees table.now) sides.now p → IsTrue result ↔ Below (map chosen args.now) p }
 {
-    is_decreasing(table, sides, args, true)
-=======
+    let mut asked = nothing_asked();
+    is_decreasing(table, sides, args, true, &mut asked)
+}
+
 // Whether the number is one of the list. That the list increases, as it mostly does, is said by `rising`.
 fn is_listed(list: &[u32], rising: bool, number: u32) -> bool
     requires { IsTrue rising → IsIncreasing list.now }
@@ -68,7 +66,6 @@ fn is_listed(list: &[u32], rising: bool, number: u32) -> bool
     } else {
         is_in(list, number)
     }
->>>>>>> 84eea5fc8f5e3573592e3ab463d7d8aadbcf8701
 }
 
 // Whether the pair is below, or equal and not dropped.

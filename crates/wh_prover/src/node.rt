@@ -1,13 +1,13 @@
 //! One node of a proof: how the chains of a set end, or why the search ends on it.
 
-ghost use Rattle.std.specs.Prelude.{◌≡◌, ◌↔◌, ◌<◌, ◌≤◌, All, IfOk, IfSome, IsTrue, MatchOption, length};
+ghost use Rattle.std.specs.Prelude.{◌≡◌, ◌↔◌, ◌<◌, ◌≤◌, All, IfOk, IsTrue, MatchOption, OnOk, length};
 ghost use Rattle.wh_types.specs.Limits.{most_pairs};
 ghost use Rattle.wh_pairs.specs.SystemPairs.{HasPairs};
 ghost use Rattle.wh_pairs.specs.Views.{pairs_data};
 ghost use Rattle.wh_system.specs.SystemView.{system_data};
 ghost use Rattle.wh_cert.specs.Said.{said_node};
 ghost use Rattle.wh_graph.specs.Graphs.{IsGraphOf, edge_of, size_of};
-ghost use Rattle.wh_numbered.specs.Numberings.{IsNumbering};
+ghost use Rattle.wh_numbered.specs.Numberings.{IsNumberingSoFar};
 ghost use Rattle.wh_guesses.specs.Conditions.{HasNoInterpretation};
 ghost use Rattle.wh_guesses.specs.Found.{task_of};
 ghost use Rattle.wh_prover.specs.Arriving.{Arrives, Ended, HasNoProjection, IsAloneUnder};
@@ -55,9 +55,9 @@ pub fn settle<'a>(
     requires few { length setting.now.pairs.now ≤ most_pairs }
     requires pairs { HasPairs (system_data setting.now.system.now) (pairs_data setting.now.pairs.now) }
     requires graph { IsGraphOf (system_data setting.now.system.now).rules (pairs_data setting.now.pairs.now) graph.now }
-    requires numbered { IfSome numbered.old (λ n. IsNumbering n (pairs_data setting.now.pairs.now)) }
+    requires numbered { IsNumberingSoFar numbered.old (pairs_data setting.now.pairs.now) }
     requires arrives { Arrives (system_data setting.now.system.now) (pairs_data setting.now.pairs.now) set }
-    ensures numbered { IfSome numbered.new (λ n. IsNumbering n (pairs_data setting.now.pairs.now)) }
+    ensures numbered { OnOk result (IsNumberingSoFar numbered.new (pairs_data setting.now.pairs.now)) }
     ensures node { IfOk result (λ end. MatchOption end (AddsNode setting.now.system.now setting.now.pairs.now set
         stack.old.items stack.new.items nodes.old nodes.new)
         (IsEnd (system_data setting.now.system.now) (pairs_data setting.now.pairs.now) setting.now.tries)) }
@@ -102,9 +102,9 @@ fn lower<'a>(
 ) -> Result<Option<Cause>, AllocError>
     requires few { length setting.now.pairs.now ≤ most_pairs }
     requires pairs { HasPairs (system_data setting.now.system.now) (pairs_data setting.now.pairs.now) }
-    requires numbered { IfSome numbered.old (λ n. IsNumbering n (pairs_data setting.now.pairs.now)) }
+    requires numbered { IsNumberingSoFar numbered.old (pairs_data setting.now.pairs.now) }
     requires ended { Ended (system_data setting.now.system.now) (pairs_data setting.now.pairs.now) set }
-    ensures numbered { IfSome numbered.new (λ n. IsNumbering n (pairs_data setting.now.pairs.now)) }
+    ensures numbered { OnOk result (IsNumberingSoFar numbered.new (pairs_data setting.now.pairs.now)) }
     ensures node { IfOk result (λ end. MatchOption end (AddsNode setting.now.system.now setting.now.pairs.now set
         stack.old.items stack.new.items nodes.old nodes.new)
         (IsEnd (system_data setting.now.system.now) (pairs_data setting.now.pairs.now) setting.now.tries)) }

@@ -1,11 +1,11 @@
 //! Where the numbers of sides pay.
 
-ghost use Rattle.std.specs.Prelude.{◌↔◌, ◌⊎◌, ◌<◌, All, IfSome, IsSome, IsTrue, OnOk, length, map};
+ghost use Rattle.std.specs.Prelude.{◌↔◌, ◌⊎◌, ◌<◌, All, IsSome, IsTrue, OnOk, length, map};
 ghost use Rattle.wh_system.specs.Systems.{SystemData};
 ghost use Rattle.wh_pairs.specs.PairData.{pair_data};
 ghost use Rattle.wh_pairs.specs.SystemPairs.{HasPairs};
 ghost use Rattle.wh_pairs.specs.Views.{pairs_data};
-ghost use Rattle.wh_numbered.specs.Numberings.{IsNumbering};
+ghost use Rattle.wh_numbered.specs.Numberings.{IsNumberingSoFar};
 ghost use Rattle.wh_numbered.specs.Sharing.{ShareARule};
 
 use super::Numbered;
@@ -22,12 +22,12 @@ pub fn number_if_shared(
 ) -> Result<(), AllocError>
     requires pairs { (d : SystemData) × HasPairs d (pairs_data pairs.now) }
     requires set { All (λ n. n < length pairs.now) set.now }
-    requires numbered { IfSome numbered.old (λ n. IsNumbering n (pairs_data pairs.now)) }
-    ensures numbered { IfSome numbered.new (λ n. IsNumbering n (pairs_data pairs.now)) }
+    requires numbered { IsNumberingSoFar numbered.old (pairs_data pairs.now) }
+    ensures numbered { OnOk result (IsNumberingSoFar numbered.new (pairs_data pairs.now)) }
     ensures which { OnOk result (IsSome numbered.new ↔ (IsSome numbered.old ⊎ ShareARule (pairs_data pairs.now) set.now)) }
 {
     if numbered.is_none() && share_a_rule(pairs.as_slice(), set.as_slice()) {
-        *numbered = Some(Numbered::of(alloc, pairs)?);
+        Numbered::once(alloc, pairs, numbered)?;
     }
     Ok(())
 }

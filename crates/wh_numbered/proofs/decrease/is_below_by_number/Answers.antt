@@ -11,4 +11,4 @@ is_decreasing-requires-clause-pair c =
 
 pub returns : goal.returns
 returns c = λ p are.
-    below_same (trees c.args.table.now) c.args.sides.now p (map chosen c.args.args.now) (IsTrue c.is_decreasing.result) are c.is_decreasing.ensures
+    below_same (trees c.args.table.now) c.args.sides.now p (map chosen c.args.args.now) (IsTrue c.is_decreasing.result) are c.is_decreasing.ensures.decreasing

@@ -31,7 +31,7 @@ find_projection_by-requires-clause-set c =
 pub find_projection_by-requires-clause-numbered : goal.find_projection_by-requires-clause-numbered
 find_projection_by-requires-clause-numbered c =
     borrowed (λ (n : Numbered). IsNumbering n (pairs_data c.args.setting.now.pairs.now)) c.as_ref.result c.number_if_shared.new.numbered c.as_ref.ensures.value
-    c.number_if_shared.ensures.numbered
+    c.in_ok-number_if_shared.ensures.numbered
 
 pub node_of-requires-clause-symbols : goal.node_of-requires-clause-symbols
 node_of-requires-clause-symbols c =

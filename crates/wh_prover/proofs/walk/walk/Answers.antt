@@ -37,7 +37,7 @@ loop-set-preserved c =
     let here = walked_here d ps whole c.in-Some.set c.loop-set.stack.items rest lines c.loop-set.invariant.walked c.in-Some.ensures.items in
     record {
       walked = walked_next d ps whole c.in-Some.set (reverse rest) (reverse c.settle.new.stack.items) lines (map said_node c.settle.new.nodes) here adds;
-      numbered = c.settle.ensures.numbered;
+      numbered = c.in_ok-cause.ensures.numbered;
     }
 
 pub returns : goal.returns
