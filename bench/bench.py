@@ -93,6 +93,17 @@ def large_left(calls):
     return "\n".join(lines) + "\n"
 
 
+def large_knot(calls):
+    """The same where each call comes back to the rule, and a second argument gets smaller: a projection is looked for among all these
+    pairs, under each choice of two arguments."""
+    lines = ["sort nat;", "fun a : nat;", "fun s : nat -> nat;", "fun p : nat -> nat -> nat;", "fun big : nat -> nat -> nat;"]
+    lines += [f"fun h{i} : nat -> nat -> nat;" for i in range(calls)]
+    left, right = joined(["a"] * 6143 + ["X"]), joined([f"(h{i} (s X) Y)" for i in range(calls)])
+    lines.append(f"rule {{X:nat,Y:nat}} big {left} (s Y) => {right};")
+    lines += [f"rule {{X:nat,Y:nat}} h{i} X (s Y) => big X Y;" for i in range(calls)]
+    return "\n".join(lines) + "\n"
+
+
 def binder_loop(steps):
     """A loop of constants under a binder."""
     system = "sort o;\nfun a : o;\nfun b : o;\nfun k : (o -> o) -> o;\nrule {} a => b;\nrule {} b => a;\n"
@@ -463,6 +474,8 @@ def main():
     for symbols in (255, 510, 1020):
         cases.append(("prove one by one", f"{3 * symbols - 3} pairs", one_by_one, symbols))
     cases.append(("prove most-pairs", "4096 pairs", most_pairs, 4096))
+    for calls in (250, 500, 1000):
+        cases.append(("prove large-knot", f"{2 * calls} pairs", large_knot, calls))
     for symbols in (25, 50, 100, 200):
         cases.append(("prove identities", f"{2 * symbols} rules", round_by_identities, symbols))
     for symbols in (25, 50, 100, 200):

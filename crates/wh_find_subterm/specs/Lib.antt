@@ -1,4 +1,5 @@
 pub mod Rows
+pub mod Sights
 pub mod Cases
 pub mod Clauses
 pub mod Formula

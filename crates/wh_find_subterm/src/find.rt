@@ -1,9 +1,10 @@
 //! The search for a projection that lets pairs go.
 
-ghost use Rattle.std.specs.Prelude.{◌≢◌, ◌≡◌, ◌+◌, ◌<◌, ◌^◌, ℕ, [], false, All, IfOk, get_or, length, map};
+ghost use Rattle.std.specs.Prelude.{◌≢◌, ◌≡◌, ◌+◌, ◌<◌, ◌^◌, ℕ, [], false, All, IfOk, IfSome, get_or, length, map};
 ghost use Rattle.wh_pairs.specs.PairData.{IsIncreasing, pair_data};
 ghost use Rattle.wh_system.specs.SystemView.{system_data};
 ghost use Rattle.wh_subterm.specs.SubtermRows.{chosen};
+ghost use Rattle.wh_numbered.specs.Numberings.{IsNumbering};
 ghost use Rattle.wh_sat_trail.specs.Propagation.{Within};
 ghost use Rattle.wh_find_subterm.specs.Formula.{IsProjections};
 ghost use Rattle.wh_find_subterm.specs.Found.{IsAnswer};
@@ -13,6 +14,7 @@ use crate::formula::formula_of;
 use crate::reading::{below_under, choices_by};
 use crate::rows::{Row, rows_of};
 use std::alloc::{AllocError, Global};
+use wh_numbered::Numbered;
 use wh_pairs::{Pair, PairList, PairSet, marked_symbols};
 use wh_sat::{Outcome, Search, solve_owned};
 use wh_sat_trail::Formula;
@@ -43,9 +45,26 @@ pub fn find_projection(
     requires some { set.now ≢ [] }
     ensures { IfOk result (IsAnswer (system_data system.now).rules (map pair_data pairs.now) set.now budget) }
 {
+    find_projection_by(alloc, system, pairs, None, set, budget)
+}
+
+/// The same, by the numbers of the sides of all pairs where there are some: equal sides are then equal numbers.
+pub fn find_projection_by(
+    alloc: Global,
+    system: &System,
+    pairs: &PairList,
+    numbered: Option<&Numbered>,
+    set: &PairSet,
+    budget: u64,
+) -> Result<Search<ProjectionFound>, AllocError>
+    requires set { All (λ n. n < length pairs.now) set.now }
+    requires numbered { IfSome numbered (λ n. IsNumbering n.now (map pair_data pairs.now)) }
+    requires some { set.now ≢ [] }
+    ensures { IfOk result (IsAnswer (system_data system.now).rules (map pair_data pairs.now) set.now budget) }
+{
     let symbols = marked_symbols(alloc, pairs, set)?;
     let rows = rows_of(alloc, system, &symbols)?;
-    let formula = formula_of(alloc, &rows, pairs.as_slice(), set.as_slice())?;
+    let formula = formula_of(alloc, &rows, pairs.as_slice(), numbered, set.as_slice())?;
     match solve_owned(alloc, formula, budget)? {
         Outcome::Sat(values) => {
             let found = read_model(
@@ -53,6 +72,7 @@ pub fn find_projection(
                 &values,
                 &rows.items,
                 pairs.as_slice(),
+                numbered,
                 set.as_slice(),
             )?;
             Ok(Search::Found(found))
@@ -77,7 +97,7 @@ pub fn projection_formula(
 {
     let symbols = marked_symbols(alloc, pairs, set)?;
     let rows = rows_of(alloc, system, &symbols)?;
-    formula_of(alloc, &rows, pairs.as_slice(), set.as_slice())
+    formula_of(alloc, &rows, pairs.as_slice(), None, set.as_slice())
 }
 
 // The projection that a model says, with the pairs that are below under it.
@@ -86,9 +106,11 @@ fn read_model(
     values: &[bool],
     rows: &[Row],
     pairs: &[Pair],
+    numbered: Option<&Numbered>,
     set: &[u32],
 ) -> Result<ProjectionFound, AllocError>
     requires set { All (λ n. n < length pairs.now) set.now }
+    requires numbered { IfSome numbered (λ n. IsNumbering n.now (map pair_data pairs.now)) }
     requires increasing { IsIncreasing set.now }
     requires few { length values.now < 2 ^ 32 }
     requires rows { All (λ r. r.first + r.need < length values.now) rows.now }
@@ -97,6 +119,6 @@ fn read_model(
     ensures drop { IfOk result (λ found. IsBelowSet (map pair_data pairs.now) set.now (map chosen found.args) (length set.now) found.drop) }
 {
     let args = choices_by(alloc, values, rows)?;
-    let drop = below_under(alloc, pairs, set, args.as_slice())?;
+    let drop = below_under(alloc, pairs, numbered, set, args.as_slice())?;
     Ok(ProjectionFound { args, drop })
 }

@@ -1,7 +1,8 @@
 //! The formula whose models are the projections of a set of pairs that let a pair go.
 
-ghost use Rattle.std.specs.Prelude.{◌≡◌, ◌+◌, ◌<◌, ◌≤◌, ◌^◌, ℕ, All, IfOk, length, map};
+ghost use Rattle.std.specs.Prelude.{◌≡◌, ◌+◌, ◌<◌, ◌≤◌, ◌^◌, ℕ, All, IfOk, IfSome, length, map};
 ghost use Rattle.wh_pairs.specs.PairData.{pair_data};
+ghost use Rattle.wh_numbered.specs.Numberings.{IsNumbering};
 ghost use Rattle.wh_find_subterm.specs.Clauses.{clauses_of};
 ghost use Rattle.wh_find_subterm.specs.Formula.{IsFormula};
 ghost use Rattle.wh_find_subterm.specs.Rows.{row_of};
@@ -10,6 +11,7 @@ use crate::cases::{Case, cases_of};
 use crate::clauses::{add_fourth, add_one_chosen, add_only_one_chosen, add_third, some_of};
 use crate::rows::Rows;
 use std::alloc::{AllocError, Global};
+use wh_numbered::Numbered;
 use wh_pairs::Pair;
 use wh_sat_trail::{Clauses, Formula};
 
@@ -18,9 +20,11 @@ pub fn formula_of(
     alloc: Global,
     rows: &Rows,
     pairs: &[Pair],
+    numbered: Option<&Numbered>,
     set: &[u32],
 ) -> Result<Formula, AllocError>
     requires set { All (λ n. n < length pairs.now) set.now }
+    requires numbered { IfSome numbered (λ n. IsNumbering n.now (map pair_data pairs.now)) }
     requires each { All (λ r. r.first + r.need ≤ rows.now.end) rows.now.items.items }
     requires rows { (f : ℕ) → (row_of rows.now.items.items f).first + (row_of rows.now.items.items f).need ≤ rows.now.end }
     ensures small { IfOk result (λ made. made.variables < 2 ^ 32) }
@@ -29,7 +33,7 @@ pub fn formula_of(
 {
     let count = u32::try_from(set.len()).or(Err(AllocError))?;
     let variables = rows.end.checked_add(count).ok_or(AllocError)?;
-    let cases = cases_of(alloc, &rows.items, rows.end, pairs, set)?;
+    let cases = cases_of(alloc, &rows.items, rows.end, pairs, numbered, set)?;
     let clauses = clauses_of(alloc, rows, &cases, count)?;
     Ok(Formula { variables, clauses })
 }

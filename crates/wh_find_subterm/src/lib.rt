@@ -8,6 +8,7 @@ mod formula;
 mod laws;
 mod reading;
 mod rows;
+mod sight;
 
-pub use find::{ProjectionFound, find_projection, projection_formula};
+pub use find::{ProjectionFound, find_projection, find_projection_by, projection_formula};
 pub use laws::{formula_is_one, models_are_projections, projections_are_models};

@@ -1,14 +1,17 @@
 //! The projection that a model says.
 
-ghost use Rattle.std.specs.Prelude.{◌≡◌, ◌+◌, ◌<◌, ◌≤◌, ◌^◌, ℕ, false, All, IfOk, get_or, length, map};
+ghost use Rattle.std.specs.Prelude.{◌≡◌, ◌+◌, ◌<◌, ◌≤◌, ◌^◌, ℕ, false, All, IfOk, IfSome, get_or, length, map};
 ghost use Rattle.wh_pairs.specs.PairData.{IsIncreasing, pair_data};
+ghost use Rattle.wh_numbered.specs.Numberings.{IsNumbering};
 ghost use Rattle.wh_subterm.specs.SubtermRows.{chosen, chosen_symbols};
 ghost use Rattle.wh_find_subterm.specs.Reading.{IsBelowSet, chosen_by, first_true};
 
 use crate::rows::Row;
+use crate::sight::{is_below_in, sight_of};
 use std::alloc::{AllocError, Global};
+use wh_numbered::Numbered;
 use wh_pairs::{Pair, PairSet};
-use wh_subterm::{Choice, Projection, is_below};
+use wh_subterm::{Choice, Projection};
 
 /// Of each symbol the first argument whose variable is true.
 pub fn choices_by(alloc: Global, values: &[bool], rows: &[Row]) -> Result<Projection, AllocError>
@@ -45,17 +48,19 @@ fn first_true(values: &[bool], first: u32, count: u32) -> u32
 pub fn below_under(
     alloc: Global,
     pairs: &[Pair],
+    numbered: Option<&Numbered>,
     set: &[u32],
     args: &[Choice],
 ) -> Result<PairSet, AllocError>
     requires set { All (λ n. n < length pairs.now) set.now }
+    requires numbered { IfSome numbered (λ n. IsNumbering n.now (map pair_data pairs.now)) }
     requires increasing { IsIncreasing set.now }
     requires args { IsIncreasing (chosen_symbols (map chosen args.now)) }
     ensures { IfOk result (IsBelowSet (map pair_data pairs.now) set.now (map chosen args.now) (length set.now)) }
 {
     let mut drop = PairSet::new(alloc)?;
     for number in set {
-        if is_below(&pairs[*number as usize], args) {
+        if is_below_in(&sight_of(pairs, numbered, *number), args) {
             drop.push(*number)?;
         }
     }

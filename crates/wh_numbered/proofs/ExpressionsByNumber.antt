@@ -1,8 +1,7 @@
 -- Numbered trees as expressions, argument by argument.
 use Rattle.std.proofs.Common.{◌≡◌, ℕ, suc, ◌+◌, ◌<◌, List, [], ◌∷◌, length, map, take, get_or, refl, ap, ap₂, sym, ◌∙◌, add-one}
 use Rattle.std.proofs.lemmas.List.{take_more}
-use Rattle.wh_terms.specs.Tree.{Tm, Tms, none, more, tms_of}
-use Rattle.wh_terms.proofs.TermLemmas.{join}
+use Rattle.wh_terms.specs.Tree.{Tm, tms_of}
 use Rattle.wh_hopoly.specs.Evaluation.{Expression, apply, lambda, symbol}
 use Rattle.wh_hopoly.specs.Outcomes.{applied_to}
 use Rattle.wh_types.specs.Ty.{Ty}

@@ -4,5 +4,10 @@ pub mod EntryLaws
 pub mod PartsByNumber
 pub mod ChosenNumbers
 pub mod SameProjections
+pub mod RelationByNumber
+pub mod ShareLemmas
 pub mod ExpressionsByNumber
 pub mod MarkedByNumber
+pub mod MarkedPlaces
+pub mod ChosenAt
+pub mod Listed

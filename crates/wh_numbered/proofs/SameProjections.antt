@@ -41,6 +41,14 @@ numbers_within ts (n ∷ ns) (u ∷ us) e zero d h = let here : slice_get ts n �
 numbers_within ts (n ∷ ns) (u ∷ us) e (suc i) d h =
     let rest : AreNumbersOf ts ns us = cc in numbers_within ts ns us rest i d (omega (arith, h))
 
+-- the sides of an entry are those of the pair that has it
+pub same_sides : (ts : List Tm) (s : Sides) (p : PairData) → AreSidesOf ts s p → as_pair ts s ≡ sides_only p
+same_sides ts s p h =
+    let left = trees_of_numbers ts s.left p.left h.left in
+    let right = trees_of_numbers ts s.right p.right h.right in
+    ap₂ (λ f us. sides_of f us s.right_fun (map (tree_at ts) s.right)) h.left_fun left
+    ∙ ap₂ (λ g vs. sides_of p.left_fun p.left g vs) h.right_fun right
+
 module _ (ts : List Tm) (sides : List Sides) (ps : List PairData) (are : AreSides ts sides ps) where
   -- the pair of an entry, and the entry of a pair
   pair_of : (n : ℕ) (s : Sides) → slice_get sides n ≡ Some s → (p : PairData) × (slice_get ps n ≡ Some p) × AreSidesOf ts s p
@@ -94,16 +102,9 @@ module _ (ts : List Tm) (sides : List Sides) (ps : List PairData) (are : AreSide
 
   -- projected sides
 
-  same_sides : (s : Sides) (p : PairData) → AreSidesOf ts s p → as_pair ts s ≡ sides_only p
-  same_sides s p h =
-      let left = trees_of_numbers ts s.left p.left h.left in
-      let right = trees_of_numbers ts s.right p.right h.right in
-      ap₂ (λ f us. sides_of f us s.right_fun (map (tree_at ts) s.right)) h.left_fun left
-      ∙ ap₂ (λ g vs. sides_of p.left_fun p.left g vs) h.right_fun right
-
   view_there : (n : ℕ) (p : PairData) → slice_get ps n ≡ Some p → slice_get (map (as_pair ts) sides) n ≡ Some (sides_only p)
   view_there n p there =
-      let (s, here, h) = entry_of n p there in remap (as_pair ts) sides n s here ∙ ap (λ q. Some q) (same_sides s p h)
+      let (s, here, h) = entry_of n p there in remap (as_pair ts) sides n s here ∙ ap (λ q. Some q) (same_sides ts s p h)
 
   pub decreasing_same : (args : List Chosen) (drop : List ℕ) (n : ℕ) → IsDecreasing (map (as_pair ts) sides) args drop n → IsDecreasing ps args drop n
   decreasing_same args drop n right p there = right (sides_only p) (view_there n p there)
@@ -116,7 +117,7 @@ module _ (ts : List Tm) (sides : List Sides) (ps : List PairData) (are : AreSide
         p,
         there,
         subst (λ (q : PairData). ((Equal args q ⊎ Below args q) → ⊥) ⊎ (Contains drop n × (Below args q → ⊥)))
-            (sym is ∙ same_sides s p h) wrong,
+            (sym is ∙ same_sides ts s p h) wrong,
       )
 
   pub wrong_back : (args : List Chosen) (drop : List ℕ) (n : ℕ) → IsNotDecreasing ps args drop n

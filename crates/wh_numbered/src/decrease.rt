@@ -1,15 +1,19 @@
 //! Whether the projected sides of a pair are equal, or the right one is below the left one.
 
 ghost use Rattle.std.specs.Prelude.{◌≡◌, ◌↔◌, ◌<◌, ℕ, All, Contains, IsTrue, MatchOption, length, map};
-ghost use Rattle.wh_pairs.specs.PairData.{IsIncreasing};
-ghost use Rattle.wh_subterm.specs.Projections.{Decreasing};
+ghost use Rattle.wh_pairs.specs.PairData.{IsIncreasing, PairData};
+ghost use Rattle.wh_subterm.specs.Projections.{Below, Decreasing};
 ghost use Rattle.wh_subterm.specs.SubtermRows.{IsDecreasing, IsNotDecreasing, chosen, chosen_symbols};
 ghost use Rattle.wh_intern.specs.TableTrees.{trees};
+ghost use Rattle.wh_numbered.specs.Asking.{IsAnswered};
+ghost use Rattle.wh_numbered.specs.NumberedSides.{AreSidesOf};
 ghost use Rattle.wh_numbered.specs.SidesAsPairs.{AreNumbersIn, IsChosenNumber, as_pair};
 
+use crate::asked::Asked;
 use crate::marked::choice_for;
-use crate::parts::{has_part, is_same};
+use crate::parts::{has_part_as_asked, is_same, nothing_asked};
 use wh_intern::{Sides, Table};
+use wh_pairs::is_increasing;
 use wh_subterm::Choice;
 use wh_types::{Numbers, is_in};
 
@@ -31,19 +35,52 @@ pub fn first_not_decreasing(
         × ((m : ℕ) → m < n → Contains set.now m
         → IsNotDecreasing (map (as_pair (trees table.now)) sides.now) (map chosen args.now) drop.now m → ⊥)) }
 {
+    let rising = is_increasing(drop);
+    let mut asked = nothing_asked();
     for number in set {
-        if !is_decreasing(table, &sides[*number as usize], args, is_in(drop, *number)) {
+        let dropped = is_listed(drop, rising, *number);
+        if !is_decreasing(table, &sides[*number as usize], args, dropped, &mut asked) {
             return Some(*number);
         }
     }
     None
 }
 
+/// Whether the pair with these sides is below: the answer of `wh_subterm::is_below`.
+pub fn is_below_by_number(table: &Table, sides: &Sides, args: &[Choice]) -> bool
+    requires sides { (p : PairData) × AreSidesOf (trees table.now) sides.now p }
+    requires args { IsIncreasing (chosen_symbols (map chosen args.now)) }
+    ensures { (p : PairData) → AreSidesOf (trees table.now) sides.now p → IsTrue result ↔ Below (map chosen args.now) p }
+{
+    let mut asked = nothing_asked();
+    is_decreasing(table, sides, args, true, &mut asked)
+}
+
+// Whether the number is one of the list. That the list increases, as it mostly does, is said by `rising`.
+fn is_listed(list: &[u32], rising: bool, number: u32) -> bool
+    requires { IsTrue rising → IsIncreasing list.now }
+    ensures { IsTrue result ↔ Contains list.now number }
+{
+    if rising {
+        list.binary_search(&number).is_ok()
+    } else {
+        is_in(list, number)
+    }
+}
+
 // Whether the pair is below, or equal and not dropped.
-fn is_decreasing(table: &Table, pair: &Sides, args: &[Choice], dropped: bool) -> bool
+fn is_decreasing(
+    table: &Table,
+    pair: &Sides,
+    args: &[Choice],
+    dropped: bool,
+    asked: &mut Asked,
+) -> bool
     requires pair { AreNumbersIn (trees table.now) pair.now }
     requires args { IsIncreasing (chosen_symbols (map chosen args.now)) }
-    ensures { IsTrue result ↔ Decreasing (map chosen args.now) dropped (as_pair (trees table.now) pair.now) }
+    requires asked { IsAnswered (trees table.now) asked.old }
+    ensures asked { IsAnswered (trees table.now) asked.new }
+    ensures decreasing { IsTrue result ↔ Decreasing (map chosen args.now) dropped (as_pair (trees table.now) pair.now) }
 {
     let Some(left) = projected(args, pair.left_fun, &pair.left) else {
         return false;
@@ -51,7 +88,10 @@ fn is_decreasing(table: &Table, pair: &Sides, args: &[Choice], dropped: bool) ->
     let Some(right) = projected(args, pair.right_fun, &pair.right) else {
         return false;
     };
-    has_part(table, left, right) || (!dropped && is_same(table, left, right))
+    if has_part_as_asked(table, asked, left, right) {
+        return true;
+    }
+    !dropped && is_same(table, left, right)
 }
 
 // The number that is chosen for the symbol.

@@ -2,17 +2,23 @@
 //! projections and polynomials are then checked by numbers.
 #![tactic(auto)]
 
+mod asked;
 mod check;
 mod decrease;
 mod expressions;
 mod marked;
 mod marks;
+mod numbered;
 mod numbering;
 mod parts;
 mod polynomials;
+mod relation;
 mod scopes;
 
 pub use check::check_numbered;
+pub use decrease::is_below_by_number;
+pub use numbered::{Numbered, number_if_shared};
 pub use numbering::number_pairs;
 pub use polynomials::{pair_side_by_number, side_by_number};
+pub use relation::relation_by_number;
 pub use scopes::scope_of;

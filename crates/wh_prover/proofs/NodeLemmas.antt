@@ -1,5 +1,7 @@
 -- A node for a set, from the answers of its parts.
-use Rattle.std.proofs.Common.{◌≡◌, ◌≢◌, ◌↔◌, ℕ, ◌^◌, ◌≤◌, ◌==◌, eqb-true, Bool, true, false, not, inl, Option, Some, None, List, [], ◌∷◌, ◌++◌, length, get_or, IsTrue, All, refl, sym, ap, subst, ◌∙◌, arith}
+use Rattle.std.proofs.Common.{◌≡◌, ◌≢◌, ◌↔◌, ℕ, ◌^◌, ◌≤◌, ◌==◌, eqb-true, Bool, true, false, not, inl, Option, Some, None, List, [], ◌∷◌, ◌++◌, length, get_or, IfSome, IsTrue, All, refl, sym, ap, subst, ◌∙◌, arith}
+use Rattle.std.specs.Borrow.{Bor}
+use Rattle.std.specs.Prelude.{option_copied}
 use Rattle.std.proofs.lemmas.List.Elements.{All-nil, All-cons}
 use Rattle.wh_system.specs.Systems.{SystemData}
 use Rattle.wh_system.specs.WellMade.{IsWellMadeSystem}
@@ -298,3 +300,8 @@ not_so b P is false_b p = let true_b : b ≡ true = is p in cc
 pub some_of : {A : Type 0} (xs : List A) → xs ≢ [] → 1 ≤ length xs
 some_of [] some = absurd (some refl)
 some_of (x ∷ xs) some = omega arith
+
+-- what is so of a value, if there is one, is so of the borrowed one
+pub borrowed : {A : Type 0} (P : A → Type 0) (r : Option (Bor A)) (o : Option A) → option_copied r ≡ o → IfSome o P → IfSome r (λ x. P x.now)
+borrowed P None o e h = tt
+borrowed P (Some x) o e h = subst (λ p. IfSome p P) (sym e) h

@@ -1,12 +1,13 @@
 //! One node of a proof: how the chains of a set end, or why the search ends on it.
 
-ghost use Rattle.std.specs.Prelude.{◌≡◌, ◌↔◌, ◌<◌, ◌≤◌, All, IfOk, IsTrue, MatchOption, length};
+ghost use Rattle.std.specs.Prelude.{◌≡◌, ◌↔◌, ◌<◌, ◌≤◌, All, IfOk, IsTrue, MatchOption, OnOk, length};
 ghost use Rattle.wh_types.specs.Limits.{most_pairs};
 ghost use Rattle.wh_pairs.specs.SystemPairs.{HasPairs};
 ghost use Rattle.wh_pairs.specs.Views.{pairs_data};
 ghost use Rattle.wh_system.specs.SystemView.{system_data};
 ghost use Rattle.wh_cert.specs.Said.{said_node};
 ghost use Rattle.wh_graph.specs.Graphs.{IsGraphOf, edge_of, size_of};
+ghost use Rattle.wh_numbered.specs.Numberings.{IsNumberingSoFar};
 ghost use Rattle.wh_guesses.specs.Conditions.{HasNoInterpretation};
 ghost use Rattle.wh_guesses.specs.Found.{task_of};
 ghost use Rattle.wh_prover.specs.Arriving.{Arrives, Ended, HasNoProjection, IsAloneUnder};
@@ -18,8 +19,9 @@ use crate::lines::node_of;
 use std::alloc::{AllocError, Global};
 use wh_cert::{Node, Nodes};
 use wh_find_order::find_order;
-use wh_find_subterm::find_projection;
+use wh_find_subterm::find_projection_by;
 use wh_graph::Graph;
+use wh_numbered::{Numbered, number_if_shared};
 use wh_pairs::{PairList, PairSet, kept};
 use wh_proof::open_blocks;
 use wh_sat::Search;
@@ -39,10 +41,13 @@ pub struct Setting<'a> {
 /// Gives the set a node, and puts what this leaves on top of the stack, the first of it on top; or says why the search ends on the
 /// set. The graph comes first: a set without pairs, with several components, or with one pair that may not follow itself. Then
 /// come the finders.
+///
+/// `numbered` has the sides of all pairs by numbers, once there was a set for which they pay.
 pub fn settle<'a>(
     alloc: Global,
     setting: &Setting<'a>,
     graph: &Graph,
+    numbered: &mut Option<Numbered>,
     set: PairSet,
     stack: &mut Vec<PairSet>,
     nodes: &mut Nodes,
@@ -50,8 +55,10 @@ pub fn settle<'a>(
     requires few { length setting.now.pairs.now ≤ most_pairs }
     requires pairs { HasPairs (system_data setting.now.system.now) (pairs_data setting.now.pairs.now) }
     requires graph { IsGraphOf (system_data setting.now.system.now).rules (pairs_data setting.now.pairs.now) graph.now }
+    requires numbered { IsNumberingSoFar numbered.old (pairs_data setting.now.pairs.now) }
     requires arrives { Arrives (system_data setting.now.system.now) (pairs_data setting.now.pairs.now) set }
-    ensures { IfOk result (λ end. MatchOption end (AddsNode setting.now.system.now setting.now.pairs.now set
+    ensures numbered { OnOk result (IsNumberingSoFar numbered.new (pairs_data setting.now.pairs.now)) }
+    ensures node { IfOk result (λ end. MatchOption end (AddsNode setting.now.system.now setting.now.pairs.now set
         stack.old.items stack.new.items nodes.old nodes.new)
         (IsEnd (system_data setting.now.system.now) (pairs_data setting.now.pairs.now) setting.now.tries)) }
 {
@@ -69,7 +76,7 @@ pub fn settle<'a>(
         nodes.push(Node::Alone)?;
         return Ok(None);
     }
-    lower(alloc, setting, set, stack, nodes)
+    lower(alloc, setting, numbered, set, stack, nodes)
 }
 
 // Whether the set has one pair, which may not follow itself.
@@ -88,19 +95,30 @@ fn is_alone(graph: &Graph, set: &[u32]) -> bool
 fn lower<'a>(
     alloc: Global,
     setting: &Setting<'a>,
+    numbered: &mut Option<Numbered>,
     set: PairSet,
     stack: &mut Vec<PairSet>,
     nodes: &mut Nodes,
 ) -> Result<Option<Cause>, AllocError>
     requires few { length setting.now.pairs.now ≤ most_pairs }
     requires pairs { HasPairs (system_data setting.now.system.now) (pairs_data setting.now.pairs.now) }
+    requires numbered { IsNumberingSoFar numbered.old (pairs_data setting.now.pairs.now) }
     requires ended { Ended (system_data setting.now.system.now) (pairs_data setting.now.pairs.now) set }
-    ensures { IfOk result (λ end. MatchOption end (AddsNode setting.now.system.now setting.now.pairs.now set
+    ensures numbered { OnOk result (IsNumberingSoFar numbered.new (pairs_data setting.now.pairs.now)) }
+    ensures node { IfOk result (λ end. MatchOption end (AddsNode setting.now.system.now setting.now.pairs.now set
         stack.old.items stack.new.items nodes.old nodes.new)
         (IsEnd (system_data setting.now.system.now) (pairs_data setting.now.pairs.now) setting.now.tries)) }
 {
     setting.system.is_well_made();
-    match find_projection(alloc, setting.system, setting.pairs, &set, setting.tries)? {
+    number_if_shared(alloc, setting.pairs, &set, numbered)?;
+    match find_projection_by(
+        alloc,
+        setting.system,
+        setting.pairs,
+        numbered.as_ref(),
+        &set,
+        setting.tries,
+    )? {
         Search::Found(found) => {
             stack.push(kept(alloc, &set, found.drop.as_slice())?)?;
             nodes.push(node_of(alloc, setting.system, &found)?)?;

@@ -34,10 +34,11 @@ pub fn walk<'a>(
     ensures { IfOk result (λ end. MatchOption end (IsTree (system_data setting.now.system.now) (pairs_data setting.now.pairs.now) whole
         (map said_node nodes.new)) (IsEnd (system_data setting.now.system.now) (pairs_data setting.now.pairs.now) setting.now.tries)) }
 {
+    let mut numbered = None;
     let mut stack = Vec::new(alloc);
     stack.push(whole)?;
     while let Some(set) = stack.pop() {
-        if let Some(cause) = settle(alloc, setting, graph, set, &mut stack, nodes)? {
+        if let Some(cause) = settle(alloc, setting, graph, &mut numbered, set, &mut stack, nodes)? {
             return Ok(Some(cause));
         }
     }

@@ -1,6 +1,6 @@
 //! What a table holds.
 
-ghost use Rattle.std.specs.Prelude.{◌≡◌, ◌<◌, ◌^◌, [], ℕ, IfOk, length};
+ghost use Rattle.std.specs.Prelude.{◌≡◌, ◌<◌, ◌≤◌, ◌^◌, [], ℕ, IfOk, length};
 ghost use Rattle.wh_terms.specs.Tree.{Tm};
 ghost use Rattle.wh_intern.specs.Parts.{part_tree};
 ghost use Rattle.wh_intern.specs.Trees.{Below, IsPart, tree_at, tree_of};
@@ -47,10 +47,12 @@ impl Table {
         let _ = self.parts.len();
     }
 
-    /// Each part of a tree has a number too.
+    /// Each part of a tree has a number too, which is not above that of the tree.
     pub fn has_parts(&self)
-        ensures { (m : ℕ) (s : Tm) → m < length (trees self.now) → IsPart s (tree_at (trees self.now) m)
+        ensures there { (m : ℕ) (s : Tm) → m < length (trees self.now) → IsPart s (tree_at (trees self.now) m)
             → (k : ℕ) × (k < length (trees self.now)) × (tree_at (trees self.now) k ≡ s) }
+        ensures low { (m k : ℕ) → m < length (trees self.now) → k < length (trees self.now)
+            → IsPart (tree_at (trees self.now) k) (tree_at (trees self.now) m) → k ≤ m }
     {
         let _ = self.parts.len();
     }

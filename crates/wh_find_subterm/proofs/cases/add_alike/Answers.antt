@@ -8,7 +8,7 @@ use Rattle.wh_find_subterm.proofs.cases.add_alike.Goals as goal
 pub loop-place-preserved : goal.loop-place-preserved
 loop-place-preserved c =
     let n = c.loop-place.place in
-    let f = λ (i : ℕ). spot (pair_data c.args.pair.now) c.args.row c.args.row c.args.own i i in
+    let f = λ (i : ℕ). spot (pair_data c.args.sight.now.pair.now) c.args.row c.args.row c.args.own i i in
     let now = c.loop-place.cases.items in
     let new = c.push.new.self.items in
     adds_more c.args.cases.now.items now new (map f (range_with_len 0 n)) (f n ∷ []) (map f (range_with_len 0 (n + 1))) c.loop-place.invariant

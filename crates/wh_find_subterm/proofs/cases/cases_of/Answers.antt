@@ -1,6 +1,5 @@
 use Rattle.std.proofs.Common.{map, get_or, sym, arith}
 use Rattle.wh_pairs.specs.PairData.{pair_data}
-use Rattle.wh_pairs.proofs.ByPlace.{read_map}
 use Rattle.wh_find_subterm.proofs.CaseLemmas.{cases_more}
 use Rattle.wh_find_subterm.proofs.Chosen.{pair_is}
 use Rattle.wh_find_subterm.proofs.cases.cases_of.Goals as goal
@@ -12,8 +11,8 @@ loop-number-preserved c =
     let set = c.args.set.now in
     let i = c.loop-number.number-index in
     let n = get_or set i 0 in
-    let p = c.index-pairs-number.result in
-    let at = read_map pair_data c.args.pairs.now n p (c.requires.set i 0 c.loop-number-test.true) c.index-pairs-number.is in
+    let p = c.sight_of.result.pair.now in
+    let at = c.sight_of.ensures.pair in
     let own = c.loop-number.invariant.own in
     record {
       own = omega (arith, own);

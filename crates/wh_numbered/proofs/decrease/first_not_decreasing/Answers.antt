@@ -25,10 +25,10 @@ returns-then-not-is_decreasing c =
     let args = map chosen c.args.args.now in
     let at = read_map view c.args.sides.now n c.index-sides-number.result (c.requires.set i 0 c.loop-number-test.true) c.index-sides-number.is in (
       contains_number set i c.loop-number-test.true,
-      decreasing_wrong ps args c.args.drop.now n (view c.index-sides-number.result) c.is_in.result at c.is_in.ensures (λ right. cc (c.is_decreasing.ensures.1 right, c.if-not-is_decreasing.true)),
+      decreasing_wrong ps args c.args.drop.now n (view c.index-sides-number.result) c.is_listed-dropped.result at c.is_listed-dropped.ensures (λ right. cc (c.is_decreasing.ensures.decreasing.1 right, c.if-not-is_decreasing.true)),
       λ m less found wrong.
           let there = place_of set m found in
-          let right = c.loop-number.invariant there.0 m (smaller_earlier set there.0 i m n c.requires.increasing there.1 (number_at set i c.loop-number-test.true) less) there.1 in
+          let right = c.loop-number.invariant.1 there.0 m (smaller_earlier set there.0 i m n c.requires.increasing there.1 (number_at set i c.loop-number-test.true) less) there.1 in
           not_both ps args c.args.drop.now m right wrong,
     )
 
@@ -40,11 +40,13 @@ loop-number-preserved c =
     let view = as_pair (trees c.args.table.now) in
     let ps = map view c.args.sides.now in
     let args = map chosen c.args.args.now in
-    let at = read_map view c.args.sides.now n c.index-sides-number.result (c.requires.set i 0 c.loop-number-test.true) c.index-sides-number.is in
-    before_more (IsDecreasing ps args c.args.drop.now) set i n c.loop-number.invariant (number_at set i c.loop-number-test.true)
-    (decreasing_right ps args c.args.drop.now n (view c.index-sides-number.result) c.is_in.result at c.is_in.ensures (c.is_decreasing.ensures.0 c.if-not-is_decreasing.false))
+    let at = read_map view c.args.sides.now n c.index-sides-number.result (c.requires.set i 0 c.loop-number-test.true) c.index-sides-number.is in (
+      c.is_decreasing.ensures.asked,
+      before_more (IsDecreasing ps args c.args.drop.now) set i n c.loop-number.invariant.1 (number_at set i c.loop-number-test.true)
+          (decreasing_right ps args c.args.drop.now n (view c.index-sides-number.result) c.is_listed-dropped.result at c.is_listed-dropped.ensures (c.is_decreasing.ensures.decreasing.0 c.if-not-is_decreasing.false)),
+    )
 
 pub returns : goal.returns
 returns c =
     λ n found. before_all (IsDecreasing (map (as_pair (trees c.args.table.now)) c.args.sides.now) (map chosen c.args.args.now) c.args.drop.now)
-    c.args.set.now c.loop-number.number-index n c.loop-number.invariant c.loop-number-test.false found
+    c.args.set.now c.loop-number.number-index n c.loop-number.invariant.1 c.loop-number-test.false found

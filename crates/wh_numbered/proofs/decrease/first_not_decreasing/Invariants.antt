@@ -2,8 +2,11 @@ use Rattle.std.proofs.Common.{map}
 use Rattle.wh_pairs.proofs.ByPlace.{Before}
 use Rattle.wh_subterm.specs.SubtermRows.{IsDecreasing, chosen}
 use Rattle.wh_intern.specs.TableTrees.{trees}
+use Rattle.wh_numbered.specs.Asking.{IsAnswered}
 use Rattle.wh_numbered.specs.SidesAsPairs.{as_pair}
 use Rattle.wh_numbered.proofs.decrease.first_not_decreasing.Given as goal
 
 abbrev pub invariant-loop-number : goal.invariant-loop-number
-invariant-loop-number l = Before (IsDecreasing (map (as_pair (trees l.table)) l.sides) (map chosen l.args) l.drop) l.set l.number-index
+invariant-loop-number l =
+    IsAnswered (trees l.table) l.asked
+    × Before (IsDecreasing (map (as_pair (trees l.table)) l.sides) (map chosen l.args) l.drop) l.set l.number-index

@@ -10,7 +10,7 @@ returns-then-not-has_choices c =
     let set = c.args.set.now in
     let i = c.loop-number.number-index in
     let n = get_or set i 0 in
-    let at = read_map heads_of c.args.sides.now n c.index-sides-number.result (c.requires i 0 c.loop-number-test.true) c.index-sides-number.is in (
+    let at = read_map heads_of c.args.sides.now n c.index-sides-number.result (c.requires.set i 0 c.loop-number-test.true) c.index-sides-number.is in (
       λ no_way. cc,
       λ all. cc (c.has_choices.ensures.1 (λ f heads. all f (n, contains_number set i c.loop-number-test.true, (heads_of c.index-sides-number.result, at, heads))), c.if-not-has_choices.true),
     )
@@ -21,7 +21,7 @@ loop-number-preserved c =
     let i = c.loop-number.number-index in
     let n = get_or set i 0 in
     let ps = map heads_of c.args.sides.now in
-    let at = read_map heads_of c.args.sides.now n c.index-sides-number.result (c.requires i 0 c.loop-number-test.true) c.index-sides-number.is in
+    let at = read_map heads_of c.args.sides.now n c.index-sides-number.result (c.requires.set i 0 c.loop-number-test.true) c.index-sides-number.is in
     before_more (λ m. (f : ℕ) → Heads ps f m → Contains (chosen_symbols (map chosen c.args.args.now)) f) set i n c.loop-number.invariant (number_at set i c.loop-number-test.true)
     (λ f (a, here, heads). c.has_choices.ensures.0 c.if-not-has_choices.false f (subst (HeadsASide f) (some_one here at) heads))
 

@@ -11,4 +11,4 @@ returns-clause-parts c =
     let a = trees c.args.table.now in
     let b = trees c.numbered.new.table in
     subst (λ qs. (s : Tm) → Contains b s ↔ (Contains a s ⊎ IsPartOfSides (map pair_data qs) s)) c.as_slice.ensures
-    (sides_joined a b c.in_ok-list.list (map pair_data c.as_slice.result.now) c.in_ok-list.ensures.sides c.numbered.ensures.joins c.has_parts.ensures)
+    (sides_joined a b c.in_ok-list.list (map pair_data c.as_slice.result.now) c.in_ok-list.ensures.sides c.numbered.ensures.joins c.has_parts.ensures.there)

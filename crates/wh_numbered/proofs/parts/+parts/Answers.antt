@@ -3,9 +3,17 @@ use Rattle.wh_subterm.proofs.PartLemmas.{part_from_argument, argument_from_part}
 use Rattle.wh_intern.specs.Parts.{part_tree}
 use Rattle.wh_intern.specs.TableTrees.{trees}
 use Rattle.wh_intern.specs.Trees.{numbers, tree_at}
-use Rattle.wh_numbered.proofs.PartsByNumber.{app_has, app_cases}
+use Rattle.wh_numbered.proofs.PartsByNumber.{app_has, app_cases, part_below}
 use Rattle.wh_numbered.proofs.parts.+parts.Goals as goal
 use Rattle.wh_numbered.proofs.parts.+parts.Goals.{some_argument_has-then-is_same, some_argument_has-else-is_same}
+
+pub has_part-returns-then-whole-part : goal.has_part-returns-then-whole-part
+has_part-returns-then-whole-part t c = (
+  λ no_way. cc,
+  λ part.
+      let low = c.has_parts.ensures.low c.args.whole c.args.part c.requires.whole c.requires.part in
+      absurd (omega (arith, part_below (trees c.args.table.now) c.args.whole c.args.part low part, c.if-whole-part.true)),
+)
 
 pub has_part-returns-then-is_headed_by_symbol : goal.has_part-returns-then-is_headed_by_symbol
 has_part-returns-then-is_headed_by_symbol t c =

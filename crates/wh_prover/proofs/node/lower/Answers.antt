@@ -9,16 +9,29 @@ use Rattle.wh_pairs.specs.Sets.{IsKept, IsSetOf}
 use Rattle.wh_find_subterm.specs.Found.{IsAnswer}
 use Rattle.wh_prover.proofs.ArriveLemmas.{arrives_within}
 use Rattle.wh_prover.proofs.LimitLemmas.{choices_named, choices_low}
-use Rattle.wh_prover.proofs.NodeLemmas.{adds_subterm}
+use Rattle.wh_numbered.specs.Numberings.{IsNumbering}
+use Rattle.wh_numbered.specs.declared.numbered.Numbered.{Numbered}
+use Rattle.wh_prover.proofs.NodeLemmas.{adds_subterm, borrowed}
 use Rattle.wh_prover.proofs.WalkLemmas.{said_push}
 use Rattle.wh_proof.proofs.BlockLemmas.{reverse_push}
 use Rattle.wh_prover.proofs.node.lower.Goals as goal
 
-pub find_projection-requires-clause-set : goal.find_projection-requires-clause-set
-find_projection-requires-clause-set c =
+pub number_if_shared-requires-clause-set : goal.number_if_shared-requires-clause-set
+number_if_shared-requires-clause-set c =
     let pairs = c.args.setting.now.pairs.now in
     let set = c.args.set in
     subst (λ n. All (λ m. m < n) set) (length-map pairs pair_data) (arrives_within (system_data c.args.setting.now.system.now) (pairs_data pairs) set c.requires.ended.arrives)
+
+pub find_projection_by-requires-clause-set : goal.find_projection_by-requires-clause-set
+find_projection_by-requires-clause-set c =
+    let pairs = c.args.setting.now.pairs.now in
+    let set = c.args.set in
+    subst (λ n. All (λ m. m < n) set) (length-map pairs pair_data) (arrives_within (system_data c.args.setting.now.system.now) (pairs_data pairs) set c.requires.ended.arrives)
+
+pub find_projection_by-requires-clause-numbered : goal.find_projection_by-requires-clause-numbered
+find_projection_by-requires-clause-numbered c =
+    borrowed (λ (n : Numbered). IsNumbering n (pairs_data c.args.setting.now.pairs.now)) c.as_ref.result c.number_if_shared.new.numbered c.as_ref.ensures.value
+    c.in_ok-number_if_shared.ensures.numbered
 
 pub node_of-requires-clause-symbols : goal.node_of-requires-clause-symbols
 node_of-requires-clause-symbols c =
@@ -32,8 +45,8 @@ node_of-requires-clause-arguments c =
     let found = subst (IsAnswer d.rules (pairs_data c.args.setting.now.pairs.now) c.args.set c.args.setting.now.tries) c.in-Found.is c.in_ok-found.ensures in
     choices_low d c.in-Found.found.args c.is_well_made.ensures found.1.places
 
-pub returns-in_ok-push-in-Found-2 : goal.returns-in_ok-push-in-Found-2
-returns-in_ok-push-in-Found-2 c =
+pub returns-in_ok-push-in-Found-2-clause-node : goal.returns-in_ok-push-in-Found-2-clause-node
+returns-in_ok-push-in-Found-2-clause-node c =
     let d = system_data c.args.setting.now.system.now in
     let pairs = c.args.setting.now.pairs.now in
     let ps = pairs_data pairs in

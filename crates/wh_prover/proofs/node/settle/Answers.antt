@@ -15,8 +15,8 @@ use Rattle.wh_prover.proofs.SetLemmas.{sets_of_increasing}
 use Rattle.wh_prover.proofs.WalkLemmas.{said_push}
 use Rattle.wh_prover.proofs.node.settle.Goals as goal
 
-pub returns-then-is_empty : goal.returns-then-is_empty
-returns-then-is_empty c =
+pub returns-then-is_empty-clause-node : goal.returns-then-is_empty-clause-node
+returns-then-is_empty-clause-node c =
     let nodes = c.args.nodes.now in
     let longer = c.push.new.self in
     let empty = sym c.as_slice.ensures.numbers ∙ tested_none c.as_slice.result.now c.is_empty.result c.is_empty.ensures c.if-is_empty.true in
@@ -31,8 +31,8 @@ components-requires-clause-set c =
     let set = c.args.set in
     subst (λ n. All (λ m. m < n) set) (sym c.requires.graph.size) (arrives_within (system_data c.args.setting.now.system.now) (pairs_data c.args.setting.now.pairs.now) set c.requires.arrives)
 
-pub returns-then-as_slice-gt1 : goal.returns-then-as_slice-gt1
-returns-then-as_slice-gt1 c =
+pub returns-then-as_slice-gt1-clause-node : goal.returns-then-as_slice-gt1-clause-node
+returns-then-as_slice-gt1-clause-node c =
     let pairs = c.args.setting.now.pairs.now in
     let ps = pairs_data pairs in
     let set = c.args.set in
@@ -59,8 +59,8 @@ is_alone-requires c =
     let within = subst (λ n. All (λ m. m < n) set) (sym c.requires.graph.size) (arrives_within (system_data c.args.setting.now.system.now) (pairs_data c.args.setting.now.pairs.now) set c.requires.arrives) in
     subst (All (λ m. m < size_of graph)) (sym c.as_slice-3.ensures.numbers) within
 
-pub returns-then-is_alone : goal.returns-then-is_alone
-returns-then-is_alone c =
+pub returns-then-is_alone-clause-node : goal.returns-then-is_alone-clause-node
+returns-then-is_alone-clause-node c =
     let d = system_data c.args.setting.now.system.now in
     let nodes = c.args.nodes.now in
     let longer = c.push-then-is_alone.new.self in

@@ -15,11 +15,14 @@ loop-set-init c =
     let whole = c.args.whole in
     let stack_is = ap reverse (c.in_ok-push.ensures.items ∙ ap (λ (l : List (List ℕ)). l ++ whole ∷ []) c.new-stack.ensures.items) in
     let none : map said_node c.args.nodes.now ≡ [] = ap (map said_node) c.requires.none in
-    subst (λ (s : List (List ℕ)). HasWalked d ps whole s (map said_node c.args.nodes.now)) (sym stack_is) (subst (HasWalked d ps whole (whole ∷ [])) (sym none) (walked_first d ps whole c.requires.whole))
+    record {
+      walked = subst (λ (s : List (List ℕ)). HasWalked d ps whole s (map said_node c.args.nodes.now)) (sym stack_is) (subst (HasWalked d ps whole (whole ∷ [])) (sym none) (walked_first d ps whole c.requires.whole));
+      numbered = tt;
+    }
 
 pub loop-set-smaller : goal.loop-set-smaller
 loop-set-smaller c =
-    let adds = MatchOption-at_none _ _ c.in_default-2.is c.in_ok-cause.ensures in
+    let adds = MatchOption-at_none _ _ c.in_default-2.is c.in_ok-cause.ensures.node in
     adds_lighter (system_data c.args.setting.now.system.now) (pairs_data c.args.setting.now.pairs.now) c.in-Some.set c.loop-set.stack.items c.pop.new.self.items (reverse c.settle.new.stack.items) (map said_node c.loop-set.nodes)
     (map said_node c.settle.new.nodes) c.in-Some.ensures.items adds
 
@@ -30,9 +33,12 @@ loop-set-preserved c =
     let whole = c.args.whole in
     let rest = c.pop.new.self.items in
     let lines = map said_node c.loop-set.nodes in
-    let adds = MatchOption-at_none _ _ c.in_default-2.is c.in_ok-cause.ensures in
-    let here = walked_here d ps whole c.in-Some.set c.loop-set.stack.items rest lines c.loop-set.invariant c.in-Some.ensures.items in
-    walked_next d ps whole c.in-Some.set (reverse rest) (reverse c.settle.new.stack.items) lines (map said_node c.settle.new.nodes) here adds
+    let adds = MatchOption-at_none _ _ c.in_default-2.is c.in_ok-cause.ensures.node in
+    let here = walked_here d ps whole c.in-Some.set c.loop-set.stack.items rest lines c.loop-set.invariant.walked c.in-Some.ensures.items in
+    record {
+      walked = walked_next d ps whole c.in-Some.set (reverse rest) (reverse c.settle.new.stack.items) lines (map said_node c.settle.new.nodes) here adds;
+      numbered = c.in_ok-cause.ensures.numbered;
+    }
 
 pub returns : goal.returns
 returns c =
@@ -41,4 +47,4 @@ returns c =
     let whole = c.args.whole in
     let lines = map said_node c.loop-set.nodes in
     let none : c.loop-set.stack.items ≡ [] = is_none c.loop-set.stack.items (omega (arith, c.in_default.ensures.cases.0, c.loop-set.stack.ok)) in
-    walked_last d ps whole lines (subst (λ (s : List (List ℕ)). HasWalked d ps whole s lines) (ap reverse none) c.loop-set.invariant)
+    walked_last d ps whole lines (subst (λ (s : List (List ℕ)). HasWalked d ps whole s lines) (ap reverse none) c.loop-set.invariant.walked)

@@ -12,7 +12,7 @@ use Rattle.wh_find_subterm.specs.Formula.{IsFormula}
 use Rattle.wh_find_subterm.specs.Reading.{IsBelowSet, chosen_by}
 use Rattle.wh_find_subterm.proofs.RowsMade.{AreRows, any_within, each_below, each_within, projections_made, symbols_rising}
 use Rattle.wh_find_subterm.proofs.Answering.{found_answer, nothing_answer, within_made}
-use Rattle.wh_find_subterm.proofs.find.find_projection.Goals as goal
+use Rattle.wh_find_subterm.proofs.find.find_projection_by.Goals as goal
 
 pub formula_of-requires-clause-each : goal.formula_of-requires-clause-each
 formula_of-requires-clause-each c =
