@@ -1,6 +1,7 @@
 pub mod Members
 pub mod CaseLemmas
 pub mod RowLemmas
+pub mod SightLemmas
 pub mod SpotLemmas
 pub mod Chosen
 pub mod Truth

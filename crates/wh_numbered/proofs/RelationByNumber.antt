@@ -1,5 +1,5 @@
 -- What two numbers of an entry are to one another holds of the arguments of the pair that has it.
-use Rattle.std.proofs.Common.{ℕ, ◌≡◌, ◌<◌, ◌⊎◌, ◌↔◌, inl, inr, List, length, map, get_or, None, Some, slice_get, sym, ap, ◌∙◌, subst}
+use Rattle.std.proofs.Common.{ℕ, ◌≡◌, ◌<◌, ◌⊎◌, ◌↔◌, inl, inr, List, length, None, Some, slice_get, sym, ap, ◌∙◌, subst}
 use Rattle.std.proofs.lemmas.Option.{none-some, slice_get_within, get_or_from_slice_get}
 use Rattle.wh_terms.specs.Tree.{Tm}
 use Rattle.wh_pairs.specs.PairData.{PairData}

@@ -11,8 +11,8 @@ loop-number-preserved c =
     let set = c.args.set.now in
     let i = c.loop-number.number-index in
     let n = get_or set i 0 in
-    let p = c.sight_of.result.pair.now in
-    let at = c.sight_of.ensures.pair in
+    let p = c.sight_of-sight.result.pair.now in
+    let at = c.sight_of-sight.ensures.pair in
     let own = c.loop-number.invariant.own in
     record {
       own = omega (arith, own);
