@@ -83,11 +83,11 @@ def leaves_from_the_left(_steps):
     return system, joined(["a"] * 4096)
 
 
-def large_left(calls):
+def large_left(calls, leaves=("a",) * 6143 + ("X",)):
     """A rule with a left side of size 24,575 and that many calls: each is a pair with this left side."""
     lines = ["sort nat;", "fun a : nat;", "fun s : nat -> nat;", "fun p : nat -> nat -> nat;", "fun big : nat -> nat;"]
     lines += [f"fun h{i} : nat -> nat;" for i in range(calls)]
-    left, right = joined(["a"] * 6143 + ["X"]), joined([f"(h{i} X)" for i in range(calls)])
+    left, right = joined(list(leaves)), joined([f"(h{i} X)" for i in range(calls)])
     lines.append(f"rule {{X:nat}} big {left} => {right};")
     lines += [f"rule {{X:nat}} h{i} (s X) => X;" for i in range(calls)]
     return "\n".join(lines) + "\n"
@@ -102,6 +102,13 @@ def large_knot(calls):
     lines.append(f"rule {{X:nat,Y:nat}} big {left} (s Y) => {right};")
     lines += [f"rule {{X:nat,Y:nat}} h{i} X (s Y) => big X Y;" for i in range(calls)]
     return "\n".join(lines) + "\n"
+
+
+def drop_large_left(calls):
+    """Such a rule, and one node that drops all its pairs: in each the left side has X, its first leaf, as a part."""
+    lines = ["YES 1", "ranks 0", f"pairs {calls}", "subterm", "arg big 1"] + [f"arg h{i} 1" for i in range(calls)]
+    lines += ["drop " + " ".join(str(i) for i in range(calls)), "done", "end"]
+    return large_left(calls, ("X",) + ("a",) * 6143), "\n".join(lines) + "\n"
 
 
 def binder_loop(steps):
@@ -436,6 +443,8 @@ def main():
         cases.append(("check nodes", f"{pairs} nodes", dropping, pairs))
     for pairs in (250, 500, 1000):
         cases.append(("check one node", f"{pairs} pairs", all_at_once, pairs))
+    for calls in (250, 500, 1000):
+        cases.append(("check large-left", f"{calls} pairs", drop_large_left, calls))
     for numbers in (500000, 1000000, 2000000):
         cases.append(("check drop list", f"{numbers} numbers", long_drop, numbers))
     for numbers in (500000, 1000000, 2000000):

@@ -2,6 +2,7 @@
 
 ghost use Rattle.std.specs.Prelude.{◌≡◌, ◌≢◌, [], ◌∷◌, ◌++◌, ◌<◌, All, List, MatchResult, OnOk, length, map, reverse};
 ghost use Rattle.wh_types.specs.Outcome.{IfBecause, MatchOr};
+ghost use Rattle.wh_pairs.specs.SystemPairs.{HasPairs};
 ghost use Rattle.wh_pairs.specs.Views.{pairs_data};
 ghost use Rattle.wh_system.specs.SystemView.{system_data};
 ghost use Rattle.wh_cert.specs.Said.{said_arg, said_filter, said_interp, said_node, said_order, said_poly};
@@ -11,6 +12,7 @@ ghost use Rattle.wh_reduction.specs.TaskData.{CoversAll};
 ghost use Rattle.wh_reduction.specs.TaskView.{task_data};
 ghost use Rattle.wh_polycheck.specs.Covering.{HaveTypedSides, IsTypedTask};
 ghost use Rattle.wh_polycheck.specs.Small.{with_limits};
+ghost use Rattle.wh_numbered.specs.Numberings.{IsNumberingSoFar};
 ghost use Rattle.wh_ordering.specs.FilteringView.{filtering_data};
 ghost use Rattle.wh_checker.specs.Faults.{IsNodeFault, IsSubtermFault, SayCovering, SayOrdering};
 ghost use Rattle.wh_checker.specs.Walk.{IsReduced, IsSingle};
@@ -23,6 +25,7 @@ use std::alloc::{AllocError, Global};
 use wh_cert::{Arg, Node, OrderNode, PolyNode};
 use wh_covering::{Evidence, check_covering};
 use wh_graph::{check_blocks, may_follow};
+use wh_numbered::{Numbered, check_numbered};
 use wh_ordering::Filters;
 use wh_orienting::{Inferred, check_ordering};
 use wh_pairs::{Pair, PairList, PairSet, kept};
@@ -31,22 +34,26 @@ use wh_proof::{
     choices_of, filters_of_lines, marks_of_set, open_blocks, rules_to_cover, symbols_of,
 };
 use wh_reduction::{Task, all_rules};
-use wh_subterm::{SubtermFault, check_projection};
+use wh_subterm::SubtermFault;
 use wh_system::System;
 use wh_types::Or;
 
 /// Whether the conditions of the node hold of the set, and no value exceeds a limit. Then what it leaves to be proved comes on
-/// top of the stack, the first of it on top.
+/// top of the stack, the first of it on top. The first node `subterm` numbers the sides of the pairs, for all that come after it.
 pub fn check_node(
     alloc: Global,
     system: &System,
     pairs: &PairList,
     set: &PairSet,
     node: &Node,
+    numbered: &mut Option<Numbered>,
     stack: &mut Vec<PairSet>,
 ) -> Result<(), Or<NodeFault>>
+    requires pairs { HasPairs (system_data system.now) (pairs_data pairs.now) }
     requires typed { HaveTypedSides (system_data system.now).symbols (system_data system.now).rules (pairs_data pairs.now) }
     requires set { All (λ n. n < length pairs.now) set.now }
+    requires numbered { IsNumberingSoFar numbered.old (pairs_data pairs.now) }
+    ensures numbered { OnOk result (IsNumberingSoFar numbered.new (pairs_data pairs.now)) }
     ensures proved { OnOk result (GoesOn (system_data system.now) (pairs_data pairs.now) set.now (said_node node.now)
         (reverse stack.old.items) (reverse stack.new.items)) }
     ensures fault { IfBecause result (IsNodeFault with_limits (system_data system.now) (pairs_data pairs.now) set.now
@@ -63,7 +70,15 @@ pub fn check_node(
             Ok(())
         }
         Node::Subterm { args, drop } => {
-            match reduced(alloc, system, pairs, set, args.as_slice(), drop.as_slice()) {
+            match reduced(
+                alloc,
+                system,
+                pairs,
+                set,
+                args.as_slice(),
+                drop.as_slice(),
+                numbered,
+            ) {
                 Ok(rest) => stack.push(rest)?,
                 Err(Or::Because(fault)) => return Err(Or::Because(NodeFault::Subterm(fault))),
                 Err(Or::NoMemory) => return Err(Or::NoMemory),
@@ -116,16 +131,24 @@ fn reduced(
     set: &PairSet,
     args: &[Arg],
     drop: &[u32],
+    numbered: &mut Option<Numbered>,
 ) -> Result<PairSet, Or<SubtermFault>>
-    requires { All (λ n. n < length pairs.now) set.now }
-    ensures { MatchOr result (IsReduced (system_data system.now) (pairs_data pairs.now) set.now (map said_arg args.now) drop.now)
+    requires pairs { HasPairs (system_data system.now) (pairs_data pairs.now) }
+    requires set { All (λ n. n < length pairs.now) set.now }
+    requires numbered { IsNumberingSoFar numbered.old (pairs_data pairs.now) }
+    ensures reduced { MatchOr result
+        (IsReduced (system_data system.now) (pairs_data pairs.now) set.now (map said_arg args.now) drop.now)
         (IsSubtermFault (system_data system.now) (pairs_data pairs.now) set.now (map said_arg args.now) drop.now) }
+    ensures numbered { OnOk result (IsNumberingSoFar numbered.new (pairs_data pairs.now)) }
 {
     system.is_well_made();
     let Some(choices) = choices_of(alloc, system, args)? else {
         return Err(Or::Because(SubtermFault::BadArgs));
     };
-    if let Err(fault) = check_projection(system, pairs, set, &choices, drop) {
+    Numbered::once(alloc, pairs, numbered)?;
+    let Some(made) = numbered else { unreachable!() };
+    let sides = made.sides.as_slice();
+    if let Err(fault) = check_numbered(system, &made.table, sides, set, &choices, drop) {
         return Err(Or::Because(fault));
     }
     Ok(kept(alloc, set, drop)?)

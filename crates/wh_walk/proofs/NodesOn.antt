@@ -10,6 +10,7 @@ use Rattle.wh_cert.specs.Written as w
 use Rattle.wh_cert.specs.Written.{Cert, yes, no}
 use Rattle.wh_cert.specs.Items.{Item, yes_head, node, end}
 use Rattle.wh_polycheck.specs.Small.{with_limits}
+use Rattle.wh_numbered.specs.Numberings.{IsNumberingSoFar}
 use Rattle.wh_checker.specs.Faults.{IsFirstYesFault, IsFirstFault}
 use Rattle.wh_checker.specs.Walk.{HasBegun, HasCome, IsFaultInNodes}
 use Rattle.wh_checker.specs.declared.checking.Accepted.TheVariants as answer
@@ -25,9 +26,9 @@ use Rattle.wh_walk.proofs.LeftItems.{first_yes, more_nodes, no_nodes}
 -- behind the ranks and the number of pairs
 
 pub nodes_begun : (d : SystemData) (ps : List PairData) (k : Nodes) (whole : List ℕ) (version : ℕ) (ranks : List ℕ) (count : ℕ)
-    → k.next ≡ 0 → k.stack.items ≡ whole ∷ [] → HasBegun d ps ranks count whole
+    → k.next ≡ 0 → k.stack.items ≡ whole ∷ [] → IsNumberingSoFar k.numbered ps → HasBegun d ps ranks count whole
     → Leads HasNothing (yes_head version ranks count) (AtNodes d ps k)
-nodes_begun d ps k whole version ranks count none top begun = λ c rest cert e.
+nodes_begun d ps k whole version ranks count none top numbered begun = λ c rest cert e.
     let (lines, is, left) = first_yes version ranks count c rest e in
     let (v, r, p, n, o, preorder) = (subst IsCert is cert).parts in
     let within : All (λ m. m < length ps) whole = all_from_members (λ m. m < length ps) whole (λ m found. (begun.whole.each m).0 found) in
@@ -40,6 +41,7 @@ nodes_begun d ps k whole version ranks count none top begun = λ c rest cert e.
       come =
           subst (λ m. HasCome d ps whole lines m (reverse k.stack.items) lines) (sym none)
           (subst (λ (s : List (List ℕ)). HasCome d ps whole lines 0 (reverse s) lines) (sym top) (come_first d ps whole lines within preorder));
+      numbered = numbered;
     })
 
 pub nodes_unbegun : (d : SystemData) (ps : List PairData) (version : ℕ) (ranks : List ℕ) (count : ℕ) (f : CheckFault)
@@ -58,6 +60,7 @@ pub record AtNode (d : SystemData) (ps : List PairData) (k : Nodes) (x : w.Node)
   pub left : List w.Node
   pub come : HasCome d ps set lines k.next (reverse k.stack.items) (x ∷ left)
   pub few : k.next + 1 < 2 ^ 32
+  pub numbered : IsNumberingSoFar k.numbered ps
 
 -- the lines of a certificate at a node
 at_line : (d : SystemData) (ps : List PairData) (k : Nodes) (set : List ℕ) (lines left : List w.Node) (x : w.Node) (rest : List Item)
@@ -74,13 +77,13 @@ at_node d ps k x (yes version ranks pairs lines, rest, cert, stand) =
     let long = ap (λ (l : List w.Node). length l) is in
     let count = stand.count in
     let few : length lines < 2 ^ 32 = cert.counts.1 in
-    record { set = stand.set; lines = lines; left = others; come = come; few = omega (arith, long, count, few) }
+    record { set = stand.set; lines = lines; left = others; come = come; few = omega (arith, long, count, few); numbered = stand.numbered }
 at_node d ps k x (no t steps path puts, rest, cert, stand) = absurd stand
 
 pub nodes_on : (d : SystemData) (ps : List PairData) (k after : Nodes) (x : w.Node) → after.next ≡ k.next + 1
-    → ((set : List ℕ) (lines left : List w.Node) → HasCome d ps set lines k.next (reverse k.stack.items) (x ∷ left)
+    → IsNumberingSoFar after.numbered ps → ((set : List ℕ) (lines left : List w.Node) → HasCome d ps set lines k.next (reverse k.stack.items) (x ∷ left)
     → HasCome d ps set lines (k.next + 1) (reverse after.stack.items) left) → Leads (AtNodes d ps k) (node x) (AtNodes d ps after)
-nodes_on d ps k after x next on = λ c rest cert stand. go c rest stand
+nodes_on d ps k after x next numbered on = λ c rest cert stand. go c rest stand
   where
     go : (c : Cert) (rest : List Item) → AtNodes d ps k c (node x ∷ rest) → AtNodes d ps after c rest
     go (no t steps path puts) rest stand = absurd stand
@@ -97,6 +100,7 @@ nodes_on d ps k after x next on = λ c rest cert stand. go c rest stand
           come =
               subst (λ m. HasCome d ps stand.set lines m (reverse after.stack.items) others) (sym next)
               (on stand.set lines others come);
+          numbered = numbered;
         }
 
 pub nodes_fault : (d : SystemData) (ps : List PairData) (k : Nodes) (x : w.Node) (f : CheckFault)

@@ -12,6 +12,7 @@ use Rattle.wh_cert.specs.Written as w
 use Rattle.wh_cert.specs.Written.{Cert, yes, no}
 use Rattle.wh_cert.specs.Items.{Item, node, step, at, put, end, items}
 use Rattle.wh_polycheck.specs.Small.{with_limits}
+use Rattle.wh_numbered.specs.Numberings.{IsNumberingSoFar}
 use Rattle.wh_proof.specs.Valid.{IsSmallCert}
 use Rattle.wh_no.specs.declared.fault.NoFault.{NoFault}
 use Rattle.wh_no.specs.Entry.{entry_puts}
@@ -82,6 +83,7 @@ pub record NodesCome (d : SystemData) (ps : List PairData) (k : Nodes) (ranks : 
   pub rest_is : rest ≡ map node left ++ end ∷ []
   pub count : k.next + length left ≡ length lines
   pub come : HasCome d ps set lines k.next (reverse k.stack.items) left
+  pub numbered : IsNumberingSoFar k.numbered ps
 
 abbrev pub AtNodes : SystemData → List PairData → Nodes → State
 AtNodes d ps k (yes version ranks pairs lines) rest = NodesCome d ps k ranks pairs lines rest

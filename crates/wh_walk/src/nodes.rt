@@ -14,6 +14,7 @@ use std::alloc::Global;
 use wh_cert::Node;
 use wh_checker::{AcceptedYes, CheckFault, check_head, check_next};
 use wh_meaning::pairs_have_marked_sides;
+use wh_numbered::Numbered;
 use wh_pairs::{PairList, PairSet};
 use wh_system::System;
 use wh_types::Or;
@@ -25,6 +26,8 @@ pub struct Nodes {
     stack: Vec<PairSet>,
     // The number of the nodes so far.
     next: u32,
+    // The sides of the pairs by numbers, once a node has asked for them.
+    numbered: Option<Numbered>,
 }
 
 impl Nodes {
@@ -44,7 +47,11 @@ impl Nodes {
         let whole = check_head(alloc, system, pairs, ranks, count)?;
         let mut stack = Vec::new(alloc);
         stack.push(whole)?;
-        Ok(Nodes { stack, next: 0 })
+        Ok(Nodes {
+            stack,
+            next: 0,
+            numbered: None,
+        })
     }
 
     /// One node more.
@@ -65,7 +72,15 @@ impl Nodes {
     {
         system.is_well_made();
         pairs_have_marked_sides();
-        check_next(alloc, system, pairs, self.next, line, &mut self.stack)?;
+        check_next(
+            alloc,
+            system,
+            pairs,
+            self.next,
+            line,
+            &mut self.numbered,
+            &mut self.stack,
+        )?;
         self.next += 1;
         Ok(())
     }

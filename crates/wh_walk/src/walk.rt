@@ -24,7 +24,8 @@ use wh_terms::Step;
 use wh_types::Or;
 
 /// A check of a certificate that is given its items one by one, in the order of its text. It keeps the sets that are still to
-/// be proved, or at most 65,536 steps, and what the check of the end of a loop needs. After the first fault it keeps that alone.
+/// be proved and the sides of the pairs by numbers, or at most 65,536 steps and what the check of the end of a loop needs. After
+/// the first fault it keeps that alone.
 #[derive(Drop)]
 pub struct Walk {
     at: Place,

@@ -59,7 +59,7 @@ returns-in_ok-push-in-Ok-clause-proved c =
     let after = reverse c.push.new.self.items in
     let reduced = subst (λ (l : List ℕ). IsReduced d ps set lines l rest) c.as_slice-in-Subterm-2.ensures
     (subst (λ (l : List Arg). IsReduced d ps set (map said_arg l) c.as_slice-in-Subterm-2.result.now rest) c.as_slice-in-Subterm.ensures
-    c.in-Ok.ensures) in
+    c.in-Ok.ensures.reduced) in
     let after_is = ap reverse c.in_ok-push-in-Ok.ensures.items ∙ reverse_push c.args.stack.now.items rest in
     subst (λ (n : Node). GoesOn d ps set (said_node n) sets after) (sym c.in-Subterm.is)
     (goes_subterm d ps set lines drop rest sets after reduced after_is)

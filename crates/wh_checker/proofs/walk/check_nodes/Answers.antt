@@ -17,7 +17,7 @@ check_next-requires-clause-come c =
       c.args.whole,
       lines,
       map said_node (drop (i + 1) nodes),
-      come_line d ps c.args.whole lines i (reverse c.loop-index.stack.items) nodes c.index-nodes-index.result c.loop-index.invariant
+      come_line d ps c.args.whole lines i (reverse c.loop-index.stack.items) nodes c.index-nodes-index.result c.loop-index.invariant.1
           c.loop-index-test.true c.index-nodes-index.is,
     )
 
@@ -31,7 +31,7 @@ returns-in_err-check_next-clause-fault c =
     cause_passed c.from_residual-in_err-check_next.result c.in_err-check_next.field-0.0 _ (IsFaultInNodes d ps c.args.whole lines)
     c.from_residual-in_err-check_next.ensures.1 c.in_err-check_next.ensures.fault (λ f fault.
     fault c.args.whole lines (map said_node (drop (i + 1) nodes))
-    (come_line d ps c.args.whole lines i (reverse c.loop-index.stack.items) nodes c.index-nodes-index.result c.loop-index.invariant
+    (come_line d ps c.args.whole lines i (reverse c.loop-index.stack.items) nodes c.index-nodes-index.result c.loop-index.invariant.1
     c.loop-index-test.true c.index-nodes-index.is))
 
 pub loop-index-preserved : goal.loop-index-preserved
@@ -40,12 +40,14 @@ loop-index-preserved c =
     let ps = pairs_data c.args.pairs.now in
     let nodes = c.args.nodes.now in
     let lines = map said_node nodes in
-    let i = c.loop-index.index in
-    c.in_ok-check_next.ensures.on c.args.whole lines (map said_node (drop (i + 1) nodes))
-    (come_line d ps c.args.whole lines i (reverse c.loop-index.stack.items) nodes c.index-nodes-index.result c.loop-index.invariant
-    c.loop-index-test.true c.index-nodes-index.is)
+    let i = c.loop-index.index in (
+      c.in_ok-check_next.ensures.numbered,
+      c.in_ok-check_next.ensures.on c.args.whole lines (map said_node (drop (i + 1) nodes))
+          (come_line d ps c.args.whole lines i (reverse c.loop-index.stack.items) nodes c.index-nodes-index.result c.loop-index.invariant.1
+          c.loop-index-test.true c.index-nodes-index.is),
+    )
 
 pub returns-clause-proved : goal.returns-clause-proved
 returns-clause-proved c =
     come_over (system_data c.args.system.now) (pairs_data c.args.pairs.now) c.args.whole (map said_node c.args.nodes.now) c.loop-index.index
-    (reverse c.loop-index.stack.items) c.args.nodes.now c.loop-index.invariant c.loop-index-test.false
+    (reverse c.loop-index.stack.items) c.args.nodes.now c.loop-index.invariant.1 c.loop-index-test.false

@@ -1,5 +1,5 @@
 -- All pairs are to be proved.
-use Rattle.std.proofs.Common.{ℕ, List, [], ◌∷◌, ◌++◌, refl, ap, ◌∙◌}
+use Rattle.std.proofs.Common.{ℕ, List, [], ◌∷◌, ◌++◌, None, refl, ap, ◌∙◌}
 use Rattle.wh_system.specs.SystemView.{system_data}
 use Rattle.wh_pairs.specs.Views.{pairs_data}
 use Rattle.wh_cert.specs.Items.{yes_head}
@@ -23,5 +23,5 @@ returns-in_err-whole c = λ version.
 pub returns : goal.returns
 returns c = λ version.
     nodes_begun (system_data c.args.system.now) (pairs_data c.args.pairs.now)
-    (record { stack = c.push.new.self; next = 0 }) c.in_ok-whole.whole version c.args.ranks.now c.args.count refl
-    (c.in_ok-push.ensures.items ∙ ap (λ (s : List (List ℕ)). s ++ c.in_ok-whole.whole ∷ []) c.new-stack.ensures.items) c.in_ok-whole.ensures
+    (record { stack = c.push.new.self; next = 0; numbered = None }) c.in_ok-whole.whole version c.args.ranks.now c.args.count refl
+    (c.in_ok-push.ensures.items ∙ ap (λ (s : List (List ℕ)). s ++ c.in_ok-whole.whole ∷ []) c.new-stack.ensures.items) tt c.in_ok-whole.ensures

@@ -19,6 +19,11 @@ check_next-requires-clause-come c =
     let here = at_node (system_data c.args.system.now) (pairs_data c.args.pairs.now) c.args.self.now (said_node c.args.line.now) c.requires.come in
     (here.set, here.lines, here.left, here.come)
 
+pub check_next-requires-clause-numbered : goal.check_next-requires-clause-numbered
+check_next-requires-clause-numbered c =
+    let here = at_node (system_data c.args.system.now) (pairs_data c.args.pairs.now) c.args.self.now (said_node c.args.line.now) c.requires.come in
+    here.numbered
+
 pub returns-in_err-check_next : goal.returns-in_err-check_next
 returns-in_err-check_next c =
     let d = system_data c.args.system.now in
@@ -36,5 +41,5 @@ overflow_add-self c =
 pub returns : goal.returns
 returns c =
     nodes_on (system_data c.args.system.now) (pairs_data c.args.pairs.now) c.args.self.now
-    (record { stack = c.check_next.new.stack; next = c.args.self.now.next + 1 }) (said_node c.args.line.now) refl
-    c.in_ok-check_next.ensures.on
+    (record { stack = c.check_next.new.stack; next = c.args.self.now.next + 1; numbered = c.check_next.new.numbered })
+    (said_node c.args.line.now) refl c.in_ok-check_next.ensures.numbered c.in_ok-check_next.ensures.on
