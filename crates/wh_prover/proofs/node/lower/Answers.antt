@@ -16,6 +16,9 @@ use Rattle.wh_prover.proofs.WalkLemmas.{said_push}
 use Rattle.wh_proof.proofs.BlockLemmas.{reverse_push}
 use Rattle.wh_prover.proofs.node.lower.Goals as goal
 
+pub number_if_shared-requires-clause-pairs : goal.number_if_shared-requires-clause-pairs
+number_if_shared-requires-clause-pairs c = (system_data c.args.setting.now.system.now, c.requires.pairs)
+
 pub number_if_shared-requires-clause-set : goal.number_if_shared-requires-clause-set
 number_if_shared-requires-clause-set c =
     let pairs = c.args.setting.now.pairs.now in

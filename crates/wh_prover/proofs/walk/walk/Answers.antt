@@ -20,6 +20,12 @@ loop-set-init c =
       numbered = tt;
     }
 
+pub settle-requires-clause-arrives : goal.settle-requires-clause-arrives
+settle-requires-clause-arrives c =
+    let here = walked_here (system_data c.args.setting.now.system.now) (pairs_data c.args.setting.now.pairs.now) c.args.whole c.in-Some.set c.loop-set.stack.items c.pop.new.self.items (map said_node c.loop-set.nodes)
+    c.loop-set.invariant.walked c.in-Some.ensures.items in
+    here.arrive 0 c.in-Some.set (omega arith)
+
 pub loop-set-smaller : goal.loop-set-smaller
 loop-set-smaller c =
     let adds = MatchOption-at_none _ _ c.in_default-2.is c.in_ok-cause.ensures.node in
