@@ -122,7 +122,10 @@ fn is_mended<'a, 'b>(
     ensures probe { OnOk result (IsBound failure.now.task.now probe.new) }
 {
     let Failure {
-        task, ranges, goal, ..
+        task,
+        ranges,
+        goal,
+        ..
     } = *failure;
     probe.set(alloc, task, at, ranges.high.at(at))?;
     let fails = fails_at(alloc, task, work, &probe.guess, goal)?;

@@ -67,8 +67,8 @@ fn node_stands(row: &NamedRejection)
         | NamedRejection::NotClosedPair { node, pair }
         | NamedRejection::TooWidePair { node, pair }
         | NamedRejection::NotStrict { node, pair } => two(*node, *pair),
-        NamedRejection::NotClosedRule { node, rule }
-        | NamedRejection::TooWideRule { node, rule } => two(*node, *rule),
+        NamedRejection::NotClosedRule { node, rule } | NamedRejection::TooWideRule { node, rule } =>
+            two(*node, *rule),
         NamedRejection::BackEdge { node, a, b } => three(*node, *a, *b),
         NamedRejection::NoProjection { node, symbol }
         | NamedRejection::BadArgument { node, symbol }
