@@ -13,3 +13,5 @@ mod problem;
 mod projection_rows;
 #[cfg(test)]
 mod readings;
+#[cfg(test)]
+mod search_rows;
