@@ -5,15 +5,25 @@
 
 mod answers;
 mod components;
+mod rows;
 
 use answers::add_answer;
 use components::add_count;
+use rows::{Sheet, add_rows};
 use std::alloc::AllocError;
 use std::env;
 use std::process::ExitCode;
 use std::rt::{Env, Files};
 use wh_io::{FileShelf, StdSink, read_whole, write_all_of};
 use wh_types::Bytes;
+
+/// What is done with a file.
+#[derive(Clone, Copy)]
+enum Task {
+    Answers,
+    Components,
+    Rows,
+}
 
 /// How many bytes a system file may have.
 pub const SYSTEM_LIMIT: u64 = 1_048_576;
@@ -34,17 +44,19 @@ fn lines<R: Env + Files + AllocGlobal>(rt: &R) -> Result<Bytes, AllocError> {
     let alloc = rt.alloc();
     let mut shelf = FileShelf::new(rt);
     let mut text = Bytes::new(alloc)?;
-    let mut counts = false;
+    let mut sheet = Sheet::new(alloc)?;
+    let mut task = Task::Answers;
     for word in env::args(rt).or(Err(AllocError))?.skip(1) {
         match word.as_str() {
-            "answers" => counts = false,
-            "components" => counts = true,
+            "answers" => task = Task::Answers,
+            "components" => task = Task::Components,
+            "rows" => task = Task::Rows,
             file => {
-                let system = read_whole(alloc, &mut shelf, file, SYSTEM_LIMIT).or(Err(AllocError))?;
-                if counts {
-                    add_count(alloc, &system, &mut text)?;
-                } else {
-                    add_answer(alloc, file, &system, &mut text)?;
+                let bytes = read_whole(alloc, &mut shelf, file, SYSTEM_LIMIT).or(Err(AllocError))?;
+                match task {
+                    Task::Answers => add_answer(alloc, file, &bytes, &mut text)?,
+                    Task::Components => add_count(alloc, &bytes, &mut text)?,
+                    Task::Rows => add_rows(alloc, file, &bytes, &mut sheet, &mut text)?,
                 }
             }
         }

@@ -1,7 +1,7 @@
 //! Rows of lists and types, of tokens and printed texts, of answers and certificates, of inferences and filters, and of files and sinks, with answers from outside,
 //! and each public call at least once with ample memory.
 //!
-//! Like wh_test_program, this crate has tests alone: a library with tests of its own would be proved a second time with them. The
+//! Like wh_test_method, this crate has tests alone: a library with tests of its own would be proved a second time with them. The
 //! rows stand in tables, and where it is shorter as texts that the libraries read. What the calls answer is proved; that
 //! they answer at all, and that the definitions say what is meant, is what these runs show.
 #![tactic(auto)]
