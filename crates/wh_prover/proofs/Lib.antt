@@ -3,7 +3,6 @@ pub mod CountLemmas
 pub mod ArriveLemmas
 pub mod LimitLemmas
 pub mod VersionLemmas
-pub mod InterpretedLemmas
 pub mod WalkLemmas
 pub mod NodeLemmas
 pub mod ProofLemmas

@@ -14,7 +14,8 @@ use Rattle.wh_upgrade_laws.proofs.SameNodes.{all_new}
 use Rattle.wh_pairs.specs.Sets.{IsWhole}
 use Rattle.wh_prover.specs.Answers.{IsProof, IsReason, IsFull, HasNoLoops, HasNoProof, HasRanks}
 use Rattle.wh_prover.specs.Searched.{IsSearched}
-use Rattle.wh_prover.specs.Versions.{IsMade, IsCertificateOf, first, second}
+use Rattle.wh_versions.specs.Certificates.{IsCertificateOf, first, second}
+use Rattle.wh_prover.specs.Versions.{IsMade}
 use Rattle.wh_prover.specs.Walk.{weigh, IsTree, IsEnd}
 use Rattle.wh_find_loop.specs.Answers.{Arrival}
 use Rattle.wh_prover.specs.declared.answer.Options.{Options}

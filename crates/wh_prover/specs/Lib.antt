@@ -1,6 +1,5 @@
 pub mod Arriving
 pub mod Searched
 pub mod Versions
-pub mod Interpreted
 pub mod Answers
 pub mod Walk

@@ -3,12 +3,10 @@
 #![tactic(auto)]
 
 mod answer;
-mod interpretations;
 mod lines;
 mod node;
 mod numbers;
 mod search;
-mod version;
 mod walk;
 
 pub use answer::{Answer, Cause, Finder, Options};

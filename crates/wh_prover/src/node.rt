@@ -14,13 +14,13 @@ ghost use Rattle.wh_prover.specs.Arriving.{Arrives, Ended, HasNoProjection, IsAl
 ghost use Rattle.wh_prover.specs.Walk.{AddsNode, IsEnd, dropped_by};
 
 use crate::answer::{Cause, Finder};
-use crate::interpretations::interpretation_of;
 use crate::lines::node_of;
 use std::alloc::{AllocError, Global};
 use wh_cert::{Node, Nodes};
 use wh_find_order::find_order;
 use wh_find_subterm::find_projection_by;
 use wh_graph::Graph;
+use wh_interpreting::interpretation_of;
 use wh_numbered::{Numbered, number_if_shared};
 use wh_pairs::{PairList, PairSet, kept};
 use wh_proof::open_blocks;

@@ -12,7 +12,6 @@ ghost use Rattle.wh_prover.specs.Answers.{HasNoProof, IsAnswer, IsProof};
 use crate::answer::{Answer, Cause, Options};
 use crate::node::Setting;
 use crate::numbers::numbers_of_ranks;
-use crate::version::certificate_of;
 use crate::walk::walk;
 use std::alloc::{AllocError, Global};
 use wh_access::find_ranks;
@@ -22,6 +21,7 @@ use wh_graph::Graph;
 use wh_pairs::{PairList, numbers_below};
 use wh_system::System;
 use wh_types::{Or, Ranks};
+use wh_versions::certificate_of;
 
 // How many terms a first, short search for loops keeps at most. It comes before the search for a proof, which may take long where
 // there is a loop.

@@ -5,7 +5,7 @@ use Rattle.wh_pairs.specs.PairData.{pair_data}
 use Rattle.wh_pairs.specs.Views.{pairs_data}
 use Rattle.wh_cert.specs.Said.{said_node}
 use Rattle.wh_pairs.specs.Sets.{IsKept, IsSetOf}
-use Rattle.wh_prover.specs.Interpreted.{Interprets, IsInterpreted}
+use Rattle.wh_interpreting.specs.Interpreted.{Interprets, IsInterpreted}
 use Rattle.wh_prover.proofs.ArriveLemmas.{arrives_within}
 use Rattle.wh_prover.proofs.NodeLemmas.{adds_interpretation, dropped_by_interpretation, some_of}
 use Rattle.wh_prover.proofs.WalkLemmas.{said_push}

@@ -9,7 +9,7 @@ ghost use Rattle.wh_cert.specs.Said.{said_node};
 ghost use Rattle.wh_proof.specs.Looked.{poly_task};
 ghost use Rattle.wh_guesses.specs.Found.{IsInterpretation};
 ghost use Rattle.wh_flat.specs.Flat.{IsFlat};
-ghost use Rattle.wh_prover.specs.Interpreted.{Interprets, IsFlatList, IsInterpreted};
+ghost use Rattle.wh_interpreting.specs.Interpreted.{Interprets, IsFlatList, IsInterpreted};
 
 use std::alloc::{AllocError, Global};
 use wh_cert::Node;

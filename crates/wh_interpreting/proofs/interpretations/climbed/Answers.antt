@@ -7,7 +7,7 @@ use Rattle.wh_polycheck.specs.Covering.{HaveTypedSides}
 use Rattle.wh_meaning.proofs.PairSides.{pair_sides}
 use Rattle.wh_guesses.specs.Guesses.{IsSearchTask}
 use Rattle.wh_guesses.proofs.GuessLemmas.{search_task}
-use Rattle.wh_prover.proofs.interpretations.climbed.Goals as goal
+use Rattle.wh_interpreting.proofs.interpretations.climbed.Goals as goal
 
 pub climb-requires-clause-task : goal.climb-requires-clause-task
 climb-requires-clause-task c =

@@ -2,7 +2,7 @@
 
 ghost use Rattle.std.specs.Prelude.{◌↔◌, All, IfOk, IsTrue, map};
 ghost use Rattle.wh_cert.specs.Said.{said_node, said_yes};
-ghost use Rattle.wh_prover.specs.Versions.{IsCertificateOf, IsFirst};
+ghost use Rattle.wh_versions.specs.Certificates.{IsCertificateOf, IsFirst};
 
 use std::alloc::{AllocError, Global};
 use wh_cert::{Node, Nodes, YesCertificate};
@@ -11,7 +11,7 @@ use wh_upgrade::upgrade_nodes;
 
 /// The certificate of these nodes for a system with so many rules. It is of version 1 where each node is of that version; else it is of
 /// version 2, and a node of interpretations that lists no rules gets the list of all.
-#[tactic(auto, using(crate::proofs::VersionLemmas::certificate_first, crate::proofs::VersionLemmas::certificate_second))]
+#[tactic(auto, using(crate::proofs::CertificateLemmas::certificate_first, crate::proofs::CertificateLemmas::certificate_second))]
 pub fn certificate_of(
     alloc: Global,
     ranks: Numbers,
@@ -39,7 +39,7 @@ pub fn certificate_of(
 }
 
 // Whether all nodes are of version 1.
-#[tactic(auto, using(crate::proofs::VersionLemmas::first_more, crate::proofs::VersionLemmas::first_all, crate::proofs::VersionLemmas::one_not_first))]
+#[tactic(auto, using(crate::proofs::CertificateLemmas::first_more, crate::proofs::CertificateLemmas::first_all, crate::proofs::CertificateLemmas::one_not_first))]
 fn are_first(nodes: &[Node]) -> bool
     ensures { IsTrue result ↔ All IsFirst nodes.now }
 {

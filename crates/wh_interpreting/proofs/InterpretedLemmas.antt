@@ -14,7 +14,7 @@ use Rattle.wh_usable_rules.specs.Least.{AreUsableRules}
 use Rattle.wh_blocking.specs.Answers.{IsAnswer}
 use Rattle.wh_flat.specs.Flat.{IsFlat}
 use Rattle.wh_find_flat.specs.Answers.{IsClosedList, IsFlatAnswer}
-use Rattle.wh_prover.specs.Interpreted.{IsFlatList, Interprets, IsInterpreted}
+use Rattle.wh_interpreting.specs.Interpreted.{IsFlatList, Interprets, IsInterpreted}
 
 -- a node without a list
 pub without_list : (d : SystemData) (ps : List PairData) (set : List ℕ) (node : Node) → IsInterpretation d ps set (said_node node)
