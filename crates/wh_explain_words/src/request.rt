@@ -49,7 +49,8 @@ pub fn read_request(words: &[String]) -> Option<Request<'_>>
 // The system file, and the certificate file if there is one.
 fn to_explain(words: &[String]) -> Option<Request<'_>>
     ensures { MatchOption result
-        ((names : List (List ℕ)) → Name (map string_bytes words.now) names → (length names ≡ 1) ⊎ (length names ≡ 2) → ⊥) (λ request. Asks (map string_bytes words.now) (asked_by request)) }
+        ((names : List (List ℕ)) → Name (map string_bytes words.now) names → (length names ≡ 1) ⊎ (length names ≡ 2) → ⊥)
+        (λ request. Asks (map string_bytes words.now) (asked_by request)) }
 {
     match names_of(words)? {
         [] => None,

@@ -395,8 +395,9 @@ pub fn binder_dot(
     letter: Lexeme,
 ) -> Result<Step, AllocError>
     ensures { IfOk result (λ step. (parts : RParts) → held.state parts step
-        ≡ r.expect_dot parts (r.want_atom (r.with_frames (held.rule rule) (r.body (rbinder x) (rty a.value) lambda_at (held.rule rule).frames))
-        None) (held.letter letter)) }
+        ≡ r.expect_dot parts
+        (r.want_atom (r.with_frames (held.rule rule) (r.body (rbinder x) (rty a.value) lambda_at (held.rule rule).frames)) None)
+        (held.letter letter)) }
 {
     match letter {
         Lexeme::Dot => {

@@ -31,7 +31,8 @@ pub fn check_refutation(
     requires within { Within formula.now.variables formula.now.clauses }
     requires few { length formula.now.clauses + length list.now < 2 ^ 31 }
     requires hints { (e : Entry) → Contains list.now e → length e.hints ≤ 2 ^ 32 }
-    ensures good { IfOk result (λ found. IsRefutation formula.now.variables formula.now.clauses list.now × (found.entries ≡ length list.now)) }
+    ensures good { IfOk result (λ found. IsRefutation formula.now.variables formula.now.clauses list.now
+        × (found.entries ≡ length list.now)) }
     ensures fault { IfBecause result (IsFirstRefuteFault formula.now.variables formula.now.clauses list.now) }
 {
     let entries = list.as_slice();
