@@ -29,7 +29,7 @@ use Rattle.wh_judging.specs.Unread.{CertificateFault}
 use Rattle.wh_types.specs.Outcome.{IfBecause, MatchOr}
 use Rattle.wh_types.specs.declared.want.Or.{Or}
 use Rattle.wh_types.specs.declared.want.Or.TheVariants.{NoMemory, Because}
-use Rattle.wh_judging.specs.Rows.{named_row}
+use Rattle.wh_naming.specs.Rows.{named_row}
 use Rattle.wh_explain.specs.Meaning.{Finds, IsUnweighed, Means, MeansLoop, MeansProof, SaysOf, SaysOfBytes, SomeIsUnbounded}
 use Rattle.wh_judging.proofs.Streaming.{never_syntax}
 

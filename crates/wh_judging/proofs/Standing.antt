@@ -20,7 +20,7 @@ use Rattle.wh_answer.specs.declared.report.NamedRejection.TheVariants.{Syntax}
 use Rattle.wh_answer.specs.declared.report.Report.{Report}
 use Rattle.wh_answer.specs.declared.report.Report.TheVariants.{Yes, No, Rejected, Refused, ReadFault, TooLong, Overflow, TooLarge}
 use Rattle.wh_judging.specs.Outcomes.{Shelves, Told, AreWithin, IsSystemIn, IsProblemIn, ToldSystem, ToldCert, Certified, Weighed, Judged, Checked, IsRefusedText, StandsByText, StandsBySystem, ToldText, Stands}
-use Rattle.wh_judging.specs.Rows.{reason_of}
+use Rattle.wh_naming.specs.Rows.{reason_of}
 use Rattle.wh_judging.specs.Streamed.{IsJudgedIn}
 use Rattle.wh_judging.specs.Unread.{CertificateFault, RefusedBy}
 

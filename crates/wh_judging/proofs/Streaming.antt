@@ -28,7 +28,7 @@ use Rattle.wh_answer.specs.declared.report.Report.{Report}
 use Rattle.wh_answer.specs.declared.report.Report.TheVariants.{Yes, Rejected}
 use Rattle.wh_answer.specs.declared.report.NamedRejection.TheVariants.{Syntax}
 use Rattle.wh_judging.specs.Outcomes.{Judged, Told, Weighed}
-use Rattle.wh_judging.specs.Rows.{named_row}
+use Rattle.wh_naming.specs.Rows.{named_row}
 use Rattle.wh_judging.specs.Streamed.{HaveComeTo}
 
 -- what begins a beginning is one

@@ -26,7 +26,7 @@ use Rattle.wh_answer.specs.declared.report.NamedRejection.{NamedRejection}
 use Rattle.wh_answer.specs.declared.report.NamedRejection.TheVariants.{Syntax}
 use Rattle.wh_answer.specs.declared.report.Report.{Report}
 use Rattle.wh_answer.specs.declared.report.Report.TheVariants.{Yes, No, Rejected, Refused, ReadFault, TooLong, Overflow, TooLarge}
-use Rattle.wh_judging.specs.Rows.{named_row, reason_of}
+use Rattle.wh_naming.specs.Rows.{named_row, reason_of}
 
 -- the outside of a run: what the shelf tells of each file's bytes, and each file's faults before and after the run
 pub record Shelves : Type 0 where

@@ -1,4 +1,4 @@
--- The status of each answer, and the text that shows a system.
+-- What is told of an answer, and the text that shows a system.
 use Rattle.std.specs.Prelude.{ℕ, ◌≡◌, List, ◌++◌, codes, Result, Ok, Err}
 use Rattle.wh_types.specs.declared.want.Or.{Or}
 use Rattle.wh_types.specs.declared.want.Or.TheVariants.{NoMemory, Because}
@@ -9,22 +9,9 @@ use Rattle.wh_print.specs.PairText.{pairs_text}
 use Rattle.wh_read.specs.Reading.{Reads}
 use Rattle.wh_answer.specs.Texts.{line, report_text}
 use Rattle.wh_answer.specs.declared.report.Report.{Report}
-use Rattle.wh_answer.specs.declared.report.Report.TheVariants.{Yes, No, Rejected, Maybe, Refused, BadWords, ReadFault, OutOfMemory, TooLong, Overflow, TooLarge}
-use Rattle.wh_judging.specs.declared.status.Status as status
-use Rattle.wh_judging.specs.declared.status.Status.TheVariants as statuses
-
-abbrev pub status_of : Report → status.Status
-status_of Yes = statuses.Answered
-status_of No = statuses.Answered
-status_of (Rejected r) = statuses.Rejected
-status_of (Maybe c) = statuses.Answered
-status_of (Refused word at) = statuses.Refused
-status_of BadWords = statuses.BadWords
-status_of (ReadFault role) = statuses.ReadFault
-status_of OutOfMemory = statuses.NoMemory
-status_of (TooLong role) = statuses.TooLong
-status_of (Overflow k) = statuses.TooBig
-status_of (TooLarge k) = statuses.TooBig
+use Rattle.wh_naming.specs.Status.{status_of}
+use Rattle.wh_naming.specs.declared.status.Status as status
+use Rattle.wh_naming.specs.declared.status.Status.TheVariants as statuses
 
 -- the text that shows a system and its dependency pairs
 abbrev pub shown_text : SystemData → List PairData → List ℕ

@@ -8,7 +8,7 @@ use Rattle.wh_read.specs.declared.reasons.Refused as refusal
 use Rattle.wh_answer.specs.declared.report.Role.TheVariants.{Certificate}
 use Rattle.wh_answer.specs.declared.report.Report.{Report}
 use Rattle.wh_answer.specs.declared.report.Report.TheVariants.{Refused, ReadFault, TooLong}
-use Rattle.wh_judging.specs.Rows.{reason_of}
+use Rattle.wh_naming.specs.Rows.{reason_of}
 use Rattle.wh_judging.specs.Outcomes.{Told}
 
 -- the outcome that a refusal of a system gives

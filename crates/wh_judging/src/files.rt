@@ -9,7 +9,6 @@ ghost use Rattle.wh_pairs.specs.SystemPairs.{HasPairs, HasTooManyPairs};
 ghost use Rattle.wh_answer.specs.declared.report.ReasonWord.TheVariants as reason;
 ghost use Rattle.wh_answer.specs.declared.report.Report.TheVariants.{Refused as refused_answer};
 ghost use Rattle.wh_judging.specs.Outcomes.{AreWithin, IsProblemIn, IsSystemIn, StandsBySystem, StandsByText, Told, UnreadBy, outside};
-ghost use Rattle.wh_judging.specs.Rows.{reason_of};
 ghost use Rattle.wh_judging.specs.Unread.{CertificateFault, RefusedBy};
 ghost use Rattle.wh_pairs.specs.Views.{pairs_data};
 ghost use Rattle.wh_types.specs.declared.want.Or.TheVariants.{NoMemory, Because};
@@ -18,8 +17,9 @@ use std::alloc::Global;
 use wh_answer::{ReasonWord, Report, Role};
 use wh_find_pairs::pairs;
 use wh_io::{ReadFault, Shelf, read_whole};
+use wh_naming::word_of;
 use wh_pairs::PairList;
-use wh_read::{Reason, Refused, read_system};
+use wh_read::{Refused, read_system};
 use wh_system::System;
 use wh_types::{Bytes, Or};
 
@@ -111,26 +111,5 @@ fn refused(fault: Or<Refused>) -> Or<Report>
     match fault {
         Or::NoMemory => Or::NoMemory,
         Or::Because(refused) => Or::Because(Report::Refused(word_of(&refused.reason), refused.at)),
-    }
-}
-
-// The word for a reason.
-fn word_of(reason: &Reason) -> ReasonWord
-    ensures { result ≡ reason_of reason.now }
-{
-    match reason {
-        Reason::BadByte => ReasonWord::BadByte,
-        Reason::BadNumber => ReasonWord::BadNumber,
-        Reason::NameTooLong => ReasonWord::NameTooLong,
-        Reason::Syntax => ReasonWord::Syntax,
-        Reason::UnknownName => ReasonWord::UnknownName,
-        Reason::Twice => ReasonWord::Twice,
-        Reason::IllTyped => ReasonWord::IllTyped,
-        Reason::NotPattern => ReasonWord::NotPattern,
-        Reason::OpenSide => ReasonWord::OpenSide,
-        Reason::NewMeta => ReasonWord::NewMeta,
-        Reason::HeadNotFun => ReasonWord::HeadNotFun,
-        Reason::UnevenRules => ReasonWord::UnevenRules,
-        Reason::TooMany => ReasonWord::TooMany,
     }
 }

@@ -15,13 +15,13 @@ ghost use Rattle.wh_cert.specs.Written.{Cert};
 ghost use Rattle.wh_walk.specs.Walking.{Answers};
 
 use crate::files::{Problem, problem_in};
-use crate::rejection::named_rejection;
 use crate::streamed::judge_file;
 use std::alloc::{AllocError, Global};
 use wh_answer::Report;
 use wh_cert::Certificate;
 use wh_checker::{Accepted, CheckFault, check, rejections_name_what_is_there};
 use wh_io::Shelf;
+use wh_naming::named_rejection;
 use wh_print::{print_pairs, print_system, printed_systems_are_read_back};
 use wh_system::System;
 use wh_types::{Bytes, Or};

@@ -19,7 +19,7 @@ use Rattle.wh_answer.specs.declared.report.Role.TheVariants.{System, Certificate
 use Rattle.wh_answer.specs.declared.report.Report.{Report}
 use Rattle.wh_answer.specs.declared.report.Report.TheVariants.{Yes, No, Rejected, Maybe, Refused, ReadFault, TooLong, Overflow, TooLarge}
 use Rattle.wh_words.specs.Words.{Request, check, prove, show, gen, reduce, upgrade, refute, Asks}
-use Rattle.wh_judging.specs.declared.status.Status.{Status}
+use Rattle.wh_naming.specs.declared.status.Status.{Status}
 use Rattle.wh_replies.specs.Words.{options_of}
 use Rattle.wh_judging.specs.Texts.{IsShown}
 use Rattle.wh_judging.specs.Outcomes.{Shelves, IsNo, ToldSystem, ToldText, Certified, Weighed, Judged, Checked, IsRefusedText, IsRefusedFor, StandsByText, StandsBySystem, Stands}

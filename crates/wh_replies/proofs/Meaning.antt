@@ -18,7 +18,7 @@ use Rattle.wh_no.proofs.Valid.{valid-unbounded}
 use Rattle.wh_proof.specs.Valid.{IsValidCert}
 use Rattle.wh_checker.proofs.Bounded.{valid_yes-bounded}
 use Rattle.wh_prover.specs.Answers as proofs
-use Rattle.wh_judging.specs.declared.status.Status.{Status}
+use Rattle.wh_naming.specs.declared.status.Status.{Status}
 use Rattle.wh_answer.specs.Texts.{report_text}
 use Rattle.wh_answer.specs.declared.report.Report.{Report}
 use Rattle.wh_answer.specs.declared.report.Report.TheVariants.{Yes, No, Rejected, Maybe, Refused, BadWords, ReadFault, OutOfMemory, TooLong, Overflow, TooLarge}

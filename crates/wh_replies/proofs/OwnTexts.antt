@@ -8,8 +8,8 @@ use Rattle.wh_words.specs.Words.{Bounds, prove, show, gen, reduce, upgrade, refu
 use Rattle.wh_answer.specs.declared.report.Report.{Report}
 use Rattle.wh_answer.specs.Texts.{line}
 use Rattle.wh_prover.specs.declared.answer.Options.{Options}
-use Rattle.wh_judging.specs.declared.status.Status.{Status}
-use Rattle.wh_judging.specs.declared.status.Status.TheVariants.{Answered}
+use Rattle.wh_naming.specs.declared.status.Status.{Status}
+use Rattle.wh_naming.specs.declared.status.Status.TheVariants.{Answered}
 use Rattle.wh_judging.specs.Outcomes.{Shelves, BeginsWith, ToldSystem, ToldText, StandsBySystem}
 use Rattle.wh_judging.specs.Texts.{IsShown, TellsMade}
 use Rattle.wh_replies.specs.Generating.{ShowsGenerated, StandsForGenerated}

@@ -10,7 +10,7 @@ use Rattle.wh_prover.specs.declared.answer.Cause.{Cause}
 use Rattle.wh_prover.specs.declared.answer.Cause.TheVariants as cause
 use Rattle.wh_prover.specs.declared.answer.Finder.{Finder}
 use Rattle.wh_prover.specs.declared.answer.Finder.TheVariants as finder
-use Rattle.wh_judging.specs.Rows.{sort_name, meta_name}
+use Rattle.wh_naming.specs.Rows.{sort_name, meta_name}
 
 -- the word for what searched
 abbrev pub finder_named : Finder → NamedFinder

@@ -10,10 +10,11 @@ use Rattle.wh_read.specs.Reading.{Reads}
 use Rattle.wh_answer.specs.declared.report.Report.{Report}
 use Rattle.wh_answer.specs.declared.report.Report.TheVariants.{Yes, No, Overflow, TooLarge}
 use Rattle.wh_words.specs.Words.{Bounds, Request, check, prove, show, gen, reduce, upgrade, refute}
-use Rattle.wh_judging.specs.declared.status.Status.{Status}
-use Rattle.wh_judging.specs.declared.status.Status.TheVariants.{Answered}
+use Rattle.wh_naming.specs.declared.status.Status.{Status}
+use Rattle.wh_naming.specs.declared.status.Status.TheVariants.{Answered}
 use Rattle.wh_replies.specs.Words.{options_of}
-use Rattle.wh_judging.specs.Texts.{status_of, shown_text, Tells}
+use Rattle.wh_judging.specs.Texts.{shown_text, Tells}
+use Rattle.wh_naming.specs.Status.{status_of}
 use Rattle.wh_judging.specs.Outcomes.{Shelves, Judged}
 use Rattle.wh_replies.specs.Proving.{IsNotFound}
 use Rattle.wh_replies.specs.Reducing.{IsNotReduced}

@@ -15,8 +15,8 @@ use Rattle.wh_answer.specs.declared.report.ReasonWord.TheVariants.{TooManyPairs}
 use Rattle.wh_answer.specs.declared.report.Report.{Report}
 use Rattle.wh_answer.specs.declared.report.Report.TheVariants.{Maybe, Refused}
 use Rattle.wh_answer.specs.Texts.{line, report_text}
-use Rattle.wh_judging.specs.declared.status.Status.{Status}
-use Rattle.wh_judging.specs.declared.status.Status.TheVariants.{Answered}
+use Rattle.wh_naming.specs.declared.status.Status.{Status}
+use Rattle.wh_naming.specs.declared.status.Status.TheVariants.{Answered}
 use Rattle.wh_replies.specs.Causes.{named_cause}
 
 -- the bounds of a search where the words do not say

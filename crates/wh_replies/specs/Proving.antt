@@ -14,8 +14,8 @@ use Rattle.wh_checker.specs.Named.{HasMeta}
 use Rattle.wh_answer.specs.declared.report.Role.TheVariants.{Output}
 use Rattle.wh_answer.specs.declared.report.Report.{Report}
 use Rattle.wh_answer.specs.declared.report.Report.TheVariants.{Maybe, TooLong}
-use Rattle.wh_judging.specs.declared.status.Status.{Status}
-use Rattle.wh_judging.specs.declared.status.Status.TheVariants.{Answered}
+use Rattle.wh_naming.specs.declared.status.Status.{Status}
+use Rattle.wh_naming.specs.declared.status.Status.TheVariants.{Answered}
 use Rattle.wh_replies.specs.Causes.{named_cause}
 use Rattle.wh_judging.specs.Outcomes.{Shelves, BeginsWith, ToldSystem, StandsBySystem}
 

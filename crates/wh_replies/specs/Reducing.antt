@@ -5,8 +5,8 @@ use Rattle.wh_reducing.specs.Telling.{GivesNone, TellsReduced}
 use Rattle.wh_answer.specs.declared.report.NamedRejection.TheVariants.{NotATerm}
 use Rattle.wh_answer.specs.declared.report.Report.{Report}
 use Rattle.wh_answer.specs.declared.report.Report.TheVariants.{Rejected}
-use Rattle.wh_judging.specs.declared.status.Status.{Status}
-use Rattle.wh_judging.specs.declared.status.Status.TheVariants.{Answered}
+use Rattle.wh_naming.specs.declared.status.Status.{Status}
+use Rattle.wh_naming.specs.declared.status.Status.TheVariants.{Answered}
 use Rattle.wh_judging.specs.Outcomes.{Shelves, BeginsWith, ToldText, StandsByText}
 
 -- why the term is not reduced: the word is the text of no well-typed term of the system that fits

@@ -14,8 +14,8 @@ use Rattle.wh_words.specs.Words.{usual, depth, visited}
 use Rattle.wh_answer.specs.Texts.{report_text}
 use Rattle.wh_answer.specs.declared.report.Report.{Report}
 use Rattle.wh_answer.specs.declared.report.Report.TheVariants.{Yes, No, Maybe}
-use Rattle.wh_judging.specs.declared.status.Status.{Status}
-use Rattle.wh_judging.specs.declared.status.Status.TheVariants.{Answered}
+use Rattle.wh_naming.specs.declared.status.Status.{Status}
+use Rattle.wh_naming.specs.declared.status.Status.TheVariants.{Answered}
 use Rattle.wh_judging.specs.Outcomes.{Shelves, BeginsWith, ToldSystem}
 use Rattle.wh_replies.specs.Causes.{named_cause}
 use Rattle.wh_replies.specs.Proving.{CauseIsThere}

@@ -12,8 +12,8 @@ use Rattle.wh_cert.specs.Written.{Cert}
 use Rattle.wh_cert.specs.CertText.{CertText}
 use Rattle.wh_no.specs.Claim.{Claim}
 use Rattle.wh_no.specs.Meaning.{Says}
-use Rattle.wh_judging.specs.declared.status.Status.{Status}
-use Rattle.wh_judging.specs.declared.status.Status.TheVariants.{Answered, BadWords, NoMemory, WriteFault}
+use Rattle.wh_naming.specs.declared.status.Status.{Status}
+use Rattle.wh_naming.specs.declared.status.Status.TheVariants.{Answered, BadWords, NoMemory, WriteFault}
 use Rattle.wh_answer.specs.declared.report.Report.{Report}
 use Rattle.wh_answer.specs.declared.report.Report.TheVariants as answer
 use Rattle.wh_answer.specs.Texts.{line, report_text}

@@ -15,7 +15,7 @@ ghost use Rattle.wh_answer.specs.Texts.{report_text};
 ghost use Rattle.wh_answer.specs.declared.report.Report.TheVariants.{Maybe};
 ghost use Rattle.wh_replies.specs.Proving.{CauseIsThere};
 ghost use Rattle.wh_replies.specs.Causes.{named_cause};
-ghost use Rattle.wh_judging.specs.declared.status.Status.TheVariants.{Answered};
+ghost use Rattle.wh_naming.specs.declared.status.Status.TheVariants.{Answered};
 ghost use Rattle.wh_replies.specs.Generating.{Comes, ShowsGenerated, StandsForGenerated, counted_line, generated_text, nodes_of, usual_options};
 
 use crate::proving::name_cause;

@@ -8,14 +8,15 @@ ghost use Rattle.wh_pairs.specs.SystemPairs.{HasPairs};
 ghost use Rattle.wh_pairs.specs.Views.{pairs_data};
 ghost use Rattle.wh_judging.specs.Outcomes.{BeginsWith, ToldSystem, outside};
 ghost use Rattle.wh_replies.specs.Proving.{CauseIsThere, IsFoundText, IsNotFound, StandsForSearch};
-ghost use Rattle.wh_judging.specs.Rows.{sort_name};
+ghost use Rattle.wh_naming.specs.Rows.{sort_name};
 ghost use Rattle.wh_replies.specs.Causes.{finder_named, named_cause};
 
 use std::alloc::{AllocError, Global};
 use wh_access::NoRanks;
 use wh_answer::{NamedCause, NamedFinder, Names, Report};
 use wh_io::Shelf;
-use wh_judging::{Problem, meta_name, problem_in};
+use wh_judging::{Problem, problem_in};
+use wh_naming::meta_name;
 use wh_prover::{Answer, Cause, Finder, Options, prove};
 use wh_system::System;
 use wh_text::Name;

@@ -20,7 +20,7 @@ use Rattle.wh_answer.specs.declared.report.NamedRejection.TheVariants.{Syntax}
 use Rattle.wh_answer.specs.declared.report.Report.{Report}
 use Rattle.wh_answer.specs.declared.report.Report.TheVariants.{Yes, No, Rejected, Overflow, TooLarge}
 use Rattle.wh_judging.specs.Outcomes.{IsRejectedFor, Judged}
-use Rattle.wh_judging.specs.Rows.{named_row}
+use Rattle.wh_naming.specs.Rows.{named_row}
 
 abbrev IsAnswered : SystemData → List PairData → List ℕ → Type 0
 IsAnswered d ps bytes = (o : Report) × Judged d ps bytes o

@@ -10,7 +10,7 @@ ghost use Rattle.wh_replies.specs.Words.{AsksWhether};
 use std::alloc::Global;
 use wh_answer::{bad_words_line, out_of_memory_line};
 use wh_io::{Shelf, Sink, write_all_of};
-use wh_judging::Status;
+use wh_naming::Status;
 use wh_replies::reply_to;
 use wh_words::read_words;
 

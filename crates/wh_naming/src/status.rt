@@ -1,8 +1,7 @@
 //! How a run ended.
 
 ghost use Rattle.std.specs.Prelude.{◌≡◌};
-ghost use Rattle.wh_judging.specs.Status.{number_of_status};
-ghost use Rattle.wh_judging.specs.Texts.{status_of};
+ghost use Rattle.wh_naming.specs.Status.{number_of_status, status_of};
 
 use wh_answer::Report;
 

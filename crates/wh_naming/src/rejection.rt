@@ -2,7 +2,7 @@
 
 ghost use Rattle.std.specs.Prelude.{◌≡◌, ◌<◌, IfOk, length};
 ghost use Rattle.wh_system.specs.SystemView.{system_data};
-ghost use Rattle.wh_judging.specs.Rows.{meta_name, named_row, symbol_name};
+ghost use Rattle.wh_naming.specs.Rows.{meta_name, named_row, symbol_name};
 ghost use Rattle.wh_checker.specs.Named.{HasMeta, NamesAreThere};
 
 use std::alloc::{AllocError, Global};
