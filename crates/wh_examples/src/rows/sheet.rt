@@ -141,14 +141,20 @@ fn change(alloc: Global, sheet: &mut Sheet, rest: &str) -> Result<(), AllocError
 
 // The bytes with the second text in the place of the first one; nothing where that does not stand in them.
 fn replaced(alloc: Global, bytes: &[u8], from: &[u8], to: &[u8]) -> Result<Bytes, AllocError> {
-    let mut made = Bytes::new(alloc)?;
     let whole = str::from_utf8(bytes).or(Err(AllocError))?;
     let part = str::from_utf8(from).or(Err(AllocError))?;
-    if let Some((front, back)) = whole.split_once(part) {
-        made.append(front.as_bytes())?;
-        made.append(to)?;
-        made.append(back.as_bytes())?;
+    match whole.split_once(part) {
+        Some((front, back)) => joined(alloc, front.as_bytes(), to, back.as_bytes()),
+        None => Bytes::new(alloc),
     }
+}
+
+// Three texts, one behind the other.
+fn joined(alloc: Global, front: &[u8], middle: &[u8], back: &[u8]) -> Result<Bytes, AllocError> {
+    let mut made = Bytes::new(alloc)?;
+    made.append(front)?;
+    made.append(middle)?;
+    made.append(back)?;
     Ok(made)
 }
 

@@ -83,7 +83,7 @@ fn fill_in(
         return text.append(digits.as_bytes());
     }
     if let Some(byte) = inside.strip_prefix('%') {
-        return text.push(number_of(byte) as u8);
+        return text.push(number_of(byte).min(255) as u8);
     }
     match inside.split_once('*') {
         Some((name, times)) => add_named(texts, name, number_of(times), text),

@@ -66,12 +66,16 @@ fn decides(alloc: Global, given: &Given, certificate: &[u8]) -> Result<bool, All
         certificate,
         given.faults,
     )?;
-    let text = end.out.bytes();
-    Ok(match end.status {
+    Ok(is_answer(end.status, end.out.bytes()))
+}
+
+// Whether this is how a check ends that accepts or rejects.
+fn is_answer(status: u8, text: &[u8]) -> bool {
+    match status {
         0 => text == b"YES\n".as_slice() || text == b"NO\n".as_slice(),
         1 => text.starts_with(b"REJECTED ") && text.ends_with(b"\n"),
         _ => false,
-    })
+    }
 }
 
 /// Whether the fault of each write leaves the bytes of the writes before it, where a write takes so many bytes and the text is written.
