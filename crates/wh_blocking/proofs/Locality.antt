@@ -12,7 +12,7 @@ use Rattle.wh_pairs.proofs.ByPlace.{contains_at, remap}
 use Rattle.wh_pairs.specs.Marked.{AreMarked, HeadsASide}
 use Rattle.wh_reduction.specs.TaskData.{TaskData}
 use Rattle.wh_polycheck.specs.Readings.{ReadingsData}
-use Rattle.wh_hopoly.specs.Arithmetic.{renumber}
+use Rattle.wh_poly.specs.Arithmetic.{renumber}
 use Rattle.wh_hopoly.specs.Evaluation.{one, next, Expression, var, symbol, lambda, apply, Interpretation, interpretation_at, type_of, codomain, apply_one, evaluate}
 use Rattle.wh_hopoly.proofs.ValueLaws.{interpretation_is}
 use Rattle.wh_polycheck.specs.Sides.{types_of_metas, side, side_applied, side_expression, marked_expression}

@@ -7,7 +7,7 @@ use Rattle.wh_reduction.specs.TaskData.{TaskData}
 use Rattle.wh_polycheck.specs.Readings.{ReadingsData}
 use Rattle.wh_pairs.proofs.ByPlace.{unmap}
 use Rattle.wh_pairs.specs.Marked.{AreMarked}
-use Rattle.wh_hopoly.specs.Polynomials.{Polynomial}
+use Rattle.wh_poly.specs.Polynomials.{Polynomial}
 use Rattle.wh_hopoly.specs.Evaluation.{Interpretation}
 use Rattle.wh_hopoly.proofs.ValueLaws.{interpretation_is}
 use Rattle.wh_polycheck.specs.Marks.{Mark, marked_types}

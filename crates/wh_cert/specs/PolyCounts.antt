@@ -1,6 +1,6 @@
 -- How many entries the lists inside polynomials have (ours).
 use Rattle.std.specs.Prelude.{ℕ, suc, ◌≤◌, All}
-use Rattle.wh_hopoly.specs.Polynomials.{Polynomial, zero_poly, plus, Factors, no_factors, times, Arguments, no_arguments, argument}
+use Rattle.wh_poly.specs.Polynomials.{Polynomial, zero_poly, plus, Factors, no_factors, times, Arguments, no_arguments, argument}
 use Rattle.wh_cert.specs.Interps.{Interp}
 use Rattle.wh_cert.specs.Written.{Node, interpretations, Cert, yes, no}
 

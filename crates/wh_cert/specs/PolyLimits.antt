@@ -1,7 +1,7 @@
 -- The limits of the format on polynomials (ours).
 use Rattle.std.specs.Prelude.{ℕ, suc, ◌<◌, ◌≤◌}
 use Rattle.wh_types.specs.Limits.{greatest_number, deepest_certificate_polynomial, coefficient_end}
-use Rattle.wh_hopoly.specs.Polynomials.{Polynomial, zero_poly, plus, Factors, no_factors, times, Arguments, no_arguments, argument}
+use Rattle.wh_poly.specs.Polynomials.{Polynomial, zero_poly, plus, Factors, no_factors, times, Arguments, no_arguments, argument}
 
 -- a coefficient, or an amount that is moved, is at least 1 and at most 2^128 - 1
 abbrev pub IsBig : ℕ → Type 0

@@ -1,7 +1,7 @@
 -- The text of polynomials (ours). `put_.. r` is the spelling with r behind it.
 use Rattle.std.specs.Prelude.{ℕ, List, ◌++◌, codes}
 use Rattle.std.specs.Fmt.{decimal}
-use Rattle.wh_hopoly.specs.Polynomials.{Polynomial, zero_poly, plus, Factors, no_factors, times, Arguments, no_arguments, argument}
+use Rattle.wh_poly.specs.Polynomials.{Polynomial, zero_poly, plus, Factors, no_factors, times, Arguments, no_arguments, argument}
 
 -- a polynomial: `0`, or monomials with `+` between them; a monomial is its coefficient, then each factor behind a `*`, a
 -- variable's number behind `y` with its arguments in parentheses

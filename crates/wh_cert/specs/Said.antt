@@ -1,7 +1,7 @@
 -- What a value of the program stands for: the certificate without pointers.
 use Rattle.std.specs.Prelude.{map}
 use Rattle.wh_text.specs.Erase.{rty, rtm}
-use Rattle.wh_hopoly.specs.Erase.{poly}
+use Rattle.wh_poly.specs.Erase.{poly}
 use Rattle.wh_inference.specs.Said.{inference, written_filter}
 use Rattle.wh_cert.specs.Interps as w_interps
 use Rattle.wh_cert.specs.Items as w_items

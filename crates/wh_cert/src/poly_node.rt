@@ -1,6 +1,7 @@
 //! Nodes of interpretations: polynomials for symbols, and moves that cover rules and pairs.
 
-use wh_hopoly::{Covers, Poly};
+use wh_hopoly::Covers;
+use wh_poly::Poly;
 use wh_text::Name;
 use wh_types::{List, Numbers};
 

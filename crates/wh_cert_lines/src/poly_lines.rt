@@ -1,7 +1,7 @@
 //! The lines of a node of interpretations up to that of `drop`, byte by byte.
 
 ghost use Rattle.std.specs.Prelude.{◌≡◌, [], IfOk, OnOk};
-ghost use Rattle.wh_hopoly.specs.Erase.{poly};
+ghost use Rattle.wh_poly.specs.Erase.{poly};
 ghost use Rattle.wh_cert_parts.specs.PolyMachine.{poly_ended};
 ghost use Rattle.wh_cert_lines.specs.Sections.{in_funs, first_step};
 ghost use Rattle.wh_cert_lines.specs.PolyLines.{lines_front, name_wanted, from_wanted, from, to_wanted, to, amount_wanted, amount, name as in_name, line_begun, poly_led, moves_step, lines_step, node_of};
@@ -14,8 +14,9 @@ use std::alloc::{AllocError, Global};
 use std::mem;
 use wh_cert::{Interp, Interps, PolyNode};
 use wh_cert_parts::{PolyStep, PolyText};
-use wh_hopoly::{Covers, Move, Moves, Poly};
+use wh_hopoly::{Covers, Move, Moves};
 use wh_letters::{Letters, begins_name, first_big, first_number, next_big, next_number};
+use wh_poly::Poly;
 use wh_types::Numbers;
 
 /// How far the present line was read; what is longer than a number stands in the lines themselves.

@@ -2,14 +2,14 @@
 use Rattle.std.proofs.Common.{◌≡◌, ℕ, ◌+◌, ◌<◌, List, [], ◌∷◌, ◌++◌, length, Option, Some, None, MatchOption, IsSome, ◌↔◌, refl, sym, ap, ap₂, ◌∙◌, arith}
 use Rattle.std.specs.Option.{option_to_list}
 use Rattle.std.proofs.lemmas.Bool.{false≢true}
-use Rattle.wh_hopoly.specs.Polynomials.{Polynomial, zero_poly, plus, Factors, no_factors, times, Arguments, no_arguments, argument}
-use Rattle.wh_hopoly.specs.Erase.{poly, atoms, polys, monomials, factors, list, sum_of, product_of, arguments_of}
-use Rattle.wh_hopoly.specs.declared.polynomial.Poly.{Poly}
-use Rattle.wh_hopoly.specs.declared.polynomial.Monomial.{Monomial, out-Monomial, roll-Monomial, out-roll-Monomial}
-use Rattle.wh_hopoly.specs.declared.polynomial.Atoms.{Atoms}
-use Rattle.wh_hopoly.specs.declared.polynomial.Atom.{Atom, out-Atom, roll-Atom, out-roll-Atom}
-use Rattle.wh_hopoly.specs.declared.polynomial.Polys.{Polys}
-use Rattle.wh_hopoly.proofs.Lists.{poly_is, atoms_is, polys_is}
+use Rattle.wh_poly.specs.Polynomials.{Polynomial, zero_poly, plus, Factors, no_factors, times, Arguments, no_arguments, argument}
+use Rattle.wh_poly.specs.Erase.{poly, atoms, polys, monomials, factors, list, sum_of, product_of, arguments_of}
+use Rattle.wh_poly.specs.declared.polynomial.Poly.{Poly}
+use Rattle.wh_poly.specs.declared.polynomial.Monomial.{Monomial, out-Monomial, roll-Monomial, out-roll-Monomial}
+use Rattle.wh_poly.specs.declared.polynomial.Atoms.{Atoms}
+use Rattle.wh_poly.specs.declared.polynomial.Atom.{Atom, out-Atom, roll-Atom, out-roll-Atom}
+use Rattle.wh_poly.specs.declared.polynomial.Polys.{Polys}
+use Rattle.wh_poly.proofs.Lists.{poly_is, atoms_is, polys_is}
 use Rattle.wh_cert_parts.specs.PolyMachine.{PolyStack, outside, poly_level, add_monomial, add_factor, add_argument}
 use Rattle.wh_cert_parts.specs.PolyViews.{opened, opened_in, poly_stack}
 use Rattle.wh_cert_parts.specs.declared.poly_reader.PolyFrame.{PolyFrame}

@@ -1,6 +1,6 @@
 -- What the values of the reader of polynomials stand for.
 use Rattle.std.specs.Prelude.{ℕ, List, [], ◌∷◌}
-use Rattle.wh_hopoly.specs.Erase.{poly, atoms, polys}
+use Rattle.wh_poly.specs.Erase.{poly, atoms, polys}
 use Rattle.wh_cert_parts.specs.PolyMachine as m
 use Rattle.wh_cert_parts.specs.declared.poly_reader.PolyPlace.{PolyPlace}
 use Rattle.wh_cert_parts.specs.declared.poly_reader.PolyPlace.TheVariants.{Wanted, Zero, Added, Coefficient, Factor, Variable, Head, Closed}

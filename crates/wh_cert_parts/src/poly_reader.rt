@@ -2,16 +2,16 @@
 
 ghost use Rattle.std.specs.Prelude.{◌≡◌, ◌==◌, ◌&&◌, ℕ, nat_lt, IfOk, OnOk, MatchOption};
 ghost use Rattle.wh_types.specs.Limits.{deepest_certificate_polynomial};
-ghost use Rattle.wh_hopoly.specs.Erase.{poly, atoms, polys};
-ghost use Rattle.wh_hopoly.specs.Polynomials.{zero_poly, no_factors, no_arguments};
+ghost use Rattle.wh_poly.specs.Erase.{poly, atoms, polys};
+ghost use Rattle.wh_poly.specs.Polynomials.{zero_poly, no_factors, no_arguments};
 ghost use Rattle.wh_cert_parts.specs.PolyMachine.{outside, poly_wanted, coefficient, closed_poly, goes, poly_level, add_monomial, add_factor, add_argument, behind_poly, first_coefficient, poly_step};
 ghost use Rattle.wh_cert_parts.specs.PolyViews.{behind_head_of, behind_part_of, opened, place_of, poly_stack, poly_place, poly_went};
 ghost use Rattle.wh_cert_parts.specs.declared.poly_reader.PolyPlace.TheVariants.{Factor, Head, Variable};
 
 use std::alloc::{AllocError, Global};
 use std::mem;
-use wh_hopoly::{Atom, Atoms, Monomial, Poly, Polys};
 use wh_letters::{first_big, first_number, next_big, next_number};
+use wh_poly::{Atom, Atoms, Monomial, Poly, Polys};
 
 /// The parentheses of a polynomial nest that deep.
 const DEEPEST_POLYNOMIAL: usize = 64;

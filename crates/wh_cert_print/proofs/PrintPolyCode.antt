@@ -2,14 +2,14 @@
 use Rattle.std.proofs.Common.{◌≡◌, ℕ, ◌+◌, ◌/◌, ◌%◌, ◌^◌, ◌<◌, ◌≤◌, List, [], ◌∷◌, ◌++◌, length, get_or, drop, subst, codes, refl, sym, ap, ◌∙◌, arith, append_assoc}
 use Rattle.std.specs.Fmt.{decimal}
 use Rattle.std.proofs.lemmas.Fmt.{decimal_step_wide}
-use Rattle.wh_hopoly.specs.Polynomials.{Polynomial, Factors, Arguments}
-use Rattle.wh_hopoly.specs.Erase.{poly, atoms, polys, monomials, factors, list, sum_of, product_of, arguments_of}
-use Rattle.wh_hopoly.specs.declared.polynomial.Poly.{Poly}
-use Rattle.wh_hopoly.specs.declared.polynomial.Monomial.{Monomial, out-Monomial}
-use Rattle.wh_hopoly.specs.declared.polynomial.Atom.{Atom, out-Atom}
-use Rattle.wh_hopoly.specs.declared.polynomial.Atoms.{Atoms}
-use Rattle.wh_hopoly.specs.declared.polynomial.Polys.{Polys}
-use Rattle.wh_hopoly.proofs.Lists.{poly_is, atoms_is, polys_is}
+use Rattle.wh_poly.specs.Polynomials.{Polynomial, Factors, Arguments}
+use Rattle.wh_poly.specs.Erase.{poly, atoms, polys, monomials, factors, list, sum_of, product_of, arguments_of}
+use Rattle.wh_poly.specs.declared.polynomial.Poly.{Poly}
+use Rattle.wh_poly.specs.declared.polynomial.Monomial.{Monomial, out-Monomial}
+use Rattle.wh_poly.specs.declared.polynomial.Atom.{Atom, out-Atom}
+use Rattle.wh_poly.specs.declared.polynomial.Atoms.{Atoms}
+use Rattle.wh_poly.specs.declared.polynomial.Polys.{Polys}
+use Rattle.wh_poly.proofs.Lists.{poly_is, atoms_is, polys_is}
 use Rattle.std.proofs.lemmas.List.{drop_all}
 use Rattle.wh_text.specs.Pushes.{Pushes}
 use Rattle.wh_text.proofs.PrintLemmas.{push_bytes, push_byte, push_then, Leaves}

@@ -3,11 +3,11 @@
 ghost use Rattle.std.specs.Prelude.{◌≡◌, ◌++◌, OnOk};
 ghost use Rattle.std.specs.Fmt.{decimal};
 ghost use Rattle.wh_text.specs.Pushes.{Pushes};
-ghost use Rattle.wh_hopoly.specs.Erase.{poly, atoms, polys, sum_of, arguments_of};
+ghost use Rattle.wh_poly.specs.Erase.{poly, atoms, polys, sum_of, arguments_of};
 ghost use Rattle.wh_cert.specs.PolyText.{put_poly, put_sum, put_factors, put_polys, put_more};
 
 use std::alloc::AllocError;
-use wh_hopoly::{Atoms, Monomial, Poly, Polys};
+use wh_poly::{Atoms, Monomial, Poly, Polys};
 use wh_text::print_number;
 use wh_types::Bytes;
 

@@ -4,7 +4,7 @@ use Rattle.std.proofs.Common.{◌≡◌, ℕ, zero, suc, ◌+◌, ◌-◌, ◌^�
 use Rattle.std.specs.List.{All}
 use Rattle.std.proofs.lemmas.Bool.{cond-true, eq-eqb, ltb-true}
 use Rattle.std.proofs.lemmas.List.Elements.{All-nil, All-push, All-weaker}
-use Rattle.wh_hopoly.specs.Polynomials.{zero_poly}
+use Rattle.wh_poly.specs.Polynomials.{zero_poly}
 use Rattle.wh_hopoly.specs.declared.expression.Move as moved
 use Rattle.wh_text.specs.Words.{IsWord}
 use Rattle.wh_letters.proofs.NamesAndNumbers.{first_letter}

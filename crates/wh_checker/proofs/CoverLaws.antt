@@ -2,11 +2,11 @@
 -- is where nothing is wrong.
 use Rattle.std.proofs.Common.{◌≡◌, ℕ, ◌⊎◌, inl, inr, Bool, true, false, List, refl, sym, ap, ◌∙◌, arith}
 use Rattle.wh_pairs.proofs.ByPlace.{contains_at}
-use Rattle.wh_hopoly.specs.Polynomials.{Polynomial}
+use Rattle.wh_poly.specs.Polynomials.{Polynomial}
 use Rattle.wh_hopoly.specs.Evaluation.{Run}
 use Rattle.wh_hopoly.specs.Moves.{Transfer, NotOverSpent, Covered, IsCover}
-use Rattle.wh_hopoly.specs.declared.excess.Excess.{Excess}
-use Rattle.wh_hopoly.specs.declared.excess.Excess.TheVariants as excess
+use Rattle.wh_poly.specs.declared.excess.Excess.{Excess}
+use Rattle.wh_poly.specs.declared.excess.Excess.TheVariants as excess
 use Rattle.wh_polycheck.specs.CoverFaults.{AreGood, IsFirstBad, IsOverSpent, IsFirstOverSpent, IsNotCovered, IsFirstNotCovered, LeavesConstant, IsFirstCoverFault, IsFirstStrictCoverFault}
 use Rattle.wh_polycheck.specs.declared.fault.CoverFault.{CoverFault}
 use Rattle.wh_polycheck.specs.declared.fault.CoverFault.TheVariants.{BadMove, OverSpent, NotCovered, NotStrict}

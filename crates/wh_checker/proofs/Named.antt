@@ -22,8 +22,8 @@ use Rattle.wh_cert.specs.Interps.{Interp}
 use Rattle.wh_no.specs.declared.fault.NoFault.{NoFault}
 use Rattle.wh_no.specs.declared.fault.NoFault.TheVariants as refuted
 use Rattle.wh_hopoly.specs.Evaluation.{Interpretation}
-use Rattle.wh_hopoly.specs.declared.excess.Excess.{Excess}
-use Rattle.wh_hopoly.specs.declared.excess.Excess.TheVariants.{Overflow, TooLarge}
+use Rattle.wh_poly.specs.declared.excess.Excess.{Excess}
+use Rattle.wh_poly.specs.declared.excess.Excess.TheVariants.{Overflow, TooLarge}
 use Rattle.wh_polycheck.specs.Marks.{Mark}
 use Rattle.wh_polycheck.specs.declared.fault.CoverFault.TheVariants as moves
 use Rattle.wh_polycheck.specs.Small.{Limits}

@@ -21,8 +21,8 @@ use Rattle.wh_no.specs.Faults as claims
 use Rattle.wh_no.specs.declared.fault.NoFault.{NoFault}
 use Rattle.wh_no.specs.declared.fault.NoFault.TheVariants as refuted
 use Rattle.wh_reduction.specs.TaskData.{whole_task}
-use Rattle.wh_hopoly.specs.declared.excess.Excess.{Excess}
-use Rattle.wh_hopoly.specs.declared.excess.Excess.TheVariants as excess
+use Rattle.wh_poly.specs.declared.excess.Excess.{Excess}
+use Rattle.wh_poly.specs.declared.excess.Excess.TheVariants as excess
 use Rattle.wh_polycheck.specs.Readings.{ReadingsData}
 use Rattle.wh_polycheck.specs.declared.fault.CoverFault.{CoverFault}
 use Rattle.wh_polycheck.specs.declared.fault.CoverFault.TheVariants as moves

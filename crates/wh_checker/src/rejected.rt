@@ -7,9 +7,9 @@ ghost use Rattle.wh_covering.specs.declared.fault.CoveringFault.TheVariants.{Pai
 
 use wh_covering::{CoveringFault, LineFault};
 use wh_graph::BlockFault;
-use wh_hopoly::Excess;
 use wh_no::NoFault;
 use wh_orienting::OrderingFault;
+use wh_poly::Excess;
 use wh_polycheck::CoverFault;
 use wh_subterm::SubtermFault;
 use wh_usable::NotClosed;

@@ -13,13 +13,13 @@ use Rattle.wh_reduction.specs.TaskData.{TaskData}
 use Rattle.wh_reduction.specs.ReductionPair.{Evidence}
 use Rattle.wh_reduction.specs.FirstFault.{AreBadLines, AreCounted}
 use Rattle.wh_reduction.proofs.Lines.{rules_or_first, pairs_or_first, counted_or_not}
-use Rattle.wh_hopoly.specs.Polynomials.{Polynomial, zero_poly, plus, Normal}
+use Rattle.wh_poly.specs.Polynomials.{Polynomial, zero_poly, plus, Normal}
 use Rattle.wh_hopoly.specs.Evaluation.{Run, Interpretation, NormalInterpretations}
-use Rattle.wh_hopoly.specs.Limits.{weight, nesting, Overflows, Exceeds}
-use Rattle.wh_hopoly.specs.Excesses.{ExceedsAs}
+use Rattle.wh_poly.specs.Limits.{weight, nesting, Overflows, Exceeds}
+use Rattle.wh_poly.specs.Excesses.{ExceedsAs}
 use Rattle.wh_hopoly.specs.Moves.{Transfer}
-use Rattle.wh_hopoly.specs.declared.excess.Excess.{Excess}
-use Rattle.wh_hopoly.specs.declared.excess.Excess.TheVariants as excess
+use Rattle.wh_poly.specs.declared.excess.Excess.{Excess}
+use Rattle.wh_poly.specs.declared.excess.Excess.TheVariants as excess
 use Rattle.wh_polycheck.specs.Marks.{Mark, marked_types, AreNormalMarks}
 use Rattle.wh_polycheck.specs.Readings.{ReadingsData, AreNormal, AreReadingsFor}
 use Rattle.wh_polycheck.specs.Covering.{rule_run, pair_run, CoversSides, IsCovering}

@@ -5,11 +5,11 @@ use Rattle.std.specs.declared.cmp.Ordering.{Ordering}
 use Rattle.std.specs.declared.cmp.Ordering.TheVariants.{Less, Equal, Greater}
 use Rattle.wh_types.specs.Ty.{Ty, sort, ◌⇒◌, arguments}
 use Rattle.wh_system.proofs.TypedDecided.{Decided, decided_by, both_decided, below_decided}
-use Rattle.wh_hopoly.specs.Polynomials.{Polynomial, zero_poly, plus, Factors, no_factors, times, Arguments, no_arguments, argument, HasType, compare_factors, compare_factor, FactorBefore, MonomialBefore, Normal, NormalFactors, NormalArguments}
+use Rattle.wh_poly.specs.Polynomials.{Polynomial, zero_poly, plus, Factors, no_factors, times, Arguments, no_arguments, argument, HasType, compare_factors, compare_factor, FactorBefore, MonomialBefore, Normal, NormalFactors, NormalArguments}
 use Rattle.wh_hopoly.specs.Covers.{Has, AtLeast}
-use Rattle.wh_hopoly.specs.Limits.{weight}
+use Rattle.wh_poly.specs.Limits.{weight}
 use Rattle.wh_hopoly.specs.Moves.{Transfer, ArgumentsAtLeast, FactorsAtLeast, MonomialAt, Good, given_by, taken_by, NotOverSpent, Covered, IsCover, IsStrictCover}
-use Rattle.wh_hopoly.proofs.OrderLaws.{factors_equal, factors_same}
+use Rattle.wh_poly.proofs.OrderLaws.{factors_equal, factors_same}
 use Rattle.wh_hopoly.proofs.NormalWalk.{one_type}
 use Rattle.wh_polycheck.specs.CoverFaults.{AreGood, IsOverSpent, IsNotCovered, LeavesConstant, IsFirstCoverFault, IsFirstStrictCoverFault}
 use Rattle.wh_polycheck.specs.declared.fault.CoverFault.{CoverFault}

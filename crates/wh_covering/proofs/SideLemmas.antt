@@ -6,17 +6,17 @@ use Rattle.wh_terms.specs.Typing.{Symbols}
 use Rattle.wh_terms.specs.Rules.{RewriteRule}
 use Rattle.wh_pairs.specs.PairData.{PairData}
 use Rattle.wh_system.specs.CanonicalView.{side_of}
-use Rattle.wh_hopoly.specs.Polynomials.{Polynomial, zero_poly, plus, Arguments}
-use Rattle.wh_hopoly.specs.Arithmetic.{sum_poly, constant}
+use Rattle.wh_poly.specs.Polynomials.{Polynomial, zero_poly, plus, Arguments}
+use Rattle.wh_poly.specs.Arithmetic.{sum_poly, constant}
 use Rattle.wh_hopoly.specs.Evaluation.{Run, one, next, replace, replace_factors, widened, applied, Expression, var, symbol, lambda, apply, Interpretation, type_of, codomain, apply_one, evaluate, NormalInterpretations, Norm, Values}
-use Rattle.wh_hopoly.specs.Limits.{Exceeds, weight}
-use Rattle.wh_hopoly.specs.Erase.{poly, monomials, sum_of}
-use Rattle.wh_hopoly.specs.declared.polynomial.Poly.{Poly}
-use Rattle.wh_hopoly.specs.declared.polynomial.Monomial.{Monomial}
+use Rattle.wh_poly.specs.Limits.{Exceeds, weight}
+use Rattle.wh_poly.specs.Erase.{poly, monomials, sum_of}
+use Rattle.wh_poly.specs.declared.polynomial.Poly.{Poly}
+use Rattle.wh_poly.specs.declared.polynomial.Monomial.{Monomial}
 use Rattle.wh_hopoly.specs.declared.fault.PolyFault.{PolyFault}
 use Rattle.wh_hopoly.specs.declared.fault.PolyFault.TheVariants.{Overflow, TooLarge}
-use Rattle.wh_hopoly.specs.declared.excess.Excess.{Excess}
-use Rattle.wh_hopoly.proofs.Lists.{poly_is}
+use Rattle.wh_poly.specs.declared.excess.Excess.{Excess}
+use Rattle.wh_poly.proofs.Lists.{poly_is}
 use Rattle.wh_hopoly.proofs.ValueLaws.{normal_value}
 use Rattle.wh_polycheck.specs.CoverFaults.{IsNormal}
 use Rattle.wh_polycheck.specs.Sides.{types_of_metas, side_expression, marked_expression}

@@ -7,11 +7,11 @@ use Rattle.wh_pairs.specs.Drops.{IsBadDrop}
 use Rattle.wh_reduction.specs.TaskData.{TaskData}
 use Rattle.wh_reduction.specs.ReductionPair.{Evidence, Showing, IsRightRule}
 use Rattle.wh_reduction.specs.FirstFault.{Blaming, AreBadLines, AreCounted, IsFirstRuleFault, IsFirstPairFault}
-use Rattle.wh_hopoly.specs.Polynomials.{Polynomial, Normal}
+use Rattle.wh_poly.specs.Polynomials.{Polynomial, Normal}
 use Rattle.wh_hopoly.specs.Evaluation.{Run, Interpretation, NormalInterpretations}
-use Rattle.wh_hopoly.specs.Excesses.{ExceedsAs}
+use Rattle.wh_poly.specs.Excesses.{ExceedsAs}
 use Rattle.wh_hopoly.specs.Moves.{Transfer}
-use Rattle.wh_hopoly.specs.declared.excess.Excess.{Excess}
+use Rattle.wh_poly.specs.declared.excess.Excess.{Excess}
 use Rattle.wh_polycheck.specs.Marks.{Mark, marked_types}
 use Rattle.wh_polycheck.specs.Readings.{ReadingsData, AreNormal}
 use Rattle.wh_polycheck.specs.CoverFaults.{IsFirstCoverFault, IsFirstStrictCoverFault}

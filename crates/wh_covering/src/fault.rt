@@ -1,6 +1,6 @@
 //! What can be wrong with a node of interpretations.
 
-use wh_hopoly::Excess;
+use wh_poly::Excess;
 use wh_polycheck::CoverFault;
 use wh_usable::NotClosed;
 

@@ -5,8 +5,9 @@ ghost use Rattle.wh_types.specs.Outcome.{MatchOr};
 ghost use Rattle.wh_terms.specs.Rules.{RewriteRule};
 ghost use Rattle.wh_pairs.specs.PairData.{pair_data};
 ghost use Rattle.wh_system.specs.SystemView.{system_data};
-ghost use Rattle.wh_hopoly.specs.Polynomials.{Polynomial};
-ghost use Rattle.wh_hopoly.specs.Erase.{poly, transfers};
+ghost use Rattle.wh_poly.specs.Polynomials.{Polynomial};
+ghost use Rattle.wh_poly.specs.Erase.{poly};
+ghost use Rattle.wh_hopoly.specs.Erase.{transfers};
 ghost use Rattle.wh_hopoly.specs.Evaluation.{Run};
 ghost use Rattle.wh_polycheck.specs.Marks.{HasMarkedSides};
 ghost use Rattle.wh_polycheck.specs.Readings.{AreProper};
@@ -16,8 +17,9 @@ ghost use Rattle.wh_covering.specs.Lines.{IsAnswerOf, IsExcessOf, IsSide, IsSome
 
 use crate::fault::LineFault;
 use std::alloc::Global;
-use wh_hopoly::{Excess, Moves, Poly, PolyFault};
+use wh_hopoly::{Moves, PolyFault};
 use wh_pairs::Pair;
+use wh_poly::{Excess, Poly};
 use wh_polycheck::{Readings, check_strict, check_weak, side_of_pair, side_of_rule};
 use wh_system::System;
 use wh_types::Or;

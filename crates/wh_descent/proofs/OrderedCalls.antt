@@ -21,7 +21,7 @@ use Rattle.wh_reduction.specs.TaskData.{TaskData, CoversAll}
 use Rattle.wh_reduction.specs.ReductionPair.{Evidence}
 use Rattle.wh_reduction.proofs.LinesShow.{rule_shown}
 use Rattle.wh_hopoly.specs.Evaluation.{type_at}
-use Rattle.wh_hopoly.specs.Polynomials.{zero_poly}
+use Rattle.wh_poly.specs.Polynomials.{zero_poly}
 use Rattle.wh_polycheck.specs.Marks.{Mark, marked_types, HasMarkedSides}
 use Rattle.wh_polycheck.specs.Covering.{HaveTypedSides}
 use Rattle.wh_inference.specs.Filters.{Filter}

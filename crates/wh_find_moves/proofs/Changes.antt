@@ -4,8 +4,9 @@ use Rattle.std.specs.List.{All}
 use Rattle.std.proofs.lemmas.List.{get_or-set_same, get_or-set_other, length-set}
 use Rattle.std.proofs.lemmas.Bool.{cases_eq}
 use Rattle.wh_hopoly.specs.Moves.{Transfer, Good, given_by, taken_by}
-use Rattle.wh_hopoly.specs.declared.polynomial.Monomial.{Monomial}
-use Rattle.wh_hopoly.specs.Erase.{sum_of, transfers}
+use Rattle.wh_poly.specs.declared.polynomial.Monomial.{Monomial}
+use Rattle.wh_poly.specs.Erase.{sum_of}
+use Rattle.wh_hopoly.specs.Erase.{transfers}
 use Rattle.wh_find_moves.specs.declared.flow.Flow.{Flow}
 use Rattle.wh_find_moves.specs.Flows.{IsFlow, AreDistinct, units}
 use Rattle.wh_polycheck.proofs.AmountWalk.{if_other, if_same}

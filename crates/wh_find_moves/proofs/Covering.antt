@@ -4,13 +4,14 @@ use Rattle.std.specs.List.{All}
 use Rattle.std.proofs.lemmas.Option.{same_Some}
 use Rattle.std.proofs.lemmas.List.Elements.{All-weaker, All-head, All-tail, All-filter, All-contains, filter_passes, All-cons, All-nil}
 use Rattle.std.proofs.lemmas.Bool.{cases_eq}
-use Rattle.wh_hopoly.specs.Polynomials.{Polynomial, zero_poly, plus, Factors, no_factors, times, Arguments, Sorted, compare_factors}
+use Rattle.wh_poly.specs.Polynomials.{Polynomial, zero_poly, plus, Factors, no_factors, times, Arguments, Sorted, compare_factors}
 use Rattle.wh_hopoly.specs.Moves.{Transfer, Good, MonomialAt, FactorsAtLeast, units_at, given_by, taken_by, IsCover}
-use Rattle.wh_hopoly.specs.declared.polynomial.Monomial.{Monomial, out-Monomial}
-use Rattle.wh_hopoly.specs.declared.polynomial.Poly.{Poly}
-use Rattle.wh_hopoly.specs.Erase.{atoms, sum_of, transfers, poly, monomials}
-use Rattle.wh_hopoly.proofs.Lists.{poly_is}
-use Rattle.wh_hopoly.proofs.SumLaws.{normal_sorted}
+use Rattle.wh_poly.specs.declared.polynomial.Monomial.{Monomial, out-Monomial}
+use Rattle.wh_poly.specs.declared.polynomial.Poly.{Poly}
+use Rattle.wh_poly.specs.Erase.{atoms, sum_of, poly, monomials}
+use Rattle.wh_hopoly.specs.Erase.{transfers}
+use Rattle.wh_poly.proofs.Lists.{poly_is}
+use Rattle.wh_poly.proofs.SumLaws.{normal_sorted}
 use mathlib.Core.Path.{subst₂}
 use Rattle.wh_polycheck.specs.CoverFaults.{IsNormal}
 use Rattle.wh_find_moves.specs.declared.flow.Flow.{Flow}

@@ -4,10 +4,11 @@ use Rattle.std.specs.List.{All, Contains}
 use Rattle.std.proofs.lemmas.List.{length-map, get_or_past}
 use Rattle.std.proofs.lemmas.List.Elements.{All-weaker, All-contains_itself}
 use Rattle.std.proofs.lemmas.Bool.{cases_lt}
-use Rattle.wh_hopoly.specs.Polynomials.{Factors}
+use Rattle.wh_poly.specs.Polynomials.{Factors}
 use Rattle.wh_hopoly.specs.Moves.{Transfer, Good, MonomialAt, given_by, taken_by, IsCover}
-use Rattle.wh_hopoly.specs.declared.polynomial.Monomial.{Monomial, out-Monomial}
-use Rattle.wh_hopoly.specs.Erase.{sum_of, transfers, atoms}
+use Rattle.wh_poly.specs.declared.polynomial.Monomial.{Monomial, out-Monomial}
+use Rattle.wh_poly.specs.Erase.{sum_of, atoms}
+use Rattle.wh_hopoly.specs.Erase.{transfers}
 use Rattle.wh_find_moves.specs.declared.flow.Flow.{Flow}
 use Rattle.wh_find_moves.specs.declared.search.Search.{Search}
 use Rattle.wh_find_moves.specs.Found.{NoneCovers}

@@ -5,9 +5,10 @@ use Rattle.std.proofs.lemmas.List.{get_or-set_same, get_or-set_other, length-set
 use Rattle.std.proofs.lemmas.List.Elements.{All-get_or, All-nil}
 use Rattle.std.proofs.lemmas.Bool.{cases_eq, cases_lt}
 use Rattle.wh_hopoly.specs.Moves.{Good, MonomialAt, given_by, taken_by}
-use Rattle.wh_hopoly.specs.Polynomials.{Factors}
-use Rattle.wh_hopoly.specs.declared.polynomial.Monomial.{Monomial, out-Monomial}
-use Rattle.wh_hopoly.specs.Erase.{sum_of, transfers}
+use Rattle.wh_poly.specs.Polynomials.{Factors}
+use Rattle.wh_poly.specs.declared.polynomial.Monomial.{Monomial, out-Monomial}
+use Rattle.wh_poly.specs.Erase.{sum_of}
+use Rattle.wh_hopoly.specs.Erase.{transfers}
 use Rattle.wh_find_moves.specs.declared.flow.Flow.{Flow}
 use Rattle.wh_find_moves.specs.Flows.{IsFlow, IsSomeFlow, AreDistinct, AreKeptBut, HasGiven, HasTakenBack, IsRerouted, NoneBetween, IsBetween, CanGive, move_at}
 use Rattle.wh_find_moves.proofs.Units.{units_of_one}

@@ -2,12 +2,12 @@
 use Rattle.std.proofs.Common.{◌≡◌, ℕ, ◌+◌, ◌<◌, inl, inr, List, [], ◌∷◌, ◌++◌, refl, sym, subst, arith, Equal}
 use Rattle.std.specs.List.{All}
 use Rattle.std.proofs.lemmas.List.Elements.{All-weaker, All-push, All-nil}
-use Rattle.wh_hopoly.specs.Polynomials.{Polynomial, zero_poly, plus, Factors, no_factors, times, Arguments, no_arguments, argument, compare_factors}
+use Rattle.wh_poly.specs.Polynomials.{Polynomial, zero_poly, plus, Factors, no_factors, times, Arguments, no_arguments, argument, compare_factors}
 use Rattle.wh_hopoly.specs.Covers.{AtLeast}
 use Rattle.wh_hopoly.specs.Moves.{ArgumentsAtLeast, FactorsAtLeast}
-use Rattle.wh_hopoly.specs.declared.polynomial.Monomial.{Monomial}
+use Rattle.wh_poly.specs.declared.polynomial.Monomial.{Monomial}
 use Rattle.wh_hopoly.specs.Erase.{transfers}
-use Rattle.wh_hopoly.proofs.OrderLaws.{factors_equal}
+use Rattle.wh_poly.proofs.OrderLaws.{factors_equal}
 use Rattle.wh_find_moves.specs.declared.flow.Flow.{Flow}
 use Rattle.wh_find_moves.specs.Flows.{IsFlow, NoneBetween}
 

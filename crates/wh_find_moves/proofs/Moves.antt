@@ -4,11 +4,12 @@ use Rattle.std.specs.List.{All}
 use Rattle.std.proofs.lemmas.List.{get_or-set_same, get_or-set_other, length-set, length_push, get_or_append_left, map-append, map-set}
 use Rattle.std.proofs.lemmas.List.Elements.{All-head, All-tail, All-nil, All-push, All-set, All-get_or}
 use Rattle.std.proofs.lemmas.Bool.{cases_eq}
-use Rattle.wh_hopoly.specs.Polynomials.{Polynomial}
+use Rattle.wh_poly.specs.Polynomials.{Polynomial}
 use Rattle.wh_hopoly.specs.Moves.{Transfer, Good}
-use Rattle.wh_hopoly.specs.declared.polynomial.Monomial.{Monomial}
+use Rattle.wh_poly.specs.declared.polynomial.Monomial.{Monomial}
 use Rattle.wh_hopoly.specs.declared.expression.Move.{Move}
-use Rattle.wh_hopoly.specs.Erase.{sum_of, transfer, transfers}
+use Rattle.wh_poly.specs.Erase.{sum_of}
+use Rattle.wh_hopoly.specs.Erase.{transfer, transfers}
 use Rattle.wh_find_moves.specs.Flows.{AreDistinct, AreKeptBut, NoneBetween, CanGive, move_at}
 use Rattle.wh_find_moves.proofs.Units.{units_push, units_set}
 use Rattle.wh_polycheck.proofs.AmountWalk.{if_other, if_same}

@@ -1,7 +1,7 @@
 -- A walk over the left monomials, which marks those that could give to one right monomial, and the walk over the steps of a search.
 use Rattle.std.proofs.Common.{◌≡◌, ℕ, ◌+◌, ◌<◌, ◌≤◌, inl, inr, Some, IsSome, List, length, set, refl, ap, sym, subst, ◌∙◌, arith}
 use Rattle.std.proofs.lemmas.Bool.{cases_eq}
-use Rattle.wh_hopoly.specs.declared.polynomial.Monomial.{Monomial}
+use Rattle.wh_poly.specs.declared.polynomial.Monomial.{Monomial}
 use Rattle.wh_find_moves.specs.declared.flow.Flow.{Flow}
 use Rattle.wh_find_moves.specs.declared.search.Search.{Search}
 use Rattle.wh_find_moves.specs.Flows.{CanGive}

@@ -2,10 +2,11 @@
 use Rattle.std.specs.Prelude.{ℕ, ◌≡◌, ◌≢◌, ◌≤◌, ◌<◌, ◌+◌, ◌-◌, List, [], ◌∷◌, length, map, slice_index, slice_index_or, slice_set, All, nat_lt}
 use Rattle.std.specs.List.{filter}
 use Rattle.wh_types.specs.Limits.{coefficient_end}
-use Rattle.wh_hopoly.specs.Polynomials.{Polynomial}
+use Rattle.wh_poly.specs.Polynomials.{Polynomial}
 use Rattle.wh_hopoly.specs.Moves.{Transfer, Good, IsCover, given_by, taken_by}
-use Rattle.wh_hopoly.specs.declared.polynomial.Monomial.{Monomial, out-Monomial}
-use Rattle.wh_hopoly.specs.Erase.{sum_of, transfers}
+use Rattle.wh_poly.specs.declared.polynomial.Monomial.{Monomial, out-Monomial}
+use Rattle.wh_poly.specs.Erase.{sum_of}
+use Rattle.wh_hopoly.specs.Erase.{transfers}
 use Rattle.wh_find_moves.specs.declared.flow.Flow.{Flow}
 
 -- how many units the monomial i of the list has, or 0 where there is none (ours)

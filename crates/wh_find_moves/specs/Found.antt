@@ -1,6 +1,6 @@
 -- Lists of moves that cover one polynomial by another, and that there are none.
 use Rattle.std.specs.Prelude.{ℕ, ◌≡◌, ◌≤◌, ◌^◌, List, length, Some, All, slice_get}
-use Rattle.wh_hopoly.specs.Polynomials.{Polynomial}
+use Rattle.wh_poly.specs.Polynomials.{Polynomial}
 use Rattle.wh_hopoly.specs.Moves.{Transfer, IsCover, IsStrictCover}
 
 -- no moves show that the left polynomial is at least the right one

@@ -1,7 +1,7 @@
 -- The search for a path along which a flow can grow.
 use Rattle.std.specs.Prelude.{ℕ, suc, ◌≡◌, ◌<◌, ◌≤◌, ◌+◌, Bool, true, false, IsTrue, Option, None, Some, IsSome, MatchOption, ◌⊎◌, ◌++◌, slice_set, List, [], ◌∷◌, length, map, slice_index, slice_index_or, All}
 use Rattle.wh_hopoly.specs.Moves.{Transfer}
-use Rattle.wh_hopoly.specs.declared.polynomial.Monomial.{Monomial}
+use Rattle.wh_poly.specs.declared.polynomial.Monomial.{Monomial}
 use Rattle.wh_hopoly.specs.Erase.{transfers}
 use Rattle.wh_find_moves.specs.declared.flow.Flow.{Flow}
 use Rattle.wh_find_moves.specs.declared.search.Link.{Link}

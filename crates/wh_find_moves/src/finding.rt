@@ -2,14 +2,16 @@
 
 ghost use Rattle.std.specs.Prelude.{◌≡◌, ◌≤◌, ◌↔◌, IfOk, MatchOption, length};
 ghost use Rattle.wh_types.specs.Limits.{greatest_weight};
-ghost use Rattle.wh_hopoly.specs.Erase.{monomials, poly, transfers};
+ghost use Rattle.wh_poly.specs.Erase.{monomials, poly};
+ghost use Rattle.wh_hopoly.specs.Erase.{transfers};
 ghost use Rattle.wh_polycheck.specs.CoverFaults.{IsNormal};
 ghost use Rattle.wh_find_moves.specs.Found.{AreCovering, NoneCovers};
 ghost use Rattle.wh_find_moves.specs.Flows.{IsFlow, IsSomeCover, positives};
 
 use crate::flow::Flow;
 use std::alloc::{AllocError, Global};
-use wh_hopoly::{Monomial, Move, Moves, Poly};
+use wh_hopoly::{Move, Moves};
+use wh_poly::{Monomial, Poly};
 
 /// Moves that show that the left polynomial is at least the right one, and greater where any moves show that. `None` comes
 /// exactly where no moves do.

@@ -4,12 +4,13 @@
 
 ghost use Rattle.std.specs.Prelude.{All, ◌≡◌, ◌≤◌, ◌<◌, ◌+◌, ◌-◌, ◌^◌, ◌++◌, ◌∷◌, [], IfOk, OnOk, MatchOption, length, map, slice_index, slice_set};
 ghost use Rattle.wh_types.specs.Limits.{coefficient_end};
-ghost use Rattle.wh_hopoly.specs.declared.polynomial.Monomial.{out-Monomial};
+ghost use Rattle.wh_poly.specs.declared.polynomial.Monomial.{out-Monomial};
 ghost use Rattle.wh_hopoly.specs.Erase.{transfers};
 ghost use Rattle.wh_find_moves.specs.Flows.{HasGiven, HasTakenBack, IsBetween, IsFlow, IsRerouted, IsSomeFlow, NoneBetween, move_at};
 
 use std::alloc::{AllocError, Global};
-use wh_hopoly::{Monomial, Move};
+use wh_hopoly::Move;
+use wh_poly::Monomial;
 
 /// Moves, and what they leave of both sides.
 #[derive(Drop)]

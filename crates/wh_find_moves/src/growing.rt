@@ -3,7 +3,7 @@
 ghost use Rattle.std.specs.Prelude.{◌≡◌, ◌≤◌, ◌<◌, [], IfOk, OnOk, length, slice_index};
 ghost use Rattle.std.specs.Bool.{MatchBool};
 ghost use Rattle.wh_types.specs.Limits.{greatest_weight};
-ghost use Rattle.wh_hopoly.specs.Erase.{sum_of};
+ghost use Rattle.wh_poly.specs.Erase.{sum_of};
 ghost use Rattle.wh_polycheck.specs.CoverFaults.{IsNormal};
 ghost use Rattle.wh_find_moves.specs.Found.{NoneCovers};
 ghost use Rattle.wh_find_moves.specs.Flows.{IsFlow, WantsAlike};
@@ -12,7 +12,7 @@ use crate::flow::Flow;
 use crate::search::find_path;
 use std::alloc::{AllocError, Global};
 use std::cmp::Ordering;
-use wh_hopoly::{Monomial, order_factors};
+use wh_poly::{Monomial, order_factors};
 
 impl Flow {
     /// Units go between monomials with equal factors, as many as there are on both sides. Both sides are in order, so one walk over

@@ -3,8 +3,9 @@
 //! with right monomials whose possible givers have nothing free and give to these alone; then no moves cover them.
 
 ghost use Rattle.std.specs.Prelude.{◌≡◌, ◌<◌, ◌↔◌, List, IsTrue, IfOk, OnOk, MatchOption, length, slice_index};
-ghost use Rattle.wh_hopoly.specs.declared.polynomial.Monomial.{Monomial};
-ghost use Rattle.wh_hopoly.specs.Erase.{sum_of, transfer};
+ghost use Rattle.wh_poly.specs.declared.polynomial.Monomial.{Monomial};
+ghost use Rattle.wh_poly.specs.Erase.{sum_of};
+ghost use Rattle.wh_hopoly.specs.Erase.{transfer};
 ghost use Rattle.wh_polycheck.specs.CoverFaults.{IsNormal};
 ghost use Rattle.wh_find_moves.specs.declared.flow.Flow.{Flow};
 ghost use Rattle.wh_find_moves.specs.Found.{NoneCovers};
@@ -13,7 +14,8 @@ ghost use Rattle.wh_find_moves.specs.Paths.{AllMarked, GivesTo, HasMarked, HasRe
 
 use crate::flow::Flow;
 use std::alloc::{AllocError, Global};
-use wh_hopoly::{Monomial, Move};
+use wh_hopoly::Move;
+use wh_poly::Monomial;
 use wh_polycheck::are_factors_at_least;
 
 /// How a step of the search got to its right monomial: by a move to it, from a left monomial that could also give to the right

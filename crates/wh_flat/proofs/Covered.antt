@@ -2,12 +2,12 @@
 use Rattle.std.proofs.Common.{◌≡◌, ℕ, zero, suc, ◌+◌, ◌*◌, ◌<◌, ◌≤◌, ◌==◌, if◌then◌else◌, nat_cmp, Bool, true, false, List, [], ◌∷◌, Contains, refl, ap, ap₂, ◌∙◌, sym, subst, arith, Ordering, Less, Equal, Greater}
 use Rattle.std.specs.Ordering.{ordering_then}
 use Rattle.wh_types.specs.Ty.{Ty, sort, ◌⇒◌}
-use Rattle.wh_hopoly.specs.Polynomials.{Polynomial, zero_poly, plus, Factors, no_factors, times, Arguments, no_arguments, argument, compare_factors, Normal, NormalArguments, Sorted, MonomialBefore}
+use Rattle.wh_poly.specs.Polynomials.{Polynomial, zero_poly, plus, Factors, no_factors, times, Arguments, no_arguments, argument, compare_factors, Normal, NormalArguments, Sorted, MonomialBefore}
 use Rattle.wh_hopoly.specs.Evaluation.{type_at}
 use Rattle.wh_hopoly.specs.Moves.{Transfer, FactorsAtLeast, MonomialAt, given_by, taken_by, IsCover, IsStrictCover}
-use Rattle.wh_hopoly.specs.Rearranged.{only_if_equal, coefficient}
-use Rattle.wh_hopoly.proofs.OrderLaws.{factors_same}
-use Rattle.wh_hopoly.proofs.SumLaws.{normal_sorted}
+use Rattle.wh_poly.specs.Rearranged.{only_if_equal, coefficient}
+use Rattle.wh_poly.proofs.OrderLaws.{factors_same}
+use Rattle.wh_poly.proofs.SumLaws.{normal_sorted}
 use Rattle.wh_hopoly.proofs.ReplaceLaws.{type_is}
 use Rattle.wh_meaning.specs.Functionals.{nothing as none_of}
 use Rattle.wh_meaning.specs.Valuations.{Valuation, MonoValuation}

@@ -18,7 +18,7 @@ use Rattle.wh_pairs.specs.Sets.{InSet}
 use Rattle.wh_pairs.specs.Marked.{AreMarked, HeadsASide}
 use Rattle.wh_reduction.specs.TaskData.{TaskData}
 use Rattle.wh_pairs.proofs.ByPlace.{contains_at, place_of as placed, unmap}
-use Rattle.wh_hopoly.specs.Polynomials.{Polynomial}
+use Rattle.wh_poly.specs.Polynomials.{Polynomial}
 use Rattle.wh_hopoly.specs.Evaluation.{Run, Interpretation, type_at, NormalInterpretations, TypedExpression, evaluate, type_of, symbol}
 use Rattle.wh_hopoly.proofs.ValueLaws.{interpretation_is}
 use Rattle.wh_hopoly.proofs.ReplaceLaws.{type_is}

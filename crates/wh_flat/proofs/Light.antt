@@ -1,7 +1,7 @@
 -- Linear polynomials that are within the limits.
 use Rattle.std.proofs.Common.{◌≡◌, ℕ, ◌<◌, ◌≤◌, ◌^◌, inl, inr, refl, arith}
-use Rattle.wh_hopoly.specs.Polynomials.{Polynomial, zero_poly, plus, no_factors, times, no_arguments, argument}
-use Rattle.wh_hopoly.specs.Limits.{weight, nesting, Overflows, Exceeds}
+use Rattle.wh_poly.specs.Polynomials.{Polynomial, zero_poly, plus, no_factors, times, no_arguments, argument}
+use Rattle.wh_poly.specs.Limits.{weight, nesting, Overflows, Exceeds}
 use Rattle.wh_flat.proofs.Totals.{IsLinear, total, spread}
 
 abbrev pub each_one : ℕ → ℕ

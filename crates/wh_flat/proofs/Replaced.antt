@@ -1,8 +1,8 @@
 -- A variable of a linear polynomial that is replaced by a linear polynomial.
 use Rattle.std.proofs.Common.{◌≡◌, ℕ, suc, ◌+◌, ◌*◌, ◌-◌, ◌<◌, ◌≤◌, ◌^◌, ◌==◌, nat_lt, if◌then◌else◌, Bool, true, false, List, [], ◌∷◌, length, refl, ap, ◌∙◌, sym, subst, arith}
 use Rattle.wh_types.specs.Ty.{Ty}
-use Rattle.wh_hopoly.specs.Polynomials.{Polynomial, zero_poly, plus, Factors, no_factors, times, Arguments, no_arguments, argument}
-use Rattle.wh_hopoly.specs.Arithmetic.{sum_poly, multiply, constant, atom}
+use Rattle.wh_poly.specs.Polynomials.{Polynomial, zero_poly, plus, Factors, no_factors, times, Arguments, no_arguments, argument}
+use Rattle.wh_poly.specs.Arithmetic.{sum_poly, multiply, constant, atom}
 use Rattle.wh_hopoly.specs.Evaluation.{Run, one, next, without, down, replace, replace_factors, widened}
 use Rattle.wh_hopoly.proofs.RunLaws.{Within, within_one, within_both}
 use Rattle.wh_flat.proofs.Totals.{IsUnit, IsLinear, weighed, total, spread, total_sum, total_multiply, total_renumber, total_alike, spread_sum, spread_multiply, spread_renumber, spread_alike, linear_sum, linear_multiply, linear_renumber}

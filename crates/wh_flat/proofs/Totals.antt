@@ -1,8 +1,8 @@
 -- Linear polynomials, and what they come to where the constant and the variables have weights.
 use Rattle.std.proofs.Common.{◌≡◌, ℕ, ◌+◌, ◌*◌, ◌<◌, ◌≤◌, refl, ap, ap₂, ◌∙◌, sym, subst, arith, Ordering, Less, Equal, Greater}
-use Rattle.wh_hopoly.specs.Polynomials.{Polynomial, zero_poly, plus, Factors, no_factors, times, no_arguments, argument, compare_factors}
-use Rattle.wh_hopoly.specs.Arithmetic.{by_order, add_monomial, sum_poly, scale, multiply, constant, renumber}
-use Rattle.wh_hopoly.proofs.OrderLaws.{factors_equal}
+use Rattle.wh_poly.specs.Polynomials.{Polynomial, zero_poly, plus, Factors, no_factors, times, no_arguments, argument, compare_factors}
+use Rattle.wh_poly.specs.Arithmetic.{by_order, add_monomial, sum_poly, scale, multiply, constant, renumber}
+use Rattle.wh_poly.proofs.OrderLaws.{factors_equal}
 
 -- a constant, or a variable without arguments whose number is below n
 abbrev pub IsUnit : ℕ → Factors → Type 0

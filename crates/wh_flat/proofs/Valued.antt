@@ -5,8 +5,9 @@ use Rattle.std.proofs.Math.Nat.{pow-le-pow_right}
 use Rattle.std.proofs.lemmas.Nat.{pow-add}
 use Rattle.wh_types.specs.Ty.{Ty, sort, ◌⇒◌, arguments}
 use Rattle.wh_terms.specs.Tree.{Tm, bound, free, fun, meta, lam, app, none, more}
-use Rattle.wh_hopoly.specs.Polynomials.{Polynomial, zero_poly}
-use Rattle.wh_hopoly.specs.Evaluation.{Run, type_at, Interpretation, interpretation_at, type_of, codomain, evaluate, variable, apply_one, down, TypedExpression}
+use Rattle.wh_poly.specs.Polynomials.{Polynomial, zero_poly}
+use Rattle.wh_hopoly.specs.Evaluation.{Run, type_at, Interpretation, interpretation_at, type_of, codomain, evaluate, apply_one, down, TypedExpression}
+use Rattle.wh_poly.specs.Added.{variable}
 use Rattle.wh_hopoly.proofs.RunLaws.{Within, within_one, within_both}
 use Rattle.wh_polycheck.specs.Sides.{side}
 use Rattle.wh_first_order.specs.FirstOrder.{AreSorts}

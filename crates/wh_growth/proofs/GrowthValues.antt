@@ -5,7 +5,7 @@ use mathlib.Core.Path.{fun_ext, path_j, subst₂, subst_refl}
 use Rattle.wh_types.specs.Ty.{Ty, Ty-discrete, sort, ◌⇒◌, arguments}
 use Rattle.wh_terms.specs.Tree.{Tm, Tms}
 use Rattle.wh_terms.specs.Typing.{Symbols, Declared, Typed, typed_bound, typed_free, typed_fun, typed_meta, typed_lam, typed_app, AllTyped, typed_none, typed_more}
-use Rattle.wh_hopoly.specs.Polynomials.{Polynomial}
+use Rattle.wh_poly.specs.Polynomials.{Polynomial}
 use Rattle.wh_meaning.specs.Functionals.{Sem, Mono, Le}
 use Rattle.wh_meaning.specs.Valuations.{Valuation, at_type, put, MonoValuation, LeValuation, fun_of}
 use Rattle.wh_meaning.specs.Meaning.{den, reading}

@@ -3,7 +3,7 @@ use Rattle.std.proofs.Common.{◌≡◌, ℕ, zero, suc, ◌+◌, ◌*◌, ◌<�
 use native.Mathlib.Decide.{ℕ_discrete}
 use mathlib.Core.Path.{path_j, subst_refl, fun_ext}
 use Rattle.wh_types.specs.Ty.{Ty, Ty-discrete, sort, ◌⇒◌, arguments}
-use Rattle.wh_hopoly.specs.Polynomials.{Polynomial, zero_poly, plus, Factors, no_factors, times, Arguments, no_arguments, argument, Normal, NormalFactors, NormalArguments}
+use Rattle.wh_poly.specs.Polynomials.{Polynomial, zero_poly, plus, Factors, no_factors, times, Arguments, no_arguments, argument, Normal, NormalFactors, NormalArguments}
 use Rattle.wh_hopoly.specs.Evaluation.{type_at}
 use Rattle.wh_hopoly.specs.Moves.{Transfer, IsCover, IsStrictCover}
 use Rattle.wh_hopoly.proofs.ReplaceLaws.{type_is}

@@ -1,6 +1,6 @@
 -- When weights of variables show that no moves cover a polynomial.
 use Rattle.std.specs.Prelude.{ℕ, ◌<◌, ◌≤◌, List, length, Bool, true, false}
-use Rattle.wh_hopoly.specs.Polynomials.{Polynomial}
+use Rattle.wh_poly.specs.Polynomials.{Polynomial}
 use Rattle.wh_growth.specs.declared.weights.Weight.{Weight}
 use Rattle.wh_growth.specs.Weights.{number}
 

@@ -2,13 +2,13 @@
 
 ghost use Rattle.std.specs.Bool.{OnTrue};
 ghost use Rattle.std.specs.Prelude.{◌≡◌, IfOk, length};
-ghost use Rattle.wh_hopoly.specs.Erase.{poly};
+ghost use Rattle.wh_poly.specs.Erase.{poly};
 ghost use Rattle.wh_growth.specs.Refuted.{IsRefuted, IsTooSmall};
 ghost use Rattle.wh_growth.specs.Weights.{number};
 
 use crate::weights::{Weight, number_of};
 use std::alloc::{AllocError, Global};
-use wh_hopoly::{Atoms, Poly};
+use wh_poly::{Atoms, Poly};
 
 // A number that is great beside those of most polynomials; a product of six of them fits 128 bits.
 const GREAT: u64 = 1_000_000;

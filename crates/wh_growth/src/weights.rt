@@ -1,10 +1,10 @@
 //! What a polynomial is worth where two numbers tell what each variable is.
 
 ghost use Rattle.std.specs.Prelude.{◌≡◌, ◌+◌, ◌*◌};
-ghost use Rattle.wh_hopoly.specs.Erase.{poly, atoms, polys};
+ghost use Rattle.wh_poly.specs.Erase.{poly, atoms, polys};
 ghost use Rattle.wh_growth.specs.Weights.{constant_at, factor_at, number, product, saturated, sum};
 
-use wh_hopoly::{Atoms, Poly, Polys};
+use wh_poly::{Atoms, Poly, Polys};
 
 /// A variable's value: the constant, and so many times the sum of its arguments, each taken where its own arguments are 0.
 #[derive(Clone, Copy)]

@@ -11,9 +11,9 @@ use Rattle.wh_system.specs.Needs.{need_of}
 use Rattle.wh_system.specs.Systems.{SystemData}
 use Rattle.wh_system.specs.WellMade.{ArgumentsWithin, IsTypeOver}
 use Rattle.wh_pairs.proofs.ByPlace.{contains_at, place_of, unmap, remap}
-use Rattle.wh_hopoly.specs.Polynomials.{Polynomial, zero_poly, plus, Factors, no_factors, Normal}
+use Rattle.wh_poly.specs.Polynomials.{Polynomial, zero_poly, plus, Factors, no_factors, Normal}
 use Rattle.wh_hopoly.specs.Evaluation.{Run, Interpretation, type_at}
-use Rattle.wh_hopoly.specs.Limits.{Overflows, Exceeds, weight}
+use Rattle.wh_poly.specs.Limits.{Overflows, Exceeds, weight}
 use Rattle.wh_hopoly.specs.Moves.{Transfer, MonomialAt, given_by}
 use Rattle.wh_hopoly.specs.Erase.{transfer, transfers}
 use Rattle.wh_hopoly.specs.declared.expression.Move.{Move}

@@ -14,14 +14,15 @@ use Rattle.wh_pairs.specs.PairData.{PairData, IsIncreasing}
 use Rattle.wh_pairs.proofs.Increasing.{one_place, increasing_at}
 use Rattle.wh_pairs.proofs.PairLemmas.{increasing_push}
 use Rattle.wh_pairs.proofs.ByPlace.{some_one, contains_at}
-use Rattle.wh_hopoly.specs.Polynomials.{Polynomial}
+use Rattle.wh_poly.specs.Polynomials.{Polynomial}
 use Rattle.wh_hopoly.specs.Evaluation.{Run}
 use Rattle.wh_hopoly.specs.Moves.{Transfer, IsCover, IsStrictCover}
-use Rattle.wh_hopoly.specs.Erase.{poly, monomials, sum_of, transfer, transfers}
-use Rattle.wh_hopoly.specs.Limits.{weight}
-use Rattle.wh_hopoly.specs.declared.polynomial.Poly.{Poly}
-use Rattle.wh_hopoly.specs.declared.polynomial.Monomial.{Monomial}
-use Rattle.wh_hopoly.proofs.Lists.{poly_is}
+use Rattle.wh_poly.specs.Erase.{poly, monomials, sum_of}
+use Rattle.wh_hopoly.specs.Erase.{transfer, transfers}
+use Rattle.wh_poly.specs.Limits.{weight}
+use Rattle.wh_poly.specs.declared.polynomial.Poly.{Poly}
+use Rattle.wh_poly.specs.declared.polynomial.Monomial.{Monomial}
+use Rattle.wh_poly.proofs.Lists.{poly_is}
 use Rattle.wh_hopoly.specs.declared.expression.Move.{Move}
 use Rattle.wh_reduction.specs.TaskData.{TaskData}
 use Rattle.wh_polycheck.specs.Readings.{ReadingsData}

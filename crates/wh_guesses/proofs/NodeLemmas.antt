@@ -16,7 +16,7 @@ use Rattle.wh_reduction.specs.TaskData.{TaskData, IsTask, CoversAll, task_over}
 use Rattle.wh_reduction.specs.TaskView.{task_data}
 use Rattle.wh_reduction.specs.ReductionPair.{Evidence, IsRightRule, IsRightPair}
 use Rattle.wh_reduction.specs.declared.task.Task.{Task}
-use Rattle.wh_hopoly.specs.Polynomials.{Polynomial}
+use Rattle.wh_poly.specs.Polynomials.{Polynomial}
 use Rattle.wh_hopoly.specs.Evaluation.{Run}
 use Rattle.wh_hopoly.specs.Erase.{transfers}
 use Rattle.wh_hopoly.specs.Moves.{Transfer}

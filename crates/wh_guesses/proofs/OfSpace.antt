@@ -9,9 +9,9 @@ use Rattle.wh_terms.specs.Rules.{RewriteRule}
 use Rattle.wh_reduction.specs.TaskData.{TaskData}
 use Rattle.wh_polycheck.specs.Readings.{ReadingsData}
 use Rattle.wh_pairs.proofs.ByPlace.{contains_at, remap}
-use Rattle.wh_hopoly.specs.Polynomials.{Polynomial, Factors}
+use Rattle.wh_poly.specs.Polynomials.{Polynomial, Factors}
 use Rattle.wh_hopoly.specs.Evaluation.{Interpretation}
-use Rattle.wh_hopoly.specs.Rearranged.{coefficient}
+use Rattle.wh_poly.specs.Rearranged.{coefficient}
 use Rattle.wh_polycheck.specs.Marks.{Mark, marked_types}
 use Rattle.wh_polycheck.proofs.MoreInterpretations.{slice_get_front, slice_get_behind}
 use Rattle.wh_space.specs.Space.{HasMonomial, IsOfSpace, space_of}

@@ -4,13 +4,13 @@ use Rattle.std.specs.Ordering.{ordering_reverse}
 use Rattle.std.proofs.lemmas.Option.{slice_get_within}
 use Rattle.wh_types.specs.Ty.{Ty}
 use Rattle.wh_pairs.proofs.ByPlace.{place_of}
-use Rattle.wh_hopoly.specs.Polynomials.{Polynomial, zero_poly, plus, Factors, compare_factors, MonomialBefore, Sorted, Normal}
-use Rattle.wh_hopoly.specs.Arithmetic.{by_order}
+use Rattle.wh_poly.specs.Polynomials.{Polynomial, zero_poly, plus, Factors, compare_factors, MonomialBefore, Sorted, Normal}
+use Rattle.wh_poly.specs.Arithmetic.{by_order}
 use Rattle.wh_hopoly.specs.Moves.{MonomialAt}
-use Rattle.wh_hopoly.proofs.OrderLaws.{factors_equal, factors_same, factors_reverse}
-use Rattle.wh_hopoly.proofs.SumLaws.{before_then, normal_sorted}
-use Rattle.wh_hopoly.proofs.CoefficientLaws.{same_coefficients}
-use Rattle.wh_hopoly.specs.Rearranged.{coefficient, Positive}
+use Rattle.wh_poly.proofs.OrderLaws.{factors_equal, factors_same, factors_reverse}
+use Rattle.wh_poly.proofs.SumLaws.{before_then, normal_sorted}
+use Rattle.wh_poly.proofs.CoefficientLaws.{same_coefficients}
+use Rattle.wh_poly.specs.Rearranged.{coefficient, Positive}
 use Rattle.wh_space.specs.Space.{HasMonomial, space_of}
 use Rattle.wh_space.specs.Coefficients.{capped, HasCoefficients}
 

@@ -15,7 +15,7 @@ use Rattle.wh_pairs.proofs.ByPlace.{contains_at}
 use Rattle.wh_pairs.proofs.Increasing.{one_place}
 use Rattle.wh_reduction.specs.TaskData.{TaskData}
 use Rattle.wh_reduction.specs.TaskView.{task_data}
-use Rattle.wh_hopoly.specs.Polynomials.{zero_poly}
+use Rattle.wh_poly.specs.Polynomials.{zero_poly}
 use Rattle.wh_polycheck.specs.Marks.{Mark}
 use Rattle.wh_polycheck.specs.Covering.{HaveTypedSides, IsTypedTask}
 use Rattle.wh_guesses.specs.Conditions.{Condition, IsCondition, of_rule, of_pair, of_set, HasSymbol, SomeHasSymbol, StandsInPair}

@@ -6,7 +6,7 @@ use Rattle.wh_pairs.specs.PairData.{PairData}
 use Rattle.wh_pairs.specs.Sets.{InSet}
 use Rattle.wh_pairs.specs.Marked.{HeadsASide}
 use Rattle.wh_reduction.specs.TaskData.{TaskData}
-use Rattle.wh_hopoly.specs.Polynomials.{Polynomial}
+use Rattle.wh_poly.specs.Polynomials.{Polynomial}
 use Rattle.wh_hopoly.specs.Evaluation.{Run}
 use Rattle.wh_hopoly.specs.Moves.{Transfer}
 use Rattle.wh_polycheck.specs.Readings.{ReadingsData}

@@ -6,7 +6,7 @@ use Rattle.wh_system.specs.declared.system.System.{System}
 use Rattle.wh_pairs.specs.PairData.{PairData, IsIncreasing, pair_data}
 use Rattle.wh_pairs.specs.declared.pair.Pair.{Pair}
 use Rattle.wh_reduction.specs.TaskData.{TaskData}
-use Rattle.wh_hopoly.specs.Polynomials.{Polynomial}
+use Rattle.wh_poly.specs.Polynomials.{Polynomial}
 use Rattle.wh_hopoly.specs.Evaluation.{Run}
 use Rattle.wh_hopoly.specs.Erase.{transfers}
 use Rattle.wh_hopoly.specs.Moves.{Transfer, IsStrictCover}

@@ -4,7 +4,7 @@ use Rattle.wh_types.specs.Ty.{arguments}
 use Rattle.wh_types.specs.Erase.{ty}
 use Rattle.wh_terms.specs.Typing.{Symbols}
 use Rattle.wh_terms.specs.Rules.{RewriteRule}
-use Rattle.wh_hopoly.specs.Erase.{poly}
+use Rattle.wh_poly.specs.Erase.{poly}
 use Rattle.wh_hopoly.specs.declared.expression.Symbol.{Symbol}
 use Rattle.wh_polycheck.specs.Marks.{marked_types}
 use Rattle.wh_polycheck.specs.declared.marks.MarkedSymbol.{MarkedSymbol}

@@ -4,7 +4,7 @@ ghost use Rattle.std.specs.Prelude.{◌≡◌, ◌<◌, IfOk, MatchOption, Some,
 ghost use Rattle.wh_terms.specs.Rules.{RewriteRule};
 ghost use Rattle.wh_pairs.specs.PairData.{pair_data};
 ghost use Rattle.wh_system.specs.SystemView.{system_data};
-ghost use Rattle.wh_hopoly.specs.Erase.{poly};
+ghost use Rattle.wh_poly.specs.Erase.{poly};
 ghost use Rattle.wh_polycheck.specs.Covering.{rule_run};
 ghost use Rattle.wh_polycheck.specs.Marks.{HasMarkedSides};
 ghost use Rattle.wh_polycheck.specs.Readings.{AreProper};
@@ -13,8 +13,9 @@ ghost use Rattle.wh_covering.specs.Lines.{IsSide};
 ghost use Rattle.wh_guesses.specs.Lines.{HasNoSide, run_of_pair};
 
 use std::alloc::{AllocError, Global};
-use wh_hopoly::{Poly, PolyFault};
+use wh_hopoly::PolyFault;
 use wh_pairs::Pair;
+use wh_poly::Poly;
 use wh_polycheck::{Readings, side_of_pair, side_of_rule};
 use wh_system::System;
 use wh_types::Or;

@@ -1,9 +1,9 @@
 -- At least another, monomial by monomial.
 use Rattle.std.proofs.Common.{◌≡◌, ◌↔◌, ℕ, ◌≤◌, ◌<◌, inl, inr, sym, subst, arith, Less, Equal, Greater}
-use Rattle.wh_hopoly.specs.Polynomials.{Polynomial, zero_poly, plus, Factors, compare_factors, MonomialBefore, Sorted}
+use Rattle.wh_poly.specs.Polynomials.{Polynomial, zero_poly, plus, Factors, compare_factors, MonomialBefore, Sorted}
 use Rattle.wh_hopoly.specs.Covers.{Has, AtLeast}
-use Rattle.wh_hopoly.proofs.OrderLaws.{factors_equal, factors_same}
-use Rattle.wh_hopoly.proofs.SumLaws.{before_then}
+use Rattle.wh_poly.proofs.OrderLaws.{factors_equal, factors_same}
+use Rattle.wh_poly.proofs.SumLaws.{before_then}
 
 -- what a sorted polynomial has stands after what is before it
 pub before_has : (us : Factors) (p : Polynomial) (d : ℕ) (vs : Factors) → MonomialBefore us p → Sorted p → Has p d vs → compare_factors us vs ≡ Less

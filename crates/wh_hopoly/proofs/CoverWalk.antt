@@ -1,14 +1,14 @@
 -- A walk over two sorted polynomials, which asks whether the first is at least the second.
 use Rattle.std.proofs.Common.{IsTrue, Bool, true, false, ◌==◌, ◌≡◌, ◌↔◌, ℕ, zero, suc, ◌+◌, ◌≤◌, ◌<◌, List, [], ◌∷◌, refl, ap, sym, subst, ◌∙◌, arith, length, drop, get_or, Less, Equal, Greater}
-use Rattle.wh_hopoly.specs.Polynomials.{Polynomial, zero_poly, plus, Sorted, compare_factors}
+use Rattle.wh_poly.specs.Polynomials.{Polynomial, zero_poly, plus, Sorted, compare_factors}
 use Rattle.wh_hopoly.specs.Covers.{AtLeast}
-use Rattle.wh_hopoly.specs.declared.polynomial.Monomial.{Monomial, out-Monomial}
+use Rattle.wh_poly.specs.declared.polynomial.Monomial.{Monomial, out-Monomial}
 use mathlib.Core.Path.{subst₂}
-use Rattle.wh_hopoly.specs.declared.polynomial.Poly.{Poly}
-use Rattle.wh_hopoly.specs.Erase.{poly, atoms, monomials, sum_of}
-use Rattle.wh_hopoly.proofs.Lists.{poly_is}
+use Rattle.wh_poly.specs.declared.polynomial.Poly.{Poly}
+use Rattle.wh_poly.specs.Erase.{poly, atoms, monomials, sum_of}
+use Rattle.wh_poly.proofs.Lists.{poly_is}
 use Rattle.wh_hopoly.proofs.CoverLaws.{at_least_less, at_least_equal, not_at_least_equal, not_at_least_greater}
-use Rattle.wh_hopoly.proofs.Walks.{sum_drop, sum_ended}
+use Rattle.wh_poly.proofs.Walks.{sum_drop, sum_ended}
 
 -- what is left of both lists decides
 pub record Left (xs ys : List Monomial) (i j : ℕ) : Type 0 where

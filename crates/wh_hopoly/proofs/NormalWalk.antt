@@ -1,17 +1,16 @@
 -- A walk over the items of a polynomial, of its factors or of its arguments, which asks whether it is normal.
-use Rattle.std.proofs.Math.Seq.{take-length}
-use Rattle.std.proofs.Common.{◌++◌, ◌-◌, take, length-drop, ◌≡◌, ◌↔◌, ℕ, zero, suc, ◌+◌, ◌≤◌, ◌<◌, List, [], ◌∷◌, ap, sym, subst, ◌∙◌, arith, length, drop, get_or}
+use Rattle.std.proofs.Common.{◌++◌, ◌≡◌, ◌↔◌, ℕ, zero, suc, ◌+◌, ◌≤◌, ◌<◌, List, [], ◌∷◌, ap, sym, subst, ◌∙◌, arith, length, drop, get_or}
 use Rattle.wh_types.specs.Ty.{Ty, sort, ◌⇒◌, arguments}
-use Rattle.wh_hopoly.specs.Polynomials.{Polynomial, plus, times, Arguments, no_arguments, argument, HasType, Normal, NormalFactors, NormalArguments, HasNormalArguments}
-use Rattle.wh_hopoly.specs.declared.polynomial.Poly.{Poly}
-use Rattle.wh_hopoly.specs.declared.polynomial.Monomial.{Monomial, out-Monomial}
-use Rattle.wh_hopoly.specs.declared.polynomial.Atoms.{Atoms}
-use Rattle.wh_hopoly.specs.declared.polynomial.Atom.{Atom, out-Atom}
-use Rattle.wh_hopoly.specs.declared.polynomial.Polys.{Polys}
-use Rattle.wh_hopoly.specs.Erase.{poly, atoms, polys, monomials, factors, list, sum_of, product_of, arguments_of}
-use Rattle.wh_hopoly.proofs.Lists.{poly_is, atoms_is, polys_is}
+use Rattle.wh_poly.specs.Polynomials.{Polynomial, plus, times, Arguments, no_arguments, argument, HasType, Normal, NormalFactors, NormalArguments, HasNormalArguments}
+use Rattle.wh_poly.specs.declared.polynomial.Poly.{Poly}
+use Rattle.wh_poly.specs.declared.polynomial.Monomial.{Monomial, out-Monomial}
+use Rattle.wh_poly.specs.declared.polynomial.Atoms.{Atoms}
+use Rattle.wh_poly.specs.declared.polynomial.Atom.{Atom, out-Atom}
+use Rattle.wh_poly.specs.declared.polynomial.Polys.{Polys}
+use Rattle.wh_poly.specs.Erase.{poly, atoms, polys, monomials, factors, list, sum_of, product_of, arguments_of}
+use Rattle.wh_poly.proofs.Lists.{poly_is, atoms_is, polys_is}
 use Rattle.wh_hopoly.proofs.ReplaceLaws.{type_is}
-use Rattle.wh_hopoly.proofs.Walks.{sum_drop, product_drop, arguments_drop, sum_ended, product_ended, arguments_ended}
+use Rattle.wh_poly.proofs.Walks.{sum_drop, product_drop, arguments_drop, sum_ended, product_ended, arguments_ended}
 
 -- the whole is normal if what is left is, and what is left has the item at i before it
 pub monomial_left : (Γ : List Ty) (p : Poly) (xs : List Monomial) (i : ℕ) (m : Monomial) → xs ≡ monomials p → Normal Γ (sum_of xs) ↔ Normal Γ (sum_of (drop i xs))
@@ -65,7 +64,3 @@ arrow_has_some Γ K A B e n = subst (λ K. NormalArguments Γ K no_arguments) e 
 
 pub sort_needs_none : (Γ : List Ty) (K : Ty) (s : ℕ) → K ≡ sort s → NormalArguments Γ K no_arguments
 sort_needs_none Γ K s e = subst (λ K. NormalArguments Γ K no_arguments) (sym e) tt
-
--- the items from k on, as a part of the list
-pub all_behind : {A : Type 0} (xs : List A) (k : ℕ) → drop k xs ≡ take (length xs - k) (drop k xs)
-all_behind xs k = sym (ap (λ n. take n (drop k xs)) (sym (length-drop k xs)) ∙ take-length (drop k xs))

@@ -2,7 +2,7 @@
 use Rattle.std.proofs.Common.{◌≡◌, ℕ, zero, suc, ◌+◌, ◌-◌, ◌<◌, ◌⊎◌, inl, inr, List, [], ◌∷◌, ◌++◌, subst, arith}
 use Rattle.std.specs.Prelude.{Contains}
 use Rattle.wh_types.specs.Ty.{Ty}
-use Rattle.wh_hopoly.specs.Polynomials.{Polynomial}
+use Rattle.wh_poly.specs.Polynomials.{Polynomial}
 use Rattle.wh_hopoly.specs.Evaluation.{Expression, var, symbol, lambda, apply, Interpretation, evaluate}
 use Rattle.wh_hopoly.specs.NumberedParts.{parts, ValueOfPart}
 

@@ -1,14 +1,14 @@
 -- Renumbering item by item, and by functions that agree.
 use Rattle.std.proofs.Common.{◌≡◌, ℕ, ◌+◌, ◌-◌, ◌<◌, List, ◌∷◌, [], ◌++◌, refl, ap, ap₂, sym, ◌∙◌, arith, length, take, get_or, nat_lt, if◌then◌else◌}
 use Rattle.wh_types.specs.Ty.{Ty}
-use Rattle.wh_hopoly.specs.Polynomials.{Polynomial, zero_poly, plus, Factors, no_factors, times, Arguments, no_arguments, argument}
-use Rattle.wh_hopoly.specs.Arithmetic.{followed_by, raised, renumber, renumber_factors, renumber_arguments}
+use Rattle.wh_poly.specs.Polynomials.{Polynomial, zero_poly, plus, Factors, no_factors, times, Arguments, no_arguments, argument}
+use Rattle.wh_poly.specs.Arithmetic.{followed_by, raised, renumber, renumber_factors, renumber_arguments}
 use Rattle.wh_hopoly.specs.Evaluation.{widened}
-use Rattle.wh_hopoly.specs.declared.polynomial.Poly.{Poly}
-use Rattle.wh_hopoly.specs.declared.polynomial.Monomial.{Monomial, out-Monomial}
-use Rattle.wh_hopoly.specs.declared.polynomial.Atom.{Atom, out-Atom}
-use Rattle.wh_hopoly.specs.Erase.{poly, atoms, polys, sum_of, product_of, arguments_of}
-use Rattle.wh_hopoly.proofs.Pushes.{factors_followed_by, arguments_followed_by, sum_of_append, product_of_append, arguments_of_append, sum_one_more, product_one_more, arguments_one_more}
+use Rattle.wh_poly.specs.declared.polynomial.Poly.{Poly}
+use Rattle.wh_poly.specs.declared.polynomial.Monomial.{Monomial, out-Monomial}
+use Rattle.wh_poly.specs.declared.polynomial.Atom.{Atom, out-Atom}
+use Rattle.wh_poly.specs.Erase.{poly, atoms, polys, sum_of, product_of, arguments_of}
+use Rattle.wh_poly.proofs.Pushes.{factors_followed_by, arguments_followed_by, sum_of_append, product_of_append, arguments_of_append, sum_one_more, product_one_more, arguments_one_more}
 
 renumber_followed : (r : ℕ → ℕ) (p q : Polynomial) → renumber r (followed_by p q) ≡ followed_by (renumber r p) (renumber r q)
 renumber_followed r zero_poly q = refl

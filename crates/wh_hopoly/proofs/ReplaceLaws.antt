@@ -3,10 +3,10 @@ use Rattle.std.proofs.Common.{append_assoc, length-append, ◌≡◌, ℕ, zero,
 use Rattle.std.specs.Ordering.{ordering_then}
 use mathlib.Core.Path.{subst₂}
 use Rattle.wh_types.specs.Ty.{Ty, sort, ◌⇒◌, arguments}
-use Rattle.wh_hopoly.specs.Polynomials.{HasType, Polynomial, zero_poly, plus, Factors, no_factors, times, Arguments, no_arguments, argument, compare_polynomials, compare_factors, compare_arguments, MonomialBefore, FactorBefore, Normal, NormalFactors, NormalArguments}
+use Rattle.wh_poly.specs.Polynomials.{HasType, Polynomial, zero_poly, plus, Factors, no_factors, times, Arguments, no_arguments, argument, compare_polynomials, compare_factors, compare_arguments, MonomialBefore, FactorBefore, Normal, NormalFactors, NormalArguments}
 use Rattle.wh_hopoly.specs.Evaluation.{Run, one, without, down, type_at, replace, replace_factors, replace_arguments}
-use Rattle.wh_hopoly.specs.Arithmetic.{sum_poly, multiply, renumber, renumber_factors, renumber_arguments, constant, atom}
-use Rattle.wh_hopoly.proofs.SumLaws.{normal_sum, normal_multiply}
+use Rattle.wh_poly.specs.Arithmetic.{sum_poly, multiply, renumber, renumber_factors, renumber_arguments, constant, atom}
+use Rattle.wh_poly.proofs.SumLaws.{normal_sum, normal_multiply}
 
 -- scopes
 pub type_is : (Γ : List Ty) (x : ℕ) (A : Ty) → HasType Γ x A → type_at Γ x ≡ A

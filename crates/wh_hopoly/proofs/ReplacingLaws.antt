@@ -4,26 +4,26 @@ use Rattle.std.specs.Prelude.{Contains}
 use Rattle.std.proofs.lemmas.List.Elements.{Contains-append_left, Contains-append_right, Contains-append_cases}
 use mathlib.Core.Path.{subst₂}
 use Rattle.wh_types.specs.Ty.{Ty, sort, ◌⇒◌, arguments}
-use Rattle.wh_hopoly.specs.Polynomials.{HasType, Polynomial, zero_poly, plus, Factors, no_factors, times, Arguments, no_arguments, argument, Normal, NormalFactors, NormalArguments, HasNormalArguments}
-use Rattle.wh_hopoly.specs.Arithmetic.{sum_poly, multiply, constant, atom}
+use Rattle.wh_poly.specs.Polynomials.{HasType, Polynomial, zero_poly, plus, Factors, no_factors, times, Arguments, no_arguments, argument, Normal, NormalFactors, NormalArguments, HasNormalArguments}
+use Rattle.wh_poly.specs.Arithmetic.{sum_poly, multiply, constant, atom}
 use Rattle.wh_hopoly.specs.Evaluation.{Run, one, next, without, down, type_at, widened, replace, replace_factors, replace_arguments, applied, pure}
-use Rattle.wh_hopoly.specs.Limits.{Exceeds}
-use Rattle.wh_hopoly.specs.Excesses.{ExceedsAs}
+use Rattle.wh_poly.specs.Limits.{Exceeds}
+use Rattle.wh_poly.specs.Excesses.{ExceedsAs}
 use Rattle.wh_hopoly.specs.Replacements.{head_by, replace_factor, product_with, apply_at, NormalFor, Replaces}
-use Rattle.wh_hopoly.specs.Totals.{total, HasOrderedParts}
-use Rattle.wh_hopoly.specs.Erase.{poly, atoms, polys, sum_of, product_of, arguments_of}
-use Rattle.wh_hopoly.specs.declared.excess.Excess.{Excess}
-use Rattle.wh_hopoly.specs.declared.excess.Excess.TheVariants as excess
+use Rattle.wh_arithmetic.specs.Totals.{total, HasOrderedParts}
+use Rattle.wh_poly.specs.Erase.{poly, atoms, polys, sum_of, product_of, arguments_of}
+use Rattle.wh_poly.specs.declared.excess.Excess.{Excess}
+use Rattle.wh_poly.specs.declared.excess.Excess.TheVariants as excess
 use Rattle.wh_hopoly.specs.Outcomes.{ComesTo, PassesLimit}
-use Rattle.wh_hopoly.specs.declared.polynomial.Poly.{Poly}
-use Rattle.wh_hopoly.specs.declared.polynomial.Monomial.{Monomial, out-Monomial}
-use Rattle.wh_hopoly.specs.declared.polynomial.Atom.{Atom, out-Atom}
-use Rattle.wh_hopoly.specs.declared.totals.Total.{Total}
-use Rattle.wh_hopoly.proofs.Walks.{sum_drop, sum_ended, product_drop, product_ended, arguments_drop, arguments_ended}
-use Rattle.wh_hopoly.proofs.Pushes.{arguments_followed_by, arguments_of_append}
-use Rattle.wh_hopoly.proofs.AddedLaws.{followed_assoc, followed_by_none}
-use Rattle.wh_hopoly.proofs.OrderedLaws.{exceeds_right}
-use Rattle.wh_hopoly.proofs.SumLaws.{normal_multiply}
+use Rattle.wh_poly.specs.declared.polynomial.Poly.{Poly}
+use Rattle.wh_poly.specs.declared.polynomial.Monomial.{Monomial, out-Monomial}
+use Rattle.wh_poly.specs.declared.polynomial.Atom.{Atom, out-Atom}
+use Rattle.wh_arithmetic.specs.declared.totals.Total.{Total}
+use Rattle.wh_poly.proofs.Walks.{sum_drop, sum_ended, product_drop, product_ended, arguments_drop, arguments_ended}
+use Rattle.wh_poly.proofs.Pushes.{arguments_followed_by, arguments_of_append}
+use Rattle.wh_poly.proofs.AddedLaws.{followed_assoc, followed_by_none}
+use Rattle.wh_poly.proofs.OrderedLaws.{exceeds_right}
+use Rattle.wh_poly.proofs.SumLaws.{normal_multiply}
 use Rattle.wh_hopoly.proofs.ReplaceLaws.{HeadOk, without_is, type_is, at_itself, replaced_atom, normal_replace, normal_replace_factors, normal_replace_arguments}
 use Rattle.wh_hopoly.proofs.ValueLaws.{normal_moved, normal_applied, normal_apply_one}
 use Rattle.wh_hopoly.proofs.RunLaws.{Within, first_is_there, contains_one, within_one, within_both, Follows, follows_itself, follows_on, all_within, fault_within, fault_left, fault_right}

@@ -1,10 +1,10 @@
 -- Values computed by the definitions alone.
 use Rattle.std.proofs.Common.{◌≡◌, ℕ, List, [], ◌∷◌, refl}
 use Rattle.wh_types.specs.Ty.{Ty, sort, ◌⇒◌}
-use Rattle.wh_hopoly.specs.Polynomials.{Polynomial, zero_poly, plus, Factors, no_factors, times, Arguments, no_arguments, argument}
-use Rattle.wh_hopoly.specs.Arithmetic.{atom, constant, multiply}
+use Rattle.wh_poly.specs.Polynomials.{Polynomial, zero_poly, plus, Factors, no_factors, times, Arguments, no_arguments, argument}
+use Rattle.wh_poly.specs.Arithmetic.{atom, constant, multiply}
 use Rattle.wh_hopoly.specs.Evaluation.{Expression, var, symbol, lambda, apply, Interpretation, evaluate}
-use Rattle.wh_hopoly.specs.Limits.{weight, nesting}
+use Rattle.wh_poly.specs.Limits.{weight, nesting}
 
 -- a variable of a sort, before other factors and by itself
 abbrev y : ℕ → Factors → Factors

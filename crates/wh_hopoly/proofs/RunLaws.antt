@@ -2,11 +2,11 @@
 use Rattle.std.proofs.Common.{◌≡◌, zero, suc, ◌≤◌, ◌⊎◌, inl, inr, List, [], ◌∷◌, ◌++◌, refl, ap, sym, subst, arith, length, length-append}
 use Rattle.std.specs.Prelude.{Contains}
 use Rattle.std.proofs.lemmas.List.Elements.{Contains-append_left, Contains-append_right, Contains-append_cases}
-use Rattle.wh_hopoly.specs.Polynomials.{Polynomial}
-use Rattle.wh_hopoly.specs.Limits.{Exceeds}
-use Rattle.wh_hopoly.specs.Excesses.{ExceedsAs}
-use Rattle.wh_hopoly.specs.declared.excess.Excess.{Excess}
-use Rattle.wh_hopoly.specs.declared.excess.Excess.TheVariants as excess
+use Rattle.wh_poly.specs.Polynomials.{Polynomial}
+use Rattle.wh_poly.specs.Limits.{Exceeds}
+use Rattle.wh_poly.specs.Excesses.{ExceedsAs}
+use Rattle.wh_poly.specs.declared.excess.Excess.{Excess}
+use Rattle.wh_poly.specs.declared.excess.Excess.TheVariants as excess
 
 abbrev pub Within : List Polynomial → Type 0
 Within ws = (w : Polynomial) → Contains ws w → Exceeds w → ⊥

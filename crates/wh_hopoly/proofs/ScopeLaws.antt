@@ -4,7 +4,7 @@ use Rattle.std.specs.Prelude.{MatchResult}
 use Rattle.wh_types.specs.Ty.{Ty}
 use Rattle.wh_types.specs.Erase.{ty, tys}
 use Rattle.wh_types.specs.declared.simple_type.SimpleType.{SimpleType}
-use Rattle.wh_hopoly.specs.Polynomials.{HasType}
+use Rattle.wh_poly.specs.Polynomials.{HasType}
 use Rattle.wh_hopoly.proofs.ReplaceLaws.{at_right}
 
 pub type_in_list : (xs : List SimpleType) (i : ℕ) (x : SimpleType) → i < length xs → x ≡ get_or xs i x → HasType (tys xs) i (ty x)

@@ -1,9 +1,10 @@
 -- The value of a well typed expression is normal.
 use Rattle.std.proofs.Common.{append_assoc, append-nil, length-append, ◌≡◌, ℕ, zero, suc, ◌+◌, ◌-◌, nat_lt, List, [], ◌∷◌, ◌++◌, length, refl, sym, subst, ◌<◌, ◌≤◌, arith, nat_cmp, if◌then◌else◌, Some, slice_get}
 use Rattle.wh_types.specs.Ty.{Ty, sort, ◌⇒◌, arguments}
-use Rattle.wh_hopoly.specs.Polynomials.{HasType, Polynomial, zero_poly, Arguments, no_arguments, argument, Normal, NormalArguments}
-use Rattle.wh_hopoly.specs.Evaluation.{Run, replace, widened, applied, apply_one, Expression, var, symbol, lambda, apply, Interpretation, added, variable, codomain, interpretation_at, type_of, evaluate, TypedExpression, NormalInterpretations}
-use Rattle.wh_hopoly.specs.Arithmetic.{renumber}
+use Rattle.wh_poly.specs.Polynomials.{HasType, Polynomial, zero_poly, Arguments, no_arguments, argument, Normal, NormalArguments}
+use Rattle.wh_hopoly.specs.Evaluation.{Run, replace, widened, applied, apply_one, Expression, var, symbol, lambda, apply, Interpretation, codomain, interpretation_at, type_of, evaluate, TypedExpression, NormalInterpretations}
+use Rattle.wh_poly.specs.Added.{added, variable}
+use Rattle.wh_poly.specs.Arithmetic.{renumber}
 use Rattle.std.proofs.lemmas.Option.{none-some, same_Some}
 use Rattle.wh_hopoly.proofs.ReplaceLaws.{at_left, at_right, type_is, normal_replace, Moves, moves_on, normal_renumber}
 

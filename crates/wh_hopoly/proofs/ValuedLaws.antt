@@ -8,24 +8,25 @@ use Rattle.wh_types.specs.Erase.{ty}
 use Rattle.wh_types.specs.Outcome.{IfBecause}
 use Rattle.wh_types.specs.declared.want.Or.{Or}
 use Rattle.wh_types.specs.declared.want.Or.TheVariants.{NoMemory, Because}
-use Rattle.wh_hopoly.specs.Polynomials.{Polynomial, zero_poly, plus, Factors, no_factors, times, Arguments, no_arguments, argument, Normal}
-use Rattle.wh_hopoly.specs.Arithmetic.{renumber, renumber_factors, renumber_arguments}
+use Rattle.wh_poly.specs.Polynomials.{Polynomial, zero_poly, plus, Factors, no_factors, times, Arguments, no_arguments, argument, Normal}
+use Rattle.wh_poly.specs.Arithmetic.{renumber, renumber_factors, renumber_arguments}
 use Rattle.wh_hopoly.specs.Evaluation.{one, Expression, var, symbol, lambda, apply, Interpretation, interpretation_at, evaluate, type_of, codomain, apply_one, TypedExpression, NormalInterpretations}
-use Rattle.wh_hopoly.specs.Limits.{weight, weight_of_factors, weight_of_arguments, nesting, nesting_of_factors, nesting_of_arguments, Overflows, TooLarge, Exceeds}
-use Rattle.wh_hopoly.specs.Excesses.{ExceedsAs}
+use Rattle.wh_poly.specs.Limits.{weight, weight_of_factors, weight_of_arguments, nesting, nesting_of_factors, nesting_of_arguments, Overflows, TooLarge, Exceeds}
+use Rattle.wh_poly.specs.Excesses.{ExceedsAs}
 use Rattle.wh_hopoly.specs.NumberedParts.{parts, own_values, ValueOfPart}
 use Rattle.wh_hopoly.specs.Outcomes.{ComesTo, PassesLimit, IsFaultOf, applied_to}
 use Rattle.wh_hopoly.specs.Replacements.{apply_at, NormalFor}
 use Rattle.wh_hopoly.specs.Valued.{IsKnown, Yields, IsValueOf, located_at, IsFaultFrom}
-use Rattle.wh_hopoly.specs.Erase.{poly, expression, interpretation, interpretations}
-use Rattle.wh_hopoly.specs.declared.excess.Excess.{Excess}
-use Rattle.wh_hopoly.specs.declared.excess.Excess.TheVariants as excess
+use Rattle.wh_poly.specs.Erase.{poly}
+use Rattle.wh_hopoly.specs.Erase.{expression, interpretation, interpretations}
+use Rattle.wh_poly.specs.declared.excess.Excess.{Excess}
+use Rattle.wh_poly.specs.declared.excess.Excess.TheVariants as excess
 use Rattle.wh_hopoly.specs.declared.fault.PolyFault.{PolyFault}
 use Rattle.wh_hopoly.specs.declared.fault.PolyFault.TheVariants as fault
 use Rattle.wh_hopoly.specs.declared.expression.Symbol.{Symbol}
 use Rattle.wh_hopoly.specs.declared.expression.Expr.{Expr}
 use Rattle.wh_hopoly.specs.declared.valued.Valued.{Valued}
-use Rattle.wh_hopoly.proofs.Walks.{drop_next}
+use Rattle.wh_poly.proofs.Walks.{drop_next}
 use Rattle.wh_hopoly.proofs.ValueLaws.{normal_value}
 use Rattle.wh_hopoly.proofs.RunLaws.{within_both}
 

@@ -1,6 +1,6 @@
 -- When one polynomial is at least another by its monomials alone.
 use Rattle.std.specs.Prelude.{ℕ, ◌≤◌, ◌≡◌, ◌⊎◌}
-use Rattle.wh_hopoly.specs.Polynomials.{Polynomial, zero_poly, plus, Factors}
+use Rattle.wh_poly.specs.Polynomials.{Polynomial, zero_poly, plus, Factors}
 
 -- the polynomial has a monomial with these factors and a coefficient that is at least as great (ours)
 abbrev pub Has : Polynomial → ℕ → Factors → Type 0

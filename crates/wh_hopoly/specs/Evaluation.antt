@@ -2,8 +2,9 @@
 -- a merge or a short cut: what a program does instead has to come to the same.
 use Rattle.std.specs.Prelude.{ℕ, zero, suc, ◌+◌, ◌-◌, ◌==◌, nat_lt, List, [], ◌∷◌, ◌++◌, ◌≡◌, length, if◌then◌else◌, slice_get, Some, Contains}
 use Rattle.wh_types.specs.Ty.{Ty, sort, ◌⇒◌, arguments}
-use Rattle.wh_hopoly.specs.Polynomials.{HasType, Polynomial, zero_poly, plus, Factors, no_factors, times, Arguments, no_arguments, argument, Normal}
-use Rattle.wh_hopoly.specs.Arithmetic.{sum_poly, multiply, renumber, constant, atom}
+use Rattle.wh_poly.specs.Polynomials.{HasType, Polynomial, zero_poly, plus, Factors, no_factors, times, Arguments, no_arguments, argument, Normal}
+use Rattle.wh_poly.specs.Arithmetic.{sum_poly, multiply, renumber, constant, atom}
+use Rattle.wh_poly.specs.Added.{variable}
 
 -- a result, and all values on the way to it, itself included (ours)
 pub record Run (A : Type 0) : Type 0 where
@@ -87,15 +88,6 @@ pub data Expression : Type 0 where
 pub record Interpretation : Type 0 where
   pub kind : Ty
   pub polynomial : Polynomial
-
--- the variables numbered from i, one for each argument of the type, as arguments in a scope of length n (ours)
-abbrev pub added : Ty → ℕ → ℕ → Arguments
-added (sort s) n i = no_arguments
-added (A ⇒ B) n i = argument (atom i (added A (n + length (arguments A)) n)) (added B n (suc i))
-
--- the value of the variable x of this type in a scope of length n: itself at the added variables (Fuhs and Kop 2012)
-abbrev pub variable : Ty → ℕ → ℕ → Polynomial
-variable A n x = atom x (added A (n + length (arguments A)) n)
 
 -- what a function of this type gives, and a sort is left (ours)
 abbrev pub codomain : Ty → Ty

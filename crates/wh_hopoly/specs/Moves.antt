@@ -1,6 +1,6 @@
 -- Moves of units between the monomials of two polynomials, and when they show that the left one is at least the right one.
 use Rattle.std.specs.Prelude.{ℕ, zero, suc, ◌+◌, ◌≤◌, ◌<◌, ◌==◌, List, [], ◌∷◌, ◌≡◌, if◌then◌else◌, Contains}
-use Rattle.wh_hopoly.specs.Polynomials.{Polynomial, zero_poly, plus, Factors, no_factors, times, Arguments, no_arguments, argument}
+use Rattle.wh_poly.specs.Polynomials.{Polynomial, zero_poly, plus, Factors, no_factors, times, Arguments, no_arguments, argument}
 use Rattle.wh_hopoly.specs.Covers.{AtLeast}
 
 -- so many units of a monomial on the left, counted from 0, go to one on the right (ours)

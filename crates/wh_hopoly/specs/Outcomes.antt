@@ -1,12 +1,12 @@
 -- What the call that evaluates an expression answers.
 use Rattle.std.specs.Prelude.{◌≡◌, List, [], ◌∷◌, Contains}
 use Rattle.wh_types.specs.Ty.{Ty}
-use Rattle.wh_hopoly.specs.Polynomials.{Polynomial, Arguments}
+use Rattle.wh_poly.specs.Polynomials.{Polynomial, Arguments}
 use Rattle.wh_hopoly.specs.Evaluation.{Run, Expression, apply, Interpretation}
-use Rattle.wh_hopoly.specs.Limits.{Exceeds, Overflows, TooLarge}
-use Rattle.wh_hopoly.specs.Excesses.{ExceedsAs}
+use Rattle.wh_poly.specs.Limits.{Exceeds, Overflows, TooLarge}
+use Rattle.wh_poly.specs.Excesses.{ExceedsAs}
 use Rattle.wh_hopoly.specs.NumberedParts.{ValueOfPart}
-use Rattle.wh_hopoly.specs.declared.excess.Excess.{Excess}
+use Rattle.wh_poly.specs.declared.excess.Excess.{Excess}
 use Rattle.wh_hopoly.specs.declared.fault.PolyFault.{PolyFault}
 use Rattle.wh_hopoly.specs.declared.fault.PolyFault.TheVariants.{Overflow, TooLarge as too_large}
 

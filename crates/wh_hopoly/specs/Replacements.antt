@@ -2,13 +2,13 @@
 use Rattle.std.specs.Prelude.{ℕ, ◌==◌, ◌≡◌, List, ◌∷◌, ◌++◌, length, if◌then◌else◌, Option, None, Some}
 use Rattle.wh_types.specs.Ty.{Ty, sort, ◌⇒◌, arguments}
 use Rattle.wh_types.specs.Erase.{ty}
-use Rattle.wh_hopoly.specs.Polynomials.{Polynomial, Arguments, Normal}
-use Rattle.wh_hopoly.specs.Arithmetic.{atom, multiply}
-use Rattle.wh_hopoly.specs.Limits.{Exceeds}
-use Rattle.wh_hopoly.specs.declared.polynomial.Poly.{Poly}
+use Rattle.wh_poly.specs.Polynomials.{Polynomial, Arguments, Normal}
+use Rattle.wh_poly.specs.Arithmetic.{atom, multiply}
+use Rattle.wh_poly.specs.Limits.{Exceeds}
+use Rattle.wh_poly.specs.declared.polynomial.Poly.{Poly}
 use Rattle.wh_hopoly.specs.Evaluation.{Run, one, next, type_at, down, without, widened, applied, apply_one, replace_arguments}
 use Rattle.wh_hopoly.specs.Scopes.{scope_of}
-use Rattle.wh_hopoly.specs.Erase.{poly}
+use Rattle.wh_poly.specs.Erase.{poly}
 use Rattle.wh_hopoly.specs.declared.replacing.Replacement.{Replacement}
 use Rattle.wh_hopoly.specs.declared.replacing.Place.{Place}
 

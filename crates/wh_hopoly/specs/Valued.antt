@@ -4,14 +4,15 @@ use Rattle.wh_types.specs.Ty.{Ty}
 use Rattle.wh_types.specs.Erase.{ty}
 use Rattle.wh_types.specs.declared.want.Or.{Or}
 use Rattle.wh_types.specs.declared.want.Or.TheVariants.{NoMemory, Because}
-use Rattle.wh_hopoly.specs.Polynomials.{Polynomial}
+use Rattle.wh_poly.specs.Polynomials.{Polynomial}
 use Rattle.wh_hopoly.specs.Evaluation.{Run, Expression, Interpretation, evaluate, type_of}
-use Rattle.wh_hopoly.specs.Limits.{Overflows, TooLarge}
+use Rattle.wh_poly.specs.Limits.{Overflows, TooLarge}
 use Rattle.wh_hopoly.specs.NumberedParts.{ValueOfPart}
 use Rattle.wh_hopoly.specs.Outcomes.{ComesTo}
-use Rattle.wh_hopoly.specs.Erase.{poly, interpretations}
-use Rattle.wh_hopoly.specs.declared.excess.Excess.{Excess}
-use Rattle.wh_hopoly.specs.declared.excess.Excess.TheVariants as excess
+use Rattle.wh_poly.specs.Erase.{poly}
+use Rattle.wh_hopoly.specs.Erase.{interpretations}
+use Rattle.wh_poly.specs.declared.excess.Excess.{Excess}
+use Rattle.wh_poly.specs.declared.excess.Excess.TheVariants as excess
 use Rattle.wh_hopoly.specs.declared.fault.PolyFault.{PolyFault}
 use Rattle.wh_hopoly.specs.declared.fault.PolyFault.TheVariants as fault
 use Rattle.wh_hopoly.specs.declared.table.Table.{Table}

@@ -1,13 +1,12 @@
 //! When one polynomial is at least another by its monomials alone.
 
 ghost use Rattle.std.specs.Prelude.{◌↔◌, IsTrue};
-ghost use Rattle.wh_hopoly.specs.Erase.{poly};
-ghost use Rattle.wh_hopoly.specs.Polynomials.{Sorted};
+ghost use Rattle.wh_poly.specs.Erase.{poly};
+ghost use Rattle.wh_poly.specs.Polynomials.{Sorted};
 ghost use Rattle.wh_hopoly.specs.Covers.{AtLeast};
 
-use crate::comparing::order_factors;
-use crate::polynomial::Poly;
 use std::cmp::Ordering;
+use wh_poly::{Poly, order_factors};
 
 /// Whether `a` has, for each monomial of `b`, one with the same factors and a coefficient that is at least as great.
 pub fn at_least(a: &Poly, b: &Poly) -> bool

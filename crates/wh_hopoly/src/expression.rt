@@ -1,6 +1,6 @@
 //! Expressions, the interpretations of their symbols, and moves between polynomials.
 
-use crate::polynomial::Poly;
+use wh_poly::Poly;
 use wh_types::SimpleType;
 
 /// An expression in a scope; a binder is the variable whose number is the length of the scope that it stands in.

@@ -3,18 +3,19 @@
 ghost use Rattle.std.specs.Prelude.{◌≡◌, ◌++◌, ◌∷◌, [], map, length, IfOk};
 ghost use Rattle.wh_types.specs.Erase.{ty};
 ghost use Rattle.wh_types.specs.Outcome.{IfBecause};
-ghost use Rattle.wh_hopoly.specs.Erase.{poly, expression, interpretations};
+ghost use Rattle.wh_poly.specs.Erase.{poly};
+ghost use Rattle.wh_hopoly.specs.Erase.{expression, interpretations};
 ghost use Rattle.wh_hopoly.specs.Evaluation.{symbol, evaluate, TypedExpression, NormalInterpretations};
 ghost use Rattle.wh_hopoly.specs.Outcomes.{ComesTo, IsFaultOf, applied_to};
 
 use crate::evaluating::evaluate;
 use crate::expression::{Expr, Symbol};
 use crate::fault::PolyFault;
-use crate::polynomial::Poly;
 use crate::scope::Scope;
 use crate::table::Table;
 use crate::valued::{apply_valued, located, value_of_symbol};
 use std::alloc::{AllocError, Global};
+use wh_poly::Poly;
 use wh_types::{Or, SimpleType};
 
 /// The normal form of a well-typed expression: its value in the scope that goes on with the arguments of its type.

@@ -2,14 +2,13 @@
 
 ghost use Rattle.std.specs.Prelude.{◌↔◌, IsTrue};
 ghost use Rattle.wh_types.specs.Erase.{ty, tys};
-ghost use Rattle.wh_hopoly.specs.Erase.{poly, atoms, polys, sum_of, product_of};
+ghost use Rattle.wh_poly.specs.Erase.{poly, atoms, polys};
 ghost use Rattle.wh_hopoly.specs.Scopes.{scope_of};
-ghost use Rattle.wh_hopoly.specs.Polynomials.{MonomialBefore, FactorBefore, Normal, NormalFactors, NormalArguments, HasNormalArguments};
-ghost use Rattle.wh_hopoly.specs.declared.polynomial.Atom.{out-Atom};
+ghost use Rattle.wh_poly.specs.Polynomials.{Normal, NormalFactors, NormalArguments, HasNormalArguments};
+ghost use Rattle.wh_poly.specs.declared.polynomial.Atom.{out-Atom};
 
-use crate::comparing::{is_same_variable, order_factor, order_factors};
-use crate::polynomial::{Atom, Atoms, Monomial, Poly, Polys};
 use crate::scope::{Scope, find};
+use wh_poly::{Atom, Atoms, Poly, Polys, stands_before, stands_not_after};
 use wh_types::SimpleType;
 
 /// Whether the polynomial is normal in the scope.
@@ -78,24 +77,4 @@ fn are_normal_arguments<'a>(args: &Polys, kind: &'a SimpleType, scope: &'a Scope
         }
     }
     matches!(here, SimpleType::Sort(_))
-}
-
-/// Whether the factors stand before those of the first monomial, if there is one.
-pub fn stands_before(us: &Atoms, rest: &[Monomial]) -> bool
-    ensures { IsTrue result ↔ MonomialBefore (atoms us.now) (sum_of rest.now) }
-{
-    match rest.first() {
-        Some(next) => order_factors(us, &next.atoms).is_lt(),
-        None => true,
-    }
-}
-
-/// Whether the factor does not stand after the first one of the rest.
-pub fn stands_not_after(atom: &Atom, rest: &[Atom]) -> bool
-    ensures { IsTrue result ↔ FactorBefore (out-Atom atom.now).head (polys (out-Atom atom.now).args) (product_of rest.now) }
-{
-    match rest.first() {
-        Some(next) => is_same_variable(atom, next) || order_factor(atom, next).is_le(),
-        None => true,
-    }
 }

@@ -1,11 +1,11 @@
 //! Copies of polynomials in longer scopes: some of the variables get greater numbers.
 
 ghost use Rattle.std.specs.Prelude.{◌≡◌, IfOk};
-ghost use Rattle.wh_hopoly.specs.Erase.{poly, atoms, polys};
-ghost use Rattle.wh_hopoly.specs.Arithmetic.{raised, renumber, renumber_factors, renumber_arguments};
+ghost use Rattle.wh_poly.specs.Erase.{poly, atoms, polys};
+ghost use Rattle.wh_poly.specs.Arithmetic.{raised, renumber, renumber_factors, renumber_arguments};
 
-use crate::polynomial::{Atom, Atoms, Monomial, Poly, Polys};
 use std::alloc::{AllocError, Global};
+use wh_poly::{Atom, Atoms, Monomial, Poly, Polys};
 
 /// The polynomial with the numbers of variables from `from` on raised.
 #[cycle(raise)]

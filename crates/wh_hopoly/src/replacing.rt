@@ -8,27 +8,24 @@ ghost use Rattle.std.specs.Prelude.{◌≡◌, ◌≢◌, ◌≤◌, ◌++◌, l
 ghost use Rattle.wh_types.specs.Erase.{ty};
 ghost use Rattle.wh_types.specs.Ty.{arguments};
 ghost use Rattle.wh_types.specs.Outcome.{IfBecause};
-ghost use Rattle.wh_hopoly.specs.Erase.{poly, atoms, polys};
+ghost use Rattle.wh_poly.specs.Erase.{poly, atoms, polys};
 ghost use Rattle.wh_hopoly.specs.Scopes.{scope_of};
-ghost use Rattle.wh_hopoly.specs.Polynomials.{zero_poly, Ordered, Normal, NormalFactors, NormalArguments, HasNormalArguments};
-ghost use Rattle.wh_hopoly.specs.Arithmetic.{constant};
+ghost use Rattle.wh_poly.specs.Polynomials.{zero_poly, Ordered, Normal, NormalFactors, NormalArguments, HasNormalArguments};
+ghost use Rattle.wh_poly.specs.Arithmetic.{constant};
 ghost use Rattle.wh_hopoly.specs.Evaluation.{one, down, applied as applied_run, replace as replace_run, replace_factors as factors_run, replace_arguments as arguments_run};
 ghost use Rattle.wh_hopoly.specs.Replacements.{head_of, replace_factor as factor_run, product_with, apply_at, NormalFor, Fits, value_at, Keeps};
-ghost use Rattle.wh_hopoly.specs.Growing.{grown, HasRoom};
-ghost use Rattle.wh_hopoly.specs.Limits.{Exceeds};
-ghost use Rattle.wh_hopoly.specs.Excesses.{ExceedsAs};
+ghost use Rattle.wh_arithmetic.specs.Growing.{grown, HasRoom};
+ghost use Rattle.wh_poly.specs.Limits.{Exceeds};
+ghost use Rattle.wh_poly.specs.Excesses.{ExceedsAs};
 ghost use Rattle.wh_hopoly.specs.Outcomes.{ComesTo, ComesToArguments, PassesLimit};
-ghost use Rattle.wh_hopoly.specs.declared.polynomial.Atom.{out-Atom};
+ghost use Rattle.wh_poly.specs.declared.polynomial.Atom.{out-Atom};
 
-use crate::excess::Excess;
-use crate::growing::{Growing, finish, multiply_by, multiply_by_variable, start};
-use crate::limits::tested;
-use crate::polynomial::{Atom, Atoms, Poly, Polys};
 use crate::renumbering::raise;
 use crate::scope::{Scope, find};
-use crate::totals::Total;
-use crate::variables::{one_factor, with_arguments};
 use std::alloc::Global;
+use wh_arithmetic::{Growing, Total, finish, multiply_by, multiply_by_variable, start};
+use wh_limits::tested;
+use wh_poly::{Atom, Atoms, Excess, Poly, Polys, one_factor, with_arguments};
 use wh_types::{Or, SimpleType};
 
 /// What stands for a variable.

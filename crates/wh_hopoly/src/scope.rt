@@ -3,7 +3,7 @@
 ghost use Rattle.std.specs.Prelude.{◌≡◌, ◌+◌, [], ◌∷◌, length, MatchResult};
 ghost use Rattle.wh_types.specs.Erase.{ty};
 ghost use Rattle.wh_types.specs.Ty.{arguments};
-ghost use Rattle.wh_hopoly.specs.Polynomials.{HasType};
+ghost use Rattle.wh_poly.specs.Polynomials.{HasType};
 ghost use Rattle.wh_hopoly.specs.Scopes.{scope_of};
 
 use wh_types::SimpleType;

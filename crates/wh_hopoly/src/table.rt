@@ -2,12 +2,13 @@
 
 ghost use Rattle.std.specs.Prelude.{◌≡◌, ◌<◌, length};
 ghost use Rattle.wh_types.specs.Erase.{ty};
-ghost use Rattle.wh_hopoly.specs.Erase.{poly, interpretation, interpretations};
+ghost use Rattle.wh_poly.specs.Erase.{poly};
+ghost use Rattle.wh_hopoly.specs.Erase.{interpretation, interpretations};
 ghost use Rattle.wh_hopoly.specs.Evaluation.{interpretation_at};
 ghost use Rattle.wh_hopoly.specs.Valued.{readings, IsKnown};
 
 use crate::expression::Symbol;
-use crate::polynomial::Poly;
+use wh_poly::Poly;
 use wh_types::SimpleType;
 
 /// The readings of symbols by their numbers.

@@ -4,24 +4,23 @@ ghost use Rattle.std.specs.Prelude.{◌≡◌, ◌+◌, ◌++◌, length, IfOk};
 ghost use Rattle.wh_types.specs.Erase.{ty};
 ghost use Rattle.wh_types.specs.Ty.{Ty, arguments};
 ghost use Rattle.wh_types.specs.Outcome.{IfBecause};
-ghost use Rattle.wh_hopoly.specs.Erase.{poly};
-ghost use Rattle.wh_hopoly.specs.Polynomials.{HasType, Normal};
-ghost use Rattle.wh_hopoly.specs.Arithmetic.{renumber};
-ghost use Rattle.wh_hopoly.specs.Evaluation.{one, type_at, codomain as result_type, variable as variable_at};
+ghost use Rattle.wh_poly.specs.Erase.{poly};
+ghost use Rattle.wh_poly.specs.Polynomials.{HasType, Normal};
+ghost use Rattle.wh_poly.specs.Arithmetic.{renumber};
+ghost use Rattle.wh_hopoly.specs.Evaluation.{one, type_at, codomain as result_type};
+ghost use Rattle.wh_poly.specs.Added.{variable as variable_at};
 ghost use Rattle.wh_hopoly.specs.Scopes.{scope_of};
 ghost use Rattle.wh_hopoly.specs.Outcomes.{PassesLimit};
 ghost use Rattle.wh_hopoly.specs.Replacements.{apply_at, NormalFor};
 ghost use Rattle.wh_hopoly.specs.Valued.{Yields, located_at, fault_at as named_fault};
 
-use crate::excess::Excess;
 use crate::fault::PolyFault;
-use crate::limits::check_limits;
-use crate::polynomial::Poly;
 use crate::renumbering::raise;
 use crate::replacing::apply_one;
 use crate::scope::{Scope, find};
-use crate::variables::variable;
 use std::alloc::Global;
+use wh_limits::{check_limits, variable};
+use wh_poly::{Excess, Poly};
 use wh_types::{Or, SimpleType};
 
 /// A value, in a scope that goes on with the arguments of its type.

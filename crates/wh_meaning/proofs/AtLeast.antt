@@ -1,10 +1,10 @@
 -- A polynomial that is at least another means a number at least as great.
 use Rattle.std.proofs.Common.{◌≡◌, ℕ, ◌*◌, ◌≤◌, inl, inr, List, sym, subst, arith, Less, Equal, mul-le-mul, add-le-add}
 use Rattle.wh_types.specs.Ty.{Ty}
-use Rattle.wh_hopoly.specs.Polynomials.{Polynomial, zero_poly, plus, Factors, compare_factors, MonomialBefore, Sorted}
+use Rattle.wh_poly.specs.Polynomials.{Polynomial, zero_poly, plus, Factors, compare_factors, MonomialBefore, Sorted}
 use Rattle.wh_hopoly.specs.Covers.{Has, AtLeast}
-use Rattle.wh_hopoly.proofs.OrderLaws.{factors_same}
-use Rattle.wh_hopoly.proofs.SumLaws.{before_then}
+use Rattle.wh_poly.proofs.OrderLaws.{factors_same}
+use Rattle.wh_poly.proofs.SumLaws.{before_then}
 use Rattle.wh_meaning.specs.Valuations.{Valuation}
 use Rattle.wh_meaning.specs.Meaning.{den, den_factors}
 

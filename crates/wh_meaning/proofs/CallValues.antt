@@ -15,7 +15,7 @@ use Rattle.wh_step.proofs.RawStep.{step_raw}
 use Rattle.wh_laws.proofs.SystemSteps.{over-more, instance-rule_root}
 use Rattle.wh_laws.specs.Ends.{StepsIn, step_here, step_there}
 use Rattle.wh_laws.specs.RootRelations.{RuleRoot}
-use Rattle.wh_hopoly.specs.Polynomials.{Normal}
+use Rattle.wh_poly.specs.Polynomials.{Normal}
 use Rattle.wh_hopoly.specs.Evaluation.{symbol, Interpretation, interpretation_at, type_of, evaluate, NormalInterpretations}
 use Rattle.wh_hopoly.proofs.ValueLaws.{normal_value, interpretation_is}
 use Rattle.wh_meaning.specs.Functionals.{Sem, Mono, Le, nothing}

@@ -2,9 +2,9 @@
 use Rattle.std.proofs.Common.{◌≡◌, ℕ, zero, suc, ◌+◌, ◌*◌, ◌==◌, List, [], ◌∷◌, ◌++◌, length, refl, ap, ap₂, ◌∙◌, sym, subst, ◌<◌, ◌≤◌, arith, if◌then◌else◌, Contains, mul-le-mul, add-le-add, le_trans}
 use mathlib.Core.Path.{fun_ext}
 use Rattle.wh_types.specs.Ty.{Ty, sort, ◌⇒◌, arguments}
-use Rattle.wh_hopoly.specs.Polynomials.{Polynomial, zero_poly, plus, Factors, no_factors, times, Arguments, no_arguments, argument, Normal, NormalFactors, NormalArguments}
+use Rattle.wh_poly.specs.Polynomials.{Polynomial, zero_poly, plus, Factors, no_factors, times, Arguments, no_arguments, argument, Normal, NormalFactors, NormalArguments}
 use Rattle.wh_hopoly.specs.Evaluation.{type_at}
-use Rattle.wh_hopoly.proofs.SumLaws.{normal_sorted}
+use Rattle.wh_poly.proofs.SumLaws.{normal_sorted}
 use Rattle.wh_hopoly.proofs.ReplaceLaws.{type_is}
 use Rattle.wh_meaning.specs.Functionals.{Sem, Mono, Le}
 use Rattle.wh_meaning.specs.Valuations.{Valuation, MonoValuation, fun_of}

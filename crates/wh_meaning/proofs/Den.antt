@@ -4,10 +4,10 @@ use native.Mathlib.Decide.{ℕ_discrete}
 use mathlib.Core.Path.{subst₂, subst_refl, path_j, fun_ext}
 use Rattle.std.specs.Ordering.{ordering_then}
 use Rattle.wh_types.specs.Ty.{Ty, Ty-discrete, sort, ◌⇒◌, arguments}
-use Rattle.wh_hopoly.specs.Polynomials.{HasType, Polynomial, zero_poly, plus, Factors, no_factors, times, Arguments, no_arguments, argument, Normal, NormalFactors, NormalArguments, compare_factors, compare_arguments}
-use Rattle.wh_hopoly.specs.Arithmetic.{by_order, add_monomial, sum_poly, join_factor, join_factors, scale, multiply, constant, atom, renumber, renumber_factors, renumber_arguments}
+use Rattle.wh_poly.specs.Polynomials.{HasType, Polynomial, zero_poly, plus, Factors, no_factors, times, Arguments, no_arguments, argument, Normal, NormalFactors, NormalArguments, compare_factors, compare_arguments}
+use Rattle.wh_poly.specs.Arithmetic.{by_order, add_monomial, sum_poly, join_factor, join_factors, scale, multiply, constant, atom, renumber, renumber_factors, renumber_arguments}
 use Rattle.wh_hopoly.specs.Evaluation.{Run, one, without, down, type_at, replace, replace_factors, replace_arguments, widened, applied, apply_one}
-use Rattle.wh_hopoly.proofs.OrderLaws.{factors_equal}
+use Rattle.wh_poly.proofs.OrderLaws.{factors_equal}
 use Rattle.wh_hopoly.proofs.ReplaceLaws.{without_is, at_itself, at_down, type_is, HeadOk, normal_replace, normal_replace_arguments, Moves, moves_on}
 use Rattle.wh_hopoly.proofs.ValueLaws.{normal_applied, normal_moved, moves_moved, moved_low}
 use Rattle.wh_meaning.specs.Functionals.{Sem, nothing}

@@ -2,9 +2,10 @@
 use Rattle.std.proofs.Common.{length-append, ◌≡◌, ℕ, suc, ◌+◌, ◌<◌, List, ◌++◌, length, refl, ap, ap₂, ◌∙◌, sym, subst, arith}
 use mathlib.Core.Path.{fun_ext}
 use Rattle.wh_types.specs.Ty.{Ty, sort, ◌⇒◌, arguments}
-use Rattle.wh_hopoly.specs.Polynomials.{HasType}
-use Rattle.wh_hopoly.specs.Arithmetic.{atom}
-use Rattle.wh_hopoly.specs.Evaluation.{added, variable, type_at}
+use Rattle.wh_poly.specs.Polynomials.{HasType}
+use Rattle.wh_poly.specs.Arithmetic.{atom}
+use Rattle.wh_poly.specs.Added.{added, variable}
+use Rattle.wh_hopoly.specs.Evaluation.{type_at}
 use Rattle.wh_hopoly.proofs.ReplaceLaws.{at_left, at_right, type_is}
 use Rattle.wh_meaning.specs.Functionals.{Sem}
 use Rattle.wh_meaning.specs.Valuations.{Valuation, put, fun_of}

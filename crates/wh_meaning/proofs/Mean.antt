@@ -3,9 +3,10 @@ use Rattle.std.proofs.Common.{append_assoc, length-append, ◌≡◌, ◌+◌, L
 use native.Mathlib.Decide.{ℕ_discrete}
 use mathlib.Core.Path.{fun_ext, subst₂}
 use Rattle.wh_types.specs.Ty.{Ty, Ty-discrete, ◌⇒◌, arguments}
-use Rattle.wh_hopoly.specs.Polynomials.{Polynomial, Normal}
-use Rattle.wh_hopoly.specs.Arithmetic.{renumber}
-use Rattle.wh_hopoly.specs.Evaluation.{Expression, var, symbol, lambda, apply, Interpretation, interpretation_at, type_of, codomain, evaluate, variable, apply_one, TypedExpression, NormalInterpretations}
+use Rattle.wh_poly.specs.Polynomials.{Polynomial, Normal}
+use Rattle.wh_poly.specs.Arithmetic.{renumber}
+use Rattle.wh_hopoly.specs.Evaluation.{Expression, var, symbol, lambda, apply, Interpretation, interpretation_at, type_of, codomain, evaluate, apply_one, TypedExpression, NormalInterpretations}
+use Rattle.wh_poly.specs.Added.{variable}
 use Rattle.wh_hopoly.proofs.ReplaceLaws.{type_is, Moves, moves_on}
 use Rattle.wh_hopoly.proofs.ValueLaws.{normal_value, plus_order, interpretation_is}
 use Rattle.wh_meaning.specs.Functionals.{Sem, nothing}

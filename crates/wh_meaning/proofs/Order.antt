@@ -3,7 +3,7 @@ use Rattle.std.proofs.Common.{◌≡◌, ℕ, suc, List, ◌++◌, length, sym, 
 use native.Mathlib.Decide.{ℕ_discrete}
 use mathlib.Core.Path.{path_j, subst_refl}
 use Rattle.wh_types.specs.Ty.{Ty, Ty-discrete, sort, ◌⇒◌, arguments}
-use Rattle.wh_hopoly.specs.Polynomials.{Polynomial, zero_poly, plus, Factors, no_factors, times, Arguments, no_arguments, argument}
+use Rattle.wh_poly.specs.Polynomials.{Polynomial, zero_poly, plus, Factors, no_factors, times, Arguments, no_arguments, argument}
 use Rattle.wh_hopoly.specs.Evaluation.{type_at}
 use Rattle.wh_meaning.specs.Functionals.{Sem, Mono, Le, nothing}
 use Rattle.wh_meaning.specs.Valuations.{Valuation, at_type, put, MonoValuation, LeValuation, fun_of}

@@ -2,7 +2,7 @@
 use Rattle.std.proofs.Common.{◌≡◌, suc, List, [], ◌∷◌, refl, arith}
 use Rattle.wh_types.specs.Ty.{sort, ◌⇒◌}
 use Rattle.wh_terms.specs.Tree.{bound, fun, meta, lam, app, none, more}
-use Rattle.wh_hopoly.specs.Polynomials.{Polynomial, zero_poly, plus, no_factors, times, no_arguments, argument}
+use Rattle.wh_poly.specs.Polynomials.{Polynomial, zero_poly, plus, no_factors, times, no_arguments, argument}
 use Rattle.wh_hopoly.specs.Evaluation.{var, symbol, lambda, apply}
 use Rattle.wh_meaning.specs.Valuations.{Valuation}
 use Rattle.wh_meaning.specs.Functionals.{nothing}

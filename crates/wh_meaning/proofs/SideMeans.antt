@@ -7,7 +7,7 @@ use Rattle.wh_types.specs.Ty.{Ty, Ty-discrete, ◌⇒◌, arguments}
 use Rattle.wh_terms.specs.Tree.{Tm, Tms}
 use Rattle.wh_terms.specs.Sight.{NoFree, AllNoFree}
 use Rattle.wh_terms.specs.Typing.{Symbols, Declared, Typed, typed_bound, typed_free, typed_fun, typed_meta, typed_lam, typed_app, AllTyped, typed_none, typed_more}
-use Rattle.wh_hopoly.specs.Polynomials.{Polynomial, Normal}
+use Rattle.wh_poly.specs.Polynomials.{Polynomial, Normal}
 use Rattle.wh_hopoly.specs.Evaluation.{Expression, var, lambda, apply, Interpretation, interpretation_at, type_at, type_of, codomain, NormalInterpretations}
 use Rattle.wh_hopoly.proofs.ReplaceLaws.{type_is as variable_type}
 use Rattle.wh_hopoly.proofs.ValueLaws.{interpretation_is}

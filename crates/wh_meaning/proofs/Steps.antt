@@ -18,7 +18,7 @@ use Rattle.wh_terms.proofs.StepOver.{over-typed}
 use Rattle.wh_step.proofs.Instances.{Instance, instance_of, spine_left}
 use Rattle.wh_laws.specs.RootRelations.{RuleRoot}
 use Rattle.wh_laws.proofs.SystemSteps.{rules_root, rule_root-instance}
-use Rattle.wh_hopoly.specs.Polynomials.{Polynomial, Normal}
+use Rattle.wh_poly.specs.Polynomials.{Polynomial, Normal}
 use Rattle.wh_hopoly.specs.Evaluation.{Interpretation, interpretation_at, type_of, evaluate, NormalInterpretations}
 use Rattle.wh_hopoly.proofs.ValueLaws.{normal_value}
 use Rattle.wh_meaning.specs.Functionals.{Sem, Le, nothing}

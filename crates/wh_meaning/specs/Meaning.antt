@@ -2,7 +2,7 @@
 use Rattle.std.specs.Prelude.{ℕ, ◌+◌, ◌*◌, List, [], ◌∷◌, ◌++◌, length}
 use native.Mathlib.Decide.{ℕ_discrete}
 use Rattle.wh_types.specs.Ty.{Ty, Ty-discrete, sort, ◌⇒◌, arguments}
-use Rattle.wh_hopoly.specs.Polynomials.{Polynomial, zero_poly, plus, Factors, no_factors, times, Arguments, no_arguments, argument}
+use Rattle.wh_poly.specs.Polynomials.{Polynomial, zero_poly, plus, Factors, no_factors, times, Arguments, no_arguments, argument}
 use Rattle.wh_hopoly.specs.Evaluation.{type_at, Expression, var, symbol, lambda, apply, Interpretation, interpretation_at, type_of, codomain}
 use Rattle.wh_meaning.specs.Functionals.{Sem, nothing}
 use Rattle.wh_meaning.specs.Valuations.{Valuation, at_type, put, fun_of}

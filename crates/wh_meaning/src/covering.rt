@@ -2,7 +2,7 @@
 
 ghost use Rattle.std.specs.Prelude.{List, ◌≤◌, ◌<◌};
 ghost use Rattle.wh_types.specs.Ty.{Ty};
-ghost use Rattle.wh_hopoly.specs.Polynomials.{Polynomial, Normal};
+ghost use Rattle.wh_poly.specs.Polynomials.{Polynomial, Normal};
 ghost use Rattle.wh_meaning.specs.Valuations.{Valuation, MonoValuation};
 ghost use Rattle.wh_meaning.specs.Meaning.{den};
 ghost use Rattle.wh_hopoly.specs.Moves.{Transfer, IsCover, IsStrictCover};

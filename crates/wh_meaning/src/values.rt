@@ -2,7 +2,7 @@
 
 ghost use Rattle.std.specs.Prelude.{List, ◌≡◌, ◌≤◌};
 ghost use Rattle.wh_types.specs.Ty.{Ty};
-ghost use Rattle.wh_hopoly.specs.Polynomials.{Polynomial, Sorted};
+ghost use Rattle.wh_poly.specs.Polynomials.{Polynomial, Sorted};
 ghost use Rattle.wh_hopoly.specs.Evaluation.{Expression, Interpretation, TypedExpression, NormalInterpretations, type_of, evaluate};
 ghost use Rattle.wh_hopoly.specs.Covers.{AtLeast};
 ghost use Rattle.wh_meaning.specs.Valuations.{Valuation};

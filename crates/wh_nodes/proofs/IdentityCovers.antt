@@ -7,7 +7,7 @@ use Rattle.wh_terms.specs.Rules.{RewriteRule}
 use Rattle.wh_pairs.specs.PairData.{PairData}
 use Rattle.wh_pairs.proofs.MemberLemmas.{none_there, at_head}
 use Rattle.wh_pairs.specs.Marked.{IsMarked, AreMarked}
-use Rattle.wh_hopoly.specs.Polynomials.{zero_poly, no_factors, times, no_arguments, Normal}
+use Rattle.wh_poly.specs.Polynomials.{zero_poly, no_factors, times, no_arguments, Normal}
 use Rattle.wh_hopoly.specs.Evaluation.{Interpretation, NormalInterpretations}
 use Rattle.wh_hopoly.specs.Moves.{Transfer, Good, NotOverSpent, Covered, IsCover, IsStrictCover}
 use Rattle.wh_pairs.specs.Drops.{IsDropped}

@@ -7,7 +7,7 @@ use Rattle.wh_terms.specs.Typing.{Symbols, Declared}
 use Rattle.wh_terms.specs.Rules.{RewriteRule}
 use Rattle.wh_pairs.specs.PairData.{PairData}
 use Rattle.wh_system.specs.Systems.{SystemData}
-use Rattle.wh_hopoly.specs.Polynomials.{Polynomial, zero_poly, plus, no_factors, times, no_arguments}
+use Rattle.wh_poly.specs.Polynomials.{Polynomial, zero_poly, plus, no_factors, times, no_arguments}
 use Rattle.wh_reduction.specs.TaskData.{TaskData, task_over}
 use Rattle.wh_reduction.specs.ReductionPair.{Evidence}
 use Rattle.wh_hopoly.specs.Moves.{Transfer}

@@ -13,12 +13,12 @@ use Rattle.wh_terms.specs.Sight.{AllNoFree}
 use Rattle.wh_terms.specs.Typing.{Symbols, Declared, AllTyped}
 use Rattle.wh_terms.specs.Rules.{RewriteRule}
 use Rattle.wh_pairs.specs.PairData.{PairData}
-use Rattle.wh_hopoly.specs.Polynomials.{Polynomial}
+use Rattle.wh_poly.specs.Polynomials.{Polynomial}
 use Rattle.wh_hopoly.specs.Evaluation.{Expression, symbol, Interpretation, evaluate, TypedExpression, Norm, Values}
-use Rattle.wh_hopoly.specs.Limits.{Exceeds}
+use Rattle.wh_poly.specs.Limits.{Exceeds}
 use Rattle.wh_hopoly.specs.Outcomes.{ComesTo, IsFaultOf}
-use Rattle.wh_hopoly.specs.Erase.{poly}
-use Rattle.wh_hopoly.specs.declared.polynomial.Poly.{Poly}
+use Rattle.wh_poly.specs.Erase.{poly}
+use Rattle.wh_poly.specs.declared.polynomial.Poly.{Poly}
 use Rattle.wh_hopoly.specs.declared.fault.PolyFault.{PolyFault}
 use Rattle.wh_polycheck.specs.Sides.{types_of_metas, side, side_applied, Interprets}
 use Rattle.wh_polycheck.specs.Marks.{Mark, marked_types, marked_interpretation, with_marks, place_of, mark_number, HasMark, head_of_side, arguments_of_side}

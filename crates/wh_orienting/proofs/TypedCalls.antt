@@ -4,7 +4,7 @@ use Rattle.wh_terms.specs.Typing.{Symbols}
 use Rattle.wh_terms.specs.Rules.{RewriteRule}
 use Rattle.wh_pairs.specs.PairData.{PairData}
 use Rattle.wh_pairs.proofs.MemberLemmas.{at_head, behind}
-use Rattle.wh_hopoly.specs.Polynomials.{zero_poly}
+use Rattle.wh_poly.specs.Polynomials.{zero_poly}
 use Rattle.wh_polycheck.specs.Marks.{Mark}
 use Rattle.wh_polycheck.specs.Covering.{HaveTypedSides}
 use Rattle.wh_order.specs.TreeSides.{HasTypedCalls}

@@ -1,8 +1,8 @@
 -- Expressions that come to the same, with the same values in each part, over two lists of interpretations.
 use Rattle.std.proofs.Common.{◌≡◌, inl, inr, ℕ, zero, suc, ◌+◌, ◌-◌, ◌<◌, ◌≤◌, List, [], ◌∷◌, ◌++◌, length, refl, ap, ap₂, sym, subst, ◌∙◌, Contains}
 use Rattle.wh_types.specs.Ty.{Ty, ◌⇒◌}
-use Rattle.wh_hopoly.specs.Polynomials.{Polynomial}
-use Rattle.wh_hopoly.specs.Arithmetic.{renumber}
+use Rattle.wh_poly.specs.Polynomials.{Polynomial}
+use Rattle.wh_poly.specs.Arithmetic.{renumber}
 use Rattle.wh_hopoly.specs.Evaluation.{Run, one, next, Expression, var, symbol, lambda, apply, Interpretation, interpretation_at, type_of, codomain, apply_one, evaluate, TypedExpression}
 use Rattle.wh_hopoly.specs.Outcomes.{ComesTo, IsFaultOf}
 use Rattle.wh_hopoly.specs.NumberedParts.{parts, ValueOfPart}

@@ -4,13 +4,14 @@ use Rattle.std.proofs.Math.Seq.{drop-cons}
 use Rattle.std.proofs.Math.ListN.{drop_of_length-le}
 use Rattle.std.proofs.lemmas.List.{get_or-set_same, get_or-set_other, length-set}
 use Rattle.std.proofs.lemmas.Bool.{cases_lt, cases_eq}
-use Rattle.wh_hopoly.specs.Polynomials.{Factors, no_factors, times}
+use Rattle.wh_poly.specs.Polynomials.{Factors, no_factors, times}
 use Rattle.wh_hopoly.specs.Moves.{Transfer, MonomialAt, units_at, given_by, taken_by, NotOverSpent, Covered}
-use Rattle.wh_hopoly.specs.declared.polynomial.Monomial.{Monomial, out-Monomial}
+use Rattle.wh_poly.specs.declared.polynomial.Monomial.{Monomial, out-Monomial}
 use Rattle.wh_hopoly.specs.declared.expression.Move.{Move}
-use Rattle.wh_hopoly.specs.declared.polynomial.Atom.{Atom}
-use Rattle.wh_hopoly.specs.Erase.{atoms, factors, sum_of, product_of, transfer, transfers}
-use Rattle.wh_hopoly.proofs.Lists.{atoms_is}
+use Rattle.wh_poly.specs.declared.polynomial.Atom.{Atom}
+use Rattle.wh_poly.specs.Erase.{atoms, factors, sum_of, product_of}
+use Rattle.wh_hopoly.specs.Erase.{transfer, transfers}
+use Rattle.wh_poly.proofs.Lists.{atoms_is}
 use Rattle.wh_polycheck.specs.CoverFaults.{IsOverSpent, IsNotCovered, LeavesConstant}
 use Rattle.wh_polycheck.proofs.GoodWalk.{monomial_here, monomial_within, one_monomial}
 

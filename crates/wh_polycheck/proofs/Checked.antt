@@ -1,12 +1,12 @@
 -- What the tests together say of the polynomials themselves.
 use Rattle.std.proofs.Common.{◌≡◌, List, IsTrue, false, ap, sym, subst, ◌∙◌}
 use mathlib.Core.Path.{subst₂}
-use Rattle.wh_hopoly.specs.Polynomials.{Polynomial}
+use Rattle.wh_poly.specs.Polynomials.{Polynomial}
 use Rattle.wh_hopoly.specs.Moves.{Transfer, IsCover, IsStrictCover}
-use Rattle.wh_hopoly.specs.declared.polynomial.Poly.{Poly}
-use Rattle.wh_hopoly.specs.declared.polynomial.Monomial.{Monomial}
-use Rattle.wh_hopoly.specs.Erase.{poly, monomials, sum_of}
-use Rattle.wh_hopoly.proofs.Lists.{poly_is}
+use Rattle.wh_poly.specs.declared.polynomial.Poly.{Poly}
+use Rattle.wh_poly.specs.declared.polynomial.Monomial.{Monomial}
+use Rattle.wh_poly.specs.Erase.{poly, monomials, sum_of}
+use Rattle.wh_poly.proofs.Lists.{poly_is}
 use Rattle.wh_polycheck.specs.CoverFaults.{LeavesConstant, IsFirstCoverFault, IsFirstStrictCoverFault}
 use Rattle.wh_polycheck.specs.declared.fault.CoverFault.{CoverFault}
 use Rattle.wh_polycheck.specs.declared.fault.CoverFault.TheVariants.{BadMove, OverSpent, NotCovered, NotStrict}

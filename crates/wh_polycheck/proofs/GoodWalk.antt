@@ -4,20 +4,21 @@ use Rattle.std.proofs.lemmas.Option.{same_Some}
 use Rattle.std.proofs.lemmas.Bool.{cases_lt}
 use mathlib.Core.Path.{subst₂}
 use Rattle.wh_types.specs.Ty.{Ty, sort, ◌⇒◌, arguments}
-use Rattle.wh_hopoly.specs.Polynomials.{Polynomial, zero_poly, plus, Factors, Sorted, Normal, NormalFactors, NormalArguments}
+use Rattle.wh_poly.specs.Polynomials.{Polynomial, zero_poly, plus, Factors, Sorted, Normal, NormalFactors, NormalArguments}
 use Rattle.wh_hopoly.specs.Covers.{AtLeast}
 use Rattle.wh_hopoly.specs.Moves.{Transfer, ArgumentsAtLeast, FactorsAtLeast, MonomialAt, Good}
-use Rattle.wh_hopoly.specs.declared.polynomial.Poly.{Poly}
-use Rattle.wh_hopoly.specs.declared.polynomial.Monomial.{Monomial, out-Monomial}
-use Rattle.wh_hopoly.specs.declared.polynomial.Atoms.{Atoms}
-use Rattle.wh_hopoly.specs.declared.polynomial.Atom.{Atom, out-Atom}
-use Rattle.wh_hopoly.specs.declared.polynomial.Polys.{Polys}
+use Rattle.wh_poly.specs.declared.polynomial.Poly.{Poly}
+use Rattle.wh_poly.specs.declared.polynomial.Monomial.{Monomial, out-Monomial}
+use Rattle.wh_poly.specs.declared.polynomial.Atoms.{Atoms}
+use Rattle.wh_poly.specs.declared.polynomial.Atom.{Atom, out-Atom}
+use Rattle.wh_poly.specs.declared.polynomial.Polys.{Polys}
 use Rattle.wh_hopoly.specs.declared.expression.Move.{Move}
-use Rattle.wh_hopoly.specs.Erase.{poly, atoms, polys, factors, list, sum_of, product_of, arguments_of, transfer, transfers}
+use Rattle.wh_poly.specs.Erase.{poly, atoms, polys, factors, list, sum_of, product_of, arguments_of}
+use Rattle.wh_hopoly.specs.Erase.{transfer, transfers}
 use Rattle.wh_polycheck.specs.CoverFaults.{AreGood}
-use Rattle.wh_hopoly.proofs.Lists.{atoms_is, polys_is}
-use Rattle.wh_hopoly.proofs.SumLaws.{normal_sorted}
-use Rattle.wh_hopoly.proofs.Walks.{product_drop, product_ended, arguments_drop, arguments_ended}
+use Rattle.wh_poly.proofs.Lists.{atoms_is, polys_is}
+use Rattle.wh_poly.proofs.SumLaws.{normal_sorted}
+use Rattle.wh_poly.proofs.Walks.{product_drop, product_ended, arguments_drop, arguments_ended}
 
 -- the monomial at a place of the list, and that there is one alone
 pub monomial_here : (xs : List Monomial) (i : ℕ) (m : Monomial) → i < length xs → m ≡ get_or xs i m

@@ -9,7 +9,7 @@ use Rattle.wh_terms.specs.Typing.{Symbols, Declared, AllTyped, typed_none, typed
 use Rattle.wh_terms.specs.Rules.{RewriteRule}
 use Rattle.wh_pairs.specs.PairData.{PairData}
 use Rattle.wh_hopoly.specs.Evaluation.{Expression, symbol, apply, Interpretation, TypedExpression, NormalInterpretations}
-use Rattle.wh_hopoly.specs.Polynomials.{Normal}
+use Rattle.wh_poly.specs.Polynomials.{Normal}
 use Rattle.wh_hopoly.proofs.ValueLaws.{interpretation_is}
 use Rattle.wh_polycheck.specs.Sides.{types_of_metas, side, side_applied, marked_expression, Interprets}
 use Rattle.wh_polycheck.specs.Marks.{Mark, marked_types, marked_kind, marked_interpretation, with_marks, place_of, mark_number, HasMark, AreNormalMarks, HasMarkedSides, head_of_side, arguments_of_side}

@@ -7,8 +7,8 @@ use Rattle.wh_terms.specs.Tree.{Tm}
 use Rattle.wh_terms.specs.Sight.{NoFree}
 use Rattle.wh_terms.specs.Typing.{Symbols, Declared, Typed}
 use Rattle.wh_terms.specs.Rules.{RewriteRule, AreWellMade}
-use Rattle.wh_hopoly.specs.Polynomials.{Normal}
-use Rattle.wh_hopoly.specs.Arithmetic.{renumber}
+use Rattle.wh_poly.specs.Polynomials.{Normal}
+use Rattle.wh_poly.specs.Arithmetic.{renumber}
 use Rattle.wh_hopoly.specs.Evaluation.{one, next, Expression, var, symbol, lambda, apply, Interpretation, interpretation_at, type_of, codomain, apply_one, evaluate, TypedExpression, NormalInterpretations}
 use Rattle.wh_hopoly.specs.Moves.{IsCover}
 use Rattle.wh_hopoly.proofs.ValueLaws.{interpretation_is}

@@ -21,12 +21,12 @@ use Rattle.wh_system.specs.Needs.{need_of}
 use Rattle.wh_pairs.specs.PairData.{PairData}
 use Rattle.wh_system.specs.Systems.{SystemData}
 use Rattle.wh_system.specs.WellMade.{IsWellMadeSystem}
-use Rattle.wh_hopoly.specs.Polynomials.{Polynomial}
+use Rattle.wh_poly.specs.Polynomials.{Polynomial}
 use Rattle.wh_hopoly.specs.Evaluation.{Expression, symbol, Interpretation, type_at, evaluate, TypedExpression, Norm, Values}
-use Rattle.wh_hopoly.specs.Limits.{Exceeds}
+use Rattle.wh_poly.specs.Limits.{Exceeds}
 use Rattle.wh_hopoly.specs.Outcomes.{ComesTo, IsFaultOf, applied_to}
-use Rattle.wh_hopoly.specs.Erase.{poly}
-use Rattle.wh_hopoly.specs.declared.polynomial.Poly.{Poly}
+use Rattle.wh_poly.specs.Erase.{poly}
+use Rattle.wh_poly.specs.declared.polynomial.Poly.{Poly}
 use Rattle.wh_hopoly.specs.declared.fault.PolyFault.{PolyFault}
 use Rattle.wh_hopoly.specs.declared.fault.PolyFault.TheVariants.{Overflow, TooLarge}
 use Rattle.wh_hopoly.proofs.PartLaws.{part_is_value}

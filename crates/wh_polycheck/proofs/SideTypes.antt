@@ -5,7 +5,7 @@ use Rattle.wh_types.specs.Ty.{Ty, ◌⇒◌}
 use Rattle.wh_terms.specs.Tree.{Tm, Tms}
 use Rattle.wh_terms.specs.Sight.{NoFree, AllNoFree}
 use Rattle.wh_terms.specs.Typing.{Symbols, Declared, Typed, typed_bound, typed_free, typed_fun, typed_meta, typed_lam, typed_app, AllTyped, typed_none, typed_more}
-use Rattle.wh_hopoly.specs.Polynomials.{HasType}
+use Rattle.wh_poly.specs.Polynomials.{HasType}
 use Rattle.wh_hopoly.specs.Evaluation.{Expression, var, apply, Interpretation, type_of, codomain, TypedExpression}
 use Rattle.wh_hopoly.proofs.ReplaceLaws.{type_is as variable_type, at_left, at_right}
 use Rattle.wh_hopoly.proofs.ValueLaws.{interpretation_is}

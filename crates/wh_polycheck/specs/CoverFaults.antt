@@ -1,7 +1,7 @@
 -- What can be wrong with a list of moves that is to show that one polynomial covers another, and what comes first.
 use Rattle.std.specs.Prelude.{ℕ, ◌<◌, ◌≡◌, List, Some, slice_get, Contains}
 use Rattle.wh_types.specs.Ty.{Ty}
-use Rattle.wh_hopoly.specs.Polynomials.{Polynomial, Factors, no_factors, Normal}
+use Rattle.wh_poly.specs.Polynomials.{Polynomial, Factors, no_factors, Normal}
 use Rattle.wh_hopoly.specs.Moves.{Transfer, MonomialAt, Good, given_by, taken_by, NotOverSpent, Covered, IsCover}
 use Rattle.wh_polycheck.specs.declared.fault.CoverFault.{CoverFault}
 use Rattle.wh_polycheck.specs.declared.fault.CoverFault.TheVariants.{BadMove, OverSpent, NotCovered, NotStrict}

@@ -5,7 +5,7 @@ use Rattle.wh_terms.specs.Rules.{RewriteRule}
 use Rattle.wh_pairs.specs.PairData.{PairData}
 use Rattle.wh_reduction.specs.TaskData.{TaskData, IsTask}
 use Rattle.wh_reduction.specs.ReductionPair.{Evidence, Showing, IsReductionPair}
-use Rattle.wh_hopoly.specs.Polynomials.{Polynomial}
+use Rattle.wh_poly.specs.Polynomials.{Polynomial}
 use Rattle.wh_hopoly.specs.Evaluation.{Run, evaluate}
 use Rattle.wh_hopoly.specs.Moves.{Transfer, IsCover, IsStrictCover}
 use Rattle.wh_system.specs.CanonicalView.{side_of}

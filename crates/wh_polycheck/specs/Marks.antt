@@ -7,7 +7,7 @@ use Rattle.wh_terms.specs.Typing.{Symbols, AllTyped}
 use Rattle.wh_terms.specs.Rules.{RewriteRule}
 use Rattle.wh_system.specs.Needs.{need_of}
 use Rattle.wh_pairs.specs.PairData.{PairData}
-use Rattle.wh_hopoly.specs.Polynomials.{Polynomial, Normal}
+use Rattle.wh_poly.specs.Polynomials.{Polynomial, Normal}
 use Rattle.wh_hopoly.specs.Evaluation.{type_at, Interpretation, Norm, Values}
 use Rattle.wh_polycheck.specs.Sides.{arrows, types_of_metas, marked_expression}
 

@@ -2,12 +2,14 @@
 //! stand in an array, and each such array takes one walk over the moves.
 
 ghost use Rattle.std.specs.Prelude.{ℕ, ◌≡◌, ◌≤◌, ◌<◌, ◌+◌, ◌-◌, ◌^◌, ◌↔◌, IsTrue, MatchOption, get_or, length};
-ghost use Rattle.wh_hopoly.specs.Polynomials.{Factors};
-ghost use Rattle.wh_hopoly.specs.Erase.{sum_of, transfers};
+ghost use Rattle.wh_poly.specs.Polynomials.{Factors};
+ghost use Rattle.wh_poly.specs.Erase.{sum_of};
+ghost use Rattle.wh_hopoly.specs.Erase.{transfers};
 ghost use Rattle.wh_hopoly.specs.Moves.{Covered, MonomialAt, NotOverSpent, given_by, taken_by};
 ghost use Rattle.wh_polycheck.specs.CoverFaults.{IsFirstNotCovered, IsFirstOverSpent, IsNotCovered, IsOverSpent, LeavesConstant};
 
-use wh_hopoly::{Monomial, Move};
+use wh_hopoly::Move;
+use wh_poly::Monomial;
 
 // How many sums are taken at a time: 64 kilobytes on the stack, and 16 walks for 65,536 monomials.
 const WIDTH: usize = 4096;

@@ -1,14 +1,16 @@
 //! Covers: the tests in their order.
 
 ghost use Rattle.std.specs.Prelude.{◌≤◌, ◌^◌, MatchResult, length};
-ghost use Rattle.wh_hopoly.specs.Erase.{monomials, poly, transfers};
+ghost use Rattle.wh_poly.specs.Erase.{monomials, poly};
+ghost use Rattle.wh_hopoly.specs.Erase.{transfers};
 ghost use Rattle.wh_hopoly.specs.Moves.{IsCover, IsStrictCover};
 ghost use Rattle.wh_polycheck.specs.CoverFaults.{IsFirstCoverFault, IsFirstStrictCoverFault, IsNormal};
 
 use crate::amounts::{first_not_covered, first_over_spent, leaves_constant};
 use crate::fault::CoverFault;
 use crate::good::first_bad;
-use wh_hopoly::{Move, Poly};
+use wh_hopoly::Move;
+use wh_poly::Poly;
 
 /// Whether the moves show that the left polynomial is at least the right one.
 ///

@@ -2,12 +2,14 @@
 
 ghost use Rattle.std.specs.Prelude.{ℕ, ◌≤◌, ◌^◌, ◌↔◌, List, IsTrue, MatchOption, length};
 ghost use Rattle.wh_types.specs.Ty.{Ty};
-ghost use Rattle.wh_hopoly.specs.Polynomials.{NormalFactors, NormalArguments};
-ghost use Rattle.wh_hopoly.specs.Erase.{atoms, polys, sum_of, transfer, transfers};
+ghost use Rattle.wh_poly.specs.Polynomials.{NormalFactors, NormalArguments};
+ghost use Rattle.wh_poly.specs.Erase.{atoms, polys, sum_of};
+ghost use Rattle.wh_hopoly.specs.Erase.{transfer, transfers};
 ghost use Rattle.wh_hopoly.specs.Moves.{ArgumentsAtLeast, FactorsAtLeast, Good};
 ghost use Rattle.wh_polycheck.specs.CoverFaults.{AreGood, IsFirstBad, IsNormal};
 
-use wh_hopoly::{Atoms, Monomial, Move, Polys, at_least};
+use wh_hopoly::{Move, at_least};
+use wh_poly::{Atoms, Monomial, Polys};
 
 /// The first move that is not good.
 pub fn first_bad(left: &[Monomial], right: &[Monomial], moves: &[Move]) -> Option<u32>

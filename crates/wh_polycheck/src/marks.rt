@@ -10,7 +10,8 @@ ghost use Rattle.wh_polycheck.specs.Sides.{arrows};
 
 use crate::scopes::arrow;
 use std::alloc::{AllocError, Global};
-use wh_hopoly::{Poly, Symbol};
+use wh_hopoly::Symbol;
+use wh_poly::Poly;
 use wh_system::System;
 use wh_types::SimpleType;
 

@@ -12,9 +12,10 @@ use Rattle.wh_pairs.specs.Marked.{AreMarked}
 use Rattle.wh_cert.specs.Interps.{Interp}
 use Rattle.wh_cert.specs.Said.{said_interp}
 use Rattle.wh_cert.specs.declared.poly_node.Interp as code
-use Rattle.wh_hopoly.specs.Erase.{poly, interpretation, interpretations}
+use Rattle.wh_poly.specs.Erase.{poly}
+use Rattle.wh_hopoly.specs.Erase.{interpretation, interpretations}
 use Rattle.wh_hopoly.specs.Evaluation.{Interpretation}
-use Rattle.wh_hopoly.specs.Polynomials.{Polynomial}
+use Rattle.wh_poly.specs.Polynomials.{Polynomial}
 use Rattle.wh_hopoly.specs.declared.expression.Symbol.{Symbol}
 use Rattle.wh_polycheck.specs.Marks.{Mark}
 use Rattle.wh_polycheck.specs.SideResults.{mark, marks_of}

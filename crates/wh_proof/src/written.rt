@@ -6,12 +6,13 @@ ghost use Rattle.wh_system.specs.SystemView.{system_data};
 ghost use Rattle.wh_subterm.specs.SubtermRows.{chosen};
 ghost use Rattle.wh_cert.specs.Limits.{ArgFits};
 ghost use Rattle.wh_cert.specs.Said.{said_arg};
-ghost use Rattle.wh_hopoly.specs.Erase.{poly};
+ghost use Rattle.wh_poly.specs.Erase.{poly};
 ghost use Rattle.wh_proof.specs.Looked.{SayChoices};
 
 use std::alloc::{AllocError, Global};
 use wh_cert::{Arg, Args, Interp, Interps};
-use wh_hopoly::{Symbol, copy};
+use wh_hopoly::Symbol;
+use wh_poly::copy;
 use wh_polycheck::MarkedSymbol;
 use wh_subterm::Choice;
 use wh_system::System;

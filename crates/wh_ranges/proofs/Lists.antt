@@ -12,14 +12,14 @@ use Rattle.wh_terms.specs.Rules.{RewriteRule}
 use Rattle.wh_reduction.specs.TaskData.{TaskData}
 use Rattle.wh_polycheck.specs.Readings.{ReadingsData}
 use Rattle.wh_pairs.proofs.ByPlace.{contains_at, place_of, remap, some_one}
-use Rattle.wh_hopoly.specs.Polynomials.{Polynomial, zero_poly, plus, Factors}
+use Rattle.wh_poly.specs.Polynomials.{Polynomial, zero_poly, plus, Factors}
 use Rattle.wh_hopoly.specs.Evaluation.{Interpretation}
 use Rattle.wh_hopoly.specs.Erase.{interpretations}
 use Rattle.wh_hopoly.specs.declared.expression.Symbol.{Symbol}
 use Rattle.wh_hopoly.specs.Moves.{MonomialAt}
 use Rattle.wh_hopoly.specs.Covers.{Has, AtLeast}
-use Rattle.wh_hopoly.specs.Rearranged.{coefficient}
-use Rattle.wh_hopoly.proofs.SumLaws.{normal_sorted}
+use Rattle.wh_poly.specs.Rearranged.{coefficient}
+use Rattle.wh_poly.proofs.SumLaws.{normal_sorted}
 use Rattle.wh_polycheck.specs.Marks.{Mark, marked_types}
 use Rattle.wh_polycheck.specs.SideResults.{marks_of}
 use Rattle.wh_polycheck.specs.declared.marks.MarkedSymbol.{MarkedSymbol}

@@ -20,7 +20,7 @@ use Rattle.wh_pairs.proofs.ByPlace.{contains_at, map_at, place_of, some_one}
 use Rattle.wh_reduction.specs.TaskData.{TaskData}
 use Rattle.wh_reduction.specs.TaskView.{task_data}
 use Rattle.wh_reduction.specs.declared.task.Task.{Task}
-use Rattle.wh_hopoly.specs.Polynomials.{Polynomial, Normal}
+use Rattle.wh_poly.specs.Polynomials.{Polynomial, Normal}
 use Rattle.wh_hopoly.specs.Evaluation.{Run}
 use Rattle.wh_hopoly.specs.Moves.{Transfer}
 use Rattle.wh_polycheck.specs.Marks.{marked_types, HasMarkedSides}

@@ -15,7 +15,7 @@ use crate::plan::Work;
 use std::alloc::{AllocError, Global};
 use wh_growth::is_refuted;
 use wh_guesses::{Guess, pair_side, rule_side};
-use wh_hopoly::Poly;
+use wh_poly::Poly;
 use wh_polycheck::Readings;
 use wh_reduction::Task;
 

@@ -4,18 +4,18 @@ use Rattle.std.proofs.Common.{Result, Ok, Err, IfOk, ◌≡◌, ℕ, zero, suc, 
 use Rattle.wh_types.specs.Ty.{Ty, sort, ◌⇒◌}
 use Rattle.wh_types.specs.Erase.{ty, tys}
 use Rattle.wh_types.specs.declared.simple_type.SimpleType.{SimpleType}
-use Rattle.wh_hopoly.specs.Polynomials.{Polynomial, zero_poly, plus, no_factors, times, Arguments, no_arguments, argument}
-use Rattle.wh_hopoly.specs.Arithmetic.{followed_by}
-use Rattle.wh_hopoly.specs.Erase.{poly, atoms, polys, monomials, factors, list, sum_of, product_of, arguments_of}
-use Rattle.wh_hopoly.specs.declared.polynomial.Poly.{Poly}
-use Rattle.wh_hopoly.specs.declared.polynomial.Polys.{Polys}
-use Rattle.wh_hopoly.specs.declared.polynomial.Atoms.{Atoms}
-use Rattle.wh_hopoly.specs.declared.polynomial.Atom.{Atom, out-Atom}
-use Rattle.wh_hopoly.specs.declared.polynomial.Monomial.{Monomial, out-Monomial}
-use Rattle.wh_hopoly.proofs.Lists.{poly_is, atoms_is, polys_is}
-use Rattle.wh_hopoly.proofs.Pushes.{arguments_followed_by, sum_of_append, arguments_of_append}
-use Rattle.wh_hopoly.proofs.AddedLaws.{followed_assoc, followed_by_none}
-use Rattle.wh_hopoly.proofs.Walks.{drop_next}
+use Rattle.wh_poly.specs.Polynomials.{Polynomial, zero_poly, plus, no_factors, times, Arguments, no_arguments, argument}
+use Rattle.wh_poly.specs.Arithmetic.{followed_by}
+use Rattle.wh_poly.specs.Erase.{poly, atoms, polys, monomials, factors, list, sum_of, product_of, arguments_of}
+use Rattle.wh_poly.specs.declared.polynomial.Poly.{Poly}
+use Rattle.wh_poly.specs.declared.polynomial.Polys.{Polys}
+use Rattle.wh_poly.specs.declared.polynomial.Atoms.{Atoms}
+use Rattle.wh_poly.specs.declared.polynomial.Atom.{Atom, out-Atom}
+use Rattle.wh_poly.specs.declared.polynomial.Monomial.{Monomial, out-Monomial}
+use Rattle.wh_poly.proofs.Lists.{poly_is, atoms_is, polys_is}
+use Rattle.wh_poly.proofs.Pushes.{arguments_followed_by, sum_of_append, arguments_of_append}
+use Rattle.wh_poly.proofs.AddedLaws.{followed_assoc, followed_by_none}
+use Rattle.wh_poly.proofs.Walks.{drop_next}
 use Rattle.wh_space.specs.Space.{is_sort, variables_where, sum_of_variables, filled}
 
 -- arguments for the rest of a type are still to be made

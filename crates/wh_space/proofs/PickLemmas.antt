@@ -4,17 +4,17 @@ use Rattle.std.specs.Ordering.{ordering_then}
 use Rattle.std.proofs.lemmas.Bool.Decides.{nat_tests}
 use Rattle.std.proofs.lemmas.List.Elements.{All-nil, All-cons, All-head, All-tail, All-contains}
 use Rattle.wh_types.specs.Ty.{Ty, sort, ◌⇒◌, arguments}
-use Rattle.wh_hopoly.specs.Polynomials.{Polynomial, zero_poly, plus, Factors, no_factors, times, Arguments, no_arguments, HasType, compare_factors, compare_arguments, MonomialBefore, Normal, NormalFactors, NormalArguments, FactorBefore}
-use Rattle.wh_hopoly.specs.Arithmetic.{followed_by}
+use Rattle.wh_poly.specs.Polynomials.{Polynomial, zero_poly, plus, Factors, no_factors, times, Arguments, no_arguments, HasType, compare_factors, compare_arguments, MonomialBefore, Normal, NormalFactors, NormalArguments, FactorBefore}
+use Rattle.wh_poly.specs.Arithmetic.{followed_by}
 use Rattle.wh_hopoly.specs.Evaluation.{type_at}
 use Rattle.wh_hopoly.specs.Moves.{MonomialAt}
-use Rattle.wh_hopoly.specs.Erase.{atoms, monomials, poly, sum_of}
+use Rattle.wh_poly.specs.Erase.{atoms, monomials, poly, sum_of}
 use Rattle.std.proofs.Math.ListN.{drop_of_length-le}
-use Rattle.wh_hopoly.specs.declared.polynomial.Poly.{Poly}
-use Rattle.wh_hopoly.specs.declared.polynomial.Monomial.{Monomial, out-Monomial}
-use Rattle.wh_hopoly.proofs.Lists.{poly_is}
-use Rattle.wh_hopoly.proofs.OrderLaws.{arguments_same}
-use Rattle.wh_hopoly.proofs.Pushes.{sum_of_append}
+use Rattle.wh_poly.specs.declared.polynomial.Poly.{Poly}
+use Rattle.wh_poly.specs.declared.polynomial.Monomial.{Monomial, out-Monomial}
+use Rattle.wh_poly.proofs.Lists.{poly_is}
+use Rattle.wh_poly.proofs.OrderLaws.{arguments_same}
+use Rattle.wh_poly.proofs.Pushes.{sum_of_append}
 use Rattle.wh_hopoly.proofs.ReplaceLaws.{at_left}
 use Rattle.wh_space.specs.Space.{is_sort, variables_where, sort_variables, sum_of_variables, filled, variable_before, alone, space_of, HasMonomial}
 use Rattle.wh_space.specs.Coefficients.{capped, HasCoefficients}

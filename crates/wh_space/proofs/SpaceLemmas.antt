@@ -5,7 +5,7 @@ use Rattle.std.proofs.lemmas.List.Elements.{Contains-append_left, Contains-appen
 use Rattle.wh_types.specs.Ty.{Ty}
 use Rattle.wh_types.specs.Erase.{ty, tys}
 use Rattle.wh_types.specs.declared.simple_type.SimpleType.{SimpleType}
-use Rattle.wh_hopoly.specs.Polynomials.{Factors, no_factors}
+use Rattle.wh_poly.specs.Polynomials.{Factors, no_factors}
 use Rattle.wh_hopoly.specs.Evaluation.{type_at}
 use Rattle.wh_space.specs.Space.{is_sort, variables_where, sort_variables, functional_variables, variable_before, alone, both, products, space_of}
 use Rattle.wh_space.specs.Spots.{IsSpot, factors_at}

@@ -5,7 +5,7 @@ use Rattle.std.proofs.lemmas.Option.{none-some, same_Some, slice_get-get_or}
 use Rattle.std.proofs.lemmas.List.{length-map, map-append, take_more, append-nil}
 use Rattle.std.proofs.lemmas.List.Elements.{All-contains, All-contains_itself, All-map, All-weaker, Contains-append_cases}
 use Rattle.wh_types.specs.Ty.{Ty}
-use Rattle.wh_hopoly.specs.Polynomials.{Factors, no_factors}
+use Rattle.wh_poly.specs.Polynomials.{Factors, no_factors}
 use Rattle.wh_hopoly.specs.Evaluation.{type_at}
 use Rattle.wh_space.specs.Space.{is_sort, variables_where, sort_variables, functional_variables, variable_before, alone, both, products, space_of}
 use Rattle.wh_space.specs.Spots.{IsSpot, factors_at, spot_of_two, rows_of, spots_by, weight_before, sorts_before, functional_before, products_before, alone_place, row_place, place}

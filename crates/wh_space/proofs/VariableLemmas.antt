@@ -4,7 +4,7 @@ use Rattle.std.proofs.lemmas.List.{append-nil}
 use Rattle.wh_types.specs.Ty.{Ty}
 use Rattle.wh_types.specs.Erase.{ty, tys}
 use Rattle.wh_types.specs.declared.simple_type.SimpleType.{SimpleType}
-use Rattle.wh_hopoly.proofs.Walks.{drop_next}
+use Rattle.wh_poly.proofs.Walks.{drop_next}
 use Rattle.wh_space.specs.Space.{variables_where}
 
 abbrev pub listed_from : (Ty → Bool) → ℕ → List SimpleType → List ℕ

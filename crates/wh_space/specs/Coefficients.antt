@@ -1,7 +1,7 @@
 -- The coefficients of polynomials that are tried, in the order of the monomials of their spaces.
 use Rattle.std.specs.Prelude.{ℕ, ◌≤◌, ◌≡◌, ◌↔◌, nat_lt, if◌then◌else◌, List, Some, get_or, slice_get}
 use Rattle.wh_types.specs.Ty.{Ty}
-use Rattle.wh_hopoly.specs.Polynomials.{Polynomial, Factors}
+use Rattle.wh_poly.specs.Polynomials.{Polynomial, Factors}
 use Rattle.wh_space.specs.Space.{IsOfSpace, HasMonomial, space_of}
 
 -- a number, and 3 in place of a greater one

@@ -1,7 +1,7 @@
 -- The polynomials among which interpretations are looked for: sums of few monomials with small coefficients.
 use Rattle.std.specs.Prelude.{ℕ, suc, ◌≤◌, nat_lt, Bool, true, false, not, List, [], ◌∷◌, ◌++◌, map, if◌then◌else◌, Contains}
 use Rattle.wh_types.specs.Ty.{Ty, sort, ◌⇒◌}
-use Rattle.wh_hopoly.specs.Polynomials.{Polynomial, zero_poly, plus, Factors, no_factors, times, Arguments, no_arguments, argument, Normal}
+use Rattle.wh_poly.specs.Polynomials.{Polynomial, zero_poly, plus, Factors, no_factors, times, Arguments, no_arguments, argument, Normal}
 use Rattle.wh_hopoly.specs.Evaluation.{type_at}
 use Rattle.wh_hopoly.specs.Moves.{MonomialAt}
 

@@ -1,7 +1,7 @@
 -- Spots of a scope: which variables a monomial has, where it stands in the space, and in which order normal forms have it.
 use Rattle.std.specs.Prelude.{ℕ, zero, suc, ◌+◌, ◌<◌, ◌≤◌, ◌≡◌, ◌≢◌, ◌⊎◌, ◌^◌, ◌-◌, nat_lt, List, [], ◌∷◌, ◌++◌, map, length, if◌then◌else◌, All, Contains, Some, slice_get}
 use Rattle.wh_types.specs.Ty.{Ty}
-use Rattle.wh_hopoly.specs.Polynomials.{Factors, no_factors}
+use Rattle.wh_poly.specs.Polynomials.{Factors, no_factors}
 use Rattle.wh_hopoly.specs.Evaluation.{type_at}
 use Rattle.wh_space.specs.Space.{is_sort, variable_before, alone, sort_variables, functional_variables}
 use Rattle.wh_space.specs.declared.space.Spot.{Spot}

@@ -2,11 +2,11 @@
 
 ghost use Rattle.std.specs.Prelude.{ℕ, ◌≡◌, ◌<◌, IfOk, get_or, if◌then◌else◌, length};
 ghost use Rattle.wh_types.specs.Erase.{ty, tys};
-ghost use Rattle.wh_hopoly.specs.Erase.{atoms, poly, polys};
+ghost use Rattle.wh_poly.specs.Erase.{atoms, poly, polys};
 ghost use Rattle.wh_hopoly.specs.Evaluation.{type_at};
-ghost use Rattle.wh_hopoly.specs.Polynomials.{no_arguments, no_factors, times, zero_poly};
-ghost use Rattle.wh_hopoly.specs.declared.polynomial.Atom.{out-Atom};
-ghost use Rattle.wh_hopoly.specs.declared.polynomial.Monomial.{out-Monomial};
+ghost use Rattle.wh_poly.specs.Polynomials.{no_arguments, no_factors, times, zero_poly};
+ghost use Rattle.wh_poly.specs.declared.polynomial.Atom.{out-Atom};
+ghost use Rattle.wh_poly.specs.declared.polynomial.Monomial.{out-Monomial};
 ghost use Rattle.wh_space.specs.Coefficients.{HasCoefficients, capped};
 ghost use Rattle.wh_space.specs.Space.{filled, is_sort, sort_variables, sum_of_variables};
 ghost use Rattle.wh_space.specs.Spots.{IsSpot, IsUpTo, factors_at};
@@ -14,7 +14,7 @@ ghost use Rattle.wh_space.specs.Spots.{IsSpot, IsUpTo, factors_at};
 use crate::places::{place_of, places_of};
 use crate::spots::spots_in_order;
 use std::alloc::{AllocError, Global};
-use wh_hopoly::{Atom, Atoms, Monomial, Poly, Polys, copy};
+use wh_poly::{Atom, Atoms, Monomial, Poly, Polys, copy};
 use wh_types::SimpleType;
 
 /// The greatest coefficient that is tried.

@@ -2,7 +2,7 @@
 
 use crate::text::Text;
 use std::alloc::AllocError;
-use wh_hopoly::{Atoms, Poly, Polys};
+use wh_poly::{Atoms, Poly, Polys};
 
 /// Appends a polynomial.
 #[cycle(polys)]

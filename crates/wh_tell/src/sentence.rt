@@ -5,7 +5,7 @@ use crate::polys::put_poly;
 use crate::terms::put_term;
 use crate::text::Text;
 use std::alloc::AllocError;
-use wh_hopoly::Poly;
+use wh_poly::Poly;
 use wh_terms::Term;
 use wh_text::Name;
 

@@ -2,8 +2,9 @@
 
 use std::alloc::AllocError;
 use wh_cert::Interp;
-use wh_hopoly::{Monomial, Move, Moves, Poly};
+use wh_hopoly::{Move, Moves};
 use wh_pairs::Pair;
+use wh_poly::{Monomial, Poly};
 use wh_system::System;
 use wh_tell::Piece::{Big, Count, Number, Say, Spell, Sum};
 use wh_tell::{

@@ -1,7 +1,7 @@
 //! Polynomials of the rows, from tables of their products. All coefficients are 1.
 
 use std::alloc::{AllocError, Global};
-use wh_hopoly::{Atom, Atoms, Monomial, Poly, Polys};
+use wh_poly::{Atom, Atoms, Monomial, Poly, Polys};
 
 /// A product of variables without arguments, by their numbers.
 pub type Plain = &'static [u32];

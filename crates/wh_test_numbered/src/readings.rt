@@ -9,7 +9,8 @@ ghost use Rattle.wh_hopoly.specs.Evaluation.{NormalInterpretations};
 
 use crate::polynomials::{Product, poly_of};
 use std::alloc::{AllocError, Global};
-use wh_hopoly::{Poly, Symbol, is_normal};
+use wh_hopoly::{Symbol, is_normal};
+use wh_poly::Poly;
 use wh_system::System;
 use wh_types::SimpleType;
 

@@ -10,7 +10,8 @@ use std::alloc::{AllocError, Global};
 use wh_cert::{
     Arg, Args, Filter, Interp, Interps, NamedFilter, NamedFilters, Node, Nodes, OrderNode, PolyNode,
 };
-use wh_hopoly::{Covers, Move, Moves, copy as copy_polynomial};
+use wh_hopoly::{Covers, Move, Moves};
+use wh_poly::copy as copy_polynomial;
 use wh_types::Numbers;
 
 /// The same nodes in the same order.

@@ -21,7 +21,7 @@ use Rattle.wh_calls.proofs.Measured.{ends_measured}
 use Rattle.wh_reduction.specs.TaskData.{TaskData}
 use Rattle.wh_reduction.specs.ReductionPair.{Evidence}
 use Rattle.wh_reduction.proofs.LinesShow.{pair_shown}
-use Rattle.wh_hopoly.specs.Polynomials.{Polynomial, Normal}
+use Rattle.wh_poly.specs.Polynomials.{Polynomial, Normal}
 use Rattle.wh_hopoly.specs.Evaluation.{Interpretation, interpretation_at, NormalInterpretations}
 use Rattle.wh_hopoly.specs.Moves.{Transfer}
 use Rattle.wh_polycheck.specs.Sides.{arrows, types_of_metas, call_polynomial, Interprets}

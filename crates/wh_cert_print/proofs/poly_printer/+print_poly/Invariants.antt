@@ -1,5 +1,5 @@
 use Rattle.std.proofs.Common.{drop}
-use Rattle.wh_hopoly.specs.Erase.{sum_of, product_of, arguments_of}
+use Rattle.wh_poly.specs.Erase.{sum_of, product_of, arguments_of}
 use Rattle.wh_text.proofs.PrintLemmas.{Leaves}
 use Rattle.wh_cert.specs.PolyText.{put_sum, put_factors, put_more}
 use Rattle.wh_cert_print.proofs.poly_printer.+print_poly.Given as goal

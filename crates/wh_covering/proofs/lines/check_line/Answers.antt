@@ -1,5 +1,6 @@
 use Rattle.std.proofs.Common.{true, false, Bool, ap, sym, subst}
-use Rattle.wh_hopoly.specs.Erase.{poly, transfers}
+use Rattle.wh_poly.specs.Erase.{poly}
+use Rattle.wh_hopoly.specs.Erase.{transfers}
 use Rattle.wh_covering.specs.CoveringFaults.{IsFirstFaultOfMoves}
 use Rattle.wh_covering.proofs.SideLemmas.{few_of_side}
 use Rattle.wh_covering.proofs.LineLemmas.{moves_fault, told_fault}

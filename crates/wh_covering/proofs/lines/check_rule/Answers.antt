@@ -1,7 +1,8 @@
 use Rattle.std.proofs.Common.{true, false}
 use Rattle.wh_system.specs.SystemView.{system_data}
 use Rattle.wh_covering.proofs.Walks.{some_at}
-use Rattle.wh_hopoly.specs.Erase.{poly, transfers}
+use Rattle.wh_poly.specs.Erase.{poly}
+use Rattle.wh_hopoly.specs.Erase.{transfers}
 use Rattle.wh_polycheck.specs.ReadingsView.{readings_data}
 use Rattle.wh_polycheck.specs.Covering.{rule_run}
 use Rattle.wh_covering.proofs.LineLemmas.{left_exceeds, right_exceeds}

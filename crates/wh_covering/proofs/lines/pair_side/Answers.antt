@@ -1,7 +1,7 @@
 use Rattle.wh_system.specs.SystemView.{system_data}
 use Rattle.wh_pairs.specs.PairData.{pair_data}
-use Rattle.wh_hopoly.specs.Erase.{poly}
-use Rattle.wh_hopoly.specs.declared.polynomial.Poly.{Poly}
+use Rattle.wh_poly.specs.Erase.{poly}
+use Rattle.wh_poly.specs.declared.polynomial.Poly.{Poly}
 use Rattle.wh_polycheck.specs.ReadingsView.{readings_data}
 use Rattle.wh_covering.proofs.SideLemmas.{pair_side_is, pair_exceeds}
 use Rattle.wh_covering.proofs.LineLemmas.{told_cause}

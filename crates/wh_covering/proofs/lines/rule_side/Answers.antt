@@ -1,5 +1,5 @@
-use Rattle.wh_hopoly.specs.Erase.{poly}
-use Rattle.wh_hopoly.specs.declared.polynomial.Poly.{Poly}
+use Rattle.wh_poly.specs.Erase.{poly}
+use Rattle.wh_poly.specs.declared.polynomial.Poly.{Poly}
 use Rattle.wh_polycheck.specs.ReadingsView.{readings_data}
 use Rattle.wh_covering.proofs.SideLemmas.{rule_side_is, rule_exceeds}
 use Rattle.wh_covering.proofs.LineLemmas.{told_cause}

@@ -2,8 +2,9 @@ use Rattle.std.proofs.Common.{ap, sym, subst, ◌∙◌}
 use Rattle.wh_types.specs.Erase.{tys}
 use Rattle.wh_types.specs.Ty.{arguments}
 use Rattle.wh_pairs.proofs.ByPlace.{read_map, before_more, map_length}
-use Rattle.wh_hopoly.specs.Polynomials.{Normal}
-use Rattle.wh_hopoly.specs.Erase.{interpretation, interpretations, poly}
+use Rattle.wh_poly.specs.Polynomials.{Normal}
+use Rattle.wh_hopoly.specs.Erase.{interpretation, interpretations}
+use Rattle.wh_poly.specs.Erase.{poly}
 use Rattle.wh_covering.proofs.Walks.{at_each}
 use Rattle.wh_covering.proofs.normality.first_not_normal.Goals as goal
 

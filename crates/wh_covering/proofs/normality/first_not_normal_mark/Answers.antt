@@ -3,8 +3,8 @@ use Rattle.wh_types.specs.Erase.{tys}
 use Rattle.wh_types.specs.Ty.{arguments}
 use Rattle.wh_system.specs.SystemView.{system_data}
 use Rattle.wh_pairs.proofs.ByPlace.{read_map, before_more, before_all, map_length}
-use Rattle.wh_hopoly.specs.Polynomials.{Normal}
-use Rattle.wh_hopoly.specs.Erase.{poly}
+use Rattle.wh_poly.specs.Polynomials.{Normal}
+use Rattle.wh_poly.specs.Erase.{poly}
 use Rattle.wh_polycheck.specs.Marks.{marked_types}
 use Rattle.wh_polycheck.specs.SideResults.{mark, marks_of}
 use Rattle.wh_polycheck.proofs.MoreInterpretations.{arguments_of_arrows}

@@ -1,6 +1,6 @@
 use Rattle.wh_system.specs.SystemView.{system_data}
 use Rattle.wh_pairs.proofs.ByPlace.{Before}
-use Rattle.wh_hopoly.specs.Polynomials.{Normal}
+use Rattle.wh_poly.specs.Polynomials.{Normal}
 use Rattle.wh_polycheck.specs.Marks.{marked_types}
 use Rattle.wh_polycheck.specs.SideResults.{marks_of}
 use Rattle.wh_covering.proofs.normality.first_not_normal_mark.Given as goal

@@ -1,5 +1,5 @@
 use Rattle.std.proofs.Common.{◌≡◌, ◌<◌, ℕ, slice_index}
-use Rattle.wh_hopoly.specs.Erase.{sum_of}
+use Rattle.wh_poly.specs.Erase.{sum_of}
 use Rattle.wh_find_moves.specs.Found.{NoneCovers}
 use Rattle.wh_find_moves.specs.Flows.{IsFlow}
 use Rattle.wh_find_moves.proofs.finding.deficit.Given as goal

@@ -1,7 +1,8 @@
 -- The two lists are those of the polynomials.
 use Rattle.std.proofs.Common.{◌≡◌, ◌<◌, ◌≤◌, length, get_or, arith, ap, sym, subst, ◌∙◌}
 use Rattle.std.specs.Bool.{MatchBool}
-use Rattle.wh_hopoly.specs.Erase.{sum_of, transfers}
+use Rattle.wh_poly.specs.Erase.{sum_of}
+use Rattle.wh_hopoly.specs.Erase.{transfers}
 use Rattle.wh_find_moves.specs.Found.{AreCovering, NoneCovers}
 use Rattle.wh_find_moves.specs.Flows.{positives}
 use Rattle.wh_find_moves.proofs.Covering.{normal_list, sorted_list, none_covers_poly, covering, covering_poly}

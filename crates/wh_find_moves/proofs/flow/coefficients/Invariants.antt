@@ -1,6 +1,6 @@
 use Rattle.std.proofs.Common.{◌≡◌, ◌<◌, ◌^◌, map, take}
 use Rattle.std.specs.List.{All}
-use Rattle.wh_hopoly.specs.declared.polynomial.Monomial.{out-Monomial}
+use Rattle.wh_poly.specs.declared.polynomial.Monomial.{out-Monomial}
 use Rattle.wh_find_moves.proofs.flow.coefficients.Given as goal
 
 abbrev pub invariant-loop-item : goal.invariant-loop-item

@@ -1,10 +1,10 @@
 -- At the start nothing is counted, a part is smaller than the whole, and one more part is counted.
 use Rattle.std.proofs.Common.{◌≡◌, ℕ, ◌+◌, ◌-◌, ◌*◌, ◌^◌, ap, sym, ◌∙◌, arith}
-use Rattle.wh_hopoly.specs.Erase.{sum_of, product_of, arguments_of}
-use Rattle.wh_hopoly.specs.declared.polynomial.Monomial.{out-Monomial}
-use Rattle.wh_hopoly.proofs.Lists.{poly_is, atoms_is, polys_is}
-use Rattle.wh_hopoly.proofs.Sizes.{smaller_factors, smaller_arguments, smaller_poly}
-use Rattle.wh_hopoly.proofs.Walks.{sum_drop, product_drop, sum_ended, product_ended, arguments_ended}
+use Rattle.wh_poly.specs.Erase.{sum_of, product_of, arguments_of}
+use Rattle.wh_poly.specs.declared.polynomial.Monomial.{out-Monomial}
+use Rattle.wh_poly.proofs.Lists.{poly_is, atoms_is, polys_is}
+use Rattle.wh_poly.proofs.Sizes.{smaller_factors, smaller_arguments, smaller_poly}
+use Rattle.wh_poly.proofs.Walks.{sum_drop, product_drop, sum_ended, product_ended, arguments_ended}
 use Rattle.wh_growth.specs.Weights.{number, product, saturated, sum}
 use Rattle.wh_growth.proofs.Saturated.{added, multiplied, all_added, all_multiplied, product_right}
 use Rattle.wh_growth.proofs.weights.+number_of.Goals as goal

@@ -1,7 +1,7 @@
 -- What is counted so far and what is left are together what all is worth, up to the greatest number.
 use Rattle.std.proofs.Common.{◌≡◌, ◌+◌, ◌*◌, ◌^◌, ◌<◌, drop}
-use Rattle.wh_hopoly.specs.Erase.{poly, atoms, polys, sum_of, product_of, arguments_of}
-use Rattle.wh_hopoly.proofs.Sizes.{size, size_of_factors, size_of_arguments}
+use Rattle.wh_poly.specs.Erase.{poly, atoms, polys, sum_of, product_of, arguments_of}
+use Rattle.wh_poly.proofs.Sizes.{size, size_of_factors, size_of_arguments}
 use Rattle.wh_growth.specs.Weights.{number, product, saturated, sum}
 use Rattle.wh_growth.proofs.weights.+number_of.Given as goal
 

@@ -1,5 +1,6 @@
 use Rattle.std.proofs.Common.{◌↔◌, Bool, IsTrue, List, MatchResult, sym, subst}
-use Rattle.wh_hopoly.specs.Erase.{poly, transfers}
+use Rattle.wh_poly.specs.Erase.{poly}
+use Rattle.wh_hopoly.specs.Erase.{transfers}
 use Rattle.wh_hopoly.specs.Moves.{IsStrictCover}
 use Rattle.wh_hopoly.specs.declared.expression.Move.{Move}
 use Rattle.wh_polycheck.specs.CoverFaults.{IsFirstStrictCoverFault}

@@ -1,4 +1,4 @@
-use Rattle.wh_hopoly.specs.Erase.{poly}
+use Rattle.wh_poly.specs.Erase.{poly}
 use Rattle.wh_guesses.proofs.LineLemmas.{few_side, line_found}
 use Rattle.wh_guesses.proofs.lines.line.Goals as goal
 

@@ -1,4 +1,5 @@
-use Rattle.wh_hopoly.specs.Erase.{poly, transfers}
+use Rattle.wh_poly.specs.Erase.{poly}
+use Rattle.wh_hopoly.specs.Erase.{transfers}
 use Rattle.wh_guesses.specs.Lines.{IsLine, IsNotMet}
 use Rattle.wh_guesses.proofs.LineLemmas.{matched_some, matched_none, few_moves, pair_line_of}
 use Rattle.wh_guesses.proofs.lines.strict_line.Goals as goal

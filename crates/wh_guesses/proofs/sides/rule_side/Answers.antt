@@ -1,5 +1,5 @@
 use Rattle.wh_system.specs.CanonicalView.{side_of}
-use Rattle.wh_hopoly.specs.Erase.{poly}
+use Rattle.wh_poly.specs.Erase.{poly}
 use Rattle.wh_polycheck.specs.ReadingsView.{readings_data}
 use Rattle.wh_polycheck.specs.SideResults.{IsFaultOfSide}
 use Rattle.wh_covering.proofs.SideLemmas.{rule_side_is}

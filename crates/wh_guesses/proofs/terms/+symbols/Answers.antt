@@ -7,7 +7,7 @@ use Rattle.wh_terms.proofs.TermLemmas.{tm_of_meta}
 use Rattle.wh_guesses.specs.Conditions.{HasSymbol, SomeHasSymbol}
 use Rattle.wh_guesses.specs.Uses.{Joins}
 use Rattle.wh_covering.proofs.CoverWalk.{ok_so}
-use Rattle.wh_hopoly.proofs.Walks.{drop_next}
+use Rattle.wh_poly.proofs.Walks.{drop_next}
 use Rattle.wh_guesses.proofs.UseLemmas.{JoinsSome, joins_all, joins_both, joins_next}
 use Rattle.wh_guesses.proofs.terms.+symbols.Goals as goal
 

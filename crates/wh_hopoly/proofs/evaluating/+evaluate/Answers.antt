@@ -9,13 +9,14 @@ use Rattle.wh_hopoly.specs.NumberedParts.{parts}
 use Rattle.wh_hopoly.specs.Replacements.{apply_at}
 use Rattle.wh_hopoly.specs.Scopes.{scope_of}
 use Rattle.wh_hopoly.specs.Valued.{readings, Yields, IsValueOf, IsFaultFrom}
-use Rattle.wh_hopoly.specs.Erase.{poly, expression}
+use Rattle.wh_poly.specs.Erase.{poly}
+use Rattle.wh_hopoly.specs.Erase.{expression}
 use Rattle.wh_hopoly.specs.NumberedParts.{own_values}
-use Rattle.wh_hopoly.specs.Excesses.{ExceedsAs}
-use Rattle.wh_hopoly.specs.Polynomials.{Polynomial}
+use Rattle.wh_poly.specs.Excesses.{ExceedsAs}
+use Rattle.wh_poly.specs.Polynomials.{Polynomial}
 use Rattle.wh_hopoly.specs.declared.valued.Valued.{Valued}
 use Rattle.std.specs.Prelude.{Contains}
-use Rattle.wh_hopoly.proofs.FaultLaws.{ok_so, because_so, passed_on}
+use Rattle.wh_poly.proofs.FaultLaws.{ok_so, because_so, passed_on}
 use Rattle.wh_hopoly.proofs.ValuedLaws.{located_ok, located_fault, fault_embeds, body_embeds, function_embeds, argument_embeds, function_normal, argument_normal, application_is, application_exceeds}
 use Rattle.wh_hopoly.proofs.evaluating.+evaluate.Goals as goal
 

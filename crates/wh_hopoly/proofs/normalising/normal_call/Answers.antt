@@ -4,16 +4,17 @@ use Rattle.std.specs.Prelude.{Contains, IfOk}
 use Rattle.std.proofs.lemmas.List.{length-map}
 use Rattle.wh_types.specs.Erase.{ty}
 use Rattle.wh_types.specs.Outcome.{IfBecause}
-use Rattle.wh_hopoly.specs.Polynomials.{Polynomial}
-use Rattle.wh_hopoly.specs.Arithmetic.{renumber}
-use Rattle.wh_hopoly.specs.Excesses.{ExceedsAs}
+use Rattle.wh_poly.specs.Polynomials.{Polynomial}
+use Rattle.wh_poly.specs.Arithmetic.{renumber}
+use Rattle.wh_poly.specs.Excesses.{ExceedsAs}
 use Rattle.wh_hopoly.specs.Evaluation.{one, symbol, apply, codomain}
 use Rattle.wh_hopoly.specs.Outcomes.{PassesLimit, IsFaultOf, applied_to}
 use Rattle.wh_hopoly.specs.NumberedParts.{own_values}
 use Rattle.wh_hopoly.specs.Replacements.{apply_at}
 use Rattle.wh_hopoly.specs.Valued.{Yields, IsValueOf, IsFaultFrom}
-use Rattle.wh_hopoly.specs.Erase.{poly, expression, interpretations}
-use Rattle.wh_hopoly.proofs.FaultLaws.{ok_so, because_so, passed_on}
+use Rattle.wh_poly.specs.Erase.{poly}
+use Rattle.wh_hopoly.specs.Erase.{expression, interpretations}
+use Rattle.wh_poly.proofs.FaultLaws.{ok_so, because_so, passed_on}
 use Rattle.wh_hopoly.proofs.ValuedLaws.{reading_last, located_ok, located_fault, symbol_is, symbol_exceeds, typed_start, start_fault, application_typed, one_number, call_argument_fault, call_fault, calling_steps, calling_ends, function_normal, argument_normal, application_is, application_exceeds}
 use Rattle.wh_hopoly.proofs.normalising.normal_call.Goals as goal
 

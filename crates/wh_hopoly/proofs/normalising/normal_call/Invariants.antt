@@ -3,7 +3,8 @@ use Rattle.std.proofs.Common.{◌++◌, [], ◌∷◌, map, length, drop}
 use Rattle.wh_types.specs.Erase.{ty}
 use Rattle.wh_hopoly.specs.Evaluation.{symbol}
 use Rattle.wh_hopoly.specs.Outcomes.{applied_to}
-use Rattle.wh_hopoly.specs.Erase.{poly, expression, interpretations}
+use Rattle.wh_poly.specs.Erase.{poly}
+use Rattle.wh_hopoly.specs.Erase.{expression, interpretations}
 use Rattle.wh_hopoly.proofs.ValuedLaws.{Calling}
 use Rattle.wh_hopoly.proofs.normalising.normal_call.Given as goal
 

@@ -2,13 +2,14 @@
 use Rattle.std.proofs.Common.{◌+◌, ◌++◌, refl, ap, sym, subst, arith}
 use Rattle.wh_types.specs.Erase.{ty}
 use Rattle.wh_types.specs.Ty.{arguments}
-use Rattle.wh_hopoly.specs.Polynomials.{MonomialBefore, FactorBefore, Normal}
+use Rattle.wh_poly.specs.Polynomials.{MonomialBefore, FactorBefore, Normal}
 use Rattle.wh_hopoly.specs.Scopes.{scope_of}
-use Rattle.wh_hopoly.specs.declared.polynomial.Atom.{out-Atom}
-use Rattle.wh_hopoly.specs.declared.polynomial.Monomial.{out-Monomial}
-use Rattle.wh_hopoly.specs.Erase.{poly, atoms, polys, sum_of, product_of}
-use Rattle.wh_hopoly.proofs.Sizes.{smaller_factors, smaller_arguments, smaller_poly}
-use Rattle.wh_hopoly.proofs.NormalWalk.{monomial_left, factor_left, normal_ended, factors_ended, argument_left, arguments_left, sort_has_none, one_type, not_past, arrow_first, arrow_has_some, sort_needs_none, all_behind}
+use Rattle.wh_poly.specs.declared.polynomial.Atom.{out-Atom}
+use Rattle.wh_poly.specs.declared.polynomial.Monomial.{out-Monomial}
+use Rattle.wh_poly.specs.Erase.{poly, atoms, polys, sum_of, product_of}
+use Rattle.wh_poly.proofs.Sizes.{smaller_factors, smaller_arguments, smaller_poly}
+use Rattle.wh_hopoly.proofs.NormalWalk.{monomial_left, factor_left, normal_ended, factors_ended, argument_left, arguments_left, sort_has_none, one_type, not_past, arrow_first, arrow_has_some, sort_needs_none}
+use Rattle.wh_poly.proofs.Walks.{all_behind}
 use Rattle.wh_hopoly.proofs.normality.+normal.Goals as goal
 use Rattle.wh_hopoly.proofs.normality.+normal.Goals.{is_normal_in-then-item-eq0-via-then-item-eq0, is_normal_in-then-item-eq0-via-else-item-eq0+then-not-are_normal_factors, is_normal_in-then-item-eq0-via-else-item-eq0+else-not-are_normal_factors+then-not-stands_before, are_normal_factors-then-not-is_normal_factor-via-then-not-is_normal_factor, are_normal_factors-then-not-is_normal_factor-via-else-not-is_normal_factor+then-not-stands_not_after}
 

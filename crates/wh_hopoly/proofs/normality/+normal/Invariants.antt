@@ -1,10 +1,10 @@
 use Rattle.std.proofs.Common.{◌↔◌, ◌+◌, ◌*◌, drop}
 use Rattle.wh_types.specs.Erase.{ty}
-use Rattle.wh_hopoly.specs.Polynomials.{Normal, NormalFactors, NormalArguments}
-use Rattle.wh_hopoly.specs.declared.polynomial.Atom.{out-Atom}
-use Rattle.wh_hopoly.specs.Erase.{poly, atoms, polys, sum_of, product_of, arguments_of}
+use Rattle.wh_poly.specs.Polynomials.{Normal, NormalFactors, NormalArguments}
+use Rattle.wh_poly.specs.declared.polynomial.Atom.{out-Atom}
+use Rattle.wh_poly.specs.Erase.{poly, atoms, polys, sum_of, product_of, arguments_of}
 use Rattle.wh_hopoly.specs.Scopes.{scope_of}
-use Rattle.wh_hopoly.proofs.Sizes.{size, size_of_factors, size_of_arguments}
+use Rattle.wh_poly.proofs.Sizes.{size, size_of_factors, size_of_arguments}
 use Rattle.wh_hopoly.proofs.normality.+normal.Given as goal
 
 abbrev pub decreases-is_normal_in : goal.decreases-is_normal_in

@@ -1,11 +1,11 @@
 -- Item by item.
 use Rattle.std.proofs.Common.{ap, sym, ◌∙◌}
 use Rattle.std.proofs.Math.Seq.{take_all}
-use Rattle.wh_hopoly.specs.Arithmetic.{raised, renumber, renumber_factors, renumber_arguments}
-use Rattle.wh_hopoly.specs.Erase.{atoms, polys, monomials, factors, list, sum_of, product_of, arguments_of}
-use Rattle.wh_hopoly.specs.declared.polynomial.Monomial.{out-roll-Monomial}
-use Rattle.wh_hopoly.specs.declared.polynomial.Atom.{out-roll-Atom}
-use Rattle.wh_hopoly.proofs.Lists.{poly_is, atoms_is, polys_is}
+use Rattle.wh_poly.specs.Arithmetic.{raised, renumber, renumber_factors, renumber_arguments}
+use Rattle.wh_poly.specs.Erase.{atoms, polys, monomials, factors, list, sum_of, product_of, arguments_of}
+use Rattle.wh_poly.specs.declared.polynomial.Monomial.{out-roll-Monomial}
+use Rattle.wh_poly.specs.declared.polynomial.Atom.{out-roll-Atom}
+use Rattle.wh_poly.proofs.Lists.{poly_is, atoms_is, polys_is}
 use Rattle.wh_hopoly.proofs.RenumberLaws.{renumbered_push, renumbered_factor_push, renumbered_argument_push}
 use Rattle.wh_hopoly.proofs.renumbering.+raise.Goals as goal
 

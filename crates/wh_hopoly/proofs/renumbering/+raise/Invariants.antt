@@ -1,6 +1,6 @@
 use Rattle.std.proofs.Common.{◌≡◌, take}
-use Rattle.wh_hopoly.specs.Arithmetic.{raised, renumber, renumber_factors, renumber_arguments}
-use Rattle.wh_hopoly.specs.Erase.{monomials, factors, list, sum_of, product_of, arguments_of}
+use Rattle.wh_poly.specs.Arithmetic.{raised, renumber, renumber_factors, renumber_arguments}
+use Rattle.wh_poly.specs.Erase.{monomials, factors, list, sum_of, product_of, arguments_of}
 use Rattle.wh_hopoly.proofs.renumbering.+raise.Given as goal
 
 abbrev pub invariant-raise-loop-item : goal.invariant-raise-loop-item

@@ -2,25 +2,25 @@
 use Rattle.std.proofs.Common.{rules, ◌≤◌, ◌≡◌, ◌-◌, ◌++◌, ap, sym, subst, ◌∙◌, arith, length, length-append}
 use Rattle.wh_types.specs.Erase.{ty}
 use Rattle.wh_types.specs.Ty.{◌⇒◌, arguments}
-use Rattle.wh_hopoly.specs.Polynomials.{zero_poly, no_arguments, Normal, NormalFactors, NormalArguments}
-use Rattle.wh_hopoly.specs.Arithmetic.{constant, sum_poly, multiply, atom}
-use Rattle.wh_hopoly.specs.Limits.{Exceeds}
-use Rattle.wh_hopoly.specs.Excesses.{ExceedsAs}
+use Rattle.wh_poly.specs.Polynomials.{zero_poly, no_arguments, Normal, NormalFactors, NormalArguments}
+use Rattle.wh_poly.specs.Arithmetic.{constant, sum_poly, multiply, atom}
+use Rattle.wh_poly.specs.Limits.{Exceeds}
+use Rattle.wh_poly.specs.Excesses.{ExceedsAs}
 use Rattle.wh_hopoly.specs.Evaluation.{one, down, replace, replace_factors, replace_arguments, applied}
 use Rattle.wh_hopoly.specs.Outcomes.{ComesTo, ComesToArguments, PassesLimit}
 use Rattle.wh_hopoly.specs.Scopes.{scope_of}
-use Rattle.wh_hopoly.specs.Growing.{grown, HasRoom}
-use Rattle.wh_hopoly.specs.Totals.{total}
+use Rattle.wh_arithmetic.specs.Growing.{grown, HasRoom}
+use Rattle.wh_arithmetic.specs.Totals.{total}
 use Rattle.wh_hopoly.specs.Replacements.{head_of, head_by, replace_factor, product_with, apply_at, value_at, Replaces}
-use Rattle.wh_hopoly.specs.declared.polynomial.Monomial.{out-Monomial}
-use Rattle.wh_hopoly.specs.declared.polynomial.Atom.{out-Atom}
-use Rattle.wh_hopoly.specs.Erase.{poly, atoms, polys, list, sum_of, product_of, arguments_of}
-use Rattle.wh_hopoly.proofs.Lists.{poly_is, atoms_is, polys_is}
-use Rattle.wh_hopoly.proofs.FaultLaws.{ok_so, done_so, because_so, passed_on}
-use Rattle.wh_hopoly.proofs.OrderedLaws.{normal_ordered}
+use Rattle.wh_poly.specs.declared.polynomial.Monomial.{out-Monomial}
+use Rattle.wh_poly.specs.declared.polynomial.Atom.{out-Atom}
+use Rattle.wh_poly.specs.Erase.{poly, atoms, polys, list, sum_of, product_of, arguments_of}
+use Rattle.wh_poly.proofs.Lists.{poly_is, atoms_is, polys_is}
+use Rattle.wh_poly.proofs.FaultLaws.{ok_so, done_so, because_so, passed_on}
+use Rattle.wh_poly.proofs.OrderedLaws.{normal_ordered}
 use Rattle.wh_hopoly.proofs.NormalWalk.{one_type, not_past}
 use Rattle.wh_hopoly.proofs.RenumberLaws.{moved_by}
-use Rattle.wh_hopoly.proofs.RoomLaws.{room_is_within}
+use Rattle.wh_arithmetic.proofs.RoomLaws.{room_is_within}
 use Rattle.wh_hopoly.proofs.ReplacingLaws as laws
 use Rattle.wh_hopoly.proofs.replacing.+replace.Goals as goal
 

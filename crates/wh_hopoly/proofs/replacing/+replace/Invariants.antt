@@ -1,14 +1,14 @@
 -- A call has fewer values on its way than the call that it is in.
 use Rattle.std.proofs.Common.{◌+◌, ◌*◌, length}
 use Rattle.wh_types.specs.Erase.{ty}
-use Rattle.wh_hopoly.specs.Polynomials.{zero_poly}
-use Rattle.wh_hopoly.specs.Arithmetic.{constant}
+use Rattle.wh_poly.specs.Polynomials.{zero_poly}
+use Rattle.wh_poly.specs.Arithmetic.{constant}
 use Rattle.wh_hopoly.specs.Evaluation.{replace, replace_factors, replace_arguments, applied}
 use Rattle.wh_hopoly.specs.Scopes.{scope_of}
 use Rattle.wh_hopoly.specs.Replacements.{head_of, replace_factor, apply_at, Keeps}
-use Rattle.wh_hopoly.specs.declared.polynomial.Atom.{out-Atom}
-use Rattle.wh_hopoly.specs.Erase.{poly, atoms, polys, list}
-use Rattle.wh_hopoly.specs.Growing.{grown, HasRoom}
+use Rattle.wh_poly.specs.declared.polynomial.Atom.{out-Atom}
+use Rattle.wh_poly.specs.Erase.{poly, atoms, polys, list}
+use Rattle.wh_arithmetic.specs.Growing.{grown, HasRoom}
 use Rattle.wh_hopoly.proofs.ReplacingLaws.{Summing, Multiplying, Passing, Applying}
 use Rattle.wh_hopoly.proofs.replacing.+replace.Given as goal
 

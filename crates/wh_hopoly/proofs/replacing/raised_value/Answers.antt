@@ -1,17 +1,17 @@
 -- The value is raised as far as the scope is longer.
 use Rattle.std.proofs.Common.{◌≡◌, ◌-◌, arith, subst, ◌∙◌}
 use Rattle.wh_types.specs.Erase.{ty}
-use Rattle.wh_hopoly.specs.Limits.{Exceeds}
-use Rattle.wh_hopoly.specs.Excesses.{ExceedsAs}
+use Rattle.wh_poly.specs.Limits.{Exceeds}
+use Rattle.wh_poly.specs.Excesses.{ExceedsAs}
 use Rattle.wh_hopoly.specs.Scopes.{scope_of}
 use Rattle.wh_hopoly.specs.Replacements.{value_at}
-use Rattle.wh_hopoly.specs.Erase.{poly}
+use Rattle.wh_poly.specs.Erase.{poly}
 use Rattle.wh_hopoly.specs.declared.replacing.Replacement.{Replacement}
 use Rattle.wh_hopoly.specs.declared.replacing.Place.{Place}
-use Rattle.wh_hopoly.specs.declared.polynomial.Poly.{Poly}
+use Rattle.wh_poly.specs.declared.polynomial.Poly.{Poly}
 use Rattle.wh_hopoly.specs.Replacements.{Fits}
-use Rattle.wh_hopoly.specs.Arithmetic.{renumber, raised}
-use Rattle.wh_hopoly.proofs.FaultLaws.{ok_so, because_so}
+use Rattle.wh_poly.specs.Arithmetic.{renumber, raised}
+use Rattle.wh_poly.proofs.FaultLaws.{ok_so, because_so}
 use Rattle.wh_hopoly.proofs.RenumberLaws.{moved_by}
 use Rattle.wh_hopoly.proofs.ReplacingLaws.{place_counts}
 use Rattle.wh_hopoly.proofs.replacing.raised_value.Goals as goal

@@ -3,7 +3,7 @@ use Rattle.std.proofs.Common.{◌≡◌, ◌+◌, [], ◌∷◌, length, sym, su
 use Rattle.std.specs.Prelude.{MatchResult}
 use Rattle.wh_types.specs.Ty.{arguments}
 use Rattle.wh_types.specs.Erase.{ty}
-use Rattle.wh_hopoly.specs.Polynomials.{HasType}
+use Rattle.wh_poly.specs.Polynomials.{HasType}
 use Rattle.wh_hopoly.specs.Scopes.{scope_of}
 use Rattle.wh_hopoly.proofs.ReplaceLaws.{at_left}
 use Rattle.wh_hopoly.proofs.ScopeLaws.{type_in_list, found_behind}

@@ -1,7 +1,7 @@
 use Rattle.std.proofs.Common.{◌≡◌, ◌+◌, length}
 use Rattle.wh_types.specs.Erase.{ty}
 use Rattle.wh_types.specs.Ty.{Ty, arguments}
-use Rattle.wh_hopoly.specs.Polynomials.{HasType}
+use Rattle.wh_poly.specs.Polynomials.{HasType}
 use Rattle.wh_hopoly.proofs.scope.find_argument.Given as goal
 
 abbrev pub invariant-loop-here : goal.invariant-loop-here

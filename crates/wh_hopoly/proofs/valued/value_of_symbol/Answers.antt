@@ -1,7 +1,7 @@
 -- The reading counts as it does once it is renumbered.
 use Rattle.std.proofs.Common.{◌+◌, [], ◌∙◌}
-use Rattle.wh_hopoly.specs.Arithmetic.{renumber}
-use Rattle.wh_hopoly.specs.Erase.{poly}
+use Rattle.wh_poly.specs.Arithmetic.{renumber}
+use Rattle.wh_poly.specs.Erase.{poly}
 use Rattle.wh_hopoly.proofs.RenumberLaws.{moved_from_start}
 use Rattle.wh_hopoly.proofs.RunLaws.{first_is_there, within_one}
 use Rattle.wh_hopoly.proofs.ValuedLaws.{exceeds_renumbered, exceeds_before}

@@ -1,13 +1,14 @@
 -- The variable has one type, and its value is the only one.
 use Rattle.std.proofs.Common.{◌≡◌, [], ap₂, sym, subst, ◌∙◌, arith, length}
 use Rattle.wh_types.specs.Erase.{ty}
-use Rattle.wh_hopoly.specs.Evaluation.{one, variable, type_at}
-use Rattle.wh_hopoly.specs.Limits.{Exceeds}
-use Rattle.wh_hopoly.specs.Excesses.{ExceedsAs}
+use Rattle.wh_hopoly.specs.Evaluation.{one, type_at}
+use Rattle.wh_poly.specs.Added.{variable}
+use Rattle.wh_poly.specs.Limits.{Exceeds}
+use Rattle.wh_poly.specs.Excesses.{ExceedsAs}
 use Rattle.wh_hopoly.specs.Outcomes.{PassesLimit}
 use Rattle.wh_hopoly.specs.Scopes.{scope_of}
-use Rattle.wh_hopoly.specs.Erase.{poly}
-use Rattle.wh_hopoly.proofs.FaultLaws.{passed_on}
+use Rattle.wh_poly.specs.Erase.{poly}
+use Rattle.wh_poly.proofs.FaultLaws.{passed_on}
 use Rattle.wh_hopoly.proofs.NormalWalk.{has_type_within}
 use Rattle.wh_hopoly.proofs.ReplaceLaws.{type_is}
 use Rattle.wh_hopoly.proofs.RunLaws.{first_is_there, within_one}

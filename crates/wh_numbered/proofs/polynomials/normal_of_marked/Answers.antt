@@ -5,7 +5,8 @@ use Rattle.wh_types.specs.Erase.{ty}
 use Rattle.wh_types.specs.Ty.{Ty}
 use Rattle.wh_types.specs.Outcome.{IfBecause}
 use Rattle.wh_system.specs.SystemView.{system_data}
-use Rattle.wh_hopoly.specs.Erase.{poly, expression, interpretation, interpretations}
+use Rattle.wh_poly.specs.Erase.{poly}
+use Rattle.wh_hopoly.specs.Erase.{expression, interpretation, interpretations}
 use Rattle.wh_hopoly.specs.Evaluation.{Interpretation, evaluate, TypedExpression}
 use Rattle.wh_hopoly.specs.Outcomes.{ComesTo, IsFaultOf}
 use Rattle.wh_polycheck.specs.Marks.{marked_interpretation}

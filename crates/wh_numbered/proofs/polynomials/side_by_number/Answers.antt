@@ -3,7 +3,8 @@ use Rattle.std.proofs.Common.{◌≡◌, length, map, ap, sym, ◌∙◌, subst,
 use Rattle.wh_types.specs.Erase.{ty}
 use Rattle.wh_types.specs.Outcome.{IfBecause}
 use Rattle.wh_system.specs.SystemView.{system_data}
-use Rattle.wh_hopoly.specs.Erase.{poly, expression, interpretations}
+use Rattle.wh_poly.specs.Erase.{poly}
+use Rattle.wh_hopoly.specs.Erase.{expression, interpretations}
 use Rattle.wh_hopoly.specs.Evaluation.{evaluate, TypedExpression}
 use Rattle.wh_hopoly.specs.Outcomes.{ComesTo, IsFaultOf}
 use Rattle.wh_polycheck.specs.Sides.{side}

@@ -1,6 +1,7 @@
 use Rattle.std.proofs.Common.{ℕ, ◌<◌, ◌≤◌, ◌+◌, ◌-◌, length}
 use Rattle.wh_hopoly.specs.Moves.{Covered}
-use Rattle.wh_hopoly.specs.Erase.{sum_of, transfers}
+use Rattle.wh_poly.specs.Erase.{sum_of}
+use Rattle.wh_hopoly.specs.Erase.{transfers}
 use Rattle.wh_polycheck.proofs.amounts.first_not_covered.Given as goal
 
 abbrev pub decreases-loop-base : goal.decreases-loop-base

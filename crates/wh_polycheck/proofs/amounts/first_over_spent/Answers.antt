@@ -1,6 +1,7 @@
 -- The blocks before are done, and the next one either has the first fault or is done too.
 use Rattle.std.proofs.Common.{arith, ◌≡◌, length}
-use Rattle.wh_hopoly.specs.Erase.{sum_of, transfers}
+use Rattle.wh_poly.specs.Erase.{sum_of}
+use Rattle.wh_hopoly.specs.Erase.{transfers}
 use Rattle.wh_hopoly.specs.Moves.{NotOverSpent}
 use Rattle.wh_polycheck.proofs.GoodWalk.{monomial_within}
 use Rattle.wh_polycheck.proofs.AmountWalk.{further, before_found}

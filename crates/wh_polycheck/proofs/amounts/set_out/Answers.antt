@@ -1,6 +1,6 @@
 use Rattle.std.proofs.Common.{rules, ◌∙◌, ap, sym}
 use Rattle.std.proofs.lemmas.List.{length-set}
-use Rattle.wh_hopoly.specs.declared.polynomial.Monomial.{out-Monomial}
+use Rattle.wh_poly.specs.declared.polynomial.Monomial.{out-Monomial}
 use Rattle.wh_polycheck.proofs.AmountWalk.{one_more_set}
 use Rattle.wh_polycheck.proofs.amounts.set_out.Goals as goal
 

@@ -1,6 +1,7 @@
 -- A cover, and what is left of the constant.
 use Rattle.std.proofs.Common.{refl}
-use Rattle.wh_hopoly.specs.Erase.{poly, transfers}
+use Rattle.wh_poly.specs.Erase.{poly}
+use Rattle.wh_hopoly.specs.Erase.{transfers}
 use Rattle.wh_polycheck.specs.CoverFaults.{LeavesConstant}
 use Rattle.wh_polycheck.proofs.Checked.{to_list, by_list, fault_is_strict, strict_cover, not_true}
 use Rattle.wh_polycheck.proofs.check.check_strict.Goals as goal

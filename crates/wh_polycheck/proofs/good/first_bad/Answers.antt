@@ -1,5 +1,5 @@
 use Rattle.std.proofs.Common.{refl}
-use Rattle.wh_hopoly.specs.Erase.{sum_of}
+use Rattle.wh_poly.specs.Erase.{sum_of}
 use Rattle.wh_polycheck.proofs.GoodWalk.{good_next, all_good}
 use Rattle.wh_polycheck.proofs.good.first_bad.Goals as goal
 

@@ -1,4 +1,4 @@
-use Rattle.wh_hopoly.specs.Erase.{sum_of}
+use Rattle.wh_poly.specs.Erase.{sum_of}
 use Rattle.wh_polycheck.proofs.GoodWalk.{GoodBefore}
 use Rattle.wh_polycheck.proofs.good.first_bad.Given as goal
 

@@ -8,7 +8,8 @@ use Rattle.wh_pairs.specs.PairData.{pair_data}
 use Rattle.wh_system.specs.SystemView.{system_data}
 use Rattle.wh_hopoly.specs.Evaluation.{evaluate}
 use Rattle.wh_hopoly.specs.Outcomes.{ComesTo, IsFaultOf}
-use Rattle.wh_hopoly.specs.Erase.{interpretations, poly}
+use Rattle.wh_hopoly.specs.Erase.{interpretations}
+use Rattle.wh_poly.specs.Erase.{poly}
 use Rattle.wh_polycheck.specs.Sides.{types_of_metas, marked_expression}
 use Rattle.wh_polycheck.specs.Marks.{with_marks, mark_number}
 use Rattle.wh_polycheck.specs.SideResults.{marks_of}

@@ -1,5 +1,5 @@
 use Rattle.std.proofs.Common.{◌≡◌, ℕ, map, take}
-use Rattle.wh_hopoly.specs.Erase.{poly}
+use Rattle.wh_poly.specs.Erase.{poly}
 use Rattle.wh_proof.proofs.interpretations.read_marks.Given as goal
 
 abbrev pub invariant-loop-i : goal.invariant-loop-i

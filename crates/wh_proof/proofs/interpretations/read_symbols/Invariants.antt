@@ -1,6 +1,6 @@
 use Rattle.std.proofs.Common.{◌≡◌, map, take}
 use Rattle.wh_types.specs.Erase.{ty}
-use Rattle.wh_hopoly.specs.Erase.{poly}
+use Rattle.wh_poly.specs.Erase.{poly}
 use Rattle.wh_proof.proofs.interpretations.read_symbols.Given as goal
 
 abbrev pub invariant-loop-i : goal.invariant-loop-i

@@ -5,7 +5,7 @@ use Rattle.wh_pairs.specs.PairData.{pair_data}
 use Rattle.wh_pairs.proofs.ByPlace.{number_at}
 use Rattle.wh_reduction.specs.TaskView.{task_data}
 use Rattle.wh_reduction.proofs.TaskLemmas.{pair_at}
-use Rattle.wh_hopoly.specs.Erase.{poly}
+use Rattle.wh_poly.specs.Erase.{poly}
 use Rattle.wh_polycheck.specs.ReadingsView.{readings_data}
 use Rattle.wh_polycheck.specs.Covering.{pair_run}
 use Rattle.wh_covering.specs.Lines.{IsSide}

@@ -1,6 +1,6 @@
 use Rattle.std.proofs.Common.{ap, sym, ◌∙◌}
-use Rattle.wh_hopoly.specs.Erase.{poly, polys}
-use Rattle.wh_hopoly.specs.declared.polynomial.Atom.{out-roll-Atom}
+use Rattle.wh_poly.specs.Erase.{poly, polys}
+use Rattle.wh_poly.specs.declared.polynomial.Atom.{out-roll-Atom}
 use Rattle.wh_space.specs.Space.{filled}
 use Rattle.wh_space.proofs.SpaceLemmas.{type_there}
 use Rattle.wh_space.proofs.space.factor.Goals as goal

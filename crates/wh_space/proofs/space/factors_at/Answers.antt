@@ -1,6 +1,6 @@
 use Rattle.std.proofs.Common.{ℕ, ap, sym, ◌∙◌}
 use Rattle.wh_types.specs.Erase.{tys}
-use Rattle.wh_hopoly.specs.Erase.{atoms, factors}
+use Rattle.wh_poly.specs.Erase.{atoms, factors}
 use Rattle.wh_hopoly.specs.Evaluation.{type_at}
 use Rattle.wh_space.specs.Space.{filled, sum_of_variables, sort_variables}
 use Rattle.wh_space.specs.Spots.{factors_at}

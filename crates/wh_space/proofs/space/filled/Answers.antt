@@ -1,9 +1,9 @@
 use Rattle.std.proofs.Common.{◌≡◌, ap, sym, subst, ◌∙◌}
 use Rattle.wh_types.specs.Erase.{ty}
 use Rattle.wh_types.specs.Ty.{◌⇒◌}
-use Rattle.wh_hopoly.specs.Erase.{poly, list, arguments_of}
-use Rattle.wh_hopoly.specs.Polynomials.{zero_poly}
-use Rattle.wh_hopoly.proofs.Pushes.{arguments_followed_by}
+use Rattle.wh_poly.specs.Erase.{poly, list, arguments_of}
+use Rattle.wh_poly.specs.Polynomials.{zero_poly}
+use Rattle.wh_poly.proofs.Pushes.{arguments_followed_by}
 use Rattle.wh_space.specs.Space.{filled}
 use Rattle.std.proofs.Common.{cond}
 use Rattle.wh_space.specs.Space.{is_sort}

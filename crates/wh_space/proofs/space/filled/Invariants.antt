@@ -1,7 +1,7 @@
 use Rattle.std.proofs.Common.{◌≡◌}
 use Rattle.wh_types.specs.Erase.{ty}
-use Rattle.wh_hopoly.specs.Erase.{poly, list, arguments_of}
-use Rattle.wh_hopoly.proofs.Pushes.{arguments_followed_by}
+use Rattle.wh_poly.specs.Erase.{poly, list, arguments_of}
+use Rattle.wh_poly.proofs.Pushes.{arguments_followed_by}
 use Rattle.wh_space.specs.Space.{filled}
 use Rattle.wh_space.proofs.space.filled.Given as goal
 

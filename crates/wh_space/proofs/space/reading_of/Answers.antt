@@ -2,10 +2,10 @@ use Rattle.std.proofs.Common.{◌≡◌, ◌+◌, List, drop, get_or, ap, sym, s
 use Rattle.std.proofs.lemmas.List.{get_or_default}
 use Rattle.std.proofs.lemmas.List.Elements.{All-get_or}
 use Rattle.wh_types.specs.Erase.{tys}
-use Rattle.wh_hopoly.specs.Arithmetic.{followed_by}
-use Rattle.wh_hopoly.specs.Erase.{atoms, monomials, sum_of}
-use Rattle.wh_hopoly.specs.declared.polynomial.Monomial.{out-roll-Monomial}
-use Rattle.wh_hopoly.proofs.Walks.{drop_next}
+use Rattle.wh_poly.specs.Arithmetic.{followed_by}
+use Rattle.wh_poly.specs.Erase.{atoms, monomials, sum_of}
+use Rattle.wh_poly.specs.declared.polynomial.Monomial.{out-roll-Monomial}
+use Rattle.wh_poly.proofs.Walks.{drop_next}
 use Rattle.wh_space.specs.Coefficients.{HasCoefficients}
 use Rattle.wh_space.specs.Spots.{IsSpot, AreAllSpots, ArePlaces}
 use Rattle.wh_space.specs.declared.space.Spot.{Spot}

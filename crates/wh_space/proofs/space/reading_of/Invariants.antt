@@ -1,7 +1,7 @@
 use Rattle.std.proofs.Common.{◌≡◌, drop}
 use Rattle.wh_types.specs.Erase.{tys}
-use Rattle.wh_hopoly.specs.Arithmetic.{followed_by}
-use Rattle.wh_hopoly.specs.Erase.{monomials, sum_of}
+use Rattle.wh_poly.specs.Arithmetic.{followed_by}
+use Rattle.wh_poly.specs.Erase.{monomials, sum_of}
 use Rattle.wh_space.proofs.PickLemmas.{picked, chosen_by}
 use Rattle.wh_space.proofs.space.reading_of.Given as goal
 

@@ -1,9 +1,9 @@
 use Rattle.std.proofs.Common.{◌≡◌, ap, ◌∙◌, rules}
-use Rattle.wh_hopoly.specs.Polynomials.{no_arguments}
-use Rattle.wh_hopoly.specs.Erase.{atoms, polys, factors, arguments_of}
-use Rattle.wh_hopoly.specs.declared.polynomial.Monomial.{out-roll-Monomial}
-use Rattle.wh_hopoly.specs.declared.polynomial.Atom.{out-roll-Atom}
-use Rattle.wh_hopoly.proofs.Lists.{polys_is}
+use Rattle.wh_poly.specs.Polynomials.{no_arguments}
+use Rattle.wh_poly.specs.Erase.{atoms, polys, factors, arguments_of}
+use Rattle.wh_poly.specs.declared.polynomial.Monomial.{out-roll-Monomial}
+use Rattle.wh_poly.specs.declared.polynomial.Atom.{out-roll-Atom}
+use Rattle.wh_poly.proofs.Lists.{polys_is}
 use Rattle.wh_space.proofs.BuildLemmas.{one_factor}
 use Rattle.wh_space.proofs.space.single.Goals as goal
 

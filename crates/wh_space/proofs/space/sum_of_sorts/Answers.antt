@@ -1,7 +1,7 @@
 use Rattle.std.proofs.Common.{◌≡◌, ◌+◌, drop, sym, subst, ◌∙◌}
 use Rattle.wh_types.specs.Erase.{tys}
-use Rattle.wh_hopoly.specs.Arithmetic.{followed_by}
-use Rattle.wh_hopoly.specs.Erase.{monomials, sum_of}
+use Rattle.wh_poly.specs.Arithmetic.{followed_by}
+use Rattle.wh_poly.specs.Erase.{monomials, sum_of}
 use Rattle.wh_space.specs.Space.{sort_variables, sum_of_variables}
 use Rattle.wh_space.proofs.BuildLemmas.{left_over, sum_takes, sum_passes, sum_ended}
 use Rattle.wh_space.proofs.space.sum_of_sorts.Goals as goal

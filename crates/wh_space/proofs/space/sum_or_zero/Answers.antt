@@ -1,4 +1,4 @@
-use Rattle.wh_hopoly.specs.Erase.{poly}
+use Rattle.wh_poly.specs.Erase.{poly}
 use Rattle.wh_space.proofs.BuildLemmas.{empty_is_zero}
 use Rattle.wh_space.proofs.space.sum_or_zero.Goals as goal
 

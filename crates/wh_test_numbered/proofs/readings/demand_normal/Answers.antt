@@ -3,8 +3,9 @@ use Rattle.std.proofs.lemmas.Option.{slice_get_within}
 use Rattle.wh_types.specs.Erase.{tys}
 use Rattle.wh_types.specs.Ty.{arguments}
 use Rattle.wh_pairs.proofs.ByPlace.{read_map, before_more, map_length}
-use Rattle.wh_hopoly.specs.Polynomials.{Normal}
-use Rattle.wh_hopoly.specs.Erase.{interpretation, interpretations, poly}
+use Rattle.wh_poly.specs.Polynomials.{Normal}
+use Rattle.wh_hopoly.specs.Erase.{interpretation, interpretations}
+use Rattle.wh_poly.specs.Erase.{poly}
 use Rattle.wh_test_numbered.proofs.readings.demand_normal.Goals as goal
 
 pub loop-symbol-preserved : goal.loop-symbol-preserved

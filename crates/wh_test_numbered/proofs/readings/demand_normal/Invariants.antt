@@ -1,6 +1,6 @@
 use Rattle.wh_types.specs.Ty.{arguments}
 use Rattle.wh_pairs.proofs.ByPlace.{Before}
-use Rattle.wh_hopoly.specs.Polynomials.{Normal}
+use Rattle.wh_poly.specs.Polynomials.{Normal}
 use Rattle.wh_hopoly.specs.Erase.{interpretations}
 use Rattle.wh_test_numbered.proofs.readings.demand_normal.Given as goal
 

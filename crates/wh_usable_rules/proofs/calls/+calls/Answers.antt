@@ -4,7 +4,7 @@ use Rattle.wh_terms.specs.Tree.{Tm}
 use Rattle.wh_terms.specs.Erase.{tm, tms}
 use Rattle.wh_terms.specs.declared.term.Term.{Term}
 use Rattle.wh_terms.proofs.TermLemmas.{tm_of_meta}
-use Rattle.wh_hopoly.proofs.Walks.{drop_next}
+use Rattle.wh_poly.proofs.Walks.{drop_next}
 use Rattle.wh_usable.specs.Closed.{HasSymbol, HaveSymbol}
 use Rattle.wh_usable_rules.specs.Tables.{Enters}
 use Rattle.wh_usable_rules.proofs.Tables.{EntersSome, some_all, some_next}

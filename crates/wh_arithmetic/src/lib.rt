@@ -1,0 +1,13 @@
+//! Sums and products of polynomials, where none of them exceeds a limit.
+#![tactic(auto)]
+
+mod growing;
+mod products;
+mod scaling;
+mod sums;
+mod totals;
+
+pub use growing::{Growing, finish, multiply_by, multiply_by_variable, start};
+pub use products::product;
+pub use sums::sum;
+pub use totals::Total;

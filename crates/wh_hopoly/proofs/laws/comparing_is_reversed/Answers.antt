@@ -1,6 +1,0 @@
--- By recursion on both.
-use Rattle.wh_hopoly.proofs.OrderLaws.{poly_reverse}
-use Rattle.wh_hopoly.proofs.laws.comparing_is_reversed.Goals as goal
-
-pub returns : goal.returns
-returns c p q = poly_reverse p q

@@ -1,6 +1,0 @@
--- Monomial by monomial.
-use Rattle.wh_hopoly.proofs.SumLaws.{normal_multiply}
-use Rattle.wh_hopoly.proofs.laws.products_are_normal.Goals as goal
-
-pub returns : goal.returns
-returns c scope p q n m = normal_multiply scope p q n m

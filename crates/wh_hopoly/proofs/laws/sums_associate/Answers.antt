@@ -1,6 +1,0 @@
--- Both have the same coefficients.
-use Rattle.wh_hopoly.proofs.CoefficientLaws.{sum_associates}
-use Rattle.wh_hopoly.proofs.laws.sums_associate.Goals as goal
-
-pub returns : goal.returns
-returns c scope p q r n m o = sum_associates scope p q r n m o

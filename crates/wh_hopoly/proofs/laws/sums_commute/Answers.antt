@@ -1,6 +1,0 @@
--- Both have the same coefficients.
-use Rattle.wh_hopoly.proofs.CoefficientLaws.{sum_commutes}
-use Rattle.wh_hopoly.proofs.laws.sums_commute.Goals as goal
-
-pub returns : goal.returns
-returns c scope p q n m = sum_commutes scope p q n m

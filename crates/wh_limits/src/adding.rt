@@ -1,0 +1,20 @@
+//! The sum of two monomials with the same factors.
+
+ghost use Rattle.std.specs.Prelude.{◌<◌, length, MatchOption};
+ghost use Rattle.wh_poly.specs.Merges.{AddsFirst, FirstOverflows};
+
+use std::collections::VecDeque;
+use wh_poly::Monomial;
+
+/// Both queues' first monomials leave as one, which has the factors of the second; None only where its coefficient would be too great.
+pub fn add_first(xs: &mut VecDeque<Monomial>, ys: &mut VecDeque<Monomial>) -> Option<Monomial>
+    requires left { 0 < length xs.old.items }
+    requires right { 0 < length ys.old.items }
+    ensures { MatchOption result (FirstOverflows xs.old.items ys.old.items)
+        (AddsFirst xs.old.items ys.old.items xs.new.items ys.new.items) }
+{
+    let x = xs.pop_front()?;
+    let Monomial { coefficient, atoms } = ys.pop_front()?;
+    let coefficient = x.coefficient.checked_add(coefficient)?;
+    Some(Monomial { coefficient, atoms })
+}

@@ -1,0 +1,17 @@
+pub mod OrderLaws
+pub mod SumLaws
+pub mod LimitLaws
+pub mod Lists
+pub mod Sizes
+pub mod Walks
+pub mod Pushes
+pub mod CoefficientLaws
+pub mod OrderedLaws
+pub mod JoinLaws
+pub mod GrowingLaws
+pub mod FactorWalk
+pub mod JoinWalk
+pub mod RowWalk
+pub mod RowLaws
+pub mod AddedLaws
+pub mod FaultLaws
