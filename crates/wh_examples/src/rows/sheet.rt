@@ -130,19 +130,14 @@ fn change(alloc: Global, sheet: &mut Sheet, rest: &str) -> Result<(), AllocError
     let (from, to) = rest.split_once(" ~ ").unwrap_or((rest, ""));
     let from = spelled(alloc, sheet.texts.as_slice(), from)?;
     let to = spelled(alloc, sheet.texts.as_slice(), to)?;
-    sheet.changed = replaced(
-        alloc,
-        sheet.certificate.as_slice(),
-        from.as_slice(),
-        to.as_slice(),
-    )?;
+    let part = str::from_utf8(from.as_slice()).or(Err(AllocError))?;
+    sheet.changed = replaced(alloc, sheet.certificate.as_slice(), part, to.as_slice())?;
     Ok(())
 }
 
 // The bytes with the second text in the place of the first one; nothing where that does not stand in them.
-fn replaced(alloc: Global, bytes: &[u8], from: &[u8], to: &[u8]) -> Result<Bytes, AllocError> {
+fn replaced(alloc: Global, bytes: &[u8], part: &str, to: &[u8]) -> Result<Bytes, AllocError> {
     let whole = str::from_utf8(bytes).or(Err(AllocError))?;
-    let part = str::from_utf8(from).or(Err(AllocError))?;
     match whole.split_once(part) {
         Some((front, back)) => joined(alloc, front.as_bytes(), to, back.as_bytes()),
         None => Bytes::new(alloc),
