@@ -17,38 +17,49 @@ use crate::valued::{Valued, apply_valued, located, value_of_symbol, value_of_var
 use std::alloc::{AllocError, Global};
 use wh_types::{Or, SimpleType};
 
-/// The value of a well-typed expression in the scope, which has so many variables. `next` is the expression's own number, and comes
-/// to be that behind its last part. A fault only where the rule of the part that it names gives a value that exceeds the limit.
+/// Where an expression stands.
+#[derive(Clone, Copy)]
+pub struct Setting<'a> {
+    /// The scope.
+    pub scope: Scope<'a>,
+    /// How many variables it has.
+    pub count: u32,
+    /// What symbols are read as.
+    pub table: Table<'a>,
+}
+
+/// The value of an expression that is well typed where it stands. `next` is the expression's own number, and comes to be
+/// that behind its last part. A fault only where the rule of the part that it names gives a value that exceeds the limit.
 #[cycle(evaluate)]
 pub fn evaluate<'a>(
     alloc: Global,
     expr: &Expr,
-    scope: &'a Scope<'a>,
-    count: u32,
-    table: &'a Table<'a>,
+    setting: &'a Setting<'a>,
     next: &mut u32,
 ) -> Result<Valued, Or<PolyFault>>
-    requires typed { TypedExpression (readings table.now) (scope_of scope.now) (expression expr.now) }
-    requires normal { NormalInterpretations (readings table.now) }
-    requires counted { count ≡ length (scope_of scope.now) }
-    ensures ok { IfOk result (λ r. IsValueOf (readings table.now) (scope_of scope.now) (expression expr.now) r
+    requires typed { TypedExpression (readings setting.now.table) (scope_of setting.now.scope) (expression expr.now) }
+    requires normal { NormalInterpretations (readings setting.now.table) }
+    requires counted { setting.now.count ≡ length (scope_of setting.now.scope) }
+    ensures ok { IfOk result (λ r. IsValueOf (readings setting.now.table) (scope_of setting.now.scope) (expression expr.now) r
         × (next.new ≡ next.old + parts (expression expr.now))) }
-    ensures fault { IfBecause result (IsFaultFrom next.old (readings table.now) (scope_of scope.now) (expression expr.now)) }
+    ensures fault { IfBecause result (IsFaultFrom next.old (readings setting.now.table) (scope_of setting.now.scope)
+        (expression expr.now)) }
 {
     let at = *next;
     *next = at.checked_add(1).ok_or(AllocError)?;
     match expr {
-        Expr::Var(x) => located(at, value_of_variable(alloc, *x, &*scope, count)),
+        Expr::Var(x) => located(
+            at,
+            value_of_variable(alloc, *x, &setting.scope, setting.count),
+        ),
         Expr::Sym(f) => {
-            let kind = kind_of(&*table, *f);
-            let reading = polynomial_of(&*table, *f);
-            located(at, value_of_symbol(alloc, kind, reading, count))
+            let kind = kind_of(&setting.table, *f);
+            let reading = polynomial_of(&setting.table, *f);
+            located(at, value_of_symbol(alloc, kind, reading, setting.count))
         }
-        Expr::Lam(kind, body) => {
-            evaluate_abstraction(alloc, at, kind, body, &*scope, count, &*table, next)
-        }
+        Expr::Lam(kind, body) => { evaluate_abstraction(alloc, at, kind, body, &*setting, next) }
         Expr::App(function, argument) => {
-            evaluate_application(alloc, at, function, argument, &*scope, count, &*table, next)
+            evaluate_application(alloc, at, function, argument, &*setting, next)
         }
     }
 }
@@ -60,29 +71,27 @@ fn evaluate_abstraction<'a>(
     at: u32,
     kind: &'a SimpleType,
     body: &Expr,
-    scope: &'a Scope<'a>,
-    count: u32,
-    table: &'a Table<'a>,
+    setting: &'a Setting<'a>,
     next: &mut u32,
 ) -> Result<Valued, Or<PolyFault>>
-    requires typed { TypedExpression (readings table.now) (scope_of scope.now) (lambda (ty kind.now) (expression body.now)) }
-    requires normal { NormalInterpretations (readings table.now) }
-    requires counted { count ≡ length (scope_of scope.now) }
+    requires typed { TypedExpression (readings setting.now.table) (scope_of setting.now.scope)
+        (lambda (ty kind.now) (expression body.now)) }
+    requires normal { NormalInterpretations (readings setting.now.table) }
+    requires counted { setting.now.count ≡ length (scope_of setting.now.scope) }
     requires numbered { next.old ≡ at + 1 }
-    ensures ok { IfOk result (λ r. IsValueOf (readings table.now) (scope_of scope.now) (lambda (ty kind.now) (expression body.now)) r
+    ensures ok { IfOk result (λ r. IsValueOf (readings setting.now.table) (scope_of setting.now.scope)
+        (lambda (ty kind.now) (expression body.now)) r
         × (next.new ≡ next.old + parts (expression body.now))) }
-    ensures fault { IfBecause result (IsFaultFrom at (readings table.now) (scope_of scope.now)
+    ensures fault { IfBecause result (IsFaultFrom at (readings setting.now.table) (scope_of setting.now.scope)
         (lambda (ty kind.now) (expression body.now))) }
 {
-    let inner = count.checked_add(1).ok_or(AllocError)?;
-    let Valued { value, kind: rest } = evaluate(
-        alloc,
-        body,
-        &Scope::Bound(scope, kind),
-        inner,
-        &*table,
-        next,
-    )?;
+    let inner = setting.count.checked_add(1).ok_or(AllocError)?;
+    let within = Setting {
+        scope: Scope::Bound(&setting.scope, kind),
+        count: inner,
+        table: setting.table,
+    };
+    let Valued { value, kind: rest } = evaluate(alloc, body, &within, next)?;
     let first = Box::new(alloc, kind.copy(alloc)?)?;
     Ok(Valued {
         value,
@@ -97,25 +106,24 @@ fn evaluate_application<'a>(
     at: u32,
     function: &Expr,
     argument: &Expr,
-    scope: &'a Scope<'a>,
-    count: u32,
-    table: &'a Table<'a>,
+    setting: &'a Setting<'a>,
     next: &mut u32,
 ) -> Result<Valued, Or<PolyFault>>
-    requires typed { TypedExpression (readings table.now) (scope_of scope.now) (apply (expression function.now) (expression argument.now)) }
-    requires normal { NormalInterpretations (readings table.now) }
-    requires counted { count ≡ length (scope_of scope.now) }
+    requires typed { TypedExpression (readings setting.now.table) (scope_of setting.now.scope)
+        (apply (expression function.now) (expression argument.now)) }
+    requires normal { NormalInterpretations (readings setting.now.table) }
+    requires counted { setting.now.count ≡ length (scope_of setting.now.scope) }
     requires numbered { next.old ≡ at + 1 }
-    ensures ok { IfOk result (λ r. IsValueOf (readings table.now) (scope_of scope.now)
+    ensures ok { IfOk result (λ r. IsValueOf (readings setting.now.table) (scope_of setting.now.scope)
         (apply (expression function.now) (expression argument.now)) r
         × (next.new ≡ next.old + (parts (expression function.now) + parts (expression argument.now)))) }
-    ensures fault { IfBecause result (IsFaultFrom at (readings table.now) (scope_of scope.now)
+    ensures fault { IfBecause result (IsFaultFrom at (readings setting.now.table) (scope_of setting.now.scope)
         (apply (expression function.now) (expression argument.now))) }
 {
-    let applied = evaluate(alloc, function, &*scope, count, &*table, next)?;
-    let passed = evaluate(alloc, argument, &*scope, count, &*table, next)?;
+    let applied = evaluate(alloc, function, &*setting, next)?;
+    let passed = evaluate(alloc, argument, &*setting, next)?;
     located(
         at,
-        apply_valued(alloc, applied, &passed.value, &*scope, count),
+        apply_valued(alloc, applied, &passed.value, &setting.scope, setting.count),
     )
 }

@@ -8,7 +8,7 @@ ghost use Rattle.wh_hopoly.specs.Erase.{expression, interpretations};
 ghost use Rattle.wh_hopoly.specs.Evaluation.{symbol, evaluate, TypedExpression, NormalInterpretations};
 ghost use Rattle.wh_hopoly.specs.Outcomes.{ComesTo, IsFaultOf, applied_to};
 
-use crate::evaluating::evaluate;
+use crate::evaluating::{Setting, evaluate};
 use crate::expression::{Expr, Symbol};
 use crate::fault::PolyFault;
 use crate::scope::Scope;
@@ -36,8 +36,12 @@ pub fn normal(
 {
     let count = count_of(scope.len())?;
     let mut next = 0;
-    let table = Table::Alone(symbols);
-    let valued = evaluate(alloc, expr, &Scope::Given(scope), count, &table, &mut next)?;
+    let setting = Setting {
+        scope: Scope::Given(scope),
+        count,
+        table: Table::Alone(symbols),
+    };
+    let valued = evaluate(alloc, expr, &setting, &mut next)?;
     Ok(valued.value)
 }
 
@@ -62,18 +66,21 @@ pub fn normal_call(
         ∷ [] in IsFaultOf all (map ty scope.now) (applied_to (symbol (length symbols.now)) (map expression args.now)) e) }
 {
     let count = count_of(scope.len())?;
-    let given = Scope::Given(scope);
-    let table = Table::With(symbols, kind, function);
+    let setting = Setting {
+        scope: Scope::Given(scope),
+        count,
+        table: Table::With(symbols, kind, function),
+    };
     // The whole is part 0, and the function is the part behind all applications to its arguments.
     let mut at = count_of(args.len())?;
     let mut next = at.checked_add(1).ok_or(AllocError)?;
     let mut value = located(at, value_of_symbol(alloc, kind, function, count))?;
     for arg in args {
-        let argument = evaluate(alloc, arg, &given, count, &table, &mut next)?;
+        let argument = evaluate(alloc, arg, &setting, &mut next)?;
         at -= 1;
         value = located(
             at,
-            apply_valued(alloc, value, &argument.value, &given, count),
+            apply_valued(alloc, value, &argument.value, &setting.scope, count),
         )?;
     }
     Ok(value.value)

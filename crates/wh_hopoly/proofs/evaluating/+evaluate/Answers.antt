@@ -22,8 +22,8 @@ use Rattle.wh_hopoly.proofs.evaluating.+evaluate.Goals as goal
 
 pub evaluate_abstraction-returns-in_err-value-clause-fault : goal.evaluate_abstraction-returns-in_err-value-clause-fault
 evaluate_abstraction-returns-in_err-value-clause-fault t c =
-    let S = readings c.args.table.now in
-    let Γ = scope_of c.args.scope.now in
+    let S = readings c.args.setting.now.table in
+    let Γ = scope_of c.args.setting.now.scope in
     let A = ty c.args.kind.now in
     let e = expression c.args.body.now in
     passed_on c.evaluate.result c.from_residual-in_err-value.result c.in_err-value.field-0.0 (IsFaultFrom c.args.next.now S (Γ ++ A ∷ []) e) (IsFaultFrom c.args.at S Γ (lambda A e))
@@ -32,8 +32,8 @@ evaluate_abstraction-returns-in_err-value-clause-fault t c =
 
 pub evaluate_application-returns-in_err-applied-clause-fault : goal.evaluate_application-returns-in_err-applied-clause-fault
 evaluate_application-returns-in_err-applied-clause-fault t c =
-    let S = readings c.args.table.now in
-    let Γ = scope_of c.args.scope.now in
+    let S = readings c.args.setting.now.table in
+    let Γ = scope_of c.args.setting.now.scope in
     let e = expression c.args.function.now in
     let d = expression c.args.argument.now in
     passed_on c.evaluate.result c.from_residual.result c.in_err-applied.field-0.0 (IsFaultFrom c.args.next.now S Γ e) (IsFaultFrom c.args.at S Γ (apply e d))
@@ -42,8 +42,8 @@ evaluate_application-returns-in_err-applied-clause-fault t c =
 
 pub evaluate_application-returns-in_err-passed-clause-fault : goal.evaluate_application-returns-in_err-passed-clause-fault
 evaluate_application-returns-in_err-passed-clause-fault t c =
-    let S = readings c.args.table.now in
-    let Γ = scope_of c.args.scope.now in
+    let S = readings c.args.setting.now.table in
+    let Γ = scope_of c.args.setting.now.scope in
     let e = expression c.args.function.now in
     let d = expression c.args.argument.now in
     let numbered : c.evaluate.new.next ≡ c.args.at + (1 + parts e) = (let n = c.requires.numbered in let m = c.in_ok-applied.ensures.ok.1 in omega (arith, n, m)) in
@@ -53,18 +53,18 @@ evaluate_application-returns-in_err-passed-clause-fault t c =
 
 pub evaluate_application-apply_valued-requires-clause-function : goal.evaluate_application-apply_valued-requires-clause-function
 evaluate_application-apply_valued-requires-clause-function t c =
-    function_normal (readings c.args.table.now) c.requires.normal (scope_of c.args.scope.now) (expression c.args.function.now) (expression c.args.argument.now) c.requires.typed
+    function_normal (readings c.args.setting.now.table) c.requires.normal (scope_of c.args.setting.now.scope) (expression c.args.function.now) (expression c.args.argument.now) c.requires.typed
     c.in_ok-applied.applied c.in_ok-passed.passed c.in_ok-applied.ensures.ok.0 c.in_ok-passed.ensures.ok.0
 
 pub evaluate_application-apply_valued-requires-clause-argument : goal.evaluate_application-apply_valued-requires-clause-argument
 evaluate_application-apply_valued-requires-clause-argument t c =
-    argument_normal (readings c.args.table.now) c.requires.normal (scope_of c.args.scope.now) (expression c.args.function.now) (expression c.args.argument.now) c.requires.typed
+    argument_normal (readings c.args.setting.now.table) c.requires.normal (scope_of c.args.setting.now.scope) (expression c.args.function.now) (expression c.args.argument.now) c.requires.typed
     c.in_ok-applied.applied c.in_ok-passed.passed c.in_ok-applied.ensures.ok.0 c.in_ok-passed.ensures.ok.0
 
 pub evaluate_application-returns-clause-ok : goal.evaluate_application-returns-clause-ok
 evaluate_application-returns-clause-ok t c =
-    let S = readings c.args.table.now in
-    let Γ = scope_of c.args.scope.now in
+    let S = readings c.args.setting.now.table in
+    let Γ = scope_of c.args.setting.now.scope in
     let e = expression c.args.function.now in
     let d = expression c.args.argument.now in
     let f = c.in_ok-applied.applied in
@@ -79,8 +79,8 @@ evaluate_application-returns-clause-ok t c =
 
 pub evaluate_application-returns-clause-fault : goal.evaluate_application-returns-clause-fault
 evaluate_application-returns-clause-fault t c =
-    let S = readings c.args.table.now in
-    let Γ = scope_of c.args.scope.now in
+    let S = readings c.args.setting.now.table in
+    let Γ = scope_of c.args.setting.now.scope in
     let e = expression c.args.function.now in
     let d = expression c.args.argument.now in
     let f = c.in_ok-applied.applied in
