@@ -15,27 +15,27 @@ use Rattle.wh_cert.specs.CertText.{Begins, CertText, FaultAt}
 use Rattle.wh_cert.specs.declared.certificate.CertSyntax.{CertSyntax}
 use Rattle.wh_cert.specs.declared.item.Item.{Item}
 use Rattle.wh_cert_text.specs.ReadEnd.{IsEnd}
-use Rattle.wh_cert_text.specs.LineMachine as m
-use Rattle.wh_cert_text.specs.LineMachine.{Standing, unread, stands, stands_yes, wrong, standing_after, standing_after_yes, run, start, take_byte}
-use Rattle.wh_cert_text.specs.YesMachine as y
-use Rattle.wh_cert_text.specs.LineViews.{line_place, place_of as no_place_of}
-use Rattle.wh_cert_text.specs.YesViews.{yes_place, place_of, naming}
+use Rattle.wh_cert_machines.specs.LineMachine as m
+use Rattle.wh_cert_machines.specs.LineMachine.{Standing, unread, stands, stands_yes, wrong, standing_after, standing_after_yes, run, start, take_byte}
+use Rattle.wh_cert_machines.specs.YesMachine as y
+use Rattle.wh_cert_machines.specs.LineViews.{line_place, place_of as no_place_of}
+use Rattle.wh_cert_machines.specs.YesViews.{yes_place, place_of, naming}
 use Rattle.wh_cert_text.specs.ReadViews.{wanted}
 use Rattle.wh_cert_text.specs.Handing.{TakesNo, TakesYes, handed_no, handed_yes, handed}
 use Rattle.wh_cert_text.specs.Feeding.{OnWant, ranks_of, IsPairsLine, Tracks, TracksYes, StopsAt, Stand, StandsFor, Refuses, Led, StageKept, HeadKnown, yes_ended, no_ended, has_ended}
 use Rattle.wh_cert_text.specs.ItemsRead.{ItemsIn}
 use Rattle.wh_letters.specs.declared.letters.Letters.{Letters}
-use Rattle.wh_cert_text.specs.declared.line_reader.NoLine.{NoLine}
-use Rattle.wh_cert_text.specs.declared.line_reader.LinePlace.{LinePlace}
-use Rattle.wh_cert_text.specs.declared.line_reader.LinePlace.TheVariants as no_place
-use Rattle.wh_cert_text.specs.declared.yes_line.YesPlace.{YesPlace}
-use Rattle.wh_cert_text.specs.declared.yes_line.YesPlace.TheVariants as place
-use Rattle.wh_cert_text.specs.declared.yes_line.YesLine.{YesLine}
+use Rattle.wh_cert_machines.specs.declared.line_reader.NoLine.{NoLine}
+use Rattle.wh_cert_machines.specs.declared.line_reader.LinePlace.{LinePlace}
+use Rattle.wh_cert_machines.specs.declared.line_reader.LinePlace.TheVariants as no_place
+use Rattle.wh_cert_machines.specs.declared.yes_line.YesPlace.{YesPlace}
+use Rattle.wh_cert_machines.specs.declared.yes_line.YesPlace.TheVariants as place
+use Rattle.wh_cert_machines.specs.declared.yes_line.YesLine.{YesLine}
 use Rattle.wh_cert_text.specs.declared.items_out.Taken.TheVariants.{On, Wrong}
-use Rattle.wh_cert_text.specs.declared.items_out.YesItems.{YesItems}
+use Rattle.wh_cert_machines.specs.declared.progress.YesItems.{YesItems}
 use Rattle.wh_cert_text.specs.declared.cert_reader.CertReader.{CertReader}
-use Rattle.wh_cert_text.specs.declared.cert_reader.Progress.{Progress}
-use Rattle.wh_cert_text.specs.declared.cert_reader.Progress.TheVariants.{Unread, Yes, No, Refused, Lost}
+use Rattle.wh_cert_machines.specs.declared.progress.Progress.{Progress}
+use Rattle.wh_cert_machines.specs.declared.progress.Progress.TheVariants.{Unread, Yes, No, Refused, Lost}
 use Rattle.wh_cert_text.proofs.Ended.{run_append, run_wrong}
 use Rattle.wh_cert_text.proofs.YesSound.{first, second, third, stage, LineNext, lead_kept}
 use Rattle.wh_cert_text.proofs.YesReached.{end_found}

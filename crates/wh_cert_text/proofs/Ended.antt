@@ -2,7 +2,7 @@
 use Rattle.std.proofs.Common.{◌≡◌, ℕ, List, [], ◌∷◌, ◌++◌, refl, sym, ◌∙◌}
 use Rattle.wh_cert.specs.Written.{Cert, yes, no}
 use Rattle.wh_cert.specs.Limits.{CountsWithin}
-use Rattle.wh_cert_text.specs.LineMachine.{Standing, wrong, take_byte, run}
+use Rattle.wh_cert_machines.specs.LineMachine.{Standing, wrong, take_byte, run}
 use Rattle.wh_cert_text.specs.ReadEnd.{IsEnd}
 
 pub run_wrong : (p : List ℕ) → run wrong p ≡ wrong

@@ -8,9 +8,9 @@ use Rattle.wh_cert_parts.specs.TypeMachine.{TypeStep, goes, type_ended, no_type,
 use Rattle.wh_cert_parts.specs.TermMachine as t
 use Rattle.wh_cert.specs.Written.{Node}
 use Rattle.wh_cert.specs.Items.{Item, yes_head, node, no_head, step, at, put, end}
-use Rattle.wh_cert_text.specs.LineMachine as m
-use Rattle.wh_cert_text.specs.LineMachine.{LinePlace, finished, LineStep, on, gives, refused, line_step, Past, nothing, begun, placed, gather, Standing, unread, stands, stands_yes, wrong, standing_after, standing_after_yes, first_byte, take_byte, run, start}
-use Rattle.wh_cert_text.specs.YesMachine as y
+use Rattle.wh_cert_machines.specs.LineMachine as m
+use Rattle.wh_cert_machines.specs.LineMachine.{LinePlace, finished, LineStep, on, gives, refused, line_step, Past, nothing, begun, placed, gather, Standing, unread, stands, stands_yes, wrong, standing_after, standing_after_yes, first_byte, take_byte, run, start}
+use Rattle.wh_cert_machines.specs.YesMachine as y
 use Rattle.wh_cert_lines.specs.OrderLines as ol
 use Rattle.wh_cert_lines.specs.PolyLines as l
 use Rattle.wh_cert_text.specs.Handing.{no_item, handed_no, handed_yes, handed}

@@ -14,9 +14,9 @@ use Rattle.wh_cert.specs.Items.{Item, yes_head, node, no_head, step, at, put, en
 use Rattle.wh_cert.specs.Text.{put_steps, put_puts, put_numbers, put_nodes}
 use Rattle.wh_cert.specs.Limits.{StepFits, PutFits, NodeFits, IsVersion, IsOfVersion, PartsFit}
 use Rattle.wh_cert.specs.CertText.{CertText, Begins}
-use Rattle.wh_cert_text.specs.LineMachine as m
-use Rattle.wh_cert_text.specs.LineMachine.{LinePlace, finished, Past, nothing, begun, placed, Standing, unread, stands, stands_yes, wrong, take_byte, run, start}
-use Rattle.wh_cert_text.specs.YesMachine as y
+use Rattle.wh_cert_machines.specs.LineMachine as m
+use Rattle.wh_cert_machines.specs.LineMachine.{LinePlace, finished, Past, nothing, begun, placed, Standing, unread, stands, stands_yes, wrong, take_byte, run, start}
+use Rattle.wh_cert_machines.specs.YesMachine as y
 use Rattle.wh_cert_text.specs.ReadEnd.{IsEnd}
 use Rattle.wh_cert_text.specs.Handing.{handed}
 use Rattle.wh_cert_text.specs.ItemsRead.{put_items, WholeItems, ItemsIn}

@@ -12,7 +12,6 @@ pub mod LineEnds
 pub mod Whole
 pub mod TextOrFault
 pub mod TextLengths
-pub mod YesCode
 pub mod ReadCode
 pub mod ItemsHanded
 pub mod ItemsWhole

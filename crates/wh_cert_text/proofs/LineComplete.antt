@@ -18,7 +18,7 @@ use Rattle.wh_cert_parts.proofs.TermComplete.{Scan, still, read, stuck, scan, te
 use Rattle.wh_cert.specs.Written.{Put, Cert, yes, no}
 use Rattle.wh_cert.specs.Text.{put_path, put_rule, put_step, put_steps, put_put, put_puts, text}
 use Rattle.wh_cert.specs.Limits.{RuleFits, StepFits, PutFits, PartsFit}
-use Rattle.wh_cert_text.specs.LineMachine.{head_item, step_item, at_item, put_item, LinePlace, in_term, line, rule_wanted, rule_number, step_path, at_path, later_line, put_percent, put_number, put_type, put_term as placing, LineStep, on, term_line, put_line, type_line, Past, nothing, begun, placed, gather, Standing, stands, wrong, standing_after, run, start}
+use Rattle.wh_cert_machines.specs.LineMachine.{head_item, step_item, at_item, put_item, LinePlace, in_term, line, rule_wanted, rule_number, step_path, at_path, later_line, put_percent, put_number, put_type, put_term as placing, LineStep, on, term_line, put_line, type_line, Past, nothing, begun, placed, gather, Standing, stands, wrong, standing_after, run, start}
 use Rattle.wh_cert_text.specs.ReadEnd.{IsEnd}
 use Rattle.wh_cert_text.proofs.Ended.{run_wrong}
 use Rattle.wh_cert_text.proofs.YesComplete.{yes_run}

@@ -8,7 +8,7 @@ use Rattle.wh_cert_parts.proofs.TypeLaws.{GoodTypePlace, type_ends}
 use Rattle.wh_cert_parts.proofs.TermSound.{GoodPlace}
 use Rattle.wh_cert_parts.proofs.TermComplete.{term_ends}
 use Rattle.wh_cert.specs.Written.{no}
-use Rattle.wh_cert_text.specs.LineMachine.{Item, head_item, step_item, at_item, put_item, end_item, Behind, to_term, to_rule, to_path, to_at, to_put, to_finish, LinePlace, word, in_term, line, rule_wanted, rule_number, step_path, at_path, later_line, put_percent, put_number, put_type, put_term as placing, finished, LineStep, on, refused, behind, Past, nothing, begun, placed, gather, stands, standing_after, run}
+use Rattle.wh_cert_machines.specs.LineMachine.{Item, head_item, step_item, at_item, put_item, end_item, Behind, to_term, to_rule, to_path, to_at, to_put, to_finish, LinePlace, word, in_term, line, rule_wanted, rule_number, step_path, at_path, later_line, put_percent, put_number, put_type, put_term as placing, finished, LineStep, on, refused, behind, Past, nothing, begun, placed, gather, stands, standing_after, run}
 use Rattle.wh_cert_text.proofs.LineSound.{first, second, third, word_stage, stage, past_stage, item_from, item_to, GoodLine, ItemWithin, PastWithin}
 use Rattle.wh_cert_text.proofs.Ended.{ReachesEnd, ends_after}
 use Rattle.wh_cert_text.proofs.Reached.{gather_stage, gather_within, past_wider}

@@ -18,7 +18,7 @@ use Rattle.wh_cert_parts.proofs.TermSound.{seen, GoodStack, GoodPlace, Next, ste
 use Rattle.wh_cert.specs.Written.{no}
 use Rattle.wh_cert.specs.Text.{put_path, put_rule, put_step, put_steps, put_put, put_puts}
 use Rattle.wh_cert.specs.Limits.{RuleFits, StepFits, PutFits, PartsFit, PathsWithin, CountsWithin}
-use Rattle.wh_cert_text.specs.LineMachine.{Item, head_item, step_item, at_item, put_item, end_item, Behind, to_term, to_rule, to_path, to_at, to_put, to_finish, LinePlace, word, in_term, line, rule_wanted, rule_number, step_path, at_path, later_line, put_percent, put_number, put_type, put_term as placing, finished, LineStep, on, gives, refused, spelling, behind, word_on, path_step, term_line, put_line, type_line, step_ended, at_ended, line_step, Past, nothing, begun, placed}
+use Rattle.wh_cert_machines.specs.LineMachine.{Item, head_item, step_item, at_item, put_item, end_item, Behind, to_term, to_rule, to_path, to_at, to_put, to_finish, LinePlace, word, in_term, line, rule_wanted, rule_number, step_path, at_path, later_line, put_percent, put_number, put_type, put_term as placing, finished, LineStep, on, gives, refused, spelling, behind, word_on, path_step, term_line, put_line, type_line, step_ended, at_ended, line_step, Past, nothing, begun, placed}
 
 -- the parts of a certificate come in three stages: the term, the steps, what is put
 

@@ -20,8 +20,8 @@ use Rattle.wh_cert.specs.Limits.{InterpFits, MoveFits}
 use Rattle.wh_cert_lines.proofs.SectionsLaws.{skip_funs, skip_marks, skip_rules}
 use Rattle.wh_cert_lines.specs.PolyLines as l
 use Rattle.wh_cert_lines.specs.PolyLines.{Lines, in_funs, in_marks, in_rules, in_pairs, lines_front, name_wanted, name, in_poly, moves, from_wanted, from, to_wanted, to, amount_wanted, amount, LinesStep, line_first, line_rest, line_begun, add_named, add_shown, poly_led, moves_step, add_move, lines_step}
-use Rattle.wh_cert_text.specs.YesMachine.{poly_lines, lines_led, Past}
-use Rattle.wh_cert_text.specs.LineMachine.{stands_yes, standing_after_yes, run}
+use Rattle.wh_cert_machines.specs.YesMachine.{poly_lines, lines_led, Past}
+use Rattle.wh_cert_machines.specs.LineMachine.{stands_yes, standing_after_yes, run}
 
 -- names and numbers
 

@@ -8,8 +8,8 @@ use Rattle.wh_cert.specs.Text.{put_filterings, put_all_shown}
 use Rattle.wh_cert.specs.Limits.{FilteringFits}
 use Rattle.wh_cert_lines.specs.OrderLines.{Lines, in_funs, in_marks, in_rules, in_pairs, lines_front, begins, line_rest, line_begun}
 use Rattle.wh_cert_lines.proofs.OrderLinesComplete.{Reader, lines_run}
-use Rattle.wh_cert_text.specs.YesMachine.{order_lines, order_led, Past}
-use Rattle.wh_cert_text.specs.LineMachine.{Standing, stands_yes, standing_after_yes, run}
+use Rattle.wh_cert_machines.specs.YesMachine.{order_lines, order_led, Past}
+use Rattle.wh_cert_machines.specs.LineMachine.{Standing, stands_yes, standing_after_yes, run}
 
 -- the word of a line
 pub word_run : (h : Past) (x : Lines) (r : List ℕ) → run (standing_after_yes h (order_led (begins x))) (line_rest x ++ r) ≡ run (stands_yes h (order_lines x (line_begun x))) r

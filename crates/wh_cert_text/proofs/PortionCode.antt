@@ -12,25 +12,25 @@ use Rattle.wh_cert.specs.CertText.{Begins}
 use Rattle.wh_cert.specs.declared.item.Item as code
 use Rattle.wh_cert.specs.declared.certificate.CertSyntax.{CertSyntax}
 use Rattle.wh_cert_text.specs.ItemsRead.{ItemsIn}
-use Rattle.wh_cert_text.specs.LineMachine as m
-use Rattle.wh_cert_text.specs.LineMachine.{Standing, unread, stands, stands_yes, wrong, standing_after, standing_after_yes, run, start, take_byte, line_step}
-use Rattle.wh_cert_text.specs.YesMachine as y
-use Rattle.wh_cert_text.specs.LineViews.{line_place}
-use Rattle.wh_cert_text.specs.YesViews.{yes_place}
+use Rattle.wh_cert_machines.specs.LineMachine as m
+use Rattle.wh_cert_machines.specs.LineMachine.{Standing, unread, stands, stands_yes, wrong, standing_after, standing_after_yes, run, start, take_byte, line_step}
+use Rattle.wh_cert_machines.specs.YesMachine as y
+use Rattle.wh_cert_machines.specs.LineViews.{line_place}
+use Rattle.wh_cert_machines.specs.YesViews.{yes_place}
 use Rattle.wh_cert_text.specs.ReadViews.{wanted}
 use Rattle.wh_cert_text.specs.Handing.{GivesYes, TakesYes, handed, handed_no, no_item}
 use Rattle.wh_cert_text.specs.Feeding.{Led, Stand, StandsFor, StopsAt, Tracks, TracksNo, TracksYes}
 use Rattle.wh_cert_text.specs.Portions.{Adds, HasFed, HasRun, RefusesSome}
-use Rattle.wh_cert_text.specs.declared.line_reader.NoLine.{NoLine}
-use Rattle.wh_cert_text.specs.declared.items_out.YesItems.{YesItems}
-use Rattle.wh_cert_text.specs.declared.yes_line.YesLine.{YesLine}
+use Rattle.wh_cert_machines.specs.declared.line_reader.NoLine.{NoLine}
+use Rattle.wh_cert_machines.specs.declared.progress.YesItems.{YesItems}
+use Rattle.wh_cert_machines.specs.declared.yes_line.YesLine.{YesLine}
 use Rattle.wh_cert_text.specs.declared.items_out.Taken.{Taken}
 use Rattle.wh_cert_text.specs.declared.items_out.Taken.TheVariants.{On, Wrong}
 use Rattle.wh_cert_text.specs.declared.items_out.Stretch.TheVariants as stretch
 use Rattle.wh_cert_text.specs.declared.cert_reader.CertReader.{CertReader}
 use Rattle.wh_cert_text.specs.declared.cert_reader.Portion.{Portion}
-use Rattle.wh_cert_text.specs.declared.cert_reader.Progress.{Progress}
-use Rattle.wh_cert_text.specs.declared.cert_reader.Progress.TheVariants.{Unread, Yes, No, Refused}
+use Rattle.wh_cert_machines.specs.declared.progress.Progress.{Progress}
+use Rattle.wh_cert_machines.specs.declared.progress.Progress.TheVariants.{Unread, Yes, No, Refused}
 use Rattle.wh_cert_text.proofs.Whole.{goes_begins}
 use Rattle.wh_cert_text.proofs.ItemsWhole.{item_next}
 use Rattle.wh_cert_text.proofs.CertReaderCode.{is_wrong, longer, next_run, stage_kept_at, stand_of, stop_said, tracks_goes, yes_goes, yes_stops}

@@ -7,8 +7,8 @@ use Rattle.wh_text.specs.Spelling.{put_term}
 use Rattle.wh_cert.specs.Written.{Put, Cert, yes, no}
 use Rattle.wh_cert.specs.Text.{put_step, put_steps, put_put, put_puts, text}
 use Rattle.wh_cert.specs.Limits.{StepFits, PutFits, PartsFit, PathsWithin, CountsWithin}
-use Rattle.wh_cert_text.specs.LineMachine.{Item, head_item, step_item, at_item, put_item, end_item, to_term, LinePlace, word, finished, LineStep, on, gives, refused, line_step, Past, nothing, begun, placed, gather, Standing, unread, stands, stands_yes, wrong, standing_after, standing_after_yes, first_byte, take_byte, run, start}
-use Rattle.wh_cert_text.specs.YesMachine as y
+use Rattle.wh_cert_machines.specs.LineMachine.{Item, head_item, step_item, at_item, put_item, end_item, to_term, LinePlace, word, finished, LineStep, on, gives, refused, line_step, Past, nothing, begun, placed, gather, Standing, unread, stands, stands_yes, wrong, standing_after, standing_after_yes, first_byte, take_byte, run, start}
+use Rattle.wh_cert_machines.specs.YesMachine as y
 use Rattle.wh_cert_text.specs.ReadEnd.{IsEnd}
 use Rattle.wh_cert_text.proofs.YesReached as yes_past
 use Rattle.wh_cert_text.proofs.YesReached.{nodes_wider, byte_good, begun_good, end_found, StepGood}

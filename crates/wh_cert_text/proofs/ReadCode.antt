@@ -4,14 +4,14 @@ use Rattle.std.proofs.lemmas.List.{take_more, take_all, length-take-le}
 use Rattle.wh_text.specs.declared.raw.RawType.{RawType}
 use Rattle.wh_cert.specs.Written.{Cert, yes, no}
 use Rattle.wh_cert.specs.CertText.{FaultAt}
-use Rattle.wh_cert_text.specs.YesMachine as y
-use Rattle.wh_cert_text.specs.LineMachine.{Standing, unread, stands, stands_yes, wrong, run, start, take_byte}
+use Rattle.wh_cert_machines.specs.YesMachine as y
+use Rattle.wh_cert_machines.specs.LineMachine.{Standing, unread, stands, stands_yes, wrong, run, start, take_byte}
 use Rattle.wh_cert_text.specs.ReadEnd.{IsEnd}
-use Rattle.wh_cert_text.specs.LineMachine as m
-use Rattle.wh_cert_text.specs.LineViews.{putting, place_of, line_place}
-use Rattle.wh_cert_text.specs.declared.line_reader.NoLine.{NoLine}
-use Rattle.wh_cert_text.specs.declared.line_reader.LinePlace.{LinePlace}
-use Rattle.wh_cert_text.specs.declared.line_reader.LinePlace.TheVariants.{Word, Term, Line, Rule, RuleNumber, StepPath, AtPath, LaterLine, PutVariable, PutNumber, PutType, PutTerm, Finished}
+use Rattle.wh_cert_machines.specs.LineMachine as m
+use Rattle.wh_cert_machines.specs.LineViews.{putting, place_of, line_place}
+use Rattle.wh_cert_machines.specs.declared.line_reader.NoLine.{NoLine}
+use Rattle.wh_cert_machines.specs.declared.line_reader.LinePlace.{LinePlace}
+use Rattle.wh_cert_machines.specs.declared.line_reader.LinePlace.TheVariants.{Word, Term, Line, Rule, RuleNumber, StepPath, AtPath, LaterLine, PutVariable, PutNumber, PutType, PutTerm, Finished}
 use Rattle.wh_cert_text.specs.ReadViews.{no_past, no_standing, standing, wanted, few}
 use Rattle.wh_cert_text.specs.declared.read.NoReader.{NoReader}
 use Rattle.wh_cert_text.specs.declared.read.Reader.{Reader}

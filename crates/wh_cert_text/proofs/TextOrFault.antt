@@ -3,8 +3,8 @@ use Rattle.std.proofs.Common.{◌≡◌, ℕ, zero, suc, ◌+◌, ◌^◌, ◌<�
 use Rattle.std.proofs.Math.Seq.{take-length}
 use Rattle.wh_cert.specs.Written.{Cert, yes, no}
 use Rattle.wh_cert.specs.CertText.{CertText, FaultAt}
-use Rattle.wh_cert_text.specs.YesMachine as y
-use Rattle.wh_cert_text.specs.LineMachine.{finished, placed, Standing, unread, stands, stands_yes, wrong, run, start}
+use Rattle.wh_cert_machines.specs.YesMachine as y
+use Rattle.wh_cert_machines.specs.LineMachine.{finished, placed, Standing, unread, stands, stands_yes, wrong, run, start}
 use Rattle.wh_cert_text.specs.ReadEnd.{IsEnd}
 use Rattle.wh_cert_text.proofs.Whole.{Stops, text_found, stopped_at, ended_early}
 

@@ -7,8 +7,8 @@ use Rattle.std.proofs.Math.Seq.{take-length}
 use Rattle.wh_cert.specs.Written.{done, Cert, yes, no}
 use Rattle.wh_cert.specs.Limits.{NodeWithin, CountsWithin}
 use Rattle.wh_cert.specs.CertText.{CertText, Begins, SyntaxAt, FaultAt}
-use Rattle.wh_cert_text.specs.YesMachine as y
-use Rattle.wh_cert_text.specs.LineMachine.{finished, placed, Standing, unread, stands, stands_yes, wrong, run, start}
+use Rattle.wh_cert_machines.specs.YesMachine as y
+use Rattle.wh_cert_machines.specs.LineMachine.{finished, placed, Standing, unread, stands, stands_yes, wrong, run, start}
 use Rattle.wh_cert_text.specs.ReadEnd.{IsEnd}
 use Rattle.wh_cert_text.proofs.YesReached.{nodes_wider}
 use Rattle.wh_cert_text.proofs.YesEnds.{yes_ends}

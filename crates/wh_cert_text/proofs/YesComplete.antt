@@ -12,8 +12,8 @@ use Rattle.wh_cert.specs.TermLimits.{IsSmall}
 use Rattle.wh_cert.specs.Written.{Arg, Node, done, alone, blocks, subterm, interpretations, order, children, Preorder}
 use Rattle.wh_cert.specs.Text.{put_numbers, put_blocks, put_arg, put_args, put_node, put_nodes, put_interps, put_covers, put_filterings, put_all_shown}
 use Rattle.wh_cert.specs.Limits.{ArgFits, NodeFits, IsVersion, IsOfVersion}
-use Rattle.wh_cert_text.specs.YesMachine.{Listed, of_ranks, of_block, of_drop, of_usable, of_poly, of_order, Counted, of_pairs, of_blocks, of_place, of_list, to_list, node_item, word, listed, number_wanted, number, front, arg_front, name_wanted, letters, LineStep, on, refused, list_ended, number_ended, front_step, Past, so_far, gather, version_of, wants}
-use Rattle.wh_cert_text.specs.LineMachine.{stands_yes, standing_after_yes, run, start}
+use Rattle.wh_cert_machines.specs.YesMachine.{Listed, of_ranks, of_block, of_drop, of_usable, of_poly, of_order, Counted, of_pairs, of_blocks, of_place, of_list, to_list, node_item, word, listed, number_wanted, number, front, arg_front, name_wanted, letters, LineStep, on, refused, list_ended, number_ended, front_step, Past, so_far, gather, version_of, wants}
+use Rattle.wh_cert_machines.specs.LineMachine.{stands_yes, standing_after_yes, run, start}
 use Rattle.wh_cert_text.proofs.LinesComplete.{lines_run}
 use Rattle.wh_cert_text.proofs.OrderComplete.{order_run}
 

@@ -23,8 +23,8 @@ use Rattle.wh_cert_text.proofs.OrderComplete.{order_reader}
 use Rattle.wh_cert_lines.proofs.SectionsLaws.{TakesNamed, TakesShown, pairs_good}
 use Rattle.wh_cert_text.proofs.LinesComplete.{poly_lift}
 use Rattle.wh_cert.specs.Written.{Arg, Filtering, Node, done, alone, blocks, subterm, interpretations, order, children, yes}
-use Rattle.wh_cert_text.specs.YesMachine.{node_item, end_item, Listed, of_ranks, of_block, of_drop, of_usable, of_poly, of_order, Counted, of_pairs, of_blocks, of_place, of_list, Behind, to_version, to_list, to_pairs, to_done, to_alone, to_blocks, to_subterm, to_name, to_poly, to_line, to_order, to_order_line, to_finish, Place, word, version_wanted, listed, number_wanted, number, front, arg_front, name_wanted as arg_name_wanted, letters, poly_lines, order_lines, finished, LineStep, on, refused, behind, list_ended, Past, so_far, gather, version_of, wants}
-use Rattle.wh_cert_text.specs.LineMachine.{Standing, stands_yes, standing_after_yes, run}
+use Rattle.wh_cert_machines.specs.YesMachine.{node_item, end_item, Listed, of_ranks, of_block, of_drop, of_usable, of_poly, of_order, Counted, of_pairs, of_blocks, of_place, of_list, Behind, to_version, to_list, to_pairs, to_done, to_alone, to_blocks, to_subterm, to_name, to_poly, to_line, to_order, to_order_line, to_finish, Place, word, version_wanted, listed, number_wanted, number, front, arg_front, name_wanted as arg_name_wanted, letters, poly_lines, order_lines, finished, LineStep, on, refused, behind, list_ended, Past, so_far, gather, version_of, wants}
+use Rattle.wh_cert_machines.specs.LineMachine.{Standing, stands_yes, standing_after_yes, run}
 use Rattle.wh_cert_text.proofs.YesSound.{opening, second, third, listed_stage, counted_stage, word_stage, stage, usable_wider, usable_within, GoodListed, GoodCounted, GoodBehind, GoodPlace, ListedFor, CountedFor, BehindFor, PlaceFor}
 use Rattle.wh_cert_text.proofs.YesReached.{GoodPast, Good, no_wanted, nodes_wider}
 use Rattle.wh_cert_text.proofs.YesComplete.{node_run, wants_some}

@@ -17,7 +17,7 @@ use Rattle.wh_cert.specs.Interps.{Interp}
 use Rattle.wh_cert.specs.Written.{Arg, Filtering, Node, blocks, interpretations, order, children}
 use Rattle.wh_cert.specs.Text.{put_numbers, put_block, put_blocks, put_arg, put_args, put_usable, put_node, put_nodes}
 use Rattle.wh_cert.specs.Limits.{ArgFits, UsableFits, NodeFits, IsVersion, IsOfVersion, UsableWithin, NodeWithin}
-use Rattle.wh_cert_text.specs.YesMachine.{Item, version_item, ranks_item, pairs_item, node_item, end_item, Listed, of_ranks, of_block, of_drop, of_usable, of_poly, of_order, Counted, of_pairs, of_blocks, of_place, of_list, Behind, to_version, to_list, to_pairs, to_done, to_alone, to_blocks, to_subterm, to_name, to_poly, to_line, to_order, to_order_line, to_finish, Place, word, version_wanted, listed, number_wanted, number, front, arg_front, name_wanted, letters, poly_lines, order_lines, finished, LineStep, on, gives, refused, spelling, behind, word_on, version_begun, version_step, list_ended, count_ended, list_step, number_ended, poly_begun, front_step, lines_led, order_led, step}
+use Rattle.wh_cert_machines.specs.YesMachine.{Item, version_item, ranks_item, pairs_item, node_item, end_item, Listed, of_ranks, of_block, of_drop, of_usable, of_poly, of_order, Counted, of_pairs, of_blocks, of_place, of_list, Behind, to_version, to_list, to_pairs, to_done, to_alone, to_blocks, to_subterm, to_name, to_poly, to_line, to_order, to_order_line, to_finish, Place, word, version_wanted, listed, number_wanted, number, front, arg_front, name_wanted, letters, poly_lines, order_lines, finished, LineStep, on, gives, refused, spelling, behind, word_on, version_begun, version_step, list_ended, count_ended, list_step, number_ended, poly_begun, front_step, lines_led, order_led, step}
 use Rattle.wh_cert_lines.specs.OrderLines as ol
 use Rattle.wh_cert_lines.specs.PolyLines as l
 use Rattle.wh_cert_lines.specs.PolyLines.{Lines, in_funs, in_marks, in_rules, in_pairs, lines_front, LinesStep, begins, drops, line_first, line_begun, lines_step}

@@ -9,22 +9,22 @@ use Rattle.wh_cert.specs.CertText.{Begins, CertText}
 use Rattle.wh_cert.specs.declared.certificate.CertSyntax.{CertSyntax}
 use Rattle.wh_cert.specs.declared.item.Item.{Item}
 use Rattle.wh_cert_text.specs.ReadEnd.{IsEnd}
-use Rattle.wh_cert_text.specs.LineMachine as m
-use Rattle.wh_cert_text.specs.LineMachine.{Standing, unread, stands, stands_yes, wrong, run, start, take_byte}
-use Rattle.wh_cert_text.specs.YesMachine as y
-use Rattle.wh_cert_text.specs.LineViews.{line_place}
-use Rattle.wh_cert_text.specs.YesViews.{yes_place}
+use Rattle.wh_cert_machines.specs.LineMachine as m
+use Rattle.wh_cert_machines.specs.LineMachine.{Standing, unread, stands, stands_yes, wrong, run, start, take_byte}
+use Rattle.wh_cert_machines.specs.YesMachine as y
+use Rattle.wh_cert_machines.specs.LineViews.{line_place}
+use Rattle.wh_cert_machines.specs.YesViews.{yes_place}
 use Rattle.wh_cert_text.specs.ReadViews.{wanted}
 use Rattle.wh_cert_text.specs.Handing.{handed}
-use Rattle.wh_cert_text.specs.declared.line_reader.LinePlace.{LinePlace}
-use Rattle.wh_cert_text.specs.declared.line_reader.LinePlace.TheVariants as no_place
-use Rattle.wh_cert_text.specs.declared.yes_line.YesPlace.{YesPlace}
-use Rattle.wh_cert_text.specs.declared.yes_line.YesPlace.TheVariants as place
-use Rattle.wh_cert_text.specs.declared.items_out.YesItems.{YesItems}
-use Rattle.wh_cert_text.specs.declared.line_reader.NoLine.{NoLine}
+use Rattle.wh_cert_machines.specs.declared.line_reader.LinePlace.{LinePlace}
+use Rattle.wh_cert_machines.specs.declared.line_reader.LinePlace.TheVariants as no_place
+use Rattle.wh_cert_machines.specs.declared.yes_line.YesPlace.{YesPlace}
+use Rattle.wh_cert_machines.specs.declared.yes_line.YesPlace.TheVariants as place
+use Rattle.wh_cert_machines.specs.declared.progress.YesItems.{YesItems}
+use Rattle.wh_cert_machines.specs.declared.line_reader.NoLine.{NoLine}
 use Rattle.wh_cert_text.specs.declared.cert_reader.CertReader.{CertReader}
-use Rattle.wh_cert_text.specs.declared.cert_reader.Progress.{Progress}
-use Rattle.wh_cert_text.specs.declared.cert_reader.Progress.TheVariants.{Unread, Yes, No, Refused, Lost}
+use Rattle.wh_cert_machines.specs.declared.progress.Progress.{Progress}
+use Rattle.wh_cert_machines.specs.declared.progress.Progress.TheVariants.{Unread, Yes, No, Refused, Lost}
 
 -- P, where there was no memory
 abbrev pub OnWant : {T E : Type 0} → Result T (Or E) → Type 0 → Type 0

@@ -3,16 +3,16 @@ use Rattle.std.specs.Prelude.{ℕ, ◌≡◌, Option, Some, None}
 use Rattle.wh_cert.specs.Items.{Item, yes_head, node, no_head, step, at, put, end}
 use Rattle.wh_cert.specs.Said.{said_item}
 use Rattle.wh_cert.specs.declared.item.Item as code
-use Rattle.wh_cert_text.specs.YesMachine as y
-use Rattle.wh_cert_text.specs.LineMachine as m
-use Rattle.wh_cert_text.specs.LineViews.{item_of, line_place}
-use Rattle.wh_cert_text.specs.YesViews.{yes_place}
+use Rattle.wh_cert_machines.specs.YesMachine as y
+use Rattle.wh_cert_machines.specs.LineMachine as m
+use Rattle.wh_cert_machines.specs.LineViews.{item_of, line_place}
+use Rattle.wh_cert_machines.specs.YesViews.{yes_place}
 use Rattle.wh_cert_text.specs.ReadViews.{wanted}
-use Rattle.wh_cert_text.specs.declared.line_reader.Item as line
-use Rattle.wh_cert_text.specs.declared.line_reader.NoLine.{NoLine}
+use Rattle.wh_cert_machines.specs.declared.line_reader.Item as line
+use Rattle.wh_cert_machines.specs.declared.line_reader.NoLine.{NoLine}
 use Rattle.wh_cert_text.specs.declared.items_out.Taken.{Taken}
 use Rattle.wh_cert_text.specs.declared.items_out.Taken.TheVariants.{On, Wrong}
-use Rattle.wh_cert_text.specs.declared.items_out.YesItems.{YesItems}
+use Rattle.wh_cert_machines.specs.declared.progress.YesItems.{YesItems}
 
 -- the item of a line of a NO certificate
 abbrev pub no_item : m.Item → Item

@@ -1,8 +1,4 @@
-pub mod YesMachine
-pub mod LineMachine
 pub mod ReadEnd
-pub mod LineViews
-pub mod YesViews
 pub mod ReadViews
 pub mod ItemsRead
 pub mod Handing

@@ -7,14 +7,14 @@ use Rattle.wh_cert.specs.Items.{Item}
 use Rattle.wh_cert.specs.Said.{said_item}
 use Rattle.wh_cert.specs.CertText.{Begins, FaultAt}
 use Rattle.wh_cert.specs.declared.certificate.CertSyntax.{CertSyntax}
-use Rattle.wh_cert_text.specs.LineMachine.{Standing, run, start}
+use Rattle.wh_cert_machines.specs.LineMachine.{Standing, run, start}
 use Rattle.wh_cert_text.specs.ItemsRead.{ItemsIn}
 use Rattle.wh_cert_text.specs.Feeding.{StandsFor, StopsAt}
 use Rattle.wh_cert_text.specs.declared.items_out.Stretch.{Stretch}
 use Rattle.wh_cert_text.specs.declared.items_out.Stretch.TheVariants.{On, Whole, Wrong}
 use Rattle.wh_cert_text.specs.declared.cert_reader.Portion.{Portion}
 use Rattle.wh_cert_text.specs.declared.cert_reader.CertReader.{CertReader}
-use Rattle.wh_cert_text.specs.declared.cert_reader.Progress.TheVariants.{Refused}
+use Rattle.wh_cert_machines.specs.declared.progress.Progress.TheVariants.{Refused}
 
 -- no further than the bytes
 abbrev pub IsWithin : List ℕ → Stretch → Type 0

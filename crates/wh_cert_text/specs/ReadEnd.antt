@@ -1,8 +1,8 @@
 -- Where the reader of certificates stands behind a whole certificate.
 use Rattle.std.specs.Prelude.{◌≡◌}
 use Rattle.wh_cert.specs.Written.{Cert, yes, no}
-use Rattle.wh_cert_text.specs.LineMachine.{finished, placed, Standing, stands, stands_yes}
-use Rattle.wh_cert_text.specs.YesMachine as y
+use Rattle.wh_cert_machines.specs.LineMachine.{finished, placed, Standing, stands, stands_yes}
+use Rattle.wh_cert_machines.specs.YesMachine as y
 
 -- all of the certificate was read
 abbrev pub IsEnd : Standing → Cert → Type 0

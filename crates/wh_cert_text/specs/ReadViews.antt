@@ -6,10 +6,10 @@ use Rattle.wh_text.specs.declared.raw.RawTerm.{RawTerm}
 use Rattle.wh_text.specs.Erase.{rtm}
 use Rattle.wh_cert.specs.Said.{said_put, said_node}
 use Rattle.wh_cert.specs.declared.certificate.Put.{Put}
-use Rattle.wh_cert_text.specs.YesMachine as y
-use Rattle.wh_cert_text.specs.LineMachine as m
-use Rattle.wh_cert_text.specs.LineViews.{line_place}
-use Rattle.wh_cert_text.specs.YesViews.{yes_place}
+use Rattle.wh_cert_machines.specs.YesMachine as y
+use Rattle.wh_cert_machines.specs.LineMachine as m
+use Rattle.wh_cert_machines.specs.LineViews.{line_place}
+use Rattle.wh_cert_machines.specs.YesViews.{yes_place}
 use Rattle.wh_cert_text.specs.declared.read.Fed.{Fed}
 use Rattle.wh_cert_text.specs.declared.read.Fed.TheVariants as fed
 use Rattle.wh_cert_text.specs.declared.read.NoReader.{NoReader}

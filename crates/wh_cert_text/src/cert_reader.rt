@@ -7,39 +7,23 @@ ghost use Rattle.wh_cert.specs.Written.{Cert};
 ghost use Rattle.wh_cert.specs.Items.{Item as said, items};
 ghost use Rattle.wh_cert.specs.Said.{said_item};
 ghost use Rattle.wh_cert.specs.CertText.{Begins, CertText, FaultAt};
-ghost use Rattle.wh_cert_text.specs.LineMachine as m;
-ghost use Rattle.wh_cert_text.specs.LineMachine.{run, stands, stands_yes, start, unread};
-ghost use Rattle.wh_cert_text.specs.YesMachine as y;
-ghost use Rattle.wh_cert_text.specs.LineViews.{line_place};
-ghost use Rattle.wh_cert_text.specs.YesViews.{yes_place};
+ghost use Rattle.wh_cert_machines.specs.LineMachine as m;
+ghost use Rattle.wh_cert_machines.specs.LineMachine.{run, stands, stands_yes, start, unread};
+ghost use Rattle.wh_cert_machines.specs.YesMachine as y;
+ghost use Rattle.wh_cert_machines.specs.LineViews.{line_place};
+ghost use Rattle.wh_cert_machines.specs.YesViews.{yes_place};
 ghost use Rattle.wh_cert_text.specs.ReadViews.{wanted as wanted_of};
 ghost use Rattle.wh_cert_text.specs.ItemsRead.{ItemsIn};
 ghost use Rattle.wh_cert_text.specs.Portions.{HasFed, HasRun, IsPortionOf, IsWithin, RefusesSome};
 ghost use Rattle.wh_cert_text.specs.Feeding.{Tracks, TracksNo, TracksYes, HeadKnown, Led, OnWant, Refuses, StandsFor, has_ended};
-ghost use Rattle.wh_cert_text.specs.declared.cert_reader.Progress.TheVariants.{Lost, Refused};
+ghost use Rattle.wh_cert_machines.specs.declared.progress.Progress.TheVariants.{Lost, Refused};
 
-use crate::items_out::{Stretch, Taken, YesItems, take_no, take_some_no};
-use crate::line_reader::{LinePlace, NoLine};
-use crate::yes_line::YesPlace;
+use crate::items_out::{Stretch, Taken, begin_yes, take_no, take_some_no, take_some_yes, take_yes};
 use std::alloc::Global;
 use std::mem;
 use wh_cert::{CertSyntax, Item};
+use wh_cert_machines::{LinePlace, NoLine, Progress, YesItems, YesPlace};
 use wh_types::Or;
-
-/// Where the bytes led.
-#[derive(Drop)]
-pub enum Progress {
-    /// Before the first byte.
-    Unread,
-    /// In a YES certificate.
-    Yes(Box<YesItems>),
-    /// In a NO certificate.
-    No(Box<NoLine>),
-    /// Nowhere: the byte behind those that were taken is wrong.
-    Refused,
-    /// On, but no memory was left to say where.
-    Lost,
-}
 
 /// Bytes that were taken.
 #[derive(Drop)]
@@ -169,7 +153,7 @@ impl CertReader {
     {
         match byte {
             b'Y' => {
-                let lines = YesItems::new(self.alloc)?;
+                let lines = begin_yes(self.alloc)?;
                 let lines = Box::new(self.alloc, lines)?;
                 self.go(Progress::Yes(lines), 1);
             }
@@ -209,7 +193,7 @@ impl CertReader {
         ensures { (h : y.Past) → wanted_of h ≡ lines.value.wanted → y.version_of h ≡ lines.value.version
             → HeadKnown h lines.value byte → Led (stands_yes h (yes_place lines.value.line)) self.old self.new byte result }
     {
-        match lines.take(self.alloc, byte)? {
+        match take_yes(&mut lines, self.alloc, byte)? {
             Taken::On(item) => {
                 self.go(Progress::Yes(lines), 1);
                 Ok(item)
@@ -238,10 +222,7 @@ impl CertReader {
         ensures taken { self.new.taken ≡ self.old.taken }
         ensures at { self.new.at ≡ Refused }
     {
-        self.at = Progress::Refused;
-        CertSyntax {
-            at: u64::from(self.taken),
-        }
+        self.at.refuse(self.taken)
     }
 
     /// The bytes come behind a wrong one.
@@ -263,7 +244,7 @@ impl CertReader {
         ensures taken { IfOk result (IsPortionOf bytes.now) }
         ensures fed { (p : List ℕ) → self.old.taken ≡ length p → TracksYes lines.value (run start p) → HasFed p bytes.now self.new result }
     {
-        let stretch = lines.take_some(self.alloc, bytes)?;
+        let stretch = take_some_yes(&mut lines, self.alloc, bytes)?;
         self.go_on(Progress::Yes(lines), stretch, bytes)
     }
 
@@ -294,7 +275,8 @@ impl CertReader {
         requires room { self.old.taken + length bytes.now < 2 ^ 32 }
         requires within { IsWithin bytes.now stretch }
         ensures taken { IfOk result (IsPortionOf bytes.now) }
-        ensures fed { (p : List ℕ) → self.old.taken ≡ length p → HasRun (Tracks at) p bytes.now stretch → HasFed p bytes.now self.new result }
+        ensures fed { (p : List ℕ) → self.old.taken ≡ length p → HasRun (Tracks at) p bytes.now stretch
+            → HasFed p bytes.now self.new result }
     {
         match stretch {
             Stretch::On => {

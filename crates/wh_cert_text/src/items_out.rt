@@ -2,23 +2,24 @@
 
 ghost use Rattle.std.specs.Prelude.{◌≡◌, ◌+◌, ◌<◌, ◌^◌, ℕ, List, length, IfOk, OnErr, MatchOption};
 ghost use Rattle.wh_cert.specs.Said.{said_node};
-ghost use Rattle.wh_cert_text.specs.LineMachine.{line_step, run, start};
+ghost use Rattle.wh_cert_machines.specs.LineMachine.{line_step, run, start};
 ghost use Rattle.wh_cert_text.specs.Feeding.{TracksNo, TracksYes};
 ghost use Rattle.wh_cert_text.specs.Portions.{HasRun, IsWithin};
-ghost use Rattle.wh_cert_text.specs.YesMachine as y;
-ghost use Rattle.wh_cert_text.specs.LineViews.{line_place};
-ghost use Rattle.wh_cert_text.specs.YesViews.{item_of as yes_item, yes_place};
+ghost use Rattle.wh_cert_machines.specs.YesMachine as y;
+ghost use Rattle.wh_cert_machines.specs.LineViews.{line_place};
+ghost use Rattle.wh_cert_machines.specs.YesViews.{item_of as yes_item, yes_place};
 ghost use Rattle.wh_cert_text.specs.ReadViews.{wanted as wanted_of};
 ghost use Rattle.wh_cert_text.specs.Handing.{Begun, GivesNo, GivesYes, TakesNo, TakesYes};
-ghost use Rattle.wh_cert_text.specs.declared.line_reader.LinePlace.TheVariants as no_place;
-ghost use Rattle.wh_cert_text.specs.declared.yes_line.YesPlace.TheVariants as place;
+ghost use Rattle.wh_cert_machines.specs.declared.line_reader.LinePlace.TheVariants as no_place;
+ghost use Rattle.wh_cert_machines.specs.declared.yes_line.YesPlace.TheVariants as place;
 
-use crate::line_reader::{Item as NoItem, LinePlace, LineStep, NoLine};
 use crate::read::children;
-use crate::yes_line::{YesItem, YesLine, YesPlace, YesStep};
 use std::alloc::{AllocError, Global};
 use std::mem;
 use wh_cert::{Item, Node};
+use wh_cert_machines::{
+    Item as NoItem, LinePlace, LineStep, NoLine, YesItem, YesItems, YesLine, YesPlace, YesStep,
+};
 use wh_types::Numbers;
 
 /// Where a byte led.
@@ -41,99 +42,89 @@ pub enum Stretch {
     Wrong(usize),
 }
 
-/// The lines of a YES certificate since the last item, and what is known of those before.
-#[derive(Drop)]
-pub struct YesItems {
-    /// The lines.
-    pub line: YesLine,
-    /// The version, once it was read.
-    pub version: u32,
-    /// The ranks, until they are handed out.
-    pub ranks: Numbers,
-    /// How many nodes are still wanted.
-    pub wanted: u64,
+/// Behind the first byte of a YES certificate.
+pub fn begin_yes(alloc: Global) -> Result<YesItems, AllocError>
+    ensures { IfOk result Begun }
+{
+    Ok(YesItems {
+        line: YesLine::new(alloc)?,
+        version: 0,
+        ranks: Numbers::new(alloc)?,
+        wanted: 0,
+    })
 }
 
-impl YesItems {
-    /// Behind the first byte.
-    pub fn new(alloc: Global) -> Result<YesItems, AllocError>
-        ensures { IfOk result Begun }
-    {
-        Ok(YesItems {
-            line: YesLine::new(alloc)?,
-            version: 0,
-            ranks: Numbers::new(alloc)?,
-            wanted: 0,
-        })
+/// Where the next byte of a YES certificate leads. No memory is needed where all was read.
+pub fn take_yes(lines: &mut YesItems, alloc: Global, byte: u8) -> Result<Taken, AllocError>
+    ensures takes { IfOk result (λ taken. (h : y.Past) → wanted_of h ≡ lines.old.wanted
+        → y.version_of h ≡ lines.old.version
+        → TakesYes h lines.old lines.new (y.step (y.version_of h) (y.wants h) (yes_place lines.old.line) byte) taken) }
+    ensures wants { OnErr result (lines.old.line.place ≡ place.Finished → ⊥) }
+{
+    if matches!(lines.line.place, YesPlace::Finished) {
+        return Ok(Taken::Wrong);
     }
+    let wants = lines.wanted > 0;
+    match lines.line.step(alloc, lines.version, wants, byte)? {
+        YesStep::On => Ok(Taken::On(None)),
+        YesStep::Gives(item) => Ok(Taken::On(hand_out(lines, alloc, item)?)),
+        YesStep::Wrong => Ok(Taken::Wrong),
+    }
+}
 
-    /// Where the next byte leads. No memory is needed where all was read.
-    pub fn take(&mut self, alloc: Global, byte: u8) -> Result<Taken, AllocError>
-        ensures takes { IfOk result (λ taken. (h : y.Past) → wanted_of h ≡ self.old.wanted → y.version_of h ≡ self.old.version
-            → TakesYes h self.old self.new (y.step (y.version_of h) (y.wants h) (yes_place self.old.line) byte) taken) }
-        ensures wants { OnErr result (self.old.line.place ≡ place.Finished → ⊥) }
-    {
-        if matches!(self.line.place, YesPlace::Finished) {
-            return Ok(Taken::Wrong);
-        }
-        let wants = self.wanted > 0;
-        match self.line.step(alloc, self.version, wants, byte)? {
-            YesStep::On => Ok(Taken::On(None)),
-            YesStep::Gives(item) => Ok(Taken::On(self.hand_out(alloc, item)?)),
-            YesStep::Wrong => Ok(Taken::Wrong),
+/// How far bytes lead in a YES certificate, up to the first that ends an item.
+pub fn take_some_yes(
+    lines: &mut YesItems,
+    alloc: Global,
+    bytes: &[u8],
+) -> Result<Stretch, AllocError>
+    ensures within { IfOk result (IsWithin bytes.now) }
+    ensures run { IfOk result (λ stretch. (p : List ℕ) → TracksYes lines.old (run start p)
+        → length p + length bytes.now < 2 ^ 32 → HasRun (TracksYes lines.new) p bytes.now stretch) }
+{
+    for (index, byte) in bytes.iter().enumerate() {
+        let wants = lines.wanted > 0;
+        match lines.line.step(alloc, lines.version, wants, *byte)? {
+            YesStep::On => {}
+            YesStep::Gives(item) => match hand_out(lines, alloc, item)? {
+                Some(item) => return Ok(Stretch::Whole(index + 1, item)),
+                None => {}
+            },
+            YesStep::Wrong => return Ok(Stretch::Wrong(index)),
         }
     }
+    Ok(Stretch::On)
+}
 
-    /// How far bytes lead, up to the first that ends an item.
-    pub fn take_some(&mut self, alloc: Global, bytes: &[u8]) -> Result<Stretch, AllocError>
-        ensures within { IfOk result (IsWithin bytes.now) }
-        ensures run { IfOk result (λ stretch. (p : List ℕ) → TracksYes self.old (run start p) → length p + length bytes.now < 2 ^ 32
-            → HasRun (TracksYes self.new) p bytes.now stretch) }
-    {
-        for (index, byte) in bytes.iter().enumerate() {
-            let wants = self.wanted > 0;
-            match self.line.step(alloc, self.version, wants, *byte)? {
-                YesStep::On => {}
-                YesStep::Gives(item) => match self.hand_out(alloc, item)? {
-                    Some(item) => return Ok(Stretch::Whole(index + 1, item)),
-                    None => {}
-                },
-                YesStep::Wrong => return Ok(Stretch::Wrong(index)),
-            }
+/// What an item of the lines of a YES certificate hands out: the version and the ranks wait for the number of pairs.
+fn hand_out(lines: &mut YesItems, alloc: Global, item: YesItem) -> Result<Option<Item>, AllocError>
+    ensures line { IfOk result (λ out. lines.new.line ≡ lines.old.line) }
+    ensures gives { IfOk result (λ out. (h : y.Past) → wanted_of h ≡ lines.old.wanted
+        → y.version_of h ≡ lines.old.version → GivesYes h lines.old lines.new (yes_item item) out) }
+{
+    match item {
+        YesItem::Version(version) => {
+            lines.version = version;
+            Ok(None)
         }
-        Ok(Stretch::On)
-    }
-
-    /// What an item of the lines hands out: the version and the ranks wait for the number of pairs.
-    fn hand_out(&mut self, alloc: Global, item: YesItem) -> Result<Option<Item>, AllocError>
-        ensures line { IfOk result (λ out. self.new.line ≡ self.old.line) }
-        ensures gives { IfOk result (λ out. (h : y.Past) → wanted_of h ≡ self.old.wanted → y.version_of h ≡ self.old.version
-            → GivesYes h self.old self.new (yes_item item) out) }
-    {
-        match item {
-            YesItem::Version(version) => {
-                self.version = version;
-                Ok(None)
-            }
-            YesItem::Ranks(ranks) => {
-                self.ranks = ranks;
-                Ok(None)
-            }
-            YesItem::Pairs(pairs) => {
-                self.wanted = 1;
-                let ranks = mem::replace(&mut self.ranks, Numbers::new(alloc)?);
-                Ok(Some(Item::YesHead {
-                    version: self.version,
-                    ranks,
-                    pairs,
-                }))
-            }
-            YesItem::Node(node) => {
-                self.wanted = wanted_behind(&node, self.wanted).ok_or(AllocError)?;
-                Ok(Some(Item::Node(Box::new(alloc, node)?)))
-            }
-            YesItem::End => Ok(Some(Item::End)),
+        YesItem::Ranks(ranks) => {
+            lines.ranks = ranks;
+            Ok(None)
         }
+        YesItem::Pairs(pairs) => {
+            lines.wanted = 1;
+            let ranks = mem::replace(&mut lines.ranks, Numbers::new(alloc)?);
+            Ok(Some(Item::YesHead {
+                version: lines.version,
+                ranks,
+                pairs,
+            }))
+        }
+        YesItem::Node(node) => {
+            lines.wanted = wanted_behind(&node, lines.wanted).ok_or(AllocError)?;
+            Ok(Some(Item::Node(Box::new(alloc, node)?)))
+        }
+        YesItem::End => Ok(Some(Item::End)),
     }
 }
 

@@ -4,9 +4,7 @@
 mod cert_reader;
 mod items_out;
 mod laws;
-mod line_reader;
 mod read;
-mod yes_line;
 
 pub use cert_reader::{CertReader, Portion};
 pub use laws::{

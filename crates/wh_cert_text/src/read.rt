@@ -5,17 +5,16 @@ ghost use Rattle.wh_types.specs.Outcome.{IfBecause};
 ghost use Rattle.wh_cert.specs.Written.{Cert, children};
 ghost use Rattle.wh_cert.specs.CertText.{CertText, FaultAt};
 ghost use Rattle.wh_cert.specs.Said.{said, said_node};
-ghost use Rattle.wh_cert_text.specs.YesMachine.{gather as yes_gather};
-ghost use Rattle.wh_cert_text.specs.LineMachine.{gather as no_gather, take_byte, first_byte};
+ghost use Rattle.wh_cert_machines.specs.YesMachine.{gather as yes_gather};
+ghost use Rattle.wh_cert_machines.specs.LineMachine.{gather as no_gather, take_byte, first_byte};
 ghost use Rattle.wh_cert_text.specs.ReadEnd.{IsEnd};
-ghost use Rattle.wh_cert_text.specs.LineViews.{item_of as no_item};
-ghost use Rattle.wh_cert_text.specs.YesViews.{item_of as yes_item};
+ghost use Rattle.wh_cert_machines.specs.LineViews.{item_of as no_item};
+ghost use Rattle.wh_cert_machines.specs.YesViews.{item_of as yes_item};
 ghost use Rattle.wh_cert_text.specs.ReadViews.{no_past, no_standing, yes_past, yes_standing, standing, after, wanted, few};
 
-use crate::line_reader::{Item, LinePlace, LineStep, NoLine};
-use crate::yes_line::{YesItem, YesLine, YesPlace, YesStep};
 use std::alloc::{AllocError, Global};
 use wh_cert::{CertSyntax, Certificate, NoCertificate, Node, Nodes, Puts, Steps, YesCertificate};
+use wh_cert_machines::{Item, LinePlace, LineStep, NoLine, YesItem, YesLine, YesPlace, YesStep};
 use wh_terms::Path;
 use wh_text::RawTerm;
 use wh_types::{Numbers, Or};
@@ -170,7 +169,7 @@ impl YesReader {
     }
 
     /// One more item; a node wants its children in its place.
-    #[tactic(auto, using(crate::proofs::YesCode::nodes_grow))]
+    #[tactic(auto, using(wh_cert_machines::proofs::YesCode::nodes_grow))]
     fn gather(&mut self, item: YesItem) -> Result<(), AllocError>
         requires { wanted (yes_gather (yes_past self.old) (yes_item item)) < 2 ^ 64 }
         ensures items { OnOk result (yes_past self.new ≡ yes_gather (yes_past self.old) (yes_item item)) }

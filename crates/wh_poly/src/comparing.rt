@@ -79,7 +79,8 @@ pub fn is_same_variable(a: &Atom, b: &Atom) -> bool
 #[cycle(order)]
 #[inline(always)]
 pub fn order_factor(a: &Atom, b: &Atom) -> Ordering
-    ensures { result ≡ compare_factor (out-Atom a.now).head (polys (out-Atom a.now).args) (out-Atom b.now).head (polys (out-Atom b.now).args) }
+    ensures { result ≡ compare_factor (out-Atom a.now).head (polys (out-Atom a.now).args)
+        (out-Atom b.now).head (polys (out-Atom b.now).args) }
 {
     let heads = a.head.cmp(&b.head);
     if heads.is_ne() {

@@ -1,9 +1,9 @@
 use Rattle.std.proofs.Common.{◌≡◌, sym, subst, get_or}
-use Rattle.wh_cert_text.specs.LineMachine.{line_step}
-use Rattle.wh_cert_text.specs.LineViews.{item_of, line_place, line_went}
+use Rattle.wh_cert_machines.specs.LineMachine.{line_step}
+use Rattle.wh_cert_machines.specs.LineViews.{item_of, line_place, line_went}
 use Rattle.wh_cert_text.specs.Feeding.{TracksNo}
-use Rattle.wh_cert_text.specs.declared.line_reader.LineStep.{LineStep}
-use Rattle.wh_cert_text.specs.declared.line_reader.NoLine.{NoLine}
+use Rattle.wh_cert_machines.specs.declared.line_reader.LineStep.{LineStep}
+use Rattle.wh_cert_machines.specs.declared.line_reader.NoLine.{NoLine}
 use Rattle.wh_cert_text.proofs.PortionCode.{SoFar, no_on, no_whole, no_wrong}
 use Rattle.wh_cert_text.proofs.items_out.take_some_no.Goals as goal
 

@@ -1,5 +1,5 @@
 use Rattle.std.proofs.Common.{◌+◌, ◌<◌, ◌^◌, ℕ, List, length}
-use Rattle.wh_cert_text.specs.LineMachine.{run, start}
+use Rattle.wh_cert_machines.specs.LineMachine.{run, start}
 use Rattle.wh_cert_text.specs.Feeding.{TracksNo}
 use Rattle.wh_cert_text.proofs.PortionCode.{SoFar}
 use Rattle.wh_cert_text.proofs.items_out.take_some_no.Given as goal

@@ -1,6 +1,6 @@
 use Rattle.std.proofs.Common.{sym, ap, ◌∙◌, subst}
 use Rattle.wh_cert.specs.Said.{said}
-use Rattle.wh_cert_text.specs.LineMachine.{Standing}
+use Rattle.wh_cert_machines.specs.LineMachine.{Standing}
 use Rattle.wh_cert_text.specs.ReadEnd.{IsEnd}
 use Rattle.wh_cert_text.specs.ReadViews.{standing, after}
 use Rattle.wh_cert_text.specs.declared.read.Fed.{Fed}

@@ -1,5 +1,5 @@
 use Rattle.std.proofs.Common.{◌≡◌, take}
-use Rattle.wh_cert_text.specs.LineMachine.{run, start}
+use Rattle.wh_cert_machines.specs.LineMachine.{run, start}
 use Rattle.wh_cert_text.specs.ReadViews.{standing}
 use Rattle.wh_cert_text.proofs.read.read_certificate.Given as goal
 

@@ -2,7 +2,7 @@ use Rattle.std.proofs.Common.{subst, arith, get_or, Result, Option}
 use Rattle.wh_types.specs.declared.want.Or.{Or}
 use Rattle.wh_cert.specs.declared.certificate.CertSyntax.{CertSyntax}
 use Rattle.wh_cert.specs.declared.item.Item.{Item}
-use Rattle.wh_cert_text.specs.LineMachine.{unread}
+use Rattle.wh_cert_machines.specs.LineMachine.{unread}
 use Rattle.wh_cert_text.specs.Feeding.{Led}
 use Rattle.wh_cert_text.proofs.PortionCode.{begun_err, begun_ok}
 use Rattle.wh_cert_text.proofs.cert_reader.CertReader.begin_some.Goals as goal

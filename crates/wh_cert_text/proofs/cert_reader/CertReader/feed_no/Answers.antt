@@ -1,12 +1,12 @@
 use Rattle.std.proofs.Common.{sym, subst}
-use Rattle.wh_cert_text.specs.LineMachine.{line_step, standing_after}
-use Rattle.wh_cert_text.specs.LineViews.{line_place}
+use Rattle.wh_cert_machines.specs.LineMachine.{line_step, standing_after}
+use Rattle.wh_cert_machines.specs.LineViews.{line_place}
 use Rattle.wh_cert_text.specs.Handing.{TakesNo}
 use Rattle.wh_cert_text.specs.Feeding.{Tracks}
-use Rattle.wh_cert_text.specs.declared.line_reader.NoLine.{NoLine}
+use Rattle.wh_cert_machines.specs.declared.line_reader.NoLine.{NoLine}
 use Rattle.wh_cert_text.specs.declared.items_out.Taken.{Taken}
 use Rattle.wh_cert_text.specs.declared.items_out.Taken.TheVariants.{On}
-use Rattle.wh_cert_text.specs.declared.cert_reader.Progress.{Progress}
+use Rattle.wh_cert_machines.specs.declared.progress.Progress.{Progress}
 use Rattle.wh_cert_text.proofs.CertReaderCode.{no_goes}
 use Rattle.wh_cert_text.proofs.cert_reader.CertReader.feed_no.Goals as goal
 

@@ -1,7 +1,7 @@
 use Rattle.std.proofs.Common.{sym, subst, arith}
 use Rattle.wh_cert_text.specs.Feeding.{Tracks}
 use Rattle.wh_cert_text.specs.Portions.{HasRun, IsWithin}
-use Rattle.wh_cert_text.specs.declared.cert_reader.Progress.{Progress}
+use Rattle.wh_cert_machines.specs.declared.progress.Progress.{Progress}
 use Rattle.wh_cert_text.specs.declared.items_out.Stretch.TheVariants.{On, Whole}
 use Rattle.wh_cert_text.proofs.PortionCode.{fed_all, fed_whole, fed_wrong}
 use Rattle.wh_cert_text.proofs.cert_reader.CertReader.go_on.Goals as goal

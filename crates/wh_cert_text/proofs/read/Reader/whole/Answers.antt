@@ -2,7 +2,7 @@ use Rattle.std.proofs.Common.{sym, ap, ◌∙◌, subst}
 use Rattle.std.specs.Prelude.{MatchOption}
 use Rattle.wh_cert.specs.Written.{Cert}
 use Rattle.wh_cert.specs.Said.{said}
-use Rattle.wh_cert_text.specs.LineMachine.{Standing}
+use Rattle.wh_cert_machines.specs.LineMachine.{Standing}
 use Rattle.wh_cert_text.specs.ReadEnd.{IsEnd}
 use Rattle.wh_cert_text.specs.ReadViews.{yes_standing, standing}
 use Rattle.wh_cert_text.proofs.read.Reader.whole.Goals as goal

@@ -1,6 +1,6 @@
 -- A reader of certificates, byte by byte, as a function: the lines of a NO certificate with the items that they give, and where
 -- the bytes of a certificate of either kind lead. The lines of a YES certificate are told in YesMachine. It mirrors the code;
--- the laws in proofs/ tie it to the text.
+-- the laws of wh_cert_text tie it to the text.
 use Rattle.std.specs.Prelude.{ℕ, ◌+◌, ◌-◌, ◌*◌, ◌==◌, cond, List, [], ◌∷◌, ◌++◌, Option, Some, None, codes}
 use Rattle.wh_terms.specs.declared.path.Step as taken
 use Rattle.wh_text.specs.Chars.{line_feed, space, is_digit}
@@ -9,7 +9,7 @@ use Rattle.wh_letters.specs.Digits.{goes_on}
 use Rattle.wh_cert_parts.specs.TypeMachine.{TypeStack, outside, TypePlace, type_wanted, TypeStep, goes, type_ended, no_type, type_step}
 use Rattle.wh_cert_parts.specs.TermMachine as m
 use Rattle.wh_cert.specs.Written.{Put}
-use Rattle.wh_cert_text.specs.YesMachine as y
+use Rattle.wh_cert_machines.specs.YesMachine as y
 
 -- what a line gives
 pub data Item : Type 0 where

@@ -1,5 +1,5 @@
-use Rattle.wh_cert_text.proofs.YesCode.{word_goes_on}
-use Rattle.wh_cert_text.proofs.yes_line.YesLine.step_word.Goals as goal
+use Rattle.wh_cert_machines.proofs.YesCode.{word_goes_on}
+use Rattle.wh_cert_machines.proofs.yes_line.YesLine.step_word.Goals as goal
 
 pub returns-then-at-word-2 : goal.returns-then-at-word-2
 returns-then-at-word-2 c =

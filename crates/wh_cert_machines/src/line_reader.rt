@@ -3,11 +3,11 @@
 
 ghost use Rattle.std.specs.Bool.{OnFalse, OnTrue};
 ghost use Rattle.std.specs.Prelude.{◌≡◌, IfOk};
-ghost use Rattle.wh_cert_text.specs.LineMachine.{rule_wanted, line as line_front, rule_number, step_path as path_of_step, at_path, later_line, put_percent, put_number, spelling, behind as stands_behind, line_step, on};
-ghost use Rattle.wh_cert_text.specs.LineViews.{behind_of, place_of, line_place, line_went, went_to};
-ghost use Rattle.wh_cert_text.specs.declared.line_reader.NoLine.{NoLine};
-ghost use Rattle.wh_cert_text.specs.declared.line_reader.Behind.TheVariants as behind;
-ghost use Rattle.wh_cert_text.specs.declared.line_reader.LinePlace.TheVariants.{Word, Term, StepPath, AtPath, PutType, PutTerm};
+ghost use Rattle.wh_cert_machines.specs.LineMachine.{rule_wanted, line as line_front, rule_number, step_path as path_of_step, at_path, later_line, put_percent, put_number, spelling, behind as stands_behind, line_step, on};
+ghost use Rattle.wh_cert_machines.specs.LineViews.{behind_of, place_of, line_place, line_went, went_to};
+ghost use Rattle.wh_cert_machines.specs.declared.line_reader.NoLine.{NoLine};
+ghost use Rattle.wh_cert_machines.specs.declared.line_reader.Behind.TheVariants as behind;
+ghost use Rattle.wh_cert_machines.specs.declared.line_reader.LinePlace.TheVariants.{Word, Term, StepPath, AtPath, PutType, PutTerm};
 
 use std::alloc::{AllocError, Global};
 use std::mem;

@@ -5,16 +5,16 @@ use Rattle.wh_text.specs.declared.raw.RawType.{RawType}
 use Rattle.wh_cert_parts.specs.TypeViews.{type_stack, type_place}
 use Rattle.wh_cert_parts.specs.TermViews.{term_stack, term_place}
 use Rattle.wh_cert.specs.Said.{said_put}
-use Rattle.wh_cert_text.specs.LineMachine as m
-use Rattle.wh_cert_text.specs.declared.line_reader.Behind.{Behind}
-use Rattle.wh_cert_text.specs.declared.line_reader.Behind.TheVariants as behind
-use Rattle.wh_cert_text.specs.declared.line_reader.LinePlace.{LinePlace}
-use Rattle.wh_cert_text.specs.declared.line_reader.LinePlace.TheVariants.{Word, Term, Line, Rule, RuleNumber, StepPath, AtPath, LaterLine, PutVariable, PutNumber, PutType, PutTerm, Finished}
-use Rattle.wh_cert_text.specs.declared.line_reader.NoLine.{NoLine}
-use Rattle.wh_cert_text.specs.declared.line_reader.Item.{Item}
-use Rattle.wh_cert_text.specs.declared.line_reader.Item.TheVariants as item
-use Rattle.wh_cert_text.specs.declared.line_reader.LineStep.{LineStep}
-use Rattle.wh_cert_text.specs.declared.line_reader.LineStep.TheVariants.{On, Gives, Wrong}
+use Rattle.wh_cert_machines.specs.LineMachine as m
+use Rattle.wh_cert_machines.specs.declared.line_reader.Behind.{Behind}
+use Rattle.wh_cert_machines.specs.declared.line_reader.Behind.TheVariants as behind
+use Rattle.wh_cert_machines.specs.declared.line_reader.LinePlace.{LinePlace}
+use Rattle.wh_cert_machines.specs.declared.line_reader.LinePlace.TheVariants.{Word, Term, Line, Rule, RuleNumber, StepPath, AtPath, LaterLine, PutVariable, PutNumber, PutType, PutTerm, Finished}
+use Rattle.wh_cert_machines.specs.declared.line_reader.NoLine.{NoLine}
+use Rattle.wh_cert_machines.specs.declared.line_reader.Item.{Item}
+use Rattle.wh_cert_machines.specs.declared.line_reader.Item.TheVariants as item
+use Rattle.wh_cert_machines.specs.declared.line_reader.LineStep.{LineStep}
+use Rattle.wh_cert_machines.specs.declared.line_reader.LineStep.TheVariants.{On, Gives, Wrong}
 
 abbrev pub behind_of : Behind → m.Behind
 behind_of behind.Term = m.to_term

@@ -6,15 +6,15 @@ use Rattle.wh_cert.specs.Written as written
 use Rattle.wh_cert.specs.Said.{said_arg, said_node}
 use Rattle.wh_cert_lines.specs.OrderLines as orders
 use Rattle.wh_cert_lines.specs.PolyLines.{Lines, in_funs, in_marks, in_rules, in_pairs, node_of}
-use Rattle.wh_cert_text.specs.YesMachine.{Behind, of_block, list_ended, dropped, order_dropped, word, on, gives, node_item, front, refused, spelling, word_step}
-use Rattle.wh_cert_text.specs.YesViews.{behind_of, next_block, yes_place}
-use Rattle.wh_cert_text.specs.declared.yes_line.Listed.TheVariants as listed
-use Rattle.wh_cert_text.specs.declared.yes_line.YesBehind.{YesBehind}
-use Rattle.wh_cert_text.specs.declared.yes_line.YesBehind.TheVariants as behind
+use Rattle.wh_cert_machines.specs.YesMachine.{Behind, of_block, list_ended, dropped, order_dropped, word, on, gives, node_item, front, refused, spelling, word_step}
+use Rattle.wh_cert_machines.specs.YesViews.{behind_of, next_block, yes_place}
+use Rattle.wh_cert_machines.specs.declared.yes_line.Listed.TheVariants as listed
+use Rattle.wh_cert_machines.specs.declared.yes_line.YesBehind.{YesBehind}
+use Rattle.wh_cert_machines.specs.declared.yes_line.YesBehind.TheVariants as behind
 use Rattle.wh_cert_lines.specs.declared.sections.Section.TheVariants as section
-use Rattle.wh_cert_text.specs.declared.yes_line.YesPlace.{YesPlace}
-use Rattle.wh_cert_text.specs.declared.yes_line.YesPlace.TheVariants as place
-use Rattle.wh_cert_text.specs.declared.yes_line.YesLine.{YesLine}
+use Rattle.wh_cert_machines.specs.declared.yes_line.YesPlace.{YesPlace}
+use Rattle.wh_cert_machines.specs.declared.yes_line.YesPlace.TheVariants as place
+use Rattle.wh_cert_machines.specs.declared.yes_line.YesLine.{YesLine}
 use Rattle.wh_cert.specs.declared.certificate.Arg.{Arg}
 use Rattle.wh_cert.specs.declared.certificate.Node.{Node}
 

@@ -3,16 +3,16 @@
 
 ghost use Rattle.std.specs.Prelude.{◌≡◌, true, drop, map, IfOk};
 ghost use Rattle.wh_cert.specs.Said.{said_arg};
-ghost use Rattle.wh_cert_text.specs.YesMachine.{of_pairs, of_blocks, spelling, behind as stands_behind, list_ended, list_step, number_ended, front_step, version_step, word_step, digit_step, number_step, arg_step, letter_step, lines_led, order_led, step as machine_step};
+ghost use Rattle.wh_cert_machines.specs.YesMachine.{of_pairs, of_blocks, spelling, behind as stands_behind, list_ended, list_step, number_ended, front_step, version_step, word_step, digit_step, number_step, arg_step, letter_step, lines_led, order_led, step as machine_step};
 ghost use Rattle.wh_cert_lines.specs.OrderLines.{lines_step as order_step};
 ghost use Rattle.wh_cert_lines.specs.OrderLinesViews.{lines_of as order_lines_of, lines_place as order_place};
 ghost use Rattle.wh_cert_lines.specs.PolyLines.{lines_step};
 ghost use Rattle.wh_cert_lines.specs.PolyLinesViews.{lines_of, lines_place};
-ghost use Rattle.wh_cert_text.specs.YesViews.{listed_of, behind_of, counted_of, yes_place, yes_went, next_block};
-ghost use Rattle.wh_cert_text.specs.declared.yes_line.YesLine.{YesLine};
-ghost use Rattle.wh_cert_text.specs.declared.yes_line.Listed.TheVariants as listed;
-ghost use Rattle.wh_cert_text.specs.declared.yes_line.YesBehind.TheVariants as behind;
-ghost use Rattle.wh_cert_text.specs.declared.yes_line.YesPlace.TheVariants as place;
+ghost use Rattle.wh_cert_machines.specs.YesViews.{listed_of, behind_of, counted_of, yes_place, yes_went, next_block};
+ghost use Rattle.wh_cert_machines.specs.declared.yes_line.YesLine.{YesLine};
+ghost use Rattle.wh_cert_machines.specs.declared.yes_line.Listed.TheVariants as listed;
+ghost use Rattle.wh_cert_machines.specs.declared.yes_line.YesBehind.TheVariants as behind;
+ghost use Rattle.wh_cert_machines.specs.declared.yes_line.YesPlace.TheVariants as place;
 
 use std::alloc::{AllocError, Global};
 use std::mem;

@@ -1,5 +1,5 @@
 -- A reader of YES certificates, byte by byte, as a function: what it stands before in the present line or node, and the items
--- that the lines give. It mirrors the code; the laws in proofs/ tie it to the text.
+-- that the lines give. It mirrors the code; the laws of wh_cert_text tie it to the text.
 use Rattle.std.specs.Prelude.{ℕ, zero, suc, ◌+◌, ◌-◌, ◌*◌, ◌==◌, ◌&&◌, nat_lt, Bool, cond, List, [], ◌∷◌, ◌++◌, length, codes, Option, Some, None}
 use Rattle.wh_types.specs.Limits.{longest_name}
 use Rattle.wh_text.specs.Chars.{line_feed, space, is_digit, is_start, is_part}

@@ -3,22 +3,22 @@ use Rattle.std.specs.Prelude.{ℕ, zero, suc, List, [], drop, map, Option, Some,
 use Rattle.wh_letters.specs.declared.letters.Letters.{Letters}
 use Rattle.wh_cert.specs.Written.{blocks}
 use Rattle.wh_cert.specs.Said.{said_arg, said_node}
-use Rattle.wh_cert_text.specs.YesMachine as m
+use Rattle.wh_cert_machines.specs.YesMachine as m
 use Rattle.wh_cert_lines.specs.OrderLinesViews as orders
 use Rattle.wh_cert_lines.specs.PolyLinesViews.{section_of, lines_of, lines_place}
-use Rattle.wh_cert_text.specs.declared.yes_line.Listed.{Listed}
-use Rattle.wh_cert_text.specs.declared.yes_line.Listed.TheVariants as listed
-use Rattle.wh_cert_text.specs.declared.yes_line.Counted.{Counted}
-use Rattle.wh_cert_text.specs.declared.yes_line.Counted.TheVariants as counted
-use Rattle.wh_cert_text.specs.declared.yes_line.YesBehind.{YesBehind}
-use Rattle.wh_cert_text.specs.declared.yes_line.YesBehind.TheVariants as behind
-use Rattle.wh_cert_text.specs.declared.yes_line.YesPlace.{YesPlace}
-use Rattle.wh_cert_text.specs.declared.yes_line.YesPlace.TheVariants as place
-use Rattle.wh_cert_text.specs.declared.yes_line.YesLine.{YesLine}
-use Rattle.wh_cert_text.specs.declared.yes_line.YesItem.{YesItem}
-use Rattle.wh_cert_text.specs.declared.yes_line.YesItem.TheVariants as item
-use Rattle.wh_cert_text.specs.declared.yes_line.YesStep.{YesStep}
-use Rattle.wh_cert_text.specs.declared.yes_line.YesStep.TheVariants.{On, Gives, Wrong}
+use Rattle.wh_cert_machines.specs.declared.yes_line.Listed.{Listed}
+use Rattle.wh_cert_machines.specs.declared.yes_line.Listed.TheVariants as listed
+use Rattle.wh_cert_machines.specs.declared.yes_line.Counted.{Counted}
+use Rattle.wh_cert_machines.specs.declared.yes_line.Counted.TheVariants as counted
+use Rattle.wh_cert_machines.specs.declared.yes_line.YesBehind.{YesBehind}
+use Rattle.wh_cert_machines.specs.declared.yes_line.YesBehind.TheVariants as behind
+use Rattle.wh_cert_machines.specs.declared.yes_line.YesPlace.{YesPlace}
+use Rattle.wh_cert_machines.specs.declared.yes_line.YesPlace.TheVariants as place
+use Rattle.wh_cert_machines.specs.declared.yes_line.YesLine.{YesLine}
+use Rattle.wh_cert_machines.specs.declared.yes_line.YesItem.{YesItem}
+use Rattle.wh_cert_machines.specs.declared.yes_line.YesItem.TheVariants as item
+use Rattle.wh_cert_machines.specs.declared.yes_line.YesStep.{YesStep}
+use Rattle.wh_cert_machines.specs.declared.yes_line.YesStep.TheVariants.{On, Gives, Wrong}
 
 abbrev pub listed_of : Listed → YesLine → m.Listed
 listed_of listed.Ranks l = m.of_ranks

@@ -1,0 +1,4 @@
+pub mod YesMachine
+pub mod LineMachine
+pub mod LineViews
+pub mod YesViews
