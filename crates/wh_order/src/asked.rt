@@ -6,18 +6,15 @@ ghost use Rattle.wh_inference.specs.Said as s;
 ghost use Rattle.wh_path_order.specs.Verdict.{some_strict};
 ghost use Rattle.wh_ordering.specs.FilteringView.{filtering_data};
 ghost use Rattle.wh_order.specs.Claims.{AreAtLeastGoals, AreGoals, AreGreaterGoals, AreTypedGoals};
-ghost use Rattle.wh_order.specs.TreeParts.{order_of};
+ghost use Rattle.wh_order.specs.Precedences.{order_of};
 
 use crate::goals::{Claim, Goal, Goals, Side, one, push_pairs};
-use crate::kinds::have_one_type;
 use crate::letters::above_goals;
 use crate::opened::open_tree;
-use crate::parts::{application_of, body_of};
-use crate::same::same_tree;
-use crate::tree::Tree;
 use std::alloc::{AllocError, Global};
 use wh_inference::{Inference, Letter};
 use wh_ordering::Filters;
+use wh_trees::{Tree, application_of, body_of, have_one_type, same_tree};
 use wh_types::{same_type, sum};
 
 /// What the parts of an inference with this letter, this place and these parts are for, where it is for the goal. `None` where the

@@ -7,20 +7,21 @@ ghost use Rattle.wh_inference.specs.Said as s;
 ghost use Rattle.wh_path_order.specs.Heads.{arguments_of};
 ghost use Rattle.wh_path_order.specs.Verdict.{above, each};
 ghost use Rattle.wh_ordering.specs.FilteringView.{filtering_data};
+ghost use Rattle.wh_trees.specs.TreeParts.{Over, World};
+ghost use Rattle.wh_trees.specs.Trees.{tree};
 ghost use Rattle.wh_order.specs.Claims.{AreAboveGoals, AreSymbolGoals, HoldsGoals};
-ghost use Rattle.wh_order.specs.TreeParts.{Over, World, order_of};
-ghost use Rattle.wh_order.specs.Trees.{tree};
+ghost use Rattle.wh_order.specs.Precedences.{order_of};
 
 use crate::below::is_meta_below;
 use crate::goals::{Claim, Goal, Goals, Side, one, push_each};
 use crate::opened::open_tree;
-use crate::parts::{application_of, argument_at, arguments_of, body_of, meta_of, number_of};
 use crate::precedence::precedence_of;
-use crate::same::same_trees;
-use crate::tree::Tree;
 use std::alloc::{AllocError, Global};
 use wh_inference::Letter;
 use wh_ordering::Filters;
+use wh_trees::{
+    Tree, application_of, argument_at, arguments_of, body_of, meta_of, number_of, same_before,
+};
 use wh_types::sum;
 
 /// What the parts of an inference with this letter and this place are for, where the left tree is to be above the right one;
@@ -179,7 +180,7 @@ fn less_at<'a>(
     if place > others.len() {
         return Ok(None);
     }
-    if !same_trees(&items[..place - 1], &others[..place - 1]) {
+    if !same_before(items, others, place) {
         return Ok(None);
     }
     let mut goals = Vec::new(alloc);

@@ -2,7 +2,7 @@ use Rattle.std.proofs.Common.{length}
 use Rattle.std.proofs.lemmas.Result.{IfOk-weaker}
 use Rattle.wh_inference.specs.Said.{letter, inferences}
 use Rattle.wh_ordering.specs.FilteringView.{filtering_data}
-use Rattle.wh_order.specs.TreeParts.{order_of}
+use Rattle.wh_order.specs.Precedences.{order_of}
 use Rattle.wh_order.proofs.GoalLemmas.{stand_none}
 use Rattle.wh_order.proofs.AskedGoals.{same_goals, trees_differ, by_types, not_both}
 use Rattle.wh_order.proofs.asked.at_least_goals.Goals as goal

@@ -1,7 +1,7 @@
 use Rattle.std.proofs.lemmas.Result.{IfOk-weaker}
 use Rattle.wh_terms.specs.Tree.{head}
 use Rattle.wh_inference.specs.Inferences.{part}
-use Rattle.wh_order.specs.Trees.{tree}
+use Rattle.wh_trees.specs.Trees.{tree}
 use Rattle.std.proofs.Common.{[], ◌∷◌}
 use Rattle.wh_path_order.specs.Verdict.{at_least}
 use Rattle.wh_order.proofs.LetterTasks.{part_none, part_some}
