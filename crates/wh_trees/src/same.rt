@@ -106,7 +106,7 @@ pub fn same_trees(items: &[Tree], others: &[Tree]) -> bool
     true
 }
 
-/// Whether the trees before the place, which is counted from 1 and lies in both lists, stand for the same trees, one by one.
+/// Whether the trees before the place, which is counted from 1 and lies in both lists, stand for the same trees.
 pub fn same_before(items: &[Tree], others: &[Tree], place: usize) -> bool
     requires counted { 0 < place }
     requires in_items { place ≤ length items.now }
