@@ -55,6 +55,17 @@ pub struct Goal<'a> {
     pub right: Side<'a>,
 }
 
+/// Two trees that are compared, whose free variables have numbers below `next`.
+#[derive(Clone, Copy)]
+pub struct Compared<'a> {
+    /// The number for the next variable.
+    pub next: u32,
+    /// The left tree.
+    pub left: &'a Tree,
+    /// The right tree.
+    pub right: &'a Tree,
+}
+
 /// The goals of these claims, one after another.
 pub type Goals<'a> = Vec<Goal<'a>>;
 
