@@ -9,11 +9,12 @@ use Rattle.wh_inference.specs.declared.inference.Letter.{Letter}
 use Rattle.wh_inference.specs.declared.inference.Letter.TheVariants.{Same, Lam, Mono, Sub, Prec, Lex, App, Bind, Var, Meta}
 use Rattle.wh_path_order.specs.Verdict.{Task}
 use Rattle.wh_ordering.specs.Filterings.{FilteringData}
+use Rattle.wh_trees.specs.declared.tree.Tree.{Tree}
+use Rattle.wh_trees.specs.TreeParts.{World, HasArguments}
+use Rattle.wh_trees.proofs.TreeLemmas.{trees-length}
 use Rattle.wh_order.specs.declared.goals.Goal.{Goal}
-use Rattle.wh_order.specs.declared.tree.Tree.{Tree}
-use Rattle.wh_order.specs.TreeParts.{World, HasArguments, order_of}
+use Rattle.wh_order.specs.Precedences.{order_of}
 use Rattle.wh_order.specs.Claims.{task, side_tree, IsGoalOver, AreGoalsOver, StandFor, MayStandFor}
-use Rattle.wh_order.proofs.TreeLemmas.{trees-length}
 use Rattle.wh_order.proofs.CheckLemmas.{drop_here, drop_end}
 use Rattle.wh_infer.specs.declared.choice.Choice.{Choice}
 use Rattle.wh_infer.specs.Least.{IsLeast, own}

@@ -16,10 +16,11 @@ use Rattle.wh_extended.specs.Filtered.{precedences}
 use Rattle.wh_path_order.specs.Verdict.{Claim, Task, verdict, verdicts}
 use Rattle.wh_path_order.proofs.AskedTasks.{first_part}
 use Rattle.wh_ordering.specs.Filterings.{FilteringData, filter_among, mark_among, filtered_signature}
+use Rattle.wh_trees.specs.declared.tree.Tree.{Tree}
+use Rattle.wh_trees.specs.Trees.{tree}
+use Rattle.wh_trees.specs.TreeParts.{World, Over}
 use Rattle.wh_order.specs.declared.goals.Goal.{Goal}
-use Rattle.wh_order.specs.declared.tree.Tree.{Tree}
-use Rattle.wh_order.specs.Trees.{tree}
-use Rattle.wh_order.specs.TreeParts.{World, Over, order_of}
+use Rattle.wh_order.specs.Precedences.{order_of}
 use Rattle.wh_order.specs.Claims.{task, IsGoalOver, AreGoalsOver}
 use Rattle.wh_infer.specs.declared.choice.Choice.{Choice}
 use Rattle.wh_infer.specs.Least.{IsLeast}

@@ -7,12 +7,12 @@ use Rattle.wh_types.specs.Ty.{sort}
 use Rattle.wh_types.specs.Erase.{ty}
 use Rattle.wh_terms.specs.Tree.{Tm, bound, free, fun, meta, lam, tms_of, spine}
 use Rattle.wh_extended.specs.Kinds.{type_at, out_at}
-use Rattle.wh_order.specs.declared.tree.Tree.{Tree, Meta, Sym, Mark, Lam, Apply, Row_of-Tree, end_of-Tree, more_of-Tree, items-the_row-Tree, items_hidden-the_row-Tree-0}
-use Rattle.wh_order.specs.declared.tree.Tree.TheVariants.{Bound, Free, Meta', Sym', Mark', Lam', Apply'}
-use Rattle.wh_order.specs.Trees.{tree, row, spine_type, IsHeadTree, AreOver}
-use Rattle.wh_order.specs.TreeParts.{World, Over}
+use Rattle.wh_trees.specs.declared.tree.Tree.{Tree, Meta, Sym, Mark, Lam, Apply, Row_of-Tree, end_of-Tree, more_of-Tree, items-the_row-Tree, items_hidden-the_row-Tree-0}
+use Rattle.wh_trees.specs.declared.tree.Tree.TheVariants.{Bound, Free, Meta', Sym', Mark', Lam', Apply'}
+use Rattle.wh_trees.specs.Trees.{tree, row, spine_type, IsHeadTree, AreOver}
+use Rattle.wh_trees.specs.TreeParts.{World, Over}
 use Rattle.wh_infer.specs.Plain.{Plain, a_bound, a_free, a_meta, a_symbol, a_mark, a_lam, a_spine, Plains, no_trees, more_trees, plain, plain_row, plains}
-use Rattle.wh_order.proofs.TreeLemmas.{row_of}
+use Rattle.wh_trees.proofs.TreeLemmas.{row_of}
 
 -- the tree that is stood for
 

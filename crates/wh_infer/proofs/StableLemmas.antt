@@ -8,7 +8,7 @@ use Rattle.wh_inference.specs.declared.inference.Inference.{Inference}
 use Rattle.wh_path_order.specs.Verdict.{verdict}
 use Rattle.wh_ordering.specs.Filterings.{FilteringData}
 use Rattle.wh_order.specs.declared.goals.Goal.{Goal}
-use Rattle.wh_order.specs.TreeParts.{order_of}
+use Rattle.wh_order.specs.Precedences.{order_of}
 use Rattle.wh_order.specs.Claims.{task}
 use Rattle.wh_infer.specs.Least.{NotRefuted}
 use Rattle.wh_infer.specs.Bests.{IsLeastInference}

@@ -8,9 +8,10 @@ use Rattle.wh_inference.specs.declared.inference.Inference.{Inference}
 use Rattle.wh_path_order.specs.Verdict.{Task, tasks}
 use Rattle.wh_path_order.specs.Verdict as v
 use Rattle.wh_ordering.specs.Filterings.{FilteringData}
+use Rattle.wh_trees.specs.TreeParts.{World}
 use Rattle.wh_order.specs.declared.goals.Goal.{Goal}
 use Rattle.wh_order.specs.declared.goals.Claim.TheVariants.{Greater}
-use Rattle.wh_order.specs.TreeParts.{World, order_of}
+use Rattle.wh_order.specs.Precedences.{order_of}
 use Rattle.wh_order.specs.Claims.{task, IsGoalOver, AreGoalsOver, MayStandFor, AreGoals}
 use Rattle.wh_infer.specs.Ways.{strict_part, sharpened, tasks_by}
 use Rattle.wh_infer.specs.Bests.{AreGoalsBy}

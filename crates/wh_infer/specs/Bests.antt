@@ -10,8 +10,9 @@ use Rattle.wh_inference.specs.declared.inference.Letter.TheVariants.{Same, Lam, 
 use Rattle.wh_inference.specs.declared.inference.Inference.{Inference}
 use Rattle.wh_path_order.specs.Verdict.{Task}
 use Rattle.wh_ordering.specs.Filterings.{FilteringData}
+use Rattle.wh_trees.specs.TreeParts.{World}
 use Rattle.wh_order.specs.declared.goals.Goal.{Goal}
-use Rattle.wh_order.specs.TreeParts.{World, order_of}
+use Rattle.wh_order.specs.Precedences.{order_of}
 use Rattle.wh_order.specs.Claims.{task, IsGoalOver, AreGoalsOver, MayStandFor}
 use Rattle.std.specs.Global.{Vec}
 use Rattle.wh_infer.specs.declared.choice.Choice.{Choice}

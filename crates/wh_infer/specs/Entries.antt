@@ -1,9 +1,10 @@
 -- Goals whose least number of entries is known.
 use Rattle.std.specs.Prelude.{◌≡◌, ℕ, length}
 use Rattle.wh_ordering.specs.Filterings.{FilteringData}
+use Rattle.wh_trees.specs.Trees.{tree}
+use Rattle.wh_trees.specs.TreeParts.{World, Over}
 use Rattle.wh_order.specs.declared.goals.Goal.{Goal}
-use Rattle.wh_order.specs.Trees.{tree}
-use Rattle.wh_order.specs.TreeParts.{World, Over, order_of}
+use Rattle.wh_order.specs.Precedences.{order_of}
 use Rattle.wh_order.specs.Claims.{said, side_tree}
 use Rattle.wh_infer.specs.declared.entry.Entry.{Entry}
 use Rattle.wh_infer.specs.Least.{IsLeast, own}

@@ -9,8 +9,8 @@ use Rattle.wh_inference.specs.Said.{inference}
 use Rattle.wh_inference.specs.declared.inference.Inference.{Inference}
 use Rattle.wh_path_order.specs.Verdict.{Claim, verdict}
 use Rattle.wh_ordering.specs.Filterings.{FilteringData, precedences_of, filtered_signature}
-use Rattle.wh_order.specs.declared.tree.Tree.{Tree}
-use Rattle.wh_order.specs.Trees.{tree}
+use Rattle.wh_trees.specs.declared.tree.Tree.{Tree}
+use Rattle.wh_trees.specs.Trees.{tree}
 use Rattle.wh_order.specs.TreeSides.{AreSides}
 
 -- the inference shows the claim about two filtered trees, and is within the limits of a line: it nests at most 64 deep and

@@ -10,7 +10,8 @@ use crate::known::Known;
 use crate::ways::{LETTERS, goals_by, lesser, letter_at};
 use std::alloc::AllocError;
 use wh_inference::Letter;
-use wh_order::{Goal, arguments_of};
+use wh_order::Goal;
+use wh_trees::arguments_of;
 use wh_types::{counted, sum};
 
 /// The way to show the goal that has the fewest entries, nested at most `room` deep; `None` where each has 2^32 at least.

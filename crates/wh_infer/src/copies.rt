@@ -5,7 +5,7 @@ ghost use Rattle.wh_types.specs.Erase.{ty};
 ghost use Rattle.wh_infer.specs.Plain.{a_bound, a_free, plain, plains};
 
 use std::alloc::{AllocError, Global};
-use wh_order::{Tree, Trees};
+use wh_trees::{Tree, Trees};
 use wh_types::{SimpleType, same_type};
 
 /// A copy of the tree.

@@ -1,6 +1,7 @@
 //! Goals whose least number of entries is known.
 
-use wh_order::{Claim, Tree};
+use wh_order::Claim;
+use wh_trees::Tree;
 
 /// The least number of entries that shows a goal, nested at most so deep.
 #[derive(Drop)]

@@ -1,6 +1,7 @@
 //! Numbers by which goals are told apart in haste.
 
-use wh_order::{Claim, Goal, Tree};
+use wh_order::{Claim, Goal};
+use wh_trees::Tree;
 
 /// A number for the goal, nested at most `room` deep. Nothing is claimed of it: goals that differ may well have the same one.
 pub fn key_of(goal: &Goal<'_>, room: u8) -> u32 {

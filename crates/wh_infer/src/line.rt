@@ -10,8 +10,9 @@ use crate::build::build;
 use crate::known::Known;
 use std::alloc::{AllocError, Global};
 use wh_inference::Inference;
-use wh_order::{Claim, Goal, Side, Tree};
+use wh_order::{Claim, Goal, Side};
 use wh_ordering::Filters;
+use wh_trees::Tree;
 
 /// How deep the inferences of a line nest at most.
 const DEEPEST: u8 = 64;

@@ -1,7 +1,6 @@
 -- What the goals of the code stand for where the left tree is to be greater than the right one, or at least it.
 use Rattle.std.proofs.Common.{◌≡◌, ℕ, suc, ◌+◌, ◌<◌, List, [], ◌∷◌, length, Bool, true, false, cond, IsTrue, ◌↔◌, Option, Some, None, refl, ap, ap₂, subst, sym, ◌∙◌, arith}
 use Rattle.std.specs.Global.{Vec}
-use Rattle.wh_types.specs.Ty.{Ty}
 use Rattle.wh_types.specs.Erase.{ty}
 use Rattle.wh_types.specs.declared.simple_type.SimpleType.{SimpleType}
 use Rattle.wh_terms.specs.Tree.{Tm, free, lam}
@@ -13,15 +12,15 @@ use Rattle.wh_inference.specs.declared.inference.Letter.TheVariants.{Same, Lam, 
 use Rattle.wh_extended.specs.Kinds.{kind}
 use Rattle.wh_path_order.specs.Verdict as v
 use Rattle.wh_path_order.specs.Verdict.{greater, Task, pairwise, some_strict, one_kind, above_tasks, greater_tasks, typed_tasks, at_least_tasks, tasks}
-use Rattle.wh_order.specs.declared.tree.Tree.{Tree}
+use Rattle.wh_trees.specs.declared.tree.Tree.{Tree}
+use Rattle.wh_trees.specs.Trees.{tree, trees}
+use Rattle.wh_trees.specs.TreeParts.{World, Over, AllOver, IsBody, IsApplied, IsApplication}
+use Rattle.wh_trees.proofs.TreeLemmas.{trees-length}
+use Rattle.wh_trees.proofs.SameLemmas.{Decided}
 use Rattle.wh_order.specs.declared.goals.Claim.{Claim}
 use Rattle.wh_order.specs.declared.goals.Claim.TheVariants.{AtLeast, Greater, Above}
 use Rattle.wh_order.specs.declared.goals.Goal.{Goal}
-use Rattle.wh_order.specs.Trees.{tree, trees}
-use Rattle.wh_order.specs.TreeParts.{World, Over, AllOver, IsBody, IsApplied, IsApplication}
 use Rattle.wh_order.specs.Claims.{said, side_tree, task, HoldsGoals, MayStandFor, AreAboveGoals, AreGreaterGoals, AreTypedGoals, AreAtLeastGoals, AreGoals}
-use Rattle.wh_order.proofs.TreeLemmas.{trees-length}
-use Rattle.wh_order.proofs.SameLemmas.{Decided}
 use Rattle.wh_order.proofs.LetterLemmas.{may, other_head}
 use Rattle.wh_order.proofs.AskedTasks.{bodies_left, bodies_right, bodies_place, bodies_types, bodies_are, arguments_left, arguments_right, arguments_place, arguments_heads, arguments_count, arguments_equal, arguments_are, IsOtherLetter, greater_above, typed_greater, typed_refused, same_are, same_refused, at_least_typed}
 
@@ -173,9 +172,6 @@ greater_by_above n prec next place s t l is r other h w o u =
 -- the test on types
 abbrev pub TestsTypes : Tree → Tree → Bool → Type 0
 TestsTypes s t c = (n : ℕ) (w : World) → Over n w s → Over n w t → IsTrue c ↔ (kind w.symbols w.metas [] (tree n s) ≡ kind w.symbols w.metas [] (tree n t))
-
-pub decided_types : (c : Bool) (a b x y : Ty) → a ≡ x → b ≡ y → (IsTrue c ↔ (a ≡ b)) → IsTrue c ↔ (x ≡ y)
-decided_types c a b x y e f decides = (λ so. sym e ∙ decides.0 so ∙ f, λ k. decides.1 (e ∙ k ∙ sym f))
 
 pub one_type_goals : (n : ℕ) (prec : ℕ → ℕ) (next place : ℕ) (s t : Tree) (c : Bool) (l : Letter) (is : Inferences) (r q : Option (Vec Goal)) → TestsTypes s t c → c ≡ true → r ≡ q
     → AreGreaterGoals n prec next s t l place is r → AreTypedGoals n prec next s t l place is q

@@ -13,7 +13,7 @@ use Rattle.wh_path_order.specs.Heads.{arguments_of}
 use Rattle.wh_path_order.specs.SameTrees.{same}
 use Rattle.wh_path_order.specs.Verdict.{greater, Task, pairwise, when, is_other_head, some_strict, above_tasks, greater_tasks, typed_tasks, at_least_tasks}
 use Rattle.wh_path_order.proofs.SameTreeLaws.{tree_equal}
-use Rattle.wh_order.specs.TreeParts.{body_in, IsOtherSpine}
+use Rattle.wh_trees.specs.TreeParts.{body_in, IsOtherSpine}
 use Rattle.wh_order.proofs.LetterTasks.{no_above}
 use Rattle.wh_order.proofs.SymbolGoals.{same-self}
 

@@ -10,8 +10,8 @@ use Rattle.wh_inference.specs.Inferences.{infer, no_parts, more_parts, entries, 
 use Rattle.wh_inference.specs.Said.{letter, inference, inferences, parts_row}
 use Rattle.wh_inference.specs.declared.inference.Inference.{Inference, Inference', out-Inference, outs-Inference', Row_of-Inference, end_of-Inference, more_of-Inference, items-the_row-Inference, items_shown-the_row-Inference-0}
 use Rattle.wh_path_order.specs.Verdict.{Task, tasks, or_later, verdict, verdicts}
+use Rattle.wh_trees.specs.TreeParts.{World}
 use Rattle.wh_order.specs.declared.goals.Goal.{Goal}
-use Rattle.wh_order.specs.TreeParts.{World}
 use Rattle.wh_order.specs.Claims.{task, IsGoalOver, AreGoalsOver, moved, Judged}
 
 -- an inference of the program, by its letter, its place and its parts

@@ -20,7 +20,7 @@ use Rattle.wh_ordering.specs.Ordering.{IsNarrow}
 use Rattle.wh_sides.specs.declared.sides.WideSide.{WideSide}
 use Rattle.wh_sides.specs.RuleSides.{IsWideSide}
 use Rattle.wh_sides.specs.PairSides.{AreWholeArguments, list_of_side}
-use Rattle.wh_order.specs.declared.tree.Tree.{Tree}
+use Rattle.wh_trees.specs.declared.tree.Tree.{Tree}
 use Rattle.wh_order.specs.TreeSides.{AreFilters, HasTypedCalls, IsTreeOf, IsTreeOfSide, IsTreeOfCall, extended_pair_side}
 use Rattle.wh_order.specs.Kept.{HasProperMark, IsFiltered}
 use Rattle.wh_order.specs.Sifted.{IsWhole, AreWhole, AreTreesOf, IsSifted, AreSifted}

@@ -4,13 +4,13 @@ use Rattle.std.proofs.lemmas.List.{map-append}
 use Rattle.wh_terms.specs.Tree.{Tm}
 use Rattle.wh_path_order.specs.Verdict as v
 use Rattle.wh_path_order.specs.Verdict.{Task, each, pairwise}
-use Rattle.wh_order.specs.declared.tree.Tree.{Tree}
+use Rattle.wh_trees.specs.declared.tree.Tree.{Tree}
+use Rattle.wh_trees.specs.Trees.{tree, trees}
+use Rattle.wh_trees.specs.TreeParts.{World, Over, AllOver}
+use Rattle.wh_trees.proofs.TreeLemmas.{all_get}
+use Rattle.wh_trees.proofs.SameLemmas.{trees_take_next, take_past}
 use Rattle.wh_order.specs.declared.goals.Goal.{Goal}
-use Rattle.wh_order.specs.Trees.{tree, trees}
-use Rattle.wh_order.specs.TreeParts.{World, Over, AllOver}
 use Rattle.wh_order.specs.Claims.{task, IsGoalOver, AreGoalsOver, StandFor}
-use Rattle.wh_order.proofs.TreeLemmas.{all_get}
-use Rattle.wh_order.proofs.SameLemmas.{trees_take_next, take_past}
 
 goals_append : (n : ℕ) (w : World) (gs hs : List Goal) → AreGoalsOver n w gs → AreGoalsOver n w hs → AreGoalsOver n w (gs ++ hs)
 goals_append n w [] hs p q = q

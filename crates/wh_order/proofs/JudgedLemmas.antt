@@ -8,8 +8,8 @@ use Rattle.wh_inference.specs.Inferences.{infer, entries, all_entries, count_par
 use Rattle.wh_inference.specs.Said.{letter, inference, inferences}
 use Rattle.wh_inference.specs.declared.inference.Inference.{Inference, out-Inference}
 use Rattle.wh_path_order.specs.Verdict.{Task, tasks, verdict, verdicts}
+use Rattle.wh_trees.specs.TreeParts.{World}
 use Rattle.wh_order.specs.declared.goals.Goal.{Goal}
-use Rattle.wh_order.specs.TreeParts.{World}
 use Rattle.wh_order.specs.Claims.{task, IsGoalOver, AreGoalsOver, StandFor, MayStandFor, AreGoals, moved, Judged}
 use Rattle.wh_order.proofs.CheckLemmas.{inference_is, count_is, bad_alone, bad_count, by_parts, judged_whole, judged_bad}
 use Rattle.wh_path_order.proofs.SameTreeLaws.{some_none}

@@ -19,13 +19,13 @@ use Rattle.wh_extended.specs.Filtered.{collapse, chosen, filtered, kept_type, In
 use Rattle.wh_ordering.specs.declared.filters.MarkFilter.{MarkFilter}
 use Rattle.wh_ordering.specs.FilteringView.{mark_filter}
 use Rattle.wh_ordering.specs.Filterings.{IsProperAsWritten, mark_among, unfiltered}
-use Rattle.wh_order.specs.declared.tree.Tree.{Tree, Sym, Mark, Apply}
+use Rattle.wh_trees.specs.declared.tree.Tree.{Tree, Sym, Mark, Apply}
+use Rattle.wh_trees.specs.Trees.{tree, trees, spine_type, IsHeadTree}
+use Rattle.wh_trees.specs.TreeParts.{World, Over, AllOver}
+use Rattle.wh_trees.proofs.TreeLemmas.{tree_of_sym, tree_of_mark, tree_of_apply, sym_over, mark_over, apply_over}
 use Rattle.wh_order.specs.declared.kept.Kept.{Kept}
 use Rattle.wh_order.specs.declared.kept.Kept.TheVariants.{Arguments, Instead}
-use Rattle.wh_order.specs.Trees.{tree, trees, spine_type, IsHeadTree}
-use Rattle.wh_order.specs.TreeParts.{World, Over, AllOver}
 use Rattle.wh_order.specs.Kept.{AreAt, HasProperMark, IsLeft, IsFiltered, IsSpineOf}
-use Rattle.wh_order.proofs.TreeLemmas.{tree_of_sym, tree_of_mark, tree_of_apply, sym_over, mark_over, apply_over}
 
 -- the last of the trees comes first in turn
 pub turned : (xs ys : List Tree) (t : Tree) → xs ≡ ys ++ t ∷ [] → reverse xs ≡ t ∷ reverse ys

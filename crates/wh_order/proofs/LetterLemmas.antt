@@ -5,10 +5,10 @@ use Rattle.wh_terms.specs.Tree.{Tm, bound, free, fun, meta, lam, app, tms_of, he
 use Rattle.wh_inference.specs.Inferences.{Letter}
 use Rattle.wh_path_order.specs.Heads.{list_of}
 use Rattle.wh_path_order.specs.Verdict.{Task, is_other_head, symbol_tasks}
-use Rattle.wh_order.specs.declared.tree.Tree.{Tree}
+use Rattle.wh_trees.specs.declared.tree.Tree.{Tree}
+use Rattle.wh_trees.specs.Trees.{tree}
+use Rattle.wh_trees.specs.TreeParts.{World, Over}
 use Rattle.wh_order.specs.declared.goals.Goal.{Goal}
-use Rattle.wh_order.specs.Trees.{tree}
-use Rattle.wh_order.specs.TreeParts.{World, Over}
 use Rattle.wh_order.specs.Claims.{HoldsGoals, MayStandFor, AreSymbolGoals}
 
 -- what stands for the tasks, where these are told in another way

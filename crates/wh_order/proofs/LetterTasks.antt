@@ -10,7 +10,7 @@ use Rattle.wh_inference.specs.Inferences.{Letter, same_trees, bodies, arguments,
 use Rattle.wh_path_order.specs.Heads.{arguments_of, list_of}
 use Rattle.wh_path_order.specs.SameTrees.{same_list}
 use Rattle.wh_path_order.specs.Verdict.{at_least, greater, above, Task, each, when, is_other_head, is_abstracted, symbol_tasks, above_tasks}
-use Rattle.wh_order.specs.TreeParts.{item_at, body_in, number_in, IsMeta, IsOtherSpine}
+use Rattle.wh_trees.specs.TreeParts.{item_at, body_in, number_in, IsMeta, IsOtherSpine}
 
 module _ (F : Symbols) (prec : ℕ → ℕ) (M : List Declared) where
   -- s

@@ -1,7 +1,4 @@
-pub mod TreeLemmas
-pub mod PartLemmas
-pub mod SameLemmas
-pub mod KindLemmas
+pub mod PrecedenceLemmas
 pub mod GoalLemmas
 pub mod BelowLemmas
 pub mod OpenLemmas

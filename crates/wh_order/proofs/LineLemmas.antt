@@ -10,11 +10,12 @@ use Rattle.wh_inference.specs.Said.{inference}
 use Rattle.wh_extended.specs.Filtered.{precedences}
 use Rattle.wh_path_order.specs.Verdict.{at_least, verdict, line_verdict}
 use Rattle.wh_ordering.specs.Filterings.{FilteringData, filter_among, mark_among, filtered_signature}
-use Rattle.wh_order.specs.declared.tree.Tree.{Tree}
+use Rattle.wh_trees.specs.declared.tree.Tree.{Tree}
+use Rattle.wh_trees.specs.Trees.{tree}
+use Rattle.wh_trees.specs.TreeParts.{World, Over}
 use Rattle.wh_order.specs.declared.check.BadInference.{BadInference}
 use Rattle.wh_order.specs.BadNumber.{number_of_bad}
-use Rattle.wh_order.specs.Trees.{tree}
-use Rattle.wh_order.specs.TreeParts.{World, Over, order_of}
+use Rattle.wh_order.specs.Precedences.{order_of}
 use Rattle.wh_order.specs.TreeSides.{AreSides, tree_verdict}
 use Rattle.wh_order.specs.Claims.{Judged}
 use Rattle.wh_order.proofs.CheckLemmas.{moved_zero}

@@ -23,13 +23,13 @@ use Rattle.wh_extended.proofs.CallSides.{filtered_arguments, call_is}
 use Rattle.wh_extended.proofs.TypeLists.{typed_length}
 use Rattle.wh_path_order.specs.Lines.{filtered_call}
 use Rattle.wh_ordering.specs.Filterings.{FilteringData, IsProperAsWritten, filters_of, filtered_signature, mark_among}
-use Rattle.wh_order.specs.declared.tree.Tree.{Tree, Meta}
-use Rattle.wh_order.specs.Trees.{tree, trees, IsHeadTree}
-use Rattle.wh_order.specs.TreeParts.{World, Over, AllOver}
+use Rattle.wh_trees.specs.declared.tree.Tree.{Tree, Meta}
+use Rattle.wh_trees.specs.Trees.{tree, trees, IsHeadTree}
+use Rattle.wh_trees.specs.TreeParts.{World, Over, AllOver}
+use Rattle.wh_trees.proofs.TreeLemmas.{trees-length, tree_of_meta, meta_over}
 use Rattle.wh_order.specs.TreeSides.{AreFilters, IsTreeOf}
 use Rattle.wh_order.specs.Kept.{HasProperMark, IsFiltered, IsSpineOf}
 use Rattle.wh_order.specs.Sifted.{IsWhole, AreWhole, AreOverFiltered, AreTreesOf, IsSifted, AreSifted}
-use Rattle.wh_order.proofs.TreeLemmas.{trees-length, tree_of_meta, meta_over}
 use Rattle.wh_order.proofs.FilterLemmas.{type_there, filter_there, symbol_filter, symbol_type, mark_filter_of, mark_type, proper_marks}
 
 -- what filtered trees are over

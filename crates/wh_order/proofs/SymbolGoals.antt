@@ -16,14 +16,15 @@ use Rattle.wh_path_order.specs.SameTrees.{same, all_same, same_list}
 use Rattle.wh_path_order.specs.Verdict.{greater, above, each, is_abstracted, symbol_tasks, above_tasks}
 use Rattle.wh_path_order.proofs.SameTreeLaws.{list_equal}
 use Rattle.wh_ordering.specs.Filterings.{FilteringData}
-use Rattle.wh_order.specs.declared.tree.Tree.{Tree}
+use Rattle.wh_trees.specs.declared.tree.Tree.{Tree}
+use Rattle.wh_trees.specs.Trees.{tree, trees}
+use Rattle.wh_trees.specs.TreeParts.{World, Over, AllOver, item_at, IsMetaApplication, IsApplied, IsApplication, IsArgument, IsBody, HasArguments}
+use Rattle.wh_trees.proofs.TreeLemmas.{trees-length}
+use Rattle.wh_trees.proofs.PartLemmas.{no_argument, argument_is}
+use Rattle.wh_trees.proofs.SameLemmas.{FrontsDecided}
 use Rattle.wh_order.specs.declared.goals.Goal.{Goal}
-use Rattle.wh_order.specs.Trees.{tree, trees}
-use Rattle.wh_order.specs.TreeParts.{World, Over, AllOver, order_of, item_at, IsMetaApplication, IsApplied, IsApplication, IsArgument, IsBody, HasArguments, HeadOrder}
+use Rattle.wh_order.specs.Precedences.{order_of, HeadOrder}
 use Rattle.wh_order.specs.Claims.{HoldsGoals, AreSymbolGoals, AreAboveGoals}
-use Rattle.wh_order.proofs.TreeLemmas.{trees-length}
-use Rattle.wh_order.proofs.PartLemmas.{no_argument, argument_is}
-use Rattle.wh_order.proofs.SameLemmas.{AllDecided}
 use Rattle.wh_order.proofs.LetterTasks.{lower_other, lower_not, lower_is, less_other, less_not, less_short_left, less_short_right, less_differ, less_is, spine_none, spine_is, body_none, body_is, meta_none, meta_no_item, meta_other, meta_is, above_none, above_symbol}
 use Rattle.wh_order.proofs.LetterLemmas.{may, asks_nothing, asks, other_head, items_back}
 
@@ -129,18 +130,12 @@ same_list-self : (ts : List Tm) → same_list ts ts ≡ true
 same_list-self [] = refl
 same_list-self (t ∷ ts) = both_true (same t t) (same_list ts ts) (same-self t) (same_list-self ts)
 
-pub all_take : (n : ℕ) (w : World) (xs : List Tree) (k : ℕ) → AllOver n w xs → AllOver n w (take k xs)
-all_take n w [] zero o = tt
-all_take n w [] (suc k) o = tt
-all_take n w (x ∷ xs) zero o = tt
-all_take n w (x ∷ xs) (suc k) o = (o.0, all_take n w xs k o.1)
-
 front_is : (n : ℕ) (ts : List Tm) (xs : List Tree) (k : ℕ) → ts ≡ trees n xs → take k ts ≡ trees n (take k xs)
 front_is n ts xs k e = ap (take k) e ∙ take-map (tree n) k xs
 
 -- the arguments before the place differ
 pub less_differs : (n f g from next place j : ℕ) (prec : ℕ → ℕ) (s t : Tree) (xs ys : List Tree) (r : Bool) → HasArguments s xs → HasArguments t ys → head (tree n t) ≡ fun g
-    → j + 1 ≡ place → AllDecided (take j xs) (take j ys) r → r ≡ false → AreSymbolGoals n prec f from next s t first_less place None
+    → j + 1 ≡ place → FrontsDecided j xs ys r → r ≡ false → AreSymbolGoals n prec f from next s t first_less place None
 less_differs n f g from next zero j prec s t xs ys r has has_other e step decides not = absurd (omega (arith, step))
 less_differs n f g from next (suc k) j prec s t xs ys r has has_other e step decides not =
     let place_of : j ≡ k = omega (arith, step) in
@@ -148,7 +143,7 @@ less_differs n f g from next (suc k) j prec s t xs ys r has has_other e step dec
     (λ w o u. less_differ w.symbols prec w.metas f g from next (tree n s) (tree n t) (head (tree n t)) k e
     (subst (λ (i : ℕ). same_list (take i (arguments_of (tree n s))) (take i (arguments_of (tree n t))) ≡ false) place_of
     (same_list_false (take j (arguments_of (tree n s))) (take j (arguments_of (tree n t)))
-    (λ same_fronts. refuted (sym ((decides n w (all_take n w xs j (has n w o).1) (all_take n w ys j (has_other n w u).1)).1
+    (λ same_fronts. refuted (sym ((decides n w (has n w o).1 (has_other n w u).1).1
     (sym (front_is n (arguments_of (tree n s)) xs j (has n w o).0) ∙ same_fronts ∙ front_is n (arguments_of (tree n t)) ys j (has_other n w u).0)) ∙ not)))))
   where
     refuted : true ≡ false → ⊥
@@ -156,7 +151,7 @@ less_differs n f g from next (suc k) j prec s t xs ys r has has_other e step dec
 
 -- they are the same, and so the trees at the place are compared
 pub less_goals : (n f g from next place j : ℕ) (prec : ℕ → ℕ) (s t : Tree) (xs ys : List Tree) (x y : Tree) (r : Bool) (gs : Option (Vec Goal)) → HasArguments s xs → HasArguments t ys
-    → head (tree n t) ≡ fun g → prec g ≡ prec f → j + 1 ≡ place → place ≤ length xs → place ≤ length ys → AllDecided (take j xs) (take j ys) r → r ≡ true
+    → head (tree n t) ≡ fun g → prec g ≡ prec f → j + 1 ≡ place → place ≤ length xs → place ≤ length ys → FrontsDecided j xs ys r → r ≡ true
     → x ≡ get_or xs j x → y ≡ get_or ys j y
     → ((w : World) → Over n w s → AllOver n w ys → Over n w x → Over n w y
     → HoldsGoals n w gs (record { claim = greater; next = next; left = tree n x; right = tree n y } ∷ each (above from) next (tree n s) (trees n ys)))
@@ -172,7 +167,7 @@ less_goals n f g from next (suc k) j prec s t xs ys x y r gs has has_other e equ
     (subst (λ (i : ℕ). same_list (take i (arguments_of (tree n s))) (take i (arguments_of (tree n t))) ≡ true) place_of
     (ap₂ same_list (front_is n (arguments_of (tree n s)) xs j (has n w o).0)
     (front_is n (arguments_of (tree n t)) ys j (has_other n w u).0
-    ∙ sym ((decides n w (all_take n w xs j (has n w o).1) (all_take n w ys j (has_other n w u).1)).0 so))
+    ∙ sym ((decides n w (has n w o).1 (has_other n w u).1).0 so))
     ∙ same_list-self (trees n (take j xs))))
     (argument_is s xs (suc k) x has (omega arith) within at_x n w o).0
     (argument_is t ys (suc k) y has_other (omega arith) inside at_y n w u).0

@@ -7,14 +7,14 @@ use Rattle.wh_terms.specs.Tree.{head}
 use Rattle.wh_inference.specs.Inferences as m
 use Rattle.wh_path_order.specs.Verdict as v
 use Rattle.wh_path_order.specs.Verdict.{Task, symbol_tasks, above_tasks, greater_tasks, typed_tasks, at_least_tasks, tasks}
-use Rattle.wh_order.specs.declared.tree.Tree.{Tree}
+use Rattle.wh_trees.specs.declared.tree.Tree.{Tree}
+use Rattle.wh_trees.specs.Trees.{tree}
+use Rattle.wh_trees.specs.TreeParts.{World, Over}
 use Rattle.wh_order.specs.declared.goals.Claim.{Claim}
 use Rattle.wh_order.specs.declared.goals.Claim.TheVariants.{AtLeast, Greater, Above}
 use Rattle.wh_order.specs.declared.goals.Side.{Side}
 use Rattle.wh_order.specs.declared.goals.Side.TheVariants.{Here, Made}
 use Rattle.wh_order.specs.declared.goals.Goal.{Goal}
-use Rattle.wh_order.specs.Trees.{tree}
-use Rattle.wh_order.specs.TreeParts.{World, Over}
 
 abbrev pub said : Claim → v.Claim
 said AtLeast = v.at_least

@@ -7,11 +7,11 @@ use Rattle.wh_inference.specs.FilterText.{WrittenFilter, keeps, picks}
 use Rattle.wh_extended.specs.Kinds.{type_at}
 use Rattle.wh_extended.specs.Filtered.{filtered, kept_type}
 use Rattle.wh_ordering.specs.Filterings.{MarkFilter, IsProperAsWritten}
-use Rattle.wh_order.specs.declared.tree.Tree.{Tree}
+use Rattle.wh_trees.specs.declared.tree.Tree.{Tree}
+use Rattle.wh_trees.specs.Trees.{tree, trees, IsHeadTree}
+use Rattle.wh_trees.specs.TreeParts.{World, Over, AllOver}
 use Rattle.wh_order.specs.declared.kept.Kept.{Kept}
 use Rattle.wh_order.specs.declared.kept.Kept.TheVariants.{Arguments, Instead}
-use Rattle.wh_order.specs.Trees.{tree, trees, IsHeadTree}
-use Rattle.wh_order.specs.TreeParts.{World, Over, AllOver}
 
 -- the trees ts are those of qs at the places
 abbrev pub AreAt : List ℕ → List Tree → List Tree → Type 0

@@ -1,6 +1,5 @@
-pub mod Trees
 pub mod TreeSides
-pub mod TreeParts
+pub mod Precedences
 pub mod Claims
 pub mod BadNumber
 pub mod Sifted

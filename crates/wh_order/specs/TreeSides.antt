@@ -14,8 +14,8 @@ use Rattle.wh_sides.specs.PairSides.{list_of_side}
 use Rattle.wh_path_order.specs.Lines.{filtered_side, filtered_call}
 use Rattle.wh_path_order.specs.Verdict.{line_verdict}
 use Rattle.wh_ordering.specs.Filterings.{FilteringData, filters_of, precedences_of, filtered_signature, AreProperSymbols, AreProperMarks}
-use Rattle.wh_order.specs.declared.tree.Tree.{Tree}
-use Rattle.wh_order.specs.Trees.{tree, IsOver}
+use Rattle.wh_trees.specs.declared.tree.Tree.{Tree}
+use Rattle.wh_trees.specs.Trees.{tree, IsOver}
 
 -- there is a filter for each symbol, and each filter is proper
 pub record AreFilters (S : Symbols) (rules : List RewriteRule) (D : FilteringData) : Type 0 where

@@ -6,18 +6,15 @@ ghost use Rattle.wh_inference.specs.Said as s;
 ghost use Rattle.wh_path_order.specs.Verdict.{some_strict};
 ghost use Rattle.wh_ordering.specs.FilteringView.{filtering_data};
 ghost use Rattle.wh_order.specs.Claims.{AreAtLeastGoals, AreGoals, AreGreaterGoals, AreTypedGoals};
-ghost use Rattle.wh_order.specs.TreeParts.{order_of};
+ghost use Rattle.wh_order.specs.Precedences.{order_of};
 
-use crate::goals::{Claim, Goal, Goals, Side, one, push_pairs};
-use crate::kinds::have_one_type;
+use crate::goals::{Claim, Compared, Goal, Goals, Side, one, push_pairs};
 use crate::letters::above_goals;
 use crate::opened::open_tree;
-use crate::parts::{application_of, body_of};
-use crate::same::same_tree;
-use crate::tree::Tree;
 use std::alloc::{AllocError, Global};
 use wh_inference::{Inference, Letter};
 use wh_ordering::Filters;
+use wh_trees::{application_of, body_of, have_one_type, same_tree};
 use wh_types::{same_type, sum};
 
 /// What the parts of an inference with this letter, this place and these parts are for, where it is for the goal. `None` where the
@@ -33,15 +30,15 @@ pub fn goals_of<'a>(
     ensures { IfOk result (λ r. AreGoals (length (filtering_data filters.now).symbols) (order_of (filtering_data filters.now))
         goal.now (s.letter letter) place (s.inferences parts.now) r) }
 {
-    let (left, right) = (goal.left.tree(), goal.right.tree());
+    let two = Compared {
+        next: goal.next,
+        left: goal.left.tree(),
+        right: goal.right.tree(),
+    };
     match goal.claim {
-        Claim::AtLeast => {
-            at_least_goals(alloc, filters, goal.next, left, right, letter, place, parts)
-        }
-        Claim::Greater => typed_goals(alloc, filters, goal.next, left, right, letter, place, parts),
-        Claim::Above(from) => {
-            above_goals(alloc, filters, from, goal.next, left, right, letter, place)
-        }
+        Claim::AtLeast => at_least_goals(alloc, filters, &two, letter, place, parts),
+        Claim::Greater => typed_goals(alloc, filters, &two, letter, place, parts),
+        Claim::Above(from) => above_goals(alloc, filters, from, &two, letter, place),
     }
 }
 
@@ -49,24 +46,23 @@ pub fn goals_of<'a>(
 fn at_least_goals<'a>(
     alloc: Global,
     filters: &Filters,
-    next: u32,
-    left: &'a Tree,
-    right: &'a Tree,
+    two: &Compared<'a>,
     letter: Letter,
     place: u32,
     parts: &[Inference],
 ) -> Result<Option<Goals<'a>>, AllocError>
-    ensures { IfOk result (λ r. AreAtLeastGoals (length (filtering_data filters.now).symbols) (order_of (filtering_data filters.now))
-        next left.now right.now (s.letter letter) place (s.inferences parts.now) r) }
+    ensures { IfOk result (λ r. AreAtLeastGoals (length (filtering_data filters.now).symbols)
+        (order_of (filtering_data filters.now)) two.now.next two.now.left.now two.now.right.now
+        (s.letter letter) place (s.inferences parts.now) r) }
 {
     if asks_same(letter, place) {
-        if same_tree(left, right) {
+        if same_tree(two.left, two.right) {
             Ok(Some(Vec::new(alloc)))
         } else {
             Ok(None)
         }
     } else {
-        typed_goals(alloc, filters, next, left, right, letter, place, parts)
+        typed_goals(alloc, filters, two, letter, place, parts)
     }
 }
 
@@ -88,21 +84,20 @@ fn is_same(letter: Letter) -> bool
 fn typed_goals<'a>(
     alloc: Global,
     filters: &Filters,
-    next: u32,
-    left: &'a Tree,
-    right: &'a Tree,
+    two: &Compared<'a>,
     letter: Letter,
     place: u32,
     parts: &[Inference],
 ) -> Result<Option<Goals<'a>>, AllocError>
-    ensures { IfOk result (λ r. AreTypedGoals (length (filtering_data filters.now).symbols) (order_of (filtering_data filters.now))
-        next left.now right.now (s.letter letter) place (s.inferences parts.now) r) }
+    ensures { IfOk result (λ r. AreTypedGoals (length (filtering_data filters.now).symbols)
+        (order_of (filtering_data filters.now)) two.now.next two.now.left.now two.now.right.now
+        (s.letter letter) place (s.inferences parts.now) r) }
 {
-    let Some(goals) = greater_goals(alloc, filters, next, left, right, letter, place, parts)? else {
+    let Some(goals) = greater_goals(alloc, filters, two, letter, place, parts)? else {
         return Ok(None);
     };
     // To compare types they have to be made, which is dear: that is done only where the letter asks for something.
-    let alike = have_one_type(alloc, left, right)?;
+    let alike = have_one_type(alloc, two.left, two.right)?;
     if alike { Ok(Some(goals)) } else { Ok(None) }
 }
 
@@ -110,38 +105,35 @@ fn typed_goals<'a>(
 fn greater_goals<'a>(
     alloc: Global,
     filters: &Filters,
-    next: u32,
-    left: &'a Tree,
-    right: &'a Tree,
+    two: &Compared<'a>,
     letter: Letter,
     place: u32,
     parts: &[Inference],
 ) -> Result<Option<Goals<'a>>, AllocError>
-    ensures { IfOk result (λ r. AreGreaterGoals (length (filtering_data filters.now).symbols) (order_of (filtering_data filters.now))
-        next left.now right.now (s.letter letter) place (s.inferences parts.now) r) }
+    ensures { IfOk result (λ r. AreGreaterGoals (length (filtering_data filters.now).symbols)
+        (order_of (filtering_data filters.now)) two.now.next two.now.left.now two.now.right.now
+        (s.letter letter) place (s.inferences parts.now) r) }
 {
     match letter {
-        Letter::Lam => by_bodies(alloc, next, left, right, place),
-        Letter::Mono => by_arguments(alloc, next, left, right, place, parts),
-        _ => above_goals(alloc, filters, next, next, left, right, letter, place),
+        Letter::Lam => by_bodies(alloc, two, place),
+        Letter::Mono => by_arguments(alloc, two, place, parts),
+        _ => above_goals(alloc, filters, two.next, two, letter, place),
     }
 }
 
 // `l`: two abstractions over one type; the left body is greater, where one free variable stands for both variables.
 fn by_bodies<'a>(
     alloc: Global,
-    next: u32,
-    left: &'a Tree,
-    right: &'a Tree,
+    two: &Compared<'a>,
     place: u32,
 ) -> Result<Option<Goals<'a>>, AllocError>
     ensures { IfOk result (λ r. (n : ℕ) (prec : ℕ → ℕ) (is : Inferences)
-        → AreGreaterGoals n prec next left.now right.now bodies place is r) }
+        → AreGreaterGoals n prec two.now.next two.now.left.now two.now.right.now bodies place is r) }
 {
-    let Some((kind, body)) = body_of(left) else {
+    let Some((kind, body)) = body_of(two.left) else {
         return Ok(None);
     };
-    let Some((other, other_body)) = body_of(right) else {
+    let Some((other, other_body)) = body_of(two.right) else {
         return Ok(None);
     };
     if place != 0 {
@@ -152,9 +144,9 @@ fn by_bodies<'a>(
     }
     let goal = Goal {
         claim: Claim::Greater,
-        next: sum(next, 1)?,
-        left: Side::Made(open_tree(alloc, body, next, kind)?),
-        right: Side::Made(open_tree(alloc, other_body, next, other)?),
+        next: sum(two.next, 1)?,
+        left: Side::Made(open_tree(alloc, body, two.next, kind)?),
+        right: Side::Made(open_tree(alloc, other_body, two.next, other)?),
     };
     one(alloc, goal)
 }
@@ -162,19 +154,18 @@ fn by_bodies<'a>(
 // `m`: two applications of one head to as many arguments; each argument is at least the other one, and some part says more.
 fn by_arguments<'a>(
     alloc: Global,
-    next: u32,
-    left: &'a Tree,
-    right: &'a Tree,
+    two: &Compared<'a>,
     place: u32,
     parts: &[Inference],
 ) -> Result<Option<Goals<'a>>, AllocError>
     ensures { IfOk result (λ r. (n : ℕ) (prec : ℕ → ℕ)
-        → AreGreaterGoals n prec next left.now right.now arguments place (s.inferences parts.now) r) }
+        → AreGreaterGoals n prec two.now.next two.now.left.now two.now.right.now arguments place
+        (s.inferences parts.now) r) }
 {
-    let Some((head, items)) = application_of(left) else {
+    let Some((head, items)) = application_of(two.left) else {
         return Ok(None);
     };
-    let Some((other, others)) = application_of(right) else {
+    let Some((other, others)) = application_of(two.right) else {
         return Ok(None);
     };
     if place != 0 {
@@ -190,7 +181,7 @@ fn by_arguments<'a>(
         return Ok(None);
     }
     let mut goals = Vec::new(alloc);
-    push_pairs(&mut goals, next, items, others)?;
+    push_pairs(&mut goals, two.next, items, others)?;
     Ok(Some(goals))
 }
 

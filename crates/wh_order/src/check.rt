@@ -8,17 +8,18 @@ ghost use Rattle.wh_inference.specs.Inferences.{all_entries, entries};
 ghost use Rattle.wh_inference.specs.Said as s;
 ghost use Rattle.wh_path_order.specs.Verdict.{verdict, verdicts};
 ghost use Rattle.wh_ordering.specs.FilteringView.{filtering_data};
+ghost use Rattle.wh_trees.specs.TreeParts.{World};
 ghost use Rattle.wh_order.specs.BadNumber.{number_of_bad};
 ghost use Rattle.wh_order.specs.Claims.{AreGoalsOver, IsGoalOver, Judged, task};
-ghost use Rattle.wh_order.specs.TreeParts.{World, order_of};
+ghost use Rattle.wh_order.specs.Precedences.{order_of};
 ghost use Rattle.wh_order.specs.TreeSides.{AreSides, tree_verdict};
 
 use crate::asked::goals_of;
 use crate::goals::{Claim, Goal, Side};
-use crate::tree::Tree;
 use std::alloc::Global;
 use wh_inference::Inference;
 use wh_ordering::Filters;
+use wh_trees::Tree;
 use wh_types::{Or, sum};
 
 /// The first inference of a line that is not good for what it is for.

@@ -16,12 +16,12 @@ ghost use Rattle.wh_order.specs.TreeSides.{AreFilters, HasTypedCalls, IsTreeOfCa
 
 use crate::kept::filtered_mark;
 use crate::sift::{sift, sift_list};
-use crate::tree::Tree;
 use std::alloc::Global;
 use wh_ordering::Filters;
 use wh_pairs::Pair;
 use wh_sides::{TooWide, extended_arguments, extended_rule};
 use wh_system::System;
+use wh_trees::Tree;
 use wh_types::Or;
 
 /// The right side of a rule, or its left side, with all its arguments and behind the filters (Kop 2012).

@@ -2,12 +2,12 @@
 
 ghost use Rattle.std.specs.Prelude.{ℕ, ◌≡◌, ◌∷◌, ◌++◌, [], List, IfOk, OnOk, length};
 ghost use Rattle.wh_path_order.specs.Verdict.{Task, each, pairwise};
+ghost use Rattle.wh_trees.specs.TreeParts.{AllOver, Over, World};
+ghost use Rattle.wh_trees.specs.Trees.{tree, trees};
 ghost use Rattle.wh_order.specs.Claims.{HoldsGoals, IsGoalOver, StandFor, said, side_tree, task};
-ghost use Rattle.wh_order.specs.TreeParts.{AllOver, Over, World};
-ghost use Rattle.wh_order.specs.Trees.{tree, trees};
 
-use crate::tree::Tree;
 use std::alloc::{AllocError, Global};
+use wh_trees::Tree;
 
 /// What is claimed of a left and of a right tree.
 #[derive(Clone, Copy)]
@@ -53,6 +53,17 @@ pub struct Goal<'a> {
     pub left: Side<'a>,
     /// The right tree.
     pub right: Side<'a>,
+}
+
+/// Two trees that are compared, whose free variables have numbers below `next`.
+#[derive(Clone, Copy)]
+pub struct Compared<'a> {
+    /// The number for the next variable.
+    pub next: u32,
+    /// The left tree.
+    pub left: &'a Tree,
+    /// The right tree.
+    pub right: &'a Tree,
 }
 
 /// The goals of these claims, one after another.

@@ -9,10 +9,10 @@ ghost use Rattle.wh_ordering.specs.FilteringView.{filtering_data};
 ghost use Rattle.wh_ordering.specs.Filterings.{IsProperAsWritten, mark_among};
 ghost use Rattle.wh_order.specs.Kept.{AreAt, HasProperMark, IsFiltered, IsLeft, IsSpineOf};
 
-use crate::tree::{Tree, Trees};
 use std::alloc::{AllocError, Global};
 use wh_inference::Filter;
 use wh_ordering::Filters;
+use wh_trees::{Tree, Trees};
 use wh_types::sum;
 
 /// What a filter leaves of a symbol with its arguments.

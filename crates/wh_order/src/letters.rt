@@ -7,20 +7,21 @@ ghost use Rattle.wh_inference.specs.Said as s;
 ghost use Rattle.wh_path_order.specs.Heads.{arguments_of};
 ghost use Rattle.wh_path_order.specs.Verdict.{above, each};
 ghost use Rattle.wh_ordering.specs.FilteringView.{filtering_data};
+ghost use Rattle.wh_trees.specs.TreeParts.{Over, World};
+ghost use Rattle.wh_trees.specs.Trees.{tree};
 ghost use Rattle.wh_order.specs.Claims.{AreAboveGoals, AreSymbolGoals, HoldsGoals};
-ghost use Rattle.wh_order.specs.TreeParts.{Over, World, order_of};
-ghost use Rattle.wh_order.specs.Trees.{tree};
+ghost use Rattle.wh_order.specs.Precedences.{order_of};
 
 use crate::below::is_meta_below;
-use crate::goals::{Claim, Goal, Goals, Side, one, push_each};
+use crate::goals::{Claim, Compared, Goal, Goals, Side, one, push_each};
 use crate::opened::open_tree;
-use crate::parts::{application_of, argument_at, arguments_of, body_of, meta_of, number_of};
 use crate::precedence::precedence_of;
-use crate::same::same_trees;
-use crate::tree::Tree;
 use std::alloc::{AllocError, Global};
 use wh_inference::Letter;
 use wh_ordering::Filters;
+use wh_trees::{
+    Tree, application_of, argument_at, arguments_of, body_of, meta_of, number_of, same_before,
+};
 use wh_types::sum;
 
 /// What the parts of an inference with this letter and this place are for, where the left tree is to be above the right one;
@@ -29,24 +30,22 @@ pub fn above_goals<'a>(
     alloc: Global,
     filters: &Filters,
     from: u32,
-    next: u32,
-    left: &'a Tree,
-    right: &'a Tree,
+    two: &Compared<'a>,
     letter: Letter,
     place: u32,
 ) -> Result<Option<Goals<'a>>, AllocError>
-    ensures { IfOk result (λ r. AreAboveGoals (length (filtering_data filters.now).symbols) (order_of (filtering_data filters.now))
-        from next left.now right.now (s.letter letter) place r) }
+    ensures { IfOk result (λ r. AreAboveGoals (length (filtering_data filters.now).symbols)
+        (order_of (filtering_data filters.now)) from two.now.next two.now.left.now two.now.right.now (s.letter letter) place r) }
 {
-    match precedence_of(filters, left) {
+    match precedence_of(filters, two.left) {
         Some(high) => match letter {
-            Letter::Sub => by_part(alloc, next, left, right, place),
-            Letter::Prec => by_lower(alloc, filters, high, from, next, left, right, place),
-            Letter::Lex => by_first_less(alloc, filters, high, from, next, left, right, place),
-            Letter::App => by_spine(alloc, from, next, left, right, place),
-            Letter::Bind => by_body(alloc, from, next, left, right, place),
-            Letter::Var => by_variable(alloc, from, next, left, right, place),
-            Letter::Meta => by_meta(alloc, from, next, left, right, place),
+            Letter::Sub => by_part(alloc, two, place),
+            Letter::Prec => by_lower(alloc, filters, high, from, two, place),
+            Letter::Lex => by_first_less(alloc, filters, high, from, two, place),
+            Letter::App => by_spine(alloc, from, two, place),
+            Letter::Bind => by_body(alloc, from, two, place),
+            Letter::Var => by_variable(alloc, from, two, place),
+            Letter::Meta => by_meta(alloc, from, two, place),
             Letter::Same | Letter::Lam | Letter::Mono => Ok(None),
         },
         None => Ok(None),
@@ -56,20 +55,19 @@ pub fn above_goals<'a>(
 // `s`: an argument on the left that is at least the right tree.
 fn by_part<'a>(
     alloc: Global,
-    next: u32,
-    left: &'a Tree,
-    right: &'a Tree,
+    two: &Compared<'a>,
     place: u32,
 ) -> Result<Option<Goals<'a>>, AllocError>
-    ensures { IfOk result (λ r. (n f from : ℕ) (prec : ℕ → ℕ) → AreSymbolGoals n prec f from next left.now right.now part place r) }
+    ensures { IfOk result (λ r. (n f from : ℕ) (prec : ℕ → ℕ)
+        → AreSymbolGoals n prec f from two.now.next two.now.left.now two.now.right.now part place r) }
 {
-    match argument_at(left, place) {
+    match argument_at(two.left, place) {
         Some(item) => {
             let goal = Goal {
                 claim: Claim::AtLeast,
-                next,
+                next: two.next,
                 left: Side::Here(item),
-                right: Side::Here(right),
+                right: Side::Here(two.right),
             };
             one(alloc, goal)
         }
@@ -83,16 +81,14 @@ fn by_lower<'a>(
     filters: &Filters,
     high: u32,
     from: u32,
-    next: u32,
-    left: &'a Tree,
-    right: &'a Tree,
+    two: &Compared<'a>,
     place: u32,
 ) -> Result<Option<Goals<'a>>, AllocError>
     ensures { IfOk result (λ r. (f : ℕ) → order_of (filtering_data filters.now) f ≡ high
         → AreSymbolGoals (length (filtering_data filters.now).symbols) (order_of (filtering_data filters.now))
-        f from next left.now right.now lower place r) }
+        f from two.now.next two.now.left.now two.now.right.now lower place r) }
 {
-    match precedence_of(filters, right) {
+    match precedence_of(filters, two.right) {
         Some(low) => {
             if place != 0 {
                 return Ok(None);
@@ -100,7 +96,7 @@ fn by_lower<'a>(
             if low >= high {
                 return Ok(None);
             }
-            above_each(alloc, from, next, left, right)
+            above_each(alloc, from, two)
         }
         None => Ok(None),
     }
@@ -110,20 +106,19 @@ fn by_lower<'a>(
 fn above_each<'a>(
     alloc: Global,
     from: u32,
-    next: u32,
-    left: &'a Tree,
-    right: &'a Tree,
+    two: &Compared<'a>,
 ) -> Result<Option<Goals<'a>>, AllocError>
-    ensures { IfOk result (λ r. (n : ℕ) (w : World) → Over n w left.now → Over n w right.now
-        → HoldsGoals n w r (each (above from) next (tree n left.now) (arguments_of (tree n right.now)))) }
+    ensures { IfOk result (λ r. (n : ℕ) (w : World) → Over n w two.now.left.now → Over n w two.now.right.now
+        → HoldsGoals n w r (each (above from) two.now.next (tree n two.now.left.now)
+        (arguments_of (tree n two.now.right.now)))) }
 {
     let mut goals = Vec::new(alloc);
     push_each(
         &mut goals,
         Claim::Above(from),
-        next,
-        left,
-        arguments_of(right),
+        two.next,
+        two.left,
+        arguments_of(two.right),
     )?;
     Ok(Some(goals))
 }
@@ -135,19 +130,17 @@ fn by_first_less<'a>(
     filters: &Filters,
     high: u32,
     from: u32,
-    next: u32,
-    left: &'a Tree,
-    right: &'a Tree,
+    two: &Compared<'a>,
     place: u32,
 ) -> Result<Option<Goals<'a>>, AllocError>
     ensures { IfOk result (λ r. (f : ℕ) → order_of (filtering_data filters.now) f ≡ high
         → AreSymbolGoals (length (filtering_data filters.now).symbols) (order_of (filtering_data filters.now))
-        f from next left.now right.now first_less place r) }
+        f from two.now.next two.now.left.now two.now.right.now first_less place r) }
 {
-    match precedence_of(filters, right) {
+    match precedence_of(filters, two.right) {
         Some(low) => {
             if low == high {
-                less_at(alloc, from, next, left, right, place as usize)
+                less_at(alloc, from, two, place as usize)
             } else {
                 Ok(None)
             }
@@ -161,15 +154,13 @@ fn by_first_less<'a>(
 fn less_at<'a>(
     alloc: Global,
     from: u32,
-    next: u32,
-    left: &'a Tree,
-    right: &'a Tree,
+    two: &Compared<'a>,
     place: usize,
 ) -> Result<Option<Goals<'a>>, AllocError>
-    ensures { IfOk result (λ r. (n f g : ℕ) (prec : ℕ → ℕ) → head (tree n right.now) ≡ fun g → prec g ≡ prec f
-        → AreSymbolGoals n prec f from next left.now right.now first_less place r) }
+    ensures { IfOk result (λ r. (n f g : ℕ) (prec : ℕ → ℕ) → head (tree n two.now.right.now) ≡ fun g → prec g ≡ prec f
+        → AreSymbolGoals n prec f from two.now.next two.now.left.now two.now.right.now first_less place r) }
 {
-    let (items, others) = (arguments_of(left), arguments_of(right));
+    let (items, others) = (arguments_of(two.left), arguments_of(two.right));
     if place == 0 {
         return Ok(None);
     }
@@ -179,17 +170,17 @@ fn less_at<'a>(
     if place > others.len() {
         return Ok(None);
     }
-    if !same_trees(&items[..place - 1], &others[..place - 1]) {
+    if !same_before(items, others, place) {
         return Ok(None);
     }
     let mut goals = Vec::new(alloc);
     goals.push(Goal {
         claim: Claim::Greater,
-        next,
+        next: two.next,
         left: Side::Here(&items[place - 1]),
         right: Side::Here(&others[place - 1]),
     })?;
-    push_each(&mut goals, Claim::Above(from), next, left, others)?;
+    push_each(&mut goals, Claim::Above(from), two.next, two.left, others)?;
     Ok(Some(goals))
 }
 
@@ -197,26 +188,25 @@ fn less_at<'a>(
 fn by_spine<'a>(
     alloc: Global,
     from: u32,
-    next: u32,
-    left: &'a Tree,
-    right: &'a Tree,
+    two: &Compared<'a>,
     place: u32,
 ) -> Result<Option<Goals<'a>>, AllocError>
-    ensures { IfOk result (λ r. (n f : ℕ) (prec : ℕ → ℕ) → AreSymbolGoals n prec f from next left.now right.now spine_parts place r) }
+    ensures { IfOk result (λ r. (n f : ℕ) (prec : ℕ → ℕ)
+        → AreSymbolGoals n prec f from two.now.next two.now.left.now two.now.right.now spine_parts place r) }
 {
     if place != 0 {
         return Ok(None);
     }
-    match application_of(right) {
+    match application_of(two.right) {
         Some((head, items)) => {
             let mut goals = Vec::new(alloc);
             goals.push(Goal {
                 claim: Claim::Above(from),
-                next,
-                left: Side::Here(left),
+                next: two.next,
+                left: Side::Here(two.left),
                 right: Side::Here(head),
             })?;
-            push_each(&mut goals, Claim::Above(from), next, left, items)?;
+            push_each(&mut goals, Claim::Above(from), two.next, two.left, items)?;
             Ok(Some(goals))
         }
         None => Ok(None),
@@ -227,23 +217,22 @@ fn by_spine<'a>(
 fn by_body<'a>(
     alloc: Global,
     from: u32,
-    next: u32,
-    left: &'a Tree,
-    right: &'a Tree,
+    two: &Compared<'a>,
     place: u32,
 ) -> Result<Option<Goals<'a>>, AllocError>
-    ensures { IfOk result (λ r. (n f : ℕ) (prec : ℕ → ℕ) → AreSymbolGoals n prec f from next left.now right.now body place r) }
+    ensures { IfOk result (λ r. (n f : ℕ) (prec : ℕ → ℕ)
+        → AreSymbolGoals n prec f from two.now.next two.now.left.now two.now.right.now body place r) }
 {
     if place != 0 {
         return Ok(None);
     }
-    match body_of(right) {
+    match body_of(two.right) {
         Some((kind, inner)) => {
             let goal = Goal {
                 claim: Claim::Above(from),
-                next: sum(next, 1)?,
-                left: Side::Here(left),
-                right: Side::Made(open_tree(alloc, inner, next, kind)?),
+                next: sum(two.next, 1)?,
+                left: Side::Here(two.left),
+                right: Side::Made(open_tree(alloc, inner, two.next, kind)?),
             };
             one(alloc, goal)
         }
@@ -255,14 +244,13 @@ fn by_body<'a>(
 fn by_variable<'a>(
     alloc: Global,
     from: u32,
-    next: u32,
-    left: &'a Tree,
-    right: &'a Tree,
+    two: &Compared<'a>,
     place: u32,
 ) -> Result<Option<Goals<'a>>, AllocError>
-    ensures { IfOk result (λ r. (n f : ℕ) (prec : ℕ → ℕ) → AreSymbolGoals n prec f from next left.now right.now variable place r) }
+    ensures { IfOk result (λ r. (n f : ℕ) (prec : ℕ → ℕ)
+        → AreSymbolGoals n prec f from two.now.next two.now.left.now two.now.right.now variable place r) }
 {
-    match number_of(right) {
+    match number_of(two.right) {
         Some(number) => {
             if place != 0 {
                 return Ok(None);
@@ -270,7 +258,7 @@ fn by_variable<'a>(
             if number < from {
                 return Ok(None);
             }
-            if number >= next {
+            if number >= two.next {
                 return Ok(None);
             }
             Ok(Some(Vec::new(alloc)))
@@ -283,23 +271,22 @@ fn by_variable<'a>(
 fn by_meta<'a>(
     alloc: Global,
     from: u32,
-    next: u32,
-    left: &'a Tree,
-    right: &'a Tree,
+    two: &Compared<'a>,
     place: u32,
 ) -> Result<Option<Goals<'a>>, AllocError>
-    ensures { IfOk result (λ r. (n f : ℕ) (prec : ℕ → ℕ) → AreSymbolGoals n prec f from next left.now right.now meta_part place r) }
+    ensures { IfOk result (λ r. (n f : ℕ) (prec : ℕ → ℕ)
+        → AreSymbolGoals n prec f from two.now.next two.now.left.now two.now.right.now meta_part place r) }
 {
-    let Some((meta, items)) = meta_of(right) else {
+    let Some((meta, items)) = meta_of(two.right) else {
         return Ok(None);
     };
-    let Some(item) = argument_at(left, place) else {
+    let Some(item) = argument_at(two.left, place) else {
         return Ok(None);
     };
     if !is_meta_below(item, meta, items.len(), items.len()) {
         return Ok(None);
     }
     let mut goals = Vec::new(alloc);
-    push_each(&mut goals, Claim::Above(from), next, left, items)?;
+    push_each(&mut goals, Claim::Above(from), two.next, two.left, items)?;
     Ok(Some(goals))
 }

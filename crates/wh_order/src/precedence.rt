@@ -6,12 +6,13 @@ ghost use Rattle.wh_inference.specs.FilterText.{filter_of};
 ghost use Rattle.wh_extended.specs.Filtered.{precedence};
 ghost use Rattle.wh_ordering.specs.FilteringView.{filtering_data};
 ghost use Rattle.wh_ordering.specs.Filterings.{filter_among, mark_among};
-ghost use Rattle.wh_order.specs.Trees.{tree};
-ghost use Rattle.wh_order.specs.TreeParts.{HeadOrder, Over, World};
+ghost use Rattle.wh_trees.specs.Trees.{tree};
+ghost use Rattle.wh_trees.specs.TreeParts.{Over, World};
+ghost use Rattle.wh_order.specs.Precedences.{HeadOrder};
 
-use crate::tree::Tree;
 use wh_inference::Filter;
 use wh_ordering::Filters;
+use wh_trees::Tree;
 
 /// The precedence of the symbol, or of the marked symbol, that heads the tree; `None` exactly where none does.
 pub fn precedence_of(filters: &Filters, t: &Tree) -> Option<u32>

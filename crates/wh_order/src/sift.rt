@@ -9,10 +9,10 @@ ghost use Rattle.wh_ordering.specs.FilteringView.{filtering_data};
 ghost use Rattle.wh_order.specs.Sifted.{AreSifted, IsSifted};
 
 use crate::kept::{applied, filtered_symbol};
-use crate::tree::{Tree, Trees};
 use std::alloc::{AllocError, Global};
 use wh_ordering::Filters;
 use wh_terms::{MetaDecl, Term, Terms};
+use wh_trees::{Tree, Trees};
 use wh_types::SimpleType;
 
 /// The term behind the filters (Kop 2012).

@@ -15,8 +15,8 @@ use Rattle.wh_extended.specs.Filtered.{collapsed}
 use Rattle.wh_path_order.specs.Verdict.{at_least, greater, Task, line_verdict}
 use Rattle.wh_ordering.specs.Filterings.{FilteringData, precedences_of, filtered_signature}
 use Rattle.wh_ordering.specs.Ordering.{IsGoodPair, HasNarrowSides, HasNarrowCalls}
-use Rattle.wh_order.specs.declared.tree.Tree.{Tree}
-use Rattle.wh_order.specs.Trees.{tree}
+use Rattle.wh_trees.specs.declared.tree.Tree.{Tree}
+use Rattle.wh_trees.specs.Trees.{tree}
 use Rattle.wh_order.specs.TreeSides.{AreFilters, AreSides, IsTreeOfSide, IsTreeOfCall}
 use Rattle.wh_infer.specs.Lines.{Shows, IsFound}
 use Rattle.wh_infer.proofs.TaskLemmas.{stricter_good, weaker_good}

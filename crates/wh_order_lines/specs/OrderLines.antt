@@ -9,7 +9,7 @@ use Rattle.wh_inference.specs.declared.inference.Inference as made
 use Rattle.wh_ordering.specs.Filterings.{FilteringData}
 use Rattle.wh_ordering.specs.Ordering.{IsGoodRule, IsGoodPair, HasNarrowSides, HasNarrowCalls}
 use Rattle.wh_path_order.specs.Verdict.{at_least, greater}
-use Rattle.wh_order.specs.declared.tree.Tree.{Tree}
+use Rattle.wh_trees.specs.declared.tree.Tree.{Tree}
 use Rattle.wh_infer.specs.Lines.{IsFound}
 use Rattle.wh_order_lines.specs.Oriented.{IsWithin, OrientsStrictly, MeetsRule, MeetsPair}
 use Rattle.wh_order_lines.specs.declared.lines.PairLine.{PairLine}

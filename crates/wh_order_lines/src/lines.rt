@@ -16,10 +16,11 @@ ghost use Rattle.wh_order_lines.specs.OrderLines.{IsAnyPairLineOrNone, IsLineBet
 use std::alloc::{AllocError, Global};
 use wh_infer::{find_greater, find_inference};
 use wh_inference::Inference;
-use wh_order::{Tree, filtered_pair, filtered_rule};
+use wh_order::{filtered_pair, filtered_rule};
 use wh_ordering::Filters;
 use wh_pairs::Pair;
 use wh_system::System;
+use wh_trees::Tree;
 use wh_types::Or;
 
 /// The inference of a pair, and whether it shows that its left side is greater.

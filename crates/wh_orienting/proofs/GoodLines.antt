@@ -10,7 +10,7 @@ use Rattle.wh_extended.specs.Filtered.{collapsed}
 use Rattle.wh_path_order.specs.Lines.{filtered_side, filtered_call}
 use Rattle.wh_path_order.specs.Verdict.{line_verdict}
 use Rattle.wh_ordering.specs.Filterings.{FilteringData, filters_of, precedences_of, filtered_signature}
-use Rattle.wh_order.specs.declared.tree.Tree.{Tree}
+use Rattle.wh_trees.specs.declared.tree.Tree.{Tree}
 use Rattle.wh_order.specs.TreeSides.{AreFilters, AreSides, IsTreeOfSide, IsTreeOfCall, tree_verdict}
 
 module _ (S : Symbols) (rules : List RewriteRule) (D : FilteringData) (filters : AreFilters S rules D) (s t : Tree) (i : Inference) where

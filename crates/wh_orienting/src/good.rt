@@ -21,11 +21,12 @@ ghost use Rattle.wh_orienting.specs.Found.{IsBadPairOf, IsBadRuleOf};
 use crate::fault::OrderingFault;
 use std::alloc::{AllocError, Global};
 use wh_inference::Inference;
-use wh_order::{Tree, check_inference, filtered_pair, filtered_rule};
+use wh_order::{check_inference, filtered_pair, filtered_rule};
 use wh_ordering::Filters;
 use wh_pairs::Pair;
 use wh_reduction::Task;
 use wh_system::System;
+use wh_trees::Tree;
 use wh_types::Or;
 
 /// Whether the inference of each rule that is to be covered is good; `Err` names the first bad one. No side is too wide.

@@ -19,7 +19,7 @@ use wh_cert::OrderNode;
 use wh_inference::Inference;
 use wh_judging::Problem;
 use wh_meaning::pairs_have_marked_sides;
-use wh_order::{TooWide, Tree, filtered_pair, filtered_rule};
+use wh_order::{TooWide, filtered_pair, filtered_rule};
 use wh_ordering::Filters;
 use wh_orienting::{Inferred, OrderingFault, check_ordering};
 use wh_pairs::PairSet;
@@ -27,6 +27,7 @@ use wh_proof::filters_of_lines;
 use wh_reduction::{Task, all_rules};
 use wh_tell::{Names, Text, names_of_rule, put_pair_line, put_rule_line, tell_line};
 use wh_tell_parts::{is_within, put_dropped, put_filters, put_inferred};
+use wh_trees::Tree;
 use wh_types::{Or, is_in};
 
 // What is said of lines that don't name what they have to name.

@@ -1,8 +1,8 @@
 //! Trees behind argument filters, printed.
 
 use std::alloc::AllocError;
-use wh_order::{Tree, Trees};
 use wh_tell::{Names, Text, put_bound, put_meta, put_name};
+use wh_trees::{Tree, Trees};
 
 /// Appends a filtered tree below so many binders; a spine that is bare has no parentheses.
 #[cycle(filtered)]

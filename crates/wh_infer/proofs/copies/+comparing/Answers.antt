@@ -1,6 +1,6 @@
 use Rattle.std.proofs.Common.{ap, sym, ◌∙◌, arith, rules}
 use Rattle.std.proofs.lemmas.Bool.{eqb-true}
-use Rattle.wh_order.proofs.TreeLemmas.{weights, weight_of_meta, weight_of_sym, weight_of_mark, weight_of_apply, weight_in}
+use Rattle.wh_trees.proofs.TreeLemmas.{weights, weight_of_meta, weight_of_sym, weight_of_mark, weight_of_apply, weight_in}
 use Rattle.wh_infer.specs.Plain.{plain, plains}
 use Rattle.wh_infer.proofs.PlainLemmas.{alike_next, alike_meta, alike_sym, alike_mark, alike_apply}
 use Rattle.wh_infer.proofs.copies.+comparing.Goals.{are_alike-then-meta-other, are_alike-else-meta-other}

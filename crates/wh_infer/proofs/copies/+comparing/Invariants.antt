@@ -1,5 +1,5 @@
 use Rattle.std.proofs.Common.{◌≡◌, take}
-use Rattle.wh_order.proofs.TreeLemmas.{weight, weights}
+use Rattle.wh_trees.proofs.TreeLemmas.{weight, weights}
 use Rattle.wh_infer.specs.Plain.{plains}
 use Rattle.wh_infer.proofs.copies.+comparing.Given as goal
 

@@ -3,7 +3,7 @@ use Rattle.std.specs.Global.{Vec}
 use Rattle.wh_inference.specs.Inferences.{arguments}
 use Rattle.wh_inference.specs.Said.{inferences}
 use Rattle.wh_ordering.specs.FilteringView.{filtering_data}
-use Rattle.wh_order.specs.TreeParts.{order_of}
+use Rattle.wh_order.specs.Precedences.{order_of}
 use Rattle.wh_order.specs.declared.goals.Goal.{Goal}
 use Rattle.wh_order.specs.Claims.{AreGoals}
 use Rattle.wh_infer.proofs.WayGoals.{pairs_none, pairs_past, pairs_some}

@@ -7,7 +7,7 @@ use Rattle.wh_path_order.specs.Verdict.{verdict, verdicts}
 use Rattle.wh_ordering.specs.FilteringView.{filtering_data}
 use Rattle.wh_order.specs.declared.goals.Goal.{Goal}
 use Rattle.wh_order.specs.BadNumber.{number_of_bad}
-use Rattle.wh_order.specs.TreeParts.{order_of}
+use Rattle.wh_order.specs.Precedences.{order_of}
 use Rattle.wh_order.specs.Claims.{task, AreGoals}
 use Rattle.wh_order.proofs.CheckLemmas.{goal_at, judged_passed, rest_next, rest_bad, rest_end}
 use Rattle.wh_order.proofs.JudgedLemmas.{goal_bad, count_bad, goal_judged, shape_of, entry_in, entries_in}

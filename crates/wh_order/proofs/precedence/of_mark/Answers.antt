@@ -3,7 +3,7 @@ use Rattle.wh_extended.specs.Filtered.{precedence}
 use Rattle.wh_ordering.specs.declared.filters.MarkFilter.{MarkFilter}
 use Rattle.wh_ordering.specs.FilteringView.{mark_filter}
 use Rattle.wh_ordering.specs.Filterings.{mark_among}
-use Rattle.wh_order.proofs.PartLemmas.{mark_here, mark_next, mark_end}
+use Rattle.wh_order.proofs.PrecedenceLemmas.{mark_here, mark_next, mark_end}
 use Rattle.wh_order.proofs.precedence.of_mark.Goals as goal
 
 pub loop-mark-init : goal.loop-mark-init

@@ -1,4 +1,4 @@
-use Rattle.wh_order.proofs.PartLemmas.{MarksFrom}
+use Rattle.wh_order.proofs.PrecedenceLemmas.{MarksFrom}
 use Rattle.wh_order.proofs.precedence.of_mark.Given as goal
 
 abbrev pub invariant-loop-mark : goal.invariant-loop-mark

@@ -3,7 +3,7 @@ use Rattle.wh_inference.specs.declared.filter.Filter.{Filter}
 use Rattle.wh_inference.specs.Said.{written_filter}
 use Rattle.wh_extended.specs.Filtered.{precedence}
 use Rattle.wh_ordering.specs.Filterings.{filter_among}
-use Rattle.wh_order.proofs.PartLemmas.{filter_read, filter_past}
+use Rattle.wh_order.proofs.PrecedenceLemmas.{filter_read, filter_past}
 use Rattle.wh_order.proofs.precedence.of_symbol.Goals as goal
 
 pub returns-then-place-funs : goal.returns-then-place-funs

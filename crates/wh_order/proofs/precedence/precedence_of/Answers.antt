@@ -1,6 +1,7 @@
 use Rattle.std.proofs.Common.{subst, sym}
 use Rattle.wh_ordering.specs.FilteringView.{filtering_data}
-use Rattle.wh_order.proofs.PartLemmas.{symbol_order, mark_order, no_order, IsOtherTree}
+use Rattle.wh_trees.proofs.PartLemmas.{IsOtherTree}
+use Rattle.wh_order.proofs.PrecedenceLemmas.{symbol_order, mark_order, no_order}
 use Rattle.wh_order.proofs.precedence.precedence_of.Goals as goal
 
 pub returns-in-Sym : goal.returns-in-Sym

@@ -4,7 +4,7 @@ use Rattle.wh_terms.specs.Measures.{size}
 use Rattle.wh_system.specs.CanonicalView.{side_of}
 use Rattle.wh_system.specs.SystemView.{system_data}
 use Rattle.wh_extended.specs.ExtendedSides.{extended_side}
-use Rattle.wh_order.specs.declared.tree.Tree.{Tree}
+use Rattle.wh_trees.specs.declared.tree.Tree.{Tree}
 use Rattle.wh_covering.proofs.LineLemmas.{told_of}
 use Rattle.wh_covering.proofs.Walks.{some_at}
 use Rattle.wh_orienting.proofs.good.rule_side.Goals as goal

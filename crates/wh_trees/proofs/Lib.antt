@@ -1,0 +1,4 @@
+pub mod TreeLemmas
+pub mod PartLemmas
+pub mod SameLemmas
+pub mod KindLemmas

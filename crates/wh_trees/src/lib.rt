@@ -1,0 +1,13 @@
+//! Trees that argument filters leave of sides of rules and of pairs, as data: their parts, their types, and whether two of
+//! them are the same. A path order compares such trees.
+#![tactic(auto)]
+
+mod kinds;
+mod parts;
+mod same;
+mod tree;
+
+pub use kinds::have_one_type;
+pub use parts::{application_of, argument_at, arguments_of, body_of, meta_of, number_of};
+pub use same::{same_before, same_tree, same_trees};
+pub use tree::{Tree, Trees};
