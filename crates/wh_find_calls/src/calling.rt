@@ -10,9 +10,9 @@ ghost use Rattle.wh_terms.specs.Scope.{scope};
 ghost use Rattle.wh_pairs.specs.PairData.{within};
 ghost use Rattle.wh_system.specs.SystemView.{system_data};
 ghost use Rattle.wh_pairs.specs.Calls.{calls, calls_within, calls_of};
-ghost use Rattle.wh_find_pairs.specs.CallsEach.{calls_each};
+ghost use Rattle.wh_find_calls.specs.CallsEach.{calls_each};
 ghost use Rattle.wh_pairs.specs.Known.{SymbolsBelow, AllSymbolsBelow};
-ghost use Rattle.wh_find_pairs.specs.Views.{call_data, trees};
+ghost use Rattle.wh_find_calls.specs.Views.{call_data, trees};
 
 use crate::conditions::with_condition;
 use crate::spine::{Spine, spine_of};

@@ -8,7 +8,7 @@ use Rattle.wh_terms.specs.declared.term.Term.{Term, App}
 use Rattle.wh_terms.specs.declared.term.Term.TheVariants.{Bound, Free, Fun, Meta', Lam', App'}
 use Rattle.wh_terms.proofs.TermLemmas.{weight, weights}
 use Rattle.wh_pairs.specs.Spines.{spine_arguments}
-use Rattle.wh_find_pairs.specs.Views.{trees}
+use Rattle.wh_find_calls.specs.Views.{trees}
 
 -- a tree that is no application
 abbrev pub IsAlone : Tm → Type 0

@@ -7,7 +7,7 @@ use Rattle.wh_terms.specs.Scope.{scope}
 use Rattle.wh_terms.specs.declared.term.Term.{Term}
 use Rattle.wh_pairs.specs.PairData.{within}
 use Rattle.wh_pairs.specs.Calls.{Call}
-use Rattle.wh_find_pairs.specs.declared.calling.Call as code
+use Rattle.wh_find_calls.specs.declared.calling.Call as code
 
 -- the trees that a list of references leads to
 abbrev pub trees : List (Bor Term) → List Tm

@@ -6,9 +6,9 @@ use Rattle.wh_terms.proofs.TermLemmas.{weight, weights}
 use Rattle.wh_pairs.specs.PairData.{within}
 use Rattle.wh_system.specs.SystemView.{system_data}
 use Rattle.wh_pairs.specs.Calls.{calls_within}
-use Rattle.wh_find_pairs.specs.CallsEach.{calls_each}
-use Rattle.wh_find_pairs.specs.Views.{call_data, trees}
-use Rattle.wh_find_pairs.proofs.calling.+calls.Given as goal
+use Rattle.wh_find_calls.specs.CallsEach.{calls_each}
+use Rattle.wh_find_calls.specs.Views.{call_data, trees}
+use Rattle.wh_find_calls.proofs.calling.+calls.Given as goal
 
 abbrev pub invariant-add_each-loop-argument : goal.invariant-add_each-loop-argument
 invariant-add_each-loop-argument l =

@@ -1,9 +1,9 @@
 use Rattle.std.proofs.Common.{reverse, ap, sym, ◌∙◌}
 use Rattle.wh_terms.specs.Erase.{tm}
 use Rattle.wh_pairs.specs.Spines.{spine_arguments}
-use Rattle.wh_find_pairs.specs.Views.{trees}
-use Rattle.wh_find_pairs.proofs.SpineLemmas.{head_alone, trees_end, trees-reverse}
-use Rattle.wh_find_pairs.proofs.spine.spine_of.Goals as goal
+use Rattle.wh_find_calls.specs.Views.{trees}
+use Rattle.wh_find_calls.proofs.SpineLemmas.{head_alone, trees_end, trees-reverse}
+use Rattle.wh_find_calls.proofs.spine.spine_of.Goals as goal
 
 pub returns : goal.returns
 returns c =

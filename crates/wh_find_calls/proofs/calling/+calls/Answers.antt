@@ -11,12 +11,12 @@ use Rattle.wh_pairs.specs.PairData.{Within, within}
 use Rattle.wh_system.specs.SystemView.{system_data}
 use Rattle.wh_pairs.specs.Spines.{spine_arguments}
 use Rattle.wh_pairs.specs.Calls.{Call, calls}
-use Rattle.wh_find_pairs.specs.CallsEach.{calls_each}
+use Rattle.wh_find_calls.specs.CallsEach.{calls_each}
 use Rattle.wh_pairs.specs.Known.{SymbolsBelow, AllSymbolsBelow}
-use Rattle.wh_find_pairs.specs.Views.{call_data, trees}
-use Rattle.wh_find_pairs.proofs.SpineLemmas.{weight_of_spine, head_head, no_head}
-use Rattle.wh_find_pairs.proofs.CallLemmas.{calls_of_spine, symbols_of_head, symbols_of_arguments, symbols_of_argument, weight_of_argument, each_next, symbols_of_item, within_next}
-use Rattle.wh_find_pairs.proofs.calling.+calls.Goals as goal
+use Rattle.wh_find_calls.specs.Views.{call_data, trees}
+use Rattle.wh_find_calls.proofs.SpineLemmas.{weight_of_spine, head_head, no_head}
+use Rattle.wh_find_calls.proofs.CallLemmas.{calls_of_spine, symbols_of_head, symbols_of_arguments, symbols_of_argument, weight_of_argument, each_next, symbols_of_item, within_next}
+use Rattle.wh_find_calls.proofs.calling.+calls.Goals as goal
 
 pub add_calls-add_head-requires : goal.add_calls-add_head-requires
 add_calls-add_head-requires t c =

@@ -4,7 +4,7 @@ ghost use Rattle.std.specs.Prelude.{◌≡◌, IfOk};
 ghost use Rattle.wh_terms.specs.Erase.{tm};
 ghost use Rattle.wh_terms.specs.Tree.{head};
 ghost use Rattle.wh_pairs.specs.Spines.{spine_arguments};
-ghost use Rattle.wh_find_pairs.specs.Views.{trees};
+ghost use Rattle.wh_find_calls.specs.Views.{trees};
 
 use std::alloc::{AllocError, Global};
 use wh_terms::Term;

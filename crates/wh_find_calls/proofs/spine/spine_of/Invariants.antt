@@ -2,8 +2,8 @@ use Rattle.std.proofs.Common.{◌≡◌, ◌++◌, reverse}
 use Rattle.wh_terms.specs.Erase.{tm}
 use Rattle.wh_terms.specs.Tree.{head}
 use Rattle.wh_pairs.specs.Spines.{spine_arguments}
-use Rattle.wh_find_pairs.specs.Views.{trees}
-use Rattle.wh_find_pairs.proofs.spine.spine_of.Given as goal
+use Rattle.wh_find_calls.specs.Views.{trees}
+use Rattle.wh_find_calls.proofs.spine.spine_of.Given as goal
 
 abbrev pub invariant-loop-head : goal.invariant-loop-head
 invariant-loop-head l =

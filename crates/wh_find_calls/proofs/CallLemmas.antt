@@ -13,9 +13,9 @@ use Rattle.wh_pairs.specs.PairData.{Within}
 use Rattle.wh_pairs.specs.Spines.{spine_arguments}
 use Rattle.wh_pairs.specs.Conditions.{with_condition}
 use Rattle.wh_pairs.specs.Calls.{Call, calls, calls_within}
-use Rattle.wh_find_pairs.specs.CallsEach.{calls_each}
+use Rattle.wh_find_calls.specs.CallsEach.{calls_each}
 use Rattle.wh_pairs.specs.Known.{SymbolsBelow, AllSymbolsBelow}
-use Rattle.wh_find_pairs.specs.Views.{trees}
+use Rattle.wh_find_calls.specs.Views.{trees}
 
 pub each-append : (rules : List RewriteRule) (cs : List Within) (Γ : List Ty) (ts us : List Tm)
     → calls_each rules cs Γ (ts ++ us) ≡ calls_each rules cs Γ ts ++ calls_each rules cs Γ us
