@@ -47,34 +47,39 @@ pub fn calls_of<'a>(
     ensures { IfOk result (λ found. map call_data found.items ≡ calls_of (system_data system.now).rules (rewrite_rule rule.now)) }
 {
     let mut found = Vec::new(alloc);
-    add_calls(alloc, system, &[], &[], &rule.right, &mut found)?;
+    let around = Around {
+        conditions: &[],
+        binders: &[],
+    };
+    add_calls(alloc, system, &around, &rule.right, &mut found)?;
     Ok(found)
 }
 
-// Adds the calls in a part of a right side, which stands within these arguments and below these binders.
+// What stands around a part of a right side.
+#[derive(Clone, Copy)]
+struct Around<'a, 'b> {
+    // The arguments of meta-variables that it stands within, in increasing order.
+    conditions: &'b [Condition],
+    // The types of the binders, the outermost first.
+    binders: &'b [&'a SimpleType],
+}
+
+// Adds the calls in a part of a right side, around which this stands.
 #[cycle(calls)]
 fn add_calls<'a>(
     alloc: Global,
     system: &System,
-    conditions: &[Condition],
-    binders: &[&'a SimpleType],
+    around: &Around<'a, '_>,
     term: &'a Term,
     found: &mut Vec<Call<'a>>,
 ) -> Result<(), AllocError>
     requires { SymbolsBelow (length (system_data system.now).fun_names) (tm term.now) }
     ensures { OnOk result (map call_data found.new.items ≡ map call_data found.old.items ++ calls (system_data system.now).rules
-        (map within conditions.now) (scope binders.now) (tm term.now) []) }
+        (map within around.now.conditions.now) (scope around.now.binders.now) (tm term.now) []) }
 {
     let spine = spine_of(alloc, term)?;
-    add_head(alloc, system, conditions, binders, &spine, found)?;
-    add_each(
-        alloc,
-        system,
-        conditions,
-        binders,
-        spine.arguments.as_slice(),
-        found,
-    )
+    add_head(alloc, system, around, &spine, found)?;
+    add_each(alloc, system, around, spine.arguments.as_slice(), found)
 }
 
 // The same for the head of a spine, which stands before the spine's arguments.
@@ -82,22 +87,21 @@ fn add_calls<'a>(
 fn add_head<'a>(
     alloc: Global,
     system: &System,
-    conditions: &[Condition],
-    binders: &[&'a SimpleType],
+    around: &Around<'a, '_>,
     spine: &Spine<'a>,
     found: &mut Vec<Call<'a>>,
 ) -> Result<(), AllocError>
     requires symbols { SymbolsBelow (length (system_data system.now).fun_names) (tm spine.now.head.now) }
     requires head { head (tm spine.now.head.now) ≡ tm spine.now.head.now }
     ensures { OnOk result (map call_data found.new.items ≡ map call_data found.old.items ++ calls (system_data system.now).rules
-        (map within conditions.now) (scope binders.now) (tm spine.now.head.now) (trees spine.now.arguments.items)) }
+        (map within around.now.conditions.now) (scope around.now.binders.now) (tm spine.now.head.now) (trees spine.now.arguments.items)) }
 {
     match spine.head {
         Term::Fun(symbol) => {
             if let Some(need) = system.need(*symbol) {
                 found.push(Call {
-                    conditions: Vec::from_slice(alloc, conditions)?,
-                    binders: Vec::from_slice(alloc, binders)?,
+                    conditions: Vec::from_slice(alloc, around.conditions)?,
+                    binders: Vec::from_slice(alloc, around.binders)?,
                     symbol: *symbol,
                     need,
                     arguments: Vec::from_slice(alloc, spine.arguments.as_slice())?,
@@ -106,12 +110,14 @@ fn add_head<'a>(
             Ok(())
         }
         Term::Lam(kind, body) => {
-            let inner = with_binder(alloc, binders, kind)?;
-            add_calls(alloc, system, conditions, inner.as_slice(), body, found)
+            let inner = with_binder(alloc, around.binders, kind)?;
+            let here = Around {
+                conditions: around.conditions,
+                binders: inner.as_slice(),
+            };
+            add_calls(alloc, system, &here, body, found)
         }
-        Term::Meta(meta, items) => add_within(
-            alloc, system, conditions, binders, *meta, items, found,
-        ),
+        Term::Meta(meta, items) => add_within(alloc, system, around, *meta, items, found),
         Term::Bound(_) => Ok(()),
         Term::Free(_, _) => Ok(()),
         Term::App(_, _) => unreachable!(),
@@ -123,17 +129,16 @@ fn add_head<'a>(
 fn add_each<'a>(
     alloc: Global,
     system: &System,
-    conditions: &[Condition],
-    binders: &[&'a SimpleType],
+    around: &Around<'a, '_>,
     arguments: &[&'a Term],
     found: &mut Vec<Call<'a>>,
 ) -> Result<(), AllocError>
     requires { AllSymbolsBelow (length (system_data system.now).fun_names) (tms_of (trees arguments.now)) }
     ensures { OnOk result (map call_data found.new.items ≡ map call_data found.old.items ++ calls_each (system_data system.now).rules
-        (map within conditions.now) (scope binders.now) (trees arguments.now)) }
+        (map within around.now.conditions.now) (scope around.now.binders.now) (trees arguments.now)) }
 {
     for argument in arguments {
-        add_calls(alloc, system, conditions, binders, argument, found)?;
+        add_calls(alloc, system, around, argument, found)?;
     }
     Ok(())
 }
@@ -143,23 +148,26 @@ fn add_each<'a>(
 fn add_within<'a>(
     alloc: Global,
     system: &System,
-    conditions: &[Condition],
-    binders: &[&'a SimpleType],
+    around: &Around<'a, '_>,
     meta: u32,
     items: &'a Terms,
     found: &mut Vec<Call<'a>>,
 ) -> Result<(), AllocError>
     requires { AllSymbolsBelow (length (system_data system.now).fun_names) (tms items.now) }
     ensures { OnOk result (map call_data found.new.items ≡ map call_data found.old.items ++ calls_within (system_data system.now).rules
-        (map within conditions.now) (scope binders.now) meta 1 (tms items.now)) }
+        (map within around.now.conditions.now) (scope around.now.binders.now) meta 1 (tms items.now)) }
 {
     for (i, item) in items.as_slice().iter().enumerate() {
         let added = Condition {
             meta,
             place: sum(counted(i)?, 1)?,
         };
-        let inner = with_condition(alloc, conditions, added)?;
-        add_calls(alloc, system, inner.as_slice(), binders, item, found)?;
+        let inner = with_condition(alloc, around.conditions, added)?;
+        let here = Around {
+            conditions: inner.as_slice(),
+            binders: around.binders,
+        };
+        add_calls(alloc, system, &here, item, found)?;
     }
     Ok(())
 }

@@ -37,8 +37,8 @@ add_calls-add_each-requires t c =
 pub add_calls-returns : goal.add_calls-returns
 add_calls-returns t c =
     let rs : List RewriteRule = rewrite_rules c.args.system.now.rules.items in
-    let cs : List Within = map within c.args.conditions.now in
-    let Γ : List Ty = scope c.args.binders.now in
+    let cs : List Within = map within c.args.around.now.conditions.now in
+    let Γ : List Ty = scope c.args.around.now.binders.now in
     let old : List Call = map call_data c.args.found.now.items in
     let h : tm c.in_ok-spine.spine.head.now ≡ head (tm c.args.term.now) = c.in_ok-spine.ensures.head in
     let a : trees c.in_ok-spine.spine.arguments.items ≡ spine_arguments (tm c.args.term.now) = c.in_ok-spine.ensures.arguments in
@@ -59,7 +59,7 @@ add_each-add_calls-requires t c =
 
 pub add_each-loop-argument-preserved : goal.add_each-loop-argument-preserved
 add_each-loop-argument-preserved t c =
-    each_next (rewrite_rules c.args.system.now.rules.items) (map within c.args.conditions.now) (scope c.args.binders.now) c.args.arguments.now c.loop-argument.argument-index c.argument-item.result
+    each_next (rewrite_rules c.args.system.now.rules.items) (map within c.args.around.now.conditions.now) (scope c.args.around.now.binders.now) c.args.arguments.now c.loop-argument.argument-index c.argument-item.result
     (map call_data c.args.found.now.items) (map call_data c.loop-argument.found.items) (map call_data c.add_calls.new.found.items)
     c.loop-argument.invariant c.in_ok-add_calls.ensures c.loop-argument-test.true c.argument-item.is
 
@@ -73,8 +73,8 @@ add_head-add_within-requires t c =
 pub add_head-returns-in-Meta : goal.add_head-returns-in-Meta
 add_head-returns-in-Meta t c =
     let rs : List RewriteRule = rewrite_rules c.args.system.now.rules.items in
-    let cs : List Within = map within c.args.conditions.now in
-    let Γ : List Ty = scope c.args.binders.now in
+    let cs : List Within = map within c.args.around.now.conditions.now in
+    let Γ : List Ty = scope c.args.around.now.binders.now in
     let qs : List Tm = trees c.args.spine.now.arguments.items in
     subst (λ (u : Tm). OnOk c.add_within.result (map call_data c.add_within.new.found.items ≡ map call_data c.args.found.now.items ++ calls rs cs Γ u qs))
     (sym (tm_of_meta c.args.spine.now.head.now c.in-Meta.meta c.in-Meta.items c.in-Meta.is)) c.add_within.ensures
@@ -89,7 +89,7 @@ add_within-add_calls-requires t c =
 
 pub add_within-loop-i-preserved : goal.add_within-loop-i-preserved
 add_within-loop-i-preserved t c =
-    within_next (rewrite_rules c.args.system.now.rules.items) (map within c.args.conditions.now) (scope c.args.binders.now) c.args.meta c.as_slice-item-items.result.now c.loop-i.i c.in_ok-sum.field-0 c.item-item.result
+    within_next (rewrite_rules c.args.system.now.rules.items) (map within c.args.around.now.conditions.now) (scope c.args.around.now.binders.now) c.args.meta c.as_slice-item-items.result.now c.loop-i.i c.in_ok-sum.field-0 c.item-item.result
     (map within c.as_slice.result.now) (map call_data c.args.found.now.items) (map call_data c.loop-i.found.items) (map call_data c.add_calls.new.found.items)
     c.loop-i.invariant (omega (arith, c.in_ok-sum.ensures, c.in_ok-counted.ensures)) (ap (map within) c.as_slice.ensures.value ∙ c.in_ok-inner.ensures) c.in_ok-add_calls.ensures c.loop-i-test.true c.item-item.is
 

@@ -14,13 +14,13 @@ abbrev pub invariant-add_each-loop-argument : goal.invariant-add_each-loop-argum
 invariant-add_each-loop-argument l =
     map call_data l.found.items
     ≡ map call_data l.initial.found.items
-    ++ calls_each (system_data l.system).rules (map within l.conditions) (scope l.binders) (trees (take l.argument-index l.arguments))
+    ++ calls_each (system_data l.system).rules (map within l.around.conditions.now) (scope l.around.binders.now) (trees (take l.argument-index l.arguments))
 
 abbrev pub invariant-add_within-loop-i : goal.invariant-add_within-loop-i
 invariant-add_within-loop-i l =
     map call_data l.found.items
     ≡ map call_data l.initial.found.items
-    ++ calls_within (system_data l.system).rules (map within l.conditions) (scope l.binders) l.meta 1 (tms (take l.i l.item-items))
+    ++ calls_within (system_data l.system).rules (map within l.around.conditions.now) (scope l.around.binders.now) l.meta 1 (tms (take l.i l.item-items))
 
 -- a function that is handed the parts of a term by another one counts for a part of a step
 abbrev pub decreases-add_calls : goal.decreases-add_calls
