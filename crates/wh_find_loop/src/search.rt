@@ -10,16 +10,17 @@ ghost use Rattle.wh_cert.specs.Said.{said_no};
 ghost use Rattle.wh_loops.specs.Starts.{IsStart};
 ghost use Rattle.wh_loops.specs.Found.{IsLoopCertificate};
 ghost use Rattle.wh_find_loop.specs.Answers.{IsAnswer};
-ghost use Rattle.wh_find_loop.specs.Listing.{AreAllLinked, AreBelow, AreDone, AreMarked, AreStarts, Comes, EndsAt, GoesOn, GoesThrough, IsLinked, IsListing, IsPlan, ListsStarts, TakesStart, Tries};
+ghost use Rattle.wh_reached.specs.Listing.{AreAllLinked, AreMarked, IsLinked, IsListing};
+ghost use Rattle.wh_find_loop.specs.Searching.{AreBelow, AreDone, AreStarts, Comes, EndsAt, GoesOn, GoesThrough, IsPlan, ListsStarts, TakesStart, Tries};
 
-use crate::answer::{LoopSearch, Visit};
-use crate::candidates::steps_of;
-use crate::listing::{Entry, Listing, Origin, list_if_new, new_listing, steps_to, visits_of};
-use crate::reduct::{copy_in_space, reduct_by};
+use crate::answer::LoopSearch;
+use crate::joining::list_if_new;
 use crate::starts::{Plan, plan_of};
 use std::alloc::{AllocError, Global};
 use wh_cert::NoCertificate;
+use wh_find_steps::{copy_in_space, reduct_by, steps_of};
 use wh_loops::{Instance, certificate_of, find_instance};
+use wh_reached::{Entry, Listing, Origin, Visit, new_listing, steps_to, visits_of};
 use wh_system::System;
 use wh_terms::{Step, Term};
 

@@ -3,8 +3,8 @@ use Rattle.std.proofs.lemmas.List.{length_push}
 use Rattle.wh_terms.specs.Erase.{tm}
 use Rattle.wh_step.specs.Replay.{Replays}
 use Rattle.wh_system.specs.SystemView.{system_data}
-use Rattle.wh_find_loop.specs.Listing.{tree, LeadTo}
-use Rattle.wh_find_loop.proofs.ListingLemmas.{replays_push}
+use Rattle.wh_reached.specs.Listing.{tree, LeadTo}
+use Rattle.wh_reached.proofs.ListingLemmas.{replays_push}
 use Rattle.wh_find_loop.proofs.SpaceLemmas.{start_one}
 use Rattle.wh_find_loop.proofs.search.certify.Goals as goal
 

@@ -1,6 +1,6 @@
 use Rattle.std.proofs.Common.{◌≤◌, length}
 use Rattle.wh_system.specs.SystemView.{system_data}
-use Rattle.wh_find_loop.specs.Listing.{GoesThrough, AreDone}
+use Rattle.wh_find_loop.specs.Searching.{GoesThrough, AreDone}
 use Rattle.wh_find_loop.proofs.search.search.Given as goal
 
 abbrev pub invariant-loop-level : goal.invariant-loop-level

@@ -1,6 +1,6 @@
 use Rattle.std.proofs.Common.{◌≡◌, ◌+◌, length, subst, arith}
 use Rattle.wh_system.specs.SystemView.{system_data}
-use Rattle.wh_find_loop.specs.Listing.{Comes, GoesOn}
+use Rattle.wh_find_loop.specs.Searching.{Comes, GoesOn}
 use Rattle.wh_find_loop.proofs.SearchLemmas.{goes_none, goes_next}
 use Rattle.wh_find_loop.proofs.search.search_level.Goals as goal
 

@@ -1,5 +1,5 @@
 use Rattle.wh_system.specs.SystemView.{system_data}
-use Rattle.wh_find_loop.specs.Listing.{GoesOn}
+use Rattle.wh_find_loop.specs.Searching.{GoesOn}
 use Rattle.wh_find_loop.proofs.search.search_level.Given as goal
 
 abbrev pub invariant-loop-at : goal.invariant-loop-at

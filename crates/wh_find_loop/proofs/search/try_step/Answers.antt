@@ -6,9 +6,9 @@ use Rattle.wh_cert.specs.Said.{said_no}
 use Rattle.wh_loops.specs.Starts.{IsStart}
 use Rattle.wh_loops.specs.Space.{HoldsInstanceOf}
 use Rattle.wh_loops.specs.Found.{IsInstanceIn, IsLoopCertificate}
-use Rattle.wh_find_loop.specs.Reducts.{IsReduct, HasNoReduct, Reduces}
-use Rattle.wh_find_loop.specs.Listing.{tree, IsEntry}
-use Rattle.wh_find_loop.proofs.ListingLemmas.{here_at, all_here}
+use Rattle.wh_find_steps.specs.Reducts.{IsReduct, HasNoReduct, Reduces}
+use Rattle.wh_reached.specs.Listing.{tree, IsEntry}
+use Rattle.wh_reached.proofs.ListingLemmas.{here_at, all_here}
 use Rattle.wh_find_loop.proofs.SpaceLemmas.{shut_typed, plain_typed}
 use Rattle.wh_find_loop.proofs.TryLemmas.{start_low, start_is, start_fits, reduct_typed, tries_nothing, next_entry, next_linked, tries_next}
 use Rattle.wh_find_loop.proofs.search.try_step.Goals as goal
