@@ -16,7 +16,7 @@ use Rattle.wh_prover.specs.Answers.{IsProof, IsReason, IsFull, HasNoLoops, HasNo
 use Rattle.wh_prover.specs.Searched.{IsSearched}
 use Rattle.wh_prover.specs.Versions.{IsMade, IsCertificateOf, first, second}
 use Rattle.wh_prover.specs.Walk.{weigh, IsTree, IsEnd}
-use Rattle.wh_find_loop.specs.Answers.{Arrival}
+use Rattle.wh_reached.specs.Arrivals.{Arrival}
 use Rattle.wh_prover.specs.declared.answer.Options.{Options}
 use Rattle.wh_prover.specs.declared.answer.Cause.{Cause}
 use Rattle.wh_prover.specs.declared.answer.Cause.TheVariants.{NoRanks, Stuck, Spent, Full}
