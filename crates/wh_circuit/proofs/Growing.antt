@@ -6,10 +6,8 @@ use Rattle.wh_sat_trail.specs.declared.literal.Literal.{Literal}
 use Rattle.wh_sat.specs.Solving.{literal_true}
 use Rattle.wh_circuit.specs.declared.circuit.Circuit.{Circuit}
 use Rattle.wh_circuit.specs.declared.circuit.Gate.{Gate}
-use Rattle.wh_circuit.specs.declared.circuit.count.Count.{Count}
 use Rattle.wh_circuit.specs.Gates.{Agrees, Extends, Means}
 use Rattle.wh_circuit.specs.State.{Grows, Unchanged, formula_of, gates_of}
-use Rattle.wh_circuit.specs.Steps.{Counts}
 use Rattle.wh_circuit.proofs.Gating.{agrees_take, slice_get_take}
 
 take_length : {A : Type 0} (xs : List A) → take (length xs) xs ≡ xs
@@ -92,10 +90,4 @@ pub either_means : (n : ℕ) (gs hs : List Gate) (l m r : Literal) (f h : (ℕ �
 either_means n gs hs l m r f h e x y z = record {
   own = z.own;
   is = λ v a. z.is v a ∙ ap (λ b. b || literal_true v m) (x.is v (agrees_before n gs hs v e a)) ∙ ap (λ b. f v || b) (y.is v (agrees_before n gs hs v e a));
-}
-
-pub counts_same : (gs : List Gate) (count : Count) (n m : (ℕ → Bool) → ℕ) → ((v : ℕ → Bool) → n v ≡ m v) → Counts gs count n → Counts gs count m
-counts_same gs count n m e c = record {
-  some = means_same gs count.some (λ v. nat_lt 0 (n v)) (λ v. nat_lt 0 (m v)) (λ v a. ap (nat_lt 0) (e v)) c.some;
-  more = means_same gs count.more (λ v. nat_lt 1 (n v)) (λ v. nat_lt 1 (m v)) (λ v a. ap (nat_lt 1) (e v)) c.more;
 }

@@ -3,5 +3,4 @@ pub mod Gating
 pub mod Carrying
 pub mod Folding
 pub mod Growing
-pub mod Counting
-pub mod Adding
+pub mod Comparing

@@ -41,16 +41,3 @@ pub record Extends (n : ℕ) (before after : List Gate) : Type 0 where
   pub more : length before ≤ length after
   pub few : length after ≤ length before + n
   pub made : (k : ℕ) (g : Gate) → length before ≤ k → slice_get after k ≡ Some g → g.is_input ≡ false
-
-abbrev pub yes : ℕ → Literal
-yes k = record { variable = k; positive = true }
-
-abbrev pub no : ℕ → Literal
-no k = record { variable = k; positive = false }
-
--- the clauses of a gate: it is false, or each wire is true; it is true, or some wire is false
-abbrev pub shorts : ℕ → List Literal → List (List Literal)
-shorts k ls = map (λ l. no k ∷ l ∷ []) ls
-
-abbrev pub gate_clauses : ℕ → List Literal → List (List Literal)
-gate_clauses k ls = shorts k ls ++ (yes k ∷ map negated ls) ∷ []

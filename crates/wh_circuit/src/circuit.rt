@@ -1,14 +1,9 @@
 //! Circuits. Each variable of the formula is an input, or true exactly where all of some earlier wires are; all other gates are made of
 //! these.
 
-mod adding;
 mod building;
-mod count;
-mod counting;
-mod digit;
 mod gates;
 mod mark;
-mod multiplying;
 mod numbers;
 mod pairs;
 mod returning;
@@ -19,8 +14,9 @@ ghost use Rattle.wh_circuit.specs.Values.{all_true};
 ghost use Rattle.wh_sat.specs.Solving.{Solves};
 ghost use Rattle.wh_sat_trail.specs.Propagation.{Within};
 
-use crate::wire::Wire;
+pub use mark::Mark;
 use std::alloc::Global;
+use wh_gate_clauses::Wire;
 use wh_sat_trail::{Clause, Formula};
 
 /// What a variable is: an input, or true exactly where all of some wires are.

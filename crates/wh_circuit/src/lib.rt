@@ -3,9 +3,7 @@
 
 mod circuit;
 mod laws;
-mod pieces;
-mod wire;
 
-pub use circuit::{Circuit, Gate};
+pub use circuit::{Circuit, Gate, Mark};
 pub use laws::{values_are_unique, values_exist};
-pub use wire::{Wire, Wires};
+pub use wh_gate_clauses::{Wire, Wires};

@@ -52,7 +52,7 @@ pub fn with_row(
     ensures width { IfOk result (λ made. length made ≡ max (length sum.now) (length number.now) + 1) }
 {
     let row = row(alloc, circuit, wire, number)?;
-    circuit.sum(sum, row.as_slice())
+    wh_circuit_sums::sum(alloc, circuit, sum, row.as_slice())
 }
 
 /// Twice the number.

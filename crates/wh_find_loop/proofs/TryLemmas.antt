@@ -14,12 +14,13 @@ use Rattle.wh_step.proofs.RootLaws.{step_one}
 use Rattle.wh_system.specs.Systems.{SystemData}
 use Rattle.wh_loops.specs.Starts.{IsStart}
 use Rattle.wh_loops.specs.Space.{InSpace, Reached, HoldsInstanceOf}
-use Rattle.wh_find_loop.specs.Reducts.{IsReduct, HasNoReduct}
-use Rattle.wh_find_loop.specs.Listing.{tree, IsEntry, IsLinked, IsListing, IsListed, IsTried, HasNoInstance, Takes, TriesOn, AreStarts}
-use Rattle.wh_find_loop.specs.declared.listing.Entry.{Entry}
-use Rattle.wh_find_loop.specs.declared.listing.Origin.{Origin}
-use Rattle.wh_find_loop.specs.declared.listing.Listing.{Listing}
-use Rattle.wh_find_loop.proofs.ListingLemmas.{extends_none, same_at}
+use Rattle.wh_find_steps.specs.Reducts.{IsReduct, HasNoReduct}
+use Rattle.wh_reached.specs.Listing.{tree, IsEntry, IsLinked, IsListing, IsListed, Takes}
+use Rattle.wh_find_loop.specs.Searching.{IsTried, HasNoInstance, TriesOn, AreStarts}
+use Rattle.wh_reached.specs.declared.listing.Entry.{Entry}
+use Rattle.wh_reached.specs.declared.listing.Origin.{Origin}
+use Rattle.wh_reached.specs.declared.listing.Listing.{Listing}
+use Rattle.wh_reached.proofs.ListingLemmas.{extends_none, same_at}
 use Rattle.wh_find_loop.proofs.SpaceLemmas.{start_one, path_space, path_start, typed_next, reached_next}
 
 module _ (d : SystemData) where

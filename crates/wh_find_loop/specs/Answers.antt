@@ -1,26 +1,15 @@
 -- What the search for loops answers.
 use Rattle.std.specs.Prelude.{ℕ, ◌≡◌, ◌≢◌, ◌<◌, List, length, map, All, AllPairs}
-use Rattle.wh_terms.specs.Tree.{Tm}
-use Rattle.wh_terms.specs.Erase.{tm}
 use Rattle.wh_terms.specs.Rules.{RewriteRule}
 use Rattle.wh_system.specs.Systems.{SystemData}
 use Rattle.wh_cert.specs.Said.{said_no}
-use Rattle.wh_loops.specs.Starts.{IsStart}
-use Rattle.wh_loops.specs.Space.{Reached, HoldsInstanceOf, HasNoLoop}
+use Rattle.wh_loops.specs.Space.{Reached, HasNoLoop}
 use Rattle.wh_loops.specs.Found.{IsLoopCertificate}
-use Rattle.wh_find_loop.specs.declared.answer.Visit.{Visit}
 use Rattle.wh_find_loop.specs.declared.answer.LoopSearch.{LoopSearch}
 use Rattle.wh_find_loop.specs.declared.answer.LoopSearch.TheVariants.{Found, Nothing, Full}
+use Rattle.wh_reached.specs.Arrivals.{Arrival, arrival, HoldsNoInstance}
 
--- a term that was reached, and the number of the rule whose start it was reached from
-pub record Arrival : Type 0 where
-  pub start : ℕ
-  pub term : Tm
-
-abbrev pub arrival : Visit → Arrival
-arrival v = record { start = v.start; term = tm v.term }
-
--- so is the term of the arrival
+-- the term of the arrival is reached in at most so many steps
 abbrev pub IsReached : List RewriteRule → ℕ → Arrival → Type 0
 IsReached rules depth a = Reached rules depth a.start a.term
 
@@ -28,10 +17,6 @@ IsReached rules depth a = Reached rules depth a.start a.term
 pub record AreReached (rules : List RewriteRule) (depth : ℕ) (list : List Arrival) : Type 0 where
   pub each : All (IsReached rules depth) list
   pub distinct : AllPairs (λ a b. a ≢ b) list
-
--- the term of the arrival is the start itself, or holds no instance of it
-abbrev pub HoldsNoInstance : SystemData → Arrival → Type 0
-HoldsNoInstance d a = (s : Tm) → IsStart d.rules a.start s → a.term ≢ s → HoldsInstanceOf d.symbols s a.term → ⊥
 
 -- so many arrivals are listed; each is a start itself, or holds no instance of its start (ours)
 pub record AreVisited (d : SystemData) (depth visited : ℕ) (list : List Arrival) : Type 0 where

@@ -1,6 +1,2 @@
 pub mod Answers
-pub mod Tables
-pub mod Marks
-pub mod StepLists
-pub mod Reducts
-pub mod Listing
+pub mod Searching

@@ -1,20 +1,7 @@
 //! What the search for loops answers.
 
 use wh_cert::NoCertificate;
-use wh_terms::Term;
-use wh_types::List;
-
-/// A term that was reached.
-#[derive(Drop)]
-pub struct Visit {
-    /// The number of the rule from whose left side it was reached.
-    pub start: u32,
-    /// The term.
-    pub term: Term,
-}
-
-/// A list of terms that were reached.
-pub type Visits = List<Visit>;
+use wh_reached::Visits;
 
 /// The answer of the search for loops.
 #[derive(Drop)]

@@ -2,14 +2,10 @@
 #![tactic(auto)]
 
 mod answer;
-mod candidates;
-mod listing;
-mod marks;
-mod reduct;
-mod rule_table;
+mod joining;
 mod search;
 mod starts;
-mod table;
 
-pub use answer::{LoopSearch, Visit, Visits};
+pub use answer::LoopSearch;
 pub use search::find_loop;
+pub use wh_reached::{Visit, Visits};

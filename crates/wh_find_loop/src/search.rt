@@ -10,16 +10,17 @@ ghost use Rattle.wh_cert.specs.Said.{said_no};
 ghost use Rattle.wh_loops.specs.Starts.{IsStart};
 ghost use Rattle.wh_loops.specs.Found.{IsLoopCertificate};
 ghost use Rattle.wh_find_loop.specs.Answers.{IsAnswer};
-ghost use Rattle.wh_find_loop.specs.Listing.{AreAllLinked, AreBelow, AreDone, AreMarked, AreStarts, Comes, EndsAt, GoesOn, GoesThrough, IsLinked, IsListing, IsPlan, ListsStarts, TakesStart, Tries};
+ghost use Rattle.wh_reached.specs.Listing.{AreAllLinked, AreMarked, IsLinked, IsListing};
+ghost use Rattle.wh_find_loop.specs.Searching.{AreBelow, AreDone, AreStarts, Comes, EndsAt, GoesOn, GoesThrough, IsPlan, ListsStarts, TakesStart, Tries};
 
-use crate::answer::{LoopSearch, Visit};
-use crate::candidates::steps_of;
-use crate::listing::{Entry, Listing, Origin, list_if_new, new_listing, steps_to, visits_of};
-use crate::reduct::{copy_in_space, reduct_by};
+use crate::answer::LoopSearch;
+use crate::joining::list_if_new;
 use crate::starts::{Plan, plan_of};
 use std::alloc::{AllocError, Global};
 use wh_cert::NoCertificate;
+use wh_find_steps::{copy_in_space, reduct_by, steps_of};
 use wh_loops::{Instance, certificate_of, find_instance};
+use wh_reached::{Entry, Listing, Origin, Visit, new_listing, steps_to, visits_of};
 use wh_system::System;
 use wh_terms::{Step, Term};
 
@@ -34,62 +35,78 @@ pub enum Progress {
     Found(Box<NoCertificate>),
 }
 
-// The certificate of the loop that goes to the entry and on by the step, where the instance stands.
+/// The setting of a search: a system with its plan.
+#[derive(Clone, Copy)]
+pub struct Setting<'a> {
+    /// The system.
+    pub system: &'a System,
+    /// Where the search starts, and the rules of each symbol.
+    pub plan: &'a Plan,
+}
+
+/// How a loop ends.
+#[derive(Drop)]
+pub struct Ending {
+    /// The last step.
+    pub step: Step,
+    /// Where the instance stands in the term that it leads to.
+    pub instance: Instance,
+}
+
+// The certificate of the loop that goes to the entry and ends so.
 fn certify(
     alloc: Global,
     system: &System,
     start: &Term,
     entries: &[Entry],
     entry: &Entry,
-    step: Step,
-    instance: Instance,
+    ending: Ending,
 ) -> Result<NoCertificate, AllocError>
     requires linked { AreAllLinked (system_data system.now).rules entries.now }
     requires entry { IsLinked (system_data system.now).rules entries.now entry.now }
     requires start { IsStart (system_data system.now).rules entry.now.visit.start (tm start.now) }
     requires fits { Fits (tm start.now) }
-    requires leads { EndsAt (system_data system.now) entry.now step (tm start.now) instance }
+    requires leads { EndsAt (system_data system.now) entry.now ending.step (tm start.now) ending.instance }
     ensures { (level : ℕ) → entry.now.level < level → level ≤ 100
         → IfOk result (λ c. IsLoopCertificate (system_data system.now) level (said_no c)) }
 {
     let mut steps = steps_to(alloc, entries, entry)?;
-    steps.push(step)?;
-    certificate_of(alloc, system, start, steps, instance)
+    steps.push(ending.step)?;
+    certificate_of(alloc, system, start, steps, ending.instance)
 }
 
 // Takes the step from the entry with the number, and tests and lists what it leads to. A term is tested also where it is listed.
 fn try_step(
     alloc: Global,
-    system: &System,
-    plan: &Plan,
+    setting: &Setting<'_>,
     listing: &mut Listing,
     at: usize,
     step: Step,
     level: u32,
 ) -> Result<Option<Box<NoCertificate>>, AllocError>
-    requires plan { IsPlan (system_data system.now) plan.now }
-    requires listing { IsListing (system_data system.now) level listing.old }
+    requires plan { IsPlan (system_data setting.now.system.now) setting.now.plan.now }
+    requires listing { IsListing (system_data setting.now.system.now) level listing.old }
     requires at { at < length listing.old.entries.items }
     requires below { AreBelow level (at + 1) listing.old.entries.items }
     requires few { length listing.old.entries.items < 2 ^ 32 }
     requires deep { level ≤ 100 }
-    ensures { IfOk result (λ found. Tries (system_data system.now) level at step listing.old found listing.new) }
+    ensures { IfOk result (λ found. Tries (system_data setting.now.system.now) level at step listing.old found listing.new) }
 {
-    system.is_well_made();
+    setting.system.is_well_made();
     let entry = &listing.entries[at];
-    let Some(reduct) = reduct_by(alloc, system.rules(), &entry.visit.term, &step)? else {
+    let Some(reduct) = reduct_by(alloc, setting.system.rules(), &entry.visit.term, &step)? else {
         return Ok(None);
     };
-    let start = &plan.starts[entry.visit.start as usize];
-    if let Some(instance) = find_instance(alloc, system, start, &reduct)? {
+    let start = &setting.plan.starts[entry.visit.start as usize];
+    if let Some(instance) = find_instance(alloc, setting.system, start, &reduct)? {
+        let ending = Ending { step, instance };
         let found = certify(
             alloc,
-            system,
+            setting.system,
             start,
             &listing.entries,
             entry,
-            step,
-            instance,
+            ending,
         )?;
         return Ok(Some(Box::new(alloc, found)?));
     }
@@ -108,28 +125,28 @@ fn try_step(
 // Tries all steps from the entry with the number.
 fn search_entry(
     alloc: Global,
-    system: &System,
-    plan: &Plan,
+    setting: &Setting<'_>,
     listing: &mut Listing,
     at: usize,
     level: u32,
     visited: u32,
 ) -> Result<Progress, AllocError>
-    requires plan { IsPlan (system_data system.now) plan.now }
-    requires listing { IsListing (system_data system.now) level listing.old }
+    requires plan { IsPlan (system_data setting.now.system.now) setting.now.plan.now }
+    requires listing { IsListing (system_data setting.now.system.now) level listing.old }
     requires at { at < length listing.old.entries.items }
     requires below { AreBelow level (at + 1) listing.old.entries.items }
-    requires done { AreDone (system_data system.now) listing.old.entries.items at }
+    requires done { AreDone (system_data setting.now.system.now) listing.old.entries.items at }
     requires fewer { length listing.old.entries.items < visited }
     requires deep { level ≤ 100 }
-    ensures { IfOk result (Comes (system_data system.now) level visited
-        (GoesOn (system_data system.now) level visited (at + 1) listing.old.entries.items listing.new) listing.new) }
+    ensures { IfOk result (Comes (system_data setting.now.system.now) level visited
+        (GoesOn (system_data setting.now.system.now) level visited (at + 1) listing.old.entries.items listing.new)
+        listing.new) }
 {
-    system.is_well_made();
+    setting.system.is_well_made();
     let term = &listing.entries[at].visit.term;
-    let steps = steps_of(alloc, system.rules(), &plan.table, term)?;
+    let steps = steps_of(alloc, setting.system.rules(), &setting.plan.table, term)?;
     for step in steps {
-        if let Some(found) = try_step(alloc, system, plan, listing, at, step, level)? {
+        if let Some(found) = try_step(alloc, setting, listing, at, step, level)? {
             return Ok(Progress::Found(found));
         }
         if listing.entries.len() >= visited as usize {
@@ -142,27 +159,27 @@ fn search_entry(
 // Tries all steps from the entries from the number on; what they lead to has the level.
 fn search_level(
     alloc: Global,
-    system: &System,
-    plan: &Plan,
+    setting: &Setting<'_>,
     listing: &mut Listing,
     from: usize,
     level: u32,
     visited: u32,
 ) -> Result<Progress, AllocError>
-    requires plan { IsPlan (system_data system.now) plan.now }
-    requires listing { IsListing (system_data system.now) level listing.old }
+    requires plan { IsPlan (system_data setting.now.system.now) setting.now.plan.now }
+    requires listing { IsListing (system_data setting.now.system.now) level listing.old }
     requires from { from ≤ length listing.old.entries.items }
     requires below { AreBelow level (length listing.old.entries.items) listing.old.entries.items }
-    requires done { AreDone (system_data system.now) listing.old.entries.items from }
+    requires done { AreDone (system_data setting.now.system.now) listing.old.entries.items from }
     requires fewer { length listing.old.entries.items < visited }
     requires deep { level ≤ 100 }
-    ensures { IfOk result (Comes (system_data system.now) level visited
-        (GoesOn (system_data system.now) level visited (length listing.old.entries.items) listing.old.entries.items listing.new)
+    ensures { IfOk result (Comes (system_data setting.now.system.now) level visited
+        (GoesOn (system_data setting.now.system.now) level visited (length listing.old.entries.items)
+        listing.old.entries.items listing.new)
         listing.new) }
 {
     let end = listing.entries.len();
     for at in from..end {
-        match search_entry(alloc, system, plan, listing, at, level, visited)? {
+        match search_entry(alloc, setting, listing, at, level, visited)? {
             Progress::More => {}
             Progress::Full => return Ok(Progress::Full),
             Progress::Found(found) => return Ok(Progress::Found(found)),
@@ -225,29 +242,34 @@ fn list_starts(
 // Tries all steps of at most so many levels.
 fn search(
     alloc: Global,
-    system: &System,
-    plan: &Plan,
+    setting: &Setting<'_>,
     listing: &mut Listing,
     depth: u32,
     visited: u32,
 ) -> Result<Progress, AllocError>
-    requires plan { IsPlan (system_data system.now) plan.now }
+    requires plan { IsPlan (system_data setting.now.system.now) setting.now.plan.now }
     requires keys { length listing.old.marks ≡ 16384 }
     requires none { listing.old.entries.items ≡ [] }
     requires deep { depth ≤ 100 }
-    ensures { IfOk result (Comes (system_data system.now) depth visited (GoesThrough (system_data system.now) depth visited listing.new)
-        listing.new) }
+    ensures { IfOk result (Comes (system_data setting.now.system.now) depth visited
+        (GoesThrough (system_data setting.now.system.now) depth visited listing.new) listing.new) }
 {
     if visited == 0 {
         return Ok(Progress::Full);
     }
-    if list_starts(alloc, system, &plan.starts, listing, visited)? {
+    if list_starts(
+        alloc,
+        setting.system,
+        &setting.plan.starts,
+        listing,
+        visited,
+    )? {
         return Ok(Progress::Full);
     }
     let mut from = 0;
     for level in 0..depth {
         let end = listing.entries.len();
-        match search_level(alloc, system, plan, listing, from, level + 1, visited)? {
+        match search_level(alloc, setting, listing, from, level + 1, visited)? {
             Progress::More => from = end,
             Progress::Full => return Ok(Progress::Full),
             Progress::Found(found) => return Ok(Progress::Found(found)),
@@ -273,7 +295,11 @@ pub fn find_loop(
 {
     let plan = plan_of(alloc, system)?;
     let mut listing = new_listing(alloc)?;
-    match search(alloc, system, &plan, &mut listing, depth, visited)? {
+    let setting = Setting {
+        system,
+        plan: &plan,
+    };
+    match search(alloc, &setting, &mut listing, depth, visited)? {
         Progress::More => Ok(LoopSearch::Nothing),
         Progress::Full => Ok(LoopSearch::Full(visits_of(alloc, listing.entries)?)),
         Progress::Found(found) => Ok(LoopSearch::Found(Box::into_inner(found))),

@@ -2,11 +2,10 @@
 
 ghost use Rattle.std.specs.Prelude.{◌≡◌, ◌≤◌, ◌<◌, ℕ, IfOk, length};
 ghost use Rattle.wh_system.specs.SystemView.{system_data};
-ghost use Rattle.wh_find_loop.specs.Listing.{AreStarts, IsPlan};
+ghost use Rattle.wh_find_loop.specs.Searching.{AreStarts, IsPlan};
 
-use crate::rule_table::table_of_rules;
-use crate::table::Table;
 use std::alloc::{AllocError, Global};
+use wh_find_steps::{Table, table_of_rules};
 use wh_loops::start_of_rule;
 use wh_system::System;
 use wh_terms::Term;

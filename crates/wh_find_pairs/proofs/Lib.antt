@@ -1,5 +1,3 @@
-pub mod SpineLemmas
-pub mod CallLemmas
 pub mod CandidateLemmas
 pub mod RetainLemmas
 pub mod RuleLemmas

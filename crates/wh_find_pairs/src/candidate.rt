@@ -13,14 +13,13 @@ ghost use Rattle.wh_pairs.specs.PairData.{within, pair_data};
 ghost use Rattle.wh_pairs.specs.Candidates.{candidate, freed, missing_types, nullary, numbered_from};
 ghost use Rattle.wh_pairs.specs.Known.{TakesArguments};
 ghost use Rattle.wh_pairs.specs.Spines.{spine_arguments, symbol_of};
-ghost use Rattle.wh_find_pairs.specs.Views.{call_data, trees};
+ghost use Rattle.wh_find_calls.specs.Views.{call_data, trees};
 
-use crate::calling::Call;
 use crate::conditions::conditions_of;
 use crate::freed::{Freeing, freed_arguments, nullary};
-use crate::spine::spine_of;
 use std::alloc::{AllocError, Global};
 use std::rc::Rc;
+use wh_find_calls::{Call, spine_of};
 use wh_pairs::Pair;
 use wh_terms::{MetaDecl, Metas, Rule, Signature, Term, Terms, Types, copy_term};
 use wh_types::{SimpleType, counted, sum};

@@ -10,7 +10,7 @@ ghost use Rattle.wh_terms.specs.Scope.{scope};
 ghost use Rattle.wh_terms.specs.Substitution.{act, acts};
 ghost use Rattle.wh_terms.specs.Under.{ups, ups_free};
 ghost use Rattle.wh_pairs.specs.Candidates.{freed};
-ghost use Rattle.wh_find_pairs.specs.Views.{trees};
+ghost use Rattle.wh_find_calls.specs.Views.{trees};
 
 use std::alloc::{AllocError, Global};
 use wh_terms::{Term, Terms};

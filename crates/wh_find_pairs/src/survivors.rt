@@ -16,10 +16,10 @@ ghost use Rattle.wh_pairs.specs.Subsumption.{ArePairs};
 ghost use Rattle.wh_pairs.specs.Survivors.{Survive, IsSubsumedByOne};
 ghost use Rattle.wh_pairs.specs.Views.{pairs_data};
 
-use crate::calling::calls_of;
 use crate::candidate::{candidate, left_of};
 use crate::subsumption::subsumed;
 use std::alloc::{AllocError, Global};
+use wh_find_calls::calls_of;
 use wh_pairs::{Pair, PairList};
 use wh_system::System;
 use wh_terms::Rule;

@@ -17,7 +17,7 @@ use Rattle.wh_prover.specs.Searched.{IsSearched}
 use Rattle.wh_versions.specs.Certificates.{IsCertificateOf, first, second}
 use Rattle.wh_prover.specs.Versions.{IsMade}
 use Rattle.wh_prover.specs.Walk.{weigh, IsTree, IsEnd}
-use Rattle.wh_find_loop.specs.Answers.{Arrival}
+use Rattle.wh_reached.specs.Arrivals.{Arrival}
 use Rattle.wh_prover.specs.declared.answer.Options.{Options}
 use Rattle.wh_prover.specs.declared.answer.Cause.{Cause}
 use Rattle.wh_prover.specs.declared.answer.Cause.TheVariants.{NoRanks, Stuck, Spent, Full}

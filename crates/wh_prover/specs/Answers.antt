@@ -16,7 +16,8 @@ use Rattle.wh_order_space.specs.Space.{HasNoOrder}
 use Rattle.wh_find_order.specs.Answers as ordered
 use Rattle.wh_loops.specs.Space.{HasNoLoop}
 use Rattle.wh_loops.specs.Found.{IsLoopCertificate}
-use Rattle.wh_find_loop.specs.Answers.{Arrival, arrival, AreVisited, ReachesFewer}
+use Rattle.wh_reached.specs.Arrivals.{Arrival, arrival}
+use Rattle.wh_find_loop.specs.Answers.{AreVisited, ReachesFewer}
 use Rattle.wh_proof.specs.Valid.{IsValidCert, IsSmallCert}
 use Rattle.wh_prover.specs.Searched.{IsSearched}
 use Rattle.wh_prover.specs.Versions.{IsOfLeastVersion}

@@ -79,7 +79,7 @@ fn exactly_one(circuit: &mut Circuit, of: &[Wire]) -> Result<Wire, AllocError> {
     if width > 100 || !has_room(circuit, 3 * width + 2) || !are_own(circuit, of) {
         return Err(AllocError);
     }
-    circuit.exactly_one(of)
+    wh_circuit_sums::exactly_one(circuit, of)
 }
 
 fn at_least(circuit: &mut Circuit, a: &[Wire], b: &[Wire]) -> Result<Wire, AllocError> {
@@ -93,7 +93,7 @@ fn at_least(circuit: &mut Circuit, a: &[Wire], b: &[Wire]) -> Result<Wire, Alloc
     circuit.at_least(a, b)
 }
 
-fn sum(circuit: &mut Circuit, a: &[Wire], b: &[Wire]) -> Result<Wires, AllocError> {
+fn sum(alloc: Global, circuit: &mut Circuit, a: &[Wire], b: &[Wire]) -> Result<Wires, AllocError> {
     let width = a.len().max(b.len());
     if width > 100 || !has_room(circuit, 9 * width + 1) {
         return Err(AllocError);
@@ -101,10 +101,15 @@ fn sum(circuit: &mut Circuit, a: &[Wire], b: &[Wire]) -> Result<Wires, AllocErro
     if !are_own(circuit, a) || !are_own(circuit, b) {
         return Err(AllocError);
     }
-    circuit.sum(a, b)
+    wh_circuit_sums::sum(alloc, circuit, a, b)
 }
 
-fn times(circuit: &mut Circuit, a: &[Wire], b: &[Wire]) -> Result<Wires, AllocError> {
+fn times(
+    alloc: Global,
+    circuit: &mut Circuit,
+    a: &[Wire],
+    b: &[Wire],
+) -> Result<Wires, AllocError> {
     if b.len() > 100 {
         return Err(AllocError);
     }
@@ -112,7 +117,7 @@ fn times(circuit: &mut Circuit, a: &[Wire], b: &[Wire]) -> Result<Wires, AllocEr
     if !has_room(circuit, more) || !are_own(circuit, a) || !are_own(circuit, b) {
         return Err(AllocError);
     }
-    circuit.times(a, b)
+    wh_circuit_products::times(alloc, circuit, a, b)
 }
 
 // The wire alone.
@@ -135,8 +140,8 @@ fn called(
         Call::Or => alone(alloc, or(circuit, a)?),
         Call::ExactlyOne => alone(alloc, exactly_one(circuit, a)?),
         Call::AtLeast => alone(alloc, at_least(circuit, a, b)?),
-        Call::Sum => sum(circuit, a, b),
-        Call::Times => times(circuit, a, b),
+        Call::Sum => sum(alloc, circuit, a, b),
+        Call::Times => times(alloc, circuit, a, b),
     }
 }
 

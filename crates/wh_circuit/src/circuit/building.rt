@@ -10,8 +10,8 @@ ghost use Rattle.wh_sat_trail.specs.Assignment.{negated};
 ghost use Rattle.wh_sat_trail.specs.Propagation.{Within};
 
 use crate::circuit::{Circuit, Gate};
-use crate::wire::Wire;
 use std::alloc::{AllocError, Global};
+use wh_gate_clauses::Wire;
 use wh_sat_trail::{Clause, Clauses, Formula};
 
 impl Circuit {

@@ -8,9 +8,8 @@ ghost use Rattle.wh_circuit.specs.Values.{all_true};
 ghost use Rattle.wh_sat.specs.Solving.{clause_true, literal_true};
 
 use crate::circuit::{Circuit, Gate};
-use crate::pieces::{clauses_of_gate, negations_of};
-use crate::wire::Wire;
 use std::alloc::AllocError;
+use wh_gate_clauses::{Wire, clauses_of_gate, negations_of};
 use wh_sat_trail::Clause;
 
 impl Circuit {
@@ -87,7 +86,7 @@ impl Circuit {
     }
 
     /// The wire that is always true.
-    pub(crate) fn truth(&mut self) -> Result<Wire, AllocError>
+    pub fn truth(&mut self) -> Result<Wire, AllocError>
         requires room { length (gates_of self.old) + 1 < 2 ^ 31 }
         ensures grows { OnOk result (Grows 1 self.old self.new) }
         ensures means { IfOk result (λ a. Means (gates_of self.new) a (λ v. true)) }
@@ -106,7 +105,7 @@ impl Circuit {
     }
 
     /// The wire that is always false.
-    pub(crate) fn falsity(&mut self) -> Result<Wire, AllocError>
+    pub fn falsity(&mut self) -> Result<Wire, AllocError>
         requires room { length (gates_of self.old) + 1 < 2 ^ 31 }
         ensures grows { OnOk result (Grows 1 self.old self.new) }
         ensures means { IfOk result (λ a. Means (gates_of self.new) a (λ v. false)) }

@@ -6,12 +6,12 @@ ghost use Rattle.wh_circuit.specs.State.{Grows, gates_of};
 ghost use Rattle.wh_sat.specs.Solving.{literal_true};
 
 use crate::circuit::Circuit;
-use crate::wire::Wire;
 use std::alloc::AllocError;
+use wh_gate_clauses::Wire;
 
 impl Circuit {
     /// True where both wires are.
-    pub(crate) fn both(&mut self, a: Wire, b: Wire) -> Result<Wire, AllocError>
+    pub fn both(&mut self, a: Wire, b: Wire) -> Result<Wire, AllocError>
         requires room { length (gates_of self.old) + 1 < 2 ^ 31 }
         requires own_a { IsWire (gates_of self.old) a }
         requires own_b { IsWire (gates_of self.old) b }
@@ -22,7 +22,7 @@ impl Circuit {
     }
 
     /// True where one of the wires is.
-    pub(crate) fn either(&mut self, a: Wire, b: Wire) -> Result<Wire, AllocError>
+    pub fn either(&mut self, a: Wire, b: Wire) -> Result<Wire, AllocError>
         requires room { length (gates_of self.old) + 1 < 2 ^ 31 }
         requires own_a { IsWire (gates_of self.old) a }
         requires own_b { IsWire (gates_of self.old) b }
@@ -33,13 +33,7 @@ impl Circuit {
     }
 
     /// True where a and b are, or c and d.
-    pub(crate) fn either_pair(
-        &mut self,
-        a: Wire,
-        b: Wire,
-        c: Wire,
-        d: Wire,
-    ) -> Result<Wire, AllocError>
+    pub fn either_pair(&mut self, a: Wire, b: Wire, c: Wire, d: Wire) -> Result<Wire, AllocError>
         requires room { length (gates_of self.old) + 3 < 2 ^ 31 }
         requires own_a { IsWire (gates_of self.old) a }
         requires own_b { IsWire (gates_of self.old) b }

@@ -10,7 +10,7 @@ use crate::circuit::mark::Mark;
 
 impl Circuit {
     /// Where the circuit stands.
-    pub(crate) fn mark(&self) -> Mark
+    pub fn mark(&self) -> Mark
         ensures { IsMark self.now result }
     {
         Mark {
@@ -21,7 +21,7 @@ impl Circuit {
     }
 
     /// Back to the mark.
-    pub(crate) fn restore(&mut self, mark: Mark)
+    pub fn restore(&mut self, mark: Mark)
         requires { GrewFrom mark self.old }
         ensures { (before : Circuit) (n : ℕ) → IsMark before mark → Grows n before self.old → Unchanged before self.new }
     {

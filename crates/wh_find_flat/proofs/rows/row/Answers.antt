@@ -4,7 +4,7 @@ use Rattle.wh_sat.specs.Solving.{literal_true}
 use Rattle.wh_circuit.specs.Gates.{AreWires}
 use Rattle.wh_circuit.specs.State.{gates_of}
 use Rattle.wh_circuit.specs.Values.{bit, number_of}
-use Rattle.wh_circuit.proofs.Adding.{row_more}
+use Rattle.wh_circuit_sums.proofs.SumLemmas.{row_more}
 use Rattle.wh_circuit.proofs.Folding.{below_push}
 use Rattle.wh_find_flat.proofs.Growth.{agrees_early, builds_grown, builds_then, wires_later}
 use Rattle.wh_find_flat.proofs.RowLemmas.{two_true}

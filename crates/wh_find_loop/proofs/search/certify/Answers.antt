@@ -3,8 +3,8 @@ use Rattle.std.proofs.lemmas.List.{length_push}
 use Rattle.wh_terms.specs.Erase.{tm}
 use Rattle.wh_step.specs.Replay.{Replays}
 use Rattle.wh_system.specs.SystemView.{system_data}
-use Rattle.wh_find_loop.specs.Listing.{tree, LeadTo}
-use Rattle.wh_find_loop.proofs.ListingLemmas.{replays_push}
+use Rattle.wh_reached.specs.Listing.{tree, LeadTo}
+use Rattle.wh_reached.proofs.ListingLemmas.{replays_push}
 use Rattle.wh_find_loop.proofs.SpaceLemmas.{start_one}
 use Rattle.wh_find_loop.proofs.search.certify.Goals as goal
 
@@ -17,7 +17,7 @@ certificate_of-requires-clause-leads c =
     let (last, step, fits, instance) = c.requires.leads in
     let lead : LeadTo rules e steps = c.in_ok-steps.ensures rules c.requires.linked c.requires.entry in
     let same : lead.start ≡ start = start_one rules e.visit.start lead.start start lead.is_start c.requires.start in
-    (last, replays_push rules steps c.push.new.self c.args.step start (tree e) last c.in_ok-push.ensures.ok (subst (λ s. Replays rules steps s (tree e)) same lead.replays) step fits, instance)
+    (last, replays_push rules steps c.push.new.self c.args.ending.step start (tree e) last c.in_ok-push.ensures.ok (subst (λ s. Replays rules steps s (tree e)) same lead.replays) step fits, instance)
 
 pub returns : goal.returns
 returns c level higher deep =
@@ -26,5 +26,5 @@ returns c level higher deep =
     let steps = c.in_ok-steps.steps in
     let lead : LeadTo rules e steps = c.in_ok-steps.ensures rules c.requires.linked c.requires.entry in
     let few : length steps ≤ e.level = lead.few in
-    let more : length c.push.new.self ≡ length steps + 1 = ap length c.in_ok-push.ensures.ok ∙ length_push steps c.args.step in
+    let more : length c.push.new.self ≡ length steps + 1 = ap length c.in_ok-push.ensures.ok ∙ length_push steps c.args.ending.step in
     c.certificate_of.ensures level (omega (arith, few, more, higher)) deep

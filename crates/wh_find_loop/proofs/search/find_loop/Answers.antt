@@ -1,6 +1,6 @@
 use Rattle.std.proofs.Common.{subst}
 use Rattle.wh_system.specs.SystemView.{system_data}
-use Rattle.wh_find_loop.specs.Listing.{Comes, GoesThrough}
+use Rattle.wh_find_loop.specs.Searching.{Comes, GoesThrough}
 use Rattle.wh_find_loop.proofs.SearchLemmas.{reaches_fewer, all_visited}
 use Rattle.wh_find_loop.proofs.search.find_loop.Goals as goal
 

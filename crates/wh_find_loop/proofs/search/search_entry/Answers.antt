@@ -3,9 +3,10 @@ use Rattle.std.proofs.lemmas.List.{map-id}
 use Rattle.std.proofs.lemmas.Iterator.Adapters.{YieldsList-from_vec}
 use Rattle.std.proofs.lemmas.Iterator.Consumers.{YieldsList-end}
 use Rattle.wh_system.specs.SystemView.{system_data}
-use Rattle.wh_find_loop.specs.StepLists.{ListsAllSteps}
-use Rattle.wh_find_loop.specs.Listing.{tree, IsEntry, Tries, TriesOn}
-use Rattle.wh_find_loop.proofs.ListingLemmas.{here_at, all_here}
+use Rattle.wh_find_steps.specs.StepLists.{ListsAllSteps}
+use Rattle.wh_reached.specs.Listing.{tree, IsEntry}
+use Rattle.wh_find_loop.specs.Searching.{Tries, TriesOn}
+use Rattle.wh_reached.proofs.ListingLemmas.{here_at, all_here}
 use Rattle.wh_find_loop.proofs.SpaceLemmas.{shut_typed, plain_typed}
 use Rattle.wh_find_loop.proofs.TryLemmas.{entry_space}
 use Rattle.wh_find_loop.proofs.SearchLemmas.{trying_none, trying_next, trying_all}
@@ -13,7 +14,7 @@ use Rattle.wh_find_loop.proofs.search.search_entry.Goals as goal
 
 pub steps_of-requires-clause-fits : goal.steps_of-requires-clause-fits
 steps_of-requires-clause-fits c =
-    let d = system_data c.args.system.now in
+    let d = system_data c.args.setting.now.system.now in
     let l = c.args.listing.now in
     let at = c.args.at in
     let level = c.args.level in
@@ -24,7 +25,7 @@ steps_of-requires-clause-fits c =
 
 pub steps_of-requires-clause-shut : goal.steps_of-requires-clause-shut
 steps_of-requires-clause-shut c =
-    let d = system_data c.args.system.now in
+    let d = system_data c.args.setting.now.system.now in
     let l = c.args.listing.now in
     let at = c.args.at in
     let level = c.args.level in
@@ -35,7 +36,7 @@ steps_of-requires-clause-shut c =
 
 pub steps_of-requires-clause-plain : goal.steps_of-requires-clause-plain
 steps_of-requires-clause-plain c =
-    let d = system_data c.args.system.now in
+    let d = system_data c.args.setting.now.system.now in
     let l = c.args.listing.now in
     let at = c.args.at in
     let level = c.args.level in
@@ -45,11 +46,11 @@ steps_of-requires-clause-plain c =
     plain_typed d.symbols (tree e) entry.typed
 
 pub loop-step-init : goal.loop-step-init
-loop-step-init c = trying_none (system_data c.args.system.now) c.args.level c.args.visited c.args.at c.args.listing.now c.requires.listing c.requires.fewer
+loop-step-init c = trying_none (system_data c.args.setting.now.system.now) c.args.level c.args.visited c.args.at c.args.listing.now c.requires.listing c.requires.fewer
 
 pub loop-step-preserved : goal.loop-step-preserved
 loop-step-preserved c =
-    let d = system_data c.args.system.now in
+    let d = system_data c.args.setting.now.system.now in
     let l = c.loop-step.listing in
     let new = c.try_step.new.listing in
     let step = c.in-Some.step in
@@ -59,7 +60,7 @@ loop-step-preserved c =
 
 pub returns : goal.returns
 returns c =
-    let d = system_data c.args.system.now in
+    let d = system_data c.args.setting.now.system.now in
     let l = c.args.listing.now in
     let at = c.args.at in
     let level = c.args.level in

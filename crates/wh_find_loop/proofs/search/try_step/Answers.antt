@@ -6,16 +6,16 @@ use Rattle.wh_cert.specs.Said.{said_no}
 use Rattle.wh_loops.specs.Starts.{IsStart}
 use Rattle.wh_loops.specs.Space.{HoldsInstanceOf}
 use Rattle.wh_loops.specs.Found.{IsInstanceIn, IsLoopCertificate}
-use Rattle.wh_find_loop.specs.Reducts.{IsReduct, HasNoReduct, Reduces}
-use Rattle.wh_find_loop.specs.Listing.{tree, IsEntry}
-use Rattle.wh_find_loop.proofs.ListingLemmas.{here_at, all_here}
+use Rattle.wh_find_steps.specs.Reducts.{IsReduct, HasNoReduct, Reduces}
+use Rattle.wh_reached.specs.Listing.{tree, IsEntry}
+use Rattle.wh_reached.proofs.ListingLemmas.{here_at, all_here}
 use Rattle.wh_find_loop.proofs.SpaceLemmas.{shut_typed, plain_typed}
 use Rattle.wh_find_loop.proofs.TryLemmas.{start_low, start_is, start_fits, reduct_typed, tries_nothing, next_entry, next_linked, tries_next}
 use Rattle.wh_find_loop.proofs.search.try_step.Goals as goal
 
 pub reduct_by-requires-clause-shut : goal.reduct_by-requires-clause-shut
 reduct_by-requires-clause-shut c =
-    let d = system_data c.args.system.now in
+    let d = system_data c.args.setting.now.system.now in
     let l = c.args.listing.now in
     let at = c.args.at in
     let level = c.args.level in
@@ -26,7 +26,7 @@ reduct_by-requires-clause-shut c =
 
 pub reduct_by-requires-clause-plain : goal.reduct_by-requires-clause-plain
 reduct_by-requires-clause-plain c =
-    let d = system_data c.args.system.now in
+    let d = system_data c.args.setting.now.system.now in
     let l = c.args.listing.now in
     let at = c.args.at in
     let level = c.args.level in
@@ -37,7 +37,7 @@ reduct_by-requires-clause-plain c =
 
 pub returns-in_default : goal.returns-in_default
 returns-in_default c =
-    let d = system_data c.args.system.now in
+    let d = system_data c.args.setting.now.system.now in
     let l = c.args.listing.now in
     let at = c.args.at in
     let level = c.args.level in
@@ -49,27 +49,27 @@ returns-in_default c =
 
 pub index-start-requires : goal.index-start-requires
 index-start-requires c =
-    let d = system_data c.args.system.now in
+    let d = system_data c.args.setting.now.system.now in
     let l = c.args.listing.now in
     let at = c.args.at in
     let level = c.args.level in
     let e = c.index-entry.result.now in
     let here : slice_get l.entries.items at ≡ Some e = here_at l.entries.items at e c.requires.at c.index-entry.ensures in
     let entry : IsEntry d level e = all_here (IsEntry d level) l.entries.items at e c.requires.listing.each here in
-    let starts = c.args.plan.now.starts in
+    let starts = c.args.setting.now.plan.now.starts in
     let low : e.visit.start < length starts.items = start_low d starts.items e.level e.visit.start (tree e) c.requires.plan.starts entry.reached in
     omega (arith, low, starts.ok.0)
 
 pub find_instance-requires-clause-start : goal.find_instance-requires-clause-start
 find_instance-requires-clause-start c =
-    let d = system_data c.args.system.now in
+    let d = system_data c.args.setting.now.system.now in
     let l = c.args.listing.now in
     let at = c.args.at in
     let level = c.args.level in
     let e = c.index-entry.result.now in
     let here : slice_get l.entries.items at ≡ Some e = here_at l.entries.items at e c.requires.at c.index-entry.ensures in
     let entry : IsEntry d level e = all_here (IsEntry d level) l.entries.items at e c.requires.listing.each here in
-    let starts = c.args.plan.now.starts in
+    let starts = c.args.setting.now.plan.now.starts in
     let low : e.visit.start < length starts.items = start_low d starts.items e.level e.visit.start (tree e) c.requires.plan.starts entry.reached in
     let start = c.index-start.result.now in
     let is : IsStart d.rules e.visit.start (tm start) = start_is d starts.items e.visit.start start c.requires.plan.starts low c.index-start.ensures in
@@ -77,7 +77,7 @@ find_instance-requires-clause-start c =
 
 pub find_instance-requires-clause-typed : goal.find_instance-requires-clause-typed
 find_instance-requires-clause-typed c =
-    let d = system_data c.args.system.now in
+    let d = system_data c.args.setting.now.system.now in
     let l = c.args.listing.now in
     let at = c.args.at in
     let level = c.args.level in
@@ -89,14 +89,14 @@ find_instance-requires-clause-typed c =
 
 pub certify-requires-clause-start : goal.certify-requires-clause-start
 certify-requires-clause-start c =
-    let d = system_data c.args.system.now in
+    let d = system_data c.args.setting.now.system.now in
     let l = c.args.listing.now in
     let at = c.args.at in
     let level = c.args.level in
     let e = c.index-entry.result.now in
     let here : slice_get l.entries.items at ≡ Some e = here_at l.entries.items at e c.requires.at c.index-entry.ensures in
     let entry : IsEntry d level e = all_here (IsEntry d level) l.entries.items at e c.requires.listing.each here in
-    let starts = c.args.plan.now.starts in
+    let starts = c.args.setting.now.plan.now.starts in
     let low : e.visit.start < length starts.items = start_low d starts.items e.level e.visit.start (tree e) c.requires.plan.starts entry.reached in
     let start = c.index-start.result.now in
     let is : IsStart d.rules e.visit.start (tm start) = start_is d starts.items e.visit.start start c.requires.plan.starts low c.index-start.ensures in
@@ -104,14 +104,14 @@ certify-requires-clause-start c =
 
 pub certify-requires-clause-fits : goal.certify-requires-clause-fits
 certify-requires-clause-fits c =
-    let d = system_data c.args.system.now in
+    let d = system_data c.args.setting.now.system.now in
     let l = c.args.listing.now in
     let at = c.args.at in
     let level = c.args.level in
     let e = c.index-entry.result.now in
     let here : slice_get l.entries.items at ≡ Some e = here_at l.entries.items at e c.requires.at c.index-entry.ensures in
     let entry : IsEntry d level e = all_here (IsEntry d level) l.entries.items at e c.requires.listing.each here in
-    let starts = c.args.plan.now.starts in
+    let starts = c.args.setting.now.plan.now.starts in
     let low : e.visit.start < length starts.items = start_low d starts.items e.level e.visit.start (tree e) c.requires.plan.starts entry.reached in
     let start = c.index-start.result.now in
     let is : IsStart d.rules e.visit.start (tm start) = start_is d starts.items e.visit.start start c.requires.plan.starts low c.index-start.ensures in
@@ -119,7 +119,7 @@ certify-requires-clause-fits c =
 
 pub returns-in-Some-2 : goal.returns-in-Some-2
 returns-in-Some-2 c =
-    let d = system_data c.args.system.now in
+    let d = system_data c.args.setting.now.system.now in
     let l = c.args.listing.now in
     let at = c.args.at in
     let level = c.args.level in
@@ -131,14 +131,14 @@ returns-in-Some-2 c =
 
 pub returns : goal.returns
 returns c =
-    let d = system_data c.args.system.now in
+    let d = system_data c.args.setting.now.system.now in
     let l = c.args.listing.now in
     let at = c.args.at in
     let level = c.args.level in
     let e = c.index-entry.result.now in
     let here : slice_get l.entries.items at ≡ Some e = here_at l.entries.items at e c.requires.at c.index-entry.ensures in
     let entry : IsEntry d level e = all_here (IsEntry d level) l.entries.items at e c.requires.listing.each here in
-    let starts = c.args.plan.now.starts in
+    let starts = c.args.setting.now.plan.now.starts in
     let low : e.visit.start < length starts.items = start_low d starts.items e.level e.visit.start (tree e) c.requires.plan.starts entry.reached in
     let start = c.index-start.result.now in
     let is : IsStart d.rules e.visit.start (tm start) = start_is d starts.items e.visit.start start c.requires.plan.starts low c.index-start.ensures in

@@ -4,7 +4,7 @@ use Rattle.wh_types.specs.Ty.{sort, arguments}
 use Rattle.wh_types.specs.Erase.{ty, tys}
 use Rattle.wh_terms.specs.Erase.{tm}
 use Rattle.wh_terms.specs.Kinds.{kinds_of}
-use Rattle.wh_find_pairs.specs.Views.{trees}
+use Rattle.wh_find_calls.specs.Views.{trees}
 use Rattle.wh_find_pairs.proofs.CandidateLemmas.{missing_next, missing_all, tys_get, kinds-scope}
 use Rattle.wh_find_pairs.proofs.candidate.fresh_kinds.Goals as goal
 

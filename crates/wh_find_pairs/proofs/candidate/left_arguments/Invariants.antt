@@ -1,6 +1,6 @@
 use Rattle.std.proofs.Common.{◌≡◌, take, map}
 use Rattle.wh_terms.specs.Erase.{tm}
-use Rattle.wh_find_pairs.specs.Views.{trees}
+use Rattle.wh_find_calls.specs.Views.{trees}
 use Rattle.wh_find_pairs.proofs.candidate.left_arguments.Given as goal
 
 abbrev pub invariant-loop-argument : goal.invariant-loop-argument

@@ -6,7 +6,7 @@ use Rattle.wh_terms.specs.Erase.{tm}
 use Rattle.wh_terms.specs.Scope.{scope}
 use Rattle.wh_terms.specs.Substitution.{act}
 use Rattle.wh_pairs.specs.Candidates.{freed, numbered_from}
-use Rattle.wh_find_pairs.specs.Views.{trees}
+use Rattle.wh_find_calls.specs.Views.{trees}
 use Rattle.wh_pairs.proofs.FreedLemmas.{length-scope}
 use Rattle.wh_find_pairs.proofs.candidate.right_arguments.Goals as goal
 

@@ -12,9 +12,9 @@ use Rattle.wh_pairs.specs.Candidates.{candidate}
 use Rattle.wh_pairs.specs.Known.{TakesArguments}
 use Rattle.wh_pairs.specs.Subsumption.{ArePairs, none_left}
 use Rattle.wh_pairs.specs.Survivors.{Survive}
-use Rattle.wh_find_pairs.specs.declared.calling.Call as code
+use Rattle.wh_find_calls.specs.declared.calling.Call as code
 use Rattle.wh_pairs.specs.Views.{pairs_data}
-use Rattle.wh_find_pairs.specs.Views.{call_data}
+use Rattle.wh_find_calls.specs.Views.{call_data}
 use Rattle.wh_pairs.proofs.ListLemmas.{map_take, map-map}
 use Rattle.wh_pairs.proofs.MemberLemmas.{image_there}
 use Rattle.wh_pairs.proofs.KnownLemmas.{right_symbols, takes_arguments, defined_call}

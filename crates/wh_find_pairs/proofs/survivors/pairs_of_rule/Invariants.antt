@@ -4,7 +4,7 @@ use Rattle.wh_system.specs.SystemView.{system_data}
 use Rattle.wh_pairs.specs.Candidates.{candidate}
 use Rattle.wh_pairs.specs.Survivors.{Survive}
 use Rattle.wh_pairs.specs.Views.{pairs_data}
-use Rattle.wh_find_pairs.specs.Views.{call_data}
+use Rattle.wh_find_calls.specs.Views.{call_data}
 use Rattle.wh_find_pairs.proofs.survivors.pairs_of_rule.Given as goal
 
 abbrev pub invariant-loop-call : goal.invariant-loop-call

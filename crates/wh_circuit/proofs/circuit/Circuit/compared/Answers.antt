@@ -1,7 +1,7 @@
 use Rattle.std.proofs.Common.{◌+◌, ◌*◌, ◌<◌, List, false, length, arith, ◌∙◌}
 use Rattle.wh_sat_trail.specs.declared.literal.Literal.{Literal}
 use Rattle.wh_circuit.specs.State.{gates_of}
-use Rattle.wh_circuit.proofs.Counting.{compared_more}
+use Rattle.wh_circuit.proofs.Comparing.{compared_more}
 use Rattle.wh_circuit.proofs.Growing.{agrees_before, grows_then}
 use Rattle.wh_circuit.proofs.circuit.Circuit.compared.Goals as goal
 

@@ -5,7 +5,8 @@ use Rattle.wh_sat_trail.specs.Assignment.{AllBelow}
 use Rattle.wh_sat_trail.specs.Propagation.{Within}
 use Rattle.wh_sat.specs.Solving.{Solves}
 use Rattle.wh_circuit.specs.declared.circuit.Gate.{Gate}
-use Rattle.wh_circuit.specs.Gates.{Agrees, Extends, IsAlwaysTrue, Ordered, gate_clauses}
+use Rattle.wh_gate_clauses.specs.Clauses.{gate_clauses}
+use Rattle.wh_circuit.specs.Gates.{Agrees, Extends, IsAlwaysTrue, Ordered}
 use Rattle.wh_circuit.specs.Values.{all_true}
 use Rattle.wh_circuit.proofs.Solving.{solves_left, solves_right, solves_both, gate_holds, holds_gate}
 use Rattle.wh_circuit.proofs.Gating.{agrees_left, agrees_last, agrees_push, always_push, ordered_push, gate_extends, within_gate}

@@ -1,0 +1,6 @@
+//! Products, by gates that join a circuit.
+#![tactic(auto)]
+
+mod multiplying;
+
+pub use multiplying::times;

@@ -1,0 +1,4 @@
+use Rattle.wh_circuit_sums.proofs.adding.sum.Goals as goal
+
+pub returns-in-Err-clause-err : goal.returns-in-Err-clause-err
+returns-in-Err-clause-err c = c.restore.ensures c.args.circuit.now _ c.mark-mark.ensures c.added.ensures.grows

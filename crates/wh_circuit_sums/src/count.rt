@@ -1,0 +1,12 @@
+//! Counts up to two.
+
+use wh_gate_clauses::Wire;
+
+/// How many of some wires are true, as far as two.
+#[derive(Clone, Copy)]
+pub struct Count {
+    /// There is one.
+    pub some: Wire,
+    /// There are two or more.
+    pub more: Wire,
+}

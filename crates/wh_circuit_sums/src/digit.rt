@@ -1,0 +1,12 @@
+//! Sums of three bits.
+
+use wh_gate_clauses::Wire;
+
+/// The two bits of a sum.
+#[derive(Clone, Copy)]
+pub struct Digit {
+    /// The lower bit.
+    pub low: Wire,
+    /// The carry.
+    pub high: Wire,
+}

@@ -1,0 +1,2 @@
+pub mod SpineLemmas
+pub mod CallLemmas

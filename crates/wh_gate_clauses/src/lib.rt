@@ -1,0 +1,8 @@
+//! What a gate is, in clauses, and lists of wires.
+#![tactic(auto)]
+
+mod pieces;
+mod wire;
+
+pub use pieces::{clauses_of_gate, negations_of, wires_from};
+pub use wire::{Wire, Wires};
