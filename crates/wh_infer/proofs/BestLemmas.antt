@@ -16,10 +16,11 @@ use Rattle.wh_order.specs.declared.goals.Goal.{Goal}
 use Rattle.wh_order.specs.Precedences.{order_of}
 use Rattle.wh_order.specs.Claims.{task, side_tree, IsGoalOver, AreGoalsOver, StandFor, MayStandFor}
 use Rattle.wh_order.proofs.CheckLemmas.{drop_here, drop_end}
-use Rattle.wh_infer.specs.declared.choice.Choice.{Choice}
-use Rattle.wh_infer.specs.Least.{IsLeast, own}
-use Rattle.wh_infer.specs.Ways.{IsShown, AreShown, tasks_by}
-use Rattle.wh_infer.specs.Bests.{letter_with, IsBy, AreGoalsBy, IsBestOf, IsBest, IsBestBy, IsBestAt, IsLeastCount, IsLeastTotal, IsLesser, IsOneMore, IsSum, count_of}
+use Rattle.wh_known.specs.declared.choice.Choice.{Choice}
+use Rattle.wh_known.specs.Least.{IsLeast, own}
+use Rattle.wh_known.specs.Ways.{IsShown, AreShown, tasks_by}
+use Rattle.wh_known.specs.Counts.{IsLeastCount, IsLesser, count_of}
+use Rattle.wh_infer.specs.Bests.{letter_with, IsBy, AreGoalsBy, IsBestOf, IsBest, IsBestBy, IsBestAt, IsLeastTotal, IsOneMore, IsSum}
 use Rattle.wh_infer.proofs.LeastLemmas.{least_same, least_or}
 use Rattle.wh_path_order.proofs.SameTreeLaws.{none_some, some_none}
 use Rattle.wh_infer.proofs.WayLemmas.{way_within, shown_by, none_shown, by_shown, nothing_shown, sum_none, sum_over, sum_some, none_behind}

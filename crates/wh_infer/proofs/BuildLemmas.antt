@@ -1,9 +1,10 @@
 -- Inferences with the fewest entries.
-use Rattle.std.proofs.Common.{◌≡◌, ℕ, zero, suc, ◌+◌, ◌-◌, ◌<◌, ◌≤◌, List, [], ◌∷◌, ◌++◌, length, map, take, get_or, Option, Some, None, refl, ap, subst, sym, ◌∙◌, arith}
+use Rattle.std.proofs.Common.{◌≡◌, ℕ, zero, suc, ◌+◌, ◌-◌, ◌<◌, ◌≤◌, List, [], ◌∷◌, ◌++◌, length, map, take, get_or, Option, Some, None, refl, ap, ap₂, subst, sym, ◌∙◌, arith}
 use Rattle.std.specs.Prelude.{◌^◌, nat_lt, cond, MatchOption}
 use Rattle.std.specs.Option.{option_map}
 use Rattle.std.specs.Global.{Vec}
 use Rattle.std.proofs.lemmas.List.{take_more}
+use Rattle.wh_terms.specs.Tree.{Tm}
 use Rattle.wh_terms.specs.Typing.{Symbols, Declared}
 use Rattle.wh_inference.specs.Inferences as m
 use Rattle.wh_inference.specs.Inferences.{infer, no_parts, more_parts, entries, all_entries}
@@ -21,10 +22,11 @@ use Rattle.wh_trees.specs.Trees.{tree}
 use Rattle.wh_trees.specs.TreeParts.{World, Over}
 use Rattle.wh_order.specs.declared.goals.Goal.{Goal}
 use Rattle.wh_order.specs.Precedences.{order_of}
-use Rattle.wh_order.specs.Claims.{task, IsGoalOver, AreGoalsOver}
-use Rattle.wh_infer.specs.declared.choice.Choice.{Choice}
-use Rattle.wh_infer.specs.Least.{IsLeast}
-use Rattle.wh_infer.specs.Ways.{IsGood, AreGood, tasks_by}
+use Rattle.wh_order.specs.Claims.{task, side_tree, IsGoalOver, AreGoalsOver}
+use Rattle.wh_known.specs.declared.choice.Choice.{Choice}
+use Rattle.wh_known.specs.Least.{IsLeast}
+use Rattle.wh_known.specs.LineGoals.{IsLineGoal}
+use Rattle.wh_known.specs.Ways.{IsGood, AreGood, tasks_by}
 use Rattle.wh_infer.specs.Bests.{IsBy, AreGoalsBy, IsBest, IsLeastInference, AreLeastInferences, IsMadeWith, written_place}
 use Rattle.wh_infer.specs.Lines.{Shows, IsFound}
 use Rattle.wh_infer.proofs.TaskLemmas.{both_none}
@@ -210,3 +212,14 @@ line_found D c s t g r is over least S rules M sides = on r (least w (over (leng
       record { good = sym (there (inference i)) ∙ h.1.0; nested = h.1.1; few = h.0 },
       λ j shows. h.2 j (there j ∙ shows.good, shows.nested),
     )
+
+pub line_task : (c : Claim) (s t : Tree) (g : Goal) → IsLineGoal c s t g → (n : ℕ) → task n g ≡ record { claim = c; next = 0; left = tree n s; right = tree n t }
+line_task c s t g is n =
+    ap₂ (λ (x : Claim) (y : ℕ). task_with x y (tree n (side_tree g.left)) (tree n (side_tree g.right))) is.same_claim is.same_next
+    ∙ ap₂ (λ (x y : Tree). task_with c 0 (tree n x) (tree n y)) is.same_left is.same_right
+  where
+    task_with : Claim → ℕ → Tm → Tm → Task
+    task_with c next s t = record { claim = c; next = next; left = s; right = t }
+
+pub line_over : (c : Claim) (s t : Tree) (g : Goal) → IsLineGoal c s t g → (n : ℕ) (w : World) → Over n w s → Over n w t → IsGoalOver n w g
+line_over c s t g is n w o p = (subst (Over n w) (sym is.same_left) o, subst (Over n w) (sym is.same_right) p)

@@ -1,8 +1,8 @@
 -- Least things: said in other words, and the lesser of two.
 use Rattle.std.proofs.Common.{◌⊎◌, ℕ, inl, inr, Option, Some, None, subst, sym, arith}
-use Rattle.wh_infer.specs.declared.choice.Choice.{Choice}
-use Rattle.wh_infer.specs.Least.{IsLeast}
-use Rattle.wh_infer.specs.Bests.{IsLesser}
+use Rattle.wh_known.specs.declared.choice.Choice.{Choice}
+use Rattle.wh_known.specs.Least.{IsLeast}
+use Rattle.wh_known.specs.Counts.{IsLesser}
 
 -- the same said of the things in other words
 pub least_same : {A : Type 0} (number : A → ℕ) (P Q : A → Type 0) (r : Option A) → ((a : A) → P a → Q a) → ((a : A) → Q a → P a)

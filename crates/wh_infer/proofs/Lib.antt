@@ -6,5 +6,3 @@ pub mod BestLemmas
 pub mod WayGoals
 pub mod BuildLemmas
 pub mod StableLemmas
-pub mod PlainLemmas
-pub mod EntryLemmas

@@ -10,7 +10,7 @@ use Rattle.wh_ordering.specs.Filterings.{FilteringData}
 use Rattle.wh_order.specs.declared.goals.Goal.{Goal}
 use Rattle.wh_order.specs.Precedences.{order_of}
 use Rattle.wh_order.specs.Claims.{task}
-use Rattle.wh_infer.specs.Least.{NotRefuted}
+use Rattle.wh_known.specs.Least.{NotRefuted}
 use Rattle.wh_infer.specs.Bests.{IsLeastInference}
 use Rattle.wh_path_order.proofs.SameTreeLaws.{some_none}
 

@@ -13,7 +13,7 @@ use Rattle.wh_order.specs.declared.goals.Goal.{Goal}
 use Rattle.wh_order.specs.declared.goals.Claim.TheVariants.{Greater}
 use Rattle.wh_order.specs.Precedences.{order_of}
 use Rattle.wh_order.specs.Claims.{task, IsGoalOver, AreGoalsOver, MayStandFor, AreGoals}
-use Rattle.wh_infer.specs.Ways.{strict_part, sharpened, tasks_by}
+use Rattle.wh_known.specs.Ways.{strict_part, sharpened, tasks_by}
 use Rattle.wh_infer.specs.Bests.{AreGoalsBy}
 use Rattle.wh_infer.proofs.TaskLemmas.{claimed}
 use Rattle.wh_order.proofs.JudgedLemmas.{nothing_asked}

@@ -6,8 +6,8 @@ use Rattle.wh_inference.specs.Inferences.{Letter, same_trees, bodies, arguments,
 use Rattle.wh_path_order.specs.Heads.{arguments_of}
 use Rattle.wh_path_order.specs.Verdict.{greater, Task, some_strict, tasks, verdict, verdicts}
 use Rattle.wh_path_order.proofs.AskedTasks.{split, first_part}
-use Rattle.wh_infer.specs.Least.{IsLeast, own}
-use Rattle.wh_infer.specs.Ways.{strict_part, sharpened, IsShown, AreShown, tasks_by}
+use Rattle.wh_known.specs.Least.{IsLeast, own}
+use Rattle.wh_known.specs.Ways.{strict_part, sharpened, IsShown, AreShown, tasks_by}
 use Rattle.wh_infer.proofs.TaskLemmas.{AllAtLeast, is_arguments, strict_split, strict_first, strict_behind, claimed, both_none, joined, tasks_any, asked_pairs, place_within, stricter_good, weaker_good}
 use Rattle.wh_path_order.proofs.SameTreeLaws.{none_some, some_none}
 

@@ -15,9 +15,9 @@ use Rattle.wh_order.specs.declared.goals.Goal.{Goal}
 use Rattle.wh_order.specs.Precedences.{order_of}
 use Rattle.wh_order.specs.Claims.{task, IsGoalOver, AreGoalsOver, MayStandFor}
 use Rattle.std.specs.Global.{Vec}
-use Rattle.wh_infer.specs.declared.choice.Choice.{Choice}
-use Rattle.wh_infer.specs.Least.{IsLeast, own}
-use Rattle.wh_infer.specs.Ways.{IsGood, AreGood, IsShown, AreShown, tasks_by}
+use Rattle.wh_known.specs.declared.choice.Choice.{Choice}
+use Rattle.wh_known.specs.Least.{IsLeast, own}
+use Rattle.wh_known.specs.Ways.{IsGood, AreGood, AreShown, tasks_by}
 
 -- the letters, numbered from 0
 abbrev pub letter_with : ℕ → Letter
@@ -61,12 +61,7 @@ IsBestBy D room g l r = IsBestOf (λ c. c.letter ≡ l) D room g r
 abbrev pub IsBestAt : FilteringData → ℕ → Goal → Letter → ℕ → Option Choice → Type 0
 IsBestAt D room g l place r = IsBestOf (λ c. (c.letter ≡ l) × (c.place ≡ place)) D room g r
 
--- the least number of entries that shows the goal, nested at most `room` deep
-abbrev pub IsLeastCount : FilteringData → ℕ → Goal → Option ℕ → Type 0
-IsLeastCount D room g r = (w : World) → IsGoalOver (length D.symbols) w g
-    → IsLeast own (IsShown w.symbols (order_of D) w.metas room (task (length D.symbols) g)) r
-
--- and that which shows all goals of a list
+-- the least number of entries that shows all goals of a list, nested at most `room` deep
 abbrev pub IsLeastTotal : FilteringData → ℕ → List Goal → Option ℕ → Type 0
 IsLeastTotal D room gs r = (w : World) → AreGoalsOver (length D.symbols) w gs
     → IsLeast own (AreShown w.symbols (order_of D) w.metas room (map (task (length D.symbols)) gs)) r
@@ -84,20 +79,9 @@ AreLeastInferences D room gs (Some is) = (w : World) → AreGoalsOver (length D.
     → AreGood w.symbols (order_of D) w.metas room (map (task (length D.symbols)) gs) (inferences is)
     × ((js : m.Inferences) → AreGood w.symbols (order_of D) w.metas room (map (task (length D.symbols)) gs) js → all_entries (inferences is) ≤ all_entries js)
 
--- the one with fewer entries, and the first one where they have equally many
-abbrev pub IsLesser : Option Choice → Option Choice → Option Choice → Type 0
-IsLesser None s r = r ≡ s
-IsLesser (Some a) None r = r ≡ Some a
-IsLesser (Some a) (Some b) r = ((a.count ≤ b.count) × (r ≡ Some a)) ⊎ ((b.count < a.count) × (r ≡ Some b))
-
 -- the place that is written with the letter of a choice: none with `m`
 abbrev pub written_place : Choice → ℕ
 written_place c = elim c.letter [ Mono ↦ 0 | _ ↦ c.place ]
-
--- how many entries that makes
-abbrev pub count_of : Option Choice → Option ℕ
-count_of None = None
-count_of (Some c) = Some c.count
 
 -- the choice by this letter at this place whose parts have so many entries, where that makes fewer than 2^32
 abbrev pub IsOneMore : Letter → ℕ → Option ℕ → Option Choice → Type 0

@@ -2,14 +2,14 @@
 
 ghost use Rattle.std.specs.Prelude.{◌≡◌, ◌↔◌, IfOk, IsTrue, Some};
 ghost use Rattle.wh_ordering.specs.FilteringView.{filtering_data};
-ghost use Rattle.wh_infer.specs.Least.{NotRefuted};
-ghost use Rattle.wh_infer.specs.Bests.{IsBest, IsBestAt, IsBestBy, IsLeastCount, IsLeastTotal, IsOneMore, IsSum, count_of};
+ghost use Rattle.wh_known.specs.Least.{NotRefuted};
+ghost use Rattle.wh_known.specs.Counts.{IsLeastCount, count_of};
+ghost use Rattle.wh_infer.specs.Bests.{IsBest, IsBestAt, IsBestBy, IsLeastTotal, IsOneMore, IsSum};
 
-use crate::choice::Choice;
-use crate::known::Known;
-use crate::ways::{LETTERS, goals_by, lesser, letter_at};
+use crate::ways::{LETTERS, goals_by, letter_at};
 use std::alloc::AllocError;
 use wh_inference::Letter;
+use wh_known::{Choice, Known, count_of, lesser};
 use wh_order::Goal;
 use wh_trees::arguments_of;
 use wh_types::{counted, sum};
@@ -155,16 +155,6 @@ fn least(known: &mut Known<'_>, goal: &Goal<'_>, room: u8) -> Result<Option<u32>
     if known.asked == asked {
         return Ok(count);
     }
-    known.note(goal, room, count)?;
+    known.note_choice(goal, room, choice)?;
     Ok(count)
-}
-
-// How many entries that makes.
-fn count_of(choice: Option<Choice>) -> Option<u32>
-    ensures { result ≡ count_of choice }
-{
-    match choice {
-        Some(choice) => Some(choice.count),
-        None => None,
-    }
 }

@@ -2,15 +2,14 @@
 
 ghost use Rattle.std.specs.Prelude.{◌≡◌, IfOk, Some};
 ghost use Rattle.wh_ordering.specs.FilteringView.{filtering_data};
-ghost use Rattle.wh_infer.specs.Least.{NotRefuted};
+ghost use Rattle.wh_known.specs.Least.{NotRefuted};
 ghost use Rattle.wh_infer.specs.Bests.{AreLeastInferences, IsBest, IsLeastInference, IsMadeWith, written_place};
 
 use crate::best::best;
-use crate::choice::Choice;
-use crate::known::Known;
 use crate::ways::{goals_by, made};
 use std::alloc::AllocError;
 use wh_inference::{Inference, Inferences, Letter};
+use wh_known::{Choice, Known};
 use wh_order::Goal;
 
 /// An inference with the fewest entries that shows the goal, nested at most `room` deep; `None` where each has 2^32 at least.

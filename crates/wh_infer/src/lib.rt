@@ -3,11 +3,6 @@
 
 mod best;
 mod build;
-mod choice;
-mod copies;
-mod entry;
-mod key;
-mod known;
 mod line;
 mod ways;
 

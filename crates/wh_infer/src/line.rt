@@ -1,16 +1,17 @@
 //! Lines of inferences.
 
 ghost use Rattle.std.specs.Prelude.{IfOk};
-ghost use Rattle.wh_path_order.specs.Verdict.{at_least, greater};
+ghost use Rattle.wh_path_order.specs.Verdict.{Claim, at_least, greater};
 ghost use Rattle.wh_ordering.specs.FilteringView.{filtering_data};
-ghost use Rattle.wh_order.specs.Claims.{said};
+ghost use Rattle.wh_trees.specs.declared.tree.Tree.{Tree};
+ghost use Rattle.wh_known.specs.LineGoals.{IsLineGoal};
 ghost use Rattle.wh_infer.specs.Lines.{IsFound};
 
 use crate::build::build;
-use crate::known::Known;
 use std::alloc::{AllocError, Global};
 use wh_inference::Inference;
-use wh_order::{Claim, Goal, Side};
+use wh_known::{Known, strict_goal, weak_goal};
+use wh_order::Goal;
 use wh_ordering::Filters;
 use wh_trees::Tree;
 
@@ -27,7 +28,7 @@ pub fn find_inference(
 ) -> Result<Option<Inference>, AllocError>
     ensures { IfOk result (IsFound (filtering_data filters.now) at_least left.now right.now) }
 {
-    find(alloc, filters, Claim::AtLeast, left, right)
+    find(alloc, filters, &weak_goal(left, right))
 }
 
 /// The same for an inference that the left tree is greater, as where the line is not `=`.
@@ -39,25 +40,14 @@ pub fn find_greater(
 ) -> Result<Option<Inference>, AllocError>
     ensures { IfOk result (IsFound (filtering_data filters.now) greater left.now right.now) }
 {
-    find(alloc, filters, Claim::Greater, left, right)
+    find(alloc, filters, &strict_goal(left, right))
 }
 
-// The same for the claim.
-fn find(
-    alloc: Global,
-    filters: &Filters,
-    claim: Claim,
-    left: &Tree,
-    right: &Tree,
-) -> Result<Option<Inference>, AllocError>
-    ensures { IfOk result (IsFound (filtering_data filters.now) (said claim) left.now right.now) }
+// An inference for the goal of a line, and so the same.
+fn find(alloc: Global, filters: &Filters, goal: &Goal<'_>) -> Result<Option<Inference>, AllocError>
+    ensures { IfOk result (λ r. (c : Claim) (s t : Tree) → IsLineGoal c s t goal.now
+        → IsFound (filtering_data filters.now) c s t r) }
 {
-    let goal = Goal {
-        claim,
-        next: 0,
-        left: Side::Here(left),
-        right: Side::Here(right),
-    };
     let mut known = Known::new(alloc, filters)?;
-    build(&mut known, &goal, DEEPEST)
+    build(&mut known, goal, DEEPEST)
 }

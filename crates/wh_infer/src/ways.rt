@@ -5,9 +5,8 @@ ghost use Rattle.wh_inference.specs.Inferences.{arguments, infer, no_parts, vari
 ghost use Rattle.wh_inference.specs.Said as s;
 ghost use Rattle.wh_inference.specs.Said.{inference, inferences};
 ghost use Rattle.wh_ordering.specs.FilteringView.{filtering_data};
-ghost use Rattle.wh_infer.specs.Bests.{AreGoalsBy, IsLesser, letter_with};
+ghost use Rattle.wh_infer.specs.Bests.{AreGoalsBy, letter_with};
 
-use crate::choice::Choice;
 use std::alloc::{AllocError, Global};
 use wh_inference::{Inference, Inferences, Letter};
 use wh_order::{Claim, Goal, Goals, goals_of};
@@ -31,17 +30,6 @@ pub fn letter_at(number: u32) -> Letter
         7 => Letter::Bind,
         8 => Letter::Var,
         _ => Letter::Meta,
-    }
-}
-
-/// The choice with fewer entries; the first one where both have equally many.
-pub fn lesser(first: Option<Choice>, second: Option<Choice>) -> Option<Choice>
-    ensures { IsLesser first second result }
-{
-    match (first, second) {
-        (Some(a), Some(b)) => Some(if b.count < a.count { b } else { a }),
-        (Some(a), None) => Some(a),
-        (None, other) => other,
     }
 }
 

@@ -4,8 +4,9 @@ use Rattle.wh_inference.specs.Said.{letter}
 use Rattle.wh_ordering.specs.FilteringView.{filtering_data}
 use Rattle.wh_ordering.specs.declared.filters.Filters.{Filters}
 use Rattle.wh_order.specs.declared.goals.Goal.{Goal}
-use Rattle.wh_infer.specs.Least.{NotRefuted}
-use Rattle.wh_infer.specs.Bests.{AreGoalsBy, IsBestAt, IsBestBy, IsLeastCount, IsLeastTotal, IsSum}
+use Rattle.wh_known.specs.Least.{NotRefuted}
+use Rattle.wh_known.specs.Counts.{IsLeastCount, count_of}
+use Rattle.wh_infer.specs.Bests.{AreGoalsBy, IsBestAt, IsBestBy, IsLeastTotal, IsSum}
 use Rattle.wh_infer.proofs.BestLemmas.{ByLetters, best_counted, best_one, letters_next, letters_all, places_next, places_all, at_choice, total_first, total_next, total_stop}
 use Rattle.wh_infer.proofs.best.+counting.Goals as goal
 
@@ -53,12 +54,11 @@ choice_at-returns-in_ok-parts-in-Some-clause-found t c refuted =
     c.as_slice.ensures.value (omega arith)
     (subst (λ (r : Option (Vec Goal)). AreGoalsBy (filtering_data c.args.known.now.filters.now) c.args.goal.now (letter c.args.letter) c.args.place r) c.in-Some.is c.in_ok-goals.ensures) parts c.one_more.ensures))
 
-pub least-note-requires : goal.least-note-requires
-least-note-requires t c refuted =
-    subst (λ (f : Bor Filters). NotRefuted (IsLeastCount (filtering_data f.now) c.args.room c.args.goal.now c.count_of-count.result)) (sym c.in_ok-choice.ensures.filters)
+pub least-note_choice-requires : goal.least-note_choice-requires
+least-note_choice-requires t c refuted =
+    subst (λ (f : Bor Filters). NotRefuted (IsLeastCount (filtering_data f.now) c.args.room c.args.goal.now (count_of c.in_ok-choice.choice))) (sym c.in_ok-choice.ensures.filters)
     (λ other. c.in_ok-choice.ensures.found (λ best. other
-    (subst (λ (r : Option ℕ). IsLeastCount (filtering_data c.args.known.now.filters.now) c.args.room c.args.goal.now r) (sym c.count_of-count.ensures)
-    (best_counted (filtering_data c.args.known.now.filters.now) c.args.room c.args.goal.now c.in_ok-choice.choice best)))) refuted
+    (best_counted (filtering_data c.args.known.now.filters.now) c.args.room c.args.goal.now c.in_ok-choice.choice best))) refuted
 
 pub least-returns-clause-found : goal.least-returns-clause-found
 least-returns-clause-found t c refuted =

@@ -1,6 +1,6 @@
 use Rattle.std.proofs.Common.{◌≡◌, ◌+◌, ◌*◌, ◌≤◌, length, drop, Some}
 use Rattle.wh_ordering.specs.FilteringView.{filtering_data}
-use Rattle.wh_infer.specs.Least.{NotRefuted}
+use Rattle.wh_known.specs.Least.{NotRefuted}
 use Rattle.wh_infer.specs.Bests.{IsBestOf, IsLeastTotal}
 use Rattle.wh_infer.proofs.BestLemmas.{ByLetters, ByPlaces}
 use Rattle.wh_infer.proofs.best.+counting.Given as goal

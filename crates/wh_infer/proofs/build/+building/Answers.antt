@@ -5,8 +5,8 @@ use Rattle.wh_inference.specs.declared.inference.Inference.{Inference}
 use Rattle.wh_ordering.specs.FilteringView.{filtering_data}
 use Rattle.wh_ordering.specs.declared.filters.Filters.{Filters}
 use Rattle.wh_order.specs.declared.goals.Goal.{Goal}
-use Rattle.wh_infer.specs.declared.choice.Choice.{Choice}
-use Rattle.wh_infer.specs.Least.{NotRefuted}
+use Rattle.wh_known.specs.declared.choice.Choice.{Choice}
+use Rattle.wh_known.specs.Least.{NotRefuted}
 use Rattle.wh_infer.specs.Bests.{AreGoalsBy, IsBest, IsLeastInference}
 use Rattle.wh_infer.proofs.BuildLemmas.{no_best, no_room, no_goals, built_with, each_next, each_built, one_missing}
 use Rattle.wh_infer.proofs.StableLemmas.{stable_inference}

@@ -11,7 +11,7 @@ use Rattle.wh_trees.specs.declared.tree.Tree.{Tree, Meta, Sym, Mark, Lam, Apply,
 use Rattle.wh_trees.specs.declared.tree.Tree.TheVariants.{Bound, Free, Meta', Sym', Mark', Lam', Apply'}
 use Rattle.wh_trees.specs.Trees.{tree, row, spine_type, IsHeadTree, AreOver}
 use Rattle.wh_trees.specs.TreeParts.{World, Over}
-use Rattle.wh_infer.specs.Plain.{Plain, a_bound, a_free, a_meta, a_symbol, a_mark, a_lam, a_spine, Plains, no_trees, more_trees, plain, plain_row, plains}
+use Rattle.wh_known.specs.Plain.{Plain, a_bound, a_free, a_meta, a_symbol, a_mark, a_lam, a_spine, Plains, no_trees, more_trees, plain, plain_row, plains}
 use Rattle.wh_trees.proofs.TreeLemmas.{row_of}
 
 -- the tree that is stood for

@@ -1,7 +1,7 @@
 use Rattle.std.proofs.Common.{◌≡◌, take}
 use Rattle.wh_trees.proofs.TreeLemmas.{weight, weights}
-use Rattle.wh_infer.specs.Plain.{plains}
-use Rattle.wh_infer.proofs.copies.+comparing.Given as goal
+use Rattle.wh_known.specs.Plain.{plains}
+use Rattle.wh_known.proofs.copies.+comparing.Given as goal
 
 abbrev pub decreases-are_alike : goal.decreases-are_alike
 decreases-are_alike l = weight l.a.now

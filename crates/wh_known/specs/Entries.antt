@@ -6,10 +6,10 @@ use Rattle.wh_trees.specs.TreeParts.{World, Over}
 use Rattle.wh_order.specs.declared.goals.Goal.{Goal}
 use Rattle.wh_order.specs.Precedences.{order_of}
 use Rattle.wh_order.specs.Claims.{said, side_tree}
-use Rattle.wh_infer.specs.declared.entry.Entry.{Entry}
-use Rattle.wh_infer.specs.Least.{IsLeast, own}
-use Rattle.wh_infer.specs.Ways.{IsShown}
-use Rattle.wh_infer.specs.Plain.{plain}
+use Rattle.wh_known.specs.declared.entry.Entry.{Entry}
+use Rattle.wh_known.specs.Least.{IsLeast, own}
+use Rattle.wh_known.specs.Ways.{IsShown}
+use Rattle.wh_known.specs.Plain.{plain}
 
 -- the number of the entry is the least one for its goal, nested at most so deep
 abbrev pub IsExact : FilteringData → Entry → Type 0

@@ -1,12 +1,12 @@
 use Rattle.std.proofs.Common.{◌%◌, All, List, ap, subst, sym, ◌∙◌}
 use Rattle.std.proofs.lemmas.List.{length-set}
 use Rattle.wh_ordering.specs.FilteringView.{filtering_data}
-use Rattle.wh_infer.specs.declared.entry.Entry.{Entry}
-use Rattle.wh_infer.specs.Least.{NotRefuted}
-use Rattle.wh_infer.specs.Plain.{plain}
-use Rattle.wh_infer.specs.Entries.{IsExact}
-use Rattle.wh_infer.proofs.EntryLemmas.{noted}
-use Rattle.wh_infer.proofs.known.Known.note.Goals as goal
+use Rattle.wh_known.specs.declared.entry.Entry.{Entry}
+use Rattle.wh_known.specs.Least.{NotRefuted}
+use Rattle.wh_known.specs.Plain.{plain}
+use Rattle.wh_known.specs.Entries.{IsExact}
+use Rattle.wh_known.proofs.EntryLemmas.{noted}
+use Rattle.wh_known.proofs.known.Known.note.Goals as goal
 
 pub invariant_of-self : goal.invariant_of-self
 invariant_of-self c = record {

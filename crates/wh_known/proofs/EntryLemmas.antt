@@ -11,13 +11,13 @@ use Rattle.wh_trees.specs.TreeParts.{World}
 use Rattle.wh_order.specs.declared.goals.Goal.{Goal}
 use Rattle.wh_order.specs.Precedences.{order_of}
 use Rattle.wh_order.specs.Claims.{said, side_tree, task}
-use Rattle.wh_infer.specs.declared.entry.Entry.{Entry}
-use Rattle.wh_infer.specs.Least.{IsLeast, own, NotRefuted}
-use Rattle.wh_infer.specs.Ways.{IsShown}
-use Rattle.wh_infer.specs.Plain.{plain}
-use Rattle.wh_infer.specs.Bests.{IsLeastCount}
-use Rattle.wh_infer.specs.Entries.{IsExact, IsEntryFor}
-use Rattle.wh_infer.proofs.PlainLemmas.{alike_tree, alike_over}
+use Rattle.wh_known.specs.declared.entry.Entry.{Entry}
+use Rattle.wh_known.specs.Least.{IsLeast, own, NotRefuted}
+use Rattle.wh_known.specs.Ways.{IsShown}
+use Rattle.wh_known.specs.Plain.{plain}
+use Rattle.wh_known.specs.Counts.{IsLeastCount}
+use Rattle.wh_known.specs.Entries.{IsExact, IsEntryFor}
+use Rattle.wh_known.proofs.PlainLemmas.{alike_tree, alike_over}
 
 abbrev task_with : v.Claim → ℕ → Tm → Tm → Task
 task_with c next s t = record { claim = c; next = next; left = s; right = t }

@@ -2,7 +2,7 @@
 
 ghost use Rattle.std.specs.Prelude.{◌≡◌, IfOk, IsTrue};
 ghost use Rattle.wh_types.specs.Erase.{ty};
-ghost use Rattle.wh_infer.specs.Plain.{a_bound, a_free, plain, plains};
+ghost use Rattle.wh_known.specs.Plain.{a_bound, a_free, plain, plains};
 
 use std::alloc::{AllocError, Global};
 use wh_trees::{Tree, Trees};

@@ -1,10 +1,10 @@
 use Rattle.std.proofs.Common.{All, List, subst, sym, arith}
 use Rattle.wh_ordering.specs.FilteringView.{filtering_data}
-use Rattle.wh_infer.specs.declared.entry.Entry.{Entry}
-use Rattle.wh_infer.specs.Least.{NotRefuted}
-use Rattle.wh_infer.specs.Entries.{IsExact}
-use Rattle.wh_infer.proofs.EntryLemmas.{looked}
-use Rattle.wh_infer.proofs.known.Known.look.Goals as goal
+use Rattle.wh_known.specs.declared.entry.Entry.{Entry}
+use Rattle.wh_known.specs.Least.{NotRefuted}
+use Rattle.wh_known.specs.Entries.{IsExact}
+use Rattle.wh_known.proofs.EntryLemmas.{looked}
+use Rattle.wh_known.proofs.known.Known.look.Goals as goal
 
 pub returns-then-is_for : goal.returns-then-is_for
 returns-then-is_for c =

@@ -1,10 +1,10 @@
 use Rattle.std.proofs.Common.{ap, sym, ◌∙◌, arith, rules}
 use Rattle.std.proofs.lemmas.Bool.{eqb-true}
 use Rattle.wh_trees.proofs.TreeLemmas.{weights, weight_of_meta, weight_of_sym, weight_of_mark, weight_of_apply, weight_in}
-use Rattle.wh_infer.specs.Plain.{plain, plains}
-use Rattle.wh_infer.proofs.PlainLemmas.{alike_next, alike_meta, alike_sym, alike_mark, alike_apply}
-use Rattle.wh_infer.proofs.copies.+comparing.Goals.{are_alike-then-meta-other, are_alike-else-meta-other}
-use Rattle.wh_infer.proofs.copies.+comparing.Goals as goal
+use Rattle.wh_known.specs.Plain.{plain, plains}
+use Rattle.wh_known.proofs.PlainLemmas.{alike_next, alike_meta, alike_sym, alike_mark, alike_apply}
+use Rattle.wh_known.proofs.copies.+comparing.Goals.{are_alike-then-meta-other, are_alike-else-meta-other}
+use Rattle.wh_known.proofs.copies.+comparing.Goals as goal
 
 pub are_alike-are_all_alike-requires : goal.are_alike-are_all_alike-requires
 are_alike-are_all_alike-requires t c = (omega (arith, weight_of_meta c.args.a.now c.in-Meta.meta c.in-Meta.kind c.in-Meta.items c.in-Meta.is, ap weights c.as_slice.ensures), tt)

@@ -2,10 +2,11 @@
 
 ghost use Rattle.std.specs.Prelude.{◌≡◌, All, IfOk, IfSome, IsTrue, length};
 ghost use Rattle.wh_ordering.specs.FilteringView.{filtering_data};
-ghost use Rattle.wh_infer.specs.Least.{NotRefuted};
-ghost use Rattle.wh_infer.specs.Bests.{IsLeastCount};
-ghost use Rattle.wh_infer.specs.Entries.{IsEntryFor, IsExact};
+ghost use Rattle.wh_known.specs.Least.{NotRefuted};
+ghost use Rattle.wh_known.specs.Counts.{IsLeastCount, count_of};
+ghost use Rattle.wh_known.specs.Entries.{IsEntryFor, IsExact};
 
+use crate::choice::{Choice, count_of};
 use crate::copies::{are_alike, copy_tree};
 use crate::entry::Entry;
 use crate::key::key_of;
@@ -70,8 +71,8 @@ impl<'a> Known<'a> {
         None
     }
 
-    /// Keeps the least number of entries that shows the goal, nested at most `room` deep.
-    pub fn note(&mut self, goal: &Goal<'_>, room: u8, count: Option<u32>) -> Result<(), AllocError>
+    // Keeps the least number of entries that shows the goal, nested at most `room` deep.
+    fn note(&mut self, goal: &Goal<'_>, room: u8, count: Option<u32>) -> Result<(), AllocError>
         requires { NotRefuted (IsLeastCount (filtering_data self.old.filters.now) room goal.now count) }
         ensures filters { self.new.filters ≡ self.old.filters }
     {
@@ -91,6 +92,20 @@ impl<'a> Known<'a> {
         self.entries.push(entry)?;
         self.heads[bucket] = place;
         Ok(())
+    }
+
+    /// Keeps the number of entries of a choice, where it is the least number that shows the goal, nested at most `room`
+    /// deep; no choice stands for a number that is 2^32 at least.
+    pub fn note_choice(
+        &mut self,
+        goal: &Goal<'_>,
+        room: u8,
+        choice: Option<Choice>,
+    ) -> Result<(), AllocError>
+        requires { NotRefuted (IsLeastCount (filtering_data self.old.filters.now) room goal.now (count_of choice)) }
+        ensures filters { self.new.filters ≡ self.old.filters }
+    {
+        self.note(goal, room, count_of(choice))
     }
 }
 

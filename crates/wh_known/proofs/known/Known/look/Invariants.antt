@@ -1,5 +1,5 @@
 use Rattle.std.proofs.Common.{◌≤◌, length}
-use Rattle.wh_infer.proofs.known.Known.look.Given as goal
+use Rattle.wh_known.proofs.known.Known.look.Given as goal
 
 abbrev pub invariant-loop-place : goal.invariant-loop-place
 invariant-loop-place l = l.end ≤ length l.entries

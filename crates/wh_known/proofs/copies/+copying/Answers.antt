@@ -1,7 +1,7 @@
 use Rattle.std.proofs.Common.{ap, ◌∙◌}
-use Rattle.wh_infer.specs.Plain.{plain}
-use Rattle.wh_infer.proofs.PlainLemmas.{copied_next, copied_meta, copied_sym, copied_mark, copied_apply}
-use Rattle.wh_infer.proofs.copies.+copying.Goals as goal
+use Rattle.wh_known.specs.Plain.{plain}
+use Rattle.wh_known.proofs.PlainLemmas.{copied_next, copied_meta, copied_sym, copied_mark, copied_apply}
+use Rattle.wh_known.proofs.copies.+copying.Goals as goal
 
 pub copy_each-loop-item-preserved : goal.copy_each-loop-item-preserved
 copy_each-loop-item-preserved t c =

@@ -1,0 +1,14 @@
+//! What is known of goals of the path order while inferences for them are looked for: the least number of entries that
+//! shows each goal that was asked for, and choices by such numbers; and the goals that lines are for.
+#![tactic(auto)]
+
+mod choice;
+mod copies;
+mod entry;
+mod key;
+mod known;
+mod lines;
+
+pub use choice::{Choice, count_of, lesser};
+pub use known::Known;
+pub use lines::{strict_goal, weak_goal};
