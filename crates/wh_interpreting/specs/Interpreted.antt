@@ -1,5 +1,5 @@
 -- What the search for interpretations of a set ends with.
-use Rattle.std.specs.Prelude.{ℕ, ◌≢◌, List, Option, Some, None, length}
+use Rattle.std.specs.Prelude.{ℕ, List, Option, Some, None}
 use Rattle.wh_system.specs.Systems.{SystemData}
 use Rattle.wh_pairs.specs.PairData.{PairData}
 use Rattle.wh_cert.specs.Written as w
@@ -7,17 +7,13 @@ use Rattle.wh_cert.specs.declared.certificate.Node.{Node}
 use Rattle.wh_cert.specs.Said.{said_node}
 use Rattle.wh_sat.specs.declared.solving.Search.{Search}
 use Rattle.wh_sat.specs.declared.solving.Search.TheVariants as search
-use Rattle.wh_reduction.specs.TaskData.{numbers_from}
 use Rattle.wh_usable.specs.Closed.{IsUsable}
 use Rattle.wh_proof.specs.Looked.{poly_task}
 use Rattle.wh_guesses.specs.Conditions.{HasNoInterpretation}
 use Rattle.wh_guesses.specs.Found.{task_of, IsInterpretationOver}
 use Rattle.wh_blocking.specs.Answers.{IsSpent}
 use Rattle.wh_flat.specs.Flat.{IsFlat}
-
--- the list has not all rules
-abbrev pub HasFewer : SystemData → List ℕ → Type 0
-HasFewer d listed = listed ≢ numbers_from 0 (length d.rules)
+use Rattle.wh_interpreting.specs.Fewer.{HasFewer}
 
 -- the list, where there is one, is closed for the set and has not all rules (ours)
 abbrev pub IsShortList : SystemData → List PairData → List ℕ → Option (List ℕ) → Type 0

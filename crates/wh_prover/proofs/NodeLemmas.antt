@@ -25,7 +25,8 @@ use Rattle.wh_guesses.specs.Conditions.{HasNoInterpretation}
 use Rattle.wh_guesses.specs.Found.{task_of}
 use Rattle.wh_find_order.specs.Answers.{IsOrder}
 use Rattle.wh_prover.specs.Searched.{AreSearched, AreOrders}
-use Rattle.wh_interpreting.specs.Interpreted.{HasFewer, IsShortList, Interprets}
+use Rattle.wh_interpreting.specs.Fewer.{HasFewer}
+use Rattle.wh_interpreting.specs.Interpreted.{IsShortList, Interprets}
 use Rattle.wh_prover.specs.Versions.{IsMade}
 use Rattle.wh_cert.specs.Limits.{NodeFits, NodeWithin}
 use Rattle.wh_proof.specs.Nodes.{done, alone, blocks, subterm, poly, order, Leaves, by_done, by_alone, by_blocks, by_subterm, by_poly, by_order}

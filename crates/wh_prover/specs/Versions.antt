@@ -2,7 +2,7 @@
 use Rattle.std.specs.Prelude.{ℕ, ◌≡◌, ◌⊎◌, List, Some, None, Contains}
 use Rattle.wh_system.specs.Systems.{SystemData}
 use Rattle.wh_cert.specs.Written.{Node, interpretations, order, Cert, yes, no}
-use Rattle.wh_interpreting.specs.Interpreted.{HasFewer}
+use Rattle.wh_interpreting.specs.Fewer.{HasFewer}
 use Rattle.wh_prover.specs.Searched.{IsSearched}
 
 -- no node of the first version says the same: it is one of interpretations that lists not all rules, or one of a path order (ours)
