@@ -63,7 +63,7 @@ use Rattle.wh_checker.specs.declared.rejected.Rejected.TheVariants as row
 use Rattle.wh_proof.proofs.ChoiceLemmas.{one_list_said}
 use Rattle.wh_proof.proofs.InterpretationLemmas.{said_lists, marked_numbers, one_marks_said}
 use Rattle.wh_proof.proofs.FilterLemmas.{as_many_filters, one_mark_filters_said, marked_numbers as numbers_marked}
-use Rattle.wh_checker.proofs.NodeLemmas.{leaves_count}
+use Rattle.wh_proof.proofs.LeftSets.{leaves_count}
 use Rattle.wh_checker.proofs.CoveringLaws.{SmallFor}
 use Rattle.wh_checker.proofs.FaultLaws.{AreSmallFor, IsSmallFor}
 use Rattle.wh_proof.proofs.SomeSets.{sets_of_lists, whole_set, kept_set}

@@ -16,7 +16,8 @@ use Rattle.wh_checker.specs.Faults.{IsNodeFault, IsFirstNodeFault, at_first, beh
 use Rattle.wh_checker.specs.Walk.{HasCome}
 use Rattle.wh_proof.specs.GoesOn.{GoesOn, AreProvedBy}
 use Rattle.wh_checker.specs.declared.rejected.NodeFault.{NodeFault}
-use Rattle.wh_checker.proofs.NodeLemmas.{leaves_count, left_within}
+use Rattle.wh_proof.proofs.LeftSets.{leaves_count}
+use Rattle.wh_checker.proofs.NodeLemmas.{left_within}
 use Rattle.wh_proof.proofs.BlockLemmas.{reverse_push}
 
 abbrev Below : List PairData → List ℕ → Type 0

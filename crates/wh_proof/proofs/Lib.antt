@@ -5,3 +5,4 @@ pub mod SomeSets
 pub mod WrittenLemmas
 pub mod BlockLemmas
 pub mod OneNode
+pub mod LeftSets

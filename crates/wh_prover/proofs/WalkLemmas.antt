@@ -1,6 +1,6 @@
 -- The walk over the sets: where it begins, one node further, and where it ends.
-use Rattle.std.proofs.Common.{◌≡◌, ℕ, suc, ◌+◌, ◌^◌, ◌<◌, List, [], ◌∷◌, ◌++◌, length, map, reverse, All, refl, sym, ap, subst, ◌∙◌, append_assoc, arith}
-use Rattle.std.proofs.lemmas.List.{append-nil, length-append, map-append, reverse-append}
+use Rattle.std.proofs.Common.{◌≡◌, ℕ, ◌+◌, ◌^◌, ◌<◌, List, [], ◌∷◌, ◌++◌, length, map, reverse, All, sym, ap, subst, ◌∙◌, append_assoc, arith}
+use Rattle.std.proofs.lemmas.List.{append-nil, length-append, map-append}
 use Rattle.std.proofs.lemmas.List.Elements.{All-nil, All-cons, All-tail, All-append, All-push}
 use Rattle.wh_system.specs.Systems.{SystemData}
 use Rattle.wh_pairs.specs.PairData.{PairData}
@@ -9,9 +9,8 @@ use Rattle.wh_cert.specs.Written.{children, Preorder}
 use Rattle.wh_cert.specs.Limits.{NodeFits, NodeWithin}
 use Rattle.wh_cert.specs.Said.{said_node}
 use Rattle.wh_cert.specs.declared.certificate.Node as code
-use Rattle.wh_proof.specs.Nodes.{Node, done, alone, blocks, subterm, poly, order, AreSetsOf, no_sets, more_sets, Leaves, by_done, by_alone, by_blocks, by_subterm, by_poly, by_order}
+use Rattle.wh_proof.specs.Nodes.{Node}
 use Rattle.wh_proof.specs.Proves.{Proves, all_proved, one_proved}
-use Rattle.wh_proof.specs.Looked.{SaysNode}
 use Rattle.wh_proof.specs.Small.{AreSmall, all_small, one_small}
 use Rattle.wh_pairs.specs.Sets.{IsWhole}
 use Rattle.wh_proof.specs.GoesOn.{AreProvedBy}
@@ -20,52 +19,7 @@ use Rattle.wh_prover.specs.Versions.{IsMade}
 use Rattle.wh_prover.specs.Walk.{weigh, weight, Adds, HasWalked, IsTree}
 use Rattle.wh_prover.proofs.CountLemmas.{weight_append}
 use Rattle.wh_proof.proofs.BlockLemmas.{reverse_push}
-
-sets_count : (parts sets : List (List ℕ)) → AreSetsOf parts sets → length sets ≡ length parts
-sets_count [] [] no_sets = refl
-sets_count (part ∷ parts) (set ∷ sets) (more_sets is rest) = ap suc (sets_count parts sets rest)
-sets_count [] (set ∷ sets) none = elim none [ ]
-sets_count (part ∷ parts) [] none = elim none [ ]
-
--- a node leaves as many sets as its line has children
-leaves_count : (d : SystemData) (ps : List PairData) (set : List ℕ) (line : w.Node) (node : Node) (left : List (List ℕ))
-    → SaysNode d line node → Leaves d.symbols d.rules ps set node left → length left ≡ children line
-leaves_count d ps set w.done done left says by_done = refl
-leaves_count d ps set w.alone alone left says (by_alone free) = refl
-leaves_count d ps set (w.blocks listed) (blocks parts) left says (by_blocks are sets) = sets_count parts left sets ∙ ap length (sym says)
-leaves_count d ps set (w.subterm lines listed) (subterm args drop) left says (by_subterm is rest) = refl
-leaves_count d ps set (w.interpretations usable funs marks rules pairs listed) (poly covered R E) left says (by_poly is all rest) = refl
-leaves_count d ps set (w.order funs marks rules pairs listed) (order D E) left says (by_order is rest) = refl
-leaves_count d ps set w.done alone left says leaves = absurd says
-leaves_count d ps set w.done (blocks parts) left says leaves = absurd says
-leaves_count d ps set w.done (subterm args drop) left says leaves = absurd says
-leaves_count d ps set w.done (poly covered R E) left says leaves = absurd says
-leaves_count d ps set w.done (order D E) left says leaves = absurd says
-leaves_count d ps set w.alone done left says leaves = absurd says
-leaves_count d ps set w.alone (blocks parts) left says leaves = absurd says
-leaves_count d ps set w.alone (subterm args drop) left says leaves = absurd says
-leaves_count d ps set w.alone (poly covered R E) left says leaves = absurd says
-leaves_count d ps set w.alone (order D E) left says leaves = absurd says
-leaves_count d ps set (w.blocks listed) done left says leaves = absurd says
-leaves_count d ps set (w.blocks listed) alone left says leaves = absurd says
-leaves_count d ps set (w.blocks listed) (subterm args drop) left says leaves = absurd says
-leaves_count d ps set (w.blocks listed) (poly covered R E) left says leaves = absurd says
-leaves_count d ps set (w.blocks listed) (order D E) left says leaves = absurd says
-leaves_count d ps set (w.subterm lines listed) done left says leaves = absurd says
-leaves_count d ps set (w.subterm lines listed) alone left says leaves = absurd says
-leaves_count d ps set (w.subterm lines listed) (blocks parts) left says leaves = absurd says
-leaves_count d ps set (w.subterm lines listed) (poly covered R E) left says leaves = absurd says
-leaves_count d ps set (w.subterm lines listed) (order D E) left says leaves = absurd says
-leaves_count d ps set (w.interpretations usable funs marks rules pairs listed) done left says leaves = absurd says
-leaves_count d ps set (w.interpretations usable funs marks rules pairs listed) alone left says leaves = absurd says
-leaves_count d ps set (w.interpretations usable funs marks rules pairs listed) (blocks parts) left says leaves = absurd says
-leaves_count d ps set (w.interpretations usable funs marks rules pairs listed) (subterm args drop) left says leaves = absurd says
-leaves_count d ps set (w.interpretations usable funs marks rules pairs listed) (order D E) left says leaves = absurd says
-leaves_count d ps set (w.order funs marks rules pairs listed) done left says leaves = absurd says
-leaves_count d ps set (w.order funs marks rules pairs listed) alone left says leaves = absurd says
-leaves_count d ps set (w.order funs marks rules pairs listed) (blocks parts) left says leaves = absurd says
-leaves_count d ps set (w.order funs marks rules pairs listed) (subterm args drop) left says leaves = absurd says
-leaves_count d ps set (w.order funs marks rules pairs listed) (poly covered R E) left says leaves = absurd says
+use Rattle.wh_proof.proofs.LeftSets.{leaves_count}
 
 -- lists of lines with one more
 
