@@ -11,11 +11,11 @@ mod rows;
 use answers::add_answer;
 use components::add_count;
 use rows::{Sheet, add_rows};
-use std::alloc::AllocError;
+use std::alloc::{AllocError, Global};
 use std::env;
 use std::process::ExitCode;
 use std::rt::{Env, Files};
-use wh_io::{FileShelf, StdSink, read_whole, write_all_of};
+use wh_io::{FileShelf, Shelf, StdSink, read_whole, write_all_of};
 use wh_types::Bytes;
 
 /// What is done with a file.
@@ -52,15 +52,25 @@ fn lines<R: Env + Files + AllocGlobal>(rt: &R) -> Result<Bytes, AllocError> {
             "answers" => task = Task::Answers,
             "components" => task = Task::Components,
             "rows" => task = Task::Rows,
-            file => {
-                let bytes = read_whole(alloc, &mut shelf, file, SYSTEM_LIMIT).or(Err(AllocError))?;
-                match task {
-                    Task::Answers => add_answer(alloc, file, &bytes, &mut text)?,
-                    Task::Components => add_count(alloc, &bytes, &mut text)?,
-                    Task::Rows => add_rows(alloc, file, &bytes, &mut sheet, &mut text)?,
-                }
-            }
+            file => add_file(alloc, &mut shelf, task, file, &mut sheet, &mut text)?,
         }
     }
     Ok(text)
+}
+
+// What is made of one file joins the text.
+fn add_file<S: Shelf>(
+    alloc: Global,
+    shelf: &mut S,
+    task: Task,
+    file: &str,
+    sheet: &mut Sheet,
+    text: &mut Bytes,
+) -> Result<(), AllocError> {
+    let bytes = read_whole(alloc, shelf, file, SYSTEM_LIMIT).or(Err(AllocError))?;
+    match task {
+        Task::Answers => add_answer(alloc, file, &bytes, text),
+        Task::Components => add_count(alloc, &bytes, text),
+        Task::Rows => add_rows(alloc, file, &bytes, sheet, text),
+    }
 }

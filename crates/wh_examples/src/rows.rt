@@ -5,6 +5,7 @@ pub mod running;
 pub mod sheet;
 pub mod spelling;
 pub mod sweeps;
+pub mod verbs;
 
 pub use self::sheet::Sheet;
 use self::sheet::obey;

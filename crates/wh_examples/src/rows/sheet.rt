@@ -1,10 +1,11 @@
 //! The lines of a sheet.
 
-use crate::rows::running::{Ending, Faults, Given, SOUND, ended, words_of};
+use crate::rows::running::{Faults, Given, SOUND, ended, words_of};
 use crate::rows::spelling::{Named, name_text, number_of, spelled, spelled_each};
 use crate::rows::sweeps::{
-    decides_neighbours, finds, leaves_fronts, reads_back, rejects_cuts, rejects_foreign,
+    decides_neighbours, is_accepted, leaves_fronts, reads_back, rejects_cuts, rejects_foreign,
 };
+use crate::rows::verbs::{Verb, verb_of};
 use std::alloc::{AllocError, Global};
 use wh_types::Bytes;
 
@@ -34,8 +35,8 @@ impl Sheet {
         })
     }
 
-    // The run of the words over the system and the changed certificate.
-    fn run(&mut self, alloc: Global) -> Result<Ending, AllocError> {
+    // Runs the words over the system and the changed certificate, and keeps how that ended.
+    fn run(&mut self, alloc: Global) -> Result<(), AllocError> {
         let end = ended(
             alloc,
             self.given.words.as_slice(),
@@ -46,7 +47,7 @@ impl Sheet {
         self.status = end.status;
         self.told = copied(alloc, end.out.bytes())?;
         self.given.faults = SOUND;
-        Ok(end)
+        Ok(())
     }
 }
 
@@ -66,47 +67,55 @@ fn copied(alloc: Global, bytes: &[u8]) -> Result<Bytes, AllocError> {
 
 /// Does what the line asks for; if it is a row, says whether the run ends as it is to.
 pub fn obey(alloc: Global, sheet: &mut Sheet, line: &str) -> Result<Option<bool>, AllocError> {
-    let (verb, rest) = line.split_once(' ').unwrap_or((line, ""));
+    let (word, rest) = line.split_once(' ').unwrap_or((line, ""));
+    let verb = verb_of(word);
     match verb {
-        "" | "#" => Ok(None),
-        "let" | "each" | "words" | "system" | "certificate" | "change" | "faults" => {
-            prepare(alloc, sheet, verb, rest)?;
-            Ok(None)
+        Verb::Remark => Ok(None),
+        Verb::Let
+        | Verb::Each
+        | Verb::Words
+        | Verb::System
+        | Verb::Certificate
+        | Verb::Change
+        | Verb::Faults => prepare(alloc, sheet, verb, rest),
+        Verb::Writes | Verb::Ends | Verb::Begins | Verb::Closes | Verb::Finds => {
+            judge(alloc, sheet, verb, rest)
         }
-        "writes" | "ends" | "begins" | "closes" | "finds" => Ok(Some(judge(
-            alloc, sheet, verb, rest,
-        )?)),
-        _ => Ok(Some(sweep(alloc, sheet, verb, rest)?)),
+        _ => sweep(alloc, sheet, verb, rest),
     }
 }
 
-// A line that says what the next runs are given.
-fn prepare(alloc: Global, sheet: &mut Sheet, verb: &str, rest: &str) -> Result<(), AllocError> {
+// A line that says what the next runs are given, and is no row.
+fn prepare(
+    alloc: Global,
+    sheet: &mut Sheet,
+    verb: Verb,
+    rest: &str,
+) -> Result<Option<bool>, AllocError> {
     match verb {
-        "let" | "each" => define(alloc, sheet, verb, rest),
-        "words" => give_words(alloc, sheet, rest),
-        "system" => {
-            sheet.given.system = spelled(alloc, sheet.texts.as_slice(), rest)?;
-            Ok(())
-        }
-        "certificate" => give_certificate(alloc, sheet, rest),
-        "change" => change(alloc, sheet, rest),
-        _ => {
-            sheet.given.faults = faults_of(rest);
-            Ok(())
-        }
+        Verb::Let => name(alloc, sheet, rest)?,
+        Verb::Each => name_each(alloc, sheet, rest)?,
+        Verb::Words => give_words(alloc, sheet, rest)?,
+        Verb::System => sheet.given.system = spelled(alloc, sheet.texts.as_slice(), rest)?,
+        Verb::Certificate => give_certificate(alloc, sheet, rest)?,
+        Verb::Change => change(alloc, sheet, rest)?,
+        _ => sheet.given.faults = faults_of(rest),
     }
+    Ok(None)
 }
 
-// `let NAME TEXT` and `each NAME TIMES TEXT`.
-fn define(alloc: Global, sheet: &mut Sheet, verb: &str, rest: &str) -> Result<(), AllocError> {
+// `let NAME TEXT`.
+fn name(alloc: Global, sheet: &mut Sheet, rest: &str) -> Result<(), AllocError> {
     let (name, raw) = rest.split_once(' ').unwrap_or((rest, ""));
-    let text = if verb == "let" {
-        spelled(alloc, sheet.texts.as_slice(), raw)?
-    } else {
-        let (times, each) = raw.split_once(' ').unwrap_or((raw, ""));
-        spelled_each(alloc, sheet.texts.as_slice(), each, number_of(times))?
-    };
+    let text = spelled(alloc, sheet.texts.as_slice(), raw)?;
+    name_text(alloc, &mut sheet.texts, name, text)
+}
+
+// `each NAME TIMES TEXT`.
+fn name_each(alloc: Global, sheet: &mut Sheet, rest: &str) -> Result<(), AllocError> {
+    let (name, raw) = rest.split_once(' ').unwrap_or((rest, ""));
+    let (times, each) = raw.split_once(' ').unwrap_or((raw, ""));
+    let text = spelled_each(alloc, sheet.texts.as_slice(), each, number_of(times))?;
     name_text(alloc, &mut sheet.texts, name, text)
 }
 
@@ -165,43 +174,77 @@ fn faults_of(rest: &str) -> Faults {
 }
 
 // A row of one run.
-fn judge(alloc: Global, sheet: &mut Sheet, verb: &str, rest: &str) -> Result<bool, AllocError> {
-    let end = sheet.run(alloc)?;
-    if verb == "finds" {
-        let front = spelled(alloc, sheet.texts.as_slice(), rest)?;
-        return finds(alloc, &sheet.given, front.as_slice(), &end);
+fn judge(
+    alloc: Global,
+    sheet: &mut Sheet,
+    verb: Verb,
+    rest: &str,
+) -> Result<Option<bool>, AllocError> {
+    sheet.run(alloc)?;
+    let is_as_told = match verb {
+        Verb::Finds => finds_front(alloc, sheet, rest)?,
+        _ => ends_as(alloc, sheet, verb, rest)?,
+    };
+    Ok(Some(is_as_told))
+}
+
+// `finds TEXT`.
+fn finds_front(alloc: Global, sheet: &Sheet, rest: &str) -> Result<bool, AllocError> {
+    let front = spelled(alloc, sheet.texts.as_slice(), rest)?;
+    let told = sheet.told.as_slice();
+    if sheet.status != 0 || !told.starts_with(front.as_slice()) {
+        return Ok(false);
     }
+    is_accepted(alloc, sheet.given.system.as_slice(), told)
+}
+
+// `writes STATUS TEXT` and the like.
+fn ends_as(alloc: Global, sheet: &Sheet, verb: Verb, rest: &str) -> Result<bool, AllocError> {
     let (status, raw) = rest.split_once(' ').unwrap_or((rest, ""));
     let text = spelled(alloc, sheet.texts.as_slice(), raw)?;
-    let told = end.out.bytes();
-    let is_told = match verb {
-        "writes" => told == text.as_slice(),
-        "begins" => told.starts_with(text.as_slice()),
-        "closes" => told.ends_with(text.as_slice()),
+    let is_told = compares(verb, sheet.told.as_slice(), text.as_slice());
+    Ok(is_told && u32::from(sheet.status) == number_of(status))
+}
+
+// Whether what was told is as the text asks.
+fn compares(verb: Verb, told: &[u8], text: &[u8]) -> bool {
+    match verb {
+        Verb::Writes => told == text,
+        Verb::Begins => told.starts_with(text),
+        Verb::Closes => told.ends_with(text),
         _ => true,
-    };
-    Ok(is_told && u32::from(end.status) == number_of(status))
+    }
 }
 
 // A row of many runs.
-fn sweep(alloc: Global, sheet: &mut Sheet, verb: &str, rest: &str) -> Result<bool, AllocError> {
+fn sweep(
+    alloc: Global,
+    sheet: &mut Sheet,
+    verb: Verb,
+    rest: &str,
+) -> Result<Option<bool>, AllocError> {
     let certificate = sheet.changed.as_slice();
-    match verb {
-        "cuts" => rejects_cuts(alloc, &sheet.given, certificate),
-        "foreign" => rejects_foreign(alloc, &sheet.given, certificate),
-        "neighbours" => decides_neighbours(alloc, &sheet.given, certificate),
-        "rereads" => reads_back(alloc, &sheet.given),
-        "fronts" => {
-            let (piece, raw) = rest.split_once(' ').unwrap_or((rest, ""));
-            let text = spelled(alloc, sheet.texts.as_slice(), raw)?;
-            leaves_fronts(
-                alloc,
-                &sheet.given,
-                certificate,
-                number_of(piece),
-                text.as_slice(),
-            )
-        }
-        _ => Ok(false),
-    }
+    let given = &sheet.given;
+    Ok(Some(match verb {
+        Verb::Cuts => rejects_cuts(alloc, given, certificate)?,
+        Verb::Foreign => rejects_foreign(alloc, given, certificate)?,
+        Verb::Neighbours => decides_neighbours(alloc, given, certificate)?,
+        Verb::Rereads => reads_back(alloc, given)?,
+        Verb::Fronts => fronts(alloc, &*sheet, rest)?,
+        _ => false,
+    }))
+}
+
+// `fronts PIECE TEXT`.
+fn fronts(alloc: Global, sheet: &Sheet, rest: &str) -> Result<bool, AllocError> {
+    let (piece, raw) = rest.split_once(' ').unwrap_or((rest, ""));
+    let text = spelled(alloc, sheet.texts.as_slice(), raw)?;
+    let certificate = sheet.changed.as_slice();
+    leaves_fronts(
+        alloc,
+        &sheet.given,
+        certificate,
+        number_of(piece),
+        text.as_slice(),
+    )
 }

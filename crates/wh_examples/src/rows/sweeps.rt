@@ -1,6 +1,6 @@
 //! Rows for each place of a certificate or of what is written, and rows of what a run reads of what another one wrote.
 
-use crate::rows::running::{Ending, Faults, Given, SOUND, ended, words_of, writes};
+use crate::rows::running::{Faults, Given, SOUND, ended, words_of, writes};
 use std::alloc::{AllocError, Global};
 use wh_types::Bytes;
 
@@ -145,17 +145,13 @@ fn shows(alloc: Global, words: &[String], system: &[u8], text: &[u8]) -> Result<
     Ok(end.status == 0 && end.out.bytes() == text)
 }
 
-/// Whether a search ends with status 0 and writes a text with this front, which a check accepts where it is a certificate.
-pub fn finds(alloc: Global, given: &Given, front: &[u8], end: &Ending) -> Result<bool, AllocError> {
-    let text = end.out.bytes();
-    if end.status != 0 || !text.starts_with(front) {
-        return Ok(false);
-    }
+/// Whether a check accepts what a search wrote, where it is a certificate, and where it is none, whether it begins with `MAYBE`.
+pub fn is_accepted(alloc: Global, system: &[u8], text: &[u8]) -> Result<bool, AllocError> {
     if text.starts_with(b"YES ") {
-        return accepts(alloc, given.system.as_slice(), text, b"YES\n");
+        return accepts(alloc, system, text, b"YES\n");
     }
     if text.starts_with(b"NO ") {
-        return accepts(alloc, given.system.as_slice(), text, b"NO\n");
+        return accepts(alloc, system, text, b"NO\n");
     }
     Ok(text.starts_with(b"MAYBE "))
 }
