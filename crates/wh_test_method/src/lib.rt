@@ -5,23 +5,15 @@
 #![tactic(auto)]
 
 #[cfg(test)]
-mod chance;
-#[cfg(test)]
-mod chance_rows;
-#[cfg(test)]
 mod circuit_rows;
 #[cfg(test)]
 mod family_rows;
 #[cfg(test)]
 mod formulas;
 #[cfg(test)]
-mod learner_rows;
-#[cfg(test)]
 mod list_rows;
 #[cfg(test)]
 mod method_rows;
-#[cfg(test)]
-mod plain_solver;
 #[cfg(test)]
 mod projection_rows;
 #[cfg(test)]
