@@ -26,7 +26,7 @@ use wh_pairs::PairSet;
 use wh_proof::filters_of_lines;
 use wh_reduction::{Task, all_rules};
 use wh_tell::{Names, Text, names_of_rule, put_pair_line, put_rule_line, tell_line};
-use wh_tell_parts::{is_within, put_dropped, put_filters, put_inferred};
+use wh_tell_parts::{Comparison, is_within, put_dropped, put_filters, put_inferred};
 use wh_trees::Tree;
 use wh_types::{Or, is_in};
 
@@ -163,7 +163,7 @@ fn put_rules<'a>(
         put_rule_line(text, task.system, rule, depth)?;
         let names = names_of_rule(task.system, rule);
         let line = node.rules.as_slice().get(i);
-        put_line(text, &names, &left, &right, line, false, depth)?;
+        put_line(text, &names, compared(&left, &right, false), line, depth)?;
     }
     Ok(())
 }
@@ -191,7 +191,7 @@ fn put_pairs<'a>(
         let names = names_of_rule(task.system, pair.rule);
         let line = node.pairs.as_slice().get(i);
         let greater = is_in(node.drop.as_slice(), number);
-        put_line(text, &names, &left, &right, line, greater, depth)?;
+        put_line(text, &names, compared(&left, &right, greater), line, depth)?;
     }
     Ok(())
 }
@@ -200,21 +200,33 @@ fn put_pairs<'a>(
 fn put_line(
     text: &mut Text,
     names: &Names<'_>,
-    left: &Option<Tree>,
-    right: &Option<Tree>,
+    sides: Option<Comparison<'_>>,
     line: Option<&Inference>,
-    greater: bool,
     depth: u32,
 ) -> Result<(), AllocError> {
     let inner = depth.saturating_add(1);
-    match (left, right, line) {
-        (Some(left), Some(right), Some(line)) => {
-            put_inferred(text, names, left, right, line, greater, inner)
-        }
+    match (sides, line) {
+        (Some(sides), Some(line)) => put_inferred(text, names, sides, line, inner),
         _ => {
             let words = "there is no line for it, or a side has too many nodes";
             tell_line(text, inner, words, &[])
         }
+    }
+}
+
+// What is compared, where there are both sides.
+fn compared<'a>(
+    left: &'a Option<Tree>,
+    right: &'a Option<Tree>,
+    greater: bool,
+) -> Option<Comparison<'a>> {
+    match (left, right) {
+        (Some(left), Some(right)) => Some(Comparison {
+            left,
+            right,
+            greater,
+        }),
+        _ => None,
     }
 }
 

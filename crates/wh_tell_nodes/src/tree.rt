@@ -12,7 +12,7 @@ use wh_judging::Problem;
 use wh_pairs::{PairSet, kept, numbers_below, set_of};
 use wh_tell::Piece::Count;
 use wh_tell::{Text, put_numbers, put_pairs, tell, tell_line};
-use wh_tell_parts::put_projection;
+use wh_tell_parts::{Projected, put_projection};
 use wh_types::counted;
 
 /// A set of pairs that a node is to deal with, and how deep that node stands in the tree.
@@ -68,8 +68,10 @@ fn put_node(
             &problem.system,
             problem.pairs.as_slice(),
             level.set.as_slice(),
-            args.as_slice(),
-            drop.as_slice(),
+            Projected {
+                args: args.as_slice(),
+                drop: drop.as_slice(),
+            },
             depth,
         ),
         Node::Poly(node) => put_interpretation(alloc, text, problem, &level.set, node, depth),

@@ -184,6 +184,7 @@ fn put_rules<'a, 'b>(
             left: &left,
             right: &right,
             moves: node.rules.as_slice().get(i),
+            dropped: false,
         };
         put_rule_values(text, task.system, rule, &valued, depth)?;
     }
@@ -213,9 +214,9 @@ fn put_pairs<'a, 'b>(
             left: &left,
             right: &right,
             moves: node.pairs.as_slice().get(i),
+            dropped: is_in(node.drop.as_slice(), number),
         };
-        let dropped = is_in(node.drop.as_slice(), number);
-        put_pair_values(text, task.system, number, pair, &valued, dropped, depth)?;
+        put_pair_values(text, task.system, number, pair, &valued, depth)?;
     }
     Ok(())
 }

@@ -4,6 +4,21 @@ use std::alloc::AllocError;
 use wh_tell::{Names, Text, put_bound, put_meta, put_name};
 use wh_trees::{Tree, Trees};
 
+// What stands around arguments, where there are any.
+#[derive(Clone, Copy)]
+struct Signs<'a> {
+    first: &'a [u8],
+    between: &'a [u8],
+    end: &'a str,
+}
+
+// Around those of a meta-variable.
+const BRACKETS: Signs<'static> = Signs {
+    first: b"[",
+    between: b",",
+    end: "]",
+};
+
 /// Appends a filtered tree below so many binders; a spine that is bare has no parentheses.
 #[cycle(filtered)]
 pub fn put_filtered_tree(
@@ -21,18 +36,18 @@ pub fn put_filtered_tree(
         }
         Tree::Meta(meta, _, items) => {
             put_meta(text, names.metas, *meta)?;
-            put_enclosed(text, names, items, depth, b"[", b",", "]")
+            put_enclosed(text, names, items, depth, BRACKETS)
         }
         Tree::Sym(symbol, items) => {
             text.say(front(bare, items))?;
             put_name(text, names.funs, *symbol)?;
-            put_enclosed(text, names, items, depth, b" ", b" ", back(bare))
+            put_enclosed(text, names, items, depth, blanks(bare))
         }
         Tree::Mark(symbol, items) => {
             text.say(front(bare, items))?;
             put_name(text, names.funs, *symbol)?;
             text.say("#")?;
-            put_enclosed(text, names, items, depth, b" ", b" ", back(bare))
+            put_enclosed(text, names, items, depth, blanks(bare))
         }
         Tree::Lam(_, body) => {
             text.say("(\\$")?;
@@ -44,7 +59,7 @@ pub fn put_filtered_tree(
         Tree::Apply(head, items) => {
             text.say(front(bare, items))?;
             put_filtered_tree(text, names, head, depth, true)?;
-            put_enclosed(text, names, items, depth, b" ", b" ", back(bare))
+            put_enclosed(text, names, items, depth, blanks(bare))
         }
     }
 }
@@ -58,30 +73,32 @@ fn front(bare: bool, items: &Trees) -> &'static str {
     }
 }
 
-// What stands behind a spine with arguments.
-fn back(bare: bool) -> &'static str {
-    if bare { "" } else { ")" }
+// What stands around those of a spine.
+fn blanks(bare: bool) -> Signs<'static> {
+    Signs {
+        first: b" ",
+        between: b" ",
+        end: if bare { "" } else { ")" },
+    }
 }
 
-// Appends arguments behind signs, and an end where there are any.
+// Appends arguments with their signs.
 #[cycle(filtered)]
 fn put_enclosed(
     text: &mut Text,
     names: &Names<'_>,
     items: &Trees,
     depth: u32,
-    first: &[u8],
-    other: &[u8],
-    end: &str,
+    signs: Signs<'_>,
 ) -> Result<(), AllocError> {
-    let mut sign = first;
+    let mut sign = signs.first;
     for item in items.as_slice() {
         text.spell(sign)?;
         put_filtered_tree(text, names, item, depth, false)?;
-        sign = other;
+        sign = signs.between;
     }
     if items.as_slice().is_empty() {
         return Ok(());
     }
-    text.say(end)
+    text.say(signs.end)
 }

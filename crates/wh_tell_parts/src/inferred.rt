@@ -56,21 +56,30 @@ struct Claim<'a> {
     below: u32,
 }
 
-/// Appends the inferences that show that the left side is at least the right one, or greater where that is asked.
+/// Two sides that are compared.
+#[derive(Clone, Copy)]
+pub struct Comparison<'a> {
+    /// The left side.
+    pub left: &'a Tree,
+    /// The right side.
+    pub right: &'a Tree,
+    /// Whether the left one is to be greater, and not at least the right one alone.
+    pub greater: bool,
+}
+
+/// Appends the inferences that show what is to be shown of the two sides.
 pub fn put_inferred(
     text: &mut Text,
     names: &Names<'_>,
-    left: &Tree,
-    right: &Tree,
+    sides: Comparison<'_>,
     inference: &Inference,
-    greater: bool,
     depth: u32,
 ) -> Result<(), AllocError> {
     let claim = Claim {
-        words: if greater { GREATER } else { LEAST },
-        left,
+        words: if sides.greater { GREATER } else { LEAST },
+        left: sides.left,
         above: 0,
-        right,
+        right: sides.right,
         below: 0,
     };
     put_inference(text, names, Some(claim), inference, depth)

@@ -13,9 +13,9 @@ mod valued;
 mod within;
 
 pub use closest::put_closest_projection;
-pub use inferred::{put_filters, put_inferred};
+pub use inferred::{Comparison, put_filters, put_inferred};
 pub use loops::{put_attempt, put_loop};
-pub use projected::{put_dropped, put_projection};
+pub use projected::{Projected, put_dropped, put_projection};
 pub use stepping::term_after;
 pub use valued::{Valued, put_pair_values, put_readings, put_rule_values};
 pub use within::is_within;

@@ -8,24 +8,32 @@ use wh_system::System;
 use wh_tell::Piece::{Number, Spell};
 use wh_tell::{Text, put_numbers, put_pair_line, tell};
 
-/// Appends which argument of each symbol is looked at, and what becomes of it in each pair of the set.
+/// What a node of a projection says.
+#[derive(Clone, Copy)]
+pub struct Projected<'a> {
+    /// Which argument of each symbol is looked at.
+    pub args: &'a [Arg],
+    /// Which pairs are dropped.
+    pub drop: &'a [u32],
+}
+
+/// Appends which argument of each symbol is looked at, what becomes of it in each pair of the set, and which pairs are dropped.
 pub fn put_projection<'a>(
     text: &mut Text,
     system: &'a System,
     pairs: &'a [Pair],
     set: &[u32],
-    args: &[Arg],
-    drop: &[u32],
+    node: Projected<'_>,
     depth: u32,
 ) -> Result<(), AllocError> {
-    put_choices(text, args, depth)?;
+    put_choices(text, node.args, depth)?;
     for number in set {
         if let Some(pair) = pairs.get(*number as usize) {
             put_pair_line(text, system, *number, pair, depth)?;
-            put_looked_at(text, system, pair, args, depth.saturating_add(1))?;
+            put_looked_at(text, system, pair, node.args, depth.saturating_add(1))?;
         }
     }
-    put_dropped(text, drop, depth)
+    put_dropped(text, node.drop, depth)
 }
 
 // Appends which argument of each symbol is looked at.

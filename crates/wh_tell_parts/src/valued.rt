@@ -34,8 +34,8 @@ pub fn put_readings<'a>(
     Ok(())
 }
 
-/// What both sides of a rule or pair are worth, if no value passes a limit, and the line of moves between them, if
-/// there is one.
+/// What both sides of a rule or pair are worth, if no value passes a limit, the line of moves between them, if there is
+/// one, and what it has to leave.
 #[derive(Clone, Copy)]
 pub struct Valued<'a> {
     /// The left side.
@@ -44,6 +44,8 @@ pub struct Valued<'a> {
     pub right: &'a Option<Poly>,
     /// The moves.
     pub moves: Option<&'a Moves>,
+    /// Whether a unit of the left side's constant has to be left over, as in a pair that is dropped.
+    pub dropped: bool,
 }
 
 /// Appends a rule and what its sides are worth.
@@ -57,7 +59,7 @@ pub fn put_rule_values(
     put_rule_line(text, system, rule, depth)?;
     let names = names_of_rule(system, rule);
     put_variables(text, &names, names.metas.len(), depth)?;
-    put_valued(text, valued, false, depth.saturating_add(1))
+    put_valued(text, valued, depth.saturating_add(1))
 }
 
 /// Appends a pair and what its sides are worth, and for a pair that is dropped whether a unit of its constant is
@@ -68,13 +70,12 @@ pub fn put_pair_values(
     number: u32,
     pair: &Pair,
     valued: &Valued<'_>,
-    dropped: bool,
     depth: u32,
 ) -> Result<(), AllocError> {
     put_pair_line(text, system, number, pair, depth)?;
     let names = names_of_rule(system, pair.rule);
     put_variables(text, &names, pair.metas.as_slice().len(), depth)?;
-    put_valued(text, valued, dropped, depth.saturating_add(1))
+    put_valued(text, valued, depth.saturating_add(1))
 }
 
 // Appends which variable stands for which meta-variable.
@@ -99,12 +100,7 @@ fn put_variables(
 }
 
 // Appends both sides and what is moved; and what is left of the constant where that is asked.
-fn put_valued(
-    text: &mut Text,
-    valued: &Valued<'_>,
-    dropped: bool,
-    depth: u32,
-) -> Result<(), AllocError> {
+fn put_valued(text: &mut Text, valued: &Valued<'_>, depth: u32) -> Result<(), AllocError> {
     let (Some(left), Some(right)) = (valued.left, valued.right) else {
         return tell_line(text, depth, "the value of a side passes a limit", &[]);
     };
@@ -115,7 +111,7 @@ fn put_valued(
     };
     put_moves(text, left, right, moves.as_slice(), depth)?;
     put_wanting(text, right, moves.as_slice(), depth)?;
-    if dropped {
+    if valued.dropped {
         tell_line(text, depth, words_of(left, moves.as_slice()), &[])?;
     }
     Ok(())

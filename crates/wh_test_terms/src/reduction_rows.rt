@@ -206,57 +206,57 @@ fn stops_where_a_result_does_not_fit(rt: HostRuntime) -> Result<(), Fail> {
     Ok(())
 }
 
-/// A system, a term, a certificate of the term's leftmost-outermost steps, how many they are, and where they lead.
-const REPLAYED: &[(&[u8], &[u8], &[u8], u32, &[u8])] = &[
-    (
-        PARTIAL,
-        b"(f zero)",
-        b"NO 1\nterm (f zero)\nstep 0 /\nstep 1 /\nat /\nend\n",
-        2,
-        b"(f1 f0)",
-    ),
-    (
-        UNDER_BINDER,
-        b"(g %0:o)",
-        b"NO 1\nterm (g %0:o)\nstep 0 /\nstep 0 /10\nat /\nend\n",
-        2,
-        b"(f0 \\0.(f0 \\0.(f1 #0)))",
-    ),
+/// A reduction that a certificate lists.
+#[derive(Clone, Copy)]
+struct Replayed<'a> {
+    system: &'a [u8],
+    term: &'a [u8],
+    /// That of the term's leftmost-outermost steps.
+    certificate: &'a [u8],
+    /// How many they are.
+    steps: u32,
+    /// Where they lead.
+    last: &'a [u8],
+}
+
+const REPLAYED: &[Replayed<'static>] = &[
+    Replayed {
+        system: PARTIAL,
+        term: b"(f zero)",
+        certificate: b"NO 1\nterm (f zero)\nstep 0 /\nstep 1 /\nat /\nend\n",
+        steps: 2,
+        last: b"(f1 f0)",
+    },
+    Replayed {
+        system: UNDER_BINDER,
+        term: b"(g %0:o)",
+        certificate: b"NO 1\nterm (g %0:o)\nstep 0 /\nstep 0 /10\nat /\nend\n",
+        steps: 2,
+        last: b"(f0 \\0.(f0 \\0.(f1 #0)))",
+    },
 ];
 
 /// The same term comes of the steps that a certificate lists and of as many leftmost-outermost ones.
-fn expect_both(
-    rt: &impl Abort,
-    alloc: Global,
-    system: &[u8],
-    term: &[u8],
-    certificate: &[u8],
-    steps: u32,
-    last: &[u8],
-) -> Result<(), AllocError> {
-    expect_answer(
-        rt,
-        alloc,
-        Asked::In(system, Question::Call(Call::Replay, certificate)),
-        last,
-    )?;
+fn expect_both(rt: &impl Abort, alloc: Global, row: Replayed<'_>) -> Result<(), AllocError> {
+    let listed = Question::Call(Call::Replay, row.certificate);
+    expect_answer(rt, alloc, Asked::In(row.system, listed), row.last)?;
     let mut expected = Bytes::new(alloc)?;
-    print_number(&mut expected, steps)?;
+    print_number(&mut expected, row.steps)?;
     expected.push(b' ')?;
-    expected.append(last)?;
+    expected.append(row.last)?;
     expected.append(b" spent")?;
     expect_answer(
         rt,
         alloc,
-        Asked::In(system, Question::Reduce(term, steps)),
+        Asked::In(row.system, Question::Reduce(row.term, row.steps)),
         expected.as_slice(),
     )
 }
 
 #[test]
 fn goes_where_a_certificate_goes(rt: HostRuntime) -> Result<(), Fail> {
-    for (system, term, certificate, steps, last) in REPLAYED {
-        expect_both(&rt, rt.alloc(), *system, *term, *certificate, *steps, *last)?;
+    for row in REPLAYED {
+        expect_both(&rt, rt.alloc(), *row)?;
     }
     Ok(())
 }
