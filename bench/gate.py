@@ -8,6 +8,10 @@ The prover's processes below the command are looked at twice a second, with the 
 used between the last look and its end, and all that is not the prover (`rt` itself, compiling, linking, running tests and
 programs), is in the row "rest": the total is what the system counts for the command.
 
+A processor that shares its core with other work, on a virtual machine also that of others, is slower at one time than at
+another. So a fixed piece of work is timed every ten seconds; the last line says how long it took on average and at best, and what
+the whole would have taken had the processors been as fast all the time as they were at best.
+
 The budget is 2 minutes of one processor for 1,000 lines of src, specs and proofs, all told.
 """
 
@@ -23,6 +27,7 @@ TOP = os.path.dirname(os.path.dirname(os.path.abspath(__file__)))
 TICKS = os.sysconf("SC_CLK_TCK")
 KINDS = ("proof", "tests", "edits")
 BUDGET = 2.0
+LOOKS_FOR_A_PIECE = 20
 
 
 def stat_of(pid):
@@ -49,6 +54,15 @@ def prover_of(pid):
     if os.path.basename(folder).startswith("rt-edit-"):
         return crate, "edits"
     return crate, "tests" if "--test" in words else "proof"
+
+
+def time_of_piece():
+    """The processor seconds of a fixed piece of work: how fast a processor is at this moment."""
+    begun = time.thread_time()
+    found = {}
+    for number in range(40_000):
+        found[number * 2_654_435_761 & 0xFFFFF] = number
+    return time.thread_time() - begun
 
 
 class Watch:
@@ -111,7 +125,7 @@ def listed():
         return re.findall(r"(?m)^(\w+)(?: \w+)*:", file.read())
 
 
-def show(found, total, elapsed):
+def show(found, total, elapsed, pieces):
     crates = [crate for crate in listed() if crate in found]
     print(f"\n{'crate':16}{'lines':>8}{'proof':>9}{'tests':>9}{'edits':>9}{'all':>9}{'min per 1,000':>15}")
     sums, lines = dict.fromkeys(KINDS, 0.0), 0
@@ -128,6 +142,9 @@ def show(found, total, elapsed):
     rate = total / 60 / max(lines, 1) * 1000
     print(f"{'all':16}{lines:8,}{cells}{total:9.0f}{rate:15.2f}")
     print(f"{total / 60:.0f} processor minutes in {elapsed / 60:.0f} minutes; the budget is {BUDGET} a 1,000 lines, here {lines * BUDGET / 1000:.0f}")
+    if pieces:
+        mean, best = sum(pieces) / len(pieces), min(pieces)
+        print(f"a fixed piece of work took {mean * 1000:.1f} ms, {best * 1000:.1f} at best, and by that the whole {total / 60 * best / mean:.0f} minutes")
 
 
 def main():
@@ -137,11 +154,15 @@ def main():
     before = resource.getrusage(resource.RUSAGE_CHILDREN)
     begun = time.monotonic()
     command = subprocess.Popen(sys.argv[1:])
-    watch, ended = Watch(command.pid), threading.Event()
+    watch, ended, pieces = Watch(command.pid), threading.Event(), []
 
     def keep_looking():
+        looks = 0
         while not ended.wait(0.5):
             watch.look()
+            looks += 1
+            if looks % LOOKS_FOR_A_PIECE == 0:
+                pieces.append(time_of_piece())
 
     looker = threading.Thread(target=keep_looking)
     looker.start()
@@ -152,7 +173,7 @@ def main():
         looker.join()
     after = resource.getrusage(resource.RUSAGE_CHILDREN)
     total = after.ru_utime + after.ru_stime - before.ru_utime - before.ru_stime
-    show(watch.table(), total, time.monotonic() - begun)
+    show(watch.table(), total, time.monotonic() - begun, pieces)
     return status
 
 
