@@ -3,7 +3,6 @@
 use crate::calls::{Call, add_called};
 use crate::rank_rows::add_found_ranks;
 use crate::reading::read;
-use crate::reduction_rows::add_reduction;
 use crate::term_rows::{add_part, add_type_of};
 use std::alloc::{AllocError, Global};
 use std::process::Abort;
@@ -29,8 +28,6 @@ pub enum Question<'a> {
     Type(&'a [u8]),
     /// The answer to a call on the term of a certificate.
     Call(Call, &'a [u8]),
-    /// What the term of a text reduces to by at most that many leftmost-outermost steps.
-    Reduce(&'a [u8], u32),
 }
 
 /// The text of the answer about a system.
@@ -44,7 +41,6 @@ fn add_answer_about(
         Question::Ranks => add_found_ranks(alloc, out, system),
         Question::Type(text) => add_type_of(alloc, out, system, text),
         Question::Call(call, text) => add_called(alloc, out, call, system, text),
-        Question::Reduce(text, steps) => add_reduction(alloc, out, system, text, steps),
     }
 }
 

@@ -19,8 +19,6 @@ mod rank_rows;
 #[cfg(test)]
 mod reading;
 #[cfg(test)]
-mod reduction_rows;
-#[cfg(test)]
 mod spelling;
 #[cfg(test)]
 mod stack;

@@ -231,8 +231,36 @@ pub fn add_end(
     add_outcome(out, &outcome)
 }
 
-/// Certificates whose second step fails.
-const FAILING: &[(Asked, &[u8])] = &[
+/// A symbol that is passed without its argument, and a loop.
+const PARTIAL: &[u8] =
+    b"sort nat;fun zero:nat;fun f:nat->nat;fun h:(nat->nat)->nat;rule {X:nat} f X => h f;rule {F:nat->nat} h F => F zero;";
+
+/// A loop below a binder.
+const UNDER_BINDER: &[u8] = b"sort o;fun k:(o->o)->o;fun g:o->o;rule {X:o} g X => k (\\x:o.g x);";
+
+/// Certificates of leftmost-outermost steps, which the row of `reduce` with the same terms goes, too; and some whose second
+/// step fails.
+const REPLAYED: &[(Asked, &[u8])] = &[
+    (
+        Asked::In(
+            PARTIAL,
+            Question::Call(
+                Call::Replay,
+                b"NO 1\nterm (f zero)\nstep 0 /\nstep 1 /\nat /\nend\n",
+            ),
+        ),
+        b"(f1 f0)",
+    ),
+    (
+        Asked::In(
+            UNDER_BINDER,
+            Question::Call(
+                Call::Replay,
+                b"NO 1\nterm (g %0:o)\nstep 0 /\nstep 0 /10\nat /\nend\n",
+            ),
+        ),
+        b"(f0 \\0.(f0 \\0.(f1 #0)))",
+    ),
     (
         Asked::In(
             SWAP,
@@ -266,8 +294,8 @@ const FAILING: &[(Asked, &[u8])] = &[
 ];
 
 #[test]
-fn tells_the_first_step_that_fails(rt: HostRuntime) -> Result<(), Fail> {
-    expect_answers(&rt, rt.alloc(), FAILING)?;
+fn tells_where_steps_lead_or_which_fails(rt: HostRuntime) -> Result<(), Fail> {
+    expect_answers(&rt, rt.alloc(), REPLAYED)?;
     Ok(())
 }
 
@@ -280,7 +308,7 @@ fn add_times(text: &mut Vec<u8>, times: u32, item: &[u8]) -> Result<(), AllocErr
 }
 
 /// A number of items, what stands in their middle, and something behind it for each.
-pub fn add_nest(
+fn add_nest(
     text: &mut Vec<u8>,
     times: u32,
     open: &[u8],

@@ -2,7 +2,7 @@
 
 ghost use Rattle.std.specs.Prelude.{◌<◌, ◌-◌, ◌^◌, length};
 
-use crate::certificate_rows::{BLOCKS, LOOP, ORDER, POLY, PUT, SUBTERM, USABLE, add_place};
+use crate::certificates::{BLOCKS, LOOP, ORDER, POLY, PUT, SUBTERM, USABLE, add_place};
 use crate::comparing::expect_text;
 use std::alloc::{AllocError, Global};
 use std::test::Fail;

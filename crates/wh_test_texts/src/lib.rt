@@ -1,5 +1,5 @@
-//! Rows of lists and types, of tokens and printed texts, of answers and certificates, of inferences and filters, and of files and sinks, with answers from outside,
-//! and each public call at least once with ample memory.
+//! Rows of lists and types, of tokens and printed texts, of answers, of certificates that are fed or upgraded, and of files and
+//! sinks. What texts of certificates are read stands in the sheet `certificates.rows` of the program's rows.
 //!
 //! Like wh_test_method, this crate has tests alone: a library with tests of its own would be proved a second time with them. The
 //! rows stand in tables, and where it is shorter as texts that the libraries read. What the calls answer is proved; that
@@ -9,15 +9,13 @@
 #[cfg(test)]
 mod answer_rows;
 #[cfg(test)]
-mod certificate_rows;
+mod certificates;
 #[cfg(test)]
 mod comparing;
 #[cfg(test)]
 mod feeding_rows;
 #[cfg(test)]
 mod list_rows;
-#[cfg(test)]
-mod order_rows;
 #[cfg(test)]
 mod outside_rows;
 #[cfg(test)]

@@ -1,6 +1,6 @@
 //! Certificates of version 1 as those of version 2.
 
-use crate::certificate_rows::{LOOP, ORDER, PUT, USABLE};
+use crate::certificates::{LOOP, ORDER, PUT, USABLE};
 use crate::comparing::expect_text;
 use std::alloc::{AllocError, Global};
 use std::process::Abort;
