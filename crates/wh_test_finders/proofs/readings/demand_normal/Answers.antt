@@ -6,7 +6,7 @@ use Rattle.wh_pairs.proofs.ByPlace.{read_map, before_more, map_length}
 use Rattle.wh_poly.specs.Polynomials.{Normal}
 use Rattle.wh_hopoly.specs.Erase.{interpretation, interpretations}
 use Rattle.wh_poly.specs.Erase.{poly}
-use Rattle.wh_test_numbered.proofs.readings.demand_normal.Goals as goal
+use Rattle.wh_test_finders.proofs.readings.demand_normal.Goals as goal
 
 pub loop-symbol-preserved : goal.loop-symbol-preserved
 loop-symbol-preserved c =

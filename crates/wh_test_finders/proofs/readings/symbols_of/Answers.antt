@@ -2,8 +2,8 @@ use Rattle.std.proofs.Common.{ap, ◌∙◌}
 use Rattle.std.proofs.lemmas.List.{take_all}
 use Rattle.wh_types.specs.Erase.{tys}
 use Rattle.wh_terms.specs.Typing.{Symbols}
-use Rattle.wh_test_numbered.proofs.ReadKinds.{kinds_next}
-use Rattle.wh_test_numbered.proofs.readings.symbols_of.Goals as goal
+use Rattle.wh_test_finders.proofs.ReadKinds.{kinds_next}
+use Rattle.wh_test_finders.proofs.readings.symbols_of.Goals as goal
 
 pub loop-i-preserved : goal.loop-i-preserved
 loop-i-preserved c =

@@ -4,8 +4,8 @@ use Rattle.wh_types.specs.Erase.{ty}
 use Rattle.wh_terms.specs.Erase.{tm}
 use Rattle.wh_system.specs.SystemView.{system_data}
 use Rattle.wh_intern.specs.TableTrees.{trees}
-use Rattle.wh_test_numbered.proofs.ReadAndTyped.{left_typed}
-use Rattle.wh_test_numbered.proofs.polynomial_rows.is_worth.Goals as goal
+use Rattle.wh_test_finders.proofs.ReadAndTyped.{left_typed}
+use Rattle.wh_test_finders.proofs.polynomial_rows.is_worth.Goals as goal
 
 pub side_by_number-worth-requires-clause-proper : goal.side_by_number-worth-requires-clause-proper
 side_by_number-worth-requires-clause-proper c = c.requires

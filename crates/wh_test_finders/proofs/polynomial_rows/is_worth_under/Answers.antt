@@ -1,6 +1,6 @@
 use Rattle.wh_system.specs.SystemView.{system_data}
-use Rattle.wh_test_numbered.proofs.ReadAndTyped.{proper}
-use Rattle.wh_test_numbered.proofs.polynomial_rows.is_worth_under.Goals as goal
+use Rattle.wh_test_finders.proofs.ReadAndTyped.{proper}
+use Rattle.wh_test_finders.proofs.polynomial_rows.is_worth_under.Goals as goal
 
 pub is_worth-requires : goal.is_worth-requires
 is_worth-requires c =
