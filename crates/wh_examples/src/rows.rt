@@ -23,7 +23,7 @@ pub fn add_rows(
 ) -> Result<(), AllocError> {
     let lines = str::from_utf8(bytes.as_slice()).or(Err(AllocError))?;
     let mut rows = 0u32;
-    for (number, line) in lines.lines().enumerate() {
+    for (number, line) in lines.split('\n').enumerate() {
         match obey(alloc, sheet, line)? {
             None => {}
             Some(true) => rows = rows.saturating_add(1),

@@ -107,8 +107,8 @@ pub fn put_rule_line(
             "rule @: @ => @",
             &[
                 Number(number),
-                Tree(names, &rule.left),
-                Tree(names, &rule.right),
+                Tree(&names, &rule.left),
+                Tree(&names, &rule.right),
             ],
         ),
         None => tell_line(text, depth, "rule @", &[Number(number)]),

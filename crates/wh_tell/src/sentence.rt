@@ -27,7 +27,7 @@ pub enum Piece<'a> {
     /// The name of a meta-variable by its number.
     Unknown(&'a [Name], u32),
     /// A term that stands below no binder.
-    Tree(Names<'a>, &'a Term),
+    Tree(&'a Names<'a>, &'a Term),
     /// A polynomial.
     Sum(&'a Poly),
 }

@@ -26,7 +26,7 @@ pub fn put_compared<'a>(
                 text,
                 0,
                 "@ becomes @: @.",
-                &[Tree(names, from), Tree(names, to), Say(words)],
+                &[Tree(&names, from), Tree(&names, to), Say(words)],
             )
         }
         _ => text.say("There is no such argument.\n"),
