@@ -235,9 +235,6 @@ pub fn add_end(
 const PARTIAL: &[u8] =
     b"sort nat;fun zero:nat;fun f:nat->nat;fun h:(nat->nat)->nat;rule {X:nat} f X => h f;rule {F:nat->nat} h F => F zero;";
 
-/// A loop below a binder.
-const UNDER_BINDER: &[u8] = b"sort o;fun k:(o->o)->o;fun g:o->o;rule {X:o} g X => k (\\x:o.g x);";
-
 /// Certificates of leftmost-outermost steps, which the row of `reduce` with the same terms goes, too; and some whose second
 /// step fails.
 const REPLAYED: &[(Asked, &[u8])] = &[
