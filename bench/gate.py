@@ -9,8 +9,8 @@ used between the last look and its end, and all that is not the prover (`rt` its
 programs), is in the row "rest": the total is what the system counts for the command.
 
 A processor that shares its core with other work, on a virtual machine also that of others, is slower at one time than at
-another. So a fixed piece of work is timed every ten seconds; the last line says how long it took on average and at best, and what
-the whole would have taken had the processors been as fast all the time as they were at best.
+another. So a fixed piece of work is timed every ten seconds. The last line says how long it took on average and in the
+fastest sample, and what the whole would have taken at that speed: a bound from below, and no measurement.
 
 The budget is 2 minutes of one processor for 1,000 lines of src, specs and proofs, all told.
 """
@@ -144,7 +144,8 @@ def show(found, total, elapsed, pieces):
     print(f"{total / 60:.0f} processor minutes in {elapsed / 60:.0f} minutes; the budget is {BUDGET} a 1,000 lines, here {lines * BUDGET / 1000:.0f}")
     if pieces:
         mean, best = sum(pieces) / len(pieces), min(pieces)
-        print(f"a fixed piece of work took {mean * 1000:.1f} ms, {best * 1000:.1f} at best, and by that the whole {total / 60 * best / mean:.0f} minutes")
+        print(f"a fixed piece of work took {mean * 1000:.1f} ms on average and {best * 1000:.1f} in the fastest of {len(pieces)} samples;")
+        print(f"at that speed all the time the whole could not have taken less than {total / 60 * best / mean:.0f} processor minutes")
 
 
 def main():
