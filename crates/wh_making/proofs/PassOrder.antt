@@ -1,11 +1,21 @@
 -- The tests of a rule by groups: where the first fault of a group is that of the whole.
-use Rattle.std.proofs.Common.{◌≡◌, List, ◌++◌, Some, None, Result, Ok, Err, IsErrAnd, sym, ◌∙◌, subst}
+use Rattle.std.proofs.Common.{◌≡◌, List, [], ◌∷◌, ◌++◌, Option, Some, None, Result, Ok, Err, IsErrAnd, not, ap, sym, ◌∙◌, subst}
+use Rattle.std.proofs.lemmas.List.{append_assoc}
+use Rattle.wh_types.specs.Ty.{Ty}
 use Rattle.wh_types.specs.Outcome.{MatchOr}
 use Rattle.wh_types.specs.declared.want.Or.{Or}
 use Rattle.wh_types.specs.declared.want.Or.TheVariants.{NoMemory, Because}
+use Rattle.wh_text.specs.RawTree.{RTm}
+use Rattle.wh_parts.specs.Parts.{RRule}
+use Rattle.wh_parts.specs.Naming.{Scope}
+use Rattle.wh_parts.specs.Kinds.{kind_of}
+use Rattle.wh_parts.specs.Tests.{naming_tests, term_offset, test}
+use Rattle.wh_parts.specs.RuleTests.{same_kind}
 use Rattle.wh_parts.specs.declared.fault.SystemFault.{SystemFault}
+use Rattle.wh_parts.specs.declared.fault.SystemFault.TheVariants.{IllTyped}
 use Rattle.wh_parts.specs.Faults.{Test, first_fault, Passes}
 use Rattle.wh_parts.proofs.FaultLemmas.{fault_after, fault_in_first, no_fault_in_both}
+use Rattle.wh_making.specs.RulePasses.{sides_tests}
 
 -- an error that is handed on
 pub handed : {T U : Type 0} (xs ys : List Test) (r : Result U (Or SystemFault)) (e : Or SystemFault) (P : T → Type 0) (Q : U → Type 0) → IsErrAnd r (λ x. x ≡ e)
@@ -27,19 +37,17 @@ in_second xs ys rest f a b = fault_in_first (xs ++ ys) rest f (fault_after xs ys
 pub in_first : (xs ys rest : List Test) (f : SystemFault) → first_fault xs ≡ Some f → first_fault (xs ++ ys ++ rest) ≡ Some f
 in_first xs ys rest f a = fault_in_first (xs ++ ys) rest f (fault_in_first xs ys f a)
 
--- all tests of a rule that look at no other rule: its declarations, its two sides' limits, what its names stand for, and its form
-module _ (D L R S F : List Test) where
-  pub declared_first : (f : SystemFault) → first_fault D ≡ Some f → first_fault (D ++ ((L ++ R) ++ (S ++ F))) ≡ Some f
-  declared_first f e = fault_in_first D ((L ++ R) ++ (S ++ F)) f e
+-- a side of one of these types is to have the type that is wanted
+abbrev pub typed_tests : Option Ty → Option Ty → RTm → List Test
+typed_tests wanted given side = test (not (same_kind wanted given)) (IllTyped (term_offset side)) ∷ []
 
-  pub left_next : (f : SystemFault) → first_fault D ≡ None → first_fault L ≡ Some f → first_fault (D ++ ((L ++ R) ++ (S ++ F))) ≡ Some f
-  left_next f d e = fault_after D ((L ++ R) ++ (S ++ F)) d ∙ in_first L R (S ++ F) f e
-
-  pub right_next : (f : SystemFault) → first_fault D ≡ None → first_fault L ≡ None → first_fault R ≡ Some f → first_fault (D ++ ((L ++ R) ++ (S ++ F))) ≡ Some f
-  right_next f d l e = fault_after D ((L ++ R) ++ (S ++ F)) d ∙ in_second L R (S ++ F) f l e
-
-  pub after_limits : first_fault D ≡ None → first_fault L ≡ None → first_fault R ≡ None → first_fault (D ++ ((L ++ R) ++ (S ++ F))) ≡ first_fault (S ++ F)
-  after_limits d l r = fault_after D ((L ++ R) ++ (S ++ F)) d ∙ after_both L R (S ++ F) l r
+-- where the names and types of a left side are right, those of the right one come next
+pub typed_next : (s : Scope) (r : RRule) (wanted : Option Ty) → first_fault (naming_tests s [] r.left) ≡ None → kind_of s [] r.left ≡ wanted
+    → first_fault (sides_tests s r) ≡ first_fault (naming_tests s [] r.right ++ typed_tests wanted (kind_of s [] r.right) r.right)
+typed_next s r wanted passed is =
+    ap first_fault (append_assoc (naming_tests s [] r.left) (naming_tests s [] r.right) (typed_tests (kind_of s [] r.left) (kind_of s [] r.right) r.right))
+    ∙ fault_after (naming_tests s [] r.left) (naming_tests s [] r.right ++ typed_tests (kind_of s [] r.left) (kind_of s [] r.right) r.right) passed
+    ∙ ap (λ (o : Option Ty). first_fault (naming_tests s [] r.right ++ typed_tests o (kind_of s [] r.right) r.right)) is
 
 -- all tests of parts: the sorts, the symbols, the number of rules, and the rules
 module _ (A B C D : List Test) where

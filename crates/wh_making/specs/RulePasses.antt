@@ -35,11 +35,14 @@ form_tests s r =
     open_tests r.left ++ open_tests r.right ++ test (not (is_some (head_symbol s r.left))) (HeadNotFun (term_offset r.left))
     ∷ (pattern_tests s [] r.left ++ new_meta_tests s r.left [] r.right)
 
+-- all tests of the two sides: their limits, what their names stand for, and their form
+abbrev pub both_tests : Scope → RRule → List Test
+both_tests s r = (side_tests r.left ++ side_tests r.right) ++ (sides_tests s r ++ form_tests s r)
+
 -- all tests of a rule that look at no other rule
 abbrev pub own_tests : Scope → RRule → List Test
 own_tests s r =
-    (meta_count r.metas ++ meta_tests s.sorts s.funs []
-    r.metas) ++ ((side_tests r.left ++ side_tests r.right) ++ (sides_tests s r ++ form_tests s r))
+    (meta_count r.metas ++ meta_tests s.sorts s.funs [] r.metas) ++ both_tests s r
 
 -- the number of arguments is not the one that is needed, if one is
 abbrev pub differs : ℕ → Option ℕ → Bool

@@ -7,7 +7,8 @@ ghost use Rattle.wh_types.specs.Ty.{SortsBelow};
 ghost use Rattle.wh_types.specs.Erase.{ty};
 ghost use Rattle.wh_terms.specs.Erase.{tm, tms};
 ghost use Rattle.wh_text.specs.Erase.{rty, rtys, rtm, rtms};
-ghost use Rattle.wh_system.specs.Canonical.{IsNamedBelow, AreNamedBelow, join_types, raw_type_of, raw_arguments_of, raw_below, each_raw_below, raw_of, with_argument};
+ghost use Rattle.wh_text.specs.RawTree.{RTm, spine};
+ghost use Rattle.wh_system.specs.Canonical.{IsNamedBelow, AreNamedBelow, and_last, join_types, raw_type_of, raw_arguments_of, raw_below, each_raw_below, raw_of, with_argument};
 ghost use Rattle.wh_system.specs.CanonicalView.{names_of_system};
 ghost use Rattle.wh_making.specs.TermNamesView.{term_names};
 ghost use Rattle.wh_making.specs.Resolve.{Means};
@@ -113,20 +114,24 @@ fn raw_each(
 fn with_argument(alloc: Global, function: RawTerm, argument: RawTerm) -> Result<RawTerm, AllocError>
     ensures { IfOk result (λ whole. rtm whole ≡ with_argument (rtm function) (rtm argument)) }
 {
-    match function {
-        RawTerm::Spine(head, mut items, at) => {
-            items.push(argument)?;
-            Ok(RawTerm::Spine(head, items, at))
-        }
+    let (head, mut items, at) = spine_parts(alloc, function)?;
+    items.push(argument)?;
+    Ok(RawTerm::Spine(head, items, at))
+}
+
+// The head of a term, its arguments, and the byte where it stands, to which one argument more may join: a term that is
+// no spine is a head without arguments.
+fn spine_parts(alloc: Global, term: RawTerm) -> Result<(Box<RawTerm>, RawTerms, u32), AllocError>
+    ensures { IfOk result (λ parts. (u : RTm) → with_argument (rtm term) u
+        ≡ spine (rtm parts.0.value) (and_last (rtms parts.1) u) parts.2) }
+{
+    match term {
+        RawTerm::Spine(head, items, at) => Ok((head, items, at)),
         head @ (RawTerm::Named(_, _)
         | RawTerm::Numbered(_, _)
         | RawTerm::Free(_, _, _)
         | RawTerm::Meta(_, _, _)
-        | RawTerm::Lam(_, _, _, _)) => {
-            let mut items = RawTerms::new(alloc)?;
-            items.push(argument)?;
-            Ok(RawTerm::Spine(Box::new(alloc, head)?, items, 0))
-        }
+        | RawTerm::Lam(_, _, _, _)) => Ok((Box::new(alloc, head)?, RawTerms::new(alloc)?, 0)),
     }
 }
 

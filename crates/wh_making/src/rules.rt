@@ -1,17 +1,19 @@
 //! The rules of a system: each with its names looked up, in the order of the tests.
 
-ghost use Rattle.std.specs.Prelude.{ℕ, ◌≡◌, ◌<◌, List, [], ◌∷◌, Option, Some, None, true, false, MatchResult, OnErr, length, map, slice_get, slice_index_or, slice_set};
-ghost use Rattle.wh_types.specs.Erase.{tys};
+ghost use Rattle.std.specs.Prelude.{ℕ, ◌≡◌, ◌<◌, ◌++◌, not, List, [], ◌∷◌, Option, Some, None, true, false, MatchResult, OnErr, length, map, slice_get, slice_index_or, slice_set};
+ghost use Rattle.wh_types.specs.Erase.{ty, tys};
+ghost use Rattle.wh_text.specs.Erase.{rtm};
 ghost use Rattle.wh_terms.specs.Erase.{rewrite_rules, tm};
 ghost use Rattle.wh_parts.specs.Erase.{rparts, rrule};
 ghost use Rattle.wh_parts.specs.Faults.{Passes};
 ghost use Rattle.wh_parts.specs.Naming.{meant};
-ghost use Rattle.wh_parts.specs.RuleTests.{head_symbol, rules_tests, type_of_raw};
-ghost use Rattle.wh_parts.specs.Tests.{fun_names, sort_names};
-ghost use Rattle.wh_parts.specs.declared.fault.SystemFault.TheVariants.{UnevenRules};
+ghost use Rattle.wh_parts.specs.Kinds.{kind_of};
+ghost use Rattle.wh_parts.specs.RuleTests.{head_symbol, rules_tests, same_kind, type_of_raw};
+ghost use Rattle.wh_parts.specs.Tests.{fun_names, naming_tests, sort_names, term_offset, test};
+ghost use Rattle.wh_parts.specs.declared.fault.SystemFault.TheVariants.{IllTyped, UnevenRules};
 ghost use Rattle.wh_resolve.specs.InScope.{scope as in_scope};
 ghost use Rattle.wh_system.specs.Needs.{need_of};
-ghost use Rattle.wh_making.specs.RulePasses.{IsResolvedRule, differs, form_tests, own_tests, scope_over, sides_tests};
+ghost use Rattle.wh_making.specs.RulePasses.{IsResolvedRule, both_tests, differs, form_tests, own_tests, scope_over};
 ghost use Rattle.wh_making.specs.RulesPassed.{AreResolvedRules};
 
 use crate::tables::list_of;
@@ -21,8 +23,8 @@ use wh_resolve::{
     Scope, arguments_of, check_new_metas, check_open, check_pattern, head_of, resolve_side,
 };
 use wh_terms::{Rule, Term};
-use wh_text::Name;
-use wh_types::{List, Or, same_type};
+use wh_text::{Name, RawTerm};
+use wh_types::{List, Or, SimpleType, same_type};
 
 /// A rule with its names looked up.
 #[derive(Drop)]
@@ -104,8 +106,7 @@ fn resolve_rule(
         (IsResolvedRule (scope_over sorts.now funs.now.names (tys funs.now.kinds) (rrule raw.now)) (rrule raw.now)) }
 {
     let metas = declare_metas(alloc, sorts, &funs.names, raw.metas.as_slice())?;
-    check_side(&raw.left)?;
-    check_side(&raw.right)?;
+    let meta_names = list_of(alloc, &metas.names)?;
     let scope = Scope {
         sorts,
         funs: &funs.names,
@@ -113,10 +114,8 @@ fn resolve_rule(
         metas: &metas.names,
         declared: &metas.declared,
     };
-    let (left, right) = resolve_sides(alloc, &scope, raw)?;
-    let head = check_form(alloc, &scope, raw, &left, &right)?;
+    let (left, right, head) = checked_sides(alloc, &scope, raw)?;
     let count = arguments_of(&raw.left);
-    let meta_names = list_of(alloc, &metas.names)?;
     let rule = Rule {
         metas: metas.declared,
         left,
@@ -130,24 +129,42 @@ fn resolve_rule(
     })
 }
 
-// The sides with their names looked up, which have one type.
-fn resolve_sides(
+// The sides of a rule with their names looked up, which have one type, and the symbol that heads the left one.
+fn checked_sides(
     alloc: Global,
     scope: &Scope,
     raw: &RawRule,
-) -> Result<(Term, Term), Or<SystemFault>>
-    ensures { Passes (sides_tests (in_scope scope.now) (rrule raw.now)) result
+) -> Result<(Term, Term, u32), Or<SystemFault>>
+    ensures { Passes (both_tests (in_scope scope.now) (rrule raw.now)) result
         (λ sides. (meant (in_scope scope.now) [] (rrule raw.now).left ≡ Some (tm sides.0))
-        × (meant (in_scope scope.now) [] (rrule raw.now).right ≡ Some (tm sides.1))) }
+        × (meant (in_scope scope.now) [] (rrule raw.now).right ≡ Some (tm sides.1))
+        × (head_symbol (in_scope scope.now) (rrule raw.now).left ≡ Some sides.2)) }
 {
-    let (left, left_kind) = resolve_side(alloc, scope, &raw.left)?;
-    let (right, right_kind) = resolve_side(alloc, scope, &raw.right)?;
-    if !same_type(&left_kind, &right_kind) {
-        return Err(Or::Because(SystemFault::IllTyped {
-            at: offset(&raw.right),
-        }));
+    check_side(&raw.left)?;
+    check_side(&raw.right)?;
+    let (left, kind) = resolve_side(alloc, scope, &raw.left)?;
+    let right = resolve_typed(alloc, scope, &kind, &raw.right)?;
+    let head = check_form(alloc, scope, raw, &left, &right)?;
+    Ok((left, right, head))
+}
+
+// The side with its names looked up, which has this type.
+fn resolve_typed(
+    alloc: Global,
+    scope: &Scope,
+    kind: &SimpleType,
+    side: &RawTerm,
+) -> Result<Term, Or<SystemFault>>
+    ensures { Passes (naming_tests (in_scope scope.now) [] (rtm side.now)
+        ++ test (not (same_kind (Some (ty kind.now)) (kind_of (in_scope scope.now) [] (rtm side.now))))
+        (IllTyped (term_offset (rtm side.now))) ∷ [])
+        result (λ term. meant (in_scope scope.now) [] (rtm side.now) ≡ Some (tm term)) }
+{
+    let (term, own) = resolve_side(alloc, scope, side)?;
+    if !same_type(kind, &own) {
+        return Err(Or::Because(SystemFault::IllTyped { at: offset(side) }));
     }
-    Ok((left, right))
+    Ok(term)
 }
 
 // The symbol that heads the left side of a rule, whose sides stand for the terms and have the form that a rule's have.

@@ -160,10 +160,27 @@ pub fn abstracted<'a>(
     ensures term { IfOk result (λ whole. tm whole.term ≡ lam (ty kind) (tm body.entry.term)) }
     ensures kind { IfOk result (λ whole. type_of whole.kind ≡ ty kind ⇒ type_of body.entry.kind) }
 {
-    let own = kind.copy(alloc)?;
-    let rest = body.kind.into_type(alloc)?;
+    let Resolved { term, kind: rest } = body;
+    let whole = arrow(alloc, &kind, rest)?;
+    let term = abstraction(alloc, kind, term)?;
     Ok(Resolved {
-        term: Term::Lam(own, Box::new(alloc, body.term)?),
-        kind: Kind::Own(SimpleType::Arrow(Box::new(alloc, kind)?, Box::new(alloc, rest)?)),
+        term,
+        kind: Kind::Own(whole),
     })
+}
+
+// The type of the functions from the one type to the other.
+fn arrow(alloc: Global, domain: &SimpleType, rest: Kind) -> Result<SimpleType, AllocError>
+    ensures { IfOk result (λ whole. ty whole ≡ ty domain.now ⇒ type_of rest.entry) }
+{
+    let rest = Box::new(alloc, rest.into_type(alloc)?)?;
+    let domain = Box::new(alloc, domain.copy(alloc)?)?;
+    Ok(SimpleType::Arrow(domain, rest))
+}
+
+// The body below a binder, whose variable has the type.
+fn abstraction(alloc: Global, kind: SimpleType, body: Term) -> Result<Term, AllocError>
+    ensures { IfOk result (λ whole. tm whole ≡ lam (ty kind) (tm body)) }
+{
+    Ok(Term::Lam(kind, Box::new(alloc, body)?))
 }
