@@ -37,8 +37,7 @@ fn put_arguments(text: &mut Text, arguments: &Polys) {
         put_poly(text, argument);
         sign = b",";
     }
-    if arguments.as_slice().is_empty() {
-        return;
+    if !arguments.as_slice().is_empty() {
+        text.say(")");
     }
-    text.say(")");
 }

@@ -60,8 +60,7 @@ fn put_bracketed(text: &mut Text, names: &Names<'_>, items: &Terms, depth: u32) 
         put_term(text, names, item, depth, false);
         sign = b",";
     }
-    if items.as_slice().is_empty() {
-        return;
+    if !items.as_slice().is_empty() {
+        text.say("]");
     }
-    text.say("]");
 }

@@ -84,8 +84,7 @@ fn put_enclosed(text: &mut Text, names: &Names<'_>, items: &Trees, depth: u32, s
         put_filtered_tree(text, names, item, depth, false);
         sign = signs.between;
     }
-    if items.as_slice().is_empty() {
-        return;
+    if !items.as_slice().is_empty() {
+        text.say(signs.end);
     }
-    text.say(signs.end);
 }
