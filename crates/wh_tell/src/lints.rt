@@ -97,24 +97,33 @@ fn put_mismatch(text: &mut Text, place: &Place<'_>, wanted: &Wanted, argument: &
         ],
     );
     put_term(text, names, argument, depth, false);
-    text.say(", and all rules of ");
     tell(
         text,
-        "@ want an abstraction@ there: ",
+        ", and all rules of @ want an abstraction@ there: @\n",
         &[
             Named(names.funs, wanted.symbol),
-            Say(if wanted.binders > 1 {
-                " of several variables"
-            } else {
-                ""
-            }),
+            Say(extent(wanted)),
+            Say(consequence(argument)),
         ],
     );
-    text.say(match argument {
-        Term::Meta(..) | Term::Bound(_) => "they apply only where an abstraction comes for it.\n",
-        _ => "they don't apply to it.\n",
-    });
     put_expanded(text, place.system, names, wanted, argument, depth);
+}
+
+// What is said of how many variables the abstraction is to have.
+fn extent(wanted: &Wanted) -> &'static str {
+    if wanted.binders > 1 {
+        " of several variables"
+    } else {
+        ""
+    }
+}
+
+// What is said of the rules at an argument that is no abstraction.
+fn consequence(argument: &Term) -> &'static str {
+    match argument {
+        Term::Meta(..) | Term::Bound(_) => "they apply only where an abstraction comes for it.",
+        _ => "they don't apply to it.",
+    }
 }
 
 // Looks for meta-variables of a rule that are not used or that stand twice on the left.

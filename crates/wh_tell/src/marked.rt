@@ -90,10 +90,8 @@ impl<'a> Place<'a> {
 
 // The rest of the path, if it goes that way.
 fn path_after<'a>(path: Option<&'a [u8]>, way: u8) -> Option<&'a [u8]> {
-    match path?.split_first() {
-        Some((first, rest)) if *first == way => Some(rest),
-        _ => None,
-    }
+    let (first, rest) = path?.split_first()?;
+    if *first == way { Some(rest) } else { None }
 }
 
 // Whether the path ends here.

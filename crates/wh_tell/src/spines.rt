@@ -44,18 +44,20 @@ pub fn count_arguments(term: &Term) -> u32 {
     count
 }
 
-/// The argument of that index, counted from 0; `None` where there are not so many.
-pub fn argument_at(term: &Term, index: u32) -> Option<&Term> {
+/// How many abstractions the argument of that index, counted from 0, begins with; none where there are not so many
+/// arguments.
+pub fn binders_at(term: &Term, index: u32) -> u32 {
     let mut place = count_arguments(term);
+    let mut count: u32 = 0;
     let mut here = term;
     while let Term::App(function, argument) = here {
         place = place.saturating_sub(1);
         if place == index {
-            return Some(argument);
+            count = binders_of(argument);
         }
         here = function;
     }
-    None
+    count
 }
 
 /// How many abstractions a term begins with.

@@ -1,7 +1,7 @@
 //! Arguments that are abstractions on the left of all rules of a symbol, so that none of them applies to another argument.
 
 use crate::names::number_of;
-use crate::spines::{argument_at, binders_of, symbol_of};
+use crate::spines::{binders_at, symbol_of};
 use std::alloc::{AllocError, Global};
 use wh_system::System;
 use wh_terms::Rule;
@@ -46,11 +46,7 @@ fn binders_wanted(rules: &[Rule], symbol: u32, place: u32) -> u32 {
     let mut least = u32::MAX;
     for rule in rules {
         if symbol_of(&rule.left) == Some(symbol) {
-            let here = match argument_at(&rule.left, place) {
-                Some(argument) => binders_of(argument),
-                None => 0,
-            };
-            least = least.min(here);
+            least = least.min(binders_at(&rule.left, place));
         }
     }
     if least == u32::MAX { 0 } else { least }
