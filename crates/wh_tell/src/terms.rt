@@ -46,7 +46,7 @@ pub fn put_term(text: &mut Text, names: &Names<'_>, term: &Term, depth: u32, bar
 
 /// Appends a bound variable: `$` and the number of binders above its own one.
 pub fn put_bound(text: &mut Text, depth: u32, outward: u32) {
-    let level = depth.saturating_sub(outward.saturating_add(1));
+    let level = depth.saturating_sub(outward).saturating_sub(1);
     text.say("$");
     text.number(level as u128);
 }
