@@ -29,22 +29,22 @@ pub fn put_cause(
 ) -> Result<(), AllocError>
     requires { HasPairs (system_data problem.now.system) (pairs_data problem.now.pairs) }
 {
-    text.say("\n")?;
+    text.say("\n");
     match cause {
         Cause::NoRanks(cause) => put_no_ranks(alloc, text, problem, cause),
         Cause::Stuck(set) => {
-            text.say(NONE_LETS_GO)?;
+            text.say(NONE_LETS_GO);
             let words = "No loop of at most @ steps begins at the left side of a rule.";
-            tell_line(text, 0, words, &[Number(options.depth)])?;
+            tell_line(text, 0, words, &[Number(options.depth)]);
             put_stuck(alloc, text, problem, set)
         }
         Cause::Spent { finder, set, .. } => {
-            put_spent(text, *finder)?;
+            put_spent(text, *finder);
             put_stuck(alloc, text, problem, set)
         }
         Cause::Full(_) => {
-            text.say(NONE_LETS_GO)?;
-            text.say("The search for loops found none, and kept as many terms as it may.\n")?;
+            text.say(NONE_LETS_GO);
+            text.say("The search for loops found none, and kept as many terms as it may.\n");
             put_without_loops(alloc, text, problem, options)
         }
     }
@@ -65,44 +65,45 @@ fn put_no_ranks(
                 0,
                 "Rule @ uses @, which its left side has only within an argument of a bound variable.",
                 &[Number(*rule), Unknown(names.metas, *meta)],
-            )?;
+            );
         }
         NoRanks::Cycle(sorts) => {
-            put_cycle(text, problem, sorts.as_slice())?;
+            put_cycle(text, problem, sorts.as_slice());
             put_demands(alloc, text, &problem.system)?;
         }
     }
-    text.say("So no certificate of this format is a proof for the system.\n")
+    text.say("So no certificate of this format is a proof for the system.\n");
+    Ok(())
 }
 
 // Appends the cycle of sorts.
-fn put_cycle(text: &mut Text, problem: &Problem, sorts: &[u32]) -> Result<(), AllocError> {
+fn put_cycle(text: &mut Text, problem: &Problem, sorts: &[u32]) {
     let names = names_of_system(&problem.system);
     let mut words: &[u8] =
         b"No ranks of sorts serve, since each of these would have to be below itself: ";
     for sort in sorts {
-        text.spell(words)?;
-        tell(text, "@", &[Named(names.sorts, *sort)])?;
+        text.spell(words);
+        tell(text, "@", &[Named(names.sorts, *sort)]);
         words = b", ";
     }
-    text.say(".\nWhat rules take out of their arguments asks for it:\n")
+    text.say(".\nWhat rules take out of their arguments asks for it:\n");
 }
 
 // Appends which search ended without an answer.
-fn put_spent(text: &mut Text, finder: Finder) -> Result<(), AllocError> {
+fn put_spent(text: &mut Text, finder: Finder) {
     match finder {
-        Finder::Subterm => text.say("The search for a projection ended without an answer.\n")?,
+        Finder::Subterm => text.say("The search for a projection ended without an answer.\n"),
         Finder::Poly => {
-            text.say("No projection drops a pair of the set below, ")?;
-            text.say("and the search for an interpretation ended without an answer.\n")?;
+            text.say("No projection drops a pair of the set below, ");
+            text.say("and the search for an interpretation ended without an answer.\n");
         }
         Finder::Order => {
-            text.say("No projection drops a pair of the set below, ")?;
-            text.say("and no interpretation of those that are tried.\n")?;
-            text.say("The search for a path order ended without an answer.\n")?;
+            text.say("No projection drops a pair of the set below, ");
+            text.say("and no interpretation of those that are tried.\n");
+            text.say("The search for a path order ended without an answer.\n");
         }
     }
-    text.say("No loop was found.\n")
+    text.say("No loop was found.\n");
 }
 
 // Searches once more for a proof alone, for the set on which that ends.
@@ -134,14 +135,14 @@ fn put_stuck(
 ) -> Result<(), AllocError>
     requires { HasPairs (system_data problem.now.system) (pairs_data problem.now.pairs) }
 {
-    tell_line(text, 0, "The set that is left:", &[])?;
+    tell_line(text, 0, "The set that is left:", &[]);
     put_pairs(
         text,
         &problem.system,
         problem.pairs.as_slice(),
         set.as_slice(),
         1,
-    )?;
+    );
     put_closest_projection(alloc, text, &problem.system, problem.pairs.as_slice(), set)?;
     if is_within(set, problem.pairs.as_slice().len()) {
         put_best_guess(alloc, text, problem, set)?;

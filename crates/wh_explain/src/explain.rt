@@ -25,10 +25,10 @@ use wh_no::valid_claims_are_unbounded;
 use wh_prover::{Answer, Options, prove};
 use wh_system::System;
 use wh_tell::Piece::{Big, Count, Spell};
-use wh_tell::{Text, put_graph, put_lints, put_pair_line, put_ranks, tell, tell_line};
+use wh_tell::{Text, number_of, put_graph, put_lints, put_pair_line, put_ranks, tell, tell_line};
 use wh_tell_nodes::put_tree;
 use wh_tell_parts::{put_attempt, put_loop};
-use wh_types::{Bytes, Or, counted};
+use wh_types::{Bytes, Or};
 use wh_verdict::{Verdict, first_words, verdict_of};
 
 /// The bounds of a search, which are those of `prove` where it is given none.
@@ -108,9 +108,9 @@ pub fn lint_file<S: Shelf>(alloc: Global, shelf: &mut S, file: &str) -> Result<B
 {
     let problem = problem_in(alloc, shelf, file)?;
     let mut text = Text::new(alloc)?;
-    text.say("What follows is no part of what is proved.\n")?;
+    text.say("What follows is no part of what is proved.\n");
     put_lints(alloc, &mut text, &problem.system)?;
-    Ok(text.into_bytes())
+    Ok(text.into_bytes()?)
 }
 
 /// The dependency graph of the system in the file. The error is why there is no system with its pairs.
@@ -120,7 +120,7 @@ pub fn graph_file<S: Shelf>(alloc: Global, shelf: &mut S, file: &str) -> Result<
     let problem = problem_in(alloc, shelf, file)?;
     let mut text = Text::new(alloc)?;
     put_graph(alloc, &mut text, &problem.system, &problem.pairs)?;
-    Ok(text.into_bytes())
+    Ok(text.into_bytes()?)
 }
 
 // What a search for a certificate comes to. What it finds is checked like a certificate from elsewhere.
@@ -134,9 +134,9 @@ fn searched(alloc: Global, problem: &Problem) -> Result<Bytes, AllocError>
         Answer::No(certificate) => weighed(alloc, problem, &certificate),
         Answer::Maybe(cause) => {
             let mut text = opening(alloc)?;
-            put_all_pairs(&mut text, problem)?;
+            put_all_pairs(&mut text, problem);
             put_cause(alloc, &mut text, problem, &USUAL, &cause)?;
-            headed(alloc, problem, Verdict::Open, &mut text)
+            headed(alloc, problem, Verdict::Open, text)
         }
     }
 }
@@ -155,8 +155,8 @@ fn explained(alloc: Global, problem: &Problem, bytes: &[u8]) -> Result<Bytes, Al
             let report = Report::Rejected(NamedRejection::Syntax { at: fault.at });
             let mut text = opening(alloc)?;
             put_answer(alloc, &mut text, &report)?;
-            put_all_pairs(&mut text, problem)?;
-            headed(alloc, problem, verdict_of(&report), &mut text)
+            put_all_pairs(&mut text, problem);
+            headed(alloc, problem, verdict_of(&report), text)
         }
     }
 }
@@ -178,9 +178,9 @@ fn weighed(alloc: Global, problem: &Problem, certificate: &Certificate) -> Resul
     if !accepted {
         put_answer(alloc, &mut text, &report)?;
     }
-    put_all_pairs(&mut text, problem)?;
+    put_all_pairs(&mut text, problem);
     put_certificate(alloc, &mut text, problem, certificate, accepted)?;
-    headed(alloc, problem, verdict, &mut text)
+    headed(alloc, problem, verdict, text)
 }
 
 // Whether it is that of a certificate that the check accepts.
@@ -201,7 +201,7 @@ fn put_certificate(
     match certificate {
         Certificate::Yes(certificate) => {
             put_ranks(alloc, text, &problem.system, certificate.ranks.as_slice())?;
-            text.say(if accepted { PROOF } else { CLAIM })?;
+            text.say(if accepted { PROOF } else { CLAIM });
             put_tree(alloc, text, problem, certificate)
         }
         Certificate::No(certificate) => {
@@ -217,28 +217,28 @@ fn put_certificate(
 // The rest of the first line.
 fn opening(alloc: Global) -> Result<Text, AllocError> {
     let mut text = Text::new(alloc)?;
-    text.say(" What follows is no part of what is proved.\n")?;
+    text.say(" What follows is no part of what is proved.\n");
     Ok(text)
 }
 
 // Appends the line that `check` writes.
 fn put_answer(alloc: Global, text: &mut Text, report: &Report) -> Result<(), AllocError> {
     let line = print_answer(alloc, report)?;
-    tell(text, "`./wanda check` says: @", &[Spell(line.as_slice())])
+    tell(text, "`./wanda check` says: @", &[Spell(line.as_slice())]);
+    Ok(())
 }
 
 // Appends all pairs of the system.
-fn put_all_pairs(text: &mut Text, problem: &Problem) -> Result<(), AllocError> {
+fn put_all_pairs(text: &mut Text, problem: &Problem) {
     let pairs = problem.pairs.as_slice();
     tell(
         text,
         "\nWhich call leads to which (dependency pairs): @\n",
         &[Count(pairs.len())],
-    )?;
+    );
     for (number, pair) in pairs.iter().enumerate() {
-        put_pair_line(text, &problem.system, counted(number)?, pair, 1)?;
+        put_pair_line(text, &problem.system, number_of(number), pair, 1);
     }
-    Ok(())
 }
 
 // The whole text: the word of the verdict, what was written behind it, and what is likely not meant.
@@ -246,17 +246,18 @@ fn headed(
     alloc: Global,
     problem: &Problem,
     verdict: Verdict,
-    text: &mut Text,
+    mut text: Text,
 ) -> Result<Bytes, AllocError>
     ensures { IfOk result (BeginsWith (first_words verdict)) }
 {
-    put_last(alloc, text, &problem.system)?;
-    joined(alloc, first_words(verdict), text.as_slice())
+    put_last(alloc, &mut text, &problem.system)?;
+    let rest = text.into_bytes()?;
+    joined(alloc, first_words(verdict), rest.as_slice())
 }
 
 // Appends what is likely not meant.
 fn put_last(alloc: Global, text: &mut Text, system: &System) -> Result<(), AllocError> {
-    text.say("\nWhat may not be meant:\n")?;
+    text.say("\nWhat may not be meant:\n");
     put_lints(alloc, text, system)
 }
 

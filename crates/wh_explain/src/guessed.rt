@@ -19,8 +19,7 @@ use wh_polycheck::MarkedSymbol;
 use wh_reduction::{Task, all_rules};
 use wh_system::System;
 use wh_tell::Piece::{Named, Sum};
-use wh_tell::{Text, names_of_system, put_pair_line, put_rule_line, tell_line};
-use wh_types::counted;
+use wh_tell::{Text, names_of_system, number_of, put_pair_line, put_rule_line, tell_line};
 
 // How many rules and pairs the climb looks at.
 const LOOKS: u64 = 30_000;
@@ -59,40 +58,36 @@ fn put_climbed<'a>(
     requires marked { AreMarked (task_data task.now).pairs (task_data task.now).set marked.now }
 {
     match climb(alloc, task, marked, LOOKS)? {
-        Climbed::Found(_) => text.say(
-            "A short search finds an interpretation that drops a pair.\n",
-        ),
+        Climbed::Found(_) => {
+            text.say("A short search finds an interpretation that drops a pair.\n");
+            Ok(())
+        }
         Climbed::Best(lists) => {
             let guess = guess_by(alloc, task, marked, &lists)?;
-            put_guess(text, task.system, &guess)?;
+            put_guess(text, task.system, &guess);
             put_uncovered(alloc, text, task, &guess)
         }
     }
 }
 
 // Appends what symbols are read as.
-fn put_guess<'a>(text: &mut Text, system: &'a System, guess: &'a Guess) -> Result<(), AllocError> {
+fn put_guess<'a>(text: &mut Text, system: &'a System, guess: &'a Guess) {
     let names = names_of_system(system);
-    text.say("An interpretation that a short search comes to:\n")?;
+    text.say("An interpretation that a short search comes to:\n");
     for (number, symbol) in guess.symbols.iter().enumerate() {
-        let name = Named(names.funs, counted(number)?);
-        tell_line(text, 1, "@ is @", &[name, Sum(&symbol.poly)])?;
+        let name = Named(names.funs, number_of(number));
+        tell_line(text, 1, "@ is @", &[name, Sum(&symbol.poly)]);
     }
-    put_marks(text, system, &guess.marks)
+    put_marks(text, system, &guess.marks);
 }
 
 // Appends what marked symbols are read as.
-fn put_marks<'a>(
-    text: &mut Text,
-    system: &'a System,
-    marks: &'a [MarkedSymbol],
-) -> Result<(), AllocError> {
+fn put_marks<'a>(text: &mut Text, system: &'a System, marks: &'a [MarkedSymbol]) {
     let names = names_of_system(system);
     for mark in marks {
         let name = Named(names.funs, mark.symbol);
-        tell_line(text, 1, "@# is @", &[name, Sum(&mark.poly)])?;
+        tell_line(text, 1, "@# is @", &[name, Sum(&mark.poly)]);
     }
-    Ok(())
 }
 
 // Appends the rules and pairs that are not covered under the guess, and that no pair is covered strictly where
@@ -106,16 +101,17 @@ fn put_uncovered<'a>(
     requires task { IsTaskOf task.now }
     requires guess { IsGuessOf task.now guess.now }
 {
-    text.say("What it leaves open:\n")?;
+    text.say("What it leaves open:\n");
     for (number, rule) in task.covered.iter().enumerate() {
         if outcome_of(alloc, task, guess, number)?.wanting > 0 {
-            put_rule_line(text, task.system, *rule, 1)?;
+            put_rule_line(text, task.system, *rule, 1);
         }
     }
     if !put_uncovered_pairs(alloc, text, task, guess)? {
-        text.say("  no pair is worth less on the right side, and one has to be\n")?;
+        text.say("  no pair is worth less on the right side, and one has to be\n");
     }
-    text.say("This says nothing of other interpretations.\n")
+    text.say("This says nothing of other interpretations.\n");
+    Ok(())
 }
 
 // Appends the pairs that are not covered under the guess, and says whether some pair is covered strictly.
@@ -135,7 +131,7 @@ fn put_uncovered_pairs<'a>(
         strict = strict || outcome.strict;
         if outcome.wanting > 0 {
             if let Some(pair) = task.pairs.get(*number as usize) {
-                put_pair_line(text, task.system, *number, pair, 1)?;
+                put_pair_line(text, task.system, *number, pair, 1);
             }
         }
     }

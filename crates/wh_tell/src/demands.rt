@@ -1,14 +1,14 @@
 //! Which sorts have which ranks, and why: what rules take out of their arguments demands that ranks rise.
 
-use crate::names::{names_of_rule, names_of_system};
+use crate::names::{names_of_rule, names_of_system, number_of};
 use crate::sentence::Piece::{Named, Number, Say, Unknown};
 use crate::sentence::{tell, tell_line};
-use crate::spines::{argument_type, arguments_of, count_meta, symbol_of};
+use crate::spines::{argument_type, arguments_of, count_arguments, count_meta, symbol_of};
 use crate::text::Text;
 use std::alloc::{AllocError, Global};
 use wh_system::System;
 use wh_terms::{Rule, Signature, Term};
-use wh_types::{SimpleType, counted};
+use wh_types::SimpleType;
 
 /// That the rank of a sort is to be at most that of another one, or below it.
 #[derive(Clone, Copy)]
@@ -29,7 +29,7 @@ pub fn put_ranks(
     system: &System,
     ranks: &[u32],
 ) -> Result<(), AllocError> {
-    put_sorts(text, system, ranks)?;
+    put_sorts(text, system, ranks);
     put_demands(alloc, text, system)
 }
 
@@ -37,27 +37,27 @@ pub fn put_ranks(
 pub fn put_demands(alloc: Global, text: &mut Text, system: &System) -> Result<(), AllocError> {
     let demands = demands_of(alloc, system)?;
     if demands.is_empty() {
-        return tell_line(text, 1, "No rule asks that they differ.", &[]);
+        tell_line(text, 1, "No rule asks that they differ.", &[]);
     }
     for demand in &demands {
-        put_demand(text, system, demand)?;
+        put_demand(text, system, demand);
     }
     Ok(())
 }
 
 // Appends the rank of each sort.
-fn put_sorts(text: &mut Text, system: &System, ranks: &[u32]) -> Result<(), AllocError> {
+fn put_sorts(text: &mut Text, system: &System, ranks: &[u32]) {
     let names = names_of_system(system);
-    text.say("\nRanks of sorts:")?;
+    text.say("\nRanks of sorts:");
     for (sort, rank) in ranks.iter().enumerate() {
-        let sort = Named(names.sorts, counted(sort)?);
-        tell(text, " @ @", &[sort, Number(*rank)])?;
+        let sort = Named(names.sorts, number_of(sort));
+        tell(text, " @ @", &[sort, Number(*rank)]);
     }
-    text.say(".\n")
+    text.say(".\n");
 }
 
 // Appends what a rule asks for.
-fn put_demand(text: &mut Text, system: &System, demand: &Demand) -> Result<(), AllocError> {
+fn put_demand(text: &mut Text, system: &System, demand: &Demand) {
     let names = names_of_rule(system, demand.rule);
     tell(
         text,
@@ -71,7 +71,7 @@ fn put_demand(text: &mut Text, system: &System, demand: &Demand) -> Result<(), A
             }),
             Named(names.sorts, demand.to),
         ],
-    )?;
+    );
     tell_line(
         text,
         0,
@@ -82,7 +82,7 @@ fn put_demand(text: &mut Text, system: &System, demand: &Demand) -> Result<(), A
             Number(demand.place.saturating_add(1)),
             Named(names.funs, demand.symbol),
         ],
-    )
+    );
 }
 
 // What the rules demand, each of two sorts once.
@@ -94,7 +94,7 @@ fn demands_of(alloc: Global, system: &System) -> Result<Vec<Demand>, AllocError>
             system.signature(),
             &mut demands,
             rule,
-            counted(number)?,
+            number_of(number),
         )?;
     }
     Ok(demands)
@@ -108,8 +108,7 @@ fn ask_rule(
     rule: &Rule,
     number: u32,
 ) -> Result<(), AllocError> {
-    for meta in 0..rule.metas.as_slice().len() {
-        let meta = counted(meta)?;
+    for meta in 0..number_of(rule.metas.as_slice().len()) {
         if count_meta(meta, &rule.right) > 0 {
             ask_left(alloc, signature, demands, &rule.left, number, meta)?;
         }
@@ -129,7 +128,7 @@ fn ask_left(
 ) -> Result<(), AllocError> {
     let arguments = arguments_of(alloc, left)?;
     for argument in &arguments {
-        if ask_in(alloc, signature, demands, argument, rule, meta)? {
+        if ask_in(signature, demands, argument, rule, meta)? {
             return Ok(());
         }
     }
@@ -138,7 +137,6 @@ fn ask_left(
 
 // The same in a pattern; false where the meta-variable is not read in it.
 fn ask_in(
-    alloc: Global,
     signature: &Signature,
     demands: &mut Vec<Demand>,
     pattern: &Term,
@@ -148,18 +146,18 @@ fn ask_in(
     match pattern {
         Term::Bound(_) | Term::Free(..) | Term::Fun(_) => Ok(false),
         Term::Meta(number, _) => Ok(*number == meta),
-        Term::Lam(_, body) => ask_in(alloc, signature, demands, body, rule, meta),
+        Term::Lam(_, body) => ask_in(signature, demands, body, rule, meta),
         Term::App(function, argument) => {
-            if ask_in(alloc, signature, demands, function, rule, meta)? {
+            if ask_in(signature, demands, function, rule, meta)? {
                 return Ok(true);
             }
             let Some(symbol) = symbol_of(function) else {
                 return Ok(false);
             };
-            if !ask_in(alloc, signature, demands, argument, rule, meta)? {
+            if !ask_in(signature, demands, argument, rule, meta)? {
                 return Ok(false);
             }
-            let place = counted(arguments_of(alloc, function)?.len())?;
+            let place = count_arguments(function);
             ask_at(signature, demands, symbol, place, rule, meta)?;
             Ok(true)
         }

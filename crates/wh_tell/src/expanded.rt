@@ -8,7 +8,6 @@ use crate::terms::put_term;
 use crate::text::Text;
 use crate::types::put_type;
 use crate::wanted::Wanted;
-use std::alloc::AllocError;
 use wh_system::System;
 use wh_terms::Term;
 use wh_types::SimpleType;
@@ -23,16 +22,16 @@ pub fn put_expanded(
     wanted: &Wanted,
     argument: &Term,
     depth: u32,
-) -> Result<(), AllocError> {
+) {
     let kinds = system.signature().funs.as_slice();
     let Some(whole) = kinds.get(wanted.symbol as usize) else {
-        return Ok(());
+        return;
     };
     let Some(kind) = argument_type(whole, wanted.place) else {
-        return Ok(());
+        return;
     };
-    text.say("  as an abstraction it is ")?;
-    put_binders(text, names, kind, wanted.binders, depth)?;
+    text.say("  as an abstraction it is ");
+    put_binders(text, names, kind, wanted.binders, depth);
     let had = binders_of(argument);
     put_term(
         text,
@@ -40,54 +39,40 @@ pub fn put_expanded(
         body_of(argument),
         depth.saturating_add(had),
         true,
-    )?;
-    put_variables(text, had, wanted.binders, depth)?;
-    put_ends(text, wanted.binders)
+    );
+    put_variables(text, had, wanted.binders, depth);
+    put_ends(text, wanted.binders);
 }
 
 // Appends the beginnings of so many abstractions.
-fn put_binders(
-    text: &mut Text,
-    names: &Names<'_>,
-    kind: &SimpleType,
-    count: u32,
-    depth: u32,
-) -> Result<(), AllocError> {
+fn put_binders(text: &mut Text, names: &Names<'_>, kind: &SimpleType, count: u32, depth: u32) {
     for number in 0..count {
-        put_binder(text, names, kind, number, depth)?;
+        put_binder(text, names, kind, number, depth);
     }
-    Ok(())
 }
 
 // Appends the variables of the new abstractions, from the one of that number on.
-fn put_variables(text: &mut Text, first: u32, count: u32, depth: u32) -> Result<(), AllocError> {
+fn put_variables(text: &mut Text, first: u32, count: u32, depth: u32) {
     for number in first..count {
-        tell(text, " $@", &[Number(depth.saturating_add(number))])?;
+        tell(text, " $@", &[Number(depth.saturating_add(number))]);
     }
-    Ok(())
 }
 
 // Appends the ends of so many abstractions.
-fn put_ends(text: &mut Text, count: u32) -> Result<(), AllocError> {
+fn put_ends(text: &mut Text, count: u32) {
     for _ in 0..count {
-        text.say(")")?;
+        text.say(")");
     }
-    text.say("\n")
+    text.say("\n");
 }
 
 // Appends the beginning of an abstraction over the argument of that number.
-fn put_binder(
-    text: &mut Text,
-    names: &Names<'_>,
-    kind: &SimpleType,
-    number: u32,
-    depth: u32,
-) -> Result<(), AllocError> {
-    text.say("(\\$")?;
-    text.number(depth.saturating_add(number) as u128)?;
-    text.say(":")?;
+fn put_binder(text: &mut Text, names: &Names<'_>, kind: &SimpleType, number: u32, depth: u32) {
+    text.say("(\\$");
+    text.number(depth.saturating_add(number) as u128);
+    text.say(":");
     if let Some(argument) = argument_type(kind, number) {
-        put_type(text, names, argument, true)?;
+        put_type(text, names, argument, true);
     }
-    text.say(".")
+    text.say(".");
 }

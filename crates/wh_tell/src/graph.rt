@@ -22,7 +22,7 @@ pub fn put_graph(
 ) -> Result<(), AllocError> {
     text.say(
         "// an explanation, no part of what is proved\ndigraph pairs {\n  node [shape=box];\n",
-    )?;
+    );
     let set = all_of(alloc, pairs)?;
     let blocks = components(alloc, system, pairs, &set)?;
     for (number, block) in blocks.as_slice().iter().enumerate() {
@@ -35,8 +35,9 @@ pub fn put_graph(
             block.as_slice(),
         )?;
     }
-    put_edges(text, system, pairs.as_slice())?;
-    text.say("}\n")
+    put_edges(text, system, pairs.as_slice());
+    text.say("}\n");
+    Ok(())
 }
 
 /// The set of all pairs of a list.
@@ -62,14 +63,14 @@ fn put_component(
 ) -> Result<(), AllocError> {
     let framed = !is_alone(system, pairs, block);
     if framed {
-        tell_line(text, 1, "subgraph cluster@ {", &[Count(number)])?;
+        tell_line(text, 1, "subgraph cluster@ {", &[Count(number)]);
     }
     for pair in block {
-        text.indent(if framed { 2 } else { 1 })?;
+        text.indent(if framed { 2 } else { 1 });
         put_box(alloc, text, system, pairs, *pair)?;
     }
     if framed {
-        tell_line(text, 1, "}", &[])?;
+        tell_line(text, 1, "}", &[]);
     }
     Ok(())
 }
@@ -96,44 +97,37 @@ fn put_box(
     let Some(pair) = pairs.get(number as usize) else {
         return Ok(());
     };
-    tell(text, "p@ [label=\"@: ", &[Number(number), Number(number)])?;
+    tell(text, "p@ [label=\"@: ", &[Number(number), Number(number)]);
     let mut label = Text::new(alloc)?;
-    put_pair(&mut label, system, pair)?;
-    put_escaped(text, label.as_slice())?;
-    text.say("\"];\n")
+    put_pair(&mut label, system, pair);
+    let label = label.into_bytes()?;
+    put_escaped(text, label.as_slice());
+    text.say("\"];\n");
+    Ok(())
 }
 
 // Appends the bytes, with a backslash before each backslash.
-fn put_escaped(text: &mut Text, bytes: &[u8]) -> Result<(), AllocError> {
+fn put_escaped(text: &mut Text, bytes: &[u8]) {
     for byte in bytes {
         if *byte == b'\\' {
-            text.say("\\")?;
+            text.say("\\");
         }
-        text.spell(&[*byte])?;
+        text.spell(&[*byte]);
     }
-    Ok(())
 }
 
 // Appends an arrow for each two pairs of which the second may follow the first.
-fn put_edges(text: &mut Text, system: &System, pairs: &[Pair]) -> Result<(), AllocError> {
+fn put_edges(text: &mut Text, system: &System, pairs: &[Pair]) {
     for (number, pair) in pairs.iter().enumerate() {
-        put_edges_from(text, system, pairs, number, pair)?;
+        put_edges_from(text, system, pairs, number, pair);
     }
-    Ok(())
 }
 
 // Appends an arrow for each pair that may follow the one with this number.
-fn put_edges_from(
-    text: &mut Text,
-    system: &System,
-    pairs: &[Pair],
-    number: usize,
-    pair: &Pair,
-) -> Result<(), AllocError> {
+fn put_edges_from(text: &mut Text, system: &System, pairs: &[Pair], number: usize, pair: &Pair) {
     for (to, other) in pairs.iter().enumerate() {
         if may_follow(system, pair, other) {
-            tell_line(text, 1, "p@ -> p@;", &[Count(number), Count(to)])?;
+            tell_line(text, 1, "p@ -> p@;", &[Count(number), Count(to)]);
         }
     }
-    Ok(())
 }

@@ -21,7 +21,7 @@ pub use demands::{put_demands, put_ranks};
 pub use graph::{all_of, put_graph};
 pub use lints::put_lints;
 pub use marked::put_marked;
-pub use names::{Names, names_of_rule, names_of_system, put_meta, put_name};
+pub use names::{Names, names_of_rule, names_of_system, number_of, put_meta, put_name};
 pub use pairs::{put_call, put_numbers, put_pair, put_pair_line, put_pairs, put_rule_line};
 pub use polys::{put_factors, put_poly};
 pub use sentence::{Piece, tell, tell_line};

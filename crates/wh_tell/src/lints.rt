@@ -1,36 +1,35 @@
 //! What is likely not meant in a system: arguments that no rule can match, and names that are not used.
 
 use crate::expanded::put_expanded;
-use crate::names::{Names, names_of_rule, names_of_system, put_name};
+use crate::names::{Names, names_of_rule, names_of_system, number_of, put_name};
 use crate::sentence::Piece::{Count, Named, Number, Say, Unknown};
 use crate::sentence::{tell, tell_line};
-use crate::spines::{arguments_of, binders_of, count_meta, has_symbol, symbol_of};
+use crate::spines::{binders_of, count_arguments, count_meta, has_symbol, symbol_of};
 use crate::terms::put_term;
 use crate::text::Text;
 use crate::wanted::{Wanted, wanted_abstractions};
 use std::alloc::{AllocError, Global};
 use wh_system::System;
 use wh_terms::{Rule, Term, Terms};
-use wh_types::counted;
 
 /// Appends a line or two for each thing that is likely not meant, or a line that there is none.
 pub fn put_lints(alloc: Global, text: &mut Text, system: &System) -> Result<(), AllocError> {
     let begin = text.len();
     let wanted = wanted_abstractions(alloc, system)?;
     for (number, rule) in system.rules().iter().enumerate() {
-        let names = names_of_rule(system, counted(number)?);
+        let names = names_of_rule(system, number_of(number));
         let place = Place {
             system,
             names: &names,
             rule: number,
             wanted: &wanted,
         };
-        lint_term(alloc, text, &place, &rule.right, 0)?;
-        lint_metas(text, &names, number, rule)?;
+        lint_term(text, &place, &rule.right, 0);
+        lint_metas(text, &names, number, rule);
     }
-    lint_symbols(text, system)?;
+    lint_symbols(text, system);
     if text.len() == begin {
-        tell_line(text, 0, "lint: nothing was found.", &[])?;
+        tell_line(text, 0, "lint: nothing was found.", &[]);
     }
     Ok(())
 }
@@ -46,73 +45,47 @@ struct Place<'a> {
 
 // Looks for arguments that no rule can match, in a term below so many binders.
 #[cycle(lints)]
-fn lint_term(
-    alloc: Global,
-    text: &mut Text,
-    place: &Place<'_>,
-    term: &Term,
-    depth: u32,
-) -> Result<(), AllocError> {
-    lint_spine(alloc, text, place, term, depth)?;
+fn lint_term(text: &mut Text, place: &Place<'_>, term: &Term, depth: u32) {
+    lint_spine(text, place, term, depth);
     match term {
-        Term::Bound(_) | Term::Free(..) | Term::Fun(_) => Ok(()),
-        Term::Meta(_, items) => lint_list(alloc, text, place, items, depth),
-        Term::Lam(_, body) => lint_term(alloc, text, place, body, depth.saturating_add(1)),
+        Term::Bound(_) | Term::Free(..) | Term::Fun(_) => (),
+        Term::Meta(_, items) => lint_list(text, place, items, depth),
+        Term::Lam(_, body) => lint_term(text, place, body, depth.saturating_add(1)),
         Term::App(function, argument) => {
-            lint_term(alloc, text, place, function, depth)?;
-            lint_term(alloc, text, place, argument, depth)
+            lint_term(text, place, function, depth);
+            lint_term(text, place, argument, depth);
         }
     }
 }
 
 // The same of the terms of a list.
 #[cycle(lints)]
-fn lint_list(
-    alloc: Global,
-    text: &mut Text,
-    place: &Place<'_>,
-    items: &Terms,
-    depth: u32,
-) -> Result<(), AllocError> {
+fn lint_list(text: &mut Text, place: &Place<'_>, items: &Terms, depth: u32) {
     for item in items.as_slice() {
-        lint_term(alloc, text, place, item, depth)?;
+        lint_term(text, place, item, depth);
     }
-    Ok(())
 }
 
 // Looks at the last argument of a spine: each argument is the last one of a front part of the spine.
-fn lint_spine(
-    alloc: Global,
-    text: &mut Text,
-    place: &Place<'_>,
-    term: &Term,
-    depth: u32,
-) -> Result<(), AllocError> {
+fn lint_spine(text: &mut Text, place: &Place<'_>, term: &Term, depth: u32) {
     let Term::App(_, argument) = term else {
-        return Ok(());
+        return;
     };
     let Some(symbol) = symbol_of(term) else {
-        return Ok(());
+        return;
     };
-    let last = arguments_of(alloc, term)?.len().saturating_sub(1);
+    let last = count_arguments(term).saturating_sub(1);
     for wanted in place.wanted {
-        if wanted.symbol == symbol && wanted.place as usize == last {
+        if wanted.symbol == symbol && wanted.place == last {
             if binders_of(argument) < wanted.binders {
-                put_mismatch(text, place, wanted, argument, depth)?;
+                put_mismatch(text, place, wanted, argument, depth);
             }
         }
     }
-    Ok(())
 }
 
 // Says that the argument is no abstraction where all rules want one, and how it is spelled as one.
-fn put_mismatch(
-    text: &mut Text,
-    place: &Place<'_>,
-    wanted: &Wanted,
-    argument: &Term,
-    depth: u32,
-) -> Result<(), AllocError> {
+fn put_mismatch(text: &mut Text, place: &Place<'_>, wanted: &Wanted, argument: &Term, depth: u32) {
     let names = place.names;
     tell(
         text,
@@ -122,37 +95,40 @@ fn put_mismatch(
             Number(wanted.place.saturating_add(1)),
             Named(names.funs, wanted.symbol),
         ],
-    )?;
-    put_term(text, names, argument, depth, false)?;
-    text.say(", and all rules of ")?;
+    );
+    put_term(text, names, argument, depth, false);
     tell(
         text,
-        "@ want an abstraction@ there: ",
+        ", and all rules of @ want an abstraction@ there: @\n",
         &[
             Named(names.funs, wanted.symbol),
-            Say(if wanted.binders > 1 {
-                " of several variables"
-            } else {
-                ""
-            }),
+            Say(extent(wanted)),
+            Say(consequence(argument)),
         ],
-    )?;
-    text.say(match argument {
-        Term::Meta(..) | Term::Bound(_) => "they apply only where an abstraction comes for it.\n",
-        _ => "they don't apply to it.\n",
-    })?;
-    put_expanded(text, place.system, names, wanted, argument, depth)
+    );
+    put_expanded(text, place.system, names, wanted, argument, depth);
+}
+
+// What is said of how many variables the abstraction is to have.
+fn extent(wanted: &Wanted) -> &'static str {
+    if wanted.binders > 1 {
+        " of several variables"
+    } else {
+        ""
+    }
+}
+
+// What is said of the rules at an argument that is no abstraction.
+fn consequence(argument: &Term) -> &'static str {
+    match argument {
+        Term::Meta(..) | Term::Bound(_) => "they apply only where an abstraction comes for it.",
+        _ => "they don't apply to it.",
+    }
 }
 
 // Looks for meta-variables of a rule that are not used or that stand twice on the left.
-fn lint_metas(
-    text: &mut Text,
-    names: &Names<'_>,
-    number: usize,
-    rule: &Rule,
-) -> Result<(), AllocError> {
-    for meta in 0..rule.metas.as_slice().len() {
-        let meta = counted(meta)?;
+fn lint_metas(text: &mut Text, names: &Names<'_>, number: usize, rule: &Rule) {
+    for meta in 0..number_of(rule.metas.as_slice().len()) {
         let times = count_meta(meta, &rule.left);
         let words = match times {
             0 => " is declared and stands nowhere.",
@@ -164,26 +140,24 @@ fn lint_metas(
             0,
             "lint: in rule @ @@",
             &[Count(number), Unknown(names.metas, meta), Say(words)],
-        )?;
+        );
     }
-    Ok(())
 }
 
 // Looks for symbols that stand in no rule, and names all of them in one line.
-fn lint_symbols(text: &mut Text, system: &System) -> Result<(), AllocError> {
+fn lint_symbols(text: &mut Text, system: &System) {
     let names = names_of_system(system);
     let begin = text.len();
     let mut words: &[u8] = b"lint: these symbols stand in no rule: ";
-    for symbol in 0..system.fun_names().len() {
-        let symbol = counted(symbol)?;
+    for symbol in 0..number_of(system.fun_names().len()) {
         if !is_used(system.rules(), symbol) {
-            text.spell(words)?;
-            put_name(text, names.funs, symbol)?;
+            text.spell(words);
+            put_name(text, names.funs, symbol);
             words = b", ";
         }
     }
     let end = if text.len() == begin { "" } else { ".\n" };
-    text.say(end)
+    text.say(end);
 }
 
 // Whether the symbol stands in some rule.

@@ -5,7 +5,6 @@ use crate::names::Names;
 use crate::terms::put_term;
 use crate::text::Text;
 use crate::types::put_type;
-use std::alloc::AllocError;
 use wh_terms::Term;
 
 // How long a line may be for its carets to stand under it.
@@ -19,14 +18,8 @@ pub struct Span {
 }
 
 /// Appends a line with the term, and one with carets under the part at the path.
-pub fn put_marked(
-    text: &mut Text,
-    names: &Names<'_>,
-    term: &Term,
-    path: &[u8],
-    depth: u32,
-) -> Result<(), AllocError> {
-    text.indent(depth)?;
+pub fn put_marked(text: &mut Text, names: &Names<'_>, term: &Term, path: &[u8], depth: u32) {
+    text.indent(depth);
     let begin = text.len();
     let mut span = Span {
         start: begin,
@@ -37,25 +30,24 @@ pub fn put_marked(
         bare: false,
         path: Some(path),
     };
-    put_at(text, names, term, place, &mut span)?;
-    text.say("\n")?;
+    put_at(text, names, term, place, &mut span);
+    text.say("\n");
     let start = span.start.saturating_sub(begin);
     let width = span.end.saturating_sub(span.start);
     if start.saturating_add(width) > WIDEST || width == 0 {
-        return Ok(());
+        return;
     }
-    text.indent(depth)?;
-    put_times(text, " ", start)?;
-    put_times(text, "^", width)?;
-    text.say("\n")
+    text.indent(depth);
+    put_times(text, " ", start);
+    put_times(text, "^", width);
+    text.say("\n");
 }
 
 // Appends the words so many times.
-fn put_times(text: &mut Text, words: &str, count: usize) -> Result<(), AllocError> {
+fn put_times(text: &mut Text, words: &str, count: usize) {
     for _ in 0..count {
-        text.say(words)?;
+        text.say(words);
     }
-    Ok(())
 }
 
 /// How a term stands: below so many binders, bare where its spine has no parentheses, and with the path to the
@@ -98,10 +90,8 @@ impl<'a> Place<'a> {
 
 // The rest of the path, if it goes that way.
 fn path_after<'a>(path: Option<&'a [u8]>, way: u8) -> Option<&'a [u8]> {
-    match path?.split_first() {
-        Some((first, rest)) if *first == way => Some(rest),
-        _ => None,
-    }
+    let (first, rest) = path?.split_first()?;
+    if *first == way { Some(rest) } else { None }
 }
 
 // Whether the path ends here.
@@ -113,33 +103,27 @@ fn is_there(path: Option<&[u8]>) -> bool {
 }
 
 // Appends a term, and notes where the part at the path stands.
-fn put_at(
-    text: &mut Text,
-    names: &Names<'_>,
-    term: &Term,
-    place: Place<'_>,
-    span: &mut Span,
-) -> Result<(), AllocError> {
+fn put_at(text: &mut Text, names: &Names<'_>, term: &Term, place: Place<'_>, span: &mut Span) {
     let start = text.len();
     match term {
         Term::Bound(_) | Term::Free(..) | Term::Fun(_) | Term::Meta(..) => {
-            put_term(text, names, term, place.depth, place.bare)?;
+            put_term(text, names, term, place.depth, place.bare);
         }
         Term::Lam(kind, body) => {
-            text.say("(\\$")?;
-            text.number(place.depth as u128)?;
-            text.say(":")?;
-            put_type(text, names, kind, true)?;
-            text.say(".")?;
-            put_at(text, names, body, place.body(), span)?;
-            text.say(")")?;
+            text.say("(\\$");
+            text.number(place.depth as u128);
+            text.say(":");
+            put_type(text, names, kind, true);
+            text.say(".");
+            put_at(text, names, body, place.body(), span);
+            text.say(")");
         }
         Term::App(function, argument) => {
-            text.say(if place.bare { "" } else { "(" })?;
-            put_at(text, names, function, place.function(), span)?;
-            text.say(" ")?;
-            put_at(text, names, argument, place.argument(), span)?;
-            text.say(if place.bare { "" } else { ")" })?;
+            text.say(if place.bare { "" } else { "(" });
+            put_at(text, names, function, place.function(), span);
+            text.say(" ");
+            put_at(text, names, argument, place.argument(), span);
+            text.say(if place.bare { "" } else { ")" });
         }
     }
     if is_there(place.path) {
@@ -148,5 +132,4 @@ fn put_at(
             end: text.len(),
         };
     }
-    Ok(())
 }

@@ -1,7 +1,6 @@
 //! The names of what stands in a rule or in a dependency pair. What has no name has a number behind a sign.
 
 use crate::text::Text;
-use std::alloc::AllocError;
 use wh_system::System;
 use wh_text::Name;
 
@@ -40,8 +39,14 @@ pub fn names_of_system<'a>(system: &'a System) -> Names<'a> {
     }
 }
 
+/// A count, or a place in a list, as a number of 32 bits. One beyond these, for which memory has no room, becomes the
+/// greatest.
+pub fn number_of(count: usize) -> u32 {
+    u32::try_from(count).unwrap_or(u32::MAX)
+}
+
 /// Appends the name with this number.
-pub fn put_name(text: &mut Text, names: &[Name], number: u32) -> Result<(), AllocError> {
+pub fn put_name(text: &mut Text, names: &[Name], number: u32) {
     match names.get(number as usize) {
         Some(name) => text.spell(name.bytes()),
         None => text.number(number as u128),
@@ -49,13 +54,13 @@ pub fn put_name(text: &mut Text, names: &[Name], number: u32) -> Result<(), Allo
 }
 
 /// Appends the name of a meta-variable; those behind the named ones are fresh, `?0` first.
-pub fn put_meta(text: &mut Text, metas: &[Name], number: u32) -> Result<(), AllocError> {
+pub fn put_meta(text: &mut Text, metas: &[Name], number: u32) {
     match metas.get(number as usize) {
         Some(name) => text.spell(name.bytes()),
         None => {
             let fresh = (number as usize).saturating_sub(metas.len());
-            text.say("?")?;
-            text.number(fresh as u128)
+            text.say("?");
+            text.number(fresh as u128);
         }
     }
 }

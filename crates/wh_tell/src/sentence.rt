@@ -4,7 +4,6 @@ use crate::names::{Names, put_meta, put_name};
 use crate::polys::put_poly;
 use crate::terms::put_term;
 use crate::text::Text;
-use std::alloc::AllocError;
 use wh_poly::Poly;
 use wh_terms::Term;
 use wh_text::Name;
@@ -33,35 +32,29 @@ pub enum Piece<'a> {
 }
 
 /// Appends the words, with the next piece in the place of each `@`.
-pub fn tell(text: &mut Text, words: &str, pieces: &[Piece<'_>]) -> Result<(), AllocError> {
+pub fn tell(text: &mut Text, words: &str, pieces: &[Piece<'_>]) {
     let mut next: usize = 0;
     for byte in words.as_bytes() {
         if *byte != b'@' {
-            text.spell(&[*byte])?;
+            text.spell(&[*byte]);
             continue;
         }
         if let Some(piece) = pieces.get(next) {
-            put_piece(text, piece)?;
+            put_piece(text, piece);
         }
         next = next.saturating_add(1);
     }
-    Ok(())
 }
 
 /// The same in a line of its own, behind so many steps of indentation.
-pub fn tell_line(
-    text: &mut Text,
-    depth: u32,
-    words: &str,
-    pieces: &[Piece<'_>],
-) -> Result<(), AllocError> {
-    text.indent(depth)?;
-    tell(text, words, pieces)?;
-    text.say("\n")
+pub fn tell_line(text: &mut Text, depth: u32, words: &str, pieces: &[Piece<'_>]) {
+    text.indent(depth);
+    tell(text, words, pieces);
+    text.say("\n");
 }
 
 // Appends a piece.
-fn put_piece(text: &mut Text, piece: &Piece<'_>) -> Result<(), AllocError> {
+fn put_piece(text: &mut Text, piece: &Piece<'_>) {
     match piece {
         Piece::Say(words) => text.say(words),
         Piece::Spell(bytes) => text.spell(bytes),

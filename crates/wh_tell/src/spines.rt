@@ -33,6 +33,33 @@ pub fn arguments_of<'a>(alloc: Global, term: &'a Term) -> Result<Vec<&'a Term>, 
     Ok(found)
 }
 
+/// How many arguments a spine has.
+pub fn count_arguments(term: &Term) -> u32 {
+    let mut count: u32 = 0;
+    let mut here = term;
+    while let Term::App(function, _) = here {
+        count = count.saturating_add(1);
+        here = function;
+    }
+    count
+}
+
+/// How many abstractions the argument of that index, counted from 0, begins with; none where there are not so many
+/// arguments.
+pub fn binders_at(term: &Term, index: u32) -> u32 {
+    let mut place = count_arguments(term);
+    let mut count: u32 = 0;
+    let mut here = term;
+    while let Term::App(function, argument) = here {
+        place = place.saturating_sub(1);
+        if place == index {
+            count = binders_of(argument);
+        }
+        here = function;
+    }
+    count
+}
+
 /// How many abstractions a term begins with.
 pub fn binders_of(term: &Term) -> u32 {
     let mut count: u32 = 0;

@@ -1,10 +1,10 @@
 //! Arguments that are abstractions on the left of all rules of a symbol, so that none of them applies to another argument.
 
-use crate::spines::{arguments_of, binders_of, symbol_of};
+use crate::names::number_of;
+use crate::spines::{binders_at, symbol_of};
 use std::alloc::{AllocError, Global};
 use wh_system::System;
 use wh_terms::Rule;
-use wh_types::counted;
 
 /// An argument that is an abstraction on the left of all rules of a symbol.
 #[derive(Clone, Copy)]
@@ -20,21 +20,16 @@ pub struct Wanted {
 /// What is wanted as an abstraction by all rules of a symbol.
 pub fn wanted_abstractions(alloc: Global, system: &System) -> Result<Vec<Wanted>, AllocError> {
     let mut wanted = Vec::new(alloc);
-    for symbol in 0..system.fun_names().len() {
-        add_wanted(alloc, system, counted(symbol)?, &mut wanted)?;
+    for symbol in 0..number_of(system.fun_names().len()) {
+        add_wanted(system, symbol, &mut wanted)?;
     }
     Ok(wanted)
 }
 
 // Adds what is wanted as an abstraction by all rules of this symbol.
-fn add_wanted(
-    alloc: Global,
-    system: &System,
-    symbol: u32,
-    wanted: &mut Vec<Wanted>,
-) -> Result<(), AllocError> {
+fn add_wanted(system: &System, symbol: u32, wanted: &mut Vec<Wanted>) -> Result<(), AllocError> {
     for place in 0..system.need(symbol).unwrap_or(0) {
-        let binders = binders_wanted(alloc, system.rules(), symbol, place)?;
+        let binders = binders_wanted(system.rules(), symbol, place);
         if binders > 0 {
             wanted.push(Wanted {
                 symbol,
@@ -47,22 +42,12 @@ fn add_wanted(
 }
 
 // How many abstractions the argument begins with on the left of each rule of the symbol, at least.
-fn binders_wanted(
-    alloc: Global,
-    rules: &[Rule],
-    symbol: u32,
-    place: u32,
-) -> Result<u32, AllocError> {
+fn binders_wanted(rules: &[Rule], symbol: u32, place: u32) -> u32 {
     let mut least = u32::MAX;
     for rule in rules {
         if symbol_of(&rule.left) == Some(symbol) {
-            let arguments = arguments_of(alloc, &rule.left)?;
-            let here = match arguments.get(place as usize) {
-                Some(argument) => binders_of(argument),
-                None => 0,
-            };
-            least = least.min(here);
+            least = least.min(binders_at(&rule.left, place));
         }
     }
-    Ok(if least == u32::MAX { 0 } else { least })
+    if least == u32::MAX { 0 } else { least }
 }

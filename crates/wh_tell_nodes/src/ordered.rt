@@ -47,13 +47,14 @@ pub fn put_order(
 {
     let words =
         "Path order: terms are compared by their symbols, of which some arguments are kept.";
-    tell_line(text, depth, words, &[])?;
-    put_filters(text, "", node.funs.as_slice(), depth.saturating_add(1))?;
-    put_filters(text, "#", node.marks.as_slice(), depth.saturating_add(1))?;
+    tell_line(text, depth, words, &[]);
+    put_filters(text, "", node.funs.as_slice(), depth.saturating_add(1));
+    put_filters(text, "#", node.marks.as_slice(), depth.saturating_add(1));
     if is_within(set, problem.pairs.as_slice().len()) {
         put_inferences(alloc, text, problem, set, node, depth)?;
     }
-    put_dropped(text, node.drop.as_slice(), depth)
+    put_dropped(text, node.drop.as_slice(), depth);
+    Ok(())
 }
 
 // Appends the inferences of each line, where the lines of the node name what they have to name.
@@ -74,7 +75,8 @@ fn put_inferences(
     let funs = node.funs.as_slice();
     let marks = node.marks.as_slice();
     let Some(filters) = filters_of_lines(alloc, system, &problem.pairs, set, funs, marks)? else {
-        return tell_line(text, depth, NO_FILTERS, &[]);
+        tell_line(text, depth, NO_FILTERS, &[]);
+        return Ok(());
     };
     let covered = all_rules(alloc, system)?;
     let task = Task {
@@ -106,7 +108,8 @@ fn put_under<'a>(
         put_pairs(alloc, text, task, filters, node, depth)
     } else {
         let words = "Not all of these filters are proper, so sides can't be compared.";
-        tell_line(text, depth, words, &[])
+        tell_line(text, depth, words, &[]);
+        Ok(())
     }
 }
 
@@ -160,10 +163,10 @@ fn put_rules<'a>(
         let rule = task.covered[i];
         let left = side(filtered_rule(alloc, task.system, filters, rule, false))?;
         let right = side(filtered_rule(alloc, task.system, filters, rule, true))?;
-        put_rule_line(text, task.system, rule, depth)?;
+        put_rule_line(text, task.system, rule, depth);
         let names = names_of_rule(task.system, rule);
         let line = node.rules.as_slice().get(i);
-        put_line(text, &names, compared(&left, &right, false), line, depth)?;
+        put_line(text, &names, compared(&left, &right, false), line, depth);
     }
     Ok(())
 }
@@ -187,11 +190,11 @@ fn put_pairs<'a>(
         let pair = &task.pairs[number as usize];
         let left = side(filtered_pair(alloc, task.system, filters, pair, false))?;
         let right = side(filtered_pair(alloc, task.system, filters, pair, true))?;
-        put_pair_line(text, task.system, number, pair, depth)?;
+        put_pair_line(text, task.system, number, pair, depth);
         let names = names_of_rule(task.system, pair.rule);
         let line = node.pairs.as_slice().get(i);
         let greater = is_in(node.drop.as_slice(), number);
-        put_line(text, &names, compared(&left, &right, greater), line, depth)?;
+        put_line(text, &names, compared(&left, &right, greater), line, depth);
     }
     Ok(())
 }
@@ -203,13 +206,13 @@ fn put_line(
     sides: Option<Comparison<'_>>,
     line: Option<&Inference>,
     depth: u32,
-) -> Result<(), AllocError> {
+) {
     let inner = depth.saturating_add(1);
     match (sides, line) {
         (Some(sides), Some(line)) => put_inferred(text, names, sides, line, inner),
         _ => {
             let words = "there is no line for it, or a side has too many nodes";
-            tell_line(text, inner, words, &[])
+            tell_line(text, inner, words, &[]);
         }
     }
 }

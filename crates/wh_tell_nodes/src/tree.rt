@@ -57,7 +57,7 @@ fn put_node(
 ) -> Result<(), AllocError>
     requires { HasPairs (system_data problem.now.system) (pairs_data problem.now.pairs) }
 {
-    put_head(text, number, level)?;
+    put_head(text, number, level);
     let depth = level.depth.saturating_add(1);
     match node {
         Node::Done => tell_line(text, depth, "No pair is left.", &[]),
@@ -74,45 +74,42 @@ fn put_node(
             },
             depth,
         ),
-        Node::Poly(node) => put_interpretation(alloc, text, problem, &level.set, node, depth),
-        Node::Order(node) => put_order(alloc, text, problem, &level.set, node, depth),
+        Node::Poly(node) => put_interpretation(alloc, text, problem, &level.set, node, depth)?,
+        Node::Order(node) => put_order(alloc, text, problem, &level.set, node, depth)?,
     }
+    Ok(())
 }
 
 // Appends the only pair of a node, and why it is used once.
-fn put_alone(
-    text: &mut Text,
-    problem: &Problem,
-    set: &PairSet,
-    depth: u32,
-) -> Result<(), AllocError> {
+fn put_alone(text: &mut Text, problem: &Problem, set: &PairSet, depth: u32) {
     let pairs = problem.pairs.as_slice();
-    put_pairs(text, &problem.system, pairs, set.as_slice(), depth)?;
+    put_pairs(text, &problem.system, pairs, set.as_slice(), depth);
     let words = "It may not follow itself: what it calls is never what it starts from.";
-    tell_line(text, depth, words, &[])
+    tell_line(text, depth, words, &[]);
 }
 
 // Appends the number of the node and its pairs.
-fn put_head(text: &mut Text, number: usize, level: &Level) -> Result<(), AllocError> {
-    text.indent(level.depth)?;
-    tell(text, "Node @", &[Count(number)])?;
+fn put_head(text: &mut Text, number: usize, level: &Level) {
+    text.indent(level.depth);
+    tell(text, "Node @", &[Count(number)]);
     if level.set.as_slice().is_empty() {
-        return text.say(", no pairs\n");
+        text.say(", no pairs\n");
+        return;
     }
-    text.say(", pairs")?;
-    put_numbers(text, level.set.as_slice())?;
-    text.say("\n")
+    text.say(", pairs");
+    put_numbers(text, level.set.as_slice());
+    text.say("\n");
 }
 
 // Appends what blocks are for.
-fn put_blocks(text: &mut Text, count: usize, depth: u32) -> Result<(), AllocError> {
-    text.indent(depth)?;
+fn put_blocks(text: &mut Text, count: usize, depth: u32) {
+    text.indent(depth);
     tell(
         text,
         "These fall into @ blocks, and no pair of an earlier block may follow",
         &[Count(count)],
-    )?;
-    text.say(" one of a later block. So a chain stays in one block in the end.\n")
+    );
+    text.say(" one of a later block. So a chain stays in one block in the end.\n");
 }
 
 // Puts what a node leaves on top of the stack, the first of it on top.

@@ -51,19 +51,20 @@ pub fn put_interpretation(
 {
     let words =
         "Interpretation: each symbol is read as a polynomial in its arguments y0, y1 and so on.";
-    tell_line(text, depth, words, &[])?;
-    put_readings(text, "", node.funs.as_slice(), depth.saturating_add(1))?;
-    put_readings(text, "#", node.marks.as_slice(), depth.saturating_add(1))?;
+    tell_line(text, depth, words, &[]);
+    put_readings(text, "", node.funs.as_slice(), depth.saturating_add(1));
+    put_readings(text, "#", node.marks.as_slice(), depth.saturating_add(1));
     if let Some(listed) = &node.usable {
-        text.indent(depth)?;
-        text.say("Only these rules are covered, since what the pairs call uses no others:")?;
-        put_numbers(text, listed.as_slice())?;
-        text.say("\n")?;
+        text.indent(depth);
+        text.say("Only these rules are covered, since what the pairs call uses no others:");
+        put_numbers(text, listed.as_slice());
+        text.say("\n");
     }
     if is_within(set, problem.pairs.as_slice().len()) {
         put_values(alloc, text, problem, set, node, depth)?;
     }
-    put_dropped(text, node.drop.as_slice(), depth)
+    put_dropped(text, node.drop.as_slice(), depth);
+    Ok(())
 }
 
 // Appends what both sides of each line are worth, where the lines of the node name what they have to name.
@@ -82,14 +83,17 @@ fn put_values(
     system.is_well_made();
     pairs_have_marked_sides();
     let Some(rules) = rules_to_cover(alloc, system, &node.usable)? else {
-        return tell_line(text, depth, NO_LIST, &[]);
+        tell_line(text, depth, NO_LIST, &[]);
+        return Ok(());
     };
     let Some(symbols) = symbols_of(alloc, system, node.funs.as_slice())? else {
-        return tell_line(text, depth, NO_READINGS, &[]);
+        tell_line(text, depth, NO_READINGS, &[]);
+        return Ok(());
     };
     let Some(marks) = marks_of_set(alloc, system, &problem.pairs, set, node.marks.as_slice())?
     else {
-        return tell_line(text, depth, NO_READINGS, &[]);
+        tell_line(text, depth, NO_READINGS, &[]);
+        return Ok(());
     };
     let task = Task {
         system,
@@ -125,7 +129,8 @@ fn put_under<'a, 'b>(
         put_pairs(alloc, text, task, readings, node, depth)
     } else {
         let words = "Not all of these polynomials are normal, so sides have no values.";
-        tell_line(text, depth, words, &[])
+        tell_line(text, depth, words, &[]);
+        Ok(())
     }
 }
 
@@ -186,7 +191,7 @@ fn put_rules<'a, 'b>(
             moves: node.rules.as_slice().get(i),
             dropped: false,
         };
-        put_rule_values(text, task.system, rule, &valued, depth)?;
+        put_rule_values(text, task.system, rule, &valued, depth);
     }
     Ok(())
 }
@@ -216,7 +221,7 @@ fn put_pairs<'a, 'b>(
             moves: node.pairs.as_slice().get(i),
             dropped: is_in(node.drop.as_slice(), number),
         };
-        put_pair_values(text, task.system, number, pair, &valued, depth)?;
+        put_pair_values(text, task.system, number, pair, &valued, depth);
     }
     Ok(())
 }

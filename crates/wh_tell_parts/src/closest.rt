@@ -7,8 +7,7 @@ use wh_pairs::{Pair, PairSet};
 use wh_subterm::{Relation, relation_at};
 use wh_system::System;
 use wh_tell::Piece::{Named, Number};
-use wh_tell::{Text, names_of_system, tell};
-use wh_types::counted;
+use wh_tell::{Text, names_of_system, number_of, tell};
 
 // How often each symbol is gone through.
 const ROUNDS: u32 = 4;
@@ -26,9 +25,9 @@ pub fn put_closest_projection<'a>(
     for _ in 0..ROUNDS {
         improve(system, &members, &mut chosen);
     }
-    put_chosen(text, system, pairs, set.as_slice(), &chosen)?;
+    put_chosen(text, system, pairs, set.as_slice(), &chosen);
     if !lowers_some(&members, &chosen) {
-        text.say("  no argument gets smaller, and one has to\n")?;
+        text.say("  no argument gets smaller, and one has to\n");
     }
     Ok(())
 }
@@ -60,7 +59,7 @@ fn pairs_of_set<'a>(
 // Chooses for each symbol the argument with which the most pairs are kept or lowered.
 fn improve(system: &System, pairs: &[&Pair], chosen: &mut [u32]) {
     for symbol in 0..chosen.len() {
-        let need = system.need(u32::try_from(symbol).unwrap_or(u32::MAX));
+        let need = system.need(number_of(symbol));
         improve_at(pairs, chosen, symbol, need.unwrap_or(0));
     }
 }
@@ -128,36 +127,29 @@ fn put_chosen<'a>(
     pairs: &'a [Pair],
     set: &[u32],
     chosen: &[u32],
-) -> Result<(), AllocError> {
-    put_choices(text, system, pairs, set, chosen)?;
+) {
+    put_choices(text, system, pairs, set, chosen);
     for number in set {
         if let Some(pair) = pairs.get(*number as usize) {
-            put_chosen_in(text, system, *number, pair, chosen)?;
+            put_chosen_in(text, system, *number, pair, chosen);
         }
     }
-    Ok(())
 }
 
 // Appends the chosen argument of each symbol that heads a side of a pair of the set.
-fn put_choices(
-    text: &mut Text,
-    system: &System,
-    pairs: &[Pair],
-    set: &[u32],
-    chosen: &[u32],
-) -> Result<(), AllocError> {
+fn put_choices(text: &mut Text, system: &System, pairs: &[Pair], set: &[u32], chosen: &[u32]) {
     let names = names_of_system(system);
     let mut words: &[u8] = b"A projection that comes close looks at argument ";
     for (symbol, place) in chosen.iter().enumerate() {
-        let symbol = counted(symbol)?;
+        let symbol = number_of(symbol);
         if heads_some(pairs, set, symbol) {
             let place = Number(place.saturating_add(1));
-            text.spell(words)?;
-            tell(text, "@ of @", &[place, Named(names.funs, symbol)])?;
+            text.spell(words);
+            tell(text, "@ of @", &[place, Named(names.funs, symbol)]);
             words = b", argument ";
         }
     }
-    text.say(".\n")
+    text.say(".\n");
 }
 
 // Whether the symbol heads a side of a pair of the set.
@@ -179,8 +171,8 @@ fn put_chosen_in<'a>(
     number: u32,
     pair: &'a Pair,
     chosen: &[u32],
-) -> Result<(), AllocError> {
-    tell(text, "  pair @: ", &[Number(number)])?;
+) {
+    tell(text, "  pair @: ", &[Number(number)]);
     let left = chosen.get(pair.left_fun as usize);
     let right = chosen.get(pair.right_fun as usize);
     match (left, right) {

@@ -1,6 +1,5 @@
 //! What becomes of one argument in a pair.
 
-use std::alloc::AllocError;
 use wh_pairs::Pair;
 use wh_subterm::{Relation, relation_at};
 use wh_system::System;
@@ -15,7 +14,7 @@ pub fn put_compared<'a>(
     pair: &'a Pair,
     left: u32,
     right: u32,
-) -> Result<(), AllocError> {
+) {
     let names = names_of_rule(system, pair.rule);
     let from = pair.left.as_slice().get(left as usize);
     let to = pair.right.as_slice().get(right as usize);
@@ -27,7 +26,7 @@ pub fn put_compared<'a>(
                 0,
                 "@ becomes @: @.",
                 &[Tree(&names, from), Tree(&names, to), Say(words)],
-            )
+            );
         }
         _ => text.say("There is no such argument.\n"),
     }

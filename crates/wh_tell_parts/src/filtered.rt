@@ -1,6 +1,5 @@
 //! Trees behind argument filters, printed.
 
-use std::alloc::AllocError;
 use wh_tell::{Names, Text, put_bound, put_meta, put_name};
 use wh_trees::{Tree, Trees};
 
@@ -21,45 +20,39 @@ const BRACKETS: Signs<'static> = Signs {
 
 /// Appends a filtered tree below so many binders; a spine that is bare has no parentheses.
 #[cycle(filtered)]
-pub fn put_filtered_tree(
-    text: &mut Text,
-    names: &Names<'_>,
-    tree: &Tree,
-    depth: u32,
-    bare: bool,
-) -> Result<(), AllocError> {
+pub fn put_filtered_tree(text: &mut Text, names: &Names<'_>, tree: &Tree, depth: u32, bare: bool) {
     match tree {
         Tree::Bound(outward) => put_bound(text, depth, *outward),
         Tree::Free(number, _) => {
-            text.say("%")?;
-            text.number(*number as u128)
+            text.say("%");
+            text.number(*number as u128);
         }
         Tree::Meta(meta, _, items) => {
-            put_meta(text, names.metas, *meta)?;
-            put_enclosed(text, names, items, depth, BRACKETS)
+            put_meta(text, names.metas, *meta);
+            put_enclosed(text, names, items, depth, BRACKETS);
         }
         Tree::Sym(symbol, items) => {
-            text.say(front(bare, items))?;
-            put_name(text, names.funs, *symbol)?;
-            put_enclosed(text, names, items, depth, blanks(bare))
+            text.say(front(bare, items));
+            put_name(text, names.funs, *symbol);
+            put_enclosed(text, names, items, depth, blanks(bare));
         }
         Tree::Mark(symbol, items) => {
-            text.say(front(bare, items))?;
-            put_name(text, names.funs, *symbol)?;
-            text.say("#")?;
-            put_enclosed(text, names, items, depth, blanks(bare))
+            text.say(front(bare, items));
+            put_name(text, names.funs, *symbol);
+            text.say("#");
+            put_enclosed(text, names, items, depth, blanks(bare));
         }
         Tree::Lam(_, body) => {
-            text.say("(\\$")?;
-            text.number(depth as u128)?;
-            text.say(".")?;
-            put_filtered_tree(text, names, body, depth.saturating_add(1), false)?;
-            text.say(")")
+            text.say("(\\$");
+            text.number(depth as u128);
+            text.say(".");
+            put_filtered_tree(text, names, body, depth.saturating_add(1), false);
+            text.say(")");
         }
         Tree::Apply(head, items) => {
-            text.say(front(bare, items))?;
-            put_filtered_tree(text, names, head, depth, true)?;
-            put_enclosed(text, names, items, depth, blanks(bare))
+            text.say(front(bare, items));
+            put_filtered_tree(text, names, head, depth, true);
+            put_enclosed(text, names, items, depth, blanks(bare));
         }
     }
 }
@@ -84,21 +77,14 @@ fn blanks(bare: bool) -> Signs<'static> {
 
 // Appends arguments with their signs.
 #[cycle(filtered)]
-fn put_enclosed(
-    text: &mut Text,
-    names: &Names<'_>,
-    items: &Trees,
-    depth: u32,
-    signs: Signs<'_>,
-) -> Result<(), AllocError> {
+fn put_enclosed(text: &mut Text, names: &Names<'_>, items: &Trees, depth: u32, signs: Signs<'_>) {
     let mut sign = signs.first;
     for item in items.as_slice() {
-        text.spell(sign)?;
-        put_filtered_tree(text, names, item, depth, false)?;
+        text.spell(sign);
+        put_filtered_tree(text, names, item, depth, false);
         sign = signs.between;
     }
-    if items.as_slice().is_empty() {
-        return Ok(());
+    if !items.as_slice().is_empty() {
+        text.say(signs.end);
     }
-    text.say(signs.end)
 }

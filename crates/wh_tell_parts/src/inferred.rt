@@ -1,7 +1,6 @@
 //! What is left of symbols behind filters, and a sentence for each inference, those of its parts below it.
 
 use crate::filtered::put_filtered_tree;
-use std::alloc::AllocError;
 use wh_cert::{Filter, NamedFilter};
 use wh_inference::{Inference, Letter};
 use wh_tell::Piece::{Number, Say, Spell};
@@ -9,34 +8,24 @@ use wh_tell::{Names, Text, put_numbers, tell};
 use wh_trees::Tree;
 
 /// Appends what is left of each symbol; a mark stands behind the names of marked ones.
-pub fn put_filters<'a>(
-    text: &mut Text,
-    mark: &'a str,
-    lines: &'a [NamedFilter],
-    depth: u32,
-) -> Result<(), AllocError> {
+pub fn put_filters<'a>(text: &mut Text, mark: &'a str, lines: &'a [NamedFilter], depth: u32) {
     for line in lines {
-        text.indent(depth)?;
-        tell(text, "@@", &[Spell(line.name.bytes()), Say(mark)])?;
+        text.indent(depth);
+        tell(text, "@@", &[Spell(line.name.bytes()), Say(mark)]);
         match &line.filter {
             Filter::Keep { prec, places } => {
-                tell(text, " has precedence @", &[Number(*prec)])?;
+                tell(text, " has precedence @", &[Number(*prec)]);
                 text.say(match places.as_slice().len() {
                     0 => " and keeps no argument",
                     1 => " and keeps argument",
                     _ => " and keeps arguments",
-                })?;
-                put_numbers(text, places.as_slice())?;
+                });
+                put_numbers(text, places.as_slice());
             }
-            Filter::Pick { place } => tell(
-                text,
-                " gives way to its argument @",
-                &[Number(*place)],
-            )?,
+            Filter::Pick { place } => tell(text, " gives way to its argument @", &[Number(*place)]),
         }
-        text.say("\n")?;
+        text.say("\n");
     }
-    Ok(())
 }
 
 // What a claim says.
@@ -74,7 +63,7 @@ pub fn put_inferred(
     sides: Comparison<'_>,
     inference: &Inference,
     depth: u32,
-) -> Result<(), AllocError> {
+) {
     let claim = Claim {
         words: if sides.greater { GREATER } else { LEAST },
         left: sides.left,
@@ -82,7 +71,7 @@ pub fn put_inferred(
         right: sides.right,
         below: 0,
     };
-    put_inference(text, names, Some(claim), inference, depth)
+    put_inference(text, names, Some(claim), inference, depth);
 }
 
 // Appends what is claimed and by which inference, and below it those of its parts. A claim that the letter does
@@ -93,27 +82,26 @@ fn put_inference(
     claim: Option<Claim<'_>>,
     inference: &Inference,
     depth: u32,
-) -> Result<(), AllocError> {
-    text.indent(depth)?;
+) {
+    text.indent(depth);
     if let Some(claim) = claim {
-        put_filtered_tree(text, names, claim.left, claim.above, false)?;
-        text.say(claim.words)?;
-        put_filtered_tree(text, names, claim.right, claim.below, false)?;
-        text.say(": ")?;
+        put_filtered_tree(text, names, claim.left, claim.above, false);
+        text.say(claim.words);
+        put_filtered_tree(text, names, claim.right, claim.below, false);
+        text.say(": ");
     }
-    put_letter(text, inference)?;
+    put_letter(text, inference);
     for (index, part) in inference.parts.as_slice().iter().enumerate() {
         let inner = match claim {
             Some(claim) => part_of(claim, inference.letter, inference.place, index),
             None => None,
         };
-        put_inference(text, names, inner, part, depth.saturating_add(1))?;
+        put_inference(text, names, inner, part, depth.saturating_add(1));
     }
-    Ok(())
 }
 
 // Appends what an inference goes by.
-fn put_letter(text: &mut Text, inference: &Inference) -> Result<(), AllocError> {
+fn put_letter(text: &mut Text, inference: &Inference) {
     let place = inference.place;
     let words = match inference.letter {
         Letter::Same => "they are the same.",
@@ -128,11 +116,11 @@ fn put_letter(text: &mut Text, inference: &Inference) -> Result<(), AllocError> 
         Letter::Var => "that is the variable of a binder that was passed.",
         Letter::Meta => "it has that meta-variable itself as its argument ",
     };
-    text.say(words)?;
+    text.say(words);
     if matches!(inference.letter, Letter::Sub | Letter::Lex | Letter::Meta) {
-        tell(text, "@.", &[Number(place)])?;
+        tell(text, "@.", &[Number(place)]);
     }
-    text.say("\n")
+    text.say("\n");
 }
 
 // What the part of that index is to show.

@@ -22,7 +22,8 @@ pub fn put_loop(
 ) -> Result<(), AllocError> {
     let words = "The last term. Carets stand under an instance of the first one.";
     put_claim(alloc, text, system, certificate, words)?;
-    text.say("So all steps can be made again there, as often as one likes.\n")
+    text.say("So all steps can be made again there, as often as one likes.\n");
+    Ok(())
 }
 
 /// Appends the reduction of a certificate that is no loop, as far as its steps can be taken.
@@ -47,9 +48,9 @@ fn put_claim(
     if let Some(last) = put_reduction(alloc, text, system, certificate)? {
         let names = names_of_system(system);
         let path = certificate.at.as_slice();
-        tell_line(text, 0, words, &[])?;
-        put_marked(text, &names, &last, path, 1)?;
-        put_path(text, "  at ", path)?;
+        tell_line(text, 0, words, &[]);
+        put_marked(text, &names, &last, path, 1);
+        put_path(text, "  at ", path);
     }
     put_puts(alloc, text, certificate.puts.as_slice())
 }
@@ -64,7 +65,7 @@ fn put_reduction(
 ) -> Result<Option<Term>, AllocError> {
     match first_term(alloc, system, certificate)? {
         Some(first) => {
-            text.say("\nThe reduction. Carets stand under what each step replaces.\n")?;
+            text.say("\nThe reduction. Carets stand under what each step replaces.\n");
             put_steps(alloc, text, system, first, certificate.steps.as_slice())
         }
         None => Ok(None),
@@ -94,14 +95,14 @@ fn put_steps(
     let mut here = first;
     for (number, step) in steps.iter().enumerate() {
         if number == MOST_STEPS {
-            tell_line(text, 0, "and so on, @ steps in all.", &[Count(steps.len())])?;
+            tell_line(text, 0, "and so on, @ steps in all.", &[Count(steps.len())]);
             return Ok(None);
         }
-        put_step(text, system, &names, number, &here, step)?;
+        put_step(text, system, &names, number, &here, step);
         match term_after(alloc, system, &here, step)? {
             Some(next) => here = next,
             None => {
-                text.say("  which can't be.\n")?;
+                text.say("  which can't be.\n");
                 return Ok(None);
             }
         }
@@ -117,27 +118,27 @@ fn put_step(
     number: usize,
     term: &Term,
     step: &Step,
-) -> Result<(), AllocError> {
-    tell_line(text, 0, "Term @:", &[Count(number)])?;
+) {
+    tell_line(text, 0, "Term @:", &[Count(number)]);
     let path = step.path.as_slice();
-    put_marked(text, names, term, path, 1)?;
+    put_marked(text, names, term, path, 1);
     match step.rule {
         Some(rule) => {
-            put_path(text, "  steps at ", path)?;
-            put_rule_line(text, system, rule, 2)
+            put_path(text, "  steps at ", path);
+            put_rule_line(text, system, rule, 2);
         }
         None => put_path(text, "  steps by beta at ", path),
     }
 }
 
 // Appends a line with a path.
-fn put_path(text: &mut Text, words: &str, path: &[u8]) -> Result<(), AllocError> {
-    text.say(words)?;
-    text.say("/")?;
+fn put_path(text: &mut Text, words: &str, path: &[u8]) {
+    text.say(words);
+    text.say("/");
     for way in path {
-        text.number(*way as u128)?;
+        text.number(*way as u128);
     }
-    text.say("\n")
+    text.say("\n");
 }
 
 // Appends what is put for the variables of the first term in the instance.
@@ -148,7 +149,7 @@ fn put_puts(alloc: Global, text: &mut Text, puts: &[Put]) -> Result<(), AllocErr
             text,
             "  with @ for %@\n",
             &[Spell(value.as_slice()), Number(item.number)],
-        )?;
+        );
     }
     Ok(())
 }

@@ -1,7 +1,6 @@
 //! Nodes of projections: for each pair the two arguments that are compared.
 
 use crate::compared::put_compared;
-use std::alloc::AllocError;
 use wh_cert::Arg;
 use wh_pairs::Pair;
 use wh_system::System;
@@ -25,43 +24,43 @@ pub fn put_projection<'a>(
     set: &[u32],
     node: Projected<'_>,
     depth: u32,
-) -> Result<(), AllocError> {
-    put_choices(text, node.args, depth)?;
+) {
+    put_choices(text, node.args, depth);
     for number in set {
         if let Some(pair) = pairs.get(*number as usize) {
-            put_pair_line(text, system, *number, pair, depth)?;
-            put_looked_at(text, system, pair, node.args, depth.saturating_add(1))?;
+            put_pair_line(text, system, *number, pair, depth);
+            put_looked_at(text, system, pair, node.args, depth.saturating_add(1));
         }
     }
-    put_dropped(text, node.drop, depth)
+    put_dropped(text, node.drop, depth);
 }
 
 // Appends which argument of each symbol is looked at.
-fn put_choices(text: &mut Text, args: &[Arg], depth: u32) -> Result<(), AllocError> {
-    text.indent(depth)?;
+fn put_choices(text: &mut Text, args: &[Arg], depth: u32) {
+    text.indent(depth);
     let mut words: &[u8] = b"Projection: looked at is argument ";
     for arg in args {
-        text.spell(words)?;
+        text.spell(words);
         tell(
             text,
             "@ of @",
             &[Number(arg.place), Spell(arg.name.bytes())],
-        )?;
+        );
         words = b", argument ";
     }
     text.say(if args.is_empty() {
         "Projection: no argument is looked at.\n"
     } else {
         ".\n"
-    })
+    });
 }
 
 /// Appends which pairs are dropped.
-pub fn put_dropped(text: &mut Text, drop: &[u32], depth: u32) -> Result<(), AllocError> {
-    text.indent(depth)?;
-    text.say("Dropped:")?;
-    put_numbers(text, drop)?;
-    text.say(".\n")
+pub fn put_dropped(text: &mut Text, drop: &[u32], depth: u32) {
+    text.indent(depth);
+    text.say("Dropped:");
+    put_numbers(text, drop);
+    text.say(".\n");
 }
 
 // Appends what becomes of the argument that is looked at in a pair.
@@ -71,8 +70,8 @@ fn put_looked_at<'a>(
     pair: &'a Pair,
     args: &[Arg],
     depth: u32,
-) -> Result<(), AllocError> {
-    text.indent(depth)?;
+) {
+    text.indent(depth);
     let left = place_of(system, args, pair.left_fun);
     let right = place_of(system, args, pair.right_fun);
     match (left, right) {

@@ -1,6 +1,5 @@
 //! What symbols are read as, and how the monomials of the left side of a rule or pair cover those of the right one.
 
-use std::alloc::AllocError;
 use wh_cert::Interp;
 use wh_hopoly::{Move, Moves};
 use wh_pairs::Pair;
@@ -8,30 +7,23 @@ use wh_poly::{Monomial, Poly};
 use wh_system::System;
 use wh_tell::Piece::{Big, Count, Number, Say, Spell, Sum};
 use wh_tell::{
-    Names, Text, names_of_rule, put_factors, put_meta, put_pair_line, put_rule_line, tell,
-    tell_line,
+    Names, Text, names_of_rule, number_of, put_factors, put_meta, put_pair_line, put_rule_line,
+    tell, tell_line,
 };
-use wh_types::counted;
 
 // How many monomials of a side are listed.
 const MOST_LISTED: usize = 100;
 
 /// Appends what symbols are read as; a mark stands behind the names of marked ones.
-pub fn put_readings<'a>(
-    text: &mut Text,
-    mark: &'a str,
-    lines: &'a [Interp],
-    depth: u32,
-) -> Result<(), AllocError> {
+pub fn put_readings<'a>(text: &mut Text, mark: &'a str, lines: &'a [Interp], depth: u32) {
     for line in lines {
         tell_line(
             text,
             depth,
             "@@ is @",
             &[Spell(line.name.bytes()), Say(mark), Sum(&line.poly)],
-        )?;
+        );
     }
-    Ok(())
 }
 
 /// What both sides of a rule or pair are worth, if no value passes a limit, the line of moves between them, if there is
@@ -55,11 +47,11 @@ pub fn put_rule_values(
     rule: u32,
     valued: &Valued<'_>,
     depth: u32,
-) -> Result<(), AllocError> {
-    put_rule_line(text, system, rule, depth)?;
+) {
+    put_rule_line(text, system, rule, depth);
     let names = names_of_rule(system, rule);
-    put_variables(text, &names, names.metas.len(), depth)?;
-    put_valued(text, valued, depth.saturating_add(1))
+    put_variables(text, &names, names.metas.len(), depth);
+    put_valued(text, valued, depth.saturating_add(1));
 }
 
 /// Appends a pair and what its sides are worth, and for a pair that is dropped whether a unit of its constant is
@@ -71,96 +63,79 @@ pub fn put_pair_values(
     pair: &Pair,
     valued: &Valued<'_>,
     depth: u32,
-) -> Result<(), AllocError> {
-    put_pair_line(text, system, number, pair, depth)?;
+) {
+    put_pair_line(text, system, number, pair, depth);
     let names = names_of_rule(system, pair.rule);
-    put_variables(text, &names, pair.metas.as_slice().len(), depth)?;
-    put_valued(text, valued, depth.saturating_add(1))
+    put_variables(text, &names, pair.metas.as_slice().len(), depth);
+    put_valued(text, valued, depth.saturating_add(1));
 }
 
 // Appends which variable stands for which meta-variable.
-fn put_variables(
-    text: &mut Text,
-    names: &Names<'_>,
-    count: usize,
-    depth: u32,
-) -> Result<(), AllocError> {
+fn put_variables(text: &mut Text, names: &Names<'_>, count: usize, depth: u32) {
     if count == 0 {
-        return Ok(());
+        return;
     }
-    text.indent(depth.saturating_add(1))?;
+    text.indent(depth.saturating_add(1));
     let mut words: &[u8] = b"with y";
     for number in 0..count {
-        text.spell(words)?;
-        tell(text, "@ for ", &[Count(number)])?;
-        put_meta(text, names.metas, counted(number)?)?;
+        text.spell(words);
+        tell(text, "@ for ", &[Count(number)]);
+        put_meta(text, names.metas, number_of(number));
         words = b", y";
     }
-    text.say("\n")
+    text.say("\n");
 }
 
 // Appends both sides and what is moved; and what is left of the constant where that is asked.
-fn put_valued(text: &mut Text, valued: &Valued<'_>, depth: u32) -> Result<(), AllocError> {
+fn put_valued(text: &mut Text, valued: &Valued<'_>, depth: u32) {
     let (Some(left), Some(right)) = (valued.left, valued.right) else {
-        return tell_line(text, depth, "the value of a side passes a limit", &[]);
+        tell_line(text, depth, "the value of a side passes a limit", &[]);
+        return;
     };
-    put_side(text, "left side", left, depth)?;
-    put_side(text, "right side", right, depth)?;
+    put_side(text, "left side", left, depth);
+    put_side(text, "right side", right, depth);
     let Some(moves) = valued.moves else {
-        return tell_line(text, depth, "there is no line of moves", &[]);
+        tell_line(text, depth, "there is no line of moves", &[]);
+        return;
     };
-    put_moves(text, left, right, moves.as_slice(), depth)?;
-    put_wanting(text, right, moves.as_slice(), depth)?;
+    put_moves(text, left, right, moves.as_slice(), depth);
+    put_wanting(text, right, moves.as_slice(), depth);
     if valued.dropped {
-        tell_line(text, depth, words_of(left, moves.as_slice()), &[])?;
+        tell_line(text, depth, words_of(left, moves.as_slice()), &[]);
     }
-    Ok(())
 }
 
 // Appends what is moved from which monomial of the left side to which one of the right side, each as in certificates
 // and in words.
-fn put_moves(
-    text: &mut Text,
-    left: &Poly,
-    right: &Poly,
-    moves: &[Move],
-    depth: u32,
-) -> Result<(), AllocError> {
+fn put_moves(text: &mut Text, left: &Poly, right: &Poly, moves: &[Move], depth: u32) {
     for item in moves {
-        text.indent(depth)?;
+        text.indent(depth);
         let (from, to) = (Number(item.from), Number(item.to));
         tell(
             text,
             "@>@:@ gives @ of the units of ",
             &[from, to, Big(item.amount), Big(item.amount)],
-        )?;
-        put_numbered(text, left, item.from)?;
-        text.say(" on the left to ")?;
-        put_numbered(text, right, item.to)?;
-        text.say(" on the right\n")?;
+        );
+        put_numbered(text, left, item.from);
+        text.say(" on the left to ");
+        put_numbered(text, right, item.to);
+        text.say(" on the right\n");
     }
-    Ok(())
 }
 
 // Appends which monomials of the right side get fewer units than they have.
-fn put_wanting(
-    text: &mut Text,
-    right: &Poly,
-    moves: &[Move],
-    depth: u32,
-) -> Result<(), AllocError> {
+fn put_wanting(text: &mut Text, right: &Poly, moves: &[Move], depth: u32) {
     for (number, item) in right.as_slice().iter().enumerate() {
-        let units = units_to(moves, counted(number)?);
+        let units = units_to(moves, number_of(number));
         if units < item.coefficient {
             tell_line(
                 text,
                 depth,
                 "monomial @ on the right gets @ of its @ units",
                 &[Count(number), Big(units), Big(item.coefficient)],
-            )?;
+            );
         }
     }
-    Ok(())
 }
 
 // How many units are moved to the monomial of that number.
@@ -203,38 +178,33 @@ fn spent(moves: &[Move]) -> u128 {
 }
 
 // Appends a side, and each of its monomials with its number.
-fn put_side<'a>(
-    text: &mut Text,
-    word: &'a str,
-    side: &'a Poly,
-    depth: u32,
-) -> Result<(), AllocError> {
-    tell_line(text, depth, "@ @", &[Say(word), Sum(side)])?;
+fn put_side<'a>(text: &mut Text, word: &'a str, side: &'a Poly, depth: u32) {
+    tell_line(text, depth, "@ @", &[Say(word), Sum(side)]);
     let items = side.as_slice();
     if items.len() < 2 {
-        return Ok(());
+        return;
     }
     let inner = depth.saturating_add(1);
     for (number, item) in items.iter().enumerate() {
         if number == MOST_LISTED {
-            return tell_line(text, inner, "and so on, @ in all", &[Count(items.len())]);
+            tell_line(text, inner, "and so on, @ in all", &[Count(items.len())]);
+            return;
         }
-        text.indent(inner)?;
-        tell(text, "@: ", &[Count(number)])?;
-        put_monomial(text, item)?;
-        text.say("\n")?;
+        text.indent(inner);
+        tell(text, "@: ", &[Count(number)]);
+        put_monomial(text, item);
+        text.say("\n");
     }
-    Ok(())
 }
 
 // Appends a monomial.
-fn put_monomial(text: &mut Text, item: &Monomial) -> Result<(), AllocError> {
-    text.number(item.coefficient)?;
-    put_factors(text, &item.atoms)
+fn put_monomial(text: &mut Text, item: &Monomial) {
+    text.number(item.coefficient);
+    put_factors(text, &item.atoms);
 }
 
 // Appends the monomial with that number.
-fn put_numbered(text: &mut Text, side: &Poly, number: u32) -> Result<(), AllocError> {
+fn put_numbered(text: &mut Text, side: &Poly, number: u32) {
     match side.as_slice().get(number as usize) {
         Some(item) => put_monomial(text, item),
         None => text.say("none"),

@@ -11,8 +11,8 @@ returns-in-Ok-clause-says c =
     text_said (system_data c.args.problem.now.system) (pairs_data c.args.problem.now.pairs) c.args.bytes.now (said c.in-Ok.certificate)
     c.weighed.result c.in-Ok.ensures.read c.weighed.ensures.says
 
-pub returns-in_ok-put_all_pairs-in-Err-Because-clause-says : goal.returns-in_ok-put_all_pairs-in-Err-Because-clause-says
-returns-in_ok-put_all_pairs-in-Err-Because-clause-says c =
+pub returns-in_ok-put_answer-in-Err-Because-clause-says : goal.returns-in_ok-put_answer-in-Err-Because-clause-says
+returns-in_ok-put_answer-in-Err-Because-clause-says c =
     let at = c.in-Err-Because.fault.at in
     let fault = rw c.in-Err-Because.field-0-is at c.in-Err-Because.ensures.fault in
     fault_said (system_data c.args.problem.now.system) (pairs_data c.args.problem.now.pairs) c.args.bytes.now at c.headed.result
