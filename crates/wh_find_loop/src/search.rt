@@ -61,18 +61,19 @@ fn certify(
     entries: &[Entry],
     entry: &Entry,
     ending: Ending,
-) -> Result<NoCertificate, AllocError>
+) -> Result<Box<NoCertificate>, AllocError>
     requires linked { AreAllLinked (system_data system.now).rules entries.now }
     requires entry { IsLinked (system_data system.now).rules entries.now entry.now }
     requires start { IsStart (system_data system.now).rules entry.now.visit.start (tm start.now) }
     requires fits { Fits (tm start.now) }
     requires leads { EndsAt (system_data system.now) entry.now ending.step (tm start.now) ending.instance }
     ensures { (level : ℕ) → entry.now.level < level → level ≤ 100
-        → IfOk result (λ c. IsLoopCertificate (system_data system.now) level (said_no c)) }
+        → IfOk result (λ c. IsLoopCertificate (system_data system.now) level (said_no c.value)) }
 {
     let mut steps = steps_to(alloc, entries, entry)?;
     steps.push(ending.step)?;
-    certificate_of(alloc, system, start, steps, ending.instance)
+    let found = certificate_of(alloc, system, start, steps, ending.instance)?;
+    Ok(Box::new(alloc, found)?)
 }
 
 // Takes the step from the entry with the number, and tests and lists what it leads to. A term is tested also where it is listed.
@@ -108,7 +109,7 @@ fn try_step(
             entry,
             ending,
         )?;
-        return Ok(Some(Box::new(alloc, found)?));
+        return Ok(Some(found));
     }
     let next = Entry {
         visit: Visit {

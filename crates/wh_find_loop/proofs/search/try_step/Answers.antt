@@ -1,11 +1,10 @@
-use Rattle.std.proofs.Common.{◌≡◌, ◌<◌, length, Some, slice_get, sym, subst, subst₂, arith}
+use Rattle.std.proofs.Common.{◌≡◌, ◌<◌, length, Some, slice_get, subst, subst₂, arith}
 use Rattle.std.specs.Prelude.{MatchOption}
 use Rattle.wh_terms.specs.Erase.{tm}
 use Rattle.wh_system.specs.SystemView.{system_data}
-use Rattle.wh_cert.specs.Said.{said_no}
 use Rattle.wh_loops.specs.Starts.{IsStart}
 use Rattle.wh_loops.specs.Space.{HoldsInstanceOf}
-use Rattle.wh_loops.specs.Found.{IsInstanceIn, IsLoopCertificate}
+use Rattle.wh_loops.specs.Found.{IsInstanceIn}
 use Rattle.wh_find_steps.specs.Reducts.{IsReduct, HasNoReduct, Reduces}
 use Rattle.wh_reached.specs.Listing.{tree, IsEntry}
 use Rattle.wh_reached.proofs.ListingLemmas.{here_at, all_here}
@@ -127,7 +126,7 @@ returns-in-Some-2 c =
     let here : slice_get l.entries.items at ≡ Some e = here_at l.entries.items at e c.requires.at c.index-entry.ensures in
     let entry : IsEntry d level e = all_here (IsEntry d level) l.entries.items at e c.requires.listing.each here in
     let less : e.level < level = c.requires.below at e (omega arith) here in
-    subst (λ x. IsLoopCertificate d level (said_no x)) (sym c.in_ok-new.ensures.ok) (c.in_ok-found.ensures level less c.requires.deep)
+    c.in_ok-found.ensures level less c.requires.deep
 
 pub returns : goal.returns
 returns c =
