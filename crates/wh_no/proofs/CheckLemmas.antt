@@ -1,8 +1,8 @@
 -- What the parts of the check say together.
-use Rattle.std.proofs.Common.{◌≡◌, ℕ, ◌<◌, List, [], ◌∷◌, length, refl, sym, ◌∙◌, subst, arith}
+use Rattle.std.proofs.Common.{◌≡◌, ℕ, ◌<◌, List, [], ◌∷◌, length, refl, sym, ap, ◌∙◌, subst, arith}
 use Rattle.std.specs.Prelude.{Result, Ok, Err, IsErrAnd}
 use Rattle.std.proofs.lemmas.List.{length-map, get_or-map}
-use Rattle.wh_types.specs.Outcome.{MatchOr, IfBecause}
+use Rattle.wh_types.specs.Outcome.{MatchOr}
 use Rattle.wh_types.specs.declared.want.Or.{Or}
 use Rattle.wh_types.specs.declared.want.Or.TheVariants.{NoMemory, Because}
 use Rattle.wh_terms.specs.Tree.{Tm}
@@ -23,11 +23,11 @@ use Rattle.wh_cert.specs.Written as written
 use Rattle.wh_cert.specs.Written.{Cert, no}
 use Rattle.wh_no.specs.declared.fault.NoFault.{NoFault}
 use Rattle.wh_no.specs.declared.fault.NoFault.TheVariants.{NotATerm, NoStep, StepFails, TooBig, BadPut, NoInstance}
-use Rattle.wh_no.specs.Claim.{Put, Claim}
+use Rattle.wh_no.specs.declared.check.AcceptedNo.{AcceptedNo}
+use Rattle.wh_no.specs.Claim.{Put}
 use Rattle.wh_no.specs.Entry.{entry_put, entry_puts}
-use Rattle.wh_no.specs.Valid.{HoldsInstance, IsValid}
-use Rattle.wh_no.specs.Meaning.{Says}
-use Rattle.wh_no.specs.Faults.{IsTermFor, Arrive, AreRight, IsPutFault, IsPlaceFault, IsFirstFalse}
+use Rattle.wh_no.specs.Valid.{HoldsInstance}
+use Rattle.wh_no.specs.Faults.{IsTermFor, Arrive, AreRight, IsTermFault, IsStepFault, IsPutFault, IsPlaceFault, IsFirstFalse, IsValidNo, IsAccepted}
 use Rattle.wh_no.proofs.InstanceLemmas.{AreShut}
 use Rattle.wh_no.proofs.Valid.{valid-unbounded}
 
@@ -66,21 +66,39 @@ values_shut d lines es right k e within =
 -- all together
 
 pub valid_claim : (d : SystemData) (raw : RTm) (t u : Tm) (steps : List taken.Step) (at : List ℕ) (lines : List written.Put) (puts : List Put)
-    → IsTermFor d raw t → Arrive d.rules steps t u → AreRight d lines puts → HoldsInstance t puts at u → (c : Claim) × Says d (no raw steps at lines) c × IsValid d.symbols d.rules c × (length steps ≡ length c.steps)
+    → IsTermFor d raw t → Arrive d.rules steps t u → AreRight d lines puts → HoldsInstance t puts at u → IsValidNo d (no raw steps at lines)
 valid_claim d raw t u steps at lines puts h a right instance = (
   record { term = t; steps = steps; at = at; puts = puts },
   record { term = h.means; steps = refl; at = refl; puts = right.says },
   record { typed = h.means.typed; fits = h.fits; some_step = a.some_step; last = u; replays = a.replays; puts = right.over; increasing = right.increasing; instance = instance },
-  refl,
 )
 
-pub accepted_unbounded : (d : SystemData) (raw : RTm) (t u : Tm) (steps : List taken.Step) (at : List ℕ) (lines : List written.Put) (puts : List Put)
-    → AreWellMade d.symbols d.rules → IsTermFor d raw t → Arrive d.rules steps t u → AreRight d lines puts → HoldsInstance t puts at u → (v : Tm) → Means d raw v → Unbounded d.rules v
-accepted_unbounded d raw t u steps at lines puts w h a right instance v m =
-    let (c, says, valid, n) = valid_claim d raw t u steps at lines puts h a right instance in
-    subst (Unbounded d.rules) (some_one (sym says.term.named ∙ m.named)) (valid-unbounded d.symbols d.rules c w valid)
+pub accepted : (d : SystemData) (raw : RTm) (steps : List taken.Step) (at : List ℕ) (lines : List written.Put) (a : AcceptedNo) → a.steps ≡ length steps → IsValidNo d (no raw steps at lines)
+    → IsAccepted d (no raw steps at lines) a
+accepted d raw steps at lines a counted (c, says, valid) = (c, says, valid, counted ∙ ap length (sym says.steps))
+
+pub valid_no_unbounded : (d : SystemData) (raw : RTm) (steps : List taken.Step) (at : List ℕ) (lines : List written.Put) → AreWellMade d.symbols d.rules → IsValidNo d (no raw steps at lines)
+    → (v : Tm) → Means d raw v → Unbounded d.rules v
+valid_no_unbounded d raw steps at lines w (c, says, valid) v m = subst (Unbounded d.rules) (some_one (sym says.term.named ∙ m.named)) (valid-unbounded d.symbols d.rules c w valid)
 
 -- faults
+
+pub term_fault : (d : SystemData) (raw : RTm) (steps : List taken.Step) (at : List ℕ) (lines : List written.Put) (fault : NoFault) → IsTermFault d raw fault → IsFirstFalse d raw steps at lines fault
+term_fault d raw steps at lines NotATerm f = f
+term_fault d raw steps at lines NoStep f = absurd f
+term_fault d raw steps at lines (StepFails i) f = absurd f
+term_fault d raw steps at lines (TooBig i) f = absurd f
+term_fault d raw steps at lines (BadPut i) f = absurd f
+term_fault d raw steps at lines NoInstance f = absurd f
+
+pub step_fault : (d : SystemData) (raw : RTm) (t : Tm) (steps : List taken.Step) (at : List ℕ) (lines : List written.Put) (fault : NoFault) → IsTermFor d raw t → IsStepFault d.rules steps t fault
+    → IsFirstFalse d raw steps at lines fault
+step_fault d raw t steps at lines NotATerm h f = absurd f
+step_fault d raw t steps at lines NoStep h f = (t, h, f)
+step_fault d raw t steps at lines (StepFails i) h f = (t, h, f)
+step_fault d raw t steps at lines (TooBig i) h f = (t, h, f)
+step_fault d raw t steps at lines (BadPut i) h f = absurd f
+step_fault d raw t steps at lines NoInstance h f = absurd f
 
 pub put_fault : (d : SystemData) (raw : RTm) (t u : Tm) (steps : List taken.Step) (at : List ℕ) (lines : List written.Put) (fault : NoFault) → IsTermFor d raw t → Arrive d.rules steps t u → IsPutFault d lines fault
     → IsFirstFalse d raw steps at lines fault
@@ -101,11 +119,18 @@ place_fault d raw t u steps at lines puts (BadPut i) h a right f = absurd f
 place_fault d raw t u steps at lines puts NoInstance h a right f = (t, u, puts, h, a, right, f)
 
 -- the cause of one part, as the cause of the whole
-pub passed_on : {T U : Type 0} (r : Result T (Or NoFault)) (e : Or NoFault) (P : U → Type 0) (Q R : NoFault → Type 0) → IsErrAnd r (λ x. x ≡ e) → MatchOr (Err e) P Q → ((f : NoFault) → Q f → R f) → IfBecause r R
-passed_on (Ok x) e P Q R same h k = tt
-passed_on (Err NoMemory) e P Q R same h k = tt
-passed_on (Err (Because f)) NoMemory P Q R same h k = absurd (cc)
-passed_on (Err (Because f)) (Because g) P Q R same h k = k f (subst Q (sym (because_one same)) h)
+pub passed_on : {T U : Type 0} (r : Result T (Or NoFault)) (e : Or NoFault) (V : T → Type 0) (P : U → Type 0) (Q R : NoFault → Type 0) → IsErrAnd r (λ x. x ≡ e) → MatchOr (Err e) P Q
+    → ((f : NoFault) → Q f → R f) → MatchOr r V R
+passed_on (Ok x) e V P Q R same h k = absurd same
+passed_on (Err NoMemory) e V P Q R same h k = tt
+passed_on (Err (Because f)) NoMemory V P Q R same h k = absurd (cc)
+passed_on (Err (Because f)) (Because g) V P Q R same h k = k f (subst Q (sym (because_one same)) h)
   where
     because_one : Because f ≡ Because g → f ≡ g
     because_one e = cc
+
+-- what the last part tells, as what the whole tells
+pub told_on : {T : Type 0} (r : Result T (Or NoFault)) (P V : T → Type 0) (Q R : NoFault → Type 0) → MatchOr r P Q → ((x : T) → P x → V x) → ((f : NoFault) → Q f → R f) → MatchOr r V R
+told_on (Ok x) P V Q R h j k = j x h
+told_on (Err NoMemory) P V Q R h j k = tt
+told_on (Err (Because f)) P V Q R h j k = k f h
