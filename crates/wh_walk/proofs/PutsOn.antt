@@ -27,7 +27,7 @@ use Rattle.wh_no.specs.Faults.{IsTermFor, Arrive, AreRight, AreRightTo, IsPutFau
 use Rattle.wh_no.specs.declared.check.AcceptedNo.{AcceptedNo}
 use Rattle.wh_no.specs.declared.fault.NoFault.{NoFault}
 use Rattle.wh_no.specs.declared.fault.NoFault.TheVariants.{NoStep}
-use Rattle.wh_no.proofs.CheckLemmas.{term_shut, term_plain, last_fits, last_shut, values_shut, valid_claim, accepted_unbounded, put_fault, place_fault}
+use Rattle.wh_no.proofs.CheckLemmas.{term_shut, term_plain, last_fits, last_shut, values_shut, valid_claim, valid_no_unbounded, put_fault, place_fault}
 use Rattle.wh_no.proofs.NumberLemmas.{unused_low}
 use Rattle.wh_no.proofs.PutLemmas.{says_length}
 use Rattle.wh_checker.specs.declared.checking.Accepted.TheVariants as answer
@@ -232,13 +232,13 @@ puts_whole d ps k a made number holds = λ c rest cert stand. go c rest stand
         let (over, tail) = no_puts rest stand.left stand.rest_is in
         let right = right_all d k raw steps path puts (end ∷ rest) stand over in
         let instance = subst (λ way. HoldsInstance t es way u) stand.place holds in
-        let (claim, says, valid, n) = valid_claim d raw t u steps path puts es stand.term stand.arrive right instance in (
+        let (claim, says, valid) = valid_claim d raw t u steps path puts es stand.term stand.arrive right instance in (
           tail,
           record {
-            accepted = (claim, says, valid, number ∙ stand.count ∙ n);
+            accepted = (claim, says, valid, number ∙ stand.count ∙ ap length (sym says.steps));
             small = tt;
             meaning =
-                (t, stand.term.means, accepted_unbounded d raw t u steps path puts es made stand.term stand.arrive right instance t stand.term.means);
+                (t, stand.term.means, valid_no_unbounded d raw steps path puts made (claim, says, valid) t stand.term.means);
           },
         )
 
