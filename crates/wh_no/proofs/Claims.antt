@@ -39,7 +39,7 @@ module _ (d : SystemData) (raw : RTm) (steps : List taken.Step) (at : List ℕ) 
   at_lines : (t u : Tm) → IsTermFor d raw t → Arrive d.rules steps t u → (puts : List Put) → AreRight d lines puts → Decided (HoldsInstance t puts at u)
       → ClaimOrFault d raw steps at lines
   at_lines t u term arrive puts right (inl holds) =
-      let (c, says, valid, counted) = valid_claim d raw t u steps at lines puts term arrive right holds in inl (c, says, valid)
+      inl (valid_claim d raw t u steps at lines puts term arrive right holds)
   at_lines t u term arrive puts right (inr not) = inr (NoInstance, (t, u, puts, term, arrive, right, not))
 
   at_end : (t u : Tm) → IsTermFor d raw t → Arrive d.rules steps t u → ((puts : List Put) × AreRight d lines puts) ⊎ ((i : ℕ) × IsFirstBadLine d lines i)
