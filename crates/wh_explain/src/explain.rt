@@ -201,7 +201,7 @@ fn put_certificate(
     match certificate {
         Certificate::Yes(certificate) => {
             put_ranks(alloc, text, &problem.system, certificate.ranks.as_slice())?;
-            text.say(if accepted { PROOF } else { CLAIM });
+            text.say(heading(accepted));
             put_tree(alloc, text, problem, certificate)
         }
         Certificate::No(certificate) => {
@@ -212,6 +212,11 @@ fn put_certificate(
             }
         }
     }
+}
+
+// What stands above the nodes of a certificate.
+fn heading(accepted: bool) -> &'static str {
+    if accepted { PROOF } else { CLAIM }
 }
 
 // The rest of the first line.

@@ -15,16 +15,21 @@ pub fn put_filters<'a>(text: &mut Text, mark: &'a str, lines: &'a [NamedFilter],
         match &line.filter {
             Filter::Keep { prec, places } => {
                 tell(text, " has precedence @", &[Number(*prec)]);
-                text.say(match places.as_slice().len() {
-                    0 => " and keeps no argument",
-                    1 => " and keeps argument",
-                    _ => " and keeps arguments",
-                });
+                text.say(kept(places.as_slice().len()));
                 put_numbers(text, places.as_slice());
             }
             Filter::Pick { place } => tell(text, " gives way to its argument @", &[Number(*place)]),
         }
         text.say("\n");
+    }
+}
+
+// What is said before the places of so many arguments.
+fn kept(count: usize) -> &'static str {
+    match count {
+        0 => " and keeps no argument",
+        1 => " and keeps argument",
+        _ => " and keeps arguments",
     }
 }
 
@@ -102,8 +107,16 @@ fn put_inference(
 
 // Appends what an inference goes by.
 fn put_letter(text: &mut Text, inference: &Inference) {
-    let place = inference.place;
-    let words = match inference.letter {
+    text.say(words_of(inference.letter));
+    if matches!(inference.letter, Letter::Sub | Letter::Lex | Letter::Meta) {
+        tell(text, "@.", &[Number(inference.place)]);
+    }
+    text.say("\n");
+}
+
+// What is said of a letter, before the argument that it names where it names one.
+fn words_of(letter: Letter) -> &'static str {
+    match letter {
         Letter::Same => "they are the same.",
         Letter::Lam => "both are abstractions, and the body gets smaller.",
         Letter::Mono => "the head is the same, and no argument gets greater.",
@@ -115,12 +128,7 @@ fn put_letter(text: &mut Text, inference: &Inference) {
         Letter::Bind => "it is above the body.",
         Letter::Var => "that is the variable of a binder that was passed.",
         Letter::Meta => "it has that meta-variable itself as its argument ",
-    };
-    text.say(words);
-    if matches!(inference.letter, Letter::Sub | Letter::Lex | Letter::Meta) {
-        tell(text, "@.", &[Number(place)]);
     }
-    text.say("\n");
 }
 
 // What the part of that index is to show.
