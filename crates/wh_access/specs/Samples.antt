@@ -61,7 +61,8 @@ map_cons = record {
 abbrev pub map_rules : List RewriteRule
 map_rules = map_nil ∷ (map_cons ∷ [])
 
--- untyped terms over the sort o, with 0 lam : (o -> o) -> o and 1 app : o -> o -> o: {F, X} app (lam (\x.F[x])) X => F[X]
+-- untyped terms over the sort o, with 0 lam : (o -> o) -> o and 1 app : o -> o -> o: {F, X} app (lam (\x.F[x])) X =>
+-- F[X]
 abbrev pub untyped : Symbols
 untyped = record { sorts = 1; funs = ((sort 0 ⇒ sort 0) ⇒ sort 0) ∷ ((sort 0 ⇒ (sort 0 ⇒ sort 0)) ∷ []) }
 

@@ -25,8 +25,8 @@ pub struct Inaccessible {
     pub meta: u32,
 }
 
-/// Whether the system is passing under the ranks, of which there is one for each sort: each meta-variable of a right side
-/// is read in the left side on a way of accessible places (Fuhs and Kop 2019, accessible function passing).
+/// Whether the system is passing under the ranks, of which there is one for each sort: each meta-variable of a right
+/// side is read in the left side on a way of accessible places (Fuhs and Kop 2019, accessible function passing).
 ///
 /// # Errors
 ///

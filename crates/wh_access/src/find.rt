@@ -33,8 +33,8 @@ pub enum NoRanks {
 /// # Errors
 ///
 /// `Unread` names the first rule, and in it the least meta-variable by number, whose right side uses what the left side
-/// is not read for. Where all is read, `Cycle` lists the sorts of a cycle of demands, each once, of which at least one is
-/// strict: no ranks meet these.
+/// is not read for. Where all is read, `Cycle` lists the sorts of a cycle of demands, each once, of which at least one
+/// is strict: no ranks meet these.
 pub fn find_ranks(alloc: Global, system: &System) -> Result<Ranks, Or<NoRanks>>
     ensures passing { IfOk result (IsPassing (system_data system.now)) }
     ensures each { IfOk result (λ ranks. length ranks ≡ (system_data system.now).symbols.sorts) }

@@ -1,5 +1,5 @@
-//! The line of each answer, printed word by word: a builder gives a text, and the next word goes behind it. The main function is
-//! `print_answer`; the lines of two answers are there without memory.
+//! The line of each answer, printed word by word: a builder gives a text, and the next word goes behind it. The main
+//! function is `print_answer`; the lines of two answers are there without memory.
 
 ghost use Rattle.std.specs.Prelude.{◌≡◌, IfOk, OnOk};
 ghost use Rattle.wh_answer.specs.Texts.{all_named, all_numbered, cause_text, finder_word, line, named, numbered, of_node, of_pair, of_rule, reason_word, rejection_text, report_text, role_word, symbol_word};

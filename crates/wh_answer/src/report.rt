@@ -1,5 +1,5 @@
-//! What a run answers, apart from certificates and systems that are shown, with names in place of the numbers of sorts, symbols and
-//! meta-variables.
+//! What a run answers, apart from certificates and systems that are shown, with names in place of the numbers of sorts,
+//! symbols and meta-variables.
 
 use crate::names::Names;
 use wh_text::Name;
@@ -79,7 +79,8 @@ pub enum NamedFinder {
     Loop,
 }
 
-/// Why a system is refused: its bytes are no system text, the system is not well made, or it has too many dependency pairs.
+/// Why a system is refused: its bytes are no system text, the system is not well made, or it has too many dependency
+/// pairs.
 #[derive(Clone, Copy)]
 pub enum ReasonWord {
     /// A byte can't stand there.
@@ -112,8 +113,9 @@ pub enum ReasonWord {
     TooManyPairs,
 }
 
-/// Why a certificate is rejected: its bytes are no certificate text, or the first condition of a valid certificate that is false. Nodes
-/// are counted from 0, each before its children; so are rules, pairs, steps and lines, and the moves, monomials and inferences of a line.
+/// Why a certificate is rejected: its bytes are no certificate text, or the first condition of a valid certificate that
+/// is false. Nodes are counted from 0, each before its children; so are rules, pairs, steps and lines, and the moves,
+/// monomials and inferences of a line.
 #[derive(Drop)]
 pub enum NamedRejection {
     /// The bytes are no certificate text, and no such text begins with more of them than this.
@@ -122,7 +124,8 @@ pub enum NamedRejection {
     },
     /// There is not one rank for each sort.
     RankCount,
-    /// The system is not passing under the ranks: this meta-variable of this rule is not read on a way of accessible places.
+    /// The system is not passing under the ranks: this meta-variable of this rule is not read on a way of accessible
+    /// places.
     Inaccessible {
         rule: u32,
         meta: Name,
@@ -186,7 +189,8 @@ pub enum NamedRejection {
     BadUsable {
         node: u32,
     },
-    /// The lines `fun` are not for the symbols of the system in order, or the lines `mark` not for the marked symbols of the set.
+    /// The lines `fun` are not for the symbols of the system in order, or the lines `mark` not for the marked symbols
+    /// of the set.
     BadSymbols {
         node: u32,
     },
@@ -196,11 +200,13 @@ pub enum NamedRejection {
         symbol: Name,
         marked: bool,
     },
-    /// There is not one line `rule` for each rule that is to be covered, or not one line `pair` for each pair of the set.
+    /// There is not one line `rule` for each rule that is to be covered, or not one line `pair` for each pair of the
+    /// set.
     BadLines {
         node: u32,
     },
-    /// Not all rules are listed, and this listed rule is not first-order, or its right side has a symbol not all whose rules are listed.
+    /// Not all rules are listed, and this listed rule is not first-order, or its right side has a symbol not all whose
+    /// rules are listed.
     NotClosedRule {
         node: u32,
         rule: u32,
@@ -210,7 +216,8 @@ pub enum NamedRejection {
         node: u32,
         pair: u32,
     },
-    /// This move of the rule's line is not good: a monomial is not there, or the left one is not of the right one's kind.
+    /// This move of the rule's line is not good: a monomial is not there, or the left one is not of the right one's
+    /// kind.
     BadMoveRule {
         node: u32,
         rule: u32,
@@ -274,7 +281,8 @@ pub enum NamedRejection {
         pair: u32,
         entry: u32,
     },
-    /// This pair is dropped, and its moves leave nothing of the constant of its left side, or its inference is that of equal trees.
+    /// This pair is dropped, and its moves leave nothing of the constant of its left side, or its inference is that of
+    /// equal trees.
     NotStrict {
         node: u32,
         pair: u32,

@@ -1,6 +1,7 @@
-//! A product that grows by one value after another. A single monomial is not multiplied in at once: its factors join those of the
-//! monomials before it in any order, and what they may still weigh is counted; they are put in order once, and multiplied in once. So
-//! what stands before a long row of factors is not copied, compared or weighed anew for each of them.
+//! A product that grows by one value after another. A single monomial is not multiplied in at once: its factors join
+//! those of the monomials before it in any order, and what they may still weigh is counted; they are put in order once,
+//! and multiplied in once. So what stands before a long row of factors is not copied, compared or weighed anew for each
+//! of them.
 
 ghost use Rattle.std.specs.Prelude.{◌≡◌, ◌+◌, ◌*◌, ◌≤◌, ◌<◌, IfOk, OnOk, IfSome, IsTrue};
 ghost use Rattle.wh_types.specs.Limits.{greatest_weight};

@@ -1,4 +1,5 @@
-//! A monomial times a value: a row of a product. Where the row is heavy, or does not come in order, its products are added one by one.
+//! A monomial times a value: a row of a product. Where the row is heavy, or does not come in order, its products are
+//! added one by one.
 
 ghost use Rattle.std.specs.Prelude.{◌≡◌, ◌≤◌, IfOk};
 ghost use Rattle.wh_types.specs.Outcome.{IfBecause};

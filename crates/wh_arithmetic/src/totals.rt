@@ -1,5 +1,5 @@
-//! Sums of many polynomials. Partial sums are added two by two, so that each monomial takes part in few merges. What is added is
-//! weighed once: as long as all of it together is light enough, so is each sum of some of it.
+//! Sums of many polynomials. Partial sums are added two by two, so that each monomial takes part in few merges. What is
+//! added is weighed once: as long as all of it together is light enough, so is each sum of some of it.
 
 ghost use Rattle.std.specs.Prelude.{◌≡◌, [], IfOk, OnOk};
 ghost use Rattle.wh_types.specs.Outcome.{IfBecause};

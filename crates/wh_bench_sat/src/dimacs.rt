@@ -56,7 +56,8 @@ fn read_line(
     Ok(clause)
 }
 
-/// The literal that such a number other than 0 writes: of the variable with the next lesser number, negated where it is below 0.
+/// The literal that such a number other than 0 writes: of the variable with the next lesser number, negated where it is
+/// below 0.
 pub fn literal_of(number: i32) -> Literal {
     Literal {
         variable: number.unsigned_abs().saturating_sub(1),

@@ -1,5 +1,5 @@
-//! Lists that show that a formula has no model, in the LRAT format: in each line the number of a clause, its literals, and the
-//! numbers of its hints, each closed by 0. Numbers count from 1, those of the formula's clauses first.
+//! Lists that show that a formula has no model, in the LRAT format: in each line the number of a clause, its literals,
+//! and the numbers of its hints, each closed by 0. Numbers count from 1, those of the formula's clauses first.
 
 ghost use Rattle.std.specs.Bool.{OnTrue};
 ghost use Rattle.std.specs.Prelude.{◌≤◌, ◌^◌, Contains, length};

@@ -1,5 +1,6 @@
-//! Solves the formula of a file in DIMACS form. With the word `list` behind the file it prints a list that shows that there is no model, in the
-//! LRAT format; with the name of such a list it checks that one. It stands here to be timed by `bench/sat.py` beside other solvers.
+//! Solves the formula of a file in DIMACS form. With the word `list` behind the file it prints a list that shows that
+//! there is no model, in the LRAT format; with the name of such a list it checks that one. It stands here to be timed
+//! by `bench/sat.py` beside other solvers.
 #![tactic(auto)]
 
 mod dimacs;

@@ -7,7 +7,8 @@ use Rattle.wh_space.specs.Space.{space_of}
 abbrev pub bits_of : List Ty → ℕ
 bits_of Γ = 2 * length (space_of Γ)
 
--- the number of the first bit of the scope with this number, where the bits of all scopes are numbered one after another (ours)
+-- the number of the first bit of the scope with this number, where the bits of all scopes are numbered one after
+-- another (ours)
 abbrev pub first_bit : List (List Ty) → ℕ → ℕ
 first_bit [] n = 0
 first_bit (Γ ∷ scopes) zero = 0

@@ -1,5 +1,5 @@
--- Lists of clauses on the bits of coefficients that a search by guesses makes: each shuts out a guess under which a condition fails, or
--- follows from those before it.
+-- Lists of clauses on the bits of coefficients that a search by guesses makes: each shuts out a guess under which a
+-- condition fails, or follows from those before it.
 use Rattle.std.specs.Prelude.{ℕ, suc, ◌<◌, ◌≤◌, ◌≡◌, ◌⊎◌, ◌↔◌, Bool, false, List, [], length, map, take, get_or}
 use Rattle.wh_reduction.specs.TaskData.{TaskData}
 use Rattle.wh_polycheck.specs.Readings.{ReadingsData}
@@ -22,8 +22,8 @@ module _ (T : TaskData) (marked : List ℕ) where
     pub marked_are : map (λ m. m.symbol) R.marks ≡ marked
     pub coefficients : HaveCoefficients T (lists_by v (scopes_of T marked)) R
 
-  -- a blocked clause: there is a guess under which all earlier clauses are true and a condition fails, and the clause has just the
-  -- literals that are false under it, over the bits of what is used in the condition (ours)
+  -- a blocked clause: there is a guess under which all earlier clauses are true and a condition fails, and the clause
+  -- has just the literals that are false under it, over the bits of what is used in the condition (ours)
   pub record IsBlocked (earlier : List (List Literal)) (clause : List Literal) : Type 0 where
     pub guess : ℕ → Bool
     pub allowed : Solves guess earlier

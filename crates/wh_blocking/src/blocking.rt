@@ -1,4 +1,5 @@
-//! The search by guesses: each guess under which a condition fails is shut out by a clause, and a solver tells the next one.
+//! The search by guesses: each guess under which a condition fails is shut out by a clause, and a solver tells the next
+//! one.
 
 ghost use Rattle.std.specs.Prelude.{◌≡◌, ◌+◌, ◌<◌, ◌≤◌, IfOk, OnOk, length};
 ghost use Rattle.wh_types.specs.Limits.{most_pairs};
@@ -57,7 +58,8 @@ fn learner_for<'a>(
     Ok(learner)
 }
 
-// Shuts out the guesses under which a condition fails, one after the other, until none fails or no clause may join any more.
+// Shuts out the guesses under which a condition fails, one after the other, until none fails or no clause may join any
+// more.
 fn search<'a>(
     alloc: Global,
     encoding: &Encoding<'a>,

@@ -12,8 +12,9 @@ use std::alloc::{AllocError, Global};
 use wh_guesses::{sizes_of, uses_of};
 use wh_reduction::Task;
 
-/// A task with the marked symbols of its set, and what is looked up in the search: of each symbol, and then of each marked one, how
-/// many monomials it has and which bit comes first; and of each condition the numbers of what is used in it.
+/// A task with the marked symbols of its set, and what is looked up in the search: of each symbol, and then of each
+/// marked one, how many monomials it has and which bit comes first; and of each condition the numbers of what is used
+/// in it.
 #[derive(Drop)]
 pub struct Encoding<'a> {
     pub task: Task<'a>,

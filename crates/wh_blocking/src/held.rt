@@ -1,7 +1,8 @@
 //! Conditions that held under some bits, so that they are not looked at again.
 //!
-//! Whether a condition holds is told by the bits of what is used in it. This only says where a search has to look, and nothing is
-//! claimed of it: that a condition fails is told by a look at it, and a guess under which none is found to fail is looked at as a whole.
+//! Whether a condition holds is told by the bits of what is used in it. This only says where a search has to look, and
+//! nothing is claimed of it: that a condition fails is told by a look at it, and a guess under which none is found to
+//! fail is looked at as a whole.
 
 use crate::bits::bit;
 use std::alloc::{AllocError, Global};
@@ -21,7 +22,8 @@ pub struct Bits<'a> {
 }
 
 impl<'a> Bits<'a> {
-    /// A number that is made of that of the condition, and of the bits of what is used in it. Others may well have the same one.
+    /// A number that is made of that of the condition, and of the bits of what is used in it. Others may well have the
+    /// same one.
     pub fn key_of(self, condition: usize) -> u64 {
         let mut key = mixed(condition as u64, 1);
         if let Some(numbers) = self.numbers.get(condition) {

@@ -1,5 +1,5 @@
-//! What guides the search: which conditions are looked at, and which first. Answers rest on none of this, but on that a condition that
-//! is told to fail does fail.
+//! What guides the search: which conditions are looked at, and which first. Answers rest on none of this, but on that a
+//! condition that is told to fail does fail.
 
 ghost use Rattle.std.specs.Prelude.{◌≤◌, IfOk, IfSome, length};
 ghost use Rattle.wh_types.specs.Limits.{most_pairs};
@@ -32,8 +32,8 @@ impl Hints {
         Ok(Hints { order, held })
     }
 
-    /// What the guess that these bits write comes to. Only conditions that are not known to hold are evaluated, and all of them where
-    /// none fails.
+    /// What the guess that these bits write comes to. Only conditions that are not known to hold are evaluated, and all
+    /// of them where none fails.
     pub fn weigh<'a>(
         &mut self,
         alloc: Global,

@@ -1,5 +1,5 @@
-//! Interpretations by guesses: a solver proposes two bits for each coefficient, and a condition that fails under the guess shuts out
-//! all guesses that agree with it on what is read in the condition.
+//! Interpretations by guesses: a solver proposes two bits for each coefficient, and a condition that fails under the
+//! guess shuts out all guesses that agree with it on what is read in the condition.
 #![tactic(auto)]
 
 mod bits;

@@ -7,8 +7,8 @@ ghost use Rattle.wh_blocking.specs.Numbers.{AreNumbers, HaveSame, on_sides};
 use std::alloc::{AllocError, Global};
 use wh_guesses::Uses;
 
-/// The numbers of what is used in each condition, each once and in order, and at the end those of all that is used behind so many
-/// rules.
+/// The numbers of what is used in each condition, each once and in order, and at the end those of all that is used
+/// behind so many rules.
 pub fn numbers_of_conditions(
     alloc: Global,
     all: &[Uses],

@@ -17,8 +17,8 @@ use wh_reduction::Task;
 use wh_sat::Search;
 use wh_sat_trail::Clauses;
 
-/// Guess by guess, beginning with these coefficients: each guess under which a condition fails is shut out by a clause over the
-/// bits of what is used in that condition.
+/// Guess by guess, beginning with these coefficients: each guess under which a condition fails is shut out by a clause
+/// over the bits of what is used in that condition.
 pub fn find_by_guesses<'a>(
     alloc: Global,
     task: &Task<'a>,

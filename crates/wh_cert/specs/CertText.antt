@@ -1,5 +1,5 @@
--- Which bytes are the text of which certificate, and where other bytes stop being the beginning of one (ours). The grammar
--- stands at the head of Text.
+-- Which bytes are the text of which certificate, and where other bytes stop being the beginning of one (ours). The
+-- grammar stands at the head of Text.
 use Rattle.std.specs.Prelude.{ℕ, ◌≡◌, ◌≤◌, List, ◌++◌, length, take}
 use Rattle.wh_cert.specs.Written.{Cert}
 use Rattle.wh_cert.specs.Text.{text}

@@ -62,8 +62,8 @@ NodeFits _ = Unit {0}
 abbrev pub IsVersion : ℕ → Type 0
 IsVersion version = (version ≡ 1) ⊎ (version ≡ 2)
 
--- the node is one of that version: of interpretations those that list no rules are of the first one, those that list some are of
--- the second, and so are those of path orders
+-- the node is one of that version: of interpretations those that list no rules are of the first one, those that list
+-- some are of the second, and so are those of path orders
 abbrev pub IsOfVersion : ℕ → Node → Type 0
 IsOfVersion version (interpretations None funs marks rules pairs drop) = version ≡ 1
 IsOfVersion version (interpretations (Some ns) funs marks rules pairs drop) = version ≡ 2

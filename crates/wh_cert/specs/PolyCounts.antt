@@ -17,7 +17,8 @@ abbrev pub argument_count : Arguments → ℕ
 argument_count no_arguments = 0
 argument_count (argument p ps) = suc (argument_count ps)
 
--- each monomial has at most n atoms, each atom at most n arguments, and each argument, and each in it, at most n monomials
+-- each monomial has at most n atoms, each atom at most n arguments, and each argument, and each in it, at most n
+-- monomials
 abbrev mutual
   pub MonomialsWithin : ℕ → Polynomial → Type 0
   MonomialsWithin n zero_poly = Unit {0}

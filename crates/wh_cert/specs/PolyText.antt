@@ -3,8 +3,8 @@ use Rattle.std.specs.Prelude.{ℕ, List, ◌++◌, codes}
 use Rattle.std.specs.Fmt.{decimal}
 use Rattle.wh_poly.specs.Polynomials.{Polynomial, zero_poly, plus, Factors, no_factors, times, Arguments, no_arguments, argument}
 
--- a polynomial: `0`, or monomials with `+` between them; a monomial is its coefficient, then each factor behind a `*`, a
--- variable's number behind `y` with its arguments in parentheses
+-- a polynomial: `0`, or monomials with `+` between them; a monomial is its coefficient, then each factor behind a `*`,
+-- a variable's number behind `y` with its arguments in parentheses
 abbrev mutual
   pub put_poly : Polynomial → List ℕ → List ℕ
   put_poly zero_poly r = codes "0" ++ r

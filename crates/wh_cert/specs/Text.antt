@@ -1,4 +1,5 @@
--- The text of a certificate (ours), of version 1 or 2. In EBNF, LF being a line feed and no other blank standing anywhere:
+-- The text of a certificate (ours), of version 1 or 2. In EBNF, LF being a line feed and no other blank standing
+-- anywhere:
 --
 --     certificate = yes | no
 --     yes         = "YES 1" LF head node1 "end" LF | "YES 2" LF head node2 "end" LF
@@ -33,10 +34,10 @@
 --     number      = "0" | amount
 --     amount      = nonzero { digit }
 --
--- Letters and digits are those of ASCII, `nonzero` is a digit but 0. Behind `blocks` come as many blocks, and as many nodes, as
--- its number says. How great, how long, how many and how deep all this may be stands in Limits, TermLimits and PolyLimits; filters and
--- inferences stand beside the crate that has them, in FilterText, InferenceText and InferenceLimits. Below, `put_.. r` is the spelling
--- with r behind it.
+-- Letters and digits are those of ASCII, `nonzero` is a digit but 0. Behind `blocks` come as many blocks, and as many
+-- nodes, as its number says. How great, how long, how many and how deep all this may be stands in Limits, TermLimits
+-- and PolyLimits; filters and inferences stand beside the crate that has them, in FilterText, InferenceText and
+-- InferenceLimits. Below, `put_.. r` is the spelling with r behind it.
 use Rattle.std.specs.Prelude.{ℕ, ◌+◌, List, [], ◌∷◌, ◌++◌, length, Option, Some, None, codes}
 use Rattle.std.specs.Fmt.{decimal}
 use Rattle.wh_text.specs.Chars.{line_feed}

@@ -23,11 +23,12 @@ pub record Filtering : Type 0 where
   pub name : List ℕ
   pub filter : WrittenFilter
 
--- how the chains of a set of pairs are shown to end: there is no pair; there is one pair, which may not follow itself; by
--- blocks of pairs, of which no later one leads back to an earlier one; by an argument for each symbol that never grows and
--- shrinks in the pairs that are dropped; by polynomials for all symbols and for the marked ones, with moves that cover each rule,
--- or each of those that are listed, and each pair, the dropped ones strictly; by argument filters for all symbols and for the marked
--- ones, with an inference of the path order for each rule and each pair (Kop 2012, Fuhs and Kop 2019; the spelling is ours)
+-- how the chains of a set of pairs are shown to end: there is no pair; there is one pair, which may not follow itself;
+-- by blocks of pairs, of which no later one leads back to an earlier one; by an argument for each symbol that never
+-- grows and shrinks in the pairs that are dropped; by polynomials for all symbols and for the marked ones, with moves
+-- that cover each rule, or each of those that are listed, and each pair, the dropped ones strictly; by argument filters
+-- for all symbols and for the marked ones, with an inference of the path order for each rule and each pair (Kop 2012,
+-- Fuhs and Kop 2019; the spelling is ours)
 pub data Node : Type 0 where
   done alone : Node
   blocks : (parts : List (List ℕ)) → Node

@@ -18,7 +18,8 @@ pub enum Certificate {
 /// Ranks of the sorts, and a tree of nodes by which every chain of pairs ends.
 #[derive(Drop)]
 pub struct YesCertificate {
-    /// The version of the format, 1 or 2: nodes of path orders, and nodes of interpretations that list rules, stand in the second.
+    /// The version of the format, 1 or 2: nodes of path orders, and nodes of interpretations that list rules, stand in
+    /// the second.
     pub version: u32,
     /// A rank for each sort.
     pub ranks: Numbers,
@@ -44,9 +45,11 @@ pub enum Node {
         /// The pairs in which it shrinks.
         drop: Numbers,
     },
-    /// By polynomials under which no rule that is to be covered and no pair grows, and some pairs shrink; a child for the others.
+    /// By polynomials under which no rule that is to be covered and no pair grows, and some pairs shrink; a child for
+    /// the others.
     Poly(Box<PolyNode>),
-    /// By argument filters and a path order under which no rule and no pair grows, and some pairs shrink; a child for the others.
+    /// By argument filters and a path order under which no rule and no pair grows, and some pairs shrink; a child for
+    /// the others.
     Order(Box<OrderNode>),
 }
 

@@ -5,8 +5,8 @@ use wh_terms::{Path, Step};
 use wh_text::RawTerm;
 use wh_types::Numbers;
 
-/// What some lines of a certificate say; its text is that of its items, in their order, and nothing else. Large ones stand
-/// behind a box.
+/// What some lines of a certificate say; its text is that of its items, in their order, and nothing else. Large ones
+/// stand behind a box.
 #[derive(Drop)]
 pub enum Item {
     /// The lines of a YES certificate before its nodes.

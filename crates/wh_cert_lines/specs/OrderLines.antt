@@ -1,5 +1,5 @@
--- A reader of the lines of a node of a path order up to that of `drop`, byte by byte, as a function: where it stands, and where
--- the next byte leads. It mirrors the code; the laws in proofs/ tie it to the text.
+-- A reader of the lines of a node of a path order up to that of `drop`, byte by byte, as a function: where it stands,
+-- and where the next byte leads. It mirrors the code; the laws in proofs/ tie it to the text.
 use Rattle.std.specs.Prelude.{ℕ, ◌==◌, ◌&&◌, nat_lt, cond, List, [], ◌∷◌, ◌++◌, length}
 use Rattle.wh_types.specs.Limits.{longest_name}
 use Rattle.wh_text.specs.Chars.{line_feed, space, is_start, is_part}
@@ -10,8 +10,8 @@ use Rattle.wh_cert.specs.Written.{Filtering, Node, order}
 use Rattle.wh_cert_lines.specs.Sections as s
 pub use Rattle.wh_cert_lines.specs.Sections.{in_funs, in_marks, in_rules, in_pairs, on, begins, drops, refused, line_first, line_rest, to_marks, to_rules, to_pairs, add_named, add_shown, pair_step, rule_step, mark_step, first_step}
 
--- the place in the present line, which is of the last kind: its front; behind `fun ` or `mark `; letters of a name; a part of a
--- filter; behind `rule` or `pair`; a part of an inference
+-- the place in the present line, which is of the last kind: its front; behind `fun ` or `mark `; letters of a name; a
+-- part of a filter; behind `rule` or `pair`; a part of an inference
 pub data LinesPlace : Type 0 where
   lines_front name_wanted : LinesPlace
   name : (xs : List ℕ) → LinesPlace

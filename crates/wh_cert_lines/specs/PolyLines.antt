@@ -1,5 +1,5 @@
--- A reader of the lines of a node of interpretations up to that of `drop`, byte by byte, as a function: where it stands, and where
--- the next byte leads. It mirrors the code; the laws in proofs/ tie it to the text.
+-- A reader of the lines of a node of interpretations up to that of `drop`, byte by byte, as a function: where it
+-- stands, and where the next byte leads. It mirrors the code; the laws in proofs/ tie it to the text.
 use Rattle.std.specs.Prelude.{ℕ, ◌+◌, ◌-◌, ◌*◌, ◌==◌, ◌&&◌, nat_lt, cond, List, [], ◌∷◌, ◌++◌, length, Option}
 use Rattle.wh_types.specs.Limits.{longest_name}
 use Rattle.wh_hopoly.specs.declared.expression.Move as moved
@@ -11,8 +11,9 @@ use Rattle.wh_cert.specs.Written.{Node, interpretations}
 use Rattle.wh_cert_lines.specs.Sections as s
 pub use Rattle.wh_cert_lines.specs.Sections.{in_funs, in_marks, in_rules, in_pairs, on, begins, drops, refused, line_first, line_rest, to_marks, to_rules, to_pairs, add_named, add_shown, pair_step, rule_step, mark_step, first_step}
 
--- the place in the present line, which is of the last kind: its front; behind `fun ` or `mark `; letters of a name; a part of a
--- polynomial; behind moves; these and a space; this and digits; this and a `>`; this and digits; this and a `:`; this and digits
+-- the place in the present line, which is of the last kind: its front; behind `fun ` or `mark `; letters of a name; a
+-- part of a polynomial; behind moves; these and a space; this and digits; this and a `>`; this and digits; this and a
+-- `:`; this and digits
 pub data LinesPlace : Type 0 where
   lines_front name_wanted : LinesPlace
   name : (xs : List ℕ) → LinesPlace
@@ -68,7 +69,8 @@ lines_step x (amount_wanted ms i j) b = cond (begins_big b) (on x (amount ms i j
 lines_step x (amount ms i j n) b =
     cond (goes_on_big n b) (on x (amount ms i j (10 * n + (b - 48)))) (moves_step x (add_move ms i j n) b)
 
--- the node of the rules that are to be covered, where they are listed, of these lines, and of the pairs that are dropped
+-- the node of the rules that are to be covered, where they are listed, of these lines, and of the pairs that are
+-- dropped
 abbrev pub node_of : Option (List ℕ) → Lines → List ℕ → Node
 node_of usable (in_funs funs) drop = interpretations usable funs [] [] [] drop
 node_of usable (in_marks funs marks) drop = interpretations usable funs marks [] [] drop

@@ -1,15 +1,17 @@
--- A reader of the lines of a node in four sections, byte by byte, as a function, whatever a line holds. It mirrors the code.
+-- A reader of the lines of a node in four sections, byte by byte, as a function, whatever a line holds. It mirrors the
+-- code.
 use Rattle.std.specs.Prelude.{ℕ, ◌==◌, cond, List, [], ◌∷◌, ◌++◌, codes}
 
--- the lines so far: of symbols; of marked symbols too; of rules too; of pairs too. N is what a line of a symbol holds, L what one
--- of a rule or a pair holds
+-- the lines so far: of symbols; of marked symbols too; of rules too; of pairs too. N is what a line of a symbol holds,
+-- L what one of a rule or a pair holds
 pub data Lines (N L : Type 0) : Type 0 where
   in_funs : (funs : List N) → Lines N L
   in_marks : (funs marks : List N) → Lines N L
   in_rules : (funs marks : List N) (rules : List L) → Lines N L
   in_pairs : (funs marks : List N) (rules pairs : List L) → Lines N L
 
--- where a byte leads: on, to one of the places K; to a line of the last kind, or to that of `drop`, whose first byte it is; nowhere
+-- where a byte leads: on, to one of the places K; to a line of the last kind, or to that of `drop`, whose first byte it
+-- is; nowhere
 pub data LinesStep (N L K : Type 0) : Type 0 where
   on : (x : Lines N L) (k : K) → LinesStep N L K
   begins drops : (x : Lines N L) → LinesStep N L K

@@ -1,5 +1,6 @@
-//! The lines of a node in four sections, of symbols, of marked symbols, of rules and of pairs, up to the line of `drop`:
-//! in which order they come, and the lists of what they hold. What a line holds, and how it is read, is another matter.
+//! The lines of a node in four sections, of symbols, of marked symbols, of rules and of pairs, up to the line of
+//! `drop`: in which order they come, and the lists of what they hold. What a line holds, and how it is read, is another
+//! matter.
 
 ghost use Rattle.std.specs.Prelude.{◌≡◌, [], IfOk, OnOk};
 ghost use Rattle.wh_cert_lines.specs.Sections.{in_funs, to_marks, to_rules, to_pairs, add_named, add_shown, first_step, mark_step, rule_step, pair_step};

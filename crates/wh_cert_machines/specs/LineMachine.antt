@@ -1,6 +1,6 @@
--- A reader of certificates, byte by byte, as a function: the lines of a NO certificate with the items that they give, and where
--- the bytes of a certificate of either kind lead. The lines of a YES certificate are told in YesMachine. It mirrors the code;
--- the laws of wh_cert_text tie it to the text.
+-- A reader of certificates, byte by byte, as a function: the lines of a NO certificate with the items that they give,
+-- and where the bytes of a certificate of either kind lead. The lines of a YES certificate are told in YesMachine. It
+-- mirrors the code; the laws of wh_cert_text tie it to the text.
 use Rattle.std.specs.Prelude.{ℕ, ◌+◌, ◌-◌, ◌*◌, ◌==◌, cond, List, [], ◌∷◌, ◌++◌, Option, Some, None, codes}
 use Rattle.wh_terms.specs.declared.path.Step as taken
 use Rattle.wh_text.specs.Chars.{line_feed, space, is_digit}
@@ -25,9 +25,9 @@ pub data Behind : Type 0 where
   to_path : (rule : Option ℕ) → Behind
   to_at to_put to_finish : Behind
 
--- the place in the present line: what is left of a fixed word; a part of the first term; the front of a line of a step or
--- of `at`; behind `step `; a rule's number; a path of a step, or of `at`; the front of a later line; behind `put %`; a
--- variable's number; a part of its type; a part of its term; behind all
+-- the place in the present line: what is left of a fixed word; a part of the first term; the front of a line of a step
+-- or of `at`; behind `step `; a rule's number; a path of a step, or of `at`; the front of a later line; behind `put %`;
+-- a variable's number; a part of its type; a part of its term; behind all
 pub data LinePlace : Type 0 where
   word : (rest : List ℕ) (behind : Behind) → LinePlace
   in_term : (fs : m.Stack) (k : m.Place) → LinePlace

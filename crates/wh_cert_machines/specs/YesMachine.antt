@@ -1,5 +1,5 @@
--- A reader of YES certificates, byte by byte, as a function: what it stands before in the present line or node, and the items
--- that the lines give. It mirrors the code; the laws of wh_cert_text tie it to the text.
+-- A reader of YES certificates, byte by byte, as a function: what it stands before in the present line or node, and the
+-- items that the lines give. It mirrors the code; the laws of wh_cert_text tie it to the text.
 use Rattle.std.specs.Prelude.{ℕ, zero, suc, ◌+◌, ◌-◌, ◌*◌, ◌==◌, ◌&&◌, nat_lt, Bool, cond, List, [], ◌∷◌, ◌++◌, length, codes, Option, Some, None}
 use Rattle.wh_types.specs.Limits.{longest_name}
 use Rattle.wh_text.specs.Chars.{line_feed, space, is_digit, is_start, is_part}
@@ -20,9 +20,9 @@ pub data Item : Type 0 where
   node_item : (x : Node) → Item
   end_item : Item
 
--- a list of numbers: the ranks; a block, with the blocks before it and how many come behind it; the rules that are to be covered;
--- the pairs that are dropped, with the arguments that are looked at, with the rules that are to be covered, where they are listed,
--- interpretations and moves, or with filters and inferences
+-- a list of numbers: the ranks; a block, with the blocks before it and how many come behind it; the rules that are to
+-- be covered; the pairs that are dropped, with the arguments that are looked at, with the rules that are to be covered,
+-- where they are listed, interpretations and moves, or with filters and inferences
 pub data Listed : Type 0 where
   of_ranks : Listed
   of_block : (left : ℕ) (parts : List (List ℕ)) → Listed
@@ -49,9 +49,10 @@ pub data Behind : Type 0 where
   to_order_line : (x : orders.Lines) → Behind
   to_finish : Behind
 
--- the place: what is left of a fixed word; behind `YES `; numbers of a list, behind the last one; before a number; in a number; the front of
--- a node, or of the end; the front of a line of `arg` or `drop`; behind `arg `; a part of a name; a part of the lines of a node of
--- interpretations, behind the rules that are to be covered, or of a path order; behind all
+-- the place: what is left of a fixed word; behind `YES `; numbers of a list, behind the last one; before a number; in a
+-- number; the front of a node, or of the end; the front of a line of `arg` or `drop`; behind `arg `; a part of a name;
+-- a part of the lines of a node of interpretations, behind the rules that are to be covered, or of a path order; behind
+-- all
 pub data Place : Type 0 where
   word : (rest : List ℕ) (behind : Behind) → Place
   version_wanted : Place
@@ -156,7 +157,8 @@ poly_begun version =
     cond (version == 1) (on (word (codes "oly" ++ (line_feed ∷ [])) to_poly))
     (cond (version == 2) (on (word (codes "oly" ++ (line_feed ∷ codes "usable")) (to_list of_usable))) refused)
 
--- the front of a node of the version, or of the end where no node is wanted; nodes of path orders stand in version 2 alone
+-- the front of a node of the version, or of the end where no node is wanted; nodes of path orders stand in version 2
+-- alone
 abbrev pub front_step : ℕ → Bool → ℕ → LineStep
 front_step version wants b =
     cond wants
@@ -238,7 +240,8 @@ step version wants (poly_lines usable x k) b = lines_led usable (lines_step x k 
 step version wants (order_lines x k) b = order_led (orders.lines_step x k b)
 step version wants finished b = refused
 
--- the items so far: the version, 0 before it is read, ranks, the number of pairs, nodes; and how many nodes are still wanted
+-- the items so far: the version, 0 before it is read, ranks, the number of pairs, nodes; and how many nodes are still
+-- wanted
 pub data Past : Type 0 where
   so_far : (version : ℕ) (ranks : List ℕ) (pairs : ℕ) (nodes : List Node) (wanted : ℕ) → Past
 

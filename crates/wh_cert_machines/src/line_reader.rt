@@ -147,8 +147,8 @@ impl NoLine {
         }
     }
 
-    /// Goes on by the byte where that ends no word and no line, as most bytes do; else nothing is done. `step` does the same, and
-    /// takes three times as long.
+    /// Goes on by the byte where that ends no word and no line, as most bytes do; else nothing is done. `step` does the
+    /// same, and takes three times as long.
     pub fn goes_by(&mut self, byte: u8) -> bool
         ensures on { OnTrue result (on (line_place self.new) ≡ line_step (line_place self.old) byte) }
         ensures stays { OnFalse result (self.new ≡ self.old) }

@@ -1,5 +1,5 @@
-//! YES certificates line by line: the step takes one byte, and gives an item where its last line is whole. It keeps nothing of
-//! the items before.
+//! YES certificates line by line: the step takes one byte, and gives an item where its last line is whole. It keeps
+//! nothing of the items before.
 
 ghost use Rattle.std.specs.Prelude.{◌≡◌, true, drop, map, IfOk};
 ghost use Rattle.wh_cert.specs.Said.{said_arg};

@@ -1,19 +1,19 @@
--- A reader of polynomials, byte by byte, as a function: where it stands, and where the next byte leads. It mirrors the code; the
--- laws in proofs/ tie it to the text.
+-- A reader of polynomials, byte by byte, as a function: where it stands, and where the next byte leads. It mirrors the
+-- code; the laws in proofs/ tie it to the text.
 use Rattle.std.specs.Prelude.{ℕ, suc, ◌+◌, ◌-◌, ◌*◌, ◌==◌, ◌&&◌, nat_lt, cond}
 use Rattle.wh_types.specs.Limits.{deepest_certificate_polynomial}
 use Rattle.wh_text.specs.Chars.{is_digit}
 use Rattle.wh_poly.specs.Polynomials.{Polynomial, zero_poly, plus, Factors, no_factors, times, Arguments, no_arguments, argument}
 use Rattle.wh_letters.specs.Digits.{goes_on, begins_big, goes_on_big}
 
--- the open parentheses, the innermost first, each with the finished monomials, coefficient and finished factors of the monomial
--- that it stands in, the number of its variable, and the arguments that have ended
+-- the open parentheses, the innermost first, each with the finished monomials, coefficient and finished factors of the
+-- monomial that it stands in, the number of its variable, and the arguments that have ended
 pub data PolyStack : Type 0 where
   outside : PolyStack
   inside : (p : Polynomial) (c : ℕ) (us : Factors) (x : ℕ) (ps : Arguments) (around : PolyStack) → PolyStack
 
--- what was read since: nothing; `0`; monomials and a `+`; these and digits of a coefficient; a monomial so far and a `*`; this
--- and a `y`; this and digits; a monomial so far that ended with `)`
+-- what was read since: nothing; `0`; monomials and a `+`; these and digits of a coefficient; a monomial so far and a
+-- `*`; this and a `y`; this and digits; a monomial so far that ended with `)`
 pub data PolyPlace : Type 0 where
   poly_wanted nought : PolyPlace
   added : (p : Polynomial) → PolyPlace

@@ -1,5 +1,5 @@
--- A reader of terms up to a line feed, byte by byte, as a function. It mirrors the code; the laws in proofs/ tie it to the
--- text.
+-- A reader of terms up to a line feed, byte by byte, as a function. It mirrors the code; the laws in proofs/ tie it to
+-- the text.
 use Rattle.std.specs.Prelude.{ℕ, suc, ◌+◌, ◌-◌, ◌*◌, ◌==◌, ◌&&◌, nat_lt, cond, List, [], ◌∷◌, ◌++◌, length}
 use Rattle.wh_types.specs.Limits.{longest_name, most_arguments, deepest_certificate_term}
 use Rattle.wh_text.specs.Chars.{line_feed, space, is_digit, is_start, is_part}
@@ -20,8 +20,8 @@ pub data Stack : Type 0 where
 pub data Typed : Type 0 where
   of_free of_binder : (n : ℕ) → Typed
 
--- what was read since: nothing; `(`; `((`; letters of a name; `$` or `%`; these with digits; `(\`; `(\$`; this with digits;
--- a part of a type; a term that ended with `)`
+-- what was read since: nothing; `(`; `((`; letters of a name; `$` or `%`; these with digits; `(\`; `(\$`; this with
+-- digits; a part of a type; a term that ended with `)`
 pub data Place : Type 0 where
   wanted opened head_opened : Place
   letters : (xs : List ℕ) → Place

@@ -1,5 +1,5 @@
--- A reader of types, byte by byte, as a function: where it stands, and where the next byte leads. It mirrors the code; the
--- laws in proofs/ tie it to the text.
+-- A reader of types, byte by byte, as a function: where it stands, and where the next byte leads. It mirrors the code;
+-- the laws in proofs/ tie it to the text.
 use Rattle.std.specs.Prelude.{ℕ, suc, ◌==◌, ◌&&◌, nat_lt, Bool, true, false, cond, List, [], ◌∷◌, ◌++◌, length}
 use Rattle.wh_types.specs.Limits.{longest_name, deepest_certificate_type, most_certificate_arguments}
 use Rattle.wh_text.specs.Chars.{is_start, is_part}

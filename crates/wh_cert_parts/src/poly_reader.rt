@@ -16,7 +16,8 @@ use wh_poly::{Atom, Atoms, Monomial, Poly, Polys};
 /// The parentheses of a polynomial nest that deep.
 const DEEPEST_POLYNOMIAL: usize = 64;
 
-/// How far a polynomial was read since its last open parenthesis; what is longer than a number stands in the text itself.
+/// How far a polynomial was read since its last open parenthesis; what is longer than a number stands in the text
+/// itself.
 #[derive(Clone, Copy)]
 pub enum PolyPlace {
     /// Nothing of a polynomial, which comes.

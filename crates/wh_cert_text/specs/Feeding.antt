@@ -41,8 +41,8 @@ IsPairsLine (y.number_wanted y.of_pairs) = Unit {0}
 IsPairsLine (y.number y.of_pairs n) = Unit {0}
 IsPairsLine _ = ⊥
 
--- the bytes led where these lines stand; nothing is known of the items before but how many nodes are wanted, the version, and the
--- ranks until they are handed out
+-- the bytes led where these lines stand; nothing is known of the items before but how many nodes are wanted, the
+-- version, and the ranks until they are handed out
 abbrev pub TracksYes : YesItems → Standing → Type 0
 TracksYes l s =
     (h : y.Past) × (wanted h ≡ l.wanted) × (y.version_of h ≡ l.version)

@@ -24,8 +24,8 @@ abbrev pub put_items : List Item → List ℕ → List ℕ
 put_items [] r = r
 put_items (i ∷ is) r = put_item i (put_items is r)
 
--- these are the first items of the certificate, and those whose last line feed stands in the bytes: the bytes begin with
--- the lines of these items, and not with those of one item more
+-- these are the first items of the certificate, and those whose last line feed stands in the bytes: the bytes begin
+-- with the lines of these items, and not with those of one item more
 pub record WholeItems (bytes : List ℕ) (c : Cert) (is : List Item) : Type 0 where
   pub rest : List Item
   pub front : items c ≡ is ++ rest

@@ -26,8 +26,8 @@ IsWithin bytes (Wrong n) = n < length bytes
 abbrev pub Adds : List ℕ → List ℕ → List Item → Type 0
 Adds p q more = (is : List Item) → ItemsIn p is → ItemsIn (p ++ q) (is ++ more)
 
--- how far the bytes led behind p, where T holds of the standing: by all of them, and no item is whole; by so many, and that item is;
--- or the byte behind so many is the first wrong one
+-- how far the bytes led behind p, where T holds of the standing: by all of them, and no item is whole; by so many, and
+-- that item is; or the byte behind so many is the first wrong one
 abbrev pub HasRun : (Standing → Type 0) → List ℕ → List ℕ → Stretch → Type 0
 HasRun T p bytes On = T (run start (p ++ bytes)) × Adds p bytes []
 HasRun T p bytes (Whole n i) = T (run start (p ++ take n bytes)) × Adds p (take n bytes) (said_item i ∷ [])
@@ -37,8 +37,8 @@ HasRun T p bytes (Wrong n) = StopsAt (p ++ bytes) (length p + n)
 abbrev pub IsPortionOf : List ℕ → Portion → Type 0
 IsPortionOf bytes portion = (0 < portion.taken) × (portion.taken ≤ length bytes)
 
--- what the reader has come to that was given these bytes behind p: it stands for those that it took, with the items that they end;
--- or they are refused
+-- what the reader has come to that was given these bytes behind p: it stands for those that it took, with the items
+-- that they end; or they are refused
 abbrev pub HasFed : List ℕ → List ℕ → CertReader → Result Portion (Or CertSyntax) → Type 0
 HasFed p bytes new (Ok portion) =
     StandsFor new (p ++ take portion.taken bytes) × Begins (p ++ take portion.taken bytes)

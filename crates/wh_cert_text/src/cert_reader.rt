@@ -80,8 +80,8 @@ impl CertReader {
         }
     }
 
-    /// Takes some of the bytes, at least one, and none behind one that ends the last line of an item. That is what `feed`
-    /// does with them one by one, and quicker. Without memory the reader stands for nothing any more.
+    /// Takes some of the bytes, at least one, and none behind one that ends the last line of an item. That is what
+    /// `feed` does with them one by one, and quicker. Without memory the reader stands for nothing any more.
     ///
     /// # Errors
     /// The bytes begin no certificate text, with the number of those that do. Once this has come it comes at each call.

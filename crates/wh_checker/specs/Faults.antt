@@ -45,8 +45,8 @@ use Rattle.wh_checker.specs.declared.rejected.Rejected.TheVariants as row
 use Rattle.wh_checker.specs.declared.rejected.CheckFault.{CheckFault}
 use Rattle.wh_checker.specs.declared.rejected.CheckFault.TheVariants as check
 
--- the first thing wrong with the lines of a node `subterm`, on a set: the lines are not for its marked symbols, or what comes
--- first of the choices that they say
+-- the first thing wrong with the lines of a node `subterm`, on a set: the lines are not for its marked symbols, or what
+-- comes first of the choices that they say
 abbrev pub IsSubtermFault : SystemData → List PairData → List ℕ → List w.Arg → List ℕ → SubtermFault → Type 0
 IsSubtermFault d ps set lines drop projected.BadArgs = (args : List Chosen) → SayChoices d lines args → AreForMarked ps set args → ⊥
 IsSubtermFault d ps set lines drop f = (args : List Chosen) × SayChoices d lines args × IsFirstSubtermFault d.rules ps set args drop f
@@ -59,8 +59,8 @@ SayCovering d ps set funs lines R = SayReadings d funs lines R × AreMarked ps s
 abbrev pub SayOrdering : SystemData → List PairData → List ℕ → List w.Filtering → List w.Filtering → FilteringData → Type 0
 SayOrdering d ps set funs lines D = SayFilterings d funs lines D × AreMarked ps set (map (λ m. m.symbol) D.marks)
 
--- the first thing wrong with a node on a set of pairs, by the kinds of nodes; with limits it is also one that a value exceeds them in
--- the evaluation of a side (ours)
+-- the first thing wrong with a node on a set of pairs, by the kinds of nodes; with limits it is also one that a value
+-- exceeds them in the evaluation of a side (ours)
 abbrev pub IsNodeFault : Limits → SystemData → List PairData → List ℕ → w.Node → NodeFault → Type 0
 IsNodeFault limits d ps set w.done fault.NotEmpty = set ≢ []
 IsNodeFault limits d ps set w.alone fault.NotOne = (a : ℕ) → set ≢ a ∷ []
@@ -80,8 +80,8 @@ IsNodeFault limits d ps set (w.order funs lines rules pairs drop) (fault.Order f
     × IsFirstOrderingFault (whole_task d.symbols d.rules ps set) D (inferences_of rules pairs drop) f
 IsNodeFault limits d ps set _ _ = ⊥
 
--- of the nodes that these lines say, in preorder, the one with that number, counted from the number of the first, is the first
--- with something wrong, and this is what is wrong first with it; the sets are those still to be proved (ours)
+-- of the nodes that these lines say, in preorder, the one with that number, counted from the number of the first, is
+-- the first with something wrong, and this is what is wrong first with it; the sets are those still to be proved (ours)
 pub data IsFirstNodeFault (limits : Limits) (d : SystemData) (ps : List PairData) : ℕ → List (List ℕ) → List w.Node → ℕ → NodeFault
     → Type 0 where
   at_first : {k : ℕ} {set : List ℕ} {sets : List (List ℕ)} {line : w.Node} {lines : List w.Node} {f : NodeFault}
@@ -91,8 +91,8 @@ pub data IsFirstNodeFault (limits : Limits) (d : SystemData) (ps : List PairData
       → IsFirstNodeFault limits d ps (suc k) (left ++ sets) lines m f
       → IsFirstNodeFault limits d ps k (set ∷ sets) (line ∷ lines) m f
 
--- what a fault of the moves for a rule is called, with the numbers of the node and of the rule; that nothing is left of the constant
--- is no fault of a rule
+-- what a fault of the moves for a rule is called, with the numbers of the node and of the rule; that nothing is left of
+-- the constant is no fault of a rule
 abbrev pub at_rule : ℕ → ℕ → CoverFault → Rejected
 at_rule k r (moves.BadMove e) = row.BadMoveRule k r e
 at_rule k r (moves.OverSpent i) = row.OverSpentRule k r i
@@ -165,8 +165,8 @@ of_claim (refuted.TooBig i) = row.TooBig i
 of_claim (refuted.BadPut i) = row.BadPut i
 of_claim refuted.NoInstance = row.NoInstance
 
--- the first false condition of a YES certificate: its ranks are not as many as the sorts; the system is not passing under
--- them; the count of the pairs is wrong; then its nodes in preorder (ours)
+-- the first false condition of a YES certificate: its ranks are not as many as the sorts; the system is not passing
+-- under them; the count of the pairs is wrong; then its nodes in preorder (ours)
 pub data IsFirstYesFault (limits : Limits) (d : SystemData) (ps : List PairData) (ranks : List ℕ) (pairs : ℕ)
     (lines : List w.Node) : CheckFault → Type 0 where
   rank_count : length ranks ≢ d.symbols.sorts → IsFirstYesFault limits d ps ranks pairs lines (check.Rejected row.RankCount)

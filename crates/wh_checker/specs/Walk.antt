@@ -44,8 +44,8 @@ abbrev pub IsReduced : SystemData → List PairData → List ℕ → List w.Arg 
 IsReduced d ps set lines drop rest =
     (args : List Chosen) × SayChoices d lines args × IsProjection d.rules ps set args drop × IsSetOf (IsKept set drop) rest
 
--- a walk over all the lines, which began with one set, has come to the line number k: these sets are open and these lines are
--- left
+-- a walk over all the lines, which began with one set, has come to the line number k: these sets are open and these
+-- lines are left
 pub record HasCome (d : SystemData) (ps : List PairData) (set : List ℕ) (lines : List w.Node) (k : ℕ) (sets : List (List ℕ))
     (left : List w.Node) : Type 0 where
   pub within : All (All (λ n. n < length ps)) sets

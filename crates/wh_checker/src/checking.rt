@@ -46,11 +46,12 @@ pub struct AcceptedYes {
     pub nodes: u32,
 }
 
-/// Checks a certificate over a system and its dependency pairs. It is accepted exactly where it is valid and no value exceeds a
-/// limit in a side that a node of interpretations evaluates; else the first condition that is false is named, or the first node
-/// in which a value exceeds a limit before that. The certificate is one that `read_certificate` gives. Where the answer is YES,
-/// each well-typed term over the system is bounded: it has a number that no reduction from it exceeds in length; where it is NO, the
-/// term of the certificate has reductions of every length (Kop 2012; Fuhs and Kop 2019).
+/// Checks a certificate over a system and its dependency pairs. It is accepted exactly where it is valid and no value
+/// exceeds a limit in a side that a node of interpretations evaluates; else the first condition that is false is named,
+/// or the first node in which a value exceeds a limit before that. The certificate is one that `read_certificate`
+/// gives. Where the answer is YES, each well-typed term over the system is bounded: it has a number that no reduction
+/// from it exceeds in length; where it is NO, the term of the certificate has reductions of every length (Kop 2012;
+/// Fuhs and Kop 2019).
 pub fn check(
     alloc: Global,
     system: &System,
@@ -105,8 +106,8 @@ fn check_yes(
     check_nodes(alloc, system, pairs, whole, certificate.nodes.as_slice())
 }
 
-/// The set of all pairs, which the nodes of a YES certificate with these ranks and this number of pairs have to prove. The
-/// fault is that of the ranks, or that there is another number of pairs.
+/// The set of all pairs, which the nodes of a YES certificate with these ranks and this number of pairs have to prove.
+/// The fault is that of the ranks, or that there is another number of pairs.
 pub fn check_head(
     alloc: Global,
     system: &System,

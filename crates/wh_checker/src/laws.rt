@@ -26,8 +26,8 @@ pub fn one_first_fault()
         → IsFirstFault m d ps c f → IsFirstFault m d ps c g → AreAlike f g }
 {}
 
-/// A valid certificate has no fault; with limits it has none where no value exceeds one. So the check accepts a certificate
-/// exactly where it is valid and small.
+/// A valid certificate has no fault; with limits it has none where no value exceeds one. So the check accepts a
+/// certificate exactly where it is valid and small.
 pub fn valid_certificates_have_no_fault()
     ensures unlimited { (d : SystemData) (ps : List PairData) (c : Cert) (f : CheckFault) → IsWellMadeSystem d → IsValidCert d ps c
         → IsFirstFault without_limits d ps c f → ⊥ }
@@ -53,8 +53,8 @@ pub fn valid_or_at_fault()
         ⊎ ((f : CheckFault) × IsFirstFault without_limits d ps c f) }
 {}
 
-/// So with limits: a certificate is valid, and no value exceeds one, or it has a first fault. So the check has an answer for each
-/// certificate.
+/// So with limits: a certificate is valid, and no value exceeds one, or it has a first fault. So the check has an
+/// answer for each certificate.
 pub fn accepted_or_at_fault()
     ensures { (d : SystemData) (ps : List PairData) (c : Cert) → IsWellMadeSystem d → IsCert c
         → (IsValidCert d ps c × IsSmallCert d ps c) ⊎ ((f : CheckFault) × IsFirstFault with_limits d ps c f) }

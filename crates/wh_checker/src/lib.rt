@@ -1,5 +1,5 @@
-//! The check of certificates: a YES certificate is accepted only where every chain of pairs ends, a NO certificate only where a
-//! term has reductions of every length. A refusal names the first condition that is false.
+//! The check of certificates: a YES certificate is accepted only where every chain of pairs ends, a NO certificate only
+//! where a term has reductions of every length. A refusal names the first condition that is false.
 #![tactic(auto)]
 
 mod checking;

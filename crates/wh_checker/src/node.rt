@@ -38,8 +38,9 @@ use wh_subterm::SubtermFault;
 use wh_system::System;
 use wh_types::Or;
 
-/// Whether the conditions of the node hold of the set, and no value exceeds a limit. Then what it leaves to be proved comes on
-/// top of the stack, the first of it on top. The first node `subterm` numbers the sides of the pairs, for all that come after it.
+/// Whether the conditions of the node hold of the set, and no value exceeds a limit. Then what it leaves to be proved
+/// comes on top of the stack, the first of it on top. The first node `subterm` numbers the sides of the pairs, for all
+/// that come after it.
 pub fn check_node(
     alloc: Global,
     system: &System,

@@ -32,7 +32,8 @@ pub enum NodeFault {
     Subterm(SubtermFault),
     /// The list of a node `poly` is not one of rules, each above the one before.
     BadUsable,
-    /// The lines of a node `poly` or `order` are not for all symbols of the system and for the marked symbols of the set, in order.
+    /// The lines of a node `poly` or `order` are not for all symbols of the system and for the marked symbols of the
+    /// set, in order.
     BadSymbols,
     /// What else is wrong with a node `poly`.
     Poly(CoveringFault),
@@ -40,13 +41,14 @@ pub enum NodeFault {
     Order(OrderingFault),
 }
 
-/// The first condition of a valid certificate that is false. Nodes are counted from 0, each before its children; so are rules,
-/// meta-variables, symbols, pairs, steps and lines.
+/// The first condition of a valid certificate that is false. Nodes are counted from 0, each before its children; so are
+/// rules, meta-variables, symbols, pairs, steps and lines.
 #[derive(Clone, Copy)]
 pub enum Rejected {
     /// There is not one rank for each sort.
     RankCount,
-    /// The system is not passing under the ranks: this meta-variable of this rule is not read on a way of accessible places.
+    /// The system is not passing under the ranks: this meta-variable of this rule is not read on a way of accessible
+    /// places.
     Inaccessible {
         rule: u32,
         meta: u32,
@@ -110,7 +112,8 @@ pub enum Rejected {
     BadUsable {
         node: u32,
     },
-    /// The lines `fun` are not for the symbols of the system, or the lines `mark` not for the marked symbols of the set, in order.
+    /// The lines `fun` are not for the symbols of the system, or the lines `mark` not for the marked symbols of the
+    /// set, in order.
     BadSymbols {
         node: u32,
     },
@@ -120,11 +123,13 @@ pub enum Rejected {
         symbol: u32,
         marked: bool,
     },
-    /// There are not as many lines `rule` as rules that are to be covered, or not as many lines `pair` as pairs of the set.
+    /// There are not as many lines `rule` as rules that are to be covered, or not as many lines `pair` as pairs of the
+    /// set.
     BadLines {
         node: u32,
     },
-    /// Not all rules are to be covered, and this is the first of them that is not first-order, or calls a rule that is not one of them.
+    /// Not all rules are to be covered, and this is the first of them that is not first-order, or calls a rule that is
+    /// not one of them.
     NotClosedRule {
         node: u32,
         rule: u32,
@@ -198,8 +203,8 @@ pub enum Rejected {
         pair: u32,
         entry: u32,
     },
-    /// This pair is dropped, and its left side has no constant, or the moves leave none of it, or its inference is that of equal
-    /// trees.
+    /// This pair is dropped, and its left side has no constant, or the moves leave none of it, or its inference is that
+    /// of equal trees.
     NotStrict {
         node: u32,
         pair: u32,

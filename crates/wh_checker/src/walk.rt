@@ -22,8 +22,9 @@ use wh_pairs::{PairList, PairSet};
 use wh_system::System;
 use wh_types::Or;
 
-/// Whether the node of that number proves the set on top of the stack, of those that are still to be proved. What it leaves
-/// to be proved comes on top in its place. The sides of the pairs are numbered for the first node that asks for them.
+/// Whether the node of that number proves the set on top of the stack, of those that are still to be proved. What it
+/// leaves to be proved comes on top in its place. The sides of the pairs are numbered for the first node that asks for
+/// them.
 pub fn check_next(
     alloc: Global,
     system: &System,
@@ -56,7 +57,8 @@ pub fn check_next(
     }
 }
 
-/// Whether the nodes, in preorder, prove the set. The sets that are still to be proved are kept on a stack, the next on top.
+/// Whether the nodes, in preorder, prove the set. The sets that are still to be proved are kept on a stack, the next on
+/// top.
 pub fn check_nodes(
     alloc: Global,
     system: &System,

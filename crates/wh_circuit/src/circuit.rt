@@ -1,5 +1,5 @@
-//! Circuits. Each variable of the formula is an input, or true exactly where all of some earlier wires are; all other gates are made of
-//! these.
+//! Circuits. Each variable of the formula is an input, or true exactly where all of some earlier wires are; all other
+//! gates are made of these.
 
 mod building;
 mod gates;

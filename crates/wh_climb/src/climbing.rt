@@ -1,7 +1,8 @@
-//! The climb: from a guess on, coefficients are changed one at a time, so that what is failing comes nearer to being met.
+//! The climb: from a guess on, coefficients are changed one at a time, so that what is failing comes nearer to being
+//! met.
 //!
-//! `climb_from` is the one to call. A round goes from one guess to where it finds an interpretation or is stuck; the next one
-//! begins at a guess that is stirred. (The search is ours.)
+//! `climb_from` is the one to call. A round goes from one guess to where it finds an interpretation or is stuck; the
+//! next one begins at a guess that is stirred. (The search is ours.)
 
 ghost use Rattle.std.specs.Prelude.{◌<◌};
 ghost use Rattle.wh_guesses.specs.Tasks.{IsGuessOf, IsTaskOf};
@@ -81,7 +82,8 @@ fn round<'a>(
     Ok(state.score() == 0)
 }
 
-// One step: the first change that betters the score, else the one that worsens it least, else any. `false` where the round ends.
+// One step: the first change that betters the score, else the one that worsens it least, else any. `false` where the
+// round ends.
 fn step<'a>(
     alloc: Global,
     task: &Task<'a>,
@@ -257,8 +259,9 @@ fn renew_all<'a>(
     Ok(())
 }
 
-// What the condition is under the coefficients. It is evaluated only where no earlier look was under the same ones. Each look counts,
-// so that a climb ends also where it sees nothing new, and one that has to evaluate many abstractions counts as more.
+// What the condition is under the coefficients. It is evaluated only where no earlier look was under the same ones.
+// Each look counts, so that a climb ends also where it sees nothing new, and one that has to evaluate many abstractions
+// counts as more.
 fn look<'a>(
     alloc: Global,
     task: &Task<'a>,

@@ -28,16 +28,17 @@ use wh_types::SimpleType;
 pub enum Climbed {
     /// The node of interpretations.
     Found(Node),
-    /// The coefficients of the best guess, a list for each symbol and then for each marked symbol. They say nothing: the climb may
-    /// miss what is there.
+    /// The coefficients of the best guess, a list for each symbol and then for each marked symbol. They say nothing:
+    /// the climb may miss what is there.
     Best(Vec<Vec<u8>>),
 }
 
-/// Looks for interpretations under which no rule and no pair of the set grows and some pair shrinks, by climbing from one first
-/// guess (the reduction pair processor of Kop 2012 with the polynomials of Fuhs and Kop 2012; the search is ours).
+/// Looks for interpretations under which no rule and no pair of the set grows and some pair shrinks, by climbing from
+/// one first guess (the reduction pair processor of Kop 2012 with the polynomials of Fuhs and Kop 2012; the search is
+/// ours).
 ///
-/// All pairs that are covered strictly are dropped. `marked` are the marked symbols of the set. `limit` bounds how often a condition is
-/// looked at.
+/// All pairs that are covered strictly are dropped. `marked` are the marked symbols of the set. `limit` bounds how
+/// often a condition is looked at.
 pub fn climb<'a>(
     alloc: Global,
     task: &Task<'a>,
@@ -105,8 +106,8 @@ fn unmet(alloc: Global, count: usize) -> Result<Vec<Outcome>, AllocError> {
     Ok(outcomes)
 }
 
-// The first guess: a symbol in no condition is 0; each other one, and each marked one, is the sum of its arguments, and 1 more
-// where it has arguments and no rules.
+// The first guess: a symbol in no condition is 0; each other one, and each marked one, is the sum of its arguments, and
+// 1 more where it has arguments and no rules.
 fn first_coefficients(
     alloc: Global,
     system: &System,
@@ -145,7 +146,8 @@ fn is_constructor(system: &System, number: usize) -> bool {
     }
 }
 
-// The first coefficients for a type: each variable once, products not; and 1 more where that is asked and there are variables.
+// The first coefficients for a type: each variable once, products not; and 1 more where that is asked and there are
+// variables.
 fn first_of_kind(alloc: Global, kind: &SimpleType, constant: bool) -> Result<Vec<u8>, AllocError> {
     let scope = arguments_of(alloc, kind)?;
     let spots = spots_of(alloc, &scope)?;

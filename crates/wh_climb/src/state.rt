@@ -324,8 +324,8 @@ fn same_change(a: Change, b: Change) -> bool {
     a.number == b.number && a.place == b.place && a.value == b.value
 }
 
-/// The changes by one of the coefficients in the conditions, in an order of chance. Where the conditions are not met, what is used
-/// on the left side alone only grows, and what is used on the right side alone only falls.
+/// The changes by one of the coefficients in the conditions, in an order of chance. Where the conditions are not met,
+/// what is used on the left side alone only grows, and what is used on the right side alone only falls.
 pub fn changes_for(alloc: Global, state: &mut State, aim: &Aim) -> Result<Vec<Change>, AllocError> {
     let mut changes = Vec::new(alloc);
     for goal in &aim.goals {

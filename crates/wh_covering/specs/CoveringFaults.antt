@@ -34,7 +34,8 @@ abbrev pub IsFirstFaultOfMoves : Bool → Polynomial → Polynomial → List Tra
 IsFirstFaultOfMoves false left right ms f = IsFirstCoverFault left right ms f
 IsFirstFaultOfMoves true left right ms f = IsFirstStrictCoverFault left right ms f
 
--- the first thing wrong with a line: the left side is evaluated, then the right one, then the moves are looked at (ours)
+-- the first thing wrong with a line: the left side is evaluated, then the right one, then the moves are looked at
+-- (ours)
 abbrev pub IsFirstLineFault : Limits → Run Polynomial → Run Polynomial → Bool → List Transfer → LineFault → Type 0
 IsFirstLineFault limits left right strict ms (line.Cover f) =
     StaysWithin limits left × StaysWithin limits right × IsFirstFaultOfMoves strict left.result right.result ms f
@@ -86,8 +87,9 @@ module _ (limits : Limits) (T : TaskData) (R : ReadingsData) where
   abbrev pub IsFirstWrongPair : List (List Transfer) → List ℕ → ℕ → LineFault → Type 0
   IsFirstWrongPair = IsFirstPairFault (right_lines limits T.symbols T.rules R) (wrong_lines limits T.symbols T.rules R) T
 
-  -- the first thing wrong: an interpretation, the numbers of lines, the list of dropped pairs, that the rules are not closed for the
-  -- set, the rules in order, the pairs of the set in order, each line with all its tests before the next (ours)
+  -- the first thing wrong: an interpretation, the numbers of lines, the list of dropped pairs, that the rules are not
+  -- closed for the set, the rules in order, the pairs of the set in order, each line with all its tests before the next
+  -- (ours)
   abbrev pub IsFirstCoveringFault : Evidence (List Transfer) → CoveringFault → Type 0
   IsFirstCoveringFault E (BadPolynomial f false) = IsFirstNotNormal R.symbols f
   IsFirstCoveringFault E (BadPolynomial f true) = NormalInterpretations R.symbols × IsFirstNotNormalMark T.symbols T.rules R.marks f

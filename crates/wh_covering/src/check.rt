@@ -27,18 +27,18 @@ use wh_reduction::Task;
 use wh_types::Or;
 use wh_usable::check_closed;
 
-/// Whether readings and moves let the dropped pairs go from the set (the reduction pair processor of Kop 2012 with the polynomials
-/// of Fuhs and Kop 2012, in the form of this project).
+/// Whether readings and moves let the dropped pairs go from the set (the reduction pair processor of Kop 2012 with the
+/// polynomials of Fuhs and Kop 2012, in the form of this project).
 ///
-/// The readings are of the system's symbols and of the marked symbols of the set, each by a polynomial that must be normal in the
-/// scope of its arguments. There must be a line of moves for each rule that is to be covered and for each pair of the set, and
-/// the list of dropped pairs must have some pairs of the set, each once. The rules that are to be covered must be closed for the set.
-/// Then each line must show that the left side of its rule or pair is at least the right one, and that it is greater where the pair is
-/// dropped.
+/// The readings are of the system's symbols and of the marked symbols of the set, each by a polynomial that must be
+/// normal in the scope of its arguments. There must be a line of moves for each rule that is to be covered and for each
+/// pair of the set, and the list of dropped pairs must have some pairs of the set, each once. The rules that are to be
+/// covered must be closed for the set. Then each line must show that the left side of its rule or pair is at least the
+/// right one, and that it is greater where the pair is dropped.
 ///
-/// `Err` names the first condition that fails, in this order: of the symbols, the marks, the rules and the pairs of the set the
-/// first one, and of a line first that a value in the evaluation of a side exceeds a limit. Each side is evaluated once. A line of
-/// more moves than 32 bits count is told as want of memory.
+/// `Err` names the first condition that fails, in this order: of the symbols, the marks, the rules and the pairs of the
+/// set the first one, and of a line first that a value in the evaluation of a side exceeds a limit. Each side is
+/// evaluated once. A line of more moves than 32 bits count is told as want of memory.
 pub fn check_covering<'a, 'b, 'c>(
     alloc: Global,
     task: &Task<'a>,

@@ -2,7 +2,8 @@
 
 use wh_hopoly::Moves;
 
-/// A line of moves for each rule that is to be covered, one for each pair of a set, and the pairs that are dropped from it.
+/// A line of moves for each rule that is to be covered, one for each pair of a set, and the pairs that are dropped from
+/// it.
 #[derive(Clone, Copy)]
 pub struct Evidence<'a> {
     /// The line of each rule, in order.

@@ -4,8 +4,8 @@ use wh_poly::Excess;
 use wh_polycheck::CoverFault;
 use wh_usable::NotClosed;
 
-/// What is wrong first with a node of interpretations on a set of pairs, once its names are looked up. Symbols, rules and pairs are
-/// told by their numbers.
+/// What is wrong first with a node of interpretations on a set of pairs, once its names are looked up. Symbols, rules
+/// and pairs are told by their numbers.
 #[derive(Clone, Copy)]
 pub enum CoveringFault {
     /// This interpretation is the first that is not normal in its scope.

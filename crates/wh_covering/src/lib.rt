@@ -1,5 +1,5 @@
-//! The node of interpretations: whether polynomials for all symbols, and moves between their monomials, show that no rule and no pair
-//! of a set grows, and that the dropped ones shrink.
+//! The node of interpretations: whether polynomials for all symbols, and moves between their monomials, show that no
+//! rule and no pair of a set grows, and that the dropped ones shrink.
 #![tactic(auto)]
 
 mod check;

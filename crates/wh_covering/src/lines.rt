@@ -1,4 +1,5 @@
-//! Single lines: the two sides of a rule or of a pair are evaluated, each once, and then the moves between them are looked at.
+//! Single lines: the two sides of a rule or of a pair are evaluated, each once, and then the moves between them are
+//! looked at.
 
 ghost use Rattle.std.specs.Prelude.{◌≡◌, ◌<◌, Some, false, true, length, slice_get};
 ghost use Rattle.wh_types.specs.Outcome.{MatchOr};
@@ -64,7 +65,8 @@ fn rule_side<'a>(
     }
 }
 
-/// Whether the moves show that the left side of the pair is at least the right one, or, where that is asked, that it is greater.
+/// Whether the moves show that the left side of the pair is at least the right one, or, where that is asked, that it is
+/// greater.
 pub fn check_pair<'a>(
     alloc: Global,
     system: &System,
@@ -115,8 +117,8 @@ fn limit_of(fault: &PolyFault) -> Excess
     }
 }
 
-// Whether the moves show that the first side is at least the second one, or greater. Moves past what 32 bits count are more than
-// memory holds, and are told as want of memory.
+// Whether the moves show that the first side is at least the second one, or greater. Moves past what 32 bits count are
+// more than memory holds, and are told as want of memory.
 fn check_line(left: &Poly, right: &Poly, strict: bool, moves: &Moves) -> Result<(), Or<LineFault>>
     requires left { IsSomeSide (poly left.now) }
     requires right { IsSomeSide (poly right.now) }

@@ -1,4 +1,5 @@
-//! Whether the polynomials that symbols and marked symbols are read as are normal, each in the scope of its own arguments.
+//! Whether the polynomials that symbols and marked symbols are read as are normal, each in the scope of its own
+//! arguments.
 
 ghost use Rattle.std.specs.Prelude.{◌≡◌, ◌≤◌, ◌^◌, IfOk, MatchOption, length};
 ghost use Rattle.wh_types.specs.Erase.{ty, tys};
@@ -31,7 +32,8 @@ pub fn first_not_normal(alloc: Global, symbols: &[Symbol]) -> Result<Option<u32>
     Ok(None)
 }
 
-/// The first symbol whose mark has a polynomial that is not normal in the scope of the arguments which the symbol's rules need.
+/// The first symbol whose mark has a polynomial that is not normal in the scope of the arguments which the symbol's
+/// rules need.
 pub fn first_not_normal_mark(
     alloc: Global,
     system: &System,

@@ -24,8 +24,8 @@ use wh_polycheck::Readings;
 use wh_reduction::Task;
 use wh_types::Or;
 
-/// Whether each pair of the set is covered by its line, and strictly where its number is one of `drop`, in which no number falls;
-/// `Err` names the first that is not.
+/// Whether each pair of the set is covered by its line, and strictly where its number is one of `drop`, in which no
+/// number falls; `Err` names the first that is not.
 pub fn check_pairs<'a, 'b>(
     alloc: Global,
     task: &Task<'a>,

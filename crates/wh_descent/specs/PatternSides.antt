@@ -13,8 +13,8 @@ pub record HaveKnownSorts (S : Symbols) (rules : List RewriteRule) : Type 0 wher
   pub of_symbols : KnowsSorts S
   pub of_metas : (r : RewriteRule) → Contains rules r → KnowsMetas S r.metas
 
--- the pair leads to a call of a symbol of S, its meta-variables are declared with sorts of S, and the arguments on its left side are
--- patterns (Kop 2012; the form is ours)
+-- the pair leads to a call of a symbol of S, its meta-variables are declared with sorts of S, and the arguments on its
+-- left side are patterns (Kop 2012; the form is ours)
 pub record HasPatternSides (S : Symbols) (p : PairData) : Type 0 where
   pub right_known : p.right_fun < length S.funs
   pub metas_known : KnowsMetas S p.metas

@@ -1,5 +1,5 @@
-//! Laws of nodes of path orders: the calls of a set of pairs end where those by the pairs that are not dropped do, and the pairs of a
-//! well-made system have what that asks; each the contract of a function that does nothing.
+//! Laws of nodes of path orders: the calls of a set of pairs end where those by the pairs that are not dropped do, and
+//! the pairs of a well-made system have what that asks; each the contract of a function that does nothing.
 #![tactic(auto)]
 
 mod orderings;

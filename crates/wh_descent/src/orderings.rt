@@ -18,8 +18,8 @@ ghost use Rattle.wh_ordering.specs.Filterings.{FilteringData};
 ghost use Rattle.wh_ordering.specs.Ordering.{IsOrdering};
 ghost use Rattle.wh_descent.specs.PatternSides.{HaveKnownSorts, HavePatternSides};
 
-/// Where filters and inferences order a task, and all rules are to be covered, calls by its set end if calls by the pairs that are not
-/// dropped do (Kop 2012, the reduction pair processor with argument filters).
+/// Where filters and inferences order a task, and all rules are to be covered, calls by its set end if calls by the
+/// pairs that are not dropped do (Kop 2012, the reduction pair processor with argument filters).
 pub fn orderings_keep_that_calls_end()
     ensures { (T : TaskData) (D : FilteringData) (E : Evidence Inference) (rest : List ℕ) → AreWellMade T.symbols T.rules
         → HaveKnownSorts T.symbols T.rules → HaveTypedSides T.symbols T.rules T.pairs → HavePatternSides T.symbols T.pairs → CoversAll T

@@ -18,8 +18,8 @@ pub enum Attempt {
     Nothing,
 }
 
-/// Searches for values under which all clauses are true, or for a list that shows that there are none, and learns no more clauses
-/// than the budget. The error is want of memory.
+/// Searches for values under which all clauses are true, or for a list that shows that there are none, and learns no
+/// more clauses than the budget. The error is want of memory.
 pub fn run_engine(alloc: Global, formula: &Formula, budget: u64) -> Result<Attempt, AllocError>
     requires { Within formula.now.variables formula.now.clauses }
 {

@@ -1,6 +1,7 @@
-//! What is learnt from a conflict: a clause that is false is resolved with the clauses that forced its literals, latest first, until one
-//! literal of the last level is left (the first unique implication point of GRASP and MiniSat). Literals that bring nothing new are
-//! resolved away, too, and so are those that are false before the first decision: where nothing is decided, the empty clause is left.
+//! What is learnt from a conflict: a clause that is false is resolved with the clauses that forced its literals, latest
+//! first, until one literal of the last level is left (the first unique implication point of GRASP and MiniSat).
+//! Literals that bring nothing new are resolved away, too, and so are those that are false before the first decision:
+//! where nothing is decided, the empty clause is left.
 
 ghost use Rattle.std.specs.Prelude.{◌<◌, IfOk, IfSome};
 ghost use Rattle.wh_sat_trail.specs.Assignment.{AllBelow};
@@ -10,8 +11,8 @@ use crate::notes::Notes;
 use std::alloc::{AllocError, Global};
 use wh_sat_trail::{Clause, Literal, Trail};
 
-/// A clause that is false, on the way back through the trail: for each variable whether it stands in the clause, and how many of these
-/// have their values since the last decision. And the numbers of the clauses that were resolved.
+/// A clause that is false, on the way back through the trail: for each variable whether it stands in the clause, and
+/// how many of these have their values since the last decision. And the numbers of the clauses that were resolved.
 #[derive(Drop)]
 pub struct Cut {
     marks: Vec<bool>,
@@ -57,7 +58,8 @@ impl Cut {
         Ok(clause)
     }
 
-    // Passes a literal that is true. Its negation, which may stand in the clause, is resolved away, or stays and is handed back.
+    // Passes a literal that is true. Its negation, which may stand in the clause, is resolved away, or stays and is
+    // handed back.
     fn pass(
         &mut self,
         trail: &Trail,
@@ -149,8 +151,8 @@ impl Cut {
         if is_wanted { Some(number) } else { None }
     }
 
-    // Whether the clause with this number has no variables but this one, those that are there, and those with values before the first
-    // decision.
+    // Whether the clause with this number has no variables but this one, those that are there, and those with values
+    // before the first decision.
     fn brings_nothing(&self, trail: &Trail, notes: &Notes, number: usize, variable: u32) -> bool {
         if let Some(clause) = trail.formula().clauses.as_slice().get(number) {
             for literal in clause.as_slice() {

@@ -105,8 +105,8 @@ impl Engine {
         Ok(Step::Learnt)
     }
 
-    // Goes back to where two literals of the clause have no value, and the clause joins. The decision behind that is made again, so that
-    // the clause forces a literal.
+    // Goes back to where two literals of the clause have no value, and the clause joins. The decision behind that is
+    // made again, so that the clause forces a literal.
     fn go_back(&mut self, clause: Clause) -> Result<(), AllocError>
         requires { AllBelow (formula_of self.old.trail).variables clause }
     {

@@ -1,4 +1,5 @@
-//! What guides the search: for each variable its last value and its level, and the order in which variables are decided.
+//! What guides the search: for each variable its last value and its level, and the order in which variables are
+//! decided.
 
 ghost use Rattle.std.specs.Bool.{OnTrue};
 ghost use Rattle.std.specs.Prelude.{◌≡◌, ◌<◌, IfSome, None};
@@ -9,7 +10,8 @@ use crate::order::Order;
 use std::alloc::{AllocError, Global};
 use wh_sat_trail::{Literal, Trail};
 
-/// What is remembered of each variable, the literal to decide next, if one is planned, and how much of the trail is noted.
+/// What is remembered of each variable, the literal to decide next, if one is planned, and how much of the trail is
+/// noted.
 #[derive(Drop)]
 pub struct Notes {
     order: Order,

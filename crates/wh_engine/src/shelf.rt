@@ -9,8 +9,8 @@ use wh_types::{Numbers, counted};
 /// Learnt clauses of at most so many levels are kept.
 const FEW_LEVELS: u64 = 2;
 
-/// A list of learnt clauses with hints. Of each clause of the trail its number in that list, where the given clauses are counted first; and
-/// of each learnt one of these from how many levels it came.
+/// A list of learnt clauses with hints. Of each clause of the trail its number in that list, where the given clauses
+/// are counted first; and of each learnt one of these from how many levels it came.
 #[derive(Drop)]
 pub struct Shelf {
     given: usize,
@@ -40,8 +40,8 @@ impl Shelf {
         Ok(mem::replace(&mut self.list, empty))
     }
 
-    /// A clause joins the list. It was resolved from the clauses of the trail with these numbers; propagation comes to them in the
-    /// opposite order.
+    /// A clause joins the list. It was resolved from the clauses of the trail with these numbers; propagation comes to
+    /// them in the opposite order.
     pub fn put(
         &mut self,
         alloc: Global,

@@ -5,7 +5,8 @@ use wh_io::{MemoryShelf, MemorySink};
 use wh_top::run;
 use wh_types::Bytes;
 
-/// The file's name joins the text, and the line that the check writes of what is found, or the one that says why nothing was.
+/// The file's name joins the text, and the line that the check writes of what is found, or the one that says why
+/// nothing was.
 pub fn add_answer(
     alloc: Global,
     file: &str,

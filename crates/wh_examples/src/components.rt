@@ -1,5 +1,5 @@
-//! Counts the components of all dependency pairs of a system. It stands here to be timed by the scripts in `bench/`, since no command of
-//! the program finds components alone.
+//! Counts the components of all dependency pairs of a system. It stands here to be timed by the scripts in `bench/`,
+//! since no command of the program finds components alone.
 
 ghost use Rattle.std.specs.Prelude.{◌<◌, All, IfOk, length};
 
@@ -11,7 +11,8 @@ use wh_pairs::{PairList, PairSet};
 use wh_read::read_system;
 use wh_types::Bytes;
 
-/// The line with the number of components that the pairs of the system of a text have joins the text; want of memory stands for all else.
+/// The line with the number of components that the pairs of the system of a text have joins the text; want of memory
+/// stands for all else.
 pub fn add_count(alloc: Global, system: &Bytes, text: &mut Bytes) -> Result<(), AllocError> {
     let count = count_components(alloc, system.as_slice())?;
     let line = format!(in alloc; "COMPONENTS {count}\n")?;

@@ -1,7 +1,8 @@
-//! Takes files one after the other. Behind the word `answers`, and at first, it searches for a proof or a loop of each system, gives what is
-//! found to the check, and writes a line with what the check says of it, or why nothing was found: so the examples of the repository stand in
-//! a table that each run of the tests makes anew. Behind the word `rows` it goes through sheets of rows, each a run of the program with what it
-//! is to write. Behind the word `components` it writes how many components the pairs of a system have, to be timed.
+//! Takes files one after the other. Behind the word `answers`, and at first, it searches for a proof or a loop of each
+//! system, gives what is found to the check, and writes a line with what the check says of it, or why nothing was
+//! found: so the examples of the repository stand in a table that each run of the tests makes anew. Behind the word
+//! `rows` it goes through sheets of rows, each a run of the program with what it is to write. Behind the word
+//! `components` it writes how many components the pairs of a system have, to be timed.
 #![tactic(auto)]
 
 mod answers;

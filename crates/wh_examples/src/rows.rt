@@ -1,5 +1,5 @@
-//! Sheets of rows: texts with names, runs of the program over them, and how each is to end. `examples/rows/README.md` says what the lines of a
-//! sheet mean.
+//! Sheets of rows: texts with names, runs of the program over them, and how each is to end. `examples/rows/README.md`
+//! says what the lines of a sheet mean.
 
 pub mod running;
 pub mod sheet;
@@ -12,8 +12,8 @@ use self::sheet::obey;
 use std::alloc::{AllocError, Global};
 use wh_types::Bytes;
 
-/// A line joins the text for each row of a file that does not end as it is to, and one that says how many rows do. What earlier files named is
-/// kept in the sheet.
+/// A line joins the text for each row of a file that does not end as it is to, and one that says how many rows do. What
+/// earlier files named is kept in the sheet.
 pub fn add_rows(
     alloc: Global,
     file: &str,

@@ -34,13 +34,14 @@ SaysOfFiles s file cert text = (o : Report) × Stands s file cert o × Says o te
 abbrev pub Finds : SystemData → List PairData → List ℕ → Type 0
 Finds d ps text = BeginsWith (first_words Open) text ⊎ ((c : Cert) × IsCert c × SaysOf d ps c text)
 
--- what an explanation begins with: what the check answers on the two files, or on a certificate that was found for the one
+-- what an explanation begins with: what the check answers on the two files, or on a certificate that was found for the
+-- one
 abbrev pub Explains : Shelves → List ℕ → Option (List ℕ) → List ℕ → Type 0
 Explains s file (Some cert) text = SaysOfFiles s file cert text
 Explains s file None text = ToldSystem (s.held file) (λ d ps. Finds d ps text)
 
--- when there is none: where the check gives this answer on the two files, though it weighs no certificate for it (`IsUnweighed`), or
--- where there is no system in the one
+-- when there is none: where the check gives this answer on the two files, though it weighs no certificate for it
+-- (`IsUnweighed`), or where there is no system in the one
 abbrev pub IsUnexplained : Shelves → List ℕ → Option (List ℕ) → Report → Type 0
 IsUnexplained s file (Some cert) o = Stands s file cert o
 IsUnexplained s file None o = StandsBySystem s file o
@@ -63,7 +64,8 @@ pub record Means (d : SystemData) (text : List ℕ) : Type 0 where
   pub yes : BeginsWith (codes "YES") text → AreBounded d
   pub no : BeginsWith (codes "NO") text → SomeIsUnbounded d
 
--- what an explanation means that begins with YES: the bytes are a text of a system, and each well-typed term of it is bounded
+-- what an explanation means that begins with YES: the bytes are a text of a system, and each well-typed term of it is
+-- bounded
 abbrev pub MeansProof : List ℕ → Type 0
 MeansProof bytes = (d : SystemData) × Reads bytes d × AreBounded d
 

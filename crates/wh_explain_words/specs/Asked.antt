@@ -2,7 +2,8 @@
 use Rattle.std.specs.Prelude.{ℕ, ◌≡◌, ◌≢◌, ◌⊎◌, List, [], ◌∷◌, All, Option, Some, None, codes}
 use Rattle.wh_explain_words.specs.declared.request.Request as request
 
--- what may be asked for: to explain a system, by a search or by a certificate; to say what may not be meant in it; its graph
+-- what may be asked for: to explain a system, by a search or by a certificate; to say what may not be meant in it; its
+-- graph
 pub data Asked : Type 0 where
   explain : (file : List ℕ) → Asked
   explain_by : (file cert : List ℕ) → Asked

@@ -26,8 +26,8 @@ pub enum Request<'a> {
 }
 
 /// What the words behind the program's own name ask for; `None` exactly where they are none of `FILE`, `FILE CERT`,
-/// `--lint FILE` and `--graph FILE`. A word of several bytes that begins with `-` names a file only behind a word `--`, and
-/// an empty one does, too.
+/// `--lint FILE` and `--graph FILE`. A word of several bytes that begins with `-` names a file only behind a word `--`,
+/// and an empty one does, too.
 pub fn read_request(words: &[String]) -> Option<Request<'_>>
     ensures { MatchOption result ((asked : Asked) → Asks (map string_bytes words.now) asked → ⊥)
         (λ request. Asks (map string_bytes words.now) (asked_by request)) }

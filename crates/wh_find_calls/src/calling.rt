@@ -1,6 +1,7 @@
 //! The calls in a right side: where a defined symbol stands, and with which arguments.
 //!
-//! `calls_of` is the one to call. The walk goes over a spine first as a whole, then into its head, then over its arguments.
+//! `calls_of` is the one to call. The walk goes over a spine first as a whole, then into its head, then over its
+//! arguments.
 
 ghost use Rattle.std.specs.Prelude.{◌≡◌, ◌+◌, ◌++◌, ◌∷◌, [], ℕ, length, map, drop, OnOk, IfOk};
 ghost use Rattle.wh_types.specs.Erase.{ty};

@@ -1,5 +1,5 @@
-//! The calls in the right side of a rule, found: where a defined symbol stands, with which arguments, below which binders
-//! and within which arguments of meta-variables.
+//! The calls in the right side of a rule, found: where a defined symbol stands, with which arguments, below which
+//! binders and within which arguments of meta-variables.
 //!
 //! `spine_of` takes a term apart, and `calls_of` goes through a right side.
 #![tactic(auto)]

@@ -21,8 +21,8 @@ use Rattle.wh_guesses.specs.Found.{IsInterpretationOver}
 use Rattle.wh_blocking.specs.Tried.{AreWritten}
 use Rattle.wh_flat.specs.Flat.{all_occurrences}
 
--- so many variables there are at most: 200,000 for each occurrence, and where no rules are to be covered 400,000 more, as all
--- symbols have coefficients
+-- so many variables there are at most: 200,000 for each occurrence, and where no rules are to be covered 400,000 more,
+-- as all symbols have coefficients
 abbrev pub most_variables : List ℕ → ℕ → ℕ
 most_variables [] n = 200000 * (n + 2)
 most_variables (m ∷ covered) n = 200000 * n
@@ -52,8 +52,8 @@ abbrev pub IsClosedList : SystemData → List PairData → List ℕ → Option (
 IsClosedList d pairs set None = Unit {0}
 IsClosedList d pairs set (Some listed) = IsUsable (poly_task d pairs set (Some listed))
 
--- a node of interpretations, which lists these rules or none; that no interpretations of the space let a pair go where these rules, or
--- else all, are to be covered; or the clauses
+-- a node of interpretations, which lists these rules or none; that no interpretations of the space let a pair go where
+-- these rules, or else all, are to be covered; or the clauses
 abbrev pub IsFlatAnswer : SystemData → List PairData → List ℕ → Option (List ℕ) → ℕ → Search Node → Type 0
 IsFlatAnswer d pairs set usable budget (search.Found node) = IsInterpretationOver d pairs set usable (said_node node)
 IsFlatAnswer d pairs set usable budget search.Nothing = HasNoInterpretation (poly_task d pairs set usable)

@@ -28,8 +28,8 @@ pub record AreVisited (d : SystemData) (depth visited : ℕ) (list : List Arriva
 abbrev pub ReachesFewer : List RewriteRule → ℕ → ℕ → Type 0
 ReachesFewer rules depth visited = (list : List Arrival) → AreReached rules depth list → length list < visited
 
--- the certificate of a loop; that there is no loop, and that fewer terms are reached than may be; or as many as may be, none of which
--- ends a loop (ours)
+-- the certificate of a loop; that there is no loop, and that fewer terms are reached than may be; or as many as may be,
+-- none of which ends a loop (ours)
 abbrev pub IsAnswer : SystemData → ℕ → ℕ → LoopSearch → Type 0
 IsAnswer d depth visited (Found c) = IsLoopCertificate d depth (said_no c)
 IsAnswer d depth visited Nothing = HasNoLoop d depth × ReachesFewer d.rules depth visited

@@ -58,8 +58,8 @@ pub record IsPlan (d : SystemData) (p : Plan) : Type 0 where
 abbrev pub AreBelow : ℕ → ℕ → List Entry → Type 0
 AreBelow level m entries = (i : ℕ) (e : Entry) → i < m → slice_get entries i ≡ Some e → e.level < level
 
--- how far the search came from one list to the next, where its levels are at most the given one: what P says, or as many entries as may
--- be, or the certificate of a loop
+-- how far the search came from one list to the next, where its levels are at most the given one: what P says, or as
+-- many entries as may be, or the certificate of a loop
 abbrev pub Comes : SystemData → ℕ → ℕ → Type 0 → Listing → Progress → Type 0
 Comes d level visited P l More = P
 Comes d level visited P l Full = IsListing d level l × (length l.entries.items ≡ visited)

@@ -1,4 +1,5 @@
-//! The search for loops: from the left side of each rule level by level, until a term holds an instance of the one that it came from.
+//! The search for loops: from the left side of each rule level by level, until a term holds an instance of the one that
+//! it came from.
 #![tactic(auto)]
 
 mod answer;

@@ -76,7 +76,8 @@ fn certify(
     Ok(Box::new(alloc, found)?)
 }
 
-// Takes the step from the entry with the number, and tests and lists what it leads to. A term is tested also where it is listed.
+// Takes the step from the entry with the number, and tests and lists what it leads to. A term is tested also where it
+// is listed.
 fn try_step(
     alloc: Global,
     setting: &Setting<'_>,
@@ -279,12 +280,13 @@ fn search(
     Ok(Progress::More)
 }
 
-/// Looks for a loop: from the left side of each rule, read with free variables in place of its meta-variables, over all paths of at most
-/// `depth` steps through terms that fit and have at most 2,048 nodes. A loop is a path of at least one step to a term that holds an
-/// instance of its start (Kop 2012). At most `visited` terms are kept.
+/// Looks for a loop: from the left side of each rule, read with free variables in place of its meta-variables, over all
+/// paths of at most `depth` steps through terms that fit and have at most 2,048 nodes. A loop is a path of at least one
+/// step to a term that holds an instance of its start (Kop 2012). At most `visited` terms are kept.
 ///
 /// `Found` is a valid certificate. `Nothing` comes only where there is no loop in this space, and fewer than `visited`
-/// terms are reached. `Full` shows `visited` terms that are reached; each is a start itself, or holds no instance of its start.
+/// terms are reached. `Full` shows `visited` terms that are reached; each is a start itself, or holds no instance of
+/// its start.
 pub fn find_loop(
     alloc: Global,
     system: &System,

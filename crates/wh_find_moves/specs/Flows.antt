@@ -36,8 +36,9 @@ abbrev pub AreDistinct : List Transfer → Type 0
 AreDistinct [] = Unit {0}
 AreDistinct (m ∷ ms) = NoneBetween m.from m.to ms × AreDistinct ms
 
--- the moves, and what they leave: each move is good, no two are between the same monomials, what the moves take from a left monomial
--- and what it has free make its coefficient, and what they bring to a right one and what it wants make its own (ours)
+-- the moves, and what they leave: each move is good, no two are between the same monomials, what the moves take from a
+-- left monomial and what it has free make its coefficient, and what they bring to a right one and what it wants make
+-- its own (ours)
 pub record IsFlow (left right : List Monomial) (flow : Flow) : Type 0 where
   pub free_long : length flow.free.items ≡ length left
   pub want_long : length flow.want.items ≡ length right
@@ -59,8 +60,8 @@ pub record AreKeptBut (lessened : ℕ → Type 0) (old new : List Transfer) : Ty
   pub to : (e : ℕ) → e < length old → (move_at new e).to ≡ (move_at old e).to
   pub amount : (e : ℕ) → e < length old → (lessened e → ⊥) → (move_at old e).amount ≤ (move_at new e).amount
 
--- so many units have gone from one monomial to the other, and the flow is still one between any two sides where the one can
--- give to the other (ours)
+-- so many units have gone from one monomial to the other, and the flow is still one between any two sides where the one
+-- can give to the other (ours)
 pub record HasGiven (old : Flow) (giver taker amount : ℕ) (new : Flow) : Type 0 where
   pub free : new.free.items ≡ slice_set old.free.items giver (slice_index old.free.items giver - amount)
   pub want : new.want.items ≡ slice_set old.want.items taker (slice_index old.want.items taker - amount)

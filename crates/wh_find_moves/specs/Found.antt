@@ -11,7 +11,8 @@ NoneCovers left right = (ms : List Transfer) → IsCover left right ms → ⊥
 abbrev pub AreApart : List Transfer → Type 0
 AreApart ms = (i j : ℕ) (m n : Transfer) → slice_get ms i ≡ Some m → slice_get ms j ≡ Some n → m.from ≡ n.from → m.to ≡ n.to → i ≡ j
 
--- the moves cover, strictly where any moves do; each takes a unit at least, and no two are between the same monomials (ours)
+-- the moves cover, strictly where any moves do; each takes a unit at least, and no two are between the same monomials
+-- (ours)
 pub record AreCovering (left right : Polynomial) (ms : List Transfer) : Type 0 where
   pub cover : IsCover left right ms
   pub strict : (other : List Transfer) → IsStrictCover left right other → IsStrictCover left right ms

@@ -32,7 +32,8 @@ unreached [] = 0
 unreached (true ∷ bs) = unreached bs
 unreached (false ∷ bs) = suc (unreached bs)
 
--- a move that brings something to the monomial of the step p, from a left monomial that could give to that of an earlier step (ours)
+-- a move that brings something to the monomial of the step p, from a left monomial that could give to that of an
+-- earlier step (ours)
 pub record IsLink (left right : List Monomial) (ms : List Transfer) (ss : List Step) (p : ℕ) (l : Link) : Type 0 where
   pub here : l.through < length ms
   pub brings : (move_at ms l.through).to ≡ target ss p
@@ -105,8 +106,8 @@ pub record HasStepped (old new : Search) : Type 0 where
   pub long : length old.steps.items ≤ length new.steps.items
   pub kept : (p : ℕ) → p < length old.steps.items → target new.steps.items p ≡ target old.steps.items p
 
--- the search has got to the right monomial of the move at a place, by that move, if its left one is marked and the search was
--- not there (ours)
+-- the search has got to the right monomial of the move at a place, by that move, if its left one is marked and the
+-- search was not there (ours)
 pub record ReachesBy (through : ℕ) (m : Transfer) (old new : Search) : Type 0 where
   pub givers : new.givers.items ≡ old.givers.items
   pub done : IsSome (mark old.givers.items m.from) → IsReached new.reached.items m.to

@@ -13,8 +13,8 @@ use std::alloc::{AllocError, Global};
 use wh_hopoly::{Move, Moves};
 use wh_poly::{Monomial, Poly};
 
-/// Moves that show that the left polynomial is at least the right one, and greater where any moves show that. `None` comes
-/// exactly where no moves do.
+/// Moves that show that the left polynomial is at least the right one, and greater where any moves show that. `None`
+/// comes exactly where no moves do.
 pub fn find_moves(alloc: Global, left: &Poly, right: &Poly) -> Result<Option<Moves>, AllocError>
     requires left { IsNormal (poly left.now) }
     requires right { IsNormal (poly right.now) }
@@ -33,8 +33,8 @@ pub fn find_moves(alloc: Global, left: &Poly, right: &Poly) -> Result<Option<Mov
     Ok(Some(moves_of(alloc, &flow.moves)?))
 }
 
-/// How many units of the right polynomial the flow leaves without cover, or the greatest number where they are more. It is 0 exactly
-/// where some moves cover.
+/// How many units of the right polynomial the flow leaves without cover, or the greatest number where they are more. It
+/// is 0 exactly where some moves cover.
 pub fn deficit(alloc: Global, left: &Poly, right: &Poly) -> Result<u128, AllocError>
     requires left { IsNormal (poly left.now) }
     requires right { IsNormal (poly right.now) }

@@ -1,6 +1,6 @@
-//! Flows of units from the monomials of one polynomial to those of another: the moves so far, what each left monomial still has free,
-//! and what each right one still wants. A flow changes in two ways: units that are free go to where they are wanted, and units of a
-//! move go back.
+//! Flows of units from the monomials of one polynomial to those of another: the moves so far, what each left monomial
+//! still has free, and what each right one still wants. A flow changes in two ways: units that are free go to where
+//! they are wanted, and units of a move go back.
 
 ghost use Rattle.std.specs.Prelude.{All, ◌≡◌, ◌≤◌, ◌<◌, ◌+◌, ◌-◌, ◌^◌, ◌++◌, ◌∷◌, [], IfOk, OnOk, MatchOption, length, map, slice_index, slice_set};
 ghost use Rattle.wh_types.specs.Limits.{coefficient_end};
@@ -109,8 +109,8 @@ impl Flow {
         self.want[taker] += amount;
     }
 
-    /// Units of a move come from another giver instead, as many as the move has and the other has free. The first giver, which has
-    /// these free then.
+    /// Units of a move come from another giver instead, as many as the move has and the other has free. The first
+    /// giver, which has these free then.
     pub fn reroute(&mut self, place: usize, giver: usize) -> Result<usize, AllocError>
         requires flow { IsSomeFlow self.old }
         requires here { place < length self.old.moves.items }

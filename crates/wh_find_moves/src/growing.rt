@@ -1,4 +1,5 @@
-//! Growing flows: first between monomials with equal factors, then along paths until a right monomial has all that it wants.
+//! Growing flows: first between monomials with equal factors, then along paths until a right monomial has all that it
+//! wants.
 
 ghost use Rattle.std.specs.Prelude.{◌≡◌, ◌≤◌, ◌<◌, [], IfOk, OnOk, length, slice_index};
 ghost use Rattle.std.specs.Bool.{MatchBool};
@@ -15,8 +16,8 @@ use std::cmp::Ordering;
 use wh_poly::{Monomial, order_factors};
 
 impl Flow {
-    /// Units go between monomials with equal factors, as many as there are on both sides. Both sides are in order, so one walk over
-    /// them finds these, and mostly little is left.
+    /// Units go between monomials with equal factors, as many as there are on both sides. Both sides are in order, so
+    /// one walk over them finds these, and mostly little is left.
     pub fn match_equal(&mut self, left: &[Monomial], right: &[Monomial]) -> Result<(), AllocError>
         requires flow { IsFlow left.now right.now self.old }
         requires none { self.old.moves.items ≡ [] }
@@ -41,7 +42,8 @@ impl Flow {
         Ok(())
     }
 
-    /// Whether the right monomial can get all that it wants, and then it has. If not, no moves cover the right polynomial.
+    /// Whether the right monomial can get all that it wants, and then it has. If not, no moves cover the right
+    /// polynomial.
     pub fn fill(
         &mut self,
         alloc: Global,

@@ -1,6 +1,7 @@
-//! The search for a path along which a flow can grow. It goes breadth first over right monomials, from one that wants something: from
-//! each to those that get units from a left monomial that could give to it. It ends at a left monomial that has something free, or
-//! with right monomials whose possible givers have nothing free and give to these alone; then no moves cover them.
+//! The search for a path along which a flow can grow. It goes breadth first over right monomials, from one that wants
+//! something: from each to those that get units from a left monomial that could give to it. It ends at a left monomial
+//! that has something free, or with right monomials whose possible givers have nothing free and give to these alone;
+//! then no moves cover them.
 
 ghost use Rattle.std.specs.Prelude.{◌≡◌, ◌<◌, ◌↔◌, List, IsTrue, IfOk, OnOk, MatchOption, length, slice_index};
 ghost use Rattle.wh_poly.specs.declared.polynomial.Monomial.{Monomial};
@@ -18,8 +19,8 @@ use wh_hopoly::Move;
 use wh_poly::Monomial;
 use wh_polycheck::are_factors_at_least;
 
-/// How a step of the search got to its right monomial: by a move to it, from a left monomial that could also give to the right
-/// monomial of an earlier step.
+/// How a step of the search got to its right monomial: by a move to it, from a left monomial that could also give to
+/// the right monomial of an earlier step.
 #[derive(Clone, Copy)]
 pub struct Link {
     /// The place of the move.
@@ -118,7 +119,8 @@ impl Search {
         })
     }
 
-    // Marks the left monomials that could give to the right monomial of a step. The first of them that has something free, if one has.
+    // Marks the left monomials that could give to the right monomial of a step. The first of them that has something
+    // free, if one has.
     fn visit(
         &mut self,
         left: &[Monomial],

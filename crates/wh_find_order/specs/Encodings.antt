@@ -88,8 +88,8 @@ pub record ShutsOut (e : Encoding) (v : ℕ → Bool) (clause : List Literal) : 
   pub below : AllBelow (bit_count (bits_for e) (scopes_for e)) clause
   pub blocked : (earlier : List (List Literal)) → Solves v earlier → IsBlocked (task_in e) e.marked.now earlier clause
 
--- what a search for guesses comes to: one under which all clauses are true, that no values make all given clauses true, or that no
--- clause may join any more
+-- what a search for guesses comes to: one under which all clauses are true, that no values make all given clauses true,
+-- or that no clause may join any more
 abbrev pub IsNext : Learner → Next → Type 0
 IsNext learner (Model values) = (0 < learner.left) × Solves (value_of values.items) (clauses_of learner)
 IsNext learner next = Answers learner next

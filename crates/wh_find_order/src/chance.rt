@@ -1,7 +1,7 @@
 //! Guesses by chance: one symbol of the condition that failed last gets another filter, or another precedence.
 //!
-//! Where many guesses are shut out, a solver has many long clauses to learn from, and each clause that it learns takes it long. A guess by
-//! chance takes a look at the clauses alone, and it never writes a filter that is not proper.
+//! Where many guesses are shut out, a solver has many long clauses to learn from, and each clause that it learns takes
+//! it long. A guess by chance takes a look at the clauses alone, and it never writes a filter that is not proper.
 
 ghost use Rattle.std.specs.Bool.{OnTrue};
 ghost use Rattle.std.specs.Prelude.{◌≡◌, ◌≤◌, IfOk, IfSome, OnOk, length, true};
@@ -19,7 +19,8 @@ use wh_types::SimpleType;
 // How many changes are tried for one guess.
 const TRIES: u64 = 64;
 
-/// What guesses by chance are made of: what chooses, and for each clause the place of a literal that was true in it last.
+/// What guesses by chance are made of: what chooses, and for each clause the place of a literal that was true in it
+/// last.
 #[derive(Drop)]
 pub struct Chance {
     alloc: Global,
@@ -46,8 +47,8 @@ impl Chance {
         }
     }
 
-    /// A guess that differs from the last one in the bits of one symbol of the condition that failed there, and under which all
-    /// clauses are true, if one of some changes gives one.
+    /// A guess that differs from the last one in the bits of one symbol of the condition that failed there, and under
+    /// which all clauses are true, if one of some changes gives one.
     pub fn change<'a>(
         &mut self,
         encoding: &Encoding<'a>,

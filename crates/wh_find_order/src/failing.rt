@@ -12,8 +12,8 @@ use wh_blocking::{Bits, Held};
 use wh_order_lines::{lacks_pair_line, lacks_rule_line};
 use wh_ordering::Filters;
 
-/// The number of a condition on a line that fails under the order, which these bits write. Those that are known to hold are passed over,
-/// and so is the last one, that some pair shrinks.
+/// The number of a condition on a line that fails under the order, which these bits write. Those that are known to hold
+/// are passed over, and so is the last one, that some pair shrinks.
 pub fn failing_line<'a>(
     alloc: Global,
     encoding: &Encoding<'a>,

@@ -1,6 +1,7 @@
 //! The candidate that a call in a right side makes.
 //!
-//! The candidates of a rule have one left side, which may be large. So it is copied once for all of them: `left_of` makes it.
+//! The candidates of a rule have one left side, which may be large. So it is copied once for all of them: `left_of`
+//! makes it.
 
 ghost use Rattle.std.specs.Prelude.{◌≡◌, ◌+◌, ◌-◌, ◌++◌, ◌<◌, ◌≤◌, ℕ, length, map, reverse, take, IfOk};
 ghost use Rattle.wh_types.specs.Erase.{ty};

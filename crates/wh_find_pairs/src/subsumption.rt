@@ -95,8 +95,8 @@ fn all_declared_alike(a: &Metas, b: &Metas, items: &Terms) -> bool
     true
 }
 
-/// Whether a pair is subsumed by another one of its rule: their right sides are equal, the meta-variables that occur in these
-/// have equal types in both, and the conditions of `b` are among those of `a`.
+/// Whether a pair is subsumed by another one of its rule: their right sides are equal, the meta-variables that occur in
+/// these have equal types in both, and the conditions of `b` are among those of `a`.
 pub fn subsumed(a: &Pair, b: &Pair) -> bool
     ensures { IsTrue result ↔ IsSubsumed (pair_data a.now) (pair_data b.now) }
 {

@@ -1,7 +1,7 @@
 //! The pairs of a system.
 //!
-//! The rules are taken one by one. Each candidate of a rule is compared with the pairs that are left of the earlier ones of that
-//! rule, since candidates of two rules do not subsume each other.
+//! The rules are taken one by one. Each candidate of a rule is compared with the pairs that are left of the earlier
+//! ones of that rule, since candidates of two rules do not subsume each other.
 
 ghost use Rattle.std.specs.Prelude.{◌≡◌, ◌<◌, ◌≤◌, ◌++◌, ◌∷◌, [], List, Contains, length, map, IfOk, OnOk, IsTrue, ◌↔◌};
 ghost use Rattle.wh_types.specs.Limits.{most_pairs};
@@ -52,8 +52,8 @@ fn is_needless(candidate: &Pair, kept: &[Pair]) -> bool
     false
 }
 
-// A further candidate joins the pairs that are left: it is dropped where one of them subsumes it, else it drops those that it
-// subsumes.
+// A further candidate joins the pairs that are left: it is dropped where one of them subsumes it, else it drops those
+// that it subsumes.
 fn keep(kept: &mut Vec<Pair>, candidate: Pair) -> Result<(), AllocError>
     ensures { (earlier : List PairData) → Survive earlier (pairs_data kept.old.items)
         → OnOk result (Survive (earlier ++ pair_data candidate ∷ []) (pairs_data kept.new.items)) }
@@ -101,8 +101,8 @@ fn add_pairs(list: &mut PairList, pairs: Vec<Pair>) -> Result<(), AllocError>
     Ok(())
 }
 
-/// The dependency pairs of a system in order (Kop 2012; Fuhs and Kop 2019): the candidates of its rules, without those that
-/// another candidate makes needless. The cause is told exactly where there are more than 4,096.
+/// The dependency pairs of a system in order (Kop 2012; Fuhs and Kop 2019): the candidates of its rules, without those
+/// that another candidate makes needless. The cause is told exactly where there are more than 4,096.
 pub fn pairs(alloc: Global, system: &System) -> Result<PairList, Or<TooManyPairs>>
     ensures { MatchOr result
         (λ list. ArePairs (candidates (system_data system.now).symbols (system_data system.now).rules) (pairs_data list)

@@ -25,19 +25,20 @@ const EVALUATIONS: u64 = 30_000;
 
 const EVALUATIONS_FOR_EACH: u64 = 50;
 
-// How much work the search in ranges has: so much, and so much more for each rule or pair beside each other, since each pair is asked to
-// be covered strictly and that may go through all; and no more than so much.
+// How much work the search in ranges has: so much, and so much more for each rule or pair beside each other, since each
+// pair is asked to be covered strictly and that may go through all; and no more than so much.
 const WORK: u64 = 30_000;
 
 const WORK_FOR_EACH_TWO: u64 = 15;
 
 const MOST_WORK: u64 = 6_000_000;
 
-/// Interpretations under which no rule and no pair of the set grows and some pair shrinks (the reduction pair processor of Kop 2012
-/// with the polynomials of Fuhs and Kop 2012; the search is ours).
+/// Interpretations under which no rule and no pair of the set grows and some pair shrinks (the reduction pair processor
+/// of Kop 2012 with the polynomials of Fuhs and Kop 2012; the search is ours).
 ///
-/// `Found` drops every pair that is covered strictly. `Nothing` comes only where no interpretation of the space lets a pair go, and
-/// `Spent` only with `budget` clauses, each of which shuts out a guess under which a condition fails, or is learnt.
+/// `Found` drops every pair that is covered strictly. `Nothing` comes only where no interpretation of the space lets a
+/// pair go, and `Spent` only with `budget` clauses, each of which shuts out a guess under which a condition fails, or
+/// is learnt.
 pub fn find_interpretation(
     alloc: Global,
     system: &System,
@@ -62,8 +63,8 @@ pub fn find_interpretation(
     find_for(alloc, &task, &marked, budget)
 }
 
-// The same with the marked symbols of the set: a climb, then ranges of coefficients, and then guesses, of which the first is the best of
-// the climb.
+// The same with the marked symbols of the set: a climb, then ranges of coefficients, and then guesses, of which the
+// first is the best of the climb.
 fn find_for<'a>(
     alloc: Global,
     task: &Task<'a>,

@@ -1,4 +1,5 @@
-//! The search for interpretations that let pairs go: a climb, then ranges of coefficients, and then guesses by a solver.
+//! The search for interpretations that let pairs go: a climb, then ranges of coefficients, and then guesses by a
+//! solver.
 #![tactic(auto)]
 
 mod find;

@@ -183,8 +183,8 @@ fn add_steps_below(
     }
 }
 
-/// The steps of the term in their order: by place in preorder, at one place beta before the rules, and the rules by their
-/// numbers.
+/// The steps of the term in their order: by place in preorder, at one place beta before the rules, and the rules by
+/// their numbers.
 pub fn steps_of(
     alloc: Global,
     rules: &[Rule],

@@ -1,5 +1,5 @@
-//! The steps of a term, found: at each place beta, and the rules whose left sides match there; and what a step leads to,
-//! if that fits and is small.
+//! The steps of a term, found: at each place beta, and the rules whose left sides match there; and what a step leads
+//! to, if that fits and is small.
 #![tactic(auto)]
 
 mod candidates;

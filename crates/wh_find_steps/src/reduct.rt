@@ -16,8 +16,8 @@ use wh_terms::{Rule, Step, Term, copy_term, fits, size};
 /// The greatest size of a term on a path.
 pub const MOST_SIZE: u64 = 2048;
 
-/// What the step leads to; `None` if it does not apply, or the result does not fit or is not small. The result is measured before
-/// it is built.
+/// What the step leads to; `None` if it does not apply, or the result does not fit or is not small. The result is
+/// measured before it is built.
 pub fn reduct_by(
     alloc: Global,
     rules: &[Rule],

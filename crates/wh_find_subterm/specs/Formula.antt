@@ -10,10 +10,10 @@ use Rattle.wh_find_subterm.specs.Rows.{rows_from, end_from}
 use Rattle.wh_find_subterm.specs.Cases.{AreCases, spots}
 use Rattle.wh_find_subterm.specs.Clauses.{clauses_of}
 
--- Its variables are those of some rows, which end before `end`, and then one for each pair of the set in order. Its clauses
--- say, in this order: of each symbol some argument is chosen; no two are; no two are chosen under which a pair is neither
--- equal nor below; where two are chosen under which a pair is not below, the pair's variable is false; some pair's variable
--- is true (ours)
+-- Its variables are those of some rows, which end before `end`, and then one for each pair of the set in order. Its
+-- clauses say, in this order: of each symbol some argument is chosen; no two are; no two are chosen under which a pair
+-- is neither equal nor below; where two are chosen under which a pair is not below, the pair's variable is false; some
+-- pair's variable is true (ours)
 pub record IsFormula (rows : List Row) (end : ℕ) (pairs : List PairData) (set : List ℕ) (variables : ℕ)
     (clauses : List (List Literal)) : Type 0 where
   pub cases : List Case
@@ -21,8 +21,8 @@ pub record IsFormula (rows : List Row) (end : ℕ) (pairs : List PairData) (set 
   pub count : variables ≡ end + length set
   pub are_clauses : clauses ≡ clauses_of rows cases end (length set)
 
--- the rows are those of the marked symbols of the set in order of declaration: each with as many variables as its rules need
--- arguments
+-- the rows are those of the marked symbols of the set in order of declaration: each with as many variables as its rules
+-- need arguments
 pub record IsProjections (rules : List RewriteRule) (pairs : List PairData) (set : List ℕ) (variables : ℕ)
     (clauses : List (List Literal)) : Type 0 where
   pub symbols : List ℕ

@@ -24,7 +24,8 @@ pub record IsSpent (rules : List RewriteRule) (pairs : List PairData) (set : Lis
   pub formula : IsProjections rules pairs set variables clauses
   pub learnt_from : Learnt variables clauses learnt
 
--- a projection that drops all that is below, or that none drops a pair, where clauses may be learnt at all; or the learnt clauses
+-- a projection that drops all that is below, or that none drops a pair, where clauses may be learnt at all; or the
+-- learnt clauses
 abbrev pub IsAnswer : List RewriteRule → List PairData → List ℕ → ℕ → Search ProjectionFound → Type 0
 IsAnswer rules pairs set budget (search.Found f) = (0 < budget) × IsProjection rules pairs set (map chosen f.args) f.drop
     × DropsAllBelow pairs set (map chosen f.args) f.drop

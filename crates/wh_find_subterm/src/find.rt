@@ -32,8 +32,8 @@ pub struct ProjectionFound {
 
 /// A projection of the set that lets pairs go (the subterm criterion of Kop 2012), found as a model of a formula.
 ///
-/// `Found` drops every pair that is below. `Nothing` comes only where no projection of the marked symbols drops a pair of
-/// the set, and `Spent` only with as many learnt clauses as the budget allows; with a budget of 0 it comes always.
+/// `Found` drops every pair that is below. `Nothing` comes only where no projection of the marked symbols drops a pair
+/// of the set, and `Spent` only with as many learnt clauses as the budget allows; with a budget of 0 it comes always.
 pub fn find_projection(
     alloc: Global,
     system: &System,
@@ -82,8 +82,8 @@ pub fn find_projection_by(
     }
 }
 
-/// The formula that the search for a projection of the set asks the solver: its models are the projections that let a pair go
-/// (`models_are_projections`, `projections_are_models`). The error is want of memory.
+/// The formula that the search for a projection of the set asks the solver: its models are the projections that let a
+/// pair go (`models_are_projections`, `projections_are_models`). The error is want of memory.
 pub fn projection_formula(
     alloc: Global,
     system: &System,

@@ -15,7 +15,8 @@ use wh_numbered::Numbered;
 use wh_pairs::Pair;
 use wh_sat_trail::{Clauses, Formula};
 
-/// The formula of a set of pairs over the rows of its marked symbols. More variables than numbers count as want of memory.
+/// The formula of a set of pairs over the rows of its marked symbols. More variables than numbers count as want of
+/// memory.
 pub fn formula_of(
     alloc: Global,
     rows: &Rows,

@@ -1,4 +1,5 @@
-//! The search for a projection that lets pairs go: a formula in clauses whose models are these projections, and the solver.
+//! The search for a projection that lets pairs go: a formula in clauses whose models are these projections, and the
+//! solver.
 #![tactic(auto)]
 
 mod cases;

@@ -1,4 +1,5 @@
-//! First-order trees: symbols whose arguments are all of a sort, meta-variables without arguments, and nothing abstracted.
+//! First-order trees: symbols whose arguments are all of a sort, meta-variables without arguments, and nothing
+//! abstracted.
 #![tactic(auto)]
 
 mod kinds;

@@ -25,8 +25,8 @@ left_call S marked p = spine (fun (marked_number S marked p.left_fun)) p.left
 abbrev pub right_call : Symbols → List ℕ → PairData → Tm
 right_call S marked p = spine (fun (marked_number S marked p.right_fun)) p.right
 
--- by these coefficients the left side of each rule that is to be covered and of each pair of the set is at least the right one,
--- and of some pair of the set it is greater (ours)
+-- by these coefficients the left side of each rule that is to be covered and of each pair of the set is at least the
+-- right one, and of some pair of the set it is greater (ours)
 pub record LetsGoBy (T : TaskData) (marked : List ℕ) (lists : List (List ℕ)) : Type 0 where
   pub rules_at_least : (r : RewriteRule) → IsListed T.rules T.covered r → IsAtLeast lists r.left r.right
   pub pairs_at_least : (p : PairData) → InSet T.pairs T.set p

@@ -78,7 +78,8 @@ IsListed rules listed r = (n : ℕ) × Contains listed n × (slice_get rules n �
 abbrev pub all_occurrences : TaskData → ℕ
 all_occurrences T = sum_by (rule_occurrences_at T.rules) T.covered + sum_by (occurrences_at T.pairs) T.set
 
--- the set is flat: the sides of the rules that are to be covered and of its pairs are, and these are together not large (ours)
+-- the set is flat: the sides of the rules that are to be covered and of its pairs are, and these are together not large
+-- (ours)
 pub record IsFlat (T : TaskData) : Type 0 where
   pub rules : (r : RewriteRule) → IsListed T.rules T.covered r → IsFlatRule T.symbols r
   pub pairs_of_set : (p : PairData) → InSet T.pairs T.set p → IsFlatPair T.symbols p

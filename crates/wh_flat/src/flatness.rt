@@ -18,8 +18,9 @@ use wh_terms::{Rule, Signature};
 // So much may occur in all sides together.
 const MOST_IN_ALL: u32 = 8192;
 
-/// Whether the set is flat: the sides of the rules that are to be covered and of the set's pairs are first-order, those of
-/// rules of a sort, and they are not large. It takes no memory, and stops where a side is not flat or too much occurs.
+/// Whether the set is flat: the sides of the rules that are to be covered and of the set's pairs are first-order, those
+/// of rules of a sort, and they are not large. It takes no memory, and stops where a side is not flat or too much
+/// occurs.
 pub fn flat<'a>(task: &Task<'a>) -> bool
     requires { IsTask (task_data task.now) }
     ensures { IsTrue result ↔ IsFlat (task_data task.now) }

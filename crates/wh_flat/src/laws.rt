@@ -11,8 +11,8 @@ ghost use Rattle.wh_guesses.specs.Conditions.{LetsGo};
 ghost use Rattle.wh_flat.specs.Dominance.{LetsGoBy};
 ghost use Rattle.wh_flat.specs.Flat.{IsFlat, task_for};
 
-/// Interpretations of the space let a pair of a flat set go just where by their coefficients the left side of each rule that is
-/// to be covered and of each pair is worth at least the right one, and of some pair more.
+/// Interpretations of the space let a pair of a flat set go just where by their coefficients the left side of each rule
+/// that is to be covered and of each pair is worth at least the right one, and of some pair more.
 pub fn flat_sets_are_let_go_by_worth()
     ensures { (d : SystemData) (pairs : List PairData) (set covered : List ℕ) (lists : List (List ℕ)) (R : ReadingsData)
         → IsWellMadeSystem d → HaveTypedSides d.symbols d.rules pairs → IsFlat (task_for d pairs set covered)

@@ -1,5 +1,5 @@
--- The generated systems (ours): n functions like `map` on lists of numbers, the first by recursion on the list, and each
--- further one by recursion on the list and a call of the one before it.
+-- The generated systems (ours): n functions like `map` on lists of numbers, the first by recursion on the list, and
+-- each further one by recursion on the list and a call of the one before it.
 use Rattle.std.specs.Prelude.{ℕ, zero, suc, ◌≡◌, ◌+◌, ◌<◌, ◌⊎◌, List, [], ◌∷◌, map, codes}
 use Rattle.std.specs.List.{flat_map, range_with_len}
 use Rattle.std.specs.Fmt.{decimal}

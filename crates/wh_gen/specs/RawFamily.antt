@@ -1,5 +1,5 @@
--- The generated systems as a text says them (ours): raw trees and parts, with all places 0. These are the canonical parts
--- of `gen_data`.
+-- The generated systems as a text says them (ours): raw trees and parts, with all places 0. These are the canonical
+-- parts of `gen_data`.
 use Rattle.std.specs.Prelude.{ℕ, zero, suc, List, [], ◌∷◌, ◌++◌, map, codes}
 use Rattle.std.specs.List.{flat_map, range_with_len}
 use Rattle.wh_text.specs.RawTree.{RTy, raw_type, RTys, no_types, more_types, numbered_binder, RTm, named, numbered, meta, lam, spine, RTms, none, more}

@@ -12,8 +12,9 @@ pub data Match : (q p x y : Tm) → Type 0 where
   last : {t t' u u' : Tm} → Match (app t u) (app t' u') u u'
   front : {t t' u u' x y : Tm} → Match t t' x y → Match (app t u) (app t' u') x y
 
--- `Clash rules q p`: q is rigid, p is no meta-application, and their roots differ, or two matching parts clash. Both stand
--- under the same binders, so that bound variables of one binder have one number (Fuhs and Kop 2019; the form is ours).
+-- `Clash rules q p`: q is rigid, p is no meta-application, and their roots differ, or two matching parts clash. Both
+-- stand under the same binders, so that bound variables of one binder have one number (Fuhs and Kop 2019; the form is
+-- ours).
 pub data Clash (rules : List RewriteRule) : (q p : Tm) → Type 0 where
   roots : {q p : Tm} {r s : Root} → Rigid rules q → root q ≡ Some r → root p ≡ Some s → r ≢ s → Clash rules q p
   parts : {q p x y : Tm} {r : Root} → Rigid rules q → root q ≡ Some r → root p ≡ Some r → Match q p x y → Clash rules x y → Clash rules q p

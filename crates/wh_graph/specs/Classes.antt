@@ -15,8 +15,8 @@ IsPlaced of v = (c : ℕ) × HasClass of v c
 abbrev pub IsNew : ℕ → List (Option ℕ) → Type 0
 IsNew number of = (v : ℕ) → HasClass of v number → ⊥
 
--- the class `number` was given to the root, to vertices without a class that reach it, and so to every one that leads to one of
--- the class and had none
+-- the class `number` was given to the root, to vertices without a class that reach it, and so to every one that leads
+-- to one of the class and had none
 pub record Grown (E : ℕ → ℕ → Type 0) (root number : ℕ) (old new : List (Option ℕ)) : Type 0 where
   pub size : length new ≡ length old
   pub kept : (v c : ℕ) → HasClass old v c → HasClass new v c
@@ -24,8 +24,8 @@ pub record Grown (E : ℕ → ℕ → Type 0) (root number : ℕ) (old new : Lis
   pub root_has : HasClass new root number
   pub closed : (x y : ℕ) → HasClass new x number → E y x → (d : ℕ) × HasClass new y d
 
--- what is known of the classes given so far, from 0 up to `count`: each edge to a vertex with a class comes from one with the
--- same or a smaller class, two vertices of one class reach each other, and each class has a vertex
+-- what is known of the classes given so far, from 0 up to `count`: each edge to a vertex with a class comes from one
+-- with the same or a smaller class, two vertices of one class reach each other, and each class has a vertex
 pub record AreGiven (E : ℕ → ℕ → Type 0) (n count : ℕ) (of : List (Option ℕ)) : Type 0 where
   pub size : length of ≡ n
   pub below : (v c : ℕ) → HasClass of v c → c < count

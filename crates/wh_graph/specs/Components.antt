@@ -20,8 +20,8 @@ pub record Partition (set : List ℕ) (blocks : List (List ℕ)) : Type 0 where
   pub whole : (n : ℕ) → Contains set n → (i : ℕ) × IsIn blocks i n
   pub once : (i j k m n : ℕ) → StandsAt blocks i k n → StandsAt blocks j m n → (i ≡ j) × (k ≡ m)
 
--- the components of the set: the classes of mutual reachability within it, of which no earlier one may follow a later one
--- (Fuhs and Kop 2019)
+-- the components of the set: the classes of mutual reachability within it, of which no earlier one may follow a later
+-- one (Fuhs and Kop 2019)
 pub record AreComponents (E : ℕ → ℕ → Type 0) (set : List ℕ) (blocks : List (List ℕ)) : Type 0 where
   pub partition : Partition set blocks
   -- no block is empty

@@ -9,8 +9,8 @@ use Rattle.wh_graph.specs.Clash.{Clash}
 abbrev pub SomeClash : List RewriteRule → List Tm → List Tm → Type 0
 SomeClash rules qs ps = (i : ℕ) × (q p : Tm) × (slice_get qs i ≡ Some q) × (slice_get ps i ≡ Some p) × Clash rules q p
 
--- b may follow a: the right head of a is the left head of b, and no right argument of a clashes with the left argument of
--- b at the same place (Fuhs and Kop 2019)
+-- b may follow a: the right head of a is the left head of b, and no right argument of a clashes with the left argument
+-- of b at the same place (Fuhs and Kop 2019)
 pub record May (rules : List RewriteRule) (a b : PairData) : Type 0 where
   pub heads : a.right_fun ≡ b.left_fun
   pub arguments : SomeClash rules a.right b.left → ⊥

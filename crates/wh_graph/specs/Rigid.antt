@@ -23,7 +23,8 @@ root_at _ _ = None
 abbrev pub root : Tm → Option Root
 root t = root_at (head t) (argument_count t)
 
--- for the rules, of which those of one symbol need as many arguments, n are too few; where there are no rules, any number is
+-- for the rules, of which those of one symbol need as many arguments, n are too few; where there are no rules, any
+-- number is
 abbrev pub TooFew : Option ℕ → ℕ → Type 0
 TooFew None n = Unit {0}
 TooFew (Some need) n = n < need

@@ -23,12 +23,14 @@ TimesListed blocks n i Never = (j k : ℕ) → j < i → StandsAt blocks j k n �
 TimesListed blocks n i Once = (j k : ℕ) × (j < i) × StandsAt blocks j k n × ((l m : ℕ) → l < i → StandsAt blocks l m n → (l ≡ j) × (m ≡ k))
 TimesListed blocks n i Often = IsRepeated blocks n
 
--- `AreCounted set blocks i times`: at the place of each number of the set, how often it stands in the blocks before block i
+-- `AreCounted set blocks i times`: at the place of each number of the set, how often it stands in the blocks before
+-- block i
 abbrev pub AreCounted : List ℕ → List (List ℕ) → ℕ → List Times → Type 0
 AreCounted set blocks i times =
     (p n : ℕ) → slice_get set p ≡ Some n → (t : Times) × (slice_get times p ≡ Some t) × TimesListed blocks n i t
 
--- `AreAdded set list i old new`: at the place of each number of the set, how often it stands in the list before place i is added
+-- `AreAdded set list i old new`: at the place of each number of the set, how often it stands in the list before place i
+-- is added
 abbrev pub AreAdded : List ℕ → List ℕ → ℕ → List Times → List Times → Type 0
 AreAdded set list i old new =
     (p n : ℕ) (a : Times) → slice_get set p ≡ Some n → slice_get old p ≡ Some a

@@ -14,8 +14,8 @@ IsSeen seen v = slice_get seen v ≡ Some true
 abbrev pub StandsUpTo : List ℕ → ℕ → ℕ → Type 0
 StandsUpTo list i w = (k : ℕ) × (k ≤ i) × (slice_get list k ≡ Some w)
 
--- when a vertex is left, each edge from it or from one left before leads to one left by then, or to one from which a path leads
--- back to it
+-- when a vertex is left, each edge from it or from one left before leads to one left by then, or to one from which a
+-- path leads back to it
 abbrev pub IsLeftInOrder : (ℕ → ℕ → Type 0) → List ℕ → Type 0
 IsLeftInOrder E left = (i j y u w : ℕ) → slice_get left i ≡ Some y → j ≤ i → slice_get left j ≡ Some u → E u w
     → StandsUpTo left i w ⊎ Path E w y

@@ -33,9 +33,9 @@ pub enum BlockFault {
 
 /// Whether the blocks divide the set of pairs so that no pair of an earlier block may follow one of a later block.
 ///
-/// `Ok` exactly where there are at least two blocks, none is empty, each number of the set stands in them once and no other
-/// number does, and no pair of any earlier block may follow one of a later block. `Err` names the first of these that fails,
-/// in the order of the variants. The numbers in the blocks may be any. No memory is taken.
+/// `Ok` exactly where there are at least two blocks, none is empty, each number of the set stands in them once and no
+/// other number does, and no pair of any earlier block may follow one of a later block. `Err` names the first of these
+/// that fails, in the order of the variants. The numbers in the blocks may be any. No memory is taken.
 pub fn check_blocks(
     system: &System,
     pairs: &PairList,

@@ -1,8 +1,8 @@
 //! The classes of mutual reachability, by walks against the edges.
 //!
-//! Each class is what reaches a root and has no class yet. The order in which a walk along the edges left the vertices says which
-//! vertex is the next root. Each vertex is looked for at most once and given up once, and a list is gone through once: the place
-//! where a walk stopped in it is kept.
+//! Each class is what reaches a root and has no class yet. The order in which a walk along the edges left the vertices
+//! says which vertex is the next root. Each vertex is looked for at most once and given up once, and a list is gone
+//! through once: the place where a walk stopped in it is kept.
 
 ghost use Rattle.std.specs.Prelude.{◌≡◌, ◌<◌, ◌≤◌, ℕ, All, IfOk, MatchOption, None, OnOk, Some, length, slice_get};
 ghost use Rattle.wh_graph.specs.Graphs.{AreWithin, Edge, HavePassed, Turned};
@@ -21,11 +21,11 @@ pub struct Classes {
     pub count: usize,
 }
 
-/// The classes of mutual reachability, numbered so that no edge leads to an earlier one. The lists have the edges turned round: for
-/// each vertex those from which an edge leads to it.
+/// The classes of mutual reachability, numbered so that no edge leads to an earlier one. The lists have the edges
+/// turned round: for each vertex those from which an edge leads to it.
 ///
-/// The vertex that was left last is in a class that no other vertex reaches. So its class is what reaches it; then the same holds of
-/// what is left (Kosaraju and Sharir).
+/// The vertex that was left last is in a class that no other vertex reaches. So its class is what reaches it; then the
+/// same holds of what is left (Kosaraju and Sharir).
 pub fn classes_of(alloc: Global, rows: &[Numbers], order: Vec<usize>) -> Result<Classes, AllocError>
     requires within { AreWithin rows.now }
     requires order { IsLeavingOrder (Turned (Edge rows.now)) (length rows.now) order.items }

@@ -18,9 +18,9 @@ use wh_types::{Blocks, Numbers};
 
 /// The components of a set of pairs: the classes of mutual reachability in it by "may follow".
 ///
-/// Each pair of the set is in one of the blocks. Two pairs are in one block exactly where each reaches the other within the set.
-/// No pair of an earlier block may follow one of a later block. In each block the numbers increase. For many sets of one list make
-/// the graph once.
+/// Each pair of the set is in one of the blocks. Two pairs are in one block exactly where each reaches the other within
+/// the set. No pair of an earlier block may follow one of a later block. In each block the numbers increase. For many
+/// sets of one list make the graph once.
 pub fn components(
     alloc: Global,
     system: &System,
@@ -42,8 +42,9 @@ impl Graph {
     ghost use Rattle.wh_graph.specs.Components.{AreComponents};
     ghost use Rattle.wh_graph.specs.Graphs.{IsGraph, edge_of, size_of};
 
-    /// The components of a set of vertices: the classes of mutual reachability in it, of which no earlier one may follow a later
-    /// one. In each block the numbers increase. Of the graph only the lists of the set's vertices are read.
+    /// The components of a set of vertices: the classes of mutual reachability in it, of which no earlier one may
+    /// follow a later one. In each block the numbers increase. Of the graph only the lists of the set's vertices are
+    /// read.
     pub fn components(&self, alloc: Global, set: &PairSet) -> Result<Blocks, AllocError>
         requires graph { IsGraph self.now }
         requires set { All (λ n. n < size_of self.now) set.now }

@@ -1,5 +1,5 @@
-//! The graph of a list of pairs, made once for all sets of them: for each pair the pairs that may follow it, and those that it may
-//! follow.
+//! The graph of a list of pairs, made once for all sets of them: for each pair the pairs that may follow it, and those
+//! that it may follow.
 
 ghost use Rattle.std.specs.Prelude.{◌≡◌, ◌↔◌, ◌<◌, ◌^◌, ◌⊎◌, ℕ, [], All, Contains, IfOk, OnOk, length, map};
 ghost use Rattle.wh_pairs.specs.PairData.{pair_data};
@@ -26,8 +26,8 @@ impl Graph {
     ghost use Rattle.wh_system.specs.SystemView.{system_data};
     ghost use Rattle.wh_graph.specs.Graphs.{IsGraphOf, edge_of, size_of};
 
-    /// The graph of a list of pairs. Whether one may follow another is asked once of each two. More pairs than there are numbers
-    /// count as want of memory.
+    /// The graph of a list of pairs. Whether one may follow another is asked once of each two. More pairs than there
+    /// are numbers count as want of memory.
     pub fn new(alloc: Global, system: &System, pairs: &PairList) -> Result<Graph, AllocError>
         ensures { IfOk result (IsGraphOf (system_data system.now).rules (map pair_data pairs.now)) }
     {

@@ -11,11 +11,12 @@ use wh_pairs::Pair;
 use wh_system::System;
 use wh_terms::Term;
 
-/// Whether the pair `b` may follow the pair `a` (Fuhs and Kop 2019): the right side of `a` has the head of the left side of
-/// `b`, and no argument of the right side of `a` clashes with the argument of the left side of `b` at the same place.
+/// Whether the pair `b` may follow the pair `a` (Fuhs and Kop 2019): the right side of `a` has the head of the left
+/// side of `b`, and no argument of the right side of `a` clashes with the argument of the left side of `b` at the same
+/// place.
 ///
-/// A term clashes with a pattern if nothing can change its root, if the pattern is no meta-application, and if the roots
-/// differ or two parts at the same place clash. No memory is taken.
+/// A term clashes with a pattern if nothing can change its root, if the pattern is no meta-application, and if the
+/// roots differ or two parts at the same place clash. No memory is taken.
 pub fn may_follow(system: &System, a: &Pair, b: &Pair) -> bool
     ensures { IsTrue result ↔ May (system_data system.now).rules (pair_data a.now) (pair_data b.now) }
 {

@@ -1,4 +1,5 @@
-//! Each condition of a node `alone` or `blocks` holds, or there is a first thing wrong: the contracts of functions that do nothing.
+//! Each condition of a node `alone` or `blocks` holds, or there is a first thing wrong: the contracts of functions that
+//! do nothing.
 
 ghost use Rattle.std.specs.Prelude.{ℕ, ◌⊎◌, List};
 ghost use Rattle.wh_terms.specs.Rules.{RewriteRule};

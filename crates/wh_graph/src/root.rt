@@ -41,8 +41,8 @@ fn has_fewer(term: &Term, need: u32) -> bool
     }
 }
 
-/// Whether the term is an abstraction without arguments, or a spine headed by a bound variable, by a symbol without rules
-/// or by a symbol with fewer arguments than its rules need. A beta redex is none of these.
+/// Whether the term is an abstraction without arguments, or a spine headed by a bound variable, by a symbol without
+/// rules or by a symbol with fewer arguments than its rules need. A beta redex is none of these.
 pub fn is_rigid(system: &System, term: &Term) -> bool
     ensures { IsTrue result ↔ Rigid (system_data system.now).rules (tm term.now) }
 {

@@ -1,8 +1,8 @@
 //! A walk of the graph in depth, and the order in which it leaves the vertices.
 //!
-//! The walk keeps its own stack, a path in the graph. Each vertex is found once and left once, and a list is gone through once: the
-//! place where the walk stopped in it is kept. It goes from the last vertex down, so that the classes come out about in the order of
-//! their vertices.
+//! The walk keeps its own stack, a path in the graph. Each vertex is found once and left once, and a list is gone
+//! through once: the place where the walk stopped in it is kept. It goes from the last vertex down, so that the classes
+//! come out about in the order of their vertices.
 
 ghost use Rattle.std.specs.Prelude.{◌≡◌, ◌<◌, ◌≤◌, ℕ, [], All, IfOk, MatchOption, OnOk, Some, length, slice_get, false, true};
 ghost use Rattle.wh_graph.specs.Graphs.{AreWithin, Edge, HavePassed};
@@ -11,8 +11,8 @@ ghost use Rattle.wh_graph.specs.Walks.{IsLeavingOrder, IsSeen, Walked};
 use std::alloc::{AllocError, Global};
 use wh_types::Numbers;
 
-/// The vertices in the order in which a walk in depth leaves them: each after all that it reaches and that the walk had not met
-/// before.
+/// The vertices in the order in which a walk in depth leaves them: each after all that it reaches and that the walk had
+/// not met before.
 pub fn leaving_order(alloc: Global, rows: &[Numbers]) -> Result<Vec<usize>, AllocError>
     requires { AreWithin rows.now }
     ensures { IfOk result (λ order. IsLeavingOrder (Edge rows.now) (length rows.now) order.items) }
@@ -63,7 +63,8 @@ fn walk_from(
     Ok(())
 }
 
-// A vertex that was not seen yet and to which an edge leads from the vertex. The walk's place in its list goes on to it.
+// A vertex that was not seen yet and to which an edge leads from the vertex. The walk's place in its list goes on to
+// it.
 fn unseen_successor(
     rows: &[Numbers],
     seen: &[bool],

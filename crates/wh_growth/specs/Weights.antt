@@ -11,7 +11,8 @@ abbrev pub at_nothing : (A : Ty) → Sem A → ℕ
 at_nothing (sort s) n = n
 at_nothing (A ⇒ B) f = at_nothing B (f (nothing A))
 
--- the value that is a constant and so many times the sum of its arguments, each taken where its own arguments are 0 (ours)
+-- the value that is a constant and so many times the sum of its arguments, each taken where its own arguments are 0
+-- (ours)
 abbrev pub linear : (A : Ty) → ℕ → ℕ → Sem A
 linear (sort s) c k = c
 linear (A ⇒ B) c k = λ a. linear B (c + k * at_nothing A a) k

@@ -1,4 +1,5 @@
-//! What sides are worth as numbers: with two numbers for each variable, and how that grows with the interpretations of symbols.
+//! What sides are worth as numbers: with two numbers for each variable, and how that grows with the interpretations of
+//! symbols.
 #![tactic(auto)]
 
 mod refuting;

@@ -13,9 +13,9 @@ use wh_poly::{Atoms, Poly};
 // A number that is great beside those of most polynomials; a product of six of them fits 128 bits.
 const GREAT: u64 = 1_000_000;
 
-/// Whether for some of a few weights of so many variables the left polynomial is worth less than the right one, or, where it is to be
-/// greater, no more. What each is worth is told as at most the greatest number of 128 bits, and a left one that is worth so much shows
-/// nothing.
+/// Whether for some of a few weights of so many variables the left polynomial is worth less than the right one, or,
+/// where it is to be greater, no more. What each is worth is told as at most the greatest number of 128 bits, and a
+/// left one that is worth so much shows nothing.
 pub fn is_refuted(
     alloc: Global,
     left: &Poly,

@@ -1,4 +1,5 @@
--- The coefficients of the polynomials of all symbols and of listed marked symbols, and whether these polynomials are of their spaces.
+-- The coefficients of the polynomials of all symbols and of listed marked symbols, and whether these polynomials are of
+-- their spaces.
 use Rattle.std.specs.Prelude.{ℕ, ◌+◌, ◌≡◌, List, [], ◌++◌, Some, All, length, map, get_or, slice_get}
 use Rattle.wh_types.specs.Ty.{Ty, arguments}
 use Rattle.wh_reduction.specs.TaskData.{TaskData}
@@ -8,11 +9,13 @@ use Rattle.wh_polycheck.specs.Readings.{ReadingsData, AreReadingsFor}
 use Rattle.wh_space.specs.Space.{IsOfSpace}
 use Rattle.wh_space.specs.Coefficients.{HasCoefficients}
 
--- the scopes of the polynomials that a guess has: of all symbols in order of declaration, and then of the listed marked symbols (ours)
+-- the scopes of the polynomials that a guess has: of all symbols in order of declaration, and then of the listed marked
+-- symbols (ours)
 abbrev pub scopes_of : TaskData → List ℕ → List (List Ty)
 scopes_of T marked = map arguments T.symbols.funs ++ map (marked_types T.symbols T.rules) marked
 
--- the readings of all symbols, and then those of the marked symbols, have the coefficients of the lists, one list for each (ours)
+-- the readings of all symbols, and then those of the marked symbols, have the coefficients of the lists, one list for
+-- each (ours)
 pub record HaveCoefficients (T : TaskData) (lists : List (List ℕ)) (R : ReadingsData) : Type 0 where
   pub of_symbols : (f : ℕ) (s : Interpretation) → slice_get R.symbols f ≡ Some s
       → HasCoefficients (arguments s.kind) (get_or lists f []) s.polynomial

@@ -20,8 +20,8 @@ pub data Condition : Type 0 where
   covers_pair : (p : PairData) → Condition
   some_strictly : Condition
 
--- the condition with a number: those of the rules that are to be covered come first, then those of the pairs of the set, both in
--- order, and then that some pair is covered strictly (ours)
+-- the condition with a number: those of the rules that are to be covered come first, then those of the pairs of the
+-- set, both in order, and then that some pair is covered strictly (ours)
 pub data IsCondition (T : TaskData) : ℕ → Condition → Type 0 where
   of_rule : (k n : ℕ) (r : RewriteRule) → slice_get T.covered k ≡ Some n → slice_get T.rules n ≡ Some r
       → IsCondition T k (covers_rule r)
@@ -58,15 +58,15 @@ UsesMark T (covers_rule r) f = ⊥
 UsesMark T (covers_pair p) f = HeadsASide f p
 UsesMark T some_strictly f = (p : PairData) × InSet T.pairs T.set p × HeadsASide f p
 
--- what has this number is used in the condition: a symbol has its own number, and the marked symbols of the set, which are listed, go
--- on behind all symbols (ours)
+-- what has this number is used in the condition: a symbol has its own number, and the marked symbols of the set, which
+-- are listed, go on behind all symbols (ours)
 abbrev pub UsesNumber : TaskData → List ℕ → Condition → ℕ → Type 0
 UsesNumber T marked c n =
     ((n < length T.symbols.funs) × UsesSymbol T c n)
     ⊎ ((i f : ℕ) × (n ≡ length T.symbols.funs + i) × (slice_get marked i ≡ Some f) × UsesMark T c f)
 
--- no value in the evaluation of the two sides exceeds a limit, and some moves show that the left one is at least the right one, or,
--- where that is asked, that it is greater (ours)
+-- no value in the evaluation of the two sides exceeds a limit, and some moves show that the left one is at least the
+-- right one, or, where that is asked, that it is greater (ours)
 pub record IsMet (left right : Run Polynomial) (strict : Bool) : Type 0 where
   pub left_side : IsSide left left.result
   pub right_side : IsSide right right.result

@@ -31,8 +31,8 @@ abbrev pub version_with : Option (List ℕ) → ℕ
 version_with None = 1
 version_with (Some listed) = 2
 
--- the node is one of interpretations, whose conditions hold of the set and of the rules that it lists, or of all rules where it lists
--- none (ours)
+-- the node is one of interpretations, whose conditions hold of the set and of the rules that it lists, or of all rules
+-- where it lists none (ours)
 pub record IsInterpretationOver (d : SystemData) (ps : List PairData) (set : List ℕ) (usable : Option (List ℕ)) (line : w.Node)
     : Type 0 where
   pub readings : ReadingsData
@@ -42,7 +42,8 @@ pub record IsInterpretationOver (d : SystemData) (ps : List PairData) (set : Lis
   pub covering : IsCovering (poly_task d ps set usable) readings evidence
   -- no value in the evaluation of the sides exceeds a limit
   pub small : IsSmall (poly_task d ps set usable) readings
-  -- each symbol is read by a polynomial that is tried for its type, and each marked one for the arguments that its rules need
+  -- each symbol is read by a polynomial that is tried for its type, and each marked one for the arguments that its
+  -- rules need
   pub of_space : AreOfSpace (poly_task d ps set usable) readings
   -- in each line no two moves are between the same monomials
   pub rules_apart : All AreApart evidence.of_rules

@@ -28,7 +28,8 @@ AreMarksBy S rules at first marks = (i : ℕ) (m : MarkedSymbol) → slice_get m
 abbrev pub list_of : List (List ℕ) → ℕ → List ℕ
 list_of lists i = get_or lists i []
 
--- what was read by some lists is then read by others, which differ from these at the number alone, where they have these coefficients
+-- what was read by some lists is then read by others, which differ from these at the number alone, where they have
+-- these coefficients
 abbrev pub IsChanged : Symbols → List RewriteRule → ℕ → List ℕ → List Symbol → List MarkedSymbol → List Symbol → List MarkedSymbol → Type 0
 IsChanged S rules number cs symbols marks new_symbols new_marks =
     (before after : ℕ → List ℕ) → after number ≡ cs → ((k : ℕ) → k ≢ number → after k ≡ before k)

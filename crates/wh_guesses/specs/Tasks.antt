@@ -21,8 +21,8 @@ guess_data g = record { symbols = interpretations g.symbols.items; marks = marks
 abbrev pub IsGuessOf : Task → Guess → Type 0
 IsGuessOf t g = IsGuess (task_data t) g.symbols.items g.marks.items
 
--- what the first guess reads by some lists is read in the second one by others, which differ from these at the number alone, where
--- they have these coefficients
+-- what the first guess reads by some lists is read in the second one by others, which differ from these at the number
+-- alone, where they have these coefficients
 abbrev pub IsChangedGuess : Task → ℕ → List ℕ → Guess → Guess → Type 0
 IsChangedGuess t number coefficients old new =
     IsChanged (task_data t).symbols (task_data t).rules number coefficients old.symbols.items old.marks.items new.symbols.items

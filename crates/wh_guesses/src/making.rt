@@ -25,8 +25,8 @@ use wh_space::{reading_of, spots_of};
 use wh_system::System;
 use wh_types::SimpleType;
 
-/// The guess that has these coefficients: a list for each symbol, and then for each of the marked symbols of the set; what is
-/// missing is 0, and what is above 3 counts as 3.
+/// The guess that has these coefficients: a list for each symbol, and then for each of the marked symbols of the set;
+/// what is missing is 0, and what is above 3 counts as 3.
 pub fn guess_by<'a>(
     alloc: Global,
     task: &Task<'a>,

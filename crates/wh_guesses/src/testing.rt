@@ -41,8 +41,8 @@ pub struct Outcome {
 /// How much is wanting where a value exceeds a limit.
 const EXCEEDING: u64 = 1000;
 
-/// What the condition with the number is under the guess: that of a rule that is to be covered, or behind these that of a pair of the
-/// set.
+/// What the condition with the number is under the guess: that of a rule that is to be covered, or behind these that of
+/// a pair of the set.
 pub fn outcome_of<'a>(
     alloc: Global,
     task: &Task<'a>,
@@ -154,8 +154,9 @@ fn leaves_constant(left: &Poly, moves: &[Move]) -> bool {
     first.atoms.as_slice().is_empty() && rest > 0
 }
 
-/// Says `true` only where the condition with that number fails under the guess: that of a rule that is to be covered, behind these that
-/// of a pair of the set, or last that some pair of the set is covered strictly. Of any other number nothing is said.
+/// Says `true` only where the condition with that number fails under the guess: that of a rule that is to be covered,
+/// behind these that of a pair of the set, or last that some pair of the set is covered strictly. Of any other number
+/// nothing is said.
 pub fn fails<'a>(
     alloc: Global,
     task: &Task<'a>,

@@ -1,5 +1,5 @@
-//! What is used in each condition of a guess: a symbol is told by its own number, and a marked symbol by its place behind all
-//! symbols.
+//! What is used in each condition of a guess: a symbol is told by its own number, and a marked symbol by its place
+//! behind all symbols.
 
 ghost use Rattle.std.specs.Prelude.{ℕ, ◌+◌, ◌≡◌, ◌⊎◌, ◌<◌, ◌≤◌, All, Contains, IfOk, Some, length, map, slice_get};
 ghost use Rattle.wh_terms.specs.Erase.{rewrite_rule, rewrite_rules, tms as trees, tm};

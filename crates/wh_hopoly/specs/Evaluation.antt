@@ -1,5 +1,5 @@
--- The value of an expression under interpretations of its symbols, with all values on the way to it. Nothing here knows a limit,
--- a merge or a short cut: what a program does instead has to come to the same.
+-- The value of an expression under interpretations of its symbols, with all values on the way to it. Nothing here knows
+-- a limit, a merge or a short cut: what a program does instead has to come to the same.
 use Rattle.std.specs.Prelude.{ℕ, zero, suc, ◌+◌, ◌-◌, ◌==◌, nat_lt, List, [], ◌∷◌, ◌++◌, ◌≡◌, length, if◌then◌else◌, slice_get, Some, Contains}
 use Rattle.wh_types.specs.Ty.{Ty, sort, ◌⇒◌, arguments}
 use Rattle.wh_poly.specs.Polynomials.{HasType, Polynomial, zero_poly, plus, Factors, no_factors, times, Arguments, no_arguments, argument, Normal}
@@ -40,14 +40,16 @@ without zero (A ∷ Γ) = Γ
 without (suc v) (A ∷ Γ) = A ∷ without v Γ
 
 abbrev mutual
-  -- replacing the variable v in a polynomial of the scope Γ: the sum over its monomials from the left. `head Δ ps` is what a factor
-  -- headed by v, with the arguments ps after their replacement, becomes in the scope Δ; `sum` is the sum so far (Fuhs and Kop 2012)
+  -- replacing the variable v in a polynomial of the scope Γ: the sum over its monomials from the left. `head Δ ps` is
+  -- what a factor headed by v, with the arguments ps after their replacement, becomes in the scope Δ; `sum` is the sum
+  -- so far (Fuhs and Kop 2012)
   pub replace : (List Ty → Arguments → Run Polynomial) → ℕ → List Ty → Polynomial → Polynomial → Run Polynomial
   replace head v Γ sum zero_poly = one sum
   replace head v Γ sum (plus c us p) =
       next (replace_factors head v Γ (constant c) us) (λ m. next (one (sum_poly m sum)) (λ sum. replace head v Γ sum p))
 
-  -- of a monomial the product that starts with the coefficient and multiplies in the factors from the left; `product` is that so far
+  -- of a monomial the product that starts with the coefficient and multiplies in the factors from the left; `product`
+  -- is that so far
   pub replace_factors : (List Ty → Arguments → Run Polynomial) → ℕ → List Ty → Polynomial → Factors → Run Polynomial
   replace_factors head v Γ product no_factors = one product
   replace_factors head v Γ product (times x ps us) =
@@ -62,7 +64,8 @@ abbrev mutual
   replace_arguments head v Γ (A ⇒ B) (argument p ps) =
       next (replace head v (Γ ++ arguments A) zero_poly p) (λ q. next (replace_arguments head v Γ B ps) (λ qs. pure (argument q qs)))
 
--- a value of a scope of length n, whose added variables go on from n, in the longer scope Δ, where they go on from its length (ours)
+-- a value of a scope of length n, whose added variables go on from n, in the longer scope Δ, where they go on from its
+-- length (ours)
 abbrev pub widened : ℕ → List Ty → Polynomial → Polynomial
 widened n Δ g = renumber (λ i. if nat_lt i n then i else length Δ + (i - n)) g
 
@@ -77,7 +80,8 @@ applied (A ⇒ B) Γ g (argument p ps) =
 abbrev pub apply_one : Ty → Ty → List Ty → Polynomial → Polynomial → Run Polynomial
 apply_one A B Γ g p = replace (λ Δ qs. applied A Δ (widened (length Γ) Δ p) qs) (length Γ) (Γ ++ A ∷ arguments B) zero_poly g
 
--- an expression; its variables are numbers of a scope, and a binder's is the length of the scope that it stands in (ours)
+-- an expression; its variables are numbers of a scope, and a binder's is the length of the scope that it stands in
+-- (ours)
 pub data Expression : Type 0 where
   var : (x : ℕ) → Expression
   symbol : (f : ℕ) → Expression
@@ -116,7 +120,8 @@ evaluate symbols Γ (apply e d) =
     next (evaluate symbols Γ e) (λ g. next (evaluate symbols Γ d)
     (λ p. apply_one (type_of symbols Γ d) (codomain (type_of symbols Γ e)) Γ g p))
 
--- an expression is well typed: its variables and symbols are there, and functions are applied to arguments of their types (ours)
+-- an expression is well typed: its variables and symbols are there, and functions are applied to arguments of their
+-- types (ours)
 abbrev pub TypedExpression : List Interpretation → List Ty → Expression → Type 0
 TypedExpression symbols Γ (var x) = (A : Ty) × HasType Γ x A
 TypedExpression symbols Γ (symbol f) = (s : Interpretation) × slice_get symbols f ≡ Some s

@@ -1,4 +1,5 @@
--- Moves of units between the monomials of two polynomials, and when they show that the left one is at least the right one.
+-- Moves of units between the monomials of two polynomials, and when they show that the left one is at least the right
+-- one.
 use Rattle.std.specs.Prelude.{ℕ, zero, suc, ◌+◌, ◌≤◌, ◌<◌, ◌==◌, List, [], ◌∷◌, ◌≡◌, if◌then◌else◌, Contains}
 use Rattle.wh_poly.specs.Polynomials.{Polynomial, zero_poly, plus, Factors, no_factors, times, Arguments, no_arguments, argument}
 use Rattle.wh_hopoly.specs.Covers.{AtLeast}
@@ -15,7 +16,8 @@ ArgumentsAtLeast no_arguments no_arguments = Unit {0}
 ArgumentsAtLeast (argument p ps) (argument q qs) = AtLeast p q × ArgumentsAtLeast ps qs
 ArgumentsAtLeast _ _ = ⊥
 
--- factors are at least others if they have the same variables in order, each with arguments that are at least the others' (ours)
+-- factors are at least others if they have the same variables in order, each with arguments that are at least the
+-- others' (ours)
 abbrev pub FactorsAtLeast : Factors → Factors → Type 0
 FactorsAtLeast no_factors no_factors = Unit {0}
 FactorsAtLeast (times x ps us) (times y qs vs) = x ≡ y × ArgumentsAtLeast ps qs × FactorsAtLeast us vs

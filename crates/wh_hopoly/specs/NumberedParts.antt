@@ -11,7 +11,8 @@ parts (symbol f) = 1
 parts (lambda A e) = 1 + parts e
 parts (apply e d) = 1 + (parts e + parts d)
 
--- the values that the rule of the expression itself gives: of an application its replacements, of an abstraction none (ours)
+-- the values that the rule of the expression itself gives: of an application its replacements, of an abstraction none
+-- (ours)
 abbrev pub own_values : List Interpretation → List Ty → Expression → List Polynomial
 own_values symbols Γ (var x) = (evaluate symbols Γ (var x)).values
 own_values symbols Γ (symbol f) = (evaluate symbols Γ (symbol f)).values

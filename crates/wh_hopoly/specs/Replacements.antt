@@ -12,8 +12,8 @@ use Rattle.wh_poly.specs.Erase.{poly}
 use Rattle.wh_hopoly.specs.declared.replacing.Replacement.{Replacement}
 use Rattle.wh_hopoly.specs.declared.replacing.Place.{Place}
 
--- what a factor headed by the variable becomes: the value, of this type and of a scope of length n, applied to its arguments
--- (Fuhs and Kop 2012)
+-- what a factor headed by the variable becomes: the value, of this type and of a scope of length n, applied to its
+-- arguments (Fuhs and Kop 2012)
 abbrev pub head_by : Ty → ℕ → Polynomial → List Ty → Arguments → Run Polynomial
 head_by A n g Δ ps = applied A Δ (widened n Δ g) ps
 
@@ -26,8 +26,8 @@ abbrev pub replace_factor : (List Ty → Arguments → Run Polynomial) → ℕ �
 replace_factor head v Γ x ps = next (replace_arguments head v Γ (type_at Γ x) ps)
     (λ qs. if x == v then head (without v Γ) qs else one (atom (down v x) qs))
 
--- the variable n has the type A between two parts of the scope Γ, it is gone from Δ, and the value g is normal where A's arguments go
--- on from the first part (ours)
+-- the variable n has the type A between two parts of the scope Γ, it is gone from Δ, and the value g is normal where
+-- A's arguments go on from the first part (ours)
 pub record Replaces (A : Ty) (n : ℕ) (g : Polynomial) (Γ Δ : List Ty) : Type 0 where
   pub around : List Ty
   pub behind : List Ty
@@ -42,7 +42,8 @@ Fits r place =
     Replaces (ty r.kind.now) r.variable (poly r.value.now) (scope_of place.inner) (scope_of place.outer)
     × (place.count ≡ length (scope_of place.inner))
 
--- a value of a functional type applied to a value of its first argument's type; a sort has no arguments, and the value stays (ours)
+-- a value of a functional type applied to a value of its first argument's type; a sort has no arguments, and the value
+-- stays (ours)
 abbrev pub apply_at : Ty → List Ty → Polynomial → Polynomial → Run Polynomial
 apply_at (sort s) Γ g p = one g
 apply_at (A ⇒ B) Γ g p = apply_one A B Γ g p

@@ -47,7 +47,8 @@ located_at at (Ok v) = Ok v
 located_at at (Err NoMemory) = Err NoMemory
 located_at at (Err (Because e)) = Err (Because (fault_at at e))
 
--- the rule of the part that is named gives a value that exceeds the limit that is named, where the parts are numbered from n (ours)
+-- the rule of the part that is named gives a value that exceeds the limit that is named, where the parts are numbered
+-- from n (ours)
 abbrev pub IsFaultFrom : ℕ → List Interpretation → List Ty → Expression → PolyFault → Type 0
 IsFaultFrom n symbols Γ e (fault.Overflow m) = (k : ℕ) × (m ≡ n + k) × (w : Polynomial) × ValueOfPart symbols Γ e k w × Overflows w
 IsFaultFrom n symbols Γ e (fault.TooLarge m) = (k : ℕ) × (m ≡ n + k) × (w : Polynomial) × ValueOfPart symbols Γ e k w × TooLarge w

@@ -28,8 +28,9 @@ pub struct Setting<'a> {
     pub table: Table<'a>,
 }
 
-/// The value of an expression that is well typed where it stands. `next` is the expression's own number, and comes to be
-/// that behind its last part. A fault only where the rule of the part that it names gives a value that exceeds the limit.
+/// The value of an expression that is well typed where it stands. `next` is the expression's own number, and comes to
+/// be that behind its last part. A fault only where the rule of the part that it names gives a value that exceeds the
+/// limit.
 #[cycle(evaluate)]
 pub fn evaluate<'a>(
     alloc: Global,

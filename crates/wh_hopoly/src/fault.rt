@@ -1,7 +1,7 @@
 //! Where a value exceeds the limits.
 
-/// The limit that a value exceeds, and the part of the expression whose own rule gives that value. Parts are numbered in preorder
-/// from 0.
+/// The limit that a value exceeds, and the part of the expression whose own rule gives that value. Parts are numbered
+/// in preorder from 0.
 #[derive(Drop)]
 pub enum PolyFault {
     /// A coefficient is above 2^128 - 1.

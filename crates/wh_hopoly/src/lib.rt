@@ -1,5 +1,5 @@
-//! Expressions over interpretations of symbols by higher-order polynomials: their values, and moves that show that one polynomial is at
-//! least another.
+//! Expressions over interpretations of symbols by higher-order polynomials: their values, and moves that show that one
+//! polynomial is at least another.
 #![tactic(auto)]
 
 mod covers;

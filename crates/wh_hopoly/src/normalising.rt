@@ -1,4 +1,5 @@
-//! The normal form of an expression: its value by the rules of evaluation, which stop at the first value that exceeds a limit.
+//! The normal form of an expression: its value by the rules of evaluation, which stop at the first value that exceeds a
+//! limit.
 
 ghost use Rattle.std.specs.Prelude.{◌≡◌, ◌++◌, ◌∷◌, [], map, length, IfOk};
 ghost use Rattle.wh_types.specs.Erase.{ty};
@@ -20,9 +21,10 @@ use wh_types::{Or, SimpleType};
 
 /// The normal form of a well-typed expression: its value in the scope that goes on with the arguments of its type.
 ///
-/// `scope` has the types of the expression's variables, and `symbols` what its symbols are read as, each normal in the scope of its
-/// type's arguments. `Err` comes only where the rule of the part that it names gives a value that exceeds the limit that it names;
-/// `Ok` only where no value in the whole evaluation exceeds one (Fuhs and Kop 2012; the limits are ours).
+/// `scope` has the types of the expression's variables, and `symbols` what its symbols are read as, each normal in the
+/// scope of its type's arguments. `Err` comes only where the rule of the part that it names gives a value that exceeds
+/// the limit that it names; `Ok` only where no value in the whole evaluation exceeds one (Fuhs and Kop 2012; the limits
+/// are ours).
 pub fn normal(
     alloc: Global,
     expr: &Expr,
@@ -45,8 +47,8 @@ pub fn normal(
     Ok(valued.value)
 }
 
-/// The same of a function that is no symbol of the expressions, told by its type and its polynomial, applied to arguments in turn.
-/// It counts as one more symbol behind the others, so that its number is the number of symbols.
+/// The same of a function that is no symbol of the expressions, told by its type and its polynomial, applied to
+/// arguments in turn. It counts as one more symbol behind the others, so that its number is the number of symbols.
 pub fn normal_call(
     alloc: Global,
     kind: &SimpleType,

@@ -1,8 +1,8 @@
-//! Replacing a variable in a polynomial by a value, by the rules of evaluation: each value on the way is tested, and the first that
-//! exceeds a limit ends it.
+//! Replacing a variable in a polynomial by a value, by the rules of evaluation: each value on the way is tested, and
+//! the first that exceeds a limit ends it.
 //!
-//! The main function is `apply_one`, of one value applied to another. The variables that it replaces are the first ones that a type
-//! adds to a scope, so the scope without the variable is a chain of frames too.
+//! The main function is `apply_one`, of one value applied to another. The variables that it replaces are the first ones
+//! that a type adds to a scope, so the scope without the variable is a chain of frames too.
 
 ghost use Rattle.std.specs.Prelude.{◌≡◌, ◌≢◌, ◌≤◌, ◌++◌, length, IfOk, OnOk};
 ghost use Rattle.wh_types.specs.Erase.{ty};
@@ -50,8 +50,8 @@ pub struct Place<'a> {
     pub count: u32,
 }
 
-/// A value of a functional type, in a scope that goes on with the arguments of the type, applied to a value of its first argument's
-/// type. `count` is the length of the scope. A fault only where a value on the way exceeds a limit.
+/// A value of a functional type, in a scope that goes on with the arguments of the type, applied to a value of its
+/// first argument's type. `count` is the length of the scope. A fault only where a value on the way exceeds a limit.
 #[cycle(replace)]
 pub fn apply_one<'a>(
     alloc: Global,
@@ -115,7 +115,8 @@ fn replace<'a>(
     total.finish(alloc)
 }
 
-// The product of the coefficient and the factors, each replaced. The value of a variable of a sort is raised once, and kept.
+// The product of the coefficient and the factors, each replaced. The value of a variable of a sort is raised once, and
+// kept.
 #[cycle(replace)]
 fn replace_factors<'a>(
     alloc: Global,
@@ -174,7 +175,8 @@ fn multiply_by_factor<'a>(
     multiply_by_raised(alloc, replacement, place, raised, so_far)
 }
 
-// The product takes in the value of the variable, which has no arguments here: nothing is replaced in it. It is raised once, and kept.
+// The product takes in the value of the variable, which has no arguments here: nothing is replaced in it. It is raised
+// once, and kept.
 fn multiply_by_raised<'a>(
     alloc: Global,
     replacement: &'a Replacement<'a>,

@@ -1,4 +1,5 @@
-//! A scope that grows, inside arguments and under binders, as a chain of frames on the stack: no memory is taken to widen it.
+//! A scope that grows, inside arguments and under binders, as a chain of frames on the stack: no memory is taken to
+//! widen it.
 
 ghost use Rattle.std.specs.Prelude.{◌≡◌, ◌+◌, [], ◌∷◌, length, MatchResult};
 ghost use Rattle.wh_types.specs.Erase.{ty};

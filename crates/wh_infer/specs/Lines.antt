@@ -13,8 +13,8 @@ use Rattle.wh_trees.specs.declared.tree.Tree.{Tree}
 use Rattle.wh_trees.specs.Trees.{tree}
 use Rattle.wh_order.specs.TreeSides.{AreSides}
 
--- the inference shows the claim about two filtered trees, and is within the limits of a line: it nests at most 64 deep and
--- has fewer than 2^32 entries
+-- the inference shows the claim about two filtered trees, and is within the limits of a line: it nests at most 64 deep
+-- and has fewer than 2^32 entries
 pub record Shows (S : Symbols) (rules : List RewriteRule) (D : FilteringData) (M : List Declared) (c : Claim) (s t : Tree) (i : m.Inference) : Type 0 where
   pub good : verdict (filtered_signature S rules D) (precedences_of S D) M
       (record { claim = c; next = 0; left = tree (length S.funs) s; right = tree (length S.funs) t }) i ≡ None

@@ -14,7 +14,8 @@ use wh_order::Goal;
 use wh_trees::arguments_of;
 use wh_types::{counted, sum};
 
-/// The way to show the goal that has the fewest entries, nested at most `room` deep; `None` where each has 2^32 at least.
+/// The way to show the goal that has the fewest entries, nested at most `room` deep; `None` where each has 2^32 at
+/// least.
 #[cycle(counting)]
 pub fn best(known: &mut Known<'_>, goal: &Goal<'_>, room: u8) -> Result<Option<Choice>, AllocError>
     ensures found { IfOk result (λ r. NotRefuted (IsBest (filtering_data known.old.filters.now) room goal.now r)) }
@@ -108,7 +109,8 @@ fn one_more(letter: Letter, place: u32, parts: Option<u32>) -> Option<Choice>
     }
 }
 
-// The least number of entries that shows each of the goals, nested at most `room` deep; `None` where it is 2^32 at least.
+// The least number of entries that shows each of the goals, nested at most `room` deep; `None` where it is 2^32 at
+// least.
 #[cycle(counting)]
 fn total(known: &mut Known<'_>, goals: &[Goal<'_>], room: u8) -> Result<Option<u32>, AllocError>
     ensures found { IfOk result (λ r. NotRefuted (IsLeastTotal (filtering_data known.old.filters.now) room goals.now r)) }

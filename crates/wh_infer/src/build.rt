@@ -12,7 +12,8 @@ use wh_inference::{Inference, Inferences, Letter};
 use wh_known::{Choice, Known};
 use wh_order::Goal;
 
-/// An inference with the fewest entries that shows the goal, nested at most `room` deep; `None` where each has 2^32 at least.
+/// An inference with the fewest entries that shows the goal, nested at most `room` deep; `None` where each has 2^32 at
+/// least.
 #[cycle(building)]
 pub fn build(
     known: &mut Known<'_>,

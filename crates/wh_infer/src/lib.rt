@@ -1,4 +1,5 @@
-//! Lines of inferences for two filtered trees under a given order: whether there is one, and one with the fewest entries.
+//! Lines of inferences for two filtered trees under a given order: whether there is one, and one with the fewest
+//! entries.
 #![tactic(auto)]
 
 mod best;

@@ -18,8 +18,8 @@ use wh_trees::Tree;
 /// How deep the inferences of a line nest at most.
 const DEEPEST: u8 = 64;
 
-/// An inference that the left filtered tree is at least the right one in the path order of these filters, with the fewest
-/// entries; `None` exactly where none nests at most 64 deep and has fewer than 2^32 entries.
+/// An inference that the left filtered tree is at least the right one in the path order of these filters, with the
+/// fewest entries; `None` exactly where none nests at most 64 deep and has fewer than 2^32 entries.
 pub fn find_inference(
     alloc: Global,
     filters: &Filters,

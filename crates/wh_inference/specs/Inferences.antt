@@ -1,11 +1,11 @@
 -- Inferences of the path order, as trees of letters.
 use Rattle.std.specs.Prelude.{ℕ, ◌+◌}
 
--- the letters, in the order `=`, `l`, `m`, `s`, `p`, `x`, `a`, `b`, `v`, `z`: the same trees; two abstractions, by their
--- bodies; two spines with one head that is no symbol, by their arguments; an argument on the left; a symbol of lower
--- precedence on the right; one of equal precedence, by the first arguments that differ; a spine on the right that no symbol
--- heads; an abstraction on the right; a variable on the right whose binder was passed; a meta-variable on the right that an
--- argument on the left is (after Kop 2012, Blanqui, Jouannaud and Rubio 2015; the letters are ours)
+-- the letters, in the order `=`, `l`, `m`, `s`, `p`, `x`, `a`, `b`, `v`, `z`: the same trees; two abstractions, by
+-- their bodies; two spines with one head that is no symbol, by their arguments; an argument on the left; a symbol of
+-- lower precedence on the right; one of equal precedence, by the first arguments that differ; a spine on the right that
+-- no symbol heads; an abstraction on the right; a variable on the right whose binder was passed; a meta-variable on the
+-- right that an argument on the left is (after Kop 2012, Blanqui, Jouannaud and Rubio 2015; the letters are ours)
 pub data Letter : Type 0 where
   same_trees bodies arguments part lower first_less spine_parts body variable meta_part : Letter
 

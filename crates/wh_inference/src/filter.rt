@@ -2,8 +2,8 @@
 
 use wh_types::Numbers;
 
-/// Which of its arguments a symbol keeps, or which one it gives way to (Arts and Giesl 2000; Kop 2012). Places are counted
-/// from 1.
+/// Which of its arguments a symbol keeps, or which one it gives way to (Arts and Giesl 2000; Kop 2012). Places are
+/// counted from 1.
 #[derive(Drop)]
 pub enum Filter {
     /// The symbol stays, with some of its arguments.

@@ -31,7 +31,8 @@ pub record Interprets (d : SystemData) (ps : List PairData) (set : List ℕ) (li
   pub list : IsShortList d ps set usable
   pub is : IsInterpretationOver d ps set usable line
 
--- such a node; that no interpretation of the space lets a pair go where all rules are to be covered; or the clauses of the search for one
+-- such a node; that no interpretation of the space lets a pair go where all rules are to be covered; or the clauses of
+-- the search for one
 abbrev pub IsInterpreted : SystemData → List PairData → List ℕ → ℕ → Search Node → Type 0
 IsInterpreted d ps set budget (search.Found node) = Interprets d ps set (said_node node)
 IsInterpreted d ps set budget search.Nothing = HasNoInterpretation (task_of d ps set)

@@ -1,4 +1,5 @@
-//! Interpretations that let a pair of a set go: by formulas for flat sets where a climb finds none, and by the wider search.
+//! Interpretations that let a pair of a set go: by formulas for flat sets where a climb finds none, and by the wider
+//! search.
 
 ghost use Rattle.std.specs.Prelude.{◌<◌, ◌≤◌, All, IfOk, IfSome, IsTrue, None, Some, length};
 ghost use Rattle.wh_types.specs.Limits.{most_pairs};
@@ -23,7 +24,8 @@ use wh_system::System;
 use wh_types::Numbers;
 use wh_usable_rules::usable_rules;
 
-// The formula over all rules is made for systems with at most so many symbols: the solver needs long for the formulas of more.
+// The formula over all rules is made for systems with at most so many symbols: the solver needs long for the formulas
+// of more.
 const MOST_SYMBOLS: usize = 16;
 
 // How many times the sides of a rule or pair are evaluated in the climb before the formulas.
@@ -32,16 +34,17 @@ const EVALUATIONS: u64 = 30_000;
 // The formula over the usable rules is made where these and the pairs of the set are at most so many together.
 const MOST_COVERED: usize = 40;
 
-// The search by the formula over the usable rules is given up with so many learnt clauses: most sets of programs need fewer than a
-// hundred, and the wider search goes on.
+// The search by the formula over the usable rules is given up with so many learnt clauses: most sets of programs need
+// fewer than a hundred, and the wider search goes on.
 const MOST_LEARNT: u64 = 1_000;
 
 /// Interpretations under which no rule that is to be covered and no pair of the set grows and some pair shrinks.
 ///
-/// A set is first climbed for where some formula can be made for it. Where its usable rules are not all rules, but few, and it is flat
-/// with them, a formula over these rules comes first; a node that is found by it lists them. A flat set of a system with few symbols is then put into
-/// one formula over all rules, which settles it or is given up with `budget` learnt clauses. A set that is left open, and any other one,
-/// goes through `find_interpretation` with the same budget, from which alone `Spent` comes.
+/// A set is first climbed for where some formula can be made for it. Where its usable rules are not all rules, but few,
+/// and it is flat with them, a formula over these rules comes first; a node that is found by it lists them. A flat set
+/// of a system with few symbols is then put into one formula over all rules, which settles it or is given up with
+/// `budget` learnt clauses. A set that is left open, and any other one, goes through `find_interpretation` with the
+/// same budget, from which alone `Spent` comes.
 #[tactic(auto, using(crate::proofs::InterpretedLemmas::without_list, crate::proofs::InterpretedLemmas::found_by_formula, crate::proofs::InterpretedLemmas::none_by_formula, crate::proofs::InterpretedLemmas::by_search_if))]
 pub fn interpretation_of(
     alloc: Global,

@@ -3,7 +3,8 @@ use Rattle.std.specs.Prelude.{◌≡◌, ◌≢◌, ℕ, ◌-◌, ◌<◌, min, 
 use Rattle.std.specs.Str.{bytes_eq}
 use Rattle.wh_io.specs.Outside.{counted}
 
--- a shelf: its files with their names, the numbers of the calls that are to fail, and how many calls and faults there were
+-- a shelf: its files with their names, the numbers of the calls that are to fail, and how many calls and faults there
+-- were
 pub record ShelfState : Type 0 where
   pub files : List (List ℕ × List ℕ)
   pub failing : List ℕ
@@ -30,8 +31,8 @@ pub record AddsFile (old new : ShelfState) (name file : List ℕ) : Type 0 where
   pub others : (other : List ℕ) → other ≢ name → file_named new.files other ≡ file_named old.files other
   pub rest : new ≡ record old { files = new.files }
 
--- a sink: what was written, the most bytes that a call takes, the room that is left, the numbers of the calls that are to fail,
--- and how many calls and faults there were
+-- a sink: what was written, the most bytes that a call takes, the room that is left, the numbers of the calls that are
+-- to fail, and how many calls and faults there were
 pub record SinkState : Type 0 where
   pub written : List ℕ
   pub most : ℕ

@@ -15,7 +15,8 @@ pub record HasCause {T E : Type 0} (before now : ℕ) (result : Result T E) : Ty
   pub failed : OnErr result (Rose before now)
   pub same : OnOk result (now ≡ before)
 
--- the next n bytes of a file, from `at` on, stand at the front of the buffer; none come only at its end, or into no room
+-- the next n bytes of a file, from `at` on, stand at the front of the buffer; none come only at its end, or into no
+-- room
 pub record Gives (file : List ℕ) (at n : ℕ) (into : List ℕ) : Type 0 where
   pub bytes : take n into ≡ take n (drop at file)
   pub within : n ≤ length file - at

@@ -20,16 +20,16 @@ answer_of Whole = Ok End
 answer_of TooLong = Err fault.TooLong
 answer_of Failed = Err fault.Failed
 
--- the first answers of a file whose bytes are told, where so many were given before: bytes are those that come next; the
--- end comes where all were given; the file is too long only where it has more bytes than the limit
+-- the first answers of a file whose bytes are told, where so many were given before: bytes are those that come next;
+-- the end comes where all were given; the file is too long only where it has more bytes than the limit
 abbrev pub GivesPiece : List ℕ → ℕ → ℕ → List ℕ → Result Next ReadFault → Type 0
 GivesPiece file limit given into (Ok (Bytes n)) = (take n into ≡ take n (drop given file)) × (given + n ≤ length file)
 GivesPiece file limit given into (Ok End) = length file ≤ given
 GivesPiece file limit given into (Err fault.TooLong) = limit < length file
 GivesPiece file limit given into (Err fault.Failed) = Unit {0}
 
--- at least one byte is given, as many as there is room for at most, and never more than the limit in all; else the reading
--- has ended so
+-- at least one byte is given, as many as there is room for at most, and never more than the limit in all; else the
+-- reading has ended so
 abbrev pub Advances : PiecesState → PiecesState → ℕ → Result Next ReadFault → Type 0
 Advances old new room (Ok (Bytes n)) =
     (0 < n) × (n ≤ room) × (old.given + n ≤ old.limit) × (new ≡ record old { given = old.given + n })

@@ -87,7 +87,8 @@ impl Shelf for MemoryShelf {
 
     ghost faults = { λ shelf _. shelf.faults };
 
-    /// Fails exactly where the call is to fail, or where there is no file of that name; the buffer then stays as it was.
+    /// Fails exactly where the call is to fail, or where there is no file of that name; the buffer then stays as it
+    /// was.
     fn read_at(&mut self, name: &str, at: u64, into: &mut [u8]) -> Result<usize, Failed>
         ensures bytes { ReadsAt (file_named self.old.files name.now) at into.new result }
         ensures kept { (other : List ℕ) → file_named self.new.files other ≡ file_named self.old.files other }

@@ -40,8 +40,8 @@ impl Pieces {
         }
     }
 
-    /// The next bytes of the file, behind those that were given, at the front of `into`. It takes no memory. Once `End` or
-    /// a fault has come it comes at each call, without a read.
+    /// The next bytes of the file, behind those that were given, at the front of `into`. It takes no memory. Once `End`
+    /// or a fault has come it comes at each call, without a read.
     ///
     /// # Errors
     /// `Failed` where the read failed, and `TooLong` where the file gave more than `limit` bytes.

@@ -73,12 +73,13 @@ abbrev pub IsNo : Cert → Type 0
 IsNo (yes version ranks pairs nodes) = ⊥
 IsNo (no term steps at puts) = Unit {0}
 
--- this is the first condition that is false of the certificate, with names in place of numbers, and no value exceeds a limit before
+-- this is the first condition that is false of the certificate, with names in place of numbers, and no value exceeds a
+-- limit before
 abbrev pub IsRejectedFor : SystemData → List PairData → Cert → NamedRejection → Type 0
 IsRejectedFor d ps c named = (r : conditions.Rejected) × IsFirstFault with_limits d ps c (check.Rejected r) × (named ≡ named_row d r)
 
--- what a certificate that was read comes to, for a system with its pairs: it is valid, and no value exceeds a limit; or what is wrong
--- first with it, or exceeds a limit first
+-- what a certificate that was read comes to, for a system with its pairs: it is valid, and no value exceeds a limit; or
+-- what is wrong first with it, or exceeds a limit first
 abbrev pub Weighed : SystemData → List PairData → Cert → Report → Type 0
 Weighed d ps c Yes = IsYes c × IsValidCert d ps c × IsSmallCert d ps c
 Weighed d ps c No = IsNo c × IsValidCert d ps c
@@ -87,8 +88,8 @@ Weighed d ps c (Overflow k) = IsFirstFault with_limits d ps c (check.Overflow k)
 Weighed d ps c (TooLarge k) = IsFirstFault with_limits d ps c (check.TooLarge k)
 Weighed d ps c _ = ⊥
 
--- what the bytes of the certificate come to, for a system with its pairs: they are no certificate text, or they are the text of a
--- certificate that comes to this
+-- what the bytes of the certificate come to, for a system with its pairs: they are no certificate text, or they are the
+-- text of a certificate that comes to this
 abbrev pub Judged : SystemData → List PairData → List ℕ → Report → Type 0
 Judged d ps bytes (Rejected (Syntax at)) = FaultAt bytes at
 Judged d ps bytes o = (c : Cert) × CertText bytes c × Weighed d ps c o
@@ -105,8 +106,8 @@ IsRefusedFor held reason.TooManyPairs at =
     (at ≡ 0) × Told held (λ bytes. (length bytes ≤ system_limit) × (d : SystemData) × Reads bytes d × HasTooManyPairs d)
 IsRefusedFor held word at = IsRefusedText held word at
 
--- when the answers come that the system file alone decides before its pairs are asked for: its fault, then its length, then why it is
--- no system
+-- when the answers come that the system file alone decides before its pairs are asked for: its fault, then its length,
+-- then why it is no system
 abbrev pub StandsByText : Shelves → List ℕ → Report → Type 0
 StandsByText s file (ReadFault System) = Rose (s.before file) (s.after file)
 StandsByText s file (TooLong System) = Told (s.held file) (λ bytes. system_limit < length bytes)
@@ -126,8 +127,8 @@ Certified held P = (c : Cert) × P c × Told held (λ bytes. (length bytes ≤ c
 abbrev pub ToldCert : Option (List ℕ) → (List ℕ → Type 0) → Type 0
 ToldCert held P = Told held (λ bytes. (length bytes ≤ certificate_limit) × P bytes)
 
--- what the check of the certificate in that file comes to, for a system with its pairs. That there is a certificate, and what
--- is said of it, does not ask that the file's bytes are told.
+-- what the check of the certificate in that file comes to, for a system with its pairs. That there is a certificate,
+-- and what is said of it, does not ask that the file's bytes are told.
 abbrev pub Checked : Option (List ℕ) → SystemData → List PairData → Report → Type 0
 Checked held d ps (Rejected (Syntax at)) = ToldCert held (λ bytes. FaultAt bytes at)
 Checked held d ps o = Certified held (λ c. Weighed d ps c o)

@@ -28,7 +28,8 @@ pub record Tells (P : Report → Type 0) (status : status.Status) (text : List �
   pub status_is : status ≡ status_of report
   pub text_is : text ≡ report_text report
 
--- status and text are of what was made: its own text, or the answer why there is none; nothing is told of a want of memory
+-- status and text are of what was made: its own text, or the answer why there is none; nothing is told of a want of
+-- memory
 abbrev pub TellsMade : Result (List ℕ) (Or Report) → status.Status → List ℕ → Type 0
 TellsMade (Ok made) status text = (status ≡ statuses.Answered) × (text ≡ made)
 TellsMade (Err (Because report)) status text = (status ≡ status_of report) × (text ≡ report_text report)

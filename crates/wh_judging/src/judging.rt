@@ -26,7 +26,8 @@ use wh_print::{print_pairs, print_system, printed_systems_are_read_back};
 use wh_system::System;
 use wh_types::{Bytes, Or};
 
-/// Checks the certificate in the second file against the system in the first one. Both files are read, the second one in pieces.
+/// Checks the certificate in the second file against the system in the first one. Both files are read, the second one
+/// in pieces.
 pub fn check_files<S: Shelf>(
     alloc: Global,
     shelf: &mut S,
@@ -67,7 +68,8 @@ fn shown(alloc: Global, problem: &Problem) -> Result<Bytes, AllocError>
     Ok(text)
 }
 
-/// What a certificate that was read comes to, for a system with its pairs: that it is accepted, or why it is not, with names.
+/// What a certificate that was read comes to, for a system with its pairs: that it is accepted, or why it is not, with
+/// names.
 pub fn weigh(
     alloc: Global,
     problem: &Problem,

@@ -101,8 +101,8 @@ impl Judge {
     }
 }
 
-/// What the certificate in the file of that name comes to for the system, or why its file was not read. A fault of the file
-/// comes before all that is wrong with its bytes.
+/// What the certificate in the file of that name comes to for the system, or why its file was not read. A fault of the
+/// file comes before all that is wrong with its bytes.
 pub fn judge_file<S: Shelf>(
     alloc: Global,
     shelf: &mut S,

@@ -3,7 +3,8 @@
 use wh_order::{Claim, Goal};
 use wh_trees::Tree;
 
-/// A number for the goal, nested at most `room` deep. Nothing is claimed of it: goals that differ may well have the same one.
+/// A number for the goal, nested at most `room` deep. Nothing is claimed of it: goals that differ may well have the
+/// same one.
 pub fn key_of(goal: &Goal<'_>, room: u8) -> u32 {
     let key = mixed(mixed(claim_key(goal.claim), goal.next), u32::from(room));
     tree_key(goal.right.tree(), tree_key(goal.left.tree(), key))

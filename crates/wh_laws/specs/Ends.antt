@@ -2,7 +2,8 @@
 use Rattle.std.specs.Prelude.{◌≤◌, List, ◌∷◌, length}
 use Rattle.wh_step.specs.Reduction.{Walk}
 
--- `Ends R a`: a is accessible, that is, all that R leads to from a is; so no walk by R from a goes on for ever (Aczel 1977)
+-- `Ends R a`: a is accessible, that is, all that R leads to from a is; so no walk by R from a goes on for ever (Aczel
+-- 1977)
 pub data Ends {A : Type 0} (R : A → A → Type 0) : A → Type 0 where
   ends : {a : A} → ((b : A) → R a b → Ends R b) → Ends R a
 

@@ -12,7 +12,8 @@ HeadStep R h ts v = (w : Tm) × R h w × (v ≡ spine w ts)
 abbrev pub ArgumentStep : (Tm → Tm → Type 0) → Tm → List Tm → Tm → Type 0
 ArgumentStep R h ts v = (us : List Tm) × StepsIn R ts us × (v ≡ spine h us)
 
--- h with the first of its arguments ts is related by R to some tree, and v is that tree with the arguments that are left
+-- h with the first of its arguments ts is related by R to some tree, and v is that tree with the arguments that are
+-- left
 abbrev pub FrontStep : (Tm → Tm → Type 0) → Tm → List Tm → Tm → Type 0
 FrontStep R h ts v = (us ws : List Tm) × (w : Tm) × (ts ≡ us ++ ws) × R (spine h us) w × (v ≡ spine w ws)
 

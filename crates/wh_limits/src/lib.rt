@@ -1,5 +1,5 @@
-//! The limits on values, and the steps that a limit can end: the weight of a value, a variable, the sum of two monomials, what one more
-//! monomial leaves of a limit, and a row that is made as a whole.
+//! The limits on values, and the steps that a limit can end: the weight of a value, a variable, the sum of two
+//! monomials, what one more monomial leaves of a limit, and a row that is made as a whole.
 #![tactic(auto)]
 
 mod adding;

@@ -14,8 +14,8 @@ use std::alloc::Global;
 use wh_poly::{Excess, Monomial, Poly, arranged, is_ascending};
 use wh_types::Or;
 
-/// A monomial times a value, if that is light and comes in order; else it has to be added up. A fault only where the product exceeds a
-/// limit.
+/// A monomial times a value, if that is light and comes in order; else it has to be added up. A fault only where the
+/// product exceeds a limit.
 pub fn light_row(alloc: Global, item: &Monomial, b: &Poly) -> Result<Option<Poly>, Or<Excess>>
     requires positive { 1 ≤ (out-Monomial item.now).coefficient }
     requires left { OrderedFactors (atoms (out-Monomial item.now).atoms) }

@@ -16,8 +16,8 @@ pub struct Room {
     pub left: u32,
 }
 
-/// What a monomial with this coefficient, whose factors may weigh so much more, becomes with one more, if its product with a value of
-/// which `greatest` is the greatest coefficient then surely stays within the limits.
+/// What a monomial with this coefficient, whose factors may weigh so much more, becomes with one more, if its product
+/// with a value of which `greatest` is the greatest coefficient then surely stays within the limits.
 pub fn room_for(greatest: u128, coefficient: u128, left: u32, item: &Monomial) -> Option<Room>
     ensures { IfSome result (TakesIn greatest coefficient left item.now) }
 {

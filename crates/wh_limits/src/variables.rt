@@ -1,5 +1,5 @@
-//! The value of a variable: itself at the variables that its type adds. These are exponential in the type's depth, so they are
-//! weighed before they are made.
+//! The value of a variable: itself at the variables that its type adds. These are exponential in the type's depth, so
+//! they are weighed before they are made.
 
 ghost use Rattle.std.specs.Prelude.{◌≡◌, ◌+◌, ◌<◌, ◌≤◌, ◌⊎◌, IfOk, MatchOption};
 ghost use Rattle.wh_types.specs.Erase.{ty};

@@ -1,4 +1,5 @@
-//! Whether a value is within the limits: its weight is taken from a budget, so that a walk stops as soon as it has spent it.
+//! Whether a value is within the limits: its weight is taken from a budget, so that a walk stops as soon as it has
+//! spent it.
 
 ghost use Rattle.std.specs.Prelude.{◌≡◌, ◌+◌, ◌<◌, ◌≤◌, ◌⊎◌, MatchOption};
 ghost use Rattle.wh_poly.specs.Erase.{poly, atoms, polys};
@@ -6,7 +7,8 @@ ghost use Rattle.wh_poly.specs.Limits.{weight, weight_of_factors, weight_of_argu
 
 use wh_poly::{Atoms, Poly, Polys};
 
-/// What is left of the budget without the weight; None where the weight is above it, or the arguments nest deeper than the depth.
+/// What is left of the budget without the weight; None where the weight is above it, or the arguments nest deeper than
+/// the depth.
 #[cycle(weigh)]
 pub fn weigh(p: &Poly, budget: u32, depth: u32) -> Option<u32>
     ensures { MatchOption result ((budget < weight (poly p.now)) ⊎ (depth < nesting (poly p.now)))

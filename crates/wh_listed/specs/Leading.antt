@@ -11,7 +11,8 @@ use Rattle.wh_refute.specs.declared.truth.Truth.{Truth}
 abbrev pub AreApart : List Literal → Type 0
 AreApart u = (i j : ℕ) (d : Literal) → i < j → j < length u → (get_or u i d).variable ≢ (get_or u j d).variable
 
--- from the start each hint has made one literal true, in this order, and what leads on from there leads on behind the hints
+-- from the start each hint has made one literal true, in this order, and what leads on from there leads on behind the
+-- hints
 pub record Reaches (n : ℕ) (clauses : List (List Literal)) (start : List Literal) (hints : List ℕ) (made : List Literal) : Type 0 where
   pub leads : (more : List ℕ) → Leads clauses (start ++ made) more → Leads clauses start (hints ++ more)
   pub count : length hints ≡ length made

@@ -8,14 +8,15 @@ use Rattle.wh_refute.specs.Refuting.{IsRefutation}
 use Rattle.wh_listed.specs.declared.solving.Listed.{Listed}
 use Rattle.wh_listed.specs.declared.solving.Listed.TheVariants.{Sat, Unsat, Spent}
 
--- the list refutes the formula; it has one entry for each learnt clause, of which there are no more than the budget, and one more; and
--- no entry has more hints than there are variables, and one more (ours)
+-- the list refutes the formula; it has one entry for each learnt clause, of which there are no more than the budget,
+-- and one more; and no entry has more hints than there are variables, and one more (ours)
 pub record IsShort (n : ℕ) (clauses : List (List Literal)) (budget : ℕ) (list : List Entry) : Type 0 where
   pub refutes : IsRefutation n clauses list
   pub count : length list ≤ budget + 1
   pub hints : (e : Entry) → Contains list e → length e.hints ≤ n + 1
 
--- for n variables, some clauses and a budget of learnt clauses, as of the solver; but a list shows that there is no model
+-- for n variables, some clauses and a budget of learnt clauses, as of the solver; but a list shows that there is no
+-- model
 abbrev pub IsListed : ℕ → List (List Literal) → ℕ → Listed → Type 0
 IsListed n clauses budget (Sat values) = (0 < budget) × (length values.items ≡ n) × Solves (λ v. get_or values.items v false) clauses
 IsListed n clauses budget (Unsat list) = (0 < budget) × IsShort n clauses budget list

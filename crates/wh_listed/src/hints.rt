@@ -14,8 +14,9 @@ use wh_refute::{Look, Truth, look_at, negation};
 use wh_sat_trail::{Clause, Literal};
 use wh_types::Numbers;
 
-/// Hints for a clause that propagation refutes, in passes over the clauses before it: each that leaves one literal makes it true, up to
-/// one that is false. No variable gets a value twice, so there are no more hints than variables, and the last one.
+/// Hints for a clause that propagation refutes, in passes over the clauses before it: each that leaves one literal
+/// makes it true, up to one that is false. No variable gets a value twice, so there are no more hints than variables,
+/// and the last one.
 pub fn hints_for(
     alloc: Global,
     truth: &mut Truth,
@@ -55,7 +56,8 @@ fn suppose(truth: &mut Truth, variables: u32, clause: &[Literal])
     }
 }
 
-// One pass over the clauses: whether one is false, whose number is the last hint. If not, some clause has made a literal true.
+// One pass over the clauses: whether one is false, whose number is the last hint. If not, some clause has made a
+// literal true.
 fn pass(
     truth: &mut Truth,
     variables: u32,

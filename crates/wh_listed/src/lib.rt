@@ -1,4 +1,5 @@
-//! A solver that, where a formula has no model, gives a list of clauses with hints that shows it, for the checker of such lists.
+//! A solver that, where a formula has no model, gives a list of clauses with hints that shows it, for the checker of
+//! such lists.
 #![tactic(auto)]
 
 mod hints;

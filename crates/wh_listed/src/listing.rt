@@ -14,7 +14,8 @@ use wh_refute::Truth;
 use wh_sat::copy_clause;
 use wh_sat_trail::{Clause, Entry, Formula, Literal, Refutation};
 
-/// The list of the clauses behind those that were given, each refuted by propagation from those before it, and of the empty clause.
+/// The list of the clauses behind those that were given, each refuted by propagation from those before it, and of the
+/// empty clause.
 pub fn refutation_of(
     alloc: Global,
     formula: &Formula,

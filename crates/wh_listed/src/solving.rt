@@ -26,11 +26,11 @@ pub enum Listed {
     Spent(Clauses),
 }
 
-/// Solves a formula as `solve` of wh_sat does, and where it has no model gives a list that shows it. The engine of wh_engine searches
-/// first, and what it finds is believed only after a look: values that make all clauses true, or a list that the checker accepts. Where
-/// it finds neither, the solver of wh_sat does; its list is of the clauses that it learnt, in their order, with hints that are sought
-/// once its search has ended, and of the empty clause. At most `budget` clauses are learnt; where none may be, the answer is `Spent`. The
-/// error is want of memory.
+/// Solves a formula as `solve` of wh_sat does, and where it has no model gives a list that shows it. The engine of
+/// wh_engine searches first, and what it finds is believed only after a look: values that make all clauses true, or a
+/// list that the checker accepts. Where it finds neither, the solver of wh_sat does; its list is of the clauses that it
+/// learnt, in their order, with hints that are sought once its search has ended, and of the empty clause. At most
+/// `budget` clauses are learnt; where none may be, the answer is `Spent`. The error is want of memory.
 pub fn solve_listed(alloc: Global, formula: &Formula, budget: u64) -> Result<Listed, AllocError>
     requires within { Within formula.now.variables formula.now.clauses }
     requires few { length formula.now.clauses + budget < 2 ^ 31 - 1 }
@@ -121,7 +121,8 @@ fn is_refutation(
     }
 }
 
-// Whether there are no more entries than the budget, and one more, and none has more hints than there are variables, and one more.
+// Whether there are no more entries than the budget, and one more, and none has more hints than there are variables,
+// and one more.
 fn is_short(entries: &[Entry], variables: u32, budget: u64) -> bool
     ensures count { OnTrue result (length entries.now ≤ budget + 1) }
     ensures hints { OnTrue result ((e : Entry) → Contains entries.now e → length e.hints ≤ variables + 1) }

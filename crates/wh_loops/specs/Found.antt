@@ -25,8 +25,8 @@ pub record IsInstanceIn (S : Symbols) (t u : Tm) (i : Instance) : Type 0 where
   pub for_variables : All (IsPutFor t) (entry_puts i.puts.items)
   pub holds : HoldsInstance t (entry_puts i.puts.items) i.at u
 
--- the claim is of the search's space: its term is the start of a rule, there are at most `depth` steps, and what is put is put for
--- variables of the term (ours)
+-- the claim is of the search's space: its term is the start of a rule, there are at most `depth` steps, and what is put
+-- is put for variables of the term (ours)
 pub record IsSearchedClaim (d : SystemData) (depth : ℕ) (c : Claim) : Type 0 where
   pub start : IsSomeStart d.rules c.term
   pub few : length c.steps ≤ depth

@@ -25,13 +25,13 @@ pub data Path (rules : List RewriteRule) (n : ℕ) : ℕ → Tm → Type 0 where
 abbrev pub Reached : List RewriteRule → ℕ → ℕ → Tm → Type 0
 Reached rules depth n t = (k : ℕ) × (k ≤ depth) × Path rules n k t
 
--- the tree u holds an instance of the term t: at some place stands t with typed terms put for some of its variables, where the
--- passed binders are opened by variables whose numbers are above those of t (ours)
+-- the tree u holds an instance of the term t: at some place stands t with typed terms put for some of its variables,
+-- where the passed binders are opened by variables whose numbers are above those of t (ours)
 abbrev pub HoldsInstanceOf : Symbols → Tm → Tm → Type 0
 HoldsInstanceOf S t u = (at : List ℕ) × (puts : List Put) × All (IsPutOver S) puts × AllPairs IsBelow puts × HoldsInstance t puts at u
 
--- at least one and at most `depth` steps lead from the start s of the rule number n to a term that holds an instance of s (loops:
--- Kop 2012; the space is ours)
+-- at least one and at most `depth` steps lead from the start s of the rule number n to a term that holds an instance of
+-- s (loops: Kop 2012; the space is ours)
 abbrev pub IsLoop : SystemData → ℕ → ℕ → Tm → Tm → Type 0
 IsLoop d depth n s u = IsStart d.rules n s × ((k : ℕ) × (suc k ≤ depth) × Path d.rules n (suc k) u) × HoldsInstanceOf d.symbols s u
 

@@ -10,15 +10,16 @@ abbrev pub function_type : List Ty → Ty → Ty
 function_type [] a = a
 function_type (c ∷ cs) a = c ⇒ function_type cs a
 
--- the type of functions from a meta-variable's arguments to its result; that of one which is not declared is of no interest
+-- the type of functions from a meta-variable's arguments to its result; that of one which is not declared is of no
+-- interest
 abbrev pub meta_type : List Declared → ℕ → Ty
 meta_type [] z = sort 0
 meta_type (d ∷ metas) zero = function_type d.args d.out
 meta_type (d ∷ metas) (suc z) = meta_type metas z
 
 abbrev mutual
-  -- the tree with a free variable in place of each meta-variable: of its number, of the type from its arguments to its result, and
-  -- applied to its arguments (ours)
+  -- the tree with a free variable in place of each meta-variable: of its number, of the type from its arguments to its
+  -- result, and applied to its arguments (ours)
   pub freed : List Declared → Tm → Tm
   freed metas (bound i) = bound i
   freed metas (free x a) = free x a

@@ -22,7 +22,8 @@ use wh_terms::{Path, Signature, SubstEntry, Term, opened_at};
 /// An instance of a term in another one.
 #[derive(Drop)]
 pub struct Instance {
-    /// The place where it stands; the binders that are passed on the way to it are opened by variables above those of the first term.
+    /// The place where it stands; the binders that are passed on the way to it are opened by variables above those of
+    /// the first term.
     pub at: Path,
     /// What is put for variables of the first term, by increasing numbers.
     pub puts: Vec<SubstEntry>,
@@ -48,8 +49,8 @@ struct Search<'a> {
     term: &'a Term,
 }
 
-// The instance at the place with these steps, where `here` stands, if there is one. Only a part that begins as the start
-// does is opened: opening keeps a symbol at the head, and the number of its arguments.
+// The instance at the place with these steps, where `here` stands, if there is one. Only a part that begins as the
+// start does is opened: opening keeps a symbol at the head, and the number of its arguments.
 fn instance_at(
     alloc: Global,
     search: &Search,

@@ -78,8 +78,8 @@ fn applied(alloc: Global, metas: &[MetaDecl], head: Term, items: &Terms) -> Resu
     Ok(whole)
 }
 
-/// The start of the rule with the number: its left side with a free variable in place of each meta-variable, of its number and of the
-/// type from its arguments to its result, applied to its arguments.
+/// The start of the rule with the number: its left side with a free variable in place of each meta-variable, of its
+/// number and of the type from its arguments to its result, applied to its arguments.
 pub fn start_of_rule(alloc: Global, system: &System, number: u32) -> Result<Term, AllocError>
     requires { number < length (system_data system.now).rules }
     ensures start { IfOk result (λ start. IsStart (system_data system.now).rules number (tm start)) }

@@ -1,4 +1,5 @@
--- What parts may declare (ours): each declared name is a name and no keyword, and types nest no deeper than a text of a system may.
+-- What parts may declare (ours): each declared name is a name and no keyword, and types nest no deeper than a text of a
+-- system may.
 use Rattle.std.specs.Prelude.{◌≤◌, All}
 use Rattle.wh_types.specs.Limits.{deepest_type}
 use Rattle.wh_text.specs.Words.{IsName}

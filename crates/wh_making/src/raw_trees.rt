@@ -45,8 +45,8 @@ pub fn raw_term(alloc: Global, system: &System, term: &Term) -> Result<RawTerm, 
     raw_with(alloc, &names, term)
 }
 
-// The canonical raw tree of a term: symbols and meta-variables by their names, a bound variable by the number of binders
-// above its own one, a spine with all its arguments in one list.
+// The canonical raw tree of a term: symbols and meta-variables by their names, a bound variable by the number of
+// binders above its own one, a spine with all its arguments in one list.
 fn raw_with(alloc: Global, names: &TermNames, term: &Term) -> Result<RawTerm, AllocError>
     requires { IsNamedBelow (term_names names.now) 0 (tm term.now) }
     ensures { IfOk result (λ raw. rtm raw ≡ raw_of (term_names names.now) (tm term.now)) }

@@ -8,7 +8,8 @@ Sem (sort s) = ℕ
 Sem (A ⇒ B) = Sem A → Sem B
 
 abbrev mutual
-  -- a value is monotone if it takes monotone values to monotone values, and greater ones to ones at least as great (Fuhs and Kop 2012)
+  -- a value is monotone if it takes monotone values to monotone values, and greater ones to ones at least as great
+  -- (Fuhs and Kop 2012)
   pub Mono : (A : Ty) → Sem A → Type 0
   Mono (sort s) n = Unit {0}
   Mono (A ⇒ B) f =

@@ -18,8 +18,8 @@ abbrev mutual
   den_factors Γ ψ no_factors = 1
   den_factors Γ ψ (times x ps us) = den_arguments Γ ψ (type_at Γ x) (ψ x (type_at Γ x)) ps * den_factors Γ ψ us
 
-  -- an argument means a function of the variables that its scope goes on with; too few or too many arguments give 0 (Fuhs and
-  -- Kop 2012)
+  -- an argument means a function of the variables that its scope goes on with; too few or too many arguments give 0
+  -- (Fuhs and Kop 2012)
   pub den_arguments : List Ty → Valuation → (A : Ty) → Sem A → Arguments → ℕ
   den_arguments Γ ψ (sort s) f no_arguments = f
   den_arguments Γ ψ (A ⇒ B) f no_arguments = 0
@@ -27,7 +27,8 @@ abbrev mutual
   den_arguments Γ ψ (A ⇒ B) f (argument p ps) =
       den_arguments Γ ψ B (f (fun_of A (length Γ) ψ (λ χ. den (Γ ++ arguments A) χ p))) ps
 
--- what a polynomial means that is the value of something of type A in the scope Γ: a function of the added variables (ours)
+-- what a polynomial means that is the value of something of type A in the scope Γ: a function of the added variables
+-- (ours)
 abbrev pub reading : (A : Ty) → List Ty → Valuation → Polynomial → Sem A
 reading A Γ ψ p = fun_of A (length Γ) ψ (λ χ. den (Γ ++ arguments A) χ p)
 

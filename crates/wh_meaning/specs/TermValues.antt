@@ -1,4 +1,5 @@
--- What terms and meta-terms mean. Values are total on trees, with the type handed in, so that no proof of typing is computed with.
+-- What terms and meta-terms mean. Values are total on trees, with the type handed in, so that no proof of typing is
+-- computed with.
 use Rattle.std.specs.Prelude.{ℕ, zero, suc, List, [], ◌∷◌}
 use native.Mathlib.Decide.{ℕ_discrete}
 use Rattle.wh_types.specs.Ty.{Ty, Ty-discrete, sort, ◌⇒◌}
@@ -43,8 +44,8 @@ push B v ρ zero A = at_type B A (Ty-discrete ℕ_discrete B A) v (nothing A)
 push B v ρ (suc i) A = ρ i A
 
 abbrev mutual
-  -- the value of a tree at a type, where Γ and ρ have the types and values of its loose variables: an abstraction is a function, an
-  -- application applies one (Fuhs and Kop 2012)
+  -- the value of a tree at a type, where Γ and ρ have the types and values of its loose variables: an abstraction is a
+  -- function, an application applies one (Fuhs and Kop 2012)
   pub value_in : Symbols → List Declared → Meanings → List Ty → Tm → Valuation → (A : Ty) → Sem A
   value_in S M m Γ (bound i) ρ A = ρ i A
   value_in S M m Γ (free x b) ρ A = m.of_free x A

@@ -1,5 +1,5 @@
-//! What a check and a reader say, in the words of reports: names in place of numbers, the word for a reason, and the status that a report
-//! ends a run with.
+//! What a check and a reader say, in the words of reports: names in place of numbers, the word for a reason, and the
+//! status that a report ends a run with.
 #![tactic(auto)]
 
 mod reason;

@@ -20,13 +20,13 @@ pub record IsPutOver (S : Symbols) (p : Put) : Type 0 where
 abbrev pub IsBelow : Put → Put → Type 0
 IsBelow p q = p.number < q.number
 
--- what stands at the place in the tree u, with each passed binder opened by a variable whose number is above those of the
--- term t, the outermost first, is t with these puts (ours)
+-- what stands at the place in the tree u, with each passed binder opened by a variable whose number is above those of
+-- the term t, the outermost first, is t with these puts (ours)
 abbrev pub HoldsInstance : Tm → List Put → List ℕ → Tm → Type 0
 HoldsInstance t puts at u = opened_part_at (first_unused t) at u ≡ Some (act bound (put_for puts) t)
 
--- the claim is valid over the symbols S and these rules: its term leads to a term that holds an instance of it (a loop, Kop
--- 2012; the form is ours)
+-- the claim is valid over the symbols S and these rules: its term leads to a term that holds an instance of it (a loop,
+-- Kop 2012; the form is ours)
 pub record IsValid (S : Symbols) (rules : List RewriteRule) (c : Claim) : Type 0 where
   -- the term is well typed: it has no loose variable and no meta-variable
   pub typed : WellTyped S c.term

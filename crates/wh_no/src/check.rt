@@ -105,8 +105,8 @@ fn check_parts(
     check_rest(alloc, system, names, certificate, &term)
 }
 
-// Whether the certificate is valid; else its first fault. Each part of the check has a function of its own, since what a
-// function holds is dropped at each of its returns, and a proof walks through every one of these drops.
+// Whether the certificate is valid; else its first fault. Each part of the check has a function of its own, since what
+// a function holds is dropped at each of its returns, and a proof walks through every one of these drops.
 fn check_claim(
     alloc: Global,
     system: &System,
@@ -120,10 +120,11 @@ fn check_claim(
     check_parts(alloc, system, &names, certificate)
 }
 
-/// Checks a NO certificate over the system. It is accepted exactly where it is valid: its steps, one at least, lead from its
-/// term to one that holds, at the place that it names, the instance that it names. Then its term has reductions of every
-/// length (loops: Kop 2012). The fault is the first condition of a valid certificate that is false: of the term, then of the
-/// steps, of what is put for variables, and of the place. The certificate is one that `read_certificate` gives.
+/// Checks a NO certificate over the system. It is accepted exactly where it is valid: its steps, one at least, lead
+/// from its term to one that holds, at the place that it names, the instance that it names. Then its term has
+/// reductions of every length (loops: Kop 2012). The fault is the first condition of a valid certificate that is false:
+/// of the term, then of the steps, of what is put for variables, and of the place. The certificate is one that
+/// `read_certificate` gives.
 pub fn check_no(
     alloc: Global,
     system: &System,

@@ -76,8 +76,8 @@ fn is_above(entries: &[SubstEntry], number: u32) -> bool
     }
 }
 
-/// Adds what one more line, of that number, puts for a variable, behind what the lines before it put. The fault is that the
-/// line does not say a typed put, or that its number is not above that of the line before.
+/// Adds what one more line, of that number, puts for a variable, behind what the lines before it put. The fault is that
+/// the line does not say a typed put, or that its number is not above that of the line before.
 pub fn add_put(
     alloc: Global,
     system: &System,
@@ -102,8 +102,8 @@ pub fn add_put(
     Ok(())
 }
 
-/// What the lines put for variables. The fault is the first line that does not say a typed put, or whose number is not above
-/// that of the line before.
+/// What the lines put for variables. The fault is the first line that does not say a typed put, or whose number is not
+/// above that of the line before.
 pub fn check_puts(
     alloc: Global,
     system: &System,

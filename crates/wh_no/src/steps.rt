@@ -15,8 +15,8 @@ use wh_step::{StepFault, replay};
 use wh_terms::{Rule, Step, Term};
 use wh_types::Or;
 
-/// Where the steps lead. The fault is that there is no step, or the first step that does not apply or whose result does not
-/// fit.
+/// Where the steps lead. The fault is that there is no step, or the first step that does not apply or whose result does
+/// not fit.
 pub fn check_steps(
     alloc: Global,
     rules: &[Rule],

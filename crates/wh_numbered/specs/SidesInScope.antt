@@ -35,7 +35,8 @@ pub record AreTypedIn (S : Symbols) (Γ : List Ty) (ts : List Tm) (kinds : List 
 abbrev pub call_in : List Ty → ℕ → List Tm → Expression
 call_in Γ k ts = side_applied (length Γ) (symbol k) (tms_of ts)
 
--- the entry is that of a pair with meta-variables of these types, whose heads have marks and whose arguments are typed and closed
+-- the entry is that of a pair with meta-variables of these types, whose heads have marks and whose arguments are typed
+-- and closed
 pub record AreMarkedSidesIn (S : Symbols) (rules : List RewriteRule) (marks : List Mark) (ts : List Tm) (Γ : List Ty) (s : Sides)
     : Type 0 where
   pub pair : PairData

@@ -1,7 +1,7 @@
 //! What was asked last of two numbers.
 
-/// Whether the tree of the one number is a proper part of that of the other, as it was asked last: pairs of one rule mostly have
-/// the same chosen arguments.
+/// Whether the tree of the one number is a proper part of that of the other, as it was asked last: pairs of one rule
+/// mostly have the same chosen arguments.
 #[derive(Clone, Copy)]
 pub struct Asked {
     /// The number of the tree that was looked into.

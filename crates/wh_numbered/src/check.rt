@@ -14,11 +14,11 @@ use wh_pairs::{PairSet, is_bad_drop};
 use wh_subterm::{Choice, Projection, SubtermFault};
 use wh_system::System;
 
-/// Whether a projection lets the pairs in `drop` go from the set (the subterm criterion of Kop 2012, in the form of this
-/// project): the test of `wh_subterm::check_projection` for pairs whose sides are numbered in the table.
+/// Whether a projection lets the pairs in `drop` go from the set (the subterm criterion of Kop 2012, in the form of
+/// this project): the test of `wh_subterm::check_projection` for pairs whose sides are numbered in the table.
 ///
-/// Equal sides are equal numbers. `Err` names the first condition that fails, in the order of the variants; of the symbols the
-/// first one in order, of the pairs the least one. No memory is taken.
+/// Equal sides are equal numbers. `Err` names the first condition that fails, in the order of the variants; of the
+/// symbols the first one in order, of the pairs the least one. No memory is taken.
 pub fn check_numbered(
     system: &System,
     table: &Table,

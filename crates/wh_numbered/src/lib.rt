@@ -1,5 +1,5 @@
-//! Pairs and their conditions over trees that are numbered once: the arguments of all pairs join one table of nodes, and
-//! projections and polynomials are then checked by numbers.
+//! Pairs and their conditions over trees that are numbered once: the arguments of all pairs join one table of nodes,
+//! and projections and polynomials are then checked by numbers.
 #![tactic(auto)]
 
 mod asked;

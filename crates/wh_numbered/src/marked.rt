@@ -50,8 +50,8 @@ fn all_marked(sides: &[Sides], set: &[u32], args: &[Choice]) -> bool
     true
 }
 
-// A place in the set of a pair that the symbol heads a side of. Places from the given one on are looked at first: pairs mostly
-// stand in the order of their symbols.
+// A place in the set of a pair that the symbol heads a side of. Places from the given one on are looked at first: pairs
+// mostly stand in the order of their symbols.
 fn marked_at(sides: &[Sides], set: &[u32], from: usize, symbol: u32) -> Option<usize>
     requires within { from ≤ length set.now }
     requires set { All (λ n. n < length sides.now) set.now }

@@ -6,8 +6,8 @@ mod sharing;
 pub use sharing::number_if_shared;
 use wh_intern::{SidesList, Table};
 
-/// The sides of pairs by numbers, with the table that the numbers are of. It is made once for all pairs of a system, so that equal
-/// arguments are equal numbers wherever sides are compared.
+/// The sides of pairs by numbers, with the table that the numbers are of. It is made once for all pairs of a system, so
+/// that equal arguments are equal numbers wherever sides are compared.
 #[derive(Drop)]
 pub struct Numbered {
     /// The arguments of the sides and their parts, each tree once.

@@ -17,8 +17,9 @@ use wh_types::Numbers;
 
 /// One entry for each pair, in order: its heads, and the numbers of its arguments, which join the table.
 ///
-/// The pairs must be those of a system. Earlier numbers keep their trees, and only arguments of the pairs and parts of arguments
-/// join: all of them, or some where memory ends. The left side of a rule is numbered once, for the first of its pairs.
+/// The pairs must be those of a system. Earlier numbers keep their trees, and only arguments of the pairs and parts of
+/// arguments join: all of them, or some where memory ends. The left side of a rule is numbered once, for the first of
+/// its pairs.
 pub fn number_pairs(
     alloc: Global,
     pairs: &PairList,

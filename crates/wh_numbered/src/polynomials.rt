@@ -28,12 +28,12 @@ use wh_polycheck::{Readings, kind_of_mark};
 use wh_system::System;
 use wh_types::{Numbers, Or, SimpleType, counted};
 
-/// The normal form of the tree of that number, a side of a rule, in the scope of the rule's meta-variables and of the arguments of
-/// its type, where symbols are read as `readings` say (Fuhs and Kop 2012).
+/// The normal form of the tree of that number, a side of a rule, in the scope of the rule's meta-variables and of the
+/// arguments of its type, where symbols are read as `readings` say (Fuhs and Kop 2012).
 ///
-/// `scope` has the types of the meta-variables, as `scope_of` gives them; over them the tree must have a type. `Err` comes only
-/// where some value in the evaluation exceeds the limit that it names, and `Ok` only where none exceeds one. The part that it
-/// names is one of the side as an expression, counted in preorder from 0.
+/// `scope` has the types of the meta-variables, as `scope_of` gives them; over them the tree must have a type. `Err`
+/// comes only where some value in the evaluation exceeds the limit that it names, and `Ok` only where none exceeds one.
+/// The part that it names is one of the side as an expression, counted in preorder from 0.
 pub fn side_by_number<'a>(
     alloc: Global,
     system: &System,
@@ -54,8 +54,9 @@ pub fn side_by_number<'a>(
     normal(alloc, &expression, scope, readings.symbols)
 }
 
-/// The normal form of the right side of a pair by numbers, or of its left side, in the scope of the pair's meta-variables, where
-/// symbols and marked symbols are read as `readings` say (Fuhs and Kop 2012). `Ok` and `Err` as for a rule.
+/// The normal form of the right side of a pair by numbers, or of its left side, in the scope of the pair's
+/// meta-variables, where symbols and marked symbols are read as `readings` say (Fuhs and Kop 2012). `Ok` and `Err` as
+/// for a rule.
 pub fn pair_side_by_number<'a>(
     alloc: Global,
     system: &System,
@@ -98,8 +99,8 @@ pub fn pair_side_by_number<'a>(
     }
 }
 
-// The normal form of a marked symbol applied to the trees of these numbers. Its polynomial is not copied: it stands alone behind the
-// symbols.
+// The normal form of a marked symbol applied to the trees of these numbers. Its polynomial is not copied: it stands
+// alone behind the symbols.
 fn normal_of_marked<'a>(
     alloc: Global,
     system: &System,

@@ -51,8 +51,8 @@ abbrev pub MayStandFor : ℕ → World → Option (Vec Goal) → Option (List Ta
 MayStandFor n w r None = r ≡ None
 MayStandFor n w r (Some ks) = HoldsGoals n w r ks
 
--- the goals stand for what the parts of an inference with this letter and this place are for, where s, which the symbol f heads, is to
--- be above t
+-- the goals stand for what the parts of an inference with this letter and this place are for, where s, which the symbol
+-- f heads, is to be above t
 abbrev pub AreSymbolGoals : ℕ → (ℕ → ℕ) → (f from next : ℕ) → Tree → Tree → m.Letter → ℕ → Option (Vec Goal) → Type 0
 AreSymbolGoals n prec f from next s t l place r = (w : World) → Over n w s → Over n w t
     → MayStandFor n w r (symbol_tasks w.symbols prec w.metas f from next (tree n s) (tree n t) l place (head (tree n t)))

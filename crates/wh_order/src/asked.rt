@@ -17,8 +17,8 @@ use wh_ordering::Filters;
 use wh_trees::{application_of, body_of, have_one_type, same_tree};
 use wh_types::{same_type, sum};
 
-/// What the parts of an inference with this letter, this place and these parts are for, where it is for the goal. `None` where the
-/// letter is not for that, its condition fails, or it compares trees of two types.
+/// What the parts of an inference with this letter, this place and these parts are for, where it is for the goal.
+/// `None` where the letter is not for that, its condition fails, or it compares trees of two types.
 pub fn goals_of<'a>(
     alloc: Global,
     filters: &Filters,
@@ -151,7 +151,8 @@ fn by_bodies<'a>(
     one(alloc, goal)
 }
 
-// `m`: two applications of one head to as many arguments; each argument is at least the other one, and some part says more.
+// `m`: two applications of one head to as many arguments; each argument is at least the other one, and some part says
+// more.
 fn by_arguments<'a>(
     alloc: Global,
     two: &Compared<'a>,

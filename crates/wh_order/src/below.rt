@@ -10,8 +10,8 @@ ghost use Rattle.wh_trees.specs.Trees.{tree, trees};
 
 use wh_trees::Tree;
 
-/// Whether the tree is the meta-variable below `left` abstractions, and has `count` arguments, which are the variables of the
-/// `count` nearest binders.
+/// Whether the tree is the meta-variable below `left` abstractions, and has `count` arguments, which are the variables
+/// of the `count` nearest binders.
 pub fn is_meta_below(t: &Tree, meta: u32, count: usize, left: usize) -> bool
     ensures { (n k : ℕ) (w : World) → k + left ≡ count → Over n w t.now → result ≡ is_abstracted meta count k (tree n t.now) }
 {

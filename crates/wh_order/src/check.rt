@@ -29,11 +29,11 @@ pub struct BadInference {
     pub at: u32,
 }
 
-/// Whether the inference shows that the left tree is at least the right one in the path order (Kop 2012; Blanqui, Jouannaud
-/// and Rubio 2015).
+/// Whether the inference shows that the left tree is at least the right one in the path order (Kop 2012; Blanqui,
+/// Jouannaud and Rubio 2015).
 ///
-/// `Err` names the first inference, in preorder, that is bad: its letter is not for its claim, the condition of the letter
-/// fails, it has another number of parts, or its claim compares trees of two types.
+/// `Err` names the first inference, in preorder, that is bad: its letter is not for its claim, the condition of the
+/// letter fails, it has another number of parts, or its claim compares trees of two types.
 pub fn check_inference(
     alloc: Global,
     filters: &Filters,

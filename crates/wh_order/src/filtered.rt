@@ -46,7 +46,8 @@ pub fn filtered_rule(
     Ok(sift(alloc, filters, side.metas.as_slice(), &side.term)?)
 }
 
-/// The right side of a pair, or its left side, with all arguments and behind the filters (Kop 2012). `Err` as for a rule.
+/// The right side of a pair, or its left side, with all arguments and behind the filters (Kop 2012). `Err` as for a
+/// rule.
 pub fn filtered_pair(
     alloc: Global,
     system: &System,

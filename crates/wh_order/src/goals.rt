@@ -16,8 +16,8 @@ pub enum Claim {
     AtLeast,
     /// The left tree is greater.
     Greater,
-    /// The left tree is above the right one, where the free variables from this number on stand for binders of the right
-    /// tree that were passed.
+    /// The left tree is above the right one, where the free variables from this number on stand for binders of the
+    /// right tree that were passed.
     Above(u32),
 }
 

@@ -24,8 +24,8 @@ use wh_trees::{
 };
 use wh_types::sum;
 
-/// What the parts of an inference with this letter and this place are for, where the left tree is to be above the right one;
-/// `None` where the letter is not for that, or its condition fails.
+/// What the parts of an inference with this letter and this place are for, where the left tree is to be above the right
+/// one; `None` where the letter is not for that, or its condition fails.
 pub fn above_goals<'a>(
     alloc: Global,
     filters: &Filters,
@@ -123,8 +123,8 @@ fn above_each<'a>(
     Ok(Some(goals))
 }
 
-// `x`: a symbol of equal precedence on the right, and the first arguments that differ get smaller; the left tree is above each
-// argument of the right one.
+// `x`: a symbol of equal precedence on the right, and the first arguments that differ get smaller; the left tree is
+// above each argument of the right one.
 fn by_first_less<'a>(
     alloc: Global,
     filters: &Filters,
@@ -149,8 +149,8 @@ fn by_first_less<'a>(
     }
 }
 
-// The arguments before the place are the same, and that at the place gets smaller; the left tree is above each argument of the right
-// one.
+// The arguments before the place are the same, and that at the place gets smaller; the left tree is above each argument
+// of the right one.
 fn less_at<'a>(
     alloc: Global,
     from: u32,

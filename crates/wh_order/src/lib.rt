@@ -1,5 +1,5 @@
-//! The check of the path order on filtered trees: sides of rules and of pairs with all their arguments, behind the filters
-//! of a node, and whether an inference is good for two of them.
+//! The check of the path order on filtered trees: sides of rules and of pairs with all their arguments, behind the
+//! filters of a node, and whether an inference is good for two of them.
 #![tactic(auto)]
 
 mod asked;

@@ -21,8 +21,8 @@ module _ (S : Symbols) (rules : List RewriteRule) (D : FilteringData) where
     pub good : IsGoodRule S rules D r line
     pub within : IsWithin line
 
-  -- the line orients the pair, no side of which is too wide; it is strict where some line is not that of equal trees, and then it is not
-  -- that itself
+  -- the line orients the pair, no side of which is too wide; it is strict where some line is not that of equal trees,
+  -- and then it is not that itself
   pub record IsPairLine (p : PairData) (line : PairLine) : Type 0 where
     pub narrow : HasNarrowCalls S p
     pub good : IsGoodPair S rules D p (inference line.inference)

@@ -26,7 +26,8 @@ module _ (T : TaskData) (D : FilteringData) where
   IsFailingRule i = (n : ℕ) × (r : RewriteRule) × (slice_get T.covered i ≡ Some n) × (slice_get T.rules n ≡ Some r)
       × (MeetsRule T.symbols T.rules D r → ⊥)
 
-  -- the line orients the pair, which is dropped where some line is not that of equal trees, and then it is not that itself
+  -- the line orients the pair, which is dropped where some line is not that of equal trees, and then it is not that
+  -- itself
   pub record IsDropped (dropped : Type 0) (p : PairData) (line : Inference) : Type 0 where
     pub narrow : HasNarrowCalls T.symbols p
     pub good : IsGoodPair T.symbols T.rules D p line

@@ -11,8 +11,8 @@ ghost use Rattle.wh_ordering.specs.Ordering.{IsGoodPair, IsGoodRule};
 ghost use Rattle.wh_order.specs.TreeSides.{AreFilters};
 ghost use Rattle.wh_order_lines.specs.Oriented.{IsWithin};
 
-/// Under proper filters a good inference for a rule has a text in certificates where it nests at most 64 deep: its places
-/// are those of arguments, of which a symbol has at most 32.
+/// Under proper filters a good inference for a rule has a text in certificates where it nests at most 64 deep: its
+/// places are those of arguments, of which a symbol has at most 32.
 pub fn rule_line_fits()
     ensures { (d : SystemData) (D : FilteringData) (r : RewriteRule) (i : Inference) → IsWellMadeSystem d → AreFilters d.symbols d.rules D
         → IsGoodRule d.symbols d.rules D r i → IsWithin i → InferenceFits 0 i }

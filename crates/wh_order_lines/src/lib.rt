@@ -1,5 +1,5 @@
-//! Lines of inferences for rules and pairs under a given order: for each rule that is to be covered and each pair of a set, or the first
-//! that has none.
+//! Lines of inferences for rules and pairs under a given order: for each rule that is to be covered and each pair of a
+//! set, or the first that has none.
 #![tactic(auto)]
 
 mod laws;

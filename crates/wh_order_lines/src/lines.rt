@@ -75,8 +75,8 @@ fn rule_side(
     }
 }
 
-/// An inference that orients the pair, which is not that of equal trees where one can be had that is not; `None` where there is none, or
-/// a side is too wide.
+/// An inference that orients the pair, which is not that of equal trees where one can be had that is not; `None` where
+/// there is none, or a side is too wide.
 pub fn pair_line(
     alloc: Global,
     system: &System,

@@ -1,5 +1,6 @@
--- Orders written by bits. Each symbol has a bit for each place that may be kept, then one for each place that may be picked, and then
--- those of its precedence, the lowest one first. The symbols stand in order of declaration, and behind them the marked symbols of the set.
+-- Orders written by bits. Each symbol has a bit for each place that may be kept, then one for each place that may be
+-- picked, and then those of its precedence, the lowest one first. The symbols stand in order of declaration, and behind
+-- them the marked symbols of the set.
 use Rattle.std.specs.Prelude.{ℕ, zero, suc, ◌+◌, ◌-◌, ◌*◌, ◌/◌, ◌<◌, ◌≡◌, ◌==◌, Bool, if◌then◌else◌, List, [], ◌∷◌, ◌++◌, Option, None, Some, length, map, slice_get}
 use Rattle.wh_types.specs.Ty.{Ty}
 use Rattle.wh_reduction.specs.TaskData.{TaskData}
@@ -21,7 +22,8 @@ precedence_bits T marked = binary_length (symbol_count T marked) (symbol_count T
 abbrev pub bits_of : ℕ → List Ty → ℕ
 bits_of b cs = 2 * length cs + b
 
--- the number of the first bit of the symbol with this number, where the lists are the argument types of all symbols (ours)
+-- the number of the first bit of the symbol with this number, where the lists are the argument types of all symbols
+-- (ours)
 abbrev pub first_bit : ℕ → List (List Ty) → ℕ → ℕ
 first_bit b [] n = 0
 first_bit b (cs ∷ scopes) zero = 0
@@ -41,8 +43,8 @@ abbrev pub number_from : (ℕ → Bool) → (x b : ℕ) → ℕ
 number_from v x zero = 0
 number_from v x (suc b) = (if v x then 1 else 0) + 2 * number_from v (suc x) b
 
--- the filter that keeps these places or picks one: with none to pick it keeps, with one to pick and none to keep it picks, and else there
--- is none (ours)
+-- the filter that keeps these places or picks one: with none to pick it keeps, with one to pick and none to keep it
+-- picks, and else there is none (ours)
 abbrev pub filter_with : (prec : ℕ) (kept picked : List ℕ) → Option WrittenFilter
 filter_with prec kept [] = Some (keeps prec kept)
 filter_with prec [] (place ∷ []) = Some (picks place)
@@ -57,8 +59,8 @@ module _ (T : TaskData) (marked : List ℕ) where
   abbrev pub bit_from : ℕ → ℕ
   bit_from n = first_bit (precedence_bits T marked) (scopes_of T marked) n
 
-  -- the bits of the symbol with the number n, whose arguments have these types, write this filter: it is proper, and they write a
-  -- precedence below the number of symbols (ours)
+  -- the bits of the symbol with the number n, whose arguments have these types, write this filter: it is proper, and
+  -- they write a precedence below the number of symbols (ours)
   pub record IsFilterBy (v : ℕ → Bool) (n : ℕ) (f : WrittenFilter) : Type 0 where
     pub types : List Ty
     pub is : slice_get (scopes_of T marked) n ≡ Some types

@@ -1,5 +1,5 @@
--- The orders that are tried for a set of pairs, and which pairs they let go. An order is given by argument filters with precedences of
--- all symbols and of the marked symbols of the set.
+-- The orders that are tried for a set of pairs, and which pairs they let go. An order is given by argument filters with
+-- precedences of all symbols and of the marked symbols of the set.
 use Rattle.std.specs.Prelude.{ℕ, ◌+◌, ◌≡◌, ◌<◌, List, Some, All, Contains, length, slice_get}
 use Rattle.wh_terms.specs.Rules.{RewriteRule}
 use Rattle.wh_pairs.specs.PairData.{PairData}
@@ -19,8 +19,8 @@ abbrev pub IsLow : ℕ → WrittenFilter → Type 0
 IsLow n (keeps prec places) = prec < n
 IsLow n (picks place) = Unit {0}
 
--- the order is one that is tried (ours): it has a proper filter for each symbol and each marked symbol of the set, and a precedence below
--- the number of these together; and no side, with all its arguments, is too wide
+-- the order is one that is tried (ours): it has a proper filter for each symbol and each marked symbol of the set, and
+-- a precedence below the number of these together; and no side, with all its arguments, is too wide
 pub record IsOfSpace (T : TaskData) (D : FilteringData) : Type 0 where
   pub filters : AreFiltersFor T D
   pub symbols : AreProperSymbols T.symbols D
@@ -36,8 +36,8 @@ module _ (T : TaskData) (D : FilteringData) where
   Meets (covers_pair p) = MeetsPair T.symbols T.rules D p
   Meets some_strictly = (n : ℕ) × (p : PairData) × Contains T.set n × (slice_get T.pairs n ≡ Some p) × MeetsStrictly T.symbols T.rules D p
 
-  -- the order lets the pair with this number go: the lines of all rules and of all pairs of the set can be made good, that of this one
-  -- without being that of equal trees (ours)
+  -- the order lets the pair with this number go: the lines of all rules and of all pairs of the set can be made good,
+  -- that of this one without being that of equal trees (ours)
   pub record LetsGo (n : ℕ) : Type 0 where
     pub rules : (k : ℕ) (r : RewriteRule) → Contains T.covered k → slice_get T.rules k ≡ Some r → OrientsRule T.symbols T.rules D r
     pub pairs : (k : ℕ) (p : PairData) → Contains T.set k → slice_get T.pairs k ≡ Some p → OrientsPair T.symbols T.rules D p

@@ -1,5 +1,6 @@
--- The argument filters of a node of a proof: one for each symbol, and one for each of some marked symbols. As in the whole of path
--- orders the marked symbol of f has a number of its own, which is that of f counted on behind all symbols.
+-- The argument filters of a node of a proof: one for each symbol, and one for each of some marked symbols. As in the
+-- whole of path orders the marked symbol of f has a number of its own, which is that of f counted on behind all
+-- symbols.
 use Rattle.std.specs.Prelude.{ℕ, zero, suc, ◌-◌, ◌==◌, ◌<◌, ◌≡◌, nat_lt, cond, List, [], ◌∷◌, ◌++◌, length, map, All, Some, slice_get}
 use Rattle.wh_types.specs.Ty.{Ty, arguments}
 use Rattle.wh_terms.specs.Typing.{Symbols}
@@ -48,7 +49,8 @@ precedences_of S D = precedences (filters_of S D)
 abbrev pub argument_types : Symbols → List RewriteRule → List (List Ty)
 argument_types S rules = map arguments S.funs ++ map (marked_types S rules) (numbers_from 0 (length S.funs))
 
--- the signature of filtered trees: each symbol and each marked symbol with the arguments that its filter keeps, over one sort (Kop 2012)
+-- the signature of filtered trees: each symbol and each marked symbol with the arguments that its filter keeps, over
+-- one sort (Kop 2012)
 abbrev pub filtered_signature : Symbols → List RewriteRule → FilteringData → Symbols
 filtered_signature S rules D = filtered_symbols (filters_of S D) (argument_types S rules)
 

@@ -1,5 +1,5 @@
--- When filters, precedences and inferences of the path order show that no rule and no pair of a set grows, and that some of its pairs
--- shrink.
+-- When filters, precedences and inferences of the path order show that no rule and no pair of a set grows, and that
+-- some of its pairs shrink.
 use Rattle.std.specs.Prelude.{ℕ, ◌≡◌, ◌≢◌, ◌≤◌, List, Some, Bool, true, false, Contains, slice_get}
 use Rattle.wh_types.specs.Limits.{greatest_size}
 use Rattle.wh_terms.specs.Tree.{Tm}
@@ -51,8 +51,8 @@ pub record AreNarrow (T : TaskData) : Type 0 where
   pub of_rules : (n : ℕ) (r : RewriteRule) → Contains T.covered n → slice_get T.rules n ≡ Some r → HasNarrowSides T.symbols r
   pub of_pairs : (n : ℕ) (p : PairData) → Contains T.set n → slice_get T.pairs n ≡ Some p → HasNarrowCalls T.symbols p
 
--- the conditions of a node of a path order on a set of pairs (Kop 2012, the reduction pair processor with argument filters; the form is
--- ours)
+-- the conditions of a node of a path order on a set of pairs (Kop 2012, the reduction pair processor with argument
+-- filters; the form is ours)
 pub record IsOrdering (T : TaskData) (D : FilteringData) (E : Evidence Inference) : Type 0 where
   -- what is filtered are the system's symbols and the marked symbols of the set, in order, each by a proper filter
   pub filters : AreFiltersFor T D

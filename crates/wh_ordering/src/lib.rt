@@ -1,5 +1,5 @@
-//! The path order as a reduction pair: the filters of a node, and when its inferences show that no rule and no pair of a set grows, and
-//! that some pairs shrink.
+//! The path order as a reduction pair: the filters of a node, and when its inferences show that no rule and no pair of
+//! a set grows, and that some pairs shrink.
 #![tactic(auto)]
 
 mod filters;

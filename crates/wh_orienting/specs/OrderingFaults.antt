@@ -110,8 +110,9 @@ module _ (T : TaskData) (D : FilteringData) (E : Evidence Inference) where
   abbrev pub IsFirstWeakPair : ℕ → Type 0
   IsFirstWeakPair n = IsFirstPairFault strict_lines weak_lines T E.of_pairs E.drop n tt
 
-  -- the first thing wrong: a filter, the numbers of lines, the list of dropped pairs; then sides that are too wide, those of the rules
-  -- in order and of the pairs of the set in order; then bad inferences, in this order too; then a dropped pair that does not shrink (ours)
+  -- the first thing wrong: a filter, the numbers of lines, the list of dropped pairs; then sides that are too wide,
+  -- those of the rules in order and of the pairs of the set in order; then bad inferences, in this order too; then a
+  -- dropped pair that does not shrink (ours)
   abbrev pub IsFirstOrderingFault : OrderingFault → Type 0
   IsFirstOrderingFault (BadFilter f false) = IsFirstImproper T.symbols D f
   IsFirstOrderingFault (BadFilter f true) = AreProperSymbols T.symbols D × IsFirstImproperMark T.symbols T.rules D f

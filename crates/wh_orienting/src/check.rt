@@ -25,16 +25,17 @@ use wh_pairs::{is_bad_drop, sorted};
 use wh_reduction::Task;
 use wh_types::Or;
 
-/// Whether argument filters and inferences let the dropped pairs go from the set (the reduction pair processor of Kop 2012 with
-/// argument filters and a path order, in the form of this project).
+/// Whether argument filters and inferences let the dropped pairs go from the set (the reduction pair processor of Kop
+/// 2012 with argument filters and a path order, in the form of this project).
 ///
-/// The filters are those of the system's symbols and of the marked symbols of the set, each of which must be proper. There must be an
-/// inference for each rule that is to be covered and for each pair of the set, and the list of dropped pairs must have some pairs of the
-/// set, each once. Each side, with all its arguments, must have at most 65,536 nodes. Then each inference must show that the filtered
-/// left side of its rule or pair is at least the right one, and that of a dropped pair must not be that of equal trees.
+/// The filters are those of the system's symbols and of the marked symbols of the set, each of which must be proper.
+/// There must be an inference for each rule that is to be covered and for each pair of the set, and the list of dropped
+/// pairs must have some pairs of the set, each once. Each side, with all its arguments, must have at most 65,536 nodes.
+/// Then each inference must show that the filtered left side of its rule or pair is at least the right one, and that of
+/// a dropped pair must not be that of equal trees.
 ///
-/// `Err` names the first condition that fails, in this order: each of them for all rules and then for all pairs of the set, before the
-/// next one is looked at.
+/// `Err` names the first condition that fails, in this order: each of them for all rules and then for all pairs of the
+/// set, before the next one is looked at.
 pub fn check_ordering<'a, 'b>(
     alloc: Global,
     task: &Task<'a>,

@@ -1,11 +1,11 @@
 //! What can be wrong with a node of a path order.
 
-/// What is wrong first with a node of a path order on a set of pairs, once its names are looked up. Symbols, rules and pairs are told by
-/// their numbers.
+/// What is wrong first with a node of a path order on a set of pairs, once its names are looked up. Symbols, rules and
+/// pairs are told by their numbers.
 #[derive(Clone, Copy)]
 pub enum OrderingFault {
-    /// This filter is the first that is not proper: a place that it keeps or picks is none of its symbol, the places do not increase, or
-    /// the place that it picks has a functional type.
+    /// This filter is the first that is not proper: a place that it keeps or picks is none of its symbol, the places do
+    /// not increase, or the place that it picks has a functional type.
     BadFilter {
         /// The symbol.
         symbol: u32,

@@ -29,7 +29,8 @@ use wh_system::System;
 use wh_trees::Tree;
 use wh_types::Or;
 
-/// Whether the inference of each rule that is to be covered is good; `Err` names the first bad one. No side is too wide.
+/// Whether the inference of each rule that is to be covered is good; `Err` names the first bad one. No side is too
+/// wide.
 pub fn check_rules_good<'a>(
     alloc: Global,
     task: &Task<'a>,

@@ -1,4 +1,5 @@
-//! The conditions of a node of a path order hold, or there is a first thing wrong: the contract of a function that does nothing.
+//! The conditions of a node of a path order hold, or there is a first thing wrong: the contract of a function that does
+//! nothing.
 
 ghost use Rattle.std.specs.Prelude.{◌⊎◌};
 ghost use Rattle.wh_reduction.specs.ReductionPair.{Evidence};
@@ -9,7 +10,8 @@ ghost use Rattle.wh_ordering.specs.Ordering.{IsOrdering};
 ghost use Rattle.wh_orienting.specs.OrderingFaults.{IsFirstOrderingFault};
 ghost use Rattle.wh_orienting.specs.declared.fault.OrderingFault.{OrderingFault};
 
-/// Filters of all symbols and of the marked symbols of a set orient it with their inferences, or something is wrong first with them.
+/// Filters of all symbols and of the marked symbols of a set orient it with their inferences, or something is wrong
+/// first with them.
 pub fn orders_orient_or_have_a_first_fault()
     ensures { (T : TaskData) (D : FilteringData) (E : Evidence Inference) → AreFiltersFor T D
         → IsOrdering T D E ⊎ ((f : OrderingFault) × IsFirstOrderingFault T D E f) }

@@ -1,5 +1,5 @@
-//! The check of a node of a path order: whether argument filters and inferences show that no rule and no pair of a set grows, and that
-//! the dropped ones shrink.
+//! The check of a node of a path order: whether argument filters and inferences show that no rule and no pair of a set
+//! grows, and that the dropped ones shrink.
 #![tactic(auto)]
 
 mod check;

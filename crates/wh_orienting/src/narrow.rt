@@ -27,7 +27,8 @@ use wh_reduction::Task;
 use wh_system::System;
 use wh_types::Or;
 
-/// Whether the sides of each rule that is to be covered are within the limit; `Err` names the first rule with one that is not.
+/// Whether the sides of each rule that is to be covered are within the limit; `Err` names the first rule with one that
+/// is not.
 pub fn check_rules_narrow<'a>(
     alloc: Global,
     task: &Task<'a>,

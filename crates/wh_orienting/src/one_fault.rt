@@ -1,5 +1,5 @@
-//! One thing at most is wrong first with a node of a path order, and none where its conditions hold: the contract of a function that does
-//! nothing.
+//! One thing at most is wrong first with a node of a path order, and none where its conditions hold: the contract of a
+//! function that does nothing.
 
 ghost use Rattle.std.specs.Prelude.{◌≡◌};
 ghost use Rattle.wh_reduction.specs.ReductionPair.{Evidence};

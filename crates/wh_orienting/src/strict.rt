@@ -17,8 +17,8 @@ use wh_pairs::is_dropped;
 use wh_reduction::Task;
 use wh_types::Or;
 
-/// Whether no line of a pair whose number is one of `drop`, in which no number falls, is that of equal trees; `Err` names the first pair
-/// with such a line.
+/// Whether no line of a pair whose number is one of `drop`, in which no number falls, is that of equal trees; `Err`
+/// names the first pair with such a line.
 pub fn check_pairs_strict<'a>(
     task: &Task<'a>,
     lines: &[Inference],

@@ -28,10 +28,11 @@ numbered_from x (suc n) = meta x none ∷ numbered_from (x + 1) n
 abbrev pub missing_types : Symbols → Call → List Ty
 missing_types S c = drop (length c.arguments) (take c.need (arguments (get_or S.funs c.symbol (sort 0))))
 
--- the candidate of a call in the right side of the rule r, which has the number k. To the meta-variables of the rule come
--- fresh ones: for each binder around the call, from the outside, and then for each argument that the call lacks. On the
--- right stand as many arguments as the rules of the symbol have, with fresh meta-variables for the bound variables and for
--- what is lacking (Kop 2012, static dependency pairs; Fuhs and Kop 2019; that a symbol has one number of arguments is ours)
+-- the candidate of a call in the right side of the rule r, which has the number k. To the meta-variables of the rule
+-- come fresh ones: for each binder around the call, from the outside, and then for each argument that the call lacks.
+-- On the right stand as many arguments as the rules of the symbol have, with fresh meta-variables for the bound
+-- variables and for what is lacking (Kop 2012, static dependency pairs; Fuhs and Kop 2019; that a symbol has one number
+-- of arguments is ours)
 abbrev pub candidate : Symbols → ℕ → RewriteRule → Call → PairData
 candidate S k r c = record {
   rule = k;

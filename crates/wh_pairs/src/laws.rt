@@ -18,7 +18,8 @@ pub fn there_are_pairs()
     ensures { (candidates : List PairData) → (pairs : List PairData) × ArePairs candidates pairs }
 {}
 
-/// A list of conditions in increasing order stays so when a condition joins it, and has that condition and those before.
+/// A list of conditions in increasing order stays so when a condition joins it, and has that condition and those
+/// before.
 pub fn conditions_join_in_order()
     ensures order { (c : Within) (cs : List Within) → AreInOrder cs → AreInOrder (with_condition c cs) }
     ensures members { (c : Within) (cs : List Within) (d : Within) → Contains (with_condition c cs) d ↔ ((c ≡ d) ⊎ Contains cs d) }

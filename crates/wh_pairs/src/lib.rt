@@ -1,4 +1,5 @@
-//! Dependency pairs as data, and sets of them: lists that a node of a proof drops from a set, and the marked symbols of a set.
+//! Dependency pairs as data, and sets of them: lists that a node of a proof drops from a set, and the marked symbols of
+//! a set.
 #![tactic(auto)]
 
 mod applied;

@@ -22,9 +22,9 @@ pub struct Condition {
 /// A list of conditions.
 pub type Conditions = List<Condition>;
 
-/// A dependency pair of a rule (Kop 2012; Fuhs and Kop 2019): a call of a defined symbol in the right side, with the left
-/// side that leads to it. The meta-variables are those of the rule, followed by fresh ones: for the binders of the right side
-/// around the call, and for the arguments that the call lacks.
+/// A dependency pair of a rule (Kop 2012; Fuhs and Kop 2019): a call of a defined symbol in the right side, with the
+/// left side that leads to it. The meta-variables are those of the rule, followed by fresh ones: for the binders of the
+/// right side around the call, and for the arguments that the call lacks.
 #[derive(Drop)]
 pub struct Pair {
     /// The number of the rule.

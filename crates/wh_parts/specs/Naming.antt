@@ -60,7 +60,8 @@ abbrev pub both : {A B C : Type 0} → (A → B → C) → Option A → Option B
 both f (Some a) (Some b) = Some (f a b)
 both f _ _ = None
 
--- the tree that a raw term stands for below these binders, the innermost first, if each of its names stands for something
+-- the tree that a raw term stands for below these binders, the innermost first, if each of its names stands for
+-- something
 abbrev mutual
   pub meant : Scope → List Binder → RTm → Option Tm
   meant s binders (named n at) = name_meant s binders n

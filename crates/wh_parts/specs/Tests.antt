@@ -103,7 +103,8 @@ abbrev pub arguments_of : RTm → ℕ
 arguments_of (spine h ts at) = arguments_of h + count_of ts
 arguments_of _ = 0
 
--- of a side: no spine, and no type of a binder or variable, has more than 32 arguments; k arguments of a spine stand before
+-- of a side: no spine, and no type of a binder or variable, has more than 32 arguments; k arguments of a spine stand
+-- before
 abbrev mutual
   pub width_of_term : RTm → List Test
   width_of_term (free_variable n a at) = width_of_type a

@@ -6,7 +6,8 @@ use Rattle.wh_parts.specs.declared.fault.SystemFault.{SystemFault}
 use Rattle.wh_parts.specs.Faults.{first_fault}
 use Rattle.wh_parts.specs.Tests.{arguments_of, count_of, width_of_term, width_of_arguments}
 
--- no width is passed, and the number with the term's own arguments is 32; or the fault is that of the first test that fails
+-- no width is passed, and the number with the term's own arguments is 32; or the fault is that of the first test that
+-- fails
 abbrev pub HasSpare : RTm → Result ℕ SystemFault → Type 0
 HasSpare t result = MatchResult result (λ left. (first_fault (width_of_term t) ≡ None) × (left + arguments_of t ≡ most_arguments))
     (λ fault. first_fault (width_of_term t) ≡ Some fault)

@@ -28,7 +28,8 @@ HasType (B ∷ Γ) zero A = B ≡ A
 HasType (B ∷ Γ) (suc x) A = HasType Γ x A
 
 abbrev mutual
-  -- polynomials are ordered by their monomials, a monomial by its factors, then by its coefficient; a proper prefix is less (ours)
+  -- polynomials are ordered by their monomials, a monomial by its factors, then by its coefficient; a proper prefix is
+  -- less (ours)
   pub compare_polynomials : Polynomial → Polynomial → Ordering
   compare_polynomials zero_poly zero_poly = Equal
   compare_polynomials zero_poly (plus d vs q) = Less
@@ -71,12 +72,14 @@ Sorted zero_poly = Unit {0}
 Sorted (plus c us p) = MonomialBefore us p × Sorted p
 
 abbrev mutual
-  -- a polynomial is normal in a scope if each coefficient is at least 1, the lists of factors strictly increase, and each is normal (ours)
+  -- a polynomial is normal in a scope if each coefficient is at least 1, the lists of factors strictly increase, and
+  -- each is normal (ours)
   pub Normal : List Ty → Polynomial → Type 0
   Normal Γ zero_poly = Unit {0}
   Normal Γ (plus c us p) = 1 ≤ c × NormalFactors Γ us × MonomialBefore us p × Normal Γ p
 
-  -- a list of factors is normal if it is in order, and each variable is in the scope and has normal arguments for its type (ours)
+  -- a list of factors is normal if it is in order, and each variable is in the scope and has normal arguments for its
+  -- type (ours)
   pub NormalFactors : List Ty → Factors → Type 0
   NormalFactors Γ no_factors = Unit {0}
   NormalFactors Γ (times x ps us) = (A : Ty) × HasType Γ x A × NormalArguments Γ A ps × FactorBefore x ps us × NormalFactors Γ us

@@ -1,5 +1,5 @@
-//! Higher-order polynomials as data: their order, copies of them, lists of factors that are joined, rows of products, and the variables
-//! that a type adds. No walk here is ended by a limit on values.
+//! Higher-order polynomials as data: their order, copies of them, lists of factors that are joined, rows of products,
+//! and the variables that a type adds. No walk here is ended by a limit on values.
 #![tactic(auto)]
 
 mod comparing;

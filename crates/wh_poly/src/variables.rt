@@ -11,8 +11,8 @@ use crate::polynomial::{Atom, Atoms, Monomial, Poly, Polys};
 use std::alloc::{AllocError, Global};
 use wh_types::SimpleType;
 
-/// One variable for each argument of the type, numbered from `first`, as arguments in a scope of so many variables. They are exponential
-/// in the depth of the type, so they are weighed before they are asked for.
+/// One variable for each argument of the type, numbered from `first`, as arguments in a scope of so many variables.
+/// They are exponential in the depth of the type, so they are weighed before they are asked for.
 pub fn added(alloc: Global, kind: &SimpleType, count: u32, first: u32) -> Result<Polys, AllocError>
     ensures { IfOk result (λ r. polys r ≡ added_variables (ty kind.now) count first) }
 {

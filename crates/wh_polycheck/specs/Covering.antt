@@ -1,4 +1,5 @@
--- When readings of all symbols and lists of moves show that no rule and no pair of a set grows, and that some of its pairs shrink.
+-- When readings of all symbols and lists of moves show that no rule and no pair of a set grows, and that some of its
+-- pairs shrink.
 use Rattle.std.specs.Prelude.{List, Bool, true, false, Contains}
 use Rattle.wh_terms.specs.Typing.{Symbols}
 use Rattle.wh_terms.specs.Rules.{RewriteRule}
@@ -35,17 +36,18 @@ by_moves S rules R = record {
   pair = λ p strict ms. CoversSides (pair_run S rules R p false) (pair_run S rules R p true) strict ms;
 }
 
--- the conditions of a node of interpretations on a set of pairs (Kop 2012 and Fuhs and Kop 2012, the reduction pair processor;
--- the form is ours)
+-- the conditions of a node of interpretations on a set of pairs (Kop 2012 and Fuhs and Kop 2012, the reduction pair
+-- processor; the form is ours)
 pub record IsCovering (T : TaskData) (R : ReadingsData) (E : Evidence (List Transfer)) : Type 0 where
-  -- what is read are the system's symbols and the marked symbols of the set, in order, each by a polynomial that is normal in its scope
+  -- what is read are the system's symbols and the marked symbols of the set, in order, each by a polynomial that is
+  -- normal in its scope
   pub readings : AreReadingsFor T R
   pub normal : AreNormal T.symbols T.rules R
   -- moves show that no rule and no pair of the set grows, and that the dropped pairs shrink
   pub lines : IsReductionPair (by_moves T.symbols T.rules R) T E
 
--- the pairs of the list have typed and closed sides: with marks for its two symbols each has all that the evaluation of its sides
--- asks (ours)
+-- the pairs of the list have typed and closed sides: with marks for its two symbols each has all that the evaluation of
+-- its sides asks (ours)
 abbrev pub HaveTypedSides : Symbols → List RewriteRule → List PairData → Type 0
 HaveTypedSides S rules pairs =
     (marks : List Mark) (p : PairData) → Contains pairs p → HasMark marks p.left_fun → HasMark marks p.right_fun

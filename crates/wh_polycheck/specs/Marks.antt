@@ -1,4 +1,5 @@
--- Interpretations of marked symbols. In one list they stand behind those of the symbols, in the order in which they are given.
+-- Interpretations of marked symbols. In one list they stand behind those of the symbols, in the order in which they are
+-- given.
 use Rattle.std.specs.Prelude.{ℕ, suc, ◌+◌, ◌==◌, ◌≡◌, List, [], ◌∷◌, ◌++◌, length, map, take, unwrap_or, if◌then◌else◌, Bool, true, false, Contains}
 use Rattle.wh_types.specs.Ty.{Ty, sort, arguments}
 use Rattle.wh_terms.specs.Tree.{Tms, tms_of}
@@ -11,12 +12,14 @@ use Rattle.wh_poly.specs.Polynomials.{Polynomial, Normal}
 use Rattle.wh_hopoly.specs.Evaluation.{type_at, Interpretation, Norm, Values}
 use Rattle.wh_polycheck.specs.Sides.{arrows, types_of_metas, marked_expression}
 
--- what a marked symbol is read as: the number of the symbol, and a polynomial in the arguments of the marked one (Fuhs and Kop 2012)
+-- what a marked symbol is read as: the number of the symbol, and a polynomial in the arguments of the marked one (Fuhs
+-- and Kop 2012)
 pub record Mark : Type 0 where
   pub symbol : ℕ
   pub polynomial : Polynomial
 
--- the types of the arguments of the marked symbol of f: the first ones of its type, as many as the rules of f need (ours)
+-- the types of the arguments of the marked symbol of f: the first ones of its type, as many as the rules of f need
+-- (ours)
 abbrev pub marked_types : Symbols → List RewriteRule → ℕ → List Ty
 marked_types S rules f = take (unwrap_or (need_of rules f) 0) (arguments (type_at S.funs f))
 

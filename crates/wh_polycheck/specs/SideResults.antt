@@ -31,8 +31,8 @@ HasExcess IsValue (too_large k) = (w : Polynomial) × IsValue w × TooLarge w
 abbrev pub SideComesTo : List Interpretation → List Declared → Tm → Polynomial → Type 0
 SideComesTo symbols M t p = IsNormOfSide symbols M t p × ((w : Polynomial) → IsValueOfSide symbols M t w → Exceeds w → ⊥)
 
--- a value on the way to the side's normal form exceeds the limit that is named, and the rule of the part that is named gives one that
--- does (ours)
+-- a value on the way to the side's normal form exceeds the limit that is named, and the rule of the part that is named
+-- gives one that does (ours)
 abbrev pub IsFaultOfSide : List Interpretation → List Declared → Tm → PolyFault → Type 0
 IsFaultOfSide symbols M t e =
     HasExcess (IsValueOfSide symbols M t) e × IsFaultOf symbols (types_of_metas M) (side_expression M t) e

@@ -1,4 +1,5 @@
--- Sides of rules and of pairs as expressions in the scope of their meta-variables, and what it is that they are covered.
+-- Sides of rules and of pairs as expressions in the scope of their meta-variables, and what it is that they are
+-- covered.
 use Rattle.std.specs.Prelude.{ℕ, suc, ◌-◌, List, [], ◌∷◌, ◌++◌, length, ◌≡◌, Some, slice_get, Contains}
 use Rattle.wh_types.specs.Ty.{Ty, ◌⇒◌}
 use Rattle.wh_terms.specs.Tree.{Tm, bound, free, fun, meta, lam, app, Tms, none, more}
@@ -18,15 +19,15 @@ abbrev pub types_of_metas : List Declared → List Ty
 types_of_metas [] = []
 types_of_metas (d ∷ M) = arrows d.args d.out ∷ types_of_metas M
 
--- the scope of a side below binders: the rule's meta-variables, then the binders from the outside; the binders' types are listed nearest
--- first (ours)
+-- the scope of a side below binders: the rule's meta-variables, then the binders from the outside; the binders' types
+-- are listed nearest first (ours)
 abbrev pub side_scope : List Declared → List Ty → List Ty
 side_scope M [] = types_of_metas M
 side_scope M (a ∷ Γ) = side_scope M Γ ++ a ∷ []
 
 abbrev mutual
-  -- a side as an expression in a scope of length n: a meta-variable is a variable, applied to its arguments in turn, and `bound i` is
-  -- variable n - 1 - i; a side has no free variable (ours)
+  -- a side as an expression in a scope of length n: a meta-variable is a variable, applied to its arguments in turn,
+  -- and `bound i` is variable n - 1 - i; a side has no free variable (ours)
   pub side : ℕ → Tm → Expression
   side n (bound i) = var (n - 1 - i)
   side n (free x a) = var n

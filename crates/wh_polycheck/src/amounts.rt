@@ -1,5 +1,5 @@
-//! What the moves take from left monomials and bring to right ones. No memory is taken: the sums of `WIDTH` monomials at a time
-//! stand in an array, and each such array takes one walk over the moves.
+//! What the moves take from left monomials and bring to right ones. No memory is taken: the sums of `WIDTH` monomials
+//! at a time stand in an array, and each such array takes one walk over the moves.
 
 ghost use Rattle.std.specs.Prelude.{ℕ, ◌≡◌, ◌≤◌, ◌<◌, ◌+◌, ◌-◌, ◌^◌, ◌↔◌, IsTrue, MatchOption, get_or, length};
 ghost use Rattle.wh_poly.specs.Polynomials.{Factors};

@@ -14,10 +14,10 @@ use wh_poly::Poly;
 
 /// Whether the moves show that the left polynomial is at least the right one.
 ///
-/// Each move must be good: both its monomials are there, they have the same variables in order, and each argument on the left is
-/// at least the one on the right. No left monomial may give more than its coefficient, and each right one must get at least
-/// its coefficient. `Err` names the first test that fails, in this order; of the moves and of the monomials the first one. No
-/// memory is taken.
+/// Each move must be good: both its monomials are there, they have the same variables in order, and each argument on
+/// the left is at least the one on the right. No left monomial may give more than its coefficient, and each right one
+/// must get at least its coefficient. `Err` names the first test that fails, in this order; of the moves and of the
+/// monomials the first one. No memory is taken.
 pub fn check_weak(left: &Poly, right: &Poly, moves: &[Move]) -> Result<(), CoverFault>
     requires left { IsNormal (poly left.now) }
     requires right { IsNormal (poly right.now) }
@@ -40,8 +40,8 @@ pub fn check_weak(left: &Poly, right: &Poly, moves: &[Move]) -> Result<(), Cover
     }
 }
 
-/// Whether the moves show that the left polynomial is greater than the right one: besides, the left constant is there and gives
-/// less than its coefficient.
+/// Whether the moves show that the left polynomial is greater than the right one: besides, the left constant is there
+/// and gives less than its coefficient.
 pub fn check_strict(left: &Poly, right: &Poly, moves: &[Move]) -> Result<(), CoverFault>
     requires left { IsNormal (poly left.now) }
     requires right { IsNormal (poly right.now) }

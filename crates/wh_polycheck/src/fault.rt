@@ -3,8 +3,8 @@
 /// The first test that a list of moves fails.
 #[derive(Clone, Copy)]
 pub enum CoverFault {
-    /// A monomial of the move is not there, its two monomials have other variables, or an argument on the left is not at
-    /// least the one on the right.
+    /// A monomial of the move is not there, its two monomials have other variables, or an argument on the left is not
+    /// at least the one on the right.
     BadMove {
         /// The number of the move, from 0.
         entry: u32,

@@ -1,5 +1,5 @@
-//! The checks of covers: sides of rules and of pairs as polynomials, and whether moves between the monomials of two polynomials
-//! show that one is at least the other.
+//! The checks of covers: sides of rules and of pairs as polynomials, and whether moves between the monomials of two
+//! polynomials show that one is at least the other.
 #![tactic(auto)]
 
 mod amounts;

@@ -32,11 +32,11 @@ use wh_system::System;
 use wh_terms::{Metas, Term, Terms};
 use wh_types::{Or, counted};
 
-/// The normal form of the right side of a rule, or of its left side, in the scope of the rule's meta-variables and of the
-/// arguments of its type, where symbols are read as `readings` say (Fuhs and Kop 2012).
+/// The normal form of the right side of a rule, or of its left side, in the scope of the rule's meta-variables and of
+/// the arguments of its type, where symbols are read as `readings` say (Fuhs and Kop 2012).
 ///
-/// `Err` comes only where some value in the evaluation exceeds the limit that it names, and `Ok` only where none exceeds one. The
-/// part that it names is one of the side as an expression, counted in preorder from 0.
+/// `Err` comes only where some value in the evaluation exceeds the limit that it names, and `Ok` only where none
+/// exceeds one. The part that it names is one of the side as an expression, counted in preorder from 0.
 pub fn side_of_rule<'a>(
     alloc: Global,
     system: &System,
@@ -79,8 +79,8 @@ fn normal_of_side(
     normal(alloc, &expression, scope.as_slice(), symbols)
 }
 
-/// The normal form of the right side of a pair, or of its left side, in the scope of the pair's meta-variables, where symbols and
-/// marked symbols are read as `readings` say (Fuhs and Kop 2012). `Ok` and `Err` as for a rule.
+/// The normal form of the right side of a pair, or of its left side, in the scope of the pair's meta-variables, where
+/// symbols and marked symbols are read as `readings` say (Fuhs and Kop 2012). `Ok` and `Err` as for a rule.
 pub fn side_of_pair<'a>(
     alloc: Global,
     system: &System,
@@ -117,8 +117,8 @@ pub fn side_of_pair<'a>(
     }
 }
 
-// The normal form of a marked symbol with arguments over the meta-variables. Its polynomial is not copied: it stands alone behind
-// the symbols.
+// The normal form of a marked symbol with arguments over the meta-variables. Its polynomial is not copied: it stands
+// alone behind the symbols.
 fn normal_of_marked<'a>(
     alloc: Global,
     system: &System,

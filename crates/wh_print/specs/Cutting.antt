@@ -4,8 +4,8 @@ use Rattle.wh_text.specs.Chars.{is_part, Stops}
 use Rattle.wh_text.specs.Tokens.{Token, whole, Cuts}
 use Rattle.wh_read.specs.Spelled.{Placed, placed}
 
--- from the place `at` on, what is put before r is cut into tokens that are put before those of r, which begins at the place
--- `end`; r may be any bytes of which `fits` holds
+-- from the place `at` on, what is put before r is cut into tokens that are put before those of r, which begins at the
+-- place `end`; r may be any bytes of which `fits` holds
 pub record Cutting (fits : List ℕ → Type 0) (at end : ℕ) (put : List ℕ → List ℕ) (put_tokens : List Placed → List Placed) : Type 0 where
   pub cut : (r : List ℕ) (ts : List Token) → fits r → Cuts end r ts whole
       → (us : List Token) × Cuts at (put r) us whole × (map placed us ≡ put_tokens (map placed ts))

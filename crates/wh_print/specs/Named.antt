@@ -6,7 +6,8 @@ use Rattle.wh_pairs.specs.PairData.{PairData}
 use Rattle.wh_print.specs.PairText.{names_of_pair}
 
 -- the rule has names for its own meta-variables, which come first in the pair; there are names for the symbols of both
--- sides, for all that stands in their arguments, and for the meta-variable of each condition, which is the rule's own (ours)
+-- sides, for all that stands in their arguments, and for the meta-variable of each condition, which is the rule's own
+-- (ours)
 pub record IsNamedPair (d : SystemData) (p : PairData) : Type 0 where
   pub rule : p.rule < length d.meta_names
   pub own : length (get_or d.meta_names p.rule []) ≤ length p.metas

@@ -5,8 +5,8 @@ use Rattle.wh_types.specs.Limits.{greatest_number, deepest_term, deepest_type}
 use Rattle.wh_text.specs.Words.{IsName}
 use Rattle.wh_text.specs.RawTree.{RTy, raw_type, RTys, no_types, more_types, named_binder, numbered_binder, RTm, named, numbered, free_variable, meta, lam, spine, RTms, none, more}
 
--- within j open parentheses of types: a type by itself, and as a part of something else, where a functional type opens a
--- parenthesis
+-- within j open parentheses of types: a type by itself, and as a part of something else, where a functional type opens
+-- a parenthesis
 abbrev mutual
   pub IsSpelledType : ℕ → RTy → Type 0
   IsSpelledType j (raw_type args sort at) = AreSpelledParts j args × IsName sort
@@ -25,8 +25,8 @@ abbrev pub IsNoSpine : RTm → Type 0
 IsNoSpine (spine h ts at) = ⊥
 IsNoSpine t = Unit {0}
 
--- within k levels of terms: a spine has arguments and no spine as its head, a meta-application has arguments, and the binder
--- of an abstraction is a number; an abstraction takes a level for its parenthesis and one for itself
+-- within k levels of terms: a spine has arguments and no spine as its head, a meta-application has arguments, and the
+-- binder of an abstraction is a number; an abstraction takes a level for its parenthesis and one for itself
 abbrev mutual
   pub IsSpelledTerm : ℕ → RTm → Type 0
   IsSpelledTerm k (named n at) = IsName n

@@ -1,5 +1,5 @@
-//! The names of what stands in a rule or in a dependency pair. The first meta-variables of a pair are those of its rule, and
-//! have their names; the others are fresh, and are named by `?` and a number. No name of a system begins so.
+//! The names of what stands in a rule or in a dependency pair. The first meta-variables of a pair are those of its
+//! rule, and have their names; the others are fresh, and are named by `?` and a number. No name of a system begins so.
 
 ghost use Rattle.std.specs.Prelude.{◌≡◌, ◌<◌, ◌++◌, OnOk, IfOk, length};
 ghost use Rattle.wh_system.specs.Canonical.{name_at};

@@ -22,8 +22,9 @@ use wh_terms::{Term, Terms};
 use wh_text::print_number;
 use wh_types::{Bytes, counted};
 
-/// The text of the dependency pairs of a system: their number, and a line for each, with the number of the pair, the number
-/// of its rule, its sides and its conditions. Pairs and rules are counted from 0, as is each fresh meta-variable of a pair.
+/// The text of the dependency pairs of a system: their number, and a line for each, with the number of the pair, the
+/// number of its rule, its sides and its conditions. Pairs and rules are counted from 0, as is each fresh meta-variable
+/// of a pair.
 pub fn print_pairs(alloc: Global, system: &System, pairs: &PairList) -> Result<Bytes, AllocError>
     requires { ArePairs (candidates (system_data system.now).symbols (system_data system.now).rules) (pairs_data pairs.now) }
     ensures { IfOk result (λ text. text ≡ pairs_text (system_data system.now) (pairs_data pairs.now)) }

@@ -1,8 +1,8 @@
-//! Printing the terms of rules and of dependency pairs, in one walk over each tree, which counts the binders that it has
-//! passed.
+//! Printing the terms of rules and of dependency pairs, in one walk over each tree, which counts the binders that it
+//! has passed.
 //!
-//! `print_tree` is the one to call. A spine stands in parentheses: `print_front` goes down its functions, and appends the
-//! head and then each argument on the way back.
+//! `print_tree` is the one to call. A spine stands in parentheses: `print_front` goes down its functions, and appends
+//! the head and then each argument on the way back.
 
 ghost use Rattle.std.specs.Prelude.{◌∷◌, OnOk, length};
 ghost use Rattle.wh_types.specs.Ty.{SortsBelow};

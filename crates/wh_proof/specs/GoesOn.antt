@@ -9,7 +9,8 @@ use Rattle.wh_proof.specs.Proves.{Proves}
 use Rattle.wh_proof.specs.Looked.{SaysNode, SayNodes}
 use Rattle.wh_proof.specs.Small.{IsSmallNode, AreSmall}
 
--- the lines of a node say one whose conditions hold of the set and which is small, and what it leaves comes before the other sets
+-- the lines of a node say one whose conditions hold of the set and which is small, and what it leaves comes before the
+-- other sets
 pub record GoesOn (d : SystemData) (ps : List PairData) (set : List ℕ) (line : w.Node) (sets after : List (List ℕ)) : Type 0 where
   pub node : Node
   pub left : List (List ℕ)

@@ -18,9 +18,9 @@ use Rattle.wh_inference.specs.Inferences.{Inference}
 use Rattle.wh_ordering.specs.Filterings.{FilteringData}
 use Rattle.wh_ordering.specs.Ordering.{IsOrdering}
 
--- a node of a proof: there is no pair; the one pair may not follow itself; the pairs fall into blocks; arguments get smaller;
--- none of the covered rules and no pair grows under interpretations, and some pairs shrink; no rule and no pair grows in a path order
--- behind argument filters, and some pairs shrink (Kop 2012; Fuhs and Kop 2012 and 2019)
+-- a node of a proof: there is no pair; the one pair may not follow itself; the pairs fall into blocks; arguments get
+-- smaller; none of the covered rules and no pair grows under interpretations, and some pairs shrink; no rule and no
+-- pair grows in a path order behind argument filters, and some pairs shrink (Kop 2012; Fuhs and Kop 2012 and 2019)
 pub data Node : Type 0 where
   done alone : Node
   blocks : (parts : List (List ℕ)) → Node
@@ -34,8 +34,8 @@ pub data AreSetsOf : List (List ℕ) → List (List ℕ) → Type 0 where
   more_sets : {part set : List ℕ} {parts sets : List (List ℕ)} → IsSetOf (Contains part) set → AreSetsOf parts sets
       → AreSetsOf (part ∷ parts) (set ∷ sets)
 
--- `Leaves S rules pairs set node sets`: the conditions of the node hold of the set of pairs, and what is left to be proved are
--- the sets, in order (Kop 2012, processors; Fuhs and Kop 2012 and 2019; the form is ours)
+-- `Leaves S rules pairs set node sets`: the conditions of the node hold of the set of pairs, and what is left to be
+-- proved are the sets, in order (Kop 2012, processors; Fuhs and Kop 2012 and 2019; the form is ours)
 pub data Leaves (S : Symbols) (rules : List RewriteRule) (pairs : List PairData) : List ℕ → Node → List (List ℕ) → Type 0 where
   by_done : Leaves S rules pairs [] done []
   by_alone : {a : ℕ} → (Follows rules pairs a a → ⊥) → Leaves S rules pairs (a ∷ []) alone []

@@ -5,8 +5,8 @@ use Rattle.wh_terms.specs.Rules.{RewriteRule}
 use Rattle.wh_pairs.specs.PairData.{PairData}
 use Rattle.wh_proof.specs.Nodes.{Node, Leaves}
 
--- `Proves S rules pairs sets nodes`: the nodes, in preorder, prove the sets, one after another; what a node leaves comes before
--- the sets behind its own (ours)
+-- `Proves S rules pairs sets nodes`: the nodes, in preorder, prove the sets, one after another; what a node leaves
+-- comes before the sets behind its own (ours)
 pub data Proves (S : Symbols) (rules : List RewriteRule) (pairs : List PairData) : List (List ℕ) → List Node → Type 0 where
   all_proved : Proves S rules pairs [] []
   one_proved : {set : List ℕ} {left sets : List (List ℕ)} {node : Node} {nodes : List Node} → Leaves S rules pairs set node left

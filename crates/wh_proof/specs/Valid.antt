@@ -12,8 +12,8 @@ use Rattle.wh_proof.specs.Proves.{Proves}
 use Rattle.wh_proof.specs.Looked.{SayNodes}
 use Rattle.wh_proof.specs.Small.{IsSmallYes}
 
--- a YES certificate with these parts is valid: the system is passing under its ranks, its count of the pairs is right, and
--- its nodes prove the set of all pairs (Kop 2012; Fuhs and Kop 2012 and 2019; the form is ours)
+-- a YES certificate with these parts is valid: the system is passing under its ranks, its count of the pairs is right,
+-- and its nodes prove the set of all pairs (Kop 2012; Fuhs and Kop 2012 and 2019; the form is ours)
 pub record IsValidYes (d : SystemData) (ps : List PairData) (ranks : List ℕ) (pairs : ℕ) (lines : List w.Node) : Type 0 where
   pub rank_count : length ranks ≡ d.symbols.sorts
   pub passing : IsPassing d ranks

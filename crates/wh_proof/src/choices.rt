@@ -14,8 +14,8 @@ use wh_subterm::{Choice, Projection};
 use wh_system::System;
 use wh_text::Name;
 
-/// The choices that the lines say, by one walk over the names of the symbols; `None` where none whose symbols are in order of
-/// declaration are said.
+/// The choices that the lines say, by one walk over the names of the symbols; `None` where none whose symbols are in
+/// order of declaration are said.
 pub fn choices_of(
     alloc: Global,
     system: &System,

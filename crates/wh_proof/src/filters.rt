@@ -1,5 +1,5 @@
-//! What the lines `fun` and `mark` of a node of a path order say: argument filters of all symbols, and of the marked symbols of a set.
-//! The names in them are compared in order, and the filters copied. Such lines are also made here.
+//! What the lines `fun` and `mark` of a node of a path order say: argument filters of all symbols, and of the marked
+//! symbols of a set. The names in them are compared in order, and the filters copied. Such lines are also made here.
 
 ghost use Rattle.std.specs.Prelude.{◌≡◌, ◌<◌, All, IfOk, List, MatchOption, Some, length, map, slice_get};
 ghost use Rattle.wh_pairs.specs.Marked.{AreMarked};
@@ -21,7 +21,8 @@ use wh_system::System;
 use wh_text::Name;
 use wh_types::Numbers;
 
-/// The filters of all symbols and of the marked symbols of the set that the lines `fun` and `mark` say; `None` where they say none.
+/// The filters of all symbols and of the marked symbols of the set that the lines `fun` and `mark` say; `None` where
+/// they say none.
 pub fn filters_of_lines(
     alloc: Global,
     system: &System,

@@ -1,5 +1,5 @@
-//! What the lines `fun` and `mark` of a node say: interpretations of all symbols, and of the marked symbols of a set. The names in
-//! them are compared in order, and the polynomials copied.
+//! What the lines `fun` and `mark` of a node say: interpretations of all symbols, and of the marked symbols of a set.
+//! The names in them are compared in order, and the polynomials copied.
 
 ghost use Rattle.std.specs.Prelude.{◌≡◌, ◌<◌, All, IfOk, List, MatchOption, length, map};
 ghost use Rattle.wh_types.specs.Erase.{ty, tys};

@@ -1,6 +1,6 @@
-//! What a termination proof is: its nodes with their names looked up, what each asks of the set of pairs that it works on, and the sets
-//! that it leaves. Here the lines of a certificate are looked up to a node, and a node's lines are made; the search and the check share
-//! both.
+//! What a termination proof is: its nodes with their names looked up, what each asks of the set of pairs that it works
+//! on, and the sets that it leaves. Here the lines of a certificate are looked up to a node, and a node's lines are
+//! made; the search and the check share both.
 #![tactic(auto)]
 
 mod blocks;

@@ -11,8 +11,8 @@ use wh_system::System;
 use wh_types::Numbers;
 use wh_usable::are_rules_in_order;
 
-/// The numbers of the rules that a node with this list is to cover: those of the list, or all rules where there is none; `None` where
-/// the list is not one of rules, each above the one before.
+/// The numbers of the rules that a node with this list is to cover: those of the list, or all rules where there is
+/// none; `None` where the list is not one of rules, each above the one before.
 pub fn rules_to_cover(
     alloc: Global,
     system: &System,

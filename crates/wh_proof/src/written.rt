@@ -1,4 +1,5 @@
-//! The lines that a certificate has for choices and for interpretations: the names of their symbols stand for the numbers.
+//! The lines that a certificate has for choices and for interpretations: the names of their symbols stand for the
+//! numbers.
 
 ghost use Rattle.std.specs.Prelude.{◌≡◌, ◌<◌, ◌≤◌, All, IfOk, Some, length, map, slice_get};
 ghost use Rattle.wh_types.specs.Limits.{greatest_number};

@@ -52,8 +52,8 @@ pub record IsProof (d : SystemData) (ps : List PairData) (c : Cert) : Type 0 whe
 abbrev pub HasRanks : SystemData → Type 0
 HasRanks d = (ranks : List ℕ) × (length ranks ≡ d.symbols.sorts) × IsPassing d ranks
 
--- no projection, no interpretation and no path order of the spaces lets a pair go of a knot that the search comes to, under some ranks;
--- so clauses may be learnt at all (ours)
+-- no projection, no interpretation and no path order of the spaces lets a pair go of a knot that the search comes to,
+-- under some ranks; so clauses may be learnt at all (ours)
 pub record IsStuck (d : SystemData) (ps : List PairData) (tries : ℕ) (set : List ℕ) : Type 0 where
   pub ranks : HasRanks d
   pub searched : 0 < tries
@@ -62,14 +62,15 @@ pub record IsStuck (d : SystemData) (ps : List PairData) (tries : ℕ) (set : Li
   pub no_interpretation : HasNoInterpretation (task_of d ps set)
   pub no_order : HasNoOrder (task_of d ps set)
 
--- the search for a projection of a knot that the search comes to learnt as many clauses as it may, which are shown (ours)
+-- the search for a projection of a knot that the search comes to learnt as many clauses as it may, which are shown
+-- (ours)
 pub record IsSpentOn (d : SystemData) (ps : List PairData) (tries : ℕ) (set : List ℕ) (list : List (List Literal)) : Type 0 where
   pub ranks : HasRanks d
   pub ended : Ended d ps set
   pub spent : IsSpent d.rules ps set tries list
 
--- no projection lets a pair go of a knot that the search comes to, and the search for interpretations made as many clauses as it may,
--- which are shown (ours)
+-- no projection lets a pair go of a knot that the search comes to, and the search for interpretations made as many
+-- clauses as it may, which are shown (ours)
 pub record IsTriedOn (d : SystemData) (ps : List PairData) (tries : ℕ) (set : List ℕ) (list : List (List Literal)) : Type 0 where
   pub ranks : HasRanks d
   pub searched : 0 < tries
@@ -77,8 +78,8 @@ pub record IsTriedOn (d : SystemData) (ps : List PairData) (tries : ℕ) (set : 
   pub no_projection : HasNoProjection d.rules ps set
   pub spent : tried.IsSpent d ps set tries list
 
--- no projection and no interpretation lets a pair go of a knot that the search comes to, and the search for path orders made as many
--- clauses as it may, which are shown (ours)
+-- no projection and no interpretation lets a pair go of a knot that the search comes to, and the search for path orders
+-- made as many clauses as it may, which are shown (ours)
 pub record AreOrdersTriedOn (d : SystemData) (ps : List PairData) (tries : ℕ) (set : List ℕ) (list : List (List Literal)) : Type 0 where
   pub ranks : HasRanks d
   pub searched : 0 < tries
@@ -87,8 +88,8 @@ pub record AreOrdersTriedOn (d : SystemData) (ps : List PairData) (tries : ℕ) 
   pub no_interpretation : HasNoInterpretation (task_of d ps set)
   pub spent : ordered.IsSpent d ps set tries list
 
--- why there is no proof of termination: there are no ranks; nothing lets a pair of a set go; or a search for what does was given up
--- (ours)
+-- why there is no proof of termination: there are no ranks; nothing lets a pair of a set go; or a search for what does
+-- was given up (ours)
 abbrev pub HasNoProof : SystemData → List PairData → ℕ → Cause → Type 0
 HasNoProof d ps tries (NoRanks cause) = IsCause d cause
 HasNoProof d ps tries (Stuck set) = IsStuck d ps tries set
@@ -109,8 +110,9 @@ IsFull d o list = AreVisited d o.depth o.visited list
 abbrev pub FoundNoLoop : SystemData → Options → Type 0
 FoundNoLoop d o = HasNoLoops d o ⊎ ((list : List Arrival) × IsFull d o list)
 
--- why the search gave up: there are no ranks; it ended on a set of which nothing lets a pair go, and there are no loops; the search
--- for what lets one go was given up; or it ended on such a set, and the search for loops is full, which outweighs only that (ours)
+-- why the search gave up: there are no ranks; it ended on a set of which nothing lets a pair go, and there are no
+-- loops; the search for what lets one go was given up; or it ended on such a set, and the search for loops is full,
+-- which outweighs only that (ours)
 abbrev pub IsReason : SystemData → List PairData → Options → Cause → Type 0
 IsReason d ps o (NoRanks cause) = IsCause d cause × FoundNoLoop d o
 IsReason d ps o (Stuck set) = IsStuck d ps o.tries set × HasNoLoops d o

@@ -32,7 +32,8 @@ IsAloneUnder E set = (a : ℕ) × (set ≡ a ∷ []) × (E a a → ⊥)
 abbrev pub IsAlone : List RewriteRule → List PairData → List ℕ → Type 0
 IsAlone rules pairs set = IsAloneUnder (Follows rules pairs) set
 
--- what the graph settles nothing of: a set that is not empty and is one component, and not one pair that may not follow itself
+-- what the graph settles nothing of: a set that is not empty and is one component, and not one pair that may not follow
+-- itself
 pub record IsKnot (rules : List RewriteRule) (pairs : List PairData) (set : List ℕ) : Type 0 where
   pub some : set ≢ []
   pub one : IsOneComponent rules pairs set
@@ -42,10 +43,10 @@ pub record IsKnot (rules : List RewriteRule) (pairs : List PairData) (set : List
 abbrev pub HasNoProjection : List RewriteRule → List PairData → List ℕ → Type 0
 HasNoProjection rules pairs set = (args : List Chosen) (drop : List ℕ) → IsProjection rules pairs set args drop → ⊥
 
--- the search comes to the set of all pairs; from a set with several components to each of them; from a knot to what a projection
--- leaves of it that lets some pair go and drops all pairs that are below; where no projection lets one go, to what any
--- interpretation leaves of it that covers a list of rules which is closed for it; and, where no interpretation of the space lets one
--- go, either, to what a path order leaves of it (ours)
+-- the search comes to the set of all pairs; from a set with several components to each of them; from a knot to what a
+-- projection leaves of it that lets some pair go and drops all pairs that are below; where no projection lets one go,
+-- to what any interpretation leaves of it that covers a list of rules which is closed for it; and, where no
+-- interpretation of the space lets one go, either, to what a path order leaves of it (ours)
 pub data Arrives (d : SystemData) (pairs : List PairData) : List ℕ → Type 0 where
   at_all : {set : List ℕ} → IsWhole pairs set → Arrives d pairs set
   at_component : {set part component : List ℕ} {parts : List (List ℕ)} → Arrives d pairs set

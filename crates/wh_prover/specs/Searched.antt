@@ -25,8 +25,8 @@ pub record AreSearched (d : SystemData) (funs marks : List Interp) (rules pairs 
   pub rules_apart : All AreApart (map transfers rules)
   pub pairs_apart : All AreApart (map transfers pairs)
 
--- the lines say a proper filter of each symbol and of each marked one, with a precedence below the number of these together, and
--- inferences that are within the limits of lines (ours)
+-- the lines say a proper filter of each symbol and of each marked one, with a precedence below the number of these
+-- together, and inferences that are within the limits of lines (ours)
 pub record AreOrders (d : SystemData) (funs marks : List w.Filtering) (rules pairs : List Inference) : Type 0 where
   pub filtering : FilteringData
   pub says : SayFilterings d funs marks filtering
@@ -37,7 +37,8 @@ pub record AreOrders (d : SystemData) (funs marks : List w.Filtering) (rules pai
   pub rules_within : All IsWithin rules
   pub pairs_within : All IsWithin pairs
 
--- so it is of a node of interpretations, whatever rules it lists, and of one of a path order; of any other nothing is asked
+-- so it is of a node of interpretations, whatever rules it lists, and of one of a path order; of any other nothing is
+-- asked
 abbrev pub IsSearched : SystemData → w.Node → Type 0
 IsSearched d (w.interpretations usable funs marks rules pairs drop) = AreSearched d funs marks rules pairs
 IsSearched d (w.order funs marks rules pairs drop) = AreOrders d funs marks rules pairs

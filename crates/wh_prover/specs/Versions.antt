@@ -5,7 +5,8 @@ use Rattle.wh_cert.specs.Written.{Node, interpretations, order, Cert, yes, no}
 use Rattle.wh_interpreting.specs.Fewer.{HasFewer}
 use Rattle.wh_prover.specs.Searched.{IsSearched}
 
--- no node of the first version says the same: it is one of interpretations that lists not all rules, or one of a path order (ours)
+-- no node of the first version says the same: it is one of interpretations that lists not all rules, or one of a path
+-- order (ours)
 abbrev pub NeedsSecond : SystemData → Node → Type 0
 NeedsSecond d (interpretations (Some listed) funs marks rules pairs drop) = HasFewer d listed
 NeedsSecond d (order funs marks rules pairs drop) = Unit {0}

@@ -58,8 +58,8 @@ dropped_by (w.interpretations usable funs marks rules pairs drop) = drop
 dropped_by (w.order funs marks rules pairs drop) = drop
 dropped_by _ = []
 
--- a node for the set joins the lines: its conditions hold, what it leaves comes before the other sets, and its lines are within
--- the limits of certificates; the search comes to what it leaves, and that weighs less than the set (ours)
+-- a node for the set joins the lines: its conditions hold, what it leaves comes before the other sets, and its lines
+-- are within the limits of certificates; the search comes to what it leaves, and that weighs less than the set (ours)
 pub record Adds (d : SystemData) (ps : List PairData) (set : List ℕ) (sets after : List (List ℕ))
     (lines longer : List w.Node) : Type 0 where
   pub line : w.Node

@@ -33,8 +33,9 @@ pub enum Answer {
 pub enum Cause {
     /// The system is passing under no ranks.
     NoRanks(NoRanks),
-    /// The search came to this set, of which the graph settles nothing, and no projection, no interpretation and no path order of the
-    /// spaces lets a pair go. There is no loop of at most `depth` steps in the space, and fewer terms are reached than may be kept.
+    /// The search came to this set, of which the graph settles nothing, and no projection, no interpretation and no
+    /// path order of the spaces lets a pair go. There is no loop of at most `depth` steps in the space, and fewer terms
+    /// are reached than may be kept.
     Stuck(PairSet),
     /// A finder ended on a set without an answer.
     Spent {
@@ -45,8 +46,8 @@ pub enum Cause {
         /// The clauses that it made, as many as it may.
         list: Clauses,
     },
-    /// No projection, no interpretation and no path order lets a pair of some set go, and the search for loops kept as many terms as it
-    /// may, which are shown.
+    /// No projection, no interpretation and no path order lets a pair of some set go, and the search for loops kept as
+    /// many terms as it may, which are shown.
     Full(Visits),
 }
 

@@ -1,5 +1,5 @@
-//! The search for a proof of termination: a tree of nodes by the graph of pairs, by projections and by interpretations; else for a loop;
-//! or why there is neither.
+//! The search for a proof of termination: a tree of nodes by the graph of pairs, by projections and by interpretations;
+//! else for a loop; or why there is neither.
 #![tactic(auto)]
 
 mod answer;

@@ -23,16 +23,16 @@ use wh_system::System;
 use wh_types::{Or, Ranks};
 use wh_versions::certificate_of;
 
-// How many terms a first, short search for loops keeps at most. It comes before the search for a proof, which may take long where
-// there is a loop.
+// How many terms a first, short search for loops keeps at most. It comes before the search for a proof, which may take
+// long where there is a loop.
 const FIRST_VISITED: u32 = 50;
 
 /// A proof that every well-typed term of the system is bounded, or a loop, or why the search gave up.
 ///
-/// `Yes` is a certificate that is valid and within the limits of its format, and no value exceeds a limit where it is checked. `No` is a
-/// certificate of a loop of at most `depth` steps from the left side of a rule. `Maybe` names a set on which the search
-/// ended, or why there are no ranks; it comes only where no loop was found: there is none of at most `depth` steps in the space and
-/// fewer terms are reached than `visited`, or the list of visited terms is full.
+/// `Yes` is a certificate that is valid and within the limits of its format, and no value exceeds a limit where it is
+/// checked. `No` is a certificate of a loop of at most `depth` steps from the left side of a rule. `Maybe` names a set
+/// on which the search ended, or why there are no ranks; it comes only where no loop was found: there is none of at
+/// most `depth` steps in the space and fewer terms are reached than `visited`, or the list of visited terms is full.
 pub fn prove(
     alloc: Global,
     system: &System,
@@ -106,7 +106,8 @@ fn prove_under(
     Ok(Ok(Certificate::Yes(certificate)))
 }
 
-// A loop, or why there is neither a proof nor a loop. A search for loops that is full outweighs only that nothing lets a pair go.
+// A loop, or why there is neither a proof nor a loop. A search for loops that is full outweighs only that nothing lets
+// a pair go.
 fn disprove(
     alloc: Global,
     system: &System,

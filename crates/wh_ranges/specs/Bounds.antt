@@ -29,7 +29,8 @@ pub record AreRanges (t : Task) (r : Ranges) : Type 0 where
 abbrev pub Has : List (List ℕ) → ℕ → ℕ → Type 0
 Has lists n j = j < length (get_or lists n [])
 
--- the second lists are the first ones with this value at one place, if they have it; all other coefficients are the same (ours)
+-- the second lists are the first ones with this value at one place, if they have it; all other coefficients are the
+-- same (ours)
 pub record IsSetTo (n j value : ℕ) (old new : List (List ℕ)) : Type 0 where
   pub sizes : (m : ℕ) → length (get_or new m []) ≡ length (get_or old m [])
   pub here : Has old n j → coefficient_in new n j ≡ value

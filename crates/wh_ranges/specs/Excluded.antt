@@ -22,8 +22,8 @@ pub record LieIn (low high lists : List (List ℕ)) : Type 0 where
   pub below : AreAtMost lists high
 
 module _ (T : TaskData) where
-  -- readings with these coefficients cover all rules that are to be covered and all pairs of the set, and the pair with this place in
-  -- the set strictly; past the end of the set no pair is asked to be (ours)
+  -- readings with these coefficients cover all rules that are to be covered and all pairs of the set, and the pair with
+  -- this place in the set strictly; past the end of the set no pair is asked to be (ours)
   pub record Fit (strict : ℕ) (lists : List (List ℕ)) (R : ReadingsData) : Type 0 where
     pub readings : AreReadingsFor T R
     pub coefficients : HaveCoefficients T lists R

@@ -10,8 +10,8 @@ use std::alloc::{AllocError, Global};
 use wh_guesses::{Guess, change_at, guess_by};
 use wh_reduction::Task;
 
-/// A coefficient: the number of the symbol, or behind all symbols of the marked symbol, that it belongs to, and the place of its
-/// monomial in the space.
+/// A coefficient: the number of the symbol, or behind all symbols of the marked symbol, that it belongs to, and the
+/// place of its monomial in the space.
 #[derive(Clone, Copy)]
 pub struct Coefficient {
     pub number: usize,
@@ -115,7 +115,8 @@ impl Bound {
         }
     }
 
-    /// The coefficient gets another value, and the guess is read anew; nothing changes where there is no such coefficient.
+    /// The coefficient gets another value, and the guess is read anew; nothing changes where there is no such
+    /// coefficient.
     pub fn set<'a>(
         &mut self,
         alloc: Global,

@@ -12,8 +12,8 @@ use crate::testing::{Goal, fails_at};
 use std::alloc::{AllocError, Global};
 use wh_reduction::Task;
 
-/// A coefficient at which ranges may be split: whether the condition is mended where it alone is at its upper end, and in how many
-/// conditions its list is used.
+/// A coefficient at which ranges may be split: whether the condition is mended where it alone is at its upper end, and
+/// in how many conditions its list is used.
 #[derive(Clone, Copy)]
 pub struct Candidate {
     at: Coefficient,
@@ -30,8 +30,8 @@ struct Failure<'a, 'b> {
     goal: Goal,
 }
 
-/// The coefficient at which the ranges are split: one on the left side of a condition that fails at the lower ends, since only more there
-/// can help. None where no condition is seen to fail, or no work is left.
+/// The coefficient at which the ranges are split: one on the left side of a condition that fails at the lower ends,
+/// since only more there can help. None where no condition is seen to fail, or no work is left.
 pub fn place_to_split<'a>(
     alloc: Global,
     task: &Task<'a>,
@@ -109,7 +109,8 @@ fn best_in_list<'a, 'b>(
     Ok(best)
 }
 
-// Whether the condition is not seen to fail where the coefficient is at its upper end, and all others are at their lower ends.
+// Whether the condition is not seen to fail where the coefficient is at its upper end, and all others are at their
+// lower ends.
 fn is_mended<'a, 'b>(
     alloc: Global,
     failure: &Failure<'a, 'b>,

@@ -49,7 +49,8 @@ pub fn narrow_all<'a>(
     Ok(false)
 }
 
-// Narrows the ranges by one condition: more is asked of what stands on its left side alone, less of what stands on its right side.
+// Narrows the ranges by one condition: more is asked of what stands on its left side alone, less of what stands on its
+// right side.
 fn narrow<'a>(
     alloc: Global,
     task: &Task<'a>,

@@ -1,4 +1,5 @@
-//! What guides the search in ranges: which conditions use what, and which of them wait to be looked at. Answers rest on none of this.
+//! What guides the search in ranges: which conditions use what, and which of them wait to be looked at. Answers rest on
+//! none of this.
 
 ghost use Rattle.wh_pairs.specs.Marked.{AreMarked};
 ghost use Rattle.wh_reduction.specs.TaskView.{task_data};
@@ -10,8 +11,8 @@ use std::collections::VecDeque;
 use wh_guesses::{Uses, uses_of};
 use wh_reduction::Task;
 
-/// What is used on the two sides of each condition, the conditions on whose left and on whose right side each number is used, and how
-/// often a condition is looked at at most.
+/// What is used on the two sides of each condition, the conditions on whose left and on whose right side each number is
+/// used, and how often a condition is looked at at most.
 #[derive(Drop)]
 pub struct Plan {
     pub uses: Vec<Uses>,
@@ -20,7 +21,8 @@ pub struct Plan {
     pub limit: u64,
 }
 
-/// The conditions that wait, each once, and how much work is left: a look at a condition, or more where its sides are large.
+/// The conditions that wait, each once, and how much work is left: a look at a condition, or more where its sides are
+/// large.
 #[derive(Drop)]
 pub struct Work {
     waiting: VecDeque<usize>,
@@ -59,8 +61,8 @@ impl Plan {
         }
     }
 
-    /// The conditions for which it matters that an end of what has the number was cut off: a lower one on right sides, an upper one on
-    /// left sides.
+    /// The conditions for which it matters that an end of what has the number was cut off: a lower one on right sides,
+    /// an upper one on left sides.
     pub fn touched_by(&self, number: usize, end: End) -> &[usize] {
         let holders = match end {
             End::Low => &self.on_right,

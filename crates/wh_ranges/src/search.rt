@@ -19,8 +19,8 @@ use wh_guesses::sizes_of;
 use wh_reduction::Task;
 use wh_space::MAX_COEFFICIENT;
 
-/// Whether ranges of coefficients show that no interpretation of the space lets a pair of the set go. The search ends after so much
-/// work, a look at a condition or more where its sides are large, and then shows nothing.
+/// Whether ranges of coefficients show that no interpretation of the space lets a pair of the set go. The search ends
+/// after so much work, a look at a condition or more where its sides are large, and then shows nothing.
 ///
 /// Each pair in turn is asked to be covered strictly.
 pub fn has_none<'a>(
@@ -58,7 +58,8 @@ fn whole(alloc: Global, sizes: &[usize]) -> Result<Span, AllocError>
     })
 }
 
-// Whether for none of the pairs of the set there are interpretations in the ranges that cover it strictly, and the others too.
+// Whether for none of the pairs of the set there are interpretations in the ranges that cover it strictly, and the
+// others too.
 fn none_is_strict<'a>(
     alloc: Global,
     task: &Task<'a>,
@@ -117,7 +118,8 @@ fn is_excluded<'a>(
     Ok(false)
 }
 
-// The two halves of the ranges join: the coefficient is at its lower end, or above it. Answers whether the range is open.
+// The two halves of the ranges join: the coefficient is at its lower end, or above it. Answers whether the range is
+// open.
 fn split(
     alloc: Global,
     spans: &mut Vec<Span>,

@@ -65,9 +65,9 @@ pub fn fails_at<'a>(
     Ok(false)
 }
 
-/// Whether numbers show that no readings with coefficients in the ranges meet the condition: that of a rule that is to be covered, or
-/// behind these that of a pair of the set, which is to be covered strictly if `strict` is its place in the set. Of any other number
-/// nothing is told.
+/// Whether numbers show that no readings with coefficients in the ranges meet the condition: that of a rule that is to
+/// be covered, or behind these that of a pair of the set, which is to be covered strictly if `strict` is its place in
+/// the set. Of any other number nothing is told.
 ///
 /// The left side is greatest where the coefficients are, and the right one least where they are least.
 pub fn is_out<'a>(
@@ -97,7 +97,8 @@ pub fn is_out<'a>(
     Ok(false)
 }
 
-// Whether the left side of the rule is worth too little under the upper readings for its right side under the lower ones.
+// Whether the left side of the rule is worth too little under the upper readings for its right side under the lower
+// ones.
 fn is_rule_out<'a, 'b>(
     alloc: Global,
     task: &Task<'a>,

@@ -66,7 +66,8 @@ AreAllLinked rules entries = All (IsLinked rules entries) entries
 abbrev pub AreMarked : List (List ℕ) → List Entry → Type 0
 AreMarked rows entries = (i : ℕ) (e : Entry) → slice_get entries i ≡ Some e → HasNumber rows (key_of (tree e)) i
 
--- what is known of the list: of each entry, how it was reached, that no two are the same, and where their numbers stand (ours)
+-- what is known of the list: of each entry, how it was reached, that no two are the same, and where their numbers stand
+-- (ours)
 pub record IsListing (d : SystemData) (level : ℕ) (l : Listing) : Type 0 where
   pub each : All (IsEntry d level) l.entries.items
   pub linked : AreAllLinked d.rules l.entries.items

@@ -1,5 +1,5 @@
--- The reader, token by token: what it holds behind some tokens of a system text, and how one more token changes that. It
--- is a machine with a stack for the terms that are open and one for the types (ours).
+-- The reader, token by token: what it holds behind some tokens of a system text, and how one more token changes that.
+-- It is a machine with a stack for the terms that are open and one for the types (ours).
 use Rattle.std.specs.Prelude.{ℕ, ◌+◌, nat_lt, length, List, [], ◌∷◌, ◌++◌, Option, None, Some, if◌then◌else◌}
 use Rattle.wh_types.specs.Limits.{deepest_term, deepest_type}
 use Rattle.wh_text.specs.RawTree.{RTy, raw_type, RTys, no_types, more_types, Binder, named_binder, numbered_binder, RTm, named, numbered, free_variable, meta, lam, spine, RTms, none, more}

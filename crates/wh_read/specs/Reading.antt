@@ -18,7 +18,8 @@ use Rattle.wh_read.specs.declared.fault.SyntaxFault.TheVariants as syntax_fault
 use Rattle.wh_read.specs.declared.reasons.Reason.TheVariants.{BadByte, BadNumber, NameTooLong, Syntax, UnknownName, Twice, IllTyped, NotPattern, OpenSide, NewMeta, HeadNotFun, UnevenRules, TooMany}
 use Rattle.wh_read.specs.declared.reasons.Refused.{Refused}
 
--- the bytes are cut into tokens that spell a system text, and what that says passes the tests of systems and is the system
+-- the bytes are cut into tokens that spell a system text, and what that says passes the tests of systems and is the
+-- system
 pub record Reads (bytes : List ℕ) (d : SystemData) : Type 0 where
   pub tokens : List Token
   pub cut : Cuts 0 bytes tokens whole

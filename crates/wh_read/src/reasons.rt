@@ -31,8 +31,8 @@ pub enum Reason {
     TooMany,
 }
 
-/// Why a text is refused, and where: the first reason in the order of the tests, which are those of tokens, then those of the
-/// grammar, then those of systems.
+/// Why a text is refused, and where: the first reason in the order of the tests, which are those of tokens, then those
+/// of the grammar, then those of systems.
 #[derive(Clone, Copy)]
 pub struct Refused {
     /// The reason.

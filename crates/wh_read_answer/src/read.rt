@@ -1,5 +1,5 @@
-//! An answer read back from its line: without the line feed it is cut at spaces, and the words tell the answer. The main function is
-//! `read_answer`.
+//! An answer read back from its line: without the line feed it is cut at spaces, and the words tell the answer. The
+//! main function is `read_answer`.
 
 ghost use Rattle.std.specs.Prelude.{◌≡◌, ◌≢◌, ◌∷◌, ◌++◌, [], List, ℕ, codes, IfOk, MatchOption};
 ghost use Rattle.wh_answer.specs.Stands.{Reads, Stands};

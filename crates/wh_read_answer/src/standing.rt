@@ -1,5 +1,5 @@
-//! That each report is one that can be read back: its numbers have 32 or 64 bits and its names are spelled as names, since their types
-//! say so. The main function is `report_stands`; the functions do nothing when they run.
+//! That each report is one that can be read back: its numbers have 32 or 64 bits and its names are spelled as names,
+//! since their types say so. The main function is `report_stands`; the functions do nothing when they run.
 
 ghost use Rattle.std.specs.Prelude.{◌<◌, ◌^◌};
 ghost use Rattle.wh_text.specs.Words.{IsWord};
@@ -10,7 +10,8 @@ use wh_answer::{NamedCause, NamedRejection, Report};
 use wh_text::Name;
 use wh_types::List;
 
-/// Each report is one that `read_answer` gives where it is given the report's line: no number and no name of it is one that no line has.
+/// Each report is one that `read_answer` gives where it is given the report's line: no number and no name of it is one
+/// that no line has.
 pub fn report_stands(report: &Report)
     ensures { Stands report.now }
 {

@@ -62,8 +62,8 @@ fn end_of(
 /// The term reduced by its leftmost-outermost steps, at most as many as are asked for. A step whose result does not fit
 /// is not taken, and ends the reduction.
 ///
-/// The term is copied once, and each step is taken in the copy. The next one is looked for from the place of the last: no
-/// redex is to the left of it, and those above it are looked at first.
+/// The term is copied once, and each step is taken in the copy. The next one is looked for from the place of the last:
+/// no redex is to the left of it, and those above it are looked at first.
 pub fn reduce(alloc: Global, rules: &[Rule], term: &Term, steps: u32) -> Result<Reduced, AllocError>
     requires well_made { (S : Symbols) × AreWellMade S (rewrite_rules rules.now) }
     requires fits { Fits (tm term.now) }

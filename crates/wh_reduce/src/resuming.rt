@@ -1,7 +1,7 @@
 //! The search for the next redex of a term, from the place of the last step on.
 //!
-//! A step changes nothing to the left of its place, and there was no redex there. So only what stands above the place, at
-//! it and to the right of it is looked at.
+//! A step changes nothing to the left of its place, and there was no redex there. So only what stands above the place,
+//! at it and to the right of it is looked at.
 
 ghost use Rattle.std.specs.Prelude.{IfOk, MatchOption};
 ghost use Rattle.wh_terms.specs.Typing.{Symbols};

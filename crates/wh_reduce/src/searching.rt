@@ -1,7 +1,7 @@
 //! The search for the leftmost-outermost step of a term.
 //!
-//! The walk goes over the term in the order of its redexes, and stops at the first. It takes memory only for matching and
-//! for what it finds.
+//! The walk goes over the term in the order of its redexes, and stops at the first. It takes memory only for matching
+//! and for what it finds.
 
 ghost use Rattle.std.specs.Prelude.{◌≡◌, ◌∷◌, [], ◌<◌, All, reverse, IfOk, MatchOption};
 ghost use Rattle.wh_types.specs.Erase.{ty};
@@ -92,7 +92,8 @@ fn as_step(alloc: Global, found: Found) -> Result<Step, AllocError>
     })
 }
 
-/// The leftmost-outermost step of a term that has no redex to the left of the place; `None` exactly where it has no reduct.
+/// The leftmost-outermost step of a term that has no redex to the left of the place; `None` exactly where it has no
+/// reduct.
 pub fn next_step(
     alloc: Global,
     rules: &[Rule],

@@ -1,8 +1,8 @@
 //! A step of a term, taken in place.
 //!
-//! The step is replayed on the term along its path, where one symbol stands for all that is beside the path. That tells all
-//! that can pass a limit but the size of the whole, which goes along as a number. So a step costs its path, its redex and
-//! its contractum, however large the term is.
+//! The step is replayed on the term along its path, where one symbol stands for all that is beside the path. That tells
+//! all that can pass a limit but the size of the whole, which goes along as a number. So a step costs its path, its
+//! redex and its contractum, however large the term is.
 
 ghost use Rattle.std.specs.Prelude.{◌≡◌, IfOk};
 ghost use Rattle.wh_terms.specs.Tree.{Tm};

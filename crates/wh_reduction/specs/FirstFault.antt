@@ -1,5 +1,5 @@
--- What is wrong first with lines: with those of the rules in order, then with those of the pairs of the set in order. What can be wrong
--- with a line is a parameter.
+-- What is wrong first with lines: with those of the rules in order, then with those of the pairs of the set in order.
+-- What can be wrong with a line is a parameter.
 use Rattle.std.specs.Prelude.{ℕ, ◌<◌, ◌≡◌, ◌≢◌, ◌⊎◌, List, Some, length, Bool, slice_get}
 use Rattle.wh_terms.specs.Rules.{RewriteRule}
 use Rattle.wh_pairs.specs.PairData.{PairData}

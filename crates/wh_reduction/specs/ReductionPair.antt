@@ -1,5 +1,5 @@
--- When lines show that the pairs of a list may be dropped from a set: no rule that is to be covered and no pair of the set grows, and
--- these pairs shrink. What a line is made of, and what it shows, are parameters.
+-- When lines show that the pairs of a list may be dropped from a set: no rule that is to be covered and no pair of the
+-- set grows, and these pairs shrink. What a line is made of, and what it shows, are parameters.
 use Rattle.std.specs.Prelude.{ℕ, ◌≡◌, ◌≢◌, List, [], Some, length, All, Bool, Contains, slice_get}
 use Rattle.wh_terms.specs.Rules.{RewriteRule}
 use Rattle.wh_pairs.specs.PairData.{PairData}

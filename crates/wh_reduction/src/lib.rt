@@ -1,5 +1,5 @@
-//! The reduction pair processor, whatever orders the terms: what is to be shown of a set of dependency pairs, when lines show it,
-//! and what is wrong with them first.
+//! The reduction pair processor, whatever orders the terms: what is to be shown of a set of dependency pairs, when
+//! lines show it, and what is wrong with them first.
 #![tactic(auto)]
 
 mod task;

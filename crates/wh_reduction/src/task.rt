@@ -8,7 +8,8 @@ use std::alloc::{AllocError, Global};
 use wh_pairs::Pair;
 use wh_system::System;
 
-/// A set of the dependency pairs of a system, of which some are to be dropped, and the rules that are to be covered for that.
+/// A set of the dependency pairs of a system, of which some are to be dropped, and the rules that are to be covered for
+/// that.
 #[derive(Clone, Copy)]
 pub struct Task<'a> {
     /// The system.

@@ -8,14 +8,16 @@ use Rattle.wh_refute.specs.Refuting.{IsFalse, IsLeft, AreGoodBefore, EndsEmpty, 
 use Rattle.wh_refute.specs.declared.fault.RefuteFault.{RefuteFault}
 use Rattle.wh_refute.specs.declared.fault.RefuteFault.TheVariants.{BadLiteral, BadHint, Open, NoEmpty}
 
--- the clause makes no literal true and is not false: two of its literals are not false, or one is, which is true already
+-- the clause makes no literal true and is not false: two of its literals are not false, or one is, which is true
+-- already
 pub data IsStuck (t c : List Literal) : Type 0 where
   two_left : (l m : Literal) → member l c ≡ true → member m c ≡ true → l ≢ m → member (negated l) t ≡ false
       → member (negated m) t ≡ false → IsStuck t c
   true_already : (l : Literal) → IsLeft t c l → member l t ≡ true → IsStuck t c
 
--- where hints go wrong, the first of them being counted as number `at`: the number of the first one that names no clause, or
--- a false one though it is not the last hint, or one that is stuck; none where they end and no clause was false (ours)
+-- where hints go wrong, the first of them being counted as number `at`: the number of the first one that names no
+-- clause, or a false one though it is not the last hint, or one that is stuck; none where they end and no clause was
+-- false (ours)
 pub data Strays (clauses : List (List Literal)) : ℕ → List Literal → List ℕ → Option ℕ → Type 0 where
   names_none : (at : ℕ) (t : List Literal) (k : ℕ) (hints : List ℕ) → length clauses ≤ k → Strays clauses at t (k ∷ hints) (Some at)
   false_too_early : (at : ℕ) (t : List Literal) (k h : ℕ) (hints : List ℕ) → k < length clauses → IsFalse t (get_or clauses k [])
@@ -39,8 +41,8 @@ pub record StraysAt (n : ℕ) (clauses : List (List Literal)) (list : List Entry
   pub below : AllBelow n entry.clause
   pub strays : Strays (clauses_before clauses list k) 0 (map negated entry.clause) entry.hints f
 
--- the first fault of a list: of its entries in order first a literal, then a hint, then that no hint's clause was false; at
--- last that the list does not end with the empty clause (ours)
+-- the first fault of a list: of its entries in order first a literal, then a hint, then that no hint's clause was
+-- false; at last that the list does not end with the empty clause (ours)
 abbrev pub IsFirstRefuteFault : ℕ → List (List Literal) → List Entry → RefuteFault → Type 0
 IsFirstRefuteFault n clauses list (BadLiteral k) =
     AreGoodBefore n clauses list k × (e : Entry) × (slice_get list k ≡ Some e) × HasForeign n e.clause

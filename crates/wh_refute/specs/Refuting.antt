@@ -1,5 +1,5 @@
--- Lists of clauses with hints that show that a formula has no model. What is true is a list of literals, so that any clause
--- may be an entry.
+-- Lists of clauses with hints that show that a formula has no model. What is true is a list of literals, so that any
+-- clause may be an entry.
 use Rattle.std.specs.Prelude.{◌≡◌, ◌≢◌, ℕ, ◌+◌, ◌<◌, true, false, List, [], ◌∷◌, ◌++◌, length, get_or, take, map, slice_get, Some}
 use Rattle.wh_sat_trail.specs.declared.literal.Literal.{Literal}
 use Rattle.wh_sat_trail.specs.declared.entry.Entry.{Entry}
@@ -16,15 +16,15 @@ pub record IsLeft (t c : List Literal) (l : Literal) : Type 0 where
   pub possible : member (negated l) t ≡ false
   pub others : (m : Literal) → member m c ≡ true → m ≢ l → member (negated m) t ≡ true
 
--- hints lead to a clause that is false: each clause before it has just one literal that is not false, and is not true yet,
--- which becomes true (Cruz-Filipe, Heule, Hunt, Kaufmann and Schneider-Kamp 2017)
+-- hints lead to a clause that is false: each clause before it has just one literal that is not false, and is not true
+-- yet, which becomes true (Cruz-Filipe, Heule, Hunt, Kaufmann and Schneider-Kamp 2017)
 pub data Leads (clauses : List (List Literal)) : List Literal → List ℕ → Type 0 where
   ends : (t : List Literal) (k : ℕ) → k < length clauses → IsFalse t (get_or clauses k []) → Leads clauses t (k ∷ [])
   goes : (t : List Literal) (k : ℕ) (l : Literal) (hints : List ℕ) → k < length clauses → IsLeft t (get_or clauses k []) l
       → member l t ≡ false → Leads clauses (t ++ l ∷ []) hints → Leads clauses t (k ∷ hints)
 
--- an entry is good behind these clauses: its variables are the formula's, and its hints lead on from the negations of its
--- literals
+-- an entry is good behind these clauses: its variables are the formula's, and its hints lead on from the negations of
+-- its literals
 pub record IsGoodEntry (n : ℕ) (clauses : List (List Literal)) (e : Entry) : Type 0 where
   pub below : AllBelow n e.clause
   pub leads : Leads clauses (map negated e.clause) e.hints

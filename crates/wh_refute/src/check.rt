@@ -18,9 +18,9 @@ use std::alloc::Global;
 use wh_sat_trail::{Clause, Entry, Formula, Literal, Refutation};
 use wh_types::Or;
 
-/// Whether the list shows that the formula has no model: each entry's hints lead, from the negations of its literals taken
-/// for true, to a clause that is false, and the last entry is the empty clause (Cruz-Filipe, Heule, Hunt, Kaufmann and
-/// Schneider-Kamp 2017). It takes time linear in the clauses that the hints name.
+/// Whether the list shows that the formula has no model: each entry's hints lead, from the negations of its literals
+/// taken for true, to a clause that is false, and the last entry is the empty clause (Cruz-Filipe, Heule, Hunt,
+/// Kaufmann and Schneider-Kamp 2017). It takes time linear in the clauses that the hints name.
 ///
 /// `Because` names the first fault, in the order of [`RefuteFault`].
 pub fn check_refutation(

@@ -15,8 +15,8 @@ pub enum RefuteFault {
         /// The number of the entry, from 0.
         entry: u32,
     },
-    /// A hint of this entry names no earlier clause; or its clause is false, and it is not the last hint; or two literals of
-    /// its clause are not false; or one alone is not, which is true already.
+    /// A hint of this entry names no earlier clause; or its clause is false, and it is not the last hint; or two
+    /// literals of its clause are not false; or one alone is not, which is true already.
     BadHint {
         /// The number of the entry, from 0.
         entry: u32,

@@ -21,14 +21,15 @@ use wh_sat_trail::{Formula, Refutation};
 use wh_system::System;
 use wh_types::Or;
 
-// How many clauses a formula may have so that they and a million learnt ones have numbers. More would take more memory than 32 bits
-// number, so they count as want of memory.
+// How many clauses a formula may have so that they and a million learnt ones have numbers. More would take more memory
+// than 32 bits number, so they count as want of memory.
 const MOST_CLAUSES: usize = 2_146_000_000;
 
 /// What the search for a proof and for a refutation come to.
 #[derive(Drop)]
 pub enum Verdict {
-    /// The search for a proof is stuck on this set, and a list that the checker accepted shows that no projection lets a pair of it go.
+    /// The search for a proof is stuck on this set, and a list that the checker accepted shows that no projection lets
+    /// a pair of it go.
     Refuted(PairSet),
     /// It is stuck on this set, but as many clauses as may be were learnt before there was such a list.
     Unrefuted(PairSet),
@@ -36,8 +37,9 @@ pub enum Verdict {
     Unstuck(Answer),
 }
 
-/// Searches for a proof, and where that is stuck on a set of pairs for a list of clauses which shows that no projection lets a pair of the
-/// set go. Of interpretations the list says nothing. The checker has accepted the list of a set that is `Refuted`.
+/// Searches for a proof, and where that is stuck on a set of pairs for a list of clauses which shows that no projection
+/// lets a pair of the set go. Of interpretations the list says nothing. The checker has accepted the list of a set that
+/// is `Refuted`.
 pub fn refute(
     alloc: Global,
     system: &System,

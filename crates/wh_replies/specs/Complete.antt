@@ -1,5 +1,5 @@
--- What is answered where nothing goes wrong outside: all files are read, and the system is one, where they are asked for with few enough
--- pairs.
+-- What is answered where nothing goes wrong outside: all files are read, and the system is one, where they are asked
+-- for with few enough pairs.
 use Rattle.std.specs.Prelude.{ℕ, ◌≡◌, ◌≤◌, ◌⊎◌, List, length, Some}
 use Rattle.wh_types.specs.Limits.{system_limit, certificate_limit}
 use Rattle.wh_io.specs.Outside.{Rose}
@@ -43,10 +43,10 @@ pub record HoldsSystem (s : Shelves) (file : List ℕ) (d : SystemData) (ps : Li
   pub reads : Reads bytes d
   pub has : HasPairs d ps
 
--- then a check answers what the certificate comes to; a search writes a certificate that a check accepts, or says why there is none; a
--- system is shown; a generated system is always answered; a term is reduced where the word is the text of one, and else rejected; a
--- certificate that a check accepts is upgraded to one that it accepts, if that is not too long; and the search for a refutation is
--- always told of (ours)
+-- then a check answers what the certificate comes to; a search writes a certificate that a check accepts, or says why
+-- there is none; a system is shown; a generated system is always answered; a term is reduced where the word is the text
+-- of one, and else rejected; a certificate that a check accepts is upgraded to one that it accepts, if that is not too
+-- long; and the search for a refutation is always told of (ours)
 abbrev pub IsComplete : Shelves → Request → Status → List ℕ → Type 0
 IsComplete s (check file cert) status text =
     (d : SystemData) (ps : List PairData) (bytes : List ℕ) → HoldsSystem s file d ps → IsRead s cert certificate_limit bytes

@@ -20,8 +20,8 @@ pub record ShowsReduced (s : Shelves) (file term : List ℕ) (n : ℕ) (status :
   pub begins : BeginsWith (codes "REDUCED ") text
   pub status_is : status ≡ Answered
 
--- when the answers of one line come: the term is rejected; or what the text of the system file alone decides. How many pairs the system
--- has is not asked.
+-- when the answers of one line come: the term is rejected; or what the text of the system file alone decides. How many
+-- pairs the system has is not asked.
 abbrev pub StandsForReduction : Shelves → List ℕ → List ℕ → Report → Type 0
 StandsForReduction s file term (Rejected NotATerm) = ToldText (s.held file) (λ d. IsNotReduced d term (Rejected NotATerm))
 StandsForReduction s file term o = StandsByText s file o

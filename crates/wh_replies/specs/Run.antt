@@ -34,16 +34,17 @@ pub record Shows (s : Shelves) (file : List ℕ) (status : Status) (text : List 
   pub begins : BeginsWith (line (codes "SYSTEM")) text
   pub status_is : status ≡ Answered
 
--- the text is that of the certificate in the second file as one of the second version, within the limit; a check accepts it for the
--- system in the first file
+-- the text is that of the certificate in the second file as one of the second version, within the limit; a check
+-- accepts it for the system in the first file
 pub record ShowsUpgraded (s : Shelves) (file cert : List ℕ) (status : Status) (text : List ℕ) : Type 0 where
   pub found : IsUpgradedIn s file cert text
   pub within : length text ≤ certificate_limit
   pub status_is : status ≡ Answered
 
--- the reply to a request: of a check its answer; of a search a proof or a loop, or why there is neither; for a system to be shown its
--- text, or why there is none; what the search comes to for a generated system; how a term reduces, or why that is not told; the text of
--- an upgraded certificate, or why there is none; and what the search for a refutation comes to, or why there is no such system
+-- the reply to a request: of a check its answer; of a search a proof or a loop, or why there is neither; for a system
+-- to be shown its text, or why there is none; what the search comes to for a generated system; how a term reduces, or
+-- why that is not told; the text of an upgraded certificate, or why there is none; and what the search for a refutation
+-- comes to, or why there is no such system
 abbrev pub Replies : Shelves → Request → Status → List ℕ → Type 0
 Replies s (check file cert) status text = Tells (Stands s file cert) status text
 Replies s (prove file b) status text = ShowsFound s file (options_of b) status text
@@ -54,7 +55,8 @@ Replies s (reduce file term n) status text = ShowsReduced s file term n status t
 Replies s (upgrade file cert) status text = ShowsUpgraded s file cert status text ⊎ Tells (StandsForUpgrade s file cert) status text
 Replies s (refute file n) status text = ShowsRefuted s file (options_with n) status text ⊎ Tells (StandsBySystem s file) status text
 
--- the words ask for something, and this is the reply; where nothing goes wrong outside, it is one that answers what is asked
+-- the words ask for something, and this is the reply; where nothing goes wrong outside, it is one that answers what is
+-- asked
 pub record Served (s : Shelves) (words : List (List ℕ)) (status : Status) (text : List ℕ) : Type 0 where
   pub request : Request
   pub asks : Asks words request
@@ -77,22 +79,22 @@ pub record Starved (words : List (List ℕ)) (status : Status) (text : List ℕ)
 abbrev pub Answers : Shelves → List (List ℕ) → Status → List ℕ → Type 0
 Answers s words status text = Served s words status text ⊎ Misspoken words status text ⊎ Starved words status text
 
--- all of the text was written, and the run ends with the status; or the sink's faults rose, a front part of the text was
--- written, and the run ends with a write fault. Nothing else is written.
+-- all of the text was written, and the run ends with the status; or the sink's faults rose, a front part of the text
+-- was written, and the run ends with a write fault. Nothing else is written.
 abbrev pub EndsWith : Option (List ℕ) → Option (List ℕ) → ℕ → ℕ → Status → List ℕ → Status → Type 0
 EndsWith old new before now status text result =
     ((result ≡ status) × Wrote old new text × (now ≡ before)) ⊎ ((result ≡ WriteFault) × WroteFront old new text × Rose before now)
 
--- what YES means of the bytes of the system file: they are a text of one system, and each well-typed term of it has a number
--- that no reduction from it by its rules and beta exceeds in length
+-- what YES means of the bytes of the system file: they are a text of one system, and each well-typed term of it has a
+-- number that no reduction from it by its rules and beta exceeds in length
 pub record MeansYes (system : List ℕ) : Type 0 where
   pub data_read : SystemData
   pub reads : Reads system data_read
   pub one : (other : SystemData) → Reads system other → other ≡ data_read
   pub bounded : (t : Tm) → WellTyped data_read.symbols t → Bounded data_read.rules t
 
--- what NO means of the bytes of a system file and of a certificate, which a file has or the output is: the first are a text of one
--- system, and the term of the certificate has reductions of every length by its rules and beta
+-- what NO means of the bytes of a system file and of a certificate, which a file has or the output is: the first are a
+-- text of one system, and the term of the certificate has reductions of every length by its rules and beta
 pub record MeansNo (system cert : List ℕ) : Type 0 where
   pub data_read : SystemData
   pub reads : Reads system data_read
@@ -103,8 +105,9 @@ pub record MeansNo (system cert : List ℕ) : Type 0 where
   pub claims : Says data_read certificate claim
   pub unbounded : Unbounded data_read.rules claim.term
 
--- what an output that begins with NO says, of these words: it answers a check, and means what NO means of the two files; or it is the
--- front part of the text that answers a search or an upgrade, and means that of the file and of this text
+-- what an output that begins with NO says, of these words: it answers a check, and means what NO means of the two
+-- files; or it is the front part of the text that answers a search or an upgrade, and means that of the file and of
+-- this text
 abbrev pub SaysNo : Shelves → List (List ℕ) → List ℕ → Type 0
 SaysNo s words output =
     ((file cert : List ℕ) × Asks words (check file cert)

@@ -7,7 +7,8 @@ use Rattle.wh_prover.specs.declared.answer.Options.{Options}
 abbrev pub options_of : Bounds → Options
 options_of b = record { tries = b.tries; depth = b.depth; visited = b.visited }
 
--- the words ask whether the system in the file terminates: by a certificate, which is to be checked or upgraded, or by a search for one
+-- the words ask whether the system in the file terminates: by a certificate, which is to be checked or upgraded, or by
+-- a search for one
 abbrev pub AsksWhether : List (List ℕ) → List ℕ → Type 0
 AsksWhether words file =
     ((cert : List ℕ) × Asks words (check file cert)) ⊎ ((b : Bounds) × Asks words (prove file b))

@@ -20,8 +20,8 @@ use wh_system::System;
 use wh_text::print_number;
 use wh_types::{Bytes, Or};
 
-/// The text that tells whether the search for a proof of the system in the file is stuck on a set of pairs, and whether it is refuted
-/// then that a projection lets a pair of the set go; or why there is no such system.
+/// The text that tells whether the search for a proof of the system in the file is stuck on a set of pairs, and whether
+/// it is refuted then that a projection lets a pair of the set go; or why there is no such system.
 pub fn refute_file<S: Shelf>(
     alloc: Global,
     shelf: &mut S,

@@ -38,8 +38,8 @@ impl<'a> Kind<'a> {
         }
     }
 
-    /// The type of what a function of this type gives for an argument of that type; `None` exactly where it takes no such
-    /// argument.
+    /// The type of what a function of this type gives for an argument of that type; `None` exactly where it takes no
+    /// such argument.
     pub fn applied_to(self, argument: &SimpleType) -> Option<Kind<'a>>
         ensures taken { is_some result ≡ takes (Some (type_of self.entry)) (Some (ty argument.now)) }
         ensures given { IfSome result (λ rest. gives (Some (type_of self.entry)) ≡ Some (type_of rest)) }

@@ -1,6 +1,6 @@
-//! The meta-variables of a right side: each occurs in the left side. One walk over the term that the left side stands for
-//! marks what occurs there. One over that of the right side looks at the marks; beside it the raw right side tells where a
-//! fault is.
+//! The meta-variables of a right side: each occurs in the left side. One walk over the term that the left side stands
+//! for marks what occurs there. One over that of the right side looks at the marks; beside it the raw right side tells
+//! where a fault is.
 
 ghost use Rattle.std.specs.Prelude.{◌≡◌, ◌<◌, ◌≤◌, ◌∷◌, ◌==◌, ℕ, [], Some, false, IfOk, length, slice_index_or};
 ghost use Rattle.wh_terms.specs.Erase.{tm, tms};
@@ -21,9 +21,9 @@ use wh_terms::{Term, Terms};
 use wh_text::RawTerm;
 use wh_types::Or;
 
-/// Whether each meta-variable of the right side occurs in the left side; the fault is at the first occurrence of one that
-/// does not. The sides stand for the terms `left` and `right`, `raw` is the right one as it is written, and the rule has
-/// at most `metas` meta-variables.
+/// Whether each meta-variable of the right side occurs in the left side; the fault is at the first occurrence of one
+/// that does not. The sides stand for the terms `left` and `right`, `raw` is the right one as it is written, and the
+/// rule has at most `metas` meta-variables.
 pub fn check_new_metas(
     alloc: Global,
     metas: usize,

@@ -6,7 +6,8 @@ use Rattle.wh_sat.specs.declared.solving.Outcome.TheVariants.{Sat, Unsat, Spent}
 use Rattle.wh_sat.specs.Learning.{Learnt}
 use Rattle.wh_sat.specs.Solving.{Solves}
 
--- for n variables, some clauses and a budget of learnt clauses; with no budget at all it is spent, and one above 3 ^ n never is
+-- for n variables, some clauses and a budget of learnt clauses; with no budget at all it is spent, and one above 3 ^ n
+-- never is
 abbrev pub IsOutcome : ℕ → List (List Literal) → ℕ → Outcome → Type 0
 IsOutcome n clauses budget (Sat values) = (0 < budget) × (length values.items ≡ n) × Solves (λ v. get_or values.items v false) clauses
 IsOutcome n clauses budget Unsat = (0 < budget) × ((v : ℕ → Bool) → Solves v clauses → ⊥)

@@ -31,7 +31,8 @@ pub record Known (n : ℕ) (clauses : List (List Literal)) (learnt : List Bool) 
 abbrev pub decisions : List Literal → List ℕ → List Literal
 decisions t marks = map (λ place. get_or t place nothing) marks
 
--- each level begins where all was propagated; what is true derives from the decisions, and before the first level from nothing
+-- each level begins where all was propagated; what is true derives from the decisions, and before the first level from
+-- nothing
 pub record Levels (clauses : List (List Literal)) (t : List Literal) (marks : List ℕ) : Type 0 where
   pub closed : (j : ℕ) → j < length marks → IsClosed clauses (take (get_or marks j 0) t)
   pub ground : (m : Literal) → Has (take (get_or marks 0 (length t)) t) m → Derives clauses [] m

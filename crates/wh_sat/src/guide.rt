@@ -1,5 +1,6 @@
-//! What guides the search. It decides the variable that was in most of the latest conflicts, with the value that it had last. After
-//! a conflict it may first plan other decisions, from which the same conflict follows: see `cut`. No answer rests on any of this.
+//! What guides the search. It decides the variable that was in most of the latest conflicts, with the value that it had
+//! last. After a conflict it may first plan other decisions, from which the same conflict follows: see `cut`. No answer
+//! rests on any of this.
 
 mod cut;
 mod order;

@@ -29,7 +29,8 @@ pub enum Search<T> {
     Spent(Clauses),
 }
 
-/// Solves a formula. At most `budget` clauses are learnt; where none may be, the answer is `Spent`. The error is want of memory.
+/// Solves a formula. At most `budget` clauses are learnt; where none may be, the answer is `Spent`. The error is want
+/// of memory.
 pub fn solve(alloc: Global, formula: &Formula, budget: u64) -> Result<Outcome, AllocError>
     requires { Within formula.now.variables formula.now.clauses }
     ensures { IfOk result (IsOutcome formula.now.variables formula.now.clauses budget) }

@@ -1,5 +1,5 @@
--- Two watched literals a clause, as in MiniSat. Levels are known by stops alone: how much of the queue was done, and how many literals were
--- assigned (ours).
+-- Two watched literals a clause, as in MiniSat. Levels are known by stops alone: how much of the queue was done, and
+-- how many literals were assigned (ours).
 use Rattle.std.specs.Prelude.{◌≡◌, ◌≢◌, ℕ, ◌+◌, ◌-◌, ◌<◌, ◌≤◌, true, false, cond, List, [], ◌∷◌, ◌++◌, length, get_or, take, drop, sum_by, eqb, ◌⊎◌}
 use Rattle.wh_sat_trail.specs.declared.literal.Literal.{Literal}
 use Rattle.wh_sat_trail.specs.declared.watch.Stop.{Stop}

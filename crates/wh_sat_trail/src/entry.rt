@@ -3,9 +3,9 @@
 use crate::clause::Clause;
 use wh_types::{List, Numbers};
 
-/// A clause that follows from those before it, and the clauses that show it: with the negations of its literals taken for
-/// true each of them but the last makes one more literal true, and the last is false (Cruz-Filipe, Heule, Hunt, Kaufmann
-/// and Schneider-Kamp 2017).
+/// A clause that follows from those before it, and the clauses that show it: with the negations of its literals taken
+/// for true each of them but the last makes one more literal true, and the last is false (Cruz-Filipe, Heule, Hunt,
+/// Kaufmann and Schneider-Kamp 2017).
 #[derive(Drop)]
 pub struct Entry {
     /// The clause.

@@ -60,7 +60,8 @@ impl Assignment {
         false
     }
 
-    /// A literal that is not false, and not the other one, with its place. It is looked for from a place on, and then before that.
+    /// A literal that is not false, and not the other one, with its place. It is looked for from a place on, and then
+    /// before that.
     pub fn replacement(
         &self,
         clause: &[Literal],

@@ -36,8 +36,8 @@ impl Model for Watchers {
     ghost view = { λ list. list.items.items };
 }
 
-/// For each clause the place of the watch that it took last: the search for the next one goes on from there, as in CaDiCaL (Gent
-/// 2013). Nothing is claimed of it.
+/// For each clause the place of the watch that it took last: the search for the next one goes on from there, as in
+/// CaDiCaL (Gent 2013). Nothing is claimed of it.
 #[derive(Drop)]
 pub struct Places {
     items: Vec<usize>,

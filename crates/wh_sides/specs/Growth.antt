@@ -7,13 +7,14 @@ use Rattle.wh_terms.specs.Substitution.{up_renaming}
 use Rattle.wh_extended.specs.Kinds.{kind}
 use Rattle.wh_extended.specs.Long.{core, finish_argument}
 
--- how many nodes the missing arguments of a tree of the type add: an abstraction, an application and a variable each, and
--- what the variable itself is missing (ours)
+-- how many nodes the missing arguments of a tree of the type add: an abstraction, an application and a variable each,
+-- and what the variable itself is missing (ours)
 abbrev pub growth : Ty → ℕ
 growth (sort s) = 0
 growth (a ⇒ b) = 3 + growth a + growth b
 
--- k binders inside the place where a tree is moved below one binder more, loose variables of the tree count one more (ours)
+-- k binders inside the place where a tree is moved below one binder more, loose variables of the tree count one more
+-- (ours)
 unfoldable pub past : ℕ → ℕ → ℕ
 past zero = suc
 past (suc k) = up_renaming (past k)

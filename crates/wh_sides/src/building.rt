@@ -90,8 +90,8 @@ fn finish_argument<'a>(
     }
 }
 
-// What stands for the term, with its missing arguments; an abstraction and an application of a meta-variable stand as they
-// are.
+// What stands for the term, with its missing arguments; an abstraction and an application of a meta-variable stand as
+// they are.
 fn finish<'a>(
     alloc: Global,
     signature: &Signature,

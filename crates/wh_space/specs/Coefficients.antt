@@ -8,8 +8,8 @@ use Rattle.wh_space.specs.Space.{IsOfSpace, HasMonomial, space_of}
 abbrev pub capped : ℕ → ℕ
 capped c = if nat_lt 3 c then 3 else c
 
--- the polynomial is one of those that are tried, and has these coefficients, one for each monomial of the space in order; those that
--- are missing are 0, and greater ones than 3 are 3 (ours)
+-- the polynomial is one of those that are tried, and has these coefficients, one for each monomial of the space in
+-- order; those that are missing are 0, and greater ones than 3 are 3 (ours)
 pub record HasCoefficients (Γ : List Ty) (cs : List ℕ) (p : Polynomial) : Type 0 where
   pub of_space : IsOfSpace Γ p
   pub each : (j c : ℕ) (us : Factors) → slice_get (space_of Γ) j ≡ Some us → HasMonomial p c us ↔ ((c ≡ capped (get_or cs j 0)) × (1 ≤ c))

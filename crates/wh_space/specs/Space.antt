@@ -48,7 +48,8 @@ abbrev pub products : List Ty → List ℕ → List Factors
 products Γ [] = []
 products Γ (x ∷ xs) = map (both Γ x) (sort_variables Γ) ++ products Γ xs
 
--- the monomials that are tried: the constant, each variable of a sort, each functional one, and each of these times each of those (ours)
+-- the monomials that are tried: the constant, each variable of a sort, each functional one, and each of these times
+-- each of those (ours)
 unfoldable pub space_of : List Ty → List Factors
 space_of Γ =
     no_factors ∷ (map (alone Γ) (sort_variables Γ) ++ (map (alone Γ) (functional_variables Γ) ++ products Γ (functional_variables Γ)))

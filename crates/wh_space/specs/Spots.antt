@@ -1,4 +1,5 @@
--- Spots of a scope: which variables a monomial has, where it stands in the space, and in which order normal forms have it.
+-- Spots of a scope: which variables a monomial has, where it stands in the space, and in which order normal forms have
+-- it.
 use Rattle.std.specs.Prelude.{ℕ, zero, suc, ◌+◌, ◌<◌, ◌≤◌, ◌≡◌, ◌≢◌, ◌⊎◌, ◌^◌, ◌-◌, nat_lt, List, [], ◌∷◌, ◌++◌, map, length, if◌then◌else◌, All, Contains, Some, slice_get}
 use Rattle.wh_types.specs.Ty.{Ty}
 use Rattle.wh_poly.specs.Polynomials.{Factors, no_factors}
@@ -39,7 +40,8 @@ rows_of (x ∷ xs) ys = map (spot_of_two x) ys ++ rows_of xs ys
 abbrev pub spots_by : List ℕ → List ℕ → List Spot
 spots_by sorts functional = Constant ∷ (map One sorts ++ (map One functional ++ rows_of functional sorts))
 
--- the order of normal forms: by the first variable, then by the second one, counted from 1; 0 where there is none (ours)
+-- the order of normal forms: by the first variable, then by the second one, counted from 1; 0 where there is none
+-- (ours)
 abbrev pub first_of : Spot → ℕ
 first_of Constant = 0
 first_of (One x) = suc x
@@ -76,7 +78,8 @@ weight_before weight [] x = 0
 weight_before weight (A ∷ Γ) zero = 0
 weight_before weight (A ∷ Γ) (suc x) = weight A + weight_before weight Γ x
 
--- how many variables of a sort stand before x, how many functional ones, and how many products of these with one of `count`
+-- how many variables of a sort stand before x, how many functional ones, and how many products of these with one of
+-- `count`
 abbrev pub sorts_before : List Ty → ℕ → ℕ
 sorts_before = weight_before (λ A. if is_sort A then 1 else 0)
 
@@ -86,8 +89,8 @@ functional_before = weight_before (λ A. if is_sort A then 0 else 1)
 abbrev pub products_before : ℕ → List Ty → ℕ → ℕ
 products_before count = weight_before (λ A. if is_sort A then 0 else count)
 
--- where a variable alone stands in the space, and two numbers that come together to where a product does: where the row of a functional
--- variable begins, and where in a row a variable of a sort stands
+-- where a variable alone stands in the space, and two numbers that come together to where a product does: where the row
+-- of a functional variable begins, and where in a row a variable of a sort stands
 abbrev pub alone_place : List Ty → ℕ → ℕ
 alone_place Γ x = if is_sort (type_at Γ x) then 1 + sorts_before Γ x else 1 + (length (sort_variables Γ) + functional_before Γ x)
 

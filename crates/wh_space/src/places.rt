@@ -1,6 +1,7 @@
 //! Where the monomials of a scope stand in its space.
 //!
-//! Counts that exceed a machine word stay at its greatest number: no list of coefficients is so long, so they are then missing.
+//! Counts that exceed a machine word stay at its greatest number: no list of coefficients is so long, so they are then
+//! missing.
 
 ghost use Rattle.std.specs.Prelude.{ℕ, ◌≡◌, ◌<◌, List, IfOk, suc, length};
 ghost use Rattle.wh_types.specs.Erase.{ty, tys};

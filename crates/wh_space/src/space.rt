@@ -38,8 +38,9 @@ pub fn is_sort(kind: &SimpleType) -> bool
     matches!(kind, SimpleType::Sort(_))
 }
 
-/// What a symbol with these types of arguments is read as, by the coefficients of the monomials in the order of the space; those that are
-/// missing are 0, and those above 3 count as 3. A variable with a number beyond 32 bits is told as want of memory.
+/// What a symbol with these types of arguments is read as, by the coefficients of the monomials in the order of the
+/// space; those that are missing are 0, and those above 3 count as 3. A variable with a number beyond 32 bits is told
+/// as want of memory.
 pub fn reading_of(
     alloc: Global,
     scope: &[SimpleType],

@@ -17,8 +17,8 @@ pub struct Variables {
     pub functional: Vec<usize>,
 }
 
-/// The spots of the monomials that are tried in a scope, in the order of the space: the constant, the variables of a sort, the
-/// functional ones, and each of these with each of those.
+/// The spots of the monomials that are tried in a scope, in the order of the space: the constant, the variables of a
+/// sort, the functional ones, and each of these with each of those.
 pub fn spots_of(alloc: Global, scope: &[SimpleType]) -> Result<Vec<Spot>, AllocError>
     ensures spots { IfOk result (λ spots. All (IsSpot (tys scope.now)) spots.items) }
     ensures space { IfOk result (λ spots. map (factors_at (tys scope.now)) spots.items ≡ space_of (tys scope.now)) }

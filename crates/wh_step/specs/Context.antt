@@ -60,7 +60,8 @@ abbrev pub Joins : List ℕ → Tm → Tm → Option Joint → Type 0
 Joins path v t (Some j) = IsJoint path v t j
 Joins path v t None = reach path v t ≤ greatest_height → joined_arguments path v t ≤ most_arguments → ⊥
 
--- what is measured before the result: t, which fits, has the size n, its part r the size m, and v is to be put in place of r
+-- what is measured before the result: t, which fits, has the size n, its part r the size m, and v is to be put in place
+-- of r
 pub record IsMeasured (path : List ℕ) (v t r : Tm) (n m : ℕ) (e : Extent) (o : Option Joint) : Type 0 where
   pub here : part_at path t ≡ Some r
   pub fits : Fits t

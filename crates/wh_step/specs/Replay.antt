@@ -10,7 +10,8 @@ use Rattle.wh_terms.specs.Rules.{RewriteRule}
 use Rattle.wh_terms.specs.declared.path.Step as taken
 use Rattle.wh_step.specs.Step.{AreWhole}
 
--- `StepAt rules k path t u`: t steps to u at the path, by the rule number k, or by beta where there is no number (Kop 2012)
+-- `StepAt rules k path t u`: t steps to u at the path, by the rule number k, or by beta where there is no number (Kop
+-- 2012)
 pub data StepAt (rules : List RewriteRule) : Option ℕ → List ℕ → Tm → Tm → Type 0 where
   beta_here : {a : Ty} {t u v : Tm} → v ≡ opened u t → StepAt rules None [] (app (lam a t) u) v
   rule_here : {k : ℕ} {t u : Tm} (r : RewriteRule) (g : ℕ → Body) → slice_get rules k ≡ Some r → AreWhole g r → Value g r.left t

@@ -1,9 +1,9 @@
 //! Measuring the result of a step at its place, before the step is taken.
 //!
-//! The term around the place is known to fit, and its size is known. So of the result's height and of its spines only what
-//! the new part reaches can pass a limit: the walk goes down the path alone, and stops at the first measure that is past
-//! one. What stands above a place adds to the height by what is put there: the function of an application adds nothing
-//! where it is an application itself, and 1 elsewhere.
+//! The term around the place is known to fit, and its size is known. So of the result's height and of its spines only
+//! what the new part reaches can pass a limit: the walk goes down the path alone, and stops at the first measure that
+//! is past one. What stands above a place adds to the height by what is put there: the function of an application adds
+//! nothing where it is an application itself, and 1 elsewhere.
 
 ghost use Rattle.std.specs.Prelude.{◌≡◌, ◌≤◌, ℕ, [], ◌∷◌, List, Some, IfOk};
 ghost use Rattle.wh_types.specs.Limits.{greatest_size};
@@ -122,8 +122,8 @@ fn resized(total: u64, old: u64, part: Extent, joint: Option<Joint>) -> Option<u
     }
 }
 
-/// The size of the result of a step at the path, if it fits; `total` is the size of the term. Only the path, the redex and
-/// the parts that the contractum is built from are gone over.
+/// The size of the result of a step at the path, if it fits; `total` is the size of the term. Only the path, the redex
+/// and the parts that the contractum is built from are gone over.
 pub fn new_size(
     alloc: Global,
     term: &Term,

@@ -1,8 +1,8 @@
 //! Measuring the contractum of a step before it is built.
 //!
 //! The walks go over the parts that it is built from: the right side of the rule, and each body as often as its
-//! meta-variable occurs. What stands for a parameter of a body is measured once for each such occurrence, and the body's walk
-//! takes the measures in place of the term. A walk stops at the first part that is past a limit.
+//! meta-variable occurs. What stands for a parameter of a body is measured once for each such occurrence, and the
+//! body's walk takes the measures in place of the term. A walk stops at the first part that is past a limit.
 
 ghost use Rattle.std.specs.Prelude.{ℕ, IfOk};
 ghost use Rattle.wh_types.specs.Erase.{ty};

@@ -50,8 +50,8 @@ pub fn replace_at(alloc: Global, term: &Term, path: &[u8], value: Term) -> Resul
     }
 }
 
-/// What the term steps to at the path, by the rule with the number, or by beta where there is none; `None` if there is no
-/// such step.
+/// What the term steps to at the path, by the rule with the number, or by beta where there is none; `None` if there is
+/// no such step.
 pub fn step_at(
     alloc: Global,
     rules: &[Rule],

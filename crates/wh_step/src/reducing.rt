@@ -127,8 +127,9 @@ fn collected(alloc: Global, found: Vec<Term>) -> Result<Terms, AllocError>
     Ok(all)
 }
 
-/// The reducts of the term in their order: by place in preorder (a term before its parts, a function before its argument),
-/// at one place beta before the rules, and the rules by their numbers. A term that is reached in two ways is listed twice.
+/// The reducts of the term in their order: by place in preorder (a term before its parts, a function before its
+/// argument), at one place beta before the rules, and the rules by their numbers. A term that is reached in two ways is
+/// listed twice.
 pub fn reducts(alloc: Global, rules: &[Rule], term: &Term) -> Result<Terms, AllocError>
     requires well_made { (S : Symbols) × AreWellMade S (rewrite_rules rules.now) }
     requires fits { Fits (tm term.now) }

@@ -24,8 +24,8 @@ pub enum StepFault {
 }
 
 /// The end of the reduction that takes these steps, or the first step that does not apply or whose result does not fit.
-/// The result of each step is measured before it is built. The term is copied once; after that a step costs its path, its
-/// redex and its contractum.
+/// The result of each step is measured before it is built. The term is copied once; after that a step costs its path,
+/// its redex and its contractum.
 pub fn replay(
     alloc: Global,
     rules: &[Rule],

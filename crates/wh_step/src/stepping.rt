@@ -1,7 +1,7 @@
 //! A step of a term, taken in place.
 //!
-//! The term is owned by the caller and changed where it stands; its size is handed on as a number. A step costs its path, its
-//! redex and its contractum, however large the term is.
+//! The term is owned by the caller and changed where it stands; its size is handed on as a number. A step costs its
+//! path, its redex and its contractum, however large the term is.
 
 ghost use Rattle.std.specs.Prelude.{◌≡◌, IfOk, OnErr};
 ghost use Rattle.wh_terms.specs.Typing.{Symbols};
@@ -89,8 +89,8 @@ fn replacement_for(
     }
 }
 
-/// Takes the step in a term of the size `total`, and answers with the new size. A term whose step does not apply or does not
-/// fit, or for which memory is wanting, stays as it was.
+/// Takes the step in a term of the size `total`, and answers with the new size. A term whose step does not apply or
+/// does not fit, or for which memory is wanting, stays as it was.
 pub fn take_step(
     alloc: Global,
     rules: &[Rule],

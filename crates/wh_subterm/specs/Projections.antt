@@ -17,7 +17,8 @@ IsProjected args f ts t = (i : ℕ) × Contains args (record { symbol = f; argum
 abbrev pub Equal : List Chosen → PairData → Type 0
 Equal args a = (t : Tm) × IsProjected args a.left_fun a.left t × IsProjected args a.right_fun a.right t
 
--- a pair is below if its projected right side is a proper part of its projected left side (Kop 2012; the parts are ours)
+-- a pair is below if its projected right side is a proper part of its projected left side (Kop 2012; the parts are
+-- ours)
 abbrev pub Below : List Chosen → PairData → Type 0
 Below args a = (t u : Tm) × IsProjected args a.left_fun a.left t × IsProjected args a.right_fun a.right u × Part u t
 

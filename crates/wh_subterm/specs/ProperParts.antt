@@ -15,8 +15,8 @@ IsSymbol _ = ⊥
 abbrev pub IsHeadedBySymbol : Tm → Type 0
 IsHeadedBySymbol t = IsSymbol (head t)
 
--- `Part u t`: u is a proper part of t, reached through arguments of spines that symbols head: never through an abstraction,
--- a meta-application or a spine's head, and never t itself or a front part of a longer spine (ours)
+-- `Part u t`: u is a proper part of t, reached through arguments of spines that symbols head: never through an
+-- abstraction, a meta-application or a spine's head, and never t itself or a front part of a longer spine (ours)
 pub data Part : (u t : Tm) → Type 0 where
   argument : {t u : Tm} → IsHeadedBySymbol t → Argument u t → Part u t
   deeper : {t u v : Tm} → IsHeadedBySymbol t → Argument v t → Part u v → Part u t

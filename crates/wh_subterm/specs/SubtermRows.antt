@@ -50,8 +50,8 @@ IsFirstOf P args f =
     (i : ℕ) × (c : Chosen) × (slice_get args i ≡ Some c) × (c.symbol ≡ f) × P c
     × ((j : ℕ) (d : Chosen) → j < i → slice_get args j ≡ Some d → P d → ⊥)
 
--- the choices make each pair of the set equal or below, and each dropped one below (Kop 2012, the subterm criterion; the
--- form is ours)
+-- the choices make each pair of the set equal or below, and each dropped one below (Kop 2012, the subterm criterion;
+-- the form is ours)
 pub record IsProjection (rules : List RewriteRule) (pairs : List PairData) (set : List ℕ) (args : List Chosen)
     (drop : List ℕ) : Type 0 where
   pub marked : AreForMarked pairs set args

@@ -11,17 +11,17 @@ use crate::projection::{Choice, Projection, SubtermFault};
 use wh_pairs::{Pair, PairList, PairSet, is_bad_drop};
 use wh_system::System;
 
-/// Whether a projection lets the pairs in `drop` go from the set (the subterm criterion of Kop 2012, in the form of this
-/// project).
+/// Whether a projection lets the pairs in `drop` go from the set (the subterm criterion of Kop 2012, in the form of
+/// this project).
 ///
-/// The choices must be for the marked symbols of the set: the symbols that head a side of one of its pairs, each once and in
-/// order. Each names an argument that the rules of the symbol need, counted from 1. Under them every pair of the set must be
-/// equal or below, and those in `drop`, which are some and each once, below. A pair is equal if its projected sides are the
-/// same tree; it is below if the right one is a proper part of the left one, reached through arguments of spines that symbols
-/// head.
+/// The choices must be for the marked symbols of the set: the symbols that head a side of one of its pairs, each once
+/// and in order. Each names an argument that the rules of the symbol need, counted from 1. Under them every pair of the
+/// set must be equal or below, and those in `drop`, which are some and each once, below. A pair is equal if its
+/// projected sides are the same tree; it is below if the right one is a proper part of the left one, reached through
+/// arguments of spines that symbols head.
 ///
-/// `Err` names the first condition that fails, in the order of the variants; of the symbols the first one in order, of the
-/// pairs the least one. No memory is taken.
+/// `Err` names the first condition that fails, in the order of the variants; of the symbols the first one in order, of
+/// the pairs the least one. No memory is taken.
 pub fn check_projection(
     system: &System,
     pairs: &PairList,

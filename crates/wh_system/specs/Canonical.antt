@@ -52,8 +52,8 @@ abbrev mutual
 abbrev pub raw_of : Names → Tm → RTm
 raw_of n = raw_below n 0
 
--- all that stands in a tree below d binders has a name or a number: its sorts, symbols and meta-variables, and its bound
--- variables, each of which has its binder in the tree or among the d
+-- all that stands in a tree below d binders has a name or a number: its sorts, symbols and meta-variables, and its
+-- bound variables, each of which has its binder in the tree or among the d
 abbrev mutual
   pub IsNamedBelow : Names → ℕ → Tm → Type 0
   IsNamedBelow n d (bound i) = i < d

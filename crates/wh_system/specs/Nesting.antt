@@ -1,5 +1,5 @@
--- How deep the parentheses of types nest where they are written canonically (ours): a functional type that is a part of something else
--- stands in parentheses.
+-- How deep the parentheses of types nest where they are written canonically (ours): a functional type that is a part of
+-- something else stands in parentheses.
 use Rattle.std.specs.Prelude.{ℕ, ◌+◌, ◌≤◌, max}
 use Rattle.wh_types.specs.Ty.{Ty, sort, ◌⇒◌}
 use Rattle.wh_terms.specs.Tree.{Tm, free, meta, lam, app, Tms, none as no_tms, more as more_tms}

@@ -90,8 +90,8 @@ impl System {
         &self.names.metas[rule as usize].as_slice()[k as usize]
     }
 
-    /// How many arguments the left sides of the rules of that symbol have; `None` exactly where it has no rules. A number
-    /// that is no symbol's has none either.
+    /// How many arguments the left sides of the rules of that symbol have; `None` exactly where it has no rules. A
+    /// number that is no symbol's has none either.
     pub fn need(&self, k: u32) -> Option<u32>
         ensures { result ≡ need_of (system_data self.now).rules k }
     {

@@ -1,4 +1,5 @@
-//! Arguments that are abstractions on the left of all rules of a symbol, so that none of them applies to another argument.
+//! Arguments that are abstractions on the left of all rules of a symbol, so that none of them applies to another
+//! argument.
 
 use crate::names::number_of;
 use crate::spines::{binders_at, symbol_of};

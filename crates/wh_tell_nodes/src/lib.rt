@@ -1,5 +1,5 @@
-//! The nodes of a certificate in words: what each does with its pairs, what the sides of rules and pairs are worth under
-//! its interpretations, and how a path order compares them. The text is pinned by no clause.
+//! The nodes of a certificate in words: what each does with its pairs, what the sides of rules and pairs are worth
+//! under its interpretations, and how a path order compares them. The text is pinned by no clause.
 #![tactic(auto)]
 
 mod ordered;

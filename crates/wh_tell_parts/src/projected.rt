@@ -16,7 +16,8 @@ pub struct Projected<'a> {
     pub drop: &'a [u32],
 }
 
-/// Appends which argument of each symbol is looked at, what becomes of it in each pair of the set, and which pairs are dropped.
+/// Appends which argument of each symbol is looked at, what becomes of it in each pair of the set, and which pairs are
+/// dropped.
 pub fn put_projection<'a>(
     text: &mut Text,
     system: &'a System,

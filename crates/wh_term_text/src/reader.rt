@@ -25,8 +25,8 @@ fn ended(alloc: Global, stack: Vec<Frame>, place: TermPlace) -> Result<Option<Ra
     }
 }
 
-/// The term of which the bytes are the text, within the limits of certificates; `None` exactly where they are the text of
-/// none.
+/// The term of which the bytes are the text, within the limits of certificates; `None` exactly where they are the text
+/// of none.
 pub fn read_term(alloc: Global, bytes: &[u8]) -> Result<Option<RawTerm>, AllocError>
     ensures { IfOk result (λ o. MatchOption o ((t : RTm) → IsTermText t bytes.now → ⊥) (λ r. IsTermText (rtm r) bytes.now)) }
 {

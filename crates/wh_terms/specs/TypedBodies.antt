@@ -11,7 +11,8 @@ abbrev pub parameter_types : List Ty → List Ty → List Ty
 parameter_types [] Γ = Γ
 parameter_types (c ∷ cs) Γ = parameter_types cs (c ∷ Γ)
 
--- a body for the declared meta-variable d, over symbols S and meta-variables N, where further loose variables have the types Γ
+-- a body for the declared meta-variable d, over symbols S and meta-variables N, where further loose variables have the
+-- types Γ
 pub record FitsDeclared (S : Symbols) (N : List Declared) (Γ : List Ty) (d : Declared) (b : Body) : Type 0 where
   pub counted : b.arity ≡ length d.args
   pub typed : Typed S N (parameter_types d.args Γ) b.tree d.out

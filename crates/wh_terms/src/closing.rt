@@ -53,8 +53,8 @@ impl Replace for Closing<'_> {
     }
 }
 
-/// The body of an abstraction over the free variable with this number and type: the variable of the new binder stands in
-/// its place, and each loose variable of the term comes one binder farther.
+/// The body of an abstraction over the free variable with this number and type: the variable of the new binder stands
+/// in its place, and each loose variable of the term comes one binder farther.
 #[tactic(auto, using(crate::proofs::UnderLemmas::act_top, crate::proofs::CloseLemmas::closed_lacks, crate::proofs::CloseLemmas::closed_back))]
 pub fn close(alloc: Global, term: &Term, number: u32, kind: &SimpleType) -> Result<Term, AllocError>
     requires { Manageable (tm term.now) }

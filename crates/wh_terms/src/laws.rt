@@ -25,8 +25,8 @@ pub fn substitution_keeps_types()
         → ((x : ℕ) (b : Ty) → SortsBelow S.sorts b → Typed S M Γ (φ x b) b) → Typed S M Γ (act bound φ t) a }
 {}
 
-/// The value of a meta-term has its type, where each body has the type that its meta-variable is declared with. Bodies may have
-/// meta-variables themselves, which are then those of the value.
+/// The value of a meta-term has its type, where each body has the type that its meta-variable is declared with. Bodies
+/// may have meta-variables themselves, which are then those of the value.
 pub fn values_keep_types()
     ensures { (S : Symbols) (M N : List Declared) (Γ : List Ty) (g : ℕ → Body) (m v : Tm) (a : Ty) → Typed S M Γ m a
         → TypedBodies S M N Γ g m → Value g m v → Typed S N Γ v a }

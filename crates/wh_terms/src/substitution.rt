@@ -64,8 +64,8 @@ fn value_for<'a>(by: &'a Subst, number: u32, kind: &SimpleType) -> Option<&'a Te
     None
 }
 
-/// The term with the trees of the substitution for the free variables that it lists, each told apart by number and type.
-/// Nothing is captured: below a binder a tree's loose variables count that binder too.
+/// The term with the trees of the substitution for the free variables that it lists, each told apart by number and
+/// type. Nothing is captured: below a binder a tree's loose variables count that binder too.
 #[tactic(auto, using(crate::proofs::UnderLemmas::act_top))]
 pub fn substitute(alloc: Global, term: &Term, by: &Subst) -> Result<Term, AllocError>
     requires term_in_range { Manageable (tm term.now) }

@@ -1,6 +1,6 @@
-//! Rows of the searches and of the calls on pairs by numbers, over systems that are read from texts: what one formula for a flat
-//! set of one pair comes to, and what the search for a path order; the search for projections, their check, and the values of
-//! sides, by numbers.
+//! Rows of the searches and of the calls on pairs by numbers, over systems that are read from texts: what one formula
+//! for a flat set of one pair comes to, and what the search for a path order; the search for projections, their check,
+//! and the values of sides, by numbers.
 //!
 //! This crate has tests alone: a library with tests of its own would be proved a second time with them.
 #![tactic(auto)]

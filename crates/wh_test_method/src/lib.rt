@@ -1,5 +1,5 @@
-//! Rows of the calls of the method over systems that are read from texts, of generated systems, of the solver, of lists that refute
-//! formulas, of circuits, and of the search for projections, which goes through the solver.
+//! Rows of the calls of the method over systems that are read from texts, of generated systems, of the solver, of lists
+//! that refute formulas, of circuits, and of the search for projections, which goes through the solver.
 //!
 //! This crate has tests alone: a library with tests of its own would be proved a second time with them.
 #![tactic(auto)]

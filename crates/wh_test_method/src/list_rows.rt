@@ -94,8 +94,9 @@ const LISTS: &[(u32, &[&[i32]], &[Given], &str)] = &[
     (2, REFUSED, &[(&[], &[0, 1, 2, 3])], "hint 0 0"),
 ];
 
-/// A list that refutes the four clauses over two variables, with one change at each place: a hint missing, twice, of another
-/// place or clause, or of none; a literal more, less, or of the other sign; an entry missing, elsewhere, or more.
+/// A list that refutes the four clauses over two variables, with one change at each place: a hint missing, twice, of
+/// another place or clause, or of none; a literal more, less, or of the other sign; an entry missing, elsewhere, or
+/// more.
 const CHANGED: &[(&[Given], &str)] = &[
     (&[(&[1], &[0, 1]), (&[], &[4, 2, 3])], "refuted 2"),
     // hints of the first entry

@@ -1,5 +1,5 @@
-//! `subsumed`, over pairs of systems that differ in the right side of their last rule. What the pairs of a system are is
-//! told by the rows of the program (examples/rows).
+//! `subsumed`, over pairs of systems that differ in the right side of their last rule. What the pairs of a system are
+//! is told by the rows of the program (examples/rows).
 
 use crate::reading::read;
 use std::alloc::{AllocError, Global};

@@ -1,5 +1,5 @@
-//! Terms and types as texts: a bound variable is `#` with its number, a symbol `f` with its number, and a type shows the
-//! numbers of its sorts. A meta-variable is not shown with its arguments.
+//! Terms and types as texts: a bound variable is `#` with its number, a symbol `f` with its number, and a type shows
+//! the numbers of its sorts. A meta-variable is not shown with its arguments.
 
 use std::alloc::AllocError;
 use wh_terms::Term;

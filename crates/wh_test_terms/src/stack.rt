@@ -1,7 +1,7 @@
-//! Terms from texts that need not be well typed, one letter after another, each of which works on a stack of terms: `a` to
-//! `d` push a symbol, `0` to `9` a bound variable, `x` a variable of the sort 0 and `y` one of the sort 1; `\` abstracts the
-//! last term over the sort 0 and `/` over the sort 1, `@` applies the last term but one to the last, and `F`, `G` and `Z`
-//! are meta-variables that take the last term or, `Z`, the last two.
+//! Terms from texts that need not be well typed, one letter after another, each of which works on a stack of terms: `a`
+//! to `d` push a symbol, `0` to `9` a bound variable, `x` a variable of the sort 0 and `y` one of the sort 1; `\`
+//! abstracts the last term over the sort 0 and `/` over the sort 1, `@` applies the last term but one to the last, and
+//! `F`, `G` and `Z` are meta-variables that take the last term or, `Z`, the last two.
 
 use std::alloc::{AllocError, Global};
 use wh_terms::{Term, Terms};

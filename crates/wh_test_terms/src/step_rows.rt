@@ -235,8 +235,8 @@ pub fn add_end(
 const PARTIAL: &[u8] =
     b"sort nat;fun zero:nat;fun f:nat->nat;fun h:(nat->nat)->nat;rule {X:nat} f X => h f;rule {F:nat->nat} h F => F zero;";
 
-/// Certificates of leftmost-outermost steps, which the row of `reduce` with the same terms goes, too; and some whose second
-/// step fails.
+/// Certificates of leftmost-outermost steps, which the row of `reduce` with the same terms goes, too; and some whose
+/// second step fails.
 const REPLAYED: &[(Asked, &[u8])] = &[
     (
         Asked::In(

@@ -104,8 +104,8 @@ fn measured(alloc: Global, text: &[u8]) -> Result<(u32, u64), AllocError> {
     Ok((height(&term), size(&term)))
 }
 
-/// Terms with their heights and sizes: a spine of two arguments of which the first is the highest, and a head that is an
-/// abstraction.
+/// Terms with their heights and sizes: a spine of two arguments of which the first is the highest, and a head that is
+/// an abstraction.
 const MEASURES: &[(&[u8], (u32, u64))] = &[(b"a10Z\\\\@b@", (4, 9)), (b"0\\a@", (2, 4))];
 
 #[test]

@@ -1,4 +1,5 @@
-//! Rows of lines of answers: the line of one report of each variant is read, and the report printed again; other lines are no answers.
+//! Rows of lines of answers: the line of one report of each variant is read, and the report printed again; other lines
+//! are no answers.
 
 use crate::comparing::expect_text;
 use std::alloc::{AllocError, Global};

@@ -24,8 +24,8 @@ fn function_type(alloc: Global) -> Result<SimpleType, AllocError>
     arrow(alloc, step, last)
 }
 
-/// Whether the other is equal, the number of arguments, the sort of the result, and whether the last argument is the sort 5
-/// and the first one the sort 3.
+/// Whether the other is equal, the number of arguments, the sort of the result, and whether the last argument is the
+/// sort 5 and the first one the sort 3.
 fn parts_of(whole: &SimpleType, other: &SimpleType) -> (bool, u32, u32, bool, bool)
     requires { ty whole.now ≡ ((sort 3 ⇒ sort 4) ⇒ (sort 5 ⇒ sort 6)) }
 {

@@ -22,8 +22,8 @@ abbrev pub put_binder : Binder → List ℕ → List ℕ
 put_binder (named_binder name) r = name ++ r
 put_binder (numbered_binder n) r = codes "$" ++ (decimal n ++ r)
 
--- a term: `$d` and `%k:T` with their numbers, a meta-application as its name with arguments in brackets, an abstraction and a
--- spine with arguments in parentheses, parts of a spine parted by single spaces
+-- a term: `$d` and `%k:T` with their numbers, a meta-application as its name with arguments in brackets, an abstraction
+-- and a spine with arguments in parentheses, parts of a spine parted by single spaces
 abbrev mutual
   pub put_term : RTm → List ℕ → List ℕ
   put_term (named name at) r = name ++ r

@@ -48,7 +48,8 @@ pub record BeginsNothing (b : ℕ) : Type 0 where
   pub percent : b ≡ 37 → ⊥
   pub comment : b ≡ 35 → ⊥
 
--- the digits of a number token are too many or too great: they begin with 0 and are more than one, or spell more than 65,535
+-- the digits of a number token are too many or too great: they begin with 0 and are more than one, or spell more than
+-- 65,535
 abbrev pub BadDigits : List ℕ → Type 0
 BadDigits ds = ((NoLeadingZero ds → ⊥) ⊎ (greatest_number < number_from 0 ds))
 

@@ -43,8 +43,8 @@ IsHeadTree (Apply' p t shape all) = ⊥
 IsHeadTree _ = Unit {0}
 
 module _ (n : ℕ) (F : Symbols) (M : List Declared) where
-  -- a tree over the n symbols and the marked ones, which have the types in F, and over the meta-variables M: each symbol
-  -- has all arguments that its type has and leads to the one sort, each meta-variable has its type of M, and an
+  -- a tree over the n symbols and the marked ones, which have the types in F, and over the meta-variables M: each
+  -- symbol has all arguments that its type has and leads to the one sort, each meta-variable has its type of M, and an
   -- application has a head that is no application, and arguments (ours)
   abbrev mutual
     pub IsOver : Tree → Type 0

@@ -1,5 +1,5 @@
-//! Numbers of 32 bits that count what stands in memory. One beyond these would count more than memory holds, and is told
-//! as want of memory.
+//! Numbers of 32 bits that count what stands in memory. One beyond these would count more than memory holds, and is
+//! told as want of memory.
 
 ghost use Rattle.std.specs.Prelude.{◌≡◌, ◌↔◌, ◌+◌, Contains, IfOk, IsTrue};
 

@@ -13,7 +13,8 @@ abbrev pub listed_or_all : ℕ → Option (List ℕ) → Option (List ℕ)
 listed_or_all rules (Some listed) = Some listed
 listed_or_all rules None = Some (numbers_from 0 rules)
 
--- a node for a system with so many rules, as one of version 2: one of interpretations that lists no rules lists all of them
+-- a node for a system with so many rules, as one of version 2: one of interpretations that lists no rules lists all of
+-- them
 abbrev pub upgraded_node : ℕ → Node → Node
 upgraded_node rules (interpretations usable funs marks lines pairs drop) =
     interpretations (listed_or_all rules usable) funs marks lines pairs drop

@@ -8,8 +8,8 @@ ghost use Rattle.wh_cert.specs.Limits.{IsCert};
 ghost use Rattle.wh_upgrade.specs.Upgraded.{upgraded};
 ghost use Rattle.wh_proof.specs.Valid.{IsValidCert, IsSmallCert};
 
-/// A certificate within the limits of the format is valid exactly where the upgraded one is: to list all rules is to cover what
-/// a node without a list covers.
+/// A certificate within the limits of the format is valid exactly where the upgraded one is: to list all rules is to
+/// cover what a node without a list covers.
 pub fn upgraded_certificates_are_as_valid()
     ensures { (d : SystemData) (ps : List PairData) (c : Cert) → IsCert c
         → (IsValidCert d ps (upgraded (length d.rules) c) ↔ IsValidCert d ps c) }

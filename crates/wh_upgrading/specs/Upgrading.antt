@@ -20,7 +20,8 @@ IsAccepted d ps c = Weighed d ps c Yes ⊎ Weighed d ps c No
 abbrev pub IsUpgradedText : SystemData → List PairData → Cert → List ℕ → Type 0
 IsUpgradedText d ps c text = IsAccepted d ps c × CertText text (upgraded (length d.rules) c)
 
--- why there is no such text for a certificate: its text is too long; or what is wrong first with it, or exceeds a limit first
+-- why there is no such text for a certificate: its text is too long; or what is wrong first with it, or exceeds a limit
+-- first
 abbrev pub IsNotUpgradedFor : SystemData → List PairData → Cert → Report → Type 0
 IsNotUpgradedFor d ps c Yes = ⊥
 IsNotUpgradedFor d ps c No = ⊥

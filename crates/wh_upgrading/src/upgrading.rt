@@ -25,8 +25,9 @@ use wh_judging::{Problem, certificate_in, problem_in, weigh};
 use wh_types::{Bytes, Or};
 use wh_upgrade::{upgrade, upgraded_has_text};
 
-/// The text of the certificate in the second file as one of the second version of the format, where a check accepts it for the system
-/// in the first file; else why there is none, as the check tells it, or that this text is too long. Both files are read.
+/// The text of the certificate in the second file as one of the second version of the format, where a check accepts it
+/// for the system in the first file; else why there is none, as the check tells it, or that this text is too long. Both
+/// files are read.
 pub fn upgrade_files<S: Shelf>(
     alloc: Global,
     shelf: &mut S,

@@ -1,5 +1,5 @@
-//! Usable rules: the lists of rules that a node of interpretations may cover in place of all rules (after Arts and Giesl
-//! 2000; the condition is this project's own).
+//! Usable rules: the lists of rules that a node of interpretations may cover in place of all rules (after Arts and
+//! Giesl 2000; the condition is this project's own).
 #![tactic(auto)]
 
 mod calls;

@@ -27,15 +27,16 @@ HasListedHead rules listed t = (f : ℕ) → head t ≡ fun f → ListsRulesOf r
 
 module _ (S : Symbols) (rules : List RewriteRule) (listed : List ℕ) (symbols : List Interpretation) where
   mutual
-    -- the number bounds the term: that of a symbol whose rules are listed is at least what the symbol's interpretation gives at bounds
-    -- of the arguments; that of another whole call is so too, and bounds all reducts; that of any other term bounds its reducts (ours;
-    -- the least such number is the value of the term)
+    -- the number bounds the term: that of a symbol whose rules are listed is at least what the symbol's interpretation
+    -- gives at bounds of the arguments; that of another whole call is so too, and bounds all reducts; that of any other
+    -- term bounds its reducts (ours; the least such number is the value of the term)
     pub data Bounds : Tm → ℕ → Type 0 where
       by_reading : {t : Tm} {s k n : ℕ} → HasListedHead rules listed t → Reads t (sort s) k → k ≤ n → Bounds t n
       by_reading_and_steps : {t : Tm} {s k n : ℕ} → Reads t (sort s) k → k ≤ n → ((u : Tm) → Step rules t u → Bounds u n) → Bounds t n
       by_steps : {t : Tm} {n : ℕ} → (IsWholeCall S t → ⊥) → ((u : Tm) → Step rules t u → Bounds u n) → Bounds t n
 
-    -- the functional is what the interpretation of the symbol that heads the call gives at bounds of the arguments (ours)
+    -- the functional is what the interpretation of the symbol that heads the call gives at bounds of the arguments
+    -- (ours)
     pub data Reads : Tm → (A : Ty) → Sem A → Type 0 where
       reads_symbol : {f : ℕ} {A : Ty} → type_at S.funs f ≡ A → Reads (fun f) A (of_interpretations symbols f A)
       reads_application : {t u : Tm} {s n : ℕ} {B : Ty} {F : Sem (sort s ⇒ B)} → Reads t (sort s ⇒ B) F → Bounds u n

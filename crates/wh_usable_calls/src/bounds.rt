@@ -16,15 +16,15 @@ ghost use Rattle.wh_polycheck.specs.Covering.{IsCovering};
 ghost use Rattle.wh_usable.specs.Closed.{AreClosedRules};
 ghost use Rattle.wh_usable_calls.specs.Bounds.{Bounds};
 
-/// Each well-typed term that is bounded in the number of its steps has a number that bounds it, whatever rules are listed and however
-/// symbols are interpreted.
+/// Each well-typed term that is bounded in the number of its steps has a number that bounds it, whatever rules are
+/// listed and however symbols are interpreted.
 pub fn bounded_terms_have_bounds()
     ensures { (S : Symbols) (rules : List RewriteRule) (listed : List ℕ) (symbols : List Interpretation) (t : Tm) → AreWellMade S rules
         → WellTyped S t → Bounded rules t → (n : ℕ) × Bounds S rules listed symbols t n }
 {}
 
-/// Where readings and moves cover a task, and the rules that are to be covered are first-order and call only symbols all whose rules are
-/// among them, what a term steps to has the term's bounds.
+/// Where readings and moves cover a task, and the rules that are to be covered are first-order and call only symbols
+/// all whose rules are among them, what a term steps to has the term's bounds.
 pub fn steps_keep_bounds()
     ensures { (T : TaskData) (R : ReadingsData) (E : Evidence (List Transfer)) (t u : Tm) (n : ℕ) → AreWellMade T.symbols T.rules
         → AreClosedRules T → IsCovering T R E

@@ -12,8 +12,9 @@ ghost use Rattle.wh_polycheck.specs.Readings.{ReadingsData};
 ghost use Rattle.wh_polycheck.specs.Covering.{IsCovering, HaveTypedSides};
 ghost use Rattle.wh_usable.specs.Closed.{IsUsable};
 
-/// Where readings and moves cover a task, and the rules that are to be covered are closed for its set, calls by its set end if calls by
-/// the pairs that are not dropped do (Fuhs and Kop 2012, the reduction pair processor; the condition on the rules is ours).
+/// Where readings and moves cover a task, and the rules that are to be covered are closed for its set, calls by its set
+/// end if calls by the pairs that are not dropped do (Fuhs and Kop 2012, the reduction pair processor; the condition on
+/// the rules is ours).
 pub fn usable_coverings_keep_that_calls_end()
     ensures { (T : TaskData) (R : ReadingsData) (E : Evidence (List Transfer)) (rest : List ℕ) → AreWellMade T.symbols T.rules
         → HaveTypedSides T.symbols T.rules T.pairs → IsUsable T → IsCovering T R E → IsSetOf (IsKept T.set E.drop) rest

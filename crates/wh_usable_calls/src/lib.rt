@@ -1,5 +1,6 @@
-//! Laws of nodes of interpretations that cover only the rules of a closed list: numbers bound terms, steps keep these bounds, and calls of
-//! the node's set end where those by the pairs that are not dropped do. Each is the contract of a function that does nothing.
+//! Laws of nodes of interpretations that cover only the rules of a closed list: numbers bound terms, steps keep these
+//! bounds, and calls of the node's set end where those by the pairs that are not dropped do. Each is the contract of a
+//! function that does nothing.
 #![tactic(auto)]
 
 mod bounds;

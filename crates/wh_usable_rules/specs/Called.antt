@@ -17,8 +17,8 @@ pub data Reaches (rules : List RewriteRule) (P : ℕ → Type 0) : ℕ → Type 
 abbrev pub StandsInPairs : List PairData → List ℕ → ℕ → Type 0
 StandsInPairs pairs set f = (p : PairData) × InSet pairs set p × HaveSymbol f (tms_of p.right)
 
--- the symbol is called from the set: it stands in a right argument of a pair, or in the right side of a rule of a symbol that is
--- called (Arts and Giesl 2000)
+-- the symbol is called from the set: it stands in a right argument of a pair, or in the right side of a rule of a
+-- symbol that is called (Arts and Giesl 2000)
 abbrev pub IsCalled : TaskData → ℕ → Type 0
 IsCalled T = Reaches T.rules (StandsInPairs T.pairs T.set)
 

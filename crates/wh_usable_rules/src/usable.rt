@@ -19,9 +19,9 @@ use wh_usable::check_closed;
 /// The usable rules of the set: those of the symbols that are called from its pairs. `None` where no list of rules is
 /// closed for the set but that of all rules.
 ///
-/// The list is increasing and it is the least one that is closed (usable rules, Arts and Giesl 2000; which lists are closed is
-/// the project's own). Nothing is searched for: the time is linear in the sides of pairs and rules, beside that each rule is
-/// looked at for each one that is taken.
+/// The list is increasing and it is the least one that is closed (usable rules, Arts and Giesl 2000; which lists are
+/// closed is the project's own). Nothing is searched for: the time is linear in the sides of pairs and rules, beside
+/// that each rule is looked at for each one that is taken.
 pub fn usable_rules(
     alloc: Global,
     system: &System,

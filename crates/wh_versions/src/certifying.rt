@@ -9,8 +9,8 @@ use wh_cert::{Node, Nodes, YesCertificate};
 use wh_types::Numbers;
 use wh_upgrade::upgrade_nodes;
 
-/// The certificate of these nodes for a system with so many rules. It is of version 1 where each node is of that version; else it is of
-/// version 2, and a node of interpretations that lists no rules gets the list of all.
+/// The certificate of these nodes for a system with so many rules. It is of version 1 where each node is of that
+/// version; else it is of version 2, and a node of interpretations that lists no rules gets the list of all.
 #[tactic(auto, using(crate::proofs::CertificateLemmas::certificate_first, crate::proofs::CertificateLemmas::certificate_second))]
 pub fn certificate_of(
     alloc: Global,

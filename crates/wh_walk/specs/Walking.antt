@@ -93,7 +93,8 @@ AtNodes d ps k (no raw steps path puts) rest = ⊥
 abbrev pub behind_steps : List ℕ → List w.Put → List Item
 behind_steps path puts = at path ∷ (map put puts ++ end ∷ [])
 
--- the steps so far had no fault, but that those which wait are not gone over: the others lead to the last term, and these steps are left
+-- the steps so far had no fault, but that those which wait are not gone over: the others lead to the last term, and
+-- these steps are left
 pub record StepsCome (d : SystemData) (k : Steps) (raw : RTm) (steps : List taken.Step) (path : List ℕ) (puts : List w.Put)
     (rest : List Item) : Type 0 where
   pub tables : AreTablesOf d k.names

@@ -23,9 +23,9 @@ use wh_system::System;
 use wh_terms::Step;
 use wh_types::Or;
 
-/// A check of a certificate that is given its items one by one, in the order of its text. It keeps the sets that are still to
-/// be proved and the sides of the pairs by numbers, or at most 65,536 steps and what the check of the end of a loop needs. After
-/// the first fault it keeps that alone.
+/// A check of a certificate that is given its items one by one, in the order of its text. It keeps the sets that are
+/// still to be proved and the sides of the pairs by numbers, or at most 65,536 steps and what the check of the end of a
+/// loop needs. After the first fault it keeps that alone.
 #[derive(Drop)]
 pub struct Walk {
     at: Place,
@@ -43,8 +43,8 @@ impl Walk {
         })
     }
 
-    /// Takes the next item of a certificate. System and pairs are the same at each call. Without memory the walk is at its end,
-    /// and stands for nothing.
+    /// Takes the next item of a certificate. System and pairs are the same at each call. Without memory the walk is at
+    /// its end, and stands for nothing.
     pub fn push(&mut self, system: &System, pairs: &PairList, item: &Item) -> Result<(), AllocError>
         requires pairs { HasPairs (system_data system.now) (pairs_data pairs.now) }
         requires next { IsNext (system_data system.now) (pairs_data pairs.now) self.old (said_item item.now) }
@@ -98,9 +98,9 @@ impl Walk {
         }
     }
 
-    /// The items are all those of a certificate. It is accepted exactly where it is valid and no value exceeds a limit in a side
-    /// that a node of interpretations evaluates; else the first condition that is false is named, or the first node in which a
-    /// value exceeds a limit before that.
+    /// The items are all those of a certificate. It is accepted exactly where it is valid and no value exceeds a limit
+    /// in a side that a node of interpretations evaluates; else the first condition that is false is named, or the
+    /// first node in which a value exceeds a limit before that.
     pub fn finish(self) -> Result<Accepted, CheckFault>
         requires { (d : SystemData) × (ps : List PairData) × (c : Cert) × IsCert c × StandsFor d ps self (items c) }
         ensures { (d : SystemData) (ps : List PairData) (c : Cert) → IsCert c → StandsFor d ps self (items c) → Answers d ps c result }

@@ -41,14 +41,15 @@ pub data Item : Type 0 where
 abbrev pub IsFilled : List ℕ → Type 0
 IsFilled word = word ≢ []
 
--- a word that stands by itself before `--`: it is not empty, and where it has two bytes or more it does not begin with `-`
+-- a word that stands by itself before `--`: it is not empty, and where it has two bytes or more it does not begin with
+-- `-`
 abbrev pub IsPlain : List ℕ → Type 0
 IsPlain [] = ⊥
 IsPlain (b ∷ []) = Unit {0}
 IsPlain (b ∷ c ∷ bs) = b ≢ 45
 
--- the words say these items: the first word `--` ends the options, and all behind it stand by themselves; an option and its number
--- are joined by `=`, or are two words (the way of GNU's programs)
+-- the words say these items: the first word `--` ends the options, and all behind it stand by themselves; an option and
+-- its number are joined by `=`, or are two words (the way of GNU's programs)
 pub data Say : List (List ℕ) → List Item → Type 0 where
   say_none : Say [] []
   say_rest : {words : List (List ℕ)} → All IsFilled words → Say (codes "--" ∷ words) (map alone words)
@@ -110,9 +111,10 @@ pub record SetTries (items : List Item) (n : ℕ) : Type 0 where
   pub visited : IsUnset items visited
   pub steps : IsUnset items steps
 
--- what the words may ask for: to check a certificate for a system, to search for a proof of termination or a loop within bounds, to show
--- a system, to prove the generated system with a number, to reduce a term of a system by at most that many steps, to write a certificate
--- in the second version of the format, or to refute that a projection helps where a search is stuck, by at most that many clauses
+-- what the words may ask for: to check a certificate for a system, to search for a proof of termination or a loop
+-- within bounds, to show a system, to prove the generated system with a number, to reduce a term of a system by at most
+-- that many steps, to write a certificate in the second version of the format, or to refute that a projection helps
+-- where a search is stuck, by at most that many clauses
 pub data Request : Type 0 where
   check : (file cert : List ℕ) → Request
   prove : (file : List ℕ) (b : Bounds) → Request

@@ -97,7 +97,8 @@ impl<'a> Kept<'a> {
         Some(())
     }
 
-    /// Keeps the number that the word spells; `None` where it spells none that may be asked for, or the option stood before.
+    /// Keeps the number that the word spells; `None` where it spells none that may be asked for, or the option stood
+    /// before.
     pub fn set(&mut self, setting: Setting, word: &str) -> Option<()>
         ensures { MatchOption result (SetsNone self.old (which setting) word.now) (λ _. Sets self.old (which setting) word.now self.new) }
     {

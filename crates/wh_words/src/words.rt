@@ -77,10 +77,10 @@ pub enum Command<'a> {
 
 /// What the words ask for; `None` exactly where they are none of the program's. It takes no memory.
 ///
-/// The first word is the command. No word is empty. The first word `--` behind it ends the options; all words behind that stand by
-/// themselves. Before it a word that begins with `--` is an option: `--name=N`, or `--name` followed by the word `N`; no other word of
-/// two or more bytes begins with `-`. Each option stands at most once, before or behind other words. `N` is 0 or has digits without a
-/// leading zero.
+/// The first word is the command. No word is empty. The first word `--` behind it ends the options; all words behind
+/// that stand by themselves. Before it a word that begins with `--` is an option: `--name=N`, or `--name` followed by
+/// the word `N`; no other word of two or more bytes begins with `-`. Each option stands at most once, before or behind
+/// other words. `N` is 0 or has digits without a leading zero.
 pub fn read_words(words: &[String]) -> Option<Command<'_>>
     ensures { MatchOption result ((asked : Request) → Asks (map string_bytes words.now) asked → ⊥)
         (λ command. Asks (map string_bytes words.now) (request command)) }

@@ -76,8 +76,9 @@ impl Circuit {
         Ok(())
     }
 
-    /// The formula. Its models are the values of all variables that are as the gates say and under which each required wire is true. So on
-    /// the inputs they are exactly the assignments from which the gates make all required wires true.
+    /// The formula. Its models are the values of all variables that are as the gates say and under which each required
+    /// wire is true. So on the inputs they are exactly the assignments from which the gates make all required wires
+    /// true.
     pub fn formula(&self) -> &Formula
         ensures same { result.now ≡ formula_of self.now }
         ensures count { result.now.variables ≡ length (gates_of self.now) }

@@ -1,5 +1,6 @@
-//! Gates join a circuit. Constants are folded: the wire that is always true is left out of a gate, and its negation decides it. So a gate
-//! that is made has two wires or more, but for that constant, which is made where it is first asked for.
+//! Gates join a circuit. Constants are folded: the wire that is always true is left out of a gate, and its negation
+//! decides it. So a gate that is made has two wires or more, but for that constant, which is made where it is first
+//! asked for.
 
 ghost use Rattle.std.specs.Prelude.{◌≡◌, ℕ, ◌+◌, ◌<◌, ◌^◌, ◌++◌, [], ◌∷◌, Bool, true, false, IfOk, MatchOption, OnErr, OnOk, Some, length};
 ghost use Rattle.wh_circuit.specs.Gates.{Agrees, AreWires, IsWire, Means};

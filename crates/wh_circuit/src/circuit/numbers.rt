@@ -11,8 +11,8 @@ use std::alloc::AllocError;
 use wh_gate_clauses::Wire;
 
 impl Circuit {
-    /// True exactly where the first number is at least the second; they are equally wide. Of width 0 it is true. At most four variables
-    /// join for each bit, and one more.
+    /// True exactly where the first number is at least the second; they are equally wide. Of width 0 it is true. At
+    /// most four variables join for each bit, and one more.
     pub fn at_least(&mut self, a: &[Wire], b: &[Wire]) -> Result<Wire, AllocError>
         requires room { length (gates_of self.old) + (4 * length a.now + 1) < 2 ^ 31 }
         requires width { length a.now ≡ length b.now }

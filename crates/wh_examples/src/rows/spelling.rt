@@ -70,7 +70,8 @@ fn add_plain(piece: &str, text: &mut Bytes) -> Result<(), AllocError> {
     Ok(())
 }
 
-// What is between them: `#`, `%` with the number of a byte, a name, or a name with `*` and how many times its text is filled in.
+// What is between them: `#`, `%` with the number of a byte, a name, or a name with `*` and how many times its text is
+// filled in.
 fn fill_in(
     alloc: Global,
     texts: &[Named],

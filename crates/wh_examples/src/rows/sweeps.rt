@@ -40,8 +40,8 @@ pub fn rejects_foreign(
     Ok(true)
 }
 
-/// Whether the certificate is accepted or rejected, whichever of its bytes is changed to the one next to it: the other digit of two, and a
-/// parenthesis that closes for one that opens.
+/// Whether the certificate is accepted or rejected, whichever of its bytes is changed to the one next to it: the other
+/// digit of two, and a parenthesis that closes for one that opens.
 pub fn decides_neighbours(
     alloc: Global,
     given: &Given,
@@ -78,7 +78,8 @@ fn is_answer(status: u8, text: &[u8]) -> bool {
     }
 }
 
-/// Whether the fault of each write leaves the bytes of the writes before it, where a write takes so many bytes and the text is written.
+/// Whether the fault of each write leaves the bytes of the writes before it, where a write takes so many bytes and the
+/// text is written.
 pub fn leaves_fronts(
     alloc: Global,
     given: &Given,
@@ -145,7 +146,8 @@ fn shows(alloc: Global, words: &[String], system: &[u8], text: &[u8]) -> Result<
     Ok(end.status == 0 && end.out.bytes() == text)
 }
 
-/// Whether a check accepts what a search wrote, where it is a certificate, and where it is none, whether it begins with `MAYBE`.
+/// Whether a check accepts what a search wrote, where it is a certificate, and where it is none, whether it begins with
+/// `MAYBE`.
 pub fn is_accepted(alloc: Global, system: &[u8], text: &[u8]) -> Result<bool, AllocError> {
     if text.starts_with(b"YES ") {
         return accepts(alloc, system, text, b"YES\n");

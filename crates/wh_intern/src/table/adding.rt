@@ -15,8 +15,8 @@ use wh_terms::{Term, Terms};
 use wh_types::Numbers;
 
 impl Table {
-    // The number of the node, which is added unless it is there. A table whose next number would not fit in 32 bits is full: its
-    // room has ended as memory does.
+    // The number of the node, which is added unless it is there. A table whose next number would not fit in 32 bits is
+    // full: its room has ended as memory does.
     fn put(&mut self, part: Part) -> Result<u32, AllocError>
         requires { Below (length (trees self.old)) (part_tree part) }
         ensures number { IfOk result (λ n. slice_get (trees self.new) n ≡ Some (tree_of (trees self.old) (part_tree part))) }
@@ -29,8 +29,8 @@ impl Table {
         Ok(index as u32)
     }
 
-    /// The number of the tree. Earlier numbers keep their trees, and only the parts of this one join: all of them, or some
-    /// where memory or the numbers of 32 bits end.
+    /// The number of the tree. Earlier numbers keep their trees, and only the parts of this one join: all of them, or
+    /// some where memory or the numbers of 32 bits end.
     pub fn add(&mut self, term: &Term) -> Result<u32, AllocError>
         ensures number { IfOk result (λ n. slice_get (trees self.new) n ≡ Some (tm term.now)) }
         ensures parts { OnOk result ((s : Tm) → Contains (trees self.new) s ↔ (Contains (trees self.old) s ⊎ IsPart s (tm term.now))) }

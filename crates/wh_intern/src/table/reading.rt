@@ -38,8 +38,8 @@ impl Table {
         &self.parts.as_slice()[number as usize]
     }
 
-    /// The law of the table: two numbers are equal exactly where their trees are, the types of binders included. (That equal
-    /// numbers have equal trees needs no saying.)
+    /// The law of the table: two numbers are equal exactly where their trees are, the types of binders included. (That
+    /// equal numbers have equal trees needs no saying.)
     pub fn has_each_tree_once(&self)
         ensures { (m n : ℕ) → m < length (trees self.now) → n < length (trees self.now)
             → tree_at (trees self.now) m ≡ tree_at (trees self.now) n → m ≡ n }

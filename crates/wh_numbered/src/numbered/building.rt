@@ -23,7 +23,8 @@ impl Numbered {
         Ok(Numbered { table, sides })
     }
 
-    /// Makes it of the pairs of a system where it is not made yet, so that who asks for no sides by number pays for none.
+    /// Makes it of the pairs of a system where it is not made yet, so that who asks for no sides by number pays for
+    /// none.
     pub fn once(
         alloc: Global,
         pairs: &PairList,

@@ -12,8 +12,8 @@ use super::Numbered;
 use std::alloc::{AllocError, Global};
 use wh_pairs::{Pair, PairList, PairSet};
 
-/// Numbers the sides of the pairs of a system where that pays for a look at the set and was not done before: where two pairs that
-/// stand next to each other in the set are of one rule, whose left side is then numbered once for both.
+/// Numbers the sides of the pairs of a system where that pays for a look at the set and was not done before: where two
+/// pairs that stand next to each other in the set are of one rule, whose left side is then numbered once for both.
 pub fn number_if_shared(
     alloc: Global,
     pairs: &PairList,

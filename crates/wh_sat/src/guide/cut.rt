@@ -1,7 +1,7 @@
-//! What a conflict rests on. A false clause and the clauses that forced its literals, back to the last decision, have a first cut
-//! through one literal of the last level (the first unique implication point of GRASP and MiniSat). Where the literals of the cut
-//! are at most a quarter more than the decisions, they are decided in their place, and the conflict comes again. Of the
-//! bounds that were tried this was the best for random formulas and pigeonholes together.
+//! What a conflict rests on. A false clause and the clauses that forced its literals, back to the last decision, have a
+//! first cut through one literal of the last level (the first unique implication point of GRASP and MiniSat). Where the
+//! literals of the cut are at most a quarter more than the decisions, they are decided in their place, and the conflict
+//! comes again. Of the bounds that were tried this was the best for random formulas and pigeonholes together.
 
 use crate::guide::Guide;
 use std::alloc::AllocError;
@@ -15,8 +15,8 @@ struct Part {
 }
 
 impl Guide {
-    /// Looks at a conflict of a noted trail, which is at a clause: raises the variables that the conflict rests on, and plans its cut.
-    /// Whether there is a plan.
+    /// Looks at a conflict of a noted trail, which is at a clause: raises the variables that the conflict rests on, and
+    /// plans its cut. Whether there is a plan.
     pub fn study(&mut self, trail: &Trail, clause: usize) -> Result<bool, AllocError> {
         let levels = trail.levels();
         if levels == 0 {

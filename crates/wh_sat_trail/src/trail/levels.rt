@@ -43,8 +43,8 @@ impl Trail {
         self.assignment.at(place)
     }
 
-    /// The number of the clause that forced the variable's last value, if one did. Nothing is claimed of it: it is a hint for the
-    /// choice of what to learn.
+    /// The number of the clause that forced the variable's last value, if one did. Nothing is claimed of it: it is a
+    /// hint for the choice of what to learn.
     pub fn reason(&self, variable: u32) -> Option<usize>
         requires { variable < (formula_of self.now).variables }
     {

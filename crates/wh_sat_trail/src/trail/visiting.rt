@@ -90,7 +90,8 @@ impl Trail {
         Ok(())
     }
 
-    /// A clause that watches a false literal: it watches another one, or has none and is false or forces its other watch.
+    /// A clause that watches a false literal: it watches another one, or has none and is false or forces its other
+    /// watch.
     fn mend(
         &mut self,
         at: usize,
@@ -206,7 +207,8 @@ impl Trail {
 }
 
 impl Trail {
-    /// All clauses that watch a literal which is false now. What is false is reported; else every watched clause is safe one literal further.
+    /// All clauses that watch a literal which is false now. What is false is reported; else every watched clause is
+    /// safe one literal further.
     pub(crate) fn visit_all(&mut self, falsified: Literal) -> Result<Option<usize>, AllocError>
         requires below { falsified.variable < self.old.formula.variables }
         requires turn { Turn self.old.assignment.literals.items self.old.head falsified }
