@@ -1,5 +1,5 @@
 -- What a product that grows has come to.
-use Rattle.std.specs.Prelude.{ℕ, ◌≡◌, ◌+◌, ◌*◌, ◌≤◌, ◌<◌, Option, None, Some}
+use Rattle.std.specs.Prelude.{ℕ, ◌+◌, ◌*◌, ◌≤◌, ◌<◌, Option, None, Some}
 use Rattle.wh_types.specs.Limits.{coefficient_end, greatest_weight, deepest_value}
 use Rattle.wh_poly.specs.Polynomials.{Polynomial, Factors, plus, zero_poly, Ordered}
 use Rattle.wh_poly.specs.Arithmetic.{constant, multiply}

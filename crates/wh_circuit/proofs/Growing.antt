@@ -1,5 +1,5 @@
 -- Circuits that grow.
-use Rattle.std.proofs.Common.{◌≡◌, ℕ, ◌+◌, ◌<◌, ◌≤◌, Bool, ◌&&◌, ◌||◌, nat_lt, List, [], ◌∷◌, Some, length, take, refl, sym, ◌∙◌, ap, subst, inl, inr, arith, suc, zero, slice_get}
+use Rattle.std.proofs.Common.{◌≡◌, ℕ, ◌+◌, ◌<◌, ◌≤◌, Bool, ◌&&◌, ◌||◌, List, [], ◌∷◌, Some, length, take, refl, sym, ◌∙◌, ap, subst, inl, inr, arith, suc, zero, slice_get}
 use Rattle.std.proofs.lemmas.Bool.{cases_lt}
 use Rattle.std.proofs.lemmas.Option.{slice_get_within}
 use Rattle.wh_sat_trail.specs.declared.literal.Literal.{Literal}

@@ -1,7 +1,7 @@
 -- Gates: each variable of a circuit is an input, or true exactly where all of some earlier wires are.
-use Rattle.std.specs.Prelude.{◌≡◌, ℕ, ◌+◌, ◌<◌, ◌≤◌, Bool, true, false, List, [], ◌∷◌, ◌++◌, Some, length, take, map, slice_get}
+use Rattle.std.specs.Prelude.{◌≡◌, ℕ, ◌+◌, ◌<◌, ◌≤◌, Bool, true, false, List, Some, length, take, slice_get}
 use Rattle.wh_sat_trail.specs.declared.literal.Literal.{Literal}
-use Rattle.wh_sat_trail.specs.Assignment.{AllBelow, negated}
+use Rattle.wh_sat_trail.specs.Assignment.{AllBelow}
 use Rattle.wh_sat.specs.Solving.{literal_true}
 use Rattle.wh_circuit.specs.declared.circuit.Gate.{Gate}
 use Rattle.wh_circuit.specs.Values.{all_true, number_of}

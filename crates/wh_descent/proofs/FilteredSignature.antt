@@ -2,7 +2,7 @@
 use Rattle.std.proofs.Common.{◌≡◌, ℕ, zero, suc, ◌+◌, ◌-◌, ◌<◌, Bool, true, false, cond, List, [], ◌∷◌, length, map, Some, slice_get, refl, ap, sym, subst, ◌∙◌, arith, eqb-true}
 use Rattle.std.proofs.lemmas.Bool.{lt-ltb, le-ltb, cond-true, cond-false}
 use Rattle.std.proofs.lemmas.List.{length-map}
-use Rattle.std.proofs.lemmas.Option.{none-some, same_Some, slice_get_within}
+use Rattle.std.proofs.lemmas.Option.{slice_get_within}
 use Rattle.std.specs.Prelude.{nat_lt, ◌==◌}
 use Rattle.wh_types.specs.Ty.{Ty, arguments}
 use Rattle.wh_terms.specs.Typing.{Symbols}
@@ -12,7 +12,6 @@ use Rattle.wh_reduction.specs.TaskData.{numbers_from}
 use Rattle.wh_reduction.proofs.Numbers.{numbers_at}
 use Rattle.wh_polycheck.specs.Marks.{marked_types}
 use Rattle.wh_polycheck.proofs.MoreInterpretations.{slice_get_front, slice_get_behind}
-use Rattle.wh_inference.specs.Filters.{Filter}
 use Rattle.wh_inference.specs.FilterText.{WrittenFilter, filter_of}
 use Rattle.wh_extended.specs.ExtendedSides.{marked_number}
 use Rattle.wh_extended.specs.Filtered.{IsProper, Filters, FitsMark}

@@ -35,8 +35,8 @@ use Rattle.wh_path_order.specs.Lines.{AreOriented, PairSides, filtered_call}
 use Rattle.wh_path_order.proofs.FilteredSteps.{call_steps, call_ends}
 use Rattle.wh_path_order.proofs.PairValues.{pair_values_step}
 use Rattle.wh_ordering.specs.Filterings.{FilteringData, filters_of, precedences_of, argument_types, filtered_signature}
-use Rattle.wh_ordering.specs.Ordering.{IsGoodRule, IsGoodPair, by_inferences, IsOrdering}
-use Rattle.wh_descent.specs.PatternSides.{HaveKnownSorts, HasPatternSides, HavePatternSides}
+use Rattle.wh_ordering.specs.Ordering.{IsGoodPair, by_inferences, IsOrdering}
+use Rattle.wh_descent.specs.PatternSides.{HaveKnownSorts, HavePatternSides}
 use Rattle.wh_descent.proofs.FilteredSignature.{filters_fit, mark_fits}
 
 -- where steps end, sequences of steps end

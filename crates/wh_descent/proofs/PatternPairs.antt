@@ -1,5 +1,5 @@
 -- The pairs of a well-made system have patterns on their left sides, and meta-variables of known sorts.
-use Rattle.std.proofs.Common.{◌≡◌, ◌⊎◌, inl, inr, ℕ, suc, ◌+◌, ◌<◌, List, [], ◌∷◌, ◌++◌, length, map, take, drop, reverse, Option, Some, None, slice_get, get_or, Contains, All, ap, sym, subst}
+use Rattle.std.proofs.Common.{◌≡◌, ◌⊎◌, inl, inr, ℕ, ◌+◌, List, [], ◌∷◌, ◌++◌, length, map, take, reverse, Option, Some, None, slice_get, get_or, Contains, All, sym, subst}
 use Rattle.std.specs.List.{AllByRecursion}
 use Rattle.std.proofs.lemmas.List.{reverse-append}
 use Rattle.std.proofs.lemmas.List.Elements.{Contains-append_cases, All-nil, All-cons, All-head, All-tail, All-same, All-push, All-append, All-take, All-drop, All-weaker, All-map, All-contains}
@@ -25,7 +25,7 @@ use Rattle.wh_pairs.proofs.MemberLemmas.{none_there, head_or_behind}
 use Rattle.wh_pairs.proofs.SubsumptionLaws.{left-member}
 use Rattle.wh_calls.proofs.CandidateValues.{IsTypedIn, rule_call}
 use Rattle.wh_calls.proofs.Served.{IsOfCall, candidate_of_call}
-use Rattle.wh_extended.specs.Kinds.{arrows, KnowsMetas}
+use Rattle.wh_extended.specs.Kinds.{arrows}
 use Rattle.wh_descent.specs.PatternSides.{HaveKnownSorts, HasPatternSides}
 
 -- lists of types with known sorts

@@ -1,5 +1,5 @@
 -- The words that the program that explains is run with, and what they ask for (ours).
-use Rattle.std.specs.Prelude.{ℕ, ◌≡◌, ◌≢◌, ◌⊎◌, List, [], ◌∷◌, All, Option, Some, None, codes}
+use Rattle.std.specs.Prelude.{ℕ, ◌≡◌, ◌≢◌, ◌⊎◌, List, [], ◌∷◌, All, Some, None, codes}
 use Rattle.wh_explain_words.specs.declared.request.Request as request
 
 -- what may be asked for: to explain a system, by a search or by a certificate; to say what may not be meant in it; its

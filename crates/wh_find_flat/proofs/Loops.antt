@@ -1,10 +1,9 @@
 -- Rules and pairs one after another.
-use Rattle.std.proofs.Common.{◌≡◌, ℕ, zero, suc, ◌+◌, ◌<◌, ◌≤◌, ◌==◌, if◌then◌else◌, nat_lt, ◌⊎◌, inl, inr, Bool, true, false, List, [], ◌∷◌, ◌++◌, length, take, get_or, map, sum_by, Some, slice_get, refl, ap, sym, subst, ◌∙◌, arith, tests}
+use Rattle.std.proofs.Common.{◌≡◌, ℕ, zero, suc, ◌+◌, ◌<◌, ◌≤◌, ◌==◌, if◌then◌else◌, nat_lt, ◌⊎◌, inl, inr, Bool, true, false, List, [], ◌∷◌, ◌++◌, length, take, get_or, sum_by, Some, slice_get, refl, ap, sym, subst, ◌∙◌, arith, tests}
 use Rattle.std.proofs.lemmas.Option.{none-some, same_Some}
 use Rattle.std.proofs.lemmas.Bool.{cases_eq}
 use Rattle.std.proofs.lemmas.List.Sums.{sum_by-cons}
 use Rattle.wh_sat_trail.specs.declared.literal.Literal.{Literal}
-use Rattle.wh_terms.specs.Tree.{Tm, app, spine}
 use Rattle.wh_terms.specs.Rules.{RewriteRule}
 use Rattle.wh_pairs.specs.PairData.{PairData}
 use Rattle.wh_pairs.proofs.ByPlace.{some_one}

@@ -1,5 +1,5 @@
 -- Where a search ends without a path, the right monomials that it got to want more than those that could give to them have.
-use Rattle.std.proofs.Common.{◌≡◌, ℕ, zero, suc, ◌<◌, ◌≤◌, inl, inr, Bool, false, IsTrue, Option, Some, None, IsSome, MatchOption, is_some, List, [], ◌∷◌, length, get_or, map, refl, sym, subst, arith}
+use Rattle.std.proofs.Common.{◌≡◌, ℕ, zero, suc, ◌<◌, ◌≤◌, inl, inr, Bool, false, IsTrue, Option, Some, None, IsSome, MatchOption, is_some, List, [], ◌∷◌, length, get_or, map, sym, subst, arith}
 use Rattle.std.specs.List.{All, Contains}
 use Rattle.std.proofs.lemmas.List.{length-map, get_or_past}
 use Rattle.std.proofs.lemmas.List.Elements.{All-weaker, All-contains_itself}
@@ -7,7 +7,7 @@ use Rattle.std.proofs.lemmas.Bool.{cases_lt}
 use Rattle.wh_poly.specs.Polynomials.{Factors}
 use Rattle.wh_hopoly.specs.Moves.{Transfer, Good, MonomialAt, given_by, taken_by, IsCover}
 use Rattle.wh_poly.specs.declared.polynomial.Monomial.{Monomial, out-Monomial}
-use Rattle.wh_poly.specs.Erase.{sum_of, atoms}
+use Rattle.wh_poly.specs.Erase.{sum_of}
 use Rattle.wh_hopoly.specs.Erase.{transfers}
 use Rattle.wh_find_moves.specs.declared.flow.Flow.{Flow}
 use Rattle.wh_find_moves.specs.declared.search.Search.{Search}

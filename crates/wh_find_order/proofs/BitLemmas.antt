@@ -8,7 +8,7 @@ use Rattle.wh_types.specs.Ty.{Ty}
 use Rattle.wh_inference.specs.FilterText.{WrittenFilter, keeps, picks, filter_of}
 use Rattle.wh_extended.specs.Filtered.{IncreasingFrom, IsProper}
 use Rattle.wh_ordering.specs.Filterings.{HasPlaces, IsProperAsWritten}
-use Rattle.wh_order_space.specs.Bits.{bits_of, first_bit, bit_count, places_from, number_from, filter_with, filter_by}
+use Rattle.wh_order_space.specs.Bits.{first_bit, bit_count, places_from, number_from, filter_with, filter_by}
 use Rattle.wh_find_order.specs.Encodings.{PicksSort}
 
 -- bits that agree write the same

@@ -4,13 +4,13 @@ use Rattle.std.proofs.lemmas.List.{length-map, length-take}
 use Rattle.std.proofs.lemmas.List.Elements.{All-nil, All-cons, All-head, All-tail, All-contains}
 use Rattle.std.proofs.lemmas.Option.{slice_get_within}
 use Rattle.std.specs.Prelude.{unwrap_or}
-use Rattle.wh_types.specs.Ty.{Ty, sort, ◌⇒◌, arguments}
+use Rattle.wh_types.specs.Ty.{Ty, sort, arguments}
 use Rattle.wh_text.specs.Words.{IsName}
 use Rattle.wh_terms.specs.Typing.{Symbols}
 use Rattle.wh_terms.specs.Rules.{RewriteRule}
 use Rattle.wh_system.specs.Needs.{need_of}
 use Rattle.wh_system.specs.Systems.{SystemData}
-use Rattle.wh_system.specs.WellMade.{ArgumentsWithin, IsTypeOver, IsWellMadeSystem}
+use Rattle.wh_system.specs.WellMade.{IsTypeOver, IsWellMadeSystem}
 use Rattle.wh_pairs.specs.PairData.{PairData}
 use Rattle.wh_pairs.proofs.Increasing.{one_place}
 use Rattle.wh_pairs.proofs.ByPlace.{contains_at, place_of, unmap, remap}

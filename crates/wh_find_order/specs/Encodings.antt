@@ -1,5 +1,5 @@
 -- How orders are written by bits in the program, and what it keeps in a search.
-use Rattle.std.specs.Prelude.{ℕ, ◌+◌, ◌-◌, ◌<◌, ◌≤◌, ◌≡◌, ◌↔◌, Bool, false, List, [], Some, length, map, take, get_or, slice_get, Contains}
+use Rattle.std.specs.Prelude.{ℕ, ◌+◌, ◌-◌, ◌<◌, ◌≤◌, ◌≡◌, ◌↔◌, Bool, false, List, [], Some, length, take, get_or, slice_get, Contains}
 use Rattle.std.specs.Global.{Vec}
 use Rattle.wh_types.specs.Ty.{Ty, sort}
 use Rattle.wh_system.specs.Systems.{SystemData}

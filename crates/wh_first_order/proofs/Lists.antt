@@ -1,5 +1,5 @@
 -- Lists of flat trees, element by element.
-use Rattle.std.proofs.Common.{◌≡◌, ℕ, zero, suc, List, [], ◌∷◌, length, map, Contains, refl, subst, arith}
+use Rattle.std.proofs.Common.{zero, suc, List, [], ◌∷◌, map, Contains, refl, subst, arith}
 use Rattle.wh_terms.specs.Erase.{tm}
 use Rattle.wh_terms.specs.Typing.{Symbols, Declared}
 use Rattle.wh_terms.specs.declared.term.Term.{Term}

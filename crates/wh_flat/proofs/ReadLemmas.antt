@@ -1,7 +1,7 @@
 -- Polynomials of the space over arguments of sorts are linear, and come to their coefficients.
 use Rattle.std.proofs.Common.{◌≡◌, ℕ, zero, suc, ◌+◌, ◌*◌, ◌<◌, ◌≤◌, ◌==◌, nat_lt, if◌then◌else◌, Bool, true, false, List, [], ◌∷◌, length, Contains, get_or, Some, slice_get, refl, ap, ap₂, ◌∙◌, sym, subst, arith}
 use Rattle.wh_types.specs.Ty.{Ty, sort, ◌⇒◌, arguments}
-use Rattle.wh_poly.specs.Polynomials.{Polynomial, zero_poly, plus, Factors, no_factors, times, no_arguments, argument, Normal, Sorted, MonomialBefore}
+use Rattle.wh_poly.specs.Polynomials.{Polynomial, zero_poly, plus, Factors, no_factors, times, no_arguments, argument, Sorted, MonomialBefore}
 use Rattle.wh_hopoly.specs.Evaluation.{type_at, Interpretation, interpretation_at}
 use Rattle.wh_hopoly.specs.Moves.{MonomialAt}
 use Rattle.wh_poly.specs.Rearranged.{only_if_equal, coefficient as factor_coefficient, Positive}

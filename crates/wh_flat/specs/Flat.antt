@@ -1,9 +1,9 @@
 -- Flat rules, pairs and sets: first-order ones that are not large.
-use Rattle.std.specs.Prelude.{ℕ, ◌+◌, ◌≤◌, ◌≡◌, List, [], ◌∷◌, Some, Contains, sum_by, slice_get}
+use Rattle.std.specs.Prelude.{ℕ, ◌+◌, ◌≤◌, ◌≡◌, List, [], Some, Contains, sum_by, slice_get}
 use Rattle.std.specs.Option.{option_map_or}
 use Rattle.wh_types.specs.Ty.{sort}
 use Rattle.wh_terms.specs.Tree.{Tm, fun, meta, lam, app, Tms, none, more, tms_of}
-use Rattle.wh_terms.specs.Typing.{Symbols, Declared, Typed}
+use Rattle.wh_terms.specs.Typing.{Symbols, Typed}
 use Rattle.wh_terms.specs.Rules.{RewriteRule}
 use Rattle.wh_system.specs.Systems.{SystemData}
 use Rattle.wh_pairs.specs.PairData.{PairData}

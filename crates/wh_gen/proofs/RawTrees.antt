@@ -1,8 +1,8 @@
 -- What the raw trees that the code makes stand for.
-use Rattle.std.proofs.Common.{◌≡◌, ℕ, List, ap₂, ◌∙◌}
-use Rattle.wh_text.specs.RawTree.{RTy, raw_type, RTys}
+use Rattle.std.proofs.Common.{◌≡◌, ℕ, List}
+use Rattle.wh_text.specs.RawTree.{RTy, RTys}
 use Rattle.wh_text.specs.Erase.{rty, rtys}
-use Rattle.wh_text.specs.declared.raw.RawType.{RawType, roll-RawType}
+use Rattle.wh_text.specs.declared.raw.RawType.{RawType}
 use Rattle.wh_parts.specs.Erase.{rname, rmeta}
 use Rattle.wh_parts.specs.declared.parts.RawName.{RawName}
 use Rattle.wh_making.specs.CanonicalParts.{raw_name}

@@ -7,7 +7,7 @@ use Rattle.wh_graph.specs.Blocks.{IsListed, IsMisplaced}
 use Rattle.wh_graph.specs.Times.{plus, TimesIn, TimesListed, IsStray, IsUneven}
 use Rattle.wh_graph.specs.declared.places.Times.{Times}
 use Rattle.wh_graph.specs.declared.places.Times.TheVariants.{Never, Once, Often}
-use Rattle.wh_pairs.proofs.DropLemmas.{later, only_later, contains_or_not}
+use Rattle.wh_pairs.proofs.DropLemmas.{contains_or_not}
 use Rattle.wh_pairs.proofs.ByPlace.{some_one, contains_at, place_of, same_or_below}
 
 pub times_skip : (list : List ℕ) (n i m : ℕ) (t : Times) → TimesIn list n i t → slice_get list i ≡ Some m → (m ≡ n → ⊥) → TimesIn list n (i + 1) t

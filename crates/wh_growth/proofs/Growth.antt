@@ -1,6 +1,6 @@
 -- Sides mean more where symbols do.
-use Rattle.std.proofs.Common.{◌≡◌, ℕ, zero, suc, ◌==◌, Bool, if◌then◌else◌, List, [], ◌∷◌, ◌++◌, map, length, refl, ap, sym, subst, ◌∙◌, ◌≤◌, Some, slice_get}
-use Rattle.std.proofs.lemmas.Option.{none-some, same_Some}
+use Rattle.std.proofs.Common.{◌≡◌, ℕ, suc, ◌==◌, Bool, if◌then◌else◌, List, [], ◌∷◌, ◌++◌, map, length, refl, ap, sym, subst, ◌∙◌, ◌≤◌, Some, slice_get}
+use Rattle.std.proofs.lemmas.Option.{none-some}
 use mathlib.Core.Path.{subst₂}
 use Rattle.wh_types.specs.Ty.{Ty, sort, arguments}
 use Rattle.wh_terms.specs.Tree.{Tm, Tms}
@@ -12,7 +12,7 @@ use Rattle.wh_poly.specs.Polynomials.{Normal}
 use Rattle.wh_hopoly.specs.Evaluation.{symbol, Interpretation, interpretation_at, type_of, evaluate, NormalInterpretations}
 use Rattle.wh_hopoly.proofs.ValueLaws.{interpretation_is}
 use Rattle.wh_polycheck.specs.Sides.{arrows, types_of_metas, side_applied, side_polynomial, call_polynomial, Interprets}
-use Rattle.wh_polycheck.specs.Marks.{Mark, marked_types, marked_kind, marked_interpretation, with_marks, place_of, mark_number, AreNormalMarks, HasMark, HasMarkedSides, head_of_side, arguments_of_side}
+use Rattle.wh_polycheck.specs.Marks.{Mark, marked_types, marked_kind, marked_interpretation, with_marks, place_of, mark_number, HasMark, HasMarkedSides, head_of_side, arguments_of_side}
 use Rattle.wh_polycheck.specs.Readings.{ReadingsData, AreProper}
 use Rattle.wh_polycheck.proofs.SideTypes.{side_applied_typed, HasSideType}
 use Rattle.wh_polycheck.proofs.MoreInterpretations.{slice_get_front, slice_get_behind, interprets_more, mark_at, arguments_of_arrows, mapped, mark_interpreted, normal_with_marks}

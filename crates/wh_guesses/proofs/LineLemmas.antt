@@ -17,11 +17,10 @@ use Rattle.wh_pairs.proofs.ByPlace.{some_one, contains_at}
 use Rattle.wh_poly.specs.Polynomials.{Polynomial}
 use Rattle.wh_hopoly.specs.Evaluation.{Run}
 use Rattle.wh_hopoly.specs.Moves.{Transfer, IsCover, IsStrictCover}
-use Rattle.wh_poly.specs.Erase.{poly, monomials, sum_of}
+use Rattle.wh_poly.specs.Erase.{poly, monomials}
 use Rattle.wh_hopoly.specs.Erase.{transfer, transfers}
 use Rattle.wh_poly.specs.Limits.{weight}
 use Rattle.wh_poly.specs.declared.polynomial.Poly.{Poly}
-use Rattle.wh_poly.specs.declared.polynomial.Monomial.{Monomial}
 use Rattle.wh_poly.proofs.Lists.{poly_is}
 use Rattle.wh_hopoly.specs.declared.expression.Move.{Move}
 use Rattle.wh_reduction.specs.TaskData.{TaskData}

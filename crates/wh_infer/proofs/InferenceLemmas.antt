@@ -1,11 +1,11 @@
 -- An inference of the program by its letter, its place and its parts.
 use mathlib.Core.Former.{Count}
-use Rattle.std.proofs.Common.{◌≡◌, ℕ, List, refl, ap, ◌∙◌}
+use Rattle.std.proofs.Common.{◌≡◌, ℕ, List, ap, ◌∙◌}
 use Rattle.wh_inference.specs.Inferences as m
 use Rattle.wh_inference.specs.Inferences.{infer, more_parts}
-use Rattle.wh_inference.specs.Said.{letter, inference, inferences, parts_row}
+use Rattle.wh_inference.specs.Said.{letter, inference, inferences}
 use Rattle.wh_inference.specs.declared.inference.Letter.{Letter}
-use Rattle.wh_inference.specs.declared.inference.Inference.{Inference, Inference', Row_of-Inference, end_of-Inference, more_of-Inference, items-the_row-Inference, items_hidden-the_row-Inference-0, roll-Inference}
+use Rattle.wh_inference.specs.declared.inference.Inference.{Inference, Inference', Row_of-Inference, items_hidden-the_row-Inference-0, roll-Inference}
 use Rattle.wh_order.proofs.CheckLemmas.{parts_row-items}
 
 abbrev row_of : Inference → (n : Count) × Row_of-Inference n

@@ -7,10 +7,9 @@ use Rattle.wh_path_order.specs.Verdict.{Task}
 use Rattle.wh_ordering.specs.Filterings.{FilteringData}
 use Rattle.wh_trees.specs.declared.tree.Tree.{Tree}
 use Rattle.wh_trees.specs.Trees.{tree}
-use Rattle.wh_trees.specs.TreeParts.{World}
 use Rattle.wh_order.specs.declared.goals.Goal.{Goal}
 use Rattle.wh_order.specs.Precedences.{order_of}
-use Rattle.wh_order.specs.Claims.{said, side_tree, task}
+use Rattle.wh_order.specs.Claims.{said, side_tree}
 use Rattle.wh_known.specs.declared.entry.Entry.{Entry}
 use Rattle.wh_known.specs.Least.{IsLeast, own, NotRefuted}
 use Rattle.wh_known.specs.Ways.{IsShown}

@@ -1,5 +1,4 @@
 -- What a tree stands for, and what it is over, by what tells it apart.
-use mathlib.Core.Former.{Count}
 use Rattle.std.proofs.Common.{◌≡◌, ℕ, zero, suc, ◌+◌, ◌<◌, ◌≤◌, List, [], ◌∷◌, ◌++◌, length, take, get_or, Box, Global, refl, ap, ap₂, subst, sym, ◌∙◌, arith}
 use Rattle.std.proofs.lemmas.List.{take_more}
 use Rattle.wh_types.specs.declared.simple_type.SimpleType.{SimpleType}

@@ -8,7 +8,7 @@ use Rattle.wh_types.specs.Ty.{Ty, same_ty, SortsBelow}
 use Rattle.wh_terms.specs.Tree.{Tm, bound, free, fun, meta, lam, app, Tms, none, more}
 use Rattle.wh_terms.specs.Measures.{size, sizes, Fits}
 use Rattle.wh_terms.specs.Sight.{IsTerm, Lacks}
-use Rattle.wh_terms.specs.Substitution.{act, acts, up, up_free, rename, cons, opened}
+use Rattle.wh_terms.specs.Substitution.{act, acts, up, up_free, rename}
 use Rattle.wh_terms.specs.Places.{IsPath}
 use Rattle.wh_terms.specs.Typing.{Typed}
 use Rattle.wh_terms.specs.Rules.{RewriteRule}
@@ -42,7 +42,7 @@ use Rattle.wh_loops.proofs.FillLemmas.{fill, put_shut, holds_kind}
 use Rattle.wh_loops.proofs.TypesKept.{TypesHave, walk_types}
 use Rattle.wh_loops.proofs.SmallTypes.{IsSmallType, start_types, right_types}
 use Rattle.wh_loops.proofs.PlaceLemmas.{part_path}
-use Rattle.wh_no.proofs.Reaching.{size-opened, variables-cons, variables-up, AreVariables, size_variable}
+use Rattle.wh_no.proofs.Reaching.{size-opened, variables-up, AreVariables, size_variable}
 use Rattle.wh_loops.proofs.PartLimits.{NumbersBelow, AllNumbersBelow, IsWithin, opened_part_within, value_within}
 use Rattle.wh_loops.proofs.CertRaw.{AreNamed, small_type_fits, term_fits}
 

@@ -14,7 +14,7 @@ use Rattle.wh_terms.proofs.TypingLaws.{some_one}
 use Rattle.wh_no.specs.Claim.{Put, put_for}
 use Rattle.wh_no.specs.Unused.{first_unused}
 use Rattle.wh_no.specs.Valid.{HoldsInstance}
-use Rattle.wh_no.proofs.Reaching.{variables-cons, variables-up, AreVariables, size_variable, variable-rename, IsVariable, Reaches, at_end, in_body, in_function, in_argument, reaches}
+use Rattle.wh_no.proofs.Reaching.{variables-cons, variables-up, AreVariables, IsVariable, Reaches, at_end, in_body, in_function, in_argument, reaches}
 use Rattle.wh_loops.specs.Space.{HoldsInstanceOf}
 use Rattle.wh_loops.specs.Meets.{IsHeaded, SameHead, HasNoneAt, HasNoneBelow, HasNoneFrom}
 use Rattle.wh_no.proofs.NumberLemmas.{no_some}

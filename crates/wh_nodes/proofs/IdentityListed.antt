@@ -1,18 +1,15 @@
 -- The worked system that needs interpretations, by a node that lists one of the two rules: the list is closed for the node's set.
-use Rattle.std.proofs.Common.{◌≡◌, ◌<◌, ℕ, zero, suc, inl, inr, List, [], ◌∷◌, Some, slice_get, Contains, refl, sym, ap, ◌∙◌, subst, arith}
+use Rattle.std.proofs.Common.{◌≡◌, ◌<◌, ℕ, zero, suc, inl, inr, [], ◌∷◌, Some, slice_get, Contains, refl, subst, arith}
 use Rattle.std.proofs.lemmas.List.Elements.{All-nil, All-cons}
 use Rattle.wh_terms.specs.Tree.{Tm, fun, head}
 use Rattle.wh_terms.specs.Typing.{WellTyped}
 use Rattle.wh_terms.specs.Rules.{RewriteRule}
 use Rattle.wh_step.specs.Reduction.{Bounded}
-use Rattle.wh_pairs.specs.PairData.{PairData}
-use Rattle.wh_pairs.specs.Sets.{InSet}
 use Rattle.wh_pairs.proofs.MemberLemmas.{at_head}
 use Rattle.wh_pairs.proofs.FewLemmas.{in_one, get_one, get_two}
-use Rattle.wh_hopoly.specs.Moves.{Transfer}
 use Rattle.wh_reduction.specs.ReductionPair.{IsRightRule}
 use Rattle.wh_polycheck.specs.Covering.{IsCovering}
-use Rattle.wh_usable.specs.Closed.{HasSymbol, ListsRulesOf, ListsRulesIn, IsClosedRule, IsClosedPair, AreClosedRules, AreClosedPairs, IsUsable}
+use Rattle.wh_usable.specs.Closed.{ListsRulesOf, ListsRulesIn, IsClosedRule, IsClosedPair, AreClosedRules, AreClosedPairs, IsUsable}
 use Rattle.wh_proof.specs.Nodes.{no_sets, more_sets, by_done, by_alone, by_blocks, by_poly}
 use Rattle.wh_proof.specs.Proves.{Proves, all_proved, one_proved}
 use Rattle.wh_nodes.specs.IdentitySystem.{identity_symbols, same_number, identity_rule, count_rule, identity_system, count_pair, identity_pairs, readings, unit_from, listed_moves, listed_task, listed_nodes}

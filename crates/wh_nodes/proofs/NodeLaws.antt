@@ -3,8 +3,7 @@ use Rattle.std.proofs.Common.{◌≡◌, ℕ, zero, suc, inl, inr, List, [], ◌
 use Rattle.std.proofs.lemmas.List.Elements.{Contains-append_left, Contains-append_right}
 use Rattle.wh_terms.specs.Typing.{Symbols}
 use Rattle.wh_terms.specs.Rules.{RewriteRule, AreWellMade}
-use Rattle.wh_step.specs.Step.{Step, in_function, in_argument}
-use Rattle.wh_laws.proofs.PartLaws.{PassesToParts}
+use Rattle.wh_step.specs.Step.{Step}
 use Rattle.wh_pairs.specs.PairData.{PairData}
 use Rattle.wh_pairs.proofs.MemberLemmas.{none_there, at_head, behind, head_or_behind}
 use Rattle.wh_calls.specs.MarkedCalls.{CallsEnd}

@@ -1,9 +1,9 @@
 -- Marked symbols applied to arguments.
-use Rattle.std.proofs.Common.{Box, Global, ◌≡◌, ℕ, zero, suc, ◌+◌, ◌<◌, ◌≤◌, List, [], ◌∷◌, ◌++◌, Result, Ok, Err, IfOk, length, take, get_or, map, refl, ap, sym, ◌∙◌, arith}
+use Rattle.std.proofs.Common.{Box, Global, ◌≡◌, ℕ, suc, ◌+◌, List, [], ◌∷◌, Result, Ok, Err, IfOk, length, map, refl, ap, sym, ◌∙◌}
 use Rattle.std.specs.declared.alloc.AllocError.{AllocError}
 use Rattle.wh_types.specs.Erase.{ty}
 use Rattle.wh_types.specs.declared.simple_type.SimpleType.{SimpleType}
-use Rattle.wh_terms.specs.Tree.{Tm, app, fun, spine}
+use Rattle.wh_terms.specs.Tree.{Tm, fun, spine}
 use Rattle.wh_terms.specs.Erase.{symbols, tm}
 use Rattle.wh_terms.specs.Typing.{Symbols}
 use Rattle.wh_terms.specs.declared.rule.Signature.{Signature}

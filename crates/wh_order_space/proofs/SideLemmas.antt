@@ -1,5 +1,5 @@
 -- Demands of rules and pairs, one after another.
-use Rattle.std.proofs.Common.{Box, Global, ◌≡◌, ℕ, zero, suc, ◌+◌, ◌<◌, ◌≤◌, ◌&&◌, ◌||◌, inl, inr, Bool, true, false, List, [], ◌∷◌, length, map, get_or, refl, ap, ap₂, ◌∙◌, sym, subst, Option, Some, Result, Ok, Err, IfOk, slice_get, Contains, arith}
+use Rattle.std.proofs.Common.{Box, Global, ◌≡◌, ℕ, zero, suc, ◌+◌, ◌<◌, ◌≤◌, ◌&&◌, ◌||◌, inl, inr, Bool, true, false, List, [], ◌∷◌, length, map, get_or, refl, ap, ◌∙◌, sym, subst, Option, Some, Result, Ok, Err, IfOk, slice_get, Contains, arith}
 use Rattle.std.specs.declared.alloc.AllocError.{AllocError}
 use Rattle.std.proofs.lemmas.Bool.{cases_eq}
 use Rattle.wh_terms.specs.Erase.{tm}

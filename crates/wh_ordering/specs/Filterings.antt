@@ -8,7 +8,7 @@ use Rattle.wh_terms.specs.Rules.{RewriteRule}
 use Rattle.wh_pairs.specs.Marked.{AreMarked}
 use Rattle.wh_reduction.specs.TaskData.{TaskData, numbers_from}
 use Rattle.wh_polycheck.specs.Marks.{marked_types}
-use Rattle.wh_inference.specs.Filters.{Filter, keep, pick}
+use Rattle.wh_inference.specs.Filters.{Filter, keep}
 use Rattle.wh_inference.specs.FilterText.{WrittenFilter, keeps, picks, filter_of}
 use Rattle.wh_extended.specs.Filtered.{IsProper, filtered_symbols, precedences}
 

@@ -1,14 +1,12 @@
 -- The leftmost-outermost step of a term: it is one, and it leads to the first of the reducts.
-use Rattle.std.proofs.Common.{◌≡◌, ℕ, zero, suc, inl, inr, List, [], ◌∷◌, take, Option, Some, slice_get, refl, ap, sym, subst, arith}
+use Rattle.std.proofs.Common.{◌≡◌, ℕ, zero, suc, inl, inr, List, [], ◌∷◌, Option, Some, slice_get, ap, sym, subst, arith}
 use Rattle.std.specs.Prelude.{Contains}
 use Rattle.wh_terms.specs.Tree.{Tm}
-use Rattle.wh_terms.specs.Measures.{Fits}
 use Rattle.wh_terms.specs.Typing.{Symbols}
-use Rattle.wh_terms.specs.declared.path.Step as taken
 use Rattle.wh_terms.specs.Rules.{RewriteRule, AreWellMade}
 use Rattle.wh_step.specs.Step.{Step}
-use Rattle.wh_step.specs.Replay.{StepAt, Replays}
-use Rattle.wh_step.specs.Reducts.{Redex, Precedes, InOrder, StepsTo, AreReducts, TooBigAt}
+use Rattle.wh_step.specs.Replay.{StepAt}
+use Rattle.wh_step.specs.Reducts.{Redex, Precedes, InOrder, StepsTo, AreReducts}
 use Rattle.wh_step.proofs.RootLaws.{step_one}
 use Rattle.wh_step.proofs.Places.{step_at-step}
 use Rattle.wh_reduce.specs.Leftmost.{IsFirstStep, Leftmost, StepsFirstBy}

@@ -1,5 +1,5 @@
 -- What has no redex to the left of a place: the parts of a tree, and a tree after a step there.
-use Rattle.std.proofs.Common.{◌≡◌, ℕ, zero, suc, ◌<◌, ◌⊎◌, inl, inr, List, [], ◌∷◌, length, Option, Some, None, refl, ap, sym, ◌∙◌, subst, arith}
+use Rattle.std.proofs.Common.{◌≡◌, ℕ, zero, suc, ◌<◌, ◌⊎◌, inl, inr, List, [], ◌∷◌, length, Option, Some, refl, ap, sym, ◌∙◌, subst, arith}
 use Rattle.wh_types.specs.Ty.{Ty}
 use Rattle.wh_terms.specs.Tree.{Tm, lam, app}
 use Rattle.wh_terms.specs.Sight.{IsTerm, LooseBelow}
@@ -7,12 +7,12 @@ use Rattle.wh_terms.specs.Places.{part_at}
 use Rattle.wh_terms.specs.Typing.{Symbols}
 use Rattle.wh_terms.specs.Rules.{RewriteRule, AreWellMade}
 use Rattle.wh_step.specs.Replay.{StepAt}
-use Rattle.wh_step.specs.Reducts.{IsBefore, Redex}
+use Rattle.wh_step.specs.Reducts.{IsBefore}
 use Rattle.wh_step.specs.Roots.{put_at}
 use Rattle.wh_step.proofs.RootLaws.{at_of_step}
 use Rattle.wh_step.proofs.PlaceLemmas.{along, step_there}
 use Rattle.wh_reduce.specs.Leftmost.{StepsFirstBy}
-use Rattle.wh_reduce.specs.Redexes.{StepsBy, HasRedex, HasNone, IsLeftOf, NoneLeft}
+use Rattle.wh_reduce.specs.Redexes.{HasNone, IsLeftOf, NoneLeft}
 use Rattle.wh_reduce.proofs.FirstRedexes.{below}
 
 -- nothing is to the left of the root

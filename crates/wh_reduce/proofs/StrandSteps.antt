@@ -1,5 +1,5 @@
 -- A step along a path, and the same step in the whole tree.
-use Rattle.std.proofs.Common.{◌≡◌, ℕ, zero, suc, ◌+◌, ◌-◌, ◌<◌, ◌≤◌, List, [], ◌∷◌, take, Option, Some, slice_get, refl, ap, sym, ◌∙◌, subst, arith}
+use Rattle.std.proofs.Common.{◌≡◌, ℕ, zero, suc, ◌+◌, ◌-◌, ◌<◌, ◌≤◌, List, [], ◌∷◌, take, Some, slice_get, refl, ap, sym, ◌∙◌, subst, arith}
 use Rattle.wh_terms.specs.Tree.{Tm}
 use Rattle.wh_terms.specs.Sight.{IsTerm, LooseBelow}
 use Rattle.wh_terms.specs.Measures.{size, Fits}
@@ -9,12 +9,12 @@ use Rattle.wh_terms.specs.Rules.{RewriteRule, AreWellMade}
 use Rattle.wh_terms.specs.declared.path.Step as taken
 use Rattle.wh_step.specs.Replay.{StepAt, Replays}
 use Rattle.wh_step.specs.Reducts.{FailsAt, TooBigAt}
-use Rattle.wh_step.specs.Roots.{RootStep, StepsAt, put_at}
+use Rattle.wh_step.specs.Roots.{RootStep, put_at}
 use Rattle.wh_step.specs.Stepping.{TakesTo, IsPast}
 use Rattle.wh_step.proofs.RootLaws.{some_one, at_of_step}
 use Rattle.wh_step.proofs.PlaceLemmas.{step_there}
 use Rattle.wh_reduce.specs.Strands.{strand}
-use Rattle.wh_reduce.proofs.StrandLaws.{part_put, strand_part, strand_size, strand_fits, strand_shut, strand_term, whole_size, fits_whole, past_whole}
+use Rattle.wh_reduce.proofs.StrandLaws.{part_put, strand_part, strand_shut, strand_term, whole_size, fits_whole, past_whole}
 
 -- a replay of one step
 

@@ -1,5 +1,5 @@
 -- Redexes of trees with loose variables. Working forms: none of it is told to a caller.
-use Rattle.std.specs.Prelude.{ℕ, ◌≡◌, ◌<◌, ◌⊎◌, List, [], ◌∷◌, Option, Some, None, reverse}
+use Rattle.std.specs.Prelude.{ℕ, ◌≡◌, ◌<◌, ◌⊎◌, List, [], ◌∷◌, Option, Some, reverse}
 use Rattle.wh_terms.specs.Tree.{Tm}
 use Rattle.wh_terms.specs.Places.{part_at}
 use Rattle.wh_terms.specs.Rules.{RewriteRule}

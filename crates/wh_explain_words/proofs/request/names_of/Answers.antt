@@ -1,4 +1,4 @@
-use Rattle.std.proofs.Common.{◌≡◌, ◌∙◌, ap, string_bytes, codes, rules}
+use Rattle.std.proofs.Common.{◌≡◌, string_bytes, codes, rules}
 use Rattle.wh_explain_words.proofs.Names.{first_word, named_behind}
 use Rattle.wh_explain_words.proofs.request.names_of.Goals as goal
 

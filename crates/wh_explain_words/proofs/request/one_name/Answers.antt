@@ -1,4 +1,4 @@
-use Rattle.std.proofs.Common.{string_bytes, rules, ◌≡◌, ◌∷◌, [], map, refl, arith}
+use Rattle.std.proofs.Common.{string_bytes, map, refl, arith}
 use Rattle.wh_explain_words.proofs.Names.{one_word, no_one}
 use Rattle.wh_explain_words.proofs.request.one_name.Goals as goal
 

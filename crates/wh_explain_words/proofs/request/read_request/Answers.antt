@@ -1,4 +1,4 @@
-use Rattle.std.proofs.Common.{◌≡◌, ◌∙◌, ap, codes, string_bytes, rules}
+use Rattle.std.proofs.Common.{◌≡◌, codes, string_bytes, rules}
 use Rattle.wh_explain_words.proofs.Names.{first_word, graph_asks, lint_asks}
 use Rattle.wh_explain_words.proofs.request.read_request.Goals as goal
 

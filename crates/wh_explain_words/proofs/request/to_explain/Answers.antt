@@ -1,4 +1,4 @@
-use Rattle.std.proofs.Common.{string_bytes, ◌≡◌, ◌∷◌, [], ◌∙◌, map, length, refl, arith}
+use Rattle.std.proofs.Common.{string_bytes, map, refl, arith}
 use Rattle.std.proofs.lemmas.List.{length-map}
 use Rattle.wh_explain_words.proofs.Names.{few_none, two_words, one_word}
 use Rattle.wh_explain_words.proofs.request.to_explain.Goals as goal

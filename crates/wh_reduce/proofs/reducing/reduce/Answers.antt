@@ -1,4 +1,4 @@
-use Rattle.std.proofs.Common.{◌≡◌, length, ap, sym, subst, List, Option, None}
+use Rattle.std.proofs.Common.{length, ap, sym, subst, List, Option, None}
 use Rattle.std.specs.Prelude.{MatchOption}
 use Rattle.wh_terms.specs.Tree.{Tm}
 use Rattle.wh_terms.specs.Rules.{RewriteRule}

@@ -1,5 +1,5 @@
 -- The redex that the walk finds, read on a term without loose variables.
-use Rattle.std.proofs.Common.{sym, subst}
+use Rattle.std.proofs.Common.{subst}
 use Rattle.wh_terms.specs.Erase.{tm, rewrite_rules}
 use Rattle.wh_step.proofs.PlaceLemmas.{plain_whole}
 use Rattle.wh_reduce.specs.Redexes.{HasNone, IsFirst, redex_of}

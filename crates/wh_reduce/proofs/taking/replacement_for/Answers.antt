@@ -1,6 +1,5 @@
 -- The step is replayed on the tree along its path, and read on the whole tree.
-use Rattle.std.proofs.Common.{rules, ◌≡◌, ◌+◌, ◌-◌, ◌≤◌, [], ◌∷◌, Ok, Err, Some, ap, sym, ◌∙◌, subst, arith}
-use Rattle.wh_terms.specs.Tree.{Tm}
+use Rattle.std.proofs.Common.{◌≡◌, ◌+◌, ◌-◌, [], ◌∷◌, Err, Some, ap, sym, ◌∙◌, subst, arith}
 use Rattle.wh_terms.specs.Erase.{tm, rewrite_rules}
 use Rattle.wh_terms.specs.Measures.{Fits, size}
 use Rattle.wh_terms.specs.Places.{part_at}
@@ -9,7 +8,6 @@ use Rattle.wh_step.specs.Reducts.{FailsAt, TooBigAt}
 use Rattle.wh_step.specs.Replay.{Replays}
 use Rattle.wh_step.specs.Replaying.{Replayed}
 use Rattle.wh_step.specs.declared.replaying.StepFault.{StepFault}
-use Rattle.wh_step.specs.declared.replaying.StepFault.TheVariants.{Fails, TooBig}
 use Rattle.wh_reduce.specs.Strands.{strand}
 use Rattle.wh_reduce.proofs.StrandLaws.{strand_size, strand_fits, strand_shut, strand_term}
 use Rattle.wh_reduce.proofs.StrandSteps.{redex_there, result_part, takes_whole, past_size, past_along, never_fails}
