@@ -1,9 +1,9 @@
 -- The filtered sides of rules and of pairs, by the extended ones.
-use Rattle.std.proofs.Common.{◌≡◌, ℕ, ◌+◌, Bool, true, false, List, [], length, map, Some, slice_get, refl, ap, ap₂, subst, sym, ◌∙◌}
+use Rattle.std.proofs.Common.{◌≡◌, ℕ, ◌+◌, Bool, true, false, List, [], length, map, ap, subst, sym, ◌∙◌}
 use Rattle.std.proofs.Math.Path.{subst₂}
 use Rattle.wh_types.specs.Ty.{Ty}
 use Rattle.wh_terms.specs.Tree.{Tm, tms_of}
-use Rattle.wh_terms.specs.Typing.{Symbols, Declared, AllTyped}
+use Rattle.wh_terms.specs.Typing.{Symbols, AllTyped}
 use Rattle.wh_terms.specs.Rules.{RewriteRule, IsWellMade}
 use Rattle.wh_terms.specs.Erase.{declared_metas, tm}
 use Rattle.wh_terms.specs.declared.rule.MetaDecl.{MetaDecl}
@@ -14,7 +14,6 @@ use Rattle.wh_polycheck.specs.Marks.{marked_types, head_of_side}
 use Rattle.wh_extended.specs.Long.{long}
 use Rattle.wh_extended.specs.ExtendedSides.{extended_side}
 use Rattle.wh_extended.specs.Filtered.{sift}
-use Rattle.wh_path_order.specs.Lines.{filtered_call}
 use Rattle.wh_ordering.specs.Filterings.{FilteringData, filters_of, mark_among}
 use Rattle.wh_ordering.specs.Ordering.{IsNarrow}
 use Rattle.wh_sides.specs.declared.sides.WideSide.{WideSide}

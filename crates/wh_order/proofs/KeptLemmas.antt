@@ -7,15 +7,14 @@ use Rattle.std.proofs.lemmas.List.{nil_from_length, length-map, reverse-append, 
 use Rattle.std.proofs.lemmas.List.Elements.{All-head, All-tail}
 use Rattle.std.proofs.lemmas.Option.{none-some, same_Some, get_or_from_slice_get, slice_get_within, slice_get-get_or}
 use Rattle.wh_types.specs.Ty.{Ty, sort}
-use Rattle.wh_terms.specs.Tree.{Tm, fun, spine}
-use Rattle.wh_inference.specs.Filters.{Filter, keep, pick}
+use Rattle.wh_terms.specs.Tree.{fun, spine}
 use Rattle.wh_inference.specs.FilterText.{WrittenFilter, keeps, picks, filter_of}
 use Rattle.wh_inference.specs.Said.{written_filter}
 use Rattle.wh_inference.specs.declared.filter.Filter as code
 use Rattle.wh_inference.specs.declared.filter.Filter.TheVariants.{Keep, Pick}
 use Rattle.wh_pairs.proofs.ByPlace.{read_map, some_one}
 use Rattle.wh_extended.specs.Kinds.{type_at, arrows}
-use Rattle.wh_extended.specs.Filtered.{collapse, chosen, filtered, kept_type, IncreasingFrom}
+use Rattle.wh_extended.specs.Filtered.{collapse, chosen, IncreasingFrom}
 use Rattle.wh_ordering.specs.declared.filters.MarkFilter.{MarkFilter}
 use Rattle.wh_ordering.specs.FilteringView.{mark_filter}
 use Rattle.wh_ordering.specs.Filterings.{IsProperAsWritten, mark_among, unfiltered}

@@ -1,14 +1,14 @@
 -- Terms behind filters, shape by shape.
-use Rattle.std.proofs.Common.{◌≡◌, ℕ, zero, suc, ◌+◌, ◌-◌, ◌<◌, ◌≤◌, List, [], ◌∷◌, ◌++◌, length, map, take, drop, reverse, get_or, Some, slice_get, Box, Global, refl, ap, ap₂, subst, sym, ◌∙◌, arith}
+use Rattle.std.proofs.Common.{◌≡◌, ℕ, zero, suc, ◌+◌, ◌<◌, ◌≤◌, List, [], ◌∷◌, ◌++◌, length, map, take, drop, reverse, get_or, Some, slice_get, refl, ap, ap₂, subst, sym, ◌∙◌, arith}
 use Rattle.std.proofs.Math.Seq.{drop-cons}
 use Rattle.std.proofs.lemmas.List.{length-map, map-append, map_more, reverse-append, take_all}
 use Rattle.wh_types.specs.Ty.{Ty, sort, arguments}
 use Rattle.wh_types.specs.Erase.{ty}
 use Rattle.wh_types.specs.declared.simple_type.SimpleType.{SimpleType}
-use Rattle.wh_terms.specs.Tree.{Tm, bound, free, fun, meta, lam, app, Tms, none, more, tms_of, spine}
+use Rattle.wh_terms.specs.Tree.{Tm, bound, free, fun, meta, lam, app, more, tms_of, spine}
 use Rattle.wh_terms.specs.Typing.{Symbols, Declared, AllTyped}
 use Rattle.wh_terms.specs.Rules.{RewriteRule}
-use Rattle.wh_terms.specs.Erase.{tm, tms, declared_meta, declared_metas}
+use Rattle.wh_terms.specs.Erase.{tm, tms, declared_metas}
 use Rattle.wh_terms.specs.declared.term.Term.{Term}
 use Rattle.wh_terms.specs.declared.rule.MetaDecl.{MetaDecl}
 use Rattle.wh_pairs.proofs.AlikeLemmas.{tms_of_map}
@@ -17,8 +17,7 @@ use Rattle.wh_inference.specs.Filters.{Filter}
 use Rattle.wh_inference.specs.FilterText.{WrittenFilter, filter_of}
 use Rattle.wh_extended.specs.Kinds.{type_at, out_at}
 use Rattle.wh_extended.specs.Long.{long}
-use Rattle.wh_extended.specs.ExtendedSides.{marked_number}
-use Rattle.wh_extended.specs.Filtered.{collapse, collapsed, filtered, sift, sifts, kept_type}
+use Rattle.wh_extended.specs.Filtered.{collapse, collapsed, filtered, sift, sifts}
 use Rattle.wh_extended.proofs.CallSides.{filtered_arguments, call_is}
 use Rattle.wh_extended.proofs.TypeLists.{typed_length}
 use Rattle.wh_path_order.specs.Lines.{filtered_call}

@@ -1,5 +1,5 @@
 -- In an extended tree each symbol is there and has all its arguments.
-use Rattle.std.proofs.Common.{◌≡◌, ℕ, zero, suc, ◌<◌, Bool, true, false, List, [], ◌∷◌, ◌++◌, length, map, refl, ap, subst, sym, ◌∙◌, Some, slice_get}
+use Rattle.std.proofs.Common.{◌≡◌, ℕ, suc, Bool, true, false, List, [], ◌∷◌, length, map, ap, subst, sym, ◌∙◌}
 use Rattle.std.proofs.lemmas.Option.{slice_get_within}
 use Rattle.wh_types.specs.Ty.{Ty, sort, ◌⇒◌, arguments, result_sort}
 use Rattle.wh_terms.specs.Tree.{Tm, bound, free, fun, meta, lam, app, Tms, none, more, tms_of, spine}
@@ -10,7 +10,6 @@ use Rattle.wh_system.specs.CanonicalView.{side_of}
 use Rattle.wh_extended.specs.Kinds.{type_at, arrows, kind}
 use Rattle.wh_extended.specs.Long.{expand, finish, finish_argument, core, cores, long}
 use Rattle.wh_extended.specs.ExtendedSides.{missing, added, added_from, extended_metas, extended_side}
-use Rattle.wh_extended.specs.Filtered.{symbol_arity}
 use Rattle.wh_extended.proofs.LongLaws.{at_is, kind_is}
 use Rattle.wh_extended.proofs.TypeLists.{arrows-arguments, typed_spine}
 use Rattle.wh_extended.proofs.MoreMetas.{typed_wider, added_typed}

@@ -1,15 +1,13 @@
 -- Of the things that can be wrong with a node of a path order one at most is the first, and none is where its conditions hold.
-use Rattle.std.proofs.Common.{◌≡◌, ℕ, ◌<◌, Bool, true, false, List, Option, Some, None, slice_get, refl, sym, ap, ap₂, subst, ◌∙◌, arith}
-use Rattle.wh_types.specs.Ty.{Ty, arguments}
+use Rattle.std.proofs.Common.{◌≡◌, ℕ, ◌<◌, Bool, true, false, Option, Some, None, slice_get, refl, sym, ap, ap₂, subst, ◌∙◌, arith}
 use Rattle.wh_terms.specs.Rules.{RewriteRule}
 use Rattle.wh_pairs.specs.PairData.{PairData}
 use Rattle.wh_pairs.proofs.ByPlace.{contains_at, some_one}
 use Rattle.wh_reduction.specs.TaskData.{TaskData}
-use Rattle.wh_reduction.specs.ReductionPair.{Evidence, IsRightRule, IsRightPair}
+use Rattle.wh_reduction.specs.ReductionPair.{Evidence}
 use Rattle.wh_reduction.specs.FirstFault.{AreCounted}
 use Rattle.wh_reduction.proofs.Lines.{rule_or_not, pair_or_not, first_rule_one, first_pair_one, counted_of, counted_not_bad}
 use Rattle.wh_inference.specs.Inferences.{Inference}
-use Rattle.wh_inference.specs.FilterText.{WrittenFilter}
 use Rattle.wh_polycheck.specs.Marks.{marked_types}
 use Rattle.wh_ordering.specs.Filterings.{FilteringData, MarkFilter, IsProperAsWritten, AreProperSymbols, AreProperMarks}
 use Rattle.wh_ordering.specs.Ordering.{HasNarrowSides, HasNarrowCalls, IsGoodRule, IsGoodPair, IsStrictWhere, by_inferences, IsOrdering}

@@ -3,9 +3,9 @@ use Rattle.std.proofs.Common.{◌≡◌, ℕ, suc, ◌^◌, ◌<◌, ◌≤◌, 
 use Rattle.std.proofs.lemmas.Option.{slice_get-get_or}
 use Rattle.std.proofs.lemmas.List.{length-map}
 use Rattle.std.proofs.lemmas.List.Elements.{All-contains, All-get_or, All-weaker}
-use Rattle.wh_types.specs.Ty.{Ty, sort, ◌⇒◌, arguments}
+use Rattle.wh_types.specs.Ty.{sort}
 use Rattle.wh_system.specs.Systems.{SystemData}
-use Rattle.wh_system.specs.WellMade.{IsWellMadeSystem, ArgumentsWithin, IsTypeOver}
+use Rattle.wh_system.specs.WellMade.{IsWellMadeSystem, IsTypeOver}
 use Rattle.wh_pairs.specs.PairData.{PairData, IsIncreasing}
 use Rattle.wh_pairs.proofs.ByPlace.{place_of, contains_at, unmap, remap}
 use Rattle.wh_pairs.proofs.KnownLemmas.{takes_arguments}

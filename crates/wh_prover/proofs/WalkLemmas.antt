@@ -9,7 +9,6 @@ use Rattle.wh_cert.specs.Written.{children, Preorder}
 use Rattle.wh_cert.specs.Limits.{NodeFits, NodeWithin}
 use Rattle.wh_cert.specs.Said.{said_node}
 use Rattle.wh_cert.specs.declared.certificate.Node as code
-use Rattle.wh_proof.specs.Nodes.{Node}
 use Rattle.wh_proof.specs.Proves.{Proves, all_proved, one_proved}
 use Rattle.wh_proof.specs.Small.{AreSmall, all_small, one_small}
 use Rattle.wh_pairs.specs.Sets.{IsWhole}

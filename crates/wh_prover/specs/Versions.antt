@@ -1,5 +1,5 @@
 -- The version of what the search finds: the first one, but where some node needs the second one.
-use Rattle.std.specs.Prelude.{ℕ, ◌≡◌, ◌⊎◌, List, Some, None, Contains}
+use Rattle.std.specs.Prelude.{◌≡◌, ◌⊎◌, Some, None, Contains}
 use Rattle.wh_system.specs.Systems.{SystemData}
 use Rattle.wh_cert.specs.Written.{Node, interpretations, order, Cert, yes, no}
 use Rattle.wh_interpreting.specs.Fewer.{HasFewer}

@@ -6,7 +6,6 @@ use Rattle.wh_terms.specs.Measures.{Fits}
 use Rattle.wh_terms.specs.Typing.{WellTyped}
 use Rattle.wh_terms.specs.Rules.{RewriteRule}
 use Rattle.wh_terms.specs.declared.path.Step as taken
-use Rattle.wh_step.specs.Step.{Step}
 use Rattle.wh_step.specs.Replay.{StepAt, Replays}
 use Rattle.wh_system.specs.Systems.{SystemData}
 use Rattle.wh_loops.specs.Starts.{IsStart}

@@ -13,7 +13,7 @@ use Rattle.wh_pairs.specs.Marked.{HeadsASide, Heads, IsMarked, AreMarked}
 use Rattle.wh_subterm.specs.ProperParts.{Part}
 use Rattle.wh_subterm.specs.Projections.{Chosen, IsProjected, Equal, Below, Decreasing}
 use Rattle.wh_subterm.specs.SubtermRows.{chosen_symbols, AreForMarked, HasNone, IsPlace, IsNotDecreasing, NoneIs, IsProjection, IsFirstSubtermFault}
-use Rattle.wh_pairs.specs.Drops.{StandsTwice, HasStray, IsBadDrop}
+use Rattle.wh_pairs.specs.Drops.{IsBadDrop}
 use Rattle.wh_subterm.specs.declared.projection.SubtermFault.{SubtermFault}
 use Rattle.wh_subterm.specs.declared.projection.SubtermFault.TheVariants.{BadArgs, NoProjection, BadArgument, BadDrop, NotDecreasing}
 use Rattle.wh_subterm.proofs.ProjectionLemmas.{unprojected, decreasing_part, decreasing_same, decreasing_cases}

@@ -1,21 +1,19 @@
 -- The machine of terms reads a text and a line feed behind it exactly where the bytes are the text of a term.
-use Rattle.std.proofs.Common.{◌≡◌, ℕ, suc, ◌+◌, ◌<◌, ◌≤◌, List, [], ◌∷◌, ◌++◌, length, drop, get_or, refl, ap, sym, ◌∙◌, subst, arith}
+use Rattle.std.proofs.Common.{◌≡◌, ℕ, ◌+◌, ◌<◌, ◌≤◌, List, [], ◌∷◌, ◌++◌, length, drop, get_or, refl, ap, sym, ◌∙◌}
 use Rattle.std.proofs.lemmas.List.{append_cancel_right, drop_more, drop_all}
 use Rattle.std.specs.Prelude.{IfOk, MatchOption, Option, Some, None, Result, Ok, Err}
 use Rattle.std.specs.declared.alloc.AllocError.{AllocError}
 use Rattle.wh_text.specs.RawTree.{RTm}
 use Rattle.wh_text.specs.Erase.{rtm}
 use Rattle.wh_text.specs.declared.raw.RawTerm.{RawTerm}
-use Rattle.wh_text.specs.Spelling.{put_term, spelled}
-use Rattle.wh_cert.specs.TermLimits.{TermFits}
-use Rattle.wh_cert_parts.specs.TermMachine.{Stack, base, Place, wanted, closed, State, at, whole, failed, step}
-use Rattle.wh_cert_parts.specs.TermViews.{term_stack, term_place, term_went}
+use Rattle.wh_text.specs.Spelling.{put_term}
+use Rattle.wh_cert_parts.specs.TermMachine.{Stack, base, Place, wanted, State, at, whole, failed, step}
+use Rattle.wh_cert_parts.specs.TermViews.{term_went}
 use Rattle.wh_cert_parts.specs.declared.term_reader.Frame.{Frame}
 use Rattle.wh_cert_parts.specs.declared.term_reader.TermPlace.{TermPlace}
 use Rattle.wh_cert_parts.specs.declared.term_reader.TermStep.{TermStep}
 use Rattle.wh_cert_parts.specs.declared.term_reader.TermStep.TheVariants.{Goes, Whole, Wrong}
-use Rattle.wh_cert_parts.proofs.TermSound.{Next, front}
-use Rattle.wh_cert_parts.proofs.TermComplete.{Scan, still, read, stuck, scan, term_run, term_sound}
+use Rattle.wh_cert_parts.proofs.TermComplete.{Scan, read, stuck, scan, term_run, term_sound}
 use Rattle.wh_term_text.specs.TermText.{IsTermText}
 use Rattle.wh_term_text.specs.Ending.{EndsHere}
 use Rattle.wh_term_text.proofs.Appending.{term-append}

@@ -1,13 +1,11 @@
 -- The lines of a node of version 1 and those of the upgraded one say the same node.
-use Rattle.std.proofs.Common.{◌≡◌, ℕ, ◌↔◌, ◌==◌, List, [], ◌∷◌, length, map, Some, None, subst, arith}
-use Rattle.std.specs.List.{All}
-use Rattle.std.proofs.lemmas.Bool.{cond_both, eqb-true}
-use Rattle.std.proofs.lemmas.List.Elements.{All-head, All-tail}
+use Rattle.std.proofs.Common.{ℕ, ◌↔◌, ◌==◌, List, [], ◌∷◌, length, map, Some, None}
+use Rattle.std.proofs.lemmas.Bool.{cond_both}
 use Rattle.wh_system.specs.Systems.{SystemData}
 use Rattle.wh_pairs.specs.PairData.{PairData}
 use Rattle.wh_cert.specs.Written as w
 use Rattle.wh_cert.specs.Written.{Cert, yes, no}
-use Rattle.wh_cert.specs.Limits.{IsOfVersion, IsCert}
+use Rattle.wh_cert.specs.Limits.{IsCert}
 use Rattle.wh_upgrade.specs.Upgraded.{upgraded_node, upgraded}
 use Rattle.wh_proof.specs.Nodes.{Node, done, alone, blocks, subterm, poly, order}
 use Rattle.wh_proof.specs.Looked.{SaysNode, SayNodes}

@@ -1,5 +1,5 @@
 -- A list of rules is closed for a set, or some rule or pair is the first for which it is not.
-use Rattle.std.proofs.Common.{◌≡◌, ℕ, ◌<◌, ◌≤◌, ◌⊎◌, inl, inr, List, [], ◌∷◌, Contains, Option, Some, None, slice_get, length, refl, ap, sym, subst, ◌∙◌, arith}
+use Rattle.std.proofs.Common.{◌≡◌, ℕ, ◌<◌, ◌⊎◌, inl, inr, List, [], ◌∷◌, Contains, Option, Some, None, slice_get, length, refl, ap, sym, subst, ◌∙◌, arith}
 use Rattle.std.proofs.lemmas.Option.{slice_get_within}
 use Rattle.std.proofs.lemmas.Bool.{cases_lt}
 use Rattle.wh_types.specs.Ty.{Ty, sort, ◌⇒◌, arguments}
@@ -9,14 +9,13 @@ use Rattle.wh_terms.specs.Rules.{RewriteRule}
 use Rattle.wh_terms.proofs.TypingLaws.{typed_one}
 use Rattle.wh_system.proofs.TypedDecided.{Decided, HasType, below_decided, decided_by, both_decided, same_type_decided, typed_decided}
 use Rattle.wh_pairs.specs.PairData.{PairData, IsIncreasing}
-use Rattle.wh_pairs.specs.Sets.{InSet}
 use Rattle.wh_pairs.proofs.ByPlace.{some_one, contains_at}
 use Rattle.wh_pairs.proofs.Searches.{all_decided, not_decided, not_refuted, equal_decided, list_decided, member_decided, some_below, first_place}
-use Rattle.wh_reduction.specs.TaskData.{TaskData, CoversAll, numbers_from}
+use Rattle.wh_reduction.specs.TaskData.{TaskData, numbers_from}
 use Rattle.wh_hopoly.specs.Evaluation.{type_at}
 use Rattle.wh_polycheck.specs.Marks.{marked_types}
 use Rattle.wh_first_order.specs.FirstOrder.{AreSorts, IsNullary, IsFlatTree, AreFlatTrees}
-use Rattle.wh_usable.specs.Closed.{AreRulesInOrder, HasSymbol, HaveSymbol, ListsRulesOf, ListsRulesIn, ListsRulesInEach, IsClosedRule, IsClosedPair, AreClosedRules, AreClosedPairs, IsClosed}
+use Rattle.wh_usable.specs.Closed.{AreRulesInOrder, HaveSymbol, ListsRulesOf, ListsRulesIn, ListsRulesInEach, IsClosedRule, IsClosedPair, AreClosedPairs, IsClosed}
 use Rattle.wh_usable.specs.Open.{IsFirstNot, IsFirstOpen}
 use Rattle.wh_usable.specs.declared.closed.NotClosed.{NotClosed}
 use Rattle.wh_usable.specs.declared.closed.NotClosed.TheVariants.{Rule, Pair}

@@ -1,6 +1,6 @@
 -- Bounds of the arguments of marked calls: they give numbers for the meta-variables of a side, at which the call is worth no more; and from
 -- such numbers come bounds of arguments.
-use Rattle.std.proofs.Common.{◌≡◌, ℕ, ◌+◌, ◌≤◌, inl, inr, List, [], ◌∷◌, sym, subst, arith, le_trans}
+use Rattle.std.proofs.Common.{ℕ, ◌+◌, ◌≤◌, inl, inr, List, [], ◌∷◌, sym, subst, arith, le_trans}
 use Rattle.std.specs.List.{AllByRecursion}
 use Rattle.wh_types.specs.Ty.{Ty, sort, ◌⇒◌}
 use Rattle.wh_terms.specs.Tree.{Tm, tms_of}
@@ -9,7 +9,6 @@ use Rattle.wh_terms.specs.Typing.{Symbols, Declared, AllTyped, typed_more}
 use Rattle.wh_terms.specs.Rules.{RewriteRule, AreWellMade}
 use Rattle.wh_terms.specs.Value.{Body, Values, of_more}
 use Rattle.wh_terms.proofs.TypingLaws.{typed_loose, typed_term}
-use Rattle.wh_terms.proofs.ValueForm.{value}
 use Rattle.wh_terms.proofs.ValueLaws.{value_is}
 use Rattle.wh_step.specs.Step.{Step}
 use Rattle.wh_laws.specs.Ends.{Ends, StepsIn, step_here, step_there}
@@ -23,7 +22,7 @@ use Rattle.wh_meaning.proofs.Order.{le_nat, le_valuation_same}
 use Rattle.wh_meaning.proofs.TermValues.{fed_le}
 use Rattle.wh_usable_calls.specs.Bounds.{Bounds, BoundsFed}
 use Rattle.wh_usable_calls.proofs.BoundLaws.{bounds_more, ending_bound}
-use Rattle.wh_usable_calls.proofs.Numbers.{AreBelow, by_numbers_of, nothings_mono, numbers_mono, at_numbers, fed_numbers, side_below}
+use Rattle.wh_usable_calls.proofs.Numbers.{by_numbers_of, nothings_mono, numbers_mono, at_numbers, fed_numbers, side_below}
 use Rattle.wh_usable_calls.proofs.SideBounds.{BoundBodies, HasNumbers, side_numbers, Lowers, side_lowers, side_bound}
 
 module _ (S : Symbols) (rules : List RewriteRule) (listed : List ℕ) (symbols : List Interpretation) where

@@ -1,9 +1,8 @@
 -- Flat trees and their values: which of them are calls, and of what type.
 use Rattle.std.proofs.Common.{◌≡◌, ℕ, ◌⊎◌, inl, inr, List, [], ◌∷◌, Some, slice_get, refl, ap, ◌∙◌, sym, subst}
-use Rattle.std.proofs.lemmas.Option.{none-some}
 use Rattle.wh_types.specs.Ty.{Ty, sort, ◌⇒◌, arguments}
-use Rattle.wh_terms.specs.Tree.{Tm, bound, free, fun, meta, lam, app, Tms, none, more, head}
-use Rattle.wh_terms.specs.Typing.{Symbols, Declared, Typed, typed_fun, typed_meta, typed_app, typed_none}
+use Rattle.wh_terms.specs.Tree.{Tm, bound, free, fun, meta, lam, app, none, more, head}
+use Rattle.wh_terms.specs.Typing.{Symbols, Declared, Typed, typed_fun, typed_meta, typed_app}
 use Rattle.wh_terms.specs.Value.{Body}
 use Rattle.wh_terms.proofs.TypingLaws.{some_one}
 use Rattle.wh_terms.proofs.ValueForm.{value}

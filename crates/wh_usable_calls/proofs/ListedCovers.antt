@@ -1,9 +1,9 @@
 -- Rules with a number of the list are covered, also over the interpretations with those of the marked symbols behind
 -- them; and what a marked side is worth is what its polynomial means.
-use Rattle.std.proofs.Common.{◌≡◌, ℕ, ◌<◌, List, [], ◌∷◌, ◌++◌, map, length, Some, slice_get, get_or, Contains, refl, ap, ◌∙◌, sym, subst}
+use Rattle.std.proofs.Common.{◌≡◌, ℕ, ◌<◌, List, [], ◌∷◌, ◌++◌, map, length, get_or, Contains, refl, ap, ◌∙◌, sym, subst}
 use Rattle.std.proofs.lemmas.Option.{none-some, slice_get_within, slice_get-get_or}
 use Rattle.wh_types.specs.Ty.{Ty, sort}
-use Rattle.wh_terms.specs.Tree.{Tm, Tms, tms_of, argument_count}
+use Rattle.wh_terms.specs.Tree.{Tms, argument_count}
 use Rattle.wh_terms.specs.Typing.{Symbols, Declared}
 use Rattle.wh_terms.specs.Rules.{RewriteRule, AreWellMade}
 use Rattle.wh_pairs.proofs.ByPlace.{place_of, contains_at}

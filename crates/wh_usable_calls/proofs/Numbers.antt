@@ -1,16 +1,16 @@
 -- Flat sides, whose meta-variables mean numbers.
-use Rattle.std.proofs.Common.{◌≡◌, ℕ, ◌≤◌, List, [], refl, ap, ◌∙◌, sym, subst, subst₂, Some, slice_get}
+use Rattle.std.proofs.Common.{◌≡◌, ℕ, ◌≤◌, List, [], ap, sym, subst₂}
 use Rattle.wh_types.specs.Ty.{Ty, sort, ◌⇒◌}
-use Rattle.wh_terms.specs.Tree.{Tm, bound, free, fun, meta, lam, app, Tms, none, more, tms_of}
+use Rattle.wh_terms.specs.Tree.{Tm, bound, free, fun, meta, lam, app, none, more, tms_of}
 use Rattle.wh_terms.specs.Typing.{Symbols, Declared, Typed, typed_app}
 use Rattle.wh_hopoly.specs.Evaluation.{Interpretation, interpretation_at}
 use Rattle.wh_first_order.specs.FirstOrder.{IsFlatTree, IsNullary}
 use Rattle.wh_polycheck.specs.Sides.{arrows}
 use Rattle.wh_meaning.specs.Functionals.{Sem, Mono, Le, nothing}
-use Rattle.wh_meaning.specs.Valuations.{Valuation, MonoValuation, LeValuation}
+use Rattle.wh_meaning.specs.Valuations.{Valuation, MonoValuation}
 use Rattle.wh_meaning.specs.TermValues.{Meanings, MonoMeanings, value_in, fed, of_interpretations}
 use Rattle.wh_meaning.specs.Calls.{all_nothing}
-use Rattle.wh_meaning.proofs.Order.{le_nat, le_same, le_then, mono_nothing, reading_mono}
+use Rattle.wh_meaning.proofs.Order.{le_same, le_then, mono_nothing, reading_mono}
 use Rattle.wh_meaning.proofs.TermValues.{declared_is, has_same, type_is, value_app, value_mono}
 use Rattle.wh_usable_calls.proofs.FlatCalls.{nullary_sort}
 

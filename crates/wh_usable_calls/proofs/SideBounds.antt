@@ -1,9 +1,9 @@
 -- Bounds of the values of flat sides: they give numbers for the sides' meta-variables, at which the sides are worth no more; and from such
 -- numbers come bounds of sides.
-use Rattle.std.proofs.Common.{◌≡◌, ℕ, ◌+◌, ◌≤◌, ◌<◌, ◌==◌, ◌⊎◌, inl, inr, Bool, true, false, if◌then◌else◌, List, [], refl, ap, ◌∙◌, sym, subst, subst₂, arith, le_trans, Contains}
+use Rattle.std.proofs.Common.{◌≡◌, ℕ, ◌+◌, ◌≤◌, ◌<◌, ◌==◌, inl, inr, Bool, true, false, if◌then◌else◌, List, [], refl, ◌∙◌, sym, subst, arith, le_trans}
 use Rattle.std.proofs.lemmas.Bool.{cases_lt}
 use Rattle.wh_types.specs.Ty.{Ty, sort, ◌⇒◌}
-use Rattle.wh_terms.specs.Tree.{Tm, bound, free, fun, meta, lam, app, Tms, none, more, head}
+use Rattle.wh_terms.specs.Tree.{Tm, bound, free, fun, meta, lam, app, none, more, head}
 use Rattle.wh_terms.specs.Sight.{Occurs}
 use Rattle.wh_terms.specs.Typing.{Symbols, Declared, Typed, typed_fun, typed_app}
 use Rattle.wh_terms.specs.Rules.{RewriteRule}
@@ -11,13 +11,13 @@ use Rattle.wh_terms.specs.Value.{Body}
 use Rattle.wh_terms.proofs.ValueForm.{value}
 use Rattle.wh_hopoly.specs.Evaluation.{Interpretation}
 use Rattle.wh_first_order.specs.FirstOrder.{IsFlatTree, IsNullary}
-use Rattle.wh_usable.specs.Closed.{HasSymbol, ListsRulesOf, ListsRulesIn}
+use Rattle.wh_usable.specs.Closed.{HasSymbol, ListsRulesIn}
 use Rattle.wh_meaning.specs.Functionals.{Sem, Le}
 use Rattle.wh_meaning.specs.TermValues.{of_interpretations}
 use Rattle.wh_meaning.proofs.Order.{le_nat, le_same, le_then}
 use Rattle.wh_meaning.proofs.TermValues.{at_is}
-use Rattle.wh_usable_calls.specs.Bounds.{HasListedHead, Bounds, by_reading, Reads, reads_symbol, reads_application}
-use Rattle.wh_usable_calls.proofs.FlatCalls.{argument_one, result_one, sort_one, IsHeaded, nullary_sort, arrow_headed, argument_sort, value_call}
+use Rattle.wh_usable_calls.specs.Bounds.{Bounds, by_reading, Reads, reads_symbol, reads_application}
+use Rattle.wh_usable_calls.proofs.FlatCalls.{argument_one, result_one, sort_one, IsHeaded, arrow_headed, argument_sort, value_call}
 use Rattle.wh_usable_calls.proofs.BoundLaws.{bounds_more, reads_mono, bound_reading}
 use Rattle.wh_usable_calls.proofs.Numbers.{AreBelow, at_numbers, app_value, meta_value, side_below}
 

@@ -3,7 +3,7 @@ use Rattle.std.proofs.Common.{◌≡◌, ℕ, ◌≤◌, ◌⊎◌, inl, inr, Li
 use Rattle.wh_types.specs.Ty.{Ty, sort, ◌⇒◌}
 use Rattle.wh_terms.specs.Tree.{Tm, fun, app, head}
 use Rattle.wh_terms.specs.Sight.{Occurs}
-use Rattle.wh_terms.specs.Typing.{Symbols, Typed}
+use Rattle.wh_terms.specs.Typing.{Symbols}
 use Rattle.wh_terms.specs.Value.{Body, Value}
 use Rattle.wh_terms.specs.Rules.{RewriteRule, IsWellMade, AreWellMade}
 use Rattle.wh_terms.proofs.ValueForm.{value}
@@ -19,7 +19,7 @@ use Rattle.wh_meaning.specs.Functionals.{Sem}
 use Rattle.wh_meaning.specs.Calls.{all_nothing}
 use Rattle.wh_meaning.proofs.Order.{le_nat}
 use Rattle.wh_meaning.proofs.Steps.{covered_le}
-use Rattle.wh_usable_calls.specs.Bounds.{HasListedHead, Bounds, by_reading, by_reading_and_steps, by_steps, Reads, reads_symbol, reads_application}
+use Rattle.wh_usable_calls.specs.Bounds.{HasListedHead, Bounds, by_reading, by_reading_and_steps, by_steps, Reads, reads_application}
 use Rattle.wh_usable_calls.proofs.FlatCalls.{head_headed}
 use Rattle.wh_usable_calls.proofs.BoundLaws.{bounds_more}
 use Rattle.wh_usable_calls.proofs.Numbers.{numbered_mono, by_numbers_of}

@@ -1,7 +1,6 @@
 -- What the conditions of a node of interpretations say of a set of pairs, whatever rules it is to cover: its calls end
 -- where those by the pairs that are kept do.
-use Rattle.std.proofs.Common.{◌≡◌, ℕ, ◌+◌, ◌≤◌, ◌<◌, ◌⊎◌, inl, inr, List, [], ◌∷◌, ◌++◌, map, length, take, unwrap_or, Bool, true, false, Some, slice_get, Contains, refl, ap₂, sym, subst, subst₂, arith, le_trans, lt_of_lt_of_le}
-use Rattle.std.specs.List.{AllByRecursion}
+use Rattle.std.proofs.Common.{◌≡◌, ℕ, ◌+◌, ◌≤◌, ◌<◌, ◌⊎◌, inl, inr, List, [], ◌++◌, map, take, unwrap_or, Bool, true, false, Some, slice_get, Contains, refl, ap₂, sym, subst, subst₂, arith, le_trans, lt_of_lt_of_le}
 use Rattle.wh_types.specs.Ty.{Ty, sort, arguments}
 use Rattle.wh_terms.specs.Tree.{Tm, tms_of}
 use Rattle.wh_terms.specs.Sight.{OccursIn}
@@ -11,7 +10,6 @@ use Rattle.wh_terms.specs.Rules.{RewriteRule, AreWellMade}
 use Rattle.wh_terms.proofs.ValueLaws.{values_are}
 use Rattle.wh_terms.proofs.ValueTyping.{all_typed-values}
 use Rattle.wh_step.specs.Step.{Step}
-use Rattle.wh_laws.specs.Ends.{Ends}
 use Rattle.wh_pairs.specs.PairData.{PairData}
 use Rattle.wh_pairs.specs.Drops.{IsDropped}
 use Rattle.wh_pairs.specs.Sets.{IsSetOf, IsKept, InSet}
@@ -45,11 +43,11 @@ use Rattle.wh_meaning.proofs.Measures.{numbers_end, numbers_together}
 use Rattle.wh_usable_calls.specs.Bounds.{Bounds, BoundsFed}
 use Rattle.wh_usable_calls.proofs.BoundLaws.{bounds_more}
 use Rattle.wh_usable_calls.proofs.Numbers.{numbered, numbered_mono, by_numbers_of, fed_numbers}
-use Rattle.wh_usable_calls.proofs.SideBounds.{BoundBodies, HasNumbers}
+use Rattle.wh_usable_calls.proofs.SideBounds.{HasNumbers}
 use Rattle.wh_usable_calls.proofs.StepBounds.{step_bound}
 use Rattle.wh_usable_calls.proofs.CallBounds.{ending_fed, step_fed, list_numbers, list_lowers, list_fed}
 use Rattle.wh_usable_calls.proofs.ListedCovers.{listed_covered, marked_worth}
-use Rattle.wh_meaning.proofs.PairsEnd.{occurs_right, occurs_left}
+use Rattle.wh_meaning.proofs.PairsEnd.{occurs_right}
 
 -- the types of the arguments of a typed call
 typed_at_marked : (S : Symbols) (rules : List RewriteRule) (c : MarkedCall) → IsTypedCall S rules c

@@ -1,4 +1,4 @@
-use Rattle.std.proofs.Common.{◌<◌, ap, refl, reverse, ◌∙◌}
+use Rattle.std.proofs.Common.{◌<◌, ap, reverse}
 use Rattle.wh_types.specs.Limits.{greatest_size}
 use Rattle.wh_terms.specs.Erase.{declared_metas}
 use Rattle.wh_terms.specs.Measures.{size}

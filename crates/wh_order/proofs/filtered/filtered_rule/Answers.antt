@@ -1,4 +1,4 @@
-use Rattle.std.proofs.Common.{◌<◌, refl, ◌∙◌}
+use Rattle.std.proofs.Common.{◌<◌, refl}
 use Rattle.wh_types.specs.Limits.{greatest_size}
 use Rattle.wh_terms.specs.Measures.{size}
 use Rattle.wh_system.specs.CanonicalView.{side_of}

@@ -1,6 +1,6 @@
 use Rattle.std.proofs.Common.{arith, reverse, sym, ◌∙◌}
 use Rattle.std.proofs.lemmas.Bool.{true≢false}
-use Rattle.wh_order.proofs.KeptLemmas.{merged, chosen_start, chosen_here, chosen_other, chosen_end}
+use Rattle.wh_order.proofs.KeptLemmas.{merged, chosen_here, chosen_other, chosen_end}
 use Rattle.wh_order.proofs.kept.chosen.Goals as goal
 
 pub loop-tree-preserved-then-stands_at : goal.loop-tree-preserved-then-stands_at

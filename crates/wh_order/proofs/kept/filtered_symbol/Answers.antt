@@ -1,4 +1,4 @@
-use Rattle.std.proofs.Common.{arith, reverse, length, map, subst, sym}
+use Rattle.std.proofs.Common.{reverse, length, map, subst, sym}
 use Rattle.wh_inference.specs.FilterText.{filter_of}
 use Rattle.wh_inference.specs.Said.{written_filter}
 use Rattle.wh_ordering.specs.Filterings.{IsProperAsWritten}

@@ -1,4 +1,4 @@
-use Rattle.std.proofs.Common.{arith, sym, subst, ◌↔◌, ◌≡◌, Bool, IsTrue, Some, slice_get}
+use Rattle.std.proofs.Common.{sym, subst, ◌↔◌, ◌≡◌, Bool, IsTrue, Some, slice_get}
 use Rattle.std.proofs.lemmas.Bool.{le-ltb}
 use Rattle.wh_order.proofs.KeptLemmas.{stands_within, stands_past}
 use Rattle.wh_order.proofs.kept.stands_at.Goals as goal

@@ -1,19 +1,13 @@
-use Rattle.std.proofs.Common.{List, refl, ap, ap₂, subst, sym, ◌∙◌, arith, map, reverse, [], ◌∷◌}
+use Rattle.std.proofs.Common.{refl, ap, reverse}
 use Rattle.std.proofs.lemmas.Result.{IfOk-weaker}
-use Rattle.std.proofs.lemmas.List.{reverse-append}
 use Rattle.wh_types.specs.Erase.{ty}
 use Rattle.wh_terms.specs.Tree.{free, lam}
 use Rattle.wh_terms.specs.Erase.{declared_metas, tm}
-use Rattle.wh_terms.specs.declared.term.Term.{Term}
 use Rattle.wh_terms.proofs.TermLemmas.{tm_of_meta}
-use Rattle.wh_extended.specs.Filtered.{collapse}
 use Rattle.wh_ordering.specs.FilteringView.{filtering_data}
-use Rattle.wh_trees.specs.declared.tree.Tree.{Tree, Lam, Meta}
+use Rattle.wh_trees.specs.declared.tree.Tree.{Lam}
 use Rattle.wh_trees.specs.declared.tree.Tree.TheVariants.{Bound, Free}
 use Rattle.wh_trees.specs.Trees.{tree}
-use Rattle.wh_trees.specs.TreeParts.{Over}
-use Rattle.wh_order.specs.Sifted.{IsSifted, AreSifted}
-use Rattle.wh_order.proofs.KeptLemmas.{turned}
 use Rattle.wh_order.proofs.SiftLemmas.{bound_sifted, free_sifted, lam_sifted, meta_sifted, app_sifted, fun_sifted, inner_sifted, behind_sifted, sifted_next, sifted_all}
 use Rattle.wh_order.proofs.sift.+sifting.Goals as goal
 

@@ -1,4 +1,4 @@
-use Rattle.std.proofs.Common.{◌≡◌, List, ℕ, Option, IfOk, MatchOption, length, sym, subst, ◌∙◌}
+use Rattle.std.proofs.Common.{◌≡◌, List, ℕ, Option, IfOk, MatchOption, length, sym, subst}
 use Rattle.wh_system.specs.SystemView.{system_data}
 use Rattle.wh_usable.specs.Closed.{AreRulesInOrder}
 use Rattle.wh_usable.proofs.Whole.{all_in_order}

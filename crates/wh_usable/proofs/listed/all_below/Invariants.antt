@@ -1,4 +1,4 @@
-use Rattle.std.proofs.Common.{ℕ, ◌<◌}
+use Rattle.std.proofs.Common.{◌<◌}
 use Rattle.wh_pairs.proofs.ByPlace.{Before}
 use Rattle.wh_usable.proofs.listed.all_below.Given as goal
 
